@@ -1,0 +1,5 @@
+pub mod Order
+pub mod Names
+pub mod NameFields
+pub mod Numbers
+pub mod Mdb
