@@ -2,4 +2,5 @@ pub mod Order
 pub mod Names
 pub mod NameFields
 pub mod Numbers
+pub mod Puts
 pub mod Mdb
