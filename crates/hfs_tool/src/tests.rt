@@ -1,5 +1,8 @@
-//! Lines of volumes that were laid by hand.
+//! The program on volumes that were laid by hand, on volumes of other programs, and on devices that fail.
+mod headers;
+
 use crate::info::{InfoFault, run_info};
+use crate::tests::headers::Sample;
 use std::alloc::Global;
 use std::io;
 use std::io::{Read, Write};
@@ -27,6 +30,17 @@ fn head_of(fields: &[u8; 162]) -> [u8; 1536] {
     head
 }
 
+/// The head of an image that another program made.
+fn head_of_sample(sample: &Sample) -> [u8; 1536] {
+    let mut head = [0; 1536];
+    for (start, bytes) in sample.runs {
+        for (cell, byte) in head.iter_mut().skip(*start).zip(bytes.iter()) {
+            *cell = *byte;
+        }
+    }
+    head
+}
+
 /// What is printed of an image, and how that ends.
 fn printed(alloc: Global, mut image: &[u8]) -> (Vec<u8>, Result<(), InfoFault>) {
     let mut output = Vec::new(alloc);
@@ -37,6 +51,43 @@ fn printed(alloc: Global, mut image: &[u8]) -> (Vec<u8>, Result<(), InfoFault>) 
 /// The line of the volume's name in a text.
 fn name_line(text: &str) -> Option<&str> {
     text.lines().find(|line| line.starts_with("drVN"))
+}
+
+#[test]
+fn volumes_of_other_programs_are_printed(rt: HostRuntime) -> Result<(), Fail> {
+    for sample in [
+        headers::FLOPPY,
+        headers::FRAGMENTED,
+        headers::LOCKED,
+        headers::MANY,
+        headers::MKFS,
+        headers::WRAPPER,
+        headers::NOT_HFS,
+    ] {
+        let (output, ended) = printed(rt.alloc(), &head_of_sample(&sample));
+        let Some(lines) = sample.lines else {
+            assert!(rt;
+                matches!(ended, Err(InfoFault::NoMacDisk)),
+                "{}",
+                sample.name
+            );
+            assert!(rt; output.is_empty());
+            continue;
+        };
+        ended?;
+        let mut wanted = String::new(rt.alloc());
+        for line in lines {
+            wanted.push_str(line)?;
+            wanted.push('\n')?;
+        }
+        assert_eq!(rt;
+            str::from_utf8(output.as_slice())?,
+            wanted.as_str(),
+            "{}",
+            sample.name
+        );
+    }
+    Ok(())
 }
 
 #[test]
