@@ -6,6 +6,7 @@ mod fault;
 mod files;
 mod info;
 mod input;
+mod reply;
 #[cfg(test)]
 mod tests;
 mod text;

@@ -3,4 +3,5 @@ mod devices;
 mod headers;
 mod info;
 mod loading;
+mod replies;
 mod words;
