@@ -15,6 +15,11 @@ fn word<'a>(alloc: Global, name: &'a str) -> Arg<'a> {
     Arg::new(alloc, name).required(true).action(ArgAction::Set)
 }
 
+/// The image of a volume, by its path.
+fn image<'a>(alloc: Global) -> Arg<'a> {
+    word(alloc, "IMAGE").help("The image of the bare volume, beginning with its boot blocks")
+}
+
 /// A number from 0 to 4,294,967,295 that has to be there.
 pub fn number<'a>(alloc: Global, name: &'a str) -> Arg<'a> {
     word(alloc, name).value_parser(value_parser!(u32).range(0..=4294967295))
@@ -22,11 +27,15 @@ pub fn number<'a>(alloc: Global, name: &'a str) -> Arg<'a> {
 
 /// The program's command, with a subcommand for each word.
 fn command<'a>(alloc: Global) -> Result<Command<'a>, AllocError> {
-    Command::new(alloc, "hfs_tool").subcommand(info_command(alloc)?)
+    Command::new(alloc, "hfs_tool")
+        .about("Reads, checks and changes HFS volumes. With no words: info on standard input")
+        .subcommand(info_command(alloc)?)
 }
 
 fn info_command<'a>(alloc: Global) -> Result<Command<'a>, AllocError> {
-    Command::new(alloc, "info").arg(word(alloc, "IMAGE"))
+    Command::new(alloc, "info")
+        .about("Prints the fields of a volume's master directory block")
+        .arg(image(alloc))
 }
 
 /// Reads the words, the first of which is the program's own name. An error is clap's: help that was asked for, refused
