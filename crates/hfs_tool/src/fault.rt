@@ -1,9 +1,10 @@
 //! Why a command was not done, and how the program ends.
+ghost use Rattle.std.specs.Prelude.{◌≡◌};
+ghost use Rattle.hfs_tool.specs.Faults.{status_number, status_of};
 
 use crate::info::InfoFault;
 use crate::input::LoadFault;
 use std::fmt;
-use std::process::ExitCode;
 
 /// How the program ends. Scripts read it as the exit status.
 #[derive(Clone, Copy, Debug, PartialEq, Eq)]
@@ -20,15 +21,18 @@ pub enum Status {
     NoMemory,
 }
 
-impl From<Status> for ExitCode {
-    fn from(status: Status) -> ExitCode {
-        ExitCode::from(match status {
+impl Status {
+    /// The exit status.
+    pub fn number(self) -> u8
+        ensures { result ≡ status_number self }
+    {
+        match self {
             Status::Done => 0,
             Status::WordsRefused => 1,
             Status::ImageRefused => 2,
             Status::DeviceFailed => 4,
             Status::NoMemory => 5,
-        })
+        }
     }
 }
 
@@ -56,7 +60,9 @@ pub enum Fault<'a> {
 
 impl Fault<'_> {
     /// How the program ends after this fault.
-    pub fn status(&self) -> Status {
+    pub fn status(&self) -> Status
+        ensures { result ≡ status_of self.now }
+    {
         match self {
             Fault::WordsNotText => Status::WordsRefused,
             Fault::ImageTooShort | Fault::ImageTooLarge | Fault::NotHfs => Status::ImageRefused,
@@ -68,7 +74,13 @@ impl Fault<'_> {
     }
 
     /// What a fault of printing a master directory block means for the file that it was read from.
-    pub fn of_info(fault: InfoFault, file: &str) -> Fault<'_> {
+    pub fn of_info(fault: InfoFault, file: &str) -> Fault<'_>
+        ensures short { fault ≡ InfoFault.Short → result ≡ Fault.ImageTooShort }
+        ensures signature { fault ≡ InfoFault.NoMacDisk → result ≡ Fault.NotHfs }
+        ensures read { fault ≡ InfoFault.ReadFailed → result ≡ Fault.CannotRead file.entry }
+        ensures write { fault ≡ InfoFault.WriteFailed → result ≡ Fault.OutputFailed }
+        ensures memory { fault ≡ InfoFault.Memory → result ≡ Fault.NoMemory }
+    {
         match fault {
             InfoFault::Short => Fault::ImageTooShort,
             InfoFault::NoMacDisk => Fault::NotHfs,
@@ -79,7 +91,11 @@ impl Fault<'_> {
     }
 
     /// What a fault of loading an image means for its file.
-    pub fn of_load(fault: LoadFault, file: &str) -> Fault<'_> {
+    pub fn of_load(fault: LoadFault, file: &str) -> Fault<'_>
+        ensures read { fault ≡ LoadFault.ReadFailed → result ≡ Fault.CannotRead file.entry }
+        ensures large { fault ≡ LoadFault.TooLarge → result ≡ Fault.ImageTooLarge }
+        ensures memory { fault ≡ LoadFault.Memory → result ≡ Fault.NoMemory }
+    {
         match fault {
             LoadFault::ReadFailed => Fault::CannotRead(file),
             LoadFault::TooLarge => Fault::ImageTooLarge,

@@ -20,7 +20,7 @@ use std::process::ExitCode;
 use std::{env, io};
 
 fn main(rt: HostRuntime) -> ExitCode {
-    ExitCode::from(answer(&rt))
+    ExitCode::from(answer(&rt).number())
 }
 
 /// Reads the words and does what they ask for.
