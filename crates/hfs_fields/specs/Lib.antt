@@ -4,4 +4,5 @@ pub mod NameFields
 pub mod Numbers
 pub mod Puts
 pub mod Mdb
+pub mod KeyForms
 pub mod Keys

@@ -3,6 +3,7 @@
 
 mod attributes;
 mod extent;
+mod field_row;
 mod key;
 mod mdb;
 mod name;
