@@ -6,3 +6,5 @@ pub mod Puts
 pub mod Mdb
 pub mod KeyForms
 pub mod Keys
+pub mod Records
+pub mod RecordForms

@@ -89,6 +89,15 @@ impl FieldRow {
         self.push(&zeros[..count]);
     }
 
+    /// Lays the fields of another row.
+    pub(crate) fn push_row(&mut self, fields: &FieldRow)
+        requires { length self.old + length fields.now ≤ 102 }
+        ensures bytes { self.new ≡ self.old ++ fields.now }
+        ensures length { length self.new ≡ length self.old + length fields.now }
+    {
+        self.push(&fields.bytes[..fields.length]);
+    }
+
     /// Writes what is laid to the beginning of the bytes.
     pub(crate) fn copy_to(&self, bytes: &mut [u8])
         requires { length self.now ≤ length bytes.old }
