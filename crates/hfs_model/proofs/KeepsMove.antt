@@ -11,7 +11,8 @@ use Rattle.hfs_model.specs.Volume.{Volume, Items, Entry}
 use Rattle.hfs_model.specs.Children.{is_folder_kind, valence, entries_of}
 use Rattle.hfs_model.specs.Chains.{Leads, leads_past, last_step}
 use Rattle.hfs_model.specs.Lawful.{Has, IsFolder, AreLawful, IsLawful, LiesIn, parent_of}
-use Rattle.hfs_model.specs.Step.{cat_move, to_move, is_bad_move, moved, change, lies_in}
+use Rattle.hfs_model.specs.Choices.{to_move, is_bad_move, lies_in}
+use Rattle.hfs_model.specs.Changes.{cat_move, moved, change}
 use Rattle.hfs_model.proofs.Counts.{count_added}
 use Rattle.hfs_model.proofs.Facts.{same_some, true_false, not_refused, found_folder, folder_is, not_held, not_full}
 use Rattle.hfs_model.proofs.Parents.{has_parent, parent_has, no_item, lies_in_is}

@@ -12,7 +12,7 @@ use Rattle.hfs_model.specs.Volume.{Items, Entry}
 use Rattle.hfs_model.specs.Children.{entry_at, has_id}
 use Rattle.hfs_model.specs.Chains.{Leads, Ends, from_above, before_end, no_longer}
 use Rattle.hfs_model.specs.Lawful.{Has, AreLawful, LiesIn, parent_of}
-use Rattle.hfs_model.specs.Step.{lies_in}
+use Rattle.hfs_model.specs.Choices.{lies_in}
 use Rattle.hfs_model.proofs.Facts.{none_is_some, same_some, true_false, has_entry, no_entry}
 
 pub has_parent : (m : Items) (q : ℕ) (i : Item) → Has m q i → parent_of m q ≡ Some i.parent

@@ -3,7 +3,8 @@ use Rattle.hfs_model.specs.declared.call.Call.{Call}
 use Rattle.hfs_model.specs.declared.call.Call.TheVariants as call
 use Rattle.hfs_model.specs.Volume.{Volume}
 use Rattle.hfs_model.specs.Lawful.{IsLawful}
-use Rattle.hfs_model.specs.Step.{step, new_file, new_folder}
+use Rattle.hfs_model.specs.Changes.{new_file, new_folder}
+use Rattle.hfs_model.specs.Step.{step}
 use Rattle.hfs_model.proofs.KeepsCalls.{create_keeps, rename_keeps, set_f_info_keeps, set_cat_info_keeps, set_lock_keeps}
 use Rattle.hfs_model.proofs.KeepsRemoval.{delete_keeps}
 use Rattle.hfs_model.proofs.KeepsMove.{cat_move_keeps}
