@@ -9,7 +9,7 @@ use Rattle.hfs_fields.specs.Order.{folded, name_cmp}
 use Rattle.hfs_fields.specs.Keys.{cat_cmp, cat_cmp_total, IsCatKeyOrder, ext_cmp, ext_cmp_total, IsExtKeyOrder}
 use Rattle.hfs_fields.specs.declared.key.CatKey.{CatKey}
 use Rattle.hfs_fields.specs.declared.key.ExtKey.{ExtKey}
-use Rattle.hfs_fields.proofs.Order.{name_order}
+use Rattle.hfs_fields.specs.Order.{name_order}
 
 -- two steps of an order are equal where both are
 both : (a b : Ordering) → ordering_then a b ≡ Equal → (a ≡ Equal) × (b ≡ Equal)

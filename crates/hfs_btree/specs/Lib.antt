@@ -1,0 +1,9 @@
+pub mod Pairs
+pub mod Tree
+pub mod Header
+pub mod Sound
+pub mod Blocks
+pub mod Keys
+pub mod Elements
+pub mod Lookups
+pub mod Search
