@@ -1,5 +1,5 @@
 //! A node that is copied out of its bytes.
-ghost use Rattle.std.specs.Prelude.{◌≡◌, ◌⊎◌, Ok, Err, IfOk, MatchResult, take};
+ghost use Rattle.std.specs.Prelude.{◌≡◌, ◌⊎◌, Ok, Err, IfOk, IsOk, MatchResult};
 ghost use Rattle.hfs_node.specs.Node.{node_of, Fits};
 
 use crate::fault::NodeFault;
@@ -36,10 +36,10 @@ impl<'a> NodeView<'a> {
     }
 }
 
-/// The node in these bytes, or their first fault. `NodeFault::Memory` comes only where memory was refused;
-/// a fault of the bytes comes before any memory is asked for.
+/// The node in these bytes, or their first fault. The fault is `NodeFault::Memory` where the bytes are a
+/// node and memory for its records was refused.
 pub fn decode(alloc: Global, bytes: &[u8; 512]) -> Result<Node, NodeFault>
-    ensures node { MatchResult result (λ node. node_of bytes.now ≡ Ok node) (λ fault. (fault ≡ NodeFault.Memory) ⊎ (node_of bytes.now ≡ Err fault)) }
+    ensures node { MatchResult result (λ node. node_of bytes.now ≡ Ok node) (λ fault. ((fault ≡ NodeFault.Memory) × IsOk (node_of bytes.now)) ⊎ (node_of bytes.now ≡ Err fault)) }
     ensures fits { IfOk result Fits }
 {
     let node = view(bytes)?;
