@@ -8,7 +8,7 @@ use Rattle.std.proofs.lemmas.Bool.{and_parts, and_left, and_right, and_from, le-
 use Rattle.hfs_node.specs.declared.kind.NodeKind.{NodeKind}
 use Rattle.hfs_node.specs.declared.node.Node.{Node}
 use Rattle.hfs_node.specs.declared.fault.NodeFault.{NodeFault}
-use Rattle.hfs_node.specs.declared.fault.NodeFault.TheVariants.{Kind, Outside, NotRising}
+use Rattle.hfs_node.specs.declared.fault.NodeFault.TheVariants.{Kind, Outside, NotRising, Memory}
 use Rattle.hfs_node.specs.Kind.{kind_of}
 use Rattle.hfs_node.specs.Node.{each_below, count_of, offset_of, are_inside, are_rising, node_of, node_of_kind, node_with, record_of, IsNode, size_of, Fits}
 use Rattle.hfs_node.specs.Below.{each_below-at, each_below-fails}
@@ -149,3 +149,21 @@ node_of-fits bytes n e =
     let is = node_of-is bytes n e in
     let P : Node → Type 0 = λ v. Fits v in
     subst P (sym is.1) (node_with-fits n.kind bytes is.0)
+
+not_memory : (k : Option NodeKind) (bytes : List ℕ) → node_of_kind k bytes ≡ Err Memory → ⊥
+unfolding node_of_kind
+not_memory None bytes e = cc
+not_memory (Some kind) bytes e =
+    elim (cases_Bool (are_inside bytes)) [
+      | inr out ↦ (let no = rw out at e in cc)
+      | inl inside ↦
+          elim (cases_Bool (are_rising bytes)) [
+            | inr falls ↦ (let no = rw (inside, falls) at e in cc)
+            | inl rises ↦ (let no = rw (inside, rises) at e in cc)
+          ]
+    ]
+
+-- want of memory is no fault of the bytes
+pub node_of-not_memory : (bytes : List ℕ) → node_of bytes ≡ Err Memory → ⊥
+unfolding node_of
+node_of-not_memory bytes e = not_memory (kind_of (slice_index bytes 8)) bytes e

@@ -4,3 +4,4 @@ pub mod Node
 pub mod Laid
 pub mod Below
 pub mod Decoding
+pub mod Sizes

@@ -1,11 +1,11 @@
 -- A node of 512 bytes, as a list of records.
-use Rattle.std.specs.Prelude.{◌≡◌, ℕ, zero, suc, ◌+◌, ◌*◌, ◌-◌, ◌≤◌, Bool, true, ◌&&◌, nat_le, if◌then◌else◌, List, map, length, take, slice_index, slice_range, Option, Some, None, Result, Ok, Err}
+use Rattle.std.specs.Prelude.{◌≡◌, ℕ, zero, suc, ◌+◌, ◌*◌, ◌-◌, ◌≤◌, Bool, true, ◌&&◌, nat_le, if◌then◌else◌, List, map, length, take, slice_index, slice_range, Option, Some, None, Result, Ok, Err, IsOk, ◌⊎◌}
 use Rattle.std.specs.List.{range_with_len, sum_by}
 use Rattle.hfs_fields.specs.Numbers.{number_at}
 use Rattle.hfs_node.specs.Kind.{kind_of}
 use Rattle.hfs_node.specs.declared.kind.NodeKind.{NodeKind}
 use Rattle.hfs_node.specs.declared.fault.NodeFault.{NodeFault}
-use Rattle.hfs_node.specs.declared.fault.NodeFault.TheVariants.{Kind, Outside, NotRising}
+use Rattle.hfs_node.specs.declared.fault.NodeFault.TheVariants.{Kind, Outside, NotRising, Memory}
 use Rattle.hfs_node.specs.declared.node.Node.{Node}
 
 -- how many records the descriptor tells
@@ -71,3 +71,7 @@ Fits n = size_of n.records ≤ 496
 -- where record k begins, and behind the last where the free space begins
 unfoldable pub start_of : List (List ℕ) → ℕ → ℕ
 start_of records k = 14 + sum_by (λ r. length r) (take k records)
+
+-- a copy that can't be made: the bytes' own fault, or want of memory where they are a node
+abbrev pub IsFaultOfCopy : NodeFault → Result Node NodeFault → Type 0
+IsFaultOfCopy fault node = ((fault ≡ Memory) × IsOk node) ⊎ (node ≡ Err fault)

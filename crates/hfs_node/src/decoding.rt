@@ -1,6 +1,6 @@
 //! A node that is copied out of its bytes.
-ghost use Rattle.std.specs.Prelude.{◌≡◌, ◌⊎◌, Ok, Err, IfOk, MatchResult, take};
-ghost use Rattle.hfs_node.specs.Node.{node_of, Fits};
+ghost use Rattle.std.specs.Prelude.{◌≡◌, Ok, IfOk, IfErr};
+ghost use Rattle.hfs_node.specs.Node.{node_of, Fits, IsFaultOfCopy};
 
 use crate::fault::NodeFault;
 use crate::node::Node;
@@ -36,10 +36,13 @@ impl<'a> NodeView<'a> {
     }
 }
 
-/// The node in these bytes, or their first fault. `NodeFault::Memory` comes only where memory was refused;
-/// a fault of the bytes comes before any memory is asked for.
+/// The node in these 512 bytes, or their first fault, as `view` tells it. The fault is `NodeFault::Memory`
+/// where the bytes are a node and memory for its records was refused.
+///
+/// Source: Inside Macintosh: Files, chapter 2, "B*-Trees", the structure of nodes.
 pub fn decode(alloc: Global, bytes: &[u8; 512]) -> Result<Node, NodeFault>
-    ensures node { MatchResult result (λ node. node_of bytes.now ≡ Ok node) (λ fault. (fault ≡ NodeFault.Memory) ⊎ (node_of bytes.now ≡ Err fault)) }
+    ensures ok { IfOk result (λ node. node_of bytes.now ≡ Ok node) }
+    ensures fault { IfErr result (λ fault. IsFaultOfCopy fault (node_of bytes.now)) }
     ensures fits { IfOk result Fits }
 {
     let node = view(bytes)?;

@@ -24,7 +24,7 @@ pub struct Node {
 }
 
 /// Whether the records and their offsets have room in a node.
-#[tactic(auto, using(crate::proofs::Sizes::sizes))]
+#[tactic(auto, using(crate::specs::Sizes::sizes))]
 pub fn fits(node: &Node) -> bool
     ensures { IsTrue result ↔ Fits node.now }
 {

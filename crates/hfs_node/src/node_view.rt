@@ -1,5 +1,5 @@
 //! A node that is read in its bytes.
-ghost use Rattle.std.specs.Prelude.{◌≡◌, ◌+◌, ◌<◌, ◌≤◌, ◌==◌, [], IfOk, length, slice_index_or, true};
+ghost use Rattle.std.specs.Prelude.{◌≡◌, ◌+◌, ◌<◌, ◌≤◌, ◌==◌, [], ◌≢◌, IfOk, IfErr, length, slice_index_or, true};
 ghost use Rattle.hfs_node.specs.Node.{node_of, offset_of, count_of, are_inside, are_rising, record_of, Fits};
 
 use crate::bytes::{count_at, link_at, offset_at};
@@ -70,11 +70,14 @@ fn record_at(bytes: &[u8; 512], i: usize) -> &[u8]
     &bytes[start..end]
 }
 
-/// The node in these bytes, or their first fault. Takes no memory, so the fault is never
-/// `NodeFault::Memory`.
+/// The node in these 512 bytes, or their first fault: the type, then an offset outside, then an offset
+/// below the one before it. Takes no memory, so the fault is never `NodeFault::Memory`.
+///
+/// Source: Inside Macintosh: Files, chapter 2, "B*-Trees", the structure of nodes.
 pub fn view(bytes: &[u8; 512]) -> Result<NodeView<'_>, NodeFault>
     ensures node { result ≡ node_of bytes.now }
     ensures fits { IfOk result Fits }
+    ensures of_bytes { IfErr result (λ fault. fault ≢ NodeFault.Memory) }
 {
     let Some(kind) = kind_from(bytes[8]) else {
         return Err(NodeFault::Kind);
@@ -104,7 +107,7 @@ impl<'a> NodeView<'a> {
         self.len() == 0
     }
 
-    /// Record `i`, counted from 0.
+    /// Record `i`, counted from 0: at most 494 bytes.
     pub fn record(&self, i: usize) -> &'a [u8]
         requires { i < length self.now.records }
         ensures bytes { result.now ≡ slice_index_or self.now.records i [] }

@@ -18,4 +18,4 @@ returns-then-not-is_rising-clause-node c = sym (node_of-falling c.args.bytes.now
 pub returns : goal.returns
 returns c =
     let is : IsNode c.in-Some.kind c.args.bytes.now = record { kind_is = sym c.in-Some.ensures; inside = (cc); rising = (cc) } in
-    record { node = sym (node_of-ok c.in-Some.kind c.args.bytes.now is); fits = node_with-fits c.in-Some.kind c.args.bytes.now is }
+    record { node = sym (node_of-ok c.in-Some.kind c.args.bytes.now is); fits = node_with-fits c.in-Some.kind c.args.bytes.now is; of_bytes = tt }
