@@ -2,6 +2,7 @@
 #![tactic(auto)]
 
 mod blocks;
+mod counts;
 mod entry;
 mod header;
 mod image;
@@ -14,6 +15,7 @@ mod run_nodes;
 mod search;
 
 pub use blocks::Blocks;
+pub use counts::{depth, free_nodes};
 pub use header::Header;
 pub use image::ImageBytes;
 pub use key::Key;
@@ -21,4 +23,4 @@ pub use node_list::NodeList;
 pub use nodes::Nodes;
 pub use run::Run;
 pub use run_nodes::RunNodes;
-pub use search::find;
+pub use search::{find, next_after};
