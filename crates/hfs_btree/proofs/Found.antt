@@ -33,7 +33,7 @@ module _ {K : Type 0} (g : Ghosts K) (total : IsTotalOrder g.compare) (nodes : S
   found-entries = let P : List (List ℕ) → Type 0 = λ es. Each (λ e. g.is_leaf e ≡ true) es in
       subst P (sym (records-read nodes n bytes read)) (leaf-entries g nodes node.0 n (first_of found.behind) node.1)
 
-  about : tree_content g nodes ≡ flat_map (pairs g nodes) found.before ++ (map (pair_of g) (records_of (node_of bytes)) ++ flat_map (pairs g nodes) found.behind)
+  pub about : tree_content g nodes ≡ flat_map (pairs g nodes) found.before ++ (map (pair_of g) (records_of (node_of bytes)) ++ flat_map (pairs g nodes) found.behind)
   about =
       content-about g nodes found.before n found.behind found.split
       ∙ ap (λ (es : List (List ℕ)). flat_map (pairs g nodes) found.before ++ (map (pair_of g) es ++ flat_map (pairs g nodes) found.behind)) (sym (records-read nodes n bytes read))

@@ -6,7 +6,7 @@ use Rattle.std.specs.List.{prefix_len}
 use Rattle.std.proofs.lemmas.Bool.{cond-true, cond-false}
 use Rattle.std.proofs.lemmas.List.{drop_more}
 use Rattle.hfs_btree.specs.declared.key.Key.{Ghosts}
-use Rattle.hfs_btree.specs.Pairs.{lookup, after}
+use Rattle.hfs_btree.specs.Pairs.{lookup, after, pairs_from}
 use Rattle.hfs_btree.specs.Tree.{pair_of}
 use Rattle.hfs_btree.specs.Search.{is_not_above}
 
@@ -31,3 +31,12 @@ module _ {K : Type 0} (g : Ghosts K) (t : K) (es : List (List ℕ)) (i : ℕ) (e
 
   pub after-next : is_lt (g.compare t (g.leaf_key e)) ≡ false → after g.compare t (map (pair_of g) (drop i es)) ≡ after g.compare t (map (pair_of g) (drop (i + 1) es))
   after-next miss = ap (λ (xs : List (List ℕ)). after g.compare t (map (pair_of g) xs)) next ∙ cond-false (is_lt (g.compare t (g.leaf_key e))) _ _ miss
+
+  pub from-here : is_gt (g.compare t (g.leaf_key e)) ≡ false → pairs_from g.compare t (map (pair_of g) (drop i es)) ≡ map (pair_of g) (drop i es)
+  from-here hit =
+      ap (λ (xs : List (List ℕ)). pairs_from g.compare t (map (pair_of g) xs)) next
+      ∙ cond-false (is_gt (g.compare t (g.leaf_key e))) _ _ hit
+      ∙ sym (ap (λ (xs : List (List ℕ)). map (pair_of g) xs) next)
+
+  pub from-next : is_gt (g.compare t (g.leaf_key e)) ≡ true → pairs_from g.compare t (map (pair_of g) (drop i es)) ≡ pairs_from g.compare t (map (pair_of g) (drop (i + 1) es))
+  from-next miss = ap (λ (xs : List (List ℕ)). pairs_from g.compare t (map (pair_of g) xs)) next ∙ cond-true (is_gt (g.compare t (g.leaf_key e))) _ _ miss

@@ -8,11 +8,13 @@ mod header;
 mod image;
 mod key;
 mod keys;
+mod leaf;
 mod node_list;
 mod nodes;
 mod run;
 mod run_nodes;
 mod search;
+mod walk;
 
 pub use blocks::Blocks;
 pub use counts::{depth, free_nodes};
@@ -24,3 +26,4 @@ pub use nodes::Nodes;
 pub use run::Run;
 pub use run_nodes::RunNodes;
 pub use search::{find, next_after};
+pub use walk::{Pair, Walk};

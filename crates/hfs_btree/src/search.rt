@@ -4,7 +4,7 @@ ghost use Rattle.std.specs.Prelude.{◌≡◌, ℕ, ◌<◌, ◌≤◌, ◌-◌,
 ghost use Rattle.std.specs.List.{prefix_len};
 ghost use Rattle.hfs_node.specs.Node.{node_of};
 ghost use Rattle.hfs_btree.specs.Pairs.{Each, lookup, after};
-ghost use Rattle.hfs_btree.specs.Tree.{records_of, forward_of, pair_of};
+ghost use Rattle.hfs_btree.specs.Tree.{records_of, pair_of};
 ghost use Rattle.hfs_btree.specs.Header.{header_in, record_in, depth_of, tree_content};
 ghost use Rattle.hfs_btree.specs.Lookups.{first_pair};
 ghost use Rattle.hfs_btree.specs.Search.{is_not_above, child_for, leaf_for};
@@ -13,6 +13,7 @@ ghost use Rattle.hfs_btree.specs.Sound.{IsSound};
 use crate::entry::{body_of, child_of, compare_with, is_above, key_of};
 use crate::header::Header;
 use crate::key::Key;
+use crate::leaf::forward_in;
 use crate::nodes::Nodes;
 use hfs_node::{NodeView, view};
 use std::alloc::{AllocError, Global};
@@ -166,16 +167,6 @@ fn pair_in<K: Key>(alloc: Global, entry: &[u8]) -> Result<(K, Vec<u8>), AllocErr
     let key = key_of(entry);
     let body = Vec::from_slice(alloc, body_of::<K>(entry))?;
     Ok((key, body))
-}
-
-/// The next node of the level, 0 at its end.
-fn forward_in(bytes: &[u8; 512]) -> u32
-    ensures { result ≡ forward_of (node_of bytes.now) }
-{
-    match view(bytes) {
-        Ok(node) => node.forward(),
-        Err(_) => 0,
-    }
 }
 
 /// The first pair whose key is above this one, or None where there is none. The key itself need not be in the tree.
