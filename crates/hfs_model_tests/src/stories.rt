@@ -182,7 +182,7 @@ fn expect_part(
 ) -> Result<(), AllocError> {
     let reply = store.read_fork(2, b"f", Fork::DataFork, offset, count)?;
     assert_eq!(rt; reply.code, code, "at {offset}");
-    match reply.value {
+    match &reply.value {
         Value::Bytes(part) => assert_eq!(rt; part.as_slice(), wanted, "at {offset}"),
         _ => assert!(rt; false, "at {offset}"),
     }
