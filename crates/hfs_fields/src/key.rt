@@ -163,9 +163,9 @@ impl CatKey {
     pub fn compare(&self, other: &CatKey) -> Ordering
         ensures { result ≡ cat_cmp self.now other.now }
     {
-        self.parent
-            .cmp(&other.parent)
-            .then(self.name.cmp_folded(&other.name))
+        let by_parent = self.parent.cmp(&other.parent);
+        let by_name = self.name.cmp_folded(&other.name);
+        by_parent.then(by_name)
     }
 }
 
@@ -252,11 +252,10 @@ impl ExtKey {
     pub fn compare(&self, other: &ExtKey) -> Ordering
         ensures { result ≡ ext_cmp self.now other.now }
     {
-        self.file.cmp(&other.file).then(
-            self.fork
-                .cmp(&other.fork)
-                .then(self.block.cmp(&other.block)),
-        )
+        let by_file = self.file.cmp(&other.file);
+        let by_fork = self.fork.cmp(&other.fork);
+        let by_block = self.block.cmp(&other.block);
+        by_file.then(by_fork.then(by_block))
     }
 }
 

@@ -1,0 +1,249 @@
+//! Each record as a row of bytes with every field different, and each reason to refuse at its boundary.
+use crate::without_last;
+use hfs_fields::{
+    DirRecord, Extent, FileFlags, FileRecord, ForkRecord, Name, ThreadKind, ThreadRecord,
+};
+
+fn directory_row() -> [u8; 70] {
+    [
+        0x01, 0x02, 0x03, 0x04, 0x05, 0x06, 0x07, 0x08, 0x09, 0x0a, 0x0b, 0x0c, 0x0d, 0x0e, 0x0f,
+        0x10, 0x11, 0x12, 0x13, 0x14, 0x15, 0x16, 0x17, 0x18, 0x19, 0x1a, 0x1b, 0x1c, 0x1d, 0x1e,
+        0x1f, 0x20, 0x21, 0x22, 0x23, 0x24, 0x25, 0x26, 0x27, 0x28, 0x29, 0x2a, 0x2b, 0x2c, 0x2d,
+        0x2e, 0x2f, 0x30, 0x31, 0x32, 0x33, 0x34, 0x35, 0x36, 0x37, 0x38, 0x39, 0x3a, 0x3b, 0x3c,
+        0x3d, 0x3e, 0x3f, 0x40, 0x41, 0x42, 0x43, 0x44, 0x45, 0x46,
+    ]
+}
+
+fn file_row() -> [u8; 102] {
+    [
+        0x02, 0x03, 0x83, 0x05, 0x06, 0x07, 0x08, 0x09, 0x0a, 0x0b, 0x0c, 0x0d, 0x0e, 0x0f, 0x10,
+        0x11, 0x12, 0x13, 0x14, 0x15, 0x16, 0x17, 0x18, 0x19, 0x1a, 0x1b, 0x1c, 0x1d, 0x1e, 0x1f,
+        0x20, 0x21, 0x22, 0x23, 0x24, 0x25, 0x26, 0x27, 0x28, 0x29, 0x2a, 0x2b, 0x2c, 0x2d, 0x2e,
+        0x2f, 0x30, 0x31, 0x32, 0x33, 0x34, 0x35, 0x36, 0x37, 0x38, 0x39, 0x3a, 0x3b, 0x3c, 0x3d,
+        0x3e, 0x3f, 0x40, 0x41, 0x42, 0x43, 0x44, 0x45, 0x46, 0x47, 0x48, 0x49, 0x4a, 0x4b, 0x4c,
+        0x4d, 0x4e, 0x4f, 0x50, 0x51, 0x52, 0x53, 0x54, 0x55, 0x56, 0x57, 0x58, 0x59, 0x5a, 0x5b,
+        0x5c, 0x5d, 0x5e, 0x5f, 0x60, 0x61, 0x62, 0x63, 0x64, 0x65, 0x66, 0x67,
+    ]
+}
+
+fn thread_row() -> [u8; 46] {
+    [
+        0x03, 0x04, 0x05, 0x06, 0x07, 0x08, 0x09, 0x0a, 0x0b, 0x0c, 0x0d, 0x0e, 0x0f, 0x10, 0x05,
+        b'N', b'o', b't', b'e', b's', 0, 0, 0, 0, 0, 0, 0, 0, 0, 0, 0, 0, 0, 0, 0, 0, 0, 0, 0, 0,
+        0, 0, 0, 0, 0, 0,
+    ]
+}
+
+#[test]
+fn directory(rt: HostRuntime) {
+    let dir = DirRecord {
+        reserved: 0x02,
+        flags: 0x0304,
+        valence: 0x0506,
+        id: 0x0708_090a,
+        created: 0x0b0c_0d0e,
+        modified: 0x0f10_1112,
+        backup: 0x1314_1516,
+        finder_info: [
+            0x17, 0x18, 0x19, 0x1a, 0x1b, 0x1c, 0x1d, 0x1e, 0x1f, 0x20, 0x21, 0x22, 0x23, 0x24,
+            0x25, 0x26,
+        ],
+        extended_finder_info: [
+            0x27, 0x28, 0x29, 0x2a, 0x2b, 0x2c, 0x2d, 0x2e, 0x2f, 0x30, 0x31, 0x32, 0x33, 0x34,
+            0x35, 0x36,
+        ],
+        reserved_area: [
+            0x37, 0x38, 0x39, 0x3a, 0x3b, 0x3c, 0x3d, 0x3e, 0x3f, 0x40, 0x41, 0x42, 0x43, 0x44,
+            0x45, 0x46,
+        ],
+    };
+    assert_eq!(rt; DirRecord::read(&directory_row()), Some(dir));
+    assert_eq!(rt; DirRecord::read(without_last(&directory_row())), None);
+    assert_eq!(rt; DirRecord::read(&file_row()), None, "a file's type");
+    let mut bytes = [0xee; 72];
+    dir.write(&mut bytes);
+    assert!(rt; bytes.starts_with(&directory_row()));
+    assert!(rt; bytes.ends_with(&[0xee, 0xee]), "no byte more");
+}
+
+#[test]
+fn file(rt: HostRuntime) {
+    let file = FileRecord {
+        reserved: 0x03,
+        flags: FileFlags(0x83),
+        file_type: 0x05,
+        finder_info: [
+            0x06, 0x07, 0x08, 0x09, 0x0a, 0x0b, 0x0c, 0x0d, 0x0e, 0x0f, 0x10, 0x11, 0x12, 0x13,
+            0x14, 0x15,
+        ],
+        id: 0x1617_1819,
+        data: ForkRecord {
+            first_block: 0x1a1b,
+            length: 0x1c1d_1e1f,
+            physical_length: 0x2021_2223,
+            extents: [
+                Extent {
+                    first: 0x4c4d,
+                    count: 0x4e4f,
+                },
+                Extent {
+                    first: 0x5051,
+                    count: 0x5253,
+                },
+                Extent {
+                    first: 0x5455,
+                    count: 0x5657,
+                },
+            ],
+        },
+        resource: ForkRecord {
+            first_block: 0x2425,
+            length: 0x2627_2829,
+            physical_length: 0x2a2b_2c2d,
+            extents: [
+                Extent {
+                    first: 0x5859,
+                    count: 0x5a5b,
+                },
+                Extent {
+                    first: 0x5c5d,
+                    count: 0x5e5f,
+                },
+                Extent {
+                    first: 0x6061,
+                    count: 0x6263,
+                },
+            ],
+        },
+        created: 0x2e2f_3031,
+        modified: 0x3233_3435,
+        backup: 0x3637_3839,
+        extended_finder_info: [
+            0x3a, 0x3b, 0x3c, 0x3d, 0x3e, 0x3f, 0x40, 0x41, 0x42, 0x43, 0x44, 0x45, 0x46, 0x47,
+            0x48, 0x49,
+        ],
+        clump_size: 0x4a4b,
+        reserved_area: [0x64, 0x65, 0x66, 0x67],
+    };
+    assert_eq!(rt; FileRecord::read(&file_row()), Some(file));
+    assert_eq!(rt; FileRecord::read(without_last(&file_row())), None);
+    assert_eq!(rt; FileRecord::read(&directory_row()), None, "a folder's type");
+    let mut bytes = [0xee; 104];
+    file.write(&mut bytes);
+    assert!(rt; bytes.starts_with(&file_row()));
+    assert!(rt; bytes.ends_with(&[0xee, 0xee]), "no byte more");
+}
+
+#[test]
+fn thread(rt: HostRuntime) {
+    let thread = ThreadRecord::read(&thread_row()).expect(&rt, "a thread");
+    assert_eq!(rt; thread.kind, ThreadKind::Folder);
+    assert_eq!(rt; thread.reserved, 0x04);
+    assert_eq!(rt;
+        thread.reserved_area,
+        [0x05, 0x06, 0x07, 0x08, 0x09, 0x0a, 0x0b, 0x0c]
+    );
+    assert_eq!(rt; thread.parent, 0x0d0e_0f10);
+    assert_eq!(rt; thread.name.bytes(), b"Notes".as_slice());
+    let mut bytes = [0xee; 48];
+    thread.write(&mut bytes);
+    assert!(rt; bytes.starts_with(&thread_row()));
+    assert!(rt; bytes.ends_with(&[0xee, 0xee]), "no byte more");
+
+    assert!(rt; ThreadRecord::read(without_last(&thread_row())).is_none());
+    let mut other = thread_row();
+    other[0] = 4;
+    let of_file = ThreadRecord::read(&other).expect(&rt, "a file's thread");
+    assert_eq!(rt; of_file.kind, ThreadKind::File);
+    other[0] = 5;
+    assert!(rt; ThreadRecord::read(&other).is_none(), "no type of a thread");
+    other[0] = 3;
+    other[14] = 31;
+    assert!(rt; ThreadRecord::read(&other).is_some(), "31 characters");
+    other[14] = 32;
+    assert!(rt; ThreadRecord::read(&other).is_none(), "32 characters");
+}
+
+#[test]
+fn extents(rt: HostRuntime) {
+    let extent = Extent {
+        first: 0x0102,
+        count: 0x0304,
+    };
+    let row = [1, 2, 3, 4, 5, 6, 7, 8, 9, 10, 11, 12];
+    assert_eq!(rt; Extent::read(&row), Some(extent));
+    assert_eq!(rt; Extent::read(&[1, 2, 3]), None);
+    let mut bytes = [0xee; 5];
+    extent.write(&mut bytes);
+    assert_eq!(rt; bytes, [1, 2, 3, 4, 0xee]);
+
+    let extents = [
+        extent,
+        Extent {
+            first: 0x0506,
+            count: 0x0708,
+        },
+        Extent {
+            first: 0x090a,
+            count: 0x0b0c,
+        },
+    ];
+    assert_eq!(rt; Extent::read_record(&row), Some(extents));
+    assert_eq!(rt; Extent::read_record(without_last(&row)), None);
+    let mut bytes = [0xee; 13];
+    Extent::write_record(&extents, &mut bytes);
+    assert_eq!(rt; bytes, [1, 2, 3, 4, 5, 6, 7, 8, 9, 10, 11, 12, 0xee]);
+}
+
+fn new_folder_row() -> [u8; 70] {
+    [
+        0x01, 0, 0, 0, 0, 0, 0x00, 0x00, 0x00, 0x10, 0x2a, 0x2b, 0x2c, 0x2d, 0x2a, 0x2b, 0x2c,
+        0x2d, 0, 0, 0, 0, 0, 0, 0, 0, 0, 0, 0, 0, 0, 0, 0, 0, 0, 0, 0, 0, 0, 0, 0, 0, 0, 0, 0, 0,
+        0, 0, 0, 0, 0, 0, 0, 0, 0, 0, 0, 0, 0, 0, 0, 0, 0, 0, 0, 0, 0, 0, 0, 0,
+    ]
+}
+
+fn new_file_row() -> [u8; 102] {
+    [
+        0x02, 0, 0x80, 0, 0, 0, 0, 0, 0, 0, 0, 0, 0, 0, 0, 0, 0, 0, 0, 0, 0x00, 0x00, 0x00, 0x11,
+        0, 0, 0, 0, 0, 0, 0, 0, 0, 0, 0, 0, 0, 0, 0, 0, 0, 0, 0, 0, 0x2a, 0x2b, 0x2c, 0x2d, 0x2a,
+        0x2b, 0x2c, 0x2d, 0, 0, 0, 0, 0, 0, 0, 0, 0, 0, 0, 0, 0, 0, 0, 0, 0, 0, 0, 0, 0, 0, 0, 0,
+        0, 0, 0, 0, 0, 0, 0, 0, 0, 0, 0, 0, 0, 0, 0, 0, 0, 0, 0, 0, 0, 0, 0, 0, 0, 0,
+    ]
+}
+
+fn new_thread_row() -> [u8; 46] {
+    [
+        0x04, 0, 0, 0, 0, 0, 0, 0, 0, 0, 0x01, 0x02, 0x03, 0x04, 0x05, b'N', b'o', b't', b'e',
+        b's', 0, 0, 0, 0, 0, 0, 0, 0, 0, 0, 0, 0, 0, 0, 0, 0, 0, 0, 0, 0, 0, 0, 0, 0, 0, 0,
+    ]
+}
+
+#[test]
+fn new_records(rt: HostRuntime) {
+    let mut folder = [0xee; 70];
+    DirRecord::new(16, 0x2a2b_2c2d).write(&mut folder);
+    assert_eq!(rt; folder, new_folder_row());
+    let mut file = [0xee; 102];
+    FileRecord::new(17, 0x2a2b_2c2d).write(&mut file);
+    assert_eq!(rt; file, new_file_row());
+    let name = Name::new(b"Notes").expect(&rt, "an item name");
+    let mut thread = [0xee; 46];
+    ThreadRecord::new(ThreadKind::File, 0x0102_0304, name).write(&mut thread);
+    assert_eq!(rt; thread, new_thread_row());
+}
+
+#[test]
+fn flags(rt: HostRuntime) {
+    let flags = FileFlags(0x82);
+    assert!(rt; !flags.is_locked());
+    assert!(rt; flags.has_thread());
+    assert_eq!(rt; flags.with_lock(true), FileFlags(0x83));
+    assert_eq!(rt; flags.with_lock(true).with_lock(false), FileFlags(0x82));
+    assert_eq!(rt; flags.with_thread(false), FileFlags(0x80));
+    assert_eq!(rt;
+        FileFlags(0x7c).with_thread(true),
+        FileFlags(0x7e),
+        "bits without a name stay"
+    );
+}
