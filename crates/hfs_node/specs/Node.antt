@@ -45,6 +45,7 @@ node_with kind bytes =
       records = map (record_of bytes) (range_with_len 0 (count_of bytes));
     }
 
+-- the node of this kind in the bytes, or the first fault behind the type's
 unfoldable pub node_of_kind : Option NodeKind → List ℕ → Result Node NodeFault
 node_of_kind None bytes = Err Kind
 node_of_kind (Some kind) bytes =

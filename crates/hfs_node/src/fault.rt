@@ -4,7 +4,8 @@ ghost use Rattle.hfs_node.specs.Fault.{number_of};
 
 use thiserror::Error;
 
-/// Why 512 bytes are no node. The first three are asked in this order.
+/// Why 512 bytes are no node, or why it wasn't copied. The faults of the bytes are told in the order in
+/// which they stand here.
 #[derive(Clone, Copy, Debug, PartialEq, Eq, Error)]
 pub enum NodeFault {
     /// The type is none of $00, $01, $02 and $FF.

@@ -1,6 +1,5 @@
 //! A node's records in memory.
-ghost use Rattle.std.specs.Prelude.{◌≡◌, ◌+◌, ◌<◌, ◌≤◌, ◌==◌, [], ◌∷◌, ◌++◌, All, OnOk, OnErr, IfOk, IfErr, map, length, take, drop, insert, remove, slice_set, slice_index_or};
-ghost use Rattle.hfs_node.specs.Node.{size_of};
+ghost use Rattle.std.specs.Prelude.{◌≡◌, ◌+◌, ◌<◌, ◌≤◌, ◌==◌, [], ◌∷◌, ◌++◌, OnOk, OnErr, IfOk, IfErr, map, length, take, drop, insert, remove, slice_set, slice_index_or};
 
 use std::alloc::{AllocError, AllocFailed, Global};
 use std::marker::Model;

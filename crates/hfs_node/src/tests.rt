@@ -1,6 +1,4 @@
-ghost use Rattle.std.specs.Prelude.{◌≡◌, ◌==◌, ◌<◌, ◌≤◌, [], IfOk, IfSome, Ok, length, replicate, ◌∷◌};
-ghost use Rattle.hfs_node.specs.Node.{node_of};
-ghost use Rattle.hfs_node.specs.declared.node.Node.{Node};
+ghost use Rattle.std.specs.Prelude.{◌≡◌, ◌≤◌, [], ◌∷◌, IfOk, length, replicate};
 
 use crate::*;
 use byteorder::{BigEndian, ByteOrder};
