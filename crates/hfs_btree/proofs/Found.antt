@@ -1,5 +1,5 @@
 -- What the leaf where a search ends says of the whole content.
-use Rattle.std.proofs.Common.{◌≡◌, ℕ, zero, suc, ◌+◌, ◌<◌, ◌≤◌, List, [], ◌∷◌, ◌++◌, length, map, get_or, take, drop, refl, sym, ap, ◌∙◌, subst, arith, append_assoc, Some, None}
+use Rattle.std.proofs.Common.{◌≡◌, ℕ, ◌<◌, List, [], ◌∷◌, ◌++◌, length, map, get_or, drop, refl, sym, ap, ◌∙◌, subst, arith, append_assoc, Some, None}
 use Rattle.std.specs.Prelude.{true, Option}
 use Rattle.std.specs.Option.{option_or}
 use Rattle.std.specs.List.{flat_map}
@@ -8,10 +8,10 @@ use Rattle.std.proofs.lemmas.List.{length-map}
 use Rattle.hfs_node.specs.Node.{node_of}
 use Rattle.hfs_btree.specs.declared.header.Header.{Header}
 use Rattle.hfs_btree.specs.declared.key.Key.{Ghosts}
-use Rattle.hfs_btree.specs.Pairs.{Pairs, Each, lookup, after, pairs_from}
-use Rattle.hfs_btree.specs.Tree.{Store, first_of, forward_of, pair_of, pairs, records_in, records_of}
+use Rattle.hfs_btree.specs.Pairs.{Pairs, Each, lookup, after}
+use Rattle.hfs_btree.specs.Tree.{Store, first_of, forward_of, pair_of, pairs, records_of}
 use Rattle.hfs_btree.specs.Header.{header_in, depth_of, leaves, tree_content}
-use Rattle.hfs_btree.specs.Lookups.{first_pair, lookup-between, after-between, from-between}
+use Rattle.hfs_btree.specs.Lookups.{first_pair, lookup-between, after-between}
 use Rattle.hfs_btree.specs.Search.{leaf_for, IsLeafFor}
 use Rattle.hfs_btree.specs.Sound.{IsSound, IsRight}
 use Rattle.hfs_btree.proofs.Decoded.{records-read, read-in, decoded-within}

@@ -1,11 +1,10 @@
 -- Going from leaf to leaf.
-use Rattle.std.proofs.Common.{◌≡◌, ℕ, zero, suc, ◌+◌, ◌-◌, ◌<◌, ◌≤◌, List, [], ◌∷◌, ◌++◌, length, map, get_or, take, drop, refl, sym, ap, ◌∙◌, subst, arith, append_assoc, Some, None, inl, inr, length-append}
-use Rattle.std.specs.Prelude.{true, Option, Ok, ◌⊎◌, ◌==◌, cond}
+use Rattle.std.proofs.Common.{◌≡◌, ℕ, zero, suc, ◌+◌, ◌-◌, ◌<◌, ◌≤◌, List, [], ◌∷◌, ◌++◌, length, map, get_or, drop, refl, sym, ap, ◌∙◌, subst, arith, append_assoc, inl, inr, length-append}
+use Rattle.std.specs.Prelude.{true, ◌==◌}
 use Rattle.std.specs.List.{flat_map}
 use Rattle.std.specs.Cmp.{IsTotalOrder}
-use Rattle.std.proofs.lemmas.Bool.{cases_eq, cond-true, cond-false, ne_eqb, eq-eqb}
+use Rattle.std.proofs.lemmas.Bool.{cond-true, cond-false, ne_eqb, eq-eqb}
 use Rattle.std.proofs.lemmas.List.{length-map, drop_more, drop_all, get_or-map}
-use Rattle.std.proofs.lemmas.List.Concat.{flat_map-append}
 use Rattle.hfs_node.specs.Node.{node_of}
 use Rattle.hfs_btree.specs.declared.header.Header.{Header}
 use Rattle.hfs_btree.specs.declared.key.Key.{Ghosts}
@@ -13,13 +12,13 @@ use Rattle.hfs_btree.specs.Pairs.{Pairs, Each, pairs_from}
 use Rattle.hfs_btree.specs.Elements.{each-at}
 use Rattle.hfs_btree.specs.Tree.{Store, node_in, first_of, forward_of, pair_of, pairs, records_in, records_of}
 use Rattle.hfs_btree.specs.Header.{header_in, depth_of, leaves, tree_content}
-use Rattle.hfs_btree.specs.Lookups.{first_pair, from-between}
+use Rattle.hfs_btree.specs.Lookups.{from-between}
 use Rattle.hfs_btree.specs.Search.{leaf_for}
 use Rattle.hfs_btree.specs.Sound.{IsSound, IsRight}
-use Rattle.hfs_btree.specs.Walk.{pairs_along, rest_at, IsAtLeaf, IsPastEnd, IsWalk}
-use Rattle.hfs_btree.proofs.Decoded.{records-read, read-in, decoded-within}
+use Rattle.hfs_btree.specs.Walk.{pairs_along, rest_at, IsAtLeaf, IsWalk}
+use Rattle.hfs_btree.proofs.Decoded.{records-read, read-in}
 use Rattle.hfs_btree.proofs.Descent.{leaf-node, leaf-entries, content-about}
-use Rattle.hfs_btree.proofs.Found.{found, about, one-behind, behind-is, none-behind, next-within, next-node, next-some}
+use Rattle.hfs_btree.proofs.Found.{found, about, one-behind, behind-is, next-within, next-some}
 
 module _ {K : Type 0} (g : Ghosts K) (nodes : Store) (sound : IsSound g nodes) where
   pub along-none : (most n : ℕ) → n ≡ 0 → pairs_along g nodes most n ≡ []

@@ -1,4 +1,4 @@
-use Rattle.std.proofs.Common.{◌≡◌, ℕ, List, [], refl, ap, sym, ◌∙◌, replicate}
+use Rattle.std.proofs.Common.{◌≡◌, refl, ap, replicate}
 use Rattle.std.specs.Prelude.{Err}
 use Rattle.hfs_fields.specs.Numbers.{number_at}
 use Rattle.hfs_node.specs.declared.fault.NodeFault.TheVariants.{Outside}

@@ -1,7 +1,7 @@
-use Rattle.std.proofs.Common.{◌≡◌, ◌∙◌, ap, sym, arith, inl, inr, ◌≤◌, length}
+use Rattle.std.proofs.Common.{arith, ◌≤◌, length}
 use Rattle.hfs_node.specs.Node.{node_of}
 use Rattle.hfs_btree.specs.Tree.{records_of}
-use Rattle.hfs_btree.proofs.Walks.{settle-end, settle-within, settle-room, settle-walk, settle-same}
+use Rattle.hfs_btree.proofs.Walks.{settle-within, settle-room, settle-walk, settle-same}
 use Rattle.hfs_btree.proofs.leaf.settle.Goals as goal
 
 pub read-requires : goal.read-requires

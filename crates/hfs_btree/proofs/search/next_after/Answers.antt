@@ -1,8 +1,8 @@
-use Rattle.std.proofs.Common.{◌≡◌, ℕ, List, [], ◌∙◌, ap, sym, subst, None, length, get_or}
+use Rattle.std.proofs.Common.{ℕ, List, [], ◌∙◌, ap, sym, get_or}
 use Rattle.std.specs.Prelude.{Some}
 use Rattle.std.specs.List.{flat_map}
 use Rattle.hfs_btree.specs.Lookups.{first_pair}
-use Rattle.hfs_btree.specs.Tree.{first_of, pair_of, pairs}
+use Rattle.hfs_btree.specs.Tree.{pair_of, pairs}
 use Rattle.hfs_btree.proofs.Found.{some-levels, found, found-entries, forward-is, next-here, next-behind, none-behind, next-within, next-entries, next-first}
 use Rattle.hfs_btree.proofs.search.next_after.Goals as goal
 

@@ -1,5 +1,4 @@
-use Rattle.std.proofs.Common.{◌≡◌, ◌∙◌, ap, sym, arith, ◌<◌, ◌≤◌, length, drop, ℕ, List, []}
-use Rattle.hfs_btree.specs.Pairs.{Pairs}
+use Rattle.std.proofs.Common.{◌∙◌, ap, sym, arith, drop}
 use Rattle.hfs_btree.proofs.Walks.{walk-at, walk-cons, walk-end, step-at}
 use Rattle.hfs_btree.proofs.walk.Walk.advance.Goals as goal
 

@@ -1,12 +1,11 @@
-use Rattle.std.proofs.Common.{◌≡◌, ◌∙◌, ap, sym, arith, ◌<◌, ◌≤◌, ◌++◌, length, drop, map, ℕ, List, [], inr}
+use Rattle.std.proofs.Common.{◌∙◌, ap, sym, arith, ◌++◌, length, map, ℕ, List, inr}
 use Rattle.hfs_node.specs.Node.{node_of}
-use Rattle.hfs_btree.specs.Pairs.{Pairs, pairs_from}
-use Rattle.hfs_btree.specs.Tree.{pair_of, records_of, forward_of}
-use Rattle.hfs_btree.specs.Header.{tree_content}
+use Rattle.hfs_btree.specs.Pairs.{pairs_from}
+use Rattle.hfs_btree.specs.Tree.{pair_of, forward_of}
 use Rattle.hfs_btree.specs.Walk.{pairs_along}
 use Rattle.hfs_btree.proofs.Descent.{content-none}
 use Rattle.hfs_btree.proofs.Found.{some-levels, found-entries}
-use Rattle.hfs_btree.proofs.Walks.{start-at, start-same, along-none}
+use Rattle.hfs_btree.proofs.Walks.{start-at, start-same}
 use Rattle.hfs_btree.proofs.walk.Walk.from.Goals as goal
 
 pub invariant_of-result : goal.invariant_of-result

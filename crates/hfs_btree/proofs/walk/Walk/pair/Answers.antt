@@ -1,4 +1,4 @@
-use Rattle.std.proofs.Common.{◌≡◌, ◌∙◌, ap, sym, Some, None, ◌<◌, ◌≤◌, length, ℕ, List}
+use Rattle.std.proofs.Common.{◌∙◌, ap, sym, Some, ℕ, List}
 use Rattle.hfs_btree.specs.Lookups.{first_pair}
 use Rattle.hfs_btree.specs.Tree.{pair_of}
 use Rattle.hfs_btree.proofs.Walks.{walk-leaf, walk-cons, walk-end}
