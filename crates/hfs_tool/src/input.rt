@@ -1,9 +1,11 @@
 //! Reading from any reader.
-ghost use Rattle.std.specs.Prelude.{◌<◌, ◌≤◌, ℕ, List, IfOk, OnErr, length, take};
+ghost use Rattle.std.specs.Prelude.{◌≡◌, ◌<◌, ◌≤◌, ◌+◌, ℕ, List, IfOk, OnOk, OnErr, IsErrOf, Ok, true, false, ◌++◌, length, vec_len, take};
 ghost use Rattle.std.specs.Io.KnownBytes.{Consumes, IsAtEnd};
 
+use std::alloc::Global;
 use std::io;
 use std::io::{ErrorKind, Read};
+use thiserror::Error;
 
 /// Reads until the buffer is full or the input ends, and answers how many bytes there are. At an error some of the
 /// input is read, and less than the buffer holds.
@@ -32,4 +34,70 @@ pub fn fill<R: Read>(reader: &mut R, buffer: &mut [u8]) -> io::Result<usize>
         }
     }
     Err(io::Error::from(ErrorKind::TimedOut))
+}
+
+/// The most bytes that an image has: 2 GiB.
+pub const IMAGE_LIMIT: usize = 2_147_483_648;
+
+/// How many bytes are read at once.
+const CHUNK: usize = 65_536;
+
+/// Why an input was not loaded.
+#[derive(Debug, Drop, Error)]
+pub enum LoadFault {
+    /// The reader failed.
+    #[error("cannot read")]
+    ReadFailed,
+    /// The reader gave 2,147,483,649 bytes.
+    #[error("too large")]
+    TooLarge,
+    /// Memory for the bytes was refused.
+    #[error("out of memory")]
+    Memory,
+}
+
+/// All bytes up to the reader's end, at most `IMAGE_LIMIT`. A reader that gives more is left after exactly one byte
+/// more, so a device that never ends is left too.
+pub fn load<R: Read>(alloc: Global, reader: &mut R) -> Result<Vec<u8>, LoadFault>
+    ensures whole { IfOk result (λ bytes. Consumes (R.remaining reader.old) (R.remaining reader.new) bytes.items) }
+    ensures ended { OnOk result (IsAtEnd (R.remaining reader.new)) }
+    ensures limit { IfOk result (λ bytes. length bytes.items ≤ IMAGE_LIMIT) }
+    ensures too_large { IsErrOf result LoadFault.TooLarge → (bytes : List ℕ) × (length bytes ≡ IMAGE_LIMIT + 1)
+        × Consumes (R.remaining reader.old) (R.remaining reader.new) bytes }
+    ensures stops { OnErr result ((bytes : List ℕ) × (length bytes ≤ IMAGE_LIMIT + 1)
+        × Consumes (R.remaining reader.old) (R.remaining reader.new) bytes) }
+{
+    let mut bytes = Vec::new(alloc);
+    let mut chunk = [0; CHUNK];
+    while bytes.len() <= IMAGE_LIMIT {
+        let room = CHUNK.min(IMAGE_LIMIT + 1 - bytes.len());
+        if load_more(reader, &mut bytes, &mut chunk[..room])? && bytes.len() <= IMAGE_LIMIT {
+            return Ok(bytes);
+        }
+    }
+    Err(LoadFault::TooLarge)
+}
+
+/// Reads as many bytes as the chunk holds, and appends them. Answers whether the input ended.
+fn load_more<R: Read>(
+    reader: &mut R,
+    bytes: &mut Vec<u8>,
+    chunk: &mut [u8],
+) -> Result<bool, LoadFault>
+    requires { 0 < length chunk.old }
+    ensures ok { OnOk result ((more : List ℕ) × (length more ≤ length chunk.old)
+        × Consumes (R.remaining reader.old) (R.remaining reader.new) more × (bytes.new.items ≡ bytes.old.items ++ more)) }
+    ensures ended { result ≡ Ok true → IsAtEnd (R.remaining reader.new) }
+    ensures goes_on { result ≡ Ok false → vec_len bytes.new ≡ vec_len bytes.old + length chunk.old }
+    ensures err { OnErr result ((more : List ℕ) × (length more ≤ length chunk.old)
+        × Consumes (R.remaining reader.old) (R.remaining reader.new) more) }
+    ensures not_large { IsErrOf result LoadFault.TooLarge → ⊥ }
+{
+    let Ok(count) = fill(reader, chunk) else {
+        return Err(LoadFault::ReadFailed);
+    };
+    let Ok(()) = bytes.extend_from_slice(&chunk[..count]) else {
+        return Err(LoadFault::Memory);
+    };
+    Ok(count < chunk.len())
 }

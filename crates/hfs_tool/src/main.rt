@@ -1,46 +1,61 @@
 //! A program that reads, checks and changes HFS volumes.
 #![tactic(auto)]
 
+mod commands;
+mod fault;
+mod files;
 mod info;
 mod input;
+mod reply;
 #[cfg(test)]
 mod tests;
 mod text;
+mod words;
 
-use crate::info::{InfoFault, run_info};
+use crate::commands::obey;
+use crate::fault::{Fault, Status};
+use crate::words::read_words;
+use clap::error::ErrorKind;
 use std::process::ExitCode;
+use std::{env, io};
 
-/// All was done.
-const DONE: u8 = 0;
-/// The image is refused.
-const REFUSED: u8 = 2;
-/// A read or a write failed.
-const DEVICE_FAILED: u8 = 4;
-/// Memory was wanting.
-const NO_MEMORY: u8 = 5;
-
-/// Prints the master directory block of the volume on standard input.
 fn main(rt: HostRuntime) -> ExitCode {
-    ExitCode::from(print_info(&rt))
+    ExitCode::from(answer(&rt))
 }
 
-/// Prints the lines of standard input's volume, or the fault's text, and answers the status.
-fn print_info(rt: &HostRuntime) -> u8 {
-    match run_info(rt.alloc(), &mut rt.stdin(), &mut rt.stdout()) {
-        Ok(()) => DONE,
-        Err(InfoFault::Short) => print_fault(rt, "image too short", REFUSED),
-        Err(InfoFault::NoMacDisk) => print_fault(rt, "not an HFS volume (-57)", REFUSED),
-        Err(InfoFault::ReadFailed) => print_fault(rt, "cannot read stdin", DEVICE_FAILED),
-        Err(InfoFault::WriteFailed) => DEVICE_FAILED,
-        Err(InfoFault::Memory) => print_fault(rt, "out of memory", NO_MEMORY),
+/// Reads the words and does what they ask for.
+fn answer(rt: &HostRuntime) -> Status {
+    let Ok(arguments) = env::args(rt) else {
+        return print_fault(rt, &Fault::WordsNotText);
+    };
+    let Ok(arguments) = arguments.collect::<Vec<String>>(rt.alloc()) else {
+        return print_fault(rt, &Fault::NoMemory);
+    };
+    match read_words(rt.alloc(), arguments.as_slice()) {
+        Ok(words) => match obey(rt, &words) {
+            Ok(()) => Status::Done,
+            Err(fault) => print_fault(rt, &fault),
+        },
+        Err(error) => match error.kind() {
+            ErrorKind::OutOfMemory => print_fault(rt, &Fault::NoMemory),
+            ErrorKind::DisplayHelp => status_after(rt.print(&error), Status::Done),
+            _ => status_after(rt.print(&error), Status::WordsRefused),
+        },
     }
 }
 
-/// Prints a fault's text alone on its line, and answers its status, or that of a failed device where the text was
-/// not printed.
-fn print_fault(rt: &HostRuntime, text: &str, status: u8) -> u8 {
-    match println!(rt; "{text}") {
+/// Prints a fault alone on its line, and answers its status. After standard output failed nothing more is printed.
+fn print_fault(rt: &HostRuntime, fault: &Fault<'_>) -> Status {
+    match fault {
+        Fault::OutputFailed => fault.status(),
+        _ => status_after(println!(rt; "{fault}"), fault.status()),
+    }
+}
+
+/// This status, or that of a failed device where the text was not printed.
+fn status_after(printed: io::Result<()>, status: Status) -> Status {
+    match printed {
         Ok(()) => status,
-        Err(_) => DEVICE_FAILED,
+        Err(_) => Status::DeviceFailed,
     }
 }

@@ -1,0 +1,27 @@
+//! Files by their paths.
+
+use crate::fault::Fault;
+use crate::input::load;
+use std::fs;
+use std::fs::File;
+use std::rt::Files;
+
+/// All bytes of a file, at most 2,147,483,648. Faults: `CannotRead` where it can't be opened or a read fails,
+/// `ImageTooLarge` where it has more, `NoMemory`.
+pub fn load_file<'a, R: Files + AllocGlobal>(rt: &R, path: &'a str) -> Result<Vec<u8>, Fault<'a>> {
+    let Ok(mut file) = File::open(rt, path) else {
+        return Err(Fault::CannotRead(path));
+    };
+    match load(rt.alloc(), &mut file) {
+        Ok(bytes) => Ok(bytes),
+        Err(fault) => Err(Fault::of_load(fault, path)),
+    }
+}
+
+/// Makes these bytes the file's, in place of what it had. Fault: `CannotWrite`, and then the file may hold a part.
+pub fn write_file<'a, R: Files>(rt: &R, path: &'a str, bytes: &[u8]) -> Result<(), Fault<'a>> {
+    match fs::write(rt, path, bytes) {
+        Ok(()) => Ok(()),
+        Err(_) => Err(Fault::CannotWrite(path)),
+    }
+}

@@ -1,0 +1,431 @@
+//! Heads of volumes that hfsutils 3.2.6, mkfs.hfs 540.1 and genisoimage 1.1.11 made, as they stand in `data/headers`,
+//! and the lines that an independent reading of the format gives for them.
+
+/// The head of an image: its bytes but for zeros, and its lines where it is an HFS volume.
+#[derive(Clone, Copy)]
+pub struct Sample {
+    pub name: &'static str,
+    /// Runs of bytes, each with the place where it begins. All other bytes are 0.
+    pub runs: &'static [(usize, &'static [u8])],
+    pub lines: Option<&'static [&'static str]>,
+}
+
+/// A floppy of 800 KB.
+pub const FLOPPY: Sample = Sample {
+    name: "floppy",
+    runs: &[
+        (
+            1024,
+            &[
+                0x42, 0x44, 0xa9, 0xa9, 0xde, 0x5d, 0xa9, 0xa9, 0xde, 0x5d, 0x01, 0x00, 0x00, 0x00,
+                0x00, 0x03, 0x00, 0x63, 0x06, 0x3a, 0x00, 0x00, 0x02, 0x00, 0x00, 0x00, 0x08, 0x00,
+                0x00, 0x04, 0x00, 0x00, 0x00, 0x1d, 0x05, 0xdb, 0x09, 0x4d, 0x79, 0x20, 0x46, 0x6c,
+                0x6f, 0x70, 0x70, 0x79,
+            ],
+        ),
+        (
+            1097,
+            &[
+                0x0d, 0x00, 0x00, 0x18, 0x00, 0x00, 0x00, 0x18, 0x00, 0x00, 0x03, 0x00, 0x00, 0x00,
+                0x07, 0x00, 0x00, 0x00, 0x04, 0x00, 0x00, 0x00, 0x10,
+            ],
+        ),
+        (1156, &[0x18, 0x00, 0x00, 0x00, 0x00, 0x0c]),
+        (1172, &[0x18, 0x00, 0x00, 0x0c, 0x00, 0x0c]),
+    ],
+    lines: Some(&[
+        "drSigWord 4244",
+        "drCrDate 2846482013",
+        "drLsMod 2846482013",
+        "drAtrb 0100",
+        "drNmFls 0",
+        "drVBMSt 3",
+        "drAllocPtr 99",
+        "drNmAlBlks 1594",
+        "drAlBlkSiz 512",
+        "drClpSiz 2048",
+        "drAlBlSt 4",
+        "drNxtCNID 29",
+        "drFreeBks 1499",
+        "drVN My Floppy",
+        "drVolBkUp 0",
+        "drVSeqNum 0",
+        "drWrCnt 13",
+        "drXTClpSiz 6144",
+        "drCTClpSiz 6144",
+        "drNmRtDirs 3",
+        "drFilCnt 7",
+        "drDirCnt 4",
+        "drFndrInfo 0000001000000000000000000000000000000000000000000000000000000000",
+        "drVCSize 0",
+        "drVBMCSize 0",
+        "drCtlCSize 0",
+        "drXTFlSize 6144",
+        "drXTExtRec 0+12 0+0 0+0",
+        "drCTFlSize 6144",
+        "drCTExtRec 12+12 0+0 0+0",
+    ]),
+};
+
+/// A volume whose catalog file lies in several extents.
+pub const FRAGMENTED: Sample = Sample {
+    name: "fragmented",
+    runs: &[
+        (
+            1024,
+            &[
+                0x42, 0x44, 0xa9, 0xa9, 0xde, 0x5d, 0xa9, 0xa9, 0xde, 0x5d, 0x01, 0x00, 0x00, 0x00,
+                0x00, 0x03, 0x1f, 0xf8, 0x1f, 0xf9, 0x00, 0x00, 0x02, 0x00, 0x00, 0x00, 0x08, 0x00,
+                0x00, 0x05, 0x00, 0x00, 0x1a, 0x9a, 0x07, 0x8b, 0x07, 0x43, 0x61, 0x74, 0x46, 0x72,
+                0x61, 0x67,
+            ],
+        ),
+        (
+            1097,
+            &[
+                0x01, 0x00, 0x00, 0x7e, 0x00, 0x00, 0x00, 0x7e, 0x00, 0x00, 0x02, 0x00, 0x00, 0x12,
+                0xfc, 0x00, 0x00, 0x00, 0x02,
+            ],
+        ),
+        (1156, &[0x7e, 0x00, 0x00, 0x00, 0x00, 0x3f]),
+        (
+            1171,
+            &[
+                0x12, 0x36, 0x00, 0x00, 0x3f, 0x00, 0x3f, 0x01, 0x10, 0x00, 0x3f, 0x01, 0xeb, 0x00,
+                0x3f,
+            ],
+        ),
+    ],
+    lines: Some(&[
+        "drSigWord 4244",
+        "drCrDate 2846482013",
+        "drLsMod 2846482013",
+        "drAtrb 0100",
+        "drNmFls 0",
+        "drVBMSt 3",
+        "drAllocPtr 8184",
+        "drNmAlBlks 8185",
+        "drAlBlkSiz 512",
+        "drClpSiz 2048",
+        "drAlBlSt 5",
+        "drNxtCNID 6810",
+        "drFreeBks 1931",
+        "drVN CatFrag",
+        "drVolBkUp 0",
+        "drVSeqNum 0",
+        "drWrCnt 1",
+        "drXTClpSiz 32256",
+        "drCTClpSiz 32256",
+        "drNmRtDirs 2",
+        "drFilCnt 4860",
+        "drDirCnt 2",
+        "drFndrInfo 0000000000000000000000000000000000000000000000000000000000000000",
+        "drVCSize 0",
+        "drVBMCSize 0",
+        "drCtlCSize 0",
+        "drXTFlSize 32256",
+        "drXTExtRec 0+63 0+0 0+0",
+        "drCTFlSize 1193472",
+        "drCTExtRec 63+63 272+63 491+63",
+    ]),
+};
+
+/// A CD image, locked by hardware and by software.
+pub const LOCKED: Sample = Sample {
+    name: "locked",
+    runs: &[
+        (447, &[0xff, 0xff, 0xff, 0x00, 0xff, 0xff, 0xff]),
+        (463, &[0xff, 0xff, 0xff, 0x00, 0xff, 0xff, 0xff]),
+        (479, &[0xff, 0xff, 0xff, 0x00, 0xff, 0xff, 0xff]),
+        (495, &[0xff, 0xff, 0xff, 0x00, 0xff, 0xff, 0xff]),
+        (510, &[0x55, 0xaa]),
+        (
+            1024,
+            &[
+                0x42, 0x44, 0xa9, 0xa9, 0xde, 0x5d, 0xa9, 0xa9, 0xde, 0x5d, 0x81, 0x80, 0x00, 0x02,
+                0x00, 0x03, 0x00, 0xa2, 0x01, 0xb8, 0x00, 0x00, 0x08, 0x00, 0x00, 0x00, 0x20, 0x00,
+                0x00, 0x04, 0x00, 0x00, 0x00, 0x46, 0x00, 0x00, 0x06, 0x48, 0x79, 0x62, 0x72, 0x69,
+                0x64,
+            ],
+        ),
+        (
+            1096,
+            &[
+                0x02, 0xbb, 0x00, 0x00, 0x60, 0x00, 0x00, 0x00, 0xc0, 0x00, 0x00, 0x02, 0x00, 0x00,
+                0x00, 0x33, 0x00, 0x00, 0x00, 0x03,
+            ],
+        ),
+        (1156, &[0x60, 0x00, 0x01, 0x8f, 0x00, 0x0c]),
+        (1172, &[0xc0, 0x00, 0x01, 0x9b, 0x00, 0x18]),
+    ],
+    lines: Some(&[
+        "drSigWord 4244",
+        "drCrDate 2846482013",
+        "drLsMod 2846482013",
+        "drAtrb 8180",
+        "drNmFls 2",
+        "drVBMSt 3",
+        "drAllocPtr 162",
+        "drNmAlBlks 440",
+        "drAlBlkSiz 2048",
+        "drClpSiz 8192",
+        "drAlBlSt 4",
+        "drNxtCNID 70",
+        "drFreeBks 0",
+        "drVN Hybrid",
+        "drVolBkUp 0",
+        "drVSeqNum 0",
+        "drWrCnt 699",
+        "drXTClpSiz 24576",
+        "drCTClpSiz 49152",
+        "drNmRtDirs 2",
+        "drFilCnt 51",
+        "drDirCnt 3",
+        "drFndrInfo 0000000000000000000000000000000000000000000000000000000000000000",
+        "drVCSize 0",
+        "drVBMCSize 0",
+        "drCtlCSize 0",
+        "drXTFlSize 24576",
+        "drXTExtRec 399+12 0+0 0+0",
+        "drCTFlSize 49152",
+        "drCTExtRec 411+24 0+0 0+0",
+    ]),
+};
+
+/// A volume of 6,000 files.
+pub const MANY: Sample = Sample {
+    name: "many",
+    runs: &[
+        (
+            1024,
+            &[
+                0x42, 0x44, 0xa9, 0xa9, 0xde, 0x5d, 0xa9, 0xa9, 0xde, 0x5d, 0x01, 0x00, 0x00, 0x00,
+                0x00, 0x03, 0x2e, 0x47, 0xff, 0xf5, 0x00, 0x00, 0x04, 0x00, 0x00, 0x00, 0x10, 0x00,
+                0x00, 0x13, 0x00, 0x00, 0x18, 0x0a, 0xd1, 0xb1, 0x09, 0x4d, 0x61, 0x6e, 0x79, 0x20,
+                0x36, 0x30, 0x30, 0x30,
+            ],
+        ),
+        (
+            1097,
+            &[
+                0x01, 0x00, 0x07, 0xfc, 0x00, 0x00, 0x07, 0xfc, 0x00, 0x00, 0x78, 0x00, 0x00, 0x17,
+                0x70, 0x00, 0x00, 0x00, 0x8a,
+            ],
+        ),
+        (1155, &[0x07, 0xfc, 0x00, 0x00, 0x00, 0x01, 0xff]),
+        (
+            1171,
+            &[
+                0x17, 0xf4, 0x00, 0x01, 0xff, 0x01, 0xff, 0x12, 0x83, 0x01, 0xff, 0x26, 0x36, 0x01,
+                0xff,
+            ],
+        ),
+    ],
+    lines: Some(&[
+        "drSigWord 4244",
+        "drCrDate 2846482013",
+        "drLsMod 2846482013",
+        "drAtrb 0100",
+        "drNmFls 0",
+        "drVBMSt 3",
+        "drAllocPtr 11847",
+        "drNmAlBlks 65525",
+        "drAlBlkSiz 1024",
+        "drClpSiz 4096",
+        "drAlBlSt 19",
+        "drNxtCNID 6154",
+        "drFreeBks 53681",
+        "drVN Many 6000",
+        "drVolBkUp 0",
+        "drVSeqNum 0",
+        "drWrCnt 1",
+        "drXTClpSiz 523264",
+        "drCTClpSiz 523264",
+        "drNmRtDirs 120",
+        "drFilCnt 6000",
+        "drDirCnt 138",
+        "drFndrInfo 0000000000000000000000000000000000000000000000000000000000000000",
+        "drVCSize 0",
+        "drVBMCSize 0",
+        "drCtlCSize 0",
+        "drXTFlSize 523264",
+        "drXTExtRec 0+511 0+0 0+0",
+        "drCTFlSize 1569792",
+        "drCTExtRec 511+511 4739+511 9782+511",
+    ]),
+};
+
+/// A volume that was just formatted.
+pub const MKFS: Sample = Sample {
+    name: "mkfs",
+    runs: &[
+        (
+            1024,
+            &[
+                0x42, 0x44, 0xa9, 0xa9, 0xde, 0x5d, 0xa9, 0xa9, 0xde, 0x5d, 0x01, 0x00, 0x00, 0x00,
+                0x00, 0x03, 0x02, 0xe6, 0x3f, 0xf7, 0x00, 0x00, 0x02, 0x00, 0x00, 0x00, 0x08, 0x00,
+                0x00, 0x07, 0x00, 0x00, 0x00, 0x5c, 0x3d, 0x59, 0x08, 0x75, 0x6e, 0x74, 0x69, 0x74,
+                0x6c, 0x65, 0x64,
+            ],
+        ),
+        (
+            1097,
+            &[
+                0x03, 0x00, 0x01, 0x00, 0x00, 0x00, 0x01, 0x00, 0x00, 0x00, 0x01, 0x00, 0x00, 0x00,
+                0x37, 0x00, 0x00, 0x00, 0x01,
+            ],
+        ),
+        (1133, &[0x63, 0x6e, 0x65]),
+        (1155, &[0x01, 0x00, 0x00, 0x00, 0x00, 0x00, 0x80]),
+        (1171, &[0x01, 0x00, 0x00, 0x00, 0x80, 0x00, 0x80]),
+    ],
+    lines: Some(&[
+        "drSigWord 4244",
+        "drCrDate 2846482013",
+        "drLsMod 2846482013",
+        "drAtrb 0100",
+        "drNmFls 0",
+        "drVBMSt 3",
+        "drAllocPtr 742",
+        "drNmAlBlks 16375",
+        "drAlBlkSiz 512",
+        "drClpSiz 2048",
+        "drAlBlSt 7",
+        "drNxtCNID 92",
+        "drFreeBks 15705",
+        "drVN untitled",
+        "drVolBkUp 0",
+        "drVSeqNum 0",
+        "drWrCnt 3",
+        "drXTClpSiz 65536",
+        "drCTClpSiz 65536",
+        "drNmRtDirs 1",
+        "drFilCnt 55",
+        "drDirCnt 1",
+        "drFndrInfo 0000000000000000000000000000000000636e65000000000000000000000000",
+        "drVCSize 0",
+        "drVBMCSize 0",
+        "drCtlCSize 0",
+        "drXTFlSize 65536",
+        "drXTExtRec 0+128 0+0 0+0",
+        "drCTFlSize 65536",
+        "drCTExtRec 128+128 0+0 0+0",
+    ]),
+};
+
+/// The wrapper of an HFS Plus volume.
+pub const WRAPPER: Sample = Sample {
+    name: "wrapper",
+    runs: &[
+        (
+            1024,
+            &[
+                0x42, 0x44, 0xa9, 0xa9, 0xde, 0x5d, 0xa9, 0xa9, 0xde, 0x5d, 0x83, 0x00, 0x00, 0x05,
+                0x00, 0x03, 0x00, 0x00, 0x0f, 0xfe, 0x00, 0x00, 0x10, 0x00, 0x00, 0x00, 0x10, 0x00,
+                0x00, 0x08, 0x00, 0x00, 0x00, 0x15, 0x00, 0x00, 0x08, 0x75, 0x6e, 0x74, 0x69, 0x74,
+                0x6c, 0x65, 0x64,
+            ],
+        ),
+        (
+            1097,
+            &[
+                0x02, 0x00, 0x00, 0x10, 0x00, 0x00, 0x00, 0x10, 0x00, 0x00, 0x00, 0x00, 0x00, 0x00,
+                0x05,
+            ],
+        ),
+        (1119, &[0x02]),
+        (1133, &[0x63, 0x6e, 0x65]),
+        (
+            1148,
+            &[
+                0x48, 0x2b, 0x00, 0x0a, 0x0f, 0xf4, 0x00, 0x00, 0x10, 0x00, 0x00, 0x00, 0x00, 0x01,
+            ],
+        ),
+        (1172, &[0x10, 0x00, 0x00, 0x01, 0x00, 0x01]),
+    ],
+    lines: Some(&[
+        "drSigWord 4244",
+        "drCrDate 2846482013",
+        "drLsMod 2846482013",
+        "drAtrb 8300",
+        "drNmFls 5",
+        "drVBMSt 3",
+        "drAllocPtr 0",
+        "drNmAlBlks 4094",
+        "drAlBlkSiz 4096",
+        "drClpSiz 4096",
+        "drAlBlSt 8",
+        "drNxtCNID 21",
+        "drFreeBks 0",
+        "drVN untitled",
+        "drVolBkUp 0",
+        "drVSeqNum 0",
+        "drWrCnt 2",
+        "drXTClpSiz 4096",
+        "drCTClpSiz 4096",
+        "drNmRtDirs 0",
+        "drFilCnt 5",
+        "drDirCnt 0",
+        "drFndrInfo 0000000200000000000000000000000000636e65000000000000000000000000",
+        "drVCSize 18475",
+        "drVBMCSize 10",
+        "drCtlCSize 4084",
+        "drXTFlSize 4096",
+        "drXTExtRec 0+1 0+0 0+0",
+        "drCTFlSize 4096",
+        "drCTExtRec 1+1 0+0 0+0",
+    ]),
+};
+
+/// An HFS Plus volume without a wrapper, which is no HFS volume.
+pub const NOT_HFS: Sample = Sample {
+    name: "not-hfs",
+    runs: &[
+        (
+            1024,
+            &[
+                0x48, 0x2b, 0x00, 0x04, 0x80, 0x00, 0x01, 0x00, 0x31, 0x30, 0x2e, 0x30, 0x00, 0x00,
+                0x00, 0x00, 0xa9, 0xa9, 0xde, 0x5d, 0xa9, 0xa9, 0xde, 0x5d, 0x00, 0x00, 0x00, 0x00,
+                0xa9, 0xa9, 0xde, 0x5d,
+            ],
+        ),
+        (
+            1066,
+            &[
+                0x10, 0x00, 0x00, 0x00, 0x08, 0x00, 0x00, 0x00, 0x07, 0xcd, 0x00, 0x00, 0x01, 0x72,
+                0x00, 0x01, 0x00, 0x00, 0x00, 0x01, 0x00, 0x00, 0x00, 0x00, 0x00, 0x10,
+            ],
+        ),
+        (1103, &[0x01]),
+        (
+            1128,
+            &[
+                0xd1, 0x68, 0xf1, 0xb5, 0xb7, 0x1a, 0x2d, 0x9c, 0x00, 0x00, 0x00, 0x00, 0x00, 0x00,
+                0x10, 0x00, 0x00, 0x00, 0x10, 0x00, 0x00, 0x00, 0x00, 0x01, 0x00, 0x00, 0x00, 0x01,
+                0x00, 0x00, 0x00, 0x01,
+            ],
+        ),
+        (
+            1221,
+            &[
+                0x01, 0x00, 0x00, 0x00, 0x01, 0x00, 0x00, 0x00, 0x00, 0x00, 0x10, 0x00, 0x00, 0x00,
+                0x02, 0x00, 0x00, 0x00, 0x10,
+            ],
+        ),
+        (
+            1301,
+            &[
+                0x01, 0x00, 0x00, 0x00, 0x01, 0x00, 0x00, 0x00, 0x00, 0x00, 0x10, 0x00, 0x00, 0x00,
+                0xc2, 0x00, 0x00, 0x00, 0x10,
+            ],
+        ),
+        (
+            1381,
+            &[
+                0x01, 0x00, 0x00, 0x00, 0x01, 0x00, 0x00, 0x00, 0x00, 0x00, 0x10, 0x00, 0x00, 0x00,
+                0x12, 0x00, 0x00, 0x00, 0x10,
+            ],
+        ),
+    ],
+    lines: None,
+};
