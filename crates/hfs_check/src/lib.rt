@@ -15,3 +15,6 @@ mod tree_header;
 pub use crate::fault::FormatFault;
 pub use crate::formatting::format;
 pub use crate::plan::FormatPlan;
+
+#[cfg(test)]
+mod tests;
