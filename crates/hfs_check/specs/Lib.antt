@@ -1,0 +1,5 @@
+pub mod Plan
+pub mod NewMdb
+pub mod BitRow
+pub mod NewTrees
+pub mod Image

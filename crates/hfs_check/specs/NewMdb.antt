@@ -1,0 +1,81 @@
+-- The master directory block of a new volume.
+use Rattle.std.specs.Prelude.{ℕ, ◌-◌, ◌*◌, List, [], ◌∷◌, ◌++◌, length, replicate}
+use Rattle.byteorder.specs.Endian.{big_bytes}
+use Rattle.hfs_fields.specs.RecordForms.{extents_bytes}
+use Rattle.hfs_fields.specs.declared.extent.Extent.{Extent}
+use Rattle.hfs_fields.specs.declared.mdb.Mdb.{Mdb}
+use Rattle.hfs_check.specs.declared.layout.Layout.{Layout}
+use Rattle.hfs_check.specs.Plan.{used_blocks}
+
+-- ---- its fields
+
+abbrev pub no_extent : Extent
+no_extent = record { first = 0; count = 0 }
+
+-- an extent record of one run of allocation blocks
+abbrev pub one_run : ℕ → ℕ → List Extent
+one_run first count = record { first = first; count = count } ∷ no_extent ∷ no_extent ∷ []
+
+-- a length byte, the name, and zeros up to 28 bytes
+abbrev pub volume_name_bytes : List ℕ → List ℕ
+volume_name_bytes name = length name ∷ [] ++ name ++ replicate (27 - length name) 0
+
+-- the fields of a new volume: its numbers, the moment of its making, and zeros
+unfoldable pub new_mdb : Layout → Mdb
+new_mdb volume = record {
+  signature = 0x4244;
+  created = volume.moment;
+  modified = volume.moment;
+  attributes = record { 0 = 0x0100 };
+  root_files = 0;
+  bitmap_start = 3;
+  allocation_pointer = 0;
+  allocation_blocks = volume.allocation_blocks;
+  allocation_block_size = 512 * volume.factor;
+  clump_size = 4 * (512 * volume.factor);
+  allocation_start = volume.start;
+  next_id = 16;
+  free_blocks = volume.allocation_blocks - used_blocks volume;
+  volume_name = volume_name_bytes volume.name;
+  backup = 0;
+  backup_sequence = 0;
+  write_count = 0;
+  extents_clump_size = 512 * volume.extents.nodes;
+  catalog_clump_size = 512 * volume.catalog.nodes;
+  root_folders = 0;
+  files = 0;
+  folders = 0;
+  finder_info = replicate 32 0;
+  cache_size = 0;
+  bitmap_cache_size = 0;
+  control_cache_size = 0;
+  extents_file_size = 512 * volume.extents.nodes;
+  extents_file = one_run 0 volume.extents.blocks;
+  catalog_file_size = 512 * volume.catalog.nodes;
+  catalog_file = one_run volume.extents.blocks volume.catalog.blocks;
+}
+
+-- ---- its bytes
+
+-- the fields of the volume, bytes 0 to 63
+unfoldable pub volume_field_bytes : Mdb → List ℕ
+volume_field_bytes mdb =
+    big_bytes 2 mdb.signature ++ big_bytes 4 mdb.created ++ big_bytes 4 mdb.modified ++ big_bytes 2 mdb.attributes.0 ++ big_bytes 2 mdb.root_files
+    ++ big_bytes 2 mdb.bitmap_start ++ big_bytes 2 mdb.allocation_pointer ++ big_bytes 2 mdb.allocation_blocks ++ big_bytes 4 mdb.allocation_block_size
+    ++ big_bytes 4 mdb.clump_size ++ big_bytes 2 mdb.allocation_start ++ big_bytes 4 mdb.next_id ++ big_bytes 2 mdb.free_blocks ++ mdb.volume_name
+
+-- backups, clump sizes and counts, bytes 64 to 129
+unfoldable pub count_field_bytes : Mdb → List ℕ
+count_field_bytes mdb =
+    big_bytes 4 mdb.backup ++ big_bytes 2 mdb.backup_sequence ++ big_bytes 4 mdb.write_count ++ big_bytes 4 mdb.extents_clump_size
+    ++ big_bytes 4 mdb.catalog_clump_size ++ big_bytes 2 mdb.root_folders ++ big_bytes 4 mdb.files ++ big_bytes 4 mdb.folders ++ mdb.finder_info
+    ++ big_bytes 2 mdb.cache_size ++ big_bytes 2 mdb.bitmap_cache_size ++ big_bytes 2 mdb.control_cache_size
+
+-- the files of the two trees, bytes 130 to 161
+unfoldable pub file_field_bytes : Mdb → List ℕ
+file_field_bytes mdb =
+    big_bytes 4 mdb.extents_file_size ++ extents_bytes mdb.extents_file ++ big_bytes 4 mdb.catalog_file_size ++ extents_bytes mdb.catalog_file
+
+-- the whole block
+unfoldable pub mdb_bytes : Mdb → List ℕ
+mdb_bytes mdb = volume_field_bytes mdb ++ count_field_bytes mdb ++ file_field_bytes mdb ++ replicate 350 0

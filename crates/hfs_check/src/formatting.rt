@@ -1,0 +1,78 @@
+//! Images of new volumes.
+ghost use Rattle.std.specs.Prelude.{◌≡◌, ◌+◌, ◌*◌, ◌-◌, ◌<◌, ◌≤◌, ◌⊎◌, None, Some, IfOk, IfErr};
+ghost use Rattle.hfs_check.specs.BitRow.{bit_row};
+ghost use Rattle.hfs_check.specs.Plan.{IsLayout, used_blocks, format_fault};
+ghost use Rattle.hfs_check.specs.Image as spec;
+
+use crate::bit_row::push_bits;
+use crate::block_row::BlockRow;
+use crate::fault::FormatFault;
+use crate::layout::Layout;
+use crate::mdb_block::mdb_block;
+use crate::plan::FormatPlan;
+use crate::root_leaf::root_leaf_block;
+use crate::tree_header::{TreeHeader, header_block};
+use std::alloc::{AllocError, Global};
+
+/// Block `k` of the bitmap, counted from 0: the files' allocation blocks are the first ones.
+fn bitmap_block(volume: &Layout, k: u32) -> [u8; 512]
+    requires { k < 100 }
+    ensures { result ≡ bit_row (used_blocks volume.now) (512 * k) 512 }
+{
+    let used = volume.extents.blocks as u32 + volume.catalog.blocks as u32;
+    let mut row = BlockRow::new();
+    push_bits(&mut row, used, 512 * k, 512);
+    row.into_block()
+}
+
+/// Logical block `k` of the volume, counted from 0.
+#[tactic(auto, unfolding(crate::specs::Image::new_block))]
+fn new_block(volume: &Layout, k: u32) -> [u8; 512]
+    requires layout { IsLayout volume.now }
+    requires within { k < volume.now.blocks }
+    ensures { result ≡ spec.new_block volume.now k }
+{
+    let extents_start = volume.start as u32;
+    let catalog_start = extents_start + volume.extents.nodes;
+    if k == 2 || k + 2 == volume.blocks {
+        mdb_block(volume)
+    } else if 3 <= k && k < extents_start {
+        bitmap_block(volume, k - 3)
+    } else if k == extents_start {
+        header_block(&TreeHeader::empty(7, volume.extents.nodes))
+    } else if k == catalog_start {
+        header_block(&TreeHeader::one_leaf(37, volume.catalog.nodes, 2))
+    } else if k == catalog_start + 1 {
+        root_leaf_block(volume)
+    } else {
+        [0; 512]
+    }
+}
+
+/// The blocks of the volume, one behind the other.
+#[tactic(auto, unfolding(crate::specs::Image::volume_image))]
+fn volume_image(alloc: Global, volume: &Layout) -> Result<Vec<u8>, AllocError>
+    requires { IsLayout volume.now }
+    ensures { IfOk result (λ image. image.items ≡ spec.volume_image volume.now) }
+{
+    let mut image = Vec::with_capacity(alloc, 512 * volume.blocks as usize)?;
+    for k in 0..volume.blocks {
+        image.extend_from_slice(&new_block(volume, k))?;
+    }
+    Ok(image)
+}
+
+/// The image of a new volume, `512 * plan.blocks` bytes: the blocks of the plan's layout, whose bytes are 0 where
+/// nothing names them. The extents tree is empty, and the catalog has the root folder and its thread.
+///
+/// The faults are asked in the order of `FormatFault`. `FormatFault::Memory` comes only where memory was refused.
+pub fn format(alloc: Global, plan: FormatPlan) -> Result<Vec<u8>, FormatFault>
+    ensures image { IfOk result (λ image. (format_fault plan ≡ None) × (image.items ≡ spec.new_image plan)) }
+    ensures fault { IfErr result (λ fault. ((fault ≡ FormatFault.Memory) × (format_fault plan ≡ None)) ⊎ (format_fault plan ≡ Some fault)) }
+{
+    let volume = Layout::of(&plan)?;
+    match volume_image(alloc, &volume) {
+        Ok(image) => Ok(image),
+        Err(_) => Err(FormatFault::Memory),
+    }
+}

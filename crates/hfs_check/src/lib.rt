@@ -1,0 +1,20 @@
+//! New volumes, and the checks of a volume.
+#![tactic(auto)]
+
+mod bit_row;
+mod block_row;
+mod fault;
+mod formatting;
+mod layout;
+mod mdb_block;
+mod node_block;
+mod plan;
+mod root_leaf;
+mod tree_header;
+
+pub use crate::fault::FormatFault;
+pub use crate::formatting::format;
+pub use crate::plan::FormatPlan;
+
+#[cfg(test)]
+mod tests;
