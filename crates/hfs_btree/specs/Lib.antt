@@ -4,3 +4,5 @@ pub mod Header
 pub mod Sound
 pub mod Blocks
 pub mod Keys
+pub mod Shape
+pub mod ShapeSteps

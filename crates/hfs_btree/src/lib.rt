@@ -2,6 +2,7 @@
 #![tactic(auto)]
 
 mod blocks;
+mod fault;
 mod header;
 mod image;
 mod key;
@@ -10,8 +11,11 @@ mod node_list;
 mod nodes;
 mod run;
 mod run_nodes;
+mod shape_map;
+mod shape_node;
 
 pub use blocks::Blocks;
+pub use fault::TreeFault;
 pub use header::Header;
 pub use image::ImageBytes;
 pub use key::Key;
