@@ -2,7 +2,7 @@
 use Rattle.std.proofs.Common.{◌≡◌, ℕ, zero, suc, ◌+◌, ◌<◌, ◌≤◌, Bool, true, false, List, [], length, map, get_or, Result, Ok, Err, sym, ap, ◌∙◌, arith}
 use Rattle.std.specs.Prelude.{◌&&◌, ◌==◌, not, nat_lt, nat_le}
 use Rattle.std.specs.List.{list_all}
-use Rattle.std.proofs.lemmas.Bool.{and_left, and_right, and_from, and_parts, lt-ltb, le-leb}
+use Rattle.std.proofs.lemmas.Bool.{and_left, and_right, and_from, and_parts, lt-ltb, le-leb, ltb-true}
 use Rattle.hfs_node.specs.declared.fault.NodeFault.{NodeFault}
 use Rattle.hfs_node.specs.declared.node.Node.{Node}
 use Rattle.hfs_node.specs.Node.{node_of}
@@ -25,6 +25,13 @@ module _ {K : Type 0} (g : Ghosts K) (nodes : Store) (spot : Spot) where
   unfolding is_right
   right-from v met low high is right mark new =
       and_from _ _ (and_from _ _ (and_from _ _ (and_from _ _ (le-leb _ _ low) (lt-ltb _ _ high)) (ap (is_result_at g spot) is ∙ right)) mark) (ap not new)
+
+  -- a node that is right is one of the tree's
+  pub right-within : (b : Bool) → (is_right g nodes spot && b) ≡ true → spot.n < (header_in nodes).nodes
+  unfolding is_right
+  right-within b right =
+      let both = (and_parts (is_within nodes spot.n && is_result_at g spot (node_in nodes spot.n)) (is_marked nodes spot.n) (and_parts _ b right).0).0 in
+      ltb-true _ _ (and_parts (nat_le 1 spot.n) (nat_lt spot.n (header_in nodes).nodes) (and_parts (is_within nodes spot.n) _ both).0).1
 
 reads-above : {K : Type 0} (g : Ghosts K) (above : ℕ) (es : List (List ℕ)) → 0 < above → list_all (reads_at g above) es ≡ true → list_all g.is_index es ≡ true
 reads-above g zero es some h = absurd (omega arith)
