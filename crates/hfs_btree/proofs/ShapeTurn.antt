@@ -8,7 +8,7 @@ use Rattle.std.proofs.lemmas.List.{drop_more, drop_all, take_more, get_or_defaul
 use Rattle.std.proofs.lemmas.List.Concat.{flat_map-append}
 use Rattle.std.proofs.lemmas.List.Sums.{sum_by-append}
 use Rattle.hfs_btree.specs.declared.key.Key.{Ghosts}
-use Rattle.hfs_btree.specs.Tree.{Store, Spot, spots, first_of}
+use Rattle.hfs_btree.specs.Tree.{Store, Spot, spots, turn, children, first_of, last_of, last_level}
 use Rattle.hfs_btree.specs.Shape.{is_right, turn_fault}
 use Rattle.hfs_btree.specs.ShapeSteps.{is_met, IsFault, IsWrongAt}
 use Rattle.hfs_btree.specs.declared.fault.TreeFault.{TreeFault}
@@ -87,3 +87,27 @@ named test n fault Memory wrong stops = tt
 -- a count that stays at its greatest number
 pub kept-min : (total count most records : ℕ) → records ≡ min total most → min (records + count) most ≡ min (total + count) most
 kept-min total count most records h = omega arith
+
+-- ---- levels
+
+module _ {K : Type 0} (g : Ghosts K) (nodes : Store) where
+  pub turn-step : (below next : ℕ) (level : List ℕ) → below ≡ suc next → turn g nodes below level ≡ spots next 0 level ++ turn g nodes next (flat_map (children g nodes) level)
+  turn-step below next level e = ap (λ (k : ℕ). turn g nodes k level) e
+
+  lower : (next : ℕ) (level : List ℕ) → 1 ≤ next → last_level g nodes (suc next) level ≡ last_level g nodes next (flat_map (children g nodes) level)
+  lower zero level some = absurd (omega arith)
+  lower (suc k) level some = refl
+
+  pub last_level-step : (below next : ℕ) (level : List ℕ) → below ≡ suc next → 1 ≤ next → last_level g nodes below level ≡ last_level g nodes next (flat_map (children g nodes) level)
+  last_level-step below next level e some = ap (λ (k : ℕ). last_level g nodes k level) e ∙ lower next level some
+
+  pub last_level-one : (below : ℕ) (level : List ℕ) → below ≡ 1 → last_level g nodes below level ≡ level
+  last_level-one below level e = ap (λ (k : ℕ). last_level g nodes k level) e
+
+pub last_of-at : (n : ℕ) (ns : List ℕ) → last_of (n ∷ ns) ≡ get_or (n ∷ ns) (length ns) 0
+last_of-at n [] = refl
+last_of-at n (m ∷ ms) = last_of-at m ms
+
+pub last_of-end : (level : List ℕ) → 0 < length level → last_of level ≡ get_or level (length level - 1) 0
+last_of-end [] some = absurd (omega arith)
+last_of-end (n ∷ ns) some = last_of-at n ns ∙ ap (λ (i : ℕ). get_or (n ∷ ns) i 0) (omega arith)

@@ -58,3 +58,71 @@ fn check_level<K: Key, N: Nodes>(
     }
     Ok(CheckedLevel { next, records })
 }
+
+/// The first node of a level, or 0.
+fn first_node(level: &[u32]) -> u32
+    ensures { result ≡ first_of level.now }
+{
+    if level.is_empty() { 0 } else { level[0] }
+}
+
+/// The last node of a level, or 0.
+fn last_node(level: &[u32]) -> u32
+    ensures { result ≡ last_of level.now }
+{
+    if level.is_empty() {
+        0
+    } else {
+        level[level.len() - 1]
+    }
+}
+
+/// The last level of a tree whose levels are all right.
+#[derive(Clone, Copy)]
+pub(crate) struct Leaves {
+    /// Its first node, 0 where there is none.
+    pub first: u32,
+    /// Its last node, 0 where there is none.
+    pub last: u32,
+    /// How many records its nodes have, or `usize::MAX` where there are more.
+    pub records: usize,
+}
+
+/// Checks so many levels in turn, from the root's on, where `met` has a mark for each node that no level may have.
+pub(crate) fn check_levels<K: Key, N: Nodes>(
+    alloc: Global,
+    tree: &MappedNodes<'_, N>,
+    root: u32,
+    depth: u16,
+    met: &mut Vec<bool>,
+) -> Result<Leaves, TreeFault>
+    requires { vec_len met.old ≡ tree.now.count }
+    ensures fault { IfErr result (IsFault (turn_fault K.Key (N.nodes tree.now.nodes.now) (is_met met.old.items) (turn K.Key (N.nodes tree.now.nodes.now) depth (root ∷ [])))) }
+    ensures right { OnOk result (turn_fault K.Key (N.nodes tree.now.nodes.now) (is_met met.old.items) (turn K.Key (N.nodes tree.now.nodes.now) depth (root ∷ [])) ≡ None) }
+    ensures first { IfOk result (λ found. found.first ≡ first_of (last_level K.Key (N.nodes tree.now.nodes.now) depth (root ∷ []))) }
+    ensures last { IfOk result (λ found. found.last ≡ last_of (last_level K.Key (N.nodes tree.now.nodes.now) depth (root ∷ []))) }
+    ensures records { IfOk result (λ found. found.records ≡ min (sum_by (λ n. length (records_in (N.nodes tree.now.nodes.now) n)) (last_level K.Key (N.nodes tree.now.nodes.now) depth (root ∷ []))) (2 ^ 64 - 1)) }
+{
+    if depth == 0 {
+        return Ok(Leaves {
+            first: 0,
+            last: 0,
+            records: 0,
+        });
+    }
+    let mut level = Vec::new(alloc);
+    level.push(root)?;
+    let mut below = depth;
+    while below > 1 {
+        below -= 1;
+        let found = check_level::<K, N>(alloc, tree, &level, below, met)?;
+        let CheckedLevel { next, records: _ } = found;
+        level = next;
+    }
+    let leaves = check_level::<K, N>(alloc, tree, &level, 0, met)?;
+    Ok(Leaves {
+        first: first_node(&level),
+        last: last_node(&level),
+        records: leaves.records,
+    })
+}
