@@ -37,8 +37,11 @@ is_header_kind Map = false
 is_header_kind Leaf = false
 
 -- a header node with three records, the first of at least 106 bytes
+abbrev pub is_header_value : Node → Bool
+is_header_value v = is_header_kind v.kind && (length v.records == 3) && nat_le 106 (length (slice_index_or v.records 0 []))
+
 abbrev pub is_header_node : Result Node NodeFault → Bool
-is_header_node (Ok v) = is_header_kind v.kind && (length v.records == 3) && nat_le 106 (length (slice_index_or v.records 0 []))
+is_header_node (Ok v) = is_header_value v
 is_header_node (Err e) = false
 
 -- the header record is one of such a tree in a file of so many bytes
@@ -60,8 +63,12 @@ is_map_kind Index = false
 is_map_kind Header = false
 is_map_kind Leaf = false
 
+-- a map node with a record
+abbrev pub is_map_value : Node → Bool
+is_map_value v = is_map_kind v.kind && nat_le 1 (length v.records)
+
 abbrev pub is_map_result : Result Node NodeFault → Bool
-is_map_result (Ok v) = is_map_kind v.kind && nat_le 1 (length v.records)
+is_map_result (Ok v) = is_map_value v
 is_map_result (Err e) = false
 
 unfoldable pub is_map_node : Store → ℕ → Bool

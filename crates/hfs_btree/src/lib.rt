@@ -11,6 +11,7 @@ mod node_list;
 mod nodes;
 mod run;
 mod run_nodes;
+mod shape_chain;
 mod shape_levels;
 mod shape_map;
 mod shape_node;
