@@ -19,7 +19,7 @@ read-at xs i x d lt e = get_or_default xs i d x lt ∙ sym e
 
 -- ---- marks of nodes that were met
 
-met-one : (met : List Bool) (n : ℕ) → n < length met → (k : ℕ) → is_met (set met n true) k ≡ ((k == n) || is_met met k)
+pub met-one : (met : List Bool) (n : ℕ) → n < length met → (k : ℕ) → is_met (set met n true) k ≡ ((k == n) || is_met met k)
 met-one met n lt k =
     elim (cases_eq k n) [
       | inl e ↦ rw (e, eq-eqb n n refl) (get_or-set_same met n true false lt)

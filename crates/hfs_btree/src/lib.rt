@@ -12,6 +12,7 @@ mod nodes;
 mod run;
 mod run_nodes;
 mod shape_chain;
+mod shape_header;
 mod shape_levels;
 mod shape_map;
 mod shape_node;

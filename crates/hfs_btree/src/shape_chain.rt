@@ -93,3 +93,58 @@ fn read_chain<N: Nodes>(
     }
     Ok(())
 }
+
+/// Whether these nodes are all marked as in use.
+fn are_marked<N: Nodes>(tree: &MappedNodes<'_, N>, own: &[u32]) -> bool
+    ensures { result ≡ list_all (is_marked (N.nodes tree.now.nodes.now)) own.now }
+{
+    own.iter().all(|n| tree.is_marked(*n))
+}
+
+/// The node map of a tree whose map nodes are right.
+#[derive(Drop)]
+pub(crate) struct NodeMap {
+    /// Its bytes.
+    pub bytes: Vec<u8>,
+    /// For each of the tree's nodes whether it is a header or map node.
+    pub own: Vec<bool>,
+}
+
+/// Checks the map nodes of a tree of `count` nodes, whose header node is `head`, and reads its node map.
+pub(crate) fn read_map<N: Nodes>(
+    alloc: Global,
+    nodes: &N,
+    head: &NodeView,
+    count: u32,
+) -> Result<NodeMap, TreeFault>
+    requires head { node_in (N.nodes nodes.now) 0 ≡ Ok head.now }
+    requires three { length head.now.records ≡ 3 }
+    requires counted { count ≡ (header_in (N.nodes nodes.now)).nodes }
+    requires within { count ≤ length (N.nodes nodes.now) }
+    requires some { 1 ≤ count }
+    ensures wrong { IfErr result (IsWrongAt (has_map (N.nodes nodes.now)) 0) }
+    ensures right { OnOk result (has_map (N.nodes nodes.now) ≡ true) }
+    ensures bytes { IfOk result (λ map. map.bytes.items ≡ map_bytes (N.nodes nodes.now)) }
+    ensures own { IfOk result (λ map. (n : ℕ) → is_met map.own.items n ≡ is_own (N.nodes nodes.now) n) }
+    ensures marks { IfOk result (λ map. vec_len map.own ≡ count) }
+    ensures long { IfOk result (λ map. count ≤ 8 * vec_len map.bytes) }
+{
+    let mut met = vec![in alloc; false; count as usize]?;
+    let mut bytes = Vec::from_slice(alloc, head.record(2))?;
+    let mut own = Vec::new(alloc);
+    own.push(0)?;
+    read_chain(nodes, count, head.forward(), &mut met, &mut bytes, &mut own)?;
+    if (count as usize).div_ceil(8) > bytes.len() {
+        return Err(TreeFault::At(0));
+    }
+    let tree = MappedNodes {
+        nodes,
+        count,
+        map: &bytes,
+    };
+    if !are_marked(&tree, &own) {
+        return Err(TreeFault::At(0));
+    }
+    met[0] = true;
+    Ok(NodeMap { bytes, own: met })
+}

@@ -7,6 +7,7 @@ ghost use Rattle.hfs_btree.specs.Header.{header_in, map_bytes, bit_of, is_marked
 use crate::nodes::Nodes;
 
 /// The nodes of a tree whose header record and node map are known.
+#[derive(Drop)]
 pub(crate) struct MappedNodes<'a, N: Nodes> {
     pub nodes: &'a N,
     /// How many nodes the tree has.
