@@ -2,7 +2,7 @@
 use Rattle.std.proofs.Common.{◌≡◌, ℕ, zero, suc, ◌+◌, ◌-◌, ◌^◌, ◌<◌, ◌≤◌, Bool, true, false, List, [], ◌∷◌, ◌++◌, length, get_or, set, take, drop, Option, Some, Result, Ok, Err, subst, refl, sym, ap, ◌∙◌, arith, inl, inr, append-nil}
 use Rattle.std.specs.Prelude.{◌&&◌, ◌||◌, ◌==◌, not, cond, min}
 use Rattle.std.specs.List.{flat_map, sum_by}
-use Rattle.std.specs.Result.{IsErrAnd, IfErr}
+use Rattle.std.specs.Result.{IsErrAnd, IfErr, MatchResult}
 use Rattle.std.proofs.lemmas.Bool.{cases_eq, eq-eqb, ne_eqb, cond-true, cond-false}
 use Rattle.std.proofs.lemmas.List.{drop_more, drop_all, take_more, get_or_default, get_or-set_same, get_or-set_other}
 use Rattle.std.proofs.lemmas.List.Concat.{flat_map-append}
@@ -111,3 +111,7 @@ last_of-at n (m ∷ ms) = last_of-at m ms
 pub last_of-end : (level : List ℕ) → 0 < length level → last_of level ≡ get_or level (length level - 1) 0
 last_of-end [] some = absurd (omega arith)
 last_of-end (n ∷ ns) some = last_of-at n ns ∙ ap (λ (i : ℕ). get_or (n ∷ ns) i 0) (omega arith)
+
+pub passed-fault : {A : Type 0} (r : Result A TreeFault) (e : TreeFault) (Q : A → Type 0) (P : TreeFault → Type 0) → IsErrAnd r (λ x. x ≡ e) → P e → MatchResult r Q P
+passed-fault (Ok a) e Q P is p = absurd is
+passed-fault (Err x) e Q P is p = subst P (sym is) p

@@ -6,3 +6,8 @@ pub mod Blocks
 pub mod Keys
 pub mod Shape
 pub mod ShapeSteps
+pub mod ShapeLaw
+pub mod Elements
+pub mod Lookups
+pub mod Search
+pub mod Walk

@@ -1,5 +1,8 @@
 -- What the parts of the check of a tree's shape promise.
 use Rattle.std.specs.Prelude.{◌≡◌, ℕ, Bool, false, List, slice_index_or, Option, Some, ⊤}
+use Rattle.hfs_btree.specs.declared.key.Key.{Ghosts}
+use Rattle.hfs_btree.specs.Tree.{Store}
+use Rattle.hfs_btree.specs.Shape.{unless, ◌or_else◌, levels_fault, has_ends, has_counts}
 use Rattle.hfs_btree.specs.declared.fault.TreeFault.{TreeFault}
 use Rattle.hfs_btree.specs.declared.fault.TreeFault.TheVariants.{At, Memory}
 
@@ -16,3 +19,7 @@ IsFault fault Memory = ⊤
 abbrev pub IsWrongAt : Bool → ℕ → TreeFault → Type 0
 IsWrongAt test n (At m) = (m ≡ n) × (test ≡ false)
 IsWrongAt test n Memory = ⊤
+
+-- the first fault of what comes after the node map
+abbrev pub mapped_fault : {K : Type 0} → Ghosts K → Store → Option ℕ
+mapped_fault g nodes = levels_fault g nodes or_else unless (has_ends g nodes) or_else unless (has_counts g nodes)

@@ -2,22 +2,29 @@
 #![tactic(auto)]
 
 mod blocks;
+mod counts;
+mod entry;
 mod fault;
 mod header;
 mod image;
 mod key;
 mod keys;
+mod leaf;
 mod node_list;
 mod nodes;
 mod run;
 mod run_nodes;
+mod search;
+mod shape;
 mod shape_chain;
 mod shape_header;
 mod shape_levels;
 mod shape_map;
 mod shape_node;
+mod walk;
 
 pub use blocks::Blocks;
+pub use counts::{depth, free_nodes};
 pub use fault::TreeFault;
 pub use header::Header;
 pub use image::ImageBytes;
@@ -26,3 +33,6 @@ pub use node_list::NodeList;
 pub use nodes::Nodes;
 pub use run::Run;
 pub use run_nodes::RunNodes;
+pub use search::{find, next_after};
+pub use shape::check_shape;
+pub use walk::{Pair, Walk};

@@ -1,5 +1,6 @@
 pub mod Kind
 pub mod Fault
 pub mod Node
+pub mod Laid
 pub mod Below
 pub mod Decoding

@@ -1,5 +1,5 @@
 -- A node of 512 bytes, as a list of records.
-use Rattle.std.specs.Prelude.{◌≡◌, ℕ, zero, suc, ◌+◌, ◌*◌, ◌-◌, ◌≤◌, Bool, true, ◌&&◌, nat_le, if◌then◌else◌, List, map, length, slice_index, slice_range, Option, Some, None, Result, Ok, Err}
+use Rattle.std.specs.Prelude.{◌≡◌, ℕ, zero, suc, ◌+◌, ◌*◌, ◌-◌, ◌≤◌, Bool, true, ◌&&◌, nat_le, if◌then◌else◌, List, map, length, take, slice_index, slice_range, Option, Some, None, Result, Ok, Err}
 use Rattle.std.specs.List.{range_with_len, sum_by}
 use Rattle.hfs_fields.specs.Numbers.{number_at}
 use Rattle.hfs_node.specs.Kind.{kind_of}
@@ -67,3 +67,7 @@ size_of records = sum_by (λ r. length r + 2) records
 -- the records and their offsets have room between descriptor and the last offset's place
 abbrev pub Fits : Node → Type 0
 Fits n = size_of n.records ≤ 496
+
+-- where record k begins, and behind the last where the free space begins
+unfoldable pub start_of : List (List ℕ) → ℕ → ℕ
+start_of records k = 14 + sum_by (λ r. length r) (take k records)

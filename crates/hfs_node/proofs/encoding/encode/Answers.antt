@@ -1,0 +1,23 @@
+use Rattle.std.proofs.Common.{arith, ◌∙◌}
+use Rattle.std.proofs.lemmas.List.{get_or-replicate}
+use Rattle.hfs_node.proofs.Written.{node_of-encoded, offset_of-encoded, head-kept}
+use Rattle.hfs_node.proofs.encoding.encode.Goals as goal
+
+pub put_records-requires-clause-clear : goal.put_records-requires-clause-clear
+put_records-requires-clause-clear c = λ k low high. c.put_head.ensures.rest k (omega arith) ∙ get_or-replicate 512 k 0 0 (omega arith)
+
+pub returns-clause-node : goal.returns-clause-node
+returns-clause-node c =
+    node_of-encoded c.args.node.now c.put_records.new.out c.requires
+    (head-kept c.args.node.now _ _ c.put_records.ensures.head c.put_head.ensures.head) c.put_records.ensures.laid c.put_records.ensures.free
+
+pub returns-clause-offsets : goal.returns-clause-offsets
+returns-clause-offsets c =
+    offset_of-encoded c.args.node.now c.put_records.new.out c.requires
+    (head-kept c.args.node.now _ _ c.put_records.ensures.head c.put_head.ensures.head) c.put_records.ensures.laid c.put_records.ensures.free
+
+pub returns-clause-clear : goal.returns-clause-clear
+returns-clause-clear c = record {
+  reserved = λ k low high. c.put_records.ensures.head k high ∙ c.put_head.ensures.rest k low ∙ get_or-replicate 512 k 0 0 (omega arith);
+  free = c.put_records.ensures.clear;
+}

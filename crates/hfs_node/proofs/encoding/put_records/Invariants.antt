@@ -1,0 +1,13 @@
+use Rattle.std.proofs.Common.{◌≡◌, ◌-◌, ◌*◌, length}
+use Rattle.hfs_node.specs.Node.{start_of}
+use Rattle.hfs_node.specs.Laid.{AreLaid, SameHead, IsZeroFrom}
+use Rattle.hfs_node.proofs.encoding.put_records.Given as goal
+
+abbrev pub invariant-loop-i : goal.invariant-loop-i
+invariant-loop-i l = record {
+  at : l.at ≡ start_of l.records l.i;
+  laid : AreLaid l.records l.i l.out;
+  len : length l.out ≡ 512;
+  head : SameHead l.initial.out l.out;
+  clear : IsZeroFrom (start_of l.records l.i) (512 - 2 * l.i) l.out;
+}
