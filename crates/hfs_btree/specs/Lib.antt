@@ -4,6 +4,9 @@ pub mod Header
 pub mod Sound
 pub mod Blocks
 pub mod Keys
+pub mod Shape
+pub mod ShapeSteps
+pub mod ShapeLaw
 pub mod Elements
 pub mod Lookups
 pub mod Search

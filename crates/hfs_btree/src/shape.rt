@@ -1,0 +1,100 @@
+//! The check of a tree's shape.
+
+ghost use Rattle.std.specs.Prelude.{◌≡◌, ◌↔◌, ℕ, ◌*◌, ◌^◌, ◌<◌, ◌≤◌, ◌&&◌, ◌||◌, ◌==◌, nat_lt, None, MatchResult, OnOk, length};
+ghost use Rattle.std.specs.Vec.{vec_len};
+ghost use Rattle.hfs_btree.specs.Header.{header_in, free_nodes};
+ghost use Rattle.hfs_btree.specs.Shape.{is_own, shape_fault};
+ghost use Rattle.hfs_btree.specs.Sound.{IsShaped};
+ghost use Rattle.hfs_btree.specs.ShapeSteps.{is_met, mapped_fault, IsFault};
+
+use crate::fault::TreeFault;
+use crate::header::Header;
+use crate::key::Key;
+use crate::nodes::Nodes;
+use crate::shape_chain::{NodeMap, read_map};
+use crate::shape_header::read_header;
+use crate::shape_levels::{Leaves, check_levels};
+use crate::shape_map::MappedNodes;
+use hfs_node::view;
+use std::alloc::Global;
+
+/// Whether the header record names the ends of the last level, no root in an empty tree, and the two counts.
+fn is_right_summary<N: Nodes>(
+    tree: &MappedNodes<'_, N>,
+    header: &Header,
+    leaves: &Leaves,
+) -> bool
+    ensures right { result ≡ ((header.now.first_leaf == leaves.now.first) && (header.now.last_leaf == leaves.now.last) && (nat_lt 0 header.now.depth || (header.now.root == 0))
+        && ((header.now.records == leaves.now.records) && (header.now.free_nodes == free_nodes (N.nodes tree.now.nodes.now)))) }
+    ensures small { header.now.records < 2 ^ 32 }
+{
+    let records = header.records as usize;
+    header.first_leaf == leaves.first
+        && header.last_leaf == leaves.last
+        && (header.depth > 0 || header.root == 0)
+        && records == leaves.records
+        && header.free_nodes == tree.free_nodes()
+}
+
+/// Checks what comes after the node map: the levels, their ends and the two counts. `met` has a mark for each header and
+/// map node.
+fn check_mapped<K: Key, N: Nodes>(
+    alloc: Global,
+    tree: &MappedNodes<'_, N>,
+    header: Header,
+    mut met: Vec<bool>,
+) -> Result<(), TreeFault>
+    requires head { header ≡ header_in (N.nodes tree.now.nodes.now) }
+    requires marks { vec_len met ≡ tree.now.count }
+    requires own { (n : ℕ) → is_met met.items n ≡ is_own (N.nodes tree.now.nodes.now) n }
+    ensures { MatchResult result (λ _. mapped_fault K.Key (N.nodes tree.now.nodes.now) ≡ None) (IsFault (mapped_fault K.Key (N.nodes tree.now.nodes.now))) }
+{
+    let leaves = check_levels::<K, N>(alloc, tree, header.root, header.depth, &mut met)?;
+    if is_right_summary(tree, &header, &leaves) {
+        Ok(())
+    } else {
+        Err(TreeFault::At(0))
+    }
+}
+
+/// Checks that a tree in a file of `size` bytes has its shape.
+///
+/// The rules are taken in this order: the header node and its record; the map nodes and the node map; the nodes of the
+/// levels in turn; the header record's first and last leaf, and its root where the tree is empty; its counts of leaf
+/// records and of free nodes. Each node of the levels is read once.
+///
+/// Errors: `TreeFault::At(n)` where the first rule that fails is that of the levels and node `n` is the first that fails,
+/// in the turn of levels; a node number that is none of the tree's is itself the place. `TreeFault::At(0)` where the first
+/// rule that fails is another one. `TreeFault::Memory` where memory was refused.
+///
+/// Source: Inside Macintosh: Files, chapter 2, 'B*-trees'; docs/CHECKS.md has the rules.
+pub fn check_shape<K: Key, N: Nodes>(
+    alloc: Global,
+    nodes: &N,
+    size: u32,
+) -> Result<(), TreeFault>
+    requires { size ≤ 512 * length (N.nodes nodes.now) }
+    ensures place { MatchResult result (λ _. shape_fault K.Key size (N.nodes nodes.now) ≡ None) (IsFault (shape_fault K.Key size (N.nodes nodes.now))) }
+    ensures shaped { OnOk result (IsShaped K.Key size (N.nodes nodes.now)) }
+    ensures law { (shape_fault K.Key size (N.nodes nodes.now) ≡ None) ↔ IsShaped K.Key size (N.nodes nodes.now) }
+{
+    if nodes.count() == 0 {
+        return Err(TreeFault::At(0));
+    }
+    let mut bytes = [0; 512];
+    nodes.read(0, &mut bytes);
+    let Ok(head) = view(&bytes) else {
+        return Err(TreeFault::At(0));
+    };
+    let Some(header) = read_header::<K>(&head, size) else {
+        return Err(TreeFault::At(0));
+    };
+    let read = read_map(alloc, nodes, &head, header.nodes)?;
+    let NodeMap { bytes: map, own } = read;
+    let tree = MappedNodes {
+        nodes,
+        count: header.nodes,
+        map: &map,
+    };
+    check_mapped::<K, N>(alloc, &tree, header, own)
+}
