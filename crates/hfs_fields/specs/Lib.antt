@@ -4,3 +4,4 @@ pub mod NameFields
 pub mod Numbers
 pub mod Puts
 pub mod Mdb
+pub mod Keys

@@ -1,0 +1,6 @@
+pub mod Pairs
+pub mod Tree
+pub mod Header
+pub mod Sound
+pub mod Blocks
+pub mod Keys

@@ -1,0 +1,65 @@
+//! What a tree asks of its keys.
+
+ghost use Rattle.std.specs.Prelude.{◌≡◌, ℕ, ◌≤◌, Bool, true, List, IfSome, IsTrue, length, drop};
+ghost use Rattle.std.specs.Option.{SomeIff};
+ghost use Rattle.std.specs.Cmp.{IsTotalOrder};
+ghost use Rattle.std.specs.declared.cmp.Ordering.{Ordering};
+
+use std::cmp::Ordering;
+
+/// A key of a tree, in the form that it has in a leaf and in the form that it has in an index node.
+///
+/// Its ghost members say what the bytes of a record mean. `is_leaf`: they are a record of a leaf, a key and a body of an
+/// allowed length; then `leaf_key` is the key, and the body begins at `body_start`. `is_index`: they are a record of an
+/// index node, a key of the one length that index keys have and a child's node number; then `index_key` and `child` are
+/// these. `is_body_len`: a leaf's body may have so many bytes. `compare` is a total order.
+pub trait Key: Copy {
+    ghost compare: { Self → Self → Ordering };
+
+    ghost is_leaf: { List ℕ → Bool };
+
+    ghost leaf_key: { List ℕ → Self };
+
+    ghost body_start: { List ℕ → ℕ };
+
+    ghost is_index: { List ℕ → Bool };
+
+    ghost index_key: { List ℕ → Self };
+
+    ghost child: { List ℕ → ℕ };
+
+    ghost is_body_len: { ℕ → Bool };
+
+    ghost INDEX_KEY_LEN: { ℕ };
+
+    /// The length of index keys, as bthKeyLen has it: the bytes of a key behind its length byte.
+    const INDEX_KEY_LEN: u16;
+
+    /// The order of two keys.
+    fn compare(&self, other: &Self) -> Ordering
+        ensures { result ≡ compare self.now other.now };
+
+    /// Whether a leaf's body may have so many bytes.
+    fn is_body_len(len: usize) -> bool
+        ensures { result ≡ is_body_len len };
+
+    /// The key of a leaf's record, and the place where its body begins, counted in bytes from the record's beginning.
+    /// None exactly where the bytes are no record of a leaf.
+    fn read_leaf(bytes: &[u8]) -> Option<(Self, usize)>
+        ensures key { SomeIff result (IsTrue (is_leaf bytes.now)) (leaf_key bytes.now, body_start bytes.now) }
+        ensures inside { IfSome result (λ read. read.1 ≤ length bytes.now) };
+
+    /// The key and the child of an index node's record. None exactly where the bytes are no record of an index node.
+    fn read_index(bytes: &[u8]) -> Option<(Self, u32)>
+        ensures { SomeIff result (IsTrue (is_index bytes.now)) (index_key bytes.now, child bytes.now) };
+
+    ghost total: { IsTotalOrder compare };
+
+    // the body of a leaf's record has an allowed length
+    ghost allowed: { (bytes : List ℕ) → is_leaf bytes ≡ true → is_body_len (length (drop (body_start bytes) bytes)) ≡ true };
+
+    // a leaf's record has at most 140 bytes, an index node's at most 42
+    ghost leaf_small: { (bytes : List ℕ) → is_leaf bytes ≡ true → length bytes ≤ 140 };
+
+    ghost index_small: { (bytes : List ℕ) → is_index bytes ≡ true → length bytes ≤ 42 };
+}

@@ -1,0 +1,21 @@
+//! B*-trees over numbered nodes of 512 bytes.
+#![tactic(auto)]
+
+mod blocks;
+mod header;
+mod image;
+mod key;
+mod keys;
+mod node_list;
+mod nodes;
+mod run;
+mod run_nodes;
+
+pub use blocks::Blocks;
+pub use header::Header;
+pub use image::ImageBytes;
+pub use key::Key;
+pub use node_list::NodeList;
+pub use nodes::Nodes;
+pub use run::Run;
+pub use run_nodes::RunNodes;

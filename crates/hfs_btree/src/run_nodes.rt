@@ -1,0 +1,35 @@
+//! The nodes of a file that lies in runs of blocks.
+
+ghost use Rattle.std.specs.Prelude.{◌≡◌, length};
+ghost use Rattle.hfs_btree.specs.Blocks.{nodes_in, AreRunsWithin};
+
+use crate::blocks::Blocks;
+use crate::nodes::Nodes;
+use crate::run::Run;
+
+/// The nodes of a file that lies in runs of blocks: node n is the n-th 512 bytes of the runs in their order.
+pub struct RunNodes<'a, B: Blocks> {
+    pub blocks: &'a B,
+    pub runs: &'a [Run],
+    ghost within: { AreRunsWithin runs.now (B.total blocks.now) },
+}
+
+impl<B: Blocks> Nodes for RunNodes<'_, B> {
+    ghost nodes = { λ s. nodes_in (B.blocks s.blocks.now) s.runs.now };
+
+    fn count(&self) -> u32 {
+        self.runs.iter().map(|run| run.count).sum()
+    }
+
+    fn read(&self, n: u32, into: &mut [u8; 512]) {
+        let mut before = n;
+        for run in self.runs {
+            if before < run.count {
+                self.blocks.block(run.first + before, into);
+                return;
+            }
+            before -= run.count;
+        }
+        unreachable!()
+    }
+}

@@ -1,0 +1,181 @@
+//! The keys of the two trees.
+ghost use Rattle.std.specs.Prelude.{◌≡◌, ◌+◌, ◌≤◌, ◌<◌, length, IsTrue, IfSome};
+ghost use Rattle.std.specs.Option.{SomeIff};
+ghost use Rattle.hfs_fields.specs.Keys.{key_len, name_len, name_at, is_cat_key, cat_key_of, cat_body_start, is_cat_leaf, is_cat_index, is_cat_body_len, cat_child_of, cat_cmp, is_ext_key, ext_key_of, is_ext_leaf, is_ext_index, ext_child_of, ext_cmp, IsCatKeyOrder, IsExtKeyOrder};
+
+use crate::extent::{u16_at, u32_at};
+use crate::name::Name;
+use std::cmp::Ordering;
+
+/// The key of a catalog record (Inside Macintosh: Files, chapter 2, "Catalog file keys").
+#[derive(Clone, Copy)]
+pub struct CatKey {
+    /// ckrParID: the ID of the item's folder, or in a thread's key the item's own.
+    pub parent: u32,
+    /// ckrCName: the item's name, empty in a thread's key. It may have any bytes.
+    pub name: Name,
+}
+
+/// The key of an extents record (Inside Macintosh: Files, chapter 2, "Extents overflow file keys").
+#[derive(Clone, Copy, Debug, PartialEq, Eq)]
+pub struct ExtKey {
+    /// xkrFkType: $00 for the data fork, $FF for the resource fork. It may be any byte.
+    pub fork: u8,
+    /// xkrFNum: the file's ID.
+    pub file: u32,
+    /// xkrFABN: the number of the extents' first allocation block within the fork, counted from 0.
+    pub block: u16,
+}
+
+/// The name at `at`: a length byte, and so many characters. None exactly where the length is above 31.
+pub(crate) fn name_at(bytes: &[u8], at: usize) -> Option<Name>
+    requires length { at < length bytes.now }
+    requires characters { name_len at bytes.now ≤ 31 → at + 1 + name_len at bytes.now ≤ length bytes.now }
+    ensures { SomeIff result (name_len at bytes.now ≤ 31) (name_at at bytes.now) }
+{
+    let length = bytes[at] as usize;
+    if length > 31 {
+        return None;
+    }
+    let start = at + 1;
+    let end = start + length;
+    Name::of_bytes(&bytes[start..end])
+}
+
+#[tactic(auto, unfolding(crate::specs::Keys::is_cat_key))]
+fn is_cat_key(bytes: &[u8]) -> bool
+    ensures { result ≡ is_cat_key bytes.now }
+{
+    if bytes.len() < 7 {
+        return false;
+    }
+    let length = bytes[0] as usize;
+    let name = bytes[6] as usize;
+    name <= 31 && 6 + name <= length && length <= 37 && length + 1 <= bytes.len()
+}
+
+/// Whether a body has the length of a thread's record, a directory's or a file's.
+fn is_body_length(length: usize) -> bool
+    ensures { result ≡ is_cat_body_len length }
+{
+    length == 46 || length == 70 || length == 102
+}
+
+impl CatKey {
+    /// The key that the bytes begin with. None exactly where the bytes are too few, the name's length is above 31,
+    /// or the key's length has no room for the name or is above 37.
+    #[tactic(auto, unfolding(crate::specs::Keys::is_cat_key, crate::specs::Keys::cat_key_of))]
+    pub fn read(bytes: &[u8]) -> Option<CatKey>
+        ensures { SomeIff result (IsTrue (is_cat_key bytes.now)) (cat_key_of bytes.now) }
+    {
+        if !is_cat_key(bytes) {
+            return None;
+        }
+        let name = name_at(bytes, 6)?;
+        Some(CatKey {
+            parent: u32_at(bytes, 2),
+            name,
+        })
+    }
+
+    /// The key of a leaf's record and the place where its body begins, counted in bytes from the record's beginning.
+    /// None exactly where the record has no such key or no body of a thread, a directory or a file.
+    #[tactic(auto, unfolding(crate::specs::Keys::is_cat_leaf, crate::specs::Keys::is_cat_key, crate::specs::Keys::cat_body_start))]
+    pub fn read_leaf(bytes: &[u8]) -> Option<(CatKey, usize)>
+        ensures key { SomeIff result (IsTrue (is_cat_leaf bytes.now)) (cat_key_of bytes.now, cat_body_start bytes.now) }
+        ensures inside { IfSome result (λ read. read.1 ≤ length bytes.now) }
+    {
+        let key = CatKey::read(bytes)?;
+        let start = (bytes[0] as usize + 2) / 2 * 2;
+        if start > bytes.len() || !is_body_length(bytes.len() - start) {
+            return None;
+        }
+        Some((key, start))
+    }
+
+    /// The key of an index node's record, and the number of the node below it.
+    /// None exactly where the record has not 42 bytes, its key not the length 37, or its name more than 31 characters.
+    #[tactic(auto, unfolding(crate::specs::Keys::is_cat_index, crate::specs::Keys::cat_child_of))]
+    pub fn read_index(bytes: &[u8]) -> Option<(CatKey, u32)>
+        ensures { SomeIff result (IsTrue (is_cat_index bytes.now)) (cat_key_of bytes.now, cat_child_of bytes.now) }
+    {
+        let key = CatKey::read(bytes)?;
+        if bytes.len() != 42 || bytes[0] != 37 {
+            return None;
+        }
+        Some((key, u32_at(bytes, 38)))
+    }
+
+    /// The order of two keys: by the parent's ID, then by name order.
+    pub fn compare(&self, other: &CatKey) -> Ordering
+        ensures { result ≡ cat_cmp self.now other.now }
+    {
+        self.parent
+            .cmp(&other.parent)
+            .then(self.name.cmp_folded(&other.name))
+    }
+}
+
+impl ExtKey {
+    /// The key that the bytes begin with. None exactly where the bytes are fewer than 8, or the key's length is not 7.
+    #[tactic(auto, unfolding(crate::specs::Keys::is_ext_key, crate::specs::Keys::ext_key_of))]
+    pub fn read(bytes: &[u8]) -> Option<ExtKey>
+        ensures { SomeIff result (IsTrue (is_ext_key bytes.now)) (ext_key_of bytes.now) }
+    {
+        if bytes.len() < 8 || bytes[0] != 7 {
+            return None;
+        }
+        Some(ExtKey {
+            fork: bytes[1],
+            file: u32_at(bytes, 2),
+            block: u16_at(bytes, 6),
+        })
+    }
+
+    /// The key of a leaf's record. None exactly where the record has not 20 bytes, or its key not the length 7.
+    #[tactic(auto, unfolding(crate::specs::Keys::is_ext_leaf, crate::specs::Keys::is_ext_key))]
+    pub fn read_leaf(bytes: &[u8]) -> Option<(ExtKey, usize)>
+        ensures key { SomeIff result (IsTrue (is_ext_leaf bytes.now)) (ext_key_of bytes.now, 8) }
+        ensures inside { IfSome result (λ read. read.1 ≤ length bytes.now) }
+    {
+        let key = ExtKey::read(bytes)?;
+        if bytes.len() != 20 {
+            return None;
+        }
+        Some((key, 8))
+    }
+
+    /// The key of an index node's record, and the number of the node below it.
+    /// None exactly where the record has not 12 bytes, or its key not the length 7.
+    #[tactic(auto, unfolding(crate::specs::Keys::is_ext_index, crate::specs::Keys::ext_child_of))]
+    pub fn read_index(bytes: &[u8]) -> Option<(ExtKey, u32)>
+        ensures { SomeIff result (IsTrue (is_ext_index bytes.now)) (ext_key_of bytes.now, ext_child_of bytes.now) }
+    {
+        let key = ExtKey::read(bytes)?;
+        if bytes.len() != 12 {
+            return None;
+        }
+        Some((key, u32_at(bytes, 8)))
+    }
+
+    /// The order of two keys: by the file's ID, then the fork, then the block.
+    pub fn compare(&self, other: &ExtKey) -> Ordering
+        ensures { result ≡ ext_cmp self.now other.now }
+    {
+        self.file.cmp(&other.file).then(
+            self.fork
+                .cmp(&other.fork)
+                .then(self.block.cmp(&other.block)),
+        )
+    }
+}
+
+/// The laws of the order of catalog keys.
+pub fn cat_key_order_laws()
+    ensures { IsCatKeyOrder cat_cmp }
+{}
+
+/// The laws of the order of extents keys.
+pub fn ext_key_order_laws()
+    ensures { IsExtKeyOrder ext_cmp }
+{}

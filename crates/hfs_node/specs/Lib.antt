@@ -1,0 +1,5 @@
+pub mod Kind
+pub mod Fault
+pub mod Node
+pub mod Below
+pub mod Decoding

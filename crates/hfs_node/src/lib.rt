@@ -1,0 +1,18 @@
+//! Nodes of a B*-tree file: 512 bytes that hold a list of records.
+#![tactic(auto)]
+
+mod bytes;
+mod fault;
+mod kind;
+mod node;
+mod node_view;
+mod records;
+
+pub use crate::fault::NodeFault;
+pub use crate::kind::NodeKind;
+pub use crate::node::Node;
+pub use crate::node_view::{NodeView, view};
+pub use crate::records::Records;
+
+#[cfg(test)]
+mod tests;
