@@ -1,5 +1,5 @@
 -- The clear bits of one more block of the bitmap.
-use Rattle.std.proofs.Common.{◌≡◌, ℕ, ◌+◌, ◌-◌, ◌*◌, ◌/◌, ◌%◌, ◌<◌, ◌≤◌, Bool, not, List, sym, ap, ◌∙◌, arith}
+use Rattle.std.proofs.Common.{◌≡◌, ℕ, ◌+◌, ◌-◌, ◌*◌, ◌/◌, ◌%◌, ◌<◌, ◌≤◌, not, List, sym, ap, ◌∙◌, arith}
 use Rattle.std.specs.Prelude.{min}
 use Rattle.hfs_space.specs.Bitmap.{is_marked, is_used, count_below, clear_count}
 use Rattle.hfs_space.proofs.Counting.{count_below-add, count_below-same, count_below-le}
@@ -10,7 +10,7 @@ clear-block blocks start total i bits e within =
     let unused = λ (k : ℕ). not (is_used blocks start k) in
     let split = count_below-add unused (4096 * i) bits in
     let here = count_below-same (λ j. unused (4096 * i + j)) (λ j. not (is_marked (blocks (start + i)) j)) bits
-        (λ j h. let at : (4096 * i + j) / 4096 ≡ i = omega arith in let place : (4096 * i + j) % 4096 ≡ j = omega arith in (λ t. not (is_marked (blocks (start + at t)) (place t)))) in
+    (λ j h. let at : (4096 * i + j) / 4096 ≡ i = omega arith in let place : (4096 * i + j) % 4096 ≡ j = omega arith in (λ t. not (is_marked (blocks (start + at t)) (place t)))) in
     let before = ap (count_below unused) (let s : min total (4096 * i) ≡ 4096 * i = omega arith in s) in
     let after = ap (count_below unused) (let s : min total (4096 * (i + 1)) ≡ 4096 * i + bits = omega arith in s) in
     after ∙ split ∙ (λ t. sym before t + here t)

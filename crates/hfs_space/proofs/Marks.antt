@@ -1,6 +1,6 @@
 -- Bits of bytes, and what clearing one does.
-use Rattle.std.proofs.Common.{◌≡◌, ◌≢◌, ℕ, zero, suc, ◌+◌, ◌-◌, ◌*◌, ◌/◌, ◌%◌, ◌^◌, ◌<◌, ◌≤◌, ◌⊎◌, inl, inr, ⊎_elim, Bool, true, false, cond, not, List, length, get_or, set, take, length-take, refl, sym, ap, ◌∙◌, arith}
-use Rattle.std.specs.Prelude.{◌==◌, bit_and, slice_index}
+use Rattle.std.proofs.Common.{◌≡◌, ◌≢◌, ℕ, zero, suc, ◌+◌, ◌-◌, ◌*◌, ◌/◌, ◌%◌, ◌^◌, ◌<◌, ◌≤◌, ◌⊎◌, inl, inr, ⊎_elim, Bool, false, cond, not, List, length, get_or, set, take, length-take, refl, sym, ap, ◌∙◌, arith}
+use Rattle.std.specs.Prelude.{◌==◌, bit_and}
 use Rattle.std.specs.Int.{bit_at, bit_not, w8}
 use Rattle.std.specs.Int.RustNames.{count_ones}
 use lib.Count.{ones_step}
@@ -45,7 +45,7 @@ pub clear-byte : (bytes : List ℕ) (i n : ℕ) → n ≡ 8 * (i + 1) → get_or
 clear-byte bytes i n e small =
     let split = count_below-add (λ k. not (is_marked bytes k)) (8 * i) 8 in
     let here = count_below-same (λ j. not (is_marked bytes (8 * i + j))) (λ j. not (bit_at (get_or bytes i 0) (7 - j) == 1)) 8
-        (λ j h. let at : (8 * i + j) / 8 ≡ i = omega arith in let place : (8 * i + j) % 8 ≡ j = omega arith in (λ t. not (bit_at (get_or bytes (at t) 0) (7 - place t) == 1))) in
+    (λ j h. let at : (8 * i + j) / 8 ≡ i = omega arith in let place : (8 * i + j) % 8 ≡ j = omega arith in (λ t. not (bit_at (get_or bytes (at t) 0) (7 - place t) == 1))) in
     let len = ap (count_below (λ k. not (is_marked bytes k))) (let s : n ≡ 8 * i + 8 = omega arith in s) in
     let byte = ones-not (get_or bytes i 0) small in
     omega (arith, split, here, len, byte)
@@ -63,12 +63,12 @@ is_marked-with_clear_same bytes i within =
 pub is_marked-with_clear_other : (bytes : List ℕ) (i k : ℕ) → i < 8 * length bytes → (k < i) ⊎ (i < k) → is_marked (with_clear bytes i) k ≡ is_marked bytes k
 is_marked-with_clear_other bytes i k within apart = ⊎_elim
     (λ same.
-      let lt : i / 8 < length bytes = omega arith in
-      let ne : 7 - k % 8 ≢ 7 - i % 8 = λ e. elim apart [ inl h ↦ omega arith | inr h ↦ omega arith ] in
-      ap (λ p. bit_at (get_or (with_clear bytes i) p 0) (7 - k % 8) == 1) same
-      ∙ ap (λ b. bit_at b (7 - k % 8) == 1) (get_or-set_same bytes (i / 8) _ 0 lt)
-      ∙ ap (λ x. x == 1) (bit_at_clear_other w8 (get_or bytes (i / 8) 0) (7 - i % 8) (omega arith) (7 - k % 8) (omega arith) ne)
-      ∙ ap (λ p. bit_at (get_or bytes p 0) (7 - k % 8) == 1) (sym same))
+    let lt : i / 8 < length bytes = omega arith in
+    let ne : 7 - k % 8 ≢ 7 - i % 8 = λ e. elim apart [ inl h ↦ omega arith | inr h ↦ omega arith ] in
+    ap (λ p. bit_at (get_or (with_clear bytes i) p 0) (7 - k % 8) == 1) same
+    ∙ ap (λ b. bit_at b (7 - k % 8) == 1) (get_or-set_same bytes (i / 8) _ 0 lt)
+    ∙ ap (λ x. x == 1) (bit_at_clear_other w8 (get_or bytes (i / 8) 0) (7 - i % 8) (omega arith) (7 - k % 8) (omega arith) ne)
+    ∙ ap (λ p. bit_at (get_or bytes p 0) (7 - k % 8) == 1) (sym same))
     (λ other. ap (λ b. bit_at b (7 - k % 8) == 1) (get_or-set_other bytes (i / 8) (k / 8) _ 0 other))
     (cases_eq (k / 8) (i / 8))
 

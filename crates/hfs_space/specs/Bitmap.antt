@@ -1,6 +1,6 @@
 -- The volume bitmap: one bit for each allocation block, which is set where the block is in use. Block numbers are logical
 -- blocks of 512 bytes, counted from 0, or allocation blocks, counted from 0, as it is said.
-use Rattle.std.specs.Prelude.{◌≡◌, ℕ, zero, suc, ◌+◌, ◌-◌, ◌*◌, ◌/◌, ◌%◌, ◌<◌, ◌≤◌, ◌⊎◌, Bool, true, false, not, ◌==◌, List, length, slice_index, count_by}
+use Rattle.std.specs.Prelude.{◌≡◌, ℕ, ◌+◌, ◌-◌, ◌/◌, ◌%◌, ◌<◌, ◌≤◌, ◌⊎◌, Bool, false, not, ◌==◌, List, slice_index, count_by}
 use Rattle.std.specs.List.{range_with_len}
 use Rattle.std.specs.Int.{bit_at}
 

@@ -7,6 +7,7 @@ use crate::patch::Patch;
 use hfs_btree::Blocks;
 
 /// The blocks of a patch, and below it those of a volume.
+#[derive(Drop)]
 pub struct Patched<'a, B: Blocks> {
     pub below: &'a B,
     pub patch: &'a Patch,
@@ -30,4 +31,6 @@ impl<B: Blocks> Blocks for Patched<'_, B> {
     }
 
     ghost whole = { λ s n within. length-over (changes s.patch.now) (B.blocks s.below.now) n s.whole (B.whole s.below.now n within) };
+
+    ghost few = { λ s. B.few s.below.now };
 }

@@ -6,5 +6,5 @@ use Rattle.hfs_space.proofs.bits.clear_bits.Given as goal
 abbrev pub invariant-loop-i : goal.invariant-loop-i
 invariant-loop-i l = record {
   clear : (k : ℕ) → l.first ≤ k → k < l.i → is_marked l.bytes k ≡ false;
-  others : (k : ℕ) → (k < l.first) ⊎ (l.i ≤ k) → is_marked l.bytes k ≡ is_marked l.initial.bytes k
+  others : (k : ℕ) → (k < l.first) ⊎ (l.i ≤ k) → is_marked l.bytes k ≡ is_marked l.initial.bytes k;
 }

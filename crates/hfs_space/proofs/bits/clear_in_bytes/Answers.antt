@@ -1,5 +1,5 @@
 -- One more byte is counted.
-use Rattle.std.proofs.Common.{◌*◌, ◌+◌, ◌∙◌, sym, arith, ap}
+use Rattle.std.proofs.Common.{◌*◌, ◌+◌, arith}
 use Rattle.hfs_space.proofs.Marks.{clear-byte}
 use Rattle.hfs_space.proofs.bits.clear_in_bytes.Goals as goal
 

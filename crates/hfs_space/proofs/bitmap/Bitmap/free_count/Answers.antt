@@ -1,5 +1,5 @@
 -- The bits of one more block are counted.
-use Rattle.std.proofs.Common.{◌≡◌, ◌+◌, ◌*◌, ◌<◌, ◌∙◌, not, ap, sym, arith, Fits}
+use Rattle.std.proofs.Common.{◌+◌, ◌*◌, ◌<◌, ◌∙◌, ap, arith}
 use Rattle.hfs_space.proofs.Clears.{clear-step, clear-few}
 use Rattle.hfs_space.proofs.bitmap.Bitmap.free_count.Goals as goal
 
@@ -14,6 +14,6 @@ loop-i-preserved g c =
     let within : 4096 * c.loop-i.i < c.from-count.result = omega arith in
     record {
       counted = clear-step (g.B.Blocks.blocks c.args.self.now.blocks.now) c.args.self.now.start c.from-count.result c.loop-i.i c.min-bits.result c.loop-i.free c.clear_in-free.result c.block.new.into
-        c.loop-i.invariant.counted c.clear_in-free.ensures (c.block.ensures ∙ ap (λ n. g.B.Blocks.blocks c.args.self.now.blocks.now (n + c.loop-i.i)) c.from.ensures) c.min-bits.ensures within;
+          c.loop-i.invariant.counted c.clear_in-free.ensures (c.block.ensures ∙ ap (λ n. g.B.Blocks.blocks c.args.self.now.blocks.now (n + c.loop-i.i)) c.from.ensures) c.min-bits.ensures within;
       few = omega arith;
     }
