@@ -4,3 +4,6 @@ pub mod Header
 pub mod Sound
 pub mod Blocks
 pub mod Keys
+pub mod Elements
+pub mod Lookups
+pub mod Search

@@ -2,6 +2,7 @@
 #![tactic(auto)]
 
 mod blocks;
+mod entry;
 mod header;
 mod image;
 mod key;
@@ -10,6 +11,7 @@ mod node_list;
 mod nodes;
 mod run;
 mod run_nodes;
+mod search;
 
 pub use blocks::Blocks;
 pub use header::Header;
@@ -19,3 +21,4 @@ pub use node_list::NodeList;
 pub use nodes::Nodes;
 pub use run::Run;
 pub use run_nodes::RunNodes;
+pub use search::find;

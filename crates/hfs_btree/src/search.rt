@@ -1,0 +1,124 @@
+//! Looking up keys.
+
+ghost use Rattle.std.specs.Prelude.{◌≡◌, ℕ, ◌<◌, ◌≤◌, ◌-◌, true, List, [], Ok, IfOk, length, map, option_map, slice_index_or};
+ghost use Rattle.std.specs.List.{prefix_len};
+ghost use Rattle.hfs_node.specs.Node.{node_of};
+ghost use Rattle.hfs_btree.specs.Pairs.{Each, lookup, after};
+ghost use Rattle.hfs_btree.specs.Tree.{records_of, pair_of};
+ghost use Rattle.hfs_btree.specs.Header.{header_in, record_in, depth_of, tree_content};
+ghost use Rattle.hfs_btree.specs.Search.{is_not_above, child_for, leaf_for};
+ghost use Rattle.hfs_btree.specs.Sound.{IsSound};
+
+use crate::entry::{body_of, child_of, compare_with, is_above};
+use crate::header::Header;
+use crate::key::Key;
+use crate::nodes::Nodes;
+use hfs_node::{NodeView, view};
+use std::alloc::{AllocError, Global};
+
+/// The header record of a tree whose node 0 has one.
+pub(crate) fn read_header<N: Nodes>(nodes: &N) -> Header
+    requires { 30 ≤ length (record_in (N.nodes nodes.now) 0 0) }
+    ensures { result ≡ header_in (N.nodes nodes.now) }
+{
+    let mut bytes = [0; 512];
+    nodes.read(0, &mut bytes);
+    match view(&bytes) {
+        Ok(node) => Header::read(node.record(0)),
+        Err(_) => unreachable!(),
+    }
+}
+
+/// How many index records come before the first whose key is above.
+fn place_for<K: Key>(node: &NodeView<'_>, key: &K) -> usize
+    requires { Each (λ entry. K.is_index entry ≡ true) node.now.records }
+    ensures { result ≡ prefix_len (is_not_above K.Key key.now) node.now.records }
+{
+    for i in 0..node.len() {
+        let above = is_above(node.record(i), key);
+        if above {
+            return i;
+        }
+    }
+    node.len()
+}
+
+/// The child where the search for a key goes on.
+fn child_in<K: Key>(bytes: &[u8; 512], key: &K) -> u32
+    requires some { 0 < length (records_of (node_of bytes.now)) }
+    requires whole { Each (λ entry. K.is_index entry ≡ true) (records_of (node_of bytes.now)) }
+    ensures { result ≡ child_for K.Key key.now (records_of (node_of bytes.now)) }
+{
+    match view(bytes) {
+        Ok(node) => {
+            let place = place_for(&node, key);
+            child_of::<K>(node.record(place.saturating_sub(1)))
+        }
+        Err(_) => unreachable!(),
+    }
+}
+
+/// The leaf where the search for a key ends, with its bytes.
+pub(crate) fn descend<K: Key, N: Nodes>(
+    nodes: &N,
+    header: &Header,
+    key: &K,
+    bytes: &mut [u8; 512],
+) -> u32
+    requires sound { IsSound K.Key (N.nodes nodes.now) }
+    requires header { header.now ≡ header_in (N.nodes nodes.now) }
+    requires some { 0 < depth_of (N.nodes nodes.now) }
+    ensures leaf { result ≡ leaf_for K.Key (N.nodes nodes.now) key.now }
+    ensures bytes { bytes.new ≡ slice_index_or (N.nodes nodes.now) result [] }
+{
+    let mut n = header.root;
+    let mut below = header.depth - 1;
+    nodes.read(n, bytes);
+    while below > 0 {
+        n = child_in(bytes, key);
+        below -= 1;
+        nodes.read(n, bytes);
+    }
+    n
+}
+
+/// The body of the record with this key, in a leaf.
+fn body_in<'a, K: Key>(bytes: &'a [u8; 512], key: &K) -> Option<&'a [u8]>
+    requires { Each (λ entry. K.is_leaf entry ≡ true) (records_of (node_of bytes.now)) }
+    ensures { option_map (λ body. body.now) result ≡ lookup K.compare key.now (map (pair_of K.Key) (records_of (node_of bytes.now))) }
+{
+    let Ok(node) = view(bytes) else {
+        return None;
+    };
+    for i in 0..node.len() {
+        let entry = node.record(i);
+        let order = compare_with(key, entry);
+        if order.is_eq() {
+            return Some(body_of::<K>(entry));
+        }
+    }
+    None
+}
+
+/// The body under the key, or None where the tree has no key that is equal to it in the order.
+///
+/// It reads the header node and one node of each level, and takes memory for the answer alone.
+pub fn find<K: Key, N: Nodes>(
+    alloc: Global,
+    nodes: &N,
+    key: &K,
+) -> Result<Option<Vec<u8>>, AllocError>
+    requires { IsSound K.Key (N.nodes nodes.now) }
+    ensures { IfOk result (λ found. option_map (λ body. body.items) found ≡ lookup K.compare key.now (tree_content K.Key (N.nodes nodes.now))) }
+{
+    let header = read_header(nodes);
+    if header.depth == 0 {
+        return Ok(None);
+    }
+    let mut bytes = [0; 512];
+    descend(nodes, &header, key, &mut bytes);
+    match body_in(&bytes, key) {
+        Some(body) => Ok(Some(Vec::from_slice(alloc, body)?)),
+        None => Ok(None),
+    }
+}
