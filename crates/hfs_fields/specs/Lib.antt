@@ -4,4 +4,7 @@ pub mod NameFields
 pub mod Numbers
 pub mod Puts
 pub mod Mdb
+pub mod KeyForms
 pub mod Keys
+pub mod Records
+pub mod RecordForms

@@ -1,9 +1,12 @@
 //! The keys of the two trees.
-ghost use Rattle.std.specs.Prelude.{◌≡◌, ◌+◌, ◌≤◌, ◌<◌, length, IsTrue, IfSome};
+ghost use Rattle.std.specs.Prelude.{◌≡◌, [], ◌∷◌, ◌++◌, drop, ◌+◌, ◌≤◌, ◌<◌, length, IsTrue, IfSome};
 ghost use Rattle.std.specs.Option.{SomeIff};
 ghost use Rattle.hfs_fields.specs.Keys.{key_len, name_len, name_at, is_cat_key, cat_key_of, cat_body_start, is_cat_leaf, is_cat_index, is_cat_body_len, cat_child_of, cat_cmp, is_ext_key, ext_key_of, is_ext_leaf, is_ext_index, ext_child_of, ext_cmp, IsCatKeyOrder, IsExtKeyOrder};
+ghost use Rattle.hfs_fields.specs.KeyForms.{IsCatKeyValue, cat_leaf_bytes, cat_index_record, IsExtKeyValue, ext_key_bytes, ext_index_record};
+ghost use Rattle.byteorder.specs.Endian.{big_bytes};
 
 use crate::extent::{u16_at, u32_at};
+use crate::field_row::FieldRow;
 use crate::name::Name;
 use std::cmp::Ordering;
 
@@ -106,6 +109,56 @@ impl CatKey {
         Some((key, u32_at(bytes, 38)))
     }
 
+    /// How many bytes the key takes in a leaf, with the zero byte that may fill it up to an even place.
+    pub fn leaf_length(&self) -> usize
+        ensures { result ≡ length (cat_leaf_bytes self.now) }
+    {
+        (self.name.bytes().len() + 8) / 2 * 2
+    }
+
+    /// The key's fields as they stand in a record, up to the name's last character.
+    fn laid(&self, key_length: u8) -> FieldRow
+        ensures bytes { result ≡ key_length ∷ 0 ∷ [] ++ big_bytes 4 self.now.parent ++ length self.now.name ∷ [] ++ self.now.name }
+        ensures length { length result ≡ 7 + length self.now.name }
+        ensures value { IsCatKeyValue self.now }
+    {
+        let name = self.name.bytes();
+        let mut row = FieldRow::new();
+        row.push(&[key_length, 0]);
+        row.push_u32(self.parent);
+        row.push_u8(name.len() as u8);
+        row.push(name);
+        row
+    }
+
+    /// Writes the key as it stands in a leaf: its length is 6 and the name's length, and a zero byte follows where
+    /// the key would end at an odd place.
+    pub fn write(&self, bytes: &mut [u8])
+        requires { length (cat_leaf_bytes self.now) ≤ length bytes.old }
+        ensures written { bytes.new ≡ cat_leaf_bytes self.now ++ drop (length (cat_leaf_bytes self.now)) bytes.old }
+        ensures key { IsTrue (is_cat_key bytes.new) }
+        ensures back { cat_key_of bytes.new ≡ self.now }
+        ensures value { IsCatKeyValue self.now }
+    {
+        let length = self.name.bytes().len();
+        let mut row = self.laid(6 + length as u8);
+        row.push_zeros(1 - length % 2);
+        row.copy_to(bytes);
+    }
+
+    /// Writes a record of an index node, 42 bytes: the key with the length 37, its name filled up with zero bytes, and
+    /// the number of the node below.
+    pub fn write_index(&self, child: u32, bytes: &mut [u8])
+        requires { 42 ≤ length bytes.old }
+        ensures written { bytes.new ≡ cat_index_record self.now child ++ drop 42 bytes.old }
+        ensures value { IsCatKeyValue self.now }
+    {
+        let mut row = self.laid(37);
+        row.push_zeros(31 - self.name.bytes().len());
+        row.push_u32(child);
+        row.copy_to(bytes);
+    }
+
     /// The order of two keys: by the parent's ID, then by name order.
     pub fn compare(&self, other: &CatKey) -> Ordering
         ensures { result ≡ cat_cmp self.now other.now }
@@ -156,6 +209,43 @@ impl ExtKey {
             return None;
         }
         Some((key, u32_at(bytes, 8)))
+    }
+
+    /// The key's 8 bytes.
+    #[tactic(auto, unfolding(crate::specs::KeyForms::ext_key_bytes))]
+    fn laid(&self) -> FieldRow
+        ensures bytes { result ≡ ext_key_bytes self.now }
+        ensures length { length result ≡ 8 }
+        ensures value { IsExtKeyValue self.now }
+    {
+        let mut row = FieldRow::new();
+        row.push_u8(7);
+        row.push_u8(self.fork);
+        row.push_u32(self.file);
+        row.push_u16(self.block);
+        row
+    }
+
+    /// Writes the key's 8 bytes.
+    pub fn write(&self, bytes: &mut [u8])
+        requires { 8 ≤ length bytes.old }
+        ensures written { bytes.new ≡ ext_key_bytes self.now ++ drop 8 bytes.old }
+        ensures key { IsTrue (is_ext_key bytes.new) }
+        ensures back { ext_key_of bytes.new ≡ self.now }
+        ensures value { IsExtKeyValue self.now }
+    {
+        self.laid().copy_to(bytes);
+    }
+
+    /// Writes a record of an index node, 12 bytes: the key and the number of the node below.
+    pub fn write_index(&self, child: u32, bytes: &mut [u8])
+        requires { 12 ≤ length bytes.old }
+        ensures written { bytes.new ≡ ext_index_record self.now child ++ drop 12 bytes.old }
+        ensures value { IsExtKeyValue self.now }
+    {
+        let mut row = self.laid();
+        row.push_u32(child);
+        row.copy_to(bytes);
     }
 
     /// The order of two keys: by the file's ID, then the fork, then the block.
