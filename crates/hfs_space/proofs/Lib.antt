@@ -2,3 +2,6 @@ pub mod Counting
 pub mod Marks
 pub mod Clears
 pub mod Releases
+pub mod Pieces
+pub mod ForkPieces
+pub mod GoingOn

@@ -3,9 +3,15 @@
 
 mod bitmap;
 mod bits;
+mod extents;
+mod fork;
+mod fork_kind;
 mod patch;
 mod patched;
 
 pub use bitmap::Bitmap;
+pub use extents::fork_extents;
+pub use fork::read_fork;
+pub use fork_kind::ForkKind;
 pub use patch::Patch;
 pub use patched::Patched;
