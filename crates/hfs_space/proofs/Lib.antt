@@ -1,4 +1,3 @@
-pub mod Counting
 pub mod Marks
 pub mod Clears
 pub mod Releases

@@ -5,3 +5,6 @@ pub mod Forks
 pub mod Lookups
 pub mod TreeKeys
 pub mod Owners
+pub mod ForkLaws
+pub mod Counting
+pub mod BitmapLaws

@@ -1,6 +1,6 @@
 //! The extents of a fork.
 
-ghost use Rattle.std.specs.Prelude.{◌≡◌, ℕ, ◌+◌, ◌<◌, ◌≤◌, ◌++◌, ◌^◌, [], length, IfOk, MatchOption};
+ghost use Rattle.std.specs.Prelude.{◌≡◌, ℕ, ◌+◌, ◌<◌, ◌≤◌, ◌++◌, ◌^◌, [], length, IfOk, IsTrue, ◌↔◌};
 ghost use Rattle.hfs_space.specs.Extents as spec;
 ghost use Rattle.hfs_space.specs.TreeKeys.{IsExtentsTree, overflow_of};
 
@@ -8,6 +8,16 @@ use crate::fork_kind::{ForkKind, fork_byte};
 use hfs_btree::{Nodes, find};
 use hfs_fields::{ExtKey, Extent};
 use std::alloc::{AllocError, Global};
+
+/// Whether each extent lies among the first `blocks` allocation blocks of the volume. One without blocks lies anywhere.
+pub fn are_within(extents: &[Extent], blocks: u16) -> bool
+    ensures { IsTrue result ↔ spec.AreExtentsWithin blocks extents.now }
+{
+    extents.iter().all(|extent| {
+        let end = u32::from(extent.first) + u32::from(extent.count);
+        extent.count == 0 || end <= u32::from(blocks)
+    })
+}
 
 /// How many allocation blocks an extent has.
 fn block_count(extent: Extent) -> u32

@@ -10,7 +10,7 @@ mod patch;
 mod patched;
 
 pub use bitmap::Bitmap;
-pub use extents::fork_extents;
+pub use extents::{are_within, fork_extents};
 pub use fork::read_fork;
 pub use fork_kind::ForkKind;
 pub use patch::Patch;
