@@ -16,6 +16,7 @@ const BITS: u32 = 4096;
 /// first byte is allocation block 0.
 ///
 /// Source: Inside Macintosh: Files, chapter 2, 'Volume bitmap'.
+#[derive(Drop)]
 pub struct Bitmap<'a, B: Blocks> {
     /// The blocks of the volume.
     pub blocks: &'a B,
