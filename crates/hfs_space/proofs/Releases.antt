@@ -1,0 +1,60 @@
+-- Clearing the bits of one more block of the bitmap.
+use Rattle.std.proofs.Common.{◌≡◌, ◌≢◌, ℕ, ◌+◌, ◌-◌, ◌*◌, ◌/◌, ◌%◌, ◌<◌, ◌≤◌, ◌⊎◌, inl, inr, ⊎_elim, false, List, cond, sym, ap, ◌∙◌, arith, refl}
+use Rattle.std.specs.Prelude.{min, max}
+use Rattle.std.proofs.lemmas.Bool.{cases_eq, eq-eqb, ne_eqb}
+use Rattle.hfs_space.specs.Layers.{with_block}
+use Rattle.hfs_space.specs.Bitmap.{is_marked, is_used, bitmap_len, AreClear, KeepsOthers}
+
+-- the bits from first up to end are clear below the bits of block i of the bitmap, and everything else is as it was
+pub record IsReleasing (old new : ℕ → List ℕ) (start first end i : ℕ) : Type 0 where
+  pub clear : (n : ℕ) → first ≤ n → n < end → n < 4096 * i → is_used new start n ≡ false
+  pub bits : (n : ℕ) → (n < first) ⊎ (end ≤ n) → is_used new start n ≡ is_used old start n
+  pub blocks : (k : ℕ) → (k < start + first / 4096) ⊎ (start + i ≤ k) → new k ≡ old k
+
+pub releasing-start : (old : ℕ → List ℕ) (start first end i : ℕ) → i ≡ first / 4096 → IsReleasing old old start first end i
+releasing-start old start first end i e = record {
+  clear = λ n low high below. absurd (omega arith);
+  bits = λ n apart. refl;
+  blocks = λ k apart. refl;
+}
+
+same-block : (blocks : ℕ → List ℕ) (n : ℕ) (b : List ℕ) → with_block blocks n b n ≡ b
+same-block blocks n b = ap (λ t. cond t b (blocks n)) (eq-eqb n n refl)
+
+other-block : (blocks : ℕ → List ℕ) (n k : ℕ) (b : List ℕ) → n ≢ k → with_block blocks n b k ≡ blocks k
+other-block blocks n k b ne = ap (λ t. cond t b (blocks k)) (ne_eqb n k ne)
+
+module _ (old new next : ℕ → List ℕ) (start first end i from to : ℕ) (bytes : List ℕ) (is_next : next ≡ with_block new (start + i) bytes)
+    (is_from : from ≡ max first (i * 4096) - i * 4096) (is_to : to ≡ min end ((i + 1) * 4096) - i * 4096)
+    (clear : (k : ℕ) → from ≤ k → k < to → is_marked bytes k ≡ false)
+    (others : (k : ℕ) → (k < from) ⊎ (to ≤ k) → is_marked bytes k ≡ is_marked (new (start + i)) k)
+    (reached : first / 4096 ≤ i) (releasing : IsReleasing old new start first end i) where
+  here : (n : ℕ) → n / 4096 ≡ i → is_used next start n ≡ is_marked bytes (n % 4096)
+  here n e = ap (λ b. is_marked b (n % 4096)) ((λ t. is_next t (start + e t)) ∙ same-block new (start + i) bytes)
+
+  there : (n : ℕ) → (n / 4096 ≡ i → ⊥) → is_used next start n ≡ is_used new start n
+  there n ne = ap (λ b. is_marked b (n % 4096)) ((λ t. is_next t (start + n / 4096)) ∙ other-block new (start + i) (start + n / 4096) bytes (λ e. ne (omega arith)))
+
+  pub releasing-more : IsReleasing old next start first end (i + 1)
+  releasing-more = record {
+    clear = λ n low high below. ⊎_elim
+        (λ e. here n e ∙ clear (n % 4096) (omega arith) (omega arith))
+        (λ ne. there n ne ∙ releasing.clear n low high (omega arith))
+        (cases_eq (n / 4096) i);
+    bits = λ n apart. ⊎_elim
+        (λ e. here n e ∙ others (n % 4096) (elim apart [ inl h ↦ inl (omega arith) | inr h ↦ inr (omega arith) ])
+        ∙ ap (λ j. is_marked (new (start + j)) (n % 4096)) (sym e) ∙ releasing.bits n apart)
+        (λ ne. there n ne ∙ releasing.bits n apart)
+        (cases_eq (n / 4096) i);
+    blocks = λ k apart. (λ t. is_next t k) ∙ other-block new (start + i) k bytes (λ e. elim apart [ inl h ↦ omega arith | inr h ↦ omega arith ])
+        ∙ releasing.blocks k (elim apart [ inl h ↦ inl h | inr h ↦ inr (omega arith) ]);
+  }
+
+pub releasing-others : (old new : ℕ → List ℕ) (start first end count i : ℕ) → end ≡ first + count → i ≤ bitmap_len end → IsReleasing old new start first end i → KeepsOthers old new start first count
+releasing-others old new start first end count i e within releasing = record {
+  bits = λ n apart. releasing.bits n (elim apart [ inl h ↦ inl h | inr h ↦ inr (omega arith) ]);
+  blocks = λ k apart. releasing.blocks k (elim apart [ inl h ↦ inl h | inr h ↦ inr (omega arith) ]);
+}
+
+pub releasing-clear : (old new : ℕ → List ℕ) (start first end count i : ℕ) → end ≡ first + count → bitmap_len end ≤ i → IsReleasing old new start first end i → AreClear new start first count
+releasing-clear old new start first end count i e past releasing n low high = releasing.clear n low (omega arith) (omega arith)

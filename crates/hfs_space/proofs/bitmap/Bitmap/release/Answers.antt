@@ -1,0 +1,20 @@
+-- The bits in one more block are clear.
+use Rattle.std.proofs.Common.{◌+◌, ◌-◌, ◌*◌, ◌∙◌, ap}
+use Rattle.hfs_space.specs.Bitmap.{is_marked}
+use Rattle.hfs_space.specs.Layers.{changes, over, with_block, over-with_change}
+use Rattle.hfs_space.proofs.Releases.{releasing-more}
+use Rattle.hfs_space.proofs.bitmap.Bitmap.release.Goals as goal
+
+pub loop-i-preserved : goal.loop-i-preserved
+loop-i-preserved g c =
+    let blocks = g.B.Blocks.blocks in
+    let below = blocks c.args.self.now.blocks.now in
+    let i = c.loop-i.i in
+    let before = changes c.loop-i.patch in
+    let bytes = c.clear_bits.new.bytes in
+    let read = c.block.ensures ∙ (λ t. over (changes (c.over.ensures.patch t)) (blocks (c.over.ensures.below t)) (c.from-in-loop-i.ensures t + i)) in
+    let written = ap (λ changed. over changed below) c.in_ok-put.ensures.written ∙ over-with_change before below (c.from-in-loop-i.result + i) bytes
+    ∙ ap (λ start. with_block (over before below) (start + i) bytes) c.from-in-loop-i.ensures in
+    releasing-more (over (changes c.args.patch.now) below) (over before below) (over (changes c.put.new.self) below) c.args.self.now.start c.from-first.result (c.from-first.result + c.from.result) i
+    (c.max.result - i * 4096) (c.min.result - i * 4096) bytes written (ap (λ m. m - i * 4096) c.max.ensures) (ap (λ m. m - i * 4096) c.min.ensures)
+    c.clear_bits.ensures.clear (λ k apart. c.clear_bits.ensures.others k apart ∙ ap (λ b. is_marked b k) read) c.loop-i.auto.i c.loop-i.invariant

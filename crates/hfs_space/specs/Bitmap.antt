@@ -1,0 +1,35 @@
+-- The volume bitmap: one bit for each allocation block, which is set where the block is in use. Block numbers are logical
+-- blocks of 512 bytes, counted from 0, or allocation blocks, counted from 0, as it is said.
+use Rattle.std.specs.Prelude.{◌≡◌, ℕ, ◌+◌, ◌-◌, ◌/◌, ◌%◌, ◌<◌, ◌≤◌, ◌⊎◌, Bool, false, not, ◌==◌, List, slice_index, count_by}
+use Rattle.std.specs.List.{range_with_len}
+use Rattle.std.specs.Int.{bit_at}
+
+-- whether bit i of the bytes is set: bit 0 is the most significant bit of the first byte
+abbrev pub is_marked : List ℕ → ℕ → Bool
+is_marked bytes i = bit_at (slice_index bytes (i / 8)) (7 - i % 8) == 1
+
+-- whether allocation block n is marked as in use, in a bitmap that begins at logical block `start`
+abbrev pub is_used : (ℕ → List ℕ) → ℕ → ℕ → Bool
+is_used blocks start n = is_marked (blocks (start + n / 4096)) (n % 4096)
+
+-- how many numbers below n pass the test
+abbrev pub count_below : (ℕ → Bool) → ℕ → ℕ
+count_below test n = count_by test (range_with_len 0 n)
+
+-- how many of the first n allocation blocks are not marked
+abbrev pub clear_count : (ℕ → List ℕ) → ℕ → ℕ → ℕ
+clear_count blocks start n = count_below (λ k. not (is_used blocks start k)) n
+
+-- how many logical blocks the bits of n allocation blocks take
+abbrev pub bitmap_len : ℕ → ℕ
+bitmap_len n = (n + 4095) / 4096
+
+-- the bits of `count` allocation blocks from `first` on are clear
+abbrev pub AreClear : (ℕ → List ℕ) → ℕ → ℕ → ℕ → Type 0
+AreClear blocks start first count = (n : ℕ) → first ≤ n → n < first + count → is_used blocks start n ≡ false
+
+-- beside the bits of `count` allocation blocks from `first` on nothing has changed: no other bit of the bitmap, and no block
+-- that has none of these bits
+pub record KeepsOthers (old new : ℕ → List ℕ) (start first count : ℕ) : Type 0 where
+  pub bits : (n : ℕ) → (n < first) ⊎ (first + count ≤ n) → is_used new start n ≡ is_used old start n
+  pub blocks : (k : ℕ) → (k < start + first / 4096) ⊎ (start + bitmap_len (first + count) ≤ k) → new k ≡ old k

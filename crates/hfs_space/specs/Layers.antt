@@ -1,0 +1,46 @@
+-- Blocks that are laid over other blocks.
+use Rattle.std.specs.Prelude.{◌≡◌, ℕ, Bool, true, false, List, length, Option, Some, None, nat_eq, if◌then◌else◌, unwrap_or, refl}
+use Rattle.std.specs.Map.{lookup}
+
+-- blocks by number, where there are some
+abbrev pub Changes : Type 0
+Changes = ℕ → Option (List ℕ)
+
+-- numbers with their blocks
+abbrev pub Numbered : Type 0
+Numbered = List (ℕ × List ℕ)
+
+-- the blocks by their numbers
+abbrev pub changes : Numbered → Changes
+changes blocks n = lookup (nat_eq n) blocks
+
+-- each block that there is has 512 bytes
+abbrev pub AreWhole : Changes → Type 0
+AreWhole changes = (n : ℕ) (b : List ℕ) → changes n ≡ Some b → length b ≡ 512
+
+-- the blocks that there are, with b as the one of number n
+abbrev pub with_change : Changes → ℕ → List ℕ → Changes
+with_change changes n b k = if nat_eq n k then Some b else changes k
+
+-- the blocks that there are, and below them those of another
+abbrev pub over : Changes → (ℕ → List ℕ) → ℕ → List ℕ
+over changes below n = unwrap_or (changes n) (below n)
+
+-- the blocks, with b as the one of number n
+abbrev pub with_block : (ℕ → List ℕ) → ℕ → List ℕ → ℕ → List ℕ
+with_block blocks n b k = if nat_eq n k then b else blocks k
+
+pub length-over : (changes : Changes) (below : ℕ → List ℕ) (n : ℕ) → AreWhole changes → length (below n) ≡ 512 → length (over changes below n) ≡ 512
+length-over changes below n whole own = by (changes n) refl
+  where
+    by : (o : Option (List ℕ)) → changes n ≡ o → length (unwrap_or o (below n)) ≡ 512
+    by None e = own
+    by (Some b) e = whole n b e
+
+-- a block that is put into a patch is put over what the patch was laid over
+pub over-with_change : (changes : Changes) (below : ℕ → List ℕ) (n : ℕ) (b : List ℕ) → over (with_change changes n b) below ≡ with_block (over changes below) n b
+over-with_change changes below n b i k = by (nat_eq n k) i
+  where
+    by : (t : Bool) → unwrap_or (if t then Some b else changes k) (below k) ≡ (if t then b else unwrap_or (changes k) (below k))
+    by true = refl
+    by false = refl

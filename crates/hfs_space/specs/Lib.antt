@@ -1,0 +1,10 @@
+pub mod Layers
+pub mod Bitmap
+pub mod Extents
+pub mod Forks
+pub mod Lookups
+pub mod TreeKeys
+pub mod Owners
+pub mod ForkLaws
+pub mod Counting
+pub mod BitmapLaws

@@ -1,0 +1,92 @@
+//! The extents of a fork.
+
+ghost use Rattle.std.specs.Prelude.{◌≡◌, ℕ, ◌+◌, ◌<◌, ◌≤◌, ◌++◌, ◌^◌, [], length, IfOk, IsTrue, ◌↔◌};
+ghost use Rattle.hfs_space.specs.Extents as spec;
+ghost use Rattle.hfs_space.specs.TreeKeys.{IsExtentsTree, overflow_of};
+
+use crate::fork_kind::{ForkKind, fork_byte};
+use hfs_btree::{Nodes, find};
+use hfs_fields::{ExtKey, Extent};
+use std::alloc::{AllocError, Global};
+
+/// Whether each extent lies among the first `blocks` allocation blocks of the volume. One without blocks lies anywhere.
+pub fn are_within(extents: &[Extent], blocks: u16) -> bool
+    ensures { IsTrue result ↔ spec.AreExtentsWithin blocks extents.now }
+{
+    extents.iter().all(|extent| {
+        let end = u32::from(extent.first) + u32::from(extent.count);
+        extent.count == 0 || end <= u32::from(blocks)
+    })
+}
+
+/// How many allocation blocks an extent has.
+fn block_count(extent: Extent) -> u32
+    ensures count { result ≡ extent.count }
+    ensures bound { result < 2 ^ 16 }
+{
+    u32::from(extent.count)
+}
+
+/// How many allocation blocks three extents have.
+fn block_total(extents: &[Extent; 3]) -> u32
+    ensures total { result ≡ spec.block_total extents.now }
+    ensures bound { result < 2 ^ 18 }
+{
+    let [first, second, third] = *extents;
+    block_count(first) + block_count(second) + block_count(third)
+}
+
+/// The three extents that go on with a fork from its block `block` on, if the tree has a record of them that has a block.
+fn next_extents<N: Nodes>(
+    alloc: Global,
+    tree: &N,
+    file: u32,
+    fork: ForkKind,
+    block: u32,
+) -> Result<Option<[Extent; 3]>, AllocError>
+    requires { IsExtentsTree (N.nodes tree.now) }
+    ensures { IfOk result (λ found. spec.GoesOnWith (overflow_of (N.nodes tree.now)) file (spec.fork_byte fork) block found) }
+{
+    let Ok(block) = u16::try_from(block) else {
+        return Ok(None);
+    };
+    let key = ExtKey {
+        fork: fork_byte(fork),
+        file,
+        block,
+    };
+    let Some(body) = find(alloc, tree, &key)? else {
+        return Ok(None);
+    };
+    let Some(extents) = Extent::read_record(&body) else {
+        return Ok(None);
+    };
+    if block_total(&extents) == 0 {
+        return Ok(None);
+    }
+    Ok(Some(extents))
+}
+
+/// All extents of a fork: the three of its record, and then, as long as the extents tree holds a record of the file and fork
+/// that has a block and whose first block is the number of blocks so far, that record's three.
+///
+/// The catalog file is file 4, and its data fork begins with the three extents of the master directory block. The extents
+/// file itself has only its three there.
+pub fn fork_extents<N: Nodes>(
+    alloc: Global,
+    tree: &N,
+    file: u32,
+    fork: ForkKind,
+    first: &[Extent; 3],
+) -> Result<Vec<Extent>, AllocError>
+    requires { IsExtentsTree (N.nodes tree.now) }
+    ensures { IfOk result (λ extents. extents.items ≡ spec.fork_extents (overflow_of (N.nodes tree.now)) file (spec.fork_byte fork) first.now) }
+{
+    let mut extents = Vec::from_slice(alloc, first)?;
+    let mut blocks = block_total(first);
+    while let Some(more) = next_extents(alloc, tree, file, fork, blocks)? {
+        extents.extend_from_slice(&more)?;
+        blocks += block_total(&more);
+    }
+    Ok(extents)
+}

@@ -1,0 +1,91 @@
+//! Reading forks.
+
+ghost use Rattle.std.specs.Prelude.{◌≡◌, ◌+◌, ◌-◌, ◌*◌, ◌<◌, ◌≤◌, ◌++◌, length, OnOk, IfOk, take, drop};
+ghost use Rattle.hfs_btree.specs.Blocks.{run_of};
+ghost use Rattle.hfs_space.specs.Extents.{IsExtentWithin, AreExtentsWithin};
+ghost use Rattle.hfs_space.specs.Forks.{HasArea, blocks_each, run_bytes, extent_bytes, fork_bytes, read_from};
+
+use hfs_btree::{Blocks, Run};
+use hfs_fields::{Extent, Mdb};
+use std::alloc::{AllocError, Global};
+
+/// Appends the bytes of a run of blocks from `from` up to `end`. Only the blocks that have one of them are read.
+fn read_run<B: Blocks>(
+    blocks: &B,
+    run: Run,
+    from: u64,
+    end: u64,
+    bytes: &mut Vec<u8>,
+) -> Result<(), AllocError>
+    requires within { run.first + run.count ≤ B.total blocks.now }
+    requires order { from ≤ end }
+    requires fits { end ≤ 512 * run.count }
+    ensures { OnOk result (bytes.new.items ≡ bytes.old.items ++ take (end - from) (drop from (run_bytes (B.blocks blocks.now) run.first run.count))) }
+{
+    let mut block = [0; 512];
+    let mut at = from;
+    while at < end {
+        blocks.block(run.first + (at / 512) as u32, &mut block);
+        let start = (at % 512) as usize;
+        let stop = (end - at).min((512 - start) as u64) as usize + start;
+        bytes.extend_from_slice(&block[start..stop])?;
+        at += (stop - start) as u64;
+    }
+    Ok(())
+}
+
+/// Appends `count` bytes of an extent's blocks, from `from` on.
+fn read_extent<B: Blocks>(
+    blocks: &B,
+    mdb: &Mdb,
+    extent: Extent,
+    from: u64,
+    count: u64,
+    bytes: &mut Vec<u8>,
+) -> Result<(), AllocError>
+    requires area { HasArea mdb.now (B.total blocks.now) }
+    requires within { IsExtentWithin mdb.now.allocation_blocks extent }
+    requires fits { from + count ≤ 512 * (extent.count * blocks_each mdb.now) }
+    ensures { OnOk result (bytes.new.items ≡ bytes.old.items ++ take count (drop from (extent_bytes (B.blocks blocks.now) mdb.now extent))) }
+{
+    if count == 0 {
+        return Ok(());
+    }
+    let each = mdb.allocation_block_size / 512;
+    let run = Run {
+        first: u32::from(mdb.allocation_start) + u32::from(extent.first) * each,
+        count: u32::from(extent.count) * each,
+    };
+    read_run(blocks, run, from, from + count, bytes)
+}
+
+/// Bytes of a fork with these extents and this logical length, in bytes: those from `offset` on, `count` of them or as many
+/// as there are. Sums are taken in 64 bits. Only the blocks that have one of these bytes are read.
+pub fn read_fork<B: Blocks>(
+    alloc: Global,
+    blocks: &B,
+    mdb: &Mdb,
+    extents: &[Extent],
+    length: u32,
+    offset: u32,
+    count: u32,
+) -> Result<Vec<u8>, AllocError>
+    requires area { HasArea mdb.now (B.total blocks.now) }
+    requires extents { AreExtentsWithin mdb.now.allocation_blocks extents.now }
+    ensures { IfOk result (λ bytes. bytes.items ≡ read_from (fork_bytes (B.blocks blocks.now) mdb.now extents.now length) offset count) }
+{
+    let end = u64::from(length).min(u64::from(offset) + u64::from(count));
+    let mut skip = u64::from(offset);
+    let mut rest = end.saturating_sub(skip);
+    let mut bytes = Vec::with_capacity(alloc, rest as usize)?;
+    let each = u64::from(mdb.allocation_block_size / 512);
+    for extent in extents {
+        let size = u64::from(extent.count) * each * 512;
+        let passed = skip.min(size);
+        let more = rest.min(size - passed);
+        read_extent(blocks, mdb, *extent, passed, more, &mut bytes)?;
+        skip -= passed;
+        rest -= more;
+    }
+    Ok(bytes)
+}
