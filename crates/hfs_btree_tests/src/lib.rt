@@ -1,0 +1,7 @@
+//! Tests of trees against bytes by hand.
+#![tactic(auto)]
+
+#[cfg(test)]
+mod laid;
+#[cfg(test)]
+mod runs;
