@@ -1,5 +1,5 @@
 -- The tree of two nodes is sound.
-use Rattle.std.proofs.Common.{◌≡◌, ◌≢◌, ℕ, ◌+◌, ◌<◌, ◌≤◌, true, List, [], ◌∷◌, refl, sym, arith}
+use Rattle.std.proofs.Common.{◌≡◌, true, [], ◌∷◌, refl, sym, arith}
 use Rattle.hfs_fields.specs.Numbers.{number_at}
 use Rattle.hfs_node.specs.declared.kind.NodeKind.TheVariants.{Header, Leaf}
 use Rattle.hfs_node.specs.Kind.{kind_of}

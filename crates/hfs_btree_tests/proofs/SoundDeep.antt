@@ -1,5 +1,5 @@
 -- The tree of three levels is sound.
-use Rattle.std.proofs.Common.{◌≡◌, ◌≢◌, ℕ, ◌+◌, ◌<◌, ◌≤◌, true, List, [], ◌∷◌, refl, sym, arith}
+use Rattle.std.proofs.Common.{[], ◌∷◌, refl, arith}
 use Rattle.hfs_fields.specs.Numbers.{number_at}
 use Rattle.hfs_fields.specs.Keys.{is_ext_leaf, is_ext_index, is_ext_key, ext_key_of, ext_child_of}
 use Rattle.hfs_node.specs.declared.kind.NodeKind.TheVariants.{Header, Index, Leaf}
