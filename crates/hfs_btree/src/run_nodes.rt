@@ -8,6 +8,7 @@ use crate::nodes::Nodes;
 use crate::run::Run;
 
 /// The nodes of a file that lies in runs of blocks: node n is the n-th 512 bytes of the runs in their order.
+#[derive(Drop)]
 pub struct RunNodes<'a, B: Blocks> {
     pub blocks: &'a B,
     pub runs: &'a [Run],

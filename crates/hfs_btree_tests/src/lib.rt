@@ -1,0 +1,9 @@
+//! Tests of trees against bytes by hand.
+#![tactic(auto)]
+
+#[cfg(test)]
+mod deep;
+#[cfg(test)]
+mod laid;
+#[cfg(test)]
+mod runs;

@@ -1,0 +1,32 @@
+//! Files that lie in runs of blocks.
+use hfs_btree::{Blocks, ImageBytes, Nodes, Run, RunNodes};
+
+/// Whether all bytes of a block are this one.
+fn is_filled(block: &[u8; 512], byte: u8) -> bool {
+    block.iter().all(|x| *x == byte)
+}
+
+#[test]
+fn nodes_follow_the_runs(rt: HostRuntime) {
+    let mut image = [0u8; 3100];
+    for i in 0..3072 {
+        image[i] = (i / 512) as u8;
+    }
+    let blocks = ImageBytes { bytes: &image };
+    assert_eq!(rt; blocks.count(), 6);
+    let runs = [
+        Run { first: 4, count: 2 },
+        Run { first: 1, count: 1 },
+        Run { first: 3, count: 1 },
+    ];
+    let nodes = RunNodes {
+        blocks: &blocks,
+        runs: &runs,
+    };
+    assert_eq!(rt; nodes.count(), 4);
+    let mut block = [0; 512];
+    for (n, byte) in [(0, 4), (1, 5), (2, 1), (3, 3)] {
+        nodes.read(n, &mut block);
+        assert!(rt; is_filled(&block, byte), "node {n}");
+    }
+}
