@@ -1,11 +1,11 @@
 -- What a folder's children are, in a lawful volume.
-use Rattle.std.proofs.Common.{◌≡◌, inl, inr, ⊎_elim, ℕ, zero, suc, ◌+◌, ◌<◌, Bool, true, false, cond, ◌&&◌, List, [], ◌∷◌, length, get_or, refl, sym, ◌∙◌, ap, subst, arith, Option, Some, None}
+use Rattle.std.proofs.Common.{◌≡◌, inl, inr, ⊎_elim, ℕ, zero, suc, ◌<◌, Bool, true, false, cond, ◌&&◌, List, [], ◌∷◌, length, get_or, refl, sym, ◌∙◌, ap, subst, arith, Option, Some, None}
 use Rattle.std.specs.Prelude.{T}
-use Rattle.std.specs.List.{AllPairs, Contains}
+use Rattle.std.specs.List.{Contains}
 use Rattle.std.specs.declared.cmp.Ordering.{Ordering}
 use Rattle.std.specs.declared.cmp.Ordering.TheVariants.{Less, Equal, Greater}
 use Rattle.std.specs.Ordering.{nat_cmp, is_lt, is_eq, ordering_reverse}
-use Rattle.std.specs.Cmp.{nat_cmp_total, tied_itself}
+use Rattle.std.specs.Cmp.{tied_itself}
 use Rattle.std.specs.Cmp.Lexicographic.{nat_list_cmp_total}
 use Rattle.std.specs.FinMap as map
 use Rattle.std.specs.FinMap.{nat_cmp-IsAntisymmetric, slice_cmp-IsAntisymmetric}
@@ -16,7 +16,7 @@ use Rattle.hfs_model.specs.Volume.{Volume, Items, Entry}
 use Rattle.hfs_model.specs.Children.{place, place_child, children, is_child, entries_of}
 use Rattle.hfs_model.specs.Lawful.{Has, AreLawful, IsLawful}
 use Rattle.hfs_model.specs.Laws.{AreChildren}
-use Rattle.hfs_model.proofs.Facts.{none_is_some, same_some, true_false}
+use Rattle.hfs_model.proofs.Facts.{none_is_some, same_some}
 use Rattle.hfs_model.proofs.Members.{In, in_from_contains, contains_from_in, other_id, has_from_in, in_from_has, from_place, in_children, from_children}
 use Rattle.hfs_model.proofs.InOrder.{keyed, names_cmp, IsInNameOrder, Distinct, children_rise, one_order}
 

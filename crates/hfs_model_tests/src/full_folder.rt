@@ -1,5 +1,5 @@
 //! A folder with as many children as it may have.
-ghost use Rattle.std.specs.Prelude.{◌≡◌, ◌+◌, ◌<◌, ◌≤◌, OnOk};
+ghost use Rattle.std.specs.Prelude.{◌+◌, ◌<◌, ◌≤◌};
 ghost use Rattle.hfs_model.specs.Children.{valence, entries_of};
 
 use crate::fixture::{Ask, expect_codes, volume};

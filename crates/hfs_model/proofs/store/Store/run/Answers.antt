@@ -1,7 +1,6 @@
-use Rattle.std.proofs.Common.{◌≡◌, ◌+◌, take, ap, ◌∙◌, arith, List}
+use Rattle.std.proofs.Common.{◌+◌, ap, ◌∙◌, arith, List}
 use Rattle.hfs_model.specs.declared.reply.Reply.{Reply}
 use Rattle.hfs_model.specs.Volume.{Volume}
-use Rattle.hfs_model.specs.Runs.{run}
 use Rattle.hfs_model.proofs.Runs.{run_turn, at_err}
 use Rattle.hfs_model.proofs.store.Store.run.Goals as goal
 
