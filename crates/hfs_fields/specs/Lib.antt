@@ -9,3 +9,5 @@ pub mod Keys
 pub mod Records
 pub mod RecordForms
 pub mod Counts
+pub mod Laid
+pub mod MdbForm

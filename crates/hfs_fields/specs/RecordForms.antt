@@ -2,14 +2,14 @@
 use Rattle.std.proofs.Common.{◌≡◌, ℕ, ◌+◌, ◌-◌, ◌^◌, ◌<◌, ◌≤◌, true, List, [], ◌∷◌, ◌++◌, length, take, drop, replicate, refl, sym, ap, ◌∙◌, arith}
 use Rattle.std.specs.Prelude.{nat_le, ◌==◌, ◌&&◌, ◌||◌, slice_index}
 use Rattle.std.specs.List.{All, flat_map}
-use Rattle.std.proofs.lemmas.List.{append_assoc, append-nil, take_at, drop_at, drop-drop, get_or-drop, length-append, length-replicate}
+use Rattle.std.proofs.lemmas.List.{append-nil, take_at, get_or-drop, length-append, length-replicate}
 use Rattle.std.proofs.lemmas.Bool.{le-leb}
-use Rattle.byteorder.specs.Endian.{big_bytes, big_number}
-use Rattle.byteorder.specs.Numbers.{big_number-reads_back}
-use Rattle.hfs_fields.specs.Numbers.{number_at}
-use Rattle.hfs_fields.specs.Mdb.{bytes_at, extent_at, extents_at}
+use Rattle.std.proofs.lemmas.Bool.Decides.{nat_tests}
+use Rattle.byteorder.specs.Endian.{big_bytes}
+use Rattle.hfs_fields.specs.Laid.{behind, next, number-read, bytes-read, laid, row, laid-append}
+use Rattle.hfs_fields.specs.Mdb.{extent_at, extents_at}
 use Rattle.hfs_fields.specs.Keys.{name_len, name_at}
-use Rattle.hfs_fields.specs.Records.{is_dir, is_file, begins_dir, dir_record_of, begins_file, fork_at, file_record_of, begins_thread, thread_kind_of, thread_record_of}
+use Rattle.hfs_fields.specs.Records.{is_dir, is_file, is_thread, has_short_name, begins_dir, dir_record_of, begins_file, fork_at, file_record_of, begins_thread, thread_kind_of, thread_record_of}
 use Rattle.hfs_fields.specs.declared.extent.Extent.{Extent}
 use Rattle.hfs_fields.specs.declared.dir_record.DirRecord.{DirRecord}
 use Rattle.hfs_fields.specs.declared.file_flags.FileFlags.{FileFlags}
@@ -18,37 +18,6 @@ use Rattle.hfs_fields.specs.declared.file_record.ForkRecord.{ForkRecord}
 use Rattle.hfs_fields.specs.declared.thread_record.ThreadKind.{ThreadKind}
 use Rattle.hfs_fields.specs.declared.thread_record.ThreadKind.TheVariants.{Folder, File}
 use Rattle.hfs_fields.specs.declared.thread_record.ThreadRecord.{ThreadRecord}
-
--- what is behind a place further on
-behind : (i k : ℕ) (w t : List ℕ) → drop i w ≡ t → drop (i + k) w ≡ drop k t
-behind i k w t h = sym (drop-drop k i w) ∙ ap (λ (bytes : List ℕ). drop k bytes) h
-
--- a number that stands at a place is read there
-number-read : (i n x : ℕ) (w rest : List ℕ) → drop i w ≡ big_bytes n x ++ rest → x < 256 ^ n → number_at i n w ≡ x
-unfolding number_at
-number-read i n x w rest h small = ap (λ (bytes : List ℕ). big_number n bytes) h ∙ big_number-reads_back n x rest small
-
--- bytes that stand at a place are read there
-bytes-read : (i n : ℕ) (xs w rest : List ℕ) → drop i w ≡ xs ++ rest → length xs ≡ n → bytes_at i n w ≡ xs
-bytes-read i n xs w rest h whole = ap (λ (bytes : List ℕ). take n bytes) h ∙ take_at xs rest n whole
-
--- what follows a piece that stands at a place
-next : (i n : ℕ) (xs w rest : List ℕ) → drop i w ≡ xs ++ rest → length xs ≡ n → drop (i + n) w ≡ rest
-next i n xs w rest h whole = behind i n w (xs ++ rest) h ∙ drop_at xs rest n whole
-
--- pieces laid one behind the other, from the first or from the last
-laid : List ℕ → List (List ℕ) → List ℕ
-laid done [] = done
-laid done (piece ∷ pieces) = laid (done ++ piece) pieces
-
-row : List (List ℕ) → List ℕ → List ℕ
-row [] rest = rest
-row (piece ∷ pieces) rest = piece ++ row pieces rest
-
-laid-append : (done : List ℕ) (pieces : List (List ℕ)) (rest : List ℕ) → laid done pieces ++ rest ≡ done ++ row pieces rest
-unfolding laid row
-laid-append done [] rest = refl
-laid-append done (piece ∷ pieces) rest = laid-append (done ++ piece) pieces rest ∙ append_assoc done piece (row pieces rest)
 
 -- ---- extents
 
@@ -411,3 +380,17 @@ begins_thread-written thread rest ok =
     let len = thread-name-length thread (thread_record_bytes thread ++ rest) _ (thread-behind thread rest ok) in
     let short = ap (λ (n : ℕ). nat_le n 31) len ∙ le-leb (length thread.name) 31 ok.name in
     λ i. long i && kind i && short i
+
+-- ---- bodies of exactly a record's length
+
+pub begins_dir-body : (body : List ℕ) → is_dir body ≡ true → begins_dir body ≡ true
+unfolding begins_dir
+begins_dir-body body h = grind (arith, nat_tests)
+
+pub begins_file-body : (body : List ℕ) → is_file body ≡ true → begins_file body ≡ true
+unfolding begins_file
+begins_file-body body h = grind (arith, nat_tests)
+
+pub begins_thread-body : (body : List ℕ) → is_thread body ≡ true → has_short_name body ≡ true → begins_thread body ≡ true
+unfolding begins_thread
+begins_thread-body body h k = grind (arith, nat_tests)

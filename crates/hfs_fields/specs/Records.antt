@@ -44,8 +44,11 @@ unfoldable pub begins_file : List ℕ → Bool
 begins_file bytes = nat_le 102 (length bytes) && (type_byte bytes == 2)
 
 -- the name of a thread has a length byte at place 14
+abbrev pub has_short_name : List ℕ → Bool
+has_short_name bytes = nat_le (name_len 14 bytes) 31
+
 unfoldable pub begins_thread : List ℕ → Bool
-begins_thread bytes = nat_le 46 (length bytes) && ((type_byte bytes == 3) || (type_byte bytes == 4)) && nat_le (name_len 14 bytes) 31
+begins_thread bytes = nat_le 46 (length bytes) && ((type_byte bytes == 3) || (type_byte bytes == 4)) && has_short_name bytes
 
 -- ---- the fields
 

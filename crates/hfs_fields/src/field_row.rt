@@ -5,11 +5,11 @@ ghost use Rattle.byteorder.specs.Endian.{big_bytes};
 use byteorder::{BigEndian, ByteOrder};
 use std::marker::Model;
 
-/// The fields that are laid so far, at most 102 bytes. It takes no memory.
+/// The fields that are laid so far, at most 162 bytes, as many as a master directory block has. It takes no memory.
 #[derive(Drop)]
 pub(crate) struct FieldRow {
     length: usize,
-    bytes: [u8; 102],
+    bytes: [u8; 162],
 }
 
 impl Model for FieldRow {
@@ -19,7 +19,7 @@ impl Model for FieldRow {
 
     ghost view = { λ row. take row.length row.bytes };
 
-    ghost invariant = { λ row. row.length ≤ 102 };
+    ghost invariant = { λ row. row.length ≤ 162 };
 }
 
 impl FieldRow {
@@ -28,13 +28,13 @@ impl FieldRow {
     {
         FieldRow {
             length: 0,
-            bytes: [0; 102],
+            bytes: [0; 162],
         }
     }
 
     /// Lays bytes.
     pub(crate) fn push(&mut self, field: &[u8])
-        requires { length self.old + length field.now ≤ 102 }
+        requires { length self.old + length field.now ≤ 162 }
         ensures bytes { self.new ≡ self.old ++ field.now }
         ensures length { length self.new ≡ length self.old + length field.now }
     {
@@ -46,7 +46,7 @@ impl FieldRow {
 
     /// Lays a number of one byte.
     pub(crate) fn push_u8(&mut self, field: u8)
-        requires { length self.old + 1 ≤ 102 }
+        requires { length self.old + 1 ≤ 162 }
         ensures bytes { self.new ≡ self.old ++ field ∷ [] }
         ensures length { length self.new ≡ length self.old + 1 }
         ensures range { field < 256 }
@@ -56,7 +56,7 @@ impl FieldRow {
 
     /// Lays a number of two bytes.
     pub(crate) fn push_u16(&mut self, field: u16)
-        requires { length self.old + 2 ≤ 102 }
+        requires { length self.old + 2 ≤ 162 }
         ensures bytes { self.new ≡ self.old ++ big_bytes 2 field }
         ensures length { length self.new ≡ length self.old + 2 }
         ensures range { field < 2 ^ 16 }
@@ -68,7 +68,7 @@ impl FieldRow {
 
     /// Lays a number of four bytes.
     pub(crate) fn push_u32(&mut self, field: u32)
-        requires { length self.old + 4 ≤ 102 }
+        requires { length self.old + 4 ≤ 162 }
         ensures bytes { self.new ≡ self.old ++ big_bytes 4 field }
         ensures length { length self.new ≡ length self.old + 4 }
         ensures range { field < 2 ^ 32 }
@@ -80,7 +80,7 @@ impl FieldRow {
 
     /// Lays zero bytes.
     pub(crate) fn push_zeros(&mut self, count: usize)
-        requires room { length self.old + count ≤ 102 }
+        requires room { length self.old + count ≤ 162 }
         requires few { count ≤ 31 }
         ensures bytes { self.new ≡ self.old ++ replicate count 0 }
         ensures length { length self.new ≡ length self.old + count }
@@ -91,7 +91,7 @@ impl FieldRow {
 
     /// Lays the fields of another row.
     pub(crate) fn push_row(&mut self, fields: &FieldRow)
-        requires { length self.old + length fields.now ≤ 102 }
+        requires { length self.old + length fields.now ≤ 162 }
         ensures bytes { self.new ≡ self.old ++ fields.now }
         ensures length { length self.new ≡ length self.old + length fields.now }
     {

@@ -1,4 +1,4 @@
-//! Numbers, records, keys and names of an HFS volume, read from its bytes.
+//! Numbers, records, keys and names of an HFS volume, read from its bytes and written to them.
 #![tactic(auto)]
 
 mod attributes;

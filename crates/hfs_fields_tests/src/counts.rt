@@ -1,4 +1,4 @@
-//! The counts of a master directory block.
+//! A master directory block as it is written, whole and its counts alone.
 ghost use Rattle.std.specs.Prelude.{◌+◌, ◌≤◌, length};
 
 use hfs_fields::Mdb;
@@ -43,4 +43,20 @@ fn counts(rt: HostRuntime) {
     mdb.write_count = 0x1718_191a;
     mdb.write_counts(&mut block);
     assert_eq!(rt; block, new_block());
+}
+
+/// A block whose first 162 bytes are the numbers from 1 on.
+fn numbered_block() -> [u8; 512] {
+    let mut block = old_block();
+    for (byte, number) in block.iter_mut().zip(1..163) {
+        *byte = number;
+    }
+    block
+}
+
+#[test]
+fn whole_block(rt: HostRuntime) {
+    let mut block = old_block();
+    Mdb::read(&numbered_block()).write(&mut block);
+    assert_eq!(rt; block, numbered_block());
 }

@@ -29,7 +29,7 @@ fn catalog_key_in_a_leaf(rt: HostRuntime) {
     );
 }
 
-/// A record of a leaf: the key of the root's thread, a byte that fills it up, and a body of so many zeros at most.
+/// 54 zero bytes but for the key's length: behind a key that ends at place 7 or 8 there are 46 bytes for a body.
 fn thread_record(length: u8) -> [u8; 54] {
     let mut bytes = [0; 54];
     bytes[0] = length;
