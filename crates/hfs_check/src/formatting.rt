@@ -63,10 +63,15 @@ fn volume_image(alloc: Global, volume: &Layout) -> Result<Vec<u8>, AllocError>
     Ok(image)
 }
 
-/// The image of a new volume, `512 * plan.blocks` bytes: the blocks of the plan's layout, whose bytes are 0 where
-/// nothing names them. The extents tree is empty, and the catalog has the root folder and its thread.
+/// The image of a new volume, `512 * plan.blocks` bytes: two empty boot blocks, the master directory block, the bitmap,
+/// the extents file with an empty tree, the catalog file with the root folder and its thread, and the alternate master
+/// directory block in the last block but one. Each byte that these don't name is 0. All dates are `plan.now`.
 ///
-/// The faults are asked in the order of `FormatFault`. `FormatFault::Memory` comes only where memory was refused.
+/// Errors: the first of `BadName`, `BadSize`, `BadNodes` and `NoRoom` that the plan has, as `FormatFault` says, before
+/// any memory is asked for; `Memory` only where memory was refused.
+///
+/// Source: the format of each part is that of Inside Macintosh: Files, chapter 2, "Data Organization on Volumes"; where
+/// the parts lie is this project's own choice.
 #[tactic(auto, unfolding(crate::specs::Plan::layout_of))]
 pub fn format(alloc: Global, plan: FormatPlan) -> Result<Vec<u8>, FormatFault>
     ensures image { IfOk result (λ image. (format_fault plan ≡ None) × (image.items ≡ spec.new_image plan)) }
