@@ -4,7 +4,8 @@ use Rattle.std.specs.List.{flat_map, range_with_len}
 use Rattle.hfs_check.specs.declared.plan.FormatPlan.{FormatPlan}
 use Rattle.hfs_check.specs.declared.layout.Layout.{Layout}
 use Rattle.hfs_check.specs.Plan.{layout_of, used_blocks}
-use Rattle.hfs_check.specs.NewMdb.{new_mdb, mdb_bytes}
+use Rattle.hfs_check.specs.MdbBytes.{mdb_bytes}
+use Rattle.hfs_check.specs.NewMdb.{new_mdb}
 use Rattle.hfs_check.specs.BitRow.{bit_row}
 use Rattle.hfs_check.specs.NewTrees.{empty_tree, one_leaf_tree, header_node, root_leaf, node_bytes}
 

@@ -1,4 +1,5 @@
 pub mod Plan
+pub mod MdbBytes
 pub mod NewMdb
 pub mod BitRow
 pub mod NewTrees

@@ -1,13 +1,9 @@
 -- The master directory block of a new volume.
 use Rattle.std.specs.Prelude.{ℕ, ◌-◌, ◌*◌, List, [], ◌∷◌, ◌++◌, length, replicate}
-use Rattle.byteorder.specs.Endian.{big_bytes}
-use Rattle.hfs_fields.specs.RecordForms.{extents_bytes}
 use Rattle.hfs_fields.specs.declared.extent.Extent.{Extent}
 use Rattle.hfs_fields.specs.declared.mdb.Mdb.{Mdb}
 use Rattle.hfs_check.specs.declared.layout.Layout.{Layout}
 use Rattle.hfs_check.specs.Plan.{used_blocks}
-
--- ---- its fields
 
 abbrev pub no_extent : Extent
 no_extent = record { first = 0; count = 0 }
@@ -54,28 +50,3 @@ new_mdb volume = record {
   catalog_file_size = 512 * volume.catalog.nodes;
   catalog_file = one_run volume.extents.blocks volume.catalog.blocks;
 }
-
--- ---- its bytes
-
--- the fields of the volume, bytes 0 to 63
-unfoldable pub volume_field_bytes : Mdb → List ℕ
-volume_field_bytes mdb =
-    big_bytes 2 mdb.signature ++ big_bytes 4 mdb.created ++ big_bytes 4 mdb.modified ++ big_bytes 2 mdb.attributes.0 ++ big_bytes 2 mdb.root_files
-    ++ big_bytes 2 mdb.bitmap_start ++ big_bytes 2 mdb.allocation_pointer ++ big_bytes 2 mdb.allocation_blocks ++ big_bytes 4 mdb.allocation_block_size
-    ++ big_bytes 4 mdb.clump_size ++ big_bytes 2 mdb.allocation_start ++ big_bytes 4 mdb.next_id ++ big_bytes 2 mdb.free_blocks ++ mdb.volume_name
-
--- backups, clump sizes and counts, bytes 64 to 129
-unfoldable pub count_field_bytes : Mdb → List ℕ
-count_field_bytes mdb =
-    big_bytes 4 mdb.backup ++ big_bytes 2 mdb.backup_sequence ++ big_bytes 4 mdb.write_count ++ big_bytes 4 mdb.extents_clump_size
-    ++ big_bytes 4 mdb.catalog_clump_size ++ big_bytes 2 mdb.root_folders ++ big_bytes 4 mdb.files ++ big_bytes 4 mdb.folders ++ mdb.finder_info
-    ++ big_bytes 2 mdb.cache_size ++ big_bytes 2 mdb.bitmap_cache_size ++ big_bytes 2 mdb.control_cache_size
-
--- the files of the two trees, bytes 130 to 161
-unfoldable pub file_field_bytes : Mdb → List ℕ
-file_field_bytes mdb =
-    big_bytes 4 mdb.extents_file_size ++ extents_bytes mdb.extents_file ++ big_bytes 4 mdb.catalog_file_size ++ extents_bytes mdb.catalog_file
-
--- the whole block
-unfoldable pub mdb_bytes : Mdb → List ℕ
-mdb_bytes mdb = volume_field_bytes mdb ++ count_field_bytes mdb ++ file_field_bytes mdb ++ replicate 350 0

@@ -1,6 +1,6 @@
 -- The nodes of a new volume's trees.
-use Rattle.std.specs.Prelude.{ℕ, ◌+◌, ◌-◌, List, [], ◌∷◌, ◌++◌, length, replicate, reverse}
-use Rattle.std.specs.List.{flat_map, range_with_len}
+use Rattle.std.specs.Prelude.{ℕ, zero, suc, ◌-◌, List, [], ◌∷◌, ◌++◌, length, replicate}
+use Rattle.std.specs.List.{flat_map}
 use Rattle.byteorder.specs.Endian.{big_bytes}
 use Rattle.hfs_fields.specs.KeyForms.{cat_leaf_bytes}
 use Rattle.hfs_fields.specs.Records.{new_dir, new_thread}
@@ -28,9 +28,14 @@ unfoldable pub descriptor_bytes : Node → List ℕ
 descriptor_bytes node =
     big_bytes 4 node.forward ++ big_bytes 4 node.backward ++ type_byte node.kind ∷ node.height ∷ [] ++ big_bytes 2 (length node.records) ++ replicate 2 0
 
--- where the records and the free space begin, the last first
-unfoldable pub offset_bytes : List (List ℕ) → List ℕ
-offset_bytes records = flat_map (λ k. big_bytes 2 (start_of records k)) (reverse (range_with_len 0 (length records + 1)))
+-- where record k begins, the record before it, and so on to the first
+unfoldable pub offsets_down : List (List ℕ) → ℕ → List ℕ
+offsets_down records zero = big_bytes 2 (start_of records zero)
+offsets_down records (suc k) = big_bytes 2 (start_of records (suc k)) ++ offsets_down records k
+
+-- the row of offsets: first that of the free space, last that of the first record
+abbrev pub offset_bytes : List (List ℕ) → List ℕ
+offset_bytes records = offsets_down records (length records)
 
 -- a node that fits, in 512 bytes: its descriptor, the records one behind the other, zeros, and the offsets
 unfoldable pub node_bytes : Node → List ℕ

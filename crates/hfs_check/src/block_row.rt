@@ -1,5 +1,5 @@
 //! The bytes of a block while its fields are laid one behind the other.
-ghost use Rattle.std.specs.Prelude.{◌≡◌, ◌+◌, ◌-◌, ◌≤◌, [], ◌∷◌, ◌++◌, length, replicate};
+ghost use Rattle.std.specs.Prelude.{◌≡◌, ◌+◌, ◌^◌, ◌<◌, ◌≤◌, [], ◌∷◌, ◌++◌, length, replicate};
 ghost use Rattle.byteorder.specs.Endian.{big_bytes};
 
 use byteorder::{BigEndian, ByteOrder};
@@ -65,6 +65,7 @@ impl BlockRow {
         requires { length self.old + 2 ≤ 512 }
         ensures bytes { self.new ≡ self.old ++ big_bytes 2 field }
         ensures length { length self.new ≡ length self.old + 2 }
+        ensures range { field < 2 ^ 16 }
     {
         let mut bytes = [0; 2];
         BigEndian::write_u16(&mut bytes, field);
@@ -76,6 +77,7 @@ impl BlockRow {
         requires { length self.old + 4 ≤ 512 }
         ensures bytes { self.new ≡ self.old ++ big_bytes 4 field }
         ensures length { length self.new ≡ length self.old + 4 }
+        ensures range { field < 2 ^ 32 }
     {
         let mut bytes = [0; 4];
         BigEndian::write_u32(&mut bytes, field);

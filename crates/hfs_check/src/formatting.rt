@@ -1,5 +1,5 @@
 //! Images of new volumes.
-ghost use Rattle.std.specs.Prelude.{◌≡◌, ◌+◌, ◌*◌, ◌-◌, ◌<◌, ◌≤◌, ◌⊎◌, None, Some, IfOk, IfErr};
+ghost use Rattle.std.specs.Prelude.{vec_len, ◌≡◌, ◌+◌, ◌*◌, ◌-◌, ◌<◌, ◌≤◌, ◌⊎◌, None, Some, IfOk, IfErr};
 ghost use Rattle.hfs_check.specs.BitRow.{bit_row};
 ghost use Rattle.hfs_check.specs.Plan.{IsLayout, used_blocks, format_fault};
 ghost use Rattle.hfs_check.specs.Image as spec;
@@ -53,7 +53,8 @@ fn new_block(volume: &Layout, k: u32) -> [u8; 512]
 #[tactic(auto, unfolding(crate::specs::Image::volume_image))]
 fn volume_image(alloc: Global, volume: &Layout) -> Result<Vec<u8>, AllocError>
     requires { IsLayout volume.now }
-    ensures { IfOk result (λ image. image.items ≡ spec.volume_image volume.now) }
+    ensures bytes { IfOk result (λ image. image.items ≡ spec.volume_image volume.now) }
+    ensures len { IfOk result (λ image. vec_len image ≡ 512 * volume.now.blocks) }
 {
     let mut image = Vec::with_capacity(alloc, 512 * volume.blocks as usize)?;
     for k in 0..volume.blocks {
@@ -62,12 +63,19 @@ fn volume_image(alloc: Global, volume: &Layout) -> Result<Vec<u8>, AllocError>
     Ok(image)
 }
 
-/// The image of a new volume, `512 * plan.blocks` bytes: the blocks of the plan's layout, whose bytes are 0 where
-/// nothing names them. The extents tree is empty, and the catalog has the root folder and its thread.
+/// The image of a new volume, `512 * plan.blocks` bytes: two empty boot blocks, the master directory block, the bitmap,
+/// the extents file with an empty tree, the catalog file with the root folder and its thread, and the alternate master
+/// directory block in the last block but one. Each byte that these don't name is 0. All dates are `plan.now`.
 ///
-/// The faults are asked in the order of `FormatFault`. `FormatFault::Memory` comes only where memory was refused.
+/// Errors: the first of `BadName`, `BadSize`, `BadNodes` and `NoRoom` that the plan has, as `FormatFault` says, before
+/// any memory is asked for; `Memory` only where memory was refused.
+///
+/// Source: the format of each part is that of Inside Macintosh: Files, chapter 2, "Data Organization on Volumes"; where
+/// the parts lie is this project's own choice.
+#[tactic(auto, unfolding(crate::specs::Plan::layout_of))]
 pub fn format(alloc: Global, plan: FormatPlan) -> Result<Vec<u8>, FormatFault>
     ensures image { IfOk result (λ image. (format_fault plan ≡ None) × (image.items ≡ spec.new_image plan)) }
+    ensures len { IfOk result (λ image. vec_len image ≡ 512 * plan.blocks) }
     ensures fault { IfErr result (λ fault. ((fault ≡ FormatFault.Memory) × (format_fault plan ≡ None)) ⊎ (format_fault plan ≡ Some fault)) }
 {
     let volume = Layout::of(&plan)?;

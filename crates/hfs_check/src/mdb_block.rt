@@ -1,7 +1,10 @@
 //! The master directory block of a new volume (Inside Macintosh: Files, chapter 2, "Master Directory Blocks").
-ghost use Rattle.std.specs.Prelude.{◌≡◌, ◌+◌, ◌-◌, ◌≤◌, ◌++◌, length, replicate};
-ghost use Rattle.hfs_fields.specs.RecordForms.{extents_bytes};
+ghost use Rattle.std.specs.Prelude.{◌≡◌, ◌+◌, ◌-◌, ◌≤◌, ◌++◌, length, replicate, take};
+ghost use Rattle.hfs_fields.specs.RecordForms.{AreExtentValues, extents_bytes};
+ghost use Rattle.hfs_fields.specs.Mdb.{mdb_of};
+ghost use Rattle.hfs_check.specs.MdbBytes.{AreVolumeFields, AreCountFields, AreFileFields};
 ghost use Rattle.hfs_check.specs.Plan.{IsLayout};
+ghost use Rattle.hfs_check.specs.MdbBytes as bytes;
 ghost use Rattle.hfs_check.specs.NewMdb as spec;
 
 use crate::block_row::BlockRow;
@@ -82,10 +85,11 @@ fn new_mdb(volume: &Layout) -> Mdb
 }
 
 /// Bytes 0 to 63: what the volume is.
-#[tactic(auto, unfolding(crate::specs::NewMdb::volume_field_bytes))]
+#[tactic(auto, unfolding(crate::specs::MdbBytes::volume_field_bytes))]
 fn volume_fields(mdb: &Mdb) -> BlockRow
-    ensures bytes { result ≡ spec.volume_field_bytes mdb.now }
+    ensures bytes { result ≡ bytes.volume_field_bytes mdb.now }
     ensures length { length result ≡ 64 }
+    ensures values { AreVolumeFields mdb.now }
 {
     let mut row = BlockRow::new();
     row.push_u16(mdb.signature);
@@ -106,10 +110,11 @@ fn volume_fields(mdb: &Mdb) -> BlockRow
 }
 
 /// Bytes 64 to 129: backups, clump sizes and counts.
-#[tactic(auto, unfolding(crate::specs::NewMdb::count_field_bytes))]
+#[tactic(auto, unfolding(crate::specs::MdbBytes::count_field_bytes))]
 fn count_fields(mdb: &Mdb) -> BlockRow
-    ensures bytes { result ≡ spec.count_field_bytes mdb.now }
+    ensures bytes { result ≡ bytes.count_field_bytes mdb.now }
     ensures length { length result ≡ 66 }
+    ensures values { AreCountFields mdb.now }
 {
     let mut row = BlockRow::new();
     row.push_u32(mdb.backup);
@@ -132,6 +137,7 @@ fn push_extents(row: &mut BlockRow, extents: &[Extent; 3])
     requires { length row.old + 12 ≤ 512 }
     ensures bytes { row.new ≡ row.old ++ extents_bytes extents.now }
     ensures length { length row.new ≡ length row.old + 12 }
+    ensures values { AreExtentValues extents.now }
 {
     let mut bytes = [0; 12];
     Extent::write_record(extents, &mut bytes);
@@ -139,10 +145,11 @@ fn push_extents(row: &mut BlockRow, extents: &[Extent; 3])
 }
 
 /// Bytes 130 to 161: the files of the two trees.
-#[tactic(auto, unfolding(crate::specs::NewMdb::file_field_bytes))]
+#[tactic(auto, unfolding(crate::specs::MdbBytes::file_field_bytes))]
 fn file_fields(mdb: &Mdb) -> BlockRow
-    ensures bytes { result ≡ spec.file_field_bytes mdb.now }
+    ensures bytes { result ≡ bytes.file_field_bytes mdb.now }
     ensures length { length result ≡ 32 }
+    ensures values { AreFileFields mdb.now }
 {
     let mut row = BlockRow::new();
     row.push_u32(mdb.extents_file_size);
@@ -153,9 +160,10 @@ fn file_fields(mdb: &Mdb) -> BlockRow
 }
 
 /// A block with these fields, and zeros behind them.
-#[tactic(auto, unfolding(crate::specs::NewMdb::mdb_bytes))]
+#[tactic(auto, unfolding(crate::specs::MdbBytes::mdb_bytes))]
 fn block_of(mdb: &Mdb) -> [u8; 512]
-    ensures { result ≡ spec.mdb_bytes mdb.now }
+    ensures bytes { result ≡ bytes.mdb_bytes mdb.now }
+    ensures back { mdb_of (take 162 result) ≡ mdb.now }
 {
     let mut row = volume_fields(mdb);
     row.push_row(&count_fields(mdb));
@@ -167,7 +175,8 @@ fn block_of(mdb: &Mdb) -> [u8; 512]
 /// The master directory block of a new volume, and its alternate.
 pub fn mdb_block(volume: &Layout) -> [u8; 512]
     requires { IsLayout volume.now }
-    ensures { result ≡ spec.mdb_bytes (spec.new_mdb volume.now) }
+    ensures bytes { result ≡ bytes.mdb_bytes (spec.new_mdb volume.now) }
+    ensures back { mdb_of (take 162 result) ≡ spec.new_mdb volume.now }
 {
     block_of(&new_mdb(volume))
 }

@@ -133,7 +133,7 @@ fn small_volumes_have_their_bytes(rt: HostRuntime) -> Result<(), Fail> {
 }
 
 /// Whether a block of the image has these bytes at a place.
-fn has(image: &Vec<u8>, block: usize, at: usize, bytes: &[u8]) -> bool
+fn has(image: &[u8], block: usize, at: usize, bytes: &[u8]) -> bool
     requires block { block < 65536 }
     requires place { at < 512 }
 {

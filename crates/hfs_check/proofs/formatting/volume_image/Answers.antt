@@ -1,8 +1,13 @@
-use Rattle.std.proofs.Common.{sym, ◌++◌, ◌∙◌}
+use Rattle.std.proofs.Common.{sym, ◌++◌, ◌∙◌, arith}
 use Rattle.hfs_check.specs.Image.{new_block}
 use Rattle.hfs_check.proofs.Blocks.{flat_map-range-more}
 use Rattle.hfs_check.proofs.formatting.volume_image.Goals as goal
 
 pub loop-k-preserved : goal.loop-k-preserved
 loop-k-preserved c =
-    c.in_ok-extend_from_slice.ensures.items ∙ (λ i. c.loop-k.invariant i ++ c.new_block.ensures i) ∙ sym (flat_map-range-more (new_block c.args.volume.now) c.loop-k.k)
+    record {
+      bytes =
+          c.in_ok-extend_from_slice.ensures.items ∙ (λ i. c.loop-k.invariant.bytes i ++ c.new_block.ensures i)
+          ∙ sym (flat_map-range-more (new_block c.args.volume.now) c.loop-k.k);
+      len = omega (arith, c.in_ok-extend_from_slice.ensures.len);
+    }
