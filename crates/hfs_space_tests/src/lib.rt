@@ -1,0 +1,9 @@
+//! Tests of the bitmap and of forks, on volumes that are laid by hand.
+#![tactic(auto)]
+
+#[cfg(test)]
+mod bitmaps;
+#[cfg(test)]
+mod forks;
+#[cfg(test)]
+mod laid;
