@@ -17,8 +17,8 @@ use Rattle.hfs_catalog.specs.Items.{Contents, item_of, items_in, children_in}
 -- ---- scans
 
 -- a scan finds nothing exactly where each element passes
-abbrev pub ScansAreWhole : Type 1
-ScansAreWhole = (X : Type 0) (test : List X → X → Bool) (xs : List X) → (first_failing test [] xs ≡ None) ↔ EachPasses test xs
+abbrev pub ScansAreWhole : Type 0 → Type 0
+ScansAreWhole X = (test : List X → X → Bool) (xs : List X) → (first_failing test [] xs ≡ None) ↔ EachPasses test xs
 
 -- what it finds fails, and each element before it passes
 pub record IsFirst {X : Type 0} (test : List X → X → Bool) (xs : List X) (i : ℕ) : Type 0 where
@@ -26,8 +26,8 @@ pub record IsFirst {X : Type 0} (test : List X → X → Bool) (xs : List X) (i 
   pub fails : (d : X) → test (take i xs) (slice_index_or xs i d) ≡ false
   pub before : (k : ℕ) → k < i → PassesAt test xs k
 
-abbrev pub ScansAreFirst : Type 1
-ScansAreFirst = (X : Type 0) (test : List X → X → Bool) (xs : List X) (i : ℕ) → first_failing test [] xs ≡ Some i → IsFirst test xs i
+abbrev pub ScansAreFirst : Type 0 → Type 0
+ScansAreFirst X = (test : List X → X → Bool) (xs : List X) (i : ℕ) → first_failing test [] xs ≡ Some i → IsFirst test xs i
 
 -- ---- chains of parents
 

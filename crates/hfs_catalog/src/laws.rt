@@ -4,13 +4,13 @@ ghost use Rattle.hfs_catalog.specs.Laws.{ScansAreWhole, ScansAreFirst, ReachesSo
 use hfs_model::children_are_one;
 
 /// A scan finds nothing exactly where each element passes the test.
-pub fn scans_are_whole()
-    ensures { ScansAreWhole }
+pub fn scans_are_whole<X>()
+    ensures { ScansAreWhole X }
 {}
 
 /// What a scan finds is the place of the first element that fails the test.
-pub fn scans_are_first()
-    ensures { ScansAreFirst }
+pub fn scans_are_first<X>()
+    ensures { ScansAreFirst X }
 {}
 
 /// A chain of parents that reaches the root at all does so in no more steps than there are records.

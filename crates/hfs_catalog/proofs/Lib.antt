@@ -1,0 +1,5 @@
+pub mod Scans
+pub mod Tests
+pub mod Checks
+pub mod Reach
+pub mod Ids
