@@ -3,3 +3,6 @@ pub mod Tests
 pub mod Checks
 pub mod Reach
 pub mod Ids
+pub mod Places
+pub mod Held
+pub mod Lawful
