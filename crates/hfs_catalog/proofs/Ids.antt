@@ -22,7 +22,7 @@ some_none x e = cc
 
 -- ---- an ID is new where no record before has it
 
-abbrev Differs : Record → Record → Type 0
+abbrev pub Differs : Record → Record → Type 0
 Differs earlier r = is_item r.1 ≡ true → has_id (item_id r.1) earlier ≡ true → ⊥
 
 abbrev is_new : Catalog → Record → Bool

@@ -6,3 +6,4 @@ pub mod Ids
 pub mod Places
 pub mod Held
 pub mod Lawful
+pub mod Children

@@ -63,5 +63,4 @@ pub fn records_are_children()
     ensures { RecordsAreChildren }
 {
     children_are_one();
-    sound_is_lawful();
 }
