@@ -7,3 +7,4 @@ pub mod Keys
 pub mod Elements
 pub mod Lookups
 pub mod Search
+pub mod Walk

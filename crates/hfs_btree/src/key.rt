@@ -1,10 +1,11 @@
 //! What a tree asks of its keys.
 
-ghost use Rattle.std.specs.Prelude.{◌≡◌, ℕ, ◌≤◌, Bool, true, List, IfSome, IsTrue, length, drop};
+ghost use Rattle.std.specs.Prelude.{◌≡◌, ℕ, ◌≤◌, Bool, true, List, IfOk, IfSome, IsTrue, length, drop};
 ghost use Rattle.std.specs.Option.{SomeIff};
 ghost use Rattle.std.specs.Cmp.{IsTotalOrder};
 ghost use Rattle.std.specs.declared.cmp.Ordering.{Ordering};
 
+use std::alloc::{AllocError, Global};
 use std::cmp::Ordering;
 
 /// A key of a tree, in the form that it has in a leaf and in the form that it has in an index node.
@@ -52,6 +53,19 @@ pub trait Key: Copy {
     /// The key and the child of an index node's record. None exactly where the bytes are no record of an index node.
     fn read_index(bytes: &[u8]) -> Option<(Self, u32)>
         ensures { SomeIff result (IsTrue (is_index bytes.now)) (index_key bytes.now, child bytes.now) };
+
+    /// The record of a leaf that has this key and this body.
+    fn leaf_record(&self, alloc: Global, body: &[u8]) -> Result<Vec<u8>, AllocError>
+        requires { IsTrue (is_body_len (length body.now)) }
+        ensures leaf { IfOk result (λ made. IsTrue (is_leaf made.items)) }
+        ensures key { IfOk result (λ made. leaf_key made.items ≡ self.now) }
+        ensures body { IfOk result (λ made. drop (body_start made.items) made.items ≡ body.now) };
+
+    /// The record of an index node that has this key and this child.
+    fn index_record(&self, alloc: Global, node: u32) -> Result<Vec<u8>, AllocError>
+        ensures index { IfOk result (λ made. IsTrue (is_index made.items)) }
+        ensures key { IfOk result (λ made. index_key made.items ≡ self.now) }
+        ensures child { IfOk result (λ made. child made.items ≡ node) };
 
     ghost total: { IsTotalOrder compare };
 

@@ -1,12 +1,34 @@
 //! The keys of the catalog tree and of the extents tree.
 
-ghost use Rattle.std.specs.Prelude.{◌≡◌, ◌==◌};
+ghost use Rattle.std.specs.Prelude.{◌≡◌, ◌==◌, ◌++◌, IfOk, OnOk};
+ghost use Rattle.hfs_fields.specs.KeyForms.{cat_leaf_bytes, IsCatKeyValue};
 ghost use Rattle.hfs_fields.specs.Keys.{is_cat_leaf, cat_key_of, cat_body_start, is_cat_index, cat_child_of, is_cat_body_len, cat_cmp, cat_cmp_total, is_ext_leaf, ext_key_of, is_ext_index, ext_child_of, ext_cmp, ext_cmp_total};
 ghost use Rattle.hfs_btree.specs.Keys.{cat_allowed, cat_leaf_small, cat_index_small, ext_allowed, ext_leaf_small, ext_index_small};
 
 use crate::key::Key;
 use hfs_fields::{CatKey, ExtKey};
+use std::alloc::{AllocError, Global};
 use std::cmp::Ordering;
+
+/// The bytes and those that follow them.
+fn joined(mut head: Vec<u8>, body: &[u8]) -> Result<Vec<u8>, AllocError>
+    ensures { IfOk result (λ made. made.items ≡ head.items ++ body.now) }
+{
+    head.extend_from_slice(body)?;
+    Ok(head)
+}
+
+/// A catalog key in its leaf form.
+fn leaf_head(alloc: Global, key: &CatKey) -> Result<Vec<u8>, AllocError>
+    ensures head { IfOk result (λ made. made.items ≡ cat_leaf_bytes key.now) }
+    ensures value { OnOk result (IsCatKeyValue key.now) }
+{
+    let length = (key.name.bytes().len() + 8) / 2 * 2;
+    let mut bytes = [0; 38];
+    key.write(&mut bytes);
+    let made = Vec::from_slice(alloc, &bytes[..length])?;
+    Ok(made)
+}
 
 /// In the catalog a leaf's body is a thread's, a directory's or a file's record, of 46, 70 or 102 bytes.
 impl Key for CatKey {
@@ -44,6 +66,19 @@ impl Key for CatKey {
 
     fn read_index(bytes: &[u8]) -> Option<(Self, u32)> {
         CatKey::read_index(bytes)
+    }
+
+    fn leaf_record(&self, alloc: Global, body: &[u8]) -> Result<Vec<u8>, AllocError> {
+        let head = leaf_head(alloc, self)?;
+        let made = joined(head, body)?;
+        Ok(made)
+    }
+
+    fn index_record(&self, alloc: Global, node: u32) -> Result<Vec<u8>, AllocError> {
+        let mut bytes = [0; 42];
+        self.write_index(node, &mut bytes);
+        let made = Vec::from_slice(alloc, &bytes)?;
+        Ok(made)
     }
 
     ghost total = { cat_cmp_total };
@@ -91,6 +126,21 @@ impl Key for ExtKey {
 
     fn read_index(bytes: &[u8]) -> Option<(Self, u32)> {
         ExtKey::read_index(bytes)
+    }
+
+    fn leaf_record(&self, alloc: Global, body: &[u8]) -> Result<Vec<u8>, AllocError> {
+        let mut bytes = [0; 8];
+        self.write(&mut bytes);
+        let head = Vec::from_slice(alloc, &bytes)?;
+        let made = joined(head, body)?;
+        Ok(made)
+    }
+
+    fn index_record(&self, alloc: Global, node: u32) -> Result<Vec<u8>, AllocError> {
+        let mut bytes = [0; 12];
+        self.write_index(node, &mut bytes);
+        let made = Vec::from_slice(alloc, &bytes)?;
+        Ok(made)
     }
 
     ghost total = { ext_cmp_total };

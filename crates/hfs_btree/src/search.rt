@@ -1,17 +1,19 @@
 //! Looking up keys.
 
-ghost use Rattle.std.specs.Prelude.{◌≡◌, ℕ, ◌<◌, ◌≤◌, ◌-◌, true, List, [], Ok, IfOk, length, map, option_map, slice_index_or};
+ghost use Rattle.std.specs.Prelude.{◌≡◌, ℕ, ◌<◌, ◌≤◌, ◌-◌, true, List, [], Ok, IfOk, IfSome, length, map, option_map, slice_index_or};
 ghost use Rattle.std.specs.List.{prefix_len};
 ghost use Rattle.hfs_node.specs.Node.{node_of};
 ghost use Rattle.hfs_btree.specs.Pairs.{Each, lookup, after};
 ghost use Rattle.hfs_btree.specs.Tree.{records_of, pair_of};
 ghost use Rattle.hfs_btree.specs.Header.{header_in, record_in, depth_of, tree_content};
+ghost use Rattle.hfs_btree.specs.Lookups.{first_pair};
 ghost use Rattle.hfs_btree.specs.Search.{is_not_above, child_for, leaf_for};
 ghost use Rattle.hfs_btree.specs.Sound.{IsSound};
 
-use crate::entry::{body_of, child_of, compare_with, is_above};
+use crate::entry::{body_of, child_of, compare_with, is_above, key_of};
 use crate::header::Header;
 use crate::key::Key;
+use crate::leaf::forward_in;
 use crate::nodes::Nodes;
 use hfs_node::{NodeView, view};
 use std::alloc::{AllocError, Global};
@@ -119,6 +121,82 @@ pub fn find<K: Key, N: Nodes>(
     descend(nodes, &header, key, &mut bytes);
     match body_in(&bytes, key) {
         Some(body) => Ok(Some(Vec::from_slice(alloc, body)?)),
+        None => Ok(None),
+    }
+}
+
+/// The first record of a leaf whose key is above this one.
+fn after_in<'a, K: Key>(bytes: &'a [u8; 512], key: &K) -> Option<&'a [u8]>
+    requires { Each (λ entry. K.is_leaf entry ≡ true) (records_of (node_of bytes.now)) }
+    ensures first { option_map (λ entry. pair_of K.Key entry.now) result ≡ after K.compare key.now (map (pair_of K.Key) (records_of (node_of bytes.now))) }
+    ensures leaf { IfSome result (λ entry. K.is_leaf entry.now ≡ true) }
+{
+    let Ok(node) = view(bytes) else {
+        return None;
+    };
+    for i in 0..node.len() {
+        let entry = node.record(i);
+        let order = compare_with(key, entry);
+        if order.is_lt() {
+            return Some(entry);
+        }
+    }
+    None
+}
+
+/// The first record of a leaf.
+fn first_in<K: Key>(bytes: &[u8; 512]) -> Option<&[u8]>
+    requires { Each (λ entry. K.is_leaf entry ≡ true) (records_of (node_of bytes.now)) }
+    ensures first { option_map (λ entry. pair_of K.Key entry.now) result ≡ first_pair (map (pair_of K.Key) (records_of (node_of bytes.now))) }
+    ensures leaf { IfSome result (λ entry. K.is_leaf entry.now ≡ true) }
+{
+    let Ok(node) = view(bytes) else {
+        return None;
+    };
+    if node.is_empty() {
+        return None;
+    }
+    Some(node.record(0))
+}
+
+/// The key of a leaf's record, and a copy of its body.
+fn pair_in<K: Key>(alloc: Global, entry: &[u8]) -> Result<(K, Vec<u8>), AllocError>
+    requires { K.is_leaf entry.now ≡ true }
+    ensures { IfOk result (λ p. (p.0, p.1.items) ≡ pair_of K.Key entry.now) }
+{
+    let key = key_of(entry);
+    let body = Vec::from_slice(alloc, body_of::<K>(entry))?;
+    Ok((key, body))
+}
+
+/// The first pair whose key is above this one, or None where there is none. The key itself need not be in the tree.
+///
+/// It reads the header node, one node of each level, and at the end of a leaf the one behind it. It takes memory for
+/// the answer alone.
+pub fn next_after<K: Key, N: Nodes>(
+    alloc: Global,
+    nodes: &N,
+    key: &K,
+) -> Result<Option<(K, Vec<u8>)>, AllocError>
+    requires { IsSound K.Key (N.nodes nodes.now) }
+    ensures { IfOk result (λ found. option_map (λ p. (p.0, p.1.items)) found ≡ after K.compare key.now (tree_content K.Key (N.nodes nodes.now))) }
+{
+    let header = read_header(nodes);
+    if header.depth == 0 {
+        return Ok(None);
+    }
+    let mut bytes = [0; 512];
+    descend(nodes, &header, key, &mut bytes);
+    if let Some(entry) = after_in(&bytes, key) {
+        return Ok(Some(pair_in(alloc, entry)?));
+    }
+    let right = forward_in(&bytes);
+    if right == 0 {
+        return Ok(None);
+    }
+    nodes.read(right, &mut bytes);
+    match first_in::<K>(&bytes) {
+        Some(entry) => Ok(Some(pair_in(alloc, entry)?)),
         None => Ok(None),
     }
 }

@@ -8,3 +8,4 @@ pub mod KeyForms
 pub mod Keys
 pub mod Records
 pub mod RecordForms
+pub mod Counts

@@ -1,0 +1,98 @@
+//! Places in a leaf.
+
+ghost use Rattle.std.specs.Prelude.{◌≡◌, ℕ, ◌<◌, ◌≤◌, true, List, [], IfSome, MatchOption, length, map, drop, slice_index_or};
+ghost use Rattle.hfs_node.specs.Node.{node_of};
+ghost use Rattle.hfs_btree.specs.Pairs.{Each, pairs_from};
+ghost use Rattle.hfs_btree.specs.Tree.{records_of, forward_of, pair_of};
+ghost use Rattle.hfs_btree.specs.Sound.{IsSound};
+ghost use Rattle.hfs_btree.specs.Walk.{rest_at, IsAtLeaf, IsWalk};
+
+use crate::entry::compare_with;
+use crate::key::Key;
+use crate::nodes::Nodes;
+use hfs_node::view;
+
+/// Bytes that are no node.
+pub(crate) fn no_leaf() -> [u8; 512]
+    ensures records { records_of (node_of result) ≡ [] }
+    ensures forward { forward_of (node_of result) ≡ 0 }
+{
+    [0; 512]
+}
+
+/// How many records a node has; none where the bytes are no node.
+pub(crate) fn count_in(bytes: &[u8; 512]) -> usize
+    ensures { result ≡ length (records_of (node_of bytes.now)) }
+{
+    match view(bytes) {
+        Ok(node) => node.len(),
+        Err(_) => 0,
+    }
+}
+
+/// The next node of the level, 0 at its end.
+pub(crate) fn forward_in(bytes: &[u8; 512]) -> u32
+    ensures { result ≡ forward_of (node_of bytes.now) }
+{
+    match view(bytes) {
+        Ok(node) => node.forward(),
+        Err(_) => 0,
+    }
+}
+
+/// The record at a place, if there is one.
+pub(crate) fn entry_in(bytes: &[u8; 512], place: usize) -> Option<&[u8]>
+    ensures { MatchOption result (length (records_of (node_of bytes.now)) ≤ place)
+        (λ entry. (place < length (records_of (node_of bytes.now))) × (entry.now ≡ slice_index_or (records_of (node_of bytes.now)) place [])) }
+{
+    let Ok(node) = view(bytes) else {
+        return None;
+    };
+    if place < node.len() {
+        Some(node.record(place))
+    } else {
+        None
+    }
+}
+
+/// The place of the first record whose key isn't below this one, or behind the last.
+pub(crate) fn place_in<K: Key>(bytes: &[u8; 512], key: &K) -> usize
+    requires { Each (λ entry. K.is_leaf entry ≡ true) (records_of (node_of bytes.now)) }
+    ensures within { result ≤ length (records_of (node_of bytes.now)) }
+    ensures from { drop result (map (pair_of K.Key) (records_of (node_of bytes.now))) ≡ pairs_from K.compare key.now (map (pair_of K.Key) (records_of (node_of bytes.now))) }
+{
+    let Ok(node) = view(bytes) else {
+        return 0;
+    };
+    for i in 0..node.len() {
+        let order = compare_with(key, node.record(i));
+        if !order.is_gt() {
+            return i;
+        }
+    }
+    node.len()
+}
+
+/// Goes on to the next leaf where this one has no record from the place on. Answers the place there, and how many
+/// leaves are at most behind.
+pub(crate) fn settle<K: Key, N: Nodes>(
+    nodes: &N,
+    bytes: &mut [u8; 512],
+    place: usize,
+    most: u32,
+) -> (usize, u32)
+    requires sound { IsSound K.Key (N.nodes nodes.now) }
+    requires at { IsAtLeaf K.Key (N.nodes nodes.now) bytes.old place most }
+    ensures walk { IsWalk K.Key (N.nodes nodes.now) bytes.new result.0 result.1 }
+    ensures same { rest_at K.Key (N.nodes nodes.now) bytes.new result.0 result.1 ≡ rest_at K.Key (N.nodes nodes.now) bytes.old place most }
+{
+    if place < count_in(bytes) {
+        return (place, most);
+    }
+    let next = forward_in(bytes);
+    if next == 0 {
+        return (place, most);
+    }
+    nodes.read(next, bytes);
+    (0, most - 1)
+}

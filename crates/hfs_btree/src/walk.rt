@@ -1,0 +1,106 @@
+//! Going through the pairs of a tree in their order.
+
+ghost use Rattle.std.specs.Prelude.{◌≡◌, ◌<◌, ◌≤◌, true, length, drop, option_map};
+ghost use Rattle.hfs_node.specs.Node.{node_of};
+ghost use Rattle.hfs_btree.specs.Pairs.{pairs_from};
+ghost use Rattle.hfs_btree.specs.Tree.{records_of};
+ghost use Rattle.hfs_btree.specs.Header.{tree_content};
+ghost use Rattle.hfs_btree.specs.Lookups.{first_pair};
+ghost use Rattle.hfs_btree.specs.Sound.{IsSound};
+
+use crate::entry::{body_of, key_of};
+use crate::key::Key;
+use crate::leaf::{count_in, entry_in, no_leaf, place_in, settle};
+use crate::nodes::Nodes;
+use crate::search::{descend, read_header};
+use std::marker::{Model, PhantomData};
+
+/// A key and its body, as they stand in a leaf.
+#[derive(Clone, Copy)]
+pub struct Pair<'a, K> {
+    pub key: K,
+    pub body: &'a [u8],
+}
+
+/// A walk through the pairs of a sound tree in the order of their keys. Contracts see the pairs that are still to come.
+///
+/// It reads each leaf once, and takes no memory.
+#[derive(Drop)]
+pub struct Walk<'a, K: Key, N: Nodes> {
+    nodes: &'a N,
+    bytes: [u8; 512],
+    place: usize,
+    most: u32,
+    keys: PhantomData<K>,
+}
+
+impl<'a, K: Key, N: Nodes> Model for Walk<'a, K, N> {
+    ghost use Rattle.hfs_btree.specs.Pairs.{Pairs};
+
+    ghost Value = { Pairs K };
+
+    ghost use Rattle.hfs_btree.specs.Walk.{rest_at, IsWalk};
+
+    ghost view = { λ w. rest_at K.Key (N.nodes w.nodes.now) w.bytes w.place w.most };
+
+    ghost invariant = { λ w. IsWalk K.Key (N.nodes w.nodes.now) w.bytes w.place w.most };
+}
+
+impl<'a, K: Key, N: Nodes> Walk<'a, K, N> {
+    /// A walk from the first pair on whose key isn't below this one.
+    pub fn from(nodes: &'a N, key: &K) -> Walk<'a, K, N>
+        requires { IsSound K.Key (N.nodes nodes.now) }
+        ensures { result ≡ pairs_from K.compare key.now (tree_content K.Key (N.nodes nodes.now)) }
+    {
+        let header = read_header(nodes);
+        if header.depth == 0 {
+            return Walk {
+                nodes,
+                bytes: no_leaf(),
+                place: 0,
+                most: 0,
+                keys: PhantomData,
+            };
+        }
+        let mut bytes = [0; 512];
+        descend(nodes, &header, key, &mut bytes);
+        let first = place_in(&bytes, key);
+        let (place, most) = settle::<K, N>(nodes, &mut bytes, first, header.records);
+        Walk {
+            nodes,
+            bytes,
+            place,
+            most,
+            keys: PhantomData,
+        }
+    }
+
+    /// The next pair, or None at the end.
+    pub fn pair(&self) -> Option<Pair<'_, K>>
+        ensures { option_map (λ p. (p.key, p.body.now)) result ≡ first_pair self.now }
+    {
+        match entry_in(&self.bytes, self.place) {
+            Some(entry) => Some(Pair {
+                key: key_of(entry),
+                body: body_of::<K>(entry),
+            }),
+            None => None,
+        }
+    }
+
+    /// Goes past the next pair, if there is one.
+    pub fn advance(&mut self)
+        ensures { self.new ≡ drop 1 self.old }
+    {
+        if self.place < count_in(&self.bytes) {
+            let (place, most) = settle::<K, N>(
+                self.nodes,
+                &mut self.bytes,
+                self.place + 1,
+                self.most,
+            );
+            self.place = place;
+            self.most = most;
+        }
+    }
+}
