@@ -1,0 +1,187 @@
+//! Calls with borrowed names, and volumes to make them on.
+use hfs_fields::Name;
+use hfs_model::{Bytes, Call, Content, File, Fork, Info, Item, Kind, Reply, Store, Value};
+use std::alloc::{AllocError, Global};
+use std::process::Abort;
+
+/// A call whose names are borrowed.
+#[derive(Clone, Copy)]
+pub enum Ask<'a> {
+    DirInfo(u32),
+    Info(u32, &'a [u8]),
+    Indexed(u32, u32),
+    List(u32),
+    Read(u32, &'a [u8], u32, u32),
+    Create(u32, &'a [u8]),
+    DirCreate(u32, &'a [u8]),
+    Delete(u32, &'a [u8]),
+    Rename(u32, &'a [u8], &'a [u8]),
+    Move(u32, &'a [u8], u32),
+    SetFInfo(u32, &'a [u8]),
+    SetInfo(u32, &'a [u8]),
+    Lock(u32, &'a [u8]),
+    Unlock(u32, &'a [u8]),
+}
+
+fn name(alloc: Global, bytes: &[u8]) -> Result<Bytes, AllocError> {
+    Bytes::from_slice(alloc, bytes)
+}
+
+/// The call at that moment. Data forks are read; Finder bytes are set to 7, dates to 1, 2 and 3.
+pub fn call_of(alloc: Global, ask: &Ask, now: u32) -> Result<Call, AllocError> {
+    Ok(match ask {
+        Ask::DirInfo(dir) => Call::GetDirInfo { dir: *dir },
+        Ask::Info(dir, n) => Call::GetCatInfo {
+            dir: *dir,
+            name: name(alloc, n)?,
+        },
+        Ask::Indexed(dir, index) => Call::GetIndexed {
+            dir: *dir,
+            index: *index,
+        },
+        Ask::List(dir) => Call::List { dir: *dir },
+        Ask::Read(dir, n, offset, count) => Call::ReadFork {
+            dir: *dir,
+            name: name(alloc, n)?,
+            fork: Fork::DataFork,
+            offset: *offset,
+            count: *count,
+        },
+        Ask::Create(dir, n) => Call::Create {
+            dir: *dir,
+            name: name(alloc, n)?,
+            now,
+        },
+        Ask::DirCreate(dir, n) => Call::DirCreate {
+            dir: *dir,
+            name: name(alloc, n)?,
+            now,
+        },
+        Ask::Delete(dir, n) => Call::Delete {
+            dir: *dir,
+            name: name(alloc, n)?,
+            now,
+        },
+        Ask::Rename(dir, n, new) => Call::Rename {
+            dir: *dir,
+            name: name(alloc, n)?,
+            new_name: name(alloc, new)?,
+            now,
+        },
+        Ask::Move(dir, n, new_dir) => Call::CatMove {
+            dir: *dir,
+            name: name(alloc, n)?,
+            new_dir: *new_dir,
+            now,
+        },
+        Ask::SetFInfo(dir, n) => Call::SetFInfo {
+            dir: *dir,
+            name: name(alloc, n)?,
+            info: [7; 16],
+            now,
+        },
+        Ask::SetInfo(dir, n) => Call::SetCatInfo {
+            dir: *dir,
+            name: name(alloc, n)?,
+            created: 1,
+            modified: 2,
+            backup: 3,
+            info: [7; 32],
+            now,
+        },
+        Ask::Lock(dir, n) => Call::SetFLock {
+            dir: *dir,
+            name: name(alloc, n)?,
+            now,
+        },
+        Ask::Unlock(dir, n) => Call::RstFLock {
+            dir: *dir,
+            name: name(alloc, n)?,
+            now,
+        },
+    })
+}
+
+/// Makes the calls at that moment, and wants the code of each.
+pub fn expect_codes(
+    rt: &impl Abort,
+    alloc: Global,
+    store: &mut Store,
+    now: u32,
+    rows: &[(Ask, i16)],
+) -> Result<(), AllocError> {
+    for (row, (ask, code)) in rows.iter().enumerate() {
+        let reply = store.call(&call_of(alloc, ask, now)?)?;
+        assert_eq!(rt; reply.code, *code, "row {row}");
+    }
+    Ok(())
+}
+
+/// A new volume named `D`, made at moment 0.
+pub fn volume(alloc: Global) -> Result<Store, AllocError> {
+    match Name::new(b"D") {
+        Some(name) => Store::new(alloc, name, 0),
+        None => Err(AllocError),
+    }
+}
+
+/// What a reply tells of an item, where its code is 0.
+pub fn info_of(reply: &Reply) -> Option<Info> {
+    match &reply.value {
+        Value::One(info) => { if reply.code == 0 { Some(*info) } else { None } }
+        _ => None,
+    }
+}
+
+/// The ID of a new item, 0 where there is none.
+pub fn id_of(reply: &Reply) -> u32 {
+    match reply.value {
+        Value::Id(id) => id,
+        _ => 0,
+    }
+}
+
+/// Wants a list of items with these names, in order.
+pub fn expect_names(rt: &impl Abort, reply: &Reply, names: &[&[u8]]) {
+    assert_eq!(rt; reply.code, 0);
+    match &reply.value {
+        Value::Many(infos) => {
+            let infos = infos.as_slice();
+            assert_eq!(rt; infos.len(), names.len());
+            for at in 0..names.len() {
+                assert!(rt; at < infos.len());
+                assert_eq!(rt; infos[at].name.bytes(), names[at]);
+            }
+        }
+        _ => assert!(rt; false),
+    }
+}
+
+/// A file with these bytes in its data fork, all dates 0.
+pub fn file(alloc: Global, dir: u32, name: &[u8], bytes: &[u8; 2000]) -> Result<Item, AllocError> {
+    let Some(name) = Name::new(name) else {
+        return Err(AllocError);
+    };
+    Ok(Item {
+        parent: dir,
+        name,
+        created: 0,
+        modified: 0,
+        backup: 0,
+        finder: [0; 32],
+        kind: Kind::File(File {
+            kept: [0; 102],
+            locked: false,
+            has_thread: false,
+            data: Content::new(Vec::from_slice(alloc, bytes)?),
+            resource: Content::new(Vec::new(alloc)),
+        }),
+    })
+}
+
+/// Lays an item under that ID.
+pub fn lay(rt: &impl Abort, store: &mut Store, id: u32, item: Item) -> Result<(), AllocError> {
+    assert!(rt; store.next_id() <= id && id < 4294967295);
+    assert!(rt; store.valence(item.parent) < 65535);
+    store.lay(id, item)
+}

@@ -1,0 +1,59 @@
+//! A folder with as many children as it may have.
+ghost use Rattle.std.specs.Prelude.{◌≡◌, ◌+◌, ◌<◌, ◌≤◌, OnOk};
+ghost use Rattle.hfs_model.specs.Children.{valence, entries_of};
+
+use crate::fixture::{Ask, expect_codes, volume};
+use hfs_fields::Name;
+use hfs_model::{Item, Kind, Store};
+use std::alloc::AllocError;
+use std::test::Fail;
+
+/// Lays so many folders in the root, each named by the digits of its ID in base 16, as `@` to `O`.
+fn fill(store: &mut Store, first: u32, count: u32) -> Result<(), AllocError>
+    requires room { valence (entries_of store.old) 2 + count ≤ 65535 }
+    requires ids { first + count < 4294967295 }
+    requires free { store.old.next_id ≤ first }
+{
+    for k in 0..count {
+        let id = first + k;
+        let mut text = [b'@'; 8];
+        for at in 0..8 {
+            text[at] = b'@' + (id >> (4 * at) & 15) as u8;
+        }
+        let Some(name) = Name::new(&text) else {
+            return Ok(());
+        };
+        store.lay(
+            id,
+            Item {
+                parent: 2,
+                name,
+                created: 0,
+                modified: 0,
+                backup: 0,
+                finder: [0; 32],
+                kind: Kind::Folder { kept: [0; 70] },
+            },
+        )?;
+    }
+    Ok(())
+}
+
+#[test]
+fn takes_no_more(rt: HostRuntime) -> Result<(), Fail> {
+    let mut store = volume(rt.alloc())?;
+    let before = [(Ask::DirCreate(2, b"x"), 0), (Ask::Create(16, b"f"), 0)];
+    expect_codes(&rt, rt.alloc(), &mut store, 0, &before)?;
+    assert!(rt; store.valence(2) == 1 && store.next_id() == 18);
+    fill(&mut store, 18, 65534)?;
+    assert_eq!(rt; store.valence(2), 65535);
+    let rows = [
+        (Ask::Create(2, b"n"), -33),
+        (Ask::DirCreate(2, b"n"), -33),
+        (Ask::Move(16, b"f", 2), -33),
+        (Ask::Create(16, b"n"), 0),
+        (Ask::Delete(16, b"f"), 0),
+    ];
+    expect_codes(&rt, rt.alloc(), &mut store, 0, &rows)?;
+    Ok(())
+}

@@ -1,0 +1,34 @@
+//! The free nodes that calls need, and which calls only read.
+use crate::fixture::{Ask, call_of};
+use std::test::Fail;
+
+#[test]
+fn needs(rt: HostRuntime) -> Result<(), Fail> {
+    let rows: [(Ask, u32, u64, bool); 19] = [
+        (Ask::Create(2, b"a"), 0, 1, false),
+        (Ask::Create(2, b"a"), 1, 2, false),
+        (Ask::Create(2, b"a"), 15, 16, false),
+        (Ask::Create(2, b"a"), 16, 4294967296, false),
+        (Ask::DirCreate(2, b"a"), 1, 5, false),
+        (Ask::DirCreate(2, b"a"), 14, 31, false),
+        (Ask::DirCreate(2, b"a"), 15, 4294967296, false),
+        (Ask::Move(2, b"a", 16), 2, 3, false),
+        (Ask::Rename(2, b"a", b"A"), 16, 0, false),
+        (Ask::Rename(2, b"a", b"z"), 2, 3, false),
+        (Ask::Delete(2, b"a"), 3, 0, false),
+        (Ask::SetFInfo(2, b"a"), 3, 0, false),
+        (Ask::SetInfo(2, b"a"), 3, 0, false),
+        (Ask::Lock(2, b"a"), 3, 0, false),
+        (Ask::Unlock(2, b"a"), 3, 0, false),
+        (Ask::DirInfo(2), 3, 0, true),
+        (Ask::Info(2, b"a"), 3, 0, true),
+        (Ask::Indexed(2, 1), 3, 0, true),
+        (Ask::Read(2, b"a", 0, 1), 3, 0, true),
+    ];
+    for (row, (ask, depth, need, reads)) in rows.iter().enumerate() {
+        let call = call_of(rt.alloc(), ask, 0)?;
+        assert_eq!(rt; call.need(*depth), *need, "row {row}");
+        assert_eq!(rt; call.is_reading(), *reads, "row {row}");
+    }
+    Ok(())
+}
