@@ -7,3 +7,4 @@ pub mod Places
 pub mod Held
 pub mod Lawful
 pub mod Children
+pub mod Found

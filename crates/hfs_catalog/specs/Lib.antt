@@ -4,4 +4,6 @@ pub mod Parents
 pub mod Sound
 pub mod Faults
 pub mod Items
+pub mod Tree
+pub mod Lookups
 pub mod Laws

@@ -1,10 +1,14 @@
 //! The catalog of a volume: its records, when they are sound, and the items that they hold.
 #![tactic(auto)]
 
+mod item;
 mod laws;
+mod lookups;
 
+pub use item::{CatalogItem, ItemRecord, item_of};
 pub use laws::{
     count_faults, id_faults, items_are_records, name_faults, place_faults, reaches_soon,
     record_faults, records_are_children, scans_are_first, scans_are_whole, sound_is_lawful,
     valence_faults,
 };
+pub use lookups::lookup;
