@@ -2,7 +2,7 @@
 use Rattle.std.proofs.Common.{◌≡◌, ◌⊎◌, ⊎_elim, ℕ, ◌+◌, ◌<◌, ◌≤◌, Bool, true, false, cond, not, ◌&&◌, ◌||◌, eqb, List, [], ◌∷◌, length, filter, map, refl, sym, ◌∙◌, ap, arith, Option, Some, None}
 use Rattle.std.specs.Bool.{IsTrue}
 use Rattle.std.specs.List.{find}
-use Rattle.std.specs.Option.{option_map}
+use Rattle.std.specs.Option.{option_map, unwrap_or}
 use Rattle.std.specs.declared.cmp.Ordering.{Ordering}
 use Rattle.std.specs.declared.cmp.Ordering.TheVariants.{Less, Equal, Greater}
 use Rattle.std.specs.Ordering.{nat_cmp, is_eq, is_gt, ordering_then, ordering_reverse}
@@ -158,3 +158,12 @@ by_thread catalog id thread places distinct is =
     let of_it : is_child_named (thread_record_of thread.1).parent (thread_record_of thread.1).name has.0 ≡ true =
         and_from _ _ (and_from (is_item has.0.1) _ there.1 (eq-eqb has.0.0.parent (thread_record_of thread.1).parent (sym has.2.parent))) has.2.name in
     only catalog (thread_record_of thread.1).parent (thread_record_of thread.1).name has.0 places.rises there.0 of_it ∙ sym has.1 ∙ ap (item_with catalog) key
+
+pub by_its_thread : (catalog : Catalog) (id : ℕ) (t : ThreadRecord) → ArePlacesSound catalog → IsDistinct (item_ids catalog) → option_map (λ (r : Record). thread_record_of r.1) (thread_of catalog id) ≡ Some t
+    → child_named catalog t.parent t.name ≡ item_with catalog id
+by_its_thread catalog id t places distinct is = elim (thread_of catalog id) as (λ (o : Option Record). thread_of catalog id ≡ o → option_map (λ (r : Record). thread_record_of r.1) o ≡ Some t → child_named catalog t.parent t.name ≡ item_with catalog id) [
+  | None ↦ λ e none. absurd (some_none t (sym none))
+  | Some thread ↦ λ e some.
+      let same : thread_record_of thread.1 ≡ t = ap (λ (o : Option ThreadRecord). unwrap_or o t) some in
+      ap (λ (u : ThreadRecord). child_named catalog u.parent u.name) (sym same) ∙ by_thread catalog id thread places distinct e
+] refl is

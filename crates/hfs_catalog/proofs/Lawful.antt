@@ -138,7 +138,7 @@ one_record (q ∷ rest) r s h i j tie = ⊎_elim
     j)
     i
 
-same_keys : (r s : Record) → r.0.parent ≡ s.0.parent → IsTrue (same_name r.0.name s.0.name) → cat_cmp r.0 s.0 ≡ Equal
+pub same_keys : (r s : Record) → r.0.parent ≡ s.0.parent → IsTrue (same_name r.0.name s.0.name) → cat_cmp r.0 s.0 ≡ Equal
 same_keys r s parents names = ap (λ (o : Ordering). ordering_then o (name_cmp r.0.name s.0.name)) (sym (nat_cmp_is r.0.parent s.0.parent Equal parents)) ∙ equal (name_cmp r.0.name s.0.name) names
   where
     equal : (o : Ordering) → is_eq o ≡ true → o ≡ Equal

@@ -6,5 +6,6 @@ pub mod Ids
 pub mod Places
 pub mod Held
 pub mod Lawful
-pub mod Children
+pub mod NameOrder
 pub mod Found
+pub mod Steps

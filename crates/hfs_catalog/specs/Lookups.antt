@@ -1,12 +1,13 @@
 -- What look-ups answer.
-use Rattle.std.specs.Prelude.{ℕ, Bool, ◌&&◌, if◌then◌else◌, List, find, filter, Option, Some, None}
+use Rattle.std.specs.Prelude.{ℕ, Bool, false, ◌&&◌, ◌==◌, if◌then◌else◌, List, find, filter, Option, [], Some, None}
 use Rattle.hfs_fields.specs.Order.{same_name}
+use Rattle.hfs_fields.specs.declared.key.CatKey.{CatKey}
 use Rattle.hfs_fields.specs.declared.thread_record.ThreadRecord.{ThreadRecord}
-use Rattle.hfs_fields.specs.Records.{is_dir, begins_thread, dir_record_of, file_record_of, thread_record_of}
+use Rattle.hfs_fields.specs.Records.{is_dir, is_item, begins_thread, dir_record_of, file_record_of, thread_record_of}
 use Rattle.hfs_catalog.specs.declared.item.ItemRecord.{ItemRecord}
 use Rattle.hfs_catalog.specs.declared.item.ItemRecord.TheVariants.{Folder, File}
 use Rattle.hfs_catalog.specs.declared.item.CatalogItem.{CatalogItem}
-use Rattle.hfs_catalog.specs.Records.{Record, Catalog, is_child_of, is_thread_of}
+use Rattle.hfs_catalog.specs.Records.{Record, Catalog, has_id, is_child_of, is_thread_of}
 
 -- a folder's or a file's record
 abbrev pub record_of : List ℕ → ItemRecord
@@ -42,3 +43,22 @@ named_at dir name (Some r) = if is_child_named dir name r then Some (catalog_ite
 abbrev pub thread_at : ℕ → Option Record → Option ThreadRecord
 thread_at id None = None
 thread_at id (Some r) = if is_thread_of id r && begins_thread r.1 then Some (thread_record_of r.1) else None
+
+-- the item with that ID, where the record is its
+abbrev pub with_id_at : ℕ → Option Record → Option CatalogItem
+with_id_at id None = None
+with_id_at id (Some r) = if has_id id r then Some (catalog_item r) else None
+
+-- the least key with this parent
+abbrev pub first_key : ℕ → CatKey
+first_key parent = record { parent = parent; name = [] }
+
+-- the item of a record that is one
+abbrev pub item_at : Option Record → Option CatalogItem
+item_at None = None
+item_at (Some r) = if is_item r.1 then Some (catalog_item r) else None
+
+-- whether a record is there and has this parent
+abbrev pub is_under : ℕ → Option Record → Bool
+is_under dir None = false
+is_under dir (Some r) = r.0.parent == dir

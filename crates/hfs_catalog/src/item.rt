@@ -1,10 +1,10 @@
 //! One item of the catalog, as its record has it.
 ghost use Rattle.std.specs.Prelude.{◌≡◌, if◌then◌else◌, Some, None};
-ghost use Rattle.hfs_fields.specs.Records.{is_dir, is_file, is_item};
+ghost use Rattle.hfs_fields.specs.Records.{is_dir, is_file, is_item, is_thread};
 ghost use Rattle.hfs_catalog.specs.Records.{has_id};
 ghost use Rattle.hfs_catalog.specs.Lookups.{catalog_item};
 
-use hfs_fields::{CatKey, DirRecord, FileRecord};
+use hfs_fields::{CatKey, DirRecord, FileRecord, ThreadRecord};
 
 /// A folder's record or a file's.
 #[derive(Clone, Copy)]
@@ -71,4 +71,11 @@ pub(crate) fn item_with_id(key: CatKey, body: &[u8], id: u32) -> Option<CatalogI
         ItemRecord::File(file) => file.id,
     };
     if own == id { Some(item) } else { None }
+}
+
+/// Whether a body is a thread's record.
+pub(crate) fn is_thread(body: &[u8]) -> bool
+    ensures { result ≡ is_thread body.now }
+{
+    body.len() == ThreadRecord::LENGTH && (body[0] == 3 || body[0] == 4)
 }

@@ -11,4 +11,4 @@ pub use laws::{
     record_faults, records_are_children, scans_are_first, scans_are_whole, sound_is_lawful,
     valence_faults,
 };
-pub use lookups::lookup;
+pub use lookups::{by_id, children, lookup, thread};

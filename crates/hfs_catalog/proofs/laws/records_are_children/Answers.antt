@@ -1,4 +1,4 @@
-use Rattle.hfs_catalog.proofs.Children.{records_are_children}
+use Rattle.hfs_catalog.proofs.NameOrder.{records_are_children}
 use Rattle.hfs_catalog.proofs.laws.records_are_children.Goals as goal
 
 pub returns : goal.returns
