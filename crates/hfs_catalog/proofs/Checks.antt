@@ -1,15 +1,14 @@
 -- The checks on one record each.
-use Rattle.std.proofs.Common.{◌≡◌, ℕ, Bool, true, false, List, [], ◌∷◌, length, cond, refl, sym, ◌∙◌, ap, eqb, Option, Some, None}
+use Rattle.std.proofs.Common.{◌≡◌, ℕ, Bool, true, false, List, [], length, refl, ◌∙◌, ap, eqb, Option, Some, None}
 use Rattle.std.specs.Prelude.{◌↔◌}
-use Rattle.std.specs.Bool.{IsTrue}
 use Rattle.std.specs.Option.{option_or}
-use Rattle.std.proofs.lemmas.Bool.{eqb-true, eq-eqb, true≢false}
+use Rattle.std.proofs.lemmas.Bool.{eqb-true, eq-eqb}
 use Rattle.hfs_fields.specs.declared.mdb.Mdb.{Mdb}
 use Rattle.hfs_fields.specs.declared.key.CatKey.{CatKey}
 use Rattle.hfs_btree.specs.Pairs.{Each}
 use Rattle.hfs_btree.specs.Elements.{each-mono, each-both}
 use Rattle.hfs_catalog.specs.First.{first_failing}
-use Rattle.hfs_catalog.specs.Records.{Record, Catalog}
+use Rattle.hfs_catalog.specs.Records.{Catalog}
 use Rattle.hfs_catalog.specs.Sound.{EachFolder, IsRecord, AreNamesSound, IsIndexKeyName, HasValence, AreCountsSound, counts_of}
 use Rattle.hfs_catalog.specs.Faults.{unless, is_record_right, record_fault, is_name_right, is_index_key_name, name_fault, is_valence_right, valence_fault, count_fault}
 use Rattle.hfs_catalog.proofs.Scans.{check, all_decides}
@@ -49,9 +48,10 @@ unfolding name_fault
 name_faults index_keys catalog = (
   λ is.
       let both = neither (first_failing (λ _ r. is_name_right r) [] catalog) _ is in
-      let each = (check is_name_right _ name_decides catalog).0 both.0 in
-      (record { items = each-mono _ _ catalog (λ r h. h.0) each; threads = each-mono _ _ catalog (λ r h. h.1) each },
-      (all_decides is_index_key_name IsIndexKeyName index_key_decides index_keys).0 (holds _ (length catalog) both.1)),
+      let each = (check is_name_right _ name_decides catalog).0 both.0 in (
+        record { items = each-mono _ _ catalog (λ r h. h.0) each; threads = each-mono _ _ catalog (λ r h. h.1) each },
+        (all_decides is_index_key_name IsIndexKeyName index_key_decides index_keys).0 (holds _ (length catalog) both.1),
+      ),
   λ h.
       both_none _ _ ((check is_name_right _ name_decides catalog).1 (each-both _ _ catalog h.0.items h.0.threads))
       (no_fault _ (length catalog) ((all_decides is_index_key_name IsIndexKeyName index_key_decides index_keys).1 h.1)),

@@ -1,26 +1,26 @@
 -- What the first pair from a key on says of a look-up.
-use Rattle.std.proofs.Common.{◌≡◌, ◌⊎◌, ⊎_elim, ℕ, ◌+◌, ◌<◌, ◌≤◌, Bool, true, false, cond, not, ◌&&◌, ◌||◌, eqb, List, [], ◌∷◌, length, filter, map, refl, sym, ◌∙◌, ap, arith, Option, Some, None}
+use Rattle.std.proofs.Common.{◌≡◌, ⊎_elim, ℕ, ◌≤◌, Bool, true, false, cond, ◌&&◌, eqb, List, [], ◌∷◌, length, refl, sym, ◌∙◌, ap, arith, Option, Some, None}
 use Rattle.std.specs.Bool.{IsTrue}
 use Rattle.std.specs.List.{find}
 use Rattle.std.specs.Option.{option_map, unwrap_or}
 use Rattle.std.specs.declared.cmp.Ordering.{Ordering}
-use Rattle.std.specs.declared.cmp.Ordering.TheVariants.{Less, Equal, Greater}
-use Rattle.std.specs.Ordering.{nat_cmp, is_eq, is_gt, ordering_then, ordering_reverse}
-use Rattle.std.specs.Cmp.{nat_cmp_is, nat_cmp_total, unsigned_ties}
+use Rattle.std.specs.declared.cmp.Ordering.TheVariants.{Less, Equal}
+use Rattle.std.specs.Ordering.{is_eq, is_gt, ordering_then, ordering_reverse}
+use Rattle.std.specs.Cmp.{nat_cmp_is}
 use Rattle.std.proofs.lemmas.Bool.{eqb-true, eq-eqb, true≢false, and_parts, and_from, or_cases, false_from_ne_true}
 use Rattle.hfs_fields.specs.declared.key.CatKey.{CatKey}
 use Rattle.hfs_fields.specs.declared.thread_record.ThreadRecord.{ThreadRecord}
-use Rattle.hfs_fields.specs.Order.{name_cmp, same_name, name_cmp_total}
+use Rattle.hfs_fields.specs.Order.{name_cmp, same_name}
 use Rattle.hfs_fields.specs.Keys.{cat_cmp, cat_cmp_total}
-use Rattle.hfs_fields.specs.Records.{type_byte, is_dir, is_file, is_item, is_thread, is_dir_thread, is_file_thread, begins_thread, item_id, thread_record_of}
+use Rattle.hfs_fields.specs.Records.{type_byte, is_dir, is_file, is_item, is_thread, is_dir_thread, is_file_thread, begins_thread, thread_record_of}
 use Rattle.hfs_btree.specs.Pairs.{Each, Rises, pairs_from}
 use Rattle.hfs_btree.specs.Elements.{each-mono}
 use Rattle.hfs_btree.specs.Sound.{IsDistinct}
 use Rattle.hfs_btree.specs.Lookups.{first_pair, le-lt}
 use Rattle.hfs_catalog.specs.declared.item.CatalogItem.{CatalogItem}
 use Rattle.hfs_catalog.specs.Records.{Record, Catalog, item_with, item_ids, is_child_of, is_thread_of}
-use Rattle.hfs_catalog.specs.Sound.{IsRecord, AreNamesSound, ArePlacesSound, HasItem, LeadsTo, EachThread}
-use Rattle.hfs_catalog.specs.Lookups.{catalog_item, is_child_named, child_named, children_of, thread_of, named_at, thread_at}
+use Rattle.hfs_catalog.specs.Sound.{IsRecord, AreNamesSound, ArePlacesSound, HasItem}
+use Rattle.hfs_catalog.specs.Lookups.{catalog_item, is_child_named, child_named, thread_of, named_at, thread_at}
 use Rattle.hfs_catalog.proofs.Held.{In, each_in, found_in, with_id}
 use Rattle.hfs_catalog.proofs.Lawful.{one_record, same_keys}
 
@@ -56,9 +56,9 @@ module _ (test : Record → Bool) (key : CatKey) where
           let fails : test r ≡ false = false_from_ne_true (test r) (λ e. not_greater _ (t.0 e) above) in
           found_first rest h.1 t.1 some.1 ∙ sym (ap (λ b. option_map of (cond b (Some r) (find test rest))) fails)
       | false ↦ λ low. some.0 ∙ elim (test r) as (λ (b : Bool). cond b (Some (of r)) None ≡ option_map of (cond b (Some r) (find test rest))) [
-          | true ↦ refl
-          | false ↦ sym (ap (option_map of) (none_later r rest low h.0 t.1))
-        ]
+        | true ↦ refl
+        | false ↦ sym (ap (option_map of) (none_later r rest low h.0 t.1))
+      ]
     ] refl
 
 every : (P : Record → Type 0) → ((r : Record) → P r) → (catalog : Catalog) → Each P catalog
@@ -156,7 +156,7 @@ by_thread catalog id thread places distinct is =
     let has : HasItem catalog thread = each_in _ catalog thread places.threads found.0 both.0 in
     let there = with_id catalog thread.0.parent has.0 has.1 in
     let of_it : is_child_named (thread_record_of thread.1).parent (thread_record_of thread.1).name has.0 ≡ true =
-        and_from _ _ (and_from (is_item has.0.1) _ there.1 (eq-eqb has.0.0.parent (thread_record_of thread.1).parent (sym has.2.parent))) has.2.name in
+    and_from _ _ (and_from (is_item has.0.1) _ there.1 (eq-eqb has.0.0.parent (thread_record_of thread.1).parent (sym has.2.parent))) has.2.name in
     only catalog (thread_record_of thread.1).parent (thread_record_of thread.1).name has.0 places.rises there.0 of_it ∙ sym has.1 ∙ ap (item_with catalog) key
 
 pub by_its_thread : (catalog : Catalog) (id : ℕ) (t : ThreadRecord) → ArePlacesSound catalog → IsDistinct (item_ids catalog) → option_map (λ (r : Record). thread_record_of r.1) (thread_of catalog id) ≡ Some t

@@ -1,16 +1,14 @@
 -- The items of a catalog, and the records that they come from.
-use Rattle.std.proofs.Common.{◌≡◌, ◌⊎◌, inl, inr, ⊎_elim, ℕ, zero, suc, ◌+◌, ◌<◌, ◌≤◌, Bool, true, false, cond, ◌&&◌, eqb, List, [], ◌∷◌, length, count_by, map, filter, refl, sym, ◌∙◌, ap, subst, arith, Option, Some, None}
-use Rattle.std.specs.Ordering.{nat_cmp, is_eq}
+use Rattle.std.proofs.Common.{◌≡◌, ◌⊎◌, inl, inr, ⊎_elim, ℕ, Bool, true, false, cond, ◌&&◌, eqb, List, [], ◌∷◌, map, refl, sym, ◌∙◌, ap, subst, Option, Some, None}
+use Rattle.std.specs.Ordering.{nat_cmp}
 use Rattle.std.specs.Cmp.{unsigned_ties, nat_cmp_total}
 use Rattle.std.specs.List.{find}
-use Rattle.std.specs.Option.{option_map, option_map_or, unwrap_or}
+use Rattle.std.specs.Option.{option_map, unwrap_or}
 use Rattle.std.specs.FinMap as fin
-use Rattle.std.proofs.lemmas.Bool.{eqb-true, eq-eqb, ne_eqb, cases_eq, true≢false, and_parts}
-use Rattle.hfs_fields.specs.declared.key.CatKey.{CatKey}
+use Rattle.std.proofs.lemmas.Bool.{eqb-true, eq-eqb, ne_eqb, true≢false, and_parts}
 use Rattle.hfs_fields.specs.Records.{is_dir, is_item, item_id, dir_record_of, file_record_of}
 use Rattle.hfs_btree.specs.Pairs.{Each}
 use Rattle.hfs_model.specs.declared.item.Item.{Item}
-use Rattle.hfs_model.specs.Volume.{Items, Entry}
 use Rattle.hfs_model.specs.Children.{is_folder_kind}
 use Rattle.hfs_model.specs.Lawful.{Has}
 use Rattle.hfs_catalog.specs.Records.{Record, Catalog, has_id, item_with, items_of, has_thread}

@@ -1,18 +1,18 @@
 -- The check of IDs.
-use Rattle.std.proofs.Common.{◌≡◌, ℕ, Bool, true, false, cond, not, ◌&&◌, ◌||◌, eqb, List, [], ◌∷◌, length, map, filter, refl, sym, ◌∙◌, ap, Option, Some, None}
+use Rattle.std.proofs.Common.{◌≡◌, ℕ, Bool, true, false, cond, not, ◌&&◌, ◌||◌, List, [], ◌∷◌, length, map, refl, sym, ◌∙◌, Some, None}
 use Rattle.std.specs.Prelude.{◌↔◌}
-use Rattle.std.specs.Bool.{Decides, IsTrue}
-use Rattle.std.specs.List.{find, list_any, list_all}
+use Rattle.std.specs.Bool.{Decides}
+use Rattle.std.specs.List.{find, list_any}
 use Rattle.std.proofs.lemmas.Bool.{eqb-true, eq-eqb, true≢false, and_parts, and_from}
-use Rattle.std.proofs.lemmas.Bool.Decides.{Decides-not, Decides-and}
+use Rattle.std.proofs.lemmas.Bool.Decides.{Decides-not}
 use Rattle.hfs_fields.specs.Records.{is_item, item_id}
 use Rattle.hfs_btree.specs.Pairs.{Each}
 use Rattle.hfs_btree.specs.Elements.{each-mono}
 use Rattle.hfs_btree.specs.Sound.{IsDistinct, IsOther}
 use Rattle.hfs_catalog.specs.First.{first_failing}
-use Rattle.hfs_catalog.specs.Records.{Record, Catalog, has_id, item_with, items_of, item_ids}
+use Rattle.hfs_catalog.specs.Records.{Record, Catalog, has_id, items_of, item_ids}
 use Rattle.hfs_catalog.specs.Sound.{HasRightId, AreIdsSound}
-use Rattle.hfs_catalog.specs.Faults.{implies, unless, is_id_right, is_id_new, is_item_id_right, id_fault}
+use Rattle.hfs_catalog.specs.Faults.{implies, is_id_right, is_id_new, is_item_id_right, id_fault}
 use Rattle.hfs_catalog.proofs.Scans.{all_decides, passes_from_none, none_from_passes, both_from_passes, passes_from_both, Later, later_from_passes, passes_from_later}
 use Rattle.hfs_catalog.proofs.Tests.{itself, Decides-implies, id_decides}
 use Rattle.hfs_catalog.proofs.Checks.{neither, both_none, holds, no_fault}

@@ -1,5 +1,5 @@
 -- The items of a sound catalog are those of a lawful volume.
-use Rattle.std.proofs.Common.{◌≡◌, ◌⊎◌, inl, inr, ⊎_elim, ℕ, zero, suc, ◌+◌, ◌<◌, ◌≤◌, Bool, true, false, cond, ◌&&◌, eqb, List, [], ◌∷◌, length, count_by, map, filter, refl, sym, ◌∙◌, ap, subst, arith, Option, Some, None}
+use Rattle.std.proofs.Common.{◌≡◌, ◌⊎◌, inl, inr, ⊎_elim, ℕ, ◌+◌, ◌<◌, ◌≤◌, Bool, true, false, cond, ◌&&◌, eqb, List, [], ◌∷◌, length, count_by, map, refl, sym, ◌∙◌, ap, subst, arith, Option, Some, None}
 use Rattle.std.specs.Bool.{IsTrue}
 use Rattle.std.specs.declared.cmp.Ordering.{Ordering}
 use Rattle.std.specs.declared.cmp.Ordering.TheVariants.{Less, Equal, Greater}
@@ -8,20 +8,20 @@ use Rattle.std.specs.Cmp.{nat_cmp_is, nat_cmp_total}
 use Rattle.std.specs.Option.{option_map, option_map_or}
 use Rattle.std.specs.FinMap as fin
 use Rattle.std.specs.FinMap.Entries.{put, by_order}
-use Rattle.std.proofs.lemmas.Bool.{eqb-true, eq-eqb, ne_eqb, true≢false, and_parts, and_from}
+use Rattle.std.proofs.lemmas.Bool.{eqb-true, eq-eqb, ne_eqb, true≢false, and_parts}
 use Rattle.std.proofs.lemmas.List.Sums.{sum_by-cons}
 use Rattle.hfs_fields.specs.Order.{name_cmp, same_name}
 use Rattle.hfs_fields.specs.Keys.{cat_cmp, cat_cmp_total}
-use Rattle.hfs_fields.specs.Records.{is_dir, is_item, item_id, dir_record_of}
+use Rattle.hfs_fields.specs.Records.{is_dir, is_item, item_id}
 use Rattle.hfs_btree.specs.Pairs.{Each, Rises}
 use Rattle.hfs_btree.specs.Sound.{IsDistinct, IsOther}
 use Rattle.hfs_model.specs.declared.item.Item.{Item}
 use Rattle.hfs_model.specs.Volume.{Items, Entry}
 use Rattle.hfs_model.specs.Children.{valence, is_child, is_folder_kind}
-use Rattle.hfs_model.specs.Chains.{Leads, leads_still}
+use Rattle.hfs_model.specs.Chains.{leads_still}
 use Rattle.hfs_model.specs.Lawful.{Has, IsFolder, LiesIn, AreLawful, parent_of}
 use Rattle.hfs_catalog.specs.Records.{Record, Catalog, item_with, items_of, item_ids, is_folder_id, is_child_of, valence_of}
-use Rattle.hfs_catalog.specs.Parents.{parent_in, ReachesRoot}
+use Rattle.hfs_catalog.specs.Parents.{parent_in}
 use Rattle.hfs_catalog.specs.Sound.{IsRoot, IsGiven, HasRightId, HasPlace, HasValence, IsSoundCatalog}
 use Rattle.hfs_catalog.specs.Items.{Contents, item_of, entry_of, items_in}
 use Rattle.hfs_catalog.proofs.Held.{In, each_in, with_id, item_parent, item_name, item_folder, items_are_records, has_item, has_record, HasRecord}
@@ -206,7 +206,7 @@ module _ (contents : Contents) (next : ℕ) (catalog : Catalog) (least : 16 ≤ 
       let r = has_record contents catalog a i has in
       let s = has_record contents catalog b j has' in
       let one = one_record catalog r.of s.of h.places.rises r.there s.there
-              (same_keys r.of s.of (sym (parent_is a i r) ∙ parents ∙ parent_is b j s) ((λ k. same_name (sym (name_is a i r) k) (sym (name_is b j s) k)) ∙ same)) in
+      (same_keys r.of s.of (sym (parent_is a i r) ∙ parents ∙ parent_is b j s) ((λ k. same_name (sym (name_is a i r) k) (sym (name_is b j s) k)) ∙ same)) in
       sym r.same ∙ ap (λ (q : Record). item_id q.1) one ∙ s.same
 
   ids : (id : ℕ) (i : Item) → Has m id i → (id ≡ 2) ⊎ ((16 ≤ id) × (id < next))
@@ -231,14 +231,16 @@ module _ (contents : Contents) (next : ℕ) (catalog : Catalog) (least : 16 ≤ 
   ] refl
     where
       few : is_folder_id catalog id ≡ false → valence_of catalog id ≤ 65535
-      few none = omega (arith,
-          children_of_one id 2 catalog (λ r i child.
-          let parts = and_parts (is_item r.1) (eqb r.0.parent id) child in
-          ⊎_elim
-          (λ (e : item_id r.1 ≡ 2). e)
-          (λ (place : HasPlace catalog r). absurd (true≢false (sym place.parent ∙ ap (is_folder_id catalog) (eqb-true r.0.parent id parts.1) ∙ none)))
-          (placed r i parts.0)),
-          at_most_one 2 (item_ids catalog) h.ids.distinct)
+      few none = omega (
+        arith,
+        children_of_one id 2 catalog (λ r i child.
+            let parts = and_parts (is_item r.1) (eqb r.0.parent id) child in
+            ⊎_elim
+            (λ (e : item_id r.1 ≡ 2). e)
+            (λ (place : HasPlace catalog r). absurd (true≢false (sym place.parent ∙ ap (is_folder_id catalog) (eqb-true r.0.parent id parts.1) ∙ none)))
+            (placed r i parts.0)),
+        at_most_one 2 (item_ids catalog) h.ids.distinct,
+      )
 
   room : (id : ℕ) → valence (fin.entries m) id ≤ 65535
   unfolding items_in

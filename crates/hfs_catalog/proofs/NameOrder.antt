@@ -1,10 +1,9 @@
 -- The records under a folder are its children in name order.
-use Rattle.std.proofs.Common.{◌≡◌, ◌⊎◌, inl, inr, ⊎_elim, ℕ, zero, suc, ◌+◌, ◌<◌, ◌≤◌, Bool, true, false, cond, ◌&&◌, eqb, List, [], ◌∷◌, length, get_or, map, filter, refl, sym, ◌∙◌, ap, subst, arith, Option, Some, None}
-use Rattle.std.specs.Bool.{IsTrue}
-use Rattle.std.specs.List.{Contains, AllPairs, find}
+use Rattle.std.proofs.Common.{◌≡◌, inl, inr, ⊎_elim, ℕ, zero, suc, ◌<◌, ◌≤◌, Bool, true, false, cond, eqb, List, [], ◌∷◌, length, get_or, map, filter, refl, sym, ◌∙◌, ap, subst, arith, Some}
+use Rattle.std.specs.List.{Contains}
 use Rattle.std.specs.declared.cmp.Ordering.{Ordering}
-use Rattle.std.specs.declared.cmp.Ordering.TheVariants.{Less, Equal, Greater}
-use Rattle.std.specs.Ordering.{nat_cmp, ordering_then}
+use Rattle.std.specs.declared.cmp.Ordering.TheVariants.{Less, Equal}
+use Rattle.std.specs.Ordering.{ordering_then}
 use Rattle.std.specs.Cmp.{nat_cmp_is}
 use Rattle.std.specs.FinMap as fin
 use Rattle.std.proofs.lemmas.Bool.{eqb-true, eq-eqb, true≢false, and_parts, and_from, false_from_ne_true}
@@ -14,7 +13,7 @@ use Rattle.hfs_fields.specs.Records.{is_item, item_id}
 use Rattle.hfs_btree.specs.Pairs.{Each, Rises}
 use Rattle.hfs_btree.specs.Elements.{each-at}
 use Rattle.hfs_model.specs.declared.item.Item.{Item}
-use Rattle.hfs_model.specs.Volume.{Volume, Items, Entry}
+use Rattle.hfs_model.specs.Volume.{Volume, Entry}
 use Rattle.hfs_model.specs.Children.{children}
 use Rattle.hfs_model.specs.Lawful.{Has}
 use Rattle.hfs_model.specs.Laws.{AreChildren, ChildrenAreOne}
@@ -23,7 +22,7 @@ use Rattle.hfs_catalog.specs.Sound.{IsSoundCatalog}
 use Rattle.hfs_catalog.specs.Items.{Contents, item_of, entry_of, items_in, children_in}
 use Rattle.hfs_catalog.proofs.Scans.{Later}
 use Rattle.hfs_catalog.proofs.Ids.{Differs, later_from_distinct}
-use Rattle.hfs_catalog.proofs.Held.{In, each_in, found_in, with_id, item_parent, item_name, has_item, has_record}
+use Rattle.hfs_catalog.proofs.Held.{In, each_in, item_parent, item_name, has_item, has_record}
 use Rattle.hfs_catalog.proofs.Lawful.{sound_is_lawful}
 
 -- ---- what a list holds

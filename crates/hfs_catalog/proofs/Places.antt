@@ -1,5 +1,5 @@
 -- The check of order, parents and threads.
-use Rattle.std.proofs.Common.{◌≡◌, ◌⊎◌, ℕ, Bool, true, false, cond, ◌&&◌, ◌||◌, eqb, List, [], ◌∷◌, length, refl, sym, ◌∙◌, ap, Option, Some, None}
+use Rattle.std.proofs.Common.{◌≡◌, ◌⊎◌, Bool, true, [], ◌∷◌, length, refl, sym, ap, None}
 use Rattle.std.specs.Prelude.{◌↔◌}
 use Rattle.std.specs.Bool.{Decides, IsTrue}
 use Rattle.std.specs.declared.cmp.Ordering.{Ordering}
@@ -13,9 +13,8 @@ use Rattle.hfs_btree.specs.Pairs.{Each, Rises}
 use Rattle.hfs_btree.specs.Elements.{each-mono, each-both}
 use Rattle.hfs_catalog.specs.First.{first_failing}
 use Rattle.hfs_catalog.specs.Records.{Record, Catalog, is_folder_id, has_thread}
-use Rattle.hfs_catalog.specs.Parents.{reaches_root}
 use Rattle.hfs_catalog.specs.Sound.{HasPlace, HasItem, ArePlacesSound}
-use Rattle.hfs_catalog.specs.Faults.{implies, unless, is_above, is_parent_right, is_thread_right, is_place_right, place_fault}
+use Rattle.hfs_catalog.specs.Faults.{is_above, is_parent_right, is_place_right, place_fault}
 use Rattle.hfs_catalog.proofs.Scans.{all_decides, passes_from_none, none_from_passes, both_from_passes, passes_from_both, Later, later_from_passes, passes_from_later}
 use Rattle.hfs_catalog.proofs.Tests.{itself, Decides-implies, thread_decides}
 use Rattle.hfs_catalog.proofs.Checks.{neither, both_none, holds, no_fault}
@@ -78,13 +77,15 @@ unfolding place_fault
 place_faults in_order catalog = (
   λ is.
       let parts = neither (first_failing (is_place_right catalog) [] catalog) _ is in
-      let both = both_from_passes (is_place_right catalog) is_above (Parts catalog) (split catalog) [] catalog (passes_from_none (is_place_right catalog) [] catalog parts.0) in
-      (record {
-        rises = rises_from_later catalog (later_from_passes is_above IsBefore above_decides [] catalog both.0).1;
-        parents = each-mono _ _ catalog (λ r h. h.0) both.1;
-        threaded = each-mono _ _ catalog (λ r h. h.1.0) both.1;
-        threads = each-mono _ _ catalog (λ r h. h.1.1) both.1;
-      }, holds _ (length catalog) parts.1),
+      let both = both_from_passes (is_place_right catalog) is_above (Parts catalog) (split catalog) [] catalog (passes_from_none (is_place_right catalog) [] catalog parts.0) in (
+        record {
+          rises = rises_from_later catalog (later_from_passes is_above IsBefore above_decides [] catalog both.0).1;
+          parents = each-mono _ _ catalog (λ r h. h.0) both.1;
+          threaded = each-mono _ _ catalog (λ r h. h.1.0) both.1;
+          threads = each-mono _ _ catalog (λ r h. h.1.1) both.1;
+        },
+        holds _ (length catalog) parts.1,
+      ),
   λ h.
       both_none _ _
       (none_from_passes (is_place_right catalog) [] catalog

@@ -1,15 +1,14 @@
 -- Chains of parents are short.
-use Rattle.std.proofs.Common.{◌≡◌, ⊎_elim, ℕ, zero, suc, ◌+◌, ◌<◌, ◌≤◌, Bool, true, false, cond, ◌&&◌, ◌||◌, eqb, List, [], ◌∷◌, length, count_by, map, filter, refl, sym, ◌∙◌, ap, arith, Option, Some, None}
+use Rattle.std.proofs.Common.{◌≡◌, ⊎_elim, ℕ, zero, suc, ◌+◌, ◌<◌, ◌≤◌, Bool, true, false, cond, ◌&&◌, eqb, List, [], ◌∷◌, length, count_by, map, refl, sym, ◌∙◌, ap, arith, Option, Some, None}
 use Rattle.std.specs.Prelude.{◌↔◌}
 use Rattle.std.specs.Bool.{Decides, IsTrue}
-use Rattle.std.specs.List.{find}
 use Rattle.std.specs.Option.{option_map, option_map_or}
-use Rattle.std.proofs.lemmas.Bool.{eqb-true, or_cases, or_left, or_right, true≢false, ne_eqb}
+use Rattle.std.proofs.lemmas.Bool.{eqb-true, or_cases, or_left, or_right, true≢false}
 use Rattle.std.proofs.lemmas.List.{length-map}
 use Rattle.std.proofs.lemmas.List.Sums.{sum_by-cons, length-filter, count_by-le-length}
 use Rattle.hfs_fields.specs.Records.{is_item, item_id}
 use Rattle.hfs_model.specs.Chains.{Leads, Ends, no_longer}
-use Rattle.hfs_catalog.specs.Records.{Record, Catalog, has_id, item_with, items_of, item_ids}
+use Rattle.hfs_catalog.specs.Records.{Record, Catalog, item_with, items_of, item_ids}
 use Rattle.hfs_catalog.specs.Parents.{parent_in, ReachesRoot, reaches_root}
 
 none_some : {A : Type 0} (x : A) → None ≡ Some x → ⊥

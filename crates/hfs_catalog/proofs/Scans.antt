@@ -1,5 +1,5 @@
 -- Scans for the first element that fails.
-use Rattle.std.proofs.Common.{◌≡◌, ℕ, zero, suc, ◌+◌, ◌<◌, Bool, true, false, cond, ◌&&◌, List, [], ◌∷◌, ◌++◌, length, take, get_or, refl, sym, ◌∙◌, ap, subst, arith, append_assoc, Option, Some, None}
+use Rattle.std.proofs.Common.{◌≡◌, ℕ, zero, suc, ◌+◌, ◌<◌, Bool, true, false, cond, ◌&&◌, List, [], ◌∷◌, ◌++◌, length, take, get_or, refl, sym, ◌∙◌, ap, subst, arith, append_assoc, Some, None}
 use Rattle.std.specs.Prelude.{⊤, ◌↔◌}
 use Rattle.std.specs.Bool.{Decides}
 use Rattle.std.specs.List.{list_all}
@@ -8,7 +8,7 @@ use Rattle.std.proofs.lemmas.List.{append-nil, length-append}
 use Rattle.std.proofs.lemmas.Bool.{and_parts, and_from}
 use Rattle.hfs_btree.specs.Pairs.{Each}
 use Rattle.hfs_btree.specs.Elements.{each-left, each-right, each-append}
-use Rattle.hfs_catalog.specs.First.{first_failing, EachPasses, PassesAt}
+use Rattle.hfs_catalog.specs.First.{first_failing, EachPasses}
 use Rattle.hfs_catalog.specs.Laws.{IsFirst}
 
 some_none : {A : Type 0} (x : A) → Some x ≡ None → ⊥
@@ -86,12 +86,12 @@ module _ {X : Type 0} (test : List X → X → Bool) where
   found_at before (x ∷ xs) n is = elim (test before x) as (λ b. test before x ≡ b → cond b (first_failing test (before ++ x ∷ []) xs) (Some (length before)) ≡ Some n → FoundAt before (x ∷ xs) n) [
     | true ↦ λ e some. later_found before x xs n e (found_at (before ++ x ∷ []) xs n some)
     | false ↦ λ e some. record {
-        i = 0;
-        place = omega (arith, same_some (length before) n some);
-        within = omega arith;
-        fails = λ d. here before xs x false e;
-        earlier = λ k d lt. absurd (omega arith);
-      }
+      i = 0;
+      place = omega (arith, same_some (length before) n some);
+      within = omega arith;
+      fails = λ d. here before xs x false e;
+      earlier = λ k d lt. absurd (omega arith);
+    }
   ] refl is
 
   pub scan_is_first : (xs : List X) (i : ℕ) → first_failing test [] xs ≡ Some i → IsFirst test xs i
@@ -103,7 +103,7 @@ module _ {X : Type 0} (test : List X → X → Bool) where
 -- ---- a test of two parts
 
 module _ {X : Type 0} (test first : List X → X → Bool) (P : X → Type 0)
-  (split : (before : List X) (x : X) → Decides (test before x) ((first before x ≡ true) × P x)) where
+    (split : (before : List X) (x : X) → Decides (test before x) ((first before x ≡ true) × P x)) where
   pub both_from_passes : (before xs : List X) → Passes test before xs → Passes first before xs × Each P xs
   both_from_passes before [] h = (tt, tt)
   both_from_passes before (x ∷ xs) h =

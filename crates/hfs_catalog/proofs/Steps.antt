@@ -1,9 +1,9 @@
 -- The steps of going through the catalog's records in their order.
-use Rattle.std.proofs.Common.{◌≡◌, ◌⊎◌, ⊎_elim, ℕ, ◌+◌, ◌<◌, ◌≤◌, Bool, true, false, cond, ◌&&◌, eqb, List, [], ◌∷◌, ◌++◌, length, drop, filter, map, refl, sym, ◌∙◌, ap, arith, append_assoc, Option, Some, None}
+use Rattle.std.proofs.Common.{◌≡◌, ⊎_elim, ℕ, ◌<◌, ◌≤◌, Bool, true, false, cond, ◌&&◌, eqb, List, [], ◌∷◌, ◌++◌, length, drop, map, refl, sym, ◌∙◌, ap, arith, append_assoc, Some, None}
 use Rattle.std.specs.Option.{option_map, option_to_list, is_some}
 use Rattle.std.specs.declared.cmp.Ordering.{Ordering}
 use Rattle.std.specs.declared.cmp.Ordering.TheVariants.{Less, Equal, Greater}
-use Rattle.std.specs.Ordering.{nat_cmp, is_eq, is_gt, is_lt, ordering_then}
+use Rattle.std.specs.Ordering.{is_gt, is_lt, ordering_then}
 use Rattle.std.specs.Cmp.{nat_cmp_is}
 use Rattle.std.proofs.lemmas.Bool.{eqb-true, eq-eqb, ne_eqb, true≢false, cases_lt, cases_order, and_right, false_from_ne_true}
 use Rattle.hfs_fields.specs.declared.key.CatKey.{CatKey}
@@ -11,7 +11,6 @@ use Rattle.hfs_fields.specs.Order.{name_cmp}
 use Rattle.hfs_fields.specs.Keys.{cat_cmp}
 use Rattle.hfs_fields.specs.Records.{is_item}
 use Rattle.hfs_btree.specs.Pairs.{Each, Rises, pairs_from}
-use Rattle.hfs_btree.specs.Elements.{each-mono}
 use Rattle.hfs_btree.specs.Lookups.{first_pair}
 use Rattle.hfs_catalog.specs.declared.item.CatalogItem.{CatalogItem}
 use Rattle.hfs_catalog.specs.Records.{Record, Catalog, has_id, item_with, is_child_of}
@@ -119,6 +118,7 @@ listing_goes_on whole dir found more (r ∷ rest) under h is = record {
     here : (b : Bool) → found ++ map catalog_item (cond (b && eqb r.0.parent dir) (r ∷ children_of rest dir) (children_of rest dir)) ≡ (found ++ option_to_list (cond b (Some (catalog_item r)) None)) ++ map catalog_item (children_of rest dir)
     here true = ap (λ (b : Bool). found ++ map catalog_item (cond b (r ∷ children_of rest dir) (children_of rest dir))) under ∙ sym (append_assoc found (catalog_item r ∷ []) (map catalog_item (children_of rest dir)))
     here false = sym (append_assoc found [] (map catalog_item (children_of rest dir)))
+
     taken : found ++ map catalog_item (children_of (r ∷ rest) dir) ≡ (found ++ option_to_list (item_at (Some r))) ++ map catalog_item (children_of rest dir)
     taken = here (is_item r.1)
 

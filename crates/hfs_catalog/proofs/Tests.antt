@@ -1,25 +1,17 @@
 -- What the tests on one record say.
-use Rattle.std.proofs.Common.{◌≡◌, ◌⊎◌, inl, inr, ⊎_elim, ℕ, zero, suc, ◌+◌, ◌≤◌, ◌<◌, Bool, true, false, cond, not, ◌&&◌, ◌||◌, eqb, ltb, List, [], ◌∷◌, length, refl, sym, ◌∙◌, ap, arith, Option, Some, None}
-use Rattle.std.specs.Prelude.{◌≢◌, ◌↔◌, nat_le}
+use Rattle.std.proofs.Common.{◌≡◌, ℕ, ◌≤◌, Bool, true, false, not, ◌&&◌, eqb, ltb, length, refl, sym, ◌∙◌, ap, Option, Some, None}
+use Rattle.std.specs.Prelude.{nat_le}
 use Rattle.std.specs.Bool.{Decides, IsTrue, beq}
-use Rattle.std.specs.List.{list_all}
 use Rattle.std.specs.Option.{option_map_or}
-use Rattle.std.specs.declared.cmp.Ordering.{Ordering}
-use Rattle.std.specs.declared.cmp.Ordering.TheVariants.{Less, Equal, Greater}
-use Rattle.std.specs.Ordering.{is_lt}
-use Rattle.std.proofs.lemmas.Bool.{leb-true, le-leb, eqb-true, eq-eqb, ne_eqb, eqb-false, ltb-true, lt-ltb, not-true, not_from_false, and_parts, and_from, true≢false}
+use Rattle.std.proofs.lemmas.Bool.{leb-true, le-leb, true≢false}
 use Rattle.std.proofs.lemmas.Bool.Decides.{Decides-and, Decides-or, Decides-like, Decides-not, Decides-eqb, Decides-ltb}
 use Rattle.hfs_fields.specs.declared.key.CatKey.{CatKey}
 use Rattle.hfs_fields.specs.Names.{is_item_name}
 use Rattle.hfs_fields.specs.Order.{same_name}
-use Rattle.hfs_fields.specs.Keys.{cat_cmp}
 use Rattle.hfs_fields.specs.Records.{is_dir, is_item, is_thread, is_dir_thread, begins_thread, item_id, dir_record_of, thread_record_of}
-use Rattle.hfs_btree.specs.Pairs.{Each}
-use Rattle.hfs_catalog.specs.Records.{Record, Catalog, has_id, item_with, is_folder_id, has_thread, valence_of}
-use Rattle.hfs_catalog.specs.Parents.{reaches_root, ReachesRoot}
-use Rattle.hfs_catalog.specs.Sound.{IsRecord, IsRoot, IsGiven, HasRightId, IsIndexKeyName, HasPlace, LeadsTo, HasItem, HasValence}
-use Rattle.hfs_catalog.specs.Faults.{implies, is_record_right, is_id_right, is_id_new, is_name_right, is_index_key_name, is_above, is_parent_right, leads_to, is_thread_right, is_valence_right}
-use Rattle.hfs_catalog.proofs.Scans.{all_decides}
+use Rattle.hfs_catalog.specs.Records.{Record, Catalog, item_with, valence_of}
+use Rattle.hfs_catalog.specs.Sound.{IsRecord, IsRoot, IsGiven, HasRightId, IsIndexKeyName, LeadsTo, HasItem, HasValence}
+use Rattle.hfs_catalog.specs.Faults.{implies, is_record_right, is_id_right, is_name_right, is_index_key_name, leads_to, is_thread_right, is_valence_right}
 
 pub itself : (b : Bool) → Decides b (IsTrue b)
 itself b = (λ (e : b ≡ true). e, λ (e : b ≡ true). e)
@@ -54,6 +46,7 @@ id_decides next r = Decides-or _ _ root given
     root : Decides (eqb (item_id r.1) 2 && is_dir r.1 && eqb r.0.parent 1) (IsRoot r)
     root = Decides-like _ (λ h. record { id = h.0.0; folder = h.0.1; parent = h.1 }) (λ (h : IsRoot r). ((h.id, h.folder), h.parent))
         (Decides-and _ _ (Decides-and _ _ (Decides-eqb (item_id r.1) 2) (itself (is_dir r.1))) (Decides-eqb r.0.parent 1))
+
     given : Decides (nat_le 16 (item_id r.1) && ltb (item_id r.1) next && not (eqb r.0.parent 1)) (IsGiven next r)
     given = Decides-like _ (λ h. record { least = h.0.0; given = h.0.1; parent = h.1 }) (λ (h : IsGiven next r). ((h.least, h.given), h.parent))
         (Decides-and _ _ (Decides-and _ _ (Decides-leb 16 (item_id r.1)) (Decides-ltb (item_id r.1) next)) (Decides-not _ (Decides-eqb r.0.parent 1)))

@@ -14,7 +14,7 @@ use Rattle.hfs_fields.specs.Records.{is_dir, is_item, is_thread, is_dir_thread, 
 use Rattle.hfs_catalog.specs.First.{first_failing}
 use Rattle.hfs_catalog.specs.Records.{Record, Catalog, has_id, item_with, is_folder_id, has_thread, valence_of}
 use Rattle.hfs_catalog.specs.Parents.{reaches_root}
-use Rattle.hfs_catalog.specs.Sound.{Counts, counts_of}
+use Rattle.hfs_catalog.specs.Sound.{counts_of}
 
 -- the first holds only where the second does
 abbrev pub implies : Bool → Bool → Bool

@@ -1,5 +1,5 @@
 -- The items that a catalog holds.
-use Rattle.std.specs.Prelude.{ℕ, ◌==◌, false, Bool, if◌then◌else◌, List, ◌∷◌, ◌++◌, map, filter, drop, replicate}
+use Rattle.std.specs.Prelude.{ℕ, false, Bool, if◌then◌else◌, List, ◌∷◌, ◌++◌, map, filter, drop, replicate}
 use Rattle.std.specs.FinMap as finite
 use Rattle.hfs_fields.specs.declared.key.CatKey.{CatKey}
 use Rattle.hfs_fields.specs.declared.dir_record.DirRecord.{DirRecord}
@@ -8,7 +8,6 @@ use Rattle.hfs_fields.specs.declared.file_record.ForkRecord.{ForkRecord}
 use Rattle.hfs_fields.specs.Records.{is_dir, item_id, dir_record_of, file_record_of, is_bit_set, with_bit, no_extents}
 use Rattle.hfs_fields.specs.RecordForms.{dir_record_bytes, file_record_bytes}
 use Rattle.hfs_model.specs.declared.item.Item.{Item}
-use Rattle.hfs_model.specs.declared.item.File.{File}
 use Rattle.hfs_model.specs.declared.item.Kind.TheVariants as kind
 use Rattle.hfs_model.specs.Volume.{Items, Entry}
 use Rattle.hfs_catalog.specs.Records.{Record, Catalog, items_of, has_thread, is_child_of}

@@ -1,5 +1,5 @@
 -- What holds of the definitions. Each statement is what a function of src/laws.rt ensures.
-use Rattle.std.specs.Prelude.{◌≡◌, ℕ, ◌<◌, ◌≤◌, ◌↔◌, Bool, true, false, IsTrue, List, [], length, take, map, slice_index_or, Option, Some, None}
+use Rattle.std.specs.Prelude.{◌≡◌, ℕ, ◌<◌, ◌≤◌, ◌↔◌, Bool, false, IsTrue, List, [], length, take, slice_index_or, Some, None}
 use Rattle.std.specs.Option.{option_map}
 use Rattle.std.specs.FinMap as finite
 use Rattle.hfs_fields.specs.declared.mdb.Mdb.{Mdb}
@@ -8,7 +8,7 @@ use Rattle.hfs_btree.specs.Pairs.{Each}
 use Rattle.hfs_model.specs.Children.{children}
 use Rattle.hfs_model.specs.Lawful.{AreLawful}
 use Rattle.hfs_catalog.specs.First.{first_failing, PassesAt, EachPasses}
-use Rattle.hfs_catalog.specs.Records.{Record, Catalog, item_with}
+use Rattle.hfs_catalog.specs.Records.{Catalog, item_with}
 use Rattle.hfs_catalog.specs.Parents.{ReachesRoot, reaches_root}
 use Rattle.hfs_catalog.specs.Sound.{EachFolder, IsRecord, AreIdsSound, AreNamesSound, IsIndexKeyName, ArePlacesSound, HasValence, AreCountsSound, IsSoundCatalog}
 use Rattle.hfs_catalog.specs.Faults.{record_fault, id_fault, name_fault, place_fault, valence_fault, count_fault}

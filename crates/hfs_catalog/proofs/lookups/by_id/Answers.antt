@@ -1,4 +1,4 @@
-use Rattle.std.proofs.Common.{◌≡◌, ◌∙◌, sym, ap, Option}
+use Rattle.std.proofs.Common.{◌∙◌, sym, ap, Option}
 use Rattle.std.specs.Option.{option_map}
 use Rattle.hfs_catalog.specs.Records.{Record}
 use Rattle.hfs_catalog.specs.Tree.{catalog_of}

@@ -1,4 +1,4 @@
-use Rattle.std.proofs.Common.{◌≡◌, ◌∙◌, ap}
+use Rattle.std.proofs.Common.{◌∙◌, ap}
 use Rattle.hfs_btree.specs.Lookups.{first_pair}
 use Rattle.hfs_catalog.specs.Records.{Catalog}
 use Rattle.hfs_catalog.specs.Tree.{catalog_of}
