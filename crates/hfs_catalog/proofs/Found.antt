@@ -138,7 +138,7 @@ missed test (q ∷ rest) r none i e = elim (test q) as (λ (b : Bool). test q �
 ] refl none
 
 -- the one child of that name
-only : (catalog : Catalog) (dir : ℕ) (name : List ℕ) (item : Record) → Rises cat_cmp catalog → In item catalog → is_child_named dir name item ≡ true → child_named catalog dir name ≡ Some item
+pub only : (catalog : Catalog) (dir : ℕ) (name : List ℕ) (item : Record) → Rises cat_cmp catalog → In item catalog → is_child_named dir name item ≡ true → child_named catalog dir name ≡ Some item
 only catalog dir name item h i e = elim (child_named catalog dir name) as (λ (o : Option Record). child_named catalog dir name ≡ o → o ≡ Some item) [
   | None ↦ λ none. absurd (missed (is_child_named dir name) catalog item none i e)
   | Some other ↦ λ some.

@@ -9,3 +9,4 @@ pub mod Lawful
 pub mod NameOrder
 pub mod Found
 pub mod Steps
+pub mod Queries

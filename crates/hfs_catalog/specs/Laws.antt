@@ -6,13 +6,15 @@ use Rattle.hfs_fields.specs.declared.mdb.Mdb.{Mdb}
 use Rattle.hfs_fields.specs.declared.key.CatKey.{CatKey}
 use Rattle.hfs_btree.specs.Pairs.{Each}
 use Rattle.hfs_model.specs.Children.{children}
+use Rattle.hfs_model.specs.Children as model
 use Rattle.hfs_model.specs.Lawful.{AreLawful}
 use Rattle.hfs_catalog.specs.First.{first_failing, PassesAt, EachPasses}
-use Rattle.hfs_catalog.specs.Records.{Catalog, item_with}
+use Rattle.hfs_catalog.specs.Records.{Catalog, item_with, valence_of}
 use Rattle.hfs_catalog.specs.Parents.{ReachesRoot, reaches_root}
 use Rattle.hfs_catalog.specs.Sound.{EachFolder, IsRecord, AreIdsSound, AreNamesSound, IsIndexKeyName, ArePlacesSound, HasValence, AreCountsSound, IsSoundCatalog}
 use Rattle.hfs_catalog.specs.Faults.{record_fault, id_fault, name_fault, place_fault, valence_fault, count_fault}
-use Rattle.hfs_catalog.specs.Items.{Contents, item_of, items_in, children_in}
+use Rattle.hfs_catalog.specs.Items.{Contents, item_of, items_in, children_in, entry_of}
+use Rattle.hfs_catalog.specs.Lookups.{child_named}
 
 -- ---- scans
 
@@ -72,3 +74,23 @@ abbrev pub RecordsAreChildren : Type 0
 RecordsAreChildren =
     (contents : Contents) (next : ℕ) (catalog : Catalog) → 16 ≤ next → IsSoundCatalog next catalog → (dir : ℕ)
     → children_in contents catalog dir ≡ children (finite.entries (items_in contents catalog)) dir
+
+-- ---- the queries of a volume, on its items, are those of the catalog
+
+-- the item of an ID
+abbrev pub EntriesAreRecords : Type 0
+EntriesAreRecords =
+    (contents : Contents) (catalog : Catalog) (id : ℕ)
+    → model.entry_at (finite.entries (items_in contents catalog)) id ≡ option_map (entry_of contents catalog) (item_with catalog id)
+
+-- a folder's child of a name
+abbrev pub NamedAreRecords : Type 0
+NamedAreRecords =
+    (contents : Contents) (next : ℕ) (catalog : Catalog) → IsSoundCatalog next catalog → (dir : ℕ) (name : List ℕ)
+    → model.child_named (finite.entries (items_in contents catalog)) dir name ≡ option_map (entry_of contents catalog) (child_named catalog dir name)
+
+-- the number of a folder's children
+abbrev pub ValencesAreCounted : Type 0
+ValencesAreCounted =
+    (contents : Contents) (next : ℕ) (catalog : Catalog) → 16 ≤ next → IsSoundCatalog next catalog → (dir : ℕ)
+    → model.valence (finite.entries (items_in contents catalog)) dir ≡ valence_of catalog dir

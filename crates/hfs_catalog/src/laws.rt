@@ -1,7 +1,7 @@
 //! What holds of the definitions, each as the contract of a function that does nothing: a caller learns it by the call.
-ghost use Rattle.hfs_catalog.specs.Laws.{ScansAreWhole, ScansAreFirst, ReachesSoon, RecordFaults, IdFaults, NameFaults, PlaceFaults, ValenceFaults, CountFaults, ItemsAreRecords, SoundIsLawful, RecordsAreChildren};
+ghost use Rattle.hfs_catalog.specs.Laws.{ScansAreWhole, ScansAreFirst, ReachesSoon, RecordFaults, IdFaults, NameFaults, PlaceFaults, ValenceFaults, CountFaults, ItemsAreRecords, SoundIsLawful, RecordsAreChildren, EntriesAreRecords, NamedAreRecords, ValencesAreCounted};
 
-use hfs_model::children_are_one;
+use hfs_model::{children_are_one, counts_children};
 
 /// A scan finds nothing exactly where each element passes the test.
 pub fn scans_are_whole<X>()
@@ -63,4 +63,22 @@ pub fn records_are_children()
     ensures { RecordsAreChildren }
 {
     children_are_one();
+}
+
+/// Of a catalog's items the one with an ID is that of the record with the ID.
+pub fn entries_are_records()
+    ensures { EntriesAreRecords }
+{}
+
+/// Of a sound catalog's items a folder's child of a name is that of the record under the folder and the name.
+pub fn named_are_records()
+    ensures { NamedAreRecords }
+{}
+
+/// Of a sound catalog's items a folder has as many children as the catalog has records under it.
+pub fn valences_are_counted()
+    ensures { ValencesAreCounted }
+{
+    children_are_one();
+    counts_children();
 }

@@ -7,8 +7,8 @@ mod lookups;
 
 pub use item::{CatalogItem, ItemRecord, item_of};
 pub use laws::{
-    count_faults, id_faults, items_are_records, name_faults, place_faults, reaches_soon,
-    record_faults, records_are_children, scans_are_first, scans_are_whole, sound_is_lawful,
-    valence_faults,
+    count_faults, entries_are_records, id_faults, items_are_records, name_faults,
+    named_are_records, place_faults, reaches_soon, record_faults, records_are_children,
+    scans_are_first, scans_are_whole, sound_is_lawful, valence_faults, valences_are_counted,
 };
 pub use lookups::{by_id, children, lookup, thread};
