@@ -1,6 +1,6 @@
 pub mod Scans
 pub mod Tests
-pub mod Checks
+pub mod Agreed
 pub mod Reach
 pub mod Ids
 pub mod Places
@@ -10,3 +10,4 @@ pub mod NameOrder
 pub mod Found
 pub mod Steps
 pub mod Queries
+pub mod Walked

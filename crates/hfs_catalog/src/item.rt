@@ -21,14 +21,14 @@ pub struct CatalogItem {
 }
 
 /// Whether a body is a folder's record.
-fn is_folder(body: &[u8]) -> bool
+pub(crate) fn is_folder(body: &[u8]) -> bool
     ensures { result ≡ is_dir body.now }
 {
     body.len() == DirRecord::LENGTH && body[0] == 1
 }
 
 /// Whether a body is a file's record.
-fn is_file(body: &[u8]) -> bool
+pub(crate) fn is_file(body: &[u8]) -> bool
     ensures { result ≡ is_file body.now }
 {
     body.len() == FileRecord::LENGTH && body[0] == 2
@@ -78,4 +78,11 @@ pub(crate) fn is_thread(body: &[u8]) -> bool
     ensures { result ≡ is_thread body.now }
 {
     body.len() == ThreadRecord::LENGTH && (body[0] == 3 || body[0] == 4)
+}
+
+/// Whether a body is a folder's or a file's record.
+pub(crate) fn is_item(body: &[u8]) -> bool
+    ensures { result ≡ is_item body.now }
+{
+    is_folder(body) || is_file(body)
 }

@@ -1,10 +1,12 @@
 //! The catalog of a volume: its records, when they are sound, and the items that they hold.
 #![tactic(auto)]
 
+mod checks;
 mod item;
 mod laws;
 mod lookups;
 
+pub use checks::{count_fault, name_fault, record_fault};
 pub use item::{CatalogItem, ItemRecord, item_of};
 pub use laws::{
     count_faults, entries_are_records, id_faults, items_are_records, name_faults,

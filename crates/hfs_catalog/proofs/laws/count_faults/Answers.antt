@@ -1,4 +1,4 @@
-use Rattle.hfs_catalog.proofs.Checks.{count_faults}
+use Rattle.hfs_catalog.proofs.Agreed.{count_faults}
 use Rattle.hfs_catalog.proofs.laws.count_faults.Goals as goal
 
 pub returns : goal.returns

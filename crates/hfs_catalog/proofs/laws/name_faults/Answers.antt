@@ -1,4 +1,4 @@
-use Rattle.hfs_catalog.proofs.Checks.{name_faults}
+use Rattle.hfs_catalog.proofs.Agreed.{name_faults}
 use Rattle.hfs_catalog.proofs.laws.name_faults.Goals as goal
 
 pub returns : goal.returns
