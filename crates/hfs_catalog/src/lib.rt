@@ -14,3 +14,6 @@ pub use laws::{
     scans_are_first, scans_are_whole, sound_is_lawful, valence_faults, valences_are_counted,
 };
 pub use lookups::{by_id, children, lookup, thread};
+
+#[cfg(test)]
+mod tests;
