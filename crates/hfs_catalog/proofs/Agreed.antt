@@ -12,7 +12,7 @@ use Rattle.hfs_catalog.specs.Records.{Catalog}
 use Rattle.hfs_catalog.specs.Sound.{EachFolder, IsRecord, AreNamesSound, IsIndexKeyName, HasValence, AreCountsSound, counts_of}
 use Rattle.hfs_catalog.specs.Faults.{unless, is_record_right, record_fault, is_name_right, is_index_key_name, name_fault, is_valence_right, valence_fault, count_fault}
 use Rattle.hfs_catalog.proofs.Scans.{check, all_decides}
-use Rattle.hfs_catalog.proofs.Tests.{record_decides, name_decides, index_key_decides, valence_decides}
+use Rattle.hfs_catalog.proofs.Decided.{record_decides, name_decides, index_key_decides, valence_decides}
 
 some_none : {A : Type 0} (x : A) → Some x ≡ None → ⊥
 some_none x e = cc

@@ -1,5 +1,5 @@
 pub mod Scans
-pub mod Tests
+pub mod Decided
 pub mod Agreed
 pub mod Reach
 pub mod Ids

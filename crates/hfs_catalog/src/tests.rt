@@ -73,21 +73,21 @@ fn finds_wrong_counts(rt: HostRuntime) -> Result<(), Fail> {
     Ok(())
 }
 
+fn id_of(item: CatalogItem) -> u32 {
+    match item.body {
+        ItemRecord::Folder(record) => record.id,
+        ItemRecord::File(record) => record.id,
+    }
+}
+
 #[test]
 fn reads_an_item(rt: HostRuntime) -> Result<(), Fail> {
-    let place = key(2, b"Read Me")?;
+    let name = key(2, b"Read Me")?.name;
     let body = file(rt.alloc(), 16)?;
-    match item_of(place, body.as_slice()) {
-        Some(item) => {
-            assert_eq!(rt; item.key.parent, 2);
-            match item.body {
-                ItemRecord::File(record) => assert_eq!(rt; record.id, 16),
-                ItemRecord::Folder(_) => assert!(rt; false, "a folder"),
-            }
-        }
-        None => assert!(rt; false, "no item"),
-    }
-    let other = thread(rt.alloc(), 1, place.name)?;
-    assert!(rt; item_of(place, other.as_slice()).is_none());
+    let item = item_of(CatKey { parent: 2, name }, body.as_slice()).ok_or("no item")?;
+    assert_eq!(rt; item.key.parent, 2);
+    assert_eq!(rt; id_of(item), 16);
+    let other = thread(rt.alloc(), 1, name)?;
+    assert!(rt; item_of(CatKey { parent: 2, name }, other.as_slice()).is_none());
     Ok(())
 }
