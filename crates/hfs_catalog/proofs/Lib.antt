@@ -1,0 +1,13 @@
+pub mod Scans
+pub mod Decided
+pub mod Agreed
+pub mod Reach
+pub mod Ids
+pub mod Places
+pub mod Held
+pub mod Lawful
+pub mod NameOrder
+pub mod Found
+pub mod Steps
+pub mod Queries
+pub mod Walked

@@ -1,0 +1,9 @@
+pub mod First
+pub mod Records
+pub mod Parents
+pub mod Sound
+pub mod Faults
+pub mod Items
+pub mod Tree
+pub mod Lookups
+pub mod Laws

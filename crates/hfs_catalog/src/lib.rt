@@ -1,0 +1,19 @@
+//! The catalog of a volume: its records, when they are sound, and the items that they hold.
+#![tactic(auto)]
+
+mod checks;
+mod item;
+mod laws;
+mod lookups;
+
+pub use checks::{count_fault, name_fault, record_fault};
+pub use item::{CatalogItem, ItemRecord, item_of};
+pub use laws::{
+    count_faults, entries_are_records, id_faults, items_are_records, name_faults,
+    named_are_records, place_faults, reaches_soon, record_faults, records_are_children,
+    scans_are_first, scans_are_whole, sound_is_lawful, valence_faults, valences_are_counted,
+};
+pub use lookups::{by_id, children, lookup, thread};
+
+#[cfg(test)]
+mod tests;

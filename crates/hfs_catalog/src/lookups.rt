@@ -1,0 +1,198 @@
+//! Look-ups in the catalog of a volume.
+ghost use Rattle.std.specs.Prelude.{◌≡◌, ◌==◌, ◌++◌, IfOk, OnOk, if◌then◌else◌, ◌&&◌, Some, None, length, map, option_map, IsTrue};
+ghost use Rattle.std.specs.Option.{SomeIff, option_to_list};
+ghost use Rattle.hfs_fields.specs.Records.{is_thread, begins_thread, thread_record_of};
+ghost use Rattle.hfs_btree.specs.Pairs.{Each};
+ghost use Rattle.hfs_btree.specs.Lookups.{first_pair};
+ghost use Rattle.hfs_btree.specs.Sound.{IsDistinct};
+ghost use Rattle.hfs_catalog.specs.Records.{has_id, item_with, item_ids};
+ghost use Rattle.hfs_catalog.specs.Sound.{IsRecord, AreNamesSound, ArePlacesSound};
+ghost use Rattle.hfs_catalog.specs.Tree.{IsCatalogTree, catalog_of};
+ghost use Rattle.hfs_catalog.specs.Lookups.{catalog_item, child_named, children_of, thread_of, named_at, thread_at, with_id_at, first_key, is_under, item_at};
+
+use crate::item::{CatalogItem, is_thread, item_of, item_with_id};
+use hfs_btree::{Nodes, Walk};
+use hfs_fields::{CatKey, Name, ThreadRecord, same_name};
+use std::alloc::{AllocError, Global};
+
+/// The item at the next pair of a walk, if it has that name and stands under that parent.
+fn named_at<N: Nodes>(walk: &Walk<'_, CatKey, N>, dir: u32, name: &Name) -> Option<CatalogItem>
+    ensures { result ≡ named_at dir name.now (first_pair walk.now) }
+{
+    let Some(pair) = walk.pair() else {
+        return None;
+    };
+    if pair.key.parent == dir && same_name(pair.key.name.bytes(), name.bytes()) {
+        item_of(pair.key, pair.body)
+    } else {
+        None
+    }
+}
+
+/// The file or folder of that name, whatever its case, in a folder. None where the folder has none, and where there is
+/// no such folder.
+///
+/// It reads the header node and one node of each level, and takes no memory.
+pub fn lookup<N: Nodes>(nodes: &N, dir: u32, name: &Name) -> Option<CatalogItem>
+    requires { IsCatalogTree (N.nodes nodes.now) }
+    ensures { result ≡ option_map catalog_item (child_named (catalog_of (N.nodes nodes.now)) dir name.now) }
+{
+    let key = CatKey {
+        parent: dir,
+        name: *name,
+    };
+    let walk = Walk::from(nodes, &key);
+    named_at(&walk, dir, name)
+}
+
+/// A thread's record. None exactly where the body is no thread's, or its name's length is above 31.
+fn thread_record(body: &[u8]) -> Option<ThreadRecord>
+    ensures { SomeIff result (IsTrue (is_thread body.now && begins_thread body.now)) (thread_record_of body.now) }
+{
+    if is_thread(body) {
+        ThreadRecord::read(body)
+    } else {
+        None
+    }
+}
+
+/// The thread at the next pair of a walk, if its key has that ID.
+fn thread_at<N: Nodes>(walk: &Walk<'_, CatKey, N>, id: u32) -> Option<ThreadRecord>
+    ensures { result ≡ thread_at id (first_pair walk.now) }
+{
+    let Some(pair) = walk.pair() else {
+        return None;
+    };
+    if pair.key.parent == id {
+        thread_record(pair.body)
+    } else {
+        None
+    }
+}
+
+/// The key with this parent that comes before every other: its name is empty.
+fn first_key(parent: u32) -> CatKey
+    ensures { result ≡ first_key parent }
+{
+    let Some(name) = Name::of_bytes(&[]) else {
+        unreachable!()
+    };
+    CatKey { parent, name }
+}
+
+/// The thread of an ID: it says where the folder or file with that ID stands. None where the ID has no thread.
+///
+/// It reads the header node and one node of each level, and takes no memory.
+pub fn thread<N: Nodes>(nodes: &N, id: u32) -> Option<ThreadRecord>
+    requires tree { IsCatalogTree (N.nodes nodes.now) }
+    requires records { Each IsRecord (catalog_of (N.nodes nodes.now)) }
+    requires names { AreNamesSound (catalog_of (N.nodes nodes.now)) }
+    ensures { result ≡ option_map (λ r. thread_record_of r.1) (thread_of (catalog_of (N.nodes nodes.now)) id) }
+{
+    let walk = Walk::from(nodes, &first_key(id));
+    thread_at(&walk, id)
+}
+
+/// The item with that ID at the next pair of a walk.
+fn with_id_at<N: Nodes>(walk: &Walk<'_, CatKey, N>, id: u32) -> Option<CatalogItem>
+    ensures { result ≡ with_id_at id (first_pair walk.now) }
+{
+    let Some(pair) = walk.pair() else {
+        return None;
+    };
+    item_with_id(pair.key, pair.body, id)
+}
+
+/// The item with that ID, found by going through all records.
+fn scan<N: Nodes>(nodes: &N, id: u32) -> Option<CatalogItem>
+    requires { IsCatalogTree (N.nodes nodes.now) }
+    ensures { result ≡ option_map catalog_item (item_with (catalog_of (N.nodes nodes.now)) id) }
+{
+    let mut walk = Walk::from(nodes, &first_key(0));
+    while !is_at_end(&walk) {
+        let found = with_id_at(&walk, id);
+        if found.is_some() {
+            return found;
+        }
+        walk.advance();
+    }
+    None
+}
+
+/// Whether a walk has no next pair.
+fn is_at_end<N: Nodes>(walk: &Walk<'_, CatKey, N>) -> bool
+    ensures { result ≡ (length walk.now == 0) }
+{
+    walk.pair().is_none()
+}
+
+/// The folder or file with that ID, or None where there is none.
+///
+/// Where the ID has a thread it is found by it, with two look-ups. A file need not have a thread; without one all
+/// records are read. It takes no memory.
+pub fn by_id<N: Nodes>(nodes: &N, id: u32) -> Option<CatalogItem>
+    requires tree { IsCatalogTree (N.nodes nodes.now) }
+    requires records { Each IsRecord (catalog_of (N.nodes nodes.now)) }
+    requires ids { IsDistinct (item_ids (catalog_of (N.nodes nodes.now))) }
+    requires names { AreNamesSound (catalog_of (N.nodes nodes.now)) }
+    requires places { ArePlacesSound (catalog_of (N.nodes nodes.now)) }
+    ensures { result ≡ option_map catalog_item (item_with (catalog_of (N.nodes nodes.now)) id) }
+{
+    match thread(nodes, id) {
+        Some(thread) => lookup(nodes, thread.parent, &thread.name),
+        None => scan(nodes, id),
+    }
+}
+
+/// Whether a walk's next pair stands under that parent.
+fn is_under<N: Nodes>(walk: &Walk<'_, CatKey, N>, dir: u32) -> bool
+    ensures { result ≡ is_under dir (first_pair walk.now) }
+{
+    match walk.pair() {
+        Some(pair) => pair.key.parent == dir,
+        None => false,
+    }
+}
+
+/// The item at the next pair of a walk.
+fn item_at<N: Nodes>(walk: &Walk<'_, CatKey, N>) -> Option<CatalogItem>
+    ensures { result ≡ item_at (first_pair walk.now) }
+{
+    let Some(pair) = walk.pair() else {
+        return None;
+    };
+    item_of(pair.key, pair.body)
+}
+
+/// Takes the item at the next pair of a walk, if it is one.
+fn take_item<N: Nodes>(
+    found: &mut Vec<CatalogItem>,
+    walk: &Walk<'_, CatKey, N>,
+) -> Result<(), AllocError>
+    ensures { OnOk result (found.new.items ≡ found.old.items ++ option_to_list (item_at (first_pair walk.now))) }
+{
+    if let Some(item) = item_at(walk) {
+        found.push(item)?;
+    }
+    Ok(())
+}
+
+/// The files and folders in a folder, in name order. None are in what is no folder.
+///
+/// It reads each leaf once, and takes memory for the answer alone.
+pub fn children<N: Nodes>(
+    alloc: Global,
+    nodes: &N,
+    dir: u32,
+) -> Result<Vec<CatalogItem>, AllocError>
+    requires { IsCatalogTree (N.nodes nodes.now) }
+    ensures { IfOk result (λ items. items.items ≡ map catalog_item (children_of (catalog_of (N.nodes nodes.now)) dir)) }
+{
+    let mut found = Vec::new(alloc);
+    let mut walk = Walk::from(nodes, &first_key(dir));
+    while is_under(&walk, dir) {
+        take_item(&mut found, &walk)?;
+        walk.advance();
+    }
+    Ok(found)
+}
