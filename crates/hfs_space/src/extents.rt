@@ -9,7 +9,8 @@ use hfs_btree::{Nodes, find};
 use hfs_fields::{ExtKey, Extent};
 use std::alloc::{AllocError, Global};
 
-/// Whether each extent lies among the first `blocks` allocation blocks of the volume. One without blocks lies anywhere.
+/// Whether each extent lies among the first `blocks` allocation blocks of the volume (drNmAlBlks). One without blocks lies
+/// anywhere. Takes no memory.
 pub fn are_within(extents: &[Extent], blocks: u16) -> bool
     ensures { IsTrue result ↔ spec.AreExtentsWithin blocks extents.now }
 {
@@ -71,7 +72,9 @@ fn next_extents<N: Nodes>(
 /// that has a block and whose first block is the number of blocks so far, that record's three.
 ///
 /// The catalog file is file 4, and its data fork begins with the three extents of the master directory block. The extents
-/// file itself has only its three there.
+/// file itself has only its three there. The only error is want of memory.
+///
+/// Source: Inside Macintosh: Files, chapter 2, 'Extents overflow file'.
 pub fn fork_extents<N: Nodes>(
     alloc: Global,
     tree: &N,

@@ -60,7 +60,10 @@ fn read_extent<B: Blocks>(
 }
 
 /// Bytes of a fork with these extents and this logical length, in bytes: those from `offset` on, `count` of them or as many
-/// as there are. Sums are taken in 64 bits. Only the blocks that have one of these bytes are read.
+/// as there are. Sums are taken in 64 bits. Only the blocks that have one of these bytes are read. The only error is want of
+/// memory.
+///
+/// Source: Inside Macintosh: Files, chapter 2, 'Extents overflow file'.
 pub fn read_fork<B: Blocks>(
     alloc: Global,
     blocks: &B,
