@@ -65,7 +65,7 @@ module _ {K : Type 0} (g : Ghosts K) (nodes : Store) where
   summary-is h first last records most e few f l r =
       ap (λ (k : ℕ). summary h k last records) f ∙ ap (λ (k : ℕ). summary h (first_of (last_level g nodes h.depth (h.root ∷ []))) k records) l
       ∙ ap (λ (b : Bool). (h.first_leaf == first_of (last_level g nodes h.depth (h.root ∷ []))) && (h.last_leaf == last_of (last_level g nodes h.depth (h.root ∷ []))) && (nat_lt 0 h.depth || (h.root == 0))
-        && (b && (h.free_nodes == free_nodes nodes)))
+      && (b && (h.free_nodes == free_nodes nodes)))
       (ap (λ (k : ℕ). h.records == k) r ∙ same-count h.records (total h) most few)
       ∙ summary-total h e
 

@@ -176,11 +176,11 @@ module _ (nodes : Store) where
   unfolding has_map
   map-from h =
       let none = none-of-passes (is_map_node nodes) (λ n. n) (λ n. false) (map_nodes nodes)
-              (record {
-                tests = each-mono _ _ (map_nodes nodes) map-node-from h.chain;
-                different = subst IsDistinct (sym (same-numbers (map_nodes nodes))) h.different;
-                new = never (map (λ n. n) (map_nodes nodes));
-              }) in
+      (record {
+        tests = each-mono _ _ (map_nodes nodes) map-node-from h.chain;
+        different = subst IsDistinct (sym (same-numbers (map_nodes nodes))) h.different;
+        new = never (map (λ n. n) (map_nodes nodes));
+      }) in
       and_from _ _ (and_from _ _ (ap is_none none) (le-leb _ _ h.long)) (all-of-each (is_marked nodes) (own_nodes nodes) h.marked)
 
 -- ---- the levels

@@ -19,11 +19,7 @@ use hfs_node::view;
 use std::alloc::Global;
 
 /// Whether the header record names the ends of the last level, no root in an empty tree, and the two counts.
-fn is_right_summary<N: Nodes>(
-    tree: &MappedNodes<'_, N>,
-    header: &Header,
-    leaves: &Leaves,
-) -> bool
+fn is_right_summary<N: Nodes>(tree: &MappedNodes<'_, N>, header: &Header, leaves: &Leaves) -> bool
     ensures right { result ≡ ((header.now.first_leaf == leaves.now.first) && (header.now.last_leaf == leaves.now.last) && (nat_lt 0 header.now.depth || (header.now.root == 0))
         && ((header.now.records == leaves.now.records) && (header.now.free_nodes == free_nodes (N.nodes tree.now.nodes.now)))) }
     ensures small { header.now.records < 2 ^ 32 }
@@ -68,11 +64,7 @@ fn check_mapped<K: Key, N: Nodes>(
 /// rule that fails is another one. `TreeFault::Memory` where memory was refused.
 ///
 /// Source: Inside Macintosh: Files, chapter 2, 'B*-trees'; docs/CHECKS.md has the rules.
-pub fn check_shape<K: Key, N: Nodes>(
-    alloc: Global,
-    nodes: &N,
-    size: u32,
-) -> Result<(), TreeFault>
+pub fn check_shape<K: Key, N: Nodes>(alloc: Global, nodes: &N, size: u32) -> Result<(), TreeFault>
     requires { size ≤ 512 * length (N.nodes nodes.now) }
     ensures place { MatchResult result (λ _. shape_fault K.Key size (N.nodes nodes.now) ≡ None) (IsFault (shape_fault K.Key size (N.nodes nodes.now))) }
     ensures shaped { OnOk result (IsShaped K.Key size (N.nodes nodes.now)) }

@@ -44,8 +44,18 @@ fn nodes_of_the_levels(rt: HostRuntime) {
     // children: the root, the node itself, a child of another node, none of the tree's
     assert_fault(&rt, tree, &[put(3, 22, &[0, 0, 0, 2])], Some(2));
     assert_fault(&rt, tree, &[put(3, 22, &[0, 0, 0, 3])], Some(3));
-    assert_fault(&rt, tree, &[put(4, 34, &[0, 0, 0, 5]), put(7, 0, &[0, 0, 0, 5])], Some(5));
-    assert_fault(&rt, tree, &[put(2, 34, &[0, 0, 0, 99]), put(3, 0, &[0, 0, 0, 99])], Some(99));
+    assert_fault(
+        &rt,
+        tree,
+        &[put(4, 34, &[0, 0, 0, 5]), put(7, 0, &[0, 0, 0, 5])],
+        Some(5),
+    );
+    assert_fault(
+        &rt,
+        tree,
+        &[put(2, 34, &[0, 0, 0, 99]), put(3, 0, &[0, 0, 0, 99])],
+        Some(99),
+    );
     // kind, height, no record
     assert_fault(&rt, tree, &[put(6, 8, &[5])], Some(6));
     assert_fault(&rt, tree, &[put(6, 8, &[0])], Some(6));
@@ -102,12 +112,24 @@ fn trees_of_two_nodes(rt: HostRuntime) {
     assert_eq!(rt; small_fault(rt.alloc(), &one_leaf, leaf), None);
     let mut high = leaf;
     high[9] = 2;
-    assert_eq!(rt; small_fault(rt.alloc(), &one_leaf, high), Some(TreeFault::At(1)));
+    assert_eq!(rt;
+        small_fault(rt.alloc(), &one_leaf, high),
+        Some(TreeFault::At(1))
+    );
     let mut two_records = one_leaf;
     two_records[9] = 2;
-    assert_eq!(rt; small_fault(rt.alloc(), &two_records, leaf), Some(TreeFault::At(0)));
+    assert_eq!(rt;
+        small_fault(rt.alloc(), &two_records, leaf),
+        Some(TreeFault::At(0))
+    );
     let mut two_levels = one_leaf;
     two_levels[1] = 2;
-    assert_eq!(rt; small_fault(rt.alloc(), &two_levels, parent_of(1)), Some(TreeFault::At(1)));
-    assert_eq!(rt; small_fault(rt.alloc(), &two_levels, parent_of(9)), Some(TreeFault::At(9)));
+    assert_eq!(rt;
+        small_fault(rt.alloc(), &two_levels, parent_of(1)),
+        Some(TreeFault::At(1))
+    );
+    assert_eq!(rt;
+        small_fault(rt.alloc(), &two_levels, parent_of(9)),
+        Some(TreeFault::At(9))
+    );
 }

@@ -18,7 +18,7 @@ loop-most-preserved g c =
     let rest = chain_from nodes (most - 1) c.in_ok-next.next in
     let part : ℕ → List ℕ = λ m. record_in nodes m 0 in
     let here : chain_from nodes most n ≡ n ∷ rest =
-        chain-step nodes most (most - 1) n (omega arith) c.if-n-eq0.false ∙ ap (λ (m : ℕ). n ∷ chain_from nodes (most - 1) m) (sym c.in_ok-next.ensures.next) in
+    chain-step nodes most (most - 1) n (omega arith) c.if-n-eq0.false ∙ ap (λ (m : ℕ). n ∷ chain_from nodes (most - 1) m) (sym c.in_ok-next.ensures.next) in
     let len = c.loop-most.invariant.len in
     let ok = c.loop-most.met.ok in
     let counted = c.requires.counted in

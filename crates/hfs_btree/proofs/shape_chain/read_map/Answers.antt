@@ -19,7 +19,7 @@ returns-then-div_ceil-len-clause-wrong g c =
     let nodes = g.N.Nodes.nodes c.args.nodes.now in
     let is = chain-is nodes c.args.count c.forward.result c.args.head.now c.requires.head c.requires.counted c.forward.ensures in
     let bytes = bytes-are nodes c.args.head.now c.in_ok-bytes.bytes.items c.read_chain.new.map.items (chain_from nodes c.args.count c.forward.result) c.requires.head
-            (c.in_ok-bytes.ensures.items ∙ c.record.ensures.bytes) is c.in_ok-read_chain.ensures.parts in
+    (c.in_ok-bytes.ensures.items ∙ c.record.ensures.bytes) is c.in_ok-read_chain.ensures.parts in
     (refl, no-bits nodes (omega (arith, ap (λ (xs : List ℕ). length xs) bytes, c.read_chain.new.map.ok.0, c.requires.counted, c.len.ensures, c.div_ceil.ensures)))
 
 pub invariant_of-tree : goal.invariant_of-tree
@@ -27,7 +27,7 @@ invariant_of-tree g c =
     let nodes = g.N.Nodes.nodes c.args.nodes.now in
     let is = chain-is nodes c.args.count c.forward.result c.args.head.now c.requires.head c.requires.counted c.forward.ensures in
     let bytes = bytes-are nodes c.args.head.now c.in_ok-bytes.bytes.items c.read_chain.new.map.items (chain_from nodes c.args.count c.forward.result) c.requires.head
-            (c.in_ok-bytes.ensures.items ∙ c.record.ensures.bytes) is c.in_ok-read_chain.ensures.parts in
+    (c.in_ok-bytes.ensures.items ∙ c.record.ensures.bytes) is c.in_ok-read_chain.ensures.parts in
     record {
       counted = c.requires.counted;
       mapped = c.deref.ensures.value ∙ bytes;
@@ -48,7 +48,7 @@ returns-clause-right g c =
     let is = chain-is nodes c.args.count c.forward.result c.args.head.now c.requires.head c.requires.counted c.forward.ensures in
     let unmet = c.in_ok-met.ensures.items_if_clones_equal (λ y h. h) in
     let bytes = bytes-are nodes c.args.head.now c.in_ok-bytes.bytes.items c.read_chain.new.map.items (chain_from nodes c.args.count c.forward.result) c.requires.head
-            (c.in_ok-bytes.ensures.items ∙ c.record.ensures.bytes) is c.in_ok-read_chain.ensures.parts in
+    (c.in_ok-bytes.ensures.items ∙ c.record.ensures.bytes) is c.in_ok-read_chain.ensures.parts in
     let own : c.deref-2.result.now ≡ own_nodes nodes = c.deref-2.ensures.value ∙ c.in_ok-read_chain.ensures.numbers ∙ ap (λ (ns : List ℕ). ns ++ chain_from nodes c.args.count c.forward.result) c.in_ok-push.ensures.items ∙ ap (λ (ns : List ℕ). (ns ++ 0 ∷ []) ++ chain_from nodes c.args.count c.forward.result) c.new-own.ensures.items ∙ ap (λ (ns : List ℕ). 0 ∷ ns) is in
     has_map-from nodes _ (chain-fault-is nodes c.in_ok-met.met.items c.args.count (chain_from nodes c.args.count c.forward.result) unmet is) c.in_ok-read_chain.ensures.right
     (omega (arith, ap (λ (xs : List ℕ). length xs) bytes, c.read_chain.new.map.ok.0, c.requires.counted, c.len.ensures, c.div_ceil.ensures))
