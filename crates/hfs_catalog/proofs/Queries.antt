@@ -1,30 +1,29 @@
 -- What the volume's queries find among a sound catalog's items.
-use Rattle.std.proofs.Common.{◌≡◌, ◌⊎◌, inl, inr, ⊎_elim, ℕ, ◌+◌, ◌<◌, ◌≤◌, Bool, true, false, cond, ◌&&◌, eqb, List, [], ◌∷◌, length, count_by, map, filter, refl, sym, ◌∙◌, ap, subst, Option, Some, None}
+use Rattle.std.proofs.Common.{◌≡◌, ⊎_elim, ℕ, ◌≤◌, Bool, true, false, cond, ◌&&◌, eqb, List, [], ◌∷◌, length, filter, refl, sym, ◌∙◌, ap, Option, Some, None}
 use Rattle.std.specs.Prelude.{T}
 use Rattle.std.specs.List.{find}
-use Rattle.std.specs.Option.{option_map, option_map_or, unwrap_or}
+use Rattle.std.specs.Option.{option_map, unwrap_or}
 use Rattle.std.specs.declared.cmp.Ordering.{Ordering}
 use Rattle.std.specs.declared.cmp.Ordering.TheVariants.{Less, Equal, Greater}
 use Rattle.std.specs.Ordering.{nat_cmp, is_eq, is_lt, ordering_reverse}
 use Rattle.std.specs.Cmp.{unsigned_ties, nat_cmp_total}
 use Rattle.std.specs.FinMap as fin
 use Rattle.std.specs.FinMap.Entries.{below_all, is_sorted}
-use Rattle.std.proofs.lemmas.Bool.{eqb-true, eq-eqb, ne_eqb, cases_eq, true≢false, and_parts, and_from}
+use Rattle.std.proofs.lemmas.Bool.{eq-eqb, ne_eqb, cases_eq, true≢false, and_parts, and_from}
 use Rattle.std.proofs.lemmas.List.{length-map}
 use Rattle.std.proofs.lemmas.List.Sums.{length-filter}
 use Rattle.hfs_fields.specs.Order.{same_name}
-use Rattle.hfs_fields.specs.Records.{is_dir, is_item, item_id}
+use Rattle.hfs_fields.specs.Records.{is_item, item_id}
 use Rattle.hfs_model.specs.declared.item.Item.{Item}
 use Rattle.hfs_model.specs.Volume.{Items, Entry}
 use Rattle.hfs_model.specs.Children as model
-use Rattle.hfs_model.specs.Lawful.{Has}
 use Rattle.hfs_model.specs.Laws.{ChildrenAreOne, CountsChildren}
 use Rattle.hfs_catalog.specs.Records.{Record, Catalog, item_with, is_child_of, valence_of}
 use Rattle.hfs_catalog.specs.Sound.{IsSoundCatalog}
-use Rattle.hfs_catalog.specs.Items.{Contents, item_of, entry_of, items_in, children_in}
+use Rattle.hfs_catalog.specs.Items.{Contents, item_of, entry_of, items_in}
 use Rattle.hfs_catalog.specs.Lookups.{is_child_named, child_named}
 use Rattle.hfs_catalog.proofs.Ids.{later_from_distinct}
-use Rattle.hfs_catalog.proofs.Held.{In, found_in, with_id, item_parent, item_name, items_are_records, has_item, has_record}
+use Rattle.hfs_catalog.proofs.Held.{found_in, with_id, item_parent, item_name, items_are_records, has_item, has_record}
 use Rattle.hfs_catalog.proofs.NameOrder.{found_by_id, records_are_children}
 use Rattle.hfs_catalog.proofs.Found.{only}
 
