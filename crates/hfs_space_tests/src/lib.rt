@@ -7,3 +7,5 @@ mod bitmaps;
 mod forks;
 #[cfg(test)]
 mod laid;
+#[cfg(test)]
+mod overflow;

@@ -1,0 +1,110 @@
+//! The extents of forks that go on in an extents tree of one leaf, laid by hand.
+ghost use Rattle.std.specs.Prelude.{◌≡◌};
+ghost use Rattle.hfs_space.specs.TreeKeys.{IsExtentsTree};
+ghost use Rattle.hfs_space_tests.specs.OverflowTree.{header_bytes, leaf_bytes};
+
+use hfs_btree::NodeList;
+use hfs_fields::Extent;
+use hfs_space::{ForkKind, fork_extents};
+use std::test::Fail;
+
+/// The header node: depth 1, root, first and last leaf 1, four records, two nodes, none of them free.
+fn header_node() -> [u8; 512]
+    ensures { result ≡ header_bytes }
+{
+    let mut bytes = [0; 512];
+    bytes[8..12].copy_from_slice(&[1, 0, 0, 3]);
+    bytes[14..44].copy_from_slice(&[
+        0, 1, 0, 0, 0, 1, 0, 0, 0, 4, 0, 0, 0, 1, 0, 0, 0, 1, 2, 0, 0, 7, 0, 0, 0, 2, 0, 0, 0, 0,
+    ]);
+    bytes[248] = 192;
+    bytes[504..512].copy_from_slice(&[1, 248, 0, 248, 0, 120, 0, 14]);
+    bytes
+}
+
+/// The leaf. Its records, each of a data fork: file 16 from block 3 on, the extent 16, 1; file 17 from block 0 on, 20, 2;
+/// file 18 from block 3 on, 30, 1; 32, 1; 34, 1, and from block 6 on, 36, 1.
+fn leaf_node() -> [u8; 512]
+    ensures { result ≡ leaf_bytes }
+{
+    let mut bytes = [0; 512];
+    bytes[8..12].copy_from_slice(&[255, 1, 0, 4]);
+    bytes[14..94].copy_from_slice(&[
+        7, 0, 0, 0, 0, 16, 0, 3, 0, 16, 0, 1, 0, 0, 0, 0, 0, 0, 0, 0, 7, 0, 0, 0, 0, 17, 0, 0, 0,
+        20, 0, 2, 0, 0, 0, 0, 0, 0, 0, 0, 7, 0, 0, 0, 0, 18, 0, 3, 0, 30, 0, 1, 0, 32, 0, 1, 0, 34,
+        0, 1, 7, 0, 0, 0, 0, 18, 0, 6, 0, 36, 0, 1, 0, 0, 0, 0, 0, 0, 0, 0,
+    ]);
+    bytes[502..512].copy_from_slice(&[0, 94, 0, 74, 0, 54, 0, 34, 0, 14]);
+    bytes
+}
+
+fn overflow_tree() -> [[u8; 512]; 2]
+    ensures { IsExtentsTree result }
+{
+    [header_node(), leaf_node()]
+}
+
+/// The extent of so many blocks from this one on.
+fn extent(first: u16, count: u16) -> Extent {
+    Extent { first, count }
+}
+
+const NONE: Extent = Extent { first: 0, count: 0 };
+
+/// The three extents of the laid volume's file: blocks 10, 12 and 14.
+fn laid_extents() -> [Extent; 3] {
+    [extent(10, 1), extent(12, 1), extent(14, 1)]
+}
+
+#[test]
+fn forks_go_on_in_the_tree(rt: HostRuntime) -> Result<(), Fail> {
+    let list = overflow_tree();
+    let tree = NodeList { nodes: &list };
+    let laid = fork_extents(rt.alloc(), &tree, 16, ForkKind::Data, &laid_extents())?;
+    let wanted = [
+        extent(10, 1),
+        extent(12, 1),
+        extent(14, 1),
+        extent(16, 1),
+        NONE,
+        NONE,
+    ];
+    assert!(rt; laid.as_slice() == wanted.as_slice());
+    let from_the_start = fork_extents(rt.alloc(), &tree, 17, ForkKind::Data, &[NONE; 3])?;
+    let wanted = [NONE, NONE, NONE, extent(20, 2), NONE, NONE];
+    assert!(rt; from_the_start.as_slice() == wanted.as_slice());
+    Ok(())
+}
+
+#[test]
+fn seven_extents(rt: HostRuntime) -> Result<(), Fail> {
+    let list = overflow_tree();
+    let tree = NodeList { nodes: &list };
+    let first = [extent(24, 1), extent(26, 1), extent(28, 1)];
+    let seven = fork_extents(rt.alloc(), &tree, 18, ForkKind::Data, &first)?;
+    let wanted = [
+        extent(24, 1),
+        extent(26, 1),
+        extent(28, 1),
+        extent(30, 1),
+        extent(32, 1),
+        extent(34, 1),
+        extent(36, 1),
+        NONE,
+        NONE,
+    ];
+    assert!(rt; seven.as_slice() == wanted.as_slice());
+    Ok(())
+}
+
+#[test]
+fn forks_end_where_nothing_goes_on(rt: HostRuntime) -> Result<(), Fail> {
+    let list = overflow_tree();
+    let tree = NodeList { nodes: &list };
+    let other_fork = fork_extents(rt.alloc(), &tree, 16, ForkKind::Resource, &laid_extents())?;
+    assert!(rt; other_fork.as_slice() == laid_extents().as_slice());
+    let two_blocks = [extent(24, 2), NONE, NONE];
+    let at_another_block = fork_extents(rt.alloc(), &tree, 18, ForkKind::Data, &two_blocks)?;
+    assert!(rt; at_another_block.as_slice() == two_blocks.as_slice());
+    Ok(())
+}
