@@ -39,12 +39,14 @@ pub fn bytes_by(alloc: Global, len: usize, byte: fn(usize) -> u8) -> Result<Vec<
     Ok(bytes)
 }
 
-/// The fields of a master directory block that has these three and zeros: drNmAlBlks, the blocks of 512 bytes in an
-/// allocation block, and drAlBlSt.
-pub fn mdb_with(allocation_blocks: u8, blocks_each: u8, allocation_start: u8) -> Mdb {
+/// The fields of a master directory block that the writer lays, with these three and zeros: drNmAlBlks, the blocks of 512
+/// bytes in an allocation block, and drAlBlSt.
+pub fn mdb_with(allocation_blocks: u16, blocks_each: u8, allocation_start: u16) -> Mdb {
     let mut block = [0; 512];
-    block[19] = allocation_blocks;
-    block[22] = (blocks_each % 128) * 2;
-    block[29] = allocation_start;
+    let mut mdb = Mdb::read(&block);
+    mdb.allocation_blocks = allocation_blocks;
+    mdb.allocation_block_size = 512 * u32::from(blocks_each);
+    mdb.allocation_start = allocation_start;
+    mdb.write(&mut block);
     Mdb::read(&block)
 }

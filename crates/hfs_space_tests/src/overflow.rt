@@ -3,9 +3,10 @@ ghost use Rattle.std.specs.Prelude.{◌≡◌};
 ghost use Rattle.hfs_space.specs.TreeKeys.{IsExtentsTree};
 ghost use Rattle.hfs_space_tests.specs.OverflowTree.{header_bytes, leaf_bytes};
 
-use hfs_btree::NodeList;
-use hfs_fields::Extent;
-use hfs_space::{ForkKind, fork_extents};
+use crate::laid::{bytes_by, laid_byte, mdb_with};
+use hfs_btree::{ImageBytes, NodeList};
+use hfs_fields::{Extent, FileRecord, ForkRecord};
+use hfs_space::{ForkKind, are_within, fork_extents, read_fork};
 use std::test::Fail;
 
 /// The header node: depth 1, root, first and last leaf 1, four records, two nodes, none of them free.
@@ -106,5 +107,45 @@ fn forks_end_where_nothing_goes_on(rt: HostRuntime) -> Result<(), Fail> {
     let two_blocks = [extent(24, 2), NONE, NONE];
     let at_another_block = fork_extents(rt.alloc(), &tree, 18, ForkKind::Data, &two_blocks)?;
     assert!(rt; at_another_block.as_slice() == two_blocks.as_slice());
+    Ok(())
+}
+
+/// The record of the laid volume's file: 2,000 bytes in its data fork.
+fn laid_record() -> [u8; 102] {
+    let mut file = FileRecord::new(16, 0);
+    file.data = ForkRecord {
+        first_block: 0,
+        length: 2_000,
+        physical_length: 2_048,
+        extents: laid_extents(),
+    };
+    let mut bytes = [0; 102];
+    file.write(&mut bytes);
+    bytes
+}
+
+#[test]
+fn a_file_is_read_by_its_record(rt: HostRuntime) -> Result<(), Fail> {
+    let Some(file) = FileRecord::read(&laid_record()) else {
+        return Err(Fail::new("not a file's record"));
+    };
+    let list = overflow_tree();
+    let tree = NodeList { nodes: &list };
+    let data = ForkKind::Data;
+    let extents = fork_extents(rt.alloc(), &tree, file.id, data, &file.data.extents)?;
+    let image = bytes_by(rt.alloc(), 64 * 512, laid_byte)?;
+    let blocks = ImageBytes { bytes: &image };
+    let mdb = mdb_with(58, 1, 4);
+    assert!(rt;
+        mdb.allocation_blocks == 58 && mdb.allocation_block_size == 512 && mdb.allocation_start == 4
+    );
+    assert!(rt; are_within(&extents, 58));
+    // From 1,530 on the last bytes of the third block and the first of the fourth, which the tree has.
+    let length = file.data.length;
+    let middle = read_fork(rt.alloc(), &blocks, &mdb, &extents, length, 1_530, 10)?;
+    assert_eq!(rt;
+        middle.as_slice(),
+        [24, 25, 26, 27, 28, 29, 30, 31, 32, 33].as_slice()
+    );
     Ok(())
 }
