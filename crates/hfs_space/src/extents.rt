@@ -88,8 +88,9 @@ pub fn fork_extents<N: Nodes>(
     let mut extents = Vec::from_slice(alloc, first)?;
     let mut blocks = block_total(first);
     while let Some(more) = next_extents(alloc, tree, file, fork, blocks)? {
+        let count = block_total(&more);
         extents.extend_from_slice(&more)?;
-        blocks += block_total(&more);
+        blocks += count;
     }
     Ok(extents)
 }

@@ -16,9 +16,9 @@ pub loop-extents-preserved : goal.loop-extents-preserved
 loop-extents-preserved g c =
     let goes_on = subst (GoesOnWith (overflow_of (g.N.Nodes.nodes c.args.tree.now)) c.args.file (fork_byte c.args.fork) c.loop-extents.blocks) c.in-Some.is c.in_ok-more.ensures in
     record {
-      few = omega (arith, goes_on.0, c.block_total-blocks-in-Some.ensures.bound);
+      few = omega (arith, goes_on.0, c.block_total-count.ensures.bound);
       all = extents-more (overflow_of (g.N.Nodes.nodes c.args.tree.now)) c.args.file (fork_byte c.args.fork) c.args.first.now c.loop-extents.extents.items c.in-Some.more c.extend_from_slice.new.self.items
-          c.loop-extents.blocks c.block_total-blocks-in-Some.result c.loop-extents.invariant.all goes_on.2 c.in_ok-extend_from_slice.ensures.items c.block_total-blocks-in-Some.ensures.total;
+          c.loop-extents.blocks c.block_total-count.result c.loop-extents.invariant.all goes_on.2 c.in_ok-extend_from_slice.ensures.items c.block_total-count.ensures.total;
     }
 
 pub returns : goal.returns
