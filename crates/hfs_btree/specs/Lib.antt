@@ -11,3 +11,6 @@ pub mod Elements
 pub mod Lookups
 pub mod Search
 pub mod Walk
+pub mod First
+pub mod Scans
+pub mod Order

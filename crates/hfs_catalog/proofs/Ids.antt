@@ -9,11 +9,11 @@ use Rattle.hfs_fields.specs.Records.{is_item, item_id}
 use Rattle.hfs_btree.specs.Pairs.{Each}
 use Rattle.hfs_btree.specs.Elements.{each-mono}
 use Rattle.hfs_btree.specs.Sound.{IsDistinct, IsOther}
-use Rattle.hfs_catalog.specs.First.{first_failing}
+use Rattle.hfs_btree.specs.First.{first_failing}
 use Rattle.hfs_catalog.specs.Records.{Record, Catalog, has_id, items_of, item_ids}
 use Rattle.hfs_catalog.specs.Sound.{HasRightId, AreIdsSound}
 use Rattle.hfs_catalog.specs.Faults.{implies, is_id_right, is_id_new, is_item_id_right, id_fault}
-use Rattle.hfs_catalog.proofs.Scans.{all_decides, passes_from_none, none_from_passes, both_from_passes, passes_from_both, Later, later_from_passes, passes_from_later}
+use Rattle.hfs_btree.specs.Scans.{all_decides, passes_from_none, none_from_passes, both_from_passes, passes_from_both, Later, later_from_passes, passes_from_later}
 use Rattle.hfs_catalog.proofs.Decided.{itself, Decides-implies, id_decides}
 use Rattle.hfs_catalog.proofs.Agreed.{neither, both_none, holds, no_fault}
 

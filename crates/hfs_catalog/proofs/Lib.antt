@@ -1,4 +1,3 @@
-pub mod Scans
 pub mod Decided
 pub mod Agreed
 pub mod Reach

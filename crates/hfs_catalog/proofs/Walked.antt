@@ -1,7 +1,7 @@
 -- The steps of a scan by places.
 use Rattle.std.proofs.Common.{◌≡◌, ℕ, ◌+◌, ◌<◌, ◌≤◌, Bool, true, false, cond, List, [], ◌∷◌, ◌++◌, length, get_or, take, drop, sym, ap, ◌∙◌, arith, Some, None}
 use Rattle.std.proofs.lemmas.List.{drop_more, drop_all, take_more, length-take-le}
-use Rattle.hfs_catalog.specs.First.{first_failing}
+use Rattle.hfs_btree.specs.First.{first_failing}
 
 module _ {X : Type 0} (test : List X → X → Bool) (xs : List X) (i : ℕ) where
   step : (d : X) → i < length xs → first_failing test (take i xs) (drop i xs) ≡ cond (test (take i xs) (get_or xs i d)) (first_failing test (take i xs ++ get_or xs i d ∷ []) (drop (i + 1) xs)) (Some (length (take i xs)))

@@ -11,7 +11,7 @@ use Rattle.hfs_fields.specs.Names.{is_item_name}
 use Rattle.hfs_fields.specs.Order.{same_name}
 use Rattle.hfs_fields.specs.Keys.{cat_cmp}
 use Rattle.hfs_fields.specs.Records.{is_dir, is_item, is_thread, is_dir_thread, begins_thread, item_id, dir_record_of, thread_record_of}
-use Rattle.hfs_catalog.specs.First.{first_failing}
+use Rattle.hfs_btree.specs.First.{first_failing}
 use Rattle.hfs_catalog.specs.Records.{Record, Catalog, has_id, item_with, is_folder_id, has_thread, valence_of}
 use Rattle.hfs_catalog.specs.Parents.{reaches_root}
 use Rattle.hfs_catalog.specs.Sound.{counts_of}

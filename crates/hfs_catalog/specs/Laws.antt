@@ -8,7 +8,7 @@ use Rattle.hfs_btree.specs.Pairs.{Each}
 use Rattle.hfs_model.specs.Children.{children}
 use Rattle.hfs_model.specs.Children as model
 use Rattle.hfs_model.specs.Lawful.{AreLawful}
-use Rattle.hfs_catalog.specs.First.{first_failing, PassesAt, EachPasses}
+use Rattle.hfs_btree.specs.First.{first_failing, EachPasses, IsFirst}
 use Rattle.hfs_catalog.specs.Records.{Catalog, item_with, valence_of}
 use Rattle.hfs_catalog.specs.Parents.{ReachesRoot, reaches_root}
 use Rattle.hfs_catalog.specs.Sound.{EachFolder, IsRecord, AreIdsSound, AreNamesSound, IsIndexKeyName, ArePlacesSound, HasValence, AreCountsSound, IsSoundCatalog}
@@ -22,12 +22,7 @@ use Rattle.hfs_catalog.specs.Lookups.{child_named}
 abbrev pub ScansAreWhole : Type 0 → Type 0
 ScansAreWhole X = (test : List X → X → Bool) (xs : List X) → (first_failing test [] xs ≡ None) ↔ EachPasses test xs
 
--- what it finds fails, and each element before it passes
-pub record IsFirst {X : Type 0} (test : List X → X → Bool) (xs : List X) (i : ℕ) : Type 0 where
-  pub within : i < length xs
-  pub fails : (d : X) → test (take i xs) (slice_index_or xs i d) ≡ false
-  pub before : (k : ℕ) → k < i → PassesAt test xs k
-
+-- what it finds is the first that fails
 abbrev pub ScansAreFirst : Type 0 → Type 0
 ScansAreFirst X = (test : List X → X → Bool) (xs : List X) (i : ℕ) → first_failing test [] xs ≡ Some i → IsFirst test xs i
 

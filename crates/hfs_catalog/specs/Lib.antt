@@ -1,4 +1,3 @@
-pub mod First
 pub mod Records
 pub mod Parents
 pub mod Sound

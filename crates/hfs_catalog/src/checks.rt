@@ -5,7 +5,7 @@ ghost use Rattle.std.specs.Prelude.{◌≡◌, ◌&&◌, [], length, count_by};
 ghost use Rattle.std.specs.List.{list_all};
 ghost use Rattle.hfs_fields.specs.Records.{is_dir, is_file, begins_thread, thread_record_of};
 ghost use Rattle.hfs_fields.specs.Names.{is_item_name};
-ghost use Rattle.hfs_catalog.specs.First.{first_failing};
+ghost use Rattle.hfs_btree.specs.First.{first_failing};
 ghost use Rattle.hfs_catalog.specs.Sound.{is_file_in, is_folder_in};
 ghost use Rattle.hfs_catalog.specs.Faults.{is_record_right, record_fault, is_name_right, is_index_key_name, name_fault, count_fault};
 

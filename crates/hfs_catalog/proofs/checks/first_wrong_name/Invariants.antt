@@ -1,5 +1,5 @@
 use Rattle.std.proofs.Common.{◌≡◌, [], take, drop}
-use Rattle.hfs_catalog.specs.First.{first_failing}
+use Rattle.hfs_btree.specs.First.{first_failing}
 use Rattle.hfs_catalog.specs.Faults.{is_name_right}
 use Rattle.hfs_catalog.proofs.checks.first_wrong_name.Given as goal
 

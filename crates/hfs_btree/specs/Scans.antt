@@ -8,8 +8,7 @@ use Rattle.std.proofs.lemmas.List.{append-nil, length-append}
 use Rattle.std.proofs.lemmas.Bool.{and_parts, and_from}
 use Rattle.hfs_btree.specs.Pairs.{Each}
 use Rattle.hfs_btree.specs.Elements.{each-left, each-right, each-append}
-use Rattle.hfs_catalog.specs.First.{first_failing, EachPasses}
-use Rattle.hfs_catalog.specs.Laws.{IsFirst}
+use Rattle.hfs_btree.specs.First.{first_failing, EachPasses, IsFirst}
 
 some_none : {A : Type 0} (x : A) → Some x ≡ None → ⊥
 some_none x e = cc
