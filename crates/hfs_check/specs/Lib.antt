@@ -4,3 +4,9 @@ pub mod NewMdb
 pub mod BitRow
 pub mod NewTrees
 pub mod Image
+pub mod Parts
+pub mod Sound
+pub mod Faults
+pub mod VolumeOf
+pub mod Agree
+pub mod Laws

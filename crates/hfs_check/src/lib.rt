@@ -7,6 +7,7 @@ mod fault;
 mod formatting;
 mod layout;
 mod mdb_block;
+mod mount_fault;
 mod node_block;
 mod plan;
 mod root_leaf;
@@ -14,6 +15,7 @@ mod tree_header;
 
 pub use crate::fault::FormatFault;
 pub use crate::formatting::format;
+pub use crate::mount_fault::MountFault;
 pub use crate::plan::FormatPlan;
 
 #[cfg(test)]
