@@ -4,3 +4,4 @@ pub mod Releases
 pub mod Pieces
 pub mod ForkPieces
 pub mod GoingOn
+pub mod TreeRuns

@@ -8,3 +8,4 @@ pub mod Owners
 pub mod ForkLaws
 pub mod Counting
 pub mod BitmapLaws
+pub mod TreeFiles

@@ -8,6 +8,7 @@ mod fork;
 mod fork_kind;
 mod patch;
 mod patched;
+mod tree_file;
 
 pub use bitmap::Bitmap;
 pub use extents::{are_within, fork_extents};
@@ -15,3 +16,4 @@ pub use fork::read_fork;
 pub use fork_kind::ForkKind;
 pub use patch::Patch;
 pub use patched::Patched;
+pub use tree_file::tree_runs;
