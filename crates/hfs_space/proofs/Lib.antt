@@ -8,3 +8,4 @@ pub mod Decided
 pub mod Agreed
 pub mod OwnedOnce
 pub mod OwnedWithin
+pub mod TreeRuns

@@ -20,7 +20,7 @@ module _ {X : Type 0} where
       ∙ ap (λ l. l ++ drop (s - p) ys) (sym (drop_all p xs all)))
       (cases_lt s (length xs))
 
-  take_past : (r n : ℕ) (xs ys : List X) → n ≡ min r (length xs) → take r (xs ++ ys) ≡ take n xs ++ take (r - n) ys
+  pub take_past : (r n : ℕ) (xs ys : List X) → n ≡ min r (length xs) → take r (xs ++ ys) ≡ take n xs ++ take (r - n) ys
   take_past r n xs ys e = ⊎_elim
       (λ within.
       let same : r ≡ n = omega arith in

@@ -9,6 +9,7 @@ mod fork_kind;
 mod laws;
 mod patch;
 mod patched;
+mod tree_file;
 
 pub use bitmap::Bitmap;
 pub use extents::{are_within, fork_extents};
@@ -17,3 +18,4 @@ pub use fork_kind::ForkKind;
 pub use laws::{fork_faults, owned_are_within, space_faults, tree_files};
 pub use patch::Patch;
 pub use patched::Patched;
+pub use tree_file::tree_runs;

@@ -1,9 +1,9 @@
 //! Reading forks of the laid volume, of one with larger allocation blocks, and of one in seven extents.
 
 use crate::laid::{bytes_by, fork_byte, laid_byte, mdb_with};
-use hfs_btree::ImageBytes;
+use hfs_btree::{ImageBytes, Run};
 use hfs_fields::Extent;
-use hfs_space::{are_within, read_fork};
+use hfs_space::{are_within, read_fork, tree_runs};
 use std::test::Fail;
 
 /// The extents, from pairs of a first block and a count.
@@ -120,4 +120,36 @@ fn extents_past_the_volume(rt: HostRuntime) {
     assert!(rt; are_within(&extents_of([(0, 58), (57, 1), (60_000, 0)]), 58));
     assert!(rt; !are_within(&extents_of([(57, 2), (0, 1), (0, 0)]), 58));
     assert!(rt; !are_within(&extents_of([(0, 1), (65_535, 65_535), (0, 0)]), 58));
+}
+
+#[test]
+fn tree_files(rt: HostRuntime) -> Result<(), Fail> {
+    let image = bytes_by(rt.alloc(), 64 * 512, laid_byte)?;
+    let blocks = ImageBytes { bytes: &image };
+    // Allocation block 0 is logical block 4: the extents are blocks 14 and 15, none, and 24 to 27. 1,200 bytes are three
+    // nodes, the last of them cut.
+    let extents = extents_of([(10, 2), (0, 0), (20, 4)]);
+    let mdb = mdb_with(58, 1, 4);
+    assert!(rt;
+        mdb.allocation_blocks == 58 && mdb.allocation_block_size == 512 && mdb.allocation_start == 4
+    );
+    assert!(rt; are_within(&extents, 58));
+    let runs = tree_runs(rt.alloc(), &blocks, &mdb, &extents, 1_200)?;
+    assert_eq!(rt; runs.len(), 3);
+    assert!(rt;
+        runs[0]
+            == Run {
+                first: 14,
+                count: 2
+            }
+    );
+    assert!(rt; runs[1].count == 0);
+    assert!(rt;
+        runs[2]
+            == Run {
+                first: 24,
+                count: 1
+            }
+    );
+    Ok(())
 }

@@ -1,0 +1,23 @@
+-- The first blocks of an extent are blocks of the volume.
+use Rattle.std.proofs.Common.{◌≡◌, ◌+◌, ◌*◌, ◌<◌, ◌≤◌, ◌∙◌, sym, ap, arith}
+use Rattle.std.specs.Prelude.{min}
+use Rattle.std.specs.List.{range_with_len}
+use Rattle.hfs_space.specs.Forks.{blocks_each, run_in}
+use Rattle.hfs_space.proofs.ForkPieces.{extent-end}
+use Rattle.hfs_space.proofs.TreeRuns.{take-range}
+use Rattle.hfs_space.proofs.tree_file.first_blocks.Goals as goal
+
+pub returns-clause-run : goal.returns-clause-run
+returns-clause-run g c =
+    let run = run_in c.args.mdb.now c.args.extent in
+    let first : c.from.result + c.from-2.result * blocks_each c.args.mdb.now ≡ run.first = (λ t. c.from.ensures t + c.from-2.ensures t * blocks_each c.args.mdb.now) in
+    let count : c.min.result ≡ min c.args.most run.count = c.min.ensures ∙ (λ t. min c.args.most (c.from-3.ensures t * blocks_each c.args.mdb.now)) in
+    (λ t. range_with_len (first t) (count t)) ∙ sym (take-range run.first run.count c.args.most)
+
+pub returns-clause-inside : goal.returns-clause-inside
+returns-clause-inside g c =
+    let some : 0 < c.args.extent.count = omega (arith, c.if-extent-eq0.false) in
+    let end = extent-end c.args.mdb.now (g.B.Blocks.total c.args.blocks.now) c.args.extent c.requires.area c.requires.within some in
+    let first : c.from.result + c.from-2.result * blocks_each c.args.mdb.now ≡ c.args.mdb.now.allocation_start + c.args.extent.first * blocks_each c.args.mdb.now = (λ t. c.from.ensures t + c.from-2.ensures t * blocks_each c.args.mdb.now) in
+    let count : c.from-3.result * blocks_each c.args.mdb.now ≡ c.args.extent.count * blocks_each c.args.mdb.now = (λ t. c.from-3.ensures t * blocks_each c.args.mdb.now) in
+    omega (arith, end, first, count, c.min.ensures)

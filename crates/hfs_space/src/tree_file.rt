@@ -1,0 +1,56 @@
+//! Where the nodes of a tree's file lie.
+
+ghost use Rattle.std.specs.Prelude.{◌≡◌, ◌+◌, ◌*◌, ◌<◌, ◌≤◌, IfOk, min, take};
+ghost use Rattle.hfs_btree.specs.Blocks.{run_of, nodes_in, AreRunsWithin};
+ghost use Rattle.hfs_space.specs.Extents.{IsExtentWithin, AreExtentsWithin};
+ghost use Rattle.hfs_space.specs.Forks.{HasArea, run_in, blocks_each};
+ghost use Rattle.hfs_space.specs.TreeFiles.{tree_nodes};
+
+use hfs_btree::{Blocks, Run};
+use hfs_fields::{Extent, Mdb};
+use std::alloc::{AllocError, Global};
+
+/// The first blocks of an extent, no more than `most`.
+fn first_blocks<B: Blocks>(blocks: &B, mdb: &Mdb, extent: Extent, most: u32) -> Run
+    requires area { HasArea mdb.now (B.total blocks.now) }
+    requires within { IsExtentWithin mdb.now.allocation_blocks extent }
+    ensures run { run_of result ≡ take most (run_of (run_in mdb.now extent)) }
+    ensures count { result.count ≡ min most (extent.count * blocks_each mdb.now) }
+    ensures inside { result.first + result.count ≤ B.total blocks.now }
+{
+    if extent.count == 0 {
+        return Run { first: 0, count: 0 };
+    }
+    let each = mdb.allocation_block_size / 512;
+    Run {
+        first: u32::from(mdb.allocation_start) + u32::from(extent.first) * each,
+        count: most.min(u32::from(extent.count) * each),
+    }
+}
+
+/// The runs of logical blocks in which the nodes of a tree's file lie, in order: those of its extents, cut where the
+/// file of `size` bytes (drXTFlSize, drCTFlSize) ends. The only error is want of memory.
+///
+/// Source: Inside Macintosh: Files, chapter 2, 'B*-trees'.
+#[tactic(auto, unfolding(crate::specs::TreeFiles::tree_nodes))]
+pub fn tree_runs<B: Blocks>(
+    alloc: Global,
+    blocks: &B,
+    mdb: &Mdb,
+    extents: &[Extent],
+    size: u32,
+) -> Result<Vec<Run>, AllocError>
+    requires area { HasArea mdb.now (B.total blocks.now) }
+    requires extents { AreExtentsWithin mdb.now.allocation_blocks extents.now }
+    ensures within { IfOk result (λ runs. AreRunsWithin runs.items (B.total blocks.now)) }
+    ensures nodes { IfOk result (λ runs. nodes_in (B.blocks blocks.now) runs.items ≡ tree_nodes (B.blocks blocks.now) mdb.now extents.now size) }
+{
+    let mut runs = Vec::new(alloc);
+    let mut rest = size.div_ceil(512);
+    for extent in extents {
+        let run = first_blocks(blocks, mdb, *extent, rest);
+        runs.push(run)?;
+        rest -= run.count;
+    }
+    Ok(runs)
+}
