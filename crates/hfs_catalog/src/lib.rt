@@ -5,6 +5,7 @@ mod checks;
 mod item;
 mod laws;
 mod lookups;
+mod records;
 
 pub use checks::{count_fault, name_fault, record_fault};
 pub use item::{CatalogItem, ItemRecord, item_of};
@@ -14,6 +15,7 @@ pub use laws::{
     scans_are_first, scans_are_whole, sound_is_lawful, valence_faults, valences_are_counted,
 };
 pub use lookups::{by_id, children, lookup, thread};
+pub use records::read_records;
 
 #[cfg(test)]
 mod tests;

@@ -6,7 +6,7 @@ use Rattle.hfs_fields.specs.declared.extent.Extent.{Extent}
 use Rattle.hfs_fields.specs.Mdb.{mdb_of}
 use Rattle.hfs_btree.specs.Tree.{Store}
 use Rattle.hfs_space.specs.Extents.{Overflow}
-use Rattle.hfs_space.specs.Forks.{file_blocks}
+use Rattle.hfs_space.specs.TreeFiles.{tree_nodes}
 use Rattle.hfs_space.specs.TreeKeys.{overflow_of}
 use Rattle.hfs_space.specs.Owners.{catalog_fork, extents_in, owned_blocks}
 use Rattle.hfs_space.specs.Bitmap.{is_used}
@@ -21,9 +21,9 @@ Blocks = ℕ → List ℕ
 unfoldable pub mdb_in : Blocks → Mdb
 mdb_in blocks = mdb_of (take 162 (blocks 2))
 
--- the nodes of the extents file
+-- the nodes of the extents file, as many as its size has
 unfoldable pub extents_nodes : Blocks → Store
-extents_nodes blocks = file_blocks blocks (mdb_in blocks) (mdb_in blocks).extents_file
+extents_nodes blocks = tree_nodes blocks (mdb_in blocks) (mdb_in blocks).extents_file (mdb_in blocks).extents_file_size
 
 -- the records of the extents tree
 unfoldable pub overflow_in : Blocks → Overflow
@@ -33,9 +33,9 @@ overflow_in blocks = overflow_of (extents_nodes blocks)
 unfoldable pub catalog_extents : Blocks → List Extent
 catalog_extents blocks = extents_in (overflow_in blocks) (catalog_fork (mdb_in blocks))
 
--- the nodes of the catalog file
+-- the nodes of the catalog file, as many as its size has
 unfoldable pub catalog_nodes : Blocks → Store
-catalog_nodes blocks = file_blocks blocks (mdb_in blocks) (catalog_extents blocks)
+catalog_nodes blocks = tree_nodes blocks (mdb_in blocks) (catalog_extents blocks) (mdb_in blocks).catalog_file_size
 
 -- the records of the catalog
 unfoldable pub catalog_in : Blocks → Catalog

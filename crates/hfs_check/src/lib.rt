@@ -7,6 +7,7 @@ mod fault;
 mod formatting;
 mod layout;
 mod mdb_block;
+mod mdb_check;
 mod mount_fault;
 mod node_block;
 mod plan;
