@@ -10,3 +10,4 @@ pub mod Faults
 pub mod VolumeOf
 pub mod Agree
 pub mod Laws
+pub mod Refusal

@@ -12,6 +12,7 @@ mod mdb_check;
 mod mount_fault;
 mod node_block;
 mod plan;
+mod record_checks;
 mod root_leaf;
 mod tree_header;
 

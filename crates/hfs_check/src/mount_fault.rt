@@ -30,7 +30,7 @@ pub enum MountFault {
         /// many these are where what fails is none of them. Of 10 it is the number of the count, 1 to 4. Of 11 it is the
         /// number of a record among those of the catalog's leaves and, behind these, of the extents tree's leaves. Of 12 it
         /// is the number of an allocation block, and how many these are where the number of free ones is wrong.
-        place: u32,
+        place: u64,
     },
     /// Memory was refused, which says nothing of the image.
     #[error("out of memory")]
