@@ -2,11 +2,15 @@
 #![tactic(auto)]
 
 mod checks;
+mod id_check;
+mod index;
 mod item;
 mod laws;
 mod lookups;
+mod numbers;
 
 pub use checks::{count_fault, name_fault, record_fault};
+pub use id_check::id_fault;
 pub use item::{CatalogItem, ItemRecord, item_of};
 pub use laws::{
     count_faults, entries_are_records, id_faults, items_are_records, name_faults,
