@@ -1,7 +1,7 @@
 -- What stands under an ID, as a catalog is gone through.
 use Rattle.std.proofs.Common.{◌≡◌, ℕ, zero, suc, ◌+◌, ◌<◌, Bool, true, false, cond, not, ◌&&◌, ◌||◌, nat_eq, ltb, Bor, List, [], ◌∷◌, ◌++◌, length, get_or, take, refl, sym, ◌∙◌, ap, arith, Option, Some, None}
 use Rattle.std.specs.List.{position_from, find, list_any, list_all}
-use Rattle.std.specs.Option.{option_or, option_copied, is_some, IfSome}
+use Rattle.std.specs.Option.{option_or, unwrap_or, option_copied, is_some, IfSome}
 use Rattle.std.proofs.lemmas.Bool.{eqb-true, eq-eqb, ne_eqb, lt-ltb, true≢false}
 use Rattle.std.proofs.lemmas.List.{take_more, length-take-le}
 use Rattle.hfs_catalog.specs.Indexes.{with_number, only_if, is_place}
@@ -21,6 +21,13 @@ pub put_where_none : (old new : ℕ → Option ℕ) (id n : ℕ) → old id ≡ 
 put_where_none old new id n none is k = (λ i. is i k) ∙ elim (nat_eq id k) as (λ (b : Bool). nat_eq id k ≡ b → cond b (Some n) (old k) ≡ option_or (old k) (only_if b n)) [
   | true ↦ λ e. ap (λ (o : Option ℕ). option_or o (Some n)) (sym none ∙ ap old (eqb-true id k e))
   | false ↦ λ e. sym (or_none (old k))
+] refl
+
+-- a number that is put in place of one less
+pub count_up : (old new : ℕ → Option ℕ) (id n : ℕ) → n ≡ unwrap_or (old id) 0 → new ≡ with_number old id (n + 1) → (k : ℕ) → unwrap_or (new k) 0 ≡ unwrap_or (old k) 0 + cond (nat_eq id k) 1 0
+count_up old new id n was is k = (λ i. unwrap_or (is i k) 0) ∙ elim (nat_eq id k) as (λ (b : Bool). nat_eq id k ≡ b → unwrap_or (cond b (Some (n + 1)) (old k)) 0 ≡ unwrap_or (old k) 0 + cond b 1 0) [
+  | true ↦ λ e. let same : unwrap_or (old id) 0 ≡ unwrap_or (old k) 0 = ap (λ (j : ℕ). unwrap_or (old j) 0) (eqb-true id k e) in omega (arith, was, same)
+  | false ↦ λ e. omega arith
 ] refl
 
 -- ---- the first place

@@ -12,3 +12,4 @@ pub mod Queries
 pub mod Walked
 pub mod Indexed
 pub mod IdSteps
+pub mod ValenceSteps

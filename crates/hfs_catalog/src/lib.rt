@@ -8,6 +8,7 @@ mod item;
 mod laws;
 mod lookups;
 mod numbers;
+mod valence_check;
 
 pub use checks::{count_fault, name_fault, record_fault};
 pub use id_check::id_fault;
@@ -18,6 +19,7 @@ pub use laws::{
     scans_are_first, scans_are_whole, sound_is_lawful, valence_faults, valences_are_counted,
 };
 pub use lookups::{by_id, children, lookup, thread};
+pub use valence_check::valence_fault;
 
 #[cfg(test)]
 mod tests;

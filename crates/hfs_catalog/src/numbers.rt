@@ -1,8 +1,8 @@
 //! Numbers that are found by an ID.
 
-ghost use Rattle.std.specs.Prelude.{◌≡◌, ℕ, [], OnOk, nat_eq};
+ghost use Rattle.std.specs.Prelude.{◌≡◌, ℕ, ◌+◌, ◌<◌, ◌^◌, [], OnOk, nat_eq, if◌then◌else◌};
 ghost use Rattle.std.specs.Option.{option_or};
-ghost use Rattle.hfs_catalog.specs.Indexes.{number_of, with_number, only_if};
+ghost use Rattle.hfs_catalog.specs.Indexes.{number_of, count_of, with_number, only_if};
 
 use indexmap::IndexMap;
 use std::alloc::{AllocError, Global};
@@ -55,5 +55,22 @@ impl Numbers {
             None => self.put(id, number),
             Some(_) => Ok(()),
         }
+    }
+
+    /// The number of an ID, 0 if it has none.
+    pub(crate) fn count(&self, id: u32) -> usize
+        ensures { result ≡ count_of self.now id }
+    {
+        self.get(id).unwrap_or(0)
+    }
+
+    /// Adds 1 to the number of an ID.
+    pub(crate) fn count_up(&mut self, id: u32) -> Result<(), AllocError>
+        requires { count_of self.old id + 1 < 2 ^ 64 }
+        ensures { OnOk result ((k : ℕ) → count_of self.new k ≡ count_of self.old k + (if nat_eq id k then 1 else 0)) }
+    {
+        let count = self.count(id);
+        self.put(id, count + 1)?;
+        Ok(())
     }
 }
