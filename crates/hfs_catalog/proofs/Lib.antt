@@ -10,3 +10,6 @@ pub mod Found
 pub mod Steps
 pub mod Queries
 pub mod Walked
+pub mod Indexed
+pub mod IdSteps
+pub mod ValenceSteps

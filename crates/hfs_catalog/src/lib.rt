@@ -2,12 +2,17 @@
 #![tactic(auto)]
 
 mod checks;
+mod id_check;
+mod index;
 mod item;
 mod laws;
 mod lookups;
 mod records;
+mod numbers;
+mod valence_check;
 
 pub use checks::{count_fault, name_fault, record_fault};
+pub use id_check::id_fault;
 pub use item::{CatalogItem, ItemRecord, item_of};
 pub use laws::{
     count_faults, entries_are_records, id_faults, items_are_records, name_faults,
@@ -16,6 +21,7 @@ pub use laws::{
 };
 pub use lookups::{by_id, children, lookup, thread};
 pub use records::read_records;
+pub use valence_check::valence_fault;
 
 #[cfg(test)]
 mod tests;
