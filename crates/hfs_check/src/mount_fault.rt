@@ -1,4 +1,8 @@
 //! Why an image is refused.
+ghost use Rattle.std.specs.Prelude.{◌≡◌};
+ghost use Rattle.hfs_check.specs.declared.mount_fault.MountFault.TheVariants.{Memory};
+
+use std::alloc::AllocError;
 use thiserror::Error;
 
 /// Why an image is not mounted: the first of the checks of docs/CHECKS.md that fails, in their order. The variants but
@@ -35,4 +39,12 @@ pub enum MountFault {
     /// Memory was refused, which says nothing of the image.
     #[error("out of memory")]
     Memory,
+}
+
+impl From<AllocError> for MountFault {
+    ghost from_gives = { λ _ fault. fault ≡ Memory };
+
+    fn from(_: AllocError) -> MountFault {
+        MountFault::Memory
+    }
 }

@@ -5,9 +5,10 @@ ghost use Rattle.hfs_check.specs.Faults.{check_fault};
 ghost use Rattle.hfs_check.specs.Refusal.{IsFaultOf};
 
 use crate::mount_fault::MountFault;
-use hfs_catalog::{count_fault, record_fault};
+use hfs_catalog::{count_fault, id_fault, record_fault, valence_fault};
 use hfs_fields::{CatKey, Mdb};
 use hfs_model::Bytes;
+use std::alloc::Global;
 
 /// What a check answers that found a fault at this place, or none.
 pub(crate) fn answer_at(number: u8, place: Option<usize>) -> Result<(), MountFault>
@@ -27,6 +28,26 @@ pub(crate) fn check_records(records: &[(CatKey, Bytes)]) -> Result<(), MountFaul
     ensures { MatchResult result (λ _. check_fault 5 (catalog_spec.record_fault records.now) ≡ None) (IsFaultOf (check_fault 5 (catalog_spec.record_fault records.now))) }
 {
     answer_at(5, record_fault(records))
+}
+
+/// The check of IDs, on a volume whose next ID is `next`.
+pub(crate) fn check_ids(
+    alloc: Global,
+    next: u32,
+    records: &[(CatKey, Bytes)],
+) -> Result<(), MountFault>
+    ensures { MatchResult result (λ _. check_fault 6 (catalog_spec.id_fault next records.now) ≡ None) (IsFaultOf (check_fault 6 (catalog_spec.id_fault next records.now))) }
+{
+    let place = id_fault(alloc, next, records)?;
+    answer_at(6, place)
+}
+
+/// The check of valences.
+pub(crate) fn check_valences(alloc: Global, records: &[(CatKey, Bytes)]) -> Result<(), MountFault>
+    ensures { MatchResult result (λ _. check_fault 9 (catalog_spec.valence_fault records.now) ≡ None) (IsFaultOf (check_fault 9 (catalog_spec.valence_fault records.now))) }
+{
+    let place = valence_fault(alloc, records)?;
+    answer_at(9, place)
 }
 
 /// The check of counts.
