@@ -11,3 +11,4 @@ pub mod VolumeOf
 pub mod Agree
 pub mod Laws
 pub mod Refusal
+pub mod Report

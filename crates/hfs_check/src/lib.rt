@@ -13,7 +13,9 @@ mod mount_fault;
 mod node_block;
 mod plan;
 mod record_checks;
+mod report;
 mod root_leaf;
+mod tree_checks;
 mod tree_header;
 
 pub use crate::fault::FormatFault;
@@ -25,6 +27,7 @@ pub use crate::laws::{
 };
 pub use crate::mount_fault::MountFault;
 pub use crate::plan::FormatPlan;
+pub use crate::report::{Alternate, Report};
 
 #[cfg(test)]
 mod tests;
