@@ -15,3 +15,4 @@ pub mod First
 pub mod Scans
 pub mod Order
 pub mod OrderLaw
+pub mod Subtree

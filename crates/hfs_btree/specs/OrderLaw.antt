@@ -84,10 +84,10 @@ first_node-law test P decides spots = (none-first spots, first-none spots)
     first-none (spot ∷ spots) h = rw ((decides spot).1 h.0) (first-none spots h.1)
 
 module _ {K : Type 0} (cmp : Order K) where
-  above-by : (key : K) (ps : Pairs K) → Decides (list_all (λ p. is_lt (cmp p.0 key)) ps) (IsAbove cmp key ps)
+  pub above-by : (key : K) (ps : Pairs K) → Decides (list_all (λ p. is_lt (cmp p.0 key)) ps) (IsAbove cmp key ps)
   above-by key ps = all_decides (λ p. is_lt (cmp p.0 key)) (λ p. cmp p.0 key ≡ Less) (λ p. less-by (cmp p.0 key)) ps
 
-  least-by : (key : K) (ps : Pairs K) → Decides (list_all (λ p. not (is_gt (cmp key p.0))) ps) (IsAtMost cmp key ps)
+  pub least-by : (key : K) (ps : Pairs K) → Decides (list_all (λ p. not (is_gt (cmp key p.0))) ps) (IsAtMost cmp key ps)
   least-by key ps = all_decides (λ p. not (is_gt (cmp key p.0))) (λ p. is_gt (cmp key p.0) ≡ false) (λ p. at-most-by (cmp key p.0)) ps
 
   pub parts-by : (before : Pairs K) (parts : List (K × Pairs K)) → Decides (are_parts_in_order cmp before parts) (ArePartsInOrder cmp before parts)
