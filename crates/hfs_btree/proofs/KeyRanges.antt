@@ -7,7 +7,7 @@ use Rattle.std.specs.declared.cmp.Ordering.TheVariants.{Less, Equal, Greater}
 use Rattle.std.specs.Ordering.{is_gt, is_lt}
 use Rattle.std.proofs.lemmas.Bool.{and_parts, and_from, cases_Bool, cond-true, cond-false}
 use Rattle.hfs_btree.specs.declared.key_range.KeyRange.{KeyRange}
-use Rattle.hfs_btree.specs.Pairs.{Order, Pairs, Each, IsAtMost, IsAbove}
+use Rattle.hfs_btree.specs.Pairs.{Order, Pairs}
 use Rattle.hfs_btree.specs.Elements.{each-append, each-left, each-right}
 use Rattle.hfs_btree.specs.Lookups.{flipped, above-below, lt-le, le-lt}
 use Rattle.hfs_btree.specs.Subtree.{is_at_most, is_above, HasRange}

@@ -1,5 +1,5 @@
 -- A node and those below it, record by record.
-use Rattle.std.proofs.Common.{◌≡◌, ℕ, zero, suc, ◌+◌, ◌-◌, ◌<◌, ◌≤◌, Bool, true, false, List, [], ◌∷◌, ◌++◌, length, map, get_or, take, drop, Option, Some, None, refl, sym, ap, ◌∙◌, subst, arith, append-nil}
+use Rattle.std.proofs.Common.{◌≡◌, ℕ, zero, suc, ◌+◌, ◌<◌, ◌≤◌, Bool, true, false, List, [], ◌∷◌, ◌++◌, length, map, get_or, take, drop, Option, None, refl, sym, ap, ◌∙◌, subst, append-nil}
 use Rattle.std.specs.Prelude.{◌&&◌}
 use Rattle.std.specs.Bool.{one_answer}
 use Rattle.std.specs.List.{flat_map, list_all}
@@ -8,9 +8,9 @@ use Rattle.std.proofs.lemmas.List.Concat.{flat_map-append}
 use Rattle.std.proofs.lemmas.List.Folds.{flat_map-map}
 use Rattle.hfs_btree.specs.declared.key.Key.{Ghosts}
 use Rattle.hfs_btree.specs.declared.key_range.KeyRange.{KeyRange}
-use Rattle.hfs_btree.specs.Pairs.{Order, Pairs, Each}
+use Rattle.hfs_btree.specs.Pairs.{Pairs, Each}
 use Rattle.hfs_btree.specs.Elements.{each-at, each-unmap}
-use Rattle.hfs_btree.specs.Tree.{Store, records_in, children, pair_of, under}
+use Rattle.hfs_btree.specs.Tree.{Store, records_in, pair_of, under}
 use Rattle.hfs_btree.specs.Sound.{part_of}
 use Rattle.hfs_btree.specs.Order.{are_parts_in_order, are_keys_in_order}
 use Rattle.hfs_btree.specs.OrderLaw.{above-by, least-by}

@@ -10,13 +10,12 @@ use Rattle.std.specs.Ordering.{is_gt, is_lt}
 use Rattle.std.proofs.lemmas.Bool.{and_parts, and_from, cases_Bool, not-true, not_from_false}
 use Rattle.hfs_btree.specs.declared.key.Key.{Ghosts}
 use Rattle.hfs_btree.specs.Pairs.{Order, Pairs, Each, Rises, IsAtMost, IsAbove}
-use Rattle.hfs_btree.specs.Elements.{each-mono}
 use Rattle.hfs_btree.specs.Tree.{Store, Spot, records_in, under}
 use Rattle.hfs_btree.specs.Header.{tree_content, tree_turn}
 use Rattle.hfs_btree.specs.Shape.{◌or_else◌}
 use Rattle.hfs_btree.specs.Scans.{Later, passes_from_none, none_from_passes, later_from_passes, passes_from_later, all_decides}
 use Rattle.hfs_btree.specs.Sound.{HasStructure, HasCounts, part_of, ArePartsInOrder, AreKeysInOrder, IsOrdered, IsSound}
-use Rattle.hfs_btree.specs.Order.{first_node, is_above_all, rise_fault, pair_leaves, leaf_order_fault, are_parts_in_order, are_keys_in_order, is_keyed, index_order_fault, order_fault}
+use Rattle.hfs_btree.specs.Order.{first_node, is_above_all, rise_fault, leaf_order_fault, are_parts_in_order, are_keys_in_order, is_keyed, index_order_fault, order_fault}
 
 less-by : (o : Ordering) → Decides (is_lt o) (o ≡ Less)
 less-by Less = (λ _. refl, λ _. refl)

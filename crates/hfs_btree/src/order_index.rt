@@ -8,7 +8,7 @@ ghost use Rattle.hfs_btree.specs.Sound.{HasStructure};
 ghost use Rattle.hfs_btree.specs.Order.{first_node, is_keyed, are_keys_in_order, index_order_fault};
 ghost use Rattle.hfs_btree.specs.Subtree.{HasRange, IsSubtree, is_subtree_keyed};
 
-use crate::entry::key_of;
+use crate::entry::{child_of, key_of};
 use crate::key::Key;
 use crate::key_range::{KeyRange, is_between, joined};
 use crate::nodes::Nodes;
@@ -91,4 +91,68 @@ fn read_subtree<K: Key, N: Nodes>(nodes: &N, n: u32, above: u16) -> Subtree<K>
         keyed,
         ordered: keyed & below,
     }
+}
+
+/// The first node, of those that stand `at` levels above the leaves and are node `n` or below it, whose own index keys
+/// are not in order. Node `n` stands `above` levels above the leaves.
+fn first_unkeyed<K: Key, N: Nodes>(nodes: &N, n: u32, above: u16, at: u16) -> Option<u32>
+    requires tree { IsSubtree K.Key (N.nodes nodes.now) above n }
+    requires below { at ≤ above }
+    ensures { result ≡ first_node (is_keyed K.Key (N.nodes nodes.now)) (spots at 0 (level_below K.Key (N.nodes nodes.now) (above - at) (n ∷ []))) }
+{
+    if above == at {
+        let found = read_subtree::<K, N>(nodes, n, above);
+        return if found.keyed { None } else { Some(n) };
+    }
+    let mut bytes = [0; 512];
+    nodes.read(n, &mut bytes);
+    let Ok(node) = view(&bytes) else {
+        unreachable!()
+    };
+    for i in 0..node.len() {
+        let child = child_of::<K>(node.record(i));
+        let found = first_unkeyed::<K, N>(nodes, child, above - 1, at);
+        if found.is_some() {
+            return found;
+        }
+    }
+    None
+}
+
+/// Whether the index keys of a tree that has its shape are in order: each is at most its child's least leaf key, and
+/// above the greatest of the child before it.
+///
+/// It reads each node of the levels once, and takes no memory.
+pub fn index_keys_in_order<K: Key, N: Nodes>(nodes: &N) -> bool
+    requires { HasStructure K.Key (N.nodes nodes.now) }
+    ensures { result ≡ is_none (index_order_fault K.Key (N.nodes nodes.now)) }
+{
+    let header = read_header(nodes);
+    if header.depth == 0 {
+        return true;
+    }
+    let found = read_subtree::<K, N>(nodes, header.root, header.depth - 1);
+    found.ordered
+}
+
+/// The first node of the levels, in their turn, whose index keys are not in order, of a tree that has its shape.
+///
+/// Where there is none, it reads each node of the levels once, else it goes through the nodes again for each level.
+pub(crate) fn index_order_fault<K: Key, N: Nodes>(nodes: &N) -> Option<u32>
+    requires { HasStructure K.Key (N.nodes nodes.now) }
+    ensures { result ≡ index_order_fault K.Key (N.nodes nodes.now) }
+{
+    if index_keys_in_order::<K, N>(nodes) {
+        return None;
+    }
+    let header = read_header(nodes);
+    let mut at = header.depth;
+    while at > 1 {
+        at -= 1;
+        let found = first_unkeyed::<K, N>(nodes, header.root, header.depth - 1, at);
+        if found.is_some() {
+            return found;
+        }
+    }
+    None
 }

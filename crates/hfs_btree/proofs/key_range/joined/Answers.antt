@@ -1,4 +1,4 @@
-use Rattle.std.proofs.Common.{◌≡◌, Option, Some, None, sym, subst}
+use Rattle.std.proofs.Common.{Option, Some, subst}
 use Rattle.hfs_btree.specs.declared.key_range.KeyRange.{KeyRange}
 use Rattle.hfs_btree.specs.Subtree.{HasRange}
 use Rattle.hfs_btree.proofs.KeyRanges.{joined-none-first, joined-none-second, joined-some}

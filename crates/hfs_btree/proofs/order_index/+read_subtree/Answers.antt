@@ -1,8 +1,7 @@
-use Rattle.std.proofs.Common.{◌≡◌, ℕ, suc, ◌+◌, ◌-◌, ◌<◌, ◌≤◌, Bool, List, length, Option, Ok, Err, sym, ap, ◌∙◌, subst, arith}
+use Rattle.std.proofs.Common.{◌≡◌, ℕ, suc, ◌-◌, length, Ok, Err, sym, ap, ◌∙◌, subst, arith}
 use Rattle.std.specs.Prelude.{◌&&◌}
 use Rattle.hfs_btree.specs.Pairs.{Pairs}
 use Rattle.hfs_btree.specs.Tree.{records_of, under}
-use Rattle.hfs_btree.specs.Order.{are_parts_in_order}
 use Rattle.hfs_btree.specs.Subtree.{is_above, is_at_most, HasRange, IsSubtree, is_subtree_keyed}
 use Rattle.hfs_btree.proofs.Decoded.{records-within}
 use Rattle.hfs_btree.proofs.ShapeNode.{decodes}
@@ -52,10 +51,14 @@ read_subtree-part-requires g t c κs within =
     let P : ℕ → Type 0 = λ n. IsSubtree g.K.Key nodes (c.args.above - 1) n in
     let less = c.decreases in (
       omega arith,
-      (within.0,
-      (within.1,
-      subst P (sym (ap (λ p. p.1) c.index_entry-child.ensures ∙ ap g.K.Key.child c.record.ensures.bytes))
-      (child-at g.K.Key nodes (c.args.above - 1) c.in-Ok.node.records c.args.above c.args.n up (ap records_of is) c.requires c.loop-i.i (omega arith)))),
+      (
+        within.0,
+        (
+          within.1,
+          subst P (sym (ap (λ p. p.1) c.index_entry-child.ensures ∙ ap g.K.Key.child c.record.ensures.bytes))
+              (child-at g.K.Key nodes (c.args.above - 1) c.in-Ok.node.records c.args.above c.args.n up (ap records_of is) c.requires c.loop-i.i (omega arith)),
+        ),
+      ),
     )
 
 pub loop-i-preserved : goal.loop-i-preserved
