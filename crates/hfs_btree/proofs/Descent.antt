@@ -13,7 +13,7 @@ use Rattle.hfs_node.specs.declared.node.Node.{Node}
 use Rattle.hfs_node.specs.declared.fault.NodeFault.{NodeFault}
 use Rattle.hfs_btree.specs.Tree.{Store, Spot, records_in, records_of, children, pairs, spots, first_of, turn, under, level_below, last_level}
 use Rattle.hfs_btree.specs.Header.{header_in, depth_of, root_level, leaves, tree_turn, tree_content}
-use Rattle.hfs_btree.specs.Sound.{IsRight, AreKeysInOrder, IsSound}
+use Rattle.hfs_btree.specs.Sound.{IsRight, AreKeysInOrder, HasStructure, IsSound}
 use Rattle.hfs_btree.specs.Search.{is_not_above, child_for, leaf_under, leaf_for, IsLeafFor}
 use Rattle.hfs_btree.proofs.Parts.{beside-place}
 use Rattle.hfs_btree.proofs.Decoded.{decoded-within}
@@ -138,16 +138,16 @@ module _ {K : Type 0} (g : Ghosts K) (total : IsTotalOrder g.compare) (nodes : S
         above = rest.above;
       }
 
--- ---- the same of a sound tree
+-- ---- the same of a whole tree
 
-module _ {K : Type 0} (g : Ghosts K) (nodes : Store) (sound : IsSound g nodes) (k : ℕ) (deep : depth_of nodes ≡ suc k) where
-  pub way-root : IsOnWay g nodes k (header_in nodes).root
-  way-root =
+module _ {K : Type 0} (g : Ghosts K) (nodes : Store) (k : ℕ) (deep : depth_of nodes ≡ suc k) where
+  pub way-root : HasStructure g nodes → IsOnWay g nodes k (header_in nodes).root
+  way-root structure =
       let P : ℕ → Type 0 = λ d. Each (IsRight g nodes) (turn g nodes d (root_level nodes)) in
-      record { before = []; behind = []; right = subst P deep sound.structure.levels.each }
+      record { before = []; behind = []; right = subst P deep structure.levels.each }
 
-  pub leaf-for : IsTotalOrder g.compare → (t : K) → IsLeafFor g nodes t (leaf_for g nodes t)
-  leaf-for total t =
+  pub leaf-for : IsSound g nodes → IsTotalOrder g.compare → (t : K) → IsLeafFor g nodes t (leaf_for g nodes t)
+  leaf-for sound total t =
       let Q : Spot → Type 0 = Fact g total nodes t in
       let P : ℕ → Type 0 = λ d. Each Q (turn g nodes d (root_level nodes)) in
       let all = subst P deep (each-both (IsRight g nodes) (λ spot. AreKeysInOrder g nodes spot.above spot.n) (tree_turn g nodes) sound.structure.levels.each sound.ordered.keys) in
@@ -198,19 +198,19 @@ module _ {K : Type 0} (g : Ghosts K) (nodes : Store) where
   leaves-right zero ns h = tt
   leaves-right (suc k) ns h = leaf-spots k ns h
 
-  module _ (sound : IsSound g nodes) where
+  module _ (structure : HasStructure g nodes) where
     -- a leaf, linked to the first of those behind it
     pub leaf-node : (before : List ℕ) (n : ℕ) (behind : List ℕ) → leaves g nodes ≡ before ++ n ∷ behind
         → (l : ℕ) × IsRight g nodes (record { left = l; n = n; right = first_of behind; above = 0 })
     leaf-node before n behind split =
         let P : List ℕ → Type 0 = λ ns. Each (IsRight g nodes) (spots 0 0 ns) in
-        at-spot (IsRight g nodes) 0 0 before n behind (subst P split (leaves-right (depth_of nodes) (root_level nodes) sound.structure.levels.each))
+        at-spot (IsRight g nodes) 0 0 before n behind (subst P split (leaves-right (depth_of nodes) (root_level nodes) structure.levels.each))
 
     pub root-way : 0 < depth_of nodes → IsOnWay g nodes (depth_of nodes - 1) (header_in nodes).root
-    root-way some = way-root g nodes sound (depth_of nodes - 1) (omega arith)
+    root-way some = way-root g nodes (depth_of nodes - 1) (omega arith) structure
 
-    pub leaf-found : IsTotalOrder g.compare → (t : K) → 0 < depth_of nodes → IsLeafFor g nodes t (leaf_for g nodes t)
-    leaf-found total t some = leaf-for g nodes sound (depth_of nodes - 1) (omega arith) total t
+  pub leaf-found : IsSound g nodes → IsTotalOrder g.compare → (t : K) → 0 < depth_of nodes → IsLeafFor g nodes t (leaf_for g nodes t)
+  leaf-found sound total t some = leaf-for g nodes (depth_of nodes - 1) (omega arith) sound total t
 
   -- the records of a leaf
   pub leaf-entries : (l n r : ℕ) → IsRight g nodes (record { left = l; n = n; right = r; above = 0 }) → Each (λ e. g.is_leaf e ≡ true) (records_in nodes n)

@@ -13,7 +13,7 @@ use Rattle.hfs_btree.specs.Tree.{Store, first_of, forward_of, pair_of, pairs, re
 use Rattle.hfs_btree.specs.Header.{header_in, depth_of, leaves, tree_content}
 use Rattle.hfs_btree.specs.Lookups.{first_pair, lookup-between, after-between}
 use Rattle.hfs_btree.specs.Search.{leaf_for, IsLeafFor}
-use Rattle.hfs_btree.specs.Sound.{IsSound, IsRight}
+use Rattle.hfs_btree.specs.Sound.{HasStructure, IsSound, IsRight}
 use Rattle.hfs_btree.proofs.Decoded.{records-read, read-in, decoded-within}
 use Rattle.hfs_btree.proofs.Descent.{leaf-found, leaf-node, leaf-entries, content-about}
 
@@ -27,7 +27,7 @@ module _ {K : Type 0} (g : Ghosts K) (total : IsTotalOrder g.compare) (nodes : S
   found = let P : ℕ → Type 0 = λ m. IsLeafFor g nodes t m in subst P (sym is) (leaf-found g nodes sound total t some)
 
   node : (l : ℕ) × IsRight g nodes (record { left = l; n = n; right = first_of found.behind; above = 0 })
-  node = leaf-node g nodes sound found.before n found.behind found.split
+  node = leaf-node g nodes sound.structure found.before n found.behind found.split
 
   pub found-entries : Each (λ e. g.is_leaf e ≡ true) (records_of (node_of bytes))
   found-entries = let P : List (List ℕ) → Type 0 = λ es. Each (λ e. g.is_leaf e ≡ true) es in
@@ -62,13 +62,13 @@ module _ {K : Type 0} (g : Ghosts K) (total : IsTotalOrder g.compare) (nodes : S
   next-behind none = ap (λ (o : Option (K × List ℕ)). option_or o (first_pair (flat_map (pairs g nodes) found.behind))) none ∙ sym next-pair
 
 -- the leaves behind a leaf
-module _ {K : Type 0} (g : Ghosts K) (nodes : Store) (sound : IsSound g nodes) where
+module _ {K : Type 0} (g : Ghosts K) (nodes : Store) (structure : HasStructure g nodes) where
   -- where there is none, the link is 0
   pub none-behind : (before : List ℕ) (n : ℕ) (behind : List ℕ) → leaves g nodes ≡ before ++ n ∷ behind → first_of behind ≡ 0 → behind ≡ []
   none-behind before n [] split zero' = refl
   none-behind before n (m ∷ behind) split zero' =
       let shift : before ++ n ∷ m ∷ behind ≡ (before ++ n ∷ []) ++ m ∷ behind = simp append_assoc in
-      let node = leaf-node g nodes sound (before ++ n ∷ []) m behind (split ∙ shift) in
+      let node = leaf-node g nodes structure (before ++ n ∷ []) m behind (split ∙ shift) in
       absurd (let some = node.1.within.0 in omega arith)
 
   pub one-behind : (before : List ℕ) (n : ℕ) (behind : List ℕ) → leaves g nodes ≡ before ++ n ∷ behind → (first_of behind ≡ 0 → ⊥) → leaves g nodes ≡ (before ++ n ∷ []) ++ first_of behind ∷ drop 1 behind
@@ -86,7 +86,7 @@ module _ {K : Type 0} (g : Ghosts K) (nodes : Store) (sound : IsSound g nodes) w
   -- the next leaf
   module _ (before : List ℕ) (n : ℕ) (behind : List ℕ) (split : leaves g nodes ≡ before ++ n ∷ behind) (some : first_of behind ≡ 0 → ⊥) where
     pub next-node : (l : ℕ) × IsRight g nodes (record { left = l; n = first_of behind; right = first_of (drop 1 behind); above = 0 })
-    next-node = leaf-node g nodes sound (before ++ n ∷ []) (first_of behind) (drop 1 behind) (one-behind before n behind split some)
+    next-node = leaf-node g nodes structure (before ++ n ∷ []) (first_of behind) (drop 1 behind) (one-behind before n behind split some)
 
     pub next-within : first_of behind < length nodes
     next-within = decoded-within nodes (first_of behind) next-node.1.value next-node.1.decodes

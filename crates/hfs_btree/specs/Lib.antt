@@ -16,3 +16,4 @@ pub mod Scans
 pub mod Order
 pub mod OrderLaw
 pub mod Subtree
+pub mod Rises

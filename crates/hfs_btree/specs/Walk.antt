@@ -5,7 +5,7 @@ use Rattle.hfs_btree.specs.declared.key.Key.{Ghosts}
 use Rattle.hfs_btree.specs.Pairs.{Pairs}
 use Rattle.hfs_btree.specs.Tree.{Store, node_in, records_of, forward_of, pair_of, pairs}
 use Rattle.hfs_btree.specs.Header.{leaves}
-use Rattle.hfs_btree.specs.Sound.{IsSound}
+use Rattle.hfs_btree.specs.Sound.{HasStructure}
 
 -- the pairs of the leaves that hang forwards on each other from leaf n on, of at most so many
 abbrev pub pairs_along : {K : Type 0} → Ghosts K → Store → ℕ → ℕ → Pairs K
@@ -33,5 +33,5 @@ pub record IsPastEnd (bytes : List ℕ) (place : ℕ) : Type 0 where
 
 -- the place is a record of a leaf, or past the end
 pub record IsWalk {K : Type 0} (g : Ghosts K) (nodes : Store) (bytes : List ℕ) (place most : ℕ) : Type 0 where
-  pub sound : IsSound g nodes
+  pub structure : HasStructure g nodes
   pub at : (IsAtLeaf g nodes bytes place most × (place < length (records_of (node_of bytes)))) ⊎ IsPastEnd bytes place

@@ -4,7 +4,7 @@ ghost use Rattle.std.specs.Prelude.{◌≡◌, ℕ, ◌<◌, ◌≤◌, true, Li
 ghost use Rattle.hfs_node.specs.Node.{node_of};
 ghost use Rattle.hfs_btree.specs.Pairs.{Each, pairs_from};
 ghost use Rattle.hfs_btree.specs.Tree.{records_of, forward_of, pair_of};
-ghost use Rattle.hfs_btree.specs.Sound.{IsSound};
+ghost use Rattle.hfs_btree.specs.Sound.{HasStructure};
 ghost use Rattle.hfs_btree.specs.Walk.{rest_at, IsAtLeaf, IsWalk};
 
 use crate::entry::compare_with;
@@ -81,7 +81,7 @@ pub(crate) fn settle<K: Key, N: Nodes>(
     place: usize,
     most: u32,
 ) -> (usize, u32)
-    requires sound { IsSound K.Key (N.nodes nodes.now) }
+    requires structure { HasStructure K.Key (N.nodes nodes.now) }
     requires at { IsAtLeaf K.Key (N.nodes nodes.now) bytes.old place most }
     ensures walk { IsWalk K.Key (N.nodes nodes.now) bytes.new result.0 result.1 }
     ensures same { rest_at K.Key (N.nodes nodes.now) bytes.new result.0 result.1 ≡ rest_at K.Key (N.nodes nodes.now) bytes.old place most }

@@ -6,7 +6,7 @@ ghost use Rattle.hfs_btree.specs.Pairs.{pairs_from};
 ghost use Rattle.hfs_btree.specs.Tree.{records_of};
 ghost use Rattle.hfs_btree.specs.Header.{tree_content};
 ghost use Rattle.hfs_btree.specs.Lookups.{first_pair};
-ghost use Rattle.hfs_btree.specs.Sound.{IsSound};
+ghost use Rattle.hfs_btree.specs.Sound.{HasStructure, HasCounts, IsSound};
 
 use crate::entry::{body_of, key_of};
 use crate::key::Key;
@@ -22,7 +22,7 @@ pub struct Pair<'a, K> {
     pub body: &'a [u8],
 }
 
-/// A walk through the pairs of a sound tree in the order of their keys. Contracts see the pairs that are still to come.
+/// A walk through the pairs of a tree, from leaf to leaf. Contracts see the pairs that are still to come.
 ///
 /// It reads each leaf once, and takes no memory.
 #[derive(Drop)]
@@ -47,6 +47,33 @@ impl<'a, K: Key, N: Nodes> Model for Walk<'a, K, N> {
 }
 
 impl<'a, K: Key, N: Nodes> Walk<'a, K, N> {
+    /// A walk through all pairs, whatever the order of their keys.
+    pub fn whole(nodes: &'a N) -> Walk<'a, K, N>
+        requires structure { HasStructure K.Key (N.nodes nodes.now) }
+        requires counts { HasCounts K.Key (N.nodes nodes.now) }
+        ensures { result ≡ tree_content K.Key (N.nodes nodes.now) }
+    {
+        let header = read_header(nodes);
+        if header.first_leaf == 0 {
+            return Walk {
+                nodes,
+                bytes: no_leaf(),
+                place: 0,
+                most: 0,
+                keys: PhantomData,
+            };
+        }
+        let mut bytes = [0; 512];
+        nodes.read(header.first_leaf, &mut bytes);
+        Walk {
+            nodes,
+            bytes,
+            place: 0,
+            most: header.records,
+            keys: PhantomData,
+        }
+    }
+
     /// A walk from the first pair on whose key isn't below this one.
     pub fn from(nodes: &'a N, key: &K) -> Walk<'a, K, N>
         requires { IsSound K.Key (N.nodes nodes.now) }

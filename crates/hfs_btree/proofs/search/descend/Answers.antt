@@ -10,7 +10,7 @@ use Rattle.hfs_btree.proofs.search.descend.Goals as goal
 pub read-requires : goal.read-requires
 read-requires g c =
     let nodes = g.N.Nodes.nodes c.args.nodes.now in
-    rw c.requires.header (way-within g.K.Key nodes _ _ (root-way g.K.Key nodes c.requires.sound c.requires.some))
+    rw c.requires.header (way-within g.K.Key nodes _ _ (root-way g.K.Key nodes c.requires.sound.structure c.requires.some))
 
 pub loop-below-init : goal.loop-below-init
 loop-below-init g c =
@@ -18,7 +18,7 @@ loop-below-init g c =
     let W : Header → Type 0 = λ h. IsOnWay g.K.Key nodes (h.depth - 1) h.root in
     record {
       same = ap (λ (h : Header). leaf_under g.K.Key nodes c.args.key.now (h.depth - 1) h.root) c.requires.header;
-      way = subst W (sym c.requires.header) (root-way g.K.Key nodes c.requires.sound c.requires.some);
+      way = subst W (sym c.requires.header) (root-way g.K.Key nodes c.requires.sound.structure c.requires.some);
       bytes = c.read.ensures;
     }
 

@@ -23,7 +23,7 @@ returns-then-right-eq0 g c =
     let some = some-levels c.read_header-header.result nodes c.read_header-header.ensures c.if-header-eq0.false in
     let at = found g.K.Key g.met.K.Key.total nodes c.args.key.now c.requires some c.descend.result c.descend.ensures.leaf c.descend.new.bytes c.descend.ensures.bytes in
     let forward = forward-is g.K.Key g.met.K.Key.total nodes c.args.key.now c.requires some c.descend.result c.descend.ensures.leaf c.descend.new.bytes c.descend.ensures.bytes in
-    let none = none-behind g.K.Key nodes c.requires at.before c.descend.result at.behind at.split (sym forward ∙ sym c.forward_in-right.ensures ∙ c.if-right-eq0.true) in
+    let none = none-behind g.K.Key nodes c.requires.structure at.before c.descend.result at.behind at.split (sym forward ∙ sym c.forward_in-right.ensures ∙ c.if-right-eq0.true) in
     sym (ap (λ (ns : List ℕ). first_pair (flat_map (pairs g.K.Key nodes) ns)) none)
     ∙ next-behind g.K.Key g.met.K.Key.total nodes c.args.key.now c.requires some c.descend.result c.descend.ensures.leaf c.descend.new.bytes c.descend.ensures.bytes c.in_default.ensures.first
 
@@ -33,7 +33,7 @@ read-requires g c =
     let some = some-levels c.read_header-header.result nodes c.read_header-header.ensures c.if-header-eq0.false in
     let at = found g.K.Key g.met.K.Key.total nodes c.args.key.now c.requires some c.descend.result c.descend.ensures.leaf c.descend.new.bytes c.descend.ensures.bytes in
     let forward = c.forward_in-right.ensures ∙ forward-is g.K.Key g.met.K.Key.total nodes c.args.key.now c.requires some c.descend.result c.descend.ensures.leaf c.descend.new.bytes c.descend.ensures.bytes in
-    rw forward (next-within g.K.Key nodes c.requires at.before c.descend.result at.behind at.split (λ z. c.if-right-eq0.false (forward ∙ z)))
+    rw forward (next-within g.K.Key nodes c.requires.structure at.before c.descend.result at.behind at.split (λ z. c.if-right-eq0.false (forward ∙ z)))
 
 pub first_in-requires : goal.first_in-requires
 first_in-requires g c =
@@ -41,7 +41,7 @@ first_in-requires g c =
     let some = some-levels c.read_header-header.result nodes c.read_header-header.ensures c.if-header-eq0.false in
     let at = found g.K.Key g.met.K.Key.total nodes c.args.key.now c.requires some c.descend.result c.descend.ensures.leaf c.descend.new.bytes c.descend.ensures.bytes in
     let forward = c.forward_in-right.ensures ∙ forward-is g.K.Key g.met.K.Key.total nodes c.args.key.now c.requires some c.descend.result c.descend.ensures.leaf c.descend.new.bytes c.descend.ensures.bytes in
-    next-entries g.K.Key nodes c.requires at.before c.descend.result at.behind at.split (λ z. c.if-right-eq0.false (forward ∙ z)) c.read.new.into
+    next-entries g.K.Key nodes c.requires.structure at.before c.descend.result at.behind at.split (λ z. c.if-right-eq0.false (forward ∙ z)) c.read.new.into
     (c.read.ensures ∙ ap (λ (n : ℕ). get_or nodes n []) forward)
 
 pub returns-in_ok-pair_in-in-Some-first_in : goal.returns-in_ok-pair_in-in-Some-first_in
@@ -52,7 +52,7 @@ returns-in_ok-pair_in-in-Some-first_in g c =
     let forward = c.forward_in-right.ensures ∙ forward-is g.K.Key g.met.K.Key.total nodes c.args.key.now c.requires some c.descend.result c.descend.ensures.leaf c.descend.new.bytes c.descend.ensures.bytes in
     ap Some c.in_ok-pair_in-in-Some-first_in.ensures
     ∙ c.in-Some-first_in.ensures.first
-    ∙ sym (next-first g.K.Key nodes c.requires at.before c.descend.result at.behind at.split (λ z. c.if-right-eq0.false (forward ∙ z)) c.read.new.into
+    ∙ sym (next-first g.K.Key nodes c.requires.structure at.before c.descend.result at.behind at.split (λ z. c.if-right-eq0.false (forward ∙ z)) c.read.new.into
     (c.read.ensures ∙ ap (λ (n : ℕ). get_or nodes n []) forward))
     ∙ next-behind g.K.Key g.met.K.Key.total nodes c.args.key.now c.requires some c.descend.result c.descend.ensures.leaf c.descend.new.bytes c.descend.ensures.bytes c.in_default.ensures.first
 
@@ -63,6 +63,6 @@ returns-in-None g c =
     let at = found g.K.Key g.met.K.Key.total nodes c.args.key.now c.requires some c.descend.result c.descend.ensures.leaf c.descend.new.bytes c.descend.ensures.bytes in
     let forward = c.forward_in-right.ensures ∙ forward-is g.K.Key g.met.K.Key.total nodes c.args.key.now c.requires some c.descend.result c.descend.ensures.leaf c.descend.new.bytes c.descend.ensures.bytes in
     c.in-None.ensures.first
-    ∙ sym (next-first g.K.Key nodes c.requires at.before c.descend.result at.behind at.split (λ z. c.if-right-eq0.false (forward ∙ z)) c.read.new.into
+    ∙ sym (next-first g.K.Key nodes c.requires.structure at.before c.descend.result at.behind at.split (λ z. c.if-right-eq0.false (forward ∙ z)) c.read.new.into
     (c.read.ensures ∙ ap (λ (n : ℕ). get_or nodes n []) forward))
     ∙ next-behind g.K.Key g.met.K.Key.total nodes c.args.key.now c.requires some c.descend.result c.descend.ensures.leaf c.descend.new.bytes c.descend.ensures.bytes c.in_default.ensures.first

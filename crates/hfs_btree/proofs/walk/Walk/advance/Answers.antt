@@ -2,24 +2,24 @@ use Rattle.std.proofs.Common.{◌∙◌, ap, sym, arith, drop}
 use Rattle.hfs_btree.proofs.Walks.{walk-at, walk-cons, walk-end, step-at}
 use Rattle.hfs_btree.proofs.walk.Walk.advance.Goals as goal
 
-pub settle-place-requires-clause-sound : goal.settle-place-requires-clause-sound
-settle-place-requires-clause-sound g c = c.self.invariant.sound
+pub settle-place-requires-clause-structure : goal.settle-place-requires-clause-structure
+settle-place-requires-clause-structure g c = c.self.invariant.structure
 
 pub settle-place-requires-clause-at : goal.settle-place-requires-clause-at
 settle-place-requires-clause-at g c =
     let nodes = g.N.Nodes.nodes c.self.inside.nodes.now in
-    let sound = c.self.invariant.sound in
-    step-at g.K.Key nodes sound c.self.inside.bytes c.self.inside.place c.self.inside.most
-    (walk-at g.K.Key nodes sound c.self.inside.bytes c.self.inside.place c.self.inside.most c.self.invariant (omega (arith, c.count_in.ensures))) (omega (arith, c.count_in.ensures))
+    let structure = c.self.invariant.structure in
+    step-at g.K.Key nodes structure c.self.inside.bytes c.self.inside.place c.self.inside.most
+    (walk-at g.K.Key nodes structure c.self.inside.bytes c.self.inside.place c.self.inside.most c.self.invariant (omega (arith, c.count_in.ensures))) (omega (arith, c.count_in.ensures))
 
 pub returns-then-self-count_in : goal.returns-then-self-count_in
 returns-then-self-count_in g c =
     let nodes = g.N.Nodes.nodes c.self.inside.nodes.now in
     c.settle-place.ensures.same
-    ∙ sym (ap (drop 1) (sym c.self.view_is ∙ walk-cons g.K.Key nodes c.self.invariant.sound c.self.inside.bytes c.self.inside.place c.self.inside.most (omega (arith, c.count_in.ensures))))
+    ∙ sym (ap (drop 1) (sym c.self.view_is ∙ walk-cons g.K.Key nodes c.self.invariant.structure c.self.inside.bytes c.self.inside.place c.self.inside.most (omega (arith, c.count_in.ensures))))
 
 pub returns-else-self-count_in : goal.returns-else-self-count_in
 returns-else-self-count_in g c =
     let nodes = g.N.Nodes.nodes c.self.inside.nodes.now in
-    let none = sym c.self.view_is ∙ walk-end g.K.Key nodes c.self.invariant.sound c.self.inside.bytes c.self.inside.place c.self.inside.most c.self.invariant (omega (arith, c.count_in.ensures)) in
+    let none = sym c.self.view_is ∙ walk-end g.K.Key nodes c.self.invariant.structure c.self.inside.bytes c.self.inside.place c.self.inside.most c.self.invariant (omega (arith, c.count_in.ensures)) in
     none ∙ sym (ap (drop 1) none)

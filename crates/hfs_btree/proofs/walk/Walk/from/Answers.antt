@@ -11,7 +11,7 @@ use Rattle.hfs_btree.proofs.walk.Walk.from.Goals as goal
 pub invariant_of-result : goal.invariant_of-result
 invariant_of-result g c =
     record {
-      sound = c.requires;
+      structure = c.requires.structure;
       at = inr (record { past = (let none = ap (λ (es : List (List ℕ)). length es) c.no_leaf.ensures.records in omega arith); last = c.no_leaf.ensures.forward });
     }
 

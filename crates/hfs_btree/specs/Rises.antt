@@ -1,0 +1,19 @@
+-- Keys that are compared with the one before alone.
+use Rattle.std.specs.Prelude.{ℕ, suc, Bool, true, if◌then◌else◌, [], ◌∷◌, Option, Some, None}
+use Rattle.std.specs.Ordering.{is_lt}
+use Rattle.hfs_btree.specs.Pairs.{Order, Pairs}
+
+-- a key is above the one before it, if there is one
+abbrev pub is_past : {K : Type 0} → Order K → Option K → K → Bool
+is_past cmp None key = true
+is_past cmp (Some last) key = is_lt (cmp last key)
+
+-- the number of the first pair whose key isn't above the one before it, of pairs that are numbered from i on
+abbrev pub fall_from : {K : Type 0} → Order K → Option K → ℕ → Pairs K → Option ℕ
+fall_from cmp last i [] = None
+fall_from cmp last i (p ∷ ps) = if is_past cmp last p.0 then fall_from cmp (Some p.0) (suc i) ps else Some i
+
+-- the key of the last pair, or the one before them
+abbrev pub last_key : {K : Type 0} → Option K → Pairs K → Option K
+last_key last [] = last
+last_key last (p ∷ ps) = last_key (Some p.0) ps
