@@ -10,13 +10,12 @@ use Rattle.std.specs.Ordering.{is_gt, is_lt}
 use Rattle.std.proofs.lemmas.Bool.{and_parts, and_from, cases_Bool, not-true, not_from_false}
 use Rattle.hfs_btree.specs.declared.key.Key.{Ghosts}
 use Rattle.hfs_btree.specs.Pairs.{Order, Pairs, Each, Rises, IsAtMost, IsAbove}
-use Rattle.hfs_btree.specs.Elements.{each-mono}
 use Rattle.hfs_btree.specs.Tree.{Store, Spot, records_in, under}
 use Rattle.hfs_btree.specs.Header.{tree_content, tree_turn}
 use Rattle.hfs_btree.specs.Shape.{◌or_else◌}
 use Rattle.hfs_btree.specs.Scans.{Later, passes_from_none, none_from_passes, later_from_passes, passes_from_later, all_decides}
 use Rattle.hfs_btree.specs.Sound.{HasStructure, HasCounts, part_of, ArePartsInOrder, AreKeysInOrder, IsOrdered, IsSound}
-use Rattle.hfs_btree.specs.Order.{first_node, is_above_all, rise_fault, pair_leaves, leaf_order_fault, are_parts_in_order, are_keys_in_order, is_keyed, index_order_fault, order_fault}
+use Rattle.hfs_btree.specs.Order.{first_node, is_above_all, rise_fault, leaf_order_fault, are_parts_in_order, are_keys_in_order, is_keyed, index_order_fault, order_fault}
 
 less-by : (o : Ordering) → Decides (is_lt o) (o ≡ Less)
 less-by Less = (λ _. refl, λ _. refl)
@@ -84,10 +83,10 @@ first_node-law test P decides spots = (none-first spots, first-none spots)
     first-none (spot ∷ spots) h = rw ((decides spot).1 h.0) (first-none spots h.1)
 
 module _ {K : Type 0} (cmp : Order K) where
-  above-by : (key : K) (ps : Pairs K) → Decides (list_all (λ p. is_lt (cmp p.0 key)) ps) (IsAbove cmp key ps)
+  pub above-by : (key : K) (ps : Pairs K) → Decides (list_all (λ p. is_lt (cmp p.0 key)) ps) (IsAbove cmp key ps)
   above-by key ps = all_decides (λ p. is_lt (cmp p.0 key)) (λ p. cmp p.0 key ≡ Less) (λ p. less-by (cmp p.0 key)) ps
 
-  least-by : (key : K) (ps : Pairs K) → Decides (list_all (λ p. not (is_gt (cmp key p.0))) ps) (IsAtMost cmp key ps)
+  pub least-by : (key : K) (ps : Pairs K) → Decides (list_all (λ p. not (is_gt (cmp key p.0))) ps) (IsAtMost cmp key ps)
   least-by key ps = all_decides (λ p. not (is_gt (cmp key p.0))) (λ p. is_gt (cmp key p.0) ≡ false) (λ p. at-most-by (cmp key p.0)) ps
 
   pub parts-by : (before : Pairs K) (parts : List (K × Pairs K)) → Decides (are_parts_in_order cmp before parts) (ArePartsInOrder cmp before parts)
