@@ -1,11 +1,14 @@
 //! The checks of the catalog's records, each as what mounting answers.
 ghost use Rattle.std.specs.Prelude.{◌≡◌, None, MatchResult, OnOk};
 ghost use Rattle.hfs_catalog.specs.Faults as catalog_spec;
-ghost use Rattle.hfs_check.specs.Faults.{check_fault};
+ghost use Rattle.hfs_btree.specs.Sound.{HasStructure};
+ghost use Rattle.hfs_catalog.specs.Tree.{cat_keys};
+ghost use Rattle.hfs_check.specs.Faults.{check_fault, catalog_name_fault};
 ghost use Rattle.hfs_check.specs.Refusal.{IsFaultOf};
 
 use crate::mount_fault::MountFault;
-use hfs_catalog::{count_fault, id_fault, record_fault, valence_fault};
+use hfs_btree::{Nodes, index_keys};
+use hfs_catalog::{count_fault, id_fault, name_fault, record_fault, valence_fault};
 use hfs_fields::{CatKey, Mdb};
 use hfs_model::Bytes;
 use std::alloc::Global;
@@ -40,6 +43,20 @@ pub(crate) fn check_ids(
 {
     let place = id_fault(alloc, next, records)?;
     answer_at(6, place)
+}
+
+/// The check of names, of the records and of the keys of the index nodes.
+#[tactic(auto, unfolding(crate::specs::Faults::catalog_name_fault))]
+pub(crate) fn check_names<N: Nodes>(
+    alloc: Global,
+    nodes: &N,
+    records: &[(CatKey, Bytes)],
+) -> Result<(), MountFault>
+    requires { HasStructure cat_keys (N.nodes nodes.now) }
+    ensures { MatchResult result (λ _. check_fault 7 (catalog_name_fault (N.nodes nodes.now) records.now) ≡ None) (IsFaultOf (check_fault 7 (catalog_name_fault (N.nodes nodes.now) records.now))) }
+{
+    let keys = index_keys::<CatKey, N>(alloc, nodes)?;
+    answer_at(7, name_fault(&keys, records))
 }
 
 /// The check of valences.

@@ -2,13 +2,16 @@
 ghost use Rattle.std.specs.Prelude.{◌≡◌, ◌*◌, ◌≤◌, ℕ, Option, None, MatchResult, length};
 ghost use Rattle.hfs_btree.specs.Shape.{shape_fault};
 ghost use Rattle.hfs_btree.specs.ShapeSteps.{IsFault};
+ghost use Rattle.hfs_btree.specs.Order.{key_fault};
+ghost use Rattle.hfs_btree.specs.Sound.{HasStructure};
+ghost use Rattle.hfs_space.specs.TreeKeys.{ext_keys};
 ghost use Rattle.hfs_catalog.specs.Tree.{cat_keys};
-ghost use Rattle.hfs_check.specs.Faults.{check_fault};
+ghost use Rattle.hfs_check.specs.Faults.{check_fault, is_fork_key};
 ghost use Rattle.hfs_check.specs.Refusal.{IsFaultOf};
 
 use crate::mount_fault::MountFault;
-use hfs_btree::{Nodes, TreeFault, check_shape};
-use hfs_fields::CatKey;
+use hfs_btree::{KeyTest, Nodes, TreeFault, check_keys, check_shape};
+use hfs_fields::{CatKey, ExtKey};
 use std::alloc::Global;
 
 /// What the check of a tree, of this number, answers for a fault of the tree.
@@ -36,5 +39,38 @@ pub(crate) fn check_catalog_shape<N: Nodes>(
     match check_shape::<CatKey, N>(alloc, nodes, size) {
         Ok(()) => Ok(()),
         Err(fault) => Err(answer_of(4, fault)),
+    }
+}
+
+/// The test that a key of the extents tree is of the data or of the resource fork.
+struct IsForkKey;
+
+impl KeyTest<ExtKey> for IsForkKey {
+    ghost passes = { λ _ key. is_fork_key key };
+
+    fn passes(&self, key: &ExtKey) -> bool {
+        key.fork == 0 || key.fork == 255
+    }
+}
+
+/// The check of the shape of the extents tree in a file of `size` bytes (drXTFlSize).
+fn check_extents_shape<N: Nodes>(alloc: Global, nodes: &N, size: u32) -> Result<(), MountFault>
+    requires { size ≤ 512 * length (N.nodes nodes.now) }
+    ensures { MatchResult result (λ _. check_fault 3 (shape_fault ext_keys size (N.nodes nodes.now)) ≡ None) (IsFaultOf (check_fault 3 (shape_fault ext_keys size (N.nodes nodes.now)))) }
+{
+    match check_shape::<ExtKey, N>(alloc, nodes, size) {
+        Ok(()) => Ok(()),
+        Err(fault) => Err(answer_of(3, fault)),
+    }
+}
+
+/// The check of the forks in the keys of the extents tree.
+fn check_fork_keys<N: Nodes>(alloc: Global, nodes: &N) -> Result<(), MountFault>
+    requires { HasStructure ext_keys (N.nodes nodes.now) }
+    ensures { MatchResult result (λ _. check_fault 3 (key_fault ext_keys (N.nodes nodes.now) is_fork_key) ≡ None) (IsFaultOf (check_fault 3 (key_fault ext_keys (N.nodes nodes.now) is_fork_key))) }
+{
+    match check_keys::<ExtKey, N, IsForkKey>(alloc, nodes, &IsForkKey) {
+        Ok(()) => Ok(()),
+        Err(fault) => Err(answer_of(3, fault)),
     }
 }
