@@ -8,3 +8,6 @@ pub mod Decided
 pub mod Agreed
 pub mod OwnedOnce
 pub mod OwnedWithin
+pub mod Rooms
+pub mod EdgeCounts
+pub mod SpaceWalk

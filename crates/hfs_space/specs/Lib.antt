@@ -11,3 +11,4 @@ pub mod BitmapLaws
 pub mod Sound
 pub mod Faults
 pub mod Laws
+pub mod Edges
