@@ -9,3 +9,6 @@ pub mod Agreed
 pub mod OwnedOnce
 pub mod OwnedWithin
 pub mod TreeRuns
+pub mod Rooms
+pub mod EdgeCounts
+pub mod SpaceWalk

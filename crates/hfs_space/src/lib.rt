@@ -3,15 +3,19 @@
 
 mod bitmap;
 mod bits;
+mod checks;
 mod extents;
 mod fork;
 mod fork_kind;
 mod laws;
+mod owners;
 mod patch;
 mod patched;
 mod tree_file;
+mod space;
 
 pub use bitmap::Bitmap;
+pub use checks::is_tree_file;
 pub use extents::{are_within, fork_extents};
 pub use fork::read_fork;
 pub use fork_kind::ForkKind;
@@ -19,3 +23,4 @@ pub use laws::{fork_faults, owned_are_within, space_faults, tree_files};
 pub use patch::Patch;
 pub use patched::Patched;
 pub use tree_file::tree_runs;
+pub use space::{space_fault, stray_count};
