@@ -1,7 +1,9 @@
-//! Tests of the check of a tree's shape, on trees that are laid by hand.
+//! Tests of the check of a tree's shape and of the passes over its keys, on trees that are laid by hand.
 #![tactic(auto)]
 
 #[cfg(test)]
 mod hostile;
+#[cfg(test)]
+mod keys;
 #[cfg(test)]
 mod laid;
