@@ -4,3 +4,4 @@ pub mod NewMdb
 pub mod BitRow
 pub mod NewTrees
 pub mod Image
+pub mod NodesRead
