@@ -5,3 +5,4 @@ pub mod BitRow
 pub mod NewTrees
 pub mod Image
 pub mod NodesRead
+pub mod BitsRead
