@@ -6,3 +6,5 @@ pub mod NewTrees
 pub mod Image
 pub mod NodesRead
 pub mod BitsRead
+pub mod NewVolume
+pub mod NewBlocks
