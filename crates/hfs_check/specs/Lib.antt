@@ -8,3 +8,4 @@ pub mod NodesRead
 pub mod BitsRead
 pub mod NewVolume
 pub mod NewBlocks
+pub mod HeaderRead
