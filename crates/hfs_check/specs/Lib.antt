@@ -9,3 +9,4 @@ pub mod BitsRead
 pub mod NewVolume
 pub mod NewBlocks
 pub mod HeaderRead
+pub mod SmallTrees
