@@ -10,3 +10,4 @@ pub mod NewVolume
 pub mod NewBlocks
 pub mod HeaderRead
 pub mod SmallTrees
+pub mod NewFiles
