@@ -14,3 +14,4 @@ pub mod Walk
 pub mod First
 pub mod Scans
 pub mod Order
+pub mod OrderLaw

@@ -11,3 +11,9 @@ pub mod NewBlocks
 pub mod HeaderRead
 pub mod SmallTrees
 pub mod NewFiles
+pub mod Parts
+pub mod Sound
+pub mod Faults
+pub mod VolumeOf
+pub mod Agree
+pub mod Laws

@@ -4,3 +4,7 @@ pub mod Releases
 pub mod Pieces
 pub mod ForkPieces
 pub mod GoingOn
+pub mod Decided
+pub mod Agreed
+pub mod OwnedOnce
+pub mod OwnedWithin

@@ -8,3 +8,6 @@ pub mod Owners
 pub mod ForkLaws
 pub mod Counting
 pub mod BitmapLaws
+pub mod Sound
+pub mod Faults
+pub mod Laws

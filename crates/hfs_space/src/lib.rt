@@ -6,6 +6,7 @@ mod bits;
 mod extents;
 mod fork;
 mod fork_kind;
+mod laws;
 mod patch;
 mod patched;
 
@@ -13,5 +14,6 @@ pub use bitmap::Bitmap;
 pub use extents::{are_within, fork_extents};
 pub use fork::read_fork;
 pub use fork_kind::ForkKind;
+pub use laws::{fork_faults, owned_are_within, space_faults, tree_files};
 pub use patch::Patch;
 pub use patched::Patched;
