@@ -17,3 +17,5 @@ pub mod Faults
 pub mod VolumeOf
 pub mod Agree
 pub mod Laws
+pub mod NewCatalog
+pub mod NewSpace

@@ -185,7 +185,7 @@ root_pairs volume ok =
     let second = pair-read root_thread_key (thread_record_bytes (new_thread Folder 1 volume.name)) root_thread_key-value in
     λ i. first i ∷ second i ∷ []
 
-new_catalog-rises : (volume : Layout) → Rises cat_keys.compare (new_catalog volume)
+pub new_catalog-rises : (volume : Layout) → Rises cat_keys.compare (new_catalog volume)
 new_catalog-rises volume = ((refl, tt), (tt, tt))
 
 root_record-leaf : (volume : Layout) → IsNewVolume volume → is_cat_leaf (root_record volume) ≡ true
