@@ -19,3 +19,4 @@ pub mod Agree
 pub mod Laws
 pub mod NewCatalog
 pub mod NewSpace
+pub mod PlanFacts
