@@ -20,3 +20,5 @@ pub mod Laws
 pub mod NewCatalog
 pub mod NewSpace
 pub mod PlanFacts
+pub mod FormatLaws
+pub mod NewImage

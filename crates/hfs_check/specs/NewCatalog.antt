@@ -39,7 +39,7 @@ module _ (volume : Layout) (ok : IsNewVolume volume) where
   thread-value : IsThreadRecordValue (new_thread Folder 1 volume.name)
   thread-value = root_thread-value volume.name (omega (arith, ok.name))
 
-  root-folder : is_dir root_body ≡ true
+  pub root-folder : is_dir root_body ≡ true
   root-folder = is_dir-written (root_directory volume.moment) (root_directory-value volume.moment ok.moment)
 
   pub root-no_file : is_file root_body ≡ false
@@ -72,7 +72,7 @@ module _ (volume : Layout) (ok : IsNewVolume volume) where
   thread-is : is_thread thread_body ≡ true
   thread-is = ap (λ b. b || is_file_thread thread_body) thread-of_folder
 
-  root-read : dir_record_of root_body ≡ root_directory volume.moment
+  pub root-read : dir_record_of root_body ≡ root_directory volume.moment
   root-read =
       ap dir_record_of (sym (append-nil root_body)) ∙ dir_record_of-written (root_directory volume.moment) [] (root_directory-value volume.moment ok.moment)
 
@@ -82,7 +82,7 @@ module _ (volume : Layout) (ok : IsNewVolume volume) where
   thread-begins : begins_thread thread_body ≡ true
   thread-begins = ap begins_thread (sym (append-nil thread_body)) ∙ begins_thread-written (new_thread Folder 1 volume.name) [] thread-value
 
-  root-id : item_id root_body ≡ 2
+  pub root-id : item_id root_body ≡ 2
   unfolding new_dir
   root-id = cond-true (is_dir root_body) _ _ root-folder ∙ ap (λ (d : DirRecord). d.id) root-read
 
@@ -105,19 +105,19 @@ module _ (volume : Layout) (ok : IsNewVolume volume) where
 
   -- ---- the parts
 
-  new-records : Each IsRecord (new_catalog volume)
+  pub new-records : Each IsRecord (new_catalog volume)
   new-records =
       let some = leb-true _ _ (and_parts _ _ (and_parts _ _ ok.item_name).0).0 in
       (inl (root-item, some), (inr (thread-is, refl), tt))
 
-  new-ids : AreIdsSound 16 (new_catalog volume)
+  pub new-ids : AreIdsSound 16 (new_catalog volume)
   new-ids = record {
     each = (λ h. inl (record { id = root-id; folder = root-folder; parent = refl }), (λ h. absurd-from _ thread-no_item h, tt));
     distinct = subst IsDistinct (sym (ap (map (λ r. item_id r.1)) items_of-new)) (tt, tt);
     root = (root_pair volume, item_with-new);
   }
 
-  new-names : AreNamesSound (new_catalog volume)
+  pub new-names : AreNamesSound (new_catalog volume)
   unfolding new_thread
   new-names = record {
     items = (λ h. ok.item_name, (λ h. absurd-from _ thread-no_item h, tt));
@@ -135,7 +135,7 @@ module _ (volume : Layout) (ok : IsNewVolume volume) where
     name = ap (λ (t : ThreadRecord). same_name volume.name t.name) thread-read ∙ ap is_eq (name_order.itself volume.name);
   }
 
-  new-places : ArePlacesSound (new_catalog volume)
+  pub new-places : ArePlacesSound (new_catalog volume)
   new-places = record {
     rises = new_catalog-rises volume;
     parents = (λ h. inl root-id, (λ h. absurd-from _ thread-no_item h, tt));
@@ -143,7 +143,7 @@ module _ (volume : Layout) (ok : IsNewVolume volume) where
     threads = (λ h. absurd-from _ root-no_thread h, (λ h. (root_pair volume, item_with-new, leads), tt));
   }
 
-  new-valences : EachFolder (HasValence (new_catalog volume)) (new_catalog volume)
+  pub new-valences : EachFolder (HasValence (new_catalog volume)) (new_catalog volume)
   unfolding new_dir
   new-valences =
       let none = ap (λ (d : DirRecord). d.valence) root-read in

@@ -41,11 +41,11 @@ abbrev pub image_block : Layout → ℕ → List ℕ
 image_block volume = block_at (volume_image volume)
 
 -- the nodes of the extents file, and of the catalog file
-abbrev pub extents_nodes : Layout → Store
-extents_nodes volume = file_blocks (image_block volume) (new_mdb volume) (new_mdb volume).extents_file
+abbrev pub new_extents_nodes : Layout → Store
+new_extents_nodes volume = file_blocks (image_block volume) (new_mdb volume) (new_mdb volume).extents_file
 
-abbrev pub catalog_nodes : Layout → Store
-catalog_nodes volume = file_blocks (image_block volume) (new_mdb volume) (new_mdb volume).catalog_file
+abbrev pub new_catalog_nodes : Layout → Store
+new_catalog_nodes volume = file_blocks (image_block volume) (new_mdb volume) (new_mdb volume).catalog_file
 
 -- ---- where the files lie
 
@@ -135,7 +135,7 @@ node_in-one_run volume ok first count k node lt within value is =
 
 -- ---- the extents file
 
-pub extents-holds : (volume : Layout) → IsNewVolume volume → HoldsNoLeaf ext_keys volume.extents.nodes (extents_nodes volume)
+pub extents-holds : (volume : Layout) → IsNewVolume volume → HoldsNoLeaf ext_keys volume.extents.nodes (new_extents_nodes volume)
 unfolding new_mdb
 extents-holds volume ok =
     let within = files-within volume ok in
@@ -172,7 +172,7 @@ root_key-value volume ok = record { parent = omega arith; name = omega (arith, o
 root_thread_key-value : IsCatKeyValue root_thread_key
 root_thread_key-value = record { parent = omega arith; name = omega arith }
 
-abbrev root_records : Layout → List (List ℕ)
+abbrev pub root_records : Layout → List (List ℕ)
 root_records volume = root_record volume ∷ root_thread volume ∷ []
 
 pair-read : (key : CatKey) (body : List ℕ) → IsCatKeyValue key → pair_of cat_keys (cat_leaf_bytes key ++ body) ≡ (key, body)
@@ -200,7 +200,7 @@ root_thread-leaf volume ok =
     is_cat_leaf-leaf root_thread_key (thread_record_bytes (new_thread Folder 1 volume.name)) root_thread_key-value
     ∙ ap is_cat_body_len (length-thread_record_bytes (new_thread Folder 1 volume.name) (root_thread-value volume.name (omega (arith, ok.name))))
 
-pub catalog-holds : (volume : Layout) → IsNewVolume volume → HoldsOneLeaf cat_keys volume.catalog.nodes (root_records volume) (catalog_nodes volume)
+pub catalog-holds : (volume : Layout) → IsNewVolume volume → HoldsOneLeaf cat_keys volume.catalog.nodes (root_records volume) (new_catalog_nodes volume)
 unfolding new_mdb root_leaf
 catalog-holds volume ok =
     let within = files-within volume ok in
@@ -222,21 +222,21 @@ catalog-holds volume ok =
 
 -- ---- what the files hold
 
-pub overflow_of-new : (volume : Layout) → IsNewVolume volume → overflow_of (extents_nodes volume) ≡ []
-overflow_of-new volume ok = no_leaf-content ext_keys volume.extents.nodes (extents_nodes volume) (extents-holds volume ok)
+pub overflow_of-new : (volume : Layout) → IsNewVolume volume → overflow_of (new_extents_nodes volume) ≡ []
+overflow_of-new volume ok = no_leaf-content ext_keys volume.extents.nodes (new_extents_nodes volume) (extents-holds volume ok)
 
-pub extents-shaped : (volume : Layout) → IsNewVolume volume → IsShaped ext_keys (512 * volume.extents.nodes) (extents_nodes volume)
-extents-shaped volume ok = no_leaf-shaped ext_keys volume.extents.nodes (extents_nodes volume) (extents-holds volume ok)
+pub extents-shaped : (volume : Layout) → IsNewVolume volume → IsShaped ext_keys (512 * volume.extents.nodes) (new_extents_nodes volume)
+extents-shaped volume ok = no_leaf-shaped ext_keys volume.extents.nodes (new_extents_nodes volume) (extents-holds volume ok)
 
-pub extents-ordered : (volume : Layout) → IsNewVolume volume → IsOrdered ext_keys (extents_nodes volume)
-extents-ordered volume ok = no_leaf-ordered ext_keys volume.extents.nodes (extents_nodes volume) (extents-holds volume ok)
+pub extents-ordered : (volume : Layout) → IsNewVolume volume → IsOrdered ext_keys (new_extents_nodes volume)
+extents-ordered volume ok = no_leaf-ordered ext_keys volume.extents.nodes (new_extents_nodes volume) (extents-holds volume ok)
 
-pub catalog_of-new : (volume : Layout) → IsNewVolume volume → catalog_of (catalog_nodes volume) ≡ new_catalog volume
+pub catalog_of-new : (volume : Layout) → IsNewVolume volume → catalog_of (new_catalog_nodes volume) ≡ new_catalog volume
 catalog_of-new volume ok =
-    one_leaf-content cat_keys volume.catalog.nodes (root_records volume) (catalog_nodes volume) (catalog-holds volume ok) ∙ root_pairs volume ok
+    one_leaf-content cat_keys volume.catalog.nodes (root_records volume) (new_catalog_nodes volume) (catalog-holds volume ok) ∙ root_pairs volume ok
 
-pub catalog-shaped : (volume : Layout) → IsNewVolume volume → IsShaped cat_keys (512 * volume.catalog.nodes) (catalog_nodes volume)
-catalog-shaped volume ok = one_leaf-shaped cat_keys volume.catalog.nodes (root_records volume) (catalog_nodes volume) (catalog-holds volume ok)
+pub catalog-shaped : (volume : Layout) → IsNewVolume volume → IsShaped cat_keys (512 * volume.catalog.nodes) (new_catalog_nodes volume)
+catalog-shaped volume ok = one_leaf-shaped cat_keys volume.catalog.nodes (root_records volume) (new_catalog_nodes volume) (catalog-holds volume ok)
 
-pub catalog-ordered : (volume : Layout) → IsNewVolume volume → IsOrdered cat_keys (catalog_nodes volume)
-catalog-ordered volume ok = one_leaf-ordered cat_keys volume.catalog.nodes (root_records volume) (catalog_nodes volume) (catalog-holds volume ok)
+pub catalog-ordered : (volume : Layout) → IsNewVolume volume → IsOrdered cat_keys (new_catalog_nodes volume)
+catalog-ordered volume ok = one_leaf-ordered cat_keys volume.catalog.nodes (root_records volume) (new_catalog_nodes volume) (catalog-holds volume ok)

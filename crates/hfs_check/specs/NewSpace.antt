@@ -57,6 +57,10 @@ one_run-file volume first count nodes within are some = record {
   node = omega arith;
 }
 
+-- the allocation blocks of the catalog file, and of the extents file
+abbrev pub new_owned : Layout → List ℕ
+new_owned volume = range_with_len volume.extents.blocks volume.catalog.blocks ++ range_with_len 0 volume.extents.blocks
+
 module _ (volume : Layout) (ok : IsNewVolume volume) where
   pub extents-file : IsTreeFile (new_mdb volume) (new_mdb volume).extents_file (new_mdb volume).extents_file_size
   unfolding new_mdb
@@ -113,7 +117,7 @@ module _ (volume : Layout) (ok : IsNewVolume volume) where
   -- ---- space
 
   -- the catalog file's blocks, and the extents file's
-  pub owned_blocks-new : owned_blocks (new_mdb volume) [] (new_catalog volume) ≡ range_with_len volume.extents.blocks volume.catalog.blocks ++ range_with_len 0 volume.extents.blocks
+  pub owned_blocks-new : owned_blocks (new_mdb volume) [] (new_catalog volume) ≡ new_owned volume
   unfolding owned_blocks owned_extents fork_extents catalog_fork new_mdb
   owned_blocks-new =
       (λ i. extent_blocks ((extents_in [] (catalog_fork (new_mdb volume)) ++ flat_map (extents_in []) (no_forks i)) ++ (new_mdb volume).extents_file ++ bad_extents []))
@@ -132,7 +136,7 @@ module _ (volume : Layout) (ok : IsNewVolume volume) where
   marked k lt =
       is_used-bit_rows (image_block volume) 3 (used_blocks volume) k (bitmap-rows k (omega (arith, ok.room))) ∙ lt-ltb k (used_blocks volume) lt
 
-  pub new_space-sound : IsSpaceSound (image_block volume) (new_mdb volume) (range_with_len volume.extents.blocks volume.catalog.blocks ++ range_with_len 0 volume.extents.blocks)
+  pub new_space-sound : IsSpaceSound (image_block volume) (new_mdb volume) (new_owned volume)
   unfolding new_mdb
   new_space-sound =
       let e : ℕ = volume.extents.blocks in

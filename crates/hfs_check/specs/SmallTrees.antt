@@ -44,7 +44,7 @@ module _ {K : Type 0} (g : Ghosts K) (count : ℕ) (nodes : Store) (holds : Hold
   no_leaf-header : header_in nodes ≡ header_value no_leaf
   no_leaf-header = header_in-new nodes no_leaf no_leaf-value holds.header
 
-  no_leaf-turn : tree_turn g nodes ≡ []
+  pub no_leaf-turn : tree_turn g nodes ≡ []
   unfolding empty_tree
   no_leaf-turn = λ i. turn g nodes (no_leaf-header i).depth ((no_leaf-header i).root ∷ [])
 
@@ -139,10 +139,10 @@ module _ {K : Type 0} (g : Ghosts K) (count : ℕ) (records : List (List ℕ)) (
   one_leaf-header : header_in nodes ≡ header_value one_leaf
   one_leaf-header = header_in-new nodes one_leaf one_leaf-value holds.header
 
-  abbrev the_spot : Spot
+  abbrev pub the_spot : Spot
   the_spot = record { left = 0; n = 1; right = 0; above = 0 }
 
-  one_leaf-turn : tree_turn g nodes ≡ the_spot ∷ []
+  pub one_leaf-turn : tree_turn g nodes ≡ the_spot ∷ []
   unfolding one_leaf_tree
   one_leaf-turn = λ i. turn g nodes (one_leaf-header i).depth ((one_leaf-header i).root ∷ [])
 
