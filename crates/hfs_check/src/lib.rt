@@ -4,6 +4,7 @@
 mod bit_row;
 mod block_row;
 mod fault;
+mod format_laws;
 mod formatting;
 mod laws;
 mod layout;
@@ -19,6 +20,7 @@ mod tree_checks;
 mod tree_header;
 
 pub use crate::fault::FormatFault;
+pub use crate::format_laws::{new_images_are_sound, new_images_hold_new_volumes};
 pub use crate::formatting::format;
 pub use crate::laws::{
     agrees_on, agrees_with_itself, blocks_faults, bytes_stay, catalog_faults, catalog_is_sound,
