@@ -3,7 +3,8 @@ use Rattle.std.proofs.Common.{◌≡◌, ℕ, zero, suc, ◌+◌, ◌-◌, ◌*�
 use Rattle.std.specs.List.{range_with_len}
 use Rattle.std.proofs.Math.Nat.{mul-le-mul_right, add-mul}
 use Rattle.std.proofs.lemmas.List.{append-nil}
-use Rattle.std.proofs.lemmas.List.FromFn.{get_or-map-range_with_len}
+use Rattle.std.proofs.lemmas.List.{take_all}
+use Rattle.std.proofs.lemmas.List.FromFn.{get_or-map-range_with_len, length-map-range_with_len}
 use Rattle.std.proofs.lemmas.Bool.{or_from, or_left, or_right, and_right, and_from, ne_eqb, eq-eqb, le-ltb, lt-ltb, le-leb, cond-true, cond-false}
 use Rattle.hfs_fields.specs.KeyForms.{IsCatKeyValue, cat_leaf_bytes, is_cat_leaf-leaf, cat_key_of-leaf, cat_body_of-leaf}
 use Rattle.hfs_fields.specs.Keys.{is_cat_leaf, is_cat_body_len}
@@ -21,6 +22,7 @@ use Rattle.hfs_btree.specs.Tree.{Store, node_in, pair_of}
 use Rattle.hfs_btree.specs.Header.{tree_content}
 use Rattle.hfs_btree.specs.Sound.{IsShaped, IsOrdered, IsSound}
 use Rattle.hfs_space.specs.Forks.{blocks_each, run_in, file_blocks}
+use Rattle.hfs_space.specs.TreeFiles.{node_count, tree_nodes}
 use Rattle.hfs_space.specs.TreeKeys.{ext_keys, overflow_of}
 use Rattle.hfs_catalog.specs.Records.{Record, Catalog}
 use Rattle.hfs_catalog.specs.Tree.{cat_keys, catalog_of}
@@ -119,6 +121,14 @@ one_run-nodes blocks volume first count =
     ap (map blocks) (
     (λ i. range_with_len (volume.start + first * each i) (count * each i) ++ (range_with_len at (none i) ++ (range_with_len at (none i) ++ [])))
     ∙ append-nil (range_with_len (volume.start + first * volume.factor) (count * volume.factor)))
+
+-- such a file has as many blocks as its size has nodes
+pub tree_nodes-one_run : (blocks : ℕ → List ℕ) (volume : Layout) (first count nodes : ℕ) → nodes ≡ count * volume.factor
+    → tree_nodes blocks (new_mdb volume) (one_run first count) (512 * nodes) ≡ file_blocks blocks (new_mdb volume) (one_run first count)
+unfolding tree_nodes
+tree_nodes-one_run blocks volume first count nodes e =
+    let len = ap length (one_run-nodes blocks volume first count) ∙ length-map-range_with_len blocks (volume.start + first * volume.factor) (count * volume.factor) in
+    take_all (node_count (512 * nodes)) (file_blocks blocks (new_mdb volume) (one_run first count)) (omega (arith, len, e))
 
 -- node k of such a file is the block that the new volume has there
 node_in-one_run : (volume : Layout) → IsNewVolume volume → (first count k : ℕ) (node : Node) → k < count * volume.factor → volume.start + first * volume.factor + k < volume.blocks

@@ -14,7 +14,7 @@ use Rattle.hfs_btree.specs.Tree.{Store, records_in}
 use Rattle.hfs_btree.specs.Order.{key_at}
 use Rattle.hfs_model.specs.Volume.{Entry}
 use Rattle.hfs_space.specs.Extents.{Overflow}
-use Rattle.hfs_space.specs.Forks.{file_blocks}
+use Rattle.hfs_space.specs.TreeFiles.{tree_nodes}
 use Rattle.hfs_space.specs.TreeKeys.{ext_keys, overflow_of}
 use Rattle.hfs_space.specs.Owners.{catalog_fork, extents_in, owned_blocks}
 use Rattle.hfs_space.specs.Sound.{AreForksSound, IsSpaceSound}
@@ -35,7 +35,7 @@ use Rattle.hfs_check.specs.FormatLaws.{root_item, volume_of_root, NewImagesAreSo
 use Rattle.hfs_check.specs.NewVolume.{IsNewVolume, mdb_of-new}
 use Rattle.hfs_check.specs.NewBlocks.{block_at-volume_image, block_count-volume_image, length-volume_image}
 use Rattle.hfs_check.specs.SmallTrees.{no_leaf-turn, one_leaf-turn}
-use Rattle.hfs_check.specs.NewFiles.{image_block, new_extents_nodes, new_catalog_nodes, files-within, new_block-mdb, root_key, root_pair, root_records, new_catalog, extents-holds, catalog-holds, overflow_of-new, extents-shaped, extents-ordered, catalog_of-new, catalog-shaped, catalog-ordered}
+use Rattle.hfs_check.specs.NewFiles.{image_block, tree_nodes-one_run, new_extents_nodes, new_catalog_nodes, files-within, new_block-mdb, root_key, root_pair, root_records, new_catalog, extents-holds, catalog-holds, overflow_of-new, extents-shaped, extents-ordered, catalog_of-new, catalog-shaped, catalog-ordered}
 use Rattle.hfs_check.specs.NewCatalog.{root-folder, root-read, root-id, items_of-new, new-records, new-ids, new-names, new-places, new-valences, new_counts-sound}
 use Rattle.hfs_check.specs.NewSpace.{extents-file, catalog-file, new_mdb-sound, new_forks-sound, catalog_extents-new, new_owned, owned_blocks-new, new_space-sound}
 use Rattle.hfs_check.specs.PlanFacts.{is_new_volume-planned}
@@ -60,9 +60,19 @@ module _ (volume : Layout) (ok : IsNewVolume volume) where
       let within = files-within volume ok in
       ap (λ bytes. mdb_of (take 162 bytes)) (block_at-volume_image volume ok 2 (omega (arith, ok.behind_bitmap)) ∙ new_block-mdb volume) ∙ mdb_of-new volume ok
 
+  extents_file-is : tree_nodes (image_block volume) (new_mdb volume) (new_mdb volume).extents_file (new_mdb volume).extents_file_size ≡ new_extents_nodes volume
+  unfolding new_mdb
+  extents_file-is = tree_nodes-one_run (image_block volume) volume 0 volume.extents.blocks volume.extents.nodes ok.extents
+
+  catalog_file-is : tree_nodes (image_block volume) (new_mdb volume) (new_mdb volume).catalog_file (new_mdb volume).catalog_file_size ≡ new_catalog_nodes volume
+  unfolding new_mdb
+  catalog_file-is = tree_nodes-one_run (image_block volume) volume volume.extents.blocks volume.catalog.blocks volume.catalog.nodes ok.catalog
+
   extents_nodes-is : extents_nodes (image_block volume) ≡ new_extents_nodes volume
   unfolding extents_nodes
-  extents_nodes-is = ap (λ (mdb : Mdb). file_blocks (image_block volume) mdb mdb.extents_file) mdb-is
+  extents_nodes-is =
+      ap (λ (mdb : Mdb). tree_nodes (image_block volume) mdb mdb.extents_file mdb.extents_file_size) mdb-is
+      ∙ extents_file-is
 
   overflow-is : overflow_in (image_block volume) ≡ []
   unfolding overflow_in
@@ -74,7 +84,9 @@ module _ (volume : Layout) (ok : IsNewVolume volume) where
 
   catalog_nodes-is : catalog_nodes (image_block volume) ≡ new_catalog_nodes volume
   unfolding catalog_nodes
-  catalog_nodes-is = λ i. file_blocks (image_block volume) (mdb-is i) (catalog_extents-is i)
+  catalog_nodes-is =
+      (λ i. tree_nodes (image_block volume) (mdb-is i) (catalog_extents-is i) (mdb-is i).catalog_file_size)
+      ∙ catalog_file-is
 
   catalog-is : catalog_in (image_block volume) ≡ new_catalog volume
   unfolding catalog_in

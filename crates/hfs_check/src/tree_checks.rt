@@ -1,16 +1,16 @@
 //! The checks of the two trees, each as what mounting answers.
-ghost use Rattle.std.specs.Prelude.{◌≡◌, ◌*◌, ◌≤◌, ℕ, Option, None, MatchResult, length};
-ghost use Rattle.hfs_btree.specs.Shape.{shape_fault};
+ghost use Rattle.std.specs.Prelude.{◌≡◌, ◌*◌, ◌≤◌, ℕ, Option, None, MatchResult, OnOk, length};
+ghost use Rattle.hfs_btree.specs.Shape.{shape_fault, ◌or_else◌};
 ghost use Rattle.hfs_btree.specs.ShapeSteps.{IsFault};
-ghost use Rattle.hfs_btree.specs.Order.{key_fault};
-ghost use Rattle.hfs_btree.specs.Sound.{HasStructure};
+ghost use Rattle.hfs_btree.specs.Order.{key_fault, order_fault};
+ghost use Rattle.hfs_btree.specs.Sound.{HasStructure, HasCounts, IsShaped};
 ghost use Rattle.hfs_space.specs.TreeKeys.{ext_keys};
 ghost use Rattle.hfs_catalog.specs.Tree.{cat_keys};
 ghost use Rattle.hfs_check.specs.Faults.{check_fault, is_fork_key};
-ghost use Rattle.hfs_check.specs.Refusal.{IsFaultOf};
+ghost use Rattle.hfs_check.specs.Refusal.{IsFaultOf, extents_tree_fault};
 
 use crate::mount_fault::MountFault;
-use hfs_btree::{KeyTest, Nodes, TreeFault, check_keys, check_shape};
+use hfs_btree::{KeyTest, Nodes, TreeFault, check_keys, check_order, check_shape};
 use hfs_fields::{CatKey, ExtKey};
 use std::alloc::Global;
 
@@ -34,7 +34,8 @@ pub(crate) fn check_catalog_shape<N: Nodes>(
     size: u32,
 ) -> Result<(), MountFault>
     requires { size ≤ 512 * length (N.nodes nodes.now) }
-    ensures { MatchResult result (λ _. check_fault 4 (shape_fault cat_keys size (N.nodes nodes.now)) ≡ None) (IsFaultOf (check_fault 4 (shape_fault cat_keys size (N.nodes nodes.now)))) }
+    ensures fault { MatchResult result (λ _. check_fault 4 (shape_fault cat_keys size (N.nodes nodes.now)) ≡ None) (IsFaultOf (check_fault 4 (shape_fault cat_keys size (N.nodes nodes.now)))) }
+    ensures shaped { OnOk result (IsShaped cat_keys size (N.nodes nodes.now)) }
 {
     match check_shape::<CatKey, N>(alloc, nodes, size) {
         Ok(()) => Ok(()),
@@ -56,7 +57,8 @@ impl KeyTest<ExtKey> for IsForkKey {
 /// The check of the shape of the extents tree in a file of `size` bytes (drXTFlSize).
 fn check_extents_shape<N: Nodes>(alloc: Global, nodes: &N, size: u32) -> Result<(), MountFault>
     requires { size ≤ 512 * length (N.nodes nodes.now) }
-    ensures { MatchResult result (λ _. check_fault 3 (shape_fault ext_keys size (N.nodes nodes.now)) ≡ None) (IsFaultOf (check_fault 3 (shape_fault ext_keys size (N.nodes nodes.now)))) }
+    ensures fault { MatchResult result (λ _. check_fault 3 (shape_fault ext_keys size (N.nodes nodes.now)) ≡ None) (IsFaultOf (check_fault 3 (shape_fault ext_keys size (N.nodes nodes.now)))) }
+    ensures shaped { OnOk result (IsShaped ext_keys size (N.nodes nodes.now)) }
 {
     match check_shape::<ExtKey, N>(alloc, nodes, size) {
         Ok(()) => Ok(()),
@@ -73,4 +75,30 @@ fn check_fork_keys<N: Nodes>(alloc: Global, nodes: &N) -> Result<(), MountFault>
         Ok(()) => Ok(()),
         Err(fault) => Err(answer_of(3, fault)),
     }
+}
+
+/// The check of the order of the extents tree.
+fn check_extents_order<N: Nodes>(nodes: &N) -> Result<(), MountFault>
+    requires structure { HasStructure ext_keys (N.nodes nodes.now) }
+    requires counts { HasCounts ext_keys (N.nodes nodes.now) }
+    ensures { MatchResult result (λ _. check_fault 3 (order_fault ext_keys (N.nodes nodes.now)) ≡ None) (IsFaultOf (check_fault 3 (order_fault ext_keys (N.nodes nodes.now)))) }
+{
+    match check_order::<ExtKey, N>(nodes) {
+        Ok(()) => Ok(()),
+        Err(fault) => Err(answer_of(3, fault)),
+    }
+}
+
+/// The check of the extents tree in a file of `size` bytes: its shape, the forks in its keys, its order.
+pub(crate) fn check_extents_tree<N: Nodes>(
+    alloc: Global,
+    nodes: &N,
+    size: u32,
+) -> Result<(), MountFault>
+    requires { size ≤ 512 * length (N.nodes nodes.now) }
+    ensures { MatchResult result (λ _. check_fault 3 (extents_tree_fault size (N.nodes nodes.now)) ≡ None) (IsFaultOf (check_fault 3 (extents_tree_fault size (N.nodes nodes.now)))) }
+{
+    check_extents_shape(alloc, nodes, size)?;
+    check_fork_keys(alloc, nodes)?;
+    check_extents_order(nodes)
 }
