@@ -1,6 +1,6 @@
 -- What is looked up by IDs where a whole catalog is checked.
 use Rattle.std.specs.Prelude.{ℕ, Bool, false, ◌==◌, List, nat_eq, if◌then◌else◌, Option, Some, None}
-use Rattle.std.specs.List.{position_from}
+use Rattle.std.specs.List.{position_from, list_any}
 use Rattle.std.specs.Map.{lookup}
 use Rattle.std.specs.Option.{option_map_or, unwrap_or}
 use Rattle.hfs_catalog.specs.Records.{Catalog, has_id, is_thread_of}
@@ -36,3 +36,7 @@ thread_place catalog id = position_from (is_thread_of id) 0 catalog
 -- whether the place that is known is this one
 abbrev pub is_place : Option ℕ → ℕ → Bool
 is_place place i = option_map_or (λ j. j == i) place false
+
+-- whether the number is one of these
+abbrev pub has_number : List ℕ → ℕ → Bool
+has_number numbers id = list_any (nat_eq id) numbers

@@ -3,11 +3,14 @@
 
 mod checks;
 mod id_check;
+mod id_set;
 mod index;
 mod item;
 mod laws;
 mod lookups;
 mod numbers;
+mod order_check;
+mod thread_check;
 mod valence_check;
 
 pub use checks::{count_fault, name_fault, record_fault};
