@@ -13,3 +13,4 @@ pub mod Walked
 pub mod Indexed
 pub mod IdSteps
 pub mod ValenceSteps
+pub mod OrderSteps

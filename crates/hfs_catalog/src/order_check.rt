@@ -10,11 +10,11 @@ use hfs_fields::CatKey;
 use hfs_model::Bytes;
 use std::cmp::Ordering;
 
-/// Whether a key is below another.
-fn is_below(key: &CatKey, other: &CatKey) -> bool
-    ensures { result ≡ is_lt (cat_cmp key.now other.now) }
+/// Whether a record's key is below another's.
+fn is_below(r: &(CatKey, Bytes), other: &(CatKey, Bytes)) -> bool
+    ensures { result ≡ is_lt (cat_cmp r.now.0 other.now.0) }
 {
-    key.compare(other) == Ordering::Less
+    r.0.compare(&other.0) == Ordering::Less
 }
 
 /// The number of the first record whose key is not above all before it. Each is compared with the last before it alone:
@@ -23,7 +23,7 @@ pub(crate) fn first_not_above(catalog: &[(CatKey, Bytes)]) -> Option<usize>
     ensures { result ≡ first_failing is_above [] catalog.now }
 {
     for i in 1..catalog.len() {
-        if !is_below(&catalog[i - 1].0, &catalog[i].0) {
+        if !is_below(&catalog[i - 1], &catalog[i]) {
             return Some(i);
         }
     }
