@@ -14,3 +14,4 @@ pub mod Indexed
 pub mod IdSteps
 pub mod ValenceSteps
 pub mod OrderSteps
+pub mod ParentSteps

@@ -10,6 +10,8 @@ mod laws;
 mod lookups;
 mod numbers;
 mod order_check;
+mod parent_check;
+mod place_check;
 mod thread_check;
 mod valence_check;
 
@@ -22,6 +24,7 @@ pub use laws::{
     scans_are_first, scans_are_whole, sound_is_lawful, valence_faults, valences_are_counted,
 };
 pub use lookups::{by_id, children, lookup, thread};
+pub use place_check::place_fault;
 pub use valence_check::valence_fault;
 
 #[cfg(test)]
