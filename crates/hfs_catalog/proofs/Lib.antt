@@ -15,3 +15,4 @@ pub mod IdSteps
 pub mod ValenceSteps
 pub mod OrderSteps
 pub mod ParentSteps
+pub mod PlaceSteps

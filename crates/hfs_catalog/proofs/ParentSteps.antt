@@ -1,7 +1,7 @@
 -- The steps of the check of parents.
-use Rattle.std.proofs.Common.{◌≡◌, ⊎_elim, ℕ, zero, suc, ◌+◌, ◌-◌, ◌<◌, Bool, true, false, ◌&&◌, ◌||◌, nat_eq, eqb, List, length, refl, sym, ◌∙◌, ap, subst, arith, Option, Some, None}
+use Rattle.std.proofs.Common.{◌≡◌, ⊎_elim, ℕ, zero, suc, ◌+◌, ◌-◌, ◌<◌, Bool, true, false, ◌&&◌, ◌||◌, nat_eq, eqb, List, length, sym, ◌∙◌, ap, subst, arith, Option, Some, None}
 use Rattle.std.specs.Option.{option_map, option_map_or}
-use Rattle.std.proofs.lemmas.Bool.{eqb-true, eq-eqb, ne_eqb, or_left, or_cases, true≢false}
+use Rattle.std.proofs.lemmas.Bool.{eqb-true, eq-eqb, ne_eqb, or_left, or_cases}
 use Rattle.hfs_fields.specs.Records.{is_item, item_id}
 use Rattle.hfs_catalog.specs.Records.{Record, Catalog, item_with, is_folder_id}
 use Rattle.hfs_catalog.specs.Parents.{parent_in, ReachesRoot, reaches_root}

@@ -25,18 +25,17 @@ fn earlier(a: Option<usize>, b: Option<usize>) -> Option<usize>
 }
 
 /// The number of the first record whose order, parent or thread is wrong.
-fn first_misplaced(
-    alloc: Global,
-    catalog: &[(CatKey, Bytes)],
-) -> Result<Option<usize>, AllocError>
+fn first_misplaced(alloc: Global, catalog: &[(CatKey, Bytes)]) -> Result<Option<usize>, AllocError>
     ensures { IfOk result (λ place. place ≡ first_failing (is_place_right catalog.now) [] catalog.now) }
 {
     let index = ItemIndex::of(alloc, catalog)?;
+    let unordered = first_not_above(catalog);
     let lone = first_wrong_parent(alloc, &index, catalog)?;
     let unthreaded = first_unthreaded(alloc, catalog)?;
     let astray = first_wrong_thread(&index, catalog);
-    let placed = earlier(first_not_above(catalog), lone);
-    Ok(earlier(earlier(placed, unthreaded), astray))
+    let items = earlier(unordered, lone);
+    let folders = earlier(items, unthreaded);
+    Ok(earlier(folders, astray))
 }
 
 /// The number of the first record that is out of order, an item's whose parent is no folder or whose chain of parents does

@@ -66,7 +66,10 @@ fn first_unthreaded_by(ids: &IdSet, catalog: &[(CatKey, Bytes)]) -> Option<usize
 }
 
 /// The number of the first folder's record without a thread. `Err` only where memory is wanting.
-pub(crate) fn first_unthreaded(alloc: Global, catalog: &[(CatKey, Bytes)]) -> Result<Option<usize>, AllocError>
+pub(crate) fn first_unthreaded(
+    alloc: Global,
+    catalog: &[(CatKey, Bytes)],
+) -> Result<Option<usize>, AllocError>
     ensures { IfOk result (λ place. place ≡ first_failing (λ _ r. implies (is_dir r.1) (has_thread catalog.now (item_id r.1))) [] catalog.now) }
 {
     let ids = thread_ids(alloc, catalog)?;
@@ -123,7 +126,10 @@ fn is_thread_right(index: &ItemIndex<'_>, r: &(CatKey, Bytes)) -> bool
 }
 
 /// The number of the first thread's record that does not lead to its item.
-pub(crate) fn first_wrong_thread(index: &ItemIndex<'_>, catalog: &[(CatKey, Bytes)]) -> Option<usize>
+pub(crate) fn first_wrong_thread(
+    index: &ItemIndex<'_>,
+    catalog: &[(CatKey, Bytes)],
+) -> Option<usize>
     ensures { result ≡ first_failing (λ _ r. implies (is_thread r.1) (is_thread_right index.now r)) [] catalog.now }
 {
     for i in 0..catalog.len() {

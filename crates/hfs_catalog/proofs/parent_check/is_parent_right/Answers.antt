@@ -1,4 +1,4 @@
-use Rattle.std.proofs.Common.{ℕ, List, ◌&&◌, false, length, ◌∙◌, sym, ap}
+use Rattle.std.proofs.Common.{ℕ, List, ◌&&◌, length, ◌∙◌, sym, ap}
 use Rattle.hfs_fields.specs.Records.{is_item, item_id}
 use Rattle.hfs_catalog.specs.Parents.{reaches_root}
 use Rattle.hfs_catalog.specs.Indexes.{only_if}
