@@ -13,3 +13,6 @@ pub mod Walked
 pub mod Indexed
 pub mod IdSteps
 pub mod ValenceSteps
+pub mod OrderSteps
+pub mod ParentSteps
+pub mod PlaceSteps

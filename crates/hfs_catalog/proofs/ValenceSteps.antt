@@ -1,5 +1,5 @@
 -- The steps of the check of valences.
-use Rattle.std.proofs.Common.{◌≡◌, ℕ, Bool, ◌&&◌, ◌==◌, sym, ap}
+use Rattle.std.proofs.Common.{◌≡◌, ℕ, ◌&&◌, ◌==◌, sym, ap}
 use Rattle.std.specs.Prelude.{nat_le}
 use Rattle.hfs_fields.specs.Records.{is_dir, item_id, dir_record_of}
 use Rattle.hfs_catalog.specs.Records.{Record, Catalog, valence_of}

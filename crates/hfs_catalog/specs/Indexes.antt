@@ -1,8 +1,9 @@
 -- What is looked up by IDs where a whole catalog is checked.
-use Rattle.std.specs.Prelude.{ℕ, Bool, false, ◌==◌, List, nat_eq, if◌then◌else◌, Option, Some, None}
-use Rattle.std.specs.List.{position_from}
+use Rattle.std.specs.Prelude.{◌≡◌, ℕ, Bool, true, false, nat_le, ◌==◌, List, nat_eq, if◌then◌else◌, Option, Some, None}
+use Rattle.std.specs.List.{position_from, list_any}
 use Rattle.std.specs.Map.{lookup}
 use Rattle.std.specs.Option.{option_map_or, unwrap_or}
+use Rattle.hfs_catalog.specs.Parents.{ReachesRoot}
 use Rattle.hfs_catalog.specs.Records.{Catalog, has_id, is_thread_of}
 
 -- numbers, each with an ID
@@ -36,3 +37,17 @@ thread_place catalog id = position_from (is_thread_of id) 0 catalog
 -- whether the place that is known is this one
 abbrev pub is_place : Option ℕ → ℕ → Bool
 is_place place i = option_map_or (λ j. j == i) place false
+
+-- whether the number is one of these
+abbrev pub has_number : List ℕ → ℕ → Bool
+has_number numbers id = list_any (nat_eq id) numbers
+
+-- the chain of parents from each of these IDs on reaches the root
+abbrev pub AreRooted : List ℕ → Catalog → Type 0
+AreRooted ids catalog = (id : ℕ) → has_number ids id ≡ true → ReachesRoot catalog id
+
+-- the earlier of two places
+abbrev pub earlier : Option ℕ → Option ℕ → Option ℕ
+earlier None b = b
+earlier (Some i) None = Some i
+earlier (Some i) (Some j) = if nat_le i j then Some i else Some j

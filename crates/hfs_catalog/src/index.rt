@@ -1,6 +1,6 @@
 //! Where the items of a catalog stand, by their IDs.
 
-ghost use Rattle.std.specs.Prelude.{◌≡◌, ℕ, IfOk, OnOk};
+ghost use Rattle.std.specs.Prelude.{◌≡◌, ℕ, length, IfOk, OnOk};
 ghost use Rattle.std.specs.Option.{option_or, option_copied};
 ghost use Rattle.hfs_catalog.specs.Records.{has_id, item_with};
 ghost use Rattle.hfs_catalog.specs.Indexes.{number_of, item_place, only_if};
@@ -62,6 +62,13 @@ impl<'a> ItemIndex<'a> {
     {
         let places = item_places(alloc, catalog)?;
         Ok(ItemIndex { catalog, places })
+    }
+
+    /// How many records the catalog has.
+    pub(crate) fn len(&self) -> usize
+        ensures { result ≡ length self.now }
+    {
+        self.catalog.len()
     }
 
     /// The place of the first record of a file or a folder with that ID, from 0 on. None where there is none.

@@ -3,12 +3,17 @@
 
 mod checks;
 mod id_check;
+mod id_set;
 mod index;
 mod item;
 mod laws;
 mod lookups;
 mod records;
 mod numbers;
+mod order_check;
+mod parent_check;
+mod place_check;
+mod thread_check;
 mod valence_check;
 
 pub use checks::{count_fault, name_fault, record_fault};
@@ -21,6 +26,7 @@ pub use laws::{
 };
 pub use lookups::{by_id, children, lookup, thread};
 pub use records::read_records;
+pub use place_check::place_fault;
 pub use valence_check::valence_fault;
 
 #[cfg(test)]

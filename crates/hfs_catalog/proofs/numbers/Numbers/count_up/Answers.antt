@@ -1,4 +1,3 @@
-use Rattle.std.proofs.Common.{sym, ◌∙◌}
 use Rattle.hfs_catalog.specs.Indexes.{number_of}
 use Rattle.hfs_catalog.proofs.Indexed.{count_up}
 use Rattle.hfs_catalog.proofs.numbers.Numbers.count_up.Goals as goal
