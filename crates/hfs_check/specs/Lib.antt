@@ -4,13 +4,6 @@ pub mod NewMdb
 pub mod BitRow
 pub mod NewTrees
 pub mod Image
-pub mod NodesRead
-pub mod BitsRead
-pub mod NewVolume
-pub mod NewBlocks
-pub mod HeaderRead
-pub mod SmallTrees
-pub mod NewFiles
 pub mod Parts
 pub mod Sound
 pub mod Faults
@@ -23,4 +16,3 @@ pub mod NewCatalog
 pub mod NewSpace
 pub mod PlanFacts
 pub mod FormatLaws
-pub mod NewImage

@@ -1,4 +1,4 @@
-use Rattle.hfs_check.specs.NewImage.{new_images-hold}
+use Rattle.hfs_check.proofs.NewImage.{new_images-hold}
 use Rattle.hfs_check.proofs.format_laws.new_images_hold_new_volumes.Goals as goal
 
 pub returns : goal.returns

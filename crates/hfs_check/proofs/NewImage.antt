@@ -1,19 +1,16 @@
 -- The image of a new volume is sound, and holds the root folder alone.
-use Rattle.std.proofs.Common.{◌≡◌, ℕ, ◌+◌, ◌*◌, ◌^◌, ◌<◌, ◌≤◌, true, List, [], ◌∷◌, None, length, map, take, refl, sym, ap, subst, ◌∙◌, arith}
+use Rattle.std.proofs.Common.{◌≡◌, true, [], ◌∷◌, map, take, refl, sym, ap, subst, ◌∙◌, arith}
 use Rattle.std.specs.FinMap as finite
 use Rattle.std.specs.List.{flat_map}
 use Rattle.hfs_fields.specs.Mdb.{mdb_of}
 use Rattle.hfs_fields.specs.Records.{is_dir, dir_record_of, is_bit_set, new_dir}
 use Rattle.hfs_fields.specs.RecordForms.{dir_record_bytes}
 use Rattle.hfs_fields.specs.declared.mdb.Mdb.{Mdb}
-use Rattle.hfs_fields.specs.declared.extent.Extent.{Extent}
-use Rattle.hfs_btree.specs.Blocks.{block_at, block_count}
 use Rattle.hfs_btree.specs.Order.{index_keys, index_keys_at}
 use Rattle.hfs_btree.specs.Pairs.{Each}
-use Rattle.hfs_btree.specs.Tree.{Store, records_in}
+use Rattle.hfs_btree.specs.Tree.{records_in}
 use Rattle.hfs_btree.specs.Order.{key_at}
 use Rattle.hfs_model.specs.Volume.{Entry}
-use Rattle.hfs_space.specs.Extents.{Overflow}
 use Rattle.hfs_space.specs.TreeFiles.{tree_nodes}
 use Rattle.hfs_space.specs.TreeKeys.{ext_keys, overflow_of}
 use Rattle.hfs_space.specs.Owners.{catalog_fork, extents_in, owned_blocks}
@@ -23,22 +20,20 @@ use Rattle.hfs_catalog.specs.Records.{Record, Catalog}
 use Rattle.hfs_catalog.specs.Sound.{EachFolder, IsRecord, AreIdsSound, IsIndexKeyName, HasValence, AreCountsSound}
 use Rattle.hfs_catalog.specs.Tree.{cat_keys, catalog_of}
 use Rattle.hfs_check.specs.declared.layout.Layout.{Layout}
-use Rattle.hfs_check.specs.declared.plan.FormatPlan.{FormatPlan}
-use Rattle.hfs_check.specs.Plan.{layout_of, format_fault}
+use Rattle.hfs_check.specs.Plan.{layout_of}
 use Rattle.hfs_check.specs.Image.{volume_image}
 use Rattle.hfs_check.specs.NewMdb.{new_mdb}
-use Rattle.hfs_check.specs.NewTrees.{root_directory}
 use Rattle.hfs_check.specs.Parts.{mdb_in, extents_nodes, overflow_in, catalog_extents, catalog_nodes, catalog_in, owned_in}
-use Rattle.hfs_check.specs.Sound.{IsImageLength, IsMdbSound, IsForkKey, EachKey, IsExtentsSound, IsCatalogFileSound, AreCatalogNamesSound, AreCatalogPlacesSound, AreBlocksSound, IsSound}
+use Rattle.hfs_check.specs.Sound.{IsMdbSound, IsForkKey, EachKey, IsExtentsSound, IsCatalogFileSound, AreCatalogNamesSound, AreCatalogPlacesSound, AreBlocksSound, IsSound}
 use Rattle.hfs_check.specs.VolumeOf.{contents_in, volume_in, volume_of}
 use Rattle.hfs_check.specs.FormatLaws.{root_item, volume_of_root, NewImagesAreSound, NewImagesHoldNewVolumes}
-use Rattle.hfs_check.specs.NewVolume.{IsNewVolume, mdb_of-new}
-use Rattle.hfs_check.specs.NewBlocks.{block_at-volume_image, block_count-volume_image, length-volume_image}
-use Rattle.hfs_check.specs.SmallTrees.{no_leaf-turn, one_leaf-turn}
-use Rattle.hfs_check.specs.NewFiles.{image_block, tree_nodes-one_run, new_extents_nodes, new_catalog_nodes, files-within, new_block-mdb, root_key, root_pair, root_records, new_catalog, extents-holds, catalog-holds, overflow_of-new, extents-shaped, extents-ordered, catalog_of-new, catalog-shaped, catalog-ordered}
-use Rattle.hfs_check.specs.NewCatalog.{root-folder, root-read, root-id, items_of-new, new-records, new-ids, new-names, new-places, new-valences, new_counts-sound}
-use Rattle.hfs_check.specs.NewSpace.{extents-file, catalog-file, new_mdb-sound, new_forks-sound, catalog_extents-new, new_owned, owned_blocks-new, new_space-sound}
-use Rattle.hfs_check.specs.PlanFacts.{is_new_volume-planned}
+use Rattle.hfs_check.proofs.NewVolume.{IsNewVolume, mdb_of-new}
+use Rattle.hfs_check.proofs.NewBlocks.{block_at-volume_image, block_count-volume_image, length-volume_image}
+use Rattle.hfs_check.proofs.SmallTrees.{no_leaf-turn, one_leaf-turn}
+use Rattle.hfs_check.proofs.NewFiles.{image_block, tree_nodes-one_run, new_extents_nodes, new_catalog_nodes, files-within, new_block-mdb, root_key, root_pair, root_records, new_catalog, extents-holds, catalog-holds, overflow_of-new, extents-shaped, extents-ordered, catalog_of-new, catalog-shaped, catalog-ordered}
+use Rattle.hfs_check.proofs.NewCatalog.{root-folder, root-read, root-id, items_of-new, new-records, new-ids, new-names, new-places, new-valences, new_counts-sound}
+use Rattle.hfs_check.proofs.NewSpace.{extents-file, catalog-file, new_mdb-sound, new_forks-sound, catalog_extents-new, new_owned, owned_blocks-new, new_space-sound}
+use Rattle.hfs_check.proofs.PlanFacts.{is_new_volume-planned}
 
 -- what holds of the values holds of what is equal to them
 for-two : {A B : Type 0} (P : A → B → Type 0) {a c : A} {b d : B} → c ≡ a → d ≡ b → P a b → P c d

@@ -1,16 +1,16 @@
 -- The trees of a new volume are sound: a tree without a leaf, and a tree of one leaf.
-use Rattle.std.proofs.Common.{◌≡◌, ℕ, zero, suc, ◌+◌, ◌-◌, ◌*◌, ◌^◌, ◌<◌, ◌≤◌, true, List, [], ◌∷◌, ◌++◌, Ok, length, map, refl, sym, ap, subst, ◌∙◌, arith}
+use Rattle.std.proofs.Common.{◌≡◌, ℕ, ◌*◌, ◌^◌, ◌<◌, ◌≤◌, true, List, [], ◌∷◌, ◌++◌, Ok, length, map, refl, sym, ap, subst, ◌∙◌, arith}
 use Rattle.std.specs.List.{flat_map}
 use Rattle.std.proofs.lemmas.List.{append-nil, length-map}
 use Rattle.hfs_btree.specs.declared.header.Header.{Header}
 use Rattle.hfs_btree.specs.declared.key.Key.{Ghosts}
-use Rattle.hfs_btree.specs.Pairs.{Pairs, Each, Rises}
-use Rattle.hfs_btree.specs.Tree.{Store, Spot, node_in, records_of, records_in, pair_of, pairs, turn, last_level, first_of, last_of}
-use Rattle.hfs_btree.specs.Header.{header_in, map_nodes, own_nodes, free_nodes, is_marked, depth_of, leaves, tree_content, tree_turn, tree_nodes}
+use Rattle.hfs_btree.specs.Pairs.{Each, Rises}
+use Rattle.hfs_btree.specs.Tree.{Store, Spot, node_in, records_of, pair_of, pairs, turn, last_level, first_of, last_of}
+use Rattle.hfs_btree.specs.Header.{header_in, own_nodes, leaves, tree_content, tree_turn, tree_nodes}
 use Rattle.hfs_btree.specs.Sound.{IsDistinct, IsRight, HasLevels, HasEnds, HasStructure, HasCounts, IsWithinFile, IsShaped, AreKeysInOrder, IsOrdered, IsSound}
 use Rattle.hfs_check.specs.declared.tree_header.TreeHeader.{TreeHeader}
 use Rattle.hfs_check.specs.NewTrees.{empty_tree, one_leaf_tree, header_node, lone_leaf}
-use Rattle.hfs_check.specs.HeaderRead.{IsHeaderValue, header_value, header_in-new, map_nodes-new, is_marked-new, free_nodes-new, has_header-new, has_map-new}
+use Rattle.hfs_check.proofs.HeaderRead.{IsHeaderValue, header_value, header_in-new, map_nodes-new, is_marked-new, free_nodes-new, has_header-new, has_map-new}
 
 -- ---- a tree without a leaf
 

@@ -5,17 +5,15 @@ use Rattle.std.specs.List.{flat_map, sum_by}
 use Rattle.std.proofs.lemmas.List.{append_assoc, append-nil, take_at, drop_at, drop-drop, length-append, length-replicate}
 use Rattle.std.proofs.lemmas.List.Concat.{length-flat_map}
 use Rattle.std.proofs.lemmas.List.Sums.{sum_by-cons, sum_by_more}
-use Rattle.byteorder.specs.Endian.{big_bytes, big_number}
-use Rattle.byteorder.specs.Numbers.{big_number-reads_back}
-use Rattle.hfs_fields.specs.Numbers.{number_at}
-use Rattle.hfs_fields.specs.Laid.{number-read, behind}
+use Rattle.byteorder.specs.Endian.{big_bytes}
+use Rattle.hfs_fields.specs.Laid.{number-read}
 use Rattle.hfs_node.specs.Kind.{kind_of}
 use Rattle.hfs_node.specs.declared.kind.NodeKind.{NodeKind}
 use Rattle.hfs_node.specs.declared.kind.NodeKind.TheVariants.{Index, Header, Map, Leaf}
 use Rattle.hfs_node.specs.declared.node.Node.{Node}
 use Rattle.hfs_node.specs.Node.{count_of, offset_of, node_of, start_of, size_of, Fits}
-use Rattle.hfs_node.specs.Laid.{HasHead, AreLaid}
-use Rattle.hfs_node.specs.ReadBack.{start-room, start-rises, few-records, size_of-lengths, node_of-encoded}
+use Rattle.hfs_node.specs.Laid.{HasHead}
+use Rattle.hfs_node.specs.ReadBack.{start-room, few-records, size_of-lengths, node_of-encoded}
 use Rattle.hfs_check.specs.NewTrees.{type_byte, descriptor_bytes, offsets_down, offset_bytes, node_bytes}
 
 -- what every node of a new volume keeps

@@ -1,28 +1,27 @@
 -- The space of a new volume is sound: its master directory block, the files of its trees, its forks, and its bitmap.
-use Rattle.std.proofs.Common.{◌≡◌, ℕ, zero, suc, ◌+◌, ◌-◌, ◌*◌, ◌/◌, ◌%◌, ◌^◌, ◌<◌, ◌≤◌, true, false, List, [], ◌∷◌, ◌++◌, length, get_or, refl, sym, ap, subst, ◌∙◌, arith}
-use Rattle.std.specs.Prelude.{IsTrue, nat_lt}
+use Rattle.std.proofs.Common.{◌≡◌, ℕ, zero, suc, ◌+◌, ◌-◌, ◌*◌, ◌/◌, ◌<◌, ◌≤◌, true, List, [], ◌∷◌, ◌++◌, get_or, refl, sym, ap, subst, ◌∙◌, arith}
+use Rattle.std.specs.Prelude.{IsTrue}
 use Rattle.std.specs.List.{flat_map, range_with_len}
 use Rattle.std.proofs.Math.Nat.{mul_left_comm}
 use Rattle.std.proofs.lemmas.List.{append-nil}
 use Rattle.std.proofs.lemmas.Bool.{cond-false, lt-ltb}
 use Rattle.hfs_fields.specs.declared.extent.Extent.{Extent}
-use Rattle.hfs_fields.specs.declared.mdb.Mdb.{Mdb}
 use Rattle.hfs_btree.specs.Elements.{each-append}
 use Rattle.hfs_btree.specs.Pairs.{Each}
 use Rattle.hfs_btree.specs.Sound.{IsOther, IsDistinct}
-use Rattle.hfs_space.specs.Bitmap.{is_used, clear_count}
-use Rattle.hfs_space.specs.Extents.{block_total, IsExtentWithin, AreExtentsWithin, extent_blocks, fork_extents}
-use Rattle.hfs_space.specs.Owners.{Fork, catalog_fork, forks_of, all_forks, extents_in, bad_extents, owned_extents, owned_blocks}
+use Rattle.hfs_space.specs.Bitmap.{is_used}
+use Rattle.hfs_space.specs.Extents.{block_total, IsExtentWithin, extent_blocks, fork_extents}
+use Rattle.hfs_space.specs.Owners.{Fork, catalog_fork, forks_of, extents_in, bad_extents, owned_extents, owned_blocks}
 use Rattle.hfs_space.specs.Sound.{IsTreeFile, IsForkSound, AreForksSound, IsSpaceSound}
 use Rattle.hfs_check.specs.declared.layout.Layout.{Layout}
 use Rattle.hfs_check.specs.Plan.{used_blocks}
 use Rattle.hfs_check.specs.BitRow.{bit_row}
-use Rattle.hfs_check.specs.BitsRead.{is_used-bit_rows, clear_count-bit_rows}
+use Rattle.hfs_check.proofs.BitsRead.{is_used-bit_rows, clear_count-bit_rows}
 use Rattle.hfs_check.specs.NewMdb.{one_run, new_mdb}
-use Rattle.hfs_check.specs.NewVolume.{IsNewVolume}
-use Rattle.hfs_check.specs.NewBlocks.{block_at-volume_image}
-use Rattle.hfs_check.specs.NewFiles.{image_block, root_pair, root_thread_pair, new_catalog, new_block-bitmap, files-within}
-use Rattle.hfs_check.specs.NewCatalog.{root-no_file, thread-no_file}
+use Rattle.hfs_check.proofs.NewVolume.{IsNewVolume}
+use Rattle.hfs_check.proofs.NewBlocks.{block_at-volume_image}
+use Rattle.hfs_check.proofs.NewFiles.{image_block, root_pair, root_thread_pair, new_catalog, new_block-bitmap, files-within}
+use Rattle.hfs_check.proofs.NewCatalog.{root-no_file, thread-no_file}
 use Rattle.hfs_check.specs.Sound.{IsMdbSound}
 
 -- ---- rows of numbers

@@ -1,6 +1,6 @@
 -- The blocks of a new volume: each has 512 bytes, and is found at its place in the image.
-use Rattle.std.proofs.Common.{◌≡◌, ℕ, zero, suc, ◌+◌, ◌-◌, ◌*◌, ◌/◌, ◌%◌, ◌^◌, ◌<◌, ◌≤◌, Bool, true, false, cond, ◌||◌, ◌&&◌, List, [], ◌∷◌, ◌++◌, length, take, drop, replicate, refl, sym, ap, ◌∙◌, arith}
-use Rattle.std.specs.Prelude.{◌==◌, nat_lt, nat_le}
+use Rattle.std.proofs.Common.{◌≡◌, ℕ, zero, suc, ◌+◌, ◌-◌, ◌*◌, ◌^◌, ◌<◌, ◌≤◌, List, [], ◌++◌, length, take, drop, refl, sym, ap, ◌∙◌, arith}
+use Rattle.std.specs.Prelude.{◌==◌}
 use Rattle.std.specs.List.{flat_map, range_with_len}
 use Rattle.std.proofs.lemmas.List.{length-append, length-replicate, drop-drop, drop_at, take_at}
 use Rattle.std.proofs.lemmas.Bool.{cond_both}
@@ -9,18 +9,15 @@ use Rattle.hfs_fields.specs.Records.{new_dir, new_thread}
 use Rattle.hfs_fields.specs.RecordForms.{IsDirRecordValue, dir_record_bytes, length-dir_record_bytes, IsThreadRecordValue, thread_record_bytes, length-thread_record_bytes}
 use Rattle.hfs_fields.specs.declared.thread_record.ThreadKind.TheVariants.{Folder}
 use Rattle.hfs_node.specs.Node.{size_of}
-use Rattle.hfs_node.specs.declared.node.Node.{Node}
 use Rattle.hfs_btree.specs.Blocks.{block_at, block_count}
 use Rattle.hfs_check.specs.declared.layout.Layout.{Layout}
 use Rattle.hfs_check.specs.declared.tree_header.TreeHeader.{TreeHeader}
 use Rattle.hfs_check.specs.Plan.{used_blocks}
-use Rattle.hfs_check.specs.BitRow.{bit_row, length-bit_row}
-use Rattle.hfs_check.specs.NewMdb.{new_mdb}
-use Rattle.hfs_check.specs.MdbBytes.{mdb_bytes}
-use Rattle.hfs_check.specs.NewTrees.{empty_tree, one_leaf_tree, header_record, node_map, header_node, root_directory, root_record, root_thread, root_leaf, node_bytes}
+use Rattle.hfs_check.specs.BitRow.{length-bit_row}
+use Rattle.hfs_check.specs.NewTrees.{empty_tree, one_leaf_tree, header_record, header_node, root_directory, root_record, root_thread, root_leaf}
 use Rattle.hfs_check.specs.Image.{is_mdb_block, is_bitmap_block, extents_start, catalog_start, new_block, volume_image}
-use Rattle.hfs_check.specs.NewVolume.{IsNewVolume, length-mdb_bytes}
-use Rattle.hfs_check.specs.NodesRead.{IsNodeValue, length-node_bytes}
+use Rattle.hfs_check.proofs.NewVolume.{IsNewVolume, length-mdb_bytes}
+use Rattle.hfs_check.proofs.NodesRead.{IsNodeValue, length-node_bytes}
 
 -- ---- the nodes fit
 

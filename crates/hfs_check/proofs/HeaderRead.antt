@@ -1,27 +1,23 @@
 -- A tree by the header node of a new volume: its header record, its map, and its marks.
-use Rattle.std.proofs.Common.{◌≡◌, ℕ, zero, suc, ◌+◌, ◌-◌, ◌*◌, ◌^◌, ◌<◌, ◌≤◌, Bool, true, false, not, cond, List, [], ◌∷◌, ◌++◌, Ok, length, map, get_or, replicate, refl, sym, ap, subst, ◌∙◌, arith}
+use Rattle.std.proofs.Common.{◌≡◌, ℕ, zero, suc, ◌+◌, ◌-◌, ◌^◌, ◌<◌, ◌≤◌, Bool, true, false, not, cond, List, [], ◌∷◌, ◌++◌, Ok, length, map, replicate, refl, sym, ap, subst, ◌∙◌, arith}
 use Rattle.std.specs.Prelude.{nat_lt, slice_index_or, count_by}
 use Rattle.std.specs.List.{flat_map, range_with_len}
 use Rattle.std.proofs.lemmas.List.{append-nil}
 use Rattle.std.proofs.lemmas.List.Sums.{sum_by-cons}
 use Rattle.std.proofs.lemmas.List.FromFn.{get_or-map-range_with_len}
 use Rattle.std.proofs.lemmas.Bool.{lt-ltb}
-use Rattle.byteorder.specs.Endian.{big_bytes}
-use Rattle.hfs_fields.specs.Numbers.{number_at}
 use Rattle.hfs_fields.specs.Laid.{number-read}
-use Rattle.hfs_node.specs.declared.node.Node.{Node}
 use Rattle.hfs_btree.specs.declared.header.Header.{Header}
 use Rattle.hfs_btree.specs.declared.key.Key.{Ghosts}
 use Rattle.hfs_btree.specs.Tree.{Store, node_in, records_of, forward_of}
-use Rattle.hfs_btree.specs.Header.{header_of, header_in, record_in, chain_from, map_nodes, own_nodes, map_bytes, bit_of, marks, free_nodes, is_marked, depth_of}
+use Rattle.hfs_btree.specs.Header.{header_of, header_in, record_in, chain_from, map_nodes, map_bytes, bit_of, marks, free_nodes, is_marked}
 use Rattle.hfs_btree.specs.Pairs.{Each}
 use Rattle.hfs_btree.specs.Sound.{HasHeader, HasMap, IsDistinct, IsMapNode, IsMarked}
-use Rattle.hfs_space.specs.Bitmap.{count_below}
 use Rattle.hfs_check.specs.declared.tree_header.TreeHeader.{TreeHeader}
-use Rattle.hfs_check.specs.BitRow.{bit_row, length-bit_row}
-use Rattle.hfs_check.specs.BitsRead.{bit_of-bit_row, count_below-clear}
+use Rattle.hfs_check.specs.BitRow.{length-bit_row}
+use Rattle.hfs_check.proofs.BitsRead.{bit_of-bit_row, count_below-clear}
 use Rattle.hfs_check.specs.NewTrees.{header_record, node_map, header_node}
-use Rattle.hfs_check.specs.NewBlocks.{length-header_record}
+use Rattle.hfs_check.proofs.NewBlocks.{length-header_record}
 
 -- what the header record of a new tree keeps: its node map of 256 bytes has a bit for each node, and node 0 is in use
 pub record IsHeaderValue (tree : TreeHeader) : Type 0 where

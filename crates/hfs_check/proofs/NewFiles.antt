@@ -1,27 +1,24 @@
 -- The two files of a new volume: their nodes, and what the trees in them hold.
-use Rattle.std.proofs.Common.{◌≡◌, ℕ, zero, suc, ◌+◌, ◌-◌, ◌*◌, ◌/◌, ◌^◌, ◌<◌, ◌≤◌, true, false, List, [], ◌∷◌, ◌++◌, Ok, length, map, get_or, refl, sym, ap, subst, ◌∙◌, arith}
+use Rattle.std.proofs.Common.{◌≡◌, ℕ, ◌+◌, ◌-◌, ◌*◌, ◌/◌, ◌<◌, ◌≤◌, true, false, List, [], ◌∷◌, ◌++◌, Ok, map, get_or, refl, sym, ap, subst, ◌∙◌, arith}
 use Rattle.std.specs.List.{range_with_len}
 use Rattle.std.proofs.Math.Nat.{mul-le-mul_right, add-mul}
 use Rattle.std.proofs.lemmas.List.{append-nil}
 use Rattle.std.proofs.lemmas.List.{take_all}
 use Rattle.std.proofs.lemmas.List.FromFn.{get_or-map-range_with_len, length-map-range_with_len}
-use Rattle.std.proofs.lemmas.Bool.{or_from, or_left, or_right, and_right, and_from, ne_eqb, eq-eqb, le-ltb, lt-ltb, le-leb, cond-true, cond-false}
+use Rattle.std.proofs.lemmas.Bool.{or_from, or_right, and_right, and_from, ne_eqb, eq-eqb, le-ltb, lt-ltb, le-leb, cond-true, cond-false}
 use Rattle.hfs_fields.specs.KeyForms.{IsCatKeyValue, cat_leaf_bytes, is_cat_leaf-leaf, cat_key_of-leaf, cat_body_of-leaf}
 use Rattle.hfs_fields.specs.Keys.{is_cat_leaf, is_cat_body_len}
 use Rattle.hfs_fields.specs.Records.{new_thread}
 use Rattle.hfs_fields.specs.RecordForms.{dir_record_bytes, length-dir_record_bytes, thread_record_bytes, length-thread_record_bytes}
 use Rattle.hfs_fields.specs.declared.key.CatKey.{CatKey}
-use Rattle.hfs_fields.specs.declared.extent.Extent.{Extent}
-use Rattle.hfs_fields.specs.declared.mdb.Mdb.{Mdb}
 use Rattle.hfs_fields.specs.declared.thread_record.ThreadKind.TheVariants.{Folder}
 use Rattle.hfs_node.specs.declared.node.Node.{Node}
 use Rattle.hfs_node.specs.Node.{node_of}
 use Rattle.hfs_btree.specs.Blocks.{block_at, nodes_in}
-use Rattle.hfs_btree.specs.Pairs.{Each, Rises}
+use Rattle.hfs_btree.specs.Pairs.{Rises}
 use Rattle.hfs_btree.specs.Tree.{Store, node_in, pair_of}
-use Rattle.hfs_btree.specs.Header.{tree_content}
-use Rattle.hfs_btree.specs.Sound.{IsShaped, IsOrdered, IsSound}
-use Rattle.hfs_space.specs.Forks.{blocks_each, run_in, file_blocks}
+use Rattle.hfs_btree.specs.Sound.{IsShaped, IsOrdered}
+use Rattle.hfs_space.specs.Forks.{file_blocks}
 use Rattle.hfs_space.specs.TreeFiles.{node_count, tree_nodes}
 use Rattle.hfs_space.specs.TreeKeys.{ext_keys, overflow_of}
 use Rattle.hfs_catalog.specs.Records.{Record, Catalog}
@@ -31,12 +28,12 @@ use Rattle.hfs_check.specs.Plan.{used_blocks}
 use Rattle.hfs_check.specs.BitRow.{bit_row}
 use Rattle.hfs_check.specs.NewMdb.{one_run, new_mdb}
 use Rattle.hfs_check.specs.MdbBytes.{mdb_bytes}
-use Rattle.hfs_check.specs.NewTrees.{empty_tree, one_leaf_tree, header_node, lone_leaf, root_directory, root_record, root_thread, root_leaf, node_bytes}
-use Rattle.hfs_check.specs.Image.{is_mdb_block, is_bitmap_block, extents_start, catalog_start, new_block, volume_image}
-use Rattle.hfs_check.specs.NewVolume.{IsNewVolume}
-use Rattle.hfs_check.specs.NodesRead.{IsNodeValue, node_of-node_bytes}
-use Rattle.hfs_check.specs.NewBlocks.{header_node-value, root_directory-value, root_thread-value, root_leaf-value, block_at-volume_image}
-use Rattle.hfs_check.specs.SmallTrees.{HoldsNoLeaf, no_leaf-content, no_leaf-shaped, no_leaf-ordered, no_leaf-sound, HoldsOneLeaf, one_leaf-content, one_leaf-shaped, one_leaf-ordered, one_leaf-sound}
+use Rattle.hfs_check.specs.NewTrees.{empty_tree, one_leaf_tree, header_node, root_directory, root_record, root_thread, root_leaf, node_bytes}
+use Rattle.hfs_check.specs.Image.{is_mdb_block, is_bitmap_block, catalog_start, new_block, volume_image}
+use Rattle.hfs_check.proofs.NewVolume.{IsNewVolume}
+use Rattle.hfs_check.proofs.NodesRead.{IsNodeValue, node_of-node_bytes}
+use Rattle.hfs_check.proofs.NewBlocks.{header_node-value, root_directory-value, root_thread-value, root_leaf-value, block_at-volume_image}
+use Rattle.hfs_check.proofs.SmallTrees.{HoldsNoLeaf, no_leaf-content, no_leaf-shaped, no_leaf-ordered, HoldsOneLeaf, one_leaf-content, one_leaf-shaped, one_leaf-ordered}
 
 -- the blocks of the new volume's image, by their numbers
 abbrev pub image_block : Layout → ℕ → List ℕ

@@ -1,15 +1,14 @@
 -- A plan without fault has the numbers of a new volume.
-use Rattle.std.proofs.Common.{◌≡◌, ℕ, zero, suc, ◌+◌, ◌-◌, ◌*◌, ◌/◌, ◌%◌, ◌^◌, ◌<◌, ◌≤◌, inl, inr, Bool, true, false, cond, not, ◌&&◌, Option, Some, None, length, refl, sym, ap, ◌∙◌, arith}
+use Rattle.std.proofs.Common.{◌≡◌, ℕ, ◌+◌, ◌-◌, ◌*◌, ◌/◌, ◌^◌, ◌<◌, ◌≤◌, inl, inr, Bool, true, false, cond, not, Option, Some, None, length, refl, arith}
 use Rattle.std.specs.Prelude.{nat_le}
 use Rattle.std.proofs.Math.Nat.{mul-le-mul_left, mul_comm, div-le_self}
 use Rattle.std.proofs.lemmas.Bool.{and_parts, leb-true, cases_lt}
 use Rattle.hfs_fields.specs.Names.{is_item_name}
 use Rattle.hfs_check.specs.declared.plan.FormatPlan.{FormatPlan}
-use Rattle.hfs_check.specs.declared.layout.Layout.{Layout}
 use Rattle.hfs_check.specs.declared.fault.FormatFault.{FormatFault}
 use Rattle.hfs_check.specs.declared.fault.FormatFault.TheVariants.{BadName, BadSize, BadNodes, NoRoom}
 use Rattle.hfs_check.specs.Plan.{block_factor, bitmap_blocks, allocation_start, allocation_blocks, file_blocks, layout_of, is_volume_name, is_volume_size, is_node_count, are_node_counts, has_room, format_fault}
-use Rattle.hfs_check.specs.NewVolume.{IsNewVolume}
+use Rattle.hfs_check.proofs.NewVolume.{IsNewVolume}
 
 -- ---- the tests of a plan
 

@@ -1,28 +1,26 @@
 -- The catalog of a new volume is sound: the root folder and its thread.
-use Rattle.std.proofs.Common.{◌≡◌, ℕ, zero, suc, ◌+◌, ◌-◌, ◌*◌, ◌^◌, ◌<◌, ◌≤◌, inl, inr, Bool, true, false, cond, ◌&&◌, ◌||◌, List, [], ◌∷◌, ◌++◌, Option, Some, None, length, map, refl, sym, ap, subst, ◌∙◌, arith}
-use Rattle.std.specs.Prelude.{IsTrue, ◌==◌, find, filter, count_by}
+use Rattle.std.proofs.Common.{◌≡◌, ℕ, ◌+◌, ◌-◌, inl, inr, Bool, true, false, cond, ◌&&◌, ◌||◌, List, [], ◌∷◌, Some, map, refl, sym, ap, subst, ◌∙◌, arith}
+use Rattle.std.specs.Prelude.{IsTrue, ◌==◌, find}
 use Rattle.std.specs.Ordering.{is_eq}
 use Rattle.std.proofs.lemmas.List.{append-nil}
 use Rattle.std.proofs.lemmas.Bool.{and_parts, leb-true, cond-true}
-use Rattle.hfs_fields.specs.Names.{is_item_name, is_name_character}
+use Rattle.hfs_fields.specs.Names.{is_item_name}
 use Rattle.hfs_fields.specs.Order.{same_name, name_order}
-use Rattle.hfs_fields.specs.Keys.{cat_cmp}
 use Rattle.hfs_fields.specs.Records.{is_dir, is_file, is_item, is_thread, is_dir_thread, is_file_thread, begins_thread, item_id, dir_record_of, thread_record_of, new_dir, new_thread}
-use Rattle.hfs_fields.specs.RecordForms.{IsDirRecordValue, dir_record_bytes, is_dir-written, dir_record_of-written, IsThreadRecordValue, thread_record_bytes, length-thread_record_bytes, thread_record_of-written, begins_thread-written}
-use Rattle.hfs_fields.specs.declared.mdb.Mdb.{Mdb}
+use Rattle.hfs_fields.specs.RecordForms.{dir_record_bytes, is_dir-written, dir_record_of-written, IsThreadRecordValue, thread_record_bytes, length-thread_record_bytes, thread_record_of-written, begins_thread-written}
 use Rattle.hfs_fields.specs.declared.dir_record.DirRecord.{DirRecord}
 use Rattle.hfs_fields.specs.declared.thread_record.ThreadRecord.{ThreadRecord}
 use Rattle.hfs_fields.specs.declared.thread_record.ThreadKind.TheVariants.{Folder}
-use Rattle.hfs_btree.specs.Pairs.{Each, Rises}
+use Rattle.hfs_btree.specs.Pairs.{Each}
 use Rattle.hfs_btree.specs.Sound.{IsDistinct}
-use Rattle.hfs_catalog.specs.Records.{Record, Catalog, items_of, item_ids, has_id, item_with, has_thread, is_thread_of, valence_of, is_child_of}
-use Rattle.hfs_catalog.specs.Sound.{EachItem, EachFolder, EachThread, IsRecord, HasRightId, IsRoot, AreIdsSound, AreNamesSound, LeadsTo, HasItem, ArePlacesSound, HasValence, counts_of, is_file_in, is_folder_in, AreCountsSound, IsSoundCatalog}
+use Rattle.hfs_catalog.specs.Records.{items_of, has_id, item_with, has_thread, valence_of}
+use Rattle.hfs_catalog.specs.Sound.{EachFolder, IsRecord, AreIdsSound, AreNamesSound, LeadsTo, ArePlacesSound, HasValence, counts_of, AreCountsSound, IsSoundCatalog}
 use Rattle.hfs_check.specs.declared.layout.Layout.{Layout}
 use Rattle.hfs_check.specs.NewMdb.{new_mdb}
 use Rattle.hfs_check.specs.NewTrees.{root_directory}
-use Rattle.hfs_check.specs.NewVolume.{IsNewVolume}
-use Rattle.hfs_check.specs.NewBlocks.{root_directory-value, root_thread-value}
-use Rattle.hfs_check.specs.NewFiles.{root_key, root_thread_key, root_pair, root_thread_pair, new_catalog, new_catalog-rises}
+use Rattle.hfs_check.proofs.NewVolume.{IsNewVolume}
+use Rattle.hfs_check.proofs.NewBlocks.{root_directory-value, root_thread-value}
+use Rattle.hfs_check.proofs.NewFiles.{root_pair, root_thread_pair, new_catalog, new_catalog-rises}
 
 absurd-from : {P : Type 0} (b : Bool) → b ≡ false → IsTrue b → P
 absurd-from b fails holds = absurd (let e : true ≡ false = sym holds ∙ fails in cc)

@@ -1,7 +1,6 @@
 -- The bits of a row of which the first are set.
-use Rattle.std.proofs.Common.{◌≡◌, ℕ, zero, suc, ◌+◌, ◌-◌, ◌*◌, ◌/◌, ◌%◌, ◌^◌, ◌<◌, ◌≤◌, inl, inr, Bool, true, false, not, cond, List, [], ◌∷◌, length, map, get_or, refl, sym, ap, subst, ◌∙◌, arith}
-use Rattle.std.specs.Prelude.{◌==◌, nat_lt, min, slice_index, count_by}
-use Rattle.std.specs.List.{range_with_len}
+use Rattle.std.proofs.Common.{◌≡◌, ℕ, zero, suc, ◌+◌, ◌-◌, ◌*◌, ◌/◌, ◌%◌, ◌^◌, ◌<◌, ◌≤◌, inl, inr, Bool, true, false, not, cond, List, refl, sym, ap, ◌∙◌, arith}
+use Rattle.std.specs.Prelude.{◌==◌, nat_lt, min, slice_index}
 use Rattle.std.specs.Int.{bit_at}
 use Rattle.std.proofs.Math.Nat.{min-le_left, min-le_right, le-min}
 use Rattle.std.proofs.lemmas.List.FromFn.{get_or-map-range_with_len}
@@ -9,7 +8,7 @@ use Rattle.std.proofs.lemmas.Bool.{cases_Bool, lt-ltb, le-ltb, ltb-true, ltb-fal
 use Rattle.hfs_node.specs.Node.{each_below}
 use Rattle.hfs_node.specs.Below.{each_below-at}
 use Rattle.hfs_btree.specs.Header.{bit_of}
-use Rattle.hfs_space.specs.Bitmap.{is_marked, is_used, count_below, clear_count}
+use Rattle.hfs_space.specs.Bitmap.{is_used, count_below, clear_count}
 use Rattle.hfs_space.specs.Counting.{count_below-suc, count_below-same}
 use Rattle.hfs_check.specs.BitRow.{bit_row_byte, bit_row}
 

@@ -1,8 +1,7 @@
 -- What holds of the numbers of a new volume, and its master directory block read back.
-use Rattle.std.proofs.Common.{◌≡◌, ℕ, zero, suc, ◌+◌, ◌-◌, ◌*◌, ◌^◌, ◌<◌, ◌≤◌, List, [], ◌∷◌, ◌++◌, length, take, get_or, replicate, refl, sym, ap, ◌∙◌, arith}
+use Rattle.std.proofs.Common.{◌≡◌, ℕ, zero, suc, ◌+◌, ◌-◌, ◌*◌, ◌^◌, ◌<◌, ◌≤◌, List, ◌++◌, length, take, get_or, replicate, refl, arith}
 use Rattle.std.specs.Prelude.{IsTrue}
 use Rattle.std.proofs.lemmas.List.{length-append, length-replicate}
-use Rattle.byteorder.specs.Endian.{big_bytes}
 use Rattle.hfs_fields.specs.Mdb.{mdb_of}
 use Rattle.hfs_fields.specs.Names.{is_item_name}
 use Rattle.hfs_fields.specs.RecordForms.{IsExtentValue, AreExtentValues, length-extents_bytes}
@@ -11,7 +10,7 @@ use Rattle.hfs_fields.specs.declared.mdb.Mdb.{Mdb}
 use Rattle.hfs_check.specs.declared.layout.Layout.{Layout}
 use Rattle.hfs_check.specs.Plan.{used_blocks}
 use Rattle.hfs_check.specs.MdbBytes.{AreVolumeFields, AreCountFields, AreFileFields, volume_field_bytes, count_field_bytes, file_field_bytes, mdb_field_bytes, mdb_bytes, mdb_of-bytes}
-use Rattle.hfs_check.specs.NewMdb.{no_extent, one_run, volume_name_bytes, new_mdb}
+use Rattle.hfs_check.specs.NewMdb.{one_run, volume_name_bytes, new_mdb}
 
 -- what the numbers of a plan without fault keep
 pub record IsNewVolume (volume : Layout) : Type 0 where
