@@ -1,5 +1,5 @@
 -- The first fault of a tree's order, and of a whole tree.
-use Rattle.std.proofs.Common.{◌≡◌, ℕ, Option, Some, None, Result, Ok, Err, refl, sym, ap, ◌∙◌, subst}
+use Rattle.std.proofs.Common.{◌≡◌, ℕ, Option, Some, None, Result, Ok, Err, ap, ◌∙◌}
 use Rattle.std.specs.Result.{MatchResult}
 use Rattle.hfs_btree.specs.declared.fault.TreeFault.{TreeFault}
 use Rattle.hfs_btree.specs.declared.fault.TreeFault.TheVariants.{At, Memory}
