@@ -3,8 +3,8 @@ ghost use Rattle.std.specs.Prelude.{◌||◌, ◌==◌};
 
 use crate::laid::{Edit, apply, deep_tree, empty_tree, header_node, put};
 use hfs_btree::{
-    KeyTest, NodeList, Nodes, TreeFault, Walk, check_keys, check_shape, index_keys,
-    leaf_order_fault, rise_fault,
+    KeyTest, NodeList, TreeFault, Walk, check_keys, check_shape, index_keys, leaf_order_fault,
+    rise_fault,
 };
 use hfs_fields::{CatKey, ExtKey};
 use std::process::Abort;
