@@ -13,3 +13,4 @@ pub mod Faults
 pub mod Laws
 pub mod TreeFiles
 pub mod Edges
+pub mod FileLengths
