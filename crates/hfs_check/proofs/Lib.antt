@@ -17,3 +17,4 @@ pub mod NewCatalog
 pub mod NewSpace
 pub mod PlanFacts
 pub mod NewImage
+pub mod Opened

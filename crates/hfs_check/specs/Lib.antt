@@ -16,3 +16,4 @@ pub mod NewCatalog
 pub mod NewSpace
 pub mod PlanFacts
 pub mod FormatLaws
+pub mod Trees

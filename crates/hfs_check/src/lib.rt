@@ -18,6 +18,7 @@ mod report;
 mod root_leaf;
 mod tree_checks;
 mod tree_header;
+mod trees;
 
 pub use crate::fault::FormatFault;
 pub use crate::format_laws::{new_images_are_sound, new_images_hold_new_volumes};
