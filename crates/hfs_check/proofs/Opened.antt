@@ -1,20 +1,29 @@
 -- The check of a tree in its file, and the check of the tree alone.
-use Rattle.std.proofs.Common.{◌≡◌, ℕ, ◌*◌, ◌≤◌, Bool, true, false, List, length, Option, Some, None, refl, sym, ap, subst, ◌∙◌}
+use Rattle.std.proofs.Common.{◌≡◌, ℕ, ◌*◌, ◌≤◌, Bool, true, false, List, length, Option, Some, None, refl, sym, ap, subst, ◌∙◌, inl, inr}
 use Rattle.std.specs.Prelude.{◌↔◌, ◌%◌, ⊤, MatchResult, Result}
 use Rattle.hfs_fields.specs.declared.mdb.Mdb.{Mdb}
 use Rattle.hfs_fields.specs.declared.extent.Extent.{Extent}
 use Rattle.hfs_btree.specs.Shape.{unless, ◌or_else◌, has_counts, shape_fault}
 use Rattle.hfs_btree.specs.Tree.{Store}
+use Rattle.hfs_btree.specs.declared.run.Run.{Run}
 use Rattle.hfs_space.specs.FileLengths.{length-tree_nodes}
+use Rattle.hfs_space.specs.Extents.{fork_extents}
 use Rattle.hfs_space.specs.Faults.{is_tree_file}
+use Rattle.hfs_space.specs.Owners.{catalog_fork}
 use Rattle.hfs_space.specs.Laws.{TreeFiles}
 use Rattle.hfs_space.specs.TreeFiles.{tree_nodes}
-use Rattle.hfs_space.specs.TreeKeys.{ext_keys}
+use Rattle.hfs_space.specs.TreeKeys.{ext_keys, IsExtentsTree, overflow_of}
 use Rattle.hfs_catalog.specs.Tree.{cat_keys}
 use Rattle.hfs_check.specs.declared.mount_fault.MountFault.{MountFault}
-use Rattle.hfs_check.specs.Faults.{check_fault, extents_fault, catalog_fault}
-use Rattle.hfs_check.specs.Parts.{Blocks, mdb_in, extents_nodes, catalog_extents, catalog_nodes}
+use Rattle.hfs_check.specs.declared.mount_fault.MountFault.TheVariants as fault
+use Rattle.hfs_check.specs.Faults.{◌or_fault◌, check_fault, extents_fault, extents_counts, catalog_fault, catalog_counts, trees_fault}
+use Rattle.hfs_check.specs.Laws.{ExtentsFaults}
+use Rattle.hfs_check.specs.Trees.{LieIn}
+use Rattle.hfs_check.specs.Parts.{Blocks, mdb_in, extents_nodes, overflow_in, catalog_extents, catalog_nodes}
 use Rattle.hfs_check.specs.Refusal.{IsFaultOf, extents_tree_fault}
+
+some_none : {A : Type 0} (x : A) → Some x ≡ None → ⊥
+some_none x e = cc
 
 -- what a check answers whose place this is
 abbrev pub Answers : ℕ → Option ℕ → Result ⊤ MountFault → Type 0
@@ -53,3 +62,77 @@ pub has-bytes : TreeFiles → (blocks : Blocks) (mdb : Mdb) (extents : List Exte
     → is_tree_file mdb extents size ≡ true → nodes ≡ tree_nodes blocks mdb extents size → size ≤ 512 * length nodes
 has-bytes law blocks mdb extents size nodes whole e same =
     subst (λ (ns : Store). size ≤ 512 * length ns) (sym same) (length-tree_nodes blocks mdb extents size whole ((law mdb extents size).0 e))
+
+-- the answers where a file is wrong
+pub wrong_extents : (mdb : Mdb) (counts : Bool) (nodes : Store) → is_tree_file mdb mdb.extents_file mdb.extents_file_size ≡ false
+    → IsFaultOf (check_fault 3 (extents_fault counts mdb nodes)) (fault.Check 3 0)
+wrong_extents mdb counts nodes e = inr (ap (check_fault 3) (extents_fault-wrong mdb counts nodes e))
+
+pub wrong_catalog : (mdb : Mdb) (extents : List Extent) (counts : Bool) (nodes : Store) → is_tree_file mdb extents mdb.catalog_file_size ≡ false
+    → IsFaultOf (check_fault 4 (catalog_fault counts mdb extents nodes)) (fault.Check 4 0)
+wrong_catalog mdb extents counts nodes e = inr (ap (check_fault 4) (catalog_fault-wrong mdb extents counts nodes e))
+
+-- the catalog file is file 4
+pub catalog_extents-is : (blocks : Blocks) (mdb : Mdb) (nodes : Store) → mdb ≡ mdb_in blocks → nodes ≡ extents_nodes blocks
+    → fork_extents (overflow_of nodes) 4 0 mdb.catalog_file ≡ catalog_extents blocks
+unfolding catalog_extents overflow_in catalog_fork
+catalog_extents-is blocks mdb nodes e f = λ i. fork_extents (overflow_of (f i)) 4 0 (e i).catalog_file
+
+-- ---- one check behind the other
+
+pub first-fault : (a b : Option MountFault) (answer : MountFault) → IsFaultOf a answer → IsFaultOf (a or_fault b) answer
+first-fault a b answer (inl memory) = inl memory
+first-fault a b answer (inr e) = inr (ap (λ (o : Option MountFault). o or_fault b) e)
+
+pub later-fault : (a b : Option MountFault) (answer : MountFault) → a ≡ None → IsFaultOf b answer → IsFaultOf (a or_fault b) answer
+later-fault a b answer none h = subst (λ (o : Option MountFault). IsFaultOf (o or_fault b) answer) (sym none) h
+
+pub no-fault : (a b : Option MountFault) → a ≡ None → b ≡ None → (a or_fault b) ≡ None
+no-fault a b none e = ap (λ (o : Option MountFault). o or_fault b) none ∙ e
+
+-- ---- the trees' files
+
+pub extents_lie : (total : ℕ) (blocks : Blocks) (mdb : Mdb) (runs : List Run) → mdb ≡ mdb_in blocks
+    → LieIn total blocks runs (tree_nodes blocks mdb mdb.extents_file mdb.extents_file_size) → LieIn total blocks runs (extents_nodes blocks)
+extents_lie total blocks mdb runs e h = record { within = h.within; same = h.same ∙ extents_nodes-is blocks mdb e }
+
+pub catalog_lies : (total : ℕ) (blocks : Blocks) (mdb : Mdb) (extents : List Extent) (runs : List Run) → mdb ≡ mdb_in blocks → extents ≡ catalog_extents blocks
+    → LieIn total blocks runs (tree_nodes blocks mdb extents mdb.catalog_file_size) → LieIn total blocks runs (catalog_nodes blocks)
+catalog_lies total blocks mdb extents runs e f h = record { within = h.within; same = h.same ∙ catalog_nodes-is blocks mdb extents e f }
+
+module _ (blocks : Blocks) (mdb : Mdb) (is : mdb ≡ mdb_in blocks) where
+  abbrev extents_place : Mdb → Option MountFault
+  extents_place m = check_fault 3 (extents_fault (extents_counts blocks) m (extents_nodes blocks))
+
+  abbrev catalog_place : Mdb → Option MountFault
+  catalog_place m = check_fault 4 (catalog_fault (catalog_counts blocks) m (catalog_extents blocks) (catalog_nodes blocks))
+
+  trees-are : (extents_place mdb or_fault catalog_place mdb) ≡ trees_fault (extents_counts blocks) (catalog_counts blocks) blocks
+  unfolding trees_fault
+  trees-are = ap (λ (m : Mdb). extents_place m or_fault catalog_place m) is
+
+  pub trees_extents : (answer : MountFault) → IsFaultOf (check_fault 3 (extents_fault (extents_counts blocks) mdb (extents_nodes blocks))) answer
+      → IsFaultOf (trees_fault (extents_counts blocks) (catalog_counts blocks) blocks) answer
+  trees_extents answer h = subst (λ (o : Option MountFault). IsFaultOf o answer) trees-are (first-fault (extents_place mdb) (catalog_place mdb) answer h)
+
+  pub trees_catalog : (answer : MountFault) → check_fault 3 (extents_fault (extents_counts blocks) mdb (extents_nodes blocks)) ≡ None
+      → IsFaultOf (check_fault 4 (catalog_fault (catalog_counts blocks) mdb (catalog_extents blocks) (catalog_nodes blocks))) answer
+      → IsFaultOf (trees_fault (extents_counts blocks) (catalog_counts blocks) blocks) answer
+  trees_catalog answer none h = subst (λ (o : Option MountFault). IsFaultOf o answer) trees-are (later-fault (extents_place mdb) (catalog_place mdb) answer none h)
+
+  pub trees_none : check_fault 3 (extents_fault (extents_counts blocks) mdb (extents_nodes blocks)) ≡ None
+      → check_fault 4 (catalog_fault (catalog_counts blocks) mdb (catalog_extents blocks) (catalog_nodes blocks)) ≡ None
+      → trees_fault (extents_counts blocks) (catalog_counts blocks) blocks ≡ None
+  trees_none none e = sym trees-are ∙ no-fault (extents_place mdb) (catalog_place mdb) none e
+
+-- no place is no fault
+pub no-place : (number : ℕ) (place : Option ℕ) → check_fault number place ≡ None → place ≡ None
+no-place number None e = refl
+no-place number (Some place) e = absurd (some_none _ e)
+
+-- a check of the extents tree that finds nothing shows that it is sound
+pub extents_tree_sound : ExtentsFaults → (blocks : Blocks) (mdb : Mdb) → check_fault 3 (extents_fault (extents_counts blocks) mdb (extents_nodes blocks)) ≡ None
+    → IsExtentsTree (extents_nodes blocks)
+extents_tree_sound law blocks mdb none =
+    let sound = (law mdb (extents_nodes blocks)).0 (no-place 3 _ none) in
+    record { structure = sound.shape.structure; counts = sound.shape.counts; ordered = sound.ordered }
