@@ -17,3 +17,4 @@ pub mod Order
 pub mod OrderLaw
 pub mod Subtree
 pub mod Rises
+pub mod KeySteps

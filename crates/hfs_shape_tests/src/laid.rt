@@ -104,7 +104,7 @@ pub fn put(node: usize, at: usize, bytes: &[u8]) -> Edit<'_> {
 }
 
 /// Puts bytes into a node.
-fn apply(rt: &impl Abort, nodes: &mut [[u8; 512]], edit: Edit) {
+pub fn apply(rt: &impl Abort, nodes: &mut [[u8; 512]], edit: Edit) {
     let len = edit.bytes.len();
     assert!(rt; edit.node < nodes.len());
     assert!(rt; len <= 512);
