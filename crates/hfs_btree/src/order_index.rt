@@ -1,6 +1,6 @@
 //! The order of index keys.
 
-ghost use Rattle.std.specs.Prelude.{◌≡◌, ◌-◌, ◌≤◌, true, [], ◌∷◌, map, None};
+ghost use Rattle.std.specs.Prelude.{◌≡◌, ◌-◌, ◌≤◌, true, [], ◌∷◌, map};
 ghost use Rattle.std.specs.Option.{is_none};
 ghost use Rattle.hfs_btree.specs.Pairs.{Each};
 ghost use Rattle.hfs_btree.specs.Tree.{pair_of, under, spots, level_below};
