@@ -5,17 +5,13 @@ use Rattle.std.specs.Cmp.{IsTotalOrder}
 use Rattle.std.specs.declared.cmp.Ordering.{Ordering}
 use Rattle.std.specs.declared.cmp.Ordering.TheVariants.{Less, Equal, Greater}
 use Rattle.std.specs.Ordering.{is_gt, is_lt}
-use Rattle.std.proofs.lemmas.Bool.{and_parts, and_from, cases_Bool, cond-true, cond-false}
+use Rattle.std.proofs.lemmas.Bool.{and_parts, and_from, cases_Bool, cond-true, cond-false, not-true}
 use Rattle.hfs_btree.specs.declared.key_range.KeyRange.{KeyRange}
 use Rattle.hfs_btree.specs.Pairs.{Order, Pairs}
 use Rattle.hfs_btree.specs.Elements.{each-append, each-left, each-right}
 use Rattle.hfs_btree.specs.Lookups.{flipped, above-below, lt-le, le-lt}
+use Rattle.hfs_btree.specs.OrderLaw.{less-by}
 use Rattle.hfs_btree.specs.Subtree.{is_at_most, is_above, HasRange}
-
-less-is : (o : Ordering) → is_lt o ≡ true → o ≡ Less
-less-is Less h = refl
-less-is Equal h = cc
-less-is Greater h = cc
 
 and-after : (a b : Bool) → (a ≡ true → b ≡ true) → a ≡ (b && a)
 and-after true true h = refl
@@ -27,11 +23,6 @@ and-before : (a b : Bool) → (a ≡ true → b ≡ true) → a ≡ (a && b)
 and-before true true h = refl
 and-before true false h = sym (h refl)
 and-before false b h = refl
-
-no-more : (o : Ordering) → not (is_gt o) ≡ true → is_gt o ≡ false
-no-more Less h = refl
-no-more Equal h = refl
-no-more Greater h = cc
 
 module _ {K : Type 0} (cmp : Order K) (total : IsTotalOrder cmp) where
   not-below_by : (x y : K) (o : Ordering) → cmp x y ≡ o → is_lt o ≡ false → is_gt (cmp y x) ≡ false
@@ -55,10 +46,10 @@ module _ {K : Type 0} (cmp : Order K) (total : IsTotalOrder cmp) where
       elim (cases_Bool (is_lt (cmp y x))) [
         | inl lt ↦
             ap (λ k. not (is_gt (cmp key k))) (cond-true (is_lt (cmp y x)) y x lt)
-            ∙ and-after _ _ (λ h. ap (λ o. not (is_gt o)) (le-lt cmp total key y x (no-more (cmp key y) h) (less-is (cmp y x) lt)))
+            ∙ and-after _ _ (λ h. ap (λ o. not (is_gt o)) (le-lt cmp total key y x (not-true (is_gt (cmp key y)) h) ((less-by (cmp y x)).0 lt)))
         | inr ge ↦
             ap (λ k. not (is_gt (cmp key k))) (cond-false (is_lt (cmp y x)) y x ge)
-            ∙ and-before _ _ (λ h. ap not (le-le key x y (no-more (cmp key x) h) ge))
+            ∙ and-before _ _ (λ h. ap not (le-le key x y (not-true (is_gt (cmp key x)) h) ge))
       ]
 
   pub above-greater : (key x y : K) → is_lt (cmp (cond (is_lt (cmp x y)) y x) key) ≡ (is_lt (cmp x key) && is_lt (cmp y key))
@@ -66,10 +57,10 @@ module _ {K : Type 0} (cmp : Order K) (total : IsTotalOrder cmp) where
       elim (cases_Bool (is_lt (cmp x y))) [
         | inl lt ↦
             ap (λ k. is_lt (cmp k key)) (cond-true (is_lt (cmp x y)) y x lt)
-            ∙ and-after _ _ (λ h. ap is_lt (total.trans x y key (less-is (cmp x y) lt) (less-is (cmp y key) h)))
+            ∙ and-after _ _ (λ h. ap is_lt (total.trans x y key ((less-by (cmp x y)).0 lt) ((less-by (cmp y key)).0 h)))
         | inr ge ↦
             ap (λ k. is_lt (cmp k key)) (cond-false (is_lt (cmp x y)) y x ge)
-            ∙ and-before _ _ (λ h. ap is_lt (le-lt cmp total y x key (not-below x y ge) (less-is (cmp x key) h)))
+            ∙ and-before _ _ (λ h. ap is_lt (le-lt cmp total y x key (not-below x y ge) ((less-by (cmp x key)).0 h)))
       ]
 
 module _ {K : Type 0} (cmp : Order K) where
@@ -106,8 +97,8 @@ module _ {K : Type 0} (cmp : Order K) where
 
   pub range-one : (p : K × List ℕ) → HasRange cmp (Some (record { least = p.0; greatest = p.0 })) (p ∷ [])
   range-one p = record {
-    least = λ key. (λ is. (no-more (cmp key p.0) is, tt), λ each. ap not each.0);
-    greatest = λ key. (λ is. (less-is (cmp p.0 key) is, tt), λ each. ap is_lt each.0);
+    least = λ key. (λ is. (not-true (is_gt (cmp key p.0)) is, tt), λ each. ap not each.0);
+    greatest = λ key. (λ is. ((less-by (cmp p.0 key)).0 is, tt), λ each. ap is_lt each.0);
   }
 
 pub joined-some : {K : Type 0} (cmp : Order K) (total : IsTotalOrder cmp) (a b : KeyRange K) (least greatest : K) → least ≡ cond (is_lt (cmp b.least a.least)) b.least a.least

@@ -18,7 +18,7 @@ use Rattle.hfs_btree.specs.Scans.{Later, passes_from_none, none_from_passes, lat
 use Rattle.hfs_btree.specs.Sound.{HasStructure, HasCounts, IsWithinFile, IsShaped, part_of, ArePartsInOrder, AreKeysInOrder, IsOrdered, IsSound}
 use Rattle.hfs_btree.specs.Order.{first_node, is_above_all, rise_fault, leaf_order_fault, are_parts_in_order, are_keys_in_order, is_keyed, index_order_fault, order_fault, tree_fault}
 
-less-by : (o : Ordering) → Decides (is_lt o) (o ≡ Less)
+pub less-by : (o : Ordering) → Decides (is_lt o) (o ≡ Less)
 less-by Less = (λ _. refl, λ _. refl)
 less-by Equal = (λ (h : is_lt Equal ≡ true). cc, λ (h : Equal ≡ Less). cc)
 less-by Greater = (λ (h : is_lt Greater ≡ true). cc, λ (h : Greater ≡ Less). cc)

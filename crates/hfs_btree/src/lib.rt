@@ -10,6 +10,7 @@ mod image;
 mod index_levels;
 mod key;
 mod key_levels;
+mod key_range;
 mod key_test;
 mod key_range;
 mod keys;

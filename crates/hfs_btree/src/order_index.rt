@@ -1,6 +1,6 @@
 //! The order of index keys.
 
-ghost use Rattle.std.specs.Prelude.{◌≡◌, ◌-◌, ◌≤◌, true, [], ◌∷◌, map, None};
+ghost use Rattle.std.specs.Prelude.{◌≡◌, ◌-◌, ◌≤◌, true, [], ◌∷◌, map};
 ghost use Rattle.std.specs.Option.{is_none};
 ghost use Rattle.hfs_btree.specs.Pairs.{Each};
 ghost use Rattle.hfs_btree.specs.Tree.{pair_of, under, spots, level_below};
@@ -111,9 +111,9 @@ fn first_unkeyed<K: Key, N: Nodes>(nodes: &N, n: u32, above: u16, at: u16) -> Op
     };
     for i in 0..node.len() {
         let child = child_of::<K>(node.record(i));
-        let found = first_unkeyed::<K, N>(nodes, child, above - 1, at);
-        if found.is_some() {
-            return found;
+        let below = first_unkeyed::<K, N>(nodes, child, above - 1, at);
+        if below.is_some() {
+            return below;
         }
     }
     None

@@ -1,5 +1,4 @@
-//! Tests of the checks of a tree's shape and order, on trees that are laid by hand.
-//! Tests of the check of a tree's shape and of the passes over its keys, on trees that are laid by hand.
+//! Tests of the checks of a tree's shape and order and of the passes over its keys, on trees that are laid by hand.
 #![tactic(auto)]
 
 #[cfg(test)]

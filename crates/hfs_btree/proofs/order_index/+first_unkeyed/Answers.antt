@@ -35,8 +35,8 @@ child_of-child-requires g t c =
     let len = c.len-i-end.ensures.count in
     rw c.record.ensures.bytes (index-at g.K.Key nodes (c.args.above - 1) c.in-Ok.node.records c.args.above c.args.n up (ap records_of is) c.requires.tree c.loop-i.i (omega arith))
 
-pub first_unkeyed-found-requires : goal.first_unkeyed-found-requires
-first_unkeyed-found-requires g t c κs within =
+pub first_unkeyed-below-requires : goal.first_unkeyed-below-requires
+first_unkeyed-below-requires g t c κs within =
     let nodes = g.N.Nodes.nodes c.args.nodes.now in
     let is = decodes nodes c.args.n c.read.new.into (Ok c.in-Ok.node) c.read.ensures c.in-Ok.ensures.node in
     let low = c.requires.below in
@@ -69,14 +69,14 @@ returns-then-is_some g t c =
     let len = c.len-i-end.ensures.count in
     let lower : c.args.above - 1 - k ≡ down = omega arith in
     let child = c.child_of-child.ensures ∙ ap g.K.Key.child c.record.ensures.bytes in
-    let same : c.first_unkeyed-found.result ≡ first g.K.Key nodes k (level_below g.K.Key nodes down (g.K.Key.child (get_or es c.loop-i.i []) ∷ [])) =
-    c.first_unkeyed-found.ensures
+    let same : c.first_unkeyed-below.result ≡ first g.K.Key nodes k (level_below g.K.Key nodes down (g.K.Key.child (get_or es c.loop-i.i []) ∷ [])) =
+    c.first_unkeyed-below.ensures
     ∙ ap (λ (d : ℕ). first g.K.Key nodes k (level_below g.K.Key nodes d (c.child_of-child.result ∷ []))) lower
     ∙ ap (λ (m : ℕ). first g.K.Key nodes k (level_below g.K.Key nodes down (m ∷ []))) child in
     sym (
     under-node g.K.Key nodes k (c.args.above - k) down c.args.n es (omega arith) (ap records_of is)
     ∙ c.loop-i.invariant
-    ∙ under-found g.K.Key nodes k down es c.loop-i.i (omega arith) c.first_unkeyed-found.result same (sym c.is_some.ensures ∙ c.if-is_some.true)
+    ∙ under-found g.K.Key nodes k down es c.loop-i.i (omega arith) c.first_unkeyed-below.result same (sym c.is_some.ensures ∙ c.if-is_some.true)
     )
 
 pub loop-i-preserved : goal.loop-i-preserved
@@ -89,11 +89,11 @@ loop-i-preserved g t c =
     let len = c.len-i-end.ensures.count in
     let lower : c.args.above - 1 - k ≡ down = omega arith in
     let child = c.child_of-child.ensures ∙ ap g.K.Key.child c.record.ensures.bytes in
-    let same : c.first_unkeyed-found.result ≡ first g.K.Key nodes k (level_below g.K.Key nodes down (g.K.Key.child (get_or es c.loop-i.i []) ∷ [])) =
-    c.first_unkeyed-found.ensures
+    let same : c.first_unkeyed-below.result ≡ first g.K.Key nodes k (level_below g.K.Key nodes down (g.K.Key.child (get_or es c.loop-i.i []) ∷ [])) =
+    c.first_unkeyed-below.ensures
     ∙ ap (λ (d : ℕ). first g.K.Key nodes k (level_below g.K.Key nodes d (c.child_of-child.result ∷ []))) lower
     ∙ ap (λ (m : ℕ). first g.K.Key nodes k (level_below g.K.Key nodes down (m ∷ []))) child in
-    c.loop-i.invariant ∙ under-passed g.K.Key nodes k down es c.loop-i.i (omega arith) c.first_unkeyed-found.result same (sym c.is_some.ensures ∙ c.if-is_some.false)
+    c.loop-i.invariant ∙ under-passed g.K.Key nodes k down es c.loop-i.i (omega arith) c.first_unkeyed-below.result same (sym c.is_some.ensures ∙ c.if-is_some.false)
 
 pub returns : goal.returns
 returns g t c =
