@@ -11,3 +11,6 @@ pub mod OwnedWithin
 pub mod Rooms
 pub mod EdgeCounts
 pub mod SpaceWalk
+pub mod RunSteps
+pub mod ForkOrder
+pub mod Copied

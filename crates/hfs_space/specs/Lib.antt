@@ -12,3 +12,4 @@ pub mod Sound
 pub mod Faults
 pub mod Laws
 pub mod Edges
+pub mod Runs
