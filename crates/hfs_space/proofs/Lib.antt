@@ -14,3 +14,6 @@ pub mod SpaceWalk
 pub mod RunSteps
 pub mod ForkOrder
 pub mod Copied
+pub mod Walked
+pub mod UsedMarks
+pub mod ForkFaults

@@ -10,8 +10,10 @@ use Rattle.hfs_fields.specs.Records.{is_file, file_record_of}
 use Rattle.hfs_fields.specs.Keys.{ext_cmp}
 use Rattle.hfs_btree.specs.Pairs.{Pairs}
 use Rattle.hfs_space.specs.declared.files.CatalogFile.{CatalogFile}
-use Rattle.hfs_space.specs.Extents.{Overflow, block_total, run_on}
-use Rattle.hfs_space.specs.Owners.{Fork, forks_of_file, catalog_fork}
+use Rattle.hfs_space.specs.declared.fork_kind.ForkKind.{ForkKind}
+use Rattle.hfs_fields.specs.declared.file_record.ForkRecord.{ForkRecord}
+use Rattle.hfs_space.specs.Extents.{Overflow, block_total, run_on, fork_byte}
+use Rattle.hfs_space.specs.Owners.{Fork, forks_of_file, catalog_fork, goes_on_with}
 use Rattle.hfs_space.specs.Faults.{is_fork_right}
 
 -- ---- runs
@@ -52,3 +54,21 @@ forks_in files = flat_map (λ f. forks_of_file f.file) files
 abbrev pub first_wrong_file : Mdb → Overflow → List CatalogFile → Option ℕ
 first_wrong_file mdb overflow [] = None
 first_wrong_file mdb overflow (f ∷ fs) = if list_all (is_fork_right mdb overflow) (forks_of_file f.file) then first_wrong_file mdb overflow fs else Some f.number
+
+-- a fork of a file's record
+abbrev pub fork_in : ℕ → ForkKind → ForkRecord → Fork
+fork_in file kind f = record { file = file; fork = fork_byte kind; len = f.length; first = f.extents }
+
+-- the marks are the old ones, and those of the records that one of these forks goes on with
+abbrev pub AddsUses : Overflow → List Fork → List Bool → List Bool → Type 0
+AddsUses overflow forks old new =
+    (k : ℕ) (d : ExtKey × List ℕ) (b : Bool) → k < length overflow → slice_index_or new k b ≡ (slice_index_or old k b || goes_on_with overflow forks (slice_index_or overflow k d))
+
+-- the marks say of each record of the extents tree whether one of these forks goes on with it
+abbrev pub AreMarks : Overflow → List Fork → List Bool → Type 0
+AreMarks overflow forks marks =
+    (k : ℕ) (d : ExtKey × List ℕ) (b : Bool) → k < length overflow → slice_index_or marks k b ≡ goes_on_with overflow forks (slice_index_or overflow k d)
+
+-- the forks that may go on in the extents tree, where these are the files
+abbrev pub forks_with : Mdb → List CatalogFile → List Fork
+forks_with mdb files = catalog_fork mdb ∷ forks_in files
