@@ -44,7 +44,7 @@ module _ (mdb : Mdb) (overflow : Overflow) where
         | false ↦ rest
       ]
 
-forks-same : (n : ℕ) (catalog : Pairs CatKey) → forks_in (files_in n catalog) ≡ flat_map forks_of catalog
+pub forks-same : (n : ℕ) (catalog : Pairs CatKey) → forks_in (files_in n catalog) ≡ flat_map forks_of catalog
 forks-same n [] = refl
 forks-same n (r ∷ rs) =
     let f = file_record_of r.1 in

@@ -17,3 +17,4 @@ pub mod Copied
 pub mod Walked
 pub mod UsedMarks
 pub mod ForkFaults
+pub mod OwnedAll

@@ -14,17 +14,11 @@ use crate::checks::can_hold;
 use crate::extents::{are_within, fork_extents};
 use crate::files::CatalogFile;
 use crate::fork_kind::ForkKind;
-use crate::overflow::{OverflowRecord, blocks_in, overflow_records};
+use crate::overflow::{BAD_BLOCKS, CATALOG_FILE, OverflowRecord, blocks_in, overflow_records};
 use crate::runs::mark_run;
 use hfs_btree::Nodes;
 use hfs_fields::{FileRecord, ForkRecord, Mdb};
 use std::alloc::{AllocError, Global};
-
-/// The ID of the catalog file.
-const CATALOG_FILE: u32 = 4;
-
-/// The ID of the file that has the bad blocks.
-const BAD_BLOCKS: u32 = 5;
 
 /// Whether a fork's extents, those of its overflow records among them, lie in the volume and have room for its bytes.
 #[tactic(auto, unfolding(crate::specs::Faults::is_fork_right))]

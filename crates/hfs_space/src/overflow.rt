@@ -12,6 +12,12 @@ use hfs_fields::{ExtKey, Extent};
 use std::alloc::{AllocError, Global};
 use std::marker::Model;
 
+/// The ID of the catalog file.
+pub(crate) const CATALOG_FILE: u32 = 4;
+
+/// The ID of the file that has the bad blocks.
+pub(crate) const BAD_BLOCKS: u32 = 5;
+
 /// A record of the extents tree. Contracts see its key and its body.
 #[derive(Drop)]
 pub struct OverflowRecord {
