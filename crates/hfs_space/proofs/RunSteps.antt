@@ -53,18 +53,18 @@ module _ (file fork : ℕ) where
       as (λ t. cond t (x ∷ run_on file fork (block + block_total (record_extents x.1)) (xs ++ ys)) (run_on file fork block (xs ++ ys))
       ≡ cond t (x ∷ run_on file fork (block + block_total (record_extents x.1)) xs) (run_on file fork block xs)
       ++ run_on file fork (cond t (run_end file fork (block + block_total (record_extents x.1)) xs) (run_end file fork block xs)) ys) [
-    | true ↦ ap (λ l. x ∷ l) (run_on-append (block + block_total (record_extents x.1)) xs ys)
-    | false ↦ run_on-append block xs ys
-  ]
+        | true ↦ ap (λ l. x ∷ l) (run_on-append (block + block_total (record_extents x.1)) xs ys)
+        | false ↦ run_on-append block xs ys
+      ]
 
   run_end-append : (block : ℕ) (xs ys : Overflow) → run_end file fork block (xs ++ ys) ≡ run_end file fork (run_end file fork block xs) ys
   run_end-append block [] ys = refl
   run_end-append block (x ∷ xs) ys = elim (goes_on file fork block x)
       as (λ t. cond t (run_end file fork (block + block_total (record_extents x.1)) (xs ++ ys)) (run_end file fork block (xs ++ ys))
       ≡ run_end file fork (cond t (run_end file fork (block + block_total (record_extents x.1)) xs) (run_end file fork block xs)) ys) [
-    | true ↦ run_end-append (block + block_total (record_extents x.1)) xs ys
-    | false ↦ run_end-append block xs ys
-  ]
+        | true ↦ run_end-append (block + block_total (record_extents x.1)) xs ys
+        | false ↦ run_end-append block xs ys
+      ]
 
   -- a record of another fork does not go on
   passed : (block : ℕ) (r : Record) → is_of_fork file fork r ≡ false → goes_on file fork block r ≡ false

@@ -49,7 +49,14 @@ fn are_forks_right<N: Nodes>(
     ensures { IfOk result (λ right. right ≡ list_all (spec.is_fork_right mdb.now (overflow_of (N.nodes tree.now))) (forks_of_file file.now)) }
 {
     let data = is_fork_right(alloc, mdb, tree, file.id, ForkKind::Data, &file.data)?;
-    let resource = is_fork_right(alloc, mdb, tree, file.id, ForkKind::Resource, &file.resource)?;
+    let resource = is_fork_right(
+        alloc,
+        mdb,
+        tree,
+        file.id,
+        ForkKind::Resource,
+        &file.resource,
+    )?;
     Ok(data && resource)
 }
 
@@ -79,7 +86,13 @@ fn mark_file(overflow: &[OverflowRecord], file: &FileRecord, marks: &mut [bool])
     ensures { runs.AddsUses overflow.now (forks_of_file file.now) marks.old marks.new }
 {
     mark_run(overflow, file.id, ForkKind::Data, &file.data.extents, marks);
-    mark_run(overflow, file.id, ForkKind::Resource, &file.resource.extents, marks);
+    mark_run(
+        overflow,
+        file.id,
+        ForkKind::Resource,
+        &file.resource.extents,
+        marks,
+    );
 }
 
 /// Marks the records of the extents tree that one of the files goes on with.
@@ -99,7 +112,13 @@ fn mark_used(mdb: &Mdb, overflow: &[OverflowRecord], files: &[CatalogFile], mark
     requires length { length marks.old ≡ length overflow.now }
     ensures { runs.AddsUses overflow.now (runs.forks_with mdb.now files.now) marks.old marks.new }
 {
-    mark_run(overflow, CATALOG_FILE, ForkKind::Data, &mdb.catalog_file, marks);
+    mark_run(
+        overflow,
+        CATALOG_FILE,
+        ForkKind::Data,
+        &mdb.catalog_file,
+        marks,
+    );
     mark_files(overflow, files, marks);
 }
 

@@ -26,7 +26,6 @@ pub use fork::read_fork;
 pub use fork_checks::fork_fault;
 pub use fork_kind::ForkKind;
 pub use laws::{fork_faults, owned_are_within, space_faults, tree_files};
-pub use overflow::OverflowRecord;
 pub use owned::owned_extents;
 pub use patch::Patch;
 pub use patched::Patched;

@@ -20,7 +20,7 @@ pub(crate) const BAD_BLOCKS: u32 = 5;
 
 /// A record of the extents tree. Contracts see its key and its body.
 #[derive(Drop)]
-pub struct OverflowRecord {
+pub(crate) struct OverflowRecord {
     key: ExtKey,
     body: Vec<u8>,
 }
@@ -36,14 +36,14 @@ impl Model for OverflowRecord {
 
 impl OverflowRecord {
     /// The record's key.
-    pub fn key(&self) -> ExtKey
+    pub(crate) fn key(&self) -> ExtKey
         ensures { result ≡ self.now.0 }
     {
         self.key
     }
 
     /// The record's three extents; None where its body is too short for them.
-    pub fn extents(&self) -> Option<[Extent; 3]>
+    pub(crate) fn extents(&self) -> Option<[Extent; 3]>
         ensures { SomeIff result (12 ≤ length self.now.1) (extents_at 0 self.now.1) }
     {
         Extent::read_record(&self.body)

@@ -85,13 +85,7 @@ pub fn owned_extents<N: Nodes>(
     requires { IsExtentsTree (N.nodes tree.now) }
     ensures { (catalog : Pairs CatKey) → files.now ≡ runs.files_in 0 catalog → IfOk result (λ owned. owned.items ≡ spec.owned_extents mdb.now (overflow_of (N.nodes tree.now)) catalog) }
 {
-    let mut owned = fork_extents(
-        alloc,
-        tree,
-        CATALOG_FILE,
-        ForkKind::Data,
-        &mdb.catalog_file,
-    )?;
+    let mut owned = fork_extents(alloc, tree, CATALOG_FILE, ForkKind::Data, &mdb.catalog_file)?;
     push_files(alloc, tree, files, &mut owned)?;
     owned.extend_from_slice(&mdb.extents_file)?;
     let overflow = overflow_records(alloc, tree)?;

@@ -42,7 +42,7 @@ loop-i-preserved c =
           record {
             ends = w.block-is ∙ (λ j. c.loop-i.invariant.ends j + blocks j) ∙ sym (end-more xs c.requires.rises c.args.file byte first c.loop-i.i d c.loop-i-test.true e);
             marked = λ k d' b lt. ap (λ (l : List Bool). get_or l k b) w.marks-is
-            ∙ marks-more xs c.requires.rises c.args.file byte first c.loop-i.i d c.loop-i-test.true c.args.marks.now c.loop-i.marks long e c.loop-i.invariant.marked k d' b lt;
+                ∙ marks-more xs c.requires.rises c.args.file byte first c.loop-i.i d c.loop-i-test.true c.args.marks.now c.loop-i.marks long e c.loop-i.invariant.marked k d' b lt;
           }
       | else-goes_on w ↦
           let e = test ∙ w.if-goes_on.false in
