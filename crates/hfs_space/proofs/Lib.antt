@@ -12,3 +12,10 @@ pub mod TreeRuns
 pub mod Rooms
 pub mod EdgeCounts
 pub mod SpaceWalk
+pub mod RunSteps
+pub mod ForkOrder
+pub mod Copied
+pub mod Walked
+pub mod UsedMarks
+pub mod ForkFaults
+pub mod OwnedAll

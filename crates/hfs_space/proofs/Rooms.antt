@@ -8,7 +8,7 @@ use Rattle.std.proofs.lemmas.Bool.Decides.{nat_tests, same_from_decides}
 use Rattle.hfs_fields.specs.declared.extent.Extent.{Extent}
 use Rattle.hfs_fields.specs.declared.mdb.Mdb.{Mdb}
 use Rattle.hfs_space.specs.Extents.{block_total, AreExtentsWithin}
-use Rattle.hfs_space.specs.Faults.{have_room, is_tree_file}
+use Rattle.hfs_space.specs.Faults.{are_extents_within, have_room}
 use Rattle.hfs_space.proofs.Decided.{within_decides}
 
 pub room-step : (extents : List Extent) (i : ℕ) (d : Extent) (bytes each rest : ℕ) → i < length extents → rest ≡ bytes - block_total (take i extents) * each
@@ -21,20 +21,15 @@ room-step extents i d bytes each rest lt so_far =
 pub room-end : (bytes room : ℕ) → eqb (bytes - room) 0 ≡ leb bytes room
 room-end bytes room = grind (arith, nat_tests)
 
-module _ (mdb : Mdb) (extents : List Extent) (size : ℕ) (within : Bool) (decides : Decides within (AreExtentsWithin mdb.allocation_blocks extents)) where
-  tests : is_tree_file mdb extents size ≡ (within && have_room mdb extents size && nat_le 512 size)
-  unfolding is_tree_file
-  tests = ap (λ (b : Bool). b && have_room mdb extents size && nat_le 512 size) (same_from_decides _ _ (within_decides mdb.allocation_blocks extents) decides)
+-- ---- extents in the volume, with room
 
-  pub file-right : (room : Bool) → within ≡ true → room ≡ have_room mdb extents size → room ≡ true → nat_le 512 size ≡ is_tree_file mdb extents size
-  file-right room e is f = sym (tests ∙ ap (λ (b : Bool). b && have_room mdb extents size && nat_le 512 size) e ∙ ap (λ (b : Bool). b && nat_le 512 size) (sym is ∙ f))
+pub within-is : (n : ℕ) (extents : List Extent) (within : Bool) → Decides within (AreExtentsWithin n extents) → within ≡ are_extents_within n extents
+within-is n extents within decides = same_from_decides _ _ decides (within_decides n extents)
 
-  pub file-small : (room : Bool) → room ≡ have_room mdb extents size → room ≡ false → false ≡ is_tree_file mdb extents size
-  file-small room is f = sym (tests ∙ by within)
-    where
-      by : (w : Bool) → (w && have_room mdb extents size && nat_le 512 size) ≡ false
-      by true = ap (λ (b : Bool). b && nat_le 512 size) (sym is ∙ f)
-      by false = refl
+pub holds-inside : (mdb : Mdb) (extents : List Extent) (bytes : ℕ) (within room : Bool) → Decides within (AreExtentsWithin mdb.allocation_blocks extents) → within ≡ true → room ≡ have_room mdb extents bytes
+    → room ≡ (are_extents_within mdb.allocation_blocks extents && have_room mdb extents bytes)
+holds-inside mdb extents bytes within room decides e is = is ∙ ap (λ (b : Bool). b && have_room mdb extents bytes) (sym e ∙ within-is mdb.allocation_blocks extents within decides)
 
-  pub file-outside : within ≡ false → false ≡ is_tree_file mdb extents size
-  file-outside e = sym (tests ∙ ap (λ (b : Bool). b && have_room mdb extents size && nat_le 512 size) e)
+pub holds-outside : (mdb : Mdb) (extents : List Extent) (bytes : ℕ) (within : Bool) → Decides within (AreExtentsWithin mdb.allocation_blocks extents) → within ≡ false
+    → false ≡ (are_extents_within mdb.allocation_blocks extents && have_room mdb extents bytes)
+holds-outside mdb extents bytes within decides e = ap (λ (b : Bool). b && have_room mdb extents bytes) (sym e ∙ within-is mdb.allocation_blocks extents within decides)

@@ -14,3 +14,4 @@ pub mod Laws
 pub mod TreeFiles
 pub mod Edges
 pub mod FileLengths
+pub mod Runs

@@ -9,3 +9,5 @@ mod forks;
 mod laid;
 #[cfg(test)]
 mod overflow;
+#[cfg(test)]
+mod space;
