@@ -1,7 +1,7 @@
 -- The steps of the check of parents.
 use Rattle.std.proofs.Common.{◌≡◌, ⊎_elim, ℕ, zero, suc, ◌+◌, ◌-◌, ◌<◌, Bool, true, false, ◌&&◌, ◌||◌, nat_eq, eqb, List, length, sym, ◌∙◌, ap, subst, arith, Option, Some, None}
 use Rattle.std.specs.Option.{option_map, option_map_or}
-use Rattle.std.proofs.lemmas.Bool.{eqb-true, eq-eqb, ne_eqb, or_left, or_cases}
+use Rattle.std.proofs.lemmas.Bool.{eqb-true, eq-eqb, ne_eqb, or_left, or_cases, true≢false}
 use Rattle.hfs_fields.specs.Records.{is_item, item_id}
 use Rattle.hfs_catalog.specs.Records.{Record, Catalog, item_with, is_folder_id}
 use Rattle.hfs_catalog.specs.Parents.{parent_in, ReachesRoot, reaches_root}
@@ -18,10 +18,15 @@ none_some x e = cc
 pub or_from : (a b : Bool) → a ≡ false → (a || b) ≡ b
 or_from a b e = ap (λ (c : Bool). c || b) e
 
+pub not_root : (id : ℕ) (b : Bool) → (eqb id 2 || b) ≡ false → id ≡ 2 → ⊥
+not_root id b e is = true≢false (sym (or_left _ b (eq-eqb id 2 is)) ∙ e)
+
 module _ (catalog : Catalog) where
-  pub root_reaches : (k id : ℕ) → id ≡ 2 → reaches_root catalog k id ≡ true
-  root_reaches zero id e = eq-eqb id 2 e
-  root_reaches (suc k) id e = or_left _ _ (eq-eqb id 2 e)
+  pub reached : (rooted : List ℕ) (id : ℕ) → AreRooted rooted catalog → (eqb id 2 || has_number rooted id) ≡ true → ReachesRoot catalog id
+  reached rooted id known e = ⊎_elim
+      (λ (root : eqb id 2 ≡ true). let here : ReachesRoot catalog id = (0, eqb-true id 2 root) in here)
+      (λ (has : has_number rooted id ≡ true). known id has)
+      (or_cases (eqb id 2) (has_number rooted id) e)
 
   pub known_reaches : (id : ℕ) → ReachesRoot catalog id → reaches_root catalog (length catalog) id ≡ true
   known_reaches id h = (reach_decides catalog id).1 h

@@ -58,8 +58,13 @@ fn missing_root(index: &ItemIndex<'_>, catalog: &[(CatKey, Bytes)]) -> Option<us
     }
 }
 
-/// The number of the first record with a wrong ID, of two with one ID the later; the number of records where there is
-/// no item 2. `Err` only where memory is wanting.
+/// The number of the first record, from 0 on, of an item with a wrong ID; the number of records where none is the root's.
+/// None where the IDs are sound.
+///
+/// The root is a folder with the ID 2 under 1. Any other item has an ID from 16 on and below `next`, the volume's next ID
+/// (drNxtCNID), and does not stand under 1. Of two records with one ID the later is wrong.
+///
+/// It reads each record twice, and takes memory for an index of the items. `Err` only where memory is wanting.
 #[tactic(auto, unfolding(crate::specs::Faults::id_fault))]
 pub fn id_fault(
     alloc: Global,

@@ -30,4 +30,6 @@ pub use place_check::place_fault;
 pub use valence_check::valence_fault;
 
 #[cfg(test)]
+mod place_tests;
+#[cfg(test)]
 mod tests;

@@ -1,11 +1,11 @@
 //! The check of mounting on the parents of a catalog's items.
 
-ghost use Rattle.std.specs.Prelude.{◌≡◌, [], length, IfOk, OnOk};
+ghost use Rattle.std.specs.Prelude.{◌≡◌, ◌||◌, ◌==◌, [], length, IfOk, OnOk};
 ghost use Rattle.hfs_fields.specs.Records.{is_item};
 ghost use Rattle.hfs_btree.specs.First.{first_failing};
 ghost use Rattle.hfs_catalog.specs.Records.{is_folder_id};
 ghost use Rattle.hfs_catalog.specs.Parents.{ReachesRoot, reaches_root};
-ghost use Rattle.hfs_catalog.specs.Indexes.{AreRooted};
+ghost use Rattle.hfs_catalog.specs.Indexes.{has_number, AreRooted};
 ghost use Rattle.hfs_catalog.specs.Faults.{implies, is_parent_right};
 
 use crate::id_set::IdSet;
@@ -25,34 +25,41 @@ fn is_folder_id(index: &ItemIndex<'_>, id: u32) -> bool
     }
 }
 
+/// Whether it is known that the chain of parents from an ID on reaches the root.
+fn is_known(rooted: &IdSet, id: u32) -> bool
+    ensures { result ≡ ((id == 2) || has_number rooted.now id) }
+{
+    id == 2 || rooted.has(id)
+}
+
 /// Whether the chain of parents from an ID on reaches the root. It is followed up to the first ID of which that is known,
-/// and no further than there are records.
+/// and no further than there are records: a chain with more steps goes round in a ring.
 fn reaches_root(index: &ItemIndex<'_>, rooted: &IdSet, from: u32) -> bool
     requires { AreRooted rooted.now index.now }
     ensures { result ≡ reaches_root index.now (length index.now) from }
 {
-    let mut id = from;
-    for step in 0..index.len() {
-        if id == 2 || rooted.has(id) {
+    let mut at = from;
+    for _step in 0..index.len() {
+        if is_known(rooted, at) {
             return true;
         }
-        match index.item(id) {
-            Some(item) => id = item.0.parent,
+        match index.item(at) {
+            Some(item) => at = item.0.parent,
             None => return false,
         }
     }
-    id == 2
+    at == 2
 }
 
-/// Notes the IDs of a chain of parents that reaches the root, up to the first that is noted.
+/// Notes the IDs of a chain of parents that reaches the root, up to the first of which that is known.
 fn note_chain(index: &ItemIndex<'_>, rooted: &mut IdSet, from: u32) -> Result<(), AllocError>
     requires rooted { AreRooted rooted.old index.now }
     requires reaches { ReachesRoot index.now from }
     ensures { OnOk result (AreRooted rooted.new index.now) }
 {
     let mut id = from;
-    for step in 0..index.len() {
-        if id == 2 || rooted.has(id) {
+    for _step in 0..index.len() {
+        if is_known(rooted, id) {
             return Ok(());
         }
         rooted.add(id)?;

@@ -38,9 +38,16 @@ fn first_misplaced(alloc: Global, catalog: &[(CatKey, Bytes)]) -> Result<Option<
     Ok(earlier(folders, astray))
 }
 
-/// The number of the first record that is out of order, an item's whose parent is no folder or whose chain of parents does
-/// not reach the root, a folder's without a thread, or a thread's that does not lead to its item. The number of records,
-/// where it is known that the keys of the index nodes are out of order. `Err` only where memory is wanting.
+/// The number of the first record, from 0 on, that is out of order, an item's whose parent is no folder or whose chain of
+/// parents does not reach the root, a folder's without a thread, or a thread's that does not lead to its item. Where no
+/// record is, the number of records, unless the keys of the index nodes are `in_order`. None where all are right.
+///
+/// Keys rise by the parent's ID and then by name without regard to case ("Inside Macintosh: Files", chapter 2, "Catalog
+/// file keys"). A thread is of its item's kind, names its parent, and has its name without regard to case. A file need
+/// not have a thread.
+///
+/// It goes through the records a fixed number of times, follows no part of a chain twice, and takes memory for an index of
+/// the items, a set of threads and a set of chains. `Err` only where memory is wanting.
 #[tactic(auto, unfolding(crate::specs::Faults::place_fault))]
 pub fn place_fault(
     alloc: Global,

@@ -63,8 +63,10 @@ fn first_wrong_valence(counts: &Numbers, catalog: &[(CatKey, Bytes)]) -> Option<
     None
 }
 
-/// The number of the first folder's record with a valence that is not the number of its children. `Err` only where
-/// memory is wanting.
+/// The number of the first record, from 0 on, of a folder whose valence (dirVal) is not the number of the files' and
+/// folders' records under its ID. None where each valence is right.
+///
+/// It reads each record twice, and takes memory for a count for each parent. `Err` only where memory is wanting.
 #[tactic(auto, unfolding(crate::specs::Faults::valence_fault))]
 pub fn valence_fault(
     alloc: Global,
