@@ -1,7 +1,7 @@
 -- What stays as it was, stays so along changes.
-use Rattle.std.proofs.Common.{◌≡◌, ℕ, ◌+◌, ◌*◌, ◌/◌, ◌<◌, ◌≤◌, List, [], ◌∷◌, ◌++◌, map, take, refl, sym, ◌∙◌, subst, arith}
+use Rattle.std.proofs.Common.{◌≡◌, ℕ, ◌+◌, ◌*◌, ◌/◌, ◌%◌, ◌<◌, ◌≤◌, List, [], ◌∷◌, ◌++◌, map, take, drop, get_or, ap, refl, sym, ◌∙◌, subst, arith}
 use Rattle.std.specs.List.{flat_map, range_with_len}
-use Rattle.std.proofs.lemmas.List.{get_or-take}
+use Rattle.std.proofs.lemmas.List.{get_or-take, get_or-drop}
 use Rattle.hfs_fields.specs.declared.mdb.Mdb.{Mdb}
 use Rattle.hfs_fields.specs.declared.extent.Extent.{Extent}
 use Rattle.hfs_fields.specs.Numbers.{number_at}
@@ -18,7 +18,7 @@ use Rattle.hfs_space.specs.TreeKeys.{ext_keys}
 use Rattle.hfs_catalog.specs.Tree.{cat_keys}
 use Rattle.hfs_check.specs.Parts.{Blocks, mdb_in, extents_nodes, catalog_nodes}
 use Rattle.hfs_check.specs.Sound.{IsSound}
-use Rattle.hfs_check.specs.Agree.{changing_blocks, IsSpareBit, KeepsVolume, Agrees}
+use Rattle.hfs_check.specs.Agree.{changing_blocks, IsBeside, IsSpareBit, KeepsVolume, Agrees}
 
 -- ---- trees
 
@@ -117,3 +117,15 @@ agrees_itself image sound = record { sound = sound; len = refl; kept = kept_itse
 pub agrees_on : (base middle image : List ℕ) → Agrees base middle → Agrees middle image → Agrees base image
 agrees_on base middle image p q =
     record { sound = q.sound; len = q.len ∙ p.len; kept = kept_on (block_at base) (block_at middle) (block_at image) p.kept q.kept }
+
+-- ---- bytes
+
+-- a byte stands in the block that its place divided by 512 is
+byte_of_block : (bytes : List ℕ) (k : ℕ) → get_or (block_at bytes (k / 512)) (k % 512) 0 ≡ get_or bytes k 0
+byte_of_block bytes k =
+    get_or-take 512 (drop (512 * (k / 512)) bytes) (k % 512) 0 (omega arith) ∙ get_or-drop (512 * (k / 512)) bytes (k % 512) 0
+    ∙ ap (λ (j : ℕ). get_or bytes j 0) (let e : 512 * (k / 512) + k % 512 ≡ k = omega arith in e)
+
+pub bytes_stay : (base image : List ℕ) → Agrees base image → (k : ℕ) → IsBeside (block_at base) (k / 512) → get_or image k 0 ≡ get_or base k 0
+bytes_stay base image h k beside =
+    sym (byte_of_block image k) ∙ ap (λ (block : List ℕ). get_or block (k % 512) 0) (h.kept.others (k / 512) beside) ∙ byte_of_block base k

@@ -1,6 +1,6 @@
 //! What holds of the checks of an image, each as the contract of a function that does nothing: a caller learns it by the
 //! call.
-ghost use Rattle.hfs_check.specs.Laws.{LengthFaults, MdbFaults, ExtentsFaults, CatalogFaults, CatalogNameFaults, CatalogPlaceFaults, BlocksFaults, ImageFaults, SoundImagesAreLawful, AgreesWithItself, AgreesOn};
+ghost use Rattle.hfs_check.specs.Laws.{LengthFaults, MdbFaults, ExtentsFaults, CatalogFaults, CatalogNameFaults, CatalogPlaceFaults, BlocksFaults, ImageFaults, TreesAreSound, CatalogIsSound, SoundImagesAreLawful, AgreesWithItself, AgreesOn, BytesStay};
 
 use hfs_catalog::{
     count_faults, id_faults, name_faults, place_faults, record_faults, sound_is_lawful,
@@ -74,6 +74,16 @@ pub fn image_faults()
     blocks_faults();
 }
 
+/// Both trees of a sound volume are sound.
+pub fn trees_are_sound()
+    ensures { TreesAreSound }
+{}
+
+/// The catalog of a sound volume is sound.
+pub fn catalog_is_sound()
+    ensures { CatalogIsSound }
+{}
+
 /// A sound image holds a lawful volume.
 pub fn sound_images_are_lawful()
     ensures { SoundImagesAreLawful }
@@ -89,4 +99,10 @@ pub fn agrees_with_itself()
 /// An image that agrees with one that agrees with a base agrees with the base.
 pub fn agrees_on()
     ensures { AgreesOn }
+{}
+
+/// Of an image that agrees with a base, each byte in no block that calls change is the base's, also behind the last whole
+/// block.
+pub fn bytes_stay()
+    ensures { BytesStay }
 {}

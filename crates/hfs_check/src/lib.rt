@@ -19,9 +19,9 @@ pub use crate::fault::FormatFault;
 pub use crate::format_laws::{new_images_are_sound, new_images_hold_new_volumes};
 pub use crate::formatting::format;
 pub use crate::laws::{
-    agrees_on, agrees_with_itself, blocks_faults, catalog_faults, catalog_name_faults,
-    catalog_place_faults, extents_faults, image_faults, length_faults, mdb_faults,
-    sound_images_are_lawful,
+    agrees_on, agrees_with_itself, blocks_faults, bytes_stay, catalog_faults, catalog_is_sound,
+    catalog_name_faults, catalog_place_faults, extents_faults, image_faults, length_faults,
+    mdb_faults, sound_images_are_lawful, trees_are_sound,
 };
 pub use crate::mount_fault::MountFault;
 pub use crate::plan::FormatPlan;
