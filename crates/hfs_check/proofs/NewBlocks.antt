@@ -1,9 +1,10 @@
 -- The blocks of a new volume: each has 512 bytes, and is found at its place in the image.
-use Rattle.std.proofs.Common.{◌≡◌, ℕ, zero, suc, ◌+◌, ◌-◌, ◌*◌, ◌^◌, ◌<◌, ◌≤◌, List, [], ◌++◌, length, take, drop, refl, sym, ap, ◌∙◌, arith}
+use Rattle.std.proofs.Common.{◌≡◌, ℕ, zero, suc, ◌+◌, ◌-◌, ◌*◌, ◌/◌, ◌^◌, ◌<◌, ◌≤◌, List, [], ◌++◌, length, take, drop, refl, sym, ap, ◌∙◌, arith}
 use Rattle.std.specs.Prelude.{◌==◌}
 use Rattle.std.specs.List.{flat_map, range_with_len}
 use Rattle.std.proofs.lemmas.List.{length-append, length-replicate, drop-drop, drop_at, take_at}
 use Rattle.std.proofs.lemmas.Bool.{cond_both}
+use Rattle.hfs_fields.specs.declared.key.CatKey.{CatKey}
 use Rattle.hfs_fields.specs.KeyForms.{cat_leaf_bytes, length-cat_leaf_bytes}
 use Rattle.hfs_fields.specs.Records.{new_dir, new_thread}
 use Rattle.hfs_fields.specs.RecordForms.{IsDirRecordValue, dir_record_bytes, length-dir_record_bytes, IsThreadRecordValue, thread_record_bytes, length-thread_record_bytes}
@@ -52,15 +53,22 @@ pub root_thread-value : (name : List ℕ) → length name ≤ 31 → IsThreadRec
 unfolding new_thread
 root_thread-value name short = record { reserved_area = refl; parent = omega arith; name = short }
 
+length-laid : (key : CatKey) (body : List ℕ) → length (cat_leaf_bytes key ++ body) ≡ (length key.name + 8) / 2 * 2 + length body
+length-laid key body = omega (arith, length-append (cat_leaf_bytes key) body, length-cat_leaf_bytes key)
+
 length-root_record : (volume : Layout) → IsNewVolume volume → length (root_record volume) ≤ 108
 unfolding root_record
 length-root_record volume ok =
-    omega (arith, length-append (cat_leaf_bytes (record { parent = 1; name = volume.name })) (dir_record_bytes (root_directory volume.moment)), length-cat_leaf_bytes (record { parent = 1; name = volume.name }), length-dir_record_bytes (root_directory volume.moment) (root_directory-value volume.moment ok.moment))
+    let laid = length-laid (record { parent = 1; name = volume.name }) (dir_record_bytes (root_directory volume.moment)) in
+    let body = length-dir_record_bytes (root_directory volume.moment) (root_directory-value volume.moment ok.moment) in
+    omega (arith, laid, body, ok.name)
 
 length-root_thread : (volume : Layout) → IsNewVolume volume → length (root_thread volume) ≤ 84
 unfolding root_thread
 length-root_thread volume ok =
-    omega (arith, length-append (cat_leaf_bytes (record { parent = 2; name = [] })) (thread_record_bytes (new_thread Folder 1 volume.name)), length-cat_leaf_bytes (record { parent = 2; name = [] }), length-thread_record_bytes (new_thread Folder 1 volume.name) (root_thread-value volume.name (omega arith)))
+    let laid = length-laid (record { parent = 2; name = [] }) (thread_record_bytes (new_thread Folder 1 volume.name)) in
+    let body = length-thread_record_bytes (new_thread Folder 1 volume.name) (root_thread-value volume.name (omega (arith, ok.name))) in
+    omega (arith, laid, body)
 
 pub root_leaf-value : (volume : Layout) → IsNewVolume volume → IsNodeValue (root_leaf volume)
 unfolding root_leaf size_of

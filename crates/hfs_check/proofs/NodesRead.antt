@@ -145,7 +145,8 @@ front-whole node ok =
 pub length-node_bytes : (node : Node) → IsNodeValue node → length (node_bytes node) ≡ 512
 unfolding node_bytes
 length-node_bytes node ok =
-    omega (arith, length-append (descriptor_bytes node ++ joined node.records ++ replicate (496 - size_of node.records) 0) (offset_bytes node.records), front-whole node ok, length-offsets node.records (length node.records))
+    let front : List ℕ = descriptor_bytes node ++ joined node.records ++ replicate (496 - size_of node.records) 0 in
+    omega (arith, length-append front (offset_bytes node.records), front-whole node ok, length-offsets node.records (length node.records))
 
 -- and the node is read back from them
 pub node_of-node_bytes : (node : Node) → IsNodeValue node → node_of (node_bytes node) ≡ Ok node
