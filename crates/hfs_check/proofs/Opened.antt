@@ -20,7 +20,7 @@ use Rattle.hfs_check.specs.Faults.{◌or_fault◌, check_fault, extents_fault, e
 use Rattle.hfs_check.specs.Laws.{ExtentsFaults}
 use Rattle.hfs_check.specs.Trees.{LieIn}
 use Rattle.hfs_check.specs.Parts.{Blocks, mdb_in, extents_nodes, overflow_in, catalog_extents, catalog_nodes}
-use Rattle.hfs_check.specs.Refusal.{IsFaultOf, extents_tree_fault}
+use Rattle.hfs_check.specs.Answers.{IsFaultOf, extents_tree_fault}
 
 some_none : {A : Type 0} (x : A) → Some x ≡ None → ⊥
 some_none x e = cc

@@ -10,7 +10,7 @@ pub mod Faults
 pub mod VolumeOf
 pub mod Agree
 pub mod Laws
-pub mod Refusal
+pub mod Answers
 pub mod Report
 pub mod NewCatalog
 pub mod NewSpace

@@ -3,6 +3,7 @@
 
 mod bit_row;
 mod block_row;
+mod catalog_files;
 mod fault;
 mod format_laws;
 mod formatting;

@@ -3,12 +3,12 @@ ghost use Rattle.std.specs.Prelude.{◌≡◌, None, MatchResult, OnOk};
 ghost use Rattle.hfs_catalog.specs.Faults as catalog_spec;
 ghost use Rattle.hfs_btree.specs.Sound.{HasStructure};
 ghost use Rattle.hfs_catalog.specs.Tree.{cat_keys};
-ghost use Rattle.hfs_check.specs.Faults.{check_fault, catalog_name_fault};
-ghost use Rattle.hfs_check.specs.Refusal.{IsFaultOf};
+ghost use Rattle.hfs_check.specs.Faults.{check_fault, catalog_name_fault, catalog_place_fault};
+ghost use Rattle.hfs_check.specs.Answers.{IsFaultOf};
 
 use crate::mount_fault::MountFault;
-use hfs_btree::{Nodes, index_keys};
-use hfs_catalog::{count_fault, id_fault, name_fault, record_fault, valence_fault};
+use hfs_btree::{Nodes, index_keys, index_keys_in_order};
+use hfs_catalog::{count_fault, id_fault, name_fault, place_fault, record_fault, valence_fault};
 use hfs_fields::{CatKey, Mdb};
 use hfs_model::Bytes;
 use std::alloc::Global;
@@ -57,6 +57,21 @@ pub(crate) fn check_names<N: Nodes>(
 {
     let keys = index_keys::<CatKey, N>(alloc, nodes)?;
     answer_at(7, name_fault(&keys, records))
+}
+
+/// The check of order, parents and threads, of the records and of the order of the index keys.
+#[tactic(auto, unfolding(crate::specs::Faults::catalog_place_fault))]
+pub(crate) fn check_places<N: Nodes>(
+    alloc: Global,
+    nodes: &N,
+    records: &[(CatKey, Bytes)],
+) -> Result<(), MountFault>
+    requires { HasStructure cat_keys (N.nodes nodes.now) }
+    ensures { MatchResult result (λ _. check_fault 8 (catalog_place_fault (N.nodes nodes.now) records.now) ≡ None) (IsFaultOf (check_fault 8 (catalog_place_fault (N.nodes nodes.now) records.now))) }
+{
+    let in_order = index_keys_in_order::<CatKey, N>(nodes);
+    let place = place_fault(alloc, in_order, records)?;
+    answer_at(8, place)
 }
 
 /// The check of valences.

@@ -7,7 +7,7 @@ ghost use Rattle.hfs_btree.specs.Sound.{HasStructure, HasCounts, IsShaped};
 ghost use Rattle.hfs_space.specs.TreeKeys.{ext_keys};
 ghost use Rattle.hfs_catalog.specs.Tree.{cat_keys};
 ghost use Rattle.hfs_check.specs.Faults.{check_fault, is_fork_key};
-ghost use Rattle.hfs_check.specs.Refusal.{IsFaultOf, extents_tree_fault};
+ghost use Rattle.hfs_check.specs.Answers.{IsFaultOf, extents_tree_fault};
 
 use crate::mount_fault::MountFault;
 use hfs_btree::{KeyTest, Nodes, TreeFault, check_keys, check_order, check_shape};

@@ -8,7 +8,7 @@ ghost use Rattle.hfs_catalog.specs.Tree.{cat_keys};
 ghost use Rattle.hfs_check.specs.Parts.{mdb_in, extents_nodes, catalog_extents, catalog_nodes};
 ghost use Rattle.hfs_check.specs.Sound.{IsMdbSound, IsExtentsSound, IsCatalogFileSound};
 ghost use Rattle.hfs_check.specs.Faults.{check_fault, extents_fault, extents_counts, catalog_fault, catalog_counts, trees_fault};
-ghost use Rattle.hfs_check.specs.Refusal.{IsFaultOf};
+ghost use Rattle.hfs_check.specs.Answers.{IsFaultOf};
 ghost use Rattle.hfs_check.specs.Trees.{LieIn, AreTreesIn};
 
 use crate::laws::extents_faults;

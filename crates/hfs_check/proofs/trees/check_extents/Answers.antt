@@ -3,7 +3,7 @@ use Rattle.hfs_space.specs.TreeKeys.{ext_keys}
 use Rattle.hfs_btree.specs.Shape.{has_counts}
 use Rattle.hfs_btree.specs.Tree.{Store}
 use Rattle.hfs_check.specs.Faults.{extents_fault}
-use Rattle.hfs_check.specs.Refusal.{extents_tree_fault}
+use Rattle.hfs_check.specs.Answers.{extents_tree_fault}
 use Rattle.hfs_check.proofs.Opened.{Answers, extents_fault-right, extents_nodes-is, has-bytes}
 use Rattle.hfs_check.proofs.trees.check_extents.Goals as goal
 

@@ -12,6 +12,6 @@ returns-in_ok-check_extents-in-Some-clause-runs g c =
     let total = g.B.Blocks.total c.args.blocks.now in
     let blocks = g.B.Blocks.blocks c.args.blocks.now in
     let found = subst (λ o. MatchOption o (is_tree_file mdb mdb.extents_file mdb.extents_file_size ≡ false)
-        (λ runs. (is_tree_file mdb mdb.extents_file mdb.extents_file_size ≡ true) × LieIn total blocks runs.items (tree_nodes blocks mdb mdb.extents_file mdb.extents_file_size)))
-        c.in-Some.is c.in_ok-file_runs.ensures in
+    (λ runs. (is_tree_file mdb mdb.extents_file mdb.extents_file_size ≡ true) × LieIn total blocks runs.items (tree_nodes blocks mdb mdb.extents_file mdb.extents_file_size)))
+    c.in-Some.is c.in_ok-file_runs.ensures in
     extents_lie total blocks mdb c.in-Some.runs.items c.requires.is found.1
