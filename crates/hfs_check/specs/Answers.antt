@@ -6,7 +6,14 @@ use Rattle.hfs_btree.specs.Shape.{shape_fault, ◌or_else◌}
 use Rattle.hfs_btree.specs.Tree.{Store}
 use Rattle.hfs_space.specs.declared.files.CatalogFile.{CatalogFile}
 use Rattle.hfs_space.specs.TreeKeys.{ext_keys}
-use Rattle.hfs_check.specs.Faults.{is_fork_key}
+use Rattle.hfs_fields.specs.declared.mdb.Mdb.{Mdb}
+use Rattle.hfs_space.specs.Extents.{Overflow}
+use Rattle.hfs_space.specs.Faults.{fork_fault, space_fault}
+use Rattle.hfs_space.specs.Owners.{owned_blocks}
+use Rattle.hfs_catalog.specs.Records.{Catalog}
+use Rattle.hfs_catalog.specs.Faults.{record_fault, id_fault, valence_fault, count_fault}
+use Rattle.hfs_check.specs.Parts.{Blocks}
+use Rattle.hfs_check.specs.Faults.{◌or_fault◌, check_fault, catalog_name_fault, catalog_place_fault, is_fork_key}
 use Rattle.hfs_check.specs.declared.mount_fault.MountFault.{MountFault}
 use Rattle.hfs_check.specs.declared.mount_fault.MountFault.TheVariants.{Memory}
 
@@ -21,3 +28,15 @@ extents_tree_fault size nodes = shape_fault ext_keys size nodes or_else key_faul
 -- a file's record with its number, where the body is one
 abbrev pub numbered_file : ℕ → List ℕ → Option CatalogFile
 numbered_file number body = if is_file body then Some (record { number = number; file = file_record_of body }) else None
+
+-- the first fault of a catalog's records, which lie in these nodes, on a volume whose next ID this is
+abbrev pub listed_fault : ℕ → Store → Catalog → Option MountFault
+listed_fault next nodes catalog =
+    check_fault 5 (record_fault catalog) or_fault check_fault 6 (id_fault next catalog) or_fault check_fault 7 (catalog_name_fault nodes catalog)
+    or_fault check_fault 8 (catalog_place_fault nodes catalog)
+
+-- the first fault of the numbers that are counted, and of the space
+abbrev pub counted_fault : Blocks → Mdb → Overflow → Catalog → Option MountFault
+counted_fault blocks mdb overflow catalog =
+    check_fault 9 (valence_fault catalog) or_fault check_fault 10 (count_fault mdb catalog) or_fault check_fault 11 (fork_fault mdb overflow catalog)
+    or_fault check_fault 12 (space_fault blocks mdb (owned_blocks mdb overflow catalog))

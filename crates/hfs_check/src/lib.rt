@@ -13,6 +13,7 @@ mod mdb_block;
 mod mdb_check;
 mod mount_fault;
 mod node_block;
+mod number_checks;
 mod plan;
 mod record_checks;
 mod report;

@@ -4,7 +4,7 @@ ghost use Rattle.hfs_catalog.specs.Faults as catalog_spec;
 ghost use Rattle.hfs_btree.specs.Sound.{HasStructure};
 ghost use Rattle.hfs_catalog.specs.Tree.{cat_keys};
 ghost use Rattle.hfs_check.specs.Faults.{check_fault, catalog_name_fault, catalog_place_fault};
-ghost use Rattle.hfs_check.specs.Answers.{IsFaultOf};
+ghost use Rattle.hfs_check.specs.Answers.{IsFaultOf, listed_fault};
 
 use crate::mount_fault::MountFault;
 use hfs_btree::{Nodes, index_keys, index_keys_in_order};
@@ -87,4 +87,20 @@ pub(crate) fn check_counts(mdb: &Mdb, records: &[(CatKey, Bytes)]) -> Result<(),
     ensures { MatchResult result (λ _. check_fault 10 (catalog_spec.count_fault mdb.now records.now) ≡ None) (IsFaultOf (check_fault 10 (catalog_spec.count_fault mdb.now records.now))) }
 {
     answer_at(10, count_fault(mdb, records))
+}
+
+/// The checks of records, IDs, names, and of order, parents and threads, in this order, on a volume whose next ID is `next`.
+pub(crate) fn check_catalog_records<N: Nodes>(
+    alloc: Global,
+    next: u32,
+    nodes: &N,
+    records: &[(CatKey, Bytes)],
+) -> Result<(), MountFault>
+    requires { HasStructure cat_keys (N.nodes nodes.now) }
+    ensures { MatchResult result (λ _. listed_fault next (N.nodes nodes.now) records.now ≡ None) (IsFaultOf (listed_fault next (N.nodes nodes.now) records.now)) }
+{
+    check_records(records)?;
+    check_ids(alloc, next, records)?;
+    check_names(alloc, nodes, records)?;
+    check_places(alloc, nodes, records)
 }
