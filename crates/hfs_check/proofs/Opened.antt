@@ -13,14 +13,16 @@ use Rattle.hfs_space.specs.Owners.{catalog_fork}
 use Rattle.hfs_space.specs.Laws.{TreeFiles}
 use Rattle.hfs_space.specs.TreeFiles.{tree_nodes}
 use Rattle.hfs_space.specs.TreeKeys.{ext_keys, IsExtentsTree, overflow_of}
-use Rattle.hfs_catalog.specs.Tree.{cat_keys}
+use Rattle.hfs_btree.specs.Sound.{IsShaped}
+use Rattle.hfs_catalog.specs.Records.{Catalog}
+use Rattle.hfs_catalog.specs.Tree.{cat_keys, catalog_of}
 use Rattle.hfs_check.specs.declared.mount_fault.MountFault.{MountFault}
 use Rattle.hfs_check.specs.declared.mount_fault.MountFault.TheVariants as fault
-use Rattle.hfs_check.specs.Faults.{◌or_fault◌, check_fault, extents_fault, extents_counts, catalog_fault, catalog_counts, trees_fault}
-use Rattle.hfs_check.specs.Laws.{ExtentsFaults}
+use Rattle.hfs_check.specs.Faults.{◌or_fault◌, check_fault, extents_fault, extents_counts, catalog_fault, catalog_counts, trees_fault, records_fault, numbers_fault, mdb_fault, blocks_fault}
+use Rattle.hfs_check.specs.Laws.{ExtentsFaults, CatalogFaults}
 use Rattle.hfs_check.specs.Trees.{LieIn}
-use Rattle.hfs_check.specs.Parts.{Blocks, mdb_in, extents_nodes, overflow_in, catalog_extents, catalog_nodes}
-use Rattle.hfs_check.specs.Answers.{IsFaultOf, extents_tree_fault}
+use Rattle.hfs_check.specs.Parts.{Blocks, mdb_in, extents_nodes, overflow_in, catalog_extents, catalog_nodes, catalog_in, owned_in}
+use Rattle.hfs_check.specs.Answers.{IsFaultOf, extents_tree_fault, contents_fault, behind_trees_fault}
 
 some_none : {A : Type 0} (x : A) → Some x ≡ None → ⊥
 some_none x e = cc
@@ -87,6 +89,10 @@ first-fault a b answer (inr e) = inr (ap (λ (o : Option MountFault). o or_fault
 pub later-fault : (a b : Option MountFault) (answer : MountFault) → a ≡ None → IsFaultOf b answer → IsFaultOf (a or_fault b) answer
 later-fault a b answer none h = subst (λ (o : Option MountFault). IsFaultOf (o or_fault b) answer) (sym none) h
 
+pub none-parts : (a b : Option MountFault) → (a or_fault b) ≡ None → (a ≡ None) × (b ≡ None)
+none-parts None b e = (refl, e)
+none-parts (Some x) b e = absurd (some_none x e)
+
 pub no-fault : (a b : Option MountFault) → a ≡ None → b ≡ None → (a or_fault b) ≡ None
 no-fault a b none e = ap (λ (o : Option MountFault). o or_fault b) none ∙ e
 
@@ -136,3 +142,60 @@ pub extents_tree_sound : ExtentsFaults → (blocks : Blocks) (mdb : Mdb) → che
 extents_tree_sound law blocks mdb none =
     let sound = (law mdb (extents_nodes blocks)).0 (no-place 3 _ none) in
     record { structure = sound.shape.structure; counts = sound.shape.counts; ordered = sound.ordered }
+
+-- ---- behind the trees
+
+pub contents-are : (blocks : Blocks) (mdb : Mdb) (extents catalog : Store) → mdb ≡ mdb_in blocks → extents ≡ extents_nodes blocks → catalog ≡ catalog_nodes blocks
+    → contents_fault blocks mdb extents catalog ≡ behind_trees_fault blocks
+unfolding records_fault numbers_fault catalog_in overflow_in owned_in
+contents-are blocks mdb extents catalog is e f = λ i. contents_fault blocks (is i) (e i) (f i)
+
+-- the catalog tree of a volume whose trees have no fault has its shape
+pub catalog_tree_shaped : CatalogFaults → (blocks : Blocks) → trees_fault (extents_counts blocks) (catalog_counts blocks) blocks ≡ None
+    → IsShaped cat_keys (mdb_in blocks).catalog_file_size (catalog_nodes blocks)
+unfolding trees_fault
+catalog_tree_shaped law blocks none =
+    let two = none-parts (check_fault 3 (extents_fault (extents_counts blocks) (mdb_in blocks) (extents_nodes blocks))) (check_fault 4 (catalog_fault (catalog_counts blocks) (mdb_in blocks) (catalog_extents blocks) (catalog_nodes blocks))) none in
+    ((law (mdb_in blocks) (catalog_extents blocks) (catalog_nodes blocks)).0 (no-place 4 _ two.1)).shape
+
+pub extents_tree_whole : ExtentsFaults → (blocks : Blocks) → trees_fault (extents_counts blocks) (catalog_counts blocks) blocks ≡ None
+    → IsExtentsTree (extents_nodes blocks)
+unfolding trees_fault
+extents_tree_whole law blocks none =
+    let two = none-parts (check_fault 3 (extents_fault (extents_counts blocks) (mdb_in blocks) (extents_nodes blocks))) (check_fault 4 (catalog_fault (catalog_counts blocks) (mdb_in blocks) (catalog_extents blocks) (catalog_nodes blocks))) none in
+    extents_tree_sound law blocks (mdb_in blocks) two.0
+
+-- ---- the whole
+
+module _ (total : ℕ) (blocks : Blocks) where
+  abbrev mdb_place : Option MountFault
+  mdb_place = mdb_fault total (mdb_in blocks)
+
+  abbrev trees_place : Option MountFault
+  trees_place = trees_fault (extents_counts blocks) (catalog_counts blocks) blocks
+
+  whole : (mdb_place or_fault (trees_place or_fault behind_trees_fault blocks)) ≡ blocks_fault total blocks
+  unfolding blocks_fault
+  whole = refl
+
+  pub mdb_wrong : (mdb : Mdb) (answer : MountFault) → mdb ≡ mdb_in blocks → mdb_fault total mdb ≡ Some answer → IsFaultOf (blocks_fault total blocks) answer
+  mdb_wrong mdb answer is e =
+      subst (λ (o : Option MountFault). IsFaultOf o answer) whole
+      (first-fault mdb_place (trees_place or_fault behind_trees_fault blocks) answer (inr (sym (ap (mdb_fault total) is) ∙ e)))
+
+  pub trees_wrong : (mdb : Mdb) (answer : MountFault) → mdb ≡ mdb_in blocks → mdb_fault total mdb ≡ None
+      → IsFaultOf (trees_fault (extents_counts blocks) (catalog_counts blocks) blocks) answer → IsFaultOf (blocks_fault total blocks) answer
+  trees_wrong mdb answer is e h =
+      subst (λ (o : Option MountFault). IsFaultOf o answer) whole
+      (later-fault mdb_place (trees_place or_fault behind_trees_fault blocks) answer (sym (ap (mdb_fault total) is) ∙ e) (first-fault trees_place (behind_trees_fault blocks) answer h))
+
+  pub behind_wrong : (mdb : Mdb) (answer : MountFault) → mdb ≡ mdb_in blocks → mdb_fault total mdb ≡ None
+      → trees_fault (extents_counts blocks) (catalog_counts blocks) blocks ≡ None → IsFaultOf (behind_trees_fault blocks) answer → IsFaultOf (blocks_fault total blocks) answer
+  behind_wrong mdb answer is e none h =
+      subst (λ (o : Option MountFault). IsFaultOf o answer) whole
+      (later-fault mdb_place (trees_place or_fault behind_trees_fault blocks) answer (sym (ap (mdb_fault total) is) ∙ e) (later-fault trees_place (behind_trees_fault blocks) answer none h))
+
+  pub all_right : (mdb : Mdb) → mdb ≡ mdb_in blocks → mdb_fault total mdb ≡ None
+      → trees_fault (extents_counts blocks) (catalog_counts blocks) blocks ≡ None → behind_trees_fault blocks ≡ None → blocks_fault total blocks ≡ None
+  all_right mdb is e none behind =
+      sym whole ∙ no-fault mdb_place (trees_place or_fault behind_trees_fault blocks) (sym (ap (mdb_fault total) is) ∙ e) (no-fault trees_place (behind_trees_fault blocks) none behind)

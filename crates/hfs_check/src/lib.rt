@@ -4,6 +4,7 @@
 mod bit_row;
 mod block_row;
 mod catalog_files;
+mod checking;
 mod fault;
 mod format_laws;
 mod formatting;

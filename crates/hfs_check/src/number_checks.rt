@@ -56,6 +56,7 @@ fn check_space<B: Blocks>(
 }
 
 /// The checks of valences, counts, extents and space, in this order.
+#[tactic(auto, unfolding(hfs_space::specs::Owners::owned_blocks))]
 pub(crate) fn check_numbers<B: Blocks, N: Nodes>(
     alloc: Global,
     blocks: &B,
