@@ -1,8 +1,10 @@
 -- The check of a tree in its file, and the check of the tree alone.
-use Rattle.std.proofs.Common.{◌≡◌, ℕ, ◌*◌, ◌≤◌, Bool, true, false, List, length, Option, Some, None, refl, sym, ap, subst, ◌∙◌, inl, inr}
+use Rattle.std.proofs.Common.{◌≡◌, ℕ, ◌*◌, ◌≤◌, ◌<◌, Bool, true, false, List, length, Option, Some, None, refl, sym, ap, subst, ◌∙◌, inl, inr}
 use Rattle.std.specs.Prelude.{◌↔◌, ◌%◌, ⊤, MatchResult, Result}
 use Rattle.hfs_fields.specs.declared.mdb.Mdb.{Mdb}
 use Rattle.hfs_fields.specs.declared.extent.Extent.{Extent}
+use Rattle.std.proofs.lemmas.Bool.{le-leb, lt-leb}
+use Rattle.hfs_btree.specs.Blocks.{block_at, block_count}
 use Rattle.hfs_btree.specs.Shape.{unless, ◌or_else◌, has_counts, shape_fault}
 use Rattle.hfs_btree.specs.Tree.{Store}
 use Rattle.hfs_btree.specs.declared.run.Run.{Run}
@@ -18,7 +20,7 @@ use Rattle.hfs_catalog.specs.Records.{Catalog}
 use Rattle.hfs_catalog.specs.Tree.{cat_keys, catalog_of}
 use Rattle.hfs_check.specs.declared.mount_fault.MountFault.{MountFault}
 use Rattle.hfs_check.specs.declared.mount_fault.MountFault.TheVariants as fault
-use Rattle.hfs_check.specs.Faults.{◌or_fault◌, check_fault, extents_fault, extents_counts, catalog_fault, catalog_counts, trees_fault, records_fault, numbers_fault, mdb_fault, blocks_fault}
+use Rattle.hfs_check.specs.Faults.{◌or_fault◌, check_fault, extents_fault, extents_counts, catalog_fault, catalog_counts, trees_fault, records_fault, numbers_fault, length_fault, mdb_fault, blocks_fault, fault_of}
 use Rattle.hfs_check.specs.Laws.{ExtentsFaults, CatalogFaults}
 use Rattle.hfs_check.specs.Trees.{LieIn}
 use Rattle.hfs_check.specs.Parts.{Blocks, mdb_in, extents_nodes, overflow_in, catalog_extents, catalog_nodes, catalog_in, owned_in}
@@ -199,3 +201,25 @@ module _ (total : ℕ) (blocks : Blocks) where
       → trees_fault (extents_counts blocks) (catalog_counts blocks) blocks ≡ None → behind_trees_fault blocks ≡ None → blocks_fault total blocks ≡ None
   all_right mdb is e none behind =
       sym whole ∙ no-fault mdb_place (trees_place or_fault behind_trees_fault blocks) (sym (ap (mdb_fault total) is) ∙ e) (no-fault trees_place (behind_trees_fault blocks) none behind)
+
+module _ (image : List ℕ) where
+  pub image_large : 2147483648 < length image → IsFaultOf (fault_of image) fault.TooLarge
+  unfolding fault_of length_fault
+  image_large h = let no = lt-leb (length image) 2147483648 h in inr (rw no refl)
+
+  pub image_short : length image ≤ 2147483648 → length image < 1536 → IsFaultOf (fault_of image) fault.Short
+  unfolding fault_of length_fault
+  image_short most h = let yes = le-leb (length image) 2147483648 most in let no = lt-leb 1536 (length image) h in inr (rw (yes, no) refl)
+
+  right-length : length image ≤ 2147483648 → 1536 ≤ length image → length_fault (length image) ≡ None
+  unfolding length_fault
+  right-length most least = let yes = le-leb (length image) 2147483648 most in let some = le-leb 1536 (length image) least in rw (yes, some) refl
+
+  pub image_wrong : (answer : MountFault) → length image ≤ 2147483648 → 1536 ≤ length image → IsFaultOf (blocks_fault (block_count image) (block_at image)) answer
+      → IsFaultOf (fault_of image) answer
+  unfolding fault_of
+  image_wrong answer most least h = later-fault (length_fault (length image)) (blocks_fault (block_count image) (block_at image)) answer (right-length most least) h
+
+  pub image_right : length image ≤ 2147483648 → 1536 ≤ length image → blocks_fault (block_count image) (block_at image) ≡ None → fault_of image ≡ None
+  unfolding fault_of
+  image_right most least e = no-fault (length_fault (length image)) (blocks_fault (block_count image) (block_at image)) (right-length most least) e

@@ -83,7 +83,7 @@ pub struct SoundVolume {
 /// `MountFault` says, and `MountFault::Memory` where memory was refused.
 ///
 /// Source: Inside Macintosh: Files, chapter 2, 'Data Organization on Volumes'; docs/CHECKS.md has the checks.
-#[tactic(auto, using(crate::proofs::Opened::mdb_wrong, crate::proofs::Opened::trees_wrong, crate::proofs::Opened::behind_wrong, crate::proofs::Opened::all_right))]
+#[tactic(auto, using(crate::proofs::Opened::all_right))]
 pub fn check_blocks<B: Blocks>(alloc: Global, blocks: &B) -> Result<SoundVolume, MountFault>
     requires { 3 ≤ B.total blocks.now }
     ensures right { OnOk result (blocks_fault (B.total blocks.now) (B.blocks blocks.now) ≡ None) }
@@ -101,4 +101,28 @@ pub fn check_blocks<B: Blocks>(alloc: Global, blocks: &B) -> Result<SoundVolume,
     let trees = open_trees(alloc, blocks, &mdb)?;
     check_behind_trees(alloc, blocks, &mdb, &trees)?;
     Ok(SoundVolume { mdb, trees })
+}
+
+/// Makes all checks of an image, in their order. What follows its last whole block belongs to no check.
+///
+/// Errors: the first check that fails, as `MountFault` says, and `MountFault::Memory` where memory was refused.
+///
+/// Source: Inside Macintosh: Files, chapter 2, 'Data Organization on Volumes'; docs/CHECKS.md has the checks.
+#[tactic(auto, using(crate::proofs::Opened::image_large, crate::proofs::Opened::image_short, crate::proofs::Opened::image_wrong, crate::proofs::Opened::image_right))]
+pub fn check_image(alloc: Global, image: &[u8]) -> Result<SoundVolume, MountFault>
+    ensures right { OnOk result (fault_of image.now ≡ None) }
+    ensures sound { OnOk result (IsSound image.now) }
+    ensures mdb { IfOk result (λ volume. volume.mdb ≡ mdb_in (block_at image.now)) }
+    ensures trees { IfOk result (λ volume. AreTreesIn (block_count image.now) (block_at image.now) volume.trees.extents.items volume.trees.catalog_file.items volume.trees.catalog.items) }
+    ensures wrong { IfErr result (IsFaultOf (fault_of image.now)) }
+{
+    image_faults();
+    if image.len() > 2_147_483_648 {
+        return Err(MountFault::TooLarge);
+    }
+    if image.len() < 1_536 {
+        return Err(MountFault::Short);
+    }
+    let blocks = ImageBytes { bytes: image };
+    check_blocks(alloc, &blocks)
 }
