@@ -1,6 +1,6 @@
 -- The check of a tree in its file, and the check of the tree alone.
 use Rattle.std.proofs.Common.{◌≡◌, ℕ, ◌*◌, ◌≤◌, ◌<◌, Bool, true, false, List, length, Option, Some, None, refl, sym, ap, subst, ◌∙◌, inl, inr}
-use Rattle.std.specs.Prelude.{◌↔◌, ◌%◌, ⊤, MatchResult, Result}
+use Rattle.std.specs.Prelude.{◌↔◌, ◌%◌, ⊤, MatchResult, IfErr, Result, Ok, Err}
 use Rattle.hfs_fields.specs.declared.mdb.Mdb.{Mdb}
 use Rattle.hfs_fields.specs.declared.extent.Extent.{Extent}
 use Rattle.std.proofs.lemmas.Bool.{le-leb, lt-leb}
@@ -223,3 +223,7 @@ module _ (image : List ℕ) where
   pub image_right : length image ≤ 2147483648 → 1536 ≤ length image → blocks_fault (block_count image) (block_at image) ≡ None → fault_of image ≡ None
   unfolding fault_of
   image_right most least e = no-fault (length_fault (length image)) (blocks_fault (block_count image) (block_at image)) (right-length most least) e
+
+pub err-mono : {A E : Type 0} (P Q : E → Type 0) → ((e : E) → P e → Q e) → (r : Result A E) → IfErr r P → IfErr r Q
+err-mono P Q f (Ok x) h = tt
+err-mono P Q f (Err e) h = f e h

@@ -23,6 +23,7 @@ mod tree_checks;
 mod tree_header;
 mod trees;
 
+pub use crate::checking::{SoundVolume, check_blocks, check_image};
 pub use crate::fault::FormatFault;
 pub use crate::format_laws::{new_images_are_sound, new_images_hold_new_volumes};
 pub use crate::formatting::format;
@@ -34,6 +35,7 @@ pub use crate::laws::{
 pub use crate::mount_fault::MountFault;
 pub use crate::plan::FormatPlan;
 pub use crate::report::{Alternate, Report};
+pub use crate::trees::VolumeTrees;
 
 #[cfg(test)]
 mod tests;
