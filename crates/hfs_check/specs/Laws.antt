@@ -1,18 +1,20 @@
 -- What holds of the checks of an image. Each statement is what a function of src/laws.rt ensures.
-use Rattle.std.specs.Prelude.{◌≡◌, ℕ, ◌↔◌, List, None}
+use Rattle.std.specs.Prelude.{◌≡◌, ℕ, ◌/◌, ◌↔◌, List, slice_index, None}
 use Rattle.hfs_fields.specs.declared.mdb.Mdb.{Mdb}
 use Rattle.hfs_fields.specs.declared.extent.Extent.{Extent}
 use Rattle.hfs_btree.specs.Tree.{Store}
+use Rattle.hfs_btree.specs.Blocks.{block_at}
 use Rattle.hfs_btree.specs.Shape.{has_counts}
-use Rattle.hfs_space.specs.TreeKeys.{ext_keys}
+use Rattle.hfs_space.specs.TreeKeys.{ext_keys, IsExtentsTree}
 use Rattle.hfs_catalog.specs.Records.{Catalog}
-use Rattle.hfs_catalog.specs.Tree.{cat_keys}
+use Rattle.hfs_catalog.specs.Tree.{cat_keys, IsCatalogTree}
+use Rattle.hfs_catalog.specs.Sound.{IsSoundCatalog}
 use Rattle.hfs_model.specs.Lawful.{IsLawful}
-use Rattle.hfs_check.specs.Parts.{Blocks}
+use Rattle.hfs_check.specs.Parts.{Blocks, mdb_in, extents_nodes, catalog_nodes, catalog_in}
 use Rattle.hfs_check.specs.Sound.{IsImageLength, IsMdbSound, IsExtentsSound, IsCatalogFileSound, AreCatalogNamesSound, AreCatalogPlacesSound, AreBlocksSound, IsSound}
 use Rattle.hfs_check.specs.Faults.{length_fault, mdb_fault, extents_fault, catalog_fault, catalog_name_fault, catalog_place_fault, blocks_fault, fault_of}
 use Rattle.hfs_check.specs.VolumeOf.{volume_of}
-use Rattle.hfs_check.specs.Agree.{Agrees}
+use Rattle.hfs_check.specs.Agree.{IsBeside, Agrees}
 
 -- ---- a check finds no fault exactly where its facts hold
 
@@ -44,9 +46,17 @@ BlocksFaults = (total : ℕ) (blocks : Blocks) → (blocks_fault total blocks �
 abbrev pub ImageFaults : Type 0
 ImageFaults = (image : List ℕ) → (fault_of image ≡ None) ↔ IsSound image
 
--- ---- the volume of an image
+-- ---- a sound volume
 
--- a sound image holds a lawful volume
+-- its trees are sound
+abbrev pub TreesAreSound : Type 0
+TreesAreSound = (total : ℕ) (blocks : Blocks) → AreBlocksSound total blocks → IsExtentsTree (extents_nodes blocks) × IsCatalogTree (catalog_nodes blocks)
+
+-- its catalog is sound
+abbrev pub CatalogIsSound : Type 0
+CatalogIsSound = (total : ℕ) (blocks : Blocks) → AreBlocksSound total blocks → IsSoundCatalog (mdb_in blocks).next_id (catalog_in blocks)
+
+-- a sound image holds a lawful one
 abbrev pub SoundImagesAreLawful : Type 0
 SoundImagesAreLawful = (image : List ℕ) → IsSound image → IsLawful (volume_of image)
 
@@ -59,3 +69,7 @@ AgreesWithItself = (image : List ℕ) → IsSound image → Agrees image image
 -- what agrees with an image that agrees with the base agrees with the base
 abbrev pub AgreesOn : Type 0
 AgreesOn = (base middle image : List ℕ) → Agrees base middle → Agrees middle image → Agrees base image
+
+-- a byte of the image in no block that calls change is the base's, and so is each byte behind the last whole block
+abbrev pub BytesStay : Type 0
+BytesStay = (base image : List ℕ) → Agrees base image → (k : ℕ) → IsBeside (block_at base) (k / 512) → slice_index image k ≡ slice_index base k

@@ -5,6 +5,7 @@ mod bit_row;
 mod block_row;
 mod fault;
 mod formatting;
+mod laws;
 mod layout;
 mod mdb_block;
 mod mdb_check;
@@ -16,6 +17,11 @@ mod tree_header;
 
 pub use crate::fault::FormatFault;
 pub use crate::formatting::format;
+pub use crate::laws::{
+    agrees_on, agrees_with_itself, blocks_faults, bytes_stay, catalog_faults, catalog_is_sound,
+    catalog_name_faults, catalog_place_faults, extents_faults, image_faults, length_faults,
+    mdb_faults, sound_images_are_lawful, trees_are_sound,
+};
 pub use crate::mount_fault::MountFault;
 pub use crate::plan::FormatPlan;
 
