@@ -1,0 +1,8 @@
+//! A mounted volume: its image as it was opened and as it is, and the calls of the File Manager on it.
+#![tactic(auto)]
+
+mod base;
+mod image;
+
+pub use base::Base;
+pub use image::{Image, ImageBlocks};
