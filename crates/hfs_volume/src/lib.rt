@@ -3,6 +3,8 @@
 
 mod base;
 mod image;
+mod reading;
+mod reply;
 
 pub use base::Base;
 pub use image::{Image, ImageBlocks};
