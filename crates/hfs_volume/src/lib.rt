@@ -3,8 +3,12 @@
 
 mod base;
 mod image;
+mod laws;
 mod reading;
 mod reply;
+mod volume;
 
 pub use base::Base;
 pub use image::{Image, ImageBlocks};
+pub use laws::catalog_answers;
+pub use volume::Volume;

@@ -55,3 +55,52 @@ pub(crate) fn get_cat_info<N: Nodes>(nodes: &N, dir: u32, name: &[u8]) -> Reply
         None => refusal(NOT_FOUND),
     }
 }
+
+/// What is told of the folder's children, in name order.
+fn infos<N: Nodes>(alloc: Global, nodes: &N, dir: u32) -> Result<Vec<Info>, AllocError>
+    requires { IsCatalog (N.nodes nodes.now) }
+    ensures { IfOk result (λ infos. infos.items ≡ child_infos (catalog_of (N.nodes nodes.now)) dir) }
+{
+    let items = children(alloc, nodes, dir)?;
+    let mut infos = Vec::with_capacity(alloc, items.len())?;
+    for item in &items {
+        infos.push(item_info(nodes, item))?;
+    }
+    Ok(infos)
+}
+
+/// What is told of the folder's child at that place in name order, counted from 1.
+pub(crate) fn get_indexed<N: Nodes>(
+    alloc: Global,
+    nodes: &N,
+    dir: u32,
+    index: u32,
+) -> Result<Reply, AllocError>
+    requires { IsCatalog (N.nodes nodes.now) }
+    ensures { IfOk result (λ reply. reply ≡ indexed (catalog_of (N.nodes nodes.now)) dir index) }
+{
+    if index == 0 {
+        return Ok(refusal(PARAMETER));
+    }
+    if folder(nodes, dir).is_none() {
+        return Ok(refusal(NOT_A_FOLDER));
+    }
+    let items = children(alloc, nodes, dir)?;
+    let at = (index - 1) as usize;
+    if at >= items.len() {
+        return Ok(refusal(NOT_FOUND));
+    }
+    Ok(success(Value::One(item_info(nodes, &items[at]))))
+}
+
+/// What is told of all the folder's children, in name order.
+pub(crate) fn list<N: Nodes>(alloc: Global, nodes: &N, dir: u32) -> Result<Reply, AllocError>
+    requires { IsCatalog (N.nodes nodes.now) }
+    ensures { IfOk result (λ reply. reply ≡ listed (catalog_of (N.nodes nodes.now)) dir) }
+{
+    if folder(nodes, dir).is_none() {
+        return Ok(refusal(NOT_A_FOLDER));
+    }
+    let infos = infos(alloc, nodes, dir)?;
+    Ok(success(Value::Many(Infos::new(infos))))
+}
