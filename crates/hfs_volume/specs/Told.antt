@@ -1,8 +1,8 @@
 -- What the calls that read answer, by the records of a catalog.
-use Rattle.std.specs.Prelude.{ℕ, ◌-◌, Bool, true, false, not, is_some, ◌==◌, if◌then◌else◌, List, ◌++◌, map, slice_get, Option, Some, None}
+use Rattle.std.specs.Prelude.{ℕ, ℤ, ◌-◌, Bool, true, false, not, is_some, ◌==◌, if◌then◌else◌, List, ◌++◌, map, slice_get, Option, Some, None, Result, Ok, Err}
 use Rattle.std.specs.Option.{option_map_or, option_and_then}
 use Rattle.hfs_fields.specs.Names.{is_item_name}
-use Rattle.hfs_fields.specs.Records.{is_dir, is_bit_set}
+use Rattle.hfs_fields.specs.Records.{is_dir, is_bit_set, file_record_of}
 use Rattle.hfs_fields.specs.declared.key.CatKey.{CatKey}
 use Rattle.hfs_fields.specs.declared.dir_record.DirRecord.{DirRecord}
 use Rattle.hfs_fields.specs.declared.file_record.FileRecord.{FileRecord}
@@ -112,3 +112,17 @@ abbrev pub listed : Catalog → ℕ → Reply
 listed catalog dir =
     if not (is_folder catalog dir) then refusal NOT_A_FOLDER
     else success (value.Many (child_infos catalog dir))
+
+-- ---- forks
+
+-- -43 of a folder, and where there is nothing
+abbrev pub only_file : Option Record → Result FileRecord ℤ
+only_file None = Err NOT_FOUND
+only_file (Some r) = if is_dir r.1 then Err NOT_FOUND else Ok (file_record_of r.1)
+
+-- the record of the folder's file of that name: -37, -120, -43
+abbrev pub file_named : Catalog → ℕ → List ℕ → Result FileRecord ℤ
+file_named catalog dir name =
+    if not (is_item_name name) then Err BAD_NAME
+    else if not (is_folder catalog dir) then Err NOT_A_FOLDER
+    else only_file (child_named catalog dir name)

@@ -2,6 +2,7 @@
 #![tactic(auto)]
 
 mod base;
+mod fork;
 mod image;
 mod laws;
 mod reading;

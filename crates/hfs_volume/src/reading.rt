@@ -4,12 +4,12 @@ ghost use Rattle.std.specs.Prelude.{◌≡◌, IfOk, map};
 ghost use Rattle.std.specs.Option.{option_map};
 ghost use Rattle.hfs_catalog.specs.Lookups.{catalog_item};
 ghost use Rattle.hfs_catalog.specs.Tree.{catalog_of};
-ghost use Rattle.hfs_volume.specs.Told.{IsCatalog, folder_with, dir_info, cat_info, child_infos, indexed, listed};
+ghost use Rattle.hfs_volume.specs.Told.{IsCatalog, folder_with, dir_info, cat_info, child_infos, indexed, listed, file_named};
 
 use crate::reply::{item_info, refusal, success};
 use hfs_btree::Nodes;
 use hfs_catalog::{CatalogItem, ItemRecord, by_id, children, lookup, thread};
-use hfs_fields::Name;
+use hfs_fields::{FileRecord, Name};
 use hfs_model::{BAD_NAME, Info, Infos, NOT_A_FOLDER, NOT_FOUND, PARAMETER, Reply, Value};
 use std::alloc::{AllocError, Global};
 
@@ -103,4 +103,24 @@ pub(crate) fn list<N: Nodes>(alloc: Global, nodes: &N, dir: u32) -> Result<Reply
     }
     let infos = infos(alloc, nodes, dir)?;
     Ok(success(Value::Many(Infos::new(infos))))
+}
+
+/// The record of the folder's file of that name, or the code that refuses it: -43 where the item is a folder.
+pub(crate) fn file_named<N: Nodes>(nodes: &N, dir: u32, name: &[u8]) -> Result<FileRecord, i16>
+    requires { IsCatalog (N.nodes nodes.now) }
+    ensures { result ≡ file_named (catalog_of (N.nodes nodes.now)) dir name.now }
+{
+    let Some(name) = Name::new(name) else {
+        return Err(BAD_NAME);
+    };
+    if folder(nodes, dir).is_none() {
+        return Err(NOT_A_FOLDER);
+    }
+    let Some(item) = lookup(nodes, dir, &name) else {
+        return Err(NOT_FOUND);
+    };
+    match item.body {
+        ItemRecord::Folder(_) => Err(NOT_FOUND),
+        ItemRecord::File(file) => Ok(file),
+    }
 }

@@ -51,4 +51,46 @@ impl Volume {
         };
         reading::get_dir_info(&catalog, dir)
     }
+
+    /// What is told of the folder's item of that name, whatever its case: -37 where the name isn't an item name, -120 where
+    /// `dir` isn't the ID of a folder, -43 where it holds no item of that name.
+    pub fn get_cat_info(&self, dir: u32, name: &[u8]) -> Reply
+        ensures { result ≡ get_cat_info (entries_of (volume_of self.now.current)) dir name.now }
+    {
+        catalog_answers();
+        let blocks = self.image.blocks();
+        let catalog = RunNodes {
+            blocks: &blocks,
+            runs: &self.catalog,
+        };
+        reading::get_cat_info(&catalog, dir, name)
+    }
+
+    /// What is told of the folder's child at that place in name order, counted from 1: -50 where `index` is 0, -120 where
+    /// `dir` isn't the ID of a folder, -43 where the folder has fewer children. The only error is want of memory.
+    pub fn get_indexed(&self, alloc: Global, dir: u32, index: u32) -> Result<Reply, AllocError>
+        ensures { IfOk result (λ reply. reply ≡ get_indexed (entries_of (volume_of self.now.current)) dir index) }
+    {
+        catalog_answers();
+        let blocks = self.image.blocks();
+        let catalog = RunNodes {
+            blocks: &blocks,
+            runs: &self.catalog,
+        };
+        reading::get_indexed(alloc, &catalog, dir, index)
+    }
+
+    /// What is told of all the folder's children, in name order: -120 where `dir` isn't the ID of a folder. The only error
+    /// is want of memory.
+    pub fn list(&self, alloc: Global, dir: u32) -> Result<Reply, AllocError>
+        ensures { IfOk result (λ reply. reply ≡ list (entries_of (volume_of self.now.current)) dir) }
+    {
+        catalog_answers();
+        let blocks = self.image.blocks();
+        let catalog = RunNodes {
+            blocks: &blocks,
+            runs: &self.catalog,
+        };
+        reading::list(alloc, &catalog, dir)
+    }
 }
