@@ -46,7 +46,7 @@ unthreaded next catalog id sound none = elim (item_with catalog id) as (λ (o : 
   ] refl
 ] refl
 
-folder_not_file : (d : DirRecord) (f : FileRecord) → Folder d ≡ File f → ⊥
+pub folder_not_file : (d : DirRecord) (f : FileRecord) → Folder d ≡ File f → ⊥
 folder_not_file d f e = cc
 
 -- the item of an ID is the folder of it, where it is a folder's

@@ -8,3 +8,4 @@ pub mod Queries
 pub mod Told
 pub mod Replies
 pub mod Opened
+pub mod Parts

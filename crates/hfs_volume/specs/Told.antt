@@ -8,6 +8,8 @@ use Rattle.hfs_fields.specs.declared.dir_record.DirRecord.{DirRecord}
 use Rattle.hfs_fields.specs.declared.file_record.FileRecord.{FileRecord}
 use Rattle.hfs_btree.specs.Tree.{Store}
 use Rattle.hfs_model.specs.declared.codes.TheConstants.{BAD_NAME, NOT_FOUND, PARAMETER, NOT_A_FOLDER}
+use Rattle.hfs_model.specs.declared.call.Fork.{Fork}
+use Rattle.hfs_model.specs.declared.call.Fork.TheVariants.{DataFork, ResFork}
 use Rattle.hfs_model.specs.declared.reply.Info.{Info}
 use Rattle.hfs_model.specs.declared.reply.ItemKind.TheVariants as item_kind
 use Rattle.hfs_model.specs.declared.reply.Value.TheVariants as value
@@ -126,3 +128,8 @@ file_named catalog dir name =
     if not (is_item_name name) then Err BAD_NAME
     else if not (is_folder catalog dir) then Err NOT_A_FOLDER
     else only_file (child_named catalog dir name)
+
+-- one of the two forks of a file
+abbrev pub pick : Fork → List ℕ × List ℕ → List ℕ
+pick DataFork forks = forks.0
+pick ResFork forks = forks.1

@@ -2,6 +2,7 @@
 
 ghost use Rattle.std.specs.Prelude.{◌≡◌, pos, ◌+◌, ◌%◌, nat_lt, if◌then◌else◌, IfOk};
 ghost use Rattle.hfs_model.specs.declared.codes.TheConstants.{END_OF_FILE};
+ghost use Rattle.hfs_model.specs.declared.reply.Value.TheVariants as value;
 ghost use Rattle.hfs_model.specs.Reading.{part_of};
 ghost use Rattle.hfs_space.specs.Extents as extents;
 ghost use Rattle.hfs_space.specs.Forks.{HasArea, fork_bytes};
@@ -14,14 +15,19 @@ use hfs_model::{Bytes, END_OF_FILE, Reply, Value};
 use hfs_space::{ForkKind, fork_extents, read_fork};
 use std::alloc::{AllocError, Global};
 
-/// The code of reading so many bytes from an offset on of a fork that has `length` bytes.
-fn end_code(length: u32, offset: u32, count: u32) -> i16
-    ensures { result ≡ if nat_lt length (offset + count) then END_OF_FILE else pos 0 }
+/// The reply of these bytes, which were read from an offset on of a fork that has `length` bytes: -39 where `count` of them
+/// end behind the fork.
+fn part_reply(bytes: Vec<u8>, length: u32, offset: u32, count: u32) -> Reply
+    ensures { result ≡ record { code = if nat_lt length (offset + count) then END_OF_FILE else pos 0; value = value.Bytes bytes.items } }
 {
-    if u64::from(length) < u64::from(offset) + u64::from(count) {
+    let code = if u64::from(length) < u64::from(offset) + u64::from(count) {
         END_OF_FILE
     } else {
         0
+    };
+    Reply {
+        code,
+        value: Value::Bytes(Bytes::new(bytes)),
     }
 }
 
@@ -46,8 +52,5 @@ pub(crate) fn read_part<B: Blocks, N: Nodes>(
 {
     let extents = fork_extents(alloc, tree, file, kind, &fork.extents)?;
     let bytes = read_fork(alloc, blocks, mdb, &extents, fork.length, offset, count)?;
-    Ok(Reply {
-        code: end_code(fork.length, offset, count),
-        value: Value::Bytes(Bytes::new(bytes)),
-    })
+    Ok(part_reply(bytes, fork.length, offset, count))
 }

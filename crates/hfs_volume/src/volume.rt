@@ -2,15 +2,22 @@
 
 ghost use Rattle.std.specs.Prelude.{◌≡◌, IfOk};
 ghost use Rattle.hfs_model.specs.Children.{entries_of};
-ghost use Rattle.hfs_model.specs.Reading.{get_dir_info, get_cat_info, get_indexed, list};
-ghost use Rattle.hfs_check.specs.VolumeOf.{volume_of};
+ghost use Rattle.hfs_model.specs.Reading.{get_dir_info, get_cat_info, get_indexed, list, read_fork, part_of};
+ghost use Rattle.hfs_check.specs.VolumeOf.{contents_in, volume_of};
+ghost use Rattle.hfs_btree.specs.Blocks.{block_at};
+ghost use Rattle.hfs_volume.specs.Told.{pick};
+ghost use Rattle.hfs_volume.specs.Mounted.{AreForksIn};
 
+use crate::fork::read_part;
 use crate::image::Image;
 use crate::laws::catalog_answers;
 use crate::reading;
+use crate::reply::refusal;
 use hfs_btree::{Run, RunNodes};
-use hfs_fields::Mdb;
-use hfs_model::Reply;
+use hfs_check::trees_are_sound;
+use hfs_fields::{FileRecord, Mdb};
+use hfs_model::{Fork, PARAMETER, Reply};
+use hfs_space::ForkKind;
 use std::alloc::{AllocError, Global};
 use std::marker::Model;
 
@@ -92,5 +99,59 @@ impl Volume {
             runs: &self.catalog,
         };
         reading::list(alloc, &catalog, dir)
+    }
+
+    /// Bytes of a file's fork from an offset on, at most 65,536 of them: -50 where `count` is above that, -37, -120 and -43 as
+    /// in [`Volume::get_cat_info`], -43 where the item is a folder, and -39 with what there is where the fork ends before
+    /// `count` bytes. Only the blocks that have one of these bytes are read. The only error is want of memory.
+    pub fn read_fork(
+        &self,
+        alloc: Global,
+        dir: u32,
+        name: &[u8],
+        fork: Fork,
+        offset: u32,
+        count: u32,
+    ) -> Result<Reply, AllocError>
+        ensures { IfOk result (λ reply. reply ≡ read_fork (entries_of (volume_of self.now.current)) dir name.now fork offset count) }
+    {
+        if count > 65536 {
+            return Ok(refusal(PARAMETER));
+        }
+        catalog_answers();
+        let blocks = self.image.blocks();
+        let catalog = RunNodes {
+            blocks: &blocks,
+            runs: &self.catalog,
+        };
+        match reading::file_named(&catalog, dir, name) {
+            Ok(file) => self.fork_part(alloc, &file, fork, offset, count),
+            Err(code) => Ok(refusal(code)),
+        }
+    }
+
+    /// A part of one of a file's forks.
+    fn fork_part(
+        &self,
+        alloc: Global,
+        file: &FileRecord,
+        fork: Fork,
+        offset: u32,
+        count: u32,
+    ) -> Result<Reply, AllocError>
+        requires { AreForksIn (block_at self.now.current) file.now }
+        ensures { IfOk result (λ reply. reply ≡ part_of (pick fork (contents_in (block_at self.now.current) file.now)) offset count) }
+    {
+        trees_are_sound();
+        let blocks = self.image.blocks();
+        let tree = RunNodes {
+            blocks: &blocks,
+            runs: &self.extents,
+        };
+        let (kind, record) = match fork {
+            Fork::DataFork => (ForkKind::Data, file.data),
+            Fork::ResFork => (ForkKind::Resource, file.resource),
+        };
+        read_part(alloc, &blocks, &self.mdb, &tree, file.id, kind, &record, offset, count)
     }
 }
