@@ -1,5 +1,5 @@
 -- Two pieces of 16 bytes, one behind the other.
-use Rattle.std.proofs.Common.{◌≡◌, ℕ, ◌≤◌, List, ◌++◌, length, drop, ap, ◌∙◌, arith, append-nil, drop_at}
+use Rattle.std.proofs.Common.{◌≡◌, ℕ, List, ◌++◌, length, drop, ap, ◌∙◌, arith, append-nil, drop_at}
 use Rattle.std.proofs.lemmas.List.{take_at, drop_all}
 use borrow.Rule.Slice.PartMut.{put_mid}
 

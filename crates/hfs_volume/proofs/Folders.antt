@@ -1,20 +1,18 @@
 -- The folder of an ID.
-use Rattle.std.proofs.Common.{◌≡◌, ℕ, Bool, true, false, cond, ◌&&◌, eqb, eqb-true, refl, sym, ◌∙◌, ap, Option, Some, None}
+use Rattle.std.proofs.Common.{◌≡◌, ℕ, Bool, true, false, cond, eqb, eqb-true, refl, sym, ◌∙◌, ap, Option, Some, None}
 use Rattle.std.specs.Prelude.{is_some, not}
-use Rattle.std.specs.List.{find}
 use Rattle.std.specs.Option.{option_map, option_and_then}
 use Rattle.std.proofs.lemmas.Bool.{true≢false, and_parts}
 use Rattle.hfs_fields.specs.Records.{is_dir, is_item, item_id, dir_record_of, file_record_of, thread_record_of}
-use Rattle.hfs_catalog.specs.declared.item.ItemRecord.{ItemRecord}
 use Rattle.hfs_catalog.specs.declared.item.ItemRecord.TheVariants.{Folder, File}
 use Rattle.hfs_catalog.specs.declared.item.CatalogItem.{CatalogItem}
 use Rattle.hfs_fields.specs.declared.dir_record.DirRecord.{DirRecord}
 use Rattle.hfs_fields.specs.declared.file_record.FileRecord.{FileRecord}
 use Rattle.hfs_catalog.specs.Records.{Record, Catalog, has_id, item_with, has_thread, is_thread_of}
 use Rattle.hfs_catalog.specs.Sound.{IsSoundCatalog}
-use Rattle.hfs_catalog.specs.Lookups.{catalog_item, record_of, thread_of}
-use Rattle.hfs_volume.specs.Told.{only_folder, folder_with}
-use Rattle.hfs_volume.proofs.Found.{In, each_in, found_in, is_some-find, none-option_map, none_some, same_some}
+use Rattle.hfs_catalog.specs.Lookups.{catalog_item, thread_of}
+use Rattle.hfs_volume.specs.Told.{only_folder, folder_with, is_folder}
+use Rattle.hfs_volume.proofs.Found.{In, each_in, found_in, is_some-find, is_some-option_map, none-option_map, none_some, same_some}
 
 -- the record of an ID is in the catalog, an item's, and has the ID
 pub record HasId (catalog : Catalog) (id : ℕ) (r : Record) : Type 0 where
@@ -74,3 +72,7 @@ item_is_file catalog id item f is body = elim (item_with catalog id) as (λ (o :
         | false ↦ λ e'. refl
       ] (ap (λ (i : CatalogItem). i.body) same ∙ body)
 ] (sym is)
+
+-- the folder of an ID was looked up, and it isn't so that there is none
+pub folder_there : (catalog : Catalog) (id : ℕ) (found : Option CatalogItem) (none : Bool) → found ≡ option_map catalog_item (folder_with catalog id) → is_some found ≡ not none → none ≡ false → is_folder catalog id ≡ true
+folder_there catalog id found none is some there = sym (is_some-option_map catalog_item (folder_with catalog id)) ∙ ap is_some (sym is) ∙ some ∙ ap not there

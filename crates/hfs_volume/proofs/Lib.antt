@@ -7,5 +7,7 @@ pub mod ForkLength
 pub mod Queries
 pub mod Told
 pub mod Replies
-pub mod Opened
 pub mod Parts
+pub mod FileForks
+pub mod Opened
+pub mod OpenedForks

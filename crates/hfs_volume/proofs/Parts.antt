@@ -1,5 +1,5 @@
 -- The reply of a part of a fork.
-use Rattle.std.proofs.Common.{◌≡◌, ℕ, ◌+◌, ◌*◌, ◌%◌, ◌<◌, ◌≤◌, Bool, true, false, cond, List, length, refl, sym, ◌∙◌, ap, Option, Some, None, Result, Ok, Err}
+use Rattle.std.proofs.Common.{◌≡◌, ℕ, ◌+◌, ◌*◌, ◌%◌, ◌<◌, ◌≤◌, Bool, true, false, cond, List, length, refl, sym, ◌∙◌, ap, Option, Some, None, Ok, Err}
 use Rattle.std.specs.Prelude.{nat_lt, not, pos}
 use Rattle.std.specs.Option.{option_map}
 use Rattle.hfs_fields.specs.Names.{is_item_name}
@@ -10,7 +10,7 @@ use Rattle.hfs_fields.specs.declared.extent.Extent.{Extent}
 use Rattle.hfs_fields.specs.declared.mdb.Mdb.{Mdb}
 use Rattle.hfs_model.specs.declared.codes.TheConstants.{BAD_NAME, END_OF_FILE, NOT_FOUND, NOT_A_FOLDER}
 use Rattle.hfs_model.specs.declared.reply.Value.TheVariants as value
-use Rattle.hfs_model.specs.declared.reply.Reply.{Reply}
+use Rattle.hfs_model.specs.Replies.{refusal}
 use Rattle.hfs_model.specs.Reading.{part_of}
 use Rattle.hfs_space.specs.Extents.{AreExtentsWithin, block_total}
 use Rattle.hfs_space.specs.Forks.{HasArea, fork_bytes, read_from}
@@ -41,16 +41,16 @@ same_file f g e = cc
 module _ (catalog : Catalog) (dir : ℕ) (name : List ℕ) (named : is_item_name name ≡ true) (folder : is_folder catalog dir ≡ true) where
   file_named_is : file_named catalog dir name ≡ only_file (child_named catalog dir name)
   file_named_is =
-      ap (λ b. cond (not b) (Err BAD_NAME) (cond (not (is_folder catalog dir)) (Err NOT_A_FOLDER) (only_file (child_named catalog dir name)))) named
-      ∙ ap (λ b. cond (not b) (Err NOT_A_FOLDER) (only_file (child_named catalog dir name))) folder
+      ap (λ b. cond (not b) (Err (refusal BAD_NAME)) (cond (not (is_folder catalog dir)) (Err (refusal NOT_A_FOLDER)) (only_file (child_named catalog dir name)))) named
+      ∙ ap (λ b. cond (not b) (Err (refusal NOT_A_FOLDER)) (only_file (child_named catalog dir name))) folder
 
-  pub of_folder : (item : CatalogItem) (d : DirRecord) → Some item ≡ option_map catalog_item (child_named catalog dir name) → item.body ≡ Folder d → Err NOT_FOUND ≡ file_named catalog dir name
+  pub of_folder : (item : CatalogItem) (d : DirRecord) → Some item ≡ option_map catalog_item (child_named catalog dir name) → item.body ≡ Folder d → Err (refusal NOT_FOUND) ≡ file_named catalog dir name
   unfolding catalog_item
-  of_folder item d is body = sym (file_named_is ∙ elim (child_named catalog dir name) as (λ (o : Option Record). Some item ≡ option_map catalog_item o → only_file o ≡ Err NOT_FOUND) [
+  of_folder item d is body = sym (file_named_is ∙ elim (child_named catalog dir name) as (λ (o : Option Record). Some item ≡ option_map catalog_item o → only_file o ≡ Err (refusal NOT_FOUND)) [
     | None ↦ λ e. absurd (none_some item (sym e))
     | Some r ↦ λ e.
         let same = same_some item (catalog_item r) e in
-        elim (is_dir r.1) as (λ (b : Bool). cond b (Folder (dir_record_of r.1)) (File (file_record_of r.1)) ≡ Folder d → cond b (Err NOT_FOUND) (Ok (file_record_of r.1)) ≡ Err NOT_FOUND) [
+        elim (is_dir r.1) as (λ (b : Bool). cond b (Folder (dir_record_of r.1)) (File (file_record_of r.1)) ≡ Folder d → cond b (Err (refusal NOT_FOUND)) (Ok (file_record_of r.1)) ≡ Err (refusal NOT_FOUND)) [
           | true ↦ λ e'. refl
           | false ↦ λ e'. absurd (folder_not_file d _ (sym e'))
         ] (ap (λ (i : CatalogItem). i.body) (sym same) ∙ body)
@@ -62,7 +62,7 @@ module _ (catalog : Catalog) (dir : ℕ) (name : List ℕ) (named : is_item_name
     | None ↦ λ e. absurd (none_some item (sym e))
     | Some r ↦ λ e.
         let same = same_some item (catalog_item r) e in
-        elim (is_dir r.1) as (λ (b : Bool). cond b (Folder (dir_record_of r.1)) (File (file_record_of r.1)) ≡ File f → cond b (Err NOT_FOUND) (Ok (file_record_of r.1)) ≡ Ok f) [
+        elim (is_dir r.1) as (λ (b : Bool). cond b (Folder (dir_record_of r.1)) (File (file_record_of r.1)) ≡ File f → cond b (Err (refusal NOT_FOUND)) (Ok (file_record_of r.1)) ≡ Ok f) [
           | true ↦ λ e'. absurd (folder_not_file _ f e')
           | false ↦ λ e'. ap Ok (same_file _ f e')
         ] (ap (λ (i : CatalogItem). i.body) (sym same) ∙ body)

@@ -1,8 +1,8 @@
 -- The records of a sound image answer the queries of its volume.
-use Rattle.std.proofs.Common.{◌≡◌, ℕ, ◌<◌, ◌≤◌, Bool, true, false, cond, List, [], ◌∷◌, length, ⊎_elim, refl, sym, ◌∙◌, ap, subst}
+use Rattle.std.proofs.Common.{◌≡◌, ℕ, ◌<◌, Bool, true, false, cond, List, [], length, ⊎_elim, refl, sym, ◌∙◌, ap, subst}
 use Rattle.std.specs.Prelude.{IsTrue}
 use Rattle.std.specs.FinMap as finite
-use Rattle.std.proofs.lemmas.Bool.{or_cases, true≢false, and_from}
+use Rattle.std.proofs.lemmas.Bool.{or_cases, true≢false}
 use Rattle.hfs_fields.specs.Records.{is_dir, is_file, is_item, item_id, dir_record_of, file_record_of}
 use Rattle.hfs_fields.specs.declared.key.CatKey.{CatKey}
 use Rattle.hfs_fields.specs.declared.dir_record.DirRecord.{DirRecord}
@@ -11,8 +11,6 @@ use Rattle.hfs_fields.specs.declared.file_record.ForkRecord.{ForkRecord}
 use Rattle.hfs_btree.specs.Pairs.{Each}
 use Rattle.hfs_btree.specs.Elements.{each-mono, each-both}
 use Rattle.hfs_btree.specs.Blocks.{block_at, block_count, length-block_at}
-use Rattle.hfs_model.specs.declared.item.Kind.TheVariants as kind
-use Rattle.hfs_model.specs.declared.reply.Info.{Info}
 use Rattle.hfs_model.specs.Volume.{Entry}
 use Rattle.hfs_model.specs.Children.{valence, entries_of}
 use Rattle.hfs_model.specs.Replies.{info_of}
@@ -31,7 +29,7 @@ use Rattle.hfs_check.specs.Laws.{TreesAreSound, CatalogIsSound}
 use Rattle.hfs_check.specs.Parts.{Blocks, mdb_in, overflow_in, catalog_nodes, catalog_in}
 use Rattle.hfs_check.specs.Sound.{AreBlocksSound, IsSound}
 use Rattle.hfs_check.specs.VolumeOf.{bytes_in, contents_in, volume_in, volume_of}
-use Rattle.hfs_volume.specs.Told.{IsCatalog, folder_info, file_info, body_info, item_info, told}
+use Rattle.hfs_volume.specs.Told.{IsCatalog, folder_info, file_info, body_info, told}
 use Rattle.hfs_volume.specs.Queries.{AreEntries}
 use Rattle.hfs_volume.proofs.ForkLength.{length-fork_bytes}
 

@@ -1,5 +1,5 @@
 -- The replies by a catalog's records are those of the volume.
-use Rattle.std.proofs.Common.{◌≡◌, ℕ, ◌-◌, Bool, true, false, cond, ◌&&◌, eqb, List, [], ◌∷◌, map, filter, refl, sym, ◌∙◌, ap, Option, Some, None}
+use Rattle.std.proofs.Common.{◌≡◌, ℕ, ◌-◌, Bool, true, false, cond, eqb, List, [], ◌∷◌, map, filter, refl, sym, ◌∙◌, ap, Option, Some, None}
 use Rattle.std.specs.Prelude.{not, nat_eq, is_some, slice_get, IsTrue}
 use Rattle.std.specs.Option.{option_map, option_map_or, option_and_then}
 use Rattle.std.proofs.lemmas.Bool.{and_parts}
@@ -10,7 +10,6 @@ use Rattle.hfs_btree.specs.Pairs.{Each}
 use Rattle.hfs_btree.specs.Blocks.{block_at}
 use Rattle.hfs_btree.specs.Tree.{Store}
 use Rattle.hfs_model.specs.declared.codes.TheConstants.{BAD_NAME, NOT_FOUND, PARAMETER, NOT_A_FOLDER}
-use Rattle.hfs_model.specs.declared.item.Item.{Item}
 use Rattle.hfs_model.specs.declared.reply.Info.{Info}
 use Rattle.hfs_model.specs.declared.reply.Value.TheVariants as value
 use Rattle.hfs_model.specs.declared.reply.Reply.{Reply}
@@ -22,10 +21,10 @@ use Rattle.hfs_model.specs.Reading.{get_dir_info, get_cat_info, get_indexed, lis
 use Rattle.hfs_model.specs.Replies.{refusal, success, info_of, infos}
 use Rattle.hfs_catalog.specs.Records.{Record, Catalog, item_with, has_thread, is_child_of}
 use Rattle.hfs_catalog.specs.Items.{Contents, folder_of, file_of, item_of, entry_of}
-use Rattle.hfs_catalog.specs.Lookups.{is_child_named, child_named, children_of}
+use Rattle.hfs_catalog.specs.Lookups.{is_child_named, child_named}
 use Rattle.hfs_catalog.specs.Tree.{catalog_of}
 use Rattle.hfs_check.specs.Parts.{catalog_nodes, catalog_in}
-use Rattle.hfs_volume.specs.Told.{told, one, only_folder, folder_with, is_folder, dir_info, cat_info, child_infos, indexed, listed}
+use Rattle.hfs_volume.specs.Told.{told, one, only_folder, is_folder, dir_info, cat_info, child_infos, indexed, listed}
 use Rattle.hfs_volume.specs.Queries.{AreEntries}
 use Rattle.hfs_volume.proofs.Found.{In, each_in, found_in}
 use Rattle.hfs_volume.proofs.Folders.{found_with}
@@ -46,7 +45,7 @@ module _ (contents : Contents) (catalog : Catalog) (es : List Entry) (h : AreEnt
   abbrev of_folder : Option Entry → Bool
   of_folder o = option_map_or (λ (e : Entry). is_folder_kind e.1.kind) o false
 
-  folder_same : (dir : ℕ) → model.is_folder es dir ≡ is_folder catalog dir
+  pub folder_same : (dir : ℕ) → model.is_folder es dir ≡ is_folder catalog dir
   folder_same dir = ap of_folder (h.by_id dir) ∙ elim (item_with catalog dir) as (λ (o : Option Record). of_folder (option_map entry o) ≡ is_some (option_and_then only_folder o)) [
     | None ↦ refl
     | Some r ↦ folder_kind r ∙ elim (is_dir r.1) as (λ (b : Bool). b ≡ is_some (cond b (Some r) None)) [ true ↦ refl | false ↦ refl ]
@@ -68,7 +67,7 @@ module _ (contents : Contents) (catalog : Catalog) (es : List Entry) (h : AreEnt
 
   -- ---- children by name
 
-  child_item : (dir : ℕ) (name : List ℕ) (r : Record) → is_child_named dir name r ≡ true → is_item r.1 ≡ true
+  pub child_item : (dir : ℕ) (name : List ℕ) (r : Record) → is_child_named dir name r ≡ true → is_item r.1 ≡ true
   child_item dir name r e = (and_parts (is_item r.1) (eqb r.0.parent dir) (and_parts (is_child_of dir r) (same_name r.0.name name) e).0).0
 
   abbrev if_there : Option Entry → Reply
@@ -107,7 +106,7 @@ module _ (contents : Contents) (catalog : Catalog) (es : List Entry) (h : AreEnt
       cond (nat_eq index 0) (refusal PARAMETER) (cond (not (sym (folder_same dir) i)) (refusal NOT_A_FOLDER)
       (option_map_or (λ (info : Info). success (value.One info)) (slice_get (sym (children_same dir) i) (index - 1)) (refusal NOT_FOUND)))
 
--- a reply by the records of the catalog's nodes is one by the records of the image's catalog
-pub by_nodes : (reply : Catalog → Reply) (image : List ℕ) (nodes : Store) → nodes ≡ catalog_nodes (block_at image) → reply (catalog_of nodes) ≡ reply (catalog_in (block_at image))
+-- what the records of the catalog's nodes say is what those of the image's catalog say
+pub by_nodes : {A : Type 0} (f : Catalog → A) (image : List ℕ) (nodes : Store) → nodes ≡ catalog_nodes (block_at image) → f (catalog_of nodes) ≡ f (catalog_in (block_at image))
 unfolding catalog_in
-by_nodes reply image nodes e = ap (λ (n : Store). reply (catalog_of n)) e
+by_nodes f image nodes e = ap (λ (n : Store). f (catalog_of n)) e

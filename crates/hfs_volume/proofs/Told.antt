@@ -1,6 +1,6 @@
 -- What is told of a folder's children, by the items that are found.
-use Rattle.std.proofs.Common.{◌≡◌, ℕ, ◌-◌, ◌<◌, ◌≤◌, Bool, true, false, cond, List, [], ◌∷◌, length, map, take, get_or, refl, sym, ◌∙◌, ap, Some, None}
-use Rattle.std.specs.Prelude.{slice_get, nat_eq, not}
+use Rattle.std.proofs.Common.{◌≡◌, ℕ, ◌-◌, ◌<◌, ◌≤◌, true, cond, List, [], ◌∷◌, length, map, take, get_or, refl, sym, ◌∙◌, ap}
+use Rattle.std.specs.Prelude.{slice_get, not}
 use Rattle.std.specs.Option.{option_map, option_map_or}
 use Rattle.std.proofs.lemmas.Bool.{ne_eqb}
 use Rattle.std.proofs.lemmas.List.{take_all}
@@ -40,10 +40,10 @@ module _ (catalog : Catalog) (dir : ℕ) (items : List CatalogItem) (are : items
     indexed_past past =
         indexed_is
         ∙ ap (λ o. option_map_or (λ (info : Info). success (value.One info)) o (refusal NOT_FOUND))
-          (ap (λ l. slice_get l (index - 1)) (sym infos_are) ∙ slice_get-map (item_info catalog) items (index - 1) ∙ ap (option_map (item_info catalog)) (slice_get_past items (index - 1) past))
+        (ap (λ l. slice_get l (index - 1)) (sym infos_are) ∙ slice_get-map (item_info catalog) items (index - 1) ∙ ap (option_map (item_info catalog)) (slice_get_past items (index - 1) past))
 
     pub indexed_at : (d : CatalogItem) → index - 1 < length items → indexed catalog dir index ≡ success (value.One (item_info catalog (get_or items (index - 1) d)))
     indexed_at d within =
         indexed_is
         ∙ ap (λ o. option_map_or (λ (info : Info). success (value.One info)) o (refusal NOT_FOUND))
-          (ap (λ l. slice_get l (index - 1)) (sym infos_are) ∙ slice_get-map (item_info catalog) items (index - 1) ∙ ap (option_map (item_info catalog)) (slice_get-get_or items (index - 1) d within))
+        (ap (λ l. slice_get l (index - 1)) (sym infos_are) ∙ slice_get-map (item_info catalog) items (index - 1) ∙ ap (option_map (item_info catalog)) (slice_get-get_or items (index - 1) d within))

@@ -8,7 +8,7 @@ use Rattle.hfs_model.specs.Volume.{Entry}
 use Rattle.hfs_model.specs.Children.{entry_at, entries_of}
 use Rattle.hfs_model.specs.Children as model
 use Rattle.hfs_model.specs.Replies.{info_of}
-use Rattle.hfs_catalog.specs.Records.{Record, Catalog, item_with}
+use Rattle.hfs_catalog.specs.Records.{Catalog, item_with}
 use Rattle.hfs_catalog.specs.Items.{Contents, entry_of}
 use Rattle.hfs_catalog.specs.Lookups.{child_named, children_of}
 use Rattle.hfs_check.specs.Parts.{catalog_nodes, catalog_in}

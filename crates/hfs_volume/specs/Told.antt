@@ -1,5 +1,5 @@
 -- What the calls that read answer, by the records of a catalog.
-use Rattle.std.specs.Prelude.{ℕ, ℤ, ◌-◌, Bool, true, false, not, is_some, ◌==◌, if◌then◌else◌, List, ◌++◌, map, slice_get, Option, Some, None, Result, Ok, Err}
+use Rattle.std.specs.Prelude.{ℕ, ◌-◌, Bool, false, not, is_some, ◌==◌, if◌then◌else◌, List, ◌++◌, map, slice_get, Option, Some, None, Result, Ok, Err}
 use Rattle.std.specs.Option.{option_map_or, option_and_then}
 use Rattle.hfs_fields.specs.Names.{is_item_name}
 use Rattle.hfs_fields.specs.Records.{is_dir, is_bit_set, file_record_of}
@@ -118,15 +118,15 @@ listed catalog dir =
 -- ---- forks
 
 -- -43 of a folder, and where there is nothing
-abbrev pub only_file : Option Record → Result FileRecord ℤ
-only_file None = Err NOT_FOUND
-only_file (Some r) = if is_dir r.1 then Err NOT_FOUND else Ok (file_record_of r.1)
+abbrev pub only_file : Option Record → Result FileRecord Reply
+only_file None = Err (refusal NOT_FOUND)
+only_file (Some r) = if is_dir r.1 then Err (refusal NOT_FOUND) else Ok (file_record_of r.1)
 
 -- the record of the folder's file of that name: -37, -120, -43
-abbrev pub file_named : Catalog → ℕ → List ℕ → Result FileRecord ℤ
+abbrev pub file_named : Catalog → ℕ → List ℕ → Result FileRecord Reply
 file_named catalog dir name =
-    if not (is_item_name name) then Err BAD_NAME
-    else if not (is_folder catalog dir) then Err NOT_A_FOLDER
+    if not (is_item_name name) then Err (refusal BAD_NAME)
+    else if not (is_folder catalog dir) then Err (refusal NOT_A_FOLDER)
     else only_file (child_named catalog dir name)
 
 -- one of the two forks of a file

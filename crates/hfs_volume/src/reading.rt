@@ -105,22 +105,22 @@ pub(crate) fn list<N: Nodes>(alloc: Global, nodes: &N, dir: u32) -> Result<Reply
     Ok(success(Value::Many(Infos::new(infos))))
 }
 
-/// The record of the folder's file of that name, or the code that refuses it: -43 where the item is a folder.
-pub(crate) fn file_named<N: Nodes>(nodes: &N, dir: u32, name: &[u8]) -> Result<FileRecord, i16>
+/// The record of the folder's file of that name, or the reply that refuses it: -43 where the item is a folder.
+pub(crate) fn file_named<N: Nodes>(nodes: &N, dir: u32, name: &[u8]) -> Result<FileRecord, Reply>
     requires { IsCatalog (N.nodes nodes.now) }
     ensures { result ≡ file_named (catalog_of (N.nodes nodes.now)) dir name.now }
 {
     let Some(name) = Name::new(name) else {
-        return Err(BAD_NAME);
+        return Err(refusal(BAD_NAME));
     };
     if folder(nodes, dir).is_none() {
-        return Err(NOT_A_FOLDER);
+        return Err(refusal(NOT_A_FOLDER));
     }
     let Some(item) = lookup(nodes, dir, &name) else {
-        return Err(NOT_FOUND);
+        return Err(refusal(NOT_FOUND));
     };
     match item.body {
-        ItemRecord::Folder(_) => Err(NOT_FOUND),
+        ItemRecord::Folder(_) => Err(refusal(NOT_FOUND)),
         ItemRecord::File(file) => Ok(file),
     }
 }

@@ -1,8 +1,9 @@
 //! A mounted volume.
 
-ghost use Rattle.std.specs.Prelude.{◌≡◌, IfOk};
+ghost use Rattle.std.specs.Prelude.{◌≡◌, IsTrue, IfOk};
 ghost use Rattle.hfs_model.specs.Children.{entries_of};
 ghost use Rattle.hfs_model.specs.Reading.{get_dir_info, get_cat_info, get_indexed, list, read_fork, part_of};
+ghost use Rattle.hfs_model.specs.Step.{step, is_reading};
 ghost use Rattle.hfs_check.specs.VolumeOf.{contents_in, volume_of};
 ghost use Rattle.hfs_btree.specs.Blocks.{block_at};
 ghost use Rattle.hfs_volume.specs.Told.{pick};
@@ -16,7 +17,7 @@ use crate::reply::refusal;
 use hfs_btree::{Run, RunNodes};
 use hfs_check::trees_are_sound;
 use hfs_fields::{FileRecord, Mdb};
-use hfs_model::{Fork, PARAMETER, Reply};
+use hfs_model::{Call, Fork, PARAMETER, Reply};
 use hfs_space::ForkKind;
 use std::alloc::{AllocError, Global};
 use std::marker::Model;
@@ -46,6 +47,29 @@ impl Model for Volume {
 }
 
 impl Volume {
+    /// Answers a call that reads, as [`Call::is_reading`] says, by the volume as it is now. The only error is want of memory.
+    ///
+    /// Source: Inside Macintosh: Files, chapter 2, "High-Level HFS Routines" and "Low-Level HFS Routines".
+    pub fn read(&self, alloc: Global, call: &Call) -> Result<Reply, AllocError>
+        requires { IsTrue (is_reading call.now) }
+        ensures { IfOk result (λ reply. reply ≡ (step (volume_of self.now.current) call.now).1) }
+    {
+        match call {
+            Call::GetDirInfo { dir } => Ok(self.get_dir_info(*dir)),
+            Call::GetCatInfo { dir, name } => Ok(self.get_cat_info(*dir, name.as_slice())),
+            Call::GetIndexed { dir, index } => self.get_indexed(alloc, *dir, *index),
+            Call::List { dir } => self.list(alloc, *dir),
+            Call::ReadFork {
+                dir,
+                name,
+                fork,
+                offset,
+                count,
+            } => self.read_fork(alloc, *dir, name.as_slice(), *fork, *offset, *count),
+            _ => unreachable!(),
+        }
+    }
+
     /// What is told of the folder of that ID: -120 where it isn't the ID of a folder.
     pub fn get_dir_info(&self, dir: u32) -> Reply
         ensures { result ≡ get_dir_info (entries_of (volume_of self.now.current)) dir }
@@ -126,7 +150,7 @@ impl Volume {
         };
         match reading::file_named(&catalog, dir, name) {
             Ok(file) => self.fork_part(alloc, &file, fork, offset, count),
-            Err(code) => Ok(refusal(code)),
+            Err(reply) => Ok(reply),
         }
     }
 
@@ -152,6 +176,8 @@ impl Volume {
             Fork::DataFork => (ForkKind::Data, file.data),
             Fork::ResFork => (ForkKind::Resource, file.resource),
         };
-        read_part(alloc, &blocks, &self.mdb, &tree, file.id, kind, &record, offset, count)
+        read_part(
+            alloc, &blocks, &self.mdb, &tree, file.id, kind, &record, offset, count,
+        )
     }
 }

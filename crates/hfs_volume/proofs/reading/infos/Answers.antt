@@ -1,4 +1,4 @@
-use Rattle.std.proofs.Common.{◌≡◌, length, map, ◌∙◌, ap, arith}
+use Rattle.std.proofs.Common.{◌∙◌}
 use Rattle.hfs_catalog.specs.Tree.{catalog_of}
 use Rattle.hfs_volume.proofs.Told.{all_infos}
 use Rattle.hfs_volume.proofs.reading.infos.Goals as goal

@@ -13,4 +13,4 @@ pub returns : goal.returns
 returns c =
     c.get_cat_info.ensures
     ∙ answered _ _ _ _ _ _ _ c.self.view_is c.self.invariant c.blocks-blocks.ensures c.deref.ensures.value c.catalog_answers.ensures.entries
-      (λ catalog. cat_info catalog c.args.dir c.args.name.now) (λ es. get_cat_info es c.args.dir c.args.name.now) (λ contents catalog es h. cat_infos contents catalog es h c.args.dir c.args.name.now)
+    (λ catalog. cat_info catalog c.args.dir c.args.name.now) (λ es. get_cat_info es c.args.dir c.args.name.now) (λ contents catalog es h. cat_infos contents catalog es h c.args.dir c.args.name.now)

@@ -13,4 +13,4 @@ pub returns : goal.returns
 returns c =
     c.get_dir_info.ensures
     ∙ answered _ _ _ _ _ _ _ c.self.view_is c.self.invariant c.blocks-blocks.ensures c.deref.ensures.value c.catalog_answers.ensures.entries
-      (λ catalog. dir_info catalog c.args.dir) (λ es. get_dir_info es c.args.dir) (λ contents catalog es h. dir_infos contents catalog es h c.args.dir)
+    (λ catalog. dir_info catalog c.args.dir) (λ es. get_dir_info es c.args.dir) (λ contents catalog es h. dir_infos contents catalog es h c.args.dir)

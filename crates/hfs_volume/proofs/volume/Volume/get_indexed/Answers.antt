@@ -14,5 +14,5 @@ get_indexed-requires c =
 pub returns : goal.returns
 returns c =
     let same = answered _ _ _ _ _ _ _ c.self.view_is c.self.invariant c.blocks-blocks.ensures c.deref.ensures.value c.catalog_answers.ensures.entries
-        (λ catalog. indexed catalog c.args.dir c.args.index) (λ es. get_indexed es c.args.dir c.args.index) (λ contents catalog es h. indexes contents catalog es h c.args.dir c.args.index) in
+    (λ catalog. indexed catalog c.args.dir c.args.index) (λ es. get_indexed es c.args.dir c.args.index) (λ contents catalog es h. indexes contents catalog es h c.args.dir c.args.index) in
     subst (λ (r : Reply). IfOk c.get_indexed.result (λ reply. reply ≡ r)) same c.get_indexed.ensures

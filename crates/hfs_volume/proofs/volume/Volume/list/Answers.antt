@@ -14,5 +14,5 @@ list-requires c =
 pub returns : goal.returns
 returns c =
     let same = answered _ _ _ _ _ _ _ c.self.view_is c.self.invariant c.blocks-blocks.ensures c.deref.ensures.value c.catalog_answers.ensures.entries
-        (λ catalog. listed catalog c.args.dir) (λ es. list es c.args.dir) (λ contents catalog es h. lists contents catalog es h c.args.dir) in
+    (λ catalog. listed catalog c.args.dir) (λ es. list es c.args.dir) (λ contents catalog es h. lists contents catalog es h c.args.dir) in
     subst (λ (r : Reply). IfOk c.list.result (λ reply. reply ≡ r)) same c.list.ensures
