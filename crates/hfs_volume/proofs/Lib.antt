@@ -1,0 +1,13 @@
+pub mod Laid
+pub mod Viewing
+pub mod Found
+pub mod Folders
+pub mod Finder
+pub mod ForkLength
+pub mod Queries
+pub mod Told
+pub mod Replies
+pub mod Parts
+pub mod FileForks
+pub mod Opened
+pub mod OpenedForks

@@ -1,0 +1,26 @@
+-- What mounting finds out of a volume, and its calls keep.
+use Rattle.std.specs.Prelude.{◌≡◌, List}
+use Rattle.hfs_fields.specs.declared.file_record.FileRecord.{FileRecord}
+use Rattle.hfs_fields.specs.declared.mdb.Mdb.{Mdb}
+use Rattle.hfs_btree.specs.declared.run.Run.{Run}
+use Rattle.hfs_btree.specs.Blocks.{block_at, block_count, nodes_in, AreRunsWithin}
+use Rattle.hfs_btree.specs.Pairs.{Each}
+use Rattle.hfs_space.specs.Owners.{forks_of_file}
+use Rattle.hfs_space.specs.Sound.{IsForkSound}
+use Rattle.hfs_check.specs.Parts.{Blocks, mdb_in, extents_nodes, overflow_in, catalog_nodes}
+use Rattle.hfs_check.specs.Agree.{Agrees}
+use Rattle.hfs_volume.specs.Image.{ImageValue}
+
+-- the current image agrees with the base; this is its master directory block, and in these runs of blocks lie the nodes of
+-- its extents tree and of its catalog
+pub record IsMounted (image : ImageValue) (mdb : Mdb) (extents catalog : List Run) : Type 0 where
+  pub agrees : Agrees image.base image.current
+  pub directory : mdb ≡ mdb_in (block_at image.current)
+  pub extents_within : AreRunsWithin extents (block_count image.current)
+  pub extents_nodes : nodes_in (block_at image.current) extents ≡ extents_nodes (block_at image.current)
+  pub catalog_within : AreRunsWithin catalog (block_count image.current)
+  pub catalog_nodes : nodes_in (block_at image.current) catalog ≡ catalog_nodes (block_at image.current)
+
+-- the extents of both forks of a file lie in the volume, and have room for its bytes
+abbrev pub AreForksIn : Blocks → FileRecord → Type 0
+AreForksIn blocks file = Each (IsForkSound (mdb_in blocks) (overflow_in blocks)) (forks_of_file file)

@@ -1,0 +1,34 @@
+-- The queries of the volume that an image holds, by the records of its catalog.
+use Rattle.std.specs.Prelude.{◌≡◌, ℕ, IsTrue, List, map}
+use Rattle.std.specs.Option.{option_map}
+use Rattle.hfs_fields.specs.Records.{is_item}
+use Rattle.hfs_btree.specs.Pairs.{Each}
+use Rattle.hfs_btree.specs.Blocks.{block_at}
+use Rattle.hfs_model.specs.Volume.{Entry}
+use Rattle.hfs_model.specs.Children.{entry_at, entries_of}
+use Rattle.hfs_model.specs.Children as model
+use Rattle.hfs_model.specs.Replies.{info_of}
+use Rattle.hfs_catalog.specs.Records.{Catalog, item_with}
+use Rattle.hfs_catalog.specs.Items.{Contents, entry_of}
+use Rattle.hfs_catalog.specs.Lookups.{child_named, children_of}
+use Rattle.hfs_check.specs.Parts.{catalog_nodes, catalog_in}
+use Rattle.hfs_check.specs.Sound.{IsSound}
+use Rattle.hfs_check.specs.VolumeOf.{contents_in, volume_of}
+use Rattle.hfs_volume.specs.Told.{IsCatalog, told}
+
+-- the records of a catalog answer the queries of these entries
+pub record AreEntries (contents : Contents) (catalog : Catalog) (es : List Entry) : Type 0 where
+  pub by_id : (id : ℕ) → entry_at es id ≡ option_map (entry_of contents catalog) (item_with catalog id)
+  pub named : (dir : ℕ) (name : List ℕ) → model.child_named es dir name ≡ option_map (entry_of contents catalog) (child_named catalog dir name)
+  pub children : (dir : ℕ) → model.children es dir ≡ map (entry_of contents catalog) (children_of catalog dir)
+  -- what is told of an item is told by its record
+  pub told : Each (λ r. IsTrue (is_item r.1) → info_of es (entry_of contents catalog r) ≡ told catalog r) catalog
+
+-- the records of a sound image answer those of its volume
+abbrev pub RecordsAreEntries : Type 0
+RecordsAreEntries =
+    (image : List ℕ) → IsSound image → AreEntries (contents_in (block_at image)) (catalog_in (block_at image)) (entries_of (volume_of image))
+
+-- the nodes of a sound image's catalog are those of a sound catalog
+abbrev pub CatalogsAreSound : Type 0
+CatalogsAreSound = (image : List ℕ) → IsSound image → IsCatalog (catalog_nodes (block_at image))

@@ -1,0 +1,56 @@
+//! A part of a file's fork.
+
+ghost use Rattle.std.specs.Prelude.{◌≡◌, pos, ◌+◌, ◌%◌, nat_lt, if◌then◌else◌, IfOk};
+ghost use Rattle.hfs_model.specs.declared.codes.TheConstants.{END_OF_FILE};
+ghost use Rattle.hfs_model.specs.declared.reply.Value.TheVariants as value;
+ghost use Rattle.hfs_model.specs.Reading.{part_of};
+ghost use Rattle.hfs_space.specs.Extents as extents;
+ghost use Rattle.hfs_space.specs.Forks.{HasArea, fork_bytes};
+ghost use Rattle.hfs_space.specs.Sound.{IsForkSound};
+ghost use Rattle.hfs_space.specs.TreeKeys.{IsExtentsTree, overflow_of};
+
+use hfs_btree::{Blocks, Nodes};
+use hfs_fields::{ForkRecord, Mdb};
+use hfs_model::{Bytes, END_OF_FILE, Reply, Value};
+use hfs_space::{ForkKind, fork_extents, read_fork};
+use std::alloc::{AllocError, Global};
+
+/// The reply of these bytes, which were read from an offset on of a fork that has `length` bytes: -39 where `count` of them
+/// end behind the fork.
+fn part_reply(bytes: Vec<u8>, length: u32, offset: u32, count: u32) -> Reply
+    ensures { result ≡ record { code = if nat_lt length (offset + count) then END_OF_FILE else pos 0; value = value.Bytes bytes.items } }
+{
+    let code = if u64::from(length) < u64::from(offset) + u64::from(count) {
+        END_OF_FILE
+    } else {
+        0
+    };
+    Reply {
+        code,
+        value: Value::Bytes(Bytes::new(bytes)),
+    }
+}
+
+/// At most `count` bytes of a file's fork from an offset on, with -39 where the fork ends before `count` of them. Only the
+/// blocks that have one of these bytes are read. The only error is want of memory.
+pub(crate) fn read_part<B: Blocks, N: Nodes>(
+    alloc: Global,
+    blocks: &B,
+    mdb: &Mdb,
+    tree: &N,
+    file: u32,
+    kind: ForkKind,
+    fork: &ForkRecord,
+    offset: u32,
+    count: u32,
+) -> Result<Reply, AllocError>
+    requires area { HasArea mdb.now (B.total blocks.now) }
+    requires whole_size { mdb.now.allocation_block_size % 512 ≡ 0 }
+    requires tree { IsExtentsTree (N.nodes tree.now) }
+    requires fork { IsForkSound mdb.now (overflow_of (N.nodes tree.now)) (record { file = file; fork = extents.fork_byte kind; len = fork.now.length; first = fork.now.extents }) }
+    ensures { IfOk result (λ reply. reply ≡ part_of (fork_bytes (B.blocks blocks.now) mdb.now (extents.fork_extents (overflow_of (N.nodes tree.now)) file (extents.fork_byte kind) fork.now.extents) fork.now.length) offset count) }
+{
+    let extents = fork_extents(alloc, tree, file, kind, &fork.extents)?;
+    let bytes = read_fork(alloc, blocks, mdb, &extents, fork.length, offset, count)?;
+    Ok(part_reply(bytes, fork.length, offset, count))
+}

@@ -1,0 +1,115 @@
+//! An image: its bytes as they were opened, and the blocks that were changed since.
+
+ghost use Rattle.std.specs.Prelude.{◌≡◌, ◌<◌, ◌≤◌, ◌^◌, length, IfOk, IfErr};
+ghost use Rattle.hfs_btree.specs.Blocks.{block_at, block_count, length-block_at, few-block_count};
+ghost use Rattle.hfs_space.specs.Layers.{changes};
+ghost use Rattle.hfs_volume.specs.Laid.{laid_over};
+
+use crate::base::Base;
+use hfs_btree::Blocks;
+use hfs_space::Patch;
+use std::alloc::{AllocError, AllocFailed, Global};
+use std::marker::Model;
+
+/// An image of at most 2,147,483,648 bytes: blocks of 512 bytes, counted from 0, and what may follow the last whole one.
+/// Contracts see its bytes as they were opened, and as they are.
+#[derive(Drop)]
+pub struct Image {
+    base: Base,
+    changed: Patch,
+}
+
+impl Model for Image {
+    ghost use Rattle.hfs_volume.specs.Image.{ImageValue, image_of, IsImage};
+
+    ghost Value = { ImageValue };
+
+    ghost view = { λ m. image_of m.base m.changed };
+
+    ghost invariant = { λ m. IsImage m.base m.changed };
+}
+
+/// Block `n` of the bytes.
+fn copy_block(bytes: &[u8], n: u32, into: &mut [u8; 512])
+    requires { n < block_count bytes.now }
+    ensures { into.new ≡ block_at bytes.now n }
+{
+    let from = n as usize * 512;
+    let to = from + 512;
+    into.copy_from_slice(&bytes[from..to]);
+}
+
+impl Image {
+    /// An image with nothing changed. Where memory is wanting the bytes are handed back.
+    pub fn new(alloc: Global, bytes: Vec<u8>) -> Result<Image, AllocFailed<Vec<u8>>>
+        requires { length bytes.items ≤ 2147483648 }
+        ensures base { IfOk result (λ image. image.base ≡ bytes.items) }
+        ensures current { IfOk result (λ image. image.current ≡ bytes.items) }
+        ensures value_returned { IfErr result (λ failed. failed.value ≡ bytes) }
+    {
+        let base = Base::new(alloc, bytes)?;
+        Ok(Image {
+            base,
+            changed: Patch::new(alloc),
+        })
+    }
+
+    /// The bytes as they were opened, without a copy of them. The only error is want of memory.
+    pub fn base(&self) -> Result<Base, AllocError>
+        ensures { IfOk result (λ base. base ≡ self.now.base) }
+    {
+        self.base.share()
+    }
+
+    /// How many whole blocks there are.
+    pub fn count(&self) -> u32
+        ensures count { result ≡ block_count self.now.current }
+        ensures small { length self.now.current ≤ 2147483648 }
+    {
+        (self.base.bytes().len() / 512) as u32
+    }
+
+    /// Copies block `n` as it is now into 512 bytes.
+    pub fn block(&self, n: u32, into: &mut [u8; 512])
+        requires { n < block_count self.now.current }
+        ensures { into.new ≡ block_at self.now.current n }
+    {
+        match self.changed.get(n) {
+            Some(block) => *into = *block,
+            None => copy_block(self.base.bytes(), n, into),
+        }
+    }
+
+    /// The blocks as they are now.
+    pub fn blocks(&self) -> ImageBlocks<'_>
+        ensures { result.image.now ≡ self.now }
+    {
+        let _count = self.count();
+        ImageBlocks { image: self }
+    }
+}
+
+/// The blocks of an image as they are now.
+#[derive(Drop)]
+pub struct ImageBlocks<'a> {
+    pub image: &'a Image,
+    ghost limit: { length image.now.current ≤ 2 ^ 32 },
+}
+
+impl Blocks for ImageBlocks<'_> {
+    ghost blocks = { λ s. block_at s.image.now.current };
+
+    ghost total = { λ s. block_count s.image.now.current };
+
+    fn count(&self) -> u32 {
+        self.image.count()
+    }
+
+    fn block(&self, n: u32, into: &mut [u8; 512]) {
+        self.image.block(n, into);
+    }
+
+    ghost few = { λ s. few-block_count s.image.now.current s.limit };
+
+    ghost whole = { λ s n within. length-block_at s.image.now.current n within };
+}

@@ -1,0 +1,183 @@
+//! A mounted volume.
+
+ghost use Rattle.std.specs.Prelude.{◌≡◌, IsTrue, IfOk};
+ghost use Rattle.hfs_model.specs.Children.{entries_of};
+ghost use Rattle.hfs_model.specs.Reading.{get_dir_info, get_cat_info, get_indexed, list, read_fork, part_of};
+ghost use Rattle.hfs_model.specs.Step.{step, is_reading};
+ghost use Rattle.hfs_check.specs.VolumeOf.{contents_in, volume_of};
+ghost use Rattle.hfs_btree.specs.Blocks.{block_at};
+ghost use Rattle.hfs_volume.specs.Told.{pick};
+ghost use Rattle.hfs_volume.specs.Mounted.{AreForksIn};
+
+use crate::fork::read_part;
+use crate::image::Image;
+use crate::laws::catalog_answers;
+use crate::reading;
+use crate::reply::refusal;
+use hfs_btree::{Run, RunNodes};
+use hfs_check::trees_are_sound;
+use hfs_fields::{FileRecord, Mdb};
+use hfs_model::{Call, Fork, PARAMETER, Reply};
+use hfs_space::ForkKind;
+use std::alloc::{AllocError, Global};
+use std::marker::Model;
+
+/// A mounted volume. Contracts see its image as it was mounted, and as it is; the latter is sound, and nothing in it but
+/// what calls change differs from the former.
+#[derive(Drop)]
+pub struct Volume {
+    image: Image,
+    /// The master directory block.
+    mdb: Mdb,
+    /// The blocks of the extents tree's nodes.
+    extents: Vec<Run>,
+    /// The blocks of the catalog's nodes.
+    catalog: Vec<Run>,
+}
+
+impl Model for Volume {
+    ghost use Rattle.hfs_volume.specs.Image.{ImageValue};
+    ghost use Rattle.hfs_volume.specs.Mounted.{IsMounted};
+
+    ghost Value = { ImageValue };
+
+    ghost view = { λ v. v.image };
+
+    ghost invariant = { λ v. IsMounted v.image v.mdb v.extents.items v.catalog.items };
+}
+
+impl Volume {
+    /// Answers a call that reads, as [`Call::is_reading`] says, by the volume as it is now. The only error is want of memory.
+    ///
+    /// Source: Inside Macintosh: Files, chapter 2, "High-Level HFS Routines" and "Low-Level HFS Routines".
+    pub fn read(&self, alloc: Global, call: &Call) -> Result<Reply, AllocError>
+        requires { IsTrue (is_reading call.now) }
+        ensures { IfOk result (λ reply. reply ≡ (step (volume_of self.now.current) call.now).1) }
+    {
+        match call {
+            Call::GetDirInfo { dir } => Ok(self.get_dir_info(*dir)),
+            Call::GetCatInfo { dir, name } => Ok(self.get_cat_info(*dir, name.as_slice())),
+            Call::GetIndexed { dir, index } => self.get_indexed(alloc, *dir, *index),
+            Call::List { dir } => self.list(alloc, *dir),
+            Call::ReadFork {
+                dir,
+                name,
+                fork,
+                offset,
+                count,
+            } => self.read_fork(alloc, *dir, name.as_slice(), *fork, *offset, *count),
+            _ => unreachable!(),
+        }
+    }
+
+    /// What is told of the folder of that ID: -120 where it isn't the ID of a folder.
+    pub fn get_dir_info(&self, dir: u32) -> Reply
+        ensures { result ≡ get_dir_info (entries_of (volume_of self.now.current)) dir }
+    {
+        catalog_answers();
+        let blocks = self.image.blocks();
+        let catalog = RunNodes {
+            blocks: &blocks,
+            runs: &self.catalog,
+        };
+        reading::get_dir_info(&catalog, dir)
+    }
+
+    /// What is told of the folder's item of that name, whatever its case: -37 where the name isn't an item name, -120 where
+    /// `dir` isn't the ID of a folder, -43 where it holds no item of that name.
+    pub fn get_cat_info(&self, dir: u32, name: &[u8]) -> Reply
+        ensures { result ≡ get_cat_info (entries_of (volume_of self.now.current)) dir name.now }
+    {
+        catalog_answers();
+        let blocks = self.image.blocks();
+        let catalog = RunNodes {
+            blocks: &blocks,
+            runs: &self.catalog,
+        };
+        reading::get_cat_info(&catalog, dir, name)
+    }
+
+    /// What is told of the folder's child at that place in name order, counted from 1: -50 where `index` is 0, -120 where
+    /// `dir` isn't the ID of a folder, -43 where the folder has fewer children. The only error is want of memory.
+    pub fn get_indexed(&self, alloc: Global, dir: u32, index: u32) -> Result<Reply, AllocError>
+        ensures { IfOk result (λ reply. reply ≡ get_indexed (entries_of (volume_of self.now.current)) dir index) }
+    {
+        catalog_answers();
+        let blocks = self.image.blocks();
+        let catalog = RunNodes {
+            blocks: &blocks,
+            runs: &self.catalog,
+        };
+        reading::get_indexed(alloc, &catalog, dir, index)
+    }
+
+    /// What is told of all the folder's children, in name order: -120 where `dir` isn't the ID of a folder. The only error
+    /// is want of memory.
+    pub fn list(&self, alloc: Global, dir: u32) -> Result<Reply, AllocError>
+        ensures { IfOk result (λ reply. reply ≡ list (entries_of (volume_of self.now.current)) dir) }
+    {
+        catalog_answers();
+        let blocks = self.image.blocks();
+        let catalog = RunNodes {
+            blocks: &blocks,
+            runs: &self.catalog,
+        };
+        reading::list(alloc, &catalog, dir)
+    }
+
+    /// Bytes of a file's fork from an offset on, at most 65,536 of them: -50 where `count` is above that, -37, -120 and -43 as
+    /// in [`Volume::get_cat_info`], -43 where the item is a folder, and -39 with what there is where the fork ends before
+    /// `count` bytes. Only the blocks that have one of these bytes are read. The only error is want of memory.
+    pub fn read_fork(
+        &self,
+        alloc: Global,
+        dir: u32,
+        name: &[u8],
+        fork: Fork,
+        offset: u32,
+        count: u32,
+    ) -> Result<Reply, AllocError>
+        ensures { IfOk result (λ reply. reply ≡ read_fork (entries_of (volume_of self.now.current)) dir name.now fork offset count) }
+    {
+        if count > 65536 {
+            return Ok(refusal(PARAMETER));
+        }
+        catalog_answers();
+        let blocks = self.image.blocks();
+        let catalog = RunNodes {
+            blocks: &blocks,
+            runs: &self.catalog,
+        };
+        match reading::file_named(&catalog, dir, name) {
+            Ok(file) => self.fork_part(alloc, &file, fork, offset, count),
+            Err(reply) => Ok(reply),
+        }
+    }
+
+    /// A part of one of a file's forks.
+    fn fork_part(
+        &self,
+        alloc: Global,
+        file: &FileRecord,
+        fork: Fork,
+        offset: u32,
+        count: u32,
+    ) -> Result<Reply, AllocError>
+        requires { AreForksIn (block_at self.now.current) file.now }
+        ensures { IfOk result (λ reply. reply ≡ part_of (pick fork (contents_in (block_at self.now.current) file.now)) offset count) }
+    {
+        trees_are_sound();
+        let blocks = self.image.blocks();
+        let tree = RunNodes {
+            blocks: &blocks,
+            runs: &self.extents,
+        };
+        let (kind, record) = match fork {
+            Fork::DataFork => (ForkKind::Data, file.data),
+            Fork::ResFork => (ForkKind::Resource, file.resource),
+        };
+        read_part(
+            alloc, &blocks, &self.mdb, &tree, file.id, kind, &record, offset, count,
+        )
+    }
+}
