@@ -13,3 +13,4 @@ pub mod Faults
 pub mod Laws
 pub mod Edges
 pub mod Runs
+pub mod FileLists
