@@ -1,15 +1,12 @@
 -- The records of the extents tree are copied one after the other.
-use Rattle.std.proofs.Common.{◌≡◌, ℕ, ◌+◌, ◌<◌, ◌≤◌, Bool, true, false, cond, List, [], ◌∷◌, ◌++◌, length, drop, refl, sym, ap, ◌∙◌, append_assoc, append-nil, arith, Option, Some, None}
+use Rattle.std.proofs.Common.{◌≡◌, ℕ, ◌<◌, Bool, false, cond, [], ◌∷◌, refl, ap, ◌∙◌, arith}
 use Rattle.std.specs.Ordering.{is_gt, nat_cmp, ordering_then}
-use Rattle.std.specs.declared.cmp.Ordering.TheVariants.{Less, Equal, Greater}
 use Rattle.std.specs.declared.cmp.Ordering.{Ordering}
 use Rattle.std.proofs.lemmas.Cmp.{ranked, by_ranked}
 use Rattle.hfs_fields.specs.declared.key.ExtKey.{ExtKey}
 use Rattle.hfs_fields.specs.Keys.{ext_cmp}
 use Rattle.hfs_btree.specs.Pairs.{pairs_from}
-use Rattle.hfs_btree.specs.Lookups.{first_pair}
 use Rattle.hfs_space.specs.Extents.{Overflow}
-use Rattle.hfs_space.proofs.RunSteps.{Record}
 
 abbrev pub least : ExtKey
 least = record { fork = 0; file = 0; block = 0 }

@@ -1,21 +1,18 @@
 -- The run of a fork, record by record.
-use Rattle.std.proofs.Common.{◌≡◌, ◌≢◌, ℕ, zero, suc, ◌+◌, ◌<◌, ◌≤◌, ◌⊎◌, Bool, true, false, cond, not, ◌&&◌, ◌||◌, eqb, ltb, List, [], ◌∷◌, ◌++◌, length, take, drop, set, get_or, refl, sym, ap, ◌∙◌, subst, inl, inr, arith, Option, Some, None}
-use Rattle.std.specs.List.{list_any}
-use Rattle.std.specs.Ordering.{nat_cmp, is_eq, ordering_then, ordering_reverse}
-use Rattle.std.specs.declared.cmp.Ordering.{Ordering}
-use Rattle.std.specs.declared.cmp.Ordering.TheVariants.{Less, Equal, Greater}
+use Rattle.std.proofs.Common.{◌≡◌, ◌≢◌, ℕ, zero, suc, ◌+◌, ◌<◌, ◌≤◌, Bool, true, false, cond, ◌&&◌, ◌||◌, eqb, ltb, List, [], ◌∷◌, ◌++◌, length, take, drop, set, get_or, refl, sym, ap, ◌∙◌, inl, inr, arith}
+use Rattle.std.specs.Ordering.{is_eq}
+use Rattle.std.specs.declared.cmp.Ordering.TheVariants.{Less}
 use Rattle.std.proofs.lemmas.Cmp.{tied_itself}
 use Rattle.std.proofs.lemmas.List.Folds.{list_any-append}
-use Rattle.std.proofs.lemmas.List.{take_more, drop_more, take_all, get_or-set_same, get_or-set_other, append-nil, take-append-drop, get_or_default}
+use Rattle.std.proofs.lemmas.List.{take_more, get_or-set_same, get_or-set_other, append-nil, take-append-drop, get_or_default}
 use Rattle.std.proofs.lemmas.Bool.{eqb-true, eq-eqb, true≢false, cases_lt}
-use Rattle.hfs_fields.specs.declared.extent.Extent.{Extent}
 use Rattle.hfs_fields.specs.declared.key.ExtKey.{ExtKey}
 use Rattle.hfs_fields.specs.Keys.{ext_cmp, ext_cmp_total}
 use Rattle.hfs_btree.specs.Pairs.{Each, Rises}
 use Rattle.hfs_btree.specs.Elements.{each-at}
 use Rattle.hfs_btree.specs.Lookups.{flipped}
 use Rattle.hfs_space.specs.Extents.{Overflow, block_total, record_extents, goes_on, run_on}
-use Rattle.hfs_space.specs.Runs.{is_of_fork, is_before_fork, has_key_in, AddsMarks}
+use Rattle.hfs_space.specs.Runs.{is_of_fork, has_key_in, AddsMarks}
 
 abbrev pub Record : Type 0
 Record = ExtKey × List ℕ

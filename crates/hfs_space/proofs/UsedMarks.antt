@@ -1,11 +1,9 @@
 -- The marks of the records that forks go on with, fork after fork.
-use Rattle.std.proofs.Common.{◌≡◌, ℕ, ◌+◌, ◌<◌, ◌≤◌, Bool, true, false, ◌&&◌, ◌||◌, cond, List, [], ◌∷◌, ◌++◌, length, take, drop, get_or, refl, sym, ap, ◌∙◌, arith, append-nil}
-use Rattle.std.specs.List.{list_any, flat_map}
+use Rattle.std.proofs.Common.{◌≡◌, ℕ, ◌+◌, ◌<◌, ◌≤◌, Bool, true, false, ◌||◌, List, [], ◌∷◌, ◌++◌, length, take, drop, get_or, refl, sym, ap, ◌∙◌, arith, append-nil}
 use Rattle.std.proofs.lemmas.List.{take_all, take_more, drop_all}
 use Rattle.std.proofs.lemmas.List.Concat.{flat_map-append}
 use Rattle.std.proofs.lemmas.List.Folds.{list_any-append}
 use Rattle.hfs_fields.specs.declared.mdb.Mdb.{Mdb}
-use Rattle.hfs_fields.specs.declared.key.ExtKey.{ExtKey}
 use Rattle.hfs_fields.specs.declared.file_record.FileRecord.{FileRecord}
 use Rattle.hfs_space.specs.declared.files.CatalogFile.{CatalogFile}
 use Rattle.hfs_space.specs.Extents.{Overflow}

@@ -15,3 +15,4 @@ pub mod TreeFiles
 pub mod Edges
 pub mod FileLengths
 pub mod Runs
+pub mod FileLists

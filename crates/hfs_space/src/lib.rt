@@ -1,4 +1,4 @@
-//! The volume bitmap, and the forks of files in the allocation blocks of a volume.
+//! The volume bitmap, the forks of files in the allocation blocks of a volume, and the checks of both.
 #![tactic(auto)]
 
 mod bitmap;

@@ -252,3 +252,15 @@ fn owned_extents_of_all_forks(rt: HostRuntime) -> Result<(), Fail> {
     assert!(rt; some.as_slice() == wanted.as_slice());
     Ok(())
 }
+
+#[test]
+fn files_of_a_catalog(rt: HostRuntime) {
+    let body = laid_record();
+    let Some(file) = CatalogFile::read(7, &body) else {
+        return assert!(rt; false, "not a file's record");
+    };
+    assert_eq!(rt; file.number, 7);
+    assert_eq!(rt; file.file.id, 16);
+    assert!(rt; CatalogFile::read(7, &[2; 101]).is_none());
+    assert!(rt; CatalogFile::read(7, &[0; 102]).is_none());
+}

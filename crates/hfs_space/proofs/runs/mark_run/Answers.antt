@@ -1,7 +1,7 @@
 -- The walk through the fork's records marks its run.
-use Rattle.std.proofs.Common.{◌≡◌, ℕ, ◌+◌, ◌<◌, ◌≤◌, Bool, true, false, List, length, get_or, sym, ap, ◌∙◌, arith}
+use Rattle.std.proofs.Common.{◌≡◌, ◌+◌, Bool, List, length, get_or, sym, ap, ◌∙◌, arith}
 use Rattle.std.proofs.lemmas.List.{get_or_default}
-use Rattle.hfs_space.specs.Extents.{Overflow, fork_byte, block_total, record_extents, goes_on, run_on}
+use Rattle.hfs_space.specs.Extents.{block_total, record_extents, goes_on, run_on}
 use Rattle.hfs_space.specs.Runs.{is_of_fork}
 use Rattle.hfs_space.proofs.RunSteps.{Record, end-begins, marks-begin, end-more, end-same, run-same, marks-more, run-ends, marks-end}
 use Rattle.hfs_space.proofs.ForkOrder.{away_behind}

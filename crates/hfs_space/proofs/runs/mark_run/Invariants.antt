@@ -1,5 +1,5 @@
 -- The run so far is marked, and ends before this block.
-use Rattle.std.proofs.Common.{◌≡◌, length, take}
+use Rattle.std.proofs.Common.{◌≡◌, take}
 use Rattle.hfs_space.specs.Extents.{block_total, run_on}
 use Rattle.hfs_space.specs.Runs.{AddsMarks}
 use Rattle.hfs_space.proofs.RunSteps.{run_end}
