@@ -96,7 +96,7 @@ fn is_parent_right(
 }
 
 /// The number of the first record of an item, other than the root, whose parent is no folder, or whose chain of parents
-/// does not reach the root. No part of a chain is followed twice. `Err` only where memory is wanting.
+/// does not reach the root. What one chain shows is known for the next. `Err` only where memory is wanting.
 pub(crate) fn first_wrong_parent(
     alloc: Global,
     index: &ItemIndex<'_>,

@@ -46,8 +46,8 @@ fn first_misplaced(alloc: Global, catalog: &[(CatKey, Bytes)]) -> Result<Option<
 /// file keys"). A thread is of its item's kind, names its parent, and has its name without regard to case. A file need
 /// not have a thread.
 ///
-/// It goes through the records a fixed number of times, follows no part of a chain twice, and takes memory for an index of
-/// the items, a set of threads and a set of chains. `Err` only where memory is wanting.
+/// It goes through the records a fixed number of times, and follows each part of a chain of parents at most twice. It takes
+/// memory for an index of the items, a set of threads and a set of chains. `Err` only where memory is wanting.
 #[tactic(auto, unfolding(crate::specs::Faults::place_fault))]
 pub fn place_fault(
     alloc: Global,
