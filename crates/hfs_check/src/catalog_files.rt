@@ -1,32 +1,19 @@
 //! The files of a catalog.
-ghost use Rattle.std.specs.Prelude.{◌≡◌, ◌++◌, IfOk, OnOk, Some, None, if◌then◌else◌};
+ghost use Rattle.std.specs.Prelude.{◌≡◌, ◌++◌, IfOk, OnOk};
 ghost use Rattle.std.specs.Option.{option_to_list};
-ghost use Rattle.hfs_fields.specs.Records.{is_file, file_record_of};
 ghost use Rattle.hfs_check.specs.Answers.{numbered_file};
 ghost use Rattle.hfs_space.specs.Runs.{files_in};
 
-use hfs_fields::{CatKey, FileRecord};
+use hfs_fields::CatKey;
 use hfs_model::Bytes;
 use hfs_space::CatalogFile;
 use std::alloc::{AllocError, Global};
-
-/// A file's record with its number. None where the body is another record's.
-#[tactic(auto, unfolding(hfs_fields::specs::Records::begins_file))]
-fn file_of(number: usize, body: &[u8]) -> Option<CatalogFile>
-    ensures { result ≡ numbered_file number body.now }
-{
-    if body.len() != FileRecord::LENGTH {
-        return None;
-    }
-    let file = FileRecord::read(body)?;
-    Some(CatalogFile { number, file })
-}
 
 /// Takes a file's record with its number, if it is one.
 fn take_file(files: &mut Vec<CatalogFile>, number: usize, body: &[u8]) -> Result<(), AllocError>
     ensures { OnOk result (files.new.items ≡ files.old.items ++ option_to_list (numbered_file number body.now)) }
 {
-    if let Some(file) = file_of(number, body) {
+    if let Some(file) = CatalogFile::read(number, body) {
         files.push(file)?;
     }
     Ok(())

@@ -1,6 +1,5 @@
-use Rattle.std.proofs.Common.{◌∙◌, sym, ap, subst, Option, ℕ}
+use Rattle.std.proofs.Common.{◌∙◌, ap, subst, Option, ℕ}
 use Rattle.hfs_btree.specs.Shape.{shape_fault, has_counts}
-use Rattle.hfs_btree.specs.Tree.{Store}
 use Rattle.hfs_catalog.specs.Tree.{cat_keys}
 use Rattle.hfs_check.specs.Faults.{catalog_fault}
 use Rattle.hfs_check.specs.Parts.{catalog_nodes}

@@ -1,8 +1,4 @@
-use Rattle.std.proofs.Common.{◌∙◌, sym, ap, subst, Option, ℕ}
-use Rattle.hfs_space.specs.TreeKeys.{ext_keys}
-use Rattle.hfs_btree.specs.Shape.{has_counts}
-use Rattle.hfs_btree.specs.Tree.{Store}
-use Rattle.hfs_check.specs.Faults.{extents_fault}
+use Rattle.std.proofs.Common.{◌∙◌, ap, subst, Option, ℕ}
 use Rattle.hfs_check.specs.Answers.{extents_tree_fault}
 use Rattle.hfs_check.proofs.Opened.{Answers, extents_fault-right, extents_nodes-is, has-bytes}
 use Rattle.hfs_check.proofs.trees.check_extents.Goals as goal
