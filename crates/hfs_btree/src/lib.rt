@@ -12,7 +12,6 @@ mod key;
 mod key_levels;
 mod key_range;
 mod key_test;
-mod key_range;
 mod keys;
 mod leaf;
 mod node_list;
