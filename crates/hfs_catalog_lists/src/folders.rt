@@ -81,14 +81,15 @@ fn print_item(
     let parent = item.key.parent;
     match item.body {
         ItemRecord::Folder(folder) => {
-            println!(rt; "d {} {parent} {} - {name}{ways}", folder.id, folder.valence)?;
+            println!(rt;
+                "d {} {parent} {} - {name}{ways}",
+                folder.id, folder.valence
+            )?;
         }
         ItemRecord::File(file) => {
             println!(rt;
                 "f {} {parent} {} {} {name}{ways}",
-                file.id,
-                file.data.length,
-                file.resource.length
+                file.id, file.data.length, file.resource.length
             )?;
         }
     }

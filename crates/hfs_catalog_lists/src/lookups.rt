@@ -58,8 +58,7 @@ fn has_its_children(
         ItemRecord::File(_) => 0,
     };
     let count = catalog.children(alloc, id)?.len();
-    Ok(count == usize::from(valence)
-        && (count > 0 || catalog.lookup(id, &item.key.name).is_none()))
+    Ok(count == usize::from(valence) && (count > 0 || catalog.lookup(id, &item.key.name).is_none()))
 }
 
 /// The ways in which an item is not found, each behind a space. None where all is well.
@@ -113,9 +112,15 @@ fn ensure_no_name(alloc: Global, catalog: &Catalog<'_>, bytes: &[u8]) -> Result<
     let Some(name) = Name::of_bytes(bytes) else {
         bail!("the name is too long");
     };
-    ensure!(catalog.lookup(2, &name).is_none(), "no item's name is found");
+    ensure!(
+        catalog.lookup(2, &name).is_none(),
+        "no item's name is found"
+    );
     let key = CatKey { parent: 1, name };
-    ensure!(catalog.find(alloc, &key)?.is_none(), "no item's key is found");
+    ensure!(
+        catalog.find(alloc, &key)?.is_none(),
+        "no item's key is found"
+    );
     Ok(())
 }
 
@@ -134,6 +139,9 @@ pub fn ensure_absent(alloc: Global, catalog: &Catalog<'_>, next_id: u32) -> Resu
         parent: u32::MAX,
         name,
     };
-    ensure!(catalog.next_after(alloc, &last)?.is_none(), "a pair is behind all");
+    ensure!(
+        catalog.next_after(alloc, &last)?.is_none(),
+        "a pair is behind all"
+    );
     Ok(())
 }

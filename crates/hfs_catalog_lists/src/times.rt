@@ -35,18 +35,14 @@ fn list_all(alloc: Global, catalog: &Catalog<'_>, records: usize) -> Result<Coun
 }
 
 /// Prints how long it takes to list all folders.
-pub fn print_listing(
-    rt: &(impl Print + AllocGlobal + Clock),
-    catalog: &Catalog<'_>,
-) -> Result<()> {
+pub fn print_listing(rt: &(impl Print + AllocGlobal + Clock), catalog: &Catalog<'_>) -> Result<()> {
     let records = catalog.records(rt.alloc())?.len();
     let start = Instant::now(rt)?;
     let counts = list_all(rt.alloc(), catalog, records)?;
     let spent = start.elapsed(rt)?.as_micros();
     println!(rt;
         "{} folders with {} items listed in {spent} microseconds",
-        counts.folders,
-        counts.items
+        counts.folders, counts.items
     )?;
     Ok(())
 }
