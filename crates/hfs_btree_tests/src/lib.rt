@@ -4,6 +4,8 @@
 #[cfg(test)]
 mod deep;
 #[cfg(test)]
+mod key_records;
+#[cfg(test)]
 mod laid;
 #[cfg(test)]
 mod runs;
