@@ -33,7 +33,7 @@ module _ {K : Type 0} (g : Ghosts K) (nodes : Store) (spot : Spot) where
       let both = (and_parts (is_within nodes spot.n && is_result_at g spot (node_in nodes spot.n)) (is_marked nodes spot.n) (and_parts _ b right).0).0 in
       ltb-true _ _ (and_parts (nat_le 1 spot.n) (nat_lt spot.n (header_in nodes).nodes) (and_parts (is_within nodes spot.n) _ both).0).1
 
-reads-above : {K : Type 0} (g : Ghosts K) (above : ℕ) (es : List (List ℕ)) → 0 < above → list_all (reads_at g above) es ≡ true → list_all g.is_index es ≡ true
+pub reads-above : {K : Type 0} (g : Ghosts K) (above : ℕ) (es : List (List ℕ)) → 0 < above → list_all (reads_at g above) es ≡ true → list_all g.is_index es ≡ true
 reads-above g zero es some h = absurd (omega arith)
 reads-above g (suc k) es some h = h
 

@@ -15,4 +15,6 @@ pub mod First
 pub mod Scans
 pub mod Order
 pub mod OrderLaw
+pub mod Subtree
 pub mod Rises
+pub mod KeySteps

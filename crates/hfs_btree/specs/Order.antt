@@ -8,7 +8,7 @@ use Rattle.hfs_btree.specs.First.{first_failing}
 use Rattle.hfs_btree.specs.Pairs.{Order, Pairs}
 use Rattle.hfs_btree.specs.Tree.{Store, records_in, under, Spot}
 use Rattle.hfs_btree.specs.Header.{leaves, tree_content, tree_turn}
-use Rattle.hfs_btree.specs.Shape.{◌or_else◌}
+use Rattle.hfs_btree.specs.Shape.{◌or_else◌, shape_fault}
 use Rattle.hfs_btree.specs.Sound.{part_of}
 
 -- the first node in turn that fails the test
@@ -59,6 +59,12 @@ index_order_fault g nodes = first_node (is_keyed g nodes) (tree_turn g nodes)
 -- the first node of the levels, in their turn, whose keys are not in order: the index nodes stand before all leaves
 unfoldable pub order_fault : {K : Type 0} → Ghosts K → Store → Option ℕ
 order_fault g nodes = index_order_fault g nodes or_else leaf_order_fault g nodes
+
+-- ---- the first fault
+
+-- the first fault of a tree in a file of so many bytes: of its shape, or where it has its shape of its order
+unfoldable pub tree_fault : {K : Type 0} → Ghosts K → ℕ → Store → Option ℕ
+tree_fault g size nodes = shape_fault g size nodes or_else order_fault g nodes
 
 -- ---- keys alone
 

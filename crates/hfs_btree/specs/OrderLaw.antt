@@ -1,4 +1,4 @@
--- A tree that has its shape is in order exactly where its order has no fault.
+-- A tree is in order, and sound, exactly where it has no fault.
 use Rattle.std.proofs.Common.{◌≡◌, ℕ, zero, suc, Bool, true, false, List, [], ◌∷◌, map, Option, Some, None, refl, ap, ◌∙◌, inl, inr}
 use Rattle.std.specs.Prelude.{◌&&◌, ◌↔◌, not}
 use Rattle.std.specs.Bool.{Decides}
@@ -10,15 +10,15 @@ use Rattle.std.specs.Ordering.{is_gt, is_lt}
 use Rattle.std.proofs.lemmas.Bool.{and_parts, and_from, cases_Bool, not-true, not_from_false}
 use Rattle.hfs_btree.specs.declared.key.Key.{Ghosts}
 use Rattle.hfs_btree.specs.Pairs.{Order, Pairs, Each, Rises, IsAtMost, IsAbove}
-use Rattle.hfs_btree.specs.Elements.{each-mono}
 use Rattle.hfs_btree.specs.Tree.{Store, Spot, records_in, under}
 use Rattle.hfs_btree.specs.Header.{tree_content, tree_turn}
-use Rattle.hfs_btree.specs.Shape.{◌or_else◌}
+use Rattle.hfs_btree.specs.Shape.{◌or_else◌, shape_fault}
+use Rattle.hfs_btree.specs.ShapeLaw.{shape-law}
 use Rattle.hfs_btree.specs.Scans.{Later, passes_from_none, none_from_passes, later_from_passes, passes_from_later, all_decides}
-use Rattle.hfs_btree.specs.Sound.{HasStructure, HasCounts, part_of, ArePartsInOrder, AreKeysInOrder, IsOrdered, IsSound}
-use Rattle.hfs_btree.specs.Order.{first_node, is_above_all, rise_fault, pair_leaves, leaf_order_fault, are_parts_in_order, are_keys_in_order, is_keyed, index_order_fault, order_fault}
+use Rattle.hfs_btree.specs.Sound.{HasStructure, HasCounts, IsWithinFile, IsShaped, part_of, ArePartsInOrder, AreKeysInOrder, IsOrdered, IsSound}
+use Rattle.hfs_btree.specs.Order.{first_node, is_above_all, rise_fault, leaf_order_fault, are_parts_in_order, are_keys_in_order, is_keyed, index_order_fault, order_fault, tree_fault}
 
-less-by : (o : Ordering) → Decides (is_lt o) (o ≡ Less)
+pub less-by : (o : Ordering) → Decides (is_lt o) (o ≡ Less)
 less-by Less = (λ _. refl, λ _. refl)
 less-by Equal = (λ (h : is_lt Equal ≡ true). cc, λ (h : Equal ≡ Less). cc)
 less-by Greater = (λ (h : is_lt Greater ≡ true). cc, λ (h : Greater ≡ Less). cc)
@@ -84,10 +84,10 @@ first_node-law test P decides spots = (none-first spots, first-none spots)
     first-none (spot ∷ spots) h = rw ((decides spot).1 h.0) (first-none spots h.1)
 
 module _ {K : Type 0} (cmp : Order K) where
-  above-by : (key : K) (ps : Pairs K) → Decides (list_all (λ p. is_lt (cmp p.0 key)) ps) (IsAbove cmp key ps)
+  pub above-by : (key : K) (ps : Pairs K) → Decides (list_all (λ p. is_lt (cmp p.0 key)) ps) (IsAbove cmp key ps)
   above-by key ps = all_decides (λ p. is_lt (cmp p.0 key)) (λ p. cmp p.0 key ≡ Less) (λ p. less-by (cmp p.0 key)) ps
 
-  least-by : (key : K) (ps : Pairs K) → Decides (list_all (λ p. not (is_gt (cmp key p.0))) ps) (IsAtMost cmp key ps)
+  pub least-by : (key : K) (ps : Pairs K) → Decides (list_all (λ p. not (is_gt (cmp key p.0))) ps) (IsAtMost cmp key ps)
   least-by key ps = all_decides (λ p. not (is_gt (cmp key p.0))) (λ p. is_gt (cmp key p.0) ≡ false) (λ p. at-most-by (cmp key p.0)) ps
 
   pub parts-by : (before : Pairs K) (parts : List (K × Pairs K)) → Decides (are_parts_in_order cmp before parts) (ArePartsInOrder cmp before parts)
@@ -134,6 +134,19 @@ module _ {K : Type 0} (g : Ghosts K) (nodes : Store) where
     λ h. ap (λ (o : Option ℕ). o or_else leaf_order_fault g nodes) ((index-order-law g nodes).1 h.keys) ∙ (leaf-order-law g nodes).1 h.rises,
   )
 
-  -- the parts of a sound tree
-  pub sound-of : HasStructure g nodes → HasCounts g nodes → IsOrdered g nodes → IsSound g nodes
-  sound-of structure counts ordered = record { structure = structure; counts = counts; ordered = ordered }
+-- the parts of a sound tree
+pub sound-of : {K : Type 0} (g : Ghosts K) (nodes : Store) → HasStructure g nodes → HasCounts g nodes → IsOrdered g nodes → IsSound g nodes
+sound-of g nodes structure counts ordered = record { structure = structure; counts = counts; ordered = ordered }
+
+-- a tree is sound and within its file exactly where it has no fault
+pub sound-law : {K : Type 0} (g : Ghosts K) (size : ℕ) (nodes : Store) → (tree_fault g size nodes ≡ None) ↔ (IsSound g nodes × IsWithinFile size nodes)
+unfolding tree_fault
+sound-law g size nodes = (
+  λ is.
+      let both = neither (shape_fault g size nodes) (order_fault g nodes) is in
+      let shaped = (shape-law g size nodes).0 both.0 in
+      (sound-of g nodes shaped.structure shaped.counts ((order-law g nodes).0 both.1), shaped.within),
+  λ h.
+      let shaped : IsShaped g size nodes = record { structure = h.0.structure; counts = h.0.counts; within = h.1 } in
+      ap (λ (o : Option ℕ). o or_else order_fault g nodes) ((shape-law g size nodes).1 shaped) ∙ (order-law g nodes).1 h.0.ordered,
+)

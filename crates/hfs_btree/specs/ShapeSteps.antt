@@ -15,6 +15,11 @@ abbrev pub IsFault : Option ℕ → TreeFault → Type 0
 IsFault fault (At n) = fault ≡ Some n
 IsFault fault Memory = ⊤
 
+-- the answer names this fault
+abbrev pub IsPlace : Option ℕ → TreeFault → Type 0
+IsPlace fault (At n) = fault ≡ Some n
+IsPlace fault Memory = ⊥
+
 -- the answer is that node n fails a test, and it does, or memory was refused
 abbrev pub IsWrongAt : Bool → ℕ → TreeFault → Type 0
 IsWrongAt test n (At m) = (m ≡ n) × (test ≡ false)

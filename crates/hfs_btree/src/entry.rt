@@ -28,6 +28,17 @@ pub(crate) fn child_of<K: Key>(entry: &[u8]) -> u32
     }
 }
 
+/// The key of an index record.
+pub(crate) fn index_key_of<K: Key>(entry: &[u8]) -> K
+    requires { K.is_index entry.now ≡ true }
+    ensures { result ≡ K.index_key entry.now }
+{
+    match K::read_index(entry) {
+        Some((key, _)) => key,
+        None => unreachable!(),
+    }
+}
+
 /// The key of a leaf's record.
 pub(crate) fn key_of<K: Key>(entry: &[u8]) -> K
     requires { K.is_leaf entry.now ≡ true }

@@ -46,7 +46,7 @@ fn fall_in<K: Key>(bytes: &[u8; 512], last: &mut Option<K>) -> Option<usize>
     None
 }
 
-/// The first leaf record whose key doesn't rise above those before it.
+/// A leaf record whose key doesn't rise above those before it.
 #[derive(Clone, Copy)]
 struct Fall {
     /// The leaf that holds it.
@@ -55,7 +55,7 @@ struct Fall {
     number: usize,
 }
 
-/// Reads each leaf once, up to the first such record.
+/// The first such record, if there is one. Reads each leaf once, up to it.
 fn first_fall<K: Key, N: Nodes>(nodes: &N) -> Option<Fall>
     requires structure { HasStructure K.Key (N.nodes nodes.now) }
     requires counts { HasCounts K.Key (N.nodes nodes.now) }
@@ -85,6 +85,8 @@ fn first_fall<K: Key, N: Nodes>(nodes: &N) -> Option<Fall>
 /// None where the leaf keys strictly rise.
 ///
 /// It reads the header node and each leaf once, compares each key with the one before it, and takes no memory.
+///
+/// Source: Inside Macintosh: Files, chapter 2, 'B*-trees': records stand in the order of their keys.
 pub fn rise_fault<K: Key, N: Nodes>(nodes: &N) -> Option<usize>
     requires structure { HasStructure K.Key (N.nodes nodes.now) }
     requires counts { HasCounts K.Key (N.nodes nodes.now) }
@@ -100,6 +102,8 @@ pub fn rise_fault<K: Key, N: Nodes>(nodes: &N) -> Option<usize>
 /// strictly rise. Of two keys that don't rise it is the leaf of the later.
 ///
 /// It reads the header node and each leaf once, and takes no memory.
+///
+/// Source: Inside Macintosh: Files, chapter 2, 'B*-trees': records stand in the order of their keys.
 pub fn leaf_order_fault<K: Key, N: Nodes>(nodes: &N) -> Option<u32>
     requires structure { HasStructure K.Key (N.nodes nodes.now) }
     requires counts { HasCounts K.Key (N.nodes nodes.now) }

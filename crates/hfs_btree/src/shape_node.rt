@@ -72,7 +72,7 @@ fn child_in<K: Key>(entry: &[u8]) -> u32
 }
 
 /// Adds the children that an index node names.
-fn push_children<K: Key>(node: &NodeView, next: &mut Vec<u32>) -> Result<(), AllocError>
+pub(crate) fn push_children<K: Key>(node: &NodeView, next: &mut Vec<u32>) -> Result<(), AllocError>
     requires { list_all K.is_index node.now.records ≡ true }
     ensures { OnOk result (next.new.items ≡ next.old.items ++ map K.child node.now.records) }
 {

@@ -10,3 +10,9 @@ pub mod Found
 pub mod Steps
 pub mod Queries
 pub mod Walked
+pub mod Indexed
+pub mod IdSteps
+pub mod ValenceSteps
+pub mod OrderSteps
+pub mod ParentSteps
+pub mod PlaceSteps

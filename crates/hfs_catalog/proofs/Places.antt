@@ -22,15 +22,15 @@ use Rattle.hfs_catalog.proofs.Reach.{reach_decides}
 
 -- ---- keys
 
-abbrev IsBefore : Record → Record → Type 0
+abbrev pub IsBefore : Record → Record → Type 0
 IsBefore earlier r = cat_cmp earlier.0 r.0 ≡ Less
 
-less_decides : (o : Ordering) → Decides (is_lt o) (o ≡ Less)
+pub less_decides : (o : Ordering) → Decides (is_lt o) (o ≡ Less)
 less_decides Less = (λ e. refl, λ e. refl)
 less_decides Equal = (λ e. absurd (true≢false (sym e)), λ e. ap is_lt e)
 less_decides Greater = (λ e. absurd (true≢false (sym e)), λ e. ap is_lt e)
 
-above_decides : (before : Catalog) (r : Record) → Decides (is_above before r) (Each (λ e. IsBefore e r) before)
+pub above_decides : (before : Catalog) (r : Record) → Decides (is_above before r) (Each (λ e. IsBefore e r) before)
 unfolding is_above
 above_decides before r = all_decides (λ e. is_lt (cat_cmp e.0 r.0)) (λ e. IsBefore e r) (λ e. less_decides (cat_cmp e.0 r.0)) before
 

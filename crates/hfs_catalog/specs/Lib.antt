@@ -6,3 +6,4 @@ pub mod Items
 pub mod Tree
 pub mod Lookups
 pub mod Laws
+pub mod Indexes

@@ -1,7 +1,8 @@
 //! One item of the catalog, as its record has it.
 ghost use Rattle.std.specs.Prelude.{◌≡◌, if◌then◌else◌, Some, None};
-ghost use Rattle.hfs_fields.specs.Records.{is_dir, is_file, is_item, is_thread};
+ghost use Rattle.hfs_fields.specs.Records.{is_dir, is_file, is_item, is_thread, item_id};
 ghost use Rattle.hfs_catalog.specs.Records.{has_id};
+ghost use Rattle.hfs_catalog.specs.Indexes.{only_if};
 ghost use Rattle.hfs_catalog.specs.Lookups.{catalog_item};
 
 use hfs_fields::{CatKey, DirRecord, FileRecord, ThreadRecord};
@@ -71,6 +72,21 @@ pub(crate) fn item_with_id(key: CatKey, body: &[u8], id: u32) -> Option<CatalogI
         ItemRecord::File(file) => file.id,
     };
     if own == id { Some(item) } else { None }
+}
+
+/// The ID of a folder's or a file's record. None exactly where the body is neither's.
+#[tactic(auto, unfolding(hfs_fields::specs::Records::begins_dir, hfs_fields::specs::Records::begins_file))]
+pub(crate) fn item_id(body: &[u8]) -> Option<u32>
+    ensures { result ≡ only_if (is_item body.now) (item_id body.now) }
+{
+    if !is_item(body) {
+        return None;
+    }
+    if is_folder(body) {
+        Some(DirRecord::read(body)?.id)
+    } else {
+        Some(FileRecord::read(body)?.id)
+    }
 }
 
 /// Whether a body is a thread's record.

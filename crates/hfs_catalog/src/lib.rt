@@ -2,12 +2,22 @@
 #![tactic(auto)]
 
 mod checks;
+mod id_check;
+mod id_set;
+mod index;
 mod item;
 mod laws;
 mod lookups;
 mod records;
+mod numbers;
+mod order_check;
+mod parent_check;
+mod place_check;
+mod thread_check;
+mod valence_check;
 
 pub use checks::{count_fault, name_fault, record_fault};
+pub use id_check::id_fault;
 pub use item::{CatalogItem, ItemRecord, item_of};
 pub use laws::{
     count_faults, entries_are_records, id_faults, items_are_records, name_faults,
@@ -16,6 +26,10 @@ pub use laws::{
 };
 pub use lookups::{by_id, children, lookup, thread};
 pub use records::read_records;
+pub use place_check::place_fault;
+pub use valence_check::valence_fault;
 
+#[cfg(test)]
+mod place_tests;
 #[cfg(test)]
 mod tests;

@@ -6,3 +6,15 @@ pub mod Checked
 pub mod Whole
 pub mod LawfulVolume
 pub mod Stays
+pub mod NodesRead
+pub mod BitsRead
+pub mod NewVolume
+pub mod NewBlocks
+pub mod HeaderRead
+pub mod SmallTrees
+pub mod NewFiles
+pub mod NewCatalog
+pub mod NewSpace
+pub mod PlanFacts
+pub mod NewImage
+pub mod Opened

@@ -2,11 +2,15 @@
 ghost use Rattle.std.specs.Prelude.{vec_len, ◌≡◌, ◌+◌, ◌*◌, ◌-◌, ◌<◌, ◌≤◌, ◌⊎◌, None, Some, IfOk, IfErr};
 ghost use Rattle.hfs_check.specs.BitRow.{bit_row};
 ghost use Rattle.hfs_check.specs.Plan.{IsLayout, used_blocks, format_fault};
+ghost use Rattle.hfs_check.specs.FormatLaws.{new_volume};
 ghost use Rattle.hfs_check.specs.Image as spec;
+ghost use Rattle.hfs_check.specs.Sound.{IsSound};
+ghost use Rattle.hfs_check.specs.VolumeOf.{volume_of};
 
 use crate::bit_row::push_bits;
 use crate::block_row::BlockRow;
 use crate::fault::FormatFault;
+use crate::format_laws::{new_images_are_sound, new_images_hold_new_volumes};
 use crate::layout::Layout;
 use crate::mdb_block::mdb_block;
 use crate::plan::FormatPlan;
@@ -65,7 +69,8 @@ fn volume_image(alloc: Global, volume: &Layout) -> Result<Vec<u8>, AllocError>
 
 /// The image of a new volume, `512 * plan.blocks` bytes: two empty boot blocks, the master directory block, the bitmap,
 /// the extents file with an empty tree, the catalog file with the root folder and its thread, and the alternate master
-/// directory block in the last block but one. Each byte that these don't name is 0. All dates are `plan.now`.
+/// directory block in the last block but one. Each byte that these don't name is 0. All dates are `plan.now`. The image
+/// passes every check of a volume, and holds the root folder alone.
 ///
 /// Errors: the first of `BadName`, `BadSize`, `BadNodes` and `NoRoom` that the plan has, as `FormatFault` says, before
 /// any memory is asked for; `Memory` only where memory was refused.
@@ -76,9 +81,13 @@ fn volume_image(alloc: Global, volume: &Layout) -> Result<Vec<u8>, AllocError>
 pub fn format(alloc: Global, plan: FormatPlan) -> Result<Vec<u8>, FormatFault>
     ensures image { IfOk result (λ image. (format_fault plan ≡ None) × (image.items ≡ spec.new_image plan)) }
     ensures len { IfOk result (λ image. vec_len image ≡ 512 * plan.blocks) }
+    ensures sound { IfOk result (λ image. IsSound image.items) }
+    ensures volume { IfOk result (λ image. volume_of image.items ≡ new_volume plan) }
     ensures fault { IfErr result (λ fault. ((fault ≡ FormatFault.Memory) × (format_fault plan ≡ None)) ⊎ (format_fault plan ≡ Some fault)) }
 {
     let volume = Layout::of(&plan)?;
+    new_images_are_sound();
+    new_images_hold_new_volumes();
     match volume_image(alloc, &volume) {
         Ok(image) => Ok(image),
         Err(_) => Err(FormatFault::Memory),

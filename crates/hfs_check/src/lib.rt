@@ -3,7 +3,10 @@
 
 mod bit_row;
 mod block_row;
+mod catalog_files;
+mod checking;
 mod fault;
+mod format_laws;
 mod formatting;
 mod laws;
 mod layout;
@@ -11,11 +14,18 @@ mod mdb_block;
 mod mdb_check;
 mod mount_fault;
 mod node_block;
+mod number_checks;
 mod plan;
+mod record_checks;
+mod report;
 mod root_leaf;
+mod tree_checks;
 mod tree_header;
+mod trees;
 
+pub use crate::checking::{SoundVolume, check_blocks, check_image};
 pub use crate::fault::FormatFault;
+pub use crate::format_laws::{new_images_are_sound, new_images_hold_new_volumes};
 pub use crate::formatting::format;
 pub use crate::laws::{
     agrees_on, agrees_with_itself, blocks_faults, bytes_stay, catalog_faults, catalog_is_sound,
@@ -24,6 +34,8 @@ pub use crate::laws::{
 };
 pub use crate::mount_fault::MountFault;
 pub use crate::plan::FormatPlan;
+pub use crate::report::{Alternate, Report};
+pub use crate::trees::VolumeTrees;
 
 #[cfg(test)]
 mod tests;

@@ -1,4 +1,8 @@
 //! Why an image is refused.
+ghost use Rattle.std.specs.Prelude.{◌≡◌};
+ghost use Rattle.hfs_check.specs.declared.mount_fault.MountFault.TheVariants.{Memory};
+
+use std::alloc::AllocError;
 use thiserror::Error;
 
 /// Why an image is not mounted: the first of the checks of docs/CHECKS.md that fails, in their order. The variants but
@@ -30,9 +34,17 @@ pub enum MountFault {
         /// many these are where what fails is none of them. Of 10 it is the number of the count, 1 to 4. Of 11 it is the
         /// number of a record among those of the catalog's leaves and, behind these, of the extents tree's leaves. Of 12 it
         /// is the number of an allocation block, and how many these are where the number of free ones is wrong.
-        place: u32,
+        place: u64,
     },
     /// Memory was refused, which says nothing of the image.
     #[error("out of memory")]
     Memory,
+}
+
+impl From<AllocError> for MountFault {
+    ghost from_gives = { λ _ fault. fault ≡ Memory };
+
+    fn from(_: AllocError) -> MountFault {
+        MountFault::Memory
+    }
 }

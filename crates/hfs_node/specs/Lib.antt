@@ -4,4 +4,5 @@ pub mod Node
 pub mod Laid
 pub mod Below
 pub mod Decoding
+pub mod ReadBack
 pub mod Sizes

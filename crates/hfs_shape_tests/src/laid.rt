@@ -1,5 +1,5 @@
 //! Trees of extents records that are laid by hand.
-use hfs_btree::{NodeList, TreeFault, check_shape};
+use hfs_btree::{NodeList, TreeFault, check_shape, check_tree};
 use hfs_fields::ExtKey;
 use std::process::Abort;
 
@@ -104,7 +104,7 @@ pub fn put(node: usize, at: usize, bytes: &[u8]) -> Edit<'_> {
 }
 
 /// Puts bytes into a node.
-fn apply(rt: &impl Abort, nodes: &mut [[u8; 512]], edit: Edit) {
+pub fn apply(rt: &impl Abort, nodes: &mut [[u8; 512]], edit: Edit) {
     let len = edit.bytes.len();
     assert!(rt; edit.node < nodes.len());
     assert!(rt; len <= 512);
@@ -114,18 +114,37 @@ fn apply(rt: &impl Abort, nodes: &mut [[u8; 512]], edit: Edit) {
     nodes[edit.node][from..to].copy_from_slice(edit.bytes);
 }
 
-/// Checks the tree with these edits: a fault at this node, or none.
+/// The tree with these edits.
+fn edited(rt: &impl Abort, tree: [[u8; 512]; 11], edits: &[Edit]) -> [[u8; 512]; 11] {
+    let mut nodes = tree;
+    for change in edits {
+        apply(rt, &mut nodes, *change);
+    }
+    nodes
+}
+
+/// Checks the shape of the tree with these edits: a fault at this node, or none.
 pub fn assert_fault(
     rt: &(impl Abort + AllocGlobal),
     tree: [[u8; 512]; 11],
     edits: &[Edit],
     want: Option<u32>,
 ) {
-    let mut nodes = tree;
-    for change in edits {
-        apply(rt, &mut nodes, *change);
-    }
+    let nodes = edited(rt, tree, edits);
     let list = NodeList { nodes: &nodes };
     let answer = check_shape::<ExtKey, NodeList>(rt.alloc(), &list, 5632);
+    assert_eq!(rt; answer.err(), want.map(TreeFault::At));
+}
+
+/// Checks the shape and the order of the tree with these edits: a fault at this node, or none.
+pub fn assert_tree_fault(
+    rt: &(impl Abort + AllocGlobal),
+    tree: [[u8; 512]; 11],
+    edits: &[Edit],
+    want: Option<u32>,
+) {
+    let nodes = edited(rt, tree, edits);
+    let list = NodeList { nodes: &nodes };
+    let answer = check_tree::<ExtKey, NodeList>(rt.alloc(), &list, 5632);
     assert_eq!(rt; answer.err(), want.map(TreeFault::At));
 }

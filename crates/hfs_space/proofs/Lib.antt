@@ -9,3 +9,13 @@ pub mod Agreed
 pub mod OwnedOnce
 pub mod OwnedWithin
 pub mod TreeRuns
+pub mod Rooms
+pub mod EdgeCounts
+pub mod SpaceWalk
+pub mod RunSteps
+pub mod ForkOrder
+pub mod Copied
+pub mod Walked
+pub mod UsedMarks
+pub mod ForkFaults
+pub mod OwnedAll

@@ -12,3 +12,7 @@ pub mod Sound
 pub mod Faults
 pub mod Laws
 pub mod TreeFiles
+pub mod Edges
+pub mod FileLengths
+pub mod Runs
+pub mod FileLists

@@ -29,7 +29,7 @@ fn block_count(extent: Extent) -> u32
 }
 
 /// How many allocation blocks three extents have.
-fn block_total(extents: &[Extent; 3]) -> u32
+pub(crate) fn block_total(extents: &[Extent; 3]) -> u32
     ensures total { result ≡ spec.block_total extents.now }
     ensures bound { result < 2 ^ 18 }
 {

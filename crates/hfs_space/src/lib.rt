@@ -1,21 +1,34 @@
-//! The volume bitmap, and the forks of files in the allocation blocks of a volume.
+//! The volume bitmap, the forks of files in the allocation blocks of a volume, and the checks of both.
 #![tactic(auto)]
 
 mod bitmap;
 mod bits;
+mod checks;
 mod extents;
+mod files;
 mod fork;
+mod fork_checks;
 mod fork_kind;
 mod laws;
+mod overflow;
+mod owned;
+mod owners;
 mod patch;
 mod patched;
 mod tree_file;
+mod runs;
+mod space;
 
 pub use bitmap::Bitmap;
+pub use checks::is_tree_file;
 pub use extents::{are_within, fork_extents};
+pub use files::CatalogFile;
 pub use fork::read_fork;
+pub use fork_checks::fork_fault;
 pub use fork_kind::ForkKind;
 pub use laws::{fork_faults, owned_are_within, space_faults, tree_files};
+pub use owned::owned_extents;
 pub use patch::Patch;
 pub use patched::Patched;
 pub use tree_file::tree_runs;
+pub use space::{space_fault, stray_count};

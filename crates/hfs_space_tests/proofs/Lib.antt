@@ -1,1 +1,2 @@
 mod OverflowSound
+mod BadBlocksSound

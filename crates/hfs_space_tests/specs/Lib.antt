@@ -1,1 +1,2 @@
 pub mod OverflowTree
+pub mod BadBlocksTree

@@ -1,6 +1,8 @@
-//! Tests of the bitmap and of forks, on volumes that are laid by hand.
+//! Tests of the bitmap, of forks, and of the checks of both, on volumes that are laid by hand.
 #![tactic(auto)]
 
+#[cfg(test)]
+mod bad_blocks;
 #[cfg(test)]
 mod bitmaps;
 #[cfg(test)]
@@ -9,3 +11,5 @@ mod forks;
 mod laid;
 #[cfg(test)]
 mod overflow;
+#[cfg(test)]
+mod space;

@@ -6,7 +6,9 @@ ghost use Rattle.hfs_space_tests.specs.OverflowTree.{header_bytes, leaf_bytes};
 use crate::laid::{bytes_by, laid_byte, mdb_with};
 use hfs_btree::{ImageBytes, NodeList};
 use hfs_fields::{Extent, FileRecord, ForkRecord};
-use hfs_space::{ForkKind, are_within, fork_extents, read_fork};
+use hfs_space::{
+    CatalogFile, ForkKind, are_within, fork_extents, fork_fault, owned_extents, read_fork,
+};
 use std::test::Fail;
 
 /// The header node: depth 1, root, first and last leaf 1, four records, two nodes, none of them free.
@@ -148,4 +150,117 @@ fn a_file_is_read_by_its_record(rt: HostRuntime) -> Result<(), Fail> {
         [24, 25, 26, 27, 28, 29, 30, 31, 32, 33].as_slice()
     );
     Ok(())
+}
+
+/// A file with this data fork and an empty resource fork, under its number among the catalog's records.
+fn file_with(number: usize, id: u32, length: u32, extents: [Extent; 3]) -> CatalogFile {
+    let mut file = FileRecord::new(id, 0);
+    file.data.length = length;
+    file.data.extents = extents;
+    CatalogFile { number, file }
+}
+
+/// The three files whose forks go on in the tree, as records 3, 5 and 6 of a catalog.
+fn laid_files() -> [CatalogFile; 3] {
+    [
+        file_with(3, 16, 2_000, laid_extents()),
+        file_with(5, 17, 1_024, [NONE; 3]),
+        file_with(6, 18, 3_584, [extent(24, 1), extent(26, 1), extent(28, 1)]),
+    ]
+}
+
+#[test]
+fn sound_extents(rt: HostRuntime) -> Result<(), Fail> {
+    let list = overflow_tree();
+    let tree = NodeList { nodes: &list };
+    let mdb = mdb_with(58, 1, 4);
+    let fault = fork_fault(rt.alloc(), &mdb, &tree, &laid_files(), 8)?;
+    assert_eq!(rt; fault, None);
+    Ok(())
+}
+
+#[test]
+fn records_that_no_fork_goes_on_with(rt: HostRuntime) -> Result<(), Fail> {
+    let list = overflow_tree();
+    let tree = NodeList { nodes: &list };
+    let mdb = mdb_with(58, 1, 4);
+    let [first, second, third] = laid_files();
+    // File 17 isn't there; the tree's record 1 is its.
+    let fault = fork_fault(rt.alloc(), &mdb, &tree, &[first, third], 8)?;
+    assert_eq!(rt; fault, Some(9));
+    // File 18 ends a block earlier, so that neither record 2 nor 3 goes on.
+    let shorter = file_with(6, 18, 512, [extent(24, 1), extent(26, 1), NONE]);
+    let fault = fork_fault(rt.alloc(), &mdb, &tree, &[first, second, shorter], 8)?;
+    assert_eq!(rt; fault, Some(10));
+    let fault = fork_fault(rt.alloc(), &mdb, &tree, &[], 0)?;
+    assert_eq!(rt; fault, Some(0));
+    Ok(())
+}
+
+#[test]
+fn wrong_forks(rt: HostRuntime) -> Result<(), Fail> {
+    let list = overflow_tree();
+    let tree = NodeList { nodes: &list };
+    let [first, second, third] = laid_files();
+    // Four blocks have 2,048 bytes.
+    let mdb = mdb_with(58, 1, 4);
+    let longer = file_with(3, 16, 2_049, laid_extents());
+    let fault = fork_fault(rt.alloc(), &mdb, &tree, &[longer, second, third], 8)?;
+    assert_eq!(rt; fault, Some(3));
+    // The last overflow record of file 18 has block 36.
+    let smaller = mdb_with(36, 1, 4);
+    let fault = fork_fault(rt.alloc(), &smaller, &tree, &[first, second, third], 8)?;
+    assert_eq!(rt; fault, Some(6));
+    // A fault of the resource fork.
+    let mut other = third;
+    other.file.resource.length = 1;
+    let fault = fork_fault(rt.alloc(), &mdb, &tree, &[first, second, other], 8)?;
+    assert_eq!(rt; fault, Some(6));
+    Ok(())
+}
+
+#[test]
+fn owned_extents_of_all_forks(rt: HostRuntime) -> Result<(), Fail> {
+    let list = overflow_tree();
+    let tree = NodeList { nodes: &list };
+    let mut mdb = mdb_with(58, 1, 4);
+    mdb.catalog_file = [extent(2, 6), NONE, NONE];
+    mdb.extents_file = [extent(0, 2), NONE, NONE];
+    let owned = owned_extents(rt.alloc(), &mdb, &tree, &laid_files())?;
+    let mut some = Vec::new(rt.alloc());
+    for one in &owned {
+        if one.count > 0 {
+            some.push(*one)?;
+        }
+    }
+    let wanted = [
+        extent(2, 6),
+        extent(10, 1),
+        extent(12, 1),
+        extent(14, 1),
+        extent(16, 1),
+        extent(20, 2),
+        extent(24, 1),
+        extent(26, 1),
+        extent(28, 1),
+        extent(30, 1),
+        extent(32, 1),
+        extent(34, 1),
+        extent(36, 1),
+        extent(0, 2),
+    ];
+    assert!(rt; some.as_slice() == wanted.as_slice());
+    Ok(())
+}
+
+#[test]
+fn files_of_a_catalog(rt: HostRuntime) {
+    let body = laid_record();
+    let Some(file) = CatalogFile::read(7, &body) else {
+        return assert!(rt; false, "not a file's record");
+    };
+    assert_eq!(rt; file.number, 7);
+    assert_eq!(rt; file.file.id, 16);
+    assert!(rt; CatalogFile::read(7, &[2; 101]).is_none());
+    assert!(rt; CatalogFile::read(7, &[0; 102]).is_none());
 }

@@ -4,6 +4,7 @@ ghost use Rattle.hfs_tool.specs.Faults.{status_number, status_of};
 
 use crate::info::InfoFault;
 use crate::input::LoadFault;
+use hfs_check::FormatFault;
 use std::fmt;
 
 /// How the program ends. Scripts read it as the exit status.
@@ -13,7 +14,7 @@ pub enum Status {
     Done,
     /// The words are refused.
     WordsRefused,
-    /// The image is refused.
+    /// The image is refused, or the plan of a new volume.
     ImageRefused,
     /// A read or a write failed.
     DeviceFailed,
@@ -48,6 +49,14 @@ pub enum Fault<'a> {
     ImageTooLarge,
     /// The volume's signature is another than HFS's.
     NotHfs,
+    /// A new volume can't have this name.
+    BadName,
+    /// A new volume can't have so few or so many blocks.
+    BadSize,
+    /// A new volume can't have so few or so many nodes in one of its two files.
+    BadNodeCount,
+    /// The two files of a new volume don't fit it.
+    NoRoom,
     /// A file, or `stdin`, was not read.
     CannotRead(&'a str),
     /// A file was not written.
@@ -66,6 +75,9 @@ impl Fault<'_> {
         match self {
             Fault::WordsNotText => Status::WordsRefused,
             Fault::ImageTooShort | Fault::ImageTooLarge | Fault::NotHfs => Status::ImageRefused,
+            Fault::BadName | Fault::BadSize | Fault::BadNodeCount | Fault::NoRoom => {
+                Status::ImageRefused
+            }
             Fault::CannotRead(_) | Fault::CannotWrite(_) | Fault::OutputFailed => {
                 Status::DeviceFailed
             }
@@ -104,6 +116,25 @@ impl Fault<'_> {
     }
 }
 
+impl Fault<'static> {
+    /// What a fault of a new volume's plan means for the program.
+    pub fn of_format(fault: FormatFault) -> Fault<'static>
+        ensures name { fault ≡ FormatFault.BadName → result ≡ Fault.BadName }
+        ensures size { fault ≡ FormatFault.BadSize → result ≡ Fault.BadSize }
+        ensures nodes { fault ≡ FormatFault.BadNodes → result ≡ Fault.BadNodeCount }
+        ensures room { fault ≡ FormatFault.NoRoom → result ≡ Fault.NoRoom }
+        ensures memory { fault ≡ FormatFault.Memory → result ≡ Fault.NoMemory }
+    {
+        match fault {
+            FormatFault::BadName => Fault::BadName,
+            FormatFault::BadSize => Fault::BadSize,
+            FormatFault::BadNodes => Fault::BadNodeCount,
+            FormatFault::NoRoom => Fault::NoRoom,
+            FormatFault::Memory => Fault::NoMemory,
+        }
+    }
+}
+
 impl fmt::Display for Fault<'_> {
     fn fmt<W: fmt::Write>(&self, f: &mut fmt::Formatter<W>) -> fmt::Result {
         match self {
@@ -111,6 +142,10 @@ impl fmt::Display for Fault<'_> {
             Fault::ImageTooShort => write!(f, "image too short"),
             Fault::ImageTooLarge => write!(f, "image too large"),
             Fault::NotHfs => write!(f, "not an HFS volume (-57)"),
+            Fault::BadName => write!(f, "bad name"),
+            Fault::BadSize => write!(f, "bad size"),
+            Fault::BadNodeCount => write!(f, "bad node count"),
+            Fault::NoRoom => write!(f, "no room"),
             Fault::CannotRead(file) => write!(f, "cannot read {file}"),
             Fault::CannotWrite(file) => write!(f, "cannot write {file}"),
             Fault::OutputFailed => Ok(()),

@@ -8,6 +8,25 @@ use std::alloc::{AllocError, Global};
 pub enum Words<'a> {
     /// `info IMAGE`: the fields of the master directory block; of standard input where there are no words.
     Info { image: Option<&'a str> },
+    /// `new FILE NAME BLOCKS NODES EXTENTS [--now N]`: a new volume.
+    New(NewVolume<'a>),
+}
+
+/// A new volume, and the file that it is written to.
+#[derive(Clone, Copy, Debug, PartialEq, Eq)]
+pub struct NewVolume<'a> {
+    /// The path of the file, whose contents are replaced.
+    pub file: &'a str,
+    /// The volume's name.
+    pub name: &'a str,
+    /// Logical blocks of 512 bytes.
+    pub blocks: u32,
+    /// Nodes of the catalog file.
+    pub catalog_nodes: u32,
+    /// Nodes of the extents file.
+    pub extents_nodes: u32,
+    /// The moment of its making, in seconds since midnight of 1 January 1904.
+    pub now: u32,
 }
 
 /// A word that has to be there, under its name in the help text.
@@ -25,11 +44,28 @@ pub fn number<'a>(alloc: Global, name: &'a str) -> Arg<'a> {
     word(alloc, name).value_parser(value_parser!(u32).range(0..=4294967295))
 }
 
+/// A name of an item or a volume, which may begin with a hyphen.
+fn name<'a>(alloc: Global) -> Arg<'a> {
+    word(alloc, "NAME").allow_hyphen_values(true)
+}
+
+/// The moment of every change, 0 where it isn't given.
+fn moment<'a>(alloc: Global) -> Arg<'a> {
+    Arg::new(alloc, "now")
+        .long("now")
+        .value_name("N")
+        .action(ArgAction::Set)
+        .value_parser(value_parser!(u32).range(0..=4294967295))
+        .default_value("0")
+        .help("The moment, in seconds since midnight of 1 January 1904")
+}
+
 /// The program's command, with a subcommand for each word.
 fn command<'a>(alloc: Global) -> Result<Command<'a>, AllocError> {
     Command::new(alloc, "hfs_tool")
         .about("Reads, checks and changes HFS volumes. With no words: info on standard input")
-        .subcommand(info_command(alloc)?)
+        .subcommand(info_command(alloc)?)?
+        .subcommand(new_command(alloc)?)
 }
 
 fn info_command<'a>(alloc: Global) -> Result<Command<'a>, AllocError> {
@@ -38,11 +74,24 @@ fn info_command<'a>(alloc: Global) -> Result<Command<'a>, AllocError> {
         .arg(image(alloc))
 }
 
+fn new_command<'a>(alloc: Global) -> Result<Command<'a>, AllocError> {
+    let file = word(alloc, "FILE").help("The file that is written, in place of what it has");
+    Command::new(alloc, "new")
+        .about("Writes a new, empty volume")
+        .arg(file)?
+        .arg(name(alloc).help("The volume's name, 1 to 27 characters"))?
+        .arg(number(alloc, "BLOCKS").help("Blocks of 512 bytes, 8 to 4,194,304"))?
+        .arg(number(alloc, "NODES").help("Nodes of the catalog, at least 2"))?
+        .arg(number(alloc, "EXTENTS").help("Nodes of the extents file, at least 1"))?
+        .arg(moment(alloc))
+}
+
 /// Reads the words, the first of which is the program's own name. An error is clap's: help that was asked for, refused
 /// words, or want of memory, told apart by its kind.
 pub fn read_words<'a>(alloc: Global, words: &'a [String]) -> Result<Words<'a>, Error> {
     let matches = command(alloc)?.try_get_matches_from(words)?;
     Ok(match matches.subcommand() {
+        Some(("new", inner)) => new_words(inner),
         Some((_, inner)) => info_words(inner),
         None => Words::Info { image: None },
     })
@@ -52,4 +101,25 @@ fn info_words<'a>(matches: &ArgMatches<'a>) -> Words<'a> {
     Words::Info {
         image: matches.get_str("IMAGE"),
     }
+}
+
+fn new_words<'a>(matches: &ArgMatches<'a>) -> Words<'a> {
+    Words::New(NewVolume {
+        file: text_of(matches, "FILE"),
+        name: text_of(matches, "NAME"),
+        blocks: number_of(matches, "BLOCKS"),
+        catalog_nodes: number_of(matches, "NODES"),
+        extents_nodes: number_of(matches, "EXTENTS"),
+        now: number_of(matches, "now"),
+    })
+}
+
+/// The text of a word that has to be there.
+fn text_of<'a>(matches: &ArgMatches<'a>, id: &str) -> &'a str {
+    matches.get_str(id).unwrap_or("")
+}
+
+/// The number of a word that has to be there or has a default.
+fn number_of(matches: &ArgMatches<'_>, id: &str) -> u32 {
+    matches.get_one::<u32>(id).unwrap_or(0)
 }

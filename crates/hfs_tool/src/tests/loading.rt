@@ -82,6 +82,10 @@ fn faults_have_their_texts(rt: HostRuntime) -> Result<(), Fail> {
             "not an HFS volume (-57)",
             Status::ImageRefused,
         ),
+        (Fault::BadName, "bad name", Status::ImageRefused),
+        (Fault::BadSize, "bad size", Status::ImageRefused),
+        (Fault::BadNodeCount, "bad node count", Status::ImageRefused),
+        (Fault::NoRoom, "no room", Status::ImageRefused),
         (
             Fault::CannotRead("a b.img"),
             "cannot read a b.img",

@@ -1,5 +1,5 @@
 //! Words that are read, and words that are refused.
-use crate::words::{Words, number, read_words};
+use crate::words::{NewVolume, Words, number, read_words};
 use clap::error::ErrorKind;
 use clap::{Command, Error};
 use std::alloc::{AllocError, Global};
@@ -34,14 +34,46 @@ fn words_are_read(rt: HostRuntime) -> Result<(), Fail> {
 }
 
 #[test]
+fn words_of_a_new_volume_are_read(rt: HostRuntime) -> Result<(), Fail> {
+    let given = ["new", "a.img", "-D", "1600", "007", "2", "--now", "100"];
+    let words = words_of(rt.alloc(), &given)?;
+    let wanted = NewVolume {
+        file: "a.img",
+        name: "-D",
+        blocks: 1600,
+        catalog_nodes: 7,
+        extents_nodes: 2,
+        now: 100,
+    };
+    let Words::New(volume) = read_words(rt.alloc(), words.as_slice())? else {
+        return Err(Fail::new("another word was read"));
+    };
+    assert!(rt; volume == wanted);
+    let words = words_of(rt.alloc(), &["new", "a.img", "D", "64", "6", "2"])?;
+    let Words::New(volume) = read_words(rt.alloc(), words.as_slice())? else {
+        return Err(Fail::new("another word was read"));
+    };
+    assert_eq!(rt; volume.now, 0);
+    Ok(())
+}
+
+#[test]
 fn other_words_are_refused(rt: HostRuntime) -> Result<(), Fail> {
-    let cases: [(&[&str], ErrorKind); 8] = [
+    let cases: [(&[&str], ErrorKind); 10] = [
         (&["info"], ErrorKind::MissingRequiredArgument),
         (&["info", "a.img", "b.img"], ErrorKind::UnknownArgument),
         (&["info", "a.img", "--now"], ErrorKind::UnknownArgument),
         (&["--now"], ErrorKind::UnknownArgument),
         (&["mount", "a.img"], ErrorKind::InvalidSubcommand),
         (&["a.img"], ErrorKind::InvalidSubcommand),
+        (
+            &["new", "a.img", "D", "64", "6"],
+            ErrorKind::MissingRequiredArgument,
+        ),
+        (
+            &["new", "a.img", "D", "64", "6", "x"],
+            ErrorKind::ValueValidation,
+        ),
         (&["--help"], ErrorKind::DisplayHelp),
         (&["info", "--help"], ErrorKind::DisplayHelp),
     ];

@@ -1,7 +1,8 @@
 use Rattle.std.proofs.Common.{ℕ, ◌∙◌, arith, inr, subst}
 use Rattle.byteorder.specs.Endian.{big_bytes}
 use Rattle.hfs_fields.specs.Puts.{IsPut}
-use Rattle.hfs_node.proofs.Written.{head-from, few-records}
+use Rattle.hfs_node.specs.ReadBack.{few-records}
+use Rattle.hfs_node.proofs.Written.{head-from}
 use Rattle.hfs_node.proofs.encoding.put_head.Goals as goal
 
 pub overflow_cast-len : goal.overflow_cast-len

@@ -3,7 +3,8 @@ use Rattle.byteorder.specs.Endian.{big_bytes}
 use Rattle.hfs_fields.specs.Puts.{IsPut}
 use Rattle.hfs_node.specs.Node.{start_of}
 use Rattle.hfs_node.specs.Laid.{AreLaid}
-use Rattle.hfs_node.proofs.Written.{start-room, start-zero, few-records, laid-kept, free-put}
+use Rattle.hfs_node.specs.ReadBack.{start-room, start-zero, few-records}
+use Rattle.hfs_node.proofs.Written.{laid-kept, free-put}
 use Rattle.hfs_node.proofs.encoding.put_records.Goals as goal
 
 pub loop-i-init : goal.loop-i-init

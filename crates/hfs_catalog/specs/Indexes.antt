@@ -1,0 +1,53 @@
+-- What is looked up by IDs where a whole catalog is checked.
+use Rattle.std.specs.Prelude.{◌≡◌, ℕ, Bool, true, false, nat_le, ◌==◌, List, nat_eq, if◌then◌else◌, Option, Some, None}
+use Rattle.std.specs.List.{position_from, list_any}
+use Rattle.std.specs.Map.{lookup}
+use Rattle.std.specs.Option.{option_map_or, unwrap_or}
+use Rattle.hfs_catalog.specs.Parents.{ReachesRoot}
+use Rattle.hfs_catalog.specs.Records.{Catalog, has_id, is_thread_of}
+
+-- numbers, each with an ID
+abbrev pub Numbered : Type 0
+Numbered = List (ℕ × ℕ)
+
+-- the number of an ID
+abbrev pub number_of : Numbered → ℕ → Option ℕ
+number_of numbers id = lookup (nat_eq id) numbers
+
+-- the number of an ID, 0 where it has none
+abbrev pub count_of : Numbered → ℕ → ℕ
+count_of numbers id = unwrap_or (number_of numbers id) 0
+
+-- the numbers that there are, with this one for the ID
+abbrev pub with_number : (ℕ → Option ℕ) → ℕ → ℕ → ℕ → Option ℕ
+with_number numbers id n k = if nat_eq id k then Some n else numbers k
+
+-- the number, where the test holds
+abbrev pub only_if : Bool → ℕ → Option ℕ
+only_if holds n = if holds then Some n else None
+
+-- the place of the first record of a file or folder with this ID, from 0 on
+abbrev pub item_place : Catalog → ℕ → Option ℕ
+item_place catalog id = position_from (has_id id) 0 catalog
+
+-- the place of the first thread whose key is this ID
+abbrev pub thread_place : Catalog → ℕ → Option ℕ
+thread_place catalog id = position_from (is_thread_of id) 0 catalog
+
+-- whether the place that is known is this one
+abbrev pub is_place : Option ℕ → ℕ → Bool
+is_place place i = option_map_or (λ j. j == i) place false
+
+-- whether the number is one of these
+abbrev pub has_number : List ℕ → ℕ → Bool
+has_number numbers id = list_any (nat_eq id) numbers
+
+-- the chain of parents from each of these IDs on reaches the root
+abbrev pub AreRooted : List ℕ → Catalog → Type 0
+AreRooted ids catalog = (id : ℕ) → has_number ids id ≡ true → ReachesRoot catalog id
+
+-- the earlier of two places
+abbrev pub earlier : Option ℕ → Option ℕ → Option ℕ
+earlier None b = b
+earlier (Some i) None = Some i
+earlier (Some i) (Some j) = if nat_le i j then Some i else Some j

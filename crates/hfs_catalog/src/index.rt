@@ -1,0 +1,88 @@
+//! Where the items of a catalog stand, by their IDs.
+
+ghost use Rattle.std.specs.Prelude.{◌≡◌, ℕ, length, IfOk, OnOk};
+ghost use Rattle.std.specs.Option.{option_or, option_copied};
+ghost use Rattle.hfs_catalog.specs.Records.{has_id, item_with};
+ghost use Rattle.hfs_catalog.specs.Indexes.{number_of, item_place, only_if};
+
+use crate::item::item_id;
+use crate::numbers::Numbers;
+use hfs_fields::CatKey;
+use hfs_model::Bytes;
+use std::alloc::{AllocError, Global};
+use std::marker::Model;
+
+/// Notes the place of a record under its ID, if it is a file's or a folder's, and the first with the ID.
+fn note_item(places: &mut Numbers, i: usize, r: &(CatKey, Bytes)) -> Result<(), AllocError>
+    ensures { OnOk result ((id : ℕ) → number_of places.new id ≡ option_or (number_of places.old id) (only_if (has_id id r.now) i)) }
+{
+    if let Some(id) = item_id(r.1.as_slice()) {
+        places.put_first(id, i)?;
+    }
+    Ok(())
+}
+
+/// The place of each file's and folder's record by its ID; of two with one ID, that of the first.
+fn item_places(alloc: Global, catalog: &[(CatKey, Bytes)]) -> Result<Numbers, AllocError>
+    ensures { IfOk result (λ places. (id : ℕ) → number_of places id ≡ item_place catalog.now id) }
+{
+    let mut places = Numbers::new(alloc);
+    for i in 0..catalog.len() {
+        note_item(&mut places, i, &catalog[i])?;
+    }
+    Ok(places)
+}
+
+/// The records of a catalog, with an index of its files and folders by their IDs. Contracts see the records.
+#[derive(Drop)]
+pub(crate) struct ItemIndex<'a> {
+    catalog: &'a [(CatKey, Bytes)],
+    places: Numbers,
+}
+
+impl<'a> Model for ItemIndex<'a> {
+    ghost use Rattle.std.specs.Prelude.{◌≡◌, ℕ};
+    ghost use Rattle.hfs_catalog.specs.Records.{Catalog};
+    ghost use Rattle.hfs_catalog.specs.Indexes.{number_of, item_place};
+
+    ghost Value = { Catalog };
+
+    ghost view = { λ x. x.catalog.now };
+
+    ghost invariant = { λ x. (id : ℕ) → number_of x.places id ≡ item_place x.catalog.now id };
+}
+
+impl<'a> ItemIndex<'a> {
+    /// The index of a catalog. It reads each record once. `Err` only where memory is wanting.
+    pub(crate) fn of(
+        alloc: Global,
+        catalog: &'a [(CatKey, Bytes)],
+    ) -> Result<ItemIndex<'a>, AllocError>
+        ensures { IfOk result (λ index. index ≡ catalog.now) }
+    {
+        let places = item_places(alloc, catalog)?;
+        Ok(ItemIndex { catalog, places })
+    }
+
+    /// How many records the catalog has.
+    pub(crate) fn len(&self) -> usize
+        ensures { result ≡ length self.now }
+    {
+        self.catalog.len()
+    }
+
+    /// The place of the first record of a file or a folder with that ID, from 0 on. None where there is none.
+    pub(crate) fn place(&self, id: u32) -> Option<usize>
+        ensures { result ≡ item_place self.now id }
+    {
+        self.places.get(id)
+    }
+
+    /// The first record of a file or a folder with that ID. None where there is none.
+    pub(crate) fn item(&self, id: u32) -> Option<&(CatKey, Bytes)>
+        ensures { option_copied result ≡ item_with self.now id }
+    {
+        let i = self.places.get(id)?;
+        self.catalog.get(i)
+    }
+}

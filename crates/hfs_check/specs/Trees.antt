@@ -1,0 +1,18 @@
+-- Where the two trees of a volume lie.
+use Rattle.std.specs.Prelude.{◌≡◌, ℕ, List}
+use Rattle.hfs_fields.specs.declared.extent.Extent.{Extent}
+use Rattle.hfs_btree.specs.declared.run.Run.{Run}
+use Rattle.hfs_btree.specs.Blocks.{nodes_in, AreRunsWithin}
+use Rattle.hfs_btree.specs.Tree.{Store}
+use Rattle.hfs_check.specs.Parts.{Blocks, extents_nodes, catalog_extents, catalog_nodes}
+
+-- the nodes lie in these runs of a volume of so many blocks
+pub record LieIn (total : ℕ) (blocks : Blocks) (runs : List Run) (nodes : Store) : Type 0 where
+  pub within : AreRunsWithin runs total
+  pub same : nodes_in blocks runs ≡ nodes
+
+-- the runs are those of the extents tree, the extents those of the catalog file, and the runs those of the catalog tree
+pub record AreTreesIn (total : ℕ) (blocks : Blocks) (extents_runs : List Run) (file : List Extent) (catalog_runs : List Run) : Type 0 where
+  pub extents : LieIn total blocks extents_runs (extents_nodes blocks)
+  pub catalog_file : file ≡ catalog_extents blocks
+  pub catalog : LieIn total blocks catalog_runs (catalog_nodes blocks)

@@ -1,0 +1,47 @@
+//! The files of a catalog.
+ghost use Rattle.std.specs.Prelude.{◌≡◌, ◌++◌, IfOk, OnOk, Some, None, if◌then◌else◌};
+ghost use Rattle.std.specs.Option.{option_to_list};
+ghost use Rattle.hfs_fields.specs.Records.{is_file, file_record_of};
+ghost use Rattle.hfs_check.specs.Answers.{numbered_file};
+ghost use Rattle.hfs_space.specs.Runs.{files_in};
+
+use hfs_fields::{CatKey, FileRecord};
+use hfs_model::Bytes;
+use hfs_space::CatalogFile;
+use std::alloc::{AllocError, Global};
+
+/// A file's record with its number. None where the body is another record's.
+#[tactic(auto, unfolding(hfs_fields::specs::Records::begins_file))]
+fn file_of(number: usize, body: &[u8]) -> Option<CatalogFile>
+    ensures { result ≡ numbered_file number body.now }
+{
+    if body.len() != FileRecord::LENGTH {
+        return None;
+    }
+    let file = FileRecord::read(body)?;
+    Some(CatalogFile { number, file })
+}
+
+/// Takes a file's record with its number, if it is one.
+fn take_file(files: &mut Vec<CatalogFile>, number: usize, body: &[u8]) -> Result<(), AllocError>
+    ensures { OnOk result (files.new.items ≡ files.old.items ++ option_to_list (numbered_file number body.now)) }
+{
+    if let Some(file) = file_of(number, body) {
+        files.push(file)?;
+    }
+    Ok(())
+}
+
+/// The files of a catalog with these records, each with the number of its record, counted from 0.
+pub(crate) fn catalog_files(
+    alloc: Global,
+    records: &[(CatKey, Bytes)],
+) -> Result<Vec<CatalogFile>, AllocError>
+    ensures { IfOk result (λ files. files.items ≡ files_in 0 records.now) }
+{
+    let mut files = Vec::new(alloc);
+    for i in 0..records.len() {
+        take_file(&mut files, i, records[i].1.as_slice())?;
+    }
+    Ok(files)
+}

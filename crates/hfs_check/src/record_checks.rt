@@ -1,0 +1,106 @@
+//! The checks of the catalog's records, each as what mounting answers.
+ghost use Rattle.std.specs.Prelude.{◌≡◌, None, MatchResult, OnOk};
+ghost use Rattle.hfs_catalog.specs.Faults as catalog_spec;
+ghost use Rattle.hfs_btree.specs.Sound.{HasStructure};
+ghost use Rattle.hfs_catalog.specs.Tree.{cat_keys};
+ghost use Rattle.hfs_check.specs.Faults.{check_fault, catalog_name_fault, catalog_place_fault};
+ghost use Rattle.hfs_check.specs.Answers.{IsFaultOf, listed_fault};
+
+use crate::mount_fault::MountFault;
+use hfs_btree::{Nodes, index_keys, index_keys_in_order};
+use hfs_catalog::{count_fault, id_fault, name_fault, place_fault, record_fault, valence_fault};
+use hfs_fields::{CatKey, Mdb};
+use hfs_model::Bytes;
+use std::alloc::Global;
+
+/// What a check answers that found a fault at this place, or none.
+pub(crate) fn answer_at(number: u8, place: Option<usize>) -> Result<(), MountFault>
+    ensures { MatchResult result (λ _. check_fault number place ≡ None) (IsFaultOf (check_fault number place)) }
+{
+    match place {
+        None => Ok(()),
+        Some(place) => Err(MountFault::Check {
+            number,
+            place: place as u64,
+        }),
+    }
+}
+
+/// The check of records.
+pub(crate) fn check_records(records: &[(CatKey, Bytes)]) -> Result<(), MountFault>
+    ensures { MatchResult result (λ _. check_fault 5 (catalog_spec.record_fault records.now) ≡ None) (IsFaultOf (check_fault 5 (catalog_spec.record_fault records.now))) }
+{
+    answer_at(5, record_fault(records))
+}
+
+/// The check of IDs, on a volume whose next ID is `next`.
+pub(crate) fn check_ids(
+    alloc: Global,
+    next: u32,
+    records: &[(CatKey, Bytes)],
+) -> Result<(), MountFault>
+    ensures { MatchResult result (λ _. check_fault 6 (catalog_spec.id_fault next records.now) ≡ None) (IsFaultOf (check_fault 6 (catalog_spec.id_fault next records.now))) }
+{
+    let place = id_fault(alloc, next, records)?;
+    answer_at(6, place)
+}
+
+/// The check of names, of the records and of the keys of the index nodes.
+#[tactic(auto, unfolding(crate::specs::Faults::catalog_name_fault))]
+pub(crate) fn check_names<N: Nodes>(
+    alloc: Global,
+    nodes: &N,
+    records: &[(CatKey, Bytes)],
+) -> Result<(), MountFault>
+    requires { HasStructure cat_keys (N.nodes nodes.now) }
+    ensures { MatchResult result (λ _. check_fault 7 (catalog_name_fault (N.nodes nodes.now) records.now) ≡ None) (IsFaultOf (check_fault 7 (catalog_name_fault (N.nodes nodes.now) records.now))) }
+{
+    let keys = index_keys::<CatKey, N>(alloc, nodes)?;
+    answer_at(7, name_fault(&keys, records))
+}
+
+/// The check of order, parents and threads, of the records and of the order of the index keys.
+#[tactic(auto, unfolding(crate::specs::Faults::catalog_place_fault))]
+pub(crate) fn check_places<N: Nodes>(
+    alloc: Global,
+    nodes: &N,
+    records: &[(CatKey, Bytes)],
+) -> Result<(), MountFault>
+    requires { HasStructure cat_keys (N.nodes nodes.now) }
+    ensures { MatchResult result (λ _. check_fault 8 (catalog_place_fault (N.nodes nodes.now) records.now) ≡ None) (IsFaultOf (check_fault 8 (catalog_place_fault (N.nodes nodes.now) records.now))) }
+{
+    let in_order = index_keys_in_order::<CatKey, N>(nodes);
+    let place = place_fault(alloc, in_order, records)?;
+    answer_at(8, place)
+}
+
+/// The check of valences.
+pub(crate) fn check_valences(alloc: Global, records: &[(CatKey, Bytes)]) -> Result<(), MountFault>
+    ensures { MatchResult result (λ _. check_fault 9 (catalog_spec.valence_fault records.now) ≡ None) (IsFaultOf (check_fault 9 (catalog_spec.valence_fault records.now))) }
+{
+    let place = valence_fault(alloc, records)?;
+    answer_at(9, place)
+}
+
+/// The check of counts.
+pub(crate) fn check_counts(mdb: &Mdb, records: &[(CatKey, Bytes)]) -> Result<(), MountFault>
+    ensures { MatchResult result (λ _. check_fault 10 (catalog_spec.count_fault mdb.now records.now) ≡ None) (IsFaultOf (check_fault 10 (catalog_spec.count_fault mdb.now records.now))) }
+{
+    answer_at(10, count_fault(mdb, records))
+}
+
+/// The checks of records, IDs, names, and of order, parents and threads, in this order, on a volume whose next ID is `next`.
+pub(crate) fn check_catalog_records<N: Nodes>(
+    alloc: Global,
+    next: u32,
+    nodes: &N,
+    records: &[(CatKey, Bytes)],
+) -> Result<(), MountFault>
+    requires { HasStructure cat_keys (N.nodes nodes.now) }
+    ensures { MatchResult result (λ _. listed_fault next (N.nodes nodes.now) records.now ≡ None) (IsFaultOf (listed_fault next (N.nodes nodes.now) records.now)) }
+{
+    check_records(records)?;
+    check_ids(alloc, next, records)?;
+    check_names(alloc, nodes, records)?;
+    check_places(alloc, nodes, records)
+}

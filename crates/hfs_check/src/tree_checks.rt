@@ -1,0 +1,104 @@
+//! The checks of the two trees, each as what mounting answers.
+ghost use Rattle.std.specs.Prelude.{◌≡◌, ◌*◌, ◌≤◌, ℕ, Option, None, MatchResult, OnOk, length};
+ghost use Rattle.hfs_btree.specs.Shape.{shape_fault, ◌or_else◌};
+ghost use Rattle.hfs_btree.specs.ShapeSteps.{IsFault};
+ghost use Rattle.hfs_btree.specs.Order.{key_fault, order_fault};
+ghost use Rattle.hfs_btree.specs.Sound.{HasStructure, HasCounts, IsShaped};
+ghost use Rattle.hfs_space.specs.TreeKeys.{ext_keys};
+ghost use Rattle.hfs_catalog.specs.Tree.{cat_keys};
+ghost use Rattle.hfs_check.specs.Faults.{check_fault, is_fork_key};
+ghost use Rattle.hfs_check.specs.Answers.{IsFaultOf, extents_tree_fault};
+
+use crate::mount_fault::MountFault;
+use hfs_btree::{KeyTest, Nodes, TreeFault, check_keys, check_order, check_shape};
+use hfs_fields::{CatKey, ExtKey};
+use std::alloc::Global;
+
+/// What the check of a tree, of this number, answers for a fault of the tree.
+fn answer_of(number: u8, fault: TreeFault) -> MountFault
+    ensures { (place : Option ℕ) → IsFault place fault → IsFaultOf (check_fault number place) result }
+{
+    match fault {
+        TreeFault::At(node) => MountFault::Check {
+            number,
+            place: u64::from(node),
+        },
+        TreeFault::Memory => MountFault::Memory,
+    }
+}
+
+/// The check of the shape of the catalog tree in a file of `size` bytes (drCTFlSize).
+pub(crate) fn check_catalog_shape<N: Nodes>(
+    alloc: Global,
+    nodes: &N,
+    size: u32,
+) -> Result<(), MountFault>
+    requires { size ≤ 512 * length (N.nodes nodes.now) }
+    ensures fault { MatchResult result (λ _. check_fault 4 (shape_fault cat_keys size (N.nodes nodes.now)) ≡ None) (IsFaultOf (check_fault 4 (shape_fault cat_keys size (N.nodes nodes.now)))) }
+    ensures shaped { OnOk result (IsShaped cat_keys size (N.nodes nodes.now)) }
+{
+    match check_shape::<CatKey, N>(alloc, nodes, size) {
+        Ok(()) => Ok(()),
+        Err(fault) => Err(answer_of(4, fault)),
+    }
+}
+
+/// The test that a key of the extents tree is of the data or of the resource fork.
+struct IsForkKey;
+
+impl KeyTest<ExtKey> for IsForkKey {
+    ghost passes = { λ _ key. is_fork_key key };
+
+    fn passes(&self, key: &ExtKey) -> bool {
+        key.fork == 0 || key.fork == 255
+    }
+}
+
+/// The check of the shape of the extents tree in a file of `size` bytes (drXTFlSize).
+fn check_extents_shape<N: Nodes>(alloc: Global, nodes: &N, size: u32) -> Result<(), MountFault>
+    requires { size ≤ 512 * length (N.nodes nodes.now) }
+    ensures fault { MatchResult result (λ _. check_fault 3 (shape_fault ext_keys size (N.nodes nodes.now)) ≡ None) (IsFaultOf (check_fault 3 (shape_fault ext_keys size (N.nodes nodes.now)))) }
+    ensures shaped { OnOk result (IsShaped ext_keys size (N.nodes nodes.now)) }
+{
+    match check_shape::<ExtKey, N>(alloc, nodes, size) {
+        Ok(()) => Ok(()),
+        Err(fault) => Err(answer_of(3, fault)),
+    }
+}
+
+/// The check of the forks in the keys of the extents tree.
+fn check_fork_keys<N: Nodes>(alloc: Global, nodes: &N) -> Result<(), MountFault>
+    requires { HasStructure ext_keys (N.nodes nodes.now) }
+    ensures { MatchResult result (λ _. check_fault 3 (key_fault ext_keys (N.nodes nodes.now) is_fork_key) ≡ None) (IsFaultOf (check_fault 3 (key_fault ext_keys (N.nodes nodes.now) is_fork_key))) }
+{
+    match check_keys::<ExtKey, N, IsForkKey>(alloc, nodes, &IsForkKey) {
+        Ok(()) => Ok(()),
+        Err(fault) => Err(answer_of(3, fault)),
+    }
+}
+
+/// The check of the order of the extents tree.
+fn check_extents_order<N: Nodes>(nodes: &N) -> Result<(), MountFault>
+    requires structure { HasStructure ext_keys (N.nodes nodes.now) }
+    requires counts { HasCounts ext_keys (N.nodes nodes.now) }
+    ensures { MatchResult result (λ _. check_fault 3 (order_fault ext_keys (N.nodes nodes.now)) ≡ None) (IsFaultOf (check_fault 3 (order_fault ext_keys (N.nodes nodes.now)))) }
+{
+    match check_order::<ExtKey, N>(nodes) {
+        Ok(()) => Ok(()),
+        Err(fault) => Err(answer_of(3, fault)),
+    }
+}
+
+/// The check of the extents tree in a file of `size` bytes: its shape, the forks in its keys, its order.
+pub(crate) fn check_extents_tree<N: Nodes>(
+    alloc: Global,
+    nodes: &N,
+    size: u32,
+) -> Result<(), MountFault>
+    requires { size ≤ 512 * length (N.nodes nodes.now) }
+    ensures { MatchResult result (λ _. check_fault 3 (extents_tree_fault size (N.nodes nodes.now)) ≡ None) (IsFaultOf (check_fault 3 (extents_tree_fault size (N.nodes nodes.now)))) }
+{
+    check_extents_shape(alloc, nodes, size)?;
+    check_fork_keys(alloc, nodes)?;
+    check_extents_order(nodes)
+}

@@ -1,0 +1,196 @@
+//! Where the two trees of a volume lie, and whether their files and shapes are right.
+ghost use Rattle.std.specs.Prelude.{◌≡◌, true, false, None, MatchResult, MatchOption, IfOk, OnOk, IfErr};
+ghost use Rattle.hfs_btree.specs.Sound.{IsSound, HasStructure, HasCounts};
+ghost use Rattle.hfs_space.specs.Faults.{is_tree_file};
+ghost use Rattle.hfs_space.specs.TreeFiles.{tree_nodes};
+ghost use Rattle.hfs_space.specs.TreeKeys.{IsExtentsTree};
+ghost use Rattle.hfs_catalog.specs.Tree.{cat_keys};
+ghost use Rattle.hfs_check.specs.Parts.{mdb_in, extents_nodes, catalog_extents, catalog_nodes};
+ghost use Rattle.hfs_check.specs.Sound.{IsMdbSound, IsExtentsSound, IsCatalogFileSound};
+ghost use Rattle.hfs_check.specs.Faults.{check_fault, extents_fault, extents_counts, catalog_fault, catalog_counts, trees_fault};
+ghost use Rattle.hfs_check.specs.Answers.{IsFaultOf};
+ghost use Rattle.hfs_check.specs.Trees.{LieIn, AreTreesIn};
+
+use crate::laws::extents_faults;
+use crate::mount_fault::MountFault;
+use crate::tree_checks::{check_catalog_shape, check_extents_tree};
+use hfs_btree::{Blocks, Run, RunNodes};
+use hfs_fields::{Extent, Mdb};
+use hfs_space::{ForkKind, fork_extents, is_tree_file, tree_files, tree_runs};
+use std::alloc::{AllocError, Global};
+
+/// The runs of a tree's file that has these extents and this size in bytes. None where the file is wrong.
+fn file_runs<B: Blocks>(
+    alloc: Global,
+    blocks: &B,
+    mdb: &Mdb,
+    extents: &[Extent],
+    size: u32,
+) -> Result<Option<Vec<Run>>, AllocError>
+    requires { IsMdbSound (B.total blocks.now) mdb.now }
+    ensures { IfOk result (λ found. MatchOption found (is_tree_file mdb.now extents.now size ≡ false)
+        (λ runs. (is_tree_file mdb.now extents.now size ≡ true) × LieIn (B.total blocks.now) (B.blocks blocks.now) runs.items (tree_nodes (B.blocks blocks.now) mdb.now extents.now size))) }
+{
+    tree_files();
+    if is_tree_file(mdb, extents, size) {
+        let runs = tree_runs(alloc, blocks, mdb, extents, size)?;
+        Ok(Some(runs))
+    } else {
+        Ok(None)
+    }
+}
+
+/// Checks the extents tree, which lies in these runs.
+fn check_extents<B: Blocks>(
+    alloc: Global,
+    blocks: &B,
+    mdb: &Mdb,
+    runs: &[Run],
+) -> Result<(), MountFault>
+    requires sound { IsMdbSound (B.total blocks.now) mdb.now }
+    requires file { is_tree_file mdb.now mdb.now.extents_file mdb.now.extents_file_size ≡ true }
+    requires runs { LieIn (B.total blocks.now) (B.blocks blocks.now) runs.now (tree_nodes (B.blocks blocks.now) mdb.now mdb.now.extents_file mdb.now.extents_file_size) }
+    requires is { mdb.now ≡ mdb_in (B.blocks blocks.now) }
+    ensures { MatchResult result (λ _. check_fault 3 (extents_fault (extents_counts (B.blocks blocks.now)) mdb.now (extents_nodes (B.blocks blocks.now))) ≡ None)
+        (IsFaultOf (check_fault 3 (extents_fault (extents_counts (B.blocks blocks.now)) mdb.now (extents_nodes (B.blocks blocks.now))))) }
+{
+    tree_files();
+    let nodes = RunNodes { blocks, runs };
+    check_extents_tree(alloc, &nodes, mdb.extents_file_size)
+}
+
+/// Checks the catalog tree, which lies in these runs.
+fn check_catalog<B: Blocks>(
+    alloc: Global,
+    blocks: &B,
+    mdb: &Mdb,
+    extents: &[Extent],
+    runs: &[Run],
+) -> Result<(), MountFault>
+    requires sound { IsMdbSound (B.total blocks.now) mdb.now }
+    requires file { is_tree_file mdb.now extents.now mdb.now.catalog_file_size ≡ true }
+    requires runs { LieIn (B.total blocks.now) (B.blocks blocks.now) runs.now (tree_nodes (B.blocks blocks.now) mdb.now extents.now mdb.now.catalog_file_size) }
+    requires is { mdb.now ≡ mdb_in (B.blocks blocks.now) }
+    requires extents { extents.now ≡ catalog_extents (B.blocks blocks.now) }
+    ensures { MatchResult result (λ _. check_fault 4 (catalog_fault (catalog_counts (B.blocks blocks.now)) mdb.now (catalog_extents (B.blocks blocks.now)) (catalog_nodes (B.blocks blocks.now))) ≡ None)
+        (IsFaultOf (check_fault 4 (catalog_fault (catalog_counts (B.blocks blocks.now)) mdb.now (catalog_extents (B.blocks blocks.now)) (catalog_nodes (B.blocks blocks.now))))) }
+{
+    tree_files();
+    let nodes = RunNodes { blocks, runs };
+    check_catalog_shape(alloc, &nodes, mdb.catalog_file_size)
+}
+
+/// The runs of the extents tree, where its file is right and the tree is.
+#[tactic(auto, using(crate::proofs::Opened::wrong_extents, crate::proofs::Opened::extents_lie))]
+fn open_extents<B: Blocks>(alloc: Global, blocks: &B, mdb: &Mdb) -> Result<Vec<Run>, MountFault>
+    requires sound { IsMdbSound (B.total blocks.now) mdb.now }
+    requires is { mdb.now ≡ mdb_in (B.blocks blocks.now) }
+    ensures right { OnOk result (check_fault 3 (extents_fault (extents_counts (B.blocks blocks.now)) mdb.now (extents_nodes (B.blocks blocks.now))) ≡ None) }
+    ensures runs { IfOk result (λ runs. LieIn (B.total blocks.now) (B.blocks blocks.now) runs.items (extents_nodes (B.blocks blocks.now))) }
+    ensures wrong { IfErr result (IsFaultOf (check_fault 3 (extents_fault (extents_counts (B.blocks blocks.now)) mdb.now (extents_nodes (B.blocks blocks.now))))) }
+{
+    match file_runs(alloc, blocks, mdb, &mdb.extents_file, mdb.extents_file_size)? {
+        None => Err(MountFault::Check {
+            number: 3,
+            place: 0,
+        }),
+        Some(runs) => {
+            check_extents(alloc, blocks, mdb, &runs)?;
+            Ok(runs)
+        }
+    }
+}
+
+/// The extents of the catalog file, and the runs of its tree.
+#[derive(Drop)]
+struct CatalogFile {
+    extents: Vec<Extent>,
+    runs: Vec<Run>,
+}
+
+/// The catalog file's extents, with those that go on in the extents tree.
+fn catalog_file_extents<B: Blocks>(
+    alloc: Global,
+    blocks: &B,
+    mdb: &Mdb,
+    extents_tree: &[Run],
+) -> Result<Vec<Extent>, AllocError>
+    requires is { mdb.now ≡ mdb_in (B.blocks blocks.now) }
+    requires runs { LieIn (B.total blocks.now) (B.blocks blocks.now) extents_tree.now (extents_nodes (B.blocks blocks.now)) }
+    requires tree { IsExtentsTree (extents_nodes (B.blocks blocks.now)) }
+    ensures { IfOk result (λ extents. extents.items ≡ catalog_extents (B.blocks blocks.now)) }
+{
+    let nodes = RunNodes {
+        blocks,
+        runs: extents_tree,
+    };
+    fork_extents(alloc, &nodes, 4, ForkKind::Data, &mdb.catalog_file)
+}
+
+/// The catalog file, where it is right and its tree has its shape.
+#[tactic(auto, using(crate::proofs::Opened::wrong_catalog, crate::proofs::Opened::catalog_lies))]
+fn open_catalog<B: Blocks>(
+    alloc: Global,
+    blocks: &B,
+    mdb: &Mdb,
+    extents_tree: &[Run],
+) -> Result<CatalogFile, MountFault>
+    requires sound { IsMdbSound (B.total blocks.now) mdb.now }
+    requires is { mdb.now ≡ mdb_in (B.blocks blocks.now) }
+    requires runs { LieIn (B.total blocks.now) (B.blocks blocks.now) extents_tree.now (extents_nodes (B.blocks blocks.now)) }
+    requires tree { IsExtentsTree (extents_nodes (B.blocks blocks.now)) }
+    ensures right { OnOk result (check_fault 4 (catalog_fault (catalog_counts (B.blocks blocks.now)) mdb.now (catalog_extents (B.blocks blocks.now)) (catalog_nodes (B.blocks blocks.now))) ≡ None) }
+    ensures extents { IfOk result (λ file. file.extents.items ≡ catalog_extents (B.blocks blocks.now)) }
+    ensures runs { IfOk result (λ file. LieIn (B.total blocks.now) (B.blocks blocks.now) file.runs.items (catalog_nodes (B.blocks blocks.now))) }
+    ensures wrong { IfErr result (IsFaultOf (check_fault 4 (catalog_fault (catalog_counts (B.blocks blocks.now)) mdb.now (catalog_extents (B.blocks blocks.now)) (catalog_nodes (B.blocks blocks.now))))) }
+{
+    let extents = catalog_file_extents(alloc, blocks, mdb, extents_tree)?;
+    match file_runs(alloc, blocks, mdb, &extents, mdb.catalog_file_size)? {
+        None => Err(MountFault::Check {
+            number: 4,
+            place: 0,
+        }),
+        Some(runs) => {
+            check_catalog(alloc, blocks, mdb, &extents, &runs)?;
+            Ok(CatalogFile { extents, runs })
+        }
+    }
+}
+
+/// Where the two trees of a volume lie, in logical blocks counted from 0.
+#[derive(Drop)]
+pub struct VolumeTrees {
+    /// The runs of the extents tree, in the order of its nodes.
+    pub extents: Vec<Run>,
+    /// All extents of the catalog file: the three of the master directory block and those that go on in the extents tree.
+    pub catalog_file: Vec<Extent>,
+    /// The runs of the catalog tree, in the order of its nodes.
+    pub catalog: Vec<Run>,
+}
+
+/// The trees of a volume, where the extents tree is sound and the catalog tree has its shape.
+#[tactic(auto, using(crate::proofs::Opened::trees_extents, crate::proofs::Opened::trees_catalog, crate::proofs::Opened::trees_none, crate::proofs::Opened::extents_tree_sound))]
+pub(crate) fn open_trees<B: Blocks>(
+    alloc: Global,
+    blocks: &B,
+    mdb: &Mdb,
+) -> Result<VolumeTrees, MountFault>
+    requires sound { IsMdbSound (B.total blocks.now) mdb.now }
+    requires is { mdb.now ≡ mdb_in (B.blocks blocks.now) }
+    ensures right { OnOk result (trees_fault (extents_counts (B.blocks blocks.now)) (catalog_counts (B.blocks blocks.now)) (B.blocks blocks.now) ≡ None) }
+    ensures trees { IfOk result (λ trees. AreTreesIn (B.total blocks.now) (B.blocks blocks.now) trees.extents.items trees.catalog_file.items trees.catalog.items) }
+    ensures wrong { IfErr result (IsFaultOf (trees_fault (extents_counts (B.blocks blocks.now)) (catalog_counts (B.blocks blocks.now)) (B.blocks blocks.now))) }
+{
+    extents_faults();
+    let extents = open_extents(alloc, blocks, mdb)?;
+    let file = open_catalog(alloc, blocks, mdb, &extents)?;
+    let CatalogFile {
+        extents: catalog_file,
+        runs: catalog,
+    } = file;
+    Ok(VolumeTrees {
+        extents,
+        catalog_file,
+        catalog,
+    })
+}

@@ -1,0 +1,18 @@
+-- The edges of extents: a block has as many owners as extents began up to it and did not end.
+use Rattle.std.specs.Prelude.{ℕ, ◌+◌, ◌==◌, nat_lt, List, count_by}
+use Rattle.hfs_fields.specs.declared.extent.Extent.{Extent}
+use Rattle.hfs_space.specs.declared.owners.Edge.{Edge}
+use Rattle.hfs_space.specs.declared.owners.Edge.TheVariants.{First, Behind}
+
+-- the first block of an extent, or the one behind its last
+abbrev pub block_at : Edge → Extent → ℕ
+block_at First e = e.first
+block_at Behind e = e.first + e.count
+
+-- how many extents have the edge at this block
+abbrev pub edge_count : Edge → List Extent → ℕ → ℕ
+edge_count edge extents block = count_by (λ e. block_at edge e == block) extents
+
+-- how many extents have the edge before this block
+abbrev pub edges_before : Edge → List Extent → ℕ → ℕ
+edges_before edge extents block = count_by (λ e. nat_lt (block_at edge e) block) extents

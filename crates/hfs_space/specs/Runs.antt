@@ -1,0 +1,74 @@
+-- The records of the extents tree that forks go on with, by their places, and the files of a catalog by their numbers.
+use Rattle.std.specs.Prelude.{◌≡◌, ℕ, ◌+◌, ◌<◌, Bool, ◌&&◌, ◌||◌, ◌==◌, nat_lt, if◌then◌else◌, List, [], ◌∷◌, length, slice_index_or, Option, Some, None}
+use Rattle.std.specs.List.{flat_map, list_all, list_any}
+use Rattle.std.specs.Ordering.{is_eq}
+use Rattle.hfs_fields.specs.declared.mdb.Mdb.{Mdb}
+use Rattle.hfs_fields.specs.declared.extent.Extent.{Extent}
+use Rattle.hfs_fields.specs.declared.key.CatKey.{CatKey}
+use Rattle.hfs_fields.specs.declared.key.ExtKey.{ExtKey}
+use Rattle.hfs_fields.specs.Records.{is_file, file_record_of}
+use Rattle.hfs_fields.specs.Keys.{ext_cmp}
+use Rattle.hfs_btree.specs.Pairs.{Pairs}
+use Rattle.hfs_space.specs.declared.files.CatalogFile.{CatalogFile}
+use Rattle.hfs_space.specs.declared.fork_kind.ForkKind.{ForkKind}
+use Rattle.hfs_fields.specs.declared.file_record.ForkRecord.{ForkRecord}
+use Rattle.hfs_space.specs.Extents.{Overflow, block_total, run_on, fork_byte}
+use Rattle.hfs_space.specs.Owners.{Fork, forks_of_file, catalog_fork, goes_on_with}
+use Rattle.hfs_space.specs.Faults.{is_fork_right}
+
+-- ---- runs
+
+-- the record is of this fork
+abbrev pub is_of_fork : ℕ → ℕ → ExtKey × List ℕ → Bool
+is_of_fork file fork r = (r.0.file == file) && (r.0.fork == fork)
+
+-- the record stands before those of this fork
+abbrev pub is_before_fork : ℕ → ℕ → ExtKey × List ℕ → Bool
+is_before_fork file fork r = nat_lt r.0.file file || ((r.0.file == file) && nat_lt r.0.fork fork)
+
+-- the record's key is among the keys of these
+abbrev pub has_key_in : Overflow → ExtKey × List ℕ → Bool
+has_key_in records r = list_any (λ q. is_eq (ext_cmp r.0 q.0)) records
+
+-- the records that a fork goes on with whose record has these first extents
+abbrev pub run_of_fork : ℕ → ℕ → List Extent → Overflow → Overflow
+run_of_fork file fork first overflow = run_on file fork (block_total first) overflow
+
+-- the marks are the old ones, and those of the records whose keys are in a run
+abbrev pub AddsMarks : Overflow → Overflow → List Bool → List Bool → Type 0
+AddsMarks overflow run old new =
+    (k : ℕ) (d : ExtKey × List ℕ) (b : Bool) → k < length overflow → slice_index_or new k b ≡ (slice_index_or old k b || has_key_in run (slice_index_or overflow k d))
+
+-- ---- the files of a catalog
+
+-- with their numbers among its records, from this number on
+abbrev pub files_in : ℕ → Pairs CatKey → List CatalogFile
+files_in n [] = []
+files_in n (r ∷ rs) = if is_file r.1 then record { number = n; file = file_record_of r.1 } ∷ files_in (n + 1) rs else files_in (n + 1) rs
+
+-- the forks of these files
+abbrev pub forks_in : List CatalogFile → List Fork
+forks_in files = flat_map (λ f. forks_of_file f.file) files
+
+-- the number of the first file with a wrong fork
+abbrev pub first_wrong_file : Mdb → Overflow → List CatalogFile → Option ℕ
+first_wrong_file mdb overflow [] = None
+first_wrong_file mdb overflow (f ∷ fs) = if list_all (is_fork_right mdb overflow) (forks_of_file f.file) then first_wrong_file mdb overflow fs else Some f.number
+
+-- a fork of a file's record
+abbrev pub fork_in : ℕ → ForkKind → ForkRecord → Fork
+fork_in file kind f = record { file = file; fork = fork_byte kind; len = f.length; first = f.extents }
+
+-- the marks are the old ones, and those of the records that one of these forks goes on with
+abbrev pub AddsUses : Overflow → List Fork → List Bool → List Bool → Type 0
+AddsUses overflow forks old new =
+    (k : ℕ) (d : ExtKey × List ℕ) (b : Bool) → k < length overflow → slice_index_or new k b ≡ (slice_index_or old k b || goes_on_with overflow forks (slice_index_or overflow k d))
+
+-- the marks say of each record of the extents tree whether one of these forks goes on with it
+abbrev pub AreMarks : Overflow → List Fork → List Bool → Type 0
+AreMarks overflow forks marks =
+    (k : ℕ) (d : ExtKey × List ℕ) (b : Bool) → k < length overflow → slice_index_or marks k b ≡ goes_on_with overflow forks (slice_index_or overflow k d)
+
+-- the forks that may go on in the extents tree, where these are the files
+abbrev pub forks_with : Mdb → List CatalogFile → List Fork
+forks_with mdb files = catalog_fork mdb ∷ forks_in files

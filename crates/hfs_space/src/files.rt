@@ -1,0 +1,29 @@
+//! The files of a catalog.
+ghost use Rattle.hfs_fields.specs.Records.{is_file, begins_file, file_record_of};
+ghost use Rattle.std.specs.Prelude.{IsTrue};
+ghost use Rattle.std.specs.Option.{SomeIff};
+
+use hfs_fields::FileRecord;
+
+/// A file's record in the catalog, and its number among all leaf records of the catalog, counted from 0.
+#[derive(Clone, Copy)]
+pub struct CatalogFile {
+    pub number: usize,
+    pub file: FileRecord,
+}
+
+impl CatalogFile {
+    /// The file whose record is the catalog's of this number. None exactly where the record's body is no file's.
+    #[tactic(auto, unfolding(hfs_fields::specs::Records::begins_file))]
+    pub fn read(number: usize, body: &[u8]) -> Option<CatalogFile>
+        ensures { SomeIff result (IsTrue (is_file body.now)) (record { number = number; file = file_record_of body.now }) }
+    {
+        if body.len() != FileRecord::LENGTH {
+            return None;
+        }
+        match FileRecord::read(body) {
+            Some(file) => Some(CatalogFile { number, file }),
+            None => None,
+        }
+    }
+}

@@ -1,0 +1,218 @@
+//! The check of mounting on the extents of files and on the records of the extents tree.
+ghost use Rattle.std.specs.Prelude.{◌≡◌, ℕ, ◌<◌, ◌≤◌, ◌^◌, ◌&&◌, List, length, nat_lt, if◌then◌else◌, IfOk, IfSome};
+ghost use Rattle.std.specs.List.{list_all};
+ghost use Rattle.hfs_fields.specs.declared.key.CatKey.{CatKey};
+ghost use Rattle.hfs_fields.specs.Keys.{ext_cmp};
+ghost use Rattle.hfs_btree.specs.Pairs.{Pairs, Rises};
+ghost use Rattle.hfs_space.specs.Extents as extents;
+ghost use Rattle.hfs_space.specs.Owners.{forks_of_file, is_bad_blocks};
+ghost use Rattle.hfs_space.specs.Runs as runs;
+ghost use Rattle.hfs_space.specs.Faults as spec;
+ghost use Rattle.hfs_space.specs.TreeKeys.{IsExtentsTree, overflow_of};
+
+use crate::checks::can_hold;
+use crate::extents::{are_within, fork_extents};
+use crate::files::CatalogFile;
+use crate::fork_kind::ForkKind;
+use crate::overflow::{BAD_BLOCKS, CATALOG_FILE, OverflowRecord, blocks_in, overflow_records};
+use crate::runs::mark_run;
+use hfs_btree::Nodes;
+use hfs_fields::{FileRecord, ForkRecord, Mdb};
+use std::alloc::{AllocError, Global};
+
+/// Whether a fork's extents, those of its overflow records among them, lie in the volume and have room for its bytes.
+#[tactic(auto, unfolding(crate::specs::Faults::is_fork_right))]
+fn is_fork_right<N: Nodes>(
+    alloc: Global,
+    mdb: &Mdb,
+    tree: &N,
+    file: u32,
+    kind: ForkKind,
+    fork: &ForkRecord,
+) -> Result<bool, AllocError>
+    requires { IsExtentsTree (N.nodes tree.now) }
+    ensures { IfOk result (λ right. right ≡ spec.is_fork_right mdb.now (overflow_of (N.nodes tree.now)) (runs.fork_in file kind fork.now)) }
+{
+    let extents = fork_extents(alloc, tree, file, kind, &fork.extents)?;
+    Ok(can_hold(mdb, &extents, fork.length))
+}
+
+/// Whether both forks of a file are right.
+#[tactic(auto, unfolding(crate::specs::Owners::forks_of_file))]
+fn are_forks_right<N: Nodes>(
+    alloc: Global,
+    mdb: &Mdb,
+    tree: &N,
+    file: &FileRecord,
+) -> Result<bool, AllocError>
+    requires { IsExtentsTree (N.nodes tree.now) }
+    ensures { IfOk result (λ right. right ≡ list_all (spec.is_fork_right mdb.now (overflow_of (N.nodes tree.now))) (forks_of_file file.now)) }
+{
+    let data = is_fork_right(alloc, mdb, tree, file.id, ForkKind::Data, &file.data)?;
+    let resource = is_fork_right(
+        alloc,
+        mdb,
+        tree,
+        file.id,
+        ForkKind::Resource,
+        &file.resource,
+    )?;
+    Ok(data && resource)
+}
+
+/// The number of the first file with a wrong fork.
+fn first_wrong_file<N: Nodes>(
+    alloc: Global,
+    mdb: &Mdb,
+    tree: &N,
+    files: &[CatalogFile],
+) -> Result<Option<usize>, AllocError>
+    requires { IsExtentsTree (N.nodes tree.now) }
+    ensures { IfOk result (λ fault. fault ≡ runs.first_wrong_file mdb.now (overflow_of (N.nodes tree.now)) files.now) }
+{
+    for file in files {
+        let right = are_forks_right(alloc, mdb, tree, &file.file)?;
+        if !right {
+            return Ok(Some(file.number));
+        }
+    }
+    Ok(None)
+}
+
+/// Marks the records of the extents tree that a file goes on with.
+fn mark_file(overflow: &[OverflowRecord], file: &FileRecord, marks: &mut [bool])
+    requires rises { Rises ext_cmp overflow.now }
+    requires length { length marks.old ≡ length overflow.now }
+    ensures { runs.AddsUses overflow.now (forks_of_file file.now) marks.old marks.new }
+{
+    mark_run(overflow, file.id, ForkKind::Data, &file.data.extents, marks);
+    mark_run(
+        overflow,
+        file.id,
+        ForkKind::Resource,
+        &file.resource.extents,
+        marks,
+    );
+}
+
+/// Marks the records of the extents tree that one of the files goes on with.
+fn mark_files(overflow: &[OverflowRecord], files: &[CatalogFile], marks: &mut [bool])
+    requires rises { Rises ext_cmp overflow.now }
+    requires length { length marks.old ≡ length overflow.now }
+    ensures { runs.AddsUses overflow.now (runs.forks_in files.now) marks.old marks.new }
+{
+    for file in files {
+        mark_file(overflow, &file.file, marks);
+    }
+}
+
+/// Marks the records of the extents tree that the catalog file or one of the files goes on with.
+fn mark_used(mdb: &Mdb, overflow: &[OverflowRecord], files: &[CatalogFile], marks: &mut [bool])
+    requires rises { Rises ext_cmp overflow.now }
+    requires length { length marks.old ≡ length overflow.now }
+    ensures { runs.AddsUses overflow.now (runs.forks_with mdb.now files.now) marks.old marks.new }
+{
+    mark_run(
+        overflow,
+        CATALOG_FILE,
+        ForkKind::Data,
+        &mdb.catalog_file,
+        marks,
+    );
+    mark_files(overflow, files, marks);
+}
+
+/// The marks of the records of the extents tree that the catalog file or one of the files goes on with.
+fn used_marks(
+    alloc: Global,
+    mdb: &Mdb,
+    overflow: &[OverflowRecord],
+    files: &[CatalogFile],
+) -> Result<Vec<bool>, AllocError>
+    requires { Rises ext_cmp overflow.now }
+    ensures length { IfOk result (λ marks. length marks.items ≡ length overflow.now) }
+    ensures marks { IfOk result (λ marks. runs.AreMarks overflow.now (runs.forks_with mdb.now files.now) marks.items) }
+{
+    let mut marks = vec![in alloc; false; overflow.len()]?;
+    mark_used(mdb, overflow, files, &mut marks);
+    Ok(marks)
+}
+
+/// Whether a record's extents lie among the first `blocks` allocation blocks.
+fn is_within(r: &OverflowRecord, blocks: u16) -> bool
+    ensures { result ≡ spec.are_extents_within blocks (extents.record_extents r.now.1) }
+{
+    match r.extents() {
+        Some(extents) => are_within(&extents, blocks),
+        None => true,
+    }
+}
+
+/// Whether a record of the extents tree has a block, and is one of the bad blocks that lies in the volume, or one that is
+/// used.
+fn is_record_right(mdb: &Mdb, r: &OverflowRecord, used: bool) -> bool
+    ensures { result ≡ (nat_lt 0 (extents.block_total (extents.record_extents r.now.1)) && (if is_bad_blocks r.now then spec.are_extents_within mdb.now.allocation_blocks (extents.record_extents r.now.1) else used)) }
+{
+    if blocks_in(r) == 0 {
+        return false;
+    }
+    if r.key().file == BAD_BLOCKS {
+        is_within(r, mdb.allocation_blocks)
+    } else {
+        used
+    }
+}
+
+/// The place of the first wrong record of the extents tree.
+#[tactic(auto, using(crate::proofs::Walked::scan_stop, crate::proofs::Walked::scan_go, crate::proofs::Walked::scan_end))]
+fn overflow_fault(
+    alloc: Global,
+    mdb: &Mdb,
+    overflow: &[OverflowRecord],
+    files: &[CatalogFile],
+) -> Result<Option<usize>, AllocError>
+    requires { Rises ext_cmp overflow.now }
+    ensures fault { IfOk result (λ fault. fault ≡ spec.overflow_fault mdb.now overflow.now (runs.forks_with mdb.now files.now)) }
+    ensures bound { IfOk result (λ fault. IfSome fault (λ i. i < length overflow.now)) }
+{
+    let used = used_marks(alloc, mdb, overflow, files)?;
+    for i in 0..overflow.len() {
+        if !is_record_right(mdb, &overflow[i], used[i]) {
+            return Ok(Some(i));
+        }
+    }
+    Ok(None)
+}
+
+/// The first fault of a volume's extents, where `tree` is its extents tree, `files` are the files of its catalog and
+/// `records` is how many leaf records the catalog has. It is the number of the first file's record of which a fork's extents,
+/// those of its overflow records among them, don't lie in the volume or have no room for the fork's bytes. Where there is
+/// none, it is `records` and the number of the first record of the extents tree that has no block, that is of the bad
+/// blocks (file 5) and doesn't lie in the volume, or that is of another file and none of the records that the catalog file
+/// (file 4) or a file of the catalog goes on with.
+///
+/// The work is that of some searches for each file, and of going once through the extents tree. The only error is want of
+/// memory.
+///
+/// Source: Inside Macintosh: Files, chapter 2, 'Extents overflow file'.
+pub fn fork_fault<N: Nodes>(
+    alloc: Global,
+    mdb: &Mdb,
+    tree: &N,
+    files: &[CatalogFile],
+    records: usize,
+) -> Result<Option<usize>, AllocError>
+    requires tree { IsExtentsTree (N.nodes tree.now) }
+    requires few { records < 2 ^ 63 }
+    ensures { (catalog : Pairs CatKey) → files.now ≡ runs.files_in 0 catalog → records ≡ length catalog → IfOk result (λ fault. fault ≡ spec.fork_fault mdb.now (overflow_of (N.nodes tree.now)) catalog) }
+{
+    let wrong = first_wrong_file(alloc, mdb, tree, files)?;
+    if wrong.is_some() {
+        return Ok(wrong);
+    }
+    let overflow = overflow_records(alloc, tree)?;
+    match overflow_fault(alloc, mdb, &overflow, files)? {
+        Some(i) => Ok(Some(records + i)),
+        None => Ok(None),
+    }
+}

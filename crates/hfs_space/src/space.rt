@@ -1,0 +1,89 @@
+//! The check of mounting on who owns the allocation blocks.
+ghost use Rattle.std.specs.Prelude.{◌≡◌, ◌+◌, ◌<◌, ◌≤◌, ◌==◌, ◌&&◌, ◌||◌, IfOk};
+ghost use Rattle.hfs_space.specs.Bitmap.{bitmap_len, is_used};
+ghost use Rattle.hfs_space.specs.Extents.{extent_blocks};
+ghost use Rattle.hfs_space.specs.Faults as spec;
+
+use crate::bitmap::Bitmap;
+use crate::owners::owner_counts;
+use hfs_btree::Blocks;
+use hfs_fields::{Extent, Mdb};
+use std::alloc::{AllocError, Global};
+
+/// Whether a block with so many owners is sound: it has none, or one and is marked.
+fn is_sound<B: Blocks>(bitmap: &Bitmap<'_, B>, block: u16, owners: usize) -> bool
+    requires { block < bitmap.now.count }
+    ensures { result ≡ (owners == 0 || (owners == 1 && is_used (B.blocks bitmap.now.blocks.now) bitmap.now.start block)) }
+{
+    owners == 0 || (owners == 1 && bitmap.is_used(block))
+}
+
+/// Whether a block with so many owners is marked and has none.
+fn is_stray<B: Blocks>(bitmap: &Bitmap<'_, B>, block: u16, owners: usize) -> bool
+    requires { block < bitmap.now.count }
+    ensures { result ≡ (owners == 0 && is_used (B.blocks bitmap.now.blocks.now) bitmap.now.start block) }
+{
+    owners == 0 && bitmap.is_used(block)
+}
+
+/// The first fault of a volume's space, where `owned` is all extents that somebody owns: those of the files' forks, of the
+/// catalog file, of the extents file and of the bad blocks. It is the least allocation block that two own, or that one owns
+/// and the bitmap doesn't mark; and where there is none but drFreeBks isn't the number of clear bits, it is the number of
+/// allocation blocks. A block may be marked though nobody owns it. The only error is want of memory.
+///
+/// Source: Inside Macintosh: Files, chapter 2, 'Volume bitmap'.
+#[tactic(auto, unfolding(crate::specs::Faults::space_fault))]
+pub fn space_fault<B: Blocks>(
+    alloc: Global,
+    blocks: &B,
+    mdb: &Mdb,
+    owned: &[Extent],
+) -> Result<Option<u32>, AllocError>
+    requires { mdb.now.bitmap_start + bitmap_len mdb.now.allocation_blocks ≤ B.total blocks.now }
+    ensures { IfOk result (λ fault. fault ≡ spec.space_fault (B.blocks blocks.now) mdb.now (extent_blocks owned.now)) }
+{
+    let bitmap = Bitmap {
+        blocks,
+        start: mdb.bitmap_start,
+        count: mdb.allocation_blocks,
+    };
+    let counts = owner_counts(alloc, mdb.allocation_blocks, owned)?;
+    for block in 0..mdb.allocation_blocks {
+        let sound = is_sound(&bitmap, block, counts[usize::from(block)]);
+        if !sound {
+            return Ok(Some(u32::from(block)));
+        }
+    }
+    if bitmap.free_count() == u32::from(mdb.free_blocks) {
+        Ok(None)
+    } else {
+        Ok(Some(u32::from(mdb.allocation_blocks)))
+    }
+}
+
+/// How many allocation blocks the bitmap marks that nobody owns, where `owned` is all extents that somebody owns. The only
+/// error is want of memory.
+pub fn stray_count<B: Blocks>(
+    alloc: Global,
+    blocks: &B,
+    mdb: &Mdb,
+    owned: &[Extent],
+) -> Result<u32, AllocError>
+    requires { mdb.now.bitmap_start + bitmap_len mdb.now.allocation_blocks ≤ B.total blocks.now }
+    ensures { IfOk result (λ strays. strays ≡ spec.stray_count (B.blocks blocks.now) mdb.now (extent_blocks owned.now)) }
+{
+    let bitmap = Bitmap {
+        blocks,
+        start: mdb.bitmap_start,
+        count: mdb.allocation_blocks,
+    };
+    let counts = owner_counts(alloc, mdb.allocation_blocks, owned)?;
+    let mut strays = 0;
+    for block in 0..mdb.allocation_blocks {
+        let stray = is_stray(&bitmap, block, counts[usize::from(block)]);
+        if stray {
+            strays += 1;
+        }
+    }
+    Ok(strays)
+}
