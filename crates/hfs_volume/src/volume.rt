@@ -17,7 +17,7 @@ use crate::reply::refusal;
 use hfs_btree::{Run, RunNodes};
 use hfs_check::trees_are_sound;
 use hfs_fields::{FileRecord, Mdb};
-use hfs_model::{Call, Fork, PARAMETER, Reply};
+use hfs_model::{Call, Fork, PARAMETER, Reply, reading_leaves};
 use hfs_space::ForkKind;
 use std::alloc::{AllocError, Global};
 use std::marker::Model;
@@ -81,6 +81,18 @@ impl Volume {
             } => self.read_fork(alloc, *dir, name.as_slice(), *fork, *offset, *count),
             _ => unreachable!(),
         }
+    }
+
+    /// Answers a call, which must be one that reads, as [`Call::is_reading`] says. The volume stays as it is, and its answer is
+    /// that of `step`. The only error is want of memory.
+    pub fn call(&mut self, alloc: Global, call: &Call) -> Result<Reply, AllocError>
+        requires { IsTrue (is_reading call.now) }
+        ensures reply { IfOk result (λ reply. reply ≡ (step (volume_of self.old.current) call.now).1) }
+        ensures volume { volume_of self.new.current ≡ (step (volume_of self.old.current) call.now).0 }
+        ensures same { self.new ≡ self.old }
+    {
+        reading_leaves();
+        self.read(alloc, call)
     }
 
     /// What is told of the folder of that ID: -120 where it isn't the ID of a folder.
