@@ -8,11 +8,11 @@ mod index;
 mod item;
 mod laws;
 mod lookups;
-mod records;
 mod numbers;
 mod order_check;
 mod parent_check;
 mod place_check;
+mod records;
 mod thread_check;
 mod valence_check;
 
@@ -25,8 +25,8 @@ pub use laws::{
     scans_are_first, scans_are_whole, sound_is_lawful, valence_faults, valences_are_counted,
 };
 pub use lookups::{by_id, children, lookup, thread};
-pub use records::read_records;
 pub use place_check::place_fault;
+pub use records::read_records;
 pub use valence_check::valence_fault;
 
 #[cfg(test)]

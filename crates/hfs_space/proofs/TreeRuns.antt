@@ -27,9 +27,9 @@ take-range first n most =
     let within = take-map-range_with_len (λ k. k) first n (min most n) (omega arith) in
     let plain : take (min most n) (range_with_len first n) ≡ range_with_len first (min most n) = (λ i. take (min most n) (sym (map-id (range_with_len first n)) i)) ∙ within ∙ map-id (range_with_len first (min most n)) in
     ⊎_elim
-        (λ less. let e : most ≡ min most n = omega arith in ap (λ k. take k (range_with_len first n)) e ∙ plain)
-        (λ more. take_all most (range_with_len first n) (omega (arith, length-range_with_len first n)) ∙ (let e : n ≡ min most n = omega arith in ap (range_with_len first) e))
-        (cases_lt most n)
+    (λ less. let e : most ≡ min most n = omega arith in ap (λ k. take k (range_with_len first n)) e ∙ plain)
+    (λ more. take_all most (range_with_len first n) (omega (arith, length-range_with_len first n)) ∙ (let e : n ≡ min most n = omega arith in ap (range_with_len first) e))
+    (cases_lt most n)
 
 -- the blocks of extents, by their numbers
 abbrev pub numbers : Mdb → List Extent → List ℕ

@@ -22,7 +22,7 @@ length-file_blocks blocks mdb (e ∷ es) =
     let own = map blocks (run_of (run_in mdb e)) in
     let behind = file_blocks blocks mdb es in
     let split : length (file_blocks blocks mdb (e ∷ es)) ≡ length own + length behind =
-        ap length (map-append blocks (run_of (run_in mdb e)) (flat_map run_of (map (run_in mdb) es))) ∙ length-append own behind in
+    ap length (map-append blocks (run_of (run_in mdb e)) (flat_map run_of (map (run_in mdb) es))) ∙ length-append own behind in
     let here = length-map-range_with_len blocks (run_in mdb e).first (run_in mdb e).count in
     let total : block_total (e ∷ es) ≡ e.count + block_total es = sum_by-cons (λ x. x.count) e es in
     split ∙ (λ i. here i + length-file_blocks blocks mdb es i) ∙ (let back = add-mul e.count (block_total es) (blocks_each mdb) in omega (arith, back, ap (λ n. n * blocks_each mdb) total))
@@ -35,7 +35,7 @@ length-tree_nodes blocks mdb extents size whole file =
     let each : mdb.allocation_block_size ≡ 512 * blocks_each mdb = omega (arith, whole) in
     let room = file.room in
     let bytes : block_total extents * mdb.allocation_block_size ≡ 512 * (block_total extents * blocks_each mdb) =
-        ap (λ n. block_total extents * n) each ∙ swap (block_total extents) (blocks_each mdb) in
+    ap (λ n. block_total extents * n) each ∙ swap (block_total extents) (blocks_each mdb) in
     omega (arith, room, bytes, length-file_blocks blocks mdb extents, length-take (node_count size) (file_blocks blocks mdb extents))
   where
     swap : (n k : ℕ) → n * (512 * k) ≡ 512 * (n * k)

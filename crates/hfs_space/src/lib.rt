@@ -15,9 +15,9 @@ mod owned;
 mod owners;
 mod patch;
 mod patched;
-mod tree_file;
 mod runs;
 mod space;
+mod tree_file;
 
 pub use bitmap::Bitmap;
 pub use checks::is_tree_file;
@@ -30,5 +30,5 @@ pub use laws::{fork_faults, owned_are_within, space_faults, tree_files};
 pub use owned::owned_extents;
 pub use patch::Patch;
 pub use patched::Patched;
-pub use tree_file::tree_runs;
 pub use space::{space_fault, stray_count};
+pub use tree_file::tree_runs;

@@ -14,7 +14,7 @@ loop-extent-preserved g c =
     let runs = c.loop-extent.runs.items in
     let rest = take (c.loop-extent.rest - run.count) (numbers c.args.mdb.now (drop (i + 1) c.args.extents.now)) in
     let more = runs-more c.args.mdb.now c.args.extents.now i (get_or c.args.extents.now i none) none c.loop-extent.rest (flat_map run_of runs) run
-        c.loop-extent-test.true refl c.first_blocks-run.ensures.run c.first_blocks-run.ensures.count in
+    c.loop-extent-test.true refl c.first_blocks-run.ensures.run c.first_blocks-run.ensures.count in
     record {
       all = ap (λ l. flat_map run_of l ++ rest) c.in_ok-push.ensures.items ∙ ap (λ l. l ++ rest) (numbers-more runs run) ∙ more ∙ c.loop-extent.invariant.all;
       within = subst (All (λ r. r.first + r.count ≤ g.B.Blocks.total c.args.blocks.now)) (sym c.in_ok-push.ensures.items)
