@@ -1,11 +1,14 @@
 //! A program that reads, checks and changes HFS volumes.
 #![tactic(auto)]
 
+mod checking;
 mod commands;
 mod fault;
 mod files;
 mod info;
 mod input;
+mod listing;
+mod refusal;
 mod reply;
 #[cfg(test)]
 mod tests;
@@ -33,7 +36,7 @@ fn answer(rt: &HostRuntime) -> Status {
     };
     match read_words(rt.alloc(), arguments.as_slice()) {
         Ok(words) => match obey(rt, &words) {
-            Ok(()) => Status::Done,
+            Ok(status) => status,
             Err(fault) => print_fault(rt, &fault),
         },
         Err(error) => match error.kind() {
