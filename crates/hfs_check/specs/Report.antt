@@ -8,9 +8,9 @@ use Rattle.hfs_space.specs.Bitmap.{clear_count}
 use Rattle.hfs_space.specs.Faults.{stray_count}
 use Rattle.hfs_catalog.specs.Sound.{counts_of}
 use Rattle.hfs_check.specs.declared.mount_fault.MountFault.{MountFault}
-use Rattle.hfs_check.specs.declared.report.Alternate.{Alternate}
-use Rattle.hfs_check.specs.declared.report.Alternate.TheVariants.{Same, Differs, Missing}
-use Rattle.hfs_check.specs.declared.report.Report.{Report}
+use Rattle.hfs_check.specs.declared.reported.Alternate.{Alternate}
+use Rattle.hfs_check.specs.declared.reported.Alternate.TheVariants.{Same, Differs, Missing}
+use Rattle.hfs_check.specs.declared.reported.Report.{Report}
 use Rattle.hfs_check.specs.Parts.{Blocks, mdb_in, catalog_in, owned_in}
 use Rattle.hfs_check.specs.Faults.{fault_of}
 

@@ -17,7 +17,8 @@ mod node_block;
 mod number_checks;
 mod plan;
 mod record_checks;
-mod report;
+mod reported;
+mod reporting;
 mod root_leaf;
 mod tree_checks;
 mod tree_header;
@@ -34,7 +35,8 @@ pub use crate::laws::{
 };
 pub use crate::mount_fault::MountFault;
 pub use crate::plan::FormatPlan;
-pub use crate::report::{Alternate, Report};
+pub use crate::reported::{Alternate, Report};
+pub use crate::reporting::report;
 pub use crate::trees::VolumeTrees;
 
 #[cfg(test)]
