@@ -10,6 +10,7 @@ use Rattle.hfs_fields.specs.declared.extent.Extent.{Extent}
 use Rattle.hfs_fields.specs.declared.mdb.Mdb.{Mdb}
 use Rattle.hfs_model.specs.declared.codes.TheConstants.{BAD_NAME, END_OF_FILE, NOT_FOUND, NOT_A_FOLDER}
 use Rattle.hfs_model.specs.declared.reply.Value.TheVariants as value
+use Rattle.hfs_model.specs.declared.reply.Reply.{Reply}
 use Rattle.hfs_model.specs.Replies.{refusal}
 use Rattle.hfs_model.specs.Reading.{part_of}
 use Rattle.hfs_space.specs.Extents.{AreExtentsWithin, block_total}
@@ -44,9 +45,10 @@ module _ (catalog : Catalog) (dir : ℕ) (name : List ℕ) (named : is_item_name
       ap (λ b. cond (not b) (Err (refusal BAD_NAME)) (cond (not (is_folder catalog dir)) (Err (refusal NOT_A_FOLDER)) (only_file (child_named catalog dir name)))) named
       ∙ ap (λ b. cond (not b) (Err (refusal NOT_A_FOLDER)) (only_file (child_named catalog dir name))) folder
 
-  pub of_folder : (item : CatalogItem) (d : DirRecord) → Some item ≡ option_map catalog_item (child_named catalog dir name) → item.body ≡ Folder d → Err (refusal NOT_FOUND) ≡ file_named catalog dir name
+  pub of_folder : (item : CatalogItem) (d : DirRecord) (other : List ℕ) (reply : Reply) → other ≡ name → reply ≡ refusal NOT_FOUND
+      → Some item ≡ option_map catalog_item (child_named catalog dir other) → item.body ≡ Folder d → Err reply ≡ file_named catalog dir name
   unfolding catalog_item
-  of_folder item d is body = sym (file_named_is ∙ elim (child_named catalog dir name) as (λ (o : Option Record). Some item ≡ option_map catalog_item o → only_file o ≡ Err (refusal NOT_FOUND)) [
+  of_folder item d other reply same_name refused is body = ap Err refused ∙ sym (file_named_is ∙ elim (child_named catalog dir name) as (λ (o : Option Record). Some item ≡ option_map catalog_item o → only_file o ≡ Err (refusal NOT_FOUND)) [
     | None ↦ λ e. absurd (none_some item (sym e))
     | Some r ↦ λ e.
         let same = same_some item (catalog_item r) e in
@@ -54,11 +56,12 @@ module _ (catalog : Catalog) (dir : ℕ) (name : List ℕ) (named : is_item_name
           | true ↦ λ e'. refl
           | false ↦ λ e'. absurd (folder_not_file d _ (sym e'))
         ] (ap (λ (i : CatalogItem). i.body) (sym same) ∙ body)
-  ] is)
+  ] (is ∙ ap (λ n. option_map catalog_item (child_named catalog dir n)) same_name))
 
-  pub of_file : (item : CatalogItem) (f : FileRecord) → Some item ≡ option_map catalog_item (child_named catalog dir name) → item.body ≡ File f → Ok f ≡ file_named catalog dir name
+  pub of_file : (item : CatalogItem) (f : FileRecord) (other : List ℕ) → other ≡ name
+      → Some item ≡ option_map catalog_item (child_named catalog dir other) → item.body ≡ File f → Ok f ≡ file_named catalog dir name
   unfolding catalog_item
-  of_file item f is body = sym (file_named_is ∙ elim (child_named catalog dir name) as (λ (o : Option Record). Some item ≡ option_map catalog_item o → only_file o ≡ Ok f) [
+  of_file item f other same_name is body = sym (file_named_is ∙ elim (child_named catalog dir name) as (λ (o : Option Record). Some item ≡ option_map catalog_item o → only_file o ≡ Ok f) [
     | None ↦ λ e. absurd (none_some item (sym e))
     | Some r ↦ λ e.
         let same = same_some item (catalog_item r) e in
@@ -66,4 +69,4 @@ module _ (catalog : Catalog) (dir : ℕ) (name : List ℕ) (named : is_item_name
           | true ↦ λ e'. absurd (folder_not_file _ f e')
           | false ↦ λ e'. ap Ok (same_file _ f e')
         ] (ap (λ (i : CatalogItem). i.body) (sym same) ∙ body)
-  ] is)
+  ] (is ∙ ap (λ n. option_map catalog_item (child_named catalog dir n)) same_name))

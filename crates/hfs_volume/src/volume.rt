@@ -7,7 +7,7 @@ ghost use Rattle.hfs_model.specs.Step.{step, is_reading};
 ghost use Rattle.hfs_check.specs.VolumeOf.{contents_in, volume_of};
 ghost use Rattle.hfs_btree.specs.Blocks.{block_at};
 ghost use Rattle.hfs_volume.specs.Told.{pick};
-ghost use Rattle.hfs_volume.specs.Mounted.{AreForksIn};
+ghost use Rattle.hfs_volume.specs.Mounted.{IsMounted, AreForksIn};
 
 use crate::fork::read_part;
 use crate::image::Image;
@@ -47,6 +47,19 @@ impl Model for Volume {
 }
 
 impl Volume {
+    /// The volume of an image, with what mounting found out.
+    pub(crate) fn new(image: Image, mdb: Mdb, extents: Vec<Run>, catalog: Vec<Run>) -> Volume
+        requires { IsMounted image mdb extents.items catalog.items }
+        ensures { result ≡ image }
+    {
+        Volume {
+            image,
+            mdb,
+            extents,
+            catalog,
+        }
+    }
+
     /// Answers a call that reads, as [`Call::is_reading`] says, by the volume as it is now. The only error is want of memory.
     ///
     /// Source: Inside Macintosh: Files, chapter 2, "High-Level HFS Routines" and "Low-Level HFS Routines".

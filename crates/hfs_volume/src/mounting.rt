@@ -1,0 +1,52 @@
+//! Mounting.
+
+ghost use Rattle.std.specs.Prelude.{◌≡◌, IfOk, IfErr, OnOk};
+ghost use Rattle.hfs_check.specs.Answers.{IsFaultOf};
+ghost use Rattle.hfs_check.specs.Faults.{fault_of};
+ghost use Rattle.hfs_check.specs.Sound.{IsSound};
+
+use crate::image::Image;
+use crate::volume::Volume;
+use hfs_check::{MountFault, SoundVolume, VolumeTrees, agrees_with_itself, check_image};
+use std::alloc::{AllocFailed, Global};
+
+/// Why an image was not mounted, with the image as it was given.
+#[derive(Drop)]
+pub struct Refused {
+    pub fault: MountFault,
+    pub image: Vec<u8>,
+}
+
+/// Mounts the volume of an image: the whole volume, beginning with its boot blocks. Ok exactly where the image is sound,
+/// unless memory is wanting; else the first fault in the order of docs/CHECKS.md, with the image as it was given.
+///
+/// Source: Inside Macintosh: Files, chapter 2, "Data Organization on Volumes".
+pub fn mount(alloc: Global, image: Vec<u8>) -> Result<Volume, Refused>
+    ensures sound { OnOk result (IsSound image.items) }
+    ensures base { IfOk result (λ volume. volume.base ≡ image.items) }
+    ensures current { IfOk result (λ volume. volume.current ≡ image.items) }
+    ensures fault { IfErr result (λ refused. IsFaultOf (fault_of image.items) refused.fault) }
+    ensures given { IfErr result (λ refused. refused.image ≡ image) }
+{
+    agrees_with_itself();
+    let found = match check_image(alloc, &image) {
+        Ok(found) => found,
+        Err(fault) => return Err(Refused { fault, image }),
+    };
+    match Image::new(alloc, image) {
+        Ok(image) => {
+            let SoundVolume { mdb, trees } = found;
+            let VolumeTrees {
+                extents, catalog, ..
+            } = trees;
+            Ok(Volume::new(image, mdb, extents, catalog))
+        }
+        Err(failed) => {
+            let AllocFailed { value } = failed;
+            Err(Refused {
+                fault: MountFault::Memory,
+                image: value,
+            })
+        }
+    }
+}
