@@ -1,10 +1,14 @@
 //! The lines of a folder's children.
 ghost use Rattle.std.specs.Prelude.{◌≡◌, ◌++◌, IfOk, OnOk, string_bytes};
+ghost use Rattle.hfs_model.specs.Children.{entries_of};
+ghost use Rattle.hfs_model.specs.Reading.{list};
+ghost use Rattle.hfs_check.specs.VolumeOf.{volume_of};
 ghost use Rattle.hfs_tool.specs.Listing.{child_line, child_lines, code_line, list_lines, list_status, tabbed, tabbed_sizes};
 
 use crate::fault::Status;
 use crate::text::{Show, push_line};
 use hfs_model::{Info, ItemKind, Reply, Value};
+use hfs_volume::Volume;
 use std::alloc::{AllocError, Global};
 
 /// Appends a tab and a value.
@@ -65,7 +69,7 @@ pub fn code_text(alloc: Global, reply: &Reply) -> Result<String, AllocError>
 }
 
 /// The exit status and the lines of a reply to List.
-pub fn children_text(alloc: Global, reply: &Reply) -> Result<(u8, String), AllocError>
+fn children_text(alloc: Global, reply: &Reply) -> Result<(u8, String), AllocError>
     ensures status { IfOk result (λ told. told.0 ≡ list_status reply.now) }
     ensures lines { IfOk result (λ told. string_bytes told.1 ≡ list_lines reply.now) }
 {
@@ -77,4 +81,14 @@ pub fn children_text(alloc: Global, reply: &Reply) -> Result<(u8, String), Alloc
         }
         _ => Ok((Status::CallRefused.number(), code_text(alloc, reply)?)),
     }
+}
+
+/// Lists a folder by its ID, and answers the exit status and the lines: 0 and a line for each child in name order, or 3
+/// and the code of the call. The only error is want of memory.
+pub fn list_text(alloc: Global, volume: &Volume, dir: u32) -> Result<(u8, String), AllocError>
+    ensures status { IfOk result (λ told. told.0 ≡ list_status (list (entries_of (volume_of volume.now.current)) dir)) }
+    ensures lines { IfOk result (λ told. string_bytes told.1 ≡ list_lines (list (entries_of (volume_of volume.now.current)) dir)) }
+{
+    let reply = volume.list(alloc, dir)?;
+    children_text(alloc, &reply)
 }
