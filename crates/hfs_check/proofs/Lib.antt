@@ -18,3 +18,4 @@ pub mod NewSpace
 pub mod PlanFacts
 pub mod NewImage
 pub mod Opened
+pub mod CountedReport
