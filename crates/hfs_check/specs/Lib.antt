@@ -12,8 +12,5 @@ pub mod Agree
 pub mod Laws
 pub mod Answers
 pub mod Report
-pub mod NewCatalog
-pub mod NewSpace
-pub mod PlanFacts
 pub mod FormatLaws
 pub mod Trees

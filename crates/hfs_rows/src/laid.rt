@@ -45,7 +45,12 @@ fn lay_counts(image: &mut Vec<u8>) {
 /// The extents tree has one leaf, node 1, with one record: the data fork of file 16 goes on from its block 3 with
 /// allocation block 16.
 fn lay_extents_tree(image: &mut Vec<u8>) {
-    lay(image, 4, 14, &[0, 1, 0, 0, 0, 1, 0, 0, 0, 1, 0, 0, 0, 1, 0, 0, 0, 1]);
+    lay(
+        image,
+        4,
+        14,
+        &[0, 1, 0, 0, 0, 1, 0, 0, 0, 1, 0, 0, 0, 1, 0, 0, 0, 1],
+    );
     lay(image, 4, 40, &[0, 0, 0, 0]);
     lay(image, 4, 248, &[0xc0]);
     lay(image, 5, 8, &[0xff, 1, 0, 1]);
@@ -70,7 +75,12 @@ fn lay_file(image: &mut Vec<u8>) {
 fn lay_fork(image: &mut Vec<u8>) {
     for k in 0..2048u32 {
         let block = 14 + k / 512 * 2;
-        lay(image, block as usize, (k % 512) as usize, &[(k % 251) as u8]);
+        lay(
+            image,
+            block as usize,
+            (k % 512) as usize,
+            &[(k % 251) as u8],
+        );
     }
 }
 

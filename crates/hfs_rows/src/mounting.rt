@@ -39,15 +39,24 @@ fn what_is_no_volume_is_refused(rt: HostRuntime) -> Result<(), Fail> {
 fn wrong_volumes_are_refused_with_their_place(rt: HostRuntime) -> Result<(), Fail> {
     let mut files = new_image(rt.alloc(), 6)?;
     lay(&mut files, 2, 84, &[0, 0, 0, 1]);
-    let counted = MountFault::Check { number: 10, place: 3 };
+    let counted = MountFault::Check {
+        number: 10,
+        place: 3,
+    };
     assert_eq!(rt; fault_of(rt.alloc(), files), Some(counted));
     let mut ring = new_image(rt.alloc(), 6)?;
     lay(&mut ring, 7, 0, &[0, 0, 0, 1]);
-    let chained = MountFault::Check { number: 4, place: 1 };
+    let chained = MountFault::Check {
+        number: 4,
+        place: 1,
+    };
     assert_eq!(rt; fault_of(rt.alloc(), ring), Some(chained));
     let mut twice = laid_image(rt.alloc())?;
     lay(&mut twice, 5, 22, &[0, 14]);
-    let owned = MountFault::Check { number: 12, place: 14 };
+    let owned = MountFault::Check {
+        number: 12,
+        place: 14,
+    };
     assert_eq!(rt; fault_of(rt.alloc(), twice), Some(owned));
     Ok(())
 }

@@ -46,7 +46,10 @@ fn places_and_folders_that_are_none(rt: HostRuntime) -> Result<(), Fail> {
 #[test]
 fn a_file_is_found_by_name_and_by_place(rt: HostRuntime) -> Result<(), Fail> {
     let volume = mounted(rt.alloc(), laid_image(rt.alloc())?)?;
-    for reply in [volume.get_cat_info(2, b"F"), volume.get_indexed(rt.alloc(), 2, 1)?] {
+    for reply in [
+        volume.get_cat_info(2, b"F"),
+        volume.get_indexed(rt.alloc(), 2, 1)?,
+    ] {
         assert_eq!(rt; reply.code, 0);
         let info = one(&reply).ok_or("no item")?;
         assert_eq!(rt; info.id, 16);
@@ -63,7 +66,12 @@ fn a_file_is_found_by_name_and_by_place(rt: HostRuntime) -> Result<(), Fail> {
 }
 
 /// Code and bytes of a part of the data fork of file `f` in the root.
-fn part(volume: &Volume, alloc: Global, offset: u32, count: u32) -> Result<(i16, Vec<u8>), AllocError> {
+fn part(
+    volume: &Volume,
+    alloc: Global,
+    offset: u32,
+    count: u32,
+) -> Result<(i16, Vec<u8>), AllocError> {
     let call = Call::ReadFork {
         dir: 2,
         name: Bytes::from_slice(alloc, b"f")?,
@@ -82,7 +90,12 @@ fn part(volume: &Volume, alloc: Global, offset: u32, count: u32) -> Result<(i16,
 fn a_fork_is_read_through_its_overflow_extent(rt: HostRuntime) -> Result<(), Fail> {
     let volume = mounted(rt.alloc(), laid_image(rt.alloc())?)?;
     let cases: [(u32, u32, i16, &[u8]); 5] = [
-        (1530, 10, 0, &[0x18, 0x19, 0x1a, 0x1b, 0x1c, 0x1d, 0x1e, 0x1f, 0x20, 0x21]),
+        (
+            1530,
+            10,
+            0,
+            &[0x18, 0x19, 0x1a, 0x1b, 0x1c, 0x1d, 0x1e, 0x1f, 0x20, 0x21],
+        ),
         (1995, 10, -39, &[0xee, 0xef, 0xf0, 0xf1, 0xf2]),
         (2000, 0, 0, &[]),
         (2001, 0, -39, &[]),

@@ -37,7 +37,9 @@ pub fn mount(alloc: Global, image: Vec<u8>) -> Result<Volume, Refused>
         Ok(image) => {
             let SoundVolume { mdb, trees } = found;
             let VolumeTrees {
-                extents, catalog, ..
+                extents,
+                catalog,
+                ..
             } = trees;
             Ok(Volume::new(image, mdb, extents, catalog))
         }
