@@ -3,9 +3,9 @@ use Rattle.std.specs.Prelude.{ℕ, List, ◌++◌, Option, Some, None, codes}
 use Rattle.std.specs.Fmt.{decimal}
 use Rattle.hfs_check.specs.declared.mount_fault.MountFault.{MountFault}
 use Rattle.hfs_check.specs.declared.mount_fault.MountFault.TheVariants as mount
-use Rattle.hfs_check.specs.declared.report.Alternate.{Alternate}
-use Rattle.hfs_check.specs.declared.report.Alternate.TheVariants as alternate
-use Rattle.hfs_check.specs.declared.report.Report.{Report}
+use Rattle.hfs_check.specs.declared.reported.Alternate.{Alternate}
+use Rattle.hfs_check.specs.declared.reported.Alternate.TheVariants as alternate
+use Rattle.hfs_check.specs.declared.reported.Report.{Report}
 use Rattle.hfs_tool.specs.declared.fault.Status.{Status}
 use Rattle.hfs_tool.specs.declared.fault.Status.TheVariants as status
 use Rattle.hfs_tool.specs.Faults.{status_number}

@@ -89,7 +89,14 @@ fn print_list<'a>(rt: &HostRuntime, path: &'a str, dir: u32) -> Result<u8, Fault
 fn print_fork<'a>(rt: &HostRuntime, file: &ForkWords<'a>) -> Result<u8, Fault<'a>> {
     let volume = mounted(rt, file.image)?;
     let name = file.name.as_bytes();
-    let reply = write_fork(rt.alloc(), &mut rt.stdout(), &volume, file.dir, name, file.fork)?;
+    let reply = write_fork(
+        rt.alloc(),
+        &mut rt.stdout(),
+        &volume,
+        file.dir,
+        name,
+        file.fork,
+    )?;
     if reply.code == 0 {
         return Ok(Status::Done.number());
     }

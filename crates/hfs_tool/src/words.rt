@@ -110,7 +110,9 @@ fn list_command<'a>(alloc: Global) -> Result<Command<'a>, AllocError> {
         .default_value("2")
         .help("The ID of the folder");
     Command::new(alloc, "ls")
-        .about("Prints a line for each child of a folder: kind, ID, valence or data length, 0 or resource length, name")
+        .about(
+            "Prints a line for each child of a folder: kind, ID, valence or data length, 0 or resource length, name",
+        )
         .arg(image(alloc))?
         .arg(dir)
 }
