@@ -165,7 +165,7 @@ fn forks_are_written(rt: HostRuntime) -> Result<(), Fail> {
         (2u32, &b"f"[..], 0i16),
         (2, b"g", -43),
         (99, b"f", -120),
-        (1, b"D", -43),
+        (1, b"D", -120),
     ] {
         let mut bytes = Vec::new(rt.alloc());
         let Ok(reply) = write_fork(rt.alloc(), &mut bytes, &volume, dir, name, Fork::ResFork) else {

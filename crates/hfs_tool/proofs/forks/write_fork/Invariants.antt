@@ -1,9 +1,14 @@
--- the offset comes closer to the length
-use Rattle.std.proofs.Common.{ℕ, ◌≤◌, ◌-◌}
+-- the bytes before the offset were written
+use Rattle.std.proofs.Common.{ℕ, ◌≤◌, ◌-◌, take}
+use Rattle.std.specs.Io.KnownBytes.{Appends}
+use Rattle.hfs_model.specs.Children.{entries_of}
+use Rattle.hfs_check.specs.VolumeOf.{volume_of}
+use Rattle.hfs_tool.specs.Forks.{fork_named}
 use Rattle.hfs_tool.proofs.forks.write_fork.Given as goal
 
-abbrev pub invariant-loop-reply : goal.invariant-loop-reply
-invariant-loop-reply g l = l.offset ≤ l.len
+abbrev pub invariant-loop-offset : goal.invariant-loop-offset
+invariant-loop-offset g l = (l.offset ≤ l.len)
+    × Appends (g.W.Write.contents l.fn.writer) (g.W.Write.contents l.writer) (take l.offset (fork_named (entries_of (volume_of l.volume.current)) l.dir l.name l.fork))
 
-abbrev pub decreases-loop-reply : goal.decreases-loop-reply
-decreases-loop-reply g l = l.len - l.offset
+abbrev pub decreases-loop-offset : goal.decreases-loop-offset
+decreases-loop-offset g l = l.len - l.offset
