@@ -10,15 +10,14 @@ abbrev pub status_number : Status → ℕ
 status_number status.Done = 0
 status_number status.WordsRefused = 1
 status_number status.ImageRefused = 2
+status_number status.CallRefused = 3
 status_number status.DeviceFailed = 4
 status_number status.NoMemory = 5
 
 -- how the program ends after a fault
 abbrev pub status_of : Fault → Status
 status_of fault.WordsNotText = status.WordsRefused
-status_of fault.ImageTooShort = status.ImageRefused
-status_of fault.ImageTooLarge = status.ImageRefused
-status_of fault.NotHfs = status.ImageRefused
+status_of (fault.Refused why) = status.ImageRefused
 status_of fault.BadName = status.ImageRefused
 status_of fault.BadSize = status.ImageRefused
 status_of fault.BadNodeCount = status.ImageRefused

@@ -1,24 +1,31 @@
 //! What each word does.
 
-use crate::fault::Fault;
-use crate::files::write_file;
+use crate::checking::{check_text, refused_text};
+use crate::fault::{Fault, Status};
+use crate::files::{load_file, write_file};
+use crate::forks::write_fork;
 use crate::info::run_info;
-use crate::words::{NewVolume, Words};
+use crate::listing::{code_text, list_text};
+use crate::words::{ForkWords, NewVolume, Words};
 use hfs_check::{FormatPlan, format};
+use hfs_volume::{Volume, mount};
 use std::fs::File;
-use std::io::Read;
+use std::io::{Read, Write};
 
-/// Does what the words ask for.
-pub fn obey<'a>(rt: &HostRuntime, words: &Words<'a>) -> Result<(), Fault<'a>> {
+/// Does what the words ask for, and answers the exit status.
+pub fn obey<'a>(rt: &HostRuntime, words: &Words<'a>) -> Result<u8, Fault<'a>> {
     match words {
         Words::Info { image: None } => print_info(rt, &mut rt.stdin(), "stdin"),
         Words::Info { image: Some(image) } => print_info_of(rt, *image),
+        Words::Check { image } => print_check(rt, *image),
+        Words::List { image, dir } => print_list(rt, *image, *dir),
+        Words::Cat(file) => print_fork(rt, file),
         Words::New(volume) => write_new(rt, volume),
     }
 }
 
 /// Prints the master directory block of an image by its path.
-fn print_info_of<'a>(rt: &HostRuntime, image: &'a str) -> Result<(), Fault<'a>> {
+fn print_info_of<'a>(rt: &HostRuntime, image: &'a str) -> Result<u8, Fault<'a>> {
     match File::open(rt, image) {
         Ok(mut file) => print_info(rt, &mut file, image),
         Err(_) => Err(Fault::CannotRead(image)),
@@ -30,15 +37,78 @@ fn print_info<'a, R: Read>(
     rt: &HostRuntime,
     reader: &mut R,
     name: &'a str,
-) -> Result<(), Fault<'a>> {
+) -> Result<u8, Fault<'a>> {
     match run_info(rt.alloc(), reader, &mut rt.stdout()) {
-        Ok(()) => Ok(()),
+        Ok(()) => Ok(Status::Done.number()),
         Err(fault) => Err(Fault::of_info(fault, name)),
     }
 }
 
+/// Prints lines.
+fn print_lines(rt: &HostRuntime, lines: &str) -> Result<(), Fault<'static>> {
+    match print!(rt; "{lines}") {
+        Ok(()) => Ok(()),
+        Err(_) => Err(Fault::OutputFailed),
+    }
+}
+
+/// Prints what is told of an image by its path. Each fault of the image is told behind `refused`.
+fn print_check<'a>(rt: &HostRuntime, path: &'a str) -> Result<u8, Fault<'a>> {
+    let told = match load_file(rt, path) {
+        Ok(image) => check_text(rt.alloc(), image.as_slice()),
+        Err(Fault::Refused(why)) => refused_text(rt.alloc(), why),
+        Err(fault) => return Err(fault),
+    };
+    let Ok((status, lines)) = told else {
+        return Err(Fault::NoMemory);
+    };
+    print_lines(rt, lines.as_str())?;
+    Ok(status)
+}
+
+/// The volume of an image by its path.
+fn mounted<'a>(rt: &HostRuntime, path: &'a str) -> Result<Volume, Fault<'a>> {
+    let image = load_file(rt, path)?;
+    match mount(rt.alloc(), image) {
+        Ok(volume) => Ok(volume),
+        Err(refused) => Err(Fault::of_mount(refused.fault)),
+    }
+}
+
+/// Prints the children of a folder by its ID.
+fn print_list<'a>(rt: &HostRuntime, path: &'a str, dir: u32) -> Result<u8, Fault<'a>> {
+    let volume = mounted(rt, path)?;
+    let Ok((status, lines)) = list_text(rt.alloc(), &volume, dir) else {
+        return Err(Fault::NoMemory);
+    };
+    print_lines(rt, lines.as_str())?;
+    Ok(status)
+}
+
+/// Prints the bytes of a file's fork, or the code of the call that was refused.
+fn print_fork<'a>(rt: &HostRuntime, file: &ForkWords<'a>) -> Result<u8, Fault<'a>> {
+    let volume = mounted(rt, file.image)?;
+    let name = file.name.as_bytes();
+    let reply = write_fork(
+        rt.alloc(),
+        &mut rt.stdout(),
+        &volume,
+        file.dir,
+        name,
+        file.fork,
+    )?;
+    if reply.code == 0 {
+        return Ok(Status::Done.number());
+    }
+    let Ok(line) = code_text(rt.alloc(), &reply) else {
+        return Err(Fault::NoMemory);
+    };
+    print_lines(rt, line.as_str())?;
+    Ok(Status::CallRefused.number())
+}
+
 /// Writes a new volume to its file. Where the plan is refused, the file is left as it was.
-fn write_new<'a>(rt: &HostRuntime, volume: &NewVolume<'a>) -> Result<(), Fault<'a>> {
+fn write_new<'a>(rt: &HostRuntime, volume: &NewVolume<'a>) -> Result<u8, Fault<'a>> {
     let Ok(name) = Vec::from_slice(rt.alloc(), volume.name.as_bytes()) else {
         return Err(Fault::NoMemory);
     };
@@ -50,7 +120,10 @@ fn write_new<'a>(rt: &HostRuntime, volume: &NewVolume<'a>) -> Result<(), Fault<'
         now: volume.now,
     };
     match format(rt.alloc(), plan) {
-        Ok(image) => write_file(rt, volume.file, &image),
+        Ok(image) => {
+            write_file(rt, volume.file, &image)?;
+            Ok(Status::Done.number())
+        }
         Err(fault) => Err(Fault::of_format(fault)),
     }
 }

@@ -1,10 +1,11 @@
 //! Why a command was not done, and how the program ends.
-ghost use Rattle.std.specs.Prelude.{◌≡◌};
+ghost use Rattle.std.specs.Prelude.{◌≡◌, ◌≢◌};
 ghost use Rattle.hfs_tool.specs.Faults.{status_number, status_of};
 
 use crate::info::InfoFault;
 use crate::input::LoadFault;
-use hfs_check::FormatFault;
+use crate::refusal::Refusal;
+use hfs_check::{FormatFault, MountFault};
 use std::fmt;
 
 /// How the program ends. Scripts read it as the exit status.
@@ -16,6 +17,8 @@ pub enum Status {
     WordsRefused,
     /// The image is refused, or the plan of a new volume.
     ImageRefused,
+    /// A call on the volume answered with a code other than 0.
+    CallRefused,
     /// A read or a write failed.
     DeviceFailed,
     /// Memory was refused.
@@ -31,6 +34,7 @@ impl Status {
             Status::Done => 0,
             Status::WordsRefused => 1,
             Status::ImageRefused => 2,
+            Status::CallRefused => 3,
             Status::DeviceFailed => 4,
             Status::NoMemory => 5,
         }
@@ -43,12 +47,8 @@ impl Status {
 pub enum Fault<'a> {
     /// The words are no UTF-8.
     WordsNotText,
-    /// The image has fewer than 1,536 bytes.
-    ImageTooShort,
-    /// The image has more than 2,147,483,648 bytes.
-    ImageTooLarge,
-    /// The volume's signature is another than HFS's.
-    NotHfs,
+    /// The image is refused, and not for want of memory.
+    Refused(MountFault),
     /// A new volume can't have this name.
     BadName,
     /// A new volume can't have so few or so many blocks.
@@ -74,7 +74,7 @@ impl Fault<'_> {
     {
         match self {
             Fault::WordsNotText => Status::WordsRefused,
-            Fault::ImageTooShort | Fault::ImageTooLarge | Fault::NotHfs => Status::ImageRefused,
+            Fault::Refused(_) => Status::ImageRefused,
             Fault::BadName | Fault::BadSize | Fault::BadNodeCount | Fault::NoRoom => {
                 Status::ImageRefused
             }
@@ -87,15 +87,15 @@ impl Fault<'_> {
 
     /// What a fault of printing a master directory block means for the file that it was read from.
     pub fn of_info(fault: InfoFault, file: &str) -> Fault<'_>
-        ensures short { fault ≡ InfoFault.Short → result ≡ Fault.ImageTooShort }
-        ensures signature { fault ≡ InfoFault.NoMacDisk → result ≡ Fault.NotHfs }
+        ensures short { fault ≡ InfoFault.Short → result ≡ Fault.Refused MountFault.Short }
+        ensures signature { fault ≡ InfoFault.NoMacDisk → result ≡ Fault.Refused MountFault.NoMacDisk }
         ensures read { fault ≡ InfoFault.ReadFailed → result ≡ Fault.CannotRead file.entry }
         ensures write { fault ≡ InfoFault.WriteFailed → result ≡ Fault.OutputFailed }
         ensures memory { fault ≡ InfoFault.Memory → result ≡ Fault.NoMemory }
     {
         match fault {
-            InfoFault::Short => Fault::ImageTooShort,
-            InfoFault::NoMacDisk => Fault::NotHfs,
+            InfoFault::Short => Fault::Refused(MountFault::Short),
+            InfoFault::NoMacDisk => Fault::Refused(MountFault::NoMacDisk),
             InfoFault::ReadFailed => Fault::CannotRead(file),
             InfoFault::WriteFailed => Fault::OutputFailed,
             InfoFault::Memory => Fault::NoMemory,
@@ -105,18 +105,29 @@ impl Fault<'_> {
     /// What a fault of loading an image means for its file.
     pub fn of_load(fault: LoadFault, file: &str) -> Fault<'_>
         ensures read { fault ≡ LoadFault.ReadFailed → result ≡ Fault.CannotRead file.entry }
-        ensures large { fault ≡ LoadFault.TooLarge → result ≡ Fault.ImageTooLarge }
+        ensures large { fault ≡ LoadFault.TooLarge → result ≡ Fault.Refused MountFault.TooLarge }
         ensures memory { fault ≡ LoadFault.Memory → result ≡ Fault.NoMemory }
     {
         match fault {
             LoadFault::ReadFailed => Fault::CannotRead(file),
-            LoadFault::TooLarge => Fault::ImageTooLarge,
+            LoadFault::TooLarge => Fault::Refused(MountFault::TooLarge),
             LoadFault::Memory => Fault::NoMemory,
         }
     }
 }
 
 impl Fault<'static> {
+    /// What a fault of mounting an image means for the program.
+    pub fn of_mount(fault: MountFault) -> Fault<'static>
+        ensures memory { fault ≡ MountFault.Memory → result ≡ Fault.NoMemory }
+        ensures refused { fault ≢ MountFault.Memory → result ≡ Fault.Refused fault }
+    {
+        match fault {
+            MountFault::Memory => Fault::NoMemory,
+            _ => Fault::Refused(fault),
+        }
+    }
+
     /// What a fault of a new volume's plan means for the program.
     pub fn of_format(fault: FormatFault) -> Fault<'static>
         ensures name { fault ≡ FormatFault.BadName → result ≡ Fault.BadName }
@@ -139,9 +150,7 @@ impl fmt::Display for Fault<'_> {
     fn fmt<W: fmt::Write>(&self, f: &mut fmt::Formatter<W>) -> fmt::Result {
         match self {
             Fault::WordsNotText => write!(f, "the words are not text"),
-            Fault::ImageTooShort => write!(f, "image too short"),
-            Fault::ImageTooLarge => write!(f, "image too large"),
-            Fault::NotHfs => write!(f, "not an HFS volume (-57)"),
+            Fault::Refused(why) => write!(f, "{}", Refusal(*why)),
             Fault::BadName => write!(f, "bad name"),
             Fault::BadSize => write!(f, "bad size"),
             Fault::BadNodeCount => write!(f, "bad node count"),

@@ -7,7 +7,7 @@ use std::fs::File;
 use std::rt::Files;
 
 /// All bytes of a file, at most 2,147,483,648. Faults: `CannotRead` where it can't be opened or a read fails,
-/// `ImageTooLarge` where it has more, `NoMemory`.
+/// `Refused(TooLarge)` where it has more, `NoMemory`.
 pub fn load_file<'a, R: Files + AllocGlobal>(rt: &R, path: &'a str) -> Result<Vec<u8>, Fault<'a>> {
     let Ok(mut file) = File::open(rt, path) else {
         return Err(Fault::CannotRead(path));

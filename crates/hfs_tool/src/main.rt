@@ -1,11 +1,15 @@
 //! A program that reads, checks and changes HFS volumes.
 #![tactic(auto)]
 
+mod checking;
 mod commands;
 mod fault;
 mod files;
+mod forks;
 mod info;
 mod input;
+mod listing;
+mod refusal;
 mod reply;
 #[cfg(test)]
 mod tests;
@@ -20,11 +24,11 @@ use std::process::ExitCode;
 use std::{env, io};
 
 fn main(rt: HostRuntime) -> ExitCode {
-    ExitCode::from(answer(&rt).number())
+    ExitCode::from(answer(&rt))
 }
 
-/// Reads the words and does what they ask for.
-fn answer(rt: &HostRuntime) -> Status {
+/// Reads the words and does what they ask for. Answers the exit status.
+fn answer(rt: &HostRuntime) -> u8 {
     let Ok(arguments) = env::args(rt) else {
         return print_fault(rt, &Fault::WordsNotText);
     };
@@ -33,7 +37,7 @@ fn answer(rt: &HostRuntime) -> Status {
     };
     match read_words(rt.alloc(), arguments.as_slice()) {
         Ok(words) => match obey(rt, &words) {
-            Ok(()) => Status::Done,
+            Ok(status) => status,
             Err(fault) => print_fault(rt, &fault),
         },
         Err(error) => match error.kind() {
@@ -44,18 +48,18 @@ fn answer(rt: &HostRuntime) -> Status {
     }
 }
 
-/// Prints a fault alone on its line, and answers its status. After standard output failed nothing more is printed.
-fn print_fault(rt: &HostRuntime, fault: &Fault<'_>) -> Status {
+/// Prints a fault alone on its line, and answers its exit status. After standard output failed nothing more is printed.
+fn print_fault(rt: &HostRuntime, fault: &Fault<'_>) -> u8 {
     match fault {
-        Fault::OutputFailed => fault.status(),
+        Fault::OutputFailed => fault.status().number(),
         _ => status_after(println!(rt; "{fault}"), fault.status()),
     }
 }
 
-/// This status, or that of a failed device where the text was not printed.
-fn status_after(printed: io::Result<()>, status: Status) -> Status {
+/// The exit status of this status, or of a failed device where the text was not printed.
+fn status_after(printed: io::Result<()>, status: Status) -> u8 {
     match printed {
-        Ok(()) => status,
-        Err(_) => Status::DeviceFailed,
+        Ok(()) => status.number(),
+        Err(_) => Status::DeviceFailed.number(),
     }
 }

@@ -4,4 +4,5 @@ mod headers;
 mod info;
 mod loading;
 mod replies;
+mod volumes;
 mod words;

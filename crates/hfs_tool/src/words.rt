@@ -1,6 +1,7 @@
 //! The program's words, from the command line to a typed command.
 
 use clap::{Arg, ArgAction, ArgMatches, Command, Error, value_parser};
+use hfs_model::Fork;
 use std::alloc::{AllocError, Global};
 
 /// What the words ask for.
@@ -8,8 +9,27 @@ use std::alloc::{AllocError, Global};
 pub enum Words<'a> {
     /// `info IMAGE`: the fields of the master directory block; of standard input where there are no words.
     Info { image: Option<&'a str> },
+    /// `check IMAGE`: what is told of the image.
+    Check { image: &'a str },
+    /// `ls IMAGE [DIR]`: a line for each child of the folder of that ID.
+    List { image: &'a str, dir: u32 },
+    /// `cat IMAGE DIR NAME [--resource]`: the bytes of a file's fork.
+    Cat(ForkWords<'a>),
     /// `new FILE NAME BLOCKS NODES EXTENTS [--now N]`: a new volume.
     New(NewVolume<'a>),
+}
+
+/// A fork of a file, by the place of the file in an image.
+#[derive(Clone, Copy, Debug, PartialEq, Eq)]
+pub struct ForkWords<'a> {
+    /// The path of the image.
+    pub image: &'a str,
+    /// The ID of the folder that holds the file.
+    pub dir: u32,
+    /// The file's name.
+    pub name: &'a str,
+    /// Which of its forks.
+    pub fork: Fork,
 }
 
 /// A new volume, and the file that it is written to.
@@ -65,6 +85,9 @@ fn command<'a>(alloc: Global) -> Result<Command<'a>, AllocError> {
     Command::new(alloc, "hfs_tool")
         .about("Reads, checks and changes HFS volumes. With no words: info on standard input")
         .subcommand(info_command(alloc)?)?
+        .subcommand(check_command(alloc)?)?
+        .subcommand(list_command(alloc)?)?
+        .subcommand(cat_command(alloc)?)?
         .subcommand(new_command(alloc)?)
 }
 
@@ -72,6 +95,39 @@ fn info_command<'a>(alloc: Global) -> Result<Command<'a>, AllocError> {
     Command::new(alloc, "info")
         .about("Prints the fields of a volume's master directory block")
         .arg(image(alloc))
+}
+
+fn check_command<'a>(alloc: Global) -> Result<Command<'a>, AllocError> {
+    Command::new(alloc, "check")
+        .about("Checks a volume, and prints its counts or its first fault")
+        .arg(image(alloc))
+}
+
+fn list_command<'a>(alloc: Global) -> Result<Command<'a>, AllocError> {
+    let dir = Arg::new(alloc, "DIR")
+        .action(ArgAction::Set)
+        .value_parser(value_parser!(u32).range(0..=4294967295))
+        .default_value("2")
+        .help("The ID of the folder");
+    Command::new(alloc, "ls")
+        .about(
+            "Prints a line for each child of a folder: kind, ID, valence or data length, 0 or resource length, name",
+        )
+        .arg(image(alloc))?
+        .arg(dir)
+}
+
+fn cat_command<'a>(alloc: Global) -> Result<Command<'a>, AllocError> {
+    let resource = Arg::new(alloc, "resource")
+        .long("resource")
+        .action(ArgAction::SetTrue)
+        .help("The resource fork in place of the data fork");
+    Command::new(alloc, "cat")
+        .about("Writes the bytes of a file's fork, and nothing else")
+        .arg(image(alloc))?
+        .arg(number(alloc, "DIR").help("The ID of the folder that holds the file"))?
+        .arg(name(alloc).help("The file's name"))?
+        .arg(resource)
 }
 
 fn new_command<'a>(alloc: Global) -> Result<Command<'a>, AllocError> {
@@ -91,6 +147,14 @@ fn new_command<'a>(alloc: Global) -> Result<Command<'a>, AllocError> {
 pub fn read_words<'a>(alloc: Global, words: &'a [String]) -> Result<Words<'a>, Error> {
     let matches = command(alloc)?.try_get_matches_from(words)?;
     Ok(match matches.subcommand() {
+        Some(("check", inner)) => Words::Check {
+            image: text_of(inner, "IMAGE"),
+        },
+        Some(("ls", inner)) => Words::List {
+            image: text_of(inner, "IMAGE"),
+            dir: number_of(inner, "DIR"),
+        },
+        Some(("cat", inner)) => cat_words(inner),
         Some(("new", inner)) => new_words(inner),
         Some((_, inner)) => info_words(inner),
         None => Words::Info { image: None },
@@ -101,6 +165,20 @@ fn info_words<'a>(matches: &ArgMatches<'a>) -> Words<'a> {
     Words::Info {
         image: matches.get_str("IMAGE"),
     }
+}
+
+fn cat_words<'a>(matches: &ArgMatches<'a>) -> Words<'a> {
+    let fork = if matches.get_flag("resource") {
+        Fork::ResFork
+    } else {
+        Fork::DataFork
+    };
+    Words::Cat(ForkWords {
+        image: text_of(matches, "IMAGE"),
+        dir: number_of(matches, "DIR"),
+        name: text_of(matches, "NAME"),
+        fork,
+    })
 }
 
 fn new_words<'a>(matches: &ArgMatches<'a>) -> Words<'a> {

@@ -6,6 +6,7 @@ use crate::input::{LoadFault, load};
 use crate::tests::devices::FailingReader;
 use crate::tests::headers;
 use crate::tests::info::head_of_sample;
+use hfs_check::MountFault;
 use std::fs::File;
 use std::test::Fail;
 
@@ -68,19 +69,37 @@ fn faults_have_their_texts(rt: HostRuntime) -> Result<(), Fail> {
             Status::WordsRefused,
         ),
         (
-            Fault::ImageTooShort,
+            Fault::Refused(MountFault::Short),
             "image too short",
             Status::ImageRefused,
         ),
         (
-            Fault::ImageTooLarge,
+            Fault::of_mount(MountFault::TooLarge),
             "image too large",
             Status::ImageRefused,
         ),
         (
-            Fault::NotHfs,
+            Fault::Refused(MountFault::NoMacDisk),
             "not an HFS volume (-57)",
             Status::ImageRefused,
+        ),
+        (
+            Fault::Refused(MountFault::BadMdb(4)),
+            "bad master directory block M4 (-60)",
+            Status::ImageRefused,
+        ),
+        (
+            Fault::Refused(MountFault::Check {
+                number: 10,
+                place: 3,
+            }),
+            "check C10 at 3",
+            Status::ImageRefused,
+        ),
+        (
+            Fault::of_mount(MountFault::Memory),
+            "out of memory",
+            Status::NoMemory,
         ),
         (Fault::BadName, "bad name", Status::ImageRefused),
         (Fault::BadSize, "bad size", Status::ImageRefused),

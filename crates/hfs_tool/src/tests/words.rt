@@ -1,7 +1,8 @@
 //! Words that are read, and words that are refused.
-use crate::words::{NewVolume, Words, number, read_words};
+use crate::words::{ForkWords, NewVolume, Words, number, read_words};
 use clap::error::ErrorKind;
 use clap::{Command, Error};
+use hfs_model::Fork;
 use std::alloc::{AllocError, Global};
 use std::test::Fail;
 
@@ -58,8 +59,51 @@ fn words_of_a_new_volume_are_read(rt: HostRuntime) -> Result<(), Fail> {
 }
 
 #[test]
+fn words_of_an_image_are_read(rt: HostRuntime) -> Result<(), Fail> {
+    let words = words_of(rt.alloc(), &["check", "a.img"])?;
+    let read = read_words(rt.alloc(), words.as_slice())?;
+    assert!(rt; matches!(read, Words::Check { image: "a.img" }));
+    let words = words_of(rt.alloc(), &["ls", "a.img"])?;
+    let read = read_words(rt.alloc(), words.as_slice())?;
+    assert!(rt;
+        matches!(
+            read,
+            Words::List {
+                image: "a.img",
+                dir: 2
+            }
+        )
+    );
+    let words = words_of(rt.alloc(), &["ls", "a.img", "17"])?;
+    let read = read_words(rt.alloc(), words.as_slice())?;
+    assert!(rt; matches!(read, Words::List { dir: 17, .. }));
+    Ok(())
+}
+
+#[test]
+fn words_of_a_fork_are_read(rt: HostRuntime) -> Result<(), Fail> {
+    let words = words_of(rt.alloc(), &["cat", "a.img", "2", "-f"])?;
+    let wanted = ForkWords {
+        image: "a.img",
+        dir: 2,
+        name: "-f",
+        fork: Fork::DataFork,
+    };
+    let Words::Cat(file) = read_words(rt.alloc(), words.as_slice())? else {
+        return Err(Fail::new("another word was read"));
+    };
+    assert!(rt; file == wanted);
+    let words = words_of(rt.alloc(), &["cat", "a.img", "2", "f", "--resource"])?;
+    let Words::Cat(file) = read_words(rt.alloc(), words.as_slice())? else {
+        return Err(Fail::new("another word was read"));
+    };
+    assert!(rt; file.fork == Fork::ResFork && file.name == "f");
+    Ok(())
+}
+
+#[test]
 fn other_words_are_refused(rt: HostRuntime) -> Result<(), Fail> {
-    let cases: [(&[&str], ErrorKind); 10] = [
+    let cases: [(&[&str], ErrorKind); 13] = [
         (&["info"], ErrorKind::MissingRequiredArgument),
         (&["info", "a.img", "b.img"], ErrorKind::UnknownArgument),
         (&["info", "a.img", "--now"], ErrorKind::UnknownArgument),
@@ -74,6 +118,9 @@ fn other_words_are_refused(rt: HostRuntime) -> Result<(), Fail> {
             &["new", "a.img", "D", "64", "6", "x"],
             ErrorKind::ValueValidation,
         ),
+        (&["check"], ErrorKind::MissingRequiredArgument),
+        (&["ls", "a.img", "x"], ErrorKind::ValueValidation),
+        (&["cat", "a.img", "2"], ErrorKind::MissingRequiredArgument),
         (&["--help"], ErrorKind::DisplayHelp),
         (&["info", "--help"], ErrorKind::DisplayHelp),
     ];
