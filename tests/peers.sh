@@ -28,8 +28,8 @@ fail() {
 # length, name.
 peer_list() {
     hls -ila "$1" | sed -E -n \
-        -e 's/^ *([0-9]+) d +([0-9]+) items? .{12} (.*)$/d\t\1\t\2\t0\t\3/p' \
-        -e 's/^ *([0-9]+) [fF]i? .{9} +([0-9]+) +([0-9]+) .{12} (.*)$/f\t\1\t\3\t\2\t\4/p'
+        -e 's/^ *([0-9]+) d +([0-9]+) items? +[A-Z].{11} (.*)$/d\t\1\t\2\t0\t\3/p' \
+        -e 's/^ *([0-9]+) [fF]i? +.{9} +([0-9]+) +([0-9]+) +[A-Z].{11} (.*)$/f\t\1\t\3\t\2\t\4/p'
 }
 
 # Compares the lists of a folder, given by its path and its ID, and of the folders in it, and the data forks of its files.
