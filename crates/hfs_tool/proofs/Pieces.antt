@@ -1,5 +1,5 @@
 -- The bytes of a part of a fork, and the length of a fork.
-use Rattle.std.proofs.Common.{◌≡◌, ◌≤◌, subst, ℕ, ◌+◌, ℤ, Bool, true, false, cond, List, [], ◌++◌, length, take, drop, take_all, refl, sym, ◌∙◌, ap, Option, Some, None}
+use Rattle.std.proofs.Common.{◌≡◌, ◌≤◌, subst, ℕ, ◌+◌, ℤ, Bool, true, false, cond, List, [], length, take, drop, take_all, refl, sym, ◌∙◌, ap, Option, Some, None}
 use Rattle.std.specs.Prelude.{nat_lt, not, pos}
 use Rattle.std.specs.Ordering.{int_eq}
 use Rattle.std.specs.Option.{option_map_or}
@@ -14,7 +14,6 @@ use Rattle.hfs_model.specs.declared.call.Fork.TheVariants.{DataFork, ResFork}
 use Rattle.hfs_model.specs.declared.item.Kind.{Kind}
 use Rattle.hfs_model.specs.declared.item.Kind.TheVariants as kind
 use Rattle.hfs_model.specs.declared.reply.Info.{Info}
-use Rattle.hfs_model.specs.declared.reply.Value.{Value}
 use Rattle.hfs_model.specs.declared.reply.Value.TheVariants as value
 use Rattle.hfs_model.specs.declared.reply.Reply.{Reply}
 use Rattle.hfs_model.specs.Volume.{Entry}
@@ -61,15 +60,15 @@ module _ (es : List Entry) (dir : ℕ) (name : List ℕ) (fork : Fork) where
       let bytes = option_map_or (λ (e : Entry). fork_in fork e.1.kind) (child_named es dir name) [] in
       ap (λ b. bytes_of (cond b (refusal PARAMETER) (cond (not (is_item_name name)) (refusal BAD_NAME) (cond (not (is_folder es dir)) (refusal NOT_A_FOLDER) found))).value) small
       ∙ elim (is_item_name name) as (λ (b : Bool). bytes_of (cond (not b) (refusal BAD_NAME) (cond (not (is_folder es dir)) (refusal NOT_A_FOLDER) found)).value
-          ≡ take count (drop offset (cond (not b) [] (cond (not (is_folder es dir)) [] bytes)))) [
+      ≡ take count (drop offset (cond (not b) [] (cond (not (is_folder es dir)) [] bytes)))) [
         | false ↦ nothing offset count
         | true ↦ elim (is_folder es dir) as (λ (b : Bool). bytes_of (cond (not b) (refusal NOT_A_FOLDER) found).value ≡ take count (drop offset (cond (not b) [] bytes))) [
           | false ↦ nothing offset count
           | true ↦ elim (child_named es dir name) as (λ (o : Option Entry). bytes_of (option_map_or (λ (e : Entry). fork_part fork offset count e.1.kind) o (refusal NOT_FOUND)).value
               ≡ take count (drop offset (option_map_or (λ (e : Entry). fork_in fork e.1.kind) o []))) [
-            | None ↦ nothing offset count
-            | Some e ↦ piece_of fork e.1.kind offset count
-          ]
+                | None ↦ nothing offset count
+                | Some e ↦ piece_of fork e.1.kind offset count
+              ]
         ]
       ]
 
@@ -79,7 +78,7 @@ module _ (es : List Entry) (dir : ℕ) (name : List ℕ) (fork : Fork) where
       let found = option_map_or (one es) (child_named es dir name) (refusal NOT_FOUND) in
       let bytes = option_map_or (λ (e : Entry). fork_in fork e.1.kind) (child_named es dir name) [] in
       elim (is_item_name name) as (λ (b : Bool). Tells fork (cond (not b) (refusal BAD_NAME) (cond (not (is_folder es dir)) (refusal NOT_A_FOLDER) found))
-          (cond (not b) [] (cond (not (is_folder es dir)) [] bytes))) [
+      (cond (not b) [] (cond (not (is_folder es dir)) [] bytes))) [
         | false ↦ ((λ z. absurd (is_negative BAD_NAME refl z)), (λ info e. absurd (nothing_one info e)))
         | true ↦ elim (is_folder es dir) as (λ (b : Bool). Tells fork (cond (not b) (refusal NOT_A_FOLDER) found) (cond (not b) [] bytes)) [
           | false ↦ ((λ z. absurd (is_negative NOT_A_FOLDER refl z)), (λ info e. absurd (nothing_one info e)))

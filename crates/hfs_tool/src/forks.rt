@@ -15,9 +15,9 @@ use std::io::Write;
 /// The most bytes that are read by one call.
 const PIECE: u32 = 65_536;
 
-/// Writes a file's fork, and answers the last call's reply: with code 0 where all bytes were written, else with the code
-/// of the first call that answered another. The folder is given by its ID. Faults: `OutputFailed`, and then a part may
-/// have gone out, and `NoMemory`.
+/// Writes a file's fork, read in pieces of at most 65,536 bytes, and answers the last call's reply. Where its code is 0,
+/// all bytes were written; else no item of that name was found, or it is a folder. The folder is given by its ID. Faults:
+/// `OutputFailed`, and then a part may have gone out, and `NoMemory`.
 pub fn write_fork<W: Write>(
     alloc: Global,
     writer: &mut W,

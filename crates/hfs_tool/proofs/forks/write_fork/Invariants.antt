@@ -1,5 +1,5 @@
 -- the bytes before the offset were written
-use Rattle.std.proofs.Common.{ℕ, ◌≤◌, ◌-◌, take}
+use Rattle.std.proofs.Common.{◌≤◌, ◌-◌, take}
 use Rattle.std.specs.Io.KnownBytes.{Appends}
 use Rattle.hfs_model.specs.Children.{entries_of}
 use Rattle.hfs_check.specs.VolumeOf.{volume_of}
