@@ -7,7 +7,7 @@ cd "$(dirname "$0")/.."
 tool=$PWD/crates/hfs_tool/out/hfs_tool
 
 if ! command -v hmount > /dev/null; then
-    (apt-get update && apt-get install -y hfsutils) > /dev/null 2>&1 || true
+    (timeout 60 apt-get update && timeout 120 apt-get install -y hfsutils) > /dev/null 2>&1 || true
 fi
 if ! command -v hmount > /dev/null; then
     echo 'peers skipped: hfsutils is not to be had'
