@@ -1,12 +1,11 @@
 //! Images by reader and by path.
-use crate::fault::{Fault, Status};
+use crate::fault::Fault;
 use crate::files::{load_file, write_file};
 use crate::info::run_info;
 use crate::input::{LoadFault, load};
 use crate::tests::devices::FailingReader;
 use crate::tests::headers;
 use crate::tests::info::head_of_sample;
-use hfs_check::MountFault;
 use std::fs::File;
 use std::test::Fail;
 
@@ -57,70 +56,5 @@ fn files_are_read_and_written(rt: HostRuntime) -> Result<(), Fail> {
             Err(Fault::CannotWrite("no/folder.img"))
         )
     );
-    Ok(())
-}
-
-#[test]
-fn faults_have_their_texts(rt: HostRuntime) -> Result<(), Fail> {
-    for (fault, text, status) in [
-        (
-            Fault::WordsNotText,
-            "the words are not text",
-            Status::WordsRefused,
-        ),
-        (
-            Fault::Refused(MountFault::Short),
-            "image too short",
-            Status::ImageRefused,
-        ),
-        (
-            Fault::of_mount(MountFault::TooLarge),
-            "image too large",
-            Status::ImageRefused,
-        ),
-        (
-            Fault::Refused(MountFault::NoMacDisk),
-            "not an HFS volume (-57)",
-            Status::ImageRefused,
-        ),
-        (
-            Fault::Refused(MountFault::BadMdb(4)),
-            "bad master directory block M4 (-60)",
-            Status::ImageRefused,
-        ),
-        (
-            Fault::Refused(MountFault::Check {
-                number: 10,
-                place: 3,
-            }),
-            "check C10 at 3",
-            Status::ImageRefused,
-        ),
-        (
-            Fault::of_mount(MountFault::Memory),
-            "out of memory",
-            Status::NoMemory,
-        ),
-        (Fault::BadName, "bad name", Status::ImageRefused),
-        (Fault::BadSize, "bad size", Status::ImageRefused),
-        (Fault::BadNodeCount, "bad node count", Status::ImageRefused),
-        (Fault::NoRoom, "no room", Status::ImageRefused),
-        (
-            Fault::CannotRead("a b.img"),
-            "cannot read a b.img",
-            Status::DeviceFailed,
-        ),
-        (
-            Fault::CannotWrite("x"),
-            "cannot write x",
-            Status::DeviceFailed,
-        ),
-        (Fault::OutputFailed, "", Status::DeviceFailed),
-        (Fault::NoMemory, "out of memory", Status::NoMemory),
-    ] {
-        let printed = format!(in rt.alloc(); "{fault}")?;
-        assert_eq!(rt; printed.as_str(), text);
-        assert!(rt; fault.status() == status, "{text}");
-    }
     Ok(())
 }
