@@ -1,23 +1,8 @@
 #!/usr/bin/env bash
 # Compares the program with hfsutils, another program that reads and writes HFS volumes, both ways: what hfsutils wrote
 # is listed and read by ours, and what ours wrote is mounted, listed and filled by hfsutils. Prints 'peers agree', or
-# 'peers skipped' where hfsutils is not to be had, or what differs and ends with status 1.
-set -euo pipefail
-cd "$(dirname "$0")/.."
-tool=$PWD/crates/hfs_tool/out/hfs_tool
-
-if ! command -v hmount > /dev/null; then
-    (timeout 60 apt-get update && timeout 120 apt-get install -y hfsutils) > /dev/null 2>&1 || true
-fi
-if ! command -v hmount > /dev/null; then
-    echo 'peers skipped: hfsutils is not to be had'
-    exit 0
-fi
-[ -x "$tool" ] || (cd crates/hfs_tool && rt run < stdin > /dev/null)
-
-folder=$(mktemp -d)
-export HOME=$folder # hfsutils notes there what is mounted
-trap 'rm -rf "$folder"' EXIT
+# 'skipped' where hfsutils is not to be had, or what differs and ends with status 1.
+. "$(dirname "$0")/beside.sh"
 
 fail() {
     echo "peers differ: $1"

@@ -1,18 +1,8 @@
 #!/usr/bin/env bash
 # Measures the program beside hfsutils, and beside fsck.hfs where it is installed, on a volume of 6,000 items and a file
 # of 1 MB: the time of one run in milliseconds, the best of some runs, and the ratio of ours to theirs.
-set -euo pipefail
-cd "$(dirname "$0")/.."
-tool=$PWD/crates/hfs_tool/out/hfs_tool
-if ! command -v hmount > /dev/null; then
-    echo 'skipped: hfsutils is not to be had'
-    exit 0
-fi
-[ -x "$tool" ] || (cd crates/hfs_tool && rt run < stdin > /dev/null)
+. "$(dirname "$0")/beside.sh"
 
-folder=$(mktemp -d)
-export HOME=$folder # hfsutils notes there what is mounted
-trap 'rm -rf "$folder"' EXIT
 volume=$folder/many.img
 sh crates/hfs_catalog_lists/make_volume.sh "$volume" > /dev/null
 hmount "$volume" > /dev/null
