@@ -73,20 +73,22 @@ pub(crate) fn place_in<K: Key>(bytes: &[u8; 512], key: &K) -> usize
     node.len()
 }
 
-/// Goes on to the next leaf where this one has no record from the place on. Answers the place there, and how many
-/// leaves are at most behind.
+/// Goes on to the next leaf where this one, which has `count` records, has none from the place on. Answers the place
+/// there, and how many leaves are at most behind.
 pub(crate) fn settle<K: Key, N: Nodes>(
     nodes: &N,
     bytes: &mut [u8; 512],
+    count: usize,
     place: usize,
     most: u32,
 ) -> (usize, u32)
     requires structure { HasStructure K.Key (N.nodes nodes.now) }
+    requires count { count ≡ length (records_of (node_of bytes.old)) }
     requires at { IsAtLeaf K.Key (N.nodes nodes.now) bytes.old place most }
     ensures walk { IsWalk K.Key (N.nodes nodes.now) bytes.new result.0 result.1 }
     ensures same { rest_at K.Key (N.nodes nodes.now) bytes.new result.0 result.1 ≡ rest_at K.Key (N.nodes nodes.now) bytes.old place most }
 {
-    if place < count_in(bytes) {
+    if place < count {
         return (place, most);
     }
     let next = forward_in(bytes);

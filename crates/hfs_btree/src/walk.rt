@@ -8,7 +8,6 @@ ghost use Rattle.hfs_btree.specs.Header.{tree_content};
 ghost use Rattle.hfs_btree.specs.Lookups.{first_pair};
 ghost use Rattle.hfs_btree.specs.Sound.{HasStructure, HasCounts, IsSound};
 
-use crate::entry::{body_of, key_of};
 use crate::key::Key;
 use crate::leaf::{count_in, entry_in, no_leaf, place_in, settle};
 use crate::nodes::Nodes;
@@ -20,6 +19,21 @@ use std::marker::{Model, PhantomData};
 pub struct Pair<'a, K> {
     pub key: K,
     pub body: &'a [u8],
+}
+
+/// The key and the body of a leaf's record.
+fn pair_of<K: Key>(entry: &[u8]) -> Pair<'_, K>
+    requires { K.is_leaf entry.now ≡ true }
+    ensures key { result.key ≡ K.leaf_key entry.now }
+    ensures body { result.body.now ≡ drop (K.body_start entry.now) entry.now }
+{
+    match K::read_leaf(entry) {
+        Some((key, start)) => Pair {
+            key,
+            body: &entry[start..],
+        },
+        None => unreachable!(),
+    }
 }
 
 /// A walk through the pairs of a tree, from leaf to leaf. Contracts see the pairs that are still to come.
@@ -92,7 +106,8 @@ impl<'a, K: Key, N: Nodes> Walk<'a, K, N> {
         let mut bytes = [0; 512];
         descend(nodes, &header, key, &mut bytes);
         let first = place_in(&bytes, key);
-        let (place, most) = settle::<K, N>(nodes, &mut bytes, first, header.records);
+        let count = count_in(&bytes);
+        let (place, most) = settle::<K, N>(nodes, &mut bytes, count, first, header.records);
         Walk {
             nodes,
             bytes,
@@ -107,10 +122,7 @@ impl<'a, K: Key, N: Nodes> Walk<'a, K, N> {
         ensures { option_map (λ p. (p.key, p.body.now)) result ≡ first_pair self.now }
     {
         match entry_in(&self.bytes, self.place) {
-            Some(entry) => Some(Pair {
-                key: key_of(entry),
-                body: body_of::<K>(entry),
-            }),
+            Some(entry) => Some(pair_of(entry)),
             None => None,
         }
     }
@@ -119,10 +131,12 @@ impl<'a, K: Key, N: Nodes> Walk<'a, K, N> {
     pub fn advance(&mut self)
         ensures { self.new ≡ drop 1 self.old }
     {
-        if self.place < count_in(&self.bytes) {
+        let count = count_in(&self.bytes);
+        if self.place < count {
             let (place, most) = settle::<K, N>(
                 self.nodes,
                 &mut self.bytes,
+                count,
                 self.place + 1,
                 self.most,
             );

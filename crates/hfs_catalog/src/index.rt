@@ -1,4 +1,4 @@
-//! Where the items of a catalog stand, by their IDs.
+//! A catalog with its items by their IDs.
 
 ghost use Rattle.std.specs.Prelude.{◌≡◌, ℕ, length, IfOk, OnOk};
 ghost use Rattle.std.specs.Option.{option_or, option_copied};
@@ -23,52 +23,60 @@ fn note_item(places: &mut Numbers, i: usize, r: &(CatKey, Bytes)) -> Result<(), 
 }
 
 /// The place of each file's and folder's record by its ID; of two with one ID, that of the first.
-fn item_places(alloc: Global, catalog: &[(CatKey, Bytes)]) -> Result<Numbers, AllocError>
-    ensures { IfOk result (λ places. (id : ℕ) → number_of places id ≡ item_place catalog.now id) }
+fn item_places(alloc: Global, records: &[(CatKey, Bytes)]) -> Result<Numbers, AllocError>
+    ensures { IfOk result (λ places. (id : ℕ) → number_of places id ≡ item_place records.now id) }
 {
     let mut places = Numbers::new(alloc);
-    for i in 0..catalog.len() {
-        note_item(&mut places, i, &catalog[i])?;
+    for i in 0..records.len() {
+        note_item(&mut places, i, &records[i])?;
     }
     Ok(places)
 }
 
 /// The records of a catalog, with an index of its files and folders by their IDs. Contracts see the records.
 #[derive(Drop)]
-pub(crate) struct ItemIndex<'a> {
-    catalog: &'a [(CatKey, Bytes)],
+pub struct IndexedCatalog<'a> {
+    records: &'a [(CatKey, Bytes)],
     places: Numbers,
 }
 
-impl<'a> Model for ItemIndex<'a> {
+impl<'a> Model for IndexedCatalog<'a> {
     ghost use Rattle.std.specs.Prelude.{◌≡◌, ℕ};
     ghost use Rattle.hfs_catalog.specs.Records.{Catalog};
     ghost use Rattle.hfs_catalog.specs.Indexes.{number_of, item_place};
 
     ghost Value = { Catalog };
 
-    ghost view = { λ x. x.catalog.now };
+    ghost view = { λ x. x.records.now };
 
-    ghost invariant = { λ x. (id : ℕ) → number_of x.places id ≡ item_place x.catalog.now id };
+    ghost invariant = { λ x. (id : ℕ) → number_of x.places id ≡ item_place x.records.now id };
 }
 
-impl<'a> ItemIndex<'a> {
-    /// The index of a catalog. It reads each record once. `Err` only where memory is wanting.
-    pub(crate) fn of(
+impl<'a> IndexedCatalog<'a> {
+    /// The catalog with these records. It reads each once, and takes memory for an index of the items. `Err` only where
+    /// memory is wanting.
+    pub fn of(
         alloc: Global,
-        catalog: &'a [(CatKey, Bytes)],
-    ) -> Result<ItemIndex<'a>, AllocError>
-        ensures { IfOk result (λ index. index ≡ catalog.now) }
+        records: &'a [(CatKey, Bytes)],
+    ) -> Result<IndexedCatalog<'a>, AllocError>
+        ensures { IfOk result (λ catalog. catalog ≡ records.now) }
     {
-        let places = item_places(alloc, catalog)?;
-        Ok(ItemIndex { catalog, places })
+        let places = item_places(alloc, records)?;
+        Ok(IndexedCatalog { records, places })
+    }
+
+    /// The records, in their order.
+    pub fn records(&self) -> &'a [(CatKey, Bytes)]
+        ensures { result.now ≡ self.now }
+    {
+        self.records
     }
 
     /// How many records the catalog has.
     pub(crate) fn len(&self) -> usize
         ensures { result ≡ length self.now }
     {
-        self.catalog.len()
+        self.records.len()
     }
 
     /// The place of the first record of a file or a folder with that ID, from 0 on. None where there is none.
@@ -83,6 +91,6 @@ impl<'a> ItemIndex<'a> {
         ensures { option_copied result ≡ item_with self.now id }
     {
         let i = self.places.get(id)?;
-        self.catalog.get(i)
+        self.records.get(i)
     }
 }

@@ -18,6 +18,7 @@ mod valence_check;
 
 pub use checks::{count_fault, name_fault, record_fault};
 pub use id_check::id_fault;
+pub use index::IndexedCatalog;
 pub use item::{CatalogItem, ItemRecord, item_of};
 pub use laws::{
     count_faults, entries_are_records, id_faults, items_are_records, name_faults,

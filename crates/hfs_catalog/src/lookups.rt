@@ -120,7 +120,7 @@ fn scan<N: Nodes>(nodes: &N, id: u32) -> Option<CatalogItem>
 }
 
 /// Whether a walk has no next pair.
-pub(crate) fn is_at_end<N: Nodes>(walk: &Walk<'_, CatKey, N>) -> bool
+fn is_at_end<N: Nodes>(walk: &Walk<'_, CatKey, N>) -> bool
     ensures { result ≡ (length walk.now == 0) }
 {
     walk.pair().is_none()

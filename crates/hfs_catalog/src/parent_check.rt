@@ -9,17 +9,17 @@ ghost use Rattle.hfs_catalog.specs.Indexes.{has_number, AreRooted};
 ghost use Rattle.hfs_catalog.specs.Faults.{implies, is_parent_right};
 
 use crate::id_set::IdSet;
-use crate::index::ItemIndex;
+use crate::index::IndexedCatalog;
 use crate::item::{is_folder, item_id};
 use hfs_fields::CatKey;
 use hfs_model::Bytes;
 use std::alloc::{AllocError, Global};
 
 /// Whether an ID is a folder's.
-fn is_folder_id(index: &ItemIndex<'_>, id: u32) -> bool
-    ensures { result ≡ is_folder_id index.now id }
+fn is_folder_id(catalog: &IndexedCatalog<'_>, id: u32) -> bool
+    ensures { result ≡ is_folder_id catalog.now id }
 {
-    match index.item(id) {
+    match catalog.item(id) {
         Some(item) => is_folder(item.1.as_slice()),
         None => false,
     }
@@ -34,16 +34,16 @@ fn is_known(rooted: &IdSet, id: u32) -> bool
 
 /// Whether the chain of parents from an ID on reaches the root. It is followed up to the first ID of which that is known,
 /// and no further than there are records: a chain with more steps goes round in a ring.
-fn reaches_root(index: &ItemIndex<'_>, rooted: &IdSet, from: u32) -> bool
-    requires { AreRooted rooted.now index.now }
-    ensures { result ≡ reaches_root index.now (length index.now) from }
+fn reaches_root(catalog: &IndexedCatalog<'_>, rooted: &IdSet, from: u32) -> bool
+    requires { AreRooted rooted.now catalog.now }
+    ensures { result ≡ reaches_root catalog.now (length catalog.now) from }
 {
     let mut at = from;
-    for _step in 0..index.len() {
+    for _step in 0..catalog.len() {
         if is_known(rooted, at) {
             return true;
         }
-        match index.item(at) {
+        match catalog.item(at) {
             Some(item) => at = item.0.parent,
             None => return false,
         }
@@ -52,18 +52,18 @@ fn reaches_root(index: &ItemIndex<'_>, rooted: &IdSet, from: u32) -> bool
 }
 
 /// Notes the IDs of a chain of parents that reaches the root, up to the first of which that is known.
-fn note_chain(index: &ItemIndex<'_>, rooted: &mut IdSet, from: u32) -> Result<(), AllocError>
-    requires rooted { AreRooted rooted.old index.now }
-    requires reaches { ReachesRoot index.now from }
-    ensures { OnOk result (AreRooted rooted.new index.now) }
+fn note_chain(catalog: &IndexedCatalog<'_>, rooted: &mut IdSet, from: u32) -> Result<(), AllocError>
+    requires rooted { AreRooted rooted.old catalog.now }
+    requires reaches { ReachesRoot catalog.now from }
+    ensures { OnOk result (AreRooted rooted.new catalog.now) }
 {
     let mut id = from;
-    for _step in 0..index.len() {
+    for _step in 0..catalog.len() {
         if is_known(rooted, id) {
             return Ok(());
         }
         rooted.add(id)?;
-        match index.item(id) {
+        match catalog.item(id) {
             Some(item) => id = item.0.parent,
             None => return Ok(()),
         }
@@ -74,13 +74,13 @@ fn note_chain(index: &ItemIndex<'_>, rooted: &mut IdSet, from: u32) -> Result<()
 /// Whether a record, if it is an item's other than the root, has a folder as its parent and a chain of parents that
 /// reaches the root.
 fn is_parent_right(
-    index: &ItemIndex<'_>,
+    catalog: &IndexedCatalog<'_>,
     rooted: &mut IdSet,
     r: &(CatKey, Bytes),
 ) -> Result<bool, AllocError>
-    requires { AreRooted rooted.old index.now }
-    ensures right { IfOk result (λ right. right ≡ implies (is_item r.now.1) (is_parent_right index.now r.now)) }
-    ensures rooted { OnOk result (AreRooted rooted.new index.now) }
+    requires { AreRooted rooted.old catalog.now }
+    ensures right { IfOk result (λ right. right ≡ implies (is_item r.now.1) (is_parent_right catalog.now r.now)) }
+    ensures rooted { OnOk result (AreRooted rooted.new catalog.now) }
 {
     let Some(id) = item_id(r.1.as_slice()) else {
         return Ok(true);
@@ -88,10 +88,10 @@ fn is_parent_right(
     if id == 2 {
         return Ok(true);
     }
-    if !is_folder_id(index, r.0.parent) || !reaches_root(index, rooted, id) {
+    if !is_folder_id(catalog, r.0.parent) || !reaches_root(catalog, rooted, id) {
         return Ok(false);
     }
-    note_chain(index, rooted, id)?;
+    note_chain(catalog, rooted, id)?;
     Ok(true)
 }
 
@@ -99,14 +99,14 @@ fn is_parent_right(
 /// does not reach the root. What one chain shows is known for the next. `Err` only where memory is wanting.
 pub(crate) fn first_wrong_parent(
     alloc: Global,
-    index: &ItemIndex<'_>,
-    catalog: &[(CatKey, Bytes)],
+    catalog: &IndexedCatalog<'_>,
 ) -> Result<Option<usize>, AllocError>
-    ensures { IfOk result (λ place. place ≡ first_failing (λ _ r. implies (is_item r.1) (is_parent_right index.now r)) [] catalog.now) }
+    ensures { IfOk result (λ place. place ≡ first_failing (λ _ r. implies (is_item r.1) (is_parent_right catalog.now r)) [] catalog.now) }
 {
+    let records = catalog.records();
     let mut rooted = IdSet::new(alloc);
-    for i in 0..catalog.len() {
-        if !is_parent_right(index, &mut rooted, &catalog[i])? {
+    for i in 0..records.len() {
+        if !is_parent_right(catalog, &mut rooted, &records[i])? {
             return Ok(Some(i));
         }
     }

@@ -5,12 +5,10 @@ ghost use Rattle.hfs_btree.specs.First.{first_failing};
 ghost use Rattle.hfs_catalog.specs.Indexes.{earlier};
 ghost use Rattle.hfs_catalog.specs.Faults.{is_place_right, place_fault};
 
-use crate::index::ItemIndex;
+use crate::index::IndexedCatalog;
 use crate::order_check::first_not_above;
 use crate::parent_check::first_wrong_parent;
 use crate::thread_check::{first_unthreaded, first_wrong_thread};
-use hfs_fields::CatKey;
-use hfs_model::Bytes;
 use std::alloc::{AllocError, Global};
 
 /// The earlier of two places.
@@ -25,14 +23,14 @@ fn earlier(a: Option<usize>, b: Option<usize>) -> Option<usize>
 }
 
 /// The number of the first record whose order, parent or thread is wrong.
-fn first_misplaced(alloc: Global, catalog: &[(CatKey, Bytes)]) -> Result<Option<usize>, AllocError>
+fn first_misplaced(alloc: Global, catalog: &IndexedCatalog<'_>) -> Result<Option<usize>, AllocError>
     ensures { IfOk result (λ place. place ≡ first_failing (is_place_right catalog.now) [] catalog.now) }
 {
-    let index = ItemIndex::of(alloc, catalog)?;
-    let unordered = first_not_above(catalog);
-    let lone = first_wrong_parent(alloc, &index, catalog)?;
-    let unthreaded = first_unthreaded(alloc, catalog)?;
-    let astray = first_wrong_thread(&index, catalog);
+    let records = catalog.records();
+    let unordered = first_not_above(records);
+    let lone = first_wrong_parent(alloc, catalog)?;
+    let unthreaded = first_unthreaded(alloc, records)?;
+    let astray = first_wrong_thread(catalog);
     let items = earlier(unordered, lone);
     let folders = earlier(items, unthreaded);
     Ok(earlier(folders, astray))
@@ -47,12 +45,12 @@ fn first_misplaced(alloc: Global, catalog: &[(CatKey, Bytes)]) -> Result<Option<
 /// not have a thread.
 ///
 /// It goes through the records a fixed number of times, and follows each part of a chain of parents at most twice. It takes
-/// memory for an index of the items, a set of threads and a set of chains. `Err` only where memory is wanting.
+/// memory for a set of threads and a set of chains. `Err` only where memory is wanting.
 #[tactic(auto, unfolding(crate::specs::Faults::place_fault))]
 pub fn place_fault(
     alloc: Global,
     in_order: bool,
-    catalog: &[(CatKey, Bytes)],
+    catalog: &IndexedCatalog<'_>,
 ) -> Result<Option<usize>, AllocError>
     ensures { IfOk result (λ fault. fault ≡ place_fault in_order catalog.now) }
 {

@@ -1,6 +1,6 @@
 //! The checks of IDs, of places and of valences, on catalogs that are made by hand. The places of the faults are counted
 //! by hand in the rows of `sound`.
-use super::{id_fault, place_fault, valence_fault};
+use super::{IndexedCatalog, id_fault, place_fault, valence_fault};
 use hfs_fields::{CatKey, DirRecord, FileRecord, Name, ThreadKind, ThreadRecord};
 use hfs_model::Bytes;
 use std::alloc::{AllocError, Global};
@@ -131,11 +131,15 @@ fn records(a: Global, rows: &[Row]) -> Result<Vec<(CatKey, Bytes)>, AllocError> 
 }
 
 fn wrong_id(a: Global, next: u32, rows: &[Row]) -> Result<Option<usize>, AllocError> {
-    id_fault(a, next, &records(a, rows)?)
+    let records = records(a, rows)?;
+    let catalog = IndexedCatalog::of(a, &records)?;
+    Ok(id_fault(next, &catalog))
 }
 
 fn misplaced(a: Global, in_order: bool, rows: &[Row]) -> Result<Option<usize>, AllocError> {
-    place_fault(a, in_order, &records(a, rows)?)
+    let records = records(a, rows)?;
+    let catalog = IndexedCatalog::of(a, &records)?;
+    place_fault(a, in_order, &catalog)
 }
 
 fn wrong_valence(a: Global, rows: &[Row]) -> Result<Option<usize>, AllocError> {

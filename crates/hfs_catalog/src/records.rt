@@ -1,29 +1,28 @@
 //! All records of a catalog.
-ghost use Rattle.std.specs.Prelude.{◌≡◌, IfOk, OnOk, ◌++◌, length};
-ghost use Rattle.std.specs.Option.{option_to_list};
+ghost use Rattle.std.specs.Prelude.{◌≡◌, IfOk};
 ghost use Rattle.hfs_btree.specs.Lookups.{first_pair};
 ghost use Rattle.hfs_btree.specs.Sound.{HasStructure, HasCounts};
 ghost use Rattle.hfs_catalog.specs.Tree.{cat_keys, catalog_of};
 
-use crate::lookups::is_at_end;
 use hfs_btree::{Nodes, Walk};
 use hfs_fields::CatKey;
 use hfs_model::Bytes;
 use std::alloc::{AllocError, Global};
 
-/// Takes a walk's next record, if it has one.
-fn take_record<N: Nodes>(
+/// Copies a walk's next record, if it has one.
+fn next_record<N: Nodes>(
     alloc: Global,
-    records: &mut Vec<(CatKey, Bytes)>,
     walk: &Walk<'_, CatKey, N>,
-) -> Result<(), AllocError>
-    ensures { OnOk result (records.new.items ≡ records.old.items ++ option_to_list (first_pair walk.now)) }
+) -> Result<Option<(CatKey, Bytes)>, AllocError>
+    ensures { IfOk result (λ r. r ≡ first_pair walk.now) }
 {
-    if let Some(pair) = walk.pair() {
-        let body = Bytes::from_slice(alloc, pair.body)?;
-        records.push((pair.key, body))?;
+    match walk.pair() {
+        Some(pair) => {
+            let body = Bytes::from_slice(alloc, pair.body)?;
+            Ok(Some((pair.key, body)))
+        }
+        None => Ok(None),
     }
-    Ok(())
 }
 
 /// The records of the leaves of a catalog that has its shape, whatever their order: each one's key and body. Each leaf is
@@ -35,8 +34,8 @@ pub fn read_records<N: Nodes>(alloc: Global, nodes: &N) -> Result<Vec<(CatKey, B
 {
     let mut records = Vec::new(alloc);
     let mut walk = Walk::whole(nodes);
-    while !is_at_end(&walk) {
-        take_record(alloc, &mut records, &walk)?;
+    while let Some(record) = next_record(alloc, &walk)? {
+        records.push(record)?;
         walk.advance();
     }
     Ok(records)

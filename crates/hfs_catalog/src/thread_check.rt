@@ -10,7 +10,7 @@ ghost use Rattle.hfs_catalog.specs.Indexes.{has_number};
 ghost use Rattle.hfs_catalog.specs.Faults.{implies, leads_to, is_thread_right};
 
 use crate::id_set::IdSet;
-use crate::index::ItemIndex;
+use crate::index::IndexedCatalog;
 use crate::item::{is_folder, is_thread, item_id};
 use byteorder::{BigEndian, ByteOrder};
 use hfs_fields::{CatKey, same_name};
@@ -113,27 +113,25 @@ fn leads_to(thread: &(CatKey, Bytes), item: &(CatKey, Bytes)) -> bool
 
 /// Whether a record, if it is a thread's, leads to the item whose ID is its key.
 #[tactic(auto, unfolding(crate::specs::Faults::is_thread_right))]
-fn is_thread_right(index: &ItemIndex<'_>, r: &(CatKey, Bytes)) -> bool
-    ensures { result ≡ implies (is_thread r.now.1) (is_thread_right index.now r.now) }
+fn is_thread_right(catalog: &IndexedCatalog<'_>, r: &(CatKey, Bytes)) -> bool
+    ensures { result ≡ implies (is_thread r.now.1) (is_thread_right catalog.now r.now) }
 {
     if !is_thread(r.1.as_slice()) {
         return true;
     }
-    match index.item(r.0.parent) {
+    match catalog.item(r.0.parent) {
         Some(item) => leads_to(r, item),
         None => false,
     }
 }
 
 /// The number of the first thread's record that does not lead to its item.
-pub(crate) fn first_wrong_thread(
-    index: &ItemIndex<'_>,
-    catalog: &[(CatKey, Bytes)],
-) -> Option<usize>
-    ensures { result ≡ first_failing (λ _ r. implies (is_thread r.1) (is_thread_right index.now r)) [] catalog.now }
+pub(crate) fn first_wrong_thread(catalog: &IndexedCatalog<'_>) -> Option<usize>
+    ensures { result ≡ first_failing (λ _ r. implies (is_thread r.1) (is_thread_right catalog.now r)) [] catalog.now }
 {
-    for i in 0..catalog.len() {
-        if !is_thread_right(index, &catalog[i]) {
+    let records = catalog.records();
+    for i in 0..records.len() {
+        if !is_thread_right(catalog, &records[i]) {
             return Some(i);
         }
     }

@@ -8,7 +8,9 @@ ghost use Rattle.hfs_check.specs.Answers.{IsFaultOf, listed_fault};
 
 use crate::mount_fault::MountFault;
 use hfs_btree::{Nodes, index_keys, index_keys_in_order};
-use hfs_catalog::{count_fault, id_fault, name_fault, place_fault, record_fault, valence_fault};
+use hfs_catalog::{
+    IndexedCatalog, count_fault, id_fault, name_fault, place_fault, record_fault, valence_fault,
+};
 use hfs_fields::{CatKey, Mdb};
 use hfs_model::Bytes;
 use std::alloc::Global;
@@ -34,15 +36,10 @@ pub(crate) fn check_records(records: &[(CatKey, Bytes)]) -> Result<(), MountFaul
 }
 
 /// The check of IDs, on a volume whose next ID is `next`.
-pub(crate) fn check_ids(
-    alloc: Global,
-    next: u32,
-    records: &[(CatKey, Bytes)],
-) -> Result<(), MountFault>
-    ensures { MatchResult result (λ _. check_fault 6 (catalog_spec.id_fault next records.now) ≡ None) (IsFaultOf (check_fault 6 (catalog_spec.id_fault next records.now))) }
+pub(crate) fn check_ids(next: u32, catalog: &IndexedCatalog<'_>) -> Result<(), MountFault>
+    ensures { MatchResult result (λ _. check_fault 6 (catalog_spec.id_fault next catalog.now) ≡ None) (IsFaultOf (check_fault 6 (catalog_spec.id_fault next catalog.now))) }
 {
-    let place = id_fault(alloc, next, records)?;
-    answer_at(6, place)
+    answer_at(6, id_fault(next, catalog))
 }
 
 /// The check of names, of the records and of the keys of the index nodes.
@@ -64,13 +61,13 @@ pub(crate) fn check_names<N: Nodes>(
 pub(crate) fn check_places<N: Nodes>(
     alloc: Global,
     nodes: &N,
-    records: &[(CatKey, Bytes)],
+    catalog: &IndexedCatalog<'_>,
 ) -> Result<(), MountFault>
     requires { HasStructure cat_keys (N.nodes nodes.now) }
-    ensures { MatchResult result (λ _. check_fault 8 (catalog_place_fault (N.nodes nodes.now) records.now) ≡ None) (IsFaultOf (check_fault 8 (catalog_place_fault (N.nodes nodes.now) records.now))) }
+    ensures { MatchResult result (λ _. check_fault 8 (catalog_place_fault (N.nodes nodes.now) catalog.now) ≡ None) (IsFaultOf (check_fault 8 (catalog_place_fault (N.nodes nodes.now) catalog.now))) }
 {
     let in_order = index_keys_in_order::<CatKey, N>(nodes);
-    let place = place_fault(alloc, in_order, records)?;
+    let place = place_fault(alloc, in_order, catalog)?;
     answer_at(8, place)
 }
 
@@ -100,7 +97,8 @@ pub(crate) fn check_catalog_records<N: Nodes>(
     ensures { MatchResult result (λ _. listed_fault next (N.nodes nodes.now) records.now ≡ None) (IsFaultOf (listed_fault next (N.nodes nodes.now) records.now)) }
 {
     check_records(records)?;
-    check_ids(alloc, next, records)?;
+    let catalog = IndexedCatalog::of(alloc, records)?;
+    check_ids(next, &catalog)?;
     check_names(alloc, nodes, records)?;
-    check_places(alloc, nodes, records)
+    check_places(alloc, nodes, &catalog)
 }

@@ -1,12 +1,13 @@
 -- What a look-up in the extents tree says of the extents that go on with a fork.
 use Rattle.std.proofs.Common.{◌≡◌, ℕ, ◌+◌, ◌<◌, ◌≤◌, Bool, true, false, cond, List, [], ◌++◌, length, Option, Some, None, refl, sym, ap, ◌∙◌, append_assoc, append-nil, arith}
 use Rattle.std.specs.Prelude.{nat_lt}
+use Rattle.std.specs.List.{flat_map}
 use Rattle.std.proofs.lemmas.Bool.{lt-ltb, le-ltb, le-leb, lt-leb}
 use Rattle.hfs_fields.specs.Mdb.{extents_at}
 use Rattle.hfs_fields.specs.declared.extent.Extent.{Extent}
 use Rattle.hfs_fields.specs.Keys.{ext_cmp}
 use Rattle.hfs_btree.specs.Pairs.{Rises, lookup}
-use Rattle.hfs_space.specs.Extents.{Overflow, block_total, record_extents, extents_from, fork_extents}
+use Rattle.hfs_space.specs.Extents.{Overflow, block_total, record_extents, run_on, extents_from, fork_extents}
 use Rattle.hfs_space.specs.Lookups.{key_at, found_extents, then_on, extents_from-rising}
 
 module _ (overflow : Overflow) (rises : Rises ext_cmp overflow) (file fork block : ℕ) where
@@ -71,3 +72,19 @@ module _ (overflow : Overflow) (file fork : ℕ) (first : List Extent) where
   pub extents-end : (items : List Extent) (blocks : ℕ) → items ++ extents_from overflow file fork blocks ≡ fork_extents overflow file fork first → extents_from overflow file fork blocks ≡ []
       → items ≡ fork_extents overflow file fork first
   extents-end items blocks so_far none = sym (append-nil items) ∙ ap (λ l. items ++ l) (sym none) ∙ so_far
+
+-- ---- the extents of a fork, behind others, from a row of records
+
+module _ (before : List Extent) (overflow rest : Overflow) (file fork : ℕ) (first : List Extent) where
+  pub pushed-start : (items : List Extent) (blocks : ℕ) → items ≡ before ++ first → blocks ≡ block_total first
+      → run_on file fork (block_total first) rest ≡ run_on file fork (block_total first) overflow → items ++ extents_from rest file fork blocks ≡ before ++ fork_extents overflow file fork first
+  unfolding fork_extents
+  pushed-start items blocks is_items is_blocks same =
+      (λ i. is_items i ++ extents_from rest file fork (is_blocks i))
+      ∙ append_assoc before first (extents_from rest file fork (block_total first))
+      ∙ ap (λ (records : Overflow). before ++ (first ++ flat_map (λ r. record_extents r.1) records)) same
+
+  pub pushed-end : (items : List Extent) (blocks : ℕ) → items ++ extents_from rest file fork blocks ≡ before ++ fork_extents overflow file fork first
+      → run_on file fork blocks rest ≡ [] → items ≡ before ++ fork_extents overflow file fork first
+  pushed-end items blocks so_far none =
+      sym (append-nil items) ∙ ap (λ (records : Overflow). items ++ flat_map (λ r. record_extents r.1) records) (sym none) ∙ so_far

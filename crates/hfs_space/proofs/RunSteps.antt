@@ -167,11 +167,20 @@ module _ (xs : Overflow) (rises : Rises ext_cmp xs) (file fork block : ℕ) wher
         never true = refl
         never false = refl
 
+    pub run-begins : run_on file fork block (drop p xs) ≡ run_on file fork block xs
+    run-begins =
+        let none = each-take _ xs p le before in
+        sym (ap (run_on file fork block) (sym (take-append-drop p xs)) ∙ run_on-append file fork block (take p xs) (drop p xs)
+        ∙ (λ i. none_on file fork block (take p xs) none i ++ run_on file fork (none_end file fork block (take p xs) none i) (drop p xs)))
+
   -- behind them
   pub run-ends : (i : ℕ) → ((k : ℕ) (d : Record) → i ≤ k → k < length xs → is_of_fork file fork (get_or xs k d) ≡ false) → run_to i ≡ run_on file fork block xs
   run-ends i behind =
       sym (ap (run_on file fork block) (sym (take-append-drop i xs)) ∙ run_on-append file fork block (take i xs) (drop i xs)
       ∙ ap (λ l. run_to i ++ l) (none_on file fork (end_to i) (drop i xs) (each-drop _ xs i behind)) ∙ append-nil (run_to i))
+
+  pub run-over : (i b : ℕ) → ((k : ℕ) (d : Record) → i ≤ k → k < length xs → is_of_fork file fork (get_or xs k d) ≡ false) → run_on file fork b (drop i xs) ≡ []
+  run-over i b behind = none_on file fork b (drop i xs) (each-drop _ xs i behind)
 
 pub marks-end : (xs run run' : Overflow) (old marks : List Bool) → run ≡ run' → AddsMarks xs run old marks → AddsMarks xs run' old marks
 marks-end xs run run' old marks same h k d b lt = h k d b lt ∙ ap (λ l. get_or old k b || has_key_in l (get_or xs k d)) same

@@ -11,48 +11,49 @@ ghost use Rattle.hfs_space.specs.Faults as spec;
 ghost use Rattle.hfs_space.specs.TreeKeys.{IsExtentsTree, overflow_of};
 
 use crate::checks::can_hold;
-use crate::extents::{are_within, fork_extents};
+use crate::extents::are_within;
 use crate::files::CatalogFile;
 use crate::fork_kind::ForkKind;
 use crate::overflow::{BAD_BLOCKS, CATALOG_FILE, OverflowRecord, blocks_in, overflow_records};
-use crate::runs::mark_run;
+use crate::runs::{mark_run, push_fork};
 use hfs_btree::Nodes;
 use hfs_fields::{FileRecord, ForkRecord, Mdb};
 use std::alloc::{AllocError, Global};
 
 /// Whether a fork's extents, those of its overflow records among them, lie in the volume and have room for its bytes.
 #[tactic(auto, unfolding(crate::specs::Faults::is_fork_right))]
-fn is_fork_right<N: Nodes>(
+fn is_fork_right(
     alloc: Global,
     mdb: &Mdb,
-    tree: &N,
+    overflow: &[OverflowRecord],
     file: u32,
     kind: ForkKind,
     fork: &ForkRecord,
 ) -> Result<bool, AllocError>
-    requires { IsExtentsTree (N.nodes tree.now) }
-    ensures { IfOk result (λ right. right ≡ spec.is_fork_right mdb.now (overflow_of (N.nodes tree.now)) (runs.fork_in file kind fork.now)) }
+    requires { Rises ext_cmp overflow.now }
+    ensures { IfOk result (λ right. right ≡ spec.is_fork_right mdb.now overflow.now (runs.fork_in file kind fork.now)) }
 {
-    let extents = fork_extents(alloc, tree, file, kind, &fork.extents)?;
+    let mut extents = Vec::new(alloc);
+    push_fork(overflow, file, kind, &fork.extents, &mut extents)?;
     Ok(can_hold(mdb, &extents, fork.length))
 }
 
 /// Whether both forks of a file are right.
 #[tactic(auto, unfolding(crate::specs::Owners::forks_of_file))]
-fn are_forks_right<N: Nodes>(
+fn are_forks_right(
     alloc: Global,
     mdb: &Mdb,
-    tree: &N,
+    overflow: &[OverflowRecord],
     file: &FileRecord,
 ) -> Result<bool, AllocError>
-    requires { IsExtentsTree (N.nodes tree.now) }
-    ensures { IfOk result (λ right. right ≡ list_all (spec.is_fork_right mdb.now (overflow_of (N.nodes tree.now))) (forks_of_file file.now)) }
+    requires { Rises ext_cmp overflow.now }
+    ensures { IfOk result (λ right. right ≡ list_all (spec.is_fork_right mdb.now overflow.now) (forks_of_file file.now)) }
 {
-    let data = is_fork_right(alloc, mdb, tree, file.id, ForkKind::Data, &file.data)?;
+    let data = is_fork_right(alloc, mdb, overflow, file.id, ForkKind::Data, &file.data)?;
     let resource = is_fork_right(
         alloc,
         mdb,
-        tree,
+        overflow,
         file.id,
         ForkKind::Resource,
         &file.resource,
@@ -61,17 +62,17 @@ fn are_forks_right<N: Nodes>(
 }
 
 /// The number of the first file with a wrong fork.
-fn first_wrong_file<N: Nodes>(
+fn first_wrong_file(
     alloc: Global,
     mdb: &Mdb,
-    tree: &N,
+    overflow: &[OverflowRecord],
     files: &[CatalogFile],
 ) -> Result<Option<usize>, AllocError>
-    requires { IsExtentsTree (N.nodes tree.now) }
-    ensures { IfOk result (λ fault. fault ≡ runs.first_wrong_file mdb.now (overflow_of (N.nodes tree.now)) files.now) }
+    requires { Rises ext_cmp overflow.now }
+    ensures { IfOk result (λ fault. fault ≡ runs.first_wrong_file mdb.now overflow.now files.now) }
 {
     for file in files {
-        let right = are_forks_right(alloc, mdb, tree, &file.file)?;
+        let right = are_forks_right(alloc, mdb, overflow, &file.file)?;
         if !right {
             return Ok(Some(file.number));
         }
@@ -206,11 +207,11 @@ pub fn fork_fault<N: Nodes>(
     requires few { records < 2 ^ 63 }
     ensures { (catalog : Pairs CatKey) → files.now ≡ runs.files_in 0 catalog → records ≡ length catalog → IfOk result (λ fault. fault ≡ spec.fork_fault mdb.now (overflow_of (N.nodes tree.now)) catalog) }
 {
-    let wrong = first_wrong_file(alloc, mdb, tree, files)?;
+    let overflow = overflow_records(alloc, tree)?;
+    let wrong = first_wrong_file(alloc, mdb, &overflow, files)?;
     if wrong.is_some() {
         return Ok(wrong);
     }
-    let overflow = overflow_records(alloc, tree)?;
     match overflow_fault(alloc, mdb, &overflow, files)? {
         Some(i) => Ok(Some(records + i)),
         None => Ok(None),

@@ -1,5 +1,5 @@
 //! The records of the extents tree, in memory.
-ghost use Rattle.std.specs.Prelude.{◌≡◌, ◌&&◌, ◌<◌, ◌≤◌, ◌^◌, length, IfOk};
+ghost use Rattle.std.specs.Prelude.{◌≡◌, ◌&&◌, ◌<◌, ◌≤◌, ◌++◌, ◌^◌, length, IfOk, OnOk};
 ghost use Rattle.std.specs.Option.{SomeIff};
 ghost use Rattle.hfs_fields.specs.Mdb.{extents_at};
 ghost use Rattle.hfs_space.specs.Extents as spec;
@@ -59,6 +59,16 @@ pub(crate) fn blocks_in(r: &OverflowRecord) -> u32
         Some(extents) => block_total(&extents),
         None => 0,
     }
+}
+
+/// Adds the extents of a record of the extents tree.
+pub(crate) fn push_record(r: &OverflowRecord, extents: &mut Vec<Extent>) -> Result<(), AllocError>
+    ensures { OnOk result (extents.new.items ≡ extents.old.items ++ spec.record_extents r.now.1) }
+{
+    if let Some(more) = r.extents() {
+        extents.extend_from_slice(&more)?;
+    }
+    Ok(())
 }
 
 /// A copy of a record.

@@ -1,15 +1,16 @@
 //! Which records of the extents tree a fork goes on with.
-ghost use Rattle.std.specs.Prelude.{◌≡◌, ℕ, ◌+◌, ◌<◌, ◌≤◌, false, List, length, slice_index_or};
+ghost use Rattle.std.specs.Prelude.{◌≡◌, ℕ, ◌+◌, ◌<◌, ◌≤◌, ◌++◌, false, List, length, slice_index_or, OnOk};
 ghost use Rattle.hfs_fields.specs.declared.key.ExtKey.{ExtKey};
 ghost use Rattle.hfs_fields.specs.Keys.{ext_cmp};
 ghost use Rattle.hfs_btree.specs.Pairs.{Rises};
-ghost use Rattle.hfs_space.specs.Extents.{goes_on, fork_byte};
+ghost use Rattle.hfs_space.specs.Extents.{goes_on, fork_byte, fork_extents};
 ghost use Rattle.hfs_space.specs.Runs as spec;
 
 use crate::extents::block_total;
 use crate::fork_kind::{ForkKind, fork_byte};
-use crate::overflow::{OverflowRecord, blocks_in};
+use crate::overflow::{OverflowRecord, blocks_in, push_record};
 use hfs_fields::Extent;
+use std::alloc::AllocError;
 
 /// Whether a record is of this fork.
 fn is_of_fork(r: &OverflowRecord, file: u32, fork: u8) -> bool
@@ -74,4 +75,32 @@ pub(crate) fn mark_run(
             block += blocks_in(r);
         }
     }
+}
+
+/// Adds all extents of a fork whose record has these first ones. The work is that of a search, and of going through the fork's
+/// own records.
+pub(crate) fn push_fork(
+    overflow: &[OverflowRecord],
+    file: u32,
+    kind: ForkKind,
+    first: &[Extent; 3],
+    extents: &mut Vec<Extent>,
+) -> Result<(), AllocError>
+    requires { Rises ext_cmp overflow.now }
+    ensures { OnOk result (extents.new.items ≡ extents.old.items ++ fork_extents overflow.now file (fork_byte kind) first.now) }
+{
+    extents.extend_from_slice(first)?;
+    let fork = fork_byte(kind);
+    let mut block = block_total(first);
+    for i in first_of_fork(overflow, file, fork)..overflow.len() {
+        let r = &overflow[i];
+        if !is_of_fork(r, file, fork) {
+            return Ok(());
+        }
+        if goes_on(r, file, fork, block) {
+            push_record(r, extents)?;
+            block += blocks_in(r);
+        }
+    }
+    Ok(())
 }

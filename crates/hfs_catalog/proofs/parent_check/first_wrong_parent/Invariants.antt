@@ -7,5 +7,5 @@ use Rattle.hfs_catalog.proofs.parent_check.first_wrong_parent.Given as goal
 
 abbrev pub invariant-loop-i : goal.invariant-loop-i
 invariant-loop-i l =
-    (first_failing (λ _ r. implies (is_item r.1) (is_parent_right l.index r)) [] l.catalog ≡ first_failing (λ _ r. implies (is_item r.1) (is_parent_right l.index r)) (take l.i l.catalog) (drop l.i l.catalog))
-    × AreRooted l.rooted l.index
+    (first_failing (λ _ r. implies (is_item r.1) (is_parent_right l.catalog r)) [] l.records ≡ first_failing (λ _ r. implies (is_item r.1) (is_parent_right l.catalog r)) (take l.i l.records) (drop l.i l.records))
+    × AreRooted l.rooted l.catalog

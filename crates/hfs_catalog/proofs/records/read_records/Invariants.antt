@@ -3,8 +3,8 @@ use Rattle.std.proofs.Common.{◌≡◌, ◌++◌, length}
 use Rattle.hfs_catalog.specs.Tree.{catalog_of}
 use Rattle.hfs_catalog.proofs.records.read_records.Given as goal
 
-abbrev pub invariant-loop-walk : goal.invariant-loop-walk
-invariant-loop-walk g l = l.records.items ++ l.walk ≡ catalog_of (g.N.Nodes.nodes l.nodes)
+abbrev pub invariant-loop-records : goal.invariant-loop-records
+invariant-loop-records g l = l.records.items ++ l.walk ≡ catalog_of (g.N.Nodes.nodes l.nodes)
 
-abbrev pub decreases-loop-walk : goal.decreases-loop-walk
-decreases-loop-walk g l = length l.walk
+abbrev pub decreases-loop-records : goal.decreases-loop-records
+decreases-loop-records g l = length l.walk
