@@ -13,6 +13,7 @@ pub mod Search
 pub mod Walk
 pub mod First
 pub mod Scans
+pub mod ScanSteps
 pub mod Order
 pub mod OrderLaw
 pub mod Subtree

@@ -22,7 +22,7 @@ use Rattle.hfs_catalog.specs.Lookups.{catalog_item, child_named}
 use Rattle.hfs_volume.specs.Told.{is_folder, only_file, file_named}
 use Rattle.hfs_volume.proofs.Found.{none_some, same_some}
 use Rattle.hfs_volume.proofs.Folders.{folder_not_file}
-use Rattle.hfs_volume.proofs.ForkLength.{length-fork_bytes}
+use Rattle.hfs_space.specs.ForkLengths.{length-fork_bytes}
 
 -- a fork has as many bytes as its length says
 pub part_is : (blocks : ℕ → List ℕ) (total : ℕ) → ((n : ℕ) → n < total → length (blocks n) ≡ 512) → (mdb : Mdb) → HasArea mdb total → mdb.allocation_block_size % 512 ≡ 0
