@@ -8,10 +8,12 @@ pub mod Shape
 pub mod ShapeSteps
 pub mod ShapeLaw
 pub mod Elements
+pub mod Members
 pub mod Lookups
 pub mod Search
 pub mod Walk
 pub mod First
+pub mod TwoFaults
 pub mod Scans
 pub mod ScanSteps
 pub mod Order

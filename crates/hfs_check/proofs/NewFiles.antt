@@ -64,10 +64,6 @@ pub new_block-mdb : (volume : Layout) → new_block volume 2 ≡ new_mdb_block v
 unfolding new_block
 new_block-mdb volume = refl
 
-pub new_block-alternate : (volume : Layout) (k : ℕ) → k + 2 ≡ volume.blocks → new_block volume k ≡ new_mdb_block volume
-unfolding new_block
-new_block-alternate volume k e = cond-true (is_mdb_block volume k) _ _ (or_right _ _ (eq-eqb (k + 2) volume.blocks e))
-
 pub new_block-bitmap : (volume : Layout) → IsNewVolume volume → (k : ℕ) → 3 ≤ k → k < volume.start → new_block volume k ≡ bit_row (used_blocks volume) (512 * (k - 3)) 512
 unfolding new_block
 new_block-bitmap volume ok k low high =

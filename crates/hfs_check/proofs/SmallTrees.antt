@@ -98,9 +98,6 @@ module _ {K : Type 0} (g : Ghosts K) (count : ℕ) (nodes : Store) (holds : Hold
     keys = subst (Each (λ spot. AreKeysInOrder g nodes spot.above spot.n)) (sym no_leaf-turn) tt;
   }
 
-  pub no_leaf-sound : IsSound g nodes
-  no_leaf-sound = record { structure = no_leaf-structure; counts = no_leaf-counts; ordered = no_leaf-ordered }
-
 -- ---- a tree of one leaf
 
 -- the nodes of a file of so many begin with the header node of a tree of one leaf, and with that leaf, whose records are in order
@@ -219,6 +216,3 @@ module _ {K : Type 0} (g : Ghosts K) (count : ℕ) (records : List (List ℕ)) (
     rises = subst (Rises g.compare) (sym one_leaf-content) holds.rises;
     keys = subst (Each (λ spot. AreKeysInOrder g nodes spot.above spot.n)) (sym one_leaf-turn) (tt, tt);
   }
-
-  pub one_leaf-sound : IsSound g nodes
-  one_leaf-sound = record { structure = one_leaf-structure; counts = one_leaf-counts; ordered = one_leaf-ordered }
