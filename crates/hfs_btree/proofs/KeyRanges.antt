@@ -95,12 +95,6 @@ module _ {K : Type 0} (cmp : Order K) where
   pub range-none : HasRange cmp None []
   range-none = record { least = λ key. (λ _. tt, λ _. refl); greatest = λ key. (λ _. tt, λ _. refl) }
 
-  pub range-one : (p : K × List ℕ) → HasRange cmp (Some (record { least = p.0; greatest = p.0 })) (p ∷ [])
-  range-one p = record {
-    least = λ key. (λ is. (not-true (is_gt (cmp key p.0)) is, tt), λ each. ap not each.0);
-    greatest = λ key. (λ is. ((less-by (cmp p.0 key)).0 is, tt), λ each. ap is_lt each.0);
-  }
-
 pub joined-some : {K : Type 0} (cmp : Order K) (total : IsTotalOrder cmp) (a b : KeyRange K) (least greatest : K) → least ≡ cond (is_lt (cmp b.least a.least)) b.least a.least
     → greatest ≡ cond (is_lt (cmp a.greatest b.greatest)) b.greatest a.greatest → (ps qs : Pairs K) → HasRange cmp (Some a) ps → HasRange cmp (Some b) qs
     → HasRange cmp (Some (record { least = least; greatest = greatest })) (ps ++ qs)

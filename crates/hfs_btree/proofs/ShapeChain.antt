@@ -34,10 +34,6 @@ module _ (nodes : Store) (n : ℕ) where
 
 -- ---- one node of the chain
 
-pub chain-end : (nodes : Store) (most : ℕ) → chain_from nodes most 0 ≡ []
-chain-end nodes zero = refl
-chain-end nodes (suc most) = refl
-
 pub chain-step : (nodes : Store) (most next n : ℕ) → most ≡ suc next → (n ≡ 0 → ⊥) → chain_from nodes most n ≡ n ∷ chain_from nodes next (forward_of (node_in nodes n))
 chain-step nodes most next n e some = ap (λ (k : ℕ). chain_from nodes k n) e ∙ cond-false _ _ _ (ne_eqb n 0 some)
 
@@ -50,9 +46,6 @@ swapped false false c = refl
 module _ (nodes : Store) (met : List Bool) (n : ℕ) (rest : List ℕ) where
   abbrev fault : (ℕ → Bool) → List ℕ → Option ℕ
   fault f ns = first_fault (is_map_node nodes) (λ m. m) f ns
-
-  pub chain-stops : (is_map_node nodes n && not (is_met met n)) ≡ false → is_none (fault (is_met met) (n ∷ rest)) ≡ false
-  chain-stops wrong = ap is_none (cond-false _ _ _ wrong)
 
   pub chain-goes-on : (is_map_node nodes n && not (is_met met n)) ≡ true → n < length met → fault (is_met met) (n ∷ rest) ≡ fault (is_met (set met n true)) rest
   chain-goes-on right within = cond-true _ _ _ right ∙ ap (λ (f : ℕ → Bool). fault f rest) (met-more met n within)

@@ -14,9 +14,6 @@ use Rattle.hfs_btree.specs.ShapeSteps.{is_met, IsFault, IsWrongAt}
 use Rattle.hfs_btree.specs.declared.fault.TreeFault.{TreeFault}
 use Rattle.hfs_btree.specs.declared.fault.TreeFault.TheVariants.{At, Memory}
 
-pub read-at : {X : Type 0} (xs : List X) (i : ℕ) (x d : X) → i < length xs → x ≡ get_or xs i x → get_or xs i d ≡ x
-read-at xs i x d lt e = get_or_default xs i d x lt ∙ sym e
-
 -- ---- marks of nodes that were met
 
 pub met-one : (met : List Bool) (n : ℕ) → n < length met → (k : ℕ) → is_met (set met n true) k ≡ ((k == n) || is_met met k)
@@ -97,9 +94,6 @@ module _ {K : Type 0} (g : Ghosts K) (nodes : Store) where
   lower : (next : ℕ) (level : List ℕ) → 1 ≤ next → last_level g nodes (suc next) level ≡ last_level g nodes next (flat_map (children g nodes) level)
   lower zero level some = absurd (omega arith)
   lower (suc k) level some = refl
-
-  pub last_level-step : (below next : ℕ) (level : List ℕ) → below ≡ suc next → 1 ≤ next → last_level g nodes below level ≡ last_level g nodes next (flat_map (children g nodes) level)
-  last_level-step below next level e some = ap (λ (k : ℕ). last_level g nodes k level) e ∙ lower next level some
 
   pub last_level-one : (below : ℕ) (level : List ℕ) → below ≡ 1 → last_level g nodes below level ≡ level
   last_level-one below level e = ap (λ (k : ℕ). last_level g nodes k level) e

@@ -59,9 +59,6 @@ module _ {K : Type 0} (g : Ghosts K) (nodes : Store) (structure : HasStructure g
       none-left : drop place (map (pair_of g) (records_of (node_of bytes))) ≡ []
       none-left = drop_all place (map (pair_of g) (records_of (node_of bytes))) (omega (arith, length-map (records_of (node_of bytes)) (pair_of g)))
 
-      pub settle-end : forward_of (node_of bytes) ≡ 0 → IsWalk g nodes bytes place most
-      settle-end none = record { structure = structure; at = inr (record { past = past; last = none }) }
-
       module _ (m : ℕ) (is : m ≡ forward_of (node_of bytes)) (more : m ≡ 0 → ⊥) where
         first-is : first_of at.behind ≡ 0 → ⊥
         first-is z = more (is ∙ link ∙ z)

@@ -8,11 +8,14 @@ pub mod Shape
 pub mod ShapeSteps
 pub mod ShapeLaw
 pub mod Elements
+pub mod Members
 pub mod Lookups
 pub mod Search
 pub mod Walk
 pub mod First
+pub mod TwoFaults
 pub mod Scans
+pub mod ScanSteps
 pub mod Order
 pub mod OrderLaw
 pub mod Subtree

@@ -13,7 +13,7 @@ use Rattle.hfs_btree.specs.Pairs.{Order, Pairs, Each, Rises, IsAtMost, IsAbove}
 use Rattle.hfs_btree.specs.Tree.{Store, Spot, records_in, under}
 use Rattle.hfs_btree.specs.Header.{tree_content, tree_turn}
 use Rattle.hfs_btree.specs.Shape.{◌or_else◌, shape_fault}
-use Rattle.hfs_btree.specs.ShapeLaw.{shape-law}
+use Rattle.hfs_btree.specs.ShapeLaw.{shape-law, first-none, both-none}
 use Rattle.hfs_btree.specs.Scans.{Later, passes_from_none, none_from_passes, later_from_passes, passes_from_later, all_decides}
 use Rattle.hfs_btree.specs.Sound.{HasStructure, HasCounts, IsWithinFile, IsShaped, part_of, ArePartsInOrder, AreKeysInOrder, IsOrdered, IsSound}
 use Rattle.hfs_btree.specs.Order.{first_node, is_above_all, rise_fault, leaf_order_fault, are_parts_in_order, are_keys_in_order, is_keyed, index_order_fault, order_fault, tree_fault}
@@ -119,19 +119,15 @@ module _ {K : Type 0} (g : Ghosts K) (nodes : Store) where
 
 -- ---- the whole
 
-neither : (a b : Option ℕ) → (a or_else b) ≡ None → (a ≡ None) × (b ≡ None)
-neither None b h = (refl, h)
-neither (Some n) b h = absurd (let no = h in cc)
-
 module _ {K : Type 0} (g : Ghosts K) (nodes : Store) where
   -- a tree is in order exactly where it has no fault
   pub order-law : (order_fault g nodes ≡ None) ↔ IsOrdered g nodes
   unfolding order_fault
   order-law = (
     λ is.
-        let both = neither (index_order_fault g nodes) (leaf_order_fault g nodes) is in
+        let both = first-none (index_order_fault g nodes) (leaf_order_fault g nodes) is in
         record { rises = (leaf-order-law g nodes).0 both.1; keys = (index-order-law g nodes).0 both.0 },
-    λ h. ap (λ (o : Option ℕ). o or_else leaf_order_fault g nodes) ((index-order-law g nodes).1 h.keys) ∙ (leaf-order-law g nodes).1 h.rises,
+    λ h. both-none _ _ ((index-order-law g nodes).1 h.keys) ((leaf-order-law g nodes).1 h.rises),
   )
 
 -- the parts of a sound tree
@@ -143,10 +139,10 @@ pub sound-law : {K : Type 0} (g : Ghosts K) (size : ℕ) (nodes : Store) → (tr
 unfolding tree_fault
 sound-law g size nodes = (
   λ is.
-      let both = neither (shape_fault g size nodes) (order_fault g nodes) is in
+      let both = first-none (shape_fault g size nodes) (order_fault g nodes) is in
       let shaped = (shape-law g size nodes).0 both.0 in
       (sound-of g nodes shaped.structure shaped.counts ((order-law g nodes).0 both.1), shaped.within),
   λ h.
       let shaped : IsShaped g size nodes = record { structure = h.0.structure; counts = h.0.counts; within = h.1 } in
-      ap (λ (o : Option ℕ). o or_else order_fault g nodes) ((shape-law g size nodes).1 shaped) ∙ (order-law g nodes).1 h.0.ordered,
+      both-none _ _ ((shape-law g size nodes).1 shaped) ((order-law g nodes).1 h.0.ordered),
 )

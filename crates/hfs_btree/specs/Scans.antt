@@ -3,18 +3,12 @@ use Rattle.std.proofs.Common.{◌≡◌, ℕ, zero, suc, ◌+◌, ◌<◌, Bool,
 use Rattle.std.specs.Prelude.{⊤, ◌↔◌}
 use Rattle.std.specs.Bool.{Decides}
 use Rattle.std.specs.List.{list_all}
-use Rattle.std.specs.Option.{unwrap_or}
 use Rattle.std.proofs.lemmas.List.{append-nil, length-append}
+use Rattle.std.proofs.lemmas.Option.{none-some, same_Some}
 use Rattle.std.proofs.lemmas.Bool.{and_parts, and_from}
 use Rattle.hfs_btree.specs.Pairs.{Each}
 use Rattle.hfs_btree.specs.Elements.{each-left, each-right, each-append}
 use Rattle.hfs_btree.specs.First.{first_failing, EachPasses, IsFirst}
-
-some_none : {A : Type 0} (x : A) → Some x ≡ None → ⊥
-some_none x e = cc
-
-same_some : {A : Type 0} (x y : A) → Some x ≡ Some y → x ≡ y
-same_some x y e = ap (λ o. unwrap_or o x) e
 
 -- each element passes, with those before it
 abbrev pub Passes : {X : Type 0} → (List X → X → Bool) → List X → List X → Type 0
@@ -26,7 +20,7 @@ module _ {X : Type 0} (test : List X → X → Bool) where
   passes_from_none before [] is = tt
   passes_from_none before (x ∷ xs) is = elim (test before x) as (λ b. test before x ≡ b → cond b (first_failing test (before ++ x ∷ []) xs) (Some (length before)) ≡ None → (test before x ≡ true) × Passes test (before ++ x ∷ []) xs) [
     | true ↦ λ e none. (e, passes_from_none (before ++ x ∷ []) xs none)
-    | false ↦ λ e some. absurd (some_none _ some)
+    | false ↦ λ e some. absurd (none-some _ (sym some))
   ] refl is
 
   pub none_from_passes : (before xs : List X) → Passes test before xs → first_failing test before xs ≡ None
@@ -81,12 +75,12 @@ module _ {X : Type 0} (test : List X → X → Bool) where
       before_it (suc k) d lt = there before x (take k xs) (get_or xs k d) true (found.earlier k d (omega arith))
 
   pub found_at : (before xs : List X) (n : ℕ) → first_failing test before xs ≡ Some n → FoundAt before xs n
-  found_at before [] n is = absurd (some_none n (sym is))
+  found_at before [] n is = absurd (none-some n is)
   found_at before (x ∷ xs) n is = elim (test before x) as (λ b. test before x ≡ b → cond b (first_failing test (before ++ x ∷ []) xs) (Some (length before)) ≡ Some n → FoundAt before (x ∷ xs) n) [
     | true ↦ λ e some. later_found before x xs n e (found_at (before ++ x ∷ []) xs n some)
     | false ↦ λ e some. record {
       i = 0;
-      place = omega (arith, same_some (length before) n some);
+      place = omega (arith, same_Some (length before) n some);
       within = omega arith;
       fails = λ d. here before xs x false e;
       earlier = λ k d lt. absurd (omega arith);

@@ -320,7 +320,7 @@ module _ {K : Type 0} (g : Ghosts K) (nodes : Store) where
 
 -- ---- the whole
 
-first-none : (a b : Option ℕ) → (a or_else b) ≡ None → (a ≡ None) × (b ≡ None)
+pub first-none : (a b : Option ℕ) → (a or_else b) ≡ None → (a ≡ None) × (b ≡ None)
 first-none None b h = (refl, h)
 first-none (Some n) b h = absurd (let no = h in cc)
 
@@ -328,7 +328,7 @@ unless-none : (b : Bool) → unless b ≡ None → b ≡ true
 unless-none true h = refl
 unless-none false h = absurd (let no = h in cc)
 
-both-none : (a b : Option ℕ) → a ≡ None → b ≡ None → (a or_else b) ≡ None
+pub both-none : (a b : Option ℕ) → a ≡ None → b ≡ None → (a or_else b) ≡ None
 both-none a b h k = ap (λ (o : Option ℕ). o or_else b) h ∙ k
 
 module _ {K : Type 0} (g : Ghosts K) (size : ℕ) (nodes : Store) where

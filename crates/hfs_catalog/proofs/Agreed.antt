@@ -11,20 +11,14 @@ use Rattle.hfs_btree.specs.First.{first_failing}
 use Rattle.hfs_catalog.specs.Records.{Catalog}
 use Rattle.hfs_catalog.specs.Sound.{EachFolder, IsRecord, AreNamesSound, IsIndexKeyName, HasValence, AreCountsSound, counts_of}
 use Rattle.hfs_catalog.specs.Faults.{unless, is_record_right, record_fault, is_name_right, is_index_key_name, name_fault, is_valence_right, valence_fault, count_fault}
+use Rattle.hfs_btree.specs.TwoFaults.{neither, both_none}
 use Rattle.hfs_btree.specs.Scans.{check, all_decides}
 use Rattle.hfs_catalog.proofs.Decided.{record_decides, name_decides, index_key_decides, valence_decides}
 
 some_none : {A : Type 0} (x : A) → Some x ≡ None → ⊥
 some_none x e = cc
 
--- ---- one fault after the other
-
-pub neither : (first second : Option ℕ) → option_or first second ≡ None → (first ≡ None) × (second ≡ None)
-neither None second e = (refl, e)
-neither (Some i) second e = absurd (some_none i e)
-
-pub both_none : (first second : Option ℕ) → first ≡ None → second ≡ None → option_or first second ≡ None
-both_none first second e f = ap (λ (o : Option ℕ). option_or o second) e ∙ f
+-- ---- one fault
 
 pub holds : (b : Bool) (place : ℕ) → unless b place ≡ None → b ≡ true
 holds true place e = refl

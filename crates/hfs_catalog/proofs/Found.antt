@@ -21,7 +21,8 @@ use Rattle.hfs_catalog.specs.declared.item.CatalogItem.{CatalogItem}
 use Rattle.hfs_catalog.specs.Records.{Record, Catalog, item_with, item_ids, is_child_of, is_thread_of}
 use Rattle.hfs_catalog.specs.Sound.{IsRecord, AreNamesSound, ArePlacesSound, HasItem}
 use Rattle.hfs_catalog.specs.Lookups.{catalog_item, is_child_named, child_named, thread_of, named_at, thread_at}
-use Rattle.hfs_catalog.proofs.Held.{In, each_in, found_in, with_id}
+use Rattle.hfs_btree.specs.Members.{In, each_in, found_in}
+use Rattle.hfs_catalog.proofs.Held.{with_id}
 use Rattle.hfs_catalog.proofs.Lawful.{one_record, same_keys}
 
 some_none : {A : Type 0} (x : A) → Some x ≡ None → ⊥

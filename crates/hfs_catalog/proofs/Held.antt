@@ -7,7 +7,7 @@ use Rattle.std.specs.Option.{option_map, unwrap_or}
 use Rattle.std.specs.FinMap as fin
 use Rattle.std.proofs.lemmas.Bool.{eqb-true, eq-eqb, ne_eqb, true≢false, and_parts}
 use Rattle.hfs_fields.specs.Records.{is_dir, is_item, item_id, dir_record_of, file_record_of}
-use Rattle.hfs_btree.specs.Pairs.{Each}
+use Rattle.hfs_btree.specs.Members.{In, found_in}
 use Rattle.hfs_model.specs.declared.item.Item.{Item}
 use Rattle.hfs_model.specs.Children.{is_folder_kind}
 use Rattle.hfs_model.specs.Lawful.{Has}
@@ -19,25 +19,6 @@ none_some x e = cc
 
 same_some : {A : Type 0} (x y : A) → Some x ≡ Some y → x ≡ y
 same_some x y e = ap (λ o. unwrap_or o x) e
-
--- ---- what a list holds
-
--- x stands in the list
-abbrev pub In : {A : Type 0} → A → List A → Type 0
-In x [] = ⊥
-In x (y ∷ ys) = (y ≡ x) ⊎ In x ys
-
-pub each_in : {A : Type 0} (P : A → Type 0) (xs : List A) (x : A) → Each P xs → In x xs → P x
-each_in P [] x h i = absurd i
-each_in P (y ∷ ys) x h i = ⊎_elim (λ (e : y ≡ x). subst P e h.0) (λ (there : In x ys). each_in P ys x h.1 there) i
-
--- what a search finds is there, and passes
-pub found_in : {A : Type 0} (p : A → Bool) (xs : List A) (x : A) → find p xs ≡ Some x → In x xs × (p x ≡ true)
-found_in p [] x is = absurd (none_some x is)
-found_in p (y ∷ ys) x is = elim (p y) as (λ (b : Bool). p y ≡ b → cond b (Some y) (find p ys) ≡ Some x → In x (y ∷ ys) × (p x ≡ true)) [
-  | true ↦ λ e here. (inl (same_some y x here), sym (ap p (same_some y x here)) ∙ e)
-  | false ↦ λ e later. let rest = found_in p ys x later in (inr rest.0, rest.1)
-] refl is
 
 pub with_id : (catalog : Catalog) (id : ℕ) (r : Record) → item_with catalog id ≡ Some r → In r catalog × (is_item r.1 ≡ true) × (item_id r.1 ≡ id)
 with_id catalog id r is =

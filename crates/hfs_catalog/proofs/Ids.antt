@@ -15,7 +15,8 @@ use Rattle.hfs_catalog.specs.Sound.{HasRightId, AreIdsSound}
 use Rattle.hfs_catalog.specs.Faults.{implies, is_id_right, is_id_new, is_item_id_right, id_fault}
 use Rattle.hfs_btree.specs.Scans.{all_decides, passes_from_none, none_from_passes, both_from_passes, passes_from_both, Later, later_from_passes, passes_from_later}
 use Rattle.hfs_catalog.proofs.Decided.{itself, Decides-implies, id_decides}
-use Rattle.hfs_catalog.proofs.Agreed.{neither, both_none, holds, no_fault}
+use Rattle.hfs_btree.specs.TwoFaults.{neither, both_none}
+use Rattle.hfs_catalog.proofs.Agreed.{holds, no_fault}
 
 some_none : {A : Type 0} (x : A) → Some x ≡ None → ⊥
 some_none x e = cc

@@ -24,7 +24,8 @@ use Rattle.hfs_catalog.specs.Records.{Record, Catalog, item_with, items_of, item
 use Rattle.hfs_catalog.specs.Parents.{parent_in}
 use Rattle.hfs_catalog.specs.Sound.{IsRoot, IsGiven, HasRightId, HasPlace, HasValence, IsSoundCatalog}
 use Rattle.hfs_catalog.specs.Items.{Contents, item_of, entry_of, items_in}
-use Rattle.hfs_catalog.proofs.Held.{In, each_in, with_id, item_parent, item_name, item_folder, items_are_records, has_item, has_record, HasRecord}
+use Rattle.hfs_btree.specs.Members.{In, each_in}
+use Rattle.hfs_catalog.proofs.Held.{with_id, item_parent, item_name, item_folder, items_are_records, has_item, has_record, HasRecord}
 
 -- ---- how many items a folder has
 

@@ -9,7 +9,6 @@ pub mod NameOrder
 pub mod Found
 pub mod Steps
 pub mod Queries
-pub mod Walked
 pub mod Indexed
 pub mod IdSteps
 pub mod ValenceSteps

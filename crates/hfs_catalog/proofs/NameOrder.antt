@@ -22,7 +22,8 @@ use Rattle.hfs_catalog.specs.Sound.{IsSoundCatalog}
 use Rattle.hfs_catalog.specs.Items.{Contents, item_of, entry_of, items_in, children_in}
 use Rattle.hfs_btree.specs.Scans.{Later}
 use Rattle.hfs_catalog.proofs.Ids.{Differs, later_from_distinct}
-use Rattle.hfs_catalog.proofs.Held.{In, each_in, item_parent, item_name, has_item, has_record}
+use Rattle.hfs_btree.specs.Members.{In, each_in}
+use Rattle.hfs_catalog.proofs.Held.{item_parent, item_name, has_item, has_record}
 use Rattle.hfs_catalog.proofs.Lawful.{sound_is_lawful}
 
 -- ---- what a list holds

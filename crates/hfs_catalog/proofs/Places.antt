@@ -17,7 +17,8 @@ use Rattle.hfs_catalog.specs.Sound.{HasPlace, HasItem, ArePlacesSound}
 use Rattle.hfs_catalog.specs.Faults.{is_above, is_parent_right, is_place_right, place_fault}
 use Rattle.hfs_btree.specs.Scans.{all_decides, passes_from_none, none_from_passes, both_from_passes, passes_from_both, Later, later_from_passes, passes_from_later}
 use Rattle.hfs_catalog.proofs.Decided.{itself, Decides-implies, thread_decides}
-use Rattle.hfs_catalog.proofs.Agreed.{neither, both_none, holds, no_fault}
+use Rattle.hfs_btree.specs.TwoFaults.{neither, both_none}
+use Rattle.hfs_catalog.proofs.Agreed.{holds, no_fault}
 use Rattle.hfs_catalog.proofs.Reach.{reach_decides}
 
 -- ---- keys

@@ -24,7 +24,7 @@ fn is_record_right(r: &(CatKey, Bytes)) -> bool
 }
 
 /// The number of the first record that is neither a folder's or a file's under a name, nor a thread's under an empty one.
-#[tactic(auto, using(crate::proofs::Walked::scan_stop, crate::proofs::Walked::scan_go, crate::proofs::Walked::scan_end), unfolding(crate::specs::Faults::record_fault))]
+#[tactic(auto, using(hfs_btree::specs::ScanSteps::scan_stop, hfs_btree::specs::ScanSteps::scan_go, hfs_btree::specs::ScanSteps::scan_end), unfolding(crate::specs::Faults::record_fault))]
 pub fn record_fault(catalog: &[(CatKey, Bytes)]) -> Option<usize>
     ensures { result ≡ record_fault catalog.now }
 {
@@ -56,7 +56,7 @@ fn is_name_right(r: &(CatKey, Bytes)) -> bool
         && (!is_thread(body) || is_thread_name_right(body))
 }
 
-#[tactic(auto, using(crate::proofs::Walked::scan_stop, crate::proofs::Walked::scan_go, crate::proofs::Walked::scan_end))]
+#[tactic(auto, using(hfs_btree::specs::ScanSteps::scan_stop, hfs_btree::specs::ScanSteps::scan_go, hfs_btree::specs::ScanSteps::scan_end))]
 fn first_wrong_name(catalog: &[(CatKey, Bytes)]) -> Option<usize>
     ensures { result ≡ first_failing (λ _ r. is_name_right r) [] catalog.now }
 {

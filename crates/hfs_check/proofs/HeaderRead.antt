@@ -13,14 +13,13 @@ use Rattle.hfs_btree.specs.Tree.{Store, node_in, records_of, forward_of}
 use Rattle.hfs_btree.specs.Header.{header_of, header_in, record_in, chain_from, map_nodes, map_bytes, bit_of, marks, free_nodes, is_marked}
 use Rattle.hfs_btree.specs.Pairs.{Each}
 use Rattle.hfs_btree.specs.Sound.{HasHeader, HasMap, IsDistinct, IsMapNode, IsMarked}
-use Rattle.hfs_check.specs.declared.tree_header.TreeHeader.{TreeHeader}
 use Rattle.hfs_check.specs.BitRow.{length-bit_row}
 use Rattle.hfs_check.proofs.BitsRead.{bit_of-bit_row, count_below-clear}
 use Rattle.hfs_check.specs.NewTrees.{header_record, node_map, header_node}
 use Rattle.hfs_check.proofs.NewBlocks.{length-header_record}
 
 -- what the header record of a new tree keeps: its node map of 256 bytes has a bit for each node, and node 0 is in use
-pub record IsHeaderValue (tree : TreeHeader) : Type 0 where
+pub record IsHeaderValue (tree : Header) : Type 0 where
   pub depth : tree.depth ≤ 16
   pub root : tree.root < 2 ^ 32
   pub records : tree.records < 2 ^ 32
@@ -31,21 +30,8 @@ pub record IsHeaderValue (tree : TreeHeader) : Type 0 where
   pub nodes : tree.nodes ≤ 2048
   pub free_nodes : tree.free_nodes < tree.nodes
 
--- the header that is read
-abbrev pub header_value : TreeHeader → Header
-header_value tree = record {
-  depth = tree.depth;
-  root = tree.root;
-  records = tree.records;
-  first_leaf = tree.first_leaf;
-  last_leaf = tree.last_leaf;
-  node_size = tree.node_size;
-  key_len = tree.key_len;
-  nodes = tree.nodes;
-  free_nodes = tree.free_nodes;
-}
-
-header_of-record : (tree : TreeHeader) → IsHeaderValue tree → header_of (header_record tree) ≡ header_value tree
+-- the record is read back
+header_of-record : (tree : Header) → IsHeaderValue tree → header_of (header_record tree) ≡ tree
 unfolding header_of header_record
 header_of-record tree ok =
     let w : List ℕ = header_record tree in
@@ -81,7 +67,7 @@ count_by-map f (x ∷ xs) =
     ∙ ap (λ n. cond (not (f x)) 1 0 + n) (count_by-map f xs)
     ∙ sym (sum_by-cons (λ y. cond (not (f y)) 1 0) x xs)
 
-module _ (nodes : Store) (tree : TreeHeader) (ok : IsHeaderValue tree) (decodes : node_in nodes 0 ≡ Ok (header_node tree)) where
+module _ (nodes : Store) (tree : Header) (ok : IsHeaderValue tree) (decodes : node_in nodes 0 ≡ Ok (header_node tree)) where
   record_in-header : record_in nodes 0 0 ≡ header_record tree
   unfolding header_node
   record_in-header = ap (λ r. slice_index_or (records_of r) 0 []) decodes
@@ -90,7 +76,7 @@ module _ (nodes : Store) (tree : TreeHeader) (ok : IsHeaderValue tree) (decodes 
   unfolding header_node
   record_in-map = ap (λ r. slice_index_or (records_of r) 2 []) decodes
 
-  pub header_in-new : header_in nodes ≡ header_value tree
+  pub header_in-new : header_in nodes ≡ tree
   header_in-new = ap header_of record_in-header ∙ header_of-record tree ok
 
   pub map_nodes-new : map_nodes nodes ≡ []

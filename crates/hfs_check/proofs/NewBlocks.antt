@@ -12,21 +12,21 @@ use Rattle.hfs_fields.specs.declared.thread_record.ThreadKind.TheVariants.{Folde
 use Rattle.hfs_node.specs.Node.{size_of}
 use Rattle.hfs_btree.specs.Blocks.{block_at, block_count}
 use Rattle.hfs_check.specs.declared.layout.Layout.{Layout}
-use Rattle.hfs_check.specs.declared.tree_header.TreeHeader.{TreeHeader}
+use Rattle.hfs_btree.specs.declared.header.Header.{Header}
 use Rattle.hfs_check.specs.Plan.{used_blocks}
 use Rattle.hfs_check.specs.BitRow.{length-bit_row}
 use Rattle.hfs_check.specs.NewTrees.{empty_tree, one_leaf_tree, header_record, header_node, root_directory, root_record, root_thread, root_leaf}
 use Rattle.hfs_check.specs.Image.{is_mdb_block, is_bitmap_block, extents_start, catalog_start, new_block, volume_image}
-use Rattle.hfs_check.proofs.NewVolume.{IsNewVolume, length-mdb_bytes}
+use Rattle.hfs_check.proofs.NewVolume.{IsNewVolume, length-new_mdb_block}
 use Rattle.hfs_check.proofs.NodesRead.{IsNodeValue, length-node_bytes}
 
 -- ---- the nodes fit
 
-pub length-header_record : (tree : TreeHeader) → length (header_record tree) ≡ 106
+pub length-header_record : (tree : Header) → length (header_record tree) ≡ 106
 unfolding header_record
 length-header_record tree = refl
 
-pub header_node-value : (tree : TreeHeader) → IsNodeValue (header_node tree)
+pub header_node-value : (tree : Header) → IsNodeValue (header_node tree)
 unfolding header_node size_of
 header_node-value tree = record {
   forward = omega arith;
@@ -86,7 +86,7 @@ Has512 bytes = length bytes ≡ 512
 pub length-new_block : (volume : Layout) → IsNewVolume volume → (k : ℕ) → length (new_block volume k) ≡ 512
 unfolding new_block
 length-new_block volume ok k =
-    cond_both (is_mdb_block volume k) _ _ Has512 (λ e. length-mdb_bytes volume ok) (λ e.
+    cond_both (is_mdb_block volume k) _ _ Has512 (λ e. length-new_mdb_block volume ok) (λ e.
     cond_both (is_bitmap_block volume k) _ _ Has512 (λ e. length-bit_row (used_blocks volume) (512 * (k - 3)) 512) (λ e.
     cond_both (k == extents_start volume) _ _ Has512 (λ e. length-node_bytes _ (header_node-value (empty_tree 7 volume.extents.nodes))) (λ e.
     cond_both (k == catalog_start volume) _ _ Has512 (λ e. length-node_bytes _ (header_node-value (one_leaf_tree 37 volume.catalog.nodes 2))) (λ e.

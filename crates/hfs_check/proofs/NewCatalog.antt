@@ -149,10 +149,6 @@ module _ (volume : Layout) (ok : IsNewVolume volume) where
 
   -- ---- the whole
 
-  -- the catalog of a new volume is sound
-  pub new_catalog-sound : IsSoundCatalog 16 (new_catalog volume)
-  new_catalog-sound = record { records = new-records; ids = new-ids; names = new-names; places = new-places; valences = new-valences }
-
   -- and the new master directory block counts it right
   pub new_counts-sound : AreCountsSound (new_mdb volume) (new_catalog volume)
   unfolding counts_of new_mdb

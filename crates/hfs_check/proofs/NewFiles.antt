@@ -26,8 +26,7 @@ use Rattle.hfs_catalog.specs.Tree.{cat_keys, catalog_of}
 use Rattle.hfs_check.specs.declared.layout.Layout.{Layout}
 use Rattle.hfs_check.specs.Plan.{used_blocks}
 use Rattle.hfs_check.specs.BitRow.{bit_row}
-use Rattle.hfs_check.specs.NewMdb.{one_run, new_mdb}
-use Rattle.hfs_check.specs.MdbBytes.{mdb_bytes}
+use Rattle.hfs_check.specs.NewMdb.{one_run, new_mdb, new_mdb_block}
 use Rattle.hfs_check.specs.NewTrees.{empty_tree, one_leaf_tree, header_node, root_directory, root_record, root_thread, root_leaf, node_bytes}
 use Rattle.hfs_check.specs.Image.{is_mdb_block, is_bitmap_block, catalog_start, new_block, volume_image}
 use Rattle.hfs_check.proofs.NewVolume.{IsNewVolume}
@@ -61,13 +60,9 @@ not-mdb volume k low high = or_from _ _ (ne_eqb k 2 (λ e. omega arith)) (ne_eqb
 not-bitmap : (volume : Layout) (k : ℕ) → volume.start ≤ k → is_bitmap_block volume k ≡ false
 not-bitmap volume k low = and_right _ _ (le-ltb k volume.start low)
 
-pub new_block-mdb : (volume : Layout) → new_block volume 2 ≡ mdb_bytes (new_mdb volume)
+pub new_block-mdb : (volume : Layout) → new_block volume 2 ≡ new_mdb_block volume
 unfolding new_block
 new_block-mdb volume = refl
-
-pub new_block-alternate : (volume : Layout) (k : ℕ) → k + 2 ≡ volume.blocks → new_block volume k ≡ mdb_bytes (new_mdb volume)
-unfolding new_block
-new_block-alternate volume k e = cond-true (is_mdb_block volume k) _ _ (or_right _ _ (eq-eqb (k + 2) volume.blocks e))
 
 pub new_block-bitmap : (volume : Layout) → IsNewVolume volume → (k : ℕ) → 3 ≤ k → k < volume.start → new_block volume k ≡ bit_row (used_blocks volume) (512 * (k - 3)) 512
 unfolding new_block

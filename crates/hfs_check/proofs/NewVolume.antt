@@ -3,14 +3,13 @@ use Rattle.std.proofs.Common.{◌≡◌, ℕ, zero, suc, ◌+◌, ◌-◌, ◌*�
 use Rattle.std.specs.Prelude.{IsTrue}
 use Rattle.std.proofs.lemmas.List.{length-append, length-replicate}
 use Rattle.hfs_fields.specs.Mdb.{mdb_of}
+use Rattle.hfs_fields.specs.MdbForm.{IsMdbHeadValue, IsMdbTailValue, IsMdbValue, mdb_bytes, length-mdb_bytes, mdb_of-first}
 use Rattle.hfs_fields.specs.Names.{is_item_name}
-use Rattle.hfs_fields.specs.RecordForms.{IsExtentValue, AreExtentValues, length-extents_bytes}
+use Rattle.hfs_fields.specs.RecordForms.{IsExtentValue, AreExtentValues}
 use Rattle.hfs_fields.specs.declared.extent.Extent.{Extent}
-use Rattle.hfs_fields.specs.declared.mdb.Mdb.{Mdb}
 use Rattle.hfs_check.specs.declared.layout.Layout.{Layout}
 use Rattle.hfs_check.specs.Plan.{used_blocks}
-use Rattle.hfs_check.specs.MdbBytes.{AreVolumeFields, AreCountFields, AreFileFields, volume_field_bytes, count_field_bytes, file_field_bytes, mdb_field_bytes, mdb_bytes, mdb_of-bytes}
-use Rattle.hfs_check.specs.NewMdb.{one_run, volume_name_bytes, new_mdb}
+use Rattle.hfs_check.specs.NewMdb.{one_run, volume_name_bytes, new_mdb, new_mdb_block}
 
 -- what the numbers of a plan without fault keep
 pub record IsNewVolume (volume : Layout) : Type 0 where
@@ -49,9 +48,9 @@ one_run-values first count f c = record { three = refl; each = run-each first co
 length-name_bytes : (name : List ℕ) → length name ≤ 27 → length (volume_name_bytes name) ≡ 28
 length-name_bytes name short = omega (arith, length-append name (replicate (27 - length name) 0), length-replicate {A = ℕ} (27 - length name) 0)
 
-volume-fields : (volume : Layout) → IsNewVolume volume → AreVolumeFields (new_mdb volume)
+head-value : (volume : Layout) → IsNewVolume volume → IsMdbHeadValue (new_mdb volume)
 unfolding new_mdb
-volume-fields volume ok = record {
+head-value volume ok = record {
   signature = omega arith;
   created = ok.moment;
   modified = ok.moment;
@@ -68,9 +67,9 @@ volume-fields volume ok = record {
   volume_name = length-name_bytes volume.name ok.name;
 }
 
-count-fields : (volume : Layout) → IsNewVolume volume → AreCountFields (new_mdb volume)
+tail-value : (volume : Layout) → IsNewVolume volume → IsMdbTailValue (new_mdb volume)
 unfolding new_mdb
-count-fields volume ok = record {
+tail-value volume ok = record {
   backup = omega arith;
   backup_sequence = omega arith;
   write_count = omega arith;
@@ -83,46 +82,21 @@ count-fields volume ok = record {
   cache_size = omega arith;
   bitmap_cache_size = omega arith;
   control_cache_size = omega arith;
-}
-
-file-fields : (volume : Layout) → IsNewVolume volume → AreFileFields (new_mdb volume)
-unfolding new_mdb
-file-fields volume ok = record {
   extents_file_size = omega arith;
   extents_file = one_run-values 0 volume.extents.blocks (omega arith) (omega arith);
   catalog_file_size = omega arith;
   catalog_file = one_run-values volume.extents.blocks volume.catalog.blocks (omega arith) (omega arith);
 }
 
-length-volume_fields : (mdb : Mdb) → length mdb.volume_name ≡ 28 → length (volume_field_bytes mdb) ≡ 64
-unfolding volume_field_bytes
-length-volume_fields mdb name = omega (arith, name)
+mdb-value : (volume : Layout) → IsNewVolume volume → IsMdbValue (new_mdb volume)
+mdb-value volume ok = record { head = head-value volume ok; tail = tail-value volume ok }
 
-length-count_fields : (mdb : Mdb) → length mdb.finder_info ≡ 32 → length (count_field_bytes mdb) ≡ 66
-unfolding count_field_bytes
-length-count_fields mdb info = simp length-append (omega (arith, info))
-
-length-file_fields : (mdb : Mdb) → AreFileFields mdb → length (file_field_bytes mdb) ≡ 32
-unfolding file_field_bytes
-length-file_fields mdb files =
-    simp length-append (omega (arith, length-extents_bytes mdb.extents_file files.extents_file.three, length-extents_bytes mdb.catalog_file files.catalog_file.three))
-
-length-fields : (volume : Layout) → IsNewVolume volume → length (mdb_field_bytes (new_mdb volume)) ≡ 162
-length-fields volume ok =
-    let mdb : Mdb = new_mdb volume in
-    let volumes = length-volume_fields mdb (volume-fields volume ok).volume_name in
-    let counts = length-count_fields mdb (count-fields volume ok).finder_info in
-    let files = length-file_fields mdb (file-fields volume ok) in
-    let one = length-append (volume_field_bytes mdb ++ count_field_bytes mdb) (file_field_bytes mdb) in
-    let two = length-append (volume_field_bytes mdb) (count_field_bytes mdb) in
-    omega (arith, volumes, counts, files, one, two)
-
-pub length-mdb_bytes : (volume : Layout) → IsNewVolume volume → length (mdb_bytes (new_mdb volume)) ≡ 512
-unfolding mdb_bytes
-length-mdb_bytes volume ok =
-    omega (arith, length-append (mdb_field_bytes (new_mdb volume)) (replicate 350 0), length-fields volume ok, length-replicate {A = ℕ} 350 0)
+pub length-new_mdb_block : (volume : Layout) → IsNewVolume volume → length (new_mdb_block volume) ≡ 512
+unfolding new_mdb_block
+length-new_mdb_block volume ok =
+    omega (arith, length-append (mdb_bytes (new_mdb volume)) (replicate 350 0), length-mdb_bytes (new_mdb volume) (mdb-value volume ok), length-replicate {A = ℕ} 350 0)
 
 -- the block's fields are those of the new volume
-pub mdb_of-new : (volume : Layout) → IsNewVolume volume → mdb_of (take 162 (mdb_bytes (new_mdb volume))) ≡ new_mdb volume
-mdb_of-new volume ok =
-    mdb_of-bytes (new_mdb volume) (volume-fields volume ok) (count-fields volume ok) (file-fields volume ok) (length-fields volume ok)
+pub mdb_of-new : (volume : Layout) → IsNewVolume volume → mdb_of (take 162 (new_mdb_block volume)) ≡ new_mdb volume
+unfolding new_mdb_block
+mdb_of-new volume ok = mdb_of-first (new_mdb volume) (replicate 350 0) (mdb-value volume ok)

@@ -7,14 +7,14 @@ use Rattle.std.proofs.lemmas.List.Concat.{length-flat_map}
 use Rattle.std.proofs.lemmas.List.Sums.{sum_by-cons, sum_by_more}
 use Rattle.byteorder.specs.Endian.{big_bytes}
 use Rattle.hfs_fields.specs.Laid.{number-read}
-use Rattle.hfs_node.specs.Kind.{kind_of}
+use Rattle.hfs_node.specs.Kind.{kind_of-byte_of}
 use Rattle.hfs_node.specs.declared.kind.NodeKind.{NodeKind}
 use Rattle.hfs_node.specs.declared.kind.NodeKind.TheVariants.{Index, Header, Map, Leaf}
 use Rattle.hfs_node.specs.declared.node.Node.{Node}
 use Rattle.hfs_node.specs.Node.{count_of, offset_of, node_of, start_of, size_of, Fits}
 use Rattle.hfs_node.specs.Laid.{HasHead}
 use Rattle.hfs_node.specs.ReadBack.{start-room, few-records, size_of-lengths, node_of-encoded}
-use Rattle.hfs_check.specs.NewTrees.{type_byte, descriptor_bytes, offsets_down, offset_bytes, node_bytes}
+use Rattle.hfs_check.specs.NewTrees.{descriptor_bytes, offsets_down, offset_bytes, node_bytes}
 
 -- what every node of a new volume keeps
 pub record IsNodeValue (node : Node) : Type 0 where
@@ -24,13 +24,6 @@ pub record IsNodeValue (node : Node) : Type 0 where
 
 -- ---- the descriptor
 
-kind_of-type_byte : (kind : NodeKind) → kind_of (type_byte kind) ≡ Some kind
-unfolding kind_of
-kind_of-type_byte Index = refl
-kind_of-type_byte Header = refl
-kind_of-type_byte Map = refl
-kind_of-type_byte Leaf = refl
-
 head-read : (node : Node) (rest : List ℕ) → IsNodeValue node → HasHead node (descriptor_bytes node ++ rest)
 unfolding descriptor_bytes count_of
 head-read node rest ok =
@@ -39,7 +32,7 @@ head-read node rest ok =
     record {
       forward = number-read 0 4 node.forward w _ refl ok.forward;
       backward = number-read 4 4 node.backward w _ refl ok.backward;
-      kind = kind_of-type_byte node.kind;
+      kind = kind_of-byte_of node.kind;
       height = refl;
       count = number-read 10 2 (length node.records) w _ refl (omega (arith, few));
     }

@@ -4,6 +4,7 @@ use Rattle.std.specs.Prelude.{◌↔◌, ◌%◌, ⊤, MatchResult, IfErr, Resul
 use Rattle.hfs_fields.specs.declared.mdb.Mdb.{Mdb}
 use Rattle.hfs_fields.specs.declared.extent.Extent.{Extent}
 use Rattle.std.proofs.lemmas.Bool.{le-leb, lt-leb}
+use Rattle.std.proofs.lemmas.Option.{none-some}
 use Rattle.hfs_btree.specs.Blocks.{block_at, block_count}
 use Rattle.hfs_btree.specs.Shape.{unless, ◌or_else◌, has_counts, shape_fault}
 use Rattle.hfs_btree.specs.Tree.{Store}
@@ -25,9 +26,6 @@ use Rattle.hfs_check.specs.Laws.{ExtentsFaults, CatalogFaults}
 use Rattle.hfs_check.specs.Trees.{LieIn}
 use Rattle.hfs_check.specs.Parts.{Blocks, mdb_in, extents_nodes, overflow_in, catalog_extents, catalog_nodes, catalog_in, owned_in}
 use Rattle.hfs_check.specs.Answers.{IsFaultOf, extents_tree_fault, contents_fault, behind_trees_fault}
-
-some_none : {A : Type 0} (x : A) → Some x ≡ None → ⊥
-some_none x e = cc
 
 -- what a check answers whose place this is
 abbrev pub Answers : ℕ → Option ℕ → Result ⊤ MountFault → Type 0
@@ -93,7 +91,7 @@ later-fault a b answer none h = subst (λ (o : Option MountFault). IsFaultOf (o 
 
 pub none-parts : (a b : Option MountFault) → (a or_fault b) ≡ None → (a ≡ None) × (b ≡ None)
 none-parts None b e = (refl, e)
-none-parts (Some x) b e = absurd (some_none x e)
+none-parts (Some x) b e = absurd (none-some x (sym e))
 
 pub no-fault : (a b : Option MountFault) → a ≡ None → b ≡ None → (a or_fault b) ≡ None
 no-fault a b none e = ap (λ (o : Option MountFault). o or_fault b) none ∙ e
@@ -136,7 +134,7 @@ module _ (blocks : Blocks) (mdb : Mdb) (is : mdb ≡ mdb_in blocks) where
 -- no place is no fault
 pub no-place : (number : ℕ) (place : Option ℕ) → check_fault number place ≡ None → place ≡ None
 no-place number None e = refl
-no-place number (Some place) e = absurd (some_none _ e)
+no-place number (Some place) e = absurd (none-some _ (sym e))
 
 -- a check of the extents tree that finds nothing shows that it is sound
 pub extents_tree_sound : ExtentsFaults → (blocks : Blocks) (mdb : Mdb) → check_fault 3 (extents_fault (extents_counts blocks) mdb (extents_nodes blocks)) ≡ None

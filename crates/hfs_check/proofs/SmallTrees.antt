@@ -8,9 +8,8 @@ use Rattle.hfs_btree.specs.Pairs.{Each, Rises}
 use Rattle.hfs_btree.specs.Tree.{Store, Spot, node_in, records_of, pair_of, pairs, turn, last_level, first_of, last_of}
 use Rattle.hfs_btree.specs.Header.{header_in, own_nodes, leaves, tree_content, tree_turn, tree_nodes}
 use Rattle.hfs_btree.specs.Sound.{IsDistinct, IsRight, HasLevels, HasEnds, HasStructure, HasCounts, IsWithinFile, IsShaped, AreKeysInOrder, IsOrdered, IsSound}
-use Rattle.hfs_check.specs.declared.tree_header.TreeHeader.{TreeHeader}
 use Rattle.hfs_check.specs.NewTrees.{empty_tree, one_leaf_tree, header_node, lone_leaf}
-use Rattle.hfs_check.proofs.HeaderRead.{IsHeaderValue, header_value, header_in-new, map_nodes-new, is_marked-new, free_nodes-new, has_header-new, has_map-new}
+use Rattle.hfs_check.proofs.HeaderRead.{IsHeaderValue, header_in-new, map_nodes-new, is_marked-new, free_nodes-new, has_header-new, has_map-new}
 
 -- ---- a tree without a leaf
 
@@ -22,7 +21,7 @@ pub record HoldsNoLeaf {K : Type 0} (g : Ghosts K) (count : ℕ) (nodes : Store)
   pub header : node_in nodes 0 ≡ Ok (header_node (empty_tree g.INDEX_KEY_LEN count))
 
 module _ {K : Type 0} (g : Ghosts K) (count : ℕ) (nodes : Store) (holds : HoldsNoLeaf g count nodes) where
-  abbrev no_leaf : TreeHeader
+  abbrev no_leaf : Header
   no_leaf = empty_tree g.INDEX_KEY_LEN count
 
   no_leaf-value : IsHeaderValue no_leaf
@@ -41,7 +40,7 @@ module _ {K : Type 0} (g : Ghosts K) (count : ℕ) (nodes : Store) (holds : Hold
         free_nodes = omega arith;
       }
 
-  no_leaf-header : header_in nodes ≡ header_value no_leaf
+  no_leaf-header : header_in nodes ≡ no_leaf
   no_leaf-header = header_in-new nodes no_leaf no_leaf-value holds.header
 
   pub no_leaf-turn : tree_turn g nodes ≡ []
@@ -99,9 +98,6 @@ module _ {K : Type 0} (g : Ghosts K) (count : ℕ) (nodes : Store) (holds : Hold
     keys = subst (Each (λ spot. AreKeysInOrder g nodes spot.above spot.n)) (sym no_leaf-turn) tt;
   }
 
-  pub no_leaf-sound : IsSound g nodes
-  no_leaf-sound = record { structure = no_leaf-structure; counts = no_leaf-counts; ordered = no_leaf-ordered }
-
 -- ---- a tree of one leaf
 
 -- the nodes of a file of so many begin with the header node of a tree of one leaf, and with that leaf, whose records are in order
@@ -117,7 +113,7 @@ pub record HoldsOneLeaf {K : Type 0} (g : Ghosts K) (count : ℕ) (records : Lis
   pub leaf : node_in nodes 1 ≡ Ok (lone_leaf records)
 
 module _ {K : Type 0} (g : Ghosts K) (count : ℕ) (records : List (List ℕ)) (nodes : Store) (holds : HoldsOneLeaf g count records nodes) where
-  abbrev one_leaf : TreeHeader
+  abbrev one_leaf : Header
   one_leaf = one_leaf_tree g.INDEX_KEY_LEN count (length records)
 
   one_leaf-value : IsHeaderValue one_leaf
@@ -136,7 +132,7 @@ module _ {K : Type 0} (g : Ghosts K) (count : ℕ) (records : List (List ℕ)) (
         free_nodes = omega arith;
       }
 
-  one_leaf-header : header_in nodes ≡ header_value one_leaf
+  one_leaf-header : header_in nodes ≡ one_leaf
   one_leaf-header = header_in-new nodes one_leaf one_leaf-value holds.header
 
   abbrev pub the_spot : Spot
@@ -220,6 +216,3 @@ module _ {K : Type 0} (g : Ghosts K) (count : ℕ) (records : List (List ℕ)) (
     rises = subst (Rises g.compare) (sym one_leaf-content) holds.rises;
     keys = subst (Each (λ spot. AreKeysInOrder g nodes spot.above spot.n)) (sym one_leaf-turn) (tt, tt);
   }
-
-  pub one_leaf-sound : IsSound g nodes
-  one_leaf-sound = record { structure = one_leaf-structure; counts = one_leaf-counts; ordered = one_leaf-ordered }

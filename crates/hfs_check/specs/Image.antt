@@ -4,8 +4,7 @@ use Rattle.std.specs.List.{flat_map, range_with_len}
 use Rattle.hfs_check.specs.declared.plan.FormatPlan.{FormatPlan}
 use Rattle.hfs_check.specs.declared.layout.Layout.{Layout}
 use Rattle.hfs_check.specs.Plan.{layout_of, used_blocks}
-use Rattle.hfs_check.specs.MdbBytes.{mdb_bytes}
-use Rattle.hfs_check.specs.NewMdb.{new_mdb}
+use Rattle.hfs_check.specs.NewMdb.{new_mdb_block}
 use Rattle.hfs_check.specs.BitRow.{bit_row}
 use Rattle.hfs_check.specs.NewTrees.{empty_tree, one_leaf_tree, header_node, root_leaf, node_bytes}
 
@@ -27,7 +26,7 @@ catalog_start volume = volume.start + volume.extents.nodes
 -- block k of the volume
 unfoldable pub new_block : Layout → ℕ → List ℕ
 new_block volume k =
-    if is_mdb_block volume k then mdb_bytes (new_mdb volume)
+    if is_mdb_block volume k then new_mdb_block volume
     else (if is_bitmap_block volume k then bit_row (used_blocks volume) (512 * (k - 3)) 512
     else (if k == extents_start volume then node_bytes (header_node (empty_tree 7 volume.extents.nodes))
     else (if k == catalog_start volume then node_bytes (header_node (one_leaf_tree 37 volume.catalog.nodes 2))

@@ -1,5 +1,4 @@
 pub mod Plan
-pub mod MdbBytes
 pub mod NewMdb
 pub mod BitRow
 pub mod NewTrees

@@ -1,5 +1,6 @@
 -- The master directory block of a new volume.
 use Rattle.std.specs.Prelude.{ℕ, ◌-◌, ◌*◌, List, [], ◌∷◌, ◌++◌, length, replicate}
+use Rattle.hfs_fields.specs.MdbForm.{mdb_bytes}
 use Rattle.hfs_fields.specs.declared.extent.Extent.{Extent}
 use Rattle.hfs_fields.specs.declared.mdb.Mdb.{Mdb}
 use Rattle.hfs_check.specs.declared.layout.Layout.{Layout}
@@ -50,3 +51,7 @@ new_mdb volume = record {
   catalog_file_size = 512 * volume.catalog.nodes;
   catalog_file = one_run volume.extents.blocks volume.catalog.blocks;
 }
+
+-- the block: its fields, and zeros behind them
+unfoldable pub new_mdb_block : Layout → List ℕ
+new_mdb_block volume = mdb_bytes (new_mdb volume) ++ replicate 350 0

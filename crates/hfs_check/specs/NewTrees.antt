@@ -7,26 +7,20 @@ use Rattle.hfs_fields.specs.Records.{new_dir, new_thread}
 use Rattle.hfs_fields.specs.RecordForms.{dir_record_bytes, thread_record_bytes}
 use Rattle.hfs_fields.specs.declared.dir_record.DirRecord.{DirRecord}
 use Rattle.hfs_fields.specs.declared.thread_record.ThreadKind.TheVariants.{Folder}
+use Rattle.hfs_node.specs.Kind.{byte_of}
 use Rattle.hfs_node.specs.Node.{size_of, start_of}
-use Rattle.hfs_node.specs.declared.kind.NodeKind.{NodeKind}
-use Rattle.hfs_node.specs.declared.kind.NodeKind.TheVariants.{Index, Header, Map, Leaf}
+use Rattle.hfs_node.specs.declared.kind.NodeKind.TheVariants.{Header, Leaf}
 use Rattle.hfs_node.specs.declared.node.Node.{Node}
+use Rattle.hfs_btree.specs.declared.header.Header.{Header as TreeHeader}
 use Rattle.hfs_check.specs.declared.layout.Layout.{Layout}
-use Rattle.hfs_check.specs.declared.tree_header.TreeHeader.{TreeHeader}
 use Rattle.hfs_check.specs.BitRow.{bit_row}
 
 -- ---- a node's bytes
 
-abbrev pub type_byte : NodeKind → ℕ
-type_byte Index = 0
-type_byte Header = 1
-type_byte Map = 2
-type_byte Leaf = 255
-
 -- the descriptor, 14 bytes
 unfoldable pub descriptor_bytes : Node → List ℕ
 descriptor_bytes node =
-    big_bytes 4 node.forward ++ big_bytes 4 node.backward ++ type_byte node.kind ∷ node.height ∷ [] ++ big_bytes 2 (length node.records) ++ replicate 2 0
+    big_bytes 4 node.forward ++ big_bytes 4 node.backward ++ byte_of node.kind ∷ node.height ∷ [] ++ big_bytes 2 (length node.records) ++ replicate 2 0
 
 -- where record k begins, the record before it, and so on to the first
 unfoldable pub offsets_down : List (List ℕ) → ℕ → List ℕ

@@ -2,7 +2,7 @@
 ghost use Rattle.std.specs.Prelude.{◌≡◌, ◌+◌, ◌<◌, ◌≤◌, ◌++◌, length};
 ghost use Rattle.hfs_check.specs.BitRow.{bit_row_byte, bit_row};
 
-use crate::block_row::BlockRow;
+use hfs_fields::FieldRow;
 
 /// Byte `j` of a row of bits of which the first `set` are set. The most significant bit of byte 0 is the first bit.
 #[tactic(auto, using(crate::proofs::FirstBits::left_over), unfolding(crate::specs::BitRow::bit_row_byte))]
@@ -16,7 +16,7 @@ fn bit_row_byte(set: u32, j: u32) -> u8
 
 /// Lays `count` bytes of a row of bits of which the first `set` are set, from byte `first` on.
 #[tactic(auto, unfolding(crate::specs::BitRow::bit_row))]
-pub fn push_bits(row: &mut BlockRow, set: u32, first: u32, count: u32)
+pub fn push_bits(row: &mut FieldRow, set: u32, first: u32, count: u32)
     requires room { length row.old + count ≤ 512 }
     requires few { first + count < 65536 }
     ensures bytes { row.new ≡ row.old ++ bit_row set first count }

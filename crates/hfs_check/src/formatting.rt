@@ -8,14 +8,14 @@ ghost use Rattle.hfs_check.specs.Sound.{IsSound};
 ghost use Rattle.hfs_check.specs.VolumeOf.{volume_of};
 
 use crate::bit_row::push_bits;
-use crate::block_row::BlockRow;
 use crate::fault::FormatFault;
 use crate::format_laws::{new_images_are_sound, new_images_hold_new_volumes};
 use crate::layout::Layout;
 use crate::mdb_block::mdb_block;
 use crate::plan::FormatPlan;
 use crate::root_leaf::root_leaf_block;
-use crate::tree_header::{TreeHeader, header_block};
+use crate::tree_header::{empty_tree, header_block, one_leaf_tree};
+use hfs_fields::FieldRow;
 use std::alloc::{AllocError, Global};
 
 /// Block `k` of the bitmap, counted from 0: the files' allocation blocks are the first ones.
@@ -24,7 +24,7 @@ fn bitmap_block(volume: &Layout, k: u32) -> [u8; 512]
     ensures { result ≡ bit_row (used_blocks volume.now) (512 * k) 512 }
 {
     let used = volume.extents.blocks as u32 + volume.catalog.blocks as u32;
-    let mut row = BlockRow::new();
+    let mut row = FieldRow::new();
     push_bits(&mut row, used, 512 * k, 512);
     row.into_block()
 }
@@ -43,9 +43,9 @@ fn new_block(volume: &Layout, k: u32) -> [u8; 512]
     } else if 3 <= k && k < extents_start {
         bitmap_block(volume, k - 3)
     } else if k == extents_start {
-        header_block(&TreeHeader::empty(7, volume.extents.nodes))
+        header_block(&empty_tree(7, volume.extents.nodes))
     } else if k == catalog_start {
-        header_block(&TreeHeader::one_leaf(37, volume.catalog.nodes, 2))
+        header_block(&one_leaf_tree(37, volume.catalog.nodes, 2))
     } else if k == catalog_start + 1 {
         root_leaf_block(volume)
     } else {

@@ -2,7 +2,6 @@
 #![tactic(auto)]
 
 mod bit_row;
-mod block_row;
 mod catalog_files;
 mod checking;
 mod fault;

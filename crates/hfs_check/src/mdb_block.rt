@@ -1,13 +1,9 @@
 //! The master directory block of a new volume (Inside Macintosh: Files, chapter 2, "Master Directory Blocks").
-ghost use Rattle.std.specs.Prelude.{◌≡◌, ◌+◌, ◌-◌, ◌≤◌, ◌++◌, length, replicate, take};
-ghost use Rattle.hfs_fields.specs.RecordForms.{AreExtentValues, extents_bytes};
+ghost use Rattle.std.specs.Prelude.{◌≡◌, ◌-◌, ◌≤◌, ◌++◌, length, replicate, take};
 ghost use Rattle.hfs_fields.specs.Mdb.{mdb_of};
-ghost use Rattle.hfs_check.specs.MdbBytes.{AreVolumeFields, AreCountFields, AreFileFields};
 ghost use Rattle.hfs_check.specs.Plan.{IsLayout};
-ghost use Rattle.hfs_check.specs.MdbBytes as bytes;
 ghost use Rattle.hfs_check.specs.NewMdb as spec;
 
-use crate::block_row::BlockRow;
 use crate::layout::Layout;
 use hfs_fields::{Extent, Mdb, Name, VolumeAttributes};
 
@@ -84,99 +80,14 @@ fn new_mdb(volume: &Layout) -> Mdb
     }
 }
 
-/// Bytes 0 to 63: what the volume is.
-#[tactic(auto, unfolding(crate::specs::MdbBytes::volume_field_bytes))]
-fn volume_fields(mdb: &Mdb) -> BlockRow
-    ensures bytes { result ≡ bytes.volume_field_bytes mdb.now }
-    ensures length { length result ≡ 64 }
-    ensures values { AreVolumeFields mdb.now }
-{
-    let mut row = BlockRow::new();
-    row.push_u16(mdb.signature);
-    row.push_u32(mdb.created);
-    row.push_u32(mdb.modified);
-    row.push_u16(mdb.attributes.0);
-    row.push_u16(mdb.root_files);
-    row.push_u16(mdb.bitmap_start);
-    row.push_u16(mdb.allocation_pointer);
-    row.push_u16(mdb.allocation_blocks);
-    row.push_u32(mdb.allocation_block_size);
-    row.push_u32(mdb.clump_size);
-    row.push_u16(mdb.allocation_start);
-    row.push_u32(mdb.next_id);
-    row.push_u16(mdb.free_blocks);
-    row.push(&mdb.volume_name);
-    row
-}
-
-/// Bytes 64 to 129: backups, clump sizes and counts.
-#[tactic(auto, unfolding(crate::specs::MdbBytes::count_field_bytes))]
-fn count_fields(mdb: &Mdb) -> BlockRow
-    ensures bytes { result ≡ bytes.count_field_bytes mdb.now }
-    ensures length { length result ≡ 66 }
-    ensures values { AreCountFields mdb.now }
-{
-    let mut row = BlockRow::new();
-    row.push_u32(mdb.backup);
-    row.push_u16(mdb.backup_sequence);
-    row.push_u32(mdb.write_count);
-    row.push_u32(mdb.extents_clump_size);
-    row.push_u32(mdb.catalog_clump_size);
-    row.push_u16(mdb.root_folders);
-    row.push_u32(mdb.files);
-    row.push_u32(mdb.folders);
-    row.push(&mdb.finder_info);
-    row.push_u16(mdb.cache_size);
-    row.push_u16(mdb.bitmap_cache_size);
-    row.push_u16(mdb.control_cache_size);
-    row
-}
-
-/// Lays an extent record.
-fn push_extents(row: &mut BlockRow, extents: &[Extent; 3])
-    requires { length row.old + 12 ≤ 512 }
-    ensures bytes { row.new ≡ row.old ++ extents_bytes extents.now }
-    ensures length { length row.new ≡ length row.old + 12 }
-    ensures values { AreExtentValues extents.now }
-{
-    let mut bytes = [0; 12];
-    Extent::write_record(extents, &mut bytes);
-    row.push(&bytes);
-}
-
-/// Bytes 130 to 161: the files of the two trees.
-#[tactic(auto, unfolding(crate::specs::MdbBytes::file_field_bytes))]
-fn file_fields(mdb: &Mdb) -> BlockRow
-    ensures bytes { result ≡ bytes.file_field_bytes mdb.now }
-    ensures length { length result ≡ 32 }
-    ensures values { AreFileFields mdb.now }
-{
-    let mut row = BlockRow::new();
-    row.push_u32(mdb.extents_file_size);
-    push_extents(&mut row, &mdb.extents_file);
-    row.push_u32(mdb.catalog_file_size);
-    push_extents(&mut row, &mdb.catalog_file);
-    row
-}
-
-/// A block with these fields, and zeros behind them.
-#[tactic(auto, unfolding(crate::specs::MdbBytes::mdb_bytes))]
-fn block_of(mdb: &Mdb) -> [u8; 512]
-    ensures bytes { result ≡ bytes.mdb_bytes mdb.now }
-    ensures back { mdb_of (take 162 result) ≡ mdb.now }
-{
-    let mut row = volume_fields(mdb);
-    row.push_row(&count_fields(mdb));
-    row.push_row(&file_fields(mdb));
-    row.push_zeros(350);
-    row.into_block()
-}
-
 /// The master directory block of a new volume, and its alternate.
+#[tactic(auto, unfolding(crate::specs::NewMdb::new_mdb_block))]
 pub fn mdb_block(volume: &Layout) -> [u8; 512]
     requires { IsLayout volume.now }
-    ensures bytes { result ≡ bytes.mdb_bytes (spec.new_mdb volume.now) }
+    ensures bytes { result ≡ spec.new_mdb_block volume.now }
     ensures back { mdb_of (take 162 result) ≡ spec.new_mdb volume.now }
 {
-    block_of(&new_mdb(volume))
+    let mut block = [0; 512];
+    new_mdb(volume).write(&mut block);
+    block
 }

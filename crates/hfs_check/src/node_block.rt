@@ -1,38 +1,27 @@
 //! The parts of a node without neighbours.
 ghost use Rattle.std.specs.Prelude.{◌≡◌, ◌+◌, ◌-◌, ◌≤◌, [], ◌∷◌, ◌++◌, length, replicate};
 ghost use Rattle.byteorder.specs.Endian.{big_bytes};
+ghost use Rattle.hfs_node.specs.Kind.{byte_of};
 ghost use Rattle.hfs_check.specs.NewTrees as spec;
 
-use crate::block_row::BlockRow;
+use hfs_fields::FieldRow;
 use hfs_node::NodeKind;
 
-/// The type byte of a kind.
-fn type_byte(kind: NodeKind) -> u8
-    ensures { result ≡ spec.type_byte kind }
-{
-    match kind {
-        NodeKind::Index => 0,
-        NodeKind::Header => 1,
-        NodeKind::Map => 2,
-        NodeKind::Leaf => 255,
-    }
-}
-
 /// The descriptor of a node without neighbours.
-pub fn descriptor(kind: NodeKind, height: u8, records: u16) -> BlockRow
-    ensures bytes { result ≡ replicate 8 0 ++ spec.type_byte kind ∷ height ∷ [] ++ big_bytes 2 records ++ replicate 2 0 }
+pub fn descriptor(kind: NodeKind, height: u8, records: u16) -> FieldRow
+    ensures bytes { result ≡ replicate 8 0 ++ byte_of kind ∷ height ∷ [] ++ big_bytes 2 records ++ replicate 2 0 }
     ensures length { length result ≡ 14 }
 {
-    let mut row = BlockRow::new();
+    let mut row = FieldRow::new();
     row.push_zeros(8);
-    row.push(&[type_byte(kind), height]);
+    row.push(&[kind.byte(), height]);
     row.push_u16(records);
     row.push_zeros(2);
     row
 }
 
 /// A leaf of two records.
-pub fn leaf_block(first: &BlockRow, second: &BlockRow) -> [u8; 512]
+pub fn leaf_block(first: &FieldRow, second: &FieldRow) -> [u8; 512]
     requires { length first.now + length second.now ≤ 492 }
     ensures { result ≡ spec.node_bytes (spec.lone_leaf (first.now ∷ second.now ∷ [])) }
 {

@@ -5,13 +5,12 @@ ghost use Rattle.hfs_fields.specs.RecordForms.{dir_record_bytes, thread_record_b
 ghost use Rattle.hfs_check.specs.Plan.{IsLayout};
 ghost use Rattle.hfs_check.specs.NewTrees as spec;
 
-use crate::block_row::BlockRow;
 use crate::layout::Layout;
 use crate::node_block::leaf_block;
-use hfs_fields::{CatKey, DirRecord, Name, ThreadKind, ThreadRecord};
+use hfs_fields::{CatKey, DirRecord, FieldRow, Name, ThreadKind, ThreadRecord};
 
 /// A key as it stands in a leaf.
-fn key_row(parent: u32, name: Name) -> BlockRow
+fn key_row(parent: u32, name: Name) -> FieldRow
     requires { length name ≤ 31 }
     ensures bytes { result ≡ cat_leaf_bytes (record { parent = parent; name = name }) }
     ensures length { length result ≤ 38 }
@@ -19,14 +18,14 @@ fn key_row(parent: u32, name: Name) -> BlockRow
     let key = CatKey { parent, name };
     let mut bytes = [0; 38];
     key.write(&mut bytes);
-    let mut row = BlockRow::new();
+    let mut row = FieldRow::new();
     row.push(&bytes[..key.leaf_length()]);
     row
 }
 
 /// The root folder's record: all its dates are the moment of the volume's making.
 #[tactic(auto, unfolding(crate::specs::NewTrees::root_record))]
-fn root_record(volume: &Layout) -> BlockRow
+fn root_record(volume: &Layout) -> FieldRow
     requires { IsLayout volume.now }
     ensures bytes { result ≡ spec.root_record volume.now }
     ensures length { length result ≤ 108 }
@@ -42,7 +41,7 @@ fn root_record(volume: &Layout) -> BlockRow
 
 /// The root folder's thread.
 #[tactic(auto, unfolding(crate::specs::NewTrees::root_thread))]
-fn root_thread(volume: &Layout) -> BlockRow
+fn root_thread(volume: &Layout) -> FieldRow
     requires { IsLayout volume.now }
     ensures bytes { result ≡ spec.root_thread volume.now }
     ensures length { length result ≤ 84 }

@@ -289,11 +289,6 @@ begins_file-written file rest ok =
     let long = le-leb 102 (length (file_record_bytes file ++ rest)) (omega (arith, whole, all)) in
     λ i. long i && ((file-head file rest).0 i == 2)
 
-pub is_file-written : (file : FileRecord) → IsFileRecordValue file → is_file (file_record_bytes file) ≡ true
-is_file-written file ok =
-    let first : slice_index (file_record_bytes file) 0 ≡ 2 = ap (λ (bytes : List ℕ). slice_index bytes 0) (sym (append-nil (file_record_bytes file))) ∙ (file-head file []).0 in
-    λ i. (first i == 2) && (length-file_record_bytes file ok i == 102)
-
 -- ---- a thread
 
 -- what the program's threads keep
@@ -382,15 +377,3 @@ begins_thread-written thread rest ok =
     λ i. long i && kind i && short i
 
 -- ---- bodies of exactly a record's length
-
-pub begins_dir-body : (body : List ℕ) → is_dir body ≡ true → begins_dir body ≡ true
-unfolding begins_dir
-begins_dir-body body h = grind (arith, nat_tests)
-
-pub begins_file-body : (body : List ℕ) → is_file body ≡ true → begins_file body ≡ true
-unfolding begins_file
-begins_file-body body h = grind (arith, nat_tests)
-
-pub begins_thread-body : (body : List ℕ) → is_thread body ≡ true → has_short_name body ≡ true → begins_thread body ≡ true
-unfolding begins_thread
-begins_thread-body body h k = grind (arith, nat_tests)

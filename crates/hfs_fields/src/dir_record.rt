@@ -4,31 +4,32 @@ ghost use Rattle.std.specs.Option.{SomeIff};
 ghost use Rattle.hfs_fields.specs.Records.{begins_dir, dir_record_of, new_dir};
 ghost use Rattle.hfs_fields.specs.RecordForms.{IsDirRecordValue, dir_record_bytes};
 
-use crate::extent::{array_at, u16_at, u32_at};
+use crate::extent::array_at;
 use crate::field_row::FieldRow;
+use crate::numbers::{u16_at, u32_at};
 
 /// A folder's record, 70 bytes (Inside Macintosh: Files, chapter 2, "Catalog file data records").
 #[derive(Clone, Copy, Debug, PartialEq, Eq)]
 pub struct DirRecord {
-    /// cdrResrv2
+    /// cdrResrv2: kept as it is.
     pub reserved: u8,
-    /// dirFlags
+    /// dirFlags: kept as they are.
     pub flags: u16,
     /// dirVal: how many items the folder has.
     pub valence: u16,
-    /// dirDirID
+    /// dirDirID: the folder's ID.
     pub id: u32,
-    /// dirCrDat, in seconds since midnight of 1 January 1904.
+    /// dirCrDat: when it was made, in seconds since midnight of 1 January 1904.
     pub created: u32,
-    /// dirMdDat
+    /// dirMdDat: when it was last changed, in the same seconds.
     pub modified: u32,
-    /// dirBkDat
+    /// dirBkDat: when it was last backed up, in the same seconds.
     pub backup: u32,
-    /// dirUsrInfo (DInfo)
+    /// dirUsrInfo (DInfo): what the Finder keeps.
     pub finder_info: [u8; 16],
-    /// dirFndrInfo (DXInfo)
+    /// dirFndrInfo (DXInfo): what else the Finder keeps.
     pub extended_finder_info: [u8; 16],
-    /// dirResrv
+    /// dirResrv: kept as it is.
     pub reserved_area: [u8; 16],
 }
 
@@ -76,6 +77,7 @@ impl DirRecord {
             reserved_area: array_at(bytes, 54),
         })
     }
+
     /// The record's fields, one behind the other.
     #[tactic(auto, unfolding(crate::specs::RecordForms::dir_record_bytes))]
     fn laid(&self) -> FieldRow

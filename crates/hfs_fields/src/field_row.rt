@@ -1,15 +1,15 @@
-//! The bytes of a record while its fields are laid one behind the other.
-ghost use Rattle.std.specs.Prelude.{◌≡◌, ◌+◌, ◌^◌, ◌<◌, ◌≤◌, [], ◌∷◌, ◌++◌, length, drop, replicate};
+//! The bytes of a record or a block while its fields are laid one behind the other.
+ghost use Rattle.std.specs.Prelude.{◌≡◌, ◌+◌, ◌^◌, ◌<◌, ◌≤◌, ◌↔◌, [], ◌∷◌, ◌++◌, length, drop, replicate, IsTrue};
 ghost use Rattle.byteorder.specs.Endian.{big_bytes};
 
 use byteorder::{BigEndian, ByteOrder};
 use std::marker::Model;
 
-/// The fields that are laid so far, at most 162 bytes, as many as a master directory block has. It takes no memory.
+/// The fields that are laid so far, one behind the other: at most the 512 bytes of a block. It takes no memory.
 #[derive(Drop)]
-pub(crate) struct FieldRow {
+pub struct FieldRow {
     length: usize,
-    bytes: [u8; 162],
+    bytes: [u8; 512],
 }
 
 impl Model for FieldRow {
@@ -19,22 +19,37 @@ impl Model for FieldRow {
 
     ghost view = { λ row. take row.length row.bytes };
 
-    ghost invariant = { λ row. row.length ≤ 162 };
+    ghost invariant = { λ row. row.length ≤ 512 };
 }
 
 impl FieldRow {
-    pub(crate) fn new() -> FieldRow
+    /// A row without a field.
+    pub fn new() -> FieldRow
         ensures { result ≡ [] }
     {
         FieldRow {
             length: 0,
-            bytes: [0; 162],
+            bytes: [0; 512],
         }
     }
 
+    /// How many bytes are laid.
+    pub fn len(&self) -> usize
+        ensures { result ≡ length self.now }
+    {
+        self.length
+    }
+
+    /// Whether no byte is laid.
+    pub fn is_empty(&self) -> bool
+        ensures { IsTrue result ↔ (self.now ≡ []) }
+    {
+        self.length == 0
+    }
+
     /// Lays bytes.
-    pub(crate) fn push(&mut self, field: &[u8])
-        requires { length self.old + length field.now ≤ 162 }
+    pub fn push(&mut self, field: &[u8])
+        requires { length self.old + length field.now ≤ 512 }
         ensures bytes { self.new ≡ self.old ++ field.now }
         ensures length { length self.new ≡ length self.old + length field.now }
     {
@@ -45,8 +60,8 @@ impl FieldRow {
     }
 
     /// Lays a number of one byte.
-    pub(crate) fn push_u8(&mut self, field: u8)
-        requires { length self.old + 1 ≤ 162 }
+    pub fn push_u8(&mut self, field: u8)
+        requires { length self.old + 1 ≤ 512 }
         ensures bytes { self.new ≡ self.old ++ field ∷ [] }
         ensures length { length self.new ≡ length self.old + 1 }
         ensures range { field < 256 }
@@ -55,8 +70,8 @@ impl FieldRow {
     }
 
     /// Lays a number of two bytes.
-    pub(crate) fn push_u16(&mut self, field: u16)
-        requires { length self.old + 2 ≤ 162 }
+    pub fn push_u16(&mut self, field: u16)
+        requires { length self.old + 2 ≤ 512 }
         ensures bytes { self.new ≡ self.old ++ big_bytes 2 field }
         ensures length { length self.new ≡ length self.old + 2 }
         ensures range { field < 2 ^ 16 }
@@ -67,8 +82,8 @@ impl FieldRow {
     }
 
     /// Lays a number of four bytes.
-    pub(crate) fn push_u32(&mut self, field: u32)
-        requires { length self.old + 4 ≤ 162 }
+    pub fn push_u32(&mut self, field: u32)
+        requires { length self.old + 4 ≤ 512 }
         ensures bytes { self.new ≡ self.old ++ big_bytes 4 field }
         ensures length { length self.new ≡ length self.old + 4 }
         ensures range { field < 2 ^ 32 }
@@ -78,20 +93,19 @@ impl FieldRow {
         self.push(&bytes);
     }
 
-    /// Lays zero bytes.
-    pub(crate) fn push_zeros(&mut self, count: usize)
-        requires room { length self.old + count ≤ 162 }
-        requires few { count ≤ 31 }
+    /// Lays so many zero bytes.
+    pub fn push_zeros(&mut self, count: usize)
+        requires { length self.old + count ≤ 512 }
         ensures bytes { self.new ≡ self.old ++ replicate count 0 }
         ensures length { length self.new ≡ length self.old + count }
     {
-        let zeros = [0; 31];
+        let zeros = [0; 512];
         self.push(&zeros[..count]);
     }
 
     /// Lays the fields of another row.
-    pub(crate) fn push_row(&mut self, fields: &FieldRow)
-        requires { length self.old + length fields.now ≤ 162 }
+    pub fn push_row(&mut self, fields: &FieldRow)
+        requires { length self.old + length fields.now ≤ 512 }
         ensures bytes { self.new ≡ self.old ++ fields.now }
         ensures length { length self.new ≡ length self.old + length fields.now }
     {
@@ -99,11 +113,19 @@ impl FieldRow {
     }
 
     /// Writes what is laid to the beginning of the bytes.
-    pub(crate) fn copy_to(&self, bytes: &mut [u8])
+    pub fn copy_to(&self, bytes: &mut [u8])
         requires { length self.now ≤ length bytes.old }
         ensures { bytes.new ≡ self.now ++ drop (length self.now) bytes.old }
     {
         let row = &self.bytes[..self.length];
         bytes[..row.len()].copy_from_slice(row);
+    }
+
+    /// The bytes of a block whose fields are all laid.
+    pub fn into_block(self) -> [u8; 512]
+        requires { length self ≡ 512 }
+        ensures { result ≡ self }
+    {
+        self.bytes
     }
 }

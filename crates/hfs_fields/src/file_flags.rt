@@ -4,7 +4,7 @@ ghost use Rattle.hfs_fields.specs.Records.{is_bit_set, with_bit};
 
 use bitflags::{Flag, Flags, bitflag_items};
 
-/// filFlags. Bits without a name are kept as they are.
+/// The flags of a file (filFlags). Bits without a name are kept as they are.
 #[derive(Clone, Copy, PartialEq, Eq, Debug)]
 pub struct FileFlags(pub u8);
 

@@ -4,9 +4,10 @@ ghost use Rattle.std.specs.Option.{SomeIff};
 ghost use Rattle.hfs_fields.specs.Records.{begins_file, file_record_of, fork_at, empty_fork, new_file};
 ghost use Rattle.hfs_fields.specs.RecordForms.{IsFileRecordValue, fork_bytes, file_record_bytes};
 
-use crate::extent::{Extent, array_at, extents_at, laid_extents, u16_at, u32_at};
+use crate::extent::{Extent, array_at, extents_at, laid_extents};
 use crate::field_row::FieldRow;
 use crate::file_flags::FileFlags;
+use crate::numbers::{u16_at, u32_at};
 use bitflags::Flags;
 
 /// What a file's record has of one fork.
@@ -25,29 +26,31 @@ pub struct ForkRecord {
 /// A file's record, 102 bytes (Inside Macintosh: Files, chapter 2, "Catalog file data records").
 #[derive(Clone, Copy, Debug, PartialEq, Eq)]
 pub struct FileRecord {
-    /// cdrResrv2
+    /// cdrResrv2: kept as it is.
     pub reserved: u8,
-    /// filFlags
+    /// filFlags: the lock, and whether the file has a thread.
     pub flags: FileFlags,
-    /// filTyp
+    /// filTyp: kept as it is.
     pub file_type: u8,
     /// filUsrWds (FInfo): type 4, creator 4, Finder flags 2, location 4, folder 2.
     pub finder_info: [u8; 16],
-    /// filFlNum
+    /// filFlNum: the file's ID.
     pub id: u32,
+    /// The data fork.
     pub data: ForkRecord,
+    /// The resource fork.
     pub resource: ForkRecord,
-    /// filCrDat, in seconds since midnight of 1 January 1904.
+    /// filCrDat: when it was made, in seconds since midnight of 1 January 1904.
     pub created: u32,
-    /// filMdDat
+    /// filMdDat: when it was last changed, in the same seconds.
     pub modified: u32,
-    /// filBkDat
+    /// filBkDat: when it was last backed up, in the same seconds.
     pub backup: u32,
-    /// filFndrInfo (FXInfo)
+    /// filFndrInfo (FXInfo): what else the Finder keeps.
     pub extended_finder_info: [u8; 16],
-    /// filClpSize
+    /// filClpSize: the bytes that the file grows by, 0 where it says nothing.
     pub clump_size: u16,
-    /// filResrv
+    /// filResrv: kept as it is.
     pub reserved_area: [u8; 4],
 }
 
@@ -141,6 +144,7 @@ impl FileRecord {
             reserved_area: array_at(bytes, 98),
         })
     }
+
     /// The record's fields, one behind the other.
     #[tactic(auto, unfolding(crate::specs::RecordForms::file_record_bytes))]
     fn laid(&self) -> FieldRow

@@ -5,9 +5,9 @@ ghost use Rattle.hfs_fields.specs.Keys.{key_len, name_len, name_at, is_cat_key, 
 ghost use Rattle.hfs_fields.specs.KeyForms.{IsCatKeyValue, cat_leaf_bytes, cat_index_record, IsExtKeyValue, ext_key_bytes, ext_index_record};
 ghost use Rattle.byteorder.specs.Endian.{big_bytes};
 
-use crate::extent::{u16_at, u32_at};
 use crate::field_row::FieldRow;
 use crate::name::Name;
+use crate::numbers::{u16_at, u32_at};
 use std::cmp::Ordering;
 
 /// The key of a catalog record (Inside Macintosh: Files, chapter 2, "Catalog file keys").

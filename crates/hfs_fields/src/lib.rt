@@ -10,14 +10,17 @@ mod file_record;
 mod key;
 mod mdb;
 mod name;
+mod numbers;
 mod thread_record;
 
 pub use crate::attributes::VolumeAttributes;
 pub use crate::dir_record::DirRecord;
 pub use crate::extent::Extent;
+pub use crate::field_row::FieldRow;
 pub use crate::file_flags::FileFlags;
 pub use crate::file_record::{FileRecord, ForkRecord};
 pub use crate::key::{CatKey, ExtKey, cat_key_order_laws, ext_key_order_laws};
 pub use crate::mdb::Mdb;
 pub use crate::name::{Name, is_item_name, name_order_laws, same_name};
+pub use crate::numbers::{put, put_u16, put_u32, u16_at, u32_at};
 pub use crate::thread_record::{ThreadKind, ThreadRecord};

@@ -4,25 +4,29 @@ ghost use Rattle.std.specs.Option.{SomeIff};
 ghost use Rattle.hfs_fields.specs.Records.{begins_thread, thread_record_of, thread_kind_of, new_thread};
 ghost use Rattle.hfs_fields.specs.RecordForms.{IsThreadRecordValue, thread_type, thread_record_bytes};
 
-use crate::extent::{array_at, u32_at};
+use crate::extent::array_at;
 use crate::field_row::FieldRow;
 use crate::key::name_at;
 use crate::name::Name;
+use crate::numbers::u32_at;
 
-/// Whose thread it is: type 3 is a folder's, type 4 a file's.
+/// Whose thread it is.
 #[derive(Clone, Copy, Debug, PartialEq, Eq)]
 pub enum ThreadKind {
+    /// Type 3: a folder's thread.
     Folder,
+    /// Type 4: a file's thread.
     File,
 }
 
 /// A thread record, 46 bytes (Inside Macintosh: Files, chapter 2, "Catalog file data records").
 #[derive(Clone, Copy)]
 pub struct ThreadRecord {
+    /// cdrType: whose thread it is.
     pub kind: ThreadKind,
-    /// cdrResrv2
+    /// cdrResrv2: kept as it is.
     pub reserved: u8,
-    /// thdResrv
+    /// thdResrv: kept as it is.
     pub reserved_area: [u8; 8],
     /// thdParID: the ID of the item's folder.
     pub parent: u32,

@@ -3,9 +3,6 @@ use Rattle.std.proofs.Common.{◌≡◌, ℕ, zero, suc, ◌+◌, ◌<◌, Bool,
 use Rattle.std.proofs.lemmas.Bool.{and_parts, and_left, and_right, and_from, cases_eq}
 use Rattle.hfs_node.specs.Node.{each_below}
 
-pub each_below-more : (test : ℕ → Bool) (n : ℕ) → each_below n test ≡ true → test n ≡ true → each_below (n + 1) test ≡ true
-each_below-more test n h t = let m : n + 1 ≡ suc n = omega arith in rw m (and_from _ _ h t)
-
 pub each_below-at : (test : ℕ → Bool) (n k : ℕ) → each_below n test ≡ true → k < n → test k ≡ true
 each_below-at test zero k h lt = absurd (omega arith)
 each_below-at test (suc n) k h lt =

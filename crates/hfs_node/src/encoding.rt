@@ -1,56 +1,11 @@
 //! A node that is written to its bytes.
 ghost use Rattle.std.specs.Prelude.{◌≡◌, ◌+◌, ◌*◌, ◌-◌, ◌<◌, ◌≤◌, ℕ, Ok, Some, length, slice_index};
-ghost use Rattle.byteorder.specs.Endian.{big_bytes};
-ghost use Rattle.hfs_fields.specs.Puts.{IsPut};
-ghost use Rattle.hfs_node.specs.Kind.{kind_of};
 ghost use Rattle.hfs_node.specs.Node.{node_of, offset_of, size_of, start_of, Fits};
 ghost use Rattle.hfs_node.specs.Laid.{HasHead, AreLaid, SameHead, IsClear, IsZeroFrom};
 
-use crate::kind::NodeKind;
 use crate::node::{BLANK_NODE, Node};
 use crate::records::Records;
-use byteorder::{BigEndian, ByteOrder};
-
-/// Writes bytes at a place.
-fn put(out: &mut [u8; 512], at: usize, bytes: &[u8])
-    requires { at + length bytes.now ≤ 512 }
-    ensures { IsPut at bytes.now out.old out.new }
-{
-    out[at..at + bytes.len()].copy_from_slice(bytes);
-}
-
-/// Writes a number of two bytes at a place.
-fn put_short(out: &mut [u8; 512], at: usize, value: u16)
-    requires { at ≤ 510 }
-    ensures { IsPut at (big_bytes 2 value) out.old out.new }
-{
-    let mut bytes = [0; 2];
-    BigEndian::write_u16(&mut bytes, value);
-    put(out, at, &bytes);
-}
-
-/// Writes a number of four bytes at a place.
-fn put_long(out: &mut [u8; 512], at: usize, value: u32)
-    requires { at ≤ 508 }
-    ensures { IsPut at (big_bytes 4 value) out.old out.new }
-{
-    let mut bytes = [0; 4];
-    BigEndian::write_u32(&mut bytes, value);
-    put(out, at, &bytes);
-}
-
-/// The type byte of a kind.
-#[tactic(auto, unfolding(crate::specs::Kind::kind_of))]
-fn kind_byte(kind: NodeKind) -> u8
-    ensures { kind_of result ≡ Some kind }
-{
-    match kind {
-        NodeKind::Index => 0,
-        NodeKind::Header => 1,
-        NodeKind::Map => 2,
-        NodeKind::Leaf => 255,
-    }
-}
+use hfs_fields::{put, put_u16, put_u32};
 
 /// Writes the descriptor but its reserved bytes.
 fn put_head(node: &Node, out: &mut [u8; 512])
@@ -58,10 +13,10 @@ fn put_head(node: &Node, out: &mut [u8; 512])
     ensures head { HasHead node.now out.new }
     ensures rest { (k : ℕ) → 12 ≤ k → slice_index out.new k ≡ slice_index out.old k }
 {
-    put_long(out, 0, node.forward);
-    put_long(out, 4, node.backward);
-    put(out, 8, &[kind_byte(node.kind), node.height]);
-    put_short(out, 10, node.records.len() as u16);
+    put_u32(out, 0, node.forward);
+    put_u32(out, 4, node.backward);
+    put(out, 8, &[node.kind.byte(), node.height]);
+    put_u16(out, 10, node.records.len() as u16);
 }
 
 /// Writes record `i` at its place, and its offset. Answers where the next one begins.
@@ -77,7 +32,7 @@ fn put_record(records: &Records, i: usize, at: usize, out: &mut [u8; 512]) -> us
     ensures clear { IsZeroFrom (start_of records.now (i + 1)) (510 - 2 * i) out.new }
 {
     let record = records.record(i);
-    put_short(out, 510 - 2 * i, at as u16);
+    put_u16(out, 510 - 2 * i, at as u16);
     put(out, at, record);
     at + record.len()
 }
@@ -95,7 +50,7 @@ fn put_records(records: &Records, out: &mut [u8; 512])
     for i in 0..records.len() {
         at = put_record(records, i, at, out);
     }
-    put_short(out, 510 - 2 * records.len(), at as u16);
+    put_u16(out, 510 - 2 * records.len(), at as u16);
 }
 
 /// Writes a node that fits: the records one after the other from byte 14 on, their offsets and that of

@@ -1,6 +1,6 @@
 //! The four types of nodes.
 ghost use Rattle.std.specs.Prelude.{◌≡◌, Some};
-ghost use Rattle.hfs_node.specs.Kind.{kind_of};
+ghost use Rattle.hfs_node.specs.Kind.{kind_of, byte_of};
 
 /// What a node is for: ndType of Inside Macintosh: Files, chapter 2, "B*-Trees".
 #[derive(Clone, Copy, Debug, PartialEq, Eq)]
@@ -26,5 +26,21 @@ pub(crate) fn kind_from(byte: u8) -> Option<NodeKind>
         2 => Some(NodeKind::Map),
         255 => Some(NodeKind::Leaf),
         _ => None,
+    }
+}
+
+impl NodeKind {
+    /// The type byte of the kind (ndType).
+    #[tactic(auto, unfolding(crate::specs::Kind::kind_of))]
+    pub fn byte(self) -> u8
+        ensures byte { result ≡ byte_of self }
+        ensures back { kind_of result ≡ Some self }
+    {
+        match self {
+            NodeKind::Index => 0,
+            NodeKind::Header => 1,
+            NodeKind::Map => 2,
+            NodeKind::Leaf => 255,
+        }
     }
 }

@@ -2,9 +2,10 @@
 ghost use Rattle.std.specs.Prelude.{◌≡◌, ◌+◌, ◌<◌, ◌≤◌, ◌==◌, [], ◌≢◌, IfOk, IfErr, length, slice_index_or, true};
 ghost use Rattle.hfs_node.specs.Node.{node_of, offset_of, count_of, are_inside, are_rising, record_of, Fits};
 
-use crate::bytes::{count_at, link_at, offset_at};
+use crate::bytes::{count_at, offset_at};
 use crate::fault::NodeFault;
 use crate::kind::{NodeKind, kind_from};
+use hfs_fields::u32_at;
 use std::marker::Model;
 
 /// A node that is read in its 512 bytes: nothing is copied, and no memory is taken.
@@ -121,7 +122,8 @@ impl<'a> NodeView<'a> {
     pub fn forward(&self) -> u32
         ensures { result ≡ self.now.forward }
     {
-        link_at(self.bytes, 0)
+        let bytes = self.bytes;
+        u32_at(bytes, 0)
     }
 
     /// The node before it in the level, 0 at its beginning (ndBLink).
@@ -129,7 +131,8 @@ impl<'a> NodeView<'a> {
     pub fn backward(&self) -> u32
         ensures { result ≡ self.now.backward }
     {
-        link_at(self.bytes, 4)
+        let bytes = self.bytes;
+        u32_at(bytes, 4)
     }
 
     /// The node's type (ndType).

@@ -1,11 +1,13 @@
 -- The checks of a tree's file and of extents.
-use Rattle.std.proofs.Common.{◌≡◌, ℕ, ◌+◌, true, List, length, refl, ◌∙◌, ap, Option, Some, None}
+use Rattle.std.proofs.Common.{◌≡◌, ℕ, ◌+◌, true, List, length, refl, sym, ◌∙◌, ap, Option, Some, None}
 use Rattle.std.specs.Prelude.{◌↔◌}
 use Rattle.std.specs.Option.{option_or, option_map}
+use Rattle.std.proofs.lemmas.Option.{none-some}
 use Rattle.hfs_fields.specs.declared.mdb.Mdb.{Mdb}
 use Rattle.hfs_fields.specs.declared.extent.Extent.{Extent}
 use Rattle.hfs_fields.specs.declared.key.CatKey.{CatKey}
 use Rattle.hfs_btree.specs.Pairs.{Pairs}
+use Rattle.hfs_btree.specs.TwoFaults.{neither, both_none}
 use Rattle.hfs_btree.specs.Scans.{check}
 use Rattle.hfs_space.specs.Extents.{Overflow}
 use Rattle.hfs_space.specs.Owners.{all_forks}
@@ -13,21 +15,9 @@ use Rattle.hfs_space.specs.Sound.{IsTreeFile, AreForksSound}
 use Rattle.hfs_space.specs.Faults.{is_tree_file, are_forks_right, is_overflow_right, file_fault, overflow_fault, fork_fault}
 use Rattle.hfs_space.proofs.Decided.{tree_file_decides, forks_decide, overflow_decides}
 
-some_none : {A : Type 0} (x : A) → Some x ≡ None → ⊥
-some_none x e = cc
-
--- ---- one fault after the other
-
-pub neither : (first second : Option ℕ) → option_or first second ≡ None → (first ≡ None) × (second ≡ None)
-neither None second e = (refl, e)
-neither (Some i) second e = absurd (some_none i e)
-
-pub both_none : (first second : Option ℕ) → first ≡ None → second ≡ None → option_or first second ≡ None
-both_none first second e f = ap (λ (o : Option ℕ). option_or o second) e ∙ f
-
 none_behind : (n : ℕ) (o : Option ℕ) → option_map (λ i. n + i) o ≡ None → o ≡ None
 none_behind n None e = refl
-none_behind n (Some i) e = absurd (some_none (n + i) e)
+none_behind n (Some i) e = absurd (none-some (n + i) (sym e))
 
 -- ---- the checks
 

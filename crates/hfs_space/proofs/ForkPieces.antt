@@ -1,82 +1,46 @@
 -- Reading a fork extent by extent.
 use Rattle.std.proofs.Common.{◌≡◌, ℕ, zero, suc, ◌+◌, ◌-◌, ◌*◌, ◌<◌, ◌≤◌, List, [], ◌∷◌, ◌++◌, length, take, drop, get_or, ⊎_elim, refl, sym, ap, ◌∙◌, arith, append_assoc, append-nil}
 use Rattle.std.specs.Prelude.{min, map}
-use Rattle.std.specs.List.{flat_map}
 use Rattle.std.proofs.lemmas.List.{map-append, take_all, drop_more, drop_all}
-use Rattle.std.proofs.lemmas.Bool.{cases_lt}
-use Rattle.std.proofs.lemmas.List.Concat.{flat_map-append}
-use Rattle.std.proofs.Math.Nat.{mul-le-mul_right}
 use Rattle.hfs_fields.specs.declared.extent.Extent.{Extent}
 use Rattle.hfs_fields.specs.declared.mdb.Mdb.{Mdb}
-use Rattle.hfs_btree.specs.Blocks.{nodes_in, run_of}
 use Rattle.hfs_space.specs.Extents.{IsExtentWithin}
+use Rattle.hfs_space.specs.ForkLengths.{all_bytes, all_bytes-cons, all_bytes-nil, length-extent_bytes}
 use Rattle.hfs_space.specs.Forks.{HasArea, blocks_each, run_in, file_blocks, joined, run_bytes, extent_bytes, fork_bytes, read_from}
-use Rattle.hfs_space.proofs.Pieces.{length-run_bytes, read-append, read-take}
-
-no_blocks : (n each : ℕ) → n ≤ 0 → n * each ≡ 0
-no_blocks zero each none = omega arith
-no_blocks (suc n) each none = absurd (omega arith)
+use Rattle.hfs_space.proofs.Pieces.{read-append, read-take}
 
 -- an extent that has a byte has a block
 pub some-block : (n each from count : ℕ) → 0 < count → from + count ≤ 512 * (n * each) → 0 < n
-some-block zero each from count some fits = absurd (omega (arith, no_blocks 0 each (omega arith)))
+some-block zero each from count some fits = absurd (omega arith)
 some-block (suc n) each from count some fits = omega arith
 
--- where an extent ends in the volume
-pub extent-end : (mdb : Mdb) (total : ℕ) (e : Extent) → HasArea mdb total → IsExtentWithin mdb.allocation_blocks e → 0 < e.count
-    → mdb.allocation_start + e.first * blocks_each mdb + e.count * blocks_each mdb ≤ total
-extent-end mdb total e area within some =
-    omega (arith, area, mul-le-mul_right (blocks_each mdb) (within some))
-
 module _ (blocks : ℕ → List ℕ) (mdb : Mdb) where
-  -- the bytes of all these extents
-  abbrev pub all_bytes : List Extent → List ℕ
-  all_bytes extents = joined (file_blocks blocks mdb extents)
-
-  pub all_bytes-cons : (e : Extent) (rest : List Extent) → all_bytes (e ∷ rest) ≡ extent_bytes blocks mdb e ++ all_bytes rest
-  unfolding nodes_in
-  all_bytes-cons e rest =
-      ap joined (map-append blocks (run_of (run_in mdb e)) (flat_map run_of (map (run_in mdb) rest)))
-      ∙ flat_map-append (λ b. b) (map blocks (run_of (run_in mdb e))) (map blocks (flat_map run_of (map (run_in mdb) rest)))
-
-  pub all_bytes-nil : all_bytes [] ≡ []
-  unfolding nodes_in
-  all_bytes-nil = refl
-
   module _ (total : ℕ) (whole : (n : ℕ) → n < total → length (blocks n) ≡ 512) (area : HasArea mdb total) where
-    pub length-extent_bytes : (e : Extent) → IsExtentWithin mdb.allocation_blocks e → length (extent_bytes blocks mdb e) ≡ 512 * (e.count * blocks_each mdb)
-    length-extent_bytes e within = ⊎_elim
-        (λ some. length-run_bytes blocks total whole (e.count * blocks_each mdb) (mdb.allocation_start + e.first * blocks_each mdb) (extent-end mdb total e area within some))
-        (λ none.
-        let zero_blocks : e.count * blocks_each mdb ≡ 0 = no_blocks e.count (blocks_each mdb) none in
-        ap (λ k. length (run_bytes blocks (mdb.allocation_start + e.first * blocks_each mdb) k)) zero_blocks ∙ omega (arith, zero_blocks))
-        (cases_lt 0 e.count)
-
     -- what was read, and the piece of one more extent
     pub fork-more : (extents : List Extent) (i : ℕ) (e d : Extent) (skip rest passed more size : ℕ) (before now : List ℕ)
         → i < length extents → e ≡ get_or extents i d → IsExtentWithin mdb.allocation_blocks e → size ≡ e.count * blocks_each mdb * 512
         → passed ≡ min skip size → more ≡ min rest (size - passed) → now ≡ before ++ take more (drop passed (extent_bytes blocks mdb e))
-        → now ++ take (rest - more) (drop (skip - passed) (all_bytes (drop (i + 1) extents))) ≡ before ++ take rest (drop skip (all_bytes (drop i extents)))
+        → now ++ take (rest - more) (drop (skip - passed) (all_bytes blocks mdb (drop (i + 1) extents))) ≡ before ++ take rest (drop skip (all_bytes blocks mdb (drop i extents)))
     fork-more extents i e d skip rest passed more size before now lt is within is_size is_passed is_more is_now =
         let own = extent_bytes blocks mdb e in
-        let behind = all_bytes (drop (i + 1) extents) in
-        let len = length-extent_bytes e within in
-        let here : all_bytes (drop i extents) ≡ own ++ behind =
-        ap all_bytes (drop_more extents i d lt ∙ ap (λ x. x ∷ drop (i + 1) extents) (sym is)) ∙ all_bytes-cons e (drop (i + 1) extents) in
+        let behind = all_bytes blocks mdb (drop (i + 1) extents) in
+        let len = length-extent_bytes blocks total whole mdb area e within in
+        let here : all_bytes blocks mdb (drop i extents) ≡ own ++ behind =
+        ap (all_bytes blocks mdb) (drop_more extents i d lt ∙ ap (λ x. x ∷ drop (i + 1) extents) (sym is)) ∙ all_bytes-cons blocks mdb e (drop (i + 1) extents) in
         ap (λ l. l ++ take (rest - more) (drop (skip - passed) behind)) is_now
         ∙ append_assoc before (take more (drop passed own)) (take (rest - more) (drop (skip - passed) behind))
         ∙ ap (λ l. before ++ l) (sym (read-append rest skip passed more own behind (omega (arith, len)) (omega (arith, len))) ∙ ap (λ l. take rest (drop skip l)) (sym here))
 
   pub fork-start : (extents : List Extent) (len offset count rest : ℕ) → rest ≡ min len (offset + count) - offset
-      → [] ++ take rest (drop offset (all_bytes extents)) ≡ read_from (fork_bytes blocks mdb extents len) offset count
+      → [] ++ take rest (drop offset (all_bytes blocks mdb extents)) ≡ read_from (fork_bytes blocks mdb extents len) offset count
   unfolding fork_bytes
   fork-start extents len offset count rest is =
       let e : rest ≡ min count (len - offset) = omega arith in
-      ap (λ n. take n (drop offset (all_bytes extents))) e ∙ sym (read-take count offset len (all_bytes extents))
+      ap (λ n. take n (drop offset (all_bytes blocks mdb extents))) e ∙ sym (read-take count offset len (all_bytes blocks mdb extents))
 
-  pub fork-end : (extents : List Extent) (i skip rest : ℕ) (items : List ℕ) → length extents ≤ i → items ++ take rest (drop skip (all_bytes (drop i extents))) ≡ items
+  pub fork-end : (extents : List Extent) (i skip rest : ℕ) (items : List ℕ) → length extents ≤ i → items ++ take rest (drop skip (all_bytes blocks mdb (drop i extents))) ≡ items
   fork-end extents i skip rest items past =
-      ap (λ l. items ++ take rest (drop skip l)) (ap all_bytes (drop_all i extents past) ∙ all_bytes-nil)
+      ap (λ l. items ++ take rest (drop skip l)) (ap (all_bytes blocks mdb) (drop_all i extents past) ∙ all_bytes-nil blocks mdb)
       ∙ ap (λ l. items ++ take rest l) (drop_all skip [] (omega arith)) ∙ ap (λ l. items ++ l) (take_all rest [] (omega arith)) ∙ append-nil items
 
 -- the same blocks by other names

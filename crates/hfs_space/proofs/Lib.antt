@@ -15,7 +15,6 @@ pub mod SpaceWalk
 pub mod RunSteps
 pub mod ForkOrder
 pub mod Copied
-pub mod Walked
 pub mod UsedMarks
 pub mod ForkFaults
 pub mod OwnedAll

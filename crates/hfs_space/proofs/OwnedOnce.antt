@@ -18,7 +18,7 @@ use Rattle.hfs_space.specs.Sound.{IsSpaceSound}
 use Rattle.hfs_space.specs.Faults.{block_fault, free_fault, space_fault}
 use Rattle.hfs_space.specs.Laws.{AreBlocksWithin}
 use Rattle.hfs_space.proofs.Decided.{itself}
-use Rattle.hfs_space.proofs.Agreed.{neither, both_none}
+use Rattle.hfs_btree.specs.TwoFaults.{neither, both_none}
 
 -- ---- blocks from one number on
 

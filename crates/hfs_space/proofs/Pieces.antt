@@ -64,11 +64,6 @@ module _ {X : Type 0} where
 
 module _ (blocks : ℕ → List ℕ) where
   module _ (m : ℕ) (whole : (n : ℕ) → n < m → length (blocks n) ≡ 512) where
-    pub length-run_bytes : (k n : ℕ) → n + k ≤ m → length (run_bytes blocks n k) ≡ 512 * k
-    length-run_bytes zero n within = refl
-    length-run_bytes (suc k) n within =
-        omega (arith, length-append (blocks n) (run_bytes blocks (n + 1) k), whole n (omega arith), length-run_bytes k (n + 1) (omega arith))
-
     drop-run_bytes : (j k n : ℕ) → n + (j + k) ≤ m → drop (512 * j) (run_bytes blocks n (j + k)) ≡ run_bytes blocks (n + j) k
     drop-run_bytes zero k n within =
         let e : zero + k ≡ k = omega arith in

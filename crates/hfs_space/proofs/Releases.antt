@@ -11,13 +11,6 @@ pub record IsReleasing (old new : ℕ → List ℕ) (start first end i : ℕ) : 
   pub bits : (n : ℕ) → (n < first) ⊎ (end ≤ n) → is_used new start n ≡ is_used old start n
   pub blocks : (k : ℕ) → (k < start + first / 4096) ⊎ (start + i ≤ k) → new k ≡ old k
 
-pub releasing-start : (old : ℕ → List ℕ) (start first end i : ℕ) → i ≡ first / 4096 → IsReleasing old old start first end i
-releasing-start old start first end i e = record {
-  clear = λ n low high below. absurd (omega arith);
-  bits = λ n apart. refl;
-  blocks = λ k apart. refl;
-}
-
 same-block : (blocks : ℕ → List ℕ) (n : ℕ) (b : List ℕ) → with_block blocks n b n ≡ b
 same-block blocks n b = ap (λ t. cond t b (blocks n)) (eq-eqb n n refl)
 
@@ -49,12 +42,3 @@ module _ (old new next : ℕ → List ℕ) (start first end i from to : ℕ) (by
     blocks = λ k apart. (λ t. is_next t k) ∙ other-block new (start + i) k bytes (λ e. elim apart [ inl h ↦ omega arith | inr h ↦ omega arith ])
         ∙ releasing.blocks k (elim apart [ inl h ↦ inl h | inr h ↦ inr (omega arith) ]);
   }
-
-pub releasing-others : (old new : ℕ → List ℕ) (start first end count i : ℕ) → end ≡ first + count → i ≤ bitmap_len end → IsReleasing old new start first end i → KeepsOthers old new start first count
-releasing-others old new start first end count i e within releasing = record {
-  bits = λ n apart. releasing.bits n (elim apart [ inl h ↦ inl h | inr h ↦ inr (omega arith) ]);
-  blocks = λ k apart. releasing.blocks k (elim apart [ inl h ↦ inl h | inr h ↦ inr (omega arith) ]);
-}
-
-pub releasing-clear : (old new : ℕ → List ℕ) (start first end count i : ℕ) → end ≡ first + count → bitmap_len end ≤ i → IsReleasing old new start first end i → AreClear new start first count
-releasing-clear old new start first end count i e past releasing n low high = releasing.clear n low (omega arith) (omega arith)

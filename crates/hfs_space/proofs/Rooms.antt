@@ -17,9 +17,6 @@ room-step extents i d bytes each rest lt so_far =
     let product = ap (λ n. n * each) more ∙ add-mul (block_total (take i extents)) (get_or extents i d).count each in
     omega arith
 
-pub room-end : (bytes room : ℕ) → eqb (bytes - room) 0 ≡ leb bytes room
-room-end bytes room = grind (arith, nat_tests)
-
 -- ---- extents in the volume, with room
 
 pub within-is : (n : ℕ) (extents : List Extent) (within : Bool) → Decides within (AreExtentsWithin n extents) → within ≡ are_extents_within n extents

@@ -11,6 +11,7 @@ use Rattle.hfs_fields.specs.declared.mdb.Mdb.{Mdb}
 use Rattle.hfs_btree.specs.Blocks.{run_of, nodes_in}
 use Rattle.hfs_space.specs.Extents.{block_total}
 use Rattle.hfs_space.specs.Forks.{blocks_each, run_in, file_blocks}
+use Rattle.hfs_space.specs.ForkLengths.{byte_total}
 use Rattle.hfs_space.specs.Sound.{IsTreeFile}
 use Rattle.hfs_space.specs.TreeFiles.{node_count, tree_nodes}
 
@@ -32,11 +33,6 @@ pub length-tree_nodes : (blocks : ℕ → List ℕ) (mdb : Mdb) (extents : List 
     → size ≤ 512 * length (tree_nodes blocks mdb extents size)
 unfolding tree_nodes
 length-tree_nodes blocks mdb extents size whole file =
-    let each : mdb.allocation_block_size ≡ 512 * blocks_each mdb = omega (arith, whole) in
     let room = file.room in
-    let bytes : block_total extents * mdb.allocation_block_size ≡ 512 * (block_total extents * blocks_each mdb) =
-    ap (λ n. block_total extents * n) each ∙ swap (block_total extents) (blocks_each mdb) in
+    let bytes = byte_total mdb (block_total extents) whole in
     omega (arith, room, bytes, length-file_blocks blocks mdb extents, length-take (node_count size) (file_blocks blocks mdb extents))
-  where
-    swap : (n k : ℕ) → n * (512 * k) ≡ 512 * (n * k)
-    swap n k = omega arith

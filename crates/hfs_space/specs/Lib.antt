@@ -13,6 +13,7 @@ pub mod Faults
 pub mod Laws
 pub mod TreeFiles
 pub mod Edges
+pub mod ForkLengths
 pub mod FileLengths
 pub mod Runs
 pub mod FileLists

@@ -26,7 +26,7 @@ use Rattle.hfs_check.specs.Sound.{AreBlocksSound}
 use Rattle.hfs_volume.specs.Told.{is_folder, only_file, file_named, pick}
 use Rattle.hfs_volume.specs.Queries.{AreEntries}
 use Rattle.hfs_volume.specs.Mounted.{AreForksIn}
-use Rattle.hfs_volume.proofs.Found.{In, each_in, found_in}
+use Rattle.hfs_btree.specs.Members.{In, each_in, found_in}
 use Rattle.hfs_volume.proofs.Replies.{folder_same}
 
 -- the reply of a part of a file, or the code that refuses it

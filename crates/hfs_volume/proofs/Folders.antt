@@ -12,7 +12,9 @@ use Rattle.hfs_catalog.specs.Records.{Record, Catalog, has_id, item_with, has_th
 use Rattle.hfs_catalog.specs.Sound.{IsSoundCatalog}
 use Rattle.hfs_catalog.specs.Lookups.{catalog_item, thread_of}
 use Rattle.hfs_volume.specs.Told.{only_folder, folder_with, is_folder}
-use Rattle.hfs_volume.proofs.Found.{In, each_in, found_in, is_some-find, is_some-option_map, none-option_map, none_some, same_some}
+use Rattle.hfs_btree.specs.Members.{In, each_in, found_in}
+use Rattle.std.proofs.lemmas.Option.{none-some, same_Some}
+use Rattle.hfs_volume.proofs.Found.{is_some-find, is_some-option_map, none-option_map}
 
 -- the record of an ID is in the catalog, an item's, and has the ID
 pub record HasId (catalog : Catalog) (id : ℕ) (r : Record) : Type 0 where
@@ -51,9 +53,9 @@ folder_not_file d f e = cc
 pub item_is_folder : (catalog : Catalog) (id : ℕ) (item : CatalogItem) (d : DirRecord) → Some item ≡ option_map catalog_item (item_with catalog id) → item.body ≡ Folder d → Some item ≡ option_map catalog_item (folder_with catalog id)
 unfolding catalog_item
 item_is_folder catalog id item d is body = elim (item_with catalog id) as (λ (o : Option Record). option_map catalog_item o ≡ Some item → Some item ≡ option_map catalog_item (option_and_then only_folder o)) [
-  | None ↦ λ e. absurd (none_some item e)
+  | None ↦ λ e. absurd (none-some item e)
   | Some r ↦ λ e.
-      let same = same_some (catalog_item r) item e in
+      let same = same_Some (catalog_item r) item e in
       elim (is_dir r.1) as (λ (b : Bool). cond b (Folder (dir_record_of r.1)) (File (file_record_of r.1)) ≡ Folder d → Some item ≡ option_map catalog_item (cond b (Some r) None)) [
         | true ↦ λ e'. sym e
         | false ↦ λ e'. absurd (folder_not_file d _ (sym e'))
@@ -66,7 +68,7 @@ unfolding catalog_item
 item_is_file catalog id item f is body = elim (item_with catalog id) as (λ (o : Option Record). option_map catalog_item o ≡ Some item → None ≡ option_map catalog_item (option_and_then only_folder o)) [
   | None ↦ λ e. refl
   | Some r ↦ λ e.
-      let same = same_some (catalog_item r) item e in
+      let same = same_Some (catalog_item r) item e in
       elim (is_dir r.1) as (λ (b : Bool). cond b (Folder (dir_record_of r.1)) (File (file_record_of r.1)) ≡ File f → None ≡ option_map catalog_item (cond b (Some r) None)) [
         | true ↦ λ e'. absurd (folder_not_file _ f e')
         | false ↦ λ e'. refl

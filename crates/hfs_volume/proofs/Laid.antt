@@ -101,12 +101,6 @@ block_at-laid f n bytes whole within =
     ap (take 512) (drop-laid f n bytes whole (omega arith) ∙ laid_from-suc f (m - n) (m - suc n) n _ (omega arith))
     ∙ take_at (f n) _ 512 (whole n within)
 
-pub laid-laid : (h f : ℕ → List ℕ) (bytes : List ℕ) → AreBlocks f (block_count bytes) → laid h (laid f bytes) ≡ laid h bytes
-unfolding laid
-laid-laid h f bytes whole =
-    ap (λ x. laid_from h x 0 (laid f bytes)) (block_count-laid f bytes whole)
-    ∙ laid_from-laid_from h f (block_count bytes) (block_count bytes) 0 bytes whole (omega arith)
-
 pub laid-own : (bytes : List ℕ) → laid (block_at bytes) bytes ≡ bytes
 unfolding laid
 laid-own bytes =

@@ -3,7 +3,6 @@ pub mod Viewing
 pub mod Found
 pub mod Folders
 pub mod Finder
-pub mod ForkLength
 pub mod Queries
 pub mod Told
 pub mod Replies

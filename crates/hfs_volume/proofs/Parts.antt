@@ -20,9 +20,9 @@ use Rattle.hfs_catalog.specs.declared.item.CatalogItem.{CatalogItem}
 use Rattle.hfs_catalog.specs.Records.{Record, Catalog}
 use Rattle.hfs_catalog.specs.Lookups.{catalog_item, child_named}
 use Rattle.hfs_volume.specs.Told.{is_folder, only_file, file_named}
-use Rattle.hfs_volume.proofs.Found.{none_some, same_some}
+use Rattle.std.proofs.lemmas.Option.{none-some, same_Some}
 use Rattle.hfs_volume.proofs.Folders.{folder_not_file}
-use Rattle.hfs_volume.proofs.ForkLength.{length-fork_bytes}
+use Rattle.hfs_space.specs.ForkLengths.{length-fork_bytes}
 
 -- a fork has as many bytes as its length says
 pub part_is : (blocks : ℕ → List ℕ) (total : ℕ) → ((n : ℕ) → n < total → length (blocks n) ≡ 512) → (mdb : Mdb) → HasArea mdb total → mdb.allocation_block_size % 512 ≡ 0
@@ -49,9 +49,9 @@ module _ (catalog : Catalog) (dir : ℕ) (name : List ℕ) (named : is_item_name
       → Some item ≡ option_map catalog_item (child_named catalog dir other) → item.body ≡ Folder d → Err reply ≡ file_named catalog dir name
   unfolding catalog_item
   of_folder item d other reply same_name refused is body = ap Err refused ∙ sym (file_named_is ∙ elim (child_named catalog dir name) as (λ (o : Option Record). Some item ≡ option_map catalog_item o → only_file o ≡ Err (refusal NOT_FOUND)) [
-    | None ↦ λ e. absurd (none_some item (sym e))
+    | None ↦ λ e. absurd (none-some item (sym e))
     | Some r ↦ λ e.
-        let same = same_some item (catalog_item r) e in
+        let same = same_Some item (catalog_item r) e in
         elim (is_dir r.1) as (λ (b : Bool). cond b (Folder (dir_record_of r.1)) (File (file_record_of r.1)) ≡ Folder d → cond b (Err (refusal NOT_FOUND)) (Ok (file_record_of r.1)) ≡ Err (refusal NOT_FOUND)) [
           | true ↦ λ e'. refl
           | false ↦ λ e'. absurd (folder_not_file d _ (sym e'))
@@ -62,9 +62,9 @@ module _ (catalog : Catalog) (dir : ℕ) (name : List ℕ) (named : is_item_name
       → Some item ≡ option_map catalog_item (child_named catalog dir other) → item.body ≡ File f → Ok f ≡ file_named catalog dir name
   unfolding catalog_item
   of_file item f other same_name is body = sym (file_named_is ∙ elim (child_named catalog dir name) as (λ (o : Option Record). Some item ≡ option_map catalog_item o → only_file o ≡ Ok f) [
-    | None ↦ λ e. absurd (none_some item (sym e))
+    | None ↦ λ e. absurd (none-some item (sym e))
     | Some r ↦ λ e.
-        let same = same_some item (catalog_item r) e in
+        let same = same_Some item (catalog_item r) e in
         elim (is_dir r.1) as (λ (b : Bool). cond b (Folder (dir_record_of r.1)) (File (file_record_of r.1)) ≡ File f → cond b (Err (refusal NOT_FOUND)) (Ok (file_record_of r.1)) ≡ Ok f) [
           | true ↦ λ e'. absurd (folder_not_file _ f e')
           | false ↦ λ e'. ap Ok (same_file _ f e')

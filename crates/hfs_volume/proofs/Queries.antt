@@ -31,7 +31,7 @@ use Rattle.hfs_check.specs.Sound.{AreBlocksSound, IsSound}
 use Rattle.hfs_check.specs.VolumeOf.{bytes_in, contents_in, volume_in, volume_of}
 use Rattle.hfs_volume.specs.Told.{IsCatalog, folder_info, file_info, body_info, told}
 use Rattle.hfs_volume.specs.Queries.{AreEntries}
-use Rattle.hfs_volume.proofs.ForkLength.{length-fork_bytes}
+use Rattle.hfs_space.specs.ForkLengths.{length-fork_bytes}
 
 -- ---- what is told of a folder
 

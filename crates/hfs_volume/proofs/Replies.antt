@@ -26,7 +26,7 @@ use Rattle.hfs_catalog.specs.Tree.{catalog_of}
 use Rattle.hfs_check.specs.Parts.{catalog_nodes, catalog_in}
 use Rattle.hfs_volume.specs.Told.{told, one, only_folder, is_folder, dir_info, cat_info, child_infos, indexed, listed}
 use Rattle.hfs_volume.specs.Queries.{AreEntries}
-use Rattle.hfs_volume.proofs.Found.{In, each_in, found_in}
+use Rattle.hfs_btree.specs.Members.{In, each_in, found_in}
 use Rattle.hfs_volume.proofs.Folders.{found_with}
 
 module _ (contents : Contents) (catalog : Catalog) (es : List Entry) (h : AreEntries contents catalog es) where

@@ -36,12 +36,6 @@ module _ (catalog : Catalog) (dir : ℕ) (items : List CatalogItem) (are : items
         ap (λ b. cond b (refusal PARAMETER) (cond (not (is_folder catalog dir)) (refusal NOT_A_FOLDER) (reply_at (index - 1)))) (ne_eqb index 0 some)
         ∙ ap (λ b. cond (not b) (refusal NOT_A_FOLDER) (reply_at (index - 1))) folder
 
-    pub indexed_past : length items ≤ index - 1 → indexed catalog dir index ≡ refusal NOT_FOUND
-    indexed_past past =
-        indexed_is
-        ∙ ap (λ o. option_map_or (λ (info : Info). success (value.One info)) o (refusal NOT_FOUND))
-        (ap (λ l. slice_get l (index - 1)) (sym infos_are) ∙ slice_get-map (item_info catalog) items (index - 1) ∙ ap (option_map (item_info catalog)) (slice_get_past items (index - 1) past))
-
     pub indexed_at : (d : CatalogItem) → index - 1 < length items → indexed catalog dir index ≡ success (value.One (item_info catalog (get_or items (index - 1) d)))
     indexed_at d within =
         indexed_is

@@ -1,7 +1,7 @@
 use Rattle.std.proofs.Common.{◌∙◌, sym}
 use Rattle.hfs_catalog.specs.Faults.{is_item_id_right}
 use Rattle.hfs_catalog.proofs.IdSteps.{id_is}
-use Rattle.hfs_catalog.proofs.Walked.{scan_stop, scan_go}
+use Rattle.hfs_btree.specs.ScanSteps.{scan_stop, scan_go}
 use Rattle.hfs_catalog.proofs.id_check.first_wrong_id.Goals as goal
 
 pub returns-then-not-is_item_id_right : goal.returns-then-not-is_item_id_right

@@ -2,7 +2,7 @@ use Rattle.std.proofs.Common.{◌∙◌, sym}
 use Rattle.hfs_catalog.specs.Indexes.{count_of}
 use Rattle.hfs_catalog.specs.Faults.{is_valence_right}
 use Rattle.hfs_catalog.proofs.ValenceSteps.{valence_is}
-use Rattle.hfs_catalog.proofs.Walked.{scan_stop, scan_go}
+use Rattle.hfs_btree.specs.ScanSteps.{scan_stop, scan_go}
 use Rattle.hfs_catalog.proofs.valence_check.first_wrong_valence.Goals as goal
 
 pub returns-then-not-is_valence_right : goal.returns-then-not-is_valence_right

@@ -11,10 +11,10 @@ overflow_cast-len c = omega (arith, few-records c.args.node.now.records c.requir
 pub returns-clause-head : goal.returns-clause-head
 returns-clause-head c =
     let few = few-records c.args.node.now.records c.requires in
-    let Put : ℕ → Type 0 = λ n. IsPut 10 (big_bytes 2 n) c.put.new.out c.put_short.new.out in
-    head-from c.args.node.now c.args.out.now c.put_long.new.out c.put_long-2.new.out c.put.new.out c.put_short.new.out c.kind_byte.result
-    (omega arith) (omega arith) (omega arith) c.kind_byte.ensures c.put_long.ensures c.put_long-2.ensures c.put.ensures (subst Put c.len.ensures c.put_short.ensures)
+    let Put : ℕ → Type 0 = λ n. IsPut 10 (big_bytes 2 n) c.put.new.block c.put_u16.new.block in
+    head-from c.args.node.now c.args.out.now c.put_u32.new.block c.put_u32-2.new.block c.put.new.block c.put_u16.new.block c.byte.result
+    (omega arith) (omega arith) (omega arith) c.byte.ensures.back c.put_u32.ensures.put c.put_u32-2.ensures.put c.put.ensures (subst Put c.len.ensures c.put_u16.ensures.put)
 
 pub returns-clause-rest : goal.returns-clause-rest
 returns-clause-rest c = λ k low.
-    c.put_short.ensures.rest k (inr (omega arith)) ∙ c.put.ensures.rest k (inr (omega arith)) ∙ c.put_long-2.ensures.rest k (inr (omega arith)) ∙ c.put_long.ensures.rest k (inr (omega arith))
+    c.put_u16.ensures.put.rest k (inr (omega arith)) ∙ c.put.ensures.rest k (inr (omega arith)) ∙ c.put_u32-2.ensures.put.rest k (inr (omega arith)) ∙ c.put_u32.ensures.put.rest k (inr (omega arith))

@@ -36,22 +36,22 @@ returns-clause-place c =
 pub returns-clause-laid : goal.returns-clause-laid
 returns-clause-laid c =
     let rs = c.args.records.now in
-    let First : ℕ → Type 0 = λ x. IsPut (510 - 2 * c.args.i) (big_bytes 2 x) c.args.out.now c.put_short.new.out in
-    let first = subst First c.requires.place c.put_short.ensures in
-    let At : ℕ → Type 0 = λ x. IsPut x c.record-record.result.now c.put_short.new.out c.put.new.out in
-    let Of : List ℕ → Type 0 = λ xs. IsPut (start_of rs c.args.i) xs c.put_short.new.out c.put.new.out in
+    let First : ℕ → Type 0 = λ x. IsPut (510 - 2 * c.args.i) (big_bytes 2 x) c.args.out.now c.put_u16.new.block in
+    let first = subst First c.requires.place c.put_u16.ensures.put in
+    let At : ℕ → Type 0 = λ x. IsPut x c.record-record.result.now c.put_u16.new.block c.put.new.block in
+    let Of : List ℕ → Type 0 = λ xs. IsPut (start_of rs c.args.i) xs c.put_u16.new.block c.put.new.block in
     let second = subst Of c.record-record.ensures (subst At c.requires.place c.put.ensures) in
-    laid-more rs c.args.i c.args.out.now c.put_short.new.out c.put.new.out c.requires.within c.requires.room first second c.told-out c.requires.laid
+    laid-more rs c.args.i c.args.out.now c.put_u16.new.block c.put.new.block c.requires.within c.requires.room first second c.told-out c.requires.laid
 
 pub returns-clause-head : goal.returns-clause-head
 returns-clause-head c =
     let least = start-least c.args.records.now c.args.i in
     let few = few-records c.args.records.now c.requires.room in
-    λ k small. c.put.ensures.rest k (inl (omega arith)) ∙ c.put_short.ensures.rest k (inl (omega arith))
+    λ k small. c.put.ensures.rest k (inl (omega arith)) ∙ c.put_u16.ensures.put.rest k (inl (omega arith))
 
 pub returns-clause-clear : goal.returns-clause-clear
 returns-clause-clear c =
     let more = start-more c.args.records.now c.args.i c.requires.within in
     let few = few-records c.args.records.now c.requires.room in
     let same = ap length c.record-record.ensures in
-    λ k low high. c.put.ensures.rest k (inr (omega arith)) ∙ c.put_short.ensures.rest k (inl (omega arith)) ∙ c.requires.clear k (omega arith) (omega arith)
+    λ k low high. c.put.ensures.rest k (inr (omega arith)) ∙ c.put_u16.ensures.put.rest k (inl (omega arith)) ∙ c.requires.clear k (omega arith) (omega arith)

@@ -39,16 +39,16 @@ ended rs i len at out new i_is len_is at_is put laid =
 pub returns-clause-laid : goal.returns-clause-laid
 returns-clause-laid c =
     let rs = c.args.records.now in
-    let ends = ended rs c.loop-i.i c.len.result c.loop-i.at c.loop-i.out c.put_short.new.out (omega arith) c.len.ensures c.loop-i.invariant.at c.put_short.ensures c.loop-i.invariant.laid in
-    laid-kept rs c.loop-i.out c.put_short.new.out c.requires.room c.loop-i.invariant.len ends.last ends.laid
+    let ends = ended rs c.loop-i.i c.len.result c.loop-i.at c.loop-i.out c.put_u16.new.block (omega arith) c.len.ensures c.loop-i.invariant.at c.put_u16.ensures.put c.loop-i.invariant.laid in
+    laid-kept rs c.loop-i.out c.put_u16.new.block c.requires.room c.loop-i.invariant.len ends.last ends.laid
 
 pub returns-clause-free : goal.returns-clause-free
 returns-clause-free c =
     let rs = c.args.records.now in
-    let ends = ended rs c.loop-i.i c.len.result c.loop-i.at c.loop-i.out c.put_short.new.out (omega arith) c.len.ensures c.loop-i.invariant.at c.put_short.ensures c.loop-i.invariant.laid in
-    free-put rs c.loop-i.out c.put_short.new.out c.requires.room c.loop-i.invariant.len ends.last
+    let ends = ended rs c.loop-i.i c.len.result c.loop-i.at c.loop-i.out c.put_u16.new.block (omega arith) c.len.ensures c.loop-i.invariant.at c.put_u16.ensures.put c.loop-i.invariant.laid in
+    free-put rs c.loop-i.out c.put_u16.new.block c.requires.room c.loop-i.invariant.len ends.last
 
 pub returns-clause-head : goal.returns-clause-head
 returns-clause-head c =
     let few = few-records c.args.records.now c.requires.room in
-    λ k lt. c.put_short.ensures.rest k (inl (omega arith)) ∙ c.loop-i.invariant.head k lt
+    λ k lt. c.put_u16.ensures.put.rest k (inl (omega arith)) ∙ c.loop-i.invariant.head k lt

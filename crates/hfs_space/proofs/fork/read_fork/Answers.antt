@@ -2,7 +2,8 @@
 use Rattle.std.proofs.Common.{◌≡◌, ◌*◌, ◌++◌, take, drop, get_or, refl, sym, ◌∙◌, arith}
 use Rattle.hfs_fields.specs.declared.extent.Extent.{Extent}
 use Rattle.hfs_space.specs.Forks.{blocks_each}
-use Rattle.hfs_space.proofs.ForkPieces.{all_bytes, fork-start, fork-more, fork-end}
+use Rattle.hfs_space.specs.ForkLengths.{all_bytes}
+use Rattle.hfs_space.proofs.ForkPieces.{fork-start, fork-more, fork-end}
 use Rattle.hfs_space.proofs.fork.read_fork.Goals as goal
 
 pub loop-extent-init : goal.loop-extent-init
