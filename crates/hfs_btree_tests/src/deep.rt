@@ -43,49 +43,13 @@ fn index_node(height: u8, left: u8, right: u8, first: Entry, second: Entry) -> [
 {
     let Entry { file, child } = first;
     let Entry {
-        file: other_file,
-        child: other_child,
+        file: next_file,
+        child: next_child,
     } = second;
     let mut bytes = [0; 512];
     bytes[..38].copy_from_slice(&[
-        0,
-        0,
-        0,
-        right,
-        0,
-        0,
-        0,
-        left,
-        0,
-        height,
-        0,
-        2,
-        0,
-        0,
-        7,
-        0,
-        0,
-        0,
-        0,
-        file,
-        0,
-        0,
-        0,
-        0,
-        0,
-        child,
-        7,
-        0,
-        0,
-        0,
-        0,
-        other_file,
-        0,
-        0,
-        0,
-        0,
-        0,
-        other_child,
+        0, 0, 0, right, 0, 0, 0, left, 0, height, 0, 2, 0, 0, 7, 0, 0, 0, 0, file, 0, 0, 0, 0, 0,
+        child, 7, 0, 0, 0, 0, next_file, 0, 0, 0, 0, 0, next_child,
     ]);
     bytes[506..512].copy_from_slice(&[0, 38, 0, 26, 0, 14]);
     bytes

@@ -2,6 +2,7 @@
 use crate::without_last;
 use hfs_fields::{CatKey, ExtKey, Name};
 use std::cmp::Ordering;
+use std::process::Abort;
 
 #[test]
 fn catalog_key_in_a_leaf(rt: HostRuntime) {
@@ -146,49 +147,42 @@ fn extents_key(rt: HostRuntime) {
     assert_eq!(rt; ExtKey::read(&leaf), None, "the length 6");
 }
 
+fn catalog_key(rt: &impl Abort, parent: u32, name: &[u8]) -> CatKey {
+    CatKey {
+        parent,
+        name: Name::new(name).expect(rt, "a name"),
+    }
+}
+
 #[test]
-fn orders(rt: HostRuntime) {
-    let a = CatKey {
-        parent: 2,
-        name: Name::new(b"b").expect(&rt, "a name"),
-    };
-    let b = CatKey {
-        parent: 3,
-        name: Name::new(b"A").expect(&rt, "a name"),
-    };
-    let c = CatKey {
-        parent: 3,
-        name: Name::new(b"a").expect(&rt, "a name"),
-    };
+fn order_of_catalog_keys(rt: HostRuntime) {
+    let last_in_two = catalog_key(&rt, 2, b"b");
+    let upper = catalog_key(&rt, 3, b"A");
+    let lower = catalog_key(&rt, 3, b"a");
     assert_eq!(rt;
-        a.compare(&b),
+        last_in_two.compare(&upper),
         Ordering::Less,
         "the parent counts before the name"
     );
-    assert_eq!(rt; b.compare(&a), Ordering::Greater);
-    assert_eq!(rt; b.compare(&c), Ordering::Equal, "case does not count");
+    assert_eq!(rt; upper.compare(&last_in_two), Ordering::Greater);
+    assert_eq!(rt;
+        upper.compare(&lower),
+        Ordering::Equal,
+        "case does not count"
+    );
+}
 
+fn extents_key_of(file: u32, fork: u8, block: u16) -> ExtKey {
+    ExtKey { fork, file, block }
+}
+
+#[test]
+fn order_of_extents_keys(rt: HostRuntime) {
     let keys = [
-        ExtKey {
-            file: 16,
-            fork: 0x00,
-            block: 9,
-        },
-        ExtKey {
-            file: 16,
-            fork: 0xff,
-            block: 3,
-        },
-        ExtKey {
-            file: 16,
-            fork: 0xff,
-            block: 4,
-        },
-        ExtKey {
-            file: 17,
-            fork: 0x00,
-            block: 0,
-        },
+        extents_key_of(16, 0x00, 9),
+        extents_key_of(16, 0xff, 3),
+        extents_key_of(16, 0xff, 4),
+        extents_key_of(17, 0x00, 0),
     ];
     assert_eq!(rt; keys[0].compare(&keys[1]), Ordering::Less);
     assert_eq!(rt; keys[1].compare(&keys[2]), Ordering::Less);

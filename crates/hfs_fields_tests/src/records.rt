@@ -66,9 +66,41 @@ fn directory(rt: HostRuntime) {
     assert!(rt; bytes.ends_with(&[0xee, 0xee]), "no byte more");
 }
 
-#[test]
-fn file(rt: HostRuntime) {
-    let file = FileRecord {
+fn extent(first: u16, count: u16) -> Extent {
+    Extent { first, count }
+}
+
+/// The data fork of `file_row`.
+fn data_fork() -> ForkRecord {
+    ForkRecord {
+        first_block: 0x1a1b,
+        length: 0x1c1d_1e1f,
+        physical_length: 0x2021_2223,
+        extents: [
+            extent(0x4c4d, 0x4e4f),
+            extent(0x5051, 0x5253),
+            extent(0x5455, 0x5657),
+        ],
+    }
+}
+
+/// The resource fork of `file_row`.
+fn resource_fork() -> ForkRecord {
+    ForkRecord {
+        first_block: 0x2425,
+        length: 0x2627_2829,
+        physical_length: 0x2a2b_2c2d,
+        extents: [
+            extent(0x5859, 0x5a5b),
+            extent(0x5c5d, 0x5e5f),
+            extent(0x6061, 0x6263),
+        ],
+    }
+}
+
+/// The record of `file_row`.
+fn file_record() -> FileRecord {
+    FileRecord {
         reserved: 0x03,
         flags: FileFlags(0x83),
         file_type: 0x05,
@@ -77,44 +109,8 @@ fn file(rt: HostRuntime) {
             0x14, 0x15,
         ],
         id: 0x1617_1819,
-        data: ForkRecord {
-            first_block: 0x1a1b,
-            length: 0x1c1d_1e1f,
-            physical_length: 0x2021_2223,
-            extents: [
-                Extent {
-                    first: 0x4c4d,
-                    count: 0x4e4f,
-                },
-                Extent {
-                    first: 0x5051,
-                    count: 0x5253,
-                },
-                Extent {
-                    first: 0x5455,
-                    count: 0x5657,
-                },
-            ],
-        },
-        resource: ForkRecord {
-            first_block: 0x2425,
-            length: 0x2627_2829,
-            physical_length: 0x2a2b_2c2d,
-            extents: [
-                Extent {
-                    first: 0x5859,
-                    count: 0x5a5b,
-                },
-                Extent {
-                    first: 0x5c5d,
-                    count: 0x5e5f,
-                },
-                Extent {
-                    first: 0x6061,
-                    count: 0x6263,
-                },
-            ],
-        },
+        data: data_fork(),
+        resource: resource_fork(),
         created: 0x2e2f_3031,
         modified: 0x3233_3435,
         backup: 0x3637_3839,
@@ -124,7 +120,12 @@ fn file(rt: HostRuntime) {
         ],
         clump_size: 0x4a4b,
         reserved_area: [0x64, 0x65, 0x66, 0x67],
-    };
+    }
+}
+
+#[test]
+fn file(rt: HostRuntime) {
+    let file = file_record();
     assert_eq!(rt; FileRecord::read(&file_row()), Some(file));
     assert_eq!(rt; FileRecord::read(without_last(&file_row())), None);
     assert_eq!(rt; FileRecord::read(&directory_row()), None, "a folder's type");
@@ -166,28 +167,15 @@ fn thread(rt: HostRuntime) {
 
 #[test]
 fn extents(rt: HostRuntime) {
-    let extent = Extent {
-        first: 0x0102,
-        count: 0x0304,
-    };
+    let one = extent(0x0102, 0x0304);
     let row = [1, 2, 3, 4, 5, 6, 7, 8, 9, 10, 11, 12];
-    assert_eq!(rt; Extent::read(&row), Some(extent));
+    assert_eq!(rt; Extent::read(&row), Some(one));
     assert_eq!(rt; Extent::read(&[1, 2, 3]), None);
     let mut bytes = [0xee; 5];
-    extent.write(&mut bytes);
+    one.write(&mut bytes);
     assert_eq!(rt; bytes, [1, 2, 3, 4, 0xee]);
 
-    let extents = [
-        extent,
-        Extent {
-            first: 0x0506,
-            count: 0x0708,
-        },
-        Extent {
-            first: 0x090a,
-            count: 0x0b0c,
-        },
-    ];
+    let extents = [one, extent(0x0506, 0x0708), extent(0x090a, 0x0b0c)];
     assert_eq!(rt; Extent::read_record(&row), Some(extents));
     assert_eq!(rt; Extent::read_record(without_last(&row)), None);
     let mut bytes = [0xee; 13];

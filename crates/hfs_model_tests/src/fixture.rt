@@ -23,82 +23,84 @@ pub enum Ask<'a> {
     Unlock(u32, &'a [u8]),
 }
 
-fn name(alloc: Global, bytes: &[u8]) -> Result<Bytes, AllocError> {
-    Bytes::from_slice(alloc, bytes)
+/// The folder of the call, and the name in it, empty where the call has none.
+fn place_of<'a>(ask: &Ask<'a>) -> (u32, &'a [u8]) {
+    match *ask {
+        Ask::DirInfo(dir) => (dir, b""),
+        Ask::Info(dir, name) => (dir, name),
+        Ask::Indexed(dir, _) => (dir, b""),
+        Ask::List(dir) => (dir, b""),
+        Ask::Read(dir, name, _, _) => (dir, name),
+        Ask::Create(dir, name) => (dir, name),
+        Ask::DirCreate(dir, name) => (dir, name),
+        Ask::Delete(dir, name) => (dir, name),
+        Ask::Rename(dir, name, _) => (dir, name),
+        Ask::Move(dir, name, _) => (dir, name),
+        Ask::SetFInfo(dir, name) => (dir, name),
+        Ask::SetInfo(dir, name) => (dir, name),
+        Ask::Lock(dir, name) => (dir, name),
+        Ask::Unlock(dir, name) => (dir, name),
+    }
+}
+
+/// The call that reads a part of a data fork.
+fn read_of(dir: u32, name: Bytes, offset: u32, count: u32) -> Call {
+    Call::ReadFork {
+        dir,
+        name,
+        fork: Fork::DataFork,
+        offset,
+        count,
+    }
+}
+
+/// The call that sets all Finder bytes to 7, and the dates to 1, 2 and 3.
+fn set_info_of(dir: u32, name: Bytes, now: u32) -> Call {
+    Call::SetCatInfo {
+        dir,
+        name,
+        created: 1,
+        modified: 2,
+        backup: 3,
+        info: [7; 32],
+        now,
+    }
 }
 
 /// The call at that moment. Data forks are read; Finder bytes are set to 7, dates to 1, 2 and 3.
 pub fn call_of(alloc: Global, ask: &Ask, now: u32) -> Result<Call, AllocError> {
-    Ok(match ask {
-        Ask::DirInfo(dir) => Call::GetDirInfo { dir: *dir },
-        Ask::Info(dir, n) => Call::GetCatInfo {
-            dir: *dir,
-            name: name(alloc, n)?,
-        },
-        Ask::Indexed(dir, index) => Call::GetIndexed {
-            dir: *dir,
-            index: *index,
-        },
-        Ask::List(dir) => Call::List { dir: *dir },
-        Ask::Read(dir, n, offset, count) => Call::ReadFork {
-            dir: *dir,
-            name: name(alloc, n)?,
-            fork: Fork::DataFork,
-            offset: *offset,
-            count: *count,
-        },
-        Ask::Create(dir, n) => Call::Create {
-            dir: *dir,
-            name: name(alloc, n)?,
+    let (dir, name) = place_of(ask);
+    let name = Bytes::from_slice(alloc, name)?;
+    Ok(match *ask {
+        Ask::DirInfo(_) => Call::GetDirInfo { dir },
+        Ask::Info(_, _) => Call::GetCatInfo { dir, name },
+        Ask::Indexed(_, index) => Call::GetIndexed { dir, index },
+        Ask::List(_) => Call::List { dir },
+        Ask::Read(_, _, offset, count) => read_of(dir, name, offset, count),
+        Ask::Create(_, _) => Call::Create { dir, name, now },
+        Ask::DirCreate(_, _) => Call::DirCreate { dir, name, now },
+        Ask::Delete(_, _) => Call::Delete { dir, name, now },
+        Ask::Rename(_, _, new_name) => Call::Rename {
+            dir,
+            name,
+            new_name: Bytes::from_slice(alloc, new_name)?,
             now,
         },
-        Ask::DirCreate(dir, n) => Call::DirCreate {
-            dir: *dir,
-            name: name(alloc, n)?,
+        Ask::Move(_, _, new_dir) => Call::CatMove {
+            dir,
+            name,
+            new_dir,
             now,
         },
-        Ask::Delete(dir, n) => Call::Delete {
-            dir: *dir,
-            name: name(alloc, n)?,
-            now,
-        },
-        Ask::Rename(dir, n, new) => Call::Rename {
-            dir: *dir,
-            name: name(alloc, n)?,
-            new_name: name(alloc, new)?,
-            now,
-        },
-        Ask::Move(dir, n, new_dir) => Call::CatMove {
-            dir: *dir,
-            name: name(alloc, n)?,
-            new_dir: *new_dir,
-            now,
-        },
-        Ask::SetFInfo(dir, n) => Call::SetFInfo {
-            dir: *dir,
-            name: name(alloc, n)?,
+        Ask::SetFInfo(_, _) => Call::SetFInfo {
+            dir,
+            name,
             info: [7; 16],
             now,
         },
-        Ask::SetInfo(dir, n) => Call::SetCatInfo {
-            dir: *dir,
-            name: name(alloc, n)?,
-            created: 1,
-            modified: 2,
-            backup: 3,
-            info: [7; 32],
-            now,
-        },
-        Ask::Lock(dir, n) => Call::SetFLock {
-            dir: *dir,
-            name: name(alloc, n)?,
-            now,
-        },
-        Ask::Unlock(dir, n) => Call::RstFLock {
-            dir: *dir,
-            name: name(alloc, n)?,
-            now,
-        },
+        Ask::SetInfo(_, _) => set_info_of(dir, name, now),
+        Ask::Lock(_, _) => Call::SetFLock { dir, name, now },
+        Ask::Unlock(_, _) => Call::RstFLock { dir, name, now },
     })
 }
 
