@@ -163,9 +163,10 @@ impl CatKey {
     pub fn compare(&self, other: &CatKey) -> Ordering
         ensures { result ≡ cat_cmp self.now other.now }
     {
-        let by_parent = self.parent.cmp(&other.parent);
-        let by_name = self.name.cmp_folded(&other.name);
-        by_parent.then(by_name)
+        match self.parent.cmp(&other.parent) {
+            Ordering::Equal => self.name.cmp_folded(&other.name),
+            unlike => unlike,
+        }
     }
 }
 
