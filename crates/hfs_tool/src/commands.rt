@@ -1,13 +1,11 @@
 //! What each word does.
 
-use crate::checking::{check_text, refused_text};
-use crate::fault::{Fault, Status};
-use crate::files::{load_file, write_file};
-use crate::forks::write_fork;
-use crate::info::run_info;
-use crate::listing::{code_text, list_text};
 use crate::words::{ForkWords, NewVolume, Words};
 use hfs_check::{FormatPlan, format};
+use hfs_commands::{
+    Fault, Status, check_text, code_text, list_text, load_file, refused_text, run_info, write_file,
+    write_fork,
+};
 use hfs_volume::{Volume, mount};
 use std::fs::File;
 use std::io::{Read, Write};

@@ -1,25 +1,18 @@
 //! A program that reads, checks and changes HFS volumes.
 #![tactic(auto)]
 
-mod checking;
+ghost use Rattle.std.specs.Prelude.{◌≡◌, ◌⊎◌, MatchResult};
+ghost use Rattle.hfs_commands.specs.Faults.{status_number, status_of};
+
 mod commands;
-mod fault;
-mod files;
-mod forks;
-mod info;
-mod input;
-mod listing;
-mod refusal;
-mod reply;
 #[cfg(test)]
 mod tests;
-mod text;
 mod words;
 
 use crate::commands::obey;
-use crate::fault::{Fault, Status};
 use crate::words::read_words;
 use clap::error::ErrorKind;
+use hfs_commands::{Fault, Status};
 use std::process::ExitCode;
 use std::{env, io};
 
@@ -49,7 +42,9 @@ fn answer(rt: &HostRuntime) -> u8 {
 }
 
 /// Prints a fault alone on its line, and answers its exit status. After standard output failed nothing more is printed.
-fn print_fault(rt: &HostRuntime, fault: &Fault<'_>) -> u8 {
+fn print_fault(rt: &HostRuntime, fault: &Fault<'_>) -> u8
+    ensures { (result ≡ status_number (status_of fault.now)) ⊎ (result ≡ 4) }
+{
     match fault {
         Fault::OutputFailed => fault.status().number(),
         _ => status_after(println!(rt; "{fault}"), fault.status()),
@@ -57,7 +52,9 @@ fn print_fault(rt: &HostRuntime, fault: &Fault<'_>) -> u8 {
 }
 
 /// The exit status of this status, or of a failed device where the text was not printed.
-fn status_after(printed: io::Result<()>, status: Status) -> u8 {
+fn status_after(printed: io::Result<()>, status: Status) -> u8
+    ensures { MatchResult printed (λ done. result ≡ status_number status) (λ failed. result ≡ 4) }
+{
     match printed {
         Ok(()) => status.number(),
         Err(_) => Status::DeviceFailed.number(),

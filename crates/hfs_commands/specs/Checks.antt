@@ -1,0 +1,57 @@
+-- What is printed of an image's checks.
+use Rattle.std.specs.Prelude.{ℕ, List, ◌++◌, Option, Some, None, codes}
+use Rattle.std.specs.Fmt.{decimal}
+use Rattle.hfs_check.specs.declared.mount_fault.MountFault.{MountFault}
+use Rattle.hfs_check.specs.declared.mount_fault.MountFault.TheVariants as mount
+use Rattle.hfs_check.specs.declared.reported.Alternate.{Alternate}
+use Rattle.hfs_check.specs.declared.reported.Alternate.TheVariants as alternate
+use Rattle.hfs_check.specs.declared.reported.Report.{Report}
+use Rattle.hfs_commands.specs.declared.fault.Status.{Status}
+use Rattle.hfs_commands.specs.declared.fault.Status.TheVariants as status
+use Rattle.hfs_commands.specs.Faults.{status_number}
+use Rattle.hfs_commands.specs.Lines.{line}
+
+-- why an image is refused, with the File Manager's own code where it has one
+unfoldable pub refusal_text : MountFault → List ℕ
+refusal_text mount.TooLarge = codes "image too large"
+refusal_text mount.Short = codes "image too short"
+refusal_text mount.NoMacDisk = codes "not an HFS volume (-57)"
+refusal_text (mount.BadMdb test) = codes "bad master directory block M" ++ decimal test ++ codes " (-60)"
+refusal_text (mount.Check number place) = codes "check C" ++ decimal number ++ codes " at " ++ decimal place
+refusal_text mount.Memory = codes "out of memory"
+
+-- how the copy of the master directory block stands to it
+abbrev pub alternate_text : Alternate → List ℕ
+alternate_text alternate.Same = codes "same"
+alternate_text alternate.Differs = codes "differs"
+alternate_text alternate.Missing = codes "missing"
+
+-- the lines of a sound image
+unfoldable pub sound_lines : Report → List ℕ
+sound_lines report = codes "sound\n"
+    ++ line (codes "files") (decimal report.files)
+    ++ line (codes "folders") (decimal report.folders)
+    ++ line (codes "free") (decimal report.free)
+    ++ line (codes "alternate") (alternate_text report.alternate)
+    ++ line (codes "unowned") (decimal report.unowned)
+
+-- the one line of an image that is refused
+unfoldable pub refused_line : MountFault → List ℕ
+refused_line why = line (codes "refused") (refusal_text why)
+
+-- the lines of an image with this first fault
+abbrev pub checked_lines : Option MountFault → Report → List ℕ
+checked_lines None report = sound_lines report
+checked_lines (Some why) report = refused_line why
+
+abbrev pub checked_status : Option MountFault → Status
+checked_status None = status.Done
+checked_status (Some why) = status.ImageRefused
+
+-- the lines that are printed of a report
+abbrev pub check_lines : Report → List ℕ
+check_lines report = checked_lines report.fault report
+
+-- the exit status after them
+abbrev pub check_status : Report → ℕ
+check_status report = status_number (checked_status report.fault)

@@ -1,0 +1,69 @@
+//! What is told of an image.
+ghost use Rattle.std.specs.Prelude.{◌≡◌, ◌++◌, IfOk, OnOk, string_bytes};
+ghost use Rattle.hfs_check.specs.Report.{report_of};
+ghost use Rattle.hfs_commands.specs.Checks.{alternate_text, check_lines, check_status, refused_line, sound_lines};
+
+use crate::fault::Status;
+use crate::refusal::Refusal;
+use crate::text::{Show, push_line};
+use hfs_check::{Alternate, MountFault, Report, report};
+use std::alloc::{AllocError, Global};
+
+impl Show for Alternate {
+    ghost shown = { alternate_text };
+
+    fn push_to(&self, text: &mut String) -> Result<(), AllocError> {
+        match self {
+            Alternate::Same => text.push_str("same"),
+            Alternate::Differs => text.push_str("differs"),
+            Alternate::Missing => text.push_str("missing"),
+        }
+    }
+}
+
+/// The lines of a sound image.
+#[tactic(auto, unfolding(crate::specs::Checks::sound_lines))]
+fn sound_text(alloc: Global, report: &Report) -> Result<String, AllocError>
+    ensures { IfOk result (λ text. string_bytes text ≡ sound_lines report.now) }
+{
+    let mut text = String::new(alloc);
+    text.push_str("sound\n")?;
+    push_line(&mut text, "files", report.files)?;
+    push_line(&mut text, "folders", report.folders)?;
+    push_line(&mut text, "free", report.free)?;
+    push_line(&mut text, "alternate", report.alternate)?;
+    push_line(&mut text, "unowned", report.unowned)?;
+    Ok(text)
+}
+
+/// The exit status and the line of an image that is refused.
+#[tactic(auto, unfolding(crate::specs::Checks::refused_line))]
+pub fn refused_text(alloc: Global, why: MountFault) -> Result<(u8, String), AllocError>
+    ensures status { IfOk result (λ told. told.0 ≡ 2) }
+    ensures lines { IfOk result (λ told. string_bytes told.1 ≡ refused_line why) }
+{
+    let mut text = String::new(alloc);
+    push_line(&mut text, "refused", Refusal(why))?;
+    Ok((Status::ImageRefused.number(), text))
+}
+
+/// The exit status and the lines of a report.
+fn report_text(alloc: Global, report: &Report) -> Result<(u8, String), AllocError>
+    ensures status { IfOk result (λ told. told.0 ≡ check_status report.now) }
+    ensures lines { IfOk result (λ told. string_bytes told.1 ≡ check_lines report.now) }
+{
+    match report.fault {
+        None => Ok((Status::Done.number(), sound_text(alloc, report)?)),
+        Some(why) => refused_text(alloc, why),
+    }
+}
+
+/// Checks an image, and answers the exit status and the lines: 0 and the counts of a sound volume, or 2 and the first
+/// fault, in the order of docs/CHECKS.md. The only error is want of memory.
+pub fn check_text(alloc: Global, image: &[u8]) -> Result<(u8, String), AllocError>
+    ensures status { IfOk result (λ told. told.0 ≡ check_status (report_of image.now)) }
+    ensures lines { IfOk result (λ told. string_bytes told.1 ≡ check_lines (report_of image.now)) }
+{
+    let report = report(alloc, image)?;
+    report_text(alloc, &report)
+}

@@ -1,0 +1,164 @@
+//! Why a command was not done, and how the program ends.
+ghost use Rattle.std.specs.Prelude.{◌≡◌, ◌≢◌};
+ghost use Rattle.hfs_commands.specs.Faults.{status_number, status_of};
+
+use crate::info::InfoFault;
+use crate::input::LoadFault;
+use crate::refusal::Refusal;
+use hfs_check::{FormatFault, MountFault};
+use std::fmt;
+
+/// How the program ends. Scripts read it as the exit status.
+#[derive(Clone, Copy, Debug, PartialEq, Eq)]
+pub enum Status {
+    /// All was done.
+    Done,
+    /// The words are refused.
+    WordsRefused,
+    /// The image is refused, or the plan of a new volume.
+    ImageRefused,
+    /// A call on the volume answered with a code other than 0.
+    CallRefused,
+    /// A read or a write failed.
+    DeviceFailed,
+    /// Memory was refused.
+    NoMemory,
+}
+
+impl Status {
+    /// The exit status.
+    pub fn number(self) -> u8
+        ensures { result ≡ status_number self }
+    {
+        match self {
+            Status::Done => 0,
+            Status::WordsRefused => 1,
+            Status::ImageRefused => 2,
+            Status::CallRefused => 3,
+            Status::DeviceFailed => 4,
+            Status::NoMemory => 5,
+        }
+    }
+}
+
+/// Why a command was not done. Its `Display` is the text that the program prints alone on a line, by variant and
+/// fields.
+#[derive(Clone, Copy, Debug, PartialEq, Eq)]
+pub enum Fault<'a> {
+    /// The words are no UTF-8.
+    WordsNotText,
+    /// The image is refused, and not for want of memory.
+    Refused(MountFault),
+    /// A new volume can't have this name.
+    BadName,
+    /// A new volume can't have so few or so many blocks.
+    BadSize,
+    /// A new volume can't have so few or so many nodes in one of its two files.
+    BadNodeCount,
+    /// The two files of a new volume don't fit it.
+    NoRoom,
+    /// A file, or `stdin`, was not read.
+    CannotRead(&'a str),
+    /// A file was not written.
+    CannotWrite(&'a str),
+    /// Standard output failed, so that nothing more is printed.
+    OutputFailed,
+    /// Memory was refused.
+    NoMemory,
+}
+
+impl Fault<'_> {
+    /// How the program ends after this fault.
+    pub fn status(&self) -> Status
+        ensures { result ≡ status_of self.now }
+    {
+        match self {
+            Fault::WordsNotText => Status::WordsRefused,
+            Fault::Refused(_) => Status::ImageRefused,
+            Fault::BadName | Fault::BadSize | Fault::BadNodeCount | Fault::NoRoom => {
+                Status::ImageRefused
+            }
+            Fault::CannotRead(_) | Fault::CannotWrite(_) | Fault::OutputFailed => {
+                Status::DeviceFailed
+            }
+            Fault::NoMemory => Status::NoMemory,
+        }
+    }
+
+    /// What a fault of printing a master directory block means for the file that it was read from.
+    pub fn of_info(fault: InfoFault, file: &str) -> Fault<'_>
+        ensures short { fault ≡ InfoFault.Short → result ≡ Fault.Refused MountFault.Short }
+        ensures signature { fault ≡ InfoFault.NoMacDisk → result ≡ Fault.Refused MountFault.NoMacDisk }
+        ensures read { fault ≡ InfoFault.ReadFailed → result ≡ Fault.CannotRead file.entry }
+        ensures write { fault ≡ InfoFault.WriteFailed → result ≡ Fault.OutputFailed }
+        ensures memory { fault ≡ InfoFault.Memory → result ≡ Fault.NoMemory }
+    {
+        match fault {
+            InfoFault::Short => Fault::Refused(MountFault::Short),
+            InfoFault::NoMacDisk => Fault::Refused(MountFault::NoMacDisk),
+            InfoFault::ReadFailed => Fault::CannotRead(file),
+            InfoFault::WriteFailed => Fault::OutputFailed,
+            InfoFault::Memory => Fault::NoMemory,
+        }
+    }
+
+    /// What a fault of loading an image means for its file.
+    pub fn of_load(fault: LoadFault, file: &str) -> Fault<'_>
+        ensures read { fault ≡ LoadFault.ReadFailed → result ≡ Fault.CannotRead file.entry }
+        ensures large { fault ≡ LoadFault.TooLarge → result ≡ Fault.Refused MountFault.TooLarge }
+        ensures memory { fault ≡ LoadFault.Memory → result ≡ Fault.NoMemory }
+    {
+        match fault {
+            LoadFault::ReadFailed => Fault::CannotRead(file),
+            LoadFault::TooLarge => Fault::Refused(MountFault::TooLarge),
+            LoadFault::Memory => Fault::NoMemory,
+        }
+    }
+}
+
+impl Fault<'static> {
+    /// What a fault of mounting an image means for the program.
+    pub fn of_mount(fault: MountFault) -> Fault<'static>
+        ensures memory { fault ≡ MountFault.Memory → result ≡ Fault.NoMemory }
+        ensures refused { fault ≢ MountFault.Memory → result ≡ Fault.Refused fault }
+    {
+        match fault {
+            MountFault::Memory => Fault::NoMemory,
+            _ => Fault::Refused(fault),
+        }
+    }
+
+    /// What a fault of a new volume's plan means for the program.
+    pub fn of_format(fault: FormatFault) -> Fault<'static>
+        ensures name { fault ≡ FormatFault.BadName → result ≡ Fault.BadName }
+        ensures size { fault ≡ FormatFault.BadSize → result ≡ Fault.BadSize }
+        ensures nodes { fault ≡ FormatFault.BadNodes → result ≡ Fault.BadNodeCount }
+        ensures room { fault ≡ FormatFault.NoRoom → result ≡ Fault.NoRoom }
+        ensures memory { fault ≡ FormatFault.Memory → result ≡ Fault.NoMemory }
+    {
+        match fault {
+            FormatFault::BadName => Fault::BadName,
+            FormatFault::BadSize => Fault::BadSize,
+            FormatFault::BadNodes => Fault::BadNodeCount,
+            FormatFault::NoRoom => Fault::NoRoom,
+            FormatFault::Memory => Fault::NoMemory,
+        }
+    }
+}
+
+impl fmt::Display for Fault<'_> {
+    fn fmt<W: fmt::Write>(&self, f: &mut fmt::Formatter<W>) -> fmt::Result {
+        match self {
+            Fault::WordsNotText => write!(f, "the words are not text"),
+            Fault::Refused(why) => write!(f, "{}", Refusal(*why)),
+            Fault::BadName => write!(f, "bad name"),
+            Fault::BadSize => write!(f, "bad size"),
+            Fault::BadNodeCount => write!(f, "bad node count"),
+            Fault::NoRoom => write!(f, "no room"),
+            Fault::CannotRead(file) => write!(f, "cannot read {file}"),
+            Fault::CannotWrite(file) => write!(f, "cannot write {file}"),
+            Fault::OutputFailed => Ok(()),
+            Fault::NoMemory => write!(f, "out of memory"),
+        }
+    }
+}

@@ -1,0 +1,16 @@
+//! Tests of what the program prints: of volumes that were laid by hand, of volumes of other programs, and of devices that
+//! fail.
+#![tactic(auto)]
+
+#[cfg(test)]
+mod devices;
+#[cfg(test)]
+mod headers;
+#[cfg(test)]
+mod info;
+#[cfg(test)]
+mod loading;
+#[cfg(test)]
+mod replies;
+#[cfg(test)]
+mod volumes;
