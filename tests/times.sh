@@ -1,13 +1,10 @@
 #!/usr/bin/env bash
-# Measures the program beside hfsutils, and beside fsck.hfs where it is installed, on a volume of 6,000 items and a file
-# of 1 MB: the time of one run in milliseconds, the best of some runs, and the ratio of ours to theirs.
+# Measures the program beside hfsutils, and beside fsck.hfs where it is installed, on volumes of 6,000 items: the time of one
+# run in milliseconds, the best of some runs, and the ratio of ours to theirs. The program loads and checks the whole image
+# before it tells anything of it, so its times grow with the image: the first volume is about the smallest with so many items.
 . "$(dirname "$0")/beside.sh"
-
-volume=$folder/many.img
-sh crates/hfs_catalog_lists/make_volume.sh "$volume" > /dev/null
-hmount "$volume" > /dev/null
-head -c 1048576 /dev/urandom > "$folder/megabyte"
-hcopy -r "$folder/megabyte" :megabyte
+folder_lists=$PWD/crates/hfs_folder_lists/out/hfs_folder_lists
+[ -x "$folder_lists" ] || (cd crates/hfs_folder_lists && rt run -- data/hfsutils-800k.img > /dev/null)
 
 # The best of so many runs of a command, in microseconds.
 best() {
@@ -22,26 +19,47 @@ best() {
     echo "$least"
 }
 
-# Lists the root and every folder in it, a run of the program for each.
-list_all() {
+# Lists the root and every folder in it, a run of our program for each.
+list_each() {
     local kind id rest
-    "$tool" ls "$volume" | while read -r kind id rest; do
-        if [ "$kind" = d ]; then "$tool" ls "$volume" "$id"; fi
+    "$tool" ls "$1" | while read -r kind id rest; do
+        if [ "$kind" = d ]; then "$tool" ls "$1" "$id"; fi
+    done
+}
+
+# The same by hfsutils.
+peer_list_each() {
+    local name
+    hls -a1 | while read -r name; do
+        if [ "$name" != megabyte ]; then hls -la ":$name"; fi
     done
 }
 
 report() {
-    local what=$1 ours=$2 theirs=$3
-    awk -v what="$what" -v a="$ours" -v b="$theirs" 'BEGIN { printf "%s: %.1f ms to %.1f ms, ratio %.2f\n", what, a / 1000, b / 1000, a / b }'
+    awk -v what="$1" -v ours="$2" -v theirs="$3" \
+        'BEGIN { printf "    %s: %.1f ms to %.1f ms, ratio %.2f\n", what, ours / 1000, theirs / 1000, ours / theirs }'
 }
 
-ours=$(best 15 "$tool" check "$volume")
-if command -v fsck.hfs > /dev/null; then
-    report 'check to fsck.hfs -n' "$ours" "$(best 15 fsck.hfs -n "$volume")"
-else
-    awk -v a="$ours" 'BEGIN { printf "check: %.1f ms; fsck.hfs is not installed\n", a / 1000 }'
-fi
-report 'ls of the root to hls -la' "$(best 15 "$tool" ls "$volume")" "$(best 15 hls -la)"
-report 'ls of every folder, a run for each, to hls -laR' "$(best 2 list_all)" "$(best 15 hls -laR)"
-report 'cat of 1 MB to hcopy -r' "$(best 15 "$tool" cat "$volume" 2 megabyte)" "$(best 15 hcopy -r :megabyte "$folder/copy")"
-humount
+# Measures on a volume of this size.
+measure() {
+    local volume=$folder/many.img ours
+    sh crates/hfs_catalog_lists/make_volume.sh "$volume" "$1" > /dev/null
+    hmount "$volume" > /dev/null
+    hcopy -r "$folder/megabyte" :megabyte
+    echo "6,000 items in $1:"
+    ours=$(best 31 "$tool" check "$volume")
+    if command -v fsck.hfs > /dev/null; then
+        report 'check to fsck.hfs -n' "$ours" "$(best 31 fsck.hfs -n "$volume")"
+    else
+        awk -v ours="$ours" 'BEGIN { printf "    check: %.1f ms; fsck.hfs is not installed\n", ours / 1000 }'
+    fi
+    report 'every folder to hls -laR' "$(best 31 "$folder_lists" "$volume")" "$(best 31 hls -laR)"
+    report 'ls of the root to hls -la' "$(best 31 "$tool" ls "$volume")" "$(best 31 hls -la)"
+    report 'a run for each folder to a run for each' "$(best 2 list_each "$volume")" "$(best 2 peer_list_each)"
+    report 'cat of 1 MB to hcopy -r' "$(best 31 "$tool" cat "$volume" 2 megabyte)" "$(best 31 hcopy -r :megabyte "$folder/copy")"
+    humount
+}
+
+head -c 1048576 /dev/urandom > "$folder/megabyte"
+measure 6M
+measure 20M

@@ -19,6 +19,6 @@ pub use files::{load_file, write_file};
 pub use forks::write_fork;
 pub use info::{InfoFault, run_info};
 pub use input::{IMAGE_LIMIT, LoadFault, load};
-pub use listing::{code_text, list_text};
+pub use listing::{children_text, code_text, list_text};
 pub use refusal::Refusal;
 pub use reply::reply_text;

@@ -68,8 +68,9 @@ pub fn code_text(alloc: Global, reply: &Reply) -> Result<String, AllocError>
     Ok(text)
 }
 
-/// The exit status and the lines of a reply to List.
-fn children_text(alloc: Global, reply: &Reply) -> Result<(u8, String), AllocError>
+/// The exit status and the lines of a reply to List: 0 and a line for each child in the reply's order, or 3 and the code.
+/// The only error is want of memory.
+pub fn children_text(alloc: Global, reply: &Reply) -> Result<(u8, String), AllocError>
     ensures status { IfOk result (λ told. told.0 ≡ list_status reply.now) }
     ensures lines { IfOk result (λ told. string_bytes told.1 ≡ list_lines reply.now) }
 {

@@ -1,0 +1,62 @@
+//! Lists every folder of the volume in an image file, as `hfs_tool ls` lists one: the items of the root, and behind them
+//! those of the folders among them, in their order. The file is loaded and mounted once. It is what stands beside `hls -laR`
+//! of hfsutils in `tests/times.sh`.
+#![tactic(auto)]
+
+use anyhow::{Result, bail, ensure};
+use hfs_commands::{children_text, load_file};
+use hfs_model::{ItemKind, Reply, Value};
+use hfs_volume::{Volume, mount};
+use std::alloc::{AllocError, Global};
+use std::env;
+use std::io::{BufWriter, Write};
+
+fn main(rt: HostRuntime) -> Result<()> {
+    let mut words = env::args(&rt)?;
+    let _program = words.next();
+    let Some(file) = words.next() else {
+        bail!("the word is: FILE");
+    };
+    let Ok(image) = load_file(&rt, file.as_str()) else {
+        bail!("the file is not read");
+    };
+    // each folder has a record of more than one byte
+    let most = image.len();
+    let Ok(volume) = mount(rt.alloc(), image) else {
+        bail!("the volume is refused");
+    };
+    let mut out = BufWriter::new(rt.alloc(), rt.stdout())?;
+    write_folders(rt.alloc(), &mut out, &volume, most)?;
+    out.flush()?;
+    Ok(())
+}
+
+/// Writes the lines of each folder, of which there are at most so many.
+fn write_folders<W: Write>(alloc: Global, out: &mut W, volume: &Volume, most: usize) -> Result<()> {
+    let mut waiting = Vec::new(alloc);
+    waiting.push(2)?;
+    for _turn in 0..most {
+        let Some(dir) = waiting.pop() else {
+            return Ok(());
+        };
+        let reply = volume.list(alloc, dir)?;
+        let (status, lines) = children_text(alloc, &reply)?;
+        ensure!(status == 0, "a folder is not listed");
+        out.write_all(lines.as_bytes())?;
+        push_folders(&reply, &mut waiting)?;
+    }
+    bail!("there are more folders than that")
+}
+
+/// Puts the folders among the items of a list on the pile of those that wait, the first on top.
+fn push_folders(reply: &Reply, waiting: &mut Vec<u32>) -> Result<(), AllocError> {
+    let Value::Many(items) = &reply.value else {
+        return Ok(());
+    };
+    for item in items.as_slice().iter().rev() {
+        if item.kind == ItemKind::Folder {
+            waiting.push(item.id)?;
+        }
+    }
+    Ok(())
+}

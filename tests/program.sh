@@ -1,0 +1,169 @@
+#!/usr/bin/env bash
+# Runs the program as its users do: every folder of three real volumes listed and both forks of each file read, against
+# the lists that libhfs made of them; what the README shows; each exit status with its text; and that nothing which reads
+# changes an image. Prints 'the program agrees', or what differs and ends with status 1.
+set -euo pipefail
+cd "$(dirname "$0")/.."
+tool=$PWD/crates/hfs_tool/out/hfs_tool
+volumes=$PWD/crates/hfs_volume_reports/data
+lists=$PWD/crates/hfs_mounted_lists/stdout
+[ -x "$tool" ] || (cd crates/hfs_tool && rt run < stdin > /dev/null)
+
+folder=$(mktemp -d)
+trap 'rm -rf "$folder"' EXIT
+
+fail() {
+    echo "the program differs: $1"
+    exit 1
+}
+
+# Wants this exit status and these bytes on standard output, and nothing on standard error, of the program with the words
+# behind them.
+wants() {
+    local status=$1 text=$2 got=0
+    shift 2
+    "$tool" "$@" > "$folder/printed" 2> "$folder/errors" || got=$?
+    [ "$got" = "$status" ] || fail "'$*' ends with $got"
+    printf "$text" | cmp -s - "$folder/printed" || fail "'$*' prints $(cat "$folder/printed")"
+    [ ! -s "$folder/errors" ] || fail "'$*' writes to standard error"
+}
+
+# The list that libhfs made of a volume, a line for each item; a backslash stands there as its code.
+list_of() {
+    awk -F'\t' -v name="$1" 'NF == 1 { here = ($0 == name); next } here' "$lists" | sed 's/\\5c/\\/g'
+}
+
+# The FNV-1a sum of standard input, from the basis that the lists have.
+sum() {
+    perl -e 'use integer; local $/; my $sum = 0x14650fb0739d0383;
+        for (unpack "C*", <STDIN> // "") { $sum = ($sum ^ $_) * 0x100000001b3 } printf "%016x", $sum'
+}
+
+# Compares the list of every folder of a volume.
+compare_folders() {
+    local name=$1 image=$2 dir
+    for dir in 2 $(awk -F'\t' '$1 == "d" { print $2 }' "$folder/list"); do
+        awk -F'\t' -v dir="$dir" 'BEGIN { OFS = "\t" }
+            $3 == dir { print ($1 == "d" ? "d" : "f"), $2, $4, ($1 == "d" ? 0 : $5), $12 }' "$folder/list" > "$folder/wanted"
+        "$tool" ls "$image" "$dir" > "$folder/printed" || fail "ls $dir of $name ends with $?"
+        cmp "$folder/wanted" "$folder/printed" || fail "the folder $dir of $name"
+    done
+}
+
+# Compares the sums of both forks of every file of a volume.
+compare_forks() {
+    local name=$1 image=$2 kind id parent length resource data_sum resource_sum rest item
+    while IFS=$'\t' read -r kind id parent length resource data_sum resource_sum rest; do
+        [ "$kind" != d ] || continue
+        item=${rest##*$'\t'}
+        [ "$("$tool" cat "$image" "$parent" "$item" | sum)" = "$data_sum" ] || fail "the data fork of $id in $name"
+        [ "$("$tool" cat "$image" "$parent" "$item" --resource | sum)" = "$resource_sum" ] || fail "the resource fork of $id in $name"
+    done < "$folder/list"
+}
+
+# Makes changed.img of an image, with other bytes from a place on.
+change() {
+    cp "$1" "$folder/changed.img"
+    printf "$3" | dd of="$folder/changed.img" bs=1 seek="$2" conv=notrunc 2> /dev/null
+}
+
+for name in hfsutils-800k hfsutils-1440k-names genisoimage-locked; do
+    cp "$volumes/$name.img" "$folder/read.img"
+    list_of "$name" > "$folder/list"
+    [ -s "$folder/list" ] || fail "there is no list of $name"
+    compare_folders "$name" "$folder/read.img"
+    compare_forks "$name" "$folder/read.img"
+    cmp "$volumes/$name.img" "$folder/read.img" || fail "$name was written"
+done
+
+# What the README shows.
+disk=$volumes/hfsutils-800k.img
+wants 0 'sound\nfiles 7\nfolders 4\nfree 1499\nalternate same\nunowned 0\n' check "$disk"
+wants 0 'd\t17\t4\t0\tDocuments\nd\t19\t3\t0\tGames\nd\t16\t0\t0\tSystem Folder\n' ls "$disk"
+[ "$("$tool" cat "$disk" 19 m0 | wc -c)" = 700 ] || fail 'the data fork of m0'
+[ "$("$tool" cat "$disk" 19 m0 --resource | wc -c)" = 300 ] || fail 'the resource fork of m0'
+"$tool" info "$disk" | cmp -s - <("$tool" < "$disk") || fail 'info by path and by standard input'
+wants 0 '' new "$folder/new.img" Archive 1600 40 4 --now 3786912000
+wants 0 'sound\nfiles 0\nfolders 0\nfree 1550\nalternate same\nunowned 0\n' check "$folder/new.img"
+
+# Small volumes, and the statuses 0, 2 and 3 on them.
+small=$folder/small.img
+wants 0 '' new "$small" D 64 6 2
+[ "$(stat -c %s "$small")" = 32768 ] || fail 'the length of a new volume'
+wants 0 'sound\nfiles 0\nfolders 0\nfree 50\nalternate same\nunowned 0\n' check "$small"
+wants 0 '' ls "$small"
+wants 3 'code -120\n' ls "$small" 99
+wants 3 'code -43\n' cat "$small" 2 q
+wants 3 'code -120\n' cat "$small" 3 q
+wants 3 'code -37\n' cat "$small" 2 a:b
+wants 3 'code -43\n' cat "$disk" 2 Games
+change "$small" $((6 * 512)) '\000\000\000\001'
+wants 2 'refused check C4 at 0\n' check "$folder/changed.img"
+wants 2 'check C4 at 0\n' ls "$folder/changed.img"
+wants 2 'check C4 at 0\n' cat "$folder/changed.img" 2 q
+change "$small" $((2 * 512 + 84)) '\000\000\000\001'
+wants 2 'refused check C10 at 3\n' check "$folder/changed.img"
+change "$small" $((2 * 512 + 18)) '\000\000'
+wants 2 'refused bad master directory block M1 (-60)\n' check "$folder/changed.img"
+wants 2 'bad master directory block M1 (-60)\n' ls "$folder/changed.img"
+head -c 31743 "$small" > "$folder/cut.img"
+wants 2 'refused bad master directory block M4 (-60)\n' check "$folder/cut.img"
+head -c 31744 "$small" > "$folder/cut.img"
+wants 0 'sound\nfiles 0\nfolders 0\nfree 50\nalternate missing\nunowned 0\n' check "$folder/cut.img"
+wants 2 'refused check C7 at 2\n' check "$volumes/refused-macroman.img"
+wants 2 'refused check C7 at 4\n' check "$volumes/refused-icon.img"
+head -c 1535 /dev/zero > "$folder/zeros.img"
+wants 2 'refused image too short\n' check "$folder/zeros.img"
+wants 2 'image too short\n' info "$folder/zeros.img"
+wants 2 'image too short\n' ls "$folder/zeros.img"
+head -c 1536 /dev/zero > "$folder/zeros.img"
+wants 2 'refused not an HFS volume (-57)\n' check "$folder/zeros.img"
+wants 2 'not an HFS volume (-57)\n' info "$folder/zeros.img"
+truncate -s 2147483649 "$folder/large.img"
+wants 2 'refused image too large\n' check "$folder/large.img"
+wants 2 'image too large\n' ls "$folder/large.img"
+rm "$folder/large.img"
+wants 2 'bad name\n' new "$folder/none.img" 1234567890123456789012345678 64 6 2
+wants 2 'bad size\n' new "$folder/none.img" D 7 6 2
+wants 2 'bad node count\n' new "$folder/none.img" D 64 1 2
+wants 2 'no room\n' new "$folder/none.img" D 8 2 1
+[ ! -e "$folder/none.img" ] || fail 'a refused plan made a file'
+
+# The words, and files that are not there: the statuses 1 and 4.
+for words in sing ls cat "cat $small" "ls $small two" "ls $small 4294967296" "new $folder/none.img D 64 6"; do
+    got=0
+    "$tool" $words > "$folder/printed" 2> "$folder/errors" || got=$?
+    [ "$got" = 1 ] || fail "'$words' ends with $got"
+    [ -s "$folder/printed" ] && [ ! -s "$folder/errors" ] || fail "'$words' does not say what is wrong"
+done
+"$tool" --help | grep -q hfs_tool || fail 'help'
+wants 1 'the words are not text\n' ls $'\xff'
+wants 4 "cannot read $folder/none.img\n" check "$folder/none.img"
+wants 4 "cannot read $folder/none.img\n" info "$folder/none.img"
+wants 4 "cannot read $folder\n" ls "$folder"
+wants 4 "cannot write $folder/none/file\n" new "$folder/none/file" D 64 6 2
+got=0
+"$tool" < "$folder" > "$folder/printed" || got=$?
+[ "$got" = 4 ] && [ "$(cat "$folder/printed")" = 'cannot read stdin' ] || fail 'standard input that is no file'
+
+# A device that is full, and a pipe that nobody reads: status 4, and no further text.
+for words in "info $disk" "check $disk" "ls $disk" "cat $disk 19 m2"; do
+    got=0
+    "$tool" $words > /dev/full 2> "$folder/errors" || got=$?
+    [ "$got" = 4 ] && [ ! -s "$folder/errors" ] || fail "'$words' on a full device ends with $got"
+    (
+        got=0
+        sleep 0.2
+        "$tool" $words 2> "$folder/errors" || got=$?
+        echo "$got" > "$folder/status"
+    ) | true
+    [ "$(cat "$folder/status")" = 4 ] && [ ! -s "$folder/errors" ] || fail "'$words' on a closed pipe ends with $(cat "$folder/status")"
+done
+
+# Less memory than an image needs: status 5.
+truncate -s 200M "$folder/sparse.img"
+got=0
+(ulimit -v 100000 && "$tool" check "$folder/sparse.img") > "$folder/printed" || got=$?
+[ "$got" = 5 ] && [ "$(cat "$folder/printed")" = 'out of memory' ] || fail "too little memory ends with $got"
+
+echo 'the program agrees'
