@@ -2,23 +2,13 @@
 use Rattle.std.specs.Prelude.{ℕ, List, ◌++◌, Option, Some, None, codes}
 use Rattle.std.specs.Fmt.{decimal}
 use Rattle.hfs_check.specs.declared.mount_fault.MountFault.{MountFault}
-use Rattle.hfs_check.specs.declared.mount_fault.MountFault.TheVariants as mount
 use Rattle.hfs_check.specs.declared.reported.Alternate.{Alternate}
 use Rattle.hfs_check.specs.declared.reported.Alternate.TheVariants as alternate
 use Rattle.hfs_check.specs.declared.reported.Report.{Report}
 use Rattle.hfs_commands.specs.declared.fault.Status.{Status}
 use Rattle.hfs_commands.specs.declared.fault.Status.TheVariants as status
-use Rattle.hfs_commands.specs.Faults.{status_number}
+use Rattle.hfs_commands.specs.Faults.{refusal_text, status_number}
 use Rattle.hfs_commands.specs.Lines.{line}
-
--- why an image is refused, with the File Manager's own code where it has one
-unfoldable pub refusal_text : MountFault → List ℕ
-refusal_text mount.TooLarge = codes "image too large"
-refusal_text mount.Short = codes "image too short"
-refusal_text mount.NoMacDisk = codes "not an HFS volume (-57)"
-refusal_text (mount.BadMdb test) = codes "bad master directory block M" ++ decimal test ++ codes " (-60)"
-refusal_text (mount.Check number place) = codes "check C" ++ decimal number ++ codes " at " ++ decimal place
-refusal_text mount.Memory = codes "out of memory"
 
 -- how the copy of the master directory block stands to it
 abbrev pub alternate_text : Alternate → List ℕ

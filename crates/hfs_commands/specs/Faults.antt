@@ -1,5 +1,8 @@
--- How the program ends.
-use Rattle.std.specs.Prelude.{ℕ}
+-- What is printed of a fault, and how the program ends.
+use Rattle.std.specs.Prelude.{ℕ, List, [], ◌++◌, codes}
+use Rattle.std.specs.Fmt.{decimal}
+use Rattle.hfs_check.specs.declared.mount_fault.MountFault.{MountFault}
+use Rattle.hfs_check.specs.declared.mount_fault.MountFault.TheVariants as mount
 use Rattle.hfs_commands.specs.declared.fault.Status.{Status}
 use Rattle.hfs_commands.specs.declared.fault.Status.TheVariants as status
 use Rattle.hfs_commands.specs.declared.fault.Fault.{Fault}
@@ -26,3 +29,25 @@ status_of (fault.CannotRead file) = status.DeviceFailed
 status_of (fault.CannotWrite file) = status.DeviceFailed
 status_of fault.OutputFailed = status.DeviceFailed
 status_of fault.NoMemory = status.NoMemory
+
+-- why an image is refused, with the File Manager's own code where it has one
+unfoldable pub refusal_text : MountFault → List ℕ
+refusal_text mount.TooLarge = codes "image too large"
+refusal_text mount.Short = codes "image too short"
+refusal_text mount.NoMacDisk = codes "not an HFS volume (-57)"
+refusal_text (mount.BadMdb test) = codes "bad master directory block M" ++ decimal test ++ codes " (-60)"
+refusal_text (mount.Check number place) = codes "check C" ++ decimal number ++ codes " at " ++ decimal place
+refusal_text mount.Memory = codes "out of memory"
+
+-- why a command was not done; nothing where standard output failed
+unfoldable pub fault_text : Fault → List ℕ
+fault_text fault.WordsNotText = codes "the words are not text"
+fault_text (fault.Refused why) = refusal_text why
+fault_text fault.BadName = codes "bad name"
+fault_text fault.BadSize = codes "bad size"
+fault_text fault.BadNodeCount = codes "bad node count"
+fault_text fault.NoRoom = codes "no room"
+fault_text (fault.CannotRead file) = codes "cannot read " ++ file.now
+fault_text (fault.CannotWrite file) = codes "cannot write " ++ file.now
+fault_text fault.OutputFailed = []
+fault_text fault.NoMemory = codes "out of memory"

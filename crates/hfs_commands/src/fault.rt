@@ -1,6 +1,6 @@
 //! Why a command was not done, and how the program ends.
-ghost use Rattle.std.specs.Prelude.{◌≡◌, ◌≢◌};
-ghost use Rattle.hfs_commands.specs.Faults.{status_number, status_of};
+ghost use Rattle.std.specs.Prelude.{◌≡◌, ◌≢◌, Some};
+ghost use Rattle.hfs_commands.specs.Faults.{fault_text, status_number, status_of};
 
 use crate::info::InfoFault;
 use crate::input::LoadFault;
@@ -147,6 +147,9 @@ impl Fault<'static> {
 }
 
 impl fmt::Display for Fault<'_> {
+    ghost output = { λ fault. Some (fault_text fault) };
+
+    #[tactic(auto, unfolding(crate::specs::Faults::fault_text))]
     fn fmt<W: fmt::Write>(&self, f: &mut fmt::Formatter<W>) -> fmt::Result {
         match self {
             Fault::WordsNotText => write!(f, "the words are not text"),

@@ -1,12 +1,14 @@
 //! The bytes of a file's fork, and nothing else.
-ghost use Rattle.std.specs.Prelude.{◌≡◌, pos, IfOk};
+ghost use Rattle.std.specs.Prelude.{◌≡◌, ◌≢◌, ◌⊎◌, pos, IfErr, IfOk, OnErr, OnOk};
 ghost use Rattle.std.specs.Io.KnownBytes.{Appends};
 ghost use Rattle.hfs_model.specs.Children.{entries_of};
 ghost use Rattle.hfs_model.specs.Reading.{read_fork};
 ghost use Rattle.hfs_check.specs.VolumeOf.{volume_of};
-ghost use Rattle.hfs_commands.specs.Forks.{bytes_of, fork_named, told_len};
+ghost use Rattle.hfs_commands.specs.Forks.{IsLastRead, bytes_of, fork_code, fork_named, told_len};
+ghost use Rattle.hfs_commands.specs.Writing.{AppendsFront};
 
 use crate::fault::Fault;
+use crate::output::put;
 use hfs_model::{Fork, Info, Reply, Value};
 use hfs_volume::Volume;
 use std::alloc::Global;
@@ -15,9 +17,10 @@ use std::io::Write;
 /// The most bytes that are read by one call.
 const PIECE: u32 = 65_536;
 
-/// Writes a file's fork, read in pieces of at most 65,536 bytes, and answers the last call's reply. Where its code is 0,
-/// all bytes were written; else no item of that name was found, or it is a folder. The folder is given by its ID. Faults:
-/// `OutputFailed`, and then a part may have gone out, and `NoMemory`.
+/// Writes a file's fork, read in pieces of at most 65,536 bytes, and answers the last call's reply. Its code is 0 where all
+/// bytes were written; nothing was written at -37 (not an item name), -120 (no folder of that ID) and -43 (no item of that
+/// name, or a folder). The folder is given by its ID. Faults: `OutputFailed` and `NoMemory`, and then a part of the fork
+/// may have gone out, from its beginning on.
 pub fn write_fork<W: Write>(
     alloc: Global,
     writer: &mut W,
@@ -26,7 +29,14 @@ pub fn write_fork<W: Write>(
     name: &[u8],
     fork: Fork,
 ) -> Result<Reply, Fault<'static>>
-    ensures { IfOk result (λ reply. reply.code ≡ pos 0 → Appends (W.contents writer.old) (W.contents writer.new) (fork_named (entries_of (volume_of volume.now.current)) dir name.now fork)) }
+    ensures code { IfOk result (λ reply. reply.code ≡ fork_code (entries_of (volume_of volume.now.current)) dir name.now) }
+    ensures last { IfOk result (λ reply. IsLastRead (entries_of (volume_of volume.now.current)) dir name.now fork reply) }
+    ensures written { OnOk result (Appends (W.contents writer.old) (W.contents writer.new)
+        (fork_named (entries_of (volume_of volume.now.current)) dir name.now fork)) }
+    ensures unwritten { IfOk result (λ reply. reply.code ≢ pos 0 → writer.new ≡ writer.old) }
+    ensures part { OnErr result (AppendsFront (W.contents writer.old) (W.contents writer.new)
+        (fork_named (entries_of (volume_of volume.now.current)) dir name.now fork)) }
+    ensures faults { IfErr result (λ fault. (fault ≡ Fault.OutputFailed) ⊎ (fault ≡ Fault.NoMemory)) }
 {
     let found = volume.get_cat_info(dir, name);
     let Value::One(info) = &found.value else {
@@ -66,12 +76,16 @@ fn write_piece<W: Write>(
 ) -> Result<Reply, Fault<'static>>
     ensures reply { IfOk result (λ reply. reply ≡ read_fork (entries_of (volume_of volume.now.current)) dir name.now fork offset count) }
     ensures written { IfOk result (λ reply. Appends (W.contents writer.old) (W.contents writer.new) (bytes_of reply.value)) }
+    ensures unwritten { IfOk result (λ reply. reply.value ≡ Value.Nothing → writer.new ≡ writer.old) }
+    ensures part { OnErr result (AppendsFront (W.contents writer.old) (W.contents writer.new)
+        (bytes_of (read_fork (entries_of (volume_of volume.now.current)) dir name.now fork offset count).value)) }
+    ensures faults { IfErr result (λ fault. (fault ≡ Fault.OutputFailed) ⊎ (fault ≡ Fault.NoMemory)) }
 {
     let Ok(reply) = volume.read_fork(alloc, dir, name, fork, offset, count) else {
         return Err(Fault::NoMemory);
     };
     if let Value::Bytes(bytes) = &reply.value {
-        let Ok(()) = writer.write_all(bytes.as_slice()) else {
+        let Ok(()) = put(writer, bytes.as_slice()) else {
             return Err(Fault::OutputFailed);
         };
     }

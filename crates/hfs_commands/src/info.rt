@@ -2,9 +2,11 @@
 ghost use Rattle.std.specs.Prelude.{◌≡◌, ◌≢◌, ◌++◌, ◌<◌, ℕ, List, OnOk, IfOk, OnErr, IsErrOf, length, string_bytes};
 ghost use Rattle.std.specs.Io.KnownBytes.{Appends, Consumes, IsAtEnd};
 ghost use Rattle.hfs_commands.specs.Reading.{GaveHead, HasSignature, info_text};
+ghost use Rattle.hfs_commands.specs.Writing.{AppendsFront};
 ghost use Rattle.hfs_commands.specs.Info.{first_lines, middle_lines, last_lines, info_lines};
 
 use crate::input::fill;
+use crate::output::put;
 use crate::text::{Hex, ShownExtents, ShownName, push_line};
 use hfs_fields::Mdb;
 use std::alloc::{AllocError, Global};
@@ -26,7 +28,7 @@ pub enum InfoFault {
     /// The reader failed before 1,536 bytes.
     #[error("cannot read")]
     ReadFailed,
-    /// The writer failed, and a part of the lines may have gone out.
+    /// The writer failed, and a part of the lines may have gone out, from the first on.
     #[error("cannot write")]
     WriteFailed,
     /// Memory for the text was refused.
@@ -56,9 +58,11 @@ pub fn run_info<R: Read, W: Write>(
     // The reader failed before that.
     ensures read_failed { IsErrOf result InfoFault.ReadFailed → (read : List ℕ) × (length read < 1536)
         × Consumes (R.remaining reader.old) (R.remaining reader.new) read }
-    // The volume is read and signed, and only its lines failed.
+    // The volume is read and signed, and only its lines failed: a part of them was written, from the first on.
     ensures write_failed { IsErrOf result InfoFault.WriteFailed → (head : List ℕ)
-        × GaveHead (R.remaining reader.old) (R.remaining reader.new) head × HasSignature head }
+        × GaveHead (R.remaining reader.old) (R.remaining reader.new) head × HasSignature head
+        × AppendsFront (W.contents writer.old) (W.contents writer.new) (info_text head) }
+    // The volume is read and signed, and there is no text.
     ensures memory { IsErrOf result InfoFault.Memory → (head : List ℕ)
         × GaveHead (R.remaining reader.old) (R.remaining reader.new) head × HasSignature head }
     // Nothing was written.
@@ -80,7 +84,7 @@ pub fn run_info<R: Read, W: Write>(
     let Ok(text) = info_lines(alloc, &mdb) else {
         return Err(InfoFault::Memory);
     };
-    let Ok(()) = writer.write_all(text.as_bytes()) else {
+    let Ok(()) = put(writer, text.as_bytes()) else {
         return Err(InfoFault::WriteFailed);
     };
     let Ok(()) = writer.flush() else {

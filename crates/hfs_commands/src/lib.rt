@@ -9,6 +9,7 @@ mod forks;
 mod info;
 mod input;
 mod listing;
+mod output;
 mod refusal;
 mod reply;
 mod text;

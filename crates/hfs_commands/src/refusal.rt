@@ -1,6 +1,6 @@
 //! The text of an image's fault.
 ghost use Rattle.std.specs.Prelude.{Some};
-ghost use Rattle.hfs_commands.specs.Checks.{refusal_text};
+ghost use Rattle.hfs_commands.specs.Faults.{refusal_text};
 
 use crate::text::Show;
 use hfs_check::MountFault;
@@ -14,7 +14,7 @@ pub struct Refusal(pub MountFault);
 impl fmt::Display for Refusal {
     ghost output = { λ refusal. Some (refusal_text refusal.0) };
 
-    #[tactic(auto, unfolding(crate::specs::Checks::refusal_text))]
+    #[tactic(auto, unfolding(crate::specs::Faults::refusal_text))]
     fn fmt<W: fmt::Write>(&self, f: &mut fmt::Formatter<W>) -> fmt::Result {
         match self.0 {
             MountFault::TooLarge => write!(f, "image too large"),
