@@ -1,20 +1,16 @@
 //! One record of a leaf or an index node.
 
 ghost use Rattle.std.specs.Prelude.{◌≡◌, true, drop};
-ghost use Rattle.std.specs.Ordering.{is_gt, is_eq, is_lt};
+ghost use Rattle.std.specs.Ordering.{is_gt};
 
 use crate::key::Key;
-use std::cmp::Ordering;
 
 /// Whether an index record's key is above this one.
 pub(crate) fn is_above<K: Key>(entry: &[u8], key: &K) -> bool
     requires { K.is_index entry.now ≡ true }
     ensures { result ≡ is_gt (K.compare (K.index_key entry.now) key.now) }
 {
-    match K::read_index(entry) {
-        Some((least, _)) => least.compare(key).is_gt(),
-        None => unreachable!(),
-    }
+    key.compare_index(entry).is_lt()
 }
 
 /// The child that an index record names.
@@ -46,17 +42,6 @@ pub(crate) fn key_of<K: Key>(entry: &[u8]) -> K
 {
     match K::read_leaf(entry) {
         Some((key, _)) => key,
-        None => unreachable!(),
-    }
-}
-
-/// How a key compares with that of a leaf's record.
-pub(crate) fn compare_with<K: Key>(key: &K, entry: &[u8]) -> Ordering
-    requires { K.is_leaf entry.now ≡ true }
-    ensures { result ≡ K.compare key.now (K.leaf_key entry.now) }
-{
-    match K::read_leaf(entry) {
-        Some((here, _)) => key.compare(&here),
         None => unreachable!(),
     }
 }

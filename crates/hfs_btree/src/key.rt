@@ -40,6 +40,16 @@ pub trait Key: Copy {
     fn compare(&self, other: &Self) -> Ordering
         ensures { result ≡ compare self.now other.now };
 
+    /// The order of this key and that of a leaf's record.
+    fn compare_leaf(&self, bytes: &[u8]) -> Ordering
+        requires { is_leaf bytes.now ≡ true }
+        ensures { result ≡ compare self.now (leaf_key bytes.now) };
+
+    /// The order of this key and that of an index node's record.
+    fn compare_index(&self, bytes: &[u8]) -> Ordering
+        requires { is_index bytes.now ≡ true }
+        ensures { result ≡ compare self.now (index_key bytes.now) };
+
     /// Whether a leaf's body may have so many bytes.
     fn is_body_len(len: usize) -> bool
         ensures { result ≡ is_body_len len };

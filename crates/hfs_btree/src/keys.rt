@@ -56,6 +56,16 @@ impl Key for CatKey {
         CatKey::compare(self, other)
     }
 
+    #[tactic(auto, unfolding(hfs_fields::specs::Keys::is_cat_leaf))]
+    fn compare_leaf(&self, bytes: &[u8]) -> Ordering {
+        self.compare_with(bytes)
+    }
+
+    #[tactic(auto, unfolding(hfs_fields::specs::Keys::is_cat_index))]
+    fn compare_index(&self, bytes: &[u8]) -> Ordering {
+        self.compare_with(bytes)
+    }
+
     fn is_body_len(len: usize) -> bool {
         len == 46 || len == 70 || len == 102
     }
@@ -114,6 +124,20 @@ impl Key for ExtKey {
 
     fn compare(&self, other: &Self) -> Ordering {
         ExtKey::compare(self, other)
+    }
+
+    fn compare_leaf(&self, bytes: &[u8]) -> Ordering {
+        match ExtKey::read_leaf(bytes) {
+            Some((here, _)) => ExtKey::compare(self, &here),
+            None => unreachable!(),
+        }
+    }
+
+    fn compare_index(&self, bytes: &[u8]) -> Ordering {
+        match ExtKey::read_index(bytes) {
+            Some((here, _)) => ExtKey::compare(self, &here),
+            None => unreachable!(),
+        }
     }
 
     fn is_body_len(len: usize) -> bool {

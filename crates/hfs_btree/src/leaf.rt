@@ -7,7 +7,6 @@ ghost use Rattle.hfs_btree.specs.Tree.{records_of, forward_of, pair_of};
 ghost use Rattle.hfs_btree.specs.Sound.{HasStructure};
 ghost use Rattle.hfs_btree.specs.Walk.{rest_at, IsAtLeaf, IsWalk};
 
-use crate::entry::compare_with;
 use crate::key::Key;
 use crate::nodes::Nodes;
 use hfs_node::view;
@@ -65,7 +64,7 @@ pub(crate) fn place_in<K: Key>(bytes: &[u8; 512], key: &K) -> usize
         return 0;
     };
     for i in 0..node.len() {
-        let order = compare_with(key, node.record(i));
+        let order = key.compare_leaf(node.record(i));
         if !order.is_gt() {
             return i;
         }

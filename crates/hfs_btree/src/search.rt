@@ -10,7 +10,7 @@ ghost use Rattle.hfs_btree.specs.Lookups.{first_pair};
 ghost use Rattle.hfs_btree.specs.Search.{is_not_above, child_for, leaf_for};
 ghost use Rattle.hfs_btree.specs.Sound.{IsSound};
 
-use crate::entry::{body_of, child_of, compare_with, is_above, key_of};
+use crate::entry::{body_of, child_of, is_above, key_of};
 use crate::header::Header;
 use crate::key::Key;
 use crate::leaf::forward_in;
@@ -94,7 +94,7 @@ fn body_in<'a, K: Key>(bytes: &'a [u8; 512], key: &K) -> Option<&'a [u8]>
     };
     for i in 0..node.len() {
         let entry = node.record(i);
-        let order = compare_with(key, entry);
+        let order = key.compare_leaf(entry);
         if order.is_eq() {
             return Some(body_of::<K>(entry));
         }
@@ -136,7 +136,7 @@ fn after_in<'a, K: Key>(bytes: &'a [u8; 512], key: &K) -> Option<&'a [u8]>
     };
     for i in 0..node.len() {
         let entry = node.record(i);
-        let order = compare_with(key, entry);
+        let order = key.compare_leaf(entry);
         if order.is_lt() {
             return Some(entry);
         }

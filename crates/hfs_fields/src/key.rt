@@ -168,6 +168,22 @@ impl CatKey {
             unlike => unlike,
         }
     }
+
+    /// The order of this key and the one that a record of the catalog begins with. The name is read only where the parents
+    /// are the same.
+    #[tactic(auto, unfolding(crate::specs::Keys::is_cat_key, crate::specs::Keys::cat_key_of))]
+    pub fn compare_with(&self, bytes: &[u8]) -> Ordering
+        requires { IsTrue (is_cat_key bytes.now) }
+        ensures { result ≡ cat_cmp self.now (cat_key_of bytes.now) }
+    {
+        match self.parent.cmp(&u32_at(bytes, 2)) {
+            Ordering::Equal => match name_at(bytes, 6) {
+                Some(name) => self.name.cmp_folded(&name),
+                None => unreachable!(),
+            },
+            unlike => unlike,
+        }
+    }
 }
 
 impl ExtKey {

@@ -10,7 +10,7 @@ pub returns-then-not-is_gt-clause-from : goal.returns-then-not-is_gt-clause-from
 returns-then-not-is_gt-clause-from g c =
     let es = c.in-Ok.node.records in
     let same = ap records_of c.in-Ok.ensures.node in
-    let hit : is_gt (g.K.Key.compare c.args.key.now (g.K.Key.leaf_key c.record.result.now)) ≡ false = cc (c.is_gt.ensures, c.compare_with-order.ensures, c.if-not-is_gt.true) in
+    let hit : is_gt (g.K.Key.compare c.args.key.now (g.K.Key.leaf_key c.record.result.now)) ≡ false = cc (c.is_gt.ensures, c.compare_leaf-order.ensures, c.if-not-is_gt.true) in
     let lt : c.loop-i.i < length es = omega (arith, c.len-i-end.ensures.count) in
     ap (λ (xs : List (List ℕ)). drop c.loop-i.i (map (pair_of g.K.Key) xs)) (sym same)
     ∙ drop-map (pair_of g.K.Key) c.loop-i.i es
