@@ -1,14 +1,19 @@
 //! Files by their paths.
+ghost use Rattle.std.specs.Prelude.{◌≡◌, ◌≤◌, ◌⊎◌, IfErr, IfOk, length};
 
 use crate::fault::Fault;
-use crate::input::load;
+use crate::input::{IMAGE_LIMIT, load};
+use hfs_check::MountFault;
 use std::fs;
 use std::fs::File;
 use std::rt::Files;
 
 /// All bytes of a file, at most 2,147,483,648. Faults: `CannotRead` where it can't be opened or a read fails,
 /// `Refused(TooLarge)` where it has more, `NoMemory`.
-pub fn load_file<'a, R: Files + AllocGlobal>(rt: &R, path: &'a str) -> Result<Vec<u8>, Fault<'a>> {
+pub fn load_file<'a, R: Files + AllocGlobal>(rt: &R, path: &'a str) -> Result<Vec<u8>, Fault<'a>>
+    ensures limit { IfOk result (λ bytes. length bytes.items ≤ IMAGE_LIMIT) }
+    ensures faults { IfErr result (λ fault. (fault ≡ Fault.CannotRead path.entry) ⊎ (fault ≡ Fault.Refused MountFault.TooLarge) ⊎ (fault ≡ Fault.NoMemory)) }
+{
     let Ok(mut file) = File::open(rt, path) else {
         return Err(Fault::CannotRead(path));
     };
@@ -19,7 +24,9 @@ pub fn load_file<'a, R: Files + AllocGlobal>(rt: &R, path: &'a str) -> Result<Ve
 }
 
 /// Makes these bytes the file's, in place of what it had. Fault: `CannotWrite`, and then the file may hold a part.
-pub fn write_file<'a, R: Files>(rt: &R, path: &'a str, bytes: &[u8]) -> Result<(), Fault<'a>> {
+pub fn write_file<'a, R: Files>(rt: &R, path: &'a str, bytes: &[u8]) -> Result<(), Fault<'a>>
+    ensures { IfErr result (λ fault. fault ≡ Fault.CannotWrite path.entry) }
+{
     match fs::write(rt, path, bytes) {
         Ok(()) => Ok(()),
         Err(_) => Err(Fault::CannotWrite(path)),

@@ -1,9 +1,10 @@
 //! What is told of volumes that are laid by hand: an empty one, and one with a file in four extents.
+use crate::devices::FailingWriter;
 use hfs_check::{FormatPlan, format};
-use hfs_commands::{check_text, list_text, write_fork};
+use hfs_commands::{Fault, check_text, list_text, write_fork};
 use hfs_model::Fork;
 use hfs_volume::mount;
-use std::alloc::Global;
+use std::alloc::{AllocError, Global};
 use std::test::Fail;
 
 /// A new volume `D` of 64 blocks, with 2 nodes of extents and 6 of the catalog.
@@ -99,6 +100,24 @@ fn images_are_checked(rt: HostRuntime) -> Result<(), Fail> {
     Ok(())
 }
 
+/// Zeros, as many as these.
+fn zeros(alloc: Global, len: usize) -> Result<Vec<u8>, AllocError> {
+    vec![in alloc; 0u8; len]
+}
+
+#[test]
+fn other_bytes_are_refused(rt: HostRuntime) -> Result<(), Fail> {
+    let image = zeros(rt.alloc(), 1535)?;
+    let (status, lines) = check_text(rt.alloc(), &image)?;
+    assert_eq!(rt; lines.as_str(), "refused image too short\n");
+    assert_eq!(rt; status, 2);
+    let image = zeros(rt.alloc(), 1536)?;
+    let (status, lines) = check_text(rt.alloc(), &image)?;
+    assert_eq!(rt; lines.as_str(), "refused not an HFS volume (-57)\n");
+    assert_eq!(rt; status, 2);
+    Ok(())
+}
+
 #[test]
 fn blocks_that_nobody_owns_are_told(rt: HostRuntime) -> Result<(), Fail> {
     let mut image = empty_volume(rt.alloc())?;
@@ -167,7 +186,23 @@ fn forks_are_written(rt: HostRuntime) -> Result<(), Fail> {
             return Err(Fail::new("memory was refused"));
         };
         assert_eq!(rt; reply.code, code);
-        assert_eq!(rt; bytes.len(), 0);
+        assert!(rt; bytes.is_empty());
     }
+    Ok(())
+}
+
+#[test]
+fn failed_writes_of_forks_are_told(rt: HostRuntime) -> Result<(), Fail> {
+    let Ok(volume) = mount(rt.alloc(), volume_with_file(rt.alloc())?) else {
+        return Err(Fail::new("a volume with a file was refused"));
+    };
+    for left in [0usize, 1, 1999] {
+        let mut writer = FailingWriter { left };
+        let ended = write_fork(rt.alloc(), &mut writer, &volume, 2, b"f", Fork::DataFork);
+        assert!(rt; matches!(&ended, Err(Fault::OutputFailed)), "after {left}");
+    }
+    let mut writer = FailingWriter { left: 2000 };
+    let ended = write_fork(rt.alloc(), &mut writer, &volume, 2, b"f", Fork::DataFork);
+    assert!(rt; matches!(&ended, Ok(reply) if reply.code == 0));
     Ok(())
 }

@@ -1,5 +1,8 @@
 //! The program's words, from the command line to a typed command.
 
+ghost use Rattle.std.specs.Prelude.{◌≡◌, [], unwrap_or};
+ghost use Rattle.clap.specs.Matches.{first_value, found_of};
+
 use clap::{Arg, ArgAction, ArgMatches, Command, Error, value_parser};
 use hfs_model::Fork;
 use std::alloc::{AllocError, Global};
@@ -193,7 +196,9 @@ fn new_words<'a>(matches: &ArgMatches<'a>) -> Words<'a> {
 }
 
 /// The text of a word that has to be there.
-fn text_of<'a>(matches: &ArgMatches<'a>, id: &str) -> &'a str {
+fn text_of<'a>(matches: &ArgMatches<'a>, id: &str) -> &'a str
+    ensures { result.now ≡ unwrap_or (first_value (found_of matches.now) id.now) [] }
+{
     matches.get_str(id).unwrap_or("")
 }
 

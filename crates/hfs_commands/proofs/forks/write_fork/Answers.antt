@@ -1,5 +1,5 @@
 -- What is written are the fork's bytes up to the offset, and at the end all of them.
-use Rattle.std.proofs.Common.{◌≡◌, ◌≤◌, ◌<◌, ◌+◌, length, rules, arith, sym, ap, ◌∙◌}
+use Rattle.std.proofs.Common.{◌≤◌, ◌+◌, length, rules, arith, ap, ◌∙◌}
 use Rattle.hfs_model.specs.Children.{entries_of}
 use Rattle.hfs_check.specs.VolumeOf.{volume_of}
 use Rattle.hfs_commands.specs.Forks.{fork_named}
