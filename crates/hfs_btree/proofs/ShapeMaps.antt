@@ -1,5 +1,5 @@
 -- The node map of a tree, and the nodes that it marks.
-use Rattle.std.proofs.Common.{◌≡◌, ℕ, zero, suc, ◌+◌, ◌*◌, ◌<◌, ◌≤◌, Bool, true, false, List, [], ◌∷◌, ◌++◌, length, get_or, set, replicate, Option, Some, None, Result, Ok, refl, sym, ap, ◌∙◌, arith}
+use Rattle.std.proofs.Common.{◌≡◌, ℕ, zero, suc, ◌*◌, ◌<◌, ◌≤◌, Bool, true, false, List, [], ◌++◌, length, get_or, set, replicate, Option, None, Result, Ok, refl, sym, ap, ◌∙◌}
 use Rattle.std.specs.Prelude.{◌||◌, ◌==◌}
 use Rattle.std.specs.List.{flat_map, list_all, list_any}
 use Rattle.std.specs.Option.{is_none}
@@ -8,7 +8,7 @@ use Rattle.hfs_node.specs.declared.fault.NodeFault.{NodeFault}
 use Rattle.hfs_node.specs.declared.node.Node.{Node}
 use Rattle.hfs_btree.specs.declared.fault.TreeFault.{TreeFault}
 use Rattle.hfs_btree.specs.declared.fault.TreeFault.TheVariants.{At, Memory}
-use Rattle.hfs_btree.specs.Tree.{Store, node_in, records_of, forward_of}
+use Rattle.hfs_btree.specs.Tree.{Store, node_in, records_of}
 use Rattle.hfs_btree.specs.Header.{header_in, record_in, chain_from, map_nodes, map_bytes, own_nodes, is_marked}
 use Rattle.hfs_btree.specs.Shape.{is_map_node, is_own, first_fault, chain_fault, has_map}
 use Rattle.hfs_btree.specs.ShapeSteps.{is_met, IsWrongAt}

@@ -1,21 +1,20 @@
 -- A tree has its shape exactly where it has no fault.
-use Rattle.std.proofs.Common.{◌≡◌, ◌≢◌, ℕ, zero, suc, ◌+◌, ◌*◌, ◌<◌, ◌≤◌, Bool, true, false, List, [], ◌∷◌, ◌++◌, length, get_or, map, Option, Some, None, Result, Ok, Err, refl, sym, ap, ◌∙◌, subst, arith, inl, inr}
-use Rattle.std.specs.Prelude.{◌&&◌, ◌||◌, ◌==◌, ◌↔◌, nat_lt, nat_le, not, cond}
+use Rattle.std.proofs.Common.{◌≡◌, ℕ, zero, suc, ◌+◌, ◌*◌, ◌≤◌, Bool, true, false, List, [], ◌∷◌, ◌++◌, length, get_or, map, Option, Some, None, Result, Ok, Err, refl, sym, ap, ◌∙◌, subst, arith, inl, inr}
+use Rattle.std.specs.Prelude.{◌&&◌, ◌||◌, ◌==◌, ◌↔◌, nat_lt, nat_le, not}
 use Rattle.std.specs.List.{list_all, list_any}
 use Rattle.std.specs.Option.{is_none}
-use Rattle.std.proofs.lemmas.Bool.{and_parts, and_from, or_parts, or_from, or_cases, or_left, eqb-true, eq-eqb, eqb-false, ne_eqb, leb-true, le-leb, ltb-true, lt-ltb, cases_Bool, true_from_ne_false, not-true, not_from_false}
+use Rattle.std.proofs.lemmas.Bool.{and_parts, and_from, or_parts, or_from, or_cases, or_left, eqb-true, eq-eqb, eqb-false, ne_eqb, leb-true, le-leb, ltb-true, lt-ltb, cases_Bool, not-true, not_from_false}
 use Rattle.hfs_node.specs.declared.kind.NodeKind.{NodeKind}
 use Rattle.hfs_node.specs.declared.kind.NodeKind.TheVariants.{Index, Header, Map, Leaf}
 use Rattle.hfs_node.specs.declared.fault.NodeFault.{NodeFault}
 use Rattle.hfs_node.specs.declared.node.Node.{Node}
-use Rattle.hfs_btree.specs.declared.header.Header as header
 use Rattle.hfs_btree.specs.declared.key.Key.{Ghosts}
 use Rattle.hfs_btree.specs.Pairs.{Each}
-use Rattle.hfs_btree.specs.Elements.{each-mono, each-map, each-unmap, each-left, each-right, each-append}
+use Rattle.hfs_btree.specs.Elements.{each-mono, each-left, each-right, each-append}
 use Rattle.hfs_btree.specs.Tree.{Store, node_in, records_of, Spot, kind_at, reads_at, first_of, last_of}
 use Rattle.hfs_btree.specs.Header.{header_in, record_in, map_nodes, own_nodes, map_bytes, is_marked, free_nodes, depth_of, leaves, tree_content, tree_turn, tree_nodes}
 use Rattle.hfs_btree.specs.Sound.{IsOther, IsDistinct, HasHeader, IsWithin, IsMapNode, IsMarked, HasMap, IsRight, HasLevels, HasEnds, HasStructure, HasCounts, IsWithinFile, IsShaped}
-use Rattle.hfs_btree.specs.Shape.{unless, ◌or_else◌, first_fault, is_header_kind, is_header_value, is_header_node, is_header_record, has_header, is_within, is_map_kind, is_map_value, is_map_result, is_map_node, chain_fault, has_map, is_kind_at, is_node_at, is_result_at, is_right, is_own, turn_fault, levels_fault, has_ends, has_counts, structure_fault, shape_fault}
+use Rattle.hfs_btree.specs.Shape.{unless, ◌or_else◌, first_fault, is_header_kind, is_header_node, is_header_record, has_header, is_within, is_map_kind, is_map_result, is_map_node, chain_fault, has_map, is_kind_at, is_node_at, is_result_at, is_right, is_own, levels_fault, has_ends, has_counts, structure_fault, shape_fault}
 
 -- ---- tests of each element
 

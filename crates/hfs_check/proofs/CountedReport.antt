@@ -9,7 +9,6 @@ use Rattle.hfs_space.specs.TreeKeys.{overflow_of}
 use Rattle.hfs_catalog.specs.Sound.{counts_of}
 use Rattle.hfs_catalog.specs.Tree.{catalog_of}
 use Rattle.hfs_check.specs.declared.reported.Alternate.{Alternate}
-use Rattle.hfs_check.specs.declared.reported.Report.{Report}
 use Rattle.hfs_check.specs.Parts.{Blocks, mdb_in, extents_nodes, overflow_in, catalog_nodes, catalog_in, owned_in}
 use Rattle.hfs_check.specs.Report.{alternate_in, sound_report}
 use Rattle.hfs_check.specs.Sound.{AreBlocksSound}

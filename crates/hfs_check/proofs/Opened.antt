@@ -1,12 +1,12 @@
 -- The check of a tree in its file, and the check of the tree alone.
 use Rattle.std.proofs.Common.{◌≡◌, ℕ, ◌*◌, ◌≤◌, ◌<◌, Bool, true, false, List, length, Option, Some, None, refl, sym, ap, subst, ◌∙◌, inl, inr}
-use Rattle.std.specs.Prelude.{◌↔◌, ◌%◌, ⊤, MatchResult, IfErr, Result, Ok, Err}
+use Rattle.std.specs.Prelude.{◌%◌, ⊤, MatchResult, IfErr, Result, Ok, Err}
 use Rattle.hfs_fields.specs.declared.mdb.Mdb.{Mdb}
 use Rattle.hfs_fields.specs.declared.extent.Extent.{Extent}
 use Rattle.std.proofs.lemmas.Bool.{le-leb, lt-leb}
 use Rattle.std.proofs.lemmas.Option.{none-some}
 use Rattle.hfs_btree.specs.Blocks.{block_at, block_count}
-use Rattle.hfs_btree.specs.Shape.{unless, ◌or_else◌, has_counts, shape_fault}
+use Rattle.hfs_btree.specs.Shape.{has_counts, shape_fault}
 use Rattle.hfs_btree.specs.Tree.{Store}
 use Rattle.hfs_btree.specs.declared.run.Run.{Run}
 use Rattle.hfs_space.specs.FileLengths.{length-tree_nodes}
@@ -17,8 +17,7 @@ use Rattle.hfs_space.specs.Laws.{TreeFiles}
 use Rattle.hfs_space.specs.TreeFiles.{tree_nodes}
 use Rattle.hfs_space.specs.TreeKeys.{ext_keys, IsExtentsTree, overflow_of}
 use Rattle.hfs_btree.specs.Sound.{IsShaped}
-use Rattle.hfs_catalog.specs.Records.{Catalog}
-use Rattle.hfs_catalog.specs.Tree.{cat_keys, catalog_of}
+use Rattle.hfs_catalog.specs.Tree.{cat_keys}
 use Rattle.hfs_check.specs.declared.mount_fault.MountFault.{MountFault}
 use Rattle.hfs_check.specs.declared.mount_fault.MountFault.TheVariants as fault
 use Rattle.hfs_check.specs.Faults.{◌or_fault◌, check_fault, extents_fault, extents_counts, catalog_fault, catalog_counts, trees_fault, records_fault, numbers_fault, length_fault, mdb_fault, blocks_fault, fault_of}

@@ -13,7 +13,7 @@ use Rattle.std.specs.List.{All}
 use Rattle.std.proofs.lemmas.List.Elements.{All-append}
 use Rattle.std.proofs.lemmas.List.Sums.{sum_by-append, sum_by-cons}
 use Rattle.hfs_btree.specs.Blocks.{run_of, nodes_in, total_of}
-use Rattle.hfs_space.specs.Forks.{blocks_each, run_in, file_blocks}
+use Rattle.hfs_space.specs.Forks.{blocks_each, run_in}
 use Rattle.hfs_space.specs.TreeFiles.{node_count, tree_nodes}
 use Rattle.hfs_space.proofs.Pieces.{take_past}
 

@@ -1,5 +1,4 @@
-use Rattle.std.proofs.Common.{ℕ, ◌≡◌, ◌-◌, ◌^◌, [], ◌∷◌, Option, sym, ap, ◌∙◌, subst, arith}
-use Rattle.hfs_btree.specs.Tree.{turn}
+use Rattle.std.proofs.Common.{ℕ, ◌-◌, ◌^◌, Option, sym, ap, ◌∙◌, subst, arith}
 use Rattle.hfs_btree.specs.Shape.{unless, ◌or_else◌, levels_fault, has_ends, has_counts}
 use Rattle.hfs_btree.specs.ShapeSteps.{IsFault}
 use Rattle.hfs_btree.proofs.ShapeTurn.{passed-fault}

@@ -1,8 +1,7 @@
-use Rattle.std.proofs.Common.{ℕ, ◌≡◌, ◌+◌, ◌-◌, ◌<◌, ◌∷◌, ◌++◌, List, Bool, true, length, refl, sym, ap, ◌∙◌, arith, append_assoc}
+use Rattle.std.proofs.Common.{ℕ, ◌≡◌, ◌-◌, ◌<◌, ◌∷◌, ◌++◌, List, Bool, true, length, sym, ap, ◌∙◌, arith, append_assoc}
 use Rattle.std.specs.Prelude.{◌||◌, ◌==◌}
 use Rattle.std.specs.List.{flat_map, list_any}
 use Rattle.std.proofs.Math.ListN.{length-set}
-use Rattle.hfs_btree.specs.Tree.{node_in, forward_of}
 use Rattle.hfs_btree.specs.Header.{record_in, chain_from}
 use Rattle.hfs_btree.specs.Shape.{is_map_node, first_fault}
 use Rattle.hfs_btree.specs.ShapeSteps.{is_met}

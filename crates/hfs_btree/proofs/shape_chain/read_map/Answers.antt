@@ -1,6 +1,6 @@
-use Rattle.std.proofs.Common.{ℕ, ◌≡◌, ◌<◌, ◌≤◌, ◌*◌, ◌∷◌, ◌++◌, [], List, Bool, true, false, length, replicate, refl, sym, ap, ◌∙◌, arith}
+use Rattle.std.proofs.Common.{ℕ, ◌≡◌, ◌∷◌, ◌++◌, [], List, length, refl, sym, ap, ◌∙◌, arith}
 use Rattle.std.specs.List.{list_all}
-use Rattle.hfs_btree.specs.Header.{header_in, map_bytes, is_marked, chain_from, map_nodes, own_nodes}
+use Rattle.hfs_btree.specs.Header.{is_marked, chain_from, own_nodes}
 use Rattle.hfs_btree.proofs.ShapeTurn.{passed-on}
 use Rattle.hfs_btree.proofs.ShapeMaps.{wrong-on, chain-is, bytes-are, chain-fault-is, wrong-chain, no-bits, wrong-marks, has_map-from, own-are}
 use Rattle.hfs_btree.proofs.shape_chain.read_map.Goals as goal

@@ -1,6 +1,6 @@
-use Rattle.std.proofs.Common.{ℕ, ◌≡◌, ◌+◌, ◌-◌, ◌^◌, ◌<◌, List, [], ◌++◌, ◌∷◌, true, false, arith, ap, sym, ◌∙◌, refl, get_or, take, drop, length, Bool}
+use Rattle.std.proofs.Common.{ℕ, ◌+◌, ◌-◌, ◌^◌, ◌<◌, List, ◌++◌, true, arith, ap, sym, ◌∙◌, refl, get_or, take, drop, length, Bool}
 use Rattle.std.specs.Prelude.{min}
-use Rattle.std.specs.List.{flat_map, sum_by}
+use Rattle.std.specs.List.{sum_by}
 use Rattle.hfs_btree.specs.Tree.{children, records_in, spots}
 use Rattle.hfs_btree.specs.Shape.{turn_fault}
 use Rattle.hfs_btree.specs.ShapeSteps.{is_met}

@@ -1,4 +1,4 @@
-use Rattle.std.proofs.Common.{◌≡◌, ℕ, ◌-◌, ◌^◌, ◌++◌, ◌<◌, List, take, drop, length}
+use Rattle.std.proofs.Common.{◌≡◌, ◌-◌, ◌^◌, ◌++◌, ◌<◌, List, take, drop, length}
 use Rattle.std.specs.Prelude.{min}
 use Rattle.std.specs.List.{flat_map, sum_by}
 use Rattle.std.specs.Vec.{vec_len}

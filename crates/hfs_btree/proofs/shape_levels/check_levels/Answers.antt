@@ -1,4 +1,4 @@
-use Rattle.std.proofs.Common.{ℕ, ◌≡◌, ◌-◌, ◌^◌, List, ◌++◌, arith, ap, sym, ◌∙◌, subst, Option, length}
+use Rattle.std.proofs.Common.{ℕ, ◌-◌, ◌^◌, List, ◌++◌, arith, ap, sym, ◌∙◌, subst, Option, length}
 use Rattle.std.specs.Prelude.{min}
 use Rattle.std.specs.List.{flat_map, sum_by}
 use Rattle.hfs_btree.specs.Tree.{children, records_in, spots, turn, first_of, last_of}

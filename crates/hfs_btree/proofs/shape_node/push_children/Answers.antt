@@ -1,4 +1,4 @@
-use Rattle.std.proofs.Common.{ℕ, ◌≡◌, List, [], ◌∷◌, ◌++◌, ap, ◌∙◌, map, take, get_or, arith}
+use Rattle.std.proofs.Common.{ℕ, List, [], ◌∷◌, ◌++◌, ap, ◌∙◌, map, take, arith}
 use Rattle.hfs_btree.proofs.ShapeLists.{all-at, map-take-more}
 use Rattle.hfs_btree.proofs.shape_node.push_children.Goals as goal
 

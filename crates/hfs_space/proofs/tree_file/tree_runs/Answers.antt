@@ -1,5 +1,5 @@
 -- The runs are taken extent by extent.
-use Rattle.std.proofs.Common.{◌≡◌, ◌+◌, ◌-◌, ◌++◌, [], ◌∷◌, ◌≤◌, take, drop, get_or, sym, ap, subst, ◌∙◌, arith, refl}
+use Rattle.std.proofs.Common.{◌+◌, ◌-◌, ◌++◌, ◌≤◌, take, drop, get_or, sym, ap, subst, ◌∙◌, arith, refl}
 use Rattle.std.specs.List.{All, flat_map}
 use Rattle.hfs_fields.specs.declared.extent.Extent.{Extent}
 use Rattle.hfs_btree.specs.Blocks.{run_of, total_of}

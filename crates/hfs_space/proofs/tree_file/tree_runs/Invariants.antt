@@ -1,5 +1,5 @@
 -- The runs so far, and the first blocks of the extents that are left, are those of the file.
-use Rattle.std.proofs.Common.{◌≡◌, ◌+◌, ◌<◌, ◌≤◌, ◌++◌, take, drop}
+use Rattle.std.proofs.Common.{◌≡◌, ◌+◌, ◌≤◌, ◌++◌, take, drop}
 use Rattle.std.specs.List.{All, flat_map}
 use Rattle.hfs_btree.specs.Blocks.{run_of, total_of}
 use Rattle.hfs_space.specs.TreeFiles.{node_count}

@@ -1,4 +1,4 @@
-use Rattle.std.proofs.Common.{◌≡◌, ℕ, List, ap, sym, ◌∙◌, map}
+use Rattle.std.proofs.Common.{ℕ, List, ap, sym, ◌∙◌, map}
 use Rattle.std.specs.Prelude.{not}
 use Rattle.std.specs.List.{count_by, range_with_len}
 use Rattle.hfs_btree.specs.Header.{header_in, bit_of}
