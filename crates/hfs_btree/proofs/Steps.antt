@@ -1,14 +1,11 @@
 -- Searching the records of one node, one after the other.
-use Rattle.std.proofs.Common.{◌≡◌, ℕ, ◌+◌, ◌<◌, true, false, List, [], ◌∷◌, length, map, get_or, drop, Some, sym, ap, ◌∙◌}
-use Rattle.std.specs.Ordering.{is_eq, is_gt, is_lt}
-use Rattle.std.specs.Prelude.{not}
-use Rattle.std.specs.List.{prefix_len}
-use Rattle.std.proofs.lemmas.Bool.{cond-true, cond-false}
+use Rattle.std.proofs.Common.{◌≡◌, ℕ, ◌+◌, ◌<◌, false, List, [], ◌∷◌, length, map, get_or, drop, sym, ap, ◌∙◌}
+use Rattle.std.specs.Ordering.{is_gt}
+use Rattle.std.proofs.lemmas.Bool.{cond-false}
 use Rattle.std.proofs.lemmas.List.{drop_more}
 use Rattle.hfs_btree.specs.declared.key.Key.{Ghosts}
-use Rattle.hfs_btree.specs.Pairs.{lookup, after, pairs_from}
+use Rattle.hfs_btree.specs.Pairs.{pairs_from}
 use Rattle.hfs_btree.specs.Tree.{pair_of}
-use Rattle.hfs_btree.specs.Search.{is_not_above}
 
 module _ {K : Type 0} (g : Ghosts K) (t : K) (es : List (List ℕ)) (i : ℕ) (e : List ℕ) (lt : i < length es) (is : e ≡ get_or es i []) where
   pub next : drop i es ≡ e ∷ drop (i + 1) es

@@ -8,6 +8,7 @@ use crate::blocks::Blocks;
 /// A whole image as bytes. What follows its last whole block of 512 bytes belongs to no block.
 #[derive(Clone, Copy)]
 pub struct ImageBytes<'a> {
+    /// The image's bytes, at most 4,294,967,296 of them.
     pub bytes: &'a [u8],
     ghost limit: { length bytes.now ≤ 2 ^ 32 },
 }

@@ -10,10 +10,13 @@ use crate::key::Key;
 /// The least and the greatest of some keys, which need not stand in their order.
 #[derive(Clone, Copy)]
 pub(crate) struct KeyRange<K> {
+    /// The least of the keys.
     pub least: K,
+    /// The greatest of them.
     pub greatest: K,
 }
 
+/// The second key where it is less, and else the first.
 fn lesser<K: Key>(first: K, second: K) -> K
     ensures { result ≡ if is_lt (K.compare second first) then second else first }
 {

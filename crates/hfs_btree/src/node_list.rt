@@ -7,6 +7,7 @@ use crate::nodes::Nodes;
 /// Nodes that stand in memory one after the other.
 #[derive(Clone, Copy)]
 pub struct NodeList<'a> {
+    /// The nodes, counted from 0.
     pub nodes: &'a [[u8; 512]],
     ghost few: { length nodes.now < 2 ^ 32 },
 }

@@ -10,7 +10,9 @@ use crate::run::Run;
 /// The nodes of a file that lies in runs of blocks: node n is the n-th 512 bytes of the runs in their order.
 #[derive(Drop)]
 pub struct RunNodes<'a, B: Blocks> {
+    /// The blocks of the volume.
     pub blocks: &'a B,
+    /// The runs of blocks in which the nodes lie, in the order of the nodes.
     pub runs: &'a [Run],
     ghost within: { AreRunsWithin runs.now (B.total blocks.now) },
 }

@@ -9,6 +9,7 @@ use crate::nodes::Nodes;
 /// The nodes of a tree whose header record and node map are known.
 #[derive(Drop)]
 pub(crate) struct MappedNodes<'a, N: Nodes> {
+    /// The nodes of the tree's file.
     pub nodes: &'a N,
     /// How many nodes the tree has.
     pub count: u32,

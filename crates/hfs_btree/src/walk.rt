@@ -1,6 +1,6 @@
 //! Going through the pairs of a tree in their order.
 
-ghost use Rattle.std.specs.Prelude.{◌≡◌, ◌<◌, ◌≤◌, true, length, drop, option_map};
+ghost use Rattle.std.specs.Prelude.{◌≡◌, ◌<◌, ◌≤◌, true, [], length, drop, option_map};
 ghost use Rattle.hfs_node.specs.Node.{node_of};
 ghost use Rattle.hfs_btree.specs.Pairs.{pairs_from};
 ghost use Rattle.hfs_btree.specs.Tree.{records_of};
@@ -17,7 +17,9 @@ use std::marker::{Model, PhantomData};
 /// A key and its body, as they stand in a leaf.
 #[derive(Clone, Copy)]
 pub struct Pair<'a, K> {
+    /// The key.
     pub key: K,
+    /// The bytes of the record behind the key.
     pub body: &'a [u8],
 }
 
@@ -61,6 +63,20 @@ impl<'a, K: Key, N: Nodes> Model for Walk<'a, K, N> {
 }
 
 impl<'a, K: Key, N: Nodes> Walk<'a, K, N> {
+    /// A walk that is at its end.
+    fn ended(nodes: &'a N) -> Walk<'a, K, N>
+        requires { HasStructure K.Key (N.nodes nodes.now) }
+        ensures { result ≡ [] }
+    {
+        Walk {
+            nodes,
+            bytes: no_leaf(),
+            place: 0,
+            most: 0,
+            keys: PhantomData,
+        }
+    }
+
     /// A walk through all pairs, whatever the order of their keys.
     pub fn whole(nodes: &'a N) -> Walk<'a, K, N>
         requires structure { HasStructure K.Key (N.nodes nodes.now) }
@@ -69,13 +85,7 @@ impl<'a, K: Key, N: Nodes> Walk<'a, K, N> {
     {
         let header = read_header(nodes);
         if header.first_leaf == 0 {
-            return Walk {
-                nodes,
-                bytes: no_leaf(),
-                place: 0,
-                most: 0,
-                keys: PhantomData,
-            };
+            return Walk::ended(nodes);
         }
         let mut bytes = [0; 512];
         nodes.read(header.first_leaf, &mut bytes);
@@ -95,13 +105,7 @@ impl<'a, K: Key, N: Nodes> Walk<'a, K, N> {
     {
         let header = read_header(nodes);
         if header.depth == 0 {
-            return Walk {
-                nodes,
-                bytes: no_leaf(),
-                place: 0,
-                most: 0,
-                keys: PhantomData,
-            };
+            return Walk::ended(nodes);
         }
         let mut bytes = [0; 512];
         descend(nodes, &header, key, &mut bytes);

@@ -14,7 +14,7 @@ use Rattle.hfs_fields.specs.declared.thread_record.ThreadKind.TheVariants.{Folde
 use Rattle.hfs_btree.specs.Pairs.{Each}
 use Rattle.hfs_btree.specs.Sound.{IsDistinct}
 use Rattle.hfs_catalog.specs.Records.{items_of, has_id, item_with, has_thread, valence_of}
-use Rattle.hfs_catalog.specs.Sound.{EachFolder, IsRecord, AreIdsSound, AreNamesSound, LeadsTo, ArePlacesSound, HasValence, counts_of, AreCountsSound, IsSoundCatalog}
+use Rattle.hfs_catalog.specs.Sound.{EachFolder, IsRecord, AreIdsSound, AreNamesSound, LeadsTo, ArePlacesSound, HasValence, counts_of, AreCountsSound}
 use Rattle.hfs_check.specs.declared.layout.Layout.{Layout}
 use Rattle.hfs_check.specs.NewMdb.{new_mdb}
 use Rattle.hfs_check.specs.NewTrees.{root_directory}

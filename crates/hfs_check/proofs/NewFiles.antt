@@ -5,7 +5,7 @@ use Rattle.std.proofs.Math.Nat.{mul-le-mul_right, add-mul}
 use Rattle.std.proofs.lemmas.List.{append-nil}
 use Rattle.std.proofs.lemmas.List.{take_all}
 use Rattle.std.proofs.lemmas.List.FromFn.{get_or-map-range_with_len, length-map-range_with_len}
-use Rattle.std.proofs.lemmas.Bool.{or_from, or_right, and_right, and_from, ne_eqb, eq-eqb, le-ltb, lt-ltb, le-leb, cond-true, cond-false}
+use Rattle.std.proofs.lemmas.Bool.{or_from, and_right, and_from, ne_eqb, eq-eqb, le-ltb, lt-ltb, le-leb, cond-true, cond-false}
 use Rattle.hfs_fields.specs.KeyForms.{IsCatKeyValue, cat_leaf_bytes, is_cat_leaf-leaf, cat_key_of-leaf, cat_body_of-leaf}
 use Rattle.hfs_fields.specs.Keys.{is_cat_leaf, is_cat_body_len}
 use Rattle.hfs_fields.specs.Records.{new_thread}

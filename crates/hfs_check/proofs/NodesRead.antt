@@ -1,5 +1,5 @@
 -- What is read back from the bytes of a node of a new volume.
-use Rattle.std.proofs.Common.{◌≡◌, ℕ, zero, suc, ◌+◌, ◌-◌, ◌*◌, ◌^◌, ◌<◌, ◌≤◌, List, [], ◌∷◌, ◌++◌, Some, Ok, length, take, drop, get_or, replicate, refl, sym, ap, ◌∙◌, arith, subst}
+use Rattle.std.proofs.Common.{◌≡◌, ℕ, zero, suc, ◌+◌, ◌-◌, ◌*◌, ◌^◌, ◌<◌, ◌≤◌, List, [], ◌∷◌, ◌++◌, Ok, length, take, drop, get_or, replicate, refl, sym, ap, ◌∙◌, arith, subst}
 use Rattle.std.specs.Prelude.{slice_range}
 use Rattle.std.specs.List.{flat_map, sum_by}
 use Rattle.std.proofs.lemmas.List.{append_assoc, append-nil, take_at, drop_at, drop-drop, length-append, length-replicate}
@@ -8,8 +8,6 @@ use Rattle.std.proofs.lemmas.List.Sums.{sum_by-cons, sum_by_more}
 use Rattle.byteorder.specs.Endian.{big_bytes}
 use Rattle.hfs_fields.specs.Laid.{number-read}
 use Rattle.hfs_node.specs.Kind.{kind_of-byte_of}
-use Rattle.hfs_node.specs.declared.kind.NodeKind.{NodeKind}
-use Rattle.hfs_node.specs.declared.kind.NodeKind.TheVariants.{Index, Header, Map, Leaf}
 use Rattle.hfs_node.specs.declared.node.Node.{Node}
 use Rattle.hfs_node.specs.Node.{count_of, offset_of, node_of, start_of, size_of, Fits}
 use Rattle.hfs_node.specs.Laid.{HasHead}

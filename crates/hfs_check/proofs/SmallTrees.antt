@@ -7,7 +7,7 @@ use Rattle.hfs_btree.specs.declared.key.Key.{Ghosts}
 use Rattle.hfs_btree.specs.Pairs.{Each, Rises}
 use Rattle.hfs_btree.specs.Tree.{Store, Spot, node_in, records_of, pair_of, pairs, turn, last_level, first_of, last_of}
 use Rattle.hfs_btree.specs.Header.{header_in, own_nodes, leaves, tree_content, tree_turn, tree_nodes}
-use Rattle.hfs_btree.specs.Sound.{IsDistinct, IsRight, HasLevels, HasEnds, HasStructure, HasCounts, IsWithinFile, IsShaped, AreKeysInOrder, IsOrdered, IsSound}
+use Rattle.hfs_btree.specs.Sound.{IsDistinct, IsRight, HasLevels, HasEnds, HasStructure, HasCounts, IsWithinFile, IsShaped, AreKeysInOrder, IsOrdered}
 use Rattle.hfs_check.specs.NewTrees.{empty_tree, one_leaf_tree, header_node, lone_leaf}
 use Rattle.hfs_check.proofs.HeaderRead.{IsHeaderValue, header_in-new, map_nodes-new, is_marked-new, free_nodes-new, has_header-new, has_map-new}
 

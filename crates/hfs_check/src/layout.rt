@@ -20,16 +20,17 @@ pub struct TreeFile {
 /// Where the parts of a new volume lie, and what its blocks tell.
 #[derive(Clone, Copy)]
 pub struct Layout {
+    /// The volume's name, an item name of at most 27 characters.
     pub name: Name,
-    /// The moment of all dates.
+    /// The moment of all dates, in seconds since midnight of 1 January 1904.
     pub moment: u32,
-    /// Logical blocks of the volume.
+    /// Logical blocks of 512 bytes of the volume.
     pub blocks: u32,
     /// Logical blocks of an allocation block.
     pub factor: u32,
     /// drAlBlSt: the logical block where allocation block 0 begins.
     pub start: u16,
-    /// drNmAlBlks
+    /// drNmAlBlks: how many allocation blocks the volume has.
     pub allocation_blocks: u16,
     /// The extents file, from allocation block 0 on.
     pub extents: TreeFile,

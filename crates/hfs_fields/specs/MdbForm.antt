@@ -5,7 +5,6 @@ use Rattle.byteorder.specs.Endian.{big_bytes}
 use Rattle.hfs_fields.specs.Laid.{behind, next, number-read, bytes-read, laid, row, laid-append}
 use Rattle.hfs_fields.specs.Mdb.{mdb_of}
 use Rattle.hfs_fields.specs.RecordForms.{AreExtentValues, extents_bytes, extents_at-read, length-extents_bytes}
-use Rattle.hfs_fields.specs.declared.extent.Extent.{Extent}
 use Rattle.hfs_fields.specs.declared.mdb.Mdb.{Mdb}
 
 -- what the program's master directory blocks keep, up to the volume's name

@@ -4,12 +4,11 @@ use Rattle.std.specs.Prelude.{nat_le, ◌==◌, ◌&&◌, ◌||◌, slice_index}
 use Rattle.std.specs.List.{All, flat_map}
 use Rattle.std.proofs.lemmas.List.{append-nil, take_at, get_or-drop, length-append, length-replicate}
 use Rattle.std.proofs.lemmas.Bool.{le-leb}
-use Rattle.std.proofs.lemmas.Bool.Decides.{nat_tests}
 use Rattle.byteorder.specs.Endian.{big_bytes}
 use Rattle.hfs_fields.specs.Laid.{behind, next, number-read, bytes-read, laid, row, laid-append}
 use Rattle.hfs_fields.specs.Mdb.{extent_at, extents_at}
 use Rattle.hfs_fields.specs.Keys.{name_len, name_at}
-use Rattle.hfs_fields.specs.Records.{is_dir, is_file, is_thread, has_short_name, begins_dir, dir_record_of, begins_file, fork_at, file_record_of, begins_thread, thread_kind_of, thread_record_of}
+use Rattle.hfs_fields.specs.Records.{is_dir, begins_dir, dir_record_of, begins_file, fork_at, file_record_of, begins_thread, thread_kind_of, thread_record_of}
 use Rattle.hfs_fields.specs.declared.extent.Extent.{Extent}
 use Rattle.hfs_fields.specs.declared.dir_record.DirRecord.{DirRecord}
 use Rattle.hfs_fields.specs.declared.file_flags.FileFlags.{FileFlags}

@@ -1,5 +1,5 @@
 -- Tests of each number below a bound.
-use Rattle.std.proofs.Common.{◌≡◌, ℕ, zero, suc, ◌+◌, ◌<◌, Bool, true, false, refl, arith, inl, inr}
+use Rattle.std.proofs.Common.{◌≡◌, ℕ, zero, suc, ◌<◌, Bool, true, false, refl, arith, inl, inr}
 use Rattle.std.proofs.lemmas.Bool.{and_parts, and_left, and_right, and_from, cases_eq}
 use Rattle.hfs_node.specs.Node.{each_below}
 

@@ -16,10 +16,11 @@ pub struct Node {
     pub forward: u32,
     /// ndBLink: the node before it in the level, 0 at its beginning.
     pub backward: u32,
-    /// ndType
+    /// ndType: what the node is for.
     pub kind: NodeKind,
     /// ndNHeight: 1 for a leaf, one more for each index level.
     pub height: u8,
+    /// The records, in the order of their offsets.
     pub records: Records,
 }
 

@@ -1,12 +1,12 @@
 -- Reading a fork extent by extent.
-use Rattle.std.proofs.Common.{◌≡◌, ℕ, zero, suc, ◌+◌, ◌-◌, ◌*◌, ◌<◌, ◌≤◌, List, [], ◌∷◌, ◌++◌, length, take, drop, get_or, ⊎_elim, refl, sym, ap, ◌∙◌, arith, append_assoc, append-nil}
-use Rattle.std.specs.Prelude.{min, map}
-use Rattle.std.proofs.lemmas.List.{map-append, take_all, drop_more, drop_all}
+use Rattle.std.proofs.Common.{◌≡◌, ℕ, zero, suc, ◌+◌, ◌-◌, ◌*◌, ◌<◌, ◌≤◌, List, [], ◌∷◌, ◌++◌, length, take, drop, get_or, sym, ap, ◌∙◌, arith, append_assoc, append-nil}
+use Rattle.std.specs.Prelude.{min}
+use Rattle.std.proofs.lemmas.List.{take_all, drop_more, drop_all}
 use Rattle.hfs_fields.specs.declared.extent.Extent.{Extent}
 use Rattle.hfs_fields.specs.declared.mdb.Mdb.{Mdb}
 use Rattle.hfs_space.specs.Extents.{IsExtentWithin}
 use Rattle.hfs_space.specs.ForkLengths.{all_bytes, all_bytes-cons, all_bytes-nil, length-extent_bytes}
-use Rattle.hfs_space.specs.Forks.{HasArea, blocks_each, run_in, file_blocks, joined, run_bytes, extent_bytes, fork_bytes, read_from}
+use Rattle.hfs_space.specs.Forks.{HasArea, blocks_each, extent_bytes, fork_bytes, read_from}
 use Rattle.hfs_space.proofs.Pieces.{read-append, read-take}
 
 -- an extent that has a byte has a block

@@ -1,5 +1,5 @@
 -- Pieces of lists that lie one behind the other.
-use Rattle.std.proofs.Common.{◌≡◌, ℕ, zero, suc, ◌+◌, ◌-◌, ◌*◌, ◌/◌, ◌%◌, ◌<◌, ◌≤◌, List, [], ◌++◌, length, take, drop, ⊎_elim, refl, sym, ap, ◌∙◌, arith, append-nil, append_assoc, length-append, length-drop, length-take, drop_at}
+use Rattle.std.proofs.Common.{◌≡◌, ℕ, zero, suc, ◌+◌, ◌-◌, ◌*◌, ◌/◌, ◌%◌, ◌<◌, ◌≤◌, List, [], ◌++◌, length, take, drop, ⊎_elim, refl, sym, ap, ◌∙◌, arith, append-nil, append_assoc, length-drop, length-take, drop_at}
 use Rattle.std.specs.Prelude.{min}
 use Rattle.std.proofs.Math.Seq.{take-add}
 use Rattle.std.proofs.lemmas.List.{take_all, take_at, take-take, take-append-le, drop-drop, drop-append-le, drop_all, drop-take}

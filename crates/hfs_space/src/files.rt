@@ -5,10 +5,12 @@ ghost use Rattle.std.specs.Option.{SomeIff};
 
 use hfs_fields::FileRecord;
 
-/// A file's record in the catalog, and its number among all leaf records of the catalog, counted from 0.
+/// A file of the catalog.
 #[derive(Clone, Copy)]
 pub struct CatalogFile {
+    /// The number of the record among all leaf records, counted from 0.
     pub number: usize,
+    /// The file's record.
     pub file: FileRecord,
 }
 

@@ -6,7 +6,9 @@ ghost use Rattle.hfs_space.specs.Extents.{fork_byte};
 /// Which fork of a file.
 #[derive(Debug, Clone, Copy, PartialEq, Eq)]
 pub enum ForkKind {
+    /// The data fork.
     Data,
+    /// The resource fork.
     Resource,
 }
 

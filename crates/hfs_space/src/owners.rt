@@ -11,7 +11,9 @@ use std::alloc::{AllocError, Global};
 /// Which edge of an extent.
 #[derive(Clone, Copy)]
 pub(crate) enum Edge {
+    /// Its first block.
     First,
+    /// The block behind its last.
     Behind,
 }
 

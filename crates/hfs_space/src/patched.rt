@@ -9,7 +9,9 @@ use hfs_btree::Blocks;
 /// The blocks of a patch, and below it those of a volume.
 #[derive(Drop)]
 pub struct Patched<'a, B: Blocks> {
+    /// The blocks of the volume.
     pub below: &'a B,
+    /// The blocks that stand in place of those.
     pub patch: &'a Patch,
     ghost whole: { AreWhole (changes patch.now) },
 }

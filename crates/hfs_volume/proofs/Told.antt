@@ -4,7 +4,7 @@ use Rattle.std.specs.Prelude.{slice_get, not}
 use Rattle.std.specs.Option.{option_map, option_map_or}
 use Rattle.std.proofs.lemmas.Bool.{ne_eqb}
 use Rattle.std.proofs.lemmas.List.{take_all}
-use Rattle.std.proofs.lemmas.Option.{slice_get-map, slice_get_past, slice_get-get_or}
+use Rattle.std.proofs.lemmas.Option.{slice_get-map, slice_get-get_or}
 use Rattle.hfs_model.specs.declared.reply.Info.{Info}
 use Rattle.hfs_model.specs.declared.reply.Value.TheVariants as value
 use Rattle.hfs_model.specs.declared.reply.Reply.{Reply}

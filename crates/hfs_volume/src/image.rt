@@ -92,6 +92,7 @@ impl Image {
 /// The blocks of an image as they are now.
 #[derive(Drop)]
 pub struct ImageBlocks<'a> {
+    /// The image.
     pub image: &'a Image,
     ghost limit: { length image.now.current ≤ 2 ^ 32 },
 }

@@ -13,7 +13,9 @@ use std::alloc::{AllocFailed, Global};
 /// Why an image was not mounted, with the image as it was given.
 #[derive(Drop)]
 pub struct Refused {
+    /// The first check that fails, or that memory is wanting.
     pub fault: MountFault,
+    /// The image's bytes as they were given.
     pub image: Vec<u8>,
 }
 

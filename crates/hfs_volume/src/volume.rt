@@ -95,7 +95,7 @@ impl Volume {
         self.read(alloc, call)
     }
 
-    /// What is told of the folder of that ID: -120 where it isn't the ID of a folder.
+    /// What is told of the folder of that ID: -120 where it isn't the ID of a folder. Takes no memory.
     pub fn get_dir_info(&self, dir: u32) -> Reply
         ensures { result ≡ get_dir_info (entries_of (volume_of self.now.current)) dir }
     {
@@ -109,7 +109,7 @@ impl Volume {
     }
 
     /// What is told of the folder's item of that name, whatever its case: -37 where the name isn't an item name, -120 where
-    /// `dir` isn't the ID of a folder, -43 where it holds no item of that name.
+    /// `dir` isn't the ID of a folder, -43 where it holds no item of that name. Takes no memory.
     pub fn get_cat_info(&self, dir: u32, name: &[u8]) -> Reply
         ensures { result ≡ get_cat_info (entries_of (volume_of self.now.current)) dir name.now }
     {

@@ -1,4 +1,4 @@
-use Rattle.std.proofs.Common.{ℕ, List, ◌++◌, ap, ◌∙◌}
+use Rattle.std.proofs.Common.{◌++◌, ◌∙◌}
 use Rattle.std.proofs.lemmas.List.{drop-replicate}
 use Rattle.hfs_fields.specs.MdbForm.{mdb_bytes}
 use Rattle.hfs_check.specs.NewMdb.{new_mdb_block}

@@ -1,25 +1,14 @@
-use Rattle.std.proofs.Common.{◌∙◌, ap, sym, arith, ◌++◌, length, map, ℕ, List, inr}
-use Rattle.hfs_node.specs.Node.{node_of}
+use Rattle.std.proofs.Common.{◌∙◌, ap, sym}
 use Rattle.hfs_btree.specs.Pairs.{pairs_from}
-use Rattle.hfs_btree.specs.Tree.{pair_of, forward_of}
-use Rattle.hfs_btree.specs.Walk.{pairs_along}
 use Rattle.hfs_btree.proofs.Descent.{content-none}
 use Rattle.hfs_btree.proofs.Found.{some-levels, found-entries}
 use Rattle.hfs_btree.proofs.Walks.{start-at, start-same}
 use Rattle.hfs_btree.proofs.walk.Walk.from.Goals as goal
 
-pub invariant_of-result : goal.invariant_of-result
-invariant_of-result g c =
-    record {
-      structure = c.requires.structure;
-      at = inr (record { past = (let none = ap (λ (es : List (List ℕ)). length es) c.no_leaf.ensures.records in omega arith); last = c.no_leaf.ensures.forward });
-    }
-
 pub returns-then-header-eq0 : goal.returns-then-header-eq0
 returns-then-header-eq0 g c =
     let nodes = g.N.Nodes.nodes c.args.nodes.now in
-    ap (λ (es : List (List ℕ)). map (pair_of g.K.Key) es ++ pairs_along g.K.Key nodes 0 (forward_of (node_of c.no_leaf.result))) c.no_leaf.ensures.records
-    ∙ sym (ap (pairs_from g.K.Key.compare c.args.key.now) (content-none g.K.Key nodes (sym (ap (λ h. h.depth) c.read_header-header.ensures) ∙ c.if-header-eq0.true)))
+    c.ended.ensures ∙ sym (ap (pairs_from g.K.Key.compare c.args.key.now) (content-none g.K.Key nodes (sym (ap (λ h. h.depth) c.read_header-header.ensures) ∙ c.if-header-eq0.true)))
 
 pub place_in-first-requires : goal.place_in-first-requires
 place_in-first-requires g c =
