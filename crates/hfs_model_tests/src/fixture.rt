@@ -3,6 +3,7 @@ use hfs_fields::Name;
 use hfs_model::{Bytes, Call, Content, File, Fork, Info, Item, Kind, Reply, Store, Value};
 use std::alloc::{AllocError, Global};
 use std::process::Abort;
+use std::test::Fail;
 
 /// A call whose names are borrowed.
 #[derive(Clone, Copy)]
@@ -141,6 +142,31 @@ pub fn id_of(reply: &Reply) -> u32 {
         Value::Id(id) => id,
         _ => 0,
     }
+}
+
+/// Makes an empty file at that moment; its ID, 0 where it is refused.
+pub fn create(store: &mut Store, dir: u32, name: &[u8], now: u32) -> Result<u32, AllocError> {
+    let reply = store.create(dir, name, now)?;
+    Ok(id_of(&reply))
+}
+
+/// What is told of a folder.
+pub fn folder(store: &Store, dir: u32) -> Result<Info, Fail> {
+    let info = info_of(&store.get_dir_info(dir)).ok_or("folder")?;
+    Ok(info)
+}
+
+/// What is told of an item of the root.
+pub fn root_item(store: &Store, name: &[u8]) -> Result<Info, Fail> {
+    let info = info_of(&store.get_cat_info(2, name)).ok_or("item")?;
+    Ok(info)
+}
+
+/// Wants the root to have children of these names, in order.
+pub fn expect_children(rt: &impl Abort, store: &Store, names: &[&[u8]]) -> Result<(), AllocError> {
+    let reply = store.list(2)?;
+    expect_names(rt, &reply, names);
+    Ok(())
 }
 
 /// Wants a list of items with these names, in order.

@@ -1,5 +1,8 @@
 //! What several calls in a row make of a volume.
-use crate::fixture::{Ask, call_of, expect_codes, expect_names, file, id_of, info_of, lay, volume};
+use crate::fixture::{
+    Ask, call_of, create, expect_children, expect_codes, expect_names, file, folder, id_of,
+    info_of, lay, root_item, volume,
+};
 use hfs_model::{Fork, ItemKind, Store, Value};
 use std::alloc::AllocError;
 use std::process::Abort;
@@ -13,14 +16,14 @@ const TOO_LONG: &[u8] = b"nnnnnnnnnnnnnnnnnnnnnnnnnnnnnnnn";
 #[test]
 fn a_new_volume(rt: HostRuntime) -> Result<(), Fail> {
     let mut store = volume(rt.alloc())?;
-    expect_names(&rt, &store.list(2)?, &[]);
-    let root = info_of(&store.get_dir_info(2)).ok_or("root")?;
+    expect_children(&rt, &store, &[])?;
+    let root = folder(&store, 2)?;
     assert_eq!(rt; root.parent, 1);
     assert_eq!(rt; root.valence, 0);
     assert_eq!(rt; root.kind, ItemKind::Folder);
     assert_eq!(rt; root.name.bytes(), b"D".as_slice());
-    assert_eq!(rt; id_of(&store.create(2, b"f", 5)?), 16);
-    let root = info_of(&store.get_dir_info(2)).ok_or("root")?;
+    assert_eq!(rt; create(&mut store, 2, b"f", 5)?, 16);
+    let root = folder(&store, 2)?;
     assert_eq!(rt; root.valence, 1);
     assert_eq!(rt; root.modified, 5);
     assert_eq!(rt; root.created, 0);
@@ -38,11 +41,11 @@ fn a_new_volume(rt: HostRuntime) -> Result<(), Fail> {
 #[test]
 fn names_in_one_folder(rt: HostRuntime) -> Result<(), Fail> {
     let mut store = volume(rt.alloc())?;
-    assert_eq!(rt; id_of(&store.create(2, b"{", 0)?), 16);
-    assert_eq!(rt; id_of(&store.create(2, b"_x", 0)?), 17);
-    assert_eq!(rt; id_of(&store.create(2, b"B", 0)?), 18);
-    assert_eq!(rt; id_of(&store.create(2, b"a", 0)?), 19);
-    expect_names(&rt, &store.list(2)?, &[b"a", b"B", b"_x", b"{"]);
+    assert_eq!(rt; create(&mut store, 2, b"{", 0)?, 16);
+    assert_eq!(rt; create(&mut store, 2, b"_x", 0)?, 17);
+    assert_eq!(rt; create(&mut store, 2, b"B", 0)?, 18);
+    assert_eq!(rt; create(&mut store, 2, b"a", 0)?, 19);
+    expect_children(&rt, &store, &[b"a", b"B", b"_x", b"{"])?;
     let rows = [
         (Ask::Create(2, b"Read Me"), 0),
         (Ask::Create(2, b"READ ME"), -48),
@@ -57,11 +60,7 @@ fn names_in_one_folder(rt: HostRuntime) -> Result<(), Fail> {
     ];
     expect_codes(&rt, rt.alloc(), &mut store, 0, &rows)?;
     assert_eq!(rt; store.next_id(), 22);
-    expect_names(
-        &rt,
-        &store.list(2)?,
-        &[b"A", b"B", LONG, b"Read Me", b"_x", b"{"],
-    );
+    expect_children(&rt, &store, &[b"A", b"B", LONG, b"Read Me", b"_x", b"{"])?;
     Ok(())
 }
 
@@ -80,7 +79,7 @@ fn numbered(n: u32) -> [u8; 4] {
 fn half_of_many_files(rt: HostRuntime) -> Result<(), Fail> {
     let mut store = volume(rt.alloc())?;
     for n in 1..301 {
-        assert_eq!(rt; id_of(&store.create(2, &numbered(n), 0)?), 15 + n);
+        assert_eq!(rt; create(&mut store, 2, &numbered(n), 0)?, 15 + n);
     }
     for k in 0..150 {
         assert_eq!(rt; store.delete(2, &numbered(2 * k + 1), 0).code, 0);
@@ -116,7 +115,7 @@ fn moves_of_folders(rt: HostRuntime) -> Result<(), Fail> {
         &[(Ask::Move(16, b"y", 2), 0)],
     )?;
     for (dir, parent, valence, modified) in [(17, 2, 1, 0), (16, 2, 0, 9), (2, 1, 2, 9)] {
-        let info = info_of(&store.get_dir_info(dir)).ok_or("folder")?;
+        let info = folder(&store, dir)?;
         assert_eq!(rt; info.parent, parent, "folder {dir}");
         assert_eq!(rt; info.valence, valence, "folder {dir}");
         assert_eq!(rt; info.modified, modified, "folder {dir}");
@@ -148,17 +147,17 @@ fn locks_and_deletes(rt: HostRuntime) -> Result<(), Fail> {
 #[test]
 fn information_of_a_file(rt: HostRuntime) -> Result<(), Fail> {
     let mut store = volume(rt.alloc())?;
-    assert_eq!(rt; id_of(&store.create(2, b"f", 5)?), 16);
+    assert_eq!(rt; create(&mut store, 2, b"f", 5)?, 16);
     let half = [1, 2, 3, 4, 5, 6, 7, 8, 9, 10, 11, 12, 13, 14, 15, 16];
     assert_eq!(rt; store.set_f_info(2, b"f", &half, 7).code, 0);
-    let info = info_of(&store.get_cat_info(2, b"f")).ok_or("file")?;
+    let info = root_item(&store, b"f")?;
     assert_eq!(rt; (info.created, info.modified, info.backup), (5, 5, 0));
     assert_eq!(rt; &info.finder[..16], half.as_slice());
     assert_eq!(rt; &info.finder[16..], [0; 16].as_slice());
     assert_eq!(rt; store.set_cat_info(2, b"f", 1, 2, 3, [0xaa; 32], 8).code, 0);
     assert_eq!(rt; store.rename(2, b"f", b"F", 9).code, 0);
     assert_eq!(rt; store.set_lock(true, 2, b"f", 10).code, 0);
-    let info = info_of(&store.get_cat_info(2, b"f")).ok_or("file")?;
+    let info = root_item(&store, b"f")?;
     assert_eq!(rt; (info.created, info.modified, info.backup), (1, 2, 3));
     assert_eq!(rt; info.finder, [0xaa; 32]);
     assert_eq!(rt; info.name.bytes(), b"F".as_slice());
@@ -166,7 +165,7 @@ fn information_of_a_file(rt: HostRuntime) -> Result<(), Fail> {
         (info.locked, info.has_id, info.kind),
         (true, false, ItemKind::File)
     );
-    let root = info_of(&store.get_dir_info(2)).ok_or("root")?;
+    let root = folder(&store, 2)?;
     assert_eq!(rt; root.modified, 5);
     Ok(())
 }
@@ -210,7 +209,7 @@ fn parts_of_a_fork(rt: HostRuntime) -> Result<(), Fail> {
         -50
     );
     assert_eq!(rt; store.read_fork(2, b"f", Fork::ResFork, 0, 1)?.code, -39);
-    let info = info_of(&store.get_cat_info(2, b"f")).ok_or("file")?;
+    let info = root_item(&store, b"f")?;
     assert_eq!(rt; (info.data_len, info.res_len), (2000, 0));
     Ok(())
 }

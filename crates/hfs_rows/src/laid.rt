@@ -101,3 +101,15 @@ pub fn mounted(alloc: Global, image: Vec<u8>) -> Result<Volume, Fail> {
         Err(refused) => Err(Fail::from(refused.fault)),
     }
 }
+
+/// A new volume with 6 catalog nodes.
+pub fn new_volume(alloc: Global) -> Result<Volume, Fail> {
+    let image = new_image(alloc, 6)?;
+    mounted(alloc, image)
+}
+
+/// The same, with the file `f`.
+pub fn laid_volume(alloc: Global) -> Result<Volume, Fail> {
+    let image = laid_image(alloc)?;
+    mounted(alloc, image)
+}

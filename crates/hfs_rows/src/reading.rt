@@ -1,5 +1,5 @@
 //! The calls that read.
-use crate::laid::{laid_image, mounted, new_image};
+use crate::laid::{laid_volume, new_volume};
 use hfs_model::{Bytes, Call, Fork, Info, ItemKind, Reply, Value};
 use hfs_volume::Volume;
 use std::alloc::{AllocError, Global};
@@ -15,7 +15,7 @@ fn one(reply: &Reply) -> Option<Info> {
 
 #[test]
 fn a_new_volume_has_an_empty_root(rt: HostRuntime) -> Result<(), Fail> {
-    let volume = mounted(rt.alloc(), new_image(rt.alloc(), 6)?)?;
+    let volume = new_volume(rt.alloc())?;
     let list = volume.list(rt.alloc(), 2)?;
     assert_eq!(rt; list.code, 0);
     assert!(rt; matches!(&list.value, Value::Many(infos) if infos.as_slice().is_empty()));
@@ -29,14 +29,26 @@ fn a_new_volume_has_an_empty_root(rt: HostRuntime) -> Result<(), Fail> {
     Ok(())
 }
 
+/// The code of asking for a child of the root by its place.
+fn indexed_code(volume: &Volume, alloc: Global, index: u32) -> Result<i16, AllocError> {
+    let reply = volume.get_indexed(alloc, 2, index)?;
+    Ok(reply.code)
+}
+
+/// The code of asking for a folder's children.
+fn list_code(volume: &Volume, alloc: Global, dir: u32) -> Result<i16, AllocError> {
+    let reply = volume.list(alloc, dir)?;
+    Ok(reply.code)
+}
+
 #[test]
 fn places_and_folders_that_are_none(rt: HostRuntime) -> Result<(), Fail> {
-    let volume = mounted(rt.alloc(), new_image(rt.alloc(), 6)?)?;
-    assert_eq!(rt; volume.get_indexed(rt.alloc(), 2, 0)?.code, -50);
-    assert_eq!(rt; volume.get_indexed(rt.alloc(), 2, 1)?.code, -43);
+    let volume = new_volume(rt.alloc())?;
+    assert_eq!(rt; indexed_code(&volume, rt.alloc(), 0)?, -50);
+    assert_eq!(rt; indexed_code(&volume, rt.alloc(), 1)?, -43);
     for dir in [1, 3, 16] {
         assert_eq!(rt; volume.get_dir_info(dir).code, -120);
-        assert_eq!(rt; volume.list(rt.alloc(), dir)?.code, -120);
+        assert_eq!(rt; list_code(&volume, rt.alloc(), dir)?, -120);
     }
     assert_eq!(rt; volume.get_cat_info(2, b"q").code, -43);
     assert_eq!(rt; volume.get_cat_info(2, b"a:b").code, -37);
@@ -45,7 +57,7 @@ fn places_and_folders_that_are_none(rt: HostRuntime) -> Result<(), Fail> {
 
 #[test]
 fn a_file_is_found_by_name_and_by_place(rt: HostRuntime) -> Result<(), Fail> {
-    let volume = mounted(rt.alloc(), laid_image(rt.alloc())?)?;
+    let volume = laid_volume(rt.alloc())?;
     for reply in [
         volume.get_cat_info(2, b"F"),
         volume.get_indexed(rt.alloc(), 2, 1)?,
@@ -88,7 +100,7 @@ fn part(
 
 #[test]
 fn a_fork_is_read_through_its_overflow_extent(rt: HostRuntime) -> Result<(), Fail> {
-    let volume = mounted(rt.alloc(), laid_image(rt.alloc())?)?;
+    let volume = laid_volume(rt.alloc())?;
     let cases: [(u32, u32, i16, &[u8]); 5] = [
         (
             1530,
