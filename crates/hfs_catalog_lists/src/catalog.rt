@@ -3,8 +3,8 @@
 use anyhow::{Result, ensure};
 use hfs_btree::{NodeList, Walk, check_tree, depth, find, free_nodes, index_keys, next_after};
 use hfs_catalog::{
-    CatalogItem, by_id, children, id_fault, id_faults, lookup, name_fault, name_faults,
-    place_fault, place_faults, read_records, record_fault, record_faults, thread,
+    CatalogItem, IndexedCatalog, by_id, children, id_fault, id_faults, lookup, name_fault,
+    name_faults, place_fault, place_faults, read_records, record_fault, record_faults, thread,
 };
 use hfs_fields::{CatKey, Mdb, Name, ThreadRecord};
 use hfs_model::Bytes;
@@ -43,11 +43,11 @@ pub fn check<'a>(alloc: Global, mdb: &Mdb, list: &'a [[u8; 512]]) -> Result<Cata
     check_tree::<CatKey, NodeList<'_>>(alloc, &nodes, size)?;
     let records = read_records(alloc, &nodes)?;
     ensure!(record_fault(&records).is_none(), "a record is wrong");
-    let ids = id_fault(alloc, mdb.next_id, &records)?;
-    ensure!(ids.is_none(), "an ID is wrong");
+    let catalog = IndexedCatalog::of(alloc, &records)?;
+    ensure!(id_fault(mdb.next_id, &catalog).is_none(), "an ID is wrong");
     let keys = index_keys::<CatKey, NodeList<'_>>(alloc, &nodes)?;
     ensure!(name_fault(&keys, &records).is_none(), "a name is wrong");
-    let places = place_fault(alloc, true, &records)?;
+    let places = place_fault(alloc, true, &catalog)?;
     ensure!(places.is_none(), "a record's place is wrong");
     Ok(Catalog { nodes })
 }
