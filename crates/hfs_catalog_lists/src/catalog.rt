@@ -1,4 +1,8 @@
 //! A catalog that passed its checks.
+ghost use Rattle.std.specs.Prelude.{OnOk};
+ghost use Rattle.hfs_btree.specs.Sound.{IsDistinct};
+ghost use Rattle.hfs_catalog.specs.Records.{item_ids};
+ghost use Rattle.hfs_catalog.specs.Sound.{ArePlacesSound};
 
 use anyhow::{Result, ensure};
 use hfs_btree::{NodeList, Walk, check_tree, depth, find, free_nodes, index_keys, next_after};
@@ -28,12 +32,24 @@ impl<'a> Model for Catalog<'a> {
     ghost invariant = { λ c. IsChecked c.nodes.nodes.now };
 }
 
+/// An error where an ID or a place of the records is wrong.
+fn check_places(alloc: Global, next_id: u32, records: &[(CatKey, Bytes)]) -> Result<()>
+    ensures ids { OnOk result (IsDistinct (item_ids records.now)) }
+    ensures places { OnOk result (ArePlacesSound records.now) }
+{
+    id_faults();
+    place_faults();
+    let catalog = IndexedCatalog::of(alloc, records)?;
+    ensure!(id_fault(next_id, &catalog).is_none(), "an ID is wrong");
+    let places = place_fault(alloc, true, &catalog)?;
+    ensure!(places.is_none(), "a record's place is wrong");
+    Ok(())
+}
+
 /// The catalog in these nodes. An error where its tree or its records are not sound.
 pub fn check<'a>(alloc: Global, mdb: &Mdb, list: &'a [[u8; 512]]) -> Result<Catalog<'a>> {
     record_faults();
-    id_faults();
     name_faults();
-    place_faults();
     let size = mdb.catalog_file_size;
     ensure!(
         list.len() <= u32::MAX as usize && size as usize <= 512 * list.len(),
@@ -43,12 +59,9 @@ pub fn check<'a>(alloc: Global, mdb: &Mdb, list: &'a [[u8; 512]]) -> Result<Cata
     check_tree::<CatKey, NodeList<'_>>(alloc, &nodes, size)?;
     let records = read_records(alloc, &nodes)?;
     ensure!(record_fault(&records).is_none(), "a record is wrong");
-    let catalog = IndexedCatalog::of(alloc, &records)?;
-    ensure!(id_fault(mdb.next_id, &catalog).is_none(), "an ID is wrong");
     let keys = index_keys::<CatKey, NodeList<'_>>(alloc, &nodes)?;
     ensure!(name_fault(&keys, &records).is_none(), "a name is wrong");
-    let places = place_fault(alloc, true, &catalog)?;
-    ensure!(places.is_none(), "a record's place is wrong");
+    check_places(alloc, mdb.next_id, &records)?;
     Ok(Catalog { nodes })
 }
 
