@@ -90,6 +90,6 @@ pub fn list_text(alloc: Global, volume: &Volume, dir: u32) -> Result<(u8, String
     ensures status { IfOk result (λ told. told.0 ≡ list_status (list (entries_of (volume_of volume.now.current)) dir)) }
     ensures lines { IfOk result (λ told. string_bytes told.1 ≡ list_lines (list (entries_of (volume_of volume.now.current)) dir)) }
 {
-    let reply = volume.list(alloc, dir)?;
+    let reply = volume.list_in_brief(alloc, dir)?;
     children_text(alloc, &reply)
 }

@@ -39,7 +39,7 @@ fn write_folders<W: Write>(alloc: Global, out: &mut W, volume: &Volume, most: us
         let Some(dir) = waiting.pop() else {
             return Ok(());
         };
-        let reply = volume.list(alloc, dir)?;
+        let reply = volume.list_in_brief(alloc, dir)?;
         let (status, lines) = children_text(alloc, &reply)?;
         ensure!(status == 0, "a folder is not listed");
         out.write_all(lines.as_bytes())?;

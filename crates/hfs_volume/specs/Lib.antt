@@ -1,5 +1,6 @@
 pub mod Laid
 pub mod Image
 pub mod Told
+pub mod Brief
 pub mod Queries
 pub mod Mounted

@@ -3,6 +3,7 @@
 ghost use Rattle.std.specs.Prelude.{◌≡◌, ◌++◌, Some};
 ghost use Rattle.hfs_model.specs.Replies.{refusal, success};
 ghost use Rattle.hfs_catalog.specs.Tree.{catalog_of};
+ghost use Rattle.hfs_volume.specs.Brief.{item_in_brief};
 ghost use Rattle.hfs_volume.specs.Told.{IsCatalog, folder_info, file_info, item_info};
 
 use hfs_btree::Nodes;
@@ -78,6 +79,16 @@ fn file_info(has_thread: bool, key: CatKey, file: &FileRecord) -> Info
         valence: 0,
         data_len: file.data.length,
         res_len: file.resource.length,
+    }
+}
+
+/// What an item's own record tells of it: `has_id` is false, also of a file that has a thread.
+pub(crate) fn item_in_brief(item: &CatalogItem) -> Info
+    ensures { result ≡ item_in_brief item.now }
+{
+    match &item.body {
+        ItemRecord::Folder(folder) => folder_info(item.key, folder),
+        ItemRecord::File(file) => file_info(false, item.key, file),
     }
 }
 

@@ -6,6 +6,7 @@ ghost use Rattle.hfs_model.specs.Reading.{get_dir_info, get_cat_info, get_indexe
 ghost use Rattle.hfs_model.specs.Step.{step, is_reading};
 ghost use Rattle.hfs_check.specs.VolumeOf.{contents_in, volume_of};
 ghost use Rattle.hfs_btree.specs.Blocks.{block_at};
+ghost use Rattle.hfs_volume.specs.Brief.{without_ids};
 ghost use Rattle.hfs_volume.specs.Told.{pick};
 ghost use Rattle.hfs_volume.specs.Mounted.{IsMounted, AreForksIn};
 
@@ -148,6 +149,20 @@ impl Volume {
             runs: &self.catalog,
         };
         reading::list(alloc, &catalog, dir)
+    }
+
+    /// The reply to `list` with `has_id` false in each item: no thread is looked up, which is most of the work of `list`. The
+    /// only error is want of memory.
+    pub fn list_in_brief(&self, alloc: Global, dir: u32) -> Result<Reply, AllocError>
+        ensures { IfOk result (λ reply. reply ≡ without_ids (list (entries_of (volume_of self.now.current)) dir)) }
+    {
+        catalog_answers();
+        let blocks = self.image.blocks();
+        let catalog = RunNodes {
+            blocks: &blocks,
+            runs: &self.catalog,
+        };
+        reading::list_in_brief(alloc, &catalog, dir)
     }
 
     /// Bytes of a file's fork from an offset on, at most 65,536 of them: -50 where `count` is above that, -37, -120 and -43 as
