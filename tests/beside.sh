@@ -1,13 +1,12 @@
-# What the scripts beside hfsutils begin with: the program, hfsutils, and a folder that goes away at the end.
+# What the scripts beside hfsutils begin with: the program, hfsutils, and a folder that goes away at the end. Nothing is
+# installed here: hfsutils is Debian's package of that name.
 set -euo pipefail
 cd "$(dirname "$0")/.."
 tool=$PWD/crates/hfs_tool/out/hfs_tool
+volumes=$PWD/crates/hfs_real_volumes/data
 
 if ! command -v hmount > /dev/null; then
-    (timeout 60 apt-get update && timeout 120 apt-get install -y hfsutils) > /dev/null 2>&1 || true
-fi
-if ! command -v hmount > /dev/null; then
-    echo 'skipped: hfsutils is not to be had'
+    echo 'skipped: hfsutils is not installed'
     exit 0
 fi
 [ -x "$tool" ] || (cd crates/hfs_tool && rt run < stdin > /dev/null)
@@ -16,3 +15,8 @@ folder=$(mktemp -d)
 export HOME=$folder # hfsutils notes there what is mounted
 trap 'rm -rf "$folder"' EXIT
 
+# Makes changed.img of an image, with other bytes from a place on.
+change() {
+    cp "$1" "$folder/changed.img"
+    printf "$3" | dd of="$folder/changed.img" bs=1 seek="$2" conv=notrunc 2> /dev/null
+}

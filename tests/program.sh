@@ -5,8 +5,8 @@
 set -euo pipefail
 cd "$(dirname "$0")/.."
 tool=$PWD/crates/hfs_tool/out/hfs_tool
-volumes=$PWD/crates/hfs_volume_reports/data
-lists=$PWD/crates/hfs_mounted_lists/stdout
+volumes=$PWD/crates/hfs_real_volumes/data
+lists=$PWD/crates/hfs_real_volumes/stdout
 [ -x "$tool" ] || (cd crates/hfs_tool && rt run < stdin > /dev/null)
 
 folder=$(mktemp -d)
@@ -30,7 +30,7 @@ wants() {
 
 # The list that libhfs made of a volume, a line for each item; a backslash stands there as its code.
 list_of() {
-    awk -F'\t' -v name="$1" 'NF == 1 { here = ($0 == name); next } here' "$lists" | sed 's/\\5c/\\/g'
+    awk -F'\t' -v name="$1.img " 'NF == 1 { here = (index($0, name) == 1); next } here' "$lists" | sed 's/\\5c/\\/g'
 }
 
 # The FNV-1a sum of standard input, from the basis that the lists have.
@@ -76,7 +76,21 @@ for name in hfsutils-800k hfsutils-1440k-names genisoimage-locked; do
     cmp "$volumes/$name.img" "$folder/read.img" || fail "$name was written"
 done
 
-# What the README shows.
+# Each command line of the README on disks, as it stands there, in a folder of its own where the repository's crates are.
+mkdir "$folder/readme"
+ln -s "$PWD/crates" "$folder/readme/crates"
+sed -n '/^## The first ten minutes/,/^## What is proved/s/^    //p' README.md > "$folder/lines"
+[ "$(grep -c tool "$folder/lines")" -ge 10 ] || fail 'the README has no command lines'
+(
+    cd "$folder/readme"
+    path=$volumes/hfsutils-800k.img
+    while IFS= read -r line; do
+        eval "$line" > "$folder/printed" 2> "$folder/errors" || [ $? = 3 ] || fail "the README's line '$line'"
+        [ ! -s "$folder/errors" ] || fail "the README's line '$line' writes to standard error"
+    done < "$folder/lines"
+)
+
+# What the README says that they print.
 disk=$volumes/hfsutils-800k.img
 wants 0 'sound\nfiles 7\nfolders 4\nfree 1499\nalternate same\nunowned 0\n' check "$disk"
 wants 0 'd\t17\t4\t0\tDocuments\nd\t19\t3\t0\tGames\nd\t16\t0\t0\tSystem Folder\n' ls "$disk"
@@ -97,6 +111,9 @@ wants 3 'code -43\n' cat "$small" 2 q
 wants 3 'code -120\n' cat "$small" 3 q
 wants 3 'code -37\n' cat "$small" 2 a:b
 wants 3 'code -43\n' cat "$disk" 2 Games
+wants 3 'code -43\n' cat "$small" 2 -q
+wants 3 'code -43\n' cat "$small" 2 -- --help
+wants 3 'code -43\n' cat "$small" 2 --resource -- --resource
 change "$small" $((6 * 512)) '\000\000\000\001'
 wants 2 'refused check C4 at 0\n' check "$folder/changed.img"
 wants 2 'check C4 at 0\n' ls "$folder/changed.img"
@@ -138,6 +155,8 @@ for words in sing ls cat "cat $small" "ls $small two" "ls $small 4294967296" "ne
 done
 "$tool" --help | grep -q hfs_tool || fail 'help'
 wants 1 'the words are not text\n' ls $'\xff'
+cp "$small" "$folder"/$'\xff.img'
+[ "$(cat "$folder"/$'\xff.img' | "$tool" check /dev/stdin | head -n 1)" = sound ] || fail 'an image through a pipe'
 wants 4 "cannot read $folder/none.img\n" check "$folder/none.img"
 wants 4 "cannot read $folder/none.img\n" info "$folder/none.img"
 wants 4 "cannot read $folder\n" ls "$folder"
@@ -165,5 +184,32 @@ truncate -s 200M "$folder/sparse.img"
 got=0
 (ulimit -v 100000 && "$tool" check "$folder/sparse.img") > "$folder/printed" || got=$?
 [ "$got" = 5 ] && [ "$(cat "$folder/printed")" = 'out of memory' ] || fail "too little memory ends with $got"
+
+# The words: others are refused with their text on standard output, and help is given.
+for words in info 'info a.img b.img' "info $small --now" --now "mount $small" "$small" "new $folder/none.img D 64 6 x" check \
+    "ls $small x" "ls $small -1" "cat $small 2" "cat $small 4294967296 f"; do
+    got=0
+    "$tool" $words > "$folder/printed" 2> "$folder/errors" || got=$?
+    [ "$got" = 1 ] && [ -s "$folder/printed" ] && [ ! -s "$folder/errors" ] || fail "'$words' ends with $got"
+done
+for words in --help 'info --help' 'new --help'; do
+    "$tool" $words > "$folder/printed" || fail "'$words' ends with $?"
+    [ -s "$folder/printed" ] || fail "'$words' prints nothing"
+done
+
+# Each word is read in its place: a name and a number with a hyphen and zeros in front, the moment, the folder, the fork.
+"$tool" new "$folder/words.img" -D 1600 007 2 --now 100
+"$tool" info "$folder/words.img" > "$folder/printed"
+for line in 'drVN -D' 'drCrDate 100' 'drLsMod 100' 'drCTFlSize 3584' 'drXTFlSize 1024'; do
+    grep -qx "$line" "$folder/printed" || fail "a new volume has no line '$line'"
+done
+[ "$(stat -c %s "$folder/words.img")" = 819200 ] || fail 'a new volume of 1600 blocks'
+"$tool" new "$folder/words.img" D 64 6 2
+"$tool" info "$folder/words.img" > "$folder/printed"
+grep -qx 'drCrDate 0' "$folder/printed" || fail 'a new volume without a moment'
+wants 3 'code -120\n' ls "$folder/words.img" 17
+wants 3 'code -43\n' cat "$folder/words.img" 2 -f
+wants 3 'code -43\n' cat "$folder/words.img" 2 f --resource
+wants 3 'code -120\n' cat "$folder/words.img" 17 f
 
 echo 'the program agrees'

@@ -3,8 +3,8 @@
 # run in milliseconds, the best of some runs, and the ratio of ours to theirs. The program loads and checks the whole image
 # before it tells anything of it, so its times grow with the image: the first volume is about the smallest with so many items.
 . "$(dirname "$0")/beside.sh"
-folder_lists=$PWD/crates/hfs_folder_lists/out/hfs_folder_lists
-[ -x "$folder_lists" ] || (cd crates/hfs_folder_lists && rt run -- data/hfsutils-800k.img > /dev/null)
+lists=$PWD/crates/hfs_real_volumes/out/hfs_real_volumes
+[ -x "$lists" ] || (cd crates/hfs_real_volumes && rt run > /dev/null)
 
 # The best of so many runs of a command, in microseconds.
 best() {
@@ -43,17 +43,17 @@ report() {
 # Measures on a volume of this size.
 measure() {
     local volume=$folder/many.img ours
-    sh crates/hfs_catalog_lists/make_volume.sh "$volume" "$1" > /dev/null
+    sh tests/make_volume.sh "$volume" "$1" > /dev/null
     hmount "$volume" > /dev/null
     hcopy -r "$folder/megabyte" :megabyte
     echo "6,000 items in $1:"
     ours=$(best 31 "$tool" check "$volume")
     if command -v fsck.hfs > /dev/null; then
-        report 'check to fsck.hfs -n' "$ours" "$(best 31 fsck.hfs -n "$volume")"
+        report 'check to fsck.hfs -n' "$ours" "$(best 31 fsck.hfs -fn "$volume")"
     else
         awk -v ours="$ours" 'BEGIN { printf "    check: %.1f ms; fsck.hfs is not installed\n", ours / 1000 }'
     fi
-    report 'every folder to hls -laR' "$(best 31 "$folder_lists" "$volume")" "$(best 31 hls -laR)"
+    report 'every folder to hls -laR' "$(best 31 "$lists" folders "$volume")" "$(best 31 hls -laR)"
     report 'ls of the root to hls -la' "$(best 31 "$tool" ls "$volume")" "$(best 31 hls -la)"
     report 'a run for each folder to a run for each' "$(best 2 list_each "$volume")" "$(best 2 peer_list_each)"
     report 'cat of 1 MB to hcopy -r' "$(best 31 "$tool" cat "$volume" 2 megabyte)" "$(best 31 hcopy -r :megabyte "$folder/copy")"

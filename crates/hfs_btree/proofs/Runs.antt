@@ -4,8 +4,8 @@ use Rattle.std.specs.List.{flat_map, sum_by}
 use Rattle.std.proofs.lemmas.List.{length-map, drop_more, drop_all, get_or_append_left, get_or-append_right, map-append}
 use Rattle.std.proofs.lemmas.List.Concat.{length-flat_map}
 use Rattle.std.proofs.lemmas.List.FromFn.{length-range_with_len, get_or-map-range_with_len, length-map-range_with_len}
-use Rattle.hfs_btree.specs.declared.run.Run.{Run}
-use Rattle.hfs_btree.specs.Blocks.{run_of, nodes_in, total_of}
+use Rattle.hfs_blocks.specs.declared.run.Run.{Run}
+use Rattle.hfs_blocks.specs.Blocks.{run_of, nodes_in, total_of}
 
 module _ (blocks : ℕ → List ℕ) where
   abbrev own : Run → List (List ℕ)

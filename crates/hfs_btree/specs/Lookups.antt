@@ -6,8 +6,9 @@ use Rattle.std.specs.declared.cmp.Ordering.{Ordering}
 use Rattle.std.specs.declared.cmp.Ordering.TheVariants.{Less, Equal, Greater}
 use Rattle.std.specs.Ordering.{is_eq, is_gt, is_lt, ordering_reverse}
 use Rattle.std.specs.Cmp.{IsTotalOrder}
-use Rattle.hfs_btree.specs.Pairs.{Order, Pairs, Each, lookup, after, pairs_from, IsAbove, IsBelow}
-use Rattle.hfs_btree.specs.Elements.{each-mono}
+use Rattle.hfs_btree.specs.Pairs.{Order, Pairs, lookup, after, pairs_from, IsAbove, IsBelow}
+use Rattle.hfs_scans.specs.Each.{Each}
+use Rattle.hfs_scans.specs.Elements.{each-mono}
 
 -- the first pair
 abbrev pub first_pair : {K : Type 0} → Pairs K → Option (K × List ℕ)

@@ -3,17 +3,13 @@ use Rattle.std.specs.Prelude.{◌≡◌, ℕ, false, List, [], ◌∷◌, Option
 use Rattle.std.specs.declared.cmp.Ordering.{Ordering}
 use Rattle.std.specs.declared.cmp.Ordering.TheVariants.{Less}
 use Rattle.std.specs.Ordering.{is_eq, is_gt, is_lt}
+use Rattle.hfs_scans.specs.Each.{Each}
 
 abbrev pub Order : Type 0 → Type 0
 Order K = K → K → Ordering
 
 abbrev pub Pairs : Type 0 → Type 0
 Pairs K = List (K × List ℕ)
-
--- the fact holds of each element
-abbrev pub Each : {X : Type 0} → (X → Type 0) → List X → Type 0
-Each P [] = ⊤
-Each P (x ∷ xs) = P x × Each P xs
 
 -- the body under a key that is equal in the order
 abbrev pub lookup : {K : Type 0} → Order K → K → Pairs K → Option (List ℕ)

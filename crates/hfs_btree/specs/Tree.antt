@@ -90,3 +90,8 @@ kind_at (suc k) = Index
 abbrev pub reads_at : {K : Type 0} → Ghosts K → ℕ → List ℕ → Bool
 reads_at g zero = g.is_leaf
 reads_at g (suc k) = g.is_index
+
+-- the key of a record of a node so many levels above the leaves
+abbrev pub key_at : {K : Type 0} → Ghosts K → ℕ → List ℕ → K
+key_at g zero = g.leaf_key
+key_at g (suc k) = g.index_key

@@ -6,7 +6,7 @@ ghost use Rattle.std.specs.Ordering.{is_gt};
 use crate::key::Key;
 
 /// Whether an index record's key is above this one.
-pub(crate) fn is_above<K: Key>(entry: &[u8], key: &K) -> bool
+pub fn is_above<K: Key>(entry: &[u8], key: &K) -> bool
     requires { K.is_index entry.now ≡ true }
     ensures { result ≡ is_gt (K.compare (K.index_key entry.now) key.now) }
 {
@@ -14,7 +14,7 @@ pub(crate) fn is_above<K: Key>(entry: &[u8], key: &K) -> bool
 }
 
 /// The child that an index record names.
-pub(crate) fn child_of<K: Key>(entry: &[u8]) -> u32
+pub fn child_of<K: Key>(entry: &[u8]) -> u32
     requires { K.is_index entry.now ≡ true }
     ensures { result ≡ K.child entry.now }
 {
@@ -25,7 +25,7 @@ pub(crate) fn child_of<K: Key>(entry: &[u8]) -> u32
 }
 
 /// The key of an index record.
-pub(crate) fn index_key_of<K: Key>(entry: &[u8]) -> K
+pub fn index_key_of<K: Key>(entry: &[u8]) -> K
     requires { K.is_index entry.now ≡ true }
     ensures { result ≡ K.index_key entry.now }
 {
@@ -36,7 +36,7 @@ pub(crate) fn index_key_of<K: Key>(entry: &[u8]) -> K
 }
 
 /// The key of a leaf's record.
-pub(crate) fn key_of<K: Key>(entry: &[u8]) -> K
+pub fn key_of<K: Key>(entry: &[u8]) -> K
     requires { K.is_leaf entry.now ≡ true }
     ensures { result ≡ K.leaf_key entry.now }
 {
@@ -47,7 +47,7 @@ pub(crate) fn key_of<K: Key>(entry: &[u8]) -> K
 }
 
 /// The body of a leaf's record.
-pub(crate) fn body_of<K: Key>(entry: &[u8]) -> &[u8]
+pub fn body_of<K: Key>(entry: &[u8]) -> &[u8]
     requires { K.is_leaf entry.now ≡ true }
     ensures { result.now ≡ drop (K.body_start entry.now) entry.now }
 {

@@ -2,8 +2,9 @@
 
 ghost use Rattle.std.specs.Prelude.{◌≡◌, ◌≤◌, length};
 ghost use Rattle.hfs_btree.specs.Header.{header_of};
+ghost use Rattle.hfs_btree.specs.HeaderForm.{header_bytes, IsHeaderValue};
 
-use byteorder::{BigEndian, ByteOrder};
+use hfs_fields::{FieldRow, u16_at, u32_at};
 
 /// The header record, which is the first of a tree's node 0.
 ///
@@ -38,15 +39,44 @@ impl Header {
         ensures { result ≡ header_of bytes.now }
     {
         Header {
-            depth: BigEndian::read_u16(bytes),
-            root: BigEndian::read_u32(&bytes[2..]),
-            records: BigEndian::read_u32(&bytes[6..]),
-            first_leaf: BigEndian::read_u32(&bytes[10..]),
-            last_leaf: BigEndian::read_u32(&bytes[14..]),
-            node_size: BigEndian::read_u16(&bytes[18..]),
-            key_len: BigEndian::read_u16(&bytes[20..]),
-            nodes: BigEndian::read_u32(&bytes[22..]),
-            free_nodes: BigEndian::read_u32(&bytes[26..]),
+            depth: u16_at(bytes, 0),
+            root: u32_at(bytes, 2),
+            records: u32_at(bytes, 6),
+            first_leaf: u32_at(bytes, 10),
+            last_leaf: u32_at(bytes, 14),
+            node_size: u16_at(bytes, 18),
+            key_len: u16_at(bytes, 20),
+            nodes: u32_at(bytes, 22),
+            free_nodes: u32_at(bytes, 26),
         }
+    }
+
+    /// Writes the fields to the first 30 bytes of a header record.
+    pub fn write(&self, bytes: &mut [u8])
+        requires { 30 ≤ length bytes.old }
+        ensures fields { header_of bytes.new ≡ self.now }
+        ensures length { length bytes.new ≡ length bytes.old }
+    {
+        self.laid().copy_to(bytes);
+    }
+
+    /// The 30 bytes of the fields.
+    #[tactic(auto, unfolding(crate::specs::HeaderForm::header_bytes))]
+    fn laid(&self) -> FieldRow
+        ensures bytes { result ≡ header_bytes self.now }
+        ensures length { length result ≡ 30 }
+        ensures value { IsHeaderValue self.now }
+    {
+        let mut row = FieldRow::new();
+        row.push_u16(self.depth);
+        row.push_u32(self.root);
+        row.push_u32(self.records);
+        row.push_u32(self.first_leaf);
+        row.push_u32(self.last_leaf);
+        row.push_u16(self.node_size);
+        row.push_u16(self.key_len);
+        row.push_u32(self.nodes);
+        row.push_u32(self.free_nodes);
+        row
     }
 }

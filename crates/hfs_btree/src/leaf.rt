@@ -2,7 +2,8 @@
 
 ghost use Rattle.std.specs.Prelude.{◌≡◌, ℕ, ◌<◌, ◌≤◌, true, List, [], IfSome, MatchOption, length, map, drop, slice_index_or};
 ghost use Rattle.hfs_node.specs.Node.{node_of};
-ghost use Rattle.hfs_btree.specs.Pairs.{Each, pairs_from};
+ghost use Rattle.hfs_scans.specs.Each.{Each};
+ghost use Rattle.hfs_btree.specs.Pairs.{pairs_from};
 ghost use Rattle.hfs_btree.specs.Tree.{records_of, forward_of, pair_of};
 ghost use Rattle.hfs_btree.specs.Sound.{HasStructure};
 ghost use Rattle.hfs_btree.specs.Walk.{rest_at, IsAtLeaf, IsWalk};
@@ -20,7 +21,7 @@ pub(crate) fn no_leaf() -> [u8; 512]
 }
 
 /// How many records a node has; none where the bytes are no node.
-pub(crate) fn count_in(bytes: &[u8; 512]) -> usize
+pub fn count_in(bytes: &[u8; 512]) -> usize
     ensures { result ≡ length (records_of (node_of bytes.now)) }
 {
     match view(bytes) {
@@ -30,7 +31,7 @@ pub(crate) fn count_in(bytes: &[u8; 512]) -> usize
 }
 
 /// The next node of the level, 0 at its end.
-pub(crate) fn forward_in(bytes: &[u8; 512]) -> u32
+pub fn forward_in(bytes: &[u8; 512]) -> u32
     ensures { result ≡ forward_of (node_of bytes.now) }
 {
     match view(bytes) {
@@ -40,7 +41,7 @@ pub(crate) fn forward_in(bytes: &[u8; 512]) -> u32
 }
 
 /// The record at a place, if there is one.
-pub(crate) fn entry_in(bytes: &[u8; 512], place: usize) -> Option<&[u8]>
+pub fn entry_in(bytes: &[u8; 512], place: usize) -> Option<&[u8]>
     ensures { MatchOption result (length (records_of (node_of bytes.now)) ≤ place)
         (λ entry. (place < length (records_of (node_of bytes.now))) × (entry.now ≡ slice_index_or (records_of (node_of bytes.now)) place [])) }
 {
@@ -55,7 +56,7 @@ pub(crate) fn entry_in(bytes: &[u8; 512], place: usize) -> Option<&[u8]>
 }
 
 /// The place of the first record whose key isn't below this one, or behind the last.
-pub(crate) fn place_in<K: Key>(bytes: &[u8; 512], key: &K) -> usize
+pub fn place_in<K: Key>(bytes: &[u8; 512], key: &K) -> usize
     requires { Each (λ entry. K.is_leaf entry ≡ true) (records_of (node_of bytes.now)) }
     ensures within { result ≤ length (records_of (node_of bytes.now)) }
     ensures from { drop result (map (pair_of K.Key) (records_of (node_of bytes.now))) ≡ pairs_from K.compare key.now (map (pair_of K.Key) (records_of (node_of bytes.now))) }

@@ -1,51 +1,27 @@
-//! B*-trees over numbered nodes of 512 bytes.
+//! B*-trees over numbered nodes of 512 bytes: their keys, look-ups and walks.
 #![tactic(auto)]
 
-mod blocks;
+mod bits;
 mod counts;
 mod entry;
-mod fault;
 mod header;
-mod image;
-mod index_levels;
 mod key;
-mod key_levels;
-mod key_range;
-mod key_test;
 mod keys;
 mod leaf;
 mod node_list;
 mod nodes;
-mod order;
-mod order_index;
-mod order_leaves;
-mod run;
 mod run_nodes;
 mod search;
-mod shape;
-mod shape_chain;
-mod shape_header;
-mod shape_levels;
-mod shape_map;
-mod shape_node;
 mod walk;
 
-pub use blocks::Blocks;
+pub use bits::bit_at;
 pub use counts::{depth, free_nodes};
-pub use fault::TreeFault;
+pub use entry::{body_of, child_of, index_key_of, is_above, key_of};
 pub use header::Header;
-pub use image::ImageBytes;
-pub use index_levels::index_keys;
 pub use key::Key;
-pub use key_levels::check_keys;
-pub use key_test::KeyTest;
+pub use leaf::{count_in, entry_in, forward_in, place_in};
 pub use node_list::NodeList;
 pub use nodes::Nodes;
-pub use order::{check_order, check_tree};
-pub use order_index::index_keys_in_order;
-pub use order_leaves::{leaf_order_fault, rise_fault};
-pub use run::Run;
 pub use run_nodes::RunNodes;
-pub use search::{find, next_after};
-pub use shape::check_shape;
+pub use search::{child_in, descend, find, next_after, place_in_index, read_header};
 pub use walk::{Pair, Walk};

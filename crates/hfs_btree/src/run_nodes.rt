@@ -1,11 +1,10 @@
 //! The nodes of a file that lies in runs of blocks.
 
 ghost use Rattle.std.specs.Prelude.{◌≡◌, length};
-ghost use Rattle.hfs_btree.specs.Blocks.{nodes_in, AreRunsWithin};
+ghost use Rattle.hfs_blocks.specs.Blocks.{nodes_in, AreRunsWithin};
 
-use crate::blocks::Blocks;
 use crate::nodes::Nodes;
-use crate::run::Run;
+use hfs_blocks::{Blocks, Run};
 
 /// The nodes of a file that lies in runs of blocks: node n is the n-th 512 bytes of the runs in their order.
 #[derive(Drop)]

@@ -3,7 +3,8 @@
 ghost use Rattle.std.specs.Prelude.{◌≡◌, ℕ, ◌<◌, ◌≤◌, ◌-◌, true, List, [], Ok, IfOk, IfSome, length, map, option_map, slice_index_or};
 ghost use Rattle.std.specs.List.{prefix_len};
 ghost use Rattle.hfs_node.specs.Node.{node_of};
-ghost use Rattle.hfs_btree.specs.Pairs.{Each, lookup, after};
+ghost use Rattle.hfs_scans.specs.Each.{Each};
+ghost use Rattle.hfs_btree.specs.Pairs.{lookup, after};
 ghost use Rattle.hfs_btree.specs.Tree.{records_of, pair_of};
 ghost use Rattle.hfs_btree.specs.Header.{header_in, record_in, depth_of, tree_content};
 ghost use Rattle.hfs_btree.specs.Lookups.{first_pair};
@@ -19,7 +20,7 @@ use hfs_node::{NodeView, view};
 use std::alloc::{AllocError, Global};
 
 /// The header record of a tree whose node 0 has one.
-pub(crate) fn read_header<N: Nodes>(nodes: &N) -> Header
+pub fn read_header<N: Nodes>(nodes: &N) -> Header
     requires { 30 ≤ length (record_in (N.nodes nodes.now) 0 0) }
     ensures { result ≡ header_in (N.nodes nodes.now) }
 {
@@ -45,8 +46,19 @@ fn place_for<K: Key>(node: &NodeView<'_>, key: &K) -> usize
     node.len()
 }
 
+/// The place of the index record whose child is where the search for a key goes on.
+pub fn place_in_index<K: Key>(bytes: &[u8; 512], key: &K) -> usize
+    requires { Each (λ entry. K.is_index entry ≡ true) (records_of (node_of bytes.now)) }
+    ensures { result ≡ prefix_len (is_not_above K.Key key.now) (records_of (node_of bytes.now)) - 1 }
+{
+    match view(bytes) {
+        Ok(node) => place_for(&node, key).saturating_sub(1),
+        Err(_) => 0,
+    }
+}
+
 /// The child where the search for a key goes on.
-fn child_in<K: Key>(bytes: &[u8; 512], key: &K) -> u32
+pub fn child_in<K: Key>(bytes: &[u8; 512], key: &K) -> u32
     requires some { 0 < length (records_of (node_of bytes.now)) }
     requires whole { Each (λ entry. K.is_index entry ≡ true) (records_of (node_of bytes.now)) }
     ensures { result ≡ child_for K.Key key.now (records_of (node_of bytes.now)) }
@@ -61,12 +73,7 @@ fn child_in<K: Key>(bytes: &[u8; 512], key: &K) -> u32
 }
 
 /// The leaf where the search for a key ends, with its bytes.
-pub(crate) fn descend<K: Key, N: Nodes>(
-    nodes: &N,
-    header: &Header,
-    key: &K,
-    bytes: &mut [u8; 512],
-) -> u32
+pub fn descend<K: Key, N: Nodes>(nodes: &N, header: &Header, key: &K, bytes: &mut [u8; 512]) -> u32
     requires sound { IsSound K.Key (N.nodes nodes.now) }
     requires header { header.now ≡ header_in (N.nodes nodes.now) }
     requires some { 0 < depth_of (N.nodes nodes.now) }

@@ -1,11 +1,21 @@
-//! Tests of trees against bytes by hand.
+//! Tests of trees against bytes by hand: records and look-ups, and the checks of shape and order and the passes over keys.
 #![tactic(auto)]
 
+#[cfg(test)]
+mod counts;
 #[cfg(test)]
 mod deep;
 #[cfg(test)]
 mod key_records;
 #[cfg(test)]
+mod keys;
+#[cfg(test)]
 mod laid;
 #[cfg(test)]
+mod order;
+#[cfg(test)]
 mod runs;
+#[cfg(test)]
+mod shape;
+#[cfg(test)]
+mod trees;

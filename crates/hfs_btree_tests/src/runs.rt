@@ -1,5 +1,6 @@
 //! Files that lie in runs of blocks.
-use hfs_btree::{Blocks, ImageBytes, Nodes, Run, RunNodes};
+use hfs_blocks::{Blocks, ImageBytes, Run};
+use hfs_btree::{Nodes, RunNodes};
 
 /// Whether all bytes of a block are this one.
 fn is_filled(block: &[u8; 512], byte: u8) -> bool {

@@ -1,17 +1,6 @@
-pub mod Decided
-pub mod Agreed
-pub mod Reach
-pub mod Ids
-pub mod Places
 pub mod Held
 pub mod Lawful
 pub mod NameOrder
 pub mod Found
 pub mod Steps
 pub mod Queries
-pub mod Indexed
-pub mod IdSteps
-pub mod ValenceSteps
-pub mod OrderSteps
-pub mod ParentSteps
-pub mod PlaceSteps

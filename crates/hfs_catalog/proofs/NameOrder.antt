@@ -10,8 +10,9 @@ use Rattle.std.proofs.lemmas.Bool.{eqb-true, eq-eqb, true≢false, and_parts, an
 use Rattle.hfs_fields.specs.Order.{name_cmp}
 use Rattle.hfs_fields.specs.Keys.{cat_cmp}
 use Rattle.hfs_fields.specs.Records.{is_item, item_id}
-use Rattle.hfs_btree.specs.Pairs.{Each, Rises}
-use Rattle.hfs_btree.specs.Elements.{each-at}
+use Rattle.hfs_scans.specs.Each.{Each}
+use Rattle.hfs_btree.specs.Pairs.{Rises}
+use Rattle.hfs_scans.specs.Elements.{each-at}
 use Rattle.hfs_model.specs.declared.item.Item.{Item}
 use Rattle.hfs_model.specs.Volume.{Volume, Entry}
 use Rattle.hfs_model.specs.Children.{children}
@@ -20,9 +21,9 @@ use Rattle.hfs_model.specs.Laws.{AreChildren, ChildrenAreOne}
 use Rattle.hfs_catalog.specs.Records.{Record, Catalog, has_id, item_with, is_child_of}
 use Rattle.hfs_catalog.specs.Sound.{IsSoundCatalog}
 use Rattle.hfs_catalog.specs.Items.{Contents, item_of, entry_of, items_in, children_in}
-use Rattle.hfs_btree.specs.Scans.{Later}
-use Rattle.hfs_catalog.proofs.Ids.{Differs, later_from_distinct}
-use Rattle.hfs_btree.specs.Members.{In, each_in}
+use Rattle.hfs_scans.specs.Scans.{Later}
+use Rattle.hfs_catalog.specs.Distinct.{Differs, later_from_distinct}
+use Rattle.hfs_scans.specs.Members.{In, each_in}
 use Rattle.hfs_catalog.proofs.Held.{item_parent, item_name, has_item, has_record}
 use Rattle.hfs_catalog.proofs.Lawful.{sound_is_lawful}
 

@@ -1,9 +1,8 @@
 pub mod Records
 pub mod Parents
 pub mod Sound
-pub mod Faults
 pub mod Items
 pub mod Tree
 pub mod Lookups
 pub mod Laws
-pub mod Indexes
+pub mod Distinct

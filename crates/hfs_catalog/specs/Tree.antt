@@ -1,6 +1,7 @@
 -- The catalog tree.
 use Rattle.std.specs.Prelude.{ℕ, List}
 use Rattle.hfs_fields.specs.declared.key.CatKey.{CatKey}
+use Rattle.hfs_fields.specs.KeyForms.{cat_leaf_bytes}
 use Rattle.hfs_fields.specs.Keys.{is_cat_leaf, cat_key_of, cat_body_start, is_cat_index, cat_child_of, is_cat_body_len, cat_cmp}
 use Rattle.hfs_btree.specs.declared.key.Key.{Ghosts}
 use Rattle.hfs_btree.specs.Header.{tree_content}
@@ -14,6 +15,7 @@ cat_keys = record {
   is_leaf = is_cat_leaf;
   leaf_key = cat_key_of;
   body_start = cat_body_start;
+  leaf_head = cat_leaf_bytes;
   is_index = is_cat_index;
   index_key = cat_key_of;
   child = cat_child_of;

@@ -2,7 +2,6 @@
 ghost use Rattle.std.specs.Prelude.{◌≡◌, if◌then◌else◌, Some, None};
 ghost use Rattle.hfs_fields.specs.Records.{is_dir, is_file, is_item, is_thread, item_id};
 ghost use Rattle.hfs_catalog.specs.Records.{has_id};
-ghost use Rattle.hfs_catalog.specs.Indexes.{only_if};
 ghost use Rattle.hfs_catalog.specs.Lookups.{catalog_item};
 
 use hfs_fields::{CatKey, DirRecord, FileRecord, ThreadRecord};
@@ -22,14 +21,14 @@ pub struct CatalogItem {
 }
 
 /// Whether a body is a folder's record.
-pub(crate) fn is_folder(body: &[u8]) -> bool
+pub fn is_folder(body: &[u8]) -> bool
     ensures { result ≡ is_dir body.now }
 {
     body.len() == DirRecord::LENGTH && body[0] == 1
 }
 
 /// Whether a body is a file's record.
-pub(crate) fn is_file(body: &[u8]) -> bool
+pub fn is_file(body: &[u8]) -> bool
     ensures { result ≡ is_file body.now }
 {
     body.len() == FileRecord::LENGTH && body[0] == 2
@@ -76,8 +75,8 @@ pub(crate) fn item_with_id(key: CatKey, body: &[u8], id: u32) -> Option<CatalogI
 
 /// The ID of a folder's or a file's record. None exactly where the body is neither's.
 #[tactic(auto, unfolding(hfs_fields::specs::Records::begins_dir, hfs_fields::specs::Records::begins_file))]
-pub(crate) fn item_id(body: &[u8]) -> Option<u32>
-    ensures { result ≡ only_if (is_item body.now) (item_id body.now) }
+pub fn item_id(body: &[u8]) -> Option<u32>
+    ensures { result ≡ if is_item body.now then Some (item_id body.now) else None }
 {
     if !is_item(body) {
         return None;
@@ -90,14 +89,14 @@ pub(crate) fn item_id(body: &[u8]) -> Option<u32>
 }
 
 /// Whether a body is a thread's record.
-pub(crate) fn is_thread(body: &[u8]) -> bool
+pub fn is_thread(body: &[u8]) -> bool
     ensures { result ≡ is_thread body.now }
 {
     body.len() == ThreadRecord::LENGTH && (body[0] == 3 || body[0] == 4)
 }
 
 /// Whether a body is a folder's or a file's record.
-pub(crate) fn is_item(body: &[u8]) -> bool
+pub fn is_item(body: &[u8]) -> bool
     ensures { result ≡ is_item body.now }
 {
     is_folder(body) || is_file(body)

@@ -1,52 +1,7 @@
 //! What holds of the definitions, each as the contract of a function that does nothing: a caller learns it by the call.
-ghost use Rattle.hfs_catalog.specs.Laws.{ScansAreWhole, ScansAreFirst, ReachesSoon, RecordFaults, IdFaults, NameFaults, PlaceFaults, ValenceFaults, CountFaults, ItemsAreRecords, SoundIsLawful, RecordsAreChildren, EntriesAreRecords, NamedAreRecords, ValencesAreCounted};
+ghost use Rattle.hfs_catalog.specs.Laws.{ItemsAreRecords, SoundIsLawful, RecordsAreChildren, EntriesAreRecords, NamedAreRecords, ValencesAreCounted};
 
 use hfs_model::{children_are_one, counts_children};
-
-/// A scan finds nothing exactly where each element passes the test.
-pub fn scans_are_whole<X>()
-    ensures { ScansAreWhole X }
-{}
-
-/// What a scan finds is the place of the first element that fails the test.
-pub fn scans_are_first<X>()
-    ensures { ScansAreFirst X }
-{}
-
-/// A chain of parents that reaches the root at all does so in no more steps than there are records.
-pub fn reaches_soon()
-    ensures { ReachesSoon }
-{}
-
-/// The check of records finds no fault exactly where each is a record of the catalog.
-pub fn record_faults()
-    ensures { RecordFaults }
-{}
-
-/// The check of IDs finds no fault exactly where they are sound.
-pub fn id_faults()
-    ensures { IdFaults }
-{}
-
-/// The check of names finds no fault exactly where those of records and of index keys are sound.
-pub fn name_faults()
-    ensures { NameFaults }
-{}
-
-/// The check of order, parents and threads finds no fault exactly where they are sound and the index keys are in order.
-pub fn place_faults()
-    ensures { PlaceFaults }
-{}
-
-/// The check of valences finds no fault exactly where each folder has the number of its children.
-pub fn valence_faults()
-    ensures { ValenceFaults }
-{}
-
-/// The check of counts finds no fault exactly where the master directory block has those of the catalog.
-pub fn count_faults()
-    ensures { CountFaults }
-{}
 
 /// The item of an ID is that of the record with the ID.
 pub fn items_are_records()

@@ -1,11 +1,11 @@
 //! Look-ups in the catalog of a volume.
-ghost use Rattle.std.specs.Prelude.{◌≡◌, ◌==◌, ◌++◌, IfOk, OnOk, if◌then◌else◌, ◌&&◌, Some, None, length, map, option_map, IsTrue};
+ghost use Rattle.std.specs.Prelude.{◌≡◌, ◌==◌, ◌++◌, IfOk, OnOk, ◌&&◌, Some, None, length, map, option_map, IsTrue};
 ghost use Rattle.std.specs.Option.{SomeIff, option_to_list};
 ghost use Rattle.hfs_fields.specs.Records.{is_thread, begins_thread, thread_record_of};
-ghost use Rattle.hfs_btree.specs.Pairs.{Each};
+ghost use Rattle.hfs_scans.specs.Each.{Each};
 ghost use Rattle.hfs_btree.specs.Lookups.{first_pair};
 ghost use Rattle.hfs_btree.specs.Sound.{IsDistinct};
-ghost use Rattle.hfs_catalog.specs.Records.{has_id, item_with, item_ids};
+ghost use Rattle.hfs_catalog.specs.Records.{item_with, item_ids};
 ghost use Rattle.hfs_catalog.specs.Sound.{IsRecord, AreNamesSound, ArePlacesSound};
 ghost use Rattle.hfs_catalog.specs.Tree.{IsCatalogTree, catalog_of};
 ghost use Rattle.hfs_catalog.specs.Lookups.{catalog_item, child_named, children_of, thread_of, named_at, thread_at, with_id_at, first_key, is_under, item_at};

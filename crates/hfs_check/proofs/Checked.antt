@@ -8,22 +8,22 @@ use Rattle.hfs_fields.specs.declared.mdb.Mdb.{Mdb}
 use Rattle.hfs_fields.specs.declared.extent.Extent.{Extent}
 use Rattle.hfs_fields.specs.declared.key.ExtKey.{ExtKey}
 use Rattle.hfs_btree.specs.declared.key.Key.{Ghosts}
-use Rattle.hfs_btree.specs.Pairs.{Each}
-use Rattle.hfs_btree.specs.Tree.{Store, records_in}
+use Rattle.hfs_scans.specs.Each.{Each}
+use Rattle.hfs_btree.specs.Tree.{Store, records_in, key_at}
 use Rattle.hfs_btree.specs.Header.{tree_turn}
-use Rattle.hfs_btree.specs.Shape.{has_counts, shape_fault}
-use Rattle.hfs_btree.specs.ShapeLaw.{shape-law}
+use Rattle.hfs_btree_checks.specs.Shape.{has_counts, shape_fault}
+use Rattle.hfs_btree_checks.specs.ShapeLaw.{shape-law}
 use Rattle.hfs_btree.specs.Sound.{IsShaped}
-use Rattle.hfs_btree.specs.Order.{key_at, has_keys, key_fault, index_keys, index_order_fault}
-use Rattle.hfs_btree.specs.OrderLaw.{first_node-law, index-order-law, order-law}
-use Rattle.hfs_btree.specs.Scans.{all_decides}
+use Rattle.hfs_btree_checks.specs.Order.{has_keys, key_fault, index_keys, index_order_fault}
+use Rattle.hfs_btree_checks.specs.OrderLaw.{first_node-law, index-order-law, order-law}
+use Rattle.hfs_scans.specs.Scans.{all_decides}
 use Rattle.hfs_space.specs.Bitmap.{bitmap_len}
 use Rattle.hfs_space.specs.Forks.{blocks_each}
 use Rattle.hfs_space.specs.TreeKeys.{ext_keys}
-use Rattle.hfs_space.specs.Laws.{TreeFiles}
+use Rattle.hfs_space.specs.Laws.{NoTreeFileFault}
 use Rattle.hfs_catalog.specs.Records.{Catalog}
 use Rattle.hfs_catalog.specs.Tree.{cat_keys}
-use Rattle.hfs_catalog.specs.Laws.{NameFaults, PlaceFaults}
+use Rattle.hfs_catalog_checks.specs.Laws.{NoNameFault, NoPlaceFault}
 use Rattle.hfs_check.specs.declared.mount_fault.MountFault.TheVariants.{TooLarge, Short, NoMacDisk, BadMdb}
 use Rattle.hfs_check.specs.Sound.{IsImageLength, IsMdbSound, IsForkKey, EachKey, IsExtentsSound, IsCatalogFileSound, AreCatalogNamesSound, AreCatalogPlacesSound}
 use Rattle.hfs_check.specs.Faults.{length_fault, mdb_fault, counted_shape_fault, is_fork_key, extents_fault, catalog_fault, catalog_name_fault, catalog_place_fault}
@@ -34,15 +34,15 @@ at_most a b = (λ (e : nat_le a b ≡ true). leb-true a b e, λ (h : a ≤ b). l
 
 -- ---- length and master directory block
 
-pub length_faults : (bytes : ℕ) → IsExact (length_fault bytes) (IsImageLength bytes)
+pub no_length_fault : (bytes : ℕ) → IsExact (length_fault bytes) (IsImageLength bytes)
 unfolding length_fault
-length_faults bytes =
+no_length_fault bytes =
     alike _ (λ h. record { least = h.1; most = h.0 }) (λ (h : IsImageLength bytes). (h.most, h.least))
     (both _ _ (by_test TooLarge _ (at_most bytes 2147483648)) (by_test Short _ (at_most 1536 bytes)))
 
-pub mdb_faults : (total : ℕ) (mdb : Mdb) → IsExact (mdb_fault total mdb) (IsMdbSound total mdb)
+pub no_mdb_fault : (total : ℕ) (mdb : Mdb) → IsExact (mdb_fault total mdb) (IsMdbSound total mdb)
 unfolding mdb_fault
-mdb_faults total mdb =
+no_mdb_fault total mdb =
     alike _
     (λ h. record {
       signature = h.0;
@@ -77,26 +77,26 @@ key_faults g nodes test Fact decides =
 fork_key : (key : ExtKey) → Decides (is_fork_key key) (IsForkKey key)
 fork_key key = Decides-or _ _ (Decides-eqb key.fork 0) (Decides-eqb key.fork 255)
 
-pub extents_faults : TreeFiles → (mdb : Mdb) (nodes : Store) → IsExact (extents_fault (has_counts ext_keys nodes) mdb nodes) (IsExtentsSound mdb nodes)
+pub no_extents_fault : NoTreeFileFault → (mdb : Mdb) (nodes : Store) → IsExact (extents_fault (has_counts ext_keys nodes) mdb nodes) (IsExtentsSound mdb nodes)
 unfolding extents_fault
-extents_faults files mdb nodes =
+no_extents_fault files mdb nodes =
     alike _ (λ h. record { file = h.0; shape = h.1.0; forks = h.1.1.0; ordered = h.1.1.1 })
     (λ (h : IsExtentsSound mdb nodes). (h.file, (h.shape, (h.forks, h.ordered))))
     (both_places _ _ (by_unless _ (files mdb mdb.extents_file mdb.extents_file_size))
     (both_places _ _ (counted_shape ext_keys mdb.extents_file_size nodes)
     (both_places _ _ (key_faults ext_keys nodes is_fork_key IsForkKey fork_key) (order-law ext_keys nodes))))
 
-pub catalog_faults : TreeFiles → (mdb : Mdb) (extents : List Extent) (nodes : Store) → IsExact (catalog_fault (has_counts cat_keys nodes) mdb extents nodes) (IsCatalogFileSound mdb extents nodes)
+pub no_catalog_fault : NoTreeFileFault → (mdb : Mdb) (extents : List Extent) (nodes : Store) → IsExact (catalog_fault (has_counts cat_keys nodes) mdb extents nodes) (IsCatalogFileSound mdb extents nodes)
 unfolding catalog_fault
-catalog_faults files mdb extents nodes =
+no_catalog_fault files mdb extents nodes =
     alike _ (λ h. record { file = h.0; shape = h.1 }) (λ (h : IsCatalogFileSound mdb extents nodes). (h.file, h.shape))
     (both_places _ _ (by_unless _ (files mdb extents mdb.catalog_file_size)) (counted_shape cat_keys mdb.catalog_file_size nodes))
 
 -- ---- index keys beside records
 
-pub catalog_name_faults : NameFaults → (nodes : Store) (catalog : Catalog) → IsExact (catalog_name_fault nodes catalog) (AreCatalogNamesSound nodes catalog)
+pub no_catalog_name_fault : NoNameFault → (nodes : Store) (catalog : Catalog) → IsExact (catalog_name_fault nodes catalog) (AreCatalogNamesSound nodes catalog)
 unfolding catalog_name_fault
-catalog_name_faults names nodes catalog =
+no_catalog_name_fault names nodes catalog =
     alike _ (λ h. record { records = h.0; index = h.1 }) (λ (h : AreCatalogNamesSound nodes catalog). (h.records, h.index))
     (names (index_keys cat_keys nodes) catalog)
 
@@ -104,9 +104,9 @@ none_is : (place : Option ℕ) → Decides (is_none place) (place ≡ None)
 none_is None = (λ _. refl, λ _. refl)
 none_is (Some i) = (λ (e : is_none (Some i) ≡ true). cc, λ (e : Some i ≡ None). cc)
 
-pub catalog_place_faults : PlaceFaults → (nodes : Store) (catalog : Catalog) → IsExact (catalog_place_fault nodes catalog) (AreCatalogPlacesSound nodes catalog)
+pub no_catalog_place_fault : NoPlaceFault → (nodes : Store) (catalog : Catalog) → IsExact (catalog_place_fault nodes catalog) (AreCatalogPlacesSound nodes catalog)
 unfolding catalog_place_fault
-catalog_place_faults places nodes catalog =
+no_catalog_place_fault places nodes catalog =
     let none = none_is (index_order_fault cat_keys nodes) in
     let keys = index-order-law cat_keys nodes in
     alike _ (λ h. record { records = h.0; index = keys.0 (none.0 h.1) })

@@ -4,7 +4,7 @@ use Rattle.std.specs.Prelude.{◌↔◌}
 use Rattle.std.specs.Bool.{Decides}
 use Rattle.std.proofs.lemmas.Bool.{true≢false}
 use Rattle.std.proofs.lemmas.Option.{none-some}
-use Rattle.hfs_btree.specs.Shape.{unless, ◌or_else◌}
+use Rattle.hfs_btree_checks.specs.Shape.{unless, ◌or_else◌}
 use Rattle.hfs_check.specs.declared.mount_fault.MountFault.{MountFault}
 use Rattle.hfs_check.specs.Faults.{◌or_fault◌, fault_unless, check_fault}
 

@@ -1,6 +1,6 @@
 -- A sound volume has sound trees and a sound catalog, and its image holds a lawful volume.
 use Rattle.std.proofs.Common.{ℕ, List}
-use Rattle.hfs_btree.specs.Blocks.{block_at, block_count}
+use Rattle.hfs_blocks.specs.Blocks.{block_at, block_count}
 use Rattle.hfs_model.specs.Lawful.{IsLawful}
 use Rattle.hfs_space.specs.TreeKeys.{IsExtentsTree}
 use Rattle.hfs_catalog.specs.Tree.{IsCatalogTree}

@@ -5,23 +5,23 @@ use Rattle.hfs_fields.specs.declared.mdb.Mdb.{Mdb}
 use Rattle.hfs_fields.specs.declared.extent.Extent.{Extent}
 use Rattle.std.proofs.lemmas.Bool.{le-leb, lt-leb}
 use Rattle.std.proofs.lemmas.Option.{none-some}
-use Rattle.hfs_btree.specs.Blocks.{block_at, block_count}
-use Rattle.hfs_btree.specs.Shape.{has_counts, shape_fault}
+use Rattle.hfs_blocks.specs.Blocks.{block_at, block_count}
+use Rattle.hfs_btree_checks.specs.Shape.{has_counts, shape_fault}
 use Rattle.hfs_btree.specs.Tree.{Store}
-use Rattle.hfs_btree.specs.declared.run.Run.{Run}
+use Rattle.hfs_blocks.specs.declared.run.Run.{Run}
 use Rattle.hfs_space.specs.FileLengths.{length-tree_nodes}
 use Rattle.hfs_space.specs.Extents.{fork_extents}
 use Rattle.hfs_space.specs.Faults.{is_tree_file}
-use Rattle.hfs_space.specs.Owners.{catalog_fork}
-use Rattle.hfs_space.specs.Laws.{TreeFiles}
+use Rattle.hfs_space.specs.Owners.{catalog_fork, owned_blocks}
+use Rattle.hfs_space.specs.Laws.{NoTreeFileFault}
 use Rattle.hfs_space.specs.TreeFiles.{tree_nodes}
 use Rattle.hfs_space.specs.TreeKeys.{ext_keys, IsExtentsTree, overflow_of}
 use Rattle.hfs_btree.specs.Sound.{IsShaped}
-use Rattle.hfs_catalog.specs.Tree.{cat_keys}
+use Rattle.hfs_catalog.specs.Tree.{cat_keys, catalog_of}
 use Rattle.hfs_check.specs.declared.mount_fault.MountFault.{MountFault}
 use Rattle.hfs_check.specs.declared.mount_fault.MountFault.TheVariants as fault
 use Rattle.hfs_check.specs.Faults.{◌or_fault◌, check_fault, extents_fault, extents_counts, catalog_fault, catalog_counts, trees_fault, records_fault, numbers_fault, length_fault, mdb_fault, blocks_fault, fault_of}
-use Rattle.hfs_check.specs.Laws.{ExtentsFaults, CatalogFaults}
+use Rattle.hfs_check.specs.Laws.{NoExtentsFault, NoCatalogFault}
 use Rattle.hfs_check.specs.Trees.{LieIn}
 use Rattle.hfs_check.specs.Parts.{Blocks, mdb_in, extents_nodes, overflow_in, catalog_extents, catalog_nodes, catalog_in, owned_in}
 use Rattle.hfs_check.specs.Answers.{IsFaultOf, extents_tree_fault, contents_fault, behind_trees_fault}
@@ -59,7 +59,7 @@ unfolding catalog_nodes
 catalog_nodes-is blocks mdb extents e f = λ i. tree_nodes blocks (e i) (f i) (e i).catalog_file_size
 
 -- the nodes of a right file have its bytes
-pub has-bytes : TreeFiles → (blocks : Blocks) (mdb : Mdb) (extents : List Extent) (size : ℕ) (nodes : Store) → mdb.allocation_block_size % 512 ≡ 0
+pub has-bytes : NoTreeFileFault → (blocks : Blocks) (mdb : Mdb) (extents : List Extent) (size : ℕ) (nodes : Store) → mdb.allocation_block_size % 512 ≡ 0
     → is_tree_file mdb extents size ≡ true → nodes ≡ tree_nodes blocks mdb extents size → size ≤ 512 * length nodes
 has-bytes law blocks mdb extents size nodes whole e same =
     subst (λ (ns : Store). size ≤ 512 * length ns) (sym same) (length-tree_nodes blocks mdb extents size whole ((law mdb extents size).0 e))
@@ -136,7 +136,7 @@ no-place number None e = refl
 no-place number (Some place) e = absurd (none-some _ (sym e))
 
 -- a check of the extents tree that finds nothing shows that it is sound
-pub extents_tree_sound : ExtentsFaults → (blocks : Blocks) (mdb : Mdb) → check_fault 3 (extents_fault (extents_counts blocks) mdb (extents_nodes blocks)) ≡ None
+pub extents_tree_sound : NoExtentsFault → (blocks : Blocks) (mdb : Mdb) → check_fault 3 (extents_fault (extents_counts blocks) mdb (extents_nodes blocks)) ≡ None
     → IsExtentsTree (extents_nodes blocks)
 extents_tree_sound law blocks mdb none =
     let sound = (law mdb (extents_nodes blocks)).0 (no-place 3 _ none) in
@@ -149,15 +149,20 @@ pub contents-are : (blocks : Blocks) (mdb : Mdb) (extents catalog : Store) → m
 unfolding records_fault numbers_fault catalog_in overflow_in owned_in
 contents-are blocks mdb extents catalog is e f = λ i. contents_fault blocks (is i) (e i) (f i)
 
+pub owned-are : (blocks : Blocks) (mdb : Mdb) (extents catalog : Store) → mdb ≡ mdb_in blocks → extents ≡ extents_nodes blocks → catalog ≡ catalog_nodes blocks
+    → owned_blocks mdb (overflow_of extents) (catalog_of catalog) ≡ owned_in blocks
+unfolding catalog_in overflow_in owned_in
+owned-are blocks mdb extents catalog is e f = λ i. owned_blocks (is i) (overflow_of (e i)) (catalog_of (f i))
+
 -- the catalog tree of a volume whose trees have no fault has its shape
-pub catalog_tree_shaped : CatalogFaults → (blocks : Blocks) → trees_fault (extents_counts blocks) (catalog_counts blocks) blocks ≡ None
+pub catalog_tree_shaped : NoCatalogFault → (blocks : Blocks) → trees_fault (extents_counts blocks) (catalog_counts blocks) blocks ≡ None
     → IsShaped cat_keys (mdb_in blocks).catalog_file_size (catalog_nodes blocks)
 unfolding trees_fault
 catalog_tree_shaped law blocks none =
     let two = none-parts (check_fault 3 (extents_fault (extents_counts blocks) (mdb_in blocks) (extents_nodes blocks))) (check_fault 4 (catalog_fault (catalog_counts blocks) (mdb_in blocks) (catalog_extents blocks) (catalog_nodes blocks))) none in
     ((law (mdb_in blocks) (catalog_extents blocks) (catalog_nodes blocks)).0 (no-place 4 _ two.1)).shape
 
-pub extents_tree_whole : ExtentsFaults → (blocks : Blocks) → trees_fault (extents_counts blocks) (catalog_counts blocks) blocks ≡ None
+pub extents_tree_whole : NoExtentsFault → (blocks : Blocks) → trees_fault (extents_counts blocks) (catalog_counts blocks) blocks ≡ None
     → IsExtentsTree (extents_nodes blocks)
 unfolding trees_fault
 extents_tree_whole law blocks none =

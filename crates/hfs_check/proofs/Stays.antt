@@ -8,10 +8,10 @@ use Rattle.hfs_fields.specs.Numbers.{number_at}
 use Rattle.hfs_fields.specs.Puts.{number_at-same}
 use Rattle.hfs_fields.specs.Counts.{IsBesideCounts, SameBesideCounts}
 use Rattle.hfs_btree.specs.declared.key.Key.{Ghosts}
-use Rattle.hfs_btree.specs.Pairs.{Each}
+use Rattle.hfs_scans.specs.Each.{Each}
 use Rattle.hfs_btree.specs.Tree.{Store}
-use Rattle.hfs_btree.specs.declared.run.Run.{Run}
-use Rattle.hfs_btree.specs.Blocks.{run_of, block_at}
+use Rattle.hfs_blocks.specs.declared.run.Run.{Run}
+use Rattle.hfs_blocks.specs.Blocks.{run_of, block_at}
 use Rattle.hfs_btree.specs.Sound.{IsOther, KeepsFrame}
 use Rattle.hfs_space.specs.Bitmap.{bitmap_len}
 use Rattle.hfs_space.specs.TreeKeys.{ext_keys}

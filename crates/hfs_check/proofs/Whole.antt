@@ -1,31 +1,31 @@
 -- An image is sound exactly where no check fails.
 use Rattle.std.proofs.Common.{ℕ, List, length}
-use Rattle.hfs_btree.specs.Pairs.{Each}
-use Rattle.hfs_btree.specs.Blocks.{block_at, block_count}
+use Rattle.hfs_scans.specs.Each.{Each}
+use Rattle.hfs_blocks.specs.Blocks.{block_at, block_count}
 use Rattle.hfs_space.specs.Sound.{AreForksSound, IsSpaceSound}
 use Rattle.hfs_space.specs.Faults.{space_fault}
-use Rattle.hfs_space.specs.Laws.{ForkFaults, SpaceFaults, OwnedAreWithin}
+use Rattle.hfs_space.specs.Laws.{NoForkFault, NoSpaceFault, OwnedAreWithin}
 use Rattle.hfs_catalog.specs.Sound.{EachFolder, IsRecord, AreIdsSound, HasValence, AreCountsSound}
-use Rattle.hfs_catalog.specs.Laws.{RecordFaults, IdFaults, ValenceFaults, CountFaults}
+use Rattle.hfs_catalog_checks.specs.Laws.{NoRecordFault, NoIdFault, NoValenceFault, NoCountFault}
 use Rattle.hfs_check.specs.Parts.{Blocks, mdb_in, extents_nodes, overflow_in, catalog_extents, catalog_nodes, catalog_in, owned_in}
 use Rattle.hfs_check.specs.Sound.{IsExtentsSound, IsCatalogFileSound, AreCatalogNamesSound, AreCatalogPlacesSound, AreBlocksSound, IsSound}
 use Rattle.hfs_check.specs.Faults.{extents_counts, catalog_counts, trees_fault, records_fault, numbers_fault, blocks_fault, fault_of}
-use Rattle.hfs_check.specs.Laws.{LengthFaults, MdbFaults, ExtentsFaults, CatalogFaults, CatalogNameFaults, CatalogPlaceFaults, BlocksFaults}
+use Rattle.hfs_check.specs.Laws.{NoLengthFault, NoMdbFault, NoExtentsFault, NoCatalogFault, NoCatalogNameFault, NoCatalogPlaceFault, NoBlocksFault}
 use Rattle.hfs_check.proofs.Exact.{IsExact, alike, both, both_given, by_place}
 
 -- what is known of the checks
 pub record AreExact : Type 0 where
-  pub mdb : MdbFaults
-  pub extents : ExtentsFaults
-  pub catalog : CatalogFaults
-  pub records : RecordFaults
-  pub ids : IdFaults
-  pub names : CatalogNameFaults
-  pub places : CatalogPlaceFaults
-  pub valences : ValenceFaults
-  pub counts : CountFaults
-  pub forks : ForkFaults
-  pub space : SpaceFaults
+  pub mdb : NoMdbFault
+  pub extents : NoExtentsFault
+  pub catalog : NoCatalogFault
+  pub records : NoRecordFault
+  pub ids : NoIdFault
+  pub names : NoCatalogNameFault
+  pub places : NoCatalogPlaceFault
+  pub valences : NoValenceFault
+  pub counts : NoCountFault
+  pub forks : NoForkFault
+  pub space : NoSpaceFault
   pub within : OwnedAreWithin
 
 abbrev AreTreesSound : Blocks → Type 0
@@ -69,9 +69,9 @@ module _ (laws : AreExact) (blocks : Blocks) where
       (both _ _ (by_place 10 _ (laws.counts (mdb_in blocks) (catalog_in blocks)))
       (both_given _ _ (by_place 11 _ (laws.forks (mdb_in blocks) (overflow_in blocks) (catalog_in blocks))) (λ forks. by_place 12 _ (space files forks))))
 
-  pub blocks_faults : (total : ℕ) → IsExact (blocks_fault total blocks) (AreBlocksSound total blocks)
+  pub no_blocks_fault : (total : ℕ) → IsExact (blocks_fault total blocks) (AreBlocksSound total blocks)
   unfolding blocks_fault
-  blocks_faults total =
+  no_blocks_fault total =
       alike _
       (λ h. record {
         mdb = h.0;
@@ -89,8 +89,8 @@ module _ (laws : AreExact) (blocks : Blocks) where
       (λ (h : AreBlocksSound total blocks). (h.mdb, ((h.extents, h.catalog), ((h.records, (h.ids, (h.names, h.places))), (h.valences, (h.counts, (h.forks, h.space)))))))
       (both _ _ (laws.mdb total (mdb_in blocks)) (both_given _ _ trees (λ files. both _ _ records (numbers files))))
 
-pub image_faults : LengthFaults → BlocksFaults → (image : List ℕ) → IsExact (fault_of image) (IsSound image)
+pub no_image_fault : NoLengthFault → NoBlocksFault → (image : List ℕ) → IsExact (fault_of image) (IsSound image)
 unfolding fault_of
-image_faults lengths volumes image =
+no_image_fault lengths volumes image =
     alike _ (λ h. record { len = h.0; blocks = h.1 }) (λ (h : IsSound image). (h.len, h.blocks))
     (both _ _ (lengths (length image)) (volumes (block_count image) (block_at image)))

@@ -4,10 +4,10 @@ use Rattle.std.specs.List.{range_with_len}
 use Rattle.hfs_fields.specs.declared.mdb.Mdb.{Mdb}
 use Rattle.hfs_fields.specs.declared.extent.Extent.{Extent}
 use Rattle.hfs_fields.specs.Counts.{SameBesideCounts}
-use Rattle.hfs_btree.specs.Pairs.{Each}
+use Rattle.hfs_scans.specs.Each.{Each}
 use Rattle.hfs_btree.specs.Tree.{Store}
 use Rattle.hfs_btree.specs.Header.{header_in}
-use Rattle.hfs_btree.specs.Blocks.{block_at}
+use Rattle.hfs_blocks.specs.Blocks.{block_at}
 use Rattle.hfs_btree.specs.Sound.{IsOther, KeepsFrame}
 use Rattle.hfs_space.specs.Bitmap.{bitmap_len}
 use Rattle.hfs_space.specs.ForkLaws.{block_numbers}

@@ -1,20 +1,21 @@
 -- What a check answers.
-use Rattle.std.specs.Prelude.{◌≡◌, ◌⊎◌, ℕ, List, Option, Some, None, if◌then◌else◌}
+use Rattle.std.specs.Prelude.{◌≡◌, ◌⊎◌, ℕ, List, Option, Some, None, Result, MatchResult, if◌then◌else◌}
 use Rattle.hfs_fields.specs.Records.{is_file, file_record_of}
-use Rattle.hfs_btree.specs.Order.{key_fault, order_fault}
-use Rattle.hfs_btree.specs.Shape.{shape_fault, ◌or_else◌}
+use Rattle.hfs_btree_checks.specs.Order.{key_fault, order_fault}
+use Rattle.hfs_btree_checks.specs.Shape.{shape_fault, ◌or_else◌}
 use Rattle.hfs_btree.specs.Tree.{Store}
 use Rattle.hfs_space.specs.declared.files.CatalogFile.{CatalogFile}
 use Rattle.hfs_space.specs.TreeKeys.{ext_keys, overflow_of}
+use Rattle.hfs_fields.specs.declared.extent.Extent.{Extent}
 use Rattle.hfs_fields.specs.declared.mdb.Mdb.{Mdb}
-use Rattle.hfs_space.specs.Extents.{Overflow}
+use Rattle.hfs_space.specs.Extents.{Overflow, extent_blocks}
 use Rattle.hfs_space.specs.Faults.{fork_fault, space_fault}
 use Rattle.hfs_space.specs.Owners.{owned_blocks}
 use Rattle.hfs_catalog.specs.Records.{Catalog}
 use Rattle.hfs_catalog.specs.Tree.{catalog_of}
-use Rattle.hfs_catalog.specs.Faults.{record_fault, id_fault, valence_fault, count_fault}
-use Rattle.hfs_check.specs.Parts.{Blocks}
-use Rattle.hfs_check.specs.Faults.{◌or_fault◌, check_fault, catalog_name_fault, catalog_place_fault, is_fork_key, records_fault, numbers_fault}
+use Rattle.hfs_catalog_checks.specs.Faults.{record_fault, id_fault, valence_fault, count_fault}
+use Rattle.hfs_check.specs.Parts.{Blocks, extents_nodes, catalog_extents, catalog_nodes}
+use Rattle.hfs_check.specs.Faults.{◌or_fault◌, check_fault, extents_fault, extents_counts, catalog_fault, catalog_counts, trees_fault, catalog_name_fault, catalog_place_fault, is_fork_key, records_fault, numbers_fault}
 use Rattle.hfs_check.specs.declared.mount_fault.MountFault.{MountFault}
 use Rattle.hfs_check.specs.declared.mount_fault.MountFault.TheVariants.{Memory}
 
@@ -22,9 +23,25 @@ use Rattle.hfs_check.specs.declared.mount_fault.MountFault.TheVariants.{Memory}
 abbrev pub IsFaultOf : Option MountFault → MountFault → Type 0
 IsFaultOf fault answer = (answer ≡ Memory) ⊎ (fault ≡ Some answer)
 
+-- Ok where there is no fault, and else this first fault, or memory was refused
+abbrev pub Answers : {A : Type 0} → Option MountFault → Result A MountFault → Type 0
+Answers fault result = MatchResult result (λ _. fault ≡ None) (IsFaultOf fault)
+
 -- the first fault of an extents tree in a file of so many bytes
 abbrev pub extents_tree_fault : ℕ → Store → Option ℕ
 extents_tree_fault size nodes = shape_fault ext_keys size nodes or_else key_fault ext_keys nodes is_fork_key or_else order_fault ext_keys nodes
+
+-- what check 3 answers of a volume with this master directory block: the extents tree
+abbrev pub extents_check_fault : Mdb → Blocks → Option MountFault
+extents_check_fault mdb blocks = check_fault 3 (extents_fault (extents_counts blocks) mdb (extents_nodes blocks))
+
+-- and check 4: the catalog tree
+abbrev pub catalog_check_fault : Mdb → Blocks → Option MountFault
+catalog_check_fault mdb blocks = check_fault 4 (catalog_fault (catalog_counts blocks) mdb (catalog_extents blocks) (catalog_nodes blocks))
+
+-- the first fault of the two trees, as their headers count
+abbrev pub both_trees_fault : Blocks → Option MountFault
+both_trees_fault blocks = trees_fault (extents_counts blocks) (catalog_counts blocks) blocks
 
 -- a file's record with its number, where the body is one
 abbrev pub numbered_file : ℕ → List ℕ → Option CatalogFile
@@ -45,6 +62,10 @@ counted_fault blocks mdb overflow catalog =
 -- the first fault of what the two trees hold, whose nodes these are
 abbrev pub contents_fault : Blocks → Mdb → Store → Store → Option MountFault
 contents_fault blocks mdb extents catalog = listed_fault mdb.next_id catalog (catalog_of catalog) or_fault counted_fault blocks mdb (overflow_of extents) (catalog_of catalog)
+
+-- these are all extents that somebody owns, where the two trees have these nodes
+abbrev pub AreOwned : Mdb → Overflow → Catalog → List Extent → Type 0
+AreOwned mdb overflow catalog owned = extent_blocks owned ≡ owned_blocks mdb overflow catalog
 
 -- the first fault behind the checks of the two trees
 abbrev pub behind_trees_fault : Blocks → Option MountFault

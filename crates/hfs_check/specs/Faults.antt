@@ -6,16 +6,16 @@ use Rattle.hfs_fields.specs.declared.extent.Extent.{Extent}
 use Rattle.hfs_fields.specs.declared.key.ExtKey.{ExtKey}
 use Rattle.hfs_btree.specs.declared.key.Key.{Ghosts}
 use Rattle.hfs_btree.specs.Tree.{Store}
-use Rattle.hfs_btree.specs.Blocks.{block_at, block_count}
-use Rattle.hfs_btree.specs.Shape.{unless, ◌or_else◌, has_counts, structure_fault}
-use Rattle.hfs_btree.specs.Order.{index_keys, index_order_fault, key_fault, order_fault}
+use Rattle.hfs_blocks.specs.Blocks.{block_at, block_count}
+use Rattle.hfs_btree_checks.specs.Shape.{unless, ◌or_else◌, has_counts, structure_fault}
+use Rattle.hfs_btree_checks.specs.Order.{index_keys, index_order_fault, key_fault, order_fault}
 use Rattle.hfs_space.specs.Bitmap.{bitmap_len}
 use Rattle.hfs_space.specs.Forks.{blocks_each}
 use Rattle.hfs_space.specs.TreeKeys.{ext_keys}
 use Rattle.hfs_space.specs.Faults.{is_tree_file, fork_fault, space_fault}
 use Rattle.hfs_catalog.specs.Records.{Catalog}
 use Rattle.hfs_catalog.specs.Tree.{cat_keys}
-use Rattle.hfs_catalog.specs.Faults.{record_fault, id_fault, name_fault, place_fault, valence_fault, count_fault}
+use Rattle.hfs_catalog_checks.specs.Faults.{record_fault, id_fault, name_fault, place_fault, valence_fault, count_fault}
 use Rattle.hfs_check.specs.declared.mount_fault.MountFault.{MountFault}
 use Rattle.hfs_check.specs.declared.mount_fault.MountFault.TheVariants.{TooLarge, Short, NoMacDisk, BadMdb, Check}
 use Rattle.hfs_check.specs.Parts.{Blocks, mdb_in, extents_nodes, overflow_in, catalog_extents, catalog_nodes, catalog_in, owned_in}

@@ -3,8 +3,8 @@ use Rattle.std.specs.Prelude.{◌≡◌, ℕ, ◌/◌, ◌↔◌, List, slice_in
 use Rattle.hfs_fields.specs.declared.mdb.Mdb.{Mdb}
 use Rattle.hfs_fields.specs.declared.extent.Extent.{Extent}
 use Rattle.hfs_btree.specs.Tree.{Store}
-use Rattle.hfs_btree.specs.Blocks.{block_at}
-use Rattle.hfs_btree.specs.Shape.{has_counts}
+use Rattle.hfs_blocks.specs.Blocks.{block_at}
+use Rattle.hfs_btree_checks.specs.Shape.{has_counts}
 use Rattle.hfs_space.specs.TreeKeys.{ext_keys, IsExtentsTree}
 use Rattle.hfs_catalog.specs.Records.{Catalog}
 use Rattle.hfs_catalog.specs.Tree.{cat_keys, IsCatalogTree}
@@ -18,33 +18,33 @@ use Rattle.hfs_check.specs.Agree.{IsBeside, Agrees}
 
 -- ---- a check finds no fault exactly where its facts hold
 
-abbrev pub LengthFaults : Type 0
-LengthFaults = (bytes : ℕ) → (length_fault bytes ≡ None) ↔ IsImageLength bytes
+abbrev pub NoLengthFault : Type 0
+NoLengthFault = (bytes : ℕ) → (length_fault bytes ≡ None) ↔ IsImageLength bytes
 
-abbrev pub MdbFaults : Type 0
-MdbFaults = (total : ℕ) (mdb : Mdb) → (mdb_fault total mdb ≡ None) ↔ IsMdbSound total mdb
+abbrev pub NoMdbFault : Type 0
+NoMdbFault = (total : ℕ) (mdb : Mdb) → (mdb_fault total mdb ≡ None) ↔ IsMdbSound total mdb
 
-abbrev pub ExtentsFaults : Type 0
-ExtentsFaults = (mdb : Mdb) (nodes : Store) → (extents_fault (has_counts ext_keys nodes) mdb nodes ≡ None) ↔ IsExtentsSound mdb nodes
+abbrev pub NoExtentsFault : Type 0
+NoExtentsFault = (mdb : Mdb) (nodes : Store) → (extents_fault (has_counts ext_keys nodes) mdb nodes ≡ None) ↔ IsExtentsSound mdb nodes
 
-abbrev pub CatalogFaults : Type 0
-CatalogFaults =
+abbrev pub NoCatalogFault : Type 0
+NoCatalogFault =
     (mdb : Mdb) (extents : List Extent) (nodes : Store)
     → (catalog_fault (has_counts cat_keys nodes) mdb extents nodes ≡ None) ↔ IsCatalogFileSound mdb extents nodes
 
-abbrev pub CatalogNameFaults : Type 0
-CatalogNameFaults = (nodes : Store) (catalog : Catalog) → (catalog_name_fault nodes catalog ≡ None) ↔ AreCatalogNamesSound nodes catalog
+abbrev pub NoCatalogNameFault : Type 0
+NoCatalogNameFault = (nodes : Store) (catalog : Catalog) → (catalog_name_fault nodes catalog ≡ None) ↔ AreCatalogNamesSound nodes catalog
 
-abbrev pub CatalogPlaceFaults : Type 0
-CatalogPlaceFaults = (nodes : Store) (catalog : Catalog) → (catalog_place_fault nodes catalog ≡ None) ↔ AreCatalogPlacesSound nodes catalog
+abbrev pub NoCatalogPlaceFault : Type 0
+NoCatalogPlaceFault = (nodes : Store) (catalog : Catalog) → (catalog_place_fault nodes catalog ≡ None) ↔ AreCatalogPlacesSound nodes catalog
 
 -- so many blocks are those of a sound volume exactly where no check behind that of the length fails
-abbrev pub BlocksFaults : Type 0
-BlocksFaults = (total : ℕ) (blocks : Blocks) → (blocks_fault total blocks ≡ None) ↔ AreBlocksSound total blocks
+abbrev pub NoBlocksFault : Type 0
+NoBlocksFault = (total : ℕ) (blocks : Blocks) → (blocks_fault total blocks ≡ None) ↔ AreBlocksSound total blocks
 
 -- an image is sound exactly where no check fails
-abbrev pub ImageFaults : Type 0
-ImageFaults = (image : List ℕ) → (fault_of image ≡ None) ↔ IsSound image
+abbrev pub NoImageFault : Type 0
+NoImageFault = (image : List ℕ) → (fault_of image ≡ None) ↔ IsSound image
 
 -- ---- a sound volume
 

@@ -1,8 +1,3 @@
-pub mod Plan
-pub mod NewMdb
-pub mod BitRow
-pub mod NewTrees
-pub mod Image
 pub mod Parts
 pub mod Sound
 pub mod Faults
@@ -11,5 +6,6 @@ pub mod Agree
 pub mod Laws
 pub mod Answers
 pub mod Report
-pub mod FormatLaws
 pub mod Trees
+pub mod Repair
+pub mod RepairLaws

@@ -3,7 +3,7 @@ use Rattle.std.specs.Prelude.{ℕ, ◌-◌, ◌&&◌, ◌==◌, Bool, if◌then�
 use Rattle.std.specs.Str.{bytes_eq}
 use Rattle.hfs_fields.specs.declared.mdb.Mdb.{Mdb}
 use Rattle.hfs_fields.specs.Mdb.{mdb_of}
-use Rattle.hfs_btree.specs.Blocks.{block_at, block_count}
+use Rattle.hfs_blocks.specs.Blocks.{block_at, block_count}
 use Rattle.hfs_space.specs.Bitmap.{clear_count}
 use Rattle.hfs_space.specs.Faults.{stray_count}
 use Rattle.hfs_catalog.specs.Sound.{counts_of}

@@ -4,12 +4,12 @@ use Rattle.hfs_fields.specs.declared.mdb.Mdb.{Mdb}
 use Rattle.hfs_fields.specs.declared.extent.Extent.{Extent}
 use Rattle.hfs_fields.specs.declared.key.ExtKey.{ExtKey}
 use Rattle.hfs_btree.specs.declared.key.Key.{Ghosts}
-use Rattle.hfs_btree.specs.Pairs.{Each}
-use Rattle.hfs_btree.specs.Tree.{Store, records_in}
+use Rattle.hfs_scans.specs.Each.{Each}
+use Rattle.hfs_btree.specs.Tree.{Store, records_in, key_at}
 use Rattle.hfs_btree.specs.Header.{tree_turn}
-use Rattle.hfs_btree.specs.Blocks.{block_at, block_count}
+use Rattle.hfs_blocks.specs.Blocks.{block_at, block_count}
 use Rattle.hfs_btree.specs.Sound.{AreKeysInOrder, IsShaped, IsOrdered}
-use Rattle.hfs_btree.specs.Order.{key_at, index_keys}
+use Rattle.hfs_btree_checks.specs.Order.{index_keys}
 use Rattle.hfs_space.specs.Bitmap.{bitmap_len}
 use Rattle.hfs_space.specs.Forks.{HasArea}
 use Rattle.hfs_space.specs.TreeKeys.{ext_keys}

@@ -1,9 +1,10 @@
 -- Where the two trees of a volume lie.
 use Rattle.std.specs.Prelude.{◌≡◌, ℕ, List}
 use Rattle.hfs_fields.specs.declared.extent.Extent.{Extent}
-use Rattle.hfs_btree.specs.declared.run.Run.{Run}
-use Rattle.hfs_btree.specs.Blocks.{nodes_in, AreRunsWithin}
+use Rattle.hfs_blocks.specs.declared.run.Run.{Run}
+use Rattle.hfs_blocks.specs.Blocks.{nodes_in, AreRunsWithin}
 use Rattle.hfs_btree.specs.Tree.{Store}
+use Rattle.hfs_check.specs.declared.trees.VolumeTrees.{VolumeTrees}
 use Rattle.hfs_check.specs.Parts.{Blocks, extents_nodes, catalog_extents, catalog_nodes}
 
 -- the nodes lie in these runs of a volume of so many blocks
@@ -16,3 +17,7 @@ pub record AreTreesIn (total : ℕ) (blocks : Blocks) (extents_runs : List Run) 
   pub extents : LieIn total blocks extents_runs (extents_nodes blocks)
   pub catalog_file : file ≡ catalog_extents blocks
   pub catalog : LieIn total blocks catalog_runs (catalog_nodes blocks)
+
+-- these are the trees of a volume of so many blocks
+abbrev pub HasTrees : ℕ → Blocks → VolumeTrees → Type 0
+HasTrees total blocks trees = AreTreesIn total blocks trees.extents.items trees.catalog_file.items trees.catalog.items

@@ -2,7 +2,7 @@
 use Rattle.std.specs.Prelude.{ℕ, List}
 use Rattle.hfs_fields.specs.Records.{is_bit_set}
 use Rattle.hfs_fields.specs.declared.file_record.ForkRecord.{ForkRecord}
-use Rattle.hfs_btree.specs.Blocks.{block_at}
+use Rattle.hfs_blocks.specs.Blocks.{block_at}
 use Rattle.hfs_model.specs.Volume.{Volume}
 use Rattle.hfs_space.specs.Extents.{fork_extents, fork_byte}
 use Rattle.hfs_space.specs.Forks.{fork_bytes}

@@ -1,77 +1,77 @@
 //! What holds of the checks of an image, each as the contract of a function that does nothing: a caller learns it by the
 //! call.
-ghost use Rattle.hfs_check.specs.Laws.{LengthFaults, MdbFaults, ExtentsFaults, CatalogFaults, CatalogNameFaults, CatalogPlaceFaults, BlocksFaults, ImageFaults, TreesAreSound, CatalogIsSound, SoundImagesAreLawful, AgreesWithItself, AgreesOn, BytesStay};
+ghost use Rattle.hfs_check.specs.Laws.{NoLengthFault, NoMdbFault, NoExtentsFault, NoCatalogFault, NoCatalogNameFault, NoCatalogPlaceFault, NoBlocksFault, NoImageFault, TreesAreSound, CatalogIsSound, SoundImagesAreLawful, AgreesWithItself, AgreesOn, BytesStay};
 
-use hfs_catalog::{
-    count_faults, id_faults, name_faults, place_faults, record_faults, sound_is_lawful,
-    valence_faults,
+use hfs_catalog::sound_is_lawful;
+use hfs_catalog_checks::{
+    no_count_fault, no_id_fault, no_name_fault, no_place_fault, no_record_fault, no_valence_fault,
 };
-use hfs_space::{fork_faults, owned_are_within, space_faults, tree_files};
+use hfs_space::{no_fork_fault, no_space_fault, no_tree_file_fault, owned_are_within};
 
 /// The check of an image's length finds no fault exactly where it has 1,536 to 2,147,483,648 bytes.
-pub fn length_faults()
-    ensures { LengthFaults }
+pub fn no_length_fault()
+    ensures { NoLengthFault }
 {}
 
 /// The check of a master directory block finds no fault exactly where its fields can be those of a volume of so many blocks.
-pub fn mdb_faults()
-    ensures { MdbFaults }
+pub fn no_mdb_fault()
+    ensures { NoMdbFault }
 {}
 
 /// The check of the extents tree finds no fault exactly where its file, its shape, the forks in its keys and its order are
 /// sound.
-pub fn extents_faults()
-    ensures { ExtentsFaults }
+pub fn no_extents_fault()
+    ensures { NoExtentsFault }
 {
-    tree_files();
+    no_tree_file_fault();
 }
 
 /// The check of the catalog tree finds no fault exactly where its file and its shape are sound.
-pub fn catalog_faults()
-    ensures { CatalogFaults }
+pub fn no_catalog_fault()
+    ensures { NoCatalogFault }
 {
-    tree_files();
+    no_tree_file_fault();
 }
 
 /// The check of names finds no fault exactly where those of the catalog's records and of its index keys are sound.
-pub fn catalog_name_faults()
-    ensures { CatalogNameFaults }
+pub fn no_catalog_name_fault()
+    ensures { NoCatalogNameFault }
 {
-    name_faults();
+    no_name_fault();
 }
 
 /// The check of order, parents and threads finds no fault exactly where they are sound and the catalog's index keys are in
 /// order.
-pub fn catalog_place_faults()
-    ensures { CatalogPlaceFaults }
+pub fn no_catalog_place_fault()
+    ensures { NoCatalogPlaceFault }
 {
-    place_faults();
+    no_place_fault();
 }
 
 /// The checks of a volume's blocks find no fault exactly where the blocks are those of a sound volume.
-pub fn blocks_faults()
-    ensures { BlocksFaults }
+pub fn no_blocks_fault()
+    ensures { NoBlocksFault }
 {
-    mdb_faults();
-    extents_faults();
-    catalog_faults();
-    record_faults();
-    id_faults();
-    catalog_name_faults();
-    catalog_place_faults();
-    valence_faults();
-    count_faults();
-    fork_faults();
-    space_faults();
+    no_mdb_fault();
+    no_extents_fault();
+    no_catalog_fault();
+    no_record_fault();
+    no_id_fault();
+    no_catalog_name_fault();
+    no_catalog_place_fault();
+    no_valence_fault();
+    no_count_fault();
+    no_fork_fault();
+    no_space_fault();
     owned_are_within();
 }
 
 /// The checks of an image find no fault exactly where it is sound.
-pub fn image_faults()
-    ensures { ImageFaults }
+pub fn no_image_fault()
+    ensures { NoImageFault }
 {
-    length_faults();
-    blocks_faults();
+    no_length_fault();
+    no_blocks_fault();
 }
 
 /// Both trees of a sound volume are sound.

@@ -4,7 +4,7 @@ ghost use Rattle.hfs_check.specs.Parts.{mdb_in};
 ghost use Rattle.hfs_check.specs.Faults as spec;
 
 use crate::mount_fault::MountFault;
-use hfs_btree::Blocks;
+use hfs_blocks::Blocks;
 use hfs_fields::Mdb;
 
 /// The master directory block of a volume: block 2.

@@ -1,18 +1,18 @@
 //! The checks of the numbers that are counted and of the space, each as what mounting answers.
-ghost use Rattle.std.specs.Prelude.{◌≡◌, ◌+◌, ◌≤◌, None, MatchResult, IfOk};
+ghost use Rattle.std.specs.Prelude.{◌≡◌, ◌+◌, ◌≤◌, IfOk};
 ghost use Rattle.hfs_space.specs.Bitmap.{bitmap_len};
 ghost use Rattle.hfs_space.specs.Extents.{extent_blocks};
 ghost use Rattle.hfs_space.specs.Faults as space_spec;
-ghost use Rattle.hfs_space.specs.Owners.{owned_blocks};
 ghost use Rattle.hfs_space.specs.Runs.{files_in};
 ghost use Rattle.hfs_space.specs.TreeKeys.{IsExtentsTree, overflow_of};
-ghost use Rattle.hfs_check.specs.Answers.{IsFaultOf, counted_fault};
+ghost use Rattle.hfs_check.specs.Answers.{Answers, AreOwned, counted_fault};
 ghost use Rattle.hfs_check.specs.Faults.{check_fault};
 
 use crate::catalog_files::catalog_files;
 use crate::mount_fault::MountFault;
 use crate::record_checks::{answer_at, check_counts, check_valences};
-use hfs_btree::{Blocks, Nodes};
+use hfs_blocks::Blocks;
+use hfs_btree::Nodes;
 use hfs_fields::{CatKey, Extent, Mdb};
 use hfs_model::Bytes;
 use hfs_space::{CatalogFile, fork_fault, owned_extents, space_fault};
@@ -28,8 +28,7 @@ fn check_forks<N: Nodes>(
 ) -> Result<(), MountFault>
     requires tree { IsExtentsTree (N.nodes tree.now) }
     requires files { files.now ≡ files_in 0 records.now }
-    ensures { MatchResult result (λ _. check_fault 11 (space_spec.fork_fault mdb.now (overflow_of (N.nodes tree.now)) records.now) ≡ None)
-        (IsFaultOf (check_fault 11 (space_spec.fork_fault mdb.now (overflow_of (N.nodes tree.now)) records.now))) }
+    ensures { Answers (check_fault 11 (space_spec.fork_fault mdb.now (overflow_of (N.nodes tree.now)) records.now)) result }
 {
     let place = fork_fault(alloc, mdb, tree, files, records.len())?;
     answer_at(11, place)
@@ -43,8 +42,7 @@ fn check_space<B: Blocks>(
     owned: &[Extent],
 ) -> Result<(), MountFault>
     requires { mdb.now.bitmap_start + bitmap_len mdb.now.allocation_blocks ≤ B.total blocks.now }
-    ensures { MatchResult result (λ _. check_fault 12 (space_spec.space_fault (B.blocks blocks.now) mdb.now (extent_blocks owned.now)) ≡ None)
-        (IsFaultOf (check_fault 12 (space_spec.space_fault (B.blocks blocks.now) mdb.now (extent_blocks owned.now)))) }
+    ensures { Answers (check_fault 12 (space_spec.space_fault (B.blocks blocks.now) mdb.now (extent_blocks owned.now))) result }
 {
     match space_fault(alloc, blocks, mdb, owned)? {
         None => Ok(()),
@@ -55,7 +53,7 @@ fn check_space<B: Blocks>(
     }
 }
 
-/// The checks of valences, counts, extents and space, in this order.
+/// The checks of valences, counts, extents and space, in this order. Ok gives all extents that somebody owns.
 #[tactic(auto, unfolding(hfs_space::specs::Owners::owned_blocks))]
 pub(crate) fn check_numbers<B: Blocks, N: Nodes>(
     alloc: Global,
@@ -63,16 +61,17 @@ pub(crate) fn check_numbers<B: Blocks, N: Nodes>(
     mdb: &Mdb,
     tree: &N,
     records: &[(CatKey, Bytes)],
-) -> Result<(), MountFault>
+) -> Result<Vec<Extent>, MountFault>
     requires bitmap { mdb.now.bitmap_start + bitmap_len mdb.now.allocation_blocks ≤ B.total blocks.now }
     requires tree { IsExtentsTree (N.nodes tree.now) }
-    ensures { MatchResult result (λ _. counted_fault (B.blocks blocks.now) mdb.now (overflow_of (N.nodes tree.now)) records.now ≡ None)
-        (IsFaultOf (counted_fault (B.blocks blocks.now) mdb.now (overflow_of (N.nodes tree.now)) records.now)) }
+    ensures fault { Answers (counted_fault (B.blocks blocks.now) mdb.now (overflow_of (N.nodes tree.now)) records.now) result }
+    ensures owned { IfOk result (λ owned. AreOwned mdb.now (overflow_of (N.nodes tree.now)) records.now owned.items) }
 {
     check_valences(alloc, records)?;
     check_counts(mdb, records)?;
     let files = catalog_files(alloc, records)?;
     check_forks(alloc, mdb, tree, &files, records)?;
     let owned = owned_extents(alloc, mdb, tree, &files)?;
-    check_space(alloc, blocks, mdb, &owned)
+    check_space(alloc, blocks, mdb, &owned)?;
+    Ok(owned)
 }

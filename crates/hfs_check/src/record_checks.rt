@@ -1,14 +1,15 @@
 //! The checks of the catalog's records, each as what mounting answers.
-ghost use Rattle.std.specs.Prelude.{◌≡◌, None, MatchResult, OnOk};
-ghost use Rattle.hfs_catalog.specs.Faults as catalog_spec;
+ghost use Rattle.std.specs.Prelude.{◌≡◌};
+ghost use Rattle.hfs_catalog_checks.specs.Faults as catalog_spec;
 ghost use Rattle.hfs_btree.specs.Sound.{HasStructure};
 ghost use Rattle.hfs_catalog.specs.Tree.{cat_keys};
 ghost use Rattle.hfs_check.specs.Faults.{check_fault, catalog_name_fault, catalog_place_fault};
-ghost use Rattle.hfs_check.specs.Answers.{IsFaultOf, listed_fault};
+ghost use Rattle.hfs_check.specs.Answers.{Answers, listed_fault};
 
 use crate::mount_fault::MountFault;
-use hfs_btree::{Nodes, index_keys, index_keys_in_order};
-use hfs_catalog::{
+use hfs_btree::Nodes;
+use hfs_btree_checks::{index_keys, index_keys_in_order};
+use hfs_catalog_checks::{
     IndexedCatalog, count_fault, id_fault, name_fault, place_fault, record_fault, valence_fault,
 };
 use hfs_fields::{CatKey, Mdb};
@@ -17,7 +18,7 @@ use std::alloc::Global;
 
 /// What a check answers that found a fault at this place, or none.
 pub(crate) fn answer_at(number: u8, place: Option<usize>) -> Result<(), MountFault>
-    ensures { MatchResult result (λ _. check_fault number place ≡ None) (IsFaultOf (check_fault number place)) }
+    ensures { Answers (check_fault number place) result }
 {
     match place {
         None => Ok(()),
@@ -30,14 +31,14 @@ pub(crate) fn answer_at(number: u8, place: Option<usize>) -> Result<(), MountFau
 
 /// The check of records.
 pub(crate) fn check_records(records: &[(CatKey, Bytes)]) -> Result<(), MountFault>
-    ensures { MatchResult result (λ _. check_fault 5 (catalog_spec.record_fault records.now) ≡ None) (IsFaultOf (check_fault 5 (catalog_spec.record_fault records.now))) }
+    ensures { Answers (check_fault 5 (catalog_spec.record_fault records.now)) result }
 {
     answer_at(5, record_fault(records))
 }
 
 /// The check of IDs, on a volume whose next ID is `next`.
 pub(crate) fn check_ids(next: u32, catalog: &IndexedCatalog<'_>) -> Result<(), MountFault>
-    ensures { MatchResult result (λ _. check_fault 6 (catalog_spec.id_fault next catalog.now) ≡ None) (IsFaultOf (check_fault 6 (catalog_spec.id_fault next catalog.now))) }
+    ensures { Answers (check_fault 6 (catalog_spec.id_fault next catalog.now)) result }
 {
     answer_at(6, id_fault(next, catalog))
 }
@@ -50,7 +51,7 @@ pub(crate) fn check_names<N: Nodes>(
     records: &[(CatKey, Bytes)],
 ) -> Result<(), MountFault>
     requires { HasStructure cat_keys (N.nodes nodes.now) }
-    ensures { MatchResult result (λ _. check_fault 7 (catalog_name_fault (N.nodes nodes.now) records.now) ≡ None) (IsFaultOf (check_fault 7 (catalog_name_fault (N.nodes nodes.now) records.now))) }
+    ensures { Answers (check_fault 7 (catalog_name_fault (N.nodes nodes.now) records.now)) result }
 {
     let keys = index_keys::<CatKey, N>(alloc, nodes)?;
     answer_at(7, name_fault(&keys, records))
@@ -64,7 +65,7 @@ pub(crate) fn check_places<N: Nodes>(
     catalog: &IndexedCatalog<'_>,
 ) -> Result<(), MountFault>
     requires { HasStructure cat_keys (N.nodes nodes.now) }
-    ensures { MatchResult result (λ _. check_fault 8 (catalog_place_fault (N.nodes nodes.now) catalog.now) ≡ None) (IsFaultOf (check_fault 8 (catalog_place_fault (N.nodes nodes.now) catalog.now))) }
+    ensures { Answers (check_fault 8 (catalog_place_fault (N.nodes nodes.now) catalog.now)) result }
 {
     let in_order = index_keys_in_order::<CatKey, N>(nodes);
     let place = place_fault(alloc, in_order, catalog)?;
@@ -73,7 +74,7 @@ pub(crate) fn check_places<N: Nodes>(
 
 /// The check of valences.
 pub(crate) fn check_valences(alloc: Global, records: &[(CatKey, Bytes)]) -> Result<(), MountFault>
-    ensures { MatchResult result (λ _. check_fault 9 (catalog_spec.valence_fault records.now) ≡ None) (IsFaultOf (check_fault 9 (catalog_spec.valence_fault records.now))) }
+    ensures { Answers (check_fault 9 (catalog_spec.valence_fault records.now)) result }
 {
     let place = valence_fault(alloc, records)?;
     answer_at(9, place)
@@ -81,7 +82,7 @@ pub(crate) fn check_valences(alloc: Global, records: &[(CatKey, Bytes)]) -> Resu
 
 /// The check of counts.
 pub(crate) fn check_counts(mdb: &Mdb, records: &[(CatKey, Bytes)]) -> Result<(), MountFault>
-    ensures { MatchResult result (λ _. check_fault 10 (catalog_spec.count_fault mdb.now records.now) ≡ None) (IsFaultOf (check_fault 10 (catalog_spec.count_fault mdb.now records.now))) }
+    ensures { Answers (check_fault 10 (catalog_spec.count_fault mdb.now records.now)) result }
 {
     answer_at(10, count_fault(mdb, records))
 }
@@ -94,7 +95,7 @@ pub(crate) fn check_catalog_records<N: Nodes>(
     records: &[(CatKey, Bytes)],
 ) -> Result<(), MountFault>
     requires { HasStructure cat_keys (N.nodes nodes.now) }
-    ensures { MatchResult result (λ _. listed_fault next (N.nodes nodes.now) records.now ≡ None) (IsFaultOf (listed_fault next (N.nodes nodes.now) records.now)) }
+    ensures { Answers (listed_fault next (N.nodes nodes.now) records.now) result }
 {
     check_records(records)?;
     let catalog = IndexedCatalog::of(alloc, records)?;

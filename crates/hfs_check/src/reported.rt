@@ -5,7 +5,7 @@ ghost use Rattle.hfs_check.specs.Parts.{mdb_in};
 ghost use Rattle.hfs_check.specs.Report as spec;
 
 use crate::mount_fault::MountFault;
-use hfs_btree::Blocks;
+use hfs_blocks::Blocks;
 use hfs_fields::Mdb;
 
 /// The copy of the master directory block in the last block but one, compared with the master directory block itself.

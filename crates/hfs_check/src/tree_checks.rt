@@ -1,16 +1,17 @@
 //! The checks of the two trees, each as what mounting answers.
-ghost use Rattle.std.specs.Prelude.{◌≡◌, ◌*◌, ◌≤◌, ℕ, Option, None, MatchResult, OnOk, length};
-ghost use Rattle.hfs_btree.specs.Shape.{shape_fault, ◌or_else◌};
-ghost use Rattle.hfs_btree.specs.ShapeSteps.{IsFault};
-ghost use Rattle.hfs_btree.specs.Order.{key_fault, order_fault};
-ghost use Rattle.hfs_btree.specs.Sound.{HasStructure, HasCounts, IsShaped};
+ghost use Rattle.std.specs.Prelude.{◌≡◌, ◌*◌, ◌≤◌, ℕ, Option, OnOk, IfOk, length};
+ghost use Rattle.hfs_btree_checks.specs.Shape.{shape_fault, ◌or_else◌};
+ghost use Rattle.hfs_btree_checks.specs.ShapeSteps.{IsFault};
+ghost use Rattle.hfs_btree_checks.specs.Order.{key_fault, order_fault};
+ghost use Rattle.hfs_btree.specs.Sound.{IsShaped};
 ghost use Rattle.hfs_space.specs.TreeKeys.{ext_keys};
 ghost use Rattle.hfs_catalog.specs.Tree.{cat_keys};
 ghost use Rattle.hfs_check.specs.Faults.{check_fault, is_fork_key};
-ghost use Rattle.hfs_check.specs.Answers.{IsFaultOf, extents_tree_fault};
+ghost use Rattle.hfs_check.specs.Answers.{Answers, IsFaultOf, extents_tree_fault};
 
 use crate::mount_fault::MountFault;
-use hfs_btree::{KeyTest, Nodes, TreeFault, check_keys, check_order, check_shape};
+use hfs_btree::Nodes;
+use hfs_btree_checks::{KeyTest, ShapedTree, TreeFault, check_shape};
 use hfs_fields::{CatKey, ExtKey};
 use std::alloc::Global;
 
@@ -34,7 +35,7 @@ pub(crate) fn check_catalog_shape<N: Nodes>(
     size: u32,
 ) -> Result<(), MountFault>
     requires { size ≤ 512 * length (N.nodes nodes.now) }
-    ensures fault { MatchResult result (λ _. check_fault 4 (shape_fault cat_keys size (N.nodes nodes.now)) ≡ None) (IsFaultOf (check_fault 4 (shape_fault cat_keys size (N.nodes nodes.now)))) }
+    ensures fault { Answers (check_fault 4 (shape_fault cat_keys size (N.nodes nodes.now))) result }
     ensures shaped { OnOk result (IsShaped cat_keys size (N.nodes nodes.now)) }
 {
     match check_shape::<CatKey, N>(alloc, nodes, size) {
@@ -54,36 +55,40 @@ impl KeyTest<ExtKey> for IsForkKey {
     }
 }
 
-/// The check of the shape of the extents tree in a file of `size` bytes (drXTFlSize).
-fn check_extents_shape<N: Nodes>(alloc: Global, nodes: &N, size: u32) -> Result<(), MountFault>
+/// The extents tree in a file of `size` bytes (drXTFlSize), where it has its shape.
+fn check_extents_shape<N: Nodes>(
+    alloc: Global,
+    nodes: &N,
+    size: u32,
+) -> Result<ShapedTree<'_, ExtKey, N>, MountFault>
     requires { size ≤ 512 * length (N.nodes nodes.now) }
-    ensures fault { MatchResult result (λ _. check_fault 3 (shape_fault ext_keys size (N.nodes nodes.now)) ≡ None) (IsFaultOf (check_fault 3 (shape_fault ext_keys size (N.nodes nodes.now)))) }
-    ensures shaped { OnOk result (IsShaped ext_keys size (N.nodes nodes.now)) }
+    ensures fault { Answers (check_fault 3 (shape_fault ext_keys size (N.nodes nodes.now))) result }
+    ensures nodes { IfOk result (λ tree. tree.nodes.now ≡ nodes.now) }
 {
-    match check_shape::<ExtKey, N>(alloc, nodes, size) {
-        Ok(()) => Ok(()),
+    match ShapedTree::<ExtKey, N>::of(alloc, nodes, size) {
+        Ok(tree) => Ok(tree),
         Err(fault) => Err(answer_of(3, fault)),
     }
 }
 
 /// The check of the forks in the keys of the extents tree.
-fn check_fork_keys<N: Nodes>(alloc: Global, nodes: &N) -> Result<(), MountFault>
-    requires { HasStructure ext_keys (N.nodes nodes.now) }
-    ensures { MatchResult result (λ _. check_fault 3 (key_fault ext_keys (N.nodes nodes.now) is_fork_key) ≡ None) (IsFaultOf (check_fault 3 (key_fault ext_keys (N.nodes nodes.now) is_fork_key))) }
+fn check_fork_keys<N: Nodes>(
+    alloc: Global,
+    tree: &ShapedTree<'_, ExtKey, N>,
+) -> Result<(), MountFault>
+    ensures { Answers (check_fault 3 (key_fault ext_keys (N.nodes tree.now.nodes.now) is_fork_key)) result }
 {
-    match check_keys::<ExtKey, N, IsForkKey>(alloc, nodes, &IsForkKey) {
+    match tree.check_keys(alloc, &IsForkKey) {
         Ok(()) => Ok(()),
         Err(fault) => Err(answer_of(3, fault)),
     }
 }
 
 /// The check of the order of the extents tree.
-fn check_extents_order<N: Nodes>(nodes: &N) -> Result<(), MountFault>
-    requires structure { HasStructure ext_keys (N.nodes nodes.now) }
-    requires counts { HasCounts ext_keys (N.nodes nodes.now) }
-    ensures { MatchResult result (λ _. check_fault 3 (order_fault ext_keys (N.nodes nodes.now)) ≡ None) (IsFaultOf (check_fault 3 (order_fault ext_keys (N.nodes nodes.now)))) }
+fn check_extents_order<N: Nodes>(tree: &ShapedTree<'_, ExtKey, N>) -> Result<(), MountFault>
+    ensures { Answers (check_fault 3 (order_fault ext_keys (N.nodes tree.now.nodes.now))) result }
 {
-    match check_order::<ExtKey, N>(nodes) {
+    match tree.check_order() {
         Ok(()) => Ok(()),
         Err(fault) => Err(answer_of(3, fault)),
     }
@@ -96,9 +101,9 @@ pub(crate) fn check_extents_tree<N: Nodes>(
     size: u32,
 ) -> Result<(), MountFault>
     requires { size ≤ 512 * length (N.nodes nodes.now) }
-    ensures { MatchResult result (λ _. check_fault 3 (extents_tree_fault size (N.nodes nodes.now)) ≡ None) (IsFaultOf (check_fault 3 (extents_tree_fault size (N.nodes nodes.now)))) }
+    ensures { Answers (check_fault 3 (extents_tree_fault size (N.nodes nodes.now))) result }
 {
-    check_extents_shape(alloc, nodes, size)?;
-    check_fork_keys(alloc, nodes)?;
-    check_extents_order(nodes)
+    let tree = check_extents_shape(alloc, nodes, size)?;
+    check_fork_keys(alloc, &tree)?;
+    check_extents_order(&tree)
 }

@@ -1,5 +1,5 @@
 //! Where the two trees of a volume lie, and whether their files and shapes are right.
-ghost use Rattle.std.specs.Prelude.{◌≡◌, true, false, None, MatchResult, MatchOption, IfOk, OnOk, IfErr};
+ghost use Rattle.std.specs.Prelude.{◌≡◌, true, false, None, MatchOption, IfOk, OnOk, IfErr};
 ghost use Rattle.hfs_btree.specs.Sound.{IsSound, HasStructure, HasCounts};
 ghost use Rattle.hfs_space.specs.Faults.{is_tree_file};
 ghost use Rattle.hfs_space.specs.TreeFiles.{tree_nodes};
@@ -7,16 +7,17 @@ ghost use Rattle.hfs_space.specs.TreeKeys.{IsExtentsTree};
 ghost use Rattle.hfs_catalog.specs.Tree.{cat_keys};
 ghost use Rattle.hfs_check.specs.Parts.{mdb_in, extents_nodes, catalog_extents, catalog_nodes};
 ghost use Rattle.hfs_check.specs.Sound.{IsMdbSound, IsExtentsSound, IsCatalogFileSound};
-ghost use Rattle.hfs_check.specs.Faults.{check_fault, extents_fault, extents_counts, catalog_fault, catalog_counts, trees_fault};
-ghost use Rattle.hfs_check.specs.Answers.{IsFaultOf};
-ghost use Rattle.hfs_check.specs.Trees.{LieIn, AreTreesIn};
+ghost use Rattle.hfs_check.specs.Faults.{check_fault};
+ghost use Rattle.hfs_check.specs.Answers.{Answers, IsFaultOf, extents_check_fault, catalog_check_fault, both_trees_fault};
+ghost use Rattle.hfs_check.specs.Trees.{LieIn, HasTrees};
 
-use crate::laws::extents_faults;
+use crate::laws::no_extents_fault;
 use crate::mount_fault::MountFault;
 use crate::tree_checks::{check_catalog_shape, check_extents_tree};
-use hfs_btree::{Blocks, Run, RunNodes};
+use hfs_blocks::{Blocks, Run};
+use hfs_btree::RunNodes;
 use hfs_fields::{Extent, Mdb};
-use hfs_space::{ForkKind, fork_extents, is_tree_file, tree_files, tree_runs};
+use hfs_space::{ForkKind, fork_extents, is_tree_file, no_tree_file_fault, tree_runs};
 use std::alloc::{AllocError, Global};
 
 /// The runs of a tree's file that has these extents and this size in bytes. None where the file is wrong.
@@ -31,7 +32,7 @@ fn file_runs<B: Blocks>(
     ensures { IfOk result (λ found. MatchOption found (is_tree_file mdb.now extents.now size ≡ false)
         (λ runs. (is_tree_file mdb.now extents.now size ≡ true) × LieIn (B.total blocks.now) (B.blocks blocks.now) runs.items (tree_nodes (B.blocks blocks.now) mdb.now extents.now size))) }
 {
-    tree_files();
+    no_tree_file_fault();
     if is_tree_file(mdb, extents, size) {
         let runs = tree_runs(alloc, blocks, mdb, extents, size)?;
         Ok(Some(runs))
@@ -51,10 +52,9 @@ fn check_extents<B: Blocks>(
     requires file { is_tree_file mdb.now mdb.now.extents_file mdb.now.extents_file_size ≡ true }
     requires runs { LieIn (B.total blocks.now) (B.blocks blocks.now) runs.now (tree_nodes (B.blocks blocks.now) mdb.now mdb.now.extents_file mdb.now.extents_file_size) }
     requires is { mdb.now ≡ mdb_in (B.blocks blocks.now) }
-    ensures { MatchResult result (λ _. check_fault 3 (extents_fault (extents_counts (B.blocks blocks.now)) mdb.now (extents_nodes (B.blocks blocks.now))) ≡ None)
-        (IsFaultOf (check_fault 3 (extents_fault (extents_counts (B.blocks blocks.now)) mdb.now (extents_nodes (B.blocks blocks.now))))) }
+    ensures { Answers (extents_check_fault mdb.now (B.blocks blocks.now)) result }
 {
-    tree_files();
+    no_tree_file_fault();
     let nodes = RunNodes { blocks, runs };
     check_extents_tree(alloc, &nodes, mdb.extents_file_size)
 }
@@ -72,10 +72,9 @@ fn check_catalog<B: Blocks>(
     requires runs { LieIn (B.total blocks.now) (B.blocks blocks.now) runs.now (tree_nodes (B.blocks blocks.now) mdb.now extents.now mdb.now.catalog_file_size) }
     requires is { mdb.now ≡ mdb_in (B.blocks blocks.now) }
     requires extents { extents.now ≡ catalog_extents (B.blocks blocks.now) }
-    ensures { MatchResult result (λ _. check_fault 4 (catalog_fault (catalog_counts (B.blocks blocks.now)) mdb.now (catalog_extents (B.blocks blocks.now)) (catalog_nodes (B.blocks blocks.now))) ≡ None)
-        (IsFaultOf (check_fault 4 (catalog_fault (catalog_counts (B.blocks blocks.now)) mdb.now (catalog_extents (B.blocks blocks.now)) (catalog_nodes (B.blocks blocks.now))))) }
+    ensures { Answers (catalog_check_fault mdb.now (B.blocks blocks.now)) result }
 {
-    tree_files();
+    no_tree_file_fault();
     let nodes = RunNodes { blocks, runs };
     check_catalog_shape(alloc, &nodes, mdb.catalog_file_size)
 }
@@ -85,9 +84,9 @@ fn check_catalog<B: Blocks>(
 fn open_extents<B: Blocks>(alloc: Global, blocks: &B, mdb: &Mdb) -> Result<Vec<Run>, MountFault>
     requires sound { IsMdbSound (B.total blocks.now) mdb.now }
     requires is { mdb.now ≡ mdb_in (B.blocks blocks.now) }
-    ensures right { OnOk result (check_fault 3 (extents_fault (extents_counts (B.blocks blocks.now)) mdb.now (extents_nodes (B.blocks blocks.now))) ≡ None) }
+    ensures right { OnOk result (extents_check_fault mdb.now (B.blocks blocks.now) ≡ None) }
     ensures runs { IfOk result (λ runs. LieIn (B.total blocks.now) (B.blocks blocks.now) runs.items (extents_nodes (B.blocks blocks.now))) }
-    ensures wrong { IfErr result (IsFaultOf (check_fault 3 (extents_fault (extents_counts (B.blocks blocks.now)) mdb.now (extents_nodes (B.blocks blocks.now))))) }
+    ensures wrong { IfErr result (IsFaultOf (extents_check_fault mdb.now (B.blocks blocks.now))) }
 {
     match file_runs(alloc, blocks, mdb, &mdb.extents_file, mdb.extents_file_size)? {
         None => Err(MountFault::Check {
@@ -103,7 +102,7 @@ fn open_extents<B: Blocks>(alloc: Global, blocks: &B, mdb: &Mdb) -> Result<Vec<R
 
 /// The extents of the catalog file, and the runs of its tree.
 #[derive(Drop)]
-struct CatalogFile {
+struct CatalogTree {
     extents: Vec<Extent>,
     runs: Vec<Run>,
 }
@@ -134,15 +133,15 @@ fn open_catalog<B: Blocks>(
     blocks: &B,
     mdb: &Mdb,
     extents_tree: &[Run],
-) -> Result<CatalogFile, MountFault>
+) -> Result<CatalogTree, MountFault>
     requires sound { IsMdbSound (B.total blocks.now) mdb.now }
     requires is { mdb.now ≡ mdb_in (B.blocks blocks.now) }
     requires runs { LieIn (B.total blocks.now) (B.blocks blocks.now) extents_tree.now (extents_nodes (B.blocks blocks.now)) }
     requires tree { IsExtentsTree (extents_nodes (B.blocks blocks.now)) }
-    ensures right { OnOk result (check_fault 4 (catalog_fault (catalog_counts (B.blocks blocks.now)) mdb.now (catalog_extents (B.blocks blocks.now)) (catalog_nodes (B.blocks blocks.now))) ≡ None) }
+    ensures right { OnOk result (catalog_check_fault mdb.now (B.blocks blocks.now) ≡ None) }
     ensures extents { IfOk result (λ file. file.extents.items ≡ catalog_extents (B.blocks blocks.now)) }
     ensures runs { IfOk result (λ file. LieIn (B.total blocks.now) (B.blocks blocks.now) file.runs.items (catalog_nodes (B.blocks blocks.now))) }
-    ensures wrong { IfErr result (IsFaultOf (check_fault 4 (catalog_fault (catalog_counts (B.blocks blocks.now)) mdb.now (catalog_extents (B.blocks blocks.now)) (catalog_nodes (B.blocks blocks.now))))) }
+    ensures wrong { IfErr result (IsFaultOf (catalog_check_fault mdb.now (B.blocks blocks.now))) }
 {
     let extents = catalog_file_extents(alloc, blocks, mdb, extents_tree)?;
     match file_runs(alloc, blocks, mdb, &extents, mdb.catalog_file_size)? {
@@ -152,7 +151,7 @@ fn open_catalog<B: Blocks>(
         }),
         Some(runs) => {
             check_catalog(alloc, blocks, mdb, &extents, &runs)?;
-            Ok(CatalogFile { extents, runs })
+            Ok(CatalogTree { extents, runs })
         }
     }
 }
@@ -177,14 +176,14 @@ pub(crate) fn open_trees<B: Blocks>(
 ) -> Result<VolumeTrees, MountFault>
     requires sound { IsMdbSound (B.total blocks.now) mdb.now }
     requires is { mdb.now ≡ mdb_in (B.blocks blocks.now) }
-    ensures right { OnOk result (trees_fault (extents_counts (B.blocks blocks.now)) (catalog_counts (B.blocks blocks.now)) (B.blocks blocks.now) ≡ None) }
-    ensures trees { IfOk result (λ trees. AreTreesIn (B.total blocks.now) (B.blocks blocks.now) trees.extents.items trees.catalog_file.items trees.catalog.items) }
-    ensures wrong { IfErr result (IsFaultOf (trees_fault (extents_counts (B.blocks blocks.now)) (catalog_counts (B.blocks blocks.now)) (B.blocks blocks.now))) }
+    ensures right { OnOk result (both_trees_fault (B.blocks blocks.now) ≡ None) }
+    ensures trees { IfOk result (λ trees. HasTrees (B.total blocks.now) (B.blocks blocks.now) trees) }
+    ensures wrong { IfErr result (IsFaultOf (both_trees_fault (B.blocks blocks.now))) }
 {
-    extents_faults();
+    no_extents_fault();
     let extents = open_extents(alloc, blocks, mdb)?;
     let file = open_catalog(alloc, blocks, mdb, &extents)?;
-    let CatalogFile {
+    let CatalogTree {
         extents: catalog_file,
         runs: catalog,
     } = file;

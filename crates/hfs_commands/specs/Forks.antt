@@ -40,21 +40,6 @@ fork_code es dir name =
     else if not (is_folder es dir) then NOT_A_FOLDER
     else option_map_or (λ (e : Entry). kind_code e.1.kind) (child_named es dir name) NOT_FOUND
 
--- the length that an item's fork is told to have
-abbrev pub told_len : Fork → Info → ℕ
-told_len DataFork info = info.data_len
-told_len ResFork info = info.res_len
-
--- the bytes of a value
-abbrev pub bytes_of : Value → List ℕ
-bytes_of (Bytes bytes) = bytes
-bytes_of Nothing = []
-bytes_of (Id id) = []
-bytes_of (One info) = []
-bytes_of (Many items) = []
-bytes_of (Full free depth) = []
-bytes_of (Place dir name) = []
-
 -- the reply to the last of several reads, each of at most 65,536 bytes, the first from 0 and the last up to the fork's end
 pub record IsLastRead (es : List Entry) (dir : ℕ) (name : List ℕ) (fork : Fork) (reply : Reply) : Type 0 where
   pub offset : ℕ

@@ -1,12 +1,13 @@
 //! Why a command was not done, and how the program ends.
-ghost use Rattle.std.specs.Prelude.{◌≡◌, ◌≢◌, Some};
+ghost use Rattle.std.specs.Prelude.{◌≡◌, ◌≢◌, MatchResult, Some};
 ghost use Rattle.hfs_commands.specs.Faults.{fault_text, status_number, status_of};
 
 use crate::info::InfoFault;
 use crate::input::LoadFault;
 use crate::refusal::Refusal;
-use hfs_check::{FormatFault, MountFault};
-use std::fmt;
+use hfs_check::MountFault;
+use hfs_format::FormatFault;
+use std::{fmt, io};
 
 /// How the program ends. Scripts read it as the exit status.
 #[derive(Clone, Copy, Debug, PartialEq, Eq)]
@@ -37,6 +38,17 @@ impl Status {
             Status::CallRefused => 3,
             Status::DeviceFailed => 4,
             Status::NoMemory => 5,
+        }
+    }
+
+    /// The exit status where this is how the program ends once a text is printed: that of a failed device where it was
+    /// not printed.
+    pub fn after(self, printed: io::Result<()>) -> u8
+        ensures { MatchResult printed (λ done. result ≡ status_number self) (λ failed. result ≡ 4) }
+    {
+        match printed {
+            Ok(()) => self.number(),
+            Err(_) => Status::DeviceFailed.number(),
         }
     }
 }

@@ -1,16 +1,16 @@
 //! The bytes of a file's fork, and nothing else.
-ghost use Rattle.std.specs.Prelude.{◌≡◌, ◌≢◌, ◌⊎◌, pos, IfErr, IfOk, OnErr, OnOk};
+ghost use Rattle.std.specs.Prelude.{◌≡◌, ◌≢◌, ◌⊎◌, pos, take, drop, IfErr, IfOk, OnErr, OnOk};
 ghost use Rattle.std.specs.Io.KnownBytes.{Appends};
 ghost use Rattle.hfs_model.specs.Children.{entries_of};
-ghost use Rattle.hfs_model.specs.Reading.{read_fork};
+ghost use Rattle.hfs_model.specs.Replies.{success};
 ghost use Rattle.hfs_check.specs.VolumeOf.{volume_of};
-ghost use Rattle.hfs_commands.specs.Forks.{IsLastRead, bytes_of, fork_code, fork_named, told_len};
+ghost use Rattle.hfs_commands.specs.Forks.{IsLastRead, fork_code, fork_named};
 ghost use Rattle.hfs_commands.specs.Writing.{AppendsFront};
 
 use crate::fault::Fault;
 use crate::output::put;
-use hfs_model::{Fork, Info, Reply, Value};
-use hfs_volume::Volume;
+use hfs_model::{Bytes, Fork, Reply, Value};
+use hfs_volume::{OpenFork, Opened, Volume};
 use std::alloc::Global;
 use std::io::Write;
 
@@ -38,56 +38,40 @@ pub fn write_fork<W: Write>(
         (fork_named (entries_of (volume_of volume.now.current)) dir name.now fork)) }
     ensures faults { IfErr result (λ fault. (fault ≡ Fault.OutputFailed) ⊎ (fault ≡ Fault.NoMemory)) }
 {
-    let found = volume.get_cat_info(dir, name);
-    let Value::One(info) = &found.value else {
-        return Ok(found);
+    let Ok(opened) = volume.open_fork(alloc, dir, name, fork) else {
+        return Err(Fault::NoMemory);
     };
-    let len = told_len(info, fork);
-    let mut offset = len.min(PIECE);
-    let mut reply = write_piece(alloc, writer, volume, dir, name, fork, 0, offset)?;
-    while offset < len {
-        let count = PIECE.min(len - offset);
-        reply = write_piece(alloc, writer, volume, dir, name, fork, offset, count)?;
-        offset += count;
+    let mut source = match opened {
+        Opened::Fork(source) => source,
+        Opened::Refused(reply) => return Ok(reply),
+    };
+    let mut reply = write_piece(alloc, writer, &mut source)?;
+    while source.len() > 0 {
+        reply = write_piece(alloc, writer, &mut source)?;
     }
     Ok(reply)
 }
 
-/// How many bytes an item's fork has, as is told of it.
-fn told_len(info: &Info, fork: Fork) -> u32
-    ensures { result ≡ told_len fork info.now }
-{
-    match fork {
-        Fork::DataFork => info.data_len,
-        Fork::ResFork => info.res_len,
-    }
-}
-
-/// Reads a part of a fork and writes its bytes, and answers the call's reply.
+/// Reads the next bytes of a fork and writes them, and answers the reply to a call that reads them.
 fn write_piece<W: Write>(
     alloc: Global,
     writer: &mut W,
-    volume: &Volume,
-    dir: u32,
-    name: &[u8],
-    fork: Fork,
-    offset: u32,
-    count: u32,
+    source: &mut OpenFork<'_>,
 ) -> Result<Reply, Fault<'static>>
-    ensures reply { IfOk result (λ reply. reply ≡ read_fork (entries_of (volume_of volume.now.current)) dir name.now fork offset count) }
-    ensures written { IfOk result (λ reply. Appends (W.contents writer.old) (W.contents writer.new) (bytes_of reply.value)) }
-    ensures unwritten { IfOk result (λ reply. reply.value ≡ Value.Nothing → writer.new ≡ writer.old) }
-    ensures part { OnErr result (AppendsFront (W.contents writer.old) (W.contents writer.new)
-        (bytes_of (read_fork (entries_of (volume_of volume.now.current)) dir name.now fork offset count).value)) }
+    ensures reply { IfOk result (λ reply. reply ≡ success (Value.Bytes (take PIECE source.old))) }
+    ensures left { OnOk result (source.new ≡ drop PIECE source.old) }
+    ensures written { OnOk result (Appends (W.contents writer.old) (W.contents writer.new) (take PIECE source.old)) }
+    ensures part { OnErr result (AppendsFront (W.contents writer.old) (W.contents writer.new) (take PIECE source.old)) }
     ensures faults { IfErr result (λ fault. (fault ≡ Fault.OutputFailed) ⊎ (fault ≡ Fault.NoMemory)) }
 {
-    let Ok(reply) = volume.read_fork(alloc, dir, name, fork, offset, count) else {
+    let Ok(bytes) = source.read(alloc, PIECE) else {
         return Err(Fault::NoMemory);
     };
-    if let Value::Bytes(bytes) = &reply.value {
-        let Ok(()) = put(writer, bytes.as_slice()) else {
-            return Err(Fault::OutputFailed);
-        };
-    }
-    Ok(reply)
+    let Ok(()) = put(writer, &bytes) else {
+        return Err(Fault::OutputFailed);
+    };
+    Ok(Reply {
+        code: 0,
+        value: Value::Bytes(Bytes::new(bytes)),
+    })
 }

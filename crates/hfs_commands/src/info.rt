@@ -4,6 +4,7 @@ ghost use Rattle.std.specs.Io.KnownBytes.{Appends, Consumes, IsAtEnd};
 ghost use Rattle.hfs_commands.specs.Reading.{GaveHead, HasSignature, info_text};
 ghost use Rattle.hfs_commands.specs.Writing.{AppendsFront};
 ghost use Rattle.hfs_commands.specs.Info.{first_lines, middle_lines, last_lines, info_lines};
+ghost use Rattle.hfs_commands.specs.Texts.{Gains};
 
 use crate::input::fill;
 use crate::output::put;
@@ -107,7 +108,7 @@ pub fn info_lines(alloc: Global, mdb: &Mdb) -> Result<String, AllocError>
 
 #[tactic(auto, unfolding(crate::specs::Info::first_lines))]
 fn push_first_lines(text: &mut String, mdb: &Mdb) -> Result<(), AllocError>
-    ensures { OnOk result (string_bytes text.new ≡ string_bytes text.old ++ first_lines mdb.now) }
+    ensures { OnOk result (Gains text.old text.new (first_lines mdb.now)) }
 {
     push_line(text, "drSigWord", Hex(&mdb.signature.to_be_bytes()))?;
     push_line(text, "drCrDate", mdb.created)?;
@@ -123,7 +124,7 @@ fn push_first_lines(text: &mut String, mdb: &Mdb) -> Result<(), AllocError>
 
 #[tactic(auto, unfolding(crate::specs::Info::middle_lines))]
 fn push_middle_lines(text: &mut String, mdb: &Mdb) -> Result<(), AllocError>
-    ensures { OnOk result (string_bytes text.new ≡ string_bytes text.old ++ middle_lines mdb.now) }
+    ensures { OnOk result (Gains text.old text.new (middle_lines mdb.now)) }
 {
     push_line(text, "drAlBlSt", mdb.allocation_start)?;
     push_line(text, "drNxtCNID", mdb.next_id)?;
@@ -139,7 +140,7 @@ fn push_middle_lines(text: &mut String, mdb: &Mdb) -> Result<(), AllocError>
 
 #[tactic(auto, unfolding(crate::specs::Info::last_lines))]
 fn push_last_lines(text: &mut String, mdb: &Mdb) -> Result<(), AllocError>
-    ensures { OnOk result (string_bytes text.new ≡ string_bytes text.old ++ last_lines mdb.now) }
+    ensures { OnOk result (Gains text.old text.new (last_lines mdb.now)) }
 {
     push_line(text, "drFilCnt", mdb.files)?;
     push_line(text, "drDirCnt", mdb.folders)?;

@@ -4,6 +4,7 @@ ghost use Rattle.hfs_model.specs.Children.{entries_of};
 ghost use Rattle.hfs_model.specs.Reading.{list};
 ghost use Rattle.hfs_check.specs.VolumeOf.{volume_of};
 ghost use Rattle.hfs_commands.specs.Listing.{child_line, child_lines, code_line, list_lines, list_status, tabbed, tabbed_sizes};
+ghost use Rattle.hfs_commands.specs.Texts.{Gains};
 
 use crate::fault::Status;
 use crate::text::{Show, push_line};
@@ -14,7 +15,7 @@ use std::alloc::{AllocError, Global};
 /// Appends a tab and a value.
 #[tactic(auto, unfolding(crate::specs::Listing::tabbed))]
 fn push_tabbed<S: Show + Drop>(text: &mut String, value: S) -> Result<(), AllocError>
-    ensures { OnOk result (string_bytes text.new ≡ string_bytes text.old ++ tabbed (S.shown value)) }
+    ensures { OnOk result (Gains text.old text.new (tabbed (S.shown value))) }
 {
     text.push('\t')?;
     value.push_to(text)
@@ -22,7 +23,7 @@ fn push_tabbed<S: Show + Drop>(text: &mut String, value: S) -> Result<(), AllocE
 
 #[tactic(auto, unfolding(crate::specs::Listing::tabbed_sizes))]
 fn push_sizes(text: &mut String, kind: ItemKind, info: &Info) -> Result<(), AllocError>
-    ensures { OnOk result (string_bytes text.new ≡ string_bytes text.old ++ tabbed_sizes kind info.now) }
+    ensures { OnOk result (Gains text.old text.new (tabbed_sizes kind info.now)) }
 {
     match kind {
         ItemKind::Folder => {
@@ -39,7 +40,7 @@ fn push_sizes(text: &mut String, kind: ItemKind, info: &Info) -> Result<(), Allo
 /// Appends a child's line.
 #[tactic(auto, unfolding(crate::specs::Listing::child_line))]
 fn push_child(text: &mut String, info: &Info) -> Result<(), AllocError>
-    ensures { OnOk result (string_bytes text.new ≡ string_bytes text.old ++ child_line info.now) }
+    ensures { OnOk result (Gains text.old text.new (child_line info.now)) }
 {
     info.kind.push_to(text)?;
     push_tabbed(text, info.id)?;
@@ -50,7 +51,7 @@ fn push_child(text: &mut String, info: &Info) -> Result<(), AllocError>
 
 #[tactic(auto, unfolding(crate::specs::Listing::child_lines))]
 fn push_children(text: &mut String, items: &[Info]) -> Result<(), AllocError>
-    ensures { OnOk result (string_bytes text.new ≡ string_bytes text.old ++ child_lines items.now) }
+    ensures { OnOk result (Gains text.old text.new (child_lines items.now)) }
 {
     for item in items {
         push_child(text, item)?;

@@ -2,6 +2,7 @@
 ghost use Rattle.std.specs.Prelude.{◌≡◌, ◌++◌, IfOk, OnOk, codes, length, string_bytes};
 ghost use Rattle.hfs_commands.specs.Answers.{bytes_text, flag_text, item_text, kind_text, listed_item, listed_items, place_text, reply_text, size_text, spaced, value_text};
 ghost use Rattle.hfs_commands.specs.Lines.{item_name_character, item_name_text};
+ghost use Rattle.hfs_commands.specs.Texts.{Gains};
 
 use crate::text::{Hex, Show, push_hex_byte};
 use hfs_fields::Name;
@@ -46,7 +47,7 @@ impl Show for Name {
 
 #[tactic(auto, unfolding(crate::specs::Lines::item_name_text))]
 fn push_name(text: &mut String, name: &[u8]) -> Result<(), AllocError>
-    ensures { OnOk result (string_bytes text.new ≡ string_bytes text.old ++ item_name_text name.now) }
+    ensures { OnOk result (Gains text.old text.new (item_name_text name.now)) }
 {
     for character in name {
         push_name_character(text, *character)?;
@@ -56,7 +57,7 @@ fn push_name(text: &mut String, name: &[u8]) -> Result<(), AllocError>
 
 #[tactic(auto, unfolding(crate::specs::Lines::item_name_character))]
 fn push_name_character(text: &mut String, character: u8) -> Result<(), AllocError>
-    ensures { OnOk result (string_bytes text.new ≡ string_bytes text.old ++ item_name_character character) }
+    ensures { OnOk result (Gains text.old text.new (item_name_character character)) }
 {
     if character < 0x20 || character > 0x7e {
         text.push('\\')?;
@@ -68,7 +69,7 @@ fn push_name_character(text: &mut String, character: u8) -> Result<(), AllocErro
 /// Appends a space and a value.
 #[tactic(auto, unfolding(crate::specs::Answers::spaced))]
 fn push_spaced<S: Show + Drop>(text: &mut String, value: S) -> Result<(), AllocError>
-    ensures { OnOk result (string_bytes text.new ≡ string_bytes text.old ++ spaced (S.shown value)) }
+    ensures { OnOk result (Gains text.old text.new (spaced (S.shown value))) }
 {
     text.push(' ')?;
     value.push_to(text)
@@ -76,7 +77,7 @@ fn push_spaced<S: Show + Drop>(text: &mut String, value: S) -> Result<(), AllocE
 
 #[tactic(auto, unfolding(crate::specs::Answers::place_text))]
 fn push_place(text: &mut String, info: &Info) -> Result<(), AllocError>
-    ensures { OnOk result (string_bytes text.new ≡ string_bytes text.old ++ place_text info.now) }
+    ensures { OnOk result (Gains text.old text.new (place_text info.now)) }
 {
     push_spaced(text, info.id)?;
     push_spaced(text, info.parent)?;
@@ -87,7 +88,7 @@ fn push_place(text: &mut String, info: &Info) -> Result<(), AllocError>
 
 #[tactic(auto, unfolding(crate::specs::Answers::size_text))]
 fn push_size(text: &mut String, kind: ItemKind, info: &Info) -> Result<(), AllocError>
-    ensures { OnOk result (string_bytes text.new ≡ string_bytes text.old ++ size_text kind info.now) }
+    ensures { OnOk result (Gains text.old text.new (size_text kind info.now)) }
 {
     match kind {
         ItemKind::Folder => {
@@ -104,7 +105,7 @@ fn push_size(text: &mut String, kind: ItemKind, info: &Info) -> Result<(), Alloc
 /// Appends an item's text.
 #[tactic(auto, unfolding(crate::specs::Answers::item_text))]
 fn push_item(text: &mut String, info: &Info) -> Result<(), AllocError>
-    ensures { OnOk result (string_bytes text.new ≡ string_bytes text.old ++ item_text info.now) }
+    ensures { OnOk result (Gains text.old text.new (item_text info.now)) }
 {
     info.kind.push_to(text)?;
     push_place(text, info)?;
@@ -129,7 +130,7 @@ impl Show for ShownItem<'_> {
 
 #[tactic(auto, unfolding(crate::specs::Answers::listed_item))]
 fn push_listed_item(text: &mut String, info: &Info) -> Result<(), AllocError>
-    ensures { OnOk result (string_bytes text.new ≡ string_bytes text.old ++ listed_item info.now) }
+    ensures { OnOk result (Gains text.old text.new (listed_item info.now)) }
 {
     text.push_str("\n\t")?;
     push_item(text, info)
@@ -137,7 +138,7 @@ fn push_listed_item(text: &mut String, info: &Info) -> Result<(), AllocError>
 
 #[tactic(auto, unfolding(crate::specs::Answers::listed_items))]
 fn push_listed_items(text: &mut String, items: &[Info]) -> Result<(), AllocError>
-    ensures { OnOk result (string_bytes text.new ≡ string_bytes text.old ++ listed_items items.now) }
+    ensures { OnOk result (Gains text.old text.new (listed_items items.now)) }
 {
     for item in items {
         push_listed_item(text, item)?;
@@ -147,7 +148,7 @@ fn push_listed_items(text: &mut String, items: &[Info]) -> Result<(), AllocError
 
 #[tactic(auto, unfolding(crate::specs::Answers::bytes_text))]
 fn push_bytes(text: &mut String, bytes: &[u8]) -> Result<(), AllocError>
-    ensures { OnOk result (string_bytes text.new ≡ string_bytes text.old ++ bytes_text bytes.now) }
+    ensures { OnOk result (Gains text.old text.new (bytes_text bytes.now)) }
 {
     match bytes {
         [] => Ok(()),
@@ -158,7 +159,7 @@ fn push_bytes(text: &mut String, bytes: &[u8]) -> Result<(), AllocError>
 /// Appends a value, and behind a list its items.
 #[tactic(auto, unfolding(crate::specs::Answers::value_text))]
 fn push_value(text: &mut String, value: &Value) -> Result<(), AllocError>
-    ensures { OnOk result (string_bytes text.new ≡ string_bytes text.old ++ value_text value.now) }
+    ensures { OnOk result (Gains text.old text.new (value_text value.now)) }
 {
     match value {
         Value::Nothing => text.push('-'),

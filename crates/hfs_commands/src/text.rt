@@ -2,6 +2,7 @@
 ghost use Rattle.std.specs.Prelude.{◌≡◌, ◌++◌, ◌<◌, ℕ, List, OnOk, IfOk, string_bytes};
 ghost use Rattle.std.specs.Fmt.{decimal, signed_decimal};
 ghost use Rattle.hfs_commands.specs.Lines.{hex_digit, hex_byte, hex_text, shown_character, shown_characters, name_text, extent_text, spaced_extent, spaced_extents, extents_text, line};
+ghost use Rattle.hfs_commands.specs.Texts.{Gains};
 
 use hfs_fields::Extent;
 use std::alloc::AllocError;
@@ -13,7 +14,7 @@ pub trait Show {
 
     /// Appends the printed form.
     fn push_to(&self, text: &mut String) -> Result<(), AllocError>
-        ensures { OnOk result (string_bytes text.new ≡ string_bytes text.old ++ shown self.now) };
+        ensures { OnOk result (Gains text.old text.new (shown self.now)) };
 }
 
 impl Show for u16 {
@@ -62,7 +63,7 @@ impl Show for Hex<'_> {
 
 #[tactic(auto, unfolding(crate::specs::Lines::hex_text))]
 fn push_hex(text: &mut String, bytes: &[u8]) -> Result<(), AllocError>
-    ensures { OnOk result (string_bytes text.new ≡ string_bytes text.old ++ hex_text bytes.now) }
+    ensures { OnOk result (Gains text.old text.new (hex_text bytes.now)) }
 {
     for byte in bytes {
         push_hex_byte(text, *byte)?;
@@ -72,7 +73,7 @@ fn push_hex(text: &mut String, bytes: &[u8]) -> Result<(), AllocError>
 
 #[tactic(auto, unfolding(crate::specs::Lines::hex_byte))]
 pub fn push_hex_byte(text: &mut String, byte: u8) -> Result<(), AllocError>
-    ensures { OnOk result (string_bytes text.new ≡ string_bytes text.old ++ hex_byte byte) }
+    ensures { OnOk result (Gains text.old text.new (hex_byte byte)) }
 {
     text.push(hex_digit(byte / 16))?;
     text.push(hex_digit(byte % 16))
@@ -111,7 +112,7 @@ impl Show for ShownName<'_> {
 
 #[tactic(auto, unfolding(crate::specs::Lines::shown_characters))]
 fn push_characters(text: &mut String, characters: &[u8]) -> Result<(), AllocError>
-    ensures { OnOk result (string_bytes text.new ≡ string_bytes text.old ++ shown_characters characters.now) }
+    ensures { OnOk result (Gains text.old text.new (shown_characters characters.now)) }
 {
     for character in characters {
         push_character(text, *character)?;
@@ -122,7 +123,7 @@ fn push_characters(text: &mut String, characters: &[u8]) -> Result<(), AllocErro
 /// Appends a character of a name, as two digits behind a backslash where it is not printable or a backslash.
 #[tactic(auto, unfolding(crate::specs::Lines::shown_character))]
 fn push_character(text: &mut String, character: u8) -> Result<(), AllocError>
-    ensures { OnOk result (string_bytes text.new ≡ string_bytes text.old ++ shown_character character) }
+    ensures { OnOk result (Gains text.old text.new (shown_character character)) }
 {
     if character < 0x20 || character > 0x7e || character == b'\\' {
         text.push('\\')?;
@@ -152,7 +153,7 @@ impl Show for ShownExtents<'_> {
 
 #[tactic(auto, unfolding(crate::specs::Lines::spaced_extents))]
 fn push_spaced_extents(text: &mut String, extents: &[Extent]) -> Result<(), AllocError>
-    ensures { OnOk result (string_bytes text.new ≡ string_bytes text.old ++ spaced_extents extents.now) }
+    ensures { OnOk result (Gains text.old text.new (spaced_extents extents.now)) }
 {
     for extent in extents {
         push_spaced_extent(text, extent)?;
@@ -162,7 +163,7 @@ fn push_spaced_extents(text: &mut String, extents: &[Extent]) -> Result<(), Allo
 
 #[tactic(auto, unfolding(crate::specs::Lines::spaced_extent))]
 fn push_spaced_extent(text: &mut String, extent: &Extent) -> Result<(), AllocError>
-    ensures { OnOk result (string_bytes text.new ≡ string_bytes text.old ++ spaced_extent extent.now) }
+    ensures { OnOk result (Gains text.old text.new (spaced_extent extent.now)) }
 {
     text.push(' ')?;
     push_extent(text, extent)
@@ -170,7 +171,7 @@ fn push_spaced_extent(text: &mut String, extent: &Extent) -> Result<(), AllocErr
 
 #[tactic(auto, unfolding(crate::specs::Lines::extent_text))]
 fn push_extent(text: &mut String, extent: &Extent) -> Result<(), AllocError>
-    ensures { OnOk result (string_bytes text.new ≡ string_bytes text.old ++ extent_text extent.now) }
+    ensures { OnOk result (Gains text.old text.new (extent_text extent.now)) }
 {
     extent.first.push_to(text)?;
     text.push('+')?;
@@ -180,7 +181,7 @@ fn push_extent(text: &mut String, extent: &Extent) -> Result<(), AllocError>
 /// Appends a line: a name, a space, and a value.
 #[tactic(auto, unfolding(crate::specs::Lines::line))]
 pub fn push_line<S: Show + Drop>(text: &mut String, name: &str, value: S) -> Result<(), AllocError>
-    ensures { OnOk result (string_bytes text.new ≡ string_bytes text.old ++ line name.now (S.shown value)) }
+    ensures { OnOk result (Gains text.old text.new (line name.now (S.shown value))) }
 {
     text.push_str(name)?;
     text.push(' ')?;

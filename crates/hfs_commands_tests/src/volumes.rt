@@ -1,83 +1,11 @@
-//! What is told of volumes that are laid by hand: an empty one, and one with a file in four extents.
+//! What is told of small volumes: an empty one, and one with a file in four extents.
 use crate::devices::FailingWriter;
-use hfs_check::{FormatPlan, format};
 use hfs_commands::{Fault, check_text, list_text, write_fork};
+use hfs_fixtures::{SmallVolume, lay, small_image};
 use hfs_model::Fork;
 use hfs_volume::mount;
 use std::alloc::{AllocError, Global};
 use std::test::Fail;
-
-/// A new volume `D` of 64 blocks, with 2 nodes of extents and 6 of the catalog.
-fn empty_volume(alloc: Global) -> Result<Vec<u8>, Fail> {
-    let plan = FormatPlan {
-        name: Vec::from_slice(alloc, b"D")?,
-        blocks: 64,
-        extents_nodes: 2,
-        catalog_nodes: 6,
-        now: 0,
-    };
-    Ok(format(alloc, plan)?)
-}
-
-/// Writes bytes into a block of an image, where it has them.
-fn lay(image: &mut Vec<u8>, block: u8, at: u16, bytes: &[u8]) {
-    let start = 512 * usize::from(block) + usize::from(at);
-    if start > image.len() || bytes.len() > image.len() - start {
-        return;
-    }
-    let end = start + bytes.len();
-    image[start..end].copy_from_slice(bytes);
-}
-
-/// The record of a file `f` of 2,000 bytes with its key, as the third of the catalog's leaf.
-fn lay_file_record(image: &mut Vec<u8>) {
-    lay(image, 7, 10, &[0, 3]);
-    lay(image, 7, 26, &[0, 1]);
-    lay(image, 7, 146, &[7, 0, 0, 0, 0, 2, 1, b'f']);
-    lay(image, 7, 154, &[2, 0, 0x80, 0]);
-    lay(
-        image,
-        7,
-        174,
-        &[0, 0, 0, 16, 0, 0, 0, 0, 7, 0xd0, 0, 0, 8, 0],
-    );
-    lay(image, 7, 228, &[0, 10, 0, 1, 0, 12, 0, 1, 0, 14, 0, 1]);
-    lay(image, 7, 504, &[1, 0, 0, 146]);
-}
-
-/// The extents tree with one leaf, which has the file's fourth extent.
-fn lay_extents_tree(image: &mut Vec<u8>) {
-    let header = [0, 1, 0, 0, 0, 1, 0, 0, 0, 1, 0, 0, 0, 1, 0, 0, 0, 1];
-    lay(image, 4, 14, &header);
-    lay(image, 4, 40, &[0, 0, 0, 0]);
-    lay(image, 4, 248, &[0xc0]);
-    lay(image, 5, 8, &[0xff, 1, 0, 1]);
-    lay(image, 5, 14, &[7, 0, 0, 0, 0, 16, 0, 3, 0, 16, 0, 1]);
-    lay(image, 5, 508, &[0, 34, 0, 14]);
-}
-
-/// The volume `D` with the file `f`, whose byte k is k mod 251.
-fn volume_with_file(alloc: Global) -> Result<Vec<u8>, Fail> {
-    let mut image = empty_volume(alloc)?;
-    lay(&mut image, 2, 12, &[0, 1]);
-    lay(&mut image, 2, 30, &[0, 0, 0, 17, 0, 46]);
-    lay(&mut image, 2, 84, &[0, 0, 0, 1]);
-    lay(&mut image, 3, 1, &[0x2a, 0x80]);
-    lay(&mut image, 6, 20, &[0, 0, 0, 3]);
-    lay_file_record(&mut image);
-    lay_extents_tree(&mut image);
-    for place in 0..2048u16 {
-        let block = match place / 512 {
-            0 => 14,
-            1 => 16,
-            2 => 18,
-            _ => 20,
-        };
-        let byte = u8::try_from(place % 251).unwrap_or(0);
-        lay(&mut image, block, place % 512, &[byte]);
-    }
-    Ok(image)
-}
 
 const EMPTY: &str = "sound\nfiles 0\nfolders 0\nfree 50\nalternate same\nunowned 0\n";
 
@@ -85,15 +13,15 @@ const WITH_FILE: &str = "sound\nfiles 1\nfolders 0\nfree 46\nalternate same\nuno
 
 #[test]
 fn images_are_checked(rt: HostRuntime) -> Result<(), Fail> {
-    let mut image = empty_volume(rt.alloc())?;
+    let mut image = small_image(rt.alloc(), SmallVolume::New)?;
     let (status, lines) = check_text(rt.alloc(), &image)?;
     assert_eq!(rt; lines.as_str(), EMPTY);
     assert_eq!(rt; status, 0);
-    lay(&mut image, 2, 84, &[0, 0, 0, 1]);
+    lay(&mut image, 2, 84, &[0, 0, 0, 1])?;
     let (status, lines) = check_text(rt.alloc(), &image)?;
     assert_eq!(rt; lines.as_str(), "refused check C10 at 3\n");
     assert_eq!(rt; status, 2);
-    let image = volume_with_file(rt.alloc())?;
+    let image = small_image(rt.alloc(), SmallVolume::OneFile)?;
     let (status, lines) = check_text(rt.alloc(), &image)?;
     assert_eq!(rt; lines.as_str(), WITH_FILE);
     assert_eq!(rt; status, 0);
@@ -120,9 +48,9 @@ fn other_bytes_are_refused(rt: HostRuntime) -> Result<(), Fail> {
 
 #[test]
 fn blocks_that_nobody_owns_are_told(rt: HostRuntime) -> Result<(), Fail> {
-    let mut image = empty_volume(rt.alloc())?;
-    lay(&mut image, 2, 34, &[0, 49]);
-    lay(&mut image, 3, 2, &[0x08]);
+    let mut image = small_image(rt.alloc(), SmallVolume::New)?;
+    lay(&mut image, 2, 34, &[0, 49])?;
+    lay(&mut image, 3, 2, &[0x08])?;
     let (status, lines) = check_text(rt.alloc(), &image)?;
     assert_eq!(rt;
         lines.as_str(),
@@ -134,7 +62,7 @@ fn blocks_that_nobody_owns_are_told(rt: HostRuntime) -> Result<(), Fail> {
 
 #[test]
 fn folders_are_listed(rt: HostRuntime) -> Result<(), Fail> {
-    let Ok(volume) = mount(rt.alloc(), empty_volume(rt.alloc())?) else {
+    let Ok(volume) = mount(rt.alloc(), small_image(rt.alloc(), SmallVolume::New)?) else {
         return Err(Fail::new("a new volume was refused"));
     };
     let (status, lines) = list_text(rt.alloc(), &volume, 2)?;
@@ -143,7 +71,7 @@ fn folders_are_listed(rt: HostRuntime) -> Result<(), Fail> {
     let (status, lines) = list_text(rt.alloc(), &volume, 99)?;
     assert_eq!(rt; lines.as_str(), "code -120\n");
     assert_eq!(rt; status, 3);
-    let Ok(volume) = mount(rt.alloc(), volume_with_file(rt.alloc())?) else {
+    let Ok(volume) = mount(rt.alloc(), small_image(rt.alloc(), SmallVolume::OneFile)?) else {
         return Err(Fail::new("a volume with a file was refused"));
     };
     let (status, lines) = list_text(rt.alloc(), &volume, 2)?;
@@ -166,7 +94,7 @@ fn is_file(bytes: &[u8]) -> bool {
 
 #[test]
 fn forks_are_written(rt: HostRuntime) -> Result<(), Fail> {
-    let Ok(volume) = mount(rt.alloc(), volume_with_file(rt.alloc())?) else {
+    let Ok(volume) = mount(rt.alloc(), small_image(rt.alloc(), SmallVolume::OneFile)?) else {
         return Err(Fail::new("a volume with a file was refused"));
     };
     let mut bytes = Vec::new(rt.alloc());
@@ -193,7 +121,7 @@ fn forks_are_written(rt: HostRuntime) -> Result<(), Fail> {
 
 #[test]
 fn failed_writes_of_forks_are_told(rt: HostRuntime) -> Result<(), Fail> {
-    let Ok(volume) = mount(rt.alloc(), volume_with_file(rt.alloc())?) else {
+    let Ok(volume) = mount(rt.alloc(), small_image(rt.alloc(), SmallVolume::OneFile)?) else {
         return Err(Fail::new("a volume with a file was refused"));
     };
     for left in [0usize, 1, 1999] {

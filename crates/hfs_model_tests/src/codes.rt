@@ -1,15 +1,16 @@
 //! Every code of every call.
 use crate::fixture::{Ask, expect_codes, lay, volume};
 use hfs_fields::Name;
-use hfs_model::{Item, Kind, Store};
+use hfs_model::{Item, Kind};
+use hfs_store::PlainVolume;
 use std::alloc::{AllocError, Global};
 use std::process::Abort;
 use std::test::Fail;
 
 /// A volume with folder `x` (16) and in it file `f` (17) and folder `y` (18); in the root locked file `l` (19), file `a`
 /// (20), empty folder `e` (21).
-fn furnished(rt: &impl Abort, alloc: Global) -> Result<Store, AllocError> {
-    let mut store = volume(alloc)?;
+fn furnished(rt: &impl Abort, alloc: Global) -> Result<PlainVolume, AllocError> {
+    let mut plain = volume(alloc)?;
     let rows = [
         (Ask::DirCreate(2, b"x"), 0),
         (Ask::Create(16, b"f"), 0),
@@ -19,13 +20,13 @@ fn furnished(rt: &impl Abort, alloc: Global) -> Result<Store, AllocError> {
         (Ask::DirCreate(2, b"e"), 0),
         (Ask::Lock(2, b"l"), 0),
     ];
-    expect_codes(rt, alloc, &mut store, 0, &rows)?;
-    Ok(store)
+    expect_codes(rt, alloc, &mut plain, 0, &rows)?;
+    Ok(plain)
 }
 
 #[test]
 fn of_reading_calls(rt: HostRuntime) -> Result<(), Fail> {
-    let mut store = furnished(&rt, rt.alloc())?;
+    let mut plain = furnished(&rt, rt.alloc())?;
     let rows = [
         (Ask::DirInfo(17), -120),
         (Ask::DirInfo(1), -120),
@@ -48,13 +49,13 @@ fn of_reading_calls(rt: HostRuntime) -> Result<(), Fail> {
         (Ask::Read(2, b"a", 0, 1), -39),
         (Ask::Read(2, b"a", 0, 0), 0),
     ];
-    expect_codes(&rt, rt.alloc(), &mut store, 0, &rows)?;
+    expect_codes(&rt, rt.alloc(), &mut plain, 0, &rows)?;
     Ok(())
 }
 
 #[test]
 fn of_new_and_deleted_items(rt: HostRuntime) -> Result<(), Fail> {
-    let mut store = furnished(&rt, rt.alloc())?;
+    let mut plain = furnished(&rt, rt.alloc())?;
     let rows = [
         (Ask::Create(9, b"a:b"), -37),
         (Ask::Create(17, b"a"), -120),
@@ -73,13 +74,13 @@ fn of_new_and_deleted_items(rt: HostRuntime) -> Result<(), Fail> {
         (Ask::Delete(2, b"a"), 0),
         (Ask::Info(2, b"a"), -43),
     ];
-    expect_codes(&rt, rt.alloc(), &mut store, 0, &rows)?;
+    expect_codes(&rt, rt.alloc(), &mut plain, 0, &rows)?;
     Ok(())
 }
 
 #[test]
 fn of_names_and_moves(rt: HostRuntime) -> Result<(), Fail> {
-    let mut store = furnished(&rt, rt.alloc())?;
+    let mut plain = furnished(&rt, rt.alloc())?;
     let rows = [
         (Ask::Rename(9, b"", b"n"), -37),
         (Ask::Rename(9, b"q", b"x:y"), -37),
@@ -103,13 +104,13 @@ fn of_names_and_moves(rt: HostRuntime) -> Result<(), Fail> {
         (Ask::Move(2, b"l", 18), 0),
         (Ask::Move(2, b"b", 21), 0),
     ];
-    expect_codes(&rt, rt.alloc(), &mut store, 0, &rows)?;
+    expect_codes(&rt, rt.alloc(), &mut plain, 0, &rows)?;
     Ok(())
 }
 
 #[test]
 fn of_information_and_locks(rt: HostRuntime) -> Result<(), Fail> {
-    let mut store = furnished(&rt, rt.alloc())?;
+    let mut plain = furnished(&rt, rt.alloc())?;
     let rows = [
         (Ask::SetFInfo(9, b""), -37),
         (Ask::SetFInfo(9, b"a"), -120),
@@ -134,16 +135,16 @@ fn of_information_and_locks(rt: HostRuntime) -> Result<(), Fail> {
         (Ask::Unlock(2, b"l"), 0),
         (Ask::Delete(2, b"l"), 0),
     ];
-    expect_codes(&rt, rt.alloc(), &mut store, 0, &rows)?;
+    expect_codes(&rt, rt.alloc(), &mut plain, 0, &rows)?;
     Ok(())
 }
 
 /// Each change on a volume that is locked by hardware, by software or by both; a lock comes before every other code.
 #[test]
 fn of_locked_volumes(rt: HostRuntime) -> Result<(), Fail> {
-    let mut store = furnished(&rt, rt.alloc())?;
+    let mut plain = furnished(&rt, rt.alloc())?;
     for (hardware, software, code) in [(true, false, -44), (false, true, -46), (true, true, -44)] {
-        store.set_locks(hardware, software);
+        plain.set_locks(hardware, software);
         let rows = [
             (Ask::Create(9, b""), code),
             (Ask::DirCreate(2, b"n"), code),
@@ -156,7 +157,7 @@ fn of_locked_volumes(rt: HostRuntime) -> Result<(), Fail> {
             (Ask::Unlock(2, b"l"), code),
             (Ask::List(2), 0),
         ];
-        expect_codes(&rt, rt.alloc(), &mut store, 0, &rows)?;
+        expect_codes(&rt, rt.alloc(), &mut plain, 0, &rows)?;
     }
     Ok(())
 }
@@ -164,7 +165,7 @@ fn of_locked_volumes(rt: HostRuntime) -> Result<(), Fail> {
 /// No item can be made where the next ID is 4,294,967,295; a move needs no ID.
 #[test]
 fn of_the_last_id(rt: HostRuntime) -> Result<(), Fail> {
-    let mut store = furnished(&rt, rt.alloc())?;
+    let mut plain = furnished(&rt, rt.alloc())?;
     let name = Name::new(b"z").ok_or("name")?;
     let item = Item {
         parent: 2,
@@ -175,14 +176,14 @@ fn of_the_last_id(rt: HostRuntime) -> Result<(), Fail> {
         finder: [0; 32],
         kind: Kind::Folder { kept: [0; 70] },
     };
-    lay(&rt, &mut store, 4294967294, item)?;
-    assert_eq!(rt; store.next_id(), 4294967295);
+    lay(&rt, &mut plain, 4294967294, item)?;
+    assert_eq!(rt; plain.next_id(), 4294967295);
     let rows = [
         (Ask::Create(2, b"Z"), -48),
         (Ask::Create(2, b"n"), -33),
         (Ask::DirCreate(4294967294, b"n"), -33),
         (Ask::Move(2, b"a", 4294967294), 0),
     ];
-    expect_codes(&rt, rt.alloc(), &mut store, 0, &rows)?;
+    expect_codes(&rt, rt.alloc(), &mut plain, 0, &rows)?;
     Ok(())
 }

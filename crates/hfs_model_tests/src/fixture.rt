@@ -1,6 +1,7 @@
 //! Calls with borrowed names, and volumes to make them on.
 use hfs_fields::Name;
-use hfs_model::{Bytes, Call, Content, File, Fork, Info, Item, Kind, Reply, Store, Value};
+use hfs_model::{Bytes, Call, Content, File, Fork, Info, Item, Kind, Reply, Value};
+use hfs_store::PlainVolume;
 use std::alloc::{AllocError, Global};
 use std::process::Abort;
 use std::test::Fail;
@@ -109,21 +110,21 @@ pub fn call_of(alloc: Global, ask: &Ask, now: u32) -> Result<Call, AllocError> {
 pub fn expect_codes(
     rt: &impl Abort,
     alloc: Global,
-    store: &mut Store,
+    plain: &mut PlainVolume,
     now: u32,
     rows: &[(Ask, i16)],
 ) -> Result<(), AllocError> {
     for (row, (ask, code)) in rows.iter().enumerate() {
-        let reply = store.call(&call_of(alloc, ask, now)?)?;
+        let reply = plain.call(&call_of(alloc, ask, now)?)?;
         assert_eq!(rt; reply.code, *code, "row {row}");
     }
     Ok(())
 }
 
 /// A new volume named `D`, made at moment 0.
-pub fn volume(alloc: Global) -> Result<Store, AllocError> {
+pub fn volume(alloc: Global) -> Result<PlainVolume, AllocError> {
     match Name::new(b"D") {
-        Some(name) => Store::new(alloc, name, 0),
+        Some(name) => PlainVolume::new(alloc, name, 0),
         None => Err(AllocError),
     }
 }
@@ -145,26 +146,30 @@ pub fn id_of(reply: &Reply) -> u32 {
 }
 
 /// Makes an empty file at that moment; its ID, 0 where it is refused.
-pub fn create(store: &mut Store, dir: u32, name: &[u8], now: u32) -> Result<u32, AllocError> {
-    let reply = store.create(dir, name, now)?;
+pub fn create(plain: &mut PlainVolume, dir: u32, name: &[u8], now: u32) -> Result<u32, AllocError> {
+    let reply = plain.create(dir, name, now)?;
     Ok(id_of(&reply))
 }
 
 /// What is told of a folder.
-pub fn folder(store: &Store, dir: u32) -> Result<Info, Fail> {
-    let info = info_of(&store.get_dir_info(dir)).ok_or("folder")?;
+pub fn folder(plain: &PlainVolume, dir: u32) -> Result<Info, Fail> {
+    let info = info_of(&plain.get_dir_info(dir)).ok_or("folder")?;
     Ok(info)
 }
 
 /// What is told of an item of the root.
-pub fn root_item(store: &Store, name: &[u8]) -> Result<Info, Fail> {
-    let info = info_of(&store.get_cat_info(2, name)).ok_or("item")?;
+pub fn root_item(plain: &PlainVolume, name: &[u8]) -> Result<Info, Fail> {
+    let info = info_of(&plain.get_cat_info(2, name)).ok_or("item")?;
     Ok(info)
 }
 
 /// Wants the root to have children of these names, in order.
-pub fn expect_children(rt: &impl Abort, store: &Store, names: &[&[u8]]) -> Result<(), AllocError> {
-    let reply = store.list(2)?;
+pub fn expect_children(
+    rt: &impl Abort,
+    plain: &PlainVolume,
+    names: &[&[u8]],
+) -> Result<(), AllocError> {
+    let reply = plain.list(2)?;
     expect_names(rt, &reply, names);
     Ok(())
 }
@@ -208,8 +213,13 @@ pub fn file(alloc: Global, dir: u32, name: &[u8], bytes: &[u8; 2000]) -> Result<
 }
 
 /// Lays an item under that ID.
-pub fn lay(rt: &impl Abort, store: &mut Store, id: u32, item: Item) -> Result<(), AllocError> {
-    assert!(rt; store.next_id() <= id && id < 4294967295);
-    assert!(rt; store.valence(item.parent) < 65535);
-    store.lay(id, item)
+pub fn lay(
+    rt: &impl Abort,
+    plain: &mut PlainVolume,
+    id: u32,
+    item: Item,
+) -> Result<(), AllocError> {
+    assert!(rt; plain.next_id() <= id && id < 4294967295);
+    assert!(rt; plain.valence(item.parent) < 65535);
+    plain.lay(id, item)
 }

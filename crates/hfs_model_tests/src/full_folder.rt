@@ -4,15 +4,16 @@ ghost use Rattle.hfs_model.specs.Children.{valence, entries_of};
 
 use crate::fixture::{Ask, expect_codes, volume};
 use hfs_fields::Name;
-use hfs_model::{Item, Kind, Store};
+use hfs_model::{Item, Kind};
+use hfs_store::PlainVolume;
 use std::alloc::AllocError;
 use std::test::Fail;
 
 /// Lays so many folders in the root, each named by the digits of its ID in base 16, as `@` to `O`.
-fn fill(store: &mut Store, first: u32, count: u32) -> Result<(), AllocError>
-    requires room { valence (entries_of store.old) 2 + count ≤ 65535 }
+fn fill(plain: &mut PlainVolume, first: u32, count: u32) -> Result<(), AllocError>
+    requires room { valence (entries_of plain.old) 2 + count ≤ 65535 }
     requires ids { first + count < 4294967295 }
-    requires free { store.old.next_id ≤ first }
+    requires free { plain.old.next_id ≤ first }
 {
     for k in 0..count {
         let id = first + k;
@@ -23,7 +24,7 @@ fn fill(store: &mut Store, first: u32, count: u32) -> Result<(), AllocError>
         let Some(name) = Name::new(&text) else {
             return Ok(());
         };
-        store.lay(
+        plain.lay(
             id,
             Item {
                 parent: 2,
@@ -41,12 +42,12 @@ fn fill(store: &mut Store, first: u32, count: u32) -> Result<(), AllocError>
 
 #[test]
 fn takes_no_more(rt: HostRuntime) -> Result<(), Fail> {
-    let mut store = volume(rt.alloc())?;
+    let mut plain = volume(rt.alloc())?;
     let before = [(Ask::DirCreate(2, b"x"), 0), (Ask::Create(16, b"f"), 0)];
-    expect_codes(&rt, rt.alloc(), &mut store, 0, &before)?;
-    assert!(rt; store.valence(2) == 1 && store.next_id() == 18);
-    fill(&mut store, 18, 65534)?;
-    assert_eq!(rt; store.valence(2), 65535);
+    expect_codes(&rt, rt.alloc(), &mut plain, 0, &before)?;
+    assert!(rt; plain.valence(2) == 1 && plain.next_id() == 18);
+    fill(&mut plain, 18, 65534)?;
+    assert_eq!(rt; plain.valence(2), 65535);
     let rows = [
         (Ask::Create(2, b"n"), -33),
         (Ask::DirCreate(2, b"n"), -33),
@@ -54,6 +55,6 @@ fn takes_no_more(rt: HostRuntime) -> Result<(), Fail> {
         (Ask::Create(16, b"n"), 0),
         (Ask::Delete(16, b"f"), 0),
     ];
-    expect_codes(&rt, rt.alloc(), &mut store, 0, &rows)?;
+    expect_codes(&rt, rt.alloc(), &mut plain, 0, &rows)?;
     Ok(())
 }

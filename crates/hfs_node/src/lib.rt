@@ -18,6 +18,3 @@ pub use crate::kind::NodeKind;
 pub use crate::node::{BLANK_NODE, Node, fits};
 pub use crate::node_view::{NodeView, view};
 pub use crate::records::Records;
-
-#[cfg(test)]
-mod tests;

@@ -7,8 +7,8 @@ use Rattle.hfs_fields.specs.declared.mdb.Mdb.{Mdb}
 use Rattle.hfs_fields.specs.declared.extent.Extent.{Extent}
 use Rattle.hfs_fields.specs.declared.key.CatKey.{CatKey}
 use Rattle.hfs_btree.specs.Pairs.{Pairs}
-use Rattle.hfs_btree.specs.TwoFaults.{neither, both_none}
-use Rattle.hfs_btree.specs.Scans.{check}
+use Rattle.hfs_scans.specs.TwoFaults.{neither, both_none}
+use Rattle.hfs_scans.specs.Scans.{check}
 use Rattle.hfs_space.specs.Extents.{Overflow}
 use Rattle.hfs_space.specs.Owners.{all_forks}
 use Rattle.hfs_space.specs.Sound.{IsTreeFile, AreForksSound}
@@ -21,12 +21,12 @@ none_behind n (Some i) e = absurd (none-some (n + i) (sym e))
 
 -- ---- the checks
 
-pub tree_files : (mdb : Mdb) (extents : List Extent) (size : ℕ) → (is_tree_file mdb extents size ≡ true) ↔ IsTreeFile mdb extents size
-tree_files mdb extents size = tree_file_decides mdb extents size
+pub no_tree_file_fault : (mdb : Mdb) (extents : List Extent) (size : ℕ) → (is_tree_file mdb extents size ≡ true) ↔ IsTreeFile mdb extents size
+no_tree_file_fault mdb extents size = tree_file_decides mdb extents size
 
-pub fork_faults : (mdb : Mdb) (overflow : Overflow) (catalog : Pairs CatKey) → (fork_fault mdb overflow catalog ≡ None) ↔ AreForksSound mdb overflow catalog
+pub no_fork_fault : (mdb : Mdb) (overflow : Overflow) (catalog : Pairs CatKey) → (fork_fault mdb overflow catalog ≡ None) ↔ AreForksSound mdb overflow catalog
 unfolding fork_fault
-fork_faults mdb overflow catalog =
+no_fork_fault mdb overflow catalog =
     let forks = all_forks mdb catalog in
     let files = check (are_forks_right mdb overflow) _ (forks_decide mdb overflow) catalog in
     let records = check (is_overflow_right mdb overflow forks) _ (overflow_decides mdb overflow forks) overflow in (

@@ -8,17 +8,17 @@ use Rattle.std.proofs.lemmas.Bool.Decides.{Decides-and, Decides-or, Decides-eqb}
 use Rattle.std.proofs.lemmas.List.Sums.{sum_by-cons}
 use Rattle.std.proofs.lemmas.List.FromFn.{length-range_with_len, get_or-range_with_len}
 use Rattle.hfs_fields.specs.declared.mdb.Mdb.{Mdb}
-use Rattle.hfs_btree.specs.Pairs.{Each}
-use Rattle.hfs_btree.specs.Elements.{each-at}
+use Rattle.hfs_scans.specs.Each.{Each}
+use Rattle.hfs_scans.specs.Elements.{each-at}
 use Rattle.hfs_btree.specs.Sound.{IsDistinct}
-use Rattle.hfs_btree.specs.Scans.{check}
+use Rattle.hfs_scans.specs.Scans.{check}
 use Rattle.hfs_space.specs.Bitmap.{is_used, clear_count}
 use Rattle.hfs_space.specs.Owners.{owners, is_block_sound}
 use Rattle.hfs_space.specs.Sound.{IsSpaceSound}
 use Rattle.hfs_space.specs.Faults.{block_fault, free_fault, space_fault}
 use Rattle.hfs_space.specs.Laws.{AreBlocksWithin}
 use Rattle.hfs_space.proofs.Decided.{itself}
-use Rattle.hfs_btree.specs.TwoFaults.{neither, both_none}
+use Rattle.hfs_scans.specs.TwoFaults.{neither, both_none}
 
 -- ---- blocks from one number on
 
@@ -111,9 +111,9 @@ module _ (blocks : ℕ → List ℕ) (mdb : Mdb) (owned : List ℕ) where
         | false ↦ λ e some. absurd (let no : Some mdb.allocation_blocks ≡ None = some in cc)
       ] refl is
 
-  pub space_faults : AreBlocksWithin mdb owned → (space_fault blocks mdb owned ≡ None) ↔ IsSpaceSound blocks mdb owned
+  pub no_space_fault : AreBlocksWithin mdb owned → (space_fault blocks mdb owned ≡ None) ↔ IsSpaceSound blocks mdb owned
   unfolding space_fault
-  space_faults within =
+  no_space_fault within =
       let n = mdb.allocation_blocks in
       let each = check (is_block_sound blocks mdb owned) IsBlockSound block_decides (range_with_len 0 n) in
       let below = λ (b : ℕ) (own : 1 ≤ owners owned b). owned-each (λ o. o < n) owned b within own in (

@@ -7,7 +7,7 @@ use Rattle.std.proofs.lemmas.Bool.{cases_lt}
 use Rattle.hfs_space.specs.Forks.{run_bytes}
 
 module _ {X : Type 0} where
-  drop_past : (s p : ℕ) (xs ys : List X) → p ≡ min s (length xs) → drop s (xs ++ ys) ≡ drop p xs ++ drop (s - p) ys
+  pub drop_past : (s p : ℕ) (xs ys : List X) → p ≡ min s (length xs) → drop s (xs ++ ys) ≡ drop p xs ++ drop (s - p) ys
   drop_past s p xs ys e = ⊎_elim
       (λ within.
       let same : s ≡ p = omega arith in

@@ -8,11 +8,11 @@ use Rattle.std.proofs.lemmas.List.FromFn.{take-map-range_with_len, length-range_
 use Rattle.std.proofs.lemmas.Bool.{cases_lt}
 use Rattle.hfs_fields.specs.declared.extent.Extent.{Extent}
 use Rattle.hfs_fields.specs.declared.mdb.Mdb.{Mdb}
-use Rattle.hfs_btree.specs.declared.run.Run.{Run}
+use Rattle.hfs_blocks.specs.declared.run.Run.{Run}
 use Rattle.std.specs.List.{All}
 use Rattle.std.proofs.lemmas.List.Elements.{All-append}
 use Rattle.std.proofs.lemmas.List.Sums.{sum_by-append, sum_by-cons}
-use Rattle.hfs_btree.specs.Blocks.{run_of, nodes_in, total_of}
+use Rattle.hfs_blocks.specs.Blocks.{run_of, nodes_in, total_of}
 use Rattle.hfs_space.specs.Forks.{blocks_each, run_in}
 use Rattle.hfs_space.specs.TreeFiles.{node_count, tree_nodes}
 use Rattle.hfs_space.proofs.Pieces.{take_past}

@@ -8,7 +8,7 @@ use Rattle.std.proofs.lemmas.List.FromFn.{length-map-range_with_len}
 use Rattle.std.proofs.lemmas.List.Sums.{sum_by-cons}
 use Rattle.hfs_fields.specs.declared.extent.Extent.{Extent}
 use Rattle.hfs_fields.specs.declared.mdb.Mdb.{Mdb}
-use Rattle.hfs_btree.specs.Blocks.{run_of, nodes_in}
+use Rattle.hfs_blocks.specs.Blocks.{run_of, nodes_in}
 use Rattle.hfs_space.specs.Extents.{block_total}
 use Rattle.hfs_space.specs.Forks.{blocks_each, run_in, file_blocks}
 use Rattle.hfs_space.specs.ForkLengths.{byte_total}

@@ -8,7 +8,7 @@ use Rattle.std.proofs.lemmas.List.{drop-drop, map-append}
 use Rattle.std.proofs.lemmas.List.Concat.{flat_map-append}
 use Rattle.hfs_fields.specs.declared.extent.Extent.{Extent}
 use Rattle.hfs_fields.specs.declared.mdb.Mdb.{Mdb}
-use Rattle.hfs_btree.specs.Blocks.{run_of, nodes_in}
+use Rattle.hfs_blocks.specs.Blocks.{run_of, nodes_in}
 use Rattle.hfs_space.specs.Extents.{extent_blocks}
 use Rattle.hfs_space.specs.Forks.{blocks_each, run_in, file_blocks, fork_bytes, joined, read_from}
 

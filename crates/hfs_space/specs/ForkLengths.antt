@@ -9,7 +9,7 @@ use Rattle.std.proofs.lemmas.Bool.{cases_lt}
 use Rattle.std.proofs.Math.Nat.{add-mul, mul-le-mul_right}
 use Rattle.hfs_fields.specs.declared.extent.Extent.{Extent}
 use Rattle.hfs_fields.specs.declared.mdb.Mdb.{Mdb}
-use Rattle.hfs_btree.specs.Blocks.{nodes_in, run_of}
+use Rattle.hfs_blocks.specs.Blocks.{nodes_in, run_of}
 use Rattle.hfs_space.specs.Extents.{IsExtentWithin, AreExtentsWithin, block_total}
 use Rattle.hfs_space.specs.Forks.{HasArea, blocks_each, run_in, file_blocks, joined, run_bytes, extent_bytes, fork_bytes}
 

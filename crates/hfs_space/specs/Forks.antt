@@ -3,8 +3,8 @@ use Rattle.std.specs.Prelude.{ℕ, ◌+◌, ◌*◌, ◌/◌, ◌≤◌, List, t
 use Rattle.std.specs.List.{flat_map, range_with_len}
 use Rattle.hfs_fields.specs.declared.extent.Extent.{Extent}
 use Rattle.hfs_fields.specs.declared.mdb.Mdb.{Mdb}
-use Rattle.hfs_btree.specs.declared.run.Run.{Run}
-use Rattle.hfs_btree.specs.Blocks.{nodes_in}
+use Rattle.hfs_blocks.specs.declared.run.Run.{Run}
+use Rattle.hfs_blocks.specs.Blocks.{nodes_in}
 
 -- how many logical blocks an allocation block has
 abbrev pub blocks_each : Mdb → ℕ

@@ -3,7 +3,8 @@ use Rattle.std.specs.Prelude.{◌≡◌, ℕ, ◌<◌, ◌↔◌, true, List, No
 use Rattle.hfs_fields.specs.declared.mdb.Mdb.{Mdb}
 use Rattle.hfs_fields.specs.declared.extent.Extent.{Extent}
 use Rattle.hfs_fields.specs.declared.key.CatKey.{CatKey}
-use Rattle.hfs_btree.specs.Pairs.{Pairs, Each}
+use Rattle.hfs_btree.specs.Pairs.{Pairs}
+use Rattle.hfs_scans.specs.Each.{Each}
 use Rattle.hfs_space.specs.Extents.{Overflow}
 use Rattle.hfs_space.specs.Owners.{catalog_fork, extents_in, owned_blocks}
 use Rattle.hfs_space.specs.Sound.{IsTreeFile, AreForksSound, IsSpaceSound}
@@ -11,18 +12,18 @@ use Rattle.hfs_space.specs.Faults.{is_tree_file, fork_fault, space_fault}
 
 -- a check finds no fault exactly where its facts hold
 
-abbrev pub TreeFiles : Type 0
-TreeFiles = (mdb : Mdb) (extents : List Extent) (size : ℕ) → (is_tree_file mdb extents size ≡ true) ↔ IsTreeFile mdb extents size
+abbrev pub NoTreeFileFault : Type 0
+NoTreeFileFault = (mdb : Mdb) (extents : List Extent) (size : ℕ) → (is_tree_file mdb extents size ≡ true) ↔ IsTreeFile mdb extents size
 
-abbrev pub ForkFaults : Type 0
-ForkFaults = (mdb : Mdb) (overflow : Overflow) (catalog : Pairs CatKey) → (fork_fault mdb overflow catalog ≡ None) ↔ AreForksSound mdb overflow catalog
+abbrev pub NoForkFault : Type 0
+NoForkFault = (mdb : Mdb) (overflow : Overflow) (catalog : Pairs CatKey) → (fork_fault mdb overflow catalog ≡ None) ↔ AreForksSound mdb overflow catalog
 
 -- the blocks are among the volume's
 abbrev pub AreBlocksWithin : Mdb → List ℕ → Type 0
 AreBlocksWithin mdb owned = Each (λ b. b < mdb.allocation_blocks) owned
 
-abbrev pub SpaceFaults : Type 0
-SpaceFaults =
+abbrev pub NoSpaceFault : Type 0
+NoSpaceFault =
     (blocks : ℕ → List ℕ) (mdb : Mdb) (owned : List ℕ) → AreBlocksWithin mdb owned → (space_fault blocks mdb owned ≡ None) ↔ IsSpaceSound blocks mdb owned
 
 -- where both trees' files and all forks are sound, the blocks that somebody owns are among the volume's

@@ -1,4 +1,3 @@
-pub mod Layers
 pub mod Bitmap
 pub mod Extents
 pub mod Forks
@@ -17,3 +16,4 @@ pub mod ForkLengths
 pub mod FileLengths
 pub mod Runs
 pub mod FileLists
+pub mod Places

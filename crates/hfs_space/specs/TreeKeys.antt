@@ -1,6 +1,7 @@
 -- The extents tree, by its keys.
 use Rattle.std.specs.Prelude.{ℕ, ◌==◌, List}
 use Rattle.hfs_fields.specs.declared.key.ExtKey.{ExtKey}
+use Rattle.hfs_fields.specs.KeyForms.{ext_key_bytes}
 use Rattle.hfs_fields.specs.Keys.{is_ext_leaf, ext_key_of, is_ext_index, ext_child_of, ext_cmp}
 use Rattle.hfs_btree.specs.declared.key.Key.{Ghosts}
 use Rattle.hfs_btree.specs.Header.{tree_content}
@@ -14,6 +15,7 @@ ext_keys = record {
   is_leaf = is_ext_leaf;
   leaf_key = ext_key_of;
   body_start = λ bytes. 8;
+  leaf_head = ext_key_bytes;
   is_index = is_ext_index;
   index_key = ext_key_of;
   child = ext_child_of;

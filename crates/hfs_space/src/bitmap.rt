@@ -1,12 +1,11 @@
 //! The volume bitmap.
 
 ghost use Rattle.std.specs.Prelude.{◌≡◌, ℕ, ◌+◌, ◌<◌, ◌≤◌, ◌^◌, length, OnOk};
-ghost use Rattle.hfs_space.specs.Layers.{changes, over};
+ghost use Rattle.hfs_blocks.specs.Layers.{changes, over};
 ghost use Rattle.hfs_space.specs.Bitmap as spec;
 
 use crate::bits::{clear_bits, clear_in, is_marked};
-use crate::patch::Patch;
-use hfs_btree::Blocks;
+use hfs_blocks::{Blocks, Patch};
 use std::alloc::AllocError;
 
 /// How many bits a block of the bitmap has.

@@ -1,11 +1,13 @@
 //! Reading forks.
 
 ghost use Rattle.std.specs.Prelude.{◌≡◌, ◌+◌, ◌-◌, ◌*◌, ◌<◌, ◌≤◌, ◌++◌, length, OnOk, IfOk, take, drop};
-ghost use Rattle.hfs_btree.specs.Blocks.{run_of};
+ghost use Rattle.hfs_blocks.specs.Blocks.{run_of};
 ghost use Rattle.hfs_space.specs.Extents.{IsExtentWithin, AreExtentsWithin};
 ghost use Rattle.hfs_space.specs.Forks.{HasArea, blocks_each, run_bytes, extent_bytes, fork_bytes, read_from};
+ghost use Rattle.hfs_space.specs.Places.{IsPlace, bytes_behind};
 
-use hfs_btree::{Blocks, Run};
+use crate::fork_place::ForkPlace;
+use hfs_blocks::{Blocks, Run};
 use hfs_fields::{Extent, Mdb};
 use std::alloc::{AllocError, Global};
 
@@ -91,4 +93,44 @@ pub fn read_fork<B: Blocks>(
         rest -= more;
     }
     Ok(bytes)
+}
+
+/// Reads on from a place in the bytes of a fork's extents: the next `count` bytes, or as many as there are, and the place
+/// behind them. Reading a fork piece by piece passes each of its extents once. The only error is want of memory.
+pub fn read_on<B: Blocks>(
+    alloc: Global,
+    blocks: &B,
+    mdb: &Mdb,
+    extents: &[Extent],
+    place: ForkPlace,
+    count: u32,
+) -> Result<(Vec<u8>, ForkPlace), AllocError>
+    requires area { HasArea mdb.now (B.total blocks.now) }
+    requires extents { AreExtentsWithin mdb.now.allocation_blocks extents.now }
+    requires place { IsPlace mdb.now extents.now place }
+    ensures bytes { IfOk result (λ read. read.0.items ≡ take count (bytes_behind (B.blocks blocks.now) mdb.now extents.now place)) }
+    ensures place { IfOk result (λ read. IsPlace mdb.now extents.now read.1) }
+    ensures rest { IfOk result (λ read. bytes_behind (B.blocks blocks.now) mdb.now extents.now read.1
+        ≡ drop count (bytes_behind (B.blocks blocks.now) mdb.now extents.now place)) }
+{
+    let each = u64::from(mdb.allocation_block_size / 512);
+    let mut bytes = Vec::with_capacity(alloc, count as usize)?;
+    let mut rest = u64::from(count);
+    let mut at = place;
+    while at.extent < extents.len() {
+        let extent = extents[at.extent];
+        let size = u64::from(extent.count) * each * 512;
+        let more = rest.min(size - at.passed);
+        read_extent(blocks, mdb, extent, at.passed, more, &mut bytes)?;
+        rest -= more;
+        at.passed += more;
+        if at.passed < size {
+            return Ok((bytes, at));
+        }
+        at = ForkPlace {
+            extent: at.extent + 1,
+            passed: 0,
+        };
+    }
+    Ok((bytes, at))
 }

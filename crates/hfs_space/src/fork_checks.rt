@@ -165,7 +165,7 @@ fn is_record_right(mdb: &Mdb, r: &OverflowRecord, used: bool) -> bool
 }
 
 /// The place of the first wrong record of the extents tree.
-#[tactic(auto, using(hfs_btree::specs::ScanSteps::scan_stop, hfs_btree::specs::ScanSteps::scan_go, hfs_btree::specs::ScanSteps::scan_end))]
+#[tactic(auto, using(hfs_scans::specs::ScanSteps::scan_stop, hfs_scans::specs::ScanSteps::scan_go, hfs_scans::specs::ScanSteps::scan_end))]
 fn overflow_fault(
     alloc: Global,
     mdb: &Mdb,

@@ -6,7 +6,7 @@ ghost use Rattle.hfs_space.specs.Faults as spec;
 
 use crate::bitmap::Bitmap;
 use crate::owners::owner_counts;
-use hfs_btree::Blocks;
+use hfs_blocks::Blocks;
 use hfs_fields::{Extent, Mdb};
 use std::alloc::{AllocError, Global};
 

@@ -1,12 +1,12 @@
 //! Where the nodes of a tree's file lie.
 
 ghost use Rattle.std.specs.Prelude.{◌≡◌, ◌+◌, ◌*◌, ◌<◌, ◌≤◌, IfOk, min, take};
-ghost use Rattle.hfs_btree.specs.Blocks.{run_of, nodes_in, AreRunsWithin};
+ghost use Rattle.hfs_blocks.specs.Blocks.{run_of, nodes_in, AreRunsWithin};
 ghost use Rattle.hfs_space.specs.Extents.{IsExtentWithin, AreExtentsWithin};
 ghost use Rattle.hfs_space.specs.Forks.{HasArea, run_in, blocks_each};
 ghost use Rattle.hfs_space.specs.TreeFiles.{tree_nodes};
 
-use hfs_btree::{Blocks, Run};
+use hfs_blocks::{Blocks, Run};
 use hfs_fields::{Extent, Mdb};
 use std::alloc::{AllocError, Global};
 

@@ -3,7 +3,7 @@ ghost use Rattle.std.specs.Prelude.{◌≡◌};
 ghost use Rattle.hfs_space.specs.TreeKeys.{IsExtentsTree};
 ghost use Rattle.hfs_space_tests.specs.BadBlocksTree.{header_bytes, leaf_bytes};
 
-use crate::laid::mdb_with;
+use crate::bytes::mdb_with;
 use hfs_btree::NodeList;
 use hfs_fields::Extent;
 use hfs_space::{fork_fault, owned_extents};

@@ -1,14 +1,16 @@
 //! The bitmap of the laid volume, and one of three blocks.
 
-use crate::laid::{bytes_by, laid_byte};
-use hfs_btree::{Blocks, ImageBytes};
-use hfs_space::{Bitmap, Patch};
+use crate::bytes::bytes_by;
+use hfs_blocks::{Blocks, ImageBytes, Patch};
+use hfs_fixtures::{SmallVolume, small_image};
+use hfs_space::Bitmap;
 use std::process::Abort;
 use std::test::Fail;
 
 #[test]
 fn laid_volume(rt: HostRuntime) -> Result<(), Fail> {
-    let image = bytes_by(rt.alloc(), 64 * 512, laid_byte)?;
+    let image = small_image(rt.alloc(), SmallVolume::OneFile)?;
+    assert!(rt; image.len() == 64 * 512);
     let blocks = ImageBytes { bytes: &image };
     let bitmap = Bitmap {
         blocks: &blocks,
@@ -33,7 +35,8 @@ fn laid_volume(rt: HostRuntime) -> Result<(), Fail> {
 
 #[test]
 fn released(rt: HostRuntime) -> Result<(), Fail> {
-    let image = bytes_by(rt.alloc(), 64 * 512, laid_byte)?;
+    let image = small_image(rt.alloc(), SmallVolume::OneFile)?;
+    assert!(rt; image.len() == 64 * 512);
     let blocks = ImageBytes { bytes: &image };
     let bitmap = Bitmap {
         blocks: &blocks,

@@ -1,9 +1,10 @@
 //! Reading forks of the laid volume, of one with larger allocation blocks, and of one in seven extents.
 
-use crate::laid::{bytes_by, fork_byte, laid_byte, mdb_with};
-use hfs_btree::{ImageBytes, Run};
+use crate::bytes::{bytes_by, mdb_with};
+use hfs_blocks::{ImageBytes, Run};
 use hfs_fields::Extent;
-use hfs_space::{are_within, read_fork, tree_runs};
+use hfs_fixtures::{SmallVolume, fork_byte, small_image};
+use hfs_space::{ForkPlace, are_within, read_fork, read_on, tree_runs};
 use std::test::Fail;
 
 /// The extents, from pairs of a first block and a count.
@@ -18,7 +19,8 @@ fn extents_of<const N: usize>(pairs: [(u16, u16); N]) -> [Extent; N] {
 
 #[test]
 fn laid_fork(rt: HostRuntime) -> Result<(), Fail> {
-    let image = bytes_by(rt.alloc(), 64 * 512, laid_byte)?;
+    let image = small_image(rt.alloc(), SmallVolume::OneFile)?;
+    assert!(rt; image.len() == 64 * 512);
     let blocks = ImageBytes { bytes: &image };
     let mdb = mdb_with(58, 1, 4);
     assert!(rt;
@@ -52,6 +54,38 @@ fn laid_fork(rt: HostRuntime) -> Result<(), Fail> {
         4_294_967_295,
     )?;
     assert_eq!(rt; far.as_slice(), [242].as_slice());
+    Ok(())
+}
+
+#[test]
+fn laid_fork_piece_by_piece(rt: HostRuntime) -> Result<(), Fail> {
+    let image = small_image(rt.alloc(), SmallVolume::OneFile)?;
+    assert!(rt; image.len() == 64 * 512);
+    let blocks = ImageBytes { bytes: &image };
+    let mdb = mdb_with(58, 1, 4);
+    assert!(rt;
+        mdb.allocation_blocks == 58 && mdb.allocation_block_size == 512 && mdb.allocation_start == 4
+    );
+    let extents = extents_of([(10, 1), (12, 1), (14, 1), (16, 1)]);
+    assert!(rt; are_within(&extents, 58));
+    let start = ForkPlace {
+        extent: 0,
+        passed: 0,
+    };
+    let (first, place) = read_on(rt.alloc(), &blocks, &mdb, &extents, start, 1_530)?;
+    assert_eq!(rt; first.len(), 1_530);
+    for (k, byte) in first.iter().enumerate() {
+        assert_eq!(rt; *byte, fork_byte(k % 4_096));
+    }
+    // The last bytes of the third block and the first of the fourth, and then those that are left in the fourth.
+    let (next, place) = read_on(rt.alloc(), &blocks, &mdb, &extents, place, 10)?;
+    assert_eq!(rt;
+        next.as_slice(),
+        [24, 25, 26, 27, 28, 29, 30, 31, 32, 33].as_slice()
+    );
+    let (last, place) = read_on(rt.alloc(), &blocks, &mdb, &extents, place, 4_294_967_295)?;
+    assert_eq!(rt; last.len(), 508);
+    assert_eq!(rt; place.extent, 4);
     Ok(())
 }
 
@@ -124,7 +158,8 @@ fn extents_past_the_volume(rt: HostRuntime) {
 
 #[test]
 fn tree_files(rt: HostRuntime) -> Result<(), Fail> {
-    let image = bytes_by(rt.alloc(), 64 * 512, laid_byte)?;
+    let image = small_image(rt.alloc(), SmallVolume::OneFile)?;
+    assert!(rt; image.len() == 64 * 512);
     let blocks = ImageBytes { bytes: &image };
     // Allocation block 0 is logical block 4: the extents are blocks 14 and 15, none, and 24 to 27. 1,200 bytes are three
     // nodes, the last of them cut.

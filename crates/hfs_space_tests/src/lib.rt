@@ -6,9 +6,9 @@ mod bad_blocks;
 #[cfg(test)]
 mod bitmaps;
 #[cfg(test)]
-mod forks;
+mod bytes;
 #[cfg(test)]
-mod laid;
+mod forks;
 #[cfg(test)]
 mod overflow;
 #[cfg(test)]

@@ -3,9 +3,11 @@ ghost use Rattle.std.specs.Prelude.{◌≡◌};
 ghost use Rattle.hfs_space.specs.TreeKeys.{IsExtentsTree};
 ghost use Rattle.hfs_space_tests.specs.OverflowTree.{header_bytes, leaf_bytes};
 
-use crate::laid::{bytes_by, laid_byte, mdb_with};
-use hfs_btree::{ImageBytes, NodeList};
+use crate::bytes::mdb_with;
+use hfs_blocks::ImageBytes;
+use hfs_btree::NodeList;
 use hfs_fields::{Extent, FileRecord, ForkRecord};
+use hfs_fixtures::{SmallVolume, small_image};
 use hfs_space::{
     CatalogFile, ForkKind, are_within, fork_extents, fork_fault, owned_extents, read_fork,
 };
@@ -135,7 +137,8 @@ fn a_file_is_read_by_its_record(rt: HostRuntime) -> Result<(), Fail> {
     let tree = NodeList { nodes: &list };
     let data = ForkKind::Data;
     let extents = fork_extents(rt.alloc(), &tree, file.id, data, &file.data.extents)?;
-    let image = bytes_by(rt.alloc(), 64 * 512, laid_byte)?;
+    let image = small_image(rt.alloc(), SmallVolume::OneFile)?;
+    assert!(rt; image.len() == 64 * 512);
     let blocks = ImageBytes { bytes: &image };
     let mdb = mdb_with(58, 1, 4);
     assert!(rt;

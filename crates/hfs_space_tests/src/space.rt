@@ -1,8 +1,9 @@
 //! The check of space, and the count of stray blocks, on the laid volume.
 
-use crate::laid::{bytes_by, laid_byte, mdb_with};
-use hfs_btree::ImageBytes;
+use crate::bytes::mdb_with;
+use hfs_blocks::ImageBytes;
 use hfs_fields::{Extent, Mdb};
+use hfs_fixtures::{SmallVolume, small_image};
 use hfs_space::{is_tree_file, space_fault, stray_count};
 use std::test::Fail;
 
@@ -21,7 +22,8 @@ fn laid_mdb(free_blocks: u16) -> Mdb {
 
 #[test]
 fn sound_space(rt: HostRuntime) -> Result<(), Fail> {
-    let image = bytes_by(rt.alloc(), 64 * 512, laid_byte)?;
+    let image = small_image(rt.alloc(), SmallVolume::OneFile)?;
+    assert!(rt; image.len() == 64 * 512);
     let blocks = ImageBytes { bytes: &image };
     let mdb = laid_mdb(46);
     assert!(rt; mdb.bitmap_start == 3 && mdb.allocation_blocks == 58);
@@ -48,7 +50,8 @@ fn sound_space(rt: HostRuntime) -> Result<(), Fail> {
 
 #[test]
 fn owned_twice(rt: HostRuntime) -> Result<(), Fail> {
-    let image = bytes_by(rt.alloc(), 64 * 512, laid_byte)?;
+    let image = small_image(rt.alloc(), SmallVolume::OneFile)?;
+    assert!(rt; image.len() == 64 * 512);
     let blocks = ImageBytes { bytes: &image };
     let mdb = laid_mdb(46);
     assert!(rt; mdb.bitmap_start == 3 && mdb.allocation_blocks == 58);
@@ -63,7 +66,8 @@ fn owned_twice(rt: HostRuntime) -> Result<(), Fail> {
 
 #[test]
 fn owned_and_not_marked(rt: HostRuntime) -> Result<(), Fail> {
-    let image = bytes_by(rt.alloc(), 64 * 512, laid_byte)?;
+    let image = small_image(rt.alloc(), SmallVolume::OneFile)?;
+    assert!(rt; image.len() == 64 * 512);
     let blocks = ImageBytes { bytes: &image };
     let mdb = laid_mdb(46);
     assert!(rt; mdb.bitmap_start == 3 && mdb.allocation_blocks == 58);
@@ -82,7 +86,8 @@ fn owned_and_not_marked(rt: HostRuntime) -> Result<(), Fail> {
 
 #[test]
 fn wrong_count_of_free_blocks(rt: HostRuntime) -> Result<(), Fail> {
-    let image = bytes_by(rt.alloc(), 64 * 512, laid_byte)?;
+    let image = small_image(rt.alloc(), SmallVolume::OneFile)?;
+    assert!(rt; image.len() == 64 * 512);
     let blocks = ImageBytes { bytes: &image };
     for free_blocks in [45, 47] {
         let mdb = laid_mdb(free_blocks);

@@ -1,11 +1,11 @@
 //! What each word does.
 
 use crate::words::{ForkWords, NewVolume, Words};
-use hfs_check::{FormatPlan, format};
 use hfs_commands::{
     Fault, Status, check_text, code_text, list_text, load_file, refused_text, run_info, write_file,
     write_fork,
 };
+use hfs_format::{FormatPlan, format};
 use hfs_volume::{Volume, mount};
 use std::fs::File;
 use std::io::{Read, Write};

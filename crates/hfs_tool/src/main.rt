@@ -1,12 +1,10 @@
 //! A program that reads, checks and changes HFS volumes.
 #![tactic(auto)]
 
-ghost use Rattle.std.specs.Prelude.{◌≡◌, ◌⊎◌, MatchResult};
+ghost use Rattle.std.specs.Prelude.{◌≡◌, ◌⊎◌};
 ghost use Rattle.hfs_commands.specs.Faults.{status_number, status_of};
 
 mod commands;
-#[cfg(test)]
-mod tests;
 mod words;
 
 use crate::commands::obey;
@@ -23,40 +21,35 @@ fn main(rt: HostRuntime) -> ExitCode {
 /// Reads the words and does what they ask for. Answers the exit status.
 fn answer(rt: &HostRuntime) -> u8 {
     let Ok(arguments) = env::args(rt) else {
-        return print_fault(rt, &Fault::WordsNotText);
+        return refused(rt, &Fault::WordsNotText);
     };
     let Ok(arguments) = arguments.collect::<Vec<String>>(rt.alloc()) else {
-        return print_fault(rt, &Fault::NoMemory);
+        return refused(rt, &Fault::NoMemory);
     };
     match read_words(rt.alloc(), arguments.as_slice()) {
         Ok(words) => match obey(rt, &words) {
             Ok(status) => status,
-            Err(fault) => print_fault(rt, &fault),
+            Err(fault) => refused(rt, &fault),
         },
         Err(error) => match error.kind() {
-            ErrorKind::OutOfMemory => print_fault(rt, &Fault::NoMemory),
-            ErrorKind::DisplayHelp => status_after(rt.print(&error), Status::Done),
-            _ => status_after(rt.print(&error), Status::WordsRefused),
+            ErrorKind::OutOfMemory => refused(rt, &Fault::NoMemory),
+            ErrorKind::DisplayHelp => Status::Done.after(rt.print(&error)),
+            _ => Status::WordsRefused.after(rt.print(&error)),
         },
     }
 }
 
-/// Prints a fault alone on its line, and answers its exit status. After standard output failed nothing more is printed.
-fn print_fault(rt: &HostRuntime, fault: &Fault<'_>) -> u8
+/// Prints a fault, and answers its exit status, or that of a failed device where it was not printed.
+fn refused(rt: &HostRuntime, fault: &Fault<'_>) -> u8
     ensures { (result ≡ status_number (status_of fault.now)) ⊎ (result ≡ 4) }
 {
-    match fault {
-        Fault::OutputFailed => fault.status().number(),
-        _ => status_after(println!(rt; "{fault}"), fault.status()),
-    }
+    fault.status().after(print_fault(rt, fault))
 }
 
-/// The exit status of this status, or of a failed device where the text was not printed.
-fn status_after(printed: io::Result<()>, status: Status) -> u8
-    ensures { MatchResult printed (λ done. result ≡ status_number status) (λ failed. result ≡ 4) }
-{
-    match printed {
-        Ok(()) => status.number(),
-        Err(_) => Status::DeviceFailed.number(),
+/// Prints a fault alone on its line. After standard output failed nothing more is printed.
+fn print_fault(rt: &HostRuntime, fault: &Fault<'_>) -> io::Result<()> {
+    match fault {
+        Fault::OutputFailed => Ok(()),
+        _ => println!(rt; "{fault}"),
     }
 }

@@ -7,7 +7,7 @@ use Rattle.hfs_fields.specs.Names.{is_item_name}
 use Rattle.hfs_fields.specs.Order.{same_name}
 use Rattle.hfs_fields.specs.Records.{is_dir, is_file, is_item, dir_record_of, file_record_of}
 use Rattle.hfs_fields.specs.declared.file_record.FileRecord.{FileRecord}
-use Rattle.hfs_btree.specs.Pairs.{Each}
+use Rattle.hfs_scans.specs.Each.{Each}
 use Rattle.hfs_model.specs.declared.codes.TheConstants.{BAD_NAME, NOT_FOUND, PARAMETER, NOT_A_FOLDER}
 use Rattle.hfs_model.specs.declared.call.Fork.{Fork}
 use Rattle.hfs_model.specs.declared.call.Fork.TheVariants.{DataFork, ResFork}
@@ -25,49 +25,83 @@ use Rattle.hfs_check.specs.Parts.{Blocks, mdb_in, overflow_in, catalog_in}
 use Rattle.hfs_check.specs.Sound.{AreBlocksSound}
 use Rattle.hfs_volume.specs.Told.{is_folder, only_file, file_named, pick}
 use Rattle.hfs_volume.specs.Queries.{AreEntries}
+use Rattle.hfs_model.specs.declared.item.Kind.{Kind}
+use Rattle.hfs_volume.specs.declared.open_fork.Opened.{Opened}
+use Rattle.hfs_volume.specs.declared.open_fork.Opened.TheVariants as opened
 use Rattle.hfs_volume.specs.Mounted.{AreForksIn}
-use Rattle.hfs_btree.specs.Members.{In, each_in, found_in}
+use Rattle.hfs_volume.specs.Opening.{opened_kind, opened_fork}
+use Rattle.hfs_scans.specs.Members.{In, each_in, found_in}
 use Rattle.hfs_volume.proofs.Replies.{folder_same}
+
+-- what is told of a file, or of the reply that refuses it
+abbrev answer_of : {A : Type 0} → (Reply → A) → (FileRecord → A) → Result FileRecord Reply → A
+answer_of refuse tell (Err reply) = refuse reply
+answer_of refuse tell (Ok f) = tell f
 
 -- the reply of a part of a file, or the code that refuses it
 abbrev pub file_reply : (FileRecord → Reply) → Result FileRecord Reply → Reply
-file_reply part (Err reply) = reply
-file_reply part (Ok f) = part f
+file_reply part r = answer_of (λ reply. reply) part r
 
-file_reply-cond : (part : FileRecord → Reply) (b : Bool) (reply : Reply) (rest : Result FileRecord Reply) → file_reply part (cond b (Err reply) rest) ≡ cond b reply (file_reply part rest)
-file_reply-cond part true reply rest = refl
-file_reply-cond part false reply rest = refl
+-- the fork of a file, or the code that refuses it
+abbrev pub file_opened : (FileRecord → List ℕ) → Result FileRecord Reply → Opened
+file_opened bytes r = answer_of opened.Refused (λ f. opened.Fork (bytes f)) r
 
-module _ (contents : Contents) (catalog : Catalog) (es : List Entry) (h : AreEntries contents catalog es) (fork : Fork) (offset count : ℕ) where
-  abbrev part : FileRecord → Reply
-  part f = part_of (pick fork (contents f)) offset count
+answer_of-cond : {A : Type 0} (refuse : Reply → A) (tell : FileRecord → A) (b : Bool) (reply : Reply) (rest : Result FileRecord Reply)
+    → answer_of refuse tell (cond b (Err reply) rest) ≡ cond b (refuse reply) (answer_of refuse tell rest)
+answer_of-cond refuse tell true reply rest = refl
+answer_of-cond refuse tell false reply rest = refl
 
-  abbrev part_at : Option Entry → Reply
-  part_at o = option_map_or (λ (e : Entry). fork_part fork offset count e.1.kind) o (refusal NOT_FOUND)
+module _ (contents : Contents) (catalog : Catalog) (es : List Entry) (h : AreEntries contents catalog es) where
+  -- where it is told of each record what is told of its item, it is told of the file of a name what is told of the child
+  module _ {A : Type 0} (refuse : Reply → A) (tell : FileRecord → A) (of : Kind → A)
+      (kinds : (r : Record) → answer_of refuse tell (only_file (Some r)) ≡ of (item_of contents catalog r).kind) (dir : ℕ) (name : List ℕ) where
+    abbrev told_at : Option Entry → A
+    told_at o = option_map_or (λ (e : Entry). of e.1.kind) o (refuse (refusal NOT_FOUND))
 
-  of_item : (r : Record) → file_reply part (only_file (Some r)) ≡ fork_part fork offset count (item_of contents catalog r).kind
-  unfolding item_of folder_of file_of
-  of_item r = elim (is_dir r.1) as (λ (b : Bool). file_reply part (cond b (Err (refusal NOT_FOUND)) (Ok (file_record_of r.1)))
-      ≡ fork_part fork offset count (cond b (folder_of r.0 (dir_record_of r.1)) (file_of (has_thread catalog (file_record_of r.1).id) (contents (file_record_of r.1)) r.0 (file_record_of r.1))).kind) [
-        | true ↦ refl
-        | false ↦ elim fork as (λ (f : Fork). part_of (pick f (contents (file_record_of r.1))) offset count
-            ≡ fork_part f offset count (file_of (has_thread catalog (file_record_of r.1).id) (contents (file_record_of r.1)) r.0 (file_record_of r.1)).kind) [ DataFork ↦ refl | ResFork ↦ refl ]
-      ]
+    of_found : answer_of refuse tell (only_file (child_named catalog dir name)) ≡ told_at (model.child_named es dir name)
+    of_found = sym (ap told_at (h.named dir name) ∙ elim (child_named catalog dir name) as (λ (o : Option Record). told_at (option_map (entry_of contents catalog) o) ≡ answer_of refuse tell (only_file o)) [
+      | None ↦ refl
+      | Some r ↦ sym (kinds r)
+    ])
 
-  of_found : (dir : ℕ) (name : List ℕ) → file_reply part (only_file (child_named catalog dir name)) ≡ part_at (model.child_named es dir name)
-  of_found dir name = sym (ap part_at (h.named dir name) ∙ elim (child_named catalog dir name) as (λ (o : Option Record). part_at (option_map (entry_of contents catalog) o) ≡ file_reply part (only_file o)) [
-    | None ↦ refl
-    | Some r ↦ sym (of_item r)
-  ])
+    answered : answer_of refuse tell (file_named catalog dir name)
+        ≡ cond (not (is_item_name name)) (refuse (refusal BAD_NAME)) (cond (not (model.is_folder es dir)) (refuse (refusal NOT_A_FOLDER)) (told_at (model.child_named es dir name)))
+    answered =
+        answer_of-cond refuse tell (not (is_item_name name)) (refusal BAD_NAME) _
+        ∙ ap (λ (a : A). cond (not (is_item_name name)) (refuse (refusal BAD_NAME)) a)
+        (answer_of-cond refuse tell (not (is_folder catalog dir)) (refusal NOT_A_FOLDER) (only_file (child_named catalog dir name))
+        ∙ (λ i. cond (not (sym (folder_same contents catalog es h dir) i)) (refuse (refusal NOT_A_FOLDER)) (of_found i)))
 
-  pub forks : (dir : ℕ) (name : List ℕ) → nat_lt 65536 count ≡ false → file_reply part (file_named catalog dir name) ≡ read_fork es dir name fork offset count
-  unfolding read_fork
-  forks dir name few =
-      file_reply-cond part (not (is_item_name name)) (refusal BAD_NAME) _
-      ∙ ap (λ (r : Reply). cond (not (is_item_name name)) (refusal BAD_NAME) r)
-      (file_reply-cond part (not (is_folder catalog dir)) (refusal NOT_A_FOLDER) (only_file (child_named catalog dir name))
-      ∙ (λ i. cond (not (sym (folder_same contents catalog es h dir) i)) (refusal NOT_A_FOLDER) (of_found dir name i)))
-      ∙ sym (ap (λ b. cond b (refusal PARAMETER) (cond (not (is_item_name name)) (refusal BAD_NAME) (cond (not (model.is_folder es dir)) (refusal NOT_A_FOLDER) (part_at (model.child_named es dir name))))) few)
+  module _ (fork : Fork) where
+    part_of_item : (offset count : ℕ) (r : Record) → file_reply (λ f. part_of (pick fork (contents f)) offset count) (only_file (Some r)) ≡ fork_part fork offset count (item_of contents catalog r).kind
+    unfolding item_of folder_of file_of
+    part_of_item offset count r = elim (is_dir r.1) as (λ (b : Bool). file_reply (λ f. part_of (pick fork (contents f)) offset count) (cond b (Err (refusal NOT_FOUND)) (Ok (file_record_of r.1)))
+        ≡ fork_part fork offset count (cond b (folder_of r.0 (dir_record_of r.1)) (file_of (has_thread catalog (file_record_of r.1).id) (contents (file_record_of r.1)) r.0 (file_record_of r.1))).kind) [
+          | true ↦ refl
+          | false ↦ elim fork as (λ (f : Fork). part_of (pick f (contents (file_record_of r.1))) offset count
+              ≡ fork_part f offset count (file_of (has_thread catalog (file_record_of r.1).id) (contents (file_record_of r.1)) r.0 (file_record_of r.1)).kind) [ DataFork ↦ refl | ResFork ↦ refl ]
+        ]
+
+    opened_of_item : (r : Record) → file_opened (λ f. pick fork (contents f)) (only_file (Some r)) ≡ opened_kind fork (item_of contents catalog r).kind
+    unfolding item_of folder_of file_of
+    opened_of_item r = elim (is_dir r.1) as (λ (b : Bool). file_opened (λ f. pick fork (contents f)) (cond b (Err (refusal NOT_FOUND)) (Ok (file_record_of r.1)))
+        ≡ opened_kind fork (cond b (folder_of r.0 (dir_record_of r.1)) (file_of (has_thread catalog (file_record_of r.1).id) (contents (file_record_of r.1)) r.0 (file_record_of r.1))).kind) [
+          | true ↦ refl
+          | false ↦ elim fork as (λ (f : Fork). opened.Fork (pick f (contents (file_record_of r.1)))
+              ≡ opened_kind f (file_of (has_thread catalog (file_record_of r.1).id) (contents (file_record_of r.1)) r.0 (file_record_of r.1)).kind) [ DataFork ↦ refl | ResFork ↦ refl ]
+        ]
+
+    pub forks : (dir : ℕ) (name : List ℕ) (offset count : ℕ) → nat_lt 65536 count ≡ false
+        → file_reply (λ f. part_of (pick fork (contents f)) offset count) (file_named catalog dir name) ≡ read_fork es dir name fork offset count
+    unfolding read_fork
+    forks dir name offset count few =
+        answered (λ reply. reply) (λ f. part_of (pick fork (contents f)) offset count) (fork_part fork offset count) (part_of_item offset count) dir name
+        ∙ sym (ap (λ b. cond b (refusal PARAMETER) (cond (not (is_item_name name)) (refusal BAD_NAME) (cond (not (model.is_folder es dir)) (refusal NOT_A_FOLDER)
+        (option_map_or (λ (e : Entry). fork_part fork offset count e.1.kind) (model.child_named es dir name) (refusal NOT_FOUND))))) few)
+
+    pub opens : (dir : ℕ) (name : List ℕ) → file_opened (λ f. pick fork (contents f)) (file_named catalog dir name) ≡ opened_fork es dir name fork
+    unfolding opened_fork
+    opens dir name = answered opened.Refused (λ f. opened.Fork (pick fork (contents f))) (opened_kind fork) opened_of_item dir name
 
 pub too_many : (es : List Entry) (dir : ℕ) (name : List ℕ) (fork : Fork) (offset count : ℕ) → nat_lt 65536 count ≡ true → read_fork es dir name fork offset count ≡ refusal PARAMETER
 unfolding read_fork

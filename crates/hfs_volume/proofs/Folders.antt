@@ -12,7 +12,7 @@ use Rattle.hfs_catalog.specs.Records.{Record, Catalog, has_id, item_with, has_th
 use Rattle.hfs_catalog.specs.Sound.{IsSoundCatalog}
 use Rattle.hfs_catalog.specs.Lookups.{catalog_item, thread_of}
 use Rattle.hfs_volume.specs.Told.{only_folder, folder_with, is_folder}
-use Rattle.hfs_btree.specs.Members.{In, each_in, found_in}
+use Rattle.hfs_scans.specs.Members.{In, each_in, found_in}
 use Rattle.std.proofs.lemmas.Option.{none-some, same_Some}
 use Rattle.hfs_volume.proofs.Found.{is_some-find, is_some-option_map, none-option_map}
 

@@ -4,8 +4,8 @@ use Rattle.std.proofs.Common.{sym, ap, ◌∙◌, arith, ⊎_elim, append_assoc,
 use Rattle.std.proofs.Math.Seq.{take-add}
 use Rattle.std.proofs.lemmas.Bool.{cases_lt}
 use Rattle.std.proofs.lemmas.List.{drop-drop, take_at, take-append-drop}
-use Rattle.hfs_btree.specs.Blocks.{block_at, block_count, length-block_at}
-use Rattle.hfs_space.specs.Layers.{Changes, over}
+use Rattle.hfs_blocks.specs.Blocks.{block_at, block_count, length-block_at}
+use Rattle.hfs_blocks.specs.Layers.{Changes, over}
 use Rattle.hfs_volume.specs.Laid.{laid_from, laid, laid_over}
 use Rattle.hfs_volume.specs.Image.{AreWithin}
 

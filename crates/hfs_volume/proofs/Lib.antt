@@ -8,5 +8,6 @@ pub mod Told
 pub mod Replies
 pub mod Parts
 pub mod FileForks
-pub mod Opened
-pub mod OpenedForks
+pub mod Seen
+pub mod SeenForks
+pub mod Openings

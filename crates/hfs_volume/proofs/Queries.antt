@@ -8,9 +8,9 @@ use Rattle.hfs_fields.specs.declared.key.CatKey.{CatKey}
 use Rattle.hfs_fields.specs.declared.dir_record.DirRecord.{DirRecord}
 use Rattle.hfs_fields.specs.declared.file_record.FileRecord.{FileRecord}
 use Rattle.hfs_fields.specs.declared.file_record.ForkRecord.{ForkRecord}
-use Rattle.hfs_btree.specs.Pairs.{Each}
-use Rattle.hfs_btree.specs.Elements.{each-mono, each-both}
-use Rattle.hfs_btree.specs.Blocks.{block_at, block_count, length-block_at}
+use Rattle.hfs_scans.specs.Each.{Each}
+use Rattle.hfs_scans.specs.Elements.{each-mono, each-both}
+use Rattle.hfs_blocks.specs.Blocks.{block_at, block_count, length-block_at}
 use Rattle.hfs_model.specs.Volume.{Entry}
 use Rattle.hfs_model.specs.Children.{valence, entries_of}
 use Rattle.hfs_model.specs.Replies.{info_of}

@@ -6,8 +6,8 @@ use Rattle.std.proofs.lemmas.Bool.{and_parts}
 use Rattle.hfs_fields.specs.Names.{is_item_name}
 use Rattle.hfs_fields.specs.Order.{same_name}
 use Rattle.hfs_fields.specs.Records.{is_dir, is_item, dir_record_of, file_record_of}
-use Rattle.hfs_btree.specs.Pairs.{Each}
-use Rattle.hfs_btree.specs.Blocks.{block_at}
+use Rattle.hfs_scans.specs.Each.{Each}
+use Rattle.hfs_blocks.specs.Blocks.{block_at}
 use Rattle.hfs_btree.specs.Tree.{Store}
 use Rattle.hfs_model.specs.declared.codes.TheConstants.{BAD_NAME, NOT_FOUND, PARAMETER, NOT_A_FOLDER}
 use Rattle.hfs_model.specs.declared.reply.Info.{Info}
@@ -26,7 +26,7 @@ use Rattle.hfs_catalog.specs.Tree.{catalog_of}
 use Rattle.hfs_check.specs.Parts.{catalog_nodes, catalog_in}
 use Rattle.hfs_volume.specs.Told.{told, one, only_folder, is_folder, dir_info, cat_info, child_infos, indexed, listed}
 use Rattle.hfs_volume.specs.Queries.{AreEntries}
-use Rattle.hfs_btree.specs.Members.{In, each_in, found_in}
+use Rattle.hfs_scans.specs.Members.{In, each_in, found_in}
 use Rattle.hfs_volume.proofs.Folders.{found_with}
 
 module _ (contents : Contents) (catalog : Catalog) (es : List Entry) (h : AreEntries contents catalog es) where

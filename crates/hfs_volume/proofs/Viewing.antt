@@ -1,7 +1,7 @@
 -- What the fields of an image say of its bytes.
 use Rattle.std.proofs.Common.{◌≡◌, ℕ, ◌/◌, List, length, ap, sym, ◌∙◌}
-use Rattle.hfs_btree.specs.Blocks.{block_at, block_count}
-use Rattle.hfs_space.specs.Layers.{Changes, over}
+use Rattle.hfs_blocks.specs.Blocks.{block_at, block_count}
+use Rattle.hfs_blocks.specs.Layers.{Changes, over}
 use Rattle.hfs_volume.specs.Laid.{laid_over}
 use Rattle.hfs_volume.specs.Image.{AreWithin}
 use Rattle.hfs_volume.proofs.Laid.{AreBlocks-within, block_at-laid_over, length-laid}

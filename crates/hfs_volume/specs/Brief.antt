@@ -1,14 +1,15 @@
 -- What is told of items where nobody asks whether a file has a thread.
-use Rattle.std.specs.Prelude.{false, map}
-use Rattle.hfs_fields.specs.declared.key.CatKey.{CatKey}
+use Rattle.std.specs.Prelude.{ℕ, false, not, if◌then◌else◌, map}
+use Rattle.hfs_model.specs.declared.codes.TheConstants.{NOT_A_FOLDER}
 use Rattle.hfs_model.specs.declared.reply.Info.{Info}
 use Rattle.hfs_model.specs.declared.reply.Value.{Value}
 use Rattle.hfs_model.specs.declared.reply.Value.TheVariants as value
 use Rattle.hfs_model.specs.declared.reply.Reply.{Reply}
-use Rattle.hfs_catalog.specs.declared.item.ItemRecord.{ItemRecord}
-use Rattle.hfs_catalog.specs.declared.item.ItemRecord.TheVariants.{Folder, File}
-use Rattle.hfs_catalog.specs.declared.item.CatalogItem.{CatalogItem}
-use Rattle.hfs_volume.specs.Told.{folder_info, file_info}
+use Rattle.hfs_model.specs.Replies.{refusal, success}
+use Rattle.hfs_catalog.specs.Records.{Catalog}
+use Rattle.hfs_volume.specs.declared.reply.Detail.{Detail}
+use Rattle.hfs_volume.specs.declared.reply.Detail.TheVariants as detail
+use Rattle.hfs_volume.specs.Told.{is_folder, child_infos}
 
 -- the same, as of an item without a thread
 abbrev pub without_id : Info → Info
@@ -41,10 +42,13 @@ value_without_ids (value.Place dir name) = value.Place dir name
 abbrev pub without_ids : Reply → Reply
 without_ids reply = record { code = reply.code; value = value_without_ids reply.value }
 
-abbrev pub body_in_brief : CatKey → ItemRecord → Info
-body_in_brief key (Folder r) = folder_info key r
-body_in_brief key (File r) = file_info false key r
+-- so much of what is told of an item
+abbrev pub in_detail : Detail → Info → Info
+in_detail detail.Full info = info
+in_detail detail.Brief info = without_id info
 
--- what an item's own record tells of it
-abbrev pub item_in_brief : CatalogItem → Info
-item_in_brief item = body_in_brief item.key item.body
+-- so much of what is told of a folder's children
+abbrev pub listed_in : Detail → Catalog → ℕ → Reply
+listed_in detail catalog dir =
+    if not (is_folder catalog dir) then refusal NOT_A_FOLDER
+    else success (value.Many (map (in_detail detail) (child_infos catalog dir)))

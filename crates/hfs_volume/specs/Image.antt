@@ -1,7 +1,7 @@
 -- What contracts see of an image and of a mounted volume.
 use Rattle.std.specs.Prelude.{◌≡◌, ℕ, ◌<◌, ◌≤◌, List, length, Some}
-use Rattle.hfs_btree.specs.Blocks.{block_count}
-use Rattle.hfs_space.specs.Layers.{Numbered, Changes, changes}
+use Rattle.hfs_blocks.specs.Blocks.{block_count}
+use Rattle.hfs_blocks.specs.Layers.{Numbered, Changes, changes}
 use Rattle.hfs_volume.specs.Laid.{laid_over}
 
 -- the bytes as they were opened, and the bytes as they are

@@ -1,7 +1,7 @@
 -- Bytes with blocks laid over them. What follows the last whole block belongs to no block, and stays.
 use Rattle.std.specs.Prelude.{ℕ, zero, suc, List, ◌++◌, drop}
-use Rattle.hfs_btree.specs.Blocks.{block_at, block_count}
-use Rattle.hfs_space.specs.Layers.{Changes, over}
+use Rattle.hfs_blocks.specs.Blocks.{block_at, block_count}
+use Rattle.hfs_blocks.specs.Layers.{Changes, over}
 
 -- c blocks, the first of number n, and then what the bytes have behind as many
 unfoldable pub laid_from : (ℕ → List ℕ) → ℕ → ℕ → List ℕ → List ℕ

@@ -4,3 +4,5 @@ pub mod Told
 pub mod Brief
 pub mod Queries
 pub mod Mounted
+pub mod LeftBytes
+pub mod Opening

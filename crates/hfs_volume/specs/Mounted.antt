@@ -1,19 +1,26 @@
 -- What mounting finds out of a volume, and its calls keep.
 use Rattle.std.specs.Prelude.{◌≡◌, List}
 use Rattle.hfs_fields.specs.declared.file_record.FileRecord.{FileRecord}
+use Rattle.hfs_fields.specs.declared.file_record.ForkRecord.{ForkRecord}
 use Rattle.hfs_fields.specs.declared.mdb.Mdb.{Mdb}
-use Rattle.hfs_btree.specs.declared.run.Run.{Run}
-use Rattle.hfs_btree.specs.Blocks.{block_at, block_count, nodes_in, AreRunsWithin}
-use Rattle.hfs_btree.specs.Pairs.{Each}
+use Rattle.hfs_blocks.specs.declared.run.Run.{Run}
+use Rattle.hfs_blocks.specs.Blocks.{block_at, block_count, nodes_in, AreRunsWithin}
+use Rattle.hfs_scans.specs.Each.{Each}
+use Rattle.hfs_model.specs.declared.call.Fork.{Fork}
+use Rattle.hfs_model.specs.declared.call.Fork.TheVariants.{DataFork, ResFork}
+use Rattle.hfs_space.specs.declared.fork_kind.ForkKind.{ForkKind}
+use Rattle.hfs_space.specs.declared.fork_kind.ForkKind.TheVariants.{Data, Resource}
 use Rattle.hfs_space.specs.Owners.{forks_of_file}
 use Rattle.hfs_space.specs.Sound.{IsForkSound}
 use Rattle.hfs_check.specs.Parts.{Blocks, mdb_in, extents_nodes, overflow_in, catalog_nodes}
 use Rattle.hfs_check.specs.Agree.{Agrees}
+use Rattle.hfs_check.specs.Sound.{IsSound}
 use Rattle.hfs_volume.specs.Image.{ImageValue}
 
--- the current image agrees with the base; this is its master directory block, and in these runs of blocks lie the nodes of
+-- the base is sound, and the current image agrees with it, and so is sound, too; this is its master directory block, and in these runs of blocks lie the nodes of
 -- its extents tree and of its catalog
 pub record IsMounted (image : ImageValue) (mdb : Mdb) (extents catalog : List Run) : Type 0 where
+  pub base : IsSound image.base
   pub agrees : Agrees image.base image.current
   pub directory : mdb ≡ mdb_in (block_at image.current)
   pub extents_within : AreRunsWithin extents (block_count image.current)
@@ -24,3 +31,8 @@ pub record IsMounted (image : ImageValue) (mdb : Mdb) (extents catalog : List Ru
 -- the extents of both forks of a file lie in the volume, and have room for its bytes
 abbrev pub AreForksIn : Blocks → FileRecord → Type 0
 AreForksIn blocks file = Each (IsForkSound (mdb_in blocks) (overflow_in blocks)) (forks_of_file file)
+
+-- what a file's record says of one of its forks
+abbrev pub fork_record : Fork → FileRecord → ForkKind × ForkRecord
+fork_record DataFork file = (Data, file.«data»)
+fork_record ResFork file = (Resource, file.resource)

@@ -2,8 +2,8 @@
 use Rattle.std.specs.Prelude.{◌≡◌, ℕ, IsTrue, List, map}
 use Rattle.std.specs.Option.{option_map}
 use Rattle.hfs_fields.specs.Records.{is_item}
-use Rattle.hfs_btree.specs.Pairs.{Each}
-use Rattle.hfs_btree.specs.Blocks.{block_at}
+use Rattle.hfs_scans.specs.Each.{Each}
+use Rattle.hfs_blocks.specs.Blocks.{block_at}
 use Rattle.hfs_model.specs.Volume.{Entry}
 use Rattle.hfs_model.specs.Children.{entry_at, entries_of}
 use Rattle.hfs_model.specs.Children as model

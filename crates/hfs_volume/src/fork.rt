@@ -8,10 +8,12 @@ ghost use Rattle.hfs_space.specs.Extents as extents;
 ghost use Rattle.hfs_space.specs.Forks.{HasArea, fork_bytes};
 ghost use Rattle.hfs_space.specs.Sound.{IsForkSound};
 ghost use Rattle.hfs_space.specs.TreeKeys.{IsExtentsTree, overflow_of};
+ghost use Rattle.hfs_volume.specs.Mounted.{fork_record};
 
-use hfs_btree::{Blocks, Nodes};
-use hfs_fields::{ForkRecord, Mdb};
-use hfs_model::{Bytes, END_OF_FILE, Reply, Value};
+use hfs_blocks::Blocks;
+use hfs_btree::Nodes;
+use hfs_fields::{FileRecord, ForkRecord, Mdb};
+use hfs_model::{Bytes, END_OF_FILE, Fork, Reply, Value};
 use hfs_space::{ForkKind, fork_extents, read_fork};
 use std::alloc::{AllocError, Global};
 
@@ -53,4 +55,14 @@ pub(crate) fn read_part<B: Blocks, N: Nodes>(
     let extents = fork_extents(alloc, tree, file, kind, &fork.extents)?;
     let bytes = read_fork(alloc, blocks, mdb, &extents, fork.length, offset, count)?;
     Ok(part_reply(bytes, fork.length, offset, count))
+}
+
+/// What a file's record says of one of its forks.
+pub(crate) fn fork_record(file: &FileRecord, fork: Fork) -> (ForkKind, ForkRecord)
+    ensures { result ≡ fork_record fork file.now }
+{
+    match fork {
+        Fork::DataFork => (ForkKind::Data, file.data),
+        Fork::ResFork => (ForkKind::Resource, file.resource),
+    }
 }

@@ -1,13 +1,12 @@
 //! An image: its bytes as they were opened, and the blocks that were changed since.
 
 ghost use Rattle.std.specs.Prelude.{◌≡◌, ◌<◌, ◌≤◌, ◌^◌, length, IfOk, IfErr};
-ghost use Rattle.hfs_btree.specs.Blocks.{block_at, block_count, length-block_at, few-block_count};
-ghost use Rattle.hfs_space.specs.Layers.{changes};
+ghost use Rattle.hfs_blocks.specs.Blocks.{block_at, block_count, length-block_at, few-block_count};
+ghost use Rattle.hfs_blocks.specs.Layers.{changes};
 ghost use Rattle.hfs_volume.specs.Laid.{laid_over};
 
 use crate::base::Base;
-use hfs_btree::Blocks;
-use hfs_space::Patch;
+use hfs_blocks::{Blocks, ImageBytes, Patch};
 use std::alloc::{AllocError, AllocFailed, Global};
 use std::marker::Model;
 
@@ -27,16 +26,6 @@ impl Model for Image {
     ghost view = { λ m. image_of m.base m.changed };
 
     ghost invariant = { λ m. IsImage m.base m.changed };
-}
-
-/// Block `n` of the bytes.
-fn copy_block(bytes: &[u8], n: u32, into: &mut [u8; 512])
-    requires { n < block_count bytes.now }
-    ensures { into.new ≡ block_at bytes.now n }
-{
-    let from = n as usize * 512;
-    let to = from + 512;
-    into.copy_from_slice(&bytes[from..to]);
 }
 
 impl Image {
@@ -74,10 +63,10 @@ impl Image {
         requires { n < block_count self.now.current }
         ensures { into.new ≡ block_at self.now.current n }
     {
-        match self.changed.get(n) {
-            Some(block) => *into = *block,
-            None => copy_block(self.base.bytes(), n, into),
-        }
+        let base = ImageBytes {
+            bytes: self.base.bytes(),
+        };
+        self.changed.over(&base).block(n, into);
     }
 
     /// The blocks as they are now.

@@ -4,14 +4,19 @@
 mod base;
 mod fork;
 mod image;
+mod image_nodes;
 mod laws;
 mod mounting;
+mod open_fork;
 mod reading;
 mod reply;
 mod volume;
 
 pub use base::Base;
+pub use hfs_check::{Alternate, MountFault, Report, report};
+pub use hfs_format::{FormatFault, FormatPlan, format};
 pub use image::{Image, ImageBlocks};
 pub use laws::catalog_answers;
 pub use mounting::{Refused, mount};
+pub use open_fork::{OpenFork, Opened};
 pub use volume::Volume;

@@ -4,10 +4,10 @@ ghost use Rattle.std.specs.Prelude.{◌≡◌, IfOk, map};
 ghost use Rattle.std.specs.Option.{option_map};
 ghost use Rattle.hfs_catalog.specs.Lookups.{catalog_item};
 ghost use Rattle.hfs_catalog.specs.Tree.{catalog_of};
-ghost use Rattle.hfs_volume.specs.Brief.{without_id, without_ids};
-ghost use Rattle.hfs_volume.specs.Told.{IsCatalog, folder_with, dir_info, cat_info, child_infos, indexed, listed, file_named};
+ghost use Rattle.hfs_volume.specs.Brief.{in_detail, listed_in};
+ghost use Rattle.hfs_volume.specs.Told.{IsCatalog, folder_with, dir_info, cat_info, child_infos, indexed, file_named};
 
-use crate::reply::{item_in_brief, item_info, refusal, success};
+use crate::reply::{Detail, item_info, refusal, success};
 use hfs_btree::Nodes;
 use hfs_catalog::{CatalogItem, ItemRecord, by_id, children, lookup, thread};
 use hfs_fields::{FileRecord, Name};
@@ -35,7 +35,7 @@ pub(crate) fn get_dir_info<N: Nodes>(nodes: &N, dir: u32) -> Reply
     ensures { result ≡ dir_info (catalog_of (N.nodes nodes.now)) dir }
 {
     match folder(nodes, dir) {
-        Some(item) => success(Value::One(item_info(nodes, &item))),
+        Some(item) => success(Value::One(item_info(nodes, &item, Detail::Full))),
         None => refusal(NOT_A_FOLDER),
     }
 }
@@ -52,20 +52,25 @@ pub(crate) fn get_cat_info<N: Nodes>(nodes: &N, dir: u32, name: &[u8]) -> Reply
         return refusal(NOT_A_FOLDER);
     }
     match lookup(nodes, dir, &name) {
-        Some(item) => success(Value::One(item_info(nodes, &item))),
+        Some(item) => success(Value::One(item_info(nodes, &item, Detail::Full))),
         None => refusal(NOT_FOUND),
     }
 }
 
 /// What is told of the folder's children, in name order.
-fn infos<N: Nodes>(alloc: Global, nodes: &N, dir: u32) -> Result<Vec<Info>, AllocError>
+fn infos<N: Nodes>(
+    alloc: Global,
+    nodes: &N,
+    dir: u32,
+    detail: Detail,
+) -> Result<Vec<Info>, AllocError>
     requires { IsCatalog (N.nodes nodes.now) }
-    ensures { IfOk result (λ infos. infos.items ≡ child_infos (catalog_of (N.nodes nodes.now)) dir) }
+    ensures { IfOk result (λ infos. infos.items ≡ map (in_detail detail) (child_infos (catalog_of (N.nodes nodes.now)) dir)) }
 {
     let items = children(alloc, nodes, dir)?;
     let mut infos = Vec::with_capacity(alloc, items.len())?;
     for item in &items {
-        infos.push(item_info(nodes, item))?;
+        infos.push(item_info(nodes, item, detail))?;
     }
     Ok(infos)
 }
@@ -91,47 +96,23 @@ pub(crate) fn get_indexed<N: Nodes>(
     if at >= items.len() {
         return Ok(refusal(NOT_FOUND));
     }
-    Ok(success(Value::One(item_info(nodes, &items[at]))))
+    Ok(success(Value::One(item_info(nodes, &items[at], Detail::Full))))
 }
 
 /// What is told of all the folder's children, in name order.
-pub(crate) fn list<N: Nodes>(alloc: Global, nodes: &N, dir: u32) -> Result<Reply, AllocError>
-    requires { IsCatalog (N.nodes nodes.now) }
-    ensures { IfOk result (λ reply. reply ≡ listed (catalog_of (N.nodes nodes.now)) dir) }
-{
-    if folder(nodes, dir).is_none() {
-        return Ok(refusal(NOT_A_FOLDER));
-    }
-    let infos = infos(alloc, nodes, dir)?;
-    Ok(success(Value::Many(Infos::new(infos))))
-}
-
-/// What their own records tell of the folder's children, in name order.
-fn infos_in_brief<N: Nodes>(alloc: Global, nodes: &N, dir: u32) -> Result<Vec<Info>, AllocError>
-    requires { IsCatalog (N.nodes nodes.now) }
-    ensures { IfOk result (λ infos. infos.items ≡ map without_id (child_infos (catalog_of (N.nodes nodes.now)) dir)) }
-{
-    let items = children(alloc, nodes, dir)?;
-    let mut infos = Vec::with_capacity(alloc, items.len())?;
-    for item in &items {
-        infos.push(item_in_brief(item))?;
-    }
-    Ok(infos)
-}
-
-/// What is told of all the folder's children, in name order, with `has_id` false, so that no thread is looked up.
-pub(crate) fn list_in_brief<N: Nodes>(
+pub(crate) fn list<N: Nodes>(
     alloc: Global,
     nodes: &N,
     dir: u32,
+    detail: Detail,
 ) -> Result<Reply, AllocError>
     requires { IsCatalog (N.nodes nodes.now) }
-    ensures { IfOk result (λ reply. reply ≡ without_ids (listed (catalog_of (N.nodes nodes.now)) dir)) }
+    ensures { IfOk result (λ reply. reply ≡ listed_in detail (catalog_of (N.nodes nodes.now)) dir) }
 {
     if folder(nodes, dir).is_none() {
         return Ok(refusal(NOT_A_FOLDER));
     }
-    let infos = infos_in_brief(alloc, nodes, dir)?;
+    let infos = infos(alloc, nodes, dir, detail)?;
     Ok(success(Value::Many(Infos::new(infos))))
 }
 

@@ -3,7 +3,7 @@
 ghost use Rattle.std.specs.Prelude.{◌≡◌, ◌++◌, Some};
 ghost use Rattle.hfs_model.specs.Replies.{refusal, success};
 ghost use Rattle.hfs_catalog.specs.Tree.{catalog_of};
-ghost use Rattle.hfs_volume.specs.Brief.{item_in_brief};
+ghost use Rattle.hfs_volume.specs.Brief.{in_detail};
 ghost use Rattle.hfs_volume.specs.Told.{IsCatalog, folder_info, file_info, item_info};
 
 use hfs_btree::Nodes;
@@ -82,24 +82,25 @@ fn file_info(has_thread: bool, key: CatKey, file: &FileRecord) -> Info
     }
 }
 
-/// What an item's own record tells of it: `has_id` is false, also of a file that has a thread.
-pub(crate) fn item_in_brief(item: &CatalogItem) -> Info
-    ensures { result ≡ item_in_brief item.now }
-{
-    match &item.body {
-        ItemRecord::Folder(folder) => folder_info(item.key, folder),
-        ItemRecord::File(file) => file_info(false, item.key, file),
-    }
+/// How much is told of an item.
+#[derive(Clone, Copy)]
+pub(crate) enum Detail {
+    /// All; for a file its thread is looked up.
+    Full,
+    /// What its own record tells: `has_id` is false, also of a file that has a thread.
+    Brief,
 }
 
-/// What is told of an item of the catalog. A folder's valence and the lengths of a file's forks are those of its record;
-/// for a file its thread is looked up.
-pub(crate) fn item_info<N: Nodes>(nodes: &N, item: &CatalogItem) -> Info
+/// What is told of an item of the catalog. A folder's valence and the lengths of a file's forks are those of its record.
+pub(crate) fn item_info<N: Nodes>(nodes: &N, item: &CatalogItem, detail: Detail) -> Info
     requires { IsCatalog (N.nodes nodes.now) }
-    ensures { result ≡ item_info (catalog_of (N.nodes nodes.now)) item.now }
+    ensures { result ≡ in_detail detail (item_info (catalog_of (N.nodes nodes.now)) item.now) }
 {
     match &item.body {
         ItemRecord::Folder(folder) => folder_info(item.key, folder),
-        ItemRecord::File(file) => file_info(thread(nodes, file.id).is_some(), item.key, file),
+        ItemRecord::File(file) => match detail {
+            Detail::Full => file_info(thread(nodes, file.id).is_some(), item.key, file),
+            Detail::Brief => file_info(false, item.key, file),
+        },
     }
 }

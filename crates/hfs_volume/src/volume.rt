@@ -4,26 +4,32 @@ ghost use Rattle.std.specs.Prelude.{◌≡◌, IsTrue, IfOk};
 ghost use Rattle.hfs_model.specs.Children.{entries_of};
 ghost use Rattle.hfs_model.specs.Reading.{get_dir_info, get_cat_info, get_indexed, list, read_fork, part_of};
 ghost use Rattle.hfs_model.specs.Step.{step, is_reading};
+ghost use Rattle.hfs_catalog.specs.Tree.{catalog_of};
+ghost use Rattle.hfs_check.specs.Parts.{catalog_in, extents_nodes};
+ghost use Rattle.hfs_check.specs.Sound.{IsSound};
 ghost use Rattle.hfs_check.specs.VolumeOf.{contents_in, volume_of};
-ghost use Rattle.hfs_btree.specs.Blocks.{block_at};
+ghost use Rattle.hfs_blocks.specs.Blocks.{block_at};
 ghost use Rattle.hfs_volume.specs.Brief.{without_ids};
-ghost use Rattle.hfs_volume.specs.Told.{pick};
+ghost use Rattle.hfs_volume.specs.Opening.{opened_fork};
+ghost use Rattle.hfs_volume.specs.Queries.{AreEntries};
+ghost use Rattle.hfs_volume.specs.Told.{IsCatalog, pick};
 ghost use Rattle.hfs_volume.specs.Mounted.{IsMounted, AreForksIn};
 
-use crate::fork::read_part;
+use crate::fork::{fork_record, read_part};
 use crate::image::Image;
+use crate::image_nodes::ImageNodes;
 use crate::laws::catalog_answers;
+use crate::open_fork::{OpenFork, Opened};
 use crate::reading;
-use crate::reply::refusal;
-use hfs_btree::{Run, RunNodes};
+use crate::reply::{Detail, refusal};
+use hfs_blocks::Run;
 use hfs_check::trees_are_sound;
 use hfs_fields::{FileRecord, Mdb};
 use hfs_model::{Call, Fork, PARAMETER, Reply, reading_leaves};
-use hfs_space::ForkKind;
 use std::alloc::{AllocError, Global};
 use std::marker::Model;
 
-/// A mounted volume. Contracts see its image as it was mounted, and as it is; the latter is sound, and nothing in it but
+/// A mounted volume. Contracts see its image as it was mounted, and as it is; both are sound, and nothing in the latter but
 /// what calls change differs from the former.
 #[derive(Drop)]
 pub struct Volume {
@@ -80,7 +86,15 @@ impl Volume {
                 offset,
                 count,
             } => self.read_fork(alloc, *dir, name.as_slice(), *fork, *offset, *count),
-            _ => unreachable!(),
+            Call::Create { .. }
+            | Call::DirCreate { .. }
+            | Call::Delete { .. }
+            | Call::Rename { .. }
+            | Call::CatMove { .. }
+            | Call::SetFInfo { .. }
+            | Call::SetCatInfo { .. }
+            | Call::SetFLock { .. }
+            | Call::RstFLock { .. } => unreachable!(),
         }
     }
 
@@ -100,13 +114,7 @@ impl Volume {
     pub fn get_dir_info(&self, dir: u32) -> Reply
         ensures { result ≡ get_dir_info (entries_of (volume_of self.now.current)) dir }
     {
-        catalog_answers();
-        let blocks = self.image.blocks();
-        let catalog = RunNodes {
-            blocks: &blocks,
-            runs: &self.catalog,
-        };
-        reading::get_dir_info(&catalog, dir)
+        reading::get_dir_info(&self.catalog_nodes(), dir)
     }
 
     /// What is told of the folder's item of that name, whatever its case: -37 where the name isn't an item name, -120 where
@@ -114,13 +122,7 @@ impl Volume {
     pub fn get_cat_info(&self, dir: u32, name: &[u8]) -> Reply
         ensures { result ≡ get_cat_info (entries_of (volume_of self.now.current)) dir name.now }
     {
-        catalog_answers();
-        let blocks = self.image.blocks();
-        let catalog = RunNodes {
-            blocks: &blocks,
-            runs: &self.catalog,
-        };
-        reading::get_cat_info(&catalog, dir, name)
+        reading::get_cat_info(&self.catalog_nodes(), dir, name)
     }
 
     /// What is told of the folder's child at that place in name order, counted from 1: -50 where `index` is 0, -120 where
@@ -128,13 +130,7 @@ impl Volume {
     pub fn get_indexed(&self, alloc: Global, dir: u32, index: u32) -> Result<Reply, AllocError>
         ensures { IfOk result (λ reply. reply ≡ get_indexed (entries_of (volume_of self.now.current)) dir index) }
     {
-        catalog_answers();
-        let blocks = self.image.blocks();
-        let catalog = RunNodes {
-            blocks: &blocks,
-            runs: &self.catalog,
-        };
-        reading::get_indexed(alloc, &catalog, dir, index)
+        reading::get_indexed(alloc, &self.catalog_nodes(), dir, index)
     }
 
     /// What is told of all the folder's children, in name order: -120 where `dir` isn't the ID of a folder. The only error
@@ -142,13 +138,7 @@ impl Volume {
     pub fn list(&self, alloc: Global, dir: u32) -> Result<Reply, AllocError>
         ensures { IfOk result (λ reply. reply ≡ list (entries_of (volume_of self.now.current)) dir) }
     {
-        catalog_answers();
-        let blocks = self.image.blocks();
-        let catalog = RunNodes {
-            blocks: &blocks,
-            runs: &self.catalog,
-        };
-        reading::list(alloc, &catalog, dir)
+        reading::list(alloc, &self.catalog_nodes(), dir, Detail::Full)
     }
 
     /// The reply to `list` with `has_id` false in each item: no thread is looked up, which is most of the work of `list`. The
@@ -156,13 +146,7 @@ impl Volume {
     pub fn list_in_brief(&self, alloc: Global, dir: u32) -> Result<Reply, AllocError>
         ensures { IfOk result (λ reply. reply ≡ without_ids (list (entries_of (volume_of self.now.current)) dir)) }
     {
-        catalog_answers();
-        let blocks = self.image.blocks();
-        let catalog = RunNodes {
-            blocks: &blocks,
-            runs: &self.catalog,
-        };
-        reading::list_in_brief(alloc, &catalog, dir)
+        reading::list(alloc, &self.catalog_nodes(), dir, Detail::Brief)
     }
 
     /// Bytes of a file's fork from an offset on, at most 65,536 of them: -50 where `count` is above that, -37, -120 and -43 as
@@ -182,13 +166,7 @@ impl Volume {
         if count > 65536 {
             return Ok(refusal(PARAMETER));
         }
-        catalog_answers();
-        let blocks = self.image.blocks();
-        let catalog = RunNodes {
-            blocks: &blocks,
-            runs: &self.catalog,
-        };
-        match reading::file_named(&catalog, dir, name) {
+        match reading::file_named(&self.catalog_nodes(), dir, name) {
             Ok(file) => self.fork_part(alloc, &file, fork, offset, count),
             Err(reply) => Ok(reply),
         }
@@ -207,17 +185,75 @@ impl Volume {
         ensures { IfOk result (λ reply. reply ≡ part_of (pick fork (contents_in (block_at self.now.current) file.now)) offset count) }
     {
         trees_are_sound();
-        let blocks = self.image.blocks();
-        let tree = RunNodes {
-            blocks: &blocks,
-            runs: &self.extents,
-        };
-        let (kind, record) = match fork {
-            Fork::DataFork => (ForkKind::Data, file.data),
-            Fork::ResFork => (ForkKind::Resource, file.resource),
-        };
+        let (kind, record) = fork_record(file, fork);
         read_part(
-            alloc, &blocks, &self.mdb, &tree, file.id, kind, &record, offset, count,
+            alloc,
+            &self.image.blocks(),
+            &self.mdb,
+            &self.extents_nodes(),
+            file.id,
+            kind,
+            &record,
+            offset,
+            count,
         )
+    }
+
+    /// Opens a file's fork, to be read from its beginning on: -37, -120 and -43 as in [`Volume::read_fork`]. The only error is
+    /// want of memory.
+    pub fn open_fork(
+        &self,
+        alloc: Global,
+        dir: u32,
+        name: &[u8],
+        fork: Fork,
+    ) -> Result<Opened<'_>, AllocError>
+        ensures { IfOk result (λ opened. opened ≡ opened_fork (entries_of (volume_of self.now.current)) dir name.now fork) }
+    {
+        match reading::file_named(&self.catalog_nodes(), dir, name) {
+            Ok(file) => Ok(Opened::Fork(self.open_file(alloc, &file, fork)?)),
+            Err(reply) => Ok(Opened::Refused(reply)),
+        }
+    }
+
+    /// One of a file's forks.
+    fn open_file(
+        &self,
+        alloc: Global,
+        file: &FileRecord,
+        fork: Fork,
+    ) -> Result<OpenFork<'_>, AllocError>
+        requires { AreForksIn (block_at self.now.current) file.now }
+        ensures { IfOk result (λ source. source ≡ pick fork (contents_in (block_at self.now.current) file.now)) }
+    {
+        trees_are_sound();
+        let (kind, record) = fork_record(file, fork);
+        OpenFork::new(
+            alloc,
+            self.image.blocks(),
+            &self.mdb,
+            &self.extents_nodes(),
+            file.id,
+            kind,
+            &record,
+        )
+    }
+
+    /// The nodes of the catalog, whose records answer the queries of the volume.
+    fn catalog_nodes(&self) -> ImageNodes<'_>
+        ensures sound { IsSound self.now.current }
+        ensures catalog { IsCatalog result }
+        ensures content { catalog_of result ≡ catalog_in (block_at self.now.current) }
+        ensures entries { AreEntries (contents_in (block_at self.now.current)) (catalog_of result) (entries_of (volume_of self.now.current)) }
+    {
+        catalog_answers();
+        ImageNodes::new(self.image.blocks(), &self.catalog)
+    }
+
+    /// The nodes of the extents tree.
+    fn extents_nodes(&self) -> ImageNodes<'_>
+        ensures { result ≡ extents_nodes (block_at self.now.current) }
+    {
+        ImageNodes::new(self.image.blocks(), &self.extents)
     }
 }

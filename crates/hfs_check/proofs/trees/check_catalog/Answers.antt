@@ -1,5 +1,5 @@
 use Rattle.std.proofs.Common.{◌∙◌, ap, subst, Option, ℕ}
-use Rattle.hfs_btree.specs.Shape.{shape_fault, has_counts}
+use Rattle.hfs_btree_checks.specs.Shape.{shape_fault, has_counts}
 use Rattle.hfs_catalog.specs.Tree.{cat_keys}
 use Rattle.hfs_check.specs.Faults.{catalog_fault}
 use Rattle.hfs_check.specs.Parts.{catalog_nodes}
@@ -8,7 +8,7 @@ use Rattle.hfs_check.proofs.trees.check_catalog.Goals as goal
 
 pub check_catalog_shape-requires : goal.check_catalog_shape-requires
 check_catalog_shape-requires g c =
-    has-bytes c.tree_files.ensures (g.B.Blocks.blocks c.args.blocks.now) c.args.mdb.now c.args.extents.now c.args.mdb.now.catalog_file_size _
+    has-bytes c.no_tree_file_fault.ensures (g.B.Blocks.blocks c.args.blocks.now) c.args.mdb.now c.args.extents.now c.args.mdb.now.catalog_file_size _
     c.requires.sound.whole_size c.requires.file c.requires.runs.same
 
 pub returns : goal.returns

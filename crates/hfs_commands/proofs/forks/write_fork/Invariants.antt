@@ -1,20 +1,13 @@
--- the bytes before the offset were written, and the reply is that to a read which ends there
-use Rattle.std.proofs.Common.{◌≡◌, ◌≢◌, ℕ, ◌+◌, ◌≤◌, ◌-◌, take}
-use Rattle.std.specs.Prelude.{pos}
-use Rattle.std.specs.Io.KnownBytes.{Appends}
+-- The bytes before some offset were written, those from it on are left, and the reply is that to a read which ends there.
+use Rattle.std.proofs.Common.{length}
 use Rattle.hfs_model.specs.Children.{entries_of}
-use Rattle.hfs_model.specs.Reading.{read_fork}
 use Rattle.hfs_check.specs.VolumeOf.{volume_of}
-use Rattle.hfs_commands.specs.Forks.{fork_named}
+use Rattle.hfs_commands.proofs.Pieces.{IsReadTo}
 use Rattle.hfs_commands.proofs.forks.write_fork.Given as goal
 
-abbrev pub invariant-loop-offset : goal.invariant-loop-offset
-invariant-loop-offset g l = record {
-  within : l.offset ≤ l.len;
-  last : (start : ℕ) × (count : ℕ) × (count ≤ 65536) × (start + count ≡ l.offset) × (l.reply ≡ read_fork (entries_of (volume_of l.volume.current)) l.dir l.name l.fork start count);
-  written : Appends (g.W.Write.contents l.fn.writer) (g.W.Write.contents l.writer) (take l.offset (fork_named (entries_of (volume_of l.volume.current)) l.dir l.name l.fork));
-  unwritten : l.reply.code ≢ pos 0 → l.writer ≡ l.fn.writer;
-}
+abbrev pub invariant-loop-alloc : goal.invariant-loop-alloc
+invariant-loop-alloc g l =
+    IsReadTo (entries_of (volume_of l.volume.current)) l.dir l.name l.fn.fork l.source l.reply (g.W.Write.contents l.fn.writer) (g.W.Write.contents l.writer)
 
-abbrev pub decreases-loop-offset : goal.decreases-loop-offset
-decreases-loop-offset g l = l.len - l.offset
+abbrev pub decreases-loop-alloc : goal.decreases-loop-alloc
+decreases-loop-alloc g l = length l.source

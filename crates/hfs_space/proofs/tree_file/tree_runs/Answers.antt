@@ -2,7 +2,7 @@
 use Rattle.std.proofs.Common.{◌+◌, ◌-◌, ◌++◌, ◌≤◌, take, drop, get_or, sym, ap, subst, ◌∙◌, arith, refl}
 use Rattle.std.specs.List.{All, flat_map}
 use Rattle.hfs_fields.specs.declared.extent.Extent.{Extent}
-use Rattle.hfs_btree.specs.Blocks.{run_of, total_of}
+use Rattle.hfs_blocks.specs.Blocks.{run_of, total_of}
 use Rattle.hfs_space.proofs.TreeRuns.{numbers, numbers-more, runs-more, runs-end, total-more, within-more, runs-nodes}
 use Rattle.hfs_space.proofs.tree_file.tree_runs.Goals as goal
 

@@ -1,7 +1,7 @@
 -- The runs so far, and the first blocks of the extents that are left, are those of the file.
 use Rattle.std.proofs.Common.{◌≡◌, ◌+◌, ◌≤◌, ◌++◌, take, drop}
 use Rattle.std.specs.List.{All, flat_map}
-use Rattle.hfs_btree.specs.Blocks.{run_of, total_of}
+use Rattle.hfs_blocks.specs.Blocks.{run_of, total_of}
 use Rattle.hfs_space.specs.TreeFiles.{node_count}
 use Rattle.hfs_space.proofs.TreeRuns.{numbers}
 use Rattle.hfs_space.proofs.tree_file.tree_runs.Given as goal

@@ -1,5 +1,5 @@
 use Rattle.std.proofs.Common.{◌≡◌, ◌∙◌, sym, rules}
-use Rattle.hfs_btree.specs.Blocks.{total_of}
+use Rattle.hfs_blocks.specs.Blocks.{total_of}
 use Rattle.hfs_btree.proofs.Runs.{length-nodes_in}
 use Rattle.hfs_btree.proofs.run_nodes.RunNodesNodes.count.Goals as goal
 

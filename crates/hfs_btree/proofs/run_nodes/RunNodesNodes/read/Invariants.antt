@@ -1,5 +1,5 @@
 use Rattle.std.proofs.Common.{◌≡◌, ◌<◌, length, get_or, drop, []}
-use Rattle.hfs_btree.specs.Blocks.{nodes_in}
+use Rattle.hfs_blocks.specs.Blocks.{nodes_in}
 use Rattle.hfs_btree.proofs.run_nodes.RunNodesNodes.read.Given as goal
 
 abbrev pub invariant-loop-run : goal.invariant-loop-run

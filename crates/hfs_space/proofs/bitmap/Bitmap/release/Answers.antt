@@ -1,7 +1,7 @@
 -- The bits in one more block are clear.
 use Rattle.std.proofs.Common.{◌+◌, ◌-◌, ◌*◌, ◌∙◌, ap}
 use Rattle.hfs_space.specs.Bitmap.{is_marked}
-use Rattle.hfs_space.specs.Layers.{changes, over, with_block, over-with_change}
+use Rattle.hfs_blocks.specs.Layers.{changes, over, with_block, over-with_change}
 use Rattle.hfs_space.proofs.Releases.{releasing-more}
 use Rattle.hfs_space.proofs.bitmap.Bitmap.release.Goals as goal
 

@@ -1,5 +1,5 @@
 -- The bits in the blocks so far are clear, and everything else is as it was.
-use Rattle.hfs_space.specs.Layers.{changes, over}
+use Rattle.hfs_blocks.specs.Layers.{changes, over}
 use Rattle.hfs_space.proofs.Releases.{IsReleasing}
 use Rattle.hfs_space.proofs.bitmap.Bitmap.release.Given as goal
 

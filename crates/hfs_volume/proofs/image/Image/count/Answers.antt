@@ -1,7 +1,7 @@
 -- The base has as many bytes.
 use Rattle.std.proofs.Common.{◌≡◌, length, ap, ◌∙◌, arith}
-use Rattle.hfs_btree.specs.Blocks.{block_count}
-use Rattle.hfs_space.specs.Layers.{changes}
+use Rattle.hfs_blocks.specs.Blocks.{block_count}
+use Rattle.hfs_blocks.specs.Layers.{changes}
 use Rattle.hfs_volume.proofs.Viewing.{same_count, same_length}
 use Rattle.hfs_volume.proofs.image.Image.count.Goals as goal
 

@@ -1,6 +1,6 @@
 -- No block is changed, so the bytes are the base's.
 use Rattle.std.proofs.Common.{ap, ◌∙◌}
-use Rattle.hfs_space.specs.Layers.{changes}
+use Rattle.hfs_blocks.specs.Layers.{changes}
 use Rattle.hfs_volume.proofs.Laid.{laid_over-nothing}
 use Rattle.hfs_volume.proofs.image.Image.new.Goals as goal
 

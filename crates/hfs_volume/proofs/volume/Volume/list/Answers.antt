@@ -1,18 +1,12 @@
-use Rattle.std.proofs.Common.{◌≡◌, subst}
+use Rattle.std.proofs.Common.{◌≡◌, ◌∙◌, subst}
 use Rattle.std.specs.Prelude.{IfOk}
+use Rattle.hfs_catalog.specs.Tree.{catalog_of}
 use Rattle.hfs_model.specs.declared.reply.Reply.{Reply}
-use Rattle.hfs_model.specs.Reading.{list}
-use Rattle.hfs_volume.specs.Told.{listed}
 use Rattle.hfs_volume.proofs.Replies.{lists}
-use Rattle.hfs_volume.proofs.Opened.{is_catalog, answered}
+use Rattle.hfs_volume.proofs.Told.{listed_in-full}
 use Rattle.hfs_volume.proofs.volume.Volume.list.Goals as goal
-
-pub list-requires : goal.list-requires
-list-requires c =
-    is_catalog _ _ _ _ _ _ _ c.self.view_is c.self.invariant c.blocks-blocks.ensures c.deref.ensures.value c.catalog_answers.ensures.sound
 
 pub returns : goal.returns
 returns c =
-    let same = answered _ _ _ _ _ _ _ c.self.view_is c.self.invariant c.blocks-blocks.ensures c.deref.ensures.value c.catalog_answers.ensures.entries
-    (λ catalog. listed catalog c.args.dir) (λ es. list es c.args.dir) (λ contents catalog es h. lists contents catalog es h c.args.dir) in
-    subst (λ (r : Reply). IfOk c.list.result (λ reply. reply ≡ r)) same c.list.ensures
+    subst (λ (r : Reply). IfOk c.list.result (λ reply. reply ≡ r))
+    (listed_in-full (catalog_of c.catalog_nodes.result) c.args.dir ∙ lists _ _ _ c.catalog_nodes.ensures.entries c.args.dir) c.list.ensures

@@ -1,0 +1,14 @@
+//! Blocks of 512 bytes, runs of them, and patches that are laid over them.
+#![tactic(auto)]
+
+mod blocks;
+mod image;
+mod patch;
+mod patched;
+mod run;
+
+pub use blocks::Blocks;
+pub use image::ImageBytes;
+pub use patch::Patch;
+pub use patched::Patched;
+pub use run::Run;

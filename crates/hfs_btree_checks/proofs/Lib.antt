@@ -1,0 +1,14 @@
+pub mod ShapeMarks
+pub mod ShapeLists
+pub mod ShapeNode
+pub mod ShapeTurn
+pub mod ShapeChain
+pub mod ShapeMaps
+pub mod ShapeWhole
+pub mod KeyRanges
+pub mod Subtrees
+pub mod OrderTurn
+pub mod Rising
+pub mod LeafOrder
+pub mod KeyPasses
+pub mod OrderWhole

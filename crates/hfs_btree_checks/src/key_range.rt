@@ -1,0 +1,76 @@
+//! The least and the greatest of some keys.
+
+ghost use Rattle.std.specs.Prelude.{◌≡◌, ◌++◌, ◌&&◌, if◌then◌else◌};
+ghost use Rattle.std.specs.Ordering.{is_lt};
+ghost use Rattle.hfs_btree.specs.Pairs.{Pairs};
+ghost use Rattle.hfs_btree_checks.specs.Subtree.{is_at_most, is_above, HasRange};
+
+use hfs_btree::Key;
+
+/// The least and the greatest of some keys, which need not stand in their order.
+#[derive(Clone, Copy)]
+pub(crate) struct KeyRange<K> {
+    /// The least of the keys.
+    pub least: K,
+    /// The greatest of them.
+    pub greatest: K,
+}
+
+/// The second key where it is less, and else the first.
+fn lesser<K: Key>(first: K, second: K) -> K
+    ensures { result ≡ if is_lt (K.compare second first) then second else first }
+{
+    if second.compare(&first).is_lt() {
+        second
+    } else {
+        first
+    }
+}
+
+fn greater<K: Key>(first: K, second: K) -> K
+    ensures { result ≡ if is_lt (K.compare first second) then second else first }
+{
+    if first.compare(&second).is_lt() {
+        second
+    } else {
+        first
+    }
+}
+
+/// The range of the keys of two ranges, each None where it has no keys.
+pub(crate) fn joined<K: Key>(
+    first: Option<KeyRange<K>>,
+    second: Option<KeyRange<K>>,
+) -> Option<KeyRange<K>>
+    ensures { (ps qs : Pairs K) → HasRange K.compare first ps → HasRange K.compare second qs → HasRange K.compare result (ps ++ qs) }
+{
+    let Some(one) = first else {
+        return second;
+    };
+    let Some(other) = second else {
+        return Some(one);
+    };
+    Some(KeyRange {
+        least: lesser(one.least, other.least),
+        greatest: greater(one.greatest, other.greatest),
+    })
+}
+
+/// Whether a key is above those of the first range and at most those of the second.
+pub(crate) fn is_between<K: Key>(
+    key: &K,
+    before: Option<KeyRange<K>>,
+    own: Option<KeyRange<K>>,
+) -> bool
+    ensures { result ≡ (is_above K.compare key.now before && is_at_most K.compare key.now own) }
+{
+    let above = match before {
+        Some(range) => range.greatest.compare(key).is_lt(),
+        None => true,
+    };
+    let at_most = match own {
+        Some(range) => !key.compare(&range.least).is_gt(),
+        None => true,
+    };
+    above && at_most
+}

@@ -1,0 +1,48 @@
+//! The check of a tree's header node.
+
+ghost use Rattle.std.specs.Prelude.{◌≡◌, ◌&&◌, true, false, [], MatchOption, slice_index_or};
+ghost use Rattle.hfs_btree.specs.Header.{header_of};
+ghost use Rattle.hfs_btree_checks.specs.Shape.{is_header_value, is_header_record};
+
+use hfs_btree::{Header, Key};
+use hfs_node::{NodeKind, NodeView};
+
+/// Whether a node is a header node with three records, the first of at least 106 bytes.
+fn is_header(node: &NodeView) -> bool
+    ensures { result ≡ is_header_value node.now }
+{
+    match node.kind() {
+        NodeKind::Header => node.len() == 3 && node.record(0).len() >= 106,
+        NodeKind::Index | NodeKind::Map | NodeKind::Leaf => false,
+    }
+}
+
+/// Whether the header record is one of a tree with these keys in a file of `size` bytes.
+#[tactic(auto, unfolding(crate::specs::Shape::is_header_record))]
+fn is_right_header<K: Key>(header: &Header, size: u32) -> bool
+    ensures { result ≡ is_header_record K.Key size header.now }
+{
+    header.node_size == 512
+        && header.key_len == K::INDEX_KEY_LEN
+        && header.nodes >= 1
+        && 512 * u64::from(header.nodes) <= u64::from(size)
+        && header.depth <= 16
+}
+
+/// The header record of a tree with these keys in a file of `size` bytes, whose node 0 this is. None exactly where node 0
+/// or its header record isn't that of such a tree.
+pub(crate) fn checked_header<K: Key>(node: &NodeView, size: u32) -> Option<Header>
+    ensures { MatchOption result
+        (is_header_value node.now && is_header_record K.Key size (header_of (slice_index_or node.now.records 0 [])) ≡ false)
+        (λ header. (is_header_value node.now && is_header_record K.Key size (header_of (slice_index_or node.now.records 0 [])) ≡ true) × (header ≡ header_of (slice_index_or node.now.records 0 []))) }
+{
+    if !is_header(node) {
+        return None;
+    }
+    let header = Header::read(node.record(0));
+    if is_right_header::<K>(&header, size) {
+        Some(header)
+    } else {
+        None
+    }
+}

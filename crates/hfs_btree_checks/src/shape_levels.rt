@@ -1,0 +1,127 @@
+//! The check of a tree's levels.
+
+ghost use Rattle.std.specs.Prelude.{◌≡◌, ℕ, ◌+◌, ◌-◌, ◌^◌, ◌<◌, ◌++◌, ◌∷◌, [], List, None, OnOk, IfOk, IfErr, length, drop, min};
+ghost use Rattle.std.specs.List.{flat_map, sum_by};
+ghost use Rattle.std.specs.Vec.{vec_len};
+ghost use Rattle.hfs_btree.specs.Tree.{records_in, children, Spot, spots, turn, first_of, last_of, last_level};
+ghost use Rattle.hfs_btree_checks.specs.Shape.{turn_fault};
+ghost use Rattle.hfs_btree_checks.specs.ShapeSteps.{is_met, IsFault};
+
+use crate::fault::TreeFault;
+use crate::shape_map::MappedNodes;
+use crate::shape_node::visit_node;
+use hfs_btree::{Key, Nodes};
+use std::alloc::Global;
+
+/// What was found in a level whose nodes are all right.
+#[derive(Drop)]
+struct CheckedLevel {
+    /// The level below it; empty below the leaves.
+    next: Vec<u32>,
+    /// How many records the nodes have, or `usize::MAX` where there are more.
+    records: usize,
+}
+
+/// The node after place i of a level, or 0.
+fn node_after(level: &[u32], i: usize) -> u32
+    requires { i < length level.now }
+    ensures { result ≡ first_of (drop (i + 1) level.now) }
+{
+    if i + 1 < level.len() { level[i + 1] } else { 0 }
+}
+
+/// Checks one level in turn, so many levels above the leaves, and gives the next one.
+fn check_level<K: Key, N: Nodes>(
+    alloc: Global,
+    tree: &MappedNodes<'_, N>,
+    level: &[u32],
+    above: u16,
+    met: &mut Vec<bool>,
+) -> Result<CheckedLevel, TreeFault>
+    requires { vec_len met.old ≡ tree.now.count }
+    ensures fault { IfErr result (λ e. (rest : List Spot) → IsFault (turn_fault K.Key (N.nodes tree.now.nodes.now) (is_met met.old.items) (spots above 0 level.now ++ rest)) e) }
+    ensures right { OnOk result ((rest : List Spot) → turn_fault K.Key (N.nodes tree.now.nodes.now) (is_met met.old.items) (spots above 0 level.now ++ rest) ≡ turn_fault K.Key (N.nodes tree.now.nodes.now) (is_met met.new.items) rest) }
+    ensures next { IfOk result (λ found. 0 < above → found.next.items ≡ flat_map (children K.Key (N.nodes tree.now.nodes.now)) level.now) }
+    ensures records { IfOk result (λ found. found.records ≡ min (sum_by (λ n. length (records_in (N.nodes tree.now.nodes.now) n)) level.now) (2 ^ 64 - 1)) }
+    ensures kept { OnOk result (vec_len met.new ≡ vec_len met.old) }
+{
+    let mut next = Vec::new(alloc);
+    let mut records = 0usize;
+    let mut left = 0;
+    for i in 0..level.len() {
+        let n = level[i];
+        let right = node_after(level, i);
+        let count = visit_node::<K, N>(tree, left, n, right, above, met, &mut next)?;
+        records = records.saturating_add(count);
+        left = n;
+    }
+    Ok(CheckedLevel { next, records })
+}
+
+/// The first node of a level, or 0.
+fn first_node(level: &[u32]) -> u32
+    ensures { result ≡ first_of level.now }
+{
+    if level.is_empty() { 0 } else { level[0] }
+}
+
+/// The last node of a level, or 0.
+fn last_node(level: &[u32]) -> u32
+    ensures { result ≡ last_of level.now }
+{
+    if level.is_empty() {
+        0
+    } else {
+        level[level.len() - 1]
+    }
+}
+
+/// The last level of a tree whose levels are all right.
+#[derive(Clone, Copy)]
+pub(crate) struct Leaves {
+    /// Its first node, 0 where there is none.
+    pub first: u32,
+    /// Its last node, 0 where there is none.
+    pub last: u32,
+    /// How many records its nodes have, or `usize::MAX` where there are more.
+    pub records: usize,
+}
+
+/// Checks so many levels in turn, from the root's on, where `met` has a mark for each node that no level may have.
+pub(crate) fn check_levels<K: Key, N: Nodes>(
+    alloc: Global,
+    tree: &MappedNodes<'_, N>,
+    root: u32,
+    depth: u16,
+    met: &mut Vec<bool>,
+) -> Result<Leaves, TreeFault>
+    requires { vec_len met.old ≡ tree.now.count }
+    ensures fault { IfErr result (IsFault (turn_fault K.Key (N.nodes tree.now.nodes.now) (is_met met.old.items) (turn K.Key (N.nodes tree.now.nodes.now) depth (root ∷ [])))) }
+    ensures right { OnOk result (turn_fault K.Key (N.nodes tree.now.nodes.now) (is_met met.old.items) (turn K.Key (N.nodes tree.now.nodes.now) depth (root ∷ [])) ≡ None) }
+    ensures first { IfOk result (λ found. found.first ≡ first_of (last_level K.Key (N.nodes tree.now.nodes.now) depth (root ∷ []))) }
+    ensures last { IfOk result (λ found. found.last ≡ last_of (last_level K.Key (N.nodes tree.now.nodes.now) depth (root ∷ []))) }
+    ensures records { IfOk result (λ found. found.records ≡ min (sum_by (λ n. length (records_in (N.nodes tree.now.nodes.now) n)) (last_level K.Key (N.nodes tree.now.nodes.now) depth (root ∷ []))) (2 ^ 64 - 1)) }
+{
+    if depth == 0 {
+        return Ok(Leaves {
+            first: 0,
+            last: 0,
+            records: 0,
+        });
+    }
+    let mut level = Vec::new(alloc);
+    level.push(root)?;
+    let mut below = depth;
+    while below > 1 {
+        below -= 1;
+        let found = check_level::<K, N>(alloc, tree, &level, below, met)?;
+        let CheckedLevel { next, records: _ } = found;
+        level = next;
+    }
+    let leaves = check_level::<K, N>(alloc, tree, &level, 0, met)?;
+    Ok(Leaves {
+        first: first_node(&level),
+        last: last_node(&level),
+        records: leaves.records,
+    })
+}

@@ -1,0 +1,110 @@
+//! The check of one node of a tree's levels.
+
+ghost use Rattle.std.specs.Prelude.{◌≡◌, ℕ, ◌+◌, ◌<◌, ◌++◌, ◌&&◌, true, false, not, OnOk, IfOk, IfErr, length, map, slice_set};
+ghost use Rattle.std.specs.List.{list_all};
+ghost use Rattle.std.specs.Vec.{vec_len};
+ghost use Rattle.hfs_btree.specs.Tree.{reads_at, records_in, children};
+ghost use Rattle.hfs_btree_checks.specs.Shape.{is_kind_at, is_node_at, is_right};
+ghost use Rattle.hfs_btree_checks.specs.ShapeSteps.{is_met, IsWrongAt};
+
+use crate::fault::TreeFault;
+use crate::shape_map::MappedNodes;
+use hfs_btree::{Key, Nodes, child_of};
+use hfs_node::{NodeKind, NodeView, view};
+use std::alloc::{AllocError, Global};
+
+/// Whether bytes are a record of a node so many levels above the leaves.
+fn reads<K: Key>(entry: &[u8], above: u16) -> bool
+    ensures { result ≡ reads_at K.Key above entry.now }
+{
+    if above == 0 {
+        K::read_leaf(entry).is_some()
+    } else {
+        K::read_index(entry).is_some()
+    }
+}
+
+fn all_read<K: Key>(node: &NodeView, above: u16) -> bool
+    ensures { result ≡ list_all (reads_at K.Key above) node.now.records }
+{
+    for i in 0..node.len() {
+        let whole = reads::<K>(node.record(i), above);
+        if !whole {
+            return false;
+        }
+    }
+    true
+}
+
+fn is_kind_above(kind: NodeKind, above: u16) -> bool
+    ensures { result ≡ is_kind_at above kind }
+{
+    match kind {
+        NodeKind::Leaf => above == 0,
+        NodeKind::Index => above > 0,
+        NodeKind::Header | NodeKind::Map => false,
+    }
+}
+
+/// Whether a node is what its place asks: between these neighbours, 0 at the ends, so many levels above the leaves.
+#[tactic(auto, unfolding(crate::specs::Shape::is_node_at))]
+fn is_at_place<K: Key>(node: &NodeView, left: u32, n: u32, right: u32, above: u16) -> bool
+    ensures { result ≡ is_node_at K.Key (record { left = left; n = n; right = right; above = above }) node.now }
+{
+    is_kind_above(node.kind(), above)
+        && u32::from(node.height()) == u32::from(above) + 1
+        && !node.is_empty()
+        && node.backward() == left
+        && node.forward() == right
+        && all_read::<K>(node, above)
+}
+
+/// Adds the children that an index node names.
+pub(crate) fn push_children<K: Key>(node: &NodeView, next: &mut Vec<u32>) -> Result<(), AllocError>
+    requires { list_all K.is_index node.now.records ≡ true }
+    ensures { OnOk result (next.new.items ≡ next.old.items ++ map K.child node.now.records) }
+{
+    for i in 0..node.len() {
+        let child = child_of::<K>(node.record(i));
+        next.push(child)?;
+    }
+    Ok(())
+}
+
+/// Checks node `n` of a level at its place, where `met` has a mark for each node that was met before. Where it is right,
+/// it is marked as met, the children that it names, if it stands above the leaves, are added to `next`, and the number
+/// of its records is the answer.
+#[tactic(auto, unfolding(crate::specs::Shape::is_right))]
+pub(crate) fn visit_node<K: Key, N: Nodes>(
+    tree: &MappedNodes<'_, N>,
+    left: u32,
+    n: u32,
+    right: u32,
+    above: u16,
+    met: &mut Vec<bool>,
+    next: &mut Vec<u32>,
+) -> Result<usize, TreeFault>
+    requires { vec_len met.old ≡ tree.now.count }
+    ensures wrong { IfErr result (IsWrongAt (is_right K.Key (N.nodes tree.now.nodes.now) (record { left = left; n = n; right = right; above = above }) && not (is_met met.old.items n)) n) }
+    ensures right { OnOk result (is_right K.Key (N.nodes tree.now.nodes.now) (record { left = left; n = n; right = right; above = above }) && not (is_met met.old.items n) ≡ true) }
+    ensures marked { OnOk result (met.new.items ≡ slice_set met.old.items n true) }
+    ensures below { OnOk result (0 < above → next.new.items ≡ next.old.items ++ children K.Key (N.nodes tree.now.nodes.now) n) }
+    ensures records { IfOk result (λ len. len ≡ length (records_in (N.nodes tree.now.nodes.now) n)) }
+{
+    if n == 0 || n >= tree.count || met[n as usize] || !tree.is_marked(n) {
+        return Err(TreeFault::At(n));
+    }
+    let mut bytes = [0; 512];
+    tree.nodes.read(n, &mut bytes);
+    let Ok(node) = view(&bytes) else {
+        return Err(TreeFault::At(n));
+    };
+    if !is_at_place::<K>(&node, left, n, right, above) {
+        return Err(TreeFault::At(n));
+    }
+    if above > 0 {
+        push_children::<K>(&node, next)?;
+    }
+    met[n as usize] = true;
+    Ok(node.len())
+}

@@ -1,0 +1,5 @@
+use Rattle.hfs_btree_edits.specs.FreeAfter.{free-after, free-same_depth}
+use Rattle.hfs_btree_edits.proofs.laws.insertions_take_few_nodes.Goals as goal
+
+pub returns : goal.returns
+returns g c = λ key body old new h. (free-after g.K.Key old new key body h, free-same_depth g.K.Key old new key body h)

@@ -1,0 +1,22 @@
+//! The first key of a node.
+
+ghost use Rattle.std.specs.Prelude.{◌≡◌, ◌≢◌, ◌<◌, true, [], length, slice_index_or};
+ghost use Rattle.hfs_node.specs.declared.kind.NodeKind.TheVariants.{Leaf};
+
+use hfs_btree::{Key, index_key_of, key_of};
+use hfs_node::{Node, NodeKind};
+
+/// The first key of a leaf or an index node.
+pub fn first_key_of<K: Key>(node: &Node) -> K
+    requires some { 0 < length node.now.records }
+    requires leaf { node.now.kind ≡ Leaf → K.is_leaf (slice_index_or node.now.records 0 []) ≡ true }
+    requires index { node.now.kind ≢ Leaf → K.is_index (slice_index_or node.now.records 0 []) ≡ true }
+    ensures leaf { node.now.kind ≡ Leaf → result ≡ K.leaf_key (slice_index_or node.now.records 0 []) }
+    ensures index { node.now.kind ≢ Leaf → result ≡ K.index_key (slice_index_or node.now.records 0 []) }
+{
+    let entry = node.records.record(0);
+    match node.kind {
+        NodeKind::Leaf => key_of(entry),
+        NodeKind::Index | NodeKind::Header | NodeKind::Map => index_key_of(entry),
+    }
+}

@@ -1,0 +1,23 @@
+//! Edits of B*-trees: their form, nodes that come and go, and a pair replaced.
+#![tactic(auto)]
+
+mod claim;
+mod first_key;
+mod header_store;
+mod laws;
+mod map_bit;
+mod nodes_mut;
+mod patch_nodes;
+mod releasing;
+mod replacing;
+mod stored;
+
+pub use claim::claim_node;
+pub use first_key::first_key_of;
+pub use header_store::put_header;
+pub use laws::{edits_keep_the_rest, insertions_take_few_nodes, new_keys_pass};
+pub use nodes_mut::NodesMut;
+pub use patch_nodes::PatchNodes;
+pub use releasing::release;
+pub use replacing::{place_of, replace};
+pub use stored::{load, store};

@@ -1,0 +1,171 @@
+//! The bit of a node in the node map.
+
+ghost use Rattle.std.specs.Prelude.{◌≡◌, ℕ, ◌*◌, ◌<◌, ◌≤◌, ◌⊎◌, [], true, false, IfOk, OnOk, MatchOption, length, slice_index_or};
+ghost use Rattle.hfs_node.specs.Node.{node_of};
+ghost use Rattle.hfs_btree.specs.Tree.{records_of};
+ghost use Rattle.hfs_btree.specs.Header.{header_in, record_in, bit_of};
+ghost use Rattle.hfs_btree.specs.Sound.{HasMap};
+ghost use Rattle.hfs_btree_edits.specs.MapPlaces.{IsPlaced, HasBitPut};
+
+use crate::nodes_mut::NodesMut;
+use crate::stored::{load, store};
+use hfs_btree::{Nodes, bit_at, forward_in};
+use hfs_node::view;
+use std::alloc::{AllocError, Global};
+
+/// Where a node's bit is.
+#[derive(Clone, Copy)]
+pub(crate) struct MapBit {
+    /// The node that has the part of the map.
+    pub node: u32,
+    /// Which of that node's records the part is.
+    pub entry: usize,
+    /// Which bit of the part, the highest of a byte first.
+    pub bit: usize,
+    /// The number of the node that the bit is for.
+    pub number: u32,
+}
+
+/// The part of the map that a node's record is; none where there is no such record.
+fn part_of(bytes: &[u8; 512], entry: usize) -> &[u8]
+    ensures part { result.now ≡ slice_index_or (records_of (node_of bytes.now)) entry [] }
+    ensures short { length result.now ≤ 494 }
+{
+    let Ok(node) = view(bytes) else {
+        return &[];
+    };
+    if entry < node.len() {
+        node.record(entry)
+    } else {
+        &[]
+    }
+}
+
+/// The first clear bit among the first `count` of these bytes, or of as many as there are.
+fn first_clear(bytes: &[u8], count: usize) -> Option<usize>
+    requires { length bytes.now ≤ 494 }
+    ensures { MatchOption result ((k : ℕ) → k < count → k < 8 * length bytes.now → bit_of bytes.now k ≡ true)
+        (λ i. (i < count) × (i < 8 * length bytes.now) × (bit_of bytes.now i ≡ false)) }
+{
+    for i in 0..count.min(8 * bytes.len()) {
+        if !bit_at(bytes, i) {
+            return Some(i);
+        }
+    }
+    None
+}
+
+/// Where the bit of node `n` is, in a tree of `count` nodes that it is one of.
+pub(crate) fn bit_of_node<N: Nodes>(nodes: &N, count: u32, n: u32) -> Result<MapBit, AllocError>
+    requires some { 0 < length (N.nodes nodes.now) }
+    requires map { HasMap (N.nodes nodes.now) }
+    requires counted { count ≡ (header_in (N.nodes nodes.now)).nodes }
+    ensures place { IfOk result (λ at. IsPlaced (N.nodes nodes.now) at.node at.entry at.bit at.number) }
+    ensures number { IfOk result (λ at. at.number ≡ n) }
+{
+    let mut bytes = [0; 512];
+    let mut node = 0;
+    let mut entry = 2;
+    let mut before = 0;
+    let mut most = count;
+    loop {
+        nodes.read(node, &mut bytes);
+        let bits = 8 * part_of(&bytes, entry).len();
+        if (n as usize) < before + bits {
+            return Ok(MapBit {
+                node,
+                entry,
+                bit: n as usize - before,
+                number: n,
+            });
+        }
+        node = forward_in(&bytes);
+        if node == 0 || most == 0 {
+            return Err(AllocError);
+        }
+        entry = 0;
+        before += bits;
+        most -= 1;
+    }
+}
+
+/// The first clear bit of the node map, in a tree of `count` nodes that has one.
+pub(crate) fn free_bit<N: Nodes>(nodes: &N, count: u32) -> Result<MapBit, AllocError>
+    requires some { 0 < length (N.nodes nodes.now) }
+    requires map { HasMap (N.nodes nodes.now) }
+    requires counted { count ≡ (header_in (N.nodes nodes.now)).nodes }
+    ensures place { IfOk result (λ at. IsPlaced (N.nodes nodes.now) at.node at.entry at.bit at.number) }
+    ensures within { IfOk result (λ at. at.number < count) }
+    ensures clear { IfOk result (λ at. bit_of (record_in (N.nodes nodes.now) at.node at.entry) at.bit ≡ false) }
+{
+    let mut bytes = [0; 512];
+    let mut node = 0;
+    let mut entry = 2;
+    let mut before = 0;
+    let mut most = count;
+    loop {
+        if before >= count as usize {
+            return Err(AllocError);
+        }
+        nodes.read(node, &mut bytes);
+        let part = part_of(&bytes, entry);
+        if let Some(bit) = first_clear(part, count as usize - before) {
+            return Ok(MapBit {
+                node,
+                entry,
+                bit,
+                number: (before + bit) as u32,
+            });
+        }
+        before += 8 * part.len();
+        node = forward_in(&bytes);
+        if node == 0 || most == 0 {
+            return Err(AllocError);
+        }
+        entry = 0;
+        most -= 1;
+    }
+}
+
+/// Writes bit `i`, the highest of a byte first.
+fn write_in(bytes: &mut [u8], i: usize, value: bool)
+    requires { i < 8 * length bytes.old }
+    ensures here { bit_of bytes.new i ≡ value }
+    ensures others { (k : ℕ) → (k < i) ⊎ (i < k) → bit_of bytes.new k ≡ bit_of bytes.old k }
+    ensures length { length bytes.new ≡ length bytes.old }
+{
+    if value {
+        bytes[i / 8] |= 1 << (7 - i % 8);
+    } else {
+        bytes[i / 8] &= !(1 << (7 - i % 8));
+    }
+}
+
+/// A copy of these bytes with bit `i`, the highest of a byte first, as it is given.
+fn rewritten(alloc: Global, old: &[u8], i: usize, value: bool) -> Result<Vec<u8>, AllocError>
+    requires { i < 8 * length old.now }
+    ensures here { IfOk result (λ made. bit_of made.items i ≡ value) }
+    ensures others { IfOk result (λ made. (k : ℕ) → (k < i) ⊎ (i < k) → bit_of made.items k ≡ bit_of old.now k) }
+    ensures length { IfOk result (λ made. length made.items ≡ length old.now) }
+{
+    let mut bytes = Vec::from_slice(alloc, old)?;
+    write_in(bytes.as_mut_slice(), i, value);
+    Ok(bytes)
+}
+
+/// Writes a bit of the node map.
+pub(crate) fn put_bit<S: NodesMut>(
+    alloc: Global,
+    nodes: &mut S,
+    at: MapBit,
+    value: bool,
+) -> Result<(), AllocError>
+    requires { at.bit < 8 * length (record_in (S.nodes nodes.old) at.node at.entry) }
+    ensures put { OnOk result (HasBitPut at.node at.entry at.bit value (S.nodes nodes.old) (S.nodes nodes.new)) }
+    ensures kept { OnOk result (S.kept nodes.new ≡ S.kept nodes.old) }
+{
+    let mut node = load(alloc, nodes, at.node)?;
+    let part = rewritten(alloc, node.records.record(at.entry), at.bit, value)?;
+    let _old = node.records.replace(at.entry, part);
+    store(nodes, at.node, &node)
+}

@@ -1,0 +1,28 @@
+//! A node that belongs to no level any more, and is given back.
+
+ghost use Rattle.std.specs.Prelude.{◌≡◌, ◌<◌, OnOk, length};
+ghost use Rattle.hfs_btree_edits.specs.Stored.{IsReleased};
+ghost use Rattle.hfs_btree.specs.Sound.{IsSound, IsStray};
+
+use crate::header_store::put_header;
+use crate::map_bit::{bit_of_node, put_bit};
+use crate::nodes_mut::NodesMut;
+use hfs_btree::{Key, read_header};
+use hfs_node::BLANK_NODE;
+use std::alloc::{AllocError, Global};
+
+/// Gives a stray node back: it is blank and free afterwards, and the tree is the same.
+pub fn release<K: Key, S: NodesMut>(alloc: Global, nodes: &mut S, n: u32) -> Result<(), AllocError>
+    requires sound { IsSound K.Key (S.nodes nodes.old) }
+    requires stray { IsStray K.Key (S.nodes nodes.old) n }
+    requires within { n < length (S.nodes nodes.old) }
+    ensures released { OnOk result (IsReleased K.Key n (S.nodes nodes.old) (S.nodes nodes.new)) }
+    ensures kept { OnOk result (S.kept nodes.new ≡ S.kept nodes.old) }
+{
+    let mut header = read_header(nodes);
+    let bit = bit_of_node(nodes, header.nodes, n)?;
+    put_bit(alloc, nodes, bit, false)?;
+    header.free_nodes += 1;
+    put_header(alloc, nodes, &header)?;
+    nodes.write(n, &BLANK_NODE)
+}

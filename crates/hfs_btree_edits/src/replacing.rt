@@ -1,0 +1,75 @@
+//! Putting a pair in the place of another one.
+
+ghost use Rattle.std.specs.Prelude.{◌≡◌, ◌<◌, true, [], Ok, Some, OnOk, IfOk, IsTrue, length, map, drop, slice_index_or};
+ghost use Rattle.std.specs.declared.cmp.Ordering.TheVariants.{Equal};
+ghost use Rattle.hfs_node.specs.Node.{node_of, Fits};
+ghost use Rattle.hfs_scans.specs.Each.{Each};
+ghost use Rattle.hfs_btree.specs.Pairs.{lookup};
+ghost use Rattle.hfs_btree.specs.Tree.{records_of, pair_of};
+ghost use Rattle.hfs_btree.specs.Header.{tree_content};
+ghost use Rattle.hfs_btree.specs.Sound.{IsSound};
+ghost use Rattle.hfs_btree_edits.specs.Edits.{HasReplaced};
+ghost use Rattle.hfs_btree_edits.specs.Conditions.{IsNoLonger, IsThere};
+
+use crate::nodes_mut::NodesMut;
+use crate::stored::store;
+use hfs_btree::{Key, descend, read_header};
+use hfs_node::{Node, view};
+use std::alloc::{AllocError, Global};
+
+/// The place of the record with this key, in a leaf that has one.
+pub fn place_of<K: Key>(bytes: &[u8; 512], key: &K) -> usize
+    requires leaf { Each (λ entry. K.is_leaf entry ≡ true) (records_of (node_of bytes.now)) }
+    requires there { IsThere (lookup K.compare key.now (map (pair_of K.Key) (records_of (node_of bytes.now)))) }
+    ensures within { result < length (records_of (node_of bytes.now)) }
+    ensures equal { K.compare key.now (K.leaf_key (slice_index_or (records_of (node_of bytes.now)) result [])) ≡ Equal }
+    ensures body { let entry = slice_index_or (records_of (node_of bytes.now)) result [] in lookup K.compare key.now (map (pair_of K.Key) (records_of (node_of bytes.now))) ≡ Some (drop (K.body_start entry) entry) }
+{
+    let Ok(node) = view(bytes) else {
+        unreachable!();
+    };
+    for i in 0..node.len() {
+        let order = key.compare_leaf(node.record(i));
+        if order.is_eq() {
+            return i;
+        }
+    }
+    unreachable!()
+}
+
+/// A copy of a node that has a record.
+pub(crate) fn copied(alloc: Global, bytes: &[u8; 512]) -> Result<Node, AllocError>
+    requires { 0 < length (records_of (node_of bytes.now)) }
+    ensures node { IfOk result (λ node. node_of bytes.now ≡ Ok node) }
+    ensures fits { IfOk result Fits }
+{
+    match view(bytes) {
+        Ok(node) => node.to_node(alloc),
+        Err(_) => unreachable!(),
+    }
+}
+
+/// Puts the pair in the place of the one whose key is equal to this one in the order. The key is spelled as it is given.
+///
+/// It reads the header node and one node of each level, and writes one leaf. At `AllocError` nothing is said of the nodes.
+pub fn replace<K: Key, N: NodesMut>(
+    alloc: Global,
+    nodes: &mut N,
+    key: &K,
+    body: &[u8],
+) -> Result<(), AllocError>
+    requires sound { IsSound K.Key (N.nodes nodes.old) }
+    requires allowed { IsTrue (K.is_body_len (length body.now)) }
+    requires there { IsNoLonger body.now (lookup K.compare key.now (tree_content K.Key (N.nodes nodes.old))) }
+    ensures replaced { OnOk result (HasReplaced K.Key key.now body.now (N.nodes nodes.old) (N.nodes nodes.new)) }
+    ensures kept { OnOk result (N.kept nodes.new ≡ N.kept nodes.old) }
+{
+    let header = read_header(nodes);
+    let mut bytes = [0; 512];
+    let n = descend(nodes, &header, key, &mut bytes);
+    let place = place_of(&bytes, key);
+    let mut leaf = copied(alloc, &bytes)?;
+    let made = key.leaf_record(alloc, body)?;
+    let _old = leaf.records.replace(place, made);
+    store(nodes, n, &leaf)
+}

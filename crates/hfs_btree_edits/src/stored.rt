@@ -1,0 +1,37 @@
+//! Nodes that are read into memory and written back.
+
+ghost use Rattle.std.specs.Prelude.{◌≡◌, ◌<◌, Ok, IfOk, OnOk, length};
+ghost use Rattle.hfs_node.specs.Node.{Fits};
+ghost use Rattle.hfs_btree.specs.Tree.{node_in};
+ghost use Rattle.hfs_btree_edits.specs.Stored.{HasStored};
+
+use crate::nodes_mut::NodesMut;
+use hfs_btree::Nodes;
+use hfs_node::{BLANK_NODE, Node, decode, encode};
+use std::alloc::{AllocError, Global};
+
+/// A copy of node `n`.
+pub fn load<N: Nodes>(alloc: Global, nodes: &N, n: u32) -> Result<Node, AllocError>
+    requires { n < length (N.nodes nodes.now) }
+    ensures node { IfOk result (λ node. node_in (N.nodes nodes.now) n ≡ Ok node) }
+    ensures fits { IfOk result Fits }
+{
+    let mut bytes = [0; 512];
+    nodes.read(n, &mut bytes);
+    match decode(alloc, &bytes) {
+        Ok(node) => Ok(node),
+        Err(_) => Err(AllocError),
+    }
+}
+
+/// Writes a node that fits as node `n`.
+pub fn store<S: NodesMut>(nodes: &mut S, n: u32, node: &Node) -> Result<(), AllocError>
+    requires within { n < length (S.nodes nodes.old) }
+    requires fits { Fits node.now }
+    ensures stored { OnOk result (HasStored n node.now (S.nodes nodes.old) (S.nodes nodes.new)) }
+    ensures kept { OnOk result (S.kept nodes.new ≡ S.kept nodes.old) }
+{
+    let mut bytes = BLANK_NODE;
+    encode(node, &mut bytes);
+    nodes.write(n, &bytes)
+}

@@ -1,0 +1,335 @@
+-- A level of a tree with one node more: the node on the way to a key was cut in two.
+use Rattle.std.proofs.Common.{◌≡◌, ◌≢◌, ℕ, zero, suc, ◌+◌, ◌-◌, ◌<◌, ◌≤◌, List, [], ◌∷◌, ◌++◌, length, get_or, refl, sym, ap, ◌∙◌, subst, arith, inl, inr}
+use Rattle.std.specs.Prelude.{Ok, Result}
+use Rattle.std.specs.Cmp.{IsTotalOrder}
+use Rattle.std.specs.List.{flat_map, prefix_len}
+use Rattle.std.proofs.lemmas.Bool.{cases_eq, cases_lt}
+use Rattle.hfs_node.specs.Node.{size_of}
+use Rattle.hfs_btree.specs.declared.key.Key.{Ghosts}
+use Rattle.hfs_btree.specs.Tree.{Store, records_in, level_below, first_of}
+use Rattle.hfs_btree.specs.Header.{header_in, depth_of, root_level, own_nodes, tree_nodes, free_nodes}
+use Rattle.hfs_btree.specs.Sound.{IsOther, IsSound, IsExact}
+use Rattle.hfs_btree.specs.Search.{is_not_above, child_for, leaf_under}
+use Rattle.hfs_btree_edits.specs.Stored.{HasClaimed, bytes_in}
+use Rattle.hfs_btree_insertion.specs.Cut.{IsSplit, IsBranch, child_at, HasCutAt}
+use Rattle.hfs_btree_edits.specs.LevelParts.{lift}
+use Rattle.hfs_btree_edits.specs.Edits.{level_above, node_for}
+use Rattle.hfs_btree_insertion.specs.Growth.{IsLow, KeepsLevels, HasCutLevel}
+use Rattle.hfs_btree.specs.Descent.{place-within, way-some}
+use Rattle.hfs_btree_edits.specs.LevelParts.{lift-is}
+use Rattle.hfs_btree_insertion.proofs.LevelWays.{some-of, standing}
+use Rattle.hfs_btree.specs.Decoded.{records-read}
+use Rattle.hfs_btree_insertion.proofs.WayTo.{IsAt, at-level, leaf-next, read-index}
+use Rattle.hfs_scans.specs.Each.{Each}
+use Rattle.hfs_scans.specs.Elements.{each-left, each-right, each-append}
+use Rattle.hfs_btree_edits.specs.LevelParts.{numbers}
+use Rattle.hfs_btree_insertion.proofs.Splits.{uppers, lowers, above-level, old-level, new-level, bn, hn, all-is, forward-is, new-nodes, new-exact, stray-gone, stray-same, one-more, levels-above, level-grown, levels-below}
+use Rattle.hfs_btree_insertion.proofs.SplitWays.{way-above, way-half, way-below, way-node, records-uppers, records-below, low-above, low-half, half-size, new-at, one-down}
+use Rattle.hfs_btree_insertion.proofs.Taken.{HasTaken, taken-keeps, taken-free, taken-content, claimed-levels, claimed-depth, claimed-root}
+
+-- ---- where the cut is
+
+module _ {K : Type 0} (g : Ghosts K) (nodes : Store) (key : K) (a : ℕ) (sound : IsSound g nodes) (deep : a + 1 < depth_of nodes) where
+  abbrev p : ℕ
+  p = node_for g nodes key (a + 1)
+
+  abbrev q : ℕ
+  q = prefix_len (is_not_above g key) (records_in nodes p) - 1
+
+  parent-some : 0 < length (records_in nodes p)
+  parent-some = way-some g nodes (a + 1) p (at-level g nodes key (a + 1) sound.structure deep).way
+
+  pub branch-at : IsBranch g nodes a p q
+  branch-at =
+      let i = depth_of nodes - 1 - (a + 1) in
+      let at = standing g nodes key (depth_of nodes) (depth_of nodes - 1 - (a + 1)) (root_level nodes) [] (header_in nodes).root [] refl (omega (arith, deep)) (some-of g nodes sound.structure) in
+      let height = lift-is (depth_of nodes - 1 - (a + 1)) (suc a) in
+      record {
+        i = depth_of nodes - 1 - (a + 1);
+        deep = omega (arith, deep, height);
+        before = at.before;
+        behind = at.behind;
+        level = at.split;
+        within = place-within g key (records_in nodes p) parent-some;
+      }
+
+  pub child-is : child_at g nodes p q ≡ node_for g nodes key a
+  child-is =
+      let one : suc (depth_of nodes - 1 - (a + 1)) ≡ depth_of nodes - 1 - a = omega (arith, deep) in
+      sym (leaf-next g nodes key (depth_of nodes - 1 - (a + 1)) (header_in nodes).root) ∙ ap (λ (j : ℕ). leaf_under g nodes key j (header_in nodes).root) one
+
+-- ---- what it makes of the levels
+
+module _ {K : Type 0} (g : Ghosts K) (total : IsTotalOrder g.compare) (key : K) (a m : ℕ) (old new : Store) (sound : IsSound g old) (deep : a + 1 < depth_of old) (low : IsLow g old key)
+    (h : HasCutAt g old new a (node_for g old key (a + 1)) (prefix_len (is_not_above g key) (records_in old (node_for g old key (a + 1))) - 1) m) where
+  abbrev pp : ℕ
+  pp = node_for g old key (a + 1)
+
+  abbrev qq : ℕ
+  qq = prefix_len (is_not_above g key) (records_in old pp) - 1
+
+  abbrev nn : ℕ
+  nn = child_at g old pp qq
+
+  abbrev s : IsSplit g old new h.i a pp nn m qq h.c
+  s = h.split
+
+  abbrev root : ℕ
+  root = (header_in old).root
+
+  height : depth_of old ≡ h.i + 1 + 1 + a
+  height = let d = s.cut.deep in let e = lift-is h.i (suc a) in omega (arith, d, e)
+
+  way : leaf_under g old key h.i root ≡ pp
+  way = let d = height in let e : h.i ≡ depth_of old - 1 - (a + 1) = omega (arith, d) in ap (λ (j : ℕ). leaf_under g old key j root) e
+
+  some-low : prefix_len (is_not_above g key) (records_in old pp) ≡ suc qq
+  some-low =
+      let d = height in
+      let P : ℕ → Type 0 = λ x. 0 < prefix_len (is_not_above g key) (records_in old x) in
+      let few : 0 < prefix_len (is_not_above g key) (records_in old pp) = subst P way (low h.i (omega (arith, d))) in
+      omega (arith, few)
+
+  -- ---- stray nodes and numbers
+
+  -- bytes of other nodes
+  first-other : (x : ℕ) (h : List ℕ) → x ≢ 0 → Each (IsOther x) h → x ≢ first_of h
+  first-other x [] some each = some
+  first-other x (y ∷ h) some each = λ e. each.0 (sym e)
+
+  cut-rest : (x : ℕ) → Each (IsOther x) (own_nodes old ++ (tree_nodes g old ++ tree_nodes g new)) → bytes_in new x ≡ bytes_in old x
+  cut-rest x other =
+      let P : List ℕ → Type 0 = λ xs. Each (IsOther x) xs in
+      let st = sound.structure in
+      let up = numbers (uppers g old new h.i a pp nn m qq h.c s st) in
+      let ab = above-level g old new h.i a pp nn m qq h.c s st in
+      let lv = old-level g old new h.i a pp nn m qq h.c s st in
+      let nl = new-level g old new h.i a pp nn m qq h.c s st in
+      let lw = numbers (lowers g old new h.i a pp nn m qq h.c s st) in
+      let bn' = bn g old new h.i a pp nn m qq h.c s st in
+      let hn' = hn g old new h.i a pp nn m qq h.c s st in
+      let own = each-left (IsOther x) (own_nodes old) (tree_nodes g old ++ tree_nodes g new) other in
+      let trees = each-right (IsOther x) (own_nodes old) (tree_nodes g old ++ tree_nodes g new) other in
+      let was = subst P (all-is g old new h.i a pp nn m qq h.c s st) (each-append (IsOther x) (own_nodes old) (tree_nodes g old) own (each-left (IsOther x) (tree_nodes g old) (tree_nodes g new) trees)) in
+      let two = each-right (IsOther x) up (ab ++ (lv ++ lw)) (each-right (IsOther x) (own_nodes old) (up ++ (ab ++ (lv ++ lw))) was) in
+      let at-p = (each-right (IsOther x) s.cut.before (pp ∷ s.cut.behind) (each-left (IsOther x) ab (lv ++ lw) two)).0 in
+      let level = each-right (IsOther x) bn' (nn ∷ hn') (each-left (IsOther x) lv lw (each-right (IsOther x) ab (lv ++ lw) two)) in
+      let now = subst P (new-nodes g old new h.i a pp nn m qq h.c s st) (each-right (IsOther x) (tree_nodes g old) (tree_nodes g new) trees) in
+      let at-m = (each-right (IsOther x) bn' (nn ∷ m ∷ hn') (each-left (IsOther x) nl lw (each-right (IsOther x) ab (nl ++ lw) (each-right (IsOther x) up (ab ++ (nl ++ lw)) now)))).1.0 in
+      let zero' : x ≢ 0 = λ e. own.0 (sym e) in
+      let forth = forward-is g old new h.i a pp nn m qq h.c s st in
+      s.bytes x zero' (λ e. at-p (sym e)) (λ e. level.0 (sym e)) (λ e. at-m (sym e)) (λ e. first-other x hn' zero' level.1 (e ∙ forth))
+
+  pub cut-taken : HasTaken g m old new
+  cut-taken = record {
+    sound = h.sound;
+    exact = λ exact. new-exact g old new h.i a pp nn m qq h.c s sound.structure total exact;
+    content = h.content;
+    head = s.head;
+    gone = stray-gone g old new h.i a pp nn m qq h.c s sound.structure;
+    same = λ x ne. stray-same g old new h.i a pp nn m qq h.c s sound.structure x ne;
+    rest = cut-rest;
+    more = one-more g old new h.i a pp nn m qq h.c s sound.structure;
+  }
+
+  -- ---- levels
+
+  abbrev below-by : ℕ → ℕ
+  below-by k = a - 1 - k
+
+  place-below : (k : ℕ) → k < a → depth_of old - 1 - k ≡ lift h.i (suc (suc (a - 1 - k)))
+  place-below k lt = let d = height in let e = lift-is h.i (suc (suc (a - 1 - k))) in omega (arith, d, e, lt)
+
+  a-up : (k : ℕ) → k < a → a ≡ suc (a - 1)
+  a-up k lt = omega (arith, lt)
+
+  place-here : depth_of old - 1 - a ≡ lift h.i 1
+  place-here = let d = height in let e = lift-is h.i 1 in omega (arith, d, e)
+
+  pub cut-levels : (k : ℕ) → k < depth_of old → k ≢ a → level_above g new k ≡ level_above g old k
+  cut-levels k lt ne =
+      let d = height in
+      let rest : level_below g new (depth_of old - 1 - k) (root_level new) ≡ level_above g old k = elim (cases_lt k a) [
+        | inl less ↦
+            (let at = place-below k less in
+            ap (λ (j : ℕ). level_below g new j (root_level new)) at
+            ∙ levels-below g old new h.i a pp nn m qq h.c s sound.structure (a - 1) (a - 1 - k) (a-up k less) (omega (arith, less))
+            ∙ sym (ap (λ (j : ℕ). level_below g old j (root_level old)) at))
+        | inr more ↦ levels-above g old new h.i a pp nn m qq h.c s sound.structure (depth_of old - 1 - k) (omega (arith, d, more, ne, lt))
+      ] in
+      ap (λ (x : ℕ). level_below g new (x - 1 - k) (root_level new)) s.depth ∙ rest
+
+  pub cut-grown : length (level_above g new a) ≡ length (level_above g old a) + 1
+  cut-grown =
+      ap (λ (x : ℕ). length (level_below g new (x - 1 - a) (root_level new))) s.depth
+      ∙ ap (λ (j : ℕ). length (level_below g new j (root_level new))) place-here
+      ∙ level-grown g old new h.i a pp nn m qq h.c s sound.structure
+      ∙ sym (ap (λ (j : ℕ). length (level_below g old j (root_level old)) + 1) place-here)
+
+  -- ---- ways
+
+  pub cut-way : (k : ℕ) → k < a → node_for g new key k ≡ node_for g old key k
+  cut-way k lt =
+      let at = place-below k lt in
+      ap (λ (x : ℕ). leaf_under g new key (x - 1 - k) (header_in new).root) s.depth
+      ∙ ap (λ (j : ℕ). leaf_under g new key j (header_in new).root) at
+      ∙ way-below g total old new h.i a pp nn m qq h.c s sound.structure sound.ordered key way some-low (a - 1) (a-up k lt) (a - 1 - k) (omega (arith, lt))
+      ∙ sym (ap (λ (j : ℕ). leaf_under g old key j root) at)
+
+  pub cut-size : (k : ℕ) → k < a → size_of (records_in new (node_for g old key k)) ≡ size_of (records_in old (node_for g old key k))
+  cut-size k lt =
+      let at = place-below k lt in
+      let P : ℕ → Type 0 = λ j. size_of (records_in new (leaf_under g old key j root)) ≡ size_of (records_in old (leaf_under g old key j root)) in
+      subst P (sym at) (ap size_of (records-below g total old new h.i a pp nn m qq h.c s sound.structure sound.ordered key way some-low (a - 1) (a-up k lt) (a - 1 - k) (omega (arith, lt))))
+
+  pub cut-room : size_of (records_in new (node_for g new key a)) ≤ 319
+  cut-room =
+      let at = ap (λ (x : ℕ). leaf_under g new key (x - 1 - a) (header_in new).root) s.depth ∙ ap (λ (j : ℕ). leaf_under g new key j (header_in new).root) place-here in
+      let P : ℕ → Type 0 = λ x. size_of (records_in new x) ≤ 319 in
+      subst P (sym at) (half-size g total old new h.i a pp nn m qq h.c s sound.structure sound.ordered key way some-low 319 h.first h.second)
+
+  -- ---- keys on the way
+
+  low-upper : (j : ℕ) → j < h.i → 0 < prefix_len (is_not_above g key) (records_in new (leaf_under g new key j (header_in new).root))
+  low-upper j lt =
+      let d = height in
+      let P : ℕ → Type 0 = λ x. 0 < prefix_len (is_not_above g key) (records_in new x) in
+      let Q : List (List ℕ) → Type 0 = λ xs. 0 < prefix_len (is_not_above g key) xs in
+      subst P (sym (way-above g total old new h.i a pp nn m qq h.c s sound.structure sound.ordered key way some-low j (omega (arith, lt))))
+      (subst Q (sym (records-uppers g total old new h.i a pp nn m qq h.c s sound.structure sound.ordered key way some-low j lt)) (low j (omega (arith, lt, d))))
+
+  low-parent : 0 < prefix_len (is_not_above g key) (records_in new (leaf_under g new key h.i (header_in new).root))
+  low-parent =
+      let P : ℕ → Type 0 = λ x. 0 < prefix_len (is_not_above g key) (records_in new x) in
+      subst P (sym (new-at g total old new h.i a pp nn m qq h.c s sound.structure sound.ordered key way some-low)) (low-above g total old new h.i a pp nn m qq h.c s sound.structure sound.ordered key way some-low)
+
+  low-child : 0 < a → 0 < prefix_len (is_not_above g key) (records_in new (leaf_under g new key (lift h.i 1) (header_in new).root))
+  low-child some =
+      let d = height in
+      let e = lift-is h.i 1 in
+      let P : ℕ → Type 0 = λ x. 0 < prefix_len (is_not_above g key) (records_in new x) in
+      let O : ℕ → Type 0 = λ x. 0 < prefix_len (is_not_above g key) (records_in old x) in
+      let was = subst O (way-node g total old new h.i a pp nn m qq h.c s sound.structure sound.ordered key way some-low) (low (lift h.i 1) (omega (arith, d, e, some))) in
+      let to = one-down g total old new h.i a pp nn m qq h.c s sound.structure sound.ordered key way some-low new (header_in new).root
+      ∙ ap (λ (x : ℕ). child_for g key (records_in new x)) (new-at g total old new h.i a pp nn m qq h.c s sound.structure sound.ordered key way some-low) in
+      subst P (sym to) (low-half g total old new h.i a pp nn m qq h.c s sound.structure sound.ordered key way some-low (a - 1) (a-up 0 some) was)
+
+  low-lower : (t : ℕ) → t + 1 < a → 0 < prefix_len (is_not_above g key) (records_in new (leaf_under g new key (lift h.i (suc (suc t))) (header_in new).root))
+  low-lower t lt =
+      let d = height in
+      let e = lift-is h.i (suc (suc t)) in
+      let some : 0 < a = omega (arith, lt) in
+      let P : ℕ → Type 0 = λ x. 0 < prefix_len (is_not_above g key) (records_in new x) in
+      let Q : List (List ℕ) → Type 0 = λ xs. 0 < prefix_len (is_not_above g key) xs in
+      subst P (sym (way-below g total old new h.i a pp nn m qq h.c s sound.structure sound.ordered key way some-low (a - 1) (a-up 0 some) t (omega (arith, lt))))
+      (subst Q (sym (records-below g total old new h.i a pp nn m qq h.c s sound.structure sound.ordered key way some-low (a - 1) (a-up 0 some) t (omega (arith, lt)))) (low (lift h.i (suc (suc t))) (omega (arith, d, e, lt))))
+
+  pub cut-low : IsLow g new key
+  cut-low j less =
+      let d = height in
+      let nd = s.depth in
+      let P : ℕ → Type 0 = λ i. 0 < prefix_len (is_not_above g key) (records_in new (leaf_under g new key i (header_in new).root)) in
+      elim (cases_lt j h.i) [
+        | inl lt ↦ low-upper j lt
+        | inr ge ↦
+            elim (cases_eq j h.i) [
+              | inl is ↦ subst P (sym is) low-parent
+              | inr ne ↦
+                  elim (cases_eq j (lift h.i 1)) [
+                    | inl is ↦ (let e = lift-is h.i 1 in subst P (sym is) (low-child (omega (arith, d, nd, less, is, e))))
+                    | inr other ↦
+                        (let e1 = lift-is h.i 1 in
+                        let e = lift-is h.i (suc (suc (j - h.i - 2))) in
+                        let more : h.i + 2 ≤ j = omega (arith, ge, ne, other, e1) in
+                        let at : j ≡ lift h.i (suc (suc (j - h.i - 2))) = omega (arith, e, more) in
+                        subst P (sym at) (low-lower (j - h.i - 2) (omega (arith, d, nd, less, more))))
+                  ]
+            ]
+      ]
+
+-- ---- with the claim
+
+pub cut-whole : {K : Type 0} (g : Ghosts K) (total : IsTotalOrder g.compare) (key : K) (a m : ℕ) (old mid new : Store) → IsSound g old → a + 1 < depth_of mid → HasClaimed g m old mid → IsLow g mid key
+    → HasCutAt g mid new a (node_for g mid key (a + 1)) (prefix_len (is_not_above g key) (records_in mid (node_for g mid key (a + 1))) - 1) m → HasCutLevel g key a old new
+cut-whole g total key a m old mid new sound deep c low h =
+    let t = cut-taken g total key a m mid new c.sound deep low h in
+    let kept = claimed-levels g m old mid new c sound in
+    let same = claimed-depth g m old mid new c in
+    record {
+      keeps = taken-keeps g m old mid new c t;
+      content = taken-content g m old mid new c t;
+      depth = h.split.depth ∙ same;
+      free = taken-free g m old mid new c t;
+      levels = λ k lt ne. cut-levels g total key a m mid new c.sound deep low h k (omega (arith, lt, same)) ne ∙ kept.levels k lt;
+      grown = cut-grown g total key a m mid new c.sound deep low h ∙ ap (λ (ns : List ℕ). length ns + 1) (kept.levels a (omega (arith, deep, same)));
+      way = λ k lt. cut-way g total key a m mid new c.sound deep low h k lt ∙ kept.way key k (omega (arith, lt, deep, same));
+      size = λ k lt.
+          ap (λ (n : ℕ). size_of (records_in new n)) (sym (kept.way key k (omega (arith, lt, deep, same))))
+          ∙ cut-size g total key a m mid new c.sound deep low h k lt
+          ∙ ap (λ (n : ℕ). size_of (records_in mid n)) (kept.way key k (omega (arith, lt, deep, same)))
+          ∙ kept.size key k (omega (arith, lt, deep, same));
+      room = cut-room g total key a m mid new c.sound deep low h;
+      low = cut-low g total key a m mid new c.sound deep low h;
+    }
+
+-- the node on the way is still low where a node was claimed
+pub claimed-low : {K : Type 0} (g : Ghosts K) (key : K) (m : ℕ) (old mid : Store) → IsSound g old → HasClaimed g m old mid → IsLow g old key → IsLow g mid key
+claimed-low g key m old mid sound c low j less =
+    let keep = Rattle.hfs_btree_insertion.proofs.Taken.claimed-keep g m old mid mid c in
+    let same = claimed-depth g m old mid mid c in
+    let root = claimed-root g m old mid mid c in
+    let P : ℕ → Type 0 = λ x. 0 < prefix_len (is_not_above g key) (records_in mid x) in
+    let Q : List (List ℕ) → Type 0 = λ xs. 0 < prefix_len (is_not_above g key) xs in
+    let at = ap (leaf_under g mid key j) root ∙ Rattle.hfs_btree_insertion.proofs.LevelWays.under-same g old mid sound.structure keep key j (omega (arith, less, same)) in
+    subst P (sym at) (subst Q (sym (Rattle.hfs_btree_insertion.proofs.LevelWays.record-same g old mid sound.structure keep key j (omega (arith, less, same)))) (low j (omega (arith, less, same))))
+
+-- ---- what the calls read
+
+module _ {K : Type 0} (g : Ghosts K) (key : K) (a m : ℕ) (old mid : Store) (sound : IsSound g old) (c : HasClaimed g m old mid) (deep : a + 1 < depth_of old) (p q : ℕ) (bytes : List ℕ)
+    (at : p ≡ node_for g mid key (a + 1)) (read : bytes ≡ get_or mid p []) where
+  pub mid-deep : a + 1 < depth_of mid
+  mid-deep = let same = claimed-depth g m old mid mid c in omega (arith, deep, same)
+
+  pub parent-index : Rattle.hfs_scans.specs.Each.Each (λ e. g.is_index e ≡ Rattle.std.specs.Prelude.true) (Rattle.hfs_btree.specs.Tree.records_of (Rattle.hfs_node.specs.Node.node_of bytes))
+  parent-index =
+      let P : ℕ → Type 0 = λ x. IsAt g mid key (a + 1) x in
+      read-index g mid key (a + 1) p bytes (omega arith) (subst P (sym at) (at-level g mid key (a + 1) c.sound.structure mid-deep)) read
+
+  module _ (place : q ≡ prefix_len (is_not_above g key) (Rattle.hfs_btree.specs.Tree.records_of (Rattle.hfs_node.specs.Node.node_of bytes)) - 1) where
+    place-is : q ≡ prefix_len (is_not_above g key) (records_in mid (node_for g mid key (a + 1))) - 1
+    place-is = place ∙ ap (λ (es : List (List ℕ)). prefix_len (is_not_above g key) es - 1) (records-read mid p bytes read ∙ ap (records_in mid) at)
+
+    as-read : (F : ℕ → ℕ → Type 0) → F (node_for g mid key (a + 1)) (prefix_len (is_not_above g key) (records_in mid (node_for g mid key (a + 1))) - 1) → F p q
+    as-read F h =
+        let X : ℕ → Type 0 = λ x. F x q in
+        let Y : ℕ → Type 0 = λ y. F (node_for g mid key (a + 1)) y in
+        subst X (sym at) (subst Y (sym place-is) h)
+
+    as-found : (F : ℕ → ℕ → Type 0) → F p q → F (node_for g mid key (a + 1)) (prefix_len (is_not_above g key) (records_in mid (node_for g mid key (a + 1))) - 1)
+    as-found F h =
+        let X : ℕ → Type 0 = λ x. F x q in
+        let Y : ℕ → Type 0 = λ y. F (node_for g mid key (a + 1)) y in
+        subst Y place-is (subst X at h)
+
+    pub branch-read : IsBranch g mid a p q
+    branch-read = as-read (λ x y. IsBranch g mid a x y) (branch-at g mid key a c.sound mid-deep)
+
+    pub over-read : 354 < size_of (records_in old (node_for g old key a)) → 354 < size_of (records_in mid (child_at g mid p q))
+    over-read over =
+        let kept = claimed-levels g m old mid mid c sound in
+        let lt : a < depth_of old = omega (arith, deep) in
+        let size = kept.size key a lt in
+        let way = ap (λ (n : ℕ). size_of (records_in mid n)) (kept.way key a lt) in
+        let child = ap (λ (n : ℕ). size_of (records_in mid n)) (child-is g mid key a c.sound mid-deep) in
+        as-read (λ x y. 354 < size_of (records_in mid (child_at g mid x y))) (omega (arith, over, size, way, child))
+
+    pub room-read : (len : ℕ) → size_of (records_in old (node_for g old key (a + 1))) + (len + 2) ≤ 496 → size_of (records_in mid p) + (len + 2) ≤ 496
+    room-read len room =
+        let kept = claimed-levels g m old mid mid c sound in
+        let size = kept.size key (a + 1) deep in
+        let way = ap (λ (n : ℕ). size_of (records_in mid n)) (kept.way key (a + 1) deep) in
+        as-read (λ x y. size_of (records_in mid x) + (len + 2) ≤ 496) (omega (arith, room, size, way))
+
+    pub cut-read : (new : Store) → IsTotalOrder g.compare → IsLow g old key → HasCutAt g mid new a p q m → HasCutLevel g key a old new
+    cut-read new total low h =
+        cut-whole g total key a m old mid new sound mid-deep c (claimed-low g key m old mid sound c low) (as-found (λ x y. HasCutAt g mid new a x y m) h)

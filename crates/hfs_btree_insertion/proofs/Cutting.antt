@@ -1,0 +1,210 @@
+-- What a cut reads of the tree: the node above, the one that is cut, and the one behind it.
+use Rattle.std.proofs.Common.{◌≡◌, ◌≢◌, ℕ, zero, suc, ◌+◌, ◌-◌, ◌<◌, ◌≤◌, List, [], ◌∷◌, ◌++◌, length, map, get_or, take, drop, refl, sym, ap, ◌∙◌, subst, arith}
+use Rattle.std.specs.Prelude.{true, false, Bool, All, Ok, Result, insert}
+use Rattle.std.specs.List.{flat_map}
+use Rattle.std.specs.Cmp.{IsTotalOrder}
+use Rattle.std.proofs.lemmas.List.{get_or-drop, length-drop, length-take}
+use Rattle.std.proofs.lemmas.List.Elements.{All-nil, All-cons}
+use Rattle.hfs_node.specs.declared.node.Node.{Node}
+use Rattle.hfs_node.specs.declared.fault.NodeFault.{NodeFault}
+use Rattle.hfs_node.specs.Node.{size_of}
+use Rattle.hfs_node.specs.Sizes.{size_of-insert}
+use Rattle.hfs_btree.specs.declared.key.Key.{Ghosts}
+use Rattle.hfs_scans.specs.Each.{Each}
+use Rattle.hfs_scans.specs.Elements.{each-at, each-right}
+use Rattle.hfs_btree.specs.Tree.{Store, Spot, node_in, records_in, records_of, reads_at, spots, first_of, turn, level_below}
+use Rattle.hfs_btree.specs.Header.{header_in, record_in, depth_of, root_level, tree_content}
+use Rattle.hfs_btree.specs.Sound.{HasStructure, IsSound, IsRight, IsStray}
+use Rattle.hfs_btree_edits.specs.Stored.{HasStored}
+use Rattle.hfs_btree_insertion.specs.Stored.{HasLinked}
+use Rattle.hfs_btree_insertion.specs.Cut.{IsCut, IsSplit, IsBranch, child_at, HasCutAt}
+use Rattle.hfs_btree_edits.specs.LevelParts.{lift, entry_key}
+use Rattle.hfs_btree.specs.Decoded.{decoded-within}
+use Rattle.hfs_btree.specs.Descent.{IsOnWay, way-node, way-down, way-within, index-entries}
+use Rattle.hfs_btree_edits.specs.LevelParts.{upper, turn-split}
+use Rattle.hfs_btree_insertion.proofs.Cuts.{hn}
+use Rattle.hfs_btree_edits.specs.Owns.{KeepsOwn}
+use Rattle.hfs_btree_insertion.proofs.PutWhole.{head-long, own-long}
+use Rattle.hfs_btree_insertion.proofs.SplitWrites.{IsEntry, z-own, p-n, p-m, n-m, split-writes, split-sound}
+
+-- ---- a record of a level
+
+module _ {K : Type 0} (g : Ghosts K) where
+  pub reads-leaf : (k : ℕ) (e : List ℕ) → k ≡ 0 → reads_at g k e ≡ true → g.is_leaf e ≡ true
+  reads-leaf zero e z h = h
+  reads-leaf (suc k) e z h = absurd (omega (arith, z))
+
+  pub reads-index : (k : ℕ) (e : List ℕ) → k ≢ 0 → reads_at g k e ≡ true → g.is_index e ≡ true
+  reads-index zero e some h = absurd (some refl)
+  reads-index (suc k) e some h = h
+
+  pub key-leaf : (k : ℕ) (e : List ℕ) → k ≡ 0 → g.leaf_key e ≡ entry_key g k e
+  key-leaf zero e z = refl
+  key-leaf (suc k) e z = absurd (omega (arith, z))
+
+  pub key-index : (k : ℕ) (e : List ℕ) → k ≢ 0 → g.index_key e ≡ entry_key g k e
+  key-index zero e some = absurd (some refl)
+  key-index (suc k) e some = refl
+
+  -- it is short
+  reads-short : ((e : List ℕ) → g.is_leaf e ≡ true → length e ≤ 140) → ((e : List ℕ) → g.is_index e ≡ true → length e ≤ 42) → (k : ℕ) (e : List ℕ) → reads_at g k e ≡ true → length e ≤ 140
+  reads-short leaf index zero e h = leaf e h
+  reads-short leaf index (suc k) e h = omega (arith, index e h)
+
+  pub all-short : ((e : List ℕ) → g.is_leaf e ≡ true → length e ≤ 140) → ((e : List ℕ) → g.is_index e ≡ true → length e ≤ 42) → (k : ℕ) (es : List (List ℕ)) → Each (λ e. reads_at g k e ≡ true) es
+      → All (λ e. length e ≤ 140) es
+  all-short leaf index k [] h = All-nil (λ (e : List ℕ). length e ≤ 140)
+  all-short leaf index k (e ∷ es) h = All-cons (λ (e' : List ℕ). length e' ≤ 140) e es (reads-short leaf index k e h.0) (all-short leaf index k es h.1)
+
+behind-within : {K : Type 0} (g : Ghosts K) (nodes : Store) (k left : ℕ) (before : List ℕ) (n : ℕ) (behind : List ℕ) → 0 < length nodes → Each (IsRight g nodes) (spots k left (before ++ n ∷ behind)) → first_of behind < length nodes
+behind-within g nodes k left [] n [] some h = some
+behind-within g nodes k left [] n (m ∷ behind) some h = decoded-within nodes m h.1.0.value h.1.0.decodes
+behind-within g nodes k left (b ∷ before) n behind some h = behind-within g nodes k b before n behind some h.1
+
+abbrev ok_of : Node → Result Node NodeFault
+ok_of v = Ok v
+
+same-value : (v w : Node) → ok_of v ≡ ok_of w → v ≡ w
+same-value v w e = cc
+
+module _ {K : Type 0} (g : Ghosts K) (old : Store) (sound : IsSound g old) (k p q : ℕ) (b : IsBranch g old k p q) where
+  abbrev n : ℕ
+  n = child_at g old p q
+
+  pub some-nodes : 0 < length old
+  some-nodes = (head-long g old sound.structure.header).0
+
+  pub parent-way : IsOnWay g old (suc k) p
+  parent-way =
+      let U = upper g old b.i (suc k) (root_level old) in
+      let P : List Spot → Type 0 = λ ss. Each (IsRight g old) ss in
+      let shape = ap (λ (d : ℕ). turn g old d (root_level old)) b.deep ∙ turn-split g old b.i (suc k) (root_level old) ∙ ap (λ (ns : List ℕ). U ++ turn g old (suc (suc k)) ns) b.level in
+      record { before = b.before; behind = b.behind; right = each-right (IsRight g old) U (turn g old (suc (suc k)) (b.before ++ p ∷ b.behind)) (subst P shape sound.structure.levels.each) }
+
+  pub child-way : IsOnWay g old k n
+  child-way = way-down g old k p q parent-way b.within
+
+  pub parent-within : p < length old
+  parent-within = way-within g old (suc k) p parent-way
+
+  pub child-within : n < length old
+  child-within = way-within g old k n child-way
+
+  -- the nodes as they were loaded
+  module _ (above : Node) (was_above : node_in old p ≡ Ok above) where
+    pub above-records : above.records ≡ records_in old p
+    above-records = sym (ap records_of was_above)
+
+    pub place-within : q < length above.records
+    place-within = let P : List (List ℕ) → Type 0 = λ xs. q < length xs in subst P (sym above-records) b.within
+
+    pub entry-index : g.is_index (get_or above.records q []) ≡ true
+    entry-index =
+        let Q : List (List ℕ) → Type 0 = λ xs. g.is_index (get_or xs q []) ≡ true in
+        subst Q (sym above-records) (each-at (λ e. g.is_index e ≡ true) (records_in old p) q [] (index-entries g old (suc k) p (omega arith) parent-way) b.within)
+
+    pub child-is : (e : List ℕ) (x : ℕ) → x ≡ g.child e → e ≡ get_or above.records q [] → x ≡ n
+    child-is e x is at = is ∙ ap g.child (at ∙ ap (λ (xs : List (List ℕ)). get_or xs q []) above-records)
+
+    -- a record more fits
+    pub above-fits : (xs : List (List ℕ)) (entry : List ℕ) (j : ℕ) → xs ≡ insert above.records j entry → length entry ≡ g.INDEX_KEY_LEN + 5 → size_of (records_in old p) + (g.INDEX_KEY_LEN + 5 + 2) ≤ 496 → size_of xs ≤ 496
+    above-fits xs entry j is len room =
+        let size = size_of-insert above.records j entry in
+        let same = ap size_of is in
+        let was = ap size_of above-records in
+        omega (arith, size, same, was, len, room)
+
+  module _ (node : Node) (was_node : node_in old n ≡ Ok node) where
+    pub node-records : node.records ≡ records_in old n
+    node-records = sym (ap records_of was_node)
+
+    node-spot : (l : ℕ) × IsRight g old (record { left = l; n = n; right = first_of child-way.behind; above = k })
+    node-spot = way-node g old k n child-way
+
+    pub node-reads : Each (λ e. reads_at g k e ≡ true) node.records
+    node-reads = let P : Node → Type 0 = λ v. Each (λ e. reads_at g k e ≡ true) v.records in subst P (same-value node-spot.1.value node (sym node-spot.1.decodes ∙ was_node)) node-spot.1.whole
+
+    pub right-within : node.forward < length old
+    right-within =
+        let is : node.forward ≡ first_of child-way.behind = ap (λ (v : Node). v.forward) (same-value node node-spot.1.value (sym was_node ∙ node-spot.1.decodes)) ∙ node-spot.1.right in
+        let P : ℕ → Type 0 = λ x. x < length old in
+        subst P (sym is) (behind-within g old k 0 child-way.before n child-way.behind some-nodes
+        (Rattle.hfs_scans.specs.Elements.each-left (IsRight g old) (spots k 0 (child-way.before ++ n ∷ child-way.behind)) _ child-way.right))
+
+    pub node-size : size_of node.records ≡ size_of (records_in old n)
+    node-size = ap size_of node-records
+
+    -- the first record of the second half
+    pub second-reads : (c : ℕ) (xs : List (List ℕ)) → xs ≡ drop c node.records → c < length node.records → reads_at g k (get_or xs 0 []) ≡ true
+    second-reads c xs is lt =
+        let P : List ℕ → Type 0 = λ e. reads_at g k e ≡ true in
+        let same : c + 0 ≡ c = omega arith in
+        let at = ap (λ (ys : List (List ℕ)). get_or ys 0 []) is ∙ get_or-drop c node.records 0 [] ∙ ap (λ (j : ℕ). get_or node.records j []) same in
+        subst P (sym at) (each-at (λ e. reads_at g k e ≡ true) node.records c [] node-reads lt)
+
+    pub second-some : (c : ℕ) (xs : List (List ℕ)) → xs ≡ drop c node.records → c < length node.records → 0 < length xs
+    second-some c xs is lt = let len = ap (λ (ys : List (List ℕ)). length ys) is in let rest = length-drop c node.records in omega (arith, len, rest, lt)
+
+  -- ---- the cut
+
+  module _ (above node : Node) (was_above : node_in old p ≡ Ok above) (was_node : node_in old n ≡ Ok node) (c m : ℕ) (some : 0 < c) (less : c < length node.records) (stray : IsStray g old m) where
+    abbrev pub cut : IsCut g old b.i k p n m q c
+    cut =
+        let P : List (List ℕ) → Type 0 = λ xs. c < length xs in
+        record {
+          deep = b.deep;
+          before = b.before;
+          behind = b.behind;
+          level = b.level;
+          within = b.within;
+          child = refl;
+          some = some;
+          less = subst P (node-records node was_node) less;
+          stray = stray;
+          above = above;
+          node = node;
+          was_above = was_above;
+          was_node = was_node;
+        }
+
+    -- the record that names the new node, from what the call answers
+    pub entry-as : (entry first : List ℕ) (seconds : List (List ℕ)) (key : K) → g.is_index entry ≡ true → g.child entry ≡ m → g.index_key entry ≡ key → key ≡ entry_key g k first → first ≡ get_or seconds 0 []
+        → seconds ≡ drop c node.records → IsEntry g old b.i k p n m q c cut sound.structure entry
+    entry-as entry first seconds key index names keyed is at second =
+        let same : c + 0 ≡ c = omega arith in
+        record {
+          index = index;
+          names = names;
+          keyed =
+              keyed ∙ is
+              ∙ ap (entry_key g k) (at ∙ ap (λ (ys : List (List ℕ)). get_or ys 0 []) second ∙ get_or-drop c node.records 0 [] ∙ ap (λ (j : ℕ). get_or node.records j []) same ∙ ap (λ (xs : List (List ℕ)). get_or xs c []) (node-records node was_node));
+        }
+
+    module _ (entry : List ℕ) (is : IsEntry g old b.i k p n m q c cut sound.structure entry) (x y z : Store)
+        (sp : HasStored p (record above { records = insert above.records (suc q) entry }) old x)
+        (sn : HasStored n (record node { forward = m; records = take c node.records }) x y)
+        (sm : HasStored m (record node { backward = n; records = drop c node.records }) y z) where
+      pub cut-long : (0 < length z) × (30 ≤ length (record_in z 0 0))
+      cut-long = own-long old z (z-own g old b.i k p n m q c cut sound.structure entry is x y z sp sn sm) (head-long g old sound.structure.header)
+
+      pub cut-right : node.forward < length z
+      cut-right = let lp = sp.len in let ln = sn.len in let lm = sm.len in let lt = right-within node was_node in omega (arith, lp, ln, lm, lt)
+
+      pub cut-done : (w : Store) (leaves : Bool) → IsTotalOrder g.compare → (leaves ≡ true → k ≡ 0) → (leaves ≡ false → k ≢ 0) → HasLinked node.forward m leaves z w
+          → size_of (take c node.records) ≤ 319 → size_of (drop c node.records) ≤ 319 → HasCutAt g old w k p q m
+      cut-done w leaves total bottom upper' linked first second =
+          let forth = Rattle.hfs_btree_insertion.proofs.Cuts.forward-is g old b.i k p n m q c cut sound.structure in
+          let L : ℕ → Type 0 = λ r. HasLinked r m leaves z w in
+          let link = subst L forth linked in
+          let whole = split-sound g old b.i k p n m q c cut sound.structure entry is x y z sp sn sm w leaves total sound bottom upper' link in
+          let F : List (List ℕ) → Type 0 = λ xs. size_of (take c xs) ≤ 319 in
+          let S : List (List ℕ) → Type 0 = λ xs. size_of (drop c xs) ≤ 319 in
+          record {
+            i = b.i;
+            c = c;
+            split = split-writes g old b.i k p n m q c cut sound.structure entry is x y z sp sn sm w leaves bottom upper' link;
+            sound = whole.0;
+            content = whole.1;
+            first = subst F (node-records node was_node) first;
+            second = subst S (node-records node was_node) second;
+          }

@@ -1,0 +1,60 @@
+use Rattle.std.proofs.Common.{◌≡◌, ◌∙◌, ◌+◌, ◌-◌, ◌<◌, ◌≤◌, ℕ, List, sym, ap, subst, arith, length, get_or, drop}
+use Rattle.std.specs.Prelude.{map}
+use Rattle.hfs_btree.specs.Search.{leaf_for, IsLeafFor}
+use Rattle.hfs_btree_insertion.specs.Stored.{HasRecordPut}
+use Rattle.hfs_btree_edits.specs.Stored.{HasHeaderPut}
+use Rattle.hfs_btree.specs.declared.header.Header.{Header}
+use Rattle.hfs_btree.specs.Pairs.{pairs_from}
+use Rattle.hfs_btree.specs.Header.{header_in}
+use Rattle.hfs_btree.specs.Tree.{Store, pair_of, records_in}
+use Rattle.hfs_btree.specs.Decoded.{records-read}
+use Rattle.hfs_btree.specs.Found.{found, found-entries}
+use Rattle.hfs_btree_insertion.proofs.PutWhole.{put-whole, mid-long, mid-records, from-read}
+use Rattle.hfs_btree_edits.specs.Stores.{on-ok}
+use Rattle.hfs_btree_insertion.proofs.leaf_put.put_entry.Goals as goal
+
+pub place_in-place-requires : goal.place_in-place-requires
+place_in-place-requires g c =
+    let nodes = g.S.Nodes.nodes c.args.nodes.now in
+    found-entries g.K.Key g.met.K.Key.total nodes c.args.key.now c.requires.sound c.requires.some c.descend-n.result c.descend-n.ensures.leaf c.descend-n.new.bytes c.descend-n.ensures.bytes
+
+pub put_record-requires-clause-place : goal.put_record-requires-clause-place
+put_record-requires-clause-place g c =
+    let nodes = g.S.Nodes.nodes c.args.nodes.now in
+    let same = ap (λ (es : List (List ℕ)). length es) (records-read nodes c.descend-n.result c.descend-n.new.bytes c.descend-n.ensures.bytes) in
+    let within = c.place_in-place.ensures.within in
+    omega arith
+
+pub count_record-requires-clause-long : goal.count_record-requires-clause-long
+count_record-requires-clause-long g c =
+    let nodes = g.S.Nodes.nodes c.args.nodes.now in
+    let at = found g.K.Key g.met.K.Key.total nodes c.args.key.now c.requires.sound c.requires.some c.descend-n.result c.descend-n.ensures.leaf c.descend-n.new.bytes c.descend-n.ensures.bytes in
+    let same = ap (λ (es : List (List ℕ)). length es) (records-read nodes c.descend-n.result c.descend-n.new.bytes c.descend-n.ensures.bytes) in
+    let within = c.place_in-place.ensures.within in
+    let from = from-read g.K.Key nodes c.args.key.now c.descend-n.result c.place_in-place.result c.descend-n.new.bytes c.descend-n.ensures.bytes c.place_in-place.ensures.from in
+    (mid-long g.K.Key g.met.K.Key.total c.args.key.now nodes _ nodes c.descend-n.result c.place_in-place.result c.args.entry.items c.requires.sound c.requires.some at (sym c.descend-n.ensures.leaf) c.requires.low
+    c.requires.leaf c.requires.keyed c.requires.absent (omega arith) from c.in_ok-put_record.ensures.put).1
+
+pub count_record-requires-clause-few : goal.count_record-requires-clause-few
+count_record-requires-clause-few g c =
+    let nodes = g.S.Nodes.nodes c.args.nodes.now in
+    let at = found g.K.Key g.met.K.Key.total nodes c.args.key.now c.requires.sound c.requires.some c.descend-n.result c.descend-n.ensures.leaf c.descend-n.new.bytes c.descend-n.ensures.bytes in
+    let same = ap (λ (es : List (List ℕ)). length es) (records-read nodes c.descend-n.result c.descend-n.new.bytes c.descend-n.ensures.bytes) in
+    let within = c.place_in-place.ensures.within in
+    let few = c.requires.few in
+    let from = from-read g.K.Key nodes c.args.key.now c.descend-n.result c.place_in-place.result c.descend-n.new.bytes c.descend-n.ensures.bytes c.place_in-place.ensures.from in
+    let is = mid-records g.K.Key g.met.K.Key.total c.args.key.now nodes _ nodes c.descend-n.result c.place_in-place.result c.args.entry.items c.requires.sound c.requires.some at (sym c.descend-n.ensures.leaf) c.requires.low
+    c.requires.leaf c.requires.keyed c.requires.absent (omega arith) from c.in_ok-put_record.ensures.put in
+    omega arith
+
+pub returns-clause-put : goal.returns-clause-put
+returns-clause-put g c =
+    let nodes = g.S.Nodes.nodes c.args.nodes.now in
+    let at = found g.K.Key g.met.K.Key.total nodes c.args.key.now c.requires.sound c.requires.some c.descend-n.result c.descend-n.ensures.leaf c.descend-n.new.bytes c.descend-n.ensures.bytes in
+    let same = ap (λ (es : List (List ℕ)). length es) (records-read nodes c.descend-n.result c.descend-n.new.bytes c.descend-n.ensures.bytes) in
+    let within : c.place_in-place.result ≤ length (records_in nodes c.descend-n.result) = (let short = c.place_in-place.ensures.within in omega arith) in
+    let from = from-read g.K.Key nodes c.args.key.now c.descend-n.result c.place_in-place.result c.descend-n.new.bytes c.descend-n.ensures.bytes c.place_in-place.ensures.from in
+    on-ok _ _ c.count_record.result
+    (λ h. put-whole g.K.Key g.met.K.Key.total c.args.key.now nodes _ _ c.descend-n.result c.place_in-place.result c.args.entry.items c.requires.sound c.requires.some at (sym c.descend-n.ensures.leaf) c.requires.low
+    c.requires.leaf c.requires.keyed c.requires.absent within from c.in_ok-put_record.ensures.put h)
+    c.count_record.ensures.counted

@@ -1,0 +1,16 @@
+use Rattle.hfs_btree_edits.specs.Stores.{on-ok}
+use Rattle.hfs_btree_insertion.proofs.PutWhole.{record-put, fits-insert, place-as}
+use Rattle.hfs_btree_insertion.proofs.leaf_put.put_record.Goals as goal
+
+pub insert-requires : goal.insert-requires
+insert-requires g c = place-as (g.S.Nodes.nodes c.args.nodes.now) c.args.n c.args.place c.in_ok-node.node c.in_ok-node.ensures.node c.requires.place
+
+pub store-requires-clause-fits : goal.store-requires-clause-fits
+store-requires-clause-fits g c =
+    fits-insert (g.S.Nodes.nodes c.args.nodes.now) c.args.n c.args.place c.args.entry.items c.in_ok-node.node _ c.in_ok-node.ensures.node c.in_ok-insert.ensures.ok c.requires.room
+
+pub returns-clause-put : goal.returns-clause-put
+returns-clause-put g c =
+    on-ok _ _ c.store.result
+    (λ stored. record-put c.args.n c.args.place c.args.entry.items c.in_ok-node.node _ _ _ c.in_ok-node.ensures.node c.in_ok-insert.ensures.ok stored)
+    c.store.ensures.stored

@@ -1,0 +1,63 @@
+-- What the steps of an insertion make of a tree.
+use Rattle.std.specs.Prelude.{◌≡◌, ◌≢◌, ℕ, zero, suc, ◌+◌, ◌-◌, ◌<◌, ◌≤◌, length}
+use Rattle.std.specs.List.{prefix_len}
+use Rattle.hfs_node.specs.Node.{size_of}
+use Rattle.hfs_btree.specs.declared.key.Key.{Ghosts}
+use Rattle.hfs_btree.specs.Tree.{Store, records_in}
+use Rattle.hfs_btree.specs.Header.{header_in, depth_of, free_nodes, tree_content}
+use Rattle.hfs_btree.specs.Search.{is_not_above, leaf_under}
+use Rattle.hfs_btree_edits.specs.Edits.{KeepsTree, level_above, node_for, IsFullFor}
+
+-- ---- room
+
+-- how many bytes a record has that comes to a level: in a leaf so many, above the leaves an index record's
+abbrev pub len_at : {K : Type 0} → Ghosts K → ℕ → ℕ → ℕ
+len_at g len zero = len
+len_at g len (suc k) = g.INDEX_KEY_LEN + 5
+
+-- a node that has room for one more record of so many bytes
+abbrev pub HasRoom : Store → ℕ → ℕ → Type 0
+HasRoom nodes len n = size_of (records_in nodes n) + (len + 2) ≤ 496
+
+-- the nodes on the way to the key have no room on so many levels from the leaves on, and the one above these has
+pub record AreFull {K : Type 0} (g : Ghosts K) (nodes : Store) (key : K) (len full : ℕ) : Type 0 where
+  pub most : full ≤ depth_of nodes
+  pub each : (k : ℕ) → k < full → IsFullFor nodes (len_at g len k) (node_for g nodes key k)
+  pub room : full < depth_of nodes → HasRoom nodes (len_at g len full) (node_for g nodes key full)
+
+-- no index node on the way to the key has all of its keys above the key
+abbrev pub IsLow : {K : Type 0} → Ghosts K → Store → K → Type 0
+IsLow g nodes key = (j : ℕ) → suc j < depth_of nodes → 0 < prefix_len (is_not_above g key) (records_in nodes (leaf_under g nodes key j (header_in nodes).root))
+
+-- ---- levels
+
+-- counted from the leaves the levels are the same, the way to any key comes by the same nodes, and their records take as many bytes
+pub record KeepsLevels {K : Type 0} (g : Ghosts K) (old new : Store) : Type 0 where
+  pub levels : (k : ℕ) → k < depth_of old → level_above g new k ≡ level_above g old k
+  pub way : (key : K) (k : ℕ) → k < depth_of old → node_for g new key k ≡ node_for g old key k
+  pub size : (key : K) (k : ℕ) → k < depth_of old → size_of (records_in new (node_for g old key k)) ≡ size_of (records_in old (node_for g old key k))
+
+-- ---- the steps
+
+-- a new root with one record stands above the levels, which are the same
+pub record HasRaised {K : Type 0} (g : Ghosts K) (old new : Store) : Type 0 where
+  pub keeps : KeepsTree g old new
+  pub content : tree_content g new ≡ tree_content g old
+  pub levels : KeepsLevels g old new
+  pub depth : depth_of new ≡ suc (depth_of old)
+  pub free : free_nodes new + 1 ≡ free_nodes old
+  pub root : size_of (records_in new (header_in new).root) ≡ g.INDEX_KEY_LEN + 7
+
+-- On one level, counted from the leaves, the node on the way to the key was cut in two; the others are the same. Both parts
+-- have room for one more record.
+pub record HasCutLevel {K : Type 0} (g : Ghosts K) (key : K) (a : ℕ) (old new : Store) : Type 0 where
+  pub keeps : KeepsTree g old new
+  pub content : tree_content g new ≡ tree_content g old
+  pub depth : depth_of new ≡ depth_of old
+  pub free : free_nodes new + 1 ≡ free_nodes old
+  pub levels : (k : ℕ) → k < depth_of old → k ≢ a → level_above g new k ≡ level_above g old k
+  pub grown : length (level_above g new a) ≡ length (level_above g old a) + 1
+  pub way : (k : ℕ) → k < a → node_for g new key k ≡ node_for g old key k
+  pub size : (k : ℕ) → k < a → size_of (records_in new (node_for g old key k)) ≡ size_of (records_in old (node_for g old key k))
+  pub room : size_of (records_in new (node_for g new key a)) ≤ 319
+  pub low : IsLow g new key

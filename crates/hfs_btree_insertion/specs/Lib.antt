@@ -1,0 +1,4 @@
+pub mod Cut
+pub mod Raise
+pub mod Growth
+pub mod Stored

@@ -1,0 +1,73 @@
+//! A record that is put into a leaf with room for it.
+
+ghost use Rattle.std.specs.Prelude.{◌≡◌, ◌+◌, ◌-◌, ◌^◌, ◌<◌, ◌≤◌, None, IsTrue, OnOk, length, drop};
+ghost use Rattle.hfs_node.specs.Node.{size_of};
+ghost use Rattle.hfs_btree.specs.Header.{header_in, record_in, depth_of, tree_content};
+ghost use Rattle.hfs_btree.specs.Pairs.{lookup};
+ghost use Rattle.hfs_btree.specs.Search.{leaf_for, IsLowWay};
+ghost use Rattle.hfs_btree.specs.Sound.{IsSound};
+ghost use Rattle.hfs_btree_insertion.specs.Stored.{HasRecordPut, HasPut};
+ghost use Rattle.hfs_btree_edits.specs.Stored.{HasHeaderPut};
+ghost use Rattle.hfs_btree.specs.Tree.{records_in};
+
+use hfs_btree::{Key, descend, place_in, read_header};
+use hfs_btree_edits::{NodesMut, load, put_header, store};
+use std::alloc::{AllocError, Global};
+
+/// Puts a record into node `n`, in front of the one at a place.
+fn put_record<S: NodesMut>(
+    alloc: Global,
+    nodes: &mut S,
+    n: u32,
+    place: usize,
+    entry: Vec<u8>,
+) -> Result<(), AllocError>
+    requires within { n < length (S.nodes nodes.old) }
+    requires place { place ≤ length (records_in (S.nodes nodes.old) n) }
+    requires room { size_of (records_in (S.nodes nodes.old) n) + (length entry.items + 2) ≤ 496 }
+    ensures put { OnOk result (HasRecordPut n place entry.items (S.nodes nodes.old) (S.nodes nodes.new)) }
+    ensures kept { OnOk result (S.kept nodes.new ≡ S.kept nodes.old) }
+{
+    let mut node = load(alloc, nodes, n)?;
+    node.records.insert(place, entry)?;
+    store(nodes, n, &node)
+}
+
+/// Counts one more record in the header record.
+fn count_record<S: NodesMut>(alloc: Global, nodes: &mut S) -> Result<(), AllocError>
+    requires within { 0 < length (S.nodes nodes.old) }
+    requires long { 30 ≤ length (record_in (S.nodes nodes.old) 0 0) }
+    requires few { (header_in (S.nodes nodes.old)).records + 1 < 2 ^ 32 }
+    ensures counted { OnOk result (HasHeaderPut (record (header_in (S.nodes nodes.old)) { records = (header_in (S.nodes nodes.old)).records + 1 }) (S.nodes nodes.old) (S.nodes nodes.new)) }
+    ensures kept { OnOk result (S.kept nodes.new ≡ S.kept nodes.old) }
+{
+    let mut header = read_header(nodes);
+    header.records += 1;
+    put_header(alloc, nodes, &header)
+}
+
+/// Puts a leaf's record into the leaf where the search for its key ends, which has room for it.
+pub fn put_entry<K: Key, S: NodesMut>(
+    alloc: Global,
+    nodes: &mut S,
+    key: &K,
+    entry: Vec<u8>,
+) -> Result<(), AllocError>
+    requires sound { IsSound K.Key (S.nodes nodes.old) }
+    requires some { 0 < depth_of (S.nodes nodes.old) }
+    requires few { (header_in (S.nodes nodes.old)).records + 1 < 2 ^ 32 }
+    requires leaf { IsTrue (K.is_leaf entry.items) }
+    requires keyed { K.leaf_key entry.items ≡ key.now }
+    requires absent { lookup K.compare key.now (tree_content K.Key (S.nodes nodes.old)) ≡ None }
+    requires low { IsLowWay K.Key (S.nodes nodes.old) key.now (depth_of (S.nodes nodes.old) - 1) (header_in (S.nodes nodes.old)).root }
+    requires room { size_of (records_in (S.nodes nodes.old) (leaf_for K.Key (S.nodes nodes.old) key.now)) + (length entry.items + 2) ≤ 496 }
+    ensures put { OnOk result (HasPut K.Key key.now (drop (K.body_start entry.items) entry.items) (S.nodes nodes.old) (S.nodes nodes.new)) }
+    ensures kept { OnOk result (S.kept nodes.new ≡ S.kept nodes.old) }
+{
+    let header = read_header(nodes);
+    let mut bytes = [0; 512];
+    let n = descend(nodes, &header, key, &mut bytes);
+    let place = place_in(&bytes, key);
+    put_record(alloc, nodes, n, place, entry)?;
+    count_record(alloc, nodes)
+}

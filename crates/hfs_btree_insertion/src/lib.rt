@@ -1,0 +1,11 @@
+//! Insertion into B*-trees: the steps, each from a sound tree to a sound tree.
+#![tactic(auto)]
+
+mod leaf_put;
+mod new_root;
+mod record_key;
+mod way;
+
+pub use leaf_put::put_entry;
+pub use new_root::raise;
+pub use way::{full_levels, node_at};

@@ -1,0 +1,96 @@
+//! The record at the end of a way, and the nodes below it that have no other: taken out, and given back.
+
+ghost use Rattle.std.specs.Prelude.{◌≡◌, ◌≢◌, ◌<◌, ◌≤◌, true, List, Ok, IfOk, OnOk, length, map};
+ghost use Rattle.hfs_node.specs.declared.kind.NodeKind.TheVariants.{Leaf};
+ghost use Rattle.hfs_node.specs.declared.node.Node.{Node};
+ghost use Rattle.hfs_btree_removal.specs.declared.down.Step.{Step};
+ghost use Rattle.hfs_scans.specs.Each.{Each};
+ghost use Rattle.hfs_btree_removal.specs.Removal.{fewer, AreReleased, AreStray, HasDetached, HasRecordTaken, IsNewFirst, IsWayBelow};
+ghost use Rattle.hfs_btree.specs.Sound.{IsSound};
+ghost use Rattle.hfs_btree.specs.Tree.{node_in, records_in};
+
+use crate::down::Step;
+use crate::unlink::{Neighbours, unlink_all};
+use hfs_btree::{Header, Key, read_header};
+use hfs_btree_edits::{NodesMut, first_key_of, load, put_header, release, store};
+use std::alloc::{AllocError, Global};
+
+/// Takes the record on the way out of its node. Answers the node's new first key where the first record was taken.
+fn take_record<K: Key, S: NodesMut>(
+    alloc: Global,
+    nodes: &mut S,
+    step: &Step,
+) -> Result<Option<K>, AllocError>
+    requires node { step.now.node < length (S.nodes nodes.old) }
+    requires place { step.now.place < length (records_in (S.nodes nodes.old) step.now.node) }
+    requires more { 2 ≤ length (records_in (S.nodes nodes.old) step.now.node) }
+    requires leaf { (v : Node) → node_in (S.nodes nodes.old) step.now.node ≡ Ok v → v.kind ≡ Leaf → Each (λ e. K.is_leaf e ≡ true) v.records }
+    requires index { (v : Node) → node_in (S.nodes nodes.old) step.now.node ≡ Ok v → v.kind ≢ Leaf → Each (λ e. K.is_index e ≡ true) v.records }
+    ensures taken { OnOk result (HasRecordTaken step.now.node step.now.place (S.nodes nodes.old) (S.nodes nodes.new)) }
+    ensures first { IfOk result (IsNewFirst K.Key step.now (S.nodes nodes.new)) }
+    ensures kept { OnOk result (S.kept nodes.new ≡ S.kept nodes.old) }
+{
+    let mut node = load(alloc, nodes, step.node)?;
+    let _taken = node.records.remove(step.place);
+    store(nodes, step.node, &node)?;
+    if step.place > 0 {
+        return Ok(None);
+    }
+    Ok(Some(first_key_of(&node)))
+}
+
+/// The header record where one pair is gone, and so many nodes below each other, the last of them between these leaves.
+fn with_fewer(header: &Header, beside: &Neighbours, nodes: usize) -> Header
+    requires { 1 ≤ header.now.records }
+    ensures { result ≡ fewer header.now beside.now.left beside.now.right nodes }
+{
+    let mut fewer = *header;
+    fewer.records -= 1;
+    if nodes > 0 {
+        if beside.left == 0 {
+            fewer.first_leaf = beside.right;
+        }
+        if beside.right == 0 {
+            fewer.last_leaf = beside.left;
+        }
+    }
+    fewer
+}
+
+/// Takes the nodes of `chain` out of their links and the record on the way out of the node above them, and counts one pair
+/// less. Answers that node's first key where it has changed.
+pub(crate) fn detach<K: Key, S: NodesMut>(
+    alloc: Global,
+    nodes: &mut S,
+    step: &Step,
+    chain: &[Step],
+) -> Result<Option<K>, AllocError>
+    requires sound { IsSound K.Key (S.nodes nodes.old) }
+    requires way { (above : List Step) × IsWayBelow K.Key (S.nodes nodes.old) above step.now chain.now }
+    ensures detached { IfOk result (HasDetached K.Key step.now chain.now (S.nodes nodes.old) (S.nodes nodes.new)) }
+    ensures kept { OnOk result (S.kept nodes.new ≡ S.kept nodes.old) }
+{
+    let header = read_header(nodes);
+    let beside = unlink_all(alloc, nodes, chain)?;
+    let changed = take_record::<K, S>(alloc, nodes, step)?;
+    let fewer = with_fewer(&header, &beside, chain.len());
+    put_header(alloc, nodes, &fewer)?;
+    Ok(changed)
+}
+
+/// Gives the nodes of these steps back, which are stray ones.
+pub(crate) fn release_all<K: Key, S: NodesMut>(
+    alloc: Global,
+    nodes: &mut S,
+    chain: &[Step],
+) -> Result<(), AllocError>
+    requires sound { IsSound K.Key (S.nodes nodes.old) }
+    requires strays { AreStray K.Key (S.nodes nodes.old) chain.now }
+    ensures released { OnOk result (AreReleased K.Key (map (λ s. s.node) chain.now) (S.nodes nodes.old) (S.nodes nodes.new)) }
+    ensures kept { OnOk result (S.kept nodes.new ≡ S.kept nodes.old) }
+{
+    for i in 0..chain.len() {
+        release::<K, S>(alloc, nodes, chain[i].node)?;
+    }
+    Ok(())
+}

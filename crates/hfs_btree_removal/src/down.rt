@@ -1,0 +1,91 @@
+//! The way from the root down to a pair, step by step.
+
+ghost use Rattle.std.specs.Prelude.{◌≡◌, ◌<◌, ◌≤◌, suc, true, [], IfOk, MatchOption, length, drop, slice_index_or};
+ghost use Rattle.hfs_btree_edits.specs.Conditions.{IsThere};
+ghost use Rattle.hfs_btree.specs.Header.{header_in, depth_of, tree_content};
+ghost use Rattle.hfs_scans.specs.Each.{Each};
+ghost use Rattle.hfs_btree.specs.Pairs.{lookup};
+ghost use Rattle.hfs_btree.specs.Sound.{IsSound};
+ghost use Rattle.hfs_btree.specs.Tree.{records_of};
+ghost use Rattle.hfs_btree_removal.specs.Ways.{IsWayTo, IsLastWide};
+ghost use Rattle.hfs_node.specs.Node.{node_of};
+
+use hfs_btree::{Header, Key, Nodes, child_of, count_in, entry_in, place_in_index};
+use hfs_btree_edits::place_of;
+use std::alloc::{AllocError, Global};
+
+/// A node on the way from the root to a pair.
+#[derive(Clone, Copy)]
+pub(crate) struct Step {
+    /// The node's number.
+    pub node: u32,
+    /// Which of its records leads on, or in the leaf is the pair's.
+    pub place: usize,
+    /// How many records it has.
+    pub count: usize,
+}
+
+/// The child that an index node's record names.
+pub(crate) fn child_at<K: Key>(bytes: &[u8; 512], place: usize) -> u32
+    requires within { place < length (records_of (node_of bytes.now)) }
+    requires whole { Each (λ entry. K.is_index entry ≡ true) (records_of (node_of bytes.now)) }
+    ensures { result ≡ K.child (slice_index_or (records_of (node_of bytes.now)) place []) }
+{
+    match entry_in(bytes, place) {
+        Some(entry) => child_of::<K>(entry),
+        None => unreachable!(),
+    }
+}
+
+/// The way to the pair with this key, the root first, in a tree that has the pair.
+pub(crate) fn steps_to<K: Key, N: Nodes>(
+    alloc: Global,
+    nodes: &N,
+    header: &Header,
+    key: &K,
+) -> Result<Vec<Step>, AllocError>
+    requires sound { IsSound K.Key (N.nodes nodes.now) }
+    requires header { header.now ≡ header_in (N.nodes nodes.now) }
+    requires some { 0 < depth_of (N.nodes nodes.now) }
+    requires there { IsThere (lookup K.compare key.now (tree_content K.Key (N.nodes nodes.now))) }
+    ensures { IfOk result (λ steps. IsWayTo K.Key (N.nodes nodes.now) key.now steps.items) }
+{
+    let mut steps = Vec::new(alloc);
+    let mut bytes = [0; 512];
+    let mut n = header.root;
+    let mut below = header.depth - 1;
+    nodes.read(n, &mut bytes);
+    while below > 0 {
+        let place = place_in_index(&bytes, key);
+        let count = count_in(&bytes);
+        steps.push(Step {
+            node: n,
+            place,
+            count,
+        })?;
+        n = child_at::<K>(&bytes, place);
+        below -= 1;
+        nodes.read(n, &mut bytes);
+    }
+    let place = place_of(&bytes, key);
+    let count = count_in(&bytes);
+    steps.push(Step {
+        node: n,
+        place,
+        count,
+    })?;
+    Ok(steps)
+}
+
+/// The last step whose node has a record besides the one on the way.
+pub(crate) fn last_wide(steps: &[Step]) -> Option<usize>
+    ensures { MatchOption result (Each (λ s. s.count ≤ 1) steps.now) (λ at. IsLastWide steps.now at) }
+{
+    for i in 0..steps.len() {
+        let at = steps.len() - 1 - i;
+        if steps[at].count > 1 {
+            return Some(at);
+        }
+    }
+    None
+}

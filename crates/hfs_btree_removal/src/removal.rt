@@ -1,0 +1,65 @@
+//! Taking a pair out of a tree.
+
+ghost use Rattle.std.specs.Prelude.{◌≡◌, OnOk};
+ghost use Rattle.hfs_btree_edits.specs.Conditions.{IsThere};
+ghost use Rattle.hfs_btree_removal.specs.Removal.{HasLost};
+ghost use Rattle.hfs_btree.specs.Header.{tree_content};
+ghost use Rattle.hfs_btree.specs.Pairs.{lookup};
+ghost use Rattle.hfs_btree_removal.specs.Removal.{HasTakenOut};
+ghost use Rattle.hfs_btree.specs.Sound.{IsSound};
+ghost use Rattle.hfs_btree_removal.specs.Ways.{IsWayTo, IsLastWide};
+
+use crate::detach::{detach, release_all};
+use crate::down::{Step, last_wide, steps_to};
+use crate::pass_up::tell_above;
+use crate::top::{drop_root, lower_root};
+use hfs_btree::{Key, read_header};
+use hfs_btree_edits::NodesMut;
+use std::alloc::{AllocError, Global};
+
+/// Takes the pair out where `wide` is the last step whose node has another record besides the one on the way: that
+/// record goes, and with it the nodes below it, which have no other record.
+fn take_out<K: Key, S: NodesMut>(
+    alloc: Global,
+    nodes: &mut S,
+    steps: &[Step],
+    wide: usize,
+) -> Result<(), AllocError>
+    requires sound { IsSound K.Key (S.nodes nodes.old) }
+    requires way { (t : K) × IsWayTo K.Key (S.nodes nodes.old) t steps.now }
+    requires wide { IsLastWide steps.now wide }
+    ensures out { OnOk result (HasTakenOut K.Key steps.now (S.nodes nodes.old) (S.nodes nodes.new)) }
+    ensures kept { OnOk result (S.kept nodes.new ≡ S.kept nodes.old) }
+{
+    let above = &steps[..wide];
+    let chain = &steps[wide + 1..];
+    let changed = detach::<K, S>(alloc, nodes, &steps[wide], chain)?;
+    tell_above(alloc, nodes, above, changed)?;
+    release_all::<K, S>(alloc, nodes, chain)
+}
+
+/// Takes the pair with this key out of the tree.
+///
+/// A node whose last record goes is freed: it is blank, and leaves the links of its level. A first key that changes is told
+/// to the nodes above. An index root with one record gives way to its child.
+///
+/// Errors: `AllocError` where memory was refused. Then nothing is known of the nodes, which are to be thrown away.
+///
+/// Source: Inside Macintosh: Files, chapter 2, 'B*-trees'.
+pub fn remove<K: Key, S: NodesMut>(alloc: Global, nodes: &mut S, key: &K) -> Result<(), AllocError>
+    requires sound { IsSound K.Key (S.nodes nodes.old) }
+    requires there { IsThere (lookup K.compare key.now (tree_content K.Key (S.nodes nodes.old))) }
+    ensures removed { OnOk result (HasLost K.Key key.now (S.nodes nodes.old) (S.nodes nodes.new)) }
+    ensures kept { OnOk result (S.kept nodes.new ≡ S.kept nodes.old) }
+{
+    lower_root::<K, S>(alloc, nodes)?;
+    let header = read_header(nodes);
+    let steps = steps_to(alloc, nodes, &header, key)?;
+    match last_wide(&steps) {
+        Some(wide) => {
+            take_out::<K, S>(alloc, nodes, &steps, wide)?;
+            lower_root::<K, S>(alloc, nodes)
+        }
+        None => drop_root::<K, S>(alloc, nodes, &header),
+    }
+}

@@ -1,0 +1,100 @@
+//! A node whose neighbours are linked to each other past it.
+
+ghost use Rattle.std.specs.Prelude.{◌≡◌, ◌≢◌, ◌<◌, IfOk, OnOk, length};
+ghost use Rattle.hfs_btree.specs.Tree.{node_in, forward_of};
+ghost use Rattle.hfs_btree_removal.specs.Removal.{HasForward, HasBackwardTo, HasUnlinked, AreUnlinkable, AreStepsUnlinked, backward_of, last_left, last_right};
+
+use crate::down::Step;
+use hfs_btree_edits::{NodesMut, load, store};
+use std::alloc::{AllocError, Global};
+
+/// The neighbours of a node in its level, 0 at the ends.
+#[derive(Clone, Copy)]
+pub(crate) struct Neighbours {
+    pub left: u32,
+    pub right: u32,
+}
+
+/// Links node `n`, if it isn't 0, to another one on the right.
+fn link_forward<S: NodesMut>(
+    alloc: Global,
+    nodes: &mut S,
+    n: u32,
+    to: u32,
+) -> Result<(), AllocError>
+    requires { n < length (S.nodes nodes.old) }
+    ensures linked { OnOk result (HasForward n to (S.nodes nodes.old) (S.nodes nodes.new)) }
+    ensures kept { OnOk result (S.kept nodes.new ≡ S.kept nodes.old) }
+{
+    if n == 0 {
+        return Ok(());
+    }
+    let mut node = load(alloc, nodes, n)?;
+    node.forward = to;
+    store(nodes, n, &node)
+}
+
+/// Links node `n`, if it isn't 0, to another one on the left.
+fn link_backward<S: NodesMut>(
+    alloc: Global,
+    nodes: &mut S,
+    n: u32,
+    to: u32,
+) -> Result<(), AllocError>
+    requires { n < length (S.nodes nodes.old) }
+    ensures linked { OnOk result (HasBackwardTo n to (S.nodes nodes.old) (S.nodes nodes.new)) }
+    ensures kept { OnOk result (S.kept nodes.new ≡ S.kept nodes.old) }
+{
+    if n == 0 {
+        return Ok(());
+    }
+    let mut node = load(alloc, nodes, n)?;
+    node.backward = to;
+    store(nodes, n, &node)
+}
+
+/// Links the neighbours of node `n` to each other, and answers them.
+pub(crate) fn unlink<S: NodesMut>(
+    alloc: Global,
+    nodes: &mut S,
+    n: u32,
+) -> Result<Neighbours, AllocError>
+    requires within { n < length (S.nodes nodes.old) }
+    requires left { backward_of (node_in (S.nodes nodes.old) n) < length (S.nodes nodes.old) }
+    requires right { forward_of (node_in (S.nodes nodes.old) n) < length (S.nodes nodes.old) }
+    requires apart { backward_of (node_in (S.nodes nodes.old) n) ≢ 0 → backward_of (node_in (S.nodes nodes.old) n) ≢ forward_of (node_in (S.nodes nodes.old) n) }
+    ensures left { IfOk result (λ beside. beside.left ≡ backward_of (node_in (S.nodes nodes.old) n)) }
+    ensures right { IfOk result (λ beside. beside.right ≡ forward_of (node_in (S.nodes nodes.old) n)) }
+    ensures linked { IfOk result (λ beside. HasUnlinked (S.nodes nodes.old) (S.nodes nodes.new) beside.left beside.right) }
+    ensures kept { OnOk result (S.kept nodes.new ≡ S.kept nodes.old) }
+{
+    let node = load(alloc, nodes, n)?;
+    let beside = Neighbours {
+        left: node.backward,
+        right: node.forward,
+    };
+    link_forward(alloc, nodes, beside.left, beside.right)?;
+    link_backward(alloc, nodes, beside.right, beside.left)?;
+    Ok(beside)
+}
+
+/// Takes the nodes of these steps, which stand one below the other, out of the links of their levels. Answers the
+/// neighbours of the last one.
+pub(crate) fn unlink_all<S: NodesMut>(
+    alloc: Global,
+    nodes: &mut S,
+    chain: &[Step],
+) -> Result<Neighbours, AllocError>
+    requires { AreUnlinkable (S.nodes nodes.old) chain.now }
+    ensures linked { OnOk result (AreStepsUnlinked (S.nodes nodes.old) chain.now (S.nodes nodes.old) (S.nodes nodes.new)) }
+    ensures left { IfOk result (λ beside. beside.left ≡ last_left (S.nodes nodes.old) chain.now) }
+    ensures right { IfOk result (λ beside. beside.right ≡ last_right (S.nodes nodes.old) chain.now) }
+    ensures kept { OnOk result (S.kept nodes.new ≡ S.kept nodes.old) }
+{
+    let mut last = Neighbours { left: 0, right: 0 };
+    for i in 0..chain.len() {
+        let n = chain[i].node;
+        last = unlink(alloc, nodes, n)?;
+    }
+    Ok(last)
+}

@@ -1,7 +1,0 @@
-use Rattle.std.proofs.Common.{◌≡◌, ℕ, take}
-use Rattle.hfs_catalog.specs.Records.{valence_of}
-use Rattle.hfs_catalog.specs.Indexes.{count_of}
-use Rattle.hfs_catalog.proofs.valence_check.child_counts.Given as goal
-
-abbrev pub invariant-loop-i : goal.invariant-loop-i
-invariant-loop-i l = (id : ℕ) → count_of l.counts id ≡ valence_of (take l.i l.catalog) id

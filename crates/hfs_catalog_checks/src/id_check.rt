@@ -1,0 +1,72 @@
+//! The check of mounting on the IDs of a catalog.
+
+ghost use Rattle.std.specs.Prelude.{◌≡◌, ◌&&◌, ◌==◌, [], length};
+ghost use Rattle.std.specs.List.{list_any};
+ghost use Rattle.hfs_fields.specs.Records.{is_item, item_id};
+ghost use Rattle.hfs_scans.specs.First.{first_failing};
+ghost use Rattle.hfs_catalog.specs.Records.{has_id};
+ghost use Rattle.hfs_catalog_checks.specs.Indexes.{item_place, is_place};
+ghost use Rattle.hfs_catalog_checks.specs.Faults.{implies, unless, is_id_right, is_item_id_right, id_fault};
+
+use crate::index::IndexedCatalog;
+use hfs_catalog::{is_folder, item_id};
+use hfs_fields::CatKey;
+use hfs_model::Bytes;
+
+/// Whether an ID is right for an item: 2 for the root, a folder under 1, and for others one that was given out, from 16 on.
+#[tactic(auto, unfolding(crate::specs::Faults::is_id_right))]
+fn is_id_right(next: u32, id: u32, r: &(CatKey, Bytes)) -> bool
+    requires { item_id r.now.1 ≡ id }
+    ensures { result ≡ is_id_right next r.now }
+{
+    let is_root = id == 2 && is_folder(r.1.as_slice()) && r.0.parent == 1;
+    let is_given = 16 <= id && id < next && r.0.parent != 1;
+    is_root || is_given
+}
+
+/// Whether record `i`, if it is a file's or a folder's, has an ID that is right for it, and that no record before has.
+fn is_item_id_right(catalog: &IndexedCatalog<'_>, next: u32, i: usize, r: &(CatKey, Bytes)) -> bool
+    ensures { result ≡ implies (is_item r.now.1) (is_id_right next r.now && is_place (item_place catalog.now (item_id r.now.1)) i) }
+{
+    match item_id(r.1.as_slice()) {
+        Some(id) => is_id_right(next, id, r) && catalog.place(id) == Some(i),
+        None => true,
+    }
+}
+
+/// The number of the first record with a wrong ID.
+fn first_wrong_id(catalog: &IndexedCatalog<'_>, next: u32) -> Option<usize>
+    ensures { result ≡ first_failing (is_item_id_right next) [] catalog.now }
+{
+    let records = catalog.records();
+    for i in 0..records.len() {
+        if !is_item_id_right(catalog, next, i, &records[i]) {
+            return Some(i);
+        }
+    }
+    None
+}
+
+/// The number of records, where no record has the root's ID.
+fn missing_root(catalog: &IndexedCatalog<'_>) -> Option<usize>
+    ensures { result ≡ unless (list_any (has_id 2) catalog.now) (length catalog.now) }
+{
+    match catalog.place(2) {
+        Some(_) => None,
+        None => Some(catalog.len()),
+    }
+}
+
+/// The number of the first record, from 0 on, of an item with a wrong ID; the number of records where none is the root's.
+/// None where the IDs are sound.
+///
+/// The root is a folder with the ID 2 under 1. Any other item has an ID from 16 on and below `next`, the volume's next ID
+/// (drNxtCNID), and does not stand under 1. Of two records with one ID the later is wrong.
+///
+/// It reads each record once, and takes no memory.
+#[tactic(auto, unfolding(crate::specs::Faults::id_fault))]
+pub fn id_fault(next: u32, catalog: &IndexedCatalog<'_>) -> Option<usize>
+    ensures { result ≡ id_fault next catalog.now }
+{
+    first_wrong_id(catalog, next).or(missing_root(catalog))
+}

@@ -1,0 +1,48 @@
+//! Sets of IDs.
+
+ghost use Rattle.std.specs.Prelude.{◌≡◌, ℕ, ◌||◌, [], OnOk, nat_eq};
+ghost use Rattle.hfs_catalog_checks.specs.Indexes.{has_number};
+
+use std::alloc::{AllocError, Global};
+use std::collections::BTreeSet;
+use std::marker::Model;
+
+/// A set of IDs, kept in their order and not by hashes, since an image chooses its IDs. Contracts see their list.
+#[derive(Drop)]
+pub(crate) struct IdSet {
+    ids: BTreeSet<u32>,
+}
+
+impl Model for IdSet {
+    ghost use Rattle.std.specs.Prelude.{ℕ, List};
+
+    ghost Value = { List ℕ };
+
+    ghost view = { λ s. s.ids.keys };
+}
+
+impl IdSet {
+    /// The empty set. Takes no memory.
+    pub(crate) fn new(alloc: Global) -> IdSet
+        ensures { result ≡ [] }
+    {
+        IdSet {
+            ids: BTreeSet::new(alloc),
+        }
+    }
+
+    /// Whether the set has an ID.
+    pub(crate) fn has(&self, id: u32) -> bool
+        ensures { result ≡ has_number self.now id }
+    {
+        self.ids.contains(&id)
+    }
+
+    /// Puts an ID into the set. `Err` only where memory is wanting.
+    pub(crate) fn add(&mut self, id: u32) -> Result<(), AllocError>
+        ensures { OnOk result ((k : ℕ) → has_number self.new k ≡ (has_number self.old k || nat_eq id k)) }
+    {
+        self.ids.insert(id)?;
+        Ok(())
+    }
+}

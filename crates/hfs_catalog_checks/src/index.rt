@@ -1,0 +1,96 @@
+//! A catalog with its items by their IDs.
+
+ghost use Rattle.std.specs.Prelude.{◌≡◌, ℕ, length, IfOk, OnOk};
+ghost use Rattle.std.specs.Option.{option_or, option_copied};
+ghost use Rattle.hfs_catalog.specs.Records.{has_id, item_with};
+ghost use Rattle.hfs_catalog_checks.specs.Indexes.{number_of, item_place, only_if};
+
+use crate::numbers::Numbers;
+use hfs_catalog::item_id;
+use hfs_fields::CatKey;
+use hfs_model::Bytes;
+use std::alloc::{AllocError, Global};
+use std::marker::Model;
+
+/// Notes the place of a record under its ID, if it is a file's or a folder's, and the first with the ID.
+fn note_item(places: &mut Numbers, i: usize, r: &(CatKey, Bytes)) -> Result<(), AllocError>
+    ensures { OnOk result ((id : ℕ) → number_of places.new id ≡ option_or (number_of places.old id) (only_if (has_id id r.now) i)) }
+{
+    if let Some(id) = item_id(r.1.as_slice()) {
+        places.put_first(id, i)?;
+    }
+    Ok(())
+}
+
+/// The place of each file's and folder's record by its ID; of two with one ID, that of the first.
+fn item_places(alloc: Global, records: &[(CatKey, Bytes)]) -> Result<Numbers, AllocError>
+    ensures { IfOk result (λ places. (id : ℕ) → number_of places id ≡ item_place records.now id) }
+{
+    let mut places = Numbers::new(alloc);
+    for i in 0..records.len() {
+        note_item(&mut places, i, &records[i])?;
+    }
+    Ok(places)
+}
+
+/// The records of a catalog, with an index of its files and folders by their IDs. Contracts see the records.
+#[derive(Drop)]
+pub struct IndexedCatalog<'a> {
+    records: &'a [(CatKey, Bytes)],
+    places: Numbers,
+}
+
+impl<'a> Model for IndexedCatalog<'a> {
+    ghost use Rattle.std.specs.Prelude.{◌≡◌, ℕ};
+    ghost use Rattle.hfs_catalog.specs.Records.{Catalog};
+    ghost use Rattle.hfs_catalog_checks.specs.Indexes.{number_of, item_place};
+
+    ghost Value = { Catalog };
+
+    ghost view = { λ x. x.records.now };
+
+    ghost invariant = { λ x. (id : ℕ) → number_of x.places id ≡ item_place x.records.now id };
+}
+
+impl<'a> IndexedCatalog<'a> {
+    /// The catalog with these records. It reads each once, and takes memory for an index of the items. `Err` only where
+    /// memory is wanting.
+    pub fn of(
+        alloc: Global,
+        records: &'a [(CatKey, Bytes)],
+    ) -> Result<IndexedCatalog<'a>, AllocError>
+        ensures { IfOk result (λ catalog. catalog ≡ records.now) }
+    {
+        let places = item_places(alloc, records)?;
+        Ok(IndexedCatalog { records, places })
+    }
+
+    /// The records, in their order.
+    pub fn records(&self) -> &'a [(CatKey, Bytes)]
+        ensures { result.now ≡ self.now }
+    {
+        self.records
+    }
+
+    /// How many records the catalog has.
+    pub(crate) fn len(&self) -> usize
+        ensures { result ≡ length self.now }
+    {
+        self.records.len()
+    }
+
+    /// The place of the first record of a file or a folder with that ID, from 0 on. None where there is none.
+    pub(crate) fn place(&self, id: u32) -> Option<usize>
+        ensures { result ≡ item_place self.now id }
+    {
+        self.places.get(id)
+    }
+
+    /// The first record of a file or a folder with that ID. None where there is none.
+    pub(crate) fn item(&self, id: u32) -> Option<&(CatKey, Bytes)>
+        ensures { option_copied result ≡ item_with self.now id }
+    {
+        let i = self.places.get(id)?;
+        self.records.get(i)
+    }
+}

@@ -1,0 +1,24 @@
+//! The checks of mounting on the records of a catalog, each as its first fault, and what no fault says.
+#![tactic(auto)]
+
+mod checks;
+mod id_check;
+mod id_set;
+mod index;
+mod laws;
+mod numbers;
+mod order_check;
+mod parent_check;
+mod place_check;
+mod thread_check;
+mod valence_check;
+
+pub use checks::{count_fault, name_fault, record_fault};
+pub use id_check::id_fault;
+pub use index::IndexedCatalog;
+pub use laws::{
+    no_count_fault, no_id_fault, no_name_fault, no_place_fault, no_record_fault, no_valence_fault,
+    reaches_soon,
+};
+pub use place_check::place_fault;
+pub use valence_check::valence_fault;

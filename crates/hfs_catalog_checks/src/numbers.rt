@@ -1,0 +1,77 @@
+//! Numbers that are found by an ID.
+
+ghost use Rattle.std.specs.Prelude.{◌≡◌, ℕ, ◌+◌, ◌<◌, ◌^◌, [], OnOk, nat_eq, if◌then◌else◌};
+ghost use Rattle.std.specs.Option.{option_or};
+ghost use Rattle.hfs_catalog_checks.specs.Indexes.{number_of, count_of, with_number, only_if};
+
+use std::alloc::{AllocError, Global};
+use std::collections::BTreeMap;
+use std::marker::Model;
+
+/// Numbers, each with an ID: places of records, or counts. They are kept in the order of the IDs and not by hashes, since
+/// an image chooses its IDs, and could choose them so that their hashes meet.
+#[derive(Drop)]
+pub(crate) struct Numbers {
+    numbers: BTreeMap<u32, usize>,
+}
+
+impl Model for Numbers {
+    ghost use Rattle.hfs_catalog_checks.specs.Indexes.{Numbered};
+
+    ghost Value = { Numbered };
+
+    ghost view = { λ m. m.numbers.entries };
+}
+
+impl Numbers {
+    /// No number for any ID. Takes no memory.
+    pub(crate) fn new(alloc: Global) -> Numbers
+        ensures { result ≡ [] }
+    {
+        Numbers {
+            numbers: BTreeMap::new(alloc),
+        }
+    }
+
+    /// The number of an ID, if it has one.
+    pub(crate) fn get(&self, id: u32) -> Option<usize>
+        ensures { result ≡ number_of self.now id }
+    {
+        self.numbers.get(&id).copied()
+    }
+
+    /// Gives an ID this number, in place of the one that it has.
+    pub(crate) fn put(&mut self, id: u32, number: usize) -> Result<(), AllocError>
+        ensures { OnOk result (number_of self.new ≡ with_number (number_of self.old) id number) }
+    {
+        self.numbers.insert(id, number)?;
+        Ok(())
+    }
+
+    /// Gives an ID this number, if it has none.
+    pub(crate) fn put_first(&mut self, id: u32, number: usize) -> Result<(), AllocError>
+        ensures { OnOk result ((k : ℕ) → number_of self.new k ≡ option_or (number_of self.old k) (only_if (nat_eq id k) number)) }
+    {
+        match self.get(id) {
+            None => self.put(id, number),
+            Some(_) => Ok(()),
+        }
+    }
+
+    /// The number of an ID, 0 if it has none.
+    pub(crate) fn count(&self, id: u32) -> usize
+        ensures { result ≡ count_of self.now id }
+    {
+        self.get(id).unwrap_or(0)
+    }
+
+    /// Adds 1 to the number of an ID.
+    pub(crate) fn count_up(&mut self, id: u32) -> Result<(), AllocError>
+        requires { count_of self.old id + 1 < 2 ^ 64 }
+        ensures { OnOk result ((k : ℕ) → count_of self.new k ≡ count_of self.old k + (if nat_eq id k then 1 else 0)) }
+    {
+        let count = self.count(id);
+        self.put(id, count + 1)?;
+        Ok(())
+    }
+}

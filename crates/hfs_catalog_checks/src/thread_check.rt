@@ -1,0 +1,139 @@
+//! The check of mounting on the threads of a catalog.
+
+ghost use Rattle.std.specs.Prelude.{◌≡◌, ℕ, ◌||◌, [], length, IfOk, OnOk};
+ghost use Rattle.hfs_fields.specs.Keys.{name_at};
+ghost use Rattle.hfs_fields.specs.Numbers.{number_at};
+ghost use Rattle.hfs_fields.specs.Records.{is_dir, is_thread, item_id};
+ghost use Rattle.hfs_scans.specs.First.{first_failing};
+ghost use Rattle.hfs_catalog.specs.Records.{is_thread_of, has_thread};
+ghost use Rattle.hfs_catalog_checks.specs.Indexes.{has_number};
+ghost use Rattle.hfs_catalog_checks.specs.Faults.{implies, leads_to, is_thread_right};
+
+use crate::id_set::IdSet;
+use crate::index::IndexedCatalog;
+use byteorder::{BigEndian, ByteOrder};
+use hfs_catalog::{is_folder, is_thread, item_id};
+use hfs_fields::{CatKey, same_name};
+use hfs_model::Bytes;
+use std::alloc::{AllocError, Global};
+
+/// Notes the ID of a record's key, if it is a thread's.
+fn note_thread(ids: &mut IdSet, r: &(CatKey, Bytes)) -> Result<(), AllocError>
+    ensures { OnOk result ((id : ℕ) → has_number ids.new id ≡ (has_number ids.old id || is_thread_of id r.now)) }
+{
+    if is_thread(r.1.as_slice()) {
+        ids.add(r.0.parent)?;
+    }
+    Ok(())
+}
+
+/// The IDs that have threads.
+fn thread_ids(alloc: Global, catalog: &[(CatKey, Bytes)]) -> Result<IdSet, AllocError>
+    ensures { IfOk result (λ ids. (id : ℕ) → has_number ids id ≡ has_thread catalog.now id) }
+{
+    let mut ids = IdSet::new(alloc);
+    for i in 0..catalog.len() {
+        note_thread(&mut ids, &catalog[i])?;
+    }
+    Ok(ids)
+}
+
+/// Whether a record, if it is a folder's, has a thread.
+fn is_threaded(ids: &IdSet, r: &(CatKey, Bytes)) -> bool
+    ensures { result ≡ implies (is_dir r.now.1) (has_number ids.now (item_id r.now.1)) }
+{
+    let body = r.1.as_slice();
+    if !is_folder(body) {
+        return true;
+    }
+    match item_id(body) {
+        Some(id) => ids.has(id),
+        None => false,
+    }
+}
+
+/// The number of the first folder's record without a thread.
+fn first_unthreaded_by(ids: &IdSet, catalog: &[(CatKey, Bytes)]) -> Option<usize>
+    requires { (id : ℕ) → has_number ids.now id ≡ has_thread catalog.now id }
+    ensures { result ≡ first_failing (λ _ r. implies (is_dir r.1) (has_thread catalog.now (item_id r.1))) [] catalog.now }
+{
+    for i in 0..catalog.len() {
+        if !is_threaded(ids, &catalog[i]) {
+            return Some(i);
+        }
+    }
+    None
+}
+
+/// The number of the first folder's record without a thread. `Err` only where memory is wanting.
+pub(crate) fn first_unthreaded(
+    alloc: Global,
+    catalog: &[(CatKey, Bytes)],
+) -> Result<Option<usize>, AllocError>
+    ensures { IfOk result (λ place. place ≡ first_failing (λ _ r. implies (is_dir r.1) (has_thread catalog.now (item_id r.1))) [] catalog.now) }
+{
+    let ids = thread_ids(alloc, catalog)?;
+    Ok(first_unthreaded_by(&ids, catalog))
+}
+
+/// The parent's ID in a thread's body.
+#[tactic(auto, unfolding(hfs_fields::specs::Numbers::number_at))]
+fn parent_in_thread(body: &[u8]) -> u32
+    requires { length body.now ≡ 46 }
+    ensures { result ≡ number_at 10 4 body.now }
+{
+    BigEndian::read_u32(&body[10..])
+}
+
+/// The name in a thread's body, which ends with the body at the latest.
+fn name_in_thread(body: &[u8]) -> &[u8]
+    requires { length body.now ≡ 46 }
+    ensures { result.now ≡ name_at 14 body.now }
+{
+    let rest = &body[15..];
+    let length = body[14] as usize;
+    if length < rest.len() {
+        &rest[..length]
+    } else {
+        rest
+    }
+}
+
+/// Whether a thread is of an item's kind, and says its parent and the same name.
+#[tactic(auto, unfolding(crate::specs::Faults::leads_to, hfs_fields::specs::Records::thread_record_of))]
+fn leads_to(thread: &(CatKey, Bytes), item: &(CatKey, Bytes)) -> bool
+    requires { length thread.now.1 ≡ 46 }
+    ensures { result ≡ leads_to thread.now item.now }
+{
+    let body = thread.1.as_slice();
+    (body[0] == 3) == is_folder(item.1.as_slice())
+        && parent_in_thread(body) == item.0.parent
+        && same_name(item.0.name.bytes(), name_in_thread(body))
+}
+
+/// Whether a record, if it is a thread's, leads to the item whose ID is its key.
+#[tactic(auto, unfolding(crate::specs::Faults::is_thread_right))]
+fn is_thread_right(catalog: &IndexedCatalog<'_>, r: &(CatKey, Bytes)) -> bool
+    ensures { result ≡ implies (is_thread r.now.1) (is_thread_right catalog.now r.now) }
+{
+    if !is_thread(r.1.as_slice()) {
+        return true;
+    }
+    match catalog.item(r.0.parent) {
+        Some(item) => leads_to(r, item),
+        None => false,
+    }
+}
+
+/// The number of the first thread's record that does not lead to its item.
+pub(crate) fn first_wrong_thread(catalog: &IndexedCatalog<'_>) -> Option<usize>
+    ensures { result ≡ first_failing (λ _ r. implies (is_thread r.1) (is_thread_right catalog.now r)) [] catalog.now }
+{
+    let records = catalog.records();
+    for i in 0..records.len() {
+        if !is_thread_right(catalog, &records[i]) {
+            return Some(i);
+        }
+    }
+    None
+}

@@ -1,0 +1,79 @@
+//! The check of mounting on the valences of folders.
+
+ghost use Rattle.std.specs.Prelude.{◌≡◌, ℕ, ◌+◌, ◌<◌, ◌^◌, ◌&&◌, ◌==◌, nat_le, if◌then◌else◌, [], IfOk, OnOk};
+ghost use Rattle.hfs_fields.specs.Records.{is_dir, item_id, dir_record_of};
+ghost use Rattle.hfs_scans.specs.First.{first_failing};
+ghost use Rattle.hfs_catalog.specs.Records.{is_child_of, valence_of};
+ghost use Rattle.hfs_catalog_checks.specs.Indexes.{count_of};
+ghost use Rattle.hfs_catalog_checks.specs.Faults.{implies, is_valence_right, valence_fault};
+
+use crate::numbers::Numbers;
+use hfs_catalog::{is_folder, is_item};
+use hfs_fields::{CatKey, DirRecord};
+use hfs_model::Bytes;
+use std::alloc::{AllocError, Global};
+
+/// Counts a record under its parent, if it is a file's or a folder's.
+fn count_child(counts: &mut Numbers, r: &(CatKey, Bytes)) -> Result<(), AllocError>
+    requires { count_of counts.old r.now.0.parent + 1 < 2 ^ 64 }
+    ensures { OnOk result ((id : ℕ) → count_of counts.new id ≡ count_of counts.old id + (if is_child_of id r.now then 1 else 0)) }
+{
+    if is_item(r.1.as_slice()) {
+        counts.count_up(r.0.parent)?;
+    }
+    Ok(())
+}
+
+/// How many files and folders have each ID as their parent.
+fn child_counts(alloc: Global, catalog: &[(CatKey, Bytes)]) -> Result<Numbers, AllocError>
+    ensures { IfOk result (λ counts. (id : ℕ) → count_of counts id ≡ valence_of catalog.now id) }
+{
+    let mut counts = Numbers::new(alloc);
+    for i in 0..catalog.len() {
+        count_child(&mut counts, &catalog[i])?;
+    }
+    Ok(counts)
+}
+
+/// Whether a record, if it is a folder's, has the number of its children as its valence.
+#[tactic(auto, unfolding(hfs_fields::specs::Records::begins_dir))]
+fn is_valence_right(counts: &Numbers, r: &(CatKey, Bytes)) -> bool
+    ensures { result ≡ implies (is_dir r.now.1) (((dir_record_of r.now.1).valence == count_of counts.now (item_id r.now.1)) && nat_le (dir_record_of r.now.1).valence 65535) }
+{
+    let body = r.1.as_slice();
+    if !is_folder(body) {
+        return true;
+    }
+    match DirRecord::read(body) {
+        Some(folder) => folder.valence as usize == counts.count(folder.id),
+        None => false,
+    }
+}
+
+/// The number of the first folder's record with a valence that is not the number of its children.
+fn first_wrong_valence(counts: &Numbers, catalog: &[(CatKey, Bytes)]) -> Option<usize>
+    requires { (id : ℕ) → count_of counts.now id ≡ valence_of catalog.now id }
+    ensures { result ≡ first_failing (λ _ r. is_valence_right catalog.now r) [] catalog.now }
+{
+    for i in 0..catalog.len() {
+        if !is_valence_right(counts, &catalog[i]) {
+            return Some(i);
+        }
+    }
+    None
+}
+
+/// The number of the first record, from 0 on, of a folder whose valence (dirVal) is not the number of the files' and
+/// folders' records under its ID. None where each valence is right.
+///
+/// It reads each record twice, and takes memory for a count for each parent. `Err` only where memory is wanting.
+#[tactic(auto, unfolding(crate::specs::Faults::valence_fault))]
+pub fn valence_fault(
+    alloc: Global,
+    catalog: &[(CatKey, Bytes)],
+) -> Result<Option<usize>, AllocError>
+    ensures { IfOk result (λ fault. fault ≡ valence_fault catalog.now) }
+{
+    let counts = child_counts(alloc, catalog)?;
+    Ok(first_wrong_valence(&counts, catalog))
+}

@@ -1,5 +1,0 @@
-use Rattle.hfs_check.proofs.NewImage.{new_images-sound}
-use Rattle.hfs_check.proofs.format_laws.new_images_are_sound.Goals as goal
-
-pub returns : goal.returns
-returns c = new_images-sound

@@ -1,5 +1,0 @@
-use Rattle.hfs_check.proofs.NewImage.{new_images-hold}
-use Rattle.hfs_check.proofs.format_laws.new_images_hold_new_volumes.Goals as goal
-
-pub returns : goal.returns
-returns c = new_images-hold

@@ -1,5 +1,0 @@
-use Rattle.hfs_check.proofs.Laid.{leaf-bytes}
-use Rattle.hfs_check.proofs.node_block.leaf_block.Goals as goal
-
-pub returns : goal.returns
-returns c = let laid = leaf-bytes c.args.first.now c.args.second.now in let first = c.len-second_start.ensures in let second = c.len.ensures in cc

@@ -1,0 +1,18 @@
+//! Small volumes for tests. Each is a new volume with name `D`, 64 blocks, 2 extents nodes and 6 catalog nodes, into which
+//! files are laid by the writers of fields, keys, records and nodes; no call of a volume takes part.
+//!
+//! Block 2 is a volume's master directory block and block 3 its bitmap. Its 58 allocation blocks have 512 bytes each and
+//! begin with block 4: blocks 4 and 5 are the extents tree, blocks 6 to 11 the catalog tree.
+#![tactic(auto)]
+
+mod blocks;
+mod fault;
+mod files;
+mod trees;
+mod volumes;
+
+pub use crate::blocks::lay;
+pub use crate::fault::FixtureFault;
+pub use crate::files::fork_byte;
+pub use crate::trees::lay_overflow;
+pub use crate::volumes::{SmallVolume, new_image, small_image};

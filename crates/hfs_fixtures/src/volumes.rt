@@ -1,0 +1,128 @@
+//! The small volumes.
+use crate::blocks::lay;
+use crate::fault::FixtureFault;
+use crate::files::{NONE, file_in_extents, key_of, lay_counts, lay_fork, push_file, replace_root};
+use crate::trees::{TreeNumbers, empty_node, lay_header, lay_node, lay_overflow, node_of};
+use hfs_btree::Key;
+use hfs_fields::{ExtKey, Extent, FileRecord};
+use hfs_format::{FormatPlan, format};
+use hfs_node::NodeKind;
+use std::alloc::Global;
+
+/// Which volume is laid.
+#[derive(Clone, Copy, Debug, PartialEq, Eq)]
+pub enum SmallVolume {
+    /// A new volume, whose root is empty.
+    New,
+    /// The file `f` with ID 16 in the root: 2,000 bytes, byte `k` of which is `k` mod 251, in allocation blocks 10, 12
+    /// and 14 by its record and in 16 by the extents tree.
+    OneFile,
+    /// The same, and beside it the empty file `g` with ID 17.
+    TwoFiles,
+    /// The empty file `f` with ID 16 in a leaf of its own, below an index node.
+    TwoLevels,
+}
+
+/// A new volume with so many catalog nodes.
+pub fn new_image(alloc: Global, catalog_nodes: u32) -> Result<Vec<u8>, FixtureFault> {
+    let plan = FormatPlan {
+        name: Vec::from_slice(alloc, b"D")?,
+        blocks: 64,
+        extents_nodes: 2,
+        catalog_nodes,
+        now: 0,
+    };
+    Ok(format(alloc, plan)?)
+}
+
+/// The image of a small volume.
+pub fn small_image(alloc: Global, volume: SmallVolume) -> Result<Vec<u8>, FixtureFault> {
+    let mut image = new_image(alloc, 6)?;
+    match volume {
+        SmallVolume::New => {}
+        SmallVolume::OneFile => lay_files(alloc, &mut image, false)?,
+        SmallVolume::TwoFiles => lay_files(alloc, &mut image, true)?,
+        SmallVolume::TwoLevels => lay_two_levels(alloc, &mut image)?,
+    }
+    Ok(image)
+}
+
+/// The numbers of a catalog tree of one leaf with so many records.
+fn one_leaf(records: u32) -> TreeNumbers {
+    TreeNumbers {
+        depth: 1,
+        root: 1,
+        records,
+        first_leaf: 1,
+        last_leaf: 1,
+        free_nodes: 4,
+        map: 0xc0,
+    }
+}
+
+/// Lays the file `f`, and the file `g` where it is wanted.
+fn lay_files(alloc: Global, image: &mut [u8], with_second: bool) -> Result<(), FixtureFault> {
+    let files = if with_second { 2 } else { 1 };
+    lay_counts(image, files, 16 + u32::from(files), 46)?;
+    // allocation blocks 10, 12, 14 and 16
+    lay(image, 3, 1, &[0x2a, 0x80])?;
+    lay_header(image, 6, one_leaf(2 + u32::from(files)))?;
+    let mut leaf = node_of(alloc, image, 7)?;
+    replace_root(alloc, &mut leaf.records, files)?;
+    push_file(
+        alloc,
+        &mut leaf.records,
+        &key_of(2, b"f")?,
+        &file_in_extents(),
+    )?;
+    if with_second {
+        let second = FileRecord::new(17, 0);
+        push_file(alloc, &mut leaf.records, &key_of(2, b"g")?, &second)?;
+    }
+    lay_node(image, 7, &leaf)?;
+    let fourth = Extent {
+        first: 16,
+        count: 1,
+    };
+    let key = ExtKey {
+        fork: 0,
+        file: 16,
+        block: 3,
+    };
+    lay_overflow(alloc, image, &key, &[fourth, NONE, NONE])?;
+    lay_fork(image)
+}
+
+/// Lays a catalog of two leaves.
+fn lay_two_levels(alloc: Global, image: &mut [u8]) -> Result<(), FixtureFault> {
+    lay_counts(image, 1, 17, 50)?;
+    let header = TreeNumbers {
+        depth: 2,
+        root: 3,
+        records: 3,
+        first_leaf: 1,
+        last_leaf: 2,
+        free_nodes: 2,
+        map: 0xf0,
+    };
+    lay_header(image, 6, header)?;
+    let mut first = node_of(alloc, image, 7)?;
+    first.forward = 2;
+    replace_root(alloc, &mut first.records, 1)?;
+    lay_node(image, 7, &first)?;
+    let mut second = empty_node(alloc, NodeKind::Leaf, 1);
+    second.backward = 1;
+    push_file(
+        alloc,
+        &mut second.records,
+        &key_of(2, b"f")?,
+        &FileRecord::new(16, 0),
+    )?;
+    lay_node(image, 8, &second)?;
+    let mut root = empty_node(alloc, NodeKind::Index, 2);
+    for (key, child) in [(key_of(1, b"D")?, 1), (key_of(2, b"f")?, 2)] {
+        let record = key.index_record(alloc, child)?;
+        root.records.push(record).map_err(|_| FixtureFault::Memory)?;
+    }
+    lay_node(image, 9, &root)
+}

@@ -1,0 +1,14 @@
+pub mod Laid
+pub mod FirstBits
+pub mod Blocks
+pub mod NodesRead
+pub mod BitsRead
+pub mod NewVolume
+pub mod NewBlocks
+pub mod HeaderRead
+pub mod SmallTrees
+pub mod NewFiles
+pub mod NewCatalog
+pub mod NewSpace
+pub mod PlanFacts
+pub mod NewImage

@@ -1,0 +1,150 @@
+//! Where the parts of a new volume lie.
+ghost use Rattle.std.specs.Prelude.{◌≡◌, ℕ, ◌*◌, ◌/◌, ◌<◌, ◌≤◌, ◌+◌, None, Some, IsTrue, MatchResult, IfOk, IfSome, length};
+ghost use Rattle.std.specs.Option.{SomeIff};
+ghost use Rattle.hfs_format.specs.Plan as spec;
+ghost use Rattle.hfs_format.specs.Plan.{IsLayout};
+
+use crate::fault::FormatFault;
+use crate::plan::FormatPlan;
+use hfs_fields::Name;
+
+/// The file of a tree.
+#[derive(Clone, Copy)]
+pub struct TreeFile {
+    /// Allocation blocks.
+    pub blocks: u16,
+    /// Nodes of 512 bytes, as many as the allocation blocks hold.
+    pub nodes: u32,
+}
+
+/// Where the parts of a new volume lie, and what its blocks tell.
+#[derive(Clone, Copy)]
+pub struct Layout {
+    /// The volume's name, an item name of at most 27 characters.
+    pub name: Name,
+    /// The moment of all dates, in seconds since midnight of 1 January 1904.
+    pub moment: u32,
+    /// Logical blocks of 512 bytes of the volume.
+    pub blocks: u32,
+    /// Logical blocks of an allocation block.
+    pub factor: u32,
+    /// drAlBlSt: the logical block where allocation block 0 begins.
+    pub start: u16,
+    /// drNmAlBlks: how many allocation blocks the volume has.
+    pub allocation_blocks: u16,
+    /// The extents file, from allocation block 0 on.
+    pub extents: TreeFile,
+    /// The catalog file, which follows.
+    pub catalog: TreeFile,
+}
+
+/// How many logical blocks an allocation block has: the least number that leaves at most 65,535 allocation blocks.
+#[tactic(auto, unfolding(crate::specs::Plan::block_factor))]
+fn block_factor(blocks: u32) -> u32
+    requires { blocks ≤ 4194304 }
+    ensures value { result ≡ spec.block_factor blocks }
+    ensures some { 1 ≤ result }
+    ensures few { result ≤ 65 }
+    ensures enough { blocks / result < 65536 }
+    ensures least { (smaller : ℕ) → 1 ≤ smaller → smaller < result → 65536 ≤ blocks / smaller }
+{
+    blocks / 65536 + 1
+}
+
+/// The logical block where allocation block 0 begins.
+#[tactic(auto, unfolding(crate::specs::Plan::allocation_start, crate::specs::Plan::bitmap_blocks))]
+fn allocation_start(blocks: u32, factor: u32) -> u16
+    requires large { 8 ≤ blocks }
+    requires small { blocks / factor < 65536 }
+    requires factor { factor ≡ spec.block_factor blocks }
+    requires some { 1 ≤ factor }
+    ensures value { result ≡ spec.allocation_start blocks }
+    ensures few { result ≤ 19 }
+    ensures room { result + 2 ≤ blocks }
+{
+    (3 + (blocks / factor + 4095) / 4096) as u16
+}
+
+/// How many allocation blocks so many nodes take, and how many nodes they hold. None exactly where they are fewer
+/// than `least`, or their allocation blocks hold more than 2,048.
+#[tactic(auto, unfolding(crate::specs::Plan::file_blocks))]
+fn tree_file(least: u32, factor: u32, nodes: u32) -> Option<TreeFile>
+    requires some { 1 ≤ factor }
+    requires few { factor ≤ 65 }
+    ensures file { SomeIff result (IsTrue (spec.is_node_count least factor nodes)) (spec.tree_file factor nodes) }
+    ensures bounds { IfSome result (λ file. (least ≤ file.nodes) × (file.nodes ≤ 2048)) }
+{
+    if nodes < least || nodes > 2048 {
+        return None;
+    }
+    let blocks = (nodes + (factor - 1)) / factor;
+    let nodes = blocks * factor;
+    if nodes > 2048 {
+        return None;
+    }
+    Some(TreeFile {
+        blocks: blocks as u16,
+        nodes,
+    })
+}
+
+/// The name of a volume. None exactly where it isn't an item name of at most 27 characters.
+fn volume_name(bytes: &[u8]) -> Option<Name>
+    ensures name { SomeIff result (IsTrue (spec.is_volume_name bytes.now)) bytes.now }
+    ensures short { IfSome result (λ name. length name ≤ 27) }
+{
+    let name = Name::new(bytes)?;
+    if bytes.len() > 27 { None } else { Some(name) }
+}
+
+/// How many allocation blocks lie between their beginning and the last two logical blocks.
+#[tactic(auto, unfolding(crate::specs::Plan::allocation_blocks))]
+fn allocation_blocks(blocks: u32, start: u16, factor: u32) -> u16
+    requires small { blocks / factor < 65536 }
+    requires start { start ≡ spec.allocation_start blocks }
+    requires factor { factor ≡ spec.block_factor blocks }
+    requires some { 1 ≤ factor }
+    requires room { start + 2 ≤ blocks }
+    ensures { result ≡ spec.allocation_blocks blocks }
+{
+    ((blocks - 2 - start as u32) / factor) as u16
+}
+
+impl Layout {
+    /// Where the parts of the planned volume lie, or the plan's first fault.
+    #[tactic(auto, unfolding(crate::specs::Plan::format_fault, crate::specs::Plan::layout_of))]
+    pub fn of(plan: &FormatPlan) -> Result<Layout, FormatFault>
+        ensures answer { MatchResult result (λ volume. (spec.format_fault plan.entry.now ≡ None) × (volume ≡ spec.layout_of plan.entry.now)) (λ fault. spec.format_fault plan.entry.now ≡ Some fault) }
+        ensures bounds { IfOk result IsLayout }
+    {
+        let Some(name) = volume_name(&plan.name) else {
+            return Err(FormatFault::BadName);
+        };
+        let blocks = plan.blocks;
+        if blocks < 8 || blocks > 4_194_304 {
+            return Err(FormatFault::BadSize);
+        }
+        let factor = block_factor(blocks);
+        let Some(catalog) = tree_file(2, factor, plan.catalog_nodes) else {
+            return Err(FormatFault::BadNodes);
+        };
+        let Some(extents) = tree_file(1, factor, plan.extents_nodes) else {
+            return Err(FormatFault::BadNodes);
+        };
+        let start = allocation_start(blocks, factor);
+        let allocation_blocks = allocation_blocks(blocks, start, factor);
+        if extents.blocks as u32 + catalog.blocks as u32 > allocation_blocks as u32 {
+            return Err(FormatFault::NoRoom);
+        }
+        Ok(Layout {
+            name,
+            moment: plan.now,
+            blocks,
+            factor,
+            start,
+            allocation_blocks,
+            extents,
+            catalog,
+        })
+    }
+}

@@ -1,0 +1,38 @@
+//! The parts of a node without neighbours.
+ghost use Rattle.std.specs.Prelude.{◌≡◌, ◌+◌, ◌-◌, ◌≤◌, [], ◌∷◌, ◌++◌, length, replicate};
+ghost use Rattle.byteorder.specs.Endian.{big_bytes};
+ghost use Rattle.hfs_node.specs.Kind.{byte_of};
+ghost use Rattle.hfs_format.specs.NewTrees as spec;
+
+use hfs_fields::FieldRow;
+use hfs_node::NodeKind;
+
+/// The descriptor of a node without neighbours.
+pub fn descriptor(kind: NodeKind, height: u8, records: u16) -> FieldRow
+    ensures bytes { result ≡ replicate 8 0 ++ byte_of kind ∷ height ∷ [] ++ big_bytes 2 records ++ replicate 2 0 }
+    ensures length { length result ≡ 14 }
+{
+    let mut row = FieldRow::new();
+    row.push_zeros(8);
+    row.push(&[kind.byte(), height]);
+    row.push_u16(records);
+    row.push_zeros(2);
+    row
+}
+
+/// A leaf of two records.
+pub fn leaf_block(first: &FieldRow, second: &FieldRow) -> [u8; 512]
+    requires { length first.now + length second.now ≤ 492 }
+    ensures { result ≡ spec.node_bytes (spec.lone_leaf (first.now ∷ second.now ∷ [])) }
+{
+    let second_start = 14 + first.len();
+    let free_start = second_start + second.len();
+    let mut row = descriptor(NodeKind::Leaf, 1, 2);
+    row.push_row(first);
+    row.push_row(second);
+    row.push_zeros(506 - free_start);
+    row.push_u16(free_start as u16);
+    row.push_u16(second_start as u16);
+    row.push_u16(14);
+    row.into_block()
+}

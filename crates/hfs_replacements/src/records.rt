@@ -1,0 +1,61 @@
+//! The records of a catalog tree, one after the other, and one that is replaced. Each step checks the tree first.
+
+use crate::node_table::NodeTable;
+use anyhow::{Result, bail, ensure};
+use hfs_btree::{Key, find, next_after};
+use hfs_btree_checks::check_tree;
+use hfs_btree_edits::replace;
+use hfs_fields::{CatKey, Name};
+use std::alloc::Global;
+
+/// A record: its key and its body.
+#[derive(Drop)]
+pub struct Record {
+    pub key: CatKey,
+    pub body: Vec<u8>,
+}
+
+/// The first record whose key is above this one.
+fn record_after(alloc: Global, nodes: &NodeTable, key: &CatKey) -> Result<Option<Record>> {
+    check_tree::<CatKey, NodeTable>(alloc, nodes, nodes.size())?;
+    let found = next_after(alloc, nodes, key)?;
+    Ok(found.map(|(key, body)| Record { key, body }))
+}
+
+/// All records, in their order.
+pub fn records(alloc: Global, nodes: &NodeTable) -> Result<Vec<Record>> {
+    let mut records = Vec::new(alloc);
+    let Some(name) = Name::of_bytes(b"") else {
+        bail!("no empty name");
+    };
+    let mut key = CatKey { parent: 0, name };
+    for _ in 0..u32::MAX {
+        let Some(record) = record_after(alloc, nodes, &key)? else {
+            break;
+        };
+        key = record.key;
+        records.push(record)?;
+    }
+    Ok(records)
+}
+
+/// The body under a key.
+pub fn body_under(alloc: Global, nodes: &NodeTable, key: &CatKey) -> Result<Option<Vec<u8>>> {
+    check_tree::<CatKey, NodeTable>(alloc, nodes, nodes.size())?;
+    let found = find(alloc, nodes, key)?;
+    Ok(found)
+}
+
+/// Puts a pair in the place of the one with its key, and checks the tree. An error where the tree has no such pair, or the
+/// body is too long for it.
+pub fn put(alloc: Global, nodes: &mut NodeTable, key: &CatKey, body: &[u8]) -> Result<()> {
+    check_tree::<CatKey, NodeTable>(alloc, nodes, nodes.size())?;
+    ensure!(CatKey::is_body_len(body.len()), "no length of a body");
+    let Some(old) = find(alloc, nodes, key)? else {
+        bail!("no such key");
+    };
+    ensure!(body.len() <= old.len(), "a longer body");
+    replace(alloc, nodes, key, body)?;
+    check_tree::<CatKey, NodeTable>(alloc, nodes, nodes.size())?;
+    Ok(())
+}

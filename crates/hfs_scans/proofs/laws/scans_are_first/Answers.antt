@@ -1,0 +1,5 @@
+use Rattle.hfs_scans.specs.Scans.{scan_is_first}
+use Rattle.hfs_scans.proofs.laws.scans_are_first.Goals as goal
+
+pub returns : goal.returns
+returns g c = scan_is_first

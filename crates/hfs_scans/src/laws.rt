@@ -1,0 +1,12 @@
+//! What holds of scans, each as the contract of a function that does nothing: a caller learns it by the call.
+ghost use Rattle.hfs_scans.specs.Laws.{ScansAreWhole, ScansAreFirst};
+
+/// A scan finds nothing exactly where each element passes the test.
+pub fn scans_are_whole<X>()
+    ensures { ScansAreWhole X }
+{}
+
+/// What a scan finds is the place of the first element that fails the test.
+pub fn scans_are_first<X>()
+    ensures { ScansAreFirst X }
+{}

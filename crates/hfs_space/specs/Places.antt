@@ -1,0 +1,16 @@
+-- Places in forks.
+use Rattle.std.specs.Prelude.{ℕ, ◌*◌, ◌<◌, ◌≤◌, List, length, drop, slice_index_or}
+use Rattle.hfs_fields.specs.declared.extent.Extent.{Extent}
+use Rattle.hfs_fields.specs.declared.mdb.Mdb.{Mdb}
+use Rattle.hfs_space.specs.declared.fork_place.ForkPlace.{ForkPlace}
+use Rattle.hfs_space.specs.ForkLengths.{all_bytes}
+use Rattle.hfs_space.specs.Forks.{blocks_each}
+
+-- no more bytes of the place's extent are passed than it has
+abbrev pub IsPlace : Mdb → List Extent → ForkPlace → Type 0
+IsPlace mdb extents place =
+    (d : Extent) → place.extent < length extents → place.passed ≤ 512 * ((slice_index_or extents place.extent d).count * blocks_each mdb)
+
+-- the bytes of the extents' blocks from the place on
+abbrev pub bytes_behind : (ℕ → List ℕ) → Mdb → List Extent → ForkPlace → List ℕ
+bytes_behind blocks mdb extents place = drop place.passed (all_bytes blocks mdb (drop place.extent extents))

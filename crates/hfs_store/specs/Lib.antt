@@ -1,0 +1,4 @@
+pub mod Found
+pub mod Placing
+pub mod PlainVolume
+pub mod Setting

@@ -1,0 +1,120 @@
+//! Changes of the list of items.
+ghost use Rattle.std.specs.Prelude.{◌≡◌, ◌+◌, ◌<◌, ◌++◌, drop, slice_index_or, length, OnOk, OnErr};
+ghost use Rattle.std.specs.FinMap as map;
+ghost use Rattle.hfs_model.specs.Volume.{Entry};
+ghost use Rattle.hfs_model.specs.Children.{valence};
+ghost use Rattle.hfs_model.specs.Changes.{touched, moved, with_lock};
+ghost use Rattle.hfs_store.specs.PlainVolume.{Becomes, AreEntries};
+
+use crate::entries::place_of;
+use hfs_fields::Name;
+use hfs_model::{Item, Kind};
+use std::alloc::AllocError;
+
+/// Sets a folder's modified date.
+fn touch(items: &mut Vec<(u32, Item)>, dir: u32, now: u32)
+    ensures { Becomes items.old.items items.new.items (λ m. touched m dir now) }
+{
+    if let Some(at) = place_of(items, dir) {
+        items[at].1.modified = now;
+    }
+}
+
+/// Takes the item at a place away.
+fn take_away(items: &mut Vec<(u32, Item)>, at: usize)
+    requires { at < length items.old.items }
+    ensures { (d : Entry) → Becomes items.old.items items.new.items (λ m. map.remove m (slice_index_or items.old.items at d).0) }
+{
+    items.remove(at);
+}
+
+/// Puts the item at a place under another folder.
+fn set_parent(items: &mut Vec<(u32, Item)>, at: usize, parent: u32)
+    requires within { at < length items.old.items }
+    requires room { valence items.old.items parent < 65535 }
+    ensures { (d : Entry) → Becomes items.old.items items.new.items (λ m. map.insert m (slice_index_or items.old.items at d).0 (record (slice_index_or items.old.items at d).1 { parent = parent })) }
+{
+    items[at].1.parent = parent;
+}
+
+/// Takes the item at a place away, and sets the modified date of the folder that held it.
+pub fn remove_item(items: &mut Vec<(u32, Item)>, at: usize, dir: u32, now: u32)
+    requires { at < length items.old.items }
+    ensures { (d : Entry) → Becomes items.old.items items.new.items (λ m. touched (map.remove m (slice_index_or items.old.items at d).0) dir now) }
+{
+    take_away(items, at);
+    touch(items, dir, now);
+}
+
+/// Puts the item at a place under another folder, and sets the modified date of both.
+pub fn move_item(items: &mut Vec<(u32, Item)>, at: usize, dir: u32, new_dir: u32, now: u32)
+    requires within { at < length items.old.items }
+    requires room { valence items.old.items new_dir < 65535 }
+    ensures { (d : Entry) → Becomes items.old.items items.new.items (λ m. moved m (slice_index_or items.old.items at d) dir new_dir now) }
+{
+    set_parent(items, at, new_dir);
+    touch(items, dir, now);
+    touch(items, new_dir, now);
+}
+
+/// Gives the item at a place another name.
+pub fn rename_item(items: &mut Vec<(u32, Item)>, at: usize, name: Name)
+    requires { at < length items.old.items }
+    ensures { (d : Entry) → Becomes items.old.items items.new.items (λ m. map.insert m (slice_index_or items.old.items at d).0 (record (slice_index_or items.old.items at d).1 { name = name })) }
+{
+    items[at].1.name = name;
+}
+
+/// Sets the first half of an item's Finder bytes.
+pub fn set_finder(items: &mut Vec<(u32, Item)>, at: usize, info: &[u8; 16])
+    requires { at < length items.old.items }
+    ensures { (d : Entry) → Becomes items.old.items items.new.items (λ m. map.insert m (slice_index_or items.old.items at d).0 (record (slice_index_or items.old.items at d).1 { finder = info.now ++ drop 16 (slice_index_or items.old.items at d).1.finder })) }
+{
+    items[at].1.finder[..16].copy_from_slice(info);
+}
+
+/// Sets an item's dates and Finder bytes.
+pub fn set_info(
+    items: &mut Vec<(u32, Item)>,
+    at: usize,
+    created: u32,
+    modified: u32,
+    backup: u32,
+    info: [u8; 32],
+)
+    requires { at < length items.old.items }
+    ensures { (d : Entry) → Becomes items.old.items items.new.items (λ m. map.insert m (slice_index_or items.old.items at d).0 (record (slice_index_or items.old.items at d).1 { created = created; modified = modified; backup = backup; finder = info })) }
+{
+    let item = &mut items[at].1;
+    item.created = created;
+    item.modified = modified;
+    item.backup = backup;
+    item.finder = info;
+}
+
+/// Locks or unlocks a file.
+pub fn set_lock(items: &mut Vec<(u32, Item)>, at: usize, locked: bool)
+    requires { at < length items.old.items }
+    ensures { (d : Entry) → Becomes items.old.items items.new.items (λ m. map.insert m (slice_index_or items.old.items at d).0 (record (slice_index_or items.old.items at d).1 { kind = with_lock locked (slice_index_or items.old.items at d).1.kind })) }
+{
+    if let Kind::File(file) = &mut items[at].1.kind {
+        file.locked = locked;
+    }
+}
+
+/// Adds an item under the next ID, and sets the modified date of its folder.
+pub fn add_item(
+    items: &mut Vec<(u32, Item)>,
+    id: u32,
+    item: Item,
+    now: u32,
+) -> Result<(), AllocError>
+    requires { valence items.old.items item.parent < 65535 }
+    ensures ok { OnOk result (AreEntries items.old.items id → AreEntries items.new.items (id + 1) × (map.from_sorted items.new.items ≡ touched (map.insert (map.from_sorted items.old.items) id item) item.parent now)) }
+    ensures err { OnErr result (items.new.items ≡ items.old.items) }
+{
+    let dir = item.parent;
+    items.push((id, item))?;
+    touch(items, dir, now);
+    Ok(())
+}

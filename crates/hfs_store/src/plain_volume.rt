@@ -1,0 +1,612 @@
+//! A plain, slow volume in memory, which answers every call exactly as the definitions say.
+ghost use Rattle.std.specs.Prelude.{◌≡◌, ℕ, ◌+◌, ◌<◌, ◌≤◌, false, IsTrue, Ok, IfOk, OnOk, OnErr, length, take};
+ghost use Rattle.std.specs.FinMap as map;
+ghost use Rattle.hfs_model.specs.Runs.{run};
+ghost use Rattle.hfs_model.specs.Children.{entries_of, valence};
+ghost use Rattle.hfs_model.specs.Reading.{get_dir_info, get_cat_info, get_indexed, list, read_fork};
+ghost use Rattle.hfs_model.specs.Choices.{child_to_change, file_to_change, to_delete, to_rename, to_move, to_create, to_set_f_info, to_set_cat_info, is_locked, lock_code};
+ghost use Rattle.hfs_model.specs.Changes.{delete, rename, cat_move, create, set_f_info, set_cat_info, set_lock, new_file, new_folder};
+ghost use Rattle.hfs_model.specs.Step.{step, is_reading, new_volume};
+ghost use Rattle.hfs_store.specs.Setting.{is_setting};
+ghost use Rattle.hfs_fields.specs.Names.{is_item_name};
+ghost use Rattle.hfs_store.specs.Found.{IsPlaceOf};
+
+use crate::changes::{
+    add_item, move_item, remove_item, rename_item, set_finder, set_info, set_lock,
+};
+use crate::entries::{
+    child_named, is_bad_move, is_busy, is_folder, is_folder_kind, is_full, is_held, is_locked_file,
+    is_taken, new_file, new_folder, new_item, valence,
+};
+use crate::reading;
+use crate::reading::{refusal, success};
+use hfs_fields::{Name, is_item_name};
+use hfs_model::{
+    BAD_MOVE, BAD_NAME, BUSY, Call, DUPLICATE, FILE_LOCKED, FOLDER_FULL, Fork, HARDWARE_LOCKED,
+    Item, Kind, NOT_A_FOLDER, NOT_FOUND, Reply, SOFTWARE_LOCKED, Value,
+};
+use std::alloc::{AllocError, Global};
+use std::marker::Model;
+
+/// A volume as a list of items in the order of their IDs. Contracts see the model volume: a finite map from ID to item,
+/// the next ID, the moment of the last change and two locks.
+///
+/// Each call searches the whole list, some of them once for each item. The methods named for a call answer as
+/// [`PlainVolume::call`] does, and `docs/CALLS.md` says what that is. `Err` comes only where memory is wanting; then the
+/// volume is as it was.
+#[derive(Drop)]
+pub struct PlainVolume {
+    alloc: Global,
+    items: Vec<(u32, Item)>,
+    next_id: u32,
+    changed: u32,
+    hardware_locked: bool,
+    software_locked: bool,
+}
+
+impl Model for PlainVolume {
+    ghost use Rattle.hfs_model.specs.Volume.{Volume, volume_code};
+
+    ghost Value = { Volume };
+
+    ghost coded = { volume_code };
+
+    ghost use Rattle.hfs_store.specs.PlainVolume.{volume_of, IsPlainVolume};
+
+    ghost view = { volume_of };
+
+    ghost invariant = { IsPlainVolume };
+}
+
+#[tactic(auto, using(crate::proofs::ById::entries_back))]
+impl PlainVolume {
+    /// A new volume, with its root alone. `Err` only where memory is wanting.
+    pub fn new(alloc: Global, name: Name, now: u32) -> Result<Self, AllocError>
+        ensures { IfOk result (λ s. s ≡ new_volume name now) }
+    {
+        let mut items = Vec::new(alloc);
+        items.push((2, new_item(new_folder(), 1, name, now)))?;
+        Ok(PlainVolume {
+            alloc,
+            items,
+            next_id: 16,
+            changed: now,
+            hardware_locked: false,
+            software_locked: false,
+        })
+    }
+
+    /// Puts an item under an ID that is not below the next one, which rises to the one after it. So a volume is laid
+    /// item by item, in the order of the IDs. `Err` only where memory is wanting, and then the volume is as it was.
+    #[tactic(auto)]
+    pub fn lay(&mut self, id: u32, item: Item) -> Result<(), AllocError>
+        requires free { self.old.next_id ≤ id }
+        requires last { id < 4294967295 }
+        requires room { valence (entries_of self.old) item.parent < 65535 }
+        ensures laid { OnOk result (self.new ≡ record self.old { items = map.insert self.old.items id item; next_id = id + 1 }) }
+        ensures counted { OnOk result (valence (entries_of self.new) item.parent ≡ valence (entries_of self.old) item.parent + 1) }
+        ensures err { OnErr result (self.new ≡ self.old) }
+    {
+        let next_id = id + 1;
+        self.items.push((id, item))?;
+        self.next_id = next_id;
+        Ok(())
+    }
+
+    /// Sets the two locks.
+    pub fn set_locks(&mut self, hardware: bool, software: bool)
+        ensures { self.new ≡ record self.old { hardware_locked = hardware; software_locked = software } }
+    {
+        self.hardware_locked = hardware;
+        self.software_locked = software;
+    }
+
+    /// The ID that the next new item gets.
+    pub fn next_id(&self) -> u32
+        ensures { result ≡ self.now.next_id }
+    {
+        self.next_id
+    }
+
+    /// The number of items whose parent is the folder of that ID, at most 65,535.
+    #[tactic(auto)]
+    pub fn valence(&self, dir: u32) -> u32
+        ensures count { result ≡ valence (entries_of self.now) dir }
+        ensures most { result ≤ 65535 }
+    {
+        valence(self.entries(), dir) as u32
+    }
+
+    /// The items in the order of their IDs.
+    fn entries(&self) -> &[(u32, Item)]
+        ensures entries { result.now ≡ entries_of self.now }
+        ensures room { (id : ℕ) → valence result.now id ≤ 65535 }
+    {
+        &self.items
+    }
+
+    /// What is told of the folder of that ID.
+    pub fn get_dir_info(&self, dir: u32) -> Reply
+        ensures { result ≡ get_dir_info (entries_of self.now) dir }
+    {
+        reading::get_dir_info(self.entries(), dir)
+    }
+
+    /// What is told of the folder's item of that name.
+    pub fn get_cat_info(&self, dir: u32, name: &[u8]) -> Reply
+        ensures { result ≡ get_cat_info (entries_of self.now) dir name.now }
+    {
+        reading::get_cat_info(self.entries(), dir, name)
+    }
+
+    /// What is told of the folder's child at that place in name order, counted from 1.
+    pub fn get_indexed(&self, dir: u32, index: u32) -> Result<Reply, AllocError>
+        ensures { IfOk result (λ r. r ≡ get_indexed (entries_of self.now) dir index) }
+    {
+        reading::get_indexed(self.alloc, self.entries(), dir, index)
+    }
+
+    /// What is told of the folder's children, in name order.
+    pub fn list(&self, dir: u32) -> Result<Reply, AllocError>
+        ensures { IfOk result (λ r. r ≡ list (entries_of self.now) dir) }
+    {
+        reading::list(self.alloc, self.entries(), dir)
+    }
+
+    /// At most `count` bytes of a file's fork, from an offset on.
+    pub fn read_fork(
+        &self,
+        dir: u32,
+        name: &[u8],
+        fork: Fork,
+        offset: u32,
+        count: u32,
+    ) -> Result<Reply, AllocError>
+        ensures { IfOk result (λ r. r ≡ read_fork (entries_of self.now) dir name.now fork offset count) }
+    {
+        reading::read_fork(self.alloc, self.entries(), dir, name, fork, offset, count)
+    }
+
+    // What each change first chooses: the place of an item, an ID, or a code.
+
+    fn is_locked(&self) -> bool
+        ensures { result ≡ is_locked self.now }
+    {
+        self.hardware_locked || self.software_locked
+    }
+
+    /// The code of a locked volume.
+    fn lock_code(&self) -> i16
+        ensures { result ≡ lock_code self.now }
+    {
+        if self.hardware_locked {
+            HARDWARE_LOCKED
+        } else {
+            SOFTWARE_LOCKED
+        }
+    }
+
+    /// The place of the folder's item of that name, in a volume that may be changed.
+    #[tactic(auto, unfolding(hfs_model::specs::Choices::child_to_change))]
+    fn child_to_change(&self, dir: u32, name: &[u8]) -> Result<usize, i16>
+        ensures { IsPlaceOf (entries_of self.now) (child_to_change self.now dir name.now) result }
+    {
+        if self.is_locked() {
+            return Err(self.lock_code());
+        }
+        if !is_item_name(name) {
+            return Err(BAD_NAME);
+        }
+        let entries = self.entries();
+        if !is_folder(entries, dir) {
+            return Err(NOT_A_FOLDER);
+        }
+        match child_named(entries, dir, name) {
+            None => Err(NOT_FOUND),
+            Some(at) => Ok(at),
+        }
+    }
+
+    #[tactic(auto, unfolding(hfs_model::specs::Choices::to_delete))]
+    fn to_delete(&self, dir: u32, name: &[u8]) -> Result<usize, i16>
+        ensures { IsPlaceOf (entries_of self.now) (to_delete self.now dir name.now) result }
+    {
+        let at = self.child_to_change(dir, name)?;
+        let entries = self.entries();
+        let entry = &entries[at];
+        if is_busy(entries, entry) {
+            return Err(BUSY);
+        }
+        if is_locked_file(&entry.1.kind) {
+            return Err(FILE_LOCKED);
+        }
+        Ok(at)
+    }
+
+    /// The same of a file.
+    #[tactic(auto, unfolding(hfs_model::specs::Choices::file_to_change))]
+    fn file_to_change(&self, dir: u32, name: &[u8]) -> Result<usize, i16>
+        ensures { IsPlaceOf (entries_of self.now) (file_to_change self.now dir name.now) result }
+    {
+        let at = self.child_to_change(dir, name)?;
+        if is_folder_kind(&self.entries()[at].1.kind) {
+            return Err(NOT_FOUND);
+        }
+        Ok(at)
+    }
+
+    #[tactic(auto, unfolding(hfs_model::specs::Choices::to_rename))]
+    fn to_rename(&self, dir: u32, name: &[u8], new_name: &[u8]) -> Result<usize, i16>
+        ensures place { IsPlaceOf (entries_of self.now) (to_rename self.now dir name.now new_name.now) result }
+        ensures named { OnOk result (IsTrue (is_item_name new_name.now)) }
+    {
+        if self.is_locked() {
+            return Err(self.lock_code());
+        }
+        if !is_item_name(new_name) {
+            return Err(BAD_NAME);
+        }
+        let at = self.child_to_change(dir, name)?;
+        let entries = self.entries();
+        let entry = &entries[at];
+        if is_locked_file(&entry.1.kind) {
+            return Err(FILE_LOCKED);
+        }
+        if is_taken(entries, dir, new_name, entry.0) {
+            return Err(DUPLICATE);
+        }
+        Ok(at)
+    }
+
+    #[tactic(auto, unfolding(hfs_model::specs::Choices::to_move))]
+    fn to_move(&self, dir: u32, name: &[u8], new_dir: u32) -> Result<usize, i16>
+        ensures place { IsPlaceOf (entries_of self.now) (to_move self.now dir name.now new_dir) result }
+        ensures room { OnOk result (valence (entries_of self.now) new_dir < 65535) }
+    {
+        let at = self.child_to_change(dir, name)?;
+        let entries = self.entries();
+        let entry = &entries[at];
+        if !is_folder(entries, new_dir) {
+            return Err(NOT_A_FOLDER);
+        }
+        if is_bad_move(entries, entry, new_dir) {
+            return Err(BAD_MOVE);
+        }
+        if is_held(entries, new_dir, name) {
+            return Err(DUPLICATE);
+        }
+        if is_full(entries, new_dir) {
+            return Err(FOLDER_FULL);
+        }
+        Ok(at)
+    }
+
+    #[tactic(auto, unfolding(hfs_model::specs::Choices::to_create))]
+    fn to_create(&self, dir: u32, name: &[u8]) -> Result<u32, i16>
+        ensures id { result ≡ to_create self.now dir name.now }
+        ensures next { OnOk result (to_create self.now dir name.now ≡ Ok self.now.next_id) }
+        ensures below { IfOk result (λ id. id < 4294967295) }
+        ensures named { OnOk result (IsTrue (is_item_name name.now)) }
+        ensures room { OnOk result (valence (entries_of self.now) dir < 65535) }
+    {
+        if self.is_locked() {
+            return Err(self.lock_code());
+        }
+        if !is_item_name(name) {
+            return Err(BAD_NAME);
+        }
+        let entries = self.entries();
+        if !is_folder(entries, dir) {
+            return Err(NOT_A_FOLDER);
+        }
+        if is_held(entries, dir, name) {
+            return Err(DUPLICATE);
+        }
+        if is_full(entries, dir) || self.next_id == 4294967295 {
+            return Err(FOLDER_FULL);
+        }
+        Ok(self.next_id)
+    }
+
+    #[tactic(auto, unfolding(hfs_model::specs::Choices::to_set_f_info))]
+    fn to_set_f_info(&self, dir: u32, name: &[u8]) -> Result<usize, i16>
+        ensures { IsPlaceOf (entries_of self.now) (to_set_f_info self.now dir name.now) result }
+    {
+        let at = self.file_to_change(dir, name)?;
+        if is_locked_file(&self.entries()[at].1.kind) {
+            return Err(FILE_LOCKED);
+        }
+        Ok(at)
+    }
+
+    #[tactic(auto, unfolding(hfs_model::specs::Choices::to_set_cat_info))]
+    fn to_set_cat_info(&self, dir: u32, name: &[u8]) -> Result<usize, i16>
+        ensures { IsPlaceOf (entries_of self.now) (to_set_cat_info self.now dir name.now) result }
+    {
+        let at = self.child_to_change(dir, name)?;
+        if is_locked_file(&self.entries()[at].1.kind) {
+            return Err(FILE_LOCKED);
+        }
+        Ok(at)
+    }
+
+    // The changes.
+
+    /// Deletes a file or an empty folder.
+    #[tactic(auto, unfolding(hfs_model::specs::Changes::delete))]
+    pub fn delete(&mut self, dir: u32, name: &[u8], now: u32) -> Reply
+        ensures { (self.new, result) ≡ delete self.old dir name.now now }
+    {
+        match self.to_delete(dir, name) {
+            Ok(at) => {
+                remove_item(&mut self.items, at, dir, now);
+                self.changed = now;
+                success(Value::Nothing)
+            }
+            Err(code) => refusal(code),
+        }
+    }
+
+    /// Puts an item under another folder.
+    #[tactic(auto, unfolding(hfs_model::specs::Changes::cat_move))]
+    pub fn cat_move(&mut self, dir: u32, name: &[u8], new_dir: u32, now: u32) -> Reply
+        ensures { (self.new, result) ≡ cat_move self.old dir name.now new_dir now }
+    {
+        match self.to_move(dir, name, new_dir) {
+            Ok(at) => {
+                move_item(&mut self.items, at, dir, new_dir, now);
+                self.changed = now;
+                success(Value::Nothing)
+            }
+            Err(code) => refusal(code),
+        }
+    }
+
+    /// Sets the first 16 Finder bytes of a file.
+    #[tactic(auto, unfolding(hfs_model::specs::Changes::set_f_info))]
+    pub fn set_f_info(&mut self, dir: u32, name: &[u8], info: &[u8; 16], now: u32) -> Reply
+        ensures { (self.new, result) ≡ set_f_info self.old dir name.now info.now now }
+    {
+        match self.to_set_f_info(dir, name) {
+            Ok(at) => {
+                set_finder(&mut self.items, at, info);
+                self.changed = now;
+                success(Value::Nothing)
+            }
+            Err(code) => refusal(code),
+        }
+    }
+
+    /// Sets the dates and the Finder bytes of an item.
+    #[tactic(auto, unfolding(hfs_model::specs::Changes::set_cat_info))]
+    pub fn set_cat_info(
+        &mut self,
+        dir: u32,
+        name: &[u8],
+        created: u32,
+        modified: u32,
+        backup: u32,
+        info: [u8; 32],
+        now: u32,
+    ) -> Reply
+        ensures { (self.new, result) ≡ set_cat_info self.old dir name.now created modified backup info now }
+    {
+        match self.to_set_cat_info(dir, name) {
+            Ok(at) => {
+                set_info(&mut self.items, at, created, modified, backup, info);
+                self.changed = now;
+                success(Value::Nothing)
+            }
+            Err(code) => refusal(code),
+        }
+    }
+
+    /// Locks or unlocks a file.
+    #[tactic(auto, unfolding(hfs_model::specs::Changes::set_lock))]
+    pub fn set_lock(&mut self, locked: bool, dir: u32, name: &[u8], now: u32) -> Reply
+        ensures { (self.new, result) ≡ set_lock locked self.old dir name.now now }
+    {
+        match self.file_to_change(dir, name) {
+            Ok(at) => {
+                set_lock(&mut self.items, at, locked);
+                self.changed = now;
+                success(Value::Nothing)
+            }
+            Err(code) => refusal(code),
+        }
+    }
+
+    /// Gives an item another name.
+    #[tactic(auto, unfolding(hfs_model::specs::Changes::rename))]
+    pub fn rename(&mut self, dir: u32, name: &[u8], new_name: &[u8], now: u32) -> Reply
+        ensures { (self.new, result) ≡ rename self.old dir name.now new_name.now now }
+    {
+        match self.to_rename(dir, name, new_name) {
+            Ok(at) => {
+                let Some(new_name) = Name::new(new_name) else {
+                    unreachable!()
+                };
+                rename_item(&mut self.items, at, new_name);
+                self.changed = now;
+                success(Value::Nothing)
+            }
+            Err(code) => refusal(code),
+        }
+    }
+
+    /// A new item of that kind.
+    #[tactic(auto, unfolding(hfs_model::specs::Changes::create))]
+    fn add(&mut self, kind: Kind, dir: u32, name: &[u8], now: u32) -> Result<Reply, AllocError>
+        ensures ok { IfOk result (λ r. (self.new, r) ≡ create kind self.old dir name.now now) }
+        ensures err { OnErr result (self.new ≡ self.old) }
+    {
+        match self.to_create(dir, name) {
+            Ok(id) => {
+                let Some(name) = Name::new(name) else {
+                    unreachable!()
+                };
+                add_item(&mut self.items, id, new_item(kind, dir, name, now), now)?;
+                self.next_id = id + 1;
+                self.changed = now;
+                Ok(success(Value::Id(id)))
+            }
+            Err(code) => Ok(refusal(code)),
+        }
+    }
+
+    /// A new, empty file.
+    pub fn create(&mut self, dir: u32, name: &[u8], now: u32) -> Result<Reply, AllocError>
+        ensures ok { IfOk result (λ r. (self.new, r) ≡ create new_file self.old dir name.now now) }
+        ensures err { OnErr result (self.new ≡ self.old) }
+    {
+        let kind = new_file(self.alloc);
+        self.add(kind, dir, name, now)
+    }
+
+    /// A new, empty folder.
+    pub fn dir_create(&mut self, dir: u32, name: &[u8], now: u32) -> Result<Reply, AllocError>
+        ensures ok { IfOk result (λ r. (self.new, r) ≡ create new_folder self.old dir name.now now) }
+        ensures err { OnErr result (self.new ≡ self.old) }
+    {
+        self.add(new_folder(), dir, name, now)
+    }
+
+    /// Answers a call. A refused call, and one for which memory was wanting, changes nothing.
+    #[tactic(auto)]
+    pub fn call(&mut self, call: &Call) -> Result<Reply, AllocError>
+        ensures ok { IfOk result (λ r. (self.new, r) ≡ step self.old call.now) }
+        ensures err { OnErr result (self.new ≡ self.old) }
+    {
+        if call.is_reading() {
+            self.read(call)
+        } else {
+            self.change(call)
+        }
+    }
+
+    /// Answers a call that only reads.
+    #[tactic(auto)]
+    fn read(&self, call: &Call) -> Result<Reply, AllocError>
+        requires { IsTrue (is_reading call.now) }
+        ensures { IfOk result (λ r. (self.now, r) ≡ step self.now call.now) }
+    {
+        match call {
+            Call::GetDirInfo { dir } => Ok(self.get_dir_info(*dir)),
+            Call::GetCatInfo { dir, name } => Ok(self.get_cat_info(*dir, name.as_slice())),
+            Call::GetIndexed { dir, index } => self.get_indexed(*dir, *index),
+            Call::List { dir } => self.list(*dir),
+            Call::ReadFork {
+                dir,
+                name,
+                fork,
+                offset,
+                count,
+            } => self.read_fork(*dir, name.as_slice(), *fork, *offset, *count),
+            Call::Create { .. }
+            | Call::DirCreate { .. }
+            | Call::Delete { .. }
+            | Call::Rename { .. }
+            | Call::CatMove { .. }
+            | Call::SetFInfo { .. }
+            | Call::SetCatInfo { .. }
+            | Call::SetFLock { .. }
+            | Call::RstFLock { .. } => unreachable!(),
+        }
+    }
+
+    /// Answers a call that may change the volume: the names and places of its items here, what is told of one in
+    /// [`PlainVolume::set`].
+    #[tactic(auto)]
+    fn change(&mut self, call: &Call) -> Result<Reply, AllocError>
+        requires { is_reading call.now ≡ false }
+        ensures ok { IfOk result (λ r. (self.new, r) ≡ step self.old call.now) }
+        ensures err { OnErr result (self.new ≡ self.old) }
+    {
+        match call {
+            Call::Create { dir, name, now } => self.create(*dir, name.as_slice(), *now),
+            Call::DirCreate { dir, name, now } => self.dir_create(*dir, name.as_slice(), *now),
+            Call::Delete { dir, name, now } => Ok(self.delete(*dir, name.as_slice(), *now)),
+            Call::Rename {
+                dir,
+                name,
+                new_name,
+                now,
+            } => Ok(self.rename(*dir, name.as_slice(), new_name.as_slice(), *now)),
+            Call::CatMove {
+                dir,
+                name,
+                new_dir,
+                now,
+            } => Ok(self.cat_move(*dir, name.as_slice(), *new_dir, *now)),
+            Call::SetFInfo { .. }
+            | Call::SetCatInfo { .. }
+            | Call::SetFLock { .. }
+            | Call::RstFLock { .. } => Ok(self.set(call)),
+            Call::GetDirInfo { .. }
+            | Call::GetCatInfo { .. }
+            | Call::GetIndexed { .. }
+            | Call::List { .. }
+            | Call::ReadFork { .. } => unreachable!(),
+        }
+    }
+
+    /// Answers a call that sets what is told of an item: its Finder bytes, its dates or its lock. No memory is wanting.
+    #[tactic(auto)]
+    fn set(&mut self, call: &Call) -> Reply
+        requires { IsTrue (is_setting call.now) }
+        ensures { (self.new, result) ≡ step self.old call.now }
+    {
+        match call {
+            Call::SetFInfo {
+                dir,
+                name,
+                info,
+                now,
+            } => self.set_f_info(*dir, name.as_slice(), info, *now),
+            Call::SetCatInfo {
+                dir,
+                name,
+                created,
+                modified,
+                backup,
+                info,
+                now,
+            } => self.set_cat_info(
+                *dir,
+                name.as_slice(),
+                *created,
+                *modified,
+                *backup,
+                *info,
+                *now,
+            ),
+            Call::SetFLock { dir, name, now } => self.set_lock(true, *dir, name.as_slice(), *now),
+            Call::RstFLock { dir, name, now } => self.set_lock(false, *dir, name.as_slice(), *now),
+            Call::GetDirInfo { .. }
+            | Call::GetCatInfo { .. }
+            | Call::GetIndexed { .. }
+            | Call::List { .. }
+            | Call::ReadFork { .. }
+            | Call::Create { .. }
+            | Call::DirCreate { .. }
+            | Call::Delete { .. }
+            | Call::Rename { .. }
+            | Call::CatMove { .. } => unreachable!(),
+        }
+    }
+
+    /// Answers the calls one after another, with their replies in order. `Err` only where memory is wanting: then some of
+    /// the first calls were made, and their replies are lost.
+    #[tactic(auto)]
+    pub fn run(&mut self, calls: &[Call]) -> Result<Vec<Reply>, AllocError>
+        ensures ok { IfOk result (λ replies. (self.new, replies.items) ≡ run self.old calls.now) }
+        ensures err { OnErr result ((made : ℕ) × (made ≤ length calls.now) × (self.new ≡ (run self.old (take made calls.now)).0)) }
+    {
+        let mut replies = Vec::new(self.alloc);
+        for call in calls {
+            let reply = self.call(call)?;
+            replies.push(reply)?;
+        }
+        Ok(replies)
+    }
+}

@@ -1,0 +1,14 @@
+use Rattle.std.proofs.Common.{◌≡◌, List, ℕ, subst}
+use Rattle.std.specs.Prelude.{IfOk}
+use Rattle.hfs_volume.proofs.SeenForks.{fork_sound, bytes_same}
+use Rattle.hfs_volume.proofs.volume.Volume.open_file.Goals as goal
+
+pub new-requires-clause-fork : goal.new-requires-clause-fork
+new-requires-clause-fork c =
+    fork_sound _ _ _ _ _ c.self.view_is c.self.invariant c.extents_nodes.result c.extents_nodes.ensures c.args.file.now c.args.fork _ c.fork_record-kind.ensures c.requires
+
+pub returns : goal.returns
+returns c =
+    subst (λ (bs : List ℕ). IfOk c.new.result (λ source. source ≡ bs))
+    (bytes_same _ _ _ _ _ c.self.view_is c.self.invariant c.extents_nodes.result c.extents_nodes.ensures c.args.file.now c.args.fork _ c.fork_record-kind.ensures _ c.blocks-2.ensures)
+    c.new.ensures

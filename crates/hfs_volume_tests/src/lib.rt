@@ -1,0 +1,13 @@
+//! Tests of mounted volumes, on small ones. Expected values are written by hand from the format of a volume.
+#![tactic(auto)]
+
+#[cfg(test)]
+mod edges;
+#[cfg(test)]
+mod images;
+#[cfg(test)]
+mod mounted;
+#[cfg(test)]
+mod mounting;
+#[cfg(test)]
+mod reading;

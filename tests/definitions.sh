@@ -1,0 +1,24 @@
+#!/usr/bin/env bash
+# Prints, from the files themselves, where each definition stands and which wrong bodies the prover refuses: for each crate
+# (or those that are named) the files of its specs/ with what each is about, and the edits of its must-fail/ with the text
+# that each changes.
+set -euo pipefail
+cd "$(dirname "$0")/.."
+
+crates=("$@")
+[ ${#crates[@]} -gt 0 ] || mapfile -t crates < <(sed -n 's/^\([a-z0-9_]*\)[: ].*/\1/p' crates.txt)
+
+for crate in "${crates[@]}"; do
+    echo "$crate"
+    for file in "crates/$crate"/specs/*.antt; do
+        case $file in
+            */Lib.antt | */\*.antt) ;;
+            *) printf '    %-24s %s\n' "specs/$(basename "$file")" "$(sed -n '1s/^-- *//p' "$file")" ;;
+        esac
+    done
+    for file in "crates/$crate"/must-fail/*.edit; do
+        [ -e "$file" ] || continue
+        printf '    must-fail/%s, in %s:\n' "$(basename "$file" .edit)" "$(sed -n '1s/^file: *//p' "$file")"
+        sed -n -e 's/^old: */        - /p' -e 's/^new: */        + /p' "$file"
+    done
+done
