@@ -21,7 +21,7 @@ pub enum MountFault {
     /// A field of the master directory block can't be right. The number tells the first such test: 1 there is no allocation
     /// block; 2 an allocation block is not one or more whole blocks of 512 bytes; 3 the bitmap doesn't lie between block 3
     /// and the allocation blocks; 4 the allocation blocks don't lie in the image; 5 the next ID is below 16.
-    #[error("test {0} of the master directory block")]
+    #[error("wrong field of the master directory block ({0})")]
     BadMdb(u8),
     /// Check `number` fails: 3 the extents tree, 4 the shape of the catalog tree, 5 its records, 6 IDs, 7 names, 8 order,
     /// parents and threads, 9 valences, 10 counts, 11 extents, 12 space.
