@@ -4,6 +4,7 @@
 mod item;
 mod laws;
 mod lookups;
+mod record;
 mod records;
 
 pub use item::{CatalogItem, ItemRecord, is_file, is_folder, is_item, is_thread, item_id, item_of};
@@ -12,4 +13,5 @@ pub use laws::{
     sound_is_lawful, valences_are_counted,
 };
 pub use lookups::{by_id, children, lookup, thread};
+pub use record::CatalogRecord;
 pub use records::read_records;

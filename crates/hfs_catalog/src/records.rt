@@ -4,6 +4,7 @@ ghost use Rattle.hfs_btree.specs.Lookups.{first_pair};
 ghost use Rattle.hfs_btree.specs.Sound.{HasStructure, HasCounts};
 ghost use Rattle.hfs_catalog.specs.Tree.{cat_keys, catalog_of};
 
+use crate::record::CatalogRecord;
 use hfs_btree::{Nodes, Walk};
 use hfs_fields::CatKey;
 use hfs_model::Bytes;
@@ -13,21 +14,21 @@ use std::alloc::{AllocError, Global};
 fn next_record<N: Nodes>(
     alloc: Global,
     walk: &Walk<'_, CatKey, N>,
-) -> Result<Option<(CatKey, Bytes)>, AllocError>
+) -> Result<Option<CatalogRecord>, AllocError>
     ensures { IfOk result (λ r. r ≡ first_pair walk.now) }
 {
     match walk.pair() {
         Some(pair) => {
             let body = Bytes::from_slice(alloc, pair.body)?;
-            Ok(Some((pair.key, body)))
+            Ok(Some(CatalogRecord::new(pair.key, body)))
         }
         None => Ok(None),
     }
 }
 
-/// The records of the leaves of a catalog that has its shape, whatever their order: each one's key and body. Each leaf is
-/// read once. The only error is want of memory.
-pub fn read_records<N: Nodes>(alloc: Global, nodes: &N) -> Result<Vec<(CatKey, Bytes)>, AllocError>
+/// The records of the leaves of a catalog that has its shape, whatever their order. Each leaf is read once. The only error
+/// is want of memory.
+pub fn read_records<N: Nodes>(alloc: Global, nodes: &N) -> Result<Vec<CatalogRecord>, AllocError>
     requires structure { HasStructure cat_keys (N.nodes nodes.now) }
     requires counts { HasCounts cat_keys (N.nodes nodes.now) }
     ensures { IfOk result (λ records. records.items ≡ catalog_of (N.nodes nodes.now)) }

@@ -9,23 +9,22 @@ ghost use Rattle.hfs_scans.specs.First.{first_failing};
 ghost use Rattle.hfs_catalog.specs.Sound.{is_file_in, is_folder_in};
 ghost use Rattle.hfs_catalog_checks.specs.Faults.{is_record_right, record_fault, is_name_right, is_index_key_name, name_fault, count_fault};
 
-use hfs_catalog::{is_file, is_folder, is_item, is_thread};
+use hfs_catalog::{CatalogRecord, is_file, is_folder, is_item, is_thread};
 use hfs_fields::{CatKey, Mdb, ThreadRecord, is_item_name};
-use hfs_model::Bytes;
 
 /// Whether a record is a folder's or a file's under a name, or a thread's under an empty one.
 #[tactic(auto, unfolding(crate::specs::Faults::is_record_right))]
-fn is_record_right(r: &(CatKey, Bytes)) -> bool
+fn is_record_right(r: &CatalogRecord) -> bool
     ensures { result ≡ is_record_right r.now }
 {
-    let body = r.1.as_slice();
-    let length = r.0.name.bytes().len();
+    let body = r.body();
+    let length = r.key().name.bytes().len();
     (is_item(body) && 1 <= length) || (is_thread(body) && length == 0)
 }
 
 /// The number of the first record that is neither a folder's or a file's under a name, nor a thread's under an empty one.
 #[tactic(auto, using(hfs_scans::specs::ScanSteps::scan_stop, hfs_scans::specs::ScanSteps::scan_go, hfs_scans::specs::ScanSteps::scan_end), unfolding(crate::specs::Faults::record_fault))]
-pub fn record_fault(catalog: &[(CatKey, Bytes)]) -> Option<usize>
+pub fn record_fault(catalog: &[CatalogRecord]) -> Option<usize>
     ensures { result ≡ record_fault catalog.now }
 {
     for i in 0..catalog.len() {
@@ -48,16 +47,16 @@ fn is_thread_name_right(body: &[u8]) -> bool
 
 /// Whether an item's key and a thread's body have item names.
 #[tactic(auto, unfolding(crate::specs::Faults::is_name_right))]
-fn is_name_right(r: &(CatKey, Bytes)) -> bool
+fn is_name_right(r: &CatalogRecord) -> bool
     ensures { result ≡ is_name_right r.now }
 {
-    let body = r.1.as_slice();
-    (!is_item(body) || is_item_name(r.0.name.bytes()))
+    let body = r.body();
+    (!is_item(body) || is_item_name(r.key().name.bytes()))
         && (!is_thread(body) || is_thread_name_right(body))
 }
 
 #[tactic(auto, using(hfs_scans::specs::ScanSteps::scan_stop, hfs_scans::specs::ScanSteps::scan_go, hfs_scans::specs::ScanSteps::scan_end))]
-fn first_wrong_name(catalog: &[(CatKey, Bytes)]) -> Option<usize>
+fn first_wrong_name(catalog: &[CatalogRecord]) -> Option<usize>
     ensures { result ≡ first_failing (λ _ r. is_name_right r) [] catalog.now }
 {
     for i in 0..catalog.len() {
@@ -84,7 +83,7 @@ fn are_index_key_names(index_keys: &[CatKey]) -> bool
 
 /// The number of the first record with a wrong name; the number of records where the name of an index key is wrong.
 #[tactic(auto, unfolding(crate::specs::Faults::name_fault))]
-pub fn name_fault(index_keys: &[CatKey], catalog: &[(CatKey, Bytes)]) -> Option<usize>
+pub fn name_fault(index_keys: &[CatKey], catalog: &[CatalogRecord]) -> Option<usize>
     ensures { result ≡ name_fault index_keys.now catalog.now }
 {
     match first_wrong_name(catalog) {
@@ -99,40 +98,40 @@ pub fn name_fault(index_keys: &[CatKey], catalog: &[(CatKey, Bytes)]) -> Option<
     }
 }
 
-fn count_files_in(catalog: &[(CatKey, Bytes)], dir: u32) -> usize
+fn count_files_in(catalog: &[CatalogRecord], dir: u32) -> usize
     ensures { result ≡ count_by (is_file_in dir) catalog.now }
 {
     catalog
         .iter()
-        .filter(|r| is_file(r.1.as_slice()) && r.0.parent == dir)
+        .filter(|r| is_file(r.body()) && r.key().parent == dir)
         .count()
 }
 
-fn count_folders_in(catalog: &[(CatKey, Bytes)], dir: u32) -> usize
+fn count_folders_in(catalog: &[CatalogRecord], dir: u32) -> usize
     ensures { result ≡ count_by (is_folder_in dir) catalog.now }
 {
     catalog
         .iter()
-        .filter(|r| is_folder(r.1.as_slice()) && r.0.parent == dir)
+        .filter(|r| is_folder(r.body()) && r.key().parent == dir)
         .count()
 }
 
-fn count_files(catalog: &[(CatKey, Bytes)]) -> usize
+fn count_files(catalog: &[CatalogRecord]) -> usize
     ensures { result ≡ count_by (λ r. is_file r.1) catalog.now }
 {
-    catalog.iter().filter(|r| is_file(r.1.as_slice())).count()
+    catalog.iter().filter(|r| is_file(r.body())).count()
 }
 
-fn count_folders(catalog: &[(CatKey, Bytes)]) -> usize
+fn count_folders(catalog: &[CatalogRecord]) -> usize
     ensures { result ≡ count_by (λ r. is_dir r.1) catalog.now }
 {
-    catalog.iter().filter(|r| is_folder(r.1.as_slice())).count()
+    catalog.iter().filter(|r| is_folder(r.body())).count()
 }
 
 /// The number of the first count of the master directory block that is wrong: 1 the root's files (drNmFls), 2 the
 /// root's folders (drNmRtDirs), 3 all files (drFilCnt), 4 all folders but the root (drDirCnt).
 #[tactic(auto, unfolding(crate::specs::Faults::count_fault, hfs_catalog::specs::Sound::counts_of))]
-pub fn count_fault(mdb: &Mdb, catalog: &[(CatKey, Bytes)]) -> Option<usize>
+pub fn count_fault(mdb: &Mdb, catalog: &[CatalogRecord]) -> Option<usize>
     ensures { result ≡ count_fault mdb.now catalog.now }
 {
     if mdb.root_files as usize != count_files_in(catalog, 2) {

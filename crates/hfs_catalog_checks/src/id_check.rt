@@ -9,26 +9,24 @@ ghost use Rattle.hfs_catalog_checks.specs.Indexes.{item_place, is_place};
 ghost use Rattle.hfs_catalog_checks.specs.Faults.{implies, unless, is_id_right, is_item_id_right, id_fault};
 
 use crate::index::IndexedCatalog;
-use hfs_catalog::{is_folder, item_id};
-use hfs_fields::CatKey;
-use hfs_model::Bytes;
+use hfs_catalog::{CatalogRecord, is_folder, item_id};
 
 /// Whether an ID is right for an item: 2 for the root, a folder under 1, and for others one that was given out, from 16 on.
 #[tactic(auto, unfolding(crate::specs::Faults::is_id_right))]
-fn is_id_right(next: u32, id: u32, r: &(CatKey, Bytes)) -> bool
+fn is_id_right(next: u32, id: u32, r: &CatalogRecord) -> bool
     requires { item_id r.now.1 ≡ id }
     ensures { result ≡ is_id_right next r.now }
 {
-    let is_root = id == 2 && is_folder(r.1.as_slice()) && r.0.parent == 1;
-    let is_given = 16 <= id && id < next && r.0.parent != 1;
+    let is_root = id == 2 && is_folder(r.body()) && r.key().parent == 1;
+    let is_given = 16 <= id && id < next && r.key().parent != 1;
     is_root || is_given
 }
 
 /// Whether record `i`, if it is a file's or a folder's, has an ID that is right for it, and that no record before has.
-fn is_item_id_right(catalog: &IndexedCatalog<'_>, next: u32, i: usize, r: &(CatKey, Bytes)) -> bool
+fn is_item_id_right(catalog: &IndexedCatalog<'_>, next: u32, i: usize, r: &CatalogRecord) -> bool
     ensures { result ≡ implies (is_item r.now.1) (is_id_right next r.now && is_place (item_place catalog.now (item_id r.now.1)) i) }
 {
-    match item_id(r.1.as_slice()) {
+    match item_id(r.body()) {
         Some(id) => is_id_right(next, id, r) && catalog.place(id) == Some(i),
         None => true,
     }

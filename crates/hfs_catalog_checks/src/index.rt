@@ -6,24 +6,22 @@ ghost use Rattle.hfs_catalog.specs.Records.{has_id, item_with};
 ghost use Rattle.hfs_catalog_checks.specs.Indexes.{number_of, item_place, only_if};
 
 use crate::numbers::Numbers;
-use hfs_catalog::item_id;
-use hfs_fields::CatKey;
-use hfs_model::Bytes;
+use hfs_catalog::{CatalogRecord, item_id};
 use std::alloc::{AllocError, Global};
 use std::marker::Model;
 
 /// Notes the place of a record under its ID, if it is a file's or a folder's, and the first with the ID.
-fn note_item(places: &mut Numbers, i: usize, r: &(CatKey, Bytes)) -> Result<(), AllocError>
+fn note_item(places: &mut Numbers, i: usize, r: &CatalogRecord) -> Result<(), AllocError>
     ensures { OnOk result ((id : ℕ) → number_of places.new id ≡ option_or (number_of places.old id) (only_if (has_id id r.now) i)) }
 {
-    if let Some(id) = item_id(r.1.as_slice()) {
+    if let Some(id) = item_id(r.body()) {
         places.put_first(id, i)?;
     }
     Ok(())
 }
 
 /// The place of each file's and folder's record by its ID; of two with one ID, that of the first.
-fn item_places(alloc: Global, records: &[(CatKey, Bytes)]) -> Result<Numbers, AllocError>
+fn item_places(alloc: Global, records: &[CatalogRecord]) -> Result<Numbers, AllocError>
     ensures { IfOk result (λ places. (id : ℕ) → number_of places id ≡ item_place records.now id) }
 {
     let mut places = Numbers::new(alloc);
@@ -36,7 +34,7 @@ fn item_places(alloc: Global, records: &[(CatKey, Bytes)]) -> Result<Numbers, Al
 /// The records of a catalog, with an index of its files and folders by their IDs. Contracts see the records.
 #[derive(Drop)]
 pub struct IndexedCatalog<'a> {
-    records: &'a [(CatKey, Bytes)],
+    records: &'a [CatalogRecord],
     places: Numbers,
 }
 
@@ -55,10 +53,7 @@ impl<'a> Model for IndexedCatalog<'a> {
 impl<'a> IndexedCatalog<'a> {
     /// The catalog with these records. It reads each once, and takes memory for an index of the items. `Err` only where
     /// memory is wanting.
-    pub fn of(
-        alloc: Global,
-        records: &'a [(CatKey, Bytes)],
-    ) -> Result<IndexedCatalog<'a>, AllocError>
+    pub fn of(alloc: Global, records: &'a [CatalogRecord]) -> Result<IndexedCatalog<'a>, AllocError>
         ensures { IfOk result (λ catalog. catalog ≡ records.now) }
     {
         let places = item_places(alloc, records)?;
@@ -66,7 +61,7 @@ impl<'a> IndexedCatalog<'a> {
     }
 
     /// The records, in their order.
-    pub fn records(&self) -> &'a [(CatKey, Bytes)]
+    pub fn records(&self) -> &'a [CatalogRecord]
         ensures { result.now ≡ self.now }
     {
         self.records
@@ -87,7 +82,7 @@ impl<'a> IndexedCatalog<'a> {
     }
 
     /// The first record of a file or a folder with that ID. None where there is none.
-    pub(crate) fn item(&self, id: u32) -> Option<&(CatKey, Bytes)>
+    pub(crate) fn item(&self, id: u32) -> Option<&CatalogRecord>
         ensures { option_copied result ≡ item_with self.now id }
     {
         let i = self.places.get(id)?;

@@ -10,9 +10,7 @@ ghost use Rattle.hfs_catalog_checks.specs.Faults.{implies, is_parent_right};
 
 use crate::id_set::IdSet;
 use crate::index::IndexedCatalog;
-use hfs_catalog::{is_folder, item_id};
-use hfs_fields::CatKey;
-use hfs_model::Bytes;
+use hfs_catalog::{CatalogRecord, is_folder, item_id};
 use std::alloc::{AllocError, Global};
 
 /// Whether an ID is a folder's.
@@ -20,7 +18,7 @@ fn is_folder_id(catalog: &IndexedCatalog<'_>, id: u32) -> bool
     ensures { result ≡ is_folder_id catalog.now id }
 {
     match catalog.item(id) {
-        Some(item) => is_folder(item.1.as_slice()),
+        Some(item) => is_folder(item.body()),
         None => false,
     }
 }
@@ -44,7 +42,7 @@ fn reaches_root(catalog: &IndexedCatalog<'_>, rooted: &IdSet, from: u32) -> bool
             return true;
         }
         match catalog.item(at) {
-            Some(item) => at = item.0.parent,
+            Some(item) => at = item.key().parent,
             None => return false,
         }
     }
@@ -64,7 +62,7 @@ fn note_chain(catalog: &IndexedCatalog<'_>, rooted: &mut IdSet, from: u32) -> Re
         }
         rooted.add(id)?;
         match catalog.item(id) {
-            Some(item) => id = item.0.parent,
+            Some(item) => id = item.key().parent,
             None => return Ok(()),
         }
     }
@@ -76,19 +74,19 @@ fn note_chain(catalog: &IndexedCatalog<'_>, rooted: &mut IdSet, from: u32) -> Re
 fn is_parent_right(
     catalog: &IndexedCatalog<'_>,
     rooted: &mut IdSet,
-    r: &(CatKey, Bytes),
+    r: &CatalogRecord,
 ) -> Result<bool, AllocError>
     requires { AreRooted rooted.old catalog.now }
     ensures right { IfOk result (λ right. right ≡ implies (is_item r.now.1) (is_parent_right catalog.now r.now)) }
     ensures rooted { OnOk result (AreRooted rooted.new catalog.now) }
 {
-    let Some(id) = item_id(r.1.as_slice()) else {
+    let Some(id) = item_id(r.body()) else {
         return Ok(true);
     };
     if id == 2 {
         return Ok(true);
     }
-    if !is_folder_id(catalog, r.0.parent) || !reaches_root(catalog, rooted, id) {
+    if !is_folder_id(catalog, r.key().parent) || !reaches_root(catalog, rooted, id) {
         return Ok(false);
     }
     note_chain(catalog, rooted, id)?;

@@ -12,23 +12,22 @@ ghost use Rattle.hfs_catalog_checks.specs.Faults.{implies, leads_to, is_thread_r
 use crate::id_set::IdSet;
 use crate::index::IndexedCatalog;
 use byteorder::{BigEndian, ByteOrder};
-use hfs_catalog::{is_folder, is_thread, item_id};
-use hfs_fields::{CatKey, same_name};
-use hfs_model::Bytes;
+use hfs_catalog::{CatalogRecord, is_folder, is_thread, item_id};
+use hfs_fields::same_name;
 use std::alloc::{AllocError, Global};
 
 /// Notes the ID of a record's key, if it is a thread's.
-fn note_thread(ids: &mut IdSet, r: &(CatKey, Bytes)) -> Result<(), AllocError>
+fn note_thread(ids: &mut IdSet, r: &CatalogRecord) -> Result<(), AllocError>
     ensures { OnOk result ((id : ℕ) → has_number ids.new id ≡ (has_number ids.old id || is_thread_of id r.now)) }
 {
-    if is_thread(r.1.as_slice()) {
-        ids.add(r.0.parent)?;
+    if is_thread(r.body()) {
+        ids.add(r.key().parent)?;
     }
     Ok(())
 }
 
 /// The IDs that have threads.
-fn thread_ids(alloc: Global, catalog: &[(CatKey, Bytes)]) -> Result<IdSet, AllocError>
+fn thread_ids(alloc: Global, catalog: &[CatalogRecord]) -> Result<IdSet, AllocError>
     ensures { IfOk result (λ ids. (id : ℕ) → has_number ids id ≡ has_thread catalog.now id) }
 {
     let mut ids = IdSet::new(alloc);
@@ -39,10 +38,10 @@ fn thread_ids(alloc: Global, catalog: &[(CatKey, Bytes)]) -> Result<IdSet, Alloc
 }
 
 /// Whether a record, if it is a folder's, has a thread.
-fn is_threaded(ids: &IdSet, r: &(CatKey, Bytes)) -> bool
+fn is_threaded(ids: &IdSet, r: &CatalogRecord) -> bool
     ensures { result ≡ implies (is_dir r.now.1) (has_number ids.now (item_id r.now.1)) }
 {
-    let body = r.1.as_slice();
+    let body = r.body();
     if !is_folder(body) {
         return true;
     }
@@ -53,7 +52,7 @@ fn is_threaded(ids: &IdSet, r: &(CatKey, Bytes)) -> bool
 }
 
 /// The number of the first folder's record without a thread.
-fn first_unthreaded_by(ids: &IdSet, catalog: &[(CatKey, Bytes)]) -> Option<usize>
+fn first_unthreaded_by(ids: &IdSet, catalog: &[CatalogRecord]) -> Option<usize>
     requires { (id : ℕ) → has_number ids.now id ≡ has_thread catalog.now id }
     ensures { result ≡ first_failing (λ _ r. implies (is_dir r.1) (has_thread catalog.now (item_id r.1))) [] catalog.now }
 {
@@ -68,7 +67,7 @@ fn first_unthreaded_by(ids: &IdSet, catalog: &[(CatKey, Bytes)]) -> Option<usize
 /// The number of the first folder's record without a thread. `Err` only where memory is wanting.
 pub(crate) fn first_unthreaded(
     alloc: Global,
-    catalog: &[(CatKey, Bytes)],
+    catalog: &[CatalogRecord],
 ) -> Result<Option<usize>, AllocError>
     ensures { IfOk result (λ place. place ≡ first_failing (λ _ r. implies (is_dir r.1) (has_thread catalog.now (item_id r.1))) [] catalog.now) }
 {
@@ -101,25 +100,25 @@ fn name_in_thread(body: &[u8]) -> &[u8]
 
 /// Whether a thread is of an item's kind, and says its parent and the same name.
 #[tactic(auto, unfolding(crate::specs::Faults::leads_to, hfs_fields::specs::Records::thread_record_of))]
-fn leads_to(thread: &(CatKey, Bytes), item: &(CatKey, Bytes)) -> bool
+fn leads_to(thread: &CatalogRecord, item: &CatalogRecord) -> bool
     requires { length thread.now.1 ≡ 46 }
     ensures { result ≡ leads_to thread.now item.now }
 {
-    let body = thread.1.as_slice();
-    (body[0] == 3) == is_folder(item.1.as_slice())
-        && parent_in_thread(body) == item.0.parent
-        && same_name(item.0.name.bytes(), name_in_thread(body))
+    let body = thread.body();
+    (body[0] == 3) == is_folder(item.body())
+        && parent_in_thread(body) == item.key().parent
+        && same_name(item.key().name.bytes(), name_in_thread(body))
 }
 
 /// Whether a record, if it is a thread's, leads to the item whose ID is its key.
 #[tactic(auto, unfolding(crate::specs::Faults::is_thread_right))]
-fn is_thread_right(catalog: &IndexedCatalog<'_>, r: &(CatKey, Bytes)) -> bool
+fn is_thread_right(catalog: &IndexedCatalog<'_>, r: &CatalogRecord) -> bool
     ensures { result ≡ implies (is_thread r.now.1) (is_thread_right catalog.now r.now) }
 {
-    if !is_thread(r.1.as_slice()) {
+    if !is_thread(r.body()) {
         return true;
     }
-    match catalog.item(r.0.parent) {
+    match catalog.item(r.key().parent) {
         Some(item) => leads_to(r, item),
         None => false,
     }

@@ -8,24 +8,23 @@ ghost use Rattle.hfs_catalog_checks.specs.Indexes.{count_of};
 ghost use Rattle.hfs_catalog_checks.specs.Faults.{implies, is_valence_right, valence_fault};
 
 use crate::numbers::Numbers;
-use hfs_catalog::{is_folder, is_item};
-use hfs_fields::{CatKey, DirRecord};
-use hfs_model::Bytes;
+use hfs_catalog::{CatalogRecord, is_folder, is_item};
+use hfs_fields::DirRecord;
 use std::alloc::{AllocError, Global};
 
 /// Counts a record under its parent, if it is a file's or a folder's.
-fn count_child(counts: &mut Numbers, r: &(CatKey, Bytes)) -> Result<(), AllocError>
+fn count_child(counts: &mut Numbers, r: &CatalogRecord) -> Result<(), AllocError>
     requires { count_of counts.old r.now.0.parent + 1 < 2 ^ 64 }
     ensures { OnOk result ((id : ℕ) → count_of counts.new id ≡ count_of counts.old id + (if is_child_of id r.now then 1 else 0)) }
 {
-    if is_item(r.1.as_slice()) {
-        counts.count_up(r.0.parent)?;
+    if is_item(r.body()) {
+        counts.count_up(r.key().parent)?;
     }
     Ok(())
 }
 
 /// How many files and folders have each ID as their parent.
-fn child_counts(alloc: Global, catalog: &[(CatKey, Bytes)]) -> Result<Numbers, AllocError>
+fn child_counts(alloc: Global, catalog: &[CatalogRecord]) -> Result<Numbers, AllocError>
     ensures { IfOk result (λ counts. (id : ℕ) → count_of counts id ≡ valence_of catalog.now id) }
 {
     let mut counts = Numbers::new(alloc);
@@ -37,10 +36,10 @@ fn child_counts(alloc: Global, catalog: &[(CatKey, Bytes)]) -> Result<Numbers, A
 
 /// Whether a record, if it is a folder's, has the number of its children as its valence.
 #[tactic(auto, unfolding(hfs_fields::specs::Records::begins_dir))]
-fn is_valence_right(counts: &Numbers, r: &(CatKey, Bytes)) -> bool
+fn is_valence_right(counts: &Numbers, r: &CatalogRecord) -> bool
     ensures { result ≡ implies (is_dir r.now.1) (((dir_record_of r.now.1).valence == count_of counts.now (item_id r.now.1)) && nat_le (dir_record_of r.now.1).valence 65535) }
 {
-    let body = r.1.as_slice();
+    let body = r.body();
     if !is_folder(body) {
         return true;
     }
@@ -51,7 +50,7 @@ fn is_valence_right(counts: &Numbers, r: &(CatKey, Bytes)) -> bool
 }
 
 /// The number of the first folder's record with a valence that is not the number of its children.
-fn first_wrong_valence(counts: &Numbers, catalog: &[(CatKey, Bytes)]) -> Option<usize>
+fn first_wrong_valence(counts: &Numbers, catalog: &[CatalogRecord]) -> Option<usize>
     requires { (id : ℕ) → count_of counts.now id ≡ valence_of catalog.now id }
     ensures { result ≡ first_failing (λ _ r. is_valence_right catalog.now r) [] catalog.now }
 {
@@ -68,10 +67,7 @@ fn first_wrong_valence(counts: &Numbers, catalog: &[(CatKey, Bytes)]) -> Option<
 ///
 /// It reads each record twice, and takes memory for a count for each parent. `Err` only where memory is wanting.
 #[tactic(auto, unfolding(crate::specs::Faults::valence_fault))]
-pub fn valence_fault(
-    alloc: Global,
-    catalog: &[(CatKey, Bytes)],
-) -> Result<Option<usize>, AllocError>
+pub fn valence_fault(alloc: Global, catalog: &[CatalogRecord]) -> Result<Option<usize>, AllocError>
     ensures { IfOk result (λ fault. fault ≡ valence_fault catalog.now) }
 {
     let counts = child_counts(alloc, catalog)?;

@@ -1,5 +1,6 @@
 //! The checks of IDs, of places and of valences, on catalogs that are made by hand. The places of the faults are counted
 //! by hand in the rows of `sound`.
+use hfs_catalog::CatalogRecord;
 use hfs_catalog_checks::{IndexedCatalog, id_fault, place_fault, valence_fault};
 use hfs_fields::{CatKey, DirRecord, FileRecord, Name, ThreadKind, ThreadRecord};
 use hfs_model::Bytes;
@@ -99,7 +100,7 @@ fn with_more(row: Row) -> [Row; 10] {
     rows
 }
 
-fn record(a: Global, row: &Row) -> Result<(CatKey, Bytes), AllocError> {
+fn record(a: Global, row: &Row) -> Result<CatalogRecord, AllocError> {
     let body = match row.body {
         Body::Folder(id, valence) => {
             let mut bytes = [0; 70];
@@ -119,10 +120,10 @@ fn record(a: Global, row: &Row) -> Result<(CatKey, Bytes), AllocError> {
             Bytes::from_slice(a, &bytes)?
         }
     };
-    Ok((row.key, body))
+    Ok(CatalogRecord::new(row.key, body))
 }
 
-fn records(a: Global, rows: &[Row]) -> Result<Vec<(CatKey, Bytes)>, AllocError> {
+fn records(a: Global, rows: &[Row]) -> Result<Vec<CatalogRecord>, AllocError> {
     let mut records = Vec::new(a);
     for row in rows {
         records.push(record(a, row)?)?;

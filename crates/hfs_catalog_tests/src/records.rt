@@ -1,5 +1,5 @@
 //! The checks on catalogs made by hand.
-use hfs_catalog::{CatalogItem, ItemRecord, item_of};
+use hfs_catalog::{CatalogItem, CatalogRecord, ItemRecord, item_of};
 use hfs_catalog_checks::{count_fault, name_fault, record_fault};
 use hfs_fields::{CatKey, DirRecord, FileRecord, Mdb, Name, ThreadKind, ThreadRecord};
 use hfs_model::Bytes;
@@ -30,12 +30,12 @@ fn key(parent: u32, name: &[u8]) -> Result<CatKey, Fail> {
 }
 
 /// The root, its thread, and a file of that name in the root.
-fn catalog(alloc: Global, name: &[u8]) -> Result<Vec<(CatKey, Bytes)>, Fail> {
+fn catalog(alloc: Global, name: &[u8]) -> Result<Vec<CatalogRecord>, Fail> {
     let root = key(1, b"Disk")?;
     let mut records = Vec::new(alloc);
-    records.push((root, folder(alloc, 2)?))?;
-    records.push((key(2, b"")?, thread(alloc, 1, root.name)?))?;
-    records.push((key(2, name)?, file(alloc, 16)?))?;
+    records.push(CatalogRecord::new(root, folder(alloc, 2)?))?;
+    records.push(CatalogRecord::new(key(2, b"")?, thread(alloc, 1, root.name)?))?;
+    records.push(CatalogRecord::new(key(2, name)?, file(alloc, 16)?))?;
     Ok(records)
 }
 
@@ -43,7 +43,7 @@ fn catalog(alloc: Global, name: &[u8]) -> Result<Vec<(CatKey, Bytes)>, Fail> {
 fn finds_wrong_records(rt: HostRuntime) -> Result<(), Fail> {
     let mut records = catalog(rt.alloc(), b"Read Me")?;
     assert_eq!(rt; record_fault(&records), None);
-    records.push((key(3, b"a")?, thread(rt.alloc(), 1, key(1, b"a")?.name)?))?;
+    records.push(CatalogRecord::new(key(3, b"a")?, thread(rt.alloc(), 1, key(1, b"a")?.name)?))?;
     assert_eq!(rt; record_fault(&records), Some(3));
     let unnamed = catalog(rt.alloc(), b"")?;
     assert_eq!(rt; record_fault(&unnamed), Some(2));

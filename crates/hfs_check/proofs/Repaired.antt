@@ -1,5 +1,5 @@
 -- What a repair leaves as it is.
-use Rattle.std.proofs.Common.{◌≡◌, ℕ, zero, suc, ◌+◌, ◌<◌, ◌≤◌, Bool, true, false, List, [], ◌∷◌, ◌++◌, length, map, get_or, drop, refl, sym, ap, ◌∙◌, subst, arith, cond, filter}
+use Rattle.std.proofs.Common.{◌≡◌, ℕ, zero, suc, Bool, true, false, List, [], ◌∷◌, length, map, get_or, drop, refl, sym, ap, ◌∙◌, subst, arith, cond, filter}
 use Rattle.std.specs.Prelude.{◌==◌, IsTrue}
 use Rattle.std.specs.List.{flat_map}
 use Rattle.std.proofs.lemmas.Bool.{eq-eqb}
@@ -7,7 +7,7 @@ use Rattle.byteorder.specs.Endian.{big_bytes}
 use Rattle.byteorder.specs.Numbers.{length-bytes_high_first}
 use Rattle.hfs_fields.specs.Counts.{IsOutside}
 use Rattle.hfs_fields.specs.Keys.{cat_body_start}
-use Rattle.hfs_fields.specs.Records.{is_dir, item_id, dir_record_of}
+use Rattle.hfs_fields.specs.Records.{is_dir}
 use Rattle.hfs_btree.specs.declared.key.Key.{Ghosts}
 use Rattle.hfs_scans.specs.Elements.{each-append, each-left, each-right}
 use Rattle.hfs_scans.specs.Each.{Each}
@@ -21,9 +21,9 @@ use Rattle.hfs_catalog.specs.Records.{Record, Catalog}
 use Rattle.hfs_catalog.specs.Sound.{EachFolder, HasValence}
 use Rattle.hfs_catalog.specs.Tree.{cat_keys}
 use Rattle.hfs_check.specs.Parts.{Blocks, mdb_in, extents_nodes, catalog_extents, catalog_nodes, catalog_in}
-use Rattle.hfs_check.specs.Sound.{AreBlocksSound, IsSound}
+use Rattle.hfs_check.specs.Sound.{AreBlocksSound}
 use Rattle.hfs_check.specs.Repair.{CountedNumber, mdb_numbers, record_start, header_numbers, valence_number, valences_from, valence_numbers, numbers_in, is_mended, laid_over, with_numbers, is_mendable, repair, IsInNone}
-use Rattle.hfs_check.specs.RepairLaws.{KeepsOthers, RepairKeepsOthers, RepairKeepsSoundImages}
+use Rattle.hfs_check.specs.RepairLaws.{RepairKeepsOthers, RepairKeepsSoundImages}
 
 -- ---- bytes beside those that are written
 

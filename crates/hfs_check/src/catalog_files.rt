@@ -4,8 +4,7 @@ ghost use Rattle.std.specs.Option.{option_to_list};
 ghost use Rattle.hfs_check.specs.Answers.{numbered_file};
 ghost use Rattle.hfs_space.specs.Runs.{files_in};
 
-use hfs_fields::CatKey;
-use hfs_model::Bytes;
+use hfs_catalog::CatalogRecord;
 use hfs_space::CatalogFile;
 use std::alloc::{AllocError, Global};
 
@@ -22,13 +21,13 @@ fn take_file(files: &mut Vec<CatalogFile>, number: usize, body: &[u8]) -> Result
 /// The files of a catalog with these records, each with the number of its record, counted from 0.
 pub(crate) fn catalog_files(
     alloc: Global,
-    records: &[(CatKey, Bytes)],
+    records: &[CatalogRecord],
 ) -> Result<Vec<CatalogFile>, AllocError>
     ensures { IfOk result (λ files. files.items ≡ files_in 0 records.now) }
 {
     let mut files = Vec::new(alloc);
     for i in 0..records.len() {
-        take_file(&mut files, i, records[i].1.as_slice())?;
+        take_file(&mut files, i, records[i].body())?;
     }
     Ok(files)
 }

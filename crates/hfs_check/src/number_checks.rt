@@ -13,8 +13,8 @@ use crate::mount_fault::MountFault;
 use crate::record_checks::{answer_at, check_counts, check_valences};
 use hfs_blocks::Blocks;
 use hfs_btree::Nodes;
-use hfs_fields::{CatKey, Extent, Mdb};
-use hfs_model::Bytes;
+use hfs_catalog::CatalogRecord;
+use hfs_fields::{Extent, Mdb};
 use hfs_space::{CatalogFile, fork_fault, owned_extents, space_fault};
 use std::alloc::Global;
 
@@ -24,7 +24,7 @@ fn check_forks<N: Nodes>(
     mdb: &Mdb,
     tree: &N,
     files: &[CatalogFile],
-    records: &[(CatKey, Bytes)],
+    records: &[CatalogRecord],
 ) -> Result<(), MountFault>
     requires tree { IsExtentsTree (N.nodes tree.now) }
     requires files { files.now ≡ files_in 0 records.now }
@@ -60,7 +60,7 @@ pub(crate) fn check_numbers<B: Blocks, N: Nodes>(
     blocks: &B,
     mdb: &Mdb,
     tree: &N,
-    records: &[(CatKey, Bytes)],
+    records: &[CatalogRecord],
 ) -> Result<Vec<Extent>, MountFault>
     requires bitmap { mdb.now.bitmap_start + bitmap_len mdb.now.allocation_blocks ≤ B.total blocks.now }
     requires tree { IsExtentsTree (N.nodes tree.now) }

@@ -9,11 +9,11 @@ ghost use Rattle.hfs_check.specs.Answers.{Answers, listed_fault};
 use crate::mount_fault::MountFault;
 use hfs_btree::Nodes;
 use hfs_btree_checks::{index_keys, index_keys_in_order};
+use hfs_catalog::CatalogRecord;
 use hfs_catalog_checks::{
     IndexedCatalog, count_fault, id_fault, name_fault, place_fault, record_fault, valence_fault,
 };
 use hfs_fields::{CatKey, Mdb};
-use hfs_model::Bytes;
 use std::alloc::Global;
 
 /// What a check answers that found a fault at this place, or none.
@@ -30,7 +30,7 @@ pub(crate) fn answer_at(number: u8, place: Option<usize>) -> Result<(), MountFau
 }
 
 /// The check of records.
-pub(crate) fn check_records(records: &[(CatKey, Bytes)]) -> Result<(), MountFault>
+pub(crate) fn check_records(records: &[CatalogRecord]) -> Result<(), MountFault>
     ensures { Answers (check_fault 5 (catalog_spec.record_fault records.now)) result }
 {
     answer_at(5, record_fault(records))
@@ -48,7 +48,7 @@ pub(crate) fn check_ids(next: u32, catalog: &IndexedCatalog<'_>) -> Result<(), M
 pub(crate) fn check_names<N: Nodes>(
     alloc: Global,
     nodes: &N,
-    records: &[(CatKey, Bytes)],
+    records: &[CatalogRecord],
 ) -> Result<(), MountFault>
     requires { HasStructure cat_keys (N.nodes nodes.now) }
     ensures { Answers (check_fault 7 (catalog_name_fault (N.nodes nodes.now) records.now)) result }
@@ -73,7 +73,7 @@ pub(crate) fn check_places<N: Nodes>(
 }
 
 /// The check of valences.
-pub(crate) fn check_valences(alloc: Global, records: &[(CatKey, Bytes)]) -> Result<(), MountFault>
+pub(crate) fn check_valences(alloc: Global, records: &[CatalogRecord]) -> Result<(), MountFault>
     ensures { Answers (check_fault 9 (catalog_spec.valence_fault records.now)) result }
 {
     let place = valence_fault(alloc, records)?;
@@ -81,7 +81,7 @@ pub(crate) fn check_valences(alloc: Global, records: &[(CatKey, Bytes)]) -> Resu
 }
 
 /// The check of counts.
-pub(crate) fn check_counts(mdb: &Mdb, records: &[(CatKey, Bytes)]) -> Result<(), MountFault>
+pub(crate) fn check_counts(mdb: &Mdb, records: &[CatalogRecord]) -> Result<(), MountFault>
     ensures { Answers (check_fault 10 (catalog_spec.count_fault mdb.now records.now)) result }
 {
     answer_at(10, count_fault(mdb, records))
@@ -92,7 +92,7 @@ pub(crate) fn check_catalog_records<N: Nodes>(
     alloc: Global,
     next: u32,
     nodes: &N,
-    records: &[(CatKey, Bytes)],
+    records: &[CatalogRecord],
 ) -> Result<(), MountFault>
     requires { HasStructure cat_keys (N.nodes nodes.now) }
     ensures { Answers (listed_fault next (N.nodes nodes.now) records.now) result }

@@ -8,13 +8,12 @@ use crate::trees::ensure_shape;
 use anyhow::{Result, ensure};
 use hfs_btree::{NodeList, Walk, depth, find, free_nodes, next_after};
 use hfs_btree_checks::{check_tree, index_keys};
-use hfs_catalog::{CatalogItem, by_id, children, lookup, read_records, thread};
+use hfs_catalog::{CatalogItem, CatalogRecord, by_id, children, lookup, read_records, thread};
 use hfs_catalog_checks::{
     IndexedCatalog, id_fault, name_fault, no_id_fault, no_name_fault, no_place_fault,
     no_record_fault, place_fault, record_fault,
 };
 use hfs_fields::{CatKey, Mdb, Name, ThreadRecord};
-use hfs_model::Bytes;
 use std::alloc::{AllocError, Global};
 use std::marker::Model;
 
@@ -36,7 +35,7 @@ impl<'a> Model for Catalog<'a> {
 }
 
 /// An error where an ID or a place of the records is wrong.
-fn check_places(alloc: Global, next_id: u32, records: &[(CatKey, Bytes)]) -> Result<()>
+fn check_places(alloc: Global, next_id: u32, records: &[CatalogRecord]) -> Result<()>
     ensures ids { OnOk result (IsDistinct (item_ids records.now)) }
     ensures places { OnOk result (ArePlacesSound records.now) }
 {
@@ -81,7 +80,7 @@ impl<'a> Catalog<'a> {
     }
 
     /// All records, in order.
-    pub fn records(&self, alloc: Global) -> Result<Vec<(CatKey, Bytes)>, AllocError> {
+    pub fn records(&self, alloc: Global) -> Result<Vec<CatalogRecord>, AllocError> {
         read_records(alloc, &self.nodes)
     }
 

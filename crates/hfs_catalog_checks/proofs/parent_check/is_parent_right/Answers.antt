@@ -1,5 +1,7 @@
 use Rattle.std.proofs.Common.{ℕ, List, ◌&&◌, length, ◌∙◌, sym, ap}
 use Rattle.hfs_fields.specs.Records.{is_item, item_id}
+use Rattle.hfs_fields.specs.declared.key.CatKey.{CatKey}
+use Rattle.hfs_catalog.specs.Records.{is_folder_id}
 use Rattle.hfs_catalog.specs.Parents.{reaches_root}
 use Rattle.hfs_catalog_checks.specs.Indexes.{only_if}
 use Rattle.hfs_catalog_checks.proofs.ParentSteps.{right_at_root, right_elsewhere, reaches_known}
@@ -8,19 +10,19 @@ use Rattle.hfs_catalog_checks.proofs.parent_check.is_parent_right.Goals.{then-no
 
 pub returns-then-id-eq2-clause-right : goal.returns-then-id-eq2-clause-right
 returns-then-id-eq2-clause-right c =
-    let is = c.in-Some.ensures ∙ ap (λ (body : List ℕ). only_if (is_item body) (item_id body)) c.as_slice.ensures in
+    let is = c.in-Some.ensures ∙ ap (λ (body : List ℕ). only_if (is_item body) (item_id body)) c.body.ensures in
     sym (right_at_root c.args.catalog.now c.args.r.now c.in-Some.id is c.if-id-eq2.true)
 
 pub returns-then-not-is_folder_id-clause-right : goal.returns-then-not-is_folder_id-clause-right
 returns-then-not-is_folder_id-clause-right c =
-    let is = c.in-Some.ensures ∙ ap (λ (body : List ℕ). only_if (is_item body) (item_id body)) c.as_slice.ensures in
+    let is = c.in-Some.ensures ∙ ap (λ (body : List ℕ). only_if (is_item body) (item_id body)) c.body.ensures in
     let right = right_elsewhere c.args.catalog.now c.args.r.now c.in-Some.id is c.if-id-eq2.false in
     elim c.then-not-is_folder_id.branch [
       | then-not-is_folder_id-via-then-not-is_folder_id w ↦
-          let folder = sym c.is_folder_id.ensures ∙ w.if-not-is_folder_id.true in
+          let folder = ap (λ (key : CatKey). is_folder_id c.args.catalog.now key.parent) (sym c.key.ensures) ∙ sym c.is_folder_id.ensures ∙ w.if-not-is_folder_id.true in
           sym (right ∙ (λ i. folder i && reaches_root c.args.catalog.now (length c.args.catalog.now) c.in-Some.id))
       | then-not-is_folder_id-via-else-not-is_folder_id+then-not-reaches_root w ↦
-          let folder = sym c.is_folder_id.ensures ∙ w.if-not-is_folder_id.false in
+          let folder = ap (λ (key : CatKey). is_folder_id c.args.catalog.now key.parent) (sym c.key.ensures) ∙ sym c.is_folder_id.ensures ∙ w.if-not-is_folder_id.false in
           let reaches = sym w.reaches_root.ensures ∙ w.if-not-reaches_root.true in
           sym (right ∙ (λ i. folder i && reaches i))
     ]
@@ -30,7 +32,7 @@ note_chain-requires-clause-reaches c = reaches_known c.args.catalog.now c.in-Som
 
 pub returns-clause-right : goal.returns-clause-right
 returns-clause-right c =
-    let is = c.in-Some.ensures ∙ ap (λ (body : List ℕ). only_if (is_item body) (item_id body)) c.as_slice.ensures in
-    let folder = sym c.is_folder_id.ensures ∙ c.if-not-is_folder_id.false in
+    let is = c.in-Some.ensures ∙ ap (λ (body : List ℕ). only_if (is_item body) (item_id body)) c.body.ensures in
+    let folder = ap (λ (key : CatKey). is_folder_id c.args.catalog.now key.parent) (sym c.key.ensures) ∙ sym c.is_folder_id.ensures ∙ c.if-not-is_folder_id.false in
     let reaches = sym c.reaches_root.ensures ∙ c.if-not-reaches_root.false in
     sym (right_elsewhere c.args.catalog.now c.args.r.now c.in-Some.id is c.if-id-eq2.false ∙ (λ i. folder i && reaches i))
