@@ -18,4 +18,5 @@ pub mod ExactWays
 pub mod Puts
 pub mod PutExact
 pub mod PutRest
+pub mod PutKeeps
 pub mod PutWhole
