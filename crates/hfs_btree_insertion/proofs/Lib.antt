@@ -20,3 +20,6 @@ pub mod PutExact
 pub mod PutRest
 pub mod PutKeeps
 pub mod PutWhole
+pub mod Rekeyed
+pub mod FirstKeys
+pub mod LowerSteps

@@ -2,3 +2,4 @@ pub mod Cut
 pub mod Raise
 pub mod Growth
 pub mod Stored
+pub mod Lowering
