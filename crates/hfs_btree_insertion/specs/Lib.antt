@@ -3,3 +3,4 @@ pub mod Raise
 pub mod Growth
 pub mod Stored
 pub mod Lowering
+pub mod Steps
