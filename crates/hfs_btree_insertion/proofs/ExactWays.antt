@@ -152,11 +152,16 @@ module _ {K : Type 0} (g : Ghosts K) (total : IsTotalOrder g.compare) (old : Sto
   root-content : tree_content g old ≡ under g old d root
   root-content = content-under g old d deep ∙ append-nil (under g old d root)
 
+  -- the root's first key isn't above a key that is above the least
+  pub root-low : (key : K) → IsAboveFirst g.compare key (tree_content g old) → is_gt (g.compare (entry_key g d (get_or (records_in old root) 0 [])) key) ≡ false
+  root-low key above =
+      let A : Pairs K → Type 0 = λ ps. IsAboveFirst g.compare key ps in
+      at-most-first (entry_key g d (get_or (records_in old root) 0 [])) key (under g old d root) least (subst A root-content above)
+
   -- the whole way, where the tree is exact
   pub exact-way : (key : K) → IsExact g old → IsAboveFirst g.compare key (tree_content g old) → HasLowWay g total old key d root
   exact-way key exact above =
-      let A : Pairs K → Type 0 = λ ps. IsAboveFirst g.compare key ps in
       let F : K → Type 0 = λ x. is_gt (g.compare x key) ≡ false in
       let P : List Spot → Type 0 = λ ss. Each (λ (spot : Spot). IsRight g old spot × AreKeysExact g old spot.above spot.n) ss in
-      let first = subst F (sym (first-entry g old d root)) (at-most-first (entry_key g d (get_or (records_in old root) 0 [])) key (under g old d root) least (subst A root-content above)) in
+      let first = subst F (sym (first-entry g old d root)) (root-low key above) in
       low-way g total old key d root [] [] (subst P turn-old (each-both (IsRight g old) (λ spot. AreKeysExact g old spot.above spot.n) (tree_turn g old) sound.structure.levels.each exact)) first

@@ -19,6 +19,7 @@ use Rattle.hfs_btree.specs.Search.{is_not_above, child_for, leaf_under}
 use Rattle.hfs_btree.specs.Descent.{way-some, content-none}
 use Rattle.hfs_btree_edits.specs.Edits.{IsAboveFirst, KeepsTree, level_above, node_for}
 use Rattle.hfs_btree_edits.specs.KeptKeys.{EachKey, IsKeyOr, own-keys, keys-hold_with, each-key-mono}
+use Rattle.hfs_btree_insertion.specs.Growth.{NodesStay}
 use Rattle.hfs_btree_insertion.specs.Lowering.{HasFirstKey, HasLowFirst, HasLowered}
 use Rattle.hfs_btree_insertion.proofs.WayTo.{IsAt, at-root, at-next, at-level}
 use Rattle.hfs_btree_insertion.proofs.FirstKeys.{first-low, lowered-sound, lowered-content, lowered-turn, lowered-header, lowered-keeps, lowered-keys, lowered-levels, lowered-way, lowered-size, lowered-here, lowered-there}
@@ -34,9 +35,9 @@ module _ {K : Type 0} (g : Ghosts K) where
     rest = λ n other. refl;
   }
 
-  -- one after the other, where the nodes of the levels are the same
-  pub keeps-same : (a b c : Store) → KeepsTree g a b → KeepsTree g b c → tree_nodes g b ≡ tree_nodes g a → tree_nodes g c ≡ tree_nodes g b → KeepsTree g a c
-  keeps-same a b c x y first second = record {
+  -- one after the other, where no node leaves the levels
+  pub keeps-then : (a b c : Store) → KeepsTree g a b → KeepsTree g b c → NodesStay g b c → KeepsTree g a c
+  keeps-then a b c x y stay = record {
     sound = y.sound;
     exact = λ e. y.exact (x.exact e);
     frame = record {
@@ -53,11 +54,15 @@ module _ {K : Type 0} (g : Ghosts K) where
         let was = each-left (IsOther n) (tree_nodes g a) (tree_nodes g c) tree in
         let is = each-right (IsOther n) (tree_nodes g a) (tree_nodes g c) tree in
         let P : List ℕ → Type 0 = λ ns. Each (IsOther n) ns in
-        let mid = subst P (sym first) was in
+        let mid = stay n is in
         let own-b = subst P (ap (λ (ns : List ℕ). 0 ∷ ns) (sym x.frame.map)) own in
         y.rest n (each-append (IsOther n) (own_nodes b) (tree_nodes g b ++ tree_nodes g c) own-b (each-append (IsOther n) (tree_nodes g b) (tree_nodes g c) mid is))
         ∙ x.rest n (each-append (IsOther n) (own_nodes a) (tree_nodes g a ++ tree_nodes g b) own (each-append (IsOther n) (tree_nodes g a) (tree_nodes g b) was mid)));
   }
+
+  -- the same nodes
+  pub turn-stay : (b c : Store) → tree_turn g c ≡ tree_turn g b → NodesStay g b c
+  turn-stay b c same x other = let P : List Spot → Type 0 = λ ss. Each (IsOther x) (map (λ (y : Spot). y.n) ss) in subst P same other
 
   pub lowered-none : (key : K) (nodes : Store) (above : ℕ) → IsSound g nodes → depth_of nodes ≤ above + 1 → HasLowered g key above nodes nodes
   lowered-none key nodes above sound le = record {
@@ -94,12 +99,10 @@ module _ {K : Type 0} (g : Ghosts K) (total : IsTotalOrder g.compare) (key : K) 
 
   lowered-yes : is_gt (g.compare (g.index_key (record_in mid n 0)) key) ≡ true → HasFirstKey g n key mid new → HasLowered g key k old new
   lowered-yes gt h =
-      let nodes-mid = ap (λ (ss : List Spot). map (λ (x : Spot). x.n) ss) a.turn in
       let turned = lowered-turn g total mid new key n k a.keeps.sound at gt h index_len in
-      let nodes-new = ap (λ (ss : List Spot). map (λ (x : Spot). x.n) ss) turned in
       let own : IsKeyOr g old key key = inl refl in
       record {
-        keeps = keeps-same g old mid new a.keeps (lowered-keeps g total mid new key n k a.keeps.sound at gt h index_len above-mid) nodes-mid nodes-new;
+        keeps = keeps-then g old mid new a.keeps (lowered-keeps g total mid new key n k a.keeps.sound at gt h index_len above-mid) (turn-stay g mid new turned);
         content = lowered-content g total mid new key n k a.keeps.sound at gt h index_len ∙ a.content;
         keys = keys-hold_with g mid new key (lowered-keys g total mid new key n k a.keeps.sound at gt h index_len) (IsKeyOr g old key) a.keys own;
         header = lowered-header g total mid new key n k a.keeps.sound at gt h index_len ∙ a.header;

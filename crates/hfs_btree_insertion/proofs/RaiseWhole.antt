@@ -248,6 +248,7 @@ module _ {K : Type 0} (g : Ghosts K) (total : IsTotalOrder g.compare) (old new :
         ∙ ap (λ (y : ℕ). leaf_under g new key (suc (depth_of old - 1 - k)) y) s.root
         ∙ ap (leaf_under g new key (depth_of old - 1 - k)) (ap (child_for g key) (records-root g total old new p.d m s sound) ∙ child-one g new key s.entry ∙ s.names)
         ∙ under-same g old new sound.structure keep key (depth_of old - 1 - k) (omega (arith, lt)));
+    records = λ key k lt. record-same g old new sound.structure keep key (depth_of old - 1 - k) (omega (arith, lt));
     size = λ key k lt. ap size_of (record-same g old new sound.structure keep key (depth_of old - 1 - k) (omega (arith, lt)));
   }
 

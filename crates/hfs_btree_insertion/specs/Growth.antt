@@ -35,10 +35,11 @@ IsLow g nodes key = (j : ℕ) → suc j < depth_of nodes → 0 < prefix_len (is_
 
 -- ---- levels
 
--- counted from the leaves the levels are the same, the way to any key comes by the same nodes, and their records take as many bytes
+-- counted from the leaves the levels are the same, and the way to any key comes by the same nodes, with the same records
 pub record KeepsLevels {K : Type 0} (g : Ghosts K) (old new : Store) : Type 0 where
   pub levels : (k : ℕ) → k < depth_of old → level_above g new k ≡ level_above g old k
   pub way : (key : K) (k : ℕ) → k < depth_of old → node_for g new key k ≡ node_for g old key k
+  pub records : (key : K) (k : ℕ) → k < depth_of old → records_in new (node_for g old key k) ≡ records_in old (node_for g old key k)
   pub size : (key : K) (k : ℕ) → k < depth_of old → size_of (records_in new (node_for g old key k)) ≡ size_of (records_in old (node_for g old key k))
 
 -- no node left the levels

@@ -4,3 +4,4 @@ pub mod Growth
 pub mod Stored
 pub mod Lowering
 pub mod Steps
+pub mod Room
