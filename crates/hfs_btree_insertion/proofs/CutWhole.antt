@@ -25,6 +25,7 @@ use Rattle.hfs_scans.specs.Elements.{each-left, each-right, each-append}
 use Rattle.hfs_btree_edits.specs.LevelParts.{numbers}
 use Rattle.hfs_btree_insertion.proofs.Splits.{uppers, lowers, above-level, old-level, new-level, bn, hn, all-is, forward-is, new-nodes, new-exact, stray-gone, stray-same, one-more, levels-above, level-grown, levels-below}
 use Rattle.hfs_btree_insertion.proofs.SplitWays.{way-above, way-half, way-below, way-node, records-uppers, records-below, low-above, low-half, half-size, new-at, one-down}
+use Rattle.hfs_btree_insertion.proofs.CutKeys.{claimed-stay, claimed-keys, split-stay, split-keys, stay-then, keys-then}
 use Rattle.hfs_btree_insertion.proofs.Taken.{HasTaken, taken-keeps, taken-free, taken-content, claimed-levels, claimed-depth, claimed-root}
 
 -- ---- where the cut is
@@ -257,6 +258,8 @@ cut-whole g total key a m old mid new sound deep c low h =
     let same = claimed-depth g m old mid new c in
     record {
       keeps = taken-keeps g m old mid new c t;
+      others = stay-then g old mid new (claimed-stay g m old mid c) (split-stay g mid new h.i a _ _ m _ h.c h.split c.sound.structure);
+      keys = keys-then g old mid new (claimed-keys g m old mid c) (split-keys g mid new h.i a _ _ m _ h.c h.split c.sound.structure);
       content = taken-content g m old mid new c t;
       depth = h.split.depth ∙ same;
       free = taken-free g m old mid new c t;

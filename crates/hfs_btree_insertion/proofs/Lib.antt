@@ -10,8 +10,12 @@ pub mod WayTo
 pub mod LevelWays
 pub mod SplitWays
 pub mod Taken
+pub mod HalfRead
 pub mod Cutting
+pub mod CutKeys
 pub mod CutWhole
+pub mod CutCalls
+pub mod Steps
 pub mod Raises
 pub mod RaiseWhole
 pub mod ExactWays

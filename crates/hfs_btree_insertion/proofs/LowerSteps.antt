@@ -21,52 +21,18 @@ use Rattle.hfs_btree_edits.specs.Edits.{IsAboveFirst, KeepsTree, level_above, no
 use Rattle.hfs_btree_edits.specs.KeptKeys.{EachKey, IsKeyOr, own-keys, keys-hold_with, each-key-mono}
 use Rattle.hfs_btree_insertion.specs.Growth.{NodesStay}
 use Rattle.hfs_btree_insertion.specs.Lowering.{HasFirstKey, HasLowFirst, HasLowered}
+use Rattle.hfs_btree_insertion.proofs.Steps.{keeps-same, keeps-then}
 use Rattle.hfs_btree_insertion.proofs.WayTo.{IsAt, at-root, at-next, at-level}
 use Rattle.hfs_btree_insertion.proofs.FirstKeys.{first-low, lowered-sound, lowered-content, lowered-turn, lowered-header, lowered-keeps, lowered-keys, lowered-levels, lowered-way, lowered-size, lowered-here, lowered-there}
 
 module _ {K : Type 0} (g : Ghosts K) where
-  -- a tree keeps what it has
-  pub keeps-self : (nodes : Store) → IsSound g nodes → KeepsTree g nodes nodes
-  keeps-self nodes sound = record {
-    sound = sound;
-    exact = λ e. e;
-    frame = record { file = refl; nodes = refl; map = refl; map_length = refl; stray = λ n. (λ s. s, λ s. s) };
-    free = refl;
-    rest = λ n other. refl;
-  }
-
-  -- one after the other, where no node leaves the levels
-  pub keeps-then : (a b c : Store) → KeepsTree g a b → KeepsTree g b c → NodesStay g b c → KeepsTree g a c
-  keeps-then a b c x y stay = record {
-    sound = y.sound;
-    exact = λ e. y.exact (x.exact e);
-    frame = record {
-      file = y.frame.file ∙ x.frame.file;
-      nodes = y.frame.nodes ∙ x.frame.nodes;
-      map = y.frame.map ∙ x.frame.map;
-      map_length = y.frame.map_length ∙ x.frame.map_length;
-      stray = λ n. (λ s. (x.frame.stray n).0 ((y.frame.stray n).0 s), λ s. (y.frame.stray n).1 ((x.frame.stray n).1 s));
-    };
-    free = y.free ∙ x.free;
-    rest = λ n other.
-        (let own = each-left (IsOther n) (own_nodes a) (tree_nodes g a ++ tree_nodes g c) other in
-        let tree = each-right (IsOther n) (own_nodes a) (tree_nodes g a ++ tree_nodes g c) other in
-        let was = each-left (IsOther n) (tree_nodes g a) (tree_nodes g c) tree in
-        let is = each-right (IsOther n) (tree_nodes g a) (tree_nodes g c) tree in
-        let P : List ℕ → Type 0 = λ ns. Each (IsOther n) ns in
-        let mid = stay n is in
-        let own-b = subst P (ap (λ (ns : List ℕ). 0 ∷ ns) (sym x.frame.map)) own in
-        y.rest n (each-append (IsOther n) (own_nodes b) (tree_nodes g b ++ tree_nodes g c) own-b (each-append (IsOther n) (tree_nodes g b) (tree_nodes g c) mid is))
-        ∙ x.rest n (each-append (IsOther n) (own_nodes a) (tree_nodes g a ++ tree_nodes g b) own (each-append (IsOther n) (tree_nodes g a) (tree_nodes g b) was mid)));
-  }
-
   -- the same nodes
   pub turn-stay : (b c : Store) → tree_turn g c ≡ tree_turn g b → NodesStay g b c
   turn-stay b c same x other = let P : List Spot → Type 0 = λ ss. Each (IsOther x) (map (λ (y : Spot). y.n) ss) in subst P same other
 
   pub lowered-none : (key : K) (nodes : Store) (above : ℕ) → IsSound g nodes → depth_of nodes ≤ above + 1 → HasLowered g key above nodes nodes
   lowered-none key nodes above sound le = record {
-    keeps = keeps-self nodes sound;
+    keeps = keeps-same g nodes sound;
     content = refl;
     keys = each-key-mono g nodes nodes (λ k. Rattle.hfs_scans.specs.Members.In k (Rattle.hfs_btree_edits.specs.KeptKeys.tree_keys g nodes)) (IsKeyOr g nodes key) (λ k is. inr is) (own-keys g nodes);
     header = refl;

@@ -12,8 +12,7 @@ use Rattle.hfs_btree.specs.declared.key.Key.{Ghosts}
 use Rattle.hfs_scans.specs.Each.{Each}
 use Rattle.hfs_scans.specs.Elements.{each-at, each-left, each-right, each-append}
 use Rattle.hfs_btree.specs.Tree.{Store, Spot, node_in, records_in, records_of, reads_at, key_at, children, spots, first_of, turn, level_below}
-use Rattle.hfs_scans.specs.Members.{In}
-use Rattle.hfs_btree_edits.specs.KeptKeys.{EachKey, tree_keys, hold-keys, keys-hold}
+use Rattle.hfs_btree_edits.specs.KeptKeys.{EachKey, hold-keys}
 use Rattle.hfs_btree.specs.Header.{header_in, record_in, depth_of, root_level, own_nodes, tree_turn, tree_nodes}
 use Rattle.hfs_btree.specs.Sound.{IsOther, IsSound, IsRight, IsStray, IsExact, AreKeysExact, first_key}
 use Rattle.hfs_btree.specs.Search.{child_for, leaf_under}
@@ -31,7 +30,8 @@ use Rattle.hfs_btree_insertion.proofs.PutWhole.{head-long, own-long}
 use Rattle.hfs_btree_insertion.proofs.Raises.{all-keep, below, raise-turn, raise-nodes, raise-content, raise-sound, records-root, turn-old}
 use Rattle.hfs_btree_edits.specs.LevelParts.{KeepsRecords, KeepsAt}
 use Rattle.hfs_btree_insertion.proofs.LevelWays.{level-same, record-same, under-same, child-one, levels-then}
-use Rattle.hfs_btree_insertion.proofs.Taken.{HasTaken, claimed-keep, taken-keeps, taken-free, taken-content, claimed-levels, claimed-depth}
+use Rattle.hfs_btree_insertion.proofs.CutKeys.{key-same, kept-keys, claimed-stay, claimed-keys, stay-then, keys-then}
+use Rattle.hfs_btree_insertion.proofs.Taken.{HasTaken, taken-keeps, taken-free, taken-content, claimed-levels, claimed-depth}
 
 -- ---- the old root
 
@@ -156,14 +156,6 @@ module _ {K : Type 0} (g : Ghosts K) (total : IsTotalOrder g.compare) (old x : S
               (map-kept h x new put count (own-has-map old x x-own sound.structure.map));
         }
 
-each-both-mono : {X : Type 0} (P Q R : X → Type 0) (xs : List X) → ((x : X) → P x → Q x → R x) → Each P xs → Each Q xs → Each R xs
-each-both-mono P Q R [] f a b = tt
-each-both-mono P Q R (x ∷ xs) f a b = (f x a.0 b.0, each-both-mono P Q R xs f a.1 b.1)
-
-key-same : {K : Type 0} (g : Ghosts K) (k : ℕ) (e : List ℕ) → key_at g k e ≡ entry_key g k e
-key-same g zero e = refl
-key-same g (suc k) e = refl
-
 -- the root has a record
 root-there : {K : Type 0} (g : Ghosts K) (nodes : Store) (sound : IsSound g nodes) (d : ℕ) → depth_of nodes ≡ suc d → 0 < length (records_in nodes (header_in nodes).root)
 root-there g nodes sound d deep = root-some g nodes sound (omega (arith, deep)) (header_in nodes) refl
@@ -276,37 +268,13 @@ module _ {K : Type 0} (g : Ghosts K) (total : IsTotalOrder g.compare) (old new :
   root-keys P was =
       let Q : List Spot → Type 0 = λ ss. Each (λ (y : Spot). Each (λ e. P (key_at g y.above e)) (records_in new y.n)) ss in
       let F : List (List ℕ) → Type 0 = λ xs. Each (λ e. P (g.index_key e)) xs in
-      let O : Spot → Type 0 = λ y. Each (λ e. P (key_at g y.above e)) (records_in old y.n) in
       let here : Each (λ e. P (g.index_key e)) (records_in new m) = subst F (sym (records-root g total old new p.d m s sound)) (root-key P was, tt) in
-      subst Q (sym (raise-turn g total old new p.d m s sound)) (
-        here,
-        each-both-mono (KeepsAt g old new) O (λ (y : Spot). Each (λ e. P (key_at g y.above e)) (records_in new y.n)) (tree_turn g old)
-            (λ y same h. (let X : List (List ℕ) → Type 0 = λ xs. Each (λ e. P (key_at g y.above e)) xs in subst X (sym same) h)) keep was,
-      )
+      subst Q (sym (raise-turn g total old new p.d m s sound)) (here, kept-keys g old new P (tree_turn g old) keep was)
 
   pub root-keys_stay : KeysStay g old new
   root-keys_stay = hold-keys g old new root-keys
 
 -- ---- with the claim
-
--- the tree is the same where a node was claimed
-module _ {K : Type 0} (g : Ghosts K) (m : ℕ) (old mid : Store) (c : HasClaimed g m old mid) where
-  claimed-turn : tree_nodes g mid ≡ tree_nodes g old
-  claimed-turn = ap (map (λ (y : Spot). y.n)) c.turn
-
-  pub claimed-others : NodesStay g old mid
-  claimed-others x other = let P : List ℕ → Type 0 = λ xs. Each (IsOther x) xs in subst P claimed-turn other
-
-  claimed-hold : (P : K → Type 0) → EachKey g P old → EachKey g P mid
-  claimed-hold P was =
-      let Q : List Spot → Type 0 = λ ss. Each (λ (y : Spot). Each (λ e. P (key_at g y.above e)) (records_in mid y.n)) ss in
-      let O : Spot → Type 0 = λ y. Each (λ e. P (key_at g y.above e)) (records_in old y.n) in
-      subst Q (sym c.turn)
-      (each-both-mono (KeepsAt g old mid) O (λ (y : Spot). Each (λ e. P (key_at g y.above e)) (records_in mid y.n)) (tree_turn g old)
-      (λ y same h. (let X : List (List ℕ) → Type 0 = λ xs. Each (λ e. P (key_at g y.above e)) xs in subst X (sym same) h)) (claimed-keep g m old mid mid c) was)
-
-  pub claimed-keys : KeysStay g old mid
-  claimed-keys = hold-keys g old mid claimed-hold
 
 pub raise-whole : {K : Type 0} (g : Ghosts K) (total : IsTotalOrder g.compare) (old mid new : Store) (m : ℕ) → IsSound g old → HasClaimed g m old mid → HasRootPut g mid new m
     → ((e : List ℕ) → g.is_index e ≡ true → length e ≡ g.INDEX_KEY_LEN + 5) → HasRaised g old new
@@ -315,8 +283,8 @@ raise-whole g total old mid new m sound c p index_len =
     let same = claimed-depth g m old mid new c in
     record {
       keeps = taken-keeps g m old mid new c t;
-      others = λ x other. claimed-others g m old mid c x (root-others g total mid new m c.sound p x other);
-      keys = keys-hold g mid new (root-keys_stay g total mid new m c.sound p) (λ k. In k (tree_keys g old)) (claimed-keys g m old mid c);
+      others = stay-then g old mid new (claimed-stay g m old mid c) (root-others g total mid new m c.sound p);
+      keys = keys-then g old mid new (claimed-keys g m old mid c) (root-keys_stay g total mid new m c.sound p);
       content = taken-content g m old mid new c t;
       levels = levels-then g old mid new (omega (arith, same)) (claimed-levels g m old mid new c sound) (root-levels g total mid new m c.sound p);
       depth = new-deep g total mid new m c.sound p ∙ ap suc same;

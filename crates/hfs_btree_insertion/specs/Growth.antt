@@ -67,6 +67,8 @@ pub record HasRaised {K : Type 0} (g : Ghosts K) (old new : Store) : Type 0 wher
 -- have room for one more record.
 pub record HasCutLevel {K : Type 0} (g : Ghosts K) (key : K) (a : ℕ) (old new : Store) : Type 0 where
   pub keeps : KeepsTree g old new
+  pub others : NodesStay g old new
+  pub keys : KeysStay g old new
   pub content : tree_content g new ≡ tree_content g old
   pub depth : depth_of new ≡ depth_of old
   pub free : free_nodes new + 1 ≡ free_nodes old
