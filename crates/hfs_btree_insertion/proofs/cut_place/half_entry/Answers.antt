@@ -1,5 +1,5 @@
-use Rattle.std.proofs.Common.{◌≡◌, List, ℕ, sym, ◌∙◌, length, arith, ◌<◌}
-use Rattle.std.specs.Prelude.{true, IfOk}
+use Rattle.std.proofs.Common.{◌≡◌, List, ℕ, arith}
+use Rattle.std.specs.Prelude.{true}
 use Rattle.hfs_btree.specs.Tree.{reads_at}
 use Rattle.hfs_btree_insertion.proofs.HalfRead.{none-read, view-place, to-entry, names-half}
 use Rattle.hfs_btree_insertion.proofs.cut_place.half_entry.Goals as goal

@@ -1,8 +1,5 @@
-use Rattle.std.proofs.Common.{◌≡◌, ◌≤◌, ◌<◌, ◌-◌, ◌+◌, ℕ, sym, ap, ◌∙◌, subst, arith, refl}
-use Rattle.std.specs.Prelude.{OnOk}
-use Rattle.hfs_btree.specs.Header.{depth_of}
-use Rattle.hfs_btree_insertion.specs.Steps.{HasCutDown}
-use Rattle.hfs_btree_insertion.proofs.Steps.{down-init, next-deep, next-over, next-room, next-free, next-file, down-next, keys-short}
+use Rattle.std.proofs.Common.{◌-◌, ◌∙◌, arith, refl}
+use Rattle.hfs_btree_insertion.proofs.Steps.{down-init, next-room, down-next, keys-short}
 use Rattle.hfs_btree_insertion.proofs.level_cut.cut_levels.Goals as goal
 
 pub loop-above-init : goal.loop-above-init
