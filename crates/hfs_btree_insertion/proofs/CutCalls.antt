@@ -1,27 +1,25 @@
 -- A cut, from the calls that do it.
-use Rattle.std.proofs.Common.{◌≡◌, ◌≢◌, ℕ, zero, suc, ◌+◌, ◌-◌, ◌<◌, ◌≤◌, List, [], ◌∷◌, length, get_or, take, drop, nat_eq, refl, sym, ap, ◌∙◌, subst, arith, eqb-true}
-use Rattle.std.specs.Prelude.{true, false, Bool, All, Ok, Result, insert}
+use Rattle.std.proofs.Common.{◌≡◌, ◌≢◌, ℕ, suc, ◌+◌, ◌<◌, ◌≤◌, List, [], length, get_or, take, drop, nat_eq, sym, ap, ◌∙◌, subst, arith, eqb-true}
+use Rattle.std.specs.Prelude.{true, false, All, Ok, Result, insert}
 use Rattle.std.specs.Cmp.{IsTotalOrder}
 use Rattle.std.proofs.lemmas.Bool.{eq-eqb}
 use Rattle.hfs_node.specs.declared.node.Node.{Node}
 use Rattle.hfs_node.specs.declared.fault.NodeFault.{NodeFault}
-use Rattle.hfs_node.specs.Node.{size_of, node_of}
+use Rattle.hfs_node.specs.Node.{size_of}
 use Rattle.hfs_node.specs.Decoding.{node_of-fits}
 use Rattle.hfs_node.specs.ReadBack.{few-records}
 use Rattle.hfs_btree.specs.declared.key.Key.{Ghosts}
 use Rattle.hfs_scans.specs.Each.{Each}
 use Rattle.hfs_scans.specs.Elements.{each-at}
 use Rattle.hfs_btree.specs.Tree.{Store, node_in, records_in, records_of, reads_at, forward_of, first_of}
-use Rattle.hfs_btree.specs.Header.{header_in, record_in, own_nodes}
-use Rattle.hfs_btree.specs.Sound.{IsOther, IsRight, IsSound, IsStray}
+use Rattle.hfs_btree.specs.Sound.{IsRight, IsSound, IsStray}
 use Rattle.hfs_btree.specs.Descent.{IsOnWay, way-node, index-entries}
 use Rattle.hfs_btree_edits.specs.Stored.{HasStored}
 use Rattle.hfs_btree_insertion.specs.Stored.{HasRecordPut}
-use Rattle.hfs_btree_insertion.specs.Cut.{IsCut, IsBranch, child_at, HasCutAt}
+use Rattle.hfs_btree_insertion.specs.Cut.{IsBranch, child_at, HasCutAt}
 use Rattle.hfs_btree_insertion.specs.Halves.{NamesHalf, HasHalved}
-use Rattle.hfs_btree_insertion.proofs.PutWhole.{head-long}
 use Rattle.hfs_btree_insertion.proofs.SplitWrites.{p-n}
-use Rattle.hfs_btree_insertion.proofs.Cutting.{all-short, cut, cut-done, parent-way, child-way, parent-within, child-within, right-within}
+use Rattle.hfs_btree_insertion.proofs.Cutting.{all-short, cut, cut-done, parent-way, child-way, child-within, right-within}
 
 module _ {K : Type 0} (g : Ghosts K) (old : Store) (sound : IsSound g old) (k p q : ℕ) (b : IsBranch g old k p q) where
   abbrev nn : ℕ

@@ -1,15 +1,15 @@
 -- The nodes and the keys of a tree in which a node was cut.
-use Rattle.std.proofs.Common.{◌≡◌, ℕ, zero, suc, ◌<◌, List, [], ◌∷◌, ◌++◌, map, take, drop, get_or, refl, sym, ap, ◌∙◌, subst, arith}
+use Rattle.std.proofs.Common.{◌≡◌, ℕ, zero, suc, List, [], ◌∷◌, ◌++◌, take, drop, get_or, refl, sym, ap, ◌∙◌, subst}
 use Rattle.std.specs.Prelude.{insert}
 use Rattle.hfs_btree.specs.declared.key.Key.{Ghosts}
 use Rattle.hfs_scans.specs.Each.{Each}
 use Rattle.hfs_scans.specs.Members.{In}
-use Rattle.hfs_scans.specs.Elements.{each-at, each-append, each-left, each-right, each-mono, each-both}
+use Rattle.hfs_scans.specs.Elements.{each-at, each-append, each-left, each-right}
 use Rattle.hfs_btree.specs.Tree.{Store, Spot, records_in, key_at, spots}
-use Rattle.hfs_btree.specs.Header.{header_in, own_nodes, tree_turn, tree_nodes}
-use Rattle.hfs_btree.specs.Sound.{IsOther, HasStructure, IsSound}
+use Rattle.hfs_btree.specs.Header.{tree_turn}
+use Rattle.hfs_btree.specs.Sound.{IsOther, HasStructure}
 use Rattle.hfs_btree_edits.specs.Stored.{HasClaimed}
-use Rattle.hfs_btree_edits.specs.LevelParts.{KeepsAt, KeepsRecords, entry_key, numbers, at-spots, of-spots}
+use Rattle.hfs_btree_edits.specs.LevelParts.{KeepsAt, KeepsRecords, entry_key, numbers}
 use Rattle.hfs_btree_edits.specs.Apart.{each-take, each-drop}
 use Rattle.hfs_btree_edits.specs.KeptKeys.{EachKey, tree_keys, hold-keys, keys-hold}
 use Rattle.hfs_btree_insertion.specs.Cut.{IsSplit}

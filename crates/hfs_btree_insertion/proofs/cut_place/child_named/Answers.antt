@@ -1,4 +1,4 @@
-use Rattle.std.proofs.Common.{◌≡◌, List, ℕ, sym, ◌∙◌, length, arith, ◌<◌}
+use Rattle.std.proofs.Common.{◌≡◌, List, ℕ, arith}
 use Rattle.std.specs.Prelude.{true}
 use Rattle.hfs_btree_insertion.proofs.HalfRead.{none-read, view-place, to-entry, child-read}
 use Rattle.hfs_btree_insertion.proofs.cut_place.child_named.Goals as goal

@@ -1,7 +1,6 @@
-use Rattle.std.proofs.Common.{◌≡◌, ◌≤◌, List, [], ℕ, length, take, drop, arith, ◌<◌}
+use Rattle.std.proofs.Common.{◌≤◌, List, ℕ, length, take, drop, arith, ◌<◌}
 use Rattle.std.specs.Prelude.{All}
 use Rattle.hfs_node.specs.Node.{size_of}
-use Rattle.hfs_node.specs.Sizes.{size_of-nil}
 use Rattle.hfs_btree_insertion.proofs.HalfRead.{none-read, of-view, to-view, some-size}
 use Rattle.hfs_btree_insertion.proofs.cut_place.cut_place.Goals as goal
 

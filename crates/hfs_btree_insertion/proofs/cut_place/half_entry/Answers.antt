@@ -1,11 +1,14 @@
-use Rattle.std.proofs.Common.{◌≡◌, List, ℕ, sym, ◌∙◌, length, arith, ◌<◌}
-use Rattle.std.specs.Prelude.{true, IfOk}
+use Rattle.std.proofs.Common.{ap, length, ◌≡◌, ◌<◌, List, ℕ, arith}
+use Rattle.std.specs.Prelude.{true}
 use Rattle.hfs_btree.specs.Tree.{reads_at}
-use Rattle.hfs_btree_insertion.proofs.HalfRead.{none-read, view-place, to-entry, names-half}
+use Rattle.hfs_btree_insertion.proofs.HalfRead.{none-read, view-same, to-entry, names-half}
 use Rattle.hfs_btree_insertion.proofs.cut_place.half_entry.Goals as goal
 
 pub record-requires : goal.record-requires
-record-requires g c = view-place (g.N.Nodes.nodes c.args.nodes.now) c.args.n _ c.read.ensures c.in-Ok.node c.in-Ok.ensures.node c.args.place c.requires.place
+record-requires g c =
+    let same = ap (λ (xs : List (List ℕ)). length xs) (view-same (g.N.Nodes.nodes c.args.nodes.now) c.args.n _ c.read.ensures c.in-Ok.node c.in-Ok.ensures.node) in
+    let lt = c.requires.place in
+    omega (arith, same, lt)
 
 pub key_at-key-requires : goal.key_at-key-requires
 key_at-key-requires g c =

@@ -1,4 +1,4 @@
-use Rattle.std.proofs.Common.{ap, ◌∙◌}
+use Rattle.std.proofs.Common.{ap}
 use Rattle.hfs_node.specs.declared.node.Node.{Node}
 use Rattle.hfs_btree_insertion.proofs.HalfRead.{first-fits, second-fits}
 use Rattle.hfs_btree_insertion.proofs.halving.halve.Goals as goal

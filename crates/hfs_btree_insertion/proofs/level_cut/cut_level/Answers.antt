@@ -1,4 +1,4 @@
-use Rattle.std.proofs.Common.{◌≡◌, ◌+◌, ◌<◌, ◌≤◌, arith}
+use Rattle.std.proofs.Common.{◌+◌}
 use Rattle.hfs_btree_edits.specs.Stores.{on-ok}
 use Rattle.hfs_btree_insertion.proofs.Taken.{stray-there}
 use Rattle.hfs_btree_insertion.proofs.CutWhole.{parent-index, branch-read, over-read, room-read, cut-read}

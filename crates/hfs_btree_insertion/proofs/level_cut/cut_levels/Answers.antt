@@ -1,8 +1,5 @@
-use Rattle.std.proofs.Common.{◌≡◌, ◌≤◌, ◌<◌, ◌-◌, ◌+◌, ℕ, sym, ap, ◌∙◌, subst, arith, refl}
-use Rattle.std.specs.Prelude.{OnOk}
-use Rattle.hfs_btree.specs.Header.{depth_of}
-use Rattle.hfs_btree_insertion.specs.Steps.{HasCutDown}
-use Rattle.hfs_btree_insertion.proofs.Steps.{down-init, next-deep, next-over, next-room, next-free, next-file, down-next, keys-short}
+use Rattle.std.proofs.Common.{◌<◌, ◌-◌, ◌∙◌, arith, refl}
+use Rattle.hfs_btree_insertion.proofs.Steps.{down-init, next-room, down-next, keys-short}
 use Rattle.hfs_btree_insertion.proofs.level_cut.cut_levels.Goals as goal
 
 pub loop-above-init : goal.loop-above-init
@@ -17,7 +14,8 @@ cut_level-requires-clause-room g c =
     let nodes = g.S.Nodes.nodes c.args.nodes.now in
     let mid = g.S.Nodes.nodes c.loop-above.nodes in
     let i = c.loop-above.invariant in
-    let some = c.loop-above-test.true in
+    let test = c.loop-above-test.true in
+    let some : 0 < c.loop-above.above = omega (arith, test) in
     let d = i.down.depth in
     let w = c.requires.full.within in
     let most = i.most in
@@ -28,9 +26,11 @@ pub loop-above-preserved : goal.loop-above-preserved
 loop-above-preserved g c =
     let i = c.loop-above.invariant in
     let most = i.most in
+    let test = c.loop-above-test.true in
+    let some : 0 < c.loop-above.above = omega (arith, test) in
     record {
       most = omega (arith, most);
-      down = down-next g.K.Key c.args.key.now c.args.full (g.S.Nodes.nodes c.args.nodes.now) c.requires.full c.loop-above.above (c.loop-above.above - 1) (g.S.Nodes.nodes c.loop-above.nodes) c.loop-above-test.true most refl
+      down = down-next g.K.Key c.args.key.now c.args.full (g.S.Nodes.nodes c.args.nodes.now) c.requires.full c.loop-above.above (c.loop-above.above - 1) (g.S.Nodes.nodes c.loop-above.nodes) some most refl
           i.down (g.S.Nodes.nodes c.cut_level.new.nodes) c.in_ok-cut_level.ensures.cut;
       kept = c.in_ok-cut_level.ensures.kept ∙ i.kept;
     }
