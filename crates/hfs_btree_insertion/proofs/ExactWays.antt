@@ -1,11 +1,10 @@
 -- In an exact tree no node on the way to a key that is above the least has a first key above it.
-use Rattle.std.proofs.Common.{◌≡◌, ℕ, zero, suc, ◌+◌, ◌-◌, ◌<◌, ◌≤◌, Bool, true, false, List, [], ◌∷◌, ◌++◌, length, map, get_or, take, drop, refl, sym, ap, ◌∙◌, subst, arith, append-nil, inl, inr}
+use Rattle.std.proofs.Common.{◌≡◌, ℕ, zero, suc, ◌+◌, ◌-◌, ◌<◌, Bool, true, false, List, [], ◌∷◌, ◌++◌, length, get_or, refl, sym, ap, ◌∙◌, subst, arith, append-nil, inl, inr}
 use Rattle.std.specs.Prelude.{not}
 use Rattle.std.specs.Ordering.{is_gt}
 use Rattle.std.specs.Cmp.{IsTotalOrder}
 use Rattle.std.specs.List.{flat_map, prefix_len}
-use Rattle.std.specs.declared.cmp.Ordering.{Ordering}
-use Rattle.std.specs.declared.cmp.Ordering.TheVariants.{Less, Equal}
+use Rattle.std.specs.declared.cmp.Ordering.TheVariants.{Equal}
 use Rattle.std.proofs.lemmas.Bool.{cases_Bool, cond-true, cond-false}
 use Rattle.hfs_btree.specs.declared.key.Key.{Ghosts}
 use Rattle.hfs_btree.specs.Pairs.{Pairs, Rises, IsAtMost}
@@ -15,9 +14,8 @@ use Rattle.hfs_btree.specs.Lookups.{le-lt}
 use Rattle.hfs_btree.specs.Tree.{Store, Spot, records_in, children, spots, first_of, turn, under}
 use Rattle.hfs_btree.specs.Header.{header_in, depth_of, root_level, tree_turn, tree_content}
 use Rattle.hfs_btree.specs.Sound.{IsSound, IsRight, IsExact, AreKeysExact, AreKeysInOrder, first_key}
-use Rattle.hfs_btree.specs.Search.{is_not_above, child_for, leaf_under, leaf_for}
+use Rattle.hfs_btree.specs.Search.{is_not_above, child_for, leaf_under}
 use Rattle.hfs_btree_edits.specs.Edits.{IsAboveFirst}
-use Rattle.hfs_btree_insertion.specs.Growth.{IsLow}
 use Rattle.hfs_btree_edits.specs.LevelParts.{entry_key}
 use Rattle.hfs_btree.specs.Levels.{records-some, at-spot}
 use Rattle.hfs_btree.specs.Descent.{next-split, place-within}

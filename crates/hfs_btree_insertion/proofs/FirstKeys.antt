@@ -5,7 +5,7 @@ use Rattle.std.specs.Ordering.{is_gt}
 use Rattle.std.specs.Cmp.{IsTotalOrder}
 use Rattle.std.specs.List.{flat_map, prefix_len}
 use Rattle.std.specs.declared.cmp.Ordering.TheVariants.{Less}
-use Rattle.std.proofs.lemmas.Bool.{cases_Bool, cases_eq, cond-true, cond-false}
+use Rattle.std.proofs.lemmas.Bool.{cases_eq, cond-true, cond-false}
 use Rattle.std.proofs.lemmas.List.{length-set}
 use Rattle.std.proofs.Math.Seq.{map-set_same}
 use Rattle.hfs_node.specs.declared.node.Node.{Node}
@@ -20,9 +20,9 @@ use Rattle.hfs_scans.specs.Elements.{each-at, each-left, each-right, each-mono, 
 use Rattle.hfs_btree.specs.Lookups.{above-below, lt-le, flipped}
 use Rattle.hfs_btree.specs.Tree.{Store, Spot, node_in, records_in, records_of, children, spots, first_of, turn, under, level_below, key_at}
 use Rattle.hfs_btree.specs.Header.{header_in, record_in, depth_of, root_level, own_nodes, free_nodes, tree_turn, tree_nodes, tree_content}
-use Rattle.hfs_btree.specs.Sound.{IsOther, IsRight, IsSound, IsExact, HasStructure, AreKeysInOrder, ArePartsInOrder, part_of}
+use Rattle.hfs_btree.specs.Sound.{IsOther, IsRight, IsSound, IsExact, AreKeysInOrder, ArePartsInOrder, part_of}
 use Rattle.hfs_btree.specs.Search.{is_not_above, child_for, leaf_under}
-use Rattle.hfs_btree.specs.Descent.{IsOnWay, way-node, way-some, index-entries}
+use Rattle.hfs_btree.specs.Descent.{way-node, way-some, index-entries}
 use Rattle.hfs_btree_edits.specs.Edited.{IsEdited, height-in}
 use Rattle.hfs_btree_edits.specs.Edits.{IsAboveFirst, KeepsTree, level_above, node_for}
 use Rattle.hfs_btree_edits.specs.KeptKeys.{EachKey, IsKeyOr, hold-keys_with}

@@ -1,20 +1,17 @@
 -- An insertion, from its steps: index keys lowered, room made, the record put.
-use Rattle.std.proofs.Common.{◌≡◌, ◌≢◌, ℕ, zero, suc, ◌+◌, ◌-◌, ◌*◌, ◌<◌, ◌≤◌, List, [], ◌∷◌, ◌++◌, length, map, refl, sym, ap, ◌∙◌, subst, arith, inl, inr, None}
-use Rattle.std.specs.Prelude.{Option}
-use Rattle.std.specs.Cmp.{IsTotalOrder}
+use Rattle.std.proofs.Common.{◌≡◌, ℕ, zero, suc, ◌+◌, ◌-◌, ◌*◌, ◌<◌, ◌≤◌, List, ◌++◌, length, map, refl, sym, ap, ◌∙◌, subst, arith, inl, None}
 use Rattle.std.specs.List.{prefix_len}
 use Rattle.hfs_node.specs.Node.{size_of}
 use Rattle.hfs_btree.specs.declared.header.Header.{Header}
 use Rattle.hfs_btree.specs.declared.key.Key.{Ghosts}
 use Rattle.hfs_btree.specs.Pairs.{Pairs, lookup}
-use Rattle.hfs_scans.specs.Each.{Each}
 use Rattle.hfs_scans.specs.Elements.{each-left, each-right, each-append}
 use Rattle.hfs_btree.specs.Tree.{Store, Spot, records_in}
-use Rattle.hfs_btree.specs.Header.{header_in, depth_of, own_nodes, free_nodes, tree_turn, tree_nodes, tree_content}
+use Rattle.hfs_btree.specs.Header.{header_in, depth_of, own_nodes, free_nodes, tree_nodes, tree_content}
 use Rattle.hfs_btree.specs.Sound.{IsOther, IsSound}
 use Rattle.hfs_btree.specs.Search.{is_not_above, leaf_under}
-use Rattle.hfs_btree_edits.specs.Edits.{IsAboveFirst, KeepsTree, level_above, node_for, entry_len, IsFullFor, with_pair, HasGrown, HasRisen, HasInserted}
-use Rattle.hfs_btree_edits.specs.KeptKeys.{EachKey, IsKeyOr, keys-hold, keys-hold_with}
+use Rattle.hfs_btree_edits.specs.Edits.{IsAboveFirst, KeepsTree, level_above, node_for, entry_len, with_pair, HasGrown, HasRisen, HasInserted}
+use Rattle.hfs_btree_edits.specs.KeptKeys.{IsKeyOr, keys-hold, keys-hold_with}
 use Rattle.hfs_btree_insertion.specs.Growth.{len_at, IsLow}
 use Rattle.hfs_btree_insertion.specs.Lowering.{HasLowered}
 use Rattle.hfs_btree_insertion.specs.Room.{HasMadeRoom}

@@ -11,7 +11,6 @@ use Rattle.hfs_btree.specs.Sound.{HasStructure, IsRight}
 use Rattle.hfs_btree.specs.Search.{is_not_above, child_for, leaf_under}
 use Rattle.hfs_btree.specs.Descent.{next-split, place-within}
 use Rattle.hfs_btree.specs.Levels.{records-some}
-use Rattle.hfs_btree_edits.specs.Edits.{level_above, node_for}
 use Rattle.hfs_btree_insertion.specs.Growth.{KeepsLevels}
 use Rattle.hfs_btree_edits.specs.LevelParts.{lift}
 use Rattle.hfs_btree_edits.specs.LevelParts.{upper, of-spots, flat-kept, KeepsRecords, KeepsAt}

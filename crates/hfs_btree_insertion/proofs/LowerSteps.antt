@@ -1,29 +1,28 @@
 -- Keys that are lowered level by level, from the root down.
-use Rattle.std.proofs.Common.{◌≡◌, ◌≢◌, ℕ, zero, suc, ◌+◌, ◌-◌, ◌<◌, ◌≤◌, true, false, List, [], ◌∷◌, ◌++◌, length, map, get_or, refl, sym, ap, ◌∙◌, subst, arith, inl, inr}
+use Rattle.std.proofs.Common.{◌≡◌, ℕ, zero, suc, ◌+◌, ◌-◌, ◌<◌, ◌≤◌, true, false, List, [], length, map, get_or, refl, sym, ap, ◌∙◌, subst, arith, inl, inr}
 use Rattle.std.specs.Ordering.{is_gt}
 use Rattle.std.specs.Cmp.{IsTotalOrder}
 use Rattle.std.specs.List.{prefix_len}
 use Rattle.std.specs.Prelude.{Bool}
 use Rattle.std.proofs.lemmas.Bool.{cases_Bool, cases_eq, cases_lt}
-use Rattle.hfs_node.specs.Node.{size_of, node_of}
+use Rattle.hfs_node.specs.Node.{node_of}
 use Rattle.hfs_btree.specs.declared.header.Header.{Header}
 use Rattle.hfs_btree.specs.declared.key.Key.{Ghosts}
 use Rattle.hfs_btree.specs.Pairs.{Pairs}
 use Rattle.hfs_scans.specs.Each.{Each}
-use Rattle.hfs_scans.specs.Elements.{each-left, each-right, each-append}
 use Rattle.hfs_btree.specs.Tree.{Store, Spot, records_in, records_of}
 use Rattle.hfs_btree.specs.Decoded.{records-read}
-use Rattle.hfs_btree.specs.Header.{header_in, record_in, depth_of, own_nodes, tree_turn, tree_nodes, tree_content}
+use Rattle.hfs_btree.specs.Header.{header_in, record_in, depth_of, tree_turn, tree_content}
 use Rattle.hfs_btree.specs.Sound.{IsOther, IsSound}
-use Rattle.hfs_btree.specs.Search.{is_not_above, child_for, leaf_under}
+use Rattle.hfs_btree.specs.Search.{is_not_above, child_for}
 use Rattle.hfs_btree.specs.Descent.{way-some, content-none}
-use Rattle.hfs_btree_edits.specs.Edits.{IsAboveFirst, KeepsTree, level_above, node_for}
+use Rattle.hfs_btree_edits.specs.Edits.{IsAboveFirst, node_for}
 use Rattle.hfs_btree_edits.specs.KeptKeys.{EachKey, IsKeyOr, own-keys, keys-hold_with, each-key-mono}
 use Rattle.hfs_btree_insertion.specs.Growth.{NodesStay}
 use Rattle.hfs_btree_insertion.specs.Lowering.{HasFirstKey, HasLowFirst, HasLowered}
 use Rattle.hfs_btree_insertion.proofs.Steps.{keeps-same, keeps-then}
 use Rattle.hfs_btree_insertion.proofs.WayTo.{IsAt, at-root, at-next, at-level}
-use Rattle.hfs_btree_insertion.proofs.FirstKeys.{first-low, lowered-sound, lowered-content, lowered-turn, lowered-header, lowered-keeps, lowered-keys, lowered-levels, lowered-way, lowered-size, lowered-here, lowered-there}
+use Rattle.hfs_btree_insertion.proofs.FirstKeys.{first-low, lowered-content, lowered-turn, lowered-header, lowered-keeps, lowered-keys, lowered-levels, lowered-way, lowered-size, lowered-here, lowered-there}
 
 module _ {K : Type 0} (g : Ghosts K) where
   -- the same nodes

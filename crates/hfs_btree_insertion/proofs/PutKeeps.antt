@@ -1,6 +1,6 @@
 -- What a record that was put into a leaf keeps: exact keys, the keys of all nodes, the frame, the other nodes' bytes.
 use Rattle.std.proofs.Common.{◌≡◌, ◌≢◌, ℕ, zero, suc, ◌+◌, ◌-◌, ◌<◌, ◌≤◌, Bool, true, false, cond, List, [], ◌∷◌, ◌++◌, length, map, get_or, take, drop, Option, None, refl, sym, ap, ◌∙◌, subst, arith, inl, inr}
-use Rattle.std.specs.Prelude.{Ok, Result, insert, slice_index_or}
+use Rattle.std.specs.Prelude.{insert, slice_index_or}
 use Rattle.std.specs.Ordering.{is_eq, is_gt, ordering_reverse}
 use Rattle.std.specs.Cmp.{IsTotalOrder}
 use Rattle.std.specs.List.{flat_map}
@@ -8,17 +8,15 @@ use Rattle.std.specs.declared.cmp.Ordering.{Ordering}
 use Rattle.std.specs.declared.cmp.Ordering.TheVariants.{Less, Equal, Greater}
 use Rattle.std.proofs.lemmas.Bool.{cases_Bool, cases_eq, cond-true, cond-false}
 use Rattle.hfs_node.specs.declared.kind.NodeKind.TheVariants.{Leaf, Index}
-use Rattle.hfs_node.specs.declared.node.Node.{Node}
-use Rattle.hfs_node.specs.declared.fault.NodeFault.{NodeFault}
 use Rattle.hfs_btree.specs.declared.key.Key.{Ghosts}
 use Rattle.hfs_btree.specs.Pairs.{Order, Pairs, lookup, pairs_from}
 use Rattle.hfs_scans.specs.Each.{Each}
-use Rattle.hfs_scans.specs.Elements.{each-append, each-left, each-right, each-mono, each-both, each-unmap}
+use Rattle.hfs_scans.specs.Elements.{each-append, each-mono, each-both, each-unmap}
 use Rattle.hfs_btree.specs.Lookups.{lookup-between}
 use Rattle.hfs_btree.specs.Tree.{Store, Spot, records_in, records_of, pair_of, pairs, kind_at, key_at}
 use Rattle.hfs_btree.specs.Header.{header_in, depth_of, own_nodes, tree_turn, tree_nodes, tree_content}
-use Rattle.hfs_btree.specs.Sound.{IsOther, IsRight, IsSound, IsExact, IsStray, HasStructure, KeepsFrame}
-use Rattle.hfs_btree.specs.Search.{leaf_under, leaf_for, IsLeafFor}
+use Rattle.hfs_btree.specs.Sound.{IsOther, IsRight, IsSound, IsExact, HasStructure, KeepsFrame}
+use Rattle.hfs_btree.specs.Search.{leaf_under, IsLeafFor}
 use Rattle.hfs_btree.specs.Descent.{content-about}
 use Rattle.hfs_btree_edits.specs.Edits.{IsAboveFirst}
 use Rattle.hfs_btree_edits.specs.KeptKeys.{EachKey, IsKeyOr, hold-keys_with}

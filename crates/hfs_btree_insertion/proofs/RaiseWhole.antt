@@ -1,6 +1,6 @@
 -- A new root, from the calls that put it.
-use Rattle.std.proofs.Common.{◌≡◌, ◌≢◌, ℕ, zero, suc, ◌+◌, ◌-◌, ◌<◌, ◌≤◌, List, [], ◌∷◌, ◌++◌, length, map, get_or, refl, sym, ap, ◌∙◌, subst, arith}
-use Rattle.std.specs.Prelude.{true, false, Bool, Ok, Result, slice_index_or, ◌↔◌}
+use Rattle.std.proofs.Common.{◌≡◌, ℕ, suc, ◌+◌, ◌-◌, ◌<◌, ◌≤◌, List, [], ◌∷◌, ◌++◌, length, get_or, refl, sym, ap, ◌∙◌, subst, arith}
+use Rattle.std.specs.Prelude.{true, false, Bool, Ok, Result, slice_index_or}
 use Rattle.std.specs.Cmp.{IsTotalOrder}
 use Rattle.std.specs.List.{flat_map}
 use Rattle.hfs_node.specs.declared.node.Node.{Node}
@@ -11,7 +11,7 @@ use Rattle.hfs_btree.specs.declared.header.Header.{Header}
 use Rattle.hfs_btree.specs.declared.key.Key.{Ghosts}
 use Rattle.hfs_scans.specs.Each.{Each}
 use Rattle.hfs_scans.specs.Elements.{each-at, each-left, each-right, each-append}
-use Rattle.hfs_btree.specs.Tree.{Store, Spot, node_in, records_in, records_of, reads_at, key_at, children, spots, first_of, turn, level_below}
+use Rattle.hfs_btree.specs.Tree.{Store, Spot, node_in, records_in, records_of, reads_at, key_at, first_of, level_below}
 use Rattle.hfs_btree_edits.specs.KeptKeys.{EachKey, hold-keys}
 use Rattle.hfs_btree.specs.Header.{header_in, record_in, depth_of, root_level, own_nodes, tree_turn, tree_nodes}
 use Rattle.hfs_btree.specs.Sound.{IsOther, IsSound, IsRight, IsStray, IsExact, AreKeysExact, first_key}
@@ -19,7 +19,6 @@ use Rattle.hfs_btree.specs.Search.{child_for, leaf_under}
 use Rattle.hfs_btree_edits.specs.Stored.{HasStored, HasHeaderPut, HasClaimed}
 use Rattle.hfs_btree_edits.specs.LevelParts.{entry_key}
 use Rattle.hfs_btree_insertion.specs.Raise.{IsRootAbove, IsRaised, HasRootPut}
-use Rattle.hfs_btree_edits.specs.Edits.{level_above, node_for}
 use Rattle.hfs_btree_insertion.specs.Growth.{KeepsLevels, NodesStay, KeysStay, HasRaised}
 use Rattle.hfs_btree.specs.Descent.{IsOnWay, root-way, way-node, way-within}
 use Rattle.hfs_btree_insertion.proofs.Exacts.{first-entry, Exact, turn-exact, keeps-first}

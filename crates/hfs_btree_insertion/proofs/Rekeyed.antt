@@ -1,23 +1,22 @@
 -- An index node that has got other records, with the same children and with keys in order.
-use Rattle.std.proofs.Common.{◌≡◌, ◌≢◌, ℕ, zero, suc, ◌+◌, ◌<◌, ◌≤◌, true, false, List, [], ◌∷◌, ◌++◌, length, map, get_or, set, take, drop, refl, sym, ap, ◌∙◌, subst, arith, inl, inr}
+use Rattle.std.proofs.Common.{◌≡◌, ◌≢◌, ℕ, zero, suc, ◌+◌, ◌<◌, ◌≤◌, true, List, [], ◌∷◌, length, map, refl, sym, ap, ◌∙◌, subst, arith, inl, inr}
 use Rattle.std.specs.Prelude.{Ok, Result}
 use Rattle.std.specs.List.{flat_map}
 use Rattle.std.specs.Cmp.{IsTotalOrder}
-use Rattle.std.specs.declared.cmp.Ordering.TheVariants.{Less}
 use Rattle.std.proofs.lemmas.Bool.{cases_eq}
 use Rattle.hfs_node.specs.declared.node.Node.{Node}
 use Rattle.hfs_node.specs.declared.fault.NodeFault.{NodeFault}
 use Rattle.hfs_btree.specs.declared.header.Header.{Header as HeaderRecord}
 use Rattle.hfs_btree.specs.declared.key.Key.{Ghosts}
-use Rattle.hfs_btree.specs.Pairs.{Order, Pairs, Rises, IsAtMost}
+use Rattle.hfs_btree.specs.Pairs.{Pairs, Rises}
 use Rattle.hfs_scans.specs.Each.{Each}
 use Rattle.hfs_scans.specs.Elements.{each-mono, each-left, each-right}
 use Rattle.hfs_btree.specs.Tree.{Store, Spot, node_in, records_in, records_of, children, pair_of, pairs, spots, turn, last_level, under, kind_at}
-use Rattle.hfs_btree.specs.Header.{header_in, depth_of, root_level, leaves, free_nodes, tree_content, tree_turn, tree_nodes}
+use Rattle.hfs_btree.specs.Header.{header_in, depth_of, root_level, leaves, free_nodes, tree_content, tree_turn}
 use Rattle.hfs_btree.specs.Sound.{IsRight, IsSound, AreKeysInOrder, ArePartsInOrder, part_of, KeepsFrame}
 use Rattle.hfs_btree.specs.Levels.{each-spots}
 use Rattle.hfs_btree_edits.specs.Kept.{header-kept, marks-kept, free-same, flat_map-same}
-use Rattle.hfs_btree_edits.specs.Edited.{IsEdited, height-in, head-stays, map-stays, turn-stays, leaves-stay, nodes-stay, frame-stays, structure-stays}
+use Rattle.hfs_btree_edits.specs.Edited.{IsEdited, height-in, head-stays, map-stays, turn-stays, leaves-stay, frame-stays, structure-stays}
 use Rattle.hfs_btree_edits.specs.EditedOrder.{each-flat, turn-step}
 use Rattle.hfs_btree_edits.specs.LevelParts.{KeepsUnder, same-flat}
 

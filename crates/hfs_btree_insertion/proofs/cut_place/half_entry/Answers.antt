@@ -1,4 +1,4 @@
-use Rattle.std.proofs.Common.{ap, length, ◌≡◌, ◌<◌, List, ℕ, arith}
+use Rattle.std.proofs.Common.{ap, length, ◌≡◌, List, ℕ, arith}
 use Rattle.std.specs.Prelude.{true}
 use Rattle.hfs_btree.specs.Tree.{reads_at}
 use Rattle.hfs_btree_insertion.proofs.HalfRead.{none-read, view-same, to-entry, names-half}

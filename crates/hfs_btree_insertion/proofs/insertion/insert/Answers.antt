@@ -1,4 +1,4 @@
-use Rattle.std.proofs.Common.{◌≡◌, ◌∙◌, ◌++◌, ◌<◌, ◌≤◌, ℕ, List, ap, arith, subst, length, drop}
+use Rattle.std.proofs.Common.{◌≡◌, ◌++◌, ℕ, List, ap, arith, subst, length}
 use Rattle.hfs_btree_edits.specs.Stores.{on-ok}
 use Rattle.hfs_btree_insertion.specs.Stored.{HasPut}
 use Rattle.hfs_btree_insertion.proofs.MadeRoom.{low-whole}

@@ -1,4 +1,3 @@
-use Rattle.std.proofs.Common.{◌≡◌, ◌<◌, ◌≤◌}
 use Rattle.hfs_btree_edits.specs.Stores.{on-ok}
 use Rattle.hfs_btree_insertion.proofs.MadeRoom.{made-cut, made-raised, raised-low, less-full, all-full, can-cut, can-cut_raised}
 use Rattle.hfs_btree_insertion.proofs.LowerSteps.{some-levels_above}

@@ -1,4 +1,4 @@
-use Rattle.std.proofs.Common.{◌≡◌, ◌∙◌, refl, sym, subst, List, ℕ, [], get_or}
+use Rattle.std.proofs.Common.{◌≡◌, ◌∙◌, refl, []}
 use Rattle.std.specs.Prelude.{true}
 use Rattle.hfs_scans.specs.Elements.{each-at}
 use Rattle.hfs_btree.specs.Descent.{way-some, index-entries}
