@@ -1,5 +1,5 @@
 -- A level of a tree with one node more: the node on the way to a key was cut in two.
-use Rattle.std.proofs.Common.{◌≡◌, ◌≢◌, ℕ, zero, suc, ◌+◌, ◌-◌, ◌<◌, ◌≤◌, List, [], ◌∷◌, ◌++◌, length, get_or, refl, sym, ap, ◌∙◌, subst, arith, inl, inr}
+use Rattle.std.proofs.Common.{◌≡◌, ◌≢◌, ℕ, suc, ◌+◌, ◌-◌, ◌<◌, ◌≤◌, List, [], ◌∷◌, ◌++◌, length, get_or, refl, sym, ap, ◌∙◌, subst, arith, inl, inr}
 use Rattle.std.specs.Prelude.{Ok, Result}
 use Rattle.std.specs.Cmp.{IsTotalOrder}
 use Rattle.std.specs.List.{flat_map, prefix_len}
@@ -7,14 +7,14 @@ use Rattle.std.proofs.lemmas.Bool.{cases_eq, cases_lt}
 use Rattle.hfs_node.specs.Node.{size_of}
 use Rattle.hfs_btree.specs.declared.key.Key.{Ghosts}
 use Rattle.hfs_btree.specs.Tree.{Store, records_in, level_below, first_of}
-use Rattle.hfs_btree.specs.Header.{header_in, depth_of, root_level, own_nodes, tree_nodes, free_nodes}
-use Rattle.hfs_btree.specs.Sound.{IsOther, IsSound, IsExact}
+use Rattle.hfs_btree.specs.Header.{header_in, depth_of, root_level, own_nodes, tree_nodes}
+use Rattle.hfs_btree.specs.Sound.{IsOther, IsSound}
 use Rattle.hfs_btree.specs.Search.{is_not_above, child_for, leaf_under}
 use Rattle.hfs_btree_edits.specs.Stored.{HasClaimed, bytes_in}
 use Rattle.hfs_btree_insertion.specs.Cut.{IsSplit, IsBranch, child_at, HasCutAt}
 use Rattle.hfs_btree_edits.specs.LevelParts.{lift}
 use Rattle.hfs_btree_edits.specs.Edits.{level_above, node_for}
-use Rattle.hfs_btree_insertion.specs.Growth.{IsLow, KeepsLevels, HasCutLevel}
+use Rattle.hfs_btree_insertion.specs.Growth.{IsLow, HasCutLevel}
 use Rattle.hfs_btree.specs.Descent.{place-within, way-some}
 use Rattle.hfs_btree_edits.specs.LevelParts.{lift-is}
 use Rattle.hfs_btree_insertion.proofs.LevelWays.{some-of, standing}
@@ -24,7 +24,8 @@ use Rattle.hfs_scans.specs.Each.{Each}
 use Rattle.hfs_scans.specs.Elements.{each-left, each-right, each-append}
 use Rattle.hfs_btree_edits.specs.LevelParts.{numbers}
 use Rattle.hfs_btree_insertion.proofs.Splits.{uppers, lowers, above-level, old-level, new-level, bn, hn, all-is, forward-is, new-nodes, new-exact, stray-gone, stray-same, one-more, levels-above, level-grown, levels-below}
-use Rattle.hfs_btree_insertion.proofs.SplitWays.{way-above, way-half, way-below, way-node, records-uppers, records-below, low-above, low-half, half-size, new-at, one-down}
+use Rattle.hfs_btree_insertion.proofs.SplitWays.{way-above, way-below, way-node, records-uppers, records-below, low-above, low-half, half-size, new-at, one-down}
+use Rattle.hfs_btree_insertion.proofs.CutKeys.{claimed-stay, claimed-keys, split-stay, split-keys, stay-then, keys-then}
 use Rattle.hfs_btree_insertion.proofs.Taken.{HasTaken, taken-keeps, taken-free, taken-content, claimed-levels, claimed-depth, claimed-root}
 
 -- ---- where the cut is
@@ -257,6 +258,8 @@ cut-whole g total key a m old mid new sound deep c low h =
     let same = claimed-depth g m old mid new c in
     record {
       keeps = taken-keeps g m old mid new c t;
+      others = stay-then g old mid new (claimed-stay g m old mid c) (split-stay g mid new h.i a _ _ m _ h.c h.split c.sound.structure);
+      keys = keys-then g old mid new (claimed-keys g m old mid c) (split-keys g mid new h.i a _ _ m _ h.c h.split c.sound.structure);
       content = taken-content g m old mid new c t;
       depth = h.split.depth ∙ same;
       free = taken-free g m old mid new c t;

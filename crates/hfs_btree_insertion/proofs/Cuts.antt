@@ -1,6 +1,6 @@
 -- A tree with a node that is to be cut in two.
 use Rattle.hfs_btree_insertion.specs.Cut.{IsCut}
-use Rattle.std.proofs.Common.{◌≡◌, ℕ, suc, ◌<◌, List, [], ◌∷◌, ◌++◌, length, map, get_or, take, drop, sym, ap, ◌∙◌, subst}
+use Rattle.std.proofs.Common.{◌≡◌, ℕ, suc, List, [], ◌∷◌, ◌++◌, map, take, drop, sym, ap, ◌∙◌, subst}
 use Rattle.std.specs.Prelude.{Ok, Result}
 use Rattle.std.specs.List.{flat_map}
 use Rattle.std.proofs.lemmas.List.{map-append}
@@ -9,9 +9,9 @@ use Rattle.hfs_node.specs.declared.fault.NodeFault.{NodeFault}
 use Rattle.hfs_btree.specs.declared.key.Key.{Ghosts}
 use Rattle.hfs_scans.specs.Each.{Each}
 use Rattle.hfs_scans.specs.Elements.{each-left, each-right}
-use Rattle.hfs_btree.specs.Tree.{Store, Spot, node_in, records_in, children, spots, first_of, turn, level_below}
-use Rattle.hfs_btree.specs.Header.{depth_of, root_level, map_nodes, own_nodes, tree_turn, tree_nodes}
-use Rattle.hfs_btree.specs.Sound.{IsOther, IsDistinct, IsRight, IsStray, HasStructure}
+use Rattle.hfs_btree.specs.Tree.{Store, Spot, records_in, children, spots, first_of, turn}
+use Rattle.hfs_btree.specs.Header.{root_level, map_nodes, own_nodes, tree_turn, tree_nodes}
+use Rattle.hfs_btree.specs.Sound.{IsOther, IsDistinct, IsRight, HasStructure}
 use Rattle.hfs_btree.specs.Levels.{at-spot}
 use Rattle.hfs_btree.specs.Descent.{next-split}
 use Rattle.hfs_btree_edits.specs.LevelParts.{upper, numbers, numbers-spots, turn-split}

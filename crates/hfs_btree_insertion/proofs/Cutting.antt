@@ -1,9 +1,8 @@
 -- What a cut reads of the tree: the node above, the one that is cut, and the one behind it.
-use Rattle.std.proofs.Common.{◌≡◌, ◌≢◌, ℕ, zero, suc, ◌+◌, ◌-◌, ◌<◌, ◌≤◌, List, [], ◌∷◌, ◌++◌, length, map, get_or, take, drop, refl, sym, ap, ◌∙◌, subst, arith}
+use Rattle.std.proofs.Common.{◌≡◌, ◌≢◌, ℕ, zero, suc, ◌+◌, ◌<◌, ◌≤◌, List, [], ◌∷◌, ◌++◌, length, get_or, take, drop, refl, sym, ap, ◌∙◌, subst, arith}
 use Rattle.std.specs.Prelude.{true, false, Bool, All, Ok, Result, insert}
-use Rattle.std.specs.List.{flat_map}
 use Rattle.std.specs.Cmp.{IsTotalOrder}
-use Rattle.std.proofs.lemmas.List.{get_or-drop, length-drop, length-take}
+use Rattle.std.proofs.lemmas.List.{get_or-drop, length-drop}
 use Rattle.std.proofs.lemmas.List.Elements.{All-nil, All-cons}
 use Rattle.hfs_node.specs.declared.node.Node.{Node}
 use Rattle.hfs_node.specs.declared.fault.NodeFault.{NodeFault}
@@ -12,20 +11,19 @@ use Rattle.hfs_node.specs.Sizes.{size_of-insert}
 use Rattle.hfs_btree.specs.declared.key.Key.{Ghosts}
 use Rattle.hfs_scans.specs.Each.{Each}
 use Rattle.hfs_scans.specs.Elements.{each-at, each-right}
-use Rattle.hfs_btree.specs.Tree.{Store, Spot, node_in, records_in, records_of, reads_at, spots, first_of, turn, level_below}
-use Rattle.hfs_btree.specs.Header.{header_in, record_in, depth_of, root_level, tree_content}
-use Rattle.hfs_btree.specs.Sound.{HasStructure, IsSound, IsRight, IsStray}
+use Rattle.hfs_btree.specs.Tree.{Store, Spot, node_in, records_in, records_of, reads_at, spots, first_of, turn}
+use Rattle.hfs_btree.specs.Header.{record_in, root_level}
+use Rattle.hfs_btree.specs.Sound.{IsSound, IsRight, IsStray}
 use Rattle.hfs_btree_edits.specs.Stored.{HasStored}
 use Rattle.hfs_btree_insertion.specs.Stored.{HasLinked}
-use Rattle.hfs_btree_insertion.specs.Cut.{IsCut, IsSplit, IsBranch, child_at, HasCutAt}
-use Rattle.hfs_btree_edits.specs.LevelParts.{lift, entry_key}
+use Rattle.hfs_btree_insertion.specs.Cut.{IsCut, IsBranch, child_at, HasCutAt}
+use Rattle.hfs_btree_edits.specs.LevelParts.{entry_key}
 use Rattle.hfs_btree.specs.Decoded.{decoded-within}
 use Rattle.hfs_btree.specs.Descent.{IsOnWay, way-node, way-down, way-within, index-entries}
 use Rattle.hfs_btree_edits.specs.LevelParts.{upper, turn-split}
 use Rattle.hfs_btree_insertion.proofs.Cuts.{hn}
-use Rattle.hfs_btree_edits.specs.Owns.{KeepsOwn}
 use Rattle.hfs_btree_insertion.proofs.PutWhole.{head-long, own-long}
-use Rattle.hfs_btree_insertion.proofs.SplitWrites.{IsEntry, z-own, p-n, p-m, n-m, split-writes, split-sound}
+use Rattle.hfs_btree_insertion.proofs.SplitWrites.{IsEntry, z-own, split-writes, split-sound}
 
 -- ---- a record of a level
 

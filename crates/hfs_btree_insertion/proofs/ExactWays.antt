@@ -1,11 +1,10 @@
 -- In an exact tree no node on the way to a key that is above the least has a first key above it.
-use Rattle.std.proofs.Common.{◌≡◌, ℕ, zero, suc, ◌+◌, ◌-◌, ◌<◌, ◌≤◌, Bool, true, false, List, [], ◌∷◌, ◌++◌, length, map, get_or, take, drop, refl, sym, ap, ◌∙◌, subst, arith, append-nil, inl, inr}
+use Rattle.std.proofs.Common.{◌≡◌, ℕ, zero, suc, ◌+◌, ◌-◌, ◌<◌, Bool, true, false, List, [], ◌∷◌, ◌++◌, length, get_or, refl, sym, ap, ◌∙◌, subst, arith, append-nil, inl, inr}
 use Rattle.std.specs.Prelude.{not}
 use Rattle.std.specs.Ordering.{is_gt}
 use Rattle.std.specs.Cmp.{IsTotalOrder}
 use Rattle.std.specs.List.{flat_map, prefix_len}
-use Rattle.std.specs.declared.cmp.Ordering.{Ordering}
-use Rattle.std.specs.declared.cmp.Ordering.TheVariants.{Less, Equal}
+use Rattle.std.specs.declared.cmp.Ordering.TheVariants.{Equal}
 use Rattle.std.proofs.lemmas.Bool.{cases_Bool, cond-true, cond-false}
 use Rattle.hfs_btree.specs.declared.key.Key.{Ghosts}
 use Rattle.hfs_btree.specs.Pairs.{Pairs, Rises, IsAtMost}
@@ -15,9 +14,8 @@ use Rattle.hfs_btree.specs.Lookups.{le-lt}
 use Rattle.hfs_btree.specs.Tree.{Store, Spot, records_in, children, spots, first_of, turn, under}
 use Rattle.hfs_btree.specs.Header.{header_in, depth_of, root_level, tree_turn, tree_content}
 use Rattle.hfs_btree.specs.Sound.{IsSound, IsRight, IsExact, AreKeysExact, AreKeysInOrder, first_key}
-use Rattle.hfs_btree.specs.Search.{is_not_above, child_for, leaf_under, leaf_for}
+use Rattle.hfs_btree.specs.Search.{is_not_above, child_for, leaf_under}
 use Rattle.hfs_btree_edits.specs.Edits.{IsAboveFirst}
-use Rattle.hfs_btree_insertion.specs.Growth.{IsLow}
 use Rattle.hfs_btree_edits.specs.LevelParts.{entry_key}
 use Rattle.hfs_btree.specs.Levels.{records-some, at-spot}
 use Rattle.hfs_btree.specs.Descent.{next-split, place-within}
@@ -152,11 +150,16 @@ module _ {K : Type 0} (g : Ghosts K) (total : IsTotalOrder g.compare) (old : Sto
   root-content : tree_content g old ≡ under g old d root
   root-content = content-under g old d deep ∙ append-nil (under g old d root)
 
+  -- the root's first key isn't above a key that is above the least
+  pub root-low : (key : K) → IsAboveFirst g.compare key (tree_content g old) → is_gt (g.compare (entry_key g d (get_or (records_in old root) 0 [])) key) ≡ false
+  root-low key above =
+      let A : Pairs K → Type 0 = λ ps. IsAboveFirst g.compare key ps in
+      at-most-first (entry_key g d (get_or (records_in old root) 0 [])) key (under g old d root) least (subst A root-content above)
+
   -- the whole way, where the tree is exact
   pub exact-way : (key : K) → IsExact g old → IsAboveFirst g.compare key (tree_content g old) → HasLowWay g total old key d root
   exact-way key exact above =
-      let A : Pairs K → Type 0 = λ ps. IsAboveFirst g.compare key ps in
       let F : K → Type 0 = λ x. is_gt (g.compare x key) ≡ false in
       let P : List Spot → Type 0 = λ ss. Each (λ (spot : Spot). IsRight g old spot × AreKeysExact g old spot.above spot.n) ss in
-      let first = subst F (sym (first-entry g old d root)) (at-most-first (entry_key g d (get_or (records_in old root) 0 [])) key (under g old d root) least (subst A root-content above)) in
+      let first = subst F (sym (first-entry g old d root)) (root-low key above) in
       low-way g total old key d root [] [] (subst P turn-old (each-both (IsRight g old) (λ spot. AreKeysExact g old spot.above spot.n) (tree_turn g old) sound.structure.levels.each exact)) first

@@ -11,7 +11,6 @@ use Rattle.hfs_btree.specs.Sound.{HasStructure, IsRight}
 use Rattle.hfs_btree.specs.Search.{is_not_above, child_for, leaf_under}
 use Rattle.hfs_btree.specs.Descent.{next-split, place-within}
 use Rattle.hfs_btree.specs.Levels.{records-some}
-use Rattle.hfs_btree_edits.specs.Edits.{level_above, node_for}
 use Rattle.hfs_btree_insertion.specs.Growth.{KeepsLevels}
 use Rattle.hfs_btree_edits.specs.LevelParts.{lift}
 use Rattle.hfs_btree_edits.specs.LevelParts.{upper, of-spots, flat-kept, KeepsRecords, KeepsAt}
@@ -126,6 +125,7 @@ module _ {K : Type 0} (g : Ghosts K) (old new : Store) where
           ap (λ (d : ℕ). leaf_under g new key (d - 1 - k) (header_in new).root) deep
           ∙ ap (λ (r : ℕ). leaf_under g new key (depth_of old - 1 - k) r) root
           ∙ under-same key (depth_of old - 1 - k) (omega (arith, lt));
+      records = λ key k lt. record-same key (depth_of old - 1 - k) (omega (arith, lt));
       size = λ key k lt. ap size_of (record-same key (depth_of old - 1 - k) (omega (arith, lt)));
     }
 
@@ -134,6 +134,11 @@ pub levels-then : {K : Type 0} (g : Ghosts K) (a b c : Store) → depth_of a ≤
 levels-then g a b c le x y = record {
   levels = λ k lt. y.levels k (omega (arith, le, lt)) ∙ x.levels k lt;
   way = λ key k lt. y.way key k (omega (arith, le, lt)) ∙ x.way key k lt;
+  records = λ key k lt.
+      ap (records_in c) (sym (x.way key k lt))
+      ∙ y.records key k (omega (arith, le, lt))
+      ∙ ap (records_in b) (x.way key k lt)
+      ∙ x.records key k lt;
   size = λ key k lt.
       ap (λ (n : ℕ). size_of (records_in c n)) (sym (x.way key k lt))
       ∙ y.size key k (omega (arith, le, lt))

@@ -1,28 +1,18 @@
 -- What a record that was put into a leaf leaves as it was: exact keys, levels.
-use Rattle.std.proofs.Common.{◌≡◌, ℕ, zero, suc, ◌+◌, ◌-◌, ◌<◌, ◌≤◌, Bool, true, false, List, [], ◌∷◌, ◌++◌, length, map, get_or, drop, refl, sym, ap, ◌∙◌, subst, arith, None, inl, inr}
-use Rattle.std.specs.Prelude.{Ok, Result, Option}
-use Rattle.std.specs.Ordering.{is_eq, is_gt, ordering_reverse}
+use Rattle.std.proofs.Common.{◌≡◌, ℕ, zero, suc, ◌-◌, ◌<◌, List, [], ◌∷◌, length, refl, ap, ◌∙◌, arith, None}
 use Rattle.std.specs.Cmp.{IsTotalOrder}
 use Rattle.std.specs.List.{flat_map}
-use Rattle.std.specs.declared.cmp.Ordering.{Ordering}
-use Rattle.std.specs.declared.cmp.Ordering.TheVariants.{Less, Equal, Greater}
-use Rattle.std.proofs.lemmas.Bool.{cases_Bool, cases_eq, cond-true, cond-false}
-use Rattle.std.proofs.lemmas.List.{length-map}
 use Rattle.hfs_btree.specs.declared.key.Key.{Ghosts}
-use Rattle.hfs_btree.specs.Pairs.{Order, Pairs, lookup, pairs_from}
+use Rattle.hfs_btree.specs.Pairs.{lookup}
 use Rattle.hfs_scans.specs.Each.{Each}
 use Rattle.hfs_scans.specs.Elements.{each-left, each-right}
-use Rattle.hfs_btree.specs.Lookups.{flipped, lookup-between}
-use Rattle.hfs_btree.specs.Tree.{Store, Spot, records_in, pair_of, pairs, children, spots, turn, level_below}
-use Rattle.hfs_btree.specs.Header.{header_in, depth_of, root_level, tree_turn, tree_content}
-use Rattle.hfs_btree.specs.Sound.{IsSound, IsExact, first_key}
-use Rattle.hfs_btree.specs.Search.{leaf_for, IsLeafFor}
-use Rattle.hfs_btree_edits.specs.Edits.{IsAboveFirst, level_above}
-use Rattle.hfs_btree.specs.Descent.{content-about}
-use Rattle.hfs_btree_insertion.proofs.ExactWays.{exact-way}
+use Rattle.hfs_btree.specs.Tree.{Store, Spot, records_in, children, spots, turn, level_below}
+use Rattle.hfs_btree.specs.Header.{depth_of, root_level, tree_content}
+use Rattle.hfs_btree.specs.Sound.{IsSound}
+use Rattle.hfs_btree.specs.Search.{IsLeafFor}
+use Rattle.hfs_btree_edits.specs.Edits.{level_above}
 use Rattle.hfs_btree_edits.specs.LevelParts.{flat-kept}
 use Rattle.hfs_btree_insertion.proofs.Puts.{IsPutIn, index-records, index-keeps}
-use Rattle.hfs_btree_insertion.proofs.PutExact.{put-exact}
 
 -- ---- levels
 

@@ -10,9 +10,9 @@ use Rattle.hfs_btree.specs.declared.header.Header.{Header}
 use Rattle.hfs_btree.specs.declared.key.Key.{Ghosts}
 use Rattle.hfs_scans.specs.Each.{Each}
 use Rattle.hfs_btree.specs.Pairs.{lookup, pairs_from}
-use Rattle.hfs_scans.specs.Elements.{each-left}
+use Rattle.hfs_scans.specs.Elements.{each-left, each-right}
 use Rattle.hfs_btree.specs.Tree.{Store, Spot, node_in, records_in, records_of, pair_of, pairs, turn, level_below, last_level}
-use Rattle.hfs_btree.specs.Header.{header_in, record_in, depth_of, root_level, leaves, own_nodes, tree_content}
+use Rattle.hfs_btree.specs.Header.{header_in, record_in, depth_of, root_level, leaves, own_nodes, tree_nodes, tree_content}
 use Rattle.hfs_btree.specs.Sound.{IsOther, IsDistinct, IsSound, HasHeader}
 use Rattle.hfs_btree.specs.Search.{leaf_for, IsLeafFor, IsLowWay}
 use Rattle.hfs_btree_edits.specs.Stored.{HasStored, HasHeaderPut, KeepsHead}
@@ -23,6 +23,7 @@ use Rattle.hfs_btree_edits.specs.Heads.{header-new, head-kept, header-kept, map-
 use Rattle.hfs_btree_edits.specs.Owns.{KeepsOwn, stored-own, own-header, own-head, own-has-header, own-has-map, own-record, head-then}
 use Rattle.hfs_btree.specs.Descent.{leaf-node}
 use Rattle.hfs_btree_insertion.proofs.PutRest.{put-levels}
+use Rattle.hfs_btree_insertion.proofs.PutKeeps.{put-exact_above, put-keys, put-frame, leaf-among}
 use Rattle.hfs_btree_insertion.proofs.Puts.{IsPutIn, last-of-turn, put-sound, put-content, put-turn}
 
 regroup : (o u b h : List ℕ) (n : ℕ) → o ++ (u ++ (b ++ n ∷ h)) ≡ (o ++ (u ++ b)) ++ n ∷ h
@@ -76,12 +77,12 @@ module _ {K : Type 0} (g : Ghosts K) (total : IsTotalOrder g.compare) (key : K) 
   abbrev fields : Header
   fields = record (header_in mid) { records = (header_in mid).records + 1 }
 
-  module _ (h : HasHeaderPut fields mid new) where
+  module _ (h' : HasHeaderPut fields mid new) where
     new-header : header_in new ≡ record (header_in old) { records = (header_in old).records + 1 }
-    new-header = header-new fields mid new h refl ∙ ap (λ (x : Header). record x { records = x.records + 1 }) (own-header old mid mid-own)
+    new-header = header-new fields mid new h' refl ∙ ap (λ (x : Header). record x { records = x.records + 1 }) (own-header old mid mid-own)
 
     head : KeepsHead old new
-    head = head-then old mid new (own-head old mid mid-own) (head-kept fields mid new h refl)
+    head = head-then old mid new (own-head old mid mid-own) (head-kept fields mid new h' refl)
 
     put-in : IsPutIn g key body old new (depth_of old - 1) n place
     put-in = record {
@@ -93,10 +94,10 @@ module _ {K : Type 0} (g : Ghosts K) (total : IsTotalOrder g.compare) (key : K) 
       pair = ap (λ (k : K). (k, body)) keyed;
       node = r.node;
       was = r.was;
-      is = h.stored.rest n (λ e. other.0 (sym e)) ∙ r.stored.here;
+      is = h'.stored.rest n (λ e. other.0 (sym e)) ∙ r.stored.here;
       within = let P : Result Node NodeFault → Type 0 = λ x. place ≤ length (records_of x) in subst P r.was within;
       from = from;
-      rest = λ x zero' ne. h.stored.rest x zero' ∙ r.stored.rest x ne;
+      rest = λ x zero' ne. h'.stored.rest x zero' ∙ r.stored.rest x ne;
       root = ap (λ (x : Header). x.root) new-header;
       depth = ap (λ (x : Header). x.depth) new-header;
       first_leaf = ap (λ (x : Header). x.first_leaf) new-header;
@@ -118,7 +119,14 @@ module _ {K : Type 0} (g : Ghosts K) (total : IsTotalOrder g.compare) (key : K) 
         let header = own-has-header old mid mid-own g sound.structure.header in
         record {
           sound = put-sound g total key body old new (depth_of old - 1) n place put-in sound found absent
-              (header-kept fields mid new h refl g refl refl header.shallow header) (map-kept fields mid new h refl (own-has-map old mid mid-own sound.structure.map));
+              (header-kept fields mid new h' refl g refl refl header.shallow header) (map-kept fields mid new h' refl (own-has-map old mid mid-own sound.structure.map));
+          exact = put-exact_above g total key body old new (depth_of old - 1) n place put-in sound found leaf-some absent;
+          keys = put-keys g total key body old new (depth_of old - 1) n place put-in sound found;
+          frame = put-frame g total key body old new (depth_of old - 1) n place put-in sound found;
+          rest = λ m h.
+              (let zero' : IsOther m 0 = (each-left (IsOther m) (own_nodes old) (tree_nodes g old) h).0 in
+              let ne = leaf-among g total key body old new (depth_of old - 1) n place put-in sound found m (each-right (IsOther m) (own_nodes old) (tree_nodes g old) h) in
+              h'.stored.bytes m (λ e. zero' (sym e)) ∙ r.stored.bytes m (λ e. ne (sym e)));
           content = put-content g total key body old new (depth_of old - 1) n place put-in sound found;
           levels = put-levels g total key body old new (depth_of old - 1) n place put-in sound found absent leaf-some;
           turn = put-turn g total key body old new (depth_of old - 1) n place put-in sound found;

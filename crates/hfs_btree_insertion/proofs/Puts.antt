@@ -335,7 +335,7 @@ module _ {K : Type 0} (g : Ghosts K) (total : IsTotalOrder g.compare) (key : K) 
   node-is : n-spot.1.value ≡ s.node
   node-is = same-value n-spot.1.value s.node (sym n-spot.1.decodes ∙ s.was)
 
-  kind-is : (v : Node) → node_in old n ≡ Ok v → v.kind ≡ Leaf
+  pub kind-is : (v : Node) → node_in old n ≡ Ok v → v.kind ≡ Leaf
   kind-is v e = ap (λ (w : Node). w.kind) (same-value v n-spot.1.value (sym e ∙ n-spot.1.decodes)) ∙ n-spot.1.kind
 
   nonzero-spot : (x : Spot) → IsRight g old x → x.n ≢ 0

@@ -1,6 +1,6 @@
 -- A new root, from the calls that put it.
-use Rattle.std.proofs.Common.{◌≡◌, ◌≢◌, ℕ, zero, suc, ◌+◌, ◌-◌, ◌<◌, ◌≤◌, List, [], ◌∷◌, ◌++◌, length, map, get_or, refl, sym, ap, ◌∙◌, subst, arith}
-use Rattle.std.specs.Prelude.{true, false, Bool, Ok, Result, slice_index_or, ◌↔◌}
+use Rattle.std.proofs.Common.{◌≡◌, ℕ, suc, ◌+◌, ◌-◌, ◌<◌, ◌≤◌, List, [], ◌∷◌, ◌++◌, length, get_or, refl, sym, ap, ◌∙◌, subst, arith}
+use Rattle.std.specs.Prelude.{true, false, Bool, Ok, Result, slice_index_or}
 use Rattle.std.specs.Cmp.{IsTotalOrder}
 use Rattle.std.specs.List.{flat_map}
 use Rattle.hfs_node.specs.declared.node.Node.{Node}
@@ -11,15 +11,15 @@ use Rattle.hfs_btree.specs.declared.header.Header.{Header}
 use Rattle.hfs_btree.specs.declared.key.Key.{Ghosts}
 use Rattle.hfs_scans.specs.Each.{Each}
 use Rattle.hfs_scans.specs.Elements.{each-at, each-left, each-right, each-append}
-use Rattle.hfs_btree.specs.Tree.{Store, Spot, node_in, records_in, records_of, reads_at, children, spots, first_of, turn, level_below}
+use Rattle.hfs_btree.specs.Tree.{Store, Spot, node_in, records_in, records_of, reads_at, key_at, first_of, level_below}
+use Rattle.hfs_btree_edits.specs.KeptKeys.{EachKey, hold-keys}
 use Rattle.hfs_btree.specs.Header.{header_in, record_in, depth_of, root_level, own_nodes, tree_turn, tree_nodes}
 use Rattle.hfs_btree.specs.Sound.{IsOther, IsSound, IsRight, IsStray, IsExact, AreKeysExact, first_key}
 use Rattle.hfs_btree.specs.Search.{child_for, leaf_under}
 use Rattle.hfs_btree_edits.specs.Stored.{HasStored, HasHeaderPut, HasClaimed}
 use Rattle.hfs_btree_edits.specs.LevelParts.{entry_key}
 use Rattle.hfs_btree_insertion.specs.Raise.{IsRootAbove, IsRaised, HasRootPut}
-use Rattle.hfs_btree_edits.specs.Edits.{level_above, node_for}
-use Rattle.hfs_btree_insertion.specs.Growth.{KeepsLevels, HasRaised}
+use Rattle.hfs_btree_insertion.specs.Growth.{KeepsLevels, NodesStay, KeysStay, HasRaised}
 use Rattle.hfs_btree.specs.Descent.{IsOnWay, root-way, way-node, way-within}
 use Rattle.hfs_btree_insertion.proofs.Exacts.{first-entry, Exact, turn-exact, keeps-first}
 use Rattle.hfs_btree_insertion.proofs.PartLists.{equal-key}
@@ -29,6 +29,7 @@ use Rattle.hfs_btree_insertion.proofs.PutWhole.{head-long, own-long}
 use Rattle.hfs_btree_insertion.proofs.Raises.{all-keep, below, raise-turn, raise-nodes, raise-content, raise-sound, records-root, turn-old}
 use Rattle.hfs_btree_edits.specs.LevelParts.{KeepsRecords, KeepsAt}
 use Rattle.hfs_btree_insertion.proofs.LevelWays.{level-same, record-same, under-same, child-one, levels-then}
+use Rattle.hfs_btree_insertion.proofs.CutKeys.{key-same, kept-keys, claimed-stay, claimed-keys, stay-then, keys-then}
 use Rattle.hfs_btree_insertion.proofs.Taken.{HasTaken, taken-keeps, taken-free, taken-content, claimed-levels, claimed-depth}
 
 -- ---- the old root
@@ -154,6 +155,10 @@ module _ {K : Type 0} (g : Ghosts K) (total : IsTotalOrder g.compare) (old x : S
               (map-kept h x new put count (own-has-map old x x-own sound.structure.map));
         }
 
+-- the root has a record
+root-there : {K : Type 0} (g : Ghosts K) (nodes : Store) (sound : IsSound g nodes) (d : ℕ) → depth_of nodes ≡ suc d → 0 < length (records_in nodes (header_in nodes).root)
+root-there g nodes sound d deep = root-some g nodes sound (omega (arith, deep)) (header_in nodes) refl
+
 -- ---- what it keeps
 
 module _ {K : Type 0} (g : Ghosts K) (total : IsTotalOrder g.compare) (old new : Store) (m : ℕ) (sound : IsSound g old) (p : HasRootPut g old new m) where
@@ -234,6 +239,7 @@ module _ {K : Type 0} (g : Ghosts K) (total : IsTotalOrder g.compare) (old new :
         ∙ ap (λ (y : ℕ). leaf_under g new key (suc (depth_of old - 1 - k)) y) s.root
         ∙ ap (leaf_under g new key (depth_of old - 1 - k)) (ap (child_for g key) (records-root g total old new p.d m s sound) ∙ child-one g new key s.entry ∙ s.names)
         ∙ under-same g old new sound.structure keep key (depth_of old - 1 - k) (omega (arith, lt)));
+    records = λ key k lt. record-same g old new sound.structure keep key (depth_of old - 1 - k) (omega (arith, lt));
     size = λ key k lt. ap size_of (record-same g old new sound.structure keep key (depth_of old - 1 - k) (omega (arith, lt)));
   }
 
@@ -242,6 +248,30 @@ module _ {K : Type 0} (g : Ghosts K) (total : IsTotalOrder g.compare) (old new :
       let size = one-fits s.entry (records_in new (header_in new).root) (ap (records_in new) s.root ∙ records-root g total old new p.d m s sound) in
       let len = index_len s.entry s.index in
       omega (arith, size, len)
+
+  -- no node leaves the levels
+  pub root-others : NodesStay g old new
+  root-others x other = (let P : List ℕ → Type 0 = λ xs. Each (IsOther x) xs in subst P (raise-nodes g total old new p.d m s sound) other).1
+
+  -- ---- keys
+
+  root-key : (P : K → Type 0) → EachKey g P old → P (g.index_key s.entry)
+  root-key P was =
+      let Q : Spot → Type 0 = λ y. Each (λ e. P (key_at g y.above e)) (records_in old y.n) in
+      let R : List Spot → Type 0 = λ ss. Each Q ss in
+      let first = (subst R (turn-old g total old new p.d m s sound) was).0 in
+      let has : 0 < length (records_in old r) = root-there g old sound p.d s.deep in
+      subst P (sym (s.keyed ∙ sym (key-same g p.d (get_or (records_in old r) 0 [])))) (each-at (λ e. P (key_at g p.d e)) (records_in old r) 0 [] first has)
+
+  root-keys : (P : K → Type 0) → EachKey g P old → EachKey g P new
+  root-keys P was =
+      let Q : List Spot → Type 0 = λ ss. Each (λ (y : Spot). Each (λ e. P (key_at g y.above e)) (records_in new y.n)) ss in
+      let F : List (List ℕ) → Type 0 = λ xs. Each (λ e. P (g.index_key e)) xs in
+      let here : Each (λ e. P (g.index_key e)) (records_in new m) = subst F (sym (records-root g total old new p.d m s sound)) (root-key P was, tt) in
+      subst Q (sym (raise-turn g total old new p.d m s sound)) (here, kept-keys g old new P (tree_turn g old) keep was)
+
+  pub root-keys_stay : KeysStay g old new
+  root-keys_stay = hold-keys g old new root-keys
 
 -- ---- with the claim
 
@@ -252,6 +282,8 @@ raise-whole g total old mid new m sound c p index_len =
     let same = claimed-depth g m old mid new c in
     record {
       keeps = taken-keeps g m old mid new c t;
+      others = stay-then g old mid new (claimed-stay g m old mid c) (root-others g total mid new m c.sound p);
+      keys = keys-then g old mid new (claimed-keys g m old mid c) (root-keys_stay g total mid new m c.sound p);
       content = taken-content g m old mid new c t;
       levels = levels-then g old mid new (omega (arith, same)) (claimed-levels g m old mid new c sound) (root-levels g total mid new m c.sound p);
       depth = new-deep g total mid new m c.sound p ∙ ap suc same;

@@ -1,19 +1,16 @@
 -- A new root that was put above the old one.
 use Rattle.hfs_btree_edits.specs.LevelParts.{entry_key}
-use Rattle.std.proofs.Common.{◌≡◌, ◌≢◌, ℕ, suc, ◌+◌, ◌<◌, List, [], ◌∷◌, ◌++◌, length, map, get_or, refl, sym, ap, ◌∙◌, subst, arith, append-nil}
-use Rattle.std.specs.Prelude.{Bool, true, false, not, Ok, slice_index_or}
+use Rattle.std.proofs.Common.{◌≡◌, ◌≢◌, ℕ, suc, ◌<◌, List, [], ◌∷◌, ◌++◌, length, map, get_or, refl, sym, ap, ◌∙◌, subst, arith, append-nil}
+use Rattle.std.specs.Prelude.{Bool, true, false, not, slice_index_or}
 use Rattle.std.specs.Cmp.{IsTotalOrder}
 use Rattle.std.specs.List.{flat_map, count_by}
-use Rattle.hfs_node.specs.declared.kind.NodeKind.TheVariants.{Index}
-use Rattle.hfs_node.specs.declared.node.Node.{Node}
 use Rattle.hfs_btree.specs.declared.key.Key.{Ghosts}
 use Rattle.hfs_btree.specs.Pairs.{Pairs, Rises, IsAtMost}
 use Rattle.hfs_scans.specs.Each.{Each}
 use Rattle.hfs_scans.specs.Elements.{each-right, each-mono}
 use Rattle.hfs_btree.specs.Tree.{Store, Spot, node_in, records_in, records_of, children, spots, first_of, last_of, turn, under, level_below, last_level}
-use Rattle.hfs_btree.specs.Header.{header_in, depth_of, root_level, leaves, own_nodes, free_nodes, tree_turn, tree_nodes, tree_content}
+use Rattle.hfs_btree.specs.Header.{header_in, root_level, leaves, own_nodes, free_nodes, tree_turn, tree_nodes, tree_content}
 use Rattle.hfs_btree.specs.Sound.{IsOther, IsDistinct, IsRight, IsOrdered, IsSound, IsStray, IsWithin, HasLevels, HasEnds, HasCounts, HasHeader, HasMap, AreKeysInOrder}
-use Rattle.hfs_btree_edits.specs.Stored.{KeepsHead}
 use Rattle.hfs_btree_insertion.specs.Raise.{IsRaised}
 use Rattle.hfs_btree_edits.specs.Apart.{distinct-put, nonzero, marked-within}
 use Rattle.hfs_btree_insertion.proofs.Contents.{content, under-content, content-under, Keyed, AreRecordsInOrder, records-keyed, HavePairs, have-pairs, middle-most}

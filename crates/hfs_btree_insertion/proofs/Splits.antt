@@ -23,7 +23,6 @@ use Rattle.hfs_btree_edits.specs.LevelParts.{upper, numbers, of-spots, turn-spli
 use Rattle.hfs_btree_insertion.proofs.PartLists.{parts-cut, rises-left, rises-right}
 use Rattle.hfs_btree_insertion.proofs.Contents.{content, under-content, content-append, content-under, under-lift, turn-parts, Keyed, keyed-spots, keyed-of-spots, AreRecordsInOrder, records-keyed, keyed-records, keyed-left, keyed-right, HavePairs, have-pairs, turn-parts-right, middle-above, middle-most, records-kept, content-kept, level-under, nodes-keyed}
 use Rattle.hfs_btree_edits.specs.Apart.{distinct-put, map-insert, behind-third, front-third, nonzero, each-take, each-drop, marked-within}
-use Rattle.hfs_btree_edits.specs.Stored.{KeepsHead}
 use Rattle.std.proofs.lemmas.List.{get_or-drop}
 use Rattle.hfs_btree.specs.Sound.{AreKeysExact, IsExact, first_key}
 use Rattle.hfs_btree_insertion.proofs.PartLists.{equal-key}

@@ -1,6 +1,6 @@
 -- A free node that was claimed, and then taken into the levels.
 use Rattle.std.proofs.Common.{◌≡◌, ◌≢◌, ℕ, ◌+◌, ◌<◌, ◌≤◌, List, ◌∷◌, ◌++◌, length, map, sym, ap, ◌∙◌, subst, arith, inl, inr}
-use Rattle.std.specs.Prelude.{Bool, not, ◌↔◌}
+use Rattle.std.specs.Prelude.{not, ◌↔◌}
 use Rattle.std.specs.List.{count_by}
 use Rattle.std.proofs.lemmas.Bool.{cases_eq}
 use Rattle.hfs_btree.specs.declared.header.Header.{Header}
@@ -8,7 +8,7 @@ use Rattle.hfs_btree.specs.declared.key.Key.{Ghosts}
 use Rattle.hfs_scans.specs.Each.{Each}
 use Rattle.hfs_scans.specs.Elements.{each-mono, each-left}
 use Rattle.hfs_btree.specs.Tree.{Store, Spot, node_in, records_of}
-use Rattle.hfs_btree.specs.Header.{header_in, depth_of, map_nodes, own_nodes, map_bytes, marks, free_nodes, tree_turn, tree_nodes, tree_content}
+use Rattle.hfs_btree.specs.Header.{header_in, depth_of, own_nodes, free_nodes, tree_turn, tree_nodes, tree_content}
 use Rattle.hfs_btree.specs.Sound.{IsOther, IsSound, IsExact, IsStray}
 use Rattle.hfs_btree_edits.specs.Stored.{HasClaimed, KeepsHead, bytes_in}
 use Rattle.hfs_btree_edits.specs.Edits.{KeepsTree}

@@ -1,12 +1,16 @@
 -- What the steps of an insertion make of a tree.
-use Rattle.std.specs.Prelude.{◌≡◌, ◌≢◌, ℕ, zero, suc, ◌+◌, ◌-◌, ◌<◌, ◌≤◌, length}
+use Rattle.std.specs.Prelude.{◌≡◌, ◌≢◌, ℕ, zero, suc, ◌+◌, ◌<◌, ◌≤◌, length}
 use Rattle.std.specs.List.{prefix_len}
 use Rattle.hfs_node.specs.Node.{size_of}
 use Rattle.hfs_btree.specs.declared.key.Key.{Ghosts}
 use Rattle.hfs_btree.specs.Tree.{Store, records_in}
-use Rattle.hfs_btree.specs.Header.{header_in, depth_of, free_nodes, tree_content}
+use Rattle.hfs_scans.specs.Each.{Each}
+use Rattle.hfs_scans.specs.Members.{In}
+use Rattle.hfs_btree.specs.Header.{header_in, depth_of, free_nodes, tree_nodes, tree_content}
+use Rattle.hfs_btree.specs.Sound.{IsOther}
 use Rattle.hfs_btree.specs.Search.{is_not_above, leaf_under}
 use Rattle.hfs_btree_edits.specs.Edits.{KeepsTree, level_above, node_for, IsFullFor}
+use Rattle.hfs_btree_edits.specs.KeptKeys.{tree_keys, EachKey}
 
 -- ---- room
 
@@ -31,17 +35,28 @@ IsLow g nodes key = (j : ℕ) → suc j < depth_of nodes → 0 < prefix_len (is_
 
 -- ---- levels
 
--- counted from the leaves the levels are the same, the way to any key comes by the same nodes, and their records take as many bytes
+-- counted from the leaves the levels are the same, and the way to any key comes by the same nodes, with the same records
 pub record KeepsLevels {K : Type 0} (g : Ghosts K) (old new : Store) : Type 0 where
   pub levels : (k : ℕ) → k < depth_of old → level_above g new k ≡ level_above g old k
   pub way : (key : K) (k : ℕ) → k < depth_of old → node_for g new key k ≡ node_for g old key k
+  pub records : (key : K) (k : ℕ) → k < depth_of old → records_in new (node_for g old key k) ≡ records_in old (node_for g old key k)
   pub size : (key : K) (k : ℕ) → k < depth_of old → size_of (records_in new (node_for g old key k)) ≡ size_of (records_in old (node_for g old key k))
+
+-- no node left the levels
+abbrev pub NodesStay : {K : Type 0} → Ghosts K → Store → Store → Type 0
+NodesStay g old new = (x : ℕ) → Each (IsOther x) (tree_nodes g new) → Each (IsOther x) (tree_nodes g old)
+
+-- each key of the new tree is one of the old tree
+abbrev pub KeysStay : {K : Type 0} → Ghosts K → Store → Store → Type 0
+KeysStay g old new = EachKey g (λ k. In k (tree_keys g old)) new
 
 -- ---- the steps
 
 -- a new root with one record stands above the levels, which are the same
 pub record HasRaised {K : Type 0} (g : Ghosts K) (old new : Store) : Type 0 where
   pub keeps : KeepsTree g old new
+  pub others : NodesStay g old new
+  pub keys : KeysStay g old new
   pub content : tree_content g new ≡ tree_content g old
   pub levels : KeepsLevels g old new
   pub depth : depth_of new ≡ suc (depth_of old)
@@ -52,6 +67,8 @@ pub record HasRaised {K : Type 0} (g : Ghosts K) (old new : Store) : Type 0 wher
 -- have room for one more record.
 pub record HasCutLevel {K : Type 0} (g : Ghosts K) (key : K) (a : ℕ) (old new : Store) : Type 0 where
   pub keeps : KeepsTree g old new
+  pub others : NodesStay g old new
+  pub keys : KeysStay g old new
   pub content : tree_content g new ≡ tree_content g old
   pub depth : depth_of new ≡ depth_of old
   pub free : free_nodes new + 1 ≡ free_nodes old

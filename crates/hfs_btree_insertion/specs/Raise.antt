@@ -4,7 +4,7 @@ use Rattle.hfs_node.specs.declared.kind.NodeKind.TheVariants.{Index}
 use Rattle.hfs_node.specs.declared.node.Node.{Node}
 use Rattle.hfs_btree.specs.declared.key.Key.{Ghosts}
 use Rattle.hfs_btree.specs.Tree.{Store, node_in, records_in}
-use Rattle.hfs_btree.specs.Header.{header_in, depth_of, tree_content}
+use Rattle.hfs_btree.specs.Header.{header_in, depth_of}
 use Rattle.hfs_btree.specs.Sound.{IsSound, IsStray}
 use Rattle.hfs_btree_edits.specs.Stored.{KeepsHead, bytes_in}
 use Rattle.hfs_btree_edits.specs.LevelParts.{entry_key}

@@ -15,7 +15,7 @@ use hfs_btree_edits::{NodesMut, load, put_header, store};
 use std::alloc::{AllocError, Global};
 
 /// Puts a record into node `n`, in front of the one at a place.
-fn put_record<S: NodesMut>(
+pub(crate) fn put_record<S: NodesMut>(
     alloc: Global,
     nodes: &mut S,
     n: u32,

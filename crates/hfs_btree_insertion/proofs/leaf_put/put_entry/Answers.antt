@@ -1,12 +1,5 @@
-use Rattle.std.proofs.Common.{◌≡◌, ◌∙◌, ◌+◌, ◌-◌, ◌<◌, ◌≤◌, ℕ, List, sym, ap, subst, arith, length, get_or, drop}
-use Rattle.std.specs.Prelude.{map}
-use Rattle.hfs_btree.specs.Search.{leaf_for, IsLeafFor}
-use Rattle.hfs_btree_insertion.specs.Stored.{HasRecordPut}
-use Rattle.hfs_btree_edits.specs.Stored.{HasHeaderPut}
-use Rattle.hfs_btree.specs.declared.header.Header.{Header}
-use Rattle.hfs_btree.specs.Pairs.{pairs_from}
-use Rattle.hfs_btree.specs.Header.{header_in}
-use Rattle.hfs_btree.specs.Tree.{Store, pair_of, records_in}
+use Rattle.std.proofs.Common.{◌≤◌, ℕ, List, sym, ap, arith, length}
+use Rattle.hfs_btree.specs.Tree.{records_in}
 use Rattle.hfs_btree.specs.Decoded.{records-read}
 use Rattle.hfs_btree.specs.Found.{found, found-entries}
 use Rattle.hfs_btree_insertion.proofs.PutWhole.{put-whole, mid-long, mid-records, from-read}

@@ -1,4 +1,4 @@
-use Rattle.std.proofs.Common.{◌∙◌, ap, arith, ◌+◌}
+use Rattle.std.proofs.Common.{ap, ◌+◌}
 use Rattle.hfs_btree.specs.declared.header.Header.{Header}
 use Rattle.hfs_btree_edits.specs.Stores.{on-ok}
 use Rattle.hfs_btree_insertion.proofs.RaiseWhole.{root-fits, root-long, root-put}

@@ -1,4 +1,4 @@
-use Rattle.std.proofs.Common.{◌∙◌, ap, arith, ◌<◌, ◌≤◌, length, sym}
+use Rattle.std.proofs.Common.{arith}
 use Rattle.hfs_btree_edits.specs.Stores.{on-ok}
 use Rattle.hfs_btree_insertion.proofs.Taken.{claimed-depth, stray-there}
 use Rattle.hfs_btree_insertion.proofs.RaiseWhole.{raise-whole}

@@ -1,5 +1,5 @@
-use Rattle.std.proofs.Common.{◌∙◌, ap, refl, sym}
-use Rattle.hfs_btree_insertion.proofs.RaiseWhole.{root-within, first-there, first-reads, above-root, one-fits}
+use Rattle.std.proofs.Common.{refl}
+use Rattle.hfs_btree_insertion.proofs.RaiseWhole.{root-within, first-there, first-reads}
 use Rattle.hfs_btree_insertion.proofs.new_root.root_above.Goals as goal
 
 pub load-requires : goal.load-requires

@@ -1,4 +1,4 @@
-use Rattle.std.proofs.Common.{◌≡◌, ◌-◌, ◌<◌, ℕ, ap, sym, ◌∙◌, subst, arith, refl}
+use Rattle.std.proofs.Common.{◌-◌, sym, subst, arith}
 use Rattle.hfs_btree.specs.declared.header.Header.{Header}
 use Rattle.hfs_btree_insertion.proofs.WayTo.{IsAt, IsCounted, at-root, at-within, read-some, read-index, read-next, counted-init, counted-next, counted-leaf}
 use Rattle.hfs_btree_insertion.proofs.way.full_levels.Goals as goal

@@ -1,0 +1,46 @@
+use Rattle.hfs_btree_edits.specs.Stores.{on-ok}
+use Rattle.hfs_btree_insertion.proofs.MadeRoom.{made-cut, made-raised, raised-low, less-full, all-full, can-cut, can-cut_raised}
+use Rattle.hfs_btree_insertion.proofs.LowerSteps.{some-levels_above}
+use Rattle.hfs_btree_insertion.proofs.insertion.make_room.Goals as goal
+
+pub cut_levels-requires-clause-full : goal.cut_levels-requires-clause-full
+cut_levels-requires-clause-full g c =
+    can-cut g.K.Key c.args.key.now c.args.len (g.S.Nodes.nodes c.args.nodes.now) c.requires.sound g.met.K.Key.index_len g.met.K.Key.index_small c.requires.short c.full_levels-full.result c.full_levels-full.ensures
+    c.read_header-header.result c.read_header-header.ensures c.if-full-header.true
+
+pub cut_levels-requires-2-clause-full : goal.cut_levels-requires-2-clause-full
+cut_levels-requires-2-clause-full g c =
+    let nodes = g.S.Nodes.nodes c.args.nodes.now in
+    can-cut_raised g.K.Key c.args.key.now c.args.len nodes c.requires.sound g.met.K.Key.index_len g.met.K.Key.index_small c.requires.short c.full_levels-full.result c.full_levels-full.ensures
+    c.read_header-header.result c.read_header-header.ensures c.if-full-header.false (some-levels_above g.K.Key c.args.key.now nodes c.requires.above) (g.S.Nodes.nodes c.raise.new.nodes) c.in_ok-raise.ensures.raised
+
+pub cut_levels-requires-2-clause-low : goal.cut_levels-requires-2-clause-low
+cut_levels-requires-2-clause-low g c =
+    let nodes = g.S.Nodes.nodes c.args.nodes.now in
+    let all =
+    all-full g.K.Key c.args.key.now c.args.len nodes c.requires.sound g.met.K.Key.index_len g.met.K.Key.index_small c.requires.short c.full_levels-full.result c.full_levels-full.ensures c.read_header-header.result
+    c.read_header-header.ensures c.if-full-header.false in
+    raised-low g.K.Key g.met.K.Key.total c.args.key.now c.args.len nodes c.requires.sound c.requires.above c.requires.short c.requires.low c.full_levels-full.result c.full_levels-full.ensures all (g.S.Nodes.nodes c.raise.new.nodes)
+    c.in_ok-raise.ensures.raised
+
+pub returns-clause-room : goal.returns-clause-room
+returns-clause-room g c =
+    let nodes = g.S.Nodes.nodes c.args.nodes.now in
+    let all =
+    all-full g.K.Key c.args.key.now c.args.len nodes c.requires.sound g.met.K.Key.index_len g.met.K.Key.index_small c.requires.short c.full_levels-full.result c.full_levels-full.ensures c.read_header-header.result
+    c.read_header-header.ensures c.if-full-header.false in
+    on-ok _ _ c.cut_levels-2.result
+    (λ h. made-raised g.K.Key g.met.K.Key.total c.args.key.now c.args.len nodes c.requires.sound c.requires.above c.requires.short c.requires.low c.full_levels-full.result c.full_levels-full.ensures all
+    (g.S.Nodes.nodes c.raise.new.nodes) c.in_ok-raise.ensures.raised (g.S.Nodes.nodes c.cut_levels-2.new.nodes) h)
+    c.cut_levels-2.ensures.cut
+
+pub returns-then-full-header-clause-room : goal.returns-then-full-header-clause-room
+returns-then-full-header-clause-room g c =
+    let nodes = g.S.Nodes.nodes c.args.nodes.now in
+    let less =
+    less-full g.K.Key c.args.key.now c.args.len nodes c.requires.sound g.met.K.Key.index_len g.met.K.Key.index_small c.requires.short c.full_levels-full.result c.full_levels-full.ensures c.read_header-header.result
+    c.read_header-header.ensures c.if-full-header.true in
+    on-ok _ _ c.cut_levels.result
+    (λ h. made-cut g.K.Key g.met.K.Key.total c.args.key.now c.args.len nodes c.requires.sound c.requires.above c.requires.short c.requires.low c.full_levels-full.result c.full_levels-full.ensures less
+    (g.S.Nodes.nodes c.cut_levels.new.nodes) h)
+    c.cut_levels.ensures.cut

@@ -1,0 +1,24 @@
+-- A tree that has room for a new record on the way to its key.
+use Rattle.std.specs.Prelude.{◌≡◌, ℕ, ◌+◌, ◌<◌, ◌≤◌, length}
+use Rattle.hfs_btree.specs.declared.key.Key.{Ghosts}
+use Rattle.hfs_btree.specs.Tree.{Store}
+use Rattle.hfs_btree.specs.Header.{depth_of, tree_content}
+use Rattle.hfs_btree_edits.specs.Edits.{KeepsTree, level_above, node_for, IsFullFor, HasRisen}
+use Rattle.hfs_btree_insertion.specs.Growth.{len_at, HasRoom, IsLow, NodesStay, KeysStay}
+
+-- a level has as many nodes as before, or one more where its node on the way to the key had no room
+pub record HasGrownFor {K : Type 0} (g : Ghosts K) (key : K) (len : ℕ) (old new : Store) (k : ℕ) : Type 0 where
+  pub least : length (level_above g old k) ≤ length (level_above g new k)
+  pub most : length (level_above g new k) ≤ length (level_above g old k) + 1
+  pub full : length (level_above g old k) < length (level_above g new k) → IsFullFor old (len_at g len k) (node_for g old key k)
+
+-- the leaf where the search for the key ends has room for a record of so many bytes; the content is the same
+pub record HasMadeRoom {K : Type 0} (g : Ghosts K) (key : K) (len : ℕ) (old new : Store) : Type 0 where
+  pub keeps : KeepsTree g old new
+  pub others : NodesStay g old new
+  pub keys : KeysStay g old new
+  pub content : tree_content g new ≡ tree_content g old
+  pub levels : (k : ℕ) → k < depth_of old → HasGrownFor g key len old new k
+  pub depth : HasRisen g old new
+  pub low : IsLow g new key
+  pub room : HasRoom new len (node_for g new key 0)

@@ -1,0 +1,86 @@
+//! A node whose second half goes to another.
+
+ghost use Rattle.std.specs.Prelude.{◌≡◌, ◌≢◌, ◌<◌, ◌≤◌, OnOk, length};
+ghost use Rattle.hfs_btree.specs.Header.{header_in, record_in};
+ghost use Rattle.hfs_btree.specs.Tree.{node_in, records_in, forward_of};
+ghost use Rattle.hfs_btree_edits.specs.Stored.{HasBackward, HasHeaderPut};
+ghost use Rattle.hfs_btree_insertion.specs.Halves.{HasHalved};
+ghost use Rattle.hfs_btree_insertion.specs.Stored.{HasLinked};
+
+use hfs_btree::read_header;
+use hfs_btree_edits::{NodesMut, load, put_header, store};
+use std::alloc::{AllocError, Global};
+
+/// Sets the backward link of a node.
+fn link_back<S: NodesMut>(alloc: Global, nodes: &mut S, n: u32, left: u32) -> Result<(), AllocError>
+    requires { n < length (S.nodes nodes.old) }
+    ensures linked { OnOk result (HasBackward n left (S.nodes nodes.old) (S.nodes nodes.new)) }
+    ensures kept { OnOk result (S.kept nodes.new ≡ S.kept nodes.old) }
+{
+    let mut node = load(alloc, nodes, n)?;
+    node.backward = left;
+    store(nodes, n, &node)
+}
+
+/// Sets the last leaf in the header record.
+fn put_last<S: NodesMut>(alloc: Global, nodes: &mut S, n: u32) -> Result<(), AllocError>
+    requires within { 0 < length (S.nodes nodes.old) }
+    requires long { 30 ≤ length (record_in (S.nodes nodes.old) 0 0) }
+    ensures put { OnOk result (HasHeaderPut (record (header_in (S.nodes nodes.old)) { last_leaf = n }) (S.nodes nodes.old) (S.nodes nodes.new)) }
+    ensures kept { OnOk result (S.kept nodes.new ≡ S.kept nodes.old) }
+{
+    let mut header = read_header(nodes);
+    header.last_leaf = n;
+    put_header(alloc, nodes, &header)
+}
+
+/// Sets the backward link of the node that a new node `n` of a level stands in front of; where there is none and it is a
+/// leaf, the header record names it as the last.
+fn link_right<S: NodesMut>(
+    alloc: Global,
+    nodes: &mut S,
+    right: u32,
+    n: u32,
+    leaves: bool,
+) -> Result<(), AllocError>
+    requires within { right < length (S.nodes nodes.old) }
+    requires long { 30 ≤ length (record_in (S.nodes nodes.old) 0 0) }
+    ensures linked { OnOk result (HasLinked right n leaves (S.nodes nodes.old) (S.nodes nodes.new)) }
+    ensures kept { OnOk result (S.kept nodes.new ≡ S.kept nodes.old) }
+{
+    if right != 0 {
+        link_back(alloc, nodes, right, n)
+    } else if leaves {
+        put_last(alloc, nodes, n)
+    } else {
+        Ok(())
+    }
+}
+
+/// Moves the records of node `n` from a place on to node `m`, which then stands behind it in its level: links are set on
+/// both sides, and the header record's last leaf where `n` was the last of the leaves.
+pub(crate) fn halve<S: NodesMut>(
+    alloc: Global,
+    nodes: &mut S,
+    n: u32,
+    m: u32,
+    place: usize,
+    leaves: bool,
+) -> Result<(), AllocError>
+    requires first { (n ≢ 0) × (n < length (S.nodes nodes.old)) }
+    requires second { (m ≢ 0) × (m < length (S.nodes nodes.old)) }
+    requires place { place ≤ length (records_in (S.nodes nodes.old) n) }
+    requires right { forward_of (node_in (S.nodes nodes.old) n) < length (S.nodes nodes.old) }
+    requires long { 30 ≤ length (record_in (S.nodes nodes.old) 0 0) }
+    ensures halved { OnOk result (HasHalved n m place leaves (S.nodes nodes.old) (S.nodes nodes.new)) }
+    ensures kept { OnOk result (S.kept nodes.new ≡ S.kept nodes.old) }
+{
+    let mut first = load(alloc, nodes, n)?;
+    let right = first.forward;
+    let mut second = first.split_off(place)?;
+    first.forward = m;
+    second.backward = n;
+    store(nodes, n, &first)?;
+    store(nodes, m, &second)?;
+    link_right(alloc, nodes, right, m, leaves)
+}

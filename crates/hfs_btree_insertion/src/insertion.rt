@@ -1,0 +1,76 @@
+//! A pair that is put into a tree.
+
+ghost use Rattle.std.specs.Prelude.{◌≡◌, ◌+◌, ◌*◌, ◌^◌, ◌<◌, ◌≤◌, None, IsTrue, OnOk, length};
+ghost use Rattle.hfs_btree.specs.Header.{header_in, depth_of, free_nodes, tree_content};
+ghost use Rattle.hfs_btree.specs.Pairs.{lookup};
+ghost use Rattle.hfs_btree.specs.Sound.{IsSound};
+ghost use Rattle.hfs_btree_edits.specs.Edits.{IsAboveFirst, HasInserted};
+ghost use Rattle.hfs_btree_insertion.specs.Growth.{IsLow};
+ghost use Rattle.hfs_btree_insertion.specs.Room.{HasMadeRoom};
+
+use crate::leaf_put::put_entry;
+use crate::level_cut::cut_levels;
+use crate::lowering::lower_keys;
+use crate::new_root::raise;
+use crate::way::full_levels;
+use hfs_btree::{Key, read_header};
+use hfs_btree_edits::NodesMut;
+use std::alloc::{AllocError, Global};
+
+/// Makes room on the way to a key for a leaf's record of `len` bytes: a node that has none is cut in two, and a root that
+/// is cut gets a new root above it.
+fn make_room<K: Key, S: NodesMut>(
+    alloc: Global,
+    nodes: &mut S,
+    key: &K,
+    len: usize,
+) -> Result<(), AllocError>
+    requires sound { IsSound K.Key (S.nodes nodes.old) }
+    requires above { IsAboveFirst K.compare key.now (tree_content K.Key (S.nodes nodes.old)) }
+    requires low { IsLow K.Key (S.nodes nodes.old) key.now }
+    requires short { len ≤ 140 }
+    requires shallow { depth_of (S.nodes nodes.old) ≤ 15 }
+    requires free { depth_of (S.nodes nodes.old) + 1 ≤ free_nodes (S.nodes nodes.old) }
+    requires file { (header_in (S.nodes nodes.old)).nodes ≤ length (S.nodes nodes.old) }
+    ensures room { OnOk result (HasMadeRoom K.Key key.now len (S.nodes nodes.old) (S.nodes nodes.new)) }
+    ensures kept { OnOk result (S.kept nodes.new ≡ S.kept nodes.old) }
+{
+    let header = read_header(nodes);
+    let full = full_levels(nodes, &header, key, len);
+    if full < header.depth {
+        return cut_levels(alloc, nodes, key, full);
+    }
+    raise::<K, S>(alloc, nodes)?;
+    cut_levels(alloc, nodes, key, full)
+}
+
+/// Puts the pair into the tree, none of whose keys is equal to its own in the order, and one of which is below it.
+///
+/// A node that has no room is cut in two, and a root that is cut gets a new root above it. It takes nodes that are free:
+/// at most one for each level, and one for a new root.
+///
+/// Errors: `AllocError` where memory was refused. Then nothing is known of the nodes, which are to be thrown away.
+///
+/// Source: Inside Macintosh: Files, chapter 2, 'B*-trees'.
+pub fn insert<K: Key, S: NodesMut>(
+    alloc: Global,
+    nodes: &mut S,
+    key: &K,
+    body: &[u8],
+) -> Result<(), AllocError>
+    requires sound { IsSound K.Key (S.nodes nodes.old) }
+    requires allowed { IsTrue (K.is_body_len (length body.now)) }
+    requires absent { lookup K.compare key.now (tree_content K.Key (S.nodes nodes.old)) ≡ None }
+    requires above { IsAboveFirst K.compare key.now (tree_content K.Key (S.nodes nodes.old)) }
+    requires shallow { depth_of (S.nodes nodes.old) ≤ 15 }
+    requires free { depth_of (S.nodes nodes.old) + 1 ≤ free_nodes (S.nodes nodes.old) }
+    requires small { 512 * (header_in (S.nodes nodes.old)).nodes < 2 ^ 32 }
+    requires file { (header_in (S.nodes nodes.old)).nodes ≤ length (S.nodes nodes.old) }
+    ensures inserted { OnOk result (HasInserted K.Key key.now body.now (S.nodes nodes.old) (S.nodes nodes.new)) }
+    ensures kept { OnOk result (S.kept nodes.new ≡ S.kept nodes.old) }
+{
+    let entry = key.leaf_record(alloc, body)?;
+    lower_keys(alloc, nodes, key)?;
+    make_room(alloc, nodes, key, entry.len())?;
+    put_entry(alloc, nodes, key, entry)
+}
