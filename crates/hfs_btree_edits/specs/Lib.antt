@@ -31,6 +31,7 @@ pub mod Remarked
 pub mod Resounded
 pub mod Claimed
 pub mod Freed
+pub mod FullMap
 pub mod Claims
 pub mod Replaced
 pub mod Laws

@@ -19,7 +19,9 @@ pub fn claim_node<K: Key, S: NodesMut>(alloc: Global, nodes: &mut S) -> Result<u
     ensures kept { OnOk result (S.kept nodes.new ≡ S.kept nodes.old) }
 {
     let mut header = read_header(nodes);
-    let free = free_bit(nodes, header.nodes)?;
+    let Some(free) = free_bit(nodes, header.nodes) else {
+        unreachable!();
+    };
     put_bit(alloc, nodes, free, true)?;
     header.free_nodes -= 1;
     put_header(alloc, nodes, &header)?;

@@ -1,9 +1,9 @@
 //! The bit of a node in the node map.
 
-ghost use Rattle.std.specs.Prelude.{◌≡◌, ℕ, ◌*◌, ◌<◌, ◌≤◌, ◌⊎◌, [], true, false, IfOk, OnOk, MatchOption, length, slice_index_or};
+ghost use Rattle.std.specs.Prelude.{◌≡◌, ℕ, ◌*◌, ◌<◌, ◌≤◌, ◌⊎◌, [], true, false, IfNone, IfOk, IfSome, OnOk, MatchOption, length, slice_index_or};
 ghost use Rattle.hfs_node.specs.Node.{node_of};
 ghost use Rattle.hfs_btree.specs.Tree.{records_of};
-ghost use Rattle.hfs_btree.specs.Header.{header_in, record_in, bit_of};
+ghost use Rattle.hfs_btree.specs.Header.{header_in, record_in, bit_of, free_nodes};
 ghost use Rattle.hfs_btree.specs.Sound.{HasMap};
 ghost use Rattle.hfs_btree_edits.specs.MapPlaces.{IsPlaced, HasBitPut};
 
@@ -55,13 +55,14 @@ fn first_clear(bytes: &[u8], count: usize) -> Option<usize>
     None
 }
 
-/// Where the bit of node `n` is, in a tree of `count` nodes that it is one of.
-pub(crate) fn bit_of_node<N: Nodes>(nodes: &N, count: u32, n: u32) -> Result<MapBit, AllocError>
+/// Where the bit of node `n` is, in a tree of `count` nodes; none where it isn't one of them.
+pub(crate) fn bit_of_node<N: Nodes>(nodes: &N, count: u32, n: u32) -> Option<MapBit>
     requires some { 0 < length (N.nodes nodes.now) }
     requires map { HasMap (N.nodes nodes.now) }
     requires counted { count ≡ (header_in (N.nodes nodes.now)).nodes }
-    ensures place { IfOk result (λ at. IsPlaced (N.nodes nodes.now) at.node at.entry at.bit at.number) }
-    ensures number { IfOk result (λ at. at.number ≡ n) }
+    ensures none { IfNone result (count ≤ n) }
+    ensures place { IfSome result (λ at. IsPlaced (N.nodes nodes.now) at.node at.entry at.bit at.number) }
+    ensures number { IfSome result (λ at. at.number ≡ n) }
 {
     let mut bytes = [0; 512];
     let mut node = 0;
@@ -72,7 +73,7 @@ pub(crate) fn bit_of_node<N: Nodes>(nodes: &N, count: u32, n: u32) -> Result<Map
         nodes.read(node, &mut bytes);
         let bits = 8 * part_of(&bytes, entry).len();
         if (n as usize) < before + bits {
-            return Ok(MapBit {
+            return Some(MapBit {
                 node,
                 entry,
                 bit: n as usize - before,
@@ -81,7 +82,7 @@ pub(crate) fn bit_of_node<N: Nodes>(nodes: &N, count: u32, n: u32) -> Result<Map
         }
         node = forward_in(&bytes);
         if node == 0 || most == 0 {
-            return Err(AllocError);
+            return None;
         }
         entry = 0;
         before += bits;
@@ -89,14 +90,15 @@ pub(crate) fn bit_of_node<N: Nodes>(nodes: &N, count: u32, n: u32) -> Result<Map
     }
 }
 
-/// The first clear bit of the node map, in a tree of `count` nodes that has one.
-pub(crate) fn free_bit<N: Nodes>(nodes: &N, count: u32) -> Result<MapBit, AllocError>
+/// The first clear bit of the node map, in a tree of `count` nodes; none where no node is free.
+pub(crate) fn free_bit<N: Nodes>(nodes: &N, count: u32) -> Option<MapBit>
     requires some { 0 < length (N.nodes nodes.now) }
     requires map { HasMap (N.nodes nodes.now) }
     requires counted { count ≡ (header_in (N.nodes nodes.now)).nodes }
-    ensures place { IfOk result (λ at. IsPlaced (N.nodes nodes.now) at.node at.entry at.bit at.number) }
-    ensures within { IfOk result (λ at. at.number < count) }
-    ensures clear { IfOk result (λ at. bit_of (record_in (N.nodes nodes.now) at.node at.entry) at.bit ≡ false) }
+    ensures none { IfNone result (free_nodes (N.nodes nodes.now) ≡ 0) }
+    ensures place { IfSome result (λ at. IsPlaced (N.nodes nodes.now) at.node at.entry at.bit at.number) }
+    ensures within { IfSome result (λ at. at.number < count) }
+    ensures clear { IfSome result (λ at. bit_of (record_in (N.nodes nodes.now) at.node at.entry) at.bit ≡ false) }
 {
     let mut bytes = [0; 512];
     let mut node = 0;
@@ -105,12 +107,12 @@ pub(crate) fn free_bit<N: Nodes>(nodes: &N, count: u32) -> Result<MapBit, AllocE
     let mut most = count;
     loop {
         if before >= count as usize {
-            return Err(AllocError);
+            return None;
         }
         nodes.read(node, &mut bytes);
         let part = part_of(&bytes, entry);
         if let Some(bit) = first_clear(part, count as usize - before) {
-            return Ok(MapBit {
+            return Some(MapBit {
                 node,
                 entry,
                 bit,
@@ -120,7 +122,7 @@ pub(crate) fn free_bit<N: Nodes>(nodes: &N, count: u32) -> Result<MapBit, AllocE
         before += 8 * part.len();
         node = forward_in(&bytes);
         if node == 0 || most == 0 {
-            return Err(AllocError);
+            return None;
         }
         entry = 0;
         most -= 1;

@@ -20,7 +20,9 @@ pub fn release<K: Key, S: NodesMut>(alloc: Global, nodes: &mut S, n: u32) -> Res
     ensures kept { OnOk result (S.kept nodes.new ≡ S.kept nodes.old) }
 {
     let mut header = read_header(nodes);
-    let bit = bit_of_node(nodes, header.nodes, n)?;
+    let Some(bit) = bit_of_node(nodes, header.nodes, n) else {
+        unreachable!();
+    };
     put_bit(alloc, nodes, bit, false)?;
     header.free_nodes += 1;
     put_header(alloc, nodes, &header)?;

@@ -1,5 +1,6 @@
-use Rattle.std.proofs.Common.{ap, ℕ, ◌*◌, ◌-◌, List, length, arith}
+use Rattle.std.proofs.Common.{refl, ap, ℕ, ◌*◌, ◌-◌, List, length, arith}
 use Rattle.hfs_btree_edits.specs.MapWalk.{first-part, next-part, part-within, part-read, forward-read, placed-in}
+use Rattle.hfs_btree_edits.specs.FullMap.{last-past}
 use Rattle.hfs_btree_edits.proofs.map_bit.bit_of_node.Goals as goal
 
 pub loop-before-init : goal.loop-before-init
@@ -25,3 +26,14 @@ loop-before-preserved g c =
           c.if-node-eq0.false (omega arith) (ap (λ (bs : List ℕ). 8 * length bs) is);
       low = let past = c.if-n-before.false in omega arith;
     }
+
+pub returns-then-node-eq0-clause-none : goal.returns-then-node-eq0-clause-none
+returns-then-node-eq0-clause-none g c =
+    let nodes = g.N.Nodes.nodes c.args.nodes.now in
+    let i = c.loop-before.invariant in
+    let is = part-read nodes _ _ _ _ _ _ i.part c.read.ensures c.part_of.ensures.part in
+    let next = forward-read nodes c.loop-before.node _ c.forward_in-node.result c.read.ensures c.forward_in-node.ensures in
+    let past = last-past nodes c.loop-before.most c.loop-before.node c.loop-before.entry c.loop-before.before i.part c.part_of.result.now is c.args.count c.forward_in-node.result _ c.requires.map c.requires.counted next refl
+    c.then-node-eq0.either in
+    let beyond = c.if-n-before.false in
+    omega (arith, past, beyond)
