@@ -92,8 +92,8 @@ module _ {K : Type 0} (g : Ghosts K) (n : ℕ) (old new : Store) (d : IsReleased
   outside : Each (λ m. Each (IsOther m) (own_nodes old)) (tree_nodes g old)
   outside = apart (own_nodes old) (tree_nodes g old) sound.structure.levels.different
 
-  same : Each (IsUnchanged old new) (tree_turn g old)
-  same =
+  pub released-same : Each (IsUnchanged old new) (tree_turn g old)
+  released-same =
       each-both (λ (s : Spot). (s.n ≢ n) × Each (IsOther s.n) (own_nodes old)) (IsRight g old) (IsUnchanged old new) (tree_turn g old)
       (λ s a h. record { same = d.rest s.n a.0 a.1; marked = mark-on s.n a.0 h.marked })
       (each-both (λ (s : Spot). s.n ≢ n) (λ (s : Spot). Each (IsOther s.n) (own_nodes old)) _ (tree_turn g old) (λ s a b. (a, b))
@@ -105,14 +105,14 @@ module _ {K : Type 0} (g : Ghosts K) (n : ℕ) (old new : Store) (d : IsReleased
   turn-is = ap (λ (h : HeaderRecord). turn g new h.depth (h.root ∷ [])) d.header
 
   pub released-turn : tree_turn g new ≡ tree_turn g old
-  released-turn = turn-is ∙ turn-unchanged g old new (depth_of old) (root_level old) same
+  released-turn = turn-is ∙ turn-unchanged g old new (depth_of old) (root_level old) released-same
 
   new-leaves : leaves g new ≡ leaves g old
-  new-leaves = ap (λ (h : HeaderRecord). last_level g new h.depth (h.root ∷ [])) d.header ∙ last-unchanged g old new (depth_of old) (root_level old) same
+  new-leaves = ap (λ (h : HeaderRecord). last_level g new h.depth (h.root ∷ [])) d.header ∙ last-unchanged g old new (depth_of old) (root_level old) released-same
 
   pub released-content : tree_content g new ≡ tree_content g old
   released-content =
-      ap (λ (h : HeaderRecord). flat_map (pairs g new) (last_level g new h.depth (h.root ∷ []))) d.header ∙ content-unchanged g old new (depth_of old) (root_level old) same
+      ap (λ (h : HeaderRecord). flat_map (pairs g new) (last_level g new h.depth (h.root ∷ []))) d.header ∙ content-unchanged g old new (depth_of old) (root_level old) released-same
 
   pub all-is : own_nodes new ++ tree_nodes g new ≡ own_nodes old ++ tree_nodes g old
   all-is = ap (λ (ns : List ℕ). ns ++ tree_nodes g new) own-is ∙ ap (λ (ss : List Spot). own_nodes old ++ map (λ (s : Spot). s.n) ss) released-turn
@@ -159,7 +159,7 @@ module _ {K : Type 0} (g : Ghosts K) (n : ℕ) (old new : Store) (d : IsReleased
           header = has-header;
           map = has-map;
           levels = record {
-            each = subst P (sym turn-is) (rights-unchanged g old new (depth_of old) (root_level old) same count-is sound.structure.levels.each);
+            each = subst P (sym turn-is) (rights-unchanged g old new (depth_of old) (root_level old) released-same count-is sound.structure.levels.each);
             different = subst Q (sym all-is) sound.structure.levels.different;
           };
           ends = record {
@@ -174,14 +174,14 @@ module _ {K : Type 0} (g : Ghosts K) (n : ℕ) (old new : Store) (d : IsReleased
         };
         ordered = record {
           rises = subst R (sym released-content) sound.ordered.rises;
-          keys = subst S (sym turn-is) (keyed-unchanged g old new (depth_of old) (root_level old) same sound.ordered.keys);
+          keys = subst S (sym turn-is) (keyed-unchanged g old new (depth_of old) (root_level old) released-same sound.ordered.keys);
         };
       }
 
   pub released-exact : IsExact g old → IsExact g new
   released-exact exact =
       let P : List Spot → Type 0 = λ ss. Each (λ s. AreKeysExact g new s.above s.n) ss in
-      subst P (sym turn-is) (exact-unchanged g old new (depth_of old) (root_level old) same exact)
+      subst P (sym turn-is) (exact-unchanged g old new (depth_of old) (root_level old) released-same exact)
 
   pub released-stray : (m : ℕ) → m ≢ n → IsStray g new m ↔ IsStray g old m
   released-stray m ne =

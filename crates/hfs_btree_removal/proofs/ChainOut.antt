@@ -1,5 +1,5 @@
 -- A pair that is taken out together with the nodes that held nothing else.
-use Rattle.std.proofs.Common.{◌≡◌, ◌≢◌, ℕ, zero, suc, ◌+◌, ◌-◌, ◌<◌, ◌≤◌, List, [], ◌∷◌, ◌++◌, length, map, get_or, take, drop, refl, sym, ap, ◌∙◌, subst, arith, length-append}
+use Rattle.std.proofs.Common.{◌≡◌, ◌≢◌, ℕ, zero, suc, ◌<◌, ◌≤◌, List, [], ◌∷◌, ◌++◌, length, map, get_or, refl, sym, ap, ◌∙◌, subst, arith, length-append}
 use Rattle.std.specs.Prelude.{Ok, remove, Option, Some, None, ◌==◌, if◌then◌else◌}
 use Rattle.std.specs.List.{flat_map}
 use Rattle.std.specs.Cmp.{IsTotalOrder}
@@ -9,33 +9,34 @@ use Rattle.hfs_node.specs.declared.kind.NodeKind.TheVariants.{Leaf, Index}
 use Rattle.hfs_btree_removal.specs.declared.down.Step.{Step}
 use Rattle.hfs_btree.specs.declared.header.Header.{Header}
 use Rattle.hfs_btree.specs.declared.key.Key.{Ghosts}
-use Rattle.hfs_btree_edits.specs.Edits.{without_pair}
 use Rattle.hfs_btree.specs.Pairs.{Pairs}
 use Rattle.hfs_scans.specs.Each.{Each}
 use Rattle.hfs_scans.specs.Members.{In, each_in}
 use Rattle.hfs_btree.specs.Tree.{Store, Spot, node_in, records_in, records_of, children, pair_of, pairs, first_of, last_of, spots, under}
-use Rattle.hfs_btree.specs.Header.{header_in, record_in, depth_of, root_level, leaves, tree_content}
-use Rattle.hfs_btree.specs.Sound.{IsRight, IsSound, IsExact, AreKeysInOrder, first_key}
+use Rattle.hfs_btree.specs.Header.{header_in, record_in, depth_of, leaves, own_nodes, tree_turn, tree_nodes}
+use Rattle.hfs_btree.specs.Sound.{IsOther, IsRight, IsSound, IsExact, AreKeysInOrder, first_key}
 use Rattle.hfs_btree_removal.specs.Removal.{HasTold, HasPassedUp, HasTakenOut, HasDetached, AreUnlinkable, AreStepsUnlinked, AreReleased, AreSettable, AreStray, IsWayBelow, fewer, last_left, last_right, backward_of}
-use Rattle.hfs_btree_edits.specs.Stored.{HasNewHeader}
+use Rattle.hfs_btree_edits.specs.Stored.{HasNewHeader, bytes_in}
+use Rattle.hfs_scans.specs.Elements.{each-left, each-right, each-unmap}
 use Rattle.hfs_btree_removal.specs.Ways.{IsWayTo}
 use Rattle.hfs_btree.specs.Levels.{each-spots}
 use Rattle.hfs_btree_removal.proofs.Chains.{Cut, with_node, IsChain, bottom}
-use Rattle.hfs_btree_removal.proofs.CutsUnlinked.{AreAt, cuts-unlinked, all-can, left-is, right-is}
-use Rattle.hfs_btree_removal.proofs.Detached.{IsDetached}
+use Rattle.hfs_btree_removal.proofs.CutsUnlinked.{AreAt, beside-all, cuts-unlinked, all-can, left-is, right-is}
+use Rattle.hfs_btree_removal.proofs.Detached.{IsDetached, others, old-numbers}
 use Rattle.hfs_btree_removal.proofs.DetachedOrder.{at-bottom, new-leaves, old-leaves, old-content, gone, sound-is}
 use Rattle.hfs_btree_removal.proofs.ExactBut.{IsExactBut, detached-exact, exact-for}
 use Rattle.hfs_btree_removal.proofs.Firsts.{at-level}
-use Rattle.hfs_btree_edits.specs.LevelParts.{lift, lift-is}
+use Rattle.hfs_btree_edits.specs.LevelParts.{lift, lift-is, numbers}
 use Rattle.hfs_btree_removal.proofs.Links.{last_or}
 use Rattle.hfs_btree_removal.proofs.Overs.{in-flat, in-chain, parts-second}
 use Rattle.hfs_btree_removal.proofs.Parting.{CS, bc, hc, levels, some-below, distinct-below, same-p, fields, has-header, was-p, is-p, kept-U, kept-before, kept-behind, gaps-three, stray-chain}
-use Rattle.hfs_btree_removal.proofs.Passed.{high, told-none}
-use Rattle.hfs_btree_removal.proofs.Removed.{removed-keeps, removed-content, removed-free, removed-depth}
+use Rattle.hfs_btree_removal.proofs.Passed.{high}
+use Rattle.hfs_btree_removal.proofs.StepsUnlinked.{unlinked-bytes}
+use Rattle.hfs_btree_removal.proofs.Removed.{removed-keeps, removed-gains, removed-content, removed-free, removed-depth}
 use Rattle.hfs_btree_removal.proofs.ReleasedSteps.{nodes-of}
 use Rattle.hfs_btree_removal.proofs.Unlinked.{HasGaps, Some as IsSome, all-gaps}
 use Rattle.hfs_btree_removal.proofs.WayLevels.{high-is, chain-of, at-cuts, bottom-is, final, left-final, right-final}
-use Rattle.hfs_btree_removal.proofs.WayOut.{root, parts, deep-by, at, within, many, equal-final, settable3, told4, exact4, first-stays}
+use Rattle.hfs_btree_removal.proofs.WayOut.{parts, deep-by, at, within, many, equal-final, settable3, told4, exact4, first-stays}
 use Rattle.hfs_btree_removal.proofs.Ends.{first-end, last-end, CanTake, can-take, at-nodes, stray-steps}
 
 module _ {K : Type 0} (g : Ghosts K) (total : IsTotalOrder g.compare) (old : Store) (sound : IsSound g old) (above : List Step) (p s : Step) (bs : List Step) (w : IsWayBelow g old above p (s ∷ bs)) where
@@ -269,6 +270,19 @@ module _ {K : Type 0} (g : Ghosts K) (total : IsTotalOrder g.compare) (old : Sto
     len3 : length three ≡ length old
     len3 = d.put.stored.len ∙ d.taken.stored.len ∙ gaps'.len
 
+    -- beside header node and levels nothing was written
+    beside : (m : ℕ) → Each (IsOther m) (own_nodes old ++ tree_nodes g old) → bytes_in three m ≡ bytes_in old m
+    beside m o =
+        let own = each-left (IsOther m) (own_nodes old) (tree_nodes g old) o in
+        let levels = each-unmap (IsOther m) (λ (u : Spot). u.n) (tree_turn g old) (each-right (IsOther m) (own_nodes old) (tree_nodes g old) o) in
+        let at-p = at-level g old i (suc k) deep b p.node h (at g old above p ss w).split (λ (u : Spot). IsOther m u.n) levels in
+        let P : List ℕ → Type 0 = λ ns. Each (IsOther m) ns in
+        let below = each-right (IsOther m) (others g old three i k p.node p.place det sound.structure) (numbers (flat_map with_node cuts')) (subst P (old-numbers g old three i k p.node p.place det sound.structure) o) in
+        let some : m ≢ 0 = λ e. own.0 (sym e) in
+        d.put.stored.bytes m some
+        ∙ d.taken.stored.bytes m (λ e. at-p.1 (sym e))
+        ∙ unlinked-bytes old ss old d.one d.links m (beside-all g old m some cuts' ss at-chain are-levels are-distinct below)
+
     -- ---- the chain is given back
 
     module _ (four : Store) (told : HasTold g three four) where
@@ -291,6 +305,7 @@ module _ {K : Type 0} (g : Ghosts K) (total : IsTotalOrder g.compare) (old : Sto
 
         pub chain-out : HasTakenOut g (above ++ p ∷ ss) old new
         chain-out = record {
+          gains = removed-gains g total old three four new i k p.node p.place det sound len3 told exact given' beside;
           keeps = removed-keeps g total old three four new i k p.node p.place det sound len3 told exact given';
           content = λ t way. removed-content g total old three four new i k p.node p.place det sound len3 told exact given' t (equal t way);
           depth = let e = removed-depth g total old three four new i k p.node p.place det sound len3 told exact given' in omega arith;

@@ -1,25 +1,22 @@
 -- Edits one after the other.
-use Rattle.std.proofs.Common.{◌≡◌, ◌≢◌, ℕ, zero, suc, ◌+◌, ◌<◌, ◌≤◌, List, [], ◌∷◌, ◌++◌, length, map, refl, sym, ap, ◌∙◌, subst, arith, inl, inr, length-append}
+use Rattle.std.proofs.Common.{◌≡◌, ◌≢◌, ℕ, ◌+◌, List, [], ◌∷◌, length, refl, sym, ap, ◌∙◌, subst, arith, inl, inr}
 use Rattle.std.specs.Prelude.{◌↔◌, ◌⊎◌}
-use Rattle.std.specs.List.{flat_map}
-use Rattle.std.specs.Cmp.{IsTotalOrder}
-use Rattle.std.specs.declared.cmp.Ordering.TheVariants.{Equal}
 use Rattle.std.proofs.lemmas.Bool.{cases_eq}
-use Rattle.std.proofs.lemmas.List.{length-map}
 use Rattle.hfs_btree.specs.declared.header.Header.{Header}
 use Rattle.hfs_btree.specs.declared.key.Key.{Ghosts}
-use Rattle.hfs_btree.specs.Pairs.{Pairs}
 use Rattle.hfs_scans.specs.Each.{Each}
 use Rattle.hfs_scans.specs.Members.{In}
 use Rattle.hfs_scans.specs.Elements.{each-left, each-right}
-use Rattle.hfs_btree_edits.specs.Edits.{without_pair}
-use Rattle.hfs_btree_removal.specs.Removal.{KeepsSound, HasLost}
+use Rattle.hfs_btree_removal.specs.Removal.{KeepsSound}
 pub use Rattle.hfs_btree_removal.specs.Removal.{AreReleased}
-use Rattle.hfs_btree.specs.Tree.{Store, Spot, records_in}
+use Rattle.hfs_btree.specs.Tree.{Store, Spot}
 use Rattle.hfs_btree.specs.Header.{header_in, depth_of, map_nodes, map_bytes, own_nodes, free_nodes, tree_content, tree_turn, tree_nodes}
-use Rattle.hfs_btree.specs.Sound.{IsOther, IsSound, IsExact, IsStray, KeepsFrame}
+use Rattle.hfs_btree.specs.Sound.{IsOther, IsSound, IsExact, IsStray}
 use Rattle.hfs_btree_edits.specs.LevelParts.{numbers}
-use Rattle.hfs_btree_removal.proofs.Chains.{Cut, with_node, without_node, numbers-fewer}
+use Rattle.hfs_node.specs.Laid.{IsZeroFrom}
+use Rattle.hfs_btree_edits.specs.KeptKeys.{tree_keys, EachKey, own-keys}
+use Rattle.hfs_btree_edits.specs.Stored.{bytes_in}
+use Rattle.hfs_btree_removal.proofs.KeysKept.{keys-then, released-keys}
 use Rattle.hfs_btree_edits.specs.Headed.{map_nodes-is, map_bytes-is, free-is}
 use Rattle.hfs_btree_removal.proofs.Lowered.{IsLowered, lowered-sound, lowered-exact, lowered-stray, content-same, old-nodes, new-nodes}
 use Rattle.hfs_btree_edits.specs.Released.{IsReleased, released-sound, released-exact, released-stray, released-gone, released-content, released-turn, one-more}
@@ -129,6 +126,9 @@ module _ {K : Type 0} (g : Ghosts K) where
     pub stray : (m : ℕ) → Each (λ n. n ≢ m) ns → IsStray g new m ↔ IsStray g old m
     pub less : (m : ℕ) → IsStray g new m → IsStray g old m
     pub gone : (m : ℕ) → In m ns → IsStray g new m → ⊥
+    pub keys : EachKey g (λ k. In k (tree_keys g old)) new
+    pub blank : (m : ℕ) → In m ns → IsZeroFrom 0 512 (bytes_in new m)
+    pub bytes : (m : ℕ) → Each (λ n. n ≢ m) ns → Each (IsOther m) (own_nodes old) → bytes_in new m ≡ bytes_in old m
 
   given-none : (old new : Store) → IsSound g old → old ≡ new → HasGiven [] old new
   given-none old new sound e =
@@ -148,6 +148,9 @@ module _ {K : Type 0} (g : Ghosts K) where
         stray = λ m h. (λ s. s, λ s. s);
         less = λ m s. s;
         gone = λ m i s. i;
+        keys = own-keys g old;
+        blank = λ m i. absurd i;
+        bytes = λ m o own. refl;
       })
 
   stray-less : (n : ℕ) (old mid : Store) (d : IsReleased g n old mid) (sound : IsSound g old) (m : ℕ) → IsStray g mid m → IsStray g old m
@@ -155,6 +158,22 @@ module _ {K : Type 0} (g : Ghosts K) where
       elim (cases_eq m n) [
         | inl e ↦ (let P : ℕ → Type 0 = λ x. IsStray g mid x in absurd (released-gone g n old mid d sound (subst P e s)))
         | inr ne ↦ (released-stray g n old mid d sound m ne).0 s
+      ]
+
+  own-later : (n : ℕ) (old mid : Store) (d : IsReleased g n old mid) (m : ℕ) → Each (IsOther m) (own_nodes old) → Each (IsOther m) (own_nodes mid)
+  own-later n old mid d m own =
+      let P : List ℕ → Type 0 = λ xs. Each (IsOther m) (0 ∷ xs) in
+      subst P (sym (Rattle.hfs_btree_edits.specs.Kept.map_nodes-same old mid (ap (λ (x : Header). x.nodes) d.header) d.onward d.onwards)) own
+
+  -- a node that was given back stays blank
+  blank-later : (n : ℕ) (ns : List ℕ) (old mid new : Store) → IsReleased g n old mid → HasGiven ns mid new → IsZeroFrom 0 512 (bytes_in new n)
+  blank-later n ns old mid new d rest =
+      elim (either n ns) [
+        | inl i ↦ rest.blank n i
+        | inr o ↦
+            (let P : List ℕ → Type 0 = λ bs. IsZeroFrom 0 512 bs in
+            let own = each-left (IsOther n) (own_nodes old) (tree_nodes g old) d.stray.other in
+            subst P (sym (rest.bytes n o (own-later n old mid d n own))) d.blank)
       ]
 
   pub all-given : (ns : List ℕ) (old new : Store) → IsSound g old → AreReleased g ns old new → HasGiven ns old new
@@ -183,4 +202,10 @@ module _ {K : Type 0} (g : Ghosts K) where
           | inl e ↦ (let P : ℕ → Type 0 = λ x. IsStray g mid x in released-gone g n old mid d sound (subst P (sym e) (rest.less m s)))
           | inr j ↦ rest.gone m j s
         ];
+        keys = keys-then g old mid new (released-keys g n old mid d sound) rest.keys;
+        blank = λ m i. elim i as (λ x. IsZeroFrom 0 512 (bytes_in new m)) [
+          | inl e ↦ (let P : ℕ → Type 0 = λ x. IsZeroFrom 0 512 (bytes_in new x) in subst P e (blank-later n ns old mid new d rest))
+          | inr j ↦ rest.blank m j
+        ];
+        bytes = λ m o own. rest.bytes m o.1 (own-later n old mid d m own) ∙ d.bytes m (λ e. o.0 (sym e)) own;
       }

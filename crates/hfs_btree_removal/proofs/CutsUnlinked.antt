@@ -1,12 +1,10 @@
 -- The nodes of a chain, as steps and as cuts of their levels.
-use Rattle.std.proofs.Common.{◌≡◌, ◌≢◌, ℕ, zero, suc, ◌+◌, ◌<◌, ◌≤◌, List, [], ◌∷◌, ◌++◌, length, map, refl, sym, ap, ◌∙◌, subst, arith}
-use Rattle.std.specs.Prelude.{Ok, Result}
+use Rattle.std.proofs.Common.{◌≡◌, ◌≢◌, ℕ, ◌<◌, List, [], ◌∷◌, ◌++◌, length, refl, sym, ap, ◌∙◌, subst, arith}
 use Rattle.std.specs.List.{flat_map}
-use Rattle.hfs_node.specs.declared.node.Node.{Node}
 use Rattle.hfs_btree_removal.specs.declared.down.Step.{Step}
 use Rattle.hfs_btree.specs.declared.key.Key.{Ghosts}
 use Rattle.hfs_scans.specs.Each.{Each}
-use Rattle.hfs_scans.specs.Elements.{each-left, each-right, each-append}
+use Rattle.hfs_scans.specs.Elements.{each-left, each-right}
 use Rattle.hfs_btree.specs.Tree.{Store, Spot, node_in, forward_of, first_of, spots}
 use Rattle.hfs_btree.specs.Sound.{IsOther, IsDistinct, IsRight}
 use Rattle.hfs_btree_removal.specs.Removal.{HasUnlinked, IsUnlinkable, IsClear, AreUnlinkable, AreStepsUnlinked, backward_of}
@@ -161,3 +159,19 @@ module _ {K : Type 0} (g : Ghosts K) (base : Store) where
         subst C (sym at.0) (all-clear cut h.0 own ss (at-steps Some cs ss at.1 some') (at-steps (λ m. Each (IsOther m) level) cs ss at.1 (cross-back level below d'))),
         all-can cs ss at.1 h.1 some' (distinct-right level below d'),
       )
+
+  -- a node of none of the levels is no neighbour of any step's node
+  pub beside-all : (m : ℕ) → m ≢ 0 → (cs : List Cut) (ss : List Step) → AreAt cs ss → Each IsLevel cs → IsDistinct (numbers (flat_map with_node cs)) → Each (IsOther m) (numbers (flat_map with_node cs))
+      → Each (λ (s : Step). (m ≢ backward_of (node_in base s.node)) × (m ≢ forward_of (node_in base s.node))) ss
+  beside-all m some [] [] at h d o = tt
+  beside-all m some [] (s ∷ ss) at h d o = absurd at
+  beside-all m some (cut ∷ cs) [] at h d o = absurd at
+  beside-all m some (cut ∷ cs) (s ∷ ss) at h d o =
+      let level = cut.front ++ cut.n ∷ cut.back in
+      let below = numbers (flat_map with_node cs) in
+      let P : List ℕ → Type 0 = λ ns. Each (IsOther m) ns in
+      let Q : List ℕ → Type 0 = λ ns. IsDistinct ns in
+      let o' = subst P (numbers-with cut cs) o in
+      let d' = subst Q (numbers-with cut cs) d in
+      let N : ℕ → Type 0 = λ n. (m ≢ backward_of (node_in base n)) × (m ≢ forward_of (node_in base n)) in
+      (subst N (sym at.0) (clear-of cut h.0 (distinct-left level below d') m some (each-left (IsOther m) level below o')), beside-all m some cs ss at.1 h.1 (distinct-right level below d') (each-right (IsOther m) level below o'))

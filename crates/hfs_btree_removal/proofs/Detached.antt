@@ -1,26 +1,27 @@
 -- An index node from which a record was taken out, and with it the nodes below it, which had one record each.
-use Rattle.std.proofs.Common.{◌≡◌, ◌≢◌, ℕ, zero, suc, ◌+◌, ◌<◌, ◌≤◌, true, List, [], ◌∷◌, ◌++◌, length, map, get_or, take, drop, refl, sym, ap, ◌∙◌, subst, arith, append_assoc, inl, inr}
-use Rattle.std.specs.Prelude.{Ok, Err, Result, remove, ◌⊎◌}
+use Rattle.std.proofs.Common.{◌≡◌, ◌≢◌, ℕ, suc, ◌<◌, ◌≤◌, true, List, [], ◌∷◌, ◌++◌, length, map, get_or, take, drop, refl, sym, ap, ◌∙◌, subst, arith, append_assoc}
+use Rattle.std.specs.Prelude.{Ok, Result, remove}
 use Rattle.std.specs.List.{flat_map}
 use Rattle.std.proofs.lemmas.List.{map-append}
 use Rattle.std.proofs.lemmas.List.Concat.{flat_map-append}
 use Rattle.hfs_node.specs.declared.node.Node.{Node}
 use Rattle.hfs_node.specs.declared.fault.NodeFault.{NodeFault}
-use Rattle.hfs_btree.specs.declared.header.Header.{Header as HeaderRecord}
 use Rattle.hfs_btree.specs.declared.key.Key.{Ghosts}
-use Rattle.hfs_btree.specs.Pairs.{Pairs}
 use Rattle.hfs_scans.specs.Each.{Each}
 use Rattle.hfs_scans.specs.Elements.{each-append, each-left, each-right, each-mono}
-use Rattle.hfs_btree.specs.Tree.{Store, Spot, node_in, records_in, records_of, children, first_of, last_of, spots, turn, level_below, last_level, reads_at}
-use Rattle.hfs_btree.specs.Header.{header_in, depth_of, root_level, leaves, map_nodes, own_nodes, tree_turn, tree_nodes}
+use Rattle.hfs_btree.specs.Tree.{Store, Spot, node_in, records_in, records_of, children, first_of, last_of, spots, turn, level_below, reads_at}
+use Rattle.hfs_btree.specs.Header.{header_in, depth_of, root_level, leaves, own_nodes, tree_turn, tree_nodes}
 use Rattle.hfs_btree.specs.Sound.{IsOther, IsDistinct, IsRight, IsStray, HasStructure}
 use Rattle.hfs_btree.specs.Descent.{next-split}
 use Rattle.hfs_btree_edits.specs.EditedOrder.{each-flat}
-use Rattle.hfs_btree_edits.specs.LevelParts.{lift, upper, numbers, numbers-spots, at-spots, of-spots, turn-split, upper-kept, KeepsAt, KeepsRecords}
-use Rattle.hfs_btree_removal.proofs.Chains.{Cut, with_node, without_node, IsChain, cuts, bottom, turn-with, level-with, KeepsBeside, turn-without, level-without, distinct-without, other-without, other-with}
+use Rattle.hfs_btree_edits.specs.LevelParts.{lift, upper, numbers, numbers-spots, turn-split, upper-kept, KeepsAt, KeepsRecords}
+use Rattle.hfs_btree_removal.proofs.Chains.{Cut, with_node, without_node, IsChain, cuts, turn-with, KeepsBeside, turn-without, distinct-without, other-without, other-with}
 use Rattle.hfs_btree_removal.proofs.Links.{last_or, IsKept, IsFrontGap, IsBackGap, right-kept, spots-kept, gap-linked, gap-records}
-use Rattle.hfs_btree_edits.specs.Headed.{HasNewHeader, map_nodes-is, own_nodes-is, marked-on, marked-back, has_header, has_map}
+use Rattle.hfs_btree_edits.specs.Headed.{HasNewHeader, own_nodes-is, marked-on, marked-back, has_header, has_map}
 use Rattle.hfs_btree_removal.proofs.PartsLess.{map-remove, each-remove, length-remove'}
+use Rattle.hfs_btree.specs.Levels.{each-spots}
+use Rattle.hfs_btree_edits.specs.KeptKeys.{EachKey}
+use Rattle.hfs_btree_removal.proofs.KeysKept.{HaveKeys, kept-has, all-have, spots-of}
 
 -- the level is linked over the node that leaves it
 pub record HasGap (old new : Store) (cut : Cut) : Type 0 where
@@ -260,3 +261,75 @@ module _ {K : Type 0} (g : Ghosts K) (old new : Store) (i k p q : ℕ) (d : IsDe
         other = subst P (sym old-numbers)
             (each-append (IsOther m) others (numbers (flat_map with_node cs)) (each-left (IsOther m) others (numbers (flat_map without_node cs)) o) (other-with m cs none (each-right (IsOther m) others (numbers (flat_map without_node cs)) o)));
       }
+
+  -- ---- its numbers and its keys are of the old one
+
+  pub nodes-fewer : (m : ℕ) → Each (IsOther m) (tree_nodes g old) → Each (IsOther m) (tree_nodes g new)
+  nodes-fewer m o =
+      let P : List ℕ → Type 0 = λ ns. Each (IsOther m) ns in
+      let was = subst P (ap numbers old-turn ∙ numbers-of (flat_map with_node cs)) o in
+      let rest = each-right (IsOther m) (numbers uppers) (above-level ++ numbers (flat_map with_node cs)) was in
+      subst P (sym (ap numbers new-turn ∙ numbers-of (flat_map without_node cs)))
+      (each-append (IsOther m) (numbers uppers) (above-level ++ numbers (flat_map without_node cs)) (each-left (IsOther m) (numbers uppers) (above-level ++ numbers (flat_map with_node cs)) was)
+      (each-append (IsOther m) above-level (numbers (flat_map without_node cs)) (each-left (IsOther m) above-level (numbers (flat_map with_node cs)) rest)
+      (other-without m cs (each-right (IsOther m) above-level (numbers (flat_map with_node cs)) rest))))
+
+  -- and what is in none of the new levels nor of the chain is in none of the old
+  pub nodes-back : (m : ℕ) → Each (λ (cut : Cut). cut.n ≢ m) cs → Each (IsOther m) (tree_nodes g new) → Each (IsOther m) (tree_nodes g old)
+  nodes-back m none o =
+      let P : List ℕ → Type 0 = λ ns. Each (IsOther m) ns in
+      let is = subst P (ap numbers new-turn ∙ numbers-of (flat_map without_node cs)) o in
+      let rest = each-right (IsOther m) (numbers uppers) (above-level ++ numbers (flat_map without_node cs)) is in
+      subst P (sym (ap numbers old-turn ∙ numbers-of (flat_map with_node cs)))
+      (each-append (IsOther m) (numbers uppers) (above-level ++ numbers (flat_map with_node cs)) (each-left (IsOther m) (numbers uppers) (above-level ++ numbers (flat_map without_node cs)) is)
+      (each-append (IsOther m) above-level (numbers (flat_map with_node cs)) (each-left (IsOther m) above-level (numbers (flat_map without_node cs)) rest)
+      (other-with m cs none (each-right (IsOther m) above-level (numbers (flat_map without_node cs)) rest))))
+
+  module _ (T : K → Type 0) where
+    abbrev Had : Spot → Type 0
+    Had = HaveKeys g T old
+
+    abbrev Have : Spot → Type 0
+    Have = HaveKeys g T new
+
+    p-has : (left right : ℕ) → Had (record { left = left; n = p; right = right; above = suc k }) → Have (record { left = left; n = p; right = right; above = suc k })
+    p-has left right h = let P : List (List ℕ) → Type 0 = λ rs. Each (λ e. T (g.index_key e)) rs in subst P (sym new-es) (each-remove (λ e. T (g.index_key e)) es q h)
+
+    behind-has : (l : ℕ) (zs : List ℕ) → Each (IsKept old new) zs → Each Had (spots (suc k) l zs) → Each Have (spots (suc k) l zs)
+    behind-has l [] b h = tt
+    behind-has l (z ∷ zs) b h = (kept-has g T old new (record { left = l; n = z; right = first_of zs; above = suc k }) (ap records_of b.0) h.0, behind-has z zs b.1 h.1)
+
+    level-has : (left : ℕ) (xs ys : List ℕ) → Each (IsKept old new) xs → Each (IsKept old new) ys → Each Had (spots (suc k) left (xs ++ p ∷ ys)) → Each Have (spots (suc k) left (xs ++ p ∷ ys))
+    level-has left [] ys a b h = (p-has left (first_of ys) h.0, behind-has p ys b h.1)
+    level-has left (x ∷ xs) ys a b h =
+        (kept-has g T old new (record { left = left; n = x; right = first_of (xs ++ p ∷ ys); above = suc k }) (ap records_of a.0) h.0, level-has x xs ys a.1 b h.1)
+
+    cut-has : (cut : Cut) → KeepsBeside g old new cut → Each Had (with_node cut) → Each Have (without_node cut)
+    cut-has cut keep h =
+        let N : ℕ → Type 0 = λ m. HaveKeys g T old (record { left = 0; n = m; right = 0; above = cut.above }) in
+        let M : ℕ → Type 0 = λ m. HaveKeys g T new (record { left = 0; n = m; right = 0; above = cut.above }) in
+        let all = each-spots Had N cut.above (λ l m r x. x) 0 (cut.front ++ cut.n ∷ cut.back) h in
+        let left = each-append N cut.front cut.back (each-left N cut.front (cut.n ∷ cut.back) all) (each-right N cut.front (cut.n ∷ cut.back) all).1 in
+        spots-of Have M cut.above (λ l m r x. x) 0 (cut.front ++ cut.back) (zip-has cut.above (cut.front ++ cut.back) keep left)
+      where
+        zip-has : (a : ℕ) (ms : List ℕ) → Each (KeepsRecords g old new) ms → Each (λ m. HaveKeys g T old (record { left = 0; n = m; right = 0; above = a })) ms
+            → Each (λ m. HaveKeys g T new (record { left = 0; n = m; right = 0; above = a })) ms
+        zip-has a [] e x = tt
+        zip-has a (m ∷ ms) e x = (kept-has g T old new (record { left = 0; n = m; right = 0; above = a }) e.0 x.0, zip-has a ms e.1 x.1)
+
+    cuts-have : (xs : List Cut) → Each (KeepsBeside g old new) xs → Each (λ cut. Each Had (with_node cut)) xs → Each (λ cut. Each Have (without_node cut)) xs
+    cuts-have [] e h = tt
+    cuts-have (cut ∷ xs) e h = (cut-has cut e.0 h.0, cuts-have xs e.1 h.1)
+
+    all-had : EachKey g T old → Each Had (uppers ++ (spots (suc k) 0 above-level ++ flat_map with_node cs))
+    all-had h = let P : List Spot → Type 0 = λ ss. Each Had ss in subst P old-turn h
+
+    pub detached-keys : EachKey g T old → EachKey g T new
+    detached-keys h =
+        let P : List Spot → Type 0 = λ ss. Each Have ss in
+        let all = all-had h in
+        let rest = each-right Had uppers (spots (suc k) 0 above-level ++ flat_map with_node cs) all in
+        subst P (sym new-turn)
+        (each-append Have uppers (spots (suc k) 0 above-level ++ flat_map without_node cs) (all-have g T old new uppers uppers-keep (each-left Had uppers (spots (suc k) 0 above-level ++ flat_map with_node cs) all))
+        (each-append Have (spots (suc k) 0 above-level) (flat_map without_node cs) (level-has 0 d.before d.behind d.before_kept d.behind_kept (each-left Had (spots (suc k) 0 above-level) (flat_map with_node cs) rest))
+        (flat-each Have cs (cuts-have cs beside (each-flat Had with_node cs (each-right Had (spots (suc k) 0 above-level) (flat_map with_node cs) rest))))))

@@ -1,19 +1,17 @@
 -- The order and the content of a tree from which nodes with one record each have left.
-use Rattle.std.proofs.Common.{◌≡◌, ◌≢◌, ℕ, zero, suc, ◌+◌, ◌-◌, ◌<◌, ◌≤◌, true, List, [], ◌∷◌, ◌++◌, length, map, get_or, take, drop, refl, sym, ap, ◌∙◌, subst, arith, append_assoc, append-nil, length-append}
+use Rattle.std.proofs.Common.{◌≡◌, ℕ, zero, suc, ◌+◌, ◌<◌, List, [], ◌∷◌, ◌++◌, length, map, get_or, take, drop, refl, sym, ap, ◌∙◌, subst, arith, length-append}
 use Rattle.std.specs.Prelude.{remove}
 use Rattle.std.specs.List.{flat_map}
 use Rattle.std.specs.Cmp.{IsTotalOrder}
 use Rattle.std.specs.declared.cmp.Ordering.TheVariants.{Equal}
-use Rattle.std.proofs.lemmas.List.{length-map}
 use Rattle.std.proofs.lemmas.List.Concat.{flat_map-append}
-use Rattle.hfs_btree.specs.declared.header.Header.{Header as HeaderRecord}
 use Rattle.hfs_btree.specs.declared.key.Key.{Ghosts}
 use Rattle.hfs_btree_edits.specs.Edits.{without_pair}
-use Rattle.hfs_btree.specs.Pairs.{Order, Pairs, Rises, IsAbove, IsAtMost}
+use Rattle.hfs_btree.specs.Pairs.{Order, Pairs, Rises}
 use Rattle.hfs_scans.specs.Each.{Each}
 use Rattle.hfs_scans.specs.Elements.{each-append, each-left, each-right, each-mono}
 use Rattle.hfs_btree.specs.Tree.{Store, Spot, node_in, records_in, records_of, children, pair_of, pairs, spots, first_of, last_of, turn, under, level_below, last_level}
-use Rattle.hfs_btree.specs.Header.{header_in, depth_of, root_level, free_nodes, leaves, tree_content, tree_turn}
+use Rattle.hfs_btree.specs.Header.{header_in, root_level, leaves, tree_content, tree_turn}
 use Rattle.hfs_btree.specs.Sound.{IsSound, IsRight, AreKeysInOrder, ArePartsInOrder, part_of, HasCounts}
 use Rattle.hfs_btree.specs.Levels.{each-spots, map-split, under-some}
 use Rattle.hfs_btree_edits.specs.Kept.{flat_map-same}
@@ -24,8 +22,8 @@ use Rattle.hfs_btree_edits.specs.Bounds.{KeepsBounds, bounds-same}
 use Rattle.hfs_btree_edits.specs.LevelParts.{lift, upper, at-spots, KeepsAt, KeepsRecords, KeepsUnder, parts-kept, under-kept, children-kept, level-kept, turn-keyed}
 use Rattle.hfs_btree_removal.proofs.PartsLess.{map-remove, parts-drop}
 use Rattle.hfs_btree_removal.proofs.Chains.{Cut, with_node, without_node, fronts, backs, only_child, IsChain, cuts, bottom, level-with, KeepsBeside, level-without, turn-fronts, turn-backs}
-use Rattle.hfs_btree_edits.specs.Headed.{HasNewHeader, free-is}
-use Rattle.hfs_btree_removal.proofs.Detached.{IsDetached, es, c, bc, hc, cs, uppers, above-level, place, old-turn, new-turn, new-below, beside, uppers-keep, right-cuts, right-above, new-es, same-root, structure-is}
+use Rattle.hfs_btree_edits.specs.Headed.{free-is}
+use Rattle.hfs_btree_removal.proofs.Detached.{IsDetached, es, c, bc, hc, cs, uppers, above-level, place, old-turn, new-turn, new-below, beside, uppers-keep, right-cuts, new-es, same-root, structure-is}
 
 -- ---- lists
 

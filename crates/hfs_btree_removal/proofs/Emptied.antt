@@ -1,16 +1,19 @@
 -- A tree of one leaf that has become empty; the leaf stays behind as a stray node.
-use Rattle.std.proofs.Common.{◌≡◌, ◌≢◌, ℕ, zero, suc, ◌<◌, ◌≤◌, List, [], ◌∷◌, ◌++◌, length, map, refl, sym, ap, ◌∙◌, subst, arith, append-nil}
+use Rattle.std.proofs.Common.{◌≡◌, ◌≢◌, ℕ, List, [], ◌∷◌, ◌++◌, length, map, sym, ap, ◌∙◌, subst, append-nil}
 use Rattle.std.specs.Prelude.{◌↔◌}
 use Rattle.std.specs.List.{flat_map}
 use Rattle.hfs_btree.specs.declared.key.Key.{Ghosts}
 use Rattle.hfs_btree.specs.Pairs.{Pairs, Rises}
 use Rattle.hfs_scans.specs.Each.{Each}
-use Rattle.hfs_scans.specs.Elements.{each-left, each-right, each-append}
-use Rattle.hfs_btree.specs.Tree.{Store, Spot, node_in, first_of, last_of, turn, last_level, pairs}
-use Rattle.hfs_btree.specs.Header.{header_in, depth_of, root_level, free_nodes, leaves, own_nodes, tree_content, tree_turn, tree_nodes}
+use Rattle.hfs_scans.specs.Elements.{each-left, each-append}
+use Rattle.hfs_btree.specs.Tree.{Store, Spot, first_of, last_of, turn, last_level, pairs}
+use Rattle.hfs_btree.specs.Header.{header_in, root_level, leaves, own_nodes, tree_content, tree_turn, tree_nodes}
 use Rattle.hfs_btree.specs.Sound.{IsOther, IsDistinct, IsRight, IsSound, IsExact, IsStray, AreKeysInOrder, AreKeysExact}
 use Rattle.hfs_btree_edits.specs.Distinct.{distinct-left, other-before}
-use Rattle.hfs_btree_edits.specs.Headed.{HasNewHeader, own_nodes-is, marked-on, marked-back, free-is, has_header, has_map}
+use Rattle.hfs_btree_edits.specs.KeptKeys.{tree_keys, EachKey}
+use Rattle.hfs_btree_removal.proofs.KeysKept.{HaveKeys}
+use Rattle.hfs_scans.specs.Members.{In}
+use Rattle.hfs_btree_edits.specs.Headed.{own_nodes-is, marked-on, marked-back, free-is, has_header, has_map}
 pub use Rattle.hfs_btree_removal.specs.Removal.{IsEmptied}
 
 module _ {K : Type 0} (g : Ghosts K) (old new : Store) (d : IsEmptied g old new) (sound : IsSound g old) where
@@ -31,6 +34,10 @@ module _ {K : Type 0} (g : Ghosts K) (old new : Store) (d : IsEmptied g old new)
 
   pub new-nodes : tree_nodes g new ≡ []
   new-nodes = ap (map (λ (s : Spot). s.n)) no-turn
+
+  -- it has no key
+  pub emptied-keys : EachKey g (λ x. In x (tree_keys g old)) new
+  emptied-keys = let P : List Spot → Type 0 = λ ss. Each (HaveKeys g (λ x. In x (tree_keys g old)) new) ss in subst P (sym no-turn) tt
 
   pub old-content : tree_content g old ≡ pairs g old r ++ []
   old-content = ap (λ (n : ℕ). flat_map (pairs g old) (last_level g old n (root_level old))) d.one

@@ -1,12 +1,11 @@
 -- The ends of a level of which a node has left; and what a record that is to be taken out asks.
 use Rattle.std.proofs.Common.{◌≡◌, ◌≢◌, ℕ, zero, suc, ◌+◌, ◌<◌, ◌≤◌, true, List, [], ◌∷◌, ◌++◌, length, map, get_or, set, refl, sym, ap, ◌∙◌, subst, arith}
-use Rattle.std.specs.Prelude.{Ok, Result, remove, ◌==◌, if◌then◌else◌}
-use Rattle.std.proofs.lemmas.Bool.{cond-true, cond-false, ne_eqb}
+use Rattle.std.specs.Prelude.{Ok, Result, ◌==◌, if◌then◌else◌}
+use Rattle.std.proofs.lemmas.Bool.{cond-false, ne_eqb}
 use Rattle.std.proofs.lemmas.List.{map-append}
 use Rattle.std.specs.List.{flat_map}
 use Rattle.hfs_node.specs.declared.node.Node.{Node}
 use Rattle.hfs_node.specs.declared.fault.NodeFault.{NodeFault}
-use Rattle.hfs_node.specs.declared.kind.NodeKind.{NodeKind}
 use Rattle.hfs_node.specs.declared.kind.NodeKind.TheVariants.{Leaf}
 use Rattle.hfs_btree_removal.specs.declared.down.Step.{Step}
 use Rattle.hfs_btree.specs.declared.key.Key.{Ghosts}
@@ -16,7 +15,7 @@ use Rattle.hfs_btree.specs.Tree.{Store, Spot, node_in, records_in, records_of, c
 use Rattle.hfs_btree.specs.Header.{depth_of, root_level, own_nodes, tree_turn, tree_nodes}
 use Rattle.hfs_btree.specs.Sound.{IsRight, IsDistinct, HasStructure}
 use Rattle.hfs_btree.specs.Decoded.{decoded-within}
-use Rattle.hfs_btree_removal.specs.Removal.{HasUnlinked, AreUnlinkable, AreStray}
+use Rattle.hfs_btree_removal.specs.Removal.{AreUnlinkable, AreStray}
 use Rattle.hfs_btree.specs.Sound.{IsOther, IsStray}
 use Rattle.hfs_btree_removal.specs.Ways.{IsStep, Leads}
 use Rattle.hfs_btree.specs.Descent.{next-split}

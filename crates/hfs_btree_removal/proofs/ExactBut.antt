@@ -1,6 +1,6 @@
 -- Trees that are exact but for the index keys over one node, whose first key has changed.
-use Rattle.std.proofs.Common.{◌≡◌, ◌≢◌, ℕ, zero, suc, ◌+◌, ◌<◌, ◌≤◌, List, [], ◌∷◌, ◌++◌, length, map, get_or, set, take, drop, refl, sym, ap, ◌∙◌, subst, arith, inl, inr}
-use Rattle.std.specs.Prelude.{remove, ⊤}
+use Rattle.std.proofs.Common.{◌≡◌, ◌≢◌, ℕ, zero, suc, List, [], ◌∷◌, ◌++◌, map, get_or, sym, ap, ◌∙◌, subst}
+use Rattle.std.specs.Prelude.{⊤}
 use Rattle.std.specs.List.{flat_map}
 use Rattle.std.specs.declared.cmp.Ordering.TheVariants.{Equal}
 use Rattle.hfs_btree.specs.declared.key.Key.{Ghosts}
@@ -11,7 +11,7 @@ use Rattle.hfs_btree.specs.Header.{record_in, depth_of, root_level, tree_turn}
 use Rattle.hfs_btree.specs.Sound.{IsExact, IsSound, IsRight, AreKeysExact, first_key}
 use Rattle.hfs_btree.specs.Levels.{each-spots}
 use Rattle.hfs_btree_edits.specs.EditedOrder.{each-flat, turn-step}
-use Rattle.hfs_btree_edits.specs.LevelParts.{KeepsAt, KeepsRecords, of-spots, at-spots}
+use Rattle.hfs_btree_edits.specs.LevelParts.{KeepsAt, KeepsRecords}
 use Rattle.hfs_btree_removal.proofs.PartsLess.{each-remove}
 use Rattle.hfs_btree_removal.proofs.Chains.{Cut, with_node, without_node, KeepsBeside}
 use Rattle.hfs_btree_removal.proofs.Detached.{IsDetached, es, cs, uppers, above-level, old-turn, new-turn, new-es, beside, uppers-keep}

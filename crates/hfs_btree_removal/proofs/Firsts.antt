@@ -1,5 +1,5 @@
 -- A node of a sound tree at its level, and its first key: at most the keys of all pairs under it.
-use Rattle.std.proofs.Common.{◌≡◌, ◌≢◌, ℕ, zero, suc, ◌+◌, ◌<◌, ◌≤◌, true, false, List, [], ◌∷◌, ◌++◌, length, map, get_or, take, drop, refl, sym, ap, ◌∙◌, subst, arith}
+use Rattle.std.proofs.Common.{◌≡◌, ℕ, zero, suc, ◌<◌, List, [], ◌∷◌, ◌++◌, length, map, get_or, refl, sym, ap, ◌∙◌, subst, arith}
 use Rattle.std.specs.List.{flat_map}
 use Rattle.std.specs.Cmp.{IsTotalOrder}
 use Rattle.std.specs.Ordering.{is_gt, ordering_reverse}
@@ -11,7 +11,7 @@ use Rattle.hfs_btree.specs.Pairs.{Order, Pairs, Rises, IsAtMost}
 use Rattle.hfs_scans.specs.Each.{Each}
 use Rattle.hfs_scans.specs.Elements.{each-mono, each-left, each-right, each-unmap}
 use Rattle.hfs_btree.specs.Tree.{Store, Spot, records_in, children, pair_of, pairs, first_of, spots, turn, under, level_below, last_level}
-use Rattle.hfs_btree.specs.Header.{header_in, depth_of, root_level, leaves, tree_turn, tree_content}
+use Rattle.hfs_btree.specs.Header.{depth_of, root_level, leaves, tree_turn}
 use Rattle.hfs_btree.specs.Sound.{IsRight, IsSound, HasStructure, AreKeysInOrder, ArePartsInOrder, part_of, first_key}
 use Rattle.hfs_btree.specs.Levels.{at-spot, under-some, records-some}
 use Rattle.hfs_btree.specs.Descent.{content-about}

@@ -1,5 +1,5 @@
 -- What a written header record makes of a tree's header node.
-use Rattle.std.proofs.Common.{◌≡◌, ◌≢◌, ℕ, zero, suc, ◌+◌, ◌-◌, ◌<◌, ◌≤◌, List, [], ◌∷◌, length, map, get_or, set, refl, sym, ap, ◌∙◌, subst, arith}
+use Rattle.std.proofs.Common.{◌≡◌, ◌≢◌, ℕ, ◌+◌, ◌-◌, ◌<◌, ◌≤◌, List, [], ◌∷◌, length, map, get_or, set, refl, sym, ap, ◌∙◌, subst, arith}
 use Rattle.std.specs.Prelude.{Ok, Result}
 use Rattle.std.proofs.lemmas.List.{length-set, get_or-set_same, get_or-set_other}
 use Rattle.hfs_node.specs.declared.node.Node.{Node}
@@ -11,7 +11,8 @@ use Rattle.hfs_btree_edits.specs.Stored.{HasHeaderPut}
 use Rattle.hfs_btree.specs.Tree.{Store, node_in, records_in, records_of, forward_of, first_of}
 use Rattle.hfs_btree.specs.Header.{header_of, header_in, record_in, depth_of, map_nodes, free_nodes, tree_content}
 use Rattle.hfs_btree.specs.Sound.{HasStructure, IsMapNode, IsSound, IsStray}
-use Rattle.hfs_btree_removal.specs.Removal.{KeepsSound}
+use Rattle.hfs_btree_removal.specs.Removal.{KeepsSound, GainsNothing}
+use Rattle.hfs_btree_removal.proofs.GainsRoot.{lowered-gains, emptied-gains}
 use Rattle.hfs_btree_removal.specs.Removal.{IsEmptied, IsLowered}
 use Rattle.hfs_btree_edits.specs.Stored.{IsReleased}
 use Rattle.hfs_node.specs.Node.{node_of}
@@ -98,6 +99,11 @@ module _ {K : Type 0} (g : Ghosts K) (old mid : Store) (sound : IsSound g old) (
       let P : ℕ → Type 0 = λ m. IsReleased g m mid new in
       last-keeps g old mid new p.stored.len is-emptied (subst P (ap (λ (x : Header). x.root) is) free) sound
 
+  pub dropped-gains : (new : Store) → IsReleased g h.root mid new → GainsNothing g old new
+  dropped-gains new free =
+      let P : ℕ → Type 0 = λ m. IsReleased g m mid new in
+      emptied-gains g old mid new p.stored.bytes (subst P (ap (λ (x : Header). x.root) is) free) sound is-emptied
+
   pub dropped-content : (new : Store) → IsReleased g h.root mid new → tree_content g new ≡ []
   dropped-content new free =
       let P : ℕ → Type 0 = λ m. IsReleased g m mid new in
@@ -163,6 +169,9 @@ module _ {K : Type 0} (g : Ghosts K) (old mid : Store) (sound : IsSound g old) (
 
     pub once-keeps : KeepsSound g old new
     once-keeps = given-keeps g old mid new (depth_of old - 2) p.stored.len is-lowered free' sound
+
+    pub once-gains : GainsNothing g old new
+    once-gains = lowered-gains g old mid new p.stored.bytes free' sound (depth_of old - 2) is-lowered
 
     pub once-content : tree_content g new ≡ tree_content g old
     once-content = given-content g old mid new (depth_of old - 2) p.stored.len is-lowered free' sound

@@ -6,7 +6,7 @@ use Rattle.hfs_btree_removal.specs.declared.down.Step.{Step}
 use Rattle.hfs_btree.specs.declared.key.Key.{Ghosts}
 use Rattle.hfs_scans.specs.Each.{Each}
 use Rattle.hfs_btree.specs.Tree.{Store, node_in, records_in, records_of}
-use Rattle.hfs_btree_removal.specs.Removal.{HasKeySet, IsSettable, AreSettable, AreKeysSet, IsEnded, HasPassedUp, AreBehindFirst}
+use Rattle.hfs_btree_removal.specs.Removal.{HasKeySet, AreSettable, AreKeysSet, IsEnded, HasPassedUp, AreBehindFirst}
 
 abbrev no-step : Step
 no-step = record { node = 0; place = 0; count = 0 }

@@ -1,5 +1,5 @@
 -- A pair that is taken out of a leaf that keeps others.
-use Rattle.std.proofs.Common.{◌≡◌, ◌≢◌, ℕ, zero, suc, ◌+◌, ◌-◌, ◌<◌, ◌≤◌, List, [], ◌∷◌, ◌++◌, length, map, get_or, take, drop, refl, sym, ap, ◌∙◌, subst, arith, length-append}
+use Rattle.std.proofs.Common.{◌≡◌, ◌≢◌, ℕ, zero, suc, ◌+◌, ◌<◌, ◌≤◌, List, [], ◌∷◌, ◌++◌, length, map, get_or, take, drop, refl, sym, ap, ◌∙◌, subst, arith, length-append}
 use Rattle.std.specs.Prelude.{Ok, remove, Option, Some, None}
 use Rattle.std.specs.List.{flat_map}
 use Rattle.std.specs.Cmp.{IsTotalOrder}
@@ -12,11 +12,11 @@ use Rattle.hfs_btree.specs.declared.key.Key.{Ghosts}
 use Rattle.hfs_btree.specs.Pairs.{Pairs, Rises}
 use Rattle.hfs_scans.specs.Each.{Each}
 use Rattle.hfs_scans.specs.Members.{In}
-use Rattle.hfs_btree_edits.specs.Stored.{HasHeaderPut}
+use Rattle.hfs_btree_edits.specs.Stored.{bytes_in}
+use Rattle.hfs_scans.specs.Elements.{each-left, each-right, each-unmap}
 use Rattle.hfs_btree.specs.Tree.{Store, Spot, node_in, records_in, records_of, pair_of, pairs, first_of, last_level, under}
-use Rattle.hfs_btree.specs.Header.{header_in, depth_of, root_level, leaves, tree_content}
-use Rattle.hfs_btree.specs.Sound.{IsRight, IsSound, IsExact, HasStructure, first_key}
-use Rattle.hfs_btree.specs.Descent.{content-about}
+use Rattle.hfs_btree.specs.Header.{header_in, depth_of, root_level, leaves, own_nodes, tree_turn, tree_nodes}
+use Rattle.hfs_btree.specs.Sound.{IsOther, IsRight, IsSound, IsExact, HasStructure, first_key}
 use Rattle.hfs_btree_removal.specs.Removal.{HasTold, HasPassedUp, HasTakenOut, HasDetached, HasRecordTaken, IsNewFirst, AreSettable, IsWayBelow, fewer, last_left, last_right}
 use Rattle.hfs_btree_edits.specs.Stored.{HasNewHeader, IsRecounted}
 use Rattle.hfs_btree_removal.specs.Ways.{IsWayTo}
@@ -30,9 +30,9 @@ use Rattle.hfs_btree_removal.proofs.Links.{IsKept}
 use Rattle.hfs_btree_removal.proofs.Overs.{in-map, leaf-second}
 use Rattle.hfs_btree_removal.proofs.Passed.{high}
 use Rattle.hfs_btree_removal.proofs.Removed.{taken-exact}
-use Rattle.hfs_btree_removal.proofs.RemovedRest.{leaf-keeps, leaf-content, leaf-depth}
+use Rattle.hfs_btree_removal.proofs.RemovedRest.{leaf-keeps, leaf-gains, leaf-content, leaf-depth}
 use Rattle.hfs_btree_removal.proofs.TakenLeaf.{gone, taken-height, taken-free, taken-turn, taken-header, taken-structure, taken-sound, was-content}
-use Rattle.hfs_btree_removal.proofs.WayOut.{root, parts, deep-by, at, within, many, equal-final, settable3, told4, exact4, first-stays}
+use Rattle.hfs_btree_removal.proofs.WayOut.{parts, deep-by, at, within, many, equal-final, settable3, told4, exact4, first-stays}
 use Rattle.hfs_btree_removal.proofs.Ends.{CanTake, can-take, same-value, upper-other, upper-right}
 
 module _ {K : Type 0} (g : Ghosts K) (total : IsTotalOrder g.compare) (old : Store) (sound : IsSound g old) (above : List Step) (p : Step) (w : IsWayBelow g old above p []) where
@@ -207,6 +207,14 @@ module _ {K : Type 0} (g : Ghosts K) (total : IsTotalOrder g.compare) (old : Sto
         let later : 0 < p.place = subst P is d.first in
         exact-for g three (λ n. Unit {0}) (λ n. tt) (exact-for-leaf (λ n. Unit {0}) (λ u. first-stays v.records p.place later) e)
 
+    -- beside header node and levels nothing was written
+    beside : (m : ℕ) → Each (IsOther m) (own_nodes old ++ tree_nodes g old) → bytes_in three m ≡ bytes_in old m
+    beside m o =
+        let own = each-left (IsOther m) (own_nodes old) (tree_nodes g old) o in
+        let levels = each-unmap (IsOther m) (λ (s : Spot). s.n) (tree_turn g old) (each-right (IsOther m) (own_nodes old) (tree_nodes g old) o) in
+        let at-p = at-level g old i zero deep b p.node h (at g old above p [] w).split (λ (s : Spot). IsOther m s.n) levels in
+        d.put.stored.bytes m (λ e. own.0 (sym e)) ∙ taken.stored.bytes m (λ e. at-p.1 (sym e))
+
     -- ---- all of it
 
     module _ (four : Store) (told : HasTold g three four) (exact : IsExact g old → IsExact g four) where
@@ -220,6 +228,7 @@ module _ {K : Type 0} (g : Ghosts K) (total : IsTotalOrder g.compare) (old : Sto
           let keeps = leaf-keeps g total old two three four sound b p.node h split v p.place lt more edit recount records3 free3 d.put.stored.len told exact in
           record {
             keeps = keeps;
+            gains = leaf-gains g total old two three four sound b p.node h split v p.place lt more edit recount records3 free3 d.put.stored.len told exact beside;
             content = λ t way. leaf-content g total old two three four sound b p.node h split v p.place lt more edit recount records3 free3 d.put.stored.len told exact t (equal t way);
             depth = (let e = leaf-depth g total old two three four sound b p.node h split v p.place lt more edit recount records3 free3 d.put.stored.len told exact in omega arith);
             free = (let a = told.free in let e = Rattle.hfs_btree_edits.specs.Headed.free-is g two three new-head in let f = taken-free g total old two sound b p.node h split v p.place lt more edit in omega arith);

@@ -1,3 +1,6 @@
+pub mod KeysKept
+pub mod Gains
+pub mod GainsRoot
 pub mod Chains
 pub mod Links
 pub mod PartsLess

@@ -1,13 +1,10 @@
 -- A level of which a node has left, and whose neighbours are linked to each other.
-use Rattle.std.proofs.Common.{◌≡◌, ◌≢◌, ℕ, zero, suc, ◌+◌, ◌<◌, ◌≤◌, List, [], ◌∷◌, ◌++◌, length, refl, sym, ap, ◌∙◌, subst, arith}
-use Rattle.std.specs.Prelude.{Ok}
-use Rattle.hfs_node.specs.declared.node.Node.{Node}
+use Rattle.std.proofs.Common.{◌≡◌, ℕ, ◌<◌, ◌≤◌, List, [], ◌∷◌, ◌++◌, refl, sym, ap, ◌∙◌, arith}
 use Rattle.hfs_btree.specs.declared.key.Key.{Ghosts}
 use Rattle.hfs_scans.specs.Each.{Each}
-use Rattle.hfs_scans.specs.Elements.{each-left, each-right}
 use Rattle.hfs_btree.specs.Tree.{Store, Spot, node_in, records_in, records_of, first_of, spots}
 use Rattle.hfs_btree.specs.Header.{header_in}
-use Rattle.hfs_btree.specs.Sound.{IsOther, IsDistinct, IsMarked, IsRight}
+use Rattle.hfs_btree.specs.Sound.{IsMarked, IsRight}
 pub use Rattle.hfs_btree_removal.specs.Removal.{IsForward, IsBackward}
 
 -- the last of a list, or what stands before it

@@ -3,7 +3,8 @@ use Rattle.std.proofs.Common.{◌≡◌, ◌≢◌, ℕ, ◌+◌, ◌-◌, ◌<�
 use Rattle.hfs_node.specs.Node.{node_of}
 use Rattle.hfs_btree.specs.declared.header.Header.{Header}
 use Rattle.hfs_btree.specs.declared.key.Key.{Ghosts}
-use Rattle.hfs_btree_removal.specs.Removal.{KeepsSound}
+use Rattle.hfs_btree_removal.specs.Removal.{KeepsSound, GainsNothing}
+use Rattle.hfs_btree_removal.proofs.Gains.{gains-none, gains-then}
 use Rattle.hfs_btree.specs.Header.{header_in, depth_of, free_nodes, tree_content}
 use Rattle.hfs_btree_removal.specs.Removal.{HasLowered}
 use Rattle.hfs_btree.specs.Sound.{IsSound}
@@ -21,14 +22,16 @@ module _ {K : Type 0} (g : Ghosts K) where
       frame = record { file = refl; nodes = refl; map = refl; map_length = refl; stray = λ m. (λ s. s, λ s. s) };
       free = refl;
     };
+    gains = gains-none g nodes;
     content = refl;
     depth = omega arith;
     free = omega arith;
   }
 
-  pub lowered-more : (old mid new : Store) → HasLowered g old mid → KeepsSound g mid new → tree_content g new ≡ tree_content g mid → depth_of new + 1 ≡ depth_of mid → free_nodes new ≡ free_nodes mid + 1 → HasLowered g old new
-  lowered-more old mid new a keeps content depth free = record {
+  pub lowered-more : (old mid new : Store) → IsSound g old → HasLowered g old mid → KeepsSound g mid new → GainsNothing g mid new → tree_content g new ≡ tree_content g mid → depth_of new + 1 ≡ depth_of mid → free_nodes new ≡ free_nodes mid + 1 → HasLowered g old new
+  lowered-more old mid new sound a keeps gains content depth free = record {
     keeps = keeps-then g old mid new a.keeps keeps;
+    gains = gains-then g old mid new sound a.keeps.frame.map a.gains gains;
     content = content ∙ a.content;
     depth = let d = a.depth in omega arith;
     free = let f = a.free in omega arith;

@@ -1,5 +1,5 @@
 -- A root with one child that has given way to it, and stays behind as a stray node.
-use Rattle.std.proofs.Common.{◌≡◌, ◌≢◌, ℕ, zero, suc, ◌+◌, ◌-◌, ◌<◌, ◌≤◌, List, [], ◌∷◌, ◌++◌, length, map, refl, sym, ap, ◌∙◌, subst, arith}
+use Rattle.std.proofs.Common.{◌≡◌, ◌≢◌, ℕ, suc, ◌≤◌, List, [], ◌∷◌, ◌++◌, length, map, sym, ap, ◌∙◌, subst, arith}
 use Rattle.std.specs.Prelude.{◌↔◌}
 use Rattle.std.specs.List.{flat_map}
 use Rattle.hfs_btree.specs.declared.header.Header.{Header}
@@ -7,12 +7,16 @@ use Rattle.hfs_btree.specs.declared.key.Key.{Ghosts}
 use Rattle.hfs_btree.specs.Pairs.{Pairs, Rises}
 use Rattle.hfs_scans.specs.Each.{Each}
 use Rattle.hfs_scans.specs.Elements.{each-mono, each-left, each-right, each-append}
-use Rattle.hfs_btree.specs.Tree.{Store, Spot, node_in, records_in, children, first_of, last_of, spots, turn, last_level, pairs}
-use Rattle.hfs_btree.specs.Header.{header_in, depth_of, root_level, free_nodes, leaves, own_nodes, tree_content, tree_turn, tree_nodes}
+use Rattle.hfs_btree.specs.Tree.{Store, Spot, records_of, children, first_of, last_of, spots, turn, last_level, pairs}
+use Rattle.hfs_btree.specs.Header.{header_in, root_level, leaves, own_nodes, tree_content, tree_turn, tree_nodes}
 use Rattle.hfs_btree.specs.Sound.{IsOther, IsDistinct, IsRight, IsSound, IsExact, IsStray, AreKeysInOrder, AreKeysExact}
 use Rattle.hfs_btree_removal.proofs.Chains.{only_child, below-cut, distinct-skip}
-use Rattle.hfs_btree_edits.specs.Distinct.{turn-nodes, other-before, other-behind}
-use Rattle.hfs_btree_edits.specs.Headed.{HasNewHeader, own_nodes-is, marked-on, marked-back, free-is, has_header, has_map}
+use Rattle.hfs_btree_removal.proofs.KeysKept.{HaveKeys, all-have}
+use Rattle.hfs_btree_edits.specs.KeptKeys.{tree_keys, EachKey, hold-keys}
+use Rattle.hfs_btree_edits.specs.LevelParts.{KeepsAt}
+use Rattle.hfs_scans.specs.Members.{In}
+use Rattle.hfs_btree_edits.specs.Distinct.{other-before, other-behind}
+use Rattle.hfs_btree_edits.specs.Headed.{own_nodes-is, marked-on, marked-back, free-is, has_header, has_map}
 use Rattle.hfs_btree_edits.specs.Unchanged.{IsUnchanged, turn-unchanged, last-unchanged, rights-unchanged, keyed-unchanged, exact-unchanged, content-unchanged}
 pub use Rattle.hfs_btree_removal.specs.Removal.{IsLowered}
 
@@ -116,6 +120,14 @@ module _ {K : Type 0} (g : Ghosts K) (old new : Store) (k : ℕ) (d : IsLowered 
           subst P (sym new-turn-is) (keyed-unchanged g old new (suc k) (c ∷ []) same (at-all (λ s. AreKeysInOrder g old s.above s.n) sound.ordered.keys)));
     };
   }
+
+  -- ---- its keys are keys of the old one
+
+  pub lowered-keys : EachKey g (λ x. In x (tree_keys g old)) new
+  lowered-keys =
+      hold-keys g old new
+      (λ T h. let P : List Spot → Type 0 = λ ss. Each (HaveKeys g T new) ss in
+      subst P (sym new-turn) (all-have g T old new below (each-mono (IsUnchanged old new) (KeepsAt g old new) below (λ s u. ap records_of u.same) same) (at-all (HaveKeys g T old) h)))
 
   pub lowered-exact : IsExact g old → IsExact g new
   lowered-exact exact =

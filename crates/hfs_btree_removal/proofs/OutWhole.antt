@@ -1,5 +1,5 @@
 -- A pair that is taken out, with a chain of nodes below it or none.
-use Rattle.std.proofs.Common.{◌≡◌, ◌≢◌, ℕ, zero, suc, ◌+◌, ◌-◌, ◌<◌, ◌≤◌, List, [], ◌∷◌, ◌++◌, length, get_or, take, drop, refl, sym, ap, ◌∙◌, subst, arith, length-append, length-drop}
+use Rattle.std.proofs.Common.{◌≡◌, ℕ, zero, suc, ◌+◌, ◌-◌, ◌<◌, ◌≤◌, List, [], ◌∷◌, ◌++◌, length, get_or, take, drop, refl, sym, ap, ◌∙◌, subst, arith, length-append, length-drop}
 use Rattle.std.specs.Prelude.{Option, Some, None}
 use Rattle.std.specs.Cmp.{IsTotalOrder}
 use Rattle.std.specs.List.{flat_map}
@@ -8,7 +8,7 @@ use Rattle.hfs_btree_removal.specs.declared.down.Step.{Step}
 use Rattle.hfs_btree.specs.declared.key.Key.{Ghosts}
 use Rattle.hfs_btree.specs.Pairs.{Pairs}
 use Rattle.hfs_btree.specs.Tree.{Store, node_in, records_in, records_of, pair_of, pairs, last_level}
-use Rattle.hfs_btree.specs.Header.{header_in, record_in, depth_of, root_level, leaves, tree_content}
+use Rattle.hfs_btree.specs.Header.{header_in, record_in, depth_of, root_level, leaves}
 use Rattle.hfs_btree.specs.Sound.{IsRight, IsSound, IsExact}
 use Rattle.hfs_btree.specs.Decoded.{decoded-within}
 use Rattle.hfs_btree.specs.Descent.{content-about}

@@ -1,6 +1,6 @@
 -- The index keys over a pair, on the way down to it.
 use Rattle.std.proofs.Common.{◌≡◌, ◌≢◌, ℕ, zero, suc, ◌+◌, ◌<◌, ◌≤◌, true, false, List, [], ◌∷◌, ◌++◌, length, map, get_or, take, drop, refl, sym, ap, ◌∙◌, subst, arith, inl, inr}
-use Rattle.std.specs.Prelude.{remove, Ok, ◌⊎◌}
+use Rattle.std.specs.Prelude.{remove, Ok}
 use Rattle.std.specs.List.{flat_map}
 use Rattle.std.specs.Cmp.{IsTotalOrder}
 use Rattle.std.specs.Ordering.{is_gt}
@@ -11,11 +11,10 @@ use Rattle.hfs_btree.specs.declared.key.Key.{Ghosts}
 use Rattle.hfs_btree.specs.Pairs.{Order, Pairs, Rises, IsAtMost, IsAbove}
 use Rattle.hfs_scans.specs.Each.{Each}
 use Rattle.hfs_scans.specs.Members.{In, each_in}
-use Rattle.hfs_scans.specs.Elements.{each-at, each-mono}
-use Rattle.hfs_btree.specs.Lookups.{le-lt}
-use Rattle.hfs_btree.specs.Tree.{Store, Spot, node_in, records_in, records_of, children, pair_of, pairs, first_of, under, level_below, reads_at}
-use Rattle.hfs_btree.specs.Header.{header_in, depth_of, root_level}
-use Rattle.hfs_btree.specs.Sound.{IsRight, IsSound, AreKeysInOrder, ArePartsInOrder, part_of}
+use Rattle.hfs_scans.specs.Elements.{each-at}
+use Rattle.hfs_btree.specs.Tree.{Store, node_in, records_in, records_of, children, pair_of, first_of, under, level_below}
+use Rattle.hfs_btree.specs.Header.{depth_of, root_level}
+use Rattle.hfs_btree.specs.Sound.{IsRight, IsSound, AreKeysInOrder, ArePartsInOrder}
 use Rattle.hfs_btree.specs.Decoded.{decoded-within}
 use Rattle.hfs_btree.specs.Descent.{next-split}
 use Rattle.hfs_btree_removal.specs.Removal.{IsSettable, AreSettable}
@@ -24,7 +23,7 @@ use Rattle.hfs_btree_removal.proofs.Chains.{IsChain, bottom, only_child, only-on
 use Rattle.hfs_btree_edits.specs.Edited.{height-in}
 use Rattle.hfs_btree_edits.specs.LevelParts.{lift, lift-is}
 use Rattle.hfs_btree_removal.proofs.Firsts.{level-next, at-level}
-use Rattle.hfs_btree_removal.proofs.Passed.{high, IsLower}
+use Rattle.hfs_btree_removal.proofs.Passed.{high}
 
 pub in-right : {X : Type 0} (m : X) (xs ys : List X) → In m ys → In m (xs ++ ys)
 in-right m [] ys i = i

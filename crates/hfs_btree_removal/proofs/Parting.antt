@@ -1,5 +1,5 @@
 -- A chain that leaves its levels, from the writes: links, the record above it, the header record.
-use Rattle.std.proofs.Common.{◌≡◌, ◌≢◌, ℕ, zero, suc, ◌+◌, ◌-◌, ◌<◌, ◌≤◌, true, List, [], ◌∷◌, ◌++◌, length, map, get_or, set, take, drop, refl, sym, ap, ◌∙◌, subst, arith, append_assoc, inl, inr}
+use Rattle.std.proofs.Common.{◌≡◌, ◌≢◌, ℕ, suc, ◌<◌, ◌≤◌, List, [], ◌∷◌, ◌++◌, length, map, get_or, set, take, drop, sym, ap, ◌∙◌, subst, arith, append_assoc}
 use Rattle.std.specs.Prelude.{Ok, Result, remove}
 use Rattle.std.specs.List.{flat_map}
 use Rattle.std.proofs.lemmas.List.{map-append, length-set, get_or-set_same, get_or-set_other}
@@ -8,8 +8,8 @@ use Rattle.hfs_node.specs.declared.fault.NodeFault.{NodeFault}
 use Rattle.hfs_btree.specs.declared.header.Header.{Header}
 use Rattle.hfs_btree.specs.declared.key.Key.{Ghosts}
 use Rattle.hfs_scans.specs.Each.{Each}
-use Rattle.hfs_scans.specs.Elements.{each-mono, each-both, each-append, each-left, each-right}
-use Rattle.hfs_btree.specs.Tree.{Store, Spot, node_in, records_in, records_of, forward_of, children, first_of, spots, turn, level_below}
+use Rattle.hfs_scans.specs.Elements.{each-mono, each-append, each-left, each-right}
+use Rattle.hfs_btree.specs.Tree.{Store, Spot, node_in, records_in, records_of, forward_of, children, spots, turn, level_below}
 use Rattle.hfs_btree.specs.Header.{header_of, header_in, record_in, depth_of, root_level, map_nodes, own_nodes, tree_turn, tree_nodes}
 use Rattle.hfs_btree.specs.Sound.{IsOther, IsDistinct, IsMapNode, IsMarked, IsRight, IsStray, HasStructure}
 use Rattle.hfs_btree.specs.Descent.{next-split}
@@ -23,7 +23,7 @@ use Rattle.hfs_btree_edits.specs.EditedOrder.{each-flat}
 use Rattle.hfs_btree_edits.specs.Headed.{marked-on}
 use Rattle.hfs_btree_edits.specs.LevelParts.{lift, upper, numbers, numbers-spots, turn-split, of-spots}
 use Rattle.hfs_btree_removal.proofs.Links.{IsKept}
-use Rattle.hfs_btree_removal.proofs.Unlinked.{HasGaps, Some, cross, cross-back, numbers-with, gap-later}
+use Rattle.hfs_btree_removal.proofs.Unlinked.{HasGaps, Some, cross, numbers-with, gap-later}
 
 module _ {K : Type 0} (g : Ghosts K) (old : Store) (structure : HasStructure g old) (i k : ℕ) (deep : depth_of old ≡ suc (lift i (suc k))) (before : List ℕ) (p : ℕ) (behind : List ℕ)
     (level : level_below g old i (root_level old) ≡ before ++ p ∷ behind) (q : ℕ) (within : q < length (records_in old p)) (chain : IsChain g old k (g.child (get_or (records_in old p) q []))) where

@@ -1,6 +1,6 @@
 -- A first key that was told to the nodes above, one after the other.
-use Rattle.std.proofs.Common.{◌≡◌, ◌≢◌, ℕ, zero, suc, ◌+◌, ◌<◌, ◌≤◌, false, true, List, [], ◌∷◌, ◌++◌, length, map, get_or, set, take, drop, refl, sym, ap, ◌∙◌, subst, arith}
-use Rattle.std.specs.Prelude.{Ok, Err, Result, ⊤}
+use Rattle.std.proofs.Common.{◌≡◌, ◌≢◌, ℕ, zero, suc, ◌+◌, ◌<◌, List, [], ◌∷◌, ◌++◌, length, map, get_or, set, take, drop, refl, sym, ap, ◌∙◌, subst, arith}
+use Rattle.std.specs.Prelude.{Ok, Result}
 use Rattle.std.specs.List.{flat_map}
 use Rattle.std.specs.Cmp.{IsTotalOrder}
 use Rattle.std.specs.declared.cmp.Ordering.TheVariants.{Less, Equal}
@@ -9,21 +9,26 @@ use Rattle.hfs_node.specs.declared.node.Node.{Node}
 use Rattle.hfs_node.specs.declared.fault.NodeFault.{NodeFault}
 use Rattle.hfs_btree_removal.specs.declared.down.Step.{Step}
 use Rattle.hfs_btree.specs.declared.key.Key.{Ghosts}
-use Rattle.hfs_btree.specs.Pairs.{Pairs, IsAtMost}
+use Rattle.hfs_btree.specs.Pairs.{IsAtMost}
 use Rattle.hfs_scans.specs.Each.{Each}
 use Rattle.hfs_btree.specs.Tree.{Store, Spot, node_in, records_in, records_of, children, first_of, under, level_below}
-use Rattle.hfs_btree.specs.Header.{header_in, depth_of, root_level}
-use Rattle.hfs_btree.specs.Sound.{IsRight, IsSound, IsExact, first_key}
+use Rattle.hfs_btree.specs.Header.{depth_of, root_level, tree_turn, tree_nodes}
+use Rattle.hfs_btree.specs.Sound.{IsOther, IsRight, IsSound, IsExact, first_key}
 use Rattle.hfs_btree.specs.Descent.{next-split}
 use Rattle.hfs_btree_removal.specs.Removal.{HasTold, HasKeySet, AreKeysSet, AreBehindFirst}
 use Rattle.hfs_btree_removal.specs.Ways.{IsStep, Leads}
 use Rattle.hfs_btree_edits.specs.Kept.{flat_map-same}
 use Rattle.hfs_btree_edits.specs.Edited.{IsEdited, height-in}
-use Rattle.hfs_btree_edits.specs.LevelParts.{lift, lift-is}
+use Rattle.hfs_btree_edits.specs.LevelParts.{lift, lift-is, numbers}
+use Rattle.hfs_btree_edits.specs.KeptKeys.{tree_keys, own-keys}
+use Rattle.hfs_btree_edits.specs.Stored.{bytes_in}
+use Rattle.hfs_btree_removal.proofs.KeysKept.{HaveKeys, first-has, keys-then}
+use Rattle.hfs_scans.specs.Members.{In}
+use Rattle.hfs_scans.specs.Elements.{each-unmap}
 use Rattle.hfs_btree_removal.proofs.Raised.{sons-at}
 use Rattle.hfs_btree_removal.proofs.ExactBut.{IsExactBut}
 use Rattle.hfs_btree_removal.proofs.Told.{has-told, told-but, told-exact}
-use Rattle.hfs_btree_removal.proofs.Firsts.{equal-self, level-next, at-level, least}
+use Rattle.hfs_btree_removal.proofs.Firsts.{equal-self, level-next, at-level, level-some, least}
 
 each-all : {X : Type 0} (P : X → Type 0) → ((x : X) → P x) → (xs : List X) → Each P xs
 each-all P f [] = tt
@@ -57,6 +62,8 @@ module _ {K : Type 0} (g : Ghosts K) where
     depth = refl;
     free = refl;
     frame = record { file = refl; nodes = refl; map = refl; map_length = refl; stray = λ n. (λ s. s, λ s. s) };
+    keys = own-keys g nodes;
+    rest = λ m o. refl;
   }
 
   pub told-then : (old mid new : Store) → HasTold g old mid → HasTold g mid new → HasTold g old new
@@ -74,6 +81,8 @@ module _ {K : Type 0} (g : Ghosts K) where
       map_length = b.frame.map_length ∙ a.frame.map_length;
       stray = λ n. (λ s. (a.frame.stray n).0 ((b.frame.stray n).0 s), λ s. (b.frame.stray n).1 ((a.frame.stray n).1 s));
     };
+    keys = keys-then g old mid new a.keys b.keys;
+    rest = λ m o. (let P : List Spot → Type 0 = λ ss. Each (IsOther m) (numbers ss) in b.rest m (subst P (sym a.turn) o) ∙ a.rest m o);
   }
 
 module _ {K : Type 0} (g : Ghosts K) (total : IsTotalOrder g.compare) (one : Store) (sound : IsSound g one) (t : K) (c k : ℕ) where
@@ -179,8 +188,25 @@ module _ {K : Type 0} (g : Ghosts K) (total : IsTotalOrder g.compare) (one : Sto
         let Q : ℕ → Type 0 = λ m. IsAtMost g.compare t (under g mid h m) in
         subst P (sym key.told) (subst Q same-son most-son)
 
+    abbrev son-behind : List ℕ
+    son-behind = map g.child (drop (suc s.place) (records_in one n)) ++ flat_map (children g one) behind
+
+    -- the key that is told is one of the tree
+    own : In (g.index_key key.made) (tree_keys g mid)
+    own =
+        let P : K → Type 0 = λ x. In x (tree_keys g mid) in
+        let some = level-some g mid (suc i) h deep-son _ son _ level-son mid-sound.structure in
+        let at-son = at-level g mid (suc i) h deep-son _ son _ level-son (HaveKeys g P mid) (own-keys g mid) in
+        subst P (sym (ih.first firsts) ∙ sym key.told) (first-has g P mid (record { left = at-son.0; n = son; right = first_of son-behind; above = h }) some at-son.1)
+
+    -- beside the levels nothing is written
+    beside : (m : ℕ) → Each (IsOther m) (tree_nodes g mid) → bytes_in two m ≡ bytes_in mid m
+    beside m o =
+        let at-n = at-level g mid i (suc h) deep-mid before n behind level-mid (λ u. IsOther m u.n) (each-unmap (IsOther m) (λ (u : Spot). u.n) (tree_turn g mid) o) in
+        key.stored.bytes m (λ e. at-n.1 (sym e))
+
     here : HasTold g mid two
-    here = has-told g total mid two mid-sound i h deep-mid before n behind level-mid v s.place key.made edit spot.0 (first_of behind) spot.1 within key.index key.names higher most
+    here = has-told g total mid two mid-sound i h deep-mid before n behind level-mid v s.place key.made edit spot.0 (first_of behind) spot.1 within key.index key.names higher most own beside
 
     but-mid : IsExactBut g one c → IsExactBut g mid (g.child (get_or v.records s.place []))
     but-mid b = let P : ℕ → Type 0 = λ m. IsExactBut g mid m in subst P same-son (ih.but b)

@@ -1,5 +1,5 @@
 -- An index node of which one record has got a higher key.
-use Rattle.std.proofs.Common.{◌≡◌, ◌≢◌, ℕ, zero, suc, ◌+◌, ◌<◌, ◌≤◌, true, false, List, [], ◌∷◌, ◌++◌, length, map, get_or, set, take, drop, refl, sym, ap, ◌∙◌, subst, arith, inl, inr}
+use Rattle.std.proofs.Common.{◌≡◌, ◌≢◌, ℕ, zero, suc, ◌+◌, ◌<◌, ◌≤◌, true, List, [], ◌∷◌, ◌++◌, length, map, get_or, set, take, drop, refl, sym, ap, ◌∙◌, subst, arith, inl, inr}
 use Rattle.std.specs.Prelude.{Ok, Result}
 use Rattle.std.specs.List.{flat_map}
 use Rattle.std.specs.Cmp.{IsTotalOrder}
@@ -11,19 +11,22 @@ use Rattle.hfs_node.specs.declared.node.Node.{Node}
 use Rattle.hfs_node.specs.declared.fault.NodeFault.{NodeFault}
 use Rattle.hfs_btree.specs.declared.header.Header.{Header as HeaderRecord}
 use Rattle.hfs_btree.specs.declared.key.Key.{Ghosts}
-use Rattle.hfs_btree.specs.Pairs.{Order, Pairs, Rises, IsAtMost}
+use Rattle.hfs_btree.specs.Pairs.{Pairs, Rises, IsAtMost}
 use Rattle.hfs_scans.specs.Each.{Each}
 use Rattle.hfs_scans.specs.Elements.{each-mono, each-left, each-right}
 use Rattle.hfs_btree.specs.Tree.{Store, Spot, node_in, records_in, records_of, children, pair_of, pairs, spots, turn, last_level, under, kind_at}
-use Rattle.hfs_btree.specs.Header.{header_in, depth_of, root_level, leaves, free_nodes, tree_content, tree_turn, tree_nodes}
+use Rattle.hfs_btree.specs.Header.{header_in, depth_of, root_level, leaves, free_nodes, tree_content, tree_turn}
 use Rattle.hfs_btree.specs.Sound.{IsRight, IsSound, AreKeysInOrder, ArePartsInOrder, part_of, KeepsFrame}
 use Rattle.hfs_btree.specs.Levels.{each-spots, map-split}
 use Rattle.hfs_btree_edits.specs.Kept.{header-kept, marks-kept, free-same, flat_map-same}
-use Rattle.hfs_btree_edits.specs.Edited.{IsEdited, height-in, head-stays, map-stays, turn-stays, leaves-stay, nodes-stay, frame-stays, structure-stays}
+use Rattle.hfs_btree_edits.specs.Edited.{IsEdited, height-in, head-stays, map-stays, turn-stays, leaves-stay, frame-stays, structure-stays}
 use Rattle.hfs_btree_edits.specs.EditedOrder.{each-flat, turn-step}
 use Rattle.hfs_btree_edits.specs.LevelParts.{KeepsUnder, same-flat}
 use Rattle.hfs_btree_removal.proofs.PartsLess.{parts-raise}
 use Rattle.hfs_btree_edits.specs.Replaced.{each-set, map-set}
+use Rattle.hfs_btree.specs.Tree.{key_at}
+use Rattle.hfs_btree_edits.specs.KeptKeys.{EachKey}
+use Rattle.hfs_btree_removal.proofs.KeysKept.{HaveKeys, kept-has}
 
 module _ {K : Type 0} (g : Ghosts K) (old new : Store) where
   -- above the leaves the children are the same, and a leaf's records are
@@ -199,3 +202,33 @@ module _ {K : Type 0} (g : Ghosts K) (total : IsTotalOrder g.compare) (old new :
         };
         ordered = record { rises = subst S (sym raised-content) sound.ordered.rises; keys = keys-are };
       }
+
+  -- ---- its keys: the old ones, and the new one
+
+  module _ (T : K → Type 0) (own : T (g.index_key made)) where
+    here-has : Each (λ e. T (g.index_key e)) (records_in old n) → Each (λ e. T (g.index_key e)) (records_in new n)
+    here-has h =
+        let S : List (List ℕ) → Type 0 = λ xs. Each (λ e. T (g.index_key e)) xs in
+        subst S (sym (ap records_of edit.is)) (each-set (λ e. T (g.index_key e)) es place made (subst S (ap records_of edit.was) h) own)
+
+    spot-has : (s : Spot) → R s → HaveKeys g T old s → HaveKeys g T new s
+    spot-has s r h =
+        elim (cases_eq s.n n) [
+          | inl e ↦
+              (let above = at-height s r e in
+              let A : ℕ → Type 0 = λ a. Each (λ x. T (key_at g a x)) (records_in old s.n) in
+              let B : ℕ → Type 0 = λ m. Each (λ x. T (g.index_key x)) (records_in old m) in
+              let C : ℕ → Type 0 = λ m. Each (λ x. T (g.index_key x)) (records_in new m) in
+              let D : ℕ → Type 0 = λ a. Each (λ x. T (key_at g a x)) (records_in new s.n) in
+              subst D (sym above) (subst C (sym e) (here-has (subst B e (subst A above h)))))
+          | inr d ↦ kept-has g T old new s (ap records_of (edit.others s.n d)) h
+        ]
+
+    each-has : (ss : List Spot) → Each R ss → Each (HaveKeys g T old) ss → Each (HaveKeys g T new) ss
+    each-has [] r h = tt
+    each-has (s ∷ ss) r h = (spot-has s r.0 h.0, each-has ss r.1 h.1)
+
+    pub raised-keys : EachKey g T old → EachKey g T new
+    raised-keys h =
+        let S : List Spot → Type 0 = λ ss. Each (HaveKeys g T new) ss in
+        subst S (sym raised-turn) (each-has (tree_turn g old) sound.structure.levels.each h)

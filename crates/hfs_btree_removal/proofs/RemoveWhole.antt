@@ -1,6 +1,6 @@
 -- The removal of a pair: the root before and after, and between them the pair.
-use Rattle.std.proofs.Common.{◌≡◌, ◌≢◌, ℕ, zero, suc, ◌+◌, ◌-◌, ◌<◌, ◌≤◌, List, [], ◌∷◌, ◌++◌, length, map, get_or, refl, sym, ap, ◌∙◌, subst, arith}
-use Rattle.std.specs.Prelude.{true, Option, Ok, Err, Result, OnOk}
+use Rattle.std.proofs.Common.{◌≡◌, ℕ, zero, suc, ◌+◌, ◌<◌, ◌≤◌, List, [], ◌∷◌, ◌++◌, length, map, get_or, refl, sym, ap, ◌∙◌, subst, arith}
+use Rattle.std.specs.Prelude.{Ok, Err, Result, OnOk}
 use Rattle.std.specs.List.{flat_map}
 use Rattle.std.specs.Ordering.{is_eq}
 use Rattle.std.specs.declared.cmp.Ordering.TheVariants.{Equal}
@@ -8,16 +8,18 @@ use Rattle.std.proofs.lemmas.Bool.{cond-true}
 use Rattle.hfs_btree_removal.specs.declared.down.Step.{Step}
 use Rattle.hfs_btree.specs.declared.key.Key.{Ghosts}
 use Rattle.hfs_btree_edits.specs.Conditions.{IsThere}
-use Rattle.hfs_btree_edits.specs.Edits.{without_pair}
-use Rattle.hfs_btree_removal.specs.Removal.{KeepsSound, HasLost}
+use Rattle.hfs_btree_edits.specs.Edits.{without_pair, HasRemoved}
+use Rattle.hfs_btree_removal.specs.Removal.{KeepsSound, GainsNothing}
 use Rattle.hfs_btree.specs.Header.{header_in, depth_of, root_level, free_nodes, tree_content}
 use Rattle.hfs_btree.specs.Pairs.{Pairs, lookup}
+use Rattle.hfs_btree.specs.Sound.{IsSound}
 use Rattle.hfs_scans.specs.Each.{Each}
 use Rattle.hfs_scans.specs.Elements.{each-right}
 use Rattle.hfs_btree_removal.specs.Removal.{HasLowered, HasTakenOut}
 use Rattle.hfs_btree.specs.Tree.{Store, records_in, pair_of, pairs, last_level}
-use Rattle.hfs_btree_removal.specs.Ways.{IsStep, Leads, IsWayTo}
+use Rattle.hfs_btree_removal.specs.Ways.{Leads, IsWayTo}
 use Rattle.hfs_btree_removal.proofs.Composed.{keeps-then}
+use Rattle.hfs_btree_removal.proofs.Gains.{gains-then, gains-keeps, gains-blank}
 
 module _ {K : Type 0} (g : Ghosts K) where
   deep-by : (nodes : Store) (t : K) (d : ℕ) → IsThere (lookup g.compare t (flat_map (pairs g nodes) (last_level g nodes d (root_level nodes)))) → 0 < d
@@ -31,15 +33,21 @@ module _ {K : Type 0} (g : Ghosts K) where
   pub still-there : (old low : Store) (l : HasLowered g old low) (t : K) → IsThere (lookup g.compare t (tree_content g old)) → IsThere (lookup g.compare t (tree_content g low))
   still-there old low l t h = let P : Pairs K → Type 0 = λ ps. IsThere (lookup g.compare t ps) in subst P (sym l.content) h
 
-  pub removed-all : (old low mid new : Store) (t : K) (steps : List Step) → HasLowered g old low → IsWayTo g low t steps → HasTakenOut g steps low mid → HasLowered g mid new
-      → (2 ≤ depth_of new → 2 ≤ length (records_in new (header_in new).root)) → HasLost g t old new
-  removed-all old low mid new t steps a way out b wide = record {
-    keeps = keeps-then g old mid new (keeps-then g old low mid a.keeps out.keeps) b.keeps;
-    content = b.content ∙ out.content t way ∙ ap (without_pair g.compare t) a.content;
-    free = let x = a.free in let y = out.free in let z = b.free in omega arith;
-    depth = let x = a.depth in let y = out.depth in let z = b.depth in omega arith;
-    root = wide;
-  }
+  pub removed-all : (old low mid new : Store) (t : K) (steps : List Step) → IsSound g old → HasLowered g old low → IsWayTo g low t steps → HasTakenOut g steps low mid → HasLowered g mid new
+      → (2 ≤ depth_of new → 2 ≤ length (records_in new (header_in new).root)) → HasRemoved g t old new
+  removed-all old low mid new t steps sound a way out b wide =
+      let first = keeps-then g old low mid a.keeps out.keeps in
+      let keeps = keeps-then g old mid new first b.keeps in
+      let gains = gains-then g old mid new sound first.frame.map (gains-then g old low mid sound a.keeps.frame.map a.gains out.gains) b.gains in
+      record {
+        keeps = gains-keeps g old new keeps gains;
+        content = b.content ∙ out.content t way ∙ ap (without_pair g.compare t) a.content;
+        keys = gains.keys;
+        blank = gains-blank g old new keeps gains;
+        free = let x = a.free in let y = out.free in let z = b.free in omega arith;
+        depth = let x = a.depth in let y = out.depth in let z = b.depth in omega arith;
+        root = wide;
+      }
 
   -- ---- where no step's node has another record
 
@@ -83,14 +91,19 @@ module _ {K : Type 0} (g : Ghosts K) where
         ∙ ap (λ (n : ℕ). without_pair g.compare t (map (pair_of g) (records_in low n) ++ [])) root-is
         ∙ without-one t way.last.place (records_in low way.last.node) (omega arith) (omega arith) way.equal
 
-    pub removed-last : (old new : Store) → HasLowered g old low → KeepsSound g low new → tree_content g new ≡ [] → depth_of new ≡ 0 → free_nodes new ≡ free_nodes low + 1 → HasLost g t old new
-    removed-last old new a keeps empty flat free = record {
-      keeps = keeps-then g old low new a.keeps keeps;
-      content = empty ∙ sym none-left ∙ ap (without_pair g.compare t) a.content;
-      free = let x = a.free in omega arith;
-      depth = omega arith;
-      root = λ deep. absurd (omega arith);
-    }
+    pub removed-last : (old new : Store) → IsSound g old → HasLowered g old low → KeepsSound g low new → GainsNothing g low new → tree_content g new ≡ [] → depth_of new ≡ 0 → free_nodes new ≡ free_nodes low + 1 → HasRemoved g t old new
+    removed-last old new sound a kept gained empty flat free =
+        let keeps = keeps-then g old low new a.keeps kept in
+        let gains = gains-then g old low new sound a.keeps.frame.map a.gains gained in
+        record {
+          keeps = gains-keeps g old new keeps gains;
+          content = empty ∙ sym none-left ∙ ap (without_pair g.compare t) a.content;
+          keys = gains.keys;
+          blank = gains-blank g old new keeps gains;
+          free = let x = a.free in omega arith;
+          depth = omega arith;
+          root = λ deep. absurd (omega arith);
+        }
 
 -- two facts at an Ok
 pub on_both : {A E : Type 0} (r : Result A E) (P Q : Type 0) → OnOk r P → OnOk r Q → OnOk r (P × Q)

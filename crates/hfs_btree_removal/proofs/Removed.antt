@@ -1,32 +1,34 @@
 -- The removal of a pair, from its steps.
 use Rattle.std.proofs.Common.{◌≡◌, ◌≢◌, ℕ, zero, suc, ◌+◌, ◌<◌, ◌≤◌, List, [], ◌∷◌, ◌++◌, length, map, get_or, refl, sym, ap, ◌∙◌, subst, arith, inl, inr, length-append}
-use Rattle.std.specs.Prelude.{◌↔◌, ◌⊎◌, remove}
+use Rattle.std.specs.Prelude.{◌↔◌}
 use Rattle.std.specs.List.{flat_map}
 use Rattle.std.specs.Cmp.{IsTotalOrder}
 use Rattle.std.specs.declared.cmp.Ordering.TheVariants.{Equal}
 use Rattle.std.proofs.lemmas.Bool.{cases_eq}
 use Rattle.std.proofs.lemmas.List.{length-map}
 use Rattle.hfs_node.specs.declared.node.Node.{Node}
-use Rattle.hfs_btree.specs.declared.header.Header.{Header}
 use Rattle.hfs_btree.specs.declared.key.Key.{Ghosts}
-use Rattle.hfs_btree.specs.Pairs.{Pairs}
 use Rattle.hfs_scans.specs.Each.{Each}
-use Rattle.hfs_scans.specs.Members.{In}
-use Rattle.hfs_scans.specs.Elements.{each-left, each-right, each-append, each-mono, each-unmap}
+use Rattle.hfs_scans.specs.Members.{In, each_in}
+use Rattle.hfs_scans.specs.Elements.{each-left, each-right, each-mono, each-unmap}
 use Rattle.hfs_btree_edits.specs.Edits.{without_pair}
-use Rattle.hfs_btree_removal.specs.Removal.{KeepsSound}
-use Rattle.hfs_btree.specs.Tree.{Store, Spot, node_in, records_in, records_of, first_of, spots}
-use Rattle.hfs_btree.specs.Header.{header_in, record_in, depth_of, root_level, map_nodes, map_bytes, own_nodes, free_nodes, leaves, tree_content, tree_turn, tree_nodes}
+use Rattle.hfs_btree_removal.specs.Removal.{KeepsSound, GainsNothing}
+use Rattle.hfs_node.specs.Laid.{IsZeroFrom}
+use Rattle.hfs_btree_edits.specs.KeptKeys.{each-among, hold-keys}
+use Rattle.hfs_btree_edits.specs.Stored.{bytes_in}
+use Rattle.hfs_btree_removal.proofs.KeysKept.{keys-then}
+use Rattle.hfs_btree.specs.Tree.{Store, Spot, node_in, records_in, records_of, spots}
+use Rattle.hfs_btree.specs.Header.{record_in, depth_of, root_level, own_nodes, free_nodes, tree_content, tree_turn, tree_nodes}
 use Rattle.hfs_btree.specs.Sound.{IsOther, IsRight, IsSound, IsExact, IsStray, KeepsFrame, AreKeysExact}
 use Rattle.hfs_btree_edits.specs.LevelParts.{numbers}
 use Rattle.hfs_btree_removal.proofs.Chains.{Cut, with_node, without_node, numbers-fewer}
-use Rattle.hfs_btree_edits.specs.Edited.{IsEdited, height-in, turn-stays}
+use Rattle.hfs_btree_edits.specs.Edited.{IsEdited, height-in}
 use Rattle.hfs_btree_edits.specs.Headed.{map_nodes-is, map_bytes-is, free-is}
-use Rattle.hfs_btree_removal.proofs.Detached.{IsDetached, cs, others, old-numbers, new-numbers, stray-on, stray-back}
-use Rattle.hfs_btree_removal.proofs.DetachedOrder.{sound-is, content-is, gone}
-use Rattle.hfs_btree_edits.specs.Reheaded.{IsRecounted, recounted-turn, recounted-stray}
+use Rattle.hfs_btree_removal.proofs.Detached.{IsDetached, cs, others, old-numbers, new-numbers, stray-on, stray-back, nodes-fewer, nodes-back, detached-keys}
+use Rattle.hfs_btree_removal.proofs.DetachedOrder.{content-is, gone}
+use Rattle.hfs_btree_edits.specs.Reheaded.{IsRecounted, recounted-turn}
 use Rattle.hfs_btree_removal.proofs.ExactBut.{IsExactFor, KeepsFirst, WasExact, exact-moved}
-use Rattle.hfs_btree_removal.proofs.Composed.{either, not-stray, AreReleased, HasGiven, all-given}
+use Rattle.hfs_btree_removal.proofs.Composed.{either, not-stray, not-other, AreReleased, HasGiven, all-given}
 pub use Rattle.hfs_btree_removal.specs.Removal.{HasTold}
 
 in-right : (m : ℕ) (xs ys : List ℕ) → In m ys → In m (xs ++ ys)
@@ -123,6 +125,44 @@ module _ {K : Type 0} (g : Ghosts K) (total : IsTotalOrder g.compare) (old one t
     };
     free = let a = free-more in let b = nodes-less in omega arith;
   }
+
+  -- ---- nothing is gained
+
+  either-out : (m : ℕ) → In m (tree_nodes g old) → Each (IsOther m) (tree_nodes g new) → IsZeroFrom 0 512 (bytes_in new m)
+  either-out m here o =
+      elim (either m chain) [
+        | inl j ↦ rest.blank m j
+        | inr out ↦
+            (let P : List Spot → Type 0 = λ ss. Each (IsOther m) (numbers ss) in
+            absurd
+            (not-other m (tree_nodes g old) here
+            (nodes-back g old one i k p q d sound.structure m (each-unmap (λ n. n ≢ m) (λ (cut : Cut). cut.n) CS out) (subst P (rest.turn ∙ told.turn) o))))
+      ]
+
+  -- the nodes of the chain are of the old levels
+  chain-other : (m : ℕ) → Each (IsOther m) (own_nodes old ++ tree_nodes g old) → Each (λ n. n ≢ m) chain
+  chain-other m o =
+      let P : List ℕ → Type 0 = λ ns. Each (IsOther m) ns in
+      let all =
+      each-right (IsOther m) (others g old one i k p q d sound.structure) (numbers (flat_map with_node CS)) (subst P (old-numbers g old one i k p q d sound.structure) o) in
+      each-mono (λ n. In n chain) (λ n. n ≢ m) chain (λ n j. each_in (IsOther m) (numbers (flat_map with_node CS)) n all (in-cuts n CS j)) (each-among chain)
+
+  pub removed-gains : ((m : ℕ) → Each (IsOther m) (own_nodes old ++ tree_nodes g old) → bytes_in one m ≡ bytes_in old m) → GainsNothing g old new
+  removed-gains beside =
+      let P : List Spot → Type 0 = λ ss. (m : ℕ) → Each (IsOther m) (tree_nodes g one) → Each (IsOther m) (numbers ss) in
+      let Q : List ℕ → Type 0 = λ ns. (m : ℕ) → Each (IsOther m) (own_nodes old) → Each (IsOther m) (0 ∷ ns) in
+      let fewer = nodes-fewer g old one i k p q d sound.structure in
+      let on = subst P (sym (rest.turn ∙ told.turn)) (λ m o. o) in
+      let own = subst Q (sym (told.frame.map ∙ map_nodes-is g old one d.head)) (λ m o. o) in
+      record {
+        keys = keys-then g old one new (hold-keys g old one (λ T h. detached-keys g old one i k p q d sound.structure T h)) (keys-then g one two new told.keys rest.keys);
+        nodes = λ m o. on m (fewer m o);
+        blank = either-out;
+        rest = λ m o.
+            (rest.bytes m (chain-other m o) (own m (each-left (IsOther m) (own_nodes old) (tree_nodes g old) o))
+            ∙ told.rest m (fewer m (each-right (IsOther m) (own_nodes old) (tree_nodes g old) o))
+            ∙ beside m o);
+      }
 
   pub removed-content : (key : K) → g.compare key (gone g total old one i k p q d sound).0 ≡ Equal → tree_content g new ≡ without_pair g.compare key (tree_content g old)
   removed-content key e = rest.content ∙ told.content ∙ content-is g total old one i k p q d sound key e

@@ -1,5 +1,5 @@
 -- The removal of a pair from a leaf that keeps another one, and of a tree's only pair.
-use Rattle.std.proofs.Common.{◌≡◌, ◌≢◌, ℕ, zero, suc, ◌+◌, ◌<◌, ◌≤◌, List, [], ◌∷◌, ◌++◌, length, map, get_or, refl, sym, ap, ◌∙◌, subst, arith, inl, inr}
+use Rattle.std.proofs.Common.{◌≡◌, ◌≢◌, ℕ, ◌+◌, ◌<◌, ◌≤◌, List, [], ◌∷◌, ◌++◌, length, refl, sym, ap, ◌∙◌, subst, arith, inl, inr}
 use Rattle.std.specs.Prelude.{◌↔◌, remove}
 use Rattle.std.specs.Cmp.{IsTotalOrder}
 use Rattle.std.specs.declared.cmp.Ordering.TheVariants.{Equal}
@@ -7,22 +7,27 @@ use Rattle.std.proofs.lemmas.Bool.{cases_eq}
 use Rattle.hfs_node.specs.declared.node.Node.{Node}
 use Rattle.hfs_btree.specs.declared.header.Header.{Header}
 use Rattle.hfs_btree.specs.declared.key.Key.{Ghosts}
-use Rattle.hfs_btree.specs.Pairs.{Pairs}
 use Rattle.hfs_scans.specs.Members.{In}
 use Rattle.hfs_btree_edits.specs.Edits.{without_pair}
-use Rattle.hfs_btree_removal.specs.Removal.{KeepsSound}
-use Rattle.hfs_btree.specs.Tree.{Store, Spot}
-use Rattle.hfs_btree.specs.Header.{header_in, depth_of, leaves, free_nodes, map_nodes, map_bytes, tree_content, tree_nodes}
-use Rattle.hfs_btree.specs.Sound.{IsSound, IsExact, IsStray}
+use Rattle.hfs_btree_removal.specs.Removal.{KeepsSound, GainsNothing}
+use Rattle.hfs_btree_edits.specs.KeptKeys.{EachKey, hold-keys}
+use Rattle.hfs_btree_edits.specs.Stored.{bytes_in}
+use Rattle.hfs_btree_removal.proofs.KeysKept.{HaveKeys, kept-has, keys-then}
+use Rattle.hfs_btree_removal.proofs.PartsLess.{each-remove}
+use Rattle.hfs_scans.specs.Each.{Each}
+use Rattle.hfs_scans.specs.Elements.{each-right}
+use Rattle.hfs_btree.specs.Tree.{Store, Spot, records_in, records_of, key_at}
+use Rattle.hfs_btree.specs.Header.{header_in, depth_of, leaves, own_nodes, tree_content, tree_turn, tree_nodes}
+use Rattle.hfs_btree.specs.Sound.{IsOther, IsRight, IsSound, IsExact, IsStray}
 use Rattle.hfs_btree_edits.specs.Kept.{map_nodes-same}
 use Rattle.hfs_btree_edits.specs.LevelParts.{numbers}
 use Rattle.hfs_btree_edits.specs.Edited.{IsEdited}
 use Rattle.hfs_btree_edits.specs.Headed.{map_nodes-is, map_bytes-is, free-is}
 use Rattle.hfs_btree_edits.specs.Reheaded.{IsRecounted, recounted-turn, recounted-stray}
-use Rattle.hfs_btree_removal.proofs.TakenLeaf.{gone, taken-frame, taken-free, taken-turn, taken-header, taken-structure, taken-content, taken-sound}
+use Rattle.hfs_btree_removal.proofs.TakenLeaf.{gone, taken-frame, taken-free, taken-turn, taken-header, taken-structure, taken-content}
 use Rattle.hfs_btree_removal.proofs.Emptied.{IsEmptied, emptied-sound, emptied-exact, emptied-stray, old-nodes, new-nodes, no-content}
 use Rattle.hfs_btree_edits.specs.Released.{IsReleased, released-sound, released-exact, released-stray, released-gone, released-content, released-turn, one-more}
-use Rattle.hfs_btree_removal.proofs.Composed.{not-stray}
+use Rattle.hfs_btree_removal.proofs.Composed.{not-stray, not-other}
 use Rattle.hfs_btree_removal.proofs.Removed.{HasTold}
 
 module _ {K : Type 0} (g : Ghosts K) (total : IsTotalOrder g.compare) (old mid one new : Store) (sound : IsSound g old) (before : List ℕ) (n : ℕ) (behind : List ℕ) (split : leaves g old ≡ before ++ n ∷ behind)
@@ -57,6 +62,49 @@ module _ {K : Type 0} (g : Ghosts K) (total : IsTotalOrder g.compare) (old mid o
         let e = ap (λ (ss : List Spot). length (numbers ss)) (told.turn ∙ recounted-turn g mid one d shape ∙ taken-turn g total old mid sound before n behind split v place within more edit) in
         omega arith);
   }
+
+  -- ---- nothing is gained
+
+  module _ (rest : (m : ℕ) → Each (IsOther m) (own_nodes old ++ tree_nodes g old) → bytes_in one m ≡ bytes_in old m) where
+    same-turn : tree_turn g new ≡ tree_turn g old
+    same-turn = told.turn ∙ recounted-turn g mid one d shape ∙ taken-turn g total old mid sound before n behind split v place within more edit
+
+    one-turn : tree_turn g one ≡ tree_turn g old
+    one-turn = recounted-turn g mid one d shape ∙ taken-turn g total old mid sound before n behind split v place within more edit
+
+    module _ (T : K → Type 0) where
+      spot-has : (s : Spot) → IsRight g old s → HaveKeys g T old s → HaveKeys g T one s
+      spot-has s r h =
+          let P : List (List ℕ) → Type 0 = λ rs. Each (λ e. T (key_at g s.above e)) rs in
+          let zero' : s.n ≢ 0 = λ e. absurd (let some = r.within.0 in omega arith) in
+          elim (cases_eq s.n n) [
+            | inl e ↦
+                (let was : records_in old s.n ≡ v.records = ap (records_in old) e ∙ ap records_of edit.was in
+                let is : records_in one s.n ≡ remove v.records place = ap records_of (d.rest s.n zero') ∙ ap (records_in mid) e ∙ ap records_of edit.is in
+                subst P (sym is) (each-remove (λ x. T (key_at g s.above x)) v.records place (subst P was h)))
+            | inr ne ↦ kept-has g T old one s (ap records_of (d.rest s.n zero' ∙ edit.others s.n ne)) h
+          ]
+
+      each-has : (ss : List Spot) → Each (IsRight g old) ss → Each (HaveKeys g T old) ss → Each (HaveKeys g T one) ss
+      each-has [] r h = tt
+      each-has (s ∷ ss) r h = (spot-has s r.0 h.0, each-has ss r.1 h.1)
+
+      one-keys : EachKey g T old → EachKey g T one
+      one-keys h = let P : List Spot → Type 0 = λ ss. Each (HaveKeys g T one) ss in subst P (sym one-turn) (each-has (tree_turn g old) sound.structure.levels.each h)
+
+    pub leaf-gains : GainsNothing g old new
+    leaf-gains =
+        let P : List Spot → Type 0 = λ ss. (m : ℕ) → Each (IsOther m) (tree_nodes g old) → Each (IsOther m) (numbers ss) in
+        let nodes = subst P (sym same-turn) (λ m o. o) in
+        let nodes' = subst P (sym one-turn) (λ m o. o) in
+        let Q : List Spot → Type 0 = λ ss. (m : ℕ) → In m (tree_nodes g old) → In m (numbers ss) in
+        let stay = subst Q (sym same-turn) (λ m i. i) in
+        record {
+          keys = keys-then g old one new (hold-keys g old one one-keys) told.keys;
+          nodes = nodes;
+          blank = λ m i o. absurd (not-other m (tree_nodes g new) (stay m i) o);
+          rest = λ m o. told.rest m (nodes' m (each-right (IsOther m) (own_nodes old) (tree_nodes g old) o)) ∙ rest m o;
+        }
 
   pub leaf-content : (key : K) → g.compare key (gone g total old mid sound before n behind split v place within more edit).0 ≡ Equal → tree_content g new ≡ without_pair g.compare key (tree_content g old)
   leaf-content key e = told.content ∙ taken-content g total old mid sound before n behind split v place within more edit one d records free key e

@@ -1,13 +1,13 @@
 -- The nodes of several steps, taken out of their links one after the other.
-use Rattle.std.proofs.Common.{◌≡◌, ◌≢◌, ℕ, zero, suc, ◌+◌, ◌<◌, ◌≤◌, List, [], ◌∷◌, ◌++◌, length, get_or, take, drop, refl, sym, ap, ◌∙◌, subst, arith}
-use Rattle.std.specs.Prelude.{Ok, Err, Result}
+use Rattle.std.proofs.Common.{◌≡◌, ◌≢◌, ℕ, ◌+◌, ◌<◌, ◌≤◌, List, [], ◌∷◌, ◌++◌, length, get_or, take, drop, refl, sym, ap, ◌∙◌, subst}
+use Rattle.std.specs.Prelude.{Result}
 use Rattle.std.proofs.lemmas.List.{drop_more, take_more, take_all}
 use Rattle.hfs_node.specs.declared.node.Node.{Node}
 use Rattle.hfs_node.specs.declared.fault.NodeFault.{NodeFault}
 use Rattle.hfs_btree_removal.specs.declared.down.Step.{Step}
 use Rattle.hfs_scans.specs.Each.{Each}
 use Rattle.hfs_btree.specs.Tree.{Store, node_in, forward_of}
-use Rattle.hfs_btree_edits.specs.Stored.{IsSame}
+use Rattle.hfs_btree_edits.specs.Stored.{IsSame, bytes_in}
 use Rattle.hfs_btree_removal.specs.Removal.{HasUnlinked, IsUnlinkable, IsClear, AreUnlinkable, AreStepsUnlinked, backward_of, last_left, last_right}
 
 abbrev AreSame : Store → Store → List Step → Type 0
@@ -29,6 +29,12 @@ keep old new (s ∷ ss) len same h =
 clear : (old new : Store) (l r : ℕ) (u : HasUnlinked old new l r) (ss : List Step) → Each (λ (t : Step). (t.node ≢ l) × (t.node ≢ r)) ss → AreSame old new ss
 clear old new l r u [] h = tt
 clear old new l r u (s ∷ ss) h = (u.rest s.node h.0.0 h.0.1, clear old new l r u ss h.1)
+
+-- a node that is no neighbour of any step's node has its bytes
+pub unlinked-bytes : (base : Store) (ss : List Step) (old new : Store) → AreStepsUnlinked base ss old new → (m : ℕ)
+    → Each (λ (s : Step). (m ≢ backward_of (node_in base s.node)) × (m ≢ forward_of (node_in base s.node))) ss → bytes_in new m ≡ bytes_in old m
+unlinked-bytes base [] old new e m o = ap (λ (nodes : Store). bytes_in nodes m) (sym e)
+unlinked-bytes base (s ∷ ss) old new u m o = unlinked-bytes base ss u.0 new u.2 m o.1 ∙ u.1.bytes m o.0.0 o.0.1
 
 then-same : (base old new : Store) (ss : List Step) → AreSame base old ss → AreSame old new ss → AreSame base new ss
 then-same base old new [] a b = tt

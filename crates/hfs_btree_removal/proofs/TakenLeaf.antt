@@ -1,6 +1,6 @@
 -- A leaf with several records from which one was taken out.
-use Rattle.std.proofs.Common.{◌≡◌, ◌≢◌, ℕ, zero, suc, ◌+◌, ◌<◌, ◌≤◌, true, List, [], ◌∷◌, ◌++◌, length, map, get_or, take, drop, refl, sym, ap, ◌∙◌, subst, arith, inl, inr, append_assoc, length-append}
-use Rattle.std.specs.Prelude.{Ok, Err, Result, remove}
+use Rattle.std.proofs.Common.{◌≡◌, ◌≢◌, ℕ, suc, ◌+◌, ◌<◌, ◌≤◌, true, List, [], ◌∷◌, ◌++◌, length, map, get_or, take, drop, sym, ap, ◌∙◌, subst, arith, inl, inr, append_assoc, length-append}
+use Rattle.std.specs.Prelude.{Ok, Result, remove}
 use Rattle.std.specs.List.{flat_map}
 use Rattle.std.specs.Cmp.{IsTotalOrder}
 use Rattle.std.specs.declared.cmp.Ordering.TheVariants.{Equal}
@@ -11,17 +11,17 @@ use Rattle.hfs_node.specs.declared.fault.NodeFault.{NodeFault}
 use Rattle.hfs_node.specs.declared.kind.NodeKind.TheVariants.{Leaf}
 use Rattle.hfs_btree.specs.declared.header.Header.{Header}
 use Rattle.hfs_btree.specs.declared.key.Key.{Ghosts}
-use Rattle.hfs_btree.specs.Pairs.{Order, Pairs, Rises}
+use Rattle.hfs_btree.specs.Pairs.{Pairs, Rises}
 use Rattle.hfs_scans.specs.Each.{Each}
 use Rattle.hfs_scans.specs.Elements.{each-mono}
 use Rattle.hfs_btree_edits.specs.Edits.{without_pair}
-use Rattle.hfs_btree.specs.Tree.{Store, Spot, node_in, records_in, records_of, pair_of, pairs, first_of}
+use Rattle.hfs_btree.specs.Tree.{Store, Spot, node_in, records_of, pair_of, pairs, first_of}
 use Rattle.hfs_btree.specs.Header.{header_in, depth_of, root_level, leaves, free_nodes, tree_content, tree_turn, tree_nodes, own_nodes}
 use Rattle.hfs_btree.specs.Sound.{IsDistinct, IsRight, IsSound, AreKeysInOrder, KeepsFrame}
 use Rattle.hfs_btree.specs.Levels.{map-split}
 use Rattle.hfs_btree.specs.Descent.{leaf-node, content-about}
 use Rattle.hfs_btree_edits.specs.Kept.{flat_map-same, header-kept, marks-kept, free-same}
-use Rattle.hfs_btree_edits.specs.Edited.{IsEdited, height-in, head-stays, map-stays, turn-stays, leaves-stay, nodes-stay, frame-stays, structure-stays}
+use Rattle.hfs_btree_edits.specs.Edited.{IsEdited, height-in, head-stays, map-stays, turn-stays, leaves-stay, frame-stays, structure-stays}
 use Rattle.hfs_btree_edits.specs.EditedPairs.{rises-before, rises-without, above-equal, without-at}
 use Rattle.hfs_btree_edits.specs.EditedOrder.{StaysAt, keys-stay}
 use Rattle.hfs_btree_edits.specs.Bounds.{KeepsBounds, bounds-same, bounds-without}

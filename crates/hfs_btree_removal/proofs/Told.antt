@@ -1,6 +1,5 @@
 -- A first key that has changed, told to the node above.
-use Rattle.std.proofs.Common.{◌≡◌, ◌≢◌, ℕ, zero, suc, ◌+◌, ◌<◌, ◌≤◌, false, true, List, [], ◌∷◌, ◌++◌, length, map, get_or, set, take, drop, refl, sym, ap, ◌∙◌, subst, arith, inl, inr}
-use Rattle.std.specs.Prelude.{Ok}
+use Rattle.std.proofs.Common.{◌≡◌, ◌≢◌, ℕ, zero, suc, ◌<◌, true, List, [], ◌∷◌, ◌++◌, length, map, get_or, set, take, drop, refl, sym, ap, ◌∙◌, subst, arith}
 use Rattle.std.specs.List.{flat_map}
 use Rattle.std.specs.Cmp.{IsTotalOrder}
 use Rattle.std.specs.Ordering.{is_gt}
@@ -13,13 +12,16 @@ use Rattle.hfs_btree.specs.Pairs.{Order, Pairs, IsAtMost, IsAbove}
 use Rattle.hfs_scans.specs.Each.{Each}
 use Rattle.hfs_scans.specs.Elements.{each-mono, each-append, each-unmap}
 use Rattle.hfs_btree.specs.Lookups.{lt-le}
-use Rattle.hfs_btree.specs.Tree.{Store, Spot, node_in, records_in, records_of, children, turn, under, level_below}
+use Rattle.hfs_btree.specs.Tree.{Store, Spot, records_in, records_of, children, turn, under, level_below}
 use Rattle.hfs_btree.specs.Header.{header_in, depth_of, root_level, own_nodes, tree_turn, tree_nodes}
-use Rattle.hfs_btree.specs.Sound.{IsDistinct, IsRight, IsSound, IsExact, HasStructure, AreKeysExact, AreKeysInOrder, ArePartsInOrder, part_of, first_key}
-use Rattle.hfs_btree_edits.specs.Distinct.{distinct-right, other-behind, turn-nodes}
+use Rattle.hfs_btree.specs.Sound.{IsDistinct, IsOther, IsRight, IsSound, IsExact, HasStructure, AreKeysExact, ArePartsInOrder, first_key}
+use Rattle.hfs_btree_edits.specs.Distinct.{other-behind, turn-nodes}
 use Rattle.hfs_btree_edits.specs.Edited.{IsEdited}
+use Rattle.hfs_btree_edits.specs.KeptKeys.{tree_keys, hold-keys, key-holds}
+use Rattle.hfs_btree_edits.specs.Stored.{bytes_in}
+use Rattle.hfs_scans.specs.Members.{In}
 use Rattle.hfs_btree_edits.specs.LevelParts.{lift}
-use Rattle.hfs_btree_removal.proofs.Raised.{raised-sound, raised-content, raised-frame, raised-turn, raised-header, raised-free, raised-height}
+use Rattle.hfs_btree_removal.proofs.Raised.{raised-sound, raised-keys, raised-content, raised-frame, raised-turn, raised-header, raised-free, raised-height}
 use Rattle.hfs_btree_removal.proofs.ExactBut.{AreKeysExactFor, IsExactFor, IsExactBut, exact-for}
 use Rattle.hfs_btree_removal.proofs.RaisedExact.{raised-exact, each-both}
 use Rattle.hfs_btree_removal.proofs.NamedOnce.{HavePassing, turn-sons, named-once, own-before, own-behind}
@@ -79,8 +81,8 @@ module _ {K : Type 0} (g : Ghosts K) (total : IsTotalOrder g.compare) (old new :
     (index : g.is_index made ≡ true) (names : g.child made ≡ g.child (get_or v.records place []))
     (higher : g.compare (g.index_key (get_or v.records place [])) (g.index_key made) ≡ Less)
     (most : IsAtMost g.compare (g.index_key made) (under g old k (g.child (get_or v.records place [])))) where
-  pub has-told : HasTold g old new
-  has-told = record {
+  pub has-told : In (g.index_key made) (tree_keys g old) → ((m : ℕ) → Each (IsOther m) (tree_nodes g old) → bytes_in new m ≡ bytes_in old m) → HasTold g old new
+  has-told own rest = record {
     sound = raised-sound g total old new sound n v k place made edit left right spot within index names higher most;
     content = raised-content g total old new sound n v k place made edit left right spot within index names higher most;
     turn = raised-turn g total old new sound n v k place made edit left right spot within index names higher most;
@@ -88,6 +90,8 @@ module _ {K : Type 0} (g : Ghosts K) (total : IsTotalOrder g.compare) (old new :
     depth = ap (λ (h : Header). h.depth) (raised-header g total old new sound n v k place made edit left right spot within index names higher most);
     free = raised-free g total old new sound n v k place made edit left right spot within index names higher most;
     frame = raised-frame g total old new sound n v k place made edit left right spot within index names higher most;
+    keys = hold-keys g old new (λ T was. raised-keys g total old new sound n v k place made edit left right spot within index names higher most T (key-holds g old T was (g.index_key made) own) was);
+    rest = rest;
   }
 
   abbrev c : ℕ
@@ -120,7 +124,7 @@ module _ {K : Type 0} (g : Ghosts K) (total : IsTotalOrder g.compare) (old new :
 
     abbrev for : (X : ℕ → Type 0) → (X n → get_or (set v.records place made) 0 [] ≡ get_or v.records 0 []) → IsExactFor g new X
     for X kept =
-        raised-exact g old new n v k place made edit (raised-height g total old new sound n v k place made edit left right spot within index names higher most) refl has-told.turn
+        raised-exact g old new n v k place made edit (raised-height g total old new sound n v k place made edit left right spot within index names higher most) refl (raised-turn g total old new sound n v k place made edit left right spot within index names higher most)
         sound.structure.levels.each c refl names but named own-b own-h first X kept
 
     -- the tree is exact but for the keys over this node

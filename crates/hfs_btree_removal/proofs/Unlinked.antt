@@ -1,12 +1,10 @@
 -- Nodes of several levels, taken out of their links one after the other.
-use Rattle.std.proofs.Common.{◌≡◌, ◌≢◌, ℕ, zero, suc, ◌+◌, ◌<◌, ◌≤◌, List, [], ◌∷◌, ◌++◌, length, map, refl, sym, ap, ◌∙◌, subst, arith}
-use Rattle.std.specs.Prelude.{Ok}
+use Rattle.std.proofs.Common.{◌≡◌, ◌≢◌, ℕ, List, [], ◌∷◌, ◌++◌, length, refl, sym, ap, ◌∙◌, subst}
 use Rattle.std.specs.List.{flat_map}
 use Rattle.std.proofs.lemmas.List.{map-append}
-use Rattle.hfs_node.specs.declared.node.Node.{Node}
 use Rattle.hfs_scans.specs.Each.{Each}
 use Rattle.hfs_scans.specs.Elements.{each-left, each-right, each-append}
-use Rattle.hfs_btree.specs.Tree.{Store, Spot, node_in, first_of, spots}
+use Rattle.hfs_btree.specs.Tree.{Store, Spot, first_of}
 use Rattle.hfs_btree.specs.Sound.{IsOther, IsDistinct}
 use Rattle.hfs_btree_edits.specs.Distinct.{distinct-left, distinct-right}
 use Rattle.hfs_btree_edits.specs.LevelParts.{numbers, numbers-spots}

@@ -1,5 +1,5 @@
 -- The levels of a tree about the nodes of a way down, and the chain at the way's end.
-use Rattle.std.proofs.Common.{◌≡◌, ◌≢◌, ℕ, zero, suc, ◌+◌, ◌<◌, ◌≤◌, List, [], ◌∷◌, ◌++◌, length, map, get_or, take, drop, refl, sym, ap, ◌∙◌, subst, arith, length-append}
+use Rattle.std.proofs.Common.{◌≡◌, ℕ, zero, suc, ◌+◌, ◌<◌, ◌≤◌, List, [], ◌∷◌, ◌++◌, length, map, get_or, take, drop, refl, sym, ap, ◌∙◌, subst, arith}
 use Rattle.std.specs.Prelude.{⊤}
 use Rattle.std.specs.List.{flat_map}
 use Rattle.hfs_btree_removal.specs.declared.down.Step.{Step}
@@ -10,7 +10,7 @@ use Rattle.hfs_btree.specs.Tree.{Store, Spot, node_in, records_in, records_of, f
 use Rattle.hfs_btree.specs.Descent.{next-split}
 use Rattle.hfs_btree_removal.specs.Removal.{backward_of, last_left, last_right}
 use Rattle.hfs_btree_removal.specs.Ways.{IsStep, Leads}
-use Rattle.hfs_btree_removal.proofs.Chains.{Cut, IsChain, cuts, bottom, only_child}
+use Rattle.hfs_btree_removal.proofs.Chains.{IsChain, cuts, bottom, only_child}
 use Rattle.hfs_btree_removal.proofs.CutsUnlinked.{AreAt}
 use Rattle.hfs_btree_edits.specs.LevelParts.{upper, lift, of-spots}
 use Rattle.hfs_scans.specs.Elements.{each-left}

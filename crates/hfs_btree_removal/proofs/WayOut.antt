@@ -1,19 +1,17 @@
 -- A pair that is taken out at the end of a way: what all ways have in common.
-use Rattle.std.proofs.Common.{◌≡◌, ◌≢◌, ℕ, zero, suc, ◌+◌, ◌-◌, ◌<◌, ◌≤◌, List, [], ◌∷◌, ◌++◌, length, map, get_or, refl, sym, ap, ◌∙◌, subst, arith, length-append}
-use Rattle.std.specs.Prelude.{remove, false, Option, Some, None}
+use Rattle.std.proofs.Common.{◌≡◌, ℕ, zero, suc, ◌<◌, ◌≤◌, List, [], ◌∷◌, ◌++◌, length, get_or, refl, sym, ap, ◌∙◌, subst, arith, length-append}
+use Rattle.std.specs.Prelude.{remove}
 use Rattle.std.specs.Cmp.{IsTotalOrder}
-use Rattle.std.specs.Ordering.{is_gt}
 use Rattle.std.specs.declared.cmp.Ordering.TheVariants.{Less, Equal}
 use Rattle.hfs_btree_removal.specs.declared.down.Step.{Step}
 use Rattle.hfs_btree.specs.declared.key.Key.{Ghosts}
-use Rattle.hfs_btree.specs.Pairs.{Pairs}
 use Rattle.hfs_scans.specs.Each.{Each}
 use Rattle.hfs_scans.specs.Members.{In}
 use Rattle.hfs_btree.specs.Lookups.{le-lt}
-use Rattle.hfs_btree.specs.Tree.{Store, Spot, node_in, records_in, records_of, under}
+use Rattle.hfs_btree.specs.Tree.{Store, Spot, records_in, records_of, under}
 use Rattle.hfs_btree.specs.Header.{header_in, depth_of, root_level}
 use Rattle.hfs_btree.specs.Sound.{IsSound, IsExact, first_key}
-use Rattle.hfs_btree_removal.specs.Removal.{HasTold, HasPassedUp, AreSettable, IsWayBelow, IsNewFirst}
+use Rattle.hfs_btree_removal.specs.Removal.{HasTold, HasPassedUp, AreSettable, IsWayBelow}
 use Rattle.hfs_btree_removal.specs.Ways.{IsStep, Leads, IsWayTo}
 use Rattle.hfs_btree_removal.proofs.ExactBut.{IsExactBut}
 use Rattle.hfs_btree_edits.specs.LevelParts.{lift, lift-is, upper}

@@ -11,7 +11,7 @@ use Rattle.hfs_btree_edits.specs.Conditions.{IsThere}
 use Rattle.hfs_scans.specs.Each.{Each}
 use Rattle.hfs_btree.specs.Pairs.{lookup}
 use Rattle.hfs_btree.specs.Tree.{Store, records_in, records_of, pair_of}
-use Rattle.hfs_btree.specs.Header.{header_in, depth_of, tree_content}
+use Rattle.hfs_btree.specs.Header.{depth_of, tree_content}
 use Rattle.hfs_btree.specs.Search.{is_not_above, child_for, leaf_for}
 use Rattle.hfs_btree.specs.Sound.{IsSound}
 use Rattle.hfs_btree_removal.specs.Ways.{IsStep, Leads, IsLastWide}

@@ -1,17 +1,20 @@
 -- What the steps of a removal make of a tree's nodes.
-use Rattle.std.specs.Prelude.{◌≡◌, ◌≢◌, ℕ, zero, suc, ◌+◌, ◌-◌, ◌<◌, ◌≤◌, ◌==◌, if◌then◌else◌, true, false, List, [], ◌∷◌, ◌++◌, ⊤, Ok, Err, Result, Option, Some, None, length, slice_set, slice_index_or, remove}
+use Rattle.std.specs.Prelude.{◌≡◌, ◌≢◌, ℕ, zero, suc, ◌+◌, ◌-◌, ◌<◌, ◌≤◌, ◌==◌, if◌then◌else◌, true, List, [], ◌∷◌, ◌++◌, ⊤, Ok, Err, Result, Option, Some, None, length, slice_set, slice_index_or, remove}
 use Rattle.hfs_node.specs.declared.fault.NodeFault.{NodeFault}
 use Rattle.hfs_node.specs.declared.node.Node.{Node}
-use Rattle.hfs_node.specs.declared.kind.NodeKind.TheVariants.{Header, Leaf}
+use Rattle.hfs_node.specs.declared.kind.NodeKind.TheVariants.{Leaf}
 use Rattle.hfs_btree_removal.specs.declared.down.Step.{Step}
 use Rattle.hfs_btree.specs.declared.header.Header.{Header as HeaderRecord}
 use Rattle.hfs_btree.specs.declared.key.Key.{Ghosts}
 use Rattle.hfs_btree_edits.specs.Edits.{without_pair}
+use Rattle.hfs_btree_edits.specs.KeptKeys.{tree_keys, EachKey}
+use Rattle.hfs_node.specs.Laid.{IsZeroFrom}
 use Rattle.hfs_scans.specs.Each.{Each}
-use Rattle.hfs_btree_edits.specs.Stored.{HasStored, HasHeaderPut, HasNewHeader, IsSame, IsReleased}
+use Rattle.hfs_scans.specs.Members.{In}
+use Rattle.hfs_btree_edits.specs.Stored.{HasStored, HasHeaderPut, HasNewHeader, IsSame, IsReleased, bytes_in}
 use Rattle.hfs_btree.specs.Tree.{Store, node_in, records_in, forward_of, children, first_of}
-use Rattle.hfs_btree.specs.Header.{header_in, record_in, depth_of, map_nodes, own_nodes, map_bytes, marks, free_nodes, tree_content, tree_turn, tree_nodes}
-use Rattle.hfs_btree.specs.Sound.{IsStray, IsSound, IsExact, KeepsFrame}
+use Rattle.hfs_btree.specs.Header.{header_in, depth_of, own_nodes, free_nodes, tree_content, tree_turn, tree_nodes}
+use Rattle.hfs_btree.specs.Sound.{IsOther, IsStray, IsSound, IsExact, KeepsFrame}
 use Rattle.hfs_btree_removal.specs.Ways.{IsWayTo}
 
 -- ---- what each step keeps
@@ -23,13 +26,13 @@ pub record KeepsSound {K : Type 0} (g : Ghosts K) (old new : Store) : Type 0 whe
   pub frame : KeepsFrame g old new
   pub free : free_nodes new + length (tree_nodes g new) ≡ free_nodes old + length (tree_nodes g old)
 
--- the pair under the key was taken away; the tree has no more nodes and levels than before, and no root with one child
-pub record HasLost {K : Type 0} (g : Ghosts K) (key : K) (old new : Store) : Type 0 where
-  pub keeps : KeepsSound g old new
-  pub content : tree_content g new ≡ without_pair g.compare key (tree_content g old)
-  pub free : free_nodes old ≤ free_nodes new
-  pub depth : depth_of new ≤ depth_of old
-  pub root : 2 ≤ depth_of new → 2 ≤ length (records_in new (header_in new).root)
+-- The tree has got no key and no node. Nodes that have left its levels are zeros, and beside header node, map nodes and levels no
+-- node of the file has changed.
+pub record GainsNothing {K : Type 0} (g : Ghosts K) (old new : Store) : Type 0 where
+  pub keys : EachKey g (λ k. In k (tree_keys g old)) new
+  pub nodes : (m : ℕ) → Each (IsOther m) (tree_nodes g old) → Each (IsOther m) (tree_nodes g new)
+  pub blank : (m : ℕ) → In m (tree_nodes g old) → Each (IsOther m) (tree_nodes g new) → IsZeroFrom 0 512 (bytes_in new m)
+  pub rest : (m : ℕ) → Each (IsOther m) (own_nodes old ++ tree_nodes g old) → bytes_in new m ≡ bytes_in old m
 
 -- ---- links
 
@@ -48,6 +51,7 @@ pub record HasUnlinked (old new : Store) (l r : ℕ) : Type 0 where
   pub right : r ≢ 0 → IsBackward old new r l
   pub head : IsSame old new 0
   pub rest : (m : ℕ) → m ≢ l → m ≢ r → IsSame old new m
+  pub bytes : (m : ℕ) → m ≢ l → m ≢ r → bytes_in new m ≡ bytes_in old m
 
 -- the first child
 abbrev pub only_child : {K : Type 0} → Ghosts K → Store → ℕ → ℕ
@@ -79,7 +83,8 @@ pub record IsEmptied {K : Type 0} (g : Ghosts K) (old new : Store) : Type 0 wher
 
 -- ---- first keys
 
--- a first key was told to the nodes above: the levels, their pairs and the frame are the same
+-- a first key was told to the nodes above: the levels, their pairs and the frame are the same, each key is one of the old tree, and
+-- beside the levels no node of the file has changed
 pub record HasTold {K : Type 0} (g : Ghosts K) (old new : Store) : Type 0 where
   pub sound : IsSound g new
   pub content : tree_content g new ≡ tree_content g old
@@ -88,12 +93,15 @@ pub record HasTold {K : Type 0} (g : Ghosts K) (old new : Store) : Type 0 where
   pub depth : depth_of new ≡ depth_of old
   pub free : free_nodes new ≡ free_nodes old
   pub frame : KeepsFrame g old new
+  pub keys : EachKey g (λ k. In k (tree_keys g old)) new
+  pub rest : (m : ℕ) → Each (IsOther m) (tree_nodes g old) → bytes_in new m ≡ bytes_in old m
 
 -- ---- the root
 
 -- roots with one record gave way: the content is the same, and there are no more levels than before
 pub record HasLowered {K : Type 0} (g : Ghosts K) (old new : Store) : Type 0 where
   pub keeps : KeepsSound g old new
+  pub gains : GainsNothing g old new
   pub content : tree_content g new ≡ tree_content g old
   pub depth : depth_of new ≤ depth_of old
   pub free : free_nodes old ≤ free_nodes new
@@ -110,6 +118,7 @@ pub record HasForward (n to : ℕ) (old new : Store) : Type 0 where
   pub here : n ≢ 0 → IsForward old new n to
   pub head : IsSame old new 0
   pub rest : (m : ℕ) → m ≢ n → IsSame old new m
+  pub bytes : (m : ℕ) → m ≢ n → bytes_in new m ≡ bytes_in old m
 
 -- the same on the left
 pub record HasBackwardTo (n to : ℕ) (old new : Store) : Type 0 where
@@ -117,6 +126,7 @@ pub record HasBackwardTo (n to : ℕ) (old new : Store) : Type 0 where
   pub here : n ≢ 0 → IsBackward old new n to
   pub head : IsSame old new 0
   pub rest : (m : ℕ) → m ≢ n → IsSame old new m
+  pub bytes : (m : ℕ) → m ≢ n → bytes_in new m ≡ bytes_in old m
 
 -- a node that stands for itself and its neighbours: they can be linked to each other
 pub record IsUnlinkable (count n : ℕ) (r : Result Node NodeFault) : Type 0 where
@@ -257,6 +267,7 @@ AreReleased g (n ∷ ns) old new = (mid : Store) × IsReleased g n old mid × Ar
 -- the pair at the end of these steps was taken out, and no more nodes and levels are there than before
 pub record HasTakenOut {K : Type 0} (g : Ghosts K) (steps : List Step) (old new : Store) : Type 0 where
   pub keeps : KeepsSound g old new
+  pub gains : GainsNothing g old new
   pub content : (t : K) → IsWayTo g old t steps → tree_content g new ≡ without_pair g.compare t (tree_content g old)
   pub depth : depth_of new ≤ depth_of old
   pub free : free_nodes old ≤ free_nodes new

@@ -2,7 +2,7 @@
 
 ghost use Rattle.std.specs.Prelude.{◌≡◌, OnOk};
 ghost use Rattle.hfs_btree_edits.specs.Conditions.{IsThere};
-ghost use Rattle.hfs_btree_removal.specs.Removal.{HasLost};
+ghost use Rattle.hfs_btree_edits.specs.Edits.{HasRemoved};
 ghost use Rattle.hfs_btree.specs.Header.{tree_content};
 ghost use Rattle.hfs_btree.specs.Pairs.{lookup};
 ghost use Rattle.hfs_btree_removal.specs.Removal.{HasTakenOut};
@@ -49,7 +49,7 @@ fn take_out<K: Key, S: NodesMut>(
 pub fn remove<K: Key, S: NodesMut>(alloc: Global, nodes: &mut S, key: &K) -> Result<(), AllocError>
     requires sound { IsSound K.Key (S.nodes nodes.old) }
     requires there { IsThere (lookup K.compare key.now (tree_content K.Key (S.nodes nodes.old))) }
-    ensures removed { OnOk result (HasLost K.Key key.now (S.nodes nodes.old) (S.nodes nodes.new)) }
+    ensures removed { OnOk result (HasRemoved K.Key key.now (S.nodes nodes.old) (S.nodes nodes.new)) }
     ensures kept { OnOk result (S.kept nodes.new ≡ S.kept nodes.old) }
 {
     lower_root::<K, S>(alloc, nodes)?;

@@ -1,7 +1,7 @@
 //! The root, where it gives way.
 
 ghost use Rattle.std.specs.Prelude.{◌≡◌, ◌+◌, ◌≤◌, [], OnOk, length};
-ghost use Rattle.hfs_btree_removal.specs.Removal.{KeepsSound};
+ghost use Rattle.hfs_btree_removal.specs.Removal.{KeepsSound, GainsNothing};
 ghost use Rattle.hfs_btree.specs.Header.{header_in, depth_of, free_nodes, tree_content};
 ghost use Rattle.hfs_btree_removal.specs.Removal.{HasLowered};
 ghost use Rattle.hfs_btree.specs.Sound.{IsSound};
@@ -23,6 +23,7 @@ fn lower_once<K: Key, S: NodesMut>(
     requires deep { 2 ≤ depth_of (S.nodes nodes.old) }
     requires one { length (records_in (S.nodes nodes.old) (header_in (S.nodes nodes.old)).root) ≡ 1 }
     ensures keeps { OnOk result (KeepsSound K.Key (S.nodes nodes.old) (S.nodes nodes.new)) }
+    ensures gains { OnOk result (GainsNothing K.Key (S.nodes nodes.old) (S.nodes nodes.new)) }
     ensures content { OnOk result (tree_content K.Key (S.nodes nodes.new) ≡ tree_content K.Key (S.nodes nodes.old)) }
     ensures depth { OnOk result (depth_of (S.nodes nodes.new) + 1 ≡ depth_of (S.nodes nodes.old)) }
     ensures free { OnOk result (free_nodes (S.nodes nodes.new) ≡ free_nodes (S.nodes nodes.old) + 1) }
@@ -73,6 +74,7 @@ pub(crate) fn drop_root<K: Key, S: NodesMut>(
     requires header { header.now ≡ header_in (S.nodes nodes.old) }
     requires one { depth_of (S.nodes nodes.old) ≡ 1 }
     ensures keeps { OnOk result (KeepsSound K.Key (S.nodes nodes.old) (S.nodes nodes.new)) }
+    ensures gains { OnOk result (GainsNothing K.Key (S.nodes nodes.old) (S.nodes nodes.new)) }
     ensures empty { OnOk result (tree_content K.Key (S.nodes nodes.new) ≡ []) }
     ensures depth { OnOk result (depth_of (S.nodes nodes.new) ≡ 0) }
     ensures free { OnOk result (free_nodes (S.nodes nodes.new) ≡ free_nodes (S.nodes nodes.old) + 1) }

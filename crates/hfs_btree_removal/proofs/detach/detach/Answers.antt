@@ -1,4 +1,4 @@
-use Rattle.std.proofs.Common.{◌≡◌, ◌≤◌, ℕ, length, sym, ap, ◌∙◌, subst}
+use Rattle.std.proofs.Common.{◌≤◌, sym, subst}
 use Rattle.hfs_btree.specs.declared.header.Header.{Header}
 use Rattle.hfs_btree_removal.proofs.OutWhole.{can-unlink, take-can, records-some, put-within, put-long}
 use Rattle.hfs_btree_removal.proofs.detach.detach.Goals as goal

@@ -1,4 +1,4 @@
-use Rattle.std.proofs.Common.{◌≡◌, List, ℕ, [], sym, subst, arith, ap, ◌∙◌}
+use Rattle.std.proofs.Common.{◌≡◌, List, ℕ, [], sym, subst, arith}
 use Rattle.std.specs.Prelude.{true}
 use Rattle.hfs_node.specs.Node.{node_of}
 use Rattle.hfs_scans.specs.Elements.{each-at}

@@ -1,5 +1,5 @@
 use Rattle.hfs_btree_removal.proofs.WaySteps.{wide-is, one-more, ones-none, ones-all}
-use Rattle.std.proofs.Common.{◌≡◌, ◌<◌, ◌≤◌, length, arith}
+use Rattle.std.proofs.Common.{arith}
 use Rattle.hfs_btree_removal.proofs.down.last_wide.Goals as goal
 
 pub loop-i-init : goal.loop-i-init

@@ -1,9 +1,9 @@
-use Rattle.std.proofs.Common.{◌≡◌, ◌<◌, ℕ, ◌-◌, ◌+◌, List, [], ◌∷◌, ◌++◌, length, ap, sym, ◌∙◌, subst, refl, arith, length-append}
+use Rattle.std.proofs.Common.{ℕ, ◌-◌, List, [], ◌∷◌, length, ap, sym, ◌∙◌, subst, arith, length-append}
 use Rattle.hfs_btree_removal.specs.declared.down.Step.{Step}
 use Rattle.hfs_btree.specs.declared.header.Header.{Header}
 use Rattle.hfs_btree.specs.Search.{leaf_under}
-use Rattle.hfs_btree.specs.Header.{header_in, depth_of}
-use Rattle.hfs_btree_removal.specs.Ways.{Leads, IsWayTo}
+use Rattle.hfs_btree.specs.Header.{header_in}
+use Rattle.hfs_btree_removal.specs.Ways.{Leads}
 use Rattle.hfs_btree.specs.Descent.{IsOnWay, root-way, way-within, way-for, leaf-step, leaf-end}
 use Rattle.hfs_btree_removal.proofs.WaySteps.{leads-more, step-entries, step-within, step-is, step-child, step-for, way-entries, way-there, way-leaf, way-equal}
 use Rattle.hfs_btree_removal.proofs.down.steps_to.Goals as goal

@@ -1,4 +1,4 @@
-use Rattle.std.proofs.Common.{◌≡◌, ◌<◌, ◌≤◌, ℕ, List, [], length, get_or, sym, ap, ◌∙◌, subst, arith}
+use Rattle.std.proofs.Common.{◌≡◌, ◌<◌, ◌≤◌, ℕ, List, [], length, get_or, sym, ap, subst, arith}
 use Rattle.std.specs.Prelude.{true}
 use Rattle.hfs_node.specs.Node.{size_of}
 use Rattle.hfs_node.specs.Sizes.{size_of-set}

@@ -1,9 +1,9 @@
-use Rattle.std.proofs.Common.{◌≡◌, ◌<◌, ◌≤◌, length, arith}
+use Rattle.std.proofs.Common.{◌<◌, length, arith}
 use Rattle.hfs_btree.specs.Descent.{root-way, way-within}
 use Rattle.hfs_btree.specs.Decoded.{decoded-within}
 use Rattle.hfs_btree_edits.specs.Writes.{on_ok}
 use Rattle.hfs_btree_removal.proofs.HeadPut.{still-within}
-use Rattle.hfs_btree_removal.proofs.HeadPut.{dropped-sound, dropped-stray, dropped-keeps, dropped-content, dropped-depth, dropped-free}
+use Rattle.hfs_btree_removal.proofs.HeadPut.{dropped-sound, dropped-stray, dropped-keeps, dropped-gains, dropped-content, dropped-depth, dropped-free}
 use Rattle.hfs_btree_removal.proofs.top.drop_root.Goals as goal
 
 pub put_header-requires-clause-within : goal.put_header-requires-clause-within
@@ -24,6 +24,12 @@ pub returns-clause-keeps : goal.returns-clause-keeps
 returns-clause-keeps g c =
     on_ok c.release.result _ _
     (dropped-keeps g.K.Key (g.S.Nodes.nodes c.args.nodes.now) (g.S.Nodes.nodes c.put_header.new.nodes) c.requires.sound c.requires.one c.args.header.now c.requires.header c.in_ok-put_header.ensures.put (g.S.Nodes.nodes c.release.new.nodes))
+    c.release.ensures.released
+
+pub returns-clause-gains : goal.returns-clause-gains
+returns-clause-gains g c =
+    on_ok c.release.result _ _
+    (dropped-gains g.K.Key (g.S.Nodes.nodes c.args.nodes.now) (g.S.Nodes.nodes c.put_header.new.nodes) c.requires.sound c.requires.one c.args.header.now c.requires.header c.in_ok-put_header.ensures.put (g.S.Nodes.nodes c.release.new.nodes))
     c.release.ensures.released
 
 pub returns-clause-empty : goal.returns-clause-empty

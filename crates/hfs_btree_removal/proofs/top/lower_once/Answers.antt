@@ -1,15 +1,13 @@
 use Rattle.std.proofs.Common.{◌≡◌, ◌<◌, ◌≤◌, ◌-◌, ℕ, List, length, sym, subst, ap, ◌∙◌, arith}
 use Rattle.std.specs.Prelude.{true}
-use Rattle.hfs_node.specs.Node.{node_of}
 use Rattle.hfs_btree.specs.declared.header.Header.{Header}
 use Rattle.hfs_scans.specs.Each.{Each}
-use Rattle.hfs_btree.specs.Tree.{records_of}
 use Rattle.hfs_btree.specs.Header.{header_in, depth_of}
 use Rattle.hfs_btree.specs.Decoded.{decoded-within, records-read}
-use Rattle.hfs_btree.specs.Descent.{root-way, way-within, way-some, index-entries}
+use Rattle.hfs_btree.specs.Descent.{root-way, way-within, index-entries}
 use Rattle.hfs_btree_edits.specs.Writes.{on_ok}
 use Rattle.hfs_btree_removal.proofs.HeadPut.{still-within}
-use Rattle.hfs_btree_removal.proofs.HeadPut.{once-sound, once-stray, once-keeps, once-content, once-depth, once-free}
+use Rattle.hfs_btree_removal.proofs.HeadPut.{once-sound, once-stray, once-keeps, once-gains, once-content, once-depth, once-free}
 use Rattle.hfs_btree_removal.proofs.top.lower_once.Goals as goal
 
 pub read-requires : goal.read-requires
@@ -53,6 +51,13 @@ pub returns-clause-keeps : goal.returns-clause-keeps
 returns-clause-keeps g c =
     on_ok c.release.result _ _
     (once-keeps g.K.Key (g.S.Nodes.nodes c.args.nodes.now) (g.S.Nodes.nodes c.put_header.new.nodes) c.requires.sound c.requires.deep c.requires.one c.args.header.now c.requires.header
+    c.read.new.into c.read.ensures c.child_at-child.result c.child_at-child.ensures c.in_ok-put_header.ensures.put (g.S.Nodes.nodes c.release.new.nodes))
+    c.release.ensures.released
+
+pub returns-clause-gains : goal.returns-clause-gains
+returns-clause-gains g c =
+    on_ok c.release.result _ _
+    (once-gains g.K.Key (g.S.Nodes.nodes c.args.nodes.now) (g.S.Nodes.nodes c.put_header.new.nodes) c.requires.sound c.requires.deep c.requires.one c.args.header.now c.requires.header
     c.read.new.into c.read.ensures c.child_at-child.result c.child_at-child.ensures c.in_ok-put_header.ensures.put (g.S.Nodes.nodes c.release.new.nodes))
     c.release.ensures.released
 

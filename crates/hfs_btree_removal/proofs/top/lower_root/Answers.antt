@@ -1,4 +1,4 @@
-use Rattle.std.proofs.Common.{refl, ◌≡◌, ◌+◌, ◌≤◌, ◌<◌, ℕ, sym, ap, ◌∙◌, arith}
+use Rattle.std.proofs.Common.{refl, ◌≡◌, sym, ap, ◌∙◌, arith}
 use Rattle.hfs_btree.specs.declared.header.Header.{Header}
 use Rattle.hfs_btree.specs.Header.{depth_of}
 use Rattle.hfs_btree_removal.proofs.LowerLoop.{lowered-none, lowered-more, lower-levels, lower-within, lower-count, lower-wide, lower-shallow}
@@ -48,8 +48,8 @@ loop-header-smaller g c =
 
 pub loop-header-preserved : goal.loop-header-preserved
 loop-header-preserved g c = record {
-  lowered = lowered-more g.K.Key (g.S.Nodes.nodes c.args.nodes.now) (g.S.Nodes.nodes c.loop-header.nodes) (g.S.Nodes.nodes c.lower_once.new.nodes) c.loop-header.invariant.lowered
-      c.in_ok-lower_once.ensures.keeps c.in_ok-lower_once.ensures.content c.in_ok-lower_once.ensures.depth c.in_ok-lower_once.ensures.free;
+  lowered = lowered-more g.K.Key (g.S.Nodes.nodes c.args.nodes.now) (g.S.Nodes.nodes c.loop-header.nodes) (g.S.Nodes.nodes c.lower_once.new.nodes) c.requires c.loop-header.invariant.lowered
+      c.in_ok-lower_once.ensures.keeps c.in_ok-lower_once.ensures.gains c.in_ok-lower_once.ensures.content c.in_ok-lower_once.ensures.depth c.in_ok-lower_once.ensures.free;
   kept = c.in_ok-lower_once.ensures.kept ∙ c.loop-header.invariant.kept;
   header = c.read_header-header-in-loop-header.ensures;
 }
