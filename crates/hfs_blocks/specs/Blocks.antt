@@ -1,5 +1,5 @@
 -- Blocks of 512 bytes, and files that lie in runs of them.
-use Rattle.std.specs.Prelude.{◌≡◌, ℕ, ◌+◌, ◌*◌, ◌/◌, ◌<◌, ◌≤◌, ◌^◌, List, length, map, take, drop}
+use Rattle.std.specs.Prelude.{◌≡◌, ℕ, ◌+◌, ◌*◌, ◌/◌, ◌<◌, ◌≤◌, ◌^◌, List, length, map, take, drop, slice_index_or}
 use Rattle.std.specs.List.{All, flat_map, range_with_len, sum_by}
 use Rattle.std.proofs.Common.{arith, length-drop, length-take}
 use Rattle.hfs_blocks.specs.declared.run.Run.{Run}
@@ -30,7 +30,12 @@ nodes_in blocks runs = map blocks (flat_map run_of runs)
 abbrev pub total_of : List Run → ℕ
 total_of runs = sum_by (λ run. run.count) runs
 
--- the runs lie among so many blocks, and have fewer than 2^32 nodes together
+-- each run tells how many blocks the runs before it have
+abbrev pub AreCounted : List Run → Type 0
+AreCounted runs = (i : ℕ) (none : Run) → i < length runs → (slice_index_or runs i none).before ≡ total_of (take i runs)
+
+-- the runs lie among so many blocks, have fewer than 2^32 nodes together, and tell how many come before each
 pub record AreRunsWithin (runs : List Run) (total : ℕ) : Type 0 where
   pub within : All (λ run. run.first + run.count ≤ total) runs
   pub few : total_of runs < 2 ^ 32
+  pub counted : AreCounted runs

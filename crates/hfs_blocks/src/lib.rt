@@ -11,4 +11,4 @@ pub use blocks::Blocks;
 pub use image::ImageBytes;
 pub use patch::Patch;
 pub use patched::Patched;
-pub use run::Run;
+pub use run::{Run, block_of};

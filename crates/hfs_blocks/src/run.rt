@@ -1,4 +1,9 @@
-//! A run of blocks.
+//! A run of blocks, and the runs of a file.
+
+ghost use Rattle.std.specs.Prelude.{◌≡◌, ℕ, ◌+◌, ◌<◌, ◌≤◌, length, slice_index_or};
+ghost use Rattle.std.specs.List.{flat_map};
+ghost use Rattle.hfs_blocks.specs.Blocks.{run_of, AreCounted, AreRunsWithin};
+ghost use Rattle.hfs_blocks.specs.declared.run.Run.{Run};
 
 /// Blocks that follow one another: the number of the first, counted from 0, and how many there are.
 #[derive(Debug, Clone, Copy, PartialEq, Eq)]
@@ -7,4 +12,28 @@ pub struct Run {
     pub first: u32,
     /// How many blocks it has.
     pub count: u32,
+    /// How many blocks its file has in the runs before it; 0 where the run is no part of a file.
+    pub before: u32,
+}
+
+/// The place of the run in which node `n` of the file lies. A binary search.
+fn place_of(runs: &[Run], n: u32) -> usize
+    requires within { n < length (flat_map run_of runs.now) }
+    requires counted { AreCounted runs.now }
+    ensures within { result < length runs.now }
+    ensures begins { (none : Run) → (slice_index_or runs.now result none).before ≤ n }
+    ensures ends { (none : Run) → n < (slice_index_or runs.now result none).before + (slice_index_or runs.now result none).count }
+{
+    runs.partition_point(|run| run.before <= n) - 1
+}
+
+/// The number of the block in which node `n` of the file lies whose nodes lie in these runs. A binary search.
+pub fn block_of(runs: &[Run], n: u32) -> u32
+    requires within { n < length (flat_map run_of runs.now) }
+    requires small { AreRunsWithin runs.now 4294967296 }
+    ensures number { result ≡ slice_index_or (flat_map run_of runs.now) n 0 }
+    ensures inside { (total : ℕ) → AreRunsWithin runs.now total → result < total }
+{
+    let run = runs[place_of(runs, n)];
+    run.first + (n - run.before)
 }

@@ -4,7 +4,7 @@ ghost use Rattle.std.specs.Prelude.{◌≡◌, length};
 ghost use Rattle.hfs_blocks.specs.Blocks.{nodes_in, AreRunsWithin};
 
 use crate::nodes::Nodes;
-use hfs_blocks::{Blocks, Run};
+use hfs_blocks::{Blocks, Run, block_of};
 
 /// The nodes of a file that lies in runs of blocks: node n is the n-th 512 bytes of the runs in their order.
 #[derive(Drop)]
@@ -24,14 +24,6 @@ impl<B: Blocks> Nodes for RunNodes<'_, B> {
     }
 
     fn read(&self, n: u32, into: &mut [u8; 512]) {
-        let mut before = n;
-        for run in self.runs {
-            if before < run.count {
-                self.blocks.block(run.first + before, into);
-                return;
-            }
-            before -= run.count;
-        }
-        unreachable!()
+        self.blocks.block(block_of(self.runs, n), into);
     }
 }

@@ -36,5 +36,4 @@ pub mod Claims
 pub mod Replaced
 pub mod Laws
 pub mod Files
-pub mod Numbers
 pub mod Written

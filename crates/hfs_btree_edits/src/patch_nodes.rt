@@ -1,6 +1,6 @@
 //! The nodes of a file in the blocks of a volume, with a patch over them.
 
-ghost use Rattle.std.specs.Prelude.{◌≡◌, ℕ, ◌<◌, List, length, slice_index_or};
+ghost use Rattle.std.specs.Prelude.{ℕ, List};
 ghost use Rattle.std.specs.List.{flat_map};
 ghost use Rattle.hfs_blocks.specs.Blocks.{run_of, nodes_in, AreRunsWithin};
 ghost use Rattle.hfs_btree.specs.Sound.{IsDistinct};
@@ -9,7 +9,7 @@ ghost use Rattle.hfs_blocks.specs.Layers.{changes, over};
 ghost use Rattle.hfs_btree_edits.specs.Files.{beside, distinct-prop, AreWithin};
 
 use crate::nodes_mut::NodesMut;
-use hfs_blocks::{Blocks, Patch, Run};
+use hfs_blocks::{Blocks, Patch, Run, block_of};
 use hfs_btree::{Nodes, RunNodes};
 use std::alloc::AllocError;
 
@@ -25,23 +25,6 @@ pub struct PatchNodes<'a, B: Blocks> {
     ghost within: { AreRunsWithin runs.now (B.total below.now) },
     ghost different: { IsDistinct (flat_map run_of runs.now) } by { distinct-prop (flat_map run_of runs.now) },
     ghost inside: { AreWithin (changes patch) (B.total below.now) },
-}
-
-/// The number of the block in which node `n` lies.
-fn block_of(runs: &[Run], n: u32) -> u32
-    requires within { n < length (flat_map run_of runs.now) }
-    requires small { AreRunsWithin runs.now 4294967296 }
-    ensures number { result ≡ slice_index_or (flat_map run_of runs.now) n 0 }
-    ensures inside { (total : ℕ) → AreRunsWithin runs.now total → result < total }
-{
-    let mut before = n;
-    for run in runs {
-        if before < run.count {
-            return run.first + before;
-        }
-        before -= run.count;
-    }
-    unreachable!()
 }
 
 impl<B: Blocks> Nodes for PatchNodes<'_, B> {

@@ -1,5 +1,5 @@
 -- The steps of going through the catalog's records in their order.
-use Rattle.std.proofs.Common.{◌≡◌, ⊎_elim, ℕ, ◌<◌, ◌≤◌, Bool, true, false, cond, ◌&&◌, eqb, List, [], ◌∷◌, ◌++◌, length, drop, map, refl, sym, ◌∙◌, ap, arith, append_assoc, Some, None}
+use Rattle.std.proofs.Common.{◌≡◌, ⊎_elim, ℕ, zero, suc, ◌-◌, ◌<◌, ◌≤◌, Bool, true, false, cond, ◌&&◌, eqb, List, [], ◌∷◌, ◌++◌, length, drop, map, slice_get, refl, sym, ◌∙◌, ap, arith, append_assoc, Some, None}
 use Rattle.std.specs.Option.{option_map, option_to_list, is_some}
 use Rattle.std.specs.declared.cmp.Ordering.{Ordering}
 use Rattle.std.specs.declared.cmp.Ordering.TheVariants.{Less, Equal, Greater}
@@ -148,3 +148,65 @@ listing_ends whole dir found ps out h = sym (h.same ∙ ap (λ (l : Catalog). fo
     nil : (xs : List CatalogItem) → xs ++ [] ≡ xs
     nil [] = refl
     nil (x ∷ xs) = ap (λ (l : List CatalogItem). x ∷ l) (nil xs)
+
+-- ---- a folder's child at a place
+
+-- what is left of a walk through the records of a folder to the child at a place, and how many children come before it
+pub record IsApproach (whole : Catalog) (dir place left : ℕ) (ps : Catalog) : Type 0 where
+  pub rises : Rises cat_cmp ps
+  pub from : Each (λ r. dir ≤ r.0.parent) ps
+  pub same : slice_get (map catalog_item (children_of whole dir)) place ≡ slice_get (map catalog_item (children_of ps dir)) left
+
+pub approach_begins : (catalog : Catalog) (dir place : ℕ) → Rises cat_cmp catalog → IsApproach catalog dir place place (pairs_from cat_cmp (first_key dir) catalog)
+approach_begins catalog dir place h =
+    let all = listing_begins catalog dir h in
+    record { rises = all.rises; from = all.from; same = ap (λ (l : List CatalogItem). slice_get l place) all.same }
+
+-- past a record that is none of an item
+pub approach_skips : (whole : Catalog) (dir place left : ℕ) (ps : Catalog) → is_under dir (first_pair ps) ≡ true → is_some (item_at (first_pair ps)) ≡ false
+    → IsApproach whole dir place left ps → IsApproach whole dir place left (drop 1 ps)
+approach_skips whole dir place left [] under none h = absurd (true≢false (sym under))
+approach_skips whole dir place left (r ∷ rest) under none h = record {
+  rises = h.rises.1;
+  from = h.from.1;
+  same = h.same ∙ other (is_item r.1) none;
+}
+  where
+    other : (b : Bool) → is_some (cond b (Some (catalog_item r)) None) ≡ false
+        → slice_get (map catalog_item (cond (b && eqb r.0.parent dir) (r ∷ children_of rest dir) (children_of rest dir))) left ≡ slice_get (map catalog_item (children_of rest dir)) left
+    other true e = absurd (true≢false e)
+    other false e = refl
+
+-- the children from an item's record on
+here_is : (dir : ℕ) (r : Record) (rest : Catalog) (left : ℕ) (b : Bool) → eqb r.0.parent dir ≡ true → is_some (cond b (Some (catalog_item r)) None) ≡ true
+    → slice_get (map catalog_item (cond (b && eqb r.0.parent dir) (r ∷ children_of rest dir) (children_of rest dir))) left ≡ slice_get (catalog_item r ∷ map catalog_item (children_of rest dir)) left
+here_is dir r rest left true under some = ap (λ (b : Bool). slice_get (map catalog_item (cond b (r ∷ children_of rest dir) (children_of rest dir))) left) under
+here_is dir r rest left false under some = absurd (true≢false (sym some))
+
+-- past an item's record
+pub approach_goes_on : (whole : Catalog) (dir place left : ℕ) (ps : Catalog) → is_under dir (first_pair ps) ≡ true → is_some (item_at (first_pair ps)) ≡ true → (left ≡ 0 → ⊥)
+    → IsApproach whole dir place left ps → IsApproach whole dir place (left - 1) (drop 1 ps)
+approach_goes_on whole dir place left [] under some more h = absurd (true≢false (sym under))
+approach_goes_on whole dir place zero (r ∷ rest) under some more h = absurd (more refl)
+approach_goes_on whole dir place (suc left) (r ∷ rest) under some more h = record {
+  rises = h.rises.1;
+  from = h.from.1;
+  same = h.same ∙ here_is dir r rest (suc left) (is_item r.1) under some
+      ∙ (let e : left ≡ suc left - 1 = omega arith in ap (slice_get (map catalog_item (children_of rest dir))) e);
+}
+
+-- the item of the place
+pub approach_finds : (whole : Catalog) (dir place left : ℕ) (ps : Catalog) → is_under dir (first_pair ps) ≡ true → is_some (item_at (first_pair ps)) ≡ true → left ≡ 0
+    → IsApproach whole dir place left ps → item_at (first_pair ps) ≡ slice_get (map catalog_item (children_of whole dir)) place
+approach_finds whole dir place left [] under some last h = absurd (true≢false (sym under))
+approach_finds whole dir place left (r ∷ rest) under some last h =
+    own (is_item r.1) some
+    ∙ sym (h.same ∙ ap (slice_get (map catalog_item (children_of (r ∷ rest) dir))) last ∙ here_is dir r rest 0 (is_item r.1) under some)
+  where
+    own : (b : Bool) → is_some (cond b (Some (catalog_item r)) None) ≡ true → cond b (Some (catalog_item r)) None ≡ Some (catalog_item r)
+    own true e = refl
+    own false e = absurd (true≢false (sym e))
+
+pub approach_ends : (whole : Catalog) (dir place left : ℕ) (ps : Catalog) → is_under dir (first_pair ps) ≡ false → IsApproach whole dir place left ps
+    → None ≡ slice_get (map catalog_item (children_of whole dir)) place
+approach_ends whole dir place left ps out h = sym (h.same ∙ ap (λ (l : Catalog). slice_get (map catalog_item l) left) (past dir ps out h.rises h.from))

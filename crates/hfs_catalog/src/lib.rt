@@ -12,6 +12,6 @@ pub use laws::{
     entries_are_records, items_are_records, named_are_records, records_are_children,
     sound_is_lawful, valences_are_counted,
 };
-pub use lookups::{by_id, children, lookup, thread};
+pub use lookups::{by_id, child_at, children, lookup, thread};
 pub use record::CatalogRecord;
 pub use records::read_records;

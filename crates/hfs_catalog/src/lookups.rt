@@ -1,6 +1,6 @@
 //! Look-ups in the catalog of a volume.
-ghost use Rattle.std.specs.Prelude.{◌≡◌, ◌==◌, ◌++◌, IfOk, OnOk, ◌&&◌, Some, None, length, map, option_map, IsTrue};
-ghost use Rattle.std.specs.Option.{SomeIff, option_to_list};
+ghost use Rattle.std.specs.Prelude.{◌≡◌, ◌==◌, ◌++◌, IfOk, OnOk, ◌&&◌, Some, None, length, map, option_map, slice_get, IsTrue};
+ghost use Rattle.std.specs.Option.{SomeIff, is_some, option_to_list};
 ghost use Rattle.hfs_fields.specs.Records.{is_thread, begins_thread, thread_record_of};
 ghost use Rattle.hfs_scans.specs.Each.{Each};
 ghost use Rattle.hfs_btree.specs.Lookups.{first_pair};
@@ -10,7 +10,7 @@ ghost use Rattle.hfs_catalog.specs.Sound.{IsRecord, AreNamesSound, ArePlacesSoun
 ghost use Rattle.hfs_catalog.specs.Tree.{IsCatalogTree, catalog_of};
 ghost use Rattle.hfs_catalog.specs.Lookups.{catalog_item, child_named, children_of, thread_of, named_at, thread_at, with_id_at, first_key, is_under, item_at};
 
-use crate::item::{CatalogItem, is_thread, item_of, item_with_id};
+use crate::item::{CatalogItem, is_item, is_thread, item_of, item_with_id};
 use hfs_btree::{Nodes, Walk};
 use hfs_fields::{CatKey, Name, ThreadRecord, same_name};
 use std::alloc::{AllocError, Global};
@@ -195,4 +195,36 @@ pub fn children<N: Nodes>(
         walk.advance();
     }
     Ok(found)
+}
+
+/// Whether a walk's next pair is a folder's or a file's.
+fn is_item_at<N: Nodes>(walk: &Walk<'_, CatKey, N>) -> bool
+    ensures { result ≡ is_some (item_at (first_pair walk.now)) }
+{
+    match walk.pair() {
+        Some(pair) => is_item(pair.body),
+        None => false,
+    }
+}
+
+/// The file or folder at that place in a folder, in name order, counted from 0. None where the folder has no more than so
+/// many, and in what is no folder.
+///
+/// It reads each leaf up to that place once, and takes no memory.
+pub fn child_at<N: Nodes>(nodes: &N, dir: u32, place: u32) -> Option<CatalogItem>
+    requires { IsCatalogTree (N.nodes nodes.now) }
+    ensures { result ≡ slice_get (map catalog_item (children_of (catalog_of (N.nodes nodes.now)) dir)) place }
+{
+    let mut left = place;
+    let mut walk = Walk::from(nodes, &first_key(dir));
+    while is_under(&walk, dir) {
+        if is_item_at(&walk) {
+            if left == 0 {
+                return item_at(&walk);
+            }
+            left -= 1;
+        }
+        walk.advance();
+    }
+    None
 }

@@ -12,7 +12,7 @@ blocks_each mdb = mdb.allocation_block_size / 512
 
 -- the logical blocks of an extent
 abbrev pub run_in : Mdb → Extent → Run
-run_in mdb e = record { first = mdb.allocation_start + e.first * blocks_each mdb; count = e.count * blocks_each mdb }
+run_in mdb e = record { first = mdb.allocation_start + e.first * blocks_each mdb; count = e.count * blocks_each mdb; before = 0 }
 
 -- the allocation blocks are among the volume's logical blocks
 abbrev pub HasArea : Mdb → ℕ → Type 0

@@ -57,6 +57,7 @@ fn read_extent<B: Blocks>(
     let run = Run {
         first: u32::from(mdb.allocation_start) + u32::from(extent.first) * each,
         count: u32::from(extent.count) * each,
+        before: 0,
     };
     read_run(blocks, run, from, from + count, bytes)
 }

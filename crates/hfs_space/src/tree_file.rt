@@ -20,17 +20,22 @@ fn first_blocks<B: Blocks>(blocks: &B, mdb: &Mdb, extent: Extent, most: u32) -> 
     ensures inside { result.first + result.count ≤ B.total blocks.now }
 {
     if extent.count == 0 {
-        return Run { first: 0, count: 0 };
+        return Run {
+            first: 0,
+            count: 0,
+            before: 0,
+        };
     }
     let each = mdb.allocation_block_size / 512;
     Run {
         first: u32::from(mdb.allocation_start) + u32::from(extent.first) * each,
         count: most.min(u32::from(extent.count) * each),
+        before: 0,
     }
 }
 
-/// The runs of logical blocks in which the nodes of a tree's file lie, in order: those of its extents, cut where the
-/// file of `size` bytes (drXTFlSize, drCTFlSize) ends. The only error is want of memory.
+/// The runs of logical blocks in which the nodes of a tree's file lie, in order: those of its extents that have blocks,
+/// cut where the file of `size` bytes (drXTFlSize, drCTFlSize) ends. The only error is want of memory.
 ///
 /// Source: Inside Macintosh: Files, chapter 2, 'B*-trees'.
 #[tactic(auto, unfolding(crate::specs::TreeFiles::tree_nodes))]
@@ -48,11 +53,17 @@ pub fn tree_runs<B: Blocks>(
     ensures nodes { IfOk result (λ runs. nodes_in (B.blocks blocks.now) runs.items ≡ tree_nodes (B.blocks blocks.now) mdb.now extents.now size) }
 {
     let mut runs = Vec::new(alloc);
-    let mut rest = size.div_ceil(512);
+    let nodes = size.div_ceil(512);
+    let mut rest = nodes;
     for extent in extents {
         let run = first_blocks(blocks, mdb, *extent, rest);
-        runs.push(run)?;
-        rest -= run.count;
+        if run.count > 0 {
+            runs.push(Run {
+                before: nodes - rest,
+                ..run
+            })?;
+            rest -= run.count;
+        }
     }
     Ok(runs)
 }

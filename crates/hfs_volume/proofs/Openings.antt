@@ -1,5 +1,5 @@
 -- The bytes of an open fork that are left.
-use Rattle.std.proofs.Common.{inl, inr, ◌≡◌, ℕ, ◌+◌, ◌-◌, ◌*◌, ◌%◌, ◌≤◌, subst, List, [], length, take, drop, take_all, arith, refl, sym, ◌∙◌, ap, length-take, length-drop}
+use Rattle.std.proofs.Common.{inl, inr, ◌≡◌, ℕ, ◌+◌, ◌-◌, ◌*◌, ◌%◌, ◌≤◌, subst, List, length, take, drop, take_all, arith, sym, ◌∙◌, ap, length-take, length-drop}
 use Rattle.std.specs.Prelude.{min}
 use Rattle.std.proofs.lemmas.List.{take-take, drop-take, drop_all}
 use Rattle.std.proofs.lemmas.Bool.Decides.{leb_tells}

@@ -1,10 +1,10 @@
 -- What is told of a folder's children, by the items that are found.
-use Rattle.std.proofs.Common.{◌≡◌, ℕ, ◌-◌, ◌<◌, ◌≤◌, Bool, true, false, cond, List, [], ◌∷◌, length, map, take, get_or, refl, sym, ◌∙◌, ap}
+use Rattle.std.proofs.Common.{◌≡◌, ℕ, ◌-◌, ◌≤◌, Bool, true, false, cond, List, [], ◌∷◌, length, map, take, refl, sym, ◌∙◌, ap, Option, Some, None}
 use Rattle.std.specs.Prelude.{slice_get, not}
 use Rattle.std.specs.Option.{option_map, option_map_or}
 use Rattle.std.proofs.lemmas.Bool.{ne_eqb}
 use Rattle.std.proofs.lemmas.List.{take_all}
-use Rattle.std.proofs.lemmas.Option.{slice_get-map, slice_get-get_or}
+use Rattle.std.proofs.lemmas.Option.{slice_get-map}
 use Rattle.hfs_model.specs.declared.reply.Info.{Info}
 use Rattle.hfs_model.specs.declared.reply.Value.TheVariants as value
 use Rattle.hfs_model.specs.declared.reply.Reply.{Reply}
@@ -59,11 +59,18 @@ module _ (catalog : Catalog) (dir : ℕ) (items : List CatalogItem) (are : items
         ap (λ b. cond b (refusal PARAMETER) (cond (not (is_folder catalog dir)) (refusal NOT_A_FOLDER) (reply_at (index - 1)))) (ne_eqb index 0 some)
         ∙ ap (λ b. cond (not b) (refusal NOT_A_FOLDER) (reply_at (index - 1))) folder
 
-    pub indexed_at : (d : CatalogItem) → index - 1 < length items → indexed catalog dir index ≡ success (value.One (item_info catalog (get_or items (index - 1) d)))
-    indexed_at d within =
+    pub indexed_at : (found : Option CatalogItem) → found ≡ slice_get items (index - 1)
+        → indexed catalog dir index ≡ option_map_or (λ (item : CatalogItem). success (value.One (item_info catalog item))) found (refusal NOT_FOUND)
+    indexed_at found is =
         indexed_is
         ∙ ap (λ o. option_map_or (λ (info : Info). success (value.One info)) o (refusal NOT_FOUND))
-        (ap (λ l. slice_get l (index - 1)) (sym infos_are) ∙ slice_get-map (item_info catalog) items (index - 1) ∙ ap (option_map (item_info catalog)) (slice_get-get_or items (index - 1) d within))
+        (ap (λ l. slice_get l (index - 1)) (sym infos_are) ∙ slice_get-map (item_info catalog) items (index - 1) ∙ ap (option_map (item_info catalog)) (sym is))
+        ∙ both found
+      where
+        both : (o : Option CatalogItem) → option_map_or (λ (info : Info). success (value.One info)) (option_map (item_info catalog) o) (refusal NOT_FOUND)
+            ≡ option_map_or (λ (item : CatalogItem). success (value.One (item_info catalog item))) o (refusal NOT_FOUND)
+        both None = refl
+        both (Some item) = refl
 
 -- all that is told of a folder's children
 pub listed_in-full : (catalog : Catalog) (dir : ℕ) → listed_in detail.Full catalog dir ≡ listed catalog dir

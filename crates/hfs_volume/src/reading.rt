@@ -9,7 +9,7 @@ ghost use Rattle.hfs_volume.specs.Told.{IsCatalog, folder_with, dir_info, cat_in
 
 use crate::reply::{Detail, item_info, refusal, success};
 use hfs_btree::Nodes;
-use hfs_catalog::{CatalogItem, ItemRecord, by_id, children, lookup, thread};
+use hfs_catalog::{CatalogItem, ItemRecord, by_id, child_at, children, lookup, thread};
 use hfs_fields::{FileRecord, Name};
 use hfs_model::{BAD_NAME, Info, Infos, NOT_A_FOLDER, NOT_FOUND, PARAMETER, Reply, Value};
 use std::alloc::{AllocError, Global};
@@ -76,27 +76,20 @@ fn infos<N: Nodes>(
 }
 
 /// What is told of the folder's child at that place in name order, counted from 1.
-pub(crate) fn get_indexed<N: Nodes>(
-    alloc: Global,
-    nodes: &N,
-    dir: u32,
-    index: u32,
-) -> Result<Reply, AllocError>
+pub(crate) fn get_indexed<N: Nodes>(nodes: &N, dir: u32, index: u32) -> Reply
     requires { IsCatalog (N.nodes nodes.now) }
-    ensures { IfOk result (λ reply. reply ≡ indexed (catalog_of (N.nodes nodes.now)) dir index) }
+    ensures { result ≡ indexed (catalog_of (N.nodes nodes.now)) dir index }
 {
     if index == 0 {
-        return Ok(refusal(PARAMETER));
+        return refusal(PARAMETER);
     }
     if folder(nodes, dir).is_none() {
-        return Ok(refusal(NOT_A_FOLDER));
+        return refusal(NOT_A_FOLDER);
     }
-    let items = children(alloc, nodes, dir)?;
-    let at = (index - 1) as usize;
-    if at >= items.len() {
-        return Ok(refusal(NOT_FOUND));
+    match child_at(nodes, dir, index - 1) {
+        Some(item) => success(Value::One(item_info(nodes, &item, Detail::Full))),
+        None => refusal(NOT_FOUND),
     }
-    Ok(success(Value::One(item_info(nodes, &items[at], Detail::Full))))
 }
 
 /// What is told of all the folder's children, in name order.

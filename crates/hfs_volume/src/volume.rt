@@ -77,7 +77,7 @@ impl Volume {
         match call {
             Call::GetDirInfo { dir } => Ok(self.get_dir_info(*dir)),
             Call::GetCatInfo { dir, name } => Ok(self.get_cat_info(*dir, name.as_slice())),
-            Call::GetIndexed { dir, index } => self.get_indexed(alloc, *dir, *index),
+            Call::GetIndexed { dir, index } => Ok(self.get_indexed(*dir, *index)),
             Call::List { dir } => self.list(alloc, *dir),
             Call::ReadFork {
                 dir,
@@ -126,11 +126,11 @@ impl Volume {
     }
 
     /// What is told of the folder's child at that place in name order, counted from 1: -50 where `index` is 0, -120 where
-    /// `dir` isn't the ID of a folder, -43 where the folder has fewer children. The only error is want of memory.
-    pub fn get_indexed(&self, alloc: Global, dir: u32, index: u32) -> Result<Reply, AllocError>
-        ensures { IfOk result (λ reply. reply ≡ get_indexed (entries_of (volume_of self.now.current)) dir index) }
+    /// `dir` isn't the ID of a folder, -43 where the folder has fewer children. Takes no memory.
+    pub fn get_indexed(&self, dir: u32, index: u32) -> Reply
+        ensures { result ≡ get_indexed (entries_of (volume_of self.now.current)) dir index }
     {
-        reading::get_indexed(alloc, &self.catalog_nodes(), dir, index)
+        reading::get_indexed(&self.catalog_nodes(), dir, index)
     }
 
     /// What is told of all the folder's children, in name order: -120 where `dir` isn't the ID of a folder. The only error

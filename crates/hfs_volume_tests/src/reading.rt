@@ -30,12 +30,6 @@ fn a_new_volume_has_an_empty_root(rt: HostRuntime) -> Result<(), Fail> {
     Ok(())
 }
 
-/// The code of asking for a child of the root by its place.
-fn indexed_code(volume: &Volume, alloc: Global, index: u32) -> Result<i16, AllocError> {
-    let reply = volume.get_indexed(alloc, 2, index)?;
-    Ok(reply.code)
-}
-
 /// The code of asking for a folder's children.
 fn list_code(volume: &Volume, alloc: Global, dir: u32) -> Result<i16, AllocError> {
     let reply = volume.list(alloc, dir)?;
@@ -45,8 +39,8 @@ fn list_code(volume: &Volume, alloc: Global, dir: u32) -> Result<i16, AllocError
 #[test]
 fn places_and_folders_that_are_none(rt: HostRuntime) -> Result<(), Fail> {
     let volume = small_volume(rt.alloc(), SmallVolume::New)?;
-    assert_eq!(rt; indexed_code(&volume, rt.alloc(), 0)?, -50);
-    assert_eq!(rt; indexed_code(&volume, rt.alloc(), 1)?, -43);
+    assert_eq!(rt; volume.get_indexed(2, 0).code, -50);
+    assert_eq!(rt; volume.get_indexed(2, 1).code, -43);
     for dir in [1, 3, 16] {
         assert_eq!(rt; volume.get_dir_info(dir).code, -120);
         assert_eq!(rt; list_code(&volume, rt.alloc(), dir)?, -120);
@@ -61,7 +55,7 @@ fn a_file_is_found_by_name_and_by_place(rt: HostRuntime) -> Result<(), Fail> {
     let volume = small_volume(rt.alloc(), SmallVolume::OneFile)?;
     for reply in [
         volume.get_cat_info(2, b"F"),
-        volume.get_indexed(rt.alloc(), 2, 1)?,
+        volume.get_indexed(2, 1),
     ] {
         assert_eq!(rt; reply.code, 0);
         let info = one(&reply).ok_or("no item")?;

@@ -1,29 +1,39 @@
 -- The runs are taken extent by extent.
-use Rattle.std.proofs.Common.{◌+◌, ◌-◌, ◌++◌, ◌≤◌, take, drop, get_or, sym, ap, subst, ◌∙◌, arith, refl}
-use Rattle.std.specs.List.{All, flat_map}
+use Rattle.std.proofs.Common.{◌≡◌, ◌+◌, ◌-◌, ◌∷◌, [], ◌++◌, sym, ap, subst, ◌∙◌, arith}
+use Rattle.std.specs.List.{flat_map}
 use Rattle.hfs_fields.specs.declared.extent.Extent.{Extent}
-use Rattle.hfs_blocks.specs.Blocks.{run_of, total_of}
-use Rattle.hfs_space.specs.ForkLaws.{block_numbers}
+use Rattle.hfs_blocks.specs.declared.run.Run.{Run}
+use Rattle.hfs_blocks.specs.Blocks.{run_of}
 use Rattle.hfs_space.specs.TreeFiles.{tree_blocks, nodes_in-tree_blocks}
-use Rattle.hfs_space.proofs.TreeRuns.{numbers-more, runs-more, runs-end, total-more, within-more}
+use Rattle.hfs_space.proofs.TreeRuns.{AreRunsOf, one-more, none-more, runs-end}
 use Rattle.hfs_space.proofs.tree_file.tree_runs.Goals as goal
+use Rattle.hfs_space.proofs.tree_file.tree_runs.Goals.{then-run-gt0+in_ok-push, else-run-gt0}
+
+abbrev none : Extent
+none = record { first = 0; count = 0 }
 
 pub loop-extent-preserved : goal.loop-extent-preserved
 loop-extent-preserved g c =
-    let none : Extent = record { first = 0; count = 0 } in
+    let mdb = c.args.mdb.now in
+    let extents = c.args.extents.now in
+    let total = g.B.Blocks.total c.args.blocks.now in
     let i = c.loop-extent.extent-index in
+    let rest = c.loop-extent.rest in
     let run = c.first_blocks-run.result in
     let runs = c.loop-extent.runs.items in
-    let rest = take (c.loop-extent.rest - run.count) (block_numbers c.args.mdb.now (drop (i + 1) c.args.extents.now)) in
-    let more = runs-more c.args.mdb.now c.args.extents.now i (get_or c.args.extents.now i none) none c.loop-extent.rest (flat_map run_of runs) run
-    c.loop-extent-test.true refl c.first_blocks-run.ensures.run c.first_blocks-run.ensures.count in
-    record {
-      all = ap (λ l. flat_map run_of l ++ rest) c.in_ok-push.ensures.items ∙ ap (λ l. l ++ rest) (numbers-more runs run) ∙ more ∙ c.loop-extent.invariant.all;
-      within = subst (All (λ r. r.first + r.count ≤ g.B.Blocks.total c.args.blocks.now)) (sym c.in_ok-push.ensures.items)
-          (within-more (g.B.Blocks.total c.args.blocks.now) runs run c.loop-extent.invariant.within c.first_blocks-run.ensures.inside);
-      few = ap (λ l. total_of l + (c.loop-extent.rest - run.count)) c.in_ok-push.ensures.items
-          ∙ ap (λ n. n + (c.loop-extent.rest - run.count)) (total-more runs run) ∙ omega (arith, c.loop-extent.invariant.few, c.first_blocks-run.ensures.count);
-    }
+    let found = c.first_blocks-run.ensures in
+    elim c.if-run-gt0.branch [
+      | then-run-gt0+in_ok-push w ↦
+          let k = c.div_ceil-nodes.result - rest in
+          let items : c.if-run-gt0.runs.items ≡ runs ++ record { first = run.first; count = run.count; before = k } ∷ [] = ap (λ v. v.items) w.runs-is ∙ w.in_ok-push.ensures.items in
+          subst (λ l. AreRunsOf mdb extents c.args.size total l c.if-run-gt0.rest (i + 1)) (sym items)
+          (subst (λ n. AreRunsOf mdb extents c.args.size total (runs ++ record { first = run.first; count = run.count; before = k } ∷ []) n (i + 1)) (sym w.rest-is)
+          (one-more mdb extents c.args.size total runs rest i none run c.loop-extent.invariant c.loop-extent-test.true found.run found.count k (omega (arith, c.loop-extent.invariant.few, c.div_ceil-nodes.ensures)) found.inside))
+      | else-run-gt0 w ↦
+          subst (λ l. AreRunsOf mdb extents c.args.size total l c.if-run-gt0.rest (i + 1)) (sym (ap (λ v. v.items) w.runs-is))
+          (subst (λ n. AreRunsOf mdb extents c.args.size total runs n (i + 1)) (sym w.rest-is)
+          (none-more mdb extents c.args.size total runs rest i none run c.loop-extent.invariant c.loop-extent-test.true found.run found.count (omega (arith, w.if-run-gt0.false))))
+    ]
 
 pub returns-clause-numbers : goal.returns-clause-numbers
 unfolding tree_blocks

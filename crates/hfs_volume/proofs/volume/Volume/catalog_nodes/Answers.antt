@@ -1,4 +1,4 @@
-use Rattle.std.proofs.Common.{◌∙◌, ap}
+use Rattle.std.proofs.Common.{◌∙◌}
 use Rattle.hfs_blocks.specs.Blocks.{block_at, nodes_in}
 use Rattle.hfs_volume.proofs.Seen.{sound, is_catalog, same_content, are_entries}
 use Rattle.hfs_volume.proofs.volume.Volume.catalog_nodes.Goals as goal
