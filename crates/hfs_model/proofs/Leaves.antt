@@ -14,10 +14,11 @@ use Rattle.hfs_model.specs.declared.reply.Value.{Value}
 use Rattle.hfs_model.specs.declared.journal.Entry.{Entry as JournalEntry}
 use Rattle.hfs_model.specs.Volume.{Volume, Items, Entry}
 use Rattle.hfs_model.specs.Children.{is_folder_kind, child_named, entry_at, entries_of}
-use Rattle.hfs_model.specs.Replies.{refusal, success, is_accepted}
+use Rattle.hfs_model.specs.Replies.{refusal, success, is_accepted, has_thread}
 use Rattle.hfs_model.specs.Reading.{get_dir_info, get_cat_info, get_indexed, list, read_fork, fork_part, fork_of}
 use Rattle.hfs_model.specs.Choices.{and_then, lock_code, is_locked, child_to_change, file_to_change, unless_locked_file, to_create, to_delete, to_rename, to_move, to_set_f_info, to_set_cat_info}
 use Rattle.hfs_model.specs.Changes.{Outcome, touched, moved, with_lock, new_item, change, add, create, delete, rename, cat_move, set_f_info, set_cat_info, set_lock, new_file, new_folder}
+use Rattle.hfs_model.specs.FileIds.{set_thread, unless_has_thread, if_has_thread, file_of_id, to_create_file_id, to_delete_file_id, change_to_id, create_file_id, delete_file_id, place_reply, resolve_file_id}
 use Rattle.hfs_model.specs.Step.{step, is_reading}
 use Rattle.hfs_model.specs.Runs.{after, after_entry}
 use Rattle.hfs_model.specs.Need.{need, meets_want_of_nodes, step_within, full}
@@ -59,8 +60,12 @@ add_leaves : (v : Volume) (chosen : Result ℕ ℤ) (make : ℕ → Items → It
 add_leaves v (Ok id) make now refused = absurd (refused refl)
 add_leaves v (Err code) make now refused = refl
 
+change_to_id_leaves : (v : Volume) (chosen : Result Entry ℤ) (make : Entry → Items → Items) (now : ℕ) → Leaves v (change_to_id v chosen make now)
+change_to_id_leaves v (Ok e) make now refused = absurd (refused refl)
+change_to_id_leaves v (Err code) make now refused = refl
+
 pub refusal_leaves : (v : Volume) (c : Call) → Leaves v (step v c)
-unfolding create delete rename cat_move set_f_info set_cat_info set_lock
+unfolding create delete rename cat_move set_f_info set_cat_info set_lock create_file_id delete_file_id
 refusal_leaves v (call.GetDirInfo dir) refused = refl
 refusal_leaves v (call.GetCatInfo dir name) refused = refl
 refusal_leaves v (call.GetIndexed dir index) refused = refl
@@ -75,6 +80,9 @@ refusal_leaves v (call.SetFInfo dir name info now) refused = change_leaves v (to
 refusal_leaves v (call.SetCatInfo dir name created modified backup info now) refused = change_leaves v (to_set_cat_info v dir name) (sets_info created modified backup info) now refused
 refusal_leaves v (call.SetFLock dir name now) refused = change_leaves v (file_to_change v dir name) (sets_lock true) now refused
 refusal_leaves v (call.RstFLock dir name now) refused = change_leaves v (file_to_change v dir name) (sets_lock false) now refused
+refusal_leaves v (call.CreateFileId dir name now) refused = change_to_id_leaves v (to_create_file_id v dir name) (set_thread true) now refused
+refusal_leaves v (call.DeleteFileId id now) refused = change_leaves v (to_delete_file_id v id) (set_thread false) now refused
+refusal_leaves v (call.ResolveFileId id) refused = refl
 
 pub reading_leaves : (v : Volume) (c : Call) → IsTrue (is_reading c) → (step v c).0 ≡ v
 reading_leaves v (call.GetDirInfo dir) h = refl
@@ -91,6 +99,9 @@ reading_leaves v (call.SetFInfo dir name info now) h = absurd (true_false false 
 reading_leaves v (call.SetCatInfo dir name created modified backup info now) h = absurd (true_false false h refl)
 reading_leaves v (call.SetFLock dir name now) h = absurd (true_false false h refl)
 reading_leaves v (call.RstFLock dir name now) h = absurd (true_false false h refl)
+reading_leaves v (call.CreateFileId dir name now) h = absurd (true_false false h refl)
+reading_leaves v (call.DeleteFileId id now) h = absurd (true_false false h refl)
+reading_leaves v (call.ResolveFileId id) h = refl
 
 pub reading_needs_none : (c : Call) (depth : ℕ) → IsTrue (is_reading c) → need c depth ≡ 0
 reading_needs_none (call.GetDirInfo dir) depth h = refl
@@ -107,6 +118,9 @@ reading_needs_none (call.SetFInfo dir name info now) depth h = refl
 reading_needs_none (call.SetCatInfo dir name created modified backup info now) depth h = refl
 reading_needs_none (call.SetFLock dir name now) depth h = refl
 reading_needs_none (call.RstFLock dir name now) depth h = refl
+reading_needs_none (call.CreateFileId dir name now) depth h = absurd (true_false false h refl)
+reading_needs_none (call.DeleteFileId id now) depth h = refl
+reading_needs_none (call.ResolveFileId id) depth h = refl
 
 -- ---- -34 is none of the codes of step
 
@@ -195,6 +209,24 @@ set_cat_info_other : (v : Volume) (dir : ℕ) (name : List ℕ) → OtherCode (t
 unfolding to_set_cat_info
 set_cat_info_other v dir name = then (child_to_change v dir name) unless_locked_file (child_other v dir name) lock_file_other
 
+without_other : (e : Entry) → OtherCode (unless_has_thread e)
+without_other e = unless _ _ _ (negative 1301 refl) (unless _ _ _ (negative 1300 refl) (fine _))
+
+with_other : (e : Entry) → OtherCode (if_has_thread e)
+with_other e = unless _ _ _ (negative 1301 refl) (elim (has_thread e.1.kind) as (λ (b : Bool). OtherCode (cond b (Ok e) (Err (negsuc 1299)))) [ true ↦ fine e | false ↦ other_err _ (negative 1299 refl) ])
+
+file_of_id_other : (es : List Entry) (id : ℕ) → OtherCode (file_of_id es id)
+unfolding file_of_id
+file_of_id_other es id = then (ok_or (entry_at es id) _) if_has_thread (some_or (entry_at es id) _ (negative 1299 refl)) with_other
+
+create_file_id_other : (v : Volume) (dir : ℕ) (name : List ℕ) → OtherCode (to_create_file_id v dir name)
+unfolding to_create_file_id
+create_file_id_other v dir name = then (child_to_change v dir name) unless_has_thread (child_other v dir name) without_other
+
+delete_file_id_other : (v : Volume) (id : ℕ) → OtherCode (to_delete_file_id v id)
+unfolding to_delete_file_id
+delete_file_id_other v id = unless (is_locked v) _ _ (lock_other v) (file_of_id_other (entries_of v) id)
+
 change_other : (v : Volume) (chosen : Result Entry ℤ) (make : Entry → Items → Items) (now : ℕ) → OtherCode chosen → Other (change v chosen make now).1.code
 change_other v (Ok e) make now p = none
 change_other v (Err code) make now p = p.other code refl
@@ -202,6 +234,18 @@ change_other v (Err code) make now p = p.other code refl
 add_other : (v : Volume) (chosen : Result ℕ ℤ) (make : ℕ → Items → Items) (now : ℕ) → OtherCode chosen → Other (add v chosen make now).1.code
 add_other v (Ok id) make now p = none
 add_other v (Err code) make now p = p.other code refl
+
+change_to_id_other : (v : Volume) (chosen : Result Entry ℤ) (make : Entry → Items → Items) (now : ℕ) → OtherCode chosen → Other (change_to_id v chosen make now).1.code
+change_to_id_other v (Ok e) make now p = none
+change_to_id_other v (Err code) make now p = p.other code refl
+
+place_other : (chosen : Result Entry ℤ) → OtherCode chosen → Other (place_reply chosen).code
+place_other (Ok e) p = none
+place_other (Err code) p = p.other code refl
+
+resolve_other : (es : List Entry) (id : ℕ) → Other (resolve_file_id es id).code
+unfolding resolve_file_id
+resolve_other es id = place_other (file_of_id es id) (file_of_id_other es id)
 
 -- ---- the same of replies
 
@@ -251,7 +295,7 @@ unfolding read_fork
 read_fork_other es dir name fork offset count = either _ _ _ (refuses 49 refl) (either _ _ _ (refuses 36 refl) (either _ _ _ (refuses 119 refl) (or_else _ (child_named es dir name) _ (λ e. part_other fork offset count e.1.kind) (refuses 42 refl))))
 
 pub step_is_never_full : (v : Volume) (c : Call) → Other (step v c).1.code
-unfolding create delete rename cat_move set_f_info set_cat_info set_lock
+unfolding create delete rename cat_move set_f_info set_cat_info set_lock create_file_id delete_file_id
 step_is_never_full v (call.GetDirInfo dir) = (dir_info_other (entries_of v) dir).other
 step_is_never_full v (call.GetCatInfo dir name) = (cat_info_other (entries_of v) dir name).other
 step_is_never_full v (call.GetIndexed dir index) = (indexed_other (entries_of v) dir index).other
@@ -266,6 +310,9 @@ step_is_never_full v (call.SetFInfo dir name info now) = change_other v (to_set_
 step_is_never_full v (call.SetCatInfo dir name created modified backup info now) = change_other v (to_set_cat_info v dir name) (sets_info created modified backup info) now (set_cat_info_other v dir name)
 step_is_never_full v (call.SetFLock dir name now) = change_other v (file_to_change v dir name) (sets_lock true) now (file_other v dir name)
 step_is_never_full v (call.RstFLock dir name now) = change_other v (file_to_change v dir name) (sets_lock false) now (file_other v dir name)
+step_is_never_full v (call.CreateFileId dir name now) = change_to_id_other v (to_create_file_id v dir name) (set_thread true) now (create_file_id_other v dir name)
+step_is_never_full v (call.DeleteFileId id now) = change_other v (to_delete_file_id v id) (set_thread false) now (delete_file_id_other v id)
+step_is_never_full v (call.ResolveFileId id) = resolve_other (entries_of v) id
 
 -- ---- want of nodes
 

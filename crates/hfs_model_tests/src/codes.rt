@@ -139,6 +139,37 @@ fn of_information_and_locks(rt: HostRuntime) -> Result<(), Fail> {
     Ok(())
 }
 
+/// The file `a` (20) gets an ID and loses it; of the file `f` (17) nobody made one.
+#[test]
+fn of_file_ids(rt: HostRuntime) -> Result<(), Fail> {
+    let mut plain = furnished(&rt, rt.alloc())?;
+    let made = [
+        (Ask::CreateId(9, b""), -37),
+        (Ask::CreateId(9, b"a"), -120),
+        (Ask::CreateId(2, b"q"), -43),
+        (Ask::CreateId(2, b"x"), -1302),
+        (Ask::CreateId(2, b"A"), 0),
+        (Ask::CreateId(2, b"a"), -1301),
+        (Ask::CreateId(2, b"l"), 0),
+    ];
+    expect_codes(&rt, rt.alloc(), &mut plain, 0, &made)?;
+    let found = [
+        (Ask::Resolve(18), -1302),
+        (Ask::Resolve(1), -1300),
+        (Ask::Resolve(17), -1300),
+        (Ask::Resolve(22), -1300),
+        (Ask::Resolve(20), 0),
+        (Ask::DeleteId(16), -1302),
+        (Ask::DeleteId(17), -1300),
+        (Ask::DeleteId(22), -1300),
+        (Ask::DeleteId(20), 0),
+        (Ask::DeleteId(20), -1300),
+        (Ask::Resolve(20), -1300),
+    ];
+    expect_codes(&rt, rt.alloc(), &mut plain, 0, &found)?;
+    Ok(())
+}
+
 /// Each change on a volume that is locked by hardware, by software or by both; a lock comes before every other code.
 #[test]
 fn of_locked_volumes(rt: HostRuntime) -> Result<(), Fail> {
@@ -155,6 +186,10 @@ fn of_locked_volumes(rt: HostRuntime) -> Result<(), Fail> {
             (Ask::SetInfo(2, b"q"), code),
             (Ask::Lock(2, b"a"), code),
             (Ask::Unlock(2, b"l"), code),
+            (Ask::CreateId(9, b""), code),
+            (Ask::DeleteId(16), code),
+            (Ask::Resolve(16), -1302),
+            (Ask::Resolve(17), -1300),
             (Ask::List(2), 0),
         ];
         expect_codes(&rt, rt.alloc(), &mut plain, 0, &rows)?;

@@ -23,9 +23,12 @@ pub enum Ask<'a> {
     SetInfo(u32, &'a [u8]),
     Lock(u32, &'a [u8]),
     Unlock(u32, &'a [u8]),
+    CreateId(u32, &'a [u8]),
+    DeleteId(u32),
+    Resolve(u32),
 }
 
-/// The folder of the call, and the name in it, empty where the call has none.
+/// The folder of the call, or its file ID, and the name in the folder, empty where the call has none.
 fn place_of<'a>(ask: &Ask<'a>) -> (u32, &'a [u8]) {
     match *ask {
         Ask::DirInfo(dir) => (dir, b""),
@@ -42,6 +45,9 @@ fn place_of<'a>(ask: &Ask<'a>) -> (u32, &'a [u8]) {
         Ask::SetInfo(dir, name) => (dir, name),
         Ask::Lock(dir, name) => (dir, name),
         Ask::Unlock(dir, name) => (dir, name),
+        Ask::CreateId(dir, name) => (dir, name),
+        Ask::DeleteId(id) => (id, b""),
+        Ask::Resolve(id) => (id, b""),
     }
 }
 
@@ -103,6 +109,9 @@ pub fn call_of(alloc: Global, ask: &Ask, now: u32) -> Result<Call, AllocError> {
         Ask::SetInfo(_, _) => set_info_of(dir, name, now),
         Ask::Lock(_, _) => Call::SetFLock { dir, name, now },
         Ask::Unlock(_, _) => Call::RstFLock { dir, name, now },
+        Ask::CreateId(_, _) => Call::CreateFileId { dir, name, now },
+        Ask::DeleteId(id) => Call::DeleteFileId { id, now },
+        Ask::Resolve(id) => Call::ResolveFileId { id },
     })
 }
 
@@ -137,7 +146,7 @@ pub fn info_of(reply: &Reply) -> Option<Info> {
     }
 }
 
-/// The ID of a new item, 0 where there is none.
+/// The ID of a new item or of a file with a new thread, 0 where there is none.
 pub fn id_of(reply: &Reply) -> u32 {
     match reply.value {
         Value::Id(id) => id,

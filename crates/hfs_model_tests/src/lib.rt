@@ -4,6 +4,8 @@
 #[cfg(test)]
 mod codes;
 #[cfg(test)]
+mod file_ids;
+#[cfg(test)]
 mod fixture;
 #[cfg(test)]
 mod full_folder;

@@ -4,7 +4,7 @@ use std::test::Fail;
 
 #[test]
 fn needs(rt: HostRuntime) -> Result<(), Fail> {
-    let rows: [(Ask, u32, u64, bool); 19] = [
+    let rows: [(Ask, u32, u64, bool); 23] = [
         (Ask::Create(2, b"a"), 0, 1, false),
         (Ask::Create(2, b"a"), 1, 2, false),
         (Ask::Create(2, b"a"), 15, 16, false),
@@ -20,6 +20,10 @@ fn needs(rt: HostRuntime) -> Result<(), Fail> {
         (Ask::SetInfo(2, b"a"), 3, 0, false),
         (Ask::Lock(2, b"a"), 3, 0, false),
         (Ask::Unlock(2, b"a"), 3, 0, false),
+        (Ask::CreateId(2, b"a"), 2, 3, false),
+        (Ask::CreateId(2, b"a"), 16, 4294967296, false),
+        (Ask::DeleteId(16), 3, 0, false),
+        (Ask::Resolve(16), 3, 0, true),
         (Ask::DirInfo(2), 3, 0, true),
         (Ask::Info(2, b"a"), 3, 0, true),
         (Ask::Indexed(2, 1), 3, 0, true),

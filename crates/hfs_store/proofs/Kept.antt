@@ -9,6 +9,7 @@ use Rattle.hfs_model.specs.Volume.{Entry, Items}
 use Rattle.hfs_model.specs.Children.{entry_at, valence, is_child}
 use Rattle.hfs_model.specs.declared.item.Kind.{Kind}
 use Rattle.hfs_model.specs.Changes.{touched, with_lock}
+use Rattle.hfs_model.specs.FileIds.{with_thread, set_thread}
 use Rattle.hfs_store.specs.PlainVolume.{AreEntries, Becomes}
 use Rattle.hfs_store.proofs.ById.{rises_set, rises_remove, rises_push, set_entry, add_entry, remove_entry, touched_at, touched_nowhere}
 
@@ -134,3 +135,8 @@ pub becomes_read_locked : (es : List Entry) (i : ℕ) (e d : Entry) (locked : Bo
 becomes_read_locked es i e d locked k is value lt =
     subst (λ (x : Kind). Becomes es (set es i (e.0, record e.1 { kind = x })) (λ m. map.insert m (get_or es i d).0 (record (get_or es i d).1 { kind = with_lock locked (get_or es i d).1.kind }))) (sym is)
     (becomes_read_edited es i e d (λ (x : Item). record x { kind = with_lock locked x.kind }) value lt (λ x. refl))
+
+pub becomes_read_thread : (es : List Entry) (i : ℕ) (e d : Entry) (there : Bool) (k : Kind) → k ≡ with_thread there e.1.kind → e ≡ get_or es i e → i < length es → Becomes es (set es i (e.0, record e.1 { kind = k })) (set_thread there (get_or es i d))
+becomes_read_thread es i e d there k is value lt =
+    subst (λ (x : Kind). Becomes es (set es i (e.0, record e.1 { kind = x })) (set_thread there (get_or es i d))) (sym is)
+    (becomes_read_edited es i e d (λ (x : Item). record x { kind = with_thread there x.kind }) value lt (λ x. refl))

@@ -9,6 +9,7 @@ use Rattle.hfs_model.specs.Children.{entries_of}
 use Rattle.hfs_store.specs.Found.{IsPlaceOf}
 use Rattle.hfs_model.specs.Replies.{success}
 use Rattle.hfs_model.specs.Changes.{Outcome, change, add}
+use Rattle.hfs_model.specs.FileIds.{change_to_id}
 use Rattle.hfs_store.specs.PlainVolume.{AreEntries, Becomes, IsPlainVolume, volume_of}
 use Rattle.hfs_store.proofs.ById.{entries_back}
 
@@ -37,6 +38,15 @@ module _ (a : Inside) (v : Volume) (is : volume_of a ≡ v) (h : IsPlainVolume a
       let items_are = (becomes d).is a.next_id h in
       let here : ◌≡◌ {A = Outcome} (record (volume_of a) { items = map.from_sorted new; changed = now }, reply) (change (volume_of a) (Ok e) make now) = λ i. (record (volume_of a) { items = items_are i; changed = now }, answered i) in
       here ∙ (λ i. change (is i) (sym (place_here.1 d) i) make now)
+
+  -- the same, where the ID of the item is answered, as the code has read it
+  pub changes_to_id : (make : Entry → Items → Items) (new : List Entry) (now : ℕ) (reply : Reply) (es : List Entry) (e : Entry) → es ≡ entries_of v → ((d : Entry) → Becomes a.items.items new (make (get_or a.items.items at d))) → reply ≡ success (value.Id (get_or es at e).0)
+      → ◌≡◌ {A = Outcome} (record (volume_of a) { items = map.from_sorted new; changed = now }, reply) (change_to_id v chosen make now)
+  changes_to_id make new now reply es e same becomes answered =
+      let items_are = (becomes e).is a.next_id h in
+      let id_is = answered ∙ ap (λ (l : List Entry). success (value.Id (get_or l at e).0)) (same ∙ entries_are a v is h) in
+      let here : ◌≡◌ {A = Outcome} (record (volume_of a) { items = map.from_sorted new; changed = now }, reply) (change_to_id (volume_of a) (Ok (get_or a.items.items at e)) make now) = λ i. (record (volume_of a) { items = items_are i; changed = now }, id_is i) in
+      here ∙ (λ i. change_to_id (is i) (sym (place_here.1 e) i) make now)
 
 -- ---- a new item
 

@@ -19,3 +19,6 @@ is_setting (call.SetFInfo dir name info now) = true
 is_setting (call.SetCatInfo dir name created modified backup info now) = true
 is_setting (call.SetFLock dir name now) = true
 is_setting (call.RstFLock dir name now) = true
+is_setting (call.CreateFileId dir name now) = false
+is_setting (call.DeleteFileId id now) = false
+is_setting (call.ResolveFileId id) = false

@@ -4,10 +4,11 @@ ghost use Rattle.std.specs.FinMap as map;
 ghost use Rattle.hfs_model.specs.Volume.{Entry};
 ghost use Rattle.hfs_model.specs.Children.{valence};
 ghost use Rattle.hfs_model.specs.Changes.{touched, moved, with_lock};
+ghost use Rattle.hfs_model.specs.FileIds.{with_thread_bit, set_thread};
 ghost use Rattle.hfs_store.specs.PlainVolume.{Becomes, AreEntries};
 
 use crate::entries::place_of;
-use hfs_fields::Name;
+use hfs_fields::{FileFlags, Name};
 use hfs_model::{Item, Kind};
 use std::alloc::AllocError;
 
@@ -99,6 +100,25 @@ pub fn set_lock(items: &mut Vec<(u32, Item)>, at: usize, locked: bool)
 {
     if let Kind::File(file) = &mut items[at].1.kind {
         file.locked = locked;
+    }
+}
+
+/// Sets or clears bit 1 of the flags among a file's kept bytes.
+#[tactic(auto, unfolding(hfs_model::specs::FileIds::with_thread_bit))]
+fn set_thread_bit(kept: &mut [u8; 102], set: bool)
+    ensures { kept.new ≡ with_thread_bit set kept.old }
+{
+    kept[2] = FileFlags(kept[2]).with_thread(set).0;
+}
+
+/// Gives a file a thread, or takes its thread away.
+pub fn set_thread(items: &mut Vec<(u32, Item)>, at: usize, there: bool)
+    requires { at < length items.old.items }
+    ensures { (d : Entry) → Becomes items.old.items items.new.items (set_thread there (slice_index_or items.old.items at d)) }
+{
+    if let Kind::File(file) = &mut items[at].1.kind {
+        set_thread_bit(&mut file.kept, there);
+        file.has_thread = there;
     }
 }
 

@@ -5,7 +5,7 @@ ghost use Rattle.std.specs.List.{position_or_len};
 ghost use Rattle.std.specs.Bool.{OnFalse};
 ghost use Rattle.hfs_store.specs.Placing.{place_info, comes_after};
 ghost use Rattle.hfs_store.specs.Found.{FoundAt};
-ghost use Rattle.hfs_model.specs.Replies.{is_locked_file, info_of, infos};
+ghost use Rattle.hfs_model.specs.Replies.{is_locked_file, has_thread, info_of, infos};
 ghost use Rattle.hfs_model.specs.Choices.{is_other_named, is_busy, is_full, is_held, is_taken, lies_in, is_bad_move};
 ghost use Rattle.hfs_model.specs.Changes.{new_file, new_folder, new_item};
 
@@ -31,6 +31,16 @@ pub fn is_locked_file(kind: &Kind) -> bool
     match kind {
         Kind::Folder { .. } => false,
         Kind::File(file) => file.locked,
+    }
+}
+
+/// Whether it is a file with a thread.
+pub fn has_thread(kind: &Kind) -> bool
+    ensures { result ≡ has_thread kind.now }
+{
+    match kind {
+        Kind::Folder { .. } => false,
+        Kind::File(file) => file.has_thread,
     }
 }
 

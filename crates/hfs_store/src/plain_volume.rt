@@ -6,24 +6,26 @@ ghost use Rattle.hfs_model.specs.Children.{entries_of, valence};
 ghost use Rattle.hfs_model.specs.Reading.{get_dir_info, get_cat_info, get_indexed, list, read_fork};
 ghost use Rattle.hfs_model.specs.Choices.{child_to_change, file_to_change, to_delete, to_rename, to_move, to_create, to_set_f_info, to_set_cat_info, is_locked, lock_code};
 ghost use Rattle.hfs_model.specs.Changes.{delete, rename, cat_move, create, set_f_info, set_cat_info, set_lock, new_file, new_folder};
+ghost use Rattle.hfs_model.specs.FileIds.{to_create_file_id, to_delete_file_id, create_file_id, delete_file_id, resolve_file_id};
 ghost use Rattle.hfs_model.specs.Step.{step, is_reading, new_volume};
 ghost use Rattle.hfs_store.specs.Setting.{is_setting};
 ghost use Rattle.hfs_fields.specs.Names.{is_item_name};
 ghost use Rattle.hfs_store.specs.Found.{IsPlaceOf};
 
 use crate::changes::{
-    add_item, move_item, remove_item, rename_item, set_finder, set_info, set_lock,
+    add_item, move_item, remove_item, rename_item, set_finder, set_info, set_lock, set_thread,
 };
 use crate::entries::{
-    child_named, is_bad_move, is_busy, is_folder, is_folder_kind, is_full, is_held, is_locked_file,
-    is_taken, new_file, new_folder, new_item, valence,
+    child_named, has_thread, is_bad_move, is_busy, is_folder, is_folder_kind, is_full, is_held,
+    is_locked_file, is_taken, new_file, new_folder, new_item, valence,
 };
 use crate::reading;
 use crate::reading::{refusal, success};
 use hfs_fields::{Name, is_item_name};
 use hfs_model::{
-    BAD_MOVE, BAD_NAME, BUSY, Call, DUPLICATE, FILE_LOCKED, FOLDER_FULL, Fork, HARDWARE_LOCKED,
-    Item, Kind, NOT_A_FOLDER, NOT_FOUND, Reply, SOFTWARE_LOCKED, Value,
+    BAD_MOVE, BAD_NAME, BUSY, Call, DUPLICATE, FILE_ID_EXISTS, FILE_LOCKED, FOLDER_FULL, Fork,
+    HARDWARE_LOCKED, Item, Kind, NOT_A_FILE, NOT_A_FOLDER, NOT_FOUND, Reply, SOFTWARE_LOCKED,
+    Value,
 };
 use std::alloc::{AllocError, Global};
 use std::marker::Model;
@@ -165,6 +167,13 @@ impl PlainVolume {
         ensures { IfOk result (λ r. r ≡ read_fork (entries_of self.now) dir name.now fork offset count) }
     {
         reading::read_fork(self.alloc, self.entries(), dir, name, fork, offset, count)
+    }
+
+    /// The folder and the name of the file of that ID, by its thread.
+    pub fn resolve_file_id(&self, id: u32) -> Reply
+        ensures { result ≡ resolve_file_id (entries_of self.now) id }
+    {
+        reading::resolve_file_id(self.entries(), id)
     }
 
     // What each change first chooses: the place of an item, an ID, or a code.
@@ -330,6 +339,31 @@ impl PlainVolume {
         Ok(at)
     }
 
+    #[tactic(auto, unfolding(hfs_model::specs::FileIds::to_create_file_id))]
+    fn to_create_file_id(&self, dir: u32, name: &[u8]) -> Result<usize, i16>
+        ensures { IsPlaceOf (entries_of self.now) (to_create_file_id self.now dir name.now) result }
+    {
+        let at = self.child_to_change(dir, name)?;
+        let kind = &self.entries()[at].1.kind;
+        if is_folder_kind(kind) {
+            return Err(NOT_A_FILE);
+        }
+        if has_thread(kind) {
+            return Err(FILE_ID_EXISTS);
+        }
+        Ok(at)
+    }
+
+    #[tactic(auto, unfolding(hfs_model::specs::FileIds::to_delete_file_id))]
+    fn to_delete_file_id(&self, id: u32) -> Result<usize, i16>
+        ensures { IsPlaceOf (entries_of self.now) (to_delete_file_id self.now id) result }
+    {
+        if self.is_locked() {
+            return Err(self.lock_code());
+        }
+        reading::file_of_id(self.entries(), id)
+    }
+
     // The changes.
 
     /// Deletes a file or an empty folder.
@@ -409,6 +443,37 @@ impl PlainVolume {
         match self.file_to_change(dir, name) {
             Ok(at) => {
                 set_lock(&mut self.items, at, locked);
+                self.changed = now;
+                success(Value::Nothing)
+            }
+            Err(code) => refusal(code),
+        }
+    }
+
+    /// Gives a file a thread.
+    #[tactic(auto, unfolding(hfs_model::specs::FileIds::create_file_id))]
+    pub fn create_file_id(&mut self, dir: u32, name: &[u8], now: u32) -> Reply
+        ensures { (self.new, result) ≡ create_file_id self.old dir name.now now }
+    {
+        match self.to_create_file_id(dir, name) {
+            Ok(at) => {
+                let id = self.entries()[at].0;
+                set_thread(&mut self.items, at, true);
+                self.changed = now;
+                success(Value::Id(id))
+            }
+            Err(code) => refusal(code),
+        }
+    }
+
+    /// Takes a file's thread away.
+    #[tactic(auto, unfolding(hfs_model::specs::FileIds::delete_file_id))]
+    pub fn delete_file_id(&mut self, id: u32, now: u32) -> Reply
+        ensures { (self.new, result) ≡ delete_file_id self.old id now }
+    {
+        match self.to_delete_file_id(id) {
+            Ok(at) => {
+                set_thread(&mut self.items, at, false);
                 self.changed = now;
                 success(Value::Nothing)
             }
@@ -502,6 +567,7 @@ impl PlainVolume {
                 offset,
                 count,
             } => self.read_fork(*dir, name.as_slice(), *fork, *offset, *count),
+            Call::ResolveFileId { id } => Ok(self.resolve_file_id(*id)),
             Call::Create { .. }
             | Call::DirCreate { .. }
             | Call::Delete { .. }
@@ -510,12 +576,14 @@ impl PlainVolume {
             | Call::SetFInfo { .. }
             | Call::SetCatInfo { .. }
             | Call::SetFLock { .. }
-            | Call::RstFLock { .. } => unreachable!(),
+            | Call::RstFLock { .. }
+            | Call::CreateFileId { .. }
+            | Call::DeleteFileId { .. } => unreachable!(),
         }
     }
 
-    /// Answers a call that may change the volume: the names and places of its items here, what is told of one in
-    /// [`PlainVolume::set`].
+    /// Answers a call that may change the volume: the names, places and threads of its items here, what else is told of one
+    /// in [`PlainVolume::set`].
     #[tactic(auto)]
     fn change(&mut self, call: &Call) -> Result<Reply, AllocError>
         requires { is_reading call.now ≡ false }
@@ -542,11 +610,16 @@ impl PlainVolume {
             | Call::SetCatInfo { .. }
             | Call::SetFLock { .. }
             | Call::RstFLock { .. } => Ok(self.set(call)),
+            Call::CreateFileId { dir, name, now } => {
+                Ok(self.create_file_id(*dir, name.as_slice(), *now))
+            }
+            Call::DeleteFileId { id, now } => Ok(self.delete_file_id(*id, *now)),
             Call::GetDirInfo { .. }
             | Call::GetCatInfo { .. }
             | Call::GetIndexed { .. }
             | Call::List { .. }
-            | Call::ReadFork { .. } => unreachable!(),
+            | Call::ReadFork { .. }
+            | Call::ResolveFileId { .. } => unreachable!(),
         }
     }
 
@@ -591,7 +664,10 @@ impl PlainVolume {
             | Call::DirCreate { .. }
             | Call::Delete { .. }
             | Call::Rename { .. }
-            | Call::CatMove { .. } => unreachable!(),
+            | Call::CatMove { .. }
+            | Call::CreateFileId { .. }
+            | Call::DeleteFileId { .. }
+            | Call::ResolveFileId { .. } => unreachable!(),
         }
     }
 

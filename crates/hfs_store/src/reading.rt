@@ -3,12 +3,16 @@ ghost use Rattle.std.specs.Prelude.{◌≡◌, ℕ, ◌≤◌, IfOk};
 ghost use Rattle.hfs_model.specs.Children.{valence};
 ghost use Rattle.hfs_model.specs.Replies.{refusal, success};
 ghost use Rattle.hfs_model.specs.Reading.{get_dir_info, get_cat_info, get_indexed, list, read_fork, part_of, fork_part};
+ghost use Rattle.hfs_model.specs.FileIds.{file_of_id, resolve_file_id};
+ghost use Rattle.hfs_store.specs.Found.{IsPlaceOf};
 
-use crate::entries::{child_named, info_of, infos, is_folder, is_folder_kind, place_of};
+use crate::entries::{
+    child_named, has_thread, info_of, infos, is_folder, is_folder_kind, place_of,
+};
 use hfs_fields::is_item_name;
 use hfs_model::{
-    BAD_NAME, Bytes, END_OF_FILE, Fork, Infos, Item, Kind, NOT_A_FOLDER, NOT_FOUND, PARAMETER,
-    Reply, Value,
+    BAD_NAME, Bytes, END_OF_FILE, FILE_ID_NOT_FOUND, Fork, Infos, Item, Kind, NOT_A_FILE,
+    NOT_A_FOLDER, NOT_FOUND, PARAMETER, Reply, Value,
 };
 use std::alloc::{AllocError, Global};
 
@@ -169,4 +173,39 @@ pub fn read_fork(
         return Ok(refusal(NOT_FOUND));
     };
     fork_part(alloc, fork, offset, count, &entries[at].1.kind)
+}
+
+/// The place of the file with a thread that has this ID, or the code that refuses it.
+#[tactic(auto, unfolding(hfs_model::specs::FileIds::file_of_id))]
+pub fn file_of_id(entries: &[(u32, Item)], id: u32) -> Result<usize, i16>
+    ensures { IsPlaceOf entries.now (file_of_id entries.now id) result }
+{
+    let Some(at) = place_of(entries, id) else {
+        return Err(FILE_ID_NOT_FOUND);
+    };
+    let kind = &entries[at].1.kind;
+    if is_folder_kind(kind) {
+        return Err(NOT_A_FILE);
+    }
+    if !has_thread(kind) {
+        return Err(FILE_ID_NOT_FOUND);
+    }
+    Ok(at)
+}
+
+/// The folder and the name of the file of that ID.
+#[tactic(auto, unfolding(hfs_model::specs::FileIds::resolve_file_id))]
+pub fn resolve_file_id(entries: &[(u32, Item)], id: u32) -> Reply
+    ensures { result ≡ resolve_file_id entries.now id }
+{
+    match file_of_id(entries, id) {
+        Ok(at) => {
+            let item = &entries[at].1;
+            success(Value::Place {
+                dir: item.parent,
+                name: item.name,
+            })
+        }
+        Err(code) => refusal(code),
+    }
 }

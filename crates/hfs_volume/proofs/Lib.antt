@@ -2,6 +2,7 @@ pub mod Laid
 pub mod Viewing
 pub mod Found
 pub mod Folders
+pub mod FileIds
 pub mod Finder
 pub mod Queries
 pub mod Told

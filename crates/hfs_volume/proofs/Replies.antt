@@ -1,15 +1,15 @@
 -- The replies by a catalog's records are those of the volume.
 use Rattle.std.proofs.Common.{◌≡◌, ℕ, ◌-◌, Bool, true, false, cond, eqb, List, [], ◌∷◌, map, filter, refl, sym, ◌∙◌, ap, Option, Some, None}
 use Rattle.std.specs.Prelude.{not, nat_eq, is_some, slice_get, IsTrue}
-use Rattle.std.specs.Option.{option_map, option_map_or, option_and_then}
+use Rattle.std.specs.Option.{option_map, option_map_or, option_and_then, ok_or}
 use Rattle.std.proofs.lemmas.Bool.{and_parts}
 use Rattle.hfs_fields.specs.Names.{is_item_name}
 use Rattle.hfs_fields.specs.Order.{same_name}
-use Rattle.hfs_fields.specs.Records.{is_dir, is_item, dir_record_of, file_record_of}
+use Rattle.hfs_fields.specs.Records.{is_dir, is_item, item_id, dir_record_of, file_record_of}
 use Rattle.hfs_scans.specs.Each.{Each}
 use Rattle.hfs_blocks.specs.Blocks.{block_at}
 use Rattle.hfs_btree.specs.Tree.{Store}
-use Rattle.hfs_model.specs.declared.codes.TheConstants.{BAD_NAME, NOT_FOUND, PARAMETER, NOT_A_FOLDER}
+use Rattle.hfs_model.specs.declared.codes.TheConstants.{BAD_NAME, NOT_FOUND, PARAMETER, NOT_A_FOLDER, FILE_ID_NOT_FOUND, NOT_A_FILE}
 use Rattle.hfs_model.specs.declared.reply.Info.{Info}
 use Rattle.hfs_model.specs.declared.reply.Value.TheVariants as value
 use Rattle.hfs_model.specs.declared.reply.Reply.{Reply}
@@ -19,12 +19,14 @@ use Rattle.hfs_model.specs.Children as model
 use Rattle.hfs_model.specs.Reading as calls
 use Rattle.hfs_model.specs.Reading.{get_dir_info, get_cat_info, get_indexed, list}
 use Rattle.hfs_model.specs.Replies.{refusal, success, info_of, infos}
+use Rattle.hfs_model.specs.Choices.{and_then}
+use Rattle.hfs_model.specs.FileIds.{if_has_thread, file_of_id, place_reply, resolve_file_id}
 use Rattle.hfs_catalog.specs.Records.{Record, Catalog, item_with, has_thread, is_child_of}
 use Rattle.hfs_catalog.specs.Items.{Contents, folder_of, file_of, item_of, entry_of}
 use Rattle.hfs_catalog.specs.Lookups.{is_child_named, child_named}
 use Rattle.hfs_catalog.specs.Tree.{catalog_of}
 use Rattle.hfs_check.specs.Parts.{catalog_nodes, catalog_in}
-use Rattle.hfs_volume.specs.Told.{told, one, only_folder, is_folder, dir_info, cat_info, child_infos, indexed, listed}
+use Rattle.hfs_volume.specs.Told.{told, one, only_folder, is_folder, dir_info, cat_info, child_infos, indexed, listed, placed, resolved}
 use Rattle.hfs_volume.specs.Queries.{AreEntries}
 use Rattle.hfs_scans.specs.Members.{In, each_in, found_in}
 use Rattle.hfs_volume.proofs.Folders.{found_with}
@@ -105,6 +107,25 @@ module _ (contents : Contents) (catalog : Catalog) (es : List Entry) (h : AreEnt
   indexes dir index = λ i.
       cond (nat_eq index 0) (refusal PARAMETER) (cond (not (sym (folder_same dir) i)) (refusal NOT_A_FOLDER)
       (option_map_or (λ (info : Info). success (value.One info)) (slice_get (sym (children_same dir) i) (index - 1)) (refusal NOT_FOUND)))
+
+  -- ---- file IDs
+
+  -- a folder, or a file with a thread or without one
+  kind_placed : (id : ℕ) (r : Record) (dir has : Bool)
+      → place_reply (if_has_thread (id, cond dir (folder_of r.0 (dir_record_of r.1)) (file_of has (contents (file_record_of r.1)) r.0 (file_record_of r.1))))
+      ≡ cond dir (refusal NOT_A_FILE) (cond has (success (value.Place r.0.parent r.0.name)) (refusal FILE_ID_NOT_FOUND))
+  unfolding folder_of file_of
+  kind_placed id r true has = refl
+  kind_placed id r false true = refl
+  kind_placed id r false false = refl
+
+  pub places : (id : ℕ) → resolved catalog id ≡ resolve_file_id es id
+  unfolding resolve_file_id file_of_id item_of
+  places id = sym (ap (λ (o : Option Entry). place_reply (and_then (ok_or o FILE_ID_NOT_FOUND) if_has_thread)) (h.by_id id)
+      ∙ elim (item_with catalog id) as (λ (o : Option Record). place_reply (and_then (ok_or (option_map entry o) FILE_ID_NOT_FOUND) if_has_thread) ≡ option_map_or (placed catalog) o (refusal FILE_ID_NOT_FOUND)) [
+        | None ↦ refl
+        | Some r ↦ kind_placed (item_id r.1) r (is_dir r.1) (has_thread catalog (file_record_of r.1).id)
+      ])
 
 -- what the records of the catalog's nodes say is what those of the image's catalog say
 pub by_nodes : {A : Type 0} (f : Catalog → A) (image : List ℕ) (nodes : Store) → nodes ≡ catalog_nodes (block_at image) → f (catalog_of nodes) ≡ f (catalog_in (block_at image))

@@ -7,7 +7,7 @@ use Rattle.hfs_fields.specs.declared.key.CatKey.{CatKey}
 use Rattle.hfs_fields.specs.declared.dir_record.DirRecord.{DirRecord}
 use Rattle.hfs_fields.specs.declared.file_record.FileRecord.{FileRecord}
 use Rattle.hfs_btree.specs.Tree.{Store}
-use Rattle.hfs_model.specs.declared.codes.TheConstants.{BAD_NAME, NOT_FOUND, PARAMETER, NOT_A_FOLDER}
+use Rattle.hfs_model.specs.declared.codes.TheConstants.{BAD_NAME, NOT_FOUND, PARAMETER, NOT_A_FOLDER, FILE_ID_NOT_FOUND, NOT_A_FILE}
 use Rattle.hfs_model.specs.declared.call.Fork.{Fork}
 use Rattle.hfs_model.specs.declared.call.Fork.TheVariants.{DataFork, ResFork}
 use Rattle.hfs_model.specs.declared.reply.Info.{Info}
@@ -114,6 +114,18 @@ abbrev pub listed : Catalog → ℕ → Reply
 listed catalog dir =
     if not (is_folder catalog dir) then refusal NOT_A_FOLDER
     else success (value.Many (child_infos catalog dir))
+
+-- ---- file IDs
+
+-- where a file with a thread stands: -1302 of a folder, -1300 of a file without one
+abbrev pub placed : Catalog → Record → Reply
+placed catalog r =
+    if is_dir r.1 then refusal NOT_A_FILE
+    else if has_thread catalog (file_record_of r.1).id then success (value.Place r.0.parent r.0.name)
+    else refusal FILE_ID_NOT_FOUND
+
+abbrev pub resolved : Catalog → ℕ → Reply
+resolved catalog id = option_map_or (placed catalog) (item_with catalog id) (refusal FILE_ID_NOT_FOUND)
 
 -- ---- forks
 

@@ -2,16 +2,21 @@
 
 ghost use Rattle.std.specs.Prelude.{◌≡◌, IfOk, map};
 ghost use Rattle.std.specs.Option.{option_map};
+ghost use Rattle.hfs_model.specs.declared.reply.Value.TheVariants as value;
+ghost use Rattle.hfs_model.specs.Replies.{success};
 ghost use Rattle.hfs_catalog.specs.Lookups.{catalog_item};
 ghost use Rattle.hfs_catalog.specs.Tree.{catalog_of};
 ghost use Rattle.hfs_volume.specs.Brief.{in_detail, listed_in};
-ghost use Rattle.hfs_volume.specs.Told.{IsCatalog, folder_with, dir_info, cat_info, child_infos, indexed, file_named};
+ghost use Rattle.hfs_volume.specs.Told.{IsCatalog, folder_with, dir_info, cat_info, child_infos, indexed, resolved, file_named};
 
 use crate::reply::{Detail, item_info, refusal, success};
 use hfs_btree::Nodes;
 use hfs_catalog::{CatalogItem, ItemRecord, by_id, child_at, children, lookup, thread};
-use hfs_fields::{FileRecord, Name};
-use hfs_model::{BAD_NAME, Info, Infos, NOT_A_FOLDER, NOT_FOUND, PARAMETER, Reply, Value};
+use hfs_fields::{CatKey, FileRecord, Name};
+use hfs_model::{
+    BAD_NAME, FILE_ID_NOT_FOUND, Info, Infos, NOT_A_FILE, NOT_A_FOLDER, NOT_FOUND, PARAMETER,
+    Reply, Value,
+};
 use std::alloc::{AllocError, Global};
 
 /// The folder of that ID. Each folder has a thread, so for an ID without one not all records are read.
@@ -107,6 +112,35 @@ pub(crate) fn list<N: Nodes>(
     }
     let infos = infos(alloc, nodes, dir, detail)?;
     Ok(success(Value::Many(Infos::new(infos))))
+}
+
+/// The folder and the name in an item's key.
+fn place_of(key: CatKey) -> Reply
+    ensures { result ≡ success (value.Place key.parent key.name) }
+{
+    success(Value::Place {
+        dir: key.parent,
+        name: key.name,
+    })
+}
+
+/// The folder and the name of the file of that ID, which is found by its thread. Each folder has a thread, so for an ID
+/// without one not all records are read.
+pub(crate) fn resolve_file_id<N: Nodes>(nodes: &N, id: u32) -> Reply
+    requires { IsCatalog (N.nodes nodes.now) }
+    ensures { result ≡ resolved (catalog_of (N.nodes nodes.now)) id }
+{
+    if thread(nodes, id).is_none() {
+        return refusal(FILE_ID_NOT_FOUND);
+    }
+    let Some(item) = by_id(nodes, id) else {
+        return refusal(FILE_ID_NOT_FOUND);
+    };
+    let key = item.key;
+    match item.body {
+        ItemRecord::Folder(_) => refusal(NOT_A_FILE),
+        ItemRecord::File(_) => place_of(key),
+    }
 }
 
 /// The record of the folder's file of that name, or the reply that refuses it: -43 where the item is a folder.

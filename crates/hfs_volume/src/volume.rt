@@ -3,6 +3,7 @@
 ghost use Rattle.std.specs.Prelude.{◌≡◌, IsTrue, IfOk};
 ghost use Rattle.hfs_model.specs.Children.{entries_of};
 ghost use Rattle.hfs_model.specs.Reading.{get_dir_info, get_cat_info, get_indexed, list, read_fork, part_of};
+ghost use Rattle.hfs_model.specs.FileIds.{resolve_file_id};
 ghost use Rattle.hfs_model.specs.Step.{step, is_reading};
 ghost use Rattle.hfs_catalog.specs.Tree.{catalog_of};
 ghost use Rattle.hfs_check.specs.Parts.{catalog_in, extents_nodes};
@@ -86,6 +87,7 @@ impl Volume {
                 offset,
                 count,
             } => self.read_fork(alloc, *dir, name.as_slice(), *fork, *offset, *count),
+            Call::ResolveFileId { id } => Ok(self.resolve_file_id(*id)),
             Call::Create { .. }
             | Call::DirCreate { .. }
             | Call::Delete { .. }
@@ -94,7 +96,9 @@ impl Volume {
             | Call::SetFInfo { .. }
             | Call::SetCatInfo { .. }
             | Call::SetFLock { .. }
-            | Call::RstFLock { .. } => unreachable!(),
+            | Call::RstFLock { .. }
+            | Call::CreateFileId { .. }
+            | Call::DeleteFileId { .. } => unreachable!(),
         }
     }
 
@@ -147,6 +151,14 @@ impl Volume {
         ensures { IfOk result (λ reply. reply ≡ without_ids (list (entries_of (volume_of self.now.current)) dir)) }
     {
         reading::list(alloc, &self.catalog_nodes(), dir, Detail::Brief)
+    }
+
+    /// The folder and the name of the file of that ID: -1302 where it is the ID of a folder, -1300 where no file of that ID has a
+    /// thread. Takes no memory.
+    pub fn resolve_file_id(&self, id: u32) -> Reply
+        ensures { result ≡ resolve_file_id (entries_of (volume_of self.now.current)) id }
+    {
+        reading::resolve_file_id(&self.catalog_nodes(), id)
     }
 
     /// Bytes of a file's fork from an offset on, at most 65,536 of them: -50 where `count` is above that, -37, -120 and -43 as

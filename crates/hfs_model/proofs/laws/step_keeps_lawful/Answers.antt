@@ -8,6 +8,7 @@ use Rattle.hfs_model.specs.Step.{step}
 use Rattle.hfs_model.proofs.KeepsCalls.{create_keeps, rename_keeps, set_f_info_keeps, set_cat_info_keeps, set_lock_keeps}
 use Rattle.hfs_model.proofs.KeepsRemoval.{delete_keeps}
 use Rattle.hfs_model.proofs.KeepsMove.{cat_move_keeps}
+use Rattle.hfs_model.proofs.KeepsFileIds.{create_file_id_keeps, delete_file_id_keeps}
 use Rattle.hfs_model.proofs.laws.step_keeps_lawful.Goals as goal
 
 keeps : (v : Volume) (c : Call) → IsLawful v → IsLawful (step v c).0
@@ -25,6 +26,9 @@ keeps v (call.SetFInfo dir name info now) h = set_f_info_keeps v dir name info n
 keeps v (call.SetCatInfo dir name created modified backup info now) h = set_cat_info_keeps v dir name created modified backup info now h
 keeps v (call.SetFLock dir name now) h = set_lock_keeps true v dir name now h
 keeps v (call.RstFLock dir name now) h = set_lock_keeps false v dir name now h
+keeps v (call.CreateFileId dir name now) h = create_file_id_keeps v dir name now h
+keeps v (call.DeleteFileId id now) h = delete_file_id_keeps v id now h
+keeps v (call.ResolveFileId id) h = h
 
 pub returns : goal.returns
 returns c = keeps
