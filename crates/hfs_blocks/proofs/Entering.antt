@@ -2,7 +2,7 @@
 use Rattle.std.proofs.Common.{◌≡◌, ℕ, ◌<◌, ◌⊎◌, Bool, true, false, cond, List, [], ◌∷◌, length, Option, Some, None, IsSome, unwrap_or, nat_eq, slice_get, refl, sym, ap, ◌∙◌, subst, arith, suc, ⊎_elim, inl, inr, true≢false, eqb-true, rules}
 use Rattle.std.specs.Map.{lookup}
 use Rattle.std.specs.Option.{option_or}
-use Rattle.hfs_blocks.specs.Layers.{Changes, Numbered, changes, with_change, over, AreWithin, HasJoined}
+use Rattle.hfs_blocks.specs.Layers.{Changes, Numbered, changes, with_change, over, AreWithin, AreWithin-with_change, HasJoined}
 
 -- a block that is there is that of an entry
 pub found : (es : Numbered) (k : ℕ) → IsSome (changes es k) → (j : ℕ) × (p : ℕ × List ℕ) × (j < length es) × (slice_get es j ≡ Some p) × (p.0 ≡ k)
@@ -53,14 +53,7 @@ module _ (g h : Changes) (below : ℕ → List ℕ) (n : ℕ) (b : List ℕ) (is
       by false e = inl (subst (λ o. IsSome o) (written k ∙ ap (λ t. cond t (Some b) (g k)) e) some)
 
   pub entered_within : (count : ℕ) → n < count → length b ≡ 512 → AreWithin g count → AreWithin h count
-  entered_within count below_count whole within q c found_q = by (nat_eq n q) refl
-    where
-      by : (t : Bool) → nat_eq n q ≡ t → (q < count) × (length c ≡ 512)
-      by true same =
-          let e : Some b ≡ Some c = sym (ap (λ t. cond t (Some b) (g q)) same) ∙ sym (written q) ∙ found_q in
-          let bc : b ≡ c = cc in
-          (subst (λ x. x < count) (eqb-true n q same) below_count, subst (λ (x : List ℕ). length x ≡ 512) bc whole)
-      by false other = within q c (sym (ap (λ t. cond t (Some b) (g q)) other) ∙ sym (written q) ∙ found_q)
+  entered_within count low whole within = subst (λ f. AreWithin f count) (sym is) (AreWithin-with_change g n b count low whole within)
 
 -- blocks within before others within are within
 pub within_or : (p g h : Changes) (count : ℕ) → ((q : ℕ) → h q ≡ option_or (p q) (g q)) → AreWithin p count → AreWithin g count → AreWithin h count
