@@ -1,6 +1,7 @@
 -- Blocks that are laid over other blocks.
-use Rattle.std.specs.Prelude.{◌≡◌, ℕ, Bool, true, false, List, length, Option, Some, None, nat_eq, if◌then◌else◌, unwrap_or, refl}
-use Rattle.std.specs.Map.{lookup}
+use Rattle.std.specs.Prelude.{◌≡◌, ℕ, ◌<◌, ◌⊎◌, Bool, true, false, List, [], length, Option, Some, None, IsSome, nat_eq, if◌then◌else◌, unwrap_or, refl}
+use Rattle.std.specs.Map.{lookup, keys_of}
+use Rattle.std.proofs.Common.{sym, ap, ◌∙◌, subst, cond, eqb-true}
 
 -- blocks by number, where there are some
 abbrev pub Changes : Type 0
@@ -18,6 +19,20 @@ changes blocks n = lookup (nat_eq n) blocks
 abbrev pub AreWhole : Changes → Type 0
 AreWhole changes = (n : ℕ) (b : List ℕ) → changes n ≡ Some b → length b ≡ 512
 
+-- the blocks that there are are among the first count, and each has 512 bytes
+abbrev pub AreWithin : Changes → ℕ → Type 0
+AreWithin changes count = (n : ℕ) (b : List ℕ) → changes n ≡ Some b → (n < count) × (length b ≡ 512)
+
+-- the numbers of the blocks
+abbrev pub numbers : Numbered → List ℕ
+numbers blocks = keys_of blocks
+
+-- new has a block of each number of which one of the two has one, and of no other
+pub record HasJoined (first second new : Changes) : Type 0 where
+  pub of_first : (k : ℕ) → IsSome (first k) → IsSome (new k)
+  pub of_second : (k : ℕ) → IsSome (second k) → IsSome (new k)
+  pub of_none_else : (k : ℕ) → IsSome (new k) → IsSome (first k) ⊎ IsSome (second k)
+
 -- the blocks that there are, with b as the one of number n
 abbrev pub with_change : Changes → ℕ → List ℕ → Changes
 with_change changes n b k = if nat_eq n k then Some b else changes k
@@ -25,6 +40,14 @@ with_change changes n b k = if nat_eq n k then Some b else changes k
 -- the blocks that there are, and below them those of another
 abbrev pub over : Changes → (ℕ → List ℕ) → ℕ → List ℕ
 over changes below n = unwrap_or (changes n) (below n)
+
+-- over these blocks, new shows the same as old
+abbrev pub ShowsSame : (ℕ → List ℕ) → Changes → Changes → Type 0
+ShowsSame below old new = (k : ℕ) → over new below k ≡ over old below k
+
+-- over these blocks, new shows those of another that was laid over old
+abbrev pub ShowsLaid : (ℕ → List ℕ) → Changes → Changes → Changes → Type 0
+ShowsLaid below old other new = (k : ℕ) → over new below k ≡ over other (over old below) k
 
 -- the blocks, with b as the one of number n
 abbrev pub with_block : (ℕ → List ℕ) → ℕ → List ℕ → ℕ → List ℕ
@@ -36,6 +59,24 @@ length-over changes below n whole own = by (changes n) refl
     by : (o : Option (List ℕ)) → changes n ≡ o → length (unwrap_or o (below n)) ≡ 512
     by None e = own
     by (Some b) e = whole n b e
+
+-- a block that is put into a patch whose blocks are within
+pub AreWithin-with_change : (changes : Changes) (n : ℕ) (b : List ℕ) (count : ℕ) → n < count → length b ≡ 512 → AreWithin changes count → AreWithin (with_change changes n b) count
+AreWithin-with_change changes n b count low whole within k c found = by (nat_eq n k) refl
+  where
+    by : (t : Bool) → nat_eq n k ≡ t → (k < count) × (length c ≡ 512)
+    by true same =
+        let e : Some b ≡ Some c = sym (ap (λ t. cond t (Some b) (changes k)) same) ∙ found in
+        let bc : b ≡ c = cc in
+        (subst (λ x. x < count) (eqb-true n k same) low, subst (λ (x : List ℕ). length x ≡ 512) bc whole)
+    by false other = within k c (sym (ap (λ t. cond t (Some b) (changes k)) other) ∙ found)
+
+-- a patch without blocks has none that isn't within
+pub AreWithin-nothing : (count : ℕ) → AreWithin (changes []) count
+AreWithin-nothing count n b found = absurd (none_some found)
+  where
+    none_some : None ≡ Some b → ⊥
+    none_some e = cc
 
 -- a block that is put into a patch is put over what the patch was laid over
 pub over-with_change : (changes : Changes) (below : ℕ → List ℕ) (n : ℕ) (b : List ℕ) → over (with_change changes n b) below ≡ with_block (over changes below) n b

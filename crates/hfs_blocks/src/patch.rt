@@ -1,14 +1,18 @@
 //! Changed blocks.
 
-ghost use Rattle.std.specs.Prelude.{◌≡◌, ℕ, [], length, OnOk, OnErr};
-ghost use Rattle.std.specs.Option.{option_copied};
-ghost use Rattle.hfs_blocks.specs.Layers.{changes, with_change, AreWhole};
+ghost use Rattle.std.specs.Prelude.{◌≡◌, ℕ, ◌<◌, ◌⊎◌, [], length, Some, OnOk, OnErr, IsSome, nat_eq, if◌then◌else◌};
+ghost use Rattle.std.specs.List.{IsDistinct};
+ghost use Rattle.std.specs.Option.{option_copied, option_or};
+ghost use Rattle.hfs_blocks.specs.Layers.{changes, numbers, with_change, AreWhole, AreWithin, HasJoined, ShowsSame, ShowsLaid};
 
 use crate::blocks::Blocks;
 use crate::patched::Patched;
 use indexmap::IndexMap;
 use std::alloc::{AllocError, Global};
 use std::marker::Model;
+
+/// Blocks by their numbers.
+type BlockMap = IndexMap<u32, [u8; 512]>;
 
 /// Blocks of 512 bytes by number, to be laid over the blocks of a volume: the edits of one call.
 #[derive(Drop)]
@@ -36,6 +40,14 @@ impl Patch {
         }
     }
 
+    /// How many blocks there are, each counted once.
+    pub fn len(&self) -> usize
+        ensures len { result ≡ length (numbers self.now) }
+        ensures different { IsDistinct nat_eq (numbers self.now) }
+    {
+        self.blocks.len()
+    }
+
     /// Block `n`, if the patch has it. Takes no memory.
     pub fn get(&self, n: u32) -> Option<&[u8; 512]>
         ensures value { option_copied result ≡ changes self.now n }
@@ -60,6 +72,81 @@ impl Patch {
         ensures kept { OnErr result (self.new ≡ self.old) }
     {
         self.blocks.insert(n, *block)?;
+        Ok(())
+    }
+
+    /// Enters block `n` with the bytes that it has below, unless the patch has it.
+    fn enter<B: Blocks>(&mut self, below: &B, n: u32) -> Result<(), AllocError>
+        requires { n < B.total below.now }
+        ensures same { ShowsSame (B.blocks below.now) (changes self.old) (changes self.new) }
+        ensures kept { (k : ℕ) → IsSome (changes self.old k) → IsSome (changes self.new k) }
+        ensures entered { OnOk result (IsSome (changes self.new n)) }
+        ensures no_other { (k : ℕ) → IsSome (changes self.new k) → IsSome (changes self.old k) ⊎ (n ≡ k) }
+        ensures within { AreWithin (changes self.old) (B.total below.now) → AreWithin (changes self.new) (B.total below.now) }
+    {
+        if self.get(n).is_some() {
+            return Ok(());
+        }
+        let mut block = [0; 512];
+        below.block(n, &mut block);
+        self.put(n, &block)?;
+        Ok(())
+    }
+
+    /// Enters each of the blocks that the patch lacks, with the bytes that it has below.
+    fn enter_all<B: Blocks>(&mut self, below: &B, blocks: &BlockMap) -> Result<(), AllocError>
+        requires { AreWithin (changes blocks.now.entries) (B.total below.now) }
+        ensures same { ShowsSame (B.blocks below.now) (changes self.old) (changes self.new) }
+        ensures kept { (k : ℕ) → IsSome (changes self.old k) → IsSome (changes self.new k) }
+        ensures entered { OnOk result ((k : ℕ) → IsSome (changes blocks.now.entries k) → IsSome (changes self.new k)) }
+        ensures no_other { (k : ℕ) → IsSome (changes self.new k) → IsSome (changes self.old k) ⊎ IsSome (changes blocks.now.entries k) }
+        ensures within { AreWithin (changes self.old) (B.total below.now) → AreWithin (changes self.new) (B.total below.now) }
+    {
+        for i in 0..blocks.len() {
+            let Some((n, _)) = blocks.get_index(i) else {
+                unreachable!();
+            };
+            self.enter(below, *n)?;
+        }
+        Ok(())
+    }
+
+    /// Writes over a block that the patch has. Takes no memory.
+    fn overwrite(&mut self, n: u32, block: &[u8; 512])
+        requires { IsSome (changes self.old n) }
+        ensures { (k : ℕ) → changes self.new k ≡ (if nat_eq n k then Some block.now else changes self.old k) }
+    {
+        let Some(slot) = self.blocks.get_mut(&n) else {
+            unreachable!();
+        };
+        *slot = *block;
+    }
+
+    /// Writes each of the blocks over the patch's block of its number. Takes no memory.
+    fn overwrite_all(&mut self, blocks: &BlockMap)
+        requires { (k : ℕ) → IsSome (changes blocks.now.entries k) → IsSome (changes self.old k) }
+        ensures { (k : ℕ) → changes self.new k ≡ option_or (changes blocks.now.entries k) (changes self.old k) }
+    {
+        for i in 0..blocks.len() {
+            let Some((n, block)) = blocks.get_index(i) else {
+                unreachable!();
+            };
+            self.overwrite(*n, block);
+        }
+    }
+
+    /// Lays another patch over this one, which lies over the blocks of `below`. Each block of the other that this one lacks is
+    /// entered first, with the bytes that it has there, so that what follows takes no memory. At an error this patch may have
+    /// more blocks, but over those of `below` it is as it was.
+    pub fn lay<B: Blocks>(&mut self, below: &B, patch: &Patch) -> Result<(), AllocError>
+        requires { AreWithin (changes patch.now) (B.total below.now) }
+        ensures laid { OnOk result (ShowsLaid (B.blocks below.now) (changes self.old) (changes patch.now) (changes self.new)) }
+        ensures kept { OnErr result (ShowsSame (B.blocks below.now) (changes self.old) (changes self.new)) }
+        ensures joined { OnOk result (HasJoined (changes self.old) (changes patch.now) (changes self.new)) }
+        ensures within { AreWithin (changes self.old) (B.total below.now) → AreWithin (changes self.new) (B.total below.now) }
+    {
+        self.enter_all(below, &patch.blocks)?;
+        self.overwrite_all(&patch.blocks);
         Ok(())
     }
 }

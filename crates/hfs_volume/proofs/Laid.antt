@@ -5,9 +5,8 @@ use Rattle.std.proofs.Math.Seq.{take-add}
 use Rattle.std.proofs.lemmas.Bool.{cases_lt}
 use Rattle.std.proofs.lemmas.List.{drop-drop, take_at, take-append-drop}
 use Rattle.hfs_blocks.specs.Blocks.{block_at, block_count, length-block_at}
-use Rattle.hfs_blocks.specs.Layers.{Changes, over}
+use Rattle.hfs_blocks.specs.Layers.{Changes, AreWithin, over}
 use Rattle.hfs_volume.specs.Laid.{laid_from, laid, laid_over}
-use Rattle.hfs_volume.specs.Image.{AreWithin}
 
 -- the first m blocks have 512 bytes each
 abbrev pub AreBlocks : (ℕ → List ℕ) → ℕ → Type 0
@@ -147,3 +146,10 @@ module _ (g : Changes) (bytes : List ℕ) (within : AreWithin g (block_count byt
 -- where there are none, nothing changes
 pub laid_over-nothing : (g : Changes) (bytes : List ℕ) → ((n : ℕ) → g n ≡ None) → laid_over g bytes ≡ bytes
 laid_over-nothing g bytes none = ap (λ f. laid f bytes) (λ i n. ap (λ o. unwrap_or o (block_at bytes n)) (none n) i) ∙ laid-own bytes
+
+-- laid twice, what is laid last is seen
+pub laid-laid : (h f : ℕ → List ℕ) (bytes : List ℕ) → AreBlocks f (block_count bytes) → laid h (laid f bytes) ≡ laid h bytes
+unfolding laid
+laid-laid h f bytes whole =
+    ap (λ n. laid_from h n 0 (laid f bytes)) (block_count-laid f bytes whole)
+    ∙ laid_from-laid_from h f (block_count bytes) (block_count bytes) 0 bytes whole (omega arith)

@@ -12,3 +12,5 @@ pub mod FileForks
 pub mod Seen
 pub mod SeenForks
 pub mod Openings
+pub mod SavedPieces
+pub mod Kept

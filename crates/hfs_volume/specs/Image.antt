@@ -1,21 +1,31 @@
 -- What contracts see of an image and of a mounted volume.
-use Rattle.std.specs.Prelude.{◌≡◌, ℕ, ◌<◌, ◌≤◌, List, length, Some}
-use Rattle.hfs_blocks.specs.Blocks.{block_count}
-use Rattle.hfs_blocks.specs.Layers.{Numbered, Changes, changes}
+use Rattle.std.specs.Prelude.{◌≡◌, ℕ, ◌≤◌, Bool, false, List, length, ◌||◌, is_some, nat_eq}
+use Rattle.std.specs.List.{list_any}
+use Rattle.hfs_blocks.specs.Blocks.{block_at, block_count}
+use Rattle.hfs_blocks.specs.Layers.{Numbered, Changes, AreWithin, changes, numbers}
 use Rattle.hfs_volume.specs.Laid.{laid_over}
 
--- the bytes as they were opened, and the bytes as they are
+-- the bytes as they were opened, the bytes as they are, and the numbers of the blocks that are kept as changed, each once
 pub record ImageValue : Type 0 where
   pub base : List ℕ
   pub current : List ℕ
+  pub changed : List ℕ
 
 -- an image with these blocks changed
 abbrev pub image_of : List ℕ → Numbered → ImageValue
-image_of base changed = record { base = base; current = laid_over (changes changed) base }
+image_of base changed = record { base = base; current = laid_over (changes changed) base; changed = numbers changed }
 
--- the blocks that there are are among the first count, and each has 512 bytes
-abbrev pub AreWithin : Changes → ℕ → Type 0
-AreWithin changes count = (n : ℕ) (b : List ℕ) → changes n ≡ Some b → (n < count) × (length b ≡ 512)
+-- block n is kept as changed
+abbrev pub is_changed : ImageValue → ℕ → Bool
+is_changed image n = list_any (nat_eq n) image.changed
+
+-- the new image keeps as changed what the old one did, and each block that there is
+abbrev pub HasKept : ImageValue → Changes → ImageValue → Type 0
+HasKept old changes new = (n : ℕ) → is_changed new n ≡ is_changed old n || is_some (changes n)
+
+-- a block that isn't kept as changed is as it was
+abbrev pub IsSameBeside : ImageValue → Type 0
+IsSameBeside image = (n : ℕ) → is_changed image n ≡ false → block_at image.current n ≡ block_at image.base n
 
 pub record IsImage (base : List ℕ) (changed : Numbered) : Type 0 where
   pub small : length base ≤ 2147483648

@@ -6,3 +6,4 @@ pub mod Queries
 pub mod Mounted
 pub mod LeftBytes
 pub mod Opening
+pub mod Saving

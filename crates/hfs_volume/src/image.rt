@@ -1,13 +1,19 @@
 //! An image: its bytes as they were opened, and the blocks that were changed since.
 
-ghost use Rattle.std.specs.Prelude.{◌≡◌, ◌<◌, ◌≤◌, ◌^◌, length, IfOk, IfErr};
+ghost use Rattle.std.specs.Prelude.{◌≡◌, [], ◌<◌, ◌≤◌, ◌^◌, length, IfOk, IfErr, OnOk, OnErr, nat_eq};
+ghost use Rattle.std.specs.Io.KnownBytes.{Appends};
+ghost use Rattle.std.specs.List.{IsDistinct};
 ghost use Rattle.hfs_blocks.specs.Blocks.{block_at, block_count, length-block_at, few-block_count};
-ghost use Rattle.hfs_blocks.specs.Layers.{changes};
+ghost use Rattle.hfs_blocks.specs.Layers.{changes, AreWithin};
+ghost use Rattle.hfs_volume.specs.Image.{HasKept, IsSameBeside};
 ghost use Rattle.hfs_volume.specs.Laid.{laid_over};
+ghost use Rattle.hfs_volume.specs.Saving.{HasWritten};
 
 use crate::base::Base;
+use crate::saving::{SaveFault, save_laid};
 use hfs_blocks::{Blocks, ImageBytes, Patch};
 use std::alloc::{AllocError, AllocFailed, Global};
+use std::io::Write;
 use std::marker::Model;
 
 /// An image of at most 2,147,483,648 bytes: blocks of 512 bytes, counted from 0, and what may follow the last whole one.
@@ -34,6 +40,7 @@ impl Image {
         requires { length bytes.items ≤ 2147483648 }
         ensures base { IfOk result (λ image. image.base ≡ bytes.items) }
         ensures current { IfOk result (λ image. image.current ≡ bytes.items) }
+        ensures changed { IfOk result (λ image. image.changed ≡ []) }
         ensures value_returned { IfErr result (λ failed. failed.value ≡ bytes) }
     {
         let base = Base::new(alloc, bytes)?;
@@ -48,6 +55,16 @@ impl Image {
         ensures { IfOk result (λ base. base ≡ self.now.base) }
     {
         self.base.share()
+    }
+
+    /// How many blocks are kept as changed. Each block that differs from what it was at first is one of them.
+    pub fn changed(&self) -> u32
+        ensures count { result ≡ length self.now.changed }
+        ensures once { IsDistinct nat_eq self.now.changed }
+        ensures others { IsSameBeside self.now }
+    {
+        let _count = self.count();
+        self.changed.len() as u32
     }
 
     /// How many whole blocks there are.
@@ -67,6 +84,31 @@ impl Image {
             bytes: self.base.bytes(),
         };
         self.changed.over(&base).block(n, into);
+    }
+
+    /// Lays a patch over the image. At an error the bytes are as they were. The bytes as they were opened stay.
+    pub fn commit(&mut self, patch: &Patch) -> Result<(), AllocError>
+        requires { AreWithin (changes patch.now) (block_count self.old.current) }
+        ensures current { OnOk result (self.new.current ≡ laid_over (changes patch.now) self.old.current) }
+        ensures changed { OnOk result (HasKept self.old (changes patch.now) self.new) }
+        ensures unchanged { OnErr result (self.new.current ≡ self.old.current) }
+        ensures base { self.new.base ≡ self.old.base }
+    {
+        let base = ImageBytes {
+            bytes: self.base.bytes(),
+        };
+        self.changed.lay(&base, patch)?;
+        Ok(())
+    }
+
+    /// Writes the bytes as they are now. Takes no memory. At a fault the first of them went out, and no others.
+    pub fn save<W: Write>(&self, writer: &mut W) -> Result<(), SaveFault>
+        ensures ok { OnOk result (Appends (W.contents writer.old) (W.contents writer.new) self.now.current) }
+        ensures err { IfErr result (λ fault. HasWritten (W.contents writer.old) (W.contents writer.new) fault.written self.now.current) }
+    {
+        let base = self.base.bytes();
+        let count = (base.len() / 512) as u32;
+        save_laid(&self.changed, base, count, writer)
     }
 
     /// The blocks as they are now.

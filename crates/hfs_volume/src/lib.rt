@@ -10,6 +10,7 @@ mod mounting;
 mod open_fork;
 mod reading;
 mod reply;
+mod saving;
 mod volume;
 
 pub use base::Base;
@@ -19,4 +20,5 @@ pub use image::{Image, ImageBlocks};
 pub use laws::catalog_answers;
 pub use mounting::{Refused, mount};
 pub use open_fork::{OpenFork, Opened};
+pub use saving::SaveFault;
 pub use volume::Volume;

@@ -1,6 +1,6 @@
 //! Mounting.
 
-ghost use Rattle.std.specs.Prelude.{◌≡◌, IfOk, IfErr, OnOk};
+ghost use Rattle.std.specs.Prelude.{◌≡◌, [], IfOk, IfErr, OnOk};
 ghost use Rattle.hfs_check.specs.Answers.{IsFaultOf};
 ghost use Rattle.hfs_check.specs.Faults.{fault_of};
 ghost use Rattle.hfs_check.specs.Sound.{IsSound};
@@ -27,6 +27,7 @@ pub fn mount(alloc: Global, image: Vec<u8>) -> Result<Volume, Refused>
     ensures sound { OnOk result (IsSound image.items) }
     ensures base { IfOk result (λ volume. volume.base ≡ image.items) }
     ensures current { IfOk result (λ volume. volume.current ≡ image.items) }
+    ensures changed { IfOk result (λ volume. volume.changed ≡ []) }
     ensures fault { IfErr result (λ refused. IsFaultOf (fault_of image.items) refused.fault) }
     ensures given { IfErr result (λ refused. refused.image ≡ image) }
 {

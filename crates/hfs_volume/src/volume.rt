@@ -1,6 +1,8 @@
 //! A mounted volume.
 
-ghost use Rattle.std.specs.Prelude.{◌≡◌, IsTrue, IfOk};
+ghost use Rattle.std.specs.Prelude.{◌≡◌, length, nat_eq, IsTrue, IfOk, IfErr, OnOk};
+ghost use Rattle.std.specs.Io.KnownBytes.{Appends};
+ghost use Rattle.std.specs.List.{IsDistinct};
 ghost use Rattle.hfs_model.specs.Children.{entries_of};
 ghost use Rattle.hfs_model.specs.Reading.{get_dir_info, get_cat_info, get_indexed, list, read_fork, part_of};
 ghost use Rattle.hfs_model.specs.FileIds.{resolve_file_id};
@@ -11,8 +13,10 @@ ghost use Rattle.hfs_check.specs.Sound.{IsSound};
 ghost use Rattle.hfs_check.specs.VolumeOf.{contents_in, volume_of};
 ghost use Rattle.hfs_blocks.specs.Blocks.{block_at};
 ghost use Rattle.hfs_volume.specs.Brief.{without_ids};
+ghost use Rattle.hfs_volume.specs.Image.{IsSameBeside};
 ghost use Rattle.hfs_volume.specs.Opening.{opened_fork};
 ghost use Rattle.hfs_volume.specs.Queries.{AreEntries};
+ghost use Rattle.hfs_volume.specs.Saving.{HasWritten};
 ghost use Rattle.hfs_volume.specs.Told.{IsCatalog, pick};
 ghost use Rattle.hfs_volume.specs.Mounted.{IsMounted, AreForksIn};
 
@@ -23,11 +27,13 @@ use crate::laws::catalog_answers;
 use crate::open_fork::{OpenFork, Opened};
 use crate::reading;
 use crate::reply::{Detail, refusal};
+use crate::saving::SaveFault;
 use hfs_blocks::Run;
 use hfs_check::trees_are_sound;
 use hfs_fields::{FileRecord, Mdb};
 use hfs_model::{Call, Fork, PARAMETER, Reply, reading_leaves};
 use std::alloc::{AllocError, Global};
+use std::io::Write;
 use std::marker::Model;
 
 /// A mounted volume. Contracts see its image as it was mounted, and as it is; both are sound, and nothing in the latter but
@@ -249,6 +255,25 @@ impl Volume {
             kind,
             &record,
         )
+    }
+
+    /// Writes the image's bytes as they are now, what follows the last whole block too. Takes no memory. At a fault the first
+    /// of them went out, and no others.
+    pub fn save<W: Write>(&self, writer: &mut W) -> Result<(), SaveFault>
+        ensures ok { OnOk result (Appends (W.contents writer.old) (W.contents writer.new) self.now.current) }
+        ensures err { IfErr result (λ fault. HasWritten (W.contents writer.old) (W.contents writer.new) fault.written self.now.current) }
+    {
+        self.image.save(writer)
+    }
+
+    /// How many blocks of the image are kept as changed since it was mounted. Each block that differs from what it was then is
+    /// one of them; one that was written back as it was may be.
+    pub fn changed(&self) -> u32
+        ensures count { result ≡ length self.now.changed }
+        ensures once { IsDistinct nat_eq self.now.changed }
+        ensures others { IsSameBeside self.now }
+    {
+        self.image.changed()
     }
 
     /// The nodes of the catalog, whose records answer the queries of the volume.

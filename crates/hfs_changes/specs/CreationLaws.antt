@@ -1,0 +1,33 @@
+-- What holds of Create. The statement is what a function of src/creation.rt ensures.
+use Rattle.std.specs.Prelude.{◌≡◌, ℕ, ◌+◌, ◌==◌, true, List, None, Ok}
+use Rattle.hfs_fields.specs.declared.mdb.Mdb.{Mdb}
+use Rattle.hfs_fields.specs.Records.{is_dir, dir_record_of, new_file}
+use Rattle.hfs_fields.specs.RecordForms.{IsDirRecordValue, dir_record_bytes, IsFileRecordValue, file_record_bytes}
+use Rattle.hfs_catalog.specs.Records.{Record}
+use Rattle.hfs_model.specs.declared.call.Call.TheVariants as call
+use Rattle.hfs_model.specs.Choices.{to_create}
+use Rattle.hfs_check.specs.Parts.{Blocks, mdb_in, catalog_in}
+use Rattle.hfs_check.specs.Sound.{AreBlocksSound}
+use Rattle.hfs_check.specs.VolumeOf.{volume_in}
+use Rattle.hfs_changes.specs.Changes.{HasAdded, with_children}
+use Rattle.hfs_changes.specs.Swaps.{one_if}
+use Rattle.hfs_changes.specs.OnBlocks.{HasTree}
+use Rattle.hfs_changes.specs.Laws.{MakesStep}
+
+-- the counts with one more file in this folder
+abbrev pub with_file : ℕ → ℕ → Mdb → Mdb
+with_file dir now mdb = record mdb { modified = now; next_id = mdb.next_id + 1; root_files = mdb.root_files + one_if (dir == 2); files = mdb.files + 1 }
+
+-- a new file's record came under the next ID, and the folder's record with one more child and this moment
+pub record HasAddedFile (next dir : ℕ) (name : List ℕ) (r : Record) (now : ℕ) (old new : Blocks) : Type 0 where
+  pub folder : is_dir r.1 ≡ true
+  pub file_value : IsFileRecordValue (new_file next now)
+  pub folder_value : IsDirRecordValue (with_children ((dir_record_of r.1).valence + 1) now (dir_record_of r.1))
+  pub added : HasAdded next dir (record { parent = dir; name = name }, file_record_bytes (new_file next now)) None r
+      (r.0, dir_record_bytes (with_children ((dir_record_of r.1).valence + 1) now (dir_record_of r.1))) (catalog_in old) (catalog_in new)
+  pub tree : HasTree (with_file dir now (mdb_in old)) old new
+
+abbrev pub CreateMakes : Type 0
+CreateMakes =
+    (total now dir : ℕ) (name : List ℕ) (r : Record) (old new : Blocks) → AreBlocksSound total old → to_create (volume_in old) dir name ≡ Ok (mdb_in old).next_id
+    → HasAddedFile (mdb_in old).next_id dir name r now old new → MakesStep (call.Create dir name now) (with_file dir now (mdb_in old)) old new

@@ -1,0 +1,12 @@
+pub mod Swaps
+pub mod Once
+pub mod Sound
+pub mod Steps
+pub mod Links
+pub mod Changes
+pub mod Edited
+pub mod OnBlocks
+pub mod Laws
+pub mod SettingLaws
+pub mod CreationLaws
+pub mod ItemLaws

@@ -1,0 +1,13 @@
+//! What Create makes of a volume, as the contract of a function that does nothing: a caller learns it by the call.
+ghost use Rattle.hfs_changes.specs.CreationLaws.{CreateMakes};
+
+use hfs_catalog::items_are_records;
+use hfs_check::catalog_is_sound;
+
+/// A new file's record under the next ID, and its folder's with one more child, make the step of Create.
+pub fn create_makes()
+    ensures { CreateMakes }
+{
+    items_are_records();
+    catalog_is_sound();
+}

@@ -1,0 +1,12 @@
+//! What changes of its records make of a sound volume: it stays sound, and holds what the model's step makes.
+#![tactic(auto)]
+
+mod catalog_items;
+mod creation;
+mod laws;
+mod settings;
+
+pub use catalog_items::{added_items, dropped_items, moved_items, renamed_items, threads_lead};
+pub use creation::create_makes;
+pub use laws::{catalog_edits_are_steps, catalog_file_stays};
+pub use settings::{choice_stands, set_cat_info_makes, set_f_info_makes, set_lock_makes};

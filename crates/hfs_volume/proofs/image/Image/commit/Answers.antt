@@ -1,0 +1,47 @@
+-- The patch was laid over the changed blocks, and so over the bytes.
+use Rattle.std.proofs.Common.{◌≡◌, ℕ, List, sym, ap, ◌∙◌, subst}
+use Rattle.std.specs.Prelude.{Result, Ok, Err, OnErr}
+use Rattle.hfs_blocks.specs.Blocks.{block_at, block_count}
+use Rattle.hfs_blocks.specs.Layers.{changes, over, AreWithin}
+use Rattle.hfs_volume.specs.Image.{HasKept, image_of}
+use Rattle.hfs_volume.proofs.Kept.{kept}
+use Rattle.hfs_volume.proofs.Viewing.{same_count, committed, uncommitted}
+use Rattle.hfs_volume.proofs.image.Image.commit.Goals as goal
+
+on_err : {T E A : Type 0} (r : Result T E) → A → OnErr r A
+on_err (Ok x) a = tt
+on_err (Err e) a = a
+
+pub lay-requires : goal.lay-requires
+lay-requires c =
+    let e : block_count c.args.self.now.current ≡ block_count c.bytes.result.now =
+    sym (ap block_count c.bytes.ensures.bytes ∙ same_count (changes c.self.inside.changed) c.self.inside.base c.args.self.now.current c.self.invariant.within (ap (λ v. v.current) c.self.view_is)) in
+    subst (AreWithin (changes c.args.patch.now)) e c.requires
+
+pub invariant_of-self : goal.invariant_of-self
+invariant_of-self c = record {
+  small = c.self.invariant.small;
+  within = subst (λ (b : List ℕ). AreWithin (changes c.lay.new.self) (block_count b)) c.bytes.ensures.bytes
+      (c.in_err-lay.ensures.within (subst (λ (b : List ℕ). AreWithin (changes c.self.inside.changed) (block_count b)) (sym c.bytes.ensures.bytes) c.self.invariant.within));
+}
+
+pub invariant_of-self-2 : goal.invariant_of-self-2
+invariant_of-self-2 c = record {
+  small = c.self.invariant.small;
+  within = subst (λ (b : List ℕ). AreWithin (changes c.lay.new.self) (block_count b)) c.bytes.ensures.bytes
+      (c.in_ok-lay.ensures.within (subst (λ (b : List ℕ). AreWithin (changes c.self.inside.changed) (block_count b)) (sym c.bytes.ensures.bytes) c.self.invariant.within));
+}
+
+pub returns-clause-current : goal.returns-clause-current
+returns-clause-current c =
+    committed (changes c.self.inside.changed) c.self.inside.base c.args.self.now.current c.self.invariant.within (ap (λ v. v.current) c.self.view_is) (changes c.args.patch.now) (changes c.lay.new.self)
+    (λ k. subst (λ (b : List ℕ). over (changes c.lay.new.self) (block_at b) k ≡ over (changes c.args.patch.now) (over (changes c.self.inside.changed) (block_at b)) k) c.bytes.ensures.bytes (c.in_ok-lay.ensures.laid k))
+
+pub returns-in_err-lay-clause-unchanged : goal.returns-in_err-lay-clause-unchanged
+returns-in_err-lay-clause-unchanged c = on_err c.from_residual.result
+    (uncommitted (changes c.self.inside.changed) c.self.inside.base c.args.self.now.current c.self.invariant.within (ap (λ v. v.current) c.self.view_is) (changes c.lay.new.self)
+    (λ k. subst (λ (b : List ℕ). over (changes c.lay.new.self) (block_at b) k ≡ over (changes c.self.inside.changed) (block_at b) k) c.bytes.ensures.bytes (c.in_err-lay.ensures.kept k)))
+
+pub returns-clause-changed : goal.returns-clause-changed
+returns-clause-changed c = subst (λ v. HasKept v (changes c.args.patch.now) (image_of c.self.inside.base c.lay.new.self)) c.self.view_is
+    (kept c.self.inside.changed c.lay.new.self (changes c.args.patch.now) c.in_ok-lay.ensures.joined)

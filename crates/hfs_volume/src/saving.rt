@@ -1,0 +1,112 @@
+//! Writing an image to any writer, which takes no memory.
+
+ghost use Rattle.std.specs.Prelude.{◌≡◌, ℕ, ◌-◌, ◌*◌, ◌<◌, ◌≤◌, take, drop, OnOk, IfErr, is_some, false, IsSome};
+ghost use Rattle.std.specs.Io.KnownBytes.{Appends};
+ghost use Rattle.hfs_blocks.specs.Blocks.{block_count};
+ghost use Rattle.hfs_blocks.specs.Layers.{changes, AreWithin};
+ghost use Rattle.hfs_volume.specs.Laid.{laid_over};
+ghost use Rattle.hfs_volume.specs.Saving.{HasWritten};
+
+use hfs_blocks::Patch;
+use std::io::{ErrorKind, Write};
+use thiserror::Error;
+
+/// A write failed, or took no byte.
+#[derive(Debug, Clone, Copy, PartialEq, Eq, Error)]
+#[error("cannot write")]
+pub struct SaveFault {
+    /// How many bytes went out: the first ones, and no others.
+    pub written: u64,
+}
+
+/// Writes the bytes. At an error, says how many of the first went out.
+fn write_counted<W: Write>(writer: &mut W, bytes: &[u8]) -> Result<(), usize>
+    ensures ok { OnOk result (Appends (W.contents writer.old) (W.contents writer.new) bytes.now) }
+    ensures err { IfErr result (λ done. HasWritten (W.contents writer.old) (W.contents writer.new) done bytes.now) }
+{
+    let mut done = 0;
+    for _turn in 0..u64::MAX {
+        if done == bytes.len() {
+            return Ok(());
+        }
+        match writer.write(&bytes[done..]) {
+            Ok(0) => return Err(done),
+            Ok(more) => done += more,
+            Err(error) => {
+                if error.kind() != ErrorKind::Interrupted {
+                    return Err(done);
+                }
+            }
+        }
+    }
+    Err(done)
+}
+
+/// The first changed block from `n` on, or `count`.
+fn next_changed(changed: &Patch, n: u32, count: u32) -> u32
+    requires { n ≤ count }
+    ensures after { n ≤ result }
+    ensures within { result ≤ count }
+    ensures unchanged { (k : ℕ) → n ≤ k → k < result → is_some (changes changed.now k) ≡ false }
+    ensures changed { result < count → IsSome (changes changed.now result) }
+{
+    for k in n..count {
+        if changed.get(k).is_some() {
+            return k;
+        }
+    }
+    count
+}
+
+/// The longest piece from block `n` on that lies in one place, and the block behind it.
+fn piece<'a>(changed: &'a Patch, base: &'a [u8], n: u32, count: u32) -> (&'a [u8], u32)
+    requires count { count ≡ block_count base.now }
+    requires in_range { n < count }
+    requires within { AreWithin (changes changed.now) (block_count base.now) }
+    ensures after { n < result.1 }
+    ensures within { result.1 ≤ count }
+    ensures bytes { result.0.now ≡ take (512 * (result.1 - n)) (drop (512 * n) (laid_over (changes changed.now) base.now)) }
+{
+    let end = next_changed(changed, n, count);
+    if n < end {
+        let from = n as usize * 512;
+        let to = end as usize * 512;
+        return (&base[from..to], end);
+    }
+    match changed.get(n) {
+        Some(block) => (block, n + 1),
+        None => unreachable!(),
+    }
+}
+
+/// Writes the bytes of the base, with the changed blocks in place of its own: each piece from where it lies, and last what
+/// follows the last whole block.
+pub(crate) fn save_laid<W: Write>(
+    changed: &Patch,
+    base: &[u8],
+    count: u32,
+    writer: &mut W,
+) -> Result<(), SaveFault>
+    requires count { count ≡ block_count base.now }
+    requires within { AreWithin (changes changed.now) (block_count base.now) }
+    ensures ok { OnOk result (Appends (W.contents writer.old) (W.contents writer.new) (laid_over (changes changed.now) base.now)) }
+    ensures err { IfErr result (λ fault. HasWritten (W.contents writer.old) (W.contents writer.new) fault.written (laid_over (changes changed.now) base.now)) }
+{
+    let mut n = 0;
+    while n < count {
+        let (bytes, next) = piece(changed, base, n, count);
+        if let Err(more) = write_counted(writer, bytes) {
+            return Err(SaveFault {
+                written: (n as usize * 512 + more) as u64,
+            });
+        }
+        n = next;
+    }
+    let from = count as usize * 512;
+    match write_counted(writer, &base[from..]) {
+        Ok(()) => Ok(()),
+        Err(more) => Err(SaveFault {
+            written: (from + more) as u64,
+        }),
+    }
+}
