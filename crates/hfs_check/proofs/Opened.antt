@@ -14,7 +14,7 @@ use Rattle.hfs_space.specs.Extents.{fork_extents}
 use Rattle.hfs_space.specs.Faults.{is_tree_file}
 use Rattle.hfs_space.specs.Owners.{catalog_fork, owned_blocks}
 use Rattle.hfs_space.specs.Laws.{NoTreeFileFault}
-use Rattle.hfs_space.specs.TreeFiles.{tree_nodes}
+use Rattle.hfs_space.specs.TreeFiles.{tree_nodes, tree_blocks}
 use Rattle.hfs_space.specs.TreeKeys.{ext_keys, IsExtentsTree, overflow_of}
 use Rattle.hfs_btree.specs.Sound.{IsShaped}
 use Rattle.hfs_catalog.specs.Tree.{cat_keys, catalog_of}
@@ -23,7 +23,7 @@ use Rattle.hfs_check.specs.declared.mount_fault.MountFault.TheVariants as fault
 use Rattle.hfs_check.specs.Faults.{◌or_fault◌, check_fault, extents_fault, extents_counts, catalog_fault, catalog_counts, trees_fault, records_fault, numbers_fault, length_fault, mdb_fault, blocks_fault, fault_of}
 use Rattle.hfs_check.specs.Laws.{NoExtentsFault, NoCatalogFault}
 use Rattle.hfs_check.specs.Trees.{LieIn}
-use Rattle.hfs_check.specs.Parts.{Blocks, mdb_in, extents_nodes, overflow_in, catalog_extents, catalog_nodes, catalog_in, owned_in}
+use Rattle.hfs_check.specs.Parts.{Blocks, mdb_in, extents_blocks, extents_nodes, overflow_in, catalog_extents, catalog_blocks, catalog_nodes, catalog_in, owned_in}
 use Rattle.hfs_check.specs.Answers.{IsFaultOf, extents_tree_fault, contents_fault, behind_trees_fault}
 
 -- what a check answers whose place this is
@@ -57,6 +57,15 @@ pub catalog_nodes-is : (blocks : Blocks) (mdb : Mdb) (extents : List Extent) →
     → tree_nodes blocks mdb extents mdb.catalog_file_size ≡ catalog_nodes blocks
 unfolding catalog_nodes
 catalog_nodes-is blocks mdb extents e f = λ i. tree_nodes blocks (e i) (f i) (e i).catalog_file_size
+
+pub extents_blocks-is : (blocks : Blocks) (mdb : Mdb) → mdb ≡ mdb_in blocks → tree_blocks mdb mdb.extents_file mdb.extents_file_size ≡ extents_blocks blocks
+unfolding extents_blocks
+extents_blocks-is blocks mdb e = ap (λ (m : Mdb). tree_blocks m m.extents_file m.extents_file_size) e
+
+pub catalog_blocks-is : (blocks : Blocks) (mdb : Mdb) (extents : List Extent) → mdb ≡ mdb_in blocks → extents ≡ catalog_extents blocks
+    → tree_blocks mdb extents mdb.catalog_file_size ≡ catalog_blocks blocks
+unfolding catalog_blocks
+catalog_blocks-is blocks mdb extents e f = λ i. tree_blocks (e i) (f i) (e i).catalog_file_size
 
 -- the nodes of a right file have its bytes
 pub has-bytes : NoTreeFileFault → (blocks : Blocks) (mdb : Mdb) (extents : List Extent) (size : ℕ) (nodes : Store) → mdb.allocation_block_size % 512 ≡ 0
@@ -98,12 +107,14 @@ no-fault a b none e = ap (λ (o : Option MountFault). o or_fault b) none ∙ e
 -- ---- the trees' files
 
 pub extents_lie : (total : ℕ) (blocks : Blocks) (mdb : Mdb) (runs : List Run) → mdb ≡ mdb_in blocks
-    → LieIn total blocks runs (tree_nodes blocks mdb mdb.extents_file mdb.extents_file_size) → LieIn total blocks runs (extents_nodes blocks)
-extents_lie total blocks mdb runs e h = record { within = h.within; same = h.same ∙ extents_nodes-is blocks mdb e }
+    → LieIn total blocks runs (tree_blocks mdb mdb.extents_file mdb.extents_file_size) (tree_nodes blocks mdb mdb.extents_file mdb.extents_file_size)
+    → LieIn total blocks runs (extents_blocks blocks) (extents_nodes blocks)
+extents_lie total blocks mdb runs e h = record { within = h.within; numbers = h.numbers ∙ extents_blocks-is blocks mdb e; same = h.same ∙ extents_nodes-is blocks mdb e }
 
 pub catalog_lies : (total : ℕ) (blocks : Blocks) (mdb : Mdb) (extents : List Extent) (runs : List Run) → mdb ≡ mdb_in blocks → extents ≡ catalog_extents blocks
-    → LieIn total blocks runs (tree_nodes blocks mdb extents mdb.catalog_file_size) → LieIn total blocks runs (catalog_nodes blocks)
-catalog_lies total blocks mdb extents runs e f h = record { within = h.within; same = h.same ∙ catalog_nodes-is blocks mdb extents e f }
+    → LieIn total blocks runs (tree_blocks mdb extents mdb.catalog_file_size) (tree_nodes blocks mdb extents mdb.catalog_file_size)
+    → LieIn total blocks runs (catalog_blocks blocks) (catalog_nodes blocks)
+catalog_lies total blocks mdb extents runs e f h = record { within = h.within; numbers = h.numbers ∙ catalog_blocks-is blocks mdb extents e f; same = h.same ∙ catalog_nodes-is blocks mdb extents e f }
 
 module _ (blocks : Blocks) (mdb : Mdb) (is : mdb ≡ mdb_in blocks) where
   abbrev extents_place : Mdb → Option MountFault

@@ -6,7 +6,7 @@ use Rattle.hfs_fields.specs.declared.extent.Extent.{Extent}
 use Rattle.hfs_fields.specs.Mdb.{mdb_of}
 use Rattle.hfs_btree.specs.Tree.{Store}
 use Rattle.hfs_space.specs.Extents.{Overflow}
-use Rattle.hfs_space.specs.TreeFiles.{tree_nodes}
+use Rattle.hfs_space.specs.TreeFiles.{tree_nodes, tree_blocks}
 use Rattle.hfs_space.specs.TreeKeys.{overflow_of}
 use Rattle.hfs_space.specs.Owners.{catalog_fork, extents_in, owned_blocks}
 use Rattle.hfs_space.specs.Bitmap.{is_used}
@@ -25,6 +25,10 @@ mdb_in blocks = mdb_of (take 162 (blocks 2))
 unfoldable pub extents_nodes : Blocks → Store
 extents_nodes blocks = tree_nodes blocks (mdb_in blocks) (mdb_in blocks).extents_file (mdb_in blocks).extents_file_size
 
+-- the logical blocks in which they lie, by their numbers
+unfoldable pub extents_blocks : Blocks → List ℕ
+extents_blocks blocks = tree_blocks (mdb_in blocks) (mdb_in blocks).extents_file (mdb_in blocks).extents_file_size
+
 -- the records of the extents tree
 unfoldable pub overflow_in : Blocks → Overflow
 overflow_in blocks = overflow_of (extents_nodes blocks)
@@ -36,6 +40,10 @@ catalog_extents blocks = extents_in (overflow_in blocks) (catalog_fork (mdb_in b
 -- the nodes of the catalog file, as many as its size has
 unfoldable pub catalog_nodes : Blocks → Store
 catalog_nodes blocks = tree_nodes blocks (mdb_in blocks) (catalog_extents blocks) (mdb_in blocks).catalog_file_size
+
+-- the logical blocks in which they lie, by their numbers
+unfoldable pub catalog_blocks : Blocks → List ℕ
+catalog_blocks blocks = tree_blocks (mdb_in blocks) (catalog_extents blocks) (mdb_in blocks).catalog_file_size
 
 -- the records of the catalog
 unfoldable pub catalog_in : Blocks → Catalog

@@ -1,22 +1,24 @@
 -- Where the two trees of a volume lie.
 use Rattle.std.specs.Prelude.{◌≡◌, ℕ, List}
+use Rattle.std.specs.List.{flat_map}
 use Rattle.hfs_fields.specs.declared.extent.Extent.{Extent}
 use Rattle.hfs_blocks.specs.declared.run.Run.{Run}
-use Rattle.hfs_blocks.specs.Blocks.{nodes_in, AreRunsWithin}
+use Rattle.hfs_blocks.specs.Blocks.{run_of, nodes_in, AreRunsWithin}
 use Rattle.hfs_btree.specs.Tree.{Store}
 use Rattle.hfs_check.specs.declared.trees.VolumeTrees.{VolumeTrees}
-use Rattle.hfs_check.specs.Parts.{Blocks, extents_nodes, catalog_extents, catalog_nodes}
+use Rattle.hfs_check.specs.Parts.{Blocks, extents_blocks, extents_nodes, catalog_extents, catalog_blocks, catalog_nodes}
 
--- the nodes lie in these runs of a volume of so many blocks
-pub record LieIn (total : ℕ) (blocks : Blocks) (runs : List Run) (nodes : Store) : Type 0 where
+-- the nodes lie in these runs of a volume of so many blocks, one in each of the blocks with these numbers
+pub record LieIn (total : ℕ) (blocks : Blocks) (runs : List Run) (places : List ℕ) (nodes : Store) : Type 0 where
   pub within : AreRunsWithin runs total
+  pub numbers : flat_map run_of runs ≡ places
   pub same : nodes_in blocks runs ≡ nodes
 
 -- the runs are those of the extents tree, the extents those of the catalog file, and the runs those of the catalog tree
 pub record AreTreesIn (total : ℕ) (blocks : Blocks) (extents_runs : List Run) (file : List Extent) (catalog_runs : List Run) : Type 0 where
-  pub extents : LieIn total blocks extents_runs (extents_nodes blocks)
+  pub extents : LieIn total blocks extents_runs (extents_blocks blocks) (extents_nodes blocks)
   pub catalog_file : file ≡ catalog_extents blocks
-  pub catalog : LieIn total blocks catalog_runs (catalog_nodes blocks)
+  pub catalog : LieIn total blocks catalog_runs (catalog_blocks blocks) (catalog_nodes blocks)
 
 -- these are the trees of a volume of so many blocks
 abbrev pub HasTrees : ℕ → Blocks → VolumeTrees → Type 0

@@ -2,10 +2,10 @@
 ghost use Rattle.std.specs.Prelude.{◌≡◌, true, false, None, MatchOption, IfOk, OnOk, IfErr};
 ghost use Rattle.hfs_btree.specs.Sound.{IsSound, HasStructure, HasCounts};
 ghost use Rattle.hfs_space.specs.Faults.{is_tree_file};
-ghost use Rattle.hfs_space.specs.TreeFiles.{tree_nodes};
+ghost use Rattle.hfs_space.specs.TreeFiles.{tree_nodes, tree_blocks};
 ghost use Rattle.hfs_space.specs.TreeKeys.{IsExtentsTree};
 ghost use Rattle.hfs_catalog.specs.Tree.{cat_keys};
-ghost use Rattle.hfs_check.specs.Parts.{mdb_in, extents_nodes, catalog_extents, catalog_nodes};
+ghost use Rattle.hfs_check.specs.Parts.{mdb_in, extents_blocks, extents_nodes, catalog_extents, catalog_blocks, catalog_nodes};
 ghost use Rattle.hfs_check.specs.Sound.{IsMdbSound, IsExtentsSound, IsCatalogFileSound};
 ghost use Rattle.hfs_check.specs.Faults.{check_fault};
 ghost use Rattle.hfs_check.specs.Answers.{Answers, IsFaultOf, extents_check_fault, catalog_check_fault, both_trees_fault};
@@ -30,7 +30,7 @@ fn file_runs<B: Blocks>(
 ) -> Result<Option<Vec<Run>>, AllocError>
     requires { IsMdbSound (B.total blocks.now) mdb.now }
     ensures { IfOk result (λ found. MatchOption found (is_tree_file mdb.now extents.now size ≡ false)
-        (λ runs. (is_tree_file mdb.now extents.now size ≡ true) × LieIn (B.total blocks.now) (B.blocks blocks.now) runs.items (tree_nodes (B.blocks blocks.now) mdb.now extents.now size))) }
+        (λ runs. (is_tree_file mdb.now extents.now size ≡ true) × LieIn (B.total blocks.now) (B.blocks blocks.now) runs.items (tree_blocks mdb.now extents.now size) (tree_nodes (B.blocks blocks.now) mdb.now extents.now size))) }
 {
     no_tree_file_fault();
     if is_tree_file(mdb, extents, size) {
@@ -50,7 +50,7 @@ fn check_extents<B: Blocks>(
 ) -> Result<(), MountFault>
     requires sound { IsMdbSound (B.total blocks.now) mdb.now }
     requires file { is_tree_file mdb.now mdb.now.extents_file mdb.now.extents_file_size ≡ true }
-    requires runs { LieIn (B.total blocks.now) (B.blocks blocks.now) runs.now (tree_nodes (B.blocks blocks.now) mdb.now mdb.now.extents_file mdb.now.extents_file_size) }
+    requires runs { LieIn (B.total blocks.now) (B.blocks blocks.now) runs.now (tree_blocks mdb.now mdb.now.extents_file mdb.now.extents_file_size) (tree_nodes (B.blocks blocks.now) mdb.now mdb.now.extents_file mdb.now.extents_file_size) }
     requires is { mdb.now ≡ mdb_in (B.blocks blocks.now) }
     ensures { Answers (extents_check_fault mdb.now (B.blocks blocks.now)) result }
 {
@@ -69,7 +69,7 @@ fn check_catalog<B: Blocks>(
 ) -> Result<(), MountFault>
     requires sound { IsMdbSound (B.total blocks.now) mdb.now }
     requires file { is_tree_file mdb.now extents.now mdb.now.catalog_file_size ≡ true }
-    requires runs { LieIn (B.total blocks.now) (B.blocks blocks.now) runs.now (tree_nodes (B.blocks blocks.now) mdb.now extents.now mdb.now.catalog_file_size) }
+    requires runs { LieIn (B.total blocks.now) (B.blocks blocks.now) runs.now (tree_blocks mdb.now extents.now mdb.now.catalog_file_size) (tree_nodes (B.blocks blocks.now) mdb.now extents.now mdb.now.catalog_file_size) }
     requires is { mdb.now ≡ mdb_in (B.blocks blocks.now) }
     requires extents { extents.now ≡ catalog_extents (B.blocks blocks.now) }
     ensures { Answers (catalog_check_fault mdb.now (B.blocks blocks.now)) result }
@@ -85,7 +85,7 @@ fn open_extents<B: Blocks>(alloc: Global, blocks: &B, mdb: &Mdb) -> Result<Vec<R
     requires sound { IsMdbSound (B.total blocks.now) mdb.now }
     requires is { mdb.now ≡ mdb_in (B.blocks blocks.now) }
     ensures right { OnOk result (extents_check_fault mdb.now (B.blocks blocks.now) ≡ None) }
-    ensures runs { IfOk result (λ runs. LieIn (B.total blocks.now) (B.blocks blocks.now) runs.items (extents_nodes (B.blocks blocks.now))) }
+    ensures runs { IfOk result (λ runs. LieIn (B.total blocks.now) (B.blocks blocks.now) runs.items (extents_blocks (B.blocks blocks.now)) (extents_nodes (B.blocks blocks.now))) }
     ensures wrong { IfErr result (IsFaultOf (extents_check_fault mdb.now (B.blocks blocks.now))) }
 {
     match file_runs(alloc, blocks, mdb, &mdb.extents_file, mdb.extents_file_size)? {
@@ -115,7 +115,7 @@ fn catalog_file_extents<B: Blocks>(
     extents_tree: &[Run],
 ) -> Result<Vec<Extent>, AllocError>
     requires is { mdb.now ≡ mdb_in (B.blocks blocks.now) }
-    requires runs { LieIn (B.total blocks.now) (B.blocks blocks.now) extents_tree.now (extents_nodes (B.blocks blocks.now)) }
+    requires runs { LieIn (B.total blocks.now) (B.blocks blocks.now) extents_tree.now (extents_blocks (B.blocks blocks.now)) (extents_nodes (B.blocks blocks.now)) }
     requires tree { IsExtentsTree (extents_nodes (B.blocks blocks.now)) }
     ensures { IfOk result (λ extents. extents.items ≡ catalog_extents (B.blocks blocks.now)) }
 {
@@ -136,11 +136,11 @@ fn open_catalog<B: Blocks>(
 ) -> Result<CatalogTree, MountFault>
     requires sound { IsMdbSound (B.total blocks.now) mdb.now }
     requires is { mdb.now ≡ mdb_in (B.blocks blocks.now) }
-    requires runs { LieIn (B.total blocks.now) (B.blocks blocks.now) extents_tree.now (extents_nodes (B.blocks blocks.now)) }
+    requires runs { LieIn (B.total blocks.now) (B.blocks blocks.now) extents_tree.now (extents_blocks (B.blocks blocks.now)) (extents_nodes (B.blocks blocks.now)) }
     requires tree { IsExtentsTree (extents_nodes (B.blocks blocks.now)) }
     ensures right { OnOk result (catalog_check_fault mdb.now (B.blocks blocks.now) ≡ None) }
     ensures extents { IfOk result (λ file. file.extents.items ≡ catalog_extents (B.blocks blocks.now)) }
-    ensures runs { IfOk result (λ file. LieIn (B.total blocks.now) (B.blocks blocks.now) file.runs.items (catalog_nodes (B.blocks blocks.now))) }
+    ensures runs { IfOk result (λ file. LieIn (B.total blocks.now) (B.blocks blocks.now) file.runs.items (catalog_blocks (B.blocks blocks.now)) (catalog_nodes (B.blocks blocks.now))) }
     ensures wrong { IfErr result (IsFaultOf (catalog_check_fault mdb.now (B.blocks blocks.now))) }
 {
     let extents = catalog_file_extents(alloc, blocks, mdb, extents_tree)?;

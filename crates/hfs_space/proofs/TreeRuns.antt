@@ -12,9 +12,9 @@ use Rattle.hfs_blocks.specs.declared.run.Run.{Run}
 use Rattle.std.specs.List.{All}
 use Rattle.std.proofs.lemmas.List.Elements.{All-append}
 use Rattle.std.proofs.lemmas.List.Sums.{sum_by-append, sum_by-cons}
-use Rattle.hfs_blocks.specs.Blocks.{run_of, nodes_in, total_of}
+use Rattle.hfs_blocks.specs.Blocks.{run_of, total_of}
+use Rattle.hfs_space.specs.ForkLaws.{block_numbers}
 use Rattle.hfs_space.specs.Forks.{blocks_each, run_in}
-use Rattle.hfs_space.specs.TreeFiles.{node_count, tree_nodes}
 use Rattle.hfs_space.proofs.Pieces.{take_past}
 
 map-id : (ns : List ℕ) → map (λ n. n) ns ≡ ns
@@ -31,20 +31,16 @@ take-range first n most =
     (λ more. take_all most (range_with_len first n) (omega (arith, length-range_with_len first n)) ∙ (let e : n ≡ min most n = omega arith in ap (range_with_len first) e))
     (cases_lt most n)
 
--- the blocks of extents, by their numbers
-abbrev pub numbers : Mdb → List Extent → List ℕ
-numbers mdb extents = flat_map run_of (map (run_in mdb) extents)
-
 module _ (mdb : Mdb) where
   -- the runs so far, and what is left to take of the extents that are left
   pub runs-more : (extents : List Extent) (i : ℕ) (e d : Extent) (rest : ℕ) (before : List ℕ) (run : Run)
       → i < length extents → e ≡ get_or extents i d → run_of run ≡ take rest (run_of (run_in mdb e)) → run.count ≡ min rest (e.count * blocks_each mdb)
-      → (before ++ run_of run) ++ take (rest - run.count) (numbers mdb (drop (i + 1) extents)) ≡ before ++ take rest (numbers mdb (drop i extents))
+      → (before ++ run_of run) ++ take (rest - run.count) (block_numbers mdb (drop (i + 1) extents)) ≡ before ++ take rest (block_numbers mdb (drop i extents))
   runs-more extents i e d rest before run lt is is_run is_count =
       let own = run_of (run_in mdb e) in
-      let behind = numbers mdb (drop (i + 1) extents) in
+      let behind = block_numbers mdb (drop (i + 1) extents) in
       let len : length own ≡ e.count * blocks_each mdb = length-range_with_len (run_in mdb e).first (run_in mdb e).count in
-      let here : numbers mdb (drop i extents) ≡ own ++ behind = ap (numbers mdb) (drop_more extents i d lt ∙ ap (λ x. x ∷ drop (i + 1) extents) (sym is)) in
+      let here : block_numbers mdb (drop i extents) ≡ own ++ behind = ap (block_numbers mdb) (drop_more extents i d lt ∙ ap (λ x. x ∷ drop (i + 1) extents) (sym is)) in
       let part = take_past rest run.count own behind (is_count ∙ ap (min rest) (sym len)) in
       let all : take run.count own ≡ take rest own = ap (λ k. take k own) is_count ∙ cut own (e.count * blocks_each mdb) len in
       append_assoc before (run_of run) (take (rest - run.count) behind)
@@ -56,9 +52,9 @@ module _ (mdb : Mdb) where
           (λ more. take_all (min rest n) xs (omega (arith, len)) ∙ sym (take_all rest xs (omega (arith, len))))
           (cases_lt rest n)
 
-  pub runs-end : (extents : List Extent) (i rest : ℕ) (before : List ℕ) → length extents ≤ i → before ++ take rest (numbers mdb (drop i extents)) ≡ before
+  pub runs-end : (extents : List Extent) (i rest : ℕ) (before : List ℕ) → length extents ≤ i → before ++ take rest (block_numbers mdb (drop i extents)) ≡ before
   runs-end extents i rest before past =
-      ap (λ l. before ++ take rest l) (ap (numbers mdb) (drop_all i extents past)) ∙ ap (λ l. before ++ l) (take_all rest [] (omega arith)) ∙ append-nil before
+      ap (λ l. before ++ take rest l) (ap (block_numbers mdb) (drop_all i extents past)) ∙ ap (λ l. before ++ l) (take_all rest [] (omega arith)) ∙ append-nil before
 
 -- a run more
 pub numbers-more : (runs : List Run) (run : Run) → flat_map run_of (runs ++ run ∷ []) ≡ flat_map run_of runs ++ run_of run
@@ -78,9 +74,3 @@ within-more total runs run all one = All-append (λ r. r.first + r.count ≤ tot
     only : All (λ r. r.first + r.count ≤ total) (run ∷ [])
     only zero d lt = one
     only (suc k) d lt = absurd (omega arith)
-
--- the nodes in these runs are those of the file
-pub runs-nodes : (blocks : ℕ → List ℕ) (mdb : Mdb) (extents : List Extent) (size : ℕ) (runs : List Run)
-    → flat_map run_of runs ≡ take (node_count size) (numbers mdb extents) → nodes_in blocks runs ≡ tree_nodes blocks mdb extents size
-unfolding nodes_in tree_nodes
-runs-nodes blocks mdb extents size runs e = ap (map blocks) e ∙ sym (take-map blocks (node_count size) (numbers mdb extents))

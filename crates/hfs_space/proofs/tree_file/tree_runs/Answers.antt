@@ -3,7 +3,9 @@ use Rattle.std.proofs.Common.{◌+◌, ◌-◌, ◌++◌, ◌≤◌, take, drop,
 use Rattle.std.specs.List.{All, flat_map}
 use Rattle.hfs_fields.specs.declared.extent.Extent.{Extent}
 use Rattle.hfs_blocks.specs.Blocks.{run_of, total_of}
-use Rattle.hfs_space.proofs.TreeRuns.{numbers, numbers-more, runs-more, runs-end, total-more, within-more, runs-nodes}
+use Rattle.hfs_space.specs.ForkLaws.{block_numbers}
+use Rattle.hfs_space.specs.TreeFiles.{tree_blocks, nodes_in-tree_blocks}
+use Rattle.hfs_space.proofs.TreeRuns.{numbers-more, runs-more, runs-end, total-more, within-more}
 use Rattle.hfs_space.proofs.tree_file.tree_runs.Goals as goal
 
 pub loop-extent-preserved : goal.loop-extent-preserved
@@ -12,7 +14,7 @@ loop-extent-preserved g c =
     let i = c.loop-extent.extent-index in
     let run = c.first_blocks-run.result in
     let runs = c.loop-extent.runs.items in
-    let rest = take (c.loop-extent.rest - run.count) (numbers c.args.mdb.now (drop (i + 1) c.args.extents.now)) in
+    let rest = take (c.loop-extent.rest - run.count) (block_numbers c.args.mdb.now (drop (i + 1) c.args.extents.now)) in
     let more = runs-more c.args.mdb.now c.args.extents.now i (get_or c.args.extents.now i none) none c.loop-extent.rest (flat_map run_of runs) run
     c.loop-extent-test.true refl c.first_blocks-run.ensures.run c.first_blocks-run.ensures.count in
     record {
@@ -23,7 +25,13 @@ loop-extent-preserved g c =
           ∙ ap (λ n. n + (c.loop-extent.rest - run.count)) (total-more runs run) ∙ omega (arith, c.loop-extent.invariant.few, c.first_blocks-run.ensures.count);
     }
 
+pub returns-clause-numbers : goal.returns-clause-numbers
+unfolding tree_blocks
+returns-clause-numbers g c =
+    sym (runs-end c.args.mdb.now c.args.extents.now c.loop-extent.extent-index c.loop-extent.rest (flat_map run_of c.loop-extent.runs.items) (omega (arith, c.loop-extent-test.false))) ∙ c.loop-extent.invariant.all
+
 pub returns-clause-nodes : goal.returns-clause-nodes
+unfolding tree_blocks
 returns-clause-nodes g c =
-    runs-nodes (g.B.Blocks.blocks c.args.blocks.now) c.args.mdb.now c.args.extents.now c.args.size c.loop-extent.runs.items
+    nodes_in-tree_blocks (g.B.Blocks.blocks c.args.blocks.now) c.args.mdb.now c.args.extents.now c.args.size c.loop-extent.runs.items
     (sym (runs-end c.args.mdb.now c.args.extents.now c.loop-extent.extent-index c.loop-extent.rest (flat_map run_of c.loop-extent.runs.items) (omega (arith, c.loop-extent-test.false))) ∙ c.loop-extent.invariant.all)
