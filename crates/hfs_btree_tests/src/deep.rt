@@ -56,7 +56,7 @@ fn index_node(height: u8, left: u8, right: u8, first: Entry, second: Entry) -> [
 }
 
 /// The tree of these nodes: the leaves' files are 10 and 20, 40 and 50, and the root's second key is 30.
-fn deep_tree() -> [[u8; 512]; 8]
+pub fn deep_tree() -> [[u8; 512]; 8]
     ensures { IsSound ⟦<ExtKey as Key>⟧ result }
 {
     [

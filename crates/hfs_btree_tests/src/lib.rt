@@ -1,10 +1,13 @@
-//! Tests of trees against bytes by hand: records and look-ups, and the checks of shape and order and the passes over keys.
+//! Tests of trees against bytes by hand: records and look-ups, the checks of shape and order and the passes over keys, and
+//! edits.
 #![tactic(auto)]
 
 #[cfg(test)]
 mod counts;
 #[cfg(test)]
 mod deep;
+#[cfg(test)]
+mod edits;
 #[cfg(test)]
 mod key_records;
 #[cfg(test)]
@@ -13,6 +16,8 @@ mod keys;
 mod laid;
 #[cfg(test)]
 mod order;
+#[cfg(test)]
+mod removal;
 #[cfg(test)]
 mod runs;
 #[cfg(test)]

@@ -48,10 +48,47 @@ fn index_node(left: u8, right: u8, height: u8, files: [u8; 2], children: [u8; 2]
     bytes
 }
 
-/// The leaf 5 of the tree below, with two records.
-fn first_leaf() -> [u8; 512] {
+/// An index node of this height without neighbours, with one child and the file of its key.
+fn narrow_node(height: u8, file: u8, child: u8) -> [u8; 512] {
     let mut bytes = [0; 512];
-    bytes[3] = 6;
+    bytes[8..12].copy_from_slice(&[0, height, 0, 1]);
+    bytes[14..26].copy_from_slice(&[7, 0, 0, 0, 0, file, 0, 3, 0, 0, 0, child]);
+    bytes[508..512].copy_from_slice(&[0, 26, 0, 14]);
+    bytes
+}
+
+/// A tree of depth 4 with one record in each node: 1 the root, 2 and 3 index nodes, 4 the leaf, 5 free.
+pub fn chain_tree() -> [[u8; 512]; 6] {
+    let record = [
+        0, 4, 0, 0, 0, 1, 0, 0, 0, 1, 0, 0, 0, 4, 0, 0, 0, 4, 2, 0, 0, 7, 0, 0, 0, 6, 0, 0, 0, 1,
+    ];
+    [
+        header_node(0, &record, 248),
+        narrow_node(4, 16, 2),
+        narrow_node(3, 16, 3),
+        narrow_node(2, 16, 4),
+        leaf_node(0, 0, 16),
+        [0; 512],
+    ]
+}
+
+/// A tree of depth 2 whose root has one child, a leaf with two records.
+pub fn narrow_tree() -> [[u8; 512]; 4] {
+    let record = [
+        0, 2, 0, 0, 0, 1, 0, 0, 0, 2, 0, 0, 0, 2, 0, 0, 0, 2, 2, 0, 0, 7, 0, 0, 0, 4, 0, 0, 0, 1,
+    ];
+    [
+        header_node(0, &record, 224),
+        narrow_node(2, 16, 2),
+        wide_leaf(0),
+        [0; 512],
+    ]
+}
+
+/// A leaf with two records, before this neighbour.
+fn wide_leaf(right: u8) -> [u8; 512] {
+    let mut bytes = [0; 512];
+    bytes[3] = right;
     bytes[8..12].copy_from_slice(&[255, 1, 0, 2]);
     bytes[14..26].copy_from_slice(&[7, 0, 0, 0, 0, 16, 0, 3, 0, 16, 0, 1]);
     bytes[34..46].copy_from_slice(&[7, 0, 0, 0, 0, 17, 0, 3, 0, 17, 0, 1]);
@@ -71,7 +108,7 @@ pub fn deep_tree() -> [[u8; 512]; 11] {
         index_node(0, 0, 3, [16, 19], [3, 4]),
         index_node(0, 4, 2, [16, 18], [5, 6]),
         index_node(3, 0, 2, [19, 20], [7, 8]),
-        first_leaf(),
+        wide_leaf(6),
         leaf_node(5, 7, 18),
         leaf_node(6, 8, 19),
         leaf_node(7, 0, 20),

@@ -30,6 +30,16 @@ impl NodeTable {
         }
     }
 
+    /// A copy of these nodes; none where they are too many.
+    pub fn of_nodes(alloc: Global, nodes: &[[u8; 512]]) -> Result<Option<NodeTable>, AllocError> {
+        let nodes = Vec::from_slice(alloc, nodes)?;
+        if nodes.len() < 8_388_608 {
+            Ok(Some(NodeTable { nodes }))
+        } else {
+            Ok(None)
+        }
+    }
+
     /// How many bytes the nodes have.
     pub fn size(&self) -> u32
         ensures { result ≡ 512 * vec_len self.now.nodes }

@@ -1,11 +1,11 @@
 //! The keys of a catalog tree, one after the other, and a pair that is taken out. Each step checks the tree first.
 
-use crate::node_table::NodeTable;
 use anyhow::{Result, bail, ensure};
 use hfs_btree::{find, free_nodes, next_after};
 use hfs_btree_checks::check_tree;
 use hfs_btree_removal::remove;
 use hfs_fields::{CatKey, Name};
+use hfs_node_tables::NodeTable;
 use std::alloc::Global;
 
 /// The first key above this one.

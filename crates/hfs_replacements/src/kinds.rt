@@ -1,9 +1,9 @@
 //! The ways in which each record of a tree is replaced. Each answers how many records were.
 
-use crate::node_table::NodeTable;
 use crate::records::{Record, body_under, put};
 use anyhow::{Result, bail, ensure};
 use hfs_fields::{CatKey, Name};
+use hfs_node_tables::NodeTable;
 use std::alloc::Global;
 
 /// Each byte of these turned over.

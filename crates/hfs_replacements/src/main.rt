@@ -3,13 +3,12 @@
 #![tactic(auto)]
 
 mod kinds;
-mod node_table;
 mod records;
 
 use crate::kinds::{are_respelled, other_case, rewrite, same_length, shorter};
-use crate::node_table::NodeTable;
 use crate::records::records;
 use anyhow::{Result, bail, ensure};
+use hfs_node_tables::NodeTable;
 use std::fs;
 
 /// The files of catalog trees.

@@ -1,11 +1,11 @@
 //! The records of a catalog tree, one after the other, and one that is replaced. Each step checks the tree first.
 
-use crate::node_table::NodeTable;
 use anyhow::{Result, bail, ensure};
 use hfs_btree::{Key, find, next_after};
 use hfs_btree_checks::check_tree;
 use hfs_btree_edits::replace;
 use hfs_fields::{CatKey, Name};
+use hfs_node_tables::NodeTable;
 use std::alloc::Global;
 
 /// A record: its key and its body.
