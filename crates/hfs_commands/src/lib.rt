@@ -21,5 +21,6 @@ pub use forks::write_fork;
 pub use info::{InfoFault, run_info};
 pub use input::{IMAGE_LIMIT, LoadFault, load};
 pub use listing::{children_text, code_text, list_text};
+pub use output::put;
 pub use refusal::Refusal;
 pub use reply::reply_text;

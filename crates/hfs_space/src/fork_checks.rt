@@ -17,46 +17,47 @@ use crate::fork_kind::ForkKind;
 use crate::overflow::{BAD_BLOCKS, CATALOG_FILE, OverflowRecord, blocks_in, overflow_records};
 use crate::runs::{mark_run, push_fork};
 use hfs_btree::Nodes;
-use hfs_fields::{FileRecord, ForkRecord, Mdb};
+use hfs_fields::{Extent, FileRecord, ForkRecord, Mdb};
 use std::alloc::{AllocError, Global};
 
-/// Whether a fork's extents, those of its overflow records among them, lie in the volume and have room for its bytes.
+/// Whether a fork's extents, those of its overflow records among them, lie in the volume and have room for its bytes. They are
+/// laid into `extents`, in place of what it has.
 #[tactic(auto, unfolding(crate::specs::Faults::is_fork_right))]
 fn is_fork_right(
-    alloc: Global,
     mdb: &Mdb,
     overflow: &[OverflowRecord],
     file: u32,
     kind: ForkKind,
     fork: &ForkRecord,
+    extents: &mut Vec<Extent>,
 ) -> Result<bool, AllocError>
     requires { Rises ext_cmp overflow.now }
     ensures { IfOk result (λ right. right ≡ spec.is_fork_right mdb.now overflow.now (runs.fork_in file kind fork.now)) }
 {
-    let mut extents = Vec::new(alloc);
-    push_fork(overflow, file, kind, &fork.extents, &mut extents)?;
-    Ok(can_hold(mdb, &extents, fork.length))
+    extents.clear();
+    push_fork(overflow, file, kind, &fork.extents, extents)?;
+    Ok(can_hold(mdb, extents, fork.length))
 }
 
-/// Whether both forks of a file are right.
+/// Whether both forks of a file are right. Their extents are laid into `extents`, in place of what it has.
 #[tactic(auto, unfolding(crate::specs::Owners::forks_of_file))]
 fn are_forks_right(
-    alloc: Global,
     mdb: &Mdb,
     overflow: &[OverflowRecord],
     file: &FileRecord,
+    extents: &mut Vec<Extent>,
 ) -> Result<bool, AllocError>
     requires { Rises ext_cmp overflow.now }
     ensures { IfOk result (λ right. right ≡ list_all (spec.is_fork_right mdb.now overflow.now) (forks_of_file file.now)) }
 {
-    let data = is_fork_right(alloc, mdb, overflow, file.id, ForkKind::Data, &file.data)?;
+    let data = is_fork_right(mdb, overflow, file.id, ForkKind::Data, &file.data, extents)?;
     let resource = is_fork_right(
-        alloc,
         mdb,
         overflow,
         file.id,
         ForkKind::Resource,
         &file.resource,
+        extents,
     )?;
     Ok(data && resource)
 }
@@ -71,8 +72,9 @@ fn first_wrong_file(
     requires { Rises ext_cmp overflow.now }
     ensures { IfOk result (λ fault. fault ≡ runs.first_wrong_file mdb.now overflow.now files.now) }
 {
+    let mut extents = Vec::new(alloc);
     for file in files {
-        let right = are_forks_right(alloc, mdb, overflow, &file.file)?;
+        let right = are_forks_right(mdb, overflow, &file.file, &mut extents)?;
         if !right {
             return Ok(Some(file.number));
         }

@@ -2,8 +2,8 @@
 
 use crate::words::{ForkWords, NewVolume, Words};
 use hfs_commands::{
-    Fault, Status, check_text, code_text, list_text, load_file, refused_text, run_info, write_file,
-    write_fork,
+    Fault, Status, check_text, code_text, list_text, load_file, put, refused_text, run_info,
+    write_file, write_fork,
 };
 use hfs_format::{FormatPlan, format};
 use hfs_volume::{Volume, mount};
@@ -42,9 +42,9 @@ fn print_info<'a, R: Read>(
     }
 }
 
-/// Prints lines.
+/// Prints lines, by as few calls as the output takes.
 fn print_lines(rt: &HostRuntime, lines: &str) -> Result<(), Fault<'static>> {
-    match print!(rt; "{lines}") {
+    match put(&mut rt.stdout(), lines.as_bytes()) {
         Ok(()) => Ok(()),
         Err(_) => Err(Fault::OutputFailed),
     }
