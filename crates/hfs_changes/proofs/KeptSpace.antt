@@ -1,6 +1,7 @@
 -- The extents and the space of a volume where an item was added, or its record was changed.
 use Rattle.std.proofs.Common.{◌≡◌, ℕ, zero, suc, get_or, ◌+◌, ◌<◌, ◌≤◌, Bool, true, false, cond, ◌||◌, List, [], ◌∷◌, ◌++◌, count_by, refl, sym, ◌∙◌, ap, subst, arith, Option, Some, None}
 use Rattle.std.specs.List.{flat_map, list_any, All}
+use Rattle.std.proofs.lemmas.Bool.{true≢false}
 use Rattle.hfs_fields.specs.declared.mdb.Mdb.{Mdb}
 use Rattle.hfs_fields.specs.declared.extent.Extent.{Extent}
 use Rattle.hfs_fields.specs.Counts.{with_counts}
@@ -25,18 +26,27 @@ use Rattle.hfs_changes.proofs.Made.{dir-not_file}
 use Rattle.hfs_changes.proofs.Added.{one_more_count, added_sum}
 
 -- only a file has forks
-no_file_forks : (r : Record) → is_file r.1 ≡ false → forks_of r ≡ []
+pub no_file_forks : (r : Record) → is_file r.1 ≡ false → forks_of r ≡ []
 no_file_forks r e = ap (λ (b : Bool). cond b (forks_of_file (file_record_of r.1)) []) e
 
-thread_no_file : (r : Record) → is_thread r.1 ≡ true → is_file r.1 ≡ false
-thread_no_file r thread = elim (is_file r.1) as (λ (b : Bool). is_file r.1 ≡ b → b ≡ false) [
-  | true ↦ λ file. absurd (item_or_thread r.1 (item (is_dir r.1) (is_file r.1) file) thread)
-  | false ↦ λ file. refl
-] refl
-  where
-    item : (a b : Bool) → b ≡ true → (a || b) ≡ true
-    item true b e = refl
-    item false b e = e
+-- a thread's record is no item's
+no_item : (r : Record) → is_thread r.1 ≡ true → (b : Bool) → (b ≡ true → (is_dir r.1 || is_file r.1) ≡ true) → b ≡ false
+no_item r thread true i = absurd (item_or_thread r.1 (i refl) thread)
+no_item r thread false i = refl
+
+or_left : (a b : Bool) → a ≡ true → (a || b) ≡ true
+or_left true b e = refl
+or_left false b e = absurd (true≢false (sym e))
+
+or_right : (a b : Bool) → b ≡ true → (a || b) ≡ true
+or_right true b e = refl
+or_right false b e = e
+
+pub thread_no_dir : (r : Record) → is_thread r.1 ≡ true → is_dir r.1 ≡ false
+thread_no_dir r thread = no_item r thread (is_dir r.1) (or_left (is_dir r.1) (is_file r.1))
+
+pub thread_no_file : (r : Record) → is_thread r.1 ≡ true → is_file r.1 ≡ false
+thread_no_file r thread = no_item r thread (is_file r.1) (or_right (is_dir r.1) (is_file r.1))
 
 -- ---- a record in place of one with the same forks
 

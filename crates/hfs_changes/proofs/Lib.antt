@@ -21,3 +21,5 @@ pub mod CreateMakes
 pub mod MovedItem
 pub mod MadeThreads
 pub mod SettingSteps
+pub mod DirCreateMakes
+pub mod RenameMakes

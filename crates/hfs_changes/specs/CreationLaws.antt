@@ -1,7 +1,7 @@
--- What holds of Create. The statement is what a function of src/creation.rt ensures.
-use Rattle.std.specs.Prelude.{◌≡◌, ℕ, ◌+◌, ◌==◌, true, List, None, Ok}
+-- What holds of Create and DirCreate. Each statement is what a function of src/creation.rt ensures.
+use Rattle.std.specs.Prelude.{◌≡◌, ℕ, ◌+◌, ◌==◌, true, List, None, Some, Ok}
 use Rattle.hfs_fields.specs.declared.mdb.Mdb.{Mdb}
-use Rattle.hfs_fields.specs.Records.{is_dir, dir_record_of, new_file}
+use Rattle.hfs_fields.specs.Records.{is_dir, dir_record_of, new_dir, new_file}
 use Rattle.hfs_fields.specs.RecordForms.{IsDirRecordValue, dir_record_bytes, IsFileRecordValue, file_record_bytes}
 use Rattle.hfs_catalog.specs.Records.{Record}
 use Rattle.hfs_model.specs.declared.call.Call.TheVariants as call
@@ -18,6 +18,10 @@ use Rattle.hfs_changes.specs.Laws.{MakesStep}
 abbrev pub with_file : ℕ → ℕ → Mdb → Mdb
 with_file dir now mdb = record mdb { modified = now; next_id = mdb.next_id + 1; root_files = mdb.root_files + one_if (dir == 2); files = mdb.files + 1 }
 
+-- with one more folder in it
+abbrev pub with_folder : ℕ → ℕ → Mdb → Mdb
+with_folder dir now mdb = record mdb { modified = now; next_id = mdb.next_id + 1; root_folders = mdb.root_folders + one_if (dir == 2); folders = mdb.folders + 1 }
+
 -- a new file's record came under the next ID, and the folder's record with one more child and this moment
 pub record HasAddedFile (next dir : ℕ) (name : List ℕ) (r : Record) (now : ℕ) (old new : Blocks) : Type 0 where
   pub folder : is_dir r.1 ≡ true
@@ -31,3 +35,17 @@ abbrev pub CreateMakes : Type 0
 CreateMakes =
     (total now dir : ℕ) (name : List ℕ) (r : Record) (old new : Blocks) → AreBlocksSound total old → to_create (volume_in old) dir name ≡ Ok (mdb_in old).next_id
     → HasAddedFile (mdb_in old).next_id dir name r now old new → MakesStep (call.Create dir name now) (with_file dir now (mdb_in old)) old new
+
+-- a new folder's record came under the next ID, then its thread's, and the folder's record with one more child and this moment
+pub record HasAddedFolder (next dir : ℕ) (name : List ℕ) (thread r : Record) (now : ℕ) (old new : Blocks) : Type 0 where
+  pub folder : is_dir r.1 ≡ true
+  pub new_value : IsDirRecordValue (new_dir next now)
+  pub folder_value : IsDirRecordValue (with_children ((dir_record_of r.1).valence + 1) now (dir_record_of r.1))
+  pub added : HasAdded next dir (record { parent = dir; name = name }, dir_record_bytes (new_dir next now)) (Some thread) r
+      (r.0, dir_record_bytes (with_children ((dir_record_of r.1).valence + 1) now (dir_record_of r.1))) (catalog_in old) (catalog_in new)
+  pub tree : HasTree (with_folder dir now (mdb_in old)) old new
+
+abbrev pub DirCreateMakes : Type 0
+DirCreateMakes =
+    (total now dir : ℕ) (name : List ℕ) (thread r : Record) (old new : Blocks) → AreBlocksSound total old → to_create (volume_in old) dir name ≡ Ok (mdb_in old).next_id
+    → HasAddedFolder (mdb_in old).next_id dir name thread r now old new → MakesStep (call.DirCreate dir name now) (with_folder dir now (mdb_in old)) old new

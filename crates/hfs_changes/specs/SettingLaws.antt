@@ -1,5 +1,5 @@
--- What holds of the four calls that set what is told of an item. Each statement is what a function of src/settings.rt ensures.
-use Rattle.std.specs.Prelude.{◌≡◌, ℕ, ℤ, Bool, true, false, List, take, drop, Some, Result, Ok}
+-- What holds of the calls that set what is told of an item, and its name. Each statement is what a function of src/settings.rt ensures.
+use Rattle.std.specs.Prelude.{◌≡◌, ℕ, ℤ, Bool, true, false, List, take, drop, Option, Some, Result, Ok}
 use Rattle.hfs_fields.specs.declared.dir_record.DirRecord.{DirRecord}
 use Rattle.hfs_fields.specs.declared.file_record.FileRecord.{FileRecord}
 use Rattle.hfs_fields.specs.Keys.{cat_cmp}
@@ -12,10 +12,11 @@ use Rattle.hfs_catalog.specs.Records.{Record, item_with}
 use Rattle.hfs_model.specs.declared.call.Call.{Call}
 use Rattle.hfs_model.specs.declared.call.Call.TheVariants as call
 use Rattle.hfs_model.specs.Volume.{Entry}
-use Rattle.hfs_model.specs.Choices.{file_to_change, to_set_f_info, to_set_cat_info}
+use Rattle.hfs_model.specs.Choices.{file_to_change, to_rename, to_set_f_info, to_set_cat_info}
 use Rattle.hfs_check.specs.Parts.{Blocks, mdb_in, catalog_in}
 use Rattle.hfs_check.specs.Sound.{AreBlocksSound}
 use Rattle.hfs_check.specs.VolumeOf.{contents_in, volume_in}
+use Rattle.hfs_changes.specs.Changes.{HasRekeyed}
 use Rattle.hfs_changes.specs.OnBlocks.{at_time, HasTree}
 use Rattle.hfs_changes.specs.Laws.{MakesStep}
 
@@ -96,3 +97,13 @@ abbrev pub SetLockMakes : Type 0
 SetLockMakes =
     (locked : Bool) (total now dir : ℕ) (name : List ℕ) (r : Record) (old new : Blocks) → AreBlocksSound total old → IsChoice old (file_to_change (volume_in old) dir name) r
     → HasSetFile r (with_lock_bit locked (file_record_of r.1)) now old new → MakesAt (lock_call locked dir name now) now old new
+
+-- the item's record stands under its key with the new name, with the body that it had, and its thread's leads to it
+pub record HasRenamed (id : ℕ) (r : Record) (new_name : List ℕ) (thread turned : Option Record) (now : ℕ) (old new : Blocks) : Type 0 where
+  pub rekeyed : HasRekeyed id r (record r.0 { name = new_name }, r.1) thread turned (catalog_in old) (catalog_in new)
+  pub tree : HasTree (at_time now (mdb_in old)) old new
+
+abbrev pub RenameMakes : Type 0
+RenameMakes =
+    (total now dir : ℕ) (name new_name : List ℕ) (r : Record) (thread turned : Option Record) (old new : Blocks) → AreBlocksSound total old
+    → (c : IsChoice old (to_rename (volume_in old) dir name new_name) r) → HasRenamed c.id r new_name thread turned now old new → MakesAt (call.Rename dir name new_name now) now old new
