@@ -1,0 +1,7 @@
+use Rattle.hfs_btree.specs.Sound.{IsSound}
+use Rattle.hfs_insertions.proofs.runs.shrink.Given as goal
+
+abbrev pub invariant-loop : goal.invariant-loop
+invariant-loop g l = record {
+  sound : IsSound g.K.Key l.nodes.nodes.items;
+}

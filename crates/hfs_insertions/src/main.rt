@@ -1,0 +1,117 @@
+//! Puts 5,000 pairs into small trees, in rising, falling and mixed order, and takes them out again: with a node map in the
+//! header node, with one that goes on, and where only nodes of its last part are free. The tree and its pairs are checked
+//! after each of the first 500, and then after every hundredth.
+#![tactic(auto)]
+
+mod growth;
+mod node_table;
+mod runs;
+mod sample;
+
+use crate::growth::Order;
+use crate::node_table::NodeTable;
+use crate::runs::{grow, put_all, shrink};
+use crate::sample::Sample;
+use anyhow::{Result, bail, ensure};
+use hfs_btree::{Header, read_header};
+use hfs_btree_checks::check_tree;
+use hfs_fields::{CatKey, ExtKey};
+use std::fs;
+
+fn main(rt: HostRuntime) -> Result<()> {
+    let extents = fs::read(&rt, "extents.bin")?;
+    print_grown::<ExtKey>(&rt, "extents.bin", &extents, 2000)?;
+    let catalog = fs::read(&rt, "catalog.bin")?;
+    print_grown::<CatKey>(&rt, "catalog.bin", &catalog, 6000)?;
+    let third = fs::read(&rt, "third-map-node.bin")?;
+    print_grown::<CatKey>(&rt, "third-map-node.bin", &third, 13904)?;
+    let last = fs::read(&rt, "last-free-nodes.bin")?;
+    print_last(&rt, &last)?;
+    let inexact = fs::read(&rt, "inexact.bin")?;
+    print_inexact(&rt, &inexact)
+}
+
+/// The nodes of a file, and behind them blank ones.
+fn table(rt: &impl AllocGlobal, file: &[u8], count: usize) -> Result<NodeTable> {
+    let Some(nodes) = NodeTable::of(rt.alloc(), file, count)? else {
+        bail!("the file is too long");
+    };
+    Ok(nodes)
+}
+
+/// The header record of a tree that is checked first.
+fn header_of<K: Sample>(rt: &impl AllocGlobal, nodes: &NodeTable) -> Result<Header> {
+    check_tree::<K, NodeTable>(rt.alloc(), nodes, nodes.size())?;
+    Ok(read_header(nodes))
+}
+
+/// Lets a tree grow and shrink in each order, and prints that it did.
+fn print_grown<K: Sample>(
+    rt: &(impl Print + AllocGlobal),
+    name: &str,
+    file: &[u8],
+    count: usize,
+) -> Result<()> {
+    run::<K>(rt, file, count, Order::Rising)?;
+    run::<K>(rt, file, count, Order::Falling)?;
+    run::<K>(rt, file, count, Order::Mixed)?;
+    println!(rt; "{name} 5000 pairs put and taken in three orders")?;
+    Ok(())
+}
+
+/// Puts 5,000 pairs into a tree with one leaf in this order, and takes them out again in the mixed one. At least four
+/// levels are there between, and afterwards as many levels and free nodes as before.
+fn run<K: Sample>(rt: &impl AllocGlobal, file: &[u8], count: usize, order: Order) -> Result<()> {
+    let mut nodes = table(rt, file, count)?;
+    let mut there = vec![in rt.alloc(); false; 5000]?;
+    let before = header_of::<K>(rt, &nodes)?;
+    grow::<K>(rt.alloc(), &mut nodes, &mut there, order)?;
+    let full = header_of::<K>(rt, &nodes)?;
+    ensure!(full.depth >= 3, "too few levels");
+    ensure!(full.records == 5001, "another count of pairs");
+    shrink::<K>(rt.alloc(), &mut nodes, &mut there, Order::Mixed)?;
+    let after = header_of::<K>(rt, &nodes)?;
+    ensure!(after.depth == before.depth, "another depth");
+    ensure!(
+        after.free_nodes == before.free_nodes,
+        "another count of free nodes"
+    );
+    Ok(())
+}
+
+/// A full leaf is cut, and the last two free nodes are taken.
+fn print_last(rt: &(impl Print + AllocGlobal), file: &[u8]) -> Result<()> {
+    let mut nodes = table(rt, file, 4)?;
+    let mut there = vec![in rt.alloc(); false; 64]?;
+    for i in 0..there.len() {
+        there[i] = i % 2 == 0 && i <= 40;
+    }
+    put_all::<ExtKey>(rt.alloc(), &mut nodes, &mut there, &[1])?;
+    let header = header_of::<ExtKey>(rt, &nodes)?;
+    println!(rt;
+        "last-free-nodes.bin {} levels, {} free nodes",
+        header.depth, header.free_nodes
+    )?;
+    Ok(())
+}
+
+/// Keys are put between those of index nodes and those above them.
+fn print_inexact(rt: &(impl Print + AllocGlobal), file: &[u8]) -> Result<()> {
+    let mut nodes = table(rt, file, 32)?;
+    let mut there = vec![in rt.alloc(); false; 200]?;
+    for i in 0..there.len() {
+        there[i] = i == 190;
+    }
+    put_all::<ExtKey>(
+        rt.alloc(),
+        &mut nodes,
+        &mut there,
+        &[175, 145, 115, 101, 189, 100, 160, 130, 99],
+    )?;
+    let header = header_of::<ExtKey>(rt, &nodes)?;
+    println!(rt;
+        "inexact.bin {} levels, {} pairs",
+        header.depth, header.records
+    )?;
+    Ok(())
+}

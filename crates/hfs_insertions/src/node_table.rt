@@ -1,0 +1,65 @@
+//! Nodes in memory that can be written.
+
+ghost use Rattle.std.specs.Prelude.{◌≡◌, ◌*◌, ◌<◌, ◌^◌};
+ghost use Rattle.std.specs.Vec.{vec_len};
+
+use hfs_btree::Nodes;
+use hfs_btree_edits::NodesMut;
+use std::alloc::{AllocError, Global};
+
+/// Nodes that stand in memory one after the other.
+#[derive(Drop)]
+pub struct NodeTable {
+    pub nodes: Vec<[u8; 512]>,
+    ghost few: { vec_len nodes < 2 ^ 23 },
+}
+
+impl NodeTable {
+    /// The whole nodes of a file, and behind them blank ones up to `count`; none where there are too many.
+    pub fn of(alloc: Global, file: &[u8], count: usize) -> Result<Option<NodeTable>, AllocError> {
+        let mut nodes = Vec::new(alloc);
+        for chunk in file.chunks_exact(512) {
+            let mut node = [0; 512];
+            node.copy_from_slice(chunk);
+            nodes.push(node)?;
+        }
+        for _ in nodes.len()..count {
+            nodes.push([0; 512])?;
+        }
+        if nodes.len() < 8_388_608 {
+            Ok(Some(NodeTable { nodes }))
+        } else {
+            Ok(None)
+        }
+    }
+
+    /// How many bytes the nodes have.
+    pub fn size(&self) -> u32
+        ensures { result ≡ 512 * vec_len self.now.nodes }
+    {
+        self.nodes.len() as u32 * 512
+    }
+}
+
+impl Nodes for NodeTable {
+    ghost nodes = { λ s. s.nodes.items };
+
+    fn count(&self) -> u32 {
+        self.nodes.len() as u32
+    }
+
+    fn read(&self, n: u32, into: &mut [u8; 512]) {
+        *into = self.nodes[n as usize];
+    }
+}
+
+impl NodesMut for NodeTable {
+    ghost Kept = { Unit {0} };
+
+    ghost kept = { λ s. tt };
+
+    fn write(&mut self, n: u32, from: &[u8; 512]) -> Result<(), AllocError> {
+        self.nodes[n as usize] = *from;
+        Ok(())
+    }
+}
