@@ -13,14 +13,14 @@ loop-header-init g c = record {
 
 pub read-requires : goal.read-requires
 read-requires g c =
-    lower-within g.K.Key (g.S.Nodes.nodes c.args.nodes.now) (g.S.Nodes.nodes c.loop-header.nodes) c.loop-header.invariant.lowered c.loop-header.header c.loop-header.invariant.header c.loop-header-test.true
+    lower-within g.K.Key (g.S.Nodes.nodes c.args.nodes.now) (g.S.Nodes.nodes c.loop-header.nodes) c.loop-header.invariant.lowered c.loop-header.header c.loop-header.invariant.header (let deep = c.loop-header-test.true in omega arith)
 
 pub returns-then-count_in-ne1-clause-lowered : goal.returns-then-count_in-ne1-clause-lowered
 returns-then-count_in-ne1-clause-lowered g c = c.loop-header.invariant.lowered
 
 pub returns-then-count_in-ne1-clause-root : goal.returns-then-count_in-ne1-clause-root
 returns-then-count_in-ne1-clause-root g c = λ deep.
-    lower-wide g.K.Key (g.S.Nodes.nodes c.args.nodes.now) (g.S.Nodes.nodes c.loop-header.nodes) c.loop-header.invariant.lowered c.loop-header.header c.loop-header.invariant.header c.loop-header-test.true
+    lower-wide g.K.Key (g.S.Nodes.nodes c.args.nodes.now) (g.S.Nodes.nodes c.loop-header.nodes) c.loop-header.invariant.lowered c.loop-header.header c.loop-header.invariant.header (let deep = c.loop-header-test.true in omega arith)
     c.read.new.into c.read.ensures c.count_in.result c.count_in.ensures c.if-count_in-ne1.true
 
 pub lower_once-requires-clause-sound : goal.lower_once-requires-clause-sound
@@ -31,11 +31,11 @@ lower_once-requires-clause-header g c = c.loop-header.invariant.header
 
 pub lower_once-requires-clause-deep : goal.lower_once-requires-clause-deep
 lower_once-requires-clause-deep g c =
-    lower-levels g.K.Key (g.S.Nodes.nodes c.args.nodes.now) (g.S.Nodes.nodes c.loop-header.nodes) c.loop-header.invariant.lowered c.loop-header.header c.loop-header.invariant.header c.loop-header-test.true
+    lower-levels g.K.Key (g.S.Nodes.nodes c.args.nodes.now) (g.S.Nodes.nodes c.loop-header.nodes) c.loop-header.invariant.lowered c.loop-header.header c.loop-header.invariant.header (let deep = c.loop-header-test.true in omega arith)
 
 pub lower_once-requires-clause-one : goal.lower_once-requires-clause-one
 lower_once-requires-clause-one g c =
-    sym (lower-count g.K.Key (g.S.Nodes.nodes c.args.nodes.now) (g.S.Nodes.nodes c.loop-header.nodes) c.loop-header.invariant.lowered c.loop-header.header c.loop-header.invariant.header c.loop-header-test.true
+    sym (lower-count g.K.Key (g.S.Nodes.nodes c.args.nodes.now) (g.S.Nodes.nodes c.loop-header.nodes) c.loop-header.invariant.lowered c.loop-header.header c.loop-header.invariant.header (let deep = c.loop-header-test.true in omega arith)
     c.read.new.into c.read.ensures c.count_in.result c.count_in.ensures)
     ∙ c.if-count_in-ne1.false
 
