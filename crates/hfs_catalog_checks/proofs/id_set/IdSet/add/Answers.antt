@@ -1,4 +1,4 @@
-use Rattle.std.proofs.Common.{◌∙◌, ap, ℕ, Bool, ◌||◌, nat_eq, List}
+use Rattle.std.proofs.Common.{◌∙◌, ap, ℕ, ◌||◌, nat_eq, List}
 use Rattle.hfs_catalog_checks.specs.Indexes.{has_number}
 use Rattle.hfs_catalog_checks.proofs.Ordered.{id_put}
 use Rattle.hfs_catalog_checks.proofs.id_set.IdSet.add.Goals as goal
