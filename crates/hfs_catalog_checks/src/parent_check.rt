@@ -1,6 +1,6 @@
 //! The check of mounting on the parents of a catalog's items.
 
-ghost use Rattle.std.specs.Prelude.{◌≡◌, ◌||◌, ◌==◌, [], length, IfOk, OnOk};
+ghost use Rattle.std.specs.Prelude.{◌≡◌, ◌||◌, ◌==◌, true, [], length, IfOk, OnOk};
 ghost use Rattle.hfs_fields.specs.Records.{is_item};
 ghost use Rattle.hfs_scans.specs.First.{first_failing};
 ghost use Rattle.hfs_catalog.specs.Records.{is_folder_id};
@@ -69,8 +69,19 @@ fn note_chain(catalog: &IndexedCatalog<'_>, rooted: &mut IdSet, from: u32) -> Re
     Ok(())
 }
 
+/// Whether it is known of the parent of an ID's item that its chain of parents reaches the root.
+fn is_parent_known(catalog: &IndexedCatalog<'_>, rooted: &IdSet, id: u32) -> bool
+    requires { AreRooted rooted.now catalog.now }
+    ensures { result ≡ true → ReachesRoot catalog.now id }
+{
+    match catalog.item(id) {
+        Some(item) => is_known(rooted, item.key().parent),
+        None => false,
+    }
+}
+
 /// Whether a record, if it is an item's other than the root, has a folder as its parent and a chain of parents that
-/// reaches the root.
+/// reaches the root. Of the items of a folder whose own chain is known no chain is followed or noted.
 fn is_parent_right(
     catalog: &IndexedCatalog<'_>,
     rooted: &mut IdSet,
@@ -86,7 +97,13 @@ fn is_parent_right(
     if id == 2 {
         return Ok(true);
     }
-    if !is_folder_id(catalog, r.key().parent) || !reaches_root(catalog, rooted, id) {
+    if !is_folder_id(catalog, r.key().parent) {
+        return Ok(false);
+    }
+    if is_parent_known(catalog, rooted, id) {
+        return Ok(true);
+    }
+    if !reaches_root(catalog, rooted, id) {
         return Ok(false);
     }
     note_chain(catalog, rooted, id)?;
