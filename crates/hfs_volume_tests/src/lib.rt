@@ -11,3 +11,7 @@ mod mounted;
 mod mounting;
 #[cfg(test)]
 mod reading;
+#[cfg(test)]
+mod saving;
+#[cfg(test)]
+mod writers;
