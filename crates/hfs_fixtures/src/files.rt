@@ -2,7 +2,9 @@
 use crate::blocks::{block_of, lay};
 use crate::fault::FixtureFault;
 use crate::trees::leaf_record;
-use hfs_fields::{CatKey, DirRecord, Extent, FileRecord, ForkRecord, Mdb, Name};
+use hfs_fields::{
+    CatKey, DirRecord, Extent, FileRecord, ForkRecord, Mdb, Name, ThreadKind, ThreadRecord,
+};
 use hfs_node::Records;
 use std::alloc::Global;
 
@@ -57,6 +59,20 @@ pub fn push_file(
     let mut body = [0; FileRecord::LENGTH];
     file.write(&mut body);
     let record = leaf_record(alloc, key, &body)?;
+    records.push(record).map_err(|_| FixtureFault::Memory)
+}
+
+/// Puts the thread of a file, which stands under this key, behind all other records.
+pub fn push_file_thread(
+    alloc: Global,
+    records: &mut Records,
+    id: u32,
+    key: &CatKey,
+) -> Result<(), FixtureFault> {
+    let thread = ThreadRecord::new(ThreadKind::File, key.parent, key.name);
+    let mut body = [0; ThreadRecord::LENGTH];
+    thread.write(&mut body);
+    let record = leaf_record(alloc, &key_of(id, b"")?, &body)?;
     records.push(record).map_err(|_| FixtureFault::Memory)
 }
 

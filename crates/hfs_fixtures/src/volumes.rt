@@ -1,7 +1,9 @@
 //! The small volumes.
 use crate::blocks::lay;
 use crate::fault::FixtureFault;
-use crate::files::{NONE, file_in_extents, key_of, lay_counts, lay_fork, push_file, replace_root};
+use crate::files::{
+    NONE, file_in_extents, key_of, lay_counts, lay_fork, push_file, push_file_thread, replace_root,
+};
 use crate::trees::{TreeNumbers, empty_node, lay_header, lay_node, lay_overflow, node_of};
 use hfs_btree::Key;
 use hfs_fields::{ExtKey, Extent, FileRecord};
@@ -21,6 +23,9 @@ pub enum SmallVolume {
     TwoFiles,
     /// The empty file `f` with ID 16 in a leaf of its own, below an index node.
     TwoLevels,
+    /// The empty files `f` with ID 16, which has a thread, and `g` with ID 17, which has none. The flags of both say the
+    /// opposite.
+    FileThread,
 }
 
 /// A new volume with so many catalog nodes.
@@ -43,6 +48,7 @@ pub fn small_image(alloc: Global, volume: SmallVolume) -> Result<Vec<u8>, Fixtur
         SmallVolume::OneFile => lay_files(alloc, &mut image, false)?,
         SmallVolume::TwoFiles => lay_files(alloc, &mut image, true)?,
         SmallVolume::TwoLevels => lay_two_levels(alloc, &mut image)?,
+        SmallVolume::FileThread => lay_file_thread(alloc, &mut image)?,
     }
     Ok(image)
 }
@@ -125,4 +131,19 @@ fn lay_two_levels(alloc: Global, image: &mut [u8]) -> Result<(), FixtureFault> {
         root.records.push(record).map_err(|_| FixtureFault::Memory)?;
     }
     lay_node(image, 9, &root)
+}
+
+/// Lays two empty files, the first with a thread.
+fn lay_file_thread(alloc: Global, image: &mut [u8]) -> Result<(), FixtureFault> {
+    lay_counts(image, 2, 18, 50)?;
+    lay_header(image, 6, one_leaf(5))?;
+    let mut leaf = node_of(alloc, image, 7)?;
+    replace_root(alloc, &mut leaf.records, 2)?;
+    let key = key_of(2, b"f")?;
+    push_file(alloc, &mut leaf.records, &key, &FileRecord::new(16, 0))?;
+    let mut second = FileRecord::new(17, 0);
+    second.flags = second.flags.with_thread(true);
+    push_file(alloc, &mut leaf.records, &key_of(2, b"g")?, &second)?;
+    push_file_thread(alloc, &mut leaf.records, 16, &key)?;
+    lay_node(image, 7, &leaf)
 }

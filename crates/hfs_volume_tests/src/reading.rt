@@ -152,3 +152,28 @@ fn forks_that_are_not_opened(rt: HostRuntime) -> Result<(), Fail> {
     assert_eq!(rt; opening_code(&volume, rt.alloc(), 1, b"D")?, -120);
     Ok(())
 }
+
+/// Whether a reply is that folder and that name.
+fn is_place(reply: &Reply, parent: u32, wanted: &[u8]) -> bool {
+    match &reply.value {
+        Value::Place { dir, name } => *dir == parent && name.bytes() == wanted,
+        _ => false,
+    }
+}
+
+/// A file has an ID where it has a thread, whatever its flags say.
+#[test]
+fn a_file_is_found_by_its_thread(rt: HostRuntime) -> Result<(), Fail> {
+    let mut volume = small_volume(rt.alloc(), SmallVolume::FileThread)?;
+    assert!(rt; is_place(&volume.resolve_file_id(16), 2, b"f"));
+    for (id, code) in [(16, 0), (17, -1300), (2, -1302), (1, -1300), (18, -1300)] {
+        assert_eq!(rt; volume.resolve_file_id(id).code, code);
+        let reply = volume.call(rt.alloc(), &Call::ResolveFileId { id })?;
+        assert_eq!(rt; reply.code, code);
+    }
+    for (name, has_id) in [(b"f", true), (b"g", false)] {
+        let info = one(&volume.get_cat_info(2, name)).ok_or("no item")?;
+        assert_eq!(rt; info.has_id, has_id);
+    }
+    Ok(())
+}
