@@ -47,7 +47,7 @@ fn count_record<S: NodesMut>(alloc: Global, nodes: &mut S) -> Result<(), AllocEr
 }
 
 /// Puts a leaf's record into the leaf where the search for its key ends, which has room for it.
-pub fn put_entry<K: Key, S: NodesMut>(
+pub(crate) fn put_entry<K: Key, S: NodesMut>(
     alloc: Global,
     nodes: &mut S,
     key: &K,

@@ -72,7 +72,7 @@ pub(crate) fn cut_level<K: Key, S: NodesMut>(
 
 /// Cuts the nodes on the way to a key on so many levels from the leaves on, from the top down. It takes one free node for
 /// each.
-pub fn cut_levels<K: Key, S: NodesMut>(
+pub(crate) fn cut_levels<K: Key, S: NodesMut>(
     alloc: Global,
     nodes: &mut S,
     key: &K,

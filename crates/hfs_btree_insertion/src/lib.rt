@@ -1,4 +1,4 @@
-//! Insertion into B*-trees: the steps, each from a sound tree to a sound tree.
+//! Insertion of pairs into B*-trees.
 #![tactic(auto)]
 
 mod cut_place;
@@ -12,8 +12,3 @@ mod record_key;
 mod way;
 
 pub use insertion::insert;
-pub use leaf_put::put_entry;
-pub use level_cut::cut_levels;
-pub use lowering::lower_keys;
-pub use new_root::raise;
-pub use way::{full_levels, node_at};

@@ -58,7 +58,7 @@ fn lower_first<K: Key, S: NodesMut>(
 
 /// Lowers the first key of each index node on the way to a key that is below all keys of that node. In an exact tree
 /// there is none, where the key is above the least.
-pub fn lower_keys<K: Key, S: NodesMut>(
+pub(crate) fn lower_keys<K: Key, S: NodesMut>(
     alloc: Global,
     nodes: &mut S,
     key: &K,

@@ -57,7 +57,7 @@ fn put_root<K: Key, S: NodesMut>(alloc: Global, nodes: &mut S, m: u32) -> Result
 }
 
 /// Puts a new root above the old one, with one record that names it. It takes one free node.
-pub fn raise<K: Key, S: NodesMut>(alloc: Global, nodes: &mut S) -> Result<(), AllocError>
+pub(crate) fn raise<K: Key, S: NodesMut>(alloc: Global, nodes: &mut S) -> Result<(), AllocError>
     requires sound { IsSound K.Key (S.nodes nodes.old) }
     requires some { 0 < depth_of (S.nodes nodes.old) }
     requires shallow { depth_of (S.nodes nodes.old) ≤ 15 }

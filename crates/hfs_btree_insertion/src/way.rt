@@ -12,7 +12,7 @@ use hfs_btree::{Header, Key, Nodes, child_in};
 use hfs_node::view;
 
 /// The node on the way to a key that stands so many levels above the leaves, with its bytes.
-pub fn node_at<K: Key, N: Nodes>(
+pub(crate) fn node_at<K: Key, N: Nodes>(
     nodes: &N,
     header: &Header,
     key: &K,
@@ -68,7 +68,7 @@ fn count_full(bytes: &[u8; 512], len: usize, full: u16) -> u16
 
 /// How many nodes on the way to a key, from the leaf on upwards, have no room for one more record: in the leaf one of
 /// `len` bytes, above it an index record.
-pub fn full_levels<K: Key, N: Nodes>(nodes: &N, header: &Header, key: &K, len: usize) -> u16
+pub(crate) fn full_levels<K: Key, N: Nodes>(nodes: &N, header: &Header, key: &K, len: usize) -> u16
     requires sound { IsSound K.Key (N.nodes nodes.now) }
     requires header { header.now ≡ header_in (N.nodes nodes.now) }
     requires some { 0 < depth_of (N.nodes nodes.now) }

@@ -59,7 +59,7 @@ fn print_grown<K: Sample>(
     Ok(())
 }
 
-/// Puts 5,000 pairs into a tree with one leaf in this order, and takes them out again in the mixed one. At least four
+/// Puts 5,000 pairs into a tree with one leaf in this order, and takes them out again in the mixed one. At least three
 /// levels are there between, and afterwards as many levels and free nodes as before.
 fn run<K: Sample>(rt: &impl AllocGlobal, file: &[u8], count: usize, order: Order) -> Result<()> {
     let mut nodes = table(rt, file, count)?;

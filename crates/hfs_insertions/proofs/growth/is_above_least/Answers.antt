@@ -1,4 +1,4 @@
-use Rattle.std.proofs.Common.{◌≡◌, ◌∙◌, List, ℕ, Some, true, sym, ap}
+use Rattle.std.proofs.Common.{◌≡◌, ◌∙◌, Some, true, sym, ap}
 use Rattle.std.specs.Prelude.{option_map}
 use Rattle.std.specs.Ordering.{is_lt}
 use Rattle.hfs_btree.specs.Header.{tree_content}
