@@ -40,6 +40,19 @@ report() {
         'BEGIN { printf "    %s: %.1f ms to %.1f ms, ratio %.2f\n", what, ours / 1000, theirs / 1000, ours / theirs }'
 }
 
+# Millions of instructions of a command.
+instructions() {
+    valgrind --tool=callgrind --callgrind-out-file=/dev/null "$@" 2>&1 > /dev/null | awk '/Collected/ { printf "%.1f", $4 / 1e6 }'
+}
+
+# What `check` and fsck.hfs take of a volume, in instructions.
+count_beside() {
+    if command -v valgrind > /dev/null && command -v fsck.hfs > /dev/null; then
+        awk -v ours="$(instructions "$tool" check "$1")" -v theirs="$(instructions fsck.hfs -fn "$1")" \
+            'BEGIN { printf "    check to fsck.hfs -n: %.1f to %.1f million instructions, ratio %.2f\n", ours, theirs, ours / theirs }'
+    fi
+}
+
 # Measures on a volume of this size.
 measure() {
     local volume=$folder/many.img ours
@@ -53,6 +66,7 @@ measure() {
     else
         awk -v ours="$ours" 'BEGIN { printf "    check: %.1f ms; fsck.hfs is not installed\n", ours / 1000 }'
     fi
+    count_beside "$volume"
     report 'every folder to hls -laR' "$(best 31 "$lists" folders "$volume")" "$(best 31 hls -laR)"
     report 'ls of the root to hls -la' "$(best 31 "$tool" ls "$volume")" "$(best 31 hls -la)"
     report 'a run for each folder to a run for each' "$(best 2 list_each "$volume")" "$(best 2 peer_list_each)"
@@ -63,3 +77,6 @@ measure() {
 head -c 1048576 /dev/urandom > "$folder/megabyte"
 measure 6M
 measure 20M
+python3 tests/slow_volumes.py plain 60000 30 "$folder/more.img"
+echo '60,000 items in 30M:'
+count_beside "$folder/more.img"
