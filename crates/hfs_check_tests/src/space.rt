@@ -7,7 +7,7 @@ use hfs_fixtures::{SmallVolume, lay_overflow};
 use std::process::Abort;
 
 #[test]
-fn forks(rt: HostRuntime) {
+fn extents_and_lengths_of_forks(rt: HostRuntime) {
     // an extent past the last block, and an empty one there
     assert_fault(
         &rt,
@@ -30,7 +30,11 @@ fn forks(rt: HostRuntime) {
         &[put(7, 193, &[1])],
         check(11, 2),
     );
-    // the record of the extents tree: of no file, of the other fork, behind a gap
+}
+
+/// The record of the extents tree: of no file, of the other fork, behind a gap.
+#[test]
+fn records_of_the_extents_tree(rt: HostRuntime) {
     let length = put(7, 182, &[5, 0xdc]);
     assert_fault(
         &rt,
