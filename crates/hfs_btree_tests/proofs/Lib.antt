@@ -1,3 +1,2 @@
 pub mod Sound
 pub mod SoundDeep
-pub mod TwoRuns
