@@ -53,10 +53,7 @@ fn places_and_folders_that_are_none(rt: HostRuntime) -> Result<(), Fail> {
 #[test]
 fn a_file_is_found_by_name_and_by_place(rt: HostRuntime) -> Result<(), Fail> {
     let volume = small_volume(rt.alloc(), SmallVolume::OneFile)?;
-    for reply in [
-        volume.get_cat_info(2, b"F"),
-        volume.get_indexed(2, 1),
-    ] {
+    for reply in [volume.get_cat_info(2, b"F"), volume.get_indexed(2, 1)] {
         assert_eq!(rt; reply.code, 0);
         let info = one(&reply).ok_or("no item")?;
         assert_eq!(rt; info.id, 16);
