@@ -16,9 +16,21 @@ fn nodes_follow_the_runs(rt: HostRuntime) {
     let blocks = ImageBytes { bytes: &image };
     assert_eq!(rt; blocks.count(), 6);
     let runs = [
-        Run { first: 4, count: 2 },
-        Run { first: 1, count: 1 },
-        Run { first: 3, count: 1 },
+        Run {
+            first: 4,
+            count: 2,
+            before: 0,
+        },
+        Run {
+            first: 1,
+            count: 1,
+            before: 2,
+        },
+        Run {
+            first: 3,
+            count: 1,
+            before: 3,
+        },
     ];
     let nodes = RunNodes {
         blocks: &blocks,

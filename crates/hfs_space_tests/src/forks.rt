@@ -170,20 +170,21 @@ fn tree_files(rt: HostRuntime) -> Result<(), Fail> {
     );
     assert!(rt; are_within(&extents, 58));
     let runs = tree_runs(rt.alloc(), &blocks, &mdb, &extents, 1_200)?;
-    assert_eq!(rt; runs.len(), 3);
+    assert_eq!(rt; runs.len(), 2);
     assert!(rt;
         runs[0]
             == Run {
                 first: 14,
-                count: 2
+                count: 2,
+                before: 0
             }
     );
-    assert!(rt; runs[1].count == 0);
     assert!(rt;
-        runs[2]
+        runs[1]
             == Run {
                 first: 24,
-                count: 1
+                count: 1,
+                before: 2
             }
     );
     Ok(())

@@ -2,7 +2,6 @@
 use Rattle.std.proofs.Common.{◌≡◌, ◌+◌, ◌-◌, ◌∷◌, [], ◌++◌, sym, ap, subst, ◌∙◌, arith}
 use Rattle.std.specs.List.{flat_map}
 use Rattle.hfs_fields.specs.declared.extent.Extent.{Extent}
-use Rattle.hfs_blocks.specs.declared.run.Run.{Run}
 use Rattle.hfs_blocks.specs.Blocks.{run_of}
 use Rattle.hfs_space.specs.TreeFiles.{tree_blocks, nodes_in-tree_blocks}
 use Rattle.hfs_space.proofs.TreeRuns.{AreRunsOf, one-more, none-more, runs-end}
