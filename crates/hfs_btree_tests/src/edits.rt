@@ -118,7 +118,18 @@ fn opened<'a>(
 fn two_runs() -> [Run; 2]
     ensures { result ≡ two_runs }
 {
-    [Run { first: 3, count: 5 }, Run { first: 9, count: 6 }]
+    [
+        Run {
+            first: 3,
+            count: 5,
+            before: 0,
+        },
+        Run {
+            first: 9,
+            count: 6,
+            before: 5,
+        },
+    ]
 }
 
 /// Whether the nodes are these.

@@ -5,14 +5,16 @@ ghost use Rattle.hfs_btree.specs.Header.{tree_content};
 ghost use Rattle.hfs_btree_edits.specs.Edits.{IsAboveFirst};
 ghost use Rattle.hfs_btree.specs.Sound.{IsSound};
 
-use crate::node_table::NodeTable;
 use crate::sample::Sample;
 use anyhow::{Result, bail, ensure};
 use hfs_btree::{Walk, depth, find, free_nodes, read_header};
 use hfs_btree_checks::check_tree;
 use hfs_btree_insertion::insert;
 use hfs_btree_removal::remove;
+use hfs_node_tables::NodeTable;
 use std::alloc::Global;
+use std::rt::Clock;
+use std::time::Instant;
 
 /// An order in which keys come.
 #[derive(Clone, Copy)]
@@ -48,22 +50,23 @@ fn is_above_least<K: Sample>(alloc: Global, nodes: &NodeTable, least: &K, key: &
     }
 }
 
-/// Puts the pair with this number into the tree. An error where one of the conditions isn't met.
-pub fn put<K: Sample>(alloc: Global, nodes: &mut NodeTable, n: u32) -> Result<()>
+/// Puts a pair into a tree whose least key is this one, and tells how many nanoseconds the insertion took, without what is
+/// looked up before it. An error where one of the conditions isn't met.
+pub fn put_pair<K: Sample>(
+    rt: &(impl AllocGlobal + Clock),
+    nodes: &mut NodeTable,
+    least: &K,
+    key: &K,
+    body: &[u8],
+) -> Result<u128>
     requires sound { IsSound K.Key nodes.old.nodes.items }
     ensures sound { OnOk result (IsSound K.Key nodes.new.nodes.items) }
 {
-    let Some(key) = K::numbered(n) else {
-        bail!("no such key");
-    };
-    let Some(least) = K::least() else {
-        bail!("no least key");
-    };
-    let body = K::body(alloc, n)?;
+    let alloc = rt.alloc();
     ensure!(K::is_body_len(body.len()), "no length of a body");
-    let above = is_above_least(alloc, nodes, &least, &key)?;
+    let above = is_above_least(alloc, nodes, least, key)?;
     ensure!(above, "not above the least key");
-    let None = find(alloc, nodes, &key)? else {
+    let None = find(alloc, nodes, key)? else {
         bail!("the key is there");
     };
     let header = read_header(nodes);
@@ -74,7 +77,36 @@ pub fn put<K: Sample>(alloc: Global, nodes: &mut NodeTable, n: u32) -> Result<()
         header.nodes as usize <= nodes.nodes.len(),
         "too short a file"
     );
-    insert(alloc, nodes, &key, &body)?;
+    let start = Instant::now(rt)?;
+    insert(alloc, nodes, key, body)?;
+    Ok(start.elapsed(rt)?.as_nanos())
+}
+
+/// Puts the pair with this number into the tree. An error where one of the conditions isn't met.
+pub fn put<K: Sample>(rt: &(impl AllocGlobal + Clock), nodes: &mut NodeTable, n: u32) -> Result<()>
+    requires sound { IsSound K.Key nodes.old.nodes.items }
+    ensures sound { OnOk result (IsSound K.Key nodes.new.nodes.items) }
+{
+    let Some(key) = K::numbered(n) else {
+        bail!("no such key");
+    };
+    let Some(least) = K::least() else {
+        bail!("no least key");
+    };
+    let body = K::body(rt.alloc(), n)?;
+    put_pair(rt, nodes, &least, &key, &body)?;
+    Ok(())
+}
+
+/// Takes a pair out of the tree.
+pub fn take_pair<K: Sample>(alloc: Global, nodes: &mut NodeTable, key: &K) -> Result<()>
+    requires sound { IsSound K.Key nodes.old.nodes.items }
+    ensures sound { OnOk result (IsSound K.Key nodes.new.nodes.items) }
+{
+    let Some(_body) = find(alloc, nodes, key)? else {
+        bail!("the key isn't there");
+    };
+    remove(alloc, nodes, key)?;
     Ok(())
 }
 
@@ -86,11 +118,7 @@ pub fn take<K: Sample>(alloc: Global, nodes: &mut NodeTable, n: u32) -> Result<(
     let Some(key) = K::numbered(n) else {
         bail!("no such key");
     };
-    let Some(_body) = find(alloc, nodes, &key)? else {
-        bail!("the key isn't there");
-    };
-    remove(alloc, nodes, &key)?;
-    Ok(())
+    take_pair(alloc, nodes, &key)
 }
 
 /// An error where the tree's pairs aren't the least one and those with the numbers that are there.

@@ -42,7 +42,8 @@ impl Sample for ExtKey {
     }
 }
 
-/// The bytes of a name: two letters that say which of a folder's fifty it is, and then up to 29 more.
+/// The bytes of a name: two letters that say which of a folder's fifty it is, and then up to 29 more. The first of the fifty
+/// has none of them, as a thread's key, and the second has one.
 fn letters(n: u32) -> [u8; 31] {
     let mut bytes = [65; 31];
     bytes[0] = (65 + n % 50 / 2) as u8;
@@ -58,7 +59,12 @@ impl Sample for CatKey {
 
     fn numbered(n: u32) -> Option<CatKey> {
         let bytes = letters(n);
-        let len = 2 + (n / 7 % 30) as usize;
+        let place = (n % 50) as usize;
+        let len = if place < 2 {
+            place
+        } else {
+            2 + (n / 7 % 30) as usize
+        };
         let name = Name::of_bytes(&bytes[..len])?;
         Some(CatKey {
             parent: (n / 50).saturating_add(2),
