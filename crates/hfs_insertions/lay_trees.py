@@ -65,6 +65,8 @@ write("third-map-node.bin", [
     header(1, 1, 4, 1, 4, 4, 37, 13904, 3952, b"\xff" * 256),
     map_node(2, b"\xff" * 494), map_node(3, b"\xff" * 494), map_node(0, b""), leaf(0, 0, [ROOT + THREAD]),
 ])
+# the same of a new volume's catalog of 1,000 nodes
+write("thousand-nodes.bin", [header(0, 1, 1, 1, 1, 1, 37, 1000, 998, b"\xc0"), leaf(0, 0, [ROOT + THREAD])])
 # a full leaf, and as many free nodes as its cut and the new root take
 write("last-free-nodes.bin", [header(0, 1, 1, 22, 1, 1, 7, 4, 2, b"\xc0"), leaf(0, 0, [LEAST + EXTENT] + [ext_key(2 * n) + body(2 * n) for n in range(21)])])
 # Depth 4, where each index node on the way to the keys 101 to 199 has one key, 30 above the one that the node above has for it:

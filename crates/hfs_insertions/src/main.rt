@@ -5,11 +5,13 @@
 //! `time FILE` prints how long an insertion into the catalog tree takes that this file is.
 #![tactic(auto)]
 
+mod files;
 mod growth;
 mod runs;
 mod sample;
 mod times;
 
+use crate::files::{put_files, take_files};
 use crate::growth::Order;
 use crate::runs::{grow, put_all, shrink};
 use crate::sample::Sample;
@@ -51,6 +53,8 @@ fn print_all(rt: &HostRuntime) -> Result<()> {
     print_grown::<CatKey>(rt, "catalog.bin", &catalog, 6000)?;
     let third = fs::read(rt, "third-map-node.bin")?;
     print_grown::<CatKey>(rt, "third-map-node.bin", &third, 13904)?;
+    let thousand = fs::read(rt, "thousand-nodes.bin")?;
+    print_files(rt, &thousand)?;
     let last = fs::read(rt, "last-free-nodes.bin")?;
     print_last(rt, &last)?;
     let inexact = fs::read(rt, "inexact.bin")?;
@@ -111,6 +115,26 @@ fn run<K: Sample>(
         after.free_nodes == before.free_nodes,
         "another count of free nodes"
     );
+    Ok(())
+}
+
+/// 300 files come to the tree, and leave it from the least name upwards; and once more, and from the greatest downwards.
+fn print_files(rt: &(impl Print + AllocGlobal + Clock), file: &[u8]) -> Result<()> {
+    let mut nodes = table(rt, file, 1000)?;
+    let before = header_of::<CatKey>(rt, &nodes)?;
+    for upwards in [true, false] {
+        put_files(rt, &mut nodes)?;
+        let full = header_of::<CatKey>(rt, &nodes)?;
+        ensure!(full.records == 301, "another count of pairs");
+        take_files(rt.alloc(), &mut nodes, upwards)?;
+        let after = header_of::<CatKey>(rt, &nodes)?;
+        ensure!(after.depth == before.depth, "another depth");
+        ensure!(
+            after.free_nodes == before.free_nodes,
+            "another count of free nodes"
+        );
+    }
+    println!(rt; "thousand-nodes.bin 300 files put and taken in two orders")?;
     Ok(())
 }
 
