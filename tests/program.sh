@@ -76,19 +76,71 @@ for name in hfsutils-800k hfsutils-1440k-names genisoimage-locked; do
     cmp "$volumes/$name.img" "$folder/read.img" || fail "$name was written"
 done
 
-# Each command line of the README on disks, as it stands there, in a folder of its own where the repository's crates are.
-mkdir "$folder/readme"
-ln -s "$PWD/crates" "$folder/readme/crates"
-sed -n '/^## The first ten minutes/,/^## What is proved/s/^    //p' README.md > "$folder/lines"
-[ "$(grep -c tool "$folder/lines")" -ge 10 ] || fail 'the README has no command lines'
+# What the README is shown with: images in a folder, and three volumes with something before them.
+readme=$folder/readme
+mkdir "$readme" "$readme/images"
+ln -s "$PWD/crates" "$PWD/scripts" "$readme"
+cp "$volumes/hfsutils-800k.img" "$readme/images/m0.img"
+cp "$volumes/genisoimage-locked.img" "$readme/images/old disk.img"
+cp "$volumes/refused-icon.img" "$readme/images/icon.img"
+head -c 300000 "$volumes/hfsutils-800k.img" > "$readme/images/cut.img"
+
+# Four bytes, the greatest first.
+number() {
+    printf "$(printf '\\%03o\\%03o\\%03o\\%03o' $(($1 >> 24)) $(($1 >> 16 & 255)) $(($1 >> 8 & 255)) $(($1 & 255)))"
+}
+
+# An entry of a partition map: where the partition begins, how many blocks it has, its type.
+partition() {
+    { printf 'PM\0\0' && number 2 && number "$1" && number "$2" && head -c 32 /dev/zero && printf %s "$3" && head -c 512 /dev/zero; } | head -c 512
+}
+
+{
+    { printf 'ER' && head -c 512 /dev/zero; } | head -c 512
+    partition 1 63 Apple_partition_map
+    partition 64 1600 Apple_HFS
+    head -c $((61 * 512)) /dev/zero
+    cat "$volumes/hfsutils-800k.img"
+} > "$readme/hard_disk.img"
+{
+    printf '\006Floppy' && head -c 57 /dev/zero && number 819200 && head -c 14 /dev/zero && printf '\001\000'
+    cat "$volumes/hfsutils-800k.img"
+} > "$readme/floppy.dc42"
+{
+    printf '\000\006Floppy' && head -c 75 /dev/zero && number 819200 && head -c 41 /dev/zero
+    cat "$volumes/hfsutils-800k.img"
+} > "$readme/floppy.bin"
+
+# Runs a command of the README, and wants of it what stands below.
+shown() {
+    [ -n "$command" ] || return 0
+    eval "$command" > "$folder/printed" 2> "$folder/errors" || true
+    cmp -s "$folder/wanted" "$folder/printed" || fail "the README's line '$command' prints $(cat "$folder/printed")"
+    [ ! -s "$folder/errors" ] || fail "the README's line '$command' writes to standard error: $(cat "$folder/errors")"
+    command=''
+}
+
+# Each line of the README behind a '$', with those behind a '>' that go on with it, in one shell.
 (
-    cd "$folder/readme"
-    path=$volumes/hfsutils-800k.img
-    while IFS= read -r line; do
-        eval "$line" > "$folder/printed" 2> "$folder/errors" || [ $? = 3 ] || fail "the README's line '$line'"
-        [ ! -s "$folder/errors" ] || fail "the README's line '$line' writes to standard error"
-    done < "$folder/lines"
+    lines=$PWD/README.md
+    cd "$readme"
+    unset tool
+    command='' inside='' count=0
+    while IFS= read -r line <&3; do
+        case $inside$line in
+            '```console') inside=yes ;;
+            'yes```') shown && inside='' ;;
+            'yes$ '*) shown && command=${line#??} && : > "$folder/wanted" && count=$((count + 1)) ;;
+            'yes> '*) command+=$'\n'${line#??} ;;
+            yes*) printf '%s\n' "$line" >> "$folder/wanted" ;;
+        esac
+    done 3< "$lines"
+    [ "$count" -ge 25 ] || fail 'the README has no command lines'
 )
+
+# The man page is what the help says.
+tests/man_page.sh | cmp -s - docs/hfs_tool.1 || fail 'docs/hfs_tool.1 is not made of the help'
+[ "$("$tool" --version)" = "hfs_tool 0.1.0 (proved with $(rt version))" ] || fail 'the version'
 
 # What the README says that they print.
 disk=$volumes/hfsutils-800k.img

@@ -1,4 +1,4 @@
-//! A program that reads, checks and changes HFS volumes.
+//! A program that reads and checks HFS volumes, and makes new ones.
 #![tactic(auto)]
 
 ghost use Rattle.std.specs.Prelude.{◌≡◌, ◌⊎◌};
@@ -33,7 +33,9 @@ fn answer(rt: &HostRuntime) -> u8 {
         },
         Err(error) => match error.kind() {
             ErrorKind::OutOfMemory => refused(rt, &Fault::NoMemory),
-            ErrorKind::DisplayHelp => Status::Done.after(rt.print(&error)),
+            ErrorKind::DisplayHelp | ErrorKind::DisplayVersion => {
+                Status::Done.after(rt.print(&error))
+            }
             _ => Status::WordsRefused.after(rt.print(&error)),
         },
     }

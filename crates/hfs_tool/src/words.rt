@@ -83,10 +83,46 @@ fn moment<'a>(alloc: Global) -> Arg<'a> {
         .help("The moment, in seconds since midnight of 1 January 1904")
 }
 
+/// The program's number, and the toolchain that proved it.
+const VERSION: &str = "0.1.0 (proved with rattle-kit-13b logic dac8208d650f15bf)";
+
+/// What the numbers of checks mean.
+const CHECKS: &str = "What is printed where the volume is not sound:
+  refused bad master directory block M1 (-60)   M1 to M5: that block
+  refused check C3 at N                         the first check that fails, and where:
+  C3   extents tree              C8   order, parents, threads
+  C4   shape of the catalog      C9   valences (children of each folder)
+  C5   records                   C10  counts
+  C6   IDs                       C11  extents
+  C7   names (characters that this program doesn't take: no fault of the disk)
+  C12  space
+docs/CHECKS.md says what each wants, and what N counts.";
+
+/// What stands behind the help text.
+const AFTER_HELP: &str = "Exit statuses:
+  0  done
+  1  the words are refused
+  2  the image is refused, or the plan of a new volume
+  3  ls or cat met a code other than 0: -37 bad name, -43 not found, -120 no folder
+  4  a file could not be read or written
+  5  out of memory
+
+Examples:
+  hfs_tool check disk.img
+  hfs_tool ls disk.img
+  hfs_tool cat disk.img 19 'Read Me' > read_me.data || rm read_me.data
+  hfs_tool new disk.img Archive 1600 40 4
+
+After a fault its text is printed where the result would have been: test the status.";
+
 /// The program's command, with a subcommand for each word.
 fn command<'a>(alloc: Global) -> Result<Command<'a>, AllocError> {
     Command::new(alloc, "hfs_tool")
-        .about("Reads, checks and changes HFS volumes. With no words: info on standard input")
+        .about(
+            "Reads and checks HFS volumes, and makes new ones. With no words: info on standard input",
+        )
+        .version(VERSION)
+        .after_help(AFTER_HELP)
         .subcommand(info_command(alloc)?)?
         .subcommand(check_command(alloc)?)?
         .subcommand(list_command(alloc)?)?
@@ -103,6 +139,7 @@ fn info_command<'a>(alloc: Global) -> Result<Command<'a>, AllocError> {
 fn check_command<'a>(alloc: Global) -> Result<Command<'a>, AllocError> {
     Command::new(alloc, "check")
         .about("Checks a volume, and prints its counts or its first fault")
+        .after_help(CHECKS)
         .arg(image(alloc))
 }
 
@@ -134,9 +171,9 @@ fn cat_command<'a>(alloc: Global) -> Result<Command<'a>, AllocError> {
 }
 
 fn new_command<'a>(alloc: Global) -> Result<Command<'a>, AllocError> {
-    let file = word(alloc, "FILE").help("The file that is written, in place of what it has");
+    let file = word(alloc, "FILE").help("The file that is written; what it has is lost");
     Command::new(alloc, "new")
-        .about("Writes a new, empty volume")
+        .about("Writes a new, empty volume, in place of what the file has")
         .arg(file)?
         .arg(name(alloc).help("The volume's name, 1 to 27 characters"))?
         .arg(number(alloc, "BLOCKS").help("Blocks of 512 bytes, 8 to 4,194,304"))?
