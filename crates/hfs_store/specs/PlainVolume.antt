@@ -1,9 +1,13 @@
 -- The volume that a `PlainVolume` stands for.
-use Rattle.std.specs.Prelude.{◌≡◌, ℕ, ◌+◌, ◌≤◌, List, [], ◌∷◌}
+use Rattle.std.specs.Prelude.{◌≡◌, ℕ, ◌+◌, ◌≤◌, List, [], ◌∷◌, length, slice_index_or, take}
 use Rattle.std.specs.FinMap as map
 use Rattle.hfs_store.specs.declared.plain_volume.PlainVolume.TheInside.{Inside}
 use Rattle.hfs_model.specs.Volume.{Volume, Entry, Items}
 use Rattle.hfs_model.specs.Children.{valence}
+use Rattle.hfs_model.specs.Changes.{touched}
+use Rattle.hfs_model.specs.Runs.{run}
+use Rattle.hfs_model.specs.declared.call.Call.{Call}
+use Rattle.hfs_model.specs.declared.item.Item.{Item}
 
 -- the IDs strictly rise, and are at least low and below high
 abbrev pub Rises : ℕ → ℕ → List Entry → Type 0
@@ -19,6 +23,31 @@ pub record AreEntries (es : List Entry) (next : ℕ) : Type 0 where
 pub record Becomes (old new : List Entry) (change : Items → Items) : Type 0 where
   pub kept : (next : ℕ) → AreEntries old next → AreEntries new next
   pub is : (next : ℕ) → AreEntries old next → map.from_sorted new ≡ change (map.from_sorted old)
+
+-- entries in order, and a change of the map that they are, by the entry at a place
+abbrev pub BecomesAt : List Entry → List Entry → ℕ → (Items → Entry → Items) → Type 0
+BecomesAt old new at change = (d : Entry) → Becomes old new (λ m. change m (slice_index_or old at d))
+
+-- and the item at a place is another
+abbrev pub ItemBecomes : List Entry → List Entry → ℕ → (Item → Item) → Type 0
+ItemBecomes old new at change = BecomesAt old new at (λ m e. map.insert m e.0 (change e.1))
+
+-- an item with these dates and Finder bytes
+abbrev pub with_info : Item → ℕ → ℕ → ℕ → List ℕ → Item
+with_info item created modified backup info = record item { created = created; modified = modified; backup = backup; finder = info }
+
+-- entries with one more at their end, whose folder is touched
+abbrev pub Gains : List Entry → List Entry → ℕ → Item → ℕ → Type 0
+Gains old new id item now = AreEntries old id → AreEntries new (id + 1)
+    × (map.from_sorted new ≡ touched (map.insert (map.from_sorted old) id item) item.parent now)
+
+-- a volume with an item under an ID that is the last one
+abbrev pub with_last : Volume → ℕ → Item → Volume
+with_last v id item = record v { items = map.insert v.items id item; next_id = id + 1 }
+
+-- a volume after some first ones of the calls
+abbrev pub HasMadeSome : Volume → Volume → List Call → Type 0
+HasMadeSome old new calls = (made : ℕ) × (made ≤ length calls) × (new ≡ (run old (take made calls)).0)
 
 abbrev pub volume_of : Inside → Volume
 volume_of a = record { items = map.from_sorted a.items.items; next_id = a.next_id; changed = a.changed; hardware_locked = a.hardware_locked; software_locked = a.software_locked }

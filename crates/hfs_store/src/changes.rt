@@ -1,11 +1,11 @@
 //! Changes of the list of items.
-ghost use Rattle.std.specs.Prelude.{◌≡◌, ◌+◌, ◌<◌, ◌++◌, drop, slice_index_or, length, OnOk, OnErr};
+ghost use Rattle.std.specs.Prelude.{◌≡◌, ◌<◌, ◌++◌, drop, length, OnOk, OnErr};
 ghost use Rattle.std.specs.FinMap as map;
 ghost use Rattle.hfs_model.specs.Volume.{Entry};
-ghost use Rattle.hfs_model.specs.Children.{valence};
 ghost use Rattle.hfs_model.specs.Changes.{touched, moved, with_lock};
 ghost use Rattle.hfs_model.specs.FileIds.{with_thread_bit, set_thread};
-ghost use Rattle.hfs_store.specs.PlainVolume.{Becomes, AreEntries};
+ghost use Rattle.hfs_model.specs.Children.{valence};
+ghost use Rattle.hfs_store.specs.PlainVolume.{Becomes, BecomesAt, ItemBecomes, Gains, with_info};
 
 use crate::entries::place_of;
 use hfs_fields::{FileFlags, Name};
@@ -24,7 +24,7 @@ fn touch(items: &mut Vec<(u32, Item)>, dir: u32, now: u32)
 /// Takes the item at a place away.
 fn take_away(items: &mut Vec<(u32, Item)>, at: usize)
     requires { at < length items.old.items }
-    ensures { (d : Entry) → Becomes items.old.items items.new.items (λ m. map.remove m (slice_index_or items.old.items at d).0) }
+    ensures { BecomesAt items.old.items items.new.items at (λ m e. map.remove m e.0) }
 {
     items.remove(at);
 }
@@ -33,7 +33,7 @@ fn take_away(items: &mut Vec<(u32, Item)>, at: usize)
 fn set_parent(items: &mut Vec<(u32, Item)>, at: usize, parent: u32)
     requires within { at < length items.old.items }
     requires room { valence items.old.items parent < 65535 }
-    ensures { (d : Entry) → Becomes items.old.items items.new.items (λ m. map.insert m (slice_index_or items.old.items at d).0 (record (slice_index_or items.old.items at d).1 { parent = parent })) }
+    ensures { ItemBecomes items.old.items items.new.items at (λ i. record i { parent = parent }) }
 {
     items[at].1.parent = parent;
 }
@@ -41,7 +41,7 @@ fn set_parent(items: &mut Vec<(u32, Item)>, at: usize, parent: u32)
 /// Takes the item at a place away, and sets the modified date of the folder that held it.
 pub fn remove_item(items: &mut Vec<(u32, Item)>, at: usize, dir: u32, now: u32)
     requires { at < length items.old.items }
-    ensures { (d : Entry) → Becomes items.old.items items.new.items (λ m. touched (map.remove m (slice_index_or items.old.items at d).0) dir now) }
+    ensures { BecomesAt items.old.items items.new.items at (λ m e. touched (map.remove m e.0) dir now) }
 {
     take_away(items, at);
     touch(items, dir, now);
@@ -51,7 +51,7 @@ pub fn remove_item(items: &mut Vec<(u32, Item)>, at: usize, dir: u32, now: u32)
 pub fn move_item(items: &mut Vec<(u32, Item)>, at: usize, dir: u32, new_dir: u32, now: u32)
     requires within { at < length items.old.items }
     requires room { valence items.old.items new_dir < 65535 }
-    ensures { (d : Entry) → Becomes items.old.items items.new.items (λ m. moved m (slice_index_or items.old.items at d) dir new_dir now) }
+    ensures { BecomesAt items.old.items items.new.items at (λ m e. moved m e dir new_dir now) }
 {
     set_parent(items, at, new_dir);
     touch(items, dir, now);
@@ -61,7 +61,7 @@ pub fn move_item(items: &mut Vec<(u32, Item)>, at: usize, dir: u32, new_dir: u32
 /// Gives the item at a place another name.
 pub fn rename_item(items: &mut Vec<(u32, Item)>, at: usize, name: Name)
     requires { at < length items.old.items }
-    ensures { (d : Entry) → Becomes items.old.items items.new.items (λ m. map.insert m (slice_index_or items.old.items at d).0 (record (slice_index_or items.old.items at d).1 { name = name })) }
+    ensures { ItemBecomes items.old.items items.new.items at (λ i. record i { name = name }) }
 {
     items[at].1.name = name;
 }
@@ -69,7 +69,7 @@ pub fn rename_item(items: &mut Vec<(u32, Item)>, at: usize, name: Name)
 /// Sets the first half of an item's Finder bytes.
 pub fn set_finder(items: &mut Vec<(u32, Item)>, at: usize, info: &[u8; 16])
     requires { at < length items.old.items }
-    ensures { (d : Entry) → Becomes items.old.items items.new.items (λ m. map.insert m (slice_index_or items.old.items at d).0 (record (slice_index_or items.old.items at d).1 { finder = info.now ++ drop 16 (slice_index_or items.old.items at d).1.finder })) }
+    ensures { ItemBecomes items.old.items items.new.items at (λ i. record i { finder = info.now ++ drop 16 i.finder }) }
 {
     items[at].1.finder[..16].copy_from_slice(info);
 }
@@ -84,7 +84,7 @@ pub fn set_info(
     info: [u8; 32],
 )
     requires { at < length items.old.items }
-    ensures { (d : Entry) → Becomes items.old.items items.new.items (λ m. map.insert m (slice_index_or items.old.items at d).0 (record (slice_index_or items.old.items at d).1 { created = created; modified = modified; backup = backup; finder = info })) }
+    ensures { ItemBecomes items.old.items items.new.items at (λ i. with_info i created modified backup info) }
 {
     let item = &mut items[at].1;
     item.created = created;
@@ -96,7 +96,7 @@ pub fn set_info(
 /// Locks or unlocks a file.
 pub fn set_lock(items: &mut Vec<(u32, Item)>, at: usize, locked: bool)
     requires { at < length items.old.items }
-    ensures { (d : Entry) → Becomes items.old.items items.new.items (λ m. map.insert m (slice_index_or items.old.items at d).0 (record (slice_index_or items.old.items at d).1 { kind = with_lock locked (slice_index_or items.old.items at d).1.kind })) }
+    ensures { ItemBecomes items.old.items items.new.items at (λ i. record i { kind = with_lock locked i.kind }) }
 {
     if let Kind::File(file) = &mut items[at].1.kind {
         file.locked = locked;
@@ -114,7 +114,7 @@ fn set_thread_bit(kept: &mut [u8; 102], set: bool)
 /// Gives a file a thread, or takes its thread away.
 pub fn set_thread(items: &mut Vec<(u32, Item)>, at: usize, there: bool)
     requires { at < length items.old.items }
-    ensures { (d : Entry) → Becomes items.old.items items.new.items (set_thread there (slice_index_or items.old.items at d)) }
+    ensures { BecomesAt items.old.items items.new.items at (λ m e. set_thread there e m) }
 {
     if let Kind::File(file) = &mut items[at].1.kind {
         set_thread_bit(&mut file.kept, there);
@@ -130,7 +130,7 @@ pub fn add_item(
     now: u32,
 ) -> Result<(), AllocError>
     requires { valence items.old.items item.parent < 65535 }
-    ensures ok { OnOk result (AreEntries items.old.items id → AreEntries items.new.items (id + 1) × (map.from_sorted items.new.items ≡ touched (map.insert (map.from_sorted items.old.items) id item) item.parent now)) }
+    ensures ok { OnOk result (Gains items.old.items items.new.items id item now) }
     ensures err { OnErr result (items.new.items ≡ items.old.items) }
 {
     let dir = item.parent;

@@ -9,6 +9,7 @@ ghost use Rattle.hfs_model.specs.Changes.{delete, rename, cat_move, create, set_
 ghost use Rattle.hfs_model.specs.FileIds.{to_create_file_id, to_delete_file_id, create_file_id, delete_file_id, resolve_file_id};
 ghost use Rattle.hfs_model.specs.Step.{step, is_reading, new_volume};
 ghost use Rattle.hfs_store.specs.Setting.{is_setting};
+ghost use Rattle.hfs_store.specs.PlainVolume.{HasMadeSome, with_last};
 ghost use Rattle.hfs_fields.specs.Names.{is_item_name};
 ghost use Rattle.hfs_store.specs.Found.{IsPlaceOf};
 
@@ -85,7 +86,7 @@ impl PlainVolume {
         requires free { self.old.next_id ≤ id }
         requires last { id < 4294967295 }
         requires room { valence (entries_of self.old) item.parent < 65535 }
-        ensures laid { OnOk result (self.new ≡ record self.old { items = map.insert self.old.items id item; next_id = id + 1 }) }
+        ensures laid { OnOk result (self.new ≡ with_last self.old id item) }
         ensures counted { OnOk result (valence (entries_of self.new) item.parent ≡ valence (entries_of self.old) item.parent + 1) }
         ensures err { OnErr result (self.new ≡ self.old) }
     {
@@ -676,7 +677,7 @@ impl PlainVolume {
     #[tactic(auto)]
     pub fn run(&mut self, calls: &[Call]) -> Result<Vec<Reply>, AllocError>
         ensures ok { IfOk result (λ replies. (self.new, replies.items) ≡ run self.old calls.now) }
-        ensures err { OnErr result ((made : ℕ) × (made ≤ length calls.now) × (self.new ≡ (run self.old (take made calls.now)).0)) }
+        ensures err { OnErr result (HasMadeSome self.old self.new calls.now) }
     {
         let mut replies = Vec::new(self.alloc);
         for call in calls {
