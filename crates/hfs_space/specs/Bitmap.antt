@@ -1,8 +1,9 @@
 -- The volume bitmap: one bit for each allocation block, which is set where the block is in use. Block numbers are logical
 -- blocks of 512 bytes, counted from 0, or allocation blocks, counted from 0, as it is said.
-use Rattle.std.specs.Prelude.{◌≡◌, ℕ, ◌+◌, ◌-◌, ◌/◌, ◌%◌, ◌<◌, ◌≤◌, ◌⊎◌, Bool, false, not, ◌==◌, List, slice_index, count_by}
+use Rattle.std.specs.Prelude.{◌≡◌, ℕ, ◌+◌, ◌-◌, ◌/◌, ◌%◌, ◌<◌, ◌≤◌, ◌⊎◌, Bool, false, not, ◌==◌, List, slice_index, count_by, ◌||◌, ◌&&◌}
 use Rattle.std.specs.List.{range_with_len}
 use Rattle.std.specs.Int.{bit_at}
+use Rattle.hfs_blocks.specs.Layers.{Numbered, changes, over}
 
 -- whether bit i of the bytes is set: bit 0 is the most significant bit of the first byte
 abbrev pub is_marked : List ℕ → ℕ → Bool
@@ -33,3 +34,15 @@ AreClear blocks start first count = (n : ℕ) → first ≤ n → n < first + co
 pub record KeepsOthers (old new : ℕ → List ℕ) (start first count : ℕ) : Type 0 where
   pub bits : (n : ℕ) → (n < first) ⊎ (first + count ≤ n) → is_used new start n ≡ is_used old start n
   pub blocks : (k : ℕ) → (k < start + first / 4096) ⊎ (start + bitmap_len (first + count) ≤ k) → new k ≡ old k
+
+-- over these blocks a patch has the bits of `count` allocation blocks from `first` on clear
+abbrev pub AreClearIn : Numbered → (ℕ → List ℕ) → ℕ → ℕ → ℕ → Type 0
+AreClearIn patch below start first count = AreClear (over (changes patch) below) start first count
+
+-- and beside these bits shows what the other patch showed
+abbrev pub KeepsOthersIn : Numbered → Numbered → (ℕ → List ℕ) → ℕ → ℕ → ℕ → Type 0
+KeepsOthersIn old new below start first count = KeepsOthers (over (changes old) below) (over (changes new) below) start first count
+
+-- a block with so many owners has none, or one and is marked
+abbrev pub is_owned_right : (ℕ → List ℕ) → ℕ → ℕ → ℕ → Bool
+is_owned_right blocks start block owners = (owners == 0) || ((owners == 1) && is_used blocks start block)

@@ -1,8 +1,9 @@
 -- The edges of extents: a block has as many owners as extents began up to it and did not end.
-use Rattle.std.specs.Prelude.{ℕ, ◌+◌, ◌==◌, nat_lt, List, count_by}
+use Rattle.std.specs.Prelude.{ℕ, ◌+◌, ◌==◌, nat_lt, List, count_by, map}
 use Rattle.hfs_fields.specs.declared.extent.Extent.{Extent}
 use Rattle.hfs_space.specs.declared.owners.Edge.{Edge}
 use Rattle.hfs_space.specs.declared.owners.Edge.TheVariants.{First, Behind}
+use Rattle.std.specs.List.{range_with_len}
 
 -- the first block of an extent, or the one behind its last
 abbrev pub block_at : Edge → Extent → ℕ
@@ -16,3 +17,7 @@ edge_count edge extents block = count_by (λ e. block_at edge e == block) extent
 -- how many extents have the edge before this block
 abbrev pub edges_before : Edge → List Extent → ℕ → ℕ
 edges_before edge extents block = count_by (λ e. nat_lt (block_at edge e) block) extents
+
+-- for each of the first n blocks, how many extents have the edge there
+abbrev pub edge_counts : Edge → List Extent → ℕ → List ℕ
+edge_counts edge extents n = map (edge_count edge extents) (range_with_len 0 n)

@@ -1,5 +1,5 @@
 -- The first place at which a check of extents or of space fails.
-use Rattle.std.specs.Prelude.{ℕ, ◌+◌, ◌*◌, Bool, ◌&&◌, ◌||◌, ◌==◌, nat_lt, nat_le, if◌then◌else◌, List, [], length, Option, Some, None}
+use Rattle.std.specs.Prelude.{ℕ, ◌+◌, ◌*◌, Bool, ◌&&◌, ◌||◌, ◌==◌, nat_lt, nat_le, if◌then◌else◌, List, [], length, Option, Some, None, ◌≡◌}
 use Rattle.std.specs.List.{list_all, range_with_len}
 use Rattle.std.specs.Option.{option_or, option_map}
 use Rattle.hfs_fields.specs.declared.mdb.Mdb.{Mdb}
@@ -8,9 +8,10 @@ use Rattle.hfs_fields.specs.declared.key.CatKey.{CatKey}
 use Rattle.hfs_fields.specs.declared.key.ExtKey.{ExtKey}
 use Rattle.hfs_btree.specs.Pairs.{Pairs}
 use Rattle.hfs_scans.specs.First.{first_failing}
-use Rattle.hfs_space.specs.Extents.{Overflow, block_total, record_extents}
+use Rattle.hfs_space.specs.Extents.{Overflow, block_total, record_extents, extent_blocks}
 use Rattle.hfs_space.specs.Owners.{Fork, forks_of, all_forks, extents_in, is_bad_blocks, goes_on_with, is_block_sound, is_stray_block}
 use Rattle.hfs_space.specs.Bitmap.{count_below, clear_count}
+use Rattle.hfs_space.specs.TreeKeys.{overflow_of}
 
 -- the extent's blocks are among the volume's first n
 abbrev pub is_extent_within : ℕ → Extent → Bool
@@ -70,3 +71,18 @@ space_fault blocks mdb owned = option_or (block_fault blocks mdb owned) (free_fa
 -- how many blocks are marked that nobody owns
 abbrev pub stray_count : (ℕ → List ℕ) → Mdb → List ℕ → ℕ
 stray_count blocks mdb owned = count_below (is_stray_block blocks mdb owned) mdb.allocation_blocks
+
+-- the extents lie in the volume, and their blocks have room for so many bytes
+abbrev pub can_hold : Mdb → List Extent → ℕ → Bool
+can_hold mdb extents bytes = are_extents_within mdb.allocation_blocks extents && have_room mdb extents bytes
+
+-- the first place where space is wrong, and how many blocks are stray, where these extents are owned
+abbrev pub space_fault_with : (ℕ → List ℕ) → Mdb → List Extent → Option ℕ
+space_fault_with blocks mdb owned = space_fault blocks mdb (extent_blocks owned)
+
+abbrev pub strays_with : (ℕ → List ℕ) → Mdb → List Extent → ℕ
+strays_with blocks mdb owned = stray_count blocks mdb (extent_blocks owned)
+
+-- it is the first fault of forks, where these are the nodes of the extents tree
+abbrev pub IsForkFault : Mdb → List (List ℕ) → Pairs CatKey → Option ℕ → Type 0
+IsForkFault mdb nodes catalog fault = fault ≡ fork_fault mdb (overflow_of nodes) catalog

@@ -1,5 +1,5 @@
 -- The bytes of forks, and of the trees' files, in the logical blocks of a volume.
-use Rattle.std.specs.Prelude.{ℕ, ◌+◌, ◌*◌, ◌/◌, ◌≤◌, List, take, drop, map}
+use Rattle.std.specs.Prelude.{ℕ, ◌+◌, ◌*◌, ◌/◌, ◌≤◌, List, take, drop, map, ◌-◌, ◌≡◌, ◌++◌}
 use Rattle.std.specs.List.{flat_map, range_with_len}
 use Rattle.hfs_fields.specs.declared.extent.Extent.{Extent}
 use Rattle.hfs_fields.specs.declared.mdb.Mdb.{Mdb}
@@ -41,3 +41,15 @@ fork_bytes blocks mdb extents len = take len (joined (file_blocks blocks mdb ext
 -- what is read of these bytes from an offset on: so many of them, or as many as there are
 abbrev pub read_from : List ℕ → ℕ → ℕ → List ℕ
 read_from bytes offset count = take count (drop offset bytes)
+
+-- what is read of a fork with these extents and this logical length
+abbrev pub read_of : (ℕ → List ℕ) → Mdb → List Extent → ℕ → ℕ → ℕ → List ℕ
+read_of blocks mdb extents len offset count = read_from (fork_bytes blocks mdb extents len) offset count
+
+-- bytes of a run of blocks: those from `from` up to `end`
+abbrev pub run_part : (ℕ → List ℕ) → Run → ℕ → ℕ → List ℕ
+run_part blocks run from end = take (end - from) (drop from (run_bytes blocks run.first run.count))
+
+-- behind the old bytes, `count` bytes of an extent from `from` on
+abbrev pub Gains : (ℕ → List ℕ) → Mdb → Extent → ℕ → ℕ → List ℕ → List ℕ → Type 0
+Gains blocks mdb e from count old new = new ≡ old ++ take count (drop from (extent_bytes blocks mdb e))

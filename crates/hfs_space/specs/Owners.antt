@@ -1,6 +1,6 @@
 -- The forks of a volume, and who owns its allocation blocks.
-use Rattle.std.specs.Prelude.{ℕ, Bool, ◌&&◌, ◌||◌, ◌==◌, if◌then◌else◌, List, [], ◌∷◌, ◌++◌, filter, count_by}
-use Rattle.std.specs.List.{flat_map, list_any}
+use Rattle.std.specs.Prelude.{ℕ, Bool, ◌&&◌, ◌||◌, ◌==◌, if◌then◌else◌, List, [], ◌∷◌, ◌++◌, filter, count_by, map}
+use Rattle.std.specs.List.{flat_map, list_any, range_with_len}
 use Rattle.std.specs.Ordering.{is_eq}
 use Rattle.hfs_fields.specs.declared.mdb.Mdb.{Mdb}
 use Rattle.hfs_fields.specs.declared.extent.Extent.{Extent}
@@ -12,6 +12,7 @@ use Rattle.hfs_fields.specs.Keys.{ext_cmp}
 use Rattle.hfs_btree.specs.Pairs.{Pairs}
 use Rattle.hfs_space.specs.Extents.{Overflow, block_total, extent_blocks, record_extents, run_on, fork_extents}
 use Rattle.hfs_space.specs.Bitmap.{is_used}
+use Rattle.hfs_space.specs.TreeKeys.{overflow_of}
 
 -- ---- forks
 
@@ -82,3 +83,15 @@ is_block_sound blocks mdb owned block = (owners owned block == 0) || ((owners ow
 -- the block is marked, and nobody owns it
 unfoldable pub is_stray_block : (ℕ → List ℕ) → Mdb → List ℕ → ℕ → Bool
 is_stray_block blocks mdb owned block = (owners owned block == 0) && is_used blocks mdb.bitmap_start block
+
+-- the extents of a file's forks
+abbrev pub extents_of_file : Overflow → FileRecord → List Extent
+extents_of_file overflow file = flat_map (extents_in overflow) (forks_of_file file)
+
+-- for each of the first n blocks, how many own it
+abbrev pub owner_counts : List ℕ → ℕ → List ℕ
+owner_counts owned n = map (owners owned) (range_with_len 0 n)
+
+-- all extents that somebody owns, where these are the nodes of the extents tree
+abbrev pub owned_in : Mdb → List (List ℕ) → Pairs CatKey → List Extent
+owned_in mdb nodes catalog = owned_extents mdb (overflow_of nodes) catalog

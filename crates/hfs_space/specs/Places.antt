@@ -1,5 +1,5 @@
 -- Places in forks.
-use Rattle.std.specs.Prelude.{ℕ, ◌*◌, ◌<◌, ◌≤◌, List, length, drop, slice_index_or}
+use Rattle.std.specs.Prelude.{ℕ, ◌*◌, ◌<◌, ◌≤◌, List, length, drop, slice_index_or, take}
 use Rattle.hfs_fields.specs.declared.extent.Extent.{Extent}
 use Rattle.hfs_fields.specs.declared.mdb.Mdb.{Mdb}
 use Rattle.hfs_space.specs.declared.fork_place.ForkPlace.{ForkPlace}
@@ -14,3 +14,7 @@ IsPlace mdb extents place =
 -- the bytes of the extents' blocks from the place on
 abbrev pub bytes_behind : (ℕ → List ℕ) → Mdb → List Extent → ForkPlace → List ℕ
 bytes_behind blocks mdb extents place = drop place.passed (all_bytes blocks mdb (drop place.extent extents))
+
+-- so many of the bytes from the place on, or as many as there are
+abbrev pub bytes_from : (ℕ → List ℕ) → Mdb → List Extent → ForkPlace → ℕ → List ℕ
+bytes_from blocks mdb extents place count = take count (bytes_behind blocks mdb extents place)

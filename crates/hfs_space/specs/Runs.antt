@@ -1,5 +1,5 @@
 -- The records of the extents tree that forks go on with, by their places, and the files of a catalog by their numbers.
-use Rattle.std.specs.Prelude.{◌≡◌, ℕ, ◌+◌, ◌<◌, Bool, ◌&&◌, ◌||◌, ◌==◌, nat_lt, if◌then◌else◌, List, [], ◌∷◌, length, slice_index_or, Option, Some, None}
+use Rattle.std.specs.Prelude.{◌≡◌, ℕ, ◌+◌, ◌<◌, Bool, ◌&&◌, ◌||◌, ◌==◌, nat_lt, if◌then◌else◌, List, [], ◌∷◌, length, slice_index_or, Option, Some, None, false, ◌≤◌, ◌++◌}
 use Rattle.std.specs.List.{flat_map, list_all, list_any}
 use Rattle.std.specs.Ordering.{is_eq}
 use Rattle.hfs_fields.specs.declared.mdb.Mdb.{Mdb}
@@ -12,9 +12,10 @@ use Rattle.hfs_btree.specs.Pairs.{Pairs}
 use Rattle.hfs_space.specs.declared.files.CatalogFile.{CatalogFile}
 use Rattle.hfs_space.specs.declared.fork_kind.ForkKind.{ForkKind}
 use Rattle.hfs_fields.specs.declared.file_record.ForkRecord.{ForkRecord}
-use Rattle.hfs_space.specs.Extents.{Overflow, block_total, run_on, fork_byte}
-use Rattle.hfs_space.specs.Owners.{Fork, forks_of_file, catalog_fork, goes_on_with}
-use Rattle.hfs_space.specs.Faults.{is_fork_right}
+use Rattle.hfs_space.specs.Extents.{Overflow, block_total, run_on, fork_byte, record_extents, fork_extents}
+use Rattle.hfs_space.specs.Owners.{Fork, forks_of_file, catalog_fork, goes_on_with, extents_in, is_bad_blocks}
+use Rattle.hfs_space.specs.Faults.{is_fork_right, overflow_fault, are_extents_within}
+use Rattle.hfs_fields.specs.declared.file_record.FileRecord.{FileRecord}
 
 -- ---- runs
 
@@ -72,3 +73,53 @@ AreMarks overflow forks marks =
 -- the forks that may go on in the extents tree, where these are the files
 abbrev pub forks_with : Mdb → List CatalogFile → List Fork
 forks_with mdb files = catalog_fork mdb ∷ forks_in files
+
+-- the extents of these files' forks
+abbrev pub extents_of_files : Overflow → List CatalogFile → List Extent
+extents_of_files overflow files = flat_map (extents_in overflow) (forks_in files)
+
+-- the record of this number, where it is a file's with this body
+abbrev pub file_at : ℕ → List ℕ → CatalogFile
+file_at number body = record { number = number; file = file_record_of body }
+
+-- the first n records stand before those of this fork
+abbrev pub StandBefore : Overflow → ℕ → ℕ → ℕ → Type 0
+StandBefore overflow file fork n = (k : ℕ) (d : ExtKey × List ℕ) → k < n → is_of_fork file fork (slice_index_or overflow k d) ≡ false
+
+-- and no other one does
+abbrev pub StandBehind : Overflow → ℕ → ℕ → ℕ → Type 0
+StandBehind overflow file fork n =
+    (k : ℕ) (d : ExtKey × List ℕ) → n ≤ k → k < length overflow → is_before_fork file fork (slice_index_or overflow k d) ≡ false
+
+-- the marks are the old ones, and those of the records that a fork goes on with whose record has these first extents
+abbrev pub AddsRun : Overflow → ℕ → ForkKind → List Extent → List Bool → List Bool → Type 0
+AddsRun overflow file kind first old new = AddsMarks overflow (run_of_fork file (fork_byte kind) first overflow) old new
+
+-- behind the old extents, those of a fork whose record has these first ones
+abbrev pub AddsFork : Overflow → ℕ → ForkKind → List Extent → List Extent → List Extent → Type 0
+AddsFork overflow file kind first old new = new ≡ old ++ fork_extents overflow file (fork_byte kind) first
+
+-- this holds of each catalog whose files these are
+abbrev pub OfCatalog : List CatalogFile → (Pairs CatKey → Type 0) → Type 0
+OfCatalog files P = (catalog : Pairs CatKey) → files ≡ files_in 0 catalog → P catalog
+
+-- this holds of each catalog of so many records whose files these are
+abbrev pub OfCatalogOf : ℕ → List CatalogFile → (Pairs CatKey → Type 0) → Type 0
+OfCatalogOf records files P = (catalog : Pairs CatKey) → files ≡ files_in 0 catalog → records ≡ length catalog → P catalog
+
+-- whether both forks of a file are right
+abbrev pub is_file_right : Mdb → Overflow → FileRecord → Bool
+is_file_right mdb overflow file = list_all (is_fork_right mdb overflow) (forks_of_file file)
+
+-- whether a fork of a file's record is right
+abbrev pub is_record_fork_right : Mdb → Overflow → ℕ → ForkKind → ForkRecord → Bool
+is_record_fork_right mdb overflow file kind fork = is_fork_right mdb overflow (fork_in file kind fork)
+
+-- the first wrong record of the extents tree, where these are the files
+abbrev pub overflow_fault_with : Mdb → Overflow → List CatalogFile → Option ℕ
+overflow_fault_with mdb overflow files = overflow_fault mdb overflow (forks_with mdb files)
+
+-- whether a record of the extents tree has a block, and is one of the bad blocks that lies in the volume, or one that is used
+abbrev pub is_overflow_right_if : Mdb → Bool → ExtKey × List ℕ → Bool
+is_overflow_right_if mdb used r = nat_lt 0 (block_total (record_extents r.1))
+    && (if is_bad_blocks r then are_extents_within mdb.allocation_blocks (record_extents r.1) else used)

@@ -27,3 +27,7 @@ pub nodes_in-tree_blocks : (blocks : ℕ → List ℕ) (mdb : Mdb) (extents : Li
     → flat_map run_of runs ≡ tree_blocks mdb extents size → nodes_in blocks runs ≡ tree_nodes blocks mdb extents size
 unfolding nodes_in tree_nodes tree_blocks
 nodes_in-tree_blocks blocks mdb extents size runs e = ap (map blocks) e ∙ sym (take-map blocks (node_count size) (block_numbers mdb extents))
+
+-- in runs of these blocks lie the nodes of the tree's file
+abbrev pub HoldNodes : (ℕ → List ℕ) → Mdb → List Extent → ℕ → List Run → Type 0
+HoldNodes blocks mdb extents size runs = nodes_in blocks runs ≡ tree_nodes blocks mdb extents size

@@ -59,8 +59,8 @@ impl<B: Blocks> Bitmap<'_, B> {
     /// be set; no other bit and no other block has changed then either.
     pub fn release(&self, patch: &mut Patch, first: u16, count: u16) -> Result<(), AllocError>
         requires { first + count ≤ self.now.count }
-        ensures cleared { OnOk result (spec.AreClear (over (changes patch.new) (B.blocks self.now.blocks.now)) self.now.start first count) }
-        ensures others { spec.KeepsOthers (over (changes patch.old) (B.blocks self.now.blocks.now)) (over (changes patch.new) (B.blocks self.now.blocks.now)) self.now.start first count }
+        ensures cleared { OnOk result (spec.AreClearIn patch.new (B.blocks self.now.blocks.now) self.now.start first count) }
+        ensures others { spec.KeepsOthersIn patch.old patch.new (B.blocks self.now.blocks.now) self.now.start first count }
     {
         let first = u32::from(first);
         let end = first + u32::from(count);

@@ -19,7 +19,7 @@ fn have_room(mdb: &Mdb, extents: &[Extent], bytes: u32) -> bool
 
 /// Whether the extents lie among the volume's allocation blocks, and their blocks have room for so many bytes.
 pub(crate) fn can_hold(mdb: &Mdb, extents: &[Extent], bytes: u32) -> bool
-    ensures { result ≡ (spec.are_extents_within mdb.now.allocation_blocks extents.now && spec.have_room mdb.now extents.now bytes) }
+    ensures { result ≡ spec.can_hold mdb.now extents.now bytes }
 {
     are_within(extents, mdb.allocation_blocks) && have_room(mdb, extents, bytes)
 }

@@ -2,7 +2,7 @@
 
 ghost use Rattle.std.specs.Prelude.{◌≡◌, ℕ, ◌+◌, ◌<◌, ◌≤◌, ◌++◌, ◌^◌, [], length, IfOk, IsTrue, ◌↔◌};
 ghost use Rattle.hfs_space.specs.Extents as spec;
-ghost use Rattle.hfs_space.specs.TreeKeys.{IsExtentsTree, overflow_of};
+ghost use Rattle.hfs_space.specs.TreeKeys.{IsExtentsTree, overflow_of, GoesOnIn, extents_through};
 
 use crate::fork_kind::{ForkKind, fork_byte};
 use hfs_btree::{Nodes, find};
@@ -46,7 +46,7 @@ fn next_extents<N: Nodes>(
     block: u32,
 ) -> Result<Option<[Extent; 3]>, AllocError>
     requires { IsExtentsTree (N.nodes tree.now) }
-    ensures { IfOk result (λ found. spec.GoesOnWith (overflow_of (N.nodes tree.now)) file (spec.fork_byte fork) block found) }
+    ensures { IfOk result (λ found. GoesOnIn (N.nodes tree.now) file fork block found) }
 {
     let Ok(block) = u16::try_from(block) else {
         return Ok(None);
@@ -83,7 +83,7 @@ pub fn fork_extents<N: Nodes>(
     first: &[Extent; 3],
 ) -> Result<Vec<Extent>, AllocError>
     requires { IsExtentsTree (N.nodes tree.now) }
-    ensures { IfOk result (λ extents. extents.items ≡ spec.fork_extents (overflow_of (N.nodes tree.now)) file (spec.fork_byte fork) first.now) }
+    ensures { IfOk result (λ extents. extents.items ≡ extents_through (N.nodes tree.now) file fork first.now) }
 {
     let mut extents = Vec::from_slice(alloc, first)?;
     let mut blocks = block_total(first);

@@ -2,6 +2,7 @@
 ghost use Rattle.hfs_fields.specs.Records.{is_file, begins_file, file_record_of};
 ghost use Rattle.std.specs.Prelude.{IsTrue};
 ghost use Rattle.std.specs.Option.{SomeIff};
+ghost use Rattle.hfs_space.specs.Runs.{file_at};
 
 use hfs_fields::FileRecord;
 
@@ -18,7 +19,7 @@ impl CatalogFile {
     /// The file whose record is the catalog's of this number. None exactly where the record's body is no file's.
     #[tactic(auto, unfolding(hfs_fields::specs::Records::begins_file))]
     pub fn read(number: usize, body: &[u8]) -> Option<CatalogFile>
-        ensures { SomeIff result (IsTrue (is_file body.now)) (record { number = number; file = file_record_of body.now }) }
+        ensures { SomeIff result (IsTrue (is_file body.now)) (file_at number body.now) }
     {
         if body.len() != FileRecord::LENGTH {
             return None;

@@ -3,8 +3,8 @@
 ghost use Rattle.std.specs.Prelude.{◌≡◌, ◌+◌, ◌-◌, ◌*◌, ◌<◌, ◌≤◌, ◌++◌, length, OnOk, IfOk, take, drop};
 ghost use Rattle.hfs_blocks.specs.Blocks.{run_of};
 ghost use Rattle.hfs_space.specs.Extents.{IsExtentWithin, AreExtentsWithin};
-ghost use Rattle.hfs_space.specs.Forks.{HasArea, blocks_each, run_bytes, extent_bytes, fork_bytes, read_from};
-ghost use Rattle.hfs_space.specs.Places.{IsPlace, bytes_behind};
+ghost use Rattle.hfs_space.specs.Forks.{HasArea, blocks_each, run_bytes, extent_bytes, fork_bytes, read_from, run_part, Gains, read_of};
+ghost use Rattle.hfs_space.specs.Places.{IsPlace, bytes_behind, bytes_from};
 
 use crate::fork_place::ForkPlace;
 use hfs_blocks::{Blocks, Run};
@@ -22,7 +22,7 @@ fn read_run<B: Blocks>(
     requires within { run.first + run.count ≤ B.total blocks.now }
     requires order { from ≤ end }
     requires fits { end ≤ 512 * run.count }
-    ensures { OnOk result (bytes.new.items ≡ bytes.old.items ++ take (end - from) (drop from (run_bytes (B.blocks blocks.now) run.first run.count))) }
+    ensures { OnOk result (bytes.new.items ≡ bytes.old.items ++ run_part (B.blocks blocks.now) run from end) }
 {
     let mut block = [0; 512];
     let mut at = from;
@@ -48,7 +48,7 @@ fn read_extent<B: Blocks>(
     requires area { HasArea mdb.now (B.total blocks.now) }
     requires within { IsExtentWithin mdb.now.allocation_blocks extent }
     requires fits { from + count ≤ 512 * (extent.count * blocks_each mdb.now) }
-    ensures { OnOk result (bytes.new.items ≡ bytes.old.items ++ take count (drop from (extent_bytes (B.blocks blocks.now) mdb.now extent))) }
+    ensures { OnOk result (Gains (B.blocks blocks.now) mdb.now extent from count bytes.old.items bytes.new.items) }
 {
     if count == 0 {
         return Ok(());
@@ -78,7 +78,7 @@ pub fn read_fork<B: Blocks>(
 ) -> Result<Vec<u8>, AllocError>
     requires area { HasArea mdb.now (B.total blocks.now) }
     requires extents { AreExtentsWithin mdb.now.allocation_blocks extents.now }
-    ensures { IfOk result (λ bytes. bytes.items ≡ read_from (fork_bytes (B.blocks blocks.now) mdb.now extents.now length) offset count) }
+    ensures { IfOk result (λ v. v.items ≡ read_of (B.blocks blocks.now) mdb.now extents.now length offset count) }
 {
     let end = u64::from(length).min(u64::from(offset) + u64::from(count));
     let mut skip = u64::from(offset);
@@ -109,7 +109,7 @@ pub fn read_on<B: Blocks>(
     requires area { HasArea mdb.now (B.total blocks.now) }
     requires extents { AreExtentsWithin mdb.now.allocation_blocks extents.now }
     requires place { IsPlace mdb.now extents.now place }
-    ensures bytes { IfOk result (λ read. read.0.items ≡ take count (bytes_behind (B.blocks blocks.now) mdb.now extents.now place)) }
+    ensures bytes { IfOk result (λ r. r.0.items ≡ bytes_from (B.blocks blocks.now) mdb.now extents.now place count) }
     ensures place { IfOk result (λ read. IsPlace mdb.now extents.now read.1) }
     ensures rest { IfOk result (λ read. bytes_behind (B.blocks blocks.now) mdb.now extents.now read.1
         ≡ drop count (bytes_behind (B.blocks blocks.now) mdb.now extents.now place)) }

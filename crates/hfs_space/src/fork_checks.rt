@@ -7,6 +7,7 @@ ghost use Rattle.hfs_btree.specs.Pairs.{Pairs, Rises};
 ghost use Rattle.hfs_space.specs.Extents as extents;
 ghost use Rattle.hfs_space.specs.Owners.{forks_of_file, is_bad_blocks};
 ghost use Rattle.hfs_space.specs.Runs as runs;
+ghost use Rattle.hfs_space.specs.Runs.{OfCatalogOf};
 ghost use Rattle.hfs_space.specs.Faults as spec;
 ghost use Rattle.hfs_space.specs.TreeKeys.{IsExtentsTree, overflow_of};
 
@@ -32,7 +33,7 @@ fn is_fork_right(
     extents: &mut Vec<Extent>,
 ) -> Result<bool, AllocError>
     requires { Rises ext_cmp overflow.now }
-    ensures { IfOk result (λ right. right ≡ spec.is_fork_right mdb.now overflow.now (runs.fork_in file kind fork.now)) }
+    ensures { IfOk result (λ right. right ≡ runs.is_record_fork_right mdb.now overflow.now file kind fork.now) }
 {
     extents.clear();
     push_fork(overflow, file, kind, &fork.extents, extents)?;
@@ -48,7 +49,7 @@ fn are_forks_right(
     extents: &mut Vec<Extent>,
 ) -> Result<bool, AllocError>
     requires { Rises ext_cmp overflow.now }
-    ensures { IfOk result (λ right. right ≡ list_all (spec.is_fork_right mdb.now overflow.now) (forks_of_file file.now)) }
+    ensures { IfOk result (λ right. right ≡ runs.is_file_right mdb.now overflow.now file.now) }
 {
     let data = is_fork_right(mdb, overflow, file.id, ForkKind::Data, &file.data, extents)?;
     let resource = is_fork_right(
@@ -154,7 +155,7 @@ fn is_within(r: &OverflowRecord, blocks: u16) -> bool
 /// Whether a record of the extents tree has a block, and is one of the bad blocks that lies in the volume, or one that is
 /// used.
 fn is_record_right(mdb: &Mdb, r: &OverflowRecord, used: bool) -> bool
-    ensures { result ≡ (nat_lt 0 (extents.block_total (extents.record_extents r.now.1)) && (if is_bad_blocks r.now then spec.are_extents_within mdb.now.allocation_blocks (extents.record_extents r.now.1) else used)) }
+    ensures { result ≡ runs.is_overflow_right_if mdb.now used r.now }
 {
     if blocks_in(r) == 0 {
         return false;
@@ -175,7 +176,7 @@ fn overflow_fault(
     files: &[CatalogFile],
 ) -> Result<Option<usize>, AllocError>
     requires { Rises ext_cmp overflow.now }
-    ensures fault { IfOk result (λ fault. fault ≡ spec.overflow_fault mdb.now overflow.now (runs.forks_with mdb.now files.now)) }
+    ensures fault { IfOk result (λ fault. fault ≡ runs.overflow_fault_with mdb.now overflow.now files.now) }
     ensures bound { IfOk result (λ fault. IfSome fault (λ i. i < length overflow.now)) }
 {
     let used = used_marks(alloc, mdb, overflow, files)?;
@@ -207,7 +208,7 @@ pub fn fork_fault<N: Nodes>(
 ) -> Result<Option<usize>, AllocError>
     requires tree { IsExtentsTree (N.nodes tree.now) }
     requires few { records < 2 ^ 63 }
-    ensures { (catalog : Pairs CatKey) → files.now ≡ runs.files_in 0 catalog → records ≡ length catalog → IfOk result (λ fault. fault ≡ spec.fork_fault mdb.now (overflow_of (N.nodes tree.now)) catalog) }
+    ensures { OfCatalogOf records files.now (λ c. IfOk result (spec.IsForkFault mdb.now (N.nodes tree.now) c)) }
 {
     let overflow = overflow_records(alloc, tree)?;
     let wrong = first_wrong_file(alloc, mdb, &overflow, files)?;

@@ -7,6 +7,7 @@ ghost use Rattle.hfs_btree.specs.Pairs.{Pairs, Rises};
 ghost use Rattle.hfs_space.specs.Extents.{fork_byte};
 ghost use Rattle.hfs_space.specs.Owners as spec;
 ghost use Rattle.hfs_space.specs.Runs as runs;
+ghost use Rattle.hfs_space.specs.Runs.{OfCatalog};
 ghost use Rattle.hfs_space.specs.TreeKeys.{IsExtentsTree, overflow_of};
 
 use crate::files::CatalogFile;
@@ -25,7 +26,7 @@ fn push_file(
     owned: &mut Vec<Extent>,
 ) -> Result<(), AllocError>
     requires { Rises ext_cmp overflow.now }
-    ensures { OnOk result (owned.new.items ≡ owned.old.items ++ flat_map (spec.extents_in overflow.now) (spec.forks_of_file file.now)) }
+    ensures { OnOk result (owned.new.items ≡ owned.old.items ++ spec.extents_of_file overflow.now file.now) }
 {
     push_fork(overflow, file.id, ForkKind::Data, &file.data.extents, owned)?;
     push_fork(
@@ -44,7 +45,7 @@ fn push_files(
     owned: &mut Vec<Extent>,
 ) -> Result<(), AllocError>
     requires { Rises ext_cmp overflow.now }
-    ensures { OnOk result (owned.new.items ≡ owned.old.items ++ flat_map (spec.extents_in overflow.now) (runs.forks_in files.now)) }
+    ensures { OnOk result (owned.new.items ≡ owned.old.items ++ runs.extents_of_files overflow.now files.now) }
 {
     for file in files {
         push_file(overflow, &file.file, owned)?;
@@ -77,7 +78,7 @@ pub fn owned_extents<N: Nodes>(
     files: &[CatalogFile],
 ) -> Result<Vec<Extent>, AllocError>
     requires { IsExtentsTree (N.nodes tree.now) }
-    ensures { (catalog : Pairs CatKey) → files.now ≡ runs.files_in 0 catalog → IfOk result (λ owned. owned.items ≡ spec.owned_extents mdb.now (overflow_of (N.nodes tree.now)) catalog) }
+    ensures { OfCatalog files.now (λ c. IfOk result (λ o. o.items ≡ spec.owned_in mdb.now (N.nodes tree.now) c)) }
 {
     let overflow = overflow_records(alloc, tree)?;
     let mut owned = Vec::new(alloc);

@@ -34,7 +34,7 @@ fn edge_counts(
     extents: &[Extent],
     edge: Edge,
 ) -> Result<Vec<usize>, AllocError>
-    ensures { IfOk result (λ counts. counts.items ≡ map (edges.edge_count edge extents.now) (range_with_len 0 blocks)) }
+    ensures { IfOk result (λ counts. counts.items ≡ edges.edge_counts edge extents.now blocks) }
 {
     let mut counts = vec![in alloc; 0; usize::from(blocks)]?;
     for extent in extents {
@@ -53,7 +53,7 @@ pub(crate) fn owner_counts(
     blocks: u16,
     extents: &[Extent],
 ) -> Result<Vec<usize>, AllocError>
-    ensures { IfOk result (λ counts. counts.items ≡ map (spec.owners (extent_blocks extents.now)) (range_with_len 0 blocks)) }
+    ensures { IfOk result (λ counts. counts.items ≡ spec.owner_counts (extent_blocks extents.now) blocks) }
 {
     let first = edge_counts(alloc, blocks, extents, Edge::First)?;
     let behind = edge_counts(alloc, blocks, extents, Edge::Behind)?;

@@ -44,8 +44,8 @@ fn goes_on(r: &OverflowRecord, file: u32, fork: u8, block: u32) -> bool
 fn first_of_fork(overflow: &[OverflowRecord], file: u32, fork: u8) -> usize
     requires { Rises ext_cmp overflow.now }
     ensures bound { result ≤ length overflow.now }
-    ensures before { (k : ℕ) (d : ExtKey × List ℕ) → k < result → spec.is_of_fork file fork (slice_index_or overflow.now k d) ≡ false }
-    ensures behind { (k : ℕ) (d : ExtKey × List ℕ) → result ≤ k → k < length overflow.now → spec.is_before_fork file fork (slice_index_or overflow.now k d) ≡ false }
+    ensures before { spec.StandBefore overflow.now file fork result }
+    ensures behind { spec.StandBehind overflow.now file fork result }
 {
     overflow.partition_point(|r| is_before_fork(r, file, fork))
 }
@@ -61,7 +61,7 @@ pub(crate) fn mark_run(
 )
     requires rises { Rises ext_cmp overflow.now }
     requires length { length marks.old ≡ length overflow.now }
-    ensures { spec.AddsMarks overflow.now (spec.run_of_fork file (fork_byte kind) first.now overflow.now) marks.old marks.new }
+    ensures { spec.AddsRun overflow.now file kind first.now marks.old marks.new }
 {
     let fork = fork_byte(kind);
     let mut block = block_total(first);
@@ -87,7 +87,7 @@ pub(crate) fn push_fork(
     extents: &mut Vec<Extent>,
 ) -> Result<(), AllocError>
     requires { Rises ext_cmp overflow.now }
-    ensures { OnOk result (extents.new.items ≡ extents.old.items ++ fork_extents overflow.now file (fork_byte kind) first.now) }
+    ensures { OnOk result (spec.AddsFork overflow.now file kind first.now extents.old.items extents.new.items) }
 {
     extents.extend_from_slice(first)?;
     let fork = fork_byte(kind);

@@ -1,6 +1,6 @@
 //! The check of mounting on who owns the allocation blocks.
 ghost use Rattle.std.specs.Prelude.{◌≡◌, ◌+◌, ◌<◌, ◌≤◌, ◌==◌, ◌&&◌, ◌||◌, IfOk};
-ghost use Rattle.hfs_space.specs.Bitmap.{bitmap_len, is_used};
+ghost use Rattle.hfs_space.specs.Bitmap.{bitmap_len, is_used, is_owned_right};
 ghost use Rattle.hfs_space.specs.Extents.{extent_blocks};
 ghost use Rattle.hfs_space.specs.Faults as spec;
 
@@ -13,7 +13,7 @@ use std::alloc::{AllocError, Global};
 /// Whether a block with so many owners is sound: it has none, or one and is marked.
 fn is_sound<B: Blocks>(bitmap: &Bitmap<'_, B>, block: u16, owners: usize) -> bool
     requires { block < bitmap.now.count }
-    ensures { result ≡ (owners == 0 || (owners == 1 && is_used (B.blocks bitmap.now.blocks.now) bitmap.now.start block)) }
+    ensures { result ≡ is_owned_right (B.blocks bitmap.now.blocks.now) bitmap.now.start block owners }
 {
     owners == 0 || (owners == 1 && bitmap.is_used(block))
 }
@@ -40,7 +40,7 @@ pub fn space_fault<B: Blocks>(
     owned: &[Extent],
 ) -> Result<Option<u32>, AllocError>
     requires { mdb.now.bitmap_start + bitmap_len mdb.now.allocation_blocks ≤ B.total blocks.now }
-    ensures { IfOk result (λ fault. fault ≡ spec.space_fault (B.blocks blocks.now) mdb.now (extent_blocks owned.now)) }
+    ensures { IfOk result (λ fault. fault ≡ spec.space_fault_with (B.blocks blocks.now) mdb.now owned.now) }
 {
     let bitmap = Bitmap {
         blocks,
@@ -70,7 +70,7 @@ pub fn stray_count<B: Blocks>(
     owned: &[Extent],
 ) -> Result<u32, AllocError>
     requires { mdb.now.bitmap_start + bitmap_len mdb.now.allocation_blocks ≤ B.total blocks.now }
-    ensures { IfOk result (λ strays. strays ≡ spec.stray_count (B.blocks blocks.now) mdb.now (extent_blocks owned.now)) }
+    ensures { IfOk result (λ strays. strays ≡ spec.strays_with (B.blocks blocks.now) mdb.now owned.now) }
 {
     let bitmap = Bitmap {
         blocks,
