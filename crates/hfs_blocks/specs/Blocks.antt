@@ -39,3 +39,7 @@ pub record AreRunsWithin (runs : List Run) (total : ℕ) : Type 0 where
   pub within : All (λ run. run.first + run.count ≤ total) runs
   pub few : total_of runs < 2 ^ 32
   pub counted : AreCounted runs
+
+-- the node with this number in its file comes before the end of this run
+abbrev pub IsBeforeEnd : ℕ → Run → Type 0
+IsBeforeEnd n run = n < run.before + run.count

@@ -85,3 +85,11 @@ over-with_change changes below n b i k = by (nat_eq n k) i
     by : (t : Bool) → unwrap_or (if t then Some b else changes k) (below k) ≡ (if t then b else unwrap_or (changes k) (below k))
     by true = refl
     by false = refl
+
+-- no block came but those that another has
+abbrev pub GainsOnly : Changes → Changes → Changes → Type 0
+GainsOnly old other new = (k : ℕ) → IsSome (new k) → IsSome (old k) ⊎ IsSome (other k)
+
+-- over these blocks, a patch shows the blocks of another that was laid over the old one
+abbrev pub IsLaid : (ℕ → List ℕ) → Numbered → Numbered → Numbered → Type 0
+IsLaid below old other new = ShowsLaid below (changes old) (changes other) (changes new)

@@ -3,7 +3,7 @@
 ghost use Rattle.std.specs.Prelude.{◌≡◌, ℕ, ◌<◌, ◌⊎◌, [], length, Some, OnOk, OnErr, IsSome, nat_eq, if◌then◌else◌};
 ghost use Rattle.std.specs.List.{IsDistinct};
 ghost use Rattle.std.specs.Option.{option_copied, option_or};
-ghost use Rattle.hfs_blocks.specs.Layers.{changes, numbers, with_change, AreWhole, AreWithin, HasJoined, ShowsSame, ShowsLaid};
+ghost use Rattle.hfs_blocks.specs.Layers.{changes, numbers, with_change, AreWhole, AreWithin, HasJoined, ShowsSame, ShowsLaid, GainsOnly, IsLaid};
 
 use crate::blocks::Blocks;
 use crate::patched::Patched;
@@ -99,7 +99,7 @@ impl Patch {
         ensures same { ShowsSame (B.blocks below.now) (changes self.old) (changes self.new) }
         ensures kept { (k : ℕ) → IsSome (changes self.old k) → IsSome (changes self.new k) }
         ensures entered { OnOk result ((k : ℕ) → IsSome (changes blocks.now.entries k) → IsSome (changes self.new k)) }
-        ensures no_other { (k : ℕ) → IsSome (changes self.new k) → IsSome (changes self.old k) ⊎ IsSome (changes blocks.now.entries k) }
+        ensures no_other { GainsOnly (changes self.old) (changes blocks.now.entries) (changes self.new) }
         ensures within { AreWithin (changes self.old) (B.total below.now) → AreWithin (changes self.new) (B.total below.now) }
     {
         for i in 0..blocks.len() {
@@ -140,7 +140,7 @@ impl Patch {
     /// more blocks, but over those of `below` it is as it was.
     pub fn lay<B: Blocks>(&mut self, below: &B, patch: &Patch) -> Result<(), AllocError>
         requires { AreWithin (changes patch.now) (B.total below.now) }
-        ensures laid { OnOk result (ShowsLaid (B.blocks below.now) (changes self.old) (changes patch.now) (changes self.new)) }
+        ensures laid { OnOk result (IsLaid (B.blocks below.now) self.old patch.now self.new) }
         ensures kept { OnErr result (ShowsSame (B.blocks below.now) (changes self.old) (changes self.new)) }
         ensures joined { OnOk result (HasJoined (changes self.old) (changes patch.now) (changes self.new)) }
         ensures within { AreWithin (changes self.old) (B.total below.now) → AreWithin (changes self.new) (B.total below.now) }

@@ -2,7 +2,7 @@
 
 ghost use Rattle.std.specs.Prelude.{◌≡◌, ℕ, ◌+◌, ◌<◌, ◌≤◌, length, slice_index_or};
 ghost use Rattle.std.specs.List.{flat_map};
-ghost use Rattle.hfs_blocks.specs.Blocks.{run_of, AreCounted, AreRunsWithin};
+ghost use Rattle.hfs_blocks.specs.Blocks.{run_of, AreCounted, AreRunsWithin, IsBeforeEnd};
 ghost use Rattle.hfs_blocks.specs.declared.run.Run.{Run};
 
 /// Blocks that follow one another: the number of the first, counted from 0, and how many there are.
@@ -22,7 +22,7 @@ fn place_of(runs: &[Run], n: u32) -> usize
     requires counted { AreCounted runs.now }
     ensures within { result < length runs.now }
     ensures begins { (none : Run) → (slice_index_or runs.now result none).before ≤ n }
-    ensures ends { (none : Run) → n < (slice_index_or runs.now result none).before + (slice_index_or runs.now result none).count }
+    ensures ends { (none : Run) → IsBeforeEnd n (slice_index_or runs.now result none) }
 {
     runs.partition_point(|run| run.before <= n) - 1
 }

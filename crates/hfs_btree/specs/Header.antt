@@ -1,10 +1,10 @@
 -- The header node of a tree, its map of nodes, and the tree that they head.
-use Rattle.std.specs.Prelude.{ℕ, zero, suc, ◌-◌, ◌/◌, ◌%◌, ◌^◌, Bool, false, not, ◌==◌, List, [], ◌∷◌, ◌++◌, map, slice_index, slice_index_or, if◌then◌else◌}
+use Rattle.std.specs.Prelude.{ℕ, zero, suc, ◌-◌, ◌/◌, ◌%◌, ◌^◌, Bool, false, not, ◌==◌, List, [], ◌∷◌, ◌++◌, map, slice_index, slice_index_or, if◌then◌else◌, Option}
 use Rattle.std.specs.List.{flat_map, range_with_len, count_by}
 use Rattle.hfs_fields.specs.Numbers.{number_at}
 use Rattle.hfs_btree.specs.declared.header.Header.{Header}
 use Rattle.hfs_btree.specs.declared.key.Key.{Ghosts}
-use Rattle.hfs_btree.specs.Pairs.{Pairs}
+use Rattle.hfs_btree.specs.Pairs.{Pairs, lookup, after}
 use Rattle.hfs_btree.specs.Tree.{Store, node_in, records_in, forward_of, pairs, last_level, Spot, turn}
 
 -- the fields of a header record, each at its place
@@ -84,3 +84,11 @@ tree_turn g nodes = turn g nodes (depth_of nodes) (root_level nodes)
 
 abbrev pub tree_nodes : {K : Type 0} → Ghosts K → Store → List ℕ
 tree_nodes g nodes = map (λ spot. spot.n) (tree_turn g nodes)
+
+-- the body under a key in the tree
+abbrev pub body_at : {K : Type 0} → Ghosts K → Store → K → Option (List ℕ)
+body_at g nodes key = lookup g.compare key (tree_content g nodes)
+
+-- the first pair of the tree whose key is above this one
+abbrev pub next_in : {K : Type 0} → Ghosts K → Store → K → Option (K × List ℕ)
+next_in g nodes key = after g.compare key (tree_content g nodes)

@@ -33,6 +33,10 @@ records_in nodes n = records_of (node_in nodes n)
 abbrev pub pair_of : {K : Type 0} → Ghosts K → List ℕ → K × List ℕ
 pair_of g entry = (g.leaf_key entry, drop (g.body_start entry) entry)
 
+-- the pairs of a leaf with these bytes
+abbrev pub pairs_of : {K : Type 0} → Ghosts K → List ℕ → Pairs K
+pairs_of g bytes = map (pair_of g) (records_of (node_of bytes))
+
 -- the pairs of a leaf
 abbrev pub pairs : {K : Type 0} → Ghosts K → Store → ℕ → Pairs K
 pairs g nodes n = map (pair_of g) (records_in nodes n)

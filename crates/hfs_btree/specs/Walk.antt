@@ -35,3 +35,7 @@ pub record IsPastEnd (bytes : List ℕ) (place : ℕ) : Type 0 where
 pub record IsWalk {K : Type 0} (g : Ghosts K) (nodes : Store) (bytes : List ℕ) (place most : ℕ) : Type 0 where
   pub structure : HasStructure g nodes
   pub at : (IsAtLeaf g nodes bytes place most × (place < length (records_of (node_of bytes)))) ⊎ IsPastEnd bytes place
+
+-- from one place in a leaf the same pairs follow as from another
+abbrev pub GoesOnSame : {K : Type 0} → Ghosts K → Store → List ℕ → ℕ → ℕ → List ℕ → ℕ → ℕ → Type 0
+GoesOnSame g nodes old_bytes old_place old_most bytes place most = rest_at g nodes bytes place most ≡ rest_at g nodes old_bytes old_place old_most

@@ -4,9 +4,9 @@ ghost use Rattle.std.specs.Prelude.{◌≡◌, ℕ, ◌<◌, ◌≤◌, true, Li
 ghost use Rattle.hfs_node.specs.Node.{node_of};
 ghost use Rattle.hfs_scans.specs.Each.{Each};
 ghost use Rattle.hfs_btree.specs.Pairs.{pairs_from};
-ghost use Rattle.hfs_btree.specs.Tree.{records_of, forward_of, pair_of};
+ghost use Rattle.hfs_btree.specs.Tree.{records_of, forward_of, pair_of, pairs_of};
 ghost use Rattle.hfs_btree.specs.Sound.{HasStructure};
-ghost use Rattle.hfs_btree.specs.Walk.{rest_at, IsAtLeaf, IsWalk};
+ghost use Rattle.hfs_btree.specs.Walk.{rest_at, IsAtLeaf, IsWalk, GoesOnSame};
 
 use crate::key::Key;
 use crate::nodes::Nodes;
@@ -59,7 +59,7 @@ pub fn entry_in(bytes: &[u8; 512], place: usize) -> Option<&[u8]>
 pub fn place_in<K: Key>(bytes: &[u8; 512], key: &K) -> usize
     requires { Each (λ entry. K.is_leaf entry ≡ true) (records_of (node_of bytes.now)) }
     ensures within { result ≤ length (records_of (node_of bytes.now)) }
-    ensures from { drop result (map (pair_of K.Key) (records_of (node_of bytes.now))) ≡ pairs_from K.compare key.now (map (pair_of K.Key) (records_of (node_of bytes.now))) }
+    ensures from { drop result (pairs_of K.Key bytes.now) ≡ pairs_from K.compare key.now (pairs_of K.Key bytes.now) }
 {
     let Ok(node) = view(bytes) else {
         return 0;
@@ -86,7 +86,7 @@ pub(crate) fn settle<K: Key, N: Nodes>(
     requires count { count ≡ length (records_of (node_of bytes.old)) }
     requires at { IsAtLeaf K.Key (N.nodes nodes.now) bytes.old place most }
     ensures walk { IsWalk K.Key (N.nodes nodes.now) bytes.new result.0 result.1 }
-    ensures same { rest_at K.Key (N.nodes nodes.now) bytes.new result.0 result.1 ≡ rest_at K.Key (N.nodes nodes.now) bytes.old place most }
+    ensures same { GoesOnSame K.Key (N.nodes nodes.now) bytes.old place most bytes.new result.0 result.1 }
 {
     if place < count {
         return (place, most);

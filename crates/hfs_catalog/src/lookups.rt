@@ -186,7 +186,7 @@ pub fn children<N: Nodes>(
     dir: u32,
 ) -> Result<Vec<CatalogItem>, AllocError>
     requires { IsCatalogTree (N.nodes nodes.now) }
-    ensures { IfOk result (λ items. items.items ≡ map catalog_item (children_of (catalog_of (N.nodes nodes.now)) dir)) }
+    ensures { IfOk result (λ v. v.items ≡ map catalog_item (children_of (catalog_of (N.nodes nodes.now)) dir)) }
 {
     let mut found = Vec::new(alloc);
     let mut walk = Walk::from(nodes, &first_key(dir));

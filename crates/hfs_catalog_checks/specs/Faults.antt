@@ -15,6 +15,7 @@ use Rattle.hfs_scans.specs.First.{first_failing}
 use Rattle.hfs_catalog.specs.Records.{Record, Catalog, has_id, item_with, is_folder_id, has_thread, valence_of}
 use Rattle.hfs_catalog.specs.Parents.{reaches_root}
 use Rattle.hfs_catalog.specs.Sound.{counts_of}
+use Rattle.hfs_catalog_checks.specs.Indexes.{item_place, is_place}
 
 -- the first holds only where the second does
 abbrev pub implies : Bool → Bool → Bool
@@ -103,3 +104,21 @@ count_fault mdb catalog =
     option_or (unless (mdb.root_files == (counts_of catalog).root_files) 1)
     (option_or (unless (mdb.root_folders == (counts_of catalog).root_folders) 2)
     (option_or (unless (mdb.files == (counts_of catalog).files) 3) (unless (mdb.folders == (counts_of catalog).folders) 4)))
+
+-- ---- the parts of the check of parents and threads
+
+-- the first item whose parent or chain of parents is wrong
+abbrev pub parent_fault : Catalog → Option ℕ
+parent_fault catalog = first_failing (λ _ r. implies (is_item r.1) (is_parent_right catalog r)) [] catalog
+
+-- the first folder without a thread
+abbrev pub unthreaded : Catalog → Option ℕ
+unthreaded catalog = first_failing (λ _ r. implies (is_dir r.1) (has_thread catalog (item_id r.1))) [] catalog
+
+-- the first thread that does not lead to its item
+abbrev pub thread_fault : Catalog → Option ℕ
+thread_fault catalog = first_failing (λ _ r. implies (is_thread r.1) (is_thread_right catalog r)) [] catalog
+
+-- whether record i, where it is an item's, has an ID that is right for it and that no record before has
+abbrev pub is_id_right_at : ℕ → Catalog → ℕ → Record → Bool
+is_id_right_at next catalog i r = implies (is_item r.1) (is_id_right next r && is_place (item_place catalog (item_id r.1)) i)

@@ -2,9 +2,9 @@
 use Rattle.std.specs.Prelude.{◌≡◌, ℕ, Bool, true, false, nat_le, ◌==◌, List, nat_eq, if◌then◌else◌, Option, Some, None}
 use Rattle.std.specs.List.{position_from, list_any}
 use Rattle.std.specs.Map.{lookup}
-use Rattle.std.specs.Option.{option_map_or, unwrap_or}
+use Rattle.std.specs.Option.{option_map_or, unwrap_or, option_or}
 use Rattle.hfs_catalog.specs.Parents.{ReachesRoot}
-use Rattle.hfs_catalog.specs.Records.{Catalog, has_id, is_thread_of}
+use Rattle.hfs_catalog.specs.Records.{Catalog, has_id, is_thread_of, Record}
 
 -- numbers, each with an ID
 abbrev pub Numbered : Type 0
@@ -51,3 +51,11 @@ abbrev pub earlier : Option ℕ → Option ℕ → Option ℕ
 earlier None b = b
 earlier (Some i) None = Some i
 earlier (Some i) (Some j) = if nat_le i j then Some i else Some j
+
+-- each ID has its number, and the record's ID this one where it had none
+abbrev pub NotesItem : Numbered → Numbered → ℕ → Record → Type 0
+NotesItem old new i r = (id : ℕ) → number_of new id ≡ option_or (number_of old id) (only_if (has_id id r) i)
+
+-- each ID has its number, and this one the number where it had none
+abbrev pub NotesFirst : Numbered → Numbered → ℕ → ℕ → Type 0
+NotesFirst old new id n = (k : ℕ) → number_of new k ≡ option_or (number_of old k) (only_if (nat_eq id k) n)

@@ -6,7 +6,7 @@ ghost use Rattle.hfs_fields.specs.Records.{is_item, item_id};
 ghost use Rattle.hfs_scans.specs.First.{first_failing};
 ghost use Rattle.hfs_catalog.specs.Records.{has_id};
 ghost use Rattle.hfs_catalog_checks.specs.Indexes.{item_place, is_place};
-ghost use Rattle.hfs_catalog_checks.specs.Faults.{implies, unless, is_id_right, is_item_id_right, id_fault};
+ghost use Rattle.hfs_catalog_checks.specs.Faults.{implies, unless, is_id_right, is_item_id_right, id_fault, is_id_right_at};
 
 use crate::index::IndexedCatalog;
 use hfs_catalog::{CatalogRecord, is_folder, item_id};
@@ -24,7 +24,7 @@ fn is_id_right(next: u32, id: u32, r: &CatalogRecord) -> bool
 
 /// Whether record `i`, if it is a file's or a folder's, has an ID that is right for it, and that no record before has.
 fn is_item_id_right(catalog: &IndexedCatalog<'_>, next: u32, i: usize, r: &CatalogRecord) -> bool
-    ensures { result ≡ implies (is_item r.now.1) (is_id_right next r.now && is_place (item_place catalog.now (item_id r.now.1)) i) }
+    ensures { result ≡ is_id_right_at next catalog.now i r.now }
 {
     match item_id(r.body()) {
         Some(id) => is_id_right(next, id, r) && catalog.place(id) == Some(i),

@@ -3,7 +3,7 @@
 ghost use Rattle.std.specs.Prelude.{◌≡◌, ℕ, length, IfOk, OnOk};
 ghost use Rattle.std.specs.Option.{option_or, option_copied};
 ghost use Rattle.hfs_catalog.specs.Records.{has_id, item_with};
-ghost use Rattle.hfs_catalog_checks.specs.Indexes.{number_of, item_place, only_if};
+ghost use Rattle.hfs_catalog_checks.specs.Indexes.{number_of, item_place, only_if, NotesItem};
 
 use crate::numbers::Numbers;
 use hfs_catalog::{CatalogRecord, item_id};
@@ -12,7 +12,7 @@ use std::marker::Model;
 
 /// Notes the place of a record under its ID, if it is a file's or a folder's, and the first with the ID.
 fn note_item(places: &mut Numbers, i: usize, r: &CatalogRecord) -> Result<(), AllocError>
-    ensures { OnOk result ((id : ℕ) → number_of places.new id ≡ option_or (number_of places.old id) (only_if (has_id id r.now) i)) }
+    ensures { OnOk result (NotesItem places.old places.new i r.now) }
 {
     if let Some(id) = item_id(r.body()) {
         places.put_first(id, i)?;

@@ -2,7 +2,7 @@
 
 ghost use Rattle.std.specs.Prelude.{◌≡◌, ℕ, ◌+◌, ◌<◌, ◌^◌, [], OnOk, nat_eq, if◌then◌else◌};
 ghost use Rattle.std.specs.Option.{option_or};
-ghost use Rattle.hfs_catalog_checks.specs.Indexes.{number_of, count_of, with_number, only_if};
+ghost use Rattle.hfs_catalog_checks.specs.Indexes.{number_of, count_of, with_number, only_if, NotesFirst};
 
 use std::alloc::{AllocError, Global};
 use std::collections::BTreeMap;
@@ -50,7 +50,7 @@ impl Numbers {
 
     /// Gives an ID this number, if it has none.
     pub(crate) fn put_first(&mut self, id: u32, number: usize) -> Result<(), AllocError>
-        ensures { OnOk result ((k : ℕ) → number_of self.new k ≡ option_or (number_of self.old k) (only_if (nat_eq id k) number)) }
+        ensures { OnOk result (NotesFirst self.old self.new id number) }
     {
         match self.get(id) {
             None => self.put(id, number),

@@ -6,7 +6,7 @@ ghost use Rattle.hfs_scans.specs.First.{first_failing};
 ghost use Rattle.hfs_catalog.specs.Records.{is_folder_id};
 ghost use Rattle.hfs_catalog.specs.Parents.{ReachesRoot, reaches_root};
 ghost use Rattle.hfs_catalog_checks.specs.Indexes.{has_number, AreRooted};
-ghost use Rattle.hfs_catalog_checks.specs.Faults.{implies, is_parent_right};
+ghost use Rattle.hfs_catalog_checks.specs.Faults.{implies, is_parent_right, parent_fault};
 
 use crate::id_set::IdSet;
 use crate::index::IndexedCatalog;
@@ -116,7 +116,7 @@ pub(crate) fn first_wrong_parent(
     alloc: Global,
     catalog: &IndexedCatalog<'_>,
 ) -> Result<Option<usize>, AllocError>
-    ensures { IfOk result (λ place. place ≡ first_failing (λ _ r. implies (is_item r.1) (is_parent_right catalog.now r)) [] catalog.now) }
+    ensures { IfOk result (λ place. place ≡ parent_fault catalog.now) }
 {
     let records = catalog.records();
     let mut rooted = IdSet::new(alloc);

@@ -7,7 +7,7 @@ ghost use Rattle.hfs_fields.specs.Records.{is_dir, is_thread, item_id};
 ghost use Rattle.hfs_scans.specs.First.{first_failing};
 ghost use Rattle.hfs_catalog.specs.Records.{is_thread_of, has_thread};
 ghost use Rattle.hfs_catalog_checks.specs.Indexes.{has_number};
-ghost use Rattle.hfs_catalog_checks.specs.Faults.{implies, leads_to, is_thread_right};
+ghost use Rattle.hfs_catalog_checks.specs.Faults.{implies, leads_to, is_thread_right, unthreaded, thread_fault};
 
 use crate::id_set::IdSet;
 use crate::index::IndexedCatalog;
@@ -54,7 +54,7 @@ fn is_threaded(ids: &IdSet, r: &CatalogRecord) -> bool
 /// The number of the first folder's record without a thread.
 fn first_unthreaded_by(ids: &IdSet, catalog: &[CatalogRecord]) -> Option<usize>
     requires { (id : ℕ) → has_number ids.now id ≡ has_thread catalog.now id }
-    ensures { result ≡ first_failing (λ _ r. implies (is_dir r.1) (has_thread catalog.now (item_id r.1))) [] catalog.now }
+    ensures { result ≡ unthreaded catalog.now }
 {
     for i in 0..catalog.len() {
         if !is_threaded(ids, &catalog[i]) {
@@ -69,7 +69,7 @@ pub(crate) fn first_unthreaded(
     alloc: Global,
     catalog: &[CatalogRecord],
 ) -> Result<Option<usize>, AllocError>
-    ensures { IfOk result (λ place. place ≡ first_failing (λ _ r. implies (is_dir r.1) (has_thread catalog.now (item_id r.1))) [] catalog.now) }
+    ensures { IfOk result (λ place. place ≡ unthreaded catalog.now) }
 {
     let ids = thread_ids(alloc, catalog)?;
     Ok(first_unthreaded_by(&ids, catalog))
@@ -126,7 +126,7 @@ fn is_thread_right(catalog: &IndexedCatalog<'_>, r: &CatalogRecord) -> bool
 
 /// The number of the first thread's record that does not lead to its item.
 pub(crate) fn first_wrong_thread(catalog: &IndexedCatalog<'_>) -> Option<usize>
-    ensures { result ≡ first_failing (λ _ r. implies (is_thread r.1) (is_thread_right catalog.now r)) [] catalog.now }
+    ensures { result ≡ thread_fault catalog.now }
 {
     let records = catalog.records();
     for i in 0..records.len() {

@@ -70,3 +70,20 @@ AreOwned mdb overflow catalog owned = extent_blocks owned ≡ owned_blocks mdb o
 -- the first fault behind the checks of the two trees
 abbrev pub behind_trees_fault : Blocks → Option MountFault
 behind_trees_fault blocks = records_fault blocks or_fault numbers_fault blocks
+
+-- these are all extents that somebody owns, where these are the nodes of the two trees
+abbrev pub AreOwnedIn : Mdb → Store → Store → List Extent → Type 0
+AreOwnedIn mdb extents catalog owned = AreOwned mdb (overflow_of extents) (catalog_of catalog) owned
+
+-- the checks of what the two trees hold, of extents and of space, and of what is counted, as they are answered
+abbrev pub AnswersContents : {A : Type 0} → Blocks → Mdb → Store → Store → Result A MountFault → Type 0
+AnswersContents blocks mdb extents catalog result = Answers (contents_fault blocks mdb extents catalog) result
+
+abbrev pub AnswersForks : {A : Type 0} → Mdb → Store → Catalog → Result A MountFault → Type 0
+AnswersForks mdb extents catalog result = Answers (check_fault 11 (fork_fault mdb (overflow_of extents) catalog)) result
+
+abbrev pub AnswersSpace : {A : Type 0} → Blocks → Mdb → List Extent → Result A MountFault → Type 0
+AnswersSpace blocks mdb owned result = Answers (check_fault 12 (space_fault blocks mdb (extent_blocks owned))) result
+
+abbrev pub AnswersNumbers : {A : Type 0} → Blocks → Mdb → Store → Catalog → Result A MountFault → Type 0
+AnswersNumbers blocks mdb extents catalog result = Answers (counted_fault blocks mdb (overflow_of extents) catalog) result

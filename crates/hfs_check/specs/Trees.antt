@@ -3,10 +3,12 @@ use Rattle.std.specs.Prelude.{◌≡◌, ℕ, List}
 use Rattle.std.specs.List.{flat_map}
 use Rattle.hfs_fields.specs.declared.extent.Extent.{Extent}
 use Rattle.hfs_blocks.specs.declared.run.Run.{Run}
-use Rattle.hfs_blocks.specs.Blocks.{run_of, nodes_in, AreRunsWithin}
+use Rattle.hfs_blocks.specs.Blocks.{run_of, nodes_in, AreRunsWithin, block_at, block_count}
 use Rattle.hfs_btree.specs.Tree.{Store}
 use Rattle.hfs_check.specs.declared.trees.VolumeTrees.{VolumeTrees}
 use Rattle.hfs_check.specs.Parts.{Blocks, extents_blocks, extents_nodes, catalog_extents, catalog_blocks, catalog_nodes}
+use Rattle.hfs_space.specs.TreeFiles.{tree_nodes, tree_blocks}
+use Rattle.hfs_fields.specs.declared.mdb.Mdb.{Mdb}
 
 -- the nodes lie in these runs of a volume of so many blocks, one in each of the blocks with these numbers
 pub record LieIn (total : ℕ) (blocks : Blocks) (runs : List Run) (places : List ℕ) (nodes : Store) : Type 0 where
@@ -23,3 +25,25 @@ pub record AreTreesIn (total : ℕ) (blocks : Blocks) (extents_runs : List Run) 
 -- these are the trees of a volume of so many blocks
 abbrev pub HasTrees : ℕ → Blocks → VolumeTrees → Type 0
 HasTrees total blocks trees = AreTreesIn total blocks trees.extents.items trees.catalog_file.items trees.catalog.items
+
+-- the runs are those of the extents file of this master directory block
+abbrev pub LieInExtentsOf : ℕ → Blocks → Mdb → List Run → Type 0
+LieInExtentsOf total blocks mdb runs = LieIn total blocks runs (tree_blocks mdb mdb.extents_file mdb.extents_file_size)
+    (tree_nodes blocks mdb mdb.extents_file mdb.extents_file_size)
+
+-- the runs are those of a catalog file with these extents
+abbrev pub LieInCatalogOf : ℕ → Blocks → Mdb → List Extent → List Run → Type 0
+LieInCatalogOf total blocks mdb extents runs = LieIn total blocks runs (tree_blocks mdb extents mdb.catalog_file_size)
+    (tree_nodes blocks mdb extents mdb.catalog_file_size)
+
+-- the runs are those of the extents file
+abbrev pub LieInExtents : ℕ → Blocks → List Run → Type 0
+LieInExtents total blocks runs = LieIn total blocks runs (extents_blocks blocks) (extents_nodes blocks)
+
+-- the runs are those of the catalog file
+abbrev pub LieInCatalog : ℕ → Blocks → List Run → Type 0
+LieInCatalog total blocks runs = LieIn total blocks runs (catalog_blocks blocks) (catalog_nodes blocks)
+
+-- these are the trees of an image
+abbrev pub HasTreesOf : List ℕ → VolumeTrees → Type 0
+HasTreesOf image trees = HasTrees (block_count image) (block_at image) trees

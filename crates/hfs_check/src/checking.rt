@@ -5,12 +5,12 @@ ghost use Rattle.hfs_space.specs.Bitmap.{bitmap_len};
 ghost use Rattle.hfs_catalog.specs.Tree.{cat_keys, catalog_of};
 ghost use Rattle.hfs_blocks.specs.Blocks.{block_at, block_count};
 ghost use Rattle.hfs_space.specs.TreeKeys.{IsExtentsTree, overflow_of};
-ghost use Rattle.hfs_check.specs.Answers.{Answers, IsFaultOf, AreOwned, both_trees_fault, contents_fault, behind_trees_fault};
+ghost use Rattle.hfs_check.specs.Answers.{Answers, IsFaultOf, AreOwned, both_trees_fault, contents_fault, behind_trees_fault, AreOwnedIn, AnswersContents};
 ghost use Rattle.hfs_check.specs.Faults.{blocks_fault, fault_of};
 ghost use Rattle.hfs_check.specs.Parts.{mdb_in, owned_in};
 ghost use Rattle.hfs_space.specs.Extents.{extent_blocks};
 ghost use Rattle.hfs_check.specs.Sound.{IsMdbSound, AreBlocksSound, IsSound};
-ghost use Rattle.hfs_check.specs.Trees.{AreTreesIn, HasTrees};
+ghost use Rattle.hfs_check.specs.Trees.{AreTreesIn, HasTrees, HasTreesOf};
 
 use crate::laws::{
     no_blocks_fault, no_catalog_fault, no_extents_fault, no_image_fault, no_mdb_fault,
@@ -39,8 +39,8 @@ fn check_contents<B: Blocks, E: Nodes, C: Nodes>(
     requires extents { IsExtentsTree (E.nodes extents.now) }
     requires structure { HasStructure cat_keys (C.nodes catalog.now) }
     requires counts { HasCounts cat_keys (C.nodes catalog.now) }
-    ensures fault { Answers (contents_fault (B.blocks blocks.now) mdb.now (E.nodes extents.now) (C.nodes catalog.now)) result }
-    ensures owned { IfOk result (λ owned. AreOwned mdb.now (overflow_of (E.nodes extents.now)) (catalog_of (C.nodes catalog.now)) owned.items) }
+    ensures fault { AnswersContents (B.blocks blocks.now) mdb.now (E.nodes extents.now) (C.nodes catalog.now) result }
+    ensures owned { IfOk result (λ owned. AreOwnedIn mdb.now (E.nodes extents.now) (C.nodes catalog.now) owned.items) }
 {
     let records = read_records(alloc, catalog)?;
     check_catalog_records(alloc, mdb.next_id, catalog, &records)?;
@@ -168,7 +168,7 @@ pub fn check_image(alloc: Global, image: &[u8]) -> Result<SoundVolume, MountFaul
     ensures right { OnOk result (fault_of image.now ≡ None) }
     ensures sound { OnOk result (IsSound image.now) }
     ensures mdb { IfOk result (λ volume. volume.mdb ≡ mdb_in (block_at image.now)) }
-    ensures trees { IfOk result (λ volume. AreTreesIn (block_count image.now) (block_at image.now) volume.trees.extents.items volume.trees.catalog_file.items volume.trees.catalog.items) }
+    ensures trees { IfOk result (λ volume. HasTreesOf image.now volume.trees) }
     ensures wrong { IfErr result (IsFaultOf (fault_of image.now)) }
 {
     let CheckedVolume { volume, .. } = checked_image(alloc, image)?;

@@ -5,7 +5,7 @@ ghost use Rattle.hfs_space.specs.Extents.{extent_blocks};
 ghost use Rattle.hfs_space.specs.Faults as space_spec;
 ghost use Rattle.hfs_space.specs.Runs.{files_in};
 ghost use Rattle.hfs_space.specs.TreeKeys.{IsExtentsTree, overflow_of};
-ghost use Rattle.hfs_check.specs.Answers.{Answers, AreOwned, counted_fault};
+ghost use Rattle.hfs_check.specs.Answers.{Answers, AreOwned, counted_fault, AnswersForks, AnswersSpace, AnswersNumbers};
 ghost use Rattle.hfs_check.specs.Faults.{check_fault};
 
 use crate::catalog_files::catalog_files;
@@ -28,7 +28,7 @@ fn check_forks<N: Nodes>(
 ) -> Result<(), MountFault>
     requires tree { IsExtentsTree (N.nodes tree.now) }
     requires files { files.now ≡ files_in 0 records.now }
-    ensures { Answers (check_fault 11 (space_spec.fork_fault mdb.now (overflow_of (N.nodes tree.now)) records.now)) result }
+    ensures { AnswersForks mdb.now (N.nodes tree.now) records.now result }
 {
     let place = fork_fault(alloc, mdb, tree, files, records.len())?;
     answer_at(11, place)
@@ -42,7 +42,7 @@ fn check_space<B: Blocks>(
     owned: &[Extent],
 ) -> Result<(), MountFault>
     requires { mdb.now.bitmap_start + bitmap_len mdb.now.allocation_blocks ≤ B.total blocks.now }
-    ensures { Answers (check_fault 12 (space_spec.space_fault (B.blocks blocks.now) mdb.now (extent_blocks owned.now))) result }
+    ensures { AnswersSpace (B.blocks blocks.now) mdb.now owned.now result }
 {
     match space_fault(alloc, blocks, mdb, owned)? {
         None => Ok(()),
@@ -64,7 +64,7 @@ pub(crate) fn check_numbers<B: Blocks, N: Nodes>(
 ) -> Result<Vec<Extent>, MountFault>
     requires bitmap { mdb.now.bitmap_start + bitmap_len mdb.now.allocation_blocks ≤ B.total blocks.now }
     requires tree { IsExtentsTree (N.nodes tree.now) }
-    ensures fault { Answers (counted_fault (B.blocks blocks.now) mdb.now (overflow_of (N.nodes tree.now)) records.now) result }
+    ensures fault { AnswersNumbers (B.blocks blocks.now) mdb.now (N.nodes tree.now) records.now result }
     ensures owned { IfOk result (λ owned. AreOwned mdb.now (overflow_of (N.nodes tree.now)) records.now owned.items) }
 {
     check_valences(alloc, records)?;

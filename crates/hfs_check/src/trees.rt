@@ -9,7 +9,7 @@ ghost use Rattle.hfs_check.specs.Parts.{mdb_in, extents_blocks, extents_nodes, c
 ghost use Rattle.hfs_check.specs.Sound.{IsMdbSound, IsExtentsSound, IsCatalogFileSound};
 ghost use Rattle.hfs_check.specs.Faults.{check_fault};
 ghost use Rattle.hfs_check.specs.Answers.{Answers, IsFaultOf, extents_check_fault, catalog_check_fault, both_trees_fault};
-ghost use Rattle.hfs_check.specs.Trees.{LieIn, HasTrees};
+ghost use Rattle.hfs_check.specs.Trees.{LieIn, HasTrees, LieInExtentsOf, LieInCatalogOf, LieInExtents, LieInCatalog};
 
 use crate::laws::no_extents_fault;
 use crate::mount_fault::MountFault;
@@ -50,7 +50,7 @@ fn check_extents<B: Blocks>(
 ) -> Result<(), MountFault>
     requires sound { IsMdbSound (B.total blocks.now) mdb.now }
     requires file { is_tree_file mdb.now mdb.now.extents_file mdb.now.extents_file_size ≡ true }
-    requires runs { LieIn (B.total blocks.now) (B.blocks blocks.now) runs.now (tree_blocks mdb.now mdb.now.extents_file mdb.now.extents_file_size) (tree_nodes (B.blocks blocks.now) mdb.now mdb.now.extents_file mdb.now.extents_file_size) }
+    requires runs { LieInExtentsOf (B.total blocks.now) (B.blocks blocks.now) mdb.now runs.now }
     requires is { mdb.now ≡ mdb_in (B.blocks blocks.now) }
     ensures { Answers (extents_check_fault mdb.now (B.blocks blocks.now)) result }
 {
@@ -69,7 +69,7 @@ fn check_catalog<B: Blocks>(
 ) -> Result<(), MountFault>
     requires sound { IsMdbSound (B.total blocks.now) mdb.now }
     requires file { is_tree_file mdb.now extents.now mdb.now.catalog_file_size ≡ true }
-    requires runs { LieIn (B.total blocks.now) (B.blocks blocks.now) runs.now (tree_blocks mdb.now extents.now mdb.now.catalog_file_size) (tree_nodes (B.blocks blocks.now) mdb.now extents.now mdb.now.catalog_file_size) }
+    requires runs { LieInCatalogOf (B.total blocks.now) (B.blocks blocks.now) mdb.now extents.now runs.now }
     requires is { mdb.now ≡ mdb_in (B.blocks blocks.now) }
     requires extents { extents.now ≡ catalog_extents (B.blocks blocks.now) }
     ensures { Answers (catalog_check_fault mdb.now (B.blocks blocks.now)) result }
@@ -85,7 +85,7 @@ fn open_extents<B: Blocks>(alloc: Global, blocks: &B, mdb: &Mdb) -> Result<Vec<R
     requires sound { IsMdbSound (B.total blocks.now) mdb.now }
     requires is { mdb.now ≡ mdb_in (B.blocks blocks.now) }
     ensures right { OnOk result (extents_check_fault mdb.now (B.blocks blocks.now) ≡ None) }
-    ensures runs { IfOk result (λ runs. LieIn (B.total blocks.now) (B.blocks blocks.now) runs.items (extents_blocks (B.blocks blocks.now)) (extents_nodes (B.blocks blocks.now))) }
+    ensures runs { IfOk result (λ runs. LieInExtents (B.total blocks.now) (B.blocks blocks.now) runs.items) }
     ensures wrong { IfErr result (IsFaultOf (extents_check_fault mdb.now (B.blocks blocks.now))) }
 {
     match file_runs(alloc, blocks, mdb, &mdb.extents_file, mdb.extents_file_size)? {
@@ -115,7 +115,7 @@ fn catalog_file_extents<B: Blocks>(
     extents_tree: &[Run],
 ) -> Result<Vec<Extent>, AllocError>
     requires is { mdb.now ≡ mdb_in (B.blocks blocks.now) }
-    requires runs { LieIn (B.total blocks.now) (B.blocks blocks.now) extents_tree.now (extents_blocks (B.blocks blocks.now)) (extents_nodes (B.blocks blocks.now)) }
+    requires runs { LieInExtents (B.total blocks.now) (B.blocks blocks.now) extents_tree.now }
     requires tree { IsExtentsTree (extents_nodes (B.blocks blocks.now)) }
     ensures { IfOk result (λ extents. extents.items ≡ catalog_extents (B.blocks blocks.now)) }
 {
@@ -136,11 +136,11 @@ fn open_catalog<B: Blocks>(
 ) -> Result<CatalogTree, MountFault>
     requires sound { IsMdbSound (B.total blocks.now) mdb.now }
     requires is { mdb.now ≡ mdb_in (B.blocks blocks.now) }
-    requires runs { LieIn (B.total blocks.now) (B.blocks blocks.now) extents_tree.now (extents_blocks (B.blocks blocks.now)) (extents_nodes (B.blocks blocks.now)) }
+    requires runs { LieInExtents (B.total blocks.now) (B.blocks blocks.now) extents_tree.now }
     requires tree { IsExtentsTree (extents_nodes (B.blocks blocks.now)) }
     ensures right { OnOk result (catalog_check_fault mdb.now (B.blocks blocks.now) ≡ None) }
     ensures extents { IfOk result (λ file. file.extents.items ≡ catalog_extents (B.blocks blocks.now)) }
-    ensures runs { IfOk result (λ file. LieIn (B.total blocks.now) (B.blocks blocks.now) file.runs.items (catalog_blocks (B.blocks blocks.now)) (catalog_nodes (B.blocks blocks.now))) }
+    ensures runs { IfOk result (λ file. LieInCatalog (B.total blocks.now) (B.blocks blocks.now) file.runs.items) }
     ensures wrong { IfErr result (IsFaultOf (catalog_check_fault mdb.now (B.blocks blocks.now))) }
 {
     let extents = catalog_file_extents(alloc, blocks, mdb, extents_tree)?;

@@ -1,12 +1,12 @@
 -- The numbers of a new volume, and why a plan is refused. Blocks are logical blocks of 512 bytes where they are not
 -- said to be allocation blocks.
-use Rattle.std.specs.Prelude.{ℕ, ◌+◌, ◌-◌, ◌*◌, ◌/◌, ◌≤◌, Bool, not, ◌&&◌, nat_le, if◌then◌else◌, List, length, Option, Some, None}
+use Rattle.std.specs.Prelude.{ℕ, ◌+◌, ◌-◌, ◌*◌, ◌/◌, ◌≤◌, Bool, not, ◌&&◌, nat_le, if◌then◌else◌, List, length, Option, Some, None, ◌≡◌, ◌⊎◌}
 use Rattle.hfs_fields.specs.Names.{is_item_name}
 use Rattle.hfs_format.specs.declared.plan.FormatPlan.{FormatPlan}
 use Rattle.hfs_format.specs.declared.layout.Layout.{Layout}
 use Rattle.hfs_format.specs.declared.layout.TreeFile.{TreeFile}
 use Rattle.hfs_format.specs.declared.fault.FormatFault.{FormatFault}
-use Rattle.hfs_format.specs.declared.fault.FormatFault.TheVariants.{BadName, BadSize, BadNodes, NoRoom}
+use Rattle.hfs_format.specs.declared.fault.FormatFault.TheVariants.{BadName, BadSize, BadNodes, NoRoom, Memory}
 
 -- ---- numbers
 
@@ -92,3 +92,11 @@ pub record IsLayout (volume : Layout) : Type 0 where
   pub some_extents : 1 ≤ volume.extents.nodes
   pub catalog : volume.catalog.nodes ≤ 2048
   pub some_catalog : 2 ≤ volume.catalog.nodes
+
+-- this is the plan's first fault, or it has none and memory was refused
+abbrev pub IsFormatFault : FormatPlan → FormatFault → Type 0
+IsFormatFault plan fault = ((fault ≡ Memory) × (format_fault plan ≡ None)) ⊎ (format_fault plan ≡ Some fault)
+
+-- the plan has no fault, and its parts lie so
+abbrev pub IsLaidOut : FormatPlan → Layout → Type 0
+IsLaidOut plan volume = (format_fault plan ≡ None) × (volume ≡ layout_of plan)

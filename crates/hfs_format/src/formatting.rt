@@ -1,7 +1,7 @@
 //! Images of new volumes.
 ghost use Rattle.std.specs.Prelude.{vec_len, ◌≡◌, ◌+◌, ◌*◌, ◌-◌, ◌<◌, ◌≤◌, ◌⊎◌, None, Some, IfOk, IfErr};
 ghost use Rattle.hfs_format.specs.BitRow.{bit_row};
-ghost use Rattle.hfs_format.specs.Plan.{IsLayout, used_blocks, format_fault};
+ghost use Rattle.hfs_format.specs.Plan.{IsLayout, used_blocks, format_fault, IsFormatFault};
 ghost use Rattle.hfs_format.specs.FormatLaws.{planned_volume};
 ghost use Rattle.hfs_format.specs.Image as spec;
 ghost use Rattle.hfs_check.specs.Sound.{IsSound};
@@ -83,7 +83,7 @@ pub fn format(alloc: Global, plan: FormatPlan) -> Result<Vec<u8>, FormatFault>
     ensures len { IfOk result (λ image. vec_len image ≡ 512 * plan.blocks) }
     ensures sound { IfOk result (λ image. IsSound image.items) }
     ensures volume { IfOk result (λ image. volume_of image.items ≡ planned_volume plan) }
-    ensures fault { IfErr result (λ fault. ((fault ≡ FormatFault.Memory) × (format_fault plan ≡ None)) ⊎ (format_fault plan ≡ Some fault)) }
+    ensures fault { IfErr result (IsFormatFault plan) }
 {
     let volume = Layout::of(&plan)?;
     new_images_are_sound();

@@ -114,7 +114,7 @@ impl Layout {
     /// Where the parts of the planned volume lie, or the plan's first fault.
     #[tactic(auto, unfolding(crate::specs::Plan::format_fault, crate::specs::Plan::layout_of))]
     pub fn of(plan: &FormatPlan) -> Result<Layout, FormatFault>
-        ensures answer { MatchResult result (λ volume. (spec.format_fault plan.entry.now ≡ None) × (volume ≡ spec.layout_of plan.entry.now)) (λ fault. spec.format_fault plan.entry.now ≡ Some fault) }
+        ensures answer { MatchResult result (spec.IsLaidOut plan.entry.now) (λ f. spec.format_fault plan.entry.now ≡ Some f) }
         ensures bounds { IfOk result IsLayout }
     {
         let Some(name) = volume_name(&plan.name) else {
