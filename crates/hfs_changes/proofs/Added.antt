@@ -18,7 +18,7 @@ use Rattle.hfs_catalog.specs.Sound.{IsRecord, IsRoot, IsGiven, HasPlace, AreName
 use Rattle.hfs_catalog.specs.Items.{Contents, folder_of, item_of, items_in}
 use Rattle.hfs_catalog.specs.Lookups.{thread_of}
 use Rattle.hfs_catalog.specs.Laws.{ItemsAreRecords}
-use Rattle.hfs_changes.specs.Swaps.{Swaps, list_of, passes, one_if, swapped_count, swapped_each, number_of, swapped_sum}
+use Rattle.hfs_catalog_edits.specs.Swaps.{Swaps, list_of, passes, one_if, swapped_count, swapped_each, number_of, swapped_sum}
 use Rattle.hfs_changes.specs.Once.{item_or_thread}
 use Rattle.hfs_changes.specs.Steps.{AreOnce, IfThere, IsThreadOf, ItemStep, ThreadStep, with_one, is_there, item_once, item_after, item_threads, thread_once, thread_after, thread_items}
 use Rattle.hfs_changes.specs.Links.{AreLinked, AreCounted}

@@ -27,7 +27,7 @@ use Rattle.hfs_check.specs.Parts.{Blocks, mdb_in, overflow_in, catalog_in, owned
 use Rattle.hfs_check.specs.Sound.{AreBlocksSound}
 use Rattle.hfs_check.specs.Laws.{CatalogIsSound}
 use Rattle.hfs_check.specs.VolumeOf.{bytes_in, contents_in, volume_in}
-use Rattle.hfs_changes.specs.Swaps.{one_if}
+use Rattle.hfs_catalog_edits.specs.Swaps.{one_if}
 use Rattle.hfs_changes.specs.Changes.{HasAdded, with_children}
 use Rattle.hfs_changes.specs.CreationLaws.{with_file, CreateMakes}
 use Rattle.hfs_changes.specs.Laws.{MakesStep}

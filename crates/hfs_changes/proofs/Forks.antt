@@ -15,7 +15,7 @@ use Rattle.hfs_space.specs.Extents.{Overflow}
 use Rattle.hfs_space.specs.Owners.{Fork, forks_of, catalog_fork, all_forks, records_in, goes_on_with, owners, owned_blocks}
 use Rattle.hfs_space.specs.Sound.{IsForkSound, AreForksSound}
 use Rattle.hfs_catalog.specs.Records.{Record, Catalog}
-use Rattle.hfs_changes.specs.Swaps.{one_if}
+use Rattle.hfs_catalog_edits.specs.Swaps.{one_if}
 use Rattle.hfs_changes.proofs.Space.{record_has, others_have, owners_sum}
 
 -- ---- whether one passes, by how many do

@@ -14,7 +14,7 @@ use Rattle.hfs_space.specs.Sound.{IsForkSound, AreForksSound}
 use Rattle.hfs_catalog.specs.Records.{Record, Catalog}
 use Rattle.hfs_catalog.specs.Sound.{IsSoundCatalog}
 use Rattle.hfs_catalog.specs.Laws.{ItemsAreRecords}
-use Rattle.hfs_changes.specs.Swaps.{list_of, passes, one_if, number_of, swapped_count, swapped_each, swapped_sum}
+use Rattle.hfs_catalog_edits.specs.Swaps.{list_of, passes, one_if, number_of, swapped_count, swapped_each, swapped_sum}
 use Rattle.hfs_changes.specs.Once.{item_or_thread}
 use Rattle.hfs_changes.specs.Steps.{IfThere}
 use Rattle.hfs_changes.specs.Changes.{IsItsThread, HasSet, HasAdded}

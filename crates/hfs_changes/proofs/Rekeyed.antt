@@ -15,7 +15,7 @@ use Rattle.hfs_catalog.specs.Sound.{IsRecord, AreNamesSound, IsSoundCatalog}
 use Rattle.hfs_catalog.specs.Items.{Contents, item_of, items_in}
 use Rattle.hfs_catalog.specs.Lookups.{thread_of}
 use Rattle.hfs_catalog.specs.Laws.{ItemsAreRecords}
-use Rattle.hfs_changes.specs.Swaps.{Swaps, list_of, one_if, number_of, swapped_each, swapped_sum}
+use Rattle.hfs_catalog_edits.specs.Swaps.{Swaps, list_of, one_if, number_of, swapped_each, swapped_sum}
 use Rattle.hfs_changes.specs.Once.{item_or_thread}
 use Rattle.hfs_changes.specs.Steps.{AreOnce, IfThere, IsItemOf, IsThreadOf, ItemStep, ThreadStep, with_one, is_there, item_once, item_after, item_threads, thread_once, thread_after, thread_items}
 use Rattle.hfs_changes.specs.Links.{AreLinked}

@@ -30,7 +30,7 @@ use Rattle.hfs_check.specs.Parts.{Blocks, mdb_in, overflow_in, catalog_in, owned
 use Rattle.hfs_check.specs.Sound.{AreBlocksSound}
 use Rattle.hfs_check.specs.Laws.{CatalogIsSound}
 use Rattle.hfs_check.specs.VolumeOf.{contents_in, volume_in}
-use Rattle.hfs_changes.specs.Swaps.{one_if, passes, number_of, list_of, swapped_count, swapped_sum, swapped_each}
+use Rattle.hfs_catalog_edits.specs.Swaps.{one_if, passes, number_of, list_of, swapped_count, swapped_sum, swapped_each}
 use Rattle.hfs_changes.specs.Steps.{IfThere, is_there}
 use Rattle.hfs_changes.specs.Changes.{KeepsContents, IsItsThread, HasRekeyed}
 use Rattle.hfs_changes.specs.OnBlocks.{at_time, HasTree}

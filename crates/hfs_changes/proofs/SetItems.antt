@@ -17,7 +17,7 @@ use Rattle.hfs_catalog.specs.Sound.{IsRecord, AreNamesSound, IsSoundCatalog}
 use Rattle.hfs_catalog.specs.Items.{Contents, item_of, items_in}
 use Rattle.hfs_catalog.specs.Lookups.{thread_of}
 use Rattle.hfs_catalog.specs.Laws.{ItemsAreRecords}
-use Rattle.hfs_changes.specs.Swaps.{Swaps, one_if, swapped_count, swapped_each}
+use Rattle.hfs_catalog_edits.specs.Swaps.{Swaps, one_if, swapped_count, swapped_each}
 use Rattle.hfs_changes.specs.Once.{item_or_thread}
 use Rattle.hfs_changes.specs.Steps.{AreOnce, ItemStep, with_one, item_once, item_after, item_threads}
 use Rattle.hfs_changes.specs.Links.{AreLinked, AreCounted}

@@ -13,7 +13,7 @@ use Rattle.hfs_space.specs.Owners.{Fork, forks_of, catalog_fork, all_forks, exte
 use Rattle.hfs_space.specs.Bitmap.{is_used, clear_count}
 use Rattle.hfs_space.specs.Sound.{IsSpaceSound}
 use Rattle.hfs_catalog.specs.Records.{Record, Catalog}
-use Rattle.hfs_changes.specs.Swaps.{one_if}
+use Rattle.hfs_catalog_edits.specs.Swaps.{one_if}
 
 -- ---- numbers that stand in a list
 

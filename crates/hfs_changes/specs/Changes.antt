@@ -7,7 +7,7 @@ use Rattle.hfs_catalog.specs.Records.{Record, Catalog, item_with}
 use Rattle.hfs_catalog.specs.Lookups.{thread_of}
 use Rattle.hfs_catalog.specs.Sound.{IsRecord, LeadsTo}
 use Rattle.hfs_catalog.specs.Items.{Contents}
-use Rattle.hfs_changes.specs.Swaps.{Swaps}
+use Rattle.hfs_catalog_edits.specs.Swaps.{Swaps}
 use Rattle.hfs_changes.specs.Steps.{IfThere, IsThreadOf, is_there}
 
 -- two records of one item, under one key and of one kind

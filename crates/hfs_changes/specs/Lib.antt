@@ -1,10 +1,8 @@
-pub mod Swaps
 pub mod Once
 pub mod Sound
 pub mod Steps
 pub mod Links
 pub mod Changes
-pub mod Edited
 pub mod OnBlocks
 pub mod Laws
 pub mod SettingLaws

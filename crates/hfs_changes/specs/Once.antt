@@ -17,7 +17,7 @@ use Rattle.hfs_scans.specs.Members.{In}
 use Rattle.hfs_catalog.specs.Records.{Record, Catalog, has_id, items_of, item_ids, item_with, is_thread_of}
 use Rattle.hfs_catalog.specs.Sound.{IsRecord}
 use Rattle.hfs_catalog.specs.Lookups.{thread_of}
-use Rattle.hfs_changes.specs.Swaps.{one_if}
+use Rattle.hfs_catalog_edits.specs.Swaps.{one_if}
 
 -- ---- of any list
 

@@ -9,7 +9,7 @@ use Rattle.std.specs.Option.{unwrap_or}
 use Rattle.hfs_btree.specs.Pairs.{Order, Pairs, Rises}
 use Rattle.hfs_scans.specs.Members.{In, each_in}
 use Rattle.hfs_btree_edits.specs.Edits.{with_pair, without_pair, with_replaced}
-use Rattle.hfs_changes.specs.Swaps.{Swaps}
+use Rattle.hfs_catalog_edits.specs.Swaps.{Swaps}
 
 -- one more element in front
 deeper : {X : Type 0} (x : X) (went come : Option X) (old new : List X) → Swaps went come old new → Swaps went come (x ∷ old) (x ∷ new)

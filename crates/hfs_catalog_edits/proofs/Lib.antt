@@ -1,0 +1,5 @@
+pub mod Edits
+pub mod FoundBodies
+pub mod ThreadEdits
+pub mod Outcomes
+pub mod ItemSteps

@@ -1,0 +1,106 @@
+-- What the edits of items and threads make of the catalog: its records as a row of swaps, each of one that goes out and one that comes in.
+use Rattle.std.specs.Prelude.{◌≡◌, ℕ, ◌+◌, ◌*◌, ◌≤◌, ◌⊎◌, true, List, [], ◌∷◌, Option, Some, None}
+use Rattle.std.specs.Option.{option_map}
+use Rattle.std.specs.Ordering.{is_eq}
+use Rattle.hfs_fields.specs.declared.key.CatKey.{CatKey}
+use Rattle.hfs_fields.specs.declared.dir_record.DirRecord.{DirRecord}
+use Rattle.hfs_fields.specs.declared.file_record.FileRecord.{FileRecord}
+use Rattle.hfs_fields.specs.declared.thread_record.ThreadKind.TheVariants as kind
+use Rattle.hfs_fields.specs.Keys.{cat_cmp}
+use Rattle.hfs_fields.specs.Records.{dir_record_of, new_thread}
+use Rattle.hfs_fields.specs.RecordForms.{IsDirRecordValue, dir_record_bytes, file_record_bytes, IsThreadRecordValue}
+use Rattle.hfs_btree.specs.Tree.{Store}
+use Rattle.hfs_btree.specs.Header.{depth_of, free_nodes}
+use Rattle.hfs_btree.specs.Pairs.{lookup}
+use Rattle.hfs_catalog.specs.Records.{Record, Catalog}
+use Rattle.hfs_catalog.specs.Tree.{catalog_of}
+use Rattle.hfs_catalog.specs.Lookups.{first_key, thread_of}
+use Rattle.hfs_catalog_edits.specs.Swaps.{Swaps}
+use Rattle.hfs_catalog_edits.specs.Keeps.{KeepsCatalog}
+use Rattle.hfs_catalog_edits.specs.Rooms.{TakesNoNodes}
+use Rattle.hfs_catalog_edits.specs.Finds.{record_at}
+use Rattle.hfs_catalog_edits.specs.Bodies.{with_valence, thread_record, turned, turned_record}
+use Rattle.hfs_catalog_edits.specs.RecordEdits.{RecordSet}
+
+-- ---- a folder's valence
+
+-- the folder's record under this key has this valence and moment, and every other bit as it was
+pub record ValenceSet (key : CatKey) (n now : ℕ) (body : List ℕ) (old new : Store) : Type 0 where
+  pub set : RecordSet (key, dir_record_bytes (with_valence n now (dir_record_of body))) old new
+  pub value : IsDirRecordValue (with_valence n now (dir_record_of body))
+
+-- whatever its body is
+abbrev pub HasValenceSet : CatKey → ℕ → ℕ → Store → Store → Type 0
+HasValenceSet key n now old new = (body : List ℕ) → lookup cat_cmp key (catalog_of old) ≡ Some body → ValenceSet key n now body old new
+
+-- ---- new items
+
+-- the record of a file in this folder under this name
+abbrev pub file_record : ℕ → List ℕ → FileRecord → Record
+file_record dir name file = (record { parent = dir; name = name }, file_record_bytes file)
+
+-- the record of a folder in this one under this name
+abbrev pub folder_record : ℕ → List ℕ → DirRecord → Record
+folder_record dir name folder = (record { parent = dir; name = name }, dir_record_bytes folder)
+
+-- a new folder's thread, which leads to it
+abbrev pub folder_thread : ℕ → List ℕ → DirRecord → Record
+folder_thread dir name folder = thread_record folder.id (new_thread kind.Folder dir name)
+
+-- the folder's record came, and then its thread's
+pub record FolderCame (dir : ℕ) (name : List ℕ) (folder : DirRecord) (old new : Store) : Type 0 where
+  pub keeps : KeepsCatalog ((folder_thread dir name folder).0 ∷ (folder_record dir name folder).0 ∷ []) old new
+  pub between : Catalog
+  pub item_came : Swaps None (Some (folder_record dir name folder)) (catalog_of old) between
+  pub thread_came : Swaps None (Some (folder_thread dir name folder)) between (catalog_of new)
+  pub value : IsDirRecordValue folder
+  pub thread_value : IsThreadRecordValue (new_thread kind.Folder dir name)
+  pub most : free_nodes old ≤ free_nodes new + 2 * depth_of old + 3
+  pub most_depth : depth_of new ≤ depth_of old + 2
+
+-- ---- an item that goes
+
+-- the record under the key went, and then the thread of this ID, if there was one
+pub record ItemWent (key : CatKey) (id : ℕ) (old new : Store) : Type 0 where
+  pub keeps : KeepsCatalog [] old new
+  pub between : Catalog
+  pub item_went : Swaps (record_at key (catalog_of old)) None (catalog_of old) between
+  pub thread_went : Swaps (thread_of (catalog_of old) id) None between (catalog_of new)
+  pub took : TakesNoNodes old new
+
+-- ---- an item under another key
+
+-- the record went and came under another key; or, where the keys are equal in order, in its place
+abbrev pub Rekeyed : Option Record → Option Record → Catalog → Catalog → Type 0
+Rekeyed r s old new = Swaps r s old new ⊎ ((between : Catalog) × Swaps r None old between × Swaps None s between new)
+
+-- the record with another key and its own body
+abbrev pub with_key : CatKey → Record → Record
+with_key key r = (key, r.1)
+
+-- the record under the one key stands under the other
+pub record RecordMoved (here there : CatKey) (old new : Store) : Type 0 where
+  pub keeps : KeepsCatalog (there ∷ []) old new
+  pub moved : Rekeyed (record_at here (catalog_of old)) (option_map (with_key there) (record_at here (catalog_of old))) (catalog_of old) (catalog_of new)
+  pub most : free_nodes old ≤ free_nodes new + depth_of old + 1
+  pub most_depth : depth_of new ≤ depth_of old + 1
+  pub in_place : is_eq (cat_cmp here there) ≡ true → free_nodes new ≡ free_nodes old
+
+-- the thread of this ID, if there is one, leads to this key; no node came or went
+pub record ThreadTurned (id : ℕ) (key : CatKey) (old new : Store) : Type 0 where
+  pub keeps : KeepsCatalog (first_key id ∷ []) old new
+  pub swap : Swaps (thread_of (catalog_of old) id) (option_map (turned_record id key) (thread_of (catalog_of old) id)) (catalog_of old) (catalog_of new)
+  pub value : (thread : Record) → thread_of (catalog_of old) id ≡ Some thread → IsThreadRecordValue (turned key thread)
+  pub free : free_nodes new ≡ free_nodes old
+  pub depth : depth_of new ≡ depth_of old
+
+-- the item's record stands under another key, and then its thread, if it has one, leads there
+pub record ItemRekeyed (id : ℕ) (here there : CatKey) (old new : Store) : Type 0 where
+  pub keeps : KeepsCatalog (first_key id ∷ there ∷ []) old new
+  pub between : Catalog
+  pub item_moved : Rekeyed (record_at here (catalog_of old)) (option_map (with_key there) (record_at here (catalog_of old))) (catalog_of old) between
+  pub thread_set : Swaps (thread_of (catalog_of old) id) (option_map (turned_record id there) (thread_of (catalog_of old) id)) between (catalog_of new)
+  pub value : (thread : Record) → thread_of (catalog_of old) id ≡ Some thread → IsThreadRecordValue (turned there thread)
+  pub most : free_nodes old ≤ free_nodes new + depth_of old + 1
+  pub most_depth : depth_of new ≤ depth_of old + 1
+  pub in_place : is_eq (cat_cmp here there) ≡ true → free_nodes new ≡ free_nodes old

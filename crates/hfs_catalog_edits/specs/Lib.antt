@@ -1,0 +1,9 @@
+pub mod Swaps
+pub mod Edited
+pub mod Keeps
+pub mod Rooms
+pub mod Roots
+pub mod Bodies
+pub mod Finds
+pub mod RecordEdits
+pub mod ItemEdits

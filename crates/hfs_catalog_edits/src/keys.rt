@@ -1,0 +1,15 @@
+//! The keys of threads.
+ghost use Rattle.std.specs.Prelude.{◌≡◌};
+ghost use Rattle.hfs_catalog.specs.Lookups.{first_key};
+
+use hfs_fields::{CatKey, Name};
+
+/// The key under which the thread of an ID stands: the ID and an empty name.
+pub fn thread_key(id: u32) -> CatKey
+    ensures { result ≡ first_key id }
+{
+    let Some(name) = Name::of_bytes(&[]) else {
+        unreachable!()
+    };
+    CatKey { parent: id, name }
+}

@@ -1,0 +1,96 @@
+//! Items that come.
+ghost use Rattle.std.specs.Prelude.{◌≡◌, ◌≤◌, None, OnOk, length};
+ghost use Rattle.hfs_fields.specs.Keys.{cat_cmp};
+ghost use Rattle.hfs_fields.specs.RecordForms.{IsDirRecordValue, IsFileRecordValue};
+ghost use Rattle.hfs_btree.specs.Pairs.{lookup};
+ghost use Rattle.hfs_catalog.specs.Lookups.{first_key};
+ghost use Rattle.hfs_catalog.specs.Tree.{IsCatalogTree, catalog_of};
+ghost use Rattle.hfs_catalog_edits.specs.ItemEdits.{file_record, folder_record, FolderCame};
+ghost use Rattle.hfs_catalog_edits.specs.RecordEdits.{RecordCame};
+ghost use Rattle.hfs_catalog_edits.specs.Rooms.{IsInFile, HasRoom, HasRoomForTwo};
+ghost use Rattle.hfs_catalog_edits.specs.Roots.{HasRoot};
+
+use crate::bodies::{file_body, folder_body};
+use crate::one_record::put;
+use crate::threads::add_thread;
+use hfs_btree_edits::NodesMut;
+use hfs_fields::{CatKey, DirRecord, FileRecord, Name, ThreadKind};
+use std::alloc::{AllocError, Global};
+
+/// Adds a file to a folder that has no item of this name.
+///
+/// It takes at most depth + 1 free nodes. At `AllocError` nothing is said of the nodes.
+pub fn add_file<N: NodesMut>(
+    alloc: Global,
+    nodes: &mut N,
+    dir: u32,
+    name: &Name,
+    file: &FileRecord,
+) -> Result<(), AllocError>
+    requires tree { IsCatalogTree (N.nodes nodes.old) }
+    requires root { HasRoot (catalog_of (N.nodes nodes.old)) }
+    requires dir { 2 ≤ dir }
+    requires absent { lookup cat_cmp (record { parent = dir; name = name.now }) (catalog_of (N.nodes nodes.old)) ≡ None }
+    requires inside { IsInFile (N.nodes nodes.old) }
+    requires room { HasRoom (N.nodes nodes.old) }
+    ensures came { OnOk result (RecordCame (file_record dir name.now file.now) (N.nodes nodes.old) (N.nodes nodes.new)) }
+    ensures value { OnOk result (IsFileRecordValue file.now) }
+    ensures kept { OnOk result (N.kept nodes.new ≡ N.kept nodes.old) }
+{
+    let key = CatKey {
+        parent: dir,
+        name: *name,
+    };
+    put(alloc, nodes, &key, &file_body(file))
+}
+
+/// Adds a folder's record to a folder that has no item of this name.
+fn add_folder<N: NodesMut>(
+    alloc: Global,
+    nodes: &mut N,
+    dir: u32,
+    name: &Name,
+    folder: &DirRecord,
+) -> Result<(), AllocError>
+    requires tree { IsCatalogTree (N.nodes nodes.old) }
+    requires root { HasRoot (catalog_of (N.nodes nodes.old)) }
+    requires dir { 2 ≤ dir }
+    requires absent { lookup cat_cmp (record { parent = dir; name = name.now }) (catalog_of (N.nodes nodes.old)) ≡ None }
+    requires inside { IsInFile (N.nodes nodes.old) }
+    requires room { HasRoom (N.nodes nodes.old) }
+    ensures came { OnOk result (RecordCame (folder_record dir name.now folder.now) (N.nodes nodes.old) (N.nodes nodes.new)) }
+    ensures value { OnOk result (IsDirRecordValue folder.now) }
+    ensures kept { OnOk result (N.kept nodes.new ≡ N.kept nodes.old) }
+{
+    let key = CatKey {
+        parent: dir,
+        name: *name,
+    };
+    put(alloc, nodes, &key, &folder_body(folder))
+}
+
+/// Adds a folder to a folder that has no item of this name, and its thread. Its ID has no thread yet.
+///
+/// It takes at most 2 × depth + 3 free nodes. At `AllocError` nothing is said of the nodes.
+pub fn add_dir<N: NodesMut>(
+    alloc: Global,
+    nodes: &mut N,
+    dir: u32,
+    name: &Name,
+    folder: &DirRecord,
+) -> Result<(), AllocError>
+    requires tree { IsCatalogTree (N.nodes nodes.old) }
+    requires root { HasRoot (catalog_of (N.nodes nodes.old)) }
+    requires dir { 2 ≤ dir }
+    requires named { 1 ≤ length name.now }
+    requires id { 2 ≤ folder.now.id }
+    requires absent { lookup cat_cmp (record { parent = dir; name = name.now }) (catalog_of (N.nodes nodes.old)) ≡ None }
+    requires threadless { lookup cat_cmp (first_key folder.now.id) (catalog_of (N.nodes nodes.old)) ≡ None }
+    requires inside { IsInFile (N.nodes nodes.old) }
+    requires room { HasRoomForTwo (N.nodes nodes.old) }
+    ensures came { OnOk result (FolderCame dir name.now folder.now (N.nodes nodes.old) (N.nodes nodes.new)) }
+    ensures kept { OnOk result (N.kept nodes.new ≡ N.kept nodes.old) }
+{
+    add_folder(alloc, nodes, dir, name, folder)?;
+    add_thread(alloc, nodes, folder.id, ThreadKind::Folder, dir, name)
+}

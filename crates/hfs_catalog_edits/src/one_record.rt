@@ -1,0 +1,66 @@
+//! One record of the catalog that comes, goes, or stands in the place of another.
+ghost use Rattle.std.specs.Prelude.{◌≡◌, ◌≤◌, None, OnOk, IsTrue, length};
+ghost use Rattle.hfs_fields.specs.Keys.{cat_cmp, is_cat_body_len};
+ghost use Rattle.hfs_btree.specs.Pairs.{lookup};
+ghost use Rattle.hfs_btree_edits.specs.Conditions.{IsNoLonger, IsThere};
+ghost use Rattle.hfs_catalog.specs.Tree.{IsCatalogTree, catalog_of};
+ghost use Rattle.hfs_catalog_edits.specs.Finds.{record_at};
+ghost use Rattle.hfs_catalog_edits.specs.RecordEdits.{RecordCame, RecordWent, RecordSet};
+ghost use Rattle.hfs_catalog_edits.specs.Rooms.{IsInFile, HasRoom};
+ghost use Rattle.hfs_catalog_edits.specs.Roots.{HasRoot};
+
+use hfs_btree_edits::{NodesMut, replace};
+use hfs_btree_insertion::insert;
+use hfs_btree_removal::remove;
+use hfs_fields::CatKey;
+use std::alloc::{AllocError, Global};
+
+/// Puts a record under a key that no record has.
+pub(crate) fn put<N: NodesMut>(
+    alloc: Global,
+    nodes: &mut N,
+    key: &CatKey,
+    body: &[u8],
+) -> Result<(), AllocError>
+    requires tree { IsCatalogTree (N.nodes nodes.old) }
+    requires allowed { IsTrue (is_cat_body_len (length body.now)) }
+    requires root { HasRoot (catalog_of (N.nodes nodes.old)) }
+    requires parent { 2 ≤ key.now.parent }
+    requires absent { lookup cat_cmp key.now (catalog_of (N.nodes nodes.old)) ≡ None }
+    requires file { IsInFile (N.nodes nodes.old) }
+    requires room { HasRoom (N.nodes nodes.old) }
+    ensures came { OnOk result (RecordCame (key.now, body.now) (N.nodes nodes.old) (N.nodes nodes.new)) }
+    ensures kept { OnOk result (N.kept nodes.new ≡ N.kept nodes.old) }
+{
+    insert(alloc, nodes, key, body)
+}
+
+/// Takes the record under a key away.
+pub(crate) fn take<N: NodesMut>(
+    alloc: Global,
+    nodes: &mut N,
+    key: &CatKey,
+) -> Result<(), AllocError>
+    requires tree { IsCatalogTree (N.nodes nodes.old) }
+    requires there { IsThere (lookup cat_cmp key.now (catalog_of (N.nodes nodes.old))) }
+    ensures went { OnOk result (RecordWent (record_at key.now (catalog_of (N.nodes nodes.old))) (N.nodes nodes.old) (N.nodes nodes.new)) }
+    ensures kept { OnOk result (N.kept nodes.new ≡ N.kept nodes.old) }
+{
+    remove(alloc, nodes, key)
+}
+
+/// Puts a record in the place of the one under its key, whose body is no shorter. The key is spelled as it is given.
+pub(crate) fn set<N: NodesMut>(
+    alloc: Global,
+    nodes: &mut N,
+    key: &CatKey,
+    body: &[u8],
+) -> Result<(), AllocError>
+    requires tree { IsCatalogTree (N.nodes nodes.old) }
+    requires allowed { IsTrue (is_cat_body_len (length body.now)) }
+    requires there { IsNoLonger body.now (lookup cat_cmp key.now (catalog_of (N.nodes nodes.old))) }
+    ensures set { OnOk result (RecordSet (key.now, body.now) (N.nodes nodes.old) (N.nodes nodes.new)) }
+    ensures kept { OnOk result (N.kept nodes.new ≡ N.kept nodes.old) }
+{
+    replace(alloc, nodes, key, body)
+}

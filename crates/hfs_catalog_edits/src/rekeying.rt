@@ -1,0 +1,78 @@
+//! Items that come under another key.
+ghost use Rattle.std.specs.Prelude.{◌≡◌, ◌≤◌, true, false, None, OnOk, length};
+ghost use Rattle.std.specs.Ordering.{is_eq};
+ghost use Rattle.hfs_fields.specs.Keys.{cat_cmp};
+ghost use Rattle.hfs_fields.specs.Records.{is_item};
+ghost use Rattle.hfs_scans.specs.Each.{Each};
+ghost use Rattle.hfs_btree.specs.Pairs.{lookup};
+ghost use Rattle.hfs_catalog.specs.Sound.{IsRecord, AreNamesSound};
+ghost use Rattle.hfs_catalog.specs.Tree.{IsCatalogTree, catalog_of};
+ghost use Rattle.hfs_catalog_edits.specs.Bodies.{IfBody};
+ghost use Rattle.hfs_catalog_edits.specs.ItemEdits.{RecordMoved, ItemRekeyed};
+ghost use Rattle.hfs_catalog_edits.specs.Rooms.{IsInFile, HasRoom};
+ghost use Rattle.hfs_catalog_edits.specs.Roots.{HasRoot};
+
+use crate::one_record::{put, set, take};
+use crate::threads::turn_thread;
+use hfs_btree::find;
+use hfs_btree_edits::NodesMut;
+use hfs_fields::CatKey;
+use std::alloc::{AllocError, Global};
+
+/// Puts the record of an item under another key; where the keys are equal in order, in its place.
+fn move_record<N: NodesMut>(
+    alloc: Global,
+    nodes: &mut N,
+    from: &CatKey,
+    to: &CatKey,
+) -> Result<(), AllocError>
+    requires tree { IsCatalogTree (N.nodes nodes.old) }
+    requires root { HasRoot (catalog_of (N.nodes nodes.old)) }
+    requires there { IfBody (λ body. is_item body ≡ true) (lookup cat_cmp from.now (catalog_of (N.nodes nodes.old))) }
+    requires low { 2 ≤ from.now.parent }
+    requires dir { 2 ≤ to.now.parent }
+    requires absent { is_eq (cat_cmp from.now to.now) ≡ false → lookup cat_cmp to.now (catalog_of (N.nodes nodes.old)) ≡ None }
+    requires inside { IsInFile (N.nodes nodes.old) }
+    requires room { is_eq (cat_cmp from.now to.now) ≡ false → HasRoom (N.nodes nodes.old) }
+    ensures moved { OnOk result (RecordMoved from.now to.now (N.nodes nodes.old) (N.nodes nodes.new)) }
+    ensures kept { OnOk result (N.kept nodes.new ≡ N.kept nodes.old) }
+{
+    let Some(body) = find(alloc, nodes, from)? else {
+        unreachable!()
+    };
+    let order = from.compare(to);
+    if order.is_eq() {
+        return set(alloc, nodes, to, &body);
+    }
+    take(alloc, nodes, from)?;
+    put(alloc, nodes, to, &body)
+}
+
+/// Puts the item under one key under another one, with its body as it was; its thread, if it has one, then leads there.
+///
+/// Where the keys are equal in order it takes no free nodes, else at most depth + 1. At `AllocError` nothing is said of the
+/// nodes.
+pub fn rekey<N: NodesMut>(
+    alloc: Global,
+    nodes: &mut N,
+    id: u32,
+    from: &CatKey,
+    to: &CatKey,
+) -> Result<(), AllocError>
+    requires tree { IsCatalogTree (N.nodes nodes.old) }
+    requires records { Each IsRecord (catalog_of (N.nodes nodes.old)) }
+    requires names { AreNamesSound (catalog_of (N.nodes nodes.old)) }
+    requires root { HasRoot (catalog_of (N.nodes nodes.old)) }
+    requires there { IfBody (λ body. is_item body ≡ true) (lookup cat_cmp from.now (catalog_of (N.nodes nodes.old))) }
+    requires low { 2 ≤ from.now.parent }
+    requires dir { 2 ≤ to.now.parent }
+    requires named { 1 ≤ length to.now.name }
+    requires absent { is_eq (cat_cmp from.now to.now) ≡ false → lookup cat_cmp to.now (catalog_of (N.nodes nodes.old)) ≡ None }
+    requires inside { IsInFile (N.nodes nodes.old) }
+    requires room { is_eq (cat_cmp from.now to.now) ≡ false → HasRoom (N.nodes nodes.old) }
+    ensures rekeyed { OnOk result (ItemRekeyed id from.now to.now (N.nodes nodes.old) (N.nodes nodes.new)) }
+    ensures kept { OnOk result (N.kept nodes.new ≡ N.kept nodes.old) }
+{
+    move_record(alloc, nodes, from, to)?;
+    turn_thread(alloc, nodes, id, to)
+}

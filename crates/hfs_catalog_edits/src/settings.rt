@@ -1,0 +1,67 @@
+//! Records of items that are written anew in their place.
+ghost use Rattle.std.specs.Prelude.{◌≡◌, true, OnOk};
+ghost use Rattle.hfs_fields.specs.Keys.{cat_cmp};
+ghost use Rattle.hfs_fields.specs.Records.{is_dir};
+ghost use Rattle.hfs_btree.specs.Pairs.{lookup};
+ghost use Rattle.hfs_catalog.specs.Tree.{IsCatalogTree, catalog_of};
+ghost use Rattle.hfs_catalog_edits.specs.Bodies.{item_bytes, IsItemValue, IsOfKind, IfBody};
+ghost use Rattle.hfs_catalog_edits.specs.ItemEdits.{HasValenceSet};
+ghost use Rattle.hfs_catalog_edits.specs.RecordEdits.{RecordSet};
+
+use crate::bodies::{file_body, folder_body};
+use crate::one_record::set;
+use hfs_btree::find;
+use hfs_btree_edits::NodesMut;
+use hfs_catalog::ItemRecord;
+use hfs_fields::{CatKey, DirRecord};
+use std::alloc::{AllocError, Global};
+
+/// Writes a folder's or a file's record under its key, where there is one of the same kind. No node comes or goes.
+///
+/// At `AllocError` nothing is said of the nodes.
+pub fn set_record<N: NodesMut>(
+    alloc: Global,
+    nodes: &mut N,
+    key: &CatKey,
+    item: &ItemRecord,
+) -> Result<(), AllocError>
+    requires tree { IsCatalogTree (N.nodes nodes.old) }
+    requires there { IfBody (IsOfKind item.now) (lookup cat_cmp key.now (catalog_of (N.nodes nodes.old))) }
+    ensures set { OnOk result (RecordSet (key.now, item_bytes item.now) (N.nodes nodes.old) (N.nodes nodes.new)) }
+    ensures value { OnOk result (IsItemValue item.now) }
+    ensures kept { OnOk result (N.kept nodes.new ≡ N.kept nodes.old) }
+{
+    match item {
+        ItemRecord::Folder(folder) => set(alloc, nodes, key, &folder_body(folder)),
+        ItemRecord::File(file) => set(alloc, nodes, key, &file_body(file)),
+    }
+}
+
+/// Gives the folder under a key this valence, and `now` as the moment of its last change. All else of its record stays.
+///
+/// At `AllocError` nothing is said of the nodes.
+pub fn set_valence<N: NodesMut>(
+    alloc: Global,
+    nodes: &mut N,
+    key: &CatKey,
+    valence: u16,
+    now: u32,
+) -> Result<(), AllocError>
+    requires tree { IsCatalogTree (N.nodes nodes.old) }
+    requires there { IfBody (λ body. is_dir body ≡ true) (lookup cat_cmp key.now (catalog_of (N.nodes nodes.old))) }
+    ensures set { OnOk result (HasValenceSet key.now valence now (N.nodes nodes.old) (N.nodes nodes.new)) }
+    ensures kept { OnOk result (N.kept nodes.new ≡ N.kept nodes.old) }
+{
+    let Some(body) = find(alloc, nodes, key)? else {
+        unreachable!()
+    };
+    let Some(folder) = DirRecord::read(&body) else {
+        unreachable!()
+    };
+    let changed = DirRecord {
+        valence,
+        modified: now,
+        ..folder
+    };
+    set(alloc, nodes, key, &folder_body(&changed))
+}
