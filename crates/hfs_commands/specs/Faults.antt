@@ -1,5 +1,5 @@
 -- What is printed of a fault, and how the program ends.
-use Rattle.std.specs.Prelude.{ℕ, List, [], ◌++◌, codes}
+use Rattle.std.specs.Prelude.{ℕ, List, [], ◌++◌, codes, ◌≡◌, ◌⊎◌}
 use Rattle.std.specs.Fmt.{decimal}
 use Rattle.hfs_check.specs.declared.mount_fault.MountFault.{MountFault}
 use Rattle.hfs_check.specs.declared.mount_fault.MountFault.TheVariants as mount
@@ -51,3 +51,7 @@ fault_text (fault.CannotRead file) = codes "cannot read " ++ file.now
 fault_text (fault.CannotWrite file) = codes "cannot write " ++ file.now
 fault_text fault.OutputFailed = []
 fault_text fault.NoMemory = codes "out of memory"
+
+-- an image has too many bytes, or more than there is memory for
+abbrev pub IsTooMuch : Fault → Type 0
+IsTooMuch why = (why ≡ fault.Refused mount.TooLarge) ⊎ (why ≡ fault.NoMemory)

@@ -13,6 +13,8 @@ use Rattle.hfs_commands.specs.declared.fault.Status.TheVariants as status
 use Rattle.hfs_commands.specs.Faults.{status_number}
 use Rattle.hfs_commands.specs.Answers.{kind_text}
 use Rattle.hfs_commands.specs.Lines.{line, item_name_text}
+use Rattle.hfs_model.specs.Volume.{Entry}
+use Rattle.hfs_model.specs.Reading.{list}
 
 -- a word with a tab before it
 unfoldable pub tabbed : List ℕ → List ℕ
@@ -60,3 +62,7 @@ list_lines reply = listed_lines reply.value reply
 -- the exit status after them
 abbrev pub list_status : Reply → ℕ
 list_status reply = status_number (listed_status reply.value)
+
+-- the lines of a folder
+abbrev pub folder_lines : List Entry → ℕ → List ℕ
+folder_lines es dir = list_lines (list es dir)

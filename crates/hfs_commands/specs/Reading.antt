@@ -1,5 +1,5 @@
 -- What is read of an image's head, and what is printed of it.
-use Rattle.std.specs.Prelude.{◌≡◌, ℕ, List, length, take, drop, Option}
+use Rattle.std.specs.Prelude.{◌≡◌, ℕ, List, length, take, drop, Option, ◌<◌}
 use Rattle.std.specs.Io.KnownBytes.{Consumes}
 use Rattle.hfs_fields.specs.Numbers.{number_at}
 use Rattle.hfs_fields.specs.Mdb.{mdb_of}
@@ -21,3 +21,7 @@ info_text image = info_lines (mdb_of (field_bytes image))
 pub record GaveHead (old new : Option (List ℕ)) (head : List ℕ) : Type 0 where
   pub len : length head ≡ 1536
   pub consumed : Consumes old new head
+
+-- a reader, by its known bytes before and after, gave some bytes, fewer than so many
+abbrev pub GaveFewer : Option (List ℕ) → Option (List ℕ) → ℕ → Type 0
+GaveFewer old new most = (bytes : List ℕ) × (length bytes < most) × Consumes old new bytes

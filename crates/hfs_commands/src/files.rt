@@ -1,5 +1,6 @@
 //! Files by their paths.
 ghost use Rattle.std.specs.Prelude.{◌≡◌, ◌≤◌, ◌⊎◌, IfErr, IfOk, length};
+ghost use Rattle.hfs_commands.specs.Faults.{IsTooMuch};
 
 use crate::fault::Fault;
 use crate::input::{IMAGE_LIMIT, load};
@@ -12,7 +13,7 @@ use std::rt::Files;
 /// `Refused(TooLarge)` where it has more, `NoMemory`.
 pub fn load_file<'a, R: Files + AllocGlobal>(rt: &R, path: &'a str) -> Result<Vec<u8>, Fault<'a>>
     ensures limit { IfOk result (λ bytes. length bytes.items ≤ IMAGE_LIMIT) }
-    ensures faults { IfErr result (λ fault. (fault ≡ Fault.CannotRead path.entry) ⊎ (fault ≡ Fault.Refused MountFault.TooLarge) ⊎ (fault ≡ Fault.NoMemory)) }
+    ensures faults { IfErr result (λ why. (why ≡ Fault.CannotRead path.entry) ⊎ IsTooMuch why) }
 {
     let Ok(mut file) = File::open(rt, path) else {
         return Err(Fault::CannotRead(path));

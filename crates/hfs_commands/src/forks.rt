@@ -29,8 +29,8 @@ pub fn write_fork<W: Write>(
     name: &[u8],
     fork: Fork,
 ) -> Result<Reply, Fault<'static>>
-    ensures code { IfOk result (λ reply. reply.code ≡ fork_code (entries_of (volume_of volume.now.current)) dir name.now) }
-    ensures last { IfOk result (λ reply. IsLastRead (entries_of (volume_of volume.now.current)) dir name.now fork reply) }
+    ensures code { IfOk result (λ r. r.code ≡ fork_code (entries_of (volume_of volume.now.current)) dir name.now) }
+    ensures last { IfOk result (IsLastRead (entries_of (volume_of volume.now.current)) dir name.now fork) }
     ensures written { OnOk result (Appends (W.contents writer.old) (W.contents writer.new)
         (fork_named (entries_of (volume_of volume.now.current)) dir name.now fork)) }
     ensures unwritten { IfOk result (λ reply. reply.code ≢ pos 0 → writer.new ≡ writer.old) }

@@ -1,6 +1,7 @@
 //! Reading from any reader.
 ghost use Rattle.std.specs.Prelude.{◌≡◌, ◌<◌, ◌≤◌, ◌+◌, ℕ, List, IfOk, OnOk, OnErr, IsErrOf, Ok, true, false, ◌++◌, length, vec_len, take};
 ghost use Rattle.std.specs.Io.KnownBytes.{Consumes, IsAtEnd};
+ghost use Rattle.hfs_commands.specs.Reading.{GaveFewer};
 
 use std::alloc::Global;
 use std::io;
@@ -12,9 +13,9 @@ use thiserror::Error;
 pub fn fill<R: Read>(reader: &mut R, buffer: &mut [u8]) -> io::Result<usize>
     requires { 0 < length buffer.old }
     ensures within { IfOk result (λ count. count ≤ length buffer.new) }
-    ensures taken { IfOk result (λ count. Consumes (R.remaining reader.old) (R.remaining reader.new) (take count buffer.new)) }
+    ensures taken { IfOk result (λ n. Consumes (R.remaining reader.old) (R.remaining reader.new) (take n buffer.new)) }
     ensures ended { IfOk result (λ count. count < length buffer.new → IsAtEnd (R.remaining reader.new)) }
-    ensures err { OnErr result ((bytes : List ℕ) × (length bytes < length buffer.new) × Consumes (R.remaining reader.old) (R.remaining reader.new) bytes) }
+    ensures err { OnErr result (GaveFewer (R.remaining reader.old) (R.remaining reader.new) (length buffer.new)) }
 {
     let mut count = 0;
     for _turn in 0..u64::MAX {

@@ -3,7 +3,7 @@ ghost use Rattle.std.specs.Prelude.{◌≡◌, ◌++◌, IfOk, OnOk, string_byte
 ghost use Rattle.hfs_model.specs.Children.{entries_of};
 ghost use Rattle.hfs_model.specs.Reading.{list};
 ghost use Rattle.hfs_check.specs.VolumeOf.{volume_of};
-ghost use Rattle.hfs_commands.specs.Listing.{child_line, child_lines, code_line, list_lines, list_status, tabbed, tabbed_sizes};
+ghost use Rattle.hfs_commands.specs.Listing.{child_line, child_lines, code_line, list_lines, list_status, tabbed, tabbed_sizes, folder_lines};
 ghost use Rattle.hfs_commands.specs.Texts.{Gains};
 
 use crate::fault::Status;
@@ -89,7 +89,7 @@ pub fn children_text(alloc: Global, reply: &Reply) -> Result<(u8, String), Alloc
 /// and the code of the call. The only error is want of memory.
 pub fn list_text(alloc: Global, volume: &Volume, dir: u32) -> Result<(u8, String), AllocError>
     ensures status { IfOk result (λ told. told.0 ≡ list_status (list (entries_of (volume_of volume.now.current)) dir)) }
-    ensures lines { IfOk result (λ told. string_bytes told.1 ≡ list_lines (list (entries_of (volume_of volume.now.current)) dir)) }
+    ensures lines { IfOk result (λ t. string_bytes t.1 ≡ folder_lines (entries_of (volume_of volume.now.current)) dir) }
 {
     let reply = volume.list_in_brief(alloc, dir)?;
     children_text(alloc, &reply)
