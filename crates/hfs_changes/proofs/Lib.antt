@@ -23,3 +23,6 @@ pub mod MadeThreads
 pub mod SettingSteps
 pub mod DirCreateMakes
 pub mod RenameMakes
+pub mod Chosen
+pub mod Removal
+pub mod DeleteMakes

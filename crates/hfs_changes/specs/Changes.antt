@@ -2,6 +2,7 @@
 use Rattle.std.specs.Prelude.{◌≡◌, ℕ, ◌+◌, ◌<◌, ◌⊎◌, IsTrue, true, false, Option, Some, None}
 use Rattle.hfs_fields.specs.declared.dir_record.DirRecord.{DirRecord}
 use Rattle.hfs_fields.specs.Names.{is_item_name}
+use Rattle.hfs_fields.specs.RecordForms.{dir_record_bytes}
 use Rattle.hfs_fields.specs.Records.{is_dir, is_file, is_item, begins_thread, item_id, dir_record_of, file_record_of, thread_record_of}
 use Rattle.hfs_catalog.specs.Records.{Record, Catalog, item_with}
 use Rattle.hfs_catalog.specs.Lookups.{thread_of}
@@ -27,6 +28,11 @@ pub record HasSet (i : ℕ) (r s : Record) (old new : Catalog) : Type 0 where
 -- the forks of each file have the bytes that they had
 abbrev pub KeepsContents : Contents → Contents → Catalog → Type 0
 KeepsContents old new catalog = (k : ℕ) (r : Record) → item_with catalog k ≡ Some r → is_dir r.1 ≡ false → new (file_record_of r.1) ≡ old (file_record_of r.1)
+
+-- the same of each file but that of this ID
+abbrev pub KeepsOthers : ℕ → Contents → Contents → Catalog → Type 0
+KeepsOthers id old new catalog =
+    (k : ℕ) (r : Record) → (k ≡ id → ⊥) → item_with catalog k ≡ Some r → is_dir r.1 ≡ false → new (file_record_of r.1) ≡ old (file_record_of r.1)
 
 -- ---- a new item
 
@@ -70,6 +76,10 @@ pub record HasAdded (id dir : ℕ) (item : Record) (thread : Option Record) (r s
 -- the folder's record, with another valence and moment
 abbrev pub with_children : ℕ → ℕ → DirRecord → DirRecord
 with_children n now d = record d { valence = n; modified = now }
+
+-- a folder's record with so many children and this moment
+abbrev pub folder_with : ℕ → ℕ → Record → Record
+folder_with n now r = (r.0, dir_record_bytes (with_children n now (dir_record_of r.1)))
 
 -- ---- an item that goes
 
