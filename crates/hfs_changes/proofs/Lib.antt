@@ -26,3 +26,5 @@ pub mod RenameMakes
 pub mod Chosen
 pub mod Removal
 pub mod DeleteMakes
+pub mod Move
+pub mod MoveMakes

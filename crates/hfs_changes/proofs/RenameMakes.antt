@@ -1,5 +1,5 @@
 -- Rename makes its step.
-use Rattle.std.proofs.Common.{◌≡◌, inl, inr, ℕ, ◌-◌, Bool, true, false, cond, ◌&&◌, eqb, List, [], count_by, refl, sym, ◌∙◌, ap, subst, arith, Option, Some, None}
+use Rattle.std.proofs.Common.{◌≡◌, inl, inr, ℕ, ◌+◌, ◌-◌, Bool, true, false, cond, ◌&&◌, eqb, List, [], count_by, refl, sym, ◌∙◌, ap, subst, arith, Option, Some, None}
 use Rattle.std.specs.Prelude.{Ok, Result, ℤ, is_some}
 use Rattle.std.specs.List.{list_any, sum_by}
 use Rattle.std.specs.FinMap as map
@@ -87,16 +87,19 @@ module _ (next k : ℕ) (r : Record) (key : CatKey) (thread turned : Option Reco
         swapped_count p thread turned moved.second new moved.thread_set,
       )
 
-  pub as_much : (f : Record → ℕ) → f s ≡ f r → ((t : Record) → is_thread t.1 ≡ true → f t ≡ 0) → sum_by f new ≡ sum_by f old
-  as_much f alike none =
+  -- of any number that a thread doesn't have
+  pub rekeyed_sum : (f : Record → ℕ) → ((t : Record) → is_thread t.1 ≡ true → f t ≡ 0) → sum_by f new + f r ≡ sum_by f old + f s
+  rekeyed_sum f none =
       omega (
         arith,
-        alike,
         (item_way next k r s thread turned old new h moved).sums f,
         no_number f none thread (was_thread thread moved.thread_was),
         no_number f none turned (is_thread_now turned moved.its),
         swapped_sum f thread turned moved.second new moved.thread_set,
       )
+
+  pub as_much : (f : Record → ℕ) → f s ≡ f r → ((t : Record) → is_thread t.1 ≡ true → f t ≡ 0) → sum_by f new ≡ sum_by f old
+  as_much f alike none = omega (arith, alike, rekeyed_sum f none)
 
   -- ---- forks
 

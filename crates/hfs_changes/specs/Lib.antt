@@ -11,3 +11,4 @@ pub mod SettingLaws
 pub mod CreationLaws
 pub mod ItemLaws
 pub mod RemovalLaws
+pub mod MoveLaws
