@@ -12,18 +12,18 @@ use Rattle.hfs_model.specs.Children.{is_folder, is_child_named, child_named, ent
 use Rattle.hfs_model.specs.Replies.{is_locked_file}
 use Rattle.hfs_model.specs.Choices.{and_then, is_locked, lock_code, is_busy, is_held, is_full, is_bad_move, child_to_change, to_delete, to_move}
 
-err_ok : {A : Type 0} (code : ℤ) (x : A) → ◌≡◌ {A = Result A ℤ} (Err code) (Ok x) → ⊥
+pub err_ok : {A : Type 0} (code : ℤ) (x : A) → ◌≡◌ {A = Result A ℤ} (Err code) (Ok x) → ⊥
 err_ok code x e = cc
 
-same_ok : {A : Type 0} (x y : A) → ◌≡◌ {A = Result A ℤ} (Ok x) (Ok y) → x ≡ y
+pub same_ok : {A : Type 0} (x y : A) → ◌≡◌ {A = Result A ℤ} (Ok x) (Ok y) → x ≡ y
 same_ok x y e = cc
 
 -- a refusal that didn't come
-unless : {A : Type 0} (b : Bool) (code : ℤ) (r : Result A ℤ) (x : A) → cond b (Err code) r ≡ Ok x → (b ≡ false) × (r ≡ Ok x)
+pub unless : {A : Type 0} (b : Bool) (code : ℤ) (r : Result A ℤ) (x : A) → cond b (Err code) r ≡ Ok x → (b ≡ false) × (r ≡ Ok x)
 unless true code r x e = absurd (err_ok code x e)
 unless false code r x e = (refl, e)
 
-chained : (r : Result Entry ℤ) (next : Entry → Result Entry ℤ) (e : Entry) → and_then r next ≡ Ok e → (f : Entry) × (r ≡ Ok f) × (next f ≡ Ok e)
+pub chained : (r : Result Entry ℤ) (next : Entry → Result Entry ℤ) (e : Entry) → and_then r next ≡ Ok e → (f : Entry) × (r ≡ Ok f) × (next f ≡ Ok e)
 chained (Ok f) next e is = (f, refl, is)
 chained (Err code) next e is = absurd (err_ok code e is)
 

@@ -15,6 +15,8 @@ pub mod Frames
 pub mod CatalogEdits
 pub mod Assembled
 pub mod Stepped
+pub mod Turned
+pub mod TurnedForks
 pub mod Rekeyed
 pub mod SetMakes
 pub mod CreateMakes
@@ -28,3 +30,4 @@ pub mod Removal
 pub mod DeleteMakes
 pub mod Move
 pub mod MoveMakes
+pub mod FileIdMakes

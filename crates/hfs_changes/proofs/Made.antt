@@ -98,7 +98,7 @@ kept_bits flags true = omega arith
 kept_bits flags false = omega arith
 
 -- the kept bytes, by the flags that are kept
-kept_with : FileRecord → ℕ → List ℕ
+unfoldable pub kept_with : FileRecord → ℕ → List ℕ
 kept_with r flags =
     0 ∷ drop 1 (file_record_bytes (record r {
       flags = record { 0 = flags };

@@ -12,3 +12,4 @@ pub mod CreationLaws
 pub mod ItemLaws
 pub mod RemovalLaws
 pub mod MoveLaws
+pub mod FileIdLaws

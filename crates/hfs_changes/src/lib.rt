@@ -3,6 +3,7 @@
 
 mod catalog_items;
 mod creation;
+mod file_ids;
 mod laws;
 mod moves;
 mod removals;
@@ -10,6 +11,7 @@ mod settings;
 
 pub use catalog_items::{added_items, dropped_items, moved_items, renamed_items, threads_lead};
 pub use creation::{create_makes, dir_create_makes};
+pub use file_ids::{create_file_id_makes, delete_file_id_makes};
 pub use laws::{catalog_edits_are_steps, catalog_file_stays};
 pub use moves::cat_move_makes;
 pub use removals::{delete_file_holds, delete_folder_makes, delete_leaves_files};
