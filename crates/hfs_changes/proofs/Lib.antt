@@ -31,3 +31,4 @@ pub mod DeleteMakes
 pub mod Move
 pub mod MoveMakes
 pub mod FileIdMakes
+pub mod CountBounds

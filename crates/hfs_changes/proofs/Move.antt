@@ -1,5 +1,5 @@
 -- An item that CatMove chose, whose record stands under another folder, with its thread's, and both folders' records.
-use Rattle.std.proofs.Common.{◌≡◌, inl, ⊎_elim, ℕ, zero, suc, ◌+◌, ◌-◌, ◌<◌, Bool, true, false, not, ◌&&◌, eqb, List, length, refl, sym, ◌∙◌, ap, arith, Option, Some}
+use Rattle.std.proofs.Common.{◌≡◌, inl, ⊎_elim, ℕ, zero, suc, ◌+◌, ◌-◌, ◌<◌, Bool, true, false, ◌&&◌, eqb, List, length, refl, sym, ◌∙◌, ap, arith, Option, Some}
 use Rattle.std.specs.Prelude.{IsTrue, is_some}
 use Rattle.std.specs.List.{sum_by}
 use Rattle.std.proofs.lemmas.Bool.{eq-eqb, true≢false, ltb-true, or_left}
@@ -26,7 +26,7 @@ use Rattle.hfs_changes.specs.SettingLaws.{IsChoice}
 use Rattle.hfs_changes.specs.MoveLaws.{under_folder, HasMovedItem}
 use Rattle.hfs_changes.proofs.Items.{with_id, item_parent, item_kind}
 use Rattle.hfs_changes.proofs.Linked.{sound_counted}
-use Rattle.hfs_changes.proofs.Chosen.{MayMove, may_move}
+use Rattle.hfs_changes.proofs.Chosen.{MayMove, not_false, may_move}
 use Rattle.hfs_changes.proofs.Made.{folder_alike, folder_valence}
 use Rattle.hfs_changes.proofs.Dropped.{not_in_itself}
 use Rattle.hfs_changes.proofs.Removal.{some_child}
@@ -42,10 +42,6 @@ both_true : (a b : Bool) → (a && b) ≡ false → a ≡ true → b ≡ true �
 both_true true true e f g = true≢false e
 both_true true false e f g = true≢false (sym g)
 both_true false b e f g = true≢false (sym f)
-
-not_false : (b : Bool) → not b ≡ false → b ≡ true
-not_false true e = refl
-not_false false e = absurd (true≢false e)
 
 module _ (law : ItemsAreRecords) (catalogs : CatalogIsSound) (total now from to : ℕ) (name : List ℕ) (r : Record) (turned : Option Record) (r1 r2 : Record) (old : Blocks) (new : Catalog) (h : AreBlocksSound total old)
     (c : IsChoice old (to_move (volume_in old) from name to) r) (d : HasMovedItem c.id from to r turned r1 r2 now (catalog_in old) new) where

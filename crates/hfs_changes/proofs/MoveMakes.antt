@@ -1,5 +1,5 @@
 -- CatMove makes its step.
-use Rattle.std.proofs.Common.{◌≡◌, ℕ, ◌+◌, ◌-◌, ◌≤◌, Bool, true, false, not, ◌&&◌, ◌||◌, eqb, List, [], count_by, refl, sym, ◌∙◌, ap, subst, arith, Option, Some}
+use Rattle.std.proofs.Common.{◌≡◌, ℕ, ◌+◌, ◌-◌, ◌≤◌, Bool, true, false, not, ◌&&◌, eqb, List, [], count_by, refl, sym, ◌∙◌, ap, subst, arith, Option, Some}
 use Rattle.std.specs.Prelude.{Result, ℤ, is_some}
 use Rattle.std.specs.List.{list_any}
 use Rattle.std.specs.FinMap as map
@@ -7,7 +7,7 @@ use Rattle.hfs_fields.specs.declared.key.CatKey.{CatKey}
 use Rattle.hfs_fields.specs.declared.mdb.Mdb.{Mdb}
 use Rattle.hfs_fields.specs.Counts.{with_counts}
 use Rattle.hfs_fields.specs.Keys.{cat_cmp}
-use Rattle.hfs_fields.specs.Records.{is_dir, is_file, is_item, dir_record_of, file_record_of}
+use Rattle.hfs_fields.specs.Records.{is_dir, is_file, dir_record_of, file_record_of}
 use Rattle.hfs_scans.specs.Each.{Each}
 use Rattle.hfs_btree.specs.Pairs.{Rises}
 use Rattle.hfs_space.specs.Owners.{Fork, forks_of, owned_blocks, owners}
@@ -44,7 +44,7 @@ use Rattle.hfs_changes.proofs.Space.{record_has, forks_have}
 use Rattle.hfs_changes.proofs.Forks.{forks_kept, owners_kept}
 use Rattle.hfs_changes.proofs.KeptSpace.{no_file_forks, thread_no_dir, thread_no_file}
 use Rattle.hfs_changes.proofs.CatalogEdits.{keeps_contents}
-use Rattle.hfs_changes.proofs.Made.{dir_item, file_item, dir-not_file, folder_touched}
+use Rattle.hfs_changes.proofs.Made.{dir_item, file_item, dir-not_file, other_kind, folder_touched}
 
 moved_folder : (key : CatKey) (dir : ℕ) (body : List ℕ) → folder_of (record key { parent = dir }) (dir_record_of body) ≡ record (folder_of key (dir_record_of body)) { parent = dir }
 unfolding folder_of
@@ -54,14 +54,6 @@ moved_file : (has : Bool) (forks : List ℕ × List ℕ) (key : CatKey) (dir : �
     → file_of has forks (record key { parent = dir }) (file_record_of body) ≡ record (file_of has forks key (file_record_of body)) { parent = dir }
 unfolding file_of
 moved_file has forks key dir body = refl
-
--- an item that is no folder is a file
-other_kind : (r : Record) → is_item r.1 ≡ true → is_file r.1 ≡ not (is_dir r.1)
-other_kind r item = by (is_dir r.1) refl
-  where
-    by : (b : Bool) → is_dir r.1 ≡ b → is_file r.1 ≡ not b
-    by true d = dir-not_file r.1 d
-    by false d = sym (ap (λ (b : Bool). b || is_file r.1) d) ∙ item
 
 module _ (law : ItemsAreRecords) (valences : ValencesAreCounted) (catalogs : CatalogIsSound) (total now from to : ℕ) (name : List ℕ) (r : Record) (turned : Option Record) (r1 r2 : Record) (old new : Blocks) (h : AreBlocksSound total old)
     (c : IsChoice old (to_move (volume_in old) from name to) r) (d : HasMovedItem c.id from to r turned r1 r2 now (catalog_in old) (catalog_in new))

@@ -13,3 +13,4 @@ pub mod ItemLaws
 pub mod RemovalLaws
 pub mod MoveLaws
 pub mod FileIdLaws
+pub mod BoundLaws

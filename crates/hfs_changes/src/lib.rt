@@ -1,6 +1,7 @@
 //! What changes of its records make of a sound volume: it stays sound, and holds what the model's step makes.
 #![tactic(auto)]
 
+mod bounds;
 mod catalog_items;
 mod creation;
 mod file_ids;
@@ -9,6 +10,7 @@ mod moves;
 mod removals;
 mod settings;
 
+pub use bounds::{creation_fits, move_fits, removal_fits};
 pub use catalog_items::{added_items, dropped_items, moved_items, renamed_items, threads_lead};
 pub use creation::{create_makes, dir_create_makes};
 pub use file_ids::{create_file_id_makes, delete_file_id_makes};
