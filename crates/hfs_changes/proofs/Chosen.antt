@@ -10,7 +10,7 @@ use Rattle.hfs_model.specs.declared.codes.TheConstants.{FOLDER_FULL, BAD_NAME, N
 use Rattle.hfs_model.specs.Volume.{Volume, Entry}
 use Rattle.hfs_model.specs.Children.{is_folder, is_child_named, child_named, entries_of}
 use Rattle.hfs_model.specs.Replies.{is_locked_file}
-use Rattle.hfs_model.specs.Choices.{and_then, is_locked, lock_code, is_busy, is_held, is_full, is_bad_move, child_to_change, to_create, to_delete, to_move}
+use Rattle.hfs_model.specs.Choices.{and_then, is_locked, lock_code, is_busy, is_held, is_full, is_bad_move, child_to_change, to_create, to_delete, to_rename, to_move}
 
 pub err_ok : {A : Type 0} (code : ℤ) (x : A) → ◌≡◌ {A = Result A ℤ} (Err code) (Ok x) → ⊥
 err_ok code x e = cc
@@ -78,6 +78,13 @@ may_create v dir name id is =
     let f = unless (is_full (entries_of v) dir || eqb v.next_id 4294967295) FOLDER_FULL _ id d.1 in
     let both = neither (is_full (entries_of v) dir) (eqb v.next_id 4294967295) f.0 in
     record { named = not_false (is_item_name name) b.0; room = both.0; not_last = both.1; id_is = same_ok v.next_id id f.1 }
+
+-- the new name of an accepted renaming is one that an item may have
+pub new_name_is : (v : Volume) (dir : ℕ) (name new_name : List ℕ) (e : Entry) → to_rename v dir name new_name ≡ Ok e → is_item_name new_name ≡ true
+unfolding to_rename
+new_name_is v dir name new_name e is =
+    let a = unless (is_locked v) (lock_code v) _ e is in
+    not_false (is_item_name new_name) (unless (not (is_item_name new_name)) BAD_NAME _ e a.1).0
 
 -- what an accepted move has tested
 pub record MayMove (v : Volume) (dir : ℕ) (name : List ℕ) (new_dir : ℕ) (e : Entry) : Type 0 where

@@ -17,9 +17,10 @@ use Rattle.hfs_check.specs.Sound.{AreBlocksSound}
 use Rattle.hfs_check.specs.Laws.{CatalogIsSound}
 use Rattle.hfs_check.specs.VolumeOf.{contents_in, volume_in}
 use Rattle.hfs_changes.specs.Swaps.{one_if}
+use Rattle.hfs_changes.specs.Changes.{IsFolderWith}
 use Rattle.hfs_changes.specs.Once.{counted}
 use Rattle.hfs_changes.specs.SettingLaws.{IsChoice}
-use Rattle.hfs_changes.specs.BoundLaws.{IsFolderWith, HasRoomForOne, CreationFits, CountsItem, RemovalFits, CountsMove, MoveFits}
+use Rattle.hfs_changes.specs.BoundLaws.{HasRoomForOne, CreationFits, CountsItem, RemovalFits, CountsMove, MoveFits}
 use Rattle.hfs_changes.proofs.Items.{with_id, item_parent}
 use Rattle.hfs_changes.proofs.Linked.{sound_counted}
 use Rattle.hfs_changes.proofs.Chosen.{MayCreate, not_false, may_create, delete_chosen, may_move}
@@ -117,10 +118,10 @@ module _ (catalogs : CatalogIsSound) (total : ℕ) (old : Blocks) (h : AreBlocks
   unfolding catalog_in
   records_are = h.catalog.shape.counts.records
 
-  some_folder : (dir : ℕ) (r : Record) → IsFolderWith old dir r → 0 < folders_in
+  some_folder : (dir : ℕ) (r : Record) → IsFolderWith (catalog_in old) dir r → 0 < folders_in
   some_folder dir r f = counted (λ (x : Record). is_dir x.1) (catalog_in old) r (with_id (catalog_in old) dir r f.was).0 f.folder
 
-  valence_is : (dir : ℕ) (r : Record) → IsFolderWith old dir r → (dir_record_of r.1).valence ≡ valence_of (catalog_in old) dir
+  valence_is : (dir : ℕ) (r : Record) → IsFolderWith (catalog_in old) dir r → (dir_record_of r.1).valence ≡ valence_of (catalog_in old) dir
   valence_is dir r f = (sound_counted mdb.next_id (catalog_in old) sound).counted dir r f.was f.folder
 
   root_kinds : mdb.root_files + mdb.root_folders ≤ valence_of (catalog_in old) 2
@@ -140,7 +141,7 @@ module _ (catalogs : CatalogIsSound) (total : ℕ) (old : Blocks) (h : AreBlocks
       omega (arith, c.counted 2 sound.ids.root.0 sound.ids.root.1 root_folder, c.short 2 sound.ids.root.0 sound.ids.root.1 root_folder)
 
   -- the root has room for one more where it is the folder
-  root_room : (dir : ℕ) (r : Record) → IsFolderWith old dir r → (dir_record_of r.1).valence < 65535 → mdb.root_files + mdb.root_folders + one_if (eqb dir 2) < 65536
+  root_room : (dir : ℕ) (r : Record) → IsFolderWith (catalog_in old) dir r → (dir_record_of r.1).valence < 65535 → mdb.root_files + mdb.root_folders + one_if (eqb dir 2) < 65536
   root_room dir r f short = ⊎_elim
       (λ (two : dir ≡ 2).
       let at : valence_of (catalog_in old) dir ≡ valence_of (catalog_in old) 2 = ap (valence_of (catalog_in old)) two in
@@ -150,7 +151,7 @@ module _ (catalogs : CatalogIsSound) (total : ℕ) (old : Blocks) (h : AreBlocks
       omega (arith, root_kinds, root_short, none))
       (cases_eq dir 2)
 
-  short_by : ValencesAreCounted → (dir : ℕ) (r : Record) → IsFolderWith old dir r → is_full (entries_of (volume_in old)) dir ≡ false → (dir_record_of r.1).valence < 65535
+  pub short_by : ValencesAreCounted → (dir : ℕ) (r : Record) → IsFolderWith (catalog_in old) dir r → is_full (entries_of (volume_in old)) dir ≡ false → (dir_record_of r.1).valence < 65535
   unfolding is_full volume_in
   short_by valences dir r f room =
       let short = ltb-true (valence (entries_of (volume_in old)) dir) 65535 (not_false _ room) in
@@ -158,7 +159,7 @@ module _ (catalogs : CatalogIsSound) (total : ℕ) (old : Blocks) (h : AreBlocks
 
   -- ---- a new item
 
-  module _ (long : (header_in (catalog_nodes old)).records < 2 ^ 32) (dir id : ℕ) (name : List ℕ) (r : Record) (choice : to_create (volume_in old) dir name ≡ Ok id) (f : IsFolderWith old dir r) (valences : ValencesAreCounted) where
+  module _ (long : (header_in (catalog_nodes old)).records < 2 ^ 32) (dir id : ℕ) (name : List ℕ) (r : Record) (choice : to_create (volume_in old) dir name ≡ Ok id) (f : IsFolderWith (catalog_in old) dir r) (valences : ValencesAreCounted) where
     may : MayCreate (volume_in old) dir name id
     may = may_create (volume_in old) dir name id choice
 
@@ -193,7 +194,7 @@ module _ (catalogs : CatalogIsSound) (total : ℕ) (old : Blocks) (h : AreBlocks
 
   -- ---- an item that goes
 
-  module _ (dir : ℕ) (item r : Record) (id : ℕ) (was : item_with (catalog_in old) id ≡ Some item) (parent : item.0.parent ≡ dir) (f : IsFolderWith old dir r) where
+  module _ (dir : ℕ) (item r : Record) (id : ℕ) (was : item_with (catalog_in old) id ≡ Some item) (parent : item.0.parent ≡ dir) (f : IsFolderWith (catalog_in old) dir r) where
     own : In item (catalog_in old) × (is_item item.1 ≡ true) × (item_id item.1 ≡ id)
     own = with_id (catalog_in old) id item was
 
@@ -218,7 +219,7 @@ module _ (catalogs : CatalogIsSound) (total : ℕ) (old : Blocks) (h : AreBlocks
   -- ---- an item that is moved
 
   module _ (valences : ValencesAreCounted) (from to : ℕ) (name : List ℕ) (item r1 r2 : Record) (c : IsChoice old (to_move (volume_in old) from name to) item)
-      (one : IsFolderWith old from r1) (two : IsFolderWith old to r2) where
+      (one : IsFolderWith (catalog_in old) from r1) (two : IsFolderWith (catalog_in old) to r2) where
     there : In item (catalog_in old) × (is_item item.1 ≡ true) × (item_id item.1 ≡ c.id)
     there = with_id (catalog_in old) c.id item c.was
 

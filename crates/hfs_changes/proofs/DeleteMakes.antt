@@ -85,7 +85,7 @@ module _ (law : ItemsAreRecords) (catalogs : CatalogIsSound) (total now dir : �
   held kept =
       dropped_items law next c.id dir item thread r s (catalog_in old) (catalog_in new) (sound law catalogs total now dir name item r old (catalog_in new) h c d)
       (dropped law catalogs total now dir name item r old (catalog_in new) h c d) (contents_in old) (contents_in new) now kept
-      (folder_touched r ((dir_record_of r.1).valence - 1) now d.folder d.value)
+      (folder_touched r ((dir_record_of r.1).valence - 1) now d.parent.folder d.value)
 
   made_step : (step (volume_in old) (call.Delete dir name now)).0 ≡ record (volume_in old) { items = items; next_id = next; changed = now }
   unfolding volume_in delete
@@ -119,13 +119,13 @@ module _ (law : ItemsAreRecords) (catalogs : CatalogIsSound) (total now dir : �
     same_forks : forks_of s ≡ forks_of r
     same_forks =
         let alike = (dropped law catalogs total now dir name item r old (catalog_in new) h c d).edit.alike in
-        no_file_forks s (alike.file ∙ dir-not_file r.1 d.folder) ∙ sym (no_file_forks r (dir-not_file r.1 d.folder))
+        no_file_forks s (alike.file ∙ dir-not_file r.1 d.parent.folder) ∙ sym (no_file_forks r (dir-not_file r.1 d.parent.folder))
 
     forks_after : AreForksSound (with_counts counts (mdb_in old)) (overflow_in old) (catalog_in new)
     forks_after =
         let P = λ (x : Record). Each (IsForkSound (mdb_in old) (overflow_in old)) (forks_of x) in
         let two = swapped_each P thread None d.first d.second d.thread_went (swapped_each P (Some item) None (catalog_in old) d.first d.item_went h.forks.files tt) tt in
-        let of_folder : P s = subst (Each (IsForkSound (mdb_in old) (overflow_in old))) (sym (same_forks ∙ no_file_forks r (dir-not_file r.1 d.folder))) tt in
+        let of_folder : P s = subst (Each (IsForkSound (mdb_in old) (overflow_in old))) (sym (same_forks ∙ no_file_forks r (dir-not_file r.1 d.parent.folder))) tt in
         forks_kept counts (mdb_in old) (overflow_in old) (catalog_in old) (catalog_in new) more (swapped_each P (Some r) (Some s) d.second (catalog_in new) d.folder_set two (of_folder, tt)) h.forks
       where
         more : (p : Fork → Bool) → count_by (λ x. list_any p (forks_of x)) (catalog_in old) ≤ count_by (λ x. list_any p (forks_of x)) (catalog_in new)

@@ -32,3 +32,4 @@ pub mod Move
 pub mod MoveMakes
 pub mod FileIdMakes
 pub mod CountBounds
+pub mod NewItems

@@ -2,14 +2,14 @@
 use Rattle.std.proofs.Common.{◌≡◌, inl, ⊎_elim, ℕ, zero, suc, ◌+◌, ◌-◌, ◌<◌, Bool, true, false, ◌&&◌, eqb, List, length, refl, sym, ◌∙◌, ap, arith, Option, Some}
 use Rattle.std.specs.Prelude.{IsTrue, is_some}
 use Rattle.std.specs.List.{sum_by}
-use Rattle.std.proofs.lemmas.Bool.{eq-eqb, true≢false, ltb-true, or_left}
+use Rattle.std.proofs.lemmas.Bool.{eq-eqb, true≢false, or_left}
 use Rattle.std.proofs.lemmas.Option.{same_Some}
 use Rattle.hfs_fields.specs.Names.{is_item_name}
 use Rattle.hfs_fields.specs.Records.{is_dir, is_item, is_thread, item_id, dir_record_of}
 use Rattle.hfs_scans.specs.Members.{In, each_in}
 use Rattle.hfs_model.specs.Volume.{Entry}
-use Rattle.hfs_model.specs.Children.{is_folder_kind, child_named, valence, entries_of}
-use Rattle.hfs_model.specs.Choices.{lies_in, is_bad_move, is_held, is_full, to_move}
+use Rattle.hfs_model.specs.Children.{is_folder_kind, child_named, entries_of}
+use Rattle.hfs_model.specs.Choices.{lies_in, is_bad_move, is_held, to_move}
 use Rattle.hfs_catalog.specs.Records.{Record, Catalog, item_with}
 use Rattle.hfs_catalog.specs.Lookups.{thread_of}
 use Rattle.hfs_catalog.specs.Sound.{IsRecord, IsSoundCatalog}
@@ -25,10 +25,10 @@ use Rattle.hfs_changes.specs.Changes.{HasRekeyed, HasMoved, folder_with}
 use Rattle.hfs_changes.specs.SettingLaws.{IsChoice}
 use Rattle.hfs_changes.specs.MoveLaws.{under_folder, HasMovedItem}
 use Rattle.hfs_changes.proofs.Items.{with_id, item_parent, item_kind}
-use Rattle.hfs_changes.proofs.Linked.{sound_counted}
-use Rattle.hfs_changes.proofs.Chosen.{MayMove, not_false, may_move}
+use Rattle.hfs_changes.proofs.Chosen.{MayMove, may_move}
 use Rattle.hfs_changes.proofs.Made.{folder_alike, folder_valence}
 use Rattle.hfs_changes.proofs.Dropped.{not_in_itself}
+use Rattle.hfs_changes.proofs.CountBounds.{short_by}
 use Rattle.hfs_changes.proofs.Removal.{some_child}
 use Rattle.hfs_changes.proofs.RenameMakes.{rekeyed_sum}
 
@@ -97,36 +97,30 @@ module _ (law : ItemsAreRecords) (catalogs : CatalogIsSound) (total now from to 
   not_second : c.id ≡ to → ⊥
   unfolding is_bad_move
   not_second same =
-      let is : r ≡ r2 = same_Some r r2 (sym c.was ∙ ap (item_with (catalog_in old)) same ∙ d.second_was) in
-      let folder : is_dir r.1 ≡ true = ap (λ (x : Record). is_dir x.1) is ∙ d.second_folder in
+      let is : r ≡ r2 = same_Some r r2 (sym c.was ∙ ap (item_with (catalog_in old)) same ∙ d.entered.was) in
+      let folder : is_dir r.1 ≡ true = ap (λ (x : Record). is_dir x.1) is ∙ d.entered.folder in
       both_true (is_folder_kind e.1.kind) (lies_in (entries_of (volume_in old)) (length (entries_of (volume_in old))) to c.id) may.fine
       (item_kind (contents_in old) (catalog_in old) r ∙ folder) (lies_here (entries_of (volume_in old)) (length (entries_of (volume_in old))) to c.id (sym same))
 
-  pub room : ValencesAreCounted → (dir_record_of r2.1).valence < 65535
-  unfolding is_full volume_in
-  room valences =
-      let short = ltb-true (valence (entries_of (volume_in old)) to) 65535 (not_false _ may.room) in
-      omega (arith, short, valences (contents_in old) next (catalog_in old) h.mdb.next_id sound to, (sound_counted next (catalog_in old) sound).counted to r2 d.second_was d.second_folder)
-
   pub moved : ValencesAreCounted → HasMoved c.id from to r (under_folder to r) thread turned r1 (folder_with ((dir_record_of r1.1).valence - 1) now r1) r2 (folder_with ((dir_record_of r2.1).valence + 1) now r2) (catalog_in old) new
   moved valences =
-      let some : 0 < (dir_record_of r1.1).valence = some_child next from (catalog_in old) r r1 sound own.0 own.1 under d.first_was d.first_folder in
+      let some : 0 < (dir_record_of r1.1).valence = some_child next from (catalog_in old) r r1 sound own.0 own.1 under d.left.was d.left.folder in
       record {
         middle = d.middle;
         third = d.third;
         rekeyed = rekeyed;
         first_set = d.first_set;
         second_set = d.second_set;
-        first = record { was = d.first_was; folder = d.first_folder; alike = folder_alike r1 ((dir_record_of r1.1).valence - 1) now d.first_folder d.first_value };
-        second = record { was = d.second_was; folder = d.second_folder; alike = folder_alike r2 ((dir_record_of r2.1).valence + 1) now d.second_folder d.second_value };
+        first = record { was = d.left.was; folder = d.left.folder; alike = folder_alike r1 ((dir_record_of r1.1).valence - 1) now d.left.folder d.left_value };
+        second = record { was = d.entered.was; folder = d.entered.folder; alike = folder_alike r2 ((dir_record_of r2.1).valence + 1) now d.entered.folder d.entered_value };
         left = under;
         came = refl;
         others = others;
         not_first = λ same. not_in_itself next c.id (catalog_in old) r sound c.was (under ∙ sym same);
         not_second = not_second;
-        one_fewer = omega (arith, some, folder_valence r1 ((dir_record_of r1.1).valence - 1) now d.first_folder d.first_value);
-        one_more = folder_valence r2 ((dir_record_of r2.1).valence + 1) now d.second_folder d.second_value;
-        room = room valences;
+        one_fewer = omega (arith, some, folder_valence r1 ((dir_record_of r1.1).valence - 1) now d.left.folder d.left_value);
+        one_more = folder_valence r2 ((dir_record_of r2.1).valence + 1) now d.entered.folder d.entered_value;
+        room = short_by catalogs total old h valences to r2 d.entered may.room;
       }
 
   -- ---- sums over the records

@@ -153,10 +153,10 @@ module _ (law : ItemsAreRecords) (valences : ValencesAreCounted) (catalogs : Cat
   no_forks x folder = no_file_forks x (dir-not_file x.1 folder)
 
   first_same : forks_of s1 ≡ forks_of r1
-  first_same = no_forks s1 (whole.first.alike.dir ∙ d.first_folder) ∙ sym (no_forks r1 d.first_folder)
+  first_same = no_forks s1 (whole.first.alike.dir ∙ d.left.folder) ∙ sym (no_forks r1 d.left.folder)
 
   second_same : forks_of s2 ≡ forks_of r2
-  second_same = no_forks s2 (whole.second.alike.dir ∙ d.second_folder) ∙ sym (no_forks r2 d.second_folder)
+  second_same = no_forks s2 (whole.second.alike.dir ∙ d.entered.folder) ∙ sym (no_forks r2 d.entered.folder)
 
   more : (p : Fork → Bool) → count_by (λ x. list_any p (forks_of x)) (catalog_in old) ≤ count_by (λ x. list_any p (forks_of x)) (catalog_in new)
   more p =
@@ -172,8 +172,8 @@ module _ (law : ItemsAreRecords) (valences : ValencesAreCounted) (catalogs : Cat
       let rekeyed = move.rekeyed law catalogs total now from to name r turned r1 r2 old (catalog_in new) h c d in
       let half : AreForksSound (mdb_in old) (overflow_in old) d.middle = rekeyed_forks next c.id r s.0 thread turned (catalog_in old) d.middle sound rekeyed (mdb_in old) (mdb_in old) (overflow_in old) h.forks in
       let none : (x : Record) → is_dir x.1 ≡ true → P x = λ x folder. subst (Each (IsForkSound (mdb_in old) (overflow_in old))) (sym (no_forks x folder)) tt in
-      let one = swapped_each P (Some r1) (Some s1) d.middle d.third d.first_set half.files (none s1 (whole.first.alike.dir ∙ d.first_folder), tt) in
-      let two = swapped_each P (Some r2) (Some s2) d.third (catalog_in new) d.second_set one (none s2 (whole.second.alike.dir ∙ d.second_folder), tt) in
+      let one = swapped_each P (Some r1) (Some s1) d.middle d.third d.first_set half.files (none s1 (whole.first.alike.dir ∙ d.left.folder), tt) in
+      let two = swapped_each P (Some r2) (Some s2) d.third (catalog_in new) d.second_set one (none s2 (whole.second.alike.dir ∙ d.entered.folder), tt) in
       forks_kept counts (mdb_in old) (overflow_in old) (catalog_in old) (catalog_in new) more two h.forks
 
   owned_after : (b : ℕ) → owners (owned_blocks (with_counts counts (mdb_in old)) (overflow_in old) (catalog_in new)) b ≡ owners (owned_in old) b
@@ -206,7 +206,7 @@ module _ (law : ItemsAreRecords) (valences : ValencesAreCounted) (catalogs : Cat
         items = items;
         held = moved_items next c.id from to r s thread turned r1 s1 r2 s2 (catalog_in old) (catalog_in new) sound whole law (contents_in old) (contents_in new) now came
             contents_kept (made_item (is_dir r.1) refl)
-            (folder_touched r1 ((dir_record_of r1.1).valence - 1) now d.first_folder d.first_value) (folder_touched r2 ((dir_record_of r2.1).valence + 1) now d.second_folder d.second_value);
+            (folder_touched r1 ((dir_record_of r1.1).valence - 1) now d.left.folder d.left_value) (folder_touched r2 ((dir_record_of r2.1).valence + 1) now d.entered.folder d.entered_value);
         made = made_step;
         least = h.mdb.next_id;
         numbers = numbers;

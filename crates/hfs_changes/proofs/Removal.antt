@@ -58,7 +58,7 @@ module _ (law : ItemsAreRecords) (catalogs : CatalogIsSound) (total now dir : �
 
   pub dropped : HasDropped c.id dir item thread r s (catalog_in old) new
   dropped =
-      let some : 0 < (dir_record_of r.1).valence = some_child next dir (catalog_in old) item r sound own.0 own.1 under d.folder_was d.folder in
+      let some : 0 < (dir_record_of r.1).valence = some_child next dir (catalog_in old) item r sound own.0 own.1 under d.parent.was d.parent.folder in
       record {
         first = d.first;
         second = d.second;
@@ -68,8 +68,8 @@ module _ (law : ItemsAreRecords) (catalogs : CatalogIsSound) (total now dir : �
         item_was = c.was;
         thread_was = refl;
         parent = under;
-        edit = record { was = d.folder_was; folder = d.folder; alike = folder_alike r ((dir_record_of r.1).valence - 1) now d.folder d.value };
-        one_fewer = omega (arith, some, folder_valence r ((dir_record_of r.1).valence - 1) now d.folder d.value);
+        edit = record { was = d.parent.was; folder = d.parent.folder; alike = folder_alike r ((dir_record_of r.1).valence - 1) now d.parent.folder d.value };
+        one_fewer = omega (arith, some, folder_valence r ((dir_record_of r.1).valence - 1) now d.parent.folder d.value);
       }
 
   -- ---- counts and sums of records
@@ -91,7 +91,7 @@ module _ (law : ItemsAreRecords) (catalogs : CatalogIsSound) (total now dir : �
   -- ---- the files
 
   s_no_file : is_file s.1 ≡ false
-  s_no_file = dropped.edit.alike.file ∙ dir-not_file r.1 d.folder
+  s_no_file = dropped.edit.alike.file ∙ dir-not_file r.1 d.parent.folder
 
   file_left : (x : Record) → In x new → is_file x.1 ≡ true → In x (catalog_in old) × (item_id x.1 ≡ item_id item.1 → ⊥)
   file_left x there file =
@@ -109,7 +109,7 @@ module _ (law : ItemsAreRecords) (catalogs : CatalogIsSound) (total now dir : �
 
   pub leaves_files : LeavesFiles item (catalog_in old) new
   leaves_files = record {
-    sums = λ f none. less f (none s s_no_file ∙ sym (none r (dir-not_file r.1 d.folder))) (λ t thread. none t (thread_no_file t thread));
-    counts = λ p none. fewer p (none s s_no_file ∙ sym (none r (dir-not_file r.1 d.folder))) (λ t thread. none t (thread_no_file t thread));
+    sums = λ f none. less f (none s s_no_file ∙ sym (none r (dir-not_file r.1 d.parent.folder))) (λ t thread. none t (thread_no_file t thread));
+    counts = λ p none. fewer p (none s s_no_file ∙ sym (none r (dir-not_file r.1 d.parent.folder))) (λ t thread. none t (thread_no_file t thread));
     files = λ x there file. file_left x there file;
   }

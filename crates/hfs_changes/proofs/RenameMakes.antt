@@ -1,5 +1,5 @@
 -- Rename makes its step.
-use Rattle.std.proofs.Common.{◌≡◌, ℕ, ◌+◌, ◌-◌, Bool, true, false, cond, ◌&&◌, eqb, List, count_by, refl, sym, ◌∙◌, ap, Option, Some, None}
+use Rattle.std.proofs.Common.{◌≡◌, inl, ℕ, ◌+◌, ◌-◌, Bool, true, false, cond, ◌&&◌, eqb, List, count_by, refl, sym, ◌∙◌, ap, Option, Some, None}
 use Rattle.std.specs.Prelude.{Ok, Result, ℤ, is_some}
 use Rattle.std.specs.List.{sum_by}
 use Rattle.std.specs.FinMap as map
@@ -8,6 +8,7 @@ use Rattle.hfs_fields.specs.declared.key.CatKey.{CatKey}
 use Rattle.hfs_fields.specs.declared.mdb.Mdb.{Mdb}
 use Rattle.hfs_fields.specs.Counts.{with_counts}
 use Rattle.hfs_fields.specs.Keys.{cat_cmp}
+use Rattle.hfs_fields.specs.Names.{is_item_name}
 use Rattle.hfs_fields.specs.Records.{is_dir, is_file, is_thread, dir_record_of, file_record_of}
 use Rattle.hfs_btree.specs.Pairs.{Rises}
 use Rattle.hfs_space.specs.Extents.{Overflow}
@@ -19,7 +20,7 @@ use Rattle.hfs_model.specs.Volume.{Entry}
 use Rattle.hfs_model.specs.Choices.{to_rename}
 use Rattle.hfs_model.specs.Changes.{change, rename}
 use Rattle.hfs_model.specs.Step.{step}
-use Rattle.hfs_catalog.specs.Records.{Record, Catalog, has_thread}
+use Rattle.hfs_catalog.specs.Records.{Record, Catalog, item_with, has_thread}
 use Rattle.hfs_catalog.specs.Lookups.{thread_of}
 use Rattle.hfs_catalog.specs.Sound.{is_file_in, is_folder_in, counts_of, AreCountsSound, IsSoundCatalog}
 use Rattle.hfs_catalog.specs.Items.{file_of, folder_of, item_of, items_in}
@@ -28,11 +29,15 @@ use Rattle.hfs_check.specs.Parts.{Blocks, mdb_in, overflow_in, catalog_in, owned
 use Rattle.hfs_check.specs.Sound.{AreBlocksSound}
 use Rattle.hfs_check.specs.Laws.{CatalogIsSound}
 use Rattle.hfs_check.specs.VolumeOf.{contents_in, volume_in}
-use Rattle.hfs_changes.specs.Steps.{is_there}
-use Rattle.hfs_changes.specs.Changes.{KeepsContents, HasRekeyed}
+use Rattle.hfs_changes.specs.Steps.{IfThere, is_there}
+use Rattle.hfs_changes.specs.Swaps.{Swaps}
+use Rattle.hfs_changes.proofs.Items.{with_id}
+use Rattle.hfs_changes.specs.Changes.{KeepsContents, IsItsThread, ItemRekeyed, HasRekeyed}
 use Rattle.hfs_changes.specs.OnBlocks.{at_time, HasTree}
 use Rattle.hfs_changes.specs.Laws.{MakesStep}
-use Rattle.hfs_changes.specs.SettingLaws.{RenameMakes}
+use Rattle.hfs_changes.specs.SettingLaws.{with_name, RenameMakes}
+use Rattle.hfs_changes.proofs.Chosen.{new_name_is}
+use Rattle.hfs_changes.proofs.NewItems.{named_long}
 use Rattle.hfs_changes.proofs.Maps.{thread_known}
 use Rattle.hfs_changes.proofs.Rekeyed.{as_turned, threads_after, renamed_near, rekeyed_items}
 use Rattle.hfs_changes.proofs.TurnedForks as forks
@@ -162,6 +167,28 @@ module _ (law : ItemsAreRecords) (catalogs : CatalogIsSound) (total now k : ℕ)
       owned = owned_after;
     }
 
+-- the item stays what it is
+has_rekeyed : (k : ℕ) (r : Record) (new_name : List ℕ) (turned : Option Record) (old second new : Catalog) → item_with old k ≡ Some r → is_item_name new_name ≡ true
+    → ItemRekeyed r (with_name new_name r) old second → Swaps (thread_of old k) turned second new → IfThere (IsItsThread k (with_name new_name r)) turned
+    → is_there turned ≡ is_there (thread_of old k) → HasRekeyed k r (with_name new_name r) (thread_of old k) turned old new
+has_rekeyed k r new_name turned old second new was named item_moved thread_set its both = record {
+  second = second;
+  item_moved = item_moved;
+  thread_set = thread_set;
+  was = was;
+  thread_was = refl;
+  dir = refl;
+  file = refl;
+  id = refl;
+  name = named;
+  record_form = inl ((with_id old k r was).1, named_long new_name named);
+  valence = λ folder. refl;
+  its = its;
+  both = both;
+}
+
 pub rename_make_steps : ItemsAreRecords → CatalogIsSound → RenameMakes
-rename_make_steps law catalogs total now dir name new_name r thread turned old new h c edit =
-    rename_makes law catalogs total now c.id r new_name thread turned old new h edit.rekeyed edit.tree dir name c.is
+rename_make_steps law catalogs total now dir name new_name r turned old new h c d =
+    let named = new_name_is (volume_in old) dir name new_name _ c.is in
+    let rekeyed = has_rekeyed c.id r new_name turned (catalog_in old) d.second (catalog_in new) c.was named d.item_moved d.thread_set d.its d.both in
+    rename_makes law catalogs total now c.id r new_name (thread_of (catalog_in old) c.id) turned old new h rekeyed d.tree dir name c.is

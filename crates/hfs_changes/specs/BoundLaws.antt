@@ -1,20 +1,16 @@
 -- That the counts which calls write have room in their fields. Each statement is what a function of src/bounds.rt ensures.
-use Rattle.std.specs.Prelude.{◌≡◌, ◌≢◌, ℕ, ◌+◌, ◌<◌, ◌≤◌, ◌^◌, true, not, ◌&&◌, ◌==◌, List, Ok, Some}
+use Rattle.std.specs.Prelude.{◌≡◌, ◌≢◌, ℕ, ◌+◌, ◌<◌, ◌≤◌, ◌^◌, not, ◌&&◌, ◌==◌, List, Ok}
 use Rattle.hfs_fields.specs.declared.mdb.Mdb.{Mdb}
 use Rattle.hfs_fields.specs.Records.{is_dir, is_file, dir_record_of}
 use Rattle.hfs_btree.specs.Header.{header_in}
-use Rattle.hfs_catalog.specs.Records.{Record, item_with}
+use Rattle.hfs_catalog.specs.Records.{Record}
 use Rattle.hfs_model.specs.Choices.{to_create, to_delete, to_move}
 use Rattle.hfs_check.specs.Parts.{Blocks, mdb_in, catalog_nodes, catalog_in}
 use Rattle.hfs_check.specs.Sound.{AreBlocksSound}
 use Rattle.hfs_check.specs.VolumeOf.{volume_in}
+use Rattle.hfs_changes.specs.Changes.{IsFolderWith}
 use Rattle.hfs_changes.specs.Swaps.{one_if}
 use Rattle.hfs_changes.specs.SettingLaws.{IsChoice}
-
--- the folder's record, as it is found
-pub record IsFolderWith (old : Blocks) (dir : ℕ) (r : Record) : Type 0 where
-  pub was : item_with (catalog_in old) dir ≡ Some r
-  pub folder : is_dir r.1 ≡ true
 
 -- one more item of this folder has room in each count
 pub record HasRoomForOne (mdb : Mdb) (dir : ℕ) (r : Record) : Type 0 where
@@ -29,7 +25,7 @@ pub record HasRoomForOne (mdb : Mdb) (dir : ℕ) (r : Record) : Type 0 where
 abbrev pub CreationFits : Type 0
 CreationFits =
     (total dir id : ℕ) (name : List ℕ) (r : Record) (old : Blocks) → AreBlocksSound total old → (header_in (catalog_nodes old)).records < 2 ^ 32
-    → to_create (volume_in old) dir name ≡ Ok id → IsFolderWith old dir r → HasRoomForOne (mdb_in old) dir r
+    → to_create (volume_in old) dir name ≡ Ok id → IsFolderWith (catalog_in old) dir r → HasRoomForOne (mdb_in old) dir r
 
 -- an item of this folder is counted in each count of its kind
 pub record CountsItem (mdb : Mdb) (dir : ℕ) (item r : Record) : Type 0 where
@@ -42,7 +38,7 @@ pub record CountsItem (mdb : Mdb) (dir : ℕ) (item r : Record) : Type 0 where
 abbrev pub RemovalFits : Type 0
 RemovalFits =
     (total dir : ℕ) (name : List ℕ) (item r : Record) (old : Blocks) → AreBlocksSound total old → IsChoice old (to_delete (volume_in old) dir name) item
-    → IsFolderWith old dir r → CountsItem (mdb_in old) dir item r
+    → IsFolderWith (catalog_in old) dir r → CountsItem (mdb_in old) dir item r
 
 -- the counts of the root have room for an item that comes, and count one that goes; so do the valences of the folders that it goes
 -- from and to
@@ -57,4 +53,4 @@ pub record CountsMove (mdb : Mdb) (from to : ℕ) (item r1 r2 : Record) : Type 0
 abbrev pub MoveFits : Type 0
 MoveFits =
     (total dir new_dir : ℕ) (name : List ℕ) (item r1 r2 : Record) (old : Blocks) → AreBlocksSound total old → IsChoice old (to_move (volume_in old) dir name new_dir) item
-    → IsFolderWith old dir r1 → IsFolderWith old new_dir r2 → CountsMove (mdb_in old) dir new_dir item r1 r2
+    → IsFolderWith (catalog_in old) dir r1 → IsFolderWith (catalog_in old) new_dir r2 → CountsMove (mdb_in old) dir new_dir item r1 r2

@@ -77,6 +77,11 @@ pub record HasAdded (id dir : ℕ) (item : Record) (thread : Option Record) (r s
 abbrev pub with_children : ℕ → ℕ → DirRecord → DirRecord
 with_children n now d = record d { valence = n; modified = now }
 
+-- the folder's record, as it is found
+pub record IsFolderWith (catalog : Catalog) (dir : ℕ) (r : Record) : Type 0 where
+  pub was : item_with catalog dir ≡ Some r
+  pub folder : is_dir r.1 ≡ true
+
 -- a folder's record with so many children and this moment
 abbrev pub folder_with : ℕ → ℕ → Record → Record
 folder_with n now r = (r.0, dir_record_bytes (with_children n now (dir_record_of r.1)))

@@ -1,16 +1,16 @@
 -- What holds of CatMove. Each statement is what a function of src/moves.rt ensures.
-use Rattle.std.specs.Prelude.{◌≡◌, ℕ, ◌+◌, ◌-◌, Bool, true, not, ◌&&◌, ◌==◌, List, Option, Some}
+use Rattle.std.specs.Prelude.{◌≡◌, ℕ, ◌+◌, ◌-◌, Bool, not, ◌&&◌, ◌==◌, List, Option, Some}
 use Rattle.hfs_fields.specs.declared.mdb.Mdb.{Mdb}
 use Rattle.hfs_fields.specs.Records.{is_dir, dir_record_of}
 use Rattle.hfs_fields.specs.RecordForms.{IsDirRecordValue}
-use Rattle.hfs_catalog.specs.Records.{Record, Catalog, item_with}
+use Rattle.hfs_catalog.specs.Records.{Record, Catalog}
 use Rattle.hfs_catalog.specs.Lookups.{thread_of}
 use Rattle.hfs_model.specs.declared.call.Call.TheVariants as call
 use Rattle.hfs_model.specs.Choices.{to_move}
 use Rattle.hfs_check.specs.Parts.{Blocks, mdb_in, catalog_in}
 use Rattle.hfs_check.specs.Sound.{AreBlocksSound}
 use Rattle.hfs_check.specs.VolumeOf.{volume_in}
-use Rattle.hfs_changes.specs.Changes.{IsItsThread, ItemRekeyed, with_children, folder_with}
+use Rattle.hfs_changes.specs.Changes.{IsItsThread, ItemRekeyed, IsFolderWith, with_children, folder_with}
 use Rattle.hfs_changes.specs.Swaps.{Swaps, one_if}
 use Rattle.hfs_changes.specs.Steps.{IfThere, is_there}
 use Rattle.hfs_changes.specs.OnBlocks.{HasTree}
@@ -33,12 +33,10 @@ pub record HasMovedItem (id from to : ℕ) (r : Record) (turned : Option Record)
   pub second_set : Swaps (Some r2) (Some (folder_with ((dir_record_of r2.1).valence + 1) now r2)) third new
   pub its : IfThere (IsItsThread id (under_folder to r)) turned
   pub both : is_there turned ≡ is_there (thread_of old id)
-  pub first_was : item_with old from ≡ Some r1
-  pub first_folder : is_dir r1.1 ≡ true
-  pub first_value : IsDirRecordValue (with_children ((dir_record_of r1.1).valence - 1) now (dir_record_of r1.1))
-  pub second_was : item_with old to ≡ Some r2
-  pub second_folder : is_dir r2.1 ≡ true
-  pub second_value : IsDirRecordValue (with_children ((dir_record_of r2.1).valence + 1) now (dir_record_of r2.1))
+  pub left : IsFolderWith old from r1
+  pub left_value : IsDirRecordValue (with_children ((dir_record_of r1.1).valence - 1) now (dir_record_of r1.1))
+  pub entered : IsFolderWith old to r2
+  pub entered_value : IsDirRecordValue (with_children ((dir_record_of r2.1).valence + 1) now (dir_record_of r2.1))
 
 -- the counts where a folder or a file was moved from one folder to another
 abbrev pub with_moved : Bool → ℕ → ℕ → ℕ → Mdb → Mdb

@@ -7,7 +7,7 @@ use Rattle.hfs_fields.specs.Records.{is_dir, is_file, item_id, dir_record_of}
 use Rattle.hfs_fields.specs.RecordForms.{IsDirRecordValue}
 use Rattle.hfs_scans.specs.Members.{In}
 use Rattle.hfs_btree.specs.Pairs.{Rises}
-use Rattle.hfs_catalog.specs.Records.{Record, Catalog, item_with}
+use Rattle.hfs_catalog.specs.Records.{Record, Catalog}
 use Rattle.hfs_catalog.specs.Lookups.{thread_of}
 use Rattle.hfs_catalog.specs.Sound.{AreCountsSound}
 use Rattle.hfs_catalog.specs.Items.{items_in}
@@ -19,7 +19,7 @@ use Rattle.hfs_model.specs.Step.{step}
 use Rattle.hfs_check.specs.Parts.{Blocks, mdb_in, catalog_in}
 use Rattle.hfs_check.specs.Sound.{AreBlocksSound}
 use Rattle.hfs_check.specs.VolumeOf.{contents_in, volume_in}
-use Rattle.hfs_changes.specs.Changes.{KeepsOthers, with_children, folder_with}
+use Rattle.hfs_changes.specs.Changes.{KeepsOthers, IsFolderWith, with_children, folder_with}
 use Rattle.hfs_changes.specs.Swaps.{Swaps, one_if}
 use Rattle.hfs_changes.specs.Sound.{IsNearlySound}
 use Rattle.hfs_changes.specs.OnBlocks.{HasTree}
@@ -35,8 +35,7 @@ pub record HasDroppedItem (id dir : ℕ) (item r : Record) (now : ℕ) (old new 
   pub item_went : Swaps (Some item) None old first
   pub thread_went : Swaps (thread_of old id) None first second
   pub folder_set : Swaps (Some r) (Some (folder_with ((dir_record_of r.1).valence - 1) now r)) second new
-  pub folder_was : item_with old dir ≡ Some r
-  pub folder : is_dir r.1 ≡ true
+  pub parent : IsFolderWith old dir r
   pub value : IsDirRecordValue (with_children ((dir_record_of r.1).valence - 1) now (dir_record_of r.1))
 
 -- ---- a folder
