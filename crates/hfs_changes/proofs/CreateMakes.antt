@@ -22,15 +22,18 @@ use Rattle.hfs_catalog.specs.Records.{Record, has_thread}
 use Rattle.hfs_catalog.specs.Lookups.{thread_of}
 use Rattle.hfs_catalog.specs.Sound.{is_file_in, is_folder_in, counts_of, AreCountsSound, IsSoundCatalog}
 use Rattle.hfs_catalog.specs.Items.{file_of, item_of, items_in}
-use Rattle.hfs_catalog.specs.Laws.{ItemsAreRecords}
+use Rattle.hfs_catalog.specs.Laws.{ItemsAreRecords, ValencesAreCounted}
 use Rattle.hfs_check.specs.Parts.{Blocks, mdb_in, overflow_in, catalog_in, owned_in}
 use Rattle.hfs_check.specs.Sound.{AreBlocksSound}
 use Rattle.hfs_check.specs.Laws.{CatalogIsSound}
 use Rattle.hfs_check.specs.VolumeOf.{bytes_in, contents_in, volume_in}
 use Rattle.hfs_catalog_edits.specs.Swaps.{one_if}
 use Rattle.hfs_changes.specs.Changes.{HasAdded, with_children}
-use Rattle.hfs_changes.specs.CreationLaws.{with_file, CreateMakes}
+use Rattle.hfs_changes.specs.CreationLaws.{with_file, file_record_in, CreateMakes}
 use Rattle.hfs_changes.specs.Laws.{MakesStep}
+use Rattle.hfs_changes.proofs.Chosen.{may_create}
+use Rattle.hfs_changes.proofs.CountBounds.{short_by}
+use Rattle.hfs_changes.proofs.NewItems.{new_file_item, has_added, nothing_came}
 use Rattle.hfs_changes.proofs.Added.{near, threads3, added_items, one_more_count}
 use Rattle.hfs_changes.proofs.KeptSpace.{new_forks, added_forks, added_owners}
 use Rattle.hfs_changes.proofs.CatalogEdits.{keeps_contents}
@@ -149,5 +152,11 @@ module _ (law : ItemsAreRecords) (catalogs : CatalogIsSound) (total now dir : �
       owned = owned_after;
     }
 
-pub create_make_steps : ItemsAreRecords → CatalogIsSound → CreateMakes
-create_make_steps law catalogs total now dir name r old new h choice edit = create_makes law catalogs total now dir name r old new h edit.folder edit.file_value edit.folder_value choice edit.added edit.tree
+pub create_make_steps : ItemsAreRecords → ValencesAreCounted → CatalogIsSound → CreateMakes
+create_make_steps law valences catalogs total now dir name r old new h choice d =
+    let next = (mdb_in old).next_id in
+    let may = may_create (volume_in old) dir name next choice in
+    let room = short_by catalogs total old h valences dir r d.parent may.room in
+    let came = has_added next dir now (file_record_in next dir name now) None r (catalog_in old) d.first d.first (catalog_in new) d.file_came (nothing_came d.first) d.folder_set
+    (new_file_item next dir now name may.named d.file_value) d.parent d.folder_value room in
+    create_makes law catalogs total now dir name r old new h d.parent.folder d.file_value d.folder_value choice came d.tree

@@ -19,7 +19,7 @@ use Rattle.hfs_model.specs.Step.{step}
 use Rattle.hfs_catalog.specs.Records.{Record}
 use Rattle.hfs_catalog.specs.Sound.{is_file_in, is_folder_in, counts_of, AreCountsSound, IsSoundCatalog}
 use Rattle.hfs_catalog.specs.Items.{folder_of, item_of, items_in}
-use Rattle.hfs_catalog.specs.Laws.{ItemsAreRecords}
+use Rattle.hfs_catalog.specs.Laws.{ItemsAreRecords, ValencesAreCounted}
 use Rattle.hfs_check.specs.Parts.{Blocks, mdb_in, overflow_in, catalog_in, owned_in}
 use Rattle.hfs_check.specs.Sound.{AreBlocksSound}
 use Rattle.hfs_check.specs.Laws.{CatalogIsSound}
@@ -27,9 +27,12 @@ use Rattle.hfs_check.specs.VolumeOf.{contents_in, volume_in}
 use Rattle.hfs_catalog_edits.specs.Swaps.{one_if}
 use Rattle.hfs_changes.specs.Once.{counted}
 use Rattle.hfs_changes.specs.Changes.{HasAdded, with_children}
-use Rattle.hfs_changes.specs.CreationLaws.{with_folder, DirCreateMakes}
+use Rattle.hfs_changes.specs.CreationLaws.{with_folder, folder_record_in, DirCreateMakes}
 use Rattle.hfs_changes.specs.Laws.{MakesStep}
 use Rattle.hfs_changes.proofs.Items.{with_id}
+use Rattle.hfs_changes.proofs.Chosen.{may_create}
+use Rattle.hfs_changes.proofs.CountBounds.{short_by}
+use Rattle.hfs_changes.proofs.NewItems.{new_folder_item, has_added}
 use Rattle.hfs_changes.proofs.Added.{near, added_items, one_more_count}
 use Rattle.hfs_changes.proofs.KeptSpace.{thread_no_dir, thread_no_file, new_forks, added_forks, added_owners}
 use Rattle.hfs_changes.proofs.CatalogEdits.{keeps_contents}
@@ -140,6 +143,11 @@ module _ (law : ItemsAreRecords) (catalogs : CatalogIsSound) (total now dir : �
       owned = owned_after;
     }
 
-pub dir_create_make_steps : ItemsAreRecords → CatalogIsSound → DirCreateMakes
-dir_create_make_steps law catalogs total now dir name thread r old new h choice edit =
-    dir_create_makes law catalogs total now dir name thread r old new h edit.folder edit.new_value edit.folder_value choice edit.added edit.tree
+pub dir_create_make_steps : ItemsAreRecords → ValencesAreCounted → CatalogIsSound → DirCreateMakes
+dir_create_make_steps law valences catalogs total now dir name thread r old new h choice d =
+    let next = (mdb_in old).next_id in
+    let may = may_create (volume_in old) dir name next choice in
+    let room = short_by catalogs total old h valences dir r d.parent may.room in
+    let came = has_added next dir now (folder_record_in next dir name now) (Some thread) r (catalog_in old) d.first d.second (catalog_in new) d.folder_came d.thread_came d.folder_set
+    (new_folder_item next dir now name may.named thread d.new_value d.its) d.parent d.folder_value room in
+    dir_create_makes law catalogs total now dir name thread r old new h d.parent.folder d.new_value d.folder_value choice came d.tree

@@ -4,7 +4,7 @@ use Rattle.std.specs.Cmp.{nat_cmp_total}
 use Rattle.std.specs.Option.{option_map, unwrap_or}
 use Rattle.std.specs.List.{sum_by}
 use Rattle.std.specs.FinMap as map
-use Rattle.std.proofs.lemmas.Bool.{eqb-true, ne_eqb}
+use Rattle.std.proofs.lemmas.Bool.{eqb-true, eq-eqb, ne_eqb, true≢false}
 use Rattle.hfs_fields.specs.Keys.{cat_cmp}
 use Rattle.hfs_fields.specs.Records.{is_dir, is_item, item_id, dir_record_of}
 use Rattle.hfs_scans.specs.Each.{Each}
@@ -24,7 +24,7 @@ use Rattle.hfs_changes.specs.Once.{item_or_thread}
 use Rattle.hfs_changes.specs.Steps.{AreOnce, IfThere, IsThreadOf, ItemStep, ThreadStep, with_one, item_once, item_after, item_threads, thread_once, thread_after, thread_items}
 use Rattle.hfs_changes.specs.Links.{AreLinked, AreCounted}
 use Rattle.hfs_changes.specs.Sound.{IsNearlySound}
-use Rattle.hfs_changes.specs.Changes.{KeepsContents, HasDropped}
+use Rattle.hfs_changes.specs.Changes.{KeepsOthers, HasDropped}
 use Rattle.hfs_changes.proofs.Items.{with_id}
 use Rattle.hfs_changes.proofs.FromLawful.{sound}
 use Rattle.hfs_changes.proofs.Linked.{with_thread, sound_once, sound_linked, sound_counted, nearly_sound}
@@ -115,7 +115,7 @@ module _ (law : ItemsAreRecords) (next id dir : ℕ) (a : Record) (thread : Opti
   three : ItemStep dir (Some r) (Some s) second new
   three = edit_step dir r s second new dropped.folder_set was dropped.edit.alike
 
-  once3 : AreOnce new
+  pub once3 : AreOnce new
   once3 = item_once dir (Some r) (Some s) second new once2 three
 
   abbrev without : ℕ → Option Record
@@ -212,7 +212,7 @@ module _ (law : ItemsAreRecords) (next id dir : ℕ) (a : Record) (thread : Opti
   dropped_sound c rises lawful = sound law c next new (near rises) lawful
 
   -- the item is gone, and the folder has another modified date
-  pub dropped_items : (c d : Contents) (now : ℕ) → KeepsContents c d old → folder_of s.0 (dir_record_of s.1) ≡ at_moment now (folder_of r.0 (dir_record_of r.1))
+  pub dropped_items : (c d : Contents) (now : ℕ) → KeepsOthers id c d old → folder_of s.0 (dir_record_of s.1) ≡ at_moment now (folder_of r.0 (dir_record_of r.1))
       → items_in d new ≡ touched (map.remove (items_in c old) id) dir now
   dropped_items c d now forks folder = map.same_map nat_cmp_total map.nat_cmp-IsAntisymmetric (items_in d new) (touched (map.remove (items_in c old) id) dir now) (λ q.
       law d new q ∙ ap (option_map (item_of d new)) (items3 q)
@@ -227,7 +227,7 @@ module _ (law : ItemsAreRecords) (next id dir : ℕ) (a : Record) (thread : Opti
 
       others : (q : ℕ) (o : Option Record) → eqb id q ≡ false → item_with old q ≡ o → option_map (item_of d new) o ≡ option_map (item_of c old) o
       others q None e is = refl
-      others q (Some y) e is = ap Some (same_item_at c d old new q y (with_id old q y is).2 (forks q y is) (threads3 q ∙ past_id (thread_of old) id None q e))
+      others q (Some y) e is = ap Some (same_item_at c d old new q y (with_id old q y is).2 (forks q y (λ (same : q ≡ id). true≢false (sym (eq-eqb id q (sym same)) ∙ e)) is) (threads3 q ∙ past_id (thread_of old) id None q e))
 
       by : (q : ℕ) (b n : Bool) → eqb dir q ≡ b → eqb id q ≡ n
           → option_map (item_of d new) (cond b (Some s) (cond n None (item_with old q))) ≡ cond b (option_map (at_moment now) (cond n None (option_map (item_of c old) (item_with old q)))) (cond n None (option_map (item_of c old) (item_with old q)))

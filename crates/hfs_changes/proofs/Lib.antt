@@ -15,6 +15,8 @@ pub mod Frames
 pub mod CatalogEdits
 pub mod Assembled
 pub mod Stepped
+pub mod Turned
+pub mod TurnedForks
 pub mod Rekeyed
 pub mod SetMakes
 pub mod CreateMakes
@@ -23,3 +25,11 @@ pub mod MadeThreads
 pub mod SettingSteps
 pub mod DirCreateMakes
 pub mod RenameMakes
+pub mod Chosen
+pub mod Removal
+pub mod DeleteMakes
+pub mod Move
+pub mod MoveMakes
+pub mod FileIdMakes
+pub mod CountBounds
+pub mod NewItems

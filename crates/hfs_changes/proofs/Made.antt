@@ -1,12 +1,12 @@
 -- The records that calls write, and the items that they hold.
-use Rattle.std.proofs.Common.{◌≡◌, ℕ, Bool, true, false, cond, eqb, List, [], ◌∷◌, ◌++◌, length, drop, replicate, refl, sym, ◌∙◌, ap, arith}
+use Rattle.std.proofs.Common.{◌≡◌, ℕ, Bool, true, false, cond, not, ◌||◌, eqb, List, [], ◌∷◌, ◌++◌, length, drop, replicate, refl, sym, ◌∙◌, ap, arith}
 use Rattle.std.specs.Prelude.{◌==◌, is_some}
 use Rattle.std.proofs.lemmas.Bool.{eqb-true, eq-eqb, ne_eqb, and_parts}
 use Rattle.std.proofs.lemmas.List.{append-nil, drop_at}
 use Rattle.hfs_fields.specs.declared.key.CatKey.{CatKey}
 use Rattle.hfs_fields.specs.declared.dir_record.DirRecord.{DirRecord}
 use Rattle.hfs_fields.specs.declared.file_record.FileRecord.{FileRecord}
-use Rattle.hfs_fields.specs.Records.{is_dir, is_file, type_byte, item_id, dir_record_of, file_record_of, is_bit_set, with_bit, new_dir, new_file}
+use Rattle.hfs_fields.specs.Records.{is_dir, is_file, is_item, type_byte, item_id, dir_record_of, file_record_of, is_bit_set, with_bit, new_dir, new_file}
 use Rattle.hfs_fields.specs.RecordForms.{IsDirRecordValue, dir_record_bytes, is_dir-written, dir_record_of-written, IsFileRecordValue, file_record_bytes, length-file_record_bytes, file_record_of-written}
 use Rattle.hfs_model.specs.declared.item.Kind.TheVariants as kind
 use Rattle.hfs_model.specs.Changes as model
@@ -45,6 +45,14 @@ file-not_dir body f = elim (is_dir body) as (λ (b : Bool). is_dir body ≡ b �
 
 pub dir-not_file : (body : List ℕ) → is_dir body ≡ true → is_file body ≡ false
 dir-not_file body d = elim (is_file body) as (λ (b : Bool). is_file body ≡ b → b ≡ false) [ true ↦ λ f. absurd (no_both body f d) | false ↦ λ f. refl ] refl
+
+-- an item that is no folder is a file
+pub other_kind : (r : Record) → is_item r.1 ≡ true → is_file r.1 ≡ not (is_dir r.1)
+other_kind r item = by (is_dir r.1) refl
+  where
+    by : (b : Bool) → is_dir r.1 ≡ b → is_file r.1 ≡ not b
+    by true d = dir-not_file r.1 d
+    by false d = sym (ap (λ (b : Bool). b || is_file r.1) d) ∙ item
 
 -- the item of a file's record
 pub file_item : (c : Contents) (catalog : Catalog) (r : Record) → is_dir r.1 ≡ false → item_of c catalog r ≡ file_of (has_thread catalog (file_record_of r.1).id) (c (file_record_of r.1)) r.0 (file_record_of r.1)
@@ -98,7 +106,7 @@ kept_bits flags true = omega arith
 kept_bits flags false = omega arith
 
 -- the kept bytes, by the flags that are kept
-kept_with : FileRecord → ℕ → List ℕ
+unfoldable pub kept_with : FileRecord → ℕ → List ℕ
 kept_with r flags =
     0 ∷ drop 1 (file_record_bytes (record r {
       flags = record { 0 = flags };

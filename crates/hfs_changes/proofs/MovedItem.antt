@@ -87,7 +87,7 @@ module _ (next k from to : ℕ) (r s : Record) (thread turned : Option Record) (
   items2 : (q : ℕ) → item_with new q ≡ with_one with_first to (Some s2) q
   items2 q = item_after to (Some r2) (Some s2) third new once1 two q ∙ ap (λ o. cond (eqb to q) (Some s2) o) (items1 q)
 
-  threads2 : (q : ℕ) → thread_of new q ≡ with_one (thread_of old) k turned q
+  pub threads2 : (q : ℕ) → thread_of new q ≡ with_one (thread_of old) k turned q
   threads2 q = item_threads to (Some r2) (Some s2) third new once1 two q ∙ item_threads from (Some r1) (Some s1) middle third once0 one q ∙ threads_after next k r s thread turned old middle h moved.rekeyed q
 
   -- ---- forms and links

@@ -1,27 +1,26 @@
 -- Rename makes its step.
-use Rattle.std.proofs.Common.{◌≡◌, inl, inr, ℕ, ◌-◌, Bool, true, false, cond, ◌&&◌, eqb, List, [], count_by, refl, sym, ◌∙◌, ap, subst, arith, Option, Some, None}
+use Rattle.std.proofs.Common.{◌≡◌, inl, ℕ, ◌+◌, ◌-◌, Bool, true, false, cond, ◌&&◌, eqb, List, count_by, refl, sym, ◌∙◌, ap, Option, Some, None}
 use Rattle.std.specs.Prelude.{Ok, Result, ℤ, is_some}
-use Rattle.std.specs.List.{list_any, sum_by}
+use Rattle.std.specs.List.{sum_by}
 use Rattle.std.specs.FinMap as map
 use Rattle.std.proofs.lemmas.Bool.{eqb-true}
 use Rattle.hfs_fields.specs.declared.key.CatKey.{CatKey}
 use Rattle.hfs_fields.specs.declared.mdb.Mdb.{Mdb}
 use Rattle.hfs_fields.specs.Counts.{with_counts}
 use Rattle.hfs_fields.specs.Keys.{cat_cmp}
+use Rattle.hfs_fields.specs.Names.{is_item_name}
 use Rattle.hfs_fields.specs.Records.{is_dir, is_file, is_thread, dir_record_of, file_record_of}
-use Rattle.hfs_scans.specs.Each.{Each}
-use Rattle.hfs_scans.specs.Members.{each_in}
 use Rattle.hfs_btree.specs.Pairs.{Rises}
 use Rattle.hfs_space.specs.Extents.{Overflow}
-use Rattle.hfs_space.specs.Owners.{Fork, forks_of, owned_blocks, owners}
-use Rattle.hfs_space.specs.Sound.{IsForkSound, AreForksSound}
+use Rattle.hfs_space.specs.Owners.{owned_blocks, owners}
+use Rattle.hfs_space.specs.Sound.{AreForksSound}
 use Rattle.hfs_model.specs.declared.call.Call.TheVariants as call
 use Rattle.hfs_model.specs.declared.item.Item.{Item}
 use Rattle.hfs_model.specs.Volume.{Entry}
 use Rattle.hfs_model.specs.Choices.{to_rename}
 use Rattle.hfs_model.specs.Changes.{change, rename}
 use Rattle.hfs_model.specs.Step.{step}
-use Rattle.hfs_catalog.specs.Records.{Record, Catalog, has_thread}
+use Rattle.hfs_catalog.specs.Records.{Record, Catalog, item_with, has_thread}
 use Rattle.hfs_catalog.specs.Lookups.{thread_of}
 use Rattle.hfs_catalog.specs.Sound.{is_file_in, is_folder_in, counts_of, AreCountsSound, IsSoundCatalog}
 use Rattle.hfs_catalog.specs.Items.{file_of, folder_of, item_of, items_in}
@@ -30,19 +29,19 @@ use Rattle.hfs_check.specs.Parts.{Blocks, mdb_in, overflow_in, catalog_in, owned
 use Rattle.hfs_check.specs.Sound.{AreBlocksSound}
 use Rattle.hfs_check.specs.Laws.{CatalogIsSound}
 use Rattle.hfs_check.specs.VolumeOf.{contents_in, volume_in}
-use Rattle.hfs_catalog_edits.specs.Swaps.{one_if, passes, number_of, list_of, swapped_count, swapped_sum, swapped_each}
 use Rattle.hfs_changes.specs.Steps.{IfThere, is_there}
-use Rattle.hfs_changes.specs.Changes.{KeepsContents, IsItsThread, HasRekeyed}
+use Rattle.hfs_catalog_edits.specs.Swaps.{Swaps}
+use Rattle.hfs_changes.proofs.Items.{with_id}
+use Rattle.hfs_changes.specs.Changes.{KeepsContents, IsItsThread, ItemRekeyed, HasRekeyed}
 use Rattle.hfs_changes.specs.OnBlocks.{at_time, HasTree}
 use Rattle.hfs_changes.specs.Laws.{MakesStep}
-use Rattle.hfs_changes.specs.SettingLaws.{RenameMakes}
-use Rattle.hfs_changes.proofs.Items.{with_id}
-use Rattle.hfs_changes.proofs.Linked.{with_thread}
+use Rattle.hfs_changes.specs.SettingLaws.{with_name, RenameMakes}
+use Rattle.hfs_changes.proofs.Chosen.{new_name_is}
+use Rattle.hfs_changes.proofs.NewItems.{named_long}
 use Rattle.hfs_changes.proofs.Maps.{thread_known}
-use Rattle.hfs_changes.proofs.Rekeyed.{item_way, threads_after, renamed_near, rekeyed_items}
-use Rattle.hfs_changes.proofs.Space.{record_has, forks_have}
-use Rattle.hfs_changes.proofs.Forks.{forks_kept, owners_kept}
-use Rattle.hfs_changes.proofs.KeptSpace.{no_file_forks, thread_no_dir, thread_no_file}
+use Rattle.hfs_changes.proofs.Rekeyed.{as_turned, threads_after, renamed_near, rekeyed_items}
+use Rattle.hfs_changes.proofs.TurnedForks as forks
+use Rattle.hfs_changes.proofs.KeptSpace.{thread_no_dir, thread_no_file}
 use Rattle.hfs_changes.proofs.CatalogEdits.{keeps_contents}
 use Rattle.hfs_changes.proofs.Made.{dir_item, file_item}
 
@@ -53,74 +52,19 @@ module _ (next k : ℕ) (r : Record) (key : CatKey) (thread turned : Option Reco
   abbrev s : Record
   s = (key, r.1)
 
-  was_thread : (o : Option Record) → thread_of old k ≡ o → IfThere (λ t. is_thread t.1 ≡ true) o
-  was_thread None e = tt
-  was_thread (Some t) e = (with_thread old k t e).1
-
-  is_thread_now : (o : Option Record) → IfThere (IsItsThread k s) o → IfThere (λ t. is_thread t.1 ≡ true) o
-  is_thread_now None i = tt
-  is_thread_now (Some t) i = i.of.thread
-
-  off : (p : Record → Bool) → ((t : Record) → is_thread t.1 ≡ true → p t ≡ false) → (o : Option Record) → IfThere (λ t. is_thread t.1 ≡ true) o → ◌≡◌ {A = ℕ} (one_if (passes p o)) 0
-  off p none None i = refl
-  off p none (Some t) i = ap one_if (none t i)
-
-  no_number : (f : Record → ℕ) → ((t : Record) → is_thread t.1 ≡ true → f t ≡ 0) → (o : Option Record) → IfThere (λ t. is_thread t.1 ≡ true) o → number_of f o ≡ 0
-  no_number f none None i = refl
-  no_number f none (Some t) i = none t i
-
-  count_way : (p : Record → Bool) → p s ≡ p r → count_by p moved.second ≡ count_by p old
-  count_way p alike =
-      let same : ◌≡◌ {A = ℕ} (one_if (p s)) (one_if (p r)) = ap one_if alike in
-      elim moved.item_moved [
-        | inl swap ↦ omega (arith, same, swapped_count p (Some r) (Some s) old moved.second swap)
-        | inr two ↦ omega (arith, same, swapped_count p (Some r) None old two.0 two.1, swapped_count p None (Some s) two.0 moved.second two.2)
-      ]
-
   pub as_many : (p : Record → Bool) → p s ≡ p r → ((t : Record) → is_thread t.1 ≡ true → p t ≡ false) → count_by p new ≡ count_by p old
-  as_many p alike none =
-      omega (
-        arith,
-        count_way p alike,
-        off p none thread (was_thread thread moved.thread_was),
-        off p none turned (is_thread_now turned moved.its),
-        swapped_count p thread turned moved.second new moved.thread_set,
-      )
+  as_many = forks.as_many next k r s thread turned old new h (as_turned next k r s thread turned old new h moved)
 
-  pub as_much : (f : Record → ℕ) → f s ≡ f r → ((t : Record) → is_thread t.1 ≡ true → f t ≡ 0) → sum_by f new ≡ sum_by f old
-  as_much f alike none =
-      omega (
-        arith,
-        alike,
-        (item_way next k r s thread turned old new h moved).sums f,
-        no_number f none thread (was_thread thread moved.thread_was),
-        no_number f none turned (is_thread_now turned moved.its),
-        swapped_sum f thread turned moved.second new moved.thread_set,
-      )
-
-  -- ---- forks
+  -- of any number that a thread doesn't have
+  pub rekeyed_sum : (f : Record → ℕ) → ((t : Record) → is_thread t.1 ≡ true → f t ≡ 0) → sum_by f new + f r ≡ sum_by f old + f s
+  rekeyed_sum = forks.turned_sum next k r s thread turned old new h (as_turned next k r s thread turned old new h moved)
 
   module _ (counts mdb : Mdb) (overflow : Overflow) (sound : AreForksSound mdb overflow old) where
-    abbrev AreSound : Record → Type 0
-    AreSound x = Each (IsForkSound mdb overflow) (forks_of x)
-
-    of_thread : (o : Option Record) → IfThere (λ t. is_thread t.1 ≡ true) o → Each AreSound (list_of o)
-    of_thread None i = tt
-    of_thread (Some t) i = (subst (Each (IsForkSound mdb overflow)) (sym (no_file_forks t (thread_no_file t i))) tt, tt)
-
     pub rekeyed_forks : AreForksSound (with_counts counts mdb) overflow new
-    rekeyed_forks =
-        let own : AreSound r = each_in AreSound old r sound.files (with_id old k r moved.was).0 in
-        let same = λ (p : Fork → Bool). as_many (λ x. list_any p (forks_of x)) refl (λ t thread. ap (λ (fs : List Fork). list_any p fs) (no_file_forks t (thread_no_file t thread))) in
-        forks_kept counts mdb overflow old new (λ p. omega (arith, same p))
-        (swapped_each AreSound thread turned moved.second new moved.thread_set ((item_way next k r s thread turned old new h moved).each AreSound sound.files own) (of_thread turned (is_thread_now turned moved.its)))
-        sound
+    rekeyed_forks = forks.turned_forks next k r s thread turned old new h (as_turned next k r s thread turned old new h moved) counts mdb overflow sound refl
 
     pub rekeyed_owners : (b : ℕ) → owners (owned_blocks (with_counts counts mdb) overflow new) b ≡ owners (owned_blocks mdb overflow old) b
-    rekeyed_owners b = owners_kept counts mdb overflow old new b (as_much (record_has mdb overflow b) refl (λ t thread. has_none (forks_of t) (no_file_forks t (thread_no_file t thread))))
-      where
-        has_none : (fs : List Fork) → fs ≡ [] → forks_have mdb overflow b fs ≡ 0
-        has_none fs e = ap (forks_have mdb overflow b) e
+    rekeyed_owners = forks.turned_owners next k r s thread turned old new h (as_turned next k r s thread turned old new h moved) counts mdb overflow sound refl
 
   -- ---- the thread is there as before
 
@@ -223,6 +167,28 @@ module _ (law : ItemsAreRecords) (catalogs : CatalogIsSound) (total now k : ℕ)
       owned = owned_after;
     }
 
+-- the item stays what it is
+has_rekeyed : (k : ℕ) (r : Record) (new_name : List ℕ) (turned : Option Record) (old second new : Catalog) → item_with old k ≡ Some r → is_item_name new_name ≡ true
+    → ItemRekeyed r (with_name new_name r) old second → Swaps (thread_of old k) turned second new → IfThere (IsItsThread k (with_name new_name r)) turned
+    → is_there turned ≡ is_there (thread_of old k) → HasRekeyed k r (with_name new_name r) (thread_of old k) turned old new
+has_rekeyed k r new_name turned old second new was named item_moved thread_set its both = record {
+  second = second;
+  item_moved = item_moved;
+  thread_set = thread_set;
+  was = was;
+  thread_was = refl;
+  dir = refl;
+  file = refl;
+  id = refl;
+  name = named;
+  record_form = inl ((with_id old k r was).1, named_long new_name named);
+  valence = λ folder. refl;
+  its = its;
+  both = both;
+}
+
 pub rename_make_steps : ItemsAreRecords → CatalogIsSound → RenameMakes
-rename_make_steps law catalogs total now dir name new_name r thread turned old new h c edit =
-    rename_makes law catalogs total now c.id r new_name thread turned old new h edit.rekeyed edit.tree dir name c.is
+rename_make_steps law catalogs total now dir name new_name r turned old new h c d =
+    let named = new_name_is (volume_in old) dir name new_name _ c.is in
+    let rekeyed = has_rekeyed c.id r new_name turned (catalog_in old) d.second (catalog_in new) c.was named d.item_moved d.thread_set d.its d.both in
+    rename_makes law catalogs total now c.id r new_name (thread_of (catalog_in old) c.id) turned old new h rekeyed d.tree dir name c.is

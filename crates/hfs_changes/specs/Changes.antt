@@ -2,6 +2,7 @@
 use Rattle.std.specs.Prelude.{◌≡◌, ℕ, ◌+◌, ◌<◌, ◌⊎◌, IsTrue, true, false, Option, Some, None}
 use Rattle.hfs_fields.specs.declared.dir_record.DirRecord.{DirRecord}
 use Rattle.hfs_fields.specs.Names.{is_item_name}
+use Rattle.hfs_fields.specs.RecordForms.{dir_record_bytes}
 use Rattle.hfs_fields.specs.Records.{is_dir, is_file, is_item, begins_thread, item_id, dir_record_of, file_record_of, thread_record_of}
 use Rattle.hfs_catalog.specs.Records.{Record, Catalog, item_with}
 use Rattle.hfs_catalog.specs.Lookups.{thread_of}
@@ -27,6 +28,11 @@ pub record HasSet (i : ℕ) (r s : Record) (old new : Catalog) : Type 0 where
 -- the forks of each file have the bytes that they had
 abbrev pub KeepsContents : Contents → Contents → Catalog → Type 0
 KeepsContents old new catalog = (k : ℕ) (r : Record) → item_with catalog k ≡ Some r → is_dir r.1 ≡ false → new (file_record_of r.1) ≡ old (file_record_of r.1)
+
+-- the same of each file but that of this ID
+abbrev pub KeepsOthers : ℕ → Contents → Contents → Catalog → Type 0
+KeepsOthers id old new catalog =
+    (k : ℕ) (r : Record) → (k ≡ id → ⊥) → item_with catalog k ≡ Some r → is_dir r.1 ≡ false → new (file_record_of r.1) ≡ old (file_record_of r.1)
 
 -- ---- a new item
 
@@ -71,6 +77,15 @@ pub record HasAdded (id dir : ℕ) (item : Record) (thread : Option Record) (r s
 abbrev pub with_children : ℕ → ℕ → DirRecord → DirRecord
 with_children n now d = record d { valence = n; modified = now }
 
+-- the folder's record, as it is found
+pub record IsFolderWith (catalog : Catalog) (dir : ℕ) (r : Record) : Type 0 where
+  pub was : item_with catalog dir ≡ Some r
+  pub folder : is_dir r.1 ≡ true
+
+-- a folder's record with so many children and this moment
+abbrev pub folder_with : ℕ → ℕ → Record → Record
+folder_with n now r = (r.0, dir_record_bytes (with_children n now (dir_record_of r.1)))
+
 -- ---- an item that goes
 
 -- the item's record and its thread's went, and then came the folder's record with one child fewer
@@ -91,6 +106,23 @@ pub record HasDropped (id dir : ℕ) (item : Record) (thread : Option Record) (r
 -- the item's record went and came under another key; or, where the key is equal in order, in its place
 abbrev pub ItemRekeyed : Record → Record → Catalog → Catalog → Type 0
 ItemRekeyed r s old new = Swaps (Some r) (Some s) old new ⊎ ((between : Catalog) × Swaps (Some r) None old between × Swaps None (Some s) between new)
+
+-- an item's record came under another key or in its place, and its thread's came, went or stands in its place, and leads to it; the
+-- item stays what it is, and a folder has a thread
+pub record HasTurned (k : ℕ) (r s : Record) (thread turned : Option Record) (old new : Catalog) : Type 0 where
+  pub second : Catalog
+  pub item_moved : ItemRekeyed r s old second
+  pub thread_set : Swaps thread turned second new
+  pub was : item_with old k ≡ Some r
+  pub thread_was : thread_of old k ≡ thread
+  pub dir : is_dir s.1 ≡ is_dir r.1
+  pub file : is_file s.1 ≡ is_file r.1
+  pub id : item_id s.1 ≡ item_id r.1
+  pub name : IsTrue (is_item_name s.0.name)
+  pub record_form : IsRecord s
+  pub valence : is_dir r.1 ≡ true → (dir_record_of s.1).valence ≡ (dir_record_of r.1).valence
+  pub its : IfThere (IsItsThread k s) turned
+  pub threaded : is_dir r.1 ≡ true → is_there turned ≡ true
 
 -- an item's record came under another key, and its thread's, if it has one, leads to it; the item stays what it is
 pub record HasRekeyed (k : ℕ) (r s : Record) (thread turned : Option Record) (old new : Catalog) : Type 0 where

@@ -15,7 +15,7 @@ use Rattle.hfs_model.specs.Changes.{touched}
 use Rattle.hfs_catalog.specs.Records.{Record, Catalog}
 use Rattle.hfs_catalog.specs.Sound.{IsSoundCatalog}
 use Rattle.hfs_catalog.specs.Items.{Contents, folder_of, item_of, items_in}
-use Rattle.hfs_changes.specs.Changes.{KeepsContents, IsItsThread, HasAdded, HasDropped, HasRekeyed, HasMoved}
+use Rattle.hfs_changes.specs.Changes.{KeepsContents, KeepsOthers, IsItsThread, HasAdded, HasDropped, HasRekeyed, HasMoved}
 use Rattle.hfs_changes.specs.Sound.{IsNearlySound}
 
 abbrev pub is_folder_kind : ThreadKind → Bool
@@ -55,7 +55,7 @@ DroppedIsNear =
 abbrev pub DroppedItems : Type 0
 DroppedItems =
     (next id dir : ℕ) (item : Record) (thread : Option Record) (r s : Record) (old new : Catalog) → IsSoundCatalog next old
-    → HasDropped id dir item thread r s old new → (c d : Contents) (now : ℕ) → KeepsContents c d old → IsTouched now r s
+    → HasDropped id dir item thread r s old new → (c d : Contents) (now : ℕ) → KeepsOthers id c d old → IsTouched now r s
     → items_in d new ≡ touched (map.remove (items_in c old) id) dir now
 
 -- ---- an item under another key

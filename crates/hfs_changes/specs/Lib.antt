@@ -8,3 +8,7 @@ pub mod Laws
 pub mod SettingLaws
 pub mod CreationLaws
 pub mod ItemLaws
+pub mod RemovalLaws
+pub mod MoveLaws
+pub mod FileIdLaws
+pub mod BoundLaws

@@ -8,7 +8,8 @@ use Rattle.hfs_fields.specs.RecordForms.{IsDirRecordValue, dir_record_bytes, IsF
 use Rattle.hfs_btree.specs.Pairs.{lookup}
 use Rattle.hfs_btree_edits.specs.Edits.{with_replaced}
 use Rattle.hfs_catalog.specs.Items.{item_of}
-use Rattle.hfs_catalog.specs.Records.{Record, item_with}
+use Rattle.hfs_catalog.specs.Records.{Record, Catalog, item_with}
+use Rattle.hfs_catalog.specs.Lookups.{thread_of}
 use Rattle.hfs_model.specs.declared.call.Call.{Call}
 use Rattle.hfs_model.specs.declared.call.Call.TheVariants as call
 use Rattle.hfs_model.specs.Volume.{Entry}
@@ -16,7 +17,9 @@ use Rattle.hfs_model.specs.Choices.{file_to_change, to_rename, to_set_f_info, to
 use Rattle.hfs_check.specs.Parts.{Blocks, mdb_in, catalog_in}
 use Rattle.hfs_check.specs.Sound.{AreBlocksSound}
 use Rattle.hfs_check.specs.VolumeOf.{contents_in, volume_in}
-use Rattle.hfs_changes.specs.Changes.{HasRekeyed}
+use Rattle.hfs_changes.specs.Changes.{IsItsThread, ItemRekeyed}
+use Rattle.hfs_catalog_edits.specs.Swaps.{Swaps}
+use Rattle.hfs_changes.specs.Steps.{IfThere, is_there}
 use Rattle.hfs_changes.specs.OnBlocks.{at_time, HasTree}
 use Rattle.hfs_changes.specs.Laws.{MakesStep}
 
@@ -98,12 +101,20 @@ SetLockMakes =
     (locked : Bool) (total now dir : ℕ) (name : List ℕ) (r : Record) (old new : Blocks) → AreBlocksSound total old → IsChoice old (file_to_change (volume_in old) dir name) r
     → HasSetFile r (with_lock_bit locked (file_record_of r.1)) now old new → MakesAt (lock_call locked dir name now) now old new
 
--- the item's record stands under its key with the new name, with the body that it had, and its thread's leads to it
-pub record HasRenamed (id : ℕ) (r : Record) (new_name : List ℕ) (thread turned : Option Record) (now : ℕ) (old new : Blocks) : Type 0 where
-  pub rekeyed : HasRekeyed id r (record r.0 { name = new_name }, r.1) thread turned (catalog_in old) (catalog_in new)
+-- the item's record with another name
+abbrev pub with_name : List ℕ → Record → Record
+with_name new_name r = (record r.0 { name = new_name }, r.1)
+
+-- the item's record stands under its key with the new name, with the body that it had, and its thread's, if it has one, leads to it
+pub record HasRenamed (id : ℕ) (r : Record) (new_name : List ℕ) (turned : Option Record) (now : ℕ) (old new : Blocks) : Type 0 where
+  pub second : Catalog
+  pub item_moved : ItemRekeyed r (with_name new_name r) (catalog_in old) second
+  pub thread_set : Swaps (thread_of (catalog_in old) id) turned second (catalog_in new)
+  pub its : IfThere (IsItsThread id (with_name new_name r)) turned
+  pub both : is_there turned ≡ is_there (thread_of (catalog_in old) id)
   pub tree : HasTree (at_time now (mdb_in old)) old new
 
 abbrev pub RenameMakes : Type 0
 RenameMakes =
-    (total now dir : ℕ) (name new_name : List ℕ) (r : Record) (thread turned : Option Record) (old new : Blocks) → AreBlocksSound total old
-    → (c : IsChoice old (to_rename (volume_in old) dir name new_name) r) → HasRenamed c.id r new_name thread turned now old new → MakesAt (call.Rename dir name new_name now) now old new
+    (total now dir : ℕ) (name new_name : List ℕ) (r : Record) (turned : Option Record) (old new : Blocks) → AreBlocksSound total old
+    → (c : IsChoice old (to_rename (volume_in old) dir name new_name) r) → HasRenamed c.id r new_name turned now old new → MakesAt (call.Rename dir name new_name now) now old new

@@ -2,7 +2,7 @@
 //! call.
 ghost use Rattle.hfs_changes.specs.CreationLaws.{CreateMakes, DirCreateMakes};
 
-use hfs_catalog::items_are_records;
+use hfs_catalog::{items_are_records, valences_are_counted};
 use hfs_check::catalog_is_sound;
 
 /// A new file's record under the next ID, and its folder's with one more child, make the step of Create.
@@ -10,6 +10,7 @@ pub fn create_makes()
     ensures { CreateMakes }
 {
     items_are_records();
+    valences_are_counted();
     catalog_is_sound();
 }
 
@@ -18,5 +19,6 @@ pub fn dir_create_makes()
     ensures { DirCreateMakes }
 {
     items_are_records();
+    valences_are_counted();
     catalog_is_sound();
 }
