@@ -1,0 +1,2 @@
+mod Shrunk
+mod FilesKeys

@@ -1,0 +1,6 @@
+//! What a file that goes gives back: its records of the extents tree, and the bits of its allocation blocks.
+#![tactic(auto)]
+
+mod dropping;
+
+pub use dropping::drop_overflow;
