@@ -1,2 +1,3 @@
 mod Shrunk
 mod FilesKeys
+mod ReleasedMore

@@ -2,5 +2,7 @@
 #![tactic(auto)]
 
 mod dropping;
+mod releasing;
 
 pub use dropping::drop_overflow;
+pub use releasing::release_extents;
