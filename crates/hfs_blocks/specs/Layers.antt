@@ -93,3 +93,7 @@ GainsOnly old other new = (k : ℕ) → IsSome (new k) → IsSome (old k) ⊎ Is
 -- over these blocks, a patch shows the blocks of another that was laid over the old one
 abbrev pub IsLaid : (ℕ → List ℕ) → Numbered → Numbered → Numbered → Type 0
 IsLaid below old other new = ShowsLaid below (changes old) (changes other) (changes new)
+
+-- where the old blocks are whole and among so many, the new ones are
+abbrev pub KeepsWithin : Numbered → Numbered → ℕ → Type 0
+KeepsWithin old new count = AreWithin (changes old) count → AreWithin (changes new) count

@@ -1,7 +1,7 @@
 //! The volume bitmap.
 
 ghost use Rattle.std.specs.Prelude.{◌≡◌, ℕ, ◌+◌, ◌<◌, ◌≤◌, ◌^◌, length, OnOk};
-ghost use Rattle.hfs_blocks.specs.Layers.{changes, over};
+ghost use Rattle.hfs_blocks.specs.Layers.{KeepsWithin};
 ghost use Rattle.hfs_space.specs.Bitmap as spec;
 
 use crate::bits::{clear_bits, clear_in, is_marked};
@@ -56,11 +56,13 @@ impl<B: Blocks> Bitmap<'_, B> {
 
     /// Clears the bits of `count` allocation blocks from `first` on, in the volume's blocks with the patch over them. The
     /// blocks of the bitmap that have these bits are in the patch afterwards. For want of memory some of the bits may still
-    /// be set; no other bit and no other block has changed then either.
+    /// be set; no other bit and no other block has changed then either. The patch gets blocks of the bitmap alone, which are
+    /// among the volume's.
     pub fn release(&self, patch: &mut Patch, first: u16, count: u16) -> Result<(), AllocError>
         requires { first + count ≤ self.now.count }
         ensures cleared { OnOk result (spec.AreClearIn patch.new (B.blocks self.now.blocks.now) self.now.start first count) }
         ensures others { spec.KeepsOthersIn patch.old patch.new (B.blocks self.now.blocks.now) self.now.start first count }
+        ensures within { KeepsWithin patch.old patch.new (B.total self.now.blocks.now) }
     {
         let first = u32::from(first);
         let end = first + u32::from(count);

@@ -1,7 +1,7 @@
 -- The bits in one more block are clear.
-use Rattle.std.proofs.Common.{◌+◌, ◌-◌, ◌*◌, ◌∙◌, ap}
+use Rattle.std.proofs.Common.{◌+◌, ◌-◌, ◌*◌, ◌∙◌, ap, subst, sym, rules}
 use Rattle.hfs_space.specs.Bitmap.{is_marked}
-use Rattle.hfs_blocks.specs.Layers.{changes, over, with_block, over-with_change}
+use Rattle.hfs_blocks.specs.Layers.{Changes, Numbered, changes, over, with_block, over-with_change, AreWithin, AreWithin-with_change}
 use Rattle.hfs_space.proofs.Releases.{releasing-more}
 use Rattle.hfs_space.proofs.bitmap.Bitmap.release.Goals as goal
 
@@ -15,6 +15,14 @@ loop-i-preserved g c =
     let read = c.block.ensures ∙ (λ t. over (changes (c.over.ensures.patch t)) (blocks (c.over.ensures.below t)) (c.from-in-loop-i.ensures t + i)) in
     let written = ap (λ changed. over changed below) c.in_ok-put.ensures.written ∙ over-with_change before below (c.from-in-loop-i.result + i) bytes
     ∙ ap (λ start. with_block (over before below) (start + i) bytes) c.from-in-loop-i.ensures in
-    releasing-more (over (changes c.args.patch.now) below) (over before below) (over (changes c.put.new.self) below) c.args.self.now.start c.from-first.result (c.from-first.result + c.from.result) i
-    (c.max.result - i * 4096) (c.min.result - i * 4096) bytes written (ap (λ m. m - i * 4096) c.max.ensures) (ap (λ m. m - i * 4096) c.min.ensures)
-    c.clear_bits.ensures.clear (λ k apart. c.clear_bits.ensures.others k apart ∙ ap (λ b. is_marked b k) read) c.loop-i.auto.i c.loop-i.invariant
+    record {
+      releasing = releasing-more (over (changes c.args.patch.now) below) (over before below) (over (changes c.put.new.self) below) c.args.self.now.start c.from-first.result (c.from-first.result + c.from.result) i
+          (c.max.result - i * 4096) (c.min.result - i * 4096) bytes written (ap (λ m. m - i * 4096) c.max.ensures) (ap (λ m. m - i * 4096) c.min.ensures)
+          c.clear_bits.ensures.clear (λ k apart. c.clear_bits.ensures.others k apart ∙ ap (λ b. is_marked b k) read) c.loop-i.auto.i c.loop-i.invariant.releasing;
+      within = λ was.
+          subst (λ (ch : Changes). AreWithin ch (g.B.Blocks.total c.args.self.now.blocks.now)) (sym c.in_ok-put.ensures.written)
+          (AreWithin-with_change before (c.from-in-loop-i.result + i) bytes (g.B.Blocks.total c.args.self.now.blocks.now) (search rules) (search rules) (c.loop-i.invariant.within was));
+    }
+
+pub returns-in_err-put-clause-within : goal.returns-in_err-put-clause-within
+returns-in_err-put-clause-within g c = λ was. subst (λ (p : Numbered). AreWithin (changes p) (g.B.Blocks.total c.args.self.now.blocks.now)) (sym c.in_err-put.ensures.kept) (c.loop-i.invariant.within was)

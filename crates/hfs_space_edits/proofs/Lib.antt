@@ -1,0 +1,3 @@
+mod Shrunk
+mod FilesKeys
+mod ReleasedMore

@@ -1,0 +1,3 @@
+pub mod Overflows
+pub mod Dropped
+pub mod Released

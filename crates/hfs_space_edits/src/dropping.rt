@@ -1,0 +1,48 @@
+//! The records of the extents tree of a file that goes.
+
+ghost use Rattle.std.specs.Prelude.{◌≡◌, MatchOption, OnOk};
+ghost use Rattle.hfs_space.specs.TreeKeys.{IsExtentsTree, overflow_of};
+ghost use Rattle.hfs_space_edits.specs.Overflows.{AreOfOthers, IsKeyOf};
+ghost use Rattle.hfs_space_edits.specs.Dropped.{HasDropped};
+
+use hfs_btree::{Nodes, Walk};
+use hfs_btree_edits::NodesMut;
+use hfs_btree_removal::remove;
+use hfs_fields::ExtKey;
+use std::alloc::{AllocError, Global};
+
+/// The key of a file's first record in the extents tree, if it has one. Takes no memory.
+fn first_of_file<N: Nodes>(nodes: &N, file: u32) -> Option<ExtKey>
+    requires { IsExtentsTree (N.nodes nodes.now) }
+    ensures { MatchOption result (AreOfOthers file (overflow_of (N.nodes nodes.now))) (λ key. IsKeyOf file key (overflow_of (N.nodes nodes.now))) }
+{
+    let least = ExtKey {
+        fork: 0,
+        file,
+        block: 0,
+    };
+    let walk = Walk::from(nodes, &least);
+    match walk.pair() {
+        Some(pair) if pair.key.file == file => Some(pair.key),
+        _ => None,
+    }
+}
+
+/// Takes all records of a file out of the extents tree: those of both its forks. Nothing is written where it has none.
+///
+/// The work is that of a search and a removal for each of the file's own records, however many others have.
+///
+/// Errors: `AllocError` where memory was refused. Then nothing is known of the nodes, which are to be thrown away.
+///
+/// Source: Inside Macintosh: Files, chapter 2, 'Extents overflow file'.
+pub fn drop_overflow<S: NodesMut>(alloc: Global, nodes: &mut S, file: u32) -> Result<(), AllocError>
+    requires { IsExtentsTree (S.nodes nodes.old) }
+    ensures dropped { OnOk result (HasDropped file (S.nodes nodes.old) (S.nodes nodes.new)) }
+    ensures none { AreOfOthers file (overflow_of (S.nodes nodes.old)) → nodes.new ≡ nodes.old }
+    ensures kept { OnOk result (S.kept nodes.new ≡ S.kept nodes.old) }
+{
+    while let Some(key) = first_of_file(nodes, file) {
+        remove(alloc, nodes, &key)?;
+    }
+    Ok(())
+}
