@@ -14,3 +14,4 @@ pub mod RemovalLaws
 pub mod MoveLaws
 pub mod FileIdLaws
 pub mod BoundLaws
+pub mod PlaceLaws
