@@ -1,5 +1,5 @@
 -- What the calls that remove and move an item have tested of the one that they choose.
-use Rattle.std.proofs.Common.{◌≡◌, ℕ, Bool, true, false, cond, not, ◌||◌, eqb, List, refl, ap, subst, Option, Some, None}
+use Rattle.std.proofs.Common.{◌≡◌, ℕ, Bool, true, false, cond, not, ◌||◌, eqb, List, refl, ◌∙◌, ap, subst, Option, Some, None}
 use Rattle.std.specs.Prelude.{Result, Ok, Err, ℤ}
 use Rattle.std.specs.Option.{ok_or}
 use Rattle.std.proofs.lemmas.Bool.{eqb-true, and_parts, true≢false}
@@ -10,7 +10,7 @@ use Rattle.hfs_model.specs.declared.codes.TheConstants.{FOLDER_FULL, BAD_NAME, N
 use Rattle.hfs_model.specs.Volume.{Volume, Entry}
 use Rattle.hfs_model.specs.Children.{is_folder, is_child_named, child_named, entries_of}
 use Rattle.hfs_model.specs.Replies.{is_locked_file}
-use Rattle.hfs_model.specs.Choices.{and_then, is_locked, lock_code, is_busy, is_held, is_full, is_bad_move, child_to_change, to_create, to_delete, to_rename, to_move}
+use Rattle.hfs_model.specs.Choices.{and_then, is_locked, lock_code, unless_locked_file, is_busy, is_held, is_taken, is_full, is_bad_move, child_to_change, to_create, to_delete, to_rename, to_move}
 
 pub err_ok : {A : Type 0} (code : ℤ) (x : A) → ◌≡◌ {A = Result A ℤ} (Err code) (Ok x) → ⊥
 err_ok code x e = cc
@@ -64,6 +64,7 @@ neither false b e = (refl, e)
 -- what an accepted creation has tested
 pub record MayCreate (v : Volume) (dir : ℕ) (name : List ℕ) (id : ℕ) : Type 0 where
   pub named : is_item_name name ≡ true
+  pub free : is_held (entries_of v) dir name ≡ false
   pub room : is_full (entries_of v) dir ≡ false
   pub not_last : eqb v.next_id 4294967295 ≡ false
   pub id_is : v.next_id ≡ id
@@ -77,14 +78,28 @@ may_create v dir name id is =
     let d = unless (is_held (entries_of v) dir name) DUPLICATE _ id c.1 in
     let f = unless (is_full (entries_of v) dir || eqb v.next_id 4294967295) FOLDER_FULL _ id d.1 in
     let both = neither (is_full (entries_of v) dir) (eqb v.next_id 4294967295) f.0 in
-    record { named = not_false (is_item_name name) b.0; room = both.0; not_last = both.1; id_is = same_ok v.next_id id f.1 }
+    record { named = not_false (is_item_name name) b.0; free = d.0; room = both.0; not_last = both.1; id_is = same_ok v.next_id id f.1 }
 
--- the new name of an accepted renaming is one that an item may have
-pub new_name_is : (v : Volume) (dir : ℕ) (name new_name : List ℕ) (e : Entry) → to_rename v dir name new_name ≡ Ok e → is_item_name new_name ≡ true
+-- what an accepted renaming has tested
+pub record MayRename (v : Volume) (dir : ℕ) (name new_name : List ℕ) (e : Entry) : Type 0 where
+  pub named : is_item_name new_name ≡ true
+  pub child : IsNamed v dir name e
+  pub free : is_taken (entries_of v) dir new_name e.0 ≡ false
+
+pub may_rename : (v : Volume) (dir : ℕ) (name new_name : List ℕ) (e : Entry) → to_rename v dir name new_name ≡ Ok e → MayRename v dir name new_name e
 unfolding to_rename
-new_name_is v dir name new_name e is =
+may_rename v dir name new_name e is =
     let a = unless (is_locked v) (lock_code v) _ e is in
-    not_false (is_item_name new_name) (unless (not (is_item_name new_name)) BAD_NAME _ e a.1).0
+    let b = unless (not (is_item_name new_name)) BAD_NAME _ e a.1 in
+    let c = chained (and_then (child_to_change v dir name) unless_locked_file) _ e b.1 in
+    let d = chained (child_to_change v dir name) unless_locked_file c.0 c.1 in
+    let f = unless (is_taken (entries_of v) dir new_name c.0.0) DUPLICATE _ e c.2 in
+    let same = same_ok d.0 c.0 (unless (is_locked_file d.0.1.kind) FILE_LOCKED _ c.0 d.2).1 ∙ same_ok c.0 e f.1 in
+    record {
+      named = not_false (is_item_name new_name) b.0;
+      child = subst (λ (x : Entry). IsNamed v dir name x) same (child_chosen v dir name d.0 d.1);
+      free = subst (λ (x : Entry). is_taken (entries_of v) dir new_name x.0 ≡ false) (same_ok c.0 e f.1) f.0;
+    }
 
 -- what an accepted move has tested
 pub record MayMove (v : Volume) (dir : ℕ) (name : List ℕ) (new_dir : ℕ) (e : Entry) : Type 0 where

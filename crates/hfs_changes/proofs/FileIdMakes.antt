@@ -41,7 +41,8 @@ use Rattle.hfs_changes.specs.Changes.{KeepsContents, IsAlike, IsItsThread, HasTu
 use Rattle.hfs_changes.specs.OnBlocks.{at_time, HasTree}
 use Rattle.hfs_changes.specs.Laws.{MakesStep}
 use Rattle.hfs_changes.specs.FileIdLaws.{with_thread_flag, file_with_flag, CreateFileIdMakes, DeleteFileIdMakes}
-use Rattle.hfs_changes.proofs.Items.{with_id}
+use Rattle.hfs_changes.specs.PlaceLaws.{FileIsThreadless}
+use Rattle.hfs_changes.proofs.Items.{with_id, item_kind}
 use Rattle.hfs_changes.proofs.Maps.{thread_known}
 use Rattle.hfs_changes.proofs.Relinked.{leads_alike}
 use Rattle.hfs_changes.proofs.Chosen.{chained, unless, same_ok}
@@ -214,13 +215,13 @@ module _ (next k : ℕ) (r : Record) (there : Bool) (thread turned : Option Reco
 
 -- ---- CreateFileId
 
-without_thread : (v : Volume) (dir : ℕ) (name : List ℕ) (e : Entry) → to_create_file_id v dir name ≡ Ok e → told.has_thread e.1.kind ≡ false
+without_thread : (v : Volume) (dir : ℕ) (name : List ℕ) (e : Entry) → to_create_file_id v dir name ≡ Ok e → (is_folder_kind e.1.kind ≡ false) × (told.has_thread e.1.kind ≡ false)
 unfolding to_create_file_id
 without_thread v dir name e is =
     let a = chained (child_to_change v dir name) _ e is in
     let b = unless (is_folder_kind a.0.1.kind) NOT_A_FILE _ e a.2 in
     let c = unless (told.has_thread a.0.1.kind) FILE_ID_EXISTS _ e b.1 in
-    subst (λ (x : Entry). told.has_thread x.1.kind ≡ false) (same_ok a.0 e c.1) c.0
+    subst (λ (x : Entry). (is_folder_kind x.1.kind ≡ false) × (told.has_thread x.1.kind ≡ false)) (same_ok a.0 e c.1) (b.0, c.0)
 
 told_thread : (has : Bool) (forks : List ℕ × List ℕ) (key : CatKey) (f : FileRecord) → told.has_thread (file_of has forks key f).kind ≡ has
 unfolding file_of
@@ -230,6 +231,17 @@ none_there : (o : Option Record) → is_some o ≡ false → o ≡ None
 none_there None e = refl
 none_there (Some x) e = absurd (true≢false e)
 
+pub file_threadless : FileIsThreadless
+file_threadless total dir name r old h c =
+    let f = file_record_of r.1 in
+    let catalog = catalog_in old in
+    let chosen = without_thread (volume_in old) dir name (c.id, item_of (contents_in old) catalog r) c.is in
+    let no_dir : is_dir r.1 ≡ false = sym (item_kind (contents_in old) catalog r) ∙ chosen.0 in
+    let at_id : f.id ≡ c.id = sym (file_id r.1 no_dir) ∙ (with_id catalog c.id r c.was).2 in
+    let none : has_thread catalog f.id ≡ false =
+    sym (told_thread (has_thread catalog f.id) (contents_in old f) r.0 f) ∙ ap (λ (i : Item). told.has_thread i.kind) (sym (file_item (contents_in old) catalog r no_dir)) ∙ chosen.1 in
+    none_there (thread_of catalog c.id) (sym (thread_known catalog c.id) ∙ ap (has_thread catalog) (sym at_id) ∙ none)
+
 pub create_file_id_steps : ItemsAreRecords → CatalogIsSound → CreateFileIdMakes
 unfolding volume_in create_file_id
 create_file_id_steps law catalogs total now dir name r th old new h c d =
@@ -237,12 +249,7 @@ create_file_id_steps law catalogs total now dir name r th old new h c d =
     let catalog = catalog_in old in
     let sound = catalogs total old h in
     let own = with_id catalog c.id r c.was in
-    let no_dir = file-not_dir r.1 d.was in
-    let at_id : f.id ≡ c.id = sym (file_id r.1 no_dir) ∙ own.2 in
-    let none : has_thread catalog f.id ≡ false =
-    sym (told_thread (has_thread catalog f.id) (contents_in old f) r.0 f) ∙ ap (λ (i : Item). told.has_thread i.kind) (sym (file_item (contents_in old) catalog r no_dir))
-    ∙ without_thread (volume_in old) dir name (c.id, item_of (contents_in old) catalog r) c.is in
-    let was : thread_of catalog c.id ≡ None = none_there (thread_of catalog c.id) (sym (thread_known catalog c.id) ∙ ap (has_thread catalog) (sym at_id) ∙ none) in
+    let was : thread_of catalog c.id ≡ None = file_threadless total dir name r old h c in
     let s = file_with_flag true r in
     let alike : IsAlike r s = file_alike r (with_thread_flag true f) d.was d.value refl in
     let its : IsItsThread c.id s th = record { of = d.its.of; record_form = d.its.record_form; begins = d.its.begins; name = d.its.name; leads = leads_alike r s th alike.key alike.dir d.its.leads } in

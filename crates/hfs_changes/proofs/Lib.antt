@@ -33,3 +33,5 @@ pub mod MoveMakes
 pub mod FileIdMakes
 pub mod CountBounds
 pub mod NewItems
+pub mod FreeKeys
+pub mod Standing

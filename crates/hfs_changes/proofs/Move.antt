@@ -21,7 +21,7 @@ use Rattle.hfs_check.specs.Laws.{CatalogIsSound}
 use Rattle.hfs_check.specs.VolumeOf.{contents_in, volume_in}
 use Rattle.hfs_catalog_edits.specs.Swaps.{swapped_sum}
 use Rattle.hfs_changes.specs.Once.{item_or_thread}
-use Rattle.hfs_changes.specs.Changes.{HasRekeyed, HasMoved, folder_with}
+use Rattle.hfs_changes.specs.Changes.{IsFolderWith, HasRekeyed, HasMoved, folder_with}
 use Rattle.hfs_changes.specs.SettingLaws.{IsChoice}
 use Rattle.hfs_changes.specs.MoveLaws.{under_folder, HasMovedItem}
 use Rattle.hfs_changes.proofs.Items.{with_id, item_parent, item_kind}
@@ -43,6 +43,44 @@ both_true true true e f g = true≢false e
 both_true true false e f g = true≢false (sym g)
 both_true false b e f g = true≢false (sym f)
 
+-- the folders are two, and neither is the item
+pub record AreApart (id from to : ℕ) : Type 0 where
+  pub others : from ≡ to → ⊥
+  pub not_first : id ≡ from → ⊥
+  pub not_second : id ≡ to → ⊥
+
+module _ (catalogs : CatalogIsSound) (total from to : ℕ) (name : List ℕ) (r : Record) (old : Blocks) (h : AreBlocksSound total old) (c : IsChoice old (to_move (volume_in old) from name to) r) where
+  abbrev e : Entry
+  e = (c.id, item_of (contents_in old) (catalog_in old) r)
+
+  abbrev es : List Entry
+  es = entries_of (volume_in old)
+
+  pub may : MayMove (volume_in old) from name to e
+  may = may_move (volume_in old) from name to e c.is
+
+  pub under : r.0.parent ≡ from
+  under = sym (item_parent (contents_in old) (catalog_in old) r) ∙ may.child.under
+
+  others : from ≡ to → ⊥
+  unfolding is_held
+  others same = true≢false (ap is_some (sym may.child.found) ∙ ap (λ (n : ℕ). is_some (child_named es n name)) same ∙ may.free)
+
+  module _ (r2 : Record) (f : IsFolderWith (catalog_in old) to r2) where
+    not_second : c.id ≡ to → ⊥
+    unfolding is_bad_move
+    not_second same =
+        let is : r ≡ r2 = same_Some r r2 (sym c.was ∙ ap (item_with (catalog_in old)) same ∙ f.was) in
+        let folder : is_dir r.1 ≡ true = ap (λ (x : Record). is_dir x.1) is ∙ f.folder in
+        both_true (is_folder_kind e.1.kind) (lies_in es (length es) to c.id) may.fine (item_kind (contents_in old) (catalog_in old) r ∙ folder) (lies_here es (length es) to c.id (sym same))
+
+    pub apart_from : AreApart c.id from to
+    apart_from = record {
+      others = others;
+      not_first = λ same. not_in_itself (mdb_in old).next_id c.id (catalog_in old) r (catalogs total old h) c.was (under ∙ sym same);
+      not_second = not_second;
+    }
+
 module _ (law : ItemsAreRecords) (catalogs : CatalogIsSound) (total now from to : ℕ) (name : List ℕ) (r : Record) (turned : Option Record) (r1 r2 : Record) (old : Blocks) (new : Catalog) (h : AreBlocksSound total old)
     (c : IsChoice old (to_move (volume_in old) from name to) r) (d : HasMovedItem c.id from to r turned r1 r2 now (catalog_in old) new) where
   abbrev next : ℕ
@@ -51,20 +89,11 @@ module _ (law : ItemsAreRecords) (catalogs : CatalogIsSound) (total now from to 
   abbrev thread : Option Record
   thread = thread_of (catalog_in old) c.id
 
-  abbrev e : Entry
-  e = (c.id, item_of (contents_in old) (catalog_in old) r)
-
   pub sound : IsSoundCatalog next (catalog_in old)
   sound = catalogs total old h
 
   own : In r (catalog_in old) × (is_item r.1 ≡ true) × (item_id r.1 ≡ c.id)
   own = with_id (catalog_in old) c.id r c.was
-
-  may : MayMove (volume_in old) from name to e
-  may = may_move (volume_in old) from name to e c.is
-
-  pub under : r.0.parent ≡ from
-  under = sym (item_parent (contents_in old) (catalog_in old) r) ∙ may.child.under
 
   -- ---- the item's record, and its thread's
 
@@ -88,23 +117,11 @@ module _ (law : ItemsAreRecords) (catalogs : CatalogIsSound) (total now from to 
     both = d.both;
   }
 
-  -- ---- the folders are two, and neither is the item
-
-  others : from ≡ to → ⊥
-  unfolding is_held
-  others same = true≢false (ap is_some (sym may.child.found) ∙ ap (λ (n : ℕ). is_some (child_named (entries_of (volume_in old)) n name)) same ∙ may.free)
-
-  not_second : c.id ≡ to → ⊥
-  unfolding is_bad_move
-  not_second same =
-      let is : r ≡ r2 = same_Some r r2 (sym c.was ∙ ap (item_with (catalog_in old)) same ∙ d.entered.was) in
-      let folder : is_dir r.1 ≡ true = ap (λ (x : Record). is_dir x.1) is ∙ d.entered.folder in
-      both_true (is_folder_kind e.1.kind) (lies_in (entries_of (volume_in old)) (length (entries_of (volume_in old))) to c.id) may.fine
-      (item_kind (contents_in old) (catalog_in old) r ∙ folder) (lies_here (entries_of (volume_in old)) (length (entries_of (volume_in old))) to c.id (sym same))
-
   pub moved : ValencesAreCounted → HasMoved c.id from to r (under_folder to r) thread turned r1 (folder_with ((dir_record_of r1.1).valence - 1) now r1) r2 (folder_with ((dir_record_of r2.1).valence + 1) now r2) (catalog_in old) new
   moved valences =
-      let some : 0 < (dir_record_of r1.1).valence = some_child next from (catalog_in old) r r1 sound own.0 own.1 under d.left.was d.left.folder in
+      let left = under catalogs total from to name r old h c in
+      let apart = apart_from catalogs total from to name r old h c r2 d.entered in
+      let some : 0 < (dir_record_of r1.1).valence = some_child next from (catalog_in old) r r1 sound own.0 own.1 left d.left.was d.left.folder in
       record {
         middle = d.middle;
         third = d.third;
@@ -113,14 +130,14 @@ module _ (law : ItemsAreRecords) (catalogs : CatalogIsSound) (total now from to 
         second_set = d.second_set;
         first = record { was = d.left.was; folder = d.left.folder; alike = folder_alike r1 ((dir_record_of r1.1).valence - 1) now d.left.folder d.left_value };
         second = record { was = d.entered.was; folder = d.entered.folder; alike = folder_alike r2 ((dir_record_of r2.1).valence + 1) now d.entered.folder d.entered_value };
-        left = under;
+        left = left;
         came = refl;
-        others = others;
-        not_first = λ same. not_in_itself next c.id (catalog_in old) r sound c.was (under ∙ sym same);
-        not_second = not_second;
+        others = apart.others;
+        not_first = apart.not_first;
+        not_second = apart.not_second;
         one_fewer = omega (arith, some, folder_valence r1 ((dir_record_of r1.1).valence - 1) now d.left.folder d.left_value);
         one_more = folder_valence r2 ((dir_record_of r2.1).valence + 1) now d.entered.folder d.entered_value;
-        room = short_by catalogs total old h valences to r2 d.entered may.room;
+        room = short_by catalogs total old h valences to r2 d.entered (may catalogs total from to name r old h c).room;
       }
 
   -- ---- sums over the records

@@ -36,7 +36,7 @@ use Rattle.hfs_changes.specs.Changes.{KeepsContents, IsItsThread, ItemRekeyed, H
 use Rattle.hfs_changes.specs.OnBlocks.{at_time, HasTree}
 use Rattle.hfs_changes.specs.Laws.{MakesStep}
 use Rattle.hfs_changes.specs.SettingLaws.{with_name, RenameMakes}
-use Rattle.hfs_changes.proofs.Chosen.{new_name_is}
+use Rattle.hfs_changes.proofs.Chosen.{may_rename}
 use Rattle.hfs_changes.proofs.NewItems.{named_long}
 use Rattle.hfs_changes.proofs.Maps.{thread_known}
 use Rattle.hfs_changes.proofs.Rekeyed.{as_turned, threads_after, renamed_near, rekeyed_items}
@@ -189,6 +189,6 @@ has_rekeyed k r new_name turned old second new was named item_moved thread_set i
 
 pub rename_make_steps : ItemsAreRecords → CatalogIsSound → RenameMakes
 rename_make_steps law catalogs total now dir name new_name r turned old new h c d =
-    let named = new_name_is (volume_in old) dir name new_name _ c.is in
+    let named = (may_rename (volume_in old) dir name new_name _ c.is).named in
     let rekeyed = has_rekeyed c.id r new_name turned (catalog_in old) d.second (catalog_in new) c.was named d.item_moved d.thread_set d.its d.both in
     rename_makes law catalogs total now c.id r new_name (thread_of (catalog_in old) c.id) turned old new h rekeyed d.tree dir name c.is

@@ -12,3 +12,4 @@ pub mod RemovalLaws
 pub mod MoveLaws
 pub mod FileIdLaws
 pub mod BoundLaws
+pub mod PlaceLaws

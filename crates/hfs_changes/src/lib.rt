@@ -7,6 +7,7 @@ mod creation;
 mod file_ids;
 mod laws;
 mod moves;
+mod places;
 mod removals;
 mod settings;
 
@@ -16,6 +17,9 @@ pub use creation::{create_makes, dir_create_makes};
 pub use file_ids::{create_file_id_makes, delete_file_id_makes};
 pub use laws::{catalog_edits_are_steps, catalog_file_stays};
 pub use moves::cat_move_makes;
+pub use places::{
+    creation_is_free, file_is_threadless, folders_stand, move_is_free, rename_is_free,
+};
 pub use removals::{delete_file_holds, delete_folder_makes, delete_leaves_files};
 pub use settings::{
     choice_stands, rename_makes, set_cat_info_makes, set_f_info_makes, set_lock_makes,
