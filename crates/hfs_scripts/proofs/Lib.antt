@@ -1,0 +1,4 @@
+mod Digits
+mod FirstNine
+mod FirstLine
+mod Steps
