@@ -5,3 +5,5 @@ pub mod Words
 pub mod Calls
 pub mod Lines
 pub mod Scripts
+pub mod Texts
+pub mod Readable

@@ -2,6 +2,7 @@
 //! has the language in plain words.
 #![tactic(auto)]
 
+mod arguments;
 mod calls;
 mod fault;
 mod fields;
@@ -10,6 +11,7 @@ mod numbers;
 mod reading;
 mod script;
 mod words;
+mod writable;
 
 pub use fault::ScriptFault;
 pub use lines::{Caller, ScriptLine};

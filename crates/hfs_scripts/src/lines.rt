@@ -48,7 +48,7 @@ fn read_caller(field: &[u8]) -> Option<Caller>
     }
 }
 
-fn may_ask(caller: Caller, word: Word) -> bool
+pub(crate) fn may_ask(caller: Caller, word: Word) -> bool
     ensures { result ≡ may_ask caller word }
 {
     match caller {
