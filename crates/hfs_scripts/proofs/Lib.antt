@@ -1,0 +1,5 @@
+mod Digits
+mod Written
+mod FirstNine
+mod FirstLine
+mod Steps

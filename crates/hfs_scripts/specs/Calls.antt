@@ -1,0 +1,103 @@
+-- The call that a line's word and the fields behind it make, at a moment.
+use Rattle.std.specs.Prelude.{ℕ, List, [], ◌∷◌, Option, Some, None}
+use Rattle.std.specs.Option.{option_map}
+use Rattle.hfs_model.specs.declared.call.Call.{Call}
+use Rattle.hfs_model.specs.declared.call.Call.TheVariants as call
+use Rattle.hfs_scripts.specs.declared.calls.Target.{Target}
+use Rattle.hfs_scripts.specs.declared.words.Word.{Word}
+use Rattle.hfs_scripts.specs.declared.words.Word.TheVariants as word
+use Rattle.hfs_scripts.specs.Options.{◌>>=◌}
+use Rattle.hfs_scripts.specs.Numbers.{number_of}
+use Rattle.hfs_scripts.specs.Fields.{bytes_of, fork_of}
+
+-- DIR, or ID
+unfoldable pub number_alone : List (List ℕ) → Option ℕ
+number_alone (number ∷ []) = number_of number
+number_alone _ = None
+
+-- DIR INDEX
+unfoldable pub indexed_of : List (List ℕ) → Option Call
+indexed_of (dir ∷ index ∷ []) = do
+  dir ← number_of dir
+  index ← number_of index
+  Some (call.GetIndexed dir index)
+indexed_of _ = None
+
+-- DIR NAME
+unfoldable pub target_of : List (List ℕ) → Option Target
+target_of (dir ∷ name ∷ []) = do
+  dir ← number_of dir
+  Some (record { dir = dir; name = name })
+target_of _ = None
+
+-- DIR NAME, `data` or `res`, OFFSET COUNT
+unfoldable pub read_of : List (List ℕ) → Option Call
+read_of (dir ∷ name ∷ fork ∷ offset ∷ count ∷ []) = do
+  dir ← number_of dir
+  fork ← fork_of fork
+  offset ← number_of offset
+  count ← number_of count
+  Some (call.ReadFork dir name fork offset count)
+read_of _ = None
+
+-- DIR NAME NEW
+unfoldable pub rename_of : ℕ → List (List ℕ) → Option Call
+rename_of now (dir ∷ name ∷ new_name ∷ []) = do
+  dir ← number_of dir
+  Some (call.Rename dir name new_name now)
+rename_of now _ = None
+
+-- DIR NAME NEWDIR
+unfoldable pub move_of : ℕ → List (List ℕ) → Option Call
+move_of now (dir ∷ name ∷ new_dir ∷ []) = do
+  dir ← number_of dir
+  new_dir ← number_of new_dir
+  Some (call.CatMove dir name new_dir now)
+move_of now _ = None
+
+-- DIR NAME HEX, 32 digits
+unfoldable pub set_f_info_of : ℕ → List (List ℕ) → Option Call
+set_f_info_of now (dir ∷ name ∷ info ∷ []) = do
+  dir ← number_of dir
+  info ← bytes_of 16 info
+  Some (call.SetFInfo dir name info now)
+set_f_info_of now _ = None
+
+-- DIR NAME CREATED MODIFIED BACKUP HEX, 64 digits
+unfoldable pub set_info_of : ℕ → List (List ℕ) → Option Call
+set_info_of now (dir ∷ name ∷ created ∷ modified ∷ backup ∷ info ∷ []) = do
+  dir ← number_of dir
+  created ← number_of created
+  modified ← number_of modified
+  backup ← number_of backup
+  info ← bytes_of 32 info
+  Some (call.SetCatInfo dir name created modified backup info now)
+set_info_of now _ = None
+
+-- the call of a word that has DIR NAME alone behind it
+abbrev pub target_call : ℕ → Word → Target → Option Call
+target_call now word.Info item = Some (call.GetCatInfo item.dir item.name)
+target_call now word.Create item = Some (call.Create item.dir item.name now)
+target_call now word.MkDir item = Some (call.DirCreate item.dir item.name now)
+target_call now word.Delete item = Some (call.Delete item.dir item.name now)
+target_call now word.Lock item = Some (call.SetFLock item.dir item.name now)
+target_call now word.Unlock item = Some (call.RstFLock item.dir item.name now)
+target_call now word.NewId item = Some (call.CreateFileId item.dir item.name now)
+target_call now _ item = None
+
+unfoldable pub call_on_target : ℕ → Word → List (List ℕ) → Option Call
+call_on_target now word fields = target_of fields >>= target_call now word
+
+-- the call of a word and its fields; a change is made at the moment `now`
+unfoldable pub call_of : ℕ → Word → List (List ℕ) → Option Call
+call_of now word.DirInfo fields = option_map (λ dir. call.GetDirInfo dir) (number_alone fields)
+call_of now word.Indexed fields = indexed_of fields
+call_of now word.List fields = option_map (λ dir. call.List dir) (number_alone fields)
+call_of now word.Read fields = read_of fields
+call_of now word.Rename fields = rename_of now fields
+call_of now word.Move fields = move_of now fields
+call_of now word.SetFInfo fields = set_f_info_of now fields
+call_of now word.SetInfo fields = set_info_of now fields
+call_of now word.DropId fields = option_map (λ id. call.DeleteFileId id now) (number_alone fields)
+call_of now word.Resolve fields = option_map (λ id. call.ResolveFileId id) (number_alone fields)
+call_of now word fields = call_on_target now word fields

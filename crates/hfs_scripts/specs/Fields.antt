@@ -1,0 +1,19 @@
+-- The fields of a script's line.
+use Rattle.std.specs.Prelude.{ℕ, ◌==◌, if◌then◌else◌, List, codes, bytes_eq, Option, Some, None}
+use Rattle.std.specs.List.{slice_split}
+use Rattle.std.specs.Result.{result_ok}
+use Rattle.hex.specs.Hex.{decode_sized}
+use Rattle.hfs_model.specs.declared.call.Fork.{Fork}
+use Rattle.hfs_model.specs.declared.call.Fork.TheVariants.{DataFork, ResFork}
+
+-- the fields of a line: the bytes that its tabs part
+unfoldable pub fields_of : List ℕ → List (List ℕ)
+fields_of line = slice_split (λ byte. byte == 9) line
+
+-- so many bytes, each as two hexadecimal digits of either case
+unfoldable pub bytes_of : ℕ → List ℕ → Option (List ℕ)
+bytes_of count field = result_ok (decode_sized field count)
+
+-- a fork, by its word
+unfoldable pub fork_of : List ℕ → Option Fork
+fork_of field = if bytes_eq field (codes "data") then Some DataFork else if bytes_eq field (codes "res") then Some ResFork else None

@@ -1,0 +1,9 @@
+pub mod Options
+pub mod Numbers
+pub mod Fields
+pub mod Words
+pub mod Calls
+pub mod Lines
+pub mod Scripts
+pub mod Texts
+pub mod Readable

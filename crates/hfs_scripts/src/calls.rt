@@ -1,0 +1,241 @@
+//! The call of a line: what its word and the fields behind it ask for.
+ghost use Rattle.std.specs.Prelude.{◌≡◌, map, IfOk};
+ghost use Rattle.hfs_scripts.specs.Calls.{number_alone, indexed_of, target_of, read_of, rename_of, move_of, set_f_info_of, set_info_of, target_call, call_on_target, call_of};
+
+use crate::fields::{read_16_bytes, read_32_bytes, read_fork};
+use crate::numbers::read_number;
+use crate::words::Word;
+use hfs_model::{Bytes, Call};
+use std::alloc::{AllocError, Global};
+
+/// The item that DIR and NAME tell.
+#[derive(Drop)]
+pub(crate) struct Target {
+    dir: u32,
+    name: Bytes,
+}
+
+#[tactic(auto, unfolding(crate::specs::Calls::number_alone))]
+fn read_number_alone(fields: &[&[u8]]) -> Option<u32>
+    ensures { result ≡ number_alone (map (λ field. field.now) fields.now) }
+{
+    let [number] = fields else {
+        return None;
+    };
+    read_number(number)
+}
+
+#[tactic(auto, unfolding(crate::specs::Calls::indexed_of))]
+fn read_indexed(fields: &[&[u8]]) -> Option<Call>
+    ensures { result ≡ indexed_of (map (λ field. field.now) fields.now) }
+{
+    let [dir, index] = fields else {
+        return None;
+    };
+    Some(Call::GetIndexed {
+        dir: read_number(dir)?,
+        index: read_number(index)?,
+    })
+}
+
+#[tactic(auto, unfolding(crate::specs::Calls::target_of))]
+fn read_target(alloc: Global, fields: &[&[u8]]) -> Result<Option<Target>, AllocError>
+    ensures { IfOk result (λ item. item ≡ target_of (map (λ field. field.now) fields.now)) }
+{
+    let [dir, name] = fields else {
+        return Ok(None);
+    };
+    let Some(dir) = read_number(dir) else {
+        return Ok(None);
+    };
+    Ok(Some(Target {
+        dir,
+        name: Bytes::from_slice(alloc, name)?,
+    }))
+}
+
+#[tactic(auto, unfolding(crate::specs::Calls::read_of))]
+fn read_read(alloc: Global, fields: &[&[u8]]) -> Result<Option<Call>, AllocError>
+    ensures { IfOk result (λ call. call ≡ read_of (map (λ field. field.now) fields.now)) }
+{
+    let [dir, name, fork, offset, count] = fields else {
+        return Ok(None);
+    };
+    let Some(dir) = read_number(dir) else {
+        return Ok(None);
+    };
+    let Some(fork) = read_fork(fork) else {
+        return Ok(None);
+    };
+    let Some(offset) = read_number(offset) else {
+        return Ok(None);
+    };
+    let Some(count) = read_number(count) else {
+        return Ok(None);
+    };
+    Ok(Some(Call::ReadFork {
+        dir,
+        name: Bytes::from_slice(alloc, name)?,
+        fork,
+        offset,
+        count,
+    }))
+}
+
+#[tactic(auto, unfolding(crate::specs::Calls::rename_of))]
+fn read_rename(alloc: Global, fields: &[&[u8]], now: u32) -> Result<Option<Call>, AllocError>
+    ensures { IfOk result (λ call. call ≡ rename_of now (map (λ field. field.now) fields.now)) }
+{
+    let [dir, name, new_name] = fields else {
+        return Ok(None);
+    };
+    let Some(dir) = read_number(dir) else {
+        return Ok(None);
+    };
+    Ok(Some(Call::Rename {
+        dir,
+        name: Bytes::from_slice(alloc, name)?,
+        new_name: Bytes::from_slice(alloc, new_name)?,
+        now,
+    }))
+}
+
+#[tactic(auto, unfolding(crate::specs::Calls::move_of))]
+fn read_move(alloc: Global, fields: &[&[u8]], now: u32) -> Result<Option<Call>, AllocError>
+    ensures { IfOk result (λ call. call ≡ move_of now (map (λ field. field.now) fields.now)) }
+{
+    let [dir, name, new_dir] = fields else {
+        return Ok(None);
+    };
+    let Some(dir) = read_number(dir) else {
+        return Ok(None);
+    };
+    let Some(new_dir) = read_number(new_dir) else {
+        return Ok(None);
+    };
+    Ok(Some(Call::CatMove {
+        dir,
+        name: Bytes::from_slice(alloc, name)?,
+        new_dir,
+        now,
+    }))
+}
+
+#[tactic(auto, unfolding(crate::specs::Calls::set_f_info_of))]
+fn read_set_f_info(alloc: Global, fields: &[&[u8]], now: u32) -> Result<Option<Call>, AllocError>
+    ensures { IfOk result (λ call. call ≡ set_f_info_of now (map (λ field. field.now) fields.now)) }
+{
+    let [dir, name, info] = fields else {
+        return Ok(None);
+    };
+    let Some(dir) = read_number(dir) else {
+        return Ok(None);
+    };
+    let Some(info) = read_16_bytes(info) else {
+        return Ok(None);
+    };
+    Ok(Some(Call::SetFInfo {
+        dir,
+        name: Bytes::from_slice(alloc, name)?,
+        info,
+        now,
+    }))
+}
+
+#[tactic(auto, unfolding(crate::specs::Calls::set_info_of))]
+fn read_set_info(alloc: Global, fields: &[&[u8]], now: u32) -> Result<Option<Call>, AllocError>
+    ensures { IfOk result (λ call. call ≡ set_info_of now (map (λ field. field.now) fields.now)) }
+{
+    let [dir, name, created, modified, backup, info] = fields else {
+        return Ok(None);
+    };
+    let Some(dir) = read_number(dir) else {
+        return Ok(None);
+    };
+    let Some(created) = read_number(created) else {
+        return Ok(None);
+    };
+    let Some(modified) = read_number(modified) else {
+        return Ok(None);
+    };
+    let Some(backup) = read_number(backup) else {
+        return Ok(None);
+    };
+    let Some(info) = read_32_bytes(info) else {
+        return Ok(None);
+    };
+    Ok(Some(Call::SetCatInfo {
+        dir,
+        name: Bytes::from_slice(alloc, name)?,
+        created,
+        modified,
+        backup,
+        info,
+        now,
+    }))
+}
+
+/// The call of a word with DIR and NAME alone behind it; no call of another word.
+#[tactic(auto, unfolding(crate::specs::Calls::target_call))]
+fn on_target(word: Word, target: Target, now: u32) -> Option<Call>
+    ensures { result ≡ target_call now word target }
+{
+    let Target { dir, name } = target;
+    match word {
+        Word::Info => Some(Call::GetCatInfo { dir, name }),
+        Word::Create => Some(Call::Create { dir, name, now }),
+        Word::MkDir => Some(Call::DirCreate { dir, name, now }),
+        Word::Delete => Some(Call::Delete { dir, name, now }),
+        Word::Lock => Some(Call::SetFLock { dir, name, now }),
+        Word::Unlock => Some(Call::RstFLock { dir, name, now }),
+        Word::NewId => Some(Call::CreateFileId { dir, name, now }),
+        _ => None,
+    }
+}
+
+/// The call of a word with DIR and NAME alone behind it; no call of another word.
+#[tactic(auto, unfolding(crate::specs::Calls::call_on_target))]
+fn read_on_target(
+    alloc: Global,
+    word: Word,
+    fields: &[&[u8]],
+    now: u32,
+) -> Result<Option<Call>, AllocError>
+    ensures { IfOk result (λ call. call ≡ call_on_target now word (map (λ field. field.now) fields.now)) }
+{
+    match read_target(alloc, fields)? {
+        Some(target) => Ok(on_target(word, target, now)),
+        None => Ok(None),
+    }
+}
+
+/// The call of a word and the fields behind it, if they make one. `Err` only where memory is wanting.
+#[tactic(auto, unfolding(crate::specs::Calls::call_of))]
+pub(crate) fn read_call(
+    alloc: Global,
+    word: Word,
+    fields: &[&[u8]],
+    now: u32,
+) -> Result<Option<Call>, AllocError>
+    ensures { IfOk result (λ call. call ≡ call_of now word (map (λ field. field.now) fields.now)) }
+{
+    match word {
+        Word::DirInfo => Ok(read_number_alone(fields).map(|dir| Call::GetDirInfo { dir })),
+        Word::Indexed => Ok(read_indexed(fields)),
+        Word::List => Ok(read_number_alone(fields).map(|dir| Call::List { dir })),
+        Word::Read => read_read(alloc, fields),
+        Word::Rename => read_rename(alloc, fields, now),
+        Word::Move => read_move(alloc, fields, now),
+        Word::SetFInfo => read_set_f_info(alloc, fields, now),
+        Word::SetInfo => read_set_info(alloc, fields, now),
+        Word::DropId => Ok(read_number_alone(fields).map(|id| Call::DeleteFileId { id, now })),
+        Word::Resolve => Ok(read_number_alone(fields).map(|id| Call::ResolveFileId { id })),
+        Word::Info
+        | Word::Create
+        | Word::MkDir
+        | Word::Delete
+        | Word::Lock
+        | Word::Unlock
+        | Word::NewId => read_on_target(alloc, word, fields, now),
+    }
+}

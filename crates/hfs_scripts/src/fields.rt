@@ -1,0 +1,45 @@
+//! The fields of a script's line.
+ghost use Rattle.std.specs.Prelude.{◌≡◌, map, IfOk, take};
+ghost use Rattle.hfs_scripts.specs.Fields.{fields_of, bytes_of, fork_of};
+
+use hex::FromHex;
+use hfs_model::Fork;
+use std::alloc::{AllocError, Global};
+
+/// The fields of a line; of more than nine the first nine, since no line that reads has as many.
+#[tactic(auto, unfolding(crate::specs::Fields::fields_of))]
+pub(crate) fn split_fields(alloc: Global, line: &[u8]) -> Result<Vec<&[u8]>, AllocError>
+    ensures { IfOk result (λ fields. map (λ field. field.now) fields.items ≡ take 9 (fields_of line.now)) }
+{
+    line.split(|byte| *byte == b'\t').take(9).collect(alloc)
+}
+
+/// Sixteen bytes, as 32 hexadecimal digits of either case.
+#[tactic(auto, unfolding(crate::specs::Fields::bytes_of))]
+pub(crate) fn read_16_bytes(field: &[u8]) -> Option<[u8; 16]>
+    ensures { result ≡ bytes_of 16 field.now }
+{
+    <[u8; 16] as FromHex>::from_hex(field).ok()
+}
+
+/// 32 bytes, as 64 hexadecimal digits of either case.
+#[tactic(auto, unfolding(crate::specs::Fields::bytes_of))]
+pub(crate) fn read_32_bytes(field: &[u8]) -> Option<[u8; 32]>
+    ensures { result ≡ bytes_of 32 field.now }
+{
+    <[u8; 32] as FromHex>::from_hex(field).ok()
+}
+
+/// A fork, by its word.
+#[tactic(auto, unfolding(crate::specs::Fields::fork_of))]
+pub(crate) fn read_fork(field: &[u8]) -> Option<Fork>
+    ensures { result ≡ fork_of field.now }
+{
+    if field == b"data".as_slice() {
+        Some(Fork::DataFork)
+    } else if field == b"res".as_slice() {
+        Some(Fork::ResFork)
+    } else {
+        None
+    }
+}

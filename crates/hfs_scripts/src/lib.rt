@@ -1,0 +1,19 @@
+//! Scripts of calls: which bytes are a script, what its lines ask for and of whom, and a script's text. docs/SCRIPTS.md
+//! has the language in plain words.
+#![tactic(auto)]
+
+mod arguments;
+mod calls;
+mod fault;
+mod fields;
+mod lines;
+mod numbers;
+mod reading;
+mod script;
+mod words;
+mod writable;
+
+pub use fault::ScriptFault;
+pub use lines::{Caller, ScriptLine};
+pub use reading::read_script;
+pub use script::Script;

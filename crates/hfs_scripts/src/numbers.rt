@@ -1,0 +1,25 @@
+//! Numbers in a script.
+ghost use Rattle.std.specs.Prelude.{◌≡◌};
+ghost use Rattle.hfs_scripts.specs.Numbers.{number_of};
+
+/// The number that a field writes: one to ten decimal digits, of value at most 4,294,967,295.
+#[tactic(auto, unfolding(crate::specs::Numbers::number_of))]
+pub(crate) fn read_number(field: &[u8]) -> Option<u32>
+    ensures { result ≡ number_of field.now }
+{
+    if field.is_empty() || field.len() > 10 {
+        return None;
+    }
+    let mut value: u32 = 0;
+    for byte in field {
+        if !byte.is_ascii_digit() {
+            return None;
+        }
+        let longer = u64::from(value) * 10 + u64::from(*byte - b'0');
+        if longer > 4_294_967_295 {
+            return None;
+        }
+        value = longer as u32;
+    }
+    Some(value)
+}
