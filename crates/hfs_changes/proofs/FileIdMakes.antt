@@ -46,6 +46,9 @@ use Rattle.hfs_changes.specs.PlaceLaws.{FileIsThreadless}
 use Rattle.hfs_changes.proofs.Items.{with_id, item_kind}
 use Rattle.hfs_changes.proofs.Maps.{thread_known}
 use Rattle.hfs_changes.proofs.LedThreads.{new_thread_is}
+use Rattle.hfs_changes.specs.Steps.{item_threads}
+use Rattle.hfs_changes.proofs.Linked.{sound_once}
+use Rattle.hfs_changes.proofs.SetItems.{edit_step}
 use Rattle.hfs_changes.proofs.Chosen.{chained, unless, same_ok}
 use Rattle.hfs_changes.proofs.Turned.{threads_after, renamed_near, rekeyed_items}
 use Rattle.hfs_changes.proofs.TurnedForks.{as_many, turned_forks, turned_owners}
@@ -263,12 +266,20 @@ create_file_id_steps law catalogs total now dir name r old new h c d =
 
 -- ---- DeleteFileId
 
+-- the file's record in its place leaves the threads
+same_threads : (next k : ℕ) (r s : Record) (old second : Catalog) → IsSoundCatalog next old → item_with old k ≡ Some r → IsAlike r s → Swaps (Some r) (Some s) old second → thread_of second k ≡ thread_of old k
+same_threads next k r s old second h was alike swap = item_threads k (Some r) (Some s) old second (sound_once next old h) (edit_step k r s old second swap was alike) k
+
 pub delete_file_id_steps : ItemsAreRecords → CatalogIsSound → DeleteFileIdMakes
 unfolding volume_in delete_file_id
 delete_file_id_steps law catalogs total now id r old new h c d =
     let catalog = catalog_in old in
     let thread = thread_of catalog c.id in
+    let sound = catalogs total old h in
+    let alike : IsAlike r (file_with_flag false r) = file_alike r (with_thread_flag false (file_record_of r.1)) d.was d.value refl in
+    let same = same_threads (mdb_in old).next_id c.id r (file_with_flag false r) catalog d.second sound c.was alike d.file_set in
+    let went : Swaps thread None d.second (catalog_in new) = subst (λ (o : Option Record). Swaps o None d.second (catalog_in new)) same d.thread_went in
     thread_makes law catalogs total now c.id r false thread None old new h d.was d.value
-    (turned_in_place (mdb_in old).next_id c.id r false thread None catalog d.second (catalog_in new) (catalogs total old h) d.was d.value refl d.file_set d.thread_went tt (with_id catalog c.id r c.was) c.was)
+    (turned_in_place (mdb_in old).next_id c.id r false thread None catalog d.second (catalog_in new) sound d.was d.value refl d.file_set went tt (with_id catalog c.id r c.was) c.was)
     refl d.tree (call.DeleteFileId id now)
     (ap (λ (e : Result Entry ℤ). (change (volume_in old) e (set_thread false) now).0) c.is)

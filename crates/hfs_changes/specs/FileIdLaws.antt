@@ -37,7 +37,7 @@ pub record HasThreadCome (id : ℕ) (r : Record) (now : ℕ) (old new : Blocks) 
 pub record HasThreadGone (id : ℕ) (r : Record) (now : ℕ) (old new : Blocks) : Type 0 where
   pub second : Catalog
   pub file_set : Swaps (Some r) (Some (file_with_flag false r)) (catalog_in old) second
-  pub thread_went : Swaps (thread_of (catalog_in old) id) None second (catalog_in new)
+  pub thread_went : Swaps (thread_of second id) None second (catalog_in new)
   pub was : is_file r.1 ≡ true
   pub value : IsFileRecordValue (with_thread_flag false (file_record_of r.1))
   pub tree : HasTree (at_time now (mdb_in old)) old new
