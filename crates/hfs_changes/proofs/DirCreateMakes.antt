@@ -5,9 +5,10 @@ use Rattle.std.specs.FinMap as map
 use Rattle.std.proofs.lemmas.Bool.{true≢false}
 use Rattle.hfs_fields.specs.declared.mdb.Mdb.{Mdb}
 use Rattle.hfs_fields.specs.declared.key.CatKey.{CatKey}
+use Rattle.hfs_fields.specs.declared.thread_record.ThreadKind.TheVariants.{Folder}
 use Rattle.hfs_fields.specs.Counts.{with_counts}
 use Rattle.hfs_fields.specs.Keys.{cat_cmp}
-use Rattle.hfs_fields.specs.Records.{is_dir, is_file, dir_record_of, new_dir}
+use Rattle.hfs_fields.specs.Records.{is_dir, is_file, dir_record_of, new_thread, new_dir}
 use Rattle.hfs_fields.specs.RecordForms.{IsDirRecordValue, dir_record_bytes, is_dir-written}
 use Rattle.hfs_btree.specs.Pairs.{Rises}
 use Rattle.hfs_space.specs.Owners.{forks_of, owned_blocks, owners}
@@ -26,12 +27,13 @@ use Rattle.hfs_check.specs.Laws.{CatalogIsSound}
 use Rattle.hfs_check.specs.VolumeOf.{contents_in, volume_in}
 use Rattle.hfs_catalog_edits.specs.Swaps.{one_if}
 use Rattle.hfs_changes.specs.Once.{counted}
-use Rattle.hfs_changes.specs.Changes.{HasAdded, with_children}
+use Rattle.hfs_changes.specs.Changes.{thread_record, HasAdded, with_children}
 use Rattle.hfs_changes.specs.CreationLaws.{with_folder, folder_record_in, DirCreateMakes}
 use Rattle.hfs_changes.specs.Laws.{MakesStep}
 use Rattle.hfs_changes.proofs.Items.{with_id}
 use Rattle.hfs_changes.proofs.Chosen.{may_create}
 use Rattle.hfs_changes.proofs.CountBounds.{short_by}
+use Rattle.hfs_changes.proofs.LedThreads.{new_thread_is}
 use Rattle.hfs_changes.proofs.NewItems.{new_folder_item, has_added}
 use Rattle.hfs_changes.proofs.Added.{near, added_items, one_more_count}
 use Rattle.hfs_changes.proofs.KeptSpace.{thread_no_dir, thread_no_file, new_forks, added_forks, added_owners}
@@ -144,10 +146,13 @@ module _ (law : ItemsAreRecords) (catalogs : CatalogIsSound) (total now dir : �
     }
 
 pub dir_create_make_steps : ItemsAreRecords → ValencesAreCounted → CatalogIsSound → DirCreateMakes
-dir_create_make_steps law valences catalogs total now dir name thread r old new h choice d =
+dir_create_make_steps law valences catalogs total now dir name r old new h choice d =
     let next = (mdb_in old).next_id in
+    let item = folder_record_in next dir name now in
+    let thread = thread_record next (new_thread Folder dir name) in
     let may = may_create (volume_in old) dir name next choice in
     let room = short_by catalogs total old h valences dir r d.parent may.room in
-    let came = has_added next dir now (folder_record_in next dir name now) (Some thread) r (catalog_in old) d.first d.second (catalog_in new) d.folder_came d.thread_came d.folder_set
-    (new_folder_item next dir now name may.named thread d.new_value d.its) d.parent d.folder_value room in
+    let its = new_thread_is Folder next item (sym (is_dir-written (new_dir next now) d.new_value)) may.named d.thread_value in
+    let came = has_added next dir now item (Some thread) r (catalog_in old) d.first d.second (catalog_in new) d.folder_came d.thread_came d.folder_set
+    (new_folder_item next dir now name may.named thread d.new_value its) d.parent d.folder_value room in
     dir_create_makes law catalogs total now dir name thread r old new h d.parent.folder d.new_value d.folder_value choice came d.tree

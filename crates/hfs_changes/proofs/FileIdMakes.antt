@@ -5,10 +5,11 @@ use Rattle.std.specs.FinMap as map
 use Rattle.std.proofs.lemmas.Bool.{eq-eqb, true≢false, or_right}
 use Rattle.hfs_fields.specs.declared.file_record.FileRecord.{FileRecord}
 use Rattle.hfs_fields.specs.declared.key.CatKey.{CatKey}
+use Rattle.hfs_fields.specs.declared.thread_record.ThreadKind.TheVariants.{File}
 use Rattle.hfs_fields.specs.Counts.{with_counts}
 use Rattle.hfs_fields.specs.Keys.{cat_cmp}
 use Rattle.hfs_fields.specs.Names.{is_item_name}
-use Rattle.hfs_fields.specs.Records.{is_dir, is_file, is_item, is_thread, item_id, file_record_of, is_bit_set, with_bit}
+use Rattle.hfs_fields.specs.Records.{is_dir, is_file, is_item, is_thread, item_id, file_record_of, is_bit_set, with_bit, new_thread}
 use Rattle.hfs_fields.specs.RecordForms.{IsFileRecordValue, file_record_bytes}
 use Rattle.hfs_scans.specs.Members.{In, each_in}
 use Rattle.hfs_btree.specs.Pairs.{Rises}
@@ -37,14 +38,17 @@ use Rattle.hfs_check.specs.VolumeOf.{bytes_in, contents_in, volume_in}
 use Rattle.hfs_catalog_edits.specs.Swaps.{Swaps}
 use Rattle.hfs_changes.specs.Once.{item_or_thread}
 use Rattle.hfs_changes.specs.Steps.{IfThere, is_there}
-use Rattle.hfs_changes.specs.Changes.{KeepsContents, IsAlike, IsItsThread, HasTurned}
+use Rattle.hfs_changes.specs.Changes.{KeepsContents, thread_record, IsAlike, IsItsThread, HasTurned}
 use Rattle.hfs_changes.specs.OnBlocks.{at_time, HasTree}
 use Rattle.hfs_changes.specs.Laws.{MakesStep}
 use Rattle.hfs_changes.specs.FileIdLaws.{with_thread_flag, file_with_flag, CreateFileIdMakes, DeleteFileIdMakes}
 use Rattle.hfs_changes.specs.PlaceLaws.{FileIsThreadless}
 use Rattle.hfs_changes.proofs.Items.{with_id, item_kind}
 use Rattle.hfs_changes.proofs.Maps.{thread_known}
-use Rattle.hfs_changes.proofs.Relinked.{leads_alike}
+use Rattle.hfs_changes.proofs.LedThreads.{new_thread_is}
+use Rattle.hfs_changes.specs.Steps.{item_threads}
+use Rattle.hfs_changes.proofs.Linked.{sound_once}
+use Rattle.hfs_changes.proofs.SetItems.{edit_step}
 use Rattle.hfs_changes.proofs.Chosen.{chained, unless, same_ok}
 use Rattle.hfs_changes.proofs.Turned.{threads_after, renamed_near, rekeyed_items}
 use Rattle.hfs_changes.proofs.TurnedForks.{as_many, turned_forks, turned_owners}
@@ -244,7 +248,7 @@ file_threadless total dir name r old h c =
 
 pub create_file_id_steps : ItemsAreRecords → CatalogIsSound → CreateFileIdMakes
 unfolding volume_in create_file_id
-create_file_id_steps law catalogs total now dir name r th old new h c d =
+create_file_id_steps law catalogs total now dir name r old new h c d =
     let f = file_record_of r.1 in
     let catalog = catalog_in old in
     let sound = catalogs total old h in
@@ -252,7 +256,9 @@ create_file_id_steps law catalogs total now dir name r th old new h c d =
     let was : thread_of catalog c.id ≡ None = file_threadless total dir name r old h c in
     let s = file_with_flag true r in
     let alike : IsAlike r s = file_alike r (with_thread_flag true f) d.was d.value refl in
-    let its : IsItsThread c.id s th = record { of = d.its.of; record_form = d.its.record_form; begins = d.its.begins; name = d.its.name; leads = leads_alike r s th alike.key alike.dir d.its.leads } in
+    let named : is_item_name r.0.name ≡ true = each_in (λ (x : Record). is_item x.1 ≡ true → IsTrue (is_item_name x.0.name)) catalog r sound.names.items own.0 own.1 in
+    let th = thread_record c.id (new_thread File r.0.parent r.0.name) in
+    let its : IsItsThread c.id s th = new_thread_is File c.id s (sym (alike.dir ∙ file-not_dir r.1 d.was)) named d.thread_value in
     thread_makes law catalogs total now c.id r true None (Some th) old new h d.was d.value
     (turned_in_place (mdb_in old).next_id c.id r true None (Some th) catalog d.second (catalog_in new) sound d.was d.value was d.file_set d.thread_came its own c.was)
     refl d.tree (call.CreateFileId dir name now)
@@ -260,12 +266,20 @@ create_file_id_steps law catalogs total now dir name r th old new h c d =
 
 -- ---- DeleteFileId
 
+-- the file's record in its place leaves the threads
+same_threads : (next k : ℕ) (r s : Record) (old second : Catalog) → IsSoundCatalog next old → item_with old k ≡ Some r → IsAlike r s → Swaps (Some r) (Some s) old second → thread_of second k ≡ thread_of old k
+same_threads next k r s old second h was alike swap = item_threads k (Some r) (Some s) old second (sound_once next old h) (edit_step k r s old second swap was alike) k
+
 pub delete_file_id_steps : ItemsAreRecords → CatalogIsSound → DeleteFileIdMakes
 unfolding volume_in delete_file_id
 delete_file_id_steps law catalogs total now id r old new h c d =
     let catalog = catalog_in old in
     let thread = thread_of catalog c.id in
+    let sound = catalogs total old h in
+    let alike : IsAlike r (file_with_flag false r) = file_alike r (with_thread_flag false (file_record_of r.1)) d.was d.value refl in
+    let same = same_threads (mdb_in old).next_id c.id r (file_with_flag false r) catalog d.second sound c.was alike d.file_set in
+    let went : Swaps thread None d.second (catalog_in new) = subst (λ (o : Option Record). Swaps o None d.second (catalog_in new)) same d.thread_went in
     thread_makes law catalogs total now c.id r false thread None old new h d.was d.value
-    (turned_in_place (mdb_in old).next_id c.id r false thread None catalog d.second (catalog_in new) (catalogs total old h) d.was d.value refl d.file_set d.thread_went tt (with_id catalog c.id r c.was) c.was)
+    (turned_in_place (mdb_in old).next_id c.id r false thread None catalog d.second (catalog_in new) sound d.was d.value refl d.file_set went tt (with_id catalog c.id r c.was) c.was)
     refl d.tree (call.DeleteFileId id now)
     (ap (λ (e : Result Entry ℤ). (change (volume_in old) e (set_thread false) now).0) c.is)

@@ -22,6 +22,7 @@ pub mod SetMakes
 pub mod CreateMakes
 pub mod MovedItem
 pub mod MadeThreads
+pub mod LedThreads
 pub mod SettingSteps
 pub mod DirCreateMakes
 pub mod RenameMakes

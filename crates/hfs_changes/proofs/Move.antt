@@ -21,7 +21,7 @@ use Rattle.hfs_check.specs.Laws.{CatalogIsSound}
 use Rattle.hfs_check.specs.VolumeOf.{contents_in, volume_in}
 use Rattle.hfs_catalog_edits.specs.Swaps.{swapped_sum}
 use Rattle.hfs_changes.specs.Once.{item_or_thread}
-use Rattle.hfs_changes.specs.Changes.{IsFolderWith, HasRekeyed, HasMoved, folder_with}
+use Rattle.hfs_changes.specs.Changes.{led_to, IsFolderWith, HasRekeyed, HasMoved, folder_with}
 use Rattle.hfs_changes.specs.SettingLaws.{IsChoice}
 use Rattle.hfs_changes.specs.MoveLaws.{under_folder, HasMovedItem}
 use Rattle.hfs_changes.proofs.Items.{with_id, item_parent, item_kind}
@@ -30,6 +30,7 @@ use Rattle.hfs_changes.proofs.Made.{folder_alike, folder_valence}
 use Rattle.hfs_changes.proofs.Dropped.{not_in_itself}
 use Rattle.hfs_changes.proofs.CountBounds.{short_by}
 use Rattle.hfs_changes.proofs.Removal.{some_child}
+use Rattle.hfs_changes.proofs.LedThreads.{its_led, led_there}
 use Rattle.hfs_changes.proofs.RenameMakes.{rekeyed_sum}
 
 -- each lies in itself
@@ -81,13 +82,16 @@ module _ (catalogs : CatalogIsSound) (total from to : ℕ) (name : List ℕ) (r 
       not_second = not_second;
     }
 
-module _ (law : ItemsAreRecords) (catalogs : CatalogIsSound) (total now from to : ℕ) (name : List ℕ) (r : Record) (turned : Option Record) (r1 r2 : Record) (old : Blocks) (new : Catalog) (h : AreBlocksSound total old)
-    (c : IsChoice old (to_move (volume_in old) from name to) r) (d : HasMovedItem c.id from to r turned r1 r2 now (catalog_in old) new) where
+module _ (law : ItemsAreRecords) (catalogs : CatalogIsSound) (total now from to : ℕ) (name : List ℕ) (r r1 r2 : Record) (old : Blocks) (new : Catalog) (h : AreBlocksSound total old)
+    (c : IsChoice old (to_move (volume_in old) from name to) r) (d : HasMovedItem c.id from to r r1 r2 now (catalog_in old) new) where
   abbrev next : ℕ
   next = (mdb_in old).next_id
 
   abbrev thread : Option Record
   thread = thread_of (catalog_in old) c.id
+
+  abbrev turned : Option Record
+  turned = led_to c.id (under_folder to r).0 thread
 
   pub sound : IsSoundCatalog next (catalog_in old)
   sound = catalogs total old h
@@ -100,6 +104,9 @@ module _ (law : ItemsAreRecords) (catalogs : CatalogIsSound) (total now from to 
   its_form : IsRecord (under_folder to r)
   its_form = ⊎_elim (λ x. inl (own.1, x.1)) (λ x. absurd (item_or_thread r.1 own.1 x.0)) (each_in IsRecord (catalog_in old) r sound.records own.0)
 
+  its_name : is_item_name r.0.name ≡ true
+  its_name = each_in (λ (x : Record). is_item x.1 ≡ true → IsTrue (is_item_name x.0.name)) (catalog_in old) r sound.names.items own.0 own.1
+
   pub rekeyed : HasRekeyed c.id r (under_folder to r) thread turned (catalog_in old) d.middle
   rekeyed = record {
     second = d.second;
@@ -110,11 +117,11 @@ module _ (law : ItemsAreRecords) (catalogs : CatalogIsSound) (total now from to 
     dir = refl;
     file = refl;
     id = refl;
-    name = each_in (λ (x : Record). is_item x.1 ≡ true → IsTrue (is_item_name x.0.name)) (catalog_in old) r sound.names.items own.0 own.1;
+    name = its_name;
     record_form = its_form;
     valence = λ folder. refl;
-    its = d.its;
-    both = d.both;
+    its = its_led next (catalog_in old) sound c.id r (under_folder to r) c.was refl its_name d.thread_value;
+    both = led_there c.id (under_folder to r).0 thread;
   }
 
   pub moved : ValencesAreCounted → HasMoved c.id from to r (under_folder to r) thread turned r1 (folder_with ((dir_record_of r1.1).valence - 1) now r1) r2 (folder_with ((dir_record_of r2.1).valence + 1) now r2) (catalog_in old) new

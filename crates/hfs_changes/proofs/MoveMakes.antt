@@ -29,7 +29,7 @@ use Rattle.hfs_check.specs.Sound.{AreBlocksSound}
 use Rattle.hfs_check.specs.Laws.{CatalogIsSound}
 use Rattle.hfs_check.specs.VolumeOf.{contents_in, volume_in}
 use Rattle.hfs_catalog_edits.specs.Swaps.{one_if, swapped_each}
-use Rattle.hfs_changes.specs.Changes.{KeepsContents, HasMoved, folder_with}
+use Rattle.hfs_changes.specs.Changes.{KeepsContents, led_to, HasMoved, folder_with}
 use Rattle.hfs_changes.specs.OnBlocks.{HasTree}
 use Rattle.hfs_changes.specs.Laws.{MakesStep}
 use Rattle.hfs_changes.specs.SettingLaws.{IsChoice}
@@ -55,8 +55,8 @@ moved_file : (has : Bool) (forks : List ℕ × List ℕ) (key : CatKey) (dir : �
 unfolding file_of
 moved_file has forks key dir body = refl
 
-module _ (law : ItemsAreRecords) (valences : ValencesAreCounted) (catalogs : CatalogIsSound) (total now from to : ℕ) (name : List ℕ) (r : Record) (turned : Option Record) (r1 r2 : Record) (old new : Blocks) (h : AreBlocksSound total old)
-    (c : IsChoice old (to_move (volume_in old) from name to) r) (d : HasMovedItem c.id from to r turned r1 r2 now (catalog_in old) (catalog_in new))
+module _ (law : ItemsAreRecords) (valences : ValencesAreCounted) (catalogs : CatalogIsSound) (total now from to : ℕ) (name : List ℕ) (r r1 r2 : Record) (old new : Blocks) (h : AreBlocksSound total old)
+    (c : IsChoice old (to_move (volume_in old) from name to) r) (d : HasMovedItem c.id from to r r1 r2 now (catalog_in old) (catalog_in new))
     (t : HasTree (with_moved (is_dir r.1) from to now (mdb_in old)) old new) where
   abbrev next : ℕ
   next = (mdb_in old).next_id
@@ -76,6 +76,9 @@ module _ (law : ItemsAreRecords) (valences : ValencesAreCounted) (catalogs : Cat
   abbrev s2 : Record
   s2 = folder_with ((dir_record_of r2.1).valence + 1) now r2
 
+  abbrev turned : Option Record
+  turned = led_to c.id s.0 thread
+
   abbrev item : Item
   item = item_of (contents_in old) (catalog_in old) r
 
@@ -83,7 +86,7 @@ module _ (law : ItemsAreRecords) (valences : ValencesAreCounted) (catalogs : Cat
   came = record item { parent = to }
 
   whole : HasMoved c.id from to r s thread turned r1 s1 r2 s2 (catalog_in old) (catalog_in new)
-  whole = move.moved law catalogs total now from to name r turned r1 r2 old (catalog_in new) h c d valences
+  whole = move.moved law catalogs total now from to name r r1 r2 old (catalog_in new) h c d valences
 
   rises : Rises cat_cmp (catalog_in new)
   unfolding catalog_in
@@ -96,8 +99,8 @@ module _ (law : ItemsAreRecords) (valences : ValencesAreCounted) (catalogs : Cat
 
   still_threaded : (q : ℕ) → has_thread (catalog_in new) q ≡ has_thread (catalog_in old) q
   still_threaded q =
-      let sound = move.sound law catalogs total now from to name r turned r1 r2 old (catalog_in new) h c d in
-      let rekeyed = move.rekeyed law catalogs total now from to name r turned r1 r2 old (catalog_in new) h c d in
+      let sound = move.sound law catalogs total now from to name r r1 r2 old (catalog_in new) h c d in
+      let rekeyed = move.rekeyed law catalogs total now from to name r r1 r2 old (catalog_in new) h c d in
       thread_known (catalog_in new) q
       ∙ ap is_some (threads2 next c.id from to r s thread turned r1 s1 r2 s2 (catalog_in old) (catalog_in new) sound whole q ∙ sym (threads_after next c.id r s thread turned (catalog_in old) d.middle sound rekeyed q))
       ∙ sym (thread_known d.middle q)
@@ -128,21 +131,21 @@ module _ (law : ItemsAreRecords) (valences : ValencesAreCounted) (catalogs : Cat
       let folders_left : ◌≡◌ {A = ℕ} (one_if (is_folder_in 2 r)) (one_if (is_dir r.1 && eqb from 2)) = λ i. one_if (is_dir r.1 && eqb (was_under i) 2) in
       record {
         root_files =
-            let all = move.moved_sum law catalogs total now from to name r turned r1 r2 old (catalog_in new) h c d (λ x. one_if (is_file_in 2 x))
+            let all = move.moved_sum law catalogs total now from to name r r1 r2 old (catalog_in new) h c d (λ x. one_if (is_file_in 2 x))
             (λ x i. ap (λ (b : Bool). one_if (b && eqb x.0.parent 2)) (thread_no_file x i))
             (λ j. one_if (one.file j && eqb (one.key j).parent 2)) (λ j. one_if (two.file j && eqb (two.key j).parent 2)) in
             omega (arith, h.counts.root_files, all, files_left, files_came);
         root_folders =
-            let all = move.moved_sum law catalogs total now from to name r turned r1 r2 old (catalog_in new) h c d (λ x. one_if (is_folder_in 2 x))
+            let all = move.moved_sum law catalogs total now from to name r r1 r2 old (catalog_in new) h c d (λ x. one_if (is_folder_in 2 x))
             (λ x i. ap (λ (b : Bool). one_if (b && eqb x.0.parent 2)) (thread_no_dir x i))
             (λ j. one_if (one.dir j && eqb (one.key j).parent 2)) (λ j. one_if (two.dir j && eqb (two.key j).parent 2)) in
             omega (arith, h.counts.root_folders, all, folders_left);
         files =
-            let all = move.moved_sum law catalogs total now from to name r turned r1 r2 old (catalog_in new) h c d (λ x. one_if (is_file x.1))
+            let all = move.moved_sum law catalogs total now from to name r r1 r2 old (catalog_in new) h c d (λ x. one_if (is_file x.1))
             (λ x i. ap one_if (thread_no_file x i)) (ap one_if one.file) (ap one_if two.file) in
             omega (arith, h.counts.files, all);
         folders =
-            let all = move.moved_sum law catalogs total now from to name r turned r1 r2 old (catalog_in new) h c d (λ x. one_if (is_dir x.1))
+            let all = move.moved_sum law catalogs total now from to name r r1 r2 old (catalog_in new) h c d (λ x. one_if (is_dir x.1))
             (λ x i. ap one_if (thread_no_dir x i)) (ap one_if one.dir) (ap one_if two.dir) in
             omega (arith, h.counts.folders, all);
       }
@@ -160,7 +163,7 @@ module _ (law : ItemsAreRecords) (valences : ValencesAreCounted) (catalogs : Cat
 
   more : (p : Fork → Bool) → count_by (λ x. list_any p (forks_of x)) (catalog_in old) ≤ count_by (λ x. list_any p (forks_of x)) (catalog_in new)
   more p =
-      let all = move.moved_sum law catalogs total now from to name r turned r1 r2 old (catalog_in new) h c d (λ x. one_if (list_any p (forks_of x)))
+      let all = move.moved_sum law catalogs total now from to name r r1 r2 old (catalog_in new) h c d (λ x. one_if (list_any p (forks_of x)))
       (λ x i. ap (λ (fs : List Fork). one_if (list_any p fs)) (no_file_forks x (thread_no_file x i)))
       (ap (λ (fs : List Fork). one_if (list_any p fs)) first_same) (ap (λ (fs : List Fork). one_if (list_any p fs)) second_same) in
       omega (arith, all)
@@ -168,8 +171,8 @@ module _ (law : ItemsAreRecords) (valences : ValencesAreCounted) (catalogs : Cat
   forks_after : AreForksSound (with_counts counts (mdb_in old)) (overflow_in old) (catalog_in new)
   forks_after =
       let P = λ (x : Record). Each (IsForkSound (mdb_in old) (overflow_in old)) (forks_of x) in
-      let sound = move.sound law catalogs total now from to name r turned r1 r2 old (catalog_in new) h c d in
-      let rekeyed = move.rekeyed law catalogs total now from to name r turned r1 r2 old (catalog_in new) h c d in
+      let sound = move.sound law catalogs total now from to name r r1 r2 old (catalog_in new) h c d in
+      let rekeyed = move.rekeyed law catalogs total now from to name r r1 r2 old (catalog_in new) h c d in
       let half : AreForksSound (mdb_in old) (overflow_in old) d.middle = rekeyed_forks next c.id r s.0 thread turned (catalog_in old) d.middle sound rekeyed (mdb_in old) (mdb_in old) (overflow_in old) h.forks in
       let none : (x : Record) → is_dir x.1 ≡ true → P x = λ x folder. subst (Each (IsForkSound (mdb_in old) (overflow_in old))) (sym (no_forks x folder)) tt in
       let one = swapped_each P (Some r1) (Some s1) d.middle d.third d.first_set half.files (none s1 (whole.first.alike.dir ∙ d.left.folder), tt) in
@@ -180,7 +183,7 @@ module _ (law : ItemsAreRecords) (valences : ValencesAreCounted) (catalogs : Cat
   unfolding owned_in
   owned_after b =
       let has = forks_have (mdb_in old) (overflow_in old) b in
-      let all = move.moved_sum law catalogs total now from to name r turned r1 r2 old (catalog_in new) h c d (record_has (mdb_in old) (overflow_in old) b)
+      let all = move.moved_sum law catalogs total now from to name r r1 r2 old (catalog_in new) h c d (record_has (mdb_in old) (overflow_in old) b)
       (λ x i. ap has (no_file_forks x (thread_no_file x i))) (ap has first_same) (ap has second_same) in
       owners_kept counts (mdb_in old) (overflow_in old) (catalog_in old) (catalog_in new) b (omega (arith, all))
 
@@ -195,7 +198,7 @@ module _ (law : ItemsAreRecords) (valences : ValencesAreCounted) (catalogs : Cat
 
   pub cat_move_makes : MakesStep (call.CatMove from name to now) counts old new
   cat_move_makes =
-      let sound = move.sound law catalogs total now from to name r turned r1 r2 old (catalog_in new) h c d in
+      let sound = move.sound law catalogs total now from to name r r1 r2 old (catalog_in new) h c d in
       record {
         edits = t.edits;
         beside = t.beside;
@@ -216,4 +219,4 @@ module _ (law : ItemsAreRecords) (valences : ValencesAreCounted) (catalogs : Cat
       }
 
 pub cat_move_steps : ItemsAreRecords → ValencesAreCounted → CatalogIsSound → CatMoveMakes
-cat_move_steps law valences catalogs total now dir new_dir name r turned r1 r2 old new h c d = cat_move_makes law valences catalogs total now dir new_dir name r turned r1 r2 old new h c d.moved d.tree
+cat_move_steps law valences catalogs total now dir new_dir name r r1 r2 old new h c d = cat_move_makes law valences catalogs total now dir new_dir name r r1 r2 old new h c d.moved d.tree

@@ -32,12 +32,13 @@ use Rattle.hfs_check.specs.VolumeOf.{contents_in, volume_in}
 use Rattle.hfs_changes.specs.Steps.{IfThere, is_there}
 use Rattle.hfs_catalog_edits.specs.Swaps.{Swaps}
 use Rattle.hfs_changes.proofs.Items.{with_id}
-use Rattle.hfs_changes.specs.Changes.{KeepsContents, IsItsThread, ItemRekeyed, HasRekeyed}
+use Rattle.hfs_changes.specs.Changes.{KeepsContents, led_to, IsItsThread, ItemRekeyed, HasRekeyed}
 use Rattle.hfs_changes.specs.OnBlocks.{at_time, HasTree}
 use Rattle.hfs_changes.specs.Laws.{MakesStep}
 use Rattle.hfs_changes.specs.SettingLaws.{with_name, RenameMakes}
 use Rattle.hfs_changes.proofs.Chosen.{may_rename}
 use Rattle.hfs_changes.proofs.NewItems.{named_long}
+use Rattle.hfs_changes.proofs.LedThreads.{its_led, led_there}
 use Rattle.hfs_changes.proofs.Maps.{thread_known}
 use Rattle.hfs_changes.proofs.Rekeyed.{as_turned, threads_after, renamed_near, rekeyed_items}
 use Rattle.hfs_changes.proofs.TurnedForks as forks
@@ -188,7 +189,11 @@ has_rekeyed k r new_name turned old second new was named item_moved thread_set i
 }
 
 pub rename_make_steps : ItemsAreRecords → CatalogIsSound → RenameMakes
-rename_make_steps law catalogs total now dir name new_name r turned old new h c d =
+rename_make_steps law catalogs total now dir name new_name r old new h c d =
+    let catalog = catalog_in old in
+    let key = (with_name new_name r).0 in
+    let thread = thread_of catalog c.id in
     let named = (may_rename (volume_in old) dir name new_name _ c.is).named in
-    let rekeyed = has_rekeyed c.id r new_name turned (catalog_in old) d.second (catalog_in new) c.was named d.item_moved d.thread_set d.its d.both in
-    rename_makes law catalogs total now c.id r new_name (thread_of (catalog_in old) c.id) turned old new h rekeyed d.tree dir name c.is
+    let its = its_led (mdb_in old).next_id catalog (catalogs total old h) c.id r (with_name new_name r) c.was refl named d.thread_value in
+    let rekeyed = has_rekeyed c.id r new_name (led_to c.id key thread) catalog d.second (catalog_in new) c.was named d.item_moved d.thread_set its (led_there c.id key thread) in
+    rename_makes law catalogs total now c.id r new_name thread (led_to c.id key thread) old new h rekeyed d.tree dir name c.is

@@ -1,11 +1,14 @@
 -- What the calls that change a volume make of the records of its catalog.
 use Rattle.std.specs.Prelude.{◌≡◌, ℕ, ◌+◌, ◌<◌, ◌⊎◌, IsTrue, true, false, Option, Some, None}
+use Rattle.std.specs.Option.{option_map}
 use Rattle.hfs_fields.specs.declared.dir_record.DirRecord.{DirRecord}
+use Rattle.hfs_fields.specs.declared.key.CatKey.{CatKey}
+use Rattle.hfs_fields.specs.declared.thread_record.ThreadRecord.{ThreadRecord}
 use Rattle.hfs_fields.specs.Names.{is_item_name}
-use Rattle.hfs_fields.specs.RecordForms.{dir_record_bytes}
+use Rattle.hfs_fields.specs.RecordForms.{dir_record_bytes, IsThreadRecordValue, thread_record_bytes}
 use Rattle.hfs_fields.specs.Records.{is_dir, is_file, is_item, begins_thread, item_id, dir_record_of, file_record_of, thread_record_of}
 use Rattle.hfs_catalog.specs.Records.{Record, Catalog, item_with}
-use Rattle.hfs_catalog.specs.Lookups.{thread_of}
+use Rattle.hfs_catalog.specs.Lookups.{first_key, thread_of}
 use Rattle.hfs_catalog.specs.Sound.{IsRecord, LeadsTo}
 use Rattle.hfs_catalog.specs.Items.{Contents}
 use Rattle.hfs_catalog_edits.specs.Swaps.{Swaps}
@@ -33,6 +36,24 @@ KeepsContents old new catalog = (k : ℕ) (r : Record) → item_with catalog k �
 abbrev pub KeepsOthers : ℕ → Contents → Contents → Catalog → Type 0
 KeepsOthers id old new catalog =
     (k : ℕ) (r : Record) → (k ≡ id → ⊥) → item_with catalog k ≡ Some r → is_dir r.1 ≡ false → new (file_record_of r.1) ≡ old (file_record_of r.1)
+
+-- ---- threads
+
+-- the record of an ID's thread
+abbrev pub thread_record : ℕ → ThreadRecord → Record
+thread_record id thread = (first_key id, thread_record_bytes thread)
+
+-- a thread that leads to another key; its kind and its reserved bytes stay
+abbrev pub thread_to : CatKey → Record → ThreadRecord
+thread_to key thread = record (thread_record_of thread.1) { parent = key.parent; name = key.name }
+
+-- the thread's record, if there is one, led to this key
+abbrev pub led_to : ℕ → CatKey → Option Record → Option Record
+led_to id key thread = option_map (λ (t : Record). thread_record id (thread_to key t)) thread
+
+-- what is written of it is what the program's threads keep
+abbrev pub IsLedValue : CatKey → Option Record → Type 0
+IsLedValue key thread = (t : Record) → thread ≡ Some t → IsThreadRecordValue (thread_to key t)
 
 -- ---- a new item
 

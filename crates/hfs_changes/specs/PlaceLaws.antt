@@ -14,7 +14,7 @@ use Rattle.hfs_check.specs.Parts.{Blocks, mdb_in, catalog_in}
 use Rattle.hfs_check.specs.Sound.{AreBlocksSound}
 use Rattle.hfs_check.specs.VolumeOf.{volume_in}
 use Rattle.hfs_changes.specs.Changes.{ItemRekeyed, IsFolderWith}
-use Rattle.hfs_changes.specs.Swaps.{Swaps}
+use Rattle.hfs_catalog_edits.specs.Swaps.{Swaps}
 use Rattle.hfs_changes.specs.SettingLaws.{IsChoice, with_name}
 use Rattle.hfs_changes.specs.MoveLaws.{under_folder}
 

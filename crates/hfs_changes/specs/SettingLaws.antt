@@ -1,5 +1,5 @@
 -- What holds of the calls that set what is told of an item, and its name. Each statement is what a function of src/settings.rt ensures.
-use Rattle.std.specs.Prelude.{◌≡◌, ℕ, ℤ, Bool, true, false, List, take, drop, Option, Some, Result, Ok}
+use Rattle.std.specs.Prelude.{◌≡◌, ℕ, ℤ, Bool, true, false, List, take, drop, Some, Result, Ok}
 use Rattle.hfs_fields.specs.declared.dir_record.DirRecord.{DirRecord}
 use Rattle.hfs_fields.specs.declared.file_record.FileRecord.{FileRecord}
 use Rattle.hfs_fields.specs.Keys.{cat_cmp}
@@ -17,9 +17,8 @@ use Rattle.hfs_model.specs.Choices.{file_to_change, to_rename, to_set_f_info, to
 use Rattle.hfs_check.specs.Parts.{Blocks, mdb_in, catalog_in}
 use Rattle.hfs_check.specs.Sound.{AreBlocksSound}
 use Rattle.hfs_check.specs.VolumeOf.{contents_in, volume_in}
-use Rattle.hfs_changes.specs.Changes.{IsItsThread, ItemRekeyed}
+use Rattle.hfs_changes.specs.Changes.{led_to, IsLedValue, ItemRekeyed}
 use Rattle.hfs_catalog_edits.specs.Swaps.{Swaps}
-use Rattle.hfs_changes.specs.Steps.{IfThere, is_there}
 use Rattle.hfs_changes.specs.OnBlocks.{at_time, HasTree}
 use Rattle.hfs_changes.specs.Laws.{MakesStep}
 
@@ -105,16 +104,15 @@ SetLockMakes =
 abbrev pub with_name : List ℕ → Record → Record
 with_name new_name r = (record r.0 { name = new_name }, r.1)
 
--- the item's record stands under its key with the new name, with the body that it had, and its thread's, if it has one, leads to it
-pub record HasRenamed (id : ℕ) (r : Record) (new_name : List ℕ) (turned : Option Record) (now : ℕ) (old new : Blocks) : Type 0 where
+-- the item's record stands under its key with the new name, with the body that it had, and its thread's, if it has one, was led there
+pub record HasRenamed (id : ℕ) (r : Record) (new_name : List ℕ) (now : ℕ) (old new : Blocks) : Type 0 where
   pub second : Catalog
   pub item_moved : ItemRekeyed r (with_name new_name r) (catalog_in old) second
-  pub thread_set : Swaps (thread_of (catalog_in old) id) turned second (catalog_in new)
-  pub its : IfThere (IsItsThread id (with_name new_name r)) turned
-  pub both : is_there turned ≡ is_there (thread_of (catalog_in old) id)
+  pub thread_set : Swaps (thread_of (catalog_in old) id) (led_to id (with_name new_name r).0 (thread_of (catalog_in old) id)) second (catalog_in new)
+  pub thread_value : IsLedValue (with_name new_name r).0 (thread_of (catalog_in old) id)
   pub tree : HasTree (at_time now (mdb_in old)) old new
 
 abbrev pub RenameMakes : Type 0
 RenameMakes =
-    (total now dir : ℕ) (name new_name : List ℕ) (r : Record) (turned : Option Record) (old new : Blocks) → AreBlocksSound total old
-    → (c : IsChoice old (to_rename (volume_in old) dir name new_name) r) → HasRenamed c.id r new_name turned now old new → MakesAt (call.Rename dir name new_name now) now old new
+    (total now dir : ℕ) (name new_name : List ℕ) (r : Record) (old new : Blocks) → AreBlocksSound total old
+    → (c : IsChoice old (to_rename (volume_in old) dir name new_name) r) → HasRenamed c.id r new_name now old new → MakesAt (call.Rename dir name new_name now) now old new
