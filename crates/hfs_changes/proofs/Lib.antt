@@ -23,3 +23,8 @@ pub mod MadeThreads
 pub mod SettingSteps
 pub mod DirCreateMakes
 pub mod RenameMakes
+pub mod DroppedForks
+pub mod DroppedSpace
+pub mod DeletedFrames
+pub mod Deleted
+pub mod DeleteMakes

@@ -10,3 +10,4 @@ pub mod Laws
 pub mod SettingLaws
 pub mod CreationLaws
 pub mod ItemLaws
+pub mod Deletion
