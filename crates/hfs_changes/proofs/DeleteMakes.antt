@@ -5,6 +5,7 @@ use Rattle.std.specs.FinMap as map
 use Rattle.std.specs.List.{find, flat_map, sum_by}
 use Rattle.std.proofs.lemmas.Bool.{eq-eqb, ne_eqb, true≢false}
 use Rattle.std.proofs.lemmas.Option.{none-some}
+use Rattle.std.proofs.lemmas.List.Elements.{All-append}
 use Rattle.hfs_fields.specs.declared.mdb.Mdb.{Mdb}
 use Rattle.hfs_fields.specs.Counts.{with_counts}
 use Rattle.hfs_fields.specs.Keys.{cat_cmp}
@@ -12,7 +13,7 @@ use Rattle.hfs_fields.specs.Records.{is_dir, is_file, is_item, item_id, dir_reco
 use Rattle.hfs_scans.specs.Each.{Each}
 use Rattle.hfs_scans.specs.Members.{In, each_in}
 use Rattle.hfs_btree.specs.Pairs.{Rises}
-use Rattle.hfs_space.specs.Extents.{Overflow, extent_blocks}
+use Rattle.hfs_space.specs.Extents.{Overflow, IsExtentWithin, AreExtentsWithin, extent_blocks}
 use Rattle.hfs_space.specs.Owners.{Fork, forks_of, extents_in, owned_blocks, owners}
 use Rattle.hfs_space.specs.Sound.{IsForkSound, AreForksSound}
 use Rattle.hfs_space_edits.specs.Overflows.{without_file}
@@ -31,7 +32,7 @@ use Rattle.hfs_check.specs.Sound.{AreBlocksSound}
 use Rattle.hfs_check.specs.Laws.{CatalogIsSound}
 use Rattle.hfs_check.specs.VolumeOf.{contents_in, volume_in}
 use Rattle.hfs_changes.specs.Swaps.{Swaps, one_if, passes, number_of, list_of}
-use Rattle.hfs_changes.specs.Deletion.{AreOtherFiles, fork_blocks, without_one_file, HasDeletedFile, MakesDeletion, DeleteFileMakes, ForkBlocksAreAlone}
+use Rattle.hfs_changes.specs.Deletion.{AreOtherFiles, fork_blocks, without_one_file, HasDeletedFile, MakesDeletion, DeleteFileMakes, ForkBlocksAreAlone, ForkExtentsAreWithin}
 use Rattle.hfs_changes.specs.SettingLaws.{IsChoice}
 use Rattle.hfs_changes.proofs.Dropped.{near, items3, dropped_items, dropped_sum, one_fewer_count, not_in_itself}
 use Rattle.hfs_changes.proofs.DroppedForks.{owners_dropped}
@@ -98,6 +99,15 @@ fork_blocks_are_alone total r blocks h there = record {
   once = record_once total blocks h r there;
   used = λ b some. owned_each _ (owned_in blocks) h.space.marked b (let more = record_owns total blocks h r there b in omega (arith, some, more));
 }
+
+each_within : (mdb : Mdb) (overflow : Overflow) (fs : List Fork) → Each (IsForkSound mdb overflow) fs → AreExtentsWithin mdb.allocation_blocks (flat_map (extents_in overflow) fs)
+each_within mdb overflow [] h = λ k none low. absurd (omega (arith, low))
+each_within mdb overflow (f ∷ fs) h =
+    All-append (IsExtentWithin mdb.allocation_blocks) (extents_in overflow f) (flat_map (extents_in overflow) fs) h.0.within (each_within mdb overflow fs h.1)
+
+pub fork_extents_are_within : ForkExtentsAreWithin
+fork_extents_are_within total r blocks h there =
+    each_within (mdb_in blocks) (overflow_in blocks) (forks_of r) (each_in (λ (y : Record). Each (IsForkSound (mdb_in blocks) (overflow_in blocks)) (forks_of y)) (catalog_in blocks) r h.forks.files there)
 
 -- ---- the call
 

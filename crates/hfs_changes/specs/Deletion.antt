@@ -10,7 +10,7 @@ use Rattle.hfs_scans.specs.Members.{In}
 use Rattle.hfs_btree.specs.Sound.{KeepsFrame}
 use Rattle.hfs_btree_checks.specs.Order.{index_keys}
 use Rattle.hfs_space.specs.Bitmap.{bitmap_len, is_used, clear_count}
-use Rattle.hfs_space.specs.Extents.{Overflow, extent_blocks}
+use Rattle.hfs_space.specs.Extents.{Overflow, AreExtentsWithin, extent_blocks}
 use Rattle.std.specs.List.{flat_map}
 use Rattle.hfs_space.specs.Owners.{forks_of, extents_in, owned_blocks, owners}
 use Rattle.hfs_space.specs.Sound.{AreForksSound}
@@ -96,6 +96,12 @@ DeletionsAreSteps =
 abbrev pub ForkBlocksAreAlone : Type 0
 ForkBlocksAreAlone =
     (total : ℕ) (r : Record) (blocks : Blocks) → AreBlocksSound total blocks → In r (catalog_in blocks) → AreAlone blocks (mdb_in blocks).bitmap_start (fork_blocks (overflow_in blocks) r)
+
+-- its extents are among the volume's allocation blocks
+abbrev pub ForkExtentsAreWithin : Type 0
+ForkExtentsAreWithin =
+    (total : ℕ) (r : Record) (blocks : Blocks) → AreBlocksSound total blocks → In r (catalog_in blocks)
+    → AreExtentsWithin (mdb_in blocks).allocation_blocks (flat_map (extents_in (overflow_in blocks)) (forks_of r))
 
 -- ---- Delete of a file
 

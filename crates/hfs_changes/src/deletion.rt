@@ -1,6 +1,6 @@
 //! What the deletion of a file makes of a volume, each as the contract of a function that does nothing: a caller learns it by the
 //! call.
-ghost use Rattle.hfs_changes.specs.Deletion.{DeleteFileMakes, DeletionsAreSteps, ForkBlocksAreAlone};
+ghost use Rattle.hfs_changes.specs.Deletion.{DeleteFileMakes, DeletionsAreSteps, ForkBlocksAreAlone, ForkExtentsAreWithin};
 
 use hfs_catalog::{items_are_records, sound_is_lawful};
 use hfs_check::catalog_is_sound;
@@ -31,4 +31,9 @@ pub fn delete_file_makes()
 /// In a sound volume each block of a file's forks is in one extent alone, and marked.
 pub fn fork_blocks_are_alone()
     ensures { ForkBlocksAreAlone }
+{}
+
+/// In a sound volume the extents of a file's forks are among the volume's allocation blocks.
+pub fn fork_extents_are_within()
+    ensures { ForkExtentsAreWithin }
 {}

@@ -2,10 +2,10 @@
 use crate::trees::{block_under, copy, counts, header, key_of, keys, laid_tree, wide_tree};
 use hfs_btree::find;
 use hfs_btree_checks::check_tree;
-use hfs_fields::{ExtKey, Extent};
+use hfs_fields::{ExtKey, Extent, FileRecord};
 use hfs_node_tables::{NodeTable, is_exact};
 use hfs_space::{ForkKind, fork_extents};
-use hfs_space_edits::drop_overflow;
+use hfs_space_edits::{drop_overflow, file_extents};
 use std::alloc::{AllocError, Global};
 use std::process::Abort;
 use std::test::Fail;
@@ -110,5 +110,47 @@ fn an_emptied_tree(rt: HostRuntime) -> Result<(), Fail> {
         );
     }
     assert!(rt; has_keys(rt.alloc(), &nodes, &[])?);
+    Ok(())
+}
+
+/// The extents of file 16, whose forks begin with three blocks each from these on.
+fn both_forks(alloc: Global, nodes: &NodeTable, data: u16, rest: u16) -> Result<Vec<Extent>, Fail> {
+    let Ok(_) = check_tree::<ExtKey, NodeTable>(alloc, nodes, nodes.size()) else {
+        return Err(Fail::new("not a sound tree"));
+    };
+    let mut file = FileRecord::new(16, 0);
+    file.data.extents = [Extent {
+        first: data,
+        count: 1,
+    }; 3];
+    file.resource.extents = [Extent {
+        first: rest,
+        count: 1,
+    }; 3];
+    Ok(file_extents(alloc, nodes, &file)?)
+}
+
+#[test]
+fn extents_of_both_forks(rt: HostRuntime) -> Result<(), Fail> {
+    let nodes = wide_tree(rt.alloc())?;
+    let extents = both_forks(rt.alloc(), &nodes, 3_000, 4_000)?;
+    assert_eq!(rt; extents.len(), 69);
+    for (at, key) in [
+        (3, key_of(0, 16, 3)),
+        (62, key_of(0, 16, 60)),
+        (66, key_of(255, 16, 3)),
+    ] {
+        let wanted = Extent {
+            first: block_under(&key),
+            count: 1,
+        };
+        assert!(rt; extents.get(at).copied() == Some(wanted), "extent {at}");
+    }
+    for (at, first) in [(0, 3_000), (2, 3_000), (63, 4_000), (65, 4_000)] {
+        assert!(rt;
+            extents.get(at).copied() == Some(Extent { first, count: 1 }),
+            "extent {at}"
+        );
+    }
     Ok(())
 }
