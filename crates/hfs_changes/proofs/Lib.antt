@@ -36,3 +36,8 @@ pub mod CountBounds
 pub mod NewItems
 pub mod FreeKeys
 pub mod Standing
+pub mod DroppedForks
+pub mod DroppedSpace
+pub mod DeletedFrames
+pub mod Deleted
+pub mod DeletionMakes

@@ -13,3 +13,4 @@ pub mod MoveLaws
 pub mod FileIdLaws
 pub mod BoundLaws
 pub mod PlaceLaws
+pub mod Deletion

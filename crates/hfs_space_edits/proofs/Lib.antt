@@ -1,3 +1,4 @@
 mod Shrunk
 mod FilesKeys
 mod ReleasedMore
+mod BothForks

@@ -24,6 +24,6 @@ pub record HasShrunk {K : Type 0} (g : Ghosts K) (old new : Store) : Type 0 wher
   pub behind : drop (header_in old).nodes new ≡ drop (header_in old).nodes old
 
 -- the records of an extents tree are those of other files than this one
-pub record HasDropped (file : ℕ) (old new : Store) : Type 0 where
+pub record HasDroppedOverflow (file : ℕ) (old new : Store) : Type 0 where
   pub shrunk : HasShrunk ext_keys old new
   pub content : overflow_of new ≡ without_file file (overflow_of old)

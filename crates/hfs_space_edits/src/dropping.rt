@@ -3,7 +3,7 @@
 ghost use Rattle.std.specs.Prelude.{◌≡◌, MatchOption, OnOk};
 ghost use Rattle.hfs_space.specs.TreeKeys.{IsExtentsTree, overflow_of};
 ghost use Rattle.hfs_space_edits.specs.Overflows.{AreOfOthers, IsKeyOf};
-ghost use Rattle.hfs_space_edits.specs.Dropped.{HasDropped};
+ghost use Rattle.hfs_space_edits.specs.Dropped.{HasDroppedOverflow};
 
 use hfs_btree::{Nodes, Walk};
 use hfs_btree_edits::NodesMut;
@@ -37,7 +37,7 @@ fn first_of_file<N: Nodes>(nodes: &N, file: u32) -> Option<ExtKey>
 /// Source: Inside Macintosh: Files, chapter 2, 'Extents overflow file'.
 pub fn drop_overflow<S: NodesMut>(alloc: Global, nodes: &mut S, file: u32) -> Result<(), AllocError>
     requires { IsExtentsTree (S.nodes nodes.old) }
-    ensures dropped { OnOk result (HasDropped file (S.nodes nodes.old) (S.nodes nodes.new)) }
+    ensures dropped { OnOk result (HasDroppedOverflow file (S.nodes nodes.old) (S.nodes nodes.new)) }
     ensures none { AreOfOthers file (overflow_of (S.nodes nodes.old)) → nodes.new ≡ nodes.old }
     ensures kept { OnOk result (S.kept nodes.new ≡ S.kept nodes.old) }
 {

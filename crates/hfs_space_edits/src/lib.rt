@@ -2,7 +2,9 @@
 #![tactic(auto)]
 
 mod dropping;
+mod forks;
 mod releasing;
 
 pub use dropping::drop_overflow;
+pub use forks::file_extents;
 pub use releasing::release_extents;

@@ -1,0 +1,36 @@
+//! All extents of a file.
+
+ghost use Rattle.std.specs.Prelude.{◌≡◌, IfOk};
+ghost use Rattle.std.specs.List.{flat_map};
+ghost use Rattle.hfs_space.specs.Owners.{extents_in, forks_of_file};
+ghost use Rattle.hfs_space.specs.TreeKeys.{IsExtentsTree, overflow_of};
+
+use hfs_btree::Nodes;
+use hfs_fields::{Extent, FileRecord};
+use hfs_space::{ForkKind, fork_extents};
+use std::alloc::{AllocError, Global};
+
+/// All extents of a file: those of its data fork and then those of its resource fork, each with those that go on in the extents
+/// tree. The only error is want of memory.
+///
+/// Source: Inside Macintosh: Files, chapter 2, 'Extents overflow file'.
+#[tactic(auto, using(crate::proofs::BothForks::both_forks))]
+pub fn file_extents<N: Nodes>(
+    alloc: Global,
+    tree: &N,
+    file: &FileRecord,
+) -> Result<Vec<Extent>, AllocError>
+    requires { IsExtentsTree (N.nodes tree.now) }
+    ensures { IfOk result (λ extents. extents.items ≡ flat_map (extents_in (overflow_of (N.nodes tree.now))) (forks_of_file file.now)) }
+{
+    let mut extents = fork_extents(alloc, tree, file.id, ForkKind::Data, &file.data.extents)?;
+    let resource = fork_extents(
+        alloc,
+        tree,
+        file.id,
+        ForkKind::Resource,
+        &file.resource.extents,
+    )?;
+    extents.extend_from_slice(&resource)?;
+    Ok(extents)
+}
