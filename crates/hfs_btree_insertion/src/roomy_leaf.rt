@@ -11,22 +11,9 @@ ghost use Rattle.hfs_btree.specs.Tree.{records_of};
 ghost use Rattle.hfs_btree_insertion.specs.Room.{IsRoomyLeaf};
 
 use crate::way::size_in;
-use hfs_btree::{Header, Key, Nodes, child_of, is_above};
-use hfs_node::{NodeView, view};
-
-/// How many index records come before the first whose key is above.
-fn place_for<K: Key>(node: &NodeView<'_>, key: &K) -> usize
-    requires { Each (λ entry. K.is_index entry ≡ true) node.now.records }
-    ensures { result ≡ prefix_len (is_not_above K.Key key.now) node.now.records }
-{
-    for i in 0..node.len() {
-        let above = is_above(node.record(i), key);
-        if above {
-            return i;
-        }
-    }
-    node.len()
-}
+use hfs_btree::{Header, Key, Nodes, child_of};
+use hfs_btree_edits::place_above;
+use hfs_node::view;
 
 /// The child where the search for a key goes on from an index node; none where all of the node's keys are above the key.
 fn low_child<K: Key>(bytes: &[u8; 512], key: &K) -> Option<u32>
@@ -37,7 +24,7 @@ fn low_child<K: Key>(bytes: &[u8; 512], key: &K) -> Option<u32>
     let Ok(node) = view(bytes) else {
         return None;
     };
-    let place = place_for(&node, key);
+    let place = place_above(&node, key);
     if place == 0 {
         return None;
     }

@@ -11,7 +11,7 @@ pub record-requires : goal.record-requires
 record-requires g c =
     let most = prefix_len-le-length (is_not_above g.K.Key c.args.key.now) c.in-Ok.node.records in
     let some = c.if-place-eq0.false in
-    omega (arith, c.place_for-place.ensures, most, some)
+    omega (arith, c.place_above-place.ensures, most, some)
 
 pub child_of-requires : goal.child_of-requires
 child_of-requires g c =
@@ -21,4 +21,4 @@ child_of-requires g c =
     let same : records_of (Rattle.hfs_node.specs.Node.node_of c.args.bytes.now) ≡ c.in-Ok.node.records = sym (ap records_of c.in-Ok.ensures.node) in
     let I : List ℕ → Type 0 = λ e. g.K.Key.is_index e ≡ true in
     subst I (sym c.record.ensures.bytes)
-    (each-at I c.in-Ok.node.records (c.place_for-place.result - 1) [] (subst E same c.requires) (omega (arith, c.place_for-place.ensures, most, some)))
+    (each-at I c.in-Ok.node.records (c.place_above-place.result - 1) [] (subst E same c.requires) (omega (arith, c.place_above-place.ensures, most, some)))
