@@ -1,6 +1,6 @@
 //! The header record of a tree, written.
 
-ghost use Rattle.std.specs.Prelude.{◌≡◌, ◌<◌, ◌≤◌, IfOk, OnOk, length};
+ghost use Rattle.std.specs.Prelude.{◌≡◌, ◌<◌, ◌≤◌, OnOk, length};
 ghost use Rattle.hfs_btree.specs.Header.{header_of, record_in};
 ghost use Rattle.hfs_btree_edits.specs.Stored.{HasHeaderPut};
 
@@ -9,15 +9,14 @@ use crate::stored::{load, store};
 use hfs_btree::Header;
 use std::alloc::{AllocError, Global};
 
-/// A header record with these fields, and behind them the bytes of the old one.
-fn header_entry(alloc: Global, header: &Header, old: &[u8]) -> Result<Vec<u8>, AllocError>
-    requires { 30 ≤ length old.now }
-    ensures fields { IfOk result (λ made. header_of made.items ≡ header.now) }
-    ensures length { IfOk result (λ made. length made.items ≡ length old.now) }
+/// A header record with these fields, and behind them the bytes that it had.
+fn rewritten(header: &Header, mut entry: Vec<u8>) -> Vec<u8>
+    requires { 30 ≤ length entry.items }
+    ensures fields { header_of result.items ≡ header.now }
+    ensures length { length result.items ≡ length entry.items }
 {
-    let mut entry = Vec::from_slice(alloc, old)?;
     header.write(entry.as_mut_slice());
-    Ok(entry)
+    entry
 }
 
 /// Writes the fields of the header record; the bytes behind them stay as they are.
@@ -32,7 +31,8 @@ pub fn put_header<S: NodesMut>(
     ensures kept { OnOk result (S.kept nodes.new ≡ S.kept nodes.old) }
 {
     let mut head = load(alloc, nodes, 0)?;
-    let entry = header_entry(alloc, header, head.records.record(0))?;
-    let _old = head.records.replace(0, entry);
+    let old = head.records.replace(0, Vec::new(alloc));
+    let entry = rewritten(header, old);
+    let _none = head.records.replace(0, entry);
     store(nodes, 0, &head)
 }

@@ -12,7 +12,7 @@ ghost use Rattle.hfs_btree_edits.specs.Edits.{HasReplaced};
 ghost use Rattle.hfs_btree_edits.specs.Conditions.{IsNoLonger, IsThere};
 
 use crate::nodes_mut::NodesMut;
-use crate::stored::store;
+use crate::stored::{copy_of, store};
 use hfs_btree::{Key, descend, read_header};
 use hfs_node::{Node, view};
 use std::alloc::{AllocError, Global};
@@ -44,7 +44,7 @@ pub(crate) fn copied(alloc: Global, bytes: &[u8; 512]) -> Result<Node, AllocErro
     ensures fits { IfOk result Fits }
 {
     match view(bytes) {
-        Ok(node) => node.to_node(alloc),
+        Ok(node) => copy_of(alloc, &node),
         Err(_) => unreachable!(),
     }
 }

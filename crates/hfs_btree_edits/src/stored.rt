@@ -7,10 +7,36 @@ ghost use Rattle.hfs_btree_edits.specs.Stored.{HasStored};
 
 use crate::nodes_mut::NodesMut;
 use hfs_btree::Nodes;
-use hfs_node::{BLANK_NODE, Node, decode, encode};
+use hfs_node::{BLANK_NODE, Node, NodeView, Records, encode, view};
 use std::alloc::{AllocError, Global};
 
-/// A copy of node `n`.
+/// A copy of a node's records, with room for one more.
+fn copied_records(alloc: Global, node: &NodeView<'_>) -> Result<Records, AllocError>
+    ensures { IfOk result (λ records. records ≡ node.now.records) }
+{
+    let mut records = Vec::with_capacity(alloc, node.len() + 1)?;
+    for i in 0..node.len() {
+        let record = Vec::from_slice(alloc, node.record(i))?;
+        records.push(record)?;
+    }
+    Ok(Records::from_vec(records))
+}
+
+/// A copy of a node, with room for one more record.
+pub(crate) fn copy_of(alloc: Global, node: &NodeView<'_>) -> Result<Node, AllocError>
+    ensures { IfOk result (λ copy. copy ≡ node.now) }
+{
+    let records = copied_records(alloc, node)?;
+    Ok(Node {
+        forward: node.forward(),
+        backward: node.backward(),
+        kind: node.kind(),
+        height: node.height(),
+        records,
+    })
+}
+
+/// A copy of node `n`, with room for one more record.
 pub fn load<N: Nodes>(alloc: Global, nodes: &N, n: u32) -> Result<Node, AllocError>
     requires { n < length (N.nodes nodes.now) }
     ensures node { IfOk result (λ node. node_in (N.nodes nodes.now) n ≡ Ok node) }
@@ -18,8 +44,11 @@ pub fn load<N: Nodes>(alloc: Global, nodes: &N, n: u32) -> Result<Node, AllocErr
 {
     let mut bytes = [0; 512];
     nodes.read(n, &mut bytes);
-    match decode(alloc, &bytes) {
-        Ok(node) => Ok(node),
+    match view(&bytes) {
+        Ok(node) => {
+            let copy = copy_of(alloc, &node)?;
+            Ok(copy)
+        }
         Err(_) => Err(AllocError),
     }
 }

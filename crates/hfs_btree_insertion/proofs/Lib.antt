@@ -30,3 +30,4 @@ pub mod LowerSteps
 pub mod FewRecords
 pub mod MadeRoom
 pub mod Inserted
+mod RoomyLeaves

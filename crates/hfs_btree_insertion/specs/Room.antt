@@ -1,7 +1,9 @@
 -- A tree that has room for a new record on the way to its key.
 use Rattle.std.specs.Prelude.{◌≡◌, ℕ, ◌+◌, ◌<◌, ◌≤◌, length}
 use Rattle.hfs_btree.specs.declared.key.Key.{Ghosts}
-use Rattle.hfs_btree.specs.Tree.{Store}
+use Rattle.std.specs.List.{prefix_len}
+use Rattle.hfs_btree.specs.Tree.{Store, records_in}
+use Rattle.hfs_btree.specs.Search.{is_not_above}
 use Rattle.hfs_btree.specs.Header.{depth_of, tree_content}
 use Rattle.hfs_btree_edits.specs.Edits.{KeepsTree, level_above, node_for, IsFullFor, HasRisen}
 use Rattle.hfs_btree_insertion.specs.Growth.{len_at, HasRoom, IsLow, NodesStay, KeysStay}
@@ -22,3 +24,13 @@ pub record HasMadeRoom {K : Type 0} (g : Ghosts K) (key : K) (len : ℕ) (old ne
   pub depth : HasRisen g old new
   pub low : IsLow g new key
   pub room : HasRoom new len (node_for g new key 0)
+
+-- no index node on the way to the key that stands higher above the leaves than so many levels has all of its keys above the key
+abbrev pub IsLowAbove : {K : Type 0} → Ghosts K → Store → K → ℕ → Type 0
+IsLowAbove g nodes key above = (k : ℕ) → above < k → k < depth_of nodes → 0 < prefix_len (is_not_above g key) (records_in nodes (node_for g nodes key k))
+
+-- the search for the key ends in leaf n, which has room for a record of so many bytes, and no index key on the way is to be lowered
+pub record IsRoomyLeaf {K : Type 0} (g : Ghosts K) (nodes : Store) (key : K) (len n : ℕ) : Type 0 where
+  pub at : n ≡ node_for g nodes key 0
+  pub low : IsLowAbove g nodes key 0
+  pub room : HasRoom nodes len n

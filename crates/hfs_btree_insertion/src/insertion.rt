@@ -8,10 +8,11 @@ ghost use Rattle.hfs_btree_edits.specs.Edits.{IsAboveFirst, HasInserted};
 ghost use Rattle.hfs_btree_insertion.specs.Growth.{IsLow};
 ghost use Rattle.hfs_btree_insertion.specs.Room.{HasMadeRoom};
 
-use crate::leaf_put::put_entry;
+use crate::leaf_put::{put_entry, put_in_leaf};
 use crate::level_cut::cut_levels;
 use crate::lowering::lower_keys;
 use crate::new_root::raise;
+use crate::roomy_leaf::roomy_leaf;
 use crate::way::full_levels;
 use hfs_btree::{Key, read_header};
 use hfs_btree_edits::NodesMut;
@@ -47,7 +48,8 @@ fn make_room<K: Key, S: NodesMut>(
 /// Puts the pair into the tree, none of whose keys is equal to its own in the order, and one of which is below it.
 ///
 /// A node that has no room is cut in two, and a root that is cut gets a new root above it. It takes nodes that are free:
-/// at most one for each level, and one for a new root.
+/// at most one for each level, and one for a new root. Where the leaf has room and no index key is to be lowered, which is
+/// the rule, it goes down the tree once.
 ///
 /// Errors: `AllocError` where memory was refused. Then nothing is known of the nodes, which are to be thrown away.
 ///
@@ -70,7 +72,13 @@ pub fn insert<K: Key, S: NodesMut>(
     ensures kept { OnOk result (S.kept nodes.new ≡ S.kept nodes.old) }
 {
     let entry = key.leaf_record(alloc, body)?;
+    let len = entry.len();
+    let header = read_header(nodes);
+    let mut bytes = [0; 512];
+    if let Some(n) = roomy_leaf(nodes, &header, key, len, &mut bytes) {
+        return put_in_leaf(alloc, nodes, key, n, &bytes, entry);
+    }
     lower_keys(alloc, nodes, key)?;
-    make_room(alloc, nodes, key, entry.len())?;
+    make_room(alloc, nodes, key, len)?;
     put_entry(alloc, nodes, key, entry)
 }

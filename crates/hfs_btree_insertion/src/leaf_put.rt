@@ -1,6 +1,6 @@
 //! A record that is put into a leaf with room for it.
 
-ghost use Rattle.std.specs.Prelude.{◌≡◌, ◌+◌, ◌-◌, ◌^◌, ◌<◌, ◌≤◌, None, IsTrue, OnOk, length, drop};
+ghost use Rattle.std.specs.Prelude.{◌≡◌, ◌+◌, ◌-◌, ◌^◌, ◌<◌, ◌≤◌, None, IsTrue, OnOk, [], length, drop, slice_index_or};
 ghost use Rattle.hfs_node.specs.Node.{size_of};
 ghost use Rattle.hfs_btree.specs.Header.{header_in, record_in, depth_of, tree_content};
 ghost use Rattle.hfs_btree.specs.Pairs.{lookup};
@@ -46,6 +46,34 @@ fn count_record<S: NodesMut>(alloc: Global, nodes: &mut S) -> Result<(), AllocEr
     put_header(alloc, nodes, &header)
 }
 
+/// Puts a leaf's record into leaf `n`, where the search for its key ends, and which has room for it. The leaf was read into
+/// `bytes`.
+pub(crate) fn put_in_leaf<K: Key, S: NodesMut>(
+    alloc: Global,
+    nodes: &mut S,
+    key: &K,
+    n: u32,
+    bytes: &[u8; 512],
+    entry: Vec<u8>,
+) -> Result<(), AllocError>
+    requires sound { IsSound K.Key (S.nodes nodes.old) }
+    requires some { 0 < depth_of (S.nodes nodes.old) }
+    requires few { (header_in (S.nodes nodes.old)).records + 1 < 2 ^ 32 }
+    requires leaf { IsTrue (K.is_leaf entry.items) }
+    requires keyed { K.leaf_key entry.items ≡ key.now }
+    requires absent { lookup K.compare key.now (tree_content K.Key (S.nodes nodes.old)) ≡ None }
+    requires low { IsLowWay K.Key (S.nodes nodes.old) key.now (depth_of (S.nodes nodes.old) - 1) (header_in (S.nodes nodes.old)).root }
+    requires found { n ≡ leaf_for K.Key (S.nodes nodes.old) key.now }
+    requires read { bytes.now ≡ slice_index_or (S.nodes nodes.old) n [] }
+    requires room { size_of (records_in (S.nodes nodes.old) n) + (length entry.items + 2) ≤ 496 }
+    ensures put { OnOk result (HasPut K.Key key.now (drop (K.body_start entry.items) entry.items) (S.nodes nodes.old) (S.nodes nodes.new)) }
+    ensures kept { OnOk result (S.kept nodes.new ≡ S.kept nodes.old) }
+{
+    let place = place_in(bytes, key);
+    put_record(alloc, nodes, n, place, entry)?;
+    count_record(alloc, nodes)
+}
+
 /// Puts a leaf's record into the leaf where the search for its key ends, which has room for it.
 pub(crate) fn put_entry<K: Key, S: NodesMut>(
     alloc: Global,
@@ -67,7 +95,5 @@ pub(crate) fn put_entry<K: Key, S: NodesMut>(
     let header = read_header(nodes);
     let mut bytes = [0; 512];
     let n = descend(nodes, &header, key, &mut bytes);
-    let place = place_in(&bytes, key);
-    put_record(alloc, nodes, n, place, entry)?;
-    count_record(alloc, nodes)
+    put_in_leaf(alloc, nodes, key, n, &bytes, entry)
 }

@@ -9,6 +9,7 @@ mod level_cut;
 mod lowering;
 mod new_root;
 mod record_key;
+mod roomy_leaf;
 mod way;
 
 pub use insertion::insert;

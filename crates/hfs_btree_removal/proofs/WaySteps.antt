@@ -36,6 +36,9 @@ module _ {K : Type 0} (g : Ghosts K) (nodes : Store) where
     pub step-entries : Each (λ e. g.is_index e ≡ true) (records_of (node_of bytes))
     step-entries = let P : List (List ℕ) → Type 0 = λ es. Each (λ e. g.is_index e ≡ true) es in subst P (sym here) (index-entries g nodes b n some way)
 
+    pub step-some : 0 < length (records_of (node_of bytes))
+    step-some = let P : List (List ℕ) → Type 0 = λ es. 0 < length es in subst P (sym here) (way-some g nodes b n way)
+
     module _ (place : ℕ) (place-is : place ≡ prefix_len (is_not_above g t) (records_of (node_of bytes)) - 1) where
       pub step-within : place < length (records_of (node_of bytes))
       step-within =

@@ -6,12 +6,13 @@ ghost use Rattle.hfs_node.specs.declared.node.Node.{Node};
 ghost use Rattle.hfs_btree_removal.specs.declared.down.Step.{Step};
 ghost use Rattle.hfs_scans.specs.Each.{Each};
 ghost use Rattle.hfs_btree_removal.specs.Removal.{fewer, AreReleased, AreStray, HasDetached, HasRecordTaken, IsNewFirst, IsWayBelow};
+ghost use Rattle.hfs_btree.specs.Header.{header_in};
 ghost use Rattle.hfs_btree.specs.Sound.{IsSound};
 ghost use Rattle.hfs_btree.specs.Tree.{node_in, records_in};
 
 use crate::down::Step;
 use crate::unlink::{Neighbours, unlink_all};
-use hfs_btree::{Header, Key, read_header};
+use hfs_btree::{Header, Key};
 use hfs_btree_edits::{NodesMut, first_key_of, load, put_header, release, store};
 use std::alloc::{AllocError, Global};
 
@@ -62,18 +63,19 @@ fn with_fewer(header: &Header, beside: &Neighbours, nodes: usize) -> Header
 pub(crate) fn detach<K: Key, S: NodesMut>(
     alloc: Global,
     nodes: &mut S,
+    header: &Header,
     step: &Step,
     chain: &[Step],
 ) -> Result<Option<K>, AllocError>
     requires sound { IsSound K.Key (S.nodes nodes.old) }
+    requires header { header.now ≡ header_in (S.nodes nodes.old) }
     requires way { (above : List Step) × IsWayBelow K.Key (S.nodes nodes.old) above step.now chain.now }
     ensures detached { IfOk result (HasDetached K.Key step.now chain.now (S.nodes nodes.old) (S.nodes nodes.new)) }
     ensures kept { OnOk result (S.kept nodes.new ≡ S.kept nodes.old) }
 {
-    let header = read_header(nodes);
     let beside = unlink_all(alloc, nodes, chain)?;
     let changed = take_record::<K, S>(alloc, nodes, step)?;
-    let fewer = with_fewer(&header, &beside, chain.len());
+    let fewer = with_fewer(header, &beside, chain.len());
     put_header(alloc, nodes, &fewer)?;
     Ok(changed)
 }

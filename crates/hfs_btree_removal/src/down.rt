@@ -1,17 +1,20 @@
 //! The way from the root down to a pair, step by step.
 
-ghost use Rattle.std.specs.Prelude.{◌≡◌, ◌<◌, ◌≤◌, suc, true, [], IfOk, MatchOption, length, drop, slice_index_or};
+ghost use Rattle.std.specs.Prelude.{◌≡◌, ◌<◌, ◌≤◌, ◌-◌, suc, true, [], IfOk, MatchOption, length, drop, slice_index_or};
+ghost use Rattle.std.specs.List.{prefix_len};
 ghost use Rattle.hfs_btree_edits.specs.Conditions.{IsThere};
 ghost use Rattle.hfs_btree.specs.Header.{header_in, depth_of, tree_content};
 ghost use Rattle.hfs_scans.specs.Each.{Each};
 ghost use Rattle.hfs_btree.specs.Pairs.{lookup};
+ghost use Rattle.hfs_btree.specs.Search.{is_not_above};
 ghost use Rattle.hfs_btree.specs.Sound.{IsSound};
 ghost use Rattle.hfs_btree.specs.Tree.{records_of};
 ghost use Rattle.hfs_btree_removal.specs.Ways.{IsWayTo, IsLastWide};
 ghost use Rattle.hfs_node.specs.Node.{node_of};
 
-use hfs_btree::{Header, Key, Nodes, child_of, count_in, entry_in, place_in_index};
-use hfs_btree_edits::place_of;
+use hfs_btree::{Header, Key, Nodes, child_of, count_in, entry_in};
+use hfs_btree_edits::{place_above, place_of};
+use hfs_node::view;
 use std::alloc::{AllocError, Global};
 
 /// A node on the way from the root to a pair.
@@ -37,6 +40,36 @@ pub(crate) fn child_at<K: Key>(bytes: &[u8; 512], place: usize) -> u32
     }
 }
 
+/// Which record of an index node leads on to a key, how many records the node has, and the child.
+#[derive(Clone, Copy)]
+struct Branch {
+    place: usize,
+    count: usize,
+    child: u32,
+}
+
+/// Where the search for a key goes on in an index node.
+fn branch_in<K: Key>(bytes: &[u8; 512], key: &K) -> Branch
+    requires some { 0 < length (records_of (node_of bytes.now)) }
+    requires whole { Each (λ entry. K.is_index entry ≡ true) (records_of (node_of bytes.now)) }
+    ensures place { result.place ≡ prefix_len (is_not_above K.Key key.now) (records_of (node_of bytes.now)) - 1 }
+    ensures count { result.count ≡ length (records_of (node_of bytes.now)) }
+    ensures child { result.child ≡ K.child (slice_index_or (records_of (node_of bytes.now)) result.place []) }
+{
+    match view(bytes) {
+        Ok(node) => {
+            let place = place_above(&node, key).saturating_sub(1);
+            let child = child_of::<K>(node.record(place));
+            Branch {
+                place,
+                count: node.len(),
+                child,
+            }
+        }
+        Err(_) => unreachable!(),
+    }
+}
+
 /// The way to the pair with this key, the root first, in a tree that has the pair.
 pub(crate) fn steps_to<K: Key, N: Nodes>(
     alloc: Global,
@@ -50,20 +83,19 @@ pub(crate) fn steps_to<K: Key, N: Nodes>(
     requires there { IsThere (lookup K.compare key.now (tree_content K.Key (N.nodes nodes.now))) }
     ensures { IfOk result (λ steps. IsWayTo K.Key (N.nodes nodes.now) key.now steps.items) }
 {
-    let mut steps = Vec::new(alloc);
+    let mut steps = Vec::with_capacity(alloc, header.depth as usize)?;
     let mut bytes = [0; 512];
     let mut n = header.root;
     let mut below = header.depth - 1;
     nodes.read(n, &mut bytes);
     while below > 0 {
-        let place = place_in_index(&bytes, key);
-        let count = count_in(&bytes);
+        let branch = branch_in(&bytes, key);
         steps.push(Step {
             node: n,
-            place,
-            count,
+            place: branch.place,
+            count: branch.count,
         })?;
-        n = child_at::<K>(&bytes, place);
+        n = branch.child;
         below -= 1;
         nodes.read(n, &mut bytes);
     }

@@ -3,7 +3,7 @@
 ghost use Rattle.std.specs.Prelude.{◌≡◌, OnOk};
 ghost use Rattle.hfs_btree_edits.specs.Conditions.{IsThere};
 ghost use Rattle.hfs_btree_edits.specs.Edits.{HasRemoved};
-ghost use Rattle.hfs_btree.specs.Header.{tree_content};
+ghost use Rattle.hfs_btree.specs.Header.{header_in, tree_content};
 ghost use Rattle.hfs_btree.specs.Pairs.{lookup};
 ghost use Rattle.hfs_btree_removal.specs.Removal.{HasTakenOut};
 ghost use Rattle.hfs_btree.specs.Sound.{IsSound};
@@ -13,7 +13,7 @@ use crate::detach::{detach, release_all};
 use crate::down::{Step, last_wide, steps_to};
 use crate::pass_up::tell_above;
 use crate::top::{drop_root, lower_root};
-use hfs_btree::{Key, read_header};
+use hfs_btree::{Header, Key, read_header};
 use hfs_btree_edits::NodesMut;
 use std::alloc::{AllocError, Global};
 
@@ -22,10 +22,12 @@ use std::alloc::{AllocError, Global};
 fn take_out<K: Key, S: NodesMut>(
     alloc: Global,
     nodes: &mut S,
+    header: &Header,
     steps: &[Step],
     wide: usize,
 ) -> Result<(), AllocError>
     requires sound { IsSound K.Key (S.nodes nodes.old) }
+    requires header { header.now ≡ header_in (S.nodes nodes.old) }
     requires way { (t : K) × IsWayTo K.Key (S.nodes nodes.old) t steps.now }
     requires wide { IsLastWide steps.now wide }
     ensures out { OnOk result (HasTakenOut K.Key steps.now (S.nodes nodes.old) (S.nodes nodes.new)) }
@@ -33,7 +35,7 @@ fn take_out<K: Key, S: NodesMut>(
 {
     let above = &steps[..wide];
     let chain = &steps[wide + 1..];
-    let changed = detach::<K, S>(alloc, nodes, &steps[wide], chain)?;
+    let changed = detach::<K, S>(alloc, nodes, header, &steps[wide], chain)?;
     tell_above(alloc, nodes, above, changed)?;
     release_all::<K, S>(alloc, nodes, chain)
 }
@@ -57,7 +59,7 @@ pub fn remove<K: Key, S: NodesMut>(alloc: Global, nodes: &mut S, key: &K) -> Res
     let steps = steps_to(alloc, nodes, &header, key)?;
     match last_wide(&steps) {
         Some(wide) => {
-            take_out::<K, S>(alloc, nodes, &steps, wide)?;
+            take_out::<K, S>(alloc, nodes, &header, &steps, wide)?;
             lower_root::<K, S>(alloc, nodes)
         }
         None => drop_root::<K, S>(alloc, nodes, &header),

@@ -1,9 +1,38 @@
-use Rattle.std.proofs.Common.{◌≡◌, ◌++◌, ℕ, List, ap, arith, subst, length}
+use Rattle.std.proofs.Common.{◌≡◌, ◌++◌, ◌≤◌, ℕ, List, ap, arith, subst, length}
 use Rattle.hfs_btree_edits.specs.Stores.{on-ok}
 use Rattle.hfs_btree_insertion.specs.Stored.{HasPut}
 use Rattle.hfs_btree_insertion.proofs.MadeRoom.{low-whole}
 use Rattle.hfs_btree_insertion.proofs.Inserted.{lower-low, room-few, has-inserted}
+use Rattle.hfs_btree_insertion.proofs.RoomyLeaves.{roomy-lowered, roomy-way, roomy-made}
 use Rattle.hfs_btree_insertion.proofs.insertion.insert.Goals as goal
+
+pub put_in_leaf-requires-clause-few : goal.put_in_leaf-requires-clause-few
+put_in_leaf-requires-clause-few g c =
+    let key = c.args.key.now in
+    let old = g.S.Nodes.nodes c.args.nodes.now in
+    let roomy = c.in-Some.ensures.roomy in
+    let short : c.len-len.result ≤ 140 = (let leaf = g.met.K.Key.leaf_small c.in_ok-entry.entry.items c.in_ok-entry.ensures.leaf in omega (arith, c.len-len.ensures, c.in_ok-entry.entry.ok.0, leaf)) in
+    room-few g.K.Key key old old c.requires.sound c.requires.above (roomy-lowered g.K.Key old key c.requires.sound c.len-len.result c.in-Some.n roomy) c.len-len.result old
+    (roomy-made g.K.Key old key c.requires.sound c.len-len.result c.in-Some.n roomy c.requires.above g.met.K.Key.total short) c.requires.small
+
+pub put_in_leaf-requires-clause-low : goal.put_in_leaf-requires-clause-low
+put_in_leaf-requires-clause-low g c =
+    roomy-way g.K.Key (g.S.Nodes.nodes c.args.nodes.now) c.args.key.now c.requires.sound c.len-len.result c.in-Some.n c.in-Some.ensures.roomy c.requires.above
+
+pub returns-in-Some-clause-inserted : goal.returns-in-Some-clause-inserted
+returns-in-Some-clause-inserted g c =
+    let key = c.args.key.now in
+    let old = g.S.Nodes.nodes c.args.nodes.now in
+    let new = g.S.Nodes.nodes c.put_in_leaf.new.nodes in
+    let roomy = c.in-Some.ensures.roomy in
+    let short : c.len-len.result ≤ 140 = (let leaf = g.met.K.Key.leaf_small c.in_ok-entry.entry.items c.in_ok-entry.ensures.leaf in omega (arith, c.len-len.ensures, c.in_ok-entry.entry.ok.0, leaf)) in
+    let P : List ℕ → Type 0 = λ body. HasPut g.K.Key key body old new in
+    let written = ap (λ (xs : List ℕ). length xs) c.in_ok-entry.ensures.written in
+    let long : c.len-len.result ≡ length (g.K.Key.leaf_head key ++ c.args.body.now) = omega (arith, c.len-len.ensures, c.in_ok-entry.entry.ok.0, written) in
+    on-ok _ _ c.put_in_leaf.result
+    (λ h. has-inserted g.K.Key key old old c.requires.sound c.requires.above (roomy-lowered g.K.Key old key c.requires.sound c.len-len.result c.in-Some.n roomy) c.len-len.result old
+    (roomy-made g.K.Key old key c.requires.sound c.len-len.result c.in-Some.n roomy c.requires.above g.met.K.Key.total short) c.args.body.now new (subst P c.in_ok-entry.ensures.body h) long)
+    c.put_in_leaf.ensures.put
 
 pub make_room-requires-clause-low : goal.make_room-requires-clause-low
 make_room-requires-clause-low g c =
@@ -11,7 +40,7 @@ make_room-requires-clause-low g c =
 
 pub put_entry-requires-clause-few : goal.put_entry-requires-clause-few
 put_entry-requires-clause-few g c =
-    room-few g.K.Key c.args.key.now (g.S.Nodes.nodes c.args.nodes.now) (g.S.Nodes.nodes c.lower_keys.new.nodes) c.requires.sound c.requires.above c.in_ok-lower_keys.ensures.lowered c.len.result
+    room-few g.K.Key c.args.key.now (g.S.Nodes.nodes c.args.nodes.now) (g.S.Nodes.nodes c.lower_keys.new.nodes) c.requires.sound c.requires.above c.in_ok-lower_keys.ensures.lowered c.len-len.result
     (g.S.Nodes.nodes c.make_room.new.nodes) c.in_ok-make_room.ensures.room c.requires.small
 
 pub put_entry-requires-clause-low : goal.put_entry-requires-clause-low
@@ -25,8 +54,8 @@ returns-clause-inserted g c =
     let new = g.S.Nodes.nodes c.put_entry.new.nodes in
     let P : List ℕ → Type 0 = λ body. HasPut g.K.Key c.args.key.now body b new in
     let written = ap (λ (xs : List ℕ). length xs) c.in_ok-entry.ensures.written in
-    let long : c.len.result ≡ length (g.K.Key.leaf_head c.args.key.now ++ c.args.body.now) = omega (arith, c.len.ensures, c.in_ok-entry.entry.ok.0, written) in
+    let long : c.len-len.result ≡ length (g.K.Key.leaf_head c.args.key.now ++ c.args.body.now) = omega (arith, c.len-len.ensures, c.in_ok-entry.entry.ok.0, written) in
     on-ok _ _ c.put_entry.result
-    (λ h. has-inserted g.K.Key c.args.key.now old a c.requires.sound c.requires.above c.in_ok-lower_keys.ensures.lowered c.len.result b c.in_ok-make_room.ensures.room c.args.body.now new
+    (λ h. has-inserted g.K.Key c.args.key.now old a c.requires.sound c.requires.above c.in_ok-lower_keys.ensures.lowered c.len-len.result b c.in_ok-make_room.ensures.room c.args.body.now new
     (subst P c.in_ok-entry.ensures.body h) long)
     c.put_entry.ensures.put

@@ -30,7 +30,7 @@ take_record-requires-clause-index g c =
 pub with_fewer-fewer-requires : goal.with_fewer-fewer-requires
 with_fewer-fewer-requires g c =
     let P : Header → Type 0 = λ h. 1 ≤ h.records in
-    subst P (sym c.read_header-header.ensures) (records-some g.K.Key g.met.K.Key.total (g.S.Nodes.nodes c.args.nodes.now) c.requires.sound c.requires.way.0 c.args.step.now c.args.chain.now c.requires.way.1)
+    subst P (sym c.requires.header) (records-some g.K.Key g.met.K.Key.total (g.S.Nodes.nodes c.args.nodes.now) c.requires.sound c.requires.way.0 c.args.step.now c.args.chain.now c.requires.way.1)
 
 pub put_header-requires-clause-within : goal.put_header-requires-clause-within
 put_header-requires-clause-within g c =

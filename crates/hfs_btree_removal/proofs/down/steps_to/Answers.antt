@@ -5,7 +5,7 @@ use Rattle.hfs_btree.specs.Search.{leaf_under}
 use Rattle.hfs_btree.specs.Header.{header_in}
 use Rattle.hfs_btree_removal.specs.Ways.{Leads}
 use Rattle.hfs_btree.specs.Descent.{IsOnWay, root-way, way-within, way-for, leaf-step, leaf-end}
-use Rattle.hfs_btree_removal.proofs.WaySteps.{leads-more, step-entries, step-within, step-is, step-child, step-for, way-entries, way-there, way-leaf, way-equal}
+use Rattle.hfs_btree_removal.proofs.WaySteps.{leads-more, step-entries, step-some, step-is, step-child, step-for, way-entries, way-there, way-leaf, way-equal}
 use Rattle.hfs_btree_removal.proofs.down.steps_to.Goals as goal
 
 pub read-requires : goal.read-requires
@@ -17,46 +17,40 @@ pub loop-below-init : goal.loop-below-init
 loop-below-init g c =
     let nodes = g.N.Nodes.nodes c.args.nodes.now in
     let W : Header → Type 0 = λ h. IsOnWay g.K.Key nodes (h.depth - 1) h.root in
-    let none = ap (λ (ss : List Step). length ss) c.new-steps.ensures.items in
+    let none = ap (λ (ss : List Step). length ss) c.in_ok-steps.ensures.items in
     let deep = ap (λ (h : Header). h.depth) c.requires.header in
     let P : List Step → Type 0 = λ ss. Leads g.K.Key nodes (header_in nodes).root ss c.args.header.now.root in
     record {
       same = ap (λ (h : Header). leaf_under g.K.Key nodes c.args.key.now (h.depth - 1) h.root) c.requires.header;
       way = subst W (sym c.requires.header) (root-way g.K.Key nodes c.requires.sound.structure c.requires.some);
       bytes = c.read.ensures;
-      leads = subst P (sym c.new-steps.ensures.items) (sym (ap (λ (h : Header). h.root) c.requires.header));
+      leads = subst P (sym c.in_ok-steps.ensures.items) (sym (ap (λ (h : Header). h.root) c.requires.header));
       long = (let some = c.requires.some in omega arith);
     }
 
-pub place_in_index-place-requires : goal.place_in_index-place-requires
-place_in_index-place-requires g c =
+pub branch_in-branch-requires-clause-whole : goal.branch_in-branch-requires-clause-whole
+branch_in-branch-requires-clause-whole g c =
     let nodes = g.N.Nodes.nodes c.args.nodes.now in
     step-entries g.K.Key nodes c.args.key.now c.loop-below.below c.loop-below.n c.loop-below-test.true c.loop-below.invariant.way c.loop-below.bytes c.loop-below.invariant.bytes
 
-pub child_at-n-requires-clause-within : goal.child_at-n-requires-clause-within
-child_at-n-requires-clause-within g c =
+pub branch_in-branch-requires-clause-some : goal.branch_in-branch-requires-clause-some
+branch_in-branch-requires-clause-some g c =
     let nodes = g.N.Nodes.nodes c.args.nodes.now in
-    step-within g.K.Key nodes c.args.key.now c.loop-below.below c.loop-below.n c.loop-below-test.true c.loop-below.invariant.way c.loop-below.bytes c.loop-below.invariant.bytes
-    c.place_in_index-place.result c.place_in_index-place.ensures
-
-pub child_at-n-requires-clause-whole : goal.child_at-n-requires-clause-whole
-child_at-n-requires-clause-whole g c =
-    let nodes = g.N.Nodes.nodes c.args.nodes.now in
-    step-entries g.K.Key nodes c.args.key.now c.loop-below.below c.loop-below.n c.loop-below-test.true c.loop-below.invariant.way c.loop-below.bytes c.loop-below.invariant.bytes
+    step-some g.K.Key nodes c.args.key.now c.loop-below.below c.loop-below.n c.loop-below-test.true c.loop-below.invariant.way c.loop-below.bytes c.loop-below.invariant.bytes
 
 pub read-requires-in-loop-below : goal.read-requires-in-loop-below
 read-requires-in-loop-below g c =
     let nodes = g.N.Nodes.nodes c.args.nodes.now in
-    rw (step-for g.K.Key nodes c.args.key.now c.loop-below.below c.loop-below.n c.loop-below-test.true c.loop-below.invariant.way c.loop-below.bytes c.loop-below.invariant.bytes c.place_in_index-place.result c.place_in_index-place.ensures c.child_at-n.result c.child_at-n.ensures)
+    rw (step-for g.K.Key nodes c.args.key.now c.loop-below.below c.loop-below.n c.loop-below-test.true c.loop-below.invariant.way c.loop-below.bytes c.loop-below.invariant.bytes c.branch_in-branch.result.place c.branch_in-branch.ensures.place c.branch_in-branch.result.child c.branch_in-branch.ensures.child)
     (way-within g.K.Key nodes _ _ (way-for g.K.Key nodes c.args.key.now c.loop-below.below c.loop-below.n c.loop-below-test.true c.loop-below.invariant.way))
 
 pub loop-below-preserved : goal.loop-below-preserved
 loop-below-preserved g c =
     let nodes = g.N.Nodes.nodes c.args.nodes.now in
-    let child = step-for g.K.Key nodes c.args.key.now c.loop-below.below c.loop-below.n c.loop-below-test.true c.loop-below.invariant.way c.loop-below.bytes c.loop-below.invariant.bytes c.place_in_index-place.result c.place_in_index-place.ensures c.child_at-n.result c.child_at-n.ensures in
+    let child = step-for g.K.Key nodes c.args.key.now c.loop-below.below c.loop-below.n c.loop-below-test.true c.loop-below.invariant.way c.loop-below.bytes c.loop-below.invariant.bytes c.branch_in-branch.result.place c.branch_in-branch.ensures.place c.branch_in-branch.result.child c.branch_in-branch.ensures.child in
     let W : ℕ → Type 0 = λ m. IsOnWay g.K.Key nodes (c.loop-below.below - 1) m in
-    let P : List Step → Type 0 = λ ss. Leads g.K.Key nodes (header_in nodes).root ss c.child_at-n.result in
-    let step : Step = record { node = c.loop-below.n; place = c.place_in_index-place.result; count = c.count_in-count.result } in
+    let P : List Step → Type 0 = λ ss. Leads g.K.Key nodes (header_in nodes).root ss c.branch_in-branch.result.child in
+    let step : Step = record { node = c.loop-below.n; place = c.branch_in-branch.result.place; count = c.branch_in-branch.result.count } in
     record {
       same =
           ap (leaf_under g.K.Key nodes c.args.key.now (c.loop-below.below - 1)) child
@@ -65,8 +59,8 @@ loop-below-preserved g c =
       way = subst W (sym child) (way-for g.K.Key nodes c.args.key.now c.loop-below.below c.loop-below.n c.loop-below-test.true c.loop-below.invariant.way);
       bytes = c.read-in-loop-below.ensures;
       leads = subst P (sym c.in_ok-push.ensures.items)
-          (leads-more g.K.Key nodes c.loop-below.steps.items (header_in nodes).root c.loop-below.n step c.child_at-n.result c.loop-below.invariant.leads
-          (step-is g.K.Key nodes c.args.key.now c.loop-below.below c.loop-below.n c.loop-below-test.true c.loop-below.invariant.way c.loop-below.bytes c.loop-below.invariant.bytes c.place_in_index-place.result c.place_in_index-place.ensures c.count_in-count.result c.count_in-count.ensures) (step-child g.K.Key nodes c.args.key.now c.loop-below.below c.loop-below.n c.loop-below-test.true c.loop-below.invariant.way c.loop-below.bytes c.loop-below.invariant.bytes c.place_in_index-place.result c.place_in_index-place.ensures c.child_at-n.result c.child_at-n.ensures));
+          (leads-more g.K.Key nodes c.loop-below.steps.items (header_in nodes).root c.loop-below.n step c.branch_in-branch.result.child c.loop-below.invariant.leads
+          (step-is g.K.Key nodes c.args.key.now c.loop-below.below c.loop-below.n c.loop-below-test.true c.loop-below.invariant.way c.loop-below.bytes c.loop-below.invariant.bytes c.branch_in-branch.result.place c.branch_in-branch.ensures.place c.branch_in-branch.result.count c.branch_in-branch.ensures.count) (step-child g.K.Key nodes c.args.key.now c.loop-below.below c.loop-below.n c.loop-below-test.true c.loop-below.invariant.way c.loop-below.bytes c.loop-below.invariant.bytes c.branch_in-branch.result.place c.branch_in-branch.ensures.place c.branch_in-branch.result.child c.branch_in-branch.ensures.child));
       long =
           (let e = ap (λ (ss : List Step). length ss) c.in_ok-push.ensures.items in
           let f = c.loop-below.invariant.long in
@@ -89,10 +83,10 @@ returns g c =
     let nodes = g.N.Nodes.nodes c.args.nodes.now in
     record {
       above = c.loop-below.steps.items;
-      last = record { node = c.loop-below.n; place = c.place_of-place.result; count = c.count_in-count-2.result };
+      last = record { node = c.loop-below.n; place = c.place_of-place.result; count = c.count_in-count.result };
       split = c.in_ok-push-2.ensures.items;
       long = (let e = c.loop-below.invariant.long in let none = c.loop-below-test.false in omega arith);
       leads = c.loop-below.invariant.leads;
-      leaf = way-leaf g.K.Key nodes g.met.K.Key.total c.args.key.now c.requires.sound c.requires.some c.loop-below.n (sym (leaf-end g.K.Key nodes c.args.key.now c.loop-below.below c.loop-below.n c.loop-below-test.false) ∙ c.loop-below.invariant.same) c.loop-below.bytes c.loop-below.invariant.bytes c.place_of-place.result c.count_in-count-2.result c.place_of-place.ensures.within c.count_in-count-2.ensures;
+      leaf = way-leaf g.K.Key nodes g.met.K.Key.total c.args.key.now c.requires.sound c.requires.some c.loop-below.n (sym (leaf-end g.K.Key nodes c.args.key.now c.loop-below.below c.loop-below.n c.loop-below-test.false) ∙ c.loop-below.invariant.same) c.loop-below.bytes c.loop-below.invariant.bytes c.place_of-place.result c.count_in-count.result c.place_of-place.ensures.within c.count_in-count.ensures;
       equal = way-equal g.K.Key nodes g.met.K.Key.total c.args.key.now c.requires.sound c.requires.some c.loop-below.n (sym (leaf-end g.K.Key nodes c.args.key.now c.loop-below.below c.loop-below.n c.loop-below-test.false) ∙ c.loop-below.invariant.same) c.loop-below.bytes c.loop-below.invariant.bytes c.place_of-place.result _ c.place_of-place.ensures.equal;
     }

@@ -1,0 +1,82 @@
+-- A leaf with room on a way on which no index key is to be lowered: an insertion that lowers no key and cuts no node.
+use Rattle.std.proofs.Common.{◌≡◌, ℕ, ◌+◌, ◌-◌, ◌<◌, ◌≤◌, List, [], get_or, ap, ◌∙◌, subst, arith, inl, inr, refl}
+use Rattle.std.proofs.lemmas.Bool.{cases_lt}
+use Rattle.std.specs.Cmp.{IsTotalOrder}
+use Rattle.std.specs.List.{prefix_len}
+use Rattle.hfs_node.specs.Node.{node_of, size_of}
+use Rattle.hfs_btree.specs.declared.key.Key.{Ghosts}
+use Rattle.hfs_btree.specs.Tree.{Store, records_in, records_of}
+use Rattle.hfs_btree.specs.Header.{header_in, depth_of, tree_content}
+use Rattle.hfs_btree.specs.Sound.{IsSound}
+use Rattle.hfs_btree.specs.Search.{is_not_above, IsLowWay}
+use Rattle.hfs_btree.specs.Decoded.{records-read}
+use Rattle.hfs_btree_edits.specs.Edits.{IsAboveFirst, node_for}
+use Rattle.hfs_btree_insertion.specs.Growth.{HasRoom, AreFull, IsLow}
+use Rattle.hfs_btree_insertion.specs.Lowering.{HasLowered}
+use Rattle.hfs_btree_insertion.specs.Room.{HasMadeRoom, IsLowAbove, IsRoomyLeaf}
+use Rattle.hfs_btree_insertion.proofs.Inserted.{lower-low}
+use Rattle.hfs_btree_insertion.proofs.LowerSteps.{lowered-none, some-levels_above}
+use Rattle.hfs_btree_insertion.proofs.MadeRoom.{low-whole, made-cut}
+use Rattle.hfs_btree_insertion.proofs.Steps.{down-init}
+use Rattle.hfs_btree_insertion.proofs.WayTo.{IsAt}
+
+module _ {K : Type 0} (g : Ghosts K) (nodes : Store) (t : K) where
+  -- ---- the loop
+
+  pub low-none : (above : ℕ) → depth_of nodes ≤ above + 1 → IsLowAbove g nodes t above
+  low-none above le k lt less = absurd (omega (arith, le, lt, less))
+
+  pub low-next : (here n : ℕ) (bytes : List ℕ) → IsAt g nodes t here n → bytes ≡ get_or nodes n [] → 0 < prefix_len (is_not_above g t) (records_of (node_of bytes)) → IsLowAbove g nodes t here
+      → IsLowAbove g nodes t (here - 1)
+  low-next here n bytes at read some low k lt less =
+      let P : List (List ℕ) → Type 0 = λ es. 0 < prefix_len (is_not_above g t) es in
+      let Q : ℕ → Type 0 = λ x. 0 < prefix_len (is_not_above g t) (records_in nodes x) in
+      let R : ℕ → Type 0 = λ j. 0 < prefix_len (is_not_above g t) (records_in nodes (node_for g nodes t j)) in
+      elim (cases_lt here k) [
+        | inl more ↦ low k more less
+        | inr no-more ↦ (let is : here ≡ k = omega (arith, lt, no-more) in subst R is (subst Q at.is (subst P (records-read nodes n bytes read) some)))
+      ]
+
+  pub roomy : (len here n : ℕ) (bytes : List ℕ) → here ≤ 0 → IsAt g nodes t here n → bytes ≡ get_or nodes n [] → IsLowAbove g nodes t here → size_of (records_of (node_of bytes)) + (len + 2) ≤ 496
+      → IsRoomyLeaf g nodes t len n
+  roomy len here n bytes none at read low room =
+      let z : here ≡ 0 = omega (arith, none) in
+      let L : ℕ → Type 0 = λ x. IsLowAbove g nodes t x in
+      let size : size_of (records_of (node_of bytes)) ≡ size_of (records_in nodes n) = ap size_of (records-read nodes n bytes read) in
+      record { at = at.is ∙ ap (node_for g nodes t) z; low = subst L z low; room = omega (arith, room, size) }
+
+  -- ---- what an insertion asks for
+
+  module _ (sound : IsSound g nodes) (len n : ℕ) (r : IsRoomyLeaf g nodes t len n) where
+    -- no key was lowered
+    pub roomy-lowered : HasLowered g t 0 nodes nodes
+    roomy-lowered =
+        let none = lowered-none g t nodes (depth_of nodes) sound (omega arith) in
+        record {
+          keeps = none.keeps;
+          content = refl;
+          keys = none.keys;
+          header = refl;
+          turn = refl;
+          levels = λ k. refl;
+          way = λ k. refl;
+          size = λ m. refl;
+          low = r.low;
+        }
+
+    module _ (first : IsAboveFirst g.compare t (tree_content g nodes)) where
+      pub roomy-low : IsLow g nodes t
+      roomy-low = lower-low g t nodes nodes sound first roomy-lowered
+
+      pub roomy-way : IsLowWay g nodes t (depth_of nodes - 1) (header_in nodes).root
+      roomy-way = low-whole g nodes t roomy-low
+
+      none-full : AreFull g nodes t len 0
+      none-full =
+          let R : ℕ → Type 0 = λ x. HasRoom nodes len x in
+          record { most = omega arith; each = λ k lt. absurd (omega (arith, lt)); room = λ lt. subst R r.at r.room }
+
+      -- and no node was cut
+      pub roomy-made : IsTotalOrder g.compare → len ≤ 140 → HasMadeRoom g t len nodes nodes
+      roomy-made total short =
+          made-cut g total t len nodes sound first short roomy-low 0 none-full (some-levels_above g t nodes first) nodes (down-init g t 0 nodes sound roomy-low)

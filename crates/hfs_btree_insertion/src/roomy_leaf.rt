@@ -1,0 +1,65 @@
+//! The leaf that a new record goes to, where it has room and no index key is to be lowered for it.
+
+ghost use Rattle.std.specs.Prelude.{◌≡◌, ◌<◌, ◌≤◌, true, [], IfSome, length, slice_index_or};
+ghost use Rattle.std.specs.List.{prefix_len};
+ghost use Rattle.hfs_node.specs.Node.{node_of};
+ghost use Rattle.hfs_scans.specs.Each.{Each};
+ghost use Rattle.hfs_btree.specs.Header.{header_in, depth_of};
+ghost use Rattle.hfs_btree.specs.Search.{is_not_above, child_for};
+ghost use Rattle.hfs_btree.specs.Sound.{IsSound};
+ghost use Rattle.hfs_btree.specs.Tree.{records_of};
+ghost use Rattle.hfs_btree_insertion.specs.Room.{IsRoomyLeaf};
+
+use crate::way::size_in;
+use hfs_btree::{Header, Key, Nodes, child_of};
+use hfs_btree_edits::place_above;
+use hfs_node::view;
+
+/// The child where the search for a key goes on from an index node; none where all of the node's keys are above the key.
+fn low_child<K: Key>(bytes: &[u8; 512], key: &K) -> Option<u32>
+    requires { Each (λ entry. K.is_index entry ≡ true) (records_of (node_of bytes.now)) }
+    ensures child { IfSome result (λ child. child ≡ child_for K.Key key.now (records_of (node_of bytes.now))) }
+    ensures low { IfSome result (λ child. 0 < prefix_len (is_not_above K.Key key.now) (records_of (node_of bytes.now))) }
+{
+    let Ok(node) = view(bytes) else {
+        return None;
+    };
+    let place = place_above(&node, key);
+    if place == 0 {
+        return None;
+    }
+    Some(child_of::<K>(node.record(place - 1)))
+}
+
+/// The leaf where the search for a key ends, with its bytes, if it has room for a record of `len` bytes and no index node
+/// on the way has all of its keys above the key. It reads one node of each level.
+pub(crate) fn roomy_leaf<K: Key, N: Nodes>(
+    nodes: &N,
+    header: &Header,
+    key: &K,
+    len: usize,
+    bytes: &mut [u8; 512],
+) -> Option<u32>
+    requires sound { IsSound K.Key (N.nodes nodes.now) }
+    requires header { header.now ≡ header_in (N.nodes nodes.now) }
+    requires some { 0 < depth_of (N.nodes nodes.now) }
+    requires short { len ≤ 140 }
+    ensures roomy { IfSome result (λ n. IsRoomyLeaf K.Key (N.nodes nodes.now) key.now len n) }
+    ensures bytes { IfSome result (λ n. bytes.new ≡ slice_index_or (N.nodes nodes.now) n []) }
+{
+    let mut n = header.root;
+    let mut here = header.depth - 1;
+    nodes.read(n, bytes);
+    while here > 0 {
+        let Some(child) = low_child(bytes, key) else {
+            return None;
+        };
+        n = child;
+        here -= 1;
+        nodes.read(n, bytes);
+    }
+    if size_in(bytes) + len + 2 > 496 {
+        return None;
+    }
+    Some(n)
+}
