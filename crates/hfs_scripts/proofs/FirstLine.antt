@@ -13,7 +13,7 @@ use Rattle.hfs_scripts.specs.Scripts.{without_empty_end, lines_of}
 abbrev feeds : ℕ → Bool
 feeds byte = nat_eq byte 10
 
-without_empty_end-more : (piece : List ℕ) (pieces : List (List ℕ)) → 0 < length pieces → without_empty_end (piece ∷ pieces) ≡ piece ∷ without_empty_end pieces
+pub without_empty_end-more : (piece : List ℕ) (pieces : List (List ℕ)) → 0 < length pieces → without_empty_end (piece ∷ pieces) ≡ piece ∷ without_empty_end pieces
 without_empty_end-more piece [] some = let no : ⊥ = omega arith in absurd no
 without_empty_end-more piece (next ∷ more) some = refl
 

@@ -3,3 +3,6 @@ mod Written
 mod FirstNine
 mod FirstLine
 mod Steps
+mod Again
+mod InFields
+mod RoundTrip

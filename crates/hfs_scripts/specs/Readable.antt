@@ -1,11 +1,13 @@
 -- What is written of numbers and bytes is read again.
-use Rattle.std.specs.Prelude.{◌≡◌, ℕ, List, Some}
+use Rattle.std.specs.Prelude.{◌≡◌, ℕ, List, Some, true}
 use Rattle.std.specs.Fmt.{decimal}
 use Rattle.hex.specs.Hex.{encode_lower}
 use Rattle.hfs_model.specs.declared.call.Call.{Call}
 use Rattle.hfs_model.specs.declared.call.Call.TheVariants as call
+use Rattle.hfs_scripts.specs.declared.lines.ScriptLine.{ScriptLine}
 use Rattle.hfs_scripts.specs.Numbers.{number_of}
 use Rattle.hfs_scripts.specs.Fields.{bytes_of}
+use Rattle.hfs_scripts.specs.Texts.{is_writable}
 
 abbrev pub Reads : ℕ → Type 0
 Reads number = number_of (decimal number) ≡ Some number
@@ -32,3 +34,8 @@ IsReadable (call.RstFLock dir name now) = Reads dir
 IsReadable (call.CreateFileId dir name now) = Reads dir
 IsReadable (call.DeleteFileId id now) = Reads id
 IsReadable (call.ResolveFileId id) = Reads id
+
+-- a line that has a text, with numbers and bytes that are read again
+pub record IsWritten (now : ℕ) (line : ScriptLine) : Type 0 where
+  pub writable : is_writable now line ≡ true
+  pub readable : IsReadable line.call

@@ -1,5 +1,5 @@
 -- The text of a script: numbers without leading zeros, hexadecimal digits in lower case, a line feed behind each line.
-use Rattle.std.specs.Prelude.{ℕ, ◌+◌, ◌==◌, ◌&&◌, not, nat_le, Bool, true, List, [], ◌∷◌, ◌++◌, codes, position, Option}
+use Rattle.std.specs.Prelude.{◌≡◌, length, ◌<◌, ℕ, ◌+◌, ◌==◌, ◌&&◌, not, nat_le, Bool, true, List, [], ◌∷◌, ◌++◌, codes, position, Option, Some}
 use Rattle.std.specs.Option.{option_map}
 use Rattle.std.specs.List.{flat_map, list_all}
 use Rattle.std.specs.Fmt.{decimal}
@@ -11,6 +11,8 @@ use Rattle.hfs_model.specs.declared.call.Fork.TheVariants.{DataFork, ResFork}
 use Rattle.hfs_scripts.specs.declared.lines.Caller.{Caller}
 use Rattle.hfs_scripts.specs.declared.lines.Caller.TheVariants.{Worker, Viewer}
 use Rattle.hfs_scripts.specs.declared.lines.ScriptLine.{ScriptLine}
+use Rattle.hfs_scripts.specs.declared.fault.TextFault.{TextFault}
+use Rattle.hfs_scripts.specs.declared.fault.TextFault.TheVariants.{Unwritable, TooLarge, Memory}
 use Rattle.hfs_scripts.specs.declared.words.Word.{Word}
 use Rattle.hfs_scripts.specs.declared.words.Word.TheVariants as word
 use Rattle.hfs_scripts.specs.Lines.{may_ask}
@@ -158,3 +160,9 @@ is_writable now line = is_caller line.caller && may_ask line.caller (word_for li
 -- the first line that has no text, counted from 1
 unfoldable pub first_unwritable : ℕ → List ScriptLine → Option ℕ
 first_unwritable now lines = option_map (λ place. place + 1) (position (λ line. not (is_writable now line)) lines)
+
+-- why lines have no text: memory was wanting, the first line that has none, or a text of more bytes than a script may have
+abbrev pub IsTextFaultOf : ℕ → List ScriptLine → TextFault → Type 0
+IsTextFaultOf now lines Memory = Unit {0}
+IsTextFaultOf now lines TooLarge = 16777216 < length (script_text lines)
+IsTextFaultOf now lines (Unwritable place) = first_unwritable now lines ≡ Some place

@@ -12,8 +12,10 @@ mod reading;
 mod script;
 mod words;
 mod writable;
+mod writing;
 
-pub use fault::ScriptFault;
+pub use fault::{ScriptFault, TextFault};
 pub use lines::{Caller, ScriptLine};
 pub use reading::read_script;
 pub use script::Script;
+pub use writing::script_text;

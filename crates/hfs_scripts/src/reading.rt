@@ -8,7 +8,7 @@ use crate::script::Script;
 use std::alloc::Global;
 
 /// The most bytes that a script may have.
-const MAX_BYTES: usize = 16_777_216;
+pub(crate) const MAX_BYTES: usize = 16_777_216;
 
 /// The place of the first line feed.
 fn line_feed(bytes: &[u8]) -> Option<usize>
