@@ -36,3 +36,4 @@ pub mod CountBounds
 pub mod NewItems
 pub mod FreeKeys
 pub mod Standing
+pub mod Offspring

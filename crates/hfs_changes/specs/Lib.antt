@@ -15,3 +15,4 @@ pub mod MoveLaws
 pub mod FileIdLaws
 pub mod BoundLaws
 pub mod PlaceLaws
+pub mod OffspringLaws
