@@ -38,7 +38,7 @@ use Rattle.hfs_check.specs.VolumeOf.{bytes_in, contents_in, volume_in}
 use Rattle.hfs_catalog_edits.specs.Swaps.{Swaps}
 use Rattle.hfs_changes.specs.Once.{item_or_thread}
 use Rattle.hfs_changes.specs.Steps.{IfThere, is_there}
-use Rattle.hfs_changes.specs.Changes.{KeepsContents, thread_record, IsAlike, IsItsThread, HasTurned}
+use Rattle.hfs_changes.specs.Changes.{KeepsContents, thread_record, IsAlike, IsItsThread}
 use Rattle.hfs_changes.specs.OnBlocks.{at_time, HasTree}
 use Rattle.hfs_changes.specs.Laws.{MakesStep}
 use Rattle.hfs_changes.specs.FileIdLaws.{with_thread_flag, file_with_flag, CreateFileIdMakes, DeleteFileIdMakes}
@@ -50,7 +50,7 @@ use Rattle.hfs_changes.specs.Steps.{item_threads}
 use Rattle.hfs_changes.proofs.Linked.{sound_once}
 use Rattle.hfs_changes.proofs.SetItems.{edit_step}
 use Rattle.hfs_changes.proofs.Chosen.{chained, unless, same_ok}
-use Rattle.hfs_changes.proofs.Turned.{threads_after, renamed_near, rekeyed_items}
+use Rattle.hfs_changes.proofs.Turned.{HasTurned, threads_after, renamed_near, rekeyed_items}
 use Rattle.hfs_changes.proofs.TurnedForks.{as_many, turned_forks, turned_owners}
 use Rattle.hfs_changes.proofs.KeptSpace.{thread_no_dir, thread_no_file}
 use Rattle.hfs_changes.proofs.CatalogEdits.{keeps_contents}

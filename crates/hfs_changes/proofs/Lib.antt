@@ -41,3 +41,4 @@ pub mod DroppedSpace
 pub mod DeletedFrames
 pub mod Deleted
 pub mod DeletionMakes
+pub mod Offspring

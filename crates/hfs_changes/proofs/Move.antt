@@ -34,7 +34,7 @@ use Rattle.hfs_changes.proofs.LedThreads.{its_led, led_there}
 use Rattle.hfs_changes.proofs.RenameMakes.{rekeyed_sum}
 
 -- each lies in itself
-lies_here : (es : List Entry) (n id up : ℕ) → id ≡ up → lies_in es n id up ≡ true
+pub lies_here : (es : List Entry) (n id up : ℕ) → id ≡ up → lies_in es n id up ≡ true
 unfolding lies_in
 lies_here es zero id up e = eq-eqb id up e
 lies_here es (suc n) id up e = or_left (eqb id up) _ (eq-eqb id up e)

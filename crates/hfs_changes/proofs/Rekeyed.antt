@@ -13,8 +13,9 @@ use Rattle.hfs_catalog_edits.specs.Swaps.{one_if}
 use Rattle.hfs_changes.specs.Steps.{AreOnce, with_one, is_there}
 use Rattle.hfs_changes.specs.Links.{AreLinked}
 use Rattle.hfs_changes.specs.Sound.{IsNearlySound}
-use Rattle.hfs_changes.specs.Changes.{KeepsContents, HasTurned, HasRekeyed}
+use Rattle.hfs_changes.specs.Changes.{KeepsContents, HasRekeyed}
 use Rattle.hfs_changes.proofs.Linked.{sound_linked}
+use Rattle.hfs_changes.proofs.Turned.{HasTurned}
 use Rattle.hfs_changes.proofs.Turned as turning
 
 module _ (next k : ℕ) (r s : Record) (thread turned : Option Record) (old new : Catalog) (h : IsSoundCatalog next old) (moved : HasRekeyed k r s thread turned old new) where

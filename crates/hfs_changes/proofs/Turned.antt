@@ -5,8 +5,10 @@ use Rattle.std.specs.Cmp.{nat_cmp_total}
 use Rattle.std.specs.Option.{option_map, unwrap_or}
 use Rattle.std.specs.FinMap as map
 use Rattle.std.proofs.lemmas.Bool.{eq-eqb, true≢false}
+use Rattle.std.specs.Prelude.{IsTrue}
 use Rattle.hfs_fields.specs.Keys.{cat_cmp}
-use Rattle.hfs_fields.specs.Records.{is_dir, is_item, item_id, dir_record_of}
+use Rattle.hfs_fields.specs.Names.{is_item_name}
+use Rattle.hfs_fields.specs.Records.{is_dir, is_file, is_item, item_id, dir_record_of}
 use Rattle.hfs_scans.specs.Each.{Each}
 use Rattle.hfs_btree.specs.Pairs.{Rises}
 use Rattle.hfs_scans.specs.Members.{In}
@@ -20,7 +22,7 @@ use Rattle.hfs_changes.specs.Once.{item_or_thread}
 use Rattle.hfs_changes.specs.Steps.{AreOnce, IfThere, IsItemOf, IsThreadOf, ItemStep, ThreadStep, with_one, is_there, item_once, item_after, item_threads, thread_once, thread_after, thread_items}
 use Rattle.hfs_changes.specs.Links.{AreLinked}
 use Rattle.hfs_changes.specs.Sound.{IsNearlySound}
-use Rattle.hfs_changes.specs.Changes.{KeepsContents, IsItsThread, HasTurned}
+use Rattle.hfs_changes.specs.Changes.{KeepsContents, IsItsThread, ItemRekeyed}
 use Rattle.hfs_changes.proofs.Items.{with_id}
 use Rattle.hfs_changes.proofs.Linked.{with_thread, sound_once, sound_linked, sound_counted, nearly_sound}
 use Rattle.hfs_changes.proofs.Relinked.{by_id, past_id, linked_both, linked_unthreaded}
@@ -31,6 +33,23 @@ same_some x y e = ap (λ o. unwrap_or o x) e
 
 none_some : {A : Type 0} (x : A) → None ≡ Some x → ⊥
 none_some x e = cc
+
+-- an item's record came under another key or in its place, and its thread's came, went or stands in its place, and leads to it; the
+-- item stays what it is, and a folder has a thread
+pub record HasTurned (k : ℕ) (r s : Record) (thread turned : Option Record) (old new : Catalog) : Type 0 where
+  pub second : Catalog
+  pub item_moved : ItemRekeyed r s old second
+  pub thread_set : Swaps thread turned second new
+  pub was : item_with old k ≡ Some r
+  pub thread_was : thread_of old k ≡ thread
+  pub dir : is_dir s.1 ≡ is_dir r.1
+  pub file : is_file s.1 ≡ is_file r.1
+  pub id : item_id s.1 ≡ item_id r.1
+  pub name : IsTrue (is_item_name s.0.name)
+  pub record_form : IsRecord s
+  pub valence : is_dir r.1 ≡ true → (dir_record_of s.1).valence ≡ (dir_record_of r.1).valence
+  pub its : IfThere (IsItsThread k s) turned
+  pub threaded : is_dir r.1 ≡ true → is_there turned ≡ true
 
 -- what both ways of moving a record give
 pub record Moved (k : ℕ) (r s : Record) (old new : Catalog) : Type 1 where

@@ -14,10 +14,10 @@ use Rattle.hfs_catalog.specs.Lookups.{thread_of}
 use Rattle.hfs_catalog.specs.Sound.{IsSoundCatalog}
 use Rattle.hfs_catalog_edits.specs.Swaps.{one_if, passes, number_of, list_of, swapped_count, swapped_sum, swapped_each}
 use Rattle.hfs_changes.specs.Steps.{IfThere}
-use Rattle.hfs_changes.specs.Changes.{IsItsThread, HasTurned}
+use Rattle.hfs_changes.specs.Changes.{IsItsThread}
 use Rattle.hfs_changes.proofs.Items.{with_id}
 use Rattle.hfs_changes.proofs.Linked.{with_thread}
-use Rattle.hfs_changes.proofs.Turned.{item_way}
+use Rattle.hfs_changes.proofs.Turned.{HasTurned, item_way}
 use Rattle.hfs_changes.proofs.Space.{record_has, forks_have}
 use Rattle.hfs_changes.proofs.Forks.{forks_kept, owners_kept}
 use Rattle.hfs_changes.proofs.KeptSpace.{no_file_forks, thread_no_file}

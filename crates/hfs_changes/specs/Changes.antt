@@ -128,23 +128,6 @@ pub record HasDropped (id dir : ℕ) (item : Record) (thread : Option Record) (r
 abbrev pub ItemRekeyed : Record → Record → Catalog → Catalog → Type 0
 ItemRekeyed r s old new = Swaps (Some r) (Some s) old new ⊎ ((between : Catalog) × Swaps (Some r) None old between × Swaps None (Some s) between new)
 
--- an item's record came under another key or in its place, and its thread's came, went or stands in its place, and leads to it; the
--- item stays what it is, and a folder has a thread
-pub record HasTurned (k : ℕ) (r s : Record) (thread turned : Option Record) (old new : Catalog) : Type 0 where
-  pub second : Catalog
-  pub item_moved : ItemRekeyed r s old second
-  pub thread_set : Swaps thread turned second new
-  pub was : item_with old k ≡ Some r
-  pub thread_was : thread_of old k ≡ thread
-  pub dir : is_dir s.1 ≡ is_dir r.1
-  pub file : is_file s.1 ≡ is_file r.1
-  pub id : item_id s.1 ≡ item_id r.1
-  pub name : IsTrue (is_item_name s.0.name)
-  pub record_form : IsRecord s
-  pub valence : is_dir r.1 ≡ true → (dir_record_of s.1).valence ≡ (dir_record_of r.1).valence
-  pub its : IfThere (IsItsThread k s) turned
-  pub threaded : is_dir r.1 ≡ true → is_there turned ≡ true
-
 -- an item's record came under another key, and its thread's, if it has one, leads to it; the item stays what it is
 pub record HasRekeyed (k : ℕ) (r s : Record) (thread turned : Option Record) (old new : Catalog) : Type 0 where
   pub second : Catalog

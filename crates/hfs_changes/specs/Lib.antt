@@ -14,3 +14,4 @@ pub mod FileIdLaws
 pub mod BoundLaws
 pub mod PlaceLaws
 pub mod Deletion
+pub mod OffspringLaws

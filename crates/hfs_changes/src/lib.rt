@@ -20,7 +20,7 @@ pub use deletion::{
 };
 pub use file_ids::{create_file_id_makes, delete_file_id_makes};
 pub use laws::{catalog_edits_are_steps, catalog_file_stays};
-pub use moves::cat_move_makes;
+pub use moves::{cat_move_makes, offspring_by_parents};
 pub use places::{
     creation_is_free, file_is_threadless, folders_stand, move_is_free, rename_is_free,
 };
