@@ -2,7 +2,7 @@
 use crate::trees::{block_under, copy, counts, header, key_of, keys, laid_tree, wide_tree};
 use hfs_btree::find;
 use hfs_btree_checks::check_tree;
-use hfs_fields::{ExtKey, Extent, FileRecord};
+use hfs_fields::{ExtKey, Extent, FileRecord, ForkRecord};
 use hfs_node_tables::{NodeTable, is_exact};
 use hfs_space::{ForkKind, fork_extents};
 use hfs_space_edits::{drop_overflow, file_extents};
@@ -113,27 +113,37 @@ fn an_emptied_tree(rt: HostRuntime) -> Result<(), Fail> {
     Ok(())
 }
 
+/// A fork that begins with three extents of one block each.
+fn fork_with(first: u16) -> ForkRecord {
+    ForkRecord {
+        first_block: 0,
+        length: 0,
+        physical_length: 0,
+        extents: [Extent { first, count: 1 }; 3],
+    }
+}
+
 /// The extents of file 16, whose forks begin with three blocks each from these on.
-fn both_forks(alloc: Global, nodes: &NodeTable, data: u16, rest: u16) -> Result<Vec<Extent>, Fail> {
+fn extents_of_file(
+    alloc: Global,
+    nodes: &NodeTable,
+    data: u16,
+    rest: u16,
+) -> Result<Vec<Extent>, Fail> {
     let Ok(_) = check_tree::<ExtKey, NodeTable>(alloc, nodes, nodes.size()) else {
         return Err(Fail::new("not a sound tree"));
     };
     let mut file = FileRecord::new(16, 0);
-    file.data.extents = [Extent {
-        first: data,
-        count: 1,
-    }; 3];
-    file.resource.extents = [Extent {
-        first: rest,
-        count: 1,
-    }; 3];
-    Ok(file_extents(alloc, nodes, &file)?)
+    file.data = fork_with(data);
+    file.resource = fork_with(rest);
+    let extents = file_extents(alloc, nodes, &file)?;
+    Ok(extents)
 }
 
 #[test]
 fn extents_of_both_forks(rt: HostRuntime) -> Result<(), Fail> {
     let nodes = wide_tree(rt.alloc())?;
-    let extents = both_forks(rt.alloc(), &nodes, 3_000, 4_000)?;
+    let extents = extents_of_file(rt.alloc(), &nodes, 3_000, 4_000)?;
     assert_eq!(rt; extents.len(), 69);
     for (at, key) in [
         (3, key_of(0, 16, 3)),
