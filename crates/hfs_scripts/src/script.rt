@@ -67,6 +67,14 @@ impl Script {
         &self.items
     }
 
+    /// The lines, in order; takes no memory.
+    pub fn into_lines(self) -> Vec<ScriptLine>
+        ensures { result.items ≡ self }
+    {
+        let Script { items } = self;
+        items
+    }
+
     /// How many workers it has: as many as the greatest worker's number says, at least one.
     #[tactic(auto, unfolding(crate::specs::Callers::workers))]
     pub fn workers(&self) -> u32
