@@ -38,22 +38,18 @@ fn four_lines_read(rt: HostRuntime) -> Result<(), Fail> {
     for line in script.lines() {
         assert_eq!(rt; line.caller, Caller::Worker(1));
     }
-    let mut lines = script.into_lines();
-    let Some(line) = lines.pop() else {
+    let [_, _, third, last] = script.lines() else {
         return Err(Fail::new("a line is missing"));
     };
-    match line.call {
-        Call::List { dir } => assert_eq!(rt; dir, 2),
+    match &last.call {
+        Call::List { dir } => assert_eq!(rt; *dir, 2),
         _ => assert!(rt; false),
     }
-    let Some(line) = lines.pop() else {
-        return Err(Fail::new("a line is missing"));
-    };
-    match line.call {
+    match &third.call {
         Call::Create { dir, name, now } => {
-            assert_eq!(rt; dir, 16);
+            assert_eq!(rt; *dir, 16);
             assert_eq!(rt; name.as_slice(), b"READ ME".as_slice());
-            assert_eq!(rt; now, 100);
+            assert_eq!(rt; *now, 100);
         }
         _ => assert!(rt; false),
     }
@@ -106,25 +102,26 @@ fn numbers_and_names_read(rt: HostRuntime) -> Result<(), Fail> {
     let alloc = rt.alloc();
     let line = line_of(alloc, b"0000000007\tdelete\t4294967295\t\0 \r\xff")?;
     assert_eq!(rt; line.caller, Caller::Worker(7));
-    match line.call {
+    match &line.call {
         Call::Delete { dir, name, now } => {
-            assert_eq!(rt; dir, 4294967295);
+            assert_eq!(rt; *dir, 4294967295);
             assert_eq!(rt; name.as_slice(), b"\0 \r\xff".as_slice());
-            assert_eq!(rt; now, 100);
+            assert_eq!(rt; *now, 100);
         }
         _ => assert!(rt; false),
     }
-    match line_of(alloc, b"1\trename\t0000000002\t\tnew\n")?.call {
+    let line = line_of(alloc, b"1\trename\t0000000002\t\tnew\n")?;
+    match &line.call {
         Call::Rename {
             dir,
             name,
             new_name,
             now,
         } => {
-            assert_eq!(rt; dir, 2);
+            assert_eq!(rt; *dir, 2);
             assert_eq!(rt; name.as_slice().len(), 0);
             assert_eq!(rt; new_name.as_slice(), b"new".as_slice());
-            assert_eq!(rt; now, 100);
+            assert_eq!(rt; *now, 100);
         }
         _ => assert!(rt; false),
     }
@@ -135,37 +132,35 @@ fn numbers_and_names_read(rt: HostRuntime) -> Result<(), Fail> {
 #[test]
 fn hexadecimal_digits_of_either_case_read(rt: HostRuntime) -> Result<(), Fail> {
     let alloc = rt.alloc();
-    match line_of(
+    let line = line_of(
         alloc,
         b"1\tsetfinfo\t2\tf\t00aAAaFF1234567890abcdefABCDEF99",
-    )?
-    .call
-    {
+    )?;
+    match &line.call {
         Call::SetFInfo {
             dir,
             name,
             info,
             now,
         } => {
-            assert_eq!(rt; dir, 2);
+            assert_eq!(rt; *dir, 2);
             assert_eq!(rt; name.as_slice(), b"f".as_slice());
             assert_eq!(rt;
-                info,
+                *info,
                 [
                     0, 0xaa, 0xaa, 0xff, 0x12, 0x34, 0x56, 0x78, 0x90, 0xab, 0xcd, 0xef, 0xab,
                     0xcd, 0xef, 0x99
                 ]
             );
-            assert_eq!(rt; now, 100);
+            assert_eq!(rt; *now, 100);
         }
         _ => assert!(rt; false),
     }
-    match line_of(
+    let line = line_of(
         alloc,
         b"1\tsetinfo\t2\tf\t1\t2\t3\t0F0f0f0f0f0f0f0f0f0f0f0f0f0f0f0f0f0f0f0f0f0f0f0f0f0f0f0f0f0f0f0F",
-    )?
-    .call
-    {
+    )?;
+    match &line.call {
         Call::SetCatInfo {
             created,
             modified,
@@ -173,10 +168,10 @@ fn hexadecimal_digits_of_either_case_read(rt: HostRuntime) -> Result<(), Fail> {
             info,
             ..
         } => {
-            assert_eq!(rt; created, 1);
-            assert_eq!(rt; modified, 2);
-            assert_eq!(rt; backup, 3);
-            assert_eq!(rt; info, [15; 32]);
+            assert_eq!(rt; *created, 1);
+            assert_eq!(rt; *modified, 2);
+            assert_eq!(rt; *backup, 3);
+            assert_eq!(rt; *info, [15; 32]);
         }
         _ => assert!(rt; false),
     }
@@ -187,23 +182,25 @@ fn hexadecimal_digits_of_either_case_read(rt: HostRuntime) -> Result<(), Fail> {
 #[test]
 fn both_forks_read(rt: HostRuntime) -> Result<(), Fail> {
     let alloc = rt.alloc();
-    match line_of(alloc, b"v8\tread\t2\tf\tdata\t500\t100")?.call {
+    let line = line_of(alloc, b"v8\tread\t2\tf\tdata\t500\t100")?;
+    match &line.call {
         Call::ReadFork {
             fork,
             offset,
             count,
             ..
         } => {
-            assert_eq!(rt; fork, Fork::DataFork);
-            assert_eq!(rt; offset, 500);
-            assert_eq!(rt; count, 100);
+            assert_eq!(rt; *fork, Fork::DataFork);
+            assert_eq!(rt; *offset, 500);
+            assert_eq!(rt; *count, 100);
         }
         _ => assert!(rt; false),
     }
-    match line_of(alloc, b"1\tread\t2\tf\tres\t0\t65537")?.call {
+    let line = line_of(alloc, b"1\tread\t2\tf\tres\t0\t65537")?;
+    match &line.call {
         Call::ReadFork { fork, count, .. } => {
-            assert_eq!(rt; fork, Fork::ResFork);
-            assert_eq!(rt; count, 65537);
+            assert_eq!(rt; *fork, Fork::ResFork);
+            assert_eq!(rt; *count, 65537);
         }
         _ => assert!(rt; false),
     }
