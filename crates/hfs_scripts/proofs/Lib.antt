@@ -3,6 +3,7 @@ mod Written
 mod FirstNine
 mod FirstLine
 mod Steps
+mod Parting
 mod Again
 mod InFields
 mod RoundTrip

@@ -5,5 +5,6 @@ pub mod Words
 pub mod Calls
 pub mod Lines
 pub mod Scripts
+pub mod Callers
 pub mod Texts
 pub mod Readable

@@ -2,6 +2,9 @@
 ghost use Rattle.std.specs.Prelude.{◌≡◌};
 ghost use Rattle.hfs_scripts.specs.Numbers.{number_of};
 
+/// The greatest number that a field may write.
+const GREATEST: u64 = 4_294_967_295;
+
 /// The number that a field writes: one to ten decimal digits, of value at most 4,294,967,295.
 #[tactic(auto, unfolding(crate::specs::Numbers::number_of))]
 pub(crate) fn read_number(field: &[u8]) -> Option<u32>
@@ -16,7 +19,7 @@ pub(crate) fn read_number(field: &[u8]) -> Option<u32>
             return None;
         }
         let longer = u64::from(value) * 10 + u64::from(*byte - b'0');
-        if longer > 4_294_967_295 {
+        if longer > GREATEST {
             return None;
         }
         value = longer as u32;

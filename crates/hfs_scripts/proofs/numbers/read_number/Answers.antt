@@ -8,12 +8,12 @@ pub returns-then-not-is_ascii_digit : goal.returns-then-not-is_ascii_digit
 returns-then-not-is_ascii_digit c =
     sym (number_of-undigit c.args.field.now (all_digits-none c.args.field.now c.loop-byte.byte-index c.loop-byte-test.true (sym c.is_ascii_digit.ensures.value ∙ c.if-not-is_ascii_digit.true)))
 
-pub returns-then-longer-gt4294967295 : goal.returns-then-longer-gt4294967295
-returns-then-longer-gt4294967295 c =
+pub returns-then-longer-gt-GREATEST : goal.returns-then-longer-gt-GREATEST
+returns-then-longer-gt-GREATEST c =
     sym
     (number_of-too_large c.args.field.now (c.loop-byte.byte-index + 1) (c.from.result * 10 + c.from-in-loop-byte.result)
     (value-more c.args.field.now c.loop-byte.byte-index c.loop-byte.value _ c.loop-byte-test.true (sym c.is_ascii_digit.ensures.value ∙ c.if-not-is_ascii_digit.false) c.loop-byte.invariant.value (omega arith))
-    c.if-longer-gt4294967295.true)
+    c.if-longer-gt-GREATEST.true)
 
 pub loop-byte-preserved : goal.loop-byte-preserved
 loop-byte-preserved c =

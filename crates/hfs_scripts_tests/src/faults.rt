@@ -1,0 +1,267 @@
+//! What doesn't read: the first such line is named, counted from 1.
+use hfs_scripts::{ScriptFault, read_script};
+use std::alloc::Global;
+use std::process::Abort;
+use std::test::Fail;
+
+/// Wants the line of that number to be the first that doesn't read.
+fn expect_line(rt: &impl Abort, alloc: Global, script: &[u8], line: u64) {
+    match read_script(alloc, script, 0) {
+        Ok(_) => assert!(rt; false),
+        Err(fault) => assert_eq!(rt; fault, ScriptFault::Line(line)),
+    }
+}
+
+/// Wants each of these lines to be one that doesn't read.
+fn expect_refused(rt: &impl Abort, alloc: Global, lines: &[&[u8]]) {
+    for line in lines {
+        expect_line(rt, alloc, line, 1);
+    }
+}
+
+/// Wants each of these lines to read.
+fn expect_read(rt: &impl Abort, alloc: Global, lines: &[&[u8]]) {
+    for line in lines {
+        assert!(rt; read_script(alloc, line, 0).is_ok());
+    }
+}
+
+#[test]
+fn the_first_bad_line_is_named(rt: HostRuntime) {
+    let alloc = rt.alloc();
+    expect_line(&rt, alloc, b"1\tlist\t2\n9\tlist\t2\n", 2);
+    expect_line(&rt, alloc, b"1\tlist\t2\n9\tlist\t2\n0\tlist\t2\n", 2);
+    expect_line(&rt, alloc, b"1\tlist\t2\n\n1\tlist\t2\n", 2);
+    expect_line(&rt, alloc, b"1\tlist\t2\n\n", 2);
+    expect_line(&rt, alloc, b"\n", 1);
+    expect_line(&rt, alloc, b"v1\tcreate\t2\ta", 1);
+}
+
+/// Every word with its fields, as a line reads; `v` in place of the worker reads for five of them.
+#[test]
+fn each_word_reads(rt: HostRuntime) {
+    let lines: [&[u8]; 9] = [
+        b"1\tdirinfo\t2",
+        b"1\tinfo\t2\ta",
+        b"1\tindexed\t2\t1",
+        b"1\tlist\t2",
+        b"1\tread\t2\ta\tdata\t0\t1",
+        b"1\tcreate\t2\ta",
+        b"1\tmkdir\t2\ta",
+        b"1\tdelete\t2\ta",
+        b"1\trename\t2\ta\tb",
+    ];
+    expect_read(&rt, rt.alloc(), &lines);
+}
+
+#[test]
+fn each_other_word_reads(rt: HostRuntime) {
+    let lines: [&[u8]; 8] = [
+        b"1\tmove\t2\ta\t3",
+        b"1\tsetfinfo\t2\ta\t00000000000000000000000000000000",
+        b"1\tsetinfo\t2\ta\t1\t2\t3\t0000000000000000000000000000000000000000000000000000000000000000",
+        b"1\tlock\t2\ta",
+        b"1\tunlock\t2\ta",
+        b"1\tnewid\t2\ta",
+        b"1\tdropid\t16",
+        b"1\tresolve\t16",
+    ];
+    expect_read(&rt, rt.alloc(), &lines);
+}
+
+#[test]
+fn viewers_ask_five_words(rt: HostRuntime) {
+    let lines: [&[u8]; 5] = [
+        b"v1\tdirinfo\t2",
+        b"v2\tinfo\t2\ta",
+        b"v3\tindexed\t2\t1",
+        b"v4\tlist\t2",
+        b"v08\tread\t2\ta\tres\t0\t1",
+    ];
+    expect_read(&rt, rt.alloc(), &lines);
+    let refused: [&[u8]; 7] = [
+        b"v1\tmkdir\t2\ta",
+        b"v1\tdelete\t2\ta",
+        b"v1\trename\t2\ta\tb",
+        b"v1\tlock\t2\ta",
+        b"v1\tnewid\t2\ta",
+        b"v1\tdropid\t16",
+        b"v1\tresolve\t16",
+    ];
+    expect_refused(&rt, rt.alloc(), &refused);
+}
+
+#[test]
+fn callers_are_from_1_to_8(rt: HostRuntime) {
+    let refused: [&[u8]; 8] = [
+        b"0\tlist\t2",
+        b"9\tlist\t2",
+        b"\tlist\t2",
+        b"v\tlist\t2",
+        b"v0\tlist\t2",
+        b"v9\tlist\t2",
+        b"V1\tlist\t2",
+        b"vv1\tlist\t2",
+    ];
+    expect_refused(&rt, rt.alloc(), &refused);
+    let others: [&[u8]; 6] = [
+        b"+1\tlist\t2",
+        b"-1\tlist\t2",
+        b" 1\tlist\t2",
+        b"00000000001\tlist\t2",
+        b"1",
+        b"1\tlist",
+    ];
+    expect_refused(&rt, rt.alloc(), &others);
+}
+
+#[test]
+fn words_are_spelled_so(rt: HostRuntime) {
+    let refused: [&[u8]; 7] = [
+        b"1\tLIST\t2",
+        b"1\tlists\t2",
+        b"1\tlis\t2",
+        b"1\t\t2",
+        b"1\tlist \t2",
+        b"1 list 2",
+        b"1\tlist\t2\r",
+    ];
+    expect_refused(&rt, rt.alloc(), &refused);
+}
+
+#[test]
+fn dirs_and_ids(rt: HostRuntime) {
+    let alloc = rt.alloc();
+    let refused: [&[u8]; 8] = [
+        b"1\tdirinfo",
+        b"1\tdirinfo\t",
+        b"1\tdirinfo\t2\t",
+        b"1\tdirinfo\t2\t3",
+        b"1\tdirinfo\tx",
+        b"1\tdirinfo\t4294967296",
+        b"1\tdirinfo\t00000000002",
+        b"1\tdirinfo\t-2",
+    ];
+    expect_refused(&rt, alloc, &refused);
+    let lists: [&[u8]; 5] = [
+        b"1\tlist\t",
+        b"1\tlist\t2\t3",
+        b"1\tlist\t2a",
+        b"1\tlist\t9999999999",
+        b"1\tlist\t18446744073709551618",
+    ];
+    expect_refused(&rt, alloc, &lists);
+    let drops: [&[u8]; 4] = [
+        b"1\tdropid",
+        b"1\tdropid\t1\t2",
+        b"1\tdropid\tf",
+        b"1\tdropid\t4294967296",
+    ];
+    expect_refused(&rt, alloc, &drops);
+    let resolves: [&[u8]; 4] = [
+        b"1\tresolve",
+        b"1\tresolve\t1\t2",
+        b"1\tresolve\tf",
+        b"1\tresolve\t4294967296",
+    ];
+    expect_refused(&rt, alloc, &resolves);
+    let indexes: [&[u8]; 6] = [
+        b"1\tindexed\t2",
+        b"1\tindexed\t2\t",
+        b"1\tindexed\t2\t1\t1",
+        b"1\tindexed\tx\t1",
+        b"1\tindexed\t2\tx",
+        b"1\tindexed\t2\t4294967296",
+    ];
+    expect_refused(&rt, alloc, &indexes);
+}
+
+/// A word with DIR and NAME: a field missing, one too many, a bad number, a large one, one of eleven digits.
+fn expect_targets_refused(rt: &impl Abort, alloc: Global, word: &str) -> Result<(), Fail> {
+    let missing = format!(in alloc; "1\t{word}\t2")?;
+    expect_line(rt, alloc, missing.as_str().as_bytes(), 1);
+    let many = format!(in alloc; "1\t{word}\t2\ta\tb")?;
+    expect_line(rt, alloc, many.as_str().as_bytes(), 1);
+    let bad = format!(in alloc; "1\t{word}\ttwo\ta")?;
+    expect_line(rt, alloc, bad.as_str().as_bytes(), 1);
+    let large = format!(in alloc; "1\t{word}\t4294967296\ta")?;
+    expect_line(rt, alloc, large.as_str().as_bytes(), 1);
+    let long = format!(in alloc; "1\t{word}\t00000000002\ta")?;
+    expect_line(rt, alloc, long.as_str().as_bytes(), 1);
+    Ok(())
+}
+
+#[test]
+fn dirs_and_names(rt: HostRuntime) -> Result<(), Fail> {
+    let alloc = rt.alloc();
+    expect_targets_refused(&rt, alloc, "info")?;
+    expect_targets_refused(&rt, alloc, "create")?;
+    expect_targets_refused(&rt, alloc, "mkdir")?;
+    expect_targets_refused(&rt, alloc, "delete")?;
+    expect_targets_refused(&rt, alloc, "lock")?;
+    expect_targets_refused(&rt, alloc, "unlock")?;
+    expect_targets_refused(&rt, alloc, "newid")?;
+    Ok(())
+}
+
+#[test]
+fn parts_of_forks(rt: HostRuntime) {
+    let refused: [&[u8]; 8] = [
+        b"1\tread\t2\ta\tdata\t0",
+        b"1\tread\t2\ta\tdata\t0\t1\t2",
+        b"1\tread\tx\ta\tdata\t0\t1",
+        b"1\tread\t2\ta\tDATA\t0\t1",
+        b"1\tread\t2\ta\tresource\t0\t1",
+        b"1\tread\t2\ta\t\t0\t1",
+        b"1\tread\t2\ta\tdata\t4294967296\t1",
+        b"1\tread\t2\ta\tdata\t0\t00000000001",
+    ];
+    expect_refused(&rt, rt.alloc(), &refused);
+}
+
+#[test]
+fn names_and_folders(rt: HostRuntime) {
+    let alloc = rt.alloc();
+    let renames: [&[u8]; 4] = [
+        b"1\trename\t2\ta",
+        b"1\trename\t2\ta\tb\tc",
+        b"1\trename\tx\ta\tb",
+        b"1\trename\t4294967296\ta\tb",
+    ];
+    expect_refused(&rt, alloc, &renames);
+    let moves: [&[u8]; 6] = [
+        b"1\tmove\t2\ta",
+        b"1\tmove\t2\ta\t3\t4",
+        b"1\tmove\tx\ta\t3",
+        b"1\tmove\t2\ta\tb",
+        b"1\tmove\t2\ta\t4294967296",
+        b"1\tmove\t2\ta\t00000000003",
+    ];
+    expect_refused(&rt, alloc, &moves);
+}
+
+#[test]
+fn finder_bytes(rt: HostRuntime) {
+    let alloc = rt.alloc();
+    let files: [&[u8]; 8] = [
+        b"1\tsetfinfo\t2\ta",
+        b"1\tsetfinfo\t2\ta\t",
+        b"1\tsetfinfo\t2\ta\t0000000000000000000000000000000",
+        b"1\tsetfinfo\t2\ta\t000000000000000000000000000000000",
+        b"1\tsetfinfo\t2\ta\t0000000000000000000000000000000000",
+        b"1\tsetfinfo\t2\ta\t0000000000000000000000000000000g",
+        b"1\tsetfinfo\tx\ta\t00000000000000000000000000000000",
+        b"1\tsetfinfo\t2\ta\t00000000000000000000000000000000\t",
+    ];
+    expect_refused(&rt, alloc, &files);
+    let items: [&[u8]; 7] = [
+        b"1\tsetinfo\t2\ta\t1\t2\t3",
+        b"1\tsetinfo\t2\ta\tx\t2\t3\t0000000000000000000000000000000000000000000000000000000000000000",
+        b"1\tsetinfo\t2\ta\t1\t4294967296\t3\t0000000000000000000000000000000000000000000000000000000000000000",
+        b"1\tsetinfo\t2\ta\t1\t2\t00000000003\t0000000000000000000000000000000000000000000000000000000000000000",
+        b"1\tsetinfo\t2\ta\t1\t2\t3\t00000000000000000000000000000000",
+        b"1\tsetinfo\t2\ta\t1\t2\t3\t000000000000000000000000000000000000000000000000000000000000000G",
+        b"1\tsetinfo\t2\ta\t1\t2\t3\t0000000000000000000000000000000000000000000000000000000000000000\t",
+    ];
+    expect_refused(&rt, alloc, &items);
+}
