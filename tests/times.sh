@@ -50,6 +50,8 @@ count_beside() {
     if command -v valgrind > /dev/null && command -v fsck.hfs > /dev/null; then
         awk -v ours="$(instructions "$tool" check "$1")" -v theirs="$(instructions fsck.hfs -fn "$1")" \
             'BEGIN { printf "    check to fsck.hfs -n: %.1f to %.1f million instructions, ratio %.2f\n", ours, theirs, ours / theirs }'
+    else
+        echo '    instructions are not counted: fsck.hfs or valgrind is not installed'
     fi
 }
 

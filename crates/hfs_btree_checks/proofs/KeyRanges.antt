@@ -1,5 +1,5 @@
 -- The range of the keys of two ranges.
-use Rattle.std.proofs.Common.{◌≡◌, Bool, true, false, [], ◌++◌, Option, Some, None, refl, sym, ap, ◌∙◌, inl, inr}
+use Rattle.std.proofs.Common.{◌≡◌, ℕ, List, Bool, true, false, [], ◌∷◌, ◌++◌, Option, Some, None, refl, sym, ap, ◌∙◌, inl, inr}
 use Rattle.std.specs.Prelude.{◌&&◌, cond, not}
 use Rattle.std.specs.Cmp.{IsTotalOrder}
 use Rattle.std.specs.declared.cmp.Ordering.{Ordering}
@@ -100,3 +100,34 @@ pub joined-some : {K : Type 0} (cmp : Order K) (total : IsTotalOrder cmp) (a b :
     → HasRange cmp (Some (record { least = least; greatest = greatest })) (ps ++ qs)
 joined-some cmp total a b least greatest le gr ps qs h k =
     joined-by cmp (Some a) (Some b) _ ps qs (λ key. ap (λ x. not (is_gt (cmp key x))) le ∙ at-most-lesser cmp total key a.least b.least) (λ key. ap (λ x. is_lt (cmp x key)) gr ∙ above-greater cmp total key a.greatest b.greatest) h k
+
+-- ---- the key of one record
+
+is-less : (o : Ordering) → is_lt o ≡ true → o ≡ Less
+is-less Less h = refl
+is-less Equal h = cc
+is-less Greater h = cc
+
+-- the range of one key
+pub one-range : {K : Type 0} (cmp : Order K) (k : K) (p : K × List ℕ) → k ≡ p.0 → HasRange cmp (Some (record { least = k; greatest = k })) (p ∷ [])
+one-range cmp k p e = record {
+  least = λ key. (λ t. (ap (λ x. is_gt (cmp key x)) (sym e) ∙ not-true (is_gt (cmp key k)) t, tt), λ h. ap not (ap (λ x. is_gt (cmp key x)) e ∙ h.0));
+  greatest = λ key. (λ t. (ap (λ x. cmp x key) (sym e) ∙ is-less (cmp k key) t, tt), λ h. ap is_lt (ap (λ x. cmp x key) e ∙ h.0));
+}
+
+module _ {K : Type 0} (cmp : Order K) (total : IsTotalOrder cmp) where
+  gt-lt_by : (x y : K) (o : Ordering) → cmp x y ≡ o → is_gt o ≡ is_lt (cmp y x)
+  gt-lt_by x y Less e = sym (ap is_lt (flipped cmp total x y Less e))
+  gt-lt_by x y Equal e = sym (ap is_lt (flipped cmp total x y Equal e))
+  gt-lt_by x y Greater e = sym (ap is_lt (flipped cmp total x y Greater e))
+
+  gt-lt : (x y : K) → is_gt (cmp x y) ≡ is_lt (cmp y x)
+  gt-lt x y = gt-lt_by x y (cmp x y) refl
+
+  pub widened-some : (a : KeyRange K) (p : K × List ℕ) (least greatest : K) → least ≡ cond (is_gt (cmp a.least p.0)) p.0 a.least → greatest ≡ cond (is_lt (cmp a.greatest p.0)) p.0 a.greatest → (ps : Pairs K)
+      → HasRange cmp (Some a) ps → HasRange cmp (Some (record { least = least; greatest = greatest })) (ps ++ p ∷ [])
+  widened-some a p least greatest le gr ps h =
+      joined-some cmp total a (record { least = p.0; greatest = p.0 }) least greatest (le ∙ ap (λ (b : Bool). cond b p.0 a.least) (gt-lt a.least p.0)) gr ps (p ∷ []) h (one-range cmp p.0 p refl)
+
+  pub widened-none : (k : K) (p : K × List ℕ) → k ≡ p.0 → (ps : Pairs K) → HasRange cmp None ps → HasRange cmp (Some (record { least = k; greatest = k })) (ps ++ p ∷ [])
+  widened-none k p e ps h = joined-none-first cmp (Some (record { least = k; greatest = k })) ps (p ∷ []) h (one-range cmp k p e)

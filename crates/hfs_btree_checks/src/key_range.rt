@@ -1,11 +1,12 @@
 //! The least and the greatest of some keys.
 
-ghost use Rattle.std.specs.Prelude.{◌≡◌, ◌++◌, ◌&&◌, if◌then◌else◌};
-ghost use Rattle.std.specs.Ordering.{is_lt};
+ghost use Rattle.std.specs.Prelude.{◌≡◌, true, [], ◌∷◌, ◌++◌, ◌&&◌, if◌then◌else◌};
+ghost use Rattle.std.specs.Ordering.{is_gt, is_lt};
 ghost use Rattle.hfs_btree.specs.Pairs.{Pairs};
+ghost use Rattle.hfs_btree.specs.Tree.{pair_of};
 ghost use Rattle.hfs_btree_checks.specs.Subtree.{is_at_most, is_above, HasRange};
 
-use hfs_btree::Key;
+use hfs_btree::{Key, key_of};
 
 /// The least and the greatest of some keys, which need not stand in their order.
 #[derive(Clone, Copy)]
@@ -53,6 +54,49 @@ pub(crate) fn joined<K: Key>(
     Some(KeyRange {
         least: lesser(one.least, other.least),
         greatest: greater(one.greatest, other.greatest),
+    })
+}
+
+/// The key of a leaf's record where it is less, and else the first one.
+fn lesser_in<K: Key>(first: K, entry: &[u8]) -> K
+    requires { K.is_leaf entry.now ≡ true }
+    ensures { result ≡ if is_gt (K.compare first (K.leaf_key entry.now)) then K.leaf_key entry.now else first }
+{
+    if first.compare_leaf(entry).is_gt() {
+        key_of(entry)
+    } else {
+        first
+    }
+}
+
+/// The key of a leaf's record where it is greater, and else the first one.
+fn greater_in<K: Key>(first: K, entry: &[u8]) -> K
+    requires { K.is_leaf entry.now ≡ true }
+    ensures { result ≡ if is_lt (K.compare first (K.leaf_key entry.now)) then K.leaf_key entry.now else first }
+{
+    if first.compare_leaf(entry).is_lt() {
+        key_of(entry)
+    } else {
+        first
+    }
+}
+
+/// The range of the keys of a range, None where it has no keys, and of a leaf's record. The key of the record is copied only
+/// where the range takes it.
+pub(crate) fn widened<K: Key>(range: Option<KeyRange<K>>, entry: &[u8]) -> Option<KeyRange<K>>
+    requires { K.is_leaf entry.now ≡ true }
+    ensures { (ps : Pairs K) → HasRange K.compare range ps → HasRange K.compare result (ps ++ pair_of K.Key entry.now ∷ []) }
+{
+    let Some(one) = range else {
+        let key = key_of(entry);
+        return Some(KeyRange {
+            least: key,
+            greatest: key,
+        });
+    };
+    Some(KeyRange {
+        least: lesser_in(one.least, entry),
+        greatest: greater_in(one.greatest, entry),
     })
 }
 

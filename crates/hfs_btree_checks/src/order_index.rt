@@ -8,8 +8,8 @@ ghost use Rattle.hfs_btree.specs.Sound.{HasStructure};
 ghost use Rattle.hfs_btree_checks.specs.Order.{first_node, is_keyed, are_keys_in_order, index_order_fault};
 ghost use Rattle.hfs_btree_checks.specs.Subtree.{HasRange, IsSubtree, is_subtree_keyed};
 
-use crate::key_range::{KeyRange, is_between, joined};
-use hfs_btree::{Key, Nodes, child_of, key_of, read_header};
+use crate::key_range::{KeyRange, is_between, joined, widened};
+use hfs_btree::{Key, Nodes, child_of, read_header};
 use hfs_node::{NodeView, view};
 
 /// What the keys of a node and of those below it show.
@@ -34,19 +34,14 @@ fn index_entry<K: Key>(entry: &[u8]) -> (K, u32)
     }
 }
 
-/// The range of a leaf's keys.
+/// The range of a leaf's keys. Keys are compared where they stand, and none is copied but those that the range takes.
 fn leaf_range<K: Key>(node: &NodeView<'_>) -> Option<KeyRange<K>>
     requires { Each (λ entry. K.is_leaf entry ≡ true) node.now.records }
     ensures { HasRange K.compare result (map (pair_of K.Key) node.now.records) }
 {
     let mut range = None;
     for i in 0..node.len() {
-        let key = key_of(node.record(i));
-        let one = KeyRange {
-            least: key,
-            greatest: key,
-        };
-        range = joined(range, Some(one));
+        range = widened(range, node.record(i));
     }
     range
 }
