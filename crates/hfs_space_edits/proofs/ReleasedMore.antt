@@ -1,14 +1,15 @@
 -- The bits of one more extent are clear.
-use Rattle.std.proofs.Common.{◌≡◌, inl, inr, ⊎_elim, ◌⊎◌, ℕ, zero, suc, ◌+◌, ◌<◌, ◌≤◌, Bool, cond, eqb, List, [], ◌∷◌, ◌++◌, length, take, get_or, refl, sym, ◌∙◌, ap, subst, arith}
+use Rattle.std.proofs.Common.{◌≡◌, inl, inr, ⊎_elim, ◌⊎◌, ℕ, zero, suc, ◌+◌, ◌<◌, ◌≤◌, Bool, cond, eqb, List, [], ◌∷◌, ◌++◌, length, length-append, take, get_or, refl, sym, ◌∙◌, ap, subst, arith}
 use Rattle.std.specs.List.{range_with_len}
 use Rattle.std.proofs.lemmas.Grind.{flat_map-append}
 use Rattle.std.proofs.lemmas.Bool.{eq-eqb, ne_eqb, cases_lt}
 use Rattle.std.proofs.lemmas.List.Sums.{sum_by-append, sum_by-cons}
 use Rattle.std.proofs.lemmas.List.{take_more}
+use Rattle.std.proofs.lemmas.List.FromFn.{length-range_with_len}
 use Rattle.hfs_fields.specs.declared.extent.Extent.{Extent}
 use Rattle.hfs_space.specs.Bitmap.{clear_count, AreClear, KeepsOthers}
 use Rattle.hfs_space.specs.BitmapLaws.{AreUsed, clear_count-released}
-use Rattle.hfs_space.specs.Extents.{extent_blocks, block_total}
+use Rattle.hfs_space.specs.Extents.{extent_blocks}
 use Rattle.hfs_space.specs.Owners.{owners}
 use Rattle.hfs_space_edits.specs.Released.{HasReleased, AreAlone}
 
@@ -57,7 +58,23 @@ blocks-more es e b =
     omega (arith, all, parts, last, none)
 
 pub released-none : (start total : ℕ) (blocks : ℕ → List ℕ) → HasReleased start total [] blocks blocks
-released-none start total blocks = record { clear = λ b some. absurd (let no : 0 < 0 = some in omega (arith, no)); others = λ b none. refl; beside = λ k apart. refl }
+released-none start total blocks = record {
+  clear = λ b some. absurd (let no : 0 < 0 = some in omega (arith, no));
+  others = λ b none. refl;
+  beside = λ k apart. refl;
+  counted = λ h. (let e : clear_count blocks start total ≡ clear_count blocks start total + 0 = omega arith in e);
+}
+
+-- how many blocks there are
+length-more : (es : List Extent) (e : Extent) → length (extent_blocks (es ++ e ∷ [])) ≡ length (extent_blocks es) + e.count
+length-more es e =
+    let own = λ (x : Extent). range_with_len x.first x.count in
+    let none : length {A = ℕ} [] ≡ 0 = refl in
+    let all = ap (λ (l : List ℕ). length l) (flat_map-append own es (e ∷ [])) in
+    let parts = length-append (extent_blocks es) (range_with_len e.first e.count ++ []) in
+    let last = length-append (range_with_len e.first e.count) [] in
+    let here = length-range_with_len e.first e.count in
+    omega (arith, all, parts, last, none, here)
 
 -- the blocks of an extent more, and what is counted of them
 module _ (start total : ℕ) (es : List Extent) (e : Extent) (old mid new : ℕ → List ℕ) (released : HasReleased start total (extent_blocks es) old mid)
@@ -70,20 +87,6 @@ module _ (start total : ℕ) (es : List Extent) (e : Extent) (old mid new : ℕ 
     | inl low ↦ inl (inl low)
     | inr from ↦ elim (cases_lt b (e.first + e.count)) [ inl high ↦ inr (from, high) | inr behind ↦ inl (inr behind) ]
   ]
-
-  pub released-more : HasReleased start total (extent_blocks all) old new
-  released-more = record {
-    clear = λ b some. ⊎_elim
-        (λ apart. keeps.bits b apart ∙ released.clear b (let parts = blocks-more es e b in let none = outside e.first e.count b apart in omega (arith, some, parts, none)))
-        (λ both. clear b both.0 both.1)
-        (sides b);
-    others = λ b none. ⊎_elim
-        (λ apart. keeps.bits b apart ∙ released.others b (let parts = blocks-more es e b in omega (arith, none, parts)))
-        (λ both. absurd (let parts = blocks-more es e b in let one = inside e.first e.count b both.0 both.1 in omega (arith, none, parts, one)))
-        (sides b);
-    beside = λ k apart.
-        keeps.blocks k (elim apart [ inl low ↦ inl (omega (arith, low)) | inr high ↦ inr (omega (arith, high, within)) ]) ∙ released.beside k apart;
-  }
 
   less-alone : AreAlone old start (extent_blocks all) → AreAlone old start (extent_blocks es)
   less-alone h = record {
@@ -98,13 +101,27 @@ module _ (start total : ℕ) (es : List Extent) (e : Extent) (old mid new : ℕ 
       let most = h.once b in
       released.others b (omega (arith, parts, one, most)) ∙ h.used b (omega (arith, parts, one))
 
-  pub counted-more : (AreAlone old start (extent_blocks es) → clear_count mid start total ≡ clear_count old start total + block_total es) → AreAlone old start (extent_blocks all)
-      → clear_count new start total ≡ clear_count old start total + block_total all
-  counted-more counted h =
-      let before = counted (less-alone h) in
+  counted-more : AreAlone old start (extent_blocks all) → clear_count new start total ≡ clear_count old start total + length (extent_blocks all)
+  counted-more h =
+      let before = released.counted (less-alone h) in
       let here = clear_count-released mid new start e.first e.count total (still-used h) clear keeps within in
-      let sums : block_total all ≡ block_total es + (0 + e.count) = sum_by-append (λ (x : Extent). x.count) es (e ∷ []) in
+      let sums = length-more es e in
       omega (arith, before, here, sums)
+
+  pub released-more : HasReleased start total (extent_blocks all) old new
+  released-more = record {
+    clear = λ b some. ⊎_elim
+        (λ apart. keeps.bits b apart ∙ released.clear b (let parts = blocks-more es e b in let none = outside e.first e.count b apart in omega (arith, some, parts, none)))
+        (λ both. clear b both.0 both.1)
+        (sides b);
+    others = λ b none. ⊎_elim
+        (λ apart. keeps.bits b apart ∙ released.others b (let parts = blocks-more es e b in omega (arith, none, parts)))
+        (λ both. absurd (let parts = blocks-more es e b in let one = inside e.first e.count b both.0 both.1 in omega (arith, none, parts, one)))
+        (sides b);
+    beside = λ k apart.
+        keeps.blocks k (elim apart [ inl low ↦ inl (omega (arith, low)) | inr high ↦ inr (omega (arith, high, within)) ]) ∙ released.beside k apart;
+    counted = counted-more;
+  }
 
 -- an extent without blocks
 module _ (start total : ℕ) (es : List Extent) (e : Extent) (old new : ℕ → List ℕ) (empty : e.count ≡ 0) where
@@ -117,42 +134,32 @@ module _ (start total : ℕ) (es : List Extent) (e : Extent) (old new : ℕ → 
       let none : owners (range_with_len e.first e.count) b ≡ 0 = ap (λ (n : ℕ). owners (range_with_len e.first n) b) empty in
       omega (arith, parts, none)
 
+  same_alone : AreAlone old start (extent_blocks more) → AreAlone old start (extent_blocks es)
+  same_alone h = record {
+    once = λ b. (let same = same_owners b in let most = h.once b in omega (arith, same, most));
+    used = λ b some. h.used b (let same = same_owners b in omega (arith, same, some));
+  }
+
   pub released-empty : HasReleased start total (extent_blocks es) old new → HasReleased start total (extent_blocks more) old new
   released-empty h = record {
     clear = λ b some. h.clear b (let same = same_owners b in omega (arith, same, some));
     others = λ b none. h.others b (let same = same_owners b in omega (arith, same, none));
     beside = h.beside;
+    counted = λ alone. (let before = h.counted (same_alone alone) in let sums = length-more es e in omega (arith, before, sums, empty));
   }
-
-  pub counted-empty : (AreAlone old start (extent_blocks es) → clear_count new start total ≡ clear_count old start total + block_total es) → AreAlone old start (extent_blocks more)
-      → clear_count new start total ≡ clear_count old start total + block_total more
-  counted-empty counted h =
-      let before = counted (record { once = λ b. (let same = same_owners b in let most = h.once b in omega (arith, same, most)); used = λ b some. h.used b (let same = same_owners b in omega (arith, same, some)) }) in
-      let sums : block_total more ≡ block_total es + (0 + e.count) = sum_by-append (λ (x : Extent). x.count) es (e ∷ []) in
-      omega (arith, before, sums, empty)
 
 -- ---- one extent after the other
 
--- what the release of these extents has made of the bitmap, and what is counted of it
-pub record IsReleasing (start total : ℕ) (es : List Extent) (old new : ℕ → List ℕ) : Type 0 where
-  pub released : HasReleased start total (extent_blocks es) old new
-  pub counted : AreAlone old start (extent_blocks es) → clear_count new start total ≡ clear_count old start total + block_total es
-
-pub releasing-none : (start total : ℕ) (blocks : ℕ → List ℕ) → IsReleasing start total [] blocks blocks
-releasing-none start total blocks = record { released = released-none start total blocks; counted = λ h. (let e : clear_count blocks start total ≡ clear_count blocks start total + 0 = omega arith in e) }
-
-module _ (start total : ℕ) (es : List Extent) (i : ℕ) (low : i < length es) (old mid new : ℕ → List ℕ) (h : IsReleasing start total (take i es) old mid) where
+module _ (start total : ℕ) (es : List Extent) (i : ℕ) (low : i < length es) (old mid new : ℕ → List ℕ) (h : HasReleased start total (extent_blocks (take i es)) old mid) where
   abbrev e : Extent
   e = get_or es i (record { first = 0; count = 0 })
 
-  pub releasing-more : AreClear new start e.first e.count → KeepsOthers mid new start e.first e.count → e.first + e.count ≤ total → IsReleasing start total (take (i + 1) es) old new
-  releasing-more clear keeps within = subst (λ (l : List Extent). IsReleasing start total l old new) (sym (take_more es i (record { first = 0; count = 0 }) low)) (record {
-    released = released-more start total (take i es) e old mid new h.released clear keeps within;
-    counted = counted-more start total (take i es) e old mid new h.released clear keeps within h.counted;
-  })
+  one_more : take (i + 1) es ≡ take i es ++ e ∷ []
+  one_more = take_more es i (record { first = 0; count = 0 }) low
 
-  pub releasing-empty : e.count ≡ 0 → IsReleasing start total (take (i + 1) es) old mid
-  releasing-empty empty = subst (λ (l : List Extent). IsReleasing start total l old mid) (sym (take_more es i (record { first = 0; count = 0 }) low)) (record {
-    released = released-empty start total (take i es) e old mid empty h.released;
-    counted = counted-empty start total (take i es) e old mid empty h.counted;
-  })
+  pub next-released : AreClear new start e.first e.count → KeepsOthers mid new start e.first e.count → e.first + e.count ≤ total → HasReleased start total (extent_blocks (take (i + 1) es)) old new
+  next-released clear keeps within =
+      subst (λ (l : List Extent). HasReleased start total (extent_blocks l) old new) (sym one_more) (released-more start total (take i es) e old mid new h clear keeps within)
+
+  pub next-empty : e.count ≡ 0 → HasReleased start total (extent_blocks (take (i + 1) es)) old mid
+  next-empty empty = subst (λ (l : List Extent). HasReleased start total (extent_blocks l) old mid) (sym one_more) (released-empty start total (take i es) e old mid empty h)

@@ -1,10 +1,9 @@
 //! The allocation blocks of a file that goes.
 
-ghost use Rattle.std.specs.Prelude.{◌≡◌, ◌+◌, OnOk};
-ghost use Rattle.hfs_blocks.specs.Layers.{changes, over, AreWithin};
-ghost use Rattle.hfs_space.specs.Bitmap.{clear_count};
-ghost use Rattle.hfs_space.specs.Extents.{AreExtentsWithin, block_total, extent_blocks};
-ghost use Rattle.hfs_space_edits.specs.Released.{HasReleased, AreAlone};
+ghost use Rattle.std.specs.Prelude.{OnOk};
+ghost use Rattle.hfs_blocks.specs.Layers.{changes, AreWithin};
+ghost use Rattle.hfs_space.specs.Extents.{AreExtentsWithin};
+ghost use Rattle.hfs_space_edits.specs.Released.{HasReleasedOver};
 
 use hfs_blocks::{Blocks, Patch};
 use hfs_fields::Extent;
@@ -12,7 +11,7 @@ use hfs_space::Bitmap;
 use std::alloc::AllocError;
 
 /// Clears the bits of the extents' allocation blocks in the bitmap's blocks with the patch over them: those of a file's two
-/// forks, as `fork_extents` gives them. An extent without blocks clears nothing, wherever it lies.
+/// forks, as `file_extents` gives them. An extent without blocks clears nothing, wherever it lies.
 ///
 /// Where each block is in one extent alone and is marked, as the blocks of a sound volume's file are, so many more bits are
 /// clear afterwards as the extents have blocks.
@@ -26,8 +25,7 @@ pub fn release_extents<B: Blocks>(
     extents: &[Extent],
 ) -> Result<(), AllocError>
     requires { AreExtentsWithin bitmap.now.count extents.now }
-    ensures released { OnOk result (HasReleased bitmap.now.start bitmap.now.count (extent_blocks extents.now) (over (changes patch.old) (B.blocks bitmap.now.blocks.now)) (over (changes patch.new) (B.blocks bitmap.now.blocks.now))) }
-    ensures counted { OnOk result (AreAlone (over (changes patch.old) (B.blocks bitmap.now.blocks.now)) bitmap.now.start (extent_blocks extents.now) → clear_count (over (changes patch.new) (B.blocks bitmap.now.blocks.now)) bitmap.now.start bitmap.now.count ≡ clear_count (over (changes patch.old) (B.blocks bitmap.now.blocks.now)) bitmap.now.start bitmap.now.count + block_total extents.now) }
+    ensures released { OnOk result (HasReleasedOver (B.blocks bitmap.now.blocks.now) bitmap.now.start bitmap.now.count extents.now patch.old patch.new) }
     ensures within { AreWithin (changes patch.old) (B.total bitmap.now.blocks.now) → AreWithin (changes patch.new) (B.total bitmap.now.blocks.now) }
 {
     for i in 0..extents.len() {
