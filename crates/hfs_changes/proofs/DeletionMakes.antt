@@ -268,7 +268,7 @@ module _ (law : ItemsAreRecords) (catalogs : CatalogIsSound) (total dir clear no
     near = near law next id dir a thread r s (catalog_in old) (catalog_in new) sound d.dropped rises;
     files = files;
     items = touched (map.remove (items_in (contents_in old) (catalog_in old)) id) dir now;
-    held = dropped_items law next id dir a thread r s (catalog_in old) (catalog_in new) sound d.dropped (contents_in old) (contents_in old) now (λ k x is folder. refl)
+    held = dropped_items law next id dir a thread r s (catalog_in old) (catalog_in new) sound d.dropped (contents_in old) (contents_in old) now (λ k x other is folder. refl)
         (folder_touched r ((dir_record_of r.1).valence - 1) now d.dropped.edit.folder d.folder_value);
     made = made_step;
     least = h.mdb.next_id;
