@@ -1,0 +1,67 @@
+//! The rows that viewers read.
+ghost use Rattle.std.specs.Prelude.{◌≡◌, IsTrue, IfOk, OnOk, OnErr};
+ghost use Rattle.hfs_model.specs.Step.{step, is_reading};
+
+use crate::table::Table;
+use hfs_model::{Call, Reply, step_keeps_lawful};
+use std::alloc::{AllocError, Global};
+use std::marker::Model;
+
+/// The items of a volume by their IDs and by their names, over the volume's base. Contracts see the volume.
+#[derive(Drop)]
+pub struct Rows {
+    alloc: Global,
+    table: Table,
+}
+
+impl Model for Rows {
+    ghost use Rattle.hfs_model.specs.Volume.{Volume, volume_code};
+
+    ghost Value = { Volume };
+
+    ghost coded = { volume_code };
+
+    ghost use Rattle.hfs_model.specs.Lawful.{IsLawful};
+    ghost use Rattle.hfs_view.specs.Tables.{volume_of, IsTable};
+
+    ghost view = { λ r. volume_of r.table };
+
+    ghost invariant = { λ r. IsTable r.table × IsLawful (volume_of r.table) };
+}
+
+impl Rows {
+    /// Takes in a change. One that is refused leaves the rows, as do calls that read. The only error is want of memory,
+    /// and then the rows are as they were.
+    pub fn absorb(&mut self, call: &Call) -> Result<(), AllocError>
+        ensures ok { OnOk result (self.new ≡ (step self.old call.now).0) }
+        ensures err { OnErr result (self.new ≡ self.old) }
+    {
+        step_keeps_lawful();
+        self.table.absorb(self.alloc, call)
+    }
+
+    /// Answers a call that reads. The only error is want of memory.
+    pub fn read(&self, alloc: Global, call: &Call) -> Result<Reply, AllocError>
+        requires { IsTrue (is_reading call.now) }
+        ensures { IfOk result (λ reply. reply ≡ (step self.now call.now).1) }
+    {
+        let _next = self.table.next_id();
+        match call {
+            Call::GetDirInfo { dir } => Ok(self.table.get_dir_info(*dir)),
+            Call::GetCatInfo { dir, name } => Ok(self.table.get_cat_info(*dir, name.as_slice())),
+            Call::GetIndexed { dir, index } => self.table.get_indexed(alloc, *dir, *index),
+            Call::List { dir } => self.table.list(alloc, *dir),
+            Call::ReadFork {
+                dir,
+                name,
+                fork,
+                offset,
+                count,
+            } => self
+                .table
+                .read_fork(alloc, *dir, name.as_slice(), *fork, *offset, *count),
+            Call::ResolveFileId { id } => Ok(self.table.resolve_file_id(*id)),
+            _ => unreachable!(),
+        }
+    }
+}
