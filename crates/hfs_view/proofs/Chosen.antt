@@ -1,20 +1,14 @@
 -- What the choice of an accepted change says of the volume.
-use Rattle.std.proofs.Common.{◌≡◌, ⊎_elim, ℕ, ◌+◌, Bool, true, false, not, ◌&&◌, eqb, IsTrue, List, ◌++◌, drop, refl, sym, ◌∙◌, ap, subst, Option, Some, None, Result, Ok, Err, ℤ}
-use Rattle.std.specs.Option.{option_map_or, ok_or, is_some}
-use Rattle.std.specs.List.{find}
-use Rattle.std.proofs.lemmas.Bool.{cases_eq, eqb-true, eq-eqb, ne_eqb}
-use Rattle.std.specs.FinMap as map
+use Rattle.std.proofs.Common.{◌≡◌, ℕ, IsTrue, List, refl, ◌∙◌, ap, Some, None, Result, Ok, Err, ℤ}
+use Rattle.std.specs.Option.{ok_or}
+use Rattle.std.proofs.lemmas.Bool.{eqb-true}
 use Rattle.hfs_fields.specs.Order.{same_name}
-use Rattle.hfs_model.specs.declared.item.Item.{Item}
-use Rattle.hfs_model.specs.declared.item.Kind.{Kind}
-use Rattle.hfs_model.specs.Volume.{Volume, Items, Entry}
-use Rattle.hfs_model.specs.Children.{entry_at, is_folder, is_folder_kind, entries_of, child_named, is_child_named}
-use Rattle.hfs_model.specs.Lawful.{Has, IsFolder, AreLawful, IsLawful}
-use Rattle.hfs_model.specs.declared.item.Kind.TheVariants as kind
+use Rattle.hfs_model.specs.Volume.{Volume, Entry}
+use Rattle.hfs_model.specs.Children.{entries_of, child_named, is_child_named}
+use Rattle.hfs_model.specs.Lawful.{Has, IsFolder}
 use Rattle.hfs_model.specs.declared.codes.TheConstants.{NOT_FOUND, FILE_LOCKED}
 use Rattle.hfs_model.specs.Replies.{is_locked_file}
-use Rattle.hfs_model.specs.Choices.{child_to_change, file_to_change, unless_locked_file, to_set_f_info, to_set_cat_info, to_rename, is_taken, is_other_named, and_then, to_create, is_held, is_full, is_locked, lock_code}
-use Rattle.hfs_model.specs.Changes.{set_f_info, set_cat_info, set_lock, with_lock, rename, create, touched, new_item, add, change}
+use Rattle.hfs_model.specs.Choices.{child_to_change, unless_locked_file, and_then, is_locked, lock_code}
 use Rattle.hfs_view.proofs.Facts.{not_refused, found_folder, folder_is, found_has, two_tests}
 
 -- ---- what an accepted change has tested

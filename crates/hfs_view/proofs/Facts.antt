@@ -1,20 +1,19 @@
 -- What the tests of a call say of a volume's map.
-use Rattle.std.proofs.Common.{◌≡◌, ⊎_elim, ℕ, ◌<◌, Bool, true, false, cond, not, ◌&&◌, ◌||◌, IsTrue, List, [], ◌∷◌, refl, sym, ◌∙◌, ap, eqb, Option, Some, None, Result, Ok, Err, ℤ}
+use Rattle.std.proofs.Common.{◌≡◌, ⊎_elim, ℕ, ◌<◌, Bool, true, false, cond, not, ◌&&◌, List, [], ◌∷◌, refl, sym, ◌∙◌, ap, Option, Some, None, Result, Ok, Err, ℤ}
 use Rattle.std.specs.Prelude.{T}
 use Rattle.std.specs.declared.cmp.Ordering.{Ordering}
 use Rattle.std.specs.declared.cmp.Ordering.TheVariants.{Less, Equal, Greater}
 use Rattle.std.specs.FinMap.Entries.{below_all, is_sorted}
 use Rattle.std.specs.Ordering.{nat_cmp, is_eq, is_lt, ordering_reverse}
 use Rattle.std.specs.Cmp.{unsigned_ties, nat_cmp_total}
-use Rattle.std.specs.Option.{option_map_or, unwrap_or, is_some}
+use Rattle.std.specs.Option.{option_map_or, unwrap_or}
 use Rattle.std.specs.List.{find}
 use Rattle.std.specs.FinMap as map
 use Rattle.std.proofs.lemmas.Bool.{cases_eq, eq-eqb, ne_eqb, ltb-true}
-use Rattle.hfs_fields.specs.Order.{same_name}
 use Rattle.hfs_model.specs.declared.item.Item.{Item}
 use Rattle.hfs_model.specs.Volume.{Items, Entry}
 use Rattle.hfs_model.specs.Children.{entry_at, has_id, is_folder, is_folder_kind, valence}
-use Rattle.hfs_model.specs.Choices.{is_held, is_full}
+use Rattle.hfs_model.specs.Choices.{is_full}
 use Rattle.hfs_model.specs.Lawful.{Has, IsFolder}
 
 pub true_false : (b : Bool) → b ≡ true → b ≡ false → ⊥

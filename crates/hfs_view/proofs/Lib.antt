@@ -13,3 +13,7 @@ pub mod Added
 pub mod Created
 pub mod Moved
 pub mod Gone
+pub mod Numbers
+pub mod Finder
+pub mod Opened
+pub mod Made

@@ -1,18 +1,16 @@
 -- What a list holds.
-use Rattle.std.proofs.Common.{◌≡◌, ◌⊎◌, inl, inr, ⊎_elim, ℕ, zero, suc, ◌<◌, Bool, true, false, cond, ◌&&◌, List, [], ◌∷◌, length, get_or, fold, refl, sym, ◌∙◌, ap, subst, arith, Some, None}
+use Rattle.std.proofs.Common.{◌≡◌, ◌⊎◌, inl, inr, ⊎_elim, ℕ, zero, suc, ◌<◌, Bool, true, false, cond, ◌&&◌, List, [], ◌∷◌, length, get_or, refl, sym, ◌∙◌, ap, arith, Some, None}
 use Rattle.std.specs.Prelude.{T}
 use Rattle.std.specs.declared.cmp.Ordering.{Ordering}
 use Rattle.std.specs.declared.cmp.Ordering.TheVariants.{Less, Equal, Greater}
-use Rattle.std.specs.Ordering.{nat_cmp, is_lt, is_eq, is_gt}
+use Rattle.std.specs.Ordering.{nat_cmp, is_lt, is_eq}
 use Rattle.std.specs.Cmp.{unsigned_ties}
 use Rattle.std.specs.List.{Contains}
 use Rattle.std.specs.FinMap as map
 use Rattle.std.specs.FinMap.Entries.{below_all, is_sorted}
 use Rattle.std.proofs.lemmas.Bool.{cases_eq, eq-eqb, ne_eqb}
-use Rattle.hfs_fields.specs.Order.{name_cmp}
 use Rattle.hfs_model.specs.declared.item.Item.{Item}
 use Rattle.hfs_model.specs.Volume.{Items, Entry}
-use Rattle.hfs_model.specs.Children.{place, place_child, is_child}
 use Rattle.hfs_model.specs.Lawful.{Has}
 use Rattle.hfs_view.proofs.Facts.{none_is_some, same_some, true_false}
 

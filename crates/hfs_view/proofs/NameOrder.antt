@@ -6,7 +6,6 @@ use Rattle.std.specs.declared.cmp.Ordering.TheVariants.{Less, Equal, Greater}
 use Rattle.std.specs.Ordering.{nat_cmp, is_lt}
 use Rattle.std.specs.Cmp.Lexicographic.{slice_cmp}
 use Rattle.std.specs.FinMap.Entries.{is_sorted, below_all}
-use Rattle.std.specs.List.{AllPairs}
 use Rattle.hfs_fields.specs.Order.{folded, name_cmp}
 use Rattle.hfs_model.specs.Volume.{Entry}
 

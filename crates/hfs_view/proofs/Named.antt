@@ -21,7 +21,7 @@ use Rattle.hfs_fields.specs.Order.{folded, name_cmp, same_name}
 use Rattle.hfs_model.specs.declared.item.Item.{Item}
 use Rattle.hfs_model.specs.Volume.{Volume, Items, Entry}
 use Rattle.hfs_model.specs.Children.{entry_at, has_id, child_named, is_child_named, children}
-use Rattle.hfs_model.specs.Lawful.{Has, AreLawful, IsLawful}
+use Rattle.hfs_model.specs.Lawful.{Has, IsLawful}
 use Rattle.hfs_model.specs.Laws.{AreChildren, ChildrenAreOne}
 use Rattle.hfs_model.specs.Replies.{info_of, infos}
 use Rattle.hfs_view.proofs.Facts.{true_false, none_is_some, same_some, found_has, no_entry, two_tests}

@@ -2,3 +2,4 @@ pub mod Places
 pub mod Tables
 pub mod Names
 pub mod Edits
+pub mod Opened

@@ -5,9 +5,13 @@
 mod changes;
 mod choices;
 mod edits;
+mod kept;
+mod locks;
+mod opening;
 mod place;
 mod row;
 mod rows;
 mod table;
+mod threads;
 
 pub use rows::Rows;

@@ -1,9 +1,15 @@
 //! The rows that viewers read.
 ghost use Rattle.std.specs.Prelude.{◌≡◌, IsTrue, IfOk, OnOk, OnErr};
+ghost use Rattle.hfs_check.specs.VolumeOf.{volume_of};
 ghost use Rattle.hfs_model.specs.Step.{step, is_reading};
 
+use crate::opening::Maps;
 use crate::table::Table;
+use crate::threads::ThreadIds;
+use hfs_catalog::{items_are_records, named_are_records, valences_are_counted};
+use hfs_check::{catalog_is_sound, sound_images_are_lawful};
 use hfs_model::{Call, Reply, step_keeps_lawful};
+use hfs_volume::{Volume, file_forks_stay};
 use std::alloc::{AllocError, Global};
 use std::marker::Model;
 
@@ -22,14 +28,33 @@ impl Model for Rows {
     ghost coded = { volume_code };
 
     ghost use Rattle.hfs_model.specs.Lawful.{IsLawful};
-    ghost use Rattle.hfs_view.specs.Tables.{volume_of, IsTable};
+    ghost use Rattle.hfs_view.specs.Tables.{IsTable};
+    ghost use Rattle.hfs_view.specs.Tables as tables;
 
-    ghost view = { λ r. volume_of r.table };
+    ghost view = { λ r. tables.volume_of r.table };
 
-    ghost invariant = { λ r. IsTable r.table × IsLawful (volume_of r.table) };
+    ghost invariant = { λ r. IsTable r.table × IsLawful (tables.volume_of r.table) };
 }
 
 impl Rows {
+    /// The rows of a volume as it is now, over the bytes as they were mounted. The only error is want of memory.
+    pub fn of(alloc: Global, volume: &Volume) -> Result<Rows, AllocError>
+        ensures { IfOk result (λ rows. rows ≡ volume_of volume.now.current) }
+    {
+        items_are_records();
+        named_are_records();
+        valences_are_counted();
+        catalog_is_sound();
+        sound_images_are_lawful();
+        file_forks_stay();
+        let base = volume.base()?;
+        let records = volume.records(alloc)?;
+        let threads = ThreadIds::of(alloc, &records)?;
+        let maps = Maps::of(alloc, volume, &threads, records)?;
+        let table = Table::over(base, volume.directory(), maps);
+        Ok(Rows { alloc, table })
+    }
+
     /// Takes in a change. One that is refused leaves the rows, as do calls that read. The only error is want of memory,
     /// and then the rows are as they were.
     pub fn absorb(&mut self, call: &Call) -> Result<(), AllocError>

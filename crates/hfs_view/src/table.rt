@@ -11,8 +11,11 @@ ghost use Rattle.hfs_model.specs.Lawful.{Has, IsLawful};
 ghost use Rattle.hfs_model.specs.Reading.{get_dir_info, get_cat_info, get_indexed, list, read_fork, part_of};
 ghost use Rattle.hfs_model.specs.Replies.{refusal, success, info_of, infos};
 ghost use Rattle.hfs_space.specs.Forks.{read_from};
+ghost use Rattle.hfs_view.specs.Opened.{table_over};
 ghost use Rattle.hfs_view.specs.Tables.{bytes_of, item_of, kind_of, items_of, volume_of, IsForkIn, IsKindOf, IsTable};
 
+use crate::locks::{is_hardware_locked, is_software_locked};
+use crate::opening::Maps;
 use crate::place::Place;
 use crate::row::{Row, RowFork, RowKind};
 use hfs_blocks::ImageBytes;
@@ -78,6 +81,23 @@ fn part_reply(bytes: Vec<u8>, size: u32, offset: u32, count: u32) -> Reply
 }
 
 impl Table {
+    /// The table of these rows over a base, in a volume whose master directory block this is.
+    pub(crate) fn over(base: Base, mdb: Mdb, maps: Maps) -> Table
+        ensures { result ≡ table_over base mdb maps }
+    {
+        let Maps { by_id, by_name } = maps;
+        Table {
+            base,
+            mdb,
+            by_id,
+            by_name,
+            next_id: mdb.next_id,
+            changed: mdb.modified,
+            hardware_locked: is_hardware_locked(mdb.attributes),
+            software_locked: is_software_locked(mdb.attributes),
+        }
+    }
+
     /// The ID that the next new item gets.
     pub fn next_id(&self) -> u32
         ensures next { result ≡ self.now.next_id }

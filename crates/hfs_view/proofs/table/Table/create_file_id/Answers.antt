@@ -1,4 +1,4 @@
-use Rattle.std.proofs.Common.{true, false, refl, subst}
+use Rattle.std.proofs.Common.{true, refl, subst}
 use Rattle.hfs_model.specs.declared.item.Item.{Item}
 use Rattle.hfs_model.specs.Volume.{Volume}
 use Rattle.hfs_model.specs.FileIds as model

@@ -1,11 +1,9 @@
-use Rattle.std.proofs.Common.{true, false, refl, subst}
+use Rattle.std.proofs.Common.{false, refl}
 use Rattle.hfs_model.specs.declared.item.Item.{Item}
-use Rattle.hfs_model.specs.Volume.{Volume}
 use Rattle.hfs_model.specs.FileIds as model
 use Rattle.hfs_model.specs.FileIds.{delete_file_id, set_thread}
-use Rattle.hfs_view.specs.Edits.{Leaves, with_thread}
-use Rattle.hfs_view.specs.Tables.{volume_of}
-use Rattle.hfs_view.proofs.Left.{refused, written, thread_shown, thread_shape, change_to_id_is}
+use Rattle.hfs_view.specs.Edits.{with_thread}
+use Rattle.hfs_view.proofs.Left.{refused, written, thread_shown, thread_shape}
 use Rattle.hfs_view.proofs.table.Table.delete_file_id.Goals as goal
 
 pub returns-in-Err : goal.returns-in-Err
