@@ -17,3 +17,4 @@ pub mod Numbers
 pub mod Finder
 pub mod Opened
 pub mod Made
+pub mod Above

@@ -47,10 +47,6 @@ kind_threaded there (File file) = File (record file { kept = with_thread_bit the
 abbrev pub with_thread : Bool → Row → Row
 with_thread there r = record r { kind = kind_threaded there r.kind }
 
--- modified now
-abbrev pub touched_row : ℕ → Row → Row
-touched_row now r = record r { modified = now }
-
 -- ---- choices
 
 -- the entry of a row that was chosen, or the same code

@@ -1,6 +1,6 @@
 //! What each change makes of a table. A change that `step` refuses leaves it.
 ghost use Rattle.std.specs.Prelude.{◌≡◌, OnOk, OnErr};
-ghost use Rattle.hfs_model.specs.Changes.{set_f_info, set_cat_info, set_lock, create, delete, rename, cat_move, new_file, new_folder};
+ghost use Rattle.hfs_model.specs.Changes.{set_f_info, set_cat_info, set_lock, create, delete, new_file, new_folder};
 ghost use Rattle.hfs_model.specs.FileIds.{create_file_id, delete_file_id};
 ghost use Rattle.hfs_model.specs.Lawful.{AreLawful};
 ghost use Rattle.hfs_model.specs.Step.{step};
@@ -150,39 +150,6 @@ impl Table {
         self.add(kind, dir, name, now)
     }
 
-    /// Gives an item another name. The only error is want of memory, and then the items are as they were.
-    pub fn rename(
-        &mut self,
-        dir: u32,
-        name: &[u8],
-        new_name: &[u8],
-        now: u32,
-    ) -> Result<(), AllocError>
-        requires { IsTable self.old }
-        ensures ok { OnOk result (Leaves self.new (rename (volume_of self.old) dir name.now new_name.now now).0) }
-        ensures err { OnErr result (Leaves self.new (volume_of self.old)) }
-    {
-        let found = match self.to_rename(dir, name, new_name) {
-            Ok(found) => found,
-            Err(_) => return Ok(()),
-        };
-        let Some(new_name) = Name::new(new_name) else {
-            unreachable!()
-        };
-        let id = found.id;
-        let from = found.row.place();
-        let to = Place {
-            parent: from.parent,
-            name: new_name,
-        };
-        let Ok(()) = edits::move_name(&mut self.by_name, id, &from, to) else {
-            return Err(AllocError);
-        };
-        edits::set_name(&mut self.by_id, id, new_name);
-        self.changed = now;
-        Ok(())
-    }
-
     /// Takes an item out.
     pub fn delete(&mut self, dir: u32, name: &[u8], now: u32)
         requires { IsTable self.old }
@@ -198,38 +165,6 @@ impl Table {
         self.by_id.remove(&id);
         edits::drop_child(&mut self.by_id, dir, now);
         self.changed = now;
-    }
-
-    /// Puts an item into another folder. The only error is want of memory, and then the items are as they were.
-    pub fn cat_move(
-        &mut self,
-        dir: u32,
-        name: &[u8],
-        new_dir: u32,
-        now: u32,
-    ) -> Result<(), AllocError>
-        requires { IsTable self.old }
-        ensures ok { OnOk result (Leaves self.new (cat_move (volume_of self.old) dir name.now new_dir now).0) }
-        ensures err { OnErr result (Leaves self.new (volume_of self.old)) }
-    {
-        let found = match self.to_move(dir, name, new_dir) {
-            Ok(found) => found,
-            Err(_) => return Ok(()),
-        };
-        let id = found.id;
-        let from = found.row.place();
-        let to = Place {
-            parent: new_dir,
-            name: from.name,
-        };
-        let Ok(()) = edits::move_name(&mut self.by_name, id, &from, to) else {
-            return Err(AllocError);
-        };
-        edits::set_parent(&mut self.by_id, id, new_dir);
-        edits::drop_child(&mut self.by_id, dir, now);
-        edits::add_child(&mut self.by_id, new_dir, now);
-        self.changed = now;
-        Ok(())
     }
 
     /// Takes in a change. One that is refused leaves the table, as do calls that read. The only error is want of memory,

@@ -221,21 +221,23 @@ impl Table {
     }
 
     /// Whether `up` stands at most `steps` parents up from `dir`.
-    #[tactic(auto, unfolding(hfs_model::specs::Choices::lies_in))]
     fn lies_in(&self, steps: usize, dir: u32, up: u32) -> bool
         requires { IsTable self.now }
         ensures { result ≡ lies_in (finite.entries (items_of self.now)) steps dir up }
     {
-        if dir == up {
-            return true;
+        let mut at = dir;
+        let mut left = steps;
+        while at != up {
+            if left == 0 {
+                return false;
+            }
+            let Some(row) = self.row(at) else {
+                return false;
+            };
+            at = row.parent;
+            left -= 1;
         }
-        if steps == 0 {
-            return false;
-        }
-        match self.row(dir) {
-            None => false,
-            Some(row) => self.lies_in(steps - 1, row.parent, up),
-        }
+        true
     }
 
     /// The number of items.

@@ -3,7 +3,7 @@ ghost use Rattle.std.specs.Prelude.{◌≡◌, ℕ, List, Some, OnOk, OnErr};
 ghost use Rattle.std.specs.Ordering.{nat_cmp};
 ghost use Rattle.std.specs.BTreeMap as tree;
 ghost use Rattle.hfs_view.specs.declared.row.Row.{Row};
-ghost use Rattle.hfs_view.specs.Edits.{Writes, with_finder, with_info, with_lock, with_thread, touched_row, with_child, HasRoom, new_row, IsNew, without_child, with_name, with_parent, Moves, IsAsBefore};
+ghost use Rattle.hfs_view.specs.Edits.{Writes, with_finder, with_info, with_lock, with_thread, with_child, HasRoom, new_row, IsNew, without_child, with_name, with_parent, Moves, IsAsBefore};
 ghost use Rattle.hfs_view.specs.Places.{place_cmp};
 ghost use Rattle.hfs_fields.specs.declared.mdb.Mdb.{Mdb};
 ghost use Rattle.hfs_model.specs.Changes.{new_file, new_folder};
@@ -15,15 +15,6 @@ use crate::row::{Row, RowFile, RowFork, RowKind};
 use hfs_fields::{FileFlags, Name};
 use std::alloc::{AllocError, Global};
 use std::collections::BTreeMap;
-
-/// Sets a row's modified date.
-pub fn touch(rows: &mut BTreeMap<u32, Row>, id: u32, now: u32)
-    ensures { Writes (touched_row now) id rows.old rows.new }
-{
-    if let Some(row) = rows.get_mut(&id) {
-        row.modified = now;
-    }
-}
 
 /// Sets the first half of a row's Finder bytes.
 pub fn set_finder(rows: &mut BTreeMap<u32, Row>, id: u32, info: &[u8; 16])

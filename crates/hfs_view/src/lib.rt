@@ -7,6 +7,7 @@ mod choices;
 mod edits;
 mod kept;
 mod locks;
+mod moving;
 mod opening;
 mod place;
 mod row;

@@ -133,14 +133,14 @@ impl Maps {
         alloc: Global,
         volume: &Volume,
         threads: &ThreadIds,
-        record: &CatalogRecord,
+        entry: &CatalogRecord,
     ) -> Result<(), AllocError>
-        requires right { IsRight volume.now.base volume.now.current (volume_of volume.now.current).items record.now }
+        requires right { IsRight volume.now.base volume.now.current (volume_of volume.now.current).items entry.now }
         requires threads { (id : ℕ) → has_number threads.now id ≡ has_thread (catalog_in (block_at volume.now.current)) id }
-        ensures { OnOk result ((done : Catalog) → AreRowsOf volume.now.base volume.now.current done self.old → AreRowsOf volume.now.base volume.now.current (record.now ∷ done) self.new) }
+        ensures { OnOk result ((done : Catalog) → AreRowsOf volume.now.base volume.now.current done self.old → AreRowsOf volume.now.base volume.now.current (entry.now ∷ done) self.new) }
     {
-        let key = record.key();
-        let body = record.body();
+        let key = entry.key();
+        let body = entry.body();
         if is_folder(body) {
             let Some(folder) = DirRecord::read(body) else {
                 unreachable!()

@@ -37,11 +37,11 @@ impl ThreadIds {
     }
 
     /// Takes the ID of a record, if it is a thread.
-    fn take(&mut self, record: &CatalogRecord) -> Result<(), AllocError>
-        ensures { OnOk result ((id : ℕ) → has_number self.new id ≡ (has_number self.old id || is_thread_of id record.now)) }
+    fn take(&mut self, entry: &CatalogRecord) -> Result<(), AllocError>
+        ensures { OnOk result ((id : ℕ) → has_number self.new id ≡ (has_number self.old id || is_thread_of id entry.now)) }
     {
-        if is_thread(record.body()) {
-            self.add(record.key().parent)?;
+        if is_thread(entry.body()) {
+            self.add(entry.key().parent)?;
         }
         Ok(())
     }
