@@ -14,3 +14,7 @@ pub mod SeenForks
 pub mod Openings
 pub mod SavedPieces
 pub mod Kept
+pub mod Shared
+pub mod StayingBlocks
+pub mod Owned
+pub mod OwnedStay

@@ -7,3 +7,4 @@ pub mod Mounted
 pub mod LeftBytes
 pub mod Opening
 pub mod Saving
+pub mod Sharing

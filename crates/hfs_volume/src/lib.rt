@@ -3,6 +3,7 @@
 
 mod base;
 mod fork;
+mod fork_laws;
 mod image;
 mod image_nodes;
 mod laws;
@@ -14,6 +15,7 @@ mod saving;
 mod volume;
 
 pub use base::Base;
+pub use fork_laws::file_forks_stay;
 pub use hfs_check::{Alternate, MountFault, Report, report};
 pub use hfs_format::{FormatFault, FormatPlan, format};
 pub use image::{Image, ImageBlocks};

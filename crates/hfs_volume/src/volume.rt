@@ -36,6 +36,8 @@ use std::alloc::{AllocError, Global};
 use std::io::Write;
 use std::marker::Model;
 
+mod sharing;
+
 /// A mounted volume. Contracts see its image as it was mounted, and as it is; both are sound, and nothing in the latter but
 /// what calls change differs from the former.
 #[derive(Drop)]

@@ -1,0 +1,5 @@
+pub mod Places
+pub mod Tables
+pub mod Names
+pub mod Edits
+pub mod Opened

@@ -1,0 +1,75 @@
+-- The rows that a catalog's records make.
+use Rattle.std.specs.Prelude.{◌≡◌, ℕ, Bool, IsTrue, nat_eq, List, Some}
+use Rattle.std.specs.List.{list_any}
+use Rattle.std.specs.Ordering.{nat_cmp}
+use Rattle.std.specs.Option.{option_map}
+use Rattle.std.specs.FinMap as finite
+use Rattle.std.specs.BTreeMap as tree
+use Rattle.hfs_blocks.specs.Blocks.{block_at}
+use Rattle.hfs_fields.specs.declared.mdb.Mdb.{Mdb}
+use Rattle.hfs_fields.specs.Records.{is_dir, is_file, item_id, is_bit_set, dir_record_of, file_record_of}
+use Rattle.hfs_model.specs.declared.item.Item.{Item}
+use Rattle.hfs_model.specs.Volume.{Items}
+use Rattle.hfs_model.specs.Children.{valence}
+use Rattle.hfs_catalog.specs.Records.{Record, Catalog, item_with}
+use Rattle.hfs_catalog.specs.Items.{Contents}
+use Rattle.hfs_catalog.specs.Items as records
+use Rattle.hfs_catalog.specs.Lookups.{child_named}
+use Rattle.hfs_check.specs.Parts.{mdb_in, catalog_in}
+use Rattle.hfs_check.specs.VolumeOf.{contents_in, volume_of}
+use Rattle.hfs_volume.specs.Sharing.{ForksStay}
+use Rattle.hfs_volume.specs.Mounted.{AreForksIn}
+use Rattle.hfs_view.specs.declared.place.Place.{Place}
+use Rattle.hfs_view.specs.declared.row.Row.{Row}
+use Rattle.hfs_view.specs.declared.opening.Maps.{Maps}
+use Rattle.hfs_view.specs.declared.table.Table.{Table}
+use Rattle.hfs_view.specs.Places.{place, place_cmp}
+use Rattle.hfs_view.specs.Tables.{item_of, IsKindOf}
+
+-- whether the number is one of these
+abbrev pub has_number : List ℕ → ℕ → Bool
+has_number numbers id = list_any (nat_eq id) numbers
+
+-- a record of an image: a folder's has the number of its children; a file's forks lie in the volume, and are the base's
+pub record IsRight (base image : List ℕ) (items : Items) (r : Record) : Type 0 where
+  pub valence_is : IsTrue (is_dir r.1) → (dir_record_of r.1).valence ≡ valence (finite.entries items) (item_id r.1)
+  pub forks : IsTrue (is_file r.1) → AreForksIn (block_at image) (file_record_of r.1)
+  pub stay : IsTrue (is_file r.1) → ForksStay base image (file_record_of r.1)
+
+-- the row shows this item, and has its children's number or forks that lie in the volume
+pub record Shows (base : List ℕ) (mdb : Mdb) (items : Items) (id : ℕ) (item : Item) (row : Row) : Type 0 where
+  pub item_is : item_of base mdb row ≡ item
+  pub kind : IsKindOf items mdb id row.kind
+
+-- a row more, under its ID and at its place
+pub record Enters (id : ℕ) (row : Row) (old new : Maps) : Type 0 where
+  pub sorted_ids : tree.IsOrdered nat_cmp new.by_id
+  pub sorted_names : tree.IsOrdered place_cmp new.by_name
+  pub ids : tree.Updates nat_cmp old.by_id new.by_id id (Some row)
+  pub names : tree.Updates place_cmp old.by_name new.by_name (place row.parent row.name) (Some id)
+
+-- these are the rows of these records, by their IDs and by their places
+pub record AreRows (base : List ℕ) (mdb : Mdb) (items : Items) (contents : Contents) (catalog done : Catalog) (maps : Maps) : Type 0 where
+  pub sorted_ids : tree.IsOrdered nat_cmp maps.by_id
+  pub sorted_names : tree.IsOrdered place_cmp maps.by_name
+  pub ids : (q : ℕ) → option_map (item_of base mdb) (tree.get nat_cmp maps.by_id q) ≡ option_map (records.item_of contents catalog) (item_with done q)
+  pub names : (p : Place) → tree.get place_cmp maps.by_name p ≡ option_map (λ (r : Record). item_id r.1) (child_named done p.parent p.name)
+  pub kinds : (q : ℕ) (row : Row) → tree.get nat_cmp maps.by_id q ≡ Some row → IsKindOf items mdb q row.kind
+
+-- these are the rows of these records of an image, over the base
+abbrev pub AreRowsOf : List ℕ → List ℕ → Catalog → Maps → Type 0
+AreRowsOf base image done maps =
+    AreRows base (mdb_in (block_at image)) (volume_of image).items (contents_in (block_at image)) (catalog_in (block_at image)) done maps
+
+-- the table of these rows, in a volume whose master directory block this is
+abbrev pub table_over : List ℕ → Mdb → Maps → Table
+table_over base mdb maps = record {
+  base = base;
+  mdb = mdb;
+  by_id = maps.by_id;
+  by_name = maps.by_name;
+  next_id = mdb.next_id;
+  changed = mdb.modified;
+  hardware_locked = is_bit_set 7 mdb.attributes.0;
+  software_locked = is_bit_set 15 mdb.attributes.0;
+}

@@ -1,0 +1,18 @@
+//! The rows that viewers read: a volume's items by their IDs and by their names, over the base that it shares. They answer
+//! the calls that read with no lock, and take in the changes that were accepted.
+#![tactic(auto)]
+
+mod changes;
+mod choices;
+mod edits;
+mod kept;
+mod locks;
+mod moving;
+mod opening;
+mod place;
+mod row;
+mod rows;
+mod table;
+mod threads;
+
+pub use rows::Rows;

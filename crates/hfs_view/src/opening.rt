@@ -1,0 +1,182 @@
+//! The rows of a volume's catalog.
+ghost use Rattle.std.specs.Prelude.{◌≡◌, ℕ, [], ◌∷◌, ◌++◌, Bool, List, IfOk, OnOk};
+ghost use Rattle.std.specs.FinMap as finite;
+ghost use Rattle.std.specs.BTreeMap as tree;
+ghost use Rattle.hfs_fields.specs.declared.mdb.Mdb.{Mdb};
+ghost use Rattle.hfs_fields.specs.Records.{is_item, item_id};
+ghost use Rattle.hfs_blocks.specs.Blocks.{block_at};
+ghost use Rattle.hfs_scans.specs.Each.{Each};
+ghost use Rattle.hfs_catalog.specs.Items as records;
+ghost use Rattle.hfs_catalog.specs.Items.{folder_kept, folder_of, file_of};
+ghost use Rattle.hfs_catalog.specs.Records.{Catalog, has_thread};
+ghost use Rattle.hfs_check.specs.Parts.{mdb_in, catalog_in};
+ghost use Rattle.hfs_check.specs.VolumeOf.{contents_in, volume_of};
+ghost use Rattle.hfs_model.specs.Volume.{Items};
+ghost use Rattle.hfs_volume.specs.Mounted.{fork_record, AreForksIn};
+ghost use Rattle.hfs_volume.specs.Sharing.{file_extents, ForksStay};
+ghost use Rattle.hfs_view.specs.Opened.{has_number, IsRight, Enters, AreRowsOf};
+ghost use Rattle.hfs_model.specs.Children.{valence};
+ghost use Rattle.hfs_view.specs.Tables.{item_of, IsKindOf};
+
+use crate::kept::{file_kept, folder_kept};
+use crate::place::Place;
+use crate::row::{Row, RowFile, RowFork, RowKind};
+use crate::threads::ThreadIds;
+use hfs_catalog::{CatalogRecord, is_file, is_folder};
+use hfs_fields::{CatKey, DirRecord, FileRecord};
+use hfs_model::Fork;
+use hfs_volume::Volume;
+use std::alloc::{AllocError, Global};
+use std::collections::BTreeMap;
+
+/// Rows by their IDs, and their IDs by the places of their items.
+#[derive(Drop)]
+pub struct Maps {
+    pub by_id: BTreeMap<u32, Row>,
+    pub by_name: BTreeMap<Place, u32>,
+}
+
+/// The 32 Finder bytes of an item, which stand in two places of its record.
+fn finder_bytes(info: &[u8; 16], extended: &[u8; 16]) -> [u8; 32]
+    ensures { result ≡ info.now ++ extended.now }
+{
+    let mut all = [0; 32];
+    all[..16].copy_from_slice(info);
+    all[16..].copy_from_slice(extended);
+    all
+}
+
+/// The row of a folder's record.
+#[tactic(auto, unfolding(hfs_catalog::specs::Items::folder_of))]
+fn folder_row(key: &CatKey, folder: &DirRecord) -> Row
+    ensures shows { (base : List ℕ) (mdb : Mdb) → item_of base mdb result ≡ folder_of key.now folder.now }
+    ensures kind { (items : Items) (mdb : Mdb) (id : ℕ) → folder.now.valence ≡ valence (finite.entries items) id → IsKindOf items mdb id result.kind }
+{
+    Row {
+        parent: key.parent,
+        name: key.name,
+        created: folder.created,
+        modified: folder.modified,
+        backup: folder.backup,
+        finder: finder_bytes(&folder.finder_info, &folder.extended_finder_info),
+        kind: RowKind::Folder {
+            kept: folder_kept(folder),
+            children: u32::from(folder.valence),
+        },
+    }
+}
+
+/// The row of one of a file's forks, with all its extents. The only error is want of memory.
+fn fork_row(
+    alloc: Global,
+    volume: &Volume,
+    file: &FileRecord,
+    fork: Fork,
+) -> Result<RowFork, AllocError>
+    ensures extents { IfOk result (λ f. f.extents.items ≡ file_extents (block_at volume.now.current) fork file.now) }
+    ensures size { IfOk result (λ f. f.size ≡ (fork_record fork file.now).1.length) }
+{
+    let extents = volume.file_extents(alloc, file, fork)?;
+    let size = match fork {
+        Fork::DataFork => file.data.length,
+        Fork::ResFork => file.resource.length,
+    };
+    Ok(RowFork { extents, size })
+}
+
+/// The row of a file's record. The only error is want of memory.
+fn file_row(
+    alloc: Global,
+    volume: &Volume,
+    has_thread: bool,
+    key: &CatKey,
+    file: &FileRecord,
+) -> Result<Row, AllocError>
+    requires forks { AreForksIn (block_at volume.now.current) file.now }
+    requires stay { ForksStay volume.now.base volume.now.current file.now }
+    ensures shows { IfOk result (λ r. item_of volume.now.base (mdb_in (block_at volume.now.current)) r ≡ file_of has_thread (contents_in (block_at volume.now.current) file.now) key.now file.now) }
+    ensures kind { IfOk result (λ r. (items : Items) (id : ℕ) → IsKindOf items (mdb_in (block_at volume.now.current)) id r.kind) }
+{
+    let data = fork_row(alloc, volume, file, Fork::DataFork)?;
+    let resource = fork_row(alloc, volume, file, Fork::ResFork)?;
+    Ok(Row {
+        parent: key.parent,
+        name: key.name,
+        created: file.created,
+        modified: file.modified,
+        backup: file.backup,
+        finder: finder_bytes(&file.finder_info, &file.extended_finder_info),
+        kind: RowKind::File(RowFile {
+            kept: file_kept(file),
+            locked: file.flags.is_locked(),
+            has_thread,
+            data,
+            resource,
+        }),
+    })
+}
+
+impl Maps {
+    /// Puts a row under its ID and at its place. The only error is want of memory.
+    fn enter(&mut self, id: u32, row: Row) -> Result<(), AllocError>
+        ensures { OnOk result (Enters id row self.old self.new) }
+    {
+        self.by_name.insert(row.place(), id)?;
+        self.by_id.insert(id, row)?;
+        Ok(())
+    }
+
+    /// Takes in a record of the volume's catalog, if it is an item's. The only error is want of memory.
+    #[tactic(auto, unfolding(hfs_fields::specs::Records::begins_dir, hfs_fields::specs::Records::begins_file))]
+    fn take(
+        &mut self,
+        alloc: Global,
+        volume: &Volume,
+        threads: &ThreadIds,
+        entry: &CatalogRecord,
+    ) -> Result<(), AllocError>
+        requires right { IsRight volume.now.base volume.now.current (volume_of volume.now.current).items entry.now }
+        requires threads { (id : ℕ) → has_number threads.now id ≡ has_thread (catalog_in (block_at volume.now.current)) id }
+        ensures { OnOk result ((done : Catalog) → AreRowsOf volume.now.base volume.now.current done self.old → AreRowsOf volume.now.base volume.now.current (entry.now ∷ done) self.new) }
+    {
+        let key = entry.key();
+        let body = entry.body();
+        if is_folder(body) {
+            let Some(folder) = DirRecord::read(body) else {
+                unreachable!()
+            };
+            return self.enter(folder.id, folder_row(key, &folder));
+        }
+        if is_file(body) {
+            let Some(file) = FileRecord::read(body) else {
+                unreachable!()
+            };
+            let row = file_row(alloc, volume, threads.has(file.id), key, &file)?;
+            return self.enter(file.id, row);
+        }
+        Ok(())
+    }
+
+    /// The rows of a volume's catalog, whose records these are. The only error is want of memory.
+    pub fn of(
+        alloc: Global,
+        volume: &Volume,
+        threads: &ThreadIds,
+        records: Vec<CatalogRecord>,
+    ) -> Result<Maps, AllocError>
+        requires records { records.items ≡ catalog_in (block_at volume.now.current) }
+        requires right { Each (IsRight volume.now.base volume.now.current (volume_of volume.now.current).items) (catalog_in (block_at volume.now.current)) }
+        requires threads { (id : ℕ) → has_number threads.now id ≡ has_thread (catalog_in (block_at volume.now.current)) id }
+        ensures { IfOk result (AreRowsOf volume.now.base volume.now.current (catalog_in (block_at volume.now.current))) }
+    {
+        let mut records = records;
+        let mut maps = Maps {
+            by_id: BTreeMap::new(alloc),
+            by_name: BTreeMap::new(alloc),
+        };
+        while let Some(record) = records.pop() {
+            maps.take(alloc, volume, threads, &record)?;
+        }
+        Ok(maps)
+    }
+}

@@ -1,0 +1,92 @@
+//! The rows that viewers read.
+ghost use Rattle.std.specs.Prelude.{◌≡◌, IsTrue, IfOk, OnOk, OnErr};
+ghost use Rattle.hfs_check.specs.VolumeOf.{volume_of};
+ghost use Rattle.hfs_model.specs.Step.{step, is_reading};
+
+use crate::opening::Maps;
+use crate::table::Table;
+use crate::threads::ThreadIds;
+use hfs_catalog::{items_are_records, named_are_records, valences_are_counted};
+use hfs_check::{catalog_is_sound, sound_images_are_lawful};
+use hfs_model::{Call, Reply, step_keeps_lawful};
+use hfs_volume::{Volume, file_forks_stay};
+use std::alloc::{AllocError, Global};
+use std::marker::Model;
+
+/// The items of a volume by their IDs and by their names, over the volume's base. Contracts see the volume.
+#[derive(Drop)]
+pub struct Rows {
+    alloc: Global,
+    table: Table,
+}
+
+impl Model for Rows {
+    ghost use Rattle.hfs_model.specs.Volume.{Volume, volume_code};
+
+    ghost Value = { Volume };
+
+    ghost coded = { volume_code };
+
+    ghost use Rattle.hfs_model.specs.Lawful.{IsLawful};
+    ghost use Rattle.hfs_view.specs.Tables.{IsTable};
+    ghost use Rattle.hfs_view.specs.Tables as tables;
+
+    ghost view = { λ r. tables.volume_of r.table };
+
+    ghost invariant = { λ r. IsTable r.table × IsLawful (tables.volume_of r.table) };
+}
+
+impl Rows {
+    /// The rows of a volume as it is now, over the bytes as they were mounted. The only error is want of memory.
+    pub fn of(alloc: Global, volume: &Volume) -> Result<Rows, AllocError>
+        ensures { IfOk result (λ rows. rows ≡ volume_of volume.now.current) }
+    {
+        items_are_records();
+        named_are_records();
+        valences_are_counted();
+        catalog_is_sound();
+        sound_images_are_lawful();
+        file_forks_stay();
+        let base = volume.base()?;
+        let records = volume.records(alloc)?;
+        let threads = ThreadIds::of(alloc, &records)?;
+        let maps = Maps::of(alloc, volume, &threads, records)?;
+        let table = Table::over(base, volume.directory(), maps);
+        Ok(Rows { alloc, table })
+    }
+
+    /// Takes in a change. One that is refused leaves the rows, as do calls that read. The only error is want of memory,
+    /// and then the rows are as they were.
+    pub fn absorb(&mut self, call: &Call) -> Result<(), AllocError>
+        ensures ok { OnOk result (self.new ≡ (step self.old call.now).0) }
+        ensures err { OnErr result (self.new ≡ self.old) }
+    {
+        step_keeps_lawful();
+        self.table.absorb(self.alloc, call)
+    }
+
+    /// Answers a call that reads. The only error is want of memory.
+    pub fn read(&self, alloc: Global, call: &Call) -> Result<Reply, AllocError>
+        requires { IsTrue (is_reading call.now) }
+        ensures { IfOk result (λ reply. reply ≡ (step self.now call.now).1) }
+    {
+        let _next = self.table.next_id();
+        match call {
+            Call::GetDirInfo { dir } => Ok(self.table.get_dir_info(*dir)),
+            Call::GetCatInfo { dir, name } => Ok(self.table.get_cat_info(*dir, name.as_slice())),
+            Call::GetIndexed { dir, index } => self.table.get_indexed(alloc, *dir, *index),
+            Call::List { dir } => self.table.list(alloc, *dir),
+            Call::ReadFork {
+                dir,
+                name,
+                fork,
+                offset,
+                count,
+            } => self
+                .table
+                .read_fork(alloc, *dir, name.as_slice(), *fork, *offset, *count),
+            Call::ResolveFileId { id } => Ok(self.table.resolve_file_id(*id)),
+            _ => unreachable!(),
+        }
+    }
+}

@@ -1,0 +1,63 @@
+//! The IDs of which a catalog has a thread record.
+ghost use Rattle.std.specs.Prelude.{◌≡◌, ℕ, ◌||◌, nat_eq, OnOk, IfOk};
+ghost use Rattle.hfs_catalog.specs.Records.{has_thread, is_thread_of};
+ghost use Rattle.hfs_view.specs.Opened.{has_number};
+
+use hfs_catalog::{CatalogRecord, is_thread};
+use std::alloc::{AllocError, Global};
+use std::collections::BTreeSet;
+use std::marker::Model;
+
+/// A set of IDs. Contracts see the list of them.
+#[derive(Drop)]
+pub struct ThreadIds {
+    ids: BTreeSet<u32>,
+}
+
+impl Model for ThreadIds {
+    ghost use Rattle.std.specs.Prelude.{ℕ, List};
+
+    ghost Value = { List ℕ };
+
+    ghost view = { λ s. s.ids.keys };
+}
+
+impl ThreadIds {
+    /// The IDs of the threads among these records, each of which is read once. The only error is want of memory.
+    pub fn of(alloc: Global, records: &[CatalogRecord]) -> Result<ThreadIds, AllocError>
+        ensures { IfOk result (λ threads. (id : ℕ) → has_number threads id ≡ has_thread records.now id) }
+    {
+        let mut threads = ThreadIds {
+            ids: BTreeSet::new(alloc),
+        };
+        for i in 0..records.len() {
+            threads.take(&records[i])?;
+        }
+        Ok(threads)
+    }
+
+    /// Takes the ID of a record, if it is a thread.
+    fn take(&mut self, entry: &CatalogRecord) -> Result<(), AllocError>
+        ensures { OnOk result ((id : ℕ) → has_number self.new id ≡ (has_number self.old id || is_thread_of id entry.now)) }
+    {
+        if is_thread(entry.body()) {
+            self.add(entry.key().parent)?;
+        }
+        Ok(())
+    }
+
+    /// Puts an ID into the set. The only error is want of memory.
+    fn add(&mut self, id: u32) -> Result<(), AllocError>
+        ensures { OnOk result ((k : ℕ) → has_number self.new k ≡ (has_number self.old k || nat_eq id k)) }
+    {
+        self.ids.insert(id)?;
+        Ok(())
+    }
+
+    /// Whether the ID is one of them.
+    pub fn has(&self, id: u32) -> bool
+        ensures { result ≡ has_number self.now id }
+    {
+        self.ids.contains(&id)
+    }
+}

@@ -1,0 +1,75 @@
+//! What is asked of rows and of those beside them: every reading call, for each ID, and for each name that a folder has.
+use hfs_model::{Bytes, Call, Fork, Info, Value};
+use hfs_view::Rows;
+use std::alloc::{AllocError, Global};
+
+/// What is told of a folder's children by rows, empty of what is no folder.
+fn children(alloc: Global, rows: &Rows, dir: u32) -> Result<Vec<Info>, AllocError> {
+    let reply = rows.read(alloc, &Call::List { dir })?;
+    match reply.value {
+        Value::Many(infos) => Ok(infos.into_vec()),
+        _ => Ok(Vec::new(alloc)),
+    }
+}
+
+fn read_fork(alloc: Global, child: &Info, fork: Fork, offset: u32) -> Result<Call, AllocError> {
+    let name = Bytes::from_slice(alloc, child.name.bytes())?;
+    Ok(Call::ReadFork {
+        dir: child.parent,
+        name,
+        fork,
+        offset,
+        count: 65536,
+    })
+}
+
+/// The calls that ask for a child, the first of which spells its name in small letters.
+fn push_child(
+    alloc: Global,
+    calls: &mut Vec<Call>,
+    child: &Info,
+    index: u32,
+) -> Result<(), AllocError> {
+    let dir = child.parent;
+    let mut name = Vec::from_slice(alloc, child.name.bytes())?;
+    name.make_ascii_lowercase();
+    calls.push(Call::GetCatInfo {
+        dir,
+        name: Bytes::new(name),
+    })?;
+    calls.push(Call::GetIndexed { dir, index })?;
+    for fork in [Fork::DataFork, Fork::ResFork] {
+        calls.push(read_fork(alloc, child, fork, 0)?)?;
+        calls.push(read_fork(alloc, child, fork, 1234)?)?;
+    }
+    Ok(())
+}
+
+/// The calls that ask for an ID and for what it holds.
+fn push_id(alloc: Global, calls: &mut Vec<Call>, rows: &Rows, id: u32) -> Result<(), AllocError> {
+    calls.push(Call::GetDirInfo { dir: id })?;
+    calls.push(Call::List { dir: id })?;
+    calls.push(Call::ResolveFileId { id })?;
+    let mut index = 0;
+    for child in children(alloc, rows, id)?.iter() {
+        calls.push(Call::GetIndexed { dir: id, index })?;
+        index = index.saturating_add(1);
+        push_child(alloc, calls, child, index)?;
+    }
+    calls.push(Call::GetIndexed {
+        dir: id,
+        index: index.saturating_add(1),
+    })?;
+    let name = Bytes::from_slice(alloc, b"no such item")?;
+    calls.push(Call::GetCatInfo { dir: id, name })?;
+    Ok(())
+}
+
+/// Every reading call for the IDs below `last`.
+pub fn reading_calls(alloc: Global, rows: &Rows, last: u32) -> Result<Vec<Call>, AllocError> {
+    let mut calls = Vec::new(alloc);
+    for id in 0..last {
+        push_id(alloc, &mut calls, rows, id)?;
+    }
+    Ok(calls)
+}

@@ -1,0 +1,94 @@
+-- How many own an allocation block.
+use Rattle.std.proofs.Common.{◌≡◌, ℕ, ◌+◌, ◌<◌, ◌≤◌, Bool, true, false, cond, eqb, List, [], ◌∷◌, ◌++◌, ⊎_elim, refl, sym, ◌∙◌, ap, subst, arith}
+use Rattle.std.specs.List.{flat_map, sum_by, range_with_len}
+use Rattle.std.proofs.lemmas.Grind.{flat_map-append}
+use Rattle.std.proofs.lemmas.Bool.{eqb-true, eq-eqb, ne_eqb}
+use Rattle.std.proofs.lemmas.List.Sums.{sum_by-append, sum_by-cons}
+use Rattle.hfs_fields.specs.declared.mdb.Mdb.{Mdb}
+use Rattle.hfs_fields.specs.declared.extent.Extent.{Extent}
+use Rattle.hfs_scans.specs.Each.{Each}
+use Rattle.hfs_scans.specs.Members.{In}
+use Rattle.hfs_btree.specs.Sound.{IsDistinct, IsOther}
+use Rattle.hfs_space.specs.Extents.{Overflow, extent_blocks}
+use Rattle.hfs_space.specs.Owners.{Fork, forks_of, catalog_fork, all_forks, extents_in, bad_extents, owned_extents, owned_blocks, owners}
+use Rattle.hfs_catalog.specs.Records.{Record, Catalog}
+
+abbrev one_if : Bool → ℕ
+one_if b = cond b 1 0
+
+-- ---- numbers that stand in a list
+
+cons : (b x : ℕ) (xs : List ℕ) → owners (x ∷ xs) b ≡ one_if (eqb x b) + owners xs b
+cons b x xs = sum_by-cons (λ (o : ℕ). cond (eqb o b) 1 0) x xs
+
+pub append : (b : ℕ) (xs ys : List ℕ) → owners (xs ++ ys) b ≡ owners xs b + owners ys b
+append b xs ys = sum_by-append (λ (o : ℕ). cond (eqb o b) 1 0) xs ys
+
+one : (b : Bool) → b ≡ true → ◌≡◌ {A = ℕ} (one_if b) 1
+one b e = ap one_if e
+
+no : (b : Bool) → b ≡ false → ◌≡◌ {A = ℕ} (one_if b) 0
+no b e = ap one_if e
+
+none_other : (b : ℕ) (xs : List ℕ) → Each (IsOther b) xs → owners xs b ≡ 0
+none_other b [] h = refl
+none_other b (x ∷ xs) h = omega (arith, cons b x xs, no (eqb x b) (ne_eqb x b h.0), none_other b xs h.1)
+
+pub owned_distinct : (xs : List ℕ) → IsDistinct xs → (b : ℕ) → owners xs b ≤ 1
+owned_distinct [] h b = omega arith
+owned_distinct (x ∷ xs) h b = elim (eqb x b) as (λ (t : Bool). eqb x b ≡ t → owners (x ∷ xs) b ≤ 1) [
+  | true ↦ λ e. omega (arith, cons b x xs, one (eqb x b) e, none_other b xs (subst (λ (y : ℕ). Each (IsOther y) xs) (eqb-true x b e) h.0))
+  | false ↦ λ e. omega (arith, cons b x xs, no (eqb x b) e, owned_distinct xs h.1 b)
+] refl
+
+-- ---- the blocks of forks
+
+pub extents_parts : (xs ys : List Extent) (b : ℕ) → owners (extent_blocks (xs ++ ys)) b ≡ owners (extent_blocks xs) b + owners (extent_blocks ys) b
+extents_parts xs ys b = ap (λ l. owners l b) (flat_map-append (λ (e : Extent). range_with_len e.first e.count) xs ys) ∙ append b (extent_blocks xs) (extent_blocks ys)
+
+module _ (mdb : Mdb) (overflow : Overflow) (b : ℕ) where
+  -- how often a record's forks have the block
+  abbrev pub forks_have : List Fork → ℕ
+  forks_have forks = owners (extent_blocks (flat_map (extents_in overflow) forks)) b
+
+  abbrev pub record_has : Record → ℕ
+  record_has r = forks_have (forks_of r)
+
+  -- how often the trees' files and the bad blocks have it
+  abbrev pub others_have : ℕ
+  others_have = owners (extent_blocks (extents_in overflow (catalog_fork mdb))) b + (owners (extent_blocks mdb.extents_file) b + owners (extent_blocks (bad_extents overflow)) b)
+
+  forks_parts : (fs gs : List Fork) → forks_have (fs ++ gs) ≡ forks_have fs + forks_have gs
+  forks_parts fs gs = ap (λ l. owners (extent_blocks l) b) (flat_map-append (extents_in overflow) fs gs) ∙ extents_parts (flat_map (extents_in overflow) fs) (flat_map (extents_in overflow) gs) b
+
+  catalog_has : (catalog : Catalog) → forks_have (flat_map forks_of catalog) ≡ sum_by record_has catalog
+  catalog_has [] = refl
+  catalog_has (r ∷ rest) = omega (arith, forks_parts (forks_of r) (flat_map forks_of rest), catalog_has rest, sum_by-cons record_has r rest)
+
+  pub owners_sum : (catalog : Catalog) → owners (owned_blocks mdb overflow catalog) b ≡ others_have + sum_by record_has catalog
+  unfolding owned_blocks owned_extents
+  owners_sum catalog =
+      let forks = flat_map (extents_in overflow) (all_forks mdb catalog) in
+      omega (
+        arith,
+        extents_parts (forks ++ mdb.extents_file) (bad_extents overflow) b,
+        extents_parts forks mdb.extents_file b,
+        extents_parts (extents_in overflow (catalog_fork mdb)) (flat_map (extents_in overflow) (flat_map forks_of catalog)) b,
+        catalog_has catalog,
+      )
+
+  -- who has the block in one of its files has it in no tree
+  pub sum_in : (catalog : Catalog) (r : Record) → In r catalog → record_has r ≤ sum_by record_has catalog
+  sum_in [] r i = absurd i
+  sum_in (x ∷ xs) r i = ⊎_elim
+      (λ (e : x ≡ r). let same : record_has x ≡ record_has r = ap record_has e in omega (arith, same, sum_by-cons record_has x xs))
+      (λ (there : In r xs). omega (arith, sum_in xs r there, sum_by-cons record_has x xs))
+      i
+
+-- what stands in a list is owned
+pub owners_in : (b : ℕ) (xs : List ℕ) → In b xs → 0 < owners xs b
+owners_in b [] i = absurd i
+owners_in b (x ∷ xs) i = ⊎_elim
+    (λ (e : x ≡ b). omega (arith, cons b x xs, one (eqb x b) (eq-eqb x b e)))
+    (λ (there : In b xs). omega (arith, cons b x xs, owners_in b xs there))
+    i

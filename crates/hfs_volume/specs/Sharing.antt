@@ -1,0 +1,41 @@
+-- What those who read beside the writer take from a mounted volume.
+use Rattle.std.specs.Prelude.{◌≡◌, ℕ, IsTrue, List, Some}
+use Rattle.hfs_fields.specs.declared.extent.Extent.{Extent}
+use Rattle.hfs_fields.specs.declared.file_record.FileRecord.{FileRecord}
+use Rattle.hfs_fields.specs.declared.mdb.Mdb.{Mdb}
+use Rattle.hfs_fields.specs.Records.{is_file, file_record_of}
+use Rattle.hfs_blocks.specs.Blocks.{block_at}
+use Rattle.hfs_scans.specs.Each.{Each}
+use Rattle.hfs_model.specs.declared.call.Fork.{Fork}
+use Rattle.hfs_space.specs.Extents as extents
+use Rattle.hfs_space.specs.ForkLengths.{all_bytes}
+use Rattle.hfs_space.specs.Forks.{fork_bytes}
+use Rattle.hfs_catalog.specs.Records.{Record, Catalog, item_with}
+use Rattle.hfs_check.specs.Agree.{Agrees}
+use Rattle.hfs_check.specs.Parts.{Blocks, mdb_in, overflow_in, catalog_in}
+use Rattle.hfs_volume.specs.Mounted.{fork_record}
+
+-- all extents of one of a file's forks
+unfoldable pub file_extents : Blocks → Fork → FileRecord → List Extent
+file_extents blocks fork file =
+    extents.fork_extents (overflow_in blocks) file.id (extents.fork_byte (fork_record fork file).0) (fork_record fork file).1.extents
+
+-- the bytes of a file's forks are the same in two images, where the second says where they lie
+abbrev pub ForksStay : List ℕ → List ℕ → FileRecord → Type 0
+ForksStay base image file =
+    (fork : Fork)
+    → fork_bytes (block_at base) (mdb_in (block_at image)) (file_extents (block_at image) fork file) (fork_record fork file).1.length
+    ≡ fork_bytes (block_at image) (mdb_in (block_at image)) (file_extents (block_at image) fork file) (fork_record fork file).1.length
+
+-- no call writes a block that a file owns: in an image that agrees with a base the forks of each file have the base's bytes
+abbrev pub FileForksStay : Type 0
+FileForksStay =
+    (base image : List ℕ) → Agrees base image → Each (λ r. IsTrue (is_file r.1) → ForksStay base image (file_record_of r.1)) (catalog_in (block_at image))
+
+-- the record of the file of that ID
+abbrev pub IsFileOf : Catalog → ℕ → Record → Type 0
+IsFileOf catalog id r = (item_with catalog id ≡ Some r) × IsTrue (is_file r.1)
+
+-- the bytes of these extents' blocks in an image, one extent after the other
+abbrev pub bytes_of_extents : List ℕ → List Extent → List ℕ
+bytes_of_extents image es = all_bytes (block_at image) (mdb_in (block_at image)) es

@@ -1,0 +1,69 @@
+//! What those who read beside the writer take from a mounted volume.
+
+ghost use Rattle.std.specs.Prelude.{◌≡◌, IfOk};
+ghost use Rattle.hfs_fields.specs.Records.{file_record_of};
+ghost use Rattle.hfs_blocks.specs.Blocks.{block_at};
+ghost use Rattle.hfs_catalog.specs.Records.{Record};
+ghost use Rattle.hfs_check.specs.Agree.{Agrees};
+ghost use Rattle.hfs_check.specs.Parts.{mdb_in, catalog_in};
+ghost use Rattle.hfs_check.specs.VolumeOf.{volume_of};
+ghost use Rattle.hfs_volume.specs.Sharing.{file_extents, IsFileOf};
+
+use super::Volume;
+use crate::base::Base;
+use crate::fork::fork_record;
+use hfs_catalog::{CatalogRecord, ItemRecord, by_id, read_records};
+use hfs_check::trees_are_sound;
+use hfs_fields::{Extent, FileRecord, Mdb};
+use hfs_model::Fork;
+use hfs_space::fork_extents;
+use std::alloc::{AllocError, Global};
+
+impl Volume {
+    /// The bytes as they were mounted, without a copy of them. The only error is want of memory.
+    pub fn base(&self) -> Result<Base, AllocError>
+        ensures base { IfOk result (λ base. base ≡ self.now.base) }
+        ensures agrees { Agrees self.now.base self.now.current }
+    {
+        self.image.base()
+    }
+
+    /// The master directory block as it is now.
+    pub fn directory(&self) -> Mdb
+        ensures { result ≡ mdb_in (block_at self.now.current) }
+    {
+        self.mdb
+    }
+
+    /// The ID that the next new item gets.
+    #[tactic(auto, unfolding(hfs_check::specs::VolumeOf::volume_of, hfs_check::specs::VolumeOf::volume_in))]
+    pub fn next_id(&self) -> u32
+        ensures { result ≡ (volume_of self.now.current).next_id }
+    {
+        self.mdb.next_id
+    }
+
+    /// The records of the catalog's leaves, in their order. Each leaf is read once. The only error is want of memory.
+    pub fn records(&self, alloc: Global) -> Result<Vec<CatalogRecord>, AllocError>
+        ensures { IfOk result (λ records. records.items ≡ catalog_in (block_at self.now.current)) }
+    {
+        read_records(alloc, &self.catalog_nodes())
+    }
+
+    /// All extents of a fork of the file with this record, those of the extents tree among them. The only error is want of
+    /// memory.
+    #[tactic(auto, unfolding(crate::specs::Sharing::file_extents))]
+    pub fn file_extents(
+        &self,
+        alloc: Global,
+        file: &FileRecord,
+        fork: Fork,
+    ) -> Result<Vec<Extent>, AllocError>
+        ensures { IfOk result (λ extents. extents.items ≡ file_extents (block_at self.now.current) fork file.now) }
+    {
+        trees_are_sound();
+        let _image = &self.image;
+        let (kind, record) = fork_record(file, fork);
+        fork_extents(alloc, &self.extents_nodes(), file.id, kind, &record.extents)
+    }
+}
