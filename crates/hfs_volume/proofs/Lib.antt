@@ -14,3 +14,6 @@ pub mod SeenForks
 pub mod Openings
 pub mod SavedPieces
 pub mod Kept
+pub mod Choices
+pub mod Chosen
+pub mod Edited

@@ -2,6 +2,8 @@
 #![tactic(auto)]
 
 mod base;
+mod choosing;
+mod edits;
 mod fork;
 mod image;
 mod image_nodes;
