@@ -1,23 +1,16 @@
 -- The items that calls choose.
-use Rattle.std.proofs.Common.{◌≡◌, ℕ, ℤ, Bool, true, false, cond, List, refl, sym, ◌∙◌, ap, Option, Some, None, Ok, Err, Result}
+use Rattle.std.proofs.Common.{◌≡◌, ℤ, Bool, true, false, cond, refl, sym, ◌∙◌, ap, Ok, Err, Result}
 use Rattle.std.specs.Prelude.{not, ◌&&◌}
-use Rattle.std.specs.Option.{option_map, ok_or}
-use Rattle.std.proofs.lemmas.Option.{none-some, same_Some}
-use Rattle.hfs_fields.specs.Names.{is_item_name}
 use Rattle.hfs_fields.specs.Records.{is_dir, is_bit_set, dir_record_of, file_record_of}
-use Rattle.hfs_fields.specs.declared.key.CatKey.{CatKey}
-use Rattle.hfs_fields.specs.declared.mdb.Mdb.{Mdb}
 use Rattle.hfs_fields.specs.declared.dir_record.DirRecord.{DirRecord}
 use Rattle.hfs_fields.specs.declared.file_record.FileRecord.{FileRecord}
-use Rattle.hfs_model.specs.declared.codes.TheConstants.{BAD_NAME, NOT_FOUND, FILE_LOCKED, NOT_A_FOLDER}
+use Rattle.hfs_model.specs.declared.codes.TheConstants.{NOT_FOUND, FILE_LOCKED}
 use Rattle.hfs_model.specs.Choices.{and_then}
-use Rattle.hfs_catalog.specs.declared.item.ItemRecord.{ItemRecord}
 use Rattle.hfs_catalog.specs.declared.item.ItemRecord.TheVariants.{Folder, File}
 use Rattle.hfs_catalog.specs.declared.item.CatalogItem.{CatalogItem}
-use Rattle.hfs_catalog.specs.Records.{Record, Catalog}
-use Rattle.hfs_catalog.specs.Lookups.{catalog_item, child_named}
-use Rattle.hfs_volume.specs.Told.{is_folder}
-use Rattle.hfs_volume.specs.Choosing.{map_ok, lock_code, unless_code, child_to_change, only_file, is_locked, unless_locked, file_to_change, file_to_set, item_to_set, file_part, is_locked_body, is_locked_item}
+use Rattle.hfs_catalog.specs.Records.{Record}
+use Rattle.hfs_catalog.specs.Lookups.{catalog_item}
+use Rattle.hfs_volume.specs.Choosing.{map_ok, only_file, is_locked, unless_locked, file_part, is_locked_body, is_locked_item}
 use Rattle.hfs_volume.proofs.Folders.{folder_not_file}
 
 same_file : (f g : FileRecord) → File f ≡ File g → f ≡ g

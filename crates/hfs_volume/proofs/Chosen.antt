@@ -2,12 +2,9 @@
 use Rattle.std.proofs.Common.{◌≡◌, ⊎_elim, ℕ, ℤ, Bool, true, false, cond, eqb, List, refl, sym, ◌∙◌, ap, subst, Option, Some, None, Ok, Err, Result}
 use Rattle.std.specs.Prelude.{not, ◌&&◌, ◌||◌, IsTrue}
 use Rattle.std.specs.Option.{option_map, ok_or}
-use Rattle.std.specs.Result.{MatchResult}
 use Rattle.std.proofs.lemmas.Bool.{or_cases, and_parts, true≢false}
-use Rattle.std.proofs.lemmas.Option.{none-some, same_Some}
 use Rattle.hfs_fields.specs.declared.key.CatKey.{CatKey}
 use Rattle.hfs_fields.specs.declared.mdb.Mdb.{Mdb}
-use Rattle.hfs_fields.specs.declared.dir_record.DirRecord.{DirRecord}
 use Rattle.hfs_fields.specs.declared.file_record.FileRecord.{FileRecord}
 use Rattle.hfs_fields.specs.Keys.{cat_cmp}
 use Rattle.hfs_fields.specs.Names.{is_item_name}
@@ -23,10 +20,9 @@ use Rattle.hfs_model.specs.Children as children
 use Rattle.hfs_model.specs.Choices.{and_then, child_to_change, file_to_change, to_set_f_info, to_set_cat_info}
 use Rattle.hfs_model.specs.Choices as model
 use Rattle.hfs_model.specs.Replies.{is_locked_file}
-use Rattle.hfs_catalog.specs.declared.item.ItemRecord.{ItemRecord}
 use Rattle.hfs_catalog.specs.declared.item.ItemRecord.TheVariants.{Folder, File}
 use Rattle.hfs_catalog.specs.declared.item.CatalogItem.{CatalogItem}
-use Rattle.hfs_catalog.specs.Records.{Record, Catalog, item_with, is_child_of, has_thread}
+use Rattle.hfs_catalog.specs.Records.{Record, Catalog, is_child_of, has_thread}
 use Rattle.hfs_catalog.specs.Items.{Contents, folder_of, file_of, item_of, entry_of}
 use Rattle.hfs_catalog.specs.Lookups.{catalog_item, is_child_named, child_named}
 use Rattle.hfs_check.specs.Parts.{Blocks, mdb_in, catalog_in}
@@ -34,15 +30,14 @@ use Rattle.hfs_check.specs.Sound.{AreBlocksSound, IsSound}
 use Rattle.hfs_check.specs.VolumeOf.{contents_in, volume_in, volume_of}
 use Rattle.hfs_changes.specs.Once.{distinct_once, item_found}
 use Rattle.hfs_changes.specs.SettingLaws.{IsChoice, ChoiceStands}
-use Rattle.hfs_call_edits.specs.Settings.{IsBody, IsFileChoice, IsFolderChoice}
+use Rattle.hfs_call_edits.specs.Settings.{IsBody}
 use Rattle.hfs_volume.specs.Choosing.{map_ok, lock_code, unless_code, only_file, is_locked, unless_locked, file_to_set, item_to_set, file_part}
 use Rattle.hfs_volume.specs.Choosing as records
 use Rattle.hfs_volume.specs.Edits.{IsChosenFile, IsChosenFolder, IsChosenBody, ChoosesFile, ChoosesItem}
 use Rattle.hfs_volume.specs.Queries.{AreEntries}
 use Rattle.hfs_volume.specs.Told.{is_folder}
 use Rattle.hfs_volume.proofs.Choices.{same_ok, err_ok}
-use Rattle.hfs_volume.proofs.Folders.{found_with}
-use Rattle.hfs_volume.proofs.Replies.{folder_kind, folder_same, child_item}
+use Rattle.hfs_volume.proofs.Replies.{folder_kind, folder_same}
 
 -- ---- the choices of a volume with these locks, whose entries the records answer for
 

@@ -19,14 +19,13 @@ use Rattle.hfs_blocks.specs.Blocks.{block_at, block_count, nodes_in}
 use Rattle.hfs_btree.specs.Tree.{Store}
 use Rattle.hfs_space.specs.TreeFiles.{nodes_in-tree_blocks}
 use Rattle.hfs_model.specs.declared.reply.Value.TheVariants as value
-use Rattle.hfs_model.specs.declared.reply.Reply.{Reply}
 use Rattle.hfs_model.specs.Volume.{Volume, Items, Entry}
 use Rattle.hfs_model.specs.Children.{entries_of}
 use Rattle.hfs_model.specs.Changes.{refused, change, set_f_info, set_cat_info, set_lock}
 use Rattle.hfs_model.specs.Replies.{success}
 use Rattle.hfs_catalog.specs.Records.{Catalog}
 use Rattle.hfs_catalog.specs.Tree.{catalog_of}
-use Rattle.hfs_check.specs.Parts.{Blocks, mdb_in, catalog_extents, catalog_nodes, catalog_blocks, catalog_in}
+use Rattle.hfs_check.specs.Parts.{mdb_in, catalog_extents, catalog_nodes, catalog_blocks, catalog_in}
 use Rattle.hfs_check.specs.Sound.{IsSound}
 use Rattle.hfs_check.specs.VolumeOf.{contents_in, volume_in, volume_of}
 use Rattle.hfs_volume.specs.Edits.{IsEditing, IsChangeOf}

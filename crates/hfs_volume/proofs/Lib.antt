@@ -17,3 +17,5 @@ pub mod Kept
 pub mod Choices
 pub mod Chosen
 pub mod Edited
+pub mod Stepping
+pub mod Outcomes

@@ -10,8 +10,8 @@ use Rattle.hfs_blocks.specs.declared.run.Run.{Run}
 use Rattle.hfs_blocks.specs.Blocks.{block_at, block_count}
 use Rattle.hfs_blocks.specs.Layers.{changes, over, AreWithin}
 use Rattle.hfs_model.specs.declared.call.Call.{Call}
-use Rattle.hfs_model.specs.Volume.{Entry}
-use Rattle.hfs_model.specs.Changes.{refused}
+use Rattle.hfs_model.specs.Volume.{Volume, Entry}
+use Rattle.hfs_model.specs.Changes.{Outcome, refused}
 use Rattle.hfs_model.specs.Replies.{success}
 use Rattle.hfs_model.specs.Step.{step}
 use Rattle.hfs_catalog.specs.declared.item.ItemRecord.{ItemRecord}
@@ -73,3 +73,11 @@ IsEditOf c image (Err code) = step (volume_of image) c ≡ refused (volume_of im
 pub record IsEdit (image : List ℕ) (edit : Result Change ℤ) : Type 0 where
   pub of : Call
   pub is : IsEditOf of image edit
+
+-- the volume is the one of each call that makes the change
+abbrev pub IsAfter : List ℕ → Change → Volume → Type 0
+IsAfter image change v = (c : Call) → IsChangeOf c image change → v ≡ (step (volume_of image) c).0
+
+-- the outcome is the one of each call whose edit this is
+abbrev pub IsOutcome : List ℕ → Result Change ℤ → Outcome → Type 0
+IsOutcome image edit outcome = (c : Call) → IsEditOf c image edit → outcome ≡ step (volume_of image) c

@@ -9,3 +9,4 @@ pub mod Edits
 pub mod LeftBytes
 pub mod Opening
 pub mod Saving
+pub mod Serving

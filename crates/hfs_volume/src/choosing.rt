@@ -11,9 +11,7 @@ use bitflags::Flags;
 use hfs_btree::Nodes;
 use hfs_catalog::{CatalogItem, ItemRecord, lookup};
 use hfs_fields::{CatKey, FileRecord, Mdb, Name};
-use hfs_model::{
-    BAD_NAME, FILE_LOCKED, HARDWARE_LOCKED, NOT_A_FOLDER, NOT_FOUND, SOFTWARE_LOCKED,
-};
+use hfs_model::{BAD_NAME, FILE_LOCKED, HARDWARE_LOCKED, NOT_A_FOLDER, NOT_FOUND, SOFTWARE_LOCKED};
 
 /// The code that refuses each change of a locked volume.
 fn lock_code(mdb: &Mdb) -> Option<i16>

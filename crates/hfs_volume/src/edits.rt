@@ -1,6 +1,7 @@
 //! What calls that change a volume make of its image.
 
 ghost use Rattle.std.specs.Prelude.{◌≡◌, IfOk};
+ghost use Rattle.hfs_fields.specs.Counts.{with_counts};
 ghost use Rattle.hfs_blocks.specs.Blocks.{block_at, block_count};
 ghost use Rattle.hfs_call_edits.specs.Settings.{IsCatalogFile, set_cat_info_call};
 ghost use Rattle.hfs_catalog.specs.Tree.{catalog_of};
@@ -40,7 +41,24 @@ pub(crate) struct Change {
     pub(crate) value: Value,
 }
 
+/// A master directory block's fields, with the counts of another.
+pub(crate) fn with_counts(counts: &Mdb, mdb: &Mdb) -> Mdb
+    ensures { result ≡ with_counts counts.now mdb.now }
+{
+    Mdb {
+        modified: counts.modified,
+        root_files: counts.root_files,
+        next_id: counts.next_id,
+        free_blocks: counts.free_blocks,
+        root_folders: counts.root_folders,
+        files: counts.files,
+        folders: counts.folders,
+        ..*mdb
+    }
+}
+
 /// A sound image with what mounting found out of its catalog. Contracts see the image's bytes as they are.
+#[derive(Drop)]
 pub(crate) struct Editing<'a> {
     image: &'a Image,
     /// The master directory block.

@@ -13,9 +13,11 @@ mod open_fork;
 mod reading;
 mod reply;
 mod saving;
+mod serving;
 mod volume;
 
 pub use base::Base;
+pub use hfs_call_edits::ItemSettings;
 pub use hfs_check::{Alternate, MountFault, Report, report};
 pub use hfs_format::{FormatFault, FormatPlan, format};
 pub use image::{Image, ImageBlocks};
@@ -23,4 +25,5 @@ pub use laws::catalog_answers;
 pub use mounting::{Refused, mount};
 pub use open_fork::{OpenFork, Opened};
 pub use saving::SaveFault;
+pub use serving::is_served;
 pub use volume::Volume;

@@ -1,9 +1,7 @@
 -- The patch of a folder or of a file makes the call's step, and the call answers nothing.
-use Rattle.std.proofs.Common.{rules, ◌≡◌, ◌∙◌, ap, subst, List, ℕ}
+use Rattle.std.proofs.Common.{rules, ◌∙◌, ap, subst}
 use Rattle.hfs_blocks.specs.Blocks.{block_at}
 use Rattle.hfs_call_edits.specs.Settings.{set_cat_info_call}
-use Rattle.hfs_catalog.specs.declared.item.ItemRecord.{ItemRecord}
-use Rattle.hfs_catalog.specs.declared.item.ItemRecord.TheVariants.{Folder, File}
 use Rattle.hfs_model.specs.Choices.{to_set_cat_info}
 use Rattle.hfs_check.specs.VolumeOf.{volume_of}
 use Rattle.hfs_volume.specs.Edits.{IsChosenBody}
