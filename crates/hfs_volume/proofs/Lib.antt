@@ -19,3 +19,4 @@ pub mod Chosen
 pub mod Edited
 pub mod Stepping
 pub mod Outcomes
+pub mod RunSteps

@@ -2,12 +2,13 @@
 
 ghost use Rattle.std.specs.Prelude.{◌≡◌, ◌≢◌, pos, length, nat_eq, IsTrue, Ok, IfOk, IfErr, OnOk, OnErr};
 ghost use Rattle.std.specs.Io.KnownBytes.{Appends};
-ghost use Rattle.std.specs.List.{IsDistinct};
+ghost use Rattle.std.specs.List.{All, IsDistinct};
 ghost use Rattle.hfs_model.specs.Children.{entries_of};
 ghost use Rattle.hfs_model.specs.Reading.{get_dir_info, get_cat_info, get_indexed, list, read_fork, part_of};
 ghost use Rattle.hfs_model.specs.FileIds.{resolve_file_id};
 ghost use Rattle.hfs_model.specs.Changes.{set_f_info, set_lock};
 ghost use Rattle.hfs_model.specs.Replies.{success};
+ghost use Rattle.hfs_model.specs.Runs.{run};
 ghost use Rattle.hfs_model.specs.Step.{step, is_reading};
 ghost use Rattle.hfs_call_edits.specs.Settings.{set_cat_info_call};
 ghost use Rattle.hfs_catalog.specs.Tree.{catalog_of};
@@ -136,6 +137,23 @@ impl Volume {
             return self.read(alloc, call);
         }
         self.set(alloc, call)
+    }
+
+    /// Answers calls that are served, one after the other: the replies in order. The only error is want of memory, where the calls
+    /// before the one that it met have been made.
+    pub fn run(&mut self, alloc: Global, calls: &[Call]) -> Result<Vec<Reply>, AllocError>
+        requires { All (λ call. IsTrue (is_served call)) calls.now }
+        ensures outcome { IfOk result (λ replies. (volume_of self.new.current, replies.items) ≡ run (volume_of self.old.current) calls.now) }
+        ensures base { self.new.base ≡ self.old.base }
+    {
+        enough_is_step();
+        reading_needs_none();
+        let mut replies = Vec::new(alloc);
+        for call in calls {
+            let reply = self.call(alloc, call)?;
+            replies.push(reply)?;
+        }
+        Ok(replies)
     }
 
     /// Answers a call that sets what is told of an item.
