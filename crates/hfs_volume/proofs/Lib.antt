@@ -18,3 +18,10 @@ pub mod Shared
 pub mod StayingBlocks
 pub mod Owned
 pub mod OwnedStay
+
+pub mod Choices
+pub mod Chosen
+pub mod Edited
+pub mod Stepping
+pub mod Outcomes
+pub mod RunSteps

@@ -38,7 +38,7 @@ module _ (contents : Contents) (catalog : Catalog) (es : List Entry) (h : AreEnt
   told_in : (r : Record) → In r catalog → is_item r.1 ≡ true → info_of es (entry r) ≡ told catalog r
   told_in r there item = each_in _ catalog r h.told there item
 
-  folder_kind : (r : Record) → is_folder_kind (item_of contents catalog r).kind ≡ is_dir r.1
+  pub folder_kind : (r : Record) → is_folder_kind (item_of contents catalog r).kind ≡ is_dir r.1
   unfolding item_of folder_of file_of
   folder_kind r = elim (is_dir r.1) as (λ (b : Bool). is_folder_kind (cond b (folder_of r.0 (dir_record_of r.1)) (file_of (has_thread catalog (file_record_of r.1).id) (contents (file_record_of r.1)) r.0 (file_record_of r.1))).kind ≡ b) [ true ↦ refl | false ↦ refl ]
 

@@ -4,7 +4,10 @@ pub mod Told
 pub mod Brief
 pub mod Queries
 pub mod Mounted
+pub mod Choosing
+pub mod Edits
 pub mod LeftBytes
 pub mod Opening
 pub mod Saving
 pub mod Sharing
+pub mod Serving

@@ -2,6 +2,8 @@
 #![tactic(auto)]
 
 mod base;
+mod choosing;
+mod edits;
 mod fork;
 mod fork_laws;
 mod image;
@@ -12,10 +14,12 @@ mod open_fork;
 mod reading;
 mod reply;
 mod saving;
+mod serving;
 mod volume;
 
 pub use base::Base;
 pub use fork_laws::file_forks_stay;
+pub use hfs_call_edits::ItemSettings;
 pub use hfs_check::{Alternate, MountFault, Report, report};
 pub use hfs_format::{FormatFault, FormatPlan, format};
 pub use image::{Image, ImageBlocks};
@@ -23,4 +27,5 @@ pub use laws::catalog_answers;
 pub use mounting::{Refused, mount};
 pub use open_fork::{OpenFork, Opened};
 pub use saving::SaveFault;
+pub use serving::is_served;
 pub use volume::Volume;

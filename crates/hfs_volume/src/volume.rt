@@ -1,37 +1,46 @@
 //! A mounted volume.
 
-ghost use Rattle.std.specs.Prelude.{◌≡◌, length, nat_eq, IsTrue, IfOk, IfErr, OnOk};
+ghost use Rattle.std.specs.Prelude.{◌≡◌, ◌≢◌, pos, length, nat_eq, IsTrue, Ok, IfOk, IfErr, OnOk, OnErr};
 ghost use Rattle.std.specs.Io.KnownBytes.{Appends};
-ghost use Rattle.std.specs.List.{IsDistinct};
+ghost use Rattle.std.specs.List.{All, IsDistinct};
 ghost use Rattle.hfs_model.specs.Children.{entries_of};
 ghost use Rattle.hfs_model.specs.Reading.{get_dir_info, get_cat_info, get_indexed, list, read_fork, part_of};
 ghost use Rattle.hfs_model.specs.FileIds.{resolve_file_id};
+ghost use Rattle.hfs_model.specs.Changes.{set_f_info, set_lock};
+ghost use Rattle.hfs_model.specs.Replies.{success};
+ghost use Rattle.hfs_model.specs.Runs.{run};
 ghost use Rattle.hfs_model.specs.Step.{step, is_reading};
+ghost use Rattle.hfs_call_edits.specs.Settings.{set_cat_info_call};
 ghost use Rattle.hfs_catalog.specs.Tree.{catalog_of};
 ghost use Rattle.hfs_check.specs.Parts.{catalog_in, extents_nodes};
 ghost use Rattle.hfs_check.specs.Sound.{IsSound};
 ghost use Rattle.hfs_check.specs.VolumeOf.{contents_in, volume_of};
 ghost use Rattle.hfs_blocks.specs.Blocks.{block_at};
 ghost use Rattle.hfs_volume.specs.Brief.{without_ids};
+ghost use Rattle.hfs_volume.specs.Edits.{IsEdit, IsAfter, IsOutcome};
 ghost use Rattle.hfs_volume.specs.Image.{IsSameBeside};
 ghost use Rattle.hfs_volume.specs.Opening.{opened_fork};
 ghost use Rattle.hfs_volume.specs.Queries.{AreEntries};
 ghost use Rattle.hfs_volume.specs.Saving.{HasWritten};
+ghost use Rattle.hfs_volume.specs.Serving.{is_setting, is_served, outcome_in};
 ghost use Rattle.hfs_volume.specs.Told.{IsCatalog, pick};
 ghost use Rattle.hfs_volume.specs.Mounted.{IsMounted, AreForksIn};
 
+use crate::edits::{Change, Editing, with_counts};
 use crate::fork::{fork_record, read_part};
 use crate::image::Image;
 use crate::image_nodes::ImageNodes;
 use crate::laws::catalog_answers;
 use crate::open_fork::{OpenFork, Opened};
 use crate::reading;
-use crate::reply::{Detail, refusal};
+use crate::reply::{Detail, refusal, success};
 use crate::saving::SaveFault;
 use hfs_blocks::Run;
-use hfs_check::trees_are_sound;
+use hfs_call_edits::ItemSettings;
+use hfs_changes::catalog_edits_are_steps;
+use hfs_check::{agrees_on, trees_are_sound};
 use hfs_fields::{FileRecord, Mdb};
-use hfs_model::{Call, Fork, PARAMETER, Reply, reading_leaves};
+use hfs_model::{Call, Fork, PARAMETER, Reply, enough_is_step, reading_leaves, reading_needs_none};
 use std::alloc::{AllocError, Global};
 use std::io::Write;
 use std::marker::Model;
@@ -110,16 +119,97 @@ impl Volume {
         }
     }
 
-    /// Answers a call, which must be one that reads, as [`Call::is_reading`] says. The volume stays as it is, and its answer is
-    /// that of `step`. The only error is want of memory.
+    /// Answers a call that is served, as [`is_served`] says, and makes of the volume what it makes of it. At a code other than 0,
+    /// and where the call only reads, the volume stays as it is. The only error is want of memory, where the bytes stay as they
+    /// are.
+    ///
+    /// Source: Inside Macintosh: Files, chapter 2, "High-Level HFS Routines" and "Low-Level HFS Routines".
     pub fn call(&mut self, alloc: Global, call: &Call) -> Result<Reply, AllocError>
-        requires { IsTrue (is_reading call.now) }
-        ensures reply { IfOk result (λ reply. reply ≡ (step (volume_of self.old.current) call.now).1) }
-        ensures volume { volume_of self.new.current ≡ (step (volume_of self.old.current) call.now).0 }
-        ensures same { self.new ≡ self.old }
+        requires { IsTrue (is_served call.now) }
+        ensures outcome { IfOk result (λ reply. (volume_of self.new.current, reply) ≡ outcome_in self.old.current call.now) }
+        ensures refused { IfOk result (λ reply. reply.code ≢ pos 0 → self.new ≡ self.old) }
+        ensures reading { IsTrue (is_reading call.now) → self.new ≡ self.old }
+        ensures unchanged { OnErr result (self.new.current ≡ self.old.current) }
+        ensures base { self.new.base ≡ self.old.base }
     {
+        enough_is_step();
+        reading_needs_none();
         reading_leaves();
-        self.read(alloc, call)
+        if call.is_reading() {
+            return self.read(alloc, call);
+        }
+        self.set(alloc, call)
+    }
+
+    /// Answers calls that are served, one after the other: the replies in order. The only error is want of memory, where the calls
+    /// before the one that it met have been made.
+    pub fn run(&mut self, alloc: Global, calls: &[Call]) -> Result<Vec<Reply>, AllocError>
+        requires { All (λ call. IsTrue (is_served call)) calls.now }
+        ensures outcome { IfOk result (λ replies. (volume_of self.new.current, replies.items) ≡ run (volume_of self.old.current) calls.now) }
+        ensures base { self.new.base ≡ self.old.base }
+    {
+        enough_is_step();
+        reading_needs_none();
+        let mut replies = Vec::new(alloc);
+        for call in calls {
+            let reply = self.call(alloc, call)?;
+            replies.push(reply)?;
+        }
+        Ok(replies)
+    }
+
+    /// Answers a call that sets what is told of an item.
+    fn set(&mut self, alloc: Global, call: &Call) -> Result<Reply, AllocError>
+        requires { IsTrue (is_setting call.now) }
+        ensures outcome { IfOk result (λ reply. (volume_of self.new.current, reply) ≡ step (volume_of self.old.current) call.now) }
+        ensures refused { IfOk result (λ reply. reply.code ≢ pos 0 → self.new ≡ self.old) }
+        ensures unchanged { OnErr result (self.new.current ≡ self.old.current) }
+        ensures base { self.new.base ≡ self.old.base }
+    {
+        match call {
+            Call::SetFInfo {
+                dir,
+                name,
+                info,
+                now,
+            } => self.set_f_info(alloc, *dir, name.as_slice(), info, *now),
+            Call::SetCatInfo {
+                dir,
+                name,
+                created,
+                modified,
+                backup,
+                info,
+                now,
+            } => {
+                let settings = ItemSettings {
+                    created: *created,
+                    modified: *modified,
+                    backup: *backup,
+                    info: *info,
+                };
+                self.set_cat_info(alloc, *dir, name.as_slice(), &settings, *now)
+            }
+            Call::SetFLock { dir, name, now } => {
+                self.set_lock(alloc, *dir, name.as_slice(), true, *now)
+            }
+            Call::RstFLock { dir, name, now } => {
+                self.set_lock(alloc, *dir, name.as_slice(), false, *now)
+            }
+            Call::GetDirInfo { .. }
+            | Call::GetCatInfo { .. }
+            | Call::GetIndexed { .. }
+            | Call::List { .. }
+            | Call::ReadFork { .. }
+            | Call::ResolveFileId { .. }
+            | Call::Create { .. }
+            | Call::DirCreate { .. }
+            | Call::Delete { .. }
+            | Call::Rename { .. }
+            | Call::CatMove { .. }
+            | Call::CreateFileId { .. }
+            | Call::DeleteFileId { .. } => unreachable!(),
+        }
     }
 
     /// What is told of the folder of that ID: -120 where it isn't the ID of a folder. Takes no memory.
@@ -276,6 +366,106 @@ impl Volume {
         ensures others { IsSameBeside self.now }
     {
         self.image.changed()
+    }
+
+    /// Sets the first 16 Finder bytes of the folder's file of that name: -44 or -46 where the volume is locked, -37, -120 and -43
+    /// as in [`Volume::get_cat_info`], -43 where the item is a folder, and -45 where the file is locked. At a code the volume stays
+    /// as it is. The only error is want of memory, where the bytes stay as they are.
+    pub fn set_f_info(
+        &mut self,
+        alloc: Global,
+        dir: u32,
+        name: &[u8],
+        info: &[u8; 16],
+        now: u32,
+    ) -> Result<Reply, AllocError>
+        ensures outcome { IfOk result (λ reply. (volume_of self.new.current, reply) ≡ set_f_info (volume_of self.old.current) dir name.now info.now now) }
+        ensures refused { IfOk result (λ reply. reply.code ≢ pos 0 → self.new ≡ self.old) }
+        ensures unchanged { OnErr result (self.new.current ≡ self.old.current) }
+        ensures base { self.new.base ≡ self.old.base }
+    {
+        let edit = self.editing().set_f_info(alloc, dir, name, info, now)?;
+        self.make(edit)
+    }
+
+    /// Sets three dates and all Finder bytes of the folder's item of that name: the codes of [`Volume::set_f_info`], but a folder is
+    /// set too.
+    pub fn set_cat_info(
+        &mut self,
+        alloc: Global,
+        dir: u32,
+        name: &[u8],
+        settings: &ItemSettings,
+        now: u32,
+    ) -> Result<Reply, AllocError>
+        ensures outcome { IfOk result (λ reply. (volume_of self.new.current, reply) ≡ step (volume_of self.old.current) (set_cat_info_call dir name.now settings.now now)) }
+        ensures refused { IfOk result (λ reply. reply.code ≢ pos 0 → self.new ≡ self.old) }
+        ensures unchanged { OnErr result (self.new.current ≡ self.old.current) }
+        ensures base { self.new.base ≡ self.old.base }
+    {
+        let edit = self
+            .editing()
+            .set_cat_info(alloc, dir, name, settings, now)?;
+        self.make(edit)
+    }
+
+    /// Locks the folder's file of that name, or unlocks it: the codes of [`Volume::set_f_info`] but -45.
+    pub fn set_lock(
+        &mut self,
+        alloc: Global,
+        dir: u32,
+        name: &[u8],
+        locked: bool,
+        now: u32,
+    ) -> Result<Reply, AllocError>
+        ensures outcome { IfOk result (λ reply. (volume_of self.new.current, reply) ≡ set_lock locked (volume_of self.old.current) dir name.now now) }
+        ensures refused { IfOk result (λ reply. reply.code ≢ pos 0 → self.new ≡ self.old) }
+        ensures unchanged { OnErr result (self.new.current ≡ self.old.current) }
+        ensures base { self.new.base ≡ self.old.base }
+    {
+        let edit = self.editing().set_lock(alloc, dir, name, locked, now)?;
+        self.make(edit)
+    }
+
+    /// Makes of the image what some call makes of it, and answers the call.
+    fn make(&mut self, edit: Result<Change, i16>) -> Result<Reply, AllocError>
+        requires { IsEdit self.old.current edit }
+        ensures outcome { IfOk result (λ reply. IsOutcome self.old.current edit (volume_of self.new.current, reply)) }
+        ensures refused { IfOk result (λ reply. reply.code ≢ pos 0 → self.new ≡ self.old) }
+        ensures unchanged { OnErr result (self.new.current ≡ self.old.current) }
+        ensures base { self.new.base ≡ self.old.base }
+    {
+        match edit {
+            Ok(change) => self.commit(change),
+            Err(code) => Ok(refusal(code)),
+        }
+    }
+
+    /// Lays a change over the image. The volume's own master directory block follows when nothing can go wrong any more.
+    fn commit(&mut self, change: Change) -> Result<Reply, AllocError>
+        requires { IsEdit self.old.current (Ok change) }
+        ensures volume { OnOk result (IsAfter self.old.current change (volume_of self.new.current)) }
+        ensures reply { IfOk result (λ reply. reply ≡ success change.value) }
+        ensures unchanged { OnErr result (self.new.current ≡ self.old.current) }
+        ensures base { self.new.base ≡ self.old.base }
+    {
+        catalog_edits_are_steps();
+        agrees_on();
+        let Change {
+            patch,
+            counts,
+            value,
+        } = change;
+        self.image.commit(&patch)?;
+        self.mdb = with_counts(&counts, &self.mdb);
+        Ok(success(value))
+    }
+
+    /// The image as calls that change it see it.
+    fn editing(&self) -> Editing<'_>
+        ensures { result ≡ self.now.current }
+    {
+        Editing::new(&self.image, &self.mdb, &self.catalog)
     }
 
     /// The nodes of the catalog, whose records answer the queries of the volume.

@@ -14,4 +14,6 @@ mod reading;
 #[cfg(test)]
 mod saving;
 #[cfg(test)]
+mod setting;
+#[cfg(test)]
 mod writers;

@@ -1,0 +1,5 @@
+pub mod Different
+pub mod IndexNames
+pub mod Placed
+pub mod SetRecord
+pub mod Made

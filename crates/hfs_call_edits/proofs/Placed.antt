@@ -1,0 +1,64 @@
+-- Where numbers stand in a list.
+use Rattle.std.proofs.Common.{◌≡◌, ℕ, zero, suc, ◌+◌, ◌<◌, ◌≤◌, Bool, true, false, ◌||◌, List, [], ◌∷◌, length, map, take, get_or, nat_eq, refl, sym, subst, arith, true≢false, eqb-true}
+use Rattle.std.specs.List.{range_with_len}
+use Rattle.hfs_fields.specs.declared.mdb.Mdb.{Mdb}
+use Rattle.hfs_fields.specs.declared.extent.Extent.{Extent}
+use Rattle.hfs_blocks.specs.Blocks.{run_of}
+use Rattle.hfs_btree.specs.Sound.{IsOther}
+use Rattle.hfs_btree_edits.specs.Files.{is_one_of}
+use Rattle.hfs_scans.specs.Each.{Each}
+use Rattle.hfs_scans.specs.Elements.{each-append}
+use Rattle.hfs_space.specs.Forks.{run_in}
+use Rattle.hfs_space.specs.ForkLaws.{block_numbers}
+
+pub each_take : {X : Type 0} (P : X → Type 0) (n : ℕ) (xs : List X) → Each P xs → Each P (take n xs)
+each_take P zero [] h = tt
+each_take P zero (x ∷ xs) h = tt
+each_take P (suc n) [] h = tt
+each_take P (suc n) (x ∷ xs) h = (h.0, each_take P n xs h.1)
+
+each_range : (P : ℕ → Type 0) (a n : ℕ) → ((j : ℕ) → j < n → P (a + j)) → Each P (range_with_len a n)
+each_range P a zero h = tt
+each_range P a (suc n) h = (
+  subst P (let e : a + 0 ≡ a = omega arith in e) (h 0 (omega arith)),
+  each_range P (a + 1) n (λ j lt. subst P (let e : a + suc j ≡ a + 1 + j = omega arith in e) (h (suc j) (omega arith))),
+)
+
+-- a block before the allocation blocks is none of a file's
+pub below_area : (mdb : Mdb) (file : List Extent) (k : ℕ) → k < mdb.allocation_start → Each (IsOther k) (block_numbers mdb file)
+below_area mdb [] k low = tt
+below_area mdb (e ∷ file) k low =
+    each-append (IsOther k) (run_of (run_in mdb e)) (block_numbers mdb file)
+    (each_range (IsOther k) (run_in mdb e).first (run_in mdb e).count (λ j lt same. omega (arith, same, low)))
+    (below_area mdb file k low)
+
+-- a number that is one of these stands at a place
+pub record IsAt (ns : List ℕ) (n : ℕ) : Type 0 where
+  pub place : ℕ
+  pub within : place < length ns
+  pub is : get_or ns place 0 ≡ n
+
+later : (m : ℕ) (ns : List ℕ) (n : ℕ) → IsAt ns n → IsAt (m ∷ ns) n
+later m ns n at = record { place = suc at.place; within = omega (arith, at.within); is = at.is }
+
+pub place_of : (ns : List ℕ) (n : ℕ) → is_one_of ns n ≡ true → IsAt ns n
+place_of [] n h = absurd (true≢false (sym h))
+place_of (m ∷ ns) n h = elim (nat_eq m n) as (λ (t : Bool). nat_eq m n ≡ t → (t || is_one_of ns n) ≡ true → IsAt (m ∷ ns) n) [
+  | true ↦ λ same rest. record { place = 0; within = omega arith; is = eqb-true m n same }
+  | false ↦ λ other rest. later m ns n (place_of ns n rest)
+] refl h
+
+-- a number that isn't one of the first m stands behind them
+pub behind_first : (n : ℕ) (xs : List ℕ) (m c k : ℕ) → Each (IsOther n) (take m xs) → k < length (take c xs) → get_or (take c xs) k 0 ≡ n → m ≤ k
+behind_first n [] m zero k h lt is = absurd (omega arith)
+behind_first n [] m (suc c) k h lt is = absurd (omega arith)
+behind_first n (x ∷ xs) m zero k h lt is = absurd (omega arith)
+behind_first n (x ∷ xs) zero (suc c) k h lt is = omega arith
+behind_first n (x ∷ xs) (suc m) (suc c) zero h lt is = absurd (h.0 is)
+behind_first n (x ∷ xs) (suc m) (suc c) (suc k) h lt is = let less = behind_first n xs m c k h.1 (omega arith) is in omega (arith, less)
+
+-- an element of a mapped list
+pub at_place : (f : ℕ → List ℕ) (ns : List ℕ) (k : ℕ) → k < length ns → get_or (map f ns) k [] ≡ f (get_or ns k 0)
+at_place f [] k lt = absurd (omega arith)
+at_place f (n ∷ ns) zero lt = refl
+at_place f (n ∷ ns) (suc k) lt = at_place f ns k (omega arith)

@@ -1,0 +1,179 @@
+//! Calls that set dates, Finder bytes and locks.
+use crate::mounted::{mounted, small_volume};
+use crate::writers::LimitedWriter;
+use hfs_fixtures::{SmallVolume, lay, small_image};
+use hfs_model::{Bytes, Call, Info, Value};
+use hfs_volume::{ItemSettings, Volume};
+use std::alloc::{AllocError, Global};
+use std::test::Fail;
+
+/// The bytes 1 to 16.
+const ONE_TO_SIXTEEN: [u8; 16] = [1, 2, 3, 4, 5, 6, 7, 8, 9, 10, 11, 12, 13, 14, 15, 16];
+
+/// Three dates, and Finder bytes that are all $AA.
+const SETTINGS: ItemSettings = ItemSettings {
+    created: 1,
+    modified: 2,
+    backup: 3,
+    info: [0xaa; 32],
+};
+
+/// What is told of an item of the root.
+fn info_of(volume: &Volume, name: &[u8]) -> Result<Info, Fail> {
+    match volume.get_cat_info(2, name).value {
+        Value::One(info) => Ok(info),
+        _ => Err(Fail::new("the item is not told")),
+    }
+}
+
+/// The image's bytes as they are now.
+fn bytes_of(alloc: Global, volume: &Volume) -> Result<Vec<u8>, Fail> {
+    let mut writer = LimitedWriter::new(alloc, 100_000);
+    match volume.save(&mut writer) {
+        Ok(()) => Ok(writer.taken),
+        Err(_fault) => Err(Fail::new("the image was not saved")),
+    }
+}
+
+/// The code of SetFInfo on a name in a folder.
+fn set_info(volume: &mut Volume, alloc: Global, dir: u32, name: &[u8]) -> Result<i16, AllocError> {
+    let reply = volume.set_f_info(alloc, dir, name, &ONE_TO_SIXTEEN, 7)?;
+    Ok(reply.code)
+}
+
+/// The code of SetCatInfo on a name in a folder.
+fn set_dates(volume: &mut Volume, alloc: Global, dir: u32, name: &[u8]) -> Result<i16, AllocError> {
+    let reply = volume.set_cat_info(alloc, dir, name, &SETTINGS, 8)?;
+    Ok(reply.code)
+}
+
+/// The code of SetFLock or RstFLock on a name in a folder.
+fn set_lock(
+    volume: &mut Volume,
+    alloc: Global,
+    dir: u32,
+    name: &[u8],
+    locked: bool,
+) -> Result<i16, AllocError> {
+    let reply = volume.set_lock(alloc, dir, name, locked, 9)?;
+    Ok(reply.code)
+}
+
+#[test]
+fn finder_bytes_are_set_and_no_date(rt: HostRuntime) -> Result<(), Fail> {
+    let mut volume = small_volume(rt.alloc(), SmallVolume::FileThread)?;
+    assert_eq!(rt; set_info(&mut volume, rt.alloc(), 2, b"F")?, 0);
+    let info = info_of(&volume, b"f")?;
+    assert_eq!(rt; (info.created, info.modified, info.backup), (0, 0, 0));
+    assert!(rt; info.finder.starts_with(&ONE_TO_SIXTEEN));
+    assert!(rt; info.finder.ends_with(&[0; 16]));
+    assert_eq!(rt; volume.changed(), 2);
+    Ok(())
+}
+
+#[test]
+fn dates_and_all_finder_bytes_are_set(rt: HostRuntime) -> Result<(), Fail> {
+    let mut volume = small_volume(rt.alloc(), SmallVolume::FileThread)?;
+    assert_eq!(rt; set_dates(&mut volume, rt.alloc(), 2, b"f")?, 0);
+    let info = info_of(&volume, b"f")?;
+    assert_eq!(rt; (info.created, info.modified, info.backup), (1, 2, 3));
+    assert_eq!(rt; info.finder, [0xaa; 32]);
+    let bytes = bytes_of(rt.alloc(), &volume)?;
+    assert!(rt; bytes.len() == 32_768);
+    assert!(rt; bytes.get(1030..1034) == Some([0, 0, 0, 8].as_slice()));
+    Ok(())
+}
+
+#[test]
+fn a_locked_file_is_not_set(rt: HostRuntime) -> Result<(), Fail> {
+    let mut volume = small_volume(rt.alloc(), SmallVolume::TwoFiles)?;
+    assert_eq!(rt; set_lock(&mut volume, rt.alloc(), 2, b"f", true)?, 0);
+    assert!(rt; info_of(&volume, b"f")?.locked);
+    assert_eq!(rt; set_info(&mut volume, rt.alloc(), 2, b"f")?, -45);
+    assert_eq!(rt; set_dates(&mut volume, rt.alloc(), 2, b"f")?, -45);
+    assert_eq!(rt; set_info(&mut volume, rt.alloc(), 2, b"g")?, 0);
+    assert_eq!(rt; set_lock(&mut volume, rt.alloc(), 2, b"f", false)?, 0);
+    assert_eq!(rt; set_info(&mut volume, rt.alloc(), 2, b"f")?, 0);
+    assert!(rt; !info_of(&volume, b"f")?.locked);
+    Ok(())
+}
+
+#[test]
+fn what_is_not_there_is_not_set(rt: HostRuntime) -> Result<(), Fail> {
+    let mut volume = small_volume(rt.alloc(), SmallVolume::OneFile)?;
+    assert_eq!(rt; set_info(&mut volume, rt.alloc(), 9, b"a:b")?, -37);
+    assert_eq!(rt; set_info(&mut volume, rt.alloc(), 9, b"f")?, -120);
+    assert_eq!(rt; set_info(&mut volume, rt.alloc(), 2, b"q")?, -43);
+    assert_eq!(rt; set_dates(&mut volume, rt.alloc(), 2, b"q")?, -43);
+    assert_eq!(rt; set_lock(&mut volume, rt.alloc(), 2, b"q", true)?, -43);
+    assert_eq!(rt; volume.changed(), 0);
+    Ok(())
+}
+
+#[test]
+fn nothing_is_set_on_a_locked_volume(rt: HostRuntime) -> Result<(), Fail> {
+    for (attributes, code) in [([0x81, 0x00], -46), ([0x01, 0x80], -44), ([0x81, 0x80], -44)] {
+        let mut image = small_image(rt.alloc(), SmallVolume::OneFile)?;
+        lay(&mut image, 2, 10, &attributes)?;
+        let mut volume = mounted(rt.alloc(), image)?;
+        assert_eq!(rt; set_info(&mut volume, rt.alloc(), 9, b"a:b")?, code);
+        assert_eq!(rt; set_lock(&mut volume, rt.alloc(), 2, b"f", true)?, code);
+        assert_eq!(rt; volume.changed(), 0);
+    }
+    Ok(())
+}
+
+#[test]
+fn what_was_set_is_saved_and_mounted_again(rt: HostRuntime) -> Result<(), Fail> {
+    let mut image = small_image(rt.alloc(), SmallVolume::TwoLevels)?;
+    for k in 0u8..100 {
+        image.push(k)?;
+    }
+    let mut volume = mounted(rt.alloc(), image)?;
+    assert_eq!(rt; set_dates(&mut volume, rt.alloc(), 2, b"f")?, 0);
+    assert_eq!(rt; set_lock(&mut volume, rt.alloc(), 2, b"f", true)?, 0);
+    assert_eq!(rt; volume.changed(), 2);
+    let bytes = bytes_of(rt.alloc(), &volume)?;
+    assert!(rt; bytes.len() == 32_868);
+    assert!(rt; bytes.last() == Some(&99));
+    let again = mounted(rt.alloc(), bytes)?;
+    let info = info_of(&again, b"f")?;
+    assert!(rt; info.locked);
+    assert_eq!(rt; (info.created, info.modified, info.backup), (1, 2, 3));
+    Ok(())
+}
+
+#[test]
+fn without_memory_nothing_is_set(rt: HostRuntime) -> Result<(), Fail> {
+    let mut volume = small_volume(rt.alloc(), SmallVolume::OneFile)?;
+    let made = set_info(&mut volume, rt.alloc(), 2, b"f").is_ok();
+    let info = info_of(&volume, b"f")?;
+    assert_eq!(rt; info.finder.starts_with(&ONE_TO_SIXTEEN), made);
+    Ok(())
+}
+
+#[test]
+fn calls_are_run_in_their_order(rt: HostRuntime) -> Result<(), Fail> {
+    let mut volume = small_volume(rt.alloc(), SmallVolume::OneFile)?;
+    let calls = [
+        Call::SetFLock {
+            dir: 2,
+            name: Bytes::from_slice(rt.alloc(), b"f")?,
+            now: 5,
+        },
+        Call::SetFInfo {
+            dir: 2,
+            name: Bytes::from_slice(rt.alloc(), b"f")?,
+            info: ONE_TO_SIXTEEN,
+            now: 6,
+        },
+        Call::GetDirInfo { dir: 2 },
+    ];
+    let replies = volume.run(rt.alloc(), &calls)?;
+    let codes = [0, -45, 0];
+    assert_eq!(rt; replies.len(), 3);
+    for (reply, code) in replies.iter().zip(codes) {
+        assert_eq!(rt; reply.code, code);
+    }
+    Ok(())
+}
