@@ -20,8 +20,9 @@ const SETTINGS: ItemSettings = ItemSettings {
 
 /// What is told of an item of the root.
 fn info_of(volume: &Volume, name: &[u8]) -> Result<Info, Fail> {
-    match volume.get_cat_info(2, name).value {
-        Value::One(info) => Ok(info),
+    let reply = volume.get_cat_info(2, name);
+    match &reply.value {
+        Value::One(info) => Ok(*info),
         _ => Err(Fail::new("the item is not told")),
     }
 }
