@@ -1,0 +1,3 @@
+mod PutSteps
+mod Recounts
+mod Openings

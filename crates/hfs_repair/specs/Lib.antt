@@ -1,0 +1,5 @@
+pub mod Fields
+pub mod Placed
+pub mod Puts
+pub mod Recounted
+pub mod Opened

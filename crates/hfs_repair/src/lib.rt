@@ -1,0 +1,20 @@
+//! The numbers of a volume that are counted: those that are wrong in an image which is right but for them, and the image with
+//! them as they are counted.
+#![tactic(auto)]
+
+mod byte_put;
+mod catalog_tree;
+mod exchanging;
+mod extents_tree;
+mod field_value;
+mod fixed;
+mod headed_nodes;
+mod right_counts;
+mod tree_file;
+mod wrong_number;
+
+pub use byte_put::BytePut;
+pub use exchanging::{byte_puts, exchange, exchange_back};
+pub use field_value::FieldValue;
+pub use fixed::{Fix, FixPlace};
+pub use wrong_number::WrongNumber;
