@@ -1,3 +1,5 @@
 mod PutSteps
 mod Recounts
 mod Openings
+mod Pushed
+mod LeafValences

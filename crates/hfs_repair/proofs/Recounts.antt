@@ -3,6 +3,7 @@ use Rattle.std.proofs.Common.{◌≡◌, ◌≢◌, ℕ, ◌<◌, ◌≤◌, Boo
 use Rattle.std.specs.Prelude.{Ok, Result, ◌↔◌, Some, true, false, nat_le}
 use Rattle.std.specs.List.{list_all}
 use Rattle.std.proofs.lemmas.List.{length-set, get_or-set_same, get_or-set_other}
+use borrow.Author.Tests.{leb-true}
 use Rattle.hfs_node.specs.declared.node.Node.{Node}
 use Rattle.hfs_node.specs.declared.fault.NodeFault.{NodeFault}
 use Rattle.hfs_btree.specs.declared.header.Header.{Header}
@@ -156,3 +157,11 @@ in-field-by false n r e = absurd (let no = e in cc)
 pub in-field : (n r : ℕ) → Some r ≡ in_field n → r ≡ n
 unfolding in_field
 in-field n r e = in-field-by (nat_le n 4294967295) n r e
+
+in-field-least : (b : Bool) (n r : ℕ) → (b ≡ true → n ≤ 4294967295) → Some r ≡ cond b (Some n) None → r ≤ 4294967295
+in-field-least true n r small e = let same = in-field-by true n r e in let least = small refl in omega arith
+in-field-least false n r small e = absurd (let no = e in cc)
+
+pub in-field-small : (n r : ℕ) → Some r ≡ in_field n → r ≤ 4294967295
+unfolding in_field
+in-field-small n r e = in-field-least (nat_le n 4294967295) n r (λ h. leb-true n 4294967295 h) e

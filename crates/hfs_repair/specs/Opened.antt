@@ -28,6 +28,7 @@ pub record AreRightCounts {K : Type 0} (g : Ghosts K) (size : ℕ) (nodes : Stor
   pub structure : HasStructure g nodes
   pub header : right.header ≡ header_in nodes
   pub records : right.records ≡ length (tree_content g nodes)
+  pub small : right.records ≤ 4294967295
   pub free : right.free_nodes ≡ free_nodes nodes
   pub recount : IsRecountOf g nodes (with_head nodes right.head)
 

@@ -9,8 +9,11 @@ mod extents_tree;
 mod field_value;
 mod fixed;
 mod headed_nodes;
+mod header_numbers;
+mod mdb_numbers;
 mod right_counts;
 mod tree_file;
+mod valences;
 mod wrong_number;
 
 pub use byte_put::BytePut;
