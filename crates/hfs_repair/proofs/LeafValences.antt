@@ -11,7 +11,7 @@ use Rattle.hfs_node.specs.Node.{node_of, offset_of}
 use Rattle.hfs_btree.specs.declared.header.Header.{Header}
 use Rattle.hfs_btree.specs.Pairs.{Pairs}
 use Rattle.hfs_scans.specs.Each.{Each}
-use Rattle.hfs_btree.specs.Tree.{Store, first_of, forward_of, pair_of, pairs, records_in, records_of}
+use Rattle.hfs_btree.specs.Tree.{Store, first_of, forward_of, pair_of, pairs, records_of}
 use Rattle.hfs_btree.specs.Header.{header_in, leaves, tree_content}
 use Rattle.hfs_btree.specs.Sound.{HasStructure, IsRight}
 use Rattle.hfs_btree.specs.Decoded.{records-read, read-in, decoded-within}

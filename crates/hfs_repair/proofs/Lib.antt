@@ -3,3 +3,6 @@ mod Recounts
 mod Openings
 mod Pushed
 mod LeafValences
+mod Repairs
+mod Mendable
+mod AllPlaced

@@ -1,6 +1,6 @@
 -- The two trees of a volume, read with their counts right.
-use Rattle.std.proofs.Common.{◌≡◌, ℕ, ◌<◌, Bool, true, false, List, length, Option, Some, None, refl, sym, ap, subst, ◌∙◌, arith}
-use Rattle.std.specs.Prelude.{◌&&◌, ◌↔◌, Result, Ok, Err, IfOk, MatchOption, ◌*◌, ◌≤◌}
+use Rattle.std.proofs.Common.{◌≡◌, ℕ, ◌<◌, Bool, true, false, List, length, Option, Some, None, refl, sym, ap, subst, ◌∙◌}
+use Rattle.std.specs.Prelude.{◌&&◌, ◌↔◌, Result, Ok, Err, IfOk, MatchOption, ◌*◌, ◌≤◌, is_some, not}
 use Rattle.std.specs.Option.{is_none}
 use Rattle.std.proofs.lemmas.Bool.{and_parts}
 use Rattle.std.specs.declared.alloc.AllocError.{AllocError}
@@ -8,25 +8,21 @@ use Rattle.hfs_fields.specs.declared.mdb.Mdb.{Mdb}
 use Rattle.hfs_fields.specs.declared.extent.Extent.{Extent}
 use Rattle.hfs_btree.specs.declared.key.Key.{Ghosts}
 use Rattle.hfs_btree.specs.Tree.{Store}
-use Rattle.hfs_btree.specs.Header.{header_in}
 use Rattle.hfs_btree.specs.Sound.{IsSound}
 use Rattle.hfs_btree.specs.Decoded.{decoded-within}
-use Rattle.hfs_btree_checks.specs.Shape.{shape_fault, structure_fault, ◌or_else◌}
+use Rattle.hfs_btree_checks.specs.Shape.{shape_fault, ◌or_else◌}
 use Rattle.hfs_btree_checks.specs.ShapeLaw.{shape-law, structure-law}
 use Rattle.hfs_btree_checks.specs.Order.{key_fault, order_fault}
 use Rattle.hfs_btree_checks.specs.OrderLaw.{order-law}
-use Rattle.hfs_space.specs.Faults.{is_tree_file}
-use Rattle.hfs_space.specs.TreeFiles.{tree_nodes}
 use Rattle.hfs_space.specs.Extents.{fork_extents}
 use Rattle.hfs_space.specs.TreeKeys.{ext_keys, overflow_of}
 use Rattle.hfs_catalog.specs.Tree.{cat_keys}
-use Rattle.hfs_check.specs.declared.mount_fault.MountFault.{MountFault}
 use Rattle.hfs_check.specs.Answers.{extents_tree_fault}
 use Rattle.hfs_check.specs.Faults.{check_fault, is_fork_key}
 use Rattle.hfs_check.specs.Parts.{Blocks}
 use Rattle.hfs_repair.specs.declared.right_counts.RightCounts.{RightCounts}
 use Rattle.hfs_repair.specs.declared.tree_file.TreeFile.{TreeFile}
-use Rattle.hfs_repair.specs.Recounted.{with_head, IsRecountOf}
+use Rattle.hfs_repair.specs.Recounted.{with_head}
 use Rattle.hfs_repair.specs.Opened.{AreRightCounts, IsTreeIn, is_tree_right, are_extents_in_order, extents_of, is_extents_right, catalog_file_of, is_catalog_right}
 
 -- ---- tests of faults
@@ -140,3 +136,15 @@ catalog-found total blocks mdb file result e h =
     strengthen result (is_tree_right cat_keys blocks mdb (catalog_file_of blocks mdb) mdb.catalog_file_size) (IsTreeIn cat_keys total blocks mdb (catalog_file_of blocks mdb) mdb.catalog_file_size)
     (λ tree is. tree-right cat_keys total blocks mdb (catalog_file_of blocks mdb) mdb.catalog_file_size tree is)
     (subst (λ (x : List Extent). IfOk result (λ found. MatchOption found (is_tree_right cat_keys blocks mdb x mdb.catalog_file_size ≡ false) (IsTreeIn cat_keys total blocks mdb x mdb.catalog_file_size))) e h)
+
+-- ---- what was found
+
+pub is-some-none : {X : Type 0} (o : Option X) (b : Bool) → is_some o ≡ b → is_none o ≡ not b
+is-some-none None b e = ap not e
+is-some-none (Some x) b e = ap not e
+
+pub found-wrong : {X : Type 0} (b : Bool) (P : X → Type 0) (o : Option X) → o ≡ None → MatchOption o (b ≡ false) (λ x. (b ≡ true) × P x) → b ≡ false
+found-wrong b P o e h = subst (λ (found : Option _). MatchOption found (b ≡ false) (λ x. (b ≡ true) × P x)) e h
+
+pub found-right : {X : Type 0} (b : Bool) (P : X → Type 0) (o : Option X) (x : X) → o ≡ Some x → MatchOption o (b ≡ false) (λ y. (b ≡ true) × P y) → (b ≡ true) × P x
+found-right b P o x e h = subst (λ (found : Option _). MatchOption found (b ≡ false) (λ y. (b ≡ true) × P y)) e h

@@ -1,7 +1,7 @@
 -- Bytes that are written, step by step.
-use Rattle.std.proofs.Common.{◌≡◌, ℕ, zero, suc, ◌+◌, ◌<◌, ◌≤◌, List, [], ◌∷◌, ◌++◌, length, get_or, set, take, drop, refl, sym, ap, ◌∙◌, subst, arith}
+use Rattle.std.proofs.Common.{◌≡◌, ℕ, zero, suc, ◌<◌, ◌≤◌, List, [], ◌∷◌, ◌++◌, length, get_or, set, take, drop, refl, sym, ap, ◌∙◌, arith}
 use Rattle.hfs_repair.specs.declared.byte_put.BytePut.{BytePut}
-use Rattle.hfs_repair.specs.Puts.{puts_from, put_all, put_back}
+use Rattle.hfs_repair.specs.Puts.{put_all, put_back}
 
 pub back-append : (xs : List BytePut) (p : BytePut) (image : List ℕ) → put_back (xs ++ p ∷ []) image ≡ put_back xs (set image p.at p.byte)
 back-append [] p image = refl

@@ -1,5 +1,5 @@
 -- A tree whose header record was written with its two counts right.
-use Rattle.std.proofs.Common.{◌≡◌, ◌≢◌, ℕ, ◌<◌, ◌≤◌, Bool, List, [], ◌∷◌, length, get_or, set, Option, None, refl, sym, ap, ◌∙◌, subst, arith, cond}
+use Rattle.std.proofs.Common.{◌≡◌, ◌≢◌, ℕ, ◌≤◌, Bool, List, [], ◌∷◌, length, get_or, set, Option, None, refl, sym, ap, ◌∙◌, subst, arith, cond}
 use Rattle.std.specs.Prelude.{Ok, Result, ◌↔◌, Some, true, false, nat_le}
 use Rattle.std.specs.List.{list_all}
 use Rattle.std.proofs.lemmas.List.{length-set, get_or-set_same, get_or-set_other}
@@ -13,7 +13,7 @@ use Rattle.hfs_scans.specs.Each.{Each}
 use Rattle.hfs_scans.specs.Elements.{each-mono}
 use Rattle.hfs_btree.specs.Tree.{Store, Spot, node_in, records_of, forward_of, key_at}
 use Rattle.hfs_btree.specs.Header.{header_of, header_in, record_in, depth_of, map_nodes, free_nodes, tree_content, tree_turn}
-use Rattle.hfs_btree.specs.Sound.{HasStructure, IsMapNode, IsRight, IsOrdered, AreKeysInOrder}
+use Rattle.hfs_btree.specs.Sound.{HasStructure, IsMapNode, IsRight, IsOrdered}
 use Rattle.hfs_btree.specs.Pairs.{Rises}
 use Rattle.hfs_btree_checks.specs.Order.{first_node, has_keys, key_fault, order_fault}
 use Rattle.hfs_btree_checks.specs.Counts.{in_field}

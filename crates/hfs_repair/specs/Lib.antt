@@ -3,3 +3,5 @@ pub mod Placed
 pub mod Puts
 pub mod Recounted
 pub mod Opened
+pub mod Wrong
+pub mod Fixes

@@ -13,7 +13,9 @@ use Rattle.hfs_space.specs.Extents.{fork_extents}
 use Rattle.hfs_space.specs.Faults.{is_tree_file}
 use Rattle.hfs_space.specs.TreeFiles.{tree_nodes, tree_blocks}
 use Rattle.hfs_space.specs.TreeKeys.{ext_keys, overflow_of}
-use Rattle.hfs_catalog.specs.Tree.{cat_keys}
+use Rattle.hfs_catalog.specs.Records.{Catalog}
+use Rattle.hfs_catalog.specs.Tree.{cat_keys, catalog_of}
+use Rattle.hfs_check.specs.Answers.{listed_fault}
 use Rattle.hfs_check.specs.Faults.{is_fork_key}
 use Rattle.hfs_check.specs.Parts.{Blocks}
 use Rattle.hfs_check.specs.Trees.{LieIn}
@@ -65,3 +67,11 @@ is_catalog_right blocks mdb = is_tree_right cat_keys blocks mdb (catalog_file_of
 -- its nodes
 abbrev pub catalog_nodes_of : Blocks → Mdb → Store
 catalog_nodes_of blocks mdb = tree_nodes blocks mdb (catalog_file_of blocks mdb) mdb.catalog_file_size
+
+-- its records
+abbrev pub catalog_in_of : Blocks → Mdb → Catalog
+catalog_in_of blocks mdb = catalog_of (catalog_nodes_of blocks mdb)
+
+-- the records are right: records, IDs, names, and order, parents and threads
+unfoldable pub are_records_right : Blocks → Mdb → Bool
+are_records_right blocks mdb = is_none (listed_fault mdb.next_id (catalog_nodes_of blocks mdb) (catalog_in_of blocks mdb))

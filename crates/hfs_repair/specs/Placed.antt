@@ -1,5 +1,5 @@
 -- The counted numbers of a volume, each with its place in what a repair tells.
-use Rattle.std.specs.Prelude.{◌≡◌, ℕ, suc, ◌+◌, Bool, if◌then◌else◌, List, [], ◌∷◌, ◌++◌, map, filter, length}
+use Rattle.std.specs.Prelude.{ℕ, suc, ◌+◌, Bool, if◌then◌else◌, List, [], ◌∷◌, ◌++◌, filter, length}
 use Rattle.std.specs.List.{flat_map}
 use Rattle.hfs_fields.specs.Keys.{cat_body_start, cat_body_of}
 use Rattle.hfs_fields.specs.Records.{is_dir, dir_record_of}
@@ -15,7 +15,7 @@ use Rattle.hfs_catalog.specs.Records.{Catalog, valence_of}
 use Rattle.hfs_catalog.specs.Sound.{counts_of}
 use Rattle.hfs_catalog.specs.Tree.{cat_keys}
 use Rattle.hfs_check.specs.Parts.{Blocks, mdb_in, extents_nodes, catalog_extents, catalog_nodes, catalog_in}
-use Rattle.hfs_check.specs.Repair.{CountedNumber, record_start, is_mended, is_mendable, numbers_in}
+use Rattle.hfs_check.specs.Repair.{record_start, is_mended, is_mendable}
 use Rattle.hfs_repair.specs.declared.fixed.FixPlace.{FixPlace}
 use Rattle.hfs_repair.specs.declared.fixed.FixPlace.TheVariants.{RootFiles, FreeBlocks, RootFolders, Files, Folders, ExtentsRecords, ExtentsFree, CatalogRecords, CatalogFree, Valence}
 use Rattle.hfs_repair.specs.Fields.{PlacedNumber}
@@ -83,7 +83,3 @@ placed_in blocks =
 -- the numbers in which an image and its repaired image differ
 unfoldable pub wrong_in : List ℕ → List PlacedNumber
 wrong_in image = if is_mendable image then filter is_wrong (placed_in (block_at image)) else []
-
--- these are all counted numbers of a volume, in the order in which they are written
-abbrev pub PlacesAllNumbers : Type 0
-PlacesAllNumbers = (blocks : Blocks) → map (λ (n : PlacedNumber). n.1) (placed_in blocks) ≡ numbers_in blocks

@@ -45,7 +45,7 @@ fn push_number(puts: &mut Vec<BytePut>, number: &WrongNumber) -> Result<(), Allo
 
 /// The bytes of numbers as they are counted, each with its place. The only error is want of memory.
 #[tactic(auto, unfolding(crate::specs::Puts::puts_of))]
-pub fn byte_puts(alloc: Global, numbers: &[WrongNumber]) -> Result<Vec<BytePut>, AllocError>
+pub(crate) fn byte_puts(alloc: Global, numbers: &[WrongNumber]) -> Result<Vec<BytePut>, AllocError>
     ensures { IfOk result (λ puts. puts.items ≡ puts_of numbers.now) }
 {
     let mut puts = Vec::new(alloc);

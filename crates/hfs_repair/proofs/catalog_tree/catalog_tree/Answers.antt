@@ -1,13 +1,8 @@
-use Rattle.std.proofs.Common.{◌≡◌, List, ap, sym, subst, ◌∙◌, true, false, None}
-use Rattle.std.specs.Prelude.{IfOk, MatchOption}
-use Rattle.hfs_fields.specs.declared.extent.Extent.{Extent}
+use Rattle.std.proofs.Common.{◌≡◌, ap, sym, subst, ◌∙◌, None}
 use Rattle.hfs_btree.specs.Tree.{Store}
 use Rattle.hfs_blocks.specs.Blocks.{nodes_in}
 use Rattle.hfs_btree_checks.specs.Order.{order_fault}
-use Rattle.hfs_space.specs.Extents.{fork_extents}
-use Rattle.hfs_space.specs.TreeKeys.{ext_keys, overflow_of}
-use Rattle.hfs_catalog.specs.Tree.{cat_keys}
-use Rattle.hfs_repair.specs.Opened.{is_tree_right, IsTreeIn, catalog_file_of, is_catalog_right}
+use Rattle.hfs_space.specs.TreeKeys.{ext_keys}
 use Rattle.hfs_repair.proofs.Openings.{order-right, catalog-file, catalog-found}
 use Rattle.hfs_repair.proofs.catalog_tree.catalog_tree.Goals as goal
 

@@ -1,6 +1,5 @@
-use Rattle.std.proofs.Common.{◌≡◌, ◌+◌, suc, ◌<◌, ℕ, List, length, take, drop, sym, ap, ◌∙◌, arith, set, get_or, subst}
+use Rattle.std.proofs.Common.{◌≡◌, ◌+◌, suc, ◌<◌, ℕ, length, take, drop, ap, ◌∙◌, arith, set}
 use Rattle.std.proofs.lemmas.List.{length-set}
-use Rattle.hfs_repair.specs.declared.byte_put.BytePut.{BytePut}
 use Rattle.hfs_repair.specs.Puts.{put_all, put_back}
 use Rattle.hfs_repair.proofs.PutSteps.{ahead, behind}
 use Rattle.hfs_repair.proofs.exchanging.exchange.Goals as goal

@@ -1,4 +1,4 @@
-use Rattle.std.proofs.Common.{◌≡◌, ◌-◌, ℕ, List, length, take, sym, ap, ◌∙◌, arith, get_or}
+use Rattle.std.proofs.Common.{◌-◌, take, sym, ap, ◌∙◌, arith, get_or}
 use Rattle.hfs_repair.specs.Puts.{put_back}
 use Rattle.hfs_repair.proofs.PutSteps.{back-step, set-past}
 use Rattle.hfs_repair.proofs.exchanging.exchange_back.Goals as goal

@@ -1,6 +1,5 @@
-use Rattle.std.proofs.Common.{◌≡◌, Bool, ap, sym, subst, ◌∙◌, true, false}
+use Rattle.std.proofs.Common.{◌≡◌, ap, sym, subst, ◌∙◌, false}
 use Rattle.std.specs.Prelude.{MatchOption}
-use Rattle.hfs_btree.specs.Tree.{Store}
 use Rattle.hfs_blocks.specs.Blocks.{nodes_in}
 use Rattle.hfs_space.specs.TreeKeys.{ext_keys}
 use Rattle.hfs_repair.specs.Opened.{is_tree_right, IsTreeIn, are_extents_in_order}

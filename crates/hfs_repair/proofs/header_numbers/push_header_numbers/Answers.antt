@@ -1,5 +1,4 @@
-use Rattle.std.proofs.Common.{◌≡◌, ◌<◌, ◌+◌, ◌*◌, ap, sym, subst, ◌∙◌, ℕ, List, [], length, get_or, refl}
-use Rattle.std.specs.Prelude.{OnOk}
+use Rattle.std.proofs.Common.{◌≡◌, ◌<◌, ap, sym, subst, ◌∙◌, ℕ, List, [], length, get_or}
 use Rattle.std.specs.List.{flat_map}
 use Rattle.hfs_btree.specs.Tree.{Store}
 use Rattle.hfs_blocks.specs.declared.run.Run.{Run}

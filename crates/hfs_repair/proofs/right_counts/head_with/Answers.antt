@@ -1,8 +1,6 @@
-use Rattle.std.proofs.Common.{◌≡◌, ◌∙◌, ◌<◌, ◌≤◌, refl, ap, ℕ, List, length, sym, subst, arith}
-use Rattle.std.specs.Prelude.{Ok}
+use Rattle.std.proofs.Common.{◌∙◌, ◌≤◌, refl, ap, ℕ, List, length, arith}
 use Rattle.hfs_btree.specs.declared.header.Header.{Header}
 use Rattle.hfs_btree.specs.Decoded.{decoded-within}
-use Rattle.hfs_btree.specs.Header.{header_in, tree_content, free_nodes}
 use Rattle.hfs_btree_edits.specs.Stores.{fits-set, fits-as, header-put, some-records, stored}
 use Rattle.hfs_repair.proofs.Recounts.{is-recount}
 use Rattle.hfs_repair.proofs.right_counts.head_with.Goals as goal

@@ -1,4 +1,4 @@
-use Rattle.std.proofs.Common.{◌≡◌, ◌∙◌, ap, ℕ, length, sym, Option}
+use Rattle.std.proofs.Common.{◌∙◌, ap, length, sym}
 use Rattle.hfs_btree.specs.Header.{tree_content}
 use Rattle.hfs_btree_checks.specs.declared.tree_counts.TreeCounts.{TreeCounts}
 use Rattle.hfs_repair.proofs.Recounts.{in-field, in-field-small}

@@ -1,4 +1,4 @@
-use Rattle.std.proofs.Common.{◌≡◌, ◌≤◌, ◌*◌, ap, length, sym, subst, ◌∙◌}
+use Rattle.std.proofs.Common.{◌≤◌, ◌*◌, ap, length, sym, subst, ◌∙◌}
 use Rattle.hfs_btree.specs.Tree.{Store}
 use Rattle.hfs_blocks.specs.Blocks.{nodes_in}
 use Rattle.hfs_space.specs.FileLengths.{length-tree_nodes}

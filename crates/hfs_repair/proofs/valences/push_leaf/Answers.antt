@@ -1,8 +1,5 @@
-use Rattle.std.proofs.Common.{◌≡◌, ◌<◌, ◌+◌, ◌++◌, ℕ, suc, List, [], ap, sym, subst, ◌∙◌, drop, filter, get_or, length, arith, append_assoc}
-use Rattle.hfs_node.specs.Node.{offset_of}
+use Rattle.std.proofs.Common.{arith}
 use Rattle.hfs_catalog_checks.specs.Indexes.{count_of}
-use Rattle.hfs_repair.specs.Fields.{PlacedNumber}
-use Rattle.hfs_repair.specs.Placed.{is_wrong, placed_from}
 use Rattle.hfs_repair.proofs.Pushed.{leaf-step}
 use Rattle.hfs_repair.proofs.valences.push_leaf.Goals as goal
 

@@ -1,11 +1,9 @@
-use Rattle.std.proofs.Common.{◌≡◌, ◌<◌, ◌≤◌, ◌+◌, ◌*◌, ap, sym, subst, ◌∙◌, ℕ, List, [], length, get_or, arith}
+use Rattle.std.proofs.Common.{◌≡◌, ◌<◌, ap, sym, subst, ◌∙◌, List, [], length, get_or, arith}
 use Rattle.std.specs.List.{flat_map}
-use Rattle.hfs_btree.specs.Tree.{Store}
 use Rattle.hfs_blocks.specs.declared.run.Run.{Run}
 use Rattle.hfs_blocks.specs.Blocks.{run_of, nodes_in}
-use Rattle.hfs_catalog_checks.specs.Indexes.{count_of}
 use Rattle.hfs_repair.proofs.Pushed.{block-of-node}
-use Rattle.hfs_repair.proofs.LeafValences.{reading-none, reading-end, reading-within, reading-entries, reading-some, reading-few, reading-next}
+use Rattle.hfs_repair.proofs.LeafValences.{reading-end, reading-within, reading-entries, reading-some, reading-few, reading-next}
 use Rattle.hfs_repair.proofs.valences.push_valences.Goals as goal
 
 pub read-requires : goal.read-requires
