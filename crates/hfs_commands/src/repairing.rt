@@ -1,5 +1,7 @@
 //! What is told of a repair.
-ghost use Rattle.std.specs.Prelude.{◌≡◌, ◌++◌, IfOk, OnOk, MatchOption, string_bytes};
+ghost use Rattle.std.specs.Prelude.{◌≡◌, ℕ, List, Some, IfOk, OnOk, MatchOption, string_bytes};
+ghost use Rattle.hfs_check.specs.Faults.{fault_of};
+ghost use Rattle.hfs_check.specs.Repair.{repair};
 ghost use Rattle.hfs_commands.specs.Texts.{Gains};
 ghost use Rattle.hfs_commands.specs.Repairs.{place_text, fix_text, fixed_line, fixed_lines, repaired_lines, IsRefused, IsRepaired};
 
@@ -88,7 +90,10 @@ pub struct RepairAnswer {
 }
 
 /// The answer where the repaired image has a fault, which is not want of memory.
-fn refused_answer(alloc: Global, why: MountFault) -> Result<RepairAnswer, AllocError> {
+fn refused_answer(alloc: Global, why: MountFault) -> Result<RepairAnswer, AllocError>
+    ensures { (image : List ℕ) → fault_of (repair image) ≡ Some why → IfOk result (λ answer. MatchOption answer.volume (IsRefused image answer.status (string_bytes answer.lines))
+        (λ volume. IsRepaired image volume.current answer.status (string_bytes answer.lines))) }
+{
     let (status, lines) = refused_text(alloc, why)?;
     Ok(RepairAnswer {
         volume: None,
