@@ -198,6 +198,47 @@ wants 2 'bad node count\n' new "$folder/none.img" D 64 1 2
 wants 2 'no room\n' new "$folder/none.img" D 8 2 1
 [ ! -e "$folder/none.img" ] || fail 'a refused plan made a file'
 
+# Repair: what is printed, what is written, and that a refused image writes nothing. A new volume of 64 blocks with 6 catalog nodes has
+# 50 free blocks, 2 catalog records and an empty root.
+wants 0 'sound\n' repair "$small" "$folder/mended.img"
+cmp "$small" "$folder/mended.img" || fail 'the repair of a sound volume'
+change "$small" $((2 * 512 + 34)) '\000\007'
+for edit in "$((2 * 512 + 84)) \000\000\000\001" "$((6 * 512 + 20)) \000\000\000\011" "$((7 * 512 + 26)) \000\003"; do
+    printf "${edit#* }" | dd of="$folder/changed.img" bs=1 seek="${edit%% *}" conv=notrunc 2> /dev/null
+done
+wants 2 'refused check C4 at 0\n' check "$folder/changed.img"
+four='fixed drFreeBks 7 50\nfixed drFilCnt 1 0\nfixed catalog bthNRecs 9 2\nfixed valence 2 3 0\nsound\n'
+rm "$folder/mended.img"
+wants 0 "$four" repair "$folder/changed.img" "$folder/mended.img"
+cmp "$small" "$folder/mended.img" || fail 'the repair of four numbers'
+chmod 640 "$folder/changed.img"
+ln -s changed.img "$folder/link.img"
+wants 0 "$four" repair "$folder/changed.img" "$folder/link.img"
+cmp "$small" "$folder/changed.img" || fail 'the repair of an image in its own file'
+[ -L "$folder/link.img" ] && [ "$(stat -c %a "$folder/changed.img")" = 640 ] || fail 'a link or its permissions'
+[ -z "$(ls "$folder" | grep new$ | grep -v '^new' || true)" ] || fail 'a repair leaves a file'
+change "$small" $((7 * 512 + 115)) 'E'
+printf '\000\000\000\001' | dd of="$folder/changed.img" bs=1 seek=$((2 * 512 + 84)) conv=notrunc 2> /dev/null
+cp "$folder/changed.img" "$folder/kept.img"
+wants 2 'refused check C8 at 1\n' repair "$folder/changed.img" "$folder/changed.img"
+cmp "$folder/kept.img" "$folder/changed.img" || fail 'a refused image was written'
+wants 2 'refused check C8 at 1\n' repair "$folder/changed.img" "$folder/none.img"
+[ ! -e "$folder/none.img" ] || fail 'a refused image made a file'
+wants 4 "cannot write $folder/none/file\n" repair "$small" "$folder/none/file"
+wants 4 "cannot write /dev/full\n" repair "$small" /dev/full
+wants 4 "cannot read $folder/none.img\n" repair "$folder/none.img" "$folder/mended.img"
+
+# Two folders of another program's disk, whose records stand in another order than their IDs: Documents (17) and System Folder (16).
+cp "$disk" "$folder/changed.img"
+for name in Documents 'System Folder'; do
+    at=$(LC_ALL=C grep -obUaP "\x00\x00\x00\x02.$name\x00?\x01\x00" "$disk" | head -n 1 | cut -d: -f1)
+    [ -n "$at" ] || fail "no record of $name"
+    body=$((at + 5 + ${#name} + (${#name} + 1) % 2))
+    printf '\000\143' | dd of="$folder/changed.img" bs=1 seek=$((body + 4)) conv=notrunc 2> /dev/null
+done
+wants 0 'fixed valence 16 99 0\nfixed valence 17 99 4\nsound\n' repair "$folder/changed.img" "$folder/mended.img"
+cmp "$disk" "$folder/mended.img" || fail 'the repair of two folders'
+
 # The words, and files that are not there: the statuses 1 and 4.
 for words in sing ls cat "cat $small" "ls $small two" "ls $small 4294967296" "new $folder/none.img D 64 6"; do
     got=0
@@ -244,7 +285,7 @@ for words in info 'info a.img b.img' "info $small --now" --now "mount $small" "$
     "$tool" $words > "$folder/printed" 2> "$folder/errors" || got=$?
     [ "$got" = 1 ] && [ -s "$folder/printed" ] && [ ! -s "$folder/errors" ] || fail "'$words' ends with $got"
 done
-for words in --help 'info --help' 'new --help'; do
+for words in --help 'info --help' 'new --help' 'repair --help'; do
     "$tool" $words > "$folder/printed" || fail "'$words' ends with $?"
     [ -s "$folder/printed" ] || fail "'$words' prints nothing"
 done

@@ -98,7 +98,8 @@ pub fn name_fault(index_keys: &[CatKey], catalog: &[CatalogRecord]) -> Option<us
     }
 }
 
-fn count_files_in(catalog: &[CatalogRecord], dir: u32) -> usize
+/// How many files stand under this parent.
+pub fn count_files_in(catalog: &[CatalogRecord], dir: u32) -> usize
     ensures { result ≡ count_by (is_file_in dir) catalog.now }
 {
     catalog
@@ -107,7 +108,8 @@ fn count_files_in(catalog: &[CatalogRecord], dir: u32) -> usize
         .count()
 }
 
-fn count_folders_in(catalog: &[CatalogRecord], dir: u32) -> usize
+/// How many folders stand under this parent.
+pub fn count_folders_in(catalog: &[CatalogRecord], dir: u32) -> usize
     ensures { result ≡ count_by (is_folder_in dir) catalog.now }
 {
     catalog
@@ -116,13 +118,15 @@ fn count_folders_in(catalog: &[CatalogRecord], dir: u32) -> usize
         .count()
 }
 
-fn count_files(catalog: &[CatalogRecord]) -> usize
+/// How many files there are.
+pub fn count_files(catalog: &[CatalogRecord]) -> usize
     ensures { result ≡ count_by (λ r. is_file r.1) catalog.now }
 {
     catalog.iter().filter(|r| is_file(r.body())).count()
 }
 
-fn count_folders(catalog: &[CatalogRecord]) -> usize
+/// How many folders there are, with the root.
+pub fn count_folders(catalog: &[CatalogRecord]) -> usize
     ensures { result ≡ count_by (λ r. is_dir r.1) catalog.now }
 {
     catalog.iter().filter(|r| is_folder(r.body())).count()

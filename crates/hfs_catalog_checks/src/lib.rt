@@ -13,12 +13,16 @@ mod place_check;
 mod thread_check;
 mod valence_check;
 
-pub use checks::{count_fault, name_fault, record_fault};
+pub use checks::{
+    count_fault, count_files, count_files_in, count_folders, count_folders_in, name_fault,
+    record_fault,
+};
 pub use id_check::id_fault;
 pub use index::IndexedCatalog;
 pub use laws::{
     no_count_fault, no_id_fault, no_name_fault, no_place_fault, no_record_fault, no_valence_fault,
     reaches_soon,
 };
+pub use numbers::Numbers;
 pub use place_check::place_fault;
-pub use valence_check::valence_fault;
+pub use valence_check::{child_counts, valence_fault};

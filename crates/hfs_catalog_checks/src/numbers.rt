@@ -11,7 +11,7 @@ use std::marker::Model;
 /// Numbers, each with an ID: places of records, or counts. They are kept in the order of the IDs and not by hashes, since
 /// an image chooses its IDs, and could choose them so that their hashes meet.
 #[derive(Drop)]
-pub(crate) struct Numbers {
+pub struct Numbers {
     numbers: BTreeMap<u32, usize>,
 }
 
@@ -59,7 +59,7 @@ impl Numbers {
     }
 
     /// The number of an ID, 0 if it has none.
-    pub(crate) fn count(&self, id: u32) -> usize
+    pub fn count(&self, id: u32) -> usize
         ensures { result ≡ count_of self.now id }
     {
         self.get(id).unwrap_or(0)

@@ -23,8 +23,8 @@ fn count_child(counts: &mut Numbers, r: &CatalogRecord) -> Result<(), AllocError
     Ok(())
 }
 
-/// How many files and folders have each ID as their parent.
-fn child_counts(alloc: Global, catalog: &[CatalogRecord]) -> Result<Numbers, AllocError>
+/// How many files and folders have each ID as their parent. `Err` only where memory is wanting.
+pub fn child_counts(alloc: Global, catalog: &[CatalogRecord]) -> Result<Numbers, AllocError>
     ensures { IfOk result (λ counts. (id : ℕ) → count_of counts id ≡ valence_of catalog.now id) }
 {
     let mut counts = Numbers::new(alloc);

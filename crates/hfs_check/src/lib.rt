@@ -20,8 +20,11 @@ pub use crate::laws::{
     no_catalog_name_fault, no_catalog_place_fault, no_extents_fault, no_image_fault,
     no_length_fault, no_mdb_fault, sound_images_are_lawful, trees_are_sound,
 };
+pub use crate::mdb_check::{mdb_fault, read_mdb};
 pub use crate::mount_fault::MountFault;
+pub use crate::record_checks::check_catalog_records;
 pub use crate::repair_laws::{repair_keeps_others, repair_keeps_sound_images};
 pub use crate::reported::{Alternate, Report};
 pub use crate::reporting::report;
+pub use crate::tree_checks::check_extents_tree;
 pub use crate::trees::VolumeTrees;

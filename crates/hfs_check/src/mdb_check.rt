@@ -9,7 +9,7 @@ use hfs_fields::Mdb;
 
 /// The master directory block of a volume: block 2.
 #[tactic(auto, unfolding(crate::specs::Parts::mdb_in))]
-pub(crate) fn read_mdb<B: Blocks>(blocks: &B) -> Mdb
+pub fn read_mdb<B: Blocks>(blocks: &B) -> Mdb
     requires { 2 < B.total blocks.now }
     ensures { result ≡ mdb_in (B.blocks blocks.now) }
 {
@@ -44,7 +44,7 @@ fn has_area(mdb: &Mdb, total: u32) -> bool
 /// The first fault of the master directory block of a volume of `total` blocks: `NoMacDisk`, or `BadMdb` with the number of
 /// the first test that fails.
 #[tactic(auto, unfolding(crate::specs::Faults::mdb_fault))]
-pub(crate) fn mdb_fault(mdb: &Mdb, total: u32) -> Option<MountFault>
+pub fn mdb_fault(mdb: &Mdb, total: u32) -> Option<MountFault>
     ensures { result ≡ spec.mdb_fault total mdb.now }
 {
     if mdb.signature != 0x4244 {

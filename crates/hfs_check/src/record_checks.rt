@@ -88,7 +88,7 @@ pub(crate) fn check_counts(mdb: &Mdb, records: &[CatalogRecord]) -> Result<(), M
 }
 
 /// The checks of records, IDs, names, and of order, parents and threads, in this order, on a volume whose next ID is `next`.
-pub(crate) fn check_catalog_records<N: Nodes>(
+pub fn check_catalog_records<N: Nodes>(
     alloc: Global,
     next: u32,
     nodes: &N,

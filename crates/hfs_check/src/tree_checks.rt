@@ -95,11 +95,7 @@ fn check_extents_order<N: Nodes>(tree: &ShapedTree<'_, ExtKey, N>) -> Result<(),
 }
 
 /// The check of the extents tree in a file of `size` bytes: its shape, the forks in its keys, its order.
-pub(crate) fn check_extents_tree<N: Nodes>(
-    alloc: Global,
-    nodes: &N,
-    size: u32,
-) -> Result<(), MountFault>
+pub fn check_extents_tree<N: Nodes>(alloc: Global, nodes: &N, size: u32) -> Result<(), MountFault>
     requires { size ≤ 512 * length (N.nodes nodes.now) }
     ensures { Answers (check_fault 3 (extents_tree_fault size (N.nodes nodes.now))) result }
 {

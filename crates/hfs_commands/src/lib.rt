@@ -11,7 +11,9 @@ mod input;
 mod listing;
 mod output;
 mod refusal;
+mod repairing;
 mod reply;
+mod saving;
 mod text;
 
 pub use checking::{check_text, refused_text};
@@ -23,4 +25,6 @@ pub use input::{IMAGE_LIMIT, LoadFault, load};
 pub use listing::{children_text, code_text, list_text};
 pub use output::put;
 pub use refusal::Refusal;
+pub use repairing::{RepairAnswer, repair_answer};
 pub use reply::reply_text;
+pub use saving::save_file;

@@ -1,9 +1,10 @@
 //! What each word does.
 
 use crate::words::{ForkWords, NewVolume, Words};
+use hfs_check::MountFault;
 use hfs_commands::{
-    Fault, Status, check_text, code_text, list_text, load_file, put, refused_text, run_info,
-    write_file, write_fork,
+    Fault, Status, check_text, code_text, list_text, load_file, put, refused_text, repair_answer,
+    run_info, save_file, write_file, write_fork,
 };
 use hfs_format::{FormatPlan, format};
 use hfs_volume::{Volume, mount};
@@ -19,6 +20,7 @@ pub fn obey<'a>(rt: &HostRuntime, words: &Words<'a>) -> Result<u8, Fault<'a>> {
         Words::List { image, dir } => print_list(rt, *image, *dir),
         Words::Cat(file) => print_fork(rt, file),
         Words::New(volume) => write_new(rt, volume),
+        Words::Repair { image, file } => write_repaired(rt, *image, *file),
     }
 }
 
@@ -124,4 +126,31 @@ fn write_new<'a>(rt: &HostRuntime, volume: &NewVolume<'a>) -> Result<u8, Fault<'
         }
         Err(fault) => Err(Fault::of_format(fault)),
     }
+}
+
+/// Writes an image with its counts mended to a file, and prints what was mended. An image that is refused is told of, and nothing is
+/// written; where the write fails nothing else is printed.
+fn write_repaired<'a>(rt: &HostRuntime, path: &'a str, file: &'a str) -> Result<u8, Fault<'a>> {
+    let image = match load_file(rt, path) {
+        Ok(image) => image,
+        Err(Fault::Refused(why)) => return print_refused(rt, why),
+        Err(fault) => return Err(fault),
+    };
+    let Ok(answer) = repair_answer(rt.alloc(), image) else {
+        return Err(Fault::NoMemory);
+    };
+    if let Some(volume) = &answer.volume {
+        save_file(rt, file, volume)?;
+    }
+    print_lines(rt, answer.lines.as_str())?;
+    Ok(answer.status)
+}
+
+/// Prints why an image is refused.
+fn print_refused<'a>(rt: &HostRuntime, why: MountFault) -> Result<u8, Fault<'a>> {
+    let Ok((status, lines)) = refused_text(rt.alloc(), why) else {
+        return Err(Fault::NoMemory);
+    };
+    print_lines(rt, lines.as_str())?;
+    Ok(status)
 }

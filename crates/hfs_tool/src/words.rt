@@ -20,6 +20,8 @@ pub enum Words<'a> {
     Cat(ForkWords<'a>),
     /// `new FILE NAME BLOCKS NODES EXTENTS [--now N]`: a new volume.
     New(NewVolume<'a>),
+    /// `repair IMAGE FILE`: the image with its counts mended.
+    Repair { image: &'a str, file: &'a str },
 }
 
 /// A fork of a file, by the place of the file in an image.
@@ -127,7 +129,8 @@ fn command<'a>(alloc: Global) -> Result<Command<'a>, AllocError> {
         .subcommand(check_command(alloc)?)?
         .subcommand(list_command(alloc)?)?
         .subcommand(cat_command(alloc)?)?
-        .subcommand(new_command(alloc)?)
+        .subcommand(new_command(alloc)?)?
+        .subcommand(repair_command(alloc)?)
 }
 
 fn info_command<'a>(alloc: Global) -> Result<Command<'a>, AllocError> {
@@ -182,6 +185,16 @@ fn new_command<'a>(alloc: Global) -> Result<Command<'a>, AllocError> {
         .arg(moment(alloc))
 }
 
+fn repair_command<'a>(alloc: Global) -> Result<Command<'a>, AllocError> {
+    let file = word(alloc, "FILE").help(
+        "The file that is written, in place of what it has; it may be the image",
+    );
+    Command::new(alloc, "repair")
+        .about("Writes a volume with its counts mended, where nothing else is wrong")
+        .arg(image(alloc))?
+        .arg(file)
+}
+
 /// Reads the words, the first of which is the program's own name. An error is clap's: help that was asked for, refused
 /// words, or want of memory, told apart by its kind.
 pub fn read_words<'a>(alloc: Global, words: &'a [String]) -> Result<Words<'a>, Error> {
@@ -196,6 +209,10 @@ pub fn read_words<'a>(alloc: Global, words: &'a [String]) -> Result<Words<'a>, E
         },
         Some(("cat", inner)) => cat_words(inner),
         Some(("new", inner)) => new_words(inner),
+        Some(("repair", inner)) => Words::Repair {
+            image: text_of(inner, "IMAGE"),
+            file: text_of(inner, "FILE"),
+        },
         Some((_, inner)) => info_words(inner),
         None => Words::Info { image: None },
     })

@@ -12,6 +12,8 @@ mod mounting;
 #[cfg(test)]
 mod reading;
 #[cfg(test)]
+mod repairs;
+#[cfg(test)]
 mod saving;
 #[cfg(test)]
 mod setting;

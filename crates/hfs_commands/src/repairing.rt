@@ -1,0 +1,121 @@
+//! What is told of a repair.
+ghost use Rattle.std.specs.Prelude.{◌≡◌, ℕ, List, Some, IfOk, OnOk, MatchOption, string_bytes};
+ghost use Rattle.hfs_check.specs.Faults.{fault_of};
+ghost use Rattle.hfs_check.specs.Repair.{repair};
+ghost use Rattle.hfs_commands.specs.Texts.{Gains};
+ghost use Rattle.hfs_commands.specs.Repairs.{place_text, fix_text, fixed_line, fixed_lines, repaired_lines, IsRefused, IsRepaired};
+
+use crate::checking::refused_text;
+use crate::fault::Status;
+use crate::text::{Show, push_line};
+use hfs_check::MountFault;
+use hfs_volume::{Fix, FixPlace, Volume, mount_repaired};
+use std::alloc::{AllocError, Global};
+
+impl Show for FixPlace {
+    ghost shown = { place_text };
+
+    #[tactic(auto, unfolding(crate::specs::Repairs::place_text))]
+    fn push_to(&self, text: &mut String) -> Result<(), AllocError> {
+        match self {
+            FixPlace::RootFiles => text.push_str("drNmFls"),
+            FixPlace::FreeBlocks => text.push_str("drFreeBks"),
+            FixPlace::RootFolders => text.push_str("drNmRtDirs"),
+            FixPlace::Files => text.push_str("drFilCnt"),
+            FixPlace::Folders => text.push_str("drDirCnt"),
+            FixPlace::ExtentsRecords => text.push_str("extents bthNRecs"),
+            FixPlace::ExtentsFree => text.push_str("extents bthFree"),
+            FixPlace::CatalogRecords => text.push_str("catalog bthNRecs"),
+            FixPlace::CatalogFree => text.push_str("catalog bthFree"),
+            FixPlace::Valence(id) => {
+                text.push_str("valence ")?;
+                id.push_to(text)
+            }
+        }
+    }
+}
+
+impl Show for Fix {
+    ghost shown = { fix_text };
+
+    #[tactic(auto, unfolding(crate::specs::Repairs::fix_text))]
+    fn push_to(&self, text: &mut String) -> Result<(), AllocError> {
+        self.place.push_to(text)?;
+        text.push(' ')?;
+        self.was.push_to(text)?;
+        text.push(' ')?;
+        self.now.push_to(text)
+    }
+}
+
+/// Appends the line of a number that was mended.
+#[tactic(auto, unfolding(crate::specs::Repairs::fixed_line))]
+fn push_fix(text: &mut String, fix: Fix) -> Result<(), AllocError>
+    ensures { OnOk result (Gains text.old text.new (fixed_line fix)) }
+{
+    push_line(text, "fixed", fix)
+}
+
+/// Appends a line for each number that was mended.
+#[tactic(auto, unfolding(crate::specs::Repairs::fixed_lines))]
+fn push_fixes(text: &mut String, fixes: &[Fix]) -> Result<(), AllocError>
+    ensures { OnOk result (Gains text.old text.new (fixed_lines fixes.now)) }
+{
+    for fix in fixes {
+        push_fix(text, *fix)?;
+    }
+    Ok(())
+}
+
+/// The lines of a repaired image.
+#[tactic(auto, unfolding(crate::specs::Repairs::repaired_lines))]
+fn repaired_text(alloc: Global, fixes: &[Fix]) -> Result<String, AllocError>
+    ensures { IfOk result (λ text. string_bytes text ≡ repaired_lines fixes.now) }
+{
+    let mut text = String::new(alloc);
+    push_fixes(&mut text, fixes)?;
+    text.push_str("sound\n")?;
+    Ok(text)
+}
+
+/// What a repair makes of an image, and what is told of it.
+#[derive(Drop)]
+pub struct RepairAnswer {
+    /// The volume of the repaired image. None where that is refused.
+    pub volume: Option<Volume>,
+    /// The exit status: 0, or 2 where the image is refused.
+    pub status: u8,
+    /// The lines: `fixed PLACE WAS NOW` for each number that was wrong and then `sound`, or `refused TEXT`.
+    pub lines: String,
+}
+
+/// The answer where the repaired image has a fault, which is not want of memory.
+fn refused_answer(alloc: Global, why: MountFault) -> Result<RepairAnswer, AllocError>
+    ensures { (image : List ℕ) → fault_of (repair image) ≡ Some why → IfOk result (λ answer. MatchOption answer.volume (IsRefused image answer.status (string_bytes answer.lines))
+        (λ volume. IsRepaired image volume.current answer.status (string_bytes answer.lines))) }
+{
+    let (status, lines) = refused_text(alloc, why)?;
+    Ok(RepairAnswer {
+        volume: None,
+        status,
+        lines,
+    })
+}
+
+/// Mends the counted numbers of an image, and tells of it. The only error is want of memory.
+pub fn repair_answer(alloc: Global, image: Vec<u8>) -> Result<RepairAnswer, AllocError>
+    ensures { IfOk result (λ answer. MatchOption answer.volume (IsRefused image.items answer.status (string_bytes answer.lines))
+        (λ volume. IsRepaired image.items volume.current answer.status (string_bytes answer.lines))) }
+{
+    match mount_repaired(alloc, image) {
+        Ok((volume, fixes)) => Ok(RepairAnswer {
+            volume: Some(volume),
+            status: Status::Done.number(),
+            lines: repaired_text(alloc, &fixes)?,
+        }),
+        Err(refused) => match refused.fault {
+            MountFault::Memory => Err(AllocError),
+            why => refused_answer(alloc, why),
+        },
+    }
+}

@@ -1,0 +1,94 @@
+//! The catalog tree of a volume, but for its two counts.
+
+ghost use Rattle.std.specs.Prelude.{◌≡◌, ◌*◌, ◌≤◌, true, false, None, ℕ, Option, IfOk, MatchOption, length};
+ghost use Rattle.std.specs.Option.{is_none};
+ghost use Rattle.hfs_btree.specs.Sound.{HasStructure};
+ghost use Rattle.hfs_btree_checks.specs.Order.{order_fault};
+ghost use Rattle.hfs_space.specs.Extents as extents_spec;
+ghost use Rattle.hfs_space.specs.TreeKeys.{ext_keys, overflow_of};
+ghost use Rattle.hfs_catalog.specs.Tree.{cat_keys, catalog_of};
+ghost use Rattle.hfs_check.specs.Answers.{listed_fault};
+ghost use Rattle.hfs_check.specs.Sound.{IsMdbSound};
+ghost use Rattle.hfs_repair.specs.Opened.{AreRightCounts, IsTreeIn, is_extents_right, catalog_file_of, is_catalog_right};
+
+use crate::extents_tree::is_right;
+use crate::headed_nodes::HeadedNodes;
+use crate::right_counts::RightCounts;
+use crate::tree_file::{TreeFile, tree_file};
+use hfs_blocks::Blocks;
+use hfs_btree::{Nodes, RunNodes};
+use hfs_catalog::{CatalogRecord, read_records};
+use hfs_check::check_catalog_records;
+use hfs_fields::{CatKey, Extent, Mdb};
+use hfs_space::{ForkKind, fork_extents};
+use std::alloc::{AllocError, Global};
+
+/// The extents of the catalog file, with those that go on in the extents tree.
+fn catalog_extents<N: Nodes>(
+    alloc: Global,
+    mdb: &Mdb,
+    nodes: &N,
+    counts: &RightCounts,
+) -> Result<Vec<Extent>, AllocError>
+    requires right { (size : ℕ) × AreRightCounts ext_keys size (N.nodes nodes.now) counts.now }
+    requires order { order_fault ext_keys (N.nodes nodes.now) ≡ None }
+    ensures { IfOk result (λ extents. extents.items ≡ extents_spec.fork_extents (overflow_of (N.nodes nodes.now)) 4 0 mdb.now.catalog_file) }
+{
+    let headed = HeadedNodes {
+        nodes,
+        head: counts.head,
+    };
+    fork_extents(alloc, &headed, 4, ForkKind::Data, &mdb.catalog_file)
+}
+
+/// The catalog tree, where its file lies in the volume, and it has its shape but for its two counts. None exactly where it
+/// hasn't. The only error is want of memory.
+pub(crate) fn catalog_tree<B: Blocks>(
+    alloc: Global,
+    blocks: &B,
+    mdb: &Mdb,
+    extents: &TreeFile,
+) -> Result<Option<TreeFile>, AllocError>
+    requires sound { IsMdbSound (B.total blocks.now) mdb.now }
+    requires right { is_extents_right (B.blocks blocks.now) mdb.now ≡ true }
+    requires extents { IsTreeIn ext_keys (B.total blocks.now) (B.blocks blocks.now) mdb.now mdb.now.extents_file mdb.now.extents_file_size extents.now }
+    ensures { IfOk result (λ found. MatchOption found (is_catalog_right (B.blocks blocks.now) mdb.now ≡ false)
+        (λ tree. (is_catalog_right (B.blocks blocks.now) mdb.now ≡ true) × IsTreeIn cat_keys (B.total blocks.now) (B.blocks blocks.now) mdb.now (catalog_file_of (B.blocks blocks.now) mdb.now) mdb.now.catalog_file_size tree)) }
+{
+    let nodes = RunNodes {
+        blocks,
+        runs: &extents.runs,
+    };
+    let file = catalog_extents(alloc, mdb, &nodes, &extents.counts)?;
+    tree_file::<CatKey, B>(alloc, blocks, mdb, &file, mdb.catalog_file_size)
+}
+
+/// The records of a catalog that has its shape but for its two counts. The only error is want of memory.
+pub(crate) fn catalog_records<N: Nodes>(
+    alloc: Global,
+    nodes: &N,
+    counts: &RightCounts,
+) -> Result<Vec<CatalogRecord>, AllocError>
+    requires { (size : ℕ) × AreRightCounts cat_keys size (N.nodes nodes.now) counts.now }
+    ensures { IfOk result (λ records. records.items ≡ catalog_of (N.nodes nodes.now)) }
+{
+    let headed = HeadedNodes {
+        nodes,
+        head: counts.head,
+    };
+    read_records(alloc, &headed)
+}
+
+/// Whether the records of a catalog that has its shape but for its two counts are right: records, IDs, names, and order,
+/// parents and threads, on a volume whose next ID is `next`. The only error is want of memory.
+pub(crate) fn are_records_right<N: Nodes>(
+    alloc: Global,
+    next: u32,
+    nodes: &N,
+    records: &[CatalogRecord],
+) -> Result<bool, AllocError>
+    requires { HasStructure cat_keys (N.nodes nodes.now) }
+    ensures { IfOk result (λ right. right ≡ is_none (listed_fault next (N.nodes nodes.now) records.now)) }
+{
+    is_right(check_catalog_records(alloc, next, nodes, records))
+}

@@ -1,0 +1,25 @@
+//! The numbers of a volume that are counted: those that are wrong in an image which is right but for them, and the image with
+//! them as they are counted.
+#![tactic(auto)]
+
+mod byte_put;
+mod catalog_tree;
+mod exchanging;
+mod extents_tree;
+mod field_value;
+mod fix_list;
+mod fixed;
+mod headed_nodes;
+mod header_numbers;
+mod mdb_numbers;
+mod mendings;
+mod right_counts;
+mod tree_file;
+mod valences;
+mod wrong;
+mod wrong_number;
+
+pub use byte_put::BytePut;
+pub use exchanging::{exchange, exchange_back};
+pub use fixed::{Fix, FixPlace};
+pub use mendings::Mending;

@@ -1,0 +1,40 @@
+//! What a repair of an image writes, and what it tells.
+
+ghost use Rattle.std.specs.Prelude.{◌≡◌, IfOk};
+ghost use Rattle.hfs_check.specs.Repair.{repair};
+ghost use Rattle.hfs_repair.specs.Fixes.{AreFixes};
+ghost use Rattle.hfs_repair.specs.Placed.{wrong_in};
+ghost use Rattle.hfs_repair.specs.Puts.{put_all};
+
+use crate::byte_put::BytePut;
+use crate::exchanging::byte_puts;
+use crate::fix_list::fixes;
+use crate::fixed::Fix;
+use crate::wrong::wrong_numbers;
+use std::alloc::{AllocError, Global};
+
+/// What a repair of an image writes, and what it tells.
+#[derive(Drop)]
+pub struct Mending {
+    /// The bytes that it writes. `exchange` makes the repaired image of the image by them.
+    pub puts: Vec<BytePut>,
+    /// The numbers that are wrong, each once, in the order of `FixPlace`.
+    pub fixes: Vec<Fix>,
+}
+
+impl Mending {
+    /// What a repair of an image writes and tells: the counted numbers that are wrong, where all before them is right; nothing where
+    /// something before them is wrong. A number that is too large for its field stays. The image is left as it is, and read a fixed
+    /// number of times. The only error is want of memory.
+    ///
+    /// Source: Inside Macintosh: Files, chapter 2, 'Data Organization on Volumes'; docs/CHECKS.md has the ten numbers.
+    pub fn of(alloc: Global, image: &[u8]) -> Result<Mending, AllocError>
+        ensures written { IfOk result (λ mending. put_all mending.puts.items image.now ≡ repair image.now) }
+        ensures told { IfOk result (λ mending. AreFixes (wrong_in image.now) mending.fixes.items) }
+    {
+        let wrong = wrong_numbers(alloc, image)?;
+        let puts = byte_puts(alloc, &wrong)?;
+        let fixes = fixes(alloc, &wrong)?;
+        Ok(Mending { puts, fixes })
+    }
+}

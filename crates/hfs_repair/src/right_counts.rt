@@ -1,0 +1,95 @@
+//! The two numbers of a tree's header record, as they are counted.
+
+ghost use Rattle.std.specs.Prelude.{◌≡◌, ◌*◌, ◌≤◌, ◌<◌, false, IfOk, MatchOption, length};
+ghost use Rattle.std.specs.Option.{is_none};
+ghost use Rattle.hfs_btree.specs.Header.{header_of, header_in, free_nodes, tree_content};
+ghost use Rattle.hfs_btree.specs.Sound.{HasStructure};
+ghost use Rattle.hfs_btree_checks.specs.Shape.{structure_fault};
+ghost use Rattle.hfs_repair.specs.Recounted.{with_head, IsRecountOf};
+ghost use Rattle.hfs_repair.specs.Opened.{AreRightCounts};
+
+use hfs_btree::{Header, Key, Nodes};
+use hfs_btree_checks::{TreeFault, count_tree};
+use hfs_btree_edits::load;
+use hfs_node::{BLANK_NODE, encode};
+use std::alloc::{AllocError, Global};
+
+/// The two numbers that a tree's header record counts, and its header node with them in it.
+#[derive(Drop)]
+pub(crate) struct RightCounts {
+    /// The header record, which may tell the two numbers wrong.
+    pub(crate) header: Header,
+    /// How many records the leaves have.
+    pub(crate) records: u32,
+    /// How many of the tree's nodes have a clear bit in the node map.
+    pub(crate) free_nodes: u32,
+    /// The bytes of a header node that tells the two numbers right, and is otherwise the tree's.
+    pub(crate) head: [u8; 512],
+}
+
+/// A header record with these fields, and behind them the bytes of the old one.
+fn header_entry(alloc: Global, header: &Header, old: &[u8]) -> Result<Vec<u8>, AllocError>
+    requires { 30 ≤ length old.now }
+    ensures fields { IfOk result (λ made. header_of made.items ≡ header.now) }
+    ensures length { IfOk result (λ made. length made.items ≡ length old.now) }
+{
+    let mut entry = Vec::from_slice(alloc, old)?;
+    header.write(entry.as_mut_slice());
+    Ok(entry)
+}
+
+/// The bytes of a tree's header node with these two numbers in its header record.
+fn head_with<K: Key, N: Nodes>(
+    alloc: Global,
+    nodes: &N,
+    header: &Header,
+    records: u32,
+    free: u32,
+) -> Result<[u8; 512], AllocError>
+    requires structure { HasStructure K.Key (N.nodes nodes.now) }
+    requires header { header.now ≡ header_in (N.nodes nodes.now) }
+    requires records { records ≡ length (tree_content K.Key (N.nodes nodes.now)) }
+    requires free { free ≡ free_nodes (N.nodes nodes.now) }
+    ensures { IfOk result (λ head. IsRecountOf K.Key (N.nodes nodes.now) (with_head (N.nodes nodes.now) head)) }
+{
+    let right = Header {
+        records,
+        free_nodes: free,
+        ..*header
+    };
+    let mut head = load(alloc, nodes, 0)?;
+    let entry = header_entry(alloc, &right, head.records.record(0))?;
+    let _old = head.records.replace(0, entry);
+    let mut bytes = BLANK_NODE;
+    encode(&head, &mut bytes);
+    Ok(bytes)
+}
+
+/// The two numbers of a tree in a file of `size` bytes that has its shape but for what its header record tells of them. None
+/// exactly where it hasn't. The only error is want of memory.
+pub(crate) fn right_counts<K: Key, N: Nodes>(
+    alloc: Global,
+    nodes: &N,
+    size: u32,
+) -> Result<Option<RightCounts>, AllocError>
+    requires { size ≤ 512 * length (N.nodes nodes.now) }
+    ensures { IfOk result (λ found. MatchOption found (is_none (structure_fault K.Key size (N.nodes nodes.now)) ≡ false) (AreRightCounts K.Key size (N.nodes nodes.now))) }
+{
+    let counts = match count_tree::<K, N>(alloc, nodes, size) {
+        Ok(counts) => counts,
+        Err(TreeFault::Memory) => return Err(AllocError),
+        Err(TreeFault::At(_)) => return Ok(None),
+    };
+    let Some(records) = counts.records else {
+        return Err(AllocError);
+    };
+    let header = counts.header;
+    let free_nodes = counts.free_nodes;
+    let head = head_with::<K, N>(alloc, nodes, &header, records, free_nodes)?;
+    Ok(Some(RightCounts {
+        header,
+        records,
+        free_nodes,
+        head,
+    }))
+}

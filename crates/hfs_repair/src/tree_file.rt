@@ -1,0 +1,48 @@
+//! The file of a tree, and the tree but for its two counts.
+
+ghost use Rattle.std.specs.Prelude.{◌≡◌, false, IfOk, MatchOption};
+ghost use Rattle.hfs_check.specs.Sound.{IsMdbSound};
+ghost use Rattle.hfs_repair.specs.Opened.{is_tree_right, IsTreeIn};
+
+use crate::right_counts::{RightCounts, right_counts};
+use hfs_blocks::{Blocks, Run};
+use hfs_btree::{Key, RunNodes};
+use hfs_fields::{Extent, Mdb};
+use hfs_space::{is_tree_file, no_tree_file_fault, tree_runs};
+use std::alloc::{AllocError, Global};
+
+/// Where a tree lies, and its two counts.
+#[derive(Drop)]
+pub(crate) struct TreeFile {
+    /// The runs of its nodes, in their order.
+    pub(crate) runs: Vec<Run>,
+    /// The two numbers that its header record counts.
+    pub(crate) counts: RightCounts,
+}
+
+/// The tree in a file of `size` bytes in these extents, where the file lies in the volume and the tree has its shape but for
+/// what its header record counts. None exactly where one of both doesn't hold. The only error is want of memory.
+pub(crate) fn tree_file<K: Key, B: Blocks>(
+    alloc: Global,
+    blocks: &B,
+    mdb: &Mdb,
+    extents: &[Extent],
+    size: u32,
+) -> Result<Option<TreeFile>, AllocError>
+    requires { IsMdbSound (B.total blocks.now) mdb.now }
+    ensures { IfOk result (λ found. MatchOption found (is_tree_right K.Key (B.blocks blocks.now) mdb.now extents.now size ≡ false) (IsTreeIn K.Key (B.total blocks.now) (B.blocks blocks.now) mdb.now extents.now size)) }
+{
+    no_tree_file_fault();
+    if !is_tree_file(mdb, extents, size) {
+        return Ok(None);
+    }
+    let runs = tree_runs(alloc, blocks, mdb, extents, size)?;
+    let nodes = RunNodes {
+        blocks,
+        runs: &runs,
+    };
+    match right_counts::<K, RunNodes<'_, B>>(alloc, &nodes, size)? {
+        Some(counts) => Ok(Some(TreeFile { runs, counts })),
+        None => Ok(None),
+    }
+}

@@ -1,0 +1,118 @@
+//! The counted numbers that are wrong in a volume which is right but for them.
+
+ghost use Rattle.std.specs.Prelude.{◌≡◌, ◌≤◌, ◌++◌, true, [], if◌then◌else◌, filter, IfOk, OnOk};
+ghost use Rattle.hfs_space.specs.TreeKeys.{ext_keys};
+ghost use Rattle.hfs_catalog.specs.Tree.{cat_keys};
+ghost use Rattle.hfs_check.specs.Sound.{IsMdbSound};
+ghost use Rattle.hfs_repair.specs.Opened.{IsTreeIn, catalog_file_of, catalog_in_of};
+ghost use Rattle.hfs_repair.specs.Opened as opened;
+ghost use Rattle.hfs_repair.specs.Placed.{is_wrong, wrong_in};
+ghost use Rattle.hfs_repair.specs.Wrong as spec;
+ghost use Rattle.hfs_repair.specs.Wrong.{placed_of};
+
+use crate::catalog_tree::{are_records_right, catalog_records, catalog_tree};
+use crate::extents_tree::extents_tree;
+use crate::fixed::FixPlace;
+use crate::header_numbers::push_header_numbers;
+use crate::mdb_numbers::push_mdb_numbers;
+use crate::tree_file::TreeFile;
+use crate::valences::push_valences;
+use crate::wrong_number::WrongNumber;
+use hfs_blocks::{Blocks, ImageBytes};
+use hfs_btree::RunNodes;
+use hfs_catalog::CatalogRecord;
+use hfs_catalog_checks::child_counts;
+use hfs_check::{mdb_fault, no_mdb_fault, read_mdb};
+use hfs_fields::{CatKey, ExtKey, Mdb};
+use std::alloc::{AllocError, Global};
+
+/// Adds all counted numbers of a volume that are wrong, where these are the catalog's records.
+fn push_numbers<B: Blocks>(
+    alloc: Global,
+    wrong: &mut Vec<WrongNumber>,
+    blocks: &B,
+    mdb: &Mdb,
+    extents: &TreeFile,
+    catalog: &TreeFile,
+    records: &[CatalogRecord],
+) -> Result<(), AllocError>
+    requires sound { IsMdbSound (B.total blocks.now) mdb.now }
+    requires extents { IsTreeIn ext_keys (B.total blocks.now) (B.blocks blocks.now) mdb.now mdb.now.extents_file mdb.now.extents_file_size extents.now }
+    requires catalog { IsTreeIn cat_keys (B.total blocks.now) (B.blocks blocks.now) mdb.now (catalog_file_of (B.blocks blocks.now) mdb.now) mdb.now.catalog_file_size catalog.now }
+    requires records { records.now ≡ catalog_in_of (B.blocks blocks.now) mdb.now }
+    ensures { OnOk result (wrong.new.items ≡ wrong.old.items ++ filter is_wrong (placed_of (B.blocks blocks.now) mdb.now)) }
+{
+    let children = child_counts(alloc, records)?;
+    push_mdb_numbers(wrong, blocks, mdb, records)?;
+    push_header_numbers::<ExtKey, B>(
+        wrong,
+        FixPlace::ExtentsRecords,
+        FixPlace::ExtentsFree,
+        blocks,
+        extents,
+    )?;
+    push_header_numbers::<CatKey, B>(
+        wrong,
+        FixPlace::CatalogRecords,
+        FixPlace::CatalogFree,
+        blocks,
+        catalog,
+    )?;
+    push_valences(wrong, &children, blocks, catalog)
+}
+
+/// The wrong numbers of a volume whose trees are right but for their counts; none where the catalog's records aren't right.
+fn numbers_behind_trees<B: Blocks>(
+    alloc: Global,
+    blocks: &B,
+    mdb: &Mdb,
+    extents: &TreeFile,
+    catalog: &TreeFile,
+) -> Result<Vec<WrongNumber>, AllocError>
+    requires sound { IsMdbSound (B.total blocks.now) mdb.now }
+    requires extents { IsTreeIn ext_keys (B.total blocks.now) (B.blocks blocks.now) mdb.now mdb.now.extents_file mdb.now.extents_file_size extents.now }
+    requires catalog { IsTreeIn cat_keys (B.total blocks.now) (B.blocks blocks.now) mdb.now (catalog_file_of (B.blocks blocks.now) mdb.now) mdb.now.catalog_file_size catalog.now }
+    ensures { IfOk result (λ wrong. wrong.items ≡ if opened.are_records_right (B.blocks blocks.now) mdb.now then filter is_wrong (placed_of (B.blocks blocks.now) mdb.now) else []) }
+{
+    let nodes = RunNodes {
+        blocks,
+        runs: &catalog.runs,
+    };
+    let records = catalog_records(alloc, &nodes, &catalog.counts)?;
+    let mut wrong = Vec::new(alloc);
+    if are_records_right(alloc, mdb.next_id, &nodes, &records)? {
+        push_numbers(alloc, &mut wrong, blocks, mdb, extents, catalog, &records)?;
+    }
+    Ok(wrong)
+}
+
+/// The wrong numbers of the blocks of a volume; none where anything before them is wrong.
+fn wrong_in_blocks<B: Blocks>(alloc: Global, blocks: &B) -> Result<Vec<WrongNumber>, AllocError>
+    requires { 3 ≤ B.total blocks.now }
+    ensures { IfOk result (λ wrong. wrong.items ≡ spec.wrong_in_blocks (B.total blocks.now) (B.blocks blocks.now)) }
+{
+    no_mdb_fault();
+    let mdb = read_mdb(blocks);
+    if mdb_fault(&mdb, blocks.count()).is_some() {
+        return Ok(Vec::new(alloc));
+    }
+    let Some(extents) = extents_tree(alloc, blocks, &mdb)? else {
+        return Ok(Vec::new(alloc));
+    };
+    let Some(catalog) = catalog_tree(alloc, blocks, &mdb, &extents)? else {
+        return Ok(Vec::new(alloc));
+    };
+    numbers_behind_trees(alloc, blocks, &mdb, &extents, &catalog)
+}
+
+/// The counted numbers that are wrong in an image which is right before them, in the order in which they are written; none where
+/// anything before them is wrong. One that is too large for its field is none of them. The only error is want of memory.
+pub(crate) fn wrong_numbers(alloc: Global, image: &[u8]) -> Result<Vec<WrongNumber>, AllocError>
+    ensures { IfOk result (λ wrong. wrong.items ≡ wrong_in image.now) }
+{
+    if image.len() > 2_147_483_648 || image.len() < 1_536 {
+        return Ok(Vec::new(alloc));
+    }
+    let blocks = ImageBytes { bytes: image };
+    wrong_in_blocks(alloc, &blocks)
+}

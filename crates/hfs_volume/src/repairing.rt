@@ -1,0 +1,57 @@
+//! Mounting of images that are right but for their counts.
+
+ghost use Rattle.std.specs.Prelude.{◌≡◌, [], IfOk, IfErr, OnOk};
+ghost use Rattle.hfs_check.specs.Answers.{IsFaultOf};
+ghost use Rattle.hfs_check.specs.Faults.{fault_of};
+ghost use Rattle.hfs_check.specs.Repair.{repair};
+ghost use Rattle.hfs_check.specs.Sound.{IsSound};
+ghost use Rattle.hfs_repair.specs.Fixes.{AreFixes};
+ghost use Rattle.hfs_repair.specs.Placed.{wrong_in};
+ghost use Rattle.hfs_repair.specs.Puts.{put_back};
+
+use crate::mounting::{Refused, mount};
+use crate::volume::Volume;
+use hfs_check::MountFault;
+use hfs_repair::{BytePut, Fix, Mending, exchange, exchange_back};
+use std::alloc::Global;
+
+/// A refusal with the image as it was before these bytes were exchanged.
+fn given_back(refused: Refused, puts: &[BytePut]) -> Refused
+    ensures fault { result.fault ≡ refused.fault }
+    ensures given { result.image.items ≡ put_back puts.now refused.image.items }
+{
+    let Refused { fault, mut image } = refused;
+    exchange_back(image.as_mut_slice(), puts);
+    Refused { fault, image }
+}
+
+/// Mounts the volume of an image with its counted numbers mended: drNmFls, drFreeBks, drNmRtDirs, drFilCnt, drDirCnt, both trees'
+/// bthNRecs and bthFree, and the valences. Ok exactly where the repaired image is sound, unless memory is wanting, with that image
+/// as it was opened, and with the numbers that were wrong, each once, in the order of `FixPlace`; else the first fault of the
+/// repaired image, with the image as it was given. An image in which anything before these numbers is wrong is its own repair.
+///
+/// While the repaired image is checked the mended numbers stand in its bytes; at a refusal they are exchanged back, which takes no
+/// memory.
+///
+/// Source: Inside Macintosh: Files, chapter 2, "Data Organization on Volumes"; docs/CHECKS.md has the ten numbers.
+pub fn mount_repaired(alloc: Global, image: Vec<u8>) -> Result<(Volume, Vec<Fix>), Refused>
+    ensures sound { OnOk result (IsSound (repair image.items)) }
+    ensures base { IfOk result (λ mounted. mounted.0.base ≡ repair image.items) }
+    ensures current { IfOk result (λ mounted. mounted.0.current ≡ repair image.items) }
+    ensures changed { IfOk result (λ mounted. mounted.0.changed ≡ []) }
+    ensures fixes { IfOk result (λ mounted. AreFixes (wrong_in image.items) mounted.1.items) }
+    ensures fault { IfErr result (λ refused. IsFaultOf (fault_of (repair image.items)) refused.fault) }
+    ensures given { IfErr result (λ refused. refused.image.items ≡ image.items) }
+{
+    let mut image = image;
+    let Ok(mending) = Mending::of(alloc, &image) else {
+        let fault = MountFault::Memory;
+        return Err(Refused { fault, image });
+    };
+    let Mending { mut puts, fixes } = mending;
+    exchange(image.as_mut_slice(), puts.as_mut_slice());
+    match mount(alloc, image) {
+        Ok(volume) => Ok((volume, fixes)),
+        Err(refused) => Err(given_back(refused, &puts)),
+    }
+}
