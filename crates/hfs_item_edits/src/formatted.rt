@@ -10,7 +10,7 @@ use hfs_node_tables::NodeTable;
 use std::alloc::Global;
 
 /// The key of a file: the first is `{`, the others `_x`, `B` and `a`.
-fn key(number: usize) -> Result<CatKey> {
+fn key(number: u32) -> Result<CatKey> {
     let name = match number {
         0 => Name::of_bytes(b"{"),
         1 => Name::of_bytes(b"_x"),
@@ -31,8 +31,8 @@ fn header_of(alloc: Global, nodes: &NodeTable) -> Result<Header> {
 
 /// The four files come, with the IDs from 16 on: three of them have room in the one leaf, and the fourth cuts it in two.
 pub fn put_four(alloc: Global, nodes: &mut NodeTable) -> Result<()> {
-    for i in 0..4 {
-        add_file(alloc, nodes, &key(i)?, &FileRecord::new(16 + i as u32, 0))?;
+    for i in 0..4u32 {
+        add_file(alloc, nodes, &key(i)?, &FileRecord::new(16 + i, 0))?;
         let header = header_of(alloc, nodes)?;
         let (depth, free) = if i < 3 { (1, 4) } else { (2, 2) };
         ensure!(header.depth == depth, "another depth");
@@ -45,7 +45,7 @@ pub fn put_four(alloc: Global, nodes: &mut NodeTable) -> Result<()> {
 
 /// The four files go, in the order of this number, of 24.
 pub fn take_four(alloc: Global, nodes: &mut NodeTable, order: usize) -> Result<()> {
-    let mut left = vec![in alloc; 0, 1, 2, 3]?;
+    let mut left = vec![in alloc; 0u32, 1, 2, 3]?;
     let mut rest = order;
     for _ in 0..4 {
         let count = left.len().max(1);
@@ -55,12 +55,7 @@ pub fn take_four(alloc: Global, nodes: &mut NodeTable, order: usize) -> Result<(
             bail!("no file is left");
         }
         let number = left.remove(place);
-        drop_item(
-            alloc,
-            nodes,
-            &key(number)?,
-            16u32.wrapping_add(number as u32),
-        )?;
+        drop_item(alloc, nodes, &key(number)?, 16u32.wrapping_add(number))?;
     }
     let records = check_records(alloc, nodes)?;
     ensure!(records.len() == 2, "another count of pairs");
