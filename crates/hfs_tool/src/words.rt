@@ -114,6 +114,7 @@ Examples:
   hfs_tool ls disk.img
   hfs_tool cat disk.img 19 'Read Me' > read_me.data || rm read_me.data
   hfs_tool new disk.img Archive 1600 40 4
+  hfs_tool repair disk.img mended.img
 
 After a fault its text is printed where the result would have been: test the status.";
 
@@ -121,7 +122,7 @@ After a fault its text is printed where the result would have been: test the sta
 fn command<'a>(alloc: Global) -> Result<Command<'a>, AllocError> {
     Command::new(alloc, "hfs_tool")
         .about(
-            "Reads and checks HFS volumes, and makes new ones. With no words: info on standard input",
+            "Reads and checks HFS volumes, mends their counts, and makes new ones. With no words: info on standard input",
         )
         .version(VERSION)
         .after_help(AFTER_HELP)
