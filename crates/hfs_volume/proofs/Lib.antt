@@ -18,7 +18,6 @@ pub mod Shared
 pub mod StayingBlocks
 pub mod Owned
 pub mod OwnedStay
-
 pub mod Choices
 pub mod Chosen
 pub mod Edited

@@ -113,7 +113,11 @@ fn what_is_not_there_is_not_set(rt: HostRuntime) -> Result<(), Fail> {
 
 #[test]
 fn nothing_is_set_on_a_locked_volume(rt: HostRuntime) -> Result<(), Fail> {
-    for (attributes, code) in [([0x81, 0x00], -46), ([0x01, 0x80], -44), ([0x81, 0x80], -44)] {
+    for (attributes, code) in [
+        ([0x81, 0x00], -46),
+        ([0x01, 0x80], -44),
+        ([0x81, 0x80], -44),
+    ] {
         let mut image = small_image(rt.alloc(), SmallVolume::OneFile)?;
         lay(&mut image, 2, 10, &attributes)?;
         let mut volume = mounted(rt.alloc(), image)?;
