@@ -243,7 +243,12 @@ impl Table {
                 self.delete_file_id(*id, *now);
                 Ok(())
             }
-            _ => unreachable!(),
+            Call::GetDirInfo { .. }
+            | Call::GetCatInfo { .. }
+            | Call::GetIndexed { .. }
+            | Call::List { .. }
+            | Call::ReadFork { .. }
+            | Call::ResolveFileId { .. } => unreachable!(),
         }
     }
 }

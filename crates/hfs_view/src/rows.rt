@@ -86,7 +86,17 @@ impl Rows {
                 .table
                 .read_fork(alloc, *dir, name.as_slice(), *fork, *offset, *count),
             Call::ResolveFileId { id } => Ok(self.table.resolve_file_id(*id)),
-            _ => unreachable!(),
+            Call::Create { .. }
+            | Call::DirCreate { .. }
+            | Call::Delete { .. }
+            | Call::Rename { .. }
+            | Call::CatMove { .. }
+            | Call::SetFInfo { .. }
+            | Call::SetCatInfo { .. }
+            | Call::SetFLock { .. }
+            | Call::RstFLock { .. }
+            | Call::CreateFileId { .. }
+            | Call::DeleteFileId { .. } => unreachable!(),
         }
     }
 }
