@@ -13,6 +13,8 @@ use Rattle.hfs_scans.specs.Elements.{each-append, each-left, each-right, each-ma
 use Rattle.hfs_catalog.specs.Records.{Record, Catalog}
 use Rattle.hfs_catalog.specs.Sound.{IsRecord, IsIndexKeyName, AreNamesSound}
 use Rattle.hfs_catalog.specs.Tree.{cat_keys, catalog_of}
+use Rattle.hfs_catalog_edits.specs.Keeps.{given_keys_hold}
+use Rattle.hfs_call_edits.specs.CatalogPatch.{KeepsNamed}
 
 module _ {K : Type 0} (g : Ghosts K) (nodes : Store) (P : K → Type 0) where
   abbrev AtSpot : Spot → Type 0
@@ -76,3 +78,10 @@ pub replaced_names : (key : CatKey) (old new : Store) → EachKey cat_keys (IsKe
 replaced_names key old new keys own records names index =
     index_each cat_keys new IsIndexKeyName
     (keys-hold_with cat_keys old new key keys IsIndexKeyName (each_key cat_keys old IsIndexKeyName index (leaf_names (catalog_of old) records names)) own)
+
+-- the same where several records came, went, or were put in place of others
+pub kept_names : (old new : Store) → KeepsNamed old new → Each IsRecord (catalog_of old) → AreNamesSound (catalog_of old)
+    → Each IsIndexKeyName (index_keys cat_keys old) → Each IsIndexKeyName (index_keys cat_keys new)
+kept_names old new keeps records names index =
+    index_each cat_keys new IsIndexKeyName
+    (given_keys_hold keeps.given old new keeps.keeps IsIndexKeyName keeps.named (each_key cat_keys old IsIndexKeyName index (leaf_names (catalog_of old) records names)))

@@ -1,6 +1,7 @@
 //! What a call edits in a volume's catalog, as a patch of the volume's blocks.
 #![tactic(auto)]
 
+mod catalog_patch;
 mod counts;
 mod recorded;
 mod settings;
