@@ -4,3 +4,6 @@ pub mod Placed
 pub mod Closed
 pub mod SetRecord
 pub mod Made
+pub mod Choices
+pub mod Chosen
+pub mod Edited

@@ -1,2 +1,5 @@
 pub mod Settings
 pub mod CatalogPatch
+pub mod Choosing
+pub mod Edits
+pub mod Serving

@@ -1,6 +1,7 @@
 //! The counts in a volume's master directory block.
 
-ghost use Rattle.std.specs.Prelude.{◌<◌, OnOk};
+ghost use Rattle.std.specs.Prelude.{◌≡◌, ◌<◌, OnOk};
+ghost use Rattle.hfs_fields.specs.Counts.{with_counts};
 ghost use Rattle.hfs_blocks.specs.Layers.{changes};
 ghost use Rattle.hfs_call_edits.specs.Settings.{PutsCounts};
 
@@ -19,4 +20,20 @@ pub fn put_counts<B: Blocks>(below: &B, patch: &mut Patch, counts: &Mdb) -> Resu
     counts.write_counts(&mut block);
     patch.put(2, &block)?;
     Ok(())
+}
+
+/// A master directory block's fields, with the counts of another.
+pub fn with_counts(counts: &Mdb, mdb: &Mdb) -> Mdb
+    ensures { result ≡ with_counts counts.now mdb.now }
+{
+    Mdb {
+        modified: counts.modified,
+        root_files: counts.root_files,
+        next_id: counts.next_id,
+        free_blocks: counts.free_blocks,
+        root_folders: counts.root_folders,
+        files: counts.files,
+        folders: counts.folders,
+        ..*mdb
+    }
 }

@@ -1,13 +1,16 @@
-//! What a call edits in a volume's catalog, as a patch of the volume's blocks.
+//! What a call that changes a volume chooses in its catalog, and what it makes of the volume's blocks, as a patch of them.
 #![tactic(auto)]
 
+mod calls;
 mod catalog_patch;
+mod choosing;
 mod counts;
+mod editing;
 mod recorded;
+mod setting;
 mod settings;
 
-pub use counts::put_counts;
-pub use recorded::{patch_file, patch_folder, patch_record};
-pub use settings::{
-    ItemSettings, patch_set_f_info, patch_set_file_info, patch_set_folder_info, patch_set_lock,
-};
+pub use calls::is_setting;
+pub use counts::{put_counts, with_counts};
+pub use editing::{Change, Editing, Refusal};
+pub use settings::ItemSettings;

@@ -23,15 +23,15 @@ use Rattle.hfs_catalog.specs.Items.{Contents, folder_of, file_of, item_of, entry
 use Rattle.hfs_catalog.specs.Lookups.{is_child_named, child_named}
 use Rattle.hfs_check.specs.Parts.{Blocks, mdb_in, overflow_in, catalog_in}
 use Rattle.hfs_check.specs.Sound.{AreBlocksSound}
-use Rattle.hfs_volume.specs.Told.{is_folder, only_file, file_named, pick}
-use Rattle.hfs_volume.specs.Queries.{AreEntries}
+use Rattle.hfs_queries.specs.Told.{is_folder, only_file, file_named, pick}
+use Rattle.hfs_queries.specs.Queries.{AreEntries}
 use Rattle.hfs_model.specs.declared.item.Kind.{Kind}
 use Rattle.hfs_volume.specs.declared.open_fork.Opened.{Opened}
 use Rattle.hfs_volume.specs.declared.open_fork.Opened.TheVariants as opened
 use Rattle.hfs_volume.specs.Mounted.{AreForksIn}
 use Rattle.hfs_volume.specs.Opening.{opened_kind, opened_fork}
 use Rattle.hfs_scans.specs.Members.{In, each_in, found_in}
-use Rattle.hfs_volume.proofs.Replies.{folder_same}
+use Rattle.hfs_queries.specs.Replies.{folder_same}
 
 -- what is told of a file, or of the reply that refuses it
 abbrev answer_of : {A : Type 0} → (Reply → A) → (FileRecord → A) → Result FileRecord Reply → A

@@ -1,12 +1,5 @@
 pub mod Laid
 pub mod Viewing
-pub mod Found
-pub mod Folders
-pub mod FileIds
-pub mod Finder
-pub mod Queries
-pub mod Told
-pub mod Replies
 pub mod Parts
 pub mod FileForks
 pub mod Seen
@@ -18,9 +11,6 @@ pub mod Shared
 pub mod StayingBlocks
 pub mod Owned
 pub mod OwnedStay
-pub mod Choices
-pub mod Chosen
-pub mod Edited
 pub mod Stepping
 pub mod Outcomes
 pub mod RunSteps

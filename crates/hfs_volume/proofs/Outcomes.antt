@@ -1,15 +1,23 @@
 -- The outcome of a call whose edit was made.
-use Rattle.std.proofs.Common.{◌≡◌, ⊎_elim, ℕ, true, false, List, refl, sym, ◌∙◌, arith}
+use Rattle.std.proofs.Common.{◌≡◌, ⊎_elim, ℕ, ℤ, Bool, cond, true, false, ap, List, refl, sym, ◌∙◌, arith}
 use Rattle.std.specs.Prelude.{Result, Ok, Err, IfOk, IsTrue}
 use Rattle.std.proofs.lemmas.Bool.{or_cases}
 use Rattle.hfs_model.specs.declared.call.Call.{Call}
 use Rattle.hfs_model.specs.declared.call.Call.TheVariants as call
 use Rattle.hfs_model.specs.declared.reply.Reply.{Reply}
 use Rattle.hfs_model.specs.Laws.{EnoughIsStep, ReadingLeaves, ReadingNeedsNone}
-use Rattle.hfs_model.specs.Need.{need}
+use Rattle.hfs_model.specs.Volume.{Volume}
+use Rattle.hfs_model.specs.Need.{need, full}
 use Rattle.hfs_model.specs.Step.{step, is_reading}
 use Rattle.hfs_check.specs.VolumeOf.{volume_of}
-use Rattle.hfs_volume.specs.Serving.{is_setting, is_served, free_in, depth_in, outcome_in}
+use Rattle.hfs_call_edits.specs.declared.editing.Change.{Change}
+use Rattle.hfs_call_edits.specs.Serving.{is_setting}
+use Rattle.hfs_volume.specs.Serving.{is_served, free_in, depth_in, outcome_in}
+use Rattle.hfs_volume.specs.Steps.{IsEditOn}
+use Rattle.hfs_call_edits.specs.declared.editing.Refusal.TheVariants as refused
+use Rattle.hfs_call_edits.specs.Edits.{wants_nodes}
+use Rattle.hfs_blocks.specs.Blocks.{block_at}
+use Rattle.hfs_model.specs.Replies.{refusal, success}
 
 pub if_ok : {A E : Type 0} (r : Result A E) (P Q : A → Type 0) → ((x : A) → P x → Q x) → IfOk r P → IfOk r Q
 if_ok (Ok x) P Q f h = f x h
@@ -63,3 +71,24 @@ pub read_outcome : ReadingLeaves → EnoughIsStep → ReadingNeedsNone → (imag
     → (volume_of image, reply) ≡ outcome_in image c
 read_outcome leaves enough none image c served reading reply is =
     (λ i. (sym (leaves (volume_of image) c reading) i, is i)) ∙ sym (served_is_step enough none image c served)
+
+-- ---- what edits come to
+
+module _ (image : List ℕ) (c : Call) where
+  enough_nodes : wants_nodes c (block_at image) ≡ false → outcome_in image c ≡ step (volume_of image) c
+  unfolding volume_of
+  enough_nodes e = ap (λ (b : Bool). cond b (volume_of image, full (free_in image) (depth_in image)) (step (volume_of image) c)) e
+
+  pub change_outcome : (change : Change) (v : Volume) (reply : Reply) → IsEditOn c image (Ok change) → v ≡ (step (volume_of image) c).0 → reply ≡ success change.value → (v, reply) ≡ outcome_in image c
+  unfolding volume_of
+  change_outcome change v reply is after same = (λ i. (after i, (same ∙ sym is.comes.reply) i)) ∙ sym (enough_nodes is.enough)
+
+  pub code_outcome : (code : ℤ) → IsEditOn c image (Err (refused.Code code)) → (volume_of image, refusal code) ≡ outcome_in image c
+  unfolding volume_of
+  code_outcome code is = sym is.comes ∙ sym (enough_nodes is.enough)
+
+  pub full_outcome : (free depth : ℕ) → IsEditOn c image (Err (refused.Full free depth)) → (volume_of image, full free depth) ≡ outcome_in image c
+  unfolding volume_of
+  full_outcome free depth is =
+      (λ i. (volume_of image, full (is.free_is i) (is.depth_is i)))
+      ∙ sym (ap (λ (b : Bool). cond b (volume_of image, full (free_in image) (depth_in image)) (step (volume_of image) c)) is.wanting)

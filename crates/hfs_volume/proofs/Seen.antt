@@ -4,7 +4,7 @@ use Rattle.std.proofs.lemmas.Bool.{le-ltb}
 use Rattle.hfs_fields.specs.declared.file_record.FileRecord.{FileRecord}
 use Rattle.hfs_fields.specs.declared.mdb.Mdb.{Mdb}
 use Rattle.hfs_blocks.specs.declared.run.Run.{Run}
-use Rattle.hfs_blocks.specs.Blocks.{block_at, block_count, nodes_in}
+use Rattle.hfs_blocks.specs.Blocks.{block_at, block_count, length-block_at, nodes_in}
 use Rattle.hfs_btree.specs.Tree.{Store}
 use Rattle.hfs_model.specs.declared.reply.Reply.{Reply}
 use Rattle.hfs_model.specs.declared.call.Fork.{Fork}
@@ -18,9 +18,9 @@ use Rattle.hfs_check.specs.VolumeOf.{contents_in, volume_of}
 use Rattle.hfs_volume.specs.Image.{ImageValue}
 use Rattle.hfs_volume.specs.Mounted.{IsMounted, AreForksIn}
 use Rattle.hfs_volume.specs.Opening.{opened_fork}
-use Rattle.hfs_volume.specs.Told.{IsCatalog, file_named, pick}
-use Rattle.hfs_volume.specs.Queries.{AreEntries, CatalogsAreSound, RecordsAreEntries}
-use Rattle.hfs_volume.proofs.Replies.{by_nodes}
+use Rattle.hfs_queries.specs.Told.{IsCatalog, file_named, pick}
+use Rattle.hfs_queries.specs.Queries.{AreEntries, CatalogsAreSound, RecordsAreEntries}
+use Rattle.hfs_queries.specs.Replies.{by_nodes}
 use Rattle.hfs_volume.proofs.FileForks.{file_reply, file_opened, forks, opens, forks_in}
 
 -- the image that a volume's field has, and the nodes that are read
@@ -33,14 +33,16 @@ module _ (value own : ImageValue) (mdb : Mdb) (extents catalog : List Run)
   nodes_same = are ∙ mounted.catalog_nodes ∙ ap (λ (v : ImageValue). catalog_nodes (block_at v.current)) view_is
 
   pub is_catalog : CatalogsAreSound → IsCatalog nodes
-  is_catalog law = subst IsCatalog (sym nodes_same) (law value.current sound)
+  is_catalog law = subst IsCatalog (sym nodes_same) (law (block_count value.current) (block_at value.current) sound.blocks)
 
   pub same_content : catalog_of nodes ≡ catalog_in (block_at value.current)
-  same_content = by_nodes (λ cat. cat) value.current nodes nodes_same
+  same_content = by_nodes (λ cat. cat) (block_at value.current) nodes nodes_same
 
   pub are_entries : RecordsAreEntries → AreEntries (contents_in (block_at value.current)) (catalog_of nodes) (entries_of (volume_of value.current))
+  unfolding volume_of
   are_entries law =
-      subst (λ (cat : Catalog). AreEntries (contents_in (block_at value.current)) cat (entries_of (volume_of value.current))) (sym same_content) (law value.current sound)
+      subst (λ (cat : Catalog). AreEntries (contents_in (block_at value.current)) cat (entries_of (volume_of value.current))) (sym same_content)
+      (law (block_count value.current) (block_at value.current) (length-block_at value.current) sound.blocks)
 
 -- the image, and the content of its catalog
 module _ (image : List ℕ) (is_sound : IsSound image) (content : Catalog) (is : content ≡ catalog_in (block_at image))

@@ -1,5 +1,5 @@
 -- A change that was laid over an image.
-use Rattle.std.proofs.Common.{◌≡◌, ℕ, ◌/◌, List, length, sym, ap, ◌∙◌, subst}
+use Rattle.std.proofs.Common.{◌≡◌, ℕ, ◌/◌, Ok, List, length, sym, ap, ◌∙◌, subst}
 use Rattle.std.specs.List.{flat_map}
 use Rattle.hfs_fields.specs.declared.mdb.Mdb.{Mdb}
 use Rattle.hfs_fields.specs.declared.extent.Extent.{Extent}
@@ -15,19 +15,18 @@ use Rattle.hfs_check.specs.Laws.{AgreesOn}
 use Rattle.hfs_check.specs.Parts.{Blocks, mdb_in, catalog_extents, extents_blocks, extents_nodes, catalog_blocks, catalog_nodes}
 use Rattle.hfs_check.specs.Sound.{IsImageLength, AreBlocksSound, IsSound}
 use Rattle.hfs_check.specs.VolumeOf.{volume_in, volume_of}
-use Rattle.hfs_changes.specs.Laws.{MakesStep, IsStepped, CatalogEditsAreSteps}
-use Rattle.hfs_volume.specs.declared.edits.Change.{Change}
-use Rattle.hfs_volume.specs.Edits.{IsChangeOf}
+use Rattle.hfs_changes.specs.Laws.{IsStepped}
+use Rattle.hfs_call_edits.specs.declared.editing.Change.{Change}
+use Rattle.hfs_call_edits.specs.Edits.{IsChangeOf}
 use Rattle.hfs_volume.specs.Image.{ImageValue}
 use Rattle.hfs_volume.specs.Laid.{laid_over}
 use Rattle.hfs_volume.specs.Mounted.{IsMounted}
+use Rattle.hfs_volume.specs.Steps.{IsEditOn}
 use Rattle.hfs_volume.proofs.Laid.{AreBlocks-within, block_at-laid_over, length-laid}
 
 module _ (c : Call) (counts : Mdb) (base current after : List ℕ) (g : Changes) (agrees : Agrees base current) (within : AreWithin g (block_count current))
-    (law : CatalogEditsAreSteps) (m : MakesStep c counts (block_at current) (over g (block_at current))) (is : after ≡ laid_over g current) where
-  stepped : IsStepped c (block_count current) (block_at current) (over g (block_at current))
-  stepped = law c counts (block_count current) (block_at current) (over g (block_at current)) agrees.sound.blocks m
-
+    (stepped : IsStepped c (block_count current) (block_at current) (over g (block_at current))) (made : mdb_in (over g (block_at current)) ≡ with_counts counts (mdb_in (block_at current)))
+    (is : after ≡ laid_over g current) where
   blocks_after : block_at after ≡ over g (block_at current)
   blocks_after = ap block_at is ∙ block_at-laid_over g current within
 
@@ -54,7 +53,7 @@ module _ (c : Call) (counts : Mdb) (base current after : List ℕ) (g : Changes)
   volume_after = ap volume_in blocks_after ∙ stepped.volume
 
   pub mdb_after : mdb_in (block_at after) ≡ with_counts counts (mdb_in (block_at current))
-  mdb_after = ap mdb_in blocks_after ∙ m.edits.mdb
+  mdb_after = ap mdb_in blocks_after ∙ made
 
   pub extents_after : extents_blocks (block_at after) ≡ extents_blocks (block_at current)
   unfolding extents_blocks tree_blocks
@@ -95,25 +94,25 @@ module _ (own value after : ImageValue) (mdb : Mdb) (extents catalog : List Run)
   }
 
   -- a change was laid over them
-  module _ (steps : CatalogEditsAreSteps) (change : Change) (laid : after.current ≡ laid_over (changes change.patch) own.current) (c : Call) (is : IsChangeOf c value.current change) where
-    here : IsChangeOf c own.current change
-    here = subst (λ (v : ImageValue). IsChangeOf c v.current change) (sym view_is) is
+  module _ (change : Change) (laid : after.current ≡ laid_over (changes change.patch) own.current) (c : Call) (is : IsEditOn c value.current (Ok change)) where
+    here : IsChangeOf c (block_count own.current) (block_at own.current) change
+    here = (subst (λ (v : ImageValue). IsEditOn c v.current (Ok change)) (sym view_is) is).comes
 
     pub committed_volume : volume_of after.current ≡ (step (volume_of value.current) c).0
     committed_volume =
-        volume_after c change.counts own.base own.current after.current (changes change.patch) mounted.agrees here.within steps here.makes laid
+        volume_after c change.counts own.base own.current after.current (changes change.patch) mounted.agrees here.within here.stepped here.directory laid
         ∙ ap (λ (v : ImageValue). (step (volume_of v.current) c).0) view_is
 
     pub committed_mounted : AgreesOn → after.base ≡ own.base → IsMounted after (with_counts change.counts mdb) extents catalog
     committed_mounted on base =
-        let count = count_after c change.counts own.base own.current after.current (changes change.patch) mounted.agrees here.within steps here.makes laid in
-        let first = mounted.extents_blocks ∙ sym (extents_after c change.counts own.base own.current after.current (changes change.patch) mounted.agrees here.within steps here.makes laid) in
-        let second = mounted.catalog_blocks ∙ sym (catalog_after c change.counts own.base own.current after.current (changes change.patch) mounted.agrees here.within steps here.makes laid) in
+        let count = count_after c change.counts own.base own.current after.current (changes change.patch) mounted.agrees here.within here.stepped here.directory laid in
+        let first = mounted.extents_blocks ∙ sym (extents_after c change.counts own.base own.current after.current (changes change.patch) mounted.agrees here.within here.stepped here.directory laid) in
+        let second = mounted.catalog_blocks ∙ sym (catalog_after c change.counts own.base own.current after.current (changes change.patch) mounted.agrees here.within here.stepped here.directory laid) in
         record {
           base = subst IsSound (sym base) mounted.base;
           agrees = subst (λ (b : List ℕ). Agrees b after.current) (sym base)
-              (agrees_after c change.counts own.base own.current after.current (changes change.patch) mounted.agrees here.within steps here.makes laid on);
-          directory = ap (with_counts change.counts) mounted.directory ∙ sym (mdb_after c change.counts own.base own.current after.current (changes change.patch) mounted.agrees here.within steps here.makes laid);
+              (agrees_after c change.counts own.base own.current after.current (changes change.patch) mounted.agrees here.within here.stepped here.directory laid on);
+          directory = ap (with_counts change.counts) mounted.directory ∙ sym (mdb_after c change.counts own.base own.current after.current (changes change.patch) mounted.agrees here.within here.stepped here.directory laid);
           extents_within = subst (AreRunsWithin extents) (sym count) mounted.extents_within;
           extents_blocks = first;
           extents_nodes = extents_in (block_at after.current) extents first;

@@ -1,13 +1,9 @@
 pub mod Laid
 pub mod Image
-pub mod Told
-pub mod Brief
-pub mod Queries
 pub mod Mounted
-pub mod Choosing
-pub mod Edits
 pub mod LeftBytes
 pub mod Opening
 pub mod Saving
 pub mod Sharing
 pub mod Serving
+pub mod Steps

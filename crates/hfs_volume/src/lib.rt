@@ -2,30 +2,25 @@
 #![tactic(auto)]
 
 mod base;
-mod choosing;
-mod edits;
 mod fork;
 mod fork_laws;
 mod image;
 mod image_nodes;
-mod laws;
 mod mounting;
 mod open_fork;
-mod reading;
 mod repairing;
-mod reply;
+mod replies;
 mod saving;
 mod serving;
 mod volume;
 
 pub use base::Base;
 pub use fork_laws::file_forks_stay;
-pub use hfs_call_edits::ItemSettings;
 pub use hfs_check::{Alternate, MountFault, Report, report};
 pub use hfs_format::{FormatFault, FormatPlan, format};
+pub use hfs_queries::catalog_answers;
 pub use hfs_repair::{Fix, FixPlace};
 pub use image::{Image, ImageBlocks};
-pub use laws::catalog_answers;
 pub use mounting::{Refused, mount};
 pub use open_fork::{OpenFork, Opened};
 pub use repairing::mount_repaired;

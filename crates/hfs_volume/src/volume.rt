@@ -6,41 +6,37 @@ ghost use Rattle.std.specs.List.{All, IsDistinct};
 ghost use Rattle.hfs_model.specs.Children.{entries_of};
 ghost use Rattle.hfs_model.specs.Reading.{get_dir_info, get_cat_info, get_indexed, list, read_fork, part_of};
 ghost use Rattle.hfs_model.specs.FileIds.{resolve_file_id};
-ghost use Rattle.hfs_model.specs.Changes.{set_f_info, set_lock};
 ghost use Rattle.hfs_model.specs.Replies.{success};
 ghost use Rattle.hfs_model.specs.Runs.{run};
 ghost use Rattle.hfs_model.specs.Step.{step, is_reading};
-ghost use Rattle.hfs_call_edits.specs.Settings.{set_cat_info_call};
 ghost use Rattle.hfs_catalog.specs.Tree.{catalog_of};
 ghost use Rattle.hfs_check.specs.Parts.{catalog_in, extents_nodes};
 ghost use Rattle.hfs_check.specs.Sound.{IsSound};
 ghost use Rattle.hfs_check.specs.VolumeOf.{contents_in, volume_of};
 ghost use Rattle.hfs_blocks.specs.Blocks.{block_at};
-ghost use Rattle.hfs_volume.specs.Brief.{without_ids};
-ghost use Rattle.hfs_volume.specs.Edits.{IsEdit, IsAfter, IsOutcome};
+ghost use Rattle.hfs_queries.specs.Brief.{without_ids};
 ghost use Rattle.hfs_volume.specs.Image.{IsSameBeside};
 ghost use Rattle.hfs_volume.specs.Opening.{opened_fork};
-ghost use Rattle.hfs_volume.specs.Queries.{AreEntries};
+ghost use Rattle.hfs_queries.specs.Queries.{AreEntries};
 ghost use Rattle.hfs_volume.specs.Saving.{HasWritten};
-ghost use Rattle.hfs_volume.specs.Serving.{is_setting, is_served, outcome_in};
-ghost use Rattle.hfs_volume.specs.Told.{IsCatalog, pick};
+ghost use Rattle.hfs_call_edits.specs.Serving.{is_setting};
+ghost use Rattle.hfs_volume.specs.Serving.{is_served, outcome_in};
+ghost use Rattle.hfs_volume.specs.Steps.{IsEditIn, IsAfter, IsOutcome};
+ghost use Rattle.hfs_queries.specs.Told.{IsCatalog, pick};
 ghost use Rattle.hfs_volume.specs.Mounted.{IsMounted, AreForksIn};
 
-use crate::edits::{Change, Editing, with_counts};
 use crate::fork::{fork_record, read_part};
 use crate::image::Image;
 use crate::image_nodes::ImageNodes;
-use crate::laws::catalog_answers;
 use crate::open_fork::{OpenFork, Opened};
-use crate::reading;
-use crate::reply::{Detail, refusal, success};
+use crate::replies::refused_by;
 use crate::saving::SaveFault;
 use hfs_blocks::Run;
-use hfs_call_edits::ItemSettings;
-use hfs_changes::catalog_edits_are_steps;
+use hfs_call_edits::{Change, Editing, Refusal, with_counts};
 use hfs_check::{agrees_on, trees_are_sound};
 use hfs_fields::{FileRecord, Mdb};
 use hfs_model::{Call, Fork, PARAMETER, Reply, enough_is_step, reading_leaves, reading_needs_none};
+use hfs_queries::{self as queries, Detail, catalog_answers, refusal, success};
 use std::alloc::{AllocError, Global};
 use std::io::Write;
 use std::marker::Model;
@@ -138,7 +134,7 @@ impl Volume {
         if call.is_reading() {
             return self.read(alloc, call);
         }
-        self.set(alloc, call)
+        self.change(alloc, call)
     }
 
     /// Answers calls that are served, one after the other: the replies in order. The only error is want of memory, where the calls
@@ -158,65 +154,11 @@ impl Volume {
         Ok(replies)
     }
 
-    /// Answers a call that sets what is told of an item.
-    fn set(&mut self, alloc: Global, call: &Call) -> Result<Reply, AllocError>
-        requires { IsTrue (is_setting call.now) }
-        ensures outcome { IfOk result (λ reply. (volume_of self.new.current, reply) ≡ step (volume_of self.old.current) call.now) }
-        ensures refused { IfOk result (λ reply. reply.code ≢ pos 0 → self.new ≡ self.old) }
-        ensures unchanged { OnErr result (self.new.current ≡ self.old.current) }
-        ensures base { self.new.base ≡ self.old.base }
-    {
-        match call {
-            Call::SetFInfo {
-                dir,
-                name,
-                info,
-                now,
-            } => self.set_f_info(alloc, *dir, name.as_slice(), info, *now),
-            Call::SetCatInfo {
-                dir,
-                name,
-                created,
-                modified,
-                backup,
-                info,
-                now,
-            } => {
-                let settings = ItemSettings {
-                    created: *created,
-                    modified: *modified,
-                    backup: *backup,
-                    info: *info,
-                };
-                self.set_cat_info(alloc, *dir, name.as_slice(), &settings, *now)
-            }
-            Call::SetFLock { dir, name, now } => {
-                self.set_lock(alloc, *dir, name.as_slice(), true, *now)
-            }
-            Call::RstFLock { dir, name, now } => {
-                self.set_lock(alloc, *dir, name.as_slice(), false, *now)
-            }
-            Call::GetDirInfo { .. }
-            | Call::GetCatInfo { .. }
-            | Call::GetIndexed { .. }
-            | Call::List { .. }
-            | Call::ReadFork { .. }
-            | Call::ResolveFileId { .. }
-            | Call::Create { .. }
-            | Call::DirCreate { .. }
-            | Call::Delete { .. }
-            | Call::Rename { .. }
-            | Call::CatMove { .. }
-            | Call::CreateFileId { .. }
-            | Call::DeleteFileId { .. } => unreachable!(),
-        }
-    }
-
     /// What is told of the folder of that ID: -120 where it isn't the ID of a folder. Takes no memory.
     pub fn get_dir_info(&self, dir: u32) -> Reply
         ensures { result ≡ get_dir_info (entries_of (volume_of self.now.current)) dir }
     {
-        reading::get_dir_info(&self.catalog_nodes(), dir)
+        queries::get_dir_info(&self.catalog_nodes(), dir)
     }
 
     /// What is told of the folder's item of that name, whatever its case: -37 where the name isn't an item name, -120 where
@@ -224,7 +166,7 @@ impl Volume {
     pub fn get_cat_info(&self, dir: u32, name: &[u8]) -> Reply
         ensures { result ≡ get_cat_info (entries_of (volume_of self.now.current)) dir name.now }
     {
-        reading::get_cat_info(&self.catalog_nodes(), dir, name)
+        queries::get_cat_info(&self.catalog_nodes(), dir, name)
     }
 
     /// What is told of the folder's child at that place in name order, counted from 1: -50 where `index` is 0, -120 where
@@ -232,7 +174,7 @@ impl Volume {
     pub fn get_indexed(&self, dir: u32, index: u32) -> Reply
         ensures { result ≡ get_indexed (entries_of (volume_of self.now.current)) dir index }
     {
-        reading::get_indexed(&self.catalog_nodes(), dir, index)
+        queries::get_indexed(&self.catalog_nodes(), dir, index)
     }
 
     /// What is told of all the folder's children, in name order: -120 where `dir` isn't the ID of a folder. The only error
@@ -240,7 +182,7 @@ impl Volume {
     pub fn list(&self, alloc: Global, dir: u32) -> Result<Reply, AllocError>
         ensures { IfOk result (λ reply. reply ≡ list (entries_of (volume_of self.now.current)) dir) }
     {
-        reading::list(alloc, &self.catalog_nodes(), dir, Detail::Full)
+        queries::list(alloc, &self.catalog_nodes(), dir, Detail::Full)
     }
 
     /// The reply to `list` with `has_id` false in each item: no thread is looked up, which is most of the work of `list`. The
@@ -248,7 +190,7 @@ impl Volume {
     pub fn list_in_brief(&self, alloc: Global, dir: u32) -> Result<Reply, AllocError>
         ensures { IfOk result (λ reply. reply ≡ without_ids (list (entries_of (volume_of self.now.current)) dir)) }
     {
-        reading::list(alloc, &self.catalog_nodes(), dir, Detail::Brief)
+        queries::list(alloc, &self.catalog_nodes(), dir, Detail::Brief)
     }
 
     /// The folder and the name of the file of that ID: -1302 where it is the ID of a folder, -1300 where no file of that ID has a
@@ -256,7 +198,7 @@ impl Volume {
     pub fn resolve_file_id(&self, id: u32) -> Reply
         ensures { result ≡ resolve_file_id (entries_of (volume_of self.now.current)) id }
     {
-        reading::resolve_file_id(&self.catalog_nodes(), id)
+        queries::resolve_file_id(&self.catalog_nodes(), id)
     }
 
     /// Bytes of a file's fork from an offset on, at most 65,536 of them: -50 where `count` is above that, -37, -120 and -43 as
@@ -276,7 +218,7 @@ impl Volume {
         if count > 65536 {
             return Ok(refusal(PARAMETER));
         }
-        match reading::file_named(&self.catalog_nodes(), dir, name) {
+        match queries::file_named(&self.catalog_nodes(), dir, name) {
             Ok(file) => self.fork_part(alloc, &file, fork, offset, count),
             Err(reply) => Ok(reply),
         }
@@ -320,7 +262,7 @@ impl Volume {
     ) -> Result<Opened<'_>, AllocError>
         ensures { IfOk result (λ opened. opened ≡ opened_fork (entries_of (volume_of self.now.current)) dir name.now fork) }
     {
-        match reading::file_named(&self.catalog_nodes(), dir, name) {
+        match queries::file_named(&self.catalog_nodes(), dir, name) {
             Ok(file) => Ok(Opened::Fork(self.open_file(alloc, &file, fork)?)),
             Err(reply) => Ok(Opened::Refused(reply)),
         }
@@ -368,68 +310,24 @@ impl Volume {
         self.image.changed()
     }
 
-    /// Sets the first 16 Finder bytes of the folder's file of that name: -44 or -46 where the volume is locked, -37, -120 and -43
-    /// as in [`Volume::get_cat_info`], -43 where the item is a folder, and -45 where the file is locked. At a code the volume stays
-    /// as it is. The only error is want of memory, where the bytes stay as they are.
-    pub fn set_f_info(
-        &mut self,
-        alloc: Global,
-        dir: u32,
-        name: &[u8],
-        info: &[u8; 16],
-        now: u32,
-    ) -> Result<Reply, AllocError>
-        ensures outcome { IfOk result (λ reply. (volume_of self.new.current, reply) ≡ set_f_info (volume_of self.old.current) dir name.now info.now now) }
+    /// Answers a call that changes the volume.
+    fn change(&mut self, alloc: Global, call: &Call) -> Result<Reply, AllocError>
+        requires { IsTrue (is_setting call.now) }
+        ensures outcome { IfOk result (λ reply. (volume_of self.new.current, reply) ≡ outcome_in self.old.current call.now) }
         ensures refused { IfOk result (λ reply. reply.code ≢ pos 0 → self.new ≡ self.old) }
         ensures unchanged { OnErr result (self.new.current ≡ self.old.current) }
         ensures base { self.new.base ≡ self.old.base }
     {
-        let edit = self.editing().set_f_info(alloc, dir, name, info, now)?;
-        self.make(edit)
-    }
-
-    /// Sets three dates and all Finder bytes of the folder's item of that name: the codes of [`Volume::set_f_info`], but a folder is
-    /// set too.
-    pub fn set_cat_info(
-        &mut self,
-        alloc: Global,
-        dir: u32,
-        name: &[u8],
-        settings: &ItemSettings,
-        now: u32,
-    ) -> Result<Reply, AllocError>
-        ensures outcome { IfOk result (λ reply. (volume_of self.new.current, reply) ≡ step (volume_of self.old.current) (set_cat_info_call dir name.now settings.now now)) }
-        ensures refused { IfOk result (λ reply. reply.code ≢ pos 0 → self.new ≡ self.old) }
-        ensures unchanged { OnErr result (self.new.current ≡ self.old.current) }
-        ensures base { self.new.base ≡ self.old.base }
-    {
-        let edit = self
-            .editing()
-            .set_cat_info(alloc, dir, name, settings, now)?;
-        self.make(edit)
-    }
-
-    /// Locks the folder's file of that name, or unlocks it: the codes of [`Volume::set_f_info`] but -45.
-    pub fn set_lock(
-        &mut self,
-        alloc: Global,
-        dir: u32,
-        name: &[u8],
-        locked: bool,
-        now: u32,
-    ) -> Result<Reply, AllocError>
-        ensures outcome { IfOk result (λ reply. (volume_of self.new.current, reply) ≡ set_lock locked (volume_of self.old.current) dir name.now now) }
-        ensures refused { IfOk result (λ reply. reply.code ≢ pos 0 → self.new ≡ self.old) }
-        ensures unchanged { OnErr result (self.new.current ≡ self.old.current) }
-        ensures base { self.new.base ≡ self.old.base }
-    {
-        let edit = self.editing().set_lock(alloc, dir, name, locked, now)?;
+        let blocks = self.image.blocks();
+        let edit = Editing::new(&blocks, &self.mdb, &self.extents, &self.catalog).edit(
+            alloc, call,
+        )?;
         self.make(edit)
     }
 
     /// Makes of the image what some call makes of it, and answers the call.
-    fn make(&mut self, edit: Result<Change, i16>) -> Result<Reply, AllocError>
-        requires { IsEdit self.old.current edit }
+    fn make(&mut self, edit: Result<Change, Refusal>) -> Result<Reply, AllocError>
+        requires { IsEditIn self.old.current edit }
         ensures outcome { IfOk result (λ reply. IsOutcome self.old.current edit (volume_of self.new.current, reply)) }
         ensures refused { IfOk result (λ reply. reply.code ≢ pos 0 → self.new ≡ self.old) }
         ensures unchanged { OnErr result (self.new.current ≡ self.old.current) }
@@ -437,19 +335,18 @@ impl Volume {
     {
         match edit {
             Ok(change) => self.commit(change),
-            Err(code) => Ok(refusal(code)),
+            Err(refusal) => Ok(refused_by(refusal)),
         }
     }
 
     /// Lays a change over the image. The volume's own master directory block follows when nothing can go wrong any more.
     fn commit(&mut self, change: Change) -> Result<Reply, AllocError>
-        requires { IsEdit self.old.current (Ok change) }
+        requires { IsEditIn self.old.current (Ok change) }
         ensures volume { OnOk result (IsAfter self.old.current change (volume_of self.new.current)) }
         ensures reply { IfOk result (λ reply. reply ≡ success change.value) }
         ensures unchanged { OnErr result (self.new.current ≡ self.old.current) }
         ensures base { self.new.base ≡ self.old.base }
     {
-        catalog_edits_are_steps();
         agrees_on();
         let Change {
             patch,
@@ -459,13 +356,6 @@ impl Volume {
         self.image.commit(&patch)?;
         self.mdb = with_counts(&counts, &self.mdb);
         Ok(success(value))
-    }
-
-    /// The image as calls that change it see it.
-    fn editing(&self) -> Editing<'_>
-        ensures { result ≡ self.now.current }
-    {
-        Editing::new(&self.image, &self.mdb, &self.catalog)
     }
 
     /// The nodes of the catalog, whose records answer the queries of the volume.

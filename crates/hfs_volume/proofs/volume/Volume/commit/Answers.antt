@@ -9,7 +9,7 @@ use Rattle.hfs_volume.proofs.Stepping.{still_mounted, committed_volume, committe
 use Rattle.hfs_volume.proofs.volume.Volume.commit.Goals as goal
 
 pub commit-requires : goal.commit-requires
-commit-requires c = subst (λ (v : ImageValue). AreWithin (changes c.args.change.patch) (block_count v.current)) (sym c.self.view_is) c.requires.is.within
+commit-requires c = subst (λ (v : ImageValue). AreWithin (changes c.args.change.patch) (block_count v.current)) (sym c.self.view_is) c.requires.is.comes.within
 
 pub invariant_of-self : goal.invariant_of-self
 invariant_of-self c =
@@ -20,9 +20,9 @@ pub invariant_of-self-2 : goal.invariant_of-self-2
 invariant_of-self-2 c =
     subst (λ (m : Mdb). IsMounted c.commit.new.self m c.self.inside.extents.items c.self.inside.catalog.items) (sym c.with_counts-self-inside.ensures)
     (committed_mounted c.self.inside.image c.args.self.now c.commit.new.self c.self.inside.mdb c.self.inside.extents.items c.self.inside.catalog.items c.self.view_is c.self.invariant
-    c.catalog_edits_are_steps.ensures c.args.change c.in_ok-commit.ensures.current c.requires.of c.requires.is c.agrees_on.ensures c.in_ok-commit.ensures.base)
+    c.args.change c.in_ok-commit.ensures.current c.requires.of c.requires.is c.agrees_on.ensures c.in_ok-commit.ensures.base)
 
 pub returns-clause-volume : goal.returns-clause-volume
 returns-clause-volume c = λ call is.
     committed_volume c.self.inside.image c.args.self.now c.commit.new.self c.self.inside.mdb c.self.inside.extents.items c.self.inside.catalog.items c.self.view_is c.self.invariant
-    c.catalog_edits_are_steps.ensures c.args.change c.in_ok-commit.ensures.current call is
+    c.args.change c.in_ok-commit.ensures.current call is

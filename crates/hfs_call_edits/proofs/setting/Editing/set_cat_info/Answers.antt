@@ -1,0 +1,40 @@
+-- The patch of a folder or of a file makes the call's step, and the call answers nothing.
+use Rattle.std.proofs.Common.{refl, subst}
+use Rattle.hfs_check.specs.VolumeOf.{volume_in}
+use Rattle.hfs_model.specs.Choices.{to_set_cat_info}
+use Rattle.hfs_call_edits.specs.Settings.{set_cat_info_call}
+use Rattle.hfs_call_edits.specs.Edits.{IsChosenBody}
+use Rattle.hfs_call_edits.proofs.Edited.{cat_info_refused, cat_info_accepted, change_of, refusal_of, file_choice, folder_choice, editing_now}
+use Rattle.hfs_call_edits.proofs.setting.Editing.set_cat_info.Goals as goal
+
+pub returns-in-Err : goal.returns-in-Err
+returns-in-Err g c =
+    let old = g.B.Blocks.blocks c.args.self.now in
+    refusal_of (set_cat_info_call c.args.dir c.args.name.now c.args.settings.now c.args.now) old (λ depth. refl) c.in-Err.code
+    (cat_info_refused (volume_in old) c.args.dir c.args.now c.args.name.now c.args.settings.now c.in-Err.code c.in-Err.ensures)
+
+pub returns-in_ok-patch-in-Folder : goal.returns-in_ok-patch-in-Folder
+returns-in_ok-patch-in-Folder g c =
+    let blocks = g.B.Blocks.blocks in
+    let value = c.args.self.now in
+    let own = c.self.inside.blocks.now in
+    let chosen = (subst (IsChosenBody (blocks value) (to_set_cat_info (volume_in (blocks value)) c.args.dir c.args.name.now) c.in-Ok.item.key) c.in-Folder.is c.in-Ok.ensures).choice in
+    change_of blocks g.B.Blocks.total value own c.self.view_is c.catalog_edits_are_steps.ensures (set_cat_info_call c.args.dir c.args.name.now c.args.settings.now c.args.now) (λ depth. refl)
+    c.in_ok-patch-in-Folder.patch c.args.now c.change.result c.change.ensures
+    (editing_now blocks g.B.Blocks.total value own c.self.view_is _ _ _ c.self.invariant).sound c.in_ok-patch-in-Folder.ensures.within
+    (c.in_ok-patch-in-Folder.ensures.makes c.args.dir c.args.name.now
+    (folder_choice blocks g.B.Blocks.total value own c.self.view_is (λ v. to_set_cat_info v c.args.dir c.args.name.now) c.in-Ok.item.key c.in-Folder.folder chosen))
+    (cat_info_accepted (volume_in (blocks value)) c.args.dir c.args.now c.args.name.now c.args.settings.now _ chosen.choice.is)
+
+pub returns-in_ok-patch-in-File : goal.returns-in_ok-patch-in-File
+returns-in_ok-patch-in-File g c =
+    let blocks = g.B.Blocks.blocks in
+    let value = c.args.self.now in
+    let own = c.self.inside.blocks.now in
+    let chosen = (subst (IsChosenBody (blocks value) (to_set_cat_info (volume_in (blocks value)) c.args.dir c.args.name.now) c.in-Ok.item.key) c.in-File.is c.in-Ok.ensures).choice in
+    change_of blocks g.B.Blocks.total value own c.self.view_is c.catalog_edits_are_steps.ensures (set_cat_info_call c.args.dir c.args.name.now c.args.settings.now c.args.now) (λ depth. refl)
+    c.in_ok-patch-in-File.patch c.args.now c.change-in-File.result c.change-in-File.ensures
+    (editing_now blocks g.B.Blocks.total value own c.self.view_is _ _ _ c.self.invariant).sound c.in_ok-patch-in-File.ensures.within
+    (c.in_ok-patch-in-File.ensures.makes c.args.dir c.args.name.now
+    (file_choice blocks g.B.Blocks.total value own c.self.view_is (λ v. to_set_cat_info v c.args.dir c.args.name.now) c.in-Ok.item.key c.in-File.file chosen))
+    (cat_info_accepted (volume_in (blocks value)) c.args.dir c.args.now c.args.name.now c.args.settings.now _ chosen.choice.is)

@@ -1,0 +1,26 @@
+-- The patch makes the call's step, and the call answers nothing.
+use Rattle.std.proofs.Common.{refl}
+use Rattle.hfs_check.specs.VolumeOf.{volume_in}
+use Rattle.hfs_model.specs.declared.call.Call.TheVariants as call
+use Rattle.hfs_model.specs.Choices.{to_set_f_info}
+use Rattle.hfs_call_edits.proofs.Edited.{f_info_refused, f_info_accepted, change_of, refusal_of, file_choice, editing_now}
+use Rattle.hfs_call_edits.proofs.setting.Editing.set_f_info.Goals as goal
+
+pub returns-in-Err : goal.returns-in-Err
+returns-in-Err g c =
+    let old = g.B.Blocks.blocks c.args.self.now in
+    refusal_of (call.SetFInfo c.args.dir c.args.name.now c.args.info.now c.args.now) old (λ depth. refl) c.in-Err.code
+    (f_info_refused (volume_in old) c.args.dir c.args.now c.args.name.now c.args.info.now c.in-Err.code c.in-Err.ensures)
+
+pub returns : goal.returns
+returns g c =
+    let blocks = g.B.Blocks.blocks in
+    let value = c.args.self.now in
+    let own = c.self.inside.blocks.now in
+    let chosen = c.in-Ok.ensures.choice in
+    change_of blocks g.B.Blocks.total value own c.self.view_is c.catalog_edits_are_steps.ensures (call.SetFInfo c.args.dir c.args.name.now c.args.info.now c.args.now) (λ depth. refl)
+    c.in_ok-patch.patch c.args.now c.change.result c.change.ensures
+    (editing_now blocks g.B.Blocks.total value own c.self.view_is _ _ _ c.self.invariant).sound c.in_ok-patch.ensures.within
+    (c.in_ok-patch.ensures.makes c.args.dir c.args.name.now
+    (file_choice blocks g.B.Blocks.total value own c.self.view_is (λ v. to_set_f_info v c.args.dir c.args.name.now) c.in-Ok.chosen.0 c.in-Ok.chosen.1 chosen))
+    (f_info_accepted (volume_in (blocks value)) c.args.dir c.args.now c.args.name.now c.args.info.now _ chosen.choice.is)

@@ -1,0 +1,104 @@
+-- What calls that change a volume choose in its blocks, and what they make of them.
+use Rattle.std.specs.Prelude.{◌≡◌, ℕ, ℤ, Bool, true, false, IsTrue, List, Result, Ok, Err}
+use Rattle.std.specs.List.{flat_map}
+use Rattle.std.specs.Result.{MatchResult}
+use Rattle.hfs_fields.specs.declared.key.CatKey.{CatKey}
+use Rattle.hfs_fields.specs.declared.mdb.Mdb.{Mdb}
+use Rattle.hfs_fields.specs.declared.dir_record.DirRecord.{DirRecord}
+use Rattle.hfs_fields.specs.declared.file_record.FileRecord.{FileRecord}
+use Rattle.hfs_fields.specs.Counts.{with_counts}
+use Rattle.hfs_fields.specs.Names.{is_item_name}
+use Rattle.hfs_blocks.specs.declared.run.Run.{Run}
+use Rattle.hfs_blocks.specs.Blocks.{run_of, AreRunsWithin}
+use Rattle.hfs_blocks.specs.Layers.{changes, over, AreWithin}
+use Rattle.hfs_btree.specs.Header.{depth_of, free_nodes}
+use Rattle.hfs_model.specs.declared.call.Call.{Call}
+use Rattle.hfs_model.specs.Volume.{Volume, Entry}
+use Rattle.hfs_model.specs.Changes.{Outcome, refused}
+use Rattle.hfs_model.specs.Need.{meets_want_of_nodes}
+use Rattle.hfs_model.specs.Replies.{success}
+use Rattle.hfs_model.specs.Step.{step}
+use Rattle.hfs_catalog.specs.declared.item.ItemRecord.{ItemRecord}
+use Rattle.hfs_catalog.specs.declared.item.ItemRecord.TheVariants.{Folder, File}
+use Rattle.hfs_catalog.specs.declared.item.CatalogItem.{CatalogItem}
+use Rattle.hfs_check.specs.Parts.{Blocks, mdb_in, extents_blocks, catalog_nodes, catalog_in}
+use Rattle.hfs_check.specs.Sound.{AreBlocksSound}
+use Rattle.hfs_check.specs.VolumeOf.{volume_in}
+use Rattle.hfs_changes.specs.Laws.{IsStepped}
+use Rattle.hfs_call_edits.specs.Settings.{IsCatalogFile, IsFileUnder, IsFolderUnder, IsFileChoice, IsFolderChoice}
+use Rattle.hfs_call_edits.specs.declared.editing.Change.{Change}
+use Rattle.hfs_call_edits.specs.declared.editing.Refusal.{Refusal}
+use Rattle.hfs_call_edits.specs.declared.editing.Refusal.TheVariants as refusal
+
+-- in these runs, which are those with the right numbers, lie the nodes of the extents tree's file
+pub record IsExtentsFile (runs : List Run) (total : ℕ) (blocks : Blocks) : Type 0 where
+  pub within : AreRunsWithin runs total
+  pub numbers : flat_map run_of runs ≡ extents_blocks blocks
+
+-- the volume is sound; this is its master directory block, and in these runs lie the nodes of its trees
+pub record IsEditing (total : ℕ) (blocks : Blocks) (mdb : Mdb) (extents catalog : List Run) : Type 0 where
+  pub sound : AreBlocksSound total blocks
+  pub directory : mdb ≡ mdb_in blocks
+  pub extents_file : IsExtentsFile extents total blocks
+  pub catalog_file : IsCatalogFile catalog total blocks
+
+-- ---- choices
+
+-- a call chooses the file with this key and this record, which stands there under an item name
+pub record IsChosenFile (old : Blocks) (chosen : Result Entry ℤ) (key : CatKey) (file : FileRecord) : Type 0 where
+  pub choice : IsFileChoice old chosen key file
+  pub name : IsTrue (is_item_name key.name)
+  pub there : IsFileUnder key (catalog_in old)
+
+-- a call chooses the folder with this key and this record, which stands there under an item name
+pub record IsChosenFolder (old : Blocks) (chosen : Result Entry ℤ) (key : CatKey) (folder : DirRecord) : Type 0 where
+  pub choice : IsFolderChoice old chosen key folder
+  pub name : IsTrue (is_item_name key.name)
+  pub there : IsFolderUnder key (catalog_in old)
+
+abbrev pub IsChosenBody : Blocks → Result Entry ℤ → CatKey → ItemRecord → Type 0
+IsChosenBody old chosen key (Folder r) = IsChosenFolder old chosen key r
+IsChosenBody old chosen key (File r) = IsChosenFile old chosen key r
+
+-- the file that a call chooses in the volume, or the code that refuses it
+abbrev pub ChoosesFile : Blocks → Result Entry ℤ → Result (CatKey × FileRecord) ℤ → Type 0
+ChoosesFile old chosen result = MatchResult result (λ f. IsChosenFile old chosen f.0 f.1) (λ code. chosen ≡ Err code)
+
+-- the item
+abbrev pub ChoosesItem : Blocks → Result Entry ℤ → Result CatalogItem ℤ → Type 0
+ChoosesItem old chosen result = MatchResult result (λ item. IsChosenBody old chosen item.key item.body) (λ code. chosen ≡ Err code)
+
+-- ---- edits
+
+-- laid over the volume, it makes the call's step, with its reply
+pub record IsChangeOf (c : Call) (total : ℕ) (old : Blocks) (change : Change) : Type 0 where
+  pub within : AreWithin (changes change.patch) total
+  pub stepped : IsStepped c total old (over (changes change.patch) old)
+  pub directory : mdb_in (over (changes change.patch) old) ≡ with_counts change.counts (mdb_in old)
+  pub reply : (step (volume_in old) c).1 ≡ success change.value
+
+-- whether the call meets want of nodes in the volume's catalog
+abbrev pub wants_nodes : Call → Blocks → Bool
+wants_nodes c old = meets_want_of_nodes (free_nodes (catalog_nodes old)) (depth_of (catalog_nodes old)) (volume_in old) c
+
+-- the catalog has the nodes that the call needs, and what it comes to
+pub record HasNodes (c : Call) (old : Blocks) (Comes : Type 0) : Type 0 where
+  pub enough : wants_nodes c old ≡ false
+  pub comes : Comes
+
+-- the call meets want of nodes, and these are the free nodes and the depth
+pub record IsFull (c : Call) (old : Blocks) (free depth : ℕ) : Type 0 where
+  pub wanting : wants_nodes c old ≡ true
+  pub free_is : free ≡ free_nodes (catalog_nodes old)
+  pub depth_is : depth ≡ depth_of (catalog_nodes old)
+
+-- the change that a call makes of a volume, or what refuses it
+abbrev pub IsEditOf : Call → ℕ → Blocks → Result Change Refusal → Type 0
+IsEditOf c total old (Ok change) = HasNodes c old (IsChangeOf c total old change)
+IsEditOf c total old (Err (refusal.Code code)) = HasNodes c old (step (volume_in old) c ≡ refused (volume_in old) code)
+IsEditOf c total old (Err (refusal.Full free depth)) = IsFull c old free depth
+
+-- what some call makes of it
+pub record IsEdit (total : ℕ) (old : Blocks) (edit : Result Change Refusal) : Type 0 where
+  pub of : Call
+  pub is : IsEditOf of total old edit

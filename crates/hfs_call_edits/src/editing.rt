@@ -1,0 +1,133 @@
+//! What calls that change a volume make of its blocks.
+
+ghost use Rattle.std.specs.Prelude.{◌≡◌};
+ghost use Rattle.hfs_catalog.specs.Tree.{catalog_of};
+ghost use Rattle.hfs_changes.specs.OnBlocks.{at_time};
+ghost use Rattle.hfs_check.specs.Parts.{mdb_in, catalog_nodes, catalog_in};
+ghost use Rattle.hfs_check.specs.VolumeOf.{contents_in, volume_in};
+ghost use Rattle.hfs_model.specs.declared.reply.Value.TheVariants as value;
+ghost use Rattle.hfs_model.specs.Children.{entries_of};
+ghost use Rattle.hfs_model.specs.Choices.{file_to_change, to_set_f_info, to_set_cat_info};
+ghost use Rattle.hfs_call_edits.specs.Edits.{IsEditing, ChoosesFile, ChoosesItem};
+ghost use Rattle.hfs_queries.specs.Queries.{AreEntries};
+ghost use Rattle.hfs_queries.specs.Told.{IsCatalog};
+
+use crate::choosing;
+use hfs_blocks::{Blocks, Patch, Run};
+use hfs_btree::RunNodes;
+use hfs_catalog::CatalogItem;
+use hfs_changes::choice_stands;
+use hfs_fields::{CatKey, FileRecord, Mdb};
+use hfs_model::Value;
+use hfs_queries::catalog_answers;
+use std::marker::Model;
+
+/// What a call makes of a volume: the blocks that change, the volume's counts afterwards, and the value of the reply.
+#[derive(Drop)]
+pub struct Change {
+    pub patch: Patch,
+    pub counts: Mdb,
+    pub value: Value,
+}
+
+/// Why a call changes nothing.
+#[derive(Clone, Copy)]
+pub enum Refusal {
+    /// A code other than 0.
+    Code(i16),
+    /// The catalog has fewer free nodes than the call needs: their number, and the depth of its tree in levels.
+    Full { free: u32, depth: u32 },
+}
+
+/// A sound volume's blocks with what mounting found out of them. Contracts see the blocks.
+#[derive(Drop)]
+pub struct Editing<'a, B: Blocks> {
+    pub(crate) blocks: &'a B,
+    /// The master directory block.
+    pub(crate) mdb: &'a Mdb,
+    /// The blocks of the extents tree's nodes.
+    pub(crate) extents: &'a [Run],
+    /// The blocks of the catalog's nodes.
+    pub(crate) catalog: &'a [Run],
+}
+
+impl<'a, B: Blocks> Model for Editing<'a, B> {
+    ghost use Rattle.hfs_call_edits.specs.Edits.{IsEditing};
+
+    ghost Value = { B };
+
+    ghost view = { λ e. e.blocks.now };
+
+    ghost invariant = { λ e. IsEditing (B.total e.blocks.now) (B.blocks e.blocks.now) e.mdb.now e.extents.now e.catalog.now };
+}
+
+impl<'a, B: Blocks> Editing<'a, B> {
+    /// A sound volume's blocks, its master directory block, and the runs of its trees' files.
+    pub fn new(
+        blocks: &'a B,
+        mdb: &'a Mdb,
+        extents: &'a [Run],
+        catalog: &'a [Run],
+    ) -> Editing<'a, B>
+        requires { IsEditing (B.total blocks.now) (B.blocks blocks.now) mdb.now extents.now catalog.now }
+        ensures { result ≡ blocks.now }
+    {
+        Editing {
+            blocks,
+            mdb,
+            extents,
+            catalog,
+        }
+    }
+
+    /// The nodes of the catalog, whose records answer the queries of the volume.
+    pub(crate) fn nodes(&self) -> RunNodes<'_, B>
+        ensures nodes { (RunNodes B).nodes result ≡ catalog_nodes (B.blocks self.now) }
+        ensures catalog { IsCatalog (catalog_nodes (B.blocks self.now)) }
+        ensures entries { AreEntries (contents_in (B.blocks self.now)) (catalog_in (B.blocks self.now)) (entries_of (volume_in (B.blocks self.now))) }
+    {
+        catalog_answers();
+        RunNodes {
+            blocks: self.blocks,
+            runs: self.catalog,
+        }
+    }
+
+    /// The folder's file of that name, with its key, or the code that refuses to change it.
+    pub(crate) fn file_to_change(&self, dir: u32, name: &[u8]) -> Result<(CatKey, FileRecord), i16>
+        ensures { ChoosesFile (B.blocks self.now) (file_to_change (volume_in (B.blocks self.now)) dir name.now) result }
+    {
+        choice_stands();
+        choosing::file_to_change(&self.nodes(), self.mdb, dir, name)
+    }
+
+    /// The folder's file of that name, with its key, or the code that refuses to set its first Finder bytes.
+    pub(crate) fn file_to_set(&self, dir: u32, name: &[u8]) -> Result<(CatKey, FileRecord), i16>
+        ensures { ChoosesFile (B.blocks self.now) (to_set_f_info (volume_in (B.blocks self.now)) dir name.now) result }
+    {
+        choice_stands();
+        choosing::file_to_set(&self.nodes(), self.mdb, dir, name)
+    }
+
+    /// The folder's item of that name, or the code that refuses to set its dates and Finder bytes.
+    pub(crate) fn item_to_set(&self, dir: u32, name: &[u8]) -> Result<CatalogItem, i16>
+        ensures { ChoosesItem (B.blocks self.now) (to_set_cat_info (volume_in (B.blocks self.now)) dir name.now) result }
+    {
+        choice_stands();
+        choosing::item_to_set(&self.nodes(), self.mdb, dir, name)
+    }
+
+    /// A change of blocks and of the moment of the last change alone, which answers nothing.
+    pub(crate) fn change(&self, patch: Patch, now: u32) -> Change
+        ensures { result ≡ record { patch = patch; counts = at_time now (mdb_in (B.blocks self.now)); value = value.Nothing } }
+    {
+        Change {
+            patch,
+            counts: Mdb {
+                modified: now,
+                ..*self.mdb
+            },
+            value: Value::Nothing,
+        }
+    }
+}

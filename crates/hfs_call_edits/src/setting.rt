@@ -1,0 +1,123 @@
+//! What the calls that set make of a volume's blocks.
+
+ghost use Rattle.std.specs.Prelude.{IfOk};
+ghost use Rattle.hfs_model.specs.declared.call.Call.TheVariants as call;
+ghost use Rattle.hfs_changes.specs.SettingLaws.{lock_call};
+ghost use Rattle.hfs_call_edits.specs.Edits.{IsEditOf};
+ghost use Rattle.hfs_call_edits.specs.Settings.{set_cat_info_call};
+
+use crate::editing::{Change, Editing, Refusal};
+use crate::settings::{
+    ItemSettings, patch_set_f_info, patch_set_file_info, patch_set_folder_info, patch_set_lock,
+};
+use hfs_blocks::Blocks;
+use hfs_catalog::ItemRecord;
+use hfs_changes::catalog_edits_are_steps;
+use std::alloc::{AllocError, Global};
+
+impl<B: Blocks> Editing<'_, B> {
+    /// What SetFInfo makes of the volume. The only error is want of memory.
+    pub(crate) fn set_f_info(
+        &self,
+        alloc: Global,
+        dir: u32,
+        name: &[u8],
+        info: &[u8; 16],
+        now: u32,
+    ) -> Result<Result<Change, Refusal>, AllocError>
+        ensures { IfOk result (λ edit. IsEditOf (call.SetFInfo dir name.now info.now now) (B.total self.now) (B.blocks self.now) edit) }
+    {
+        catalog_edits_are_steps();
+        let (key, file) = match self.file_to_set(dir, name) {
+            Ok(chosen) => chosen,
+            Err(code) => return Ok(Err(Refusal::Code(code))),
+        };
+        let patch = patch_set_f_info(
+            alloc,
+            self.blocks,
+            self.catalog,
+            self.mdb,
+            &key,
+            &file,
+            info,
+            now,
+        )?;
+        Ok(Ok(self.change(patch, now)))
+    }
+
+    /// What SetCatInfo makes of the volume. The only error is want of memory.
+    pub(crate) fn set_cat_info(
+        &self,
+        alloc: Global,
+        dir: u32,
+        name: &[u8],
+        settings: &ItemSettings,
+        now: u32,
+    ) -> Result<Result<Change, Refusal>, AllocError>
+        ensures { IfOk result (λ edit. IsEditOf (set_cat_info_call dir name.now settings.now now) (B.total self.now) (B.blocks self.now) edit) }
+    {
+        catalog_edits_are_steps();
+        let item = match self.item_to_set(dir, name) {
+            Ok(item) => item,
+            Err(code) => return Ok(Err(Refusal::Code(code))),
+        };
+        let key = item.key;
+        match item.body {
+            ItemRecord::Folder(folder) => {
+                let patch = patch_set_folder_info(
+                    alloc,
+                    self.blocks,
+                    self.catalog,
+                    self.mdb,
+                    &key,
+                    &folder,
+                    settings,
+                    now,
+                )?;
+                Ok(Ok(self.change(patch, now)))
+            }
+            ItemRecord::File(file) => {
+                let patch = patch_set_file_info(
+                    alloc,
+                    self.blocks,
+                    self.catalog,
+                    self.mdb,
+                    &key,
+                    &file,
+                    settings,
+                    now,
+                )?;
+                Ok(Ok(self.change(patch, now)))
+            }
+        }
+    }
+
+    /// What SetFLock makes of the image, or RstFLock. The only error is want of memory.
+    pub(crate) fn set_lock(
+        &self,
+        alloc: Global,
+        dir: u32,
+        name: &[u8],
+        locked: bool,
+        now: u32,
+    ) -> Result<Result<Change, Refusal>, AllocError>
+        ensures { IfOk result (λ edit. IsEditOf (lock_call locked dir name.now now) (B.total self.now) (B.blocks self.now) edit) }
+    {
+        catalog_edits_are_steps();
+        let (key, file) = match self.file_to_change(dir, name) {
+            Ok(chosen) => chosen,
+            Err(code) => return Ok(Err(Refusal::Code(code))),
+        };
+        let patch = patch_set_lock(
+            alloc,
+            self.blocks,
+            self.catalog,
+            self.mdb,
+            &key,
+            &file,
+            locked,
+            now,
+        )?;
+        Ok(Ok(self.change(patch, now)))
+    }
+}

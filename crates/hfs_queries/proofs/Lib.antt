@@ -1,0 +1,4 @@
+pub mod Finder
+pub mod FileIds
+pub mod Files
+pub mod Queries

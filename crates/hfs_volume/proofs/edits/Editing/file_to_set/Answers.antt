@@ -1,8 +1,0 @@
-use Rattle.hfs_volume.proofs.Chosen.{sets_file}
-use Rattle.hfs_volume.proofs.Edited.{sound_now, mdb_now}
-use Rattle.hfs_volume.proofs.edits.Editing.file_to_set.Goals as goal
-
-pub returns : goal.returns
-returns c =
-    sets_file c.choice_stands.ensures c.args.self.now (sound_now _ _ _ _ c.self.view_is c.self.invariant) c.self.inside.mdb.now (mdb_now _ _ _ _ c.self.view_is c.self.invariant)
-    _ c.nodes.ensures.content c.nodes.ensures.entries c.args.dir c.args.name.now c.file_to_set.result c.file_to_set.ensures

@@ -1,0 +1,37 @@
+-- What the edit of a call makes of an image.
+use Rattle.std.specs.Prelude.{◌≡◌, ℕ, List, Result, Ok}
+use Rattle.hfs_blocks.specs.Blocks.{block_at, block_count}
+use Rattle.hfs_model.specs.declared.call.Call.{Call}
+use Rattle.hfs_model.specs.declared.reply.Reply.{Reply}
+use Rattle.hfs_model.specs.Changes.{Outcome}
+use Rattle.hfs_model.specs.Need.{full}
+use Rattle.hfs_model.specs.Replies.{refusal}
+use Rattle.hfs_model.specs.Step.{step}
+use Rattle.hfs_model.specs.Volume.{Volume}
+use Rattle.hfs_check.specs.VolumeOf.{volume_of}
+use Rattle.hfs_call_edits.specs.declared.editing.Change.{Change}
+use Rattle.hfs_call_edits.specs.declared.editing.Refusal.{Refusal}
+use Rattle.hfs_call_edits.specs.declared.editing.Refusal.TheVariants as refused
+use Rattle.hfs_call_edits.specs.Edits.{IsEdit, IsEditOf}
+use Rattle.hfs_volume.specs.Serving.{outcome_in}
+
+-- what some call makes of the image
+abbrev pub IsEditIn : List ℕ → Result Change Refusal → Type 0
+IsEditIn image edit = IsEdit (block_count image) (block_at image) edit
+
+-- the call's edit of the image
+abbrev pub IsEditOn : Call → List ℕ → Result Change Refusal → Type 0
+IsEditOn c image edit = IsEditOf c (block_count image) (block_at image) edit
+
+-- the volume is the one of each call that makes the change
+abbrev pub IsAfter : List ℕ → Change → Volume → Type 0
+IsAfter image change v = (c : Call) → IsEditOn c image (Ok change) → v ≡ (step (volume_of image) c).0
+
+-- the outcome is the one of each call whose edit this is
+abbrev pub IsOutcome : List ℕ → Result Change Refusal → Outcome → Type 0
+IsOutcome image edit outcome = (c : Call) → IsEditOn c image edit → outcome ≡ outcome_in image c
+
+-- the reply of what refuses a call
+abbrev pub refusal_reply : Refusal → Reply
+refusal_reply (refused.Code code) = refusal code
+refusal_reply (refused.Full free depth) = full free depth
