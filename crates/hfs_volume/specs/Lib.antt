@@ -9,5 +9,6 @@ pub mod Edits
 pub mod LeftBytes
 pub mod Opening
 pub mod Saving
+pub mod Layout
 pub mod Sharing
 pub mod Serving

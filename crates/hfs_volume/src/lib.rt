@@ -4,6 +4,7 @@
 mod base;
 mod choosing;
 mod edits;
+mod extent_bytes;
 mod fork;
 mod fork_laws;
 mod image;
