@@ -107,13 +107,13 @@ module _ (t : Table) (is : IsTable t) where
   pub part_is : (fork : RowFork) (read : List Extent) (offset count few : ℕ) (bytes : List ℕ) → IsForkIn t.mdb fork → read ≡ fork.extents.items → few ≡ min count (fork.size - offset)
       → bytes ≡ read_from (bytes_of_extents t.base read) offset few
       → record { code = cond (nat_lt fork.size (offset + count)) END_OF_FILE (pos 0); value = value.Bytes bytes } ≡ part_of (bytes_of t.base t.mdb fork) offset count
+  unfolding bytes_of fork_bytes
   part_is fork read offset count few bytes in_ same few_is is_read i = record {
     code = cond (nat_lt (sym (size_is fork in_) i) (offset + count)) END_OF_FILE (pos 0);
     value = value.Bytes (whole i);
   }
     where
       whole : bytes ≡ read_from (bytes_of t.base t.mdb fork) offset count
-      unfolding bytes_of fork_bytes
       whole =
           is_read
           ∙ (λ i. read_from (bytes_of_extents t.base (same i)) offset (few_is i))

@@ -20,7 +20,7 @@ pub struct Row {
 
 impl Row {
     /// Where its item stands.
-    pub(crate) fn place(&self) -> Place
+    pub fn place(&self) -> Place
         ensures { result ≡ place self.now.parent self.now.name }
     {
         Place {

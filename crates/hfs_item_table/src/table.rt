@@ -249,7 +249,8 @@ impl Table {
     {
         children_are_one();
         let mut left = at;
-        for (_place, id) in self.by_name.range(Place::first(dir)..Place::first(dir + 1)) {
+        let names = self.by_name.range(Place::first(dir)..Place::first(dir + 1));
+        for (_place, id) in names {
             if left == 0 {
                 let Some(row) = self.row(*id) else {
                     unreachable!()
