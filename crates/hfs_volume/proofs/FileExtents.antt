@@ -1,5 +1,6 @@
 -- The extents of a file's fork, by the ID of the file.
-use Rattle.std.proofs.Common.{◌≡◌, ⊎_elim, ℕ, ◌<◌, ◌≤◌, Bool, true, false, cond, List, [], length, take, refl, sym, ◌∙◌, ap, subst, arith, length-take, Option, Some, None}
+use Rattle.std.proofs.Common.{◌≡◌, ⊎_elim, ℕ, ◌<◌, ◌≤◌, Bool, true, false, cond, List, [], length, take, refl, sym, ◌∙◌, ap, subst, arith, length-take, Option, Some, None, Result, Ok, Err}
+use Rattle.std.specs.Prelude.{IfOk}
 use Rattle.std.specs.Option.{option_map}
 use Rattle.std.specs.FinMap as finite
 use Rattle.std.proofs.lemmas.Bool.{and_parts, or_cases, cases_lt, true≢false}
@@ -76,10 +77,11 @@ module _ (contents : Contents) (catalog : Catalog) (r : Record) (file : File) (i
     ]
   ] is
 
-record IsRecordOf (catalog : Catalog) (contents : Contents) (id : ℕ) (item : Item) : Type 0 where
-  of : Record
-  found : item_with catalog id ≡ Some of
-  is : item_of contents catalog of ≡ item
+-- this item is that of a record with the ID
+pub record IsRecordOf (catalog : Catalog) (contents : Contents) (id : ℕ) (item : Item) : Type 0 where
+  pub of : Record
+  pub found : item_with catalog id ≡ Some of
+  pub is : item_of contents catalog of ≡ item
 
 module _ (image : List ℕ) (records_law : ItemsAreRecords) (id : ℕ) where
   abbrev catalog : Catalog
@@ -97,7 +99,7 @@ module _ (image : List ℕ) (records_law : ItemsAreRecords) (id : ℕ) where
 
   -- the item that is found is the file's
   module _ (file : File) (has : HasFile (volume_of image) id file) (found : Option CatalogItem) (found_is : found ≡ option_map catalog_item (item_with catalog id)) where
-    its : IsRecordOf catalog contents id has.0
+    pub its : IsRecordOf catalog contents id has.0
     its = recorded has.0 has.1
 
     its_kind : (item_of contents catalog its.of).kind ≡ kind.File file
@@ -199,3 +201,7 @@ module _ (image : List ℕ) (records_law : ItemsAreRecords) (id : ℕ) (first : 
       let whole = cut image records_law id file has found found_is base agrees stays fork es (are r.of (r.found, one)) (fork_of fork file)
       (its_fork (contents_in (block_at image)) (catalog_in (block_at image)) r.of file (its_kind image records_law id file has found found_is) fork) in
       whole ∙ own_length _ (bytes_of_extents base es) ∙ ap (λ (x : List ℕ). take (length x) (bytes_of_extents base es)) (sym whole)
+
+pub if_ok : {X E : Type 0} (r : Result X E) (P Q : X → Type 0) → ((x : X) → P x → Q x) → IfOk r P → IfOk r Q
+if_ok (Ok x) P Q f h = f x h
+if_ok (Err e) P Q f h = tt

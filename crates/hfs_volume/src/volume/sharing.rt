@@ -80,6 +80,7 @@ impl Volume {
     {
         items_are_records();
         file_forks_stay();
+        let _image = &self.image;
         let Some(item) = by_id(&self.catalog_nodes(), id) else {
             unreachable!()
         };
