@@ -1,8 +1,7 @@
 -- The extents of a file's fork, by the ID of the file.
-use Rattle.std.proofs.Common.{◌≡◌, ⊎_elim, ℕ, ◌<◌, ◌≤◌, Bool, true, false, cond, List, [], length, take, refl, sym, ◌∙◌, ap, subst, arith, length-take, Option, Some, None, Result, Ok, Err}
+use Rattle.std.proofs.Common.{◌≡◌, ⊎_elim, ℕ, ◌<◌, Bool, true, false, cond, List, [], length, take, refl, sym, ◌∙◌, ap, subst, arith, length-take, Option, Some, None, Result, Ok, Err}
 use Rattle.std.specs.Prelude.{IfOk}
 use Rattle.std.specs.Option.{option_map}
-use Rattle.std.specs.FinMap as finite
 use Rattle.std.proofs.lemmas.Bool.{and_parts, or_cases, cases_lt, true≢false}
 use Rattle.std.proofs.lemmas.List.{take_all}
 use Rattle.hfs_fields.specs.declared.extent.Extent.{Extent}
@@ -19,24 +18,22 @@ use Rattle.hfs_model.specs.declared.item.Kind.{Kind}
 use Rattle.hfs_model.specs.declared.item.Kind.TheVariants as kind
 use Rattle.hfs_model.specs.Lawful.{Has}
 use Rattle.hfs_model.specs.Reading.{fork_of}
-use Rattle.hfs_space.specs.Extents.{fork_byte, AreExtentsWithin}
-use Rattle.hfs_space.specs.ForkLengths.{all_bytes}
+use Rattle.hfs_space.specs.Extents.{AreExtentsWithin}
 use Rattle.hfs_space.specs.Forks.{fork_bytes}
 use Rattle.hfs_space.specs.Owners.{forks_of, forks_of_file}
 use Rattle.hfs_space.specs.Sound.{IsForkSound}
 use Rattle.hfs_catalog.specs.declared.item.CatalogItem.{CatalogItem}
-use Rattle.hfs_catalog.specs.declared.item.ItemRecord.{ItemRecord}
 use Rattle.hfs_catalog.specs.declared.item.ItemRecord.TheVariants as item_record
 use Rattle.hfs_catalog.specs.Records.{Record, Catalog, has_id, has_thread, item_with}
 use Rattle.hfs_catalog.specs.Items.{Contents, folder_of, file_of, item_of}
 use Rattle.hfs_catalog.specs.Laws.{ItemsAreRecords}
 use Rattle.hfs_catalog.specs.Lookups.{catalog_item}
 use Rattle.hfs_check.specs.Agree.{Agrees}
-use Rattle.hfs_check.specs.Parts.{Blocks, mdb_in, overflow_in, catalog_in}
+use Rattle.hfs_check.specs.Parts.{mdb_in, overflow_in, catalog_in}
 use Rattle.hfs_check.specs.VolumeOf.{bytes_in, contents_in, volume_in, volume_of}
 use Rattle.hfs_volume.specs.Layout.{SameLayout, same_layout, same_bytes}
 use Rattle.hfs_volume.specs.Mounted.{AreForksIn, fork_record}
-use Rattle.hfs_volume.specs.Sharing.{file_extents, ForksStay, FileForksStay, IsFileOf, HasFile, IsFileId, AreExtentsOf, HaveFork, bytes_of_extents}
+use Rattle.hfs_volume.specs.Sharing.{file_extents, ForksStay, FileForksStay, HasFile, AreExtentsOf, HaveFork, bytes_of_extents}
 use Rattle.hfs_volume.specs.Told.{pick}
 
 -- ---- the record of a file

@@ -1,12 +1,10 @@
 -- The item that is found is the file.
-use Rattle.std.proofs.Common.{◌≡◌, List, ◌∙◌, ap, subst, Vec, ℕ, Global}
+use Rattle.std.proofs.Common.{◌∙◌, ap, subst}
 use Rattle.std.specs.Option.{option_map}
-use Rattle.hfs_fields.specs.declared.extent.Extent.{Extent}
 use Rattle.hfs_blocks.specs.Blocks.{block_at}
 use Rattle.hfs_catalog.specs.Lookups.{catalog_item}
 use Rattle.hfs_catalog.specs.Records.{Catalog, item_with}
 use Rattle.hfs_check.specs.Agree.{Agrees}
-use Rattle.hfs_check.specs.Parts.{catalog_in}
 use Rattle.hfs_volume.specs.Image.{ImageValue}
 use Rattle.hfs_volume.specs.Sharing.{file_extents}
 use Rattle.hfs_volume.proofs.FileExtents.{is_there, no_folder, its_record, are_extents, are_within, have_fork, if_ok}
