@@ -1,5 +1,5 @@
 -- What is read of a list that is cut.
-use Rattle.std.proofs.Common.{◌≡◌, ℕ, ◌+◌, ◌-◌, ◌<◌, ◌≤◌, List, [], length, take, drop, ⊎_elim, refl, sym, ap, ◌∙◌, arith, length-drop, length-take}
+use Rattle.std.proofs.Common.{◌≡◌, ℕ, ◌+◌, ◌-◌, List, [], take, drop, ⊎_elim, sym, ap, ◌∙◌, arith, length-take}
 use Rattle.std.specs.Prelude.{min}
 use Rattle.std.proofs.lemmas.List.{take_all, take-take, drop_all, drop-take}
 use Rattle.std.proofs.lemmas.Bool.{cases_lt}

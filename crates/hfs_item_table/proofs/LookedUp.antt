@@ -1,27 +1,25 @@
 -- What is looked up in a table.
-use Rattle.std.proofs.Common.{◌≡◌, ⊎_elim, ℕ, ◌+◌, ◌-◌, ◌<◌, ◌^◌, arith, cond, not, List, true, length, refl, sym, ◌∙◌, ap, subst, Option, Some, None, Bor}
+use Rattle.std.proofs.Common.{◌≡◌, ⊎_elim, ℕ, ◌+◌, ◌-◌, ◌<◌, ◌^◌, arith, cond, List, true, length, refl, sym, ◌∙◌, ap, subst, Option, Some, None, Bor}
 use Rattle.std.specs.Ordering.{nat_cmp}
-use Rattle.std.specs.Option.{option_map, option_map_or, option_and_then, option_copied}
+use Rattle.std.specs.Option.{option_map, option_and_then, option_copied}
 use Rattle.std.specs.FinMap as map
 use Rattle.std.specs.BTreeMap as tree
 use Rattle.std.specs.BTreeMap.{get}
 use Rattle.hfs_blocks.specs.Blocks.{block_at, block_count, length-block_at}
 use Rattle.hfs_space.specs.ForkLengths.{all_bytes, length-fork_bytes}
-use Rattle.std.specs.Prelude.{IfSome, ◌*◌, ◌/◌, ◌%◌, ◌≤◌, min, nat_lt, pos, slice_get}
-use Rattle.std.proofs.lemmas.Bool.{ne_eqb}
+use Rattle.std.specs.Prelude.{IfSome, ◌*◌, ◌/◌, ◌%◌, min, nat_lt, pos}
 use Rattle.hfs_fields.specs.declared.extent.Extent.{Extent}
-use Rattle.hfs_fields.specs.declared.mdb.Mdb.{Mdb}
 use Rattle.hfs_space.specs.Extents.{AreExtentsWithin}
 use Rattle.hfs_space.specs.Forks.{HasArea, blocks_each, fork_bytes, read_from}
 use Rattle.hfs_check.specs.Parts.{mdb_in}
 use Rattle.hfs_volume.specs.Layout.{same_bytes}
 use Rattle.hfs_volume.specs.Sharing.{bytes_of_extents}
-use Rattle.hfs_model.specs.declared.codes.TheConstants.{END_OF_FILE, NOT_FOUND, PARAMETER, NOT_A_FOLDER}
+use Rattle.hfs_model.specs.declared.codes.TheConstants.{END_OF_FILE}
 use Rattle.hfs_model.specs.declared.reply.Value.TheVariants as value
 use Rattle.hfs_model.specs.Lawful.{Has, AreLawful}
-use Rattle.hfs_model.specs.Reading.{get_indexed, part_of}
+use Rattle.hfs_model.specs.Reading.{part_of}
 use Rattle.hfs_item_table.specs.Facts.{folder_is, found_has}
-use Rattle.hfs_model.specs.Replies.{refusal, success, info_of, infos}
+use Rattle.hfs_model.specs.Replies.{info_of}
 use Rattle.hfs_model.specs.declared.reply.Info.{Info}
 use Rattle.hfs_model.specs.declared.reply.ItemKind.TheVariants as item_kind
 use Rattle.hfs_item_table.specs.declared.row.RowKind.TheVariants.{File as FileRow}

@@ -1,5 +1,5 @@
 -- The order of the places of items.
-use Rattle.std.specs.Prelude.{◌≡◌, ℕ, List, IsTrue, true, refl}
+use Rattle.std.specs.Prelude.{◌≡◌, ℕ, List, IsTrue, refl}
 use Rattle.std.proofs.Common.{ap}
 use Rattle.std.specs.declared.cmp.Ordering.{Ordering}
 use Rattle.std.specs.declared.cmp.Ordering.TheVariants.{Less, Equal, Greater}

@@ -1,5 +1,5 @@
 -- The names before it are passed one by one, and the next one's item is told.
-use Rattle.std.proofs.Common.{◌≡◌, ℕ, List, [], ◌∷◌, inl, inr, refl, sym, ◌∙◌, ap, subst, arith, Some}
+use Rattle.std.proofs.Common.{◌≡◌, ℕ, List, inl, inr, refl, sym, ◌∙◌, ap, subst, arith, Some}
 use Rattle.std.specs.Prelude.{slice_get}
 use Rattle.std.specs.Option.{unwrap_or}
 use Rattle.std.specs.declared.ops.Bound.TheVariants.{Included, Excluded}
@@ -18,7 +18,7 @@ use Rattle.hfs_item_table.proofs.table.Table.info_at.Goals as goal
 pub loop-place-init : goal.loop-place-init
 loop-place-init c =
     let whole : c.into_iter-place-iterator.result ≡ names_under c.args.dir c.args.self.now.by_name.entries =
-    c.into_iter-place-iterator.ensures.into_iter_gives ∙ c.range-place-items.ensures.between tt
+    c.into_iter-place-iterator.ensures.into_iter_gives ∙ c.range-names.ensures.between tt
     ∙ (λ i. entries_between place_cmp (Included (c.first.ensures i)) (Excluded (c.first-2.ensures i)) c.args.self.now.by_name.entries)
     ∙ between_is c.args.dir c.args.self.now.by_name.entries in (
       tt,
@@ -50,7 +50,7 @@ returns-then-left-eq0 c =
     let es = finite.entries (items_of c.args.self.now) in
     let told : c.info.result ≡ info_of es (unwrap_or (entry_at es c.in-Some.id.now) nobody) = c.info.ensures ∙ ap (λ o. info_of es (unwrap_or o nobody)) (sym c.in-Some-row.ensures.entry) in
     let whole : c.into_iter-place-iterator.result ≡ names_under c.args.dir c.args.self.now.by_name.entries =
-    c.into_iter-place-iterator.ensures.into_iter_gives ∙ c.range-place-items.ensures.between tt
+    c.into_iter-place-iterator.ensures.into_iter_gives ∙ c.range-names.ensures.between tt
     ∙ (λ i. entries_between place_cmp (Included (c.first.ensures i)) (Excluded (c.first-2.ensures i)) c.args.self.now.by_name.entries)
     ∙ between_is c.args.dir c.args.self.now.by_name.entries in
     let none : 0 ≡ c.loop-place.left = omega arith in
@@ -65,7 +65,7 @@ pub returns : goal.returns
 returns c =
     let es = finite.entries (items_of c.args.self.now) in
     let whole : c.into_iter-place-iterator.result ≡ names_under c.args.dir c.args.self.now.by_name.entries =
-    c.into_iter-place-iterator.ensures.into_iter_gives ∙ c.range-place-items.ensures.between tt
+    c.into_iter-place-iterator.ensures.into_iter_gives ∙ c.range-names.ensures.between tt
     ∙ (λ i. entries_between place_cmp (Included (c.first.ensures i)) (Excluded (c.first-2.ensures i)) c.args.self.now.by_name.entries)
     ∙ between_is c.args.dir c.args.self.now.by_name.entries in
     ap (λ l. slice_get (told_under es l) c.loop-place.left) (sym c.in-None.ensures.steps.0)
