@@ -1,5 +1,6 @@
 pub mod Settings
 pub mod CatalogPatch
 pub mod Choosing
+pub mod FileIds
 pub mod Edits
 pub mod Serving
