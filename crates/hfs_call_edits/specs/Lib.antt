@@ -1,5 +1,6 @@
 pub mod Settings
 pub mod CatalogPatch
 pub mod Choosing
+pub mod Room
 pub mod Edits
 pub mod Serving

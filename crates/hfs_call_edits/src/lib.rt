@@ -7,6 +7,7 @@ mod choosing;
 mod counts;
 mod editing;
 mod recorded;
+mod room;
 mod setting;
 mod settings;
 
