@@ -7,3 +7,4 @@ pub mod Made
 pub mod Choices
 pub mod Chosen
 pub mod Edited
+pub mod Wanting

@@ -4,3 +4,4 @@ pub mod Choosing
 pub mod FileIds
 pub mod Edits
 pub mod Serving
+pub mod Room

@@ -10,6 +10,7 @@ mod editing;
 mod file_ids;
 mod file_threads;
 mod recorded;
+mod room;
 mod setting;
 mod settings;
 
