@@ -8,3 +8,8 @@ pub mod Choices
 pub mod Chosen
 pub mod Edited
 pub mod Wanting
+pub mod FileIdChoices
+pub mod FileIdsChosen
+pub mod FileIdEdits
+pub mod FileIdPatches
+pub mod FileIdReplies

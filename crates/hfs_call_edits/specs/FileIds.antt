@@ -1,5 +1,5 @@
 -- What the calls on file IDs choose by the records of a catalog, and what they make of its nodes.
-use Rattle.std.specs.Prelude.{◌≡◌, ℕ, ℤ, Bool, true, false, if◌then◌else◌, List, Some, None, Result, Ok, Err}
+use Rattle.std.specs.Prelude.{◌≡◌, ◌≤◌, ℕ, ℤ, Bool, true, false, if◌then◌else◌, List, Some, None, Result, Ok, Err}
 use Rattle.std.specs.Option.{ok_or}
 use Rattle.hfs_fields.specs.declared.key.CatKey.{CatKey}
 use Rattle.hfs_fields.specs.declared.file_record.FileRecord.{FileRecord}
@@ -49,6 +49,12 @@ file_without_id mdb catalog dir name = and_then (child_to_change mdb catalog dir
 -- the file of that ID, which has a thread: -44, -46, -1302, -1300
 abbrev pub file_with_id : Mdb → Catalog → ℕ → Result Record ℤ
 file_with_id mdb catalog id = unless_code (lock_code mdb) (and_then (ok_or (item_with catalog id) FILE_ID_NOT_FOUND) (if_threaded catalog))
+
+-- the file has no thread yet; it and its folder have IDs of items
+pub record IsThreadless (catalog : Catalog) (key : CatKey) (file : FileRecord) : Type 0 where
+  pub folder : 2 ≤ key.parent
+  pub id : 2 ≤ file.id
+  pub unthreaded : thread_of catalog file.id ≡ None
 
 -- ---- edits
 
