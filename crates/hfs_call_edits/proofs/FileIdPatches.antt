@@ -1,18 +1,15 @@
 -- A patch of the catalog in which a file's thread came or went makes the call's step.
-use Rattle.std.proofs.Common.{◌≡◌, ℕ, ◌≤◌, Bool, true, false, List, sym, ap, ◌∙◌, subst, Option, Some, None}
-use Rattle.std.specs.Prelude.{IsTrue}
+use Rattle.std.proofs.Common.{◌≡◌, ℕ, Bool, true, false, sym, ap, ◌∙◌, subst, Option, Some, None}
 use Rattle.hfs_fields.specs.declared.key.CatKey.{CatKey}
 use Rattle.hfs_fields.specs.declared.file_record.FileRecord.{FileRecord}
 use Rattle.hfs_fields.specs.declared.mdb.Mdb.{Mdb}
 use Rattle.hfs_fields.specs.declared.thread_record.ThreadKind.TheVariants as kind
 use Rattle.hfs_fields.specs.Keys.{cat_cmp}
 use Rattle.hfs_fields.specs.Records.{new_thread, file_record_of}
-use Rattle.hfs_fields.specs.RecordForms.{IsFileRecordValue, file_record_bytes, IsThreadRecordValue}
+use Rattle.hfs_fields.specs.RecordForms.{IsFileRecordValue, IsThreadRecordValue}
 use Rattle.hfs_scans.specs.Each.{Each}
 use Rattle.hfs_btree.specs.Pairs.{lookup}
 use Rattle.hfs_btree.specs.Tree.{Store}
-use Rattle.hfs_model.specs.Volume.{Entry}
-use Rattle.hfs_model.specs.FileIds.{to_create_file_id, to_delete_file_id}
 use Rattle.hfs_catalog.specs.Records.{Record, Catalog}
 use Rattle.hfs_catalog.specs.Lookups.{first_key, thread_of}
 use Rattle.hfs_catalog.specs.Sound.{IsRecord}
@@ -24,13 +21,12 @@ use Rattle.hfs_catalog_edits.specs.Roots.{HasRoot, sound_has_root}
 use Rattle.hfs_catalog_edits.specs.Swaps.{Swaps}
 use Rattle.hfs_check.specs.Parts.{Blocks, mdb_in, catalog_nodes, catalog_in}
 use Rattle.hfs_check.specs.Sound.{AreBlocksSound}
-use Rattle.hfs_check.specs.VolumeOf.{volume_in}
 use Rattle.hfs_changes.specs.FileIdLaws.{with_thread_flag, file_with_flag, CreateFileIdMakes, DeleteFileIdMakes}
 use Rattle.hfs_changes.specs.OnBlocks.{at_time, HasTree}
 use Rattle.hfs_queries.specs.Folders.{found_with}
 use Rattle.hfs_call_edits.specs.CatalogPatch.{HasCatalog}
-use Rattle.hfs_call_edits.specs.FileIds.{flagged_file, IsThreadless, FileIdCame, FileIdWent, MakesCreateFileId, MakesDeleteFileId}
-use Rattle.hfs_call_edits.specs.Settings.{IsFileUnder, IsFileChoice}
+use Rattle.hfs_call_edits.specs.FileIds.{flagged_file, FileIdCame, FileIdWent, MakesCreateFileId, MakesDeleteFileId}
+use Rattle.hfs_call_edits.specs.Settings.{IsFileUnder}
 use Rattle.hfs_call_edits.proofs.FileIdsChosen.{file_id_is}
 
 -- ---- the nodes of a sound volume's catalog

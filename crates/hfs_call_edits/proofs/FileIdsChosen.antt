@@ -7,14 +7,12 @@ use Rattle.std.proofs.lemmas.Bool.{or_cases, true≢false, and_parts, eqb-true}
 use Rattle.hfs_fields.specs.declared.key.CatKey.{CatKey}
 use Rattle.hfs_fields.specs.declared.mdb.Mdb.{Mdb}
 use Rattle.hfs_fields.specs.declared.file_record.FileRecord.{FileRecord}
-use Rattle.hfs_fields.specs.Keys.{cat_cmp}
 use Rattle.hfs_fields.specs.Names.{is_item_name}
 use Rattle.hfs_fields.specs.Records.{is_dir, is_file, is_item, type_byte, item_id, is_bit_set, dir_record_of, file_record_of}
-use Rattle.hfs_btree.specs.Pairs.{lookup}
 use Rattle.hfs_scans.specs.Members.{In, each_in}
 use Rattle.hfs_model.specs.declared.codes.TheConstants.{BAD_NAME, NOT_FOUND, HARDWARE_LOCKED, SOFTWARE_LOCKED, NOT_A_FOLDER, FILE_ID_NOT_FOUND, FILE_ID_EXISTS, NOT_A_FILE}
 use Rattle.hfs_model.specs.Volume.{Volume, Entry}
-use Rattle.hfs_model.specs.Children.{is_folder, is_folder_kind, child_named, entries_of, entry_at}
+use Rattle.hfs_model.specs.Children.{is_folder, is_folder_kind, child_named, entries_of}
 use Rattle.hfs_model.specs.Choices.{and_then, child_to_change}
 use Rattle.hfs_model.specs.Choices as model
 use Rattle.hfs_model.specs.FileIds.{unless_has_thread, if_has_thread, file_of_id, to_create_file_id, to_delete_file_id}
