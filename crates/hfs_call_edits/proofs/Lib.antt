@@ -7,3 +7,9 @@ pub mod Made
 pub mod Choices
 pub mod Chosen
 pub mod Edited
+pub mod Wanting
+pub mod FileIdChoices
+pub mod FileIdsChosen
+pub mod FileIdEdits
+pub mod FileIdPatches
+pub mod FileIdReplies

@@ -4,9 +4,13 @@
 mod calls;
 mod catalog_patch;
 mod choosing;
+mod choosing_file_ids;
 mod counts;
 mod editing;
+mod file_ids;
+mod file_threads;
 mod recorded;
+mod room;
 mod setting;
 mod settings;
 
