@@ -8,3 +8,4 @@ pub mod Choices
 pub mod Chosen
 pub mod Edited
 pub mod Wanting
+pub mod ChosenPlaces

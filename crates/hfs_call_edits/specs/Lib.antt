@@ -2,5 +2,6 @@ pub mod Settings
 pub mod CatalogPatch
 pub mod Choosing
 pub mod Room
+pub mod NewPlaces
 pub mod Edits
 pub mod Serving

@@ -6,6 +6,7 @@ mod catalog_patch;
 mod choosing;
 mod counts;
 mod editing;
+mod new_places;
 mod recorded;
 mod room;
 mod setting;
