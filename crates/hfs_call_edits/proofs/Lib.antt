@@ -9,3 +9,4 @@ pub mod Chosen
 pub mod Edited
 pub mod Wanting
 pub mod ChosenPlaces
+pub mod PutItems

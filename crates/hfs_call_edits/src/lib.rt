@@ -5,7 +5,11 @@ mod calls;
 mod catalog_patch;
 mod choosing;
 mod counts;
+
 mod editing;
+mod creating;
+mod new_counts;
+mod new_items;
 mod new_places;
 mod recorded;
 mod room;
