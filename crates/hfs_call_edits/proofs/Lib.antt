@@ -10,3 +10,4 @@ pub mod Edited
 pub mod Wanting
 pub mod ChosenPlaces
 pub mod PutItems
+pub mod Creations

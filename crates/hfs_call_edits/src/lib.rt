@@ -5,9 +5,8 @@ mod calls;
 mod catalog_patch;
 mod choosing;
 mod counts;
-
-mod editing;
 mod creating;
+mod editing;
 mod new_counts;
 mod new_items;
 mod new_places;

@@ -1,6 +1,6 @@
 //! The counts of a volume with one more item.
 
-ghost use Rattle.std.specs.Prelude.{◌≡◌, ◌+◌, ◌==◌, ◌<◌, ◌^◌};
+ghost use Rattle.std.specs.Prelude.{◌≡◌, ◌≢◌, ◌+◌, ◌==◌, ◌<◌, ◌^◌};
 ghost use Rattle.hfs_catalog_edits.specs.Swaps.{one_if};
 ghost use Rattle.hfs_changes.specs.CreationLaws.{with_file, with_folder};
 
@@ -18,7 +18,7 @@ fn root_item(dir: u32) -> u16
 
 /// The counts with one more file in this folder, which has the next ID, changed at `now`.
 pub(crate) fn with_file(mdb: &Mdb, dir: u32, now: u32) -> Mdb
-    requires next_id { mdb.now.next_id + 1 < 2 ^ 32 }
+    requires next_id { mdb.now.next_id ≢ 4294967295 }
     requires files { mdb.now.files + 1 < 2 ^ 32 }
     requires root { mdb.now.root_files + one_if (dir == 2) < 2 ^ 16 }
     ensures { result ≡ with_file dir now mdb.now }
@@ -34,7 +34,7 @@ pub(crate) fn with_file(mdb: &Mdb, dir: u32, now: u32) -> Mdb
 
 /// The counts with one more folder in this one, which has the next ID, changed at `now`.
 pub(crate) fn with_folder(mdb: &Mdb, dir: u32, now: u32) -> Mdb
-    requires next_id { mdb.now.next_id + 1 < 2 ^ 32 }
+    requires next_id { mdb.now.next_id ≢ 4294967295 }
     requires folders { mdb.now.folders + 1 < 2 ^ 32 }
     requires root { mdb.now.root_folders + one_if (dir == 2) < 2 ^ 16 }
     ensures { result ≡ with_folder dir now mdb.now }
