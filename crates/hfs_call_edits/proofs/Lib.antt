@@ -13,3 +13,6 @@ pub mod FileIdsChosen
 pub mod FileIdEdits
 pub mod FileIdPatches
 pub mod FileIdReplies
+pub mod ChosenPlaces
+pub mod PutItems
+pub mod Creations
