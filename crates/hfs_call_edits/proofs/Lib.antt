@@ -11,3 +11,8 @@ pub mod Wanting
 pub mod ChosenPlaces
 pub mod PutItems
 pub mod Creations
+pub mod FileIdChoices
+pub mod FileIdsChosen
+pub mod FileIdEdits
+pub mod FileIdPatches
+pub mod FileIdReplies

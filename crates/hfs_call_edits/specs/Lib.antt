@@ -4,5 +4,6 @@ pub mod Choosing
 pub mod Room
 pub mod NewPlaces
 pub mod NewItems
+pub mod FileIds
 pub mod Edits
 pub mod Serving

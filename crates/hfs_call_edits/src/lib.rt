@@ -4,9 +4,12 @@
 mod calls;
 mod catalog_patch;
 mod choosing;
+mod choosing_file_ids;
 mod counts;
 mod creating;
 mod editing;
+mod file_ids;
+mod file_threads;
 mod new_counts;
 mod new_items;
 mod new_places;

@@ -1,5 +1,5 @@
 -- The edit is the call's, and so is its outcome.
-use Rattle.std.proofs.Common.{◌≡◌, ◌∙◌, ap, subst, ℕ, List}
+use Rattle.std.proofs.Common.{◌∙◌, ap, subst, ℕ, List}
 use Rattle.hfs_volume.specs.Image.{ImageValue}
 use Rattle.hfs_volume.specs.Steps.{IsEditOn}
 use Rattle.hfs_volume.proofs.Outcomes.{if_ok}
