@@ -8,6 +8,9 @@ pub mod Choices
 pub mod Chosen
 pub mod Edited
 pub mod Wanting
+pub mod ChosenPlaces
+pub mod PutItems
+pub mod Creations
 pub mod FileIdChoices
 pub mod FileIdsChosen
 pub mod FileIdEdits
