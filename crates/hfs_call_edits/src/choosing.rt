@@ -14,7 +14,7 @@ use hfs_model::{BAD_NAME, FILE_LOCKED, HARDWARE_LOCKED, NOT_A_FOLDER, NOT_FOUND,
 use hfs_queries::folder;
 
 /// The code that refuses each change of a locked volume.
-fn lock_code(mdb: &Mdb) -> Option<i16>
+pub(crate) fn lock_code(mdb: &Mdb) -> Option<i16>
     ensures { result ≡ lock_code mdb.now }
 {
     let attributes = mdb.attributes.bits();
