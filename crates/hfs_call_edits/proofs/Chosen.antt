@@ -45,13 +45,13 @@ module _ (contents : Contents) (catalog : Catalog) (v : Volume) (h : AreEntries 
   abbrev entry : Record → Entry
   entry r = entry_of contents catalog r
 
-  by_lock : (a b : Bool) (x : Result Entry ℤ) (y : Result Record ℤ) → x ≡ map_ok entry y
+  pub by_lock : (a b : Bool) (x : Result Entry ℤ) (y : Result Record ℤ) → x ≡ map_ok entry y
       → cond (a || b) (Err (cond a HARDWARE_LOCKED SOFTWARE_LOCKED)) x ≡ map_ok entry (unless_code (cond a (Some HARDWARE_LOCKED) (cond b (Some SOFTWARE_LOCKED) None)) y)
   by_lock true b x y e = refl
   by_lock false true x y e = refl
   by_lock false false x y e = e
 
-  by_test : (b : Bool) (code : ℤ) (x : Result Entry ℤ) (y : Result Record ℤ) → x ≡ map_ok entry y → cond b (Err code) x ≡ map_ok entry (cond b (Err code) y)
+  pub by_test : (b : Bool) (code : ℤ) (x : Result Entry ℤ) (y : Result Record ℤ) → x ≡ map_ok entry y → cond b (Err code) x ≡ map_ok entry (cond b (Err code) y)
   by_test true code x y e = refl
   by_test false code x y e = e
 
@@ -68,7 +68,7 @@ module _ (contents : Contents) (catalog : Catalog) (v : Volume) (h : AreEntries 
 
   -- ---- what is chosen next
 
-  next_same : (chosen : Result Record ℤ) (f : Entry → Result Entry ℤ) (g : Record → Result Record ℤ) → ((r : Record) → f (entry r) ≡ map_ok entry (g r))
+  pub next_same : (chosen : Result Record ℤ) (f : Entry → Result Entry ℤ) (g : Record → Result Record ℤ) → ((r : Record) → f (entry r) ≡ map_ok entry (g r))
       → and_then (map_ok entry chosen) f ≡ map_ok entry (and_then chosen g)
   next_same (Ok r) f g same = same r
   next_same (Err code) f g same = refl
@@ -149,16 +149,16 @@ module _ (mdb : Mdb) (catalog : Catalog) (dir : ℕ) (name : List ℕ) (r : Reco
 
 module _ (stands : ChoiceStands) (total : ℕ) (old : Blocks) (sound : AreBlocksSound total old) (chosen : Result Entry ℤ) (dir : ℕ) (name : List ℕ) (r : Record)
     (is : chosen ≡ Ok (entry_of (contents_in old) (catalog_in old) r)) (found : child_named (catalog_in old) dir name ≡ Some r) where
-  here : In r (catalog_in old) × (is_child_named dir name r ≡ true)
+  pub here : In r (catalog_in old) × (is_child_named dir name r ≡ true)
   here = found_in (is_child_named dir name) (catalog_in old) r found
 
-  item : is_item r.1 ≡ true
+  pub item : is_item r.1 ≡ true
   item = (and_parts (is_item r.1) (eqb r.0.parent dir) (and_parts (is_child_of dir r) (same_name r.0.name name) here.1).0).0
 
-  choice : IsChoice old chosen r
+  pub choice : IsChoice old chosen r
   choice = record { id = item_id r.1; is = is; was = item_found (catalog_in old) r (distinct_once (catalog_in old) sound.ids.distinct) here.0 item }
 
-  name_of : IsTrue (is_item_name r.0.name)
+  pub name_of : IsTrue (is_item_name r.0.name)
   name_of = each_in _ (catalog_in old) r sound.names.records.items here.0 item
 
   stands_there : lookup cat_cmp r.0 (catalog_in old) ≡ Some r.1
@@ -194,11 +194,11 @@ module _ (stands : ChoiceStands) (total : ℕ) (old : Blocks) (sound : AreBlocks
 
 module _ (stands : ChoiceStands) (total : ℕ) (old : Blocks) (sound : AreBlocksSound total old) (mdb : Mdb) (own : mdb ≡ mdb_in old) (catalog : Catalog) (content : catalog ≡ catalog_in old)
     (h : AreEntries (contents_in old) (catalog_in old) (entries_of (volume_in old))) (dir : ℕ) (name : List ℕ) where
-  hard_is : (volume_in old).hardware_locked ≡ is_bit_set 7 (mdb_in old).attributes.0
+  pub hard_is : (volume_in old).hardware_locked ≡ is_bit_set 7 (mdb_in old).attributes.0
   unfolding volume_in
   hard_is = refl
 
-  soft_is : (volume_in old).software_locked ≡ is_bit_set 15 (mdb_in old).attributes.0
+  pub soft_is : (volume_in old).software_locked ≡ is_bit_set 15 (mdb_in old).attributes.0
   unfolding volume_in
   soft_is = refl
 
