@@ -9,3 +9,4 @@ pub mod Chosen
 pub mod Edited
 pub mod Taken
 pub mod RenameChoice
+pub mod Wanting

@@ -1,6 +1,7 @@
 pub mod Settings
 pub mod CatalogPatch
 pub mod Choosing
+pub mod Room
 pub mod Edits
 pub mod Serving
 pub mod Renaming

@@ -1,0 +1,112 @@
+//! Whether the catalog has the free nodes that a call needs.
+
+ghost use Rattle.std.specs.Prelude.{◌≡◌, ◌<◌, ◌^◌, IfNone};
+ghost use Rattle.hfs_btree.specs.Header.{header_in};
+ghost use Rattle.hfs_catalog.specs.Tree.{IsCatalogTree};
+ghost use Rattle.hfs_catalog_edits.specs.Rooms.{IsInFile, HasRoom, HasRoomForTwo};
+ghost use Rattle.hfs_check.specs.Parts.{catalog_nodes};
+ghost use Rattle.hfs_model.specs.Need.{one_record, two_records};
+ghost use Rattle.hfs_call_edits.specs.Room.{lacking};
+
+use crate::editing::{Editing, Refusal};
+use hfs_blocks::Blocks;
+use hfs_btree::{Nodes, depth, free_nodes, read_header};
+use hfs_fields::{CatKey, Mdb};
+
+/// The free nodes that one more record needs in a tree of so many levels.
+fn one_record(depth: u16) -> u64
+    ensures { result ≡ one_record depth }
+{
+    if depth >= 16 {
+        return 4_294_967_296;
+    }
+    u64::from(depth) + 1
+}
+
+/// The free nodes that a folder and its thread need in a tree of so many levels.
+fn two_records(depth: u16) -> u64
+    ensures { result ≡ two_records depth }
+{
+    if depth >= 15 {
+        return 4_294_967_296;
+    }
+    2 * u64::from(depth) + 3
+}
+
+/// What refuses a call that needs room for one more record, if the tree has fewer free nodes than that may take.
+pub(crate) fn lacks_one<N: Nodes>(nodes: &N) -> Option<Refusal>
+    requires { IsCatalogTree (N.nodes nodes.now) }
+    ensures refusal { result ≡ lacking one_record (N.nodes nodes.now) }
+    ensures room { IfNone result (HasRoom (N.nodes nodes.now)) }
+{
+    let free = free_nodes::<CatKey, N>(nodes);
+    let depth = depth::<CatKey, N>(nodes);
+    if u64::from(free) < one_record(depth) {
+        return Some(Refusal::Full {
+            free,
+            depth: u32::from(depth),
+        });
+    }
+    None
+}
+
+/// What refuses a call that needs room for a folder and its thread, if the tree has fewer free nodes than these may take.
+pub(crate) fn lacks_two<N: Nodes>(nodes: &N) -> Option<Refusal>
+    requires { IsCatalogTree (N.nodes nodes.now) }
+    ensures refusal { result ≡ lacking two_records (N.nodes nodes.now) }
+    ensures room { IfNone result (HasRoomForTwo (N.nodes nodes.now)) }
+{
+    let free = free_nodes::<CatKey, N>(nodes);
+    let depth = depth::<CatKey, N>(nodes);
+    if u64::from(free) < two_records(depth) {
+        return Some(Refusal::Full {
+            free,
+            depth: u32::from(depth),
+        });
+    }
+    None
+}
+
+/// The bytes of the catalog's file.
+fn catalog_size(mdb: &Mdb) -> u32
+    ensures size { result ≡ mdb.now.catalog_file_size }
+    ensures small { mdb.now.catalog_file_size < 2 ^ 32 }
+{
+    mdb.catalog_file_size
+}
+
+/// How many records the leaves of a catalog have.
+fn record_count<N: Nodes>(nodes: &N) -> u32
+    requires { IsCatalogTree (N.nodes nodes.now) }
+    ensures count { result ≡ (header_in (N.nodes nodes.now)).records }
+    ensures small { (header_in (N.nodes nodes.now)).records < 2 ^ 32 }
+{
+    read_header(nodes).records
+}
+
+impl<B: Blocks> Editing<'_, B> {
+    /// What refuses a call that needs room for one more record.
+    pub(crate) fn lacks_one(&self) -> Option<Refusal>
+        ensures refusal { result ≡ lacking one_record (catalog_nodes (B.blocks self.now)) }
+        ensures room { IfNone result (HasRoom (catalog_nodes (B.blocks self.now))) }
+    {
+        lacks_one(&self.nodes())
+    }
+
+    /// What refuses a call that needs room for a folder and its thread.
+    pub(crate) fn lacks_two(&self) -> Option<Refusal>
+        ensures refusal { result ≡ lacking two_records (catalog_nodes (B.blocks self.now)) }
+        ensures room { IfNone result (HasRoomForTwo (catalog_nodes (B.blocks self.now))) }
+    {
+        lacks_two(&self.nodes())
+    }
+
+    /// The catalog's tree lies in its file, whose bytes are counted by a number of 32 bits, and so are its records.
+    pub(crate) fn catalog_is_in_file(&self)
+        ensures nodes { IsInFile (catalog_nodes (B.blocks self.now)) }
+        ensures records { (header_in (catalog_nodes (B.blocks self.now))).records < 2 ^ 32 }
+    {
+        let _size = catalog_size(self.mdb);
+        let _records = record_count(&self.nodes());
+    }
+}
