@@ -152,13 +152,13 @@ module _ (stands : ChoiceStands) (total : ℕ) (old : Blocks) (sound : AreBlocks
   pub here : In r (catalog_in old) × (is_child_named dir name r ≡ true)
   here = found_in (is_child_named dir name) (catalog_in old) r found
 
-  pub item : is_item r.1 ≡ true
+  item : is_item r.1 ≡ true
   item = (and_parts (is_item r.1) (eqb r.0.parent dir) (and_parts (is_child_of dir r) (same_name r.0.name name) here.1).0).0
 
-  pub choice : IsChoice old chosen r
+  choice : IsChoice old chosen r
   choice = record { id = item_id r.1; is = is; was = item_found (catalog_in old) r (distinct_once (catalog_in old) sound.ids.distinct) here.0 item }
 
-  pub name_of : IsTrue (is_item_name r.0.name)
+  name_of : IsTrue (is_item_name r.0.name)
   name_of = each_in _ (catalog_in old) r sound.names.records.items here.0 item
 
   stands_there : lookup cat_cmp r.0 (catalog_in old) ≡ Some r.1
@@ -194,11 +194,11 @@ module _ (stands : ChoiceStands) (total : ℕ) (old : Blocks) (sound : AreBlocks
 
 module _ (stands : ChoiceStands) (total : ℕ) (old : Blocks) (sound : AreBlocksSound total old) (mdb : Mdb) (own : mdb ≡ mdb_in old) (catalog : Catalog) (content : catalog ≡ catalog_in old)
     (h : AreEntries (contents_in old) (catalog_in old) (entries_of (volume_in old))) (dir : ℕ) (name : List ℕ) where
-  pub hard_is : (volume_in old).hardware_locked ≡ is_bit_set 7 (mdb_in old).attributes.0
+  hard_is : (volume_in old).hardware_locked ≡ is_bit_set 7 (mdb_in old).attributes.0
   unfolding volume_in
   hard_is = refl
 
-  pub soft_is : (volume_in old).software_locked ≡ is_bit_set 15 (mdb_in old).attributes.0
+  soft_is : (volume_in old).software_locked ≡ is_bit_set 15 (mdb_in old).attributes.0
   unfolding volume_in
   soft_is = refl
 

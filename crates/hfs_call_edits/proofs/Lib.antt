@@ -10,3 +10,7 @@ pub mod Edited
 pub mod Taken
 pub mod RenameChoice
 pub mod Wanting
+pub mod Rekeys
+pub mod RenameModel
+pub mod RenameMade
+pub mod StepMade

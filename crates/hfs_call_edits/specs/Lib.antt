@@ -4,4 +4,5 @@ pub mod Choosing
 pub mod Room
 pub mod Edits
 pub mod Serving
+pub mod Rekeyings
 pub mod Renaming

@@ -9,6 +9,7 @@ mod counts;
 mod editing;
 mod recorded;
 mod rekeying;
+mod renaming;
 mod room;
 mod setting;
 mod settings;

@@ -35,7 +35,7 @@ fn halves(info: &[u8; 32]) -> ([u8; 16], [u8; 16])
 }
 
 /// The volume's counts as they are, with another moment of the last change.
-fn at_time(mdb: &Mdb, now: u32) -> Mdb
+pub(crate) fn at_time(mdb: &Mdb, now: u32) -> Mdb
     ensures { result ≡ at_time now mdb.now }
 {
     Mdb {
