@@ -1,19 +1,17 @@
 -- An item that comes under another key: that it can, and what the edit says of the records.
-use Rattle.std.proofs.Common.{◌≡◌, ◌≤◌, ℕ, Bool, true, false, List, [], ◌∷◌, length, refl, sym, ◌∙◌, ap, subst, inl, inr, Option, Some, None}
+use Rattle.std.proofs.Common.{◌≡◌, ℕ, true, [], ◌∷◌, refl, sym, ◌∙◌, ap, subst, inl, inr, Option, Some}
 use Rattle.std.specs.Prelude.{IsTrue}
 use Rattle.std.specs.Option.{option_map}
 use Rattle.hfs_fields.specs.declared.key.CatKey.{CatKey}
-use Rattle.hfs_fields.specs.declared.mdb.Mdb.{Mdb}
 use Rattle.hfs_fields.specs.Keys.{cat_cmp}
 use Rattle.hfs_fields.specs.Names.{is_item_name}
 use Rattle.hfs_fields.specs.Records.{is_item}
 use Rattle.hfs_fields.specs.RecordForms.{IsThreadRecordValue}
-use Rattle.hfs_scans.specs.Each.{Each}
 use Rattle.hfs_btree.specs.Pairs.{lookup}
 use Rattle.hfs_btree.specs.Tree.{Store}
-use Rattle.hfs_catalog.specs.Records.{Record, Catalog, item_with}
+use Rattle.hfs_catalog.specs.Records.{Record, item_with}
 use Rattle.hfs_catalog.specs.Lookups.{first_key, thread_of}
-use Rattle.hfs_catalog.specs.Sound.{IsSoundCatalog, IsIndexKeyName}
+use Rattle.hfs_catalog.specs.Sound.{IsSoundCatalog}
 use Rattle.hfs_catalog.specs.Tree.{catalog_of}
 use Rattle.hfs_catalog_edits.specs.Bodies.{IfBody, turned_record, turned}
 use Rattle.hfs_catalog_edits.specs.Finds.{record_at, own_record}
@@ -24,7 +22,6 @@ use Rattle.hfs_check.specs.Parts.{Blocks, catalog_nodes, catalog_in}
 use Rattle.hfs_changes.specs.Changes.{led_to, IsLedValue, ItemRekeyed}
 use Rattle.hfs_call_edits.specs.CatalogPatch.{KeepsNamed}
 use Rattle.hfs_call_edits.specs.declared.rekeying.Rekeying.{Rekeying}
-use Rattle.hfs_call_edits.specs.Rekeyings.{CanRekey}
 use Rattle.hfs_queries.specs.Folders.{found_with}
 
 -- the keys that it gives have names that an index may have

@@ -1,6 +1,6 @@
 -- The item that Rename chooses, by the records of the catalog's nodes.
-use Rattle.std.proofs.Common.{◌≡◌, ℕ, ◌≤◌, ℤ, Bool, true, false, cond, eqb, eqb-true, List, refl, sym, ◌∙◌, ap, subst, Ok, Err, Result, Option, Some, None}
-use Rattle.std.specs.Prelude.{not, IsTrue, MatchResult}
+use Rattle.std.proofs.Common.{◌≡◌, ℕ, ℤ, Bool, true, false, cond, eqb, List, refl, sym, ◌∙◌, ap, Ok, Err, Result, Option, Some, None}
+use Rattle.std.specs.Prelude.{not, IsTrue}
 use Rattle.std.specs.Option.{option_map, option_map_or}
 use Rattle.std.proofs.lemmas.Bool.{true≢false}
 use Rattle.std.proofs.lemmas.Option.{none-some, same_Some}

@@ -1,10 +1,9 @@
 -- The records choose for Rename what the volume's entries do.
 use Rattle.std.proofs.Common.{◌≡◌, ℕ, ◌≤◌, ℤ, pos, Bool, true, false, cond, eqb, eqb-true, List, refl, sym, ◌∙◌, ap, subst, Ok, Err, Result, Option, Some, None}
-use Rattle.std.specs.Prelude.{not, IsTrue, is_some, ◌&&◌, ⊤}
+use Rattle.std.specs.Prelude.{not, is_some, ⊤}
 use Rattle.std.specs.Ordering.{int_eq}
 use Rattle.std.specs.Option.{option_map, option_map_or, option_and_then, ok_or}
 use Rattle.std.proofs.lemmas.Bool.{true≢false, and_parts}
-use Rattle.std.proofs.lemmas.Option.{same_Some}
 use Rattle.hfs_fields.specs.declared.mdb.Mdb.{Mdb}
 use Rattle.hfs_fields.specs.Names.{is_item_name}
 use Rattle.hfs_fields.specs.Order.{same_name}
@@ -34,7 +33,7 @@ use Rattle.hfs_queries.specs.Told as told
 use Rattle.hfs_call_edits.specs.declared.rekeying.Rekeying.{Rekeying}
 use Rattle.hfs_call_edits.specs.Choosing.{map_ok, unless_code, unless_locked, item_to_set}
 use Rattle.hfs_call_edits.specs.Choosing as records
-use Rattle.hfs_call_edits.specs.Renaming.{is_taken, unless_taken, item_to_rename, renaming, IsRenaming, IsRenameRefused, ChoosesRenaming}
+use Rattle.hfs_call_edits.specs.Renaming.{is_taken, unless_taken, item_to_rename, renaming, IsRenaming, ChoosesRenaming}
 use Rattle.hfs_call_edits.proofs.Choices.{same_ok, err_ok}
 use Rattle.hfs_call_edits.proofs.Chosen.{by_lock, by_test, next_same, item_same, here}
 use Rattle.hfs_call_edits.proofs.Taken.{taken_is}

@@ -1,5 +1,5 @@
 -- Items that come under another key: what their edit asks of the catalog, and how a call chooses them.
-use Rattle.std.specs.Prelude.{◌≡◌, ℕ, ℤ, ◌≤◌, true, false, IsTrue, None, Result}
+use Rattle.std.specs.Prelude.{◌≡◌, ℤ, ◌≤◌, true, false, IsTrue, None, Result}
 use Rattle.std.specs.Ordering.{is_eq}
 use Rattle.hfs_fields.specs.Keys.{cat_cmp}
 use Rattle.hfs_fields.specs.Names.{is_item_name}

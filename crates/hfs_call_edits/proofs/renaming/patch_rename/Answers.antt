@@ -1,5 +1,4 @@
 -- The item stands under its new name.
-use Rattle.hfs_blocks.specs.Blocks.{nodes_in}
 use Rattle.hfs_blocks.specs.Layers.{changes, over}
 use Rattle.hfs_call_edits.proofs.Made.{if_ok}
 use Rattle.hfs_call_edits.proofs.Rekeys.{rekeyed_named}
