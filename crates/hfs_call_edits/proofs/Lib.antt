@@ -14,3 +14,6 @@ pub mod Rekeys
 pub mod RenameModel
 pub mod RenameMade
 pub mod StepMade
+pub mod UpFolders
+pub mod FolderPlaces
+pub mod MoveModel

@@ -95,6 +95,7 @@ there (Some q) r e = ap Some (same_ok q r e)
 
 -- the child of the name, in a folder
 pub record IsNamedChild (catalog : Catalog) (dir : ℕ) (name : List ℕ) (r : Record) : Type 0 where
+  pub named : is_item_name name ≡ true
   pub folder : told.is_folder catalog dir ≡ true
   pub found : lookups.child_named catalog dir name ≡ Some r
 
@@ -102,7 +103,7 @@ pub child_parts : (mdb : Mdb) (catalog : Catalog) (dir : ℕ) (name : List ℕ) 
 child_parts mdb catalog dir name r e =
     let named = unless (not (is_item_name name)) BAD_NAME _ r (unlocked (records.lock_code mdb) _ r e) in
     let folder = unless (not (told.is_folder catalog dir)) NOT_A_FOLDER _ r named.1 in
-    record { folder = not_false (told.is_folder catalog dir) folder.0; found = there (lookups.child_named catalog dir name) r folder.1 }
+    record { named = not_false (is_item_name name) named.0; folder = not_false (told.is_folder catalog dir) folder.0; found = there (lookups.child_named catalog dir name) r folder.1 }
 
 rename_parts : (mdb : Mdb) (catalog : Catalog) (dir : ℕ) (name new_name : List ℕ) (r : Record) → item_to_rename mdb catalog dir name new_name ≡ Ok r
     → IsNamedChild catalog dir name r × (is_item_name new_name ≡ true)

@@ -6,3 +6,4 @@ pub mod Edits
 pub mod Serving
 pub mod Rekeyings
 pub mod Renaming
+pub mod Moving

@@ -4,9 +4,11 @@
 mod calls;
 mod catalog_patch;
 mod choosing;
+mod choosing_moving;
 mod choosing_renaming;
 mod counts;
 mod editing;
+mod moving;
 mod recorded;
 mod rekeying;
 mod renaming;
