@@ -14,6 +14,7 @@ use Rattle.hfs_queries.specs.Folders.{folder_not_file}
 use Rattle.hfs_queries.specs.Told.{only_folder, folder_with}
 use Rattle.hfs_call_edits.specs.declared.choosing_moving.FolderPlace.{FolderPlace}
 use Rattle.hfs_call_edits.specs.Moving.{place_of, folder_place}
+use Rattle.hfs_call_edits.proofs.UpFolders.{key_is}
 
 same_folder : (d e : DirRecord) → Folder d ≡ Folder e → d ≡ e
 same_folder d e same = cc
@@ -21,10 +22,6 @@ same_folder d e same = cc
 body_is : (item : CatalogItem) (r : Record) → item ≡ catalog_item r → is_dir r.1 ≡ true → item.body ≡ Folder (dir_record_of r.1)
 unfolding catalog_item
 body_is item r same dir = ap (λ (x : CatalogItem). x.body) same ∙ ap (λ (b : Bool). cond b (Folder (dir_record_of r.1)) (File (file_record_of r.1))) dir
-
-key_is : (item : CatalogItem) (r : Record) → item ≡ catalog_item r → item.key ≡ r.0
-unfolding catalog_item
-key_is item r same = ap (λ (x : CatalogItem). x.key) same
 
 module _ (catalog : Catalog) (id : ℕ) (item : CatalogItem) (is : Some item ≡ option_map catalog_item (folder_with catalog id)) where
   pub place_found : (d : DirRecord) → item.body ≡ Folder d → Some (record { key = item.key; valence = d.valence }) ≡ folder_place catalog id

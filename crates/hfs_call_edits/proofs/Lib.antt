@@ -17,3 +17,5 @@ pub mod StepMade
 pub mod UpFolders
 pub mod FolderPlaces
 pub mod MoveModel
+pub mod BothSet
+pub mod MoveMade

@@ -39,14 +39,11 @@ use Rattle.hfs_call_edits.specs.CatalogPatch.{HasCatalog}
 use Rattle.hfs_call_edits.specs.declared.rekeying.Rekeying.{Rekeying}
 use Rattle.hfs_call_edits.specs.Rekeyings.{CanRekey}
 use Rattle.hfs_call_edits.specs.Renaming.{IsRenaming, MakesRename}
+use Rattle.hfs_call_edits.proofs.Taken.{level}
+use Rattle.hfs_call_edits.proofs.StepMade.{change_refused, change_accepted}
 use Rattle.hfs_call_edits.proofs.Rekeys.{item_there, item_moved, thread_set, thread_value}
 
 -- ---- keys
-
-level : (o : Ordering) → is_eq o ≡ true → o ≡ Equal
-level Less e = absurd (true≢false (sym e))
-level Equal e = refl
-level Greater e = absurd (true≢false (sym e))
 
 -- under one parent keys are as their names are
 one_parent : (n : ℕ) (o : Ordering) → ordering_then (nat_cmp n n) o ≡ o
@@ -119,12 +116,6 @@ rename_made catalogs law total old new s mdb counts item now h own at rekeyed cl
     })
 
 -- ---- what is answered
-
-change_refused : (v : Volume) (now : ℕ) (chosen : Result Entry ℤ) (make : Entry → Items → Items) (code : ℤ) → chosen ≡ Err code → change v chosen make now ≡ refused v code
-change_refused v now chosen make code e = ap (λ (c : Result Entry ℤ). change v c make now) e
-
-change_accepted : (v : Volume) (now : ℕ) (chosen : Result Entry ℤ) (make : Entry → Items → Items) (entry : Entry) → chosen ≡ Ok entry → (change v chosen make now).1 ≡ success value.Nothing
-change_accepted v now chosen make entry e = ap (λ (c : Result Entry ℤ). (change v c make now).1) e
 
 pub rename_refused : (v : Volume) (dir now : ℕ) (name new_name : List ℕ) (code : ℤ) → to_rename v dir name new_name ≡ Err code → step v (call.Rename dir name new_name now) ≡ refused v code
 unfolding rename

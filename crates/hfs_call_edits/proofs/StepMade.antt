@@ -1,11 +1,13 @@
 -- What an edit answers, where a patch makes the step of a call that has the nodes which it needs.
-use Rattle.std.proofs.Common.{◌≡◌, ℕ, false, sym, subst, Ok}
+use Rattle.std.proofs.Common.{◌≡◌, ℕ, ℤ, false, sym, ap, subst, Ok, Err, Result}
 use Rattle.hfs_fields.specs.declared.mdb.Mdb.{Mdb}
 use Rattle.hfs_blocks.specs.Layers.{Numbered, changes, over, AreWithin}
 use Rattle.hfs_model.specs.declared.call.Call.{Call}
 use Rattle.hfs_model.specs.declared.reply.Value.TheVariants as value
+use Rattle.hfs_model.specs.Changes.{refused, change}
 use Rattle.hfs_model.specs.Replies.{success}
 use Rattle.hfs_model.specs.Step.{step}
+use Rattle.hfs_model.specs.Volume.{Volume, Items, Entry}
 use Rattle.hfs_check.specs.Parts.{Blocks}
 use Rattle.hfs_check.specs.Sound.{AreBlocksSound}
 use Rattle.hfs_check.specs.VolumeOf.{volume_in}
@@ -30,3 +32,11 @@ module _ {B : Type 0} (blocks : B → Blocks) (totals : B → ℕ) (now own : B)
           reply = reply;
         };
       })
+
+-- ---- what a change answers
+
+pub change_refused : (v : Volume) (now : ℕ) (chosen : Result Entry ℤ) (make : Entry → Items → Items) (code : ℤ) → chosen ≡ Err code → change v chosen make now ≡ refused v code
+change_refused v now chosen make code e = ap (λ (c : Result Entry ℤ). change v c make now) e
+
+pub change_accepted : (v : Volume) (now : ℕ) (chosen : Result Entry ℤ) (make : Entry → Items → Items) (entry : Entry) → chosen ≡ Ok entry → (change v chosen make now).1 ≡ success value.Nothing
+change_accepted v now chosen make entry e = ap (λ (c : Result Entry ℤ). (change v c make now).1) e

@@ -71,7 +71,7 @@ no_entry p (f ∷ fs) q j none has holds = elim (p f) as (λ b. p f ≡ b → co
 
 -- ---- names
 
-level : (o : Ordering) → is_eq o ≡ true → o ≡ Equal
+pub level : (o : Ordering) → is_eq o ≡ true → o ≡ Equal
 level Less e = absurd (true≢false (sym e))
 level Equal e = refl
 level Greater e = absurd (true≢false (sym e))

@@ -18,7 +18,7 @@ use Rattle.hfs_queries.specs.Folders.{found_with}
 use Rattle.hfs_queries.specs.Told.{only_folder, folder_with}
 use Rattle.hfs_call_edits.specs.Moving.{up_by_folders}
 
-key_is : (item : CatalogItem) (r : Record) → item ≡ catalog_item r → item.key ≡ r.0
+pub key_is : (item : CatalogItem) (r : Record) → item ≡ catalog_item r → item.key ≡ r.0
 unfolding catalog_item
 key_is item r same = ap (λ (x : CatalogItem). x.key) same
 

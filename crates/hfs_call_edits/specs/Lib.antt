@@ -7,3 +7,4 @@ pub mod Serving
 pub mod Rekeyings
 pub mod Renaming
 pub mod Moving
+pub mod Valences

@@ -1,5 +1,5 @@
 -- What CatMove chooses, and what it makes of a volume's blocks.
-use Rattle.std.specs.Prelude.{◌≡◌, ℕ, zero, suc, ◌+◌, ℤ, pos, Bool, true, false, not, ◌&&◌, ◌||◌, ◌==◌, nat_lt, is_some, if◌then◌else◌, List, IsTrue, Option, Result, Ok, Err}
+use Rattle.std.specs.Prelude.{◌≡◌, ℕ, zero, suc, ◌+◌, ◌<◌, ◌≤◌, ◌^◌, ℤ, pos, Bool, true, false, not, ◌&&◌, ◌||◌, ◌==◌, nat_lt, is_some, if◌then◌else◌, List, IsTrue, Option, Result, Ok, Err}
 use Rattle.std.specs.Ordering.{int_eq}
 use Rattle.std.specs.Option.{option_map, option_map_or, ok_or}
 use Rattle.std.specs.Result.{MatchResult}
@@ -14,9 +14,9 @@ use Rattle.hfs_catalog.specs.declared.item.ItemRecord.TheVariants.{Folder, File}
 use Rattle.hfs_catalog.specs.declared.item.CatalogItem.{CatalogItem}
 use Rattle.hfs_catalog.specs.Records.{Record, Catalog}
 use Rattle.hfs_catalog.specs.Lookups.{catalog_item, child_named}
-use Rattle.hfs_check.specs.Parts.{Blocks, mdb_in, catalog_in}
+use Rattle.hfs_check.specs.Parts.{Blocks, mdb_in, catalog_nodes, catalog_in}
 use Rattle.hfs_check.specs.VolumeOf.{volume_in}
-use Rattle.hfs_changes.specs.BoundLaws.{CountsMove}
+use Rattle.hfs_catalog_edits.specs.Swaps.{one_if}
 use Rattle.hfs_changes.specs.Changes.{IsFolderWith}
 use Rattle.hfs_changes.specs.Laws.{MakesStep}
 use Rattle.hfs_changes.specs.MoveLaws.{under_folder, with_moved}
@@ -24,7 +24,7 @@ use Rattle.hfs_queries.specs.Told.{folder_with}
 use Rattle.hfs_call_edits.specs.declared.choosing_moving.FolderPlace.{FolderPlace}
 use Rattle.hfs_call_edits.specs.declared.choosing_moving.Moving.{Moving}
 use Rattle.hfs_call_edits.specs.Choosing.{map_ok, child_to_change}
-use Rattle.hfs_call_edits.specs.Rekeyings.{IsRekeyChoice}
+use Rattle.hfs_call_edits.specs.Rekeyings.{CanRekey, IsRekeyChoice}
 use Rattle.hfs_call_edits.specs.Renaming.{own_id}
 
 -- ---- offspring, upwards
@@ -113,6 +113,24 @@ ChoosesMoving old dir name new_dir result = MatchResult result (λ m. IsMoving o
 -- the counts where the item was moved
 abbrev pub counts_moved : Moving → ℕ → Mdb → Mdb
 counts_moved m now mdb = with_moved m.folder m.item.from.parent m.item.to.parent now mdb
+
+-- the counts of the root have room for the item, and count it where it goes
+pub record FitsCounts (mdb : Mdb) (m : Moving) : Type 0 where
+  pub root_files : mdb.root_files + one_if (not m.folder && (m.item.to.parent == 2)) < 2 ^ 16
+  pub root_folders : mdb.root_folders + one_if (m.folder && (m.item.to.parent == 2)) < 2 ^ 16
+  pub files_left : one_if (not m.folder && (m.item.from.parent == 2)) ≤ mdb.root_files
+  pub folders_left : one_if (m.folder && (m.item.from.parent == 2)) ≤ mdb.root_folders
+
+-- some CatMove chooses the item, and the catalog has room for it
+pub record CanMove (old : Blocks) (m : Moving) : Type 0 where
+  pub dir : ℕ
+  pub name : List ℕ
+  pub new_dir : ℕ
+  pub is : IsMoving old dir name new_dir m
+  pub can : CanRekey m.item (catalog_nodes old)
+  pub fits : FitsCounts (mdb_in old) m
+  pub some : 1 ≤ m.left.valence
+  pub room : m.entered.valence + 1 < 2 ^ 16
 
 -- wherever CatMove chooses that item, its step was made
 abbrev pub MakesMove : Moving → ℕ → Blocks → Blocks → Type 0

@@ -15,6 +15,7 @@ mod renaming;
 mod room;
 mod setting;
 mod settings;
+mod valences;
 
 pub use calls::is_setting;
 pub use counts::{put_counts, with_counts};
