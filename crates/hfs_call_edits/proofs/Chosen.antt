@@ -45,13 +45,13 @@ module _ (contents : Contents) (catalog : Catalog) (v : Volume) (h : AreEntries 
   abbrev entry : Record → Entry
   entry r = entry_of contents catalog r
 
-  by_lock : (a b : Bool) (x : Result Entry ℤ) (y : Result Record ℤ) → x ≡ map_ok entry y
+  pub by_lock : (a b : Bool) (x : Result Entry ℤ) (y : Result Record ℤ) → x ≡ map_ok entry y
       → cond (a || b) (Err (cond a HARDWARE_LOCKED SOFTWARE_LOCKED)) x ≡ map_ok entry (unless_code (cond a (Some HARDWARE_LOCKED) (cond b (Some SOFTWARE_LOCKED) None)) y)
   by_lock true b x y e = refl
   by_lock false true x y e = refl
   by_lock false false x y e = e
 
-  by_test : (b : Bool) (code : ℤ) (x : Result Entry ℤ) (y : Result Record ℤ) → x ≡ map_ok entry y → cond b (Err code) x ≡ map_ok entry (cond b (Err code) y)
+  pub by_test : (b : Bool) (code : ℤ) (x : Result Entry ℤ) (y : Result Record ℤ) → x ≡ map_ok entry y → cond b (Err code) x ≡ map_ok entry (cond b (Err code) y)
   by_test true code x y e = refl
   by_test false code x y e = e
 
@@ -68,7 +68,7 @@ module _ (contents : Contents) (catalog : Catalog) (v : Volume) (h : AreEntries 
 
   -- ---- what is chosen next
 
-  next_same : (chosen : Result Record ℤ) (f : Entry → Result Entry ℤ) (g : Record → Result Record ℤ) → ((r : Record) → f (entry r) ≡ map_ok entry (g r))
+  pub next_same : (chosen : Result Record ℤ) (f : Entry → Result Entry ℤ) (g : Record → Result Record ℤ) → ((r : Record) → f (entry r) ≡ map_ok entry (g r))
       → and_then (map_ok entry chosen) f ≡ map_ok entry (and_then chosen g)
   next_same (Ok r) f g same = same r
   next_same (Err code) f g same = refl
@@ -149,7 +149,7 @@ module _ (mdb : Mdb) (catalog : Catalog) (dir : ℕ) (name : List ℕ) (r : Reco
 
 module _ (stands : ChoiceStands) (total : ℕ) (old : Blocks) (sound : AreBlocksSound total old) (chosen : Result Entry ℤ) (dir : ℕ) (name : List ℕ) (r : Record)
     (is : chosen ≡ Ok (entry_of (contents_in old) (catalog_in old) r)) (found : child_named (catalog_in old) dir name ≡ Some r) where
-  here : In r (catalog_in old) × (is_child_named dir name r ≡ true)
+  pub here : In r (catalog_in old) × (is_child_named dir name r ≡ true)
   here = found_in (is_child_named dir name) (catalog_in old) r found
 
   item : is_item r.1 ≡ true

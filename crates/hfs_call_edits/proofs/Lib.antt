@@ -7,6 +7,8 @@ pub mod Made
 pub mod Choices
 pub mod Chosen
 pub mod Edited
+pub mod Taken
+pub mod RenameChoice
 pub mod Wanting
 pub mod ChosenPlaces
 pub mod PutItems
@@ -19,3 +21,12 @@ pub mod FileIdReplies
 pub mod ChosenPlaces
 pub mod PutItems
 pub mod Creations
+pub mod Rekeys
+pub mod RenameModel
+pub mod RenameMade
+pub mod StepMade
+pub mod UpFolders
+pub mod FolderPlaces
+pub mod MoveModel
+pub mod BothSet
+pub mod MoveMade

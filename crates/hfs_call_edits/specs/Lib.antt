@@ -7,3 +7,7 @@ pub mod NewPlaces
 pub mod NewItems
 pub mod Edits
 pub mod Serving
+pub mod Rekeyings
+pub mod Renaming
+pub mod Moving
+pub mod Valences

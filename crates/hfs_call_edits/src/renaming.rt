@@ -1,0 +1,102 @@
+//! What Rename makes of a volume's blocks.
+
+ghost use Rattle.std.specs.Prelude.{◌≡◌, false, IfOk, IfNone};
+ghost use Rattle.hfs_blocks.specs.Layers.{changes, over, AreWithin};
+ghost use Rattle.hfs_catalog_edits.specs.Rooms.{HasRoom};
+ghost use Rattle.hfs_check.specs.Parts.{mdb_in, catalog_nodes};
+ghost use Rattle.hfs_check.specs.Sound.{AreBlocksSound};
+ghost use Rattle.hfs_fields.specs.Order.{same_name};
+ghost use Rattle.hfs_model.specs.declared.call.Call.TheVariants as call;
+ghost use Rattle.hfs_call_edits.specs.Edits.{IsEditOf};
+ghost use Rattle.hfs_call_edits.specs.Rekeyings.{CanRekey};
+ghost use Rattle.hfs_call_edits.specs.Renaming.{ChoosesRenaming, MakesRename, nodes_for_name};
+ghost use Rattle.hfs_call_edits.specs.Room.{lacking};
+ghost use Rattle.hfs_call_edits.specs.Settings.{IsCatalogFile};
+
+use crate::catalog_patch::close_catalog;
+use crate::choosing_renaming;
+use crate::editing::{Change, Editing, Refusal};
+use crate::rekeying::{Rekeying, open_rekeyed};
+use crate::settings::at_time;
+use hfs_blocks::{Blocks, Patch, Run};
+use hfs_catalog::sound_is_lawful;
+use hfs_changes::{
+    catalog_edits_are_steps, choice_stands, creation_is_free, rename_is_free, rename_makes,
+};
+use hfs_check::{catalog_is_sound, trees_are_sound};
+use hfs_fields::{Mdb, same_name};
+use std::alloc::{AllocError, Global};
+
+/// The patch that puts an item under its new name. The only error is want of memory.
+fn patch_rename<B: Blocks>(
+    alloc: Global,
+    below: &B,
+    runs: &[Run],
+    mdb: &Mdb,
+    item: &Rekeying,
+    now: u32,
+) -> Result<Patch, AllocError>
+    requires sound { AreBlocksSound (B.total below.now) (B.blocks below.now) }
+    requires file { IsCatalogFile runs.now (B.total below.now) (B.blocks below.now) }
+    requires mdb { mdb.now ≡ mdb_in (B.blocks below.now) }
+    requires can { CanRekey item.now (catalog_nodes (B.blocks below.now)) }
+    ensures makes { IfOk result (λ patch. MakesRename item.now now (B.blocks below.now) (over (changes patch) (B.blocks below.now))) }
+    ensures within { IfOk result (λ patch. AreWithin (changes patch) (B.total below.now)) }
+{
+    catalog_is_sound();
+    rename_makes();
+    let nodes = open_rekeyed(alloc, below, runs, item)?;
+    close_catalog(below, runs, nodes, &at_time(mdb, now))
+}
+
+impl<B: Blocks> Editing<'_, B> {
+    /// The folder's item of that name, to come under its new name, or the code that refuses it.
+    fn item_to_rename(&self, dir: u32, name: &[u8], new_name: &[u8]) -> Result<Rekeying, i16>
+        ensures { ChoosesRenaming (B.blocks self.now) dir name.now new_name.now result }
+    {
+        choice_stands();
+        catalog_is_sound();
+        sound_is_lawful();
+        creation_is_free();
+        choosing_renaming::item_to_rename(&self.nodes(), self.mdb, dir, name, new_name)
+    }
+
+    /// What refuses a new name for want of nodes. To another case of its name an item comes without any.
+    fn lacks_for_name(&self, name: &[u8], new_name: &[u8]) -> Option<Refusal>
+        ensures refusal { result ≡ lacking (nodes_for_name name.now new_name.now) (catalog_nodes (B.blocks self.now)) }
+        ensures room { IfNone result (same_name name.now new_name.now ≡ false → HasRoom (catalog_nodes (B.blocks self.now))) }
+    {
+        if same_name(name, new_name) {
+            return None;
+        }
+        self.lacks_one()
+    }
+
+    /// What Rename makes of the volume. The only error is want of memory.
+    pub(crate) fn rename(
+        &self,
+        alloc: Global,
+        dir: u32,
+        name: &[u8],
+        new_name: &[u8],
+        now: u32,
+    ) -> Result<Result<Change, Refusal>, AllocError>
+        ensures { IfOk result (λ edit. IsEditOf (call.Rename dir name.now new_name.now now) (B.total self.now) (B.blocks self.now) edit) }
+    {
+        trees_are_sound();
+        catalog_is_sound();
+        choice_stands();
+        rename_is_free();
+        catalog_edits_are_steps();
+        let item = match self.item_to_rename(dir, name, new_name) {
+            Ok(item) => item,
+            Err(code) => return Ok(Err(Refusal::Code(code))),
+        };
+        if let Some(refusal) = self.lacks_for_name(name, new_name) {
+            return Ok(Err(refusal));
+        }
+        self.catalog_is_in_file();
+        let patch = patch_rename(alloc, self.blocks, self.catalog, self.mdb, &item, now)?;
+        Ok(Ok(self.change(patch, now)))
+    }
+}
