@@ -18,9 +18,6 @@ pub mod FileIdsChosen
 pub mod FileIdEdits
 pub mod FileIdPatches
 pub mod FileIdReplies
-pub mod ChosenPlaces
-pub mod PutItems
-pub mod Creations
 pub mod Rekeys
 pub mod RenameModel
 pub mod RenameMade
