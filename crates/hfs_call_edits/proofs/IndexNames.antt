@@ -1,4 +1,4 @@
--- The names in the keys of a catalog's index nodes, where a record was put in place of another.
+-- The names in the keys of a catalog's index nodes, after edits of its records.
 use Rattle.std.proofs.Common.{◌≡◌, ⊎_elim, ℕ, zero, suc, List, [], ◌∷◌, ◌++◌, map, inl, inr, sym, subst, ap, arith, Bool, cond}
 use Rattle.std.proofs.lemmas.Bool.{ne_eqb}
 use Rattle.std.specs.List.{flat_map}
@@ -6,8 +6,7 @@ use Rattle.hfs_btree.specs.declared.key.Key.{Ghosts}
 use Rattle.hfs_btree.specs.Header.{depth_of, root_level, tree_content, tree_turn}
 use Rattle.hfs_btree.specs.Tree.{Store, Spot, records_in, children, pair_of, pairs, first_of, spots, turn, last_level, key_at}
 use Rattle.hfs_btree_checks.specs.Order.{index_keys, index_keys_at}
-use Rattle.hfs_btree_edits.specs.KeptKeys.{EachKey, IsKeyOr, keys-hold_with}
-use Rattle.hfs_fields.specs.declared.key.CatKey.{CatKey}
+use Rattle.hfs_btree_edits.specs.KeptKeys.{EachKey}
 use Rattle.hfs_scans.specs.Each.{Each}
 use Rattle.hfs_scans.specs.Elements.{each-append, each-left, each-right, each-map, each-unmap, each-mono, each-both}
 use Rattle.hfs_catalog.specs.Records.{Record, Catalog}
@@ -73,13 +72,7 @@ leaf_names catalog records names =
     (λ r both. ⊎_elim (λ item. inr (both.1 item.0)) (λ thread. inl thread.1) both.0)
     (each-both IsRecord _ catalog records names.items)
 
-pub replaced_names : (key : CatKey) (old new : Store) → EachKey cat_keys (IsKeyOr cat_keys old key) new → IsIndexKeyName key → Each IsRecord (catalog_of old) → AreNamesSound (catalog_of old)
-    → Each IsIndexKeyName (index_keys cat_keys old) → Each IsIndexKeyName (index_keys cat_keys new)
-replaced_names key old new keys own records names index =
-    index_each cat_keys new IsIndexKeyName
-    (keys-hold_with cat_keys old new key keys IsIndexKeyName (each_key cat_keys old IsIndexKeyName index (leaf_names (catalog_of old) records names)) own)
-
--- the same where several records came, went, or were put in place of others
+-- records came, went, or were put in place of others
 pub kept_names : (old new : Store) → KeepsNamed old new → Each IsRecord (catalog_of old) → AreNamesSound (catalog_of old)
     → Each IsIndexKeyName (index_keys cat_keys old) → Each IsIndexKeyName (index_keys cat_keys new)
 kept_names old new keeps records names index =

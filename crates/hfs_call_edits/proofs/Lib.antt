@@ -2,7 +2,7 @@ pub mod Different
 pub mod IndexNames
 pub mod Placed
 pub mod Closed
-pub mod SetRecord
+pub mod Opened
 pub mod Made
 pub mod Choices
 pub mod Chosen

@@ -14,7 +14,9 @@ use Rattle.hfs_blocks.specs.Blocks.{run_of, AreRunsWithin}
 use Rattle.hfs_blocks.specs.Layers.{Changes, with_change}
 use Rattle.hfs_btree.specs.Pairs.{lookup}
 use Rattle.hfs_btree_edits.specs.Edits.{with_replaced}
+use Rattle.hfs_catalog.specs.declared.item.ItemRecord.{ItemRecord}
 use Rattle.hfs_catalog.specs.Records.{Record, Catalog}
+use Rattle.hfs_catalog_edits.specs.Bodies.{item_bytes, IsItemValue}
 use Rattle.hfs_model.specs.Volume.{Entry}
 use Rattle.hfs_model.specs.declared.call.Call.{Call}
 use Rattle.hfs_check.specs.Parts.{Blocks, catalog_blocks, catalog_in}
@@ -55,6 +57,11 @@ pub record PutsCounts (counts : Mdb) (own : List ℕ) (old new : Changes) : Type
 pub record HasSetRecord (key : CatKey) (body : List ℕ) (counts : Mdb) (old new : Blocks) : Type 0 where
   pub tree : HasTree counts old new
   pub content : catalog_in new ≡ with_replaced cat_cmp key body (catalog_in old)
+
+-- the item's record, as the program has it
+pub record HasSetItem (key : CatKey) (item : ItemRecord) (counts : Mdb) (old new : Blocks) : Type 0 where
+  pub value : IsItemValue item
+  pub set : HasSetRecord key (item_bytes item) counts old new
 
 -- ---- the item that a call chooses
 

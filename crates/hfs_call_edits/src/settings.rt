@@ -8,8 +8,9 @@ ghost use Rattle.hfs_check.specs.Parts.{mdb_in, catalog_in};
 ghost use Rattle.hfs_check.specs.Sound.{AreBlocksSound};
 ghost use Rattle.hfs_call_edits.specs.Settings.{IsCatalogFile, IsFolderUnder, IsFileUnder, MakesSetFInfo, MakesSetFileInfo, MakesSetFolderInfo, MakesSetLock};
 
-use crate::recorded::{patch_file, patch_folder};
+use crate::recorded::patch_record;
 use hfs_blocks::{Blocks, Patch, Run};
+use hfs_catalog::ItemRecord;
 use hfs_changes::{set_cat_info_makes, set_f_info_makes, set_lock_makes};
 use hfs_fields::{CatKey, DirRecord, FileRecord, Mdb};
 use std::alloc::{AllocError, Global};
@@ -68,7 +69,14 @@ pub fn patch_set_f_info<B: Blocks>(
         finder_info: *info,
         ..*file
     };
-    patch_file(alloc, below, runs, key, &changed, &at_time(mdb, now))
+    patch_record(
+        alloc,
+        below,
+        runs,
+        key,
+        &ItemRecord::File(changed),
+        &at_time(mdb, now),
+    )
 }
 
 /// The patch that gives a file, of this key and this record, other dates and Finder bytes. The only error is want of memory.
@@ -100,7 +108,14 @@ pub fn patch_set_file_info<B: Blocks>(
         extended_finder_info,
         ..*file
     };
-    patch_file(alloc, below, runs, key, &changed, &at_time(mdb, now))
+    patch_record(
+        alloc,
+        below,
+        runs,
+        key,
+        &ItemRecord::File(changed),
+        &at_time(mdb, now),
+    )
 }
 
 /// The patch that gives a folder, of this key and this record, other dates and Finder bytes. The only error is want of memory.
@@ -132,7 +147,14 @@ pub fn patch_set_folder_info<B: Blocks>(
         extended_finder_info,
         ..*folder
     };
-    patch_folder(alloc, below, runs, key, &changed, &at_time(mdb, now))
+    patch_record(
+        alloc,
+        below,
+        runs,
+        key,
+        &ItemRecord::Folder(changed),
+        &at_time(mdb, now),
+    )
 }
 
 /// The patch that locks a file, of this key and this record, or unlocks it. The only error is want of memory.
@@ -159,5 +181,12 @@ pub fn patch_set_lock<B: Blocks>(
         flags: file.flags.with_lock(locked),
         ..*file
     };
-    patch_file(alloc, below, runs, key, &changed, &at_time(mdb, now))
+    patch_record(
+        alloc,
+        below,
+        runs,
+        key,
+        &ItemRecord::File(changed),
+        &at_time(mdb, now),
+    )
 }

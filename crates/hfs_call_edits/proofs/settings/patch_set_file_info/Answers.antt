@@ -1,7 +1,7 @@
 use Rattle.std.proofs.Common.{List, ℕ, subst}
-use Rattle.hfs_fields.specs.RecordForms.{IsFileRecordValue, file_record_bytes}
+use Rattle.hfs_catalog.specs.declared.item.ItemRecord.TheVariants.{File}
 use Rattle.hfs_blocks.specs.Layers.{changes, over}
-use Rattle.hfs_call_edits.specs.Settings.{HasSetRecord}
+use Rattle.hfs_call_edits.specs.Settings.{HasSetItem}
 use Rattle.hfs_call_edits.proofs.Made.{if_ok, file_info_made}
 use Rattle.hfs_call_edits.proofs.settings.patch_set_file_info.Goals as goal
 
@@ -10,9 +10,9 @@ returns-clause-makes g c =
     let below = c.args.below.now in
     let s = c.args.settings.now in
     let told = λ (both : List ℕ × List ℕ). record c.args.file.now { created = s.created; modified = s.modified; backup = s.backup; finder_info = both.0; extended_finder_info = both.1 } in
-    if_ok c.patch_file.result _ _
+    if_ok c.patch_record.result _ _
     (λ patch set. file_info_made (g.B.Blocks.total below) c.args.now c.args.mdb.now c.at_time.result c.args.key.now (g.B.Blocks.blocks below) (over (changes patch) (g.B.Blocks.blocks below))
     c.requires.sound c.requires.mdb c.at_time.ensures c.set_cat_info_makes.ensures.file c.args.file.now s
-    (subst (λ (both : List ℕ × List ℕ). IsFileRecordValue (told both)) c.halves.ensures c.patch_file.ensures.value)
-    (subst (λ (both : List ℕ × List ℕ). HasSetRecord c.args.key.now (file_record_bytes (told both)) c.at_time.result (g.B.Blocks.blocks below) (over (changes patch) (g.B.Blocks.blocks below))) c.halves.ensures set))
-    c.patch_file.ensures.set
+    (subst (λ (both : List ℕ × List ℕ). HasSetItem c.args.key.now (File (told both)) c.at_time.result (g.B.Blocks.blocks below) (over (changes patch) (g.B.Blocks.blocks below))) c.halves.ensures set).value
+    (subst (λ (both : List ℕ × List ℕ). HasSetItem c.args.key.now (File (told both)) c.at_time.result (g.B.Blocks.blocks below) (over (changes patch) (g.B.Blocks.blocks below))) c.halves.ensures set).set)
+    c.patch_record.ensures.set
