@@ -1,0 +1,5 @@
+pub mod Histories
+pub mod Lists
+pub mod Journals
+pub mod Pairs
+pub mod Tolds
