@@ -7,6 +7,7 @@ mod copies;
 mod crossing;
 mod front;
 mod item;
+mod laws;
 mod pair;
 mod published;
 mod rule;
@@ -15,6 +16,7 @@ mod viewer;
 
 pub use copies::copy_call;
 pub use crossing::may_cross;
+pub use laws::{published_begins, published_grows, published_is_after, published_stays};
 pub use pair::{Pair, PairFault};
 pub use told::Told;
 pub use viewer::{ViewFault, Viewer};
