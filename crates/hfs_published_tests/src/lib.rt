@@ -11,4 +11,6 @@ mod reading;
 #[cfg(test)]
 mod showing;
 #[cfg(test)]
+mod told;
+#[cfg(test)]
 mod viewers;
