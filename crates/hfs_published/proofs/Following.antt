@@ -21,7 +21,7 @@ use Rattle.hfs_published.specs.Journals.{IsAnswered, IsLegalAt, IsLegal, is_acce
 -- ---- lists of changes
 
 -- an accepted change comes first, and another entry is left out
-changes_of : (b : Bool) → Entry → List Entry → List Item
+abbrev changes_of : (b : Bool) → Entry → List Entry → List Item
 changes_of b e es = map (λ (x : Entry). Change x.call) (cond b (e ∷ filter is_accepted es) (filter is_accepted es))
 
 pub changes_accepted : (e : Entry) (es : List Entry) → is_accepted e ≡ true → changes (e ∷ es) ≡ Change e.call ∷ changes es
