@@ -1,5 +1,5 @@
 -- What the published lists of a journal stand for.
-use Rattle.std.proofs.Common.{◌≡◌, ◌≢◌, ℕ, ◌+◌, ◌-◌, ◌≤◌, ◌&&◌, Bool, true, false, cond, not, ℤ, pos, List, [], ◌∷◌, ◌++◌, length, take, drop, map, Option, Some, None, refl, sym, ap, ◌∙◌, subst, append_assoc, arith}
+use Rattle.std.proofs.Common.{◌≡◌, ◌≢◌, ℕ, ◌+◌, ◌-◌, ◌≤◌, ◌&&◌, Bool, true, false, cond, not, ℤ, pos, List, [], ◌∷◌, ◌++◌, length, take, drop, map, Option, Some, None, refl, sym, ap, ◌∙◌, append_assoc, arith}
 use Rattle.std.specs.Prelude.{fold, filter}
 use Rattle.std.specs.Option.{option_map_or}
 use Rattle.std.specs.Ordering.{int_eq}
@@ -10,13 +10,13 @@ use mathlib.Core.List.{IsPrefix}
 use Rattle.hfs_model.specs.declared.codes.TheConstants.{DISK_FULL}
 use Rattle.hfs_model.specs.declared.journal.Entry.{Entry}
 use Rattle.hfs_model.specs.Volume.{Volume}
-use Rattle.hfs_model.specs.Step.{step, is_reading, new_volume}
+use Rattle.hfs_model.specs.Step.{step, is_reading}
 use Rattle.hfs_model.specs.Runs.{after, after_entry}
 use Rattle.hfs_model.specs.Laws.{ReadingLeaves, RefusalLeaves}
 use Rattle.hfs_published.specs.declared.item.Item.{Item}
 use Rattle.hfs_published.specs.declared.item.Item.TheVariants.{Opening, Change}
 use Rattle.hfs_published.specs.Lists.{entered, shown}
-use Rattle.hfs_published.specs.Journals.{IsAnswered, IsLegalAt, IsLegal, is_accepted, changes, published}
+use Rattle.hfs_published.specs.Journals.{IsAnswered, IsLegal, is_accepted, changes, published}
 
 -- ---- lists of changes
 

@@ -1,4 +1,4 @@
-use Rattle.std.proofs.Common.{◌≡◌, ◌≤◌, length, ap, ◌∙◌, arith}
+use Rattle.std.proofs.Common.{◌≤◌, length, ap, ◌∙◌, arith}
 use Rattle.hfs_published.specs.declared.published.Published.{Published}
 use Rattle.hfs_published.specs.Histories.{Known}
 use Rattle.hfs_published.specs.Pairs.{PairState}
