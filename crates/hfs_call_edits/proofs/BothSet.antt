@@ -1,5 +1,5 @@
 -- The records of two folders whose valences are set, one after the other.
-use Rattle.std.proofs.Common.{◌≡◌, ℕ, ◌+◌, ◌-◌, true, List, [], ◌∷◌, refl, sym, ◌∙◌, ap, subst, Option, Some, None}
+use Rattle.std.proofs.Common.{◌≡◌, ℕ, ◌+◌, ◌-◌, true, [], ◌∷◌, sym, ◌∙◌, ap, subst, Option, Some}
 use Rattle.std.specs.Option.{option_map}
 use Rattle.std.proofs.lemmas.Option.{same_Some}
 use Rattle.hfs_fields.specs.declared.key.CatKey.{CatKey}
@@ -9,7 +9,7 @@ use Rattle.hfs_fields.specs.RecordForms.{IsDirRecordValue, dir_record_bytes}
 use Rattle.hfs_scans.specs.Members.{In}
 use Rattle.hfs_btree.specs.Pairs.{lookup}
 use Rattle.hfs_btree.specs.Tree.{Store}
-use Rattle.hfs_catalog.specs.Records.{Record, Catalog}
+use Rattle.hfs_catalog.specs.Records.{Record}
 use Rattle.hfs_catalog.specs.Tree.{IsCatalogTree, catalog_of}
 use Rattle.hfs_catalog_edits.specs.Bodies.{IfBody, with_valence}
 use Rattle.hfs_catalog_edits.specs.Finds.{record_at, own_record, body_at}
@@ -19,7 +19,7 @@ use Rattle.hfs_catalog_edits.specs.Swaps.{Swaps}
 use Rattle.hfs_changes.specs.Changes.{with_children, folder_with}
 use Rattle.hfs_changes.specs.PlaceLaws.{BothStand, StandsStill}
 use Rattle.hfs_call_edits.specs.declared.choosing_moving.FolderPlace.{FolderPlace}
-use Rattle.hfs_call_edits.specs.Valences.{StandAt, FoldersSet, ValencesSet}
+use Rattle.hfs_call_edits.specs.Valences.{StandAt, ValencesSet}
 
 -- ---- one folder
 
@@ -66,15 +66,15 @@ module _ (still : StandsStill) (s t : Store) (tree : IsCatalogTree s) (left ente
       let after = after_first stand in
       record {
         keeps =
-          keeps_then (left.key ∷ []) (entered.key ∷ []) s t u (one_kept s tree stand.first stand.both.first left.key stand.first_key (left.valence - 1) now t set)
-          (one_kept t after stand.second (second_there stand.first stand.second stand.both stand.first_key) entered.key stand.second_key (entered.valence + 1) now u more);
+            keeps_then (left.key ∷ []) (entered.key ∷ []) s t u (one_kept s tree stand.first stand.both.first left.key stand.first_key (left.valence - 1) now t set)
+            (one_kept t after stand.second (second_there stand.first stand.second stand.both stand.first_key) entered.key stand.second_key (entered.valence + 1) now u more);
         set = λ r1 r2 both first second.
-          let there = second_there r1 r2 both first in
-          record {
-            third = catalog_of t;
-            first_set = one_set s tree r1 both.first left.key first (left.valence - 1) now t set;
-            second_set = one_set t after r2 there entered.key second (entered.valence + 1) now u more;
-            first_value = one_value s tree r1 both.first left.key first (left.valence - 1) now t set;
-            second_value = one_value t after r2 there entered.key second (entered.valence + 1) now u more;
-          };
+            let there = second_there r1 r2 both first in
+            record {
+              third = catalog_of t;
+              first_set = one_set s tree r1 both.first left.key first (left.valence - 1) now t set;
+              second_set = one_set t after r2 there entered.key second (entered.valence + 1) now u more;
+              first_value = one_value s tree r1 both.first left.key first (left.valence - 1) now t set;
+              second_value = one_value t after r2 there entered.key second (entered.valence + 1) now u more;
+            };
       }

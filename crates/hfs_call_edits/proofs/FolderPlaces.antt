@@ -5,7 +5,6 @@ use Rattle.std.proofs.lemmas.Option.{none-some, same_Some}
 use Rattle.hfs_fields.specs.declared.dir_record.DirRecord.{DirRecord}
 use Rattle.hfs_fields.specs.declared.file_record.FileRecord.{FileRecord}
 use Rattle.hfs_fields.specs.Records.{is_dir, dir_record_of, file_record_of}
-use Rattle.hfs_catalog.specs.declared.item.ItemRecord.{ItemRecord}
 use Rattle.hfs_catalog.specs.declared.item.ItemRecord.TheVariants.{Folder, File}
 use Rattle.hfs_catalog.specs.declared.item.CatalogItem.{CatalogItem}
 use Rattle.hfs_catalog.specs.Records.{Record, Catalog, item_with}
@@ -27,17 +26,17 @@ module _ (catalog : Catalog) (id : ℕ) (item : CatalogItem) (is : Some item ≡
   pub place_found : (d : DirRecord) → item.body ≡ Folder d → Some (record { key = item.key; valence = d.valence }) ≡ folder_place catalog id
   place_found d body = elim (item_with catalog id) as (λ (o : Option Record). Some item ≡ option_map catalog_item (option_and_then only_folder o)
       → ◌≡◌ {A = Option FolderPlace} (Some (record { key = item.key; valence = d.valence })) (option_map place_of (option_and_then only_folder o))) [
-    | None ↦ λ e. absurd (none-some item (sym e))
-    | Some r ↦ λ e. elim (is_dir r.1) as (λ (b : Bool). is_dir r.1 ≡ b → Some item ≡ option_map catalog_item (cond b (Some r) None)
-        → ◌≡◌ {A = Option FolderPlace} (Some (record { key = item.key; valence = d.valence })) (option_map place_of (cond b (Some r) None))) [
-      | true ↦ λ dir f.
-          let same = same_Some item (catalog_item r) f in
-          let own = same_folder d (dir_record_of r.1) (sym body ∙ body_is item r same dir) in
-          let key = key_is item r same in
-          λ i. Some (record { key = key i; valence = (own i).valence })
-      | false ↦ λ file f. absurd (none-some item (sym f))
-    ] refl e
-  ] is
+        | None ↦ λ e. absurd (none-some item (sym e))
+        | Some r ↦ λ e. elim (is_dir r.1) as (λ (b : Bool). is_dir r.1 ≡ b → Some item ≡ option_map catalog_item (cond b (Some r) None)
+            → ◌≡◌ {A = Option FolderPlace} (Some (record { key = item.key; valence = d.valence })) (option_map place_of (cond b (Some r) None))) [
+              | true ↦ λ dir f.
+                  let same = same_Some item (catalog_item r) f in
+                  let own = same_folder d (dir_record_of r.1) (sym body ∙ body_is item r same dir) in
+                  let key = key_is item r same in
+                  λ i. Some (record { key = key i; valence = (own i).valence })
+              | false ↦ λ file f. absurd (none-some item (sym f))
+            ] refl e
+      ] is
 
   pub place_none : (f : FileRecord) → item.body ≡ File f → None ≡ folder_place catalog id
   place_none f body = elim (item_with catalog id) as (λ (o : Option Record). Some item ≡ option_map catalog_item (option_and_then only_folder o) → ◌≡◌ {A = Option FolderPlace} None (option_map place_of (option_and_then only_folder o))) [

@@ -1,38 +1,37 @@
 -- An item that CatMove chooses may come under the other folder, and there makes the step of CatMove.
-use Rattle.std.proofs.Common.{◌≡◌, eqb, ◌≤◌, ◌<◌, ◌+◌, ◌-◌, inl, inr, ℕ, ℤ, Bool, true, false, List, [], ◌∷◌, ◌++◌, refl, sym, ◌∙◌, ap, subst, arith, None}
-use Rattle.std.specs.Prelude.{IsTrue, Result, Ok, Err, not, ◌&&◌, ◌^◌}
+use Rattle.std.proofs.Common.{◌≡◌, eqb, ◌≤◌, ◌<◌, ◌+◌, ◌-◌, inl, inr, ℕ, ℤ, Bool, List, [], ◌∷◌, ◌++◌, refl, sym, ◌∙◌, ap, subst, None}
+use Rattle.std.specs.Prelude.{IsTrue, Err, not, ◌&&◌, ◌^◌}
 use Rattle.hfs_fields.specs.declared.key.CatKey.{CatKey}
 use Rattle.hfs_fields.specs.declared.mdb.Mdb.{Mdb}
 use Rattle.hfs_fields.specs.Keys.{cat_cmp}
 use Rattle.hfs_fields.specs.Names.{is_item_name}
-use Rattle.hfs_fields.specs.Records.{is_dir, is_item, dir_record_of}
-use Rattle.hfs_fields.specs.RecordForms.{IsDirRecordValue}
+use Rattle.hfs_fields.specs.Records.{is_dir, dir_record_of}
 use Rattle.hfs_scans.specs.Members.{each_in}
 use Rattle.hfs_btree.specs.Pairs.{lookup}
 use Rattle.hfs_btree.specs.Tree.{Store}
 use Rattle.hfs_model.specs.declared.call.Call.TheVariants as call
 use Rattle.hfs_model.specs.declared.reply.Value.TheVariants as value
-use Rattle.hfs_model.specs.Changes.{refused, change, cat_move}
+use Rattle.hfs_model.specs.Changes.{refused, cat_move}
 use Rattle.hfs_model.specs.Choices.{to_move}
 use Rattle.hfs_model.specs.Replies.{success}
 use Rattle.hfs_model.specs.Step.{step}
-use Rattle.hfs_model.specs.Volume.{Volume, Items, Entry}
+use Rattle.hfs_model.specs.Volume.{Volume}
 use Rattle.hfs_catalog.specs.Items.{item_of}
 use Rattle.hfs_catalog.specs.Lookups.{first_key, thread_of}
-use Rattle.hfs_catalog.specs.Records.{Record, Catalog}
+use Rattle.hfs_catalog.specs.Records.{Record}
 use Rattle.hfs_catalog.specs.Sound.{IsIndexKeyName}
 use Rattle.hfs_catalog.specs.Tree.{catalog_of}
 use Rattle.hfs_catalog_edits.specs.ItemEdits as edits
 use Rattle.hfs_catalog_edits.specs.Keeps.{keeps_then}
 use Rattle.hfs_catalog_edits.specs.Rooms.{IsInFile, HasRoom}
 use Rattle.hfs_catalog_edits.specs.Roots.{sound_has_root}
-use Rattle.hfs_catalog_edits.specs.Swaps.{Swaps, one_if}
+use Rattle.hfs_catalog_edits.specs.Swaps.{one_if}
 use Rattle.hfs_check.specs.Laws.{CatalogIsSound, TreesAreSound}
 use Rattle.hfs_check.specs.Parts.{Blocks, mdb_in, catalog_nodes, catalog_in}
 use Rattle.hfs_check.specs.Sound.{AreBlocksSound}
 use Rattle.hfs_check.specs.VolumeOf.{contents_in, volume_in}
 use Rattle.hfs_changes.specs.BoundLaws.{CountsMove, MoveFits}
-use Rattle.hfs_changes.specs.Changes.{led_to, with_children, folder_with}
+use Rattle.hfs_changes.specs.Changes.{led_to}
 use Rattle.hfs_changes.specs.Laws.{MakesStep}
 use Rattle.hfs_changes.specs.MoveLaws.{CatMoveMakes, HasMovedItem, under_folder, with_moved}
 use Rattle.hfs_changes.specs.OnBlocks.{HasTree}

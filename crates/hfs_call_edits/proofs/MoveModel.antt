@@ -1,8 +1,8 @@
 -- The records choose for CatMove what the volume's entries do.
-use Rattle.std.proofs.Common.{◌≡◌, inl, ℕ, ◌+◌, ◌≤◌, ℤ, pos, Bool, true, false, cond, eqb, eqb-true, List, length, refl, sym, ◌∙◌, ap, subst, arith, Ok, Err, Result, Option, Some, None}
+use Rattle.std.proofs.Common.{◌≡◌, inl, ℕ, ℤ, pos, Bool, true, false, cond, eqb, eqb-true, List, refl, sym, ◌∙◌, ap, subst, arith, Ok, Err, Result, Option, Some, None}
 use Rattle.std.specs.Prelude.{not, ◌&&◌, is_some, nat_lt}
 use Rattle.std.specs.Ordering.{int_eq}
-use Rattle.std.specs.Option.{option_map, option_map_or, option_and_then, ok_or}
+use Rattle.std.specs.Option.{option_map, option_and_then, ok_or}
 use Rattle.std.proofs.lemmas.Bool.{and_parts, true≢false}
 use Rattle.hfs_fields.specs.declared.mdb.Mdb.{Mdb}
 use Rattle.hfs_fields.specs.Names.{is_item_name}
@@ -10,13 +10,13 @@ use Rattle.hfs_fields.specs.Order.{same_name}
 use Rattle.hfs_fields.specs.Records.{is_dir, is_item, is_bit_set, item_id, dir_record_of, file_record_of}
 use Rattle.hfs_scans.specs.Members.{each_in}
 use Rattle.hfs_model.specs.declared.codes.TheConstants.{BAD_NAME, DUPLICATE, NOT_A_FOLDER, BAD_MOVE, FOLDER_FULL}
-use Rattle.hfs_model.specs.Volume.{Volume, Entry}
+use Rattle.hfs_model.specs.Volume.{Entry}
 use Rattle.hfs_model.specs.Children.{entries_of}
 use Rattle.hfs_model.specs.Children as model
-use Rattle.hfs_model.specs.Choices.{and_then, child_to_change, to_move, is_bad_move, is_held, is_full, lies_in}
+use Rattle.hfs_model.specs.Choices.{and_then, child_to_change, to_move, is_bad_move, is_held, is_full}
 use Rattle.hfs_catalog.specs.declared.item.ItemRecord.TheVariants.{Folder, File}
-use Rattle.hfs_catalog.specs.Records.{Record, Catalog, item_with, is_child_of, valence_of}
-use Rattle.hfs_catalog.specs.Items.{entry_of, item_of}
+use Rattle.hfs_catalog.specs.Records.{Record, Catalog, is_child_of, valence_of}
+use Rattle.hfs_catalog.specs.Items.{entry_of}
 use Rattle.hfs_catalog.specs.Laws.{ValencesAreCounted}
 use Rattle.hfs_catalog.specs.Lookups.{catalog_item, child_named}
 use Rattle.hfs_check.specs.Laws.{CatalogIsSound}
@@ -32,11 +32,10 @@ use Rattle.hfs_queries.specs.Found.{is_some-option_map}
 use Rattle.hfs_queries.specs.Queries.{AreEntries}
 use Rattle.hfs_queries.specs.Replies.{folder_kind, folder_same}
 use Rattle.hfs_queries.specs.Told.{only_folder, folder_with}
-use Rattle.hfs_call_edits.specs.declared.choosing_moving.FolderPlace.{FolderPlace}
 use Rattle.hfs_call_edits.specs.declared.choosing_moving.Moving.{Moving}
 use Rattle.hfs_call_edits.specs.Choosing.{map_ok}
 use Rattle.hfs_call_edits.specs.Choosing as records
-use Rattle.hfs_call_edits.specs.Moving.{most_steps, up_by_folders, place_of, folder_place, is_folder_body, is_folder_item, moving, moving_into, moving_to, item_to_move, IsMoving, IsMoveRefused, ChoosesMoving}
+use Rattle.hfs_call_edits.specs.Moving.{most_steps, up_by_folders, place_of, folder_place, is_folder_body, is_folder_item, moving, moving_into, moving_to, item_to_move, IsMoving, ChoosesMoving}
 use Rattle.hfs_call_edits.specs.Renaming.{own_id}
 use Rattle.hfs_call_edits.proofs.Chosen.{child_same, here}
 use Rattle.hfs_call_edits.proofs.RenameChoice.{own_is}

@@ -1,8 +1,8 @@
 -- An item that Rename chooses may come under its new name, and under it makes the step of Rename.
 use Rattle.std.proofs.Common.{◌≡◌, ◌≤◌, ℕ, ℤ, Bool, true, false, List, refl, sym, ◌∙◌, ap, subst, None}
-use Rattle.std.specs.Prelude.{Result, Ok, Err}
+use Rattle.std.specs.Prelude.{Err}
 use Rattle.std.specs.declared.cmp.Ordering.{Ordering}
-use Rattle.std.specs.declared.cmp.Ordering.TheVariants.{Less, Equal, Greater}
+use Rattle.std.specs.declared.cmp.Ordering.TheVariants.{Equal}
 use Rattle.std.specs.Ordering.{nat_cmp, is_eq, ordering_then}
 use Rattle.std.specs.Cmp.{nat_cmp_is}
 use Rattle.std.proofs.lemmas.Bool.{true≢false}
@@ -14,11 +14,11 @@ use Rattle.hfs_btree.specs.Pairs.{lookup}
 use Rattle.hfs_btree.specs.Tree.{Store}
 use Rattle.hfs_model.specs.declared.call.Call.TheVariants as call
 use Rattle.hfs_model.specs.declared.reply.Value.TheVariants as value
-use Rattle.hfs_model.specs.Changes.{refused, change, rename}
+use Rattle.hfs_model.specs.Changes.{refused, rename}
 use Rattle.hfs_model.specs.Choices.{to_rename}
 use Rattle.hfs_model.specs.Replies.{success}
 use Rattle.hfs_model.specs.Step.{step}
-use Rattle.hfs_model.specs.Volume.{Volume, Items, Entry}
+use Rattle.hfs_model.specs.Volume.{Volume}
 use Rattle.hfs_catalog.specs.Records.{Record, Catalog}
 use Rattle.hfs_catalog.specs.Lookups.{thread_of}
 use Rattle.hfs_catalog.specs.Items.{item_of}

@@ -3,7 +3,7 @@ use Rattle.std.proofs.Common.{rules, refl, sym, ◌∙◌, ap, subst}
 use Rattle.hfs_model.specs.declared.call.Call.TheVariants as call
 use Rattle.hfs_model.specs.declared.reply.Value.TheVariants as value
 use Rattle.hfs_model.specs.Need.{one_record}
-use Rattle.hfs_check.specs.Parts.{mdb_in, catalog_nodes}
+use Rattle.hfs_check.specs.Parts.{mdb_in}
 use Rattle.hfs_check.specs.VolumeOf.{volume_in}
 use Rattle.hfs_call_edits.specs.Moving.{IsMoving, CanMove, FitsCounts, counts_moved}
 use Rattle.hfs_call_edits.proofs.Edited.{editing_now}
