@@ -7,3 +7,5 @@ pub mod Made
 pub mod Choices
 pub mod Chosen
 pub mod Edited
+pub mod ToDelete
+pub mod Dropping

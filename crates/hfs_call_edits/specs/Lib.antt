@@ -3,3 +3,4 @@ pub mod CatalogPatch
 pub mod Choosing
 pub mod Edits
 pub mod Serving
+pub mod Deleting

@@ -4,7 +4,10 @@
 mod calls;
 mod catalog_patch;
 mod choosing;
+mod choosing_delete;
 mod counts;
+mod deleting;
+mod dropping;
 mod editing;
 mod recorded;
 mod setting;
