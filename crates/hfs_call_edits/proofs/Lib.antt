@@ -8,4 +8,4 @@ pub mod Choices
 pub mod Chosen
 pub mod Edited
 pub mod ToDelete
-pub mod Dropping
+pub mod FromFolder
