@@ -1,6 +1,7 @@
 -- What the fields of an edited volume say of its blocks, and what an edit answers.
-use Rattle.std.proofs.Common.{◌≡◌, ℕ, ℤ, ◌<◌, Bool, true, false, ◌&&◌, List, refl, sym, ◌∙◌, ap, subst, Ok, Err, Result}
+use Rattle.std.proofs.Common.{◌≡◌, ℕ, ℤ, ◌<◌, Bool, true, false, ◌&&◌, List, refl, sym, ◌∙◌, ap, subst, arith, Ok, Err, Result}
 use Rattle.std.specs.Prelude.{nat_lt}
+use Rattle.std.proofs.lemmas.Bool.{le-ltb}
 use Rattle.hfs_fields.specs.declared.key.CatKey.{CatKey}
 use Rattle.hfs_fields.specs.declared.dir_record.DirRecord.{DirRecord}
 use Rattle.hfs_fields.specs.declared.file_record.FileRecord.{FileRecord}
@@ -12,7 +13,7 @@ use Rattle.hfs_btree.specs.Header.{depth_of, free_nodes}
 use Rattle.hfs_space.specs.TreeFiles.{nodes_in-tree_blocks}
 use Rattle.hfs_model.specs.declared.call.Call.{Call}
 use Rattle.hfs_model.specs.declared.call.Call.TheVariants as call
-use Rattle.hfs_model.specs.declared.reply.Value.TheVariants as value
+use Rattle.hfs_model.specs.declared.reply.Value.TheVariants as answer
 use Rattle.hfs_model.specs.Choices.{file_to_change, to_set_f_info, to_set_cat_info}
 use Rattle.hfs_model.specs.Changes.{refused, change, set_f_info, set_cat_info, set_lock}
 use Rattle.hfs_model.specs.Need.{need}
@@ -57,14 +58,14 @@ module _ (v : Volume) (dir now : ℕ) (name : List ℕ) where
   change_refused : (chosen : Result Entry ℤ) (make : Entry → Items → Items) (code : ℤ) → chosen ≡ Err code → change v chosen make now ≡ refused v code
   change_refused chosen make code e = ap (λ (c : Result Entry ℤ). change v c make now) e
 
-  change_accepted : (chosen : Result Entry ℤ) (make : Entry → Items → Items) (entry : Entry) → chosen ≡ Ok entry → (change v chosen make now).1 ≡ success value.Nothing
+  change_accepted : (chosen : Result Entry ℤ) (make : Entry → Items → Items) (entry : Entry) → chosen ≡ Ok entry → (change v chosen make now).1 ≡ success answer.Nothing
   change_accepted chosen make entry e = ap (λ (c : Result Entry ℤ). (change v c make now).1) e
 
   pub f_info_refused : (info : List ℕ) (code : ℤ) → to_set_f_info v dir name ≡ Err code → step v (call.SetFInfo dir name info now) ≡ refused v code
   unfolding set_f_info
   f_info_refused info code e = change_refused _ _ code e
 
-  pub f_info_accepted : (info : List ℕ) (entry : Entry) → to_set_f_info v dir name ≡ Ok entry → (step v (call.SetFInfo dir name info now)).1 ≡ success value.Nothing
+  pub f_info_accepted : (info : List ℕ) (entry : Entry) → to_set_f_info v dir name ≡ Ok entry → (step v (call.SetFInfo dir name info now)).1 ≡ success answer.Nothing
   unfolding set_f_info
   f_info_accepted info entry e = change_accepted _ _ entry e
 
@@ -72,7 +73,7 @@ module _ (v : Volume) (dir now : ℕ) (name : List ℕ) where
   unfolding set_cat_info
   cat_info_refused s code e = change_refused _ _ code e
 
-  pub cat_info_accepted : (s : ItemSettings) (entry : Entry) → to_set_cat_info v dir name ≡ Ok entry → (step v (set_cat_info_call dir name s now)).1 ≡ success value.Nothing
+  pub cat_info_accepted : (s : ItemSettings) (entry : Entry) → to_set_cat_info v dir name ≡ Ok entry → (step v (set_cat_info_call dir name s now)).1 ≡ success answer.Nothing
   unfolding set_cat_info
   cat_info_accepted s entry e = change_accepted _ _ entry e
 
@@ -81,7 +82,7 @@ module _ (v : Volume) (dir now : ℕ) (name : List ℕ) where
   lock_refused true code e = change_refused _ _ code e
   lock_refused false code e = change_refused _ _ code e
 
-  pub lock_accepted : (locked : Bool) (entry : Entry) → file_to_change v dir name ≡ Ok entry → (step v (lock_call locked dir name now)).1 ≡ success value.Nothing
+  pub lock_accepted : (locked : Bool) (entry : Entry) → file_to_change v dir name ≡ Ok entry → (step v (lock_call locked dir name now)).1 ≡ success answer.Nothing
   unfolding set_lock
   lock_accepted true entry e = change_accepted _ _ entry e
   lock_accepted false entry e = change_accepted _ _ entry e
@@ -89,7 +90,7 @@ module _ (v : Volume) (dir now : ℕ) (name : List ℕ) where
 -- ---- want of nodes
 
 none_lacking : (a : Bool) (free n : ℕ) → n ≡ 0 → (a && nat_lt free n) ≡ false
-none_lacking true free n none = ap (λ (k : ℕ). nat_lt free k) none
+none_lacking true free n none = ap (λ (k : ℕ). nat_lt free k) none ∙ le-ltb free 0 (omega arith)
 none_lacking false free n none = refl
 
 -- a call that needs no nodes meets no want of them
@@ -99,9 +100,9 @@ none_wanted c old none = none_lacking (is_accepted (step (volume_in old) c).1) (
 -- ---- edits of calls that need no nodes
 
 module _ {B : Type 0} (blocks : B → Blocks) (totals : B → ℕ) (value own : B) (view_is : own ≡ value) where
-  pub change_of : CatalogEditsAreSteps → (c : Call) → ((depth : ℕ) → need c depth ≡ 0) → (patch : Numbered) (now : ℕ) (made : Change) → made ≡ record { patch = patch; counts = at_time now (mdb_in (blocks value)); value = value.Nothing }
+  pub change_of : CatalogEditsAreSteps → (c : Call) → ((depth : ℕ) → need c depth ≡ 0) → (patch : Numbered) (now : ℕ) (made : Change) → made ≡ record { patch = patch; counts = at_time now (mdb_in (blocks value)); value = answer.Nothing }
       → AreBlocksSound (totals value) (blocks value) → AreWithin (changes patch) (totals own) → MakesAt c now (blocks own) (over (changes patch) (blocks own))
-      → (step (volume_in (blocks value)) c).1 ≡ success value.Nothing → IsEditOf c (totals value) (blocks value) (Ok made)
+      → (step (volume_in (blocks value)) c).1 ≡ success answer.Nothing → IsEditOf c (totals value) (blocks value) (Ok made)
   change_of law c none patch now made is sound within makes reply =
       let new = over (changes patch) (blocks value) in
       let made_here = subst (λ (b : B). MakesAt c now (blocks b) (over (changes patch) (blocks b))) view_is makes in

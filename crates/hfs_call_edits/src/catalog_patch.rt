@@ -45,7 +45,7 @@ pub(crate) fn close_catalog<B: Blocks>(
     requires file { IsCatalogFile runs.now (B.total below.now) (B.blocks below.now) }
     requires over { StandsOver (λ b. B.blocks b) below.now runs.now nodes.below.now nodes.runs.now (changes nodes.patch) }
     requires keeps { KeepsNamed (catalog_nodes (B.blocks below.now)) (nodes_in (over (changes nodes.patch) (B.blocks nodes.below.now)) nodes.runs.now) }
-    ensures catalog { IfOk result (λ patch. HasCatalog counts.now (catalog_of (nodes_in (over (changes nodes.patch) (B.blocks nodes.below.now)) nodes.runs.now)) (B.blocks below.now) (over (changes patch) (B.blocks below.now))) }
+    ensures catalog { IfOk result (λ patch. HasCatalog counts.now (catalog_of (nodes_in (over (changes nodes.entry.patch) (B.blocks nodes.entry.below.now)) nodes.entry.runs.now)) (B.blocks below.now) (over (changes patch) (B.blocks below.now))) }
     ensures within { IfOk result (λ patch. AreWithin (changes patch) (B.total below.now)) }
 {
     catalog_file_stays();

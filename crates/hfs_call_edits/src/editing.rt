@@ -1,7 +1,7 @@
 //! What calls that change a volume make of its blocks.
 
 ghost use Rattle.std.specs.Prelude.{◌≡◌};
-ghost use Rattle.hfs_catalog.specs.Tree.{catalog_of};
+ghost use Rattle.hfs_blocks.specs.Blocks.{nodes_in};
 ghost use Rattle.hfs_changes.specs.OnBlocks.{at_time};
 ghost use Rattle.hfs_check.specs.Parts.{mdb_in, catalog_nodes, catalog_in};
 ghost use Rattle.hfs_check.specs.VolumeOf.{contents_in, volume_in};
@@ -82,7 +82,7 @@ impl<'a, B: Blocks> Editing<'a, B> {
 
     /// The nodes of the catalog, whose records answer the queries of the volume.
     pub(crate) fn nodes(&self) -> RunNodes<'_, B>
-        ensures nodes { (RunNodes B).nodes result ≡ catalog_nodes (B.blocks self.now) }
+        ensures nodes { nodes_in (B.blocks result.blocks.now) result.runs.now ≡ catalog_nodes (B.blocks self.now) }
         ensures catalog { IsCatalog (catalog_nodes (B.blocks self.now)) }
         ensures entries { AreEntries (contents_in (B.blocks self.now)) (catalog_in (B.blocks self.now)) (entries_of (volume_in (B.blocks self.now))) }
     {

@@ -19,8 +19,8 @@ returns-clause-over g c =
     let below = c.args.below.now in
     λ i. (below, c.args.runs.now, opened_beside (g.B.Blocks.blocks below) (g.B.Blocks.total below) c.args.runs.now (changes c.new.result) (empty c.new.result c.new.ensures) c.requires.file i)
 
-pub invariant_of-returns : goal.invariant_of-returns
-invariant_of-returns g c =
+pub invariant_of-result : goal.invariant_of-result
+invariant_of-result g c =
     let below = c.args.below.now in
     record {
       within = c.requires.file.within;

@@ -12,5 +12,5 @@ returns-clause-catalog g c =
 
 pub returns-clause-entries : goal.returns-clause-entries
 returns-clause-entries g c =
-    c.catalog_answers.ensures.entries (g.B.Blocks.total c.args.self.now) (g.B.Blocks.blocks c.args.self.now) (g.B.Blocks.whole c.args.self.now)
+    c.catalog_answers.ensures.entries (g.B.Blocks.total c.args.self.now) (g.B.Blocks.blocks c.args.self.now) (g.met.B.Blocks.whole c.args.self.now)
     (editing_now g.B.Blocks.blocks g.B.Blocks.total c.args.self.now c.self.inside.blocks.now c.self.view_is _ _ _ c.self.invariant).sound

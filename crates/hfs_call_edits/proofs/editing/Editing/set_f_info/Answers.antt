@@ -1,16 +1,17 @@
 -- The patch makes the call's step, and the call answers nothing.
-use Rattle.std.proofs.Common.{refl}
+use Rattle.std.proofs.Common.{rules, refl}
 use Rattle.hfs_check.specs.VolumeOf.{volume_in}
 use Rattle.hfs_model.specs.declared.call.Call.TheVariants as call
 use Rattle.hfs_model.specs.Choices.{to_set_f_info}
 use Rattle.hfs_call_edits.proofs.Edited.{f_info_refused, f_info_accepted, change_of, refusal_of, file_choice, editing_now}
-use Rattle.hfs_call_edits.proofs.setting.Editing.set_f_info.Goals as goal
+use Rattle.hfs_call_edits.proofs.editing.Editing.set_f_info.Goals as goal
 
 pub returns-in-Err : goal.returns-in-Err
 returns-in-Err g c =
     let old = g.B.Blocks.blocks c.args.self.now in
-    refusal_of (call.SetFInfo c.args.dir c.args.name.now c.args.info.now c.args.now) old (λ depth. refl) c.in-Err.code
-    (f_info_refused (volume_in old) c.args.dir c.args.now c.args.name.now c.args.info.now c.in-Err.code c.in-Err.ensures)
+    let refused = refusal_of (call.SetFInfo c.args.dir c.args.name.now c.args.info.now c.args.now) old (λ depth. refl) c.in-Err.code
+    (f_info_refused (volume_in old) c.args.dir c.args.now c.args.name.now c.args.info.now c.in-Err.code c.in-Err.ensures) in
+    search rules
 
 pub returns : goal.returns
 returns g c =

@@ -1,17 +1,18 @@
 -- The patch of a folder or of a file makes the call's step, and the call answers nothing.
-use Rattle.std.proofs.Common.{refl, subst}
+use Rattle.std.proofs.Common.{rules, refl, subst}
 use Rattle.hfs_check.specs.VolumeOf.{volume_in}
 use Rattle.hfs_model.specs.Choices.{to_set_cat_info}
 use Rattle.hfs_call_edits.specs.Settings.{set_cat_info_call}
 use Rattle.hfs_call_edits.specs.Edits.{IsChosenBody}
 use Rattle.hfs_call_edits.proofs.Edited.{cat_info_refused, cat_info_accepted, change_of, refusal_of, file_choice, folder_choice, editing_now}
-use Rattle.hfs_call_edits.proofs.setting.Editing.set_cat_info.Goals as goal
+use Rattle.hfs_call_edits.proofs.editing.Editing.set_cat_info.Goals as goal
 
 pub returns-in-Err : goal.returns-in-Err
 returns-in-Err g c =
     let old = g.B.Blocks.blocks c.args.self.now in
-    refusal_of (set_cat_info_call c.args.dir c.args.name.now c.args.settings.now c.args.now) old (λ depth. refl) c.in-Err.code
-    (cat_info_refused (volume_in old) c.args.dir c.args.now c.args.name.now c.args.settings.now c.in-Err.code c.in-Err.ensures)
+    let refused = refusal_of (set_cat_info_call c.args.dir c.args.name.now c.args.settings.now c.args.now) old (λ depth. refl) c.in-Err.code
+    (cat_info_refused (volume_in old) c.args.dir c.args.now c.args.name.now c.args.settings.now c.in-Err.code c.in-Err.ensures) in
+    search rules
 
 pub returns-in_ok-patch-in-Folder : goal.returns-in_ok-patch-in-Folder
 returns-in_ok-patch-in-Folder g c =

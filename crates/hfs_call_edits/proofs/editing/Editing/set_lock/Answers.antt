@@ -1,11 +1,11 @@
 -- The patch makes the call's step, and the call answers nothing.
-use Rattle.std.proofs.Common.{◌≡◌, ℕ, Bool, true, false, List, refl}
+use Rattle.std.proofs.Common.{rules, ◌≡◌, ℕ, Bool, true, false, List, refl}
 use Rattle.hfs_check.specs.VolumeOf.{volume_in}
 use Rattle.hfs_changes.specs.SettingLaws.{lock_call}
 use Rattle.hfs_model.specs.Choices.{file_to_change}
 use Rattle.hfs_model.specs.Need.{need}
 use Rattle.hfs_call_edits.proofs.Edited.{lock_refused, lock_accepted, change_of, refusal_of, file_choice, editing_now}
-use Rattle.hfs_call_edits.proofs.setting.Editing.set_lock.Goals as goal
+use Rattle.hfs_call_edits.proofs.editing.Editing.set_lock.Goals as goal
 
 none : (locked : Bool) (dir : ℕ) (name : List ℕ) (now depth : ℕ) → need (lock_call locked dir name now) depth ≡ 0
 none true dir name now depth = refl
@@ -14,8 +14,9 @@ none false dir name now depth = refl
 pub returns-in-Err : goal.returns-in-Err
 returns-in-Err g c =
     let old = g.B.Blocks.blocks c.args.self.now in
-    refusal_of (lock_call c.args.locked c.args.dir c.args.name.now c.args.now) old (none c.args.locked c.args.dir c.args.name.now c.args.now) c.in-Err.code
-    (lock_refused (volume_in old) c.args.dir c.args.now c.args.name.now c.args.locked c.in-Err.code c.in-Err.ensures)
+    let refused = refusal_of (lock_call c.args.locked c.args.dir c.args.name.now c.args.now) old (none c.args.locked c.args.dir c.args.name.now c.args.now) c.in-Err.code
+    (lock_refused (volume_in old) c.args.dir c.args.now c.args.name.now c.args.locked c.in-Err.code c.in-Err.ensures) in
+    search rules
 
 pub returns : goal.returns
 returns g c =
