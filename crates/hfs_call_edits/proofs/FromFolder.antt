@@ -12,7 +12,7 @@ use Rattle.hfs_btree.specs.Tree.{Store}
 use Rattle.hfs_model.specs.Choices.{to_delete}
 use Rattle.hfs_catalog.specs.Records.{Record, Catalog}
 use Rattle.hfs_catalog.specs.Lookups.{thread_of}
-use Rattle.hfs_catalog.specs.Sound.{IsIndexKeyName}
+use Rattle.hfs_catalog.specs.Sound.{IsRecord, IsIndexKeyName}
 use Rattle.hfs_catalog.specs.Tree.{cat_keys, IsCatalogTree, catalog_of}
 use Rattle.hfs_catalog_edits.specs.Bodies.{IfBody}
 use Rattle.hfs_catalog_edits.specs.Finds.{record_at, body_at, own_record}
@@ -22,7 +22,7 @@ use Rattle.hfs_catalog_edits.specs.Swaps.{Swaps}
 use Rattle.hfs_check.specs.Parts.{Blocks, mdb_in, catalog_nodes, catalog_in}
 use Rattle.hfs_check.specs.Sound.{AreBlocksSound}
 use Rattle.hfs_check.specs.VolumeOf.{volume_in}
-use Rattle.hfs_changes.specs.Changes.{IsFolderWith}
+use Rattle.hfs_changes.specs.Changes.{IsFolderWith, folder_with}
 use Rattle.hfs_changes.specs.BoundLaws.{RemovalFits}
 use Rattle.hfs_changes.specs.PlaceLaws.{DeleteLeavesFolder}
 use Rattle.hfs_changes.specs.RemovalLaws.{HasDroppedItem}
@@ -86,7 +86,7 @@ module _ (stands : ChoiceStands) (folders : DeleteLeavesFolder) (total dir : ℕ
         second = catalog_of d.middle;
         item_went = item_went d.middle d.went;
         thread_went = thread_went d.middle d.went;
-        folder_set = subst (λ (o : Option Record). Swaps o _ (catalog_of d.middle) (catalog_of new)) (at_folder d.middle d.went) set.set.swap;
+        folder_set = subst (λ (o : Option Record). Swaps o (Some (folder_with ((dir_record_of r.1).valence - 1) now r)) (catalog_of d.middle) (catalog_of new)) (at_folder d.middle d.went) set.set.swap;
         parent = parent;
         value = set.value;
       }
@@ -117,6 +117,11 @@ module _ (stands : ChoiceStands) (folders : DeleteLeavesFolder) (total dir id : 
 
     pub dropped_by : HasDroppedItem c.id dir a p.of now (catalog_in old) (catalog_of new)
     dropped_by = dropped stands folders total dir name a p.of old h c p.is opened is now new as_of
+
+-- the records of nodes that are those of a sound volume's catalog
+pub opened_records : (total : ℕ) (old : Blocks) → AreBlocksSound total old → (opened : Store) → opened ≡ catalog_nodes old → Each IsRecord (catalog_of opened)
+unfolding catalog_in
+opened_records total old h opened is = subst (λ (s : Store). Each IsRecord (catalog_of s)) (sym is) h.records
 
 -- the folder has a child, the item that goes
 pub some_child : RemovalFits → (total dir : ℕ) (name : List ℕ) (key : CatKey) (valence : ℕ) (a : Record) (old : Blocks) → AreBlocksSound total old

@@ -9,3 +9,4 @@ pub mod Chosen
 pub mod Edited
 pub mod ToDelete
 pub mod FromFolder
+pub mod FolderGone

@@ -23,7 +23,9 @@ use Rattle.hfs_changes.specs.Changes.{IsFolderWith}
 use Rattle.hfs_changes.specs.Laws.{MakesStep}
 use Rattle.hfs_changes.specs.RemovalLaws.{without_folder}
 use Rattle.hfs_call_edits.specs.Choosing.{child_to_change, unless_locked}
+use Rattle.hfs_call_edits.specs.Edits.{IsChangeOf}
 use Rattle.hfs_call_edits.specs.Settings.{IsFolderChoice}
+use Rattle.hfs_call_edits.specs.declared.editing.Change.{Change}
 
 -- ---- the item
 
@@ -80,3 +82,8 @@ abbrev pub MakesFolderDeletion : ℕ → CatKey → DirRecord → ℕ → Blocks
 MakesFolderDeletion dir key folder now old new =
     (name : List ℕ) → IsFolderChoice old (to_delete (volume_in old) dir name) key folder
     → MakesStep (call.Delete dir name now) (without_folder dir now (mdb_in old)) old new
+
+-- wherever a Delete chooses it, the change is the call's
+abbrev pub IsFolderDeletion : ℕ → CatKey → DirRecord → ℕ → ℕ → Blocks → Change → Type 0
+IsFolderDeletion dir key folder now total old change =
+    (name : List ℕ) → IsFolderChoice old (to_delete (volume_in old) dir name) key folder → IsChangeOf (call.Delete dir name now) total old change
