@@ -10,3 +10,5 @@ pub mod Edited
 pub mod ToDelete
 pub mod FromFolder
 pub mod FolderGone
+pub mod DeletedChange
+pub mod Parents

@@ -1,17 +1,13 @@
-use Rattle.std.proofs.Common.{rules, ◌≡◌, false, IfOk, ℕ, ◌+◌, ◌-◌, ◌*◌, ◌<◌, ◌≤◌, length, ◌/◌, ◌%◌, Bool, true, nat_eq, nat_lt, List, [], ◌∷◌, ◌++◌, slice_index_or, slice_set, bit_and, bit_or, Fits, w8, w32, w64, Bor, MutBor}
-use Rattle.std.specs.Option.{MatchOption}
-use Rattle.hfs_blocks.specs.Layers.{changes, over, AreWithin}
-use Rattle.hfs_model.specs.Choices.{to_delete}
-use Rattle.hfs_changes.specs.RemovalLaws.{without_folder}
-use Rattle.hfs_check.specs.Parts.{mdb_in, catalog_in}
-use Rattle.hfs_check.specs.Sound.{AreBlocksSound}
-use Rattle.hfs_check.specs.VolumeOf.{volume_in}
-use Rattle.hfs_call_edits.specs.Deleting.{IsParent, IsFolderToDelete, MakesFolderDeletion, IsFolderDeletion}
-use Rattle.hfs_call_edits.specs.Edits.{ChoosesItem}
-use Rattle.hfs_call_edits.specs.Settings.{IsCatalogFile}
-use Rattle.hfs_queries.specs.Told.{is_folder}
+-- The patch makes the call's step, and the call answers nothing.
+use Rattle.hfs_call_edits.proofs.DeletedChange.{folder_change}
+use Rattle.hfs_call_edits.proofs.Edited.{editing_now}
 use Rattle.hfs_call_edits.proofs.editing.Editing.delete_folder.Goals as goal
 
--- src/deleting.rt:99:5
 pub returns : goal.returns
-returns g c = ?
+returns g c =
+    let blocks = g.B.Blocks.blocks in
+    let value = c.args.self.now in
+    let own = c.self.inside.blocks.now in
+    let now = editing_now blocks g.B.Blocks.total value own c.self.view_is _ _ _ c.self.invariant in
+    folder_change blocks g.B.Blocks.total value own c.self.view_is c.catalog_edits_are_steps.ensures c.args.dir c.args.now c.args.key.now c.args.folder.now c.self.inside.mdb.now
+    c.without_folder.result c.in_ok-patch.patch now.directory c.without_folder.ensures now.sound c.in_ok-patch.ensures.within c.in_ok-patch.ensures.makes
