@@ -27,3 +27,8 @@ pub mod FolderPlaces
 pub mod MoveModel
 pub mod BothSet
 pub mod MoveMade
+pub mod ToDelete
+pub mod FromFolder
+pub mod FolderGone
+pub mod DeletedChange
+pub mod Parents

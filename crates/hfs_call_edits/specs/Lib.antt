@@ -11,3 +11,4 @@ pub mod Rekeyings
 pub mod Renaming
 pub mod Moving
 pub mod Valences
+pub mod Deleting

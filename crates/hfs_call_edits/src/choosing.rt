@@ -95,7 +95,7 @@ pub(crate) fn file_to_set<N: Nodes>(
 }
 
 /// Whether the item is a locked file.
-fn is_locked(item: &CatalogItem) -> bool
+pub(crate) fn is_locked(item: &CatalogItem) -> bool
     ensures { result ≡ is_locked_item item.now }
 {
     match item.body {

@@ -15,3 +15,4 @@ pub mod BoundLaws
 pub mod PlaceLaws
 pub mod Deletion
 pub mod OffspringLaws
+pub mod DropLaws

@@ -1,6 +1,7 @@
 //! What the deletion of a file makes of a volume, each as the contract of a function that does nothing: a caller learns it by the
 //! call.
 ghost use Rattle.hfs_changes.specs.Deletion.{DeleteFileMakes, DeletionsAreSteps, ForkBlocksAreAlone, ForkExtentsAreWithin};
+ghost use Rattle.hfs_changes.specs.DropLaws.{DroppedLeaves, DeletionLeavesFile};
 
 use hfs_catalog::{items_are_records, sound_is_lawful};
 use hfs_check::catalog_is_sound;
@@ -36,4 +37,17 @@ pub fn fork_blocks_are_alone()
 /// In a sound volume the extents of a file's forks are among the volume's allocation blocks.
 pub fn fork_extents_are_within()
     ensures { ForkExtentsAreWithin }
+{}
+
+/// An item's record that went with its thread's, and its folder's with one child fewer, leave the folder without the item.
+pub fn dropped_leaves()
+    ensures { DroppedLeaves }
+{
+    items_are_records();
+    catalog_is_sound();
+}
+
+/// The deletion of a file leaves the catalog's file where it is.
+pub fn deletion_leaves_file()
+    ensures { DeletionLeavesFile }
 {}

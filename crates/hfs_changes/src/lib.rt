@@ -16,7 +16,8 @@ pub use bounds::{creation_fits, move_fits, removal_fits};
 pub use catalog_items::{added_items, dropped_items, moved_items, renamed_items, threads_lead};
 pub use creation::{create_makes, dir_create_makes};
 pub use deletion::{
-    delete_file_makes, deletions_are_steps, fork_blocks_are_alone, fork_extents_are_within,
+    delete_file_makes, deletion_leaves_file, deletions_are_steps, dropped_leaves,
+    fork_blocks_are_alone, fork_extents_are_within,
 };
 pub use file_ids::{create_file_id_makes, delete_file_id_makes};
 pub use laws::{catalog_edits_are_steps, catalog_file_stays};

@@ -1,0 +1,89 @@
+-- What Delete chooses in a catalog, and what it makes of the catalog's nodes.
+use Rattle.std.specs.Prelude.{◌≡◌, ℕ, ℤ, Bool, true, false, ◌&&◌, nat_lt, if◌then◌else◌, List, Result, Ok, Err}
+use Rattle.hfs_fields.specs.Keys.{cat_cmp}
+use Rattle.hfs_fields.specs.Records.{is_dir, dir_record_of}
+use Rattle.hfs_fields.specs.declared.dir_record.DirRecord.{DirRecord}
+use Rattle.hfs_fields.specs.declared.key.CatKey.{CatKey}
+use Rattle.hfs_fields.specs.declared.mdb.Mdb.{Mdb}
+use Rattle.hfs_btree.specs.Pairs.{lookup}
+use Rattle.hfs_btree.specs.Tree.{Store}
+use Rattle.hfs_model.specs.declared.call.Call.TheVariants as call
+use Rattle.hfs_model.specs.declared.codes.TheConstants.{BUSY}
+use Rattle.hfs_model.specs.Choices.{and_then, to_delete}
+use Rattle.hfs_catalog.specs.declared.item.ItemRecord.{ItemRecord}
+use Rattle.hfs_catalog.specs.declared.item.ItemRecord.TheVariants.{Folder, File}
+use Rattle.hfs_catalog.specs.declared.item.CatalogItem.{CatalogItem}
+use Rattle.hfs_catalog.specs.Records.{Record, Catalog}
+use Rattle.hfs_catalog.specs.Tree.{catalog_of}
+use Rattle.hfs_catalog_edits.specs.Bodies.{IfBody}
+use Rattle.hfs_catalog_edits.specs.ItemEdits.{ItemWent, HasValenceSet}
+use Rattle.hfs_check.specs.Parts.{Blocks, mdb_in, catalog_in}
+use Rattle.hfs_check.specs.VolumeOf.{volume_in}
+use Rattle.hfs_changes.specs.Changes.{IsFolderWith}
+use Rattle.hfs_changes.specs.Laws.{MakesStep}
+use Rattle.hfs_changes.specs.RemovalLaws.{without_folder}
+use Rattle.hfs_call_edits.specs.Choosing.{child_to_change, unless_locked}
+use Rattle.hfs_call_edits.specs.Edits.{IsChangeOf}
+use Rattle.hfs_call_edits.specs.Settings.{IsFolderChoice}
+use Rattle.hfs_call_edits.specs.declared.editing.Change.{Change}
+
+-- ---- the item
+
+-- a folder with children
+abbrev pub is_busy : Record → Bool
+is_busy r = is_dir r.1 && nat_lt 0 (dir_record_of r.1).valence
+
+-- -47 of a folder with children, then -45 of a locked file
+abbrev pub unless_held : Record → Result Record ℤ
+unless_held r = if is_busy r then Err BUSY else unless_locked r
+
+-- the record of the item that may be deleted
+abbrev pub item_to_delete : Mdb → Catalog → ℕ → List ℕ → Result Record ℤ
+item_to_delete mdb catalog dir name = and_then (child_to_change mdb catalog dir name) unless_held
+
+-- whether it is a folder with children
+abbrev pub is_busy_body : ItemRecord → Bool
+is_busy_body (Folder r) = nat_lt 0 r.valence
+is_busy_body (File r) = false
+
+abbrev pub is_busy_item : CatalogItem → Bool
+is_busy_item item = is_busy_body item.body
+
+-- ---- its folder
+
+-- the record under this key is that of the folder with this ID, which has so many children
+pub record IsParent (catalog : Catalog) (dir : ℕ) (key : CatKey) (valence : ℕ) : Type 0 where
+  pub of : Record
+  pub is : IsFolderWith catalog dir of
+  pub own_key : of.0 ≡ key
+  pub own_valence : (dir_record_of of.1).valence ≡ valence
+
+-- ---- the catalog's nodes
+
+-- a folder's record stands under this key when the item under the other, with the thread of its ID, went
+abbrev pub StaysFolder : CatKey → ℕ → CatKey → Store → Type 0
+StaysFolder key id folder old = (middle : Store) → ItemWent key id old middle → IfBody (λ body. is_dir body ≡ true) (lookup cat_cmp folder (catalog_of middle))
+
+-- the item under the key went with the thread of its ID, and then the folder under the other got so many children and this moment
+pub record ItemDropped (key : CatKey) (id : ℕ) (folder : CatKey) (n now : ℕ) (old new : Store) : Type 0 where
+  pub middle : Store
+  pub went : ItemWent key id old middle
+  pub set : HasValenceSet folder n now middle new
+
+-- ---- a folder that is deleted
+
+-- under some name a Delete in this folder chooses the folder with this key and this record
+pub record IsFolderToDelete (old : Blocks) (dir : ℕ) (key : CatKey) (folder : DirRecord) : Type 0 where
+  pub name : List ℕ
+  pub chosen : IsFolderChoice old (to_delete (volume_in old) dir name) key folder
+
+-- wherever a Delete chooses it, its step was made
+abbrev pub MakesFolderDeletion : ℕ → CatKey → DirRecord → ℕ → Blocks → Blocks → Type 0
+MakesFolderDeletion dir key folder now old new =
+    (name : List ℕ) → IsFolderChoice old (to_delete (volume_in old) dir name) key folder
+    → MakesStep (call.Delete dir name now) (without_folder dir now (mdb_in old)) old new
+
+-- wherever a Delete chooses it, the change is the call's
+abbrev pub IsFolderDeletion : ℕ → CatKey → DirRecord → ℕ → ℕ → Blocks → Change → Type 0
+IsFolderDeletion dir key folder now total old change =
+    (name : List ℕ) → IsFolderChoice old (to_delete (volume_in old) dir name) key folder → IsChangeOf (call.Delete dir name now) total old change
