@@ -1,4 +1,4 @@
--- The calls that change a volume and are built.
+-- The calls that set what is told of an item.
 use Rattle.std.specs.Prelude.{Bool, true, false}
 use Rattle.hfs_model.specs.declared.call.Call.{Call}
 use Rattle.hfs_model.specs.declared.call.Call.TheVariants as call

@@ -1,6 +1,8 @@
 //! What each call makes of a volume's blocks.
 
-ghost use Rattle.std.specs.Prelude.{◌≡◌, IfOk, IsTrue};
+ghost use Rattle.std.specs.Prelude.{◌≡◌, false, IfOk, IsTrue};
+ghost use Rattle.hfs_model.specs.declared.call.Call.TheVariants as call;
+ghost use Rattle.hfs_model.specs.Step.{is_reading};
 ghost use Rattle.hfs_call_edits.specs.Edits.{IsEditOf};
 ghost use Rattle.hfs_call_edits.specs.Serving.{is_setting};
 
@@ -10,34 +12,63 @@ use hfs_blocks::Blocks;
 use hfs_model::Call;
 use std::alloc::{AllocError, Global};
 
-/// Whether the call sets what is told of an item, but its name and its place.
-pub fn is_setting(call: &Call) -> bool
-    ensures { result ≡ is_setting call.now }
-{
-    match call {
-        Call::SetFInfo { .. } => true,
-        Call::SetCatInfo { .. } => true,
-        Call::SetFLock { .. } => true,
-        Call::RstFLock { .. } => true,
-        Call::GetDirInfo { .. } => false,
-        Call::GetCatInfo { .. } => false,
-        Call::GetIndexed { .. } => false,
-        Call::List { .. } => false,
-        Call::ReadFork { .. } => false,
-        Call::Create { .. } => false,
-        Call::DirCreate { .. } => false,
-        Call::Delete { .. } => false,
-        Call::Rename { .. } => false,
-        Call::CatMove { .. } => false,
-        Call::CreateFileId { .. } => false,
-        Call::DeleteFileId { .. } => false,
-        Call::ResolveFileId { .. } => false,
-    }
-}
-
 impl<B: Blocks> Editing<'_, B> {
-    /// What a call makes of the volume, or what refuses it. The only error is want of memory.
+    /// What a call that changes the volume makes of it, or what refuses it. The only error is want of memory.
     pub fn edit(&self, alloc: Global, call: &Call) -> Result<Result<Change, Refusal>, AllocError>
+        requires { is_reading call.now ≡ false }
+        ensures { IfOk result (λ edit. IsEditOf call.now (B.total self.now) (B.blocks self.now) edit) }
+    {
+        match call {
+            Call::Create { dir, name, now } => self.create(alloc, *dir, name.as_slice(), *now),
+            Call::DirCreate { dir, name, now } => {
+                self.dir_create(alloc, *dir, name.as_slice(), *now)
+            }
+            Call::Delete { dir, name, now } => self.delete(alloc, *dir, name.as_slice(), *now),
+            Call::Rename {
+                dir,
+                name,
+                new_name,
+                now,
+            } => self.rename(alloc, *dir, name.as_slice(), new_name.as_slice(), *now),
+            Call::CatMove {
+                dir,
+                name,
+                new_dir,
+                now,
+            } => self.cat_move(alloc, *dir, name.as_slice(), *new_dir, *now),
+            Call::CreateFileId { dir, name, now } => {
+                self.create_file_id(alloc, *dir, name.as_slice(), *now)
+            }
+            Call::DeleteFileId { id, now } => self.delete_file_id(alloc, *id, *now),
+            Call::SetFInfo { .. }
+            | Call::SetCatInfo { .. }
+            | Call::SetFLock { .. }
+            | Call::RstFLock { .. } => self.set(alloc, call),
+            Call::GetDirInfo { .. }
+            | Call::GetCatInfo { .. }
+            | Call::GetIndexed { .. }
+            | Call::List { .. }
+            | Call::ReadFork { .. }
+            | Call::ResolveFileId { .. } => unreachable!(),
+        }
+    }
+
+    // STUB
+    fn delete(
+        &self,
+        _alloc: Global,
+        dir: u32,
+        name: &[u8],
+        now: u32,
+    ) -> Result<Result<Change, Refusal>, AllocError>
+        ensures { IfOk result (λ edit. IsEditOf (call.Delete dir name.now now) (B.total self.now) (B.blocks self.now) edit) }
+    {
+        unreachable!()
+    }
+    // END STUB
+
+    /// What a call that sets makes of the volume: dates, Finder bytes or a lock.
+    fn set(&self, alloc: Global, call: &Call) -> Result<Result<Change, Refusal>, AllocError>
         requires { IsTrue (is_setting call.now) }
         ensures { IfOk result (λ edit. IsEditOf call.now (B.total self.now) (B.blocks self.now) edit) }
     {

@@ -1,9 +1,6 @@
 //! Calls that set, where memory is refused once. What they make of the bytes is laid by hand: in block 7 the record of the folder `d` has
 //! its body from byte 154 on, and the record of the file `f` from byte 286 on.
 
-ghost use Rattle.std.specs.Prelude.{IsTrue, IfOk};
-ghost use Rattle.hfs_volume.specs.Serving.{is_served};
-
 use crate::images::{has_bytes, image_with, put};
 use anyhow::{Result, bail};
 use hfs_fixtures::FixtureFault;
@@ -36,9 +33,7 @@ fn is_made(
     code: i16,
     before: &[u8],
     after: &[u8],
-) -> bool
-    requires { IsTrue (is_served call.now) }
-{
+) -> bool {
     let mut answer = volume.call(alloc, call);
     if answer.is_err() {
         if !has_bytes(volume, before) {
@@ -64,9 +59,7 @@ fn after_f_info(alloc: Global) -> Result<Vec<u8>, FixtureFault> {
 }
 
 /// SetFInfo of `f` with the bytes 1 to 16 at the moment 7.
-fn f_info_call(alloc: Global) -> Result<Call, AllocError>
-    ensures { IfOk result (λ call. IsTrue (is_served call)) }
-{
+fn f_info_call(alloc: Global) -> Result<Call, AllocError> {
     Ok(Call::SetFInfo {
         dir: 16,
         name: name(alloc, b"f")?,

@@ -11,8 +11,7 @@ use Rattle.hfs_model.specs.Need.{need, full}
 use Rattle.hfs_model.specs.Step.{step, is_reading}
 use Rattle.hfs_check.specs.VolumeOf.{volume_of}
 use Rattle.hfs_call_edits.specs.declared.editing.Change.{Change}
-use Rattle.hfs_call_edits.specs.Serving.{is_setting}
-use Rattle.hfs_volume.specs.Serving.{is_served, free_in, depth_in, outcome_in}
+use Rattle.hfs_volume.specs.Serving.{free_in, depth_in, outcome_in}
 use Rattle.hfs_volume.specs.Steps.{IsEditOn, IsAfter, IsOutcome, refusal_reply}
 use Rattle.hfs_call_edits.specs.declared.editing.Refusal.{Refusal}
 use Rattle.hfs_call_edits.specs.declared.editing.Refusal.TheVariants as refused
@@ -24,54 +23,13 @@ pub if_ok : {A E : Type 0} (r : Result A E) (P Q : A → Type 0) → ((x : A) �
 if_ok (Ok x) P Q f h = f x h
 if_ok (Err e) P Q f h = h
 
--- ---- calls that need no node
+-- ---- what calls answer that read
 
-setting_needs_none : (c : Call) (depth : ℕ) → is_setting c ≡ true → need c depth ≡ 0
-setting_needs_none (call.GetDirInfo dir) depth e = refl
-setting_needs_none (call.GetCatInfo dir name) depth e = refl
-setting_needs_none (call.GetIndexed dir index) depth e = refl
-setting_needs_none (call.List dir) depth e = refl
-setting_needs_none (call.ReadFork dir name fork offset count) depth e = refl
-setting_needs_none (call.Create dir name now) depth e = absurd (no e)
-  where
-    no : false ≡ true → ⊥
-    no e = cc
-setting_needs_none (call.DirCreate dir name now) depth e = absurd (no e)
-  where
-    no : false ≡ true → ⊥
-    no e = cc
-setting_needs_none (call.Delete dir name now) depth e = refl
-setting_needs_none (call.Rename dir name new_name now) depth e = absurd (no e)
-  where
-    no : false ≡ true → ⊥
-    no e = cc
-setting_needs_none (call.CatMove dir name new_dir now) depth e = absurd (no e)
-  where
-    no : false ≡ true → ⊥
-    no e = cc
-setting_needs_none (call.SetFInfo dir name info now) depth e = refl
-setting_needs_none (call.SetCatInfo dir name created modified backup info now) depth e = refl
-setting_needs_none (call.SetFLock dir name now) depth e = refl
-setting_needs_none (call.RstFLock dir name now) depth e = refl
-setting_needs_none (call.CreateFileId dir name now) depth e = absurd (no e)
-  where
-    no : false ≡ true → ⊥
-    no e = cc
-setting_needs_none (call.DeleteFileId id now) depth e = refl
-setting_needs_none (call.ResolveFileId id) depth e = refl
-
-needs_none : ReadingNeedsNone → (c : Call) (depth : ℕ) → IsTrue (is_served c) → need c depth ≡ 0
-needs_none law c depth served = ⊎_elim (λ reading. law c depth reading) (λ setting. setting_needs_none c depth setting) (or_cases (is_reading c) (is_setting c) served)
-
-pub served_is_step : EnoughIsStep → ReadingNeedsNone → (image : List ℕ) (c : Call) → IsTrue (is_served c) → outcome_in image c ≡ step (volume_of image) c
-served_is_step enough none image c served = enough (free_in image) (depth_in image) (volume_of image) c (let n = needs_none none c (depth_in image) served in omega (arith, n))
-
--- ---- what calls answer
-
-pub read_outcome : ReadingLeaves → EnoughIsStep → ReadingNeedsNone → (image : List ℕ) (c : Call) → IsTrue (is_served c) → IsTrue (is_reading c) → (reply : Reply) → reply ≡ (step (volume_of image) c).1
+pub read_outcome : ReadingLeaves → EnoughIsStep → ReadingNeedsNone → (image : List ℕ) (c : Call) → IsTrue (is_reading c) → (reply : Reply) → reply ≡ (step (volume_of image) c).1
     → (volume_of image, reply) ≡ outcome_in image c
-read_outcome leaves enough none image c served reading reply is =
-    (λ i. (sym (leaves (volume_of image) c reading) i, is i)) ∙ sym (served_is_step enough none image c served)
+read_outcome leaves enough none image c reading reply is =
+    (λ i. (sym (leaves (volume_of image) c reading) i, is i))
+    ∙ sym (enough (free_in image) (depth_in image) (volume_of image) c (let n = none c (depth_in image) reading in omega (arith, n)))
 
 -- ---- what edits come to
 

@@ -1,20 +1,12 @@
--- The calls that a mounted volume serves, and what it answers.
-use Rattle.std.specs.Prelude.{ℕ, Bool, List, ◌||◌}
+-- What a call makes of an image's volume, and answers.
+use Rattle.std.specs.Prelude.{ℕ, List}
 use Rattle.hfs_blocks.specs.Blocks.{block_at}
 use Rattle.hfs_btree.specs.Header.{depth_of, free_nodes}
 use Rattle.hfs_model.specs.declared.call.Call.{Call}
 use Rattle.hfs_model.specs.Changes.{Outcome}
 use Rattle.hfs_model.specs.Need.{step_within}
-use Rattle.hfs_model.specs.Step.{is_reading}
-use Rattle.hfs_call_edits.specs.Serving.{is_setting}
 use Rattle.hfs_check.specs.Parts.{catalog_nodes}
 use Rattle.hfs_check.specs.VolumeOf.{volume_of}
-
--- whether a mounted volume answers the call
-abbrev pub is_served : Call → Bool
-is_served c = is_reading c || is_setting c
-
--- ---- the outcome
 
 -- the free nodes of the image's catalog tree
 abbrev pub free_in : List ℕ → ℕ

@@ -12,7 +12,6 @@ mod open_fork;
 mod repairing;
 mod replies;
 mod saving;
-mod serving;
 mod volume;
 
 pub use base::Base;
@@ -26,5 +25,4 @@ pub use mounting::{Refused, mount};
 pub use open_fork::{OpenFork, Opened};
 pub use repairing::mount_repaired;
 pub use saving::SaveFault;
-pub use serving::is_served;
 pub use volume::Volume;

@@ -1,8 +1,8 @@
 //! A mounted volume.
 
-ghost use Rattle.std.specs.Prelude.{◌≡◌, ◌≢◌, pos, length, nat_eq, IsTrue, Ok, IfOk, IfErr, OnOk, OnErr};
+ghost use Rattle.std.specs.Prelude.{◌≡◌, ◌≢◌, pos, length, nat_eq, false, IsTrue, Ok, IfOk, IfErr, OnOk, OnErr};
 ghost use Rattle.std.specs.Io.KnownBytes.{Appends};
-ghost use Rattle.std.specs.List.{All, IsDistinct};
+ghost use Rattle.std.specs.List.{IsDistinct};
 ghost use Rattle.hfs_model.specs.Children.{entries_of};
 ghost use Rattle.hfs_model.specs.Reading.{get_dir_info, get_cat_info, get_indexed, list, read_fork, part_of};
 ghost use Rattle.hfs_model.specs.FileIds.{resolve_file_id};
@@ -18,8 +18,7 @@ ghost use Rattle.hfs_volume.specs.Image.{IsSameBeside};
 ghost use Rattle.hfs_volume.specs.Opening.{opened_fork};
 ghost use Rattle.hfs_queries.specs.Queries.{AreEntries};
 ghost use Rattle.hfs_volume.specs.Saving.{HasWritten};
-ghost use Rattle.hfs_call_edits.specs.Serving.{is_setting};
-ghost use Rattle.hfs_volume.specs.Serving.{is_served, outcome_in};
+ghost use Rattle.hfs_volume.specs.Serving.{outcome_in};
 ghost use Rattle.hfs_volume.specs.Steps.{IsEditIn, IsAfter, IsOutcome, AreMade};
 ghost use Rattle.hfs_queries.specs.Told.{IsCatalog, pick};
 ghost use Rattle.hfs_volume.specs.Mounted.{IsMounted, AreForksIn};
@@ -114,13 +113,12 @@ impl Volume {
         }
     }
 
-    /// Answers a call that is served, as [`is_served`] says, and makes of the volume what it makes of it. At a code other than 0,
+    /// Answers a call, and makes of the volume what it makes of it. At a code other than 0,
     /// and where the call only reads, the volume stays as it is. The only error is want of memory, where the bytes stay as they
     /// are.
     ///
     /// Source: Inside Macintosh: Files, chapter 2, "High-Level HFS Routines" and "Low-Level HFS Routines".
     pub fn call(&mut self, alloc: Global, call: &Call) -> Result<Reply, AllocError>
-        requires { IsTrue (is_served call.now) }
         ensures outcome { IfOk result (λ reply. (volume_of self.new.current, reply) ≡ outcome_in self.old.current call.now) }
         ensures refused { IfOk result (λ reply. reply.code ≢ pos 0 → self.new ≡ self.old) }
         ensures reading { IsTrue (is_reading call.now) → self.new ≡ self.old }
@@ -136,10 +134,9 @@ impl Volume {
         self.change(alloc, call)
     }
 
-    /// Answers calls that are served, one after the other: the replies in order. The only error is want of memory, where the calls
+    /// Answers calls one after the other: the replies in order. The only error is want of memory, where the calls
     /// before the one that it met have been made.
     pub fn run(&mut self, alloc: Global, calls: &[Call]) -> Result<Vec<Reply>, AllocError>
-        requires { All (λ call. IsTrue (is_served call)) calls.now }
         ensures made { IfOk result (λ replies. AreMade self.old.current calls.now replies.items self.new.current) }
         ensures base { self.new.base ≡ self.old.base }
     {
@@ -309,7 +306,7 @@ impl Volume {
 
     /// Answers a call that changes the volume.
     fn change(&mut self, alloc: Global, call: &Call) -> Result<Reply, AllocError>
-        requires { IsTrue (is_setting call.now) }
+        requires { is_reading call.now ≡ false }
         ensures outcome { IfOk result (λ reply. (volume_of self.new.current, reply) ≡ outcome_in self.old.current call.now) }
         ensures refused { IfOk result (λ reply. reply.code ≢ pos 0 → self.new ≡ self.old) }
         ensures unchanged { OnErr result (self.new.current ≡ self.old.current) }
