@@ -62,17 +62,34 @@ pub fn push_file(
     records.push(record).map_err(|_| FixtureFault::Memory)
 }
 
-/// Puts the thread of a file, which stands under this key, behind all other records.
-pub fn push_file_thread(
+/// Puts the thread of an item, which stands under this key, behind all other records.
+pub fn push_thread(
     alloc: Global,
     records: &mut Records,
+    kind: ThreadKind,
     id: u32,
     key: &CatKey,
 ) -> Result<(), FixtureFault> {
-    let thread = ThreadRecord::new(ThreadKind::File, key.parent, key.name);
+    let thread = ThreadRecord::new(kind, key.parent, key.name);
     let mut body = [0; ThreadRecord::LENGTH];
     thread.write(&mut body);
     let record = leaf_record(alloc, &key_of(id, b"")?, &body)?;
+    records.push(record).map_err(|_| FixtureFault::Memory)
+}
+
+/// Puts the record of a folder with this ID and valence behind all other records.
+pub fn push_folder(
+    alloc: Global,
+    records: &mut Records,
+    key: &CatKey,
+    id: u32,
+    valence: u16,
+) -> Result<(), FixtureFault> {
+    let mut folder = DirRecord::new(id, 0);
+    folder.valence = valence;
+    let mut body = [0; DirRecord::LENGTH];
+    folder.write(&mut body);
+    let record = leaf_record(alloc, key, &body)?;
     records.push(record).map_err(|_| FixtureFault::Memory)
 }
 
@@ -106,6 +123,18 @@ pub fn lay_counts(
     mdb.files = u32::from(files);
     mdb.next_id = next_id;
     mdb.free_blocks = free_blocks;
+    mdb.write_counts(&mut block);
+    lay(image, 2, 0, &block)
+}
+
+/// Lays the counts of a volume with a folder in its root, a file in that, and the next ID 18.
+pub fn lay_folder_counts(image: &mut [u8]) -> Result<(), FixtureFault> {
+    let mut block = block_of(image, 2)?;
+    let mut mdb = Mdb::read(&block);
+    mdb.root_folders = 1;
+    mdb.folders = 1;
+    mdb.files = 1;
+    mdb.next_id = 18;
     mdb.write_counts(&mut block);
     lay(image, 2, 0, &block)
 }

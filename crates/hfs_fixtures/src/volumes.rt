@@ -2,11 +2,12 @@
 use crate::blocks::lay;
 use crate::fault::FixtureFault;
 use crate::files::{
-    NONE, file_in_extents, key_of, lay_counts, lay_fork, push_file, push_file_thread, replace_root,
+    NONE, file_in_extents, key_of, lay_counts, lay_folder_counts, lay_fork, push_file, push_folder,
+    push_thread, replace_root,
 };
 use crate::trees::{TreeNumbers, empty_node, lay_header, lay_node, lay_overflow, node_of};
 use hfs_btree::Key;
-use hfs_fields::{ExtKey, Extent, FileRecord};
+use hfs_fields::{ExtKey, Extent, FileRecord, ThreadKind};
 use hfs_format::{FormatPlan, format};
 use hfs_node::NodeKind;
 use std::alloc::Global;
@@ -26,13 +27,27 @@ pub enum SmallVolume {
     /// The empty files `f` with ID 16, which has a thread, and `g` with ID 17, which has none. The flags of both say the
     /// opposite.
     FileThread,
+    /// The folder `d` with ID 16, and in it the empty file `f` with ID 17.
+    Folder,
 }
 
 /// A new volume with so many catalog nodes.
 pub fn new_image(alloc: Global, catalog_nodes: u32) -> Result<Vec<u8>, FixtureFault> {
+    planned(alloc, 64, catalog_nodes)
+}
+
+/// The volume `Folder` with 16 blocks in the place of 64.
+pub fn tiny_image(alloc: Global) -> Result<Vec<u8>, FixtureFault> {
+    let mut image = planned(alloc, 16, 6)?;
+    lay_folder(alloc, &mut image)?;
+    Ok(image)
+}
+
+/// A new volume with so many blocks and catalog nodes.
+fn planned(alloc: Global, blocks: u32, catalog_nodes: u32) -> Result<Vec<u8>, FixtureFault> {
     let plan = FormatPlan {
         name: Vec::from_slice(alloc, b"D")?,
-        blocks: 64,
+        blocks,
         extents_nodes: 2,
         catalog_nodes,
         now: 0,
@@ -49,6 +64,7 @@ pub fn small_image(alloc: Global, volume: SmallVolume) -> Result<Vec<u8>, Fixtur
         SmallVolume::TwoFiles => lay_files(alloc, &mut image, true)?,
         SmallVolume::TwoLevels => lay_two_levels(alloc, &mut image)?,
         SmallVolume::FileThread => lay_file_thread(alloc, &mut image)?,
+        SmallVolume::Folder => lay_folder(alloc, &mut image)?,
     }
     Ok(image)
 }
@@ -144,6 +160,20 @@ fn lay_file_thread(alloc: Global, image: &mut [u8]) -> Result<(), FixtureFault> 
     let mut second = FileRecord::new(17, 0);
     second.flags = second.flags.with_thread(true);
     push_file(alloc, &mut leaf.records, &key_of(2, b"g")?, &second)?;
-    push_file_thread(alloc, &mut leaf.records, 16, &key)?;
+    push_thread(alloc, &mut leaf.records, ThreadKind::File, 16, &key)?;
+    lay_node(image, 7, &leaf)
+}
+
+/// Lays a folder, and an empty file in it.
+fn lay_folder(alloc: Global, image: &mut [u8]) -> Result<(), FixtureFault> {
+    lay_folder_counts(image)?;
+    lay_header(image, 6, one_leaf(5))?;
+    let mut leaf = node_of(alloc, image, 7)?;
+    replace_root(alloc, &mut leaf.records, 1)?;
+    let key = key_of(2, b"d")?;
+    push_folder(alloc, &mut leaf.records, &key, 16, 1)?;
+    push_thread(alloc, &mut leaf.records, ThreadKind::Folder, 16, &key)?;
+    let file = FileRecord::new(17, 0);
+    push_file(alloc, &mut leaf.records, &key_of(16, b"f")?, &file)?;
     lay_node(image, 7, &leaf)
 }
