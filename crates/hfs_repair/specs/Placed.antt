@@ -1,13 +1,15 @@
 -- The counted numbers of a volume, each with its place in what a repair tells.
-use Rattle.std.specs.Prelude.{ℕ, suc, ◌+◌, Bool, if◌then◌else◌, List, [], ◌∷◌, ◌++◌, filter, length}
+use Rattle.std.specs.Prelude.{◌≡◌, ℕ, suc, ◌+◌, Bool, if◌then◌else◌, List, [], ◌∷◌, ◌++◌, filter, length}
 use Rattle.std.specs.List.{flat_map}
 use Rattle.hfs_fields.specs.Keys.{cat_body_start, cat_body_of}
 use Rattle.hfs_fields.specs.Records.{is_dir, dir_record_of}
 use Rattle.hfs_fields.specs.declared.mdb.Mdb.{Mdb}
 use Rattle.hfs_btree.specs.declared.key.Key.{Ghosts}
-use Rattle.hfs_btree.specs.Tree.{Store, records_in}
+use Rattle.hfs_node.specs.Node.{node_of, offset_of}
+use Rattle.hfs_btree.specs.Tree.{Store, records_of, records_in}
 use Rattle.hfs_btree.specs.Header.{header_in, free_nodes, leaves, tree_content}
-use Rattle.hfs_blocks.specs.Blocks.{block_at}
+use Rattle.hfs_blocks.specs.Blocks.{block_at, run_of, nodes_in}
+use Rattle.hfs_blocks.specs.declared.run.Run.{Run}
 use Rattle.hfs_space.specs.Bitmap.{clear_count}
 use Rattle.hfs_space.specs.ForkLaws.{block_numbers}
 use Rattle.hfs_space.specs.TreeKeys.{ext_keys}
@@ -31,6 +33,10 @@ four_bytes place was now at = (place, record { was = was; now = now; at = at; wi
 unfoldable pub is_wrong : PlacedNumber → Bool
 is_wrong n = is_mended n.1
 
+-- to a row of numbers come those of these that are wrong
+abbrev pub AddsWrong : List PlacedNumber → List PlacedNumber → List PlacedNumber → Type 0
+AddsWrong old new placed = new ≡ old ++ filter is_wrong placed
+
 -- ---- the master directory block of a volume with this catalog
 
 unfoldable pub placed_in_mdb : Blocks → Mdb → Catalog → List PlacedNumber
@@ -50,6 +56,10 @@ placed_in_header g records free numbers nodes =
     ∷ four_bytes free (header_in nodes).free_nodes (free_nodes nodes) (record_start numbers nodes 0 0 + 26)
     ∷ []
 
+-- of the tree in the blocks of these runs
+abbrev pub placed_in_head : {K : Type 0} → Ghosts K → FixPlace → FixPlace → Blocks → List Run → List PlacedNumber
+placed_in_head g records free blocks runs = placed_in_header g records free (flat_map run_of runs) (nodes_in blocks runs)
+
 -- ---- the folders' records, where each folder has so many children
 
 -- of the folder's record that begins at this place of the image
@@ -64,12 +74,20 @@ placed_from children start k [] = []
 placed_from children start k (entry ∷ entries) =
     if is_dir (cat_body_of entry) then placed_valence children (start k) entry ∷ placed_from children start (suc k) entries else placed_from children start (suc k) entries
 
+-- of the records of a node that begins at this place of the image
+abbrev pub placed_in_node : (ℕ → ℕ) → ℕ → List ℕ → List PlacedNumber
+placed_in_node children start bytes = placed_from children (λ k. start + offset_of bytes k) 0 (records_of (node_of bytes))
+
 -- of a leaf
 abbrev pub placed_in_leaf : (ℕ → ℕ) → List ℕ → Store → ℕ → List PlacedNumber
 placed_in_leaf children numbers nodes n = placed_from children (record_start numbers nodes n) 0 (records_in nodes n)
 
 unfoldable pub placed_valences : (ℕ → ℕ) → List ℕ → Store → List PlacedNumber
 placed_valences children numbers nodes = flat_map (placed_in_leaf children numbers nodes) (leaves cat_keys nodes)
+
+-- of the catalog in the blocks of these runs
+abbrev pub placed_in_runs : (ℕ → ℕ) → Blocks → List Run → List PlacedNumber
+placed_in_runs children blocks runs = placed_valences children (flat_map run_of runs) (nodes_in blocks runs)
 
 -- ---- all of them
 

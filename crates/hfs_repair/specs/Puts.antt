@@ -1,8 +1,8 @@
 -- Bytes that are written into an image one after the other.
-use Rattle.std.specs.Prelude.{ℕ, suc, List, [], ◌∷◌, slice_set}
+use Rattle.std.specs.Prelude.{◌≡◌, ℕ, suc, List, [], ◌∷◌, slice_set}
 use Rattle.std.specs.List.{flat_map}
 use Rattle.byteorder.specs.Endian.{big_bytes}
-use Rattle.hfs_check.specs.Repair.{CountedNumber}
+use Rattle.hfs_check.specs.Repair.{CountedNumber, repair}
 use Rattle.hfs_repair.specs.declared.byte_put.BytePut.{BytePut}
 use Rattle.hfs_repair.specs.Fields.{PlacedNumber}
 
@@ -22,6 +22,10 @@ puts_of numbers = flat_map (λ n. number_puts n.1) numbers
 abbrev pub put_all : List BytePut → List ℕ → List ℕ
 put_all [] image = image
 put_all (p ∷ ps) image = put_all ps (slice_set image p.at p.byte)
+
+-- these bytes make the repaired image of the image
+abbrev pub IsMendedBy : List ℕ → List BytePut → Type 0
+IsMendedBy image puts = put_all puts image ≡ repair image
 
 -- and with the last of them written first
 abbrev pub put_back : List BytePut → List ℕ → List ℕ

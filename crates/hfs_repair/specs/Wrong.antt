@@ -10,7 +10,7 @@ use Rattle.hfs_check.specs.Faults.{◌or_fault◌, mdb_fault, trees_fault, recor
 use Rattle.hfs_check.specs.Parts.{Blocks, mdb_in}
 use Rattle.hfs_repair.specs.declared.fixed.FixPlace.TheVariants.{ExtentsRecords, ExtentsFree, CatalogRecords, CatalogFree}
 use Rattle.hfs_repair.specs.Fields.{PlacedNumber}
-use Rattle.hfs_repair.specs.Opened.{extents_of, catalog_file_of, catalog_nodes_of, catalog_in_of}
+use Rattle.hfs_repair.specs.Opened.{extents_of, catalog_file_of, catalog_nodes_of, catalog_in_of, are_records_right}
 use Rattle.hfs_repair.specs.Placed.{is_wrong, placed_in_mdb, placed_in_header, placed_valences, placed_in}
 
 -- the checks before those of counts find nothing in so many blocks
@@ -27,3 +27,7 @@ placed_of blocks mdb =
     ++ (placed_in_header ext_keys ExtentsRecords ExtentsFree (block_numbers mdb mdb.extents_file) (extents_of blocks mdb)
     ++ (placed_in_header cat_keys CatalogRecords CatalogFree (block_numbers mdb (catalog_file_of blocks mdb)) (catalog_nodes_of blocks mdb)
     ++ placed_valences (valence_of (catalog_in_of blocks mdb)) (block_numbers mdb (catalog_file_of blocks mdb)) (catalog_nodes_of blocks mdb)))
+
+-- the wrong ones of a volume's numbers, where the trees are right but for their counts; none where the catalog's records aren't
+abbrev pub wrong_behind_trees : Blocks → Mdb → List PlacedNumber
+wrong_behind_trees blocks mdb = if are_records_right blocks mdb then filter is_wrong (placed_of blocks mdb) else []

@@ -1,15 +1,13 @@
 //! The catalog tree of a volume, but for its two counts.
 
-ghost use Rattle.std.specs.Prelude.{◌≡◌, ◌*◌, ◌≤◌, true, false, None, ℕ, Option, IfOk, MatchOption, length};
-ghost use Rattle.std.specs.Option.{is_none};
+ghost use Rattle.std.specs.Prelude.{◌≡◌, true, None, Option, IfOk};
 ghost use Rattle.hfs_btree.specs.Sound.{HasStructure};
 ghost use Rattle.hfs_btree_checks.specs.Order.{order_fault};
-ghost use Rattle.hfs_space.specs.Extents as extents_spec;
-ghost use Rattle.hfs_space.specs.TreeKeys.{ext_keys, overflow_of};
+ghost use Rattle.hfs_space.specs.TreeKeys.{ext_keys};
 ghost use Rattle.hfs_catalog.specs.Tree.{cat_keys, catalog_of};
 ghost use Rattle.hfs_check.specs.Answers.{listed_fault};
 ghost use Rattle.hfs_check.specs.Sound.{IsMdbSound};
-ghost use Rattle.hfs_repair.specs.Opened.{AreRightCounts, IsTreeIn, is_extents_right, catalog_file_of, is_catalog_right};
+ghost use Rattle.hfs_repair.specs.Opened.{is_extents_right, IsRight, AreCountsOf, IsExtentsTree, catalog_extents_in, IsCatalogAnswer};
 
 use crate::extents_tree::is_right;
 use crate::headed_nodes::HeadedNodes;
@@ -30,9 +28,10 @@ fn catalog_extents<N: Nodes>(
     nodes: &N,
     counts: &RightCounts,
 ) -> Result<Vec<Extent>, AllocError>
-    requires right { (size : ℕ) × AreRightCounts ext_keys size (N.nodes nodes.now) counts.now }
+    requires right { AreCountsOf ext_keys (N.nodes nodes.now) counts.now }
     requires order { order_fault ext_keys (N.nodes nodes.now) ≡ None }
-    ensures { IfOk result (λ extents. extents.items ≡ extents_spec.fork_extents (overflow_of (N.nodes nodes.now)) 4 0 mdb.now.catalog_file) }
+    ensures { IfOk result (λ extents. extents.items
+        ≡ catalog_extents_in (N.nodes nodes.now) mdb.now) }
 {
     let headed = HeadedNodes {
         nodes,
@@ -51,9 +50,9 @@ pub(crate) fn catalog_tree<B: Blocks>(
 ) -> Result<Option<TreeFile>, AllocError>
     requires sound { IsMdbSound (B.total blocks.now) mdb.now }
     requires right { is_extents_right (B.blocks blocks.now) mdb.now ≡ true }
-    requires extents { IsTreeIn ext_keys (B.total blocks.now) (B.blocks blocks.now) mdb.now mdb.now.extents_file mdb.now.extents_file_size extents.now }
-    ensures { IfOk result (λ found. MatchOption found (is_catalog_right (B.blocks blocks.now) mdb.now ≡ false)
-        (λ tree. (is_catalog_right (B.blocks blocks.now) mdb.now ≡ true) × IsTreeIn cat_keys (B.total blocks.now) (B.blocks blocks.now) mdb.now (catalog_file_of (B.blocks blocks.now) mdb.now) mdb.now.catalog_file_size tree)) }
+    requires extents { IsExtentsTree
+        (B.total blocks.now) (B.blocks blocks.now) mdb.now extents.now }
+    ensures { IfOk result (IsCatalogAnswer (B.total blocks.now) (B.blocks blocks.now) mdb.now) }
 {
     let nodes = RunNodes {
         blocks,
@@ -69,7 +68,7 @@ pub(crate) fn catalog_records<N: Nodes>(
     nodes: &N,
     counts: &RightCounts,
 ) -> Result<Vec<CatalogRecord>, AllocError>
-    requires { (size : ℕ) × AreRightCounts cat_keys size (N.nodes nodes.now) counts.now }
+    requires { AreCountsOf cat_keys (N.nodes nodes.now) counts.now }
     ensures { IfOk result (λ records. records.items ≡ catalog_of (N.nodes nodes.now)) }
 {
     let headed = HeadedNodes {
@@ -88,7 +87,7 @@ pub(crate) fn are_records_right<N: Nodes>(
     records: &[CatalogRecord],
 ) -> Result<bool, AllocError>
     requires { HasStructure cat_keys (N.nodes nodes.now) }
-    ensures { IfOk result (λ right. right ≡ is_none (listed_fault next (N.nodes nodes.now) records.now)) }
+    ensures { IfOk result (IsRight (listed_fault next (N.nodes nodes.now) records.now)) }
 {
     is_right(check_catalog_records(alloc, next, nodes, records))
 }

@@ -1,13 +1,12 @@
 //! The extents tree of a volume, but for its two counts.
 
-ghost use Rattle.std.specs.Prelude.{◌≡◌, true, false, Option, IfOk, MatchOption};
-ghost use Rattle.std.specs.Option.{is_none};
+ghost use Rattle.std.specs.Prelude.{◌≡◌, true, false, Option, IfOk};
 ghost use Rattle.hfs_space.specs.TreeKeys.{ext_keys};
 ghost use Rattle.hfs_check.specs.Answers.{Answers};
 ghost use Rattle.hfs_check.specs.declared.mount_fault.MountFault as fault;
 ghost use Rattle.hfs_check.specs.Sound.{IsMdbSound};
 ghost use Rattle.hfs_repair.specs.Opened as spec;
-ghost use Rattle.hfs_repair.specs.Opened.{AreRightCounts, IsTreeIn, is_extents_right};
+ghost use Rattle.hfs_repair.specs.Opened.{AreRightCounts, IsRight, IsExtentsAnswer};
 
 use crate::headed_nodes::HeadedNodes;
 use crate::right_counts::RightCounts;
@@ -20,7 +19,8 @@ use std::alloc::{AllocError, Global};
 
 /// Whether a check's answer is that nothing is wrong. The only error is want of memory.
 pub(crate) fn is_right(answer: Result<(), MountFault>) -> Result<bool, AllocError>
-    ensures { (found : Option fault.MountFault) → Answers found answer → IfOk result (λ right. right ≡ is_none found) }
+    ensures { (found : Option fault.MountFault) → Answers found answer
+        → IfOk result (IsRight found) }
 {
     match answer {
         Ok(()) => Ok(true),
@@ -54,8 +54,7 @@ pub(crate) fn extents_tree<B: Blocks>(
     mdb: &Mdb,
 ) -> Result<Option<TreeFile>, AllocError>
     requires { IsMdbSound (B.total blocks.now) mdb.now }
-    ensures { IfOk result (λ found. MatchOption found (is_extents_right (B.blocks blocks.now) mdb.now ≡ false)
-        (λ tree. (is_extents_right (B.blocks blocks.now) mdb.now ≡ true) × IsTreeIn ext_keys (B.total blocks.now) (B.blocks blocks.now) mdb.now mdb.now.extents_file mdb.now.extents_file_size tree)) }
+    ensures { IfOk result (IsExtentsAnswer (B.total blocks.now) (B.blocks blocks.now) mdb.now) }
 {
     let size = mdb.extents_file_size;
     let Some(tree) = tree_file::<ExtKey, B>(alloc, blocks, mdb, &mdb.extents_file, size)? else {

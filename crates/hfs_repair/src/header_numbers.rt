@@ -1,10 +1,9 @@
 //! The counted numbers of a tree's header record.
 
-ghost use Rattle.std.specs.Prelude.{◌≡◌, ℕ, ◌++◌, filter, OnOk};
-ghost use Rattle.std.specs.List.{flat_map};
-ghost use Rattle.hfs_blocks.specs.Blocks.{run_of, nodes_in, AreRunsWithin};
-ghost use Rattle.hfs_repair.specs.Opened.{AreRightCounts};
-ghost use Rattle.hfs_repair.specs.Placed.{is_wrong, placed_in_header};
+ghost use Rattle.std.specs.Prelude.{OnOk};
+ghost use Rattle.hfs_blocks.specs.Blocks.{AreRunsWithin};
+ghost use Rattle.hfs_repair.specs.Opened.{HasRightCounts};
+ghost use Rattle.hfs_repair.specs.Placed.{AddsWrong, placed_in_head};
 
 use crate::fixed::FixPlace;
 use crate::tree_file::TreeFile;
@@ -23,8 +22,9 @@ pub(crate) fn push_header_numbers<K: Key, B: Blocks>(
     tree: &TreeFile,
 ) -> Result<(), AllocError>
     requires within { AreRunsWithin tree.now.runs.items (B.total blocks.now) }
-    requires right { (size : ℕ) × AreRightCounts K.Key size (nodes_in (B.blocks blocks.now) tree.now.runs.items) tree.now.counts }
-    ensures { OnOk result (wrong.new.items ≡ wrong.old.items ++ filter is_wrong (placed_in_header K.Key records free (flat_map run_of tree.now.runs.items) (nodes_in (B.blocks blocks.now) tree.now.runs.items))) }
+    requires right { HasRightCounts K.Key (B.blocks blocks.now) tree.now }
+    ensures { OnOk result (AddsWrong wrong.old.items wrong.new.items
+        (placed_in_head K.Key records free (B.blocks blocks.now) tree.now.runs.items)) }
 {
     let nodes = RunNodes {
         blocks,

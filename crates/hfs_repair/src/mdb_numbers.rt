@@ -1,8 +1,8 @@
 //! The counted numbers of the master directory block.
 
-ghost use Rattle.std.specs.Prelude.{◌≡◌, ◌+◌, ◌≤◌, ◌++◌, filter, OnOk};
+ghost use Rattle.std.specs.Prelude.{◌+◌, ◌≤◌, OnOk};
 ghost use Rattle.hfs_space.specs.Bitmap.{bitmap_len};
-ghost use Rattle.hfs_repair.specs.Placed.{is_wrong, placed_in_mdb};
+ghost use Rattle.hfs_repair.specs.Placed.{placed_in_mdb, AddsWrong};
 
 use crate::fixed::FixPlace;
 use crate::wrong_number::{WrongNumber, push_long, push_short};
@@ -23,7 +23,8 @@ pub(crate) fn push_mdb_numbers<B: Blocks>(
     records: &[CatalogRecord],
 ) -> Result<(), AllocError>
     requires { mdb.now.bitmap_start + bitmap_len mdb.now.allocation_blocks ≤ B.total blocks.now }
-    ensures { OnOk result (wrong.new.items ≡ wrong.old.items ++ filter is_wrong (placed_in_mdb (B.blocks blocks.now) mdb.now records.now)) }
+    ensures { OnOk result (AddsWrong wrong.old.items wrong.new.items
+        (placed_in_mdb (B.blocks blocks.now) mdb.now records.now)) }
 {
     let bitmap = Bitmap {
         blocks,

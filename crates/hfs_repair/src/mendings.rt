@@ -1,10 +1,10 @@
 //! What a repair of an image writes, and what it tells.
 
-ghost use Rattle.std.specs.Prelude.{◌≡◌, IfOk};
+ghost use Rattle.std.specs.Prelude.{IfOk};
 ghost use Rattle.hfs_check.specs.Repair.{repair};
 ghost use Rattle.hfs_repair.specs.Fixes.{AreFixes};
 ghost use Rattle.hfs_repair.specs.Placed.{wrong_in};
-ghost use Rattle.hfs_repair.specs.Puts.{put_all};
+ghost use Rattle.hfs_repair.specs.Puts.{IsMendedBy};
 
 use crate::byte_put::BytePut;
 use crate::exchanging::byte_puts;
@@ -29,7 +29,7 @@ impl Mending {
     ///
     /// Source: Inside Macintosh: Files, chapter 2, 'Data Organization on Volumes'; docs/CHECKS.md has the ten numbers.
     pub fn of(alloc: Global, image: &[u8]) -> Result<Mending, AllocError>
-        ensures written { IfOk result (λ mending. put_all mending.puts.items image.now ≡ repair image.now) }
+        ensures written { IfOk result (λ mending. IsMendedBy image.now mending.puts.items) }
         ensures told { IfOk result (λ mending. AreFixes (wrong_in image.now) mending.fixes.items) }
     {
         let wrong = wrong_numbers(alloc, image)?;

@@ -1,12 +1,9 @@
 //! The two numbers of a tree's header record, as they are counted.
 
-ghost use Rattle.std.specs.Prelude.{◌≡◌, ◌*◌, ◌≤◌, ◌<◌, false, IfOk, MatchOption, length};
-ghost use Rattle.std.specs.Option.{is_none};
+ghost use Rattle.std.specs.Prelude.{◌≡◌, ◌*◌, ◌≤◌, ◌<◌, IfOk, length};
 ghost use Rattle.hfs_btree.specs.Header.{header_of, header_in, free_nodes, tree_content};
 ghost use Rattle.hfs_btree.specs.Sound.{HasStructure};
-ghost use Rattle.hfs_btree_checks.specs.Shape.{structure_fault};
-ghost use Rattle.hfs_repair.specs.Recounted.{with_head, IsRecountOf};
-ghost use Rattle.hfs_repair.specs.Opened.{AreRightCounts};
+ghost use Rattle.hfs_repair.specs.Opened.{IsCountsAnswer, IsRightHead};
 
 use hfs_btree::{Header, Key, Nodes};
 use hfs_btree_checks::{TreeFault, count_tree};
@@ -50,7 +47,7 @@ fn head_with<K: Key, N: Nodes>(
     requires header { header.now ≡ header_in (N.nodes nodes.now) }
     requires records { records ≡ length (tree_content K.Key (N.nodes nodes.now)) }
     requires free { free ≡ free_nodes (N.nodes nodes.now) }
-    ensures { IfOk result (λ head. IsRecountOf K.Key (N.nodes nodes.now) (with_head (N.nodes nodes.now) head)) }
+    ensures { IfOk result (IsRightHead K.Key (N.nodes nodes.now)) }
 {
     let right = Header {
         records,
@@ -73,7 +70,7 @@ pub(crate) fn right_counts<K: Key, N: Nodes>(
     size: u32,
 ) -> Result<Option<RightCounts>, AllocError>
     requires { size ≤ 512 * length (N.nodes nodes.now) }
-    ensures { IfOk result (λ found. MatchOption found (is_none (structure_fault K.Key size (N.nodes nodes.now)) ≡ false) (AreRightCounts K.Key size (N.nodes nodes.now))) }
+    ensures { IfOk result (IsCountsAnswer K.Key size (N.nodes nodes.now)) }
 {
     let counts = match count_tree::<K, N>(alloc, nodes, size) {
         Ok(counts) => counts,

@@ -1,8 +1,8 @@
 //! The file of a tree, and the tree but for its two counts.
 
-ghost use Rattle.std.specs.Prelude.{◌≡◌, false, IfOk, MatchOption};
+ghost use Rattle.std.specs.Prelude.{IfOk};
 ghost use Rattle.hfs_check.specs.Sound.{IsMdbSound};
-ghost use Rattle.hfs_repair.specs.Opened.{is_tree_right, IsTreeIn};
+ghost use Rattle.hfs_repair.specs.Opened.{IsTreeAnswer};
 
 use crate::right_counts::{RightCounts, right_counts};
 use hfs_blocks::{Blocks, Run};
@@ -30,7 +30,8 @@ pub(crate) fn tree_file<K: Key, B: Blocks>(
     size: u32,
 ) -> Result<Option<TreeFile>, AllocError>
     requires { IsMdbSound (B.total blocks.now) mdb.now }
-    ensures { IfOk result (λ found. MatchOption found (is_tree_right K.Key (B.blocks blocks.now) mdb.now extents.now size ≡ false) (IsTreeIn K.Key (B.total blocks.now) (B.blocks blocks.now) mdb.now extents.now size)) }
+    ensures { IfOk result
+        (IsTreeAnswer K.Key (B.total blocks.now) (B.blocks blocks.now) mdb.now extents.now size) }
 {
     no_tree_file_fault();
     if !is_tree_file(mdb, extents, size) {

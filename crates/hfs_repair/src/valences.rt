@@ -1,16 +1,15 @@
 //! The valences of the folders.
 
-ghost use Rattle.std.specs.Prelude.{◌≡◌, ℕ, ◌+◌, ◌<◌, ◌≤◌, ◌^◌, ◌++◌, ◌∷◌, [], true, filter, length, OnOk};
-ghost use Rattle.std.specs.List.{flat_map};
+ghost use Rattle.std.specs.Prelude.{◌≡◌, ◌+◌, ◌<◌, ◌≤◌, ◌^◌, ◌∷◌, [], true, length, OnOk};
 ghost use Rattle.hfs_fields.specs.Keys.{is_cat_leaf};
-ghost use Rattle.hfs_node.specs.Node.{node_of, offset_of};
+ghost use Rattle.hfs_node.specs.Node.{node_of};
 ghost use Rattle.hfs_scans.specs.Each.{Each};
 ghost use Rattle.hfs_btree.specs.Tree.{records_of};
-ghost use Rattle.hfs_blocks.specs.Blocks.{run_of, nodes_in, AreRunsWithin};
+ghost use Rattle.hfs_blocks.specs.Blocks.{AreRunsWithin};
 ghost use Rattle.hfs_catalog.specs.Tree.{cat_keys};
 ghost use Rattle.hfs_catalog_checks.specs.Indexes.{count_of};
-ghost use Rattle.hfs_repair.specs.Opened.{AreRightCounts};
-ghost use Rattle.hfs_repair.specs.Placed.{is_wrong, placed_from, placed_valences};
+ghost use Rattle.hfs_repair.specs.Opened.{HasRightCounts};
+ghost use Rattle.hfs_repair.specs.Placed.{placed_from, AddsWrong, placed_in_node, placed_in_runs};
 
 use crate::fixed::FixPlace;
 use crate::tree_file::TreeFile;
@@ -34,7 +33,8 @@ fn push_valence(
     requires leaf { is_cat_leaf entry.now ≡ true }
     requires short { length entry.now ≤ 494 }
     requires low { start < 2 ^ 47 }
-    ensures { OnOk result (wrong.new.items ≡ wrong.old.items ++ filter is_wrong (placed_from (count_of children.now) (λ _. start) 0 (entry.now ∷ []))) }
+    ensures { OnOk result (AddsWrong wrong.old.items wrong.new.items
+        (placed_from (count_of children.now) (λ _. start) 0 (entry.now ∷ []))) }
 {
     let body = body_of::<CatKey>(entry);
     if !is_folder(body) {
@@ -57,7 +57,8 @@ fn push_leaf(
 ) -> Result<(), AllocError>
     requires leaf { Each (λ entry. is_cat_leaf entry ≡ true) (records_of (node_of bytes.now)) }
     requires low { start < 2 ^ 46 }
-    ensures { OnOk result (wrong.new.items ≡ wrong.old.items ++ filter is_wrong (placed_from (count_of children.now) (λ k. start + offset_of bytes.now k) 0 (records_of (node_of bytes.now)))) }
+    ensures { OnOk result (AddsWrong wrong.old.items wrong.new.items
+        (placed_in_node (count_of children.now) start bytes.now)) }
 {
     let Ok(node) = view(bytes) else {
         return Ok(());
@@ -77,8 +78,9 @@ pub(crate) fn push_valences<B: Blocks>(
     tree: &TreeFile,
 ) -> Result<(), AllocError>
     requires within { AreRunsWithin tree.now.runs.items (B.total blocks.now) }
-    requires right { (size : ℕ) × AreRightCounts cat_keys size (nodes_in (B.blocks blocks.now) tree.now.runs.items) tree.now.counts }
-    ensures { OnOk result (wrong.new.items ≡ wrong.old.items ++ filter is_wrong (placed_valences (count_of children.now) (flat_map run_of tree.now.runs.items) (nodes_in (B.blocks blocks.now) tree.now.runs.items))) }
+    requires right { HasRightCounts cat_keys (B.blocks blocks.now) tree.now }
+    ensures { OnOk result (AddsWrong wrong.old.items wrong.new.items
+        (placed_in_runs (count_of children.now) (B.blocks blocks.now) tree.now.runs.items)) }
 {
     let nodes = RunNodes {
         blocks,

@@ -1,14 +1,11 @@
 //! The counted numbers that are wrong in a volume which is right but for them.
 
-ghost use Rattle.std.specs.Prelude.{◌≡◌, ◌≤◌, ◌++◌, true, [], if◌then◌else◌, filter, IfOk, OnOk};
-ghost use Rattle.hfs_space.specs.TreeKeys.{ext_keys};
-ghost use Rattle.hfs_catalog.specs.Tree.{cat_keys};
+ghost use Rattle.std.specs.Prelude.{◌≡◌, ◌≤◌, IfOk, OnOk};
 ghost use Rattle.hfs_check.specs.Sound.{IsMdbSound};
-ghost use Rattle.hfs_repair.specs.Opened.{IsTreeIn, catalog_file_of, catalog_in_of};
-ghost use Rattle.hfs_repair.specs.Opened as opened;
-ghost use Rattle.hfs_repair.specs.Placed.{is_wrong, wrong_in};
+ghost use Rattle.hfs_repair.specs.Opened.{catalog_in_of, IsExtentsTree, IsCatalogTree};
+ghost use Rattle.hfs_repair.specs.Placed.{wrong_in, AddsWrong};
 ghost use Rattle.hfs_repair.specs.Wrong as spec;
-ghost use Rattle.hfs_repair.specs.Wrong.{placed_of};
+ghost use Rattle.hfs_repair.specs.Wrong.{placed_of, wrong_behind_trees};
 
 use crate::catalog_tree::{are_records_right, catalog_records, catalog_tree};
 use crate::extents_tree::extents_tree;
@@ -37,10 +34,13 @@ fn push_numbers<B: Blocks>(
     records: &[CatalogRecord],
 ) -> Result<(), AllocError>
     requires sound { IsMdbSound (B.total blocks.now) mdb.now }
-    requires extents { IsTreeIn ext_keys (B.total blocks.now) (B.blocks blocks.now) mdb.now mdb.now.extents_file mdb.now.extents_file_size extents.now }
-    requires catalog { IsTreeIn cat_keys (B.total blocks.now) (B.blocks blocks.now) mdb.now (catalog_file_of (B.blocks blocks.now) mdb.now) mdb.now.catalog_file_size catalog.now }
+    requires extents { IsExtentsTree
+        (B.total blocks.now) (B.blocks blocks.now) mdb.now extents.now }
+    requires catalog { IsCatalogTree
+        (B.total blocks.now) (B.blocks blocks.now) mdb.now catalog.now }
     requires records { records.now ≡ catalog_in_of (B.blocks blocks.now) mdb.now }
-    ensures { OnOk result (wrong.new.items ≡ wrong.old.items ++ filter is_wrong (placed_of (B.blocks blocks.now) mdb.now)) }
+    ensures { OnOk result (AddsWrong wrong.old.items wrong.new.items
+        (placed_of (B.blocks blocks.now) mdb.now)) }
 {
     let children = child_counts(alloc, records)?;
     push_mdb_numbers(wrong, blocks, mdb, records)?;
@@ -70,9 +70,12 @@ fn numbers_behind_trees<B: Blocks>(
     catalog: &TreeFile,
 ) -> Result<Vec<WrongNumber>, AllocError>
     requires sound { IsMdbSound (B.total blocks.now) mdb.now }
-    requires extents { IsTreeIn ext_keys (B.total blocks.now) (B.blocks blocks.now) mdb.now mdb.now.extents_file mdb.now.extents_file_size extents.now }
-    requires catalog { IsTreeIn cat_keys (B.total blocks.now) (B.blocks blocks.now) mdb.now (catalog_file_of (B.blocks blocks.now) mdb.now) mdb.now.catalog_file_size catalog.now }
-    ensures { IfOk result (λ wrong. wrong.items ≡ if opened.are_records_right (B.blocks blocks.now) mdb.now then filter is_wrong (placed_of (B.blocks blocks.now) mdb.now) else []) }
+    requires extents { IsExtentsTree
+        (B.total blocks.now) (B.blocks blocks.now) mdb.now extents.now }
+    requires catalog { IsCatalogTree
+        (B.total blocks.now) (B.blocks blocks.now) mdb.now catalog.now }
+    ensures { IfOk result (λ wrong. wrong.items
+        ≡ wrong_behind_trees (B.blocks blocks.now) mdb.now) }
 {
     let nodes = RunNodes {
         blocks,
@@ -89,7 +92,8 @@ fn numbers_behind_trees<B: Blocks>(
 /// The wrong numbers of the blocks of a volume; none where anything before them is wrong.
 fn wrong_in_blocks<B: Blocks>(alloc: Global, blocks: &B) -> Result<Vec<WrongNumber>, AllocError>
     requires { 3 ≤ B.total blocks.now }
-    ensures { IfOk result (λ wrong. wrong.items ≡ spec.wrong_in_blocks (B.total blocks.now) (B.blocks blocks.now)) }
+    ensures { IfOk result (λ wrong. wrong.items
+        ≡ spec.wrong_in_blocks (B.total blocks.now) (B.blocks blocks.now)) }
 {
     no_mdb_fault();
     let mdb = read_mdb(blocks);

@@ -1,7 +1,7 @@
 //! A counted number that is wrong.
 
-ghost use Rattle.std.specs.Prelude.{◌≡◌, ◌<◌, ◌^◌, ◌++◌, ◌∷◌, [], OnOk, filter};
-ghost use Rattle.hfs_repair.specs.Placed.{is_wrong, two_bytes, four_bytes};
+ghost use Rattle.std.specs.Prelude.{◌≡◌, ◌<◌, ◌^◌, ◌∷◌, [], OnOk};
+ghost use Rattle.hfs_repair.specs.Placed.{is_wrong, two_bytes, four_bytes, AddsWrong};
 ghost use Rattle.hfs_repair.specs.Fields.{value_of, width_of};
 
 use crate::field_value::FieldValue;
@@ -42,7 +42,8 @@ pub(crate) fn push_short(
     at: usize,
 ) -> Result<(), AllocError>
     requires { at < 2 ^ 48 }
-    ensures { OnOk result (wrong.new.items ≡ wrong.old.items ++ filter is_wrong (two_bytes place was counted at ∷ [])) }
+    ensures { OnOk result (AddsWrong wrong.old.items wrong.new.items
+        (two_bytes place was counted at ∷ [])) }
 {
     let Ok(now) = u16::try_from(counted) else {
         return Ok(());
@@ -68,7 +69,8 @@ pub(crate) fn push_long(
     at: usize,
 ) -> Result<(), AllocError>
     requires { at < 2 ^ 48 }
-    ensures { OnOk result (wrong.new.items ≡ wrong.old.items ++ filter is_wrong (four_bytes place was counted at ∷ [])) }
+    ensures { OnOk result (AddsWrong wrong.old.items wrong.new.items
+        (four_bytes place was counted at ∷ [])) }
 {
     let Ok(now) = u32::try_from(counted) else {
         return Ok(());
