@@ -100,15 +100,7 @@ impl<B: Blocks> Editing<'_, B> {
             return Ok(Err(refusal));
         }
         self.catalog_is_in_file();
-        let change = add_new_file(
-            alloc,
-            self.blocks,
-            self.catalog,
-            self.mdb,
-            dir,
-            &place,
-            now,
-        )?;
+        let change = add_new_file(alloc, self.blocks, self.catalog, self.mdb, dir, &place, now)?;
         Ok(Ok(change))
     }
 
@@ -130,15 +122,7 @@ impl<B: Blocks> Editing<'_, B> {
             return Ok(Err(refusal));
         }
         self.catalog_is_in_file();
-        let change = add_new_folder(
-            alloc,
-            self.blocks,
-            self.catalog,
-            self.mdb,
-            dir,
-            &place,
-            now,
-        )?;
+        let change = add_new_folder(alloc, self.blocks, self.catalog, self.mdb, dir, &place, now)?;
         Ok(Ok(change))
     }
 }

@@ -13,4 +13,4 @@ set_valence-requires-clause-there g c =
 pub returns-clause-put : goal.returns-clause-put
 returns-clause-put g c =
     λ r own. file_put c.args.id c.args.dir c.args.place.now c.args.now c.new-file.result (g.N.Nodes.nodes c.args.nodes.now) (g.N.Nodes.nodes c.add_file.new.nodes) (g.N.Nodes.nodes c.set_valence.new.nodes) r
-        c.new-file.ensures c.in_ok-add_file.ensures.came c.in_ok-add_file.ensures.value c.in_ok-set_valence.ensures.set own
+    c.new-file.ensures c.in_ok-add_file.ensures.came c.in_ok-add_file.ensures.value c.in_ok-set_valence.ensures.set own

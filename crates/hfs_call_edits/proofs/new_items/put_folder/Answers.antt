@@ -26,4 +26,4 @@ set_valence-requires-clause-there g c =
 pub returns-clause-put : goal.returns-clause-put
 returns-clause-put g c =
     λ r own. folder_put c.args.id c.args.dir c.args.place.now c.args.now c.new-folder.result (g.N.Nodes.nodes c.args.nodes.now) (g.N.Nodes.nodes c.add_dir.new.nodes) (g.N.Nodes.nodes c.set_valence.new.nodes) r
-        c.new-folder.ensures c.in_ok-add_dir.ensures.came c.in_ok-set_valence.ensures.set own
+    c.new-folder.ensures c.in_ok-add_dir.ensures.came c.in_ok-set_valence.ensures.set own
