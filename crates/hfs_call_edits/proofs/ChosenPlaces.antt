@@ -1,7 +1,7 @@
 -- Where the records put a new item is where the volume does.
 use Rattle.std.proofs.Common.{◌≡◌, ℕ, ℤ, pos, Bool, true, false, cond, eqb, List, refl, sym, ◌∙◌, ap, subst, Option, Some, None, Ok, Err, Result}
 use Rattle.std.specs.Prelude.{not, ◌||◌, nat_lt, is_some}
-use Rattle.std.specs.Option.{option_map, option_map_or, option_and_then}
+use Rattle.std.specs.Option.{option_map_or, option_and_then}
 use Rattle.std.specs.Ordering.{int_eq}
 use Rattle.std.proofs.lemmas.Bool.{true≢false}
 use Rattle.std.proofs.lemmas.Option.{none-some, same_Some}
@@ -18,7 +18,6 @@ use Rattle.hfs_model.specs.Choices.{is_locked, is_full, is_held, to_create}
 use Rattle.hfs_model.specs.Choices as model
 use Rattle.hfs_model.specs.Replies.{info_of}
 use Rattle.hfs_catalog.specs.declared.item.ItemRecord.TheVariants.{Folder, File}
-use Rattle.hfs_catalog.specs.declared.item.CatalogItem.{CatalogItem}
 use Rattle.hfs_catalog.specs.Records.{Record, Catalog, item_with}
 use Rattle.hfs_catalog.specs.Items.{item_of, entry_of}
 use Rattle.hfs_catalog.specs.Lookups.{catalog_item, child_named}
@@ -30,7 +29,7 @@ use Rattle.hfs_queries.specs.Folders.{found_with}
 use Rattle.hfs_queries.specs.Queries.{AreEntries}
 use Rattle.hfs_queries.specs.Replies.{folder_kind, folder_same}
 use Rattle.hfs_queries.specs.Told.{folder_info, body_info, told, only_folder, folder_with}
-use Rattle.hfs_call_edits.specs.Choosing.{lock_code, unless_code}
+use Rattle.hfs_call_edits.specs.Choosing.{unless_code}
 use Rattle.hfs_call_edits.specs.declared.new_places.NewPlace.{NewPlace}
 use Rattle.hfs_call_edits.specs.NewPlaces.{children_in, place_under, place_in, new_place, IsPlace, ChoosesPlace}
 use Rattle.hfs_call_edits.specs.NewPlaces as records

@@ -1,5 +1,5 @@
 -- What a new item makes of a volume.
-use Rattle.std.proofs.Common.{◌≡◌, ℕ, ℤ, ◌+◌, ◌<◌, ◌≤◌, ◌^◌, Bool, true, false, List, [], ◌∷◌, length, refl, sym, ◌∙◌, ap, subst, arith, inl, inr, Some, None, Ok, Err, Result}
+use Rattle.std.proofs.Common.{◌≡◌, ℕ, ℤ, ◌+◌, ◌<◌, ◌≤◌, ◌^◌, true, false, List, length, refl, sym, ◌∙◌, ap, subst, arith, inl, inr, Some, None, Ok, Err, Result}
 use Rattle.hfs_fields.specs.declared.key.CatKey.{CatKey}
 use Rattle.hfs_fields.specs.declared.mdb.Mdb.{Mdb}
 use Rattle.std.specs.Prelude.{◌&&◌, nat_le}
@@ -31,7 +31,6 @@ use Rattle.hfs_model.specs.Replies.{success}
 use Rattle.hfs_model.specs.Step.{step}
 use Rattle.hfs_model.specs.Volume.{Volume, Items}
 use Rattle.hfs_check.specs.Parts.{Blocks, mdb_in, catalog_nodes, catalog_in}
-use Rattle.hfs_check.specs.Sound.{AreBlocksSound}
 use Rattle.hfs_check.specs.VolumeOf.{volume_in}
 use Rattle.hfs_changes.specs.BoundLaws.{HasRoomForOne, CreationFits}
 use Rattle.hfs_changes.specs.Changes.{with_children, folder_with}

@@ -1,11 +1,11 @@
 -- A new item's record that came into a catalog, and then its folder's with one more child.
-use Rattle.std.proofs.Common.{◌≡◌, ℕ, ◌+◌, Bool, true, List, [], ◌∷◌, refl, sym, ◌∙◌, ap, subst, Option, Some, None}
+use Rattle.std.proofs.Common.{◌≡◌, ℕ, ◌+◌, true, sym, ◌∙◌, ap, subst, Option, Some, None}
 use Rattle.std.specs.Option.{option_map}
 use Rattle.hfs_fields.specs.declared.key.CatKey.{CatKey}
 use Rattle.hfs_fields.specs.declared.dir_record.DirRecord.{DirRecord}
 use Rattle.hfs_fields.specs.declared.file_record.FileRecord.{FileRecord}
 use Rattle.hfs_fields.specs.Keys.{cat_cmp}
-use Rattle.hfs_fields.specs.Records.{is_dir, dir_record_of, new_dir, new_file}
+use Rattle.hfs_fields.specs.Records.{is_dir, new_dir, new_file}
 use Rattle.hfs_fields.specs.RecordForms.{IsFileRecordValue}
 use Rattle.hfs_btree.specs.Pairs.{lookup}
 use Rattle.hfs_btree.specs.Tree.{Store}

@@ -1,6 +1,5 @@
 -- What the edits of Create and DirCreate make of a catalog.
-use Rattle.std.specs.Prelude.{◌≡◌, ℕ, ◌+◌, ◌≤◌, true, List, [], ◌∷◌, length, Some, None}
-use Rattle.hfs_fields.specs.declared.key.CatKey.{CatKey}
+use Rattle.std.specs.Prelude.{◌≡◌, ℕ, ◌+◌, ◌≤◌, true, [], ◌∷◌, length, Some, None}
 use Rattle.hfs_fields.specs.declared.thread_record.ThreadKind.TheVariants as kind
 use Rattle.hfs_fields.specs.Keys.{cat_cmp}
 use Rattle.hfs_fields.specs.Records.{is_dir, dir_record_of, new_thread, new_dir, new_file}

@@ -1,5 +1,5 @@
 -- Where Create and DirCreate put a new item, by the master directory block and the records of a catalog.
-use Rattle.std.specs.Prelude.{◌≡◌, ◌<◌, ◌^◌, ℕ, ℤ, Bool, true, not, ◌||◌, ◌==◌, nat_lt, is_some, if◌then◌else◌, List, Option, Some, None, Result, Ok, Err}
+use Rattle.std.specs.Prelude.{◌≡◌, ◌<◌, ◌^◌, ℕ, ℤ, Bool, true, not, ◌||◌, ◌==◌, nat_lt, is_some, if◌then◌else◌, List, Result, Ok, Err}
 use Rattle.std.specs.Option.{option_map_or}
 use Rattle.std.specs.Result.{MatchResult}
 use Rattle.hfs_fields.specs.Names.{is_item_name}

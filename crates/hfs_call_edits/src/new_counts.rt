@@ -16,6 +16,18 @@ fn root_item(dir: u32) -> u16
     if dir == ROOT_ID { 1 } else { 0 }
 }
 
+/// The counts where the next ID was given, changed at `now`.
+fn with_next_id(mdb: &Mdb, now: u32) -> Mdb
+    requires { mdb.now.next_id ≢ 4294967295 }
+    ensures { result ≡ record mdb.now { modified = now; next_id = mdb.now.next_id + 1 } }
+{
+    Mdb {
+        modified: now,
+        next_id: mdb.next_id + 1,
+        ..*mdb
+    }
+}
+
 /// The counts with one more file in this folder, which has the next ID, changed at `now`.
 pub(crate) fn with_file(mdb: &Mdb, dir: u32, now: u32) -> Mdb
     requires next_id { mdb.now.next_id ≢ 4294967295 }
@@ -24,11 +36,9 @@ pub(crate) fn with_file(mdb: &Mdb, dir: u32, now: u32) -> Mdb
     ensures { result ≡ with_file dir now mdb.now }
 {
     Mdb {
-        modified: now,
-        next_id: mdb.next_id + 1,
         root_files: mdb.root_files + root_item(dir),
         files: mdb.files + 1,
-        ..*mdb
+        ..with_next_id(mdb, now)
     }
 }
 
@@ -40,10 +50,8 @@ pub(crate) fn with_folder(mdb: &Mdb, dir: u32, now: u32) -> Mdb
     ensures { result ≡ with_folder dir now mdb.now }
 {
     Mdb {
-        modified: now,
-        next_id: mdb.next_id + 1,
         root_folders: mdb.root_folders + root_item(dir),
         folders: mdb.folders + 1,
-        ..*mdb
+        ..with_next_id(mdb, now)
     }
 }

@@ -6,6 +6,7 @@ ghost use Rattle.hfs_catalog.specs.Tree.{IsCatalogTree};
 ghost use Rattle.hfs_catalog_edits.specs.Rooms.{IsInFile, HasRoom, HasRoomForTwo};
 ghost use Rattle.hfs_check.specs.Parts.{catalog_nodes};
 ghost use Rattle.hfs_model.specs.Need.{one_record, two_records};
+ghost use Rattle.hfs_call_edits.specs.declared.editing.Refusal.TheVariants as refusal;
 ghost use Rattle.hfs_call_edits.specs.Room.{lacking};
 
 use crate::editing::{Editing, Refusal};
@@ -33,6 +34,16 @@ fn two_records(depth: u16) -> u64
     2 * u64::from(depth) + 3
 }
 
+/// The refusal of a call that needs more nodes than are free in a tree of so many levels.
+fn full(free: u32, depth: u16) -> Refusal
+    ensures { result ≡ refusal.Full free depth }
+{
+    Refusal::Full {
+        free,
+        depth: u32::from(depth),
+    }
+}
+
 /// What refuses a call that needs room for one more record, if the tree has fewer free nodes than that may take.
 pub(crate) fn lacks_one<N: Nodes>(nodes: &N) -> Option<Refusal>
     requires { IsCatalogTree (N.nodes nodes.now) }
@@ -42,10 +53,7 @@ pub(crate) fn lacks_one<N: Nodes>(nodes: &N) -> Option<Refusal>
     let free = free_nodes::<CatKey, N>(nodes);
     let depth = depth::<CatKey, N>(nodes);
     if u64::from(free) < one_record(depth) {
-        return Some(Refusal::Full {
-            free,
-            depth: u32::from(depth),
-        });
+        return Some(full(free, depth));
     }
     None
 }
@@ -59,10 +67,7 @@ pub(crate) fn lacks_two<N: Nodes>(nodes: &N) -> Option<Refusal>
     let free = free_nodes::<CatKey, N>(nodes);
     let depth = depth::<CatKey, N>(nodes);
     if u64::from(free) < two_records(depth) {
-        return Some(Refusal::Full {
-            free,
-            depth: u32::from(depth),
-        });
+        return Some(full(free, depth));
     }
     None
 }
