@@ -19,3 +19,11 @@ pub mod FolderPlaces
 pub mod MoveModel
 pub mod BothSet
 pub mod MoveMade
+pub mod FileIdChoices
+pub mod FileIdsChosen
+pub mod FileIdEdits
+pub mod FileIdPatches
+pub mod FileIdReplies
+pub mod ChosenPlaces
+pub mod PutItems
+pub mod Creations

@@ -1,7 +1,10 @@
 pub mod Settings
 pub mod CatalogPatch
 pub mod Choosing
+pub mod FileIds
 pub mod Room
+pub mod NewPlaces
+pub mod NewItems
 pub mod Edits
 pub mod Serving
 pub mod Rekeyings

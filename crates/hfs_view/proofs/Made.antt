@@ -1,5 +1,5 @@
 -- The rows of all records of a sound image are a table of its volume.
-use Rattle.std.proofs.Common.{◌≡◌, ℕ, ◌/◌, ◌%◌, if◌then◌else◌, Bool, true, ◌&&◌, inl, inr, IsTrue, List, [], ◌∷◌, refl, sym, ◌∙◌, ap, subst, Option, Some, None}
+use Rattle.std.proofs.Common.{◌≡◌, ℕ, if◌then◌else◌, Bool, true, ◌&&◌, inl, inr, IsTrue, List, [], ◌∷◌, refl, sym, ◌∙◌, ap, subst, Option, Some, None}
 use Rattle.std.specs.Ordering.{nat_cmp}
 use Rattle.std.specs.Cmp.{nat_cmp_total}
 use Rattle.std.specs.Option.{option_map}
@@ -28,20 +28,20 @@ use Rattle.hfs_check.specs.Laws.{CatalogIsSound, SoundImagesAreLawful}
 use Rattle.hfs_check.specs.Parts.{mdb_in, overflow_in, catalog_in}
 use Rattle.hfs_check.specs.Sound.{IsSound}
 use Rattle.hfs_check.specs.VolumeOf.{contents_in, volume_in, volume_of}
-use Rattle.hfs_space.specs.Forks.{HasArea}
 use Rattle.hfs_fields.specs.declared.mdb.Mdb.{Mdb}
+use Rattle.hfs_volume.specs.Layout.{SameLayout, same_layout}
 use Rattle.hfs_volume.specs.Mounted.{AreForksIn}
 use Rattle.hfs_volume.specs.Sharing.{ForksStay, FileForksStay}
 use Rattle.hfs_view.specs.declared.opening.Maps.{Maps}
-use Rattle.hfs_view.specs.declared.place.Place.{Place}
-use Rattle.hfs_view.specs.declared.table.Table.{Table}
-use Rattle.hfs_view.specs.Places.{place, place_cmp}
-use Rattle.hfs_view.specs.Tables as tables
-use Rattle.hfs_view.specs.Tables.{item_of, items_of, IsTable, IsKindOf, AreNames}
+use Rattle.hfs_item_table.specs.declared.place.Place.{Place}
+use Rattle.hfs_item_table.specs.declared.table.Table.{Table}
+use Rattle.hfs_item_table.specs.Places.{place, place_cmp}
+use Rattle.hfs_item_table.specs.Tables as tables
+use Rattle.hfs_item_table.specs.Tables.{item_of, items_of, IsTable, IsKindOf, AreNames}
 use Rattle.hfs_view.specs.Opened.{IsRight, AreRowsOf, table_over}
-use Rattle.hfs_view.proofs.Facts.{none_is_some, same_some, found_has, no_entry, two_tests}
-use Rattle.hfs_view.proofs.Named.{level, names_level}
-use Rattle.hfs_view.proofs.Shown.{get_items}
+use Rattle.hfs_item_table.specs.Facts.{none_is_some, same_some, found_has, no_entry, two_tests}
+use Rattle.hfs_item_table.specs.Places.{level, names_level}
+use Rattle.hfs_item_table.specs.Shown.{get_items}
 
 each_of : {A : Type 0} (P : A → Type 0) (xs : List A) → ((x : A) → In x xs → P x) → Each P xs
 each_of P [] f = tt
@@ -138,15 +138,13 @@ module _ (image : List ℕ) (sound : IsSound image) (catalog_law : CatalogIsSoun
         item = λ p id at. item_at p id (sym (at_place p) ∙ at);
       }
 
-      pub table_made : block_count t.base ≡ block_count image → IsTable t
-      table_made count = record {
+      pub table_made : IsSound t.base → SameLayout (mdb_in (block_at t.base)) (mdb_in (block_at image)) → IsTable t
+      table_made base_sound layout = record {
         sorted = rows.sorted_ids;
         names = subst (λ (n : Items). AreNames n t.by_name) (sym same_items) names;
         rows = λ q row at. subst (λ (n : Items). IsKindOf n t.mdb q row.kind) (sym same_items)
             (subst (λ (d : Mdb). IsKindOf m d q row.kind) (sym mdb_is) (rows.kinds q row at));
-        area = subst (λ (d : Mdb). HasArea d (block_count t.base)) (sym mdb_is)
-            (subst (λ (n : ℕ). HasArea (mdb_in (block_at image)) n) (sym count) sound.blocks.mdb.area);
-        even = ap (λ (d : Mdb). d.allocation_block_size % 512) mdb_is ∙ sound.blocks.mdb.whole_size;
+        over = record { sound = base_sound; layout = subst (SameLayout (mdb_in (block_at t.base))) (sym mdb_is) layout };
       }
 
       volume_is : t ≡ table_over t.base (mdb_in (block_at image)) (record { by_id = t.by_id; by_name = t.by_name }) → tables.volume_of t ≡ volume_of image
@@ -159,16 +157,16 @@ module _ (image : List ℕ) (sound : IsSound image) (catalog_law : CatalogIsSoun
         software_locked = (over i).software_locked;
       }
 
-module _ (base image : List ℕ) (maps : Maps) (agrees : Agrees base image) (catalog_law : CatalogIsSound) (records_law : ItemsAreRecords) (named_law : NamedAreRecords) (lawful_law : SoundImagesAreLawful)
+module _ (base image : List ℕ) (maps : Maps) (base_sound : IsSound base) (agrees : Agrees base image) (catalog_law : CatalogIsSound) (records_law : ItemsAreRecords) (named_law : NamedAreRecords) (lawful_law : SoundImagesAreLawful)
     (rows : AreRowsOf base image (catalog_in (block_at image)) maps) (t : Table) (is : t ≡ table_over base (mdb_in (block_at image)) maps) where
-  same_count : block_count base ≡ block_count image
-  same_count = ap (λ (n : ℕ). n / 512) (sym agrees.len)
+  layout : SameLayout (mdb_in (block_at base)) (mdb_in (block_at image))
+  layout = same_layout (block_at base) (block_at image) agrees.kept.mdb
 
   abbrev over : Table
   over = table_over base (mdb_in (block_at image)) maps
 
   pub is_table : IsTable t
-  is_table = subst IsTable (sym is) (table_made image agrees.sound catalog_law over records_law rows refl named_law (lawful_law image agrees.sound) same_count)
+  is_table = subst IsTable (sym is) (table_made image agrees.sound catalog_law over records_law rows refl named_law (lawful_law image agrees.sound) base_sound layout)
 
   pub is_volume : tables.volume_of t ≡ volume_of image
   is_volume = ap tables.volume_of is ∙ volume_is image agrees.sound catalog_law over records_law rows refl named_law (lawful_law image agrees.sound) refl

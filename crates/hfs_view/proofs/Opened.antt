@@ -36,15 +36,15 @@ use Rattle.hfs_check.specs.VolumeOf.{bytes_in, contents_in, volume_of}
 use Rattle.hfs_volume.specs.Mounted.{AreForksIn, fork_record}
 use Rattle.hfs_volume.specs.Sharing.{file_extents, ForksStay}
 use Rattle.hfs_view.specs.declared.opening.Maps.{Maps}
-use Rattle.hfs_view.specs.declared.place.Place.{Place}
-use Rattle.hfs_view.specs.declared.row.Row.{Row}
-use Rattle.hfs_view.specs.declared.row.RowFork.{RowFork}
-use Rattle.hfs_view.specs.declared.row.RowKind.TheVariants.{File as FileRow}
-use Rattle.hfs_view.specs.Places.{place, place_cmp}
-use Rattle.hfs_view.specs.Tables.{bytes_of, item_of, IsForkIn, IsKindOf}
+use Rattle.hfs_item_table.specs.declared.place.Place.{Place}
+use Rattle.hfs_item_table.specs.declared.row.Row.{Row}
+use Rattle.hfs_item_table.specs.declared.row.RowFork.{RowFork}
+use Rattle.hfs_item_table.specs.declared.row.RowKind.TheVariants.{File as FileRow}
+use Rattle.hfs_item_table.specs.Places.{place, place_cmp}
+use Rattle.hfs_item_table.specs.Tables.{bytes_of, item_of, IsForkIn, IsKindOf}
 use Rattle.hfs_view.specs.Opened.{IsRight, Enters, AreRows, AreRowsOf}
-use Rattle.hfs_view.proofs.Facts.{same_some}
-use Rattle.hfs_view.proofs.Shown.{option_map_cond}
+use Rattle.hfs_item_table.specs.Facts.{same_some}
+use Rattle.hfs_item_table.specs.Shown.{option_map_cond}
 
 -- ---- a file's row
 

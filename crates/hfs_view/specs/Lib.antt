@@ -1,5 +1,1 @@
-pub mod Places
-pub mod Tables
-pub mod Names
-pub mod Edits
 pub mod Opened

@@ -19,12 +19,12 @@ use Rattle.hfs_check.specs.Parts.{mdb_in, catalog_in}
 use Rattle.hfs_check.specs.VolumeOf.{contents_in, volume_of}
 use Rattle.hfs_volume.specs.Sharing.{ForksStay}
 use Rattle.hfs_volume.specs.Mounted.{AreForksIn}
-use Rattle.hfs_view.specs.declared.place.Place.{Place}
-use Rattle.hfs_view.specs.declared.row.Row.{Row}
+use Rattle.hfs_item_table.specs.declared.place.Place.{Place}
+use Rattle.hfs_item_table.specs.declared.row.Row.{Row}
 use Rattle.hfs_view.specs.declared.opening.Maps.{Maps}
-use Rattle.hfs_view.specs.declared.table.Table.{Table}
-use Rattle.hfs_view.specs.Places.{place, place_cmp}
-use Rattle.hfs_view.specs.Tables.{item_of, IsKindOf}
+use Rattle.hfs_item_table.specs.declared.table.Table.{Table}
+use Rattle.hfs_item_table.specs.Places.{place, place_cmp}
+use Rattle.hfs_item_table.specs.Tables.{item_of, IsKindOf}
 
 -- whether the number is one of these
 abbrev pub has_number : List ℕ → ℕ → Bool

@@ -2,17 +2,10 @@
 //! the calls that read with no lock, and take in the changes that were accepted.
 #![tactic(auto)]
 
-mod changes;
-mod choices;
-mod edits;
 mod kept;
 mod locks;
-mod moving;
 mod opening;
-mod place;
-mod row;
 mod rows;
-mod table;
 mod threads;
 
 pub use rows::Rows;

@@ -14,18 +14,18 @@ ghost use Rattle.hfs_check.specs.VolumeOf.{contents_in, volume_of};
 ghost use Rattle.hfs_model.specs.Volume.{Items};
 ghost use Rattle.hfs_volume.specs.Mounted.{fork_record, AreForksIn};
 ghost use Rattle.hfs_volume.specs.Sharing.{file_extents, ForksStay};
-ghost use Rattle.hfs_view.specs.Opened.{has_number, IsRight, Enters, AreRowsOf};
+ghost use Rattle.hfs_view.specs.Opened.{has_number, IsRight, Enters, AreRowsOf, table_over};
 ghost use Rattle.hfs_model.specs.Children.{valence};
-ghost use Rattle.hfs_view.specs.Tables.{item_of, IsKindOf};
+ghost use Rattle.hfs_item_table.specs.Tables.{item_of, IsKindOf};
 
 use crate::kept::{file_kept, folder_kept};
-use crate::place::Place;
-use crate::row::{Row, RowFile, RowFork, RowKind};
+use crate::locks::{is_hardware_locked, is_software_locked};
 use crate::threads::ThreadIds;
 use hfs_catalog::{CatalogRecord, is_file, is_folder};
-use hfs_fields::{CatKey, DirRecord, FileRecord};
+use hfs_fields::{CatKey, DirRecord, FileRecord, Mdb};
+use hfs_item_table::{Place, Row, RowFile, RowFork, RowKind, Table};
 use hfs_model::Fork;
-use hfs_volume::Volume;
+use hfs_volume::{Base, Volume};
 use std::alloc::{AllocError, Global};
 use std::collections::BTreeMap;
 
@@ -178,5 +178,22 @@ impl Maps {
             maps.take(alloc, volume, threads, &record)?;
         }
         Ok(maps)
+    }
+}
+
+/// The table of these rows over a base, in a volume whose master directory block this is.
+pub fn table_over(base: Base, mdb: Mdb, maps: Maps) -> Table
+    ensures { result ≡ table_over base mdb maps }
+{
+    let Maps { by_id, by_name } = maps;
+    Table {
+        base,
+        mdb,
+        by_id,
+        by_name,
+        next_id: mdb.next_id,
+        changed: mdb.modified,
+        hardware_locked: is_hardware_locked(mdb.attributes),
+        software_locked: is_software_locked(mdb.attributes),
     }
 }

@@ -3,11 +3,11 @@ ghost use Rattle.std.specs.Prelude.{◌≡◌, IsTrue, IfOk, OnOk, OnErr};
 ghost use Rattle.hfs_check.specs.VolumeOf.{volume_of};
 ghost use Rattle.hfs_model.specs.Step.{step, is_reading};
 
-use crate::opening::Maps;
-use crate::table::Table;
+use crate::opening::{Maps, table_over};
 use crate::threads::ThreadIds;
 use hfs_catalog::{items_are_records, named_are_records, valences_are_counted};
 use hfs_check::{catalog_is_sound, sound_images_are_lawful};
+use hfs_item_table::Table;
 use hfs_model::{Call, Reply, step_keeps_lawful};
 use hfs_volume::{Volume, file_forks_stay};
 use std::alloc::{AllocError, Global};
@@ -28,8 +28,8 @@ impl Model for Rows {
     ghost coded = { volume_code };
 
     ghost use Rattle.hfs_model.specs.Lawful.{IsLawful};
-    ghost use Rattle.hfs_view.specs.Tables.{IsTable};
-    ghost use Rattle.hfs_view.specs.Tables as tables;
+    ghost use Rattle.hfs_item_table.specs.Tables.{IsTable};
+    ghost use Rattle.hfs_item_table.specs.Tables as tables;
 
     ghost view = { λ r. tables.volume_of r.table };
 
@@ -51,7 +51,7 @@ impl Rows {
         let records = volume.records(alloc)?;
         let threads = ThreadIds::of(alloc, &records)?;
         let maps = Maps::of(alloc, volume, &threads, records)?;
-        let table = Table::over(base, volume.directory(), maps);
+        let table = table_over(base, volume.directory(), maps);
         Ok(Rows { alloc, table })
     }
 
@@ -74,7 +74,7 @@ impl Rows {
         match call {
             Call::GetDirInfo { dir } => Ok(self.table.get_dir_info(*dir)),
             Call::GetCatInfo { dir, name } => Ok(self.table.get_cat_info(*dir, name.as_slice())),
-            Call::GetIndexed { dir, index } => self.table.get_indexed(alloc, *dir, *index),
+            Call::GetIndexed { dir, index } => Ok(self.table.get_indexed(*dir, *index)),
             Call::List { dir } => self.table.list(alloc, *dir),
             Call::ReadFork {
                 dir,

@@ -8,6 +8,8 @@ pub mod Openings
 pub mod SavedPieces
 pub mod Kept
 pub mod Shared
+pub mod ExtentBytes
+pub mod FileExtents
 pub mod StayingBlocks
 pub mod Owned
 pub mod OwnedStay

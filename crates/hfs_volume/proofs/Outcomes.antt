@@ -1,6 +1,6 @@
 -- The outcome of a call whose edit was made.
-use Rattle.std.proofs.Common.{◌≡◌, ⊎_elim, ℕ, ℤ, Bool, cond, true, false, ap, List, refl, sym, ◌∙◌, arith}
-use Rattle.std.specs.Prelude.{Result, Ok, Err, IfOk, IsTrue}
+use Rattle.std.proofs.Common.{◌≡◌, ⊎_elim, ℕ, ℤ, Bool, cond, true, false, ap, subst, List, refl, sym, ◌∙◌, arith}
+use Rattle.std.specs.Prelude.{Result, Ok, Err, IfOk, OnOk, IsTrue}
 use Rattle.std.proofs.lemmas.Bool.{or_cases}
 use Rattle.hfs_model.specs.declared.call.Call.{Call}
 use Rattle.hfs_model.specs.declared.call.Call.TheVariants as call
@@ -13,7 +13,8 @@ use Rattle.hfs_check.specs.VolumeOf.{volume_of}
 use Rattle.hfs_call_edits.specs.declared.editing.Change.{Change}
 use Rattle.hfs_call_edits.specs.Serving.{is_setting}
 use Rattle.hfs_volume.specs.Serving.{is_served, free_in, depth_in, outcome_in}
-use Rattle.hfs_volume.specs.Steps.{IsEditOn}
+use Rattle.hfs_volume.specs.Steps.{IsEditOn, IsAfter, IsOutcome, refusal_reply}
+use Rattle.hfs_call_edits.specs.declared.editing.Refusal.{Refusal}
 use Rattle.hfs_call_edits.specs.declared.editing.Refusal.TheVariants as refused
 use Rattle.hfs_call_edits.specs.Edits.{wants_nodes}
 use Rattle.hfs_blocks.specs.Blocks.{block_at}
@@ -92,3 +93,15 @@ module _ (image : List ℕ) (c : Call) where
   full_outcome free depth is =
       (λ i. (volume_of image, full (is.free_is i) (is.depth_is i)))
       ∙ sym (ap (λ (b : Bool). cond b (volume_of image, full (free_in image) (depth_in image)) (step (volume_of image) c)) is.wanting)
+
+  pub refused_outcome : (reason : Refusal) (reply : Reply) → reply ≡ refusal_reply reason → IsEditOn c image (Err reason) → (volume_of image, reply) ≡ outcome_in image c
+  refused_outcome (refused.Code code) reply same is = (λ i. (volume_of image, same i)) ∙ code_outcome code is
+  refused_outcome (refused.Full free depth) reply same is = (λ i. (volume_of image, same i)) ∙ full_outcome free depth is
+
+-- the same where the volume was changed, or memory was wanting
+pub made_outcome : {E : Type 0} (image : List ℕ) (change : Change) (v : Volume) (edit : Result Change Refusal) → edit ≡ Ok change → (r : Result Reply E) → OnOk r (IsAfter image change v)
+    → IfOk r (λ reply. reply ≡ success change.value) → IfOk r (λ reply. IsOutcome image edit (v, reply))
+made_outcome image change v edit e (Ok reply) after same = λ c is.
+    let own = subst (IsEditOn c image) e is in
+    change_outcome image c change v reply own (after c own) same
+made_outcome image change v edit e (Err error) after same = tt

@@ -1,14 +1,12 @@
 -- No call writes a block that a file owns.
-use Rattle.std.proofs.Common.{◌≡◌, inl, inr, ⊎_elim, ℕ, zero, suc, ◌+◌, ◌*◌, ◌<◌, ◌≤◌, Bool, true, IsTrue, if◌then◌else◌, List, [], ◌∷◌, ◌++◌, length, get_or, map, take, refl, sym, ◌∙◌, ap, subst, arith, ◌⊎◌}
-use Rattle.std.specs.List.{Contains, flat_map, range_with_len, sum_by}
+use Rattle.std.proofs.Common.{◌≡◌, inl, inr, ⊎_elim, ℕ, zero, suc, ◌+◌, ◌*◌, ◌<◌, ◌≤◌, Bool, true, IsTrue, if◌then◌else◌, List, [], ◌∷◌, ◌++◌, length, get_or, take, refl, sym, subst, arith, ◌⊎◌}
+use Rattle.std.specs.List.{range_with_len}
 use Rattle.std.proofs.lemmas.Bool.{cases_lt}
 use Rattle.std.proofs.Math.Nat.{add-mul, suc-mul, mul-le-mul_right}
-use Rattle.std.proofs.lemmas.Grind.{flat_map-append}
 use Rattle.hfs_fields.specs.declared.mdb.Mdb.{Mdb}
 use Rattle.hfs_fields.specs.declared.extent.Extent.{Extent}
-use Rattle.hfs_fields.specs.declared.file_record.FileRecord.{FileRecord}
 use Rattle.hfs_fields.specs.Records.{is_file, file_record_of}
-use Rattle.hfs_blocks.specs.Blocks.{block_at, block_count, run_of}
+use Rattle.hfs_blocks.specs.Blocks.{block_at, run_of}
 use Rattle.hfs_scans.specs.Each.{Each}
 use Rattle.hfs_scans.specs.Elements.{each-append}
 use Rattle.hfs_scans.specs.Members.{In}
@@ -19,11 +17,11 @@ use Rattle.hfs_space.specs.Bitmap.{bitmap_len}
 use Rattle.hfs_space.specs.Extents.{Overflow, extent_blocks}
 use Rattle.hfs_space.specs.ForkLaws.{block_numbers, fork_bytes-same}
 use Rattle.hfs_space.specs.Forks.{blocks_each, run_in}
-use Rattle.hfs_space.specs.Owners.{forks_of, forks_of_file, catalog_fork, extents_in, bad_extents, owned_blocks, owners}
-use Rattle.hfs_catalog.specs.Records.{Record, Catalog}
-use Rattle.hfs_check.specs.Agree.{bitmap_blocks, node_blocks, changing_blocks, IsBeside, Agrees}
+use Rattle.hfs_space.specs.Owners.{forks_of_file, owned_blocks, owners}
+use Rattle.hfs_catalog.specs.Records.{Record}
+use Rattle.hfs_check.specs.Agree.{bitmap_blocks, node_blocks, changing_blocks, IsBeside}
 use Rattle.hfs_check.specs.Parts.{Blocks, mdb_in, overflow_in, extents_nodes, catalog_extents, catalog_nodes, catalog_in, owned_in}
-use Rattle.hfs_check.specs.Sound.{AreBlocksSound, IsSound}
+use Rattle.hfs_check.specs.Sound.{IsSound}
 use Rattle.hfs_volume.specs.Mounted.{fork_record}
 use Rattle.hfs_volume.specs.Sharing.{file_extents, ForksStay, FileForksStay}
 use Rattle.hfs_volume.proofs.StayingBlocks.{same_changing}

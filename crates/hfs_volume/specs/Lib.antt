@@ -4,6 +4,7 @@ pub mod Mounted
 pub mod LeftBytes
 pub mod Opening
 pub mod Saving
+pub mod Layout
 pub mod Sharing
 pub mod Serving
 pub mod Steps

@@ -1,12 +1,17 @@
 -- What those who read beside the writer take from a mounted volume.
-use Rattle.std.specs.Prelude.{◌≡◌, ℕ, IsTrue, List, Some}
+use Rattle.std.specs.Prelude.{◌≡◌, ℕ, IsTrue, List, length, take, Some}
 use Rattle.hfs_fields.specs.declared.extent.Extent.{Extent}
 use Rattle.hfs_fields.specs.declared.file_record.FileRecord.{FileRecord}
-use Rattle.hfs_fields.specs.declared.mdb.Mdb.{Mdb}
 use Rattle.hfs_fields.specs.Records.{is_file, file_record_of}
 use Rattle.hfs_blocks.specs.Blocks.{block_at}
 use Rattle.hfs_scans.specs.Each.{Each}
 use Rattle.hfs_model.specs.declared.call.Fork.{Fork}
+use Rattle.hfs_model.specs.declared.item.File.{File}
+use Rattle.hfs_model.specs.declared.item.Item.{Item}
+use Rattle.hfs_model.specs.declared.item.Kind.TheVariants as kind
+use Rattle.hfs_model.specs.Lawful.{Has}
+use Rattle.hfs_model.specs.Reading.{fork_of}
+use Rattle.hfs_model.specs.Volume.{Volume}
 use Rattle.hfs_space.specs.Extents as extents
 use Rattle.hfs_space.specs.ForkLengths.{all_bytes}
 use Rattle.hfs_space.specs.Forks.{fork_bytes}
@@ -36,6 +41,22 @@ FileForksStay =
 abbrev pub IsFileOf : Catalog → ℕ → Record → Type 0
 IsFileOf catalog id r = (item_with catalog id ≡ Some r) × IsTrue (is_file r.1)
 
+-- the item of that ID is this file
+abbrev pub HasFile : Volume → ℕ → File → Type 0
+HasFile v id file = (i : Item) × Has v.items id i × (i.kind ≡ kind.File file)
+
+-- it is the ID of a file
+abbrev pub IsFileId : Volume → ℕ → Type 0
+IsFileId v id = (file : File) × HasFile v id file
+
+-- they are all extents of a fork of the file of that ID
+abbrev pub AreExtentsOf : Blocks → ℕ → Fork → List Extent → Type 0
+AreExtentsOf blocks id fork es = (r : Record) → IsFileOf (catalog_in blocks) id r → es ≡ file_extents blocks fork (file_record_of r.1)
+
 -- the bytes of these extents' blocks in an image, one extent after the other
 abbrev pub bytes_of_extents : List ℕ → List Extent → List ℕ
 bytes_of_extents image es = all_bytes (block_at image) (mdb_in (block_at image)) es
+
+-- their bytes in a base begin with those of a fork of the file of that ID
+abbrev pub HaveFork : List ℕ → Volume → ℕ → Fork → List Extent → Type 0
+HaveFork base v id fork es = (file : File) → HasFile v id file → fork_of fork file ≡ take (length (fork_of fork file)) (bytes_of_extents base es)

@@ -1,5 +1,5 @@
 -- What the edit of a call makes of an image.
-use Rattle.std.specs.Prelude.{◌≡◌, ℕ, List, Result, Ok}
+use Rattle.std.specs.Prelude.{◌≡◌, ℕ, List, [], ◌∷◌, Result, Ok}
 use Rattle.hfs_blocks.specs.Blocks.{block_at, block_count}
 use Rattle.hfs_model.specs.declared.call.Call.{Call}
 use Rattle.hfs_model.specs.declared.reply.Reply.{Reply}
@@ -35,3 +35,16 @@ IsOutcome image edit outcome = (c : Call) → IsEditOn c image edit → outcome 
 abbrev pub refusal_reply : Refusal → Reply
 refusal_reply (refused.Code code) = refusal code
 refusal_reply (refused.Full free depth) = full free depth
+
+-- ---- calls one after the other
+
+-- a call's reply, and the image that it leaves
+abbrev pub IsMade : List ℕ → Call → Reply → List ℕ → Type 0
+IsMade image c reply next = (volume_of next, reply) ≡ outcome_in image c
+
+-- the replies of calls that were made of an image one after the other, each of what those before it left, and the last image
+abbrev pub AreMade : List ℕ → List Call → List Reply → List ℕ → Type 0
+AreMade image [] [] last = image ≡ last
+AreMade image [] (reply ∷ replies) last = ⊥
+AreMade image (c ∷ cs) [] last = ⊥
+AreMade image (c ∷ cs) (reply ∷ replies) last = (next : List ℕ) × IsMade image c reply next × AreMade next cs replies last

@@ -1,7 +1,17 @@
 //! Bytes that never change, shared by those who read them.
 
 ghost use Rattle.std.specs.Prelude.{◌≡◌, ◌≤◌, length, IfOk, IfErr};
+ghost use Rattle.hfs_blocks.specs.Blocks.{block_at};
+ghost use Rattle.hfs_space.specs.Extents.{AreExtentsWithin};
+ghost use Rattle.hfs_space.specs.Forks.{read_from};
+ghost use Rattle.hfs_check.specs.Parts.{mdb_in};
+ghost use Rattle.hfs_check.specs.Sound.{IsSound};
+ghost use Rattle.hfs_volume.specs.Sharing.{bytes_of_extents};
 
+use crate::extent_bytes::read_extents;
+use hfs_blocks::ImageBytes;
+use hfs_check::read_mdb;
+use hfs_fields::Extent;
 use std::alloc::{AllocError, AllocFailed, Global};
 use std::marker::Model;
 use std::sync::Arc;
@@ -40,6 +50,27 @@ impl Base {
         ensures small { length self.now ≤ 2147483648 }
     {
         &self.bytes
+    }
+
+    /// Bytes of the allocation blocks of these extents, which lie one extent behind the other: those from `offset` on, `count` of
+    /// them or as many as there are. Where the allocation blocks lie is read off the master directory block. The only error is want
+    /// of memory.
+    pub fn read(
+        &self,
+        alloc: Global,
+        extents: &[Extent],
+        offset: u32,
+        count: u32,
+    ) -> Result<Vec<u8>, AllocError>
+        requires sound { IsSound self.now }
+        requires extents { AreExtentsWithin (mdb_in (block_at self.now)).allocation_blocks extents.now }
+        ensures { IfOk result (λ bytes. bytes.items ≡ read_from (bytes_of_extents self.now extents.now) offset count) }
+    {
+        let blocks = ImageBytes {
+            bytes: self.bytes(),
+        };
+        let mdb = read_mdb(&blocks);
+        read_extents(alloc, &blocks, &mdb, extents, offset, count)
     }
 
     /// The same bytes once more, without a copy of them. The only error is want of memory.

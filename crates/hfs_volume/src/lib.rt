@@ -2,6 +2,7 @@
 #![tactic(auto)]
 
 mod base;
+mod extent_bytes;
 mod fork;
 mod fork_laws;
 mod image;

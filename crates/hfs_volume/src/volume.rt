@@ -7,7 +7,6 @@ ghost use Rattle.hfs_model.specs.Children.{entries_of};
 ghost use Rattle.hfs_model.specs.Reading.{get_dir_info, get_cat_info, get_indexed, list, read_fork, part_of};
 ghost use Rattle.hfs_model.specs.FileIds.{resolve_file_id};
 ghost use Rattle.hfs_model.specs.Replies.{success};
-ghost use Rattle.hfs_model.specs.Runs.{run};
 ghost use Rattle.hfs_model.specs.Step.{step, is_reading};
 ghost use Rattle.hfs_catalog.specs.Tree.{catalog_of};
 ghost use Rattle.hfs_check.specs.Parts.{catalog_in, extents_nodes};
@@ -21,7 +20,7 @@ ghost use Rattle.hfs_queries.specs.Queries.{AreEntries};
 ghost use Rattle.hfs_volume.specs.Saving.{HasWritten};
 ghost use Rattle.hfs_call_edits.specs.Serving.{is_setting};
 ghost use Rattle.hfs_volume.specs.Serving.{is_served, outcome_in};
-ghost use Rattle.hfs_volume.specs.Steps.{IsEditIn, IsAfter, IsOutcome};
+ghost use Rattle.hfs_volume.specs.Steps.{IsEditIn, IsAfter, IsOutcome, AreMade};
 ghost use Rattle.hfs_queries.specs.Told.{IsCatalog, pick};
 ghost use Rattle.hfs_volume.specs.Mounted.{IsMounted, AreForksIn};
 
@@ -141,11 +140,9 @@ impl Volume {
     /// before the one that it met have been made.
     pub fn run(&mut self, alloc: Global, calls: &[Call]) -> Result<Vec<Reply>, AllocError>
         requires { All (λ call. IsTrue (is_served call)) calls.now }
-        ensures outcome { IfOk result (λ replies. (volume_of self.new.current, replies.items) ≡ run (volume_of self.old.current) calls.now) }
+        ensures made { IfOk result (λ replies. AreMade self.old.current calls.now replies.items self.new.current) }
         ensures base { self.new.base ≡ self.old.base }
     {
-        enough_is_step();
-        reading_needs_none();
         let mut replies = Vec::new(alloc);
         for call in calls {
             let reply = self.call(alloc, call)?;

@@ -3,20 +3,12 @@ use crate::mounted::{mounted, small_volume};
 use crate::writers::LimitedWriter;
 use hfs_fixtures::{SmallVolume, lay, small_image};
 use hfs_model::{Bytes, Call, Info, Value};
-use hfs_volume::{ItemSettings, Volume};
+use hfs_volume::Volume;
 use std::alloc::{AllocError, Global};
 use std::test::Fail;
 
 /// The bytes 1 to 16.
 const ONE_TO_SIXTEEN: [u8; 16] = [1, 2, 3, 4, 5, 6, 7, 8, 9, 10, 11, 12, 13, 14, 15, 16];
-
-/// Three dates, and Finder bytes that are all $AA.
-const SETTINGS: ItemSettings = ItemSettings {
-    created: 1,
-    modified: 2,
-    backup: 3,
-    info: [0xaa; 32],
-};
 
 /// What is told of an item of the root.
 fn info_of(volume: &Volume, name: &[u8]) -> Result<Info, Fail> {
@@ -38,13 +30,28 @@ fn bytes_of(alloc: Global, volume: &Volume) -> Result<Vec<u8>, Fail> {
 
 /// The code of SetFInfo on a name in a folder.
 fn set_info(volume: &mut Volume, alloc: Global, dir: u32, name: &[u8]) -> Result<i16, AllocError> {
-    let reply = volume.set_f_info(alloc, dir, name, &ONE_TO_SIXTEEN, 7)?;
+    let call = Call::SetFInfo {
+        dir,
+        name: Bytes::from_slice(alloc, name)?,
+        info: ONE_TO_SIXTEEN,
+        now: 7,
+    };
+    let reply = volume.call(alloc, &call)?;
     Ok(reply.code)
 }
 
-/// The code of SetCatInfo on a name in a folder.
+/// The code of SetCatInfo on a name in a folder, with the dates 1 to 3 and Finder bytes that are all $AA.
 fn set_dates(volume: &mut Volume, alloc: Global, dir: u32, name: &[u8]) -> Result<i16, AllocError> {
-    let reply = volume.set_cat_info(alloc, dir, name, &SETTINGS, 8)?;
+    let call = Call::SetCatInfo {
+        dir,
+        name: Bytes::from_slice(alloc, name)?,
+        created: 1,
+        modified: 2,
+        backup: 3,
+        info: [0xaa; 32],
+        now: 8,
+    };
+    let reply = volume.call(alloc, &call)?;
     Ok(reply.code)
 }
 
@@ -56,7 +63,14 @@ fn set_lock(
     name: &[u8],
     locked: bool,
 ) -> Result<i16, AllocError> {
-    let reply = volume.set_lock(alloc, dir, name, locked, 9)?;
+    let name = Bytes::from_slice(alloc, name)?;
+    let now = 9;
+    let call = if locked {
+        Call::SetFLock { dir, name, now }
+    } else {
+        Call::RstFLock { dir, name, now }
+    };
+    let reply = volume.call(alloc, &call)?;
     Ok(reply.code)
 }
 

@@ -1,18 +1,19 @@
 //! What those who read beside the writer take from a mounted volume.
 
 ghost use Rattle.std.specs.Prelude.{◌≡◌, IfOk};
-ghost use Rattle.hfs_fields.specs.Records.{file_record_of};
 ghost use Rattle.hfs_blocks.specs.Blocks.{block_at};
-ghost use Rattle.hfs_catalog.specs.Records.{Record};
+ghost use Rattle.hfs_space.specs.Extents.{AreExtentsWithin};
 ghost use Rattle.hfs_check.specs.Agree.{Agrees};
 ghost use Rattle.hfs_check.specs.Parts.{mdb_in, catalog_in};
+ghost use Rattle.hfs_check.specs.Sound.{IsSound};
 ghost use Rattle.hfs_check.specs.VolumeOf.{volume_of};
-ghost use Rattle.hfs_volume.specs.Sharing.{file_extents, IsFileOf};
+ghost use Rattle.hfs_volume.specs.Sharing.{file_extents, IsFileId, AreExtentsOf, HaveFork};
 
 use super::Volume;
 use crate::base::Base;
 use crate::fork::fork_record;
-use hfs_catalog::{CatalogRecord, ItemRecord, by_id, read_records};
+use crate::fork_laws::file_forks_stay;
+use hfs_catalog::{CatalogRecord, ItemRecord, by_id, items_are_records, read_records};
 use hfs_check::trees_are_sound;
 use hfs_fields::{Extent, FileRecord, Mdb};
 use hfs_model::Fork;
@@ -23,6 +24,7 @@ impl Volume {
     /// The bytes as they were mounted, without a copy of them. The only error is want of memory.
     pub fn base(&self) -> Result<Base, AllocError>
         ensures base { IfOk result (λ base. base ≡ self.now.base) }
+        ensures sound { IsSound self.now.base }
         ensures agrees { Agrees self.now.base self.now.current }
     {
         self.image.base()
@@ -65,5 +67,26 @@ impl Volume {
         let _image = &self.image;
         let (kind, record) = fork_record(file, fork);
         fork_extents(alloc, &self.extents_nodes(), file.id, kind, &record.extents)
+    }
+
+    /// All extents of a fork of the file of that ID, those of the extents tree among them. Their bytes in the base begin with those
+    /// of the fork, which is as long as its logical length. A file without a thread is looked for among all records. The only error
+    /// is want of memory.
+    pub fn extents(&self, alloc: Global, id: u32, fork: Fork) -> Result<Vec<Extent>, AllocError>
+        requires { IsFileId (volume_of self.now.current) id }
+        ensures extents { IfOk result (λ extents. AreExtentsOf (block_at self.now.current) id fork extents.items) }
+        ensures within { IfOk result (λ extents. AreExtentsWithin (mdb_in (block_at self.now.base)).allocation_blocks extents.items) }
+        ensures bytes { IfOk result (λ extents. HaveFork self.now.base (volume_of self.now.current) id fork extents.items) }
+    {
+        items_are_records();
+        file_forks_stay();
+        let _image = &self.image;
+        let Some(item) = by_id(&self.catalog_nodes(), id) else {
+            unreachable!()
+        };
+        match &item.body {
+            ItemRecord::File(file) => self.file_extents(alloc, file, fork),
+            ItemRecord::Folder(_) => unreachable!(),
+        }
     }
 }

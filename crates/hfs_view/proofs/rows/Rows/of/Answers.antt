@@ -13,18 +13,18 @@ of-requires-2-clause-right c =
 pub invariant_of-result : goal.invariant_of-result
 invariant_of-result c =
     let v = c.args.volume.now in
-    let is : c.over-table.result ≡ table_over v.base (mdb_in (block_at v.current)) c.in_ok-maps.maps =
-    c.over-table.ensures ∙ (λ i. table_over (c.in_ok-base.ensures.base i) (c.directory.ensures i) c.in_ok-maps.maps) in (
-      is_table v.base v.current c.in_ok-maps.maps c.in_ok-base.ensures.agrees c.catalog_is_sound.ensures c.items_are_records.ensures c.named_are_records.ensures c.sound_images_are_lawful.ensures
-          c.in_ok-maps.ensures c.over-table.result is,
-      is_lawful v.base v.current c.in_ok-maps.maps c.in_ok-base.ensures.agrees c.catalog_is_sound.ensures c.items_are_records.ensures c.named_are_records.ensures c.sound_images_are_lawful.ensures
-          c.in_ok-maps.ensures c.over-table.result is,
+    let is : c.table_over-table.result ≡ table_over v.base (mdb_in (block_at v.current)) c.in_ok-maps.maps =
+    c.table_over-table.ensures ∙ (λ i. table_over (c.in_ok-base.ensures.base i) (c.directory.ensures i) c.in_ok-maps.maps) in (
+      is_table v.base v.current c.in_ok-maps.maps c.in_ok-base.ensures.sound c.in_ok-base.ensures.agrees c.catalog_is_sound.ensures c.items_are_records.ensures c.named_are_records.ensures c.sound_images_are_lawful.ensures
+          c.in_ok-maps.ensures c.table_over-table.result is,
+      is_lawful v.base v.current c.in_ok-maps.maps c.in_ok-base.ensures.sound c.in_ok-base.ensures.agrees c.catalog_is_sound.ensures c.items_are_records.ensures c.named_are_records.ensures c.sound_images_are_lawful.ensures
+          c.in_ok-maps.ensures c.table_over-table.result is,
     )
 
 pub returns : goal.returns
 returns c =
     let v = c.args.volume.now in
-    let is : c.over-table.result ≡ table_over v.base (mdb_in (block_at v.current)) c.in_ok-maps.maps =
-    c.over-table.ensures ∙ (λ i. table_over (c.in_ok-base.ensures.base i) (c.directory.ensures i) c.in_ok-maps.maps) in
-    is_volume v.base v.current c.in_ok-maps.maps c.in_ok-base.ensures.agrees c.catalog_is_sound.ensures c.items_are_records.ensures c.named_are_records.ensures c.sound_images_are_lawful.ensures
-    c.in_ok-maps.ensures c.over-table.result is
+    let is : c.table_over-table.result ≡ table_over v.base (mdb_in (block_at v.current)) c.in_ok-maps.maps =
+    c.table_over-table.ensures ∙ (λ i. table_over (c.in_ok-base.ensures.base i) (c.directory.ensures i) c.in_ok-maps.maps) in
+    is_volume v.base v.current c.in_ok-maps.maps c.in_ok-base.ensures.sound c.in_ok-base.ensures.agrees c.catalog_is_sound.ensures c.items_are_records.ensures c.named_are_records.ensures c.sound_images_are_lawful.ensures
+    c.in_ok-maps.ensures c.table_over-table.result is

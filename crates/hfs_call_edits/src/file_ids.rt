@@ -1,0 +1,171 @@
+//! What CreateFileId and DeleteFileId make of a volume's blocks.
+
+ghost use Rattle.std.specs.Prelude.{◌≡◌, IsTrue, IfOk};
+ghost use Rattle.hfs_fields.specs.Names.{is_item_name};
+ghost use Rattle.hfs_blocks.specs.Layers.{changes, over, AreWithin};
+ghost use Rattle.hfs_catalog_edits.specs.Rooms.{IsInFile, HasRoom};
+ghost use Rattle.hfs_check.specs.Parts.{mdb_in, catalog_in, catalog_nodes};
+ghost use Rattle.hfs_check.specs.Sound.{AreBlocksSound};
+ghost use Rattle.hfs_check.specs.VolumeOf.{volume_in};
+ghost use Rattle.hfs_changes.specs.OnBlocks.{at_time};
+ghost use Rattle.hfs_model.specs.declared.call.Call.TheVariants as call;
+ghost use Rattle.hfs_model.specs.declared.reply.Value.TheVariants as value;
+ghost use Rattle.hfs_model.specs.FileIds.{to_create_file_id, to_delete_file_id};
+ghost use Rattle.hfs_call_edits.specs.Edits.{IsEditOf, ChoosesFile};
+ghost use Rattle.hfs_call_edits.specs.FileIds.{IsThreadless, MakesCreateFileId, MakesDeleteFileId};
+ghost use Rattle.hfs_call_edits.specs.Settings.{IsCatalogFile, IsFileUnder};
+
+use crate::catalog_patch::{close_catalog, open_catalog};
+use crate::choosing_file_ids;
+use crate::editing::{Change, Editing, Refusal};
+use crate::file_threads::{add_file_thread, drop_file_thread};
+use crate::settings::at_time;
+use hfs_blocks::{Blocks, Patch, Run};
+use hfs_changes::{
+    catalog_edits_are_steps, choice_stands, create_file_id_makes, delete_file_id_makes,
+    file_is_threadless,
+};
+use hfs_check::trees_are_sound;
+use hfs_fields::{CatKey, FileRecord, Mdb};
+use hfs_model::Value;
+use std::alloc::{AllocError, Global};
+
+/// The patch that gives a file, of this key and this record, a thread. The only error is want of memory.
+fn patch_create_file_id<B: Blocks>(
+    alloc: Global,
+    below: &B,
+    runs: &[Run],
+    mdb: &Mdb,
+    key: &CatKey,
+    file: &FileRecord,
+    now: u32,
+) -> Result<Patch, AllocError>
+    requires sound { AreBlocksSound (B.total below.now) (B.blocks below.now) }
+    requires nodes { IsCatalogFile runs.now (B.total below.now) (B.blocks below.now) }
+    requires mdb { mdb.now ≡ mdb_in (B.blocks below.now) }
+    requires name { IsTrue (is_item_name key.now.name) }
+    requires there { IsFileUnder key.now (catalog_in (B.blocks below.now)) }
+    requires threadless { IsThreadless (catalog_in (B.blocks below.now)) key.now file.now }
+    requires inside { IsInFile (catalog_nodes (B.blocks below.now)) }
+    requires room { HasRoom (catalog_nodes (B.blocks below.now)) }
+    ensures makes { IfOk result (λ patch. MakesCreateFileId key.now file.now now (B.blocks below.now) (over (changes patch) (B.blocks below.now))) }
+    ensures within { IfOk result (λ patch. AreWithin (changes patch) (B.total below.now)) }
+{
+    trees_are_sound();
+    create_file_id_makes();
+    let mut nodes = open_catalog(alloc, below, runs);
+    add_file_thread(alloc, &mut nodes, key, file)?;
+    close_catalog(below, runs, nodes, &at_time(mdb, now))
+}
+
+/// The patch that takes a file's thread away, of this key and this record. The only error is want of memory.
+fn patch_delete_file_id<B: Blocks>(
+    alloc: Global,
+    below: &B,
+    runs: &[Run],
+    mdb: &Mdb,
+    key: &CatKey,
+    file: &FileRecord,
+    now: u32,
+) -> Result<Patch, AllocError>
+    requires sound { AreBlocksSound (B.total below.now) (B.blocks below.now) }
+    requires nodes { IsCatalogFile runs.now (B.total below.now) (B.blocks below.now) }
+    requires mdb { mdb.now ≡ mdb_in (B.blocks below.now) }
+    requires name { IsTrue (is_item_name key.now.name) }
+    requires there { IsFileUnder key.now (catalog_in (B.blocks below.now)) }
+    ensures makes { IfOk result (λ patch. MakesDeleteFileId key.now file.now now (B.blocks below.now) (over (changes patch) (B.blocks below.now))) }
+    ensures within { IfOk result (λ patch. AreWithin (changes patch) (B.total below.now)) }
+{
+    trees_are_sound();
+    delete_file_id_makes();
+    let mut nodes = open_catalog(alloc, below, runs);
+    drop_file_thread(alloc, &mut nodes, key, file)?;
+    close_catalog(below, runs, nodes, &at_time(mdb, now))
+}
+
+impl<B: Blocks> Editing<'_, B> {
+    /// The folder's file of that name, which has no thread, with its key, or the code that refuses to give it one.
+    fn file_without_id(&self, dir: u32, name: &[u8]) -> Result<(CatKey, FileRecord), i16>
+        ensures choice { ChoosesFile (B.blocks self.now) (to_create_file_id (volume_in (B.blocks self.now)) dir name.now) result }
+        ensures threadless { IfOk result (λ f. IsThreadless (catalog_in (B.blocks self.now)) f.0 f.1) }
+    {
+        choice_stands();
+        file_is_threadless();
+        choosing_file_ids::file_without_id(&self.nodes(), self.mdb, dir, name)
+    }
+
+    /// The file of that ID, which has a thread, with its key, or the code that refuses to take it away.
+    fn file_with_id(&self, id: u32) -> Result<(CatKey, FileRecord), i16>
+        ensures { ChoosesFile (B.blocks self.now) (to_delete_file_id (volume_in (B.blocks self.now)) id) result }
+    {
+        choice_stands();
+        choosing_file_ids::file_with_id(&self.nodes(), self.mdb, id)
+    }
+
+    /// A change of blocks and of the moment of the last change alone, which answers an ID.
+    fn change_to_id(&self, patch: Patch, id: u32, now: u32) -> Change
+        ensures { result ≡ record { patch = patch; counts = at_time now (mdb_in (B.blocks self.now)); value = value.Id id } }
+    {
+        Change {
+            value: Value::Id(id),
+            ..self.change(patch, now)
+        }
+    }
+
+    /// What CreateFileId makes of the volume. The only error is want of memory.
+    pub(crate) fn create_file_id(
+        &self,
+        alloc: Global,
+        dir: u32,
+        name: &[u8],
+        now: u32,
+    ) -> Result<Result<Change, Refusal>, AllocError>
+        ensures { IfOk result (λ edit. IsEditOf (call.CreateFileId dir name.now now) (B.total self.now) (B.blocks self.now) edit) }
+    {
+        catalog_edits_are_steps();
+        self.catalog_is_in_file();
+        let (key, file) = match self.file_without_id(dir, name) {
+            Ok(chosen) => chosen,
+            Err(code) => return Ok(Err(Refusal::Code(code))),
+        };
+        if let Some(refusal) = self.lacks_one() {
+            return Ok(Err(refusal));
+        }
+        let patch = patch_create_file_id(
+            alloc,
+            self.blocks,
+            self.catalog,
+            self.mdb,
+            &key,
+            &file,
+            now,
+        )?;
+        Ok(Ok(self.change_to_id(patch, file.id, now)))
+    }
+
+    /// What DeleteFileId makes of the volume. The only error is want of memory.
+    pub(crate) fn delete_file_id(
+        &self,
+        alloc: Global,
+        id: u32,
+        now: u32,
+    ) -> Result<Result<Change, Refusal>, AllocError>
+        ensures { IfOk result (λ edit. IsEditOf (call.DeleteFileId id now) (B.total self.now) (B.blocks self.now) edit) }
+    {
+        catalog_edits_are_steps();
+        let (key, file) = match self.file_with_id(id) {
+            Ok(chosen) => chosen,
+            Err(code) => return Ok(Err(Refusal::Code(code))),
+        };
+        let patch = patch_delete_file_id(
+            alloc,
+            self.blocks,
+            self.catalog,
+            self.mdb,
+            &key,
+            &file,
+            now,
+        )?;
+        Ok(Ok(self.change(patch, now)))
+    }
+}

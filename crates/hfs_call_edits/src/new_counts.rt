@@ -1,0 +1,49 @@
+//! The counts of a volume with one more item.
+
+ghost use Rattle.std.specs.Prelude.{◌≡◌, ◌≢◌, ◌+◌, ◌==◌, ◌<◌, ◌^◌};
+ghost use Rattle.hfs_catalog_edits.specs.Swaps.{one_if};
+ghost use Rattle.hfs_changes.specs.CreationLaws.{with_file, with_folder};
+
+use hfs_fields::Mdb;
+
+/// The ID of the root folder.
+const ROOT_ID: u32 = 2;
+
+/// How many items of the root an item of this folder is.
+fn root_item(dir: u32) -> u16
+    ensures { result ≡ one_if (dir == 2) }
+{
+    if dir == ROOT_ID { 1 } else { 0 }
+}
+
+/// The counts with one more file in this folder, which has the next ID, changed at `now`.
+pub(crate) fn with_file(mdb: &Mdb, dir: u32, now: u32) -> Mdb
+    requires next_id { mdb.now.next_id ≢ 4294967295 }
+    requires files { mdb.now.files + 1 < 2 ^ 32 }
+    requires root { mdb.now.root_files + one_if (dir == 2) < 2 ^ 16 }
+    ensures { result ≡ with_file dir now mdb.now }
+{
+    Mdb {
+        modified: now,
+        next_id: mdb.next_id + 1,
+        root_files: mdb.root_files + root_item(dir),
+        files: mdb.files + 1,
+        ..*mdb
+    }
+}
+
+/// The counts with one more folder in this one, which has the next ID, changed at `now`.
+pub(crate) fn with_folder(mdb: &Mdb, dir: u32, now: u32) -> Mdb
+    requires next_id { mdb.now.next_id ≢ 4294967295 }
+    requires folders { mdb.now.folders + 1 < 2 ^ 32 }
+    requires root { mdb.now.root_folders + one_if (dir == 2) < 2 ^ 16 }
+    ensures { result ≡ with_folder dir now mdb.now }
+{
+    Mdb {
+        modified: now,
+        next_id: mdb.next_id + 1,
+        root_folders: mdb.root_folders + root_item(dir),
+        folders: mdb.folders + 1,
+        ..*mdb
+    }
+}

@@ -1,0 +1,78 @@
+//! Where a new item comes: the folder that Create and DirCreate choose, or the first code that refuses them.
+
+ghost use Rattle.std.specs.Prelude.{◌≡◌};
+ghost use Rattle.hfs_catalog.specs.Tree.{catalog_of};
+ghost use Rattle.hfs_check.specs.VolumeOf.{volume_in};
+ghost use Rattle.hfs_model.specs.Choices.{to_create};
+ghost use Rattle.hfs_queries.specs.Told.{IsCatalog};
+ghost use Rattle.hfs_call_edits.specs.NewPlaces.{children_in, new_place, ChoosesPlace};
+
+use crate::choosing::lock_code;
+use crate::editing::Editing;
+use hfs_blocks::Blocks;
+use hfs_btree::Nodes;
+use hfs_catalog::{CatalogItem, ItemRecord, lookup};
+use hfs_fields::{CatKey, Mdb, Name};
+use hfs_model::{BAD_NAME, DUPLICATE, FOLDER_FULL, NOT_A_FOLDER};
+use hfs_queries::folder;
+
+/// The most children that a folder has.
+const MOST_CHILDREN: u16 = 65_535;
+
+/// The last ID, which no item gets.
+const LAST_ID: u32 = 4_294_967_295;
+
+/// A new item's name, and its folder's key with the number of its children.
+#[derive(Clone, Copy)]
+pub(crate) struct NewPlace {
+    pub(crate) name: Name,
+    pub(crate) folder: CatKey,
+    pub(crate) children: u16,
+}
+
+/// How many children a folder has. A file has none.
+fn child_count(item: &CatalogItem) -> u16
+    ensures { result ≡ children_in item.now.body }
+{
+    match item.body {
+        ItemRecord::Folder(folder) => folder.valence,
+        ItemRecord::File(_) => 0,
+    }
+}
+
+/// Where a new item of that name comes in the folder, or the code that refuses it.
+fn new_place<N: Nodes>(nodes: &N, mdb: &Mdb, dir: u32, name: &[u8]) -> Result<NewPlace, i16>
+    requires { IsCatalog (N.nodes nodes.now) }
+    ensures { result ≡ new_place mdb.now (catalog_of (N.nodes nodes.now)) dir name.now }
+{
+    if let Some(code) = lock_code(mdb) {
+        return Err(code);
+    }
+    let Some(name) = Name::new(name) else {
+        return Err(BAD_NAME);
+    };
+    let Some(item) = folder(nodes, dir) else {
+        return Err(NOT_A_FOLDER);
+    };
+    if lookup(nodes, dir, &name).is_some() {
+        return Err(DUPLICATE);
+    }
+    let children = child_count(&item);
+    if children >= MOST_CHILDREN || mdb.next_id == LAST_ID {
+        return Err(FOLDER_FULL);
+    }
+    Ok(NewPlace {
+        name,
+        folder: item.key,
+        children,
+    })
+}
+
+impl<B: Blocks> Editing<'_, B> {
+    /// Where a new item of that name comes in the folder, or the code that refuses it.
+    pub(crate) fn new_place(&self, dir: u32, name: &[u8]) -> Result<NewPlace, i16>
+        ensures { ChoosesPlace (B.blocks self.now) (to_create (volume_in (B.blocks self.now)) dir name.now) dir name.now result }
+    {
+        new_place(&self.nodes(), self.mdb, dir, name)
+    }
+}

@@ -1,0 +1,15 @@
+pub mod Members
+pub mod Counts
+pub mod NameOrder
+pub mod Chosen
+pub mod Named
+pub mod Cut
+pub mod LookedUp
+pub mod Edited
+pub mod Left
+pub mod Counted
+pub mod Added
+pub mod Created
+pub mod Moved
+pub mod Gone
+pub mod Above

@@ -1,0 +1,6 @@
+pub mod Facts
+pub mod Places
+pub mod Tables
+pub mod Shown
+pub mod Names
+pub mod Edits

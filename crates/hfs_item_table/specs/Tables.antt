@@ -1,0 +1,83 @@
+-- The items that rows stand for.
+use Rattle.std.specs.Prelude.{◌≡◌, ℕ, ◌*◌, ◌≤◌, IsTrue, List, map, Some}
+use Rattle.std.specs.Ordering.{nat_cmp}
+use Rattle.std.specs.FinMap as finite
+use Rattle.std.specs.BTreeMap as tree
+use Rattle.hfs_fields.specs.declared.mdb.Mdb.{Mdb}
+use Rattle.hfs_fields.specs.Order.{same_name}
+use Rattle.hfs_blocks.specs.Blocks.{block_at}
+use Rattle.hfs_model.specs.declared.item.Item.{Item}
+use Rattle.hfs_model.specs.declared.item.File.{File}
+use Rattle.hfs_model.specs.declared.item.Kind.{Kind}
+use Rattle.hfs_model.specs.declared.item.Kind.TheVariants as kind
+use Rattle.hfs_model.specs.Volume.{Volume, Items, Entry}
+use Rattle.hfs_model.specs.Children.{valence}
+use Rattle.hfs_model.specs.Lawful.{Has}
+use Rattle.hfs_space.specs.Extents.{AreExtentsWithin, block_total}
+use Rattle.hfs_space.specs.Forks.{fork_bytes}
+use Rattle.hfs_check.specs.Parts.{mdb_in}
+use Rattle.hfs_check.specs.Sound.{IsSound}
+use Rattle.hfs_volume.specs.Layout.{SameLayout}
+use Rattle.hfs_item_table.specs.declared.place.Place.{Place}
+use Rattle.hfs_item_table.specs.declared.row.Row.{Row}
+use Rattle.hfs_item_table.specs.declared.row.RowKind.{RowKind}
+use Rattle.hfs_item_table.specs.declared.row.RowKind.TheVariants.{Folder, File as FileRow}
+use Rattle.hfs_item_table.specs.declared.row.RowFile.{RowFile}
+use Rattle.hfs_item_table.specs.declared.row.RowFork.{RowFork}
+use Rattle.hfs_item_table.specs.declared.table.Table.{Table}
+use Rattle.hfs_item_table.specs.Places.{place_cmp, place}
+
+-- the bytes of a fork in the base
+unfoldable pub bytes_of : List ℕ → Mdb → RowFork → List ℕ
+bytes_of base mdb fork = fork_bytes (block_at base) mdb fork.extents.items fork.size
+
+abbrev pub file_of : List ℕ → Mdb → RowFile → File
+file_of base mdb f = record { kept = f.kept; locked = f.locked; has_thread = f.has_thread; «data» = bytes_of base mdb f.«data»; resource = bytes_of base mdb f.resource }
+
+abbrev pub kind_of : List ℕ → Mdb → RowKind → Kind
+kind_of base mdb (Folder kept children) = kind.Folder kept
+kind_of base mdb (FileRow f) = kind.File (file_of base mdb f)
+
+-- the item of a row
+abbrev pub item_of : List ℕ → Mdb → Row → Item
+item_of base mdb r = record { parent = r.parent; name = r.name; created = r.created; modified = r.modified; backup = r.backup; finder = r.finder; kind = kind_of base mdb r.kind }
+
+-- the items of rows, by their IDs
+abbrev pub shown : {X : Type 0} → (X → Item) → List (ℕ × X) → List Entry
+shown show rows = map (λ e. (e.0, show e.1)) rows
+
+-- the items of a table
+unfoldable pub items_of : Table → Items
+items_of t = finite.from_sorted (shown (item_of t.base t.mdb) t.by_id.entries)
+
+-- the volume of a table
+abbrev pub volume_of : Table → Volume
+volume_of t = record { items = items_of t; next_id = t.next_id; changed = t.changed; hardware_locked = t.hardware_locked; software_locked = t.software_locked }
+
+-- the fork's extents lie in the volume, and have room for its bytes
+pub record IsForkIn (mdb : Mdb) (fork : RowFork) : Type 0 where
+  pub within : AreExtentsWithin mdb.allocation_blocks fork.extents.items
+  pub room : fork.size ≤ block_total fork.extents.items * mdb.allocation_block_size
+
+-- a folder's row has the number of its children, and a file's forks lie in the volume
+abbrev pub IsKindOf : Items → Mdb → ℕ → RowKind → Type 0
+IsKindOf items mdb id (Folder kept children) = children ≡ valence (finite.entries items) id
+IsKindOf items mdb id (FileRow f) = IsForkIn mdb f.«data» × IsForkIn mdb f.resource
+
+-- each item stands at its place, and nothing else
+pub record AreNames (items : Items) (names : tree.BTreeMap Place ℕ) : Type 0 where
+  pub sorted : tree.IsOrdered place_cmp names
+  pub has : (id : ℕ) (i : Item) → Has items id i → tree.get place_cmp names (place i.parent i.name) ≡ Some id
+  pub item : (p : Place) (id : ℕ) → tree.get place_cmp names p ≡ Some id → (i : Item) × Has items id i × (i.parent ≡ p.parent) × IsTrue (same_name i.name p.name)
+
+-- the base is a sound image, and in it the allocation blocks lie where this master directory block says
+pub record IsOver (base : List ℕ) (mdb : Mdb) : Type 0 where
+  pub sound : IsSound base
+  pub layout : SameLayout (mdb_in (block_at base)) mdb
+
+-- what holds of each table
+pub record IsTable (t : Table) : Type 0 where
+  pub sorted : tree.IsOrdered nat_cmp t.by_id
+  pub names : AreNames (items_of t) t.by_name
+  pub rows : (id : ℕ) (r : Row) → tree.get nat_cmp t.by_id id ≡ Some r → IsKindOf (items_of t) t.mdb id r.kind
+  pub over : IsOver t.base t.mdb

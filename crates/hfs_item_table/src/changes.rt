@@ -1,0 +1,254 @@
+//! What each change makes of a table. A change that `step` refuses leaves it.
+ghost use Rattle.std.specs.Prelude.{◌≡◌, OnOk, OnErr};
+ghost use Rattle.hfs_model.specs.Changes.{set_f_info, set_cat_info, set_lock, create, delete, new_file, new_folder};
+ghost use Rattle.hfs_model.specs.FileIds.{create_file_id, delete_file_id};
+ghost use Rattle.hfs_model.specs.Lawful.{AreLawful};
+ghost use Rattle.hfs_model.specs.Step.{step};
+ghost use Rattle.hfs_item_table.specs.Edits.{Leaves, IsNew};
+ghost use Rattle.hfs_item_table.specs.Tables.{kind_of, items_of, volume_of, IsTable};
+
+use crate::edits;
+use crate::edits::new_row;
+use crate::place::Place;
+use crate::row::RowKind;
+use crate::table::Table;
+use hfs_fields::Name;
+use hfs_model::{Call, reading_leaves};
+use std::alloc::{AllocError, Global};
+
+impl Table {
+    /// Sets the first 16 Finder bytes of a file.
+    pub fn set_f_info(&mut self, dir: u32, name: &[u8], info: &[u8; 16], now: u32)
+        requires { IsTable self.old }
+        ensures { Leaves self.new (set_f_info (volume_of self.old) dir name.now info.now now).0 }
+    {
+        let id = match self.to_set_f_info(dir, name) {
+            Ok(found) => found.id,
+            Err(_) => return,
+        };
+        edits::set_finder(&mut self.by_id, id, info);
+        self.changed = now;
+    }
+
+    /// Sets the dates and the Finder bytes of an item.
+    pub fn set_cat_info(
+        &mut self,
+        dir: u32,
+        name: &[u8],
+        created: u32,
+        modified: u32,
+        backup: u32,
+        info: [u8; 32],
+        now: u32,
+    )
+        requires { IsTable self.old }
+        ensures { Leaves self.new (set_cat_info (volume_of self.old) dir name.now created modified backup info now).0 }
+    {
+        let id = match self.to_set_cat_info(dir, name) {
+            Ok(found) => found.id,
+            Err(_) => return,
+        };
+        edits::set_info(&mut self.by_id, id, created, modified, backup, info);
+        self.changed = now;
+    }
+
+    /// Locks or unlocks a file.
+    pub fn set_lock(&mut self, locked: bool, dir: u32, name: &[u8], now: u32)
+        requires { IsTable self.old }
+        ensures { Leaves self.new (set_lock locked (volume_of self.old) dir name.now now).0 }
+    {
+        let id = match self.file_to_change(dir, name) {
+            Ok(found) => found.id,
+            Err(_) => return,
+        };
+        edits::set_lock(&mut self.by_id, id, locked);
+        self.changed = now;
+    }
+
+    /// Gives a file a thread.
+    pub fn create_file_id(&mut self, dir: u32, name: &[u8], now: u32)
+        requires { IsTable self.old }
+        ensures { Leaves self.new (create_file_id (volume_of self.old) dir name.now now).0 }
+    {
+        let id = match self.to_create_file_id(dir, name) {
+            Ok(found) => found.id,
+            Err(_) => return,
+        };
+        edits::set_thread(&mut self.by_id, id, true);
+        self.changed = now;
+    }
+
+    /// Takes the thread of the file of that ID away.
+    pub fn delete_file_id(&mut self, id: u32, now: u32)
+        requires { IsTable self.old }
+        ensures { Leaves self.new (delete_file_id (volume_of self.old) id now).0 }
+    {
+        let id = match self.to_delete_file_id(id) {
+            Ok(found) => found.id,
+            Err(_) => return,
+        };
+        edits::set_thread(&mut self.by_id, id, false);
+        self.changed = now;
+    }
+
+    /// A new item of that kind. The only error is want of memory, and then the items are as they were.
+    #[tactic(auto, unfolding(hfs_model::specs::Changes::create))]
+    fn add(&mut self, kind: RowKind, dir: u32, name: &[u8], now: u32) -> Result<(), AllocError>
+        requires table { IsTable self.old }
+        requires lawful { AreLawful (items_of self.old) self.old.next_id }
+        requires kind { IsNew self.old.mdb kind }
+        ensures ok { OnOk result (Leaves self.new (create (kind_of self.old.base self.old.mdb kind) (volume_of self.old) dir name.now now).0) }
+        ensures err { OnErr result (Leaves self.new (volume_of self.old)) }
+    {
+        let id = match self.to_create(dir, name) {
+            Ok(id) => id,
+            Err(_) => return Ok(()),
+        };
+        let Some(name) = Name::new(name) else {
+            unreachable!()
+        };
+        let place = Place { parent: dir, name };
+        let row = new_row(kind, dir, name, now);
+        let Ok(_tied) = self.by_name.insert(place, id) else {
+            return Err(AllocError);
+        };
+        let Ok(_old) = self.by_id.insert(id, row) else {
+            self.by_name.remove(&place);
+            return Err(AllocError);
+        };
+        edits::add_child(&mut self.by_id, dir, now);
+        self.next_id = id + 1;
+        self.changed = now;
+        Ok(())
+    }
+
+    /// A new, empty file. The only error is want of memory, and then the items are as they were.
+    pub fn create(
+        &mut self,
+        alloc: Global,
+        dir: u32,
+        name: &[u8],
+        now: u32,
+    ) -> Result<(), AllocError>
+        requires table { IsTable self.old }
+        requires lawful { AreLawful (items_of self.old) self.old.next_id }
+        ensures ok { OnOk result (Leaves self.new (create new_file (volume_of self.old) dir name.now now).0) }
+        ensures err { OnErr result (Leaves self.new (volume_of self.old)) }
+    {
+        let kind = edits::new_file(alloc);
+        self.add(kind, dir, name, now)
+    }
+
+    /// A new, empty folder. The only error is want of memory, and then the items are as they were.
+    pub fn dir_create(&mut self, dir: u32, name: &[u8], now: u32) -> Result<(), AllocError>
+        requires table { IsTable self.old }
+        requires lawful { AreLawful (items_of self.old) self.old.next_id }
+        ensures ok { OnOk result (Leaves self.new (create new_folder (volume_of self.old) dir name.now now).0) }
+        ensures err { OnErr result (Leaves self.new (volume_of self.old)) }
+    {
+        let kind = edits::new_folder();
+        self.add(kind, dir, name, now)
+    }
+
+    /// Takes an item out.
+    pub fn delete(&mut self, dir: u32, name: &[u8], now: u32)
+        requires { IsTable self.old }
+        ensures { Leaves self.new (delete (volume_of self.old) dir name.now now).0 }
+    {
+        let found = match self.to_delete(dir, name) {
+            Ok(found) => found,
+            Err(_) => return,
+        };
+        let id = found.id;
+        let from = found.row.place();
+        self.by_name.remove(&from);
+        self.by_id.remove(&id);
+        edits::drop_child(&mut self.by_id, dir, now);
+        self.changed = now;
+    }
+
+    /// Takes in a change. One that is refused leaves the table, as do calls that read. The only error is want of memory,
+    /// and then the items are as they were.
+    pub fn absorb(&mut self, alloc: Global, call: &Call) -> Result<(), AllocError>
+        requires table { IsTable self.old }
+        requires lawful { AreLawful (items_of self.old) self.old.next_id }
+        ensures ok { OnOk result (Leaves self.new (step (volume_of self.old) call.now).0) }
+        ensures err { OnErr result (Leaves self.new (volume_of self.old)) }
+    {
+        reading_leaves();
+        if call.is_reading() {
+            return Ok(());
+        }
+        match call {
+            Call::Create { dir, name, now } => self.create(alloc, *dir, name.as_slice(), *now),
+            Call::DirCreate { dir, name, now } => self.dir_create(*dir, name.as_slice(), *now),
+            Call::SetFInfo {
+                dir,
+                name,
+                info,
+                now,
+            } => {
+                self.set_f_info(*dir, name.as_slice(), info, *now);
+                Ok(())
+            }
+            Call::SetCatInfo {
+                dir,
+                name,
+                created,
+                modified,
+                backup,
+                info,
+                now,
+            } => {
+                self.set_cat_info(
+                    *dir,
+                    name.as_slice(),
+                    *created,
+                    *modified,
+                    *backup,
+                    *info,
+                    *now,
+                );
+                Ok(())
+            }
+            Call::SetFLock { dir, name, now } => {
+                self.set_lock(true, *dir, name.as_slice(), *now);
+                Ok(())
+            }
+            Call::RstFLock { dir, name, now } => {
+                self.set_lock(false, *dir, name.as_slice(), *now);
+                Ok(())
+            }
+            Call::Delete { dir, name, now } => {
+                self.delete(*dir, name.as_slice(), *now);
+                Ok(())
+            }
+            Call::Rename {
+                dir,
+                name,
+                new_name,
+                now,
+            } => self.rename(*dir, name.as_slice(), new_name.as_slice(), *now),
+            Call::CatMove {
+                dir,
+                name,
+                new_dir,
+                now,
+            } => self.cat_move(*dir, name.as_slice(), *new_dir, *now),
+            Call::CreateFileId { dir, name, now } => {
+                self.create_file_id(*dir, name.as_slice(), *now);
+                Ok(())
+            }
+            Call::DeleteFileId { id, now } => {
+                self.delete_file_id(*id, *now);
+                Ok(())
+            }
+            Call::GetDirInfo { .. }
+            | Call::GetCatInfo { .. }
+            | Call::GetIndexed { .. }
+            | Call::List { .. }
+            | Call::ReadFork { .. }
+            | Call::ResolveFileId { .. } => unreachable!(),
+        }
+    }
+}

@@ -1,0 +1,78 @@
+//! Items that get another name, or stand in another folder. A change that `step` refuses leaves the table.
+ghost use Rattle.std.specs.Prelude.{OnOk, OnErr};
+ghost use Rattle.hfs_model.specs.Changes.{rename, cat_move};
+ghost use Rattle.hfs_item_table.specs.Edits.{Leaves};
+ghost use Rattle.hfs_item_table.specs.Tables.{volume_of, IsTable};
+
+use crate::edits;
+use crate::place::Place;
+use crate::table::Table;
+use hfs_fields::Name;
+use std::alloc::AllocError;
+
+impl Table {
+    /// Gives an item another name. The only error is want of memory, and then the items are as they were.
+    pub fn rename(
+        &mut self,
+        dir: u32,
+        name: &[u8],
+        new_name: &[u8],
+        now: u32,
+    ) -> Result<(), AllocError>
+        requires { IsTable self.old }
+        ensures ok { OnOk result (Leaves self.new (rename (volume_of self.old) dir name.now new_name.now now).0) }
+        ensures err { OnErr result (Leaves self.new (volume_of self.old)) }
+    {
+        let found = match self.to_rename(dir, name, new_name) {
+            Ok(found) => found,
+            Err(_) => return Ok(()),
+        };
+        let Some(new_name) = Name::new(new_name) else {
+            unreachable!()
+        };
+        let id = found.id;
+        let from = found.row.place();
+        let to = Place {
+            parent: from.parent,
+            name: new_name,
+        };
+        let Ok(()) = edits::move_name(&mut self.by_name, id, &from, to) else {
+            return Err(AllocError);
+        };
+        edits::set_name(&mut self.by_id, id, new_name);
+        self.changed = now;
+        Ok(())
+    }
+
+    /// Puts an item into another folder. The only error is want of memory, and then the items are as they were.
+    pub fn cat_move(
+        &mut self,
+        dir: u32,
+        name: &[u8],
+        new_dir: u32,
+        now: u32,
+    ) -> Result<(), AllocError>
+        requires { IsTable self.old }
+        ensures ok { OnOk result (Leaves self.new (cat_move (volume_of self.old) dir name.now new_dir now).0) }
+        ensures err { OnErr result (Leaves self.new (volume_of self.old)) }
+    {
+        let found = match self.to_move(dir, name, new_dir) {
+            Ok(found) => found,
+            Err(_) => return Ok(()),
+        };
+        let id = found.id;
+        let from = found.row.place();
+        let to = Place {
+            parent: new_dir,
+            name: from.name,
+        };
+        let Ok(()) = edits::move_name(&mut self.by_name, id, &from, to) else {
+            return Err(AllocError);
+        };
+        edits::set_parent(&mut self.by_id, id, new_dir);
+        edits::drop_child(&mut self.by_id, dir, now);
+        edits::add_child(&mut self.by_id, new_dir, now);
+        self.changed = now;
+        Ok(())
+    }
+}

@@ -1,0 +1,60 @@
+//! What rows keep of an item.
+ghost use Rattle.std.specs.Prelude.{◌≡◌};
+ghost use Rattle.hfs_item_table.specs.Places.{place};
+
+use crate::place::Place;
+use hfs_fields::{Extent, Name};
+
+/// A folder or a file, without its ID. Its bytes stand in the base.
+#[derive(Drop)]
+pub struct Row {
+    /// The ID of the folder that holds it, 1 of the root.
+    pub parent: u32,
+    pub name: Name,
+    pub created: u32,
+    pub modified: u32,
+    pub backup: u32,
+    pub finder: [u8; 32],
+    pub kind: RowKind,
+}
+
+impl Row {
+    /// Where its item stands.
+    pub fn place(&self) -> Place
+        ensures { result ≡ place self.now.parent self.now.name }
+    {
+        Place {
+            parent: self.parent,
+            name: self.name,
+        }
+    }
+}
+
+/// Whether it is a folder or a file, and what only such an item has.
+#[derive(Drop)]
+pub enum RowKind {
+    Folder {
+        kept: [u8; 70],
+        /// The number of its children.
+        children: u32,
+    },
+    File(RowFile),
+}
+
+/// What only a file has.
+#[derive(Drop)]
+pub struct RowFile {
+    pub kept: [u8; 102],
+    pub locked: bool,
+    /// Whether the catalog has a thread record of it.
+    pub has_thread: bool,
+    pub data: RowFork,
+    pub resource: RowFork,
+}
+
+/// Where a fork's bytes stand, and how many there are.
+#[derive(Drop)]
+pub struct RowFork {
+    pub extents: Vec<Extent>,
+    pub size: u32,
+}

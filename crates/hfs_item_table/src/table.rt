@@ -1,0 +1,339 @@
+//! Rows by their IDs, and their IDs by the places of their items.
+ghost use Rattle.std.specs.Prelude.{◌≡◌, ◌+◌, ◌<◌, ◌^◌, IfSome, IfOk, [], pos, nat_lt, slice_get, if◌then◌else◌};
+ghost use Rattle.hfs_model.specs.declared.codes.TheConstants.{END_OF_FILE};
+ghost use Rattle.hfs_model.specs.declared.reply.Value.TheVariants as value;
+ghost use Rattle.std.specs.Option.{option_map};
+ghost use Rattle.std.specs.FinMap as finite;
+ghost use Rattle.hfs_model.specs.Children.{entry_at, child_named, is_folder, is_folder_kind};
+ghost use Rattle.hfs_model.specs.FileIds.{resolve_file_id};
+ghost use Rattle.hfs_model.specs.Lawful.{Has, IsLawful};
+ghost use Rattle.hfs_model.specs.Reading.{get_dir_info, get_cat_info, get_indexed, list, read_fork, part_of};
+ghost use Rattle.hfs_model.specs.Replies.{refusal, success, info_of, infos};
+ghost use Rattle.hfs_item_table.specs.Tables.{bytes_of, item_of, kind_of, items_of, volume_of, IsForkIn, IsKindOf, IsTable};
+
+use crate::place::Place;
+use crate::row::{Row, RowFork, RowKind};
+use hfs_fields::{Mdb, Name};
+use hfs_model::{
+    BAD_NAME, Bytes, END_OF_FILE, Fork, Info, Infos, ItemKind, NOT_A_FOLDER, NOT_FOUND, PARAMETER,
+    Reply, Value, children_are_one,
+};
+use hfs_volume::Base;
+use std::alloc::{AllocError, Global};
+use std::collections::BTreeMap;
+
+/// The rows of a volume's items over its base.
+#[derive(Drop)]
+pub struct Table {
+    pub base: Base,
+    /// The base's master directory block.
+    pub mdb: Mdb,
+    pub by_id: BTreeMap<u32, Row>,
+    pub by_name: BTreeMap<Place, u32>,
+    pub next_id: u32,
+    pub changed: u32,
+    pub hardware_locked: bool,
+    pub software_locked: bool,
+}
+
+/// A row that was looked up, with the ID of its item.
+#[derive(Clone, Copy)]
+pub struct Found<'a> {
+    pub id: u32,
+    pub row: &'a Row,
+}
+
+fn refusal(code: i16) -> Reply
+    ensures { result ≡ refusal code }
+{
+    Reply {
+        code,
+        value: Value::Nothing,
+    }
+}
+
+fn success(value: Value) -> Reply
+    ensures { result ≡ success value }
+{
+    Reply { code: 0, value }
+}
+
+/// The reply of these bytes, which were read from an offset on of a fork that has `length` bytes: -39 where `count` of them
+/// end behind the fork.
+fn part_reply(bytes: Vec<u8>, size: u32, offset: u32, count: u32) -> Reply
+    ensures { result ≡ record { code = if nat_lt size (offset + count) then END_OF_FILE else pos 0; value = value.Bytes bytes.items } }
+{
+    let code = if u64::from(size) < u64::from(offset) + u64::from(count) {
+        END_OF_FILE
+    } else {
+        0
+    };
+    Reply {
+        code,
+        value: Value::Bytes(Bytes::new(bytes)),
+    }
+}
+
+impl Table {
+    /// The ID that the next new item gets.
+    pub fn next_id(&self) -> u32
+        ensures next { result ≡ self.now.next_id }
+        ensures small { self.now.next_id < 2 ^ 32 }
+    {
+        self.next_id
+    }
+
+    /// The row of an ID.
+    pub(crate) fn row(&self, id: u32) -> Option<&Row>
+        requires { IsTable self.now }
+        ensures entry { entry_at (finite.entries (items_of self.now)) id ≡ option_map (λ r. (id, item_of self.now.base self.now.mdb r.now)) result }
+        ensures sound { IfSome result (λ r. IsKindOf (items_of self.now) self.now.mdb id r.now.kind) }
+        ensures has { IfSome result (λ r. Has (items_of self.now) id (item_of self.now.base self.now.mdb r.now)) }
+    {
+        self.by_id.get(&id)
+    }
+
+    /// What is told of the item of a row.
+    #[tactic(auto, unfolding(hfs_model::specs::Replies::info_of))]
+    fn info(&self, id: u32, row: &Row) -> Info
+        requires table { IsTable self.now }
+        requires row { IsKindOf (items_of self.now) self.now.mdb id row.now.kind }
+        ensures { result ≡ info_of (finite.entries (items_of self.now)) (id, item_of self.now.base self.now.mdb row.now) }
+    {
+        let mut info = Info {
+            id,
+            parent: row.parent,
+            name: row.name,
+            kind: ItemKind::Folder,
+            created: row.created,
+            modified: row.modified,
+            backup: row.backup,
+            finder: row.finder,
+            locked: false,
+            has_id: false,
+            valence: 0,
+            data_len: 0,
+            res_len: 0,
+        };
+        match &row.kind {
+            RowKind::Folder { children, .. } => info.valence = *children,
+            RowKind::File(file) => {
+                info.kind = ItemKind::File;
+                info.locked = file.locked;
+                info.has_id = file.has_thread;
+                info.data_len = file.data.size;
+                info.res_len = file.resource.size;
+            }
+        }
+        info
+    }
+
+    /// Whether it is the ID of a folder.
+    pub(crate) fn is_folder(&self, id: u32) -> bool
+        requires { IsTable self.now }
+        ensures { result ≡ is_folder (finite.entries (items_of self.now)) id }
+    {
+        match self.row(id) {
+            None => false,
+            Some(row) => matches!(&row.kind, RowKind::Folder { .. }),
+        }
+    }
+
+    /// The folder's item of that name.
+    pub(crate) fn child(&self, dir: u32, name: &Name) -> Option<Found<'_>>
+        requires { IsTable self.now }
+        ensures entry { child_named (finite.entries (items_of self.now)) dir name.now ≡ option_map (λ f. (f.id, item_of self.now.base self.now.mdb f.row.now)) result }
+        ensures sound { IfSome result (λ f. IsKindOf (items_of self.now) self.now.mdb f.id f.row.now.kind) }
+        ensures has { IfSome result (λ f. Has (items_of self.now) f.id (item_of self.now.base self.now.mdb f.row.now)) }
+    {
+        let place = Place {
+            parent: dir,
+            name: *name,
+        };
+        let Some(id) = self.by_name.get(&place) else {
+            return None;
+        };
+        match self.row(*id) {
+            None => None,
+            Some(row) => Some(Found { id: *id, row }),
+        }
+    }
+
+    /// What is told of the folder of that ID.
+    #[tactic(auto, unfolding(hfs_model::specs::Reading::get_dir_info))]
+    pub fn get_dir_info(&self, dir: u32) -> Reply
+        requires { IsTable self.now }
+        ensures { result ≡ get_dir_info (finite.entries (items_of self.now)) dir }
+    {
+        let Some(row) = self.row(dir) else {
+            return refusal(NOT_A_FOLDER);
+        };
+        match &row.kind {
+            RowKind::Folder { .. } => success(Value::One(self.info(dir, row))),
+            RowKind::File(_) => refusal(NOT_A_FOLDER),
+        }
+    }
+
+    /// What is told of the folder's item of that name.
+    #[tactic(auto, unfolding(hfs_model::specs::Reading::get_cat_info))]
+    pub fn get_cat_info(&self, dir: u32, name: &[u8]) -> Reply
+        requires { IsTable self.now }
+        ensures { result ≡ get_cat_info (finite.entries (items_of self.now)) dir name.now }
+    {
+        let Some(name) = Name::new(name) else {
+            return refusal(BAD_NAME);
+        };
+        if !self.is_folder(dir) {
+            return refusal(NOT_A_FOLDER);
+        }
+        match self.child(dir, &name) {
+            Some(found) => success(Value::One(self.info(found.id, found.row))),
+            None => refusal(NOT_FOUND),
+        }
+    }
+
+    /// The folder and the name of the file of that ID, which has a thread.
+    #[tactic(auto, unfolding(hfs_model::specs::FileIds::resolve_file_id))]
+    pub fn resolve_file_id(&self, id: u32) -> Reply
+        requires { IsTable self.now }
+        ensures { result ≡ resolve_file_id (finite.entries (items_of self.now)) id }
+    {
+        match self.file_of_id(id) {
+            Ok(found) => success(Value::Place {
+                dir: found.row.parent,
+                name: found.row.name,
+            }),
+            Err(code) => refusal(code),
+        }
+    }
+
+    /// What is told of a folder's children, in name order.
+    fn infos(&self, alloc: Global, dir: u32) -> Result<Vec<Info>, AllocError>
+        requires table { IsTable self.now }
+        requires lawful { IsLawful (volume_of self.now) }
+        requires below { dir + 1 < 2 ^ 32 }
+        ensures { IfOk result (λ v. v.items ≡ infos (finite.entries (items_of self.now)) dir) }
+    {
+        children_are_one();
+        let mut infos = Vec::new(alloc);
+        for (_place, id) in self.by_name.range(Place::first(dir)..Place::first(dir + 1)) {
+            let Some(row) = self.row(*id) else {
+                unreachable!()
+            };
+            infos.push(self.info(*id, row))?;
+        }
+        Ok(infos)
+    }
+
+    /// What is told of the folder's children, in name order.
+    #[tactic(auto, unfolding(hfs_model::specs::Reading::list))]
+    pub fn list(&self, alloc: Global, dir: u32) -> Result<Reply, AllocError>
+        requires table { IsTable self.now }
+        requires lawful { IsLawful (volume_of self.now) }
+        ensures { IfOk result (λ reply. reply ≡ list (finite.entries (items_of self.now)) dir) }
+    {
+        if !self.is_folder(dir) {
+            return Ok(refusal(NOT_A_FOLDER));
+        }
+        let _next = self.next_id();
+        let infos = self.infos(alloc, dir)?;
+        Ok(success(Value::Many(Infos::new(infos))))
+    }
+
+    /// What is told of the folder's child at that place in name order, counted from 0.
+    fn info_at(&self, dir: u32, at: u32) -> Option<Info>
+        requires table { IsTable self.now }
+        requires lawful { IsLawful (volume_of self.now) }
+        requires below { dir + 1 < 2 ^ 32 }
+        ensures { result ≡ slice_get (infos (finite.entries (items_of self.now)) dir) at }
+    {
+        children_are_one();
+        let mut left = at;
+        let names = self.by_name.range(Place::first(dir)..Place::first(dir + 1));
+        for (_place, id) in names {
+            if left == 0 {
+                let Some(row) = self.row(*id) else {
+                    unreachable!()
+                };
+                return Some(self.info(*id, row));
+            }
+            left -= 1;
+        }
+        None
+    }
+
+    /// What is told of the folder's child at that place in name order, counted from 1. The places before it are passed, and no
+    /// more is told. Takes no memory.
+    #[tactic(auto, unfolding(hfs_model::specs::Reading::get_indexed))]
+    pub fn get_indexed(&self, dir: u32, index: u32) -> Reply
+        requires table { IsTable self.now }
+        requires lawful { IsLawful (volume_of self.now) }
+        ensures { result ≡ get_indexed (finite.entries (items_of self.now)) dir index }
+    {
+        if index == 0 {
+            return refusal(PARAMETER);
+        }
+        if !self.is_folder(dir) {
+            return refusal(NOT_A_FOLDER);
+        }
+        let _next = self.next_id();
+        match self.info_at(dir, index - 1) {
+            Some(info) => success(Value::One(info)),
+            None => refusal(NOT_FOUND),
+        }
+    }
+
+    /// A part of one of a file's forks.
+    fn fork_part(
+        &self,
+        alloc: Global,
+        fork: &RowFork,
+        offset: u32,
+        count: u32,
+    ) -> Result<Reply, AllocError>
+        requires table { IsTable self.now }
+        requires fork { IsForkIn self.now.mdb fork.now }
+        ensures { IfOk result (λ reply. reply ≡ part_of (bytes_of self.now.base self.now.mdb fork.now) offset count) }
+    {
+        let rest = fork.size.saturating_sub(offset);
+        let bytes = self
+            .base
+            .read(alloc, &fork.extents, offset, count.min(rest))?;
+        Ok(part_reply(bytes, fork.size, offset, count))
+    }
+
+    /// At most `count` bytes of a file's fork, from an offset on.
+    #[tactic(auto, unfolding(hfs_model::specs::Reading::read_fork))]
+    pub fn read_fork(
+        &self,
+        alloc: Global,
+        dir: u32,
+        name: &[u8],
+        fork: Fork,
+        offset: u32,
+        count: u32,
+    ) -> Result<Reply, AllocError>
+        requires { IsTable self.now }
+        ensures { IfOk result (λ reply. reply ≡ read_fork (finite.entries (items_of self.now)) dir name.now fork offset count) }
+    {
+        if count > 65536 {
+            return Ok(refusal(PARAMETER));
+        }
+        let Some(name) = Name::new(name) else {
+            return Ok(refusal(BAD_NAME));
+        };
+        if !self.is_folder(dir) {
+            return Ok(refusal(NOT_A_FOLDER));
+        }
+        let Some(found) = self.child(dir, &name) else {
+            return Ok(refusal(NOT_FOUND));
+        };
+        match &found.row.kind {
+            RowKind::Folder { .. } => Ok(refusal(NOT_FOUND)),
+            RowKind::File(file) => match fork {
+                Fork::DataFork => self.fork_part(alloc, &file.data, offset, count),
+                Fork::ResFork => self.fork_part(alloc, &file.resource, offset, count),
+            },
+        }
+    }
+}

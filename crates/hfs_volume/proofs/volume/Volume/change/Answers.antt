@@ -1,0 +1,18 @@
+-- The edit is the call's, and so is its outcome.
+use Rattle.std.proofs.Common.{◌∙◌, ap, subst, ℕ, List}
+use Rattle.hfs_volume.specs.Image.{ImageValue}
+use Rattle.hfs_volume.specs.Steps.{IsEditOn}
+use Rattle.hfs_volume.proofs.Outcomes.{if_ok}
+use Rattle.hfs_volume.proofs.volume.Volume.change.Goals as goal
+
+pub make-requires : goal.make-requires
+make-requires c =
+    let same = ap (λ (v : ImageValue). v.current) ((λ i. (c.new.ensures i).image.now) ∙ c.blocks-blocks.ensures ∙ c.self.view_is) in
+    record { of = c.args.call.now; is = subst (λ (image : List ℕ). IsEditOn c.args.call.now image c.in_ok-edit.edit) same c.in_ok-edit.ensures }
+
+pub returns-clause-outcome : goal.returns-clause-outcome
+returns-clause-outcome c =
+    let same = ap (λ (v : ImageValue). v.current) ((λ i. (c.new.ensures i).image.now) ∙ c.blocks-blocks.ensures ∙ c.self.view_is) in
+    if_ok c.make.result _ _
+    (λ reply outcome. outcome c.args.call.now (subst (λ (image : List ℕ). IsEditOn c.args.call.now image c.in_ok-edit.edit) same c.in_ok-edit.ensures))
+    c.make.ensures.outcome
