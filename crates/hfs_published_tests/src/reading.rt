@@ -22,6 +22,17 @@ fn one_of(reply: Result<Reply, ViewFault>) -> Option<Info> {
     }
 }
 
+/// Whether the reply has these bytes.
+fn is_part(reply: &Result<Reply, ViewFault>, wanted: &[u8]) -> bool {
+    let Ok(reply) = reply else {
+        return false;
+    };
+    match &reply.value {
+        Value::Bytes(bytes) => *bytes.as_slice() == *wanted,
+        _ => false,
+    }
+}
+
 #[test]
 fn items_are_found(rt: HostRuntime) -> Result<(), Fail> {
     let (mut pair, mut viewer, _other) = begun(&rt, rt.alloc(), SmallVolume::New)?;
@@ -47,17 +58,7 @@ fn a_fork_is_read(rt: HostRuntime) -> Result<(), Fail> {
     let name = Bytes::from_slice(rt.alloc(), b"f")?;
     let reply = viewer.read_fork(rt.alloc(), 2, name, Fork::DataFork, 1995, 10);
     assert_eq!(rt; code_of(&reply), Some(-39));
-    let Ok(
-        Reply {
-            code: _,
-            value: Value::Bytes(bytes),
-        },
-    ) = reply
-    else {
-        return Err(Fail::from("no bytes"));
-    };
-    assert_eq!(rt; bytes.as_slice().len(), 5);
-    assert!(rt; *bytes.as_slice() == *b"\xee\xef\xf0\xf1\xf2".as_slice());
+    assert!(rt; is_part(&reply, b"\xee\xef\xf0\xf1\xf2"));
     pair.end(&rt);
     Ok(())
 }

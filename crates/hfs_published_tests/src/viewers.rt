@@ -1,6 +1,5 @@
 //! A pair with two viewers, and what they are asked.
-ghost use Rattle.std.specs.Prelude.{◌≡◌, ◌×◌, IfOk, OnOk, All};
-ghost use Rattle.hfs_published.specs.Histories.{Known};
+ghost use Rattle.std.specs.Prelude.{◌≡◌, IfOk, OnOk};
 
 use hfs_fixtures::{SmallVolume, small_image};
 use hfs_model::{Bytes, Call, Reply, Value};
