@@ -1,7 +1,6 @@
 //! What each call makes of a volume's blocks.
 
 ghost use Rattle.std.specs.Prelude.{◌≡◌, false, IfOk, IsTrue};
-ghost use Rattle.hfs_model.specs.declared.call.Call.TheVariants as call;
 ghost use Rattle.hfs_model.specs.Step.{is_reading};
 ghost use Rattle.hfs_call_edits.specs.Edits.{IsEditOf};
 ghost use Rattle.hfs_call_edits.specs.Serving.{is_setting};
@@ -52,20 +51,6 @@ impl<B: Blocks> Editing<'_, B> {
             | Call::ResolveFileId { .. } => unreachable!(),
         }
     }
-
-    // STUB
-    fn delete(
-        &self,
-        _alloc: Global,
-        dir: u32,
-        name: &[u8],
-        now: u32,
-    ) -> Result<Result<Change, Refusal>, AllocError>
-        ensures { IfOk result (λ edit. IsEditOf (call.Delete dir name.now now) (B.total self.now) (B.blocks self.now) edit) }
-    {
-        unreachable!()
-    }
-    // END STUB
 
     /// What a call that sets makes of the volume: dates, Finder bytes or a lock.
     fn set(&self, alloc: Global, call: &Call) -> Result<Result<Change, Refusal>, AllocError>
