@@ -7,6 +7,7 @@ mod choosing;
 mod choosing_delete;
 mod counts;
 mod deleting;
+mod deleting_file;
 mod dropping;
 mod editing;
 mod recorded;
