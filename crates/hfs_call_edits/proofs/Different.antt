@@ -19,7 +19,7 @@ use Rattle.hfs_check.specs.Sound.{AreBlocksSound}
 
 -- ---- lists in which no number stands twice
 
-distinct-left : (xs ys : List ℕ) → IsDistinct (xs ++ ys) → IsDistinct xs
+pub distinct-left : (xs ys : List ℕ) → IsDistinct (xs ++ ys) → IsDistinct xs
 distinct-left [] ys h = tt
 distinct-left (x ∷ xs) ys h = (each-left (IsOther x) xs ys h.0, distinct-left xs ys h.1)
 
@@ -33,7 +33,7 @@ each-take P zero (x ∷ xs) h = tt
 each-take P (suc n) [] h = tt
 each-take P (suc n) (x ∷ xs) h = (h.0, each-take P n xs h.1)
 
-distinct-take : (n : ℕ) (xs : List ℕ) → IsDistinct xs → IsDistinct (take n xs)
+pub distinct-take : (n : ℕ) (xs : List ℕ) → IsDistinct xs → IsDistinct (take n xs)
 distinct-take zero [] h = tt
 distinct-take zero (x ∷ xs) h = tt
 distinct-take (suc n) [] h = tt

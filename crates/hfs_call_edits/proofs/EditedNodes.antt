@@ -3,11 +3,13 @@ use Rattle.std.proofs.Common.{◌≡◌, ℕ, zero, suc, ◌+◌, ◌-◌, ◌<�
 use Rattle.std.specs.List.{flat_map}
 use Rattle.hfs_blocks.specs.declared.run.Run.{Run}
 use Rattle.hfs_blocks.specs.Blocks.{run_of, nodes_in}
-use Rattle.hfs_blocks.specs.Layers.{Changes, over}
+use Rattle.hfs_fields.specs.declared.mdb.Mdb.{Mdb}
+use Rattle.hfs_blocks.specs.Layers.{Changes, Numbered, changes, over}
 use Rattle.hfs_btree.specs.Sound.{IsOther}
 use Rattle.hfs_btree.specs.Tree.{Store}
 use Rattle.hfs_btree_edits.specs.Files.{is_one_of, beside, AreWithin}
 use Rattle.hfs_scans.specs.Each.{Each}
+use Rattle.hfs_space_edits.specs.Released.{HasReleased}
 use Rattle.hfs_check.specs.Parts.{Blocks}
 use Rattle.hfs_call_edits.proofs.Placed.{IsAt, place_of, behind_first, at_place}
 
@@ -56,3 +58,11 @@ module _ (ns all : List ℕ) (c m : ℕ) (is : ns ≡ take c all) (f g : Blocks)
 pub same_on : (f g : Blocks) (ns : List ℕ) → Each (λ n. g n ≡ f n) ns → map g ns ≡ map f ns
 same_on f g [] h = refl
 same_on f g (n ∷ ns) h = λ i. h.0 i ∷ same_on f g ns h.1 i
+
+-- ---- bits that were cleared in a patch without blocks
+
+pub released_from : (old new : Blocks) (mdb own : Mdb) → own ≡ mdb → (freed : List ℕ) (l : Numbered) → l ≡ [] → HasReleased own.bitmap_start own.allocation_blocks freed (over (changes l) old) new
+    → HasReleased mdb.bitmap_start mdb.allocation_blocks freed old new
+released_from old new mdb own e freed l empty released =
+    subst (λ (b : Blocks). HasReleased mdb.bitmap_start mdb.allocation_blocks freed b new) (λ i. over (changes (empty i)) old)
+    (subst (λ (m : Mdb). HasReleased m.bitmap_start m.allocation_blocks freed (over (changes l) old) new) e released)

@@ -66,7 +66,7 @@ module _ (total : ℕ) (old : Blocks) (h : AreBlocksSound total old) (extents ca
   unfolding catalog_blocks tree_blocks
   cs_is = cat.numbers
 
-  extents_old : nodes_in old extents ≡ extents_nodes old
+  pub extents_old : nodes_in old extents ≡ extents_nodes old
   unfolding extents_nodes extents_blocks
   extents_old = nodes_in-tree_blocks old mdb mdb.extents_file mdb.extents_file_size extents ext.numbers
 

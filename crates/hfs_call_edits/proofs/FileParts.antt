@@ -13,9 +13,10 @@ use Rattle.hfs_space.specs.Extents.{extent_blocks}
 use Rattle.hfs_space.specs.Forks.{run_in}
 use Rattle.hfs_space.specs.ForkLaws.{block_numbers}
 use Rattle.hfs_space.specs.Owners.{bad_extents}
-use Rattle.hfs_check.specs.Parts.{Blocks, mdb_in, overflow_in, catalog_extents, owned_in}
+use Rattle.hfs_space.specs.TreeFiles.{node_count, tree_blocks}
+use Rattle.hfs_check.specs.Parts.{Blocks, mdb_in, extents_blocks, overflow_in, catalog_extents, owned_in}
 use Rattle.hfs_check.specs.Sound.{AreBlocksSound}
-use Rattle.hfs_call_edits.proofs.Different.{numbers-are, distinct-rows, owned-parts, others}
+use Rattle.hfs_call_edits.proofs.Different.{distinct-left, distinct-take, numbers-are, distinct-rows, owned-parts, others}
 
 -- ---- numbers beside a row
 
@@ -100,3 +101,17 @@ module _ (total : ℕ) (old : Blocks) (h : AreBlocksSound total old) where
 
   pub extents_apart : Each (λ n. Each (IsOther n) (block_numbers mdb (catalog_extents old))) (block_numbers mdb mdb.extents_file)
   extents_apart = turned (block_numbers mdb (catalog_extents old)) (block_numbers mdb mdb.extents_file) catalog_apart
+
+  -- ---- no block stands twice in the extents tree's file
+
+  distinct-right : (xs ys : List ℕ) → IsDistinct (xs ++ ys) → IsDistinct ys
+  distinct-right [] ys d = d
+  distinct-right (x ∷ xs) ys d = distinct-right xs ys d.1
+
+  pub extents_different : IsDistinct (extents_blocks old)
+  unfolding extents_blocks tree_blocks
+  extents_different =
+      let behind_catalog = distinct-right (block_numbers mdb (catalog_extents old)) (block_numbers mdb (others total old h ++ rest)) (subst IsDistinct (numbers-append (catalog_extents old) (others total old h ++ rest)) all_distinct) in
+      let behind_others = distinct-right (block_numbers mdb (others total old h)) (block_numbers mdb rest) (subst IsDistinct (numbers-append (others total old h) rest) behind_catalog) in
+      distinct-take (node_count mdb.extents_file_size) (block_numbers mdb mdb.extents_file)
+      (distinct-left (block_numbers mdb mdb.extents_file) (block_numbers mdb (bad_extents (overflow_in old))) (subst IsDistinct (numbers-append mdb.extents_file (bad_extents (overflow_in old))) behind_others))

@@ -1,23 +1,16 @@
-use Rattle.std.proofs.Common.{rules, ◌≡◌, ◌<◌, IfOk, ℕ, ◌+◌, ◌-◌, ◌*◌, ◌≤◌, length, ◌/◌, ◌%◌, Bool, true, false, nat_eq, nat_lt, List, [], ◌∷◌, ◌++◌, slice_index_or, slice_set, bit_and, bit_or, Fits, w8, w32, w64, Bor, MutBor}
-use Rattle.std.specs.List.{flat_map}
-use Rattle.hfs_blocks.specs.Blocks.{run_of, nodes_in}
-use Rattle.hfs_blocks.specs.Layers.{changes, over, AreWithin}
-use Rattle.hfs_btree_edits.specs.Files.{beside}
-use Rattle.hfs_space.specs.Extents.{AreExtentsWithin, block_total, extent_blocks}
-use Rattle.hfs_space_edits.specs.Dropped.{HasDroppedOverflow}
-use Rattle.hfs_space_edits.specs.Released.{HasReleased}
-use Rattle.hfs_changes.specs.Deletion.{without_one_file}
-use Rattle.hfs_check.specs.Parts.{mdb_in, extents_nodes, catalog_nodes, catalog_in}
-use Rattle.hfs_check.specs.Sound.{AreBlocksSound}
-use Rattle.hfs_call_edits.specs.Deleting.{StaysFolder, ItemDropped, IsItemUnder}
-use Rattle.hfs_call_edits.specs.Edits.{IsExtentsFile}
-use Rattle.hfs_call_edits.specs.Settings.{IsCatalogFile}
+-- The bits were cleared in a patch that had no block.
+use Rattle.std.proofs.Common.{sym, subst}
+use Rattle.hfs_blocks.specs.Layers.{Numbered, changes, over, AreWithin, AreWithin-nothing}
+use Rattle.hfs_check.specs.Parts.{mdb_in}
+use Rattle.hfs_call_edits.proofs.EditedNodes.{released_from}
 use Rattle.hfs_call_edits.proofs.deleting_file.clear_bits.Goals as goal
 
--- src/deleting_file.rt:51:1
 pub returns-clause-released : goal.returns-clause-released
-returns-clause-released g c = ?
+returns-clause-released g c =
+    let old = g.B.Blocks.blocks c.args.below.now in
+    released_from old (over (changes c.release_extents.new.patch) old) (mdb_in old) c.args.mdb.now c.requires.mdb _ c.new-patch.result c.new-patch.ensures c.in_ok-release_extents.ensures.released
 
--- src/deleting_file.rt:51:1
 pub returns-clause-within : goal.returns-clause-within
-returns-clause-within g c = ?
+returns-clause-within g c =
+    let total = g.B.Blocks.total c.args.below.now in
+    c.in_ok-release_extents.ensures.within (subst (λ (l : Numbered). AreWithin (changes l) total) (sym c.new-patch.ensures) (AreWithin-nothing total))
