@@ -184,13 +184,13 @@ module _ (total : ℕ) (old : Blocks) (h : AreBlocksSound total old) (extents ca
               (λ n from. new_other n (λ (two : n ≡ 2). let low = low_bits in let third = h.mdb.bitmap_behind in omega (arith, two, low, third, from)))
               (in_area mdb (catalog_extents old)))
 
+          same_file : tree_blocks (with_counts counts mdb) mdb.extents_file mdb.extents_file_size ≡ tree_blocks mdb mdb.extents_file mdb.extents_file_size
+          unfolding tree_blocks
+          same_file = refl
+
           extents_file_blocks : (m : Mdb) → m ≡ with_counts counts mdb → tree_blocks m m.extents_file m.extents_file_size ≡ extents_blocks old
           unfolding extents_blocks
           extents_file_blocks m e = ap (λ (x : Mdb). tree_blocks x x.extents_file x.extents_file_size) e ∙ same_file
-            where
-              same_file : tree_blocks (with_counts counts mdb) mdb.extents_file mdb.extents_file_size ≡ tree_blocks mdb mdb.extents_file mdb.extents_file_size
-              unfolding tree_blocks
-              same_file = refl
 
           extents_now : extents_nodes b4 ≡ nodes_in b2 extents
           unfolding extents_nodes extents_blocks
@@ -250,6 +250,7 @@ module _ (total : ℕ) (old : Blocks) (h : AreBlocksSound total old) (extents ca
                   ∙ released.counted alone ∙ ap (λ (n : ℕ). n + length freed) (sym h.space.counted)
 
               pub file_gone : IsFileGone id freed counts (nodes_in b3 catalog) old b4
+              unfolding catalog_in
               file_gone = record {
                 edits = edits;
                 beside = subst (SameBesideCounts (old 2)) (sym new_two) put.others;

@@ -1,7 +1,7 @@
 //! What Delete of a file makes of a volume's blocks: its bits of the bitmap, its records of the extents tree, its record of the
 //! catalog, and the counts.
 
-ghost use Rattle.std.specs.Prelude.{◌≡◌, ◌<◌, IfOk};
+ghost use Rattle.std.specs.Prelude.{◌≡◌, ◌+◌, ◌<◌, ◌≤◌, IfOk};
 ghost use Rattle.std.specs.List.{flat_map};
 ghost use Rattle.hfs_blocks.specs.Blocks.{run_of, nodes_in};
 ghost use Rattle.hfs_blocks.specs.Layers.{changes, over, AreWithin};
@@ -37,6 +37,15 @@ fn block_count(extents: &[Extent]) -> u16
     ensures { result ≡ block_total extents.now }
 {
     extents.iter().map(|extent| extent.count).sum()
+}
+
+/// How many blocks are free where the blocks of these extents are free, too.
+fn free_after(mdb: &Mdb, freed: &[Extent]) -> u16
+    requires { mdb.now.free_blocks + block_total freed.now ≤ mdb.now.allocation_blocks }
+    ensures { result ≡ mdb.now.free_blocks + block_total freed.now }
+{
+    let used = mdb.allocation_blocks - mdb.free_blocks;
+    mdb.allocation_blocks - (used - block_count(freed))
 }
 
 /// The counts of a volume from which a file goes, one of this folder's, so that so many blocks are free.
@@ -179,7 +188,7 @@ pub(crate) fn patch_delete_file<B: Blocks>(
         valence - 1,
         now,
     )?;
-    let counts = without_file(mdb, dir, mdb.free_blocks + block_count(&freed), now);
+    let counts = without_file(mdb, dir, free_after(mdb, &freed), now);
     put_counts(below, &mut patch, &counts)?;
     Ok((patch, counts))
 }

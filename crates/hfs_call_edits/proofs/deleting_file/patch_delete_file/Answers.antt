@@ -66,21 +66,8 @@ drop_item_over-requires-clause-stays g c =
     stays_by c.choice_stands.ensures c.folders_stand.ensures.delete (g.B.Blocks.total below) c.args.dir c.args.file.now.id c.requires.chosen.name c.args.key.now c.args.parent.now c.args.valence ch.of old
     c.requires.sound ch.choice ch.own_key (file_chosen_id (g.B.Blocks.total below) c.args.dir c.requires.chosen.name c.args.key.now c.args.file.now old c.requires.sound ch) c.requires.parent (catalog_nodes old) refl
 
-pub block_count-requires : goal.block_count-requires
-block_count-requires g c =
-    let below = c.args.below.now in
-    let old = g.B.Blocks.blocks below in
-    let total = g.B.Blocks.total below in
-    let xs = c.deref.result.now in
-    let alone = freed_alone total c.args.dir c.requires.chosen.name c.args.key.now c.args.file.now old c.requires.sound c.requires.chosen.chosen xs (nodes_in old c.args.extents.now)
-    (extents_old total old c.requires.sound c.args.extents.now c.args.catalog.now c.requires.extents c.requires.catalog) (c.deref.ensures.value ∙ c.in_ok-freed.ensures) c.fork_blocks_are_alone.ensures in
-    let fits = free_fits total old c.requires.sound (extent_blocks xs) (over (changes c.in_ok-bits.bits) old) c.in_ok-bits.ensures.released alone in
-    let most = ap (λ (m : Mdb). m.allocation_blocks) c.requires.mdb in
-    let same = ap block_total (c.deref-2.ensures.value ∙ sym c.deref.ensures.value) in
-    omega (arith, fits, most, same, blocks_counted xs)
-
-pub overflow_add-mdb : goal.overflow_add-mdb
-overflow_add-mdb g c =
+pub free_after-requires : goal.free_after-requires
+free_after-requires g c =
     let below = c.args.below.now in
     let old = g.B.Blocks.blocks below in
     let total = g.B.Blocks.total below in
@@ -91,7 +78,7 @@ overflow_add-mdb g c =
     let most = ap (λ (m : Mdb). m.allocation_blocks) c.requires.mdb in
     let free = ap (λ (m : Mdb). m.free_blocks) c.requires.mdb in
     let same = ap block_total (c.deref-2.ensures.value ∙ sym c.deref.ensures.value) in
-    record { fits = omega (arith, fits, most, free, same, blocks_counted xs, c.block_count.ensures) }
+    omega (arith, fits, most, free, same, blocks_counted xs)
 
 pub returns-clause-makes : goal.returns-clause-makes
 returns-clause-makes g c name ch =
@@ -111,10 +98,10 @@ returns-clause-makes g c name ch =
     c.args.file.now.id (over (changes c.in_ok-records.records) old) c.in_ok-records.ensures.dropped c.in_ok-records.ensures.beside
     (over (changes c.in_ok-patch.patch) old) keeps c.in_ok-patch.ensures.beside (changes c.in_ok-patch.patch) (changes c.put_counts.new.patch) c.without_file-counts.result refl c.in_ok-put_counts.ensures
     c.deletion_leaves_file.ensures (file_given total c.args.dir name c.args.key.now c.args.file.now old h ch) alone in
-    let counted = c.block_count.ensures ∙ ap block_total (c.deref-2.ensures.value ∙ sym c.deref.ensures.value) in
+    let counted = ap block_total (c.deref-2.ensures.value ∙ sym c.deref.ensures.value) in
     file_deleted total c.args.dir name c.args.key.now c.args.file.now old h ch xs nodes is found c.choice_stands.ensures c.folders_stand.ensures.delete c.dropped_leaves.ensures c.delete_file_makes.ensures
     c.deletions_are_steps.ensures c.args.now c.args.valence c.args.parent.now c.requires.parent c.args.mdb.now c.without_file-counts.result c.requires.mdb
-    (c.without_file-counts.ensures ∙ ap (λ n. without_one_file c.args.dir (c.args.mdb.now.free_blocks + n) c.args.now c.args.mdb.now) counted)
+    (c.without_file-counts.ensures ∙ ap (λ n. without_one_file c.args.dir n c.args.now c.args.mdb.now) (c.free_after.ensures ∙ ap (λ n. c.args.mdb.now.free_blocks + n) counted))
     (over (changes c.put_counts.new.patch) old) final c.in_ok-patch.ensures.dropped gone
 
 pub returns-clause-within : goal.returns-clause-within
