@@ -193,13 +193,27 @@ impl<B: Blocks> Editing<'_, B> {
         let key = item.key;
         match item.body {
             ItemRecord::Folder(body) => {
-                let change =
-                    self.delete_folder(alloc, dir, &key, &body, &parent, folder.valence, now)?;
+                let change = self.delete_folder(
+                    alloc,
+                    dir,
+                    &key,
+                    &body,
+                    &parent,
+                    folder.valence,
+                    now,
+                )?;
                 Ok(Ok(change))
             }
             ItemRecord::File(file) => {
-                let change =
-                    self.delete_file(alloc, dir, &key, &file, &parent, folder.valence, now)?;
+                let change = self.delete_file(
+                    alloc,
+                    dir,
+                    &key,
+                    &file,
+                    &parent,
+                    folder.valence,
+                    now,
+                )?;
                 Ok(Ok(change))
             }
         }
