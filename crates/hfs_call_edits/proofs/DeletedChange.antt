@@ -3,6 +3,7 @@ use Rattle.std.proofs.Common.{◌≡◌, ℕ, ℤ, List, refl, sym, ◌∙◌, a
 use Rattle.std.specs.FinMap as map
 use Rattle.hfs_fields.specs.declared.key.CatKey.{CatKey}
 use Rattle.hfs_fields.specs.declared.dir_record.DirRecord.{DirRecord}
+use Rattle.hfs_fields.specs.declared.file_record.FileRecord.{FileRecord}
 use Rattle.hfs_fields.specs.declared.mdb.Mdb.{Mdb}
 use Rattle.hfs_fields.specs.Counts.{with_counts}
 use Rattle.hfs_blocks.specs.Layers.{Numbered, changes, over, AreWithin}
@@ -18,7 +19,10 @@ use Rattle.hfs_check.specs.Sound.{AreBlocksSound}
 use Rattle.hfs_check.specs.VolumeOf.{volume_in}
 use Rattle.hfs_changes.specs.Laws.{CatalogEditsAreSteps}
 use Rattle.hfs_changes.specs.RemovalLaws.{without_folder}
-use Rattle.hfs_call_edits.specs.Deleting.{MakesFolderDeletion, IsFolderDeletion}
+use Rattle.hfs_call_edits.specs.Deleting.{MakesFolderDeletion, IsFolderDeletion, MakesFileDeletion, IsFileDeletion}
+use Rattle.hfs_call_edits.specs.Edits.{IsChangeOf, IsEditOf}
+use Rattle.hfs_call_edits.specs.declared.editing.Change.{Change}
+use Rattle.hfs_call_edits.proofs.Edited.{none_wanted}
 
 module _ (v : Volume) (dir now : ℕ) (name : List ℕ) where
   pub delete_refused : (code : ℤ) → to_delete v dir name ≡ Err code → step v (call.Delete dir name now) ≡ refused v code
@@ -42,3 +46,19 @@ module _ {B : Type 0} (blocks : B → Blocks) (totals : B → ℕ) (value own : 
         directory = made.edits.mdb ∙ ap (λ (m : Mdb). with_counts m (mdb_in old)) (sym (is ∙ ap (without_folder dir now) at));
         reply = delete_accepted (volume_in old) dir now name _ ch.choice.is;
       }
+
+  pub file_change : (dir now : ℕ) (key : CatKey) (file : FileRecord) (counts : Mdb) (patch : Numbered) → AreWithin (changes patch) (totals own)
+      → MakesFileDeletion dir key file now (totals own) (blocks own) counts (over (changes patch) (blocks own))
+      → IsFileDeletion dir key file now (totals value) (blocks value) (record { patch = patch; counts = counts; value = answer.Nothing })
+  file_change dir now key file counts patch within makes name ch =
+      let made = subst (λ (b : B). MakesFileDeletion dir key file now (totals b) (blocks b) counts (over (changes patch) (blocks b))) view_is makes name ch in
+      record {
+        within = subst (λ (b : B). AreWithin (changes patch) (totals b)) view_is within;
+        stepped = made.stepped;
+        directory = made.directory;
+        reply = delete_accepted (volume_in (blocks value)) dir now name _ ch.choice.is;
+      }
+
+-- a change that is the call's is its edit, since a deletion needs no nodes
+pub deletion_edit : (dir now total : ℕ) (name : List ℕ) (old : Blocks) (made : Change) → IsChangeOf (call.Delete dir name now) total old made → IsEditOf (call.Delete dir name now) total old (Ok made)
+deletion_edit dir now total name old made is = record { enough = none_wanted (call.Delete dir name now) old (λ depth. refl); comes = is }

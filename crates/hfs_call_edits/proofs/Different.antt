@@ -19,7 +19,7 @@ use Rattle.hfs_check.specs.Sound.{AreBlocksSound}
 
 -- ---- lists in which no number stands twice
 
-distinct-left : (xs ys : List ℕ) → IsDistinct (xs ++ ys) → IsDistinct xs
+pub distinct-left : (xs ys : List ℕ) → IsDistinct (xs ++ ys) → IsDistinct xs
 distinct-left [] ys h = tt
 distinct-left (x ∷ xs) ys h = (each-left (IsOther x) xs ys h.0, distinct-left xs ys h.1)
 
@@ -33,7 +33,7 @@ each-take P zero (x ∷ xs) h = tt
 each-take P (suc n) [] h = tt
 each-take P (suc n) (x ∷ xs) h = (h.0, each-take P n xs h.1)
 
-distinct-take : (n : ℕ) (xs : List ℕ) → IsDistinct xs → IsDistinct (take n xs)
+pub distinct-take : (n : ℕ) (xs : List ℕ) → IsDistinct xs → IsDistinct (take n xs)
 distinct-take zero [] h = tt
 distinct-take zero (x ∷ xs) h = tt
 distinct-take (suc n) [] h = tt
@@ -70,7 +70,7 @@ module _ (mdb : Mdb) where
       (each-range (IsOther (mdb.allocation_start + a * blocks_each mdb + j)) (mdb.allocation_start + c * blocks_each mdb) (blocks_each mdb) (λ k high same. h.0 (one_place c a k j high low same)))
       (other-rows a j low cs h.1)
 
-  distinct-rows : (cs : List ℕ) → IsDistinct cs → IsDistinct (flat_map row cs)
+  pub distinct-rows : (cs : List ℕ) → IsDistinct cs → IsDistinct (flat_map row cs)
   distinct-rows [] h = tt
   distinct-rows (c ∷ cs) h =
       distinct-append (row c) (flat_map row cs) (distinct-range _ (blocks_each mdb)) (distinct-rows cs h.1)
@@ -89,7 +89,7 @@ module _ (mdb : Mdb) where
       flat_map-append (λ (l : List ℕ). l) (allocation_block one mdb c) (flat_map (allocation_block one mdb) cs)
       ∙ (λ i. joined-one (row c) i ++ joined-rows cs i)
 
-  numbers-are : (extents : List Extent) → block_numbers mdb extents ≡ flat_map row (extent_blocks extents)
+  pub numbers-are : (extents : List Extent) → block_numbers mdb extents ≡ flat_map row (extent_blocks extents)
   unfolding nodes_in
   numbers-are extents =
       sym (joined-one (block_numbers mdb extents)) ∙ ap (flat_map (λ (l : List ℕ). l)) (file_blocks-in_order one mdb extents) ∙ joined-rows (extent_blocks extents)
@@ -97,13 +97,13 @@ module _ (mdb : Mdb) where
 -- ---- the catalog's file
 
 module _ (total : ℕ) (blocks : Blocks) (h : AreBlocksSound total blocks) where
-  abbrev others : List Extent
+  abbrev pub others : List Extent
   others = flat_map (extents_in (overflow_in blocks)) (flat_map forks_of (catalog_in blocks))
 
   abbrev behind : List Extent
   behind = others ++ ((mdb_in blocks).extents_file ++ bad_extents (overflow_in blocks))
 
-  owned-parts : owned_in blocks ≡ extent_blocks (catalog_extents blocks) ++ extent_blocks behind
+  pub owned-parts : owned_in blocks ≡ extent_blocks (catalog_extents blocks) ++ extent_blocks behind
   unfolding owned_in owned_blocks owned_extents catalog_extents
   owned-parts =
       let file = extents_in (overflow_in blocks) (catalog_fork (mdb_in blocks)) in

@@ -98,6 +98,9 @@ module _ (stands : ChoiceStands) (folders : DeleteLeavesFolder) (total dir id : 
   pub there_by : IfBody (λ body. is_item body ≡ true) (lookup cat_cmp key (catalog_of opened))
   there_by = subst (λ (k : CatKey). IfBody (λ body. is_item body ≡ true) (lookup cat_cmp k (catalog_of opened))) own (there stands folders total dir name a p.of old h c p.is opened is)
 
+  pub under_by : IfBody (λ body. is_item body ≡ true) (lookup cat_cmp key (catalog_in old))
+  under_by = subst (λ (k : CatKey). IfBody (λ body. is_item body ≡ true) (lookup cat_cmp k (catalog_in old))) own (item_there stands folders total dir name a p.of old h c p.is)
+
   pub stays_by : StaysFolder key id folder opened
   stays_by =
       subst (λ (k : CatKey). StaysFolder key id k opened) p.own_key

@@ -32,3 +32,7 @@ pub mod FromFolder
 pub mod FolderGone
 pub mod DeletedChange
 pub mod Parents
+pub mod EditedNodes
+pub mod FileParts
+pub mod FileGone
+pub mod FileDeleted

@@ -1,6 +1,6 @@
 -- What Delete chooses by the catalog's records is what it chooses in the volume.
 use Rattle.std.proofs.Common.{◌≡◌, ℕ, ℤ, Bool, true, false, cond, List, refl, sym, ◌∙◌, ap, subst, Option, Some, None, Ok, Err, Result}
-use Rattle.std.specs.Prelude.{not, ◌&&◌, nat_lt}
+use Rattle.std.specs.Prelude.{not, ◌&&◌, nat_lt, IfOk}
 use Rattle.std.specs.Option.{ok_or}
 use Rattle.hfs_fields.specs.declared.mdb.Mdb.{Mdb}
 use Rattle.hfs_fields.specs.Names.{is_item_name}
@@ -169,9 +169,9 @@ module _ (stands : ChoiceStands) (total : ℕ) (old : Blocks) (sound : AreBlocks
   deletes_item result e = by_item (item_to_delete (mdb_in old) (catalog_in old) dir name) refl result (e ∙ (λ i. map_ok catalog_item (item_to_delete (own i) (content i) dir name)))
 
   -- there is a folder of the item that is deleted
-  by_folder : (r : Result Record ℤ) → item_to_delete (mdb_in old) (catalog_in old) dir name ≡ r → (e : Entry) → map_ok (entry_of (contents_in old) (catalog_in old)) r ≡ Ok e → is_folder (catalog_in old) dir ≡ true
-  by_folder (Ok q) is e chosen = folder_is_there (mdb_in old) (catalog_in old) dir name q is
-  by_folder (Err code) is e chosen = absurd (err_ok code e chosen)
+  by_dir : (r : Result Record ℤ) → item_to_delete (mdb_in old) (catalog_in old) dir name ≡ r → (result : Result CatalogItem ℤ) → result ≡ map_ok catalog_item r → IfOk result (λ item. is_folder (catalog_in old) dir ≡ true)
+  by_dir (Ok q) is result e = subst (λ (x : Result CatalogItem ℤ). IfOk x (λ item. is_folder (catalog_in old) dir ≡ true)) (sym e) (folder_is_there (mdb_in old) (catalog_in old) dir name q is)
+  by_dir (Err code) is result e = subst (λ (x : Result CatalogItem ℤ). IfOk x (λ item. is_folder (catalog_in old) dir ≡ true)) (sym e) tt
 
-  pub folder_of_deleted : (e : Entry) → to_delete (volume_in old) dir name ≡ Ok e → is_folder (catalog_in old) dir ≡ true
-  folder_of_deleted e chosen = by_folder (item_to_delete (mdb_in old) (catalog_in old) dir name) refl e (sym same ∙ chosen)
+  pub deletes_in_folder : (result : Result CatalogItem ℤ) → result ≡ map_ok catalog_item (item_to_delete mdb catalog dir name) → IfOk result (λ item. is_folder (catalog_in old) dir ≡ true)
+  deletes_in_folder result e = by_dir (item_to_delete (mdb_in old) (catalog_in old) dir name) refl result (e ∙ (λ i. map_ok catalog_item (item_to_delete (own i) (content i) dir name)))

@@ -11,6 +11,7 @@ mod choosing_renaming;
 mod counts;
 mod creating;
 mod deleting;
+mod deleting_file;
 mod dropping;
 mod editing;
 mod file_ids;
