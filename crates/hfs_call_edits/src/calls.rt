@@ -29,8 +29,8 @@ pub fn is_setting(call: &Call) -> bool
         Call::Delete { .. } => false,
         Call::Rename { .. } => false,
         Call::CatMove { .. } => false,
-        Call::CreateFileId { .. } => false,
-        Call::DeleteFileId { .. } => false,
+        Call::CreateFileId { .. } => true,
+        Call::DeleteFileId { .. } => true,
         Call::ResolveFileId { .. } => false,
     }
 }
@@ -81,9 +81,11 @@ impl<B: Blocks> Editing<'_, B> {
             | Call::DirCreate { .. }
             | Call::Delete { .. }
             | Call::Rename { .. }
-            | Call::CatMove { .. }
-            | Call::CreateFileId { .. }
-            | Call::DeleteFileId { .. } => unreachable!(),
+            | Call::CatMove { .. } => unreachable!(),
+            Call::CreateFileId { dir, name, now } => {
+                self.create_file_id(alloc, *dir, name.as_slice(), *now)
+            }
+            Call::DeleteFileId { id, now } => self.delete_file_id(alloc, *id, *now),
         }
     }
 }
