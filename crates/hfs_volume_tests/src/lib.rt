@@ -4,6 +4,8 @@
 #[cfg(test)]
 mod edges;
 #[cfg(test)]
+mod file_ids;
+#[cfg(test)]
 mod images;
 #[cfg(test)]
 mod mounted;
