@@ -12,6 +12,8 @@ mod mounted;
 #[cfg(test)]
 mod mounting;
 #[cfg(test)]
+mod moving;
+#[cfg(test)]
 mod reading;
 #[cfg(test)]
 mod repairs;
