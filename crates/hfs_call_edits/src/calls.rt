@@ -24,8 +24,8 @@ pub fn is_setting(call: &Call) -> bool
         Call::GetIndexed { .. } => false,
         Call::List { .. } => false,
         Call::ReadFork { .. } => false,
-        Call::Create { .. } => false,
-        Call::DirCreate { .. } => false,
+        Call::Create { .. } => true,
+        Call::DirCreate { .. } => true,
         Call::Delete { .. } => false,
         Call::Rename { .. } => false,
         Call::CatMove { .. } => false,
@@ -71,14 +71,16 @@ impl<B: Blocks> Editing<'_, B> {
             Call::RstFLock { dir, name, now } => {
                 self.set_lock(alloc, *dir, name.as_slice(), false, *now)
             }
+            Call::Create { dir, name, now } => self.create(alloc, *dir, name.as_slice(), *now),
+            Call::DirCreate { dir, name, now } => {
+                self.dir_create(alloc, *dir, name.as_slice(), *now)
+            }
             Call::GetDirInfo { .. }
             | Call::GetCatInfo { .. }
             | Call::GetIndexed { .. }
             | Call::List { .. }
             | Call::ReadFork { .. }
             | Call::ResolveFileId { .. }
-            | Call::Create { .. }
-            | Call::DirCreate { .. }
             | Call::Delete { .. }
             | Call::Rename { .. }
             | Call::CatMove { .. }
