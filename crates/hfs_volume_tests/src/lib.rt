@@ -2,6 +2,8 @@
 #![tactic(auto)]
 
 #[cfg(test)]
+mod creating;
+#[cfg(test)]
 mod edges;
 #[cfg(test)]
 mod file_ids;
