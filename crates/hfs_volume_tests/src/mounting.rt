@@ -38,15 +38,27 @@ fn fault_in_repair(alloc: Global, image: Vec<u8>) -> Result<Option<MountFault>, 
 #[test]
 fn what_is_no_volume_is_refused(rt: HostRuntime) -> Result<(), Fail> {
     let short = vec![in rt.alloc(); 0u8; 1535]?;
-    assert_eq!(rt; fault_in_repair(rt.alloc(), short)?, Some(MountFault::Short));
+    assert_eq!(rt;
+        fault_in_repair(rt.alloc(), short)?,
+        Some(MountFault::Short)
+    );
     let zeros = vec![in rt.alloc(); 0u8; 1536]?;
-    assert_eq!(rt; fault_in_repair(rt.alloc(), zeros)?, Some(MountFault::NoMacDisk));
+    assert_eq!(rt;
+        fault_in_repair(rt.alloc(), zeros)?,
+        Some(MountFault::NoMacDisk)
+    );
     let mut none = small_image(rt.alloc(), SmallVolume::New)?;
     lay(&mut none, 2, 18, &[0, 0])?;
-    assert_eq!(rt; fault_in_repair(rt.alloc(), none)?, Some(MountFault::BadMdb(1)));
+    assert_eq!(rt;
+        fault_in_repair(rt.alloc(), none)?,
+        Some(MountFault::BadMdb(1))
+    );
     let mut low = small_image(rt.alloc(), SmallVolume::New)?;
     lay(&mut low, 2, 30, &[0, 0, 0, 15])?;
-    assert_eq!(rt; fault_in_repair(rt.alloc(), low)?, Some(MountFault::BadMdb(5)));
+    assert_eq!(rt;
+        fault_in_repair(rt.alloc(), low)?,
+        Some(MountFault::BadMdb(5))
+    );
     Ok(())
 }
 

@@ -144,7 +144,10 @@ fn a_folder_is_not_moved_into_itself(rt: HostRuntime) -> Result<(), Fail> {
     assert_eq!(rt; make_folder(&mut volume, rt.alloc(), 16, b"y")?, 0);
     assert_eq!(rt; make_folder(&mut volume, rt.alloc(), 17, b"z")?, 0);
     for new_dir in [18, 17, 16] {
-        assert_eq!(rt; move_to(&mut volume, rt.alloc(), 2, b"x", new_dir, 0)?, -122);
+        assert_eq!(rt;
+            move_to(&mut volume, rt.alloc(), 2, b"x", new_dir, 0)?,
+            -122
+        );
     }
     assert_eq!(rt; move_to(&mut volume, rt.alloc(), 16, b"y", 2, 9)?, 0);
     let moved = folder_info(&volume, 17)?;
