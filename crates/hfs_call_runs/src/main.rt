@@ -13,7 +13,7 @@ use crate::pair::Pair;
 use anyhow::{Result, bail};
 
 /// How many nodes the catalogs of the volumes have.
-const NODES: [u32; 10] = [4, 5, 6, 7, 8, 10, 13, 17, 30, 60];
+const NODES: [u32; 10] = [4, 5, 6, 7, 8, 10, 13, 17, 24, 40];
 
 /// How many lists are drawn for each of them.
 const LISTS: u64 = 20;
