@@ -58,15 +58,15 @@ fn given(drawn: &mut Drawn, next_id: u32) -> u32 {
 pub fn call(alloc: Global, drawn: &mut Drawn, next_id: u32, now: u32) -> Result<Call, AllocError> {
     let dir = folder(drawn, next_id);
     let name = name(alloc, drawn)?;
-    match drawn.below(24) {
+    match drawn.below(32) {
         0 | 1 | 2 | 3 => Ok(Call::Create { dir, name, now }),
         4 | 5 | 6 => Ok(Call::DirCreate { dir, name, now }),
         7 | 8 | 9 => Ok(Call::Delete { dir, name, now }),
-        10 | 11 => moved(alloc, drawn, next_id, dir, name, now),
-        12 | 13 => renamed(alloc, drawn, dir, name, now),
+        10 | 11 | 24 | 25 | 26 | 27 | 28 => moved(drawn, next_id, dir, name, now),
+        12 | 13 | 29 | 30 => renamed(alloc, drawn, dir, name, now),
         14 => Ok(Call::SetFLock { dir, name, now }),
         15 => Ok(Call::RstFLock { dir, name, now }),
-        16 | 17 => Ok(Call::CreateFileId { dir, name, now }),
+        16 | 17 | 31 => Ok(Call::CreateFileId { dir, name, now }),
         18 => Ok(Call::DeleteFileId {
             id: any_id(drawn, next_id),
             now,
@@ -86,7 +86,6 @@ fn any_id(drawn: &mut Drawn, next_id: u32) -> u32 {
 }
 
 fn moved(
-    _alloc: Global,
     drawn: &mut Drawn,
     next_id: u32,
     dir: u32,
