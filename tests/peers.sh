@@ -3,8 +3,6 @@
 # is listed and read by ours, and what ours wrote is mounted, listed and filled by hfsutils. Prints 'peers agree', or
 # 'skipped' where hfsutils is not installed, or what differs and ends with status 1.
 . "$(dirname "$0")/beside.sh"
-settings=$PWD/crates/hfs_real_settings/out/hfs_real_settings
-[ -x "$settings" ] || (cd crates/hfs_real_settings && rt run > /dev/null)
 
 fail() {
     echo "peers differ: $1"
@@ -54,52 +52,6 @@ check_sound() {
     [ "$("$tool" check "$1" | head -n 1)" = sound ] || fail "check of $1"
 }
 
-# The lines of all items as hfsutils shows them, folder by folder.
-peer_lines() {
-    hls "$@" | grep -E '^ *([0-9]+ )?[dfF]'
-}
-
-# The same without what calls set: ID, kind, valence or lengths, and name.
-peer_items() {
-    peer_lines -ilaR | sed -E \
-        -e 's/^( *[0-9]+ )[fF][ i] .{9}( +[0-9]+ +[0-9]+ )[A-Z][a-z]{2} [ 0-9]{2} .{5} /\1f\2/' \
-        -e 's/^( *[0-9]+ d +[0-9]+ items? +)[A-Z][a-z]{2} [ 0-9]{2} .{5} /\1/'
-}
-
-# Wants that each line is a folder's with this date, or a file's of this kind with this date and the type and creator that are set.
-wants_lines() {
-    local kind=$1 date=$2 what=$3
-    [ -s "$folder/lines" ] || fail "there are no lines of $what"
-    ! grep -v -E "^(d +[0-9]+ items? +$date |$kind  Type/Made +[0-9]+ +[0-9]+ $date )" "$folder/lines" || fail "$what"
-}
-
-# Wants of a volume that hfsutils tells what our calls have set, with files of this kind, and otherwise the items in 'before'.
-compare_set() {
-    local image=$1 kind=$2
-    hmount "$image" > /dev/null
-    peer_lines -laR > "$folder/lines"
-    wants_lines "$kind" 'Dec 31  1999' 'the dates of change'
-    peer_lines -lacR > "$folder/lines"
-    wants_lines "$kind" 'Feb  3  2001' 'the dates of creation'
-    peer_items > "$folder/after"
-    humount
-    diff "$folder/before" "$folder/after" || fail "the items of $image"
-}
-
-# Sets all items of a volume by calls, locks its files and unlocks them, and has hfsutils tell of it.
-compare_settings() {
-    local image=$1
-    hmount "$image" > /dev/null
-    peer_items > "$folder/before"
-    humount
-    "$settings" set "$image" "$folder/locked.img" || fail "the items of $image are not set"
-    check_sound "$folder/locked.img"
-    compare_set "$folder/locked.img" F
-    "$settings" unlock "$folder/locked.img" "$folder/unlocked.img" || fail "the files of $image are not unlocked"
-    check_sound "$folder/unlocked.img"
-    compare_set "$folder/unlocked.img" f
-}
-
 # A volume that hfsutils made.
 dd if=/dev/zero of="$folder/theirs.img" bs=1024 count=1440 2> /dev/null
 hformat -l Theirs "$folder/theirs.img" > /dev/null
@@ -117,12 +69,5 @@ fill
 compare_folder "$folder/ours.img" : 2
 humount
 check_sound "$folder/ours.img"
-
-# Dates, types and locks that our calls set, on volumes of others and on our own.
-for name in hfsutils-800k hfsutils-1440k-names; do
-    cp "$volumes/$name.img" "$folder/given.img"
-    compare_settings "$folder/given.img"
-done
-compare_settings "$folder/ours.img"
 
 echo 'peers agree'

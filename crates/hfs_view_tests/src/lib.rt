@@ -11,5 +11,3 @@ mod calls;
 mod same;
 #[cfg(test)]
 mod stories;
-#[cfg(test)]
-mod worked;
