@@ -5,8 +5,8 @@ ghost use Rattle.hfs_commands.specs.Checks.{alternate_text, check_lines, check_s
 
 use crate::fault::Status;
 use crate::refusal::Refusal;
-use crate::text::{Show, push_line};
 use hfs_check::{Alternate, MountFault, Report, report};
+use hfs_texts::{Show, push_line};
 use std::alloc::{AllocError, Global};
 
 impl Show for Alternate {

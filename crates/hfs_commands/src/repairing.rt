@@ -2,13 +2,13 @@
 ghost use Rattle.std.specs.Prelude.{◌≡◌, ℕ, List, Some, IfOk, OnOk, MatchOption, string_bytes};
 ghost use Rattle.hfs_check.specs.Faults.{fault_of};
 ghost use Rattle.hfs_check.specs.Repair.{repair};
-ghost use Rattle.hfs_commands.specs.Texts.{Gains};
+ghost use Rattle.hfs_texts.specs.Texts.{Gains};
 ghost use Rattle.hfs_commands.specs.Repairs.{place_text, fix_text, fixed_line, fixed_lines, repaired_lines, IsRefused, IsRepaired};
 
 use crate::checking::refused_text;
 use crate::fault::Status;
-use crate::text::{Show, push_line};
 use hfs_check::MountFault;
+use hfs_texts::{Show, push_line};
 use hfs_volume::{Fix, FixPlace, Volume, mount_repaired};
 use std::alloc::{AllocError, Global};
 
