@@ -26,9 +26,9 @@ use Rattle.hfs_check.specs.VolumeOf.{volume_in}
 use Rattle.hfs_changes.specs.Laws.{CatalogEditsAreSteps}
 use Rattle.hfs_changes.specs.OnBlocks.{at_time}
 use Rattle.hfs_changes.specs.SettingLaws.{MakesAt, lock_call}
-use Rattle.hfs_call_edits.specs.declared.editing.Change.{Change}
-use Rattle.hfs_call_edits.specs.declared.settings.ItemSettings.{ItemSettings}
-use Rattle.hfs_call_edits.specs.Settings.{IsFileChoice, IsFolderChoice, set_cat_info_call}
+use Rattle.hfs_call_patches.specs.declared.change.Change.{Change}
+use Rattle.hfs_call_patches.specs.declared.settings.ItemSettings.{ItemSettings}
+use Rattle.hfs_call_patches.specs.Settings.{IsFileChoice, IsFolderChoice, set_cat_info_call}
 use Rattle.hfs_call_edits.specs.Edits.{IsEditing, IsEditOf, HasNodes, wants_nodes}
 
 -- ---- the volume of a view, and that of the field behind it

@@ -14,7 +14,7 @@ use Rattle.hfs_catalog.specs.Lookups.{catalog_item}
 use Rattle.hfs_queries.specs.Folders.{folder_not_file}
 use Rattle.hfs_queries.specs.Found.{is_some-option_map}
 use Rattle.hfs_queries.specs.Told.{only_folder, folder_with, is_folder}
-use Rattle.hfs_call_edits.specs.Deleting.{IsParent}
+use Rattle.hfs_call_patches.specs.Deleting.{IsParent}
 
 same_folder : (d e : DirRecord) → Folder d ≡ Folder e → d ≡ e
 same_folder d e f = cc
