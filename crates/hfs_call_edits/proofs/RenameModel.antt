@@ -17,7 +17,6 @@ use Rattle.hfs_model.specs.Lawful.{IsLawful}
 use Rattle.hfs_catalog.specs.Records.{Record, Catalog, item_with, is_child_of}
 use Rattle.hfs_catalog.specs.Items.{Contents, entry_of}
 use Rattle.hfs_catalog.specs.Laws.{SoundIsLawful}
-use Rattle.hfs_catalog.specs.Lookups.{is_child_named}
 use Rattle.hfs_catalog.specs.Lookups as lookups
 use Rattle.hfs_check.specs.Laws.{CatalogIsSound}
 use Rattle.hfs_check.specs.Parts.{Blocks, mdb_in, catalog_in}

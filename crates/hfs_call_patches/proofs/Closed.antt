@@ -8,7 +8,7 @@ use Rattle.hfs_fields.specs.Mdb.{mdb_of}
 use Rattle.hfs_blocks.specs.declared.run.Run.{Run}
 use Rattle.hfs_blocks.specs.Blocks.{run_of, nodes_in}
 use Rattle.hfs_blocks.specs.Layers.{Changes, over, with_block, over-with_change}
-use Rattle.hfs_btree.specs.Header.{header_in, tree_content}
+use Rattle.hfs_btree.specs.Header.{header_in}
 use Rattle.hfs_btree.specs.Sound.{IsOther, KeepsFrame}
 use Rattle.hfs_btree.specs.Tree.{Store}
 use Rattle.hfs_btree_checks.specs.Order.{index_keys}

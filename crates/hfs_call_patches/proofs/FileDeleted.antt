@@ -1,6 +1,6 @@
 -- The deletion of a file that a call chose, with its forks' blocks, is the step of Delete.
-use Rattle.std.proofs.Common.{◌≡◌, ⊎_elim, ℕ, ◌+◌, ◌-◌, ◌<◌, ◌≤◌, Bool, true, false, cond, List, [], ◌∷◌, ◌++◌, length, refl, sym, ◌∙◌, ap, subst, arith, true≢false, Some, Option}
-use Rattle.std.specs.List.{flat_map, sum_by, range_with_len}
+use Rattle.std.proofs.Common.{◌≡◌, ⊎_elim, ℕ, ◌+◌, ◌-◌, ◌≤◌, Bool, true, false, cond, List, [], ◌∷◌, length, refl, sym, ◌∙◌, ap, subst, arith, true≢false}
+use Rattle.std.specs.List.{flat_map, range_with_len}
 use Rattle.std.proofs.lemmas.List.Sums.{sum_by-cons}
 use Rattle.std.proofs.lemmas.List.{length-append}
 use Rattle.std.proofs.lemmas.List.FromFn.{length-range_with_len}
@@ -8,8 +8,7 @@ use Rattle.hfs_fields.specs.declared.key.CatKey.{CatKey}
 use Rattle.hfs_fields.specs.declared.extent.Extent.{Extent}
 use Rattle.hfs_fields.specs.declared.file_record.FileRecord.{FileRecord}
 use Rattle.hfs_fields.specs.declared.mdb.Mdb.{Mdb}
-use Rattle.hfs_fields.specs.Counts.{with_counts}
-use Rattle.hfs_fields.specs.Records.{is_dir, is_file, item_id, dir_record_of, file_record_of}
+use Rattle.hfs_fields.specs.Records.{is_dir, item_id, dir_record_of, file_record_of}
 use Rattle.hfs_scans.specs.Members.{In, each_in}
 use Rattle.hfs_btree.specs.Tree.{Store}
 use Rattle.hfs_space.specs.Extents.{AreExtentsWithin, block_total, extent_blocks}
@@ -22,7 +21,6 @@ use Rattle.hfs_model.specs.Choices.{to_delete}
 use Rattle.hfs_catalog.specs.Records.{Record, Catalog}
 use Rattle.hfs_catalog.specs.Lookups.{thread_of}
 use Rattle.hfs_catalog.specs.Sound.{IsRoot, IsGiven}
-use Rattle.hfs_catalog.specs.Tree.{catalog_of}
 use Rattle.hfs_catalog_edits.specs.Bodies.{dir_length, file_length}
 use Rattle.hfs_check.specs.Parts.{Blocks, mdb_in, extents_nodes, overflow_in, catalog_nodes, catalog_in}
 use Rattle.hfs_check.specs.Sound.{AreBlocksSound}

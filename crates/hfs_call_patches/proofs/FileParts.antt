@@ -1,6 +1,6 @@
 -- The blocks of a sound volume that a deletion changes: those of the bitmap, of the extents tree's file and of the catalog's are different ones.
-use Rattle.std.proofs.Common.{◌≡◌, ◌⊎◌, inl, inr, ⊎_elim, ℕ, zero, suc, ◌+◌, ◌*◌, ◌/◌, ◌<◌, ◌≤◌, List, [], ◌∷◌, ◌++◌, map, refl, sym, ◌∙◌, ap, subst, arith, append_assoc}
-use Rattle.std.specs.List.{flat_map, range_with_len}
+use Rattle.std.proofs.Common.{◌≡◌, ◌⊎◌, inl, inr, ⊎_elim, ℕ, zero, suc, ◌+◌, ◌<◌, ◌≤◌, List, [], ◌∷◌, ◌++◌, refl, sym, ◌∙◌, ap, subst, arith, append_assoc}
+use Rattle.std.specs.List.{range_with_len}
 use Rattle.std.proofs.lemmas.Bool.{cases_lt}
 use Rattle.std.proofs.lemmas.List.Concat.{flat_map-append}
 use Rattle.hfs_fields.specs.declared.mdb.Mdb.{Mdb}
@@ -9,12 +9,11 @@ use Rattle.hfs_scans.specs.Each.{Each}
 use Rattle.hfs_scans.specs.Elements.{each-append, each-left, each-right, each-mono}
 use Rattle.hfs_blocks.specs.Blocks.{run_of}
 use Rattle.hfs_btree.specs.Sound.{IsOther, IsDistinct}
-use Rattle.hfs_space.specs.Extents.{extent_blocks}
 use Rattle.hfs_space.specs.Forks.{run_in}
 use Rattle.hfs_space.specs.ForkLaws.{block_numbers}
 use Rattle.hfs_space.specs.Owners.{bad_extents}
 use Rattle.hfs_space.specs.TreeFiles.{node_count, tree_blocks}
-use Rattle.hfs_check.specs.Parts.{Blocks, mdb_in, extents_blocks, overflow_in, catalog_extents, owned_in}
+use Rattle.hfs_check.specs.Parts.{Blocks, mdb_in, extents_blocks, overflow_in, catalog_extents}
 use Rattle.hfs_check.specs.Sound.{AreBlocksSound}
 use Rattle.hfs_call_patches.proofs.Different.{distinct-left, distinct-take, numbers-are, distinct-rows, owned-parts, others}
 

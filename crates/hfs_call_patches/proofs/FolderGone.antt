@@ -1,11 +1,11 @@
 -- A folder that went from its own, with the counts put, is the step of Delete.
-use Rattle.std.proofs.Common.{◌≡◌, ℕ, ◌-◌, true, List, sym, ◌∙◌, ap, subst}
+use Rattle.std.proofs.Common.{◌≡◌, ℕ, ◌-◌, List, sym, ◌∙◌, ap, subst}
 use Rattle.hfs_fields.specs.declared.key.CatKey.{CatKey}
 use Rattle.hfs_fields.specs.declared.dir_record.DirRecord.{DirRecord}
 use Rattle.hfs_fields.specs.declared.mdb.Mdb.{Mdb}
 use Rattle.hfs_btree.specs.Tree.{Store}
 use Rattle.hfs_model.specs.Choices.{to_delete}
-use Rattle.hfs_catalog.specs.Records.{Record, Catalog}
+use Rattle.hfs_catalog.specs.Records.{Catalog}
 use Rattle.hfs_catalog.specs.Tree.{catalog_of}
 use Rattle.hfs_check.specs.Parts.{Blocks, mdb_in, catalog_nodes, catalog_in}
 use Rattle.hfs_check.specs.Sound.{AreBlocksSound}
@@ -13,7 +13,7 @@ use Rattle.hfs_check.specs.VolumeOf.{volume_in}
 use Rattle.hfs_changes.specs.OnBlocks.{HasTree}
 use Rattle.hfs_changes.specs.PlaceLaws.{DeleteLeavesFolder}
 use Rattle.hfs_changes.specs.RemovalLaws.{HasDroppedItem, without_folder, DeleteFolderMakes}
-use Rattle.hfs_changes.specs.SettingLaws.{IsChoice, ChoiceStands}
+use Rattle.hfs_changes.specs.SettingLaws.{ChoiceStands}
 use Rattle.hfs_queries.specs.Folders.{found_with}
 use Rattle.hfs_call_patches.specs.CatalogPatch.{HasCatalog}
 use Rattle.hfs_call_patches.specs.Deleting.{IsParent, ItemDropped, MakesFolderDeletion}

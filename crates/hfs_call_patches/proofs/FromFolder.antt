@@ -1,25 +1,25 @@
 -- An item that goes from its folder in the nodes of a sound volume's catalog, and what that makes of the catalog's records.
-use Rattle.std.proofs.Common.{◌≡◌, inr, ℕ, ◌-◌, ◌≤◌, Bool, true, cond, List, [], ◌∷◌, refl, sym, ◌∙◌, ap, subst, arith, Option, Some, None}
+use Rattle.std.proofs.Common.{◌≡◌, inr, ℕ, ◌-◌, ◌≤◌, Bool, true, cond, List, [], ◌∷◌, sym, ◌∙◌, ap, subst, Option, Some, None}
 use Rattle.std.specs.Option.{option_map}
 use Rattle.hfs_fields.specs.declared.key.CatKey.{CatKey}
 use Rattle.hfs_fields.specs.declared.dir_record.DirRecord.{DirRecord}
 use Rattle.hfs_fields.specs.Keys.{cat_cmp}
 use Rattle.hfs_fields.specs.Records.{is_dir, is_item, item_id, dir_record_of, file_record_of}
 use Rattle.hfs_scans.specs.Each.{Each}
-use Rattle.hfs_scans.specs.Members.{In, each_in}
+use Rattle.hfs_scans.specs.Members.{each_in}
 use Rattle.hfs_btree.specs.Pairs.{Rises, lookup}
 use Rattle.hfs_btree.specs.Tree.{Store}
 use Rattle.hfs_model.specs.Choices.{to_delete}
 use Rattle.hfs_catalog.specs.Records.{Record, Catalog}
 use Rattle.hfs_catalog.specs.Lookups.{thread_of}
 use Rattle.hfs_catalog.specs.Sound.{IsRecord, IsIndexKeyName}
-use Rattle.hfs_catalog.specs.Tree.{cat_keys, IsCatalogTree, catalog_of}
+use Rattle.hfs_catalog.specs.Tree.{catalog_of}
 use Rattle.hfs_catalog_edits.specs.Bodies.{IfBody}
 use Rattle.hfs_catalog_edits.specs.Finds.{record_at, body_at, own_record}
 use Rattle.hfs_catalog_edits.specs.ItemEdits.{ItemWent, ValenceSet}
 use Rattle.hfs_catalog_edits.specs.Keeps.{KeepsCatalog, keeps_then}
 use Rattle.hfs_catalog_edits.specs.Swaps.{Swaps}
-use Rattle.hfs_check.specs.Parts.{Blocks, mdb_in, catalog_nodes, catalog_in}
+use Rattle.hfs_check.specs.Parts.{Blocks, catalog_nodes, catalog_in}
 use Rattle.hfs_check.specs.Sound.{AreBlocksSound}
 use Rattle.hfs_check.specs.VolumeOf.{volume_in}
 use Rattle.hfs_changes.specs.Changes.{IsFolderWith, folder_with}

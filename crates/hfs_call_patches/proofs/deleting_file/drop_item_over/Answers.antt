@@ -1,5 +1,5 @@
 -- The catalog's nodes are different blocks, and the edit kept what lies below them.
-use Rattle.std.proofs.Common.{true, sym, subst}
+use Rattle.std.proofs.Common.{sym, subst}
 use Rattle.hfs_blocks.specs.Layers.{changes}
 use Rattle.hfs_btree.specs.Sound.{IsDistinct}
 use Rattle.hfs_catalog.specs.Records.{Catalog}

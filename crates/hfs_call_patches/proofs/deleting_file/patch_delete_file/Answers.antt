@@ -7,7 +7,7 @@ use Rattle.hfs_btree_edits.specs.Written.{put_within}
 use Rattle.hfs_space.specs.Extents.{block_total, extent_blocks}
 use Rattle.hfs_space.specs.TreeKeys.{IsExtentsTree}
 use Rattle.hfs_changes.specs.Deletion.{without_one_file}
-use Rattle.hfs_check.specs.Parts.{mdb_in, catalog_nodes}
+use Rattle.hfs_check.specs.Parts.{catalog_nodes}
 use Rattle.hfs_call_patches.proofs.FileDeleted.{file_chosen_id, file_given, blocks_counted, freed_within, freed_alone, file_deleted}
 use Rattle.hfs_call_patches.proofs.FileGone.{extents_old, extents_first, catalog_second, file_gone, free_fits}
 use Rattle.hfs_call_patches.proofs.FromFolder.{under_by, stays_by, keeps_by, some_child}

@@ -1,11 +1,6 @@
 -- The folder went from the catalog's nodes, and then the counts were put.
-use Rattle.std.proofs.Common.{ap, sym, subst, arith}
-use Rattle.hfs_blocks.specs.Layers.{changes}
-use Rattle.hfs_blocks.specs.Blocks.{nodes_in}
-use Rattle.hfs_btree.specs.Tree.{Store}
-use Rattle.hfs_scans.specs.Each.{Each}
-use Rattle.hfs_catalog.specs.Sound.{IsRecord}
-use Rattle.hfs_catalog.specs.Tree.{IsCatalogTree, catalog_of}
+use Rattle.std.proofs.Common.{sym, subst, arith}
+use Rattle.hfs_catalog.specs.Tree.{IsCatalogTree}
 use Rattle.hfs_call_patches.proofs.FromFolder.{there_by, stays_by, keeps_by, some_child, opened_records}
 use Rattle.hfs_call_patches.proofs.FolderGone.{chosen_id, folder_gone}
 use Rattle.hfs_call_patches.proofs.Made.{if_ok}
