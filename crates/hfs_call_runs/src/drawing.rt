@@ -26,7 +26,7 @@ impl Drawn {
 
 /// A name: most of 12 short ones in either case, some of 31 bytes, and now and then one that no item may have.
 fn name(alloc: Global, drawn: &mut Drawn) -> Result<Bytes, AllocError> {
-    let number = b'a' + drawn.below(12) as u8;
+    let number = b'a' + drawn.below(12).min(11) as u8;
     let mut name = match drawn.below(16) {
         0 => Vec::from_slice(alloc, b"x:y")?,
         1 => Vec::from_slice(alloc, b"a name of twenty-nine bytes.. ")?,
@@ -144,7 +144,7 @@ fn set_or_read(
             created: 1,
             modified: drawn.below(1000),
             backup: 3,
-            info: [drawn.below(256) as u8; 32],
+            info: [drawn.below(256).min(255) as u8; 32],
             now,
         }),
         22 => Ok(Call::GetIndexed {
@@ -156,7 +156,7 @@ fn set_or_read(
             name,
             fork: Fork::ResFork,
             offset: 0,
-            count: 65_536 + drawn.below(2),
+            count: 65_536 + drawn.below(2).min(1),
         }),
     }
 }
