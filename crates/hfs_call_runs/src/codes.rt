@@ -63,7 +63,7 @@ impl Codes {
         }
     }
 
-    /// A call and a code that it was never answered, or was answered and isn't expected.
+    /// The number of a call, and a code that it was never answered.
     pub fn missing(&self) -> Option<(usize, i16)> {
         for (number, codes) in EXPECTED {
             for code in codes {

@@ -26,40 +26,50 @@ pub fn new_disk(alloc: Global, nodes: u32) -> Result<Disk> {
     }
 }
 
-/// Whether the header record counts too few free nodes for a call.
-fn is_wanting(header: &Header, call: &Call) -> bool {
-    u64::from(header.free_nodes) < call.need(u32::from(header.depth))
+/// An error where a reply doesn't tell the numbers of the header record, or these are enough for the call.
+fn ensure_full(call: &Call, reply: &Reply, header: &Header) -> Result<()> {
+    let (free, depth) = (header.free_nodes, u32::from(header.depth));
+    ensure!(
+        reply.code == DISK_FULL,
+        "{} answered with {} free nodes",
+        reply.code,
+        free
+    );
+    ensure!(u64::from(free) < call.need(depth), "{} free nodes", free);
+    ensure!(
+        is_full(&reply.value, free, depth),
+        "other numbers than {} and {}",
+        free,
+        depth
+    );
+    Ok(())
 }
 
-/// An error where a reply isn't that of a catalog without nodes.
-fn ensure_full(reply: &Reply, header: &Header) -> Result<()> {
-    ensure!(reply.code == DISK_FULL, "{} answered", reply.code);
-    match reply.value {
-        Value::Full { free, depth } => {
-            ensure!(free == header.free_nodes, "{} free nodes", free);
-            ensure!(depth == u32::from(header.depth), "{} levels", depth);
-            Ok(())
-        }
+/// Whether a reply tells so many free nodes and levels.
+fn is_full(value: &Value, free: u32, depth: u32) -> bool {
+    match value {
+        Value::Full {
+            free: told,
+            depth: levels,
+        } => *told == free && *levels == depth,
         Value::Nothing
         | Value::Id(_)
         | Value::One(_)
         | Value::Many(_)
         | Value::Bytes(_)
-        | Value::Place { .. } => bail!("no numbers told"),
+        | Value::Place { .. } => false,
     }
 }
 
-/// Creates items in the root until the catalog has too few free nodes, and tells how many there are.
+/// Creates items in the root until one is refused, since the catalog has too few free nodes, and tells how many there are.
 fn fill(alloc: Global, disk: &mut Disk, kind: Kind, order: Order) -> Result<u32> {
     for n in 0..MOST {
         let call = creation(alloc, kind, 2, order.number(n))?;
-        let header = disk.header()?;
-        if is_wanting(&header, &call) {
-            let reply = disk.reply(&call)?;
-            ensure_full(&reply, &header)?;
+        let reply = disk.reply(&call)?;
+        if reply.code != 0 {
+            ensure_full(&call, &reply, &disk.header()?)?;
             return Ok(n);
         }
-        disk.expect(&call, 0)?;
     }
     bail!("the catalog is never full")
 }

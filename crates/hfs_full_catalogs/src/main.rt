@@ -67,12 +67,7 @@ fn fill_with(alloc: Global, nodes: u32, kind: Kind) -> Result<()> {
     for (order, turned) in ORDERS {
         let count = fill_and_empty(alloc, nodes, kind, order, turned)?;
         if let Some(by_hand) = few(nodes, kind) {
-            ensure!(
-                count == by_hand,
-                "{} items in {} nodes",
-                count,
-                nodes
-            );
+            ensure!(count == by_hand, "{} items in {} nodes", count, nodes);
         }
     }
     Ok(())

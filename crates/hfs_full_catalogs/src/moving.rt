@@ -1,7 +1,7 @@
 //! How long it takes to move a folder into folders that lie in one another.
 use crate::creation::{Kind, creation, name};
-use crate::times::print_calls;
 use crate::disk::mounted;
+use crate::times::print_calls;
 use anyhow::{Result, bail};
 use hfs_model::{Call, Value};
 use hfs_volume::Volume;

@@ -93,19 +93,19 @@ fn settings(alloc: Global, volume: &Volume, folders: &[u32]) -> Result<Vec<Call>
     Ok(calls)
 }
 
-/// The call of a row for a file of a folder.
+/// What is done with a file.
 #[derive(Clone, Copy)]
-enum Row {
+enum Work {
     Create,
     Delete,
 }
 
-/// The calls of a row for each file that comes to a folder.
-fn push_row(alloc: Global, row: Row, dir: u32, calls: &mut Vec<Call>) -> Result<()> {
+/// Puts the calls for each file that comes to a folder behind the others.
+fn push_works(alloc: Global, work: Work, dir: u32, calls: &mut Vec<Call>) -> Result<()> {
     for number in 0..FILES {
-        let call = match row {
-            Row::Create => creation(alloc, Kind::File, dir, number)?,
-            Row::Delete => deletion(alloc, dir, number)?,
+        let call = match work {
+            Work::Create => creation(alloc, Kind::File, dir, number)?,
+            Work::Delete => deletion(alloc, dir, number)?,
         };
         calls.push(call)?;
     }
@@ -113,10 +113,10 @@ fn push_row(alloc: Global, row: Row, dir: u32, calls: &mut Vec<Call>) -> Result<
 }
 
 /// The calls that create or delete files in each of these folders.
-fn row(alloc: Global, row: Row, folders: &[u32]) -> Result<Vec<Call>> {
+fn works(alloc: Global, work: Work, folders: &[u32]) -> Result<Vec<Call>> {
     let mut calls = Vec::new(alloc);
     for dir in folders {
-        push_row(alloc, row, *dir, &mut calls)?;
+        push_works(alloc, work, *dir, &mut calls)?;
     }
     Ok(calls)
 }
@@ -128,9 +128,9 @@ pub fn print_times(rt: &(impl Print + AllocGlobal + Clock), image: &[u8]) -> Res
     let folders = folders(alloc, &volume)?;
     let set = settings(alloc, &volume, &folders)?;
     print_calls(rt, "SetFInfo", &mut volume, &set)?;
-    let create = row(alloc, Row::Create, &folders)?;
+    let create = works(alloc, Work::Create, &folders)?;
     print_calls(rt, "Create", &mut volume, &create)?;
-    let delete = row(alloc, Row::Delete, &folders)?;
+    let delete = works(alloc, Work::Delete, &folders)?;
     print_calls(rt, "Delete", &mut volume, &delete)?;
     print_calls(rt, "SetFInfo once more", &mut volume, &set)?;
     print_saving(rt, &volume, image)
@@ -154,7 +154,8 @@ fn print_saving(
         let copied = start.elapsed(rt)?.as_micros();
         println!(rt;
             "saved in {save} microseconds, copied in {copied}, {} blocks changed, {} bytes",
-            volume.changed(), copy.len()
+            volume.changed(),
+            copy.len()
         )?;
     }
     Ok(())
