@@ -88,7 +88,8 @@ impl Disk {
 
     /// How many children a folder has.
     pub fn valence(&self, dir: u32) -> Result<u32> {
-        match self.volume.get_dir_info(dir).value {
+        let reply = self.volume.get_dir_info(dir);
+        match &reply.value {
             Value::One(info) => Ok(info.valence),
             Value::Nothing
             | Value::Id(_)
