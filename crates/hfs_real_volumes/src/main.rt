@@ -8,7 +8,7 @@
 //! every folder of a volume.
 //!
 //! `folders FILE` prints the lines of `ls` for every folder of a volume, and `time FILE` how long it takes to read and write
-//! the nodes of its catalog, to list its folders, to mount it, and to answer by the rows that viewers read.
+//! the nodes of its catalog, to list its folders, and to mount it.
 #![tactic(auto)]
 
 mod asking;
@@ -25,7 +25,6 @@ mod mount_times;
 mod node_times;
 mod nodes;
 mod reports;
-mod row_times;
 mod rows;
 mod sums;
 mod trees;
@@ -128,8 +127,7 @@ fn print_folders(rt: &HostRuntime, file: &str) -> Result<()> {
     folder_lists::print_folders(rt, &volume, most)
 }
 
-/// Prints how long it takes to read and write the nodes of a volume's catalog, to list its folders, to mount it, and to answer
-/// by its rows.
+/// Prints how long it takes to read and write the nodes of a volume's catalog, to list its folders, and to mount it.
 fn print_times(rt: &HostRuntime, file: &str) -> Result<()> {
     let bytes = fs::read(rt, file)?;
     let image = image::open(&bytes)?;
@@ -137,7 +135,5 @@ fn print_times(rt: &HostRuntime, file: &str) -> Result<()> {
     node_times::print_times(rt, &nodes)?;
     let catalog = catalog::check(rt.alloc(), &image.mdb, &nodes)?;
     list_times::print_listing(rt, &catalog)?;
-    mount_times::print_mounting(rt, &bytes)?;
-    let volume = asking::mounted(rt.alloc(), bytes)?;
-    row_times::print_times(rt, &volume)
+    mount_times::print_mounting(rt, &bytes)
 }
