@@ -1,5 +1,5 @@
 //! Volumes that are locked, cut, or wrong in one byte.
-use crate::mounted::mounted;
+use hfs_volume_fixtures::mounted;
 use hfs_check::MountFault;
 use hfs_fixtures::{FixtureFault, SmallVolume, lay, small_image};
 use hfs_model::{Bytes, Call, Fork};

@@ -2,26 +2,14 @@
 #![tactic(auto)]
 
 #[cfg(test)]
-mod creating;
-#[cfg(test)]
 mod edges;
-#[cfg(test)]
-mod file_ids;
 #[cfg(test)]
 mod images;
 #[cfg(test)]
-mod mounted;
-#[cfg(test)]
 mod mounting;
-#[cfg(test)]
-mod moving;
 #[cfg(test)]
 mod reading;
 #[cfg(test)]
 mod repairs;
 #[cfg(test)]
 mod saving;
-#[cfg(test)]
-mod setting;
-#[cfg(test)]
-mod writers;

@@ -1,5 +1,5 @@
 //! The calls that read.
-use crate::mounted::small_volume;
+use hfs_volume_fixtures::small_volume;
 use hfs_fixtures::SmallVolume;
 use hfs_model::{Bytes, Call, Fork, Info, ItemKind, Reply, Value};
 use hfs_volume::{Opened, Volume};

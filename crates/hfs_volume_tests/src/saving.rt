@@ -2,8 +2,8 @@
 ghost use Rattle.std.specs.Prelude.{◌<◌};
 ghost use Rattle.hfs_blocks.specs.Blocks.{block_count};
 
-use crate::mounted::mounted;
-use crate::writers::LimitedWriter;
+use hfs_volume_fixtures::mounted;
+use hfs_volume_fixtures::LimitedWriter;
 use hfs_blocks::Patch;
 use hfs_fixtures::{SmallVolume, small_image};
 use hfs_volume::{Image, SaveFault};
