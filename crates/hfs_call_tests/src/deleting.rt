@@ -25,7 +25,10 @@ fn a_locked_file_is_neither_deleted_nor_renamed(rt: HostRuntime) -> Result<(), F
     let mut volume = small_volume(rt.alloc(), SmallVolume::Folder)?;
     assert_eq!(rt; set_lock(&mut volume, rt.alloc(), 16, b"f", true, 0)?, 0);
     assert_eq!(rt; delete(&mut volume, rt.alloc(), 16, b"f", 0)?, -45);
-    assert_eq!(rt; rename(&mut volume, rt.alloc(), 16, b"f", b"g", 0)?.code, -45);
+    assert_eq!(rt;
+        rename(&mut volume, rt.alloc(), 16, b"f", b"g", 0)?.code,
+        -45
+    );
     assert!(rt; is_there(&volume, 16, b"f"));
     assert_eq!(rt; set_lock(&mut volume, rt.alloc(), 16, b"f", false, 0)?, 0);
     assert_eq!(rt; delete(&mut volume, rt.alloc(), 16, b"f", 0)?, 0);

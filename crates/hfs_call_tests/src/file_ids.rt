@@ -129,8 +129,14 @@ fn a_thread_that_may_lack_nodes_is_refused(rt: HostRuntime) -> Result<(), Fail> 
 #[test]
 fn what_is_not_there_gets_no_id(rt: HostRuntime) -> Result<(), Fail> {
     let mut volume = small_volume(rt.alloc(), SmallVolume::OneFile)?;
-    assert_eq!(rt; create_file_id(&mut volume, rt.alloc(), 9, b"a:b", 7)?.code, -37);
-    assert_eq!(rt; create_file_id(&mut volume, rt.alloc(), 9, b"f", 7)?.code, -120);
+    assert_eq!(rt;
+        create_file_id(&mut volume, rt.alloc(), 9, b"a:b", 7)?.code,
+        -37
+    );
+    assert_eq!(rt;
+        create_file_id(&mut volume, rt.alloc(), 9, b"f", 7)?.code,
+        -120
+    );
     assert_eq!(rt; new_id(&mut volume, rt.alloc(), b"q")?.code, -43);
     assert_eq!(rt; volume.changed(), 0);
     Ok(())

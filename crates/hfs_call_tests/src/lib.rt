@@ -15,4 +15,6 @@ mod locked;
 #[cfg(test)]
 mod moving;
 #[cfg(test)]
+mod overflow;
+#[cfg(test)]
 mod setting;

@@ -33,7 +33,10 @@ fn full_volume(alloc: Global) -> Result<Volume, Fail> {
 #[test]
 fn a_name_comes_to_another_case_without_nodes(rt: HostRuntime) -> Result<(), Fail> {
     let mut volume = full_volume(rt.alloc())?;
-    assert_eq!(rt; rename_in_root(&mut volume, rt.alloc(), b"a", b"A")?.code, 0);
+    assert_eq!(rt;
+        rename_in_root(&mut volume, rt.alloc(), b"a", b"A")?.code,
+        0
+    );
     assert!(rt; is_there(&volume, 2, b"A"));
     Ok(())
 }
@@ -55,13 +58,31 @@ fn without_nodes_an_item_stays_as_it_was(rt: HostRuntime) -> Result<(), Fail> {
 fn new_names_are_tested_first(rt: HostRuntime) -> Result<(), Fail> {
     let mut volume = new_volume(rt.alloc(), 64, 6)?;
     assert_eq!(rt; create(&mut volume, rt.alloc(), 2, b"a", 0)?.code, 0);
-    assert_eq!(rt; rename_in_root(&mut volume, rt.alloc(), b"a", b"a")?.code, 0);
-    assert_eq!(rt; rename(&mut volume, rt.alloc(), 1, b"D", b"E", 0)?.code, -120);
-    assert_eq!(rt; rename_in_root(&mut volume, rt.alloc(), b"a", b"x:y")?.code, -37);
-    assert_eq!(rt; rename(&mut volume, rt.alloc(), 9, b"a", b"x:y", 0)?.code, -37);
+    assert_eq!(rt;
+        rename_in_root(&mut volume, rt.alloc(), b"a", b"a")?.code,
+        0
+    );
+    assert_eq!(rt;
+        rename(&mut volume, rt.alloc(), 1, b"D", b"E", 0)?.code,
+        -120
+    );
+    assert_eq!(rt;
+        rename_in_root(&mut volume, rt.alloc(), b"a", b"x:y")?.code,
+        -37
+    );
+    assert_eq!(rt;
+        rename(&mut volume, rt.alloc(), 9, b"a", b"x:y", 0)?.code,
+        -37
+    );
     assert_eq!(rt; create(&mut volume, rt.alloc(), 2, b"b", 0)?.code, 0);
-    assert_eq!(rt; rename_in_root(&mut volume, rt.alloc(), b"a", b"B")?.code, -48);
-    assert_eq!(rt; rename_in_root(&mut volume, rt.alloc(), b"q", b"z")?.code, -43);
+    assert_eq!(rt;
+        rename_in_root(&mut volume, rt.alloc(), b"a", b"B")?.code,
+        -48
+    );
+    assert_eq!(rt;
+        rename_in_root(&mut volume, rt.alloc(), b"q", b"z")?.code,
+        -43
+    );
     Ok(())
 }
 
@@ -83,7 +104,10 @@ fn a_thread_is_spelled_as_its_folder(rt: HostRuntime) -> Result<(), Fail> {
     let mut image = small_image(rt.alloc(), SmallVolume::Folder)?;
     lay(&mut image, 7, 247, b"D")?;
     let mut volume = mounted(rt.alloc(), image)?;
-    assert_eq!(rt; rename_in_root(&mut volume, rt.alloc(), b"D", b"d")?.code, 0);
+    assert_eq!(rt;
+        rename_in_root(&mut volume, rt.alloc(), b"D", b"d")?.code,
+        0
+    );
     let bytes = saved(rt.alloc(), &volume)?;
     assert!(rt; bytes.get(3737) == Some(&b'd'));
     assert!(rt; bytes.get(3831) == Some(&b'd'));
@@ -99,7 +123,10 @@ fn a_thread_of_another_spelling_follows_its_file(rt: HostRuntime) -> Result<(), 
     lay(&mut image, 7, 389, b"F")?;
     let mut volume = mounted(rt.alloc(), image)?;
     assert!(rt; is_found(&volume, 16, 2, b"f") || is_found(&volume, 16, 2, b"F"));
-    assert_eq!(rt; rename_in_root(&mut volume, rt.alloc(), b"f", b"h")?.code, 0);
+    assert_eq!(rt;
+        rename_in_root(&mut volume, rt.alloc(), b"f", b"h")?.code,
+        0
+    );
     assert!(rt; is_found(&volume, 16, 2, b"h"));
     let bytes = saved(rt.alloc(), &volume)?;
     assert!(rt; bytes.get(3960..3968) == Some([1, 2, 3, 4, 5, 6, 7, 8].as_slice()));
@@ -206,7 +233,10 @@ fn deep_volume(alloc: Global) -> Result<Volume, Fail> {
 fn a_deep_tree_is_moved_about(rt: HostRuntime) -> Result<(), Fail> {
     let mut volume = deep_volume(rt.alloc())?;
     assert_eq!(rt; cat_move(&mut volume, rt.alloc(), 2, b"x", 215, 0)?, -122);
-    assert_eq!(rt; rename(&mut volume, rt.alloc(), 115, b"x", b"y", 0)?.code, 0);
+    assert_eq!(rt;
+        rename(&mut volume, rt.alloc(), 115, b"x", b"y", 0)?.code,
+        0
+    );
     assert_eq!(rt; cat_move(&mut volume, rt.alloc(), 115, b"y", 2, 3)?, 0);
     assert_eq!(rt; folder_info(&volume, 116)?.parent, 2);
     assert_eq!(rt; cat_move(&mut volume, rt.alloc(), 2, b"x", 215, 4)?, 0);

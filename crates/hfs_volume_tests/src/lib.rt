@@ -13,3 +13,5 @@ mod reading;
 mod repairs;
 #[cfg(test)]
 mod saving;
+#[cfg(test)]
+mod sharing;
