@@ -69,8 +69,8 @@ fn empty(volume: &mut Volume, alloc: Global, count: u32) -> Result<(), Fail> {
 fn tree_numbers(alloc: Global, volume: &Volume) -> Result<Vec<u8>, Fail> {
     let bytes = saved(alloc, volume)?;
     let mut numbers = Vec::new(alloc);
-    for at in [14, 15, 20, 21, 22, 23, 40, 41, 42, 43] {
-        let byte = bytes.get(3072 + at).ok_or("the image is short")?;
+    for at in [3086, 3087, 3092, 3093, 3094, 3095, 3112, 3113, 3114, 3115] {
+        let byte = bytes.get(at).ok_or("the image is short")?;
         numbers.push(*byte)?;
     }
     Ok(numbers)

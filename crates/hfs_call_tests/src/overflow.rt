@@ -48,13 +48,8 @@ fn lay_extents(image: &mut [u8], k: usize) -> Result<(), Fail> {
 /// Lays where a record of that leaf begins: the k-th two bytes from the end.
 fn lay_offset(image: &mut [u8], k: usize) -> Result<(), Fail> {
     let small = k % 21;
-    let at = 14 + 20 * small;
-    lay(
-        image,
-        5,
-        510 - 2 * small,
-        &[(at / 256) as u8, (at % 256) as u8],
-    )?;
+    let at = 14 + 20 * (small as u16);
+    lay(image, 5, 510 - 2 * small, &at.to_be_bytes())?;
     Ok(())
 }
 
@@ -89,17 +84,26 @@ fn fragmented(alloc: Global) -> Result<Volume, Fail> {
     mounted(alloc, image)
 }
 
+/// The bytes of this volume, when the file is deleted.
+fn without_file(alloc: Global) -> Result<Vec<u8>, Fail> {
+    let mut volume = fragmented(alloc)?;
+    if info_of(&volume, 2, b"f")?.data_len != 32_256 {
+        return Err(Fail::new("another length"));
+    }
+    let code = delete(&mut volume, alloc, 2, b"f", 0)?;
+    if code == 0 {
+        saved(alloc, &volume)
+    } else {
+        Err(Fail::new("the file is not deleted"))
+    }
+}
+
+/// The bits of the blocks of the two trees alone are set, and the extents tree is empty.
 #[test]
 fn a_file_in_many_extents_is_deleted(rt: HostRuntime) -> Result<(), Fail> {
-    let mut volume = fragmented(rt.alloc())?;
-    assert_eq!(rt; info_of(&volume, 2, b"f")?.data_len, 32_256);
-    assert_eq!(rt; delete(&mut volume, rt.alloc(), 2, b"f", 0)?, 0);
-    let bytes = saved(rt.alloc(), &volume)?;
-    // the bitmap, the number of free blocks, and the extents tree, which is empty
-    assert!(rt;
-        bytes.get(1536..1555)
-            == Some([0xff, 0, 0, 0, 0, 0, 0, 0, 0, 0, 0, 0, 0, 0, 0, 0, 0, 0, 0].as_slice())
-    );
+    let bytes = without_file(rt.alloc())?;
+    assert!(rt; bytes.get(1536) == Some(&0xff));
+    assert!(rt; bytes.get(1537..1555) == Some([0; 18].as_slice()));
     assert!(rt; bytes.get(1058..1060) == Some([0, 146].as_slice()));
     assert!(rt; bytes.get(2062..2080) == Some([0; 18].as_slice()));
     assert!(rt; bytes.get(2088..2092) == Some([0, 0, 0, 1].as_slice()));

@@ -29,37 +29,55 @@ fn a_file_gets_an_id_once(rt: HostRuntime) -> Result<(), Fail> {
     let mut volume = small_volume(rt.alloc(), SmallVolume::OneFile)?;
     assert!(rt; !has_id(&volume, b"f")?);
     assert!(rt; new_id(&mut volume, rt.alloc(), b"F")?.is_id(16));
-    assert_eq!(rt; new_id(&mut volume, rt.alloc(), b"f")?.code, -1301);
+    assert!(rt; new_id(&mut volume, rt.alloc(), b"f")?.code == -1301);
     assert!(rt; has_id(&volume, b"f")?);
     assert!(rt; is_found(&volume, 16, 2, b"f"));
     Ok(())
 }
 
+/// The volume with one file, which has an ID.
+fn one_id(alloc: Global) -> Result<Volume, Fail> {
+    let mut volume = small_volume(alloc, SmallVolume::OneFile)?;
+    if new_id(&mut volume, alloc, b"f")?.is_id(16) {
+        Ok(volume)
+    } else {
+        Err(Fail::new("another ID"))
+    }
+}
+
 #[test]
 fn an_id_is_deleted_once(rt: HostRuntime) -> Result<(), Fail> {
-    let mut volume = small_volume(rt.alloc(), SmallVolume::OneFile)?;
-    assert_eq!(rt; new_id(&mut volume, rt.alloc(), b"f")?.code, 0);
-    assert_eq!(rt; drop_id(&mut volume, rt.alloc(), 2)?, -1302);
-    assert_eq!(rt; drop_id(&mut volume, rt.alloc(), 1)?, -1300);
-    assert_eq!(rt; drop_id(&mut volume, rt.alloc(), 99)?, -1300);
-    assert_eq!(rt; drop_id(&mut volume, rt.alloc(), 16)?, 0);
-    assert_eq!(rt; drop_id(&mut volume, rt.alloc(), 16)?, -1300);
+    let mut volume = one_id(rt.alloc())?;
+    for (id, code) in [(2, -1302), (1, -1300), (99, -1300), (16, 0), (16, -1300)] {
+        let found = drop_id(&mut volume, rt.alloc(), id)?;
+        assert!(rt; found == code, "{id}");
+    }
     assert!(rt; !has_id(&volume, b"f")?);
-    assert_eq!(rt; resolving_code(&volume, 16), -1300);
+    assert!(rt; resolving_code(&volume, 16) == -1300);
     Ok(())
+}
+
+/// A file `f` with an ID that was renamed to `g`, and a folder `d` with the ID 17.
+fn renamed(alloc: Global) -> Result<Volume, Fail> {
+    let mut volume = new_volume(alloc, 64, 20)?;
+    let file = create(&mut volume, alloc, 2, b"f", 0)?;
+    let given = new_id(&mut volume, alloc, b"f")?;
+    let named = rename(&mut volume, alloc, 2, b"f", b"g", 0)?;
+    let folder = dir_create(&mut volume, alloc, 2, b"d", 0)?;
+    if file.is_id(16) && given.is_id(16) && named.code == 0 && folder.is_id(17) {
+        Ok(volume)
+    } else {
+        Err(Fail::new("another code"))
+    }
 }
 
 #[test]
 fn an_id_follows_its_file(rt: HostRuntime) -> Result<(), Fail> {
-    let mut volume = new_volume(rt.alloc(), 64, 20)?;
-    assert!(rt; create(&mut volume, rt.alloc(), 2, b"f", 0)?.is_id(16));
-    assert!(rt; new_id(&mut volume, rt.alloc(), b"f")?.is_id(16));
-    assert_eq!(rt; rename(&mut volume, rt.alloc(), 2, b"f", b"g", 0)?.code, 0);
+    let mut volume = renamed(rt.alloc())?;
     assert!(rt; is_found(&volume, 16, 2, b"g"));
-    assert!(rt; dir_create(&mut volume, rt.alloc(), 2, b"d", 0)?.is_id(17));
-    assert_eq!(rt; cat_move(&mut volume, rt.alloc(), 2, b"g", 17, 0)?, 0);
+    assert!(rt; cat_move(&mut volume, rt.alloc(), 2, b"g", 17, 0)? == 0);
     assert!(rt; is_found(&volume, 16, 17, b"g"));
-    assert_eq!(rt; drop_id(&mut volume, rt.alloc(), 16)?, 0);
+    assert!(rt; drop_id(&mut volume, rt.alloc(), 16)? == 0);
     assert!(rt; is_there(&volume, 17, b"g"));
     Ok(())
 }
@@ -67,35 +85,43 @@ fn an_id_follows_its_file(rt: HostRuntime) -> Result<(), Fail> {
 #[test]
 fn a_folder_gets_no_id(rt: HostRuntime) -> Result<(), Fail> {
     let mut volume = small_volume(rt.alloc(), SmallVolume::Folder)?;
-    assert_eq!(rt; new_id(&mut volume, rt.alloc(), b"d")?.code, -1302);
-    assert_eq!(rt; drop_id(&mut volume, rt.alloc(), 16)?, -1302);
-    assert_eq!(rt; drop_id(&mut volume, rt.alloc(), 17)?, -1300);
-    assert_eq!(rt; resolving_code(&volume, 16), -1302);
-    assert_eq!(rt; volume.changed(), 0);
+    assert!(rt; new_id(&mut volume, rt.alloc(), b"d")?.code == -1302);
+    assert!(rt; drop_id(&mut volume, rt.alloc(), 16)? == -1302);
+    assert!(rt; drop_id(&mut volume, rt.alloc(), 17)? == -1300);
+    assert!(rt; resolving_code(&volume, 16) == -1302);
+    assert!(rt; volume.changed() == 0);
     Ok(())
+}
+
+/// The bytes of the volume with two files, when the first has got an ID.
+fn with_thread(alloc: Global) -> Result<Vec<u8>, Fail> {
+    let mut volume = small_volume(alloc, SmallVolume::TwoFiles)?;
+    let answer = new_id(&mut volume, alloc, b"f")?;
+    // the master directory block, the header node and the leaf
+    if answer.is_id(16) && volume.changed() == 3 {
+        saved(alloc, &volume)
+    } else {
+        Err(Fail::new("another change"))
+    }
 }
 
 /// In block 7 the flags of the first file stand in byte 156, those of the second in byte 266. The last record of the leaf is the
 /// thread: a key of ID 16, the kind of a file's thread, the parent 2 and the name.
 #[test]
 fn a_thread_comes_with_its_flag(rt: HostRuntime) -> Result<(), Fail> {
-    let mut volume = small_volume(rt.alloc(), SmallVolume::TwoFiles)?;
-    assert_eq!(rt; new_id(&mut volume, rt.alloc(), b"f")?.code, 0);
-    let bytes = saved(rt.alloc(), &volume)?;
+    let bytes = with_thread(rt.alloc())?;
     assert!(rt; bytes.get(3740) == Some(&0x82));
     assert!(rt; bytes.get(3850) == Some(&0x80));
     assert!(rt; bytes.get(3950..3960) == Some([6, 0, 0, 0, 0, 16, 0, 0, 4, 0].as_slice()));
     assert!(rt; bytes.get(3968..3974) == Some([0, 0, 0, 2, 1, b'f'].as_slice()));
-    // the master directory block, the header node and the leaf
-    assert_eq!(rt; volume.changed(), 3);
     Ok(())
 }
 
 #[test]
 fn a_thread_goes_with_its_flag(rt: HostRuntime) -> Result<(), Fail> {
     let mut volume = small_volume(rt.alloc(), SmallVolume::TwoFiles)?;
-    assert_eq!(rt; new_id(&mut volume, rt.alloc(), b"f")?.code, 0);
-    assert_eq!(rt; drop_id(&mut volume, rt.alloc(), 16)?, 0);
+    assert!(rt; new_id(&mut volume, rt.alloc(), b"f")?.code == 0);
+    assert!(rt; drop_id(&mut volume, rt.alloc(), 16)? == 0);
     let bytes = saved(rt.alloc(), &volume)?;
     assert!(rt; bytes.get(3740) == Some(&0x80));
     Ok(())
@@ -103,12 +129,19 @@ fn a_thread_goes_with_its_flag(rt: HostRuntime) -> Result<(), Fail> {
 
 /// The flags of the file that has a thread say that it has none, and those of the other that it has one.
 #[test]
+fn flags_say_nothing_of_threads(rt: HostRuntime) -> Result<(), Fail> {
+    let mut volume = small_volume(rt.alloc(), SmallVolume::FileThread)?;
+    assert!(rt; new_id(&mut volume, rt.alloc(), b"f")?.code == -1301);
+    assert!(rt; drop_id(&mut volume, rt.alloc(), 17)? == -1300);
+    assert!(rt; volume.changed() == 0);
+    Ok(())
+}
+
+#[test]
 fn flags_at_odds_with_threads_are_mended(rt: HostRuntime) -> Result<(), Fail> {
     let mut volume = small_volume(rt.alloc(), SmallVolume::FileThread)?;
-    assert_eq!(rt; new_id(&mut volume, rt.alloc(), b"f")?.code, -1301);
-    assert_eq!(rt; drop_id(&mut volume, rt.alloc(), 17)?, -1300);
     assert!(rt; new_id(&mut volume, rt.alloc(), b"g")?.is_id(17));
-    assert_eq!(rt; drop_id(&mut volume, rt.alloc(), 16)?, 0);
+    assert!(rt; drop_id(&mut volume, rt.alloc(), 16)? == 0);
     let bytes = saved(rt.alloc(), &volume)?;
     assert!(rt; bytes.get(3740) == Some(&0x80));
     assert!(rt; bytes.get(3850) == Some(&0x82));
@@ -121,43 +154,36 @@ fn flags_at_odds_with_threads_are_mended(rt: HostRuntime) -> Result<(), Fail> {
 fn a_thread_that_may_lack_nodes_is_refused(rt: HostRuntime) -> Result<(), Fail> {
     let mut volume = small_volume(rt.alloc(), SmallVolume::TwoLevels)?;
     assert!(rt; new_id(&mut volume, rt.alloc(), b"f")?.is_full(2, 2));
-    assert_eq!(rt; new_id(&mut volume, rt.alloc(), b"q")?.code, -43);
-    assert_eq!(rt; volume.changed(), 0);
+    assert!(rt; new_id(&mut volume, rt.alloc(), b"q")?.code == -43);
+    assert!(rt; volume.changed() == 0);
     Ok(())
 }
 
 #[test]
 fn what_is_not_there_gets_no_id(rt: HostRuntime) -> Result<(), Fail> {
     let mut volume = small_volume(rt.alloc(), SmallVolume::OneFile)?;
-    assert_eq!(rt;
-        create_file_id(&mut volume, rt.alloc(), 9, b"a:b", 7)?.code,
-        -37
-    );
-    assert_eq!(rt;
-        create_file_id(&mut volume, rt.alloc(), 9, b"f", 7)?.code,
-        -120
-    );
-    assert_eq!(rt; new_id(&mut volume, rt.alloc(), b"q")?.code, -43);
-    assert_eq!(rt; volume.changed(), 0);
+    assert!(rt; create_file_id(&mut volume, rt.alloc(), 9, b"a:b", 7)?.code == -37);
+    assert!(rt; create_file_id(&mut volume, rt.alloc(), 9, b"f", 7)?.code == -120);
+    assert!(rt; new_id(&mut volume, rt.alloc(), b"q")?.code == -43);
+    assert!(rt; volume.changed() == 0);
     Ok(())
 }
 
 #[test]
 fn a_locked_file_gets_an_id(rt: HostRuntime) -> Result<(), Fail> {
     let mut volume = small_volume(rt.alloc(), SmallVolume::OneFile)?;
-    assert_eq!(rt; set_lock(&mut volume, rt.alloc(), 2, b"f", true, 5)?, 0);
+    assert!(rt; set_lock(&mut volume, rt.alloc(), 2, b"f", true, 5)? == 0);
     assert!(rt; new_id(&mut volume, rt.alloc(), b"f")?.is_id(16));
-    assert_eq!(rt; drop_id(&mut volume, rt.alloc(), 16)?, 0);
+    assert!(rt; drop_id(&mut volume, rt.alloc(), 16)? == 0);
     Ok(())
 }
 
 #[test]
 fn an_id_is_saved_and_mounted_again(rt: HostRuntime) -> Result<(), Fail> {
-    let mut volume = small_volume(rt.alloc(), SmallVolume::OneFile)?;
-    assert_eq!(rt; new_id(&mut volume, rt.alloc(), b"f")?.code, 0);
+    let volume = one_id(rt.alloc())?;
     let mut again = remounted(rt.alloc(), &volume)?;
     assert!(rt; is_found(&again, 16, 2, b"f"));
-    assert_eq!(rt; drop_id(&mut again, rt.alloc(), 16)?, 0);
+    assert!(rt; drop_id(&mut again, rt.alloc(), 16)? == 0);
     let without = remounted(rt.alloc(), &again)?;
     assert!(rt; !has_id(&without, b"f")?);
     Ok(())
@@ -167,6 +193,6 @@ fn an_id_is_saved_and_mounted_again(rt: HostRuntime) -> Result<(), Fail> {
 fn without_memory_no_id_is_made(rt: HostRuntime) -> Result<(), Fail> {
     let mut volume = small_volume(rt.alloc(), SmallVolume::OneFile)?;
     let made = new_id(&mut volume, rt.alloc(), b"f").is_ok();
-    assert_eq!(rt; has_id(&volume, b"f")?, made);
+    assert!(rt; has_id(&volume, b"f")? == made);
     Ok(())
 }
