@@ -1,8 +1,6 @@
 //! Catalogs that are filled until there is no room, and emptied again.
 use hfs_volume::Volume;
-use hfs_volume_fixtures::{
-    Answer, create, delete, dir_create, folder_info, new_volume, remounted, saved,
-};
+use hfs_volume_fixtures::{Answer, create, delete, dir_create, folder_info, mounted, new_volume};
 use std::alloc::{AllocError, Global};
 use std::test::Fail;
 
@@ -64,10 +62,19 @@ fn empty(volume: &mut Volume, alloc: Global, count: u32) -> Result<(), Fail> {
     Ok(())
 }
 
+/// The image's bytes as they are now.
+fn bytes_of(alloc: Global, volume: &Volume) -> Result<Vec<u8>, Fail> {
+    let mut bytes = Vec::new(alloc);
+    match volume.save(&mut bytes) {
+        Ok(()) => Ok(bytes),
+        Err(_fault) => Err(Fail::new("the image is not saved")),
+    }
+}
+
 /// What the header node of the catalog, in block 6, tells of the tree: its depth, and the numbers of its records and of its free
 /// nodes.
 fn tree_numbers(alloc: Global, volume: &Volume) -> Result<Vec<u8>, Fail> {
-    let bytes = saved(alloc, volume)?;
+    let bytes = bytes_of(alloc, volume)?;
     let mut numbers = Vec::new(alloc);
     for at in [3086, 3087, 3092, 3093, 3094, 3095, 3112, 3113, 3114, 3115] {
         let byte = bytes.get(at).ok_or("the image is short")?;
@@ -81,7 +88,7 @@ fn filled(alloc: Global, catalog_nodes: u32, kind: Kind) -> Result<u32, Fail> {
     let mut volume = new_volume(alloc, 100, catalog_nodes)?;
     let start = tree_numbers(alloc, &volume)?;
     let count = fill(&mut volume, alloc, kind)?;
-    let full = remounted(alloc, &volume)?;
+    let full = mounted(alloc, bytes_of(alloc, &volume)?)?;
     if folder_info(&full, 2)?.valence != count {
         return Err(Fail::new("another number of items"));
     }
