@@ -1,5 +1,6 @@
 -- A step that publishes or enters keeps the rule of the pair.
-use Rattle.std.proofs.Common.{◌≡◌, ◌≢◌, ℕ, List, set, Option, Some, None, refl, ◌∙◌, subst, ⊎_elim}
+use Rattle.std.proofs.Common.{◌≡◌, ◌≢◌, ℕ, zero, suc, ◌+◌, List, [], ◌∷◌, ◌++◌, length, set, Option, Some, None, refl, sym, ap, ◌∙◌, subst, ⊎_elim, All, length-append, arith}
+use Rattle.std.proofs.lemmas.List.Elements.{All-append, All-nil}
 use mathlib.Core.Option.{some}
 use mathlib.Core.List.{IsPrefix}
 use lib.ListN.{get_elem?}
@@ -7,7 +8,7 @@ use Rattle.left_right.specs.Register.{Admits, Turns, TurnsAt, Forks, Merges}
 use Rattle.atomic_table.proofs.Lists.{at_set, at_snoc, set_again}
 use Rattle.hfs_published.specs.declared.published.Published.{Published}
 use Rattle.hfs_published.specs.Histories.{Known}
-use Rattle.hfs_published.specs.Lists.{IsGood, Begins, Keeps, Shown}
+use Rattle.hfs_published.specs.Lists.{IsGood, Begins, Keeps, Shown, Sits}
 use Rattle.hfs_published.proofs.Prefixes.{prefix_self, prefix_trans}
 
 View : Type 0
@@ -73,3 +74,24 @@ merges seat v other w x views h at apart there =
           (λ j k _ e. keeps_set x views seat w (λ i u _ e'. h.1 i u e') theirs j k e)
           (λ k e. absurd (cc e)),
     )
+
+-- a reader took this copy: its seat has seen the copy's list, which begins with what it met before
+pub taken : (v w out : Option Known) (x : Published) (met now : Known) → Shown v x x w → Sits met v → out ≡ w → now ≡ x.front
+    → Sits now out × (now.book ≡ met.book) × IsPrefix met.list now.list
+taken v w out x met now saw sits left same =
+    let b : Begins met x = saw.2 met sits in (
+      left ∙ saw.0 ∙ ap (λ (k : Known). let o : Option Known = Some k in o) (sym same),
+      ap (λ (k : Known). k.book) same ∙ sym b.0,
+      subst (λ (k : Known). IsPrefix met.list k.list) (sym same) b.1,
+    )
+
+-- one viewer more
+pub seated : (f : Known) (xs ys : List Known) (n : ℕ) → length xs ≡ n → All (λ (k : Known). k ≡ f) xs → ys ≡ xs ++ f ∷ []
+    → (length ys ≡ n + 1) × All (λ (k : Known). k ≡ f) ys
+seated f xs ys n long all is =
+    subst (λ (l : List Known). (length l ≡ n + 1) × All (λ (k : Known). k ≡ f) l) (sym is)
+    (omega (arith, long, length-append xs (f ∷ [])), All-append (λ (k : Known). k ≡ f) xs (f ∷ []) all (one f))
+  where
+    one : (g : Known) → All (λ (k : Known). k ≡ g) (g ∷ [])
+    one g zero d lt = refl
+    one g (suc i) d lt = absurd (omega (arith, lt))
