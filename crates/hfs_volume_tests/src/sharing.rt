@@ -2,7 +2,7 @@
 use hfs_fields::{Extent, FileRecord, ForkRecord};
 use hfs_fixtures::SmallVolume;
 use hfs_model::{Fork, Reply, Value};
-use hfs_volume_fixtures::{dir_create, saved, small_volume};
+use hfs_volume_fixtures::{delete, saved, small_volume};
 use std::test::Fail;
 
 /// How many children a list tells of.
@@ -81,8 +81,8 @@ fn extents_go_on_in_the_extents_tree(rt: HostRuntime) -> Result<(), Fail> {
 #[test]
 fn a_volume_is_mounted_anew_as_it_is(rt: HostRuntime) -> Result<(), Fail> {
     let mut volume = small_volume(rt.alloc(), SmallVolume::OneFile)?;
-    let _answer = dir_create(&mut volume, rt.alloc(), 2, b"new", 7)?;
-    assert!(rt; volume.changed() > 0);
+    let code = delete(&mut volume, rt.alloc(), 2, b"f", 7)?;
+    assert!(rt; code == 0 && volume.changed() > 0);
     let bytes = saved(rt.alloc(), &volume)?;
     let anew = volume.mounted_anew(rt.alloc()).ok().ok_or("no memory")?;
     assert!(rt; anew.changed() == 0);
