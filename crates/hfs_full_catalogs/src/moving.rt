@@ -1,0 +1,88 @@
+//! How long it takes to move a folder into folders that lie in one another.
+use crate::creation::{Kind, creation, name};
+use crate::disk::mounted;
+use crate::times::print_calls;
+use anyhow::{Result, bail};
+use hfs_model::{Call, Value};
+use hfs_volume::Volume;
+use std::alloc::Global;
+use std::rt::Clock;
+
+/// How many folders lie in one another.
+const DEPTH: u32 = 200;
+
+/// How often a folder is moved there and back.
+const ROUNDS: u32 = 500;
+
+/// The ID of the root.
+const ROOT: u32 = 2;
+
+/// Makes a folder, and tells its ID.
+fn new_folder(alloc: Global, volume: &mut Volume, dir: u32, number: u32) -> Result<u32> {
+    let call = creation(alloc, Kind::Folder, dir, number)?;
+    match volume.call(alloc, &call)?.value {
+        Value::Id(id) => Ok(id),
+        Value::Nothing
+        | Value::One(_)
+        | Value::Many(_)
+        | Value::Bytes(_)
+        | Value::Place { .. }
+        | Value::Full { .. } => bail!("no new folder"),
+    }
+}
+
+/// Makes folders, each in the one before it, and tells their IDs.
+fn chain(alloc: Global, volume: &mut Volume) -> Result<Vec<u32>> {
+    let mut ids = Vec::new(alloc);
+    let mut dir = ROOT;
+    for number in 0..DEPTH {
+        dir = new_folder(alloc, volume, dir, number)?;
+        ids.push(dir)?;
+    }
+    Ok(ids)
+}
+
+/// The calls that move the folder of this number from the root into a folder and back.
+fn moves(alloc: Global, number: u32, new_dir: u32) -> Result<Vec<Call>> {
+    let mut calls = Vec::new(alloc);
+    for round in 0..ROUNDS {
+        calls.push(Call::CatMove {
+            dir: ROOT,
+            name: name(alloc, number)?,
+            new_dir,
+            now: round,
+        })?;
+        calls.push(Call::CatMove {
+            dir: new_dir,
+            name: name(alloc, number)?,
+            new_dir: ROOT,
+            now: round,
+        })?;
+    }
+    Ok(calls)
+}
+
+/// Prints how long it takes to move a folder into another that lies so deep.
+fn print_depth(
+    rt: &(impl Print + AllocGlobal + Clock),
+    volume: &mut Volume,
+    what: &str,
+    dir: u32,
+) -> Result<()> {
+    let calls = moves(rt.alloc(), DEPTH, dir)?;
+    print_calls(rt, what, volume, &calls)
+}
+
+/// Prints how long moves take on the volume of an image.
+pub fn print_moves(rt: &(impl Print + AllocGlobal + Clock), image: &[u8]) -> Result<()> {
+    let alloc = rt.alloc();
+    let mut volume = mounted(alloc, Vec::from_slice(alloc, image)?)?;
+    let ids = chain(alloc, &mut volume)?;
+    let _moved = new_folder(alloc, &mut volume, ROOT, DEPTH)?;
+    let (Some(first), Some(middle), Some(last)) = (ids.get(0), ids.get(99), ids.get(199)) else {
+        bail!("too few folders");
+    };
+    print_depth(rt, &mut volume, "CatMove at depth 1", *first)?;
+    print_depth(rt, &mut volume, "CatMove at depth 100", *middle)?;
+    print_depth(rt, &mut volume, "CatMove at depth 200", *last)
+}
