@@ -14,6 +14,7 @@ cc -O2 -I "$libhfs" "$here/call_times.c" "$libhfs/libhfs.a" -o "$work/libhfs"
 for size in 6M 20M 64M; do
     sh "$here/make_volume.sh" "$work/many.img" "$size"
     echo "$size"
-    "$program" time "$work/many.img"
+    # libhfs first: it makes the catalog file longer, which our calls don't
     "$work/libhfs" "$work/many.img"
+    "$program" time "$work/many.img"
 done
