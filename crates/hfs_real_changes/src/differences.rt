@@ -3,6 +3,9 @@
 use anyhow::{Result, ensure};
 use hfs_volume::Volume;
 
+/// On how many items the whole image is compared with what it was before.
+const COMPARED: u32 = 20;
+
 /// How many blocks of 512 bytes differ, what follows the last whole one with them.
 fn count_differing(a: &[u8], b: &[u8]) -> usize {
     a.chunks(512)
@@ -11,12 +14,14 @@ fn count_differing(a: &[u8], b: &[u8]) -> usize {
         .count()
 }
 
-/// The bytes of a volume after its last call, and the most blocks that any call has changed.
+/// How many blocks the calls on a volume have changed, and its bytes behind the calls on an item.
 #[derive(Drop)]
 pub struct Differences {
     before: Vec<u8>,
     after: Vec<u8>,
-    most: usize,
+    compared: u32,
+    changed: u32,
+    most: u32,
 }
 
 impl Differences {
@@ -25,22 +30,36 @@ impl Differences {
         Differences {
             before,
             after,
+            compared: 0,
+            changed: 0,
             most: 0,
         }
     }
 
-    /// Takes in what a call changed. An error where the image is longer or shorter than it was.
-    pub fn take_in(&mut self, volume: &Volume) -> Result<()> {
+    /// Takes in how many blocks more are changed behind a call than before it.
+    pub fn take_in(&mut self, volume: &Volume) {
+        let changed = volume.changed();
+        self.most = self.most.max(changed.saturating_sub(self.changed));
+        self.changed = changed;
+    }
+
+    /// An error where the calls on one of the first items changed more than a leaf of the catalog and the master directory block.
+    pub fn compare(&mut self, volume: &Volume) -> Result<()> {
+        if self.compared >= COMPARED {
+            return Ok(());
+        }
+        self.compared = self.compared.wrapping_add(1);
         self.after.clear();
         ensure!(volume.save(&mut self.after).is_ok(), "not saved");
         ensure!(self.after.len() == self.before.len(), "another length");
-        self.most = self.most.max(count_differing(&self.before, &self.after));
+        let count = count_differing(&self.before, &self.after);
+        ensure!(count <= 2, "more blocks are changed");
         std::mem::swap(&mut self.before, &mut self.after);
         Ok(())
     }
 
-    /// The most blocks that any call has changed.
-    pub fn most(&self) -> usize {
+    /// The most blocks that any call has changed for the first time.
+    pub fn most(&self) -> u32 {
         self.most
     }
 }

@@ -6,7 +6,7 @@ use crate::images::{copied, mounted, saved, sound_report};
 use crate::items::{ensure_told, items_of};
 use crate::settings::{NOW, Setting};
 use anyhow::{Result, ensure};
-use hfs_model::{HARDWARE_LOCKED, Info, ItemKind};
+use hfs_model::{HARDWARE_LOCKED, Info};
 use hfs_volume::Volume;
 use std::alloc::Global;
 
@@ -45,16 +45,14 @@ fn set_all(alloc: Global, setting: &mut Setting, items: &[Info]) -> Result<Vec<I
 fn unlock_all(alloc: Global, setting: &mut Setting, items: &[Info]) -> Result<Vec<Info>> {
     let mut wanted = Vec::new(alloc);
     for item in items {
-        match item.kind {
-            ItemKind::File => wanted.push(setting.unlock(alloc, item)?)?,
-            ItemKind::Folder => wanted.push(*item)?,
-        }
+        wanted.push(setting.set_free(alloc, item)?)?;
     }
     Ok(wanted)
 }
 
-/// Sets, locks and unlocks all items of a volume, and answers how many they are and how many blocks a call changed at most.
-pub fn set_and_unlock(alloc: Global, image: &[u8]) -> Result<(usize, usize)> {
+/// Sets, locks and unlocks all items of a volume, and answers how many they are, and how many blocks a call changed at most
+/// that no call had changed before.
+pub fn set_and_unlock(alloc: Global, image: &[u8]) -> Result<(usize, u32)> {
     let given = with_tail(alloc, image)?;
     let mut setting = Setting {
         volume: copied(alloc, &given)?,

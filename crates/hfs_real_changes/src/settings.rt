@@ -37,7 +37,7 @@ fn with_settings(item: &Info, settings: &Settings) -> Info {
     info
 }
 
-/// A volume, and what its calls have changed.
+/// A volume, and how many blocks its calls have changed.
 #[derive(Drop)]
 pub struct Setting {
     pub volume: Volume,
@@ -50,7 +50,8 @@ impl Setting {
         ensure!(code == wanted_code, "another code");
         let found = told(&self.volume, wanted)?;
         ensure!(is_same(&found, wanted), "an item is set otherwise");
-        self.differences.take_in(&self.volume)
+        self.differences.take_in(&self.volume);
+        Ok(())
     }
 
     /// Sets the first 16 Finder bytes of an unlocked file to 255, and answers how it is told then.
@@ -83,7 +84,7 @@ impl Setting {
     }
 
     /// Unlocks a file, and answers how it is told then.
-    pub fn unlock(&mut self, alloc: Global, item: &Info) -> Result<Info> {
+    fn unlock(&mut self, alloc: Global, item: &Info) -> Result<Info> {
         let code = unlock(&mut self.volume, alloc, item, NOW)?;
         let mut wanted = *item;
         wanted.locked = false;
@@ -115,9 +116,21 @@ impl Setting {
 
     /// Sets all of an item, and answers how it is told then.
     pub fn set(&mut self, alloc: Global, item: &Info) -> Result<Info> {
-        match item.kind {
-            ItemKind::File => self.set_file(alloc, item),
-            ItemKind::Folder => self.set_folder(alloc, item),
-        }
+        let wanted = match item.kind {
+            ItemKind::File => self.set_file(alloc, item)?,
+            ItemKind::Folder => self.set_folder(alloc, item)?,
+        };
+        self.differences.compare(&self.volume)?;
+        Ok(wanted)
+    }
+
+    /// Unlocks an item that was set, if it is a file, and answers how it is told then.
+    pub fn set_free(&mut self, alloc: Global, item: &Info) -> Result<Info> {
+        let wanted = match item.kind {
+            ItemKind::File => self.unlock(alloc, item)?,
+            ItemKind::Folder => *item,
+        };
+        self.differences.compare(&self.volume)?;
+        Ok(wanted)
     }
 }
