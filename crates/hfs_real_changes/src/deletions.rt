@@ -13,7 +13,7 @@ use hfs_volume::Volume;
 use std::alloc::Global;
 
 /// How many files are deleted from one comparison of all that is left to the next.
-const STEP: usize = 10;
+const STEP: usize = 25;
 
 /// The moment of each change.
 const NOW: u32 = 3_123_456_789;
