@@ -109,7 +109,7 @@ copy_forks() {
             copy_forks "$path$name:" "$to"
         else
             hcopy -m "$path$name" "$folder/macbinary" || fail "hcopy of $path$name"
-            tail -c +84 "$folder/macbinary" | head -c 8 > "$to/$item"
+            dd if="$folder/macbinary" of="$to/$item" bs=1 skip=83 count=8 2> /dev/null
             tail -c +129 "$folder/macbinary" >> "$to/$item"
         fi
     done < <(peer_list "$path")
@@ -142,14 +142,14 @@ check_by_fsck() {
 # Wants that hfsutils shows the story's items in the mounted volume: the names in their order, the IDs and the date of what is new.
 compare_items() {
     local home=$1 line
-    peer_list : | grep -q -x "d.$home.7.0.Made by calls" || fail "the folder of the story"
+    peer_list : | grep -x "d.$home.7.0.Made by calls" > /dev/null || fail "the folder of the story"
     peer_list ':Made by calls:' > "$folder/story"
     printf '%s\n' 'made 1' 'MADE 2' 'made 4' 'made 5' 'Moved 1' 'Moved 2' 'Moved 3' > "$folder/names"
     cut -f 5 "$folder/story" | diff "$folder/names" - || fail "the names of the story"
     cut -f 2 "$folder/story" | head -n 4 > "$folder/numbers"
     printf '%s\n' $((home + 2)) $((home + 3)) $((home + 5)) $((home + 6)) | diff "$folder/numbers" - || fail "the IDs of the story"
     for line in "d  *7 items  *Jan  1  2002 Made by calls" "f  .* 0  *0 Jan  1  2002 made 5"; do
-        peer_lines -laR | grep -q -x "$line" || fail "the dates of the story: $line"
+        peer_lines -laR | grep -x "$line" > /dev/null || fail "the dates of the story: $line"
     done
 }
 
