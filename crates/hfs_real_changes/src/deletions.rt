@@ -5,7 +5,7 @@ use crate::forks::ensure_forks;
 use crate::images::{copied, saved, sound_report};
 use crate::items::{files_of, is_same, items_of, told};
 use crate::records::{ensure_kept, records};
-use anyhow::{Result, ensure};
+use anyhow::{Result, bail, ensure};
 use hfs_catalog::CatalogRecord;
 use hfs_check::Report;
 use hfs_model::{FILE_LOCKED, Info, NOT_FOUND};
@@ -76,7 +76,10 @@ pub fn delete_all(alloc: Global, image: &[u8]) -> Result<Report> {
         records: records(alloc, image)?,
         files: left.len(),
     };
-    while let Some(file) = left.pop() {
+    for _turn in 0..before.files {
+        let Some(file) = left.pop() else {
+            bail!("there are fewer files");
+        };
         delete_file(&mut volume, alloc, &file)?;
         if left.len() % STEP == 0 {
             ensure_left(alloc, &before, &volume, &left)?;
