@@ -239,6 +239,60 @@ done
 wants 0 'fixed valence 16 99 0\nfixed valence 17 99 4\nsound\n' repair "$folder/changed.img" "$folder/mended.img"
 cmp "$disk" "$folder/mended.img" || fail 'the repair of two folders'
 
+# The number in so many bytes of an image, the greatest first.
+number_at() {
+    od -An -v --endian=big -j "$2" -N "$3" -t "u$3" "$1" | tr -d ' '
+}
+
+# Makes one number of a volume wrong, and wants that it is mended: what another program wrote there is what is counted.
+repair_alone() {
+    local image=$1 place=$2 at=$3 bytes=$4 wrong='\001\002\003\004' was=16909060
+    if [ "$bytes" = 2 ]; then wrong='\001\002' was=258; fi
+    change "$image" "$at" "$wrong"
+    wants 0 "fixed $place $was $(number_at "$image" "$at" "$bytes")\nsound\n" repair "$folder/changed.img" "$folder/mended.img"
+    cmp "$image" "$folder/mended.img" || fail "the repair of $place in $image"
+}
+
+# Each of the ten kinds of number, alone, on volumes of other programs. The root's record is the first of the first leaf.
+for name in hfsutils-800k hfsutils-1440k-names genisoimage-locked; do
+    image=$volumes/$name.img
+    start=$(($(number_at "$image" 1052 2) * 512)) size=$(number_at "$image" 1044 4)
+    extents=$((start + $(number_at "$image" 1158 2) * size)) catalog=$((start + $(number_at "$image" 1174 2) * size))
+    leaf=$((catalog + 512 * $(number_at "$image" $((catalog + 24)) 4)))
+    key=$(number_at "$image" $((leaf + 14)) 1)
+    repair_alone "$image" drNmFls 1036 2
+    repair_alone "$image" drFreeBks 1058 2
+    repair_alone "$image" drNmRtDirs 1106 2
+    repair_alone "$image" drFilCnt 1108 4
+    repair_alone "$image" drDirCnt 1112 4
+    repair_alone "$image" 'extents bthNRecs' $((extents + 20)) 4
+    repair_alone "$image" 'extents bthFree' $((extents + 40)) 4
+    repair_alone "$image" 'catalog bthNRecs' $((catalog + 20)) 4
+    repair_alone "$image" 'catalog bthFree' $((catalog + 40)) 4
+    repair_alone "$image" 'valence 2' $((leaf + 14 + (key + 2) / 2 * 2 + 4)) 2
+done
+
+# A root of 65,537 files: neither its valence nor drNmFls can tell so many, so they stay, and the root's record is at fault. A count
+# beside them that could be mended stays, too.
+python3 tests/slow_volumes.py one_folder 65537 20 "$folder/changed.img"
+printf '\000\000\000\007' | dd of="$folder/changed.img" bs=1 seek=$((2 * 512 + 84)) conv=notrunc 2> /dev/null
+cp "$folder/changed.img" "$folder/kept.img"
+wants 2 'refused check C9 at 0\n' repair "$folder/changed.img" "$folder/changed.img"
+cmp "$folder/kept.img" "$folder/changed.img" || fail 'an image with a count too large for its field was written'
+rm "$folder/kept.img"
+
+# The other statuses of a repair. It makes no call, so that it never ends with 3.
+for words in repair "repair $disk" "repair $disk $folder/none.img x" "repair $disk $folder/none.img --now 1"; do
+    got=0
+    "$tool" $words > "$folder/printed" 2> "$folder/errors" || got=$?
+    [ "$got" = 1 ] && [ -s "$folder/printed" ] && [ ! -s "$folder/errors" ] || fail "'$words' ends with $got"
+done
+truncate -s 200M "$folder/sparse.img"
+got=0
+(ulimit -v 100000 && "$tool" repair "$folder/sparse.img" "$folder/none.img") > "$folder/printed" || got=$?
+[ "$got" = 5 ] && [ "$(cat "$folder/printed")" = 'out of memory' ] || fail "a repair with too little memory ends with $got"
+[ ! -e "$folder/none.img" ] || fail 'a repair that failed made a file'
+
 # The words, and files that are not there: the statuses 1 and 4.
 for words in sing ls cat "cat $small" "ls $small two" "ls $small 4294967296" "new $folder/none.img D 64 6"; do
     got=0
@@ -259,7 +313,7 @@ got=0
 [ "$got" = 4 ] && [ "$(cat "$folder/printed")" = 'cannot read stdin' ] || fail 'standard input that is no file'
 
 # A device that is full, and a pipe that nobody reads: status 4, and no further text.
-for words in "info $disk" "check $disk" "ls $disk" "cat $disk 19 m2"; do
+for words in "info $disk" "check $disk" "ls $disk" "cat $disk 19 m2" "repair $disk $folder/mended.img"; do
     got=0
     "$tool" $words > /dev/full 2> "$folder/errors" || got=$?
     [ "$got" = 4 ] && [ ! -s "$folder/errors" ] || fail "'$words' on a full device ends with $got"

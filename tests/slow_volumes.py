@@ -200,7 +200,8 @@ class Volume:
             valences[parent] = valences.get(parent, 0) + 1
         records = []
         for parent, name, number, is_folder, length, first, physical in self.items + [(1, 'Slow', ROOT, True, 0, [], 0)]:
-            body = folder_record(number, valences.get(number, 0)) if is_folder else file_record(number, length, physical, first)
+            # a count that its field can't tell loses its high bits
+            body = folder_record(number, valences.get(number, 0) % 65536) if is_folder else file_record(number, length, physical, first)
             records.append((parent, name, body))
             if is_folder:
                 records.append((number, '', thread_record(parent, name)))
@@ -230,7 +231,7 @@ class Volume:
         self.tree_file(extents, [(at, room)])
         folders = [i for i in self.items if i[3]]
         files = [i for i in self.items if not i[3]]
-        mdb = struct.pack('>HIIHHHHHIIHIH', 0x4244, NOW, NOW, 0x100, sum(i[0] == ROOT for i in files), 3, 0, self.blocks, size,
+        mdb = struct.pack('>HIIHHHHHIIHIH', 0x4244, NOW, NOW, 0x100, sum(i[0] == ROOT for i in files) % 65536, 3, 0, self.blocks, size,
                           size, self.start, max([FIRST_FREE - 1] + [i[2] for i in self.items]) + 1, self.blocks - self.next_block)
         mdb += name_bytes('Slow', 28) + struct.pack('>IHIII', 0, 0, 1, size, size)
         mdb += struct.pack('>HII', sum(i[0] == ROOT for i in folders), len(files), len(folders)) + bytes(32) + bytes(6)

@@ -30,8 +30,9 @@ use Rattle.hfs_queries.specs.Queries.{AreEntries}
 use Rattle.hfs_queries.specs.Replies.{folder_kind, folder_same}
 use Rattle.hfs_queries.specs.Told.{folder_info, body_info, told, only_folder, folder_with}
 use Rattle.hfs_call_edits.specs.Choosing.{unless_code}
-use Rattle.hfs_call_edits.specs.declared.new_places.NewPlace.{NewPlace}
-use Rattle.hfs_call_edits.specs.NewPlaces.{children_in, place_under, place_in, new_place, IsPlace, ChoosesPlace}
+use Rattle.hfs_call_patches.specs.declared.new_items.NewPlace.{NewPlace}
+use Rattle.hfs_call_edits.specs.NewPlaces.{children_in, place_under, place_in, new_place, ChoosesPlace}
+use Rattle.hfs_call_patches.specs.ReadyPlaces.{IsPlace}
 use Rattle.hfs_call_edits.specs.NewPlaces as records
 
 -- ---- a folder that was found by its ID

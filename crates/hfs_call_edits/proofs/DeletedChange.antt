@@ -19,9 +19,10 @@ use Rattle.hfs_check.specs.Sound.{AreBlocksSound}
 use Rattle.hfs_check.specs.VolumeOf.{volume_in}
 use Rattle.hfs_changes.specs.Laws.{CatalogEditsAreSteps}
 use Rattle.hfs_changes.specs.RemovalLaws.{without_folder}
-use Rattle.hfs_call_edits.specs.Deleting.{MakesFolderDeletion, IsFolderDeletion, MakesFileDeletion, IsFileDeletion}
-use Rattle.hfs_call_edits.specs.Edits.{IsChangeOf, IsEditOf}
-use Rattle.hfs_call_edits.specs.declared.editing.Change.{Change}
+use Rattle.hfs_call_patches.specs.Deleting.{MakesFolderDeletion, IsFolderDeletion, MakesFileDeletion, IsFileDeletion}
+use Rattle.hfs_call_patches.specs.CallChanges.{IsChangeOf}
+use Rattle.hfs_call_edits.specs.Edits.{IsEditOf}
+use Rattle.hfs_call_patches.specs.declared.change.Change.{Change}
 use Rattle.hfs_call_edits.proofs.Edited.{none_wanted}
 
 module _ (v : Volume) (dir now : ℕ) (name : List ℕ) where

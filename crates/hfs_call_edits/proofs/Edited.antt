@@ -1,5 +1,5 @@
 -- What the fields of an edited volume say of its blocks, and what an edit answers.
-use Rattle.std.proofs.Common.{◌≡◌, ℕ, ℤ, ◌<◌, Bool, true, false, ◌&&◌, List, refl, sym, ◌∙◌, ap, subst, arith, Ok, Err, Result}
+use Rattle.std.proofs.Common.{◌≡◌, ℕ, ℤ, Bool, true, false, ◌&&◌, List, refl, sym, ◌∙◌, ap, subst, arith, Ok, Err, Result}
 use Rattle.std.specs.Prelude.{nat_lt}
 use Rattle.std.proofs.lemmas.Bool.{le-ltb}
 use Rattle.hfs_fields.specs.declared.key.CatKey.{CatKey}
@@ -26,9 +26,9 @@ use Rattle.hfs_check.specs.VolumeOf.{volume_in}
 use Rattle.hfs_changes.specs.Laws.{CatalogEditsAreSteps}
 use Rattle.hfs_changes.specs.OnBlocks.{at_time}
 use Rattle.hfs_changes.specs.SettingLaws.{MakesAt, lock_call}
-use Rattle.hfs_call_edits.specs.declared.editing.Change.{Change}
-use Rattle.hfs_call_edits.specs.declared.settings.ItemSettings.{ItemSettings}
-use Rattle.hfs_call_edits.specs.Settings.{IsFileChoice, IsFolderChoice, set_cat_info_call}
+use Rattle.hfs_call_patches.specs.declared.change.Change.{Change}
+use Rattle.hfs_call_patches.specs.declared.settings.ItemSettings.{ItemSettings}
+use Rattle.hfs_call_patches.specs.Settings.{IsFileChoice, IsFolderChoice, set_cat_info_call}
 use Rattle.hfs_call_edits.specs.Edits.{IsEditing, IsEditOf, HasNodes, wants_nodes}
 
 -- ---- the volume of a view, and that of the field behind it

@@ -21,7 +21,7 @@ use Rattle.hfs_catalog.specs.Sound.{IsSoundCatalog}
 use Rattle.hfs_queries.specs.Folders.{found_with, folder_not_file}
 use Rattle.hfs_queries.specs.Found.{is_some-find, is_some-option_map}
 use Rattle.hfs_call_edits.specs.Choosing.{map_ok, lock_code, unless_code, file_part}
-use Rattle.hfs_call_edits.specs.FileIds.{unless_threaded, if_threaded, file_with_id}
+use Rattle.hfs_call_edits.specs.ChoosingFileIds.{unless_threaded, if_threaded, file_with_id}
 use Rattle.hfs_call_edits.proofs.Choices.{same_ok, err_ok}
 
 -- whether the ID has a thread, by the look-up of it

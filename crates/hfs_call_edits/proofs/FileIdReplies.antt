@@ -15,7 +15,7 @@ use Rattle.hfs_check.specs.VolumeOf.{volume_in}
 use Rattle.hfs_changes.specs.Laws.{CatalogEditsAreSteps}
 use Rattle.hfs_changes.specs.OnBlocks.{at_time}
 use Rattle.hfs_changes.specs.SettingLaws.{MakesAt}
-use Rattle.hfs_call_edits.specs.declared.editing.Change.{Change}
+use Rattle.hfs_call_patches.specs.declared.change.Change.{Change}
 use Rattle.hfs_call_edits.specs.Edits.{IsEditOf, wants_nodes}
 
 module _ (v : Volume) (now : ℕ) where

@@ -1,14 +1,14 @@
 -- What calls on file IDs choose by the catalog's records is what they choose in the volume.
-use Rattle.std.proofs.Common.{◌≡◌, ◌⊎◌, ⊎_elim, ℕ, ◌≤◌, ℤ, pos, Bool, true, false, cond, ◌&&◌, ◌==◌, eqb, List, length, arith, refl, sym, ◌∙◌, ap, subst, Option, Some, None, Ok, Err, Result}
+use Rattle.std.proofs.Common.{◌≡◌, ◌⊎◌, ⊎_elim, ℕ, ◌≤◌, ℤ, pos, Bool, true, false, cond, List, arith, refl, sym, ◌∙◌, ap, subst, Option, Some, None, Ok, Err, Result}
 use Rattle.std.specs.Prelude.{not, ◌||◌, IsTrue, IfOk}
 use Rattle.std.specs.Option.{option_map, option_map_or, ok_or}
 use Rattle.std.specs.Ordering.{int_eq}
-use Rattle.std.proofs.lemmas.Bool.{or_cases, true≢false, and_parts, eqb-true}
+use Rattle.std.proofs.lemmas.Bool.{or_cases, true≢false}
 use Rattle.hfs_fields.specs.declared.key.CatKey.{CatKey}
 use Rattle.hfs_fields.specs.declared.mdb.Mdb.{Mdb}
 use Rattle.hfs_fields.specs.declared.file_record.FileRecord.{FileRecord}
 use Rattle.hfs_fields.specs.Names.{is_item_name}
-use Rattle.hfs_fields.specs.Records.{is_dir, is_file, is_item, type_byte, item_id, is_bit_set, dir_record_of, file_record_of}
+use Rattle.hfs_fields.specs.Records.{is_dir, is_file, is_item, item_id, is_bit_set, dir_record_of, file_record_of}
 use Rattle.hfs_scans.specs.Members.{In, each_in}
 use Rattle.hfs_model.specs.declared.codes.TheConstants.{BAD_NAME, NOT_FOUND, HARDWARE_LOCKED, SOFTWARE_LOCKED, NOT_A_FOLDER, FILE_ID_NOT_FOUND, FILE_ID_EXISTS, NOT_A_FILE}
 use Rattle.hfs_model.specs.Volume.{Volume, Entry}
@@ -29,13 +29,15 @@ use Rattle.hfs_changes.specs.SettingLaws.{IsChoice, ChoiceStands}
 use Rattle.hfs_queries.specs.Folders.{HasId, found_with}
 use Rattle.hfs_queries.specs.Queries.{AreEntries}
 use Rattle.hfs_queries.specs.Replies.{folder_kind}
-use Rattle.hfs_call_edits.specs.Settings.{IsBody, IsFileChoice}
+use Rattle.hfs_call_patches.specs.Settings.{IsBody}
 use Rattle.hfs_call_edits.specs.Choosing.{map_ok, unless_code, lock_code, file_part}
 use Rattle.hfs_call_edits.specs.Choosing as records
 use Rattle.hfs_call_edits.specs.Edits.{IsChosenFile, ChoosesFile}
-use Rattle.hfs_call_edits.specs.FileIds.{IsThreadless, unless_threaded, if_threaded, file_without_id, file_with_id}
+use Rattle.hfs_call_patches.specs.FileIds.{IsThreadless}
+use Rattle.hfs_call_edits.specs.ChoosingFileIds.{unless_threaded, if_threaded, file_without_id, file_with_id}
 use Rattle.hfs_call_edits.proofs.Choices.{same_ok, err_ok}
 use Rattle.hfs_call_edits.proofs.Chosen.{child_same, child_is, chosen_file}
+use Rattle.hfs_call_patches.specs.ChosenFiles.{file_no_dir, file_id_is}
 
 -- ---- a file that has a thread, or none
 
@@ -206,16 +208,6 @@ module _ (stands : ChoiceStands) (total : ℕ) (old : Blocks) (sound : AreBlocks
       result (e ∙ (λ i. map_ok file_part (file_with_id (own i) (content i) id)))
 
 -- ---- the file that gets a thread
-
-file_no_dir : (body : List ℕ) → is_file body ≡ true → is_dir body ≡ false
-file_no_dir body is = ap (λ (n : ℕ). (n == 1) && (length body == 70)) (eqb-true (type_byte body) 2 (and_parts (eqb (type_byte body) 2) (eqb (length body) 102) is).0)
-
--- the ID in a file's record is the one under which it was chosen
-pub file_id_is : (old : Blocks) (chosen : Result Entry ℤ) (key : CatKey) (f : FileRecord) (c : IsFileChoice old chosen key f) → f.id ≡ c.choice.id
-file_id_is old chosen key f c =
-    ap (λ (g : FileRecord). g.id) (sym c.own_file)
-    ∙ sym (ap (λ (b : Bool). cond b (dir_record_of c.of.1).id (file_record_of c.of.1).id) (file_no_dir c.of.1 c.is))
-    ∙ (found_with (catalog_in old) c.choice.id c.of c.choice.was).same
 
 module _ (total : ℕ) (old : Blocks) (sound : AreBlocksSound total old) where
   id_least : (r : Record) → In r (catalog_in old) → is_item r.1 ≡ true → 2 ≤ item_id r.1

@@ -11,8 +11,8 @@ use Rattle.hfs_catalog.specs.Records.{Record, Catalog, item_with}
 use Rattle.hfs_catalog.specs.Lookups.{catalog_item}
 use Rattle.hfs_queries.specs.Folders.{folder_not_file}
 use Rattle.hfs_queries.specs.Told.{only_folder, folder_with}
-use Rattle.hfs_call_edits.specs.declared.choosing_moving.FolderPlace.{FolderPlace}
-use Rattle.hfs_call_edits.specs.Moving.{place_of, folder_place}
+use Rattle.hfs_call_patches.specs.declared.valences.FolderPlace.{FolderPlace}
+use Rattle.hfs_call_edits.specs.ChoosingMoving.{place_of, folder_place}
 use Rattle.hfs_call_edits.proofs.UpFolders.{key_is}
 
 same_folder : (d e : DirRecord) → Folder d ≡ Folder e → d ≡ e

@@ -32,11 +32,12 @@ use Rattle.hfs_queries.specs.Found.{is_some-option_map}
 use Rattle.hfs_queries.specs.Queries.{AreEntries}
 use Rattle.hfs_queries.specs.Replies.{folder_kind, folder_same}
 use Rattle.hfs_queries.specs.Told.{only_folder, folder_with}
-use Rattle.hfs_call_edits.specs.declared.choosing_moving.Moving.{Moving}
+use Rattle.hfs_call_patches.specs.declared.moving.Moving.{Moving}
 use Rattle.hfs_call_edits.specs.Choosing.{map_ok}
 use Rattle.hfs_call_edits.specs.Choosing as records
-use Rattle.hfs_call_edits.specs.Moving.{most_steps, up_by_folders, place_of, folder_place, is_folder_body, is_folder_item, moving, moving_into, moving_to, item_to_move, IsMoving, ChoosesMoving}
-use Rattle.hfs_call_edits.specs.Renaming.{own_id}
+use Rattle.hfs_call_edits.specs.ChoosingMoving.{most_steps, up_by_folders, place_of, folder_place, is_folder_body, is_folder_item, moving, moving_into, moving_to, item_to_move, ChoosesMoving}
+use Rattle.hfs_call_patches.specs.Moving.{IsMoving}
+use Rattle.hfs_call_edits.specs.ChoosingRenaming.{own_id}
 use Rattle.hfs_call_edits.proofs.Chosen.{child_same, here}
 use Rattle.hfs_call_edits.proofs.RenameChoice.{own_is}
 use Rattle.hfs_call_edits.proofs.RenameModel.{IsNamedChild, child_parts, folder_found, child_coded, code_of}

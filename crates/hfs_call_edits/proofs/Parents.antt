@@ -6,7 +6,6 @@ use Rattle.std.proofs.lemmas.Option.{none-some, same_Some}
 use Rattle.hfs_fields.specs.Records.{is_dir, dir_record_of, file_record_of}
 use Rattle.hfs_fields.specs.declared.dir_record.DirRecord.{DirRecord}
 use Rattle.hfs_fields.specs.declared.file_record.FileRecord.{FileRecord}
-use Rattle.hfs_catalog.specs.declared.item.ItemRecord.{ItemRecord}
 use Rattle.hfs_catalog.specs.declared.item.ItemRecord.TheVariants.{Folder, File}
 use Rattle.hfs_catalog.specs.declared.item.CatalogItem.{CatalogItem}
 use Rattle.hfs_catalog.specs.Records.{Record, Catalog, item_with}
@@ -14,7 +13,7 @@ use Rattle.hfs_catalog.specs.Lookups.{catalog_item}
 use Rattle.hfs_queries.specs.Folders.{folder_not_file}
 use Rattle.hfs_queries.specs.Found.{is_some-option_map}
 use Rattle.hfs_queries.specs.Told.{only_folder, folder_with, is_folder}
-use Rattle.hfs_call_edits.specs.Deleting.{IsParent}
+use Rattle.hfs_call_patches.specs.Deleting.{IsParent}
 
 same_folder : (d e : DirRecord) → Folder d ≡ Folder e → d ≡ e
 same_folder d e f = cc

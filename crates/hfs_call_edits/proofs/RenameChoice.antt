@@ -11,9 +11,9 @@ use Rattle.hfs_catalog.specs.declared.item.ItemRecord.TheVariants.{Folder, File}
 use Rattle.hfs_catalog.specs.declared.item.CatalogItem.{CatalogItem}
 use Rattle.hfs_catalog.specs.Records.{Record, Catalog}
 use Rattle.hfs_catalog.specs.Lookups.{catalog_item}
-use Rattle.hfs_call_edits.specs.declared.rekeying.Rekeying.{Rekeying}
+use Rattle.hfs_call_patches.specs.declared.rekeying.Rekeying.{Rekeying}
 use Rattle.hfs_call_edits.specs.Choosing.{map_ok, unless_code}
-use Rattle.hfs_call_edits.specs.Renaming.{own_body_id, own_id, is_taken, unless_taken, renaming}
+use Rattle.hfs_call_edits.specs.ChoosingRenaming.{own_body_id, own_id, is_taken, unless_taken, renaming}
 use Rattle.hfs_call_edits.proofs.Choices.{same_ok, err_ok}
 
 -- the item of a record has its ID

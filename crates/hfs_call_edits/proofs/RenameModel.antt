@@ -17,7 +17,6 @@ use Rattle.hfs_model.specs.Lawful.{IsLawful}
 use Rattle.hfs_catalog.specs.Records.{Record, Catalog, item_with, is_child_of}
 use Rattle.hfs_catalog.specs.Items.{Contents, entry_of}
 use Rattle.hfs_catalog.specs.Laws.{SoundIsLawful}
-use Rattle.hfs_catalog.specs.Lookups.{is_child_named}
 use Rattle.hfs_catalog.specs.Lookups as lookups
 use Rattle.hfs_check.specs.Laws.{CatalogIsSound}
 use Rattle.hfs_check.specs.Parts.{Blocks, mdb_in, catalog_in}
@@ -30,10 +29,10 @@ use Rattle.hfs_changes.specs.SettingLaws.{ChoiceStands}
 use Rattle.hfs_queries.specs.Queries.{AreEntries}
 use Rattle.hfs_queries.specs.Told.{only_folder}
 use Rattle.hfs_queries.specs.Told as told
-use Rattle.hfs_call_edits.specs.declared.rekeying.Rekeying.{Rekeying}
+use Rattle.hfs_call_patches.specs.declared.rekeying.Rekeying.{Rekeying}
 use Rattle.hfs_call_edits.specs.Choosing.{map_ok, unless_code, unless_locked, item_to_set}
 use Rattle.hfs_call_edits.specs.Choosing as records
-use Rattle.hfs_call_edits.specs.Renaming.{is_taken, unless_taken, item_to_rename, renaming, IsRenaming, ChoosesRenaming}
+use Rattle.hfs_call_edits.specs.ChoosingRenaming.{is_taken, unless_taken, item_to_rename, renaming, IsRenaming, ChoosesRenaming}
 use Rattle.hfs_call_edits.proofs.Choices.{same_ok, err_ok}
 use Rattle.hfs_call_edits.proofs.Chosen.{by_lock, by_test, next_same, item_same, here}
 use Rattle.hfs_call_edits.proofs.Taken.{taken_is}

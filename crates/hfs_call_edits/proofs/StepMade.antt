@@ -12,7 +12,7 @@ use Rattle.hfs_check.specs.Parts.{Blocks}
 use Rattle.hfs_check.specs.Sound.{AreBlocksSound}
 use Rattle.hfs_check.specs.VolumeOf.{volume_in}
 use Rattle.hfs_changes.specs.Laws.{MakesStep, CatalogEditsAreSteps}
-use Rattle.hfs_call_edits.specs.declared.editing.Change.{Change}
+use Rattle.hfs_call_patches.specs.declared.change.Change.{Change}
 use Rattle.hfs_call_edits.specs.Edits.{IsEditOf, wants_nodes}
 
 module _ {B : Type 0} (blocks : B → Blocks) (totals : B → ℕ) (now own : B) (view_is : own ≡ now) where

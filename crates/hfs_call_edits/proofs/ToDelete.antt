@@ -27,7 +27,7 @@ use Rattle.hfs_queries.specs.Replies.{folder_kind, child_item}
 use Rattle.hfs_queries.specs.Told.{is_folder, body_info, folder_info, file_info}
 use Rattle.hfs_call_edits.specs.Choosing.{map_ok, lock_code, unless_code, is_locked, unless_locked, is_locked_body, is_locked_item}
 use Rattle.hfs_call_edits.specs.Choosing as records
-use Rattle.hfs_call_edits.specs.Deleting.{is_busy, unless_held, item_to_delete, is_busy_item, is_busy_body}
+use Rattle.hfs_call_edits.specs.ChoosingDelete.{is_busy, unless_held, item_to_delete, is_busy_item, is_busy_body}
 use Rattle.hfs_call_edits.specs.Edits.{ChoosesItem}
 use Rattle.hfs_call_edits.proofs.Choices.{same_ok, err_ok}
 use Rattle.hfs_call_edits.proofs.Chosen.{child_same, child_is, chosen_body}

@@ -1,39 +1,30 @@
 -- What calls that change a volume choose in its blocks, and what they make of them.
 use Rattle.std.specs.Prelude.{◌≡◌, ℕ, ℤ, Bool, true, false, IsTrue, List, Result, Ok, Err}
-use Rattle.std.specs.List.{flat_map}
 use Rattle.std.specs.Result.{MatchResult}
 use Rattle.hfs_fields.specs.declared.key.CatKey.{CatKey}
 use Rattle.hfs_fields.specs.declared.mdb.Mdb.{Mdb}
 use Rattle.hfs_fields.specs.declared.dir_record.DirRecord.{DirRecord}
 use Rattle.hfs_fields.specs.declared.file_record.FileRecord.{FileRecord}
-use Rattle.hfs_fields.specs.Counts.{with_counts}
 use Rattle.hfs_fields.specs.Names.{is_item_name}
 use Rattle.hfs_blocks.specs.declared.run.Run.{Run}
-use Rattle.hfs_blocks.specs.Blocks.{run_of, AreRunsWithin}
-use Rattle.hfs_blocks.specs.Layers.{changes, over, AreWithin}
 use Rattle.hfs_btree.specs.Header.{depth_of, free_nodes}
 use Rattle.hfs_model.specs.declared.call.Call.{Call}
-use Rattle.hfs_model.specs.Volume.{Volume, Entry}
-use Rattle.hfs_model.specs.Changes.{Outcome, refused}
+use Rattle.hfs_model.specs.Volume.{Entry}
+use Rattle.hfs_model.specs.Changes.{refused}
 use Rattle.hfs_model.specs.Need.{meets_want_of_nodes}
-use Rattle.hfs_model.specs.Replies.{success}
 use Rattle.hfs_model.specs.Step.{step}
 use Rattle.hfs_catalog.specs.declared.item.ItemRecord.{ItemRecord}
 use Rattle.hfs_catalog.specs.declared.item.ItemRecord.TheVariants.{Folder, File}
 use Rattle.hfs_catalog.specs.declared.item.CatalogItem.{CatalogItem}
-use Rattle.hfs_check.specs.Parts.{Blocks, mdb_in, extents_blocks, catalog_nodes, catalog_in}
+use Rattle.hfs_check.specs.Parts.{Blocks, mdb_in, catalog_nodes, catalog_in}
 use Rattle.hfs_check.specs.Sound.{AreBlocksSound}
 use Rattle.hfs_check.specs.VolumeOf.{volume_in}
-use Rattle.hfs_changes.specs.Laws.{IsStepped}
-use Rattle.hfs_call_edits.specs.Settings.{IsCatalogFile, IsFileUnder, IsFolderUnder, IsFileChoice, IsFolderChoice}
-use Rattle.hfs_call_edits.specs.declared.editing.Change.{Change}
+use Rattle.hfs_call_patches.specs.TreeFiles.{IsCatalogFile, IsExtentsFile}
+use Rattle.hfs_call_patches.specs.Settings.{IsFileUnder, IsFolderUnder, IsFileChoice, IsFolderChoice}
+use Rattle.hfs_call_patches.specs.declared.change.Change.{Change}
 use Rattle.hfs_call_edits.specs.declared.editing.Refusal.{Refusal}
 use Rattle.hfs_call_edits.specs.declared.editing.Refusal.TheVariants as refusal
-
--- in these runs, which are those with the right numbers, lie the nodes of the extents tree's file
-pub record IsExtentsFile (runs : List Run) (total : ℕ) (blocks : Blocks) : Type 0 where
-  pub within : AreRunsWithin runs total
-  pub numbers : flat_map run_of runs ≡ extents_blocks blocks
+use Rattle.hfs_call_patches.specs.CallChanges.{IsChangeOf}
 
 -- the volume is sound; this is its master directory block, and in these runs lie the nodes of its trees
 pub record IsEditing (total : ℕ) (blocks : Blocks) (mdb : Mdb) (extents catalog : List Run) : Type 0 where
@@ -69,13 +60,6 @@ abbrev pub ChoosesItem : Blocks → Result Entry ℤ → Result CatalogItem ℤ 
 ChoosesItem old chosen result = MatchResult result (λ item. IsChosenBody old chosen item.key item.body) (λ code. chosen ≡ Err code)
 
 -- ---- edits
-
--- laid over the volume, it makes the call's step, with its reply
-pub record IsChangeOf (c : Call) (total : ℕ) (old : Blocks) (change : Change) : Type 0 where
-  pub within : AreWithin (changes change.patch) total
-  pub stepped : IsStepped c total old (over (changes change.patch) old)
-  pub directory : mdb_in (over (changes change.patch) old) ≡ with_counts change.counts (mdb_in old)
-  pub reply : (step (volume_in old) c).1 ≡ success change.value
 
 -- whether the call meets want of nodes in the volume's catalog
 abbrev pub wants_nodes : Call → Blocks → Bool

@@ -1,28 +1,20 @@
 -- Where Create and DirCreate put a new item, by the master directory block and the records of a catalog.
-use Rattle.std.specs.Prelude.{◌≡◌, ◌<◌, ◌^◌, ℕ, ℤ, Bool, true, not, ◌||◌, ◌==◌, nat_lt, is_some, if◌then◌else◌, List, Result, Ok, Err}
+use Rattle.std.specs.Prelude.{◌≡◌, ℕ, ℤ, Bool, not, ◌||◌, ◌==◌, nat_lt, is_some, if◌then◌else◌, List, Result, Ok, Err}
 use Rattle.std.specs.Option.{option_map_or}
 use Rattle.std.specs.Result.{MatchResult}
 use Rattle.hfs_fields.specs.Names.{is_item_name}
-use Rattle.hfs_fields.specs.Records.{dir_record_of}
 use Rattle.hfs_fields.specs.declared.mdb.Mdb.{Mdb}
-use Rattle.hfs_blocks.specs.declared.run.Run.{Run}
-use Rattle.hfs_btree.specs.Header.{header_in}
-use Rattle.hfs_model.specs.Choices.{to_create}
 use Rattle.hfs_model.specs.declared.codes.TheConstants.{FOLDER_FULL, BAD_NAME, DUPLICATE, NOT_A_FOLDER}
 use Rattle.hfs_catalog.specs.declared.item.ItemRecord.{ItemRecord}
 use Rattle.hfs_catalog.specs.declared.item.ItemRecord.TheVariants.{Folder, File}
 use Rattle.hfs_catalog.specs.declared.item.CatalogItem.{CatalogItem}
 use Rattle.hfs_catalog.specs.Records.{Record, Catalog}
 use Rattle.hfs_catalog.specs.Lookups.{catalog_item, child_named}
-use Rattle.hfs_catalog_edits.specs.Rooms.{IsInFile}
-use Rattle.hfs_check.specs.Parts.{Blocks, mdb_in, catalog_nodes, catalog_in}
-use Rattle.hfs_check.specs.Sound.{AreBlocksSound}
-use Rattle.hfs_check.specs.VolumeOf.{volume_in}
-use Rattle.hfs_changes.specs.Changes.{IsFolderWith}
+use Rattle.hfs_check.specs.Parts.{Blocks}
 use Rattle.hfs_queries.specs.Told.{folder_with}
 use Rattle.hfs_call_edits.specs.Choosing.{lock_code, unless_code}
-use Rattle.hfs_call_edits.specs.Settings.{IsCatalogFile}
-use Rattle.hfs_call_edits.specs.declared.new_places.NewPlace.{NewPlace}
+use Rattle.hfs_call_patches.specs.declared.new_items.NewPlace.{NewPlace}
+use Rattle.hfs_call_patches.specs.ReadyPlaces.{IsPlace}
 
 -- how many children a folder's record says that it has; a file has none
 abbrev pub children_in : ItemRecord → ℕ
@@ -51,25 +43,6 @@ new_place mdb catalog dir name = unless_code (lock_code mdb) (
 
 -- ---- on the blocks of a volume
 
--- a call chooses the next ID for an item of that name under this folder
-pub record IsPlace (old : Blocks) (chosen : Result ℕ ℤ) (dir : ℕ) (name : List ℕ) (place : NewPlace) : Type 0 where
-  pub is : chosen ≡ Ok (mdb_in old).next_id
-  pub of : Record
-  pub parent : IsFolderWith (catalog_in old) dir of
-  pub own_key : of.0 ≡ place.folder
-  pub own_children : place.children ≡ (dir_record_of of.1).valence
-  pub own_name : place.name ≡ name
-  pub named : is_item_name name ≡ true
-
 -- the place that a call chooses, or the code that refuses it
 abbrev pub ChoosesPlace : Blocks → Result ℕ ℤ → ℕ → List ℕ → Result NewPlace ℤ → Type 0
 ChoosesPlace old chosen dir name result = MatchResult result (IsPlace old chosen dir name) (λ code. chosen ≡ Err code)
-
--- the volume is sound, its catalog's file lies in these runs, and a new item comes to this place
-pub record IsReady (total : ℕ) (old : Blocks) (runs : List Run) (mdb : Mdb) (dir : ℕ) (place : NewPlace) : Type 0 where
-  pub sound : AreBlocksSound total old
-  pub file : IsCatalogFile runs total old
-  pub directory : mdb ≡ mdb_in old
-  pub chosen : IsPlace old (to_create (volume_in old) dir place.name) dir place.name place
-  pub inside : IsInFile (catalog_nodes old)
-  pub records : (header_in (catalog_nodes old)).records < 2 ^ 32

@@ -5,9 +5,9 @@ ghost use Rattle.hfs_model.specs.Step.{is_reading};
 ghost use Rattle.hfs_call_edits.specs.Edits.{IsEditOf};
 ghost use Rattle.hfs_call_edits.specs.Serving.{is_setting};
 
-use crate::editing::{Change, Editing, Refusal};
-use crate::settings::ItemSettings;
+use crate::editing::{Editing, Refusal};
 use hfs_blocks::Blocks;
+use hfs_call_patches::{Change, ItemSettings};
 use hfs_model::Call;
 use std::alloc::{AllocError, Global};
 

@@ -4,7 +4,7 @@ ghost use Rattle.std.specs.Prelude.{◌≡◌};
 ghost use Rattle.hfs_catalog.specs.Lookups.{catalog_item};
 ghost use Rattle.hfs_catalog.specs.Tree.{catalog_of};
 ghost use Rattle.hfs_call_edits.specs.Choosing.{map_ok};
-ghost use Rattle.hfs_call_edits.specs.Deleting.{is_busy_item, item_to_delete};
+ghost use Rattle.hfs_call_edits.specs.ChoosingDelete.{is_busy_item, item_to_delete};
 ghost use Rattle.hfs_queries.specs.Told.{IsCatalog};
 
 use crate::choosing::{child_to_change, is_locked};

@@ -3,7 +3,7 @@
 ghost use Rattle.std.specs.Prelude.{◌≡◌};
 ghost use Rattle.hfs_catalog.specs.Tree.{catalog_of};
 ghost use Rattle.hfs_call_edits.specs.Choosing.{map_ok, file_part};
-ghost use Rattle.hfs_call_edits.specs.FileIds.{file_without_id, file_with_id};
+ghost use Rattle.hfs_call_edits.specs.ChoosingFileIds.{file_without_id, file_with_id};
 ghost use Rattle.hfs_queries.specs.Told.{IsCatalog};
 
 use crate::choosing::{child_to_change, lock_code};

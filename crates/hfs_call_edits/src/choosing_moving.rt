@@ -3,32 +3,16 @@
 ghost use Rattle.std.specs.Prelude.{◌≡◌};
 ghost use Rattle.hfs_catalog.specs.Tree.{catalog_of};
 ghost use Rattle.hfs_queries.specs.Told.{IsCatalog};
-ghost use Rattle.hfs_call_edits.specs.Moving.{up_by_folders, folder_place, is_folder_item, most_steps, moving_to, item_to_move};
+ghost use Rattle.hfs_call_edits.specs.ChoosingMoving.{up_by_folders, folder_place, is_folder_item, most_steps, moving_to, item_to_move};
 
 use crate::choosing::child_to_change;
 use crate::choosing_renaming::own_id;
-use crate::rekeying::Rekeying;
 use hfs_btree::Nodes;
+use hfs_call_patches::{FolderPlace, Moving, Rekeying};
 use hfs_catalog::{CatalogItem, ItemRecord, lookup};
 use hfs_fields::{CatKey, Mdb, Name};
 use hfs_model::{BAD_MOVE, BAD_NAME, DUPLICATE, FOLDER_FULL, NOT_A_FOLDER};
 use hfs_queries::folder;
-
-/// A folder by its key, and the number of its children.
-#[derive(Clone, Copy)]
-pub(crate) struct FolderPlace {
-    pub key: CatKey,
-    pub valence: u16,
-}
-
-/// An item that comes under another folder: whether it is a folder, the folder that it leaves, and the one that it enters.
-#[derive(Clone, Copy)]
-pub(crate) struct Moving {
-    pub item: Rekeying,
-    pub folder: bool,
-    pub left: FolderPlace,
-    pub entered: FolderPlace,
-}
 
 /// Whether `up` stands at most `steps` parents up from the folder `dir`. Each step looks up one folder.
 fn lies_in<N: Nodes>(nodes: &N, steps: u64, dir: u32, up: u32) -> bool

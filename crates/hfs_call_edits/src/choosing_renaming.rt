@@ -4,11 +4,11 @@ ghost use Rattle.std.specs.Prelude.{◌≡◌};
 ghost use Rattle.hfs_catalog.specs.Tree.{catalog_of};
 ghost use Rattle.hfs_queries.specs.Told.{IsCatalog};
 ghost use Rattle.hfs_call_edits.specs.Choosing.{map_ok};
-ghost use Rattle.hfs_call_edits.specs.Renaming.{own_id, is_taken, item_to_rename, renaming};
+ghost use Rattle.hfs_call_edits.specs.ChoosingRenaming.{own_id, is_taken, item_to_rename, renaming};
 
 use crate::choosing::{item_to_set, lock_code};
-use crate::rekeying::Rekeying;
 use hfs_btree::Nodes;
+use hfs_call_patches::Rekeying;
 use hfs_catalog::{CatalogItem, ItemRecord, lookup};
 use hfs_fields::{CatKey, Mdb, Name};
 use hfs_model::{BAD_NAME, DUPLICATE};

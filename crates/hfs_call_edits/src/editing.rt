@@ -15,20 +15,13 @@ ghost use Rattle.hfs_queries.specs.Told.{IsCatalog};
 use crate::choosing;
 use hfs_blocks::{Blocks, Patch, Run};
 use hfs_btree::RunNodes;
+use hfs_call_patches::Change;
 use hfs_catalog::CatalogItem;
 use hfs_changes::choice_stands;
 use hfs_fields::{CatKey, FileRecord, Mdb};
 use hfs_model::Value;
 use hfs_queries::catalog_answers;
 use std::marker::Model;
-
-/// What a call makes of a volume: the blocks that change, the volume's counts afterwards, and the value of the reply.
-#[derive(Drop)]
-pub struct Change {
-    pub patch: Patch,
-    pub counts: Mdb,
-    pub value: Value,
-}
 
 /// Why a call changes nothing.
 #[derive(Clone, Copy)]

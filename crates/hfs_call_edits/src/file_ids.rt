@@ -1,87 +1,23 @@
-//! What CreateFileId and DeleteFileId make of a volume's blocks.
+//! CreateFileId and DeleteFileId.
 
-ghost use Rattle.std.specs.Prelude.{◌≡◌, IsTrue, IfOk};
-ghost use Rattle.hfs_fields.specs.Names.{is_item_name};
-ghost use Rattle.hfs_blocks.specs.Layers.{changes, over, AreWithin};
-ghost use Rattle.hfs_catalog_edits.specs.Rooms.{IsInFile, HasRoom};
-ghost use Rattle.hfs_check.specs.Parts.{mdb_in, catalog_in, catalog_nodes};
-ghost use Rattle.hfs_check.specs.Sound.{AreBlocksSound};
+ghost use Rattle.std.specs.Prelude.{◌≡◌, IfOk};
+ghost use Rattle.hfs_check.specs.Parts.{mdb_in, catalog_in};
 ghost use Rattle.hfs_check.specs.VolumeOf.{volume_in};
 ghost use Rattle.hfs_changes.specs.OnBlocks.{at_time};
 ghost use Rattle.hfs_model.specs.declared.call.Call.TheVariants as call;
 ghost use Rattle.hfs_model.specs.declared.reply.Value.TheVariants as value;
 ghost use Rattle.hfs_model.specs.FileIds.{to_create_file_id, to_delete_file_id};
 ghost use Rattle.hfs_call_edits.specs.Edits.{IsEditOf, ChoosesFile};
-ghost use Rattle.hfs_call_edits.specs.FileIds.{IsThreadless, MakesCreateFileId, MakesDeleteFileId};
-ghost use Rattle.hfs_call_edits.specs.Settings.{IsCatalogFile, IsFileUnder};
+ghost use Rattle.hfs_call_patches.specs.FileIds.{IsThreadless};
 
-use crate::catalog_patch::{close_catalog, open_catalog};
 use crate::choosing_file_ids;
-use crate::editing::{Change, Editing, Refusal};
-use crate::file_threads::{add_file_thread, drop_file_thread};
-use crate::settings::at_time;
-use hfs_blocks::{Blocks, Patch, Run};
-use hfs_changes::{
-    catalog_edits_are_steps, choice_stands, create_file_id_makes, delete_file_id_makes,
-    file_is_threadless,
-};
-use hfs_check::trees_are_sound;
-use hfs_fields::{CatKey, FileRecord, Mdb};
+use crate::editing::{Editing, Refusal};
+use hfs_blocks::{Blocks, Patch};
+use hfs_call_patches::{Change, patch_create_file_id, patch_delete_file_id};
+use hfs_changes::{catalog_edits_are_steps, choice_stands, file_is_threadless};
+use hfs_fields::{CatKey, FileRecord};
 use hfs_model::Value;
 use std::alloc::{AllocError, Global};
-
-/// The patch that gives a file, of this key and this record, a thread. The only error is want of memory.
-fn patch_create_file_id<B: Blocks>(
-    alloc: Global,
-    below: &B,
-    runs: &[Run],
-    mdb: &Mdb,
-    key: &CatKey,
-    file: &FileRecord,
-    now: u32,
-) -> Result<Patch, AllocError>
-    requires sound { AreBlocksSound (B.total below.now) (B.blocks below.now) }
-    requires nodes { IsCatalogFile runs.now (B.total below.now) (B.blocks below.now) }
-    requires mdb { mdb.now ≡ mdb_in (B.blocks below.now) }
-    requires name { IsTrue (is_item_name key.now.name) }
-    requires there { IsFileUnder key.now (catalog_in (B.blocks below.now)) }
-    requires threadless { IsThreadless (catalog_in (B.blocks below.now)) key.now file.now }
-    requires inside { IsInFile (catalog_nodes (B.blocks below.now)) }
-    requires room { HasRoom (catalog_nodes (B.blocks below.now)) }
-    ensures makes { IfOk result (λ patch. MakesCreateFileId key.now file.now now (B.blocks below.now) (over (changes patch) (B.blocks below.now))) }
-    ensures within { IfOk result (λ patch. AreWithin (changes patch) (B.total below.now)) }
-{
-    trees_are_sound();
-    create_file_id_makes();
-    let mut nodes = open_catalog(alloc, below, runs);
-    add_file_thread(alloc, &mut nodes, key, file)?;
-    close_catalog(below, runs, nodes, &at_time(mdb, now))
-}
-
-/// The patch that takes a file's thread away, of this key and this record. The only error is want of memory.
-fn patch_delete_file_id<B: Blocks>(
-    alloc: Global,
-    below: &B,
-    runs: &[Run],
-    mdb: &Mdb,
-    key: &CatKey,
-    file: &FileRecord,
-    now: u32,
-) -> Result<Patch, AllocError>
-    requires sound { AreBlocksSound (B.total below.now) (B.blocks below.now) }
-    requires nodes { IsCatalogFile runs.now (B.total below.now) (B.blocks below.now) }
-    requires mdb { mdb.now ≡ mdb_in (B.blocks below.now) }
-    requires name { IsTrue (is_item_name key.now.name) }
-    requires there { IsFileUnder key.now (catalog_in (B.blocks below.now)) }
-    ensures makes { IfOk result (λ patch. MakesDeleteFileId key.now file.now now (B.blocks below.now) (over (changes patch) (B.blocks below.now))) }
-    ensures within { IfOk result (λ patch. AreWithin (changes patch) (B.total below.now)) }
-{
-    trees_are_sound();
-    delete_file_id_makes();
-    let mut nodes = open_catalog(alloc, below, runs);
-    drop_file_thread(alloc, &mut nodes, key, file)?;
-    close_catalog(below, runs, nodes, &at_time(mdb, now))
-}
 
 impl<B: Blocks> Editing<'_, B> {
     /// The folder's file of that name, which has no thread, with its key, or the code that refuses to give it one.

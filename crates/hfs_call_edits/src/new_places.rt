@@ -11,8 +11,9 @@ use crate::choosing::lock_code;
 use crate::editing::Editing;
 use hfs_blocks::Blocks;
 use hfs_btree::Nodes;
+use hfs_call_patches::NewPlace;
 use hfs_catalog::{CatalogItem, ItemRecord, lookup};
-use hfs_fields::{CatKey, Mdb, Name};
+use hfs_fields::{Mdb, Name};
 use hfs_model::{BAD_NAME, DUPLICATE, FOLDER_FULL, NOT_A_FOLDER};
 use hfs_queries::folder;
 
@@ -21,14 +22,6 @@ const MOST_CHILDREN: u16 = 65_535;
 
 /// The last ID, which no item gets.
 const LAST_ID: u32 = 4_294_967_295;
-
-/// A new item's name, and its folder's key with the number of its children.
-#[derive(Clone, Copy)]
-pub(crate) struct NewPlace {
-    pub(crate) name: Name,
-    pub(crate) folder: CatKey,
-    pub(crate) children: u16,
-}
 
 /// How many children a folder has. A file has none.
 fn child_count(item: &CatalogItem) -> u16

@@ -1,53 +1,23 @@
-//! What Rename makes of a volume's blocks.
+//! Rename.
 
 ghost use Rattle.std.specs.Prelude.{◌≡◌, false, IfOk, IfNone};
-ghost use Rattle.hfs_blocks.specs.Layers.{changes, over, AreWithin};
 ghost use Rattle.hfs_catalog_edits.specs.Rooms.{HasRoom};
-ghost use Rattle.hfs_check.specs.Parts.{mdb_in, catalog_nodes};
-ghost use Rattle.hfs_check.specs.Sound.{AreBlocksSound};
+ghost use Rattle.hfs_check.specs.Parts.{catalog_nodes};
 ghost use Rattle.hfs_fields.specs.Order.{same_name};
 ghost use Rattle.hfs_model.specs.declared.call.Call.TheVariants as call;
 ghost use Rattle.hfs_call_edits.specs.Edits.{IsEditOf};
-ghost use Rattle.hfs_call_edits.specs.Rekeyings.{CanRekey};
-ghost use Rattle.hfs_call_edits.specs.Renaming.{ChoosesRenaming, MakesRename, nodes_for_name};
+ghost use Rattle.hfs_call_edits.specs.ChoosingRenaming.{ChoosesRenaming, nodes_for_name};
 ghost use Rattle.hfs_call_edits.specs.Room.{lacking};
-ghost use Rattle.hfs_call_edits.specs.Settings.{IsCatalogFile};
 
-use crate::catalog_patch::close_catalog;
 use crate::choosing_renaming;
-use crate::editing::{Change, Editing, Refusal};
-use crate::rekeying::{Rekeying, open_rekeyed};
-use crate::settings::at_time;
-use hfs_blocks::{Blocks, Patch, Run};
+use crate::editing::{Editing, Refusal};
+use hfs_blocks::Blocks;
+use hfs_call_patches::{Change, Rekeying, patch_rename};
 use hfs_catalog::sound_is_lawful;
-use hfs_changes::{
-    catalog_edits_are_steps, choice_stands, creation_is_free, rename_is_free, rename_makes,
-};
+use hfs_changes::{catalog_edits_are_steps, choice_stands, creation_is_free, rename_is_free};
 use hfs_check::{catalog_is_sound, trees_are_sound};
-use hfs_fields::{Mdb, same_name};
+use hfs_fields::same_name;
 use std::alloc::{AllocError, Global};
-
-/// The patch that puts an item under its new name. The only error is want of memory.
-fn patch_rename<B: Blocks>(
-    alloc: Global,
-    below: &B,
-    runs: &[Run],
-    mdb: &Mdb,
-    item: &Rekeying,
-    now: u32,
-) -> Result<Patch, AllocError>
-    requires sound { AreBlocksSound (B.total below.now) (B.blocks below.now) }
-    requires file { IsCatalogFile runs.now (B.total below.now) (B.blocks below.now) }
-    requires mdb { mdb.now ≡ mdb_in (B.blocks below.now) }
-    requires can { CanRekey item.now (catalog_nodes (B.blocks below.now)) }
-    ensures makes { IfOk result (λ patch. MakesRename item.now now (B.blocks below.now) (over (changes patch) (B.blocks below.now))) }
-    ensures within { IfOk result (λ patch. AreWithin (changes patch) (B.total below.now)) }
-{
-    catalog_is_sound();
-    rename_makes();
-    let nodes = open_rekeyed(alloc, below, runs, item)?;
-    close_catalog(below, runs, nodes, &at_time(mdb, now))
-}
 
 impl<B: Blocks> Editing<'_, B> {
     /// The folder's item of that name, to come under its new name, or the code that refuses it.

@@ -4,13 +4,14 @@ ghost use Rattle.std.specs.Prelude.{IfOk};
 ghost use Rattle.hfs_model.specs.declared.call.Call.TheVariants as call;
 ghost use Rattle.hfs_changes.specs.SettingLaws.{lock_call};
 ghost use Rattle.hfs_call_edits.specs.Edits.{IsEditOf};
-ghost use Rattle.hfs_call_edits.specs.Settings.{set_cat_info_call};
+ghost use Rattle.hfs_call_patches.specs.Settings.{set_cat_info_call};
 
-use crate::editing::{Change, Editing, Refusal};
-use crate::settings::{
-    ItemSettings, patch_set_f_info, patch_set_file_info, patch_set_folder_info, patch_set_lock,
-};
+use crate::editing::{Editing, Refusal};
 use hfs_blocks::Blocks;
+use hfs_call_patches::{
+    Change, ItemSettings, patch_set_f_info, patch_set_file_info, patch_set_folder_info,
+    patch_set_lock,
+};
 use hfs_catalog::ItemRecord;
 use hfs_changes::catalog_edits_are_steps;
 use std::alloc::{AllocError, Global};

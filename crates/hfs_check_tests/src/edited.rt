@@ -1,6 +1,7 @@
 //! Changes of a small volume's bytes, and what the checks find then.
 use hfs_check::{MountFault, check_image};
 use hfs_fixtures::{SmallVolume, lay, small_image};
+use hfs_volume::mount_repaired;
 use std::alloc::Global;
 use std::process::Abort;
 
@@ -48,7 +49,8 @@ pub fn check(number: u8, place: u64) -> Option<MountFault> {
     Some(MountFault::Check { number, place })
 }
 
-/// Checks a volume with these edits: this fault, or none.
+/// Checks a volume with these edits: this fault, or none. With its counts mended it is refused with the same fault and its bytes as
+/// they were, unless the fault is one that may go with the counts.
 pub fn assert_fault(
     rt: &(impl Abort + AllocGlobal),
     volume: SmallVolume,
@@ -57,4 +59,38 @@ pub fn assert_fault(
 ) {
     let image = image_of(rt, volume, edits);
     assert_eq!(rt; fault_of(rt.alloc(), &image), want);
+    assert_kept(rt, image, want);
+}
+
+/// Whether a fault may be that of a count which a repair mends: the trees' counts have the place 0 as other faults of a header node
+/// have, and the count of free blocks the number of blocks, 58 or more.
+fn may_be_count(fault: Option<MountFault>) -> bool {
+    match fault {
+        None => true,
+        Some(MountFault::Check { number, place }) => {
+            number == 9
+                || number == 10
+                || (number <= 4 && place == 0)
+                || (number == 12 && place >= 58)
+        }
+        Some(_) => false,
+    }
+}
+
+/// Mends the counts of an image with this fault.
+pub fn assert_kept(rt: &(impl Abort + AllocGlobal), image: Vec<u8>, fault: Option<MountFault>) {
+    let Ok(given) = Vec::from_slice(rt.alloc(), &image) else {
+        panic!(rt; "no memory");
+    };
+    match mount_repaired(rt.alloc(), image) {
+        Ok((_volume, fixes)) => {
+            assert!(rt; may_be_count(fault));
+            assert_eq!(rt; fixes.is_empty(), fault.is_none());
+        }
+        Err(refused) => {
+            assert!(rt; refused.image.as_slice() == given.as_slice());
+            assert!(rt; may_be_count(fault) || Some(refused.fault) == fault);
+            assert!(rt; fault.is_some());
+        }
+    }
 }

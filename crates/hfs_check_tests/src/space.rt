@@ -1,6 +1,6 @@
 //! Extents and space.
 
-use crate::edited::{Edit, apply, assert_fault, check, fault_of, image_of, put};
+use crate::edited::{Edit, apply, assert_fault, assert_kept, check, fault_of, image_of, put};
 use hfs_check::MountFault;
 use hfs_fields::{ExtKey, Extent};
 use hfs_fixtures::{SmallVolume, lay_overflow};
@@ -89,6 +89,7 @@ fn assert_overflow(
     apply(rt, &mut image, put(3, 1, &[first, second]));
     apply(rt, &mut image, put(2, 35, &[free]));
     assert_eq!(rt; fault_of(rt.alloc(), &image), want);
+    assert_kept(rt, image, want);
 }
 
 /// The key of extents of a file's data fork from this block of it on.
@@ -129,6 +130,7 @@ fn catalog_files_that_go_on_in_the_extents_tree(rt: HostRuntime) {
     let shorter = put(2, 153, &[4]);
     let image = image_of(&rt, SmallVolume::New, &[shorter]);
     assert_eq!(rt; fault_of(rt.alloc(), &image), check(4, 0));
+    assert_kept(&rt, image, check(4, 0));
     let image = with_overflow(
         &rt,
         &[shorter],
@@ -136,6 +138,7 @@ fn catalog_files_that_go_on_in_the_extents_tree(rt: HostRuntime) {
         Extent { first: 6, count: 2 },
     );
     assert_eq!(rt; fault_of(rt.alloc(), &image), None);
+    assert_kept(&rt, image, None);
 }
 
 #[test]

@@ -1,6 +1,6 @@
 //! Lengths of images, and the master directory block.
 
-use crate::edited::{assert_fault, check, fault_of, image_of, put};
+use crate::edited::{assert_fault, assert_kept, check, fault_of, image_of, put};
 use hfs_check::{Alternate, MountFault, report};
 use hfs_fixtures::SmallVolume;
 use std::process::Abort;
@@ -12,7 +12,9 @@ fn assert_cut(rt: &(impl Abort + AllocGlobal), len: usize, want: Option<MountFau
         panic!(rt; "no memory");
     };
     assert!(rt; len <= image.len());
-    assert_eq!(rt; fault_of(rt.alloc(), &image[..len]), want);
+    image.truncate(len);
+    assert_eq!(rt; fault_of(rt.alloc(), &image), want);
+    assert_kept(rt, image, want);
 }
 
 #[test]

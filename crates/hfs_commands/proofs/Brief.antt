@@ -10,8 +10,8 @@ use Rattle.hfs_model.specs.declared.reply.Value.{Value}
 use Rattle.hfs_model.specs.declared.reply.Value.TheVariants as value
 use Rattle.hfs_queries.specs.Brief.{without_id, value_without_ids, without_ids}
 use Rattle.hfs_commands.specs.Listing.{child_line, child_lines, code_line, tabbed, tabbed_sizes, listed_lines, list_lines}
-use Rattle.hfs_commands.specs.Answers.{kind_text}
-use Rattle.hfs_commands.specs.Lines.{item_name_text}
+use Rattle.hfs_texts.specs.Answers.{kind_text}
+use Rattle.hfs_texts.specs.Lines.{item_name_text}
 
 sizes-brief : (info : Info) (kind : ItemKind) → tabbed_sizes kind (without_id info) ≡ tabbed_sizes kind info
 unfolding tabbed_sizes

@@ -24,7 +24,7 @@ use Rattle.hfs_volume.specs.declared.open_fork.Opened.{Opened}
 use Rattle.hfs_volume.specs.declared.open_fork.Opened.TheVariants as opened
 use Rattle.hfs_volume.specs.Opening.{opened_kind, opened_fork}
 use Rattle.hfs_commands.specs.Forks.{IsLastRead, fork_code, fork_in, fork_named, kind_code}
-use Rattle.hfs_commands.specs.Writing.{AppendsFront}
+use Rattle.hfs_texts.specs.Writing.{AppendsFront}
 
 -- ---- what is opened is the fork that is named
 

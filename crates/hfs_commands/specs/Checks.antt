@@ -8,7 +8,7 @@ use Rattle.hfs_check.specs.declared.reported.Report.{Report}
 use Rattle.hfs_commands.specs.declared.fault.Status.{Status}
 use Rattle.hfs_commands.specs.declared.fault.Status.TheVariants as status
 use Rattle.hfs_commands.specs.Faults.{refusal_text, status_number}
-use Rattle.hfs_commands.specs.Lines.{line}
+use Rattle.hfs_texts.specs.Lines.{line}
 
 -- how the copy of the master directory block stands to it
 abbrev pub alternate_text : Alternate → List ℕ

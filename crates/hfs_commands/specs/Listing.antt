@@ -11,8 +11,8 @@ use Rattle.hfs_model.specs.declared.reply.ItemKind.TheVariants.{Folder, File}
 use Rattle.hfs_commands.specs.declared.fault.Status.{Status}
 use Rattle.hfs_commands.specs.declared.fault.Status.TheVariants as status
 use Rattle.hfs_commands.specs.Faults.{status_number}
-use Rattle.hfs_commands.specs.Answers.{kind_text}
-use Rattle.hfs_commands.specs.Lines.{line, item_name_text}
+use Rattle.hfs_texts.specs.Answers.{kind_text}
+use Rattle.hfs_texts.specs.Lines.{line, item_name_text}
 use Rattle.hfs_model.specs.Volume.{Entry}
 use Rattle.hfs_model.specs.Reading.{list}
 

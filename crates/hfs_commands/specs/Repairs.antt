@@ -11,7 +11,7 @@ use Rattle.hfs_repair.specs.declared.fixed.FixPlace.TheVariants.{RootFiles, Free
 use Rattle.hfs_repair.specs.Fixes.{AreFixes}
 use Rattle.hfs_repair.specs.Placed.{wrong_in}
 use Rattle.hfs_commands.specs.Checks.{refused_line}
-use Rattle.hfs_commands.specs.Lines.{line}
+use Rattle.hfs_texts.specs.Lines.{line}
 
 -- which number
 unfoldable pub place_text : FixPlace → List ℕ

@@ -5,15 +5,19 @@ ghost use Rattle.hfs_commands.specs.Checks.{alternate_text, check_lines, check_s
 
 use crate::fault::Status;
 use crate::refusal::Refusal;
-use crate::text::{Show, push_line};
 use hfs_check::{Alternate, MountFault, Report, report};
+use hfs_texts::{Show, push_line};
 use std::alloc::{AllocError, Global};
 
-impl Show for Alternate {
-    ghost shown = { alternate_text };
+/// How the copy of the master directory block stands to it, as its line shows it.
+#[derive(Drop)]
+struct ShownAlternate(Alternate);
+
+impl Show for ShownAlternate {
+    ghost shown = { λ shown. alternate_text shown.0 };
 
     fn push_to(&self, text: &mut String) -> Result<(), AllocError> {
-        match self {
+        match self.0 {
             Alternate::Same => text.push_str("same"),
             Alternate::Differs => text.push_str("differs"),
             Alternate::Missing => text.push_str("missing"),
@@ -31,7 +35,7 @@ fn sound_text(alloc: Global, report: &Report) -> Result<String, AllocError>
     push_line(&mut text, "files", report.files)?;
     push_line(&mut text, "folders", report.folders)?;
     push_line(&mut text, "free", report.free)?;
-    push_line(&mut text, "alternate", report.alternate)?;
+    push_line(&mut text, "alternate", ShownAlternate(report.alternate))?;
     push_line(&mut text, "unowned", report.unowned)?;
     Ok(text)
 }

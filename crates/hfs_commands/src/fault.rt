@@ -2,11 +2,10 @@
 ghost use Rattle.std.specs.Prelude.{◌≡◌, ◌≢◌, MatchResult, Some};
 ghost use Rattle.hfs_commands.specs.Faults.{fault_text, status_number, status_of};
 
-use crate::info::InfoFault;
-use crate::input::LoadFault;
 use crate::refusal::Refusal;
 use hfs_check::MountFault;
 use hfs_format::FormatFault;
+use hfs_texts::{InfoFault, LoadFault};
 use std::{fmt, io};
 
 /// How the program ends. Scripts read it as the exit status.

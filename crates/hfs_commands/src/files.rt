@@ -3,8 +3,8 @@ ghost use Rattle.std.specs.Prelude.{◌≡◌, ◌≤◌, ◌⊎◌, IfErr, IfOk
 ghost use Rattle.hfs_commands.specs.Faults.{IsTooMuch};
 
 use crate::fault::Fault;
-use crate::input::{IMAGE_LIMIT, load};
 use hfs_check::MountFault;
+use hfs_texts::{IMAGE_LIMIT, load};
 use std::fs;
 use std::fs::File;
 use std::rt::Files;

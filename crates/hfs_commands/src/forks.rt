@@ -5,11 +5,11 @@ ghost use Rattle.hfs_model.specs.Children.{entries_of};
 ghost use Rattle.hfs_model.specs.Replies.{success};
 ghost use Rattle.hfs_check.specs.VolumeOf.{volume_of};
 ghost use Rattle.hfs_commands.specs.Forks.{IsLastRead, fork_code, fork_named};
-ghost use Rattle.hfs_commands.specs.Writing.{AppendsFront};
+ghost use Rattle.hfs_texts.specs.Writing.{AppendsFront};
 
 use crate::fault::Fault;
-use crate::output::put;
 use hfs_model::{Bytes, Fork, Reply, Value};
+use hfs_texts::put;
 use hfs_volume::{OpenFork, Opened, Volume};
 use std::alloc::Global;
 use std::io::Write;

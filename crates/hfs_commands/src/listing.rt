@@ -4,11 +4,11 @@ ghost use Rattle.hfs_model.specs.Children.{entries_of};
 ghost use Rattle.hfs_model.specs.Reading.{list};
 ghost use Rattle.hfs_check.specs.VolumeOf.{volume_of};
 ghost use Rattle.hfs_commands.specs.Listing.{child_line, child_lines, code_line, list_lines, list_status, tabbed, tabbed_sizes, folder_lines};
-ghost use Rattle.hfs_commands.specs.Texts.{Gains};
+ghost use Rattle.hfs_texts.specs.Texts.{Gains};
 
 use crate::fault::Status;
-use crate::text::{Show, push_line};
 use hfs_model::{Info, ItemKind, Reply, Value};
+use hfs_texts::{Show, push_line};
 use hfs_volume::Volume;
 use std::alloc::{AllocError, Global};
 

@@ -2,8 +2,8 @@
 ghost use Rattle.std.specs.Prelude.{Some};
 ghost use Rattle.hfs_commands.specs.Faults.{refusal_text};
 
-use crate::text::Show;
 use hfs_check::MountFault;
+use hfs_texts::Show;
 use std::alloc::AllocError;
 use std::fmt;
 

@@ -2,49 +2,52 @@
 ghost use Rattle.std.specs.Prelude.{◌≡◌, ℕ, List, Some, IfOk, OnOk, MatchOption, string_bytes};
 ghost use Rattle.hfs_check.specs.Faults.{fault_of};
 ghost use Rattle.hfs_check.specs.Repair.{repair};
-ghost use Rattle.hfs_commands.specs.Texts.{Gains};
+ghost use Rattle.hfs_texts.specs.Texts.{Gains};
 ghost use Rattle.hfs_commands.specs.Repairs.{place_text, fix_text, fixed_line, fixed_lines, repaired_lines, IsRefused, IsRepaired};
 
 use crate::checking::refused_text;
 use crate::fault::Status;
-use crate::text::{Show, push_line};
 use hfs_check::MountFault;
+use hfs_texts::{Show, push_line};
 use hfs_volume::{Fix, FixPlace, Volume, mount_repaired};
 use std::alloc::{AllocError, Global};
 
-impl Show for FixPlace {
-    ghost shown = { place_text };
-
-    #[tactic(auto, unfolding(crate::specs::Repairs::place_text))]
-    fn push_to(&self, text: &mut String) -> Result<(), AllocError> {
-        match self {
-            FixPlace::RootFiles => text.push_str("drNmFls"),
-            FixPlace::FreeBlocks => text.push_str("drFreeBks"),
-            FixPlace::RootFolders => text.push_str("drNmRtDirs"),
-            FixPlace::Files => text.push_str("drFilCnt"),
-            FixPlace::Folders => text.push_str("drDirCnt"),
-            FixPlace::ExtentsRecords => text.push_str("extents bthNRecs"),
-            FixPlace::ExtentsFree => text.push_str("extents bthFree"),
-            FixPlace::CatalogRecords => text.push_str("catalog bthNRecs"),
-            FixPlace::CatalogFree => text.push_str("catalog bthFree"),
-            FixPlace::Valence(id) => {
-                text.push_str("valence ")?;
-                id.push_to(text)
-            }
+/// Appends which number it is.
+#[tactic(auto, unfolding(crate::specs::Repairs::place_text))]
+fn push_place(text: &mut String, place: FixPlace) -> Result<(), AllocError>
+    ensures { OnOk result (Gains text.old text.new (place_text place)) }
+{
+    match place {
+        FixPlace::RootFiles => text.push_str("drNmFls"),
+        FixPlace::FreeBlocks => text.push_str("drFreeBks"),
+        FixPlace::RootFolders => text.push_str("drNmRtDirs"),
+        FixPlace::Files => text.push_str("drFilCnt"),
+        FixPlace::Folders => text.push_str("drDirCnt"),
+        FixPlace::ExtentsRecords => text.push_str("extents bthNRecs"),
+        FixPlace::ExtentsFree => text.push_str("extents bthFree"),
+        FixPlace::CatalogRecords => text.push_str("catalog bthNRecs"),
+        FixPlace::CatalogFree => text.push_str("catalog bthFree"),
+        FixPlace::Valence(id) => {
+            text.push_str("valence ")?;
+            id.push_to(text)
         }
     }
 }
 
-impl Show for Fix {
-    ghost shown = { fix_text };
+/// A number that was mended, as its line shows it.
+#[derive(Drop)]
+struct ShownFix(Fix);
+
+impl Show for ShownFix {
+    ghost shown = { λ shown. fix_text shown.0 };
 
     #[tactic(auto, unfolding(crate::specs::Repairs::fix_text))]
     fn push_to(&self, text: &mut String) -> Result<(), AllocError> {
-        self.place.push_to(text)?;
+        push_place(text, self.0.place)?;
         text.push(' ')?;
-        self.was.push_to(text)?;
+        self.0.was.push_to(text)?;
         text.push(' ')?;
-        self.now.push_to(text)
+        self.0.now.push_to(text)
     }
 }
 
@@ -53,7 +56,7 @@ impl Show for Fix {
 fn push_fix(text: &mut String, fix: Fix) -> Result<(), AllocError>
     ensures { OnOk result (Gains text.old text.new (fixed_line fix)) }
 {
-    push_line(text, "fixed", fix)
+    push_line(text, "fixed", ShownFix(fix))
 }
 
 /// Appends a line for each number that was mended.

@@ -29,6 +29,7 @@ mod mount_times;
 mod node_times;
 mod nodes;
 mod reports;
+mod rows;
 mod sums;
 mod trees;
 
@@ -113,6 +114,7 @@ fn print_volume(rt: &HostRuntime, name: &str) -> Result<()> {
         catalog.free_nodes()
     )?;
     folders::print_all(rt, &mut volume, &image, &catalog)?;
+    rows::ensure_same(rt.alloc(), &volume)?;
     lookups::ensure_root(rt.alloc(), &catalog)?;
     lookups::ensure_absent(rt.alloc(), &catalog, image.mdb.next_id)
 }

@@ -11,3 +11,5 @@ mod calls;
 mod same;
 #[cfg(test)]
 mod stories;
+#[cfg(test)]
+mod worked;

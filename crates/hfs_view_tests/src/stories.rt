@@ -34,7 +34,7 @@ fn new_pair(alloc: Global) -> Result<(Rows, PlainVolume), Fail> {
 
 /// Makes the changes in both, the first at moment 1, and wants the code of each, and the same answers to all reading calls
 /// after each.
-fn expect_same(rt: &impl Abort, alloc: Global, changes: &[(Change, i16)]) -> Result<(), Fail> {
+pub fn expect_same(rt: &impl Abort, alloc: Global, changes: &[(Change, i16)]) -> Result<(), Fail> {
     let (mut rows, mut plain) = new_pair(alloc)?;
     let mut now = 0_u32;
     for (change, code) in changes.iter() {

@@ -14,5 +14,6 @@ pub mod StayingBlocks
 pub mod Owned
 pub mod OwnedStay
 pub mod Stepping
+pub mod Anew
 pub mod Outcomes
 pub mod RunSteps

@@ -10,7 +10,7 @@ use Rattle.hfs_model.specs.Volume.{Volume}
 use Rattle.hfs_model.specs.Need.{need, full}
 use Rattle.hfs_model.specs.Step.{step, is_reading}
 use Rattle.hfs_check.specs.VolumeOf.{volume_of}
-use Rattle.hfs_call_edits.specs.declared.editing.Change.{Change}
+use Rattle.hfs_call_patches.specs.declared.change.Change.{Change}
 use Rattle.hfs_volume.specs.Serving.{free_in, depth_in, outcome_in}
 use Rattle.hfs_volume.specs.Steps.{IsEditOn, IsAfter, IsOutcome, refusal_reply}
 use Rattle.hfs_call_edits.specs.declared.editing.Refusal.{Refusal}

@@ -16,8 +16,8 @@ use Rattle.hfs_check.specs.Parts.{Blocks, mdb_in, catalog_extents, extents_block
 use Rattle.hfs_check.specs.Sound.{IsImageLength, AreBlocksSound, IsSound}
 use Rattle.hfs_check.specs.VolumeOf.{volume_in, volume_of}
 use Rattle.hfs_changes.specs.Laws.{IsStepped}
-use Rattle.hfs_call_edits.specs.declared.editing.Change.{Change}
-use Rattle.hfs_call_edits.specs.Edits.{IsChangeOf}
+use Rattle.hfs_call_patches.specs.declared.change.Change.{Change}
+use Rattle.hfs_call_patches.specs.CallChanges.{IsChangeOf}
 use Rattle.hfs_volume.specs.Image.{ImageValue}
 use Rattle.hfs_volume.specs.Laid.{laid_over}
 use Rattle.hfs_volume.specs.Mounted.{IsMounted}

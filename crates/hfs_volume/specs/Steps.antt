@@ -9,7 +9,7 @@ use Rattle.hfs_model.specs.Replies.{refusal}
 use Rattle.hfs_model.specs.Step.{step}
 use Rattle.hfs_model.specs.Volume.{Volume}
 use Rattle.hfs_check.specs.VolumeOf.{volume_of}
-use Rattle.hfs_call_edits.specs.declared.editing.Change.{Change}
+use Rattle.hfs_call_patches.specs.declared.change.Change.{Change}
 use Rattle.hfs_call_edits.specs.declared.editing.Refusal.{Refusal}
 use Rattle.hfs_call_edits.specs.declared.editing.Refusal.TheVariants as refused
 use Rattle.hfs_call_edits.specs.Edits.{IsEdit, IsEditOf}

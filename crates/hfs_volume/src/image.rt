@@ -111,6 +111,35 @@ impl Image {
         save_laid(&self.changed, base, count, writer)
     }
 
+    /// A copy of the bytes as they are now. The only error is want of memory.
+    pub fn copy(&self, alloc: Global) -> Result<Vec<u8>, AllocError>
+        ensures { IfOk result (λ bytes. bytes.items ≡ self.now.current) }
+    {
+        let mut bytes = Vec::with_capacity(alloc, self.base.bytes().len())?;
+        match self.save(&mut bytes) {
+            Ok(()) => Ok(bytes),
+            Err(_fault) => Err(AllocError),
+        }
+    }
+
+    /// The image with its bytes as they are now as those that it was opened with: nothing is changed. Where memory is wanting the
+    /// image is handed back.
+    pub fn opened_anew(self, alloc: Global) -> Result<Image, AllocFailed<Image>>
+        ensures base { IfOk result (λ image. image.base ≡ self.current) }
+        ensures current { IfOk result (λ image. image.current ≡ self.current) }
+        ensures changed { IfOk result (λ image. image.changed ≡ []) }
+        ensures value_returned { IfErr result (λ failed. failed.value ≡ self) }
+    {
+        let _count = self.count();
+        let Ok(bytes) = self.copy(alloc) else {
+            return Err(AllocFailed { value: self });
+        };
+        match Image::new(alloc, bytes) {
+            Ok(image) => Ok(image),
+            Err(_failed) => Err(AllocFailed { value: self }),
+        }
+    }
+
     /// The blocks as they are now.
     pub fn blocks(&self) -> ImageBlocks<'_>
         ensures { result.image.now ≡ self.now }

@@ -1,9 +1,9 @@
 //! Volumes that are locked, cut, or wrong in one byte.
-use crate::mounted::mounted;
 use hfs_check::MountFault;
 use hfs_fixtures::{FixtureFault, SmallVolume, lay, small_image};
 use hfs_model::{Bytes, Call, Fork};
 use hfs_volume::{Volume, mount};
+use hfs_volume_fixtures::{create, mounted};
 use std::alloc::{AllocError, Global};
 use std::test::Fail;
 
@@ -36,18 +36,19 @@ fn a_cut_image_is_mounted_while_its_blocks_are_there(rt: HostRuntime) -> Result<
     }
 }
 
-/// Makes each call that reads, whatever it answers.
-fn read_all(volume: &mut Volume, alloc: Global) -> Result<(), AllocError> {
+/// Makes each call that reads, and one that changes the volume, whatever they answer.
+fn make_calls(volume: &mut Volume, alloc: Global) -> Result<(), AllocError> {
     let name = Bytes::from_slice(alloc, b"f")?;
     volume.call(alloc, &Call::GetDirInfo { dir: 2 })?;
     volume.call(alloc, &Call::List { dir: 2 })?;
     volume.call(alloc, &Call::GetIndexed { dir: 2, index: 1 })?;
     volume.get_cat_info(2, name.as_slice());
     volume.read_fork(alloc, 2, name.as_slice(), Fork::DataFork, 0, 512)?;
+    create(volume, alloc, 2, b"f", 0)?;
     Ok(())
 }
 
-/// How many of the images with this byte at some place of a block are mounted, and then answer each call that reads.
+/// How many of the images with this byte at some place of a block are mounted, and then answer the calls.
 fn count_mounted(
     alloc: Global,
     image: &[u8],
@@ -59,7 +60,7 @@ fn count_mounted(
         let mut changed = Vec::from_slice(alloc, image)?;
         lay(&mut changed, block, at, &[byte])?;
         if let Ok(mut volume) = mount(alloc, changed) {
-            read_all(&mut volume, alloc)?;
+            make_calls(&mut volume, alloc)?;
             count = count.saturating_add(1);
         }
     }

@@ -6,8 +6,6 @@ mod edges;
 #[cfg(test)]
 mod images;
 #[cfg(test)]
-mod mounted;
-#[cfg(test)]
 mod mounting;
 #[cfg(test)]
 mod reading;
@@ -16,6 +14,4 @@ mod repairs;
 #[cfg(test)]
 mod saving;
 #[cfg(test)]
-mod setting;
-#[cfg(test)]
-mod writers;
+mod sharing;

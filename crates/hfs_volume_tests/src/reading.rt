@@ -1,8 +1,8 @@
 //! The calls that read.
-use crate::mounted::small_volume;
 use hfs_fixtures::SmallVolume;
 use hfs_model::{Bytes, Call, Fork, Info, ItemKind, Reply, Value};
 use hfs_volume::{Opened, Volume};
+use hfs_volume_fixtures::small_volume;
 use std::alloc::{AllocError, Global};
 use std::test::Fail;
 

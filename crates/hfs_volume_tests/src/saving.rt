@@ -2,11 +2,10 @@
 ghost use Rattle.std.specs.Prelude.{◌<◌};
 ghost use Rattle.hfs_blocks.specs.Blocks.{block_count};
 
-use crate::mounted::mounted;
-use crate::writers::LimitedWriter;
 use hfs_blocks::Patch;
 use hfs_fixtures::{SmallVolume, small_image};
 use hfs_volume::{Image, SaveFault};
+use hfs_volume_fixtures::{LimitedWriter, mounted};
 use std::alloc::{AllocError, Global};
 use std::test::Fail;
 

@@ -1,6 +1,6 @@
 //! What those who read beside the writer take from a mounted volume.
 
-ghost use Rattle.std.specs.Prelude.{◌≡◌, IfOk};
+ghost use Rattle.std.specs.Prelude.{◌≡◌, [], IfOk, IfErr};
 ghost use Rattle.hfs_blocks.specs.Blocks.{block_at};
 ghost use Rattle.hfs_space.specs.Extents.{AreExtentsWithin};
 ghost use Rattle.hfs_check.specs.Agree.{Agrees};
@@ -14,11 +14,11 @@ use crate::base::Base;
 use crate::fork::fork_record;
 use crate::fork_laws::file_forks_stay;
 use hfs_catalog::{CatalogRecord, ItemRecord, by_id, items_are_records, read_records};
-use hfs_check::trees_are_sound;
+use hfs_check::{agrees_with_itself, trees_are_sound};
 use hfs_fields::{Extent, FileRecord, Mdb};
 use hfs_model::Fork;
 use hfs_space::fork_extents;
-use std::alloc::{AllocError, Global};
+use std::alloc::{AllocError, AllocFailed, Global};
 
 impl Volume {
     /// The bytes as they were mounted, without a copy of them. The only error is want of memory.
@@ -28,6 +28,32 @@ impl Volume {
         ensures agrees { Agrees self.now.base self.now.current }
     {
         self.image.base()
+    }
+
+    /// The volume with its bytes as they are now as those that it was mounted with: no block is changed. Where memory is wanting
+    /// the volume is handed back.
+    pub fn mounted_anew(self, alloc: Global) -> Result<Volume, AllocFailed<Volume>>
+        ensures base { IfOk result (λ volume. volume.base ≡ self.current) }
+        ensures current { IfOk result (λ volume. volume.current ≡ self.current) }
+        ensures changed { IfOk result (λ volume. volume.changed ≡ []) }
+        ensures value_returned { IfErr result (λ failed. failed.value ≡ self) }
+    {
+        agrees_with_itself();
+        let Volume {
+            image,
+            mdb,
+            extents,
+            catalog,
+        } = self;
+        match image.opened_anew(alloc) {
+            Ok(image) => Ok(Volume::new(image, mdb, extents, catalog)),
+            Err(failed) => {
+                let AllocFailed { value } = failed;
+                Err(AllocFailed {
+                    value: Volume::new(value, mdb, extents, catalog),
+                })
+            }
+        }
     }
 
     /// The master directory block as it is now.

@@ -1,6 +1,6 @@
 use Rattle.std.proofs.Common.{◌≡◌, ℕ, suc, ◌-◌, sym, ◌∙◌, ap, arith}
 use Rattle.hfs_catalog.specs.Tree.{catalog_of}
-use Rattle.hfs_call_edits.specs.Moving.{up_by_folders}
+use Rattle.hfs_call_edits.specs.ChoosingMoving.{up_by_folders}
 use Rattle.hfs_call_edits.proofs.UpFolders.{reached, no_more, no_folder, one_up}
 use Rattle.hfs_call_edits.proofs.choosing_moving.lies_in.Goals as goal
 

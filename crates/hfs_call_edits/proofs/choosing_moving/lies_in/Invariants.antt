@@ -1,6 +1,6 @@
 use Rattle.std.proofs.Common.{◌≡◌}
 use Rattle.hfs_catalog.specs.Tree.{catalog_of}
-use Rattle.hfs_call_edits.specs.Moving.{up_by_folders}
+use Rattle.hfs_call_edits.specs.ChoosingMoving.{up_by_folders}
 use Rattle.hfs_call_edits.proofs.choosing_moving.lies_in.Given as goal
 
 abbrev pub invariant-loop-at : goal.invariant-loop-at

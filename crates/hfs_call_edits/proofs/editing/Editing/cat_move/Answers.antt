@@ -5,9 +5,9 @@ use Rattle.hfs_model.specs.declared.reply.Value.TheVariants as value
 use Rattle.hfs_model.specs.Need.{one_record}
 use Rattle.hfs_check.specs.Parts.{mdb_in}
 use Rattle.hfs_check.specs.VolumeOf.{volume_in}
-use Rattle.hfs_call_edits.specs.Moving.{IsMoving, CanMove, FitsCounts, counts_moved}
+use Rattle.hfs_call_patches.specs.Moving.{IsMoving, CanMove, FitsCounts, counts_moved}
 use Rattle.hfs_call_edits.proofs.Edited.{editing_now}
-use Rattle.hfs_call_edits.proofs.MoveMade.{fits_counts, may_move, move_refused, move_accepted}
+use Rattle.hfs_call_edits.proofs.MayMove.{fits_counts, may_move, move_refused, move_accepted}
 use Rattle.hfs_call_edits.proofs.StepMade.{step_made}
 use Rattle.hfs_call_edits.proofs.Wanting.{enough_nodes, full_edit, refused_edit}
 use Rattle.hfs_call_edits.proofs.editing.Editing.cat_move.Goals as goal

@@ -1,5 +1,5 @@
 -- The folder was looked up in the catalog's nodes.
-use Rattle.std.proofs.Common.{◌≡◌, ◌∙◌, sym, Some, None}
+use Rattle.std.proofs.Common.{◌∙◌}
 use Rattle.std.specs.Option.{option_map}
 use Rattle.hfs_catalog.specs.Lookups.{catalog_item}
 use Rattle.hfs_check.specs.Parts.{catalog_in}

@@ -5,10 +5,11 @@ use Rattle.hfs_model.specs.declared.reply.Value.TheVariants as value
 use Rattle.hfs_check.specs.Parts.{mdb_in, catalog_nodes}
 use Rattle.hfs_check.specs.VolumeOf.{volume_in}
 use Rattle.hfs_changes.specs.OnBlocks.{at_time}
-use Rattle.hfs_call_edits.specs.Rekeyings.{CanRekey}
-use Rattle.hfs_call_edits.specs.Renaming.{IsRenameChoice, nodes_for_name}
+use Rattle.hfs_call_patches.specs.Rekeyings.{CanRekey}
+use Rattle.hfs_call_patches.specs.Renaming.{IsRenameChoice}
+use Rattle.hfs_call_edits.specs.ChoosingRenaming.{nodes_for_name}
 use Rattle.hfs_call_edits.proofs.Edited.{editing_now}
-use Rattle.hfs_call_edits.proofs.RenameMade.{can_rename, rename_refused, rename_accepted}
+use Rattle.hfs_call_edits.proofs.MayRename.{can_rename, rename_refused, rename_accepted}
 use Rattle.hfs_call_edits.proofs.StepMade.{step_made}
 use Rattle.hfs_call_edits.proofs.Wanting.{enough_nodes, full_edit, refused_edit}
 use Rattle.hfs_call_edits.proofs.editing.Editing.rename.Goals as goal

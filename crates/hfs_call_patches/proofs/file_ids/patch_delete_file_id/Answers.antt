@@ -1,0 +1,32 @@
+-- The file's thread went from the catalog's nodes, and then the counts were put.
+use Rattle.hfs_fields.specs.Records.{is_file}
+use Rattle.hfs_blocks.specs.Layers.{changes, over}
+use Rattle.hfs_call_patches.specs.Settings.{IsBody}
+use Rattle.hfs_call_patches.proofs.FileIdPatches.{delete_made}
+use Rattle.hfs_call_patches.proofs.Opened.{tree_open, records_open, body_open}
+use Rattle.hfs_call_patches.proofs.Made.{if_ok}
+use Rattle.hfs_call_patches.proofs.file_ids.patch_delete_file_id.Goals as goal
+
+pub drop_file_thread-requires-clause-tree : goal.drop_file_thread-requires-clause-tree
+drop_file_thread-requires-clause-tree g c =
+    let below = c.args.below.now in
+    tree_open (g.B.Blocks.blocks below) _ c.open_catalog-nodes.ensures.nodes
+    (c.trees_are_sound.ensures (g.B.Blocks.total below) (g.B.Blocks.blocks below) c.requires.sound).1
+
+pub drop_file_thread-requires-clause-records : goal.drop_file_thread-requires-clause-records
+drop_file_thread-requires-clause-records g c =
+    let below = c.args.below.now in
+    records_open (g.B.Blocks.blocks below) _ c.open_catalog-nodes.ensures.nodes (g.B.Blocks.total below) c.requires.sound
+
+pub drop_file_thread-requires-clause-there : goal.drop_file_thread-requires-clause-there
+drop_file_thread-requires-clause-there g c =
+    let below = c.args.below.now in
+    body_open (g.B.Blocks.blocks below) _ c.open_catalog-nodes.ensures.nodes (IsBody is_file) c.args.key.now c.requires.there
+
+pub returns-clause-makes : goal.returns-clause-makes
+returns-clause-makes g c =
+    let below = c.args.below.now in
+    if_ok c.close_catalog.result _ _
+    (λ patch is. delete_made (g.B.Blocks.total below) c.args.now (g.B.Blocks.blocks below) (over (changes patch) (g.B.Blocks.blocks below)) c.requires.sound c.args.mdb.now c.at_time.result
+    c.requires.mdb c.at_time.ensures c.args.key.now c.args.file.now _ _ c.open_catalog-nodes.ensures.nodes is c.delete_file_id_makes.ensures c.in_ok-drop_file_thread.ensures.went)
+    c.close_catalog.ensures.catalog

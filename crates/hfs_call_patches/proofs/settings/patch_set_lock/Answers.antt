@@ -1,0 +1,17 @@
+use Rattle.std.proofs.Common.{ℕ, subst}
+use Rattle.hfs_catalog.specs.declared.item.ItemRecord.TheVariants.{File}
+use Rattle.hfs_blocks.specs.Layers.{changes, over}
+use Rattle.hfs_call_patches.specs.Settings.{HasSetItem}
+use Rattle.hfs_call_patches.proofs.Made.{if_ok, lock_made}
+use Rattle.hfs_call_patches.proofs.settings.patch_set_lock.Goals as goal
+
+pub returns-clause-makes : goal.returns-clause-makes
+returns-clause-makes g c =
+    let below = c.args.below.now in
+    let flagged = λ (bits : ℕ). record c.args.file.now { flags = record { 0 = bits } } in
+    if_ok c.patch_record.result _ _
+    (λ patch set. lock_made (g.B.Blocks.total below) c.args.now c.args.mdb.now c.at_time.result c.args.key.now (g.B.Blocks.blocks below) (over (changes patch) (g.B.Blocks.blocks below))
+    c.requires.sound c.requires.mdb c.at_time.ensures c.set_lock_makes.ensures c.args.locked c.args.file.now
+    (subst (λ (bits : ℕ). HasSetItem c.args.key.now (File (flagged bits)) c.at_time.result (g.B.Blocks.blocks below) (over (changes patch) (g.B.Blocks.blocks below))) c.with_lock.ensures set).value
+    (subst (λ (bits : ℕ). HasSetItem c.args.key.now (File (flagged bits)) c.at_time.result (g.B.Blocks.blocks below) (over (changes patch) (g.B.Blocks.blocks below))) c.with_lock.ensures set).set)
+    c.patch_record.ensures.set

@@ -1,0 +1,14 @@
+pub mod TreeFiles
+pub mod Settings
+pub mod CatalogPatch
+pub mod ChosenFiles
+pub mod FileIds
+pub mod ReadyPlaces
+pub mod NewItems
+pub mod CallChanges
+pub mod CreationAnswers
+pub mod Rekeyings
+pub mod Renaming
+pub mod Moving
+pub mod Valences
+pub mod Deleting

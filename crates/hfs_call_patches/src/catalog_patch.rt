@@ -1,0 +1,55 @@
+//! The catalog of a volume over a patch of its blocks: opened, to be edited, and closed with the volume's counts.
+
+ghost use Rattle.std.specs.Prelude.{◌≡◌, IfOk};
+ghost use Rattle.hfs_blocks.specs.Blocks.{nodes_in};
+ghost use Rattle.hfs_blocks.specs.Layers.{changes, over, AreWithin};
+ghost use Rattle.hfs_catalog.specs.Tree.{catalog_of};
+ghost use Rattle.hfs_check.specs.Parts.{catalog_nodes};
+ghost use Rattle.hfs_check.specs.Sound.{AreBlocksSound};
+ghost use Rattle.hfs_call_patches.specs.CatalogPatch.{StandsOver, KeepsNamed, HasCatalog};
+ghost use Rattle.hfs_call_patches.specs.TreeFiles.{IsCatalogFile};
+
+use crate::counts::put_counts;
+use hfs_blocks::{Blocks, Patch, Run};
+use hfs_btree_edits::PatchNodes;
+use hfs_changes::catalog_file_stays;
+use hfs_fields::Mdb;
+use std::alloc::{AllocError, Global};
+
+/// The nodes of a sound volume's catalog, over a patch that has no block yet.
+pub(crate) fn open_catalog<'a, B: Blocks>(
+    alloc: Global,
+    below: &'a B,
+    runs: &'a [Run],
+) -> PatchNodes<'a, B>
+    requires sound { AreBlocksSound (B.total below.now) (B.blocks below.now) }
+    requires file { IsCatalogFile runs.now (B.total below.now) (B.blocks below.now) }
+    ensures nodes { nodes_in (over (changes result.patch) (B.blocks result.below.now)) result.runs.now ≡ catalog_nodes (B.blocks below.now) }
+    ensures over { StandsOver (λ b. B.blocks b) below.now runs.now result.below.now result.runs.now (changes result.patch) }
+{
+    PatchNodes {
+        below,
+        runs,
+        patch: Patch::new(alloc),
+    }
+}
+
+/// The patch of a catalog's nodes with these counts in the volume's master directory block. The only error is want of memory.
+pub(crate) fn close_catalog<B: Blocks>(
+    below: &B,
+    runs: &[Run],
+    nodes: PatchNodes<'_, B>,
+    counts: &Mdb,
+) -> Result<Patch, AllocError>
+    requires sound { AreBlocksSound (B.total below.now) (B.blocks below.now) }
+    requires file { IsCatalogFile runs.now (B.total below.now) (B.blocks below.now) }
+    requires over { StandsOver (λ b. B.blocks b) below.now runs.now nodes.below.now nodes.runs.now (changes nodes.patch) }
+    requires keeps { KeepsNamed (catalog_nodes (B.blocks below.now)) (nodes_in (over (changes nodes.patch) (B.blocks nodes.below.now)) nodes.runs.now) }
+    ensures catalog { IfOk result (λ patch. HasCatalog counts.now (catalog_of (nodes_in (over (changes nodes.entry.patch) (B.blocks nodes.entry.below.now)) nodes.entry.runs.now)) (B.blocks below.now) (over (changes patch) (B.blocks below.now))) }
+    ensures within { IfOk result (λ patch. AreWithin (changes patch) (B.total below.now)) }
+{
+    catalog_file_stays();
+    let mut patch = nodes.patch;
+    put_counts(below, &mut patch, counts)?;
+    Ok(patch)
+}

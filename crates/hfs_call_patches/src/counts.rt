@@ -1,0 +1,39 @@
+//! The counts in a volume's master directory block.
+
+ghost use Rattle.std.specs.Prelude.{◌≡◌, ◌<◌, OnOk};
+ghost use Rattle.hfs_fields.specs.Counts.{with_counts};
+ghost use Rattle.hfs_blocks.specs.Layers.{changes};
+ghost use Rattle.hfs_call_patches.specs.Settings.{PutsCounts};
+
+use hfs_blocks::{Blocks, Patch};
+use hfs_fields::Mdb;
+use std::alloc::AllocError;
+
+/// Puts the volume's master directory block with these counts into a patch: block 2, of which no other byte changes. The only
+/// error is want of memory.
+pub fn put_counts<B: Blocks>(below: &B, patch: &mut Patch, counts: &Mdb) -> Result<(), AllocError>
+    requires { 2 < B.total below.now }
+    ensures { OnOk result (PutsCounts counts.now (B.blocks below.now 2) (changes patch.old) (changes patch.new)) }
+{
+    let mut block = [0; 512];
+    below.block(2, &mut block);
+    counts.write_counts(&mut block);
+    patch.put(2, &block)?;
+    Ok(())
+}
+
+/// A master directory block's fields, with the counts of another.
+pub fn with_counts(counts: &Mdb, mdb: &Mdb) -> Mdb
+    ensures { result ≡ with_counts counts.now mdb.now }
+{
+    Mdb {
+        modified: counts.modified,
+        root_files: counts.root_files,
+        next_id: counts.next_id,
+        free_blocks: counts.free_blocks,
+        root_folders: counts.root_folders,
+        files: counts.files,
+        folders: counts.folders,
+        ..*mdb
+    }
+}

@@ -1,0 +1,81 @@
+//! What Create and DirCreate make of a volume's blocks.
+
+ghost use Rattle.std.specs.Prelude.{IfOk};
+ghost use Rattle.hfs_model.specs.declared.call.Call.TheVariants as call;
+ghost use Rattle.hfs_catalog_edits.specs.Rooms.{HasRoom, HasRoomForTwo};
+ghost use Rattle.hfs_check.specs.Parts.{catalog_nodes};
+ghost use Rattle.hfs_call_patches.specs.CallChanges.{IsChangeOf};
+ghost use Rattle.hfs_call_patches.specs.ReadyPlaces.{IsReady};
+
+use crate::catalog_patch::{close_catalog, open_catalog};
+use crate::change::Change;
+use crate::new_counts::{with_file, with_folder};
+use crate::new_items::{NewPlace, put_file, put_folder};
+use hfs_blocks::{Blocks, Run};
+use hfs_changes::{
+    catalog_edits_are_steps, create_makes, creation_fits, creation_is_free, dir_create_makes,
+};
+use hfs_check::trees_are_sound;
+use hfs_fields::Mdb;
+use hfs_model::Value;
+use std::alloc::{AllocError, Global};
+
+/// What a new file makes of a volume. The only error is want of memory.
+pub fn add_new_file<B: Blocks>(
+    alloc: Global,
+    below: &B,
+    runs: &[Run],
+    mdb: &Mdb,
+    dir: u32,
+    place: &NewPlace,
+    now: u32,
+) -> Result<Change, AllocError>
+    requires ready { IsReady (B.total below.now) (B.blocks below.now) runs.now mdb.now dir place.now }
+    requires room { HasRoom (catalog_nodes (B.blocks below.now)) }
+    ensures { IfOk result (λ change. IsChangeOf (call.Create dir place.now.name now) (B.total below.now) (B.blocks below.now) change) }
+{
+    trees_are_sound();
+    creation_fits();
+    creation_is_free();
+    create_makes();
+    catalog_edits_are_steps();
+    let counts = with_file(mdb, dir, now);
+    let mut nodes = open_catalog(alloc, below, runs);
+    put_file(alloc, &mut nodes, dir, place, mdb.next_id, now)?;
+    let patch = close_catalog(below, runs, nodes, &counts)?;
+    Ok(Change {
+        patch,
+        counts,
+        value: Value::Id(mdb.next_id),
+    })
+}
+
+/// What a new folder makes of a volume. The only error is want of memory.
+pub fn add_new_folder<B: Blocks>(
+    alloc: Global,
+    below: &B,
+    runs: &[Run],
+    mdb: &Mdb,
+    dir: u32,
+    place: &NewPlace,
+    now: u32,
+) -> Result<Change, AllocError>
+    requires ready { IsReady (B.total below.now) (B.blocks below.now) runs.now mdb.now dir place.now }
+    requires room { HasRoomForTwo (catalog_nodes (B.blocks below.now)) }
+    ensures { IfOk result (λ change. IsChangeOf (call.DirCreate dir place.now.name now) (B.total below.now) (B.blocks below.now) change) }
+{
+    trees_are_sound();
+    creation_fits();
+    creation_is_free();
+    dir_create_makes();
+    catalog_edits_are_steps();
+    let counts = with_folder(mdb, dir, now);
+    let mut nodes = open_catalog(alloc, below, runs);
+    put_folder(alloc, &mut nodes, dir, place, mdb.next_id, now)?;
+    let patch = close_catalog(below, runs, nodes, &counts)?;
+    Ok(Change {
+        patch,
+        counts,
+        value: Value::Id(mdb.next_id),
+    })
+}

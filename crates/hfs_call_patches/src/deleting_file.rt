@@ -1,0 +1,193 @@
+//! What Delete of a file makes of a volume's blocks: its bits of the bitmap, its records of the extents tree, its record of the
+//! catalog, and the counts.
+
+ghost use Rattle.std.specs.Prelude.{◌≡◌, ◌+◌, ◌<◌, ◌≤◌, IfOk};
+ghost use Rattle.std.specs.List.{flat_map};
+ghost use Rattle.hfs_blocks.specs.Blocks.{run_of, nodes_in};
+ghost use Rattle.hfs_blocks.specs.Layers.{changes, over, AreWithin};
+ghost use Rattle.hfs_btree_edits.specs.Files.{beside};
+ghost use Rattle.hfs_space.specs.Extents.{AreExtentsWithin, block_total, extent_blocks};
+ghost use Rattle.hfs_space_edits.specs.Dropped.{HasDroppedOverflow};
+ghost use Rattle.hfs_space_edits.specs.Released.{HasReleased};
+ghost use Rattle.hfs_changes.specs.Deletion.{without_one_file};
+ghost use Rattle.hfs_check.specs.Parts.{mdb_in, extents_nodes, catalog_nodes, catalog_in};
+ghost use Rattle.hfs_check.specs.Sound.{AreBlocksSound};
+ghost use Rattle.hfs_call_patches.specs.Deleting.{StaysFolder, ItemDropped, IsItemUnder, IsParent, IsFileToDelete, MakesFileDeletion};
+ghost use Rattle.hfs_call_patches.specs.TreeFiles.{IsExtentsFile, IsCatalogFile};
+
+use crate::counts::put_counts;
+use crate::dropping::drop_from_folder;
+use hfs_blocks::{Blocks, Patch, Run};
+use hfs_btree::RunNodes;
+use hfs_btree_edits::PatchNodes;
+use hfs_changes::{
+    choice_stands, delete_file_makes, deletion_leaves_file, deletions_are_steps, dropped_leaves,
+    folders_stand, fork_blocks_are_alone, fork_extents_are_within, removal_fits,
+};
+use hfs_check::trees_are_sound;
+use hfs_fields::{CatKey, Extent, FileRecord, Mdb};
+use hfs_space::Bitmap;
+use hfs_space_edits::{drop_overflow, file_extents, release_extents};
+use std::alloc::{AllocError, Global};
+
+/// How many allocation blocks the extents have together.
+fn block_count(extents: &[Extent]) -> u16
+    requires { block_total extents.now < 65536 }
+    ensures { result ≡ block_total extents.now }
+{
+    extents.iter().map(|extent| extent.count).sum()
+}
+
+/// How many blocks are free where the blocks of these extents are free, too.
+fn free_after(mdb: &Mdb, freed: &[Extent]) -> u16
+    requires { mdb.now.free_blocks + block_total freed.now ≤ mdb.now.allocation_blocks }
+    ensures { result ≡ mdb.now.free_blocks + block_total freed.now }
+{
+    let used = mdb.allocation_blocks - mdb.free_blocks;
+    mdb.allocation_blocks - (used - block_count(freed))
+}
+
+/// The counts of a volume from which a file goes, one of this folder's, so that so many blocks are free.
+fn without_file(mdb: &Mdb, dir: u32, free_blocks: u16, now: u32) -> Mdb
+    ensures { result ≡ without_one_file dir free_blocks now mdb.now }
+{
+    let in_root = dir == 2;
+    Mdb {
+        modified: now,
+        free_blocks,
+        root_files: mdb.root_files.saturating_sub(u16::from(in_root)),
+        files: mdb.files.saturating_sub(1),
+        ..*mdb
+    }
+}
+
+/// The patch in which the bits of the extents' blocks are clear. The only error is want of memory.
+fn clear_bits<B: Blocks>(
+    alloc: Global,
+    below: &B,
+    mdb: &Mdb,
+    extents: &[Extent],
+) -> Result<Patch, AllocError>
+    requires sound { AreBlocksSound (B.total below.now) (B.blocks below.now) }
+    requires mdb { mdb.now ≡ mdb_in (B.blocks below.now) }
+    requires within { AreExtentsWithin (mdb_in (B.blocks below.now)).allocation_blocks extents.now }
+    ensures released { IfOk result (λ patch. HasReleased (mdb_in (B.blocks below.now)).bitmap_start (mdb_in (B.blocks below.now)).allocation_blocks (extent_blocks extents.now) (B.blocks below.now) (over (changes patch) (B.blocks below.now))) }
+    ensures within { IfOk result (λ patch. AreWithin (changes patch) (B.total below.now)) }
+{
+    let bitmap = Bitmap {
+        blocks: below,
+        start: mdb.bitmap_start,
+        count: mdb.allocation_blocks,
+    };
+    let mut patch = Patch::new(alloc);
+    release_extents(&bitmap, &mut patch, extents)?;
+    Ok(patch)
+}
+
+/// The patch in which the extents tree has no record of this file. The only error is want of memory.
+fn drop_records<B: Blocks>(
+    alloc: Global,
+    below: &B,
+    runs: &[Run],
+    patch: Patch,
+    file: u32,
+) -> Result<Patch, AllocError>
+    requires sound { AreBlocksSound (B.total below.now) (B.blocks below.now) }
+    requires file { IsExtentsFile runs.now (B.total below.now) (B.blocks below.now) }
+    requires inside { AreWithin (changes patch) (B.total below.now) }
+    requires same { nodes_in (over (changes patch) (B.blocks below.now)) runs.now ≡ extents_nodes (B.blocks below.now) }
+    ensures dropped { IfOk result (λ new. HasDroppedOverflow file (extents_nodes (B.blocks below.now)) (nodes_in (over (changes new) (B.blocks below.now)) runs.now)) }
+    ensures beside { IfOk result (λ new. beside (flat_map run_of runs.now) (over (changes new) (B.blocks below.now)) ≡ beside (flat_map run_of runs.now) (over (changes patch) (B.blocks below.now))) }
+    ensures within { IfOk result (λ new. AreWithin (changes new) (B.total below.now)) }
+{
+    trees_are_sound();
+    let mut nodes = PatchNodes { below, runs, patch };
+    drop_overflow(alloc, &mut nodes, file)?;
+    Ok(nodes.patch)
+}
+
+/// The patch in which the item under a key went from the catalog, and then its folder got so many children. The only error is
+/// want of memory.
+fn drop_item_over<B: Blocks>(
+    alloc: Global,
+    below: &B,
+    runs: &[Run],
+    patch: Patch,
+    key: &CatKey,
+    id: u32,
+    folder: &CatKey,
+    valence: u16,
+    now: u32,
+) -> Result<Patch, AllocError>
+    requires sound { AreBlocksSound (B.total below.now) (B.blocks below.now) }
+    requires file { IsCatalogFile runs.now (B.total below.now) (B.blocks below.now) }
+    requires inside { AreWithin (changes patch) (B.total below.now) }
+    requires same { nodes_in (over (changes patch) (B.blocks below.now)) runs.now ≡ catalog_nodes (B.blocks below.now) }
+    requires there { IsItemUnder key.now (catalog_in (B.blocks below.now)) }
+    requires stays { StaysFolder key.now id folder.now (catalog_nodes (B.blocks below.now)) }
+    ensures dropped { IfOk result (λ new. ItemDropped key.now id folder.now valence now (catalog_nodes (B.blocks below.now)) (nodes_in (over (changes new) (B.blocks below.now)) runs.now)) }
+    ensures beside { IfOk result (λ new. beside (flat_map run_of runs.now) (over (changes new) (B.blocks below.now)) ≡ beside (flat_map run_of runs.now) (over (changes patch) (B.blocks below.now))) }
+    ensures within { IfOk result (λ new. AreWithin (changes new) (B.total below.now)) }
+{
+    trees_are_sound();
+    let mut nodes = PatchNodes { below, runs, patch };
+    drop_from_folder(alloc, &mut nodes, key, id, folder, valence, now)?;
+    Ok(nodes.patch)
+}
+
+/// The patch that deletes a file, of this key and this record, from its folder, which has so many children; and the volume's
+/// counts afterwards. The only error is want of memory.
+pub fn patch_delete_file<B: Blocks>(
+    alloc: Global,
+    below: &B,
+    extents: &[Run],
+    catalog: &[Run],
+    mdb: &Mdb,
+    dir: u32,
+    key: &CatKey,
+    file: &FileRecord,
+    parent: &CatKey,
+    valence: u16,
+    now: u32,
+) -> Result<(Patch, Mdb), AllocError>
+    requires sound { AreBlocksSound (B.total below.now) (B.blocks below.now) }
+    requires extents { IsExtentsFile extents.now (B.total below.now) (B.blocks below.now) }
+    requires catalog { IsCatalogFile catalog.now (B.total below.now) (B.blocks below.now) }
+    requires mdb { mdb.now ≡ mdb_in (B.blocks below.now) }
+    requires chosen { IsFileToDelete (B.blocks below.now) dir key.now file.now }
+    requires parent { IsParent (catalog_in (B.blocks below.now)) dir parent.now valence }
+    ensures makes { IfOk result (λ made. MakesFileDeletion dir key.now file.now now (B.total below.now) (B.blocks below.now) made.1 (over (changes made.0) (B.blocks below.now))) }
+    ensures within { IfOk result (λ made. AreWithin (changes made.0) (B.total below.now)) }
+{
+    trees_are_sound();
+    choice_stands();
+    folders_stand();
+    removal_fits();
+    fork_blocks_are_alone();
+    fork_extents_are_within();
+    dropped_leaves();
+    deletion_leaves_file();
+    delete_file_makes();
+    deletions_are_steps();
+    let nodes = RunNodes {
+        blocks: below,
+        runs: extents,
+    };
+    let freed = file_extents(alloc, &nodes, file)?;
+    let bits = clear_bits(alloc, below, mdb, &freed)?;
+    let records = drop_records(alloc, below, extents, bits, file.id)?;
+    let mut patch = drop_item_over(
+        alloc,
+        below,
+        catalog,
+        records,
+        key,
+        file.id,
+        parent,
+        valence - 1,
+        now,
+    )?;
+    let counts = without_file(mdb, dir, free_after(mdb, &freed), now);
+    put_counts(below, &mut patch, &counts)?;
+    Ok((patch, counts))
+}

@@ -1,0 +1,62 @@
+//! What Delete of a folder makes of a volume's blocks.
+
+ghost use Rattle.std.specs.Prelude.{◌≡◌, IfOk};
+ghost use Rattle.hfs_blocks.specs.Layers.{changes, over, AreWithin};
+ghost use Rattle.hfs_changes.specs.RemovalLaws.{without_folder};
+ghost use Rattle.hfs_check.specs.Parts.{mdb_in, catalog_in};
+ghost use Rattle.hfs_check.specs.Sound.{AreBlocksSound};
+ghost use Rattle.hfs_call_patches.specs.Deleting.{IsParent, IsFolderToDelete, MakesFolderDeletion};
+ghost use Rattle.hfs_call_patches.specs.TreeFiles.{IsCatalogFile};
+
+use crate::catalog_patch::{close_catalog, open_catalog};
+use crate::dropping::drop_from_folder;
+use hfs_blocks::{Blocks, Patch, Run};
+use hfs_changes::{choice_stands, delete_folder_makes, folders_stand, removal_fits};
+use hfs_check::trees_are_sound;
+use hfs_fields::{CatKey, DirRecord, Mdb};
+use std::alloc::{AllocError, Global};
+
+/// The counts of a volume from which a folder goes, one of this folder's.
+pub fn without_folder(mdb: &Mdb, dir: u32, now: u32) -> Mdb
+    ensures { result ≡ without_folder dir now mdb.now }
+{
+    let in_root = dir == 2;
+    Mdb {
+        modified: now,
+        root_folders: mdb.root_folders.saturating_sub(u16::from(in_root)),
+        folders: mdb.folders.saturating_sub(1),
+        ..*mdb
+    }
+}
+
+/// The patch that deletes a folder, of this key and this record, from its own, which has so many children. The only error is
+/// want of memory.
+pub fn patch_delete_folder<B: Blocks>(
+    alloc: Global,
+    below: &B,
+    runs: &[Run],
+    mdb: &Mdb,
+    dir: u32,
+    key: &CatKey,
+    folder: &DirRecord,
+    parent: &CatKey,
+    valence: u16,
+    now: u32,
+) -> Result<Patch, AllocError>
+    requires sound { AreBlocksSound (B.total below.now) (B.blocks below.now) }
+    requires nodes { IsCatalogFile runs.now (B.total below.now) (B.blocks below.now) }
+    requires mdb { mdb.now ≡ mdb_in (B.blocks below.now) }
+    requires chosen { IsFolderToDelete (B.blocks below.now) dir key.now folder.now }
+    requires parent { IsParent (catalog_in (B.blocks below.now)) dir parent.now valence }
+    ensures makes { IfOk result (λ patch. MakesFolderDeletion dir key.now folder.now now (B.blocks below.now) (over (changes patch) (B.blocks below.now))) }
+    ensures within { IfOk result (λ patch. AreWithin (changes patch) (B.total below.now)) }
+{
+    trees_are_sound();
+    choice_stands();
+    folders_stand();
+    removal_fits();
+    delete_folder_makes();
+    let mut nodes = open_catalog(alloc, below, runs);
+    drop_from_folder(alloc, &mut nodes, key, folder.id, parent, valence - 1, now)?;
+    close_catalog(below, runs, nodes, &without_folder(mdb, dir, now))
+}

@@ -1,0 +1,74 @@
+//! What CreateFileId and DeleteFileId make of a volume's blocks.
+
+ghost use Rattle.std.specs.Prelude.{◌≡◌, IsTrue, IfOk};
+ghost use Rattle.hfs_fields.specs.Names.{is_item_name};
+ghost use Rattle.hfs_blocks.specs.Layers.{changes, over, AreWithin};
+ghost use Rattle.hfs_catalog_edits.specs.Rooms.{IsInFile, HasRoom};
+ghost use Rattle.hfs_check.specs.Parts.{mdb_in, catalog_in, catalog_nodes};
+ghost use Rattle.hfs_check.specs.Sound.{AreBlocksSound};
+ghost use Rattle.hfs_changes.specs.OnBlocks.{at_time};
+ghost use Rattle.hfs_call_patches.specs.FileIds.{IsThreadless, MakesCreateFileId, MakesDeleteFileId};
+ghost use Rattle.hfs_call_patches.specs.TreeFiles.{IsCatalogFile};
+ghost use Rattle.hfs_call_patches.specs.Settings.{IsFileUnder};
+
+use crate::catalog_patch::{close_catalog, open_catalog};
+use crate::file_threads::{add_file_thread, drop_file_thread};
+use crate::settings::at_time;
+use hfs_blocks::{Blocks, Patch, Run};
+use hfs_changes::{create_file_id_makes, delete_file_id_makes};
+use hfs_check::trees_are_sound;
+use hfs_fields::{CatKey, FileRecord, Mdb};
+use std::alloc::{AllocError, Global};
+
+/// The patch that gives a file, of this key and this record, a thread. The only error is want of memory.
+pub fn patch_create_file_id<B: Blocks>(
+    alloc: Global,
+    below: &B,
+    runs: &[Run],
+    mdb: &Mdb,
+    key: &CatKey,
+    file: &FileRecord,
+    now: u32,
+) -> Result<Patch, AllocError>
+    requires sound { AreBlocksSound (B.total below.now) (B.blocks below.now) }
+    requires nodes { IsCatalogFile runs.now (B.total below.now) (B.blocks below.now) }
+    requires mdb { mdb.now ≡ mdb_in (B.blocks below.now) }
+    requires name { IsTrue (is_item_name key.now.name) }
+    requires there { IsFileUnder key.now (catalog_in (B.blocks below.now)) }
+    requires threadless { IsThreadless (catalog_in (B.blocks below.now)) key.now file.now }
+    requires inside { IsInFile (catalog_nodes (B.blocks below.now)) }
+    requires room { HasRoom (catalog_nodes (B.blocks below.now)) }
+    ensures makes { IfOk result (λ patch. MakesCreateFileId key.now file.now now (B.blocks below.now) (over (changes patch) (B.blocks below.now))) }
+    ensures within { IfOk result (λ patch. AreWithin (changes patch) (B.total below.now)) }
+{
+    trees_are_sound();
+    create_file_id_makes();
+    let mut nodes = open_catalog(alloc, below, runs);
+    add_file_thread(alloc, &mut nodes, key, file)?;
+    close_catalog(below, runs, nodes, &at_time(mdb, now))
+}
+
+/// The patch that takes a file's thread away, of this key and this record. The only error is want of memory.
+pub fn patch_delete_file_id<B: Blocks>(
+    alloc: Global,
+    below: &B,
+    runs: &[Run],
+    mdb: &Mdb,
+    key: &CatKey,
+    file: &FileRecord,
+    now: u32,
+) -> Result<Patch, AllocError>
+    requires sound { AreBlocksSound (B.total below.now) (B.blocks below.now) }
+    requires nodes { IsCatalogFile runs.now (B.total below.now) (B.blocks below.now) }
+    requires mdb { mdb.now ≡ mdb_in (B.blocks below.now) }
+    requires name { IsTrue (is_item_name key.now.name) }
+    requires there { IsFileUnder key.now (catalog_in (B.blocks below.now)) }
+    ensures makes { IfOk result (λ patch. MakesDeleteFileId key.now file.now now (B.blocks below.now) (over (changes patch) (B.blocks below.now))) }
+    ensures within { IfOk result (λ patch. AreWithin (changes patch) (B.total below.now)) }
+{
+    trees_are_sound();
+    delete_file_id_makes();
+    let mut nodes = open_catalog(alloc, below, runs);
+    drop_file_thread(alloc, &mut nodes, key, file)?;
+    close_catalog(below, runs, nodes, &at_time(mdb, now))
+}

@@ -1,0 +1,76 @@
+//! What CatMove makes of a volume's blocks.
+
+ghost use Rattle.std.specs.Prelude.{◌≡◌, ◌+◌, ◌<◌, ◌==◌, ◌&&◌, IfOk};
+ghost use Rattle.hfs_blocks.specs.Layers.{changes, over, AreWithin};
+ghost use Rattle.hfs_catalog_edits.specs.Swaps.{one_if};
+ghost use Rattle.hfs_check.specs.Parts.{mdb_in};
+ghost use Rattle.hfs_check.specs.Sound.{AreBlocksSound};
+ghost use Rattle.hfs_call_patches.specs.Moving.{CanMove, FitsCounts, MakesMove, counts_moved};
+ghost use Rattle.hfs_call_patches.specs.TreeFiles.{IsCatalogFile};
+
+use crate::catalog_patch::close_catalog;
+use crate::rekeying::{Rekeying, open_rekeyed};
+use crate::valences::{FolderPlace, set_valences};
+use hfs_blocks::{Blocks, Patch, Run};
+use hfs_changes::{cat_move_makes, folders_stand};
+use hfs_check::catalog_is_sound;
+use hfs_fields::Mdb;
+use std::alloc::{AllocError, Global};
+
+/// An item that comes under another folder: whether it is a folder, the folder that it leaves, and the one that it enters.
+#[derive(Clone, Copy)]
+pub struct Moving {
+    pub item: Rekeying,
+    pub folder: bool,
+    pub left: FolderPlace,
+    pub entered: FolderPlace,
+}
+
+/// 1 where it is so, else 0.
+fn one_if(so: bool) -> u16
+    ensures { result ≡ one_if so }
+{
+    if so { 1 } else { 0 }
+}
+
+/// The volume's counts where the item was moved.
+pub fn counts_moved(mdb: &Mdb, moving: &Moving, now: u32) -> Mdb
+    requires { FitsCounts mdb.now moving.now }
+    ensures { result ≡ counts_moved moving.now now mdb.now }
+{
+    let from_root = moving.item.from.parent == 2;
+    let to_root = moving.item.to.parent == 2;
+    let files = mdb.root_files + one_if(!moving.folder && to_root);
+    let folders = mdb.root_folders + one_if(moving.folder && to_root);
+    Mdb {
+        modified: now,
+        root_files: files - one_if(!moving.folder && from_root),
+        root_folders: folders - one_if(moving.folder && from_root),
+        ..*mdb
+    }
+}
+
+/// The patch that puts an item under another folder. The only error is want of memory.
+pub fn patch_move<B: Blocks>(
+    alloc: Global,
+    below: &B,
+    runs: &[Run],
+    mdb: &Mdb,
+    moving: &Moving,
+    now: u32,
+) -> Result<Patch, AllocError>
+    requires sound { AreBlocksSound (B.total below.now) (B.blocks below.now) }
+    requires file { IsCatalogFile runs.now (B.total below.now) (B.blocks below.now) }
+    requires mdb { mdb.now ≡ mdb_in (B.blocks below.now) }
+    requires can { CanMove (B.blocks below.now) moving.now }
+    ensures makes { IfOk result (λ patch. MakesMove moving.now now (B.blocks below.now) (over (changes patch) (B.blocks below.now))) }
+    ensures within { IfOk result (λ patch. AreWithin (changes patch) (B.total below.now)) }
+{
+    catalog_is_sound();
+    folders_stand();
+    cat_move_makes();
+    let counts = counts_moved(mdb, moving, now);
+    let mut nodes = open_rekeyed(alloc, below, runs, &moving.item)?;
+    set_valences(alloc, &mut nodes, &moving.left, &moving.entered, now)?;
+    close_catalog(below, runs, nodes, &counts)
+}

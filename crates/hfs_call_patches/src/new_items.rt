@@ -1,0 +1,65 @@
+//! New items: their records and their folder's, put into a catalog.
+
+ghost use Rattle.std.specs.Prelude.{◌≡◌, ◌+◌, ◌<◌, ◌^◌, OnOk};
+ghost use Rattle.hfs_catalog.specs.Tree.{IsCatalogTree};
+ghost use Rattle.hfs_catalog_edits.specs.Rooms.{HasRoom, HasRoomForTwo};
+ghost use Rattle.hfs_call_patches.specs.NewItems.{TakesItem, TakesFolder, PutsFile, PutsFolder};
+
+use hfs_btree_edits::NodesMut;
+use hfs_catalog_edits::{add_dir, add_file, set_valence};
+use hfs_fields::{CatKey, DirRecord, FileRecord, Name};
+use std::alloc::{AllocError, Global};
+
+/// A new item's name, and its folder's key with the number of its children.
+#[derive(Clone, Copy)]
+pub struct NewPlace {
+    pub name: Name,
+    pub folder: CatKey,
+    pub children: u16,
+}
+
+/// Puts the record of a new file of this ID into the catalog, and its folder's with one more child. At `AllocError` nothing is said
+/// of the nodes.
+pub(crate) fn put_file<N: NodesMut>(
+    alloc: Global,
+    nodes: &mut N,
+    dir: u32,
+    place: &NewPlace,
+    id: u32,
+    now: u32,
+) -> Result<(), AllocError>
+    requires tree { IsCatalogTree (N.nodes nodes.old) }
+    requires place { TakesItem dir place.now (N.nodes nodes.old) }
+    requires room { HasRoom (N.nodes nodes.old) }
+    requires short { place.now.children + 1 < 2 ^ 16 }
+    ensures put { OnOk result (PutsFile id dir place.now now (N.nodes nodes.old) (N.nodes nodes.new)) }
+    ensures kept { OnOk result (N.kept nodes.new ≡ N.kept nodes.old) }
+{
+    let file = FileRecord::new(id, now);
+    add_file(alloc, nodes, dir, &place.name, &file)?;
+    set_valence(alloc, nodes, &place.folder, place.children + 1, now)?;
+    Ok(())
+}
+
+/// Puts the record of a new folder of this ID and its thread's into the catalog, and its folder's with one more child. At
+/// `AllocError` nothing is said of the nodes.
+pub(crate) fn put_folder<N: NodesMut>(
+    alloc: Global,
+    nodes: &mut N,
+    dir: u32,
+    place: &NewPlace,
+    id: u32,
+    now: u32,
+) -> Result<(), AllocError>
+    requires tree { IsCatalogTree (N.nodes nodes.old) }
+    requires place { TakesFolder id dir place.now (N.nodes nodes.old) }
+    requires room { HasRoomForTwo (N.nodes nodes.old) }
+    requires short { place.now.children + 1 < 2 ^ 16 }
+    ensures put { OnOk result (PutsFolder id dir place.now now (N.nodes nodes.old) (N.nodes nodes.new)) }
+    ensures kept { OnOk result (N.kept nodes.new ≡ N.kept nodes.old) }
+{
+    let folder = DirRecord::new(id, now);
+    add_dir(alloc, nodes, dir, &place.name, &folder)?;
+    set_valence(alloc, nodes, &place.folder, place.children + 1, now)?;
+    Ok(())
+}

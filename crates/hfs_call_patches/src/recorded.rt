@@ -1,0 +1,43 @@
+//! A folder's or a file's record put in the place of another, and the volume's counts, as a patch of the volume's blocks.
+
+ghost use Rattle.std.specs.Prelude.{◌≡◌, IsTrue, IfOk};
+ghost use Rattle.hfs_fields.specs.Keys.{cat_cmp};
+ghost use Rattle.hfs_fields.specs.Names.{is_item_name};
+ghost use Rattle.hfs_blocks.specs.Layers.{changes, over, AreWithin};
+ghost use Rattle.hfs_btree.specs.Pairs.{lookup};
+ghost use Rattle.hfs_catalog_edits.specs.Bodies.{IfBody, IsOfKind};
+ghost use Rattle.hfs_check.specs.Parts.{catalog_in};
+ghost use Rattle.hfs_check.specs.Sound.{AreBlocksSound};
+ghost use Rattle.hfs_call_patches.specs.TreeFiles.{IsCatalogFile};
+ghost use Rattle.hfs_call_patches.specs.Settings.{HasSetItem};
+
+use crate::catalog_patch::{close_catalog, open_catalog};
+use hfs_blocks::{Blocks, Patch, Run};
+use hfs_catalog::ItemRecord;
+use hfs_catalog_edits::set_record;
+use hfs_check::trees_are_sound;
+use hfs_fields::{CatKey, Mdb};
+use std::alloc::{AllocError, Global};
+
+/// The patch that puts an item's record in the place of the one under this key, which is of its kind, and these counts into
+/// the master directory block. It has that block and one node. The only error is want of memory.
+pub(crate) fn patch_record<B: Blocks>(
+    alloc: Global,
+    below: &B,
+    runs: &[Run],
+    key: &CatKey,
+    item: &ItemRecord,
+    counts: &Mdb,
+) -> Result<Patch, AllocError>
+    requires sound { AreBlocksSound (B.total below.now) (B.blocks below.now) }
+    requires nodes { IsCatalogFile runs.now (B.total below.now) (B.blocks below.now) }
+    requires name { IsTrue (is_item_name key.now.name) }
+    requires there { IfBody (IsOfKind item.now) (lookup cat_cmp key.now (catalog_in (B.blocks below.now))) }
+    ensures set { IfOk result (λ patch. HasSetItem key.now item.now counts.now (B.blocks below.now) (over (changes patch) (B.blocks below.now))) }
+    ensures within { IfOk result (λ patch. AreWithin (changes patch) (B.total below.now)) }
+{
+    trees_are_sound();
+    let mut nodes = open_catalog(alloc, below, runs);
+    set_record(alloc, &mut nodes, key, item)?;
+    close_catalog(below, runs, nodes, counts)
+}

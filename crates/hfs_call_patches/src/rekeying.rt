@@ -1,0 +1,45 @@
+//! An item that comes under another key, in the catalog over a patch.
+
+ghost use Rattle.std.specs.Prelude.{IfOk};
+ghost use Rattle.hfs_blocks.specs.Blocks.{nodes_in};
+ghost use Rattle.hfs_blocks.specs.Layers.{changes, over};
+ghost use Rattle.hfs_catalog_edits.specs.ItemEdits.{ItemRekeyed};
+ghost use Rattle.hfs_check.specs.Parts.{catalog_nodes};
+ghost use Rattle.hfs_check.specs.Sound.{AreBlocksSound};
+ghost use Rattle.hfs_call_patches.specs.CatalogPatch.{StandsOver};
+ghost use Rattle.hfs_call_patches.specs.Rekeyings.{CanRekey};
+ghost use Rattle.hfs_call_patches.specs.TreeFiles.{IsCatalogFile};
+
+use crate::catalog_patch::open_catalog;
+use hfs_blocks::{Blocks, Run};
+use hfs_btree_edits::PatchNodes;
+use hfs_catalog_edits::rekey;
+use hfs_fields::CatKey;
+use std::alloc::{AllocError, Global};
+
+/// An item by its ID and its key, and the key that it is to have.
+#[derive(Clone, Copy)]
+pub struct Rekeying {
+    pub id: u32,
+    pub from: CatKey,
+    pub to: CatKey,
+}
+
+/// The nodes of a sound volume's catalog, over a patch in which an item stands under its other key, and its thread, if it has
+/// one, leads there. The only error is want of memory.
+pub(crate) fn open_rekeyed<'a, B: Blocks>(
+    alloc: Global,
+    below: &'a B,
+    runs: &'a [Run],
+    item: &Rekeying,
+) -> Result<PatchNodes<'a, B>, AllocError>
+    requires sound { AreBlocksSound (B.total below.now) (B.blocks below.now) }
+    requires file { IsCatalogFile runs.now (B.total below.now) (B.blocks below.now) }
+    requires can { CanRekey item.now (catalog_nodes (B.blocks below.now)) }
+    ensures rekeyed { IfOk result (λ nodes. ItemRekeyed item.now.id item.now.from item.now.to (catalog_nodes (B.blocks below.now)) (nodes_in (over (changes nodes.patch) (B.blocks nodes.below.now)) nodes.runs.now)) }
+    ensures over { IfOk result (λ nodes. StandsOver (λ b. B.blocks b) below.now runs.now nodes.below.now nodes.runs.now (changes nodes.patch)) }
+{
+    let mut nodes = open_catalog(alloc, below, runs);
+    rekey(alloc, &mut nodes, item.id, &item.from, &item.to)?;
+    Ok(nodes)
+}

@@ -1,0 +1,193 @@
+//! The patches of the calls that set what is told of an item.
+
+ghost use Rattle.std.specs.Prelude.{◌≡◌, IsTrue, IfOk, take, drop};
+ghost use Rattle.hfs_fields.specs.Names.{is_item_name};
+ghost use Rattle.hfs_blocks.specs.Layers.{changes, over, AreWithin};
+ghost use Rattle.hfs_changes.specs.OnBlocks.{at_time};
+ghost use Rattle.hfs_check.specs.Parts.{mdb_in, catalog_in};
+ghost use Rattle.hfs_check.specs.Sound.{AreBlocksSound};
+ghost use Rattle.hfs_call_patches.specs.TreeFiles.{IsCatalogFile};
+ghost use Rattle.hfs_call_patches.specs.Settings.{IsFolderUnder, IsFileUnder, MakesSetFInfo, MakesSetFileInfo, MakesSetFolderInfo, MakesSetLock};
+
+use crate::recorded::patch_record;
+use hfs_blocks::{Blocks, Patch, Run};
+use hfs_catalog::ItemRecord;
+use hfs_changes::{set_cat_info_makes, set_f_info_makes, set_lock_makes};
+use hfs_fields::{CatKey, DirRecord, FileRecord, Mdb};
+use std::alloc::{AllocError, Global};
+
+/// What SetCatInfo sets: three dates, in seconds since midnight of 1 January 1904, and all Finder bytes.
+#[derive(Clone, Copy)]
+pub struct ItemSettings {
+    pub created: u32,
+    pub modified: u32,
+    pub backup: u32,
+    pub info: [u8; 32],
+}
+
+/// The two halves of the Finder bytes.
+fn halves(info: &[u8; 32]) -> ([u8; 16], [u8; 16])
+    ensures { result ≡ (take 16 info.now, drop 16 info.now) }
+{
+    let mut first = [0; 16];
+    let mut second = [0; 16];
+    first.copy_from_slice(&info[..16]);
+    second.copy_from_slice(&info[16..]);
+    (first, second)
+}
+
+/// The volume's counts as they are, with another moment of the last change.
+pub(crate) fn at_time(mdb: &Mdb, now: u32) -> Mdb
+    ensures { result ≡ at_time now mdb.now }
+{
+    Mdb {
+        modified: now,
+        ..*mdb
+    }
+}
+
+/// The patch that gives a file, of this key and this record, other first Finder bytes. The only error is want of memory.
+pub fn patch_set_f_info<B: Blocks>(
+    alloc: Global,
+    below: &B,
+    runs: &[Run],
+    mdb: &Mdb,
+    key: &CatKey,
+    file: &FileRecord,
+    info: &[u8; 16],
+    now: u32,
+) -> Result<Patch, AllocError>
+    requires sound { AreBlocksSound (B.total below.now) (B.blocks below.now) }
+    requires nodes { IsCatalogFile runs.now (B.total below.now) (B.blocks below.now) }
+    requires mdb { mdb.now ≡ mdb_in (B.blocks below.now) }
+    requires name { IsTrue (is_item_name key.now.name) }
+    requires there { IsFileUnder key.now (catalog_in (B.blocks below.now)) }
+    ensures makes { IfOk result (λ patch. MakesSetFInfo key.now file.now info.now now (B.blocks below.now) (over (changes patch) (B.blocks below.now))) }
+    ensures within { IfOk result (λ patch. AreWithin (changes patch) (B.total below.now)) }
+{
+    set_f_info_makes();
+    let changed = FileRecord {
+        finder_info: *info,
+        ..*file
+    };
+    patch_record(
+        alloc,
+        below,
+        runs,
+        key,
+        &ItemRecord::File(changed),
+        &at_time(mdb, now),
+    )
+}
+
+/// The patch that gives a file, of this key and this record, other dates and Finder bytes. The only error is want of memory.
+pub fn patch_set_file_info<B: Blocks>(
+    alloc: Global,
+    below: &B,
+    runs: &[Run],
+    mdb: &Mdb,
+    key: &CatKey,
+    file: &FileRecord,
+    settings: &ItemSettings,
+    now: u32,
+) -> Result<Patch, AllocError>
+    requires sound { AreBlocksSound (B.total below.now) (B.blocks below.now) }
+    requires nodes { IsCatalogFile runs.now (B.total below.now) (B.blocks below.now) }
+    requires mdb { mdb.now ≡ mdb_in (B.blocks below.now) }
+    requires name { IsTrue (is_item_name key.now.name) }
+    requires there { IsFileUnder key.now (catalog_in (B.blocks below.now)) }
+    ensures makes { IfOk result (λ patch. MakesSetFileInfo key.now file.now settings.now now (B.blocks below.now) (over (changes patch) (B.blocks below.now))) }
+    ensures within { IfOk result (λ patch. AreWithin (changes patch) (B.total below.now)) }
+{
+    set_cat_info_makes();
+    let (finder_info, extended_finder_info) = halves(&settings.info);
+    let changed = FileRecord {
+        created: settings.created,
+        modified: settings.modified,
+        backup: settings.backup,
+        finder_info,
+        extended_finder_info,
+        ..*file
+    };
+    patch_record(
+        alloc,
+        below,
+        runs,
+        key,
+        &ItemRecord::File(changed),
+        &at_time(mdb, now),
+    )
+}
+
+/// The patch that gives a folder, of this key and this record, other dates and Finder bytes. The only error is want of memory.
+pub fn patch_set_folder_info<B: Blocks>(
+    alloc: Global,
+    below: &B,
+    runs: &[Run],
+    mdb: &Mdb,
+    key: &CatKey,
+    folder: &DirRecord,
+    settings: &ItemSettings,
+    now: u32,
+) -> Result<Patch, AllocError>
+    requires sound { AreBlocksSound (B.total below.now) (B.blocks below.now) }
+    requires nodes { IsCatalogFile runs.now (B.total below.now) (B.blocks below.now) }
+    requires mdb { mdb.now ≡ mdb_in (B.blocks below.now) }
+    requires name { IsTrue (is_item_name key.now.name) }
+    requires there { IsFolderUnder key.now (catalog_in (B.blocks below.now)) }
+    ensures makes { IfOk result (λ patch. MakesSetFolderInfo key.now folder.now settings.now now (B.blocks below.now) (over (changes patch) (B.blocks below.now))) }
+    ensures within { IfOk result (λ patch. AreWithin (changes patch) (B.total below.now)) }
+{
+    set_cat_info_makes();
+    let (finder_info, extended_finder_info) = halves(&settings.info);
+    let changed = DirRecord {
+        created: settings.created,
+        modified: settings.modified,
+        backup: settings.backup,
+        finder_info,
+        extended_finder_info,
+        ..*folder
+    };
+    patch_record(
+        alloc,
+        below,
+        runs,
+        key,
+        &ItemRecord::Folder(changed),
+        &at_time(mdb, now),
+    )
+}
+
+/// The patch that locks a file, of this key and this record, or unlocks it. The only error is want of memory.
+pub fn patch_set_lock<B: Blocks>(
+    alloc: Global,
+    below: &B,
+    runs: &[Run],
+    mdb: &Mdb,
+    key: &CatKey,
+    file: &FileRecord,
+    locked: bool,
+    now: u32,
+) -> Result<Patch, AllocError>
+    requires sound { AreBlocksSound (B.total below.now) (B.blocks below.now) }
+    requires nodes { IsCatalogFile runs.now (B.total below.now) (B.blocks below.now) }
+    requires mdb { mdb.now ≡ mdb_in (B.blocks below.now) }
+    requires name { IsTrue (is_item_name key.now.name) }
+    requires there { IsFileUnder key.now (catalog_in (B.blocks below.now)) }
+    ensures makes { IfOk result (λ patch. MakesSetLock locked key.now file.now now (B.blocks below.now) (over (changes patch) (B.blocks below.now))) }
+    ensures within { IfOk result (λ patch. AreWithin (changes patch) (B.total below.now)) }
+{
+    set_lock_makes();
+    let changed = FileRecord {
+        flags: file.flags.with_lock(locked),
+        ..*file
+    };
+    patch_record(
+        alloc,
+        below,
+        runs,
+        key,
+        &ItemRecord::File(changed),
+        &at_time(mdb, now),
+    )
+}

@@ -1,0 +1,49 @@
+-- Which journals are legal, and which list is published of them.
+use Rattle.std.specs.Prelude.{◌≡◌, ℕ, ◌+◌, ◌<◌, ◌==◌, ◌&&◌, not, Bool, false, pos, List, ◌∷◌, ◌++◌, map, filter, take, count_by, All, Option, Some, None}
+use Rattle.std.specs.Ordering.{int_eq}
+use Rattle.hfs_model.specs.declared.codes.TheConstants.{DISK_FULL}
+use Rattle.hfs_model.specs.declared.journal.Entry.{Entry}
+use Rattle.hfs_model.specs.Volume.{Volume}
+use Rattle.hfs_model.specs.Step.{step, is_reading}
+use Rattle.hfs_model.specs.Runs.{after}
+use Rattle.hfs_model.specs.Need.{need}
+use Rattle.hfs_published.specs.declared.item.Item.{Item}
+use Rattle.hfs_published.specs.declared.item.Item.TheVariants.{Opening, Change}
+
+-- ---- legal journals
+
+-- how many entries a worker has
+abbrev pub made_by : ℕ → List Entry → ℕ
+made_by worker entries = count_by (λ (e : Entry). e.worker == worker) entries
+
+-- the code is that of the step; or it is -34 where the step's is 0 and so few nodes are free that the call needs more
+abbrev pub IsAnswered : Volume → Entry → Option (ℕ × ℕ) → Type 0
+IsAnswered v e None = e.code ≡ (step v e.call).1.code
+IsAnswered v e (Some full) = ((step v e.call).1.code ≡ pos 0) × (full.0 < need e.call full.1) × (e.code ≡ DISK_FULL)
+
+-- the entry may stand behind these
+pub record IsLegalAt (v : Volume) (before : List Entry) (e : Entry) : Type 0 where
+  pub stamped : e.stamp ≡ made_by e.worker before + 1
+  pub answered : IsAnswered (after v before) e e.full
+
+-- each entry may stand behind those before it
+abbrev pub IsLegal : Volume → List Entry → Type 0
+IsLegal v journal = (before : List Entry) (e : Entry) (rest : List Entry) → journal ≡ before ++ e ∷ rest → IsLegalAt v before e
+
+-- ---- published lists
+
+-- whether the entry is a change with code 0
+abbrev pub is_accepted : Entry → Bool
+is_accepted e = not (is_reading e.call) && int_eq e.code (pos 0)
+
+-- the accepted changes of a journal, in order
+abbrev pub changes : List Entry → List Item
+changes entries = map (λ (e : Entry). Change e.call) (filter is_accepted entries)
+
+-- the published list that covers the first n entries of a journal over a volume
+abbrev pub published : Volume → List Entry → ℕ → List Item
+published v journal n = Opening v ∷ changes (take n journal)
+
+-- no entry is an accepted change
+abbrev pub NoneAccepted : List Entry → Type 0
+NoneAccepted entries = All (λ (e : Entry). is_accepted e ≡ false) entries

@@ -1,0 +1,6 @@
+pub mod Histories
+pub mod Lists
+pub mod Journals
+pub mod Laws
+pub mod Pairs
+pub mod Tolds

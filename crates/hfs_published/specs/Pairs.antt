@@ -1,0 +1,44 @@
+-- The writer's side of the pair of copies, as plain data.
+use Rattle.std.specs.Prelude.{◌≡◌, List, [], ◌∷◌, ◌++◌, fold, Option, Some, None}
+use mathlib.Core.List.{IsPrefix}
+use Rattle.logbook.specs.Pages.{Book}
+use Rattle.hfs_published.specs.declared.item.Item.{Item}
+use Rattle.hfs_published.specs.declared.published.Published.{Published}
+use Rattle.hfs_published.specs.declared.published.Change as op
+use Rattle.hfs_published.specs.Histories.{Known}
+use Rattle.hfs_published.specs.Lists.{absorb, shown, IsGood, Sits}
+
+-- the history's name, the list with all changes that were added, and the one that is published
+pub record PairState : Type 0 where
+  pub book : Book
+  pub all : List Item
+  pub shown : List Item
+
+abbrev pub pair : Book → List Item → List Item → PairState
+pair b a s = record { book = b; all = a; shown = s }
+
+abbrev pub pair_state : Known → Published → PairState
+pair_state f x = pair f.book f.list x.front.list
+
+-- the change that is owed, if there is one
+abbrev pub owed_list : Option op.Change → List op.Change
+owed_list None = []
+owed_list (Some x) = x ∷ []
+
+-- the copy that readers are to take
+abbrev pub whole : Known → Published
+whole f = record { rows = shown f.list; front = f }
+
+-- the published copy and what is pending make the whole
+pub record IsPair (f : Known) (head : Book) (x : Published) (pending : List op.Change) (owed : Option op.Change) : Type 0 where
+  pub head_is : head ≡ f.book
+  pub book_is : x.front.book ≡ f.book
+  pub good : IsGood x
+  pub begins : IsPrefix x.front.list f.list
+  pub makes : fold absorb x (pending ++ owed_list owed) ≡ whole f
+
+-- the opening is published
+pub record Opens (f : Known) (x : Published) (pending : List op.Change) (v : Option Known) : Type 0 where
+  pub shows : x ≡ whole f
+  pub none : pending ≡ []
+  pub sits : Sits f v

@@ -1,0 +1,22 @@
+//! What viewers read beside the writer: two copies of a volume's rows, each beside the list of changes that it stands for. A
+//! change goes to one copy while readers have the other, and all that waits is shown in one step. No reader waits.
+#![tactic(auto)]
+
+mod absorbs;
+mod copies;
+mod crossing;
+mod front;
+mod item;
+mod laws;
+mod pair;
+mod published;
+mod rule;
+mod told;
+mod viewer;
+
+pub use copies::copy_call;
+pub use crossing::may_cross;
+pub use laws::{published_begins, published_grows, published_is_after, published_stays};
+pub use pair::{Pair, PairFault};
+pub use told::Told;
+pub use viewer::{ViewFault, Viewer};

@@ -1,0 +1,322 @@
+//! The writer's side of the pair of copies.
+ghost use Rattle.std.specs.Prelude.{◌≡◌, ◌≢◌, ◌<◌, ◌≤◌, ◌++◌, ◌∷◌, [], true, length, drop, All, None, IfOk, MatchBool};
+ghost use mathlib.Core.List.{IsPrefix};
+ghost use Rattle.left_right.specs.Sides.{view as seat_view};
+ghost use Rattle.hfs_published.specs.declared.item.Item.TheVariants.{Change as Changed};
+ghost use Rattle.hfs_published.specs.Histories.{known, opened};
+ghost use Rattle.hfs_published.specs.Lists.{Sits};
+ghost use Rattle.hfs_published.specs.Pairs.{PairState, pair, whole, owed_list, IsPair, Opens};
+ghost use Rattle.hfs_published.specs.Tolds.{told};
+ghost use Rattle.hfs_check.specs.VolumeOf.{volume_of};
+
+use crate::front::{Front, History};
+use crate::published::{Change, Published};
+use crate::rule::{PairWriter, Sees, Tells};
+use crate::told::Told;
+use crate::viewer::Viewer;
+use core::mem::{ManuallyDrop, replace_with};
+use hfs_model::Call;
+use hfs_view::Rows;
+use hfs_volume::Volume;
+use std::alloc::Global;
+use std::marker::Model;
+use std::sync::Wait;
+
+mod entries;
+
+/// Why a pair was not made.
+#[derive(Clone, Copy, Debug)]
+pub enum PairFault {
+    /// Memory is wanting.
+    Memory,
+    /// There was no place for a reader.
+    NoPlace,
+}
+
+/// Two copies of a volume's rows, of which viewers read one, and the changes that wait. Contracts see the history's name, the
+/// list with all changes that were added, and the list that is published, which begins it.
+pub struct Pair {
+    writer: PairWriter,
+    front: Front,
+    history: History,
+    // A change of the list for which the writer had no memory.
+    owed: Option<Change>,
+}
+
+impl Model for Pair {
+    ghost use Rattle.hfs_published.specs.Pairs.{PairState, pair_state, IsPair};
+
+    ghost Value = { PairState };
+
+    ghost use Rattle.hfs_published.specs.contracts.item.Item as item;
+    ghost use Rattle.std.specs.Coded.{codes};
+
+    ghost coded = { Prim.hlevel (codes, item.the_row.coded) };
+
+    ghost view = { λ p. pair_state p.front p.writer.desk.shown.value };
+
+    ghost use Rattle.std.specs.Prelude.{drop};
+
+    ghost invariant = { λ p. IsPair p.front p.history.head.book p.writer.desk.shown.value (drop p.writer.behind p.writer.log.items) p.owed };
+}
+
+impl Pair {
+    /// What is published, as a told list: it covers `shown` of a journal's `made` entries. Takes no memory.
+    pub fn told(&self, shown: u64, made: u64) -> Told
+        ensures { result ≡ told (known self.now.book self.now.shown) shown made }
+    {
+        Told::new(self.writer.published().front.again(), shown, made)
+    }
+
+    /// Whether all that was added is published. Takes no memory.
+    pub fn is_shown(&self) -> bool
+        ensures { MatchBool result (self.now.all ≡ self.now.shown) (self.now.all ≢ self.now.shown) }
+    {
+        self.front.changes() == self.writer.published().front.changes()
+    }
+
+    /// Adds a change after all that were added, where it waits to be published. It answers whether it did: not where memory is
+    /// wanting.
+    pub fn add(&mut self, call: Call) -> bool
+        ensures { MatchBool result (self.new ≡ pair self.old.book (self.old.all ++ Changed call ∷ []) self.old.shown) (self.new ≡ self.old) }
+    {
+        if !settle(&mut self.writer, &mut self.owed) {
+            return false;
+        }
+        let mut front = self.front.again();
+        if !front.add(&self.history, &call) {
+            return false;
+        }
+        let change = Change {
+            call,
+            front: front.again(),
+        };
+        self.owed = hand_over(&mut self.writer, change);
+        self.front = front;
+        true
+    }
+
+    /// Shows viewers all that waits, in one step, and answers whether nothing waits any more. Where memory is wanting, nothing
+    /// of it is shown, and all of it waits on.
+    pub fn publish<R: Wait>(&mut self, rt: &R) -> bool
+        ensures published { MatchBool result (self.new ≡ pair self.old.book self.old.all self.old.all) (self.new ≡ self.old) }
+        ensures idle { self.old.all ≡ self.old.shown → result ≡ true }
+    {
+        if self.is_shown() {
+            return true;
+        }
+        if !settle(&mut self.writer, &mut self.owed) {
+            return false;
+        }
+        let parts = (&self.front, &self.history, &self.owed, rt);
+        replace_with(
+            &mut self.writer,
+            parts,
+            |writer, (front, history, owed, rt)| { show_all(writer, front, history, owed, rt) },
+        )
+    }
+
+    /// The viewer learns all that is published. It waits where the viewer knows of more, which no viewer of this pair does.
+    pub fn teach<R: Wait>(&self, rt: &R, viewer: &mut Viewer)
+        requires { viewer.old.book ≡ self.now.book }
+        ensures list { viewer.new.list ≡ self.now.shown }
+        ensures saw { IsPrefix viewer.old.list viewer.new.list }
+        ensures book { viewer.new.book ≡ viewer.old.book }
+    {
+        let front = self.writer.published().front.again();
+        if front.changes() < viewer.changes() {
+            for _ in rt.forever() {}
+            unreachable!()
+        }
+        viewer.learn(&Told::new(front, 0, 0));
+    }
+
+    /// Gives up the copies, for which it waits for the readers. From then on viewers are `Gone`.
+    pub fn end<R: Wait>(self, rt: &R) {
+        let Pair {
+            writer,
+            front: _,
+            history: _,
+            owed: _,
+        } = self;
+        drop(writer.take(rt));
+    }
+
+    /// A pair over the volume, and so many viewers, each of which has seen the opening alone. `NoPlace` where a reader got no
+    /// place.
+    pub fn start<R: Wait>(
+        rt: &R,
+        alloc: Global,
+        volume: &Volume,
+        viewers: u32,
+    ) -> Result<(Pair, Vec<Viewer>), PairFault>
+        requires { (0 < viewers) × (viewers ≤ 8) }
+        ensures pair { IfOk result (λ r. r.0 ≡ pair r.0.book (opened (volume_of volume.now.current)) (opened (volume_of volume.now.current))) }
+        ensures viewers { IfOk result (λ r. (length r.1.items ≡ viewers) × All (λ k. k ≡ known r.0.book (opened (volume_of volume.now.current))) r.1.items) }
+    {
+        let (front, history) = Front::open(volume);
+        let writer = open_writer(rt, alloc, volume, &front, viewers)?;
+        let (writer, viewers) = seat_all(alloc, writer, &front, viewers);
+        match viewers {
+            Ok(viewers) => {
+                let pair = Pair {
+                    writer,
+                    front,
+                    history,
+                    owed: None,
+                };
+                Ok((pair, viewers))
+            }
+            Err(fault) => {
+                drop(writer.take(rt));
+                Err(fault)
+            }
+        }
+    }
+}
+
+// A pair that is dropped leaks its copies, since the writer would have to wait for readers. `end` gives them up.
+impl Drop for Pair {
+    fn drop(self) {
+        let Self {
+            writer,
+            front: _,
+            history: _,
+            owed: _,
+        } = self;
+        let _leaked = unsafe { ManuallyDrop::new_unchecked(writer) };
+    }
+}
+
+// Appends the change. It comes back where there is no memory.
+fn hand_over(writer: &mut PairWriter, change: Change) -> Option<Change>
+    ensures desk { writer.new.desk ≡ writer.old.desk }
+    ensures pending { drop writer.new.behind writer.new.log.items ++ owed_list result ≡ drop writer.old.behind writer.old.log.items ++ change ∷ [] }
+{
+    match writer.append(change) {
+        Ok(()) => None,
+        Err(change) => Some(change),
+    }
+}
+
+// Appends the change that is owed, if there is one, and answers whether none is owed any more.
+fn settle(writer: &mut PairWriter, owed: &mut Option<Change>) -> bool
+    ensures desk { writer.new.desk ≡ writer.old.desk }
+    ensures pending { drop writer.new.behind writer.new.log.items ++ owed_list owed.new ≡ drop writer.old.behind writer.old.log.items ++ owed_list owed.old }
+    ensures none { MatchBool result (owed.new ≡ None) (owed.new ≢ None) }
+{
+    let Some(change) = owed.take() else {
+        return true;
+    };
+    *owed = hand_over(writer, change);
+    owed.is_none()
+}
+
+// The writer of two copies of the volume's rows, which are published.
+fn open_writer<R: Wait>(
+    rt: &R,
+    alloc: Global,
+    volume: &Volume,
+    front: &Front,
+    viewers: u32,
+) -> Result<PairWriter, PairFault>
+    requires room { (0 < viewers) × (viewers ≤ 8) }
+    requires front { front.now.list ≡ opened (volume_of volume.now.current) }
+    ensures { IfOk result (λ w. Opens front.now w.desk.shown.value (drop w.behind w.log.items) (seat_view w.desk.place)) }
+{
+    let first = copy_of(alloc, volume, front)?;
+    let second = copy_of(alloc, volume, front)?;
+    let Ok(writer) = PairWriter::new(alloc, first, second, viewers as usize) else {
+        return Err(PairFault::Memory);
+    };
+    let (writer, shown) = writer.publish_as::<Sees, R>(rt);
+    if shown.is_err() {
+        drop(writer.take(rt));
+        return Err(PairFault::Memory);
+    }
+    Ok(writer)
+}
+
+// A copy of the volume's rows.
+fn copy_of(alloc: Global, volume: &Volume, front: &Front) -> Result<Published, PairFault>
+    requires { front.now.list ≡ opened (volume_of volume.now.current) }
+    ensures { IfOk result (λ x. x ≡ whole front.now) }
+{
+    let Ok(rows) = Rows::of(alloc, volume) else {
+        return Err(PairFault::Memory);
+    };
+    Ok(Published {
+        rows,
+        front: front.again(),
+    })
+}
+
+// Makes the viewers. The writer tells each the name of the history.
+fn seat_all(
+    alloc: Global,
+    mut writer: PairWriter,
+    front: &Front,
+    count: u32,
+) -> (PairWriter, Result<Vec<Viewer>, PairFault>)
+    requires { Sits front.now (seat_view writer.desk.place) }
+    ensures writer { (result.0.desk.shown ≡ writer.desk.shown) × (drop result.0.behind result.0.log.items ≡ drop writer.behind writer.log.items) }
+    ensures viewers { IfOk result.1 (λ v. (length v.items ≡ count) × All (λ k. k ≡ front.now) v.items) }
+{
+    let mut viewers = Vec::new(alloc);
+    for _i in 0..count {
+        if let Err(fault) = seat_one(&mut writer, front, &mut viewers) {
+            return (writer, Err(fault));
+        }
+    }
+    (writer, Ok(viewers))
+}
+
+// One viewer more.
+fn seat_one(
+    writer: &mut PairWriter,
+    front: &Front,
+    viewers: &mut Vec<Viewer>,
+) -> Result<(), PairFault>
+    requires { Sits front.now (seat_view writer.old.desk.place) }
+    ensures viewer { IfOk result (λ _. viewers.new.items ≡ viewers.old.items ++ front.now ∷ []) }
+    ensures view { seat_view writer.new.desk.place ≡ seat_view writer.old.desk.place }
+    ensures same { (writer.new.desk.shown ≡ writer.old.desk.shown) × (writer.new.log ≡ writer.old.log) × (writer.new.behind ≡ writer.old.behind) }
+{
+    let viewer = seat(writer, front)?;
+    match viewers.push(viewer) {
+        Ok(()) => Ok(()),
+        Err(_) => Err(PairFault::Memory),
+    }
+}
+
+// A viewer over a new reader.
+fn seat(writer: &mut PairWriter, front: &Front) -> Result<Viewer, PairFault>
+    requires { Sits front.now (seat_view writer.old.desk.place) }
+    ensures viewer { IfOk result (λ v. v ≡ front.now) }
+    ensures view { seat_view writer.new.desk.place ≡ seat_view writer.old.desk.place }
+    ensures same { (writer.new.desk.shown ≡ writer.old.desk.shown) × (writer.new.log ≡ writer.old.log) × (writer.new.behind ≡ writer.old.behind) }
+{
+    let mut reader = match writer.factory().reader() {
+        Ok(reader) => reader,
+        Err(_) => return Err(PairFault::NoPlace),
+    };
+    reader.learn::<Tells>(writer.tell::<Tells>());
+    Ok(Viewer::new(reader, front.again()))
+}
+
+// Shows readers all that is pending, where nothing is owed.
+fn show_all<R: Wait>(
+    writer: PairWriter,
+    front: &Front,
+    history: &History,
+    owed: &Option<Change>,
+    rt: &R,
+) -> (PairWriter, bool)
+    requires pair { IsPair front.now history.now.head.book writer.desk.shown.value (drop writer.behind writer.log.items) owed.now }
+    requires none { owed.now ≡ None }
+    ensures pair { IsPair front.now history.now.head.book result.0.desk.shown.value (drop result.0.behind result.0.log.items) owed.now }
+    ensures shown { MatchBool result.1 (result.0.desk.shown.value.front ≡ front.now) (result.0.desk.shown.value ≡ writer.desk.shown.value) }
+{
+    let (writer, shown) = writer.publish_as::<Sees, R>(rt);
+    (writer, shown.is_ok())
+}

@@ -1,0 +1,47 @@
+//! The changes of a journal, as they are added to a pair.
+ghost use Rattle.std.specs.Prelude.{◌≡◌, ◌≤◌, ◌++◌, ◌∷◌, [], true, false, length, take, MatchBool};
+ghost use Rattle.hfs_published.specs.Journals.{is_accepted, changes, NoneAccepted};
+ghost use Rattle.hfs_published.specs.Pairs.{pair};
+
+use crate::copies::copy_call;
+use crate::pair::Pair;
+use hfs_model::Entry;
+use std::alloc::Global;
+
+impl Pair {
+    /// Adds the accepted changes of the next entries of a journal, as far as there is memory. It answers how many of the
+    /// entries are done.
+    pub fn add_entries(&mut self, alloc: Global, entries: &[Entry]) -> usize
+        ensures within { result ≤ length entries.now }
+        ensures added { self.new ≡ pair self.old.book (self.old.all ++ changes (take result entries.now)) self.old.shown }
+        ensures idle { NoneAccepted entries.now → result ≡ length entries.now }
+    {
+        for at in 0..entries.len() {
+            if !self.add_entry(alloc, &entries[at]) {
+                return at;
+            }
+        }
+        entries.len()
+    }
+
+    // Adds the change of an entry, if it is one that was accepted, and answers whether the entry is done.
+    fn add_entry(&mut self, alloc: Global, entry: &Entry) -> bool
+        ensures added { MatchBool result (self.new ≡ pair self.old.book (self.old.all ++ changes (entry.now ∷ [])) self.old.shown) (self.new ≡ self.old) }
+        ensures idle { is_accepted entry.now ≡ false → result ≡ true }
+    {
+        if !is_accepted(entry) {
+            return true;
+        }
+        match copy_call(alloc, &entry.call) {
+            Ok(call) => self.add(call),
+            Err(_) => false,
+        }
+    }
+}
+
+// Whether the entry is a change that was accepted.
+fn is_accepted(entry: &Entry) -> bool
+    ensures { result ≡ is_accepted entry.now }
+{
+    !entry.call.is_reading() && entry.code == 0
+}

@@ -1,0 +1,118 @@
+//! The rows of a volume for viewers, beside the calls of the volume itself.
+
+use crate::infos::is_same;
+use crate::items::with_case_swapped;
+use anyhow::{Result, bail, ensure};
+use hfs_model::{Bytes, Call, Fork, Info, ItemKind, Reply, Value};
+use hfs_view::Rows;
+use hfs_volume::Volume;
+use std::alloc::Global;
+
+/// The most bytes that one call reads.
+const PIECE: u32 = 65_536;
+
+/// Whether two lists tell the same of the same items.
+fn are_same(a: &[Info], b: &[Info]) -> bool {
+    a.len() == b.len() && a.iter().zip(b).all(|(x, y)| is_same(Some(*x), y))
+}
+
+/// Whether two replies have the same code and tell the same.
+fn is_same_reply(a: &Reply, b: &Reply) -> bool {
+    let is_value = match (&a.value, &b.value) {
+        (Value::Nothing, Value::Nothing) => true,
+        (Value::One(x), Value::One(y)) => is_same(Some(*x), y),
+        (Value::Many(x), Value::Many(y)) => are_same(x.as_slice(), y.as_slice()),
+        (Value::Bytes(x), Value::Bytes(y)) => x.as_slice() == y.as_slice(),
+        (Value::Place { dir, name }, Value::Place { dir: d, name: n }) => {
+            dir == d && name.bytes() == n.bytes()
+        }
+        _ => false,
+    };
+    a.code == b.code && is_value
+}
+
+/// An error where rows answer a call that reads otherwise than their volume.
+fn ensure_call(alloc: Global, volume: &Volume, rows: &Rows, call: &Call) -> Result<()> {
+    if !call.is_reading() {
+        bail!("a call changes the volume");
+    }
+    let told = rows.read(alloc, call)?;
+    let wanted = volume.read(alloc, call)?;
+    ensure!(is_same_reply(&told, &wanted), "rows tell something else");
+    Ok(())
+}
+
+/// An error where rows read another fork of that length, piece by piece to its end, than their volume.
+fn ensure_fork(
+    alloc: Global,
+    volume: &Volume,
+    rows: &Rows,
+    file: &Info,
+    fork: Fork,
+    length: u32,
+) -> Result<()> {
+    let mut offset = 0u32;
+    for _piece in 0..(length / PIECE).wrapping_add(1) {
+        let call = Call::ReadFork {
+            dir: file.parent,
+            name: Bytes::from_slice(alloc, file.name.bytes())?,
+            fork,
+            offset,
+            count: PIECE,
+        };
+        ensure_call(alloc, volume, rows, &call)?;
+        offset = offset.wrapping_add(PIECE);
+    }
+    Ok(())
+}
+
+/// An error where rows tell something else of a folder's child at that place than their volume. Its name is spelled in the
+/// other case.
+fn ensure_child(
+    alloc: Global,
+    volume: &Volume,
+    rows: &Rows,
+    child: &Info,
+    index: u32,
+) -> Result<()> {
+    let dir = child.parent;
+    let name = with_case_swapped(&child.name);
+    let name = Bytes::from_slice(alloc, name.bytes())?;
+    ensure_call(alloc, volume, rows, &Call::GetCatInfo { dir, name })?;
+    ensure_call(alloc, volume, rows, &Call::GetIndexed { dir, index })?;
+    if child.kind == ItemKind::File {
+        ensure_fork(alloc, volume, rows, child, Fork::DataFork, child.data_len)?;
+        ensure_fork(alloc, volume, rows, child, Fork::ResFork, child.res_len)?;
+    }
+    Ok(())
+}
+
+/// An error where rows tell something else of an ID, or of what it holds, than their volume.
+fn ensure_id(alloc: Global, volume: &Volume, rows: &Rows, id: u32) -> Result<()> {
+    for call in [
+        Call::GetDirInfo { dir: id },
+        Call::List { dir: id },
+        Call::ResolveFileId { id },
+        Call::GetIndexed { dir: id, index: 0 },
+    ] {
+        ensure_call(alloc, volume, rows, &call)?;
+    }
+    let mut index = 0u32;
+    if let Value::Many(children) = volume.list(alloc, id)?.value {
+        for child in children.as_slice() {
+            index = index.wrapping_add(1);
+            ensure_child(alloc, volume, rows, child, index)?;
+        }
+    }
+    let index = index.wrapping_add(1);
+    ensure_call(alloc, volume, rows, &Call::GetIndexed { dir: id, index })
+}
+
+/// An error where the rows of a volume answer a call for one of its IDs or its items otherwise than the volume.
+pub fn ensure_same(alloc: Global, volume: &Volume) -> Result<()> {
+    let rows = Rows::of(alloc, volume)?;
+    for id in 0..volume.next_id().wrapping_add(1) {
+        ensure_id(alloc, volume, &rows, id)?;
+    }
+    Ok(())
+}

@@ -1,0 +1,6 @@
+pub mod Lines
+pub mod Info
+pub mod Answers
+pub mod Reading
+pub mod Writing
+pub mod Texts

@@ -1,0 +1,116 @@
+//! Reading from any reader.
+ghost use Rattle.std.specs.Prelude.{◌≡◌, ◌<◌, ◌≤◌, ◌+◌, ℕ, List, IfOk, OnOk, OnErr, IsErrOf, Ok, true, false, ◌++◌, length, vec_len, take};
+ghost use Rattle.std.specs.Io.KnownBytes.{Consumes, IsAtEnd};
+ghost use Rattle.hfs_texts.specs.Reading.{GaveFewer, GaveSo, GaveAtMost};
+
+use std::alloc::Global;
+use std::io;
+use std::io::{ErrorKind, Read};
+use thiserror::Error;
+
+/// Reads until the buffer is full or the input ends, and answers how many bytes there are. At an error some of the
+/// input is read, and less than the buffer holds.
+pub fn fill<R: Read>(reader: &mut R, buffer: &mut [u8]) -> io::Result<usize>
+    requires { 0 < length buffer.old }
+    ensures within { IfOk result (λ count. count ≤ length buffer.new) }
+    ensures taken { IfOk result (λ n. Consumes (R.remaining reader.old) (R.remaining reader.new) (take n buffer.new)) }
+    ensures ended { IfOk result (λ count. count < length buffer.new → IsAtEnd (R.remaining reader.new)) }
+    ensures err { OnErr result (GaveFewer (R.remaining reader.old) (R.remaining reader.new) (length buffer.new)) }
+{
+    let mut count = 0;
+    for _turn in 0..u64::MAX {
+        match reader.read(&mut buffer[count..]) {
+            Ok(0) => return Ok(count),
+            Ok(more) => {
+                count += more;
+                if count == buffer.len() {
+                    return Ok(count);
+                }
+            }
+            Err(error) => {
+                if error.kind() != ErrorKind::Interrupted {
+                    return Err(error);
+                }
+            }
+        }
+    }
+    Err(io::Error::from(ErrorKind::TimedOut))
+}
+
+/// The most bytes that an image has: 2 GiB.
+pub const IMAGE_LIMIT: usize = 2_147_483_648;
+
+/// How many bytes are read at once.
+const CHUNK: usize = 65_536;
+
+/// Why an input was not loaded.
+#[derive(Debug, Drop, Error)]
+pub enum LoadFault {
+    /// The reader failed.
+    #[error("cannot read")]
+    ReadFailed,
+    /// The reader gave more bytes than are taken.
+    #[error("too large")]
+    TooLarge,
+    /// Memory for the bytes was refused.
+    #[error("out of memory")]
+    Memory,
+}
+
+/// All bytes up to the reader's end, at most `IMAGE_LIMIT`. A reader that gives more is left after exactly one byte
+/// more, so a device that never ends is left too.
+pub fn load<R: Read>(alloc: Global, reader: &mut R) -> Result<Vec<u8>, LoadFault>
+    ensures whole { IfOk result (λ bytes. Consumes (R.remaining reader.old) (R.remaining reader.new) bytes.items) }
+    ensures ended { OnOk result (IsAtEnd (R.remaining reader.new)) }
+    ensures limit { IfOk result (λ bytes. length bytes.items ≤ IMAGE_LIMIT) }
+    ensures too_large { IsErrOf result LoadFault.TooLarge → GaveSo (R.remaining reader.old) (R.remaining reader.new) (IMAGE_LIMIT + 1) }
+    ensures stops { OnErr result (GaveAtMost (R.remaining reader.old) (R.remaining reader.new) (IMAGE_LIMIT + 1)) }
+{
+    load_within(alloc, reader, IMAGE_LIMIT as u64)
+}
+
+/// All bytes up to the reader's end, at most `limit`, which is at most `IMAGE_LIMIT`. A reader that gives more is left after
+/// exactly one byte more.
+pub fn load_within<R: Read>(alloc: Global, reader: &mut R, limit: u64) -> Result<Vec<u8>, LoadFault>
+    requires { limit ≤ IMAGE_LIMIT }
+    ensures whole { IfOk result (λ bytes. Consumes (R.remaining reader.old) (R.remaining reader.new) bytes.items) }
+    ensures ended { OnOk result (IsAtEnd (R.remaining reader.new)) }
+    ensures limit { IfOk result (λ bytes. length bytes.items ≤ limit) }
+    ensures too_large { IsErrOf result LoadFault.TooLarge → GaveSo (R.remaining reader.old) (R.remaining reader.new) (limit + 1) }
+    ensures stops { OnErr result (GaveAtMost (R.remaining reader.old) (R.remaining reader.new) (limit + 1)) }
+{
+    let most = limit as usize;
+    let mut bytes = Vec::new(alloc);
+    let mut chunk = [0; CHUNK];
+    while bytes.len() <= most {
+        let room = CHUNK.min(most + 1 - bytes.len());
+        if load_more(reader, &mut bytes, &mut chunk[..room])? && bytes.len() <= most {
+            return Ok(bytes);
+        }
+    }
+    Err(LoadFault::TooLarge)
+}
+
+/// Reads as many bytes as the chunk holds, and appends them. Answers whether the input ended.
+fn load_more<R: Read>(
+    reader: &mut R,
+    bytes: &mut Vec<u8>,
+    chunk: &mut [u8],
+) -> Result<bool, LoadFault>
+    requires { 0 < length chunk.old }
+    ensures ok { OnOk result ((more : List ℕ) × (length more ≤ length chunk.old)
+        × Consumes (R.remaining reader.old) (R.remaining reader.new) more × (bytes.new.items ≡ bytes.old.items ++ more)) }
+    ensures ended { result ≡ Ok true → IsAtEnd (R.remaining reader.new) }
+    ensures goes_on { result ≡ Ok false → vec_len bytes.new ≡ vec_len bytes.old + length chunk.old }
+    ensures err { OnErr result ((more : List ℕ) × (length more ≤ length chunk.old)
+        × Consumes (R.remaining reader.old) (R.remaining reader.new) more) }
+    ensures not_large { IsErrOf result LoadFault.TooLarge → ⊥ }
+{
+    let Ok(count) = fill(reader, chunk) else {
+        return Err(LoadFault::ReadFailed);
+    };
+    let Ok(()) = bytes.extend_from_slice(&chunk[..count]) else {
+        return Err(LoadFault::Memory);
+    };
+    Ok(count < chunk.len())
+}
