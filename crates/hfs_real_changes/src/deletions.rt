@@ -65,22 +65,32 @@ fn ensure_left(alloc: Global, before: &Before, volume: &Volume, left: &[Info]) -
     Ok(told)
 }
 
+/// A volume of so many files before they are deleted.
+fn before(alloc: Global, image: &[u8], files: usize) -> Result<Before> {
+    Ok(Before {
+        volume: copied(alloc, image)?,
+        told: sound_report(alloc, image)?,
+        records: records(alloc, image)?,
+        files,
+    })
+}
+
+/// Deletes the last of these files.
+fn delete_last(volume: &mut Volume, alloc: Global, left: &mut Vec<Info>) -> Result<()> {
+    match left.pop() {
+        Some(file) => delete_file(volume, alloc, &file),
+        None => bail!("there are fewer files"),
+    }
+}
+
 /// Deletes all files of a volume, from the last on, and answers the report on what is left.
 pub fn delete_all(alloc: Global, image: &[u8]) -> Result<Report> {
     let mut volume = copied(alloc, image)?;
     let items = items_of(&volume, alloc, image.len())?;
     let mut left = files_of(alloc, &items)?;
-    let before = Before {
-        volume: copied(alloc, image)?,
-        told: sound_report(alloc, image)?,
-        records: records(alloc, image)?,
-        files: left.len(),
-    };
+    let before = before(alloc, image, left.len())?;
     for _turn in 0..before.files {
-        let Some(file) = left.pop() else {
-            bail!("there are fewer files");
-        };
-        delete_file(&mut volume, alloc, &file)?;
+        delete_last(&mut volume, alloc, &mut left)?;
         if left.len() % STEP == 0 {
             ensure_left(alloc, &before, &volume, &left)?;
         }
