@@ -66,7 +66,7 @@ fn ensure_left(alloc: Global, before: &Before, volume: &Volume, left: &[Info]) -
 }
 
 /// A volume of so many files before they are deleted.
-fn before(alloc: Global, image: &[u8], files: usize) -> Result<Before> {
+fn volume_before(alloc: Global, image: &[u8], files: usize) -> Result<Before> {
     Ok(Before {
         volume: copied(alloc, image)?,
         told: sound_report(alloc, image)?,
@@ -88,7 +88,7 @@ pub fn delete_all(alloc: Global, image: &[u8]) -> Result<Report> {
     let mut volume = copied(alloc, image)?;
     let items = items_of(&volume, alloc, image.len())?;
     let mut left = files_of(alloc, &items)?;
-    let before = before(alloc, image, left.len())?;
+    let before = volume_before(alloc, image, left.len())?;
     for _turn in 0..before.files {
         delete_last(&mut volume, alloc, &mut left)?;
         if left.len() % STEP == 0 {
