@@ -3,6 +3,9 @@
 # is listed and read by ours, and what ours wrote is mounted, listed and filled by hfsutils. Prints 'peers agree', or
 # 'skipped' where hfsutils is not installed, or what differs and ends with status 1.
 . "$(dirname "$0")/beside.sh"
+changes=$PWD/crates/hfs_real_volumes/out/hfs_real_volumes
+# It is built, and then ends without its volumes.
+[ -x "$changes" ] || (cd crates/hfs_real_volumes && rt run > /dev/null 2>&1) || true
 
 fail() {
     echo "peers differ: $1"
@@ -52,6 +55,133 @@ check_sound() {
     [ "$("$tool" check "$1" | head -n 1)" = sound ] || fail "check of $1"
 }
 
+# The lines of all items as hfsutils shows them, folder by folder.
+peer_lines() {
+    hls "$@" | grep -E '^ *([0-9]+ )?[dfF]'
+}
+
+# The same without what calls set: ID, kind, valence or lengths, and name.
+peer_items() {
+    peer_lines -ilaR | sed -E \
+        -e 's/^( *[0-9]+ )[fF][ i] .{9}( +[0-9]+ +[0-9]+ )[A-Z][a-z]{2} [ 0-9]{2} .{5} /\1f\2/' \
+        -e 's/^( *[0-9]+ d +[0-9]+ items? +)[A-Z][a-z]{2} [ 0-9]{2} .{5} /\1/'
+}
+
+# Wants that each line is a folder's with this date, or a file's of this kind with this date and the type and creator that are set.
+wants_lines() {
+    local kind=$1 date=$2 what=$3
+    [ -s "$folder/lines" ] || fail "there are no lines of $what"
+    ! grep -v -E "^(d +[0-9]+ items? +$date |$kind  Type/Made +[0-9]+ +[0-9]+ $date )" "$folder/lines" || fail "$what"
+}
+
+# Wants of a volume that hfsutils tells what our calls have set, with files of this kind, and otherwise the items in 'before'.
+compare_set() {
+    local image=$1 kind=$2
+    hmount "$image" > /dev/null
+    peer_lines -laR > "$folder/lines"
+    wants_lines "$kind" 'Dec 31  1999' 'the dates of change'
+    peer_lines -lacR > "$folder/lines"
+    wants_lines "$kind" 'Feb  3  2001' 'the dates of creation'
+    peer_items > "$folder/after"
+    humount
+    diff "$folder/before" "$folder/after" || fail "the items of $image"
+}
+
+# Sets all items of a volume by calls, locks its files and unlocks them, and has hfsutils tell of it.
+compare_settings() {
+    local image=$1
+    hmount "$image" > /dev/null
+    peer_items > "$folder/before"
+    humount
+    "$changes" change set "$image" "$folder/locked.img" || fail "the items of $image are not set"
+    check_sound "$folder/locked.img"
+    compare_set "$folder/locked.img" F
+    "$changes" change unlock "$folder/locked.img" "$folder/unlocked.img" || fail "the files of $image are not unlocked"
+    check_sound "$folder/unlocked.img"
+    compare_set "$folder/unlocked.img" f
+}
+
+# Copies what hfsutils reads of each file below a folder to a file named by its ID: the lengths of both forks, and the forks.
+copy_forks() {
+    local path=$1 to=$2 kind item name
+    while IFS=$'\t' read -r kind item _ _ name; do
+        if [ "$kind" = d ]; then
+            copy_forks "$path$name:" "$to"
+        else
+            hcopy -m "$path$name" "$folder/macbinary" || fail "hcopy of $path$name"
+            dd if="$folder/macbinary" of="$to/$item" bs=1 skip=83 count=8 2> /dev/null
+            tail -c +129 "$folder/macbinary" >> "$to/$item"
+        fi
+    done < <(peer_list "$path")
+}
+
+# The same of a whole volume, into a new folder.
+copy_volume() {
+    mkdir "$2"
+    hmount "$1" > /dev/null
+    copy_forks : "$2"
+    humount
+}
+
+# The four bytes of an image's next ID, as a number.
+next_id() {
+    echo $((16#$(od -An -tx1 -j 1054 -N 4 "$1" | tr -d ' ')))
+}
+
+# What fsck.hfs finds wrong with an image. It wants zeros where hfsutils writes none.
+faults_of() {
+    fsck.hfs -fn "$1" | grep '^ ' | grep -v -e Executing -e 'The volume name' | sort
+}
+
+# Wants that fsck.hfs, where that is installed, finds nothing wrong with an image that it didn't before.
+check_by_fsck() {
+    command -v fsck.hfs > /dev/null || return 0
+    [ -z "$(comm -13 <(faults_of "$1") <(faults_of "$2"))" ] || fail "fsck.hfs of the story on $1"
+}
+
+# Wants that hfsutils shows the story's items in the mounted volume: the names in their order, the IDs and the date of what is new.
+compare_items() {
+    local home=$1 line
+    peer_list : | grep -x "d.$home.7.0.Made by calls" > /dev/null || fail "the folder of the story"
+    peer_list ':Made by calls:' > "$folder/story"
+    printf '%s\n' 'made 1' 'MADE 2' 'made 4' 'made 5' 'Moved 1' 'Moved 2' 'Moved 3' > "$folder/names"
+    cut -f 5 "$folder/story" | diff "$folder/names" - || fail "the names of the story"
+    cut -f 2 "$folder/story" | head -n 4 > "$folder/numbers"
+    printf '%s\n' $((home + 2)) $((home + 3)) $((home + 5)) $((home + 6)) | diff "$folder/numbers" - || fail "the IDs of the story"
+    for line in "d  *7 items  *Jan  1  2002 Made by calls" "f  .* 0  *0 Jan  1  2002 made 5"; do
+        peer_lines -laR | grep -x "$line" > /dev/null || fail "the dates of the story: $line"
+    done
+}
+
+# Has hfsutils make, fill, rename and delete items in the mounted volume, those of the story too.
+change_by_peer() {
+    head -c 5000 /dev/urandom > "$folder/some bytes"
+    hmkdir ':Made by calls:By hfsutils'
+    hcopy -r "$folder/some bytes" ':Made by calls:By hfsutils:copied'
+    hcopy -r "$folder/some bytes" ':Made by calls:copied'
+    hdel ':Made by calls:Moved 2'
+    hdel ':Made by calls:made 1'
+    hrename ':Made by calls:MADE 2' ':Made by calls:By hfsutils:renamed'
+}
+
+# Has items of a volume made, renamed and moved by calls, and hfsutils tell of them, read all forks, and go on with changes of its own.
+compare_story() {
+    local image=$1 number=$2
+    copy_volume "$image" "$folder/before.$number"
+    "$changes" change story "$image" "$folder/story.img" || fail "the story on $image"
+    check_sound "$folder/story.img"
+    check_by_fsck "$image" "$folder/story.img"
+    copy_volume "$folder/story.img" "$folder/after.$number"
+    for file in "$folder/before.$number"/*; do
+        cmp "$file" "$folder/after.$number/$(basename "$file")" || fail "a fork behind the story on $image"
+    done
+    hmount "$folder/story.img" > /dev/null
+    compare_items "$(next_id "$image")"
+    change_by_peer
+    humount
+    check_sound "$folder/story.img"
+}
+
 # A volume that hfsutils made.
 dd if=/dev/zero of="$folder/theirs.img" bs=1024 count=1440 2> /dev/null
 hformat -l Theirs "$folder/theirs.img" > /dev/null
@@ -69,5 +199,16 @@ fill
 compare_folder "$folder/ours.img" : 2
 humount
 check_sound "$folder/ours.img"
+
+# Dates, types and locks that our calls set, on volumes of others and on our own.
+for name in hfsutils-800k hfsutils-1440k-names; do
+    cp "$volumes/$name.img" "$folder/given.img"
+    compare_settings "$folder/given.img"
+done
+compare_settings "$folder/ours.img"
+
+# Items that our calls make, rename and move, on volumes that hfsutils filled.
+compare_story "$folder/theirs.img" 1
+compare_story "$folder/ours.img" 2
 
 echo 'peers agree'

@@ -42,6 +42,23 @@ def catalog_nodes(image):
     return [image[at : at + 512] for at in range(start, start + size, 512)]
 
 
+def changed_lines(name, files, folders, unowned):
+    """The lines of a volume whose items are set and whose files are deleted, and that of a story.
+
+    Setting an item changes one leaf of the catalog and the master directory block. Behind the last file all blocks are free but those of
+    the two trees' files, which have no overflow, and those that nobody owned before. A story makes a folder with a file that it deletes
+    again, and then five files, of which it deletes one.
+    """
+    with open(f"data/{name}.img", "rb") as image:
+        mdb = image.read(1536)[1024:]
+    trees = numbers(mdb, 134, 6)[1::2] + numbers(mdb, 150, 6)[1::2]
+    free = numbers(mdb, 18, 1)[0] - sum(trees) - unowned
+    next_id = struct.unpack(">I", mdb[30:34])[0]
+    yield f"{name}.img: {files + folders} items set, at most 2 blocks by a call"
+    yield f"{name}.img: all files deleted, folders {folders}, free {free}, unowned {unowned}"
+    yield f"{name}.img: files made in {next_id} from {next_id + 2} on, files {files + 4}, folders {folders + 1}"
+
+
 for name, place in REFUSED:
     print(f"{name}.img refused by check 7 at {place}")
 for name, files, folders, free, alternate, unowned, depth, free_nodes in VOLUMES:
@@ -61,3 +78,11 @@ with open(f"{sys.argv[1]}/{first}.list", encoding="ascii") as lines:
     for line in lines:
         kind, number, _, count, resource, *_, text = line.rstrip("\n").split("\t")
         print("d" if kind == "d" else "f", number, count, 0 if kind == "d" else resource, text, sep="\t")
+for name, files, folders, _, _, unowned, depth, free_nodes in VOLUMES:
+    has_room = free_nodes >= 2 * depth + 3
+    if not has_room:
+        print(f"{name}.img: no folder made with {free_nodes} free nodes and {depth} levels")
+    if name == "genisoimage-locked":
+        print(f"{name}.img: {files + folders} items refused")
+    lines = list(changed_lines(name, files, folders, unowned))
+    print("\n".join(lines if has_room else lines[:2]))

@@ -7,12 +7,16 @@
 //! fork say something else. Then come the nodes of one catalog, written and read again, and the lines of `hfs_tool ls` for
 //! every folder of a volume.
 //!
+//! At the end stands what calls that change make of the volumes: all items set, a story of calls, all files deleted.
+//!
 //! `folders FILE` prints the lines of `ls` for every folder of a volume, and `time FILE` how long it takes to read and write
-//! the nodes of its catalog, to list its folders, and to mount it.
+//! the nodes of its catalog, to list its folders, and to mount it. `change [set | unlock | story] FILE OUT` writes the image that calls
+//! leave.
 #![tactic(auto)]
 
 mod asking;
 mod catalog;
+mod changes;
 mod folder_lists;
 mod folders;
 mod image;
@@ -44,6 +48,10 @@ const SOUND: [&str; 3] = [
 /// The volumes with a name that is refused.
 const REFUSED: [&str; 2] = ["refused-macroman.img", "refused-icon.img"];
 
+/// What the program takes.
+const WORDS: &str =
+    "the words are: [folders FILE | time FILE | change [set | unlock | story] FILE OUT]";
+
 fn main(rt: HostRuntime) -> Result<()> {
     let mut words = env::args(&rt)?;
     let _program = words.next();
@@ -51,12 +59,15 @@ fn main(rt: HostRuntime) -> Result<()> {
         return print_volumes(&rt);
     };
     let Some(file) = words.next() else {
-        bail!("the words are: [folders FILE | time FILE]");
+        bail!(WORDS);
     };
-    match first.as_str() {
-        "folders" => print_folders(&rt, file.as_str()),
-        "time" => print_times(&rt, file.as_str()),
-        _ => bail!("the words are: [folders FILE | time FILE]"),
+    match (first.as_str(), words.next(), words.next()) {
+        ("folders", None, None) => print_folders(&rt, file.as_str()),
+        ("time", None, None) => print_times(&rt, file.as_str()),
+        ("change", Some(image), Some(out)) => {
+            changes::write_changed(&rt, file.as_str(), image.as_str(), out.as_str())
+        }
+        _ => bail!(WORDS),
     }
 }
 
@@ -71,7 +82,8 @@ fn print_volumes(rt: &HostRuntime) -> Result<()> {
     let [first, ..] = SOUND;
     print_nodes(rt, first)?;
     println!(rt; "folders of {first}")?;
-    print_folders(rt, first)
+    print_folders(rt, first)?;
+    changes::print_changes(rt)
 }
 
 /// Prints the report on a volume.

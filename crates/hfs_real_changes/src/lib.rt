@@ -1,0 +1,23 @@
+//! Calls that change, on volumes that other programs made. Each function takes the image of such a volume, changes the volume by
+//! calls of the File Manager, and ends with an error where a call is answered, or an item told, otherwise than it should be; behind
+//! the calls the volume is saved, mounted again and told once more.
+#![tactic(auto)]
+
+mod calls;
+mod deletions;
+mod differences;
+mod forks;
+mod images;
+mod items;
+mod records;
+mod setting_volumes;
+mod settings;
+mod story;
+mod story_items;
+mod written;
+
+pub use crate::deletions::delete_all;
+pub use crate::images::{mounted, saved, with_attributes};
+pub use crate::setting_volumes::{refuse_all, set_and_unlock};
+pub use crate::story::{Story, refuse_folder, tell};
+pub use crate::written::{set_items, unlock_files};
