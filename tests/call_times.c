@@ -9,7 +9,10 @@
 #include "hfs.h"
 
 #define FOLDERS 200
+/* how many files are made in each folder, and deleted */
+#ifndef FILES
 #define FILES 5
+#endif
 #define MOST 100000
 
 static double rounds[MOST];
