@@ -110,6 +110,7 @@ const AFTER_HELP: &str = "Exit statuses:
   5  out of memory
 
 Examples:
+  hfs_tool info disk.img
   hfs_tool check disk.img
   hfs_tool ls disk.img
   hfs_tool cat disk.img 19 'Read Me' > read_me.data || rm read_me.data

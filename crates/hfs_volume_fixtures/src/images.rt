@@ -1,7 +1,7 @@
 //! Small volumes that are mounted, and the bytes that they are saved as.
 use crate::writers::LimitedWriter;
 use hfs_fixtures::{SmallVolume, small_image};
-use hfs_volume::{FormatPlan, Volume, format, mount};
+use hfs_volume::{Volume, mount};
 use std::alloc::{AllocError, Global};
 use std::test::Fail;
 
@@ -19,21 +19,6 @@ pub fn small_volume(alloc: Global, volume: SmallVolume) -> Result<Volume, Fail> 
     mounted(alloc, image)
 }
 
-/// A new volume `D` of so many blocks and nodes of the catalog, mounted.
-pub fn new_volume(alloc: Global, blocks: u32, catalog_nodes: u32) -> Result<Volume, Fail> {
-    let plan = FormatPlan {
-        name: Vec::from_slice(alloc, b"D")?,
-        blocks,
-        extents_nodes: 2,
-        catalog_nodes,
-        now: 0,
-    };
-    match format(alloc, plan) {
-        Ok(image) => mounted(alloc, image),
-        Err(fault) => Err(Fail::from(fault)),
-    }
-}
-
 /// An image's bytes as they are now, which are at most 1,000,000.
 pub fn saved(alloc: Global, volume: &Volume) -> Result<Vec<u8>, Fail> {
     let mut writer = LimitedWriter::new(alloc, 1_000_000);
@@ -41,12 +26,6 @@ pub fn saved(alloc: Global, volume: &Volume) -> Result<Vec<u8>, Fail> {
         Ok(()) => Ok(writer.taken),
         Err(_fault) => Err(Fail::new("the image was not saved")),
     }
-}
-
-/// A volume that is saved, and mounted again.
-pub fn remounted(alloc: Global, volume: &Volume) -> Result<Volume, Fail> {
-    let image = saved(alloc, volume)?;
-    mounted(alloc, image)
 }
 
 /// An image with 100 bytes more, the last of which is 99.
