@@ -21,13 +21,10 @@ fn split_at(text: &[u8], byte: u8) -> (&[u8], &[u8]) {
 /// All lines that say something.
 pub fn read_lines(alloc: Global, text: &[u8]) -> Result<Vec<Line<'_>>, AllocError> {
     let mut lines = Vec::new(alloc);
-    let mut left = text;
     let mut number = 0u32;
-    while !left.is_empty() {
-        let (line, behind) = split_at(left, b'\n');
+    for line in text.split(|byte| *byte == b'\n') {
         let (word, rest) = split_at(line, b' ');
         number = number.wrapping_add(1);
-        left = behind;
         if !line.is_empty() {
             lines.push(Line { number, word, rest })?;
         }
