@@ -87,14 +87,19 @@ row deep_falling 60000 plain_folders 60000 30 check
 # Index nodes with one child each, up to 8 and 16 levels.
 row tall 60000 plain 60000 80 check
 row taller 60000 plain 60000 150 check
+# Leaves with one file each.
+row sparse 60000 plain 60000 60 check
+row sparse 60000 plain 60000 60 ls
 # A catalog file in extents of one block, its nodes in any order, and empty extents between them.
 row cut_catalog 112000 plain 112000 20 check
 row cut_catalog_shuffled 112000 plain 112000 20 check
 row cut_catalog_empty 112000 plain 112000 20 check
 row cut_catalog_shuffled 112000 plain 112000 20 ls
-# A file in extents of one block, 20,000 records of the extents tree; and with empty extents, 62,000 records.
+# A file in extents of one block, 20,000 records of the extents tree; and with empty extents, 62,000 and 64,000 records, about as
+# many as there can be, since each has a block.
 row cut_file 60000 plain 20000 30 check
 row cut_file_empty 62000 plain 62000 63 check
+row cut_file_empty 64000 plain 64000 158 check
 row cut_file 60000 plain_file 60000 30 cat 2 BIG
 row cut_file_empty 62000 plain_file 62000 63 cat 2 BIG
 # Files in four extents each, and a record of the extents tree for each.

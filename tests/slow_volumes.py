@@ -355,6 +355,12 @@ def taller(volume, count):
     volume.height = 16
 
 
+def sparse(volume, count):
+    """Nodes with few records each: a leaf has one file, an index node four children."""
+    plain(volume, count)
+    volume.fill = 200
+
+
 def cut_catalog(volume, count):
     plain(volume, count)
     volume.catalog_layout = one_block_each
@@ -401,7 +407,7 @@ def cut_files(volume, count):
 
 
 KINDS = {make.__name__: make for make in [
-    plain, shuffled_numbers, falling_numbers, far_numbers, one_folder, long_names, plain_folders, deep, deep_falling, tall, taller,
+    plain, shuffled_numbers, falling_numbers, far_numbers, one_folder, long_names, plain_folders, deep, deep_falling, tall, taller, sparse,
     cut_catalog, cut_catalog_shuffled, cut_catalog_empty, plain_file, cut_file, cut_file_empty, plain_files, cut_files]}
 
 

@@ -131,3 +131,30 @@ module _ {K : Type 0} (cmp : Order K) (total : IsTotalOrder cmp) where
 
   pub widened-none : (k : K) (p : K × List ℕ) → k ≡ p.0 → (ps : Pairs K) → HasRange cmp None ps → HasRange cmp (Some (record { least = k; greatest = k })) (ps ++ p ∷ [])
   widened-none k p e ps h = joined-none-first cmp (Some (record { least = k; greatest = k })) ps (p ∷ []) h (one-range cmp k p e)
+
+  -- what is above the greatest of some keys is not below the least of them
+  pub least-below : (a : KeyRange K) (p : K) (ps : Pairs K) → HasRange cmp (Some a) ps → is_lt (cmp a.greatest p) ≡ true → is_gt (cmp a.least p) ≡ false
+  least-below a p [] h above = absurd (let same : is_lt (cmp a.greatest a.greatest) ≡ true = (h.greatest a.greatest).1 tt in let less = is-less _ same in let more = flipped cmp total a.greatest a.greatest Less less in cc)
+  least-below a p (q ∷ ps) h above =
+      elim (cases_Bool (is_gt (cmp a.least p))) [
+        | inl gt ↦
+            absurd (
+            let most : is_gt (cmp p q.0) ≡ false = ((h.least p).0 (ap (λ o. not (is_gt o)) (above-below cmp total a.least p gt))).0 in
+            let less : cmp q.0 p ≡ Less = ((h.greatest p).0 above).0 in
+            let more : is_gt (cmp p q.0) ≡ true = ap is_gt (flipped cmp total q.0 p Less less) in
+            cc
+            )
+        | inr fine ↦ fine
+      ]
+
+  -- a key above the greatest, which is compared with it alone
+  pub widened-above : (a : KeyRange K) (p : K × List ℕ) (greatest : K) → greatest ≡ p.0 → is_lt (cmp a.greatest p.0) ≡ true → (ps : Pairs K)
+      → HasRange cmp (Some a) ps → HasRange cmp (Some (record { least = a.least; greatest = greatest })) (ps ++ p ∷ [])
+  widened-above a p greatest e above ps h =
+      widened-some a p a.least greatest (sym (cond-false (is_gt (cmp a.least p.0)) p.0 a.least (least-below a p.0 ps h above)))
+      (e ∙ sym (cond-true (is_lt (cmp a.greatest p.0)) p.0 a.greatest above)) ps h
+
+  -- a key that is not
+  pub widened-within : (a : KeyRange K) (p : K × List ℕ) (least : K) → least ≡ cond (is_gt (cmp a.least p.0)) p.0 a.least → is_lt (cmp a.greatest p.0) ≡ false → (ps : Pairs K)
+      → HasRange cmp (Some a) ps → HasRange cmp (Some (record { least = least; greatest = a.greatest })) (ps ++ p ∷ [])
+  widened-within a p least le within ps h = widened-some a p least a.greatest le (sym (cond-false (is_lt (cmp a.greatest p.0)) p.0 a.greatest within)) ps h

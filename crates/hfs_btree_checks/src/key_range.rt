@@ -69,20 +69,8 @@ fn lesser_in<K: Key>(first: K, entry: &[u8]) -> K
     }
 }
 
-/// The key of a leaf's record where it is greater, and else the first one.
-fn greater_in<K: Key>(first: K, entry: &[u8]) -> K
-    requires { K.is_leaf entry.now ≡ true }
-    ensures { result ≡ if is_lt (K.compare first (K.leaf_key entry.now)) then K.leaf_key entry.now else first }
-{
-    if first.compare_leaf(entry).is_lt() {
-        key_of(entry)
-    } else {
-        first
-    }
-}
-
-/// The range of the keys of a range, None where it has no keys, and of a leaf's record. The key of the record is copied only
-/// where the range takes it.
+/// The range of the keys of a range, None where it has no keys, and of a leaf's record. A key that is above the range is
+/// compared with its greatest alone, and the key of the record is copied only where the range takes it.
 pub(crate) fn widened<K: Key>(range: Option<KeyRange<K>>, entry: &[u8]) -> Option<KeyRange<K>>
     requires { K.is_leaf entry.now ≡ true }
     ensures { (ps : Pairs K) → HasRange K.compare range ps → HasRange K.compare result (ps ++ pair_of K.Key entry.now ∷ []) }
@@ -94,9 +82,15 @@ pub(crate) fn widened<K: Key>(range: Option<KeyRange<K>>, entry: &[u8]) -> Optio
             greatest: key,
         });
     };
+    if one.greatest.compare_leaf(entry).is_lt() {
+        return Some(KeyRange {
+            least: one.least,
+            greatest: key_of(entry),
+        });
+    }
     Some(KeyRange {
         least: lesser_in(one.least, entry),
-        greatest: greater_in(one.greatest, entry),
+        greatest: one.greatest,
     })
 }
 

@@ -4,7 +4,7 @@ ghost use Rattle.hfs_fields.specs.Records.{is_dir, is_file, is_item, is_thread, 
 ghost use Rattle.hfs_catalog.specs.Records.{has_id};
 ghost use Rattle.hfs_catalog.specs.Lookups.{catalog_item};
 
-use hfs_fields::{CatKey, DirRecord, FileRecord, ThreadRecord};
+use hfs_fields::{CatKey, DirRecord, FileRecord, ThreadRecord, u32_at};
 
 /// A folder's record or a file's.
 #[derive(Clone, Copy)]
@@ -73,8 +73,8 @@ pub(crate) fn item_with_id(key: CatKey, body: &[u8], id: u32) -> Option<CatalogI
     if own == id { Some(item) } else { None }
 }
 
-/// The ID of a folder's or a file's record. None exactly where the body is neither's.
-#[tactic(auto, unfolding(hfs_fields::specs::Records::begins_dir, hfs_fields::specs::Records::begins_file))]
+/// The ID of a folder's or a file's record. None exactly where the body is neither's. No other field is read.
+#[tactic(auto, unfolding(hfs_fields::specs::Records::dir_record_of, hfs_fields::specs::Records::file_record_of))]
 pub fn item_id(body: &[u8]) -> Option<u32>
     ensures { result ≡ if is_item body.now then Some (item_id body.now) else None }
 {
@@ -82,9 +82,9 @@ pub fn item_id(body: &[u8]) -> Option<u32>
         return None;
     }
     if is_folder(body) {
-        Some(DirRecord::read(body)?.id)
+        Some(u32_at(body, 6))
     } else {
-        Some(FileRecord::read(body)?.id)
+        Some(u32_at(body, 20))
     }
 }
 

@@ -1,5 +1,5 @@
 -- What stands under an ID, as a catalog is gone through.
-use Rattle.std.proofs.Common.{◌≡◌, ℕ, zero, suc, ◌+◌, ◌<◌, Bool, true, false, cond, not, ◌&&◌, ◌||◌, nat_eq, ltb, Bor, List, [], ◌∷◌, ◌++◌, length, get_or, take, refl, sym, ◌∙◌, ap, arith, Option, Some, None}
+use Rattle.std.proofs.Common.{◌≡◌, ℕ, zero, suc, ◌+◌, ◌^◌, ◌<◌, Bool, true, false, cond, not, ◌&&◌, ◌||◌, nat_eq, ltb, Bor, List, [], ◌∷◌, ◌++◌, length, get_or, take, refl, sym, ◌∙◌, ap, arith, Option, Some, None}
 use Rattle.std.specs.List.{position_from, find, list_any, list_all}
 use Rattle.std.specs.Option.{option_or, unwrap_or, option_copied, is_some, IfSome}
 use Rattle.std.proofs.lemmas.Bool.{eqb-true, eq-eqb, ne_eqb, lt-ltb, true≢false}
@@ -23,12 +23,23 @@ put_where_none old new id n none is k = (λ i. is i k) ∙ elim (nat_eq id k) as
   | false ↦ λ e. sym (or_none (old k))
 ] refl
 
--- a number that is put in place of one less
-pub count_up : (old new : ℕ → Option ℕ) (id n : ℕ) → n ≡ unwrap_or (old id) 0 → new ≡ with_number old id (n + 1) → (k : ℕ) → unwrap_or (new k) 0 ≡ unwrap_or (old k) 0 + cond (nat_eq id k) 1 0
-count_up old new id n was is k = (λ i. unwrap_or (is i k) 0) ∙ elim (nat_eq id k) as (λ (b : Bool). nat_eq id k ≡ b → unwrap_or (cond b (Some (n + 1)) (old k)) 0 ≡ unwrap_or (old k) 0 + cond b 1 0) [
+-- the first number, which is put back in place of one that was put over it
+pub put_back : (old mid new : ℕ → Option ℕ) (id n first : ℕ) → old id ≡ Some first → mid ≡ with_number old id n → new ≡ with_number mid id first → (k : ℕ) → new k ≡ option_or (old k) (only_if (nat_eq id k) n)
+put_back old mid new id n first there was is k = (λ i. is i k) ∙ elim (nat_eq id k) as (λ (b : Bool). nat_eq id k ≡ b → cond b (Some first) (mid k) ≡ option_or (old k) (only_if b n)) [
+  | true ↦ λ e. ap (λ (o : Option ℕ). option_or o (Some n)) (sym there ∙ ap old (eqb-true id k e))
+  | false ↦ λ e. (λ i. was i k) ∙ ap (λ (b : Bool). cond b (Some n) (old k)) e ∙ sym (or_none (old k))
+] refl
+
+-- a number that is put in place of one that is so much less
+pub count_more : (old new : ℕ → Option ℕ) (id n more : ℕ) → n ≡ unwrap_or (old id) 0 → new ≡ with_number old id (n + more) → (k : ℕ) → unwrap_or (new k) 0 ≡ unwrap_or (old k) 0 + cond (nat_eq id k) more 0
+count_more old new id n more was is k = (λ i. unwrap_or (is i k) 0) ∙ elim (nat_eq id k) as (λ (b : Bool). nat_eq id k ≡ b → unwrap_or (cond b (Some (n + more)) (old k)) 0 ≡ unwrap_or (old k) 0 + cond b more 0) [
   | true ↦ λ e. let same : unwrap_or (old id) 0 ≡ unwrap_or (old k) 0 = ap (λ (j : ℕ). unwrap_or (old j) 0) (eqb-true id k e) in omega (arith, was, same)
   | false ↦ λ e. omega arith
 ] refl
+
+-- so many more of one ID, and one more, are a number of 64 bits
+pub one_more_fits : (n id more : ℕ) → n + cond (nat_eq id id) more 0 + 1 < 2 ^ 64 → more + 1 < 2 ^ 64
+one_more_fits n id more h = let same : cond (nat_eq id id) more 0 ≡ more = ap (λ (b : Bool). cond b more 0) (eq-eqb id id refl) in omega (arith, h, same)
 
 -- ---- the first place
 

@@ -1,5 +1,5 @@
 -- What is looked up by IDs where a whole catalog is checked.
-use Rattle.std.specs.Prelude.{◌≡◌, ℕ, Bool, true, false, nat_le, ◌==◌, List, nat_eq, if◌then◌else◌, Option, Some, None}
+use Rattle.std.specs.Prelude.{◌≡◌, ℕ, ◌+◌, Bool, true, false, nat_le, ◌==◌, List, nat_eq, if◌then◌else◌, Option, Some, None}
 use Rattle.std.specs.List.{position_from, list_any}
 use Rattle.std.specs.Map.{lookup}
 use Rattle.std.specs.Option.{option_map_or, unwrap_or, option_or}
@@ -17,6 +17,10 @@ number_of numbers id = lookup (nat_eq id) numbers
 -- the number of an ID, 0 where it has none
 abbrev pub count_of : Numbered → ℕ → ℕ
 count_of numbers id = unwrap_or (number_of numbers id) 0
+
+-- the number of an ID, with so many more for this one
+abbrev pub count_with : Numbered → ℕ → ℕ → ℕ → ℕ
+count_with numbers one more id = count_of numbers id + (if nat_eq one id then more else 0)
 
 -- the numbers that there are, with this one for the ID
 abbrev pub with_number : (ℕ → Option ℕ) → ℕ → ℕ → ℕ → Option ℕ

@@ -1,6 +1,6 @@
 //! Numbers that are found by an ID.
 
-ghost use Rattle.std.specs.Prelude.{◌≡◌, ℕ, ◌+◌, ◌<◌, ◌^◌, [], OnOk, nat_eq, if◌then◌else◌};
+ghost use Rattle.std.specs.Prelude.{◌≡◌, ℕ, ◌+◌, ◌<◌, ◌^◌, [], IfOk, OnOk, nat_eq, if◌then◌else◌};
 ghost use Rattle.std.specs.Option.{option_or};
 ghost use Rattle.hfs_catalog_checks.specs.Indexes.{number_of, count_of, with_number, only_if, NotesFirst};
 
@@ -40,21 +40,30 @@ impl Numbers {
         self.numbers.get(&id).copied()
     }
 
+    /// Gives an ID this number, in place of the one that it has, which is the answer.
+    fn replace(&mut self, id: u32, number: usize) -> Result<Option<usize>, AllocError>
+        ensures put { OnOk result (number_of self.new ≡ with_number (number_of self.old) id number) }
+        ensures was { IfOk result (λ was. was ≡ number_of self.old id) }
+    {
+        let was = self.numbers.insert(id, number)?;
+        Ok(was)
+    }
+
     /// Gives an ID this number, in place of the one that it has.
     pub(crate) fn put(&mut self, id: u32, number: usize) -> Result<(), AllocError>
         ensures { OnOk result (number_of self.new ≡ with_number (number_of self.old) id number) }
     {
-        self.numbers.insert(id, number)?;
+        self.replace(id, number)?;
         Ok(())
     }
 
-    /// Gives an ID this number, if it has none.
+    /// Gives an ID this number, if it has none. An ID that has one is looked up twice.
     pub(crate) fn put_first(&mut self, id: u32, number: usize) -> Result<(), AllocError>
         ensures { OnOk result (NotesFirst self.old self.new id number) }
     {
-        match self.get(id) {
-            None => self.put(id, number),
-            Some(_) => Ok(()),
+        match self.replace(id, number)? {
+            None => Ok(()),
+            Some(first) => self.put(id, first),
         }
     }
 
@@ -65,13 +74,13 @@ impl Numbers {
         self.get(id).unwrap_or(0)
     }
 
-    /// Adds 1 to the number of an ID.
-    pub(crate) fn count_up(&mut self, id: u32) -> Result<(), AllocError>
-        requires { count_of self.old id + 1 < 2 ^ 64 }
-        ensures { OnOk result ((k : ℕ) → count_of self.new k ≡ count_of self.old k + (if nat_eq id k then 1 else 0)) }
+    /// Adds so many to the number of an ID.
+    pub(crate) fn count_more(&mut self, id: u32, more: usize) -> Result<(), AllocError>
+        requires { count_of self.old id + more < 2 ^ 64 }
+        ensures { OnOk result ((k : ℕ) → count_of self.new k ≡ count_of self.old k + (if nat_eq id k then more else 0)) }
     {
         let count = self.count(id);
-        self.put(id, count + 1)?;
+        self.put(id, count + more)?;
         Ok(())
     }
 }

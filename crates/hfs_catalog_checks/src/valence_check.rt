@@ -4,7 +4,7 @@ ghost use Rattle.std.specs.Prelude.{◌≡◌, ℕ, ◌+◌, ◌<◌, ◌^◌, �
 ghost use Rattle.hfs_fields.specs.Records.{is_dir, item_id, dir_record_of};
 ghost use Rattle.hfs_scans.specs.First.{first_failing};
 ghost use Rattle.hfs_catalog.specs.Records.{is_child_of, valence_of};
-ghost use Rattle.hfs_catalog_checks.specs.Indexes.{count_of};
+ghost use Rattle.hfs_catalog_checks.specs.Indexes.{count_of, count_with};
 ghost use Rattle.hfs_catalog_checks.specs.Faults.{implies, is_valence_right, valence_fault};
 
 use crate::numbers::Numbers;
@@ -12,25 +12,52 @@ use hfs_catalog::{CatalogRecord, is_folder, is_item};
 use hfs_fields::DirRecord;
 use std::alloc::{AllocError, Global};
 
-/// Counts a record under its parent, if it is a file's or a folder's.
-fn count_child(counts: &mut Numbers, r: &CatalogRecord) -> Result<(), AllocError>
-    requires { count_of counts.old r.now.0.parent + 1 < 2 ^ 64 }
-    ensures { OnOk result ((id : ℕ) → count_of counts.new id ≡ count_of counts.old id + (if is_child_of id r.now then 1 else 0)) }
-{
-    if is_item(r.body()) {
-        counts.count_up(r.key().parent)?;
-    }
-    Ok(())
+/// Children of one parent whose records stand together, and that are not counted with the others yet.
+#[derive(Clone, Copy)]
+struct Siblings {
+    /// The ID of their parent.
+    parent: u32,
+    /// How many they are.
+    count: usize,
 }
 
-/// How many files and folders have each ID as their parent. `Err` only where memory is wanting.
+/// Counts a record under its parent, if it is a file's or a folder's: with its siblings, where it stands behind them.
+fn count_child(
+    counts: &mut Numbers,
+    siblings: Siblings,
+    r: &CatalogRecord,
+) -> Result<Siblings, AllocError>
+    requires { (id : ℕ) → count_with counts.old siblings.parent siblings.count id + 1 < 2 ^ 64 }
+    ensures { IfOk result (λ met. (id : ℕ) → count_with counts.new met.parent met.count id ≡ count_with counts.old siblings.parent siblings.count id + (if is_child_of id r.now then 1 else 0)) }
+{
+    if !is_item(r.body()) {
+        return Ok(siblings);
+    }
+    let parent = r.key().parent;
+    if parent == siblings.parent {
+        return Ok(Siblings {
+            parent,
+            count: siblings.count + 1,
+        });
+    }
+    counts.count_more(siblings.parent, siblings.count)?;
+    Ok(Siblings { parent, count: 1 })
+}
+
+/// How many files and folders have each ID as their parent. A count is looked up once for children that stand together.
+/// `Err` only where memory is wanting.
 pub fn child_counts(alloc: Global, catalog: &[CatalogRecord]) -> Result<Numbers, AllocError>
     ensures { IfOk result (λ counts. (id : ℕ) → count_of counts id ≡ valence_of catalog.now id) }
 {
     let mut counts = Numbers::new(alloc);
+    let mut siblings = Siblings {
+        parent: 0,
+        count: 0,
+    };
     for i in 0..catalog.len() {
-        count_child(&mut counts, &catalog[i])?;
+        siblings = count_child(&mut counts, siblings, &catalog[i])?;
     }
+    counts.count_more(siblings.parent, siblings.count)?;
     Ok(counts)
 }
 

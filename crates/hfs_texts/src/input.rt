@@ -1,9 +1,9 @@
 //! Reading from any reader.
-ghost use Rattle.std.specs.Prelude.{◌≡◌, ◌<◌, ◌≤◌, ◌+◌, ℕ, List, IfOk, OnOk, OnErr, IsErrOf, Ok, true, false, ◌++◌, length, vec_len, take};
+ghost use Rattle.std.specs.Prelude.{◌≡◌, ◌<◌, ◌≤◌, ◌+◌, ◌-◌, ◌^◌, ℕ, List, IfOk, OnOk, OnErr, IsErrOf, Ok, true, false, ◌++◌, length, vec_len, take, drop};
 ghost use Rattle.std.specs.Io.KnownBytes.{Consumes, IsAtEnd};
 ghost use Rattle.hfs_texts.specs.Reading.{GaveFewer, GaveSo, GaveAtMost};
 
-use std::alloc::Global;
+use std::alloc::{AllocError, Global};
 use std::io;
 use std::io::{ErrorKind, Read};
 use thiserror::Error;
@@ -43,6 +43,10 @@ pub const IMAGE_LIMIT: usize = 2_147_483_648;
 /// How many bytes are read at once.
 const CHUNK: usize = 65_536;
 
+/// How many zeros are laid at once where room is made for what is read: few enough that the processor lays them from its
+/// registers.
+const ZEROS: usize = 2_048;
+
 /// Why an input was not loaded.
 #[derive(Debug, Drop, Error)]
 pub enum LoadFault {
@@ -81,36 +85,59 @@ pub fn load_within<R: Read>(alloc: Global, reader: &mut R, limit: u64) -> Result
 {
     let most = limit as usize;
     let mut bytes = Vec::new(alloc);
-    let mut chunk = [0; CHUNK];
     while bytes.len() <= most {
         let room = CHUNK.min(most + 1 - bytes.len());
-        if load_more(reader, &mut bytes, &mut chunk[..room])? && bytes.len() <= most {
+        if load_more(reader, &mut bytes, room)? && bytes.len() <= most {
             return Ok(bytes);
         }
     }
     Err(LoadFault::TooLarge)
 }
 
-/// Reads as many bytes as the chunk holds, and appends them. Answers whether the input ended.
-fn load_more<R: Read>(
-    reader: &mut R,
-    bytes: &mut Vec<u8>,
-    chunk: &mut [u8],
-) -> Result<bool, LoadFault>
-    requires { 0 < length chunk.old }
-    ensures ok { OnOk result ((more : List ℕ) × (length more ≤ length chunk.old)
+/// Reads as many bytes as there is room for, behind those that are there. Answers whether the input ended.
+fn load_more<R: Read>(reader: &mut R, bytes: &mut Vec<u8>, room: usize) -> Result<bool, LoadFault>
+    requires some { 0 < room }
+    requires end { vec_len bytes.old + room < 2 ^ 64 }
+    ensures ok { OnOk result ((more : List ℕ) × (length more ≤ room)
         × Consumes (R.remaining reader.old) (R.remaining reader.new) more × (bytes.new.items ≡ bytes.old.items ++ more)) }
     ensures ended { result ≡ Ok true → IsAtEnd (R.remaining reader.new) }
-    ensures goes_on { result ≡ Ok false → vec_len bytes.new ≡ vec_len bytes.old + length chunk.old }
-    ensures err { OnErr result ((more : List ℕ) × (length more ≤ length chunk.old)
+    ensures goes_on { result ≡ Ok false → vec_len bytes.new ≡ vec_len bytes.old + room }
+    ensures err { OnErr result ((more : List ℕ) × (length more ≤ room)
         × Consumes (R.remaining reader.old) (R.remaining reader.new) more) }
     ensures not_large { IsErrOf result LoadFault.TooLarge → ⊥ }
 {
-    let Ok(count) = fill(reader, chunk) else {
-        return Err(LoadFault::ReadFailed);
-    };
-    let Ok(()) = bytes.extend_from_slice(&chunk[..count]) else {
+    let start = bytes.len();
+    let Ok(()) = make_room(bytes, start + room) else {
         return Err(LoadFault::Memory);
     };
-    Ok(count < chunk.len())
+    let Ok(count) = fill_behind(reader, bytes.as_mut_slice(), start) else {
+        return Err(LoadFault::ReadFailed);
+    };
+    bytes.truncate(start + count);
+    Ok(count < room)
+}
+
+/// Makes the bytes as many as `end` by zeros, where they are fewer.
+fn make_room(bytes: &mut Vec<u8>, end: usize) -> Result<(), AllocError>
+    requires { vec_len bytes.old ≤ end }
+    ensures kept { OnOk result (take (vec_len bytes.old) bytes.new.items ≡ bytes.old.items) }
+    ensures len { OnOk result (vec_len bytes.new ≡ end) }
+{
+    while bytes.len() < end {
+        let more = ZEROS.min(end - bytes.len());
+        bytes.resize(bytes.len() + more, 0)?;
+    }
+    Ok(())
+}
+
+/// Reads into the part of the bytes behind the first `start`, as `fill` does.
+fn fill_behind<R: Read>(reader: &mut R, bytes: &mut [u8], start: usize) -> io::Result<usize>
+    requires { start < length bytes.old }
+    ensures front { take start bytes.new ≡ take start bytes.old }
+    ensures within { IfOk result (λ count. start + count ≤ length bytes.new) }
+    ensures taken { IfOk result (λ n. Consumes (R.remaining reader.old) (R.remaining reader.new) (take n (drop start bytes.new))) }
+    ensures ended { IfOk result (λ count. start + count < length bytes.new → IsAtEnd (R.remaining reader.new)) }
+    ensures err { OnErr result (GaveFewer (R.remaining reader.old) (R.remaining reader.new) (length bytes.new - start)) }
+{
+    fill(reader, &mut bytes[start..])
 }
