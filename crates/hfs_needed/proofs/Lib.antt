@@ -1,0 +1,4 @@
+pub mod SameParts
+pub mod SameSpace
+pub mod SameFaults
+pub mod SameImages
