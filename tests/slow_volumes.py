@@ -412,4 +412,5 @@ def main():
     volume.write(path)
 
 
-main()
+if __name__ == '__main__':
+    main()
