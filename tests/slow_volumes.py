@@ -418,4 +418,5 @@ def main():
     volume.write(path)
 
 
-main()
+if __name__ == '__main__':
+    main()
