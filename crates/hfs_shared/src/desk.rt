@@ -11,6 +11,8 @@ use hfs_volume::Volume;
 use std::alloc::Global;
 use std::marker::Model;
 
+mod closing;
+
 /// Why a call was not made. Nothing has changed then.
 #[derive(Clone, Copy, Debug)]
 pub enum CallFault {

@@ -17,6 +17,8 @@ use std::alloc::Global;
 use std::marker::{Model, PhantomData};
 use std::sync::Wait;
 
+mod closing;
+
 /// A desk, and the list that is published of its journal. Contracts see the desk, and how many entries the list covers.
 #[derive(Drop)]
 pub struct Locked<K: Session> {
