@@ -1,12 +1,12 @@
 -- What is published of a journal that grows, and where nothing waits.
-use Rattle.std.proofs.Common.{◌≡◌, ℕ, suc, ◌+◌, ◌-◌, ◌≤◌, length-append, Bool, true, false, cond, List, [], ◌∷◌, ◌++◌, length, take, drop, map, refl, sym, ap, ◌∙◌, subst, arith}
+use Rattle.std.proofs.Common.{◌≡◌, ℕ, suc, ◌+◌, ◌-◌, ◌≤◌, length-append, Bool, false, cond, List, [], ◌∷◌, ◌++◌, length, take, drop, map, refl, sym, ap, ◌∙◌, subst, arith}
 use Rattle.std.specs.Prelude.{filter, Result, Ok, Err, IfOk, OnErr}
 use Rattle.std.proofs.lemmas.List.{append-nil, drop-drop}
 use Rattle.std.proofs.lemmas.List.Elements.{All-take, All-drop}
 use Rattle.hfs_model.specs.declared.journal.Entry.{Entry}
 use Rattle.hfs_model.specs.Volume.{Volume}
 use Rattle.hfs_published.specs.declared.item.Item.{Item}
-use Rattle.hfs_published.specs.declared.item.Item.TheVariants.{Opening, Change}
+use Rattle.hfs_published.specs.declared.item.Item.TheVariants.{Change}
 use Rattle.hfs_published.specs.Journals.{is_accepted, changes, published, NoneAccepted}
 use Rattle.hfs_published.specs.Laws.{PublishedGrows, PublishedStays}
 use Rattle.hfs_published.specs.Pairs.{PairState, pair}
@@ -16,7 +16,7 @@ use Rattle.hfs_shared.specs.declared.desk.CallFault.{CallFault}
 use Rattle.logbook.specs.Pages.{Book}
 use Rattle.hfs_check.specs.VolumeOf.{volume_of}
 use Rattle.hfs_shared.specs.Desks.{DeskState, PassState, entry_of, IsApplied}
-use Rattle.hfs_shared.specs.Lockeds.{IsLocked, GathersOf, ShowsOf}
+use Rattle.hfs_shared.specs.Lockeds.{IsLocked, GathersOf}
 
 -- the pair's lists stay those of the journal while it grows
 pub locked_more : PublishedStays → (book : Book) (opening : Volume) (d e : DeskState) (p : PairState) (added shown : ℕ) (more : List Entry)
@@ -74,32 +74,12 @@ gathers grows old new journal rest added more is made = record {
   book = ap (λ (p : PairState). p.book) made;
 }
 
--- after a publish
-pub shows_all : (old new : PairState) (added shown : ℕ) → new ≡ pair old.book old.all old.all → ShowsOf old added shown new added
-shows_all old new added shown is = record {
-  shows = λ v journal all _. ap (λ (p : PairState). p.shown) is ∙ all;
-  all = ap (λ (p : PairState). p.all) is;
-  book = ap (λ (p : PairState). p.book) is;
-}
-
-pub shows_same : (old new : PairState) (added shown : ℕ) → new ≡ old → ShowsOf old added shown new shown
-shows_same old new added shown is = record {
-  shows = λ v journal _ was. ap (λ (p : PairState). p.shown) is ∙ was;
-  all = ap (λ (p : PairState). p.all) is;
-  book = ap (λ (p : PairState). p.book) is;
-}
-
--- the pair after both steps
-pub locked_published : (book : Book) (opening : Volume) (d : DeskState) (p q r : PairState) (journal : List Entry) (added shown gathered result : ℕ)
-    → journal ≡ d.journal → IsLocked book opening d p added shown → GathersOf p journal added q gathered → ShowsOf q gathered shown r result
-    → gathered ≤ length journal → result ≤ gathered → IsLocked book opening d r gathered result
-locked_published book opening d p q r journal added shown gathered result same i gather show low below =
-    let all : q.all ≡ published (volume_of d.base) d.journal gathered =
-    gather.all (volume_of d.base) (i.all_is ∙ ap (λ (l : List Entry). published (volume_of d.base) l added) (sym same)) ∙ ap (λ (l : List Entry). published (volume_of d.base) l gathered) same in
-    record {
-      opening_is = i.opening_is;
-      book_is = show.book ∙ gather.book ∙ i.book_is;
-      all_is = show.all ∙ all;
-      shown_is = show.shows (volume_of d.base) d.journal all (gather.shown ∙ i.shown_is);
-      order = (below, subst (λ (l : List Entry). gathered ≤ length l) same low);
-    }
+-- where none waits, nothing is gathered
+pub idle_gathers : PublishedGrows → (book : Book) (opening : Volume) (d : DeskState) (p q : PairState) (journal : List Entry) (added shown gathered : ℕ)
+    → journal ≡ d.journal → IsLocked book opening d p added shown → GathersOf p journal added q gathered → added ≤ gathered → NoneAccepted (drop shown d.journal) → q.all ≡ q.shown
+idle_gathers grows book opening d p q journal added shown gathered same i gather low none =
+    gather.all (volume_of d.base) (i.all_is ∙ ap (λ (l : List Entry). published (volume_of d.base) l added) (sym same))
+    ∙ ap (λ (l : List Entry). published (volume_of d.base) l gathered) same
+    ∙ published_idle grows (volume_of d.base) d.journal shown gathered (omega (arith, i.order.0, low)) none
+    ∙ sym i.shown_is
+    ∙ sym gather.shown

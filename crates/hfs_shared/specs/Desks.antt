@@ -1,5 +1,5 @@
 -- The volume with its journal, as plain data, and the headline.
-use Rattle.std.specs.Prelude.{◌≡◌, ◌≢◌, ℕ, ◌+◌, ◌<◌, ◌≤◌, ◌&&◌, leb, cond, pos, List, [], ◌∷◌, ◌++◌, length, slice_index, get_or, if◌then◌else◌, Option, Some, None}
+use Rattle.std.specs.Prelude.{◌≡◌, ◌≢◌, ℕ, ◌+◌, ◌<◌, ◌≤◌, ◌&&◌, leb, cond, pos, List, [], ◌∷◌, ◌++◌, length, slice_index, if◌then◌else◌, Option, Some, None}
 use Rattle.std.specs.Ordering.{int_eq}
 use Rattle.hfs_model.specs.declared.codes.TheConstants.{DISK_FULL}
 use Rattle.hfs_model.specs.declared.call.Call.{Call}
@@ -7,7 +7,6 @@ use Rattle.hfs_model.specs.declared.reply.Reply.{Reply}
 use Rattle.hfs_model.specs.declared.reply.Value.{Value}
 use Rattle.hfs_model.specs.declared.reply.Value.TheVariants as value
 use Rattle.hfs_model.specs.declared.journal.Entry.{Entry}
-use Rattle.hfs_model.specs.Volume.{Volume}
 use Rattle.hfs_model.specs.Runs.{after}
 use Rattle.hfs_check.specs.Agree.{Agrees}
 use Rattle.hfs_check.specs.VolumeOf.{volume_of}

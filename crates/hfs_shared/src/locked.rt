@@ -86,6 +86,7 @@ impl<K: Session> Locked<K> {
         ensures idle { NoneAccepted (drop self.old.shown self.old.journal) → self.new.shown ≡ length self.old.journal }
         ensures told { result ≡ told (known K.book (published K.opening self.old.journal self.new.shown)) self.new.shown (length self.old.journal) }
     {
+        published_grows();
         let journal = self.desk.journal();
         self.added = gather(alloc, &mut self.pair, journal, self.added);
         self.shown = show(rt, &mut self.pair, self.added, journal.len(), self.shown);

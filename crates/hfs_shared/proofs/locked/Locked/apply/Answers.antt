@@ -3,5 +3,6 @@ use Rattle.hfs_shared.proofs.locked.Locked.apply.Goals as goal
 
 pub invariant_of-self : goal.invariant_of-self
 invariant_of-self g c =
-    locked_after c.published_stays.ensures g.K.book g.K.opening c.self.inside.desk c.apply.new.self c.self.inside.pair c.self.inside.added c.self.inside.shown c.args.pass.now c.apply.new.pass c.args.call.now c.apply.result
+    let l = c.self.inside in
+    locked_after c.published_stays.ensures g.K.Session.book g.K.Session.opening l.desk c.apply.new.self l.pair l.added l.shown c.args.pass.now c.apply.new.pass c.args.call.now c.apply.result
     c.apply.ensures.ok c.apply.ensures.err c.self.invariant
