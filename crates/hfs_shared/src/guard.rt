@@ -66,7 +66,7 @@ impl<K: Session> Guard<'_, K> {
         ensures number { result.shown ≡ self.new.shown }
         ensures told { IsToldOf K.book K.opening self.old.journal result }
     {
-        self.inner.publish(alloc, rt)
+        self.inner.publish(rt, alloc)
     }
 
     /// How many entries of the journal the published list covers. Takes no memory.

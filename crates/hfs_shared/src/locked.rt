@@ -80,7 +80,7 @@ impl<K: Session> Locked<K> {
     }
 
     /// Shows all that waits, in one step, or nothing of it where memory is wanting; what is then published is told.
-    pub fn publish<R: Wait>(&mut self, alloc: Global, rt: &R) -> Told
+    pub fn publish<R: Wait>(&mut self, rt: &R, alloc: Global) -> Told
         ensures desk { desk_of self.new ≡ desk_of self.old }
         ensures shown { (self.new.shown ≡ length self.old.journal) ⊎ (self.new.shown ≡ self.old.shown) }
         ensures idle { NoneAccepted (drop self.old.shown self.old.journal) → self.new.shown ≡ length self.old.journal }

@@ -1,8 +1,8 @@
-use Rattle.std.proofs.Common.{◌≡◌, ℕ, ◌+◌, ◌<◌, List, [], ◌∷◌, ◌++◌, length, get_or, Bool, true, false, Option, Some, None, refl, sym, ap, ◌∙◌, subst, arith, length-append}
+use Rattle.std.proofs.Common.{◌≡◌, ℕ, ◌+◌, ◌<◌, List, [], ◌∷◌, length, get_or, Bool, true, false, Option, Some, None, refl, sym, ap, ◌∙◌, arith, length-append}
 use Rattle.std.specs.Prelude.{is_some, IfNone}
 use Rattle.std.proofs.lemmas.List.{get_or_default}
-use Rattle.tiny_volume.specs.declared.call.Call.{Call}
-use Rattle.tiny_volume.specs.declared.call.Call.TheVariants.{Get}
+use Rattle.hfs_model.specs.declared.call.Call.{Call}
+use Rattle.hfs_model.specs.declared.call.Call.TheVariants.{GetDirInfo}
 use Rattle.hfs_shared.proofs.Working.{work_more}
 use Rattle.hfs_shared.proofs.workers.work.Goals as goal
 
@@ -18,13 +18,14 @@ pub loop-call-preserved : goal.loop-call-preserved
 loop-call-preserved g c =
     let i = c.loop-call.invariant in
     let none = sym c.if-is_some.ensures in
-    let h = if_none c.one_more-fault.result none c.one_more-fault.ensures.none in
+    let more = if_none c.one_more-fault.result none c.one_more-fault.ensures.none in
     let items = c.deref-call-items.ensures.value in
     let below : c.loop-call.call-index < length c.args.calls.now.items = omega (arith, ap length items) in (
-      work_more _ _ c.args.done.now.pass c.args.calls.now.items c.loop-call.done.pass c.one_more-fault.new.pass c.loop-call.replies.items c.one_more-fault.new.replies.items
-          (get_or c.deref-call-items.result.now c.loop-call.call-index Get) h.0 h.1 h.2 i.0 (omega (arith, i.1))
-          (λ d. ap (λ (n : ℕ). get_or c.args.calls.now.items n d) i.1 ∙ get_or_default c.args.calls.now.items c.loop-call.call-index d Get below ∙ ap (λ (l : List Call). get_or l c.loop-call.call-index Get) (sym items))
-          h.3 h.4,
-      ap length h.3 ∙ omega (arith, i.1, length-append c.loop-call.replies.items ((h.1, h.2) ∷ [])),
+      work_more g.K.Session.book g.K.Session.opening c.args.done.now.pass c.args.calls.now.items c.loop-call.done.pass c.one_more-fault.new.pass c.loop-call.replies.items c.one_more-fault.new.replies.items
+          (get_or c.deref-call-items.result.now c.loop-call.call-index (GetDirInfo 0)) i.0 (omega (arith, i.1))
+          (λ d. ap (λ (n : ℕ). get_or c.args.calls.now.items n d) i.1 ∙ get_or_default c.args.calls.now.items c.loop-call.call-index d (GetDirInfo 0) below
+              ∙ ap (λ (l : List Call). get_or l c.loop-call.call-index (GetDirInfo 0)) (sym items))
+          more,
+      ap length more.grown ∙ omega (arith, i.1, length-append c.loop-call.replies.items ((more.reply, more.told) ∷ [])),
       none_of c.one_more-fault.result none,
     )
