@@ -43,12 +43,7 @@ impl<'a, K: Session> Guard<'a, K> {
 impl<K: Session> Guard<'_, K> {
     /// Makes a call of a worker: one entry more in the journal, and the pass's number is one more. `Stamp` where that number is
     /// not the next one of its worker, before anything else is looked at. At a fault nothing has changed.
-    pub fn apply(
-        &mut self,
-        alloc: Global,
-        pass: &mut Pass,
-        call: &Call,
-    ) -> Result<Reply, CallFault>
+    pub fn apply(&mut self, alloc: Global, pass: &mut Pass, call: &Call) -> Result<Reply, CallFault>
         ensures ok { IfOk result (λ r. IsApplied (desk_of self.old) pass.old call.now r (desk_of self.new) pass.new) }
         ensures shown { self.new.shown ≡ self.old.shown }
         ensures opening { volume_of self.old.base ≡ K.opening }

@@ -45,6 +45,11 @@ impl Model for Parts {
 
     ghost Value = { PartsState };
 
+    ghost use Rattle.hfs_model.specs.Volume.{volume_code};
+    ghost use Rattle.std.specs.Coded.{codes};
+
+    ghost coded = { Prim.hlevel (codes, volume_code) };
+
     ghost view = { λ p. parts_state p.desk p.pair };
 
     ghost invariant = { λ p. IsUnused p.desk p.pair };

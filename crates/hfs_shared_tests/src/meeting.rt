@@ -119,7 +119,10 @@ fn run_twos<K: Session + Send + Sync, R: Threads + Wait + Sync, G: Gate + Sync>(
 }
 
 /// Eight workers with two calls each: replies, faults, how many met, and how many waited in vain.
-fn meet(rt: &(impl Threads + Wait + Sync), alloc: Global) -> Result<(usize, usize, u64, u64), Fail> {
+fn meet(
+    rt: &(impl Threads + Wait + Sync),
+    alloc: Global,
+) -> Result<(usize, usize, u64, u64), Fail> {
     let (parts, passes, _viewers) = begun(rt, alloc, new_volume(alloc)?, 8, 1)?;
     let gate = Meeting {
         here: AtomicU64::new(0),
