@@ -126,6 +126,14 @@ wanted_known workers journal w some = by_tests (leb 1 w) (leb w workers) refl re
     by_tests true false p q h = absurd (omega arith)
     by_tests false b p q h = absurd (omega arith)
 
+pub slice_index-next : (next : List ℕ) (journal : List Entry) (w : ℕ) → IsCounted next journal → w ≢ 0 → w ≤ length next → slice_index next (w - 1) ≡ wanted (length next) journal w
+slice_index-next next journal w h some low = by_tests (leb 1 w) (leb w (length next)) refl refl
+  where
+    by_tests : (a b : Bool) → leb 1 w ≡ a → leb w (length next) ≡ b → slice_index next (w - 1) ≡ cond (a && b) (made_by w journal + 1) 0
+    by_tests true true p q = h.counts (w - 1) (omega (arith, some, low)) ∙ ap (λ (i : ℕ). made_by i journal + 1) (omega (arith, some))
+    by_tests true false p q = absurd (grind (arith, nat_tests))
+    by_tests false b p q = absurd (grind (arith, nat_tests))
+
 pub counted_more : (next : List ℕ) (journal : List Entry) (e : Entry) → IsCounted next journal → 1 ≤ e.worker → e.worker ≤ length next → e.stamp ≡ made_by e.worker journal + 1
     → IsCounted (slice_set next (e.worker - 1) (e.stamp + 1)) (journal ++ e ∷ [])
 counted_more next journal e h low high stamp =

@@ -13,6 +13,8 @@ use Rattle.hfs_published.specs.Pairs.{PairState, pair}
 use Rattle.hfs_model.specs.declared.call.Call.{Call}
 use Rattle.hfs_model.specs.declared.reply.Reply.{Reply}
 use Rattle.hfs_shared.specs.declared.desk.CallFault.{CallFault}
+use Rattle.hfs_published.specs.Histories.{known}
+use Rattle.hfs_published.specs.Tolds.{told}
 use Rattle.logbook.specs.Pages.{Book}
 use Rattle.hfs_check.specs.VolumeOf.{volume_of}
 use Rattle.hfs_shared.specs.Desks.{DeskState, PassState, entry_of, IsApplied}
@@ -98,3 +100,11 @@ locked_published book opening d p q r journal added shown gathered result same i
       shown_is = show.shows (volume_of d.base) d.journal all (gather.shown ∙ i.shown_is);
       order = (below, subst (λ (l : List Entry). gathered ≤ length l) same low);
     }
+
+-- what is told of the pair then
+pub told_published : (book : Book) (opening : Volume) (d : DeskState) (p : PairState) (entries : List Entry) (added shown : ℕ)
+    → entries ≡ d.journal → IsLocked book opening d p added shown
+    → told (known p.book p.shown) shown (length entries) ≡ told (known book (published opening d.journal shown)) shown (length d.journal)
+told_published book opening d p entries added shown same i =
+    let list : p.shown ≡ published opening d.journal shown = i.shown_is ∙ ap (λ (v : Volume). published v d.journal shown) i.opening_is in
+    λ k. told (known (i.book_is k) (list k)) shown (length (same k))
