@@ -1,0 +1,37 @@
+-- What one call under the lock says, with what is told of it.
+use Rattle.std.proofs.Common.{◌≡◌, ℕ, List, [], ◌∷◌, ◌++◌, length, sym, ap, ◌∙◌, subst}
+use Rattle.logbook.specs.Pages.{Book}
+use Rattle.hfs_model.specs.declared.call.Call.{Call}
+use Rattle.hfs_model.specs.declared.reply.Reply.{Reply}
+use Rattle.hfs_model.specs.declared.journal.Entry.{Entry}
+use Rattle.hfs_model.specs.Volume.{Volume}
+use Rattle.hfs_model.specs.Changes.{Outcome}
+use Rattle.hfs_model.specs.Runs.{after}
+use Rattle.hfs_model.specs.Need.{step_within}
+use Rattle.hfs_check.specs.VolumeOf.{volume_of}
+use Rattle.hfs_volume.specs.Serving.{free_in, depth_in}
+use Rattle.hfs_published.specs.Histories.{known}
+use Rattle.hfs_published.specs.Journals.{IsLegal, published}
+use Rattle.hfs_published.specs.Tolds.{ToldState, told}
+use Rattle.hfs_shared.specs.Desks.{DeskState, PassState, IsApplied}
+use Rattle.hfs_shared.specs.Shareds.{IsToldOf, IsSomeCall}
+
+-- what is told of so many entries tells their number
+pub told_number : (book : Book) (opening : Volume) (journal : List Entry) (n : ℕ) (t : ToldState) → t ≡ told (known book (published opening journal n)) n (length journal) → IsToldOf book opening journal t
+told_number book opening journal n t is =
+    let number : t.shown ≡ n = ap (λ (s : ToldState). s.shown) is in
+    is ∙ (λ i. told (known book (published opening journal (sym number i))) (sym number i) (length journal))
+
+pub is_call : (book : Book) (opening : Volume) (s t : DeskState) (p q : PassState) (c : Call) (r : Reply) (x : ToldState)
+    → volume_of s.base ≡ opening → IsApplied s p c r t q → IsToldOf book opening t.journal x → IsSomeCall book opening p c r x q
+is_call book opening s t p q c r x opens a told_is =
+    let opens_after : volume_of t.base ≡ opening = ap volume_of a.base ∙ opens in
+    let v_is = a.headline.follows ∙ ap (λ (v : Volume). after v s.journal) opens in (
+      s.journal,
+      record {
+        pass = a.pass;
+        legal = subst (λ (y : Volume × List Entry). IsLegal y.0 y.1) (λ i. (opens_after i, a.journal i)) a.headline_after.legal;
+        reply = (free_in s.current, depth_in s.current, ap (λ (o : Outcome). o.1) a.outcome ∙ ap (λ (v : Volume). (step_within (free_in s.current) (depth_in s.current) v c).1) v_is);
+        told_is = subst (λ (es : List Entry). IsToldOf book opening es x) a.journal told_is;
+      },
+    )

@@ -1,0 +1,5 @@
+pub mod Headline
+pub mod Showing
+pub mod Unchanged
+pub mod Calling
+pub mod Working

@@ -1,0 +1,110 @@
+-- What is published of a journal that grows, and where nothing waits.
+use Rattle.std.proofs.Common.{◌≡◌, ℕ, suc, ◌+◌, ◌-◌, ◌≤◌, length-append, Bool, false, cond, List, [], ◌∷◌, ◌++◌, length, take, drop, map, refl, sym, ap, ◌∙◌, subst, arith}
+use Rattle.std.specs.Prelude.{filter, Result, Ok, Err, IfOk, OnErr}
+use Rattle.std.proofs.lemmas.List.{append-nil, drop-drop}
+use Rattle.std.proofs.lemmas.List.Elements.{All-take, All-drop}
+use Rattle.hfs_model.specs.declared.journal.Entry.{Entry}
+use Rattle.hfs_model.specs.Volume.{Volume}
+use Rattle.hfs_published.specs.declared.item.Item.{Item}
+use Rattle.hfs_published.specs.declared.item.Item.TheVariants.{Change}
+use Rattle.hfs_published.specs.Journals.{is_accepted, changes, published, NoneAccepted}
+use Rattle.hfs_published.specs.Laws.{PublishedGrows, PublishedStays}
+use Rattle.hfs_published.specs.Pairs.{PairState, pair}
+use Rattle.hfs_model.specs.declared.call.Call.{Call}
+use Rattle.hfs_model.specs.declared.reply.Reply.{Reply}
+use Rattle.hfs_shared.specs.declared.desk.CallFault.{CallFault}
+use Rattle.hfs_published.specs.Histories.{known}
+use Rattle.hfs_published.specs.Tolds.{told}
+use Rattle.logbook.specs.Pages.{Book}
+use Rattle.hfs_check.specs.VolumeOf.{volume_of}
+use Rattle.hfs_shared.specs.Desks.{DeskState, PassState, entry_of, IsApplied}
+use Rattle.hfs_shared.specs.Lockeds.{IsLocked, GathersOf, ShowsOf}
+
+-- the pair's lists stay those of the journal while it grows
+pub locked_more : PublishedStays → (book : Book) (opening : Volume) (d e : DeskState) (p : PairState) (added shown : ℕ) (more : List Entry)
+    → IsLocked book opening d p added shown → e.base ≡ d.base → e.journal ≡ d.journal ++ more → IsLocked book opening e p added shown
+locked_more stays book opening d e p added shown more i same grown =
+    let length_is : length e.journal ≡ length (d.journal ++ more) = ap length grown in
+    record {
+      opening_is = ap (λ (b : List ℕ). volume_of b) same ∙ i.opening_is;
+      book_is = i.book_is;
+      all_is = i.all_is ∙ sym (stays (volume_of d.base) d.journal more added i.order.1) ∙ (λ k. published (volume_of (sym same k)) (sym grown k) added);
+      shown_is = i.shown_is ∙ sym (stays (volume_of d.base) d.journal more shown (omega (arith, i.order.0, i.order.1))) ∙ (λ k. published (volume_of (sym same k)) (sym grown k) shown);
+      order = (i.order.0, omega (arith, i.order.1, length_is, length-append d.journal more));
+    }
+
+abbrev changes_of : (b : Bool) → Entry → List Entry → List Item
+changes_of b e es = map (λ (x : Entry). Change x.call) (cond b (e ∷ filter is_accepted es) (filter is_accepted es))
+
+changes_none : (es : List Entry) → NoneAccepted es → changes es ≡ []
+changes_none [] none = refl
+changes_none (e ∷ es) none =
+    ap (λ (b : Bool). changes_of b e es) (none 0 e (omega arith))
+    ∙ changes_none es (λ k d lt. none (suc k) d (omega (arith, lt)))
+
+-- where none waits, what is published of more entries is the same
+pub published_idle : PublishedGrows → (v : Volume) (journal : List Entry) (n m : ℕ) → n ≤ m → NoneAccepted (drop n journal) → published v journal m ≡ published v journal n
+published_idle grows v journal n m le none =
+    let same : n + (m - n) ≡ m = omega (arith, le) in
+    ap (λ (k : ℕ). published v journal k) (sym same)
+    ∙ sym (grows v journal n (m - n))
+    ∙ ap (λ (l : List Item). published v journal n ++ l) (changes_none (take (m - n) (drop n journal)) (All-take (λ (e : Entry). is_accepted e ≡ false) (m - n) (drop n journal) none))
+    ∙ append-nil (published v journal n)
+
+-- nor does any wait later
+pub none_later : (journal : List Entry) (n m : ℕ) → n ≤ m → NoneAccepted (drop n journal) → NoneAccepted (drop m journal)
+none_later journal n m le none =
+    let same : n + (m - n) ≡ m = omega (arith, le) in
+    subst (λ (l : List Entry). NoneAccepted l) (drop-drop (m - n) n journal ∙ ap (λ (k : ℕ). drop k journal) same) (All-drop (λ (e : Entry). is_accepted e ≡ false) (m - n) (drop n journal) none)
+
+-- after a call that was made or refused
+pub locked_after : PublishedStays → (book : Book) (opening : Volume) (d e : DeskState) (p : PairState) (added shown : ℕ) (a b : PassState) (c : Call) (r : Result Reply CallFault)
+    → IfOk r (λ (x : Reply). IsApplied d a c x e b) → OnErr r ((e ≡ d) × (b ≡ a)) → IsLocked book opening d p added shown → IsLocked book opening e p added shown
+locked_after stays book opening d e p added shown a b c (Ok x) ok err i = locked_more stays book opening d e p added shown (entry_of a c x ∷ []) i ok.base ok.journal
+locked_after stays book opening d e p added shown a b c (Err f) ok err i = subst (λ (s : DeskState). IsLocked book opening s p added shown) (sym err.0) i
+
+-- what is gathered of the entries from a place on
+pub gathers : PublishedGrows → (old new : PairState) (journal rest : List Entry) (added more : ℕ) → rest ≡ drop added journal
+    → new ≡ pair old.book (old.all ++ changes (take more rest)) old.shown → GathersOf old journal added new (added + more)
+gathers grows old new journal rest added more is made = record {
+  all = λ v was.
+      ap (λ (p : PairState). p.all) made
+      ∙ ap (λ (l : List Entry). old.all ++ changes (take more l)) is
+      ∙ ap (λ (l : List Item). l ++ changes (take more (drop added journal))) was
+      ∙ grows v journal added more;
+  shown = ap (λ (p : PairState). p.shown) made;
+  book = ap (λ (p : PairState). p.book) made;
+}
+
+-- where none waits, nothing is gathered
+pub idle_gathers : PublishedGrows → (book : Book) (opening : Volume) (d : DeskState) (p q : PairState) (journal : List Entry) (added shown gathered : ℕ)
+    → journal ≡ d.journal → IsLocked book opening d p added shown → GathersOf p journal added q gathered → added ≤ gathered → NoneAccepted (drop shown d.journal) → q.all ≡ q.shown
+idle_gathers grows book opening d p q journal added shown gathered same i gather low none =
+    gather.all (volume_of d.base) (i.all_is ∙ ap (λ (l : List Entry). published (volume_of d.base) l added) (sym same))
+    ∙ ap (λ (l : List Entry). published (volume_of d.base) l gathered) same
+    ∙ published_idle grows (volume_of d.base) d.journal shown gathered (omega (arith, i.order.0, low)) none
+    ∙ sym i.shown_is
+    ∙ sym gather.shown
+
+-- the pair after both steps
+pub locked_published : (book : Book) (opening : Volume) (d : DeskState) (p q r : PairState) (journal : List Entry) (added shown gathered result : ℕ)
+    → journal ≡ d.journal → IsLocked book opening d p added shown → GathersOf p journal added q gathered → ShowsOf q gathered shown r result
+    → gathered ≤ length journal → result ≤ gathered → IsLocked book opening d r gathered result
+locked_published book opening d p q r journal added shown gathered result same i gather show low below =
+    let all : q.all ≡ published (volume_of d.base) d.journal gathered =
+    gather.all (volume_of d.base) (i.all_is ∙ ap (λ (l : List Entry). published (volume_of d.base) l added) (sym same)) ∙ ap (λ (l : List Entry). published (volume_of d.base) l gathered) same in
+    record {
+      opening_is = i.opening_is;
+      book_is = show.book ∙ gather.book ∙ i.book_is;
+      all_is = show.all ∙ all;
+      shown_is = show.shows (volume_of d.base) d.journal all (gather.shown ∙ i.shown_is);
+      order = (below, subst (λ (l : List Entry). gathered ≤ length l) same low);
+    }
+
+-- what is told of the pair then
+pub told_published : (book : Book) (opening : Volume) (d : DeskState) (p : PairState) (entries : List Entry) (added shown : ℕ)
+    → entries ≡ d.journal → IsLocked book opening d p added shown
+    → told (known p.book p.shown) shown (length entries) ≡ told (known book (published opening d.journal shown)) shown (length d.journal)
+told_published book opening d p entries added shown same i =
+    let list : p.shown ≡ published opening d.journal shown = i.shown_is ∙ ap (λ (v : Volume). published v d.journal shown) i.opening_is in
+    λ k. told (known (i.book_is k) (list k)) shown (length (same k))

@@ -1,0 +1,8 @@
+use Rattle.hfs_shared.proofs.Showing.{locked_after}
+use Rattle.hfs_shared.proofs.locked.Locked.apply.Goals as goal
+
+pub invariant_of-self : goal.invariant_of-self
+invariant_of-self g c =
+    let l = c.self.inside in
+    locked_after c.published_stays.ensures g.K.Session.book g.K.Session.opening l.desk c.apply.new.self l.pair l.added l.shown c.args.pass.now c.apply.new.pass c.args.call.now c.apply.result
+    c.apply.ensures.ok c.apply.ensures.err c.self.invariant

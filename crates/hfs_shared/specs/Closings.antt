@@ -1,0 +1,38 @@
+-- Which passes close a shared volume, and what closing it gives.
+use Rattle.std.specs.Prelude.{◌≡◌, ℕ, ◌+◌, ◌<◌, List, length, get_or}
+use mathlib.Core.List.{IsPrefix}
+use Rattle.hfs_model.specs.declared.journal.Entry.{Entry}
+use Rattle.hfs_model.specs.Volume.{Volume}
+use Rattle.hfs_model.specs.Runs.{after}
+use Rattle.hfs_check.specs.Agree.{Agrees}
+use Rattle.hfs_check.specs.VolumeOf.{volume_of}
+use Rattle.hfs_volume.specs.Image.{ImageValue}
+use Rattle.hfs_published.specs.Histories.{Known}
+use Rattle.hfs_published.specs.Journals.{IsLegal, made_by, published}
+use Rattle.hfs_shared.specs.Desks.{PassState, pass_state}
+
+-- the pass is among these
+abbrev pub HasPass : List PassState → PassState → Type 0
+HasPass passes p = (i : ℕ) × (i < length passes) × ((none : PassState) → get_or passes i none ≡ p)
+
+-- the passes are those of all workers, each once and with its next number
+pub record AreAllPasses (passes : List PassState) (workers : ℕ) (journal : List Entry) : Type 0 where
+  pub many : length passes ≡ workers
+  pub each : (w : ℕ) → w < workers → HasPass passes (pass_state (w + 1) (made_by (w + 1) journal + 1))
+
+-- no entry is of another than so many workers
+abbrev pub HasNoOthers : ℕ → List Entry → Type 0
+HasNoOthers workers journal = ((w : ℕ) → workers < w → made_by w journal ≡ 0) × (made_by 0 journal ≡ 0)
+
+-- what closing gives for these passes, and the lent viewer's list before and after it. The volume agrees with the one that
+-- was shared, and is the one after the journal; each worker has as many entries as its pass says, and nobody else has any;
+-- the viewer has then seen what is published, which begins with what it had seen.
+pub record IsClosed (opening : Volume) (volume : ImageValue) (journal : List Entry) (shown : ℕ) (passes : List PassState) (before afterwards : Known) : Type 0 where
+  pub opens : volume_of volume.base ≡ opening
+  pub agrees : Agrees volume.base volume.current
+  pub legal : IsLegal opening journal
+  pub follows : volume_of volume.current ≡ after opening journal
+  pub all : AreAllPasses passes (length passes) journal
+  pub others : HasNoOthers (length passes) journal
+  pub seen : afterwards.list ≡ published opening journal shown
+  pub begins : IsPrefix before.list afterwards.list

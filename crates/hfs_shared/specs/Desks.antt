@@ -1,0 +1,84 @@
+-- The volume with its journal, as plain data, and the headline.
+use Rattle.std.specs.Prelude.{◌≡◌, ◌≢◌, ℕ, ◌+◌, ◌<◌, ◌≤◌, ◌&&◌, leb, cond, pos, List, [], ◌∷◌, ◌++◌, length, slice_index, if◌then◌else◌, Option, Some, None}
+use Rattle.std.specs.Ordering.{int_eq}
+use Rattle.hfs_model.specs.declared.codes.TheConstants.{DISK_FULL}
+use Rattle.hfs_model.specs.declared.call.Call.{Call}
+use Rattle.hfs_model.specs.declared.reply.Reply.{Reply}
+use Rattle.hfs_model.specs.declared.reply.Value.{Value}
+use Rattle.hfs_model.specs.declared.reply.Value.TheVariants as value
+use Rattle.hfs_model.specs.declared.journal.Entry.{Entry}
+use Rattle.hfs_model.specs.Runs.{after}
+use Rattle.hfs_check.specs.Agree.{Agrees}
+use Rattle.hfs_check.specs.VolumeOf.{volume_of}
+use Rattle.hfs_volume.specs.Serving.{outcome_in}
+use Rattle.hfs_published.specs.Journals.{IsLegal, made_by}
+
+-- the image as it was mounted, the image as it is, the journal, and how many workers there are
+pub record DeskState : Type 0 where
+  pub base : List ℕ
+  pub current : List ℕ
+  pub journal : List Entry
+  pub workers : ℕ
+
+abbrev pub desk_state : List ℕ → List ℕ → List Entry → ℕ → DeskState
+desk_state b c j n = record { base = b; current = c; journal = j; workers = n }
+
+-- the headline: the image agrees with the one that was mounted, the journal is legal over the mounted volume, and the volume
+-- now is the one after it
+pub record IsHeadline (base current : List ℕ) (journal : List Entry) : Type 0 where
+  pub agrees : Agrees base current
+  pub legal : IsLegal (volume_of base) journal
+  pub follows : volume_of current ≡ after (volume_of base) journal
+
+-- the next numbers of the workers, and no entry is of another
+pub record IsCounted (next : List ℕ) (journal : List Entry) : Type 0 where
+  pub counts : (w : ℕ) → w < length next → slice_index next w ≡ made_by (w + 1) journal + 1
+  pub none : (w : ℕ) → length next < w → made_by w journal ≡ 0
+  pub nobody : made_by 0 journal ≡ 0
+  pub few : length next ≤ 8
+
+-- ---- passes
+
+-- a worker, and the number of its next call
+pub record PassState : Type 0 where
+  pub worker : ℕ
+  pub number : ℕ
+
+abbrev pub pass_state : ℕ → ℕ → PassState
+pass_state w n = record { worker = w; number = n }
+
+-- the next number of a worker, or 0 where there is none such
+abbrev pub wanted : ℕ → List Entry → ℕ → ℕ
+wanted workers journal w = cond (leb 1 w && leb w workers) (made_by w journal + 1) 0
+
+-- ---- one call
+
+-- the free nodes and the depth that a value tells
+abbrev pub full_in : Value → Option (ℕ × ℕ)
+full_in value.Nothing = None
+full_in (value.Id id) = None
+full_in (value.One info) = None
+full_in (value.Many infos) = None
+full_in (value.Bytes bytes) = None
+full_in (value.Full free depth) = Some (free, depth)
+full_in (value.Place dir name) = None
+
+-- what a reply says of want of nodes
+abbrev pub full_of : Reply → Option (ℕ × ℕ)
+full_of r = if int_eq r.code DISK_FULL then full_in r.value else None
+
+-- the journal's entry of a call
+abbrev pub entry_of : PassState → Call → Reply → Entry
+entry_of p c r = record { worker = p.worker; stamp = p.number; call = c; code = r.code; full = full_of r }
+
+-- one call under the lock
+pub record IsApplied (s : DeskState) (p : PassState) (c : Call) (r : Reply) (t : DeskState) (q : PassState) : Type 0 where
+  pub base : t.base ≡ s.base
+  pub workers : t.workers ≡ s.workers
+  pub journal : t.journal ≡ s.journal ++ entry_of p c r ∷ []
+  pub pass : q ≡ pass_state p.worker (p.number + 1)
+  pub wanted_is : p.number ≡ wanted s.workers s.journal p.worker
+  pub outcome : (volume_of t.current, r) ≡ outcome_in s.current c
+  pub refused : r.code ≢ pos 0 → t.current ≡ s.current
+  pub headline : IsHeadline s.base s.current s.journal
+  pub headline_after : IsHeadline t.base t.current t.journal

@@ -1,0 +1,9 @@
+-- When a call is refused.
+use Rattle.std.specs.Prelude.{◌≡◌, ◌≢◌, ℕ}
+use Rattle.hfs_shared.specs.declared.desk.CallFault.{CallFault}
+use Rattle.hfs_shared.specs.declared.desk.CallFault.TheVariants.{Stamp, Memory}
+
+-- the stamp is the fault exactly where the number given is not the one wanted
+abbrev pub IsFaultAt : ℕ → ℕ → CallFault → Type 0
+IsFaultAt wanted given (Stamp w g) = (w ≡ wanted) × (g ≡ given) × (given ≢ wanted)
+IsFaultAt wanted given Memory = given ≡ wanted

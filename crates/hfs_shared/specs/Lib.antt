@@ -1,0 +1,6 @@
+pub mod Desks
+pub mod Faults
+pub mod Lockeds
+pub mod Closings
+pub mod Shareds
+pub mod Works

@@ -1,0 +1,44 @@
+-- What lies under the lock, as plain data.
+use Rattle.std.specs.Prelude.{◌≡◌, ℕ, ◌≤◌, List, length}
+use Rattle.logbook.specs.Pages.{Book}
+use Rattle.hfs_model.specs.declared.journal.Entry.{Entry}
+use Rattle.hfs_model.specs.Volume.{Volume}
+use Rattle.hfs_check.specs.VolumeOf.{volume_of}
+use Rattle.hfs_published.specs.Journals.{published}
+use Rattle.hfs_published.specs.Pairs.{PairState}
+use Rattle.hfs_shared.specs.Desks.{DeskState, desk_state}
+
+-- a desk, and how many entries of its journal the published list covers
+pub record LockedState : Type 0 where
+  pub base : List ℕ
+  pub current : List ℕ
+  pub journal : List Entry
+  pub workers : ℕ
+  pub shown : ℕ
+
+abbrev pub locked_state : DeskState → ℕ → LockedState
+locked_state d n = record { base = d.base; current = d.current; journal = d.journal; workers = d.workers; shown = n }
+
+abbrev pub desk_of : LockedState → DeskState
+desk_of l = desk_state l.base l.current l.journal l.workers
+
+-- the pair has the published lists of the journal: the one that is published covers so many entries, and the one with all that
+-- was added covers at least these
+pub record IsLocked (book : Book) (opening : Volume) (d : DeskState) (p : PairState) (added shown : ℕ) : Type 0 where
+  pub opening_is : volume_of d.base ≡ opening
+  pub book_is : p.book ≡ book
+  pub all_is : p.all ≡ published (volume_of d.base) d.journal added
+  pub shown_is : p.shown ≡ published (volume_of d.base) d.journal shown
+  pub order : (shown ≤ added) × (added ≤ length d.journal)
+
+-- a pair with all that the first entries of a journal publish then has this of so many
+pub record GathersOf (old : PairState) (journal : List Entry) (added : ℕ) (new : PairState) (result : ℕ) : Type 0 where
+  pub all : (v : Volume) → old.all ≡ published v journal added → new.all ≡ published v journal result
+  pub shown : new.shown ≡ old.shown
+  pub book : new.book ≡ old.book
+
+-- a pair that shows what so many entries of a journal publish then shows this of so many
+pub record ShowsOf (old : PairState) (added shown : ℕ) (new : PairState) (result : ℕ) : Type 0 where
+  pub shows : (v : Volume) (journal : List Entry) → old.all ≡ published v journal added → old.shown ≡ published v journal shown → new.shown ≡ published v journal result
+  pub all : new.all ≡ old.all
+  pub book : new.book ≡ old.book

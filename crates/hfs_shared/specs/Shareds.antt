@@ -1,0 +1,67 @@
+-- What the calls of a shared volume say.
+use Rattle.std.specs.Prelude.{◌≡◌, ℕ, ◌+◌, ◌<◌, List, [], ◌∷◌, ◌++◌, length, get_or, All}
+use Rattle.logbook.specs.Pages.{Book}
+use Rattle.hfs_model.specs.declared.call.Call.{Call}
+use Rattle.hfs_model.specs.declared.reply.Reply.{Reply}
+use Rattle.hfs_model.specs.declared.journal.Entry.{Entry}
+use Rattle.hfs_model.specs.Volume.{Volume}
+use Rattle.hfs_model.specs.Runs.{after}
+use Rattle.hfs_model.specs.Need.{step_within}
+use Rattle.hfs_check.specs.VolumeOf.{volume_of}
+use Rattle.hfs_published.specs.Histories.{Known, known, opened}
+use Rattle.hfs_published.specs.Journals.{IsLegal, published}
+use Rattle.hfs_published.specs.Pairs.{PairState}
+use Rattle.hfs_published.specs.Tolds.{ToldState, told}
+use Rattle.hfs_shared.specs.Desks.{DeskState, PassState, pass_state, entry_of}
+
+-- ---- before the volume is shared
+
+-- the name of the published list's history, the volume that opens it, and how many workers there are
+pub record PartsState : Type 0 where
+  pub book : Book
+  pub opening : Volume
+  pub workers : ℕ
+
+abbrev pub parts_state : DeskState → PairState → PartsState
+parts_state d p = record { book = p.book; opening = volume_of d.base; workers = d.workers }
+
+-- no call was made yet, and the opening alone is published
+pub record IsUnused (d : DeskState) (p : PairState) : Type 0 where
+  pub empty : d.journal ≡ []
+  pub all : p.all ≡ opened (volume_of d.base)
+  pub shown : p.shown ≡ opened (volume_of d.base)
+
+-- the passes of so many workers, in order, each with the number 1
+pub record AreFirstPasses (workers : ℕ) (passes : List PassState) : Type 0 where
+  pub many : length passes ≡ workers
+  pub each : (i : ℕ) (none : PassState) → i < workers → get_or passes i none ≡ pass_state (i + 1) 1
+
+-- the parts of a volume, the first passes, and viewers that have seen the opening alone
+pub record IsStart (opening : Volume) (workers viewers : ℕ) (p : PartsState) (passes : List PassState) (seen : List Known) : Type 0 where
+  pub opening_is : p.opening ≡ opening
+  pub workers_are : p.workers ≡ workers
+  pub passes_are : AreFirstPasses workers passes
+  pub many : length seen ≡ viewers
+  pub viewers_are : All (λ k. k ≡ known p.book (opened opening)) seen
+
+-- ---- one call
+
+-- the reply is that of the step, or tells of want of nodes, for the nodes that the catalog has
+abbrev pub IsReplyOf : Volume → Call → Reply → Type 0
+IsReplyOf v c r = (free : ℕ) × (depth : ℕ) × (r ≡ (step_within free depth v c).1)
+
+-- what is told of a journal: the published list that covers so many of its entries as it says, and how many there are
+abbrev pub IsToldOf : Book → Volume → List Entry → ToldState → Type 0
+IsToldOf book opening journal t = t ≡ told (known book (published opening journal t.shown)) t.shown (length journal)
+
+-- one call, behind these entries: its own stands last in a legal journal, its reply is the one there, and what is told is
+-- published of that journal
+pub record IsCall (book : Book) (opening : Volume) (before : List Entry) (p : PassState) (c : Call) (r : Reply) (t : ToldState) (q : PassState) : Type 0 where
+  pub pass : q ≡ pass_state p.worker (p.number + 1)
+  pub legal : IsLegal opening (before ++ entry_of p c r ∷ [])
+  pub reply : IsReplyOf (after opening before) c r
+  pub told_is : IsToldOf book opening (before ++ entry_of p c r ∷ []) t
+
+-- one call behind some entries
+abbrev pub IsSomeCall : Book → Volume → PassState → Call → Reply → ToldState → PassState → Type 0
+IsSomeCall book opening p c r t q = (before : List Entry) × IsCall book opening before p c r t q

@@ -1,0 +1,33 @@
+-- What a worker does.
+use Rattle.std.specs.Prelude.{◌≡◌, ℕ, ◌+◌, ◌<◌, ◌≤◌, List, [], ◌∷◌, ◌++◌, length, get_or, None}
+use Rattle.logbook.specs.Pages.{Book}
+use Rattle.hfs_model.specs.declared.call.Call.{Call}
+use Rattle.hfs_model.specs.declared.reply.Reply.{Reply}
+use Rattle.hfs_model.specs.Volume.{Volume}
+use Rattle.hfs_published.specs.Tolds.{ToldState}
+use Rattle.hfs_shared.specs.declared.done.Done.{Done}
+use Rattle.hfs_shared.specs.Desks.{PassState, pass_state}
+use Rattle.hfs_shared.specs.Shareds.{IsSomeCall}
+
+-- the pass with its number so much higher
+abbrev pub later : PassState → ℕ → PassState
+later p n = pass_state p.worker (p.number + n)
+
+-- these are the replies to the first calls, with what was told of each, under the pass's next numbers
+pub record IsWork (book : Book) (opening : Volume) (p : PassState) (calls : List Call) (q : PassState) (replies : List (Reply × ToldState)) : Type 0 where
+  pub pass : q ≡ later p (length replies)
+  pub few : length replies ≤ length calls
+  pub each : (k : ℕ) (c : Call) (r : Reply × ToldState) → k < length replies
+      → IsSomeCall book opening (later p k) (get_or calls k c) (get_or replies k r).0 (get_or replies k r).1 (later p (k + 1))
+
+-- and without a fault all calls were made
+pub record IsDone (book : Book) (opening : Volume) (p : PassState) (calls : List Call) (d : Done) : Type 0 where
+  pub work : IsWork book opening p calls d.pass d.replies.items
+  pub whole : d.fault ≡ None → length d.replies.items ≡ length calls
+
+-- one call more was made
+pub record IsMoreWork (book : Book) (opening : Volume) (p : PassState) (c : Call) (q : PassState) (before afterwards : List (Reply × ToldState)) : Type 0 where
+  pub reply : Reply
+  pub told : ToldState
+  pub grown : afterwards ≡ before ++ (reply, told) ∷ []
+  pub made : IsSomeCall book opening p c reply told q

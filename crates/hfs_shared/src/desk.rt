@@ -1,0 +1,160 @@
+//! The volume with its journal.
+ghost use Rattle.std.specs.Prelude.{◌≡◌, ◌≤◌, ◌<◌, [], length, IfOk, OnErr, IfErr};
+ghost use Rattle.hfs_check.specs.Agree.{Agrees};
+ghost use Rattle.hfs_shared.specs.Desks.{DeskState, desk_state, pass_state, wanted, full_of, full_in, entry_of, IsHeadline, IsApplied};
+ghost use Rattle.hfs_shared.specs.Faults.{IsFaultAt};
+
+use crate::pass::Pass;
+use hfs_model::{Call, DISK_FULL, Entry, Reply, Value, step_is_never_full};
+use hfs_published::copy_call;
+use hfs_volume::Volume;
+use std::alloc::Global;
+use std::marker::Model;
+
+mod closing;
+
+/// Why a call was not made. Nothing has changed then.
+#[derive(Clone, Copy, Debug)]
+pub enum CallFault {
+    /// The pass's number is not the next one of its worker, or there is no such worker; then `wanted` is 0.
+    Stamp { wanted: u64, given: u64 },
+    /// Memory is wanting.
+    Memory,
+}
+
+/// A volume and the journal of its calls. Contracts see the image as it was mounted, the image as it is, the journal, and how
+/// many workers there are. The journal is legal over the mounted volume, and the volume is the one after it.
+#[derive(Drop)]
+pub struct Desk {
+    volume: Volume,
+    journal: Vec<Entry>,
+    next: Vec<u64>,
+}
+
+impl Model for Desk {
+    ghost use Rattle.std.specs.Prelude.{length};
+    ghost use Rattle.hfs_shared.specs.Desks.{DeskState, desk_state, IsHeadline, IsCounted};
+
+    ghost Value = { DeskState };
+
+    ghost view = { λ d. desk_state d.volume.base d.volume.current d.journal.items (length d.next.items) };
+
+    ghost invariant = { λ d. IsHeadline d.volume.base d.volume.current d.journal.items × IsCounted d.next.items d.journal.items };
+}
+
+impl Desk {
+    /// A desk of a volume with no changed block, for so many workers. The volume comes back where memory is wanting.
+    pub fn new(alloc: Global, volume: Volume, workers: u32) -> Result<Desk, Volume>
+        requires workers { workers ≤ 8 }
+        requires fresh { volume.current ≡ volume.base }
+        ensures ok { IfOk result (λ d. d ≡ desk_state volume.base volume.base [] workers) }
+        ensures err { IfErr result (λ v. v ≡ volume) }
+    {
+        let Ok(next) = Vec::from_elem(alloc, 1u64, workers as usize) else {
+            return Err(volume);
+        };
+        agrees(&volume);
+        Ok(Desk {
+            volume,
+            journal: Vec::new(alloc),
+            next,
+        })
+    }
+
+    // The next number of a worker, or 0.
+    fn wanted(&self, worker: u32) -> u64
+        ensures { result ≡ wanted self.now.workers self.now.journal worker }
+    {
+        if worker == 0 || worker as usize > self.next.len() {
+            return 0;
+        }
+        self.next[worker as usize - 1]
+    }
+
+    /// The entries of the journal.
+    pub fn journal(&self) -> &[Entry]
+        ensures entries { result.now ≡ self.now.journal }
+        ensures headline { IsHeadline self.now.base self.now.current self.now.journal }
+    {
+        &self.journal
+    }
+
+    /// Makes a call of a worker: one entry more in the journal. `Stamp` where the pass's number is not the next one of its
+    /// worker, before anything else is looked at.
+    pub fn apply(&mut self, alloc: Global, pass: &mut Pass, call: &Call) -> Result<Reply, CallFault>
+        ensures ok { IfOk result (λ r. IsApplied self.old pass.old call.now r self.new pass.new) }
+        ensures err { OnErr result ((self.new ≡ self.old) × (pass.new ≡ pass.old)) }
+        ensures fault { IfErr result (λ f. IsFaultAt (wanted self.old.workers self.old.journal pass.old.worker) pass.old.number f) }
+    {
+        step_is_never_full();
+        let wanted = self.wanted(pass.worker());
+        let number = pass.number();
+        if number != wanted {
+            return Err(CallFault::Stamp {
+                wanted,
+                given: number,
+            });
+        }
+        if self.journal.reserve(1).is_err() {
+            return Err(CallFault::Memory);
+        }
+        let Ok(copy) = copy_call(alloc, call) else {
+            return Err(CallFault::Memory);
+        };
+        let Ok(reply) = self.volume.call(alloc, call) else {
+            return Err(CallFault::Memory);
+        };
+        agrees(&self.volume);
+        let worker = pass.worker();
+        self.journal
+            .push_reserved(entry(worker, number, copy, &reply));
+        self.next[worker as usize - 1] = number + 1;
+        pass.raise();
+        Ok(reply)
+    }
+}
+
+// A mounted volume agrees with its base, as its type says. It does nothing.
+fn agrees(volume: &Volume)
+    ensures { Agrees volume.now.base volume.now.current }
+{
+    drop(volume.base());
+}
+
+// The journal's entry of a call.
+fn entry(worker: u32, stamp: u64, call: Call, reply: &Reply) -> Entry
+    ensures { result ≡ entry_of (pass_state worker stamp) call reply.now }
+{
+    Entry {
+        worker,
+        stamp,
+        call,
+        code: reply.code,
+        full: full_of(reply),
+    }
+}
+
+// What a reply says of want of nodes.
+fn full_of(reply: &Reply) -> Option<(u32, u32)>
+    ensures { result ≡ full_of reply.now }
+{
+    if reply.code == DISK_FULL {
+        return full_in(&reply.value);
+    }
+    None
+}
+
+// The free nodes and the depth that a value tells.
+fn full_in(value: &Value) -> Option<(u32, u32)>
+    ensures { result ≡ full_in value.now }
+{
+    match value {
+        Value::Full { free, depth } => Some((*free, *depth)),
+        Value::Nothing
+        | Value::Id(_)
+        | Value::One(_)
+        | Value::Many(_)
+        | Value::Bytes(_)
+        | Value::Place { .. } => None,
+    }
+}

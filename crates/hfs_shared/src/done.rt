@@ -1,0 +1,20 @@
+//! What a worker has done.
+use crate::desk::CallFault;
+use crate::pass::Pass;
+use hfs_model::{Call, Reply};
+use hfs_published::Told;
+
+/// A job that was run: its pass as it is now, and the reply to each call that was made, with what was told of it. Without a
+/// fault all its calls were made.
+#[derive(Drop)]
+pub struct Done {
+    pub pass: Pass,
+    pub replies: Vec<(Reply, Told)>,
+    pub fault: Option<CallFault>,
+}
+
+/// Jobs that were not begun, since memory was wanting.
+#[derive(Drop)]
+pub struct RunFault {
+    pub jobs: Vec<(Pass, Vec<Call>)>,
+}

@@ -1,0 +1,73 @@
+//! The lock, held.
+ghost use Rattle.std.specs.Prelude.{◌≡◌, ◌⊎◌, length, drop, IfOk, OnErr, IfErr};
+ghost use Rattle.hfs_check.specs.VolumeOf.{volume_of};
+ghost use Rattle.hfs_published.specs.Journals.{NoneAccepted};
+ghost use Rattle.hfs_shared.specs.Desks.{wanted, IsApplied};
+ghost use Rattle.hfs_shared.specs.Faults.{IsFaultAt};
+ghost use Rattle.hfs_shared.specs.Lockeds.{LockedState, desk_of};
+ghost use Rattle.hfs_shared.specs.Shareds.{IsToldOf};
+
+use crate::desk::CallFault;
+use crate::locked::Locked;
+use crate::pass::Pass;
+use crate::session::Session;
+use hfs_model::{Call, Reply};
+use hfs_published::Told;
+use std::alloc::Global;
+use std::marker::Model;
+use std::sync::{MutexGuard, Wait};
+
+/// It has the lock, until it is dropped, and offers the calls of what lies under it. Contracts see what lies there: the image
+/// as it was mounted, the image as it is, the journal, how many workers there are, and how many entries the published list
+/// covers.
+#[derive(Drop)]
+pub struct Guard<'a, K: Session> {
+    inner: MutexGuard<'a, Locked<K>>,
+}
+
+impl<'a, K: Session> Model for Guard<'a, K> {
+    ghost use Rattle.std.specs.Sync.Mutex.{mutex_guard_value};
+    ghost use Rattle.hfs_shared.specs.Lockeds.{LockedState};
+
+    ghost Value = { LockedState };
+
+    ghost view = { λ g. mutex_guard_value g.inner };
+}
+
+impl<'a, K: Session> Guard<'a, K> {
+    pub(crate) fn new(inner: MutexGuard<'a, Locked<K>>) -> Guard<'a, K> {
+        Guard { inner }
+    }
+}
+
+impl<K: Session> Guard<'_, K> {
+    /// Makes a call of a worker: one entry more in the journal, and the pass's number is one more. `Stamp` where that number is
+    /// not the next one of its worker, before anything else is looked at. At a fault nothing has changed.
+    pub fn apply(&mut self, alloc: Global, pass: &mut Pass, call: &Call) -> Result<Reply, CallFault>
+        ensures ok { IfOk result (λ r. IsApplied (desk_of self.old) pass.old call.now r (desk_of self.new) pass.new) }
+        ensures shown { self.new.shown ≡ self.old.shown }
+        ensures opening { volume_of self.old.base ≡ K.opening }
+        ensures err { OnErr result ((self.new ≡ self.old) × (pass.new ≡ pass.old)) }
+        ensures fault { IfErr result (λ f. IsFaultAt (wanted self.old.workers self.old.journal pass.old.worker) pass.old.number f) }
+    {
+        self.inner.apply(alloc, pass, call)
+    }
+
+    /// Shows all that waits, in one step, or nothing of it where memory is wanting; what is then published is told.
+    pub fn publish<R: Wait>(&mut self, rt: &R, alloc: Global) -> Told
+        ensures desk { desk_of self.new ≡ desk_of self.old }
+        ensures shown { (self.new.shown ≡ length self.old.journal) ⊎ (self.new.shown ≡ self.old.shown) }
+        ensures idle { NoneAccepted (drop self.old.shown self.old.journal) → self.new.shown ≡ length self.old.journal }
+        ensures number { result.shown ≡ self.new.shown }
+        ensures told { IsToldOf K.book K.opening self.old.journal result }
+    {
+        self.inner.publish(rt, alloc)
+    }
+
+    /// How many entries of the journal the published list covers. Takes no memory.
+    pub fn shown(&self) -> u64
+        ensures { result ≡ self.now.shown }
+    {
+        self.inner.shown()
+    }
+}

@@ -1,0 +1,118 @@
+//! What lies under the lock: the volume with its journal, and the list that is published of it.
+ghost use Rattle.std.specs.Prelude.{◌≡◌, ◌⊎◌, ◌≤◌, [], length, take, drop, ◌++◌, ◌-◌, IfOk, OnErr, IfErr};
+ghost use Rattle.hfs_check.specs.VolumeOf.{volume_of};
+ghost use Rattle.hfs_published.specs.Histories.{known};
+ghost use Rattle.hfs_published.specs.Journals.{published, NoneAccepted};
+ghost use Rattle.hfs_published.specs.Tolds.{told};
+ghost use Rattle.hfs_shared.specs.Desks.{wanted, IsApplied};
+ghost use Rattle.hfs_shared.specs.Faults.{IsFaultAt};
+ghost use Rattle.hfs_shared.specs.Lockeds.{LockedState, locked_state, desk_of, ShowsOf, GathersOf};
+
+use crate::desk::{CallFault, Desk};
+use crate::pass::Pass;
+use crate::session::Session;
+use hfs_model::{Call, Entry, Reply};
+use hfs_published::{Pair, Told, published_grows, published_stays};
+use std::alloc::Global;
+use std::marker::{Model, PhantomData};
+use std::sync::Wait;
+
+mod closing;
+
+/// A desk, and the list that is published of its journal. Contracts see the desk, and how many entries the list covers.
+#[derive(Drop)]
+pub struct Locked<K: Session> {
+    desk: Desk,
+    pair: Pair,
+    // The entries whose changes the pair has.
+    added: usize,
+    shown: usize,
+    of: PhantomData<K>,
+}
+
+impl<K: Session> Model for Locked<K> {
+    ghost use Rattle.hfs_shared.specs.Lockeds.{LockedState, locked_state, IsLocked};
+
+    ghost Value = { LockedState };
+
+    ghost view = { λ l. locked_state l.desk l.shown };
+
+    ghost invariant = { λ l. IsLocked K.book K.opening l.desk l.pair l.added l.shown };
+}
+
+impl<K: Session> Locked<K> {
+    /// A desk with no entries, and a pair that has the opening alone.
+    pub fn new(desk: Desk, pair: Pair) -> Locked<K>
+        requires empty { desk.journal ≡ [] }
+        requires opening { volume_of desk.base ≡ K.opening }
+        requires book { pair.book ≡ K.book }
+        requires all { pair.all ≡ published (volume_of desk.base) [] 0 }
+        requires shown { pair.shown ≡ published (volume_of desk.base) [] 0 }
+        ensures { result ≡ locked_state desk 0 }
+    {
+        Locked {
+            desk,
+            pair,
+            added: 0,
+            shown: 0,
+            of: PhantomData,
+        }
+    }
+
+    /// Makes a call of a worker: one entry more in the journal. `Stamp` where the pass's number is not the next one of its
+    /// worker, before anything else is looked at.
+    pub fn apply(&mut self, alloc: Global, pass: &mut Pass, call: &Call) -> Result<Reply, CallFault>
+        ensures ok { IfOk result (λ r. IsApplied (desk_of self.old) pass.old call.now r (desk_of self.new) pass.new) }
+        ensures shown { self.new.shown ≡ self.old.shown }
+        ensures opening { volume_of self.old.base ≡ K.opening }
+        ensures err { OnErr result ((self.new ≡ self.old) × (pass.new ≡ pass.old)) }
+        ensures fault { IfErr result (λ f. IsFaultAt (wanted self.old.workers self.old.journal pass.old.worker) pass.old.number f) }
+    {
+        published_stays();
+        self.desk.apply(alloc, pass, call)
+    }
+
+    /// How many entries the published list covers.
+    pub fn shown(&self) -> u64
+        ensures { result ≡ self.now.shown }
+    {
+        self.shown as u64
+    }
+
+    /// Shows all that waits, in one step, or nothing of it where memory is wanting; what is then published is told.
+    pub fn publish<R: Wait>(&mut self, rt: &R, alloc: Global) -> Told
+        ensures desk { desk_of self.new ≡ desk_of self.old }
+        ensures shown { (self.new.shown ≡ length self.old.journal) ⊎ (self.new.shown ≡ self.old.shown) }
+        ensures idle { NoneAccepted (drop self.old.shown self.old.journal) → self.new.shown ≡ length self.old.journal }
+        ensures told { result ≡ told (known K.book (published K.opening self.old.journal self.new.shown)) self.new.shown (length self.old.journal) }
+    {
+        published_grows();
+        let journal = self.desk.journal();
+        self.added = gather(alloc, &mut self.pair, journal, self.added);
+        self.shown = show(rt, &mut self.pair, self.added, journal.len(), self.shown);
+        self.pair.told(self.shown as u64, journal.len() as u64)
+    }
+}
+
+// Adds the changes of the next entries to the pair, as far as there is memory. It answers how many entries the pair then has.
+fn gather(alloc: Global, pair: &mut Pair, journal: &[Entry], added: usize) -> usize
+    requires { added ≤ length journal.now }
+    ensures order { (added ≤ result) × (result ≤ length journal.now) }
+    ensures lists { GathersOf pair.old journal.now added pair.new result }
+    ensures idle { NoneAccepted (drop added journal.now) → result ≡ length journal.now }
+{
+    published_grows();
+    added + pair.add_entries(alloc, &journal[added..])
+}
+
+// Shows what the pair has, if it has the changes of all entries. It answers how many entries the published list then covers.
+fn show<R: Wait>(rt: &R, pair: &mut Pair, added: usize, made: usize, shown: usize) -> usize
+    ensures shown { ((result ≡ made) × (added ≡ made)) ⊎ (result ≡ shown) }
+    ensures lists { ShowsOf pair.old added shown pair.new result }
+    ensures idle { pair.old.all ≡ pair.old.shown → added ≡ made → result ≡ made }
+{
+    if added == made && pair.publish(rt) {
+        return made;
+    }
+    shown
+}

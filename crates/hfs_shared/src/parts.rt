@@ -1,0 +1,140 @@
+//! The parts of a shared volume, before a session names them.
+ghost use Rattle.std.specs.Prelude.{◌≡◌, ◌<◌, ◌≤◌, [], IfOk, IfErr, IfSome};
+ghost use Rattle.hfs_check.specs.VolumeOf.{volume_of};
+ghost use Rattle.hfs_shared.specs.Desks.{desk_state};
+ghost use Rattle.hfs_shared.specs.Shareds.{AreFirstPasses, IsStart};
+
+use crate::desk::Desk;
+use crate::locked::Locked;
+use crate::pass::Pass;
+use crate::session::Session;
+use crate::shared::Shared;
+use hfs_published::{Pair, PairFault, Viewer};
+use hfs_volume::Volume;
+use std::alloc::{AllocFailed, Global};
+use std::marker::Model;
+use std::sync::Wait;
+
+/// Why a volume was not shared.
+#[derive(Clone, Copy, Debug)]
+pub enum Why {
+    /// Memory is wanting.
+    Memory,
+    /// There was no place for a viewer.
+    NoPlace,
+}
+
+/// A volume that was not shared, and why.
+#[derive(Drop)]
+pub struct StartFault {
+    pub why: Why,
+    /// The volume that was given. Its bytes are as they were; none of its blocks need still be kept as changed.
+    pub volume: Volume,
+}
+
+/// A volume that is to be shared, with no call made yet. Contracts see the name of the published list's history, the volume
+/// that opens it, and how many workers there are.
+#[derive(Drop)]
+pub struct Parts {
+    desk: Desk,
+    pair: Pair,
+}
+
+impl Model for Parts {
+    ghost use Rattle.hfs_shared.specs.Shareds.{PartsState, parts_state, IsUnused};
+
+    ghost Value = { PartsState };
+
+    ghost use Rattle.hfs_model.specs.Volume.{volume_code};
+    ghost use Rattle.std.specs.Coded.{codes};
+
+    ghost coded = { Prim.hlevel (codes, volume_code) };
+
+    ghost view = { λ p. parts_state p.desk p.pair };
+
+    ghost invariant = { λ p. IsUnused p.desk p.pair };
+}
+
+impl Parts {
+    /// The parts of a volume for so many workers and viewers, with the passes of workers 1, 2 and so on, and with viewers that
+    /// have seen the volume as it is now. At a fault the volume is handed back: `Memory` where memory is wanting, `NoPlace` where
+    /// there was no place for a viewer.
+    pub fn start<R: Wait>(
+        rt: &R,
+        alloc: Global,
+        volume: Volume,
+        workers: u32,
+        viewers: u32,
+    ) -> Result<(Parts, Vec<Pass>, Vec<Viewer>), StartFault>
+        requires workers { (0 < workers) × (workers ≤ 8) }
+        requires viewers { (0 < viewers) × (viewers ≤ 8) }
+        ensures ok { IfOk result (λ r. IsStart (volume_of volume.current) workers viewers r.0 r.1.items r.2.items) }
+        ensures err { IfErr result (λ f. f.volume.current ≡ volume.current) }
+    {
+        let Some(passes) = first_passes(alloc, workers) else {
+            return Err(fault(Why::Memory, volume));
+        };
+        let desk = match new_desk(alloc, volume, workers) {
+            Ok(desk) => desk,
+            Err(volume) => return Err(fault(Why::Memory, volume)),
+        };
+        match Pair::start(rt, alloc, desk.volume(), viewers) {
+            Ok((pair, viewers)) => Ok((Parts { desk, pair }, passes, viewers)),
+            Err(PairFault::Memory) => Err(fault(Why::Memory, desk.into_volume())),
+            Err(PairFault::NoPlace) => Err(fault(Why::NoPlace, desk.into_volume())),
+        }
+    }
+
+    /// Shares the volume in a session, which names its history and the volume that opens it. Takes no memory.
+    pub fn share<K: Session>(self) -> Shared<K>
+        requires { (self.book ≡ K.book) × (self.opening ≡ K.opening) }
+    {
+        let Parts { desk, pair } = self;
+        Shared::new(Locked::new(desk, pair))
+    }
+}
+
+fn fault(why: Why, volume: Volume) -> StartFault
+    ensures { result.volume ≡ volume }
+{
+    StartFault { why, volume }
+}
+
+// A desk of the volume, which is mounted anew where blocks of it are changed. It comes back where memory is wanting.
+fn new_desk(alloc: Global, volume: Volume, workers: u32) -> Result<Desk, Volume>
+    requires { workers ≤ 8 }
+    ensures ok { IfOk result (λ d. d ≡ desk_state volume.current volume.current [] workers) }
+    ensures err { IfErr result (λ v. v.current ≡ volume.current) }
+{
+    match unchanged(alloc, volume) {
+        Ok(volume) => Desk::new(alloc, volume, workers),
+        Err(failed) => Err(failed.value),
+    }
+}
+
+// The volume with no block changed: it, or a new one over its bytes.
+fn unchanged(alloc: Global, volume: Volume) -> Result<Volume, AllocFailed<Volume>>
+    ensures base { IfOk result (λ v. v.base ≡ volume.current) }
+    ensures current { IfOk result (λ v. v.current ≡ volume.current) }
+    ensures err { IfErr result (λ f. f.value ≡ volume) }
+{
+    if volume.changed() > 0 {
+        return volume.mounted_anew(alloc);
+    }
+    drop(volume.base());
+    Ok(volume)
+}
+
+// The passes of so many workers. None where memory is wanting.
+fn first_passes(alloc: Global, workers: u32) -> Option<Vec<Pass>>
+    requires { workers ≤ 8 }
+    ensures { IfSome result (λ v. AreFirstPasses workers v.items) }
+{
+    let mut passes = Vec::new(alloc);
+    for worker in 0..workers {
+        if passes.push(Pass::first(worker + 1)).is_err() {
+            return None;
+        }
+    }
+    Some(passes)
+}

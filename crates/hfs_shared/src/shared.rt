@@ -1,0 +1,79 @@
+//! The shared volume.
+ghost use Rattle.std.specs.Prelude.{◌≡◌, IfOk, OnErr, IfErr};
+ghost use Rattle.hfs_shared.specs.Closings.{IsClosed};
+ghost use Rattle.hfs_shared.specs.Shareds.{IsSomeCall};
+
+use crate::closed::Closed;
+use crate::desk::CallFault;
+use crate::guard::Guard;
+use crate::locked::Locked;
+use crate::pass::Pass;
+use crate::session::Session;
+use hfs_model::{Call, Reply};
+use hfs_published::{Told, Viewer};
+use std::alloc::Global;
+use std::sync::{Mutex, Wait};
+
+/// A volume with its journal under one lock, for workers with passes, and the list of its changes that viewers read without
+/// the lock.
+#[derive(Drop)]
+pub struct Shared<K: Session> {
+    lock: Mutex<Locked<K>>,
+}
+
+impl<K: Session> Shared<K> {
+    pub(crate) fn new(locked: Locked<K>) -> Shared<K> {
+        Shared {
+            lock: Mutex::new(locked),
+        }
+    }
+
+    fn into_locked(self) -> Locked<K> {
+        let Shared { lock } = self;
+        lock.into_inner()
+    }
+
+    /// The lock, for which it waits.
+    pub fn lock<R: Wait>(&self, rt: &R) -> Guard<'_, K> {
+        Guard::new(self.lock.lock(rt))
+    }
+
+    /// Makes one call under the lock, and publishes what waits: the reply, and what is published then. At a fault, as of
+    /// [`Guard::apply`], nothing has changed.
+    pub fn call<R: Wait>(
+        &self,
+        rt: &R,
+        alloc: Global,
+        pass: &mut Pass,
+        call: Call,
+    ) -> Result<(Reply, Told), CallFault>
+        ensures ok { IfOk result (λ r. IsSomeCall K.book K.opening pass.old call r.0 r.1 pass.new) }
+        ensures err { OnErr result (pass.new ≡ pass.old) }
+    {
+        let mut guard = self.lock(rt);
+        let reply = guard.apply(alloc, pass, &call)?;
+        let told = guard.publish(rt, alloc);
+        Ok((reply, told))
+    }
+
+    /// Ends the sharing, for which it waits for viewers that read; the lent viewer, of the same `Shared`, learns all that was
+    /// published. Refused where the passes are not those of all workers, each once and with its next number: then the same parts
+    /// come back, and the viewer is unchanged.
+    pub fn close<R: Wait>(
+        self,
+        rt: &R,
+        passes: Vec<Pass>,
+        viewer: &mut Viewer,
+    ) -> Result<Closed, (Shared<K>, Vec<Pass>)>
+        requires { viewer.old.book ≡ K.book }
+        ensures ok { IfOk result (λ c. IsClosed K.opening c.volume c.journal.items c.shown passes.items viewer.old viewer.new) }
+        ensures err { IfErr result (λ e. (e.1 ≡ passes) × (viewer.new ≡ viewer.old)) }
+    {
+        let locked = self.into_locked();
+        if !locked.are_all(&passes) {
+            return Err((Shared::new(locked), passes));
+        }
+        locked.teach(rt, viewer);
+        Ok(locked.end(rt))
+    }
+}

@@ -1,0 +1,184 @@
+//! Workers that run side by side.
+ghost use Rattle.std.specs.Prelude.{◌≡◌, ◌<◌, ℕ, [], length, get_or, IfOk, OnErr, IfErr, IfSome, IfNone, OnSome};
+ghost use Rattle.hfs_shared.specs.Shareds.{IsSomeCall};
+ghost use Rattle.hfs_shared.specs.Works.{IsMoreWork, IsDone};
+
+use crate::desk::CallFault;
+use crate::done::{Done, RunFault};
+use crate::pass::Pass;
+use crate::session::Session;
+use crate::shared::Shared;
+use hfs_model::{Call, Reply};
+use hfs_published::Told;
+use std::alloc::Global;
+use std::sync::Wait;
+use std::thread;
+use std::thread::Threads;
+
+/// What is called around each call of a worker, with the worker and the call's number.
+pub trait Gate {
+    /// Before the lock is asked for.
+    fn before(&self, worker: u32, stamp: u64);
+
+    /// While it is held, when the call was made and is not published yet.
+    fn inside(&self, worker: u32, stamp: u64);
+
+    /// When it was let go.
+    fn after(&self, worker: u32, stamp: u64);
+}
+
+// One call, with the gate's around it.
+fn call_at<K: Session, R: Wait, G: Gate>(
+    shared: &Shared<K>,
+    rt: &R,
+    alloc: Global,
+    gate: &G,
+    pass: &mut Pass,
+    call: &Call,
+) -> Result<(Reply, Told), CallFault>
+    ensures ok { IfOk result (λ r. IsSomeCall K.book K.opening pass.old call.now r.0 r.1 pass.new) }
+    ensures err { OnErr result (pass.new ≡ pass.old) }
+{
+    let (worker, stamp) = (pass.worker(), pass.number());
+    gate.before(worker, stamp);
+    let answer = call_inside(shared, rt, alloc, gate, pass, call);
+    gate.after(worker, stamp);
+    answer
+}
+
+// One call under the lock, with the gate's between it and what it publishes.
+fn call_inside<K: Session, R: Wait, G: Gate>(
+    shared: &Shared<K>,
+    rt: &R,
+    alloc: Global,
+    gate: &G,
+    pass: &mut Pass,
+    call: &Call,
+) -> Result<(Reply, Told), CallFault>
+    ensures ok { IfOk result (λ r. IsSomeCall K.book K.opening pass.old call.now r.0 r.1 pass.new) }
+    ensures err { OnErr result (pass.new ≡ pass.old) }
+{
+    let (worker, stamp) = (pass.worker(), pass.number());
+    let mut guard = shared.lock(rt);
+    let reply = guard.apply(alloc, pass, call)?;
+    gate.inside(worker, stamp);
+    let told = guard.publish(rt, alloc);
+    Ok((reply, told))
+}
+
+// One more call of a worker, if there is room for its reply.
+fn one_more<K: Session, R: Wait, G: Gate>(
+    shared: &Shared<K>,
+    rt: &R,
+    alloc: Global,
+    gate: &G,
+    pass: &mut Pass,
+    call: &Call,
+    replies: &mut Vec<(Reply, Told)>,
+) -> Option<CallFault>
+    ensures none { IfNone result (IsMoreWork K.book K.opening pass.old call.now pass.new replies.old.items replies.new.items) }
+    ensures some { OnSome result ((replies.new.items ≡ replies.old.items) × (pass.new ≡ pass.old)) }
+{
+    if replies.reserve(1).is_err() {
+        return Some(CallFault::Memory);
+    }
+    match call_at(shared, rt, alloc, gate, pass, call) {
+        Ok(answer) => {
+            replies.push_reserved(answer);
+            None
+        }
+        Err(fault) => Some(fault),
+    }
+}
+
+// The calls of a worker, up to its first fault.
+fn work<K: Session, R: Wait, G: Gate>(
+    shared: &Shared<K>,
+    rt: &R,
+    alloc: Global,
+    gate: &G,
+    calls: &Vec<Call>,
+    done: &mut Done,
+)
+    ensures { IsDone K.book K.opening done.old.pass calls.now.items done.new }
+{
+    let mut replies = Vec::new(alloc);
+    let mut fault = None;
+    for call in calls {
+        fault = one_more(shared, rt, alloc, gate, &mut done.pass, call, &mut replies);
+        if fault.is_some() {
+            break;
+        }
+    }
+    done.replies = replies;
+    done.fault = fault;
+}
+
+// What is done of a job that is not begun.
+fn begin(alloc: Global, pass: &Pass) -> Done
+    ensures { result.pass ≡ pass.now }
+{
+    Done {
+        pass: pass.again(),
+        replies: Vec::new(alloc),
+        fault: None,
+    }
+}
+
+// What is done of jobs that are not begun. None where memory is wanting.
+fn begin_all(alloc: Global, jobs: &Vec<(Pass, Vec<Call>)>) -> Option<Vec<Done>>
+    ensures many { IfSome result (λ v. length v.items ≡ length jobs.now.items) }
+    ensures passes { IfSome result (λ v. (i : ℕ) (d : _) (j : _) → i < length jobs.now.items → (get_or v.items i d).pass ≡ (get_or jobs.now.items i j).0) }
+{
+    let mut dones = Vec::new(alloc);
+    for at in 0..jobs.len() {
+        let done = begin(alloc, &jobs[at].0);
+        if dones.push(done).is_err() {
+            return None;
+        }
+    }
+    Some(dones)
+}
+
+/// Runs each job in a thread of its own, or, where no thread can be made for it, in another job's: a worker makes its calls in
+/// order, with the gate's around each, and stops at its first fault. Room for a reply is made before its call; where there is
+/// none, that call is not made, and the fault is `Memory`. The jobs come back, with nothing done, where memory was wanting
+/// before the first thread.
+pub fn run_workers<K: Session + Send + Sync, R: Threads + Wait + Sync, G: Gate + Sync>(
+    shared: &Shared<K>,
+    rt: &R,
+    alloc: Global,
+    gate: &G,
+    jobs: Vec<(Pass, Vec<Call>)>,
+) -> Result<Vec<Done>, RunFault>
+    ensures many { IfOk result (λ v. length v.items ≡ length jobs.items) }
+    ensures each { IfOk result (λ v. (i : ℕ) (d : _) (j : _) → i < length jobs.items → IsDone K.book K.opening (get_or jobs.items i j).0 (get_or jobs.items i j).1.items (get_or v.items i d)) }
+    ensures err { IfErr result (λ f. f.jobs ≡ jobs) }
+{
+    let Some(mut dones) = begin_all(alloc, &jobs) else {
+        return Err(RunFault { jobs });
+    };
+    run_all(shared, rt, alloc, gate, &jobs, &mut dones);
+    Ok(dones)
+}
+
+// Does the jobs, each in a thread of its own.
+fn run_all<K: Session + Send + Sync, R: Threads + Wait + Sync, G: Gate + Sync>(
+    shared: &Shared<K>,
+    rt: &R,
+    alloc: Global,
+    gate: &G,
+    jobs: &Vec<(Pass, Vec<Call>)>,
+    dones: &mut Vec<Done>,
+)
+    requires many { length dones.old.items ≡ length jobs.now.items }
+    ensures many { length dones.new.items ≡ length jobs.now.items }
+    ensures each { (i : ℕ) (d : _) (j : _) → i < length jobs.now.items → IsDone K.book K.opening (get_or dones.old.items i d).pass (get_or jobs.now.items i j).1.items (get_or dones.new.items i d) }
+{
+    let threads = jobs.len().max(1);
+    let run = |i: usize, done: &mut Done|
+        requires { i < length jobs.now.items }
+        ensures { (j : _) → IsDone K.book K.opening done.entry.now.pass (get_or jobs.entry.now.items i j).1.items done.exit.now }
+    { work(shared, rt, alloc, gate, &jobs[i].1, done) };
+    thread::for_each_mut(rt, dones.as_mut_slice(), threads, &run);
+}
