@@ -52,10 +52,10 @@ returns g c =
     let work : Work end.done.pass end.replies.items =
     elim end.branch as (λ _. Work end.done.pass end.replies.items) [
       | else-loop-call-test w ↦
-        subst (λ (y : PassState × List (Reply × ToldState)). Work y.0 y.1) (λ j. (sym (ap (λ d. d.pass) w.done-is) j, sym (ap (λ v. v.items) w.replies-is) j)) i.0
+          subst (λ (y : PassState × List (Reply × ToldState)). Work y.0 y.1) (λ j. (sym (ap (λ d. d.pass) w.done-is) j, sym (ap (λ v. v.items) w.replies-is) j)) i.0
       | then-loop-call-test+then-is_some w ↦
-        (let same = on_some w.one_more-fault.result (sym w.if-is_some.ensures) w.one_more-fault.ensures.some in
-        subst (λ (y : PassState × List (Reply × ToldState)). Work y.0 y.1) (λ j. (sym (ap (λ d. d.pass) w.done-is ∙ same.1) j, sym (ap (λ v. v.items) w.replies-is ∙ same.0) j)) i.0)
+          (let same = on_some w.one_more-fault.result (sym w.if-is_some.ensures) w.one_more-fault.ensures.some in
+          subst (λ (y : PassState × List (Reply × ToldState)). Work y.0 y.1) (λ j. (sym (ap (λ d. d.pass) w.done-is ∙ same.1) j, sym (ap (λ v. v.items) w.replies-is ∙ same.0) j)) i.0)
     ] in
     let whole : end.fault ≡ None → length end.replies.items ≡ length calls =
     elim end.branch as (λ _. end.fault ≡ None → length end.replies.items ≡ length calls) [

@@ -15,5 +15,5 @@ returns-in-Ok-start-clause-ok g c =
       passes_are = c.in-Some.ensures;
       many = c.in-Ok-start.ensures.viewers.0;
       viewers_are = subst (λ (v : Volume). All (λ (k : Known). k ≡ known c.in-Ok-start.pair.book (opened v)) c.in-Ok-start.viewers.items)
-        (ap volume_of (c.volume.ensures.current ∙ ap (λ (d : DeskState). d.current) desk)) c.in-Ok-start.ensures.viewers.1;
+          (ap volume_of (c.volume.ensures.current ∙ ap (λ (d : DeskState). d.current) desk)) c.in-Ok-start.ensures.viewers.1;
     }
