@@ -1,8 +1,7 @@
 //! A volume on its image, and beside it the plain program's.
 use crate::same::is_same;
+use crate::volumes::{Locks, locked_image, new_plain};
 use anyhow::{Result, bail, ensure};
-use hfs_fields::Name;
-use hfs_fixtures::lay;
 use hfs_model::{Call, DISK_FULL, Reply, Value};
 use hfs_store::PlainVolume;
 use hfs_volume::{Volume, mount};
@@ -24,14 +23,6 @@ fn mounted(alloc: Global, image: Vec<u8>) -> Result<Volume> {
     }
 }
 
-/// A new plain volume named `D`.
-fn new_plain(alloc: Global) -> Result<PlainVolume> {
-    let Some(name) = Name::new(b"D") else {
-        bail!("no name");
-    };
-    Ok(PlainVolume::new(alloc, name, 0)?)
-}
-
 /// An error where the volume doesn't reply as the plain one.
 fn ensure_same_reply(reply: &Reply, expected: &Reply) -> Result<()> {
     ensure!(
@@ -43,28 +34,20 @@ fn ensure_same_reply(reply: &Reply, expected: &Reply) -> Result<()> {
     Ok(())
 }
 
-/// The code of a reply with so many free nodes and levels. An error where these are enough for the call.
-fn full_code(call: &Call, code: i16, free: u32, depth: u32) -> Result<i16> {
+/// An error where so many free nodes and levels are enough for the call, or the code is another than that for want of them.
+fn ensure_wanting(call: &Call, code: i16, free: u32, depth: u32) -> Result<()> {
     let wanting = u64::from(free) < call.need(depth);
     ensure!(
         code == DISK_FULL && wanting,
         "full with {} free nodes",
         free
     );
-    Ok(code)
+    Ok(())
 }
 
 impl Pair {
-    /// The volume of an image, a new one named `D`. One with the number 0 is locked by hardware, one with 1 by software.
-    pub fn new(alloc: Global, image: Vec<u8>, number: u32) -> Result<Pair> {
-        let mut image = image;
-        match number {
-            0 => lay(&mut image, 2, 10, &[0x01, 0x80])?,
-            1 => lay(&mut image, 2, 10, &[0x81, 0x00])?,
-            _ => {}
-        }
-        let mut plain = new_plain(alloc)?;
-        plain.set_locks(number == 0, number == 1);
+    /// The volume of an image, and the plain volume that it holds.
+    pub fn of(alloc: Global, image: Vec<u8>, plain: PlainVolume) -> Result<Pair> {
         let volume = mounted(alloc, image)?;
         Ok(Pair {
             alloc,
@@ -73,18 +56,33 @@ impl Pair {
         })
     }
 
+    /// The volume of an image, a new one named `D`, with these locks.
+    pub fn new(alloc: Global, image: Vec<u8>, locks: Locks) -> Result<Pair> {
+        let image = locked_image(image, locks)?;
+        let mut plain = new_plain(alloc)?;
+        plain.set_locks(locks.hardware, locks.software);
+        Pair::of(alloc, image, plain)
+    }
+
     pub fn next_id(&self) -> u32 {
         self.plain.next_id()
     }
 
-    /// Makes a call in both, unless it meets want of nodes, and tells its code.
-    pub fn make(&mut self, call: &Call) -> Result<i16> {
+    /// Makes a call in both, unless it meets want of nodes, and tells the answer.
+    pub fn answer(&mut self, call: &Call) -> Result<Reply> {
         let reply = self.volume.call(self.alloc, call)?;
         if let Value::Full { free, depth } = reply.value {
-            return full_code(call, reply.code, free, depth);
+            ensure_wanting(call, reply.code, free, depth)?;
+            return Ok(reply);
         }
         let expected = self.plain.call(call)?;
         ensure_same_reply(&reply, &expected)?;
+        Ok(reply)
+    }
+
+    /// Makes a call in both, unless it meets want of nodes, and tells its code.
+    pub fn make(&mut self, call: &Call) -> Result<i16> {
+        let reply = self.answer(call)?;
         Ok(reply.code)
     }
 
@@ -95,11 +93,11 @@ impl Pair {
         Ok(())
     }
 
-    /// The same replies to the calls that read, for each ID.
+    /// The same replies to the calls that read, for each ID below 1,000, which is more than any list gives.
     pub fn ensure_same(&mut self) -> Result<()> {
         let next = self.plain.next_id();
         ensure!(self.volume.next_id() == next, "another next ID");
-        for id in 0..next.saturating_add(1) {
+        for id in 0..next.saturating_add(1).min(1_000) {
             self.ensure_same_item(id)?;
         }
         Ok(())
