@@ -1,5 +1,5 @@
 //! A pair with two viewers, and what they are asked.
-ghost use Rattle.std.specs.Prelude.{◌≡◌, IfOk, OnOk};
+ghost use Rattle.std.specs.Prelude.{◌≡◌, All, IfOk, IfSome, OnOk};
 
 use hfs_fixtures::{SmallVolume, small_image};
 use hfs_model::{Bytes, Call, Reply, Value};
@@ -17,6 +17,29 @@ fn mounted(alloc: Global, small: SmallVolume) -> Result<Volume, Fail> {
     }
 }
 
+/// The last of the viewers, which are of this pair.
+fn take_viewer(pair: &Pair, viewers: &mut Vec<Viewer>) -> Result<Viewer, Fail>
+    requires { All (λ k. k.book ≡ pair.now.book) viewers.old.items }
+    ensures rest { All (λ k. k.book ≡ pair.now.book) viewers.new.items }
+    ensures viewer { IfOk result (λ v. v.book ≡ pair.now.book) }
+{
+    match viewers.pop() {
+        Some(viewer) => Ok(viewer),
+        None => Err(Fail::from("no viewer")),
+    }
+}
+
+/// A pair over a volume, with two viewers of it.
+fn started(
+    rt: &impl Wait,
+    alloc: Global,
+    volume: &Volume,
+) -> Result<(Pair, Vec<Viewer>), PairFault>
+    ensures { IfOk result (λ r. All (λ k. k.book ≡ r.0.book) r.1.items) }
+{
+    Pair::start(rt, alloc, volume, 2)
+}
+
 /// A pair over the volume of a small image, with two viewers of it.
 pub fn begun(
     rt: &impl Wait,
@@ -26,15 +49,12 @@ pub fn begun(
     ensures { IfOk result (λ r. (r.1.book ≡ r.0.book) × (r.2.book ≡ r.0.book)) }
 {
     let volume = mounted(alloc, small)?;
-    match Pair::start(rt, alloc, &volume, 2) {
-        Ok((pair, mut viewers)) => {
-            let second = viewers.pop().ok_or("a second viewer")?;
-            let first = viewers.pop().ok_or("a first viewer")?;
-            Ok((pair, first, second))
-        }
-        Err(PairFault::Memory) => Err(Fail::from("memory")),
-        Err(PairFault::NoPlace) => Err(Fail::from("no place")),
-    }
+    let Ok((pair, mut viewers)) = started(rt, alloc, &volume) else {
+        return Err(Fail::from("no pair"));
+    };
+    let second = take_viewer(&pair, &mut viewers)?;
+    let first = take_viewer(&pair, &mut viewers)?;
+    Ok((pair, first, second))
 }
 
 /// A call that makes a file in the root.
