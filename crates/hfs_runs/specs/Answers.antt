@@ -1,0 +1,1 @@
+-- The text of the answers to a script.

@@ -1,0 +1,1 @@
+-- The calls of each caller of a script.

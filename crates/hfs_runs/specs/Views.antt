@@ -1,0 +1,1 @@
+-- What viewers of a script are answered.
