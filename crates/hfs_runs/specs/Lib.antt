@@ -1,6 +1,5 @@
 pub mod Faults
 pub mod Asking
-pub mod Parts
 pub mod Views
 pub mod Answers
 pub mod Runs

@@ -4,8 +4,8 @@
 
 mod answers;
 mod fault;
+mod jobs;
 mod numbering;
-mod parting;
 mod running;
 mod viewing;
 

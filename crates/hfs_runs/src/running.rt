@@ -1,11 +1,20 @@
 //! A script that is run on an image.
-ghost use Rattle.std.specs.Prelude.{◌≡◌, ◌<◌, All, IfOk, IfErr, length};
+ghost use Rattle.std.specs.Prelude.{◌≡◌, ◌<◌, ◌≤◌, ◌⊎◌, ℕ, All, IfOk, IfErr, OnOk, get_or, length, map, string_bytes};
+ghost use denote.Param.Send.{IsSync};
+ghost use Rattle.hfs_check.specs.Sound.{IsSound};
+ghost use Rattle.hfs_check.specs.VolumeOf.{volume_of};
+ghost use Rattle.hfs_scripts.specs.Callers.{workers, viewers};
+ghost use Rattle.hfs_shared.specs.Shareds.{IsStart};
+ghost use Rattle.hfs_shared.specs.Works.{IsDone};
+ghost use Rattle.hfs_runs.specs.Asking.{IsSmall};
+ghost use Rattle.hfs_runs.specs.Runs.{IsHandedOut, IsMountFault, IsRan, IsRun, IsRunFault};
+ghost use Rattle.hfs_runs.specs.Views.{IsViewed};
 
 use crate::answers::answers_text;
 use crate::fault::ScriptFault;
-use crate::numbering::{Asked, number_lines};
-use crate::parting::{Kind, part_callers};
-use crate::viewing::{Viewing, begin_viewing, view_all};
+use crate::jobs::{jobs_of, viewings_of};
+use crate::numbering::number_lines;
+use crate::viewing::{Viewing, view_all};
 use hfs_model::Call;
 use hfs_scripts::{Script, read_script};
 use hfs_shared::{Done, Gate, Parts, Pass, RunFault, Session, Shared, Viewer, Why, run_workers};
@@ -24,14 +33,6 @@ pub struct Ran {
     pub whole: bool,
 }
 
-// A script taken apart: its lines in order, and the calls of each worker and of each viewer.
-#[derive(Drop)]
-struct Calls {
-    lines: Vec<Asked>,
-    workers: Vec<Vec<Call>>,
-    viewers: Vec<Vec<Call>>,
-}
-
 // The gate of a run: nothing is done around a call.
 #[derive(Drop)]
 struct NoGate;
@@ -44,32 +45,6 @@ impl Gate for NoGate {
     fn after(&self, _worker: u32, _stamp: u64) {}
 }
 
-fn take_apart(alloc: Global, script: Script) -> Result<Calls, AllocError> {
-    let lines = number_lines(alloc, script.lines())?;
-    let last_worker = script.workers();
-    let last_viewer = script.viewers();
-    let (workers, rest) = part_callers(alloc, script, Kind::Workers, last_worker)?;
-    let (viewers, _none) = part_callers(alloc, rest, Kind::Viewers, last_viewer)?;
-    Ok(Calls {
-        lines,
-        workers,
-        viewers,
-    })
-}
-
-// Each worker's pass with its calls.
-fn jobs_of(
-    alloc: Global,
-    passes: Vec<Pass>,
-    calls: Vec<Vec<Call>>,
-) -> Result<Vec<(Pass, Vec<Call>)>, AllocError> {
-    let mut jobs = Vec::new(alloc);
-    for (pass, own) in passes.into_iter().zip(calls) {
-        jobs.push((pass, own))?;
-    }
-    Ok(jobs)
-}
-
 // The workers make their calls, and the viewers theirs beside them.
 fn run_beside<K: Session + Send + Sync, R: Threads + Wait + Sync>(
     shared: &Shared<K>,
@@ -77,17 +52,32 @@ fn run_beside<K: Session + Send + Sync, R: Threads + Wait + Sync>(
     alloc: Global,
     jobs: Vec<(Pass, Vec<Call>)>,
     viewings: Vec<Viewing>,
-) -> (Result<Vec<Done>, RunFault>, Vec<Viewing>) {
+) -> (Result<Vec<Done>, RunFault>, Vec<Viewing>)
+    ensures dones { IfOk result.0 (λ v. length v.items ≡ length jobs.items) }
+    ensures done { IfOk result.0 (λ v. (i : ℕ) (d : _) (j : _) → i < length jobs.items → IsDone K.book K.opening (get_or jobs.items i j).0 (get_or jobs.items i j).1.items (get_or v.items i d)) }
+    ensures viewings { length result.1.items ≡ length viewings.items }
+    ensures viewed { (i : ℕ) (v : _) (w : _) → i < length viewings.items → IsViewed (get_or viewings.items i v) (get_or result.1.items i w) }
+{
     let gate = &NoGate;
     thread::join(
         rt,
-        move || -> Result<Vec<Done>, RunFault> { run_workers(shared, rt, alloc, gate, jobs) },
-        move || -> Vec<Viewing> { view_all(rt, alloc, viewings) },
+        move || -> Result<Vec<Done>, RunFault>
+            requires { IsSync R.row × IsSync K.row }
+            ensures dones { IfOk result (λ v. length v.items ≡ length jobs.items) }
+            ensures done { IfOk result (λ v. (i : ℕ) (d : _) (j : _) → i < length jobs.items → IsDone K.book K.opening (get_or jobs.items i j).0 (get_or jobs.items i j).1.items (get_or v.items i d)) }
+        { run_workers(shared, rt, alloc, gate, jobs) },
+        move || -> Vec<Viewing>
+            requires { IsSync R.row }
+            ensures viewings { length result.items ≡ length viewings.items }
+            ensures viewed { (i : ℕ) (v : _) (w : _) → i < length viewings.items → IsViewed (get_or viewings.items i v) (get_or result.items i w) }
+        { view_all(rt, alloc, viewings) },
     )
 }
 
 // The passes of workers that have ended.
-fn passes_of(alloc: Global, dones: Vec<Done>) -> Result<Vec<Pass>, AllocError> {
+fn passes_of(alloc: Global, dones: Vec<Done>) -> Result<Vec<Pass>, AllocError>
+    ensures { IfOk result (λ v. v.items ≡ map (λ (done : Done). done.pass) dones.items) }
+{
     let mut passes = Vec::new(alloc);
     for done in dones {
         let Done { pass, .. } = done;
@@ -102,7 +92,12 @@ fn close<K: Session, R: Wait>(
     rt: &R,
     passes: Vec<Pass>,
     viewings: Vec<Viewing>,
-) -> Result<Volume, ScriptFault> {
+) -> Result<Volume, ScriptFault>
+    requires some { 0 < length viewings.items }
+    requires book { (v : _) → (get_or viewings.items 0 v).viewer.book ≡ K.book }
+    ensures ok { IfOk result (λ volume. IsHandedOut K.opening volume passes.items) }
+    ensures err { IfErr result (λ fault. fault ≡ ScriptFault.Memory) }
+{
     let mut viewings = viewings;
     match shared.close(rt, passes, &mut viewings[0].viewer) {
         Ok(closed) => Ok(closed.volume),
@@ -117,19 +112,18 @@ fn run_shared<K: Session + Send + Sync, R: Threads + Wait + Sync>(
     parts: Parts,
     passes: Vec<Pass>,
     viewers: Vec<Viewer>,
-    calls: Calls,
+    script: Script,
 ) -> Result<Ran, ScriptFault>
     requires parts { (parts.book ≡ K.book) × (parts.opening ≡ K.opening) }
-    requires viewers { All (λ k. k.book ≡ K.book) viewers.items }
+    requires started { IsStart K.opening (workers script) (viewers script) parts passes.items viewers.items }
+    requires small { All (λ l. IsSmall l.caller) script }
+    ensures ok { IfOk result (λ ran. IsRan K.opening script ran.volume (string_bytes ran.text) ran.whole) }
+    ensures err { IfErr result (λ fault. fault ≡ ScriptFault.Memory) }
 {
-    let Calls {
-        lines,
-        workers,
-        viewers: own,
-    } = calls;
     let shared = parts.share::<K>();
-    let jobs = jobs_of(alloc, passes, workers)?;
-    let viewings = begin_viewing(alloc, viewers, own)?;
+    let lines = number_lines(alloc, script.lines())?;
+    let (jobs, rest) = jobs_of(alloc, passes, script)?;
+    let viewings = viewings_of(alloc, viewers, rest)?;
     let (dones, viewings) = run_beside(&shared, rt, alloc, jobs, viewings);
     let Ok(dones) = dones else {
         return Err(ScriptFault::Memory);
@@ -145,7 +139,11 @@ fn run_shared<K: Session + Send + Sync, R: Threads + Wait + Sync>(
 }
 
 // The volume of an image.
-fn mounted(alloc: Global, image: Vec<u8>) -> Result<Volume, ScriptFault> {
+fn mounted(alloc: Global, image: Vec<u8>) -> Result<Volume, ScriptFault>
+    ensures sound { OnOk result (IsSound image.items) }
+    ensures current { IfOk result (λ volume. volume.current ≡ image.items) }
+    ensures err { IfErr result (IsMountFault image.items) }
+{
     match mount(alloc, image) {
         Ok(volume) => Ok(volume),
         Err(refused) => Err(ScriptFault::of_mount(refused.fault)),
@@ -159,7 +157,12 @@ fn start<R: Wait>(
     volume: Volume,
     workers: u32,
     viewers: u32,
-) -> Result<(Parts, Vec<Pass>, Vec<Viewer>), ScriptFault> {
+) -> Result<(Parts, Vec<Pass>, Vec<Viewer>), ScriptFault>
+    requires workers { (0 < workers) × (workers ≤ 8) }
+    requires viewers { (0 < viewers) × (viewers ≤ 8) }
+    ensures ok { IfOk result (λ r. IsStart (volume_of volume.current) workers viewers r.0 r.1.items r.2.items) }
+    ensures err { IfErr result (λ fault. (fault ≡ ScriptFault.NoPlace) ⊎ (fault ≡ ScriptFault.Memory)) }
+{
     match Parts::start(rt, alloc, volume, workers, viewers) {
         Ok(started) => Ok(started),
         Err(failed) => match failed.why {
@@ -179,14 +182,15 @@ pub fn run_script<R: Threads + Wait + Sync>(
     image: Vec<u8>,
     script: &[u8],
     now: u32,
-) -> Result<Ran, ScriptFault> {
+) -> Result<Ran, ScriptFault>
+    ensures ok { IfOk result (λ ran. IsRun now script.now image.items ran.volume (string_bytes ran.text) ran.whole) }
+    ensures err { IfErr result (IsRunFault now script.now image.items) }
+{
     let script = match read_script(alloc, script, now) {
         Ok(script) => script,
         Err(fault) => return Err(ScriptFault::of_script(fault)),
     };
     let volume = mounted(alloc, image)?;
-    let (workers, viewers) = (script.workers(), script.viewers());
-    let calls = take_apart(alloc, script)?;
-    let (parts, passes, viewers) = start(rt, alloc, volume, workers, viewers)?;
-    run_shared::<Brand, _>(rt, alloc, parts, passes, viewers, calls)
+    let (parts, passes, viewers) = start(rt, alloc, volume, script.workers(), script.viewers())?;
+    run_shared::<Brand, _>(rt, alloc, parts, passes, viewers, script)
 }

@@ -1,0 +1,4 @@
+mod Reading
+mod Parts
+mod Small
+mod Texts

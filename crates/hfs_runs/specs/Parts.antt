@@ -1,1 +1,0 @@
--- The calls of each caller of a script.
