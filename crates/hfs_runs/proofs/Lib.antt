@@ -2,3 +2,4 @@ mod Reading
 mod Parts
 mod Small
 mod Texts
+mod Working

@@ -23,7 +23,7 @@ filter_apart p q apart [] = refl
 filter_apart p q apart (x ∷ xs) = apart_step p q apart x xs (filter_apart p q apart xs) (p x) (q x) refl refl
 
 calls_kept : (caller other : Caller) → Apart (λ (c : Caller). is_same c caller) (λ c. is_same c other) → (lines : List ScriptLine) → calls_of caller (lines_of_others other lines) ≡ calls_of caller lines
-unfolding calls_of, lines_of_others
+unfolding calls_of lines_of_others
 calls_kept caller other apart lines =
     ap (map (λ (line : ScriptLine). line.call)) (filter_apart (λ (line : ScriptLine). is_same line.caller caller) (λ line. is_same line.caller other) (λ line. apart line.caller) lines)
 

@@ -12,12 +12,12 @@ pub reads_more : (calls : List Call) (before : Known) (replies : List Reply) (se
     → AreReads calls before (replies ++ reply ∷ []) afterwards
 reads_more [] before replies seen call reply afterwards below at reads read = absurd (omega arith)
 reads_more (first ∷ calls) before [] seen call reply afterwards below at reads read = (
-    afterwards,
-    subst (λ (k : Known). Reads first k reply afterwards) reads (subst (λ (c : Call). Reads c seen reply afterwards) (sym (at first)) read),
-    refl,
-  )
+  afterwards,
+  subst (λ (k : Known). Reads first k reply afterwards) reads (subst (λ (c : Call). Reads c seen reply afterwards) (sym (at first)) read),
+  refl,
+)
 reads_more (first ∷ calls) before (one ∷ replies) seen call reply afterwards below at reads read = (
-    reads.0,
-    reads.1,
-    reads_more calls reads.0 replies seen call reply afterwards (omega arith) at reads.2 read,
-  )
+  reads.0,
+  reads.1,
+  reads_more calls reads.0 replies seen call reply afterwards (omega arith) at reads.2 read,
+)

@@ -97,7 +97,7 @@ script_ok true fault read lines h = absurd (cc h)
 script_ok false fault read lines h = fault_ok read lines h
 
 pub script_small : (now : ℕ) (bytes : List ℕ) (lines : List ScriptLine) → script_of now bytes ≡ Ok lines → All small_line lines
-unfolding script_of, lines_read
+unfolding script_of lines_read
 script_small now bytes lines h = pieces_small now (lines_of bytes) lines (script_ok (nat_lt 16777216 (length bytes)) _ _ lines h)
 
 -- ---- how many callers

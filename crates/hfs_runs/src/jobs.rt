@@ -10,6 +10,7 @@ use hfs_shared::{Pass, Viewer};
 use std::alloc::{AllocError, Global};
 
 /// Each worker's pass with its calls, and the script of the other lines. The passes are of workers 1, 2 and so on.
+#[tactic(auto, using(crate::proofs::Parts::workers_kept, crate::proofs::Parts::viewers_stay))]
 pub fn jobs_of(
     alloc: Global,
     passes: Vec<Pass>,
@@ -34,6 +35,7 @@ pub fn jobs_of(
 }
 
 /// Each viewer with its calls, and with no reply yet. The viewers are 1, 2 and so on.
+#[tactic(auto, using(crate::proofs::Parts::viewers_kept))]
 pub fn viewings_of(
     alloc: Global,
     viewers: Vec<Viewer>,

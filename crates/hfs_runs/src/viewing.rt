@@ -41,6 +41,7 @@ fn view_one(
 }
 
 // The replies to the calls of a viewer, up to the first that is not answered.
+#[tactic(auto, using(crate::proofs::Reading::reads_more))]
 fn view(alloc: Global, viewer: &mut Viewer, calls: &Vec<Call>) -> Vec<Reply>
     ensures { AreReads calls.now.items viewer.old result.items viewer.new }
 {

@@ -6,5 +6,5 @@ use Rattle.hfs_runs.proofs.answers.answers_text.Given as goal
 abbrev pub invariant-loop-asked : goal.invariant-loop-asked
 invariant-loop-asked l = record {
   text : string_bytes l.text ≡ answers_text (replies_of l.dones.items l.viewings.items) (take l.asked-index l.lines);
-  whole : l.whole ≡ is_whole (replies_of l.dones.items l.viewings.items) (take l.asked-index l.lines)
+  whole : l.whole ≡ is_whole (replies_of l.dones.items l.viewings.items) (take l.asked-index l.lines);
 }

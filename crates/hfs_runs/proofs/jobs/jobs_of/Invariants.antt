@@ -11,5 +11,5 @@ invariant-loop-pass l = record {
   passes : (i : ℕ) (j : _) (p : _) → i < l.number → (get_or l.jobs.items i j).0 ≡ get_or l.yielded i p;
   calls : (i : ℕ) (j : _) → i < l.number → (get_or l.jobs.items i j).1.items ≡ calls_of (Worker (i + 1)) l.initial.rest;
   workers : (n : ℕ) → l.number < n → calls_of (Worker n) l.rest ≡ calls_of (Worker n) l.initial.rest;
-  viewers : (n : ℕ) → calls_of (Viewer n) l.rest ≡ calls_of (Viewer n) l.initial.rest
+  viewers : (n : ℕ) → calls_of (Viewer n) l.rest ≡ calls_of (Viewer n) l.initial.rest;
 }

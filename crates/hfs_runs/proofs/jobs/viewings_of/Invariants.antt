@@ -10,5 +10,5 @@ invariant-loop-viewer l = record {
   many : length l.viewings.items ≡ l.number;
   seen : (i : ℕ) (w : _) (k : _) → i < l.number → (get_or l.viewings.items i w).viewer ≡ get_or l.yielded i k;
   calls : (i : ℕ) (w : _) → i < l.number → (get_or l.viewings.items i w).calls.items ≡ calls_of (Viewer (i + 1)) l.initial.rest;
-  viewers : (n : ℕ) → l.number < n → calls_of (Viewer n) l.rest ≡ calls_of (Viewer n) l.initial.rest
+  viewers : (n : ℕ) → l.number < n → calls_of (Viewer n) l.rest ≡ calls_of (Viewer n) l.initial.rest;
 }

@@ -9,5 +9,5 @@ abbrev pub invariant-loop-line : goal.invariant-loop-line
 invariant-loop-line l = record {
   numbered : AreNumbered (map (λ (line : ScriptLine). line.caller) (take l.line-index l.lines)) l.numbered.items;
   workers : (n : ℕ) → n ≤ 8 → slice_index l.workers n ≡ times (Worker n) (map (λ (line : ScriptLine). line.caller) (take l.line-index l.lines));
-  viewers : (n : ℕ) → n ≤ 8 → slice_index l.viewers n ≡ times (Viewer n) (map (λ (line : ScriptLine). line.caller) (take l.line-index l.lines))
+  viewers : (n : ℕ) → n ≤ 8 → slice_index l.viewers n ≡ times (Viewer n) (map (λ (line : ScriptLine). line.caller) (take l.line-index l.lines));
 }
