@@ -16,7 +16,7 @@ use Rattle.hfs_shared.specs.declared.desk.CallFault.{CallFault}
 use Rattle.logbook.specs.Pages.{Book}
 use Rattle.hfs_check.specs.VolumeOf.{volume_of}
 use Rattle.hfs_shared.specs.Desks.{DeskState, PassState, entry_of, IsApplied}
-use Rattle.hfs_shared.specs.Lockeds.{IsLocked, GathersOf}
+use Rattle.hfs_shared.specs.Lockeds.{IsLocked, GathersOf, ShowsOf}
 
 -- the pair's lists stay those of the journal while it grows
 pub locked_more : PublishedStays → (book : Book) (opening : Volume) (d e : DeskState) (p : PairState) (added shown : ℕ) (more : List Entry)
@@ -83,3 +83,18 @@ idle_gathers grows book opening d p q journal added shown gathered same i gather
     ∙ published_idle grows (volume_of d.base) d.journal shown gathered (omega (arith, i.order.0, low)) none
     ∙ sym i.shown_is
     ∙ sym gather.shown
+
+-- the pair after both steps
+pub locked_published : (book : Book) (opening : Volume) (d : DeskState) (p q r : PairState) (journal : List Entry) (added shown gathered result : ℕ)
+    → journal ≡ d.journal → IsLocked book opening d p added shown → GathersOf p journal added q gathered → ShowsOf q gathered shown r result
+    → gathered ≤ length journal → result ≤ gathered → IsLocked book opening d r gathered result
+locked_published book opening d p q r journal added shown gathered result same i gather show low below =
+    let all : q.all ≡ published (volume_of d.base) d.journal gathered =
+    gather.all (volume_of d.base) (i.all_is ∙ ap (λ (l : List Entry). published (volume_of d.base) l added) (sym same)) ∙ ap (λ (l : List Entry). published (volume_of d.base) l gathered) same in
+    record {
+      opening_is = i.opening_is;
+      book_is = show.book ∙ gather.book ∙ i.book_is;
+      all_is = show.all ∙ all;
+      shown_is = show.shows (volume_of d.base) d.journal all (gather.shown ∙ i.shown_is);
+      order = (below, subst (λ (l : List Entry). gathered ≤ length l) same low);
+    }

@@ -90,7 +90,7 @@ fn a_journal_has_all_calls(rt: HostRuntime) -> Result<(), Fail> {
     let closed = closed_one(&rt, rt.alloc())?;
     assert!(rt; closed.journal.len() == 20);
     assert!(rt; closed.shown == 20);
-    assert!(rt; has_ten(&closed.journal, 1) && has_ten(&closed.journal, 2));
+    assert!(rt; has_ten(closed.journal.as_slice(), 1) && has_ten(closed.journal.as_slice(), 2));
     Ok(())
 }
 

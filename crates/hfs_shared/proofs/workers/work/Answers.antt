@@ -1,8 +1,13 @@
-use Rattle.std.proofs.Common.{◌≡◌, ℕ, ◌<◌, List, [], ◌∷◌, length, get_or, false, Option, Some, None, refl, sym, ap, ◌∙◌, arith, length-append}
-use Rattle.std.specs.Prelude.{is_some, IfNone}
+use Rattle.std.proofs.Common.{◌≡◌, ℕ, ◌<◌, List, [], ◌∷◌, length, get_or, true, false, Option, Some, None, refl, sym, ap, ◌∙◌, subst, arith, length-append}
+use Rattle.std.specs.Prelude.{is_some, IfNone, OnSome}
 use Rattle.std.proofs.lemmas.List.{get_or_default}
 use Rattle.hfs_model.specs.declared.call.Call.{Call}
+use Rattle.hfs_model.specs.declared.reply.Reply.{Reply}
+use Rattle.hfs_published.specs.Tolds.{ToldState}
+use Rattle.hfs_shared.specs.Desks.{PassState}
+use Rattle.hfs_shared.specs.Works.{IsWork}
 use Rattle.hfs_shared.proofs.Working.{work_more}
+use Rattle.hfs_shared.proofs.workers.work.Goals.{else-loop-call-test, then-loop-call-test+then-is_some}
 use Rattle.hfs_shared.proofs.workers.work.Goals as goal
 
 none_of : {A : Type 0} (o : Option A) → is_some o ≡ false → o ≡ None
@@ -12,6 +17,14 @@ none_of (Some x) e = absurd (cc e)
 if_none : {A : Type 0} {P : Type 0} (o : Option A) → is_some o ≡ false → IfNone o P → P
 if_none None e h = h
 if_none (Some x) e h = absurd (cc e)
+
+on_some : {A : Type 0} {P : Type 0} (o : Option A) → is_some o ≡ true → OnSome o P → P
+on_some None e h = absurd (cc e)
+on_some (Some x) e h = h
+
+not_none : {A : Type 0} {P : Type 0} (o : Option A) → is_some o ≡ true → o ≡ None → P
+not_none None e h = absurd (cc e)
+not_none (Some x) e h = absurd (cc h)
 
 pub loop-call-preserved : goal.loop-call-preserved
 loop-call-preserved g c =
@@ -29,3 +42,24 @@ loop-call-preserved g c =
       ap length more.grown ∙ omega (arith, i.1, length-append c.loop-call.replies.items ((more.reply, more.told) ∷ [])),
       none_of c.one_more-fault.result none,
     )
+
+pub returns : goal.returns
+returns g c =
+    let i = c.loop-call.invariant in
+    let calls = c.args.calls.now.items in
+    let end = c.loop-call-test in
+    let Work : PassState → List (Reply × ToldState) → Type 0 = λ q replies. IsWork g.K.Session.book g.K.Session.opening c.args.done.now.pass calls q replies in
+    let work : Work end.done.pass end.replies.items =
+    elim end.branch as (λ _. Work end.done.pass end.replies.items) [
+      | else-loop-call-test w ↦
+        subst (λ (y : PassState × List (Reply × ToldState)). Work y.0 y.1) (λ j. (sym (ap (λ d. d.pass) w.done-is) j, sym (ap (λ v. v.items) w.replies-is) j)) i.0
+      | then-loop-call-test+then-is_some w ↦
+        (let same = on_some w.one_more-fault.result (sym w.if-is_some.ensures) w.one_more-fault.ensures.some in
+        subst (λ (y : PassState × List (Reply × ToldState)). Work y.0 y.1) (λ j. (sym (ap (λ d. d.pass) w.done-is ∙ same.1) j, sym (ap (λ v. v.items) w.replies-is ∙ same.0) j)) i.0)
+    ] in
+    let whole : end.fault ≡ None → length end.replies.items ≡ length calls =
+    elim end.branch as (λ _. end.fault ≡ None → length end.replies.items ≡ length calls) [
+      | else-loop-call-test w ↦ λ none. ap (λ v. length v.items) w.replies-is ∙ omega (arith, i.1, ap length c.deref-call-items.ensures.value)
+      | then-loop-call-test+then-is_some w ↦ λ none. not_none w.one_more-fault.result (sym w.if-is_some.ensures) (sym w.fault-is ∙ none)
+    ] in
+    record { work = work; whole = whole }

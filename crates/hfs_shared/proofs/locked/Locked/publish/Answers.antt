@@ -1,8 +1,8 @@
 use Rattle.std.proofs.Common.{List, length, drop, sym, ap, ◌∙◌, subst}
 use Rattle.hfs_model.specs.declared.journal.Entry.{Entry}
 use Rattle.hfs_published.specs.Journals.{NoneAccepted}
-use Rattle.hfs_shared.specs.Lockeds.{LockedState}
-use Rattle.hfs_shared.proofs.Showing.{none_later, idle_gathers}
+use Rattle.hfs_shared.specs.Lockeds.{LockedState, IsLocked}
+use Rattle.hfs_shared.proofs.Showing.{none_later, idle_gathers, locked_published}
 use Rattle.hfs_shared.proofs.locked.Locked.publish.Goals as goal
 
 pub returns-clause-idle : goal.returns-clause-idle
@@ -15,3 +15,18 @@ returns-clause-idle g c = λ (none : NoneAccepted (drop c.args.self.now.shown c.
     let same = idle_gathers c.published_grows.ensures g.K.Session.book g.K.Session.opening l.desk l.pair c.gather-self-inside.new.pair c.journal-journal.result.now l.added l.shown c.gather-self-inside.result
     entries c.self.invariant c.gather-self-inside.ensures.lists c.gather-self-inside.ensures.order.0 still in
     c.show-self-inside.ensures.idle same gathered ∙ ap (λ (es : List Entry). length es) entries ∙ ap (λ (s : LockedState). length s.journal) c.self.view_is
+
+kept : (g : goal.Over) (c : goal.After-told g) → IsLocked g.K.Session.book g.K.Session.opening c.self.inside.desk c.show-self-inside.new.pair c.gather-self-inside.result c.show-self-inside.result
+kept g c =
+    let l = c.self.inside in
+    let i = c.self.invariant in
+    let order = c.gather-self-inside.ensures.order in
+    locked_published g.K.Session.book g.K.Session.opening l.desk l.pair c.gather-self-inside.new.pair c.show-self-inside.new.pair c.journal-journal.result.now l.added l.shown c.gather-self-inside.result c.show-self-inside.result
+    c.journal-journal.ensures.entries i c.gather-self-inside.ensures.lists c.show-self-inside.ensures.lists order.1
+    (⊎_elim (λ t. omega (arith, t.0, t.1)) (λ e. omega (arith, e, i.order.0, order.0)) c.show-self-inside.ensures.shown)
+
+pub invariant_of-self : goal.invariant_of-self
+invariant_of-self g c = kept g c
+
+pub returns-clause-told : goal.returns-clause-told
+returns-clause-told g c = (let i = kept g c in c.told.ensures ∙ search rules)
