@@ -3,3 +3,4 @@ mod Parts
 mod Small
 mod Texts
 mod Working
+mod Counting
