@@ -65,20 +65,11 @@ fault_text (fault.CannotWrite file) = codes "cannot write " ++ file.now
 fault_text fault.OutputFailed = []
 fault_text fault.NoMemory = codes "out of memory"
 
--- what a fault of mounting an image means for the program
-abbrev pub fault_of_mount : MountFault → Fault
-fault_of_mount mount.TooLarge = fault.Refused mount.TooLarge
-fault_of_mount mount.Short = fault.Refused mount.Short
-fault_of_mount mount.NoMacDisk = fault.Refused mount.NoMacDisk
-fault_of_mount (mount.BadMdb test) = fault.Refused (mount.BadMdb test)
-fault_of_mount (mount.Check number place) = fault.Refused (mount.Check number place)
-fault_of_mount mount.Memory = fault.NoMemory
-
 -- what a fault of a script's run means for the program
 abbrev pub fault_of_run : ScriptFault → Fault
 fault_of_run run.TooLarge = fault.ScriptTooLarge
 fault_of_run (run.Line line) = fault.ScriptLine line
-fault_of_run (run.Refused why) = fault_of_mount why
+fault_of_run (run.Refused why) = fault.Refused why
 fault_of_run run.NoPlace = fault.NoPlace
 fault_of_run run.Memory = fault.NoMemory
 

@@ -165,7 +165,7 @@ impl Fault<'static> {
         match fault {
             ScriptFault::TooLarge => Fault::ScriptTooLarge,
             ScriptFault::Line(line) => Fault::ScriptLine(line),
-            ScriptFault::Refused(why) => Fault::of_mount(why),
+            ScriptFault::Refused(why) => Fault::Refused(why),
             ScriptFault::NoPlace => Fault::NoPlace,
             ScriptFault::Memory => Fault::NoMemory,
         }

@@ -138,7 +138,7 @@ After a fault its text is printed where the result would have been: test the sta
 fn command<'a>(alloc: Global) -> Result<Command<'a>, AllocError> {
     Command::new(alloc, "hfs_tool")
         .about(
-            "Reads and checks HFS volumes, mends their counts, and makes new ones. With no words: info on standard input",
+            "Reads and checks HFS volumes, runs scripts on them, mends their counts, and makes new ones. With no words: info on standard input",
         )
         .version(VERSION)
         .after_help(AFTER_HELP)
