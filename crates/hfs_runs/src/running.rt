@@ -76,7 +76,7 @@ fn run_beside<K: Session + Send + Sync, R: Threads + Wait + Sync>(
 
 // The passes of workers that have ended.
 fn passes_of(alloc: Global, dones: Vec<Done>) -> Result<Vec<Pass>, AllocError>
-    ensures { IfOk result (λ v. v.items ≡ map (λ (done : Done). done.pass) dones.items) }
+    ensures { IfOk result (λ v. v.items ≡ map (λ done. done.pass) dones.items) }
 {
     let mut passes = Vec::new(alloc);
     for done in dones {

@@ -1,4 +1,4 @@
-//! A program that reads and checks HFS volumes, mends their counts, and makes new ones.
+//! A program that reads and checks HFS volumes, runs scripts on them, mends their counts, and makes new ones.
 #![tactic(auto)]
 
 ghost use Rattle.std.specs.Prelude.{◌≡◌, ◌⊎◌};
