@@ -4,4 +4,4 @@ mod Small
 mod Texts
 mod Working
 mod Counting
-mod Running
+mod OneRun
