@@ -53,7 +53,7 @@ fn viewer_reply(viewings: &Vec<Viewing>, viewer: u32, at: usize) -> Option<&Repl
 // The lines of the answer to one call; where there is no reply, a line with the code `none`.
 #[tactic(auto, unfolding(crate::specs::Answers::answer_text))]
 fn answer_text(alloc: Global, asked: Asked, reply: Option<&Reply>) -> Result<String, AllocError>
-    ensures { IfOk result (λ text. string_bytes text ≡ answer_text asked (option_copied reply)) }
+    ensures { IfOk result (λ text. string_bytes text ≡ answer_text asked (option_copied reply.entry)) }
 {
     let who = who(alloc, asked.caller)?;
     match reply {

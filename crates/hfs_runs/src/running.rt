@@ -111,11 +111,11 @@ fn run_shared<K: Session + Send + Sync, R: Threads + Wait + Sync>(
     alloc: Global,
     parts: Parts,
     passes: Vec<Pass>,
-    viewers: Vec<Viewer>,
+    readers: Vec<Viewer>,
     script: Script,
 ) -> Result<Ran, ScriptFault>
     requires parts { (parts.book ≡ K.book) × (parts.opening ≡ K.opening) }
-    requires started { IsStart K.opening (workers script) (viewers script) parts passes.items viewers.items }
+    requires started { IsStart K.opening (workers script) (viewers script) parts passes.items readers.items }
     requires small { All (λ l. IsSmall l.caller) script }
     ensures ok { IfOk result (λ ran. IsRan K.opening script ran.volume (string_bytes ran.text) ran.whole) }
     ensures err { IfErr result (λ fault. fault ≡ ScriptFault.Memory) }
@@ -123,7 +123,7 @@ fn run_shared<K: Session + Send + Sync, R: Threads + Wait + Sync>(
     let shared = parts.share::<K>();
     let lines = number_lines(alloc, script.lines())?;
     let (jobs, rest) = jobs_of(alloc, passes, script)?;
-    let viewings = viewings_of(alloc, viewers, rest)?;
+    let viewings = viewings_of(alloc, readers, rest)?;
     let (dones, viewings) = run_beside(&shared, rt, alloc, jobs, viewings);
     let Ok(dones) = dones else {
         return Err(ScriptFault::Memory);
