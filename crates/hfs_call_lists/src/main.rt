@@ -20,7 +20,7 @@ use crate::list::{Lists, take_line};
 use anyhow::{Result, bail};
 use std::fs;
 
-/// The files, and what they are about.
+/// The files, in the order in which they are run.
 const FILES: [&str; 8] = [
     "reading.txt",
     "creating.txt",
