@@ -1,0 +1,7 @@
+mod Reading
+mod Parts
+mod Small
+mod Texts
+mod Working
+mod Counting
+mod OneRun
