@@ -5,3 +5,4 @@ mod Texts
 mod Working
 mod Counting
 mod OneRun
+mod Reasons

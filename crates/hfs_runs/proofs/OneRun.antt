@@ -1,13 +1,16 @@
 -- A run, out of what each of its steps gave.
-use Rattle.std.proofs.Common.{◌≡◌, ◌∙◌, ℕ, zero, suc, ◌+◌, ◌<◌, Bool, List, [], ◌∷◌, map, length, get_or, arith}
+use Rattle.std.proofs.Common.{◌≡◌, ◌∙◌, ℕ, zero, suc, ◌+◌, ◌<◌, Bool, List, [], ◌∷◌, map, length, get_or, subst, arith, Result, Ok}
 use Rattle.std.specs.List.{All}
 use Rattle.logbook.specs.Pages.{Book}
 use Rattle.hfs_model.specs.declared.call.Call.{Call}
 use Rattle.hfs_model.specs.Volume.{Volume}
+use Rattle.hfs_check.specs.Sound.{IsSound}
+use Rattle.hfs_check.specs.VolumeOf.{volume_of}
 use Rattle.hfs_volume.specs.Image.{ImageValue}
 use Rattle.hfs_scripts.specs.declared.lines.Caller.TheVariants.{Viewer}
 use Rattle.hfs_scripts.specs.declared.lines.ScriptLine.{ScriptLine}
 use Rattle.hfs_scripts.specs.Callers.{calls_of, workers, viewers}
+use Rattle.hfs_scripts.specs.Scripts.{script_of}
 use Rattle.hfs_published.specs.Histories.{Known, known, opened}
 use Rattle.hfs_shared.specs.declared.done.Done.{Done}
 use Rattle.hfs_shared.specs.Desks.{PassState}
@@ -15,7 +18,7 @@ use Rattle.hfs_runs.specs.declared.numbering.Asked.{Asked}
 use Rattle.hfs_runs.specs.declared.viewing.Viewing.{Viewing}
 use Rattle.hfs_runs.specs.Answers.{answers_text, is_whole, replies_of}
 use Rattle.hfs_runs.specs.Asking.{AreNumbered}
-use Rattle.hfs_runs.specs.Runs.{IsHandedOut, IsRan}
+use Rattle.hfs_runs.specs.Runs.{IsHandedOut, IsRan, IsRun}
 use Rattle.hfs_runs.proofs.Working.{AreJobs, AreDone, AreViewings, AreViewed, worked_at, made_at, viewed_at}
 
 all_at : {X : Type 0} (P : X → Type 0) (xs : List X) (i : ℕ) (d : X) → All P xs → i < length xs → P (get_or xs i d)
@@ -53,3 +56,8 @@ ran items book opening lines volume text whole asked passes jobs dones begun end
       worked = λ place below. worked_at items book opening lines (workers lines) passes jobs dones begins done place below;
       viewed = λ place below. viewed_at book opening lines (viewers lines) begun ended views viewed place below;
     }
+
+pub is_run : (now : ℕ) (script image : List ℕ) (lines : List ScriptLine) (opening : Volume) (volume : ImageValue) (text : List ℕ) (whole : Bool) → script_of now script ≡ Ok lines → IsSound image
+    → opening ≡ volume_of image → IsRan opening lines volume text whole → IsRun now script image volume text whole
+is_run now script image lines opening volume text whole reads sound same ran =
+    record { lines = lines; reads = reads; sound = sound; ran = subst (λ (v : Volume). IsRan v lines volume text whole) same ran }

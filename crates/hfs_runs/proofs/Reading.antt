@@ -1,5 +1,5 @@
 -- One reply more of a viewer.
-use Rattle.std.proofs.Common.{◌≡◌, ℕ, ◌<◌, ◌++◌, List, [], ◌∷◌, length, get_or, refl, sym, subst, arith}
+use Rattle.std.proofs.Common.{◌≡◌, ◌∙◌, ℕ, ◌<◌, ◌++◌, List, [], ◌∷◌, length, get_or, refl, sym, ap, subst, arith}
 use Rattle.hfs_model.specs.declared.call.Call.{Call}
 use Rattle.hfs_model.specs.declared.reply.Reply.{Reply}
 use Rattle.hfs_published.specs.Histories.{Known}
@@ -21,3 +21,9 @@ reads_more (first ∷ calls) before (one ∷ replies) seen call reply afterwards
   reads.1,
   reads_more calls reads.0 replies seen call reply afterwards (omega arith) at reads.2 read,
 )
+
+-- what was read last is of the history that was seen first
+pub reads_book : (calls : List Call) (before : Known) (replies : List Reply) (seen : Known) → AreReads calls before replies seen → seen.book ≡ before.book
+reads_book calls before [] seen reads = ap (λ (k : Known). k.book) reads
+reads_book [] before (reply ∷ replies) seen reads = absurd reads
+reads_book (call ∷ calls) before (reply ∷ replies) seen reads = reads_book calls reads.0 replies seen reads.2 ∙ reads.1.book

@@ -22,6 +22,7 @@ use Rattle.hfs_runs.specs.declared.viewing.Viewing.{Viewing}
 use Rattle.hfs_runs.specs.Answers.{worker_replies, viewer_replies}
 use Rattle.hfs_runs.specs.Runs.{IsWorked, IsViewedFrom}
 use Rattle.hfs_runs.specs.Views.{AreReads, IsViewed}
+use Rattle.hfs_runs.proofs.Reading.{reads_book}
 
 -- the workers' jobs, out of the script's lines and the first passes
 pub record AreJobs {V : Type 0} (items : V → List Call) (lines : List ScriptLine) (workers : ℕ) (passes : List PassState) (jobs : List (PassState × V)) : Type 0 where
@@ -136,3 +137,11 @@ viewed_at book opening lines viewers (v ∷ begun) (w ∷ ended) h view place be
           (subst (λ (before : Known). AreReads (get_or (v ∷ begun) place v).calls.items before replies seen) (h.seen place v below)
           (subst (λ (rs : List Reply). AreReads (get_or (v ∷ begun) place v).calls.items (get_or (v ∷ begun) place v).viewer rs seen) (sym is) one.reads)),
     )
+
+-- the first viewer is still of the history that it began with
+pub first_book : (book : Book) (opening : Volume) (lines : List ScriptLine) (viewers : ℕ) (begun ended : List Viewing) → AreViewings book opening lines viewers begun → AreViewed begun ended
+    → 0 < viewers → (w : Viewing) → (get_or ended 0 w).viewer.book ≡ book
+first_book book opening lines viewers [] ended h view some w = let no : ⊥ = omega (arith, h.many) in absurd no
+first_book book opening lines viewers (v ∷ begun) ended h view some w =
+    let one = view.each 0 v w (omega (arith, h.many)) in
+    reads_book v.calls.items v.viewer (get_or ended 0 w).replies.items (get_or ended 0 w).viewer one.reads ∙ ap (λ (k : Known). k.book) (h.seen 0 v some)

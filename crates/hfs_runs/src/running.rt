@@ -1,6 +1,6 @@
 //! A script that is run on an image.
 ghost use Rattle.std.specs.Prelude.{◌≡◌, ◌<◌, ◌≤◌, ◌⊎◌, ℕ, All, IfOk, IfErr, OnOk, get_or, length, map, string_bytes};
-ghost use denote.Param.Send.{IsSync};
+ghost use Rattle.std.specs.Thread.{IsSync};
 ghost use Rattle.hfs_check.specs.Sound.{IsSound};
 ghost use Rattle.hfs_check.specs.VolumeOf.{volume_of};
 ghost use Rattle.hfs_scripts.specs.Callers.{workers, viewers};
