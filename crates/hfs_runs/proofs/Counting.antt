@@ -1,11 +1,43 @@
 -- The counts of callers, line by line.
-use Rattle.std.proofs.Common.{◌≡◌, ◌≢◌, ◌∙◌, ℕ, ◌+◌, ◌<◌, ◌≤◌, ◌==◌, Bool, true, false, List, take, length, get_or, slice_index, refl, sym, ap, arith}
+use Rattle.std.proofs.Common.{◌≡◌, ◌≢◌, ◌∙◌, ℕ, zero, suc, ◌+◌, ◌<◌, ◌≤◌, ◌==◌, Bool, true, false, List, [], ◌∷◌, ◌++◌, take, length, get_or, slice_index, replicate, refl, sym, ap, subst, map, arith}
+use Rattle.std.proofs.lemmas.Bool.{eqb-true}
 use Rattle.std.proofs.lemmas.Bool.Decides.{nat_tests}
-use Rattle.std.proofs.lemmas.List.Sums.{count_by_more_yes, count_by_more_no}
+use Rattle.std.proofs.lemmas.List.{get_or_append_left, get_or_push, get_or-map}
+use Rattle.std.proofs.lemmas.List.Sums.{count_by_more_yes, count_by_more_no, count_by-le-length}
+use borrow.Author.Count.{below_more}
 use Rattle.hfs_scripts.specs.declared.lines.Caller.{Caller}
 use Rattle.hfs_scripts.specs.declared.lines.Caller.TheVariants.{Worker, Viewer}
+use Rattle.hfs_scripts.specs.declared.lines.ScriptLine.{ScriptLine}
 use Rattle.hfs_scripts.specs.Callers.{is_same}
-use Rattle.hfs_runs.specs.Asking.{times, IsRaised}
+use Rattle.hfs_runs.specs.declared.numbering.Asked.{Asked}
+use Rattle.hfs_runs.specs.Asking.{asked_at, times, counted, IsRaised, IsCounted}
+
+-- ---- one call more
+
+other_number : (m n : ℕ) → (m == n) ≡ false → n ≢ m
+other_number m n h = grind (arith, nat_tests)
+
+worker_others : (old new viewers : List ℕ) (number : ℕ) → IsRaised old number new → (other : Caller) → is_same (Worker number) other ≡ false → counted new viewers other ≡ counted old viewers other
+worker_others old new viewers number raised (Worker n) h = raised.others n (other_number number n h)
+worker_others old new viewers number raised (Viewer n) h = refl
+
+viewer_others : (old new workers : List ℕ) (number : ℕ) → IsRaised old number new → (other : Caller) → is_same (Viewer number) other ≡ false → counted workers new other ≡ counted workers old other
+viewer_others old new workers number raised (Worker n) h = refl
+viewer_others old new workers number raised (Viewer n) h = raised.others n (other_number number n h)
+
+pub worker_counted : (old new viewers : List ℕ) (number : ℕ) → IsRaised old number new → IsCounted old viewers (Worker number) new viewers
+worker_counted old new viewers number raised = record { here = raised.here; others = λ other h. worker_others old new viewers number raised other h }
+
+pub viewer_counted : (old new workers : List ℕ) (number : ℕ) → IsRaised old number new → IsCounted workers old (Viewer number) workers new
+viewer_counted old new workers number raised = record { here = raised.here; others = λ other h. viewer_others old new workers number raised other h }
+
+-- ---- the counts so far
+
+same_caller : (a b : Caller) → is_same a b ≡ true → a ≡ b
+same_caller (Worker m) (Worker n) h = ap Worker (eqb-true m n h)
+same_caller (Viewer m) (Viewer n) h = ap Viewer (eqb-true m n h)
+same_caller (Worker m) (Viewer n) h = absurd (cc h)
+same_caller (Viewer m) (Worker n) h = absurd (cc h)
 
 -- one more of this caller, or none
 times_one : (caller : Caller) (callers : List Caller) (i : ℕ) (none : Caller) → i < length callers → is_same (get_or callers i none) caller ≡ true
@@ -18,53 +50,52 @@ times_other : (caller : Caller) (callers : List Caller) (i : ℕ) (none : Caller
 unfolding times
 times_other caller callers i none below other = count_by_more_no (λ other. is_same other caller) callers i none below other
 
--- callers of one kind are told apart by their numbers
-record IsKind (make : ℕ → Caller) : Type 0 where
-  pub same : (n : ℕ) → is_same (make n) (make n) ≡ true
-  pub other : (m n : ℕ) → (n == m) ≡ false → is_same (make m) (make n) ≡ false
+pub times_within : (caller : Caller) (callers : List Caller) → times caller callers ≤ length callers
+unfolding times
+times_within caller callers = count_by-le-length (λ other. is_same other caller) callers
 
-same_number : (n : ℕ) → (n == n) ≡ true
-same_number n = grind (arith, nat_tests)
+zeros : (many n : ℕ) → slice_index (replicate many 0) n ≡ 0
+zeros zero n = refl
+zeros (suc many) zero = refl
+zeros (suc many) (suc n) = zeros many n
 
-other_number : (m n : ℕ) → (n == m) ≡ false → (m == n) ≡ false
-other_number m n h = grind (arith, nat_tests)
+pub none_counted : (c : Caller) → counted (replicate 9 0) (replicate 9 0) c ≡ times c []
+unfolding times
+none_counted (Worker n) = zeros 9 n
+none_counted (Viewer n) = zeros 9 n
 
-one_number : (m n : ℕ) → (n == m) ≡ true → n ≡ m
-one_number m n h = grind (arith, nat_tests)
+counted_either : (workers viewers new_workers new_viewers : List ℕ) (callers : List Caller) (i : ℕ) (none c : Caller) → i < length callers
+    → IsCounted workers viewers (get_or callers i none) new_workers new_viewers → counted workers viewers c ≡ times c (take i callers)
+    → (t : Bool) → is_same (get_or callers i none) c ≡ t → counted new_workers new_viewers c ≡ times c (take (i + 1) callers)
+counted_either workers viewers new_workers new_viewers callers i none c below more before true test =
+    let same : c ≡ get_or callers i none = sym (same_caller (get_or callers i none) c test) in
+    ap (counted new_workers new_viewers) same ∙ more.here ∙ ap (λ (d : Caller). counted workers viewers d + 1) (sym same) ∙ ap (λ (n : ℕ). n + 1) before
+    ∙ sym (times_one c callers i none below test)
+counted_either workers viewers new_workers new_viewers callers i none c below more before false test =
+    more.others c test ∙ before ∙ sym (times_other c callers i none below test)
 
-not_one : (m n : ℕ) → (n == m) ≡ false → n ≢ m
-not_one m n h = grind (arith, nat_tests)
+pub counted_more : (workers viewers new_workers new_viewers : List ℕ) (callers : List Caller) (i : ℕ) (none c : Caller) → i < length callers
+    → get_or callers i none ≡ none → IsCounted workers viewers none new_workers new_viewers → counted workers viewers c ≡ times c (take i callers)
+    → counted new_workers new_viewers c ≡ times c (take (i + 1) callers)
+counted_more workers viewers new_workers new_viewers callers i none c below here more before =
+    counted_either workers viewers new_workers new_viewers callers i none c below
+      (subst (λ (caller : Caller). IsCounted workers viewers caller new_workers new_viewers) (sym here) more) before (is_same (get_or callers i none) c) refl
 
-workers_kind : IsKind Worker
-workers_kind = record { same = λ n. same_number n; other = λ m n h. other_number m n h }
+-- ---- the lines so far
 
-viewers_kind : IsKind Viewer
-viewers_kind = record { same = λ n. same_number n; other = λ m n h. other_number m n h }
+pub caller_at : (lines : List ScriptLine) (i : ℕ) (line : ScriptLine) → i < length lines → line ≡ get_or lines i line
+    → (none : Caller) → get_or (map (λ (l : ScriptLine). l.caller) lines) i none ≡ line.caller
+caller_at lines i line below is none = get_or-map (λ (l : ScriptLine). l.caller) lines i line none below ∙ ap (λ (l : ScriptLine). l.caller) (sym is)
 
-raised_at : (make : ℕ → Caller) → IsKind make → (old new : List ℕ) (m n : ℕ) (callers : List Caller) (i : ℕ) (none : Caller) → i < length callers → get_or callers i none ≡ make m → IsRaised old m new
-    → slice_index old n ≡ times (make n) (take i callers) → (t : Bool) → (n == m) ≡ t → slice_index new n ≡ times (make n) (take (i + 1) callers)
-raised_at make kind old new m n callers i none below is raised before true test =
-    let one : n ≡ m = one_number m n test in
-    let here : is_same (get_or callers i none) (make n) ≡ true = ap (λ (c : Caller). is_same c (make n)) (is ∙ ap make (sym one)) ∙ kind.same n in
-    ap (λ (k : ℕ). slice_index new k) one ∙ raised.here ∙ ap (λ (k : ℕ). slice_index old k + 1) (sym one) ∙ ap (λ (k : ℕ). k + 1) before ∙ sym (times_one (make n) callers i none below here)
-raised_at make kind old new m n callers i none below is raised before false test =
-    let here : is_same (get_or callers i none) (make n) ≡ false = ap (λ (c : Caller). is_same c (make n)) is ∙ kind.other m n test in
-    raised.others n (not_one m n test) ∙ before ∙ sym (times_other (make n) callers i none below here)
-
-pub workers_raised : (old new : List ℕ) (m : ℕ) (callers : List Caller) (i : ℕ) (none : Caller) → i < length callers → get_or callers i none ≡ Worker m → IsRaised old m new
-    → ((n : ℕ) → n ≤ 8 → slice_index old n ≡ times (Worker n) (take i callers)) → (n : ℕ) → n ≤ 8 → slice_index new n ≡ times (Worker n) (take (i + 1) callers)
-workers_raised old new m callers i none below is raised before n small = raised_at Worker workers_kind old new m n callers i none below is raised (before n small) (n == m) refl
-
-pub viewers_raised : (old new : List ℕ) (m : ℕ) (callers : List Caller) (i : ℕ) (none : Caller) → i < length callers → get_or callers i none ≡ Viewer m → IsRaised old m new
-    → ((n : ℕ) → n ≤ 8 → slice_index old n ≡ times (Viewer n) (take i callers)) → (n : ℕ) → n ≤ 8 → slice_index new n ≡ times (Viewer n) (take (i + 1) callers)
-viewers_raised old new m callers i none below is raised before n small = raised_at Viewer viewers_kind old new m n callers i none below is raised (before n small) (n == m) refl
-
-pub workers_same : (counts : List ℕ) (m : ℕ) (callers : List Caller) (i : ℕ) (none : Caller) → i < length callers → get_or callers i none ≡ Viewer m
-    → ((n : ℕ) → n ≤ 8 → slice_index counts n ≡ times (Worker n) (take i callers)) → (n : ℕ) → n ≤ 8 → slice_index counts n ≡ times (Worker n) (take (i + 1) callers)
-workers_same counts m callers i none below is before n small =
-    before n small ∙ sym (times_other (Worker n) callers i none below (ap (λ (c : Caller). is_same c (Worker n)) is))
-
-pub viewers_same : (counts : List ℕ) (m : ℕ) (callers : List Caller) (i : ℕ) (none : Caller) → i < length callers → get_or callers i none ≡ Worker m
-    → ((n : ℕ) → n ≤ 8 → slice_index counts n ≡ times (Viewer n) (take i callers)) → (n : ℕ) → n ≤ 8 → slice_index counts n ≡ times (Viewer n) (take (i + 1) callers)
-viewers_same counts m callers i none below is before n small =
-    before n small ∙ sym (times_other (Viewer n) callers i none below (ap (λ (c : Caller). is_same c (Viewer n)) is))
+pub numbered_more : (callers : List Caller) (numbered : List Asked) (i : ℕ) (caller : Caller) (number : ℕ) → i < length callers → length numbered ≡ i
+    → ((none : Caller) → get_or callers i none ≡ caller) → number ≡ times caller (take i callers) + 1
+    → ((place : ℕ) (none : Caller) (nothing : Asked) → place < i → get_or numbered place nothing ≡ asked_at callers place (get_or callers place none))
+    → (place : ℕ) (none : Caller) (nothing : Asked) → place < i + 1
+    → get_or (numbered ++ record { caller = caller; number = number } ∷ []) place nothing ≡ asked_at callers place (get_or callers place none)
+numbered_more callers numbered i caller number below many here is before place none nothing within =
+    let asked : Asked = record { caller = caller; number = number } in
+    let same : asked ≡ asked_at callers i caller = λ j. record { caller = caller; number = is j } in
+    below_more (λ k. get_or (numbered ++ asked ∷ []) k nothing ≡ asked_at callers k (get_or callers k none)) i
+      (λ k less. get_or_append_left numbered (asked ∷ []) nothing k (omega arith) ∙ before k none nothing less)
+      (get_or_push numbered asked nothing i many ∙ same ∙ ap (asked_at callers i) (sym (here none)))
+      place within

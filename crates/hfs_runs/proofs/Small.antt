@@ -1,7 +1,8 @@
 -- The callers of a script have numbers of at most 8, so there are from one to eight workers, and as many viewers.
 use Rattle.std.proofs.Common.{◌≡◌, ℕ, ◌==◌, ◌≤◌, ◌<◌, ◌&&◌, nat_le, nat_lt, Bool, true, false, List, [], ◌∷◌, map, length, Option, Some, None, Result, Ok, Err, refl, sym, subst, arith, if◌then◌else◌}
 use Rattle.std.specs.Prelude.{max}
-use Rattle.std.specs.List.{All, fold}
+use Rattle.std.specs.List.{All, AllByRecursion, fold}
+use Rattle.std.proofs.lemmas.List.Elements.{All-from_recursion, recursion_from_All}
 use Rattle.std.proofs.lemmas.Bool.Decides.{nat_tests}
 use Rattle.std.specs.Option.{option_map}
 use Rattle.hfs_scripts.specs.declared.lines.Caller.{Caller}
@@ -74,18 +75,18 @@ line_small now bytes line h = fields_small now (fields_of bytes) line h
 abbrev pub small_line : ScriptLine → Type 0
 small_line line = IsSmall line.caller
 
-before_small : (line : ScriptLine) (more : Result (List ScriptLine) ℕ) (lines : List ScriptLine) → small_line line → ((others : List ScriptLine) → more ≡ Ok others → All small_line others)
-    → before_lines line more ≡ Ok lines → All small_line lines
-before_small line (Ok others) lines small all h = let same : line ∷ others ≡ lines = cc in subst (All small_line) same (small, all others refl)
+before_small : (line : ScriptLine) (more : Result (List ScriptLine) ℕ) (lines : List ScriptLine) → small_line line → ((others : List ScriptLine) → more ≡ Ok others → AllByRecursion small_line others)
+    → before_lines line more ≡ Ok lines → AllByRecursion small_line lines
+before_small line (Ok others) lines small all h = let same : line ∷ others ≡ lines = cc in subst (AllByRecursion small_line) same (small, all others refl)
 before_small line (Err place) lines small all h = absurd (cc h)
 
 read_small : (now : ℕ) (piece : List ℕ) (first : Option ScriptLine) (more : List (Option ScriptLine)) (lines : List ScriptLine) → line_of now piece ≡ first
-    → ((others : List ScriptLine) → all_read more ≡ Ok others → All small_line others) → all_read (first ∷ more) ≡ Ok lines → All small_line lines
+    → ((others : List ScriptLine) → all_read more ≡ Ok others → AllByRecursion small_line others) → all_read (first ∷ more) ≡ Ok lines → AllByRecursion small_line lines
 read_small now piece (Some line) more lines is all h = before_small line (all_read more) lines (line_small now piece line is) all h
 read_small now piece None more lines is all h = absurd (cc h)
 
-pieces_small : (now : ℕ) (pieces : List (List ℕ)) (lines : List ScriptLine) → all_read (map (line_of now) pieces) ≡ Ok lines → All small_line lines
-pieces_small now [] lines h = let same : [] ≡ lines = cc in subst (All small_line) same tt
+pieces_small : (now : ℕ) (pieces : List (List ℕ)) (lines : List ScriptLine) → all_read (map (line_of now) pieces) ≡ Ok lines → AllByRecursion small_line lines
+pieces_small now [] lines h = let same : [] ≡ lines = cc in subst (AllByRecursion small_line) same tt
 pieces_small now (piece ∷ pieces) lines h = read_small now piece (line_of now piece) (map (line_of now) pieces) lines refl (pieces_small now pieces) h
 
 fault_ok : (read : Result (List ScriptLine) ℕ) (lines : List ScriptLine) → fault_at read ≡ Ok lines → read ≡ Ok lines
@@ -98,7 +99,8 @@ script_ok false fault read lines h = fault_ok read lines h
 
 pub script_small : (now : ℕ) (bytes : List ℕ) (lines : List ScriptLine) → script_of now bytes ≡ Ok lines → All small_line lines
 unfolding script_of lines_read
-script_small now bytes lines h = pieces_small now (lines_of bytes) lines (script_ok (nat_lt 16777216 (length bytes)) _ _ lines h)
+script_small now bytes lines h =
+    All-from_recursion small_line lines (pieces_small now (lines_of bytes) lines (script_ok (nat_lt 16777216 (length bytes)) _ _ lines h))
 
 -- ---- how many callers
 
@@ -113,7 +115,7 @@ viewer_at_most (Viewer n) small = small
 max_within : (a b : ℕ) → 1 ≤ a → a ≤ 8 → b ≤ 8 → (1 ≤ max a b) × (max a b ≤ 8)
 max_within a b one most other = (omega arith, omega arith)
 
-fold_within : (f : Caller → ℕ) → ((c : Caller) → IsSmall c → f c ≤ 8) → (lines : List ScriptLine) (most : ℕ) → All small_line lines → 1 ≤ most → most ≤ 8
+fold_within : (f : Caller → ℕ) → ((c : Caller) → IsSmall c → f c ≤ 8) → (lines : List ScriptLine) (most : ℕ) → AllByRecursion small_line lines → 1 ≤ most → most ≤ 8
     → (1 ≤ fold (λ m line. max m (f line.caller)) most lines) × (fold (λ m line. max m (f line.caller)) most lines ≤ 8)
 fold_within f small [] most all one eight = (one, eight)
 fold_within f small (line ∷ lines) most all one eight =
@@ -122,8 +124,8 @@ fold_within f small (line ∷ lines) most all one eight =
 
 pub workers_within : (lines : List ScriptLine) → All small_line lines → (0 < workers lines) × (workers lines ≤ 8)
 unfolding workers
-workers_within lines all = fold_within worker_number worker_at_most lines 1 all (omega arith) (omega arith)
+workers_within lines all = fold_within worker_number worker_at_most lines 1 (recursion_from_All small_line lines all) (omega arith) (omega arith)
 
 pub viewers_within : (lines : List ScriptLine) → All small_line lines → (0 < viewers lines) × (viewers lines ≤ 8)
 unfolding viewers
-viewers_within lines all = fold_within viewer_number viewer_at_most lines 1 all (omega arith) (omega arith)
+viewers_within lines all = fold_within viewer_number viewer_at_most lines 1 (recursion_from_All small_line lines all) (omega arith) (omega arith)

@@ -37,8 +37,12 @@ fn reply_to<'a>(dones: &'a Vec<Done>, viewings: &'a Vec<Viewing>, asked: Asked) 
 fn worker_reply(dones: &Vec<Done>, worker: u32, at: usize) -> Option<&Reply>
     ensures { option_copied result ≡ slice_get (worker_replies dones.now.items worker) at }
 {
-    let done = dones.get(worker.saturating_sub(1) as usize)?;
-    let (reply, _told) = done.replies.get(at)?;
+    let Some(done) = dones.get(worker.saturating_sub(1) as usize) else {
+        return None;
+    };
+    let Some((reply, _told)) = done.replies.get(at) else {
+        return None;
+    };
     Some(reply)
 }
 
@@ -46,7 +50,9 @@ fn worker_reply(dones: &Vec<Done>, worker: u32, at: usize) -> Option<&Reply>
 fn viewer_reply(viewings: &Vec<Viewing>, viewer: u32, at: usize) -> Option<&Reply>
     ensures { option_copied result ≡ slice_get (viewer_replies viewings.now.items viewer) at }
 {
-    let viewing = viewings.get(viewer.saturating_sub(1) as usize)?;
+    let Some(viewing) = viewings.get(viewer.saturating_sub(1) as usize) else {
+        return None;
+    };
     viewing.replies.get(at)
 }
 

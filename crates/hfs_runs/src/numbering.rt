@@ -1,6 +1,6 @@
 //! The numbers of a script's calls, each among its caller's own.
 ghost use Rattle.std.specs.Prelude.{◌≡◌, ◌+◌, ◌<◌, ◌≤◌, ◌^◌, All, IfOk, map, slice_index};
-ghost use Rattle.hfs_runs.specs.Asking.{AreNumbered, IsRaised, IsSmall};
+ghost use Rattle.hfs_runs.specs.Asking.{AreNumbered, IsCounted, IsRaised, IsSmall, counted};
 
 use hfs_scripts::{Caller, ScriptLine};
 use std::alloc::{AllocError, Global};
@@ -21,10 +21,7 @@ pub fn number_lines(alloc: Global, lines: &[ScriptLine]) -> Result<Vec<Asked>, A
     let mut viewers = [0u64; 9];
     let mut numbered = Vec::new(alloc);
     for line in lines {
-        let number = match line.caller {
-            Caller::Worker(number) => one_more(&mut workers, number),
-            Caller::Viewer(number) => one_more(&mut viewers, number),
-        };
+        let number = count_call(&mut workers, &mut viewers, line.caller);
         numbered.push(Asked {
             caller: line.caller,
             number,
@@ -34,12 +31,26 @@ pub fn number_lines(alloc: Global, lines: &[ScriptLine]) -> Result<Vec<Asked>, A
 }
 
 // Counts one call more of a caller, and answers how many there are.
-fn one_more(counts: &mut [u64; 9], number: u32) -> u64
-    requires number { number ≤ 8 }
-    requires room { slice_index counts.old number < 2 ^ 63 }
-    ensures count { result ≡ slice_index counts.old number + 1 }
-    ensures counts { IsRaised counts.old number counts.new }
+#[tactic(auto, using(crate::proofs::Counting::worker_counted, crate::proofs::Counting::viewer_counted))]
+fn count_call(workers: &mut [u64; 9], viewers: &mut [u64; 9], caller: Caller) -> u64
+    requires small { IsSmall caller }
+    requires room { counted workers.old viewers.old caller < 2 ^ 63 }
+    ensures number { result ≡ counted workers.old viewers.old caller + 1 }
+    ensures counts { IsCounted workers.old viewers.old caller workers.new viewers.new }
 {
-    counts[number as usize] += 1;
-    counts[number as usize]
+    match caller {
+        Caller::Worker(number) => one_more(workers, number),
+        Caller::Viewer(number) => one_more(viewers, number),
+    }
+}
+
+// Adds one to the count at that place, and answers it.
+fn one_more(counts: &mut [u64; 9], place: u32) -> u64
+    requires place { place ≤ 8 }
+    requires room { slice_index counts.old place < 2 ^ 63 }
+    ensures count { result ≡ slice_index counts.old place + 1 }
+    ensures counts { IsRaised counts.old place counts.new }
+{
+    counts[place as usize] += 1;
+    counts[place as usize]
 }
