@@ -9,7 +9,6 @@ use Rattle.hfs_scripts.specs.declared.lines.Caller.{Caller}
 use Rattle.hfs_scripts.specs.declared.lines.Caller.TheVariants.{Worker, Viewer}
 use Rattle.hfs_scripts.specs.declared.lines.ScriptLine.{ScriptLine}
 use Rattle.hfs_scripts.specs.declared.fault.ScriptFault.{ScriptFault}
-use Rattle.hfs_scripts.specs.declared.words.Word.{Word}
 use Rattle.hfs_model.specs.declared.call.Call.{Call}
 use Rattle.hfs_scripts.specs.Options.{◌>>=◌}
 use Rattle.hfs_scripts.specs.Numbers.{number_of}
