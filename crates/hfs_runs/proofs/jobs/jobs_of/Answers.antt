@@ -1,7 +1,9 @@
-use Rattle.std.proofs.Common.{◌≡◌, ◌∙◌, ◌+◌, ◌<◌, ◌≤◌, ℕ, length, get_or, List, [], ◌∷◌, ◌++◌, refl, sym, ap, subst, arith, length-append}
+use Rattle.std.proofs.Common.{◌≡◌, ◌∙◌, ◌+◌, ◌<◌, ◌≤◌, ℕ, length, get_or, List, [], ◌∷◌, ◌++◌, refl, sym, ap, subst, arith, length-append, Vec, Global}
 use Rattle.std.proofs.lemmas.List.{get_or_append_left, get_or_push, append_assoc}
 use Rattle.std.specs.Vec.Iter.{into_iter_items}
 use borrow.Author.Count.{below_more}
+use Rattle.hfs_model.specs.declared.call.Call.{Call}
+use Rattle.hfs_shared.specs.declared.pass.Pass.{Pass}
 use Rattle.hfs_scripts.specs.Callers.{calls_of}
 use Rattle.hfs_scripts.specs.declared.lines.Caller.TheVariants.{Worker, Viewer}
 use Rattle.hfs_runs.proofs.Parts.{workers_kept, viewers_stay}
@@ -16,7 +18,7 @@ loop-pass-preserved c =
     let pass = c.in-Some.pass in
     let jobs = c.loop-pass.jobs.items in
     let items = c.in_ok-push.ensures.items in
-    let job = (pass, c.in_ok-own.own) in
+    let job : Pass × Vec Call Global = (pass, c.in_ok-own.own) in
     let own = c.in_ok-own.ensures in
     record {
       all = i.all ∙ ap (λ l. yielded ++ l) steps.0 ∙ sym (append_assoc yielded (pass ∷ []) (into_iter_items c.next.new.self));
