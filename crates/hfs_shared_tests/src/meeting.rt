@@ -13,7 +13,7 @@ use std::thread;
 use std::thread::Threads;
 
 /// Waits until there are so many, for at most 100,000 turns, and answers whether there are.
-fn waits_for(count: &AtomicU64, wanted: u64) -> bool {
+pub fn waits_for(count: &AtomicU64, wanted: u64) -> bool {
     for _turn in 0..100_000 {
         if count.load(Ordering::SeqCst) >= wanted {
             return true;
@@ -78,7 +78,7 @@ fn two_calls(alloc: Global, first: &[u8], second: &[u8]) -> Result<Vec<Call>, Al
 }
 
 /// A job of two calls for each pass.
-fn jobs_of(alloc: Global, passes: Vec<Pass>) -> Result<Vec<(Pass, Vec<Call>)>, AllocError> {
+pub fn jobs_of(alloc: Global, passes: Vec<Pass>) -> Result<Vec<(Pass, Vec<Call>)>, AllocError> {
     let mut jobs = Vec::new(alloc);
     for pass in passes {
         let calls = two_calls(alloc, b"a", b"b")?;
@@ -88,7 +88,7 @@ fn jobs_of(alloc: Global, passes: Vec<Pass>) -> Result<Vec<(Pass, Vec<Call>)>, A
 }
 
 /// How many replies there are, and how many faults.
-fn counted(dones: &Vec<Done>) -> (usize, usize) {
+pub fn counted(dones: &Vec<Done>) -> (usize, usize) {
     let mut replies = 0_usize;
     let mut faults = 0_usize;
     for done in dones {
