@@ -7,6 +7,8 @@ use hfs_fixtures::{SmallVolume, small_image};
 use hfs_volume::{Image, SaveFault};
 use hfs_volume_fixtures::{LimitedWriter, mounted};
 use std::alloc::{AllocError, Global};
+use std::io;
+use std::io::Write;
 use std::test::Fail;
 
 /// Bytes whose blocks all differ: byte `k` is `k` mod 251.
@@ -162,5 +164,46 @@ fn a_mounted_volume_is_saved_as_it_was(rt: HostRuntime) -> Result<(), Fail> {
     let mut writer = LimitedWriter::new(rt.alloc(), 100_000);
     assert!(rt; volume.save(&mut writer).is_ok());
     assert_eq!(rt; writer.taken.as_slice(), given.as_slice());
+    Ok(())
+}
+
+/// Takes a byte at a time, and none after some.
+#[derive(Drop)]
+struct StoppingWriter {
+    taken: usize,
+    left: usize,
+}
+
+impl Write for StoppingWriter {
+    fn write(&mut self, bytes: &[u8]) -> io::Result<usize> {
+        let count = bytes.len().min(self.left).min(1);
+        self.taken = self.taken.saturating_add(count);
+        self.left -= count;
+        Ok(count)
+    }
+
+    fn flush(&mut self) -> io::Result<()> {
+        Ok(())
+    }
+}
+
+/// Whether a writer that takes no more after so many bytes got exactly these, and so many are told.
+fn is_stopped(image: &Image, left: usize) -> bool {
+    let mut writer = StoppingWriter { taken: 0, left };
+    match image.save(&mut writer) {
+        Ok(()) => false,
+        Err(fault) => fault.written == left as u64 && writer.taken == left,
+    }
+}
+
+#[test]
+fn a_writer_that_takes_no_more_is_left(rt: HostRuntime) -> Result<(), Fail> {
+    let mut image = pattern_image(rt.alloc(), 2660)?;
+    if image.count() == 5 {
+        commit_three(rt.alloc(), &mut image, [7, 8, 9])?;
+    }
+    for left in 0..2660 {
+        assert!(rt; is_stopped(&image, left), "after {left}");
+    }
     Ok(())
 }
