@@ -3,7 +3,7 @@ use crate::devices::{EndlessReader, FailingReader, SlowReader};
 use crate::headers;
 use crate::info::head_of_sample;
 use hfs_commands::{Fault, LoadFault, load, load_file, load_within, run_info, write_file};
-use std::alloc::Global;
+use std::alloc::{AllocError, Global};
 use std::fs::{File, remove_file};
 use std::io::Read;
 use std::test::Fail;
@@ -52,41 +52,37 @@ fn inputs_that_never_end_are_left(rt: HostRuntime) {
     }
 }
 
-/// Whether these bytes, given one at a time, are loaded within a limit.
-fn is_loaded(alloc: Global, bytes: &[u8], limit: u64) -> bool {
-    let mut reader = SlowReader { left: bytes };
+/// Whether so many bytes, given one at a time, are loaded within a limit.
+fn is_loaded(alloc: Global, count: usize, limit: u64) -> Result<bool, AllocError> {
+    let bytes = vec![in alloc; 7u8; count]?;
+    let mut reader = SlowReader {
+        left: bytes.as_slice(),
+    };
     match loaded_within(alloc, &mut reader, limit) {
-        Ok(loaded) => loaded.as_slice() == bytes,
-        Err(_fault) => false,
+        Ok(loaded) => Ok(loaded.as_slice() == bytes.as_slice()),
+        Err(_fault) => Ok(false),
     }
 }
 
-/// Whether these bytes, given one at a time, are too many.
-fn is_too_large(alloc: Global, bytes: &[u8], limit: u64) -> bool {
-    let mut reader = SlowReader { left: bytes };
+/// Whether so many bytes, given one at a time, are too many.
+fn is_too_large(alloc: Global, count: usize, limit: u64) -> Result<bool, AllocError> {
+    let bytes = vec![in alloc; 7u8; count]?;
+    let mut reader = SlowReader {
+        left: bytes.as_slice(),
+    };
     let loaded = loaded_within(alloc, &mut reader, limit);
-    matches!(loaded, Err(LoadFault::TooLarge))
+    Ok(matches!(loaded, Err(LoadFault::TooLarge)))
 }
 
 #[test]
 fn inputs_at_the_limit_are_loaded(rt: HostRuntime) -> Result<(), Fail> {
-    let bytes = vec![in rt.alloc(); 7u8; 70_000usize]?;
-    for (count, limit) in [
-        (0usize, 0u64),
-        (1, 1),
-        (4_096, 4_096),
-        (65_536, 65_536),
-        (70_000, 70_000),
-    ] {
-        assert!(rt; is_loaded(rt.alloc(), &bytes[..count], limit), "{count}");
+    for count in [0usize, 1, 4_096, 65_536, 70_000] {
+        let limit = count as u64;
+        assert!(rt; is_loaded(rt.alloc(), count, limit)?, "{count}");
     }
-    for (count, limit) in [
-        (1usize, 0u64),
-        (4_097, 4_096),
-        (65_537, 65_536),
-        (70_000, 69_999),
-    ] {
-        assert!(rt; is_too_large(rt.alloc(), &bytes[..count], limit), "{count}");
+    for limit in [0u64, 4_096, 65_536, 69_999] {
+        let count = (limit as usize).saturating_add(1);
+        assert!(rt; is_too_large(rt.alloc(), count, limit)?, "at {limit}");
     }
     Ok(())
 }

@@ -1,5 +1,5 @@
 //! Hostile volumes: small ones with each byte of what describes them in turn set to other values, or cut to each length; trees as deep as
-//! may be, with index keys that are lower than they need be at each level; a file in 60,000 extents. Mounting always returns, and where it
+//! may be, with index keys that are lower than they need be at each level; a ring of folders; a file in 60,000 extents. Mounting always returns, and where it
 //! takes the volume every call returns, and what is saved then is mounted again.
 #![tactic(auto)]
 
@@ -9,6 +9,7 @@ mod extents;
 mod images;
 mod lengths;
 mod lowered;
+mod ring;
 mod serving;
 
 use crate::images::Hostile;
@@ -24,6 +25,8 @@ fn main(rt: HostRuntime) -> Result<()> {
     println!(rt; "a volume cut to each length")?;
     deep::grow(alloc)?;
     println!(rt; "a catalog of 16 levels")?;
+    ring::refuse(alloc)?;
+    println!(rt; "a ring of nine folders")?;
     lowered::edit(alloc)?;
     println!(rt; "a catalog with lower index keys at each level")?;
     extents::read_and_drop(alloc)?;
