@@ -66,13 +66,16 @@ pub struct SlowReader<'a> {
 
 impl Read for SlowReader<'_> {
     fn read(&mut self, buffer: &mut [u8]) -> io::Result<usize> {
-        match (buffer.first_mut(), self.left.split_first()) {
-            (Some(place), Some((byte, behind))) => {
+        let Some((byte, behind)) = self.left.split_first() else {
+            return Ok(0);
+        };
+        match buffer.first_mut() {
+            Some(place) => {
                 *place = *byte;
                 self.left = behind;
                 Ok(1)
             }
-            _ => Ok(0),
+            None => Ok(0),
         }
     }
 }

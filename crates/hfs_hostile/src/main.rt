@@ -1,6 +1,6 @@
-//! Hostile volumes: small ones with each byte of what describes them in turn set to other values, or cut to each length; trees as deep as
-//! may be, with index keys that are lower than they need be at each level; a ring of folders; a file in 60,000 extents. Mounting always returns, and where it
-//! takes the volume every call returns, and what is saved then is mounted again.
+//! Hostile volumes: small ones with each byte of what describes them in turn set to other values, or cut to each length; trees as deep
+//! as may be, with index keys that are lower than they need be at each level; a ring of folders; a file in 60,000 extents. Mounting
+//! always returns, and where it takes the volume every call returns, and what is saved then is mounted again.
 #![tactic(auto)]
 
 mod bytes;

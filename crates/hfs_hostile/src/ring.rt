@@ -14,13 +14,32 @@ const ROOT: usize = 17;
 
 /// Lays the leaf of a folder: its thread, and the folder that stands in it.
 fn lay_leaf(image: &mut [u8], folder: u8) -> Result<()> {
-    let block = CATALOG.saturating_add(usize::from(folder)).saturating_add(2);
+    let block = CATALOG
+        .saturating_add(usize::from(folder))
+        .saturating_add(2);
     let id = folder.saturating_add(16);
-    let parent = if folder == 0 { 24 } else { folder.saturating_add(15) };
-    let child = if folder == 8 { 16 } else { folder.saturating_add(17) };
-    let behind = if folder == 8 { 0 } else { folder.saturating_add(3) };
+    let parent = if folder == 0 {
+        24
+    } else {
+        folder.saturating_add(15)
+    };
+    let child = if folder == 8 {
+        16
+    } else {
+        folder.saturating_add(17)
+    };
+    let behind = if folder == 8 {
+        0
+    } else {
+        folder.saturating_add(3)
+    };
     let before = folder.saturating_add(1);
-    lay(image, block, 0, &[0, 0, 0, behind, 0, 0, 0, before, 0xff, 1, 0, 2])?;
+    lay(
+        image,
+        block,
+        0,
+        &[0, 0, 0, behind, 0, 0, 0, before, 0xff, 1, 0, 2],
+    )?;
     lay(image, block, 14, &[6, 0, 0, 0, 0, id, 0, 0, 3])?;
     lay(image, block, 32, &[0, 0, 0, parent, 1, b'x'])?;
     lay(image, block, 68, &[7, 0, 0, 0, 0, id, 1, b'x', 1])?;
@@ -43,7 +62,12 @@ fn lay_root(image: &mut [u8]) -> Result<()> {
     for place in 0..FOLDERS.saturating_add(1) {
         let at = lay_offset(image, place)?;
         lay(image, ROOT, at, &[37, 0, 0, 0, 0, place.saturating_add(15)])?;
-        lay(image, ROOT, at.saturating_add(38), &[0, 0, 0, place.saturating_add(1)])?;
+        lay(
+            image,
+            ROOT,
+            at.saturating_add(38),
+            &[0, 0, 0, place.saturating_add(1)],
+        )?;
     }
     let _free = lay_offset(image, FOLDERS.saturating_add(1))?;
     lay(image, ROOT, 8, &[0, 2, 0, 10])?;
