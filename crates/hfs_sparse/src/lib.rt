@@ -1,0 +1,14 @@
+//! Images of which only some blocks are read, each when it is wanted, with zeros in place of the others.
+#![tactic(auto)]
+
+mod bytes;
+mod fetching;
+mod seeking;
+mod source;
+mod zeros;
+
+pub use crate::bytes::ByteSource;
+pub use crate::fetching::{SparseFault, fetch, fetch_range, fetch_runs};
+pub use crate::seeking::SeekSource;
+pub use crate::source::BlockSource;
+pub use crate::zeros::ZeroBlocks;

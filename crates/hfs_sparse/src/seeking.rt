@@ -1,0 +1,21 @@
+//! Blocks of what can be sought in, as files can.
+ghost use Rattle.std.specs.Prelude.{None};
+
+use crate::source::BlockSource;
+use std::io;
+use std::io::{Read, Seek, SeekFrom};
+
+/// A reader that can go to any place, as a file can. Its bytes are not known before they are read.
+pub struct SeekSource<R> {
+    /// The reader.
+    pub reader: R,
+}
+
+impl<R: Read + Seek> BlockSource for SeekSource<R> {
+    ghost image = { λ _. None };
+
+    fn read_block(&mut self, n: u32, into: &mut [u8; 512]) -> io::Result<()> {
+        self.reader.seek(SeekFrom::Start(u64::from(n) * 512))?;
+        self.reader.read_exact(into)
+    }
+}
