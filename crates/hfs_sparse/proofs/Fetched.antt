@@ -1,5 +1,5 @@
 -- What one more block that was read makes of those that were read before.
-use Rattle.std.proofs.Common.{◌≡◌, ℕ, zero, suc, ◌+◌, ◌<◌, ◌≤◌, Bool, true, false, cond, List, [], ◌∷◌, ◌++◌, length, take, Option, Some, None, IsSome, nat_eq, eqb-true, get_or, refl, sym, ap, ◌∙◌, subst, arith, true≢false, rules, ⊎_elim}
+use Rattle.std.proofs.Common.{◌≡◌, ℕ, zero, suc, ◌+◌, ◌<◌, Bool, true, false, cond, List, [], ◌∷◌, length, Option, Some, None, IsSome, nat_eq, eqb-true, get_or, refl, sym, ap, ◌∙◌, subst, arith, true≢false, rules, ⊎_elim}
 use Rattle.std.specs.Prelude.{IfSome}
 use Rattle.std.proofs.lemmas.Bool.{cases_eq}
 use Rattle.std.specs.List.{flat_map, range_with_len}
@@ -72,6 +72,11 @@ each-runs P (run ∷ runs) none f =
 
 -- ---- one more
 
+any-default : (runs : List Run) (i : ℕ) (a b : Run) → i < length runs → get_or runs i a ≡ get_or runs i b
+any-default [] i a b lt = absurd (omega (arith, lt))
+any-default (run ∷ runs) zero a b lt = refl
+any-default (run ∷ runs) (suc i) a b lt = any-default runs i a b (omega (arith, lt))
+
 module _ (old new : Numbered) (grown : HasGrown old new) where
   below : (i j : ℕ) → i < j + 1 → (i ≡ j → ⊥) → i < j
   below i j lt other = omega (arith, lt, other)
@@ -85,10 +90,10 @@ module _ (old new : Numbered) (grown : HasGrown old new) where
       (cases_eq k i)
 
   -- of a row of runs
-  pub one-run-more : (runs : List Run) (i : ℕ) (run : Run) → ((none : Run) → get_or runs i none ≡ run) → HasEach new (run_of run)
+  pub one-run-more : (runs : List Run) (i : ℕ) (first : Run) → i < length runs → HasEach new (run_of (get_or runs i first))
       → ((k : ℕ) (none : Run) → k < i → HasEach old (run_of (get_or runs k none))) → (k : ℕ) (none : Run) → k < i + 1 → HasEach new (run_of (get_or runs k none))
-  one-run-more runs i run at here before k none lt = ⊎_elim
-      (λ (same : k ≡ i). subst (λ r. HasEach new (run_of r)) (sym (at none) ∙ ap (λ n. get_or runs n none) (sym same)) here)
+  one-run-more runs i first within here before k none lt = ⊎_elim
+      (λ (same : k ≡ i). subst (λ r. HasEach new (run_of r)) (any-default runs i first none within ∙ ap (λ n. get_or runs n none) (sym same)) here)
       (λ (other : k ≡ i → ⊥). each-grown old new grown (run_of (get_or runs k none)) (before k none (below k i lt other)))
       (cases_eq k i)
 

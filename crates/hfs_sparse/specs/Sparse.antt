@@ -1,5 +1,5 @@
 -- Blocks of an image that were read, with zeros in place of the others.
-use Rattle.std.specs.Prelude.{◌≡◌, ℕ, ◌<◌, List, length, Option, Some, None, IsSome, IfSome, replicate, unwrap_or}
+use Rattle.std.specs.Prelude.{◌≡◌, ℕ, List, length, Option, Some, None, IsSome, IfSome, replicate, unwrap_or}
 use Rattle.std.proofs.Common.{refl, sym, ap, subst, ◌∙◌, true≢false, [], ◌∷◌}
 use Rattle.std.proofs.lemmas.List.{length-replicate}
 use Rattle.hfs_scans.specs.Each.{Each}

@@ -1,5 +1,5 @@
 -- Block by block.
-use Rattle.std.proofs.Common.{◌≡◌, ℕ, ◌+◌, ◌<◌, ◌∙◌, IsSome, arith, subst}
+use Rattle.std.proofs.Common.{◌∙◌, IsSome, arith}
 use Rattle.hfs_blocks.specs.Layers.{changes}
 use Rattle.hfs_sparse.specs.Sparse.{grown-on}
 use Rattle.hfs_sparse.proofs.Fetched.{one-more, each-range, stays-later}
