@@ -6,6 +6,7 @@ use std::io;
 use std::io::ErrorKind;
 
 /// Blocks of bytes, of which only so many can be read.
+#[derive(Drop)]
 pub struct FailingSource<'a> {
     pub source: ByteSource<'a>,
     /// How many reads do not fail.

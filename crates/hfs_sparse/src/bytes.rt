@@ -6,6 +6,7 @@ use std::io;
 use std::io::ErrorKind;
 
 /// A whole image as bytes, whose blocks are copied. A block that ends behind the last byte can't be read.
+#[derive(Drop)]
 pub struct ByteSource<'a> {
     /// The image's bytes.
     pub bytes: &'a [u8],

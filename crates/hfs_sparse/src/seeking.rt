@@ -6,6 +6,7 @@ use std::io;
 use std::io::{Read, Seek, SeekFrom};
 
 /// A reader that can go to any place, as a file can. Its bytes are not known before they are read.
+#[derive(Drop)]
 pub struct SeekSource<R> {
     /// The reader.
     pub reader: R,

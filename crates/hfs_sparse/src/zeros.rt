@@ -5,6 +5,7 @@ ghost use Rattle.hfs_sparse.specs.Sparse.{zero_block, length-zero_block};
 use hfs_blocks::Blocks;
 
 /// So many blocks of zeros. They take no memory.
+#[derive(Drop)]
 pub struct ZeroBlocks {
     /// How many there are.
     pub count: u32,
