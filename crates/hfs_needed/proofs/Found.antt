@@ -29,7 +29,7 @@ use Rattle.hfs_needed.specs.Gathered.{LieAt}
 -- ---- no runs
 
 pub no-runs : (total : ℕ) → AreRunsWithin [] total
-no-runs total = record { within = tt; few = omega arith; counted = λ i none lt. absurd (omega arith) }
+no-runs total = record { within = λ i none lt. absurd (omega (arith, lt)); few = omega arith; counted = λ i none lt. absurd (omega (arith, lt)) }
 
 -- ---- the extents tree
 

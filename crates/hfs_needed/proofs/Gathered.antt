@@ -63,6 +63,24 @@ module _ (old new : Numbered) (grown : HasGrown old new) (has_mdb : IsSome (chan
         → HasEach new (needed_of_catalog (sparse new))
     has_catalog total runs lie h = subst (λ ns. HasEach new ns) (lie.numbers ∙ sym needed-stays) h
 
+    -- and the extents tree's
+    pub has_extents-later : HasEach new (extents_blocks (sparse new))
+    has_extents-later = subst (λ ns. HasEach new ns) (sym extents_blocks-stay) (each-grown old new grown (extents_blocks (sparse old)) has)
+
+  pub has_extents-now : (total : ℕ) (runs : List Run) → LieAt total (extents_blocks (sparse old)) runs → HasEach new (flat_map run_of runs)
+      → HasEach new (extents_blocks (sparse new))
+  has_extents-now total runs lie h = subst (λ ns. HasEach new ns) (lie.numbers ∙ sym extents_blocks-stay) h
+
+  pub lie-later : (total : ℕ) (runs same : List Run) → same ≡ runs → LieAt total (extents_blocks (sparse old)) runs → LieAt total (extents_blocks (sparse new)) same
+  lie-later total runs same e lie =
+      subst (λ rs. LieAt total (extents_blocks (sparse new)) rs) (sym e) (subst (λ ns. LieAt total ns runs) (sym extents_blocks-stay) lie)
+
+-- what was found by the blocks that were read, over zeros
+pub lie-at : (Places : Numbered → List ℕ) (total many : ℕ) (read seen : Numbered) (runs same : List Run) → seen ≡ read → many ≡ total → same ≡ runs
+    → LieAt many (Places seen) runs → LieAt total (Places read) same
+lie-at Places total many read seen runs same e f h lie =
+    subst (λ rs. LieAt total (Places read) rs) (sym h) (subst (λ t. LieAt t (Places read) runs) f (subst (λ r. LieAt many (Places r) runs) e lie))
+
 -- ---- both trees
 
 -- without an extents file nothing is needed
