@@ -13,7 +13,7 @@ pub returns : goal.returns
 returns g c =
     let blocks = g.B.Blocks.blocks c.args.blocks.now in
     let mdb = c.args.mdb.now in
-    let same = c.in_ok-extents.ensures ∙ catalog-extents-are blocks mdb c.requires.is c.args.extents_tree.now c.requires.runs.numbers in
+    let same = c.deref.ensures.value ∙ c.in_ok-extents.ensures ∙ catalog-extents-are blocks mdb c.requires.is c.args.extents_tree.now c.requires.runs.numbers in
     subst (λ (q : Bool × List ℕ). IfOk c.file_runs.result (λ found. MatchOption found (q.0 ≡ false)
     (λ runs. (q.0 ≡ true) × LieAt (g.B.Blocks.total c.args.blocks.now) q.1 runs.items)))
     (λ i. (catalog-file-is blocks mdb c.requires.is _ same i, catalog-blocks-are blocks mdb c.requires.is _ same i)) c.file_runs.ensures
