@@ -17,7 +17,7 @@ returns-in_default-found-clause-has g c =
 pub returns-in_err-fetch_runs-clause-reads : goal.returns-in_err-fetch_runs-clause-reads
 returns-in_err-fetch_runs-clause-reads g c =
     let found : (has_extents_file (sparse c.over.result.patch.now) ≡ true)
-        × LieAt c.over.result.below.now.count (extents_blocks (sparse c.over.result.patch.now)) c.in-Some.runs.items = search rules in
+    × LieAt c.over.result.below.now.count (extents_blocks (sparse c.over.result.patch.now)) c.in-Some.runs.items = search rules in
     let file : has_extents_file (sparse c.args.read.now) ≡ true =
     subst (λ (r : Numbered). has_extents_file (sparse r) ≡ true) c.over.ensures.patch found.0 in
     let lie = lie-at (λ (r : Numbered). extents_blocks (sparse r)) c.args.count c.over.result.below.now.count c.args.read.now c.over.result.patch.now
@@ -31,7 +31,7 @@ gather_catalog-requires-clause-is g c = c.requires.is ∙ sym (mdb-stays c.args.
 pub gather_catalog-requires-clause-file : goal.gather_catalog-requires-clause-file
 gather_catalog-requires-clause-file g c =
     let found : (has_extents_file (sparse c.over.result.patch.now) ≡ true)
-        × LieAt c.over.result.below.now.count (extents_blocks (sparse c.over.result.patch.now)) c.in-Some.runs.items = search rules in
+    × LieAt c.over.result.below.now.count (extents_blocks (sparse c.over.result.patch.now)) c.in-Some.runs.items = search rules in
     let file : has_extents_file (sparse c.args.read.now) ≡ true =
     subst (λ (r : Numbered). has_extents_file (sparse r) ≡ true) c.over.ensures.patch found.0 in
     let lie = lie-at (λ (r : Numbered). extents_blocks (sparse r)) c.args.count c.over.result.below.now.count c.args.read.now c.over.result.patch.now
@@ -41,7 +41,7 @@ gather_catalog-requires-clause-file g c =
 pub gather_catalog-requires-clause-runs : goal.gather_catalog-requires-clause-runs
 gather_catalog-requires-clause-runs g c =
     let found : (has_extents_file (sparse c.over.result.patch.now) ≡ true)
-        × LieAt c.over.result.below.now.count (extents_blocks (sparse c.over.result.patch.now)) c.in-Some.runs.items = search rules in
+    × LieAt c.over.result.below.now.count (extents_blocks (sparse c.over.result.patch.now)) c.in-Some.runs.items = search rules in
     let file : has_extents_file (sparse c.args.read.now) ≡ true =
     subst (λ (r : Numbered). has_extents_file (sparse r) ≡ true) c.over.ensures.patch found.0 in
     let lie = lie-at (λ (r : Numbered). extents_blocks (sparse r)) c.args.count c.over.result.below.now.count c.args.read.now c.over.result.patch.now
@@ -52,7 +52,7 @@ gather_catalog-requires-clause-runs g c =
 pub gather_catalog-requires-clause-has_extents : goal.gather_catalog-requires-clause-has_extents
 gather_catalog-requires-clause-has_extents g c =
     let found : (has_extents_file (sparse c.over.result.patch.now) ≡ true)
-        × LieAt c.over.result.below.now.count (extents_blocks (sparse c.over.result.patch.now)) c.in-Some.runs.items = search rules in
+    × LieAt c.over.result.below.now.count (extents_blocks (sparse c.over.result.patch.now)) c.in-Some.runs.items = search rules in
     let file : has_extents_file (sparse c.args.read.now) ≡ true =
     subst (λ (r : Numbered). has_extents_file (sparse r) ≡ true) c.over.ensures.patch found.0 in
     let lie = lie-at (λ (r : Numbered). extents_blocks (sparse r)) c.args.count c.over.result.below.now.count c.args.read.now c.over.result.patch.now
@@ -62,7 +62,7 @@ gather_catalog-requires-clause-has_extents g c =
 pub returns-in_err-gather_catalog-clause-reads : goal.returns-in_err-gather_catalog-clause-reads
 returns-in_err-gather_catalog-clause-reads g c =
     let found : (has_extents_file (sparse c.over.result.patch.now) ≡ true)
-        × LieAt c.over.result.below.now.count (extents_blocks (sparse c.over.result.patch.now)) c.in-Some.runs.items = search rules in
+    × LieAt c.over.result.below.now.count (extents_blocks (sparse c.over.result.patch.now)) c.in-Some.runs.items = search rules in
     let file : has_extents_file (sparse c.args.read.now) ≡ true =
     subst (λ (r : Numbered). has_extents_file (sparse r) ≡ true) c.over.ensures.patch found.0 in
     let lie = lie-at (λ (r : Numbered). extents_blocks (sparse r)) c.args.count c.over.result.below.now.count c.args.read.now c.over.result.patch.now
@@ -76,7 +76,7 @@ returns-in_err-gather_catalog-clause-reads g c =
 pub returns-clause-has : goal.returns-clause-has
 returns-clause-has g c =
     let found : (has_extents_file (sparse c.over.result.patch.now) ≡ true)
-        × LieAt c.over.result.below.now.count (extents_blocks (sparse c.over.result.patch.now)) c.in-Some.runs.items = search rules in
+    × LieAt c.over.result.below.now.count (extents_blocks (sparse c.over.result.patch.now)) c.in-Some.runs.items = search rules in
     let file : has_extents_file (sparse c.args.read.now) ≡ true =
     subst (λ (r : Numbered). has_extents_file (sparse r) ≡ true) c.over.ensures.patch found.0 in
     let lie = lie-at (λ (r : Numbered). extents_blocks (sparse r)) c.args.count c.over.result.below.now.count c.args.read.now c.over.result.patch.now
@@ -92,7 +92,7 @@ returns-clause-has g c =
 pub returns-clause-reads : goal.returns-clause-reads
 returns-clause-reads g c =
     let found : (has_extents_file (sparse c.over.result.patch.now) ≡ true)
-        × LieAt c.over.result.below.now.count (extents_blocks (sparse c.over.result.patch.now)) c.in-Some.runs.items = search rules in
+    × LieAt c.over.result.below.now.count (extents_blocks (sparse c.over.result.patch.now)) c.in-Some.runs.items = search rules in
     let file : has_extents_file (sparse c.args.read.now) ≡ true =
     subst (λ (r : Numbered). has_extents_file (sparse r) ≡ true) c.over.ensures.patch found.0 in
     let lie = lie-at (λ (r : Numbered). extents_blocks (sparse r)) c.args.count c.over.result.below.now.count c.args.read.now c.over.result.patch.now
