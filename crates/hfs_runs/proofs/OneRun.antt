@@ -22,9 +22,7 @@ use Rattle.hfs_runs.specs.Runs.{IsHandedOut, IsRan, IsRun}
 use Rattle.hfs_runs.proofs.Working.{AreJobs, AreDone, AreViewings, AreViewed, worked_at, made_at, viewed_at}
 
 all_at : {X : Type 0} (P : X → Type 0) (xs : List X) (i : ℕ) (d : X) → All P xs → i < length xs → P (get_or xs i d)
-all_at P [] i d all below = let no : ⊥ = omega arith in absurd no
-all_at P (x ∷ xs) zero d all below = all.0
-all_at P (x ∷ xs) (suc i) d all below = all_at P xs i d all.1 (omega arith)
+all_at P xs i d all below = all i d below
 
 -- viewers that have seen the opening alone, with their calls
 pub begun : (book : Book) (opening : Volume) (lines : List ScriptLine) (count : ℕ) (seen : List Known) (begun : List Viewing) → length seen ≡ count → All (λ k. k ≡ known book (opened opening)) seen
