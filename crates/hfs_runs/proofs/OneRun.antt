@@ -25,10 +25,10 @@ all_at : {X : Type 0} (P : X → Type 0) (xs : List X) (i : ℕ) (d : X) → All
 all_at P xs i d all below = all i d below
 
 -- viewers that have seen the opening alone, with their calls
-pub begun : (book : Book) (opening : Volume) (lines : List ScriptLine) (count : ℕ) (seen : List Known) (begun : List Viewing) → length seen ≡ count → All (λ k. k ≡ known book (opened opening)) seen
-    → length begun ≡ length seen → ((i : ℕ) (w : Viewing) (k : Known) → i < length seen → (get_or begun i w).viewer ≡ get_or seen i k)
-    → ((i : ℕ) (w : Viewing) → i < length seen → (get_or begun i w).calls.items ≡ calls_of (Viewer (i + 1)) lines) → AreViewings book opening lines count begun
-begun book opening lines count seen begun many all same views calls =
+pub begun : (book : Book) (opening : Volume) (lines : List ScriptLine) (count : ℕ) (seen : List Known) (lent : List Viewing) → length seen ≡ count → All (λ k. k ≡ known book (opened opening)) seen
+    → length lent ≡ length seen → ((i : ℕ) (w : Viewing) (k : Known) → i < length seen → (get_or lent i w).viewer ≡ get_or seen i k)
+    → ((i : ℕ) (w : Viewing) → i < length seen → (get_or lent i w).calls.items ≡ calls_of (Viewer (i + 1)) lines) → AreViewings book opening lines count lent
+begun book opening lines count seen lent many all same views calls =
     record {
       many = same ∙ many;
       seen = λ i v below. views i v (known book []) (omega (arith, many)) ∙ all_at (λ k. k ≡ known book (opened opening)) seen i (known book []) all (omega (arith, many));

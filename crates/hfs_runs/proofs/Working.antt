@@ -85,7 +85,7 @@ made_of passes journal count all are place below =
 pass_at : {V : Type 0} (items : V → List Call) (book : Book) (opening : Volume) (lines : List ScriptLine) (workers : ℕ) (passes : List PassState) (jobs : List (PassState × V)) (dones : List Done)
     → AreJobs items lines workers passes jobs → AreDone items book opening jobs dones → (place : ℕ) (p : PassState) → place < length (map (λ (done : Done). done.pass) dones)
     → get_or (map (λ (done : Done). done.pass) dones) place p ≡ pass_state (place + 1) (1 + length (worker_replies dones (place + 1)))
-pass_at items book opening lines workers passes [] dones h done place p below = let no : ⊥ = omega (arith, done.many, length-map (λ (done : Done). done.pass) dones) in absurd no
+pass_at items book opening lines workers passes [] dones h done place p below = let no : ⊥ = omega (arith, done.many, length-map [] (λ (done : Done). done.pass)) in absurd no
 pass_at items book opening lines workers passes (j ∷ jobs) [] h done place p below = let no : ⊥ = omega (arith, done.many) in absurd no
 pass_at items book opening lines workers passes (j ∷ jobs) (d ∷ dones) h done place p below =
     let within : place < length (d ∷ dones) = omega (arith, length-map (λ (done : Done). done.pass) (d ∷ dones)) in
@@ -100,7 +100,7 @@ pub made_at : {V : Type 0} (items : V → List Call) (book : Book) (opening : Vo
     → (place : ℕ) → place < workers → made_by (place + 1) journal ≡ length (worker_replies dones (place + 1))
 made_at items book opening lines workers passes jobs dones journal h done all place below =
     made_of (map (λ (done : Done). done.pass) dones) journal (λ i. length (worker_replies dones (i + 1))) all (pass_at items book opening lines workers passes jobs dones h done) place
-    (omega (arith, length-map (λ (done : Done). done.pass) dones, done.many, h.many, h.first.many))
+    (omega (arith, length-map dones (λ (done : Done). done.pass), done.many, h.many, h.first.many))
 
 -- ---- viewers
 
