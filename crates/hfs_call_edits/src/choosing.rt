@@ -8,10 +8,10 @@ ghost use Rattle.hfs_queries.specs.Told.{IsCatalog};
 
 use bitflags::Flags;
 use hfs_btree::Nodes;
-use hfs_catalog::{CatalogItem, ItemRecord, lookup};
+use hfs_catalog::{CatalogItem, ItemRecord};
 use hfs_fields::{CatKey, FileRecord, Mdb, Name};
-use hfs_model::{BAD_NAME, FILE_LOCKED, HARDWARE_LOCKED, NOT_A_FOLDER, NOT_FOUND, SOFTWARE_LOCKED};
-use hfs_queries::folder;
+use hfs_model::{BAD_NAME, FILE_LOCKED, HARDWARE_LOCKED, NOT_FOUND, SOFTWARE_LOCKED};
+use hfs_queries::child_in;
 
 /// The code that refuses each change of a locked volume.
 pub(crate) fn lock_code(mdb: &Mdb) -> Option<i16>
@@ -43,13 +43,7 @@ pub(crate) fn child_to_change<N: Nodes>(
     let Some(name) = Name::new(name) else {
         return Err(BAD_NAME);
     };
-    if folder(nodes, dir).is_none() {
-        return Err(NOT_A_FOLDER);
-    }
-    match lookup(nodes, dir, &name) {
-        Some(item) => Ok(item),
-        None => Err(NOT_FOUND),
-    }
+    child_in(nodes, dir, &name)
 }
 
 /// The folder's file of that name, with its key, or the code that refuses to change it.

@@ -2,3 +2,4 @@ pub mod Finder
 pub mod FileIds
 pub mod Files
 pub mod Queries
+pub mod Holders

@@ -1,6 +1,6 @@
 -- What the calls that read answer, by the records of a catalog.
-use Rattle.std.specs.Prelude.{ℕ, ◌-◌, Bool, false, not, is_some, ◌==◌, if◌then◌else◌, List, ◌++◌, map, slice_get, Option, Some, None, Result, Ok, Err}
-use Rattle.std.specs.Option.{option_map_or, option_and_then}
+use Rattle.std.specs.Prelude.{ℕ, ℤ, ◌-◌, Bool, false, not, is_some, ◌==◌, if◌then◌else◌, List, ◌++◌, map, slice_get, Option, Some, None, Result, Ok, Err}
+use Rattle.std.specs.Option.{option_map, option_map_or, option_and_then, ok_or}
 use Rattle.hfs_fields.specs.Names.{is_item_name}
 use Rattle.hfs_fields.specs.Records.{is_dir, is_bit_set, file_record_of}
 use Rattle.hfs_fields.specs.declared.key.CatKey.{CatKey}
@@ -91,6 +91,12 @@ folder_with catalog dir = option_and_then only_folder (item_with catalog dir)
 
 abbrev pub is_folder : Catalog → ℕ → Bool
 is_folder catalog dir = is_some (folder_with catalog dir)
+
+-- the folder's item of that name: -120, -43
+abbrev pub child_in : Catalog → ℕ → List ℕ → Result CatalogItem ℤ
+child_in catalog dir name =
+    if not (is_folder catalog dir) then Err NOT_A_FOLDER
+    else ok_or (option_map catalog_item (child_named catalog dir name)) NOT_FOUND
 
 abbrev pub dir_info : Catalog → ℕ → Reply
 dir_info catalog dir = option_map_or (one catalog) (folder_with catalog dir) (refusal NOT_A_FOLDER)

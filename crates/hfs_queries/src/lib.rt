@@ -7,6 +7,6 @@ mod reply;
 
 pub use laws::catalog_answers;
 pub use reading::{
-    file_named, folder, get_cat_info, get_dir_info, get_indexed, list, resolve_file_id,
+    child_in, file_named, folder, get_cat_info, get_dir_info, get_indexed, list, resolve_file_id,
 };
 pub use reply::{Detail, refusal, success};

@@ -7,7 +7,7 @@ ghost use Rattle.hfs_model.specs.Replies.{success};
 ghost use Rattle.hfs_catalog.specs.Lookups.{catalog_item};
 ghost use Rattle.hfs_catalog.specs.Tree.{catalog_of};
 ghost use Rattle.hfs_queries.specs.Brief.{in_detail, listed_in};
-ghost use Rattle.hfs_queries.specs.Told.{IsCatalog, folder_with, dir_info, cat_info, child_infos, indexed, resolved, file_named};
+ghost use Rattle.hfs_queries.specs.Told.{IsCatalog, folder_with, child_in, dir_info, cat_info, child_infos, indexed, resolved, file_named};
 
 use crate::reply::{Detail, item_info, refusal, success};
 use hfs_btree::Nodes;
@@ -34,6 +34,31 @@ pub fn folder<N: Nodes>(nodes: &N, dir: u32) -> Option<CatalogItem>
     }
 }
 
+/// The ID under which the root stands, which is no folder's.
+const ABOVE_ROOT: u32 = 1;
+
+/// The folder's item of that name, or the code that says why there is none: -120 where there is no such folder, -43 where it has no
+/// such item. Where there is an item it is found by one look-up, for what holds an item is a folder, but for 1, which holds the root.
+pub fn child_in<N: Nodes>(nodes: &N, dir: u32, name: &Name) -> Result<CatalogItem, i16>
+    requires { IsCatalog (N.nodes nodes.now) }
+    ensures { result ≡ child_in (catalog_of (N.nodes nodes.now)) dir name.now }
+{
+    match lookup(nodes, dir, name) {
+        Some(item) => {
+            if dir == ABOVE_ROOT {
+                return Err(NOT_A_FOLDER);
+            }
+            Ok(item)
+        }
+        None => {
+            if folder(nodes, dir).is_none() {
+                return Err(NOT_A_FOLDER);
+            }
+            Err(NOT_FOUND)
+        }
+    }
+}
+
 /// What is told of the folder of that ID.
 pub fn get_dir_info<N: Nodes>(nodes: &N, dir: u32) -> Reply
     requires { IsCatalog (N.nodes nodes.now) }
@@ -53,12 +78,9 @@ pub fn get_cat_info<N: Nodes>(nodes: &N, dir: u32, name: &[u8]) -> Reply
     let Some(name) = Name::new(name) else {
         return refusal(BAD_NAME);
     };
-    if folder(nodes, dir).is_none() {
-        return refusal(NOT_A_FOLDER);
-    }
-    match lookup(nodes, dir, &name) {
-        Some(item) => success(Value::One(item_info(nodes, &item, Detail::Full))),
-        None => refusal(NOT_FOUND),
+    match child_in(nodes, dir, &name) {
+        Ok(item) => success(Value::One(item_info(nodes, &item, Detail::Full))),
+        Err(code) => refusal(code),
     }
 }
 
