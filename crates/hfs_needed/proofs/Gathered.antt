@@ -1,16 +1,22 @@
 -- What was found of a volume stays found while more of it is read.
-use Rattle.std.proofs.Common.{◌≡◌, ℕ, ◌+◌, ◌≤◌, ◌<◌, Bool, true, false, List, [], ◌∷◌, ◌++◌, Option, Some, None, IsSome, refl, sym, ap, subst, ◌∙◌, arith}
-use Rattle.std.specs.Prelude.{IfSome}
+use Rattle.std.proofs.Common.{◌≡◌, ℕ, ◌+◌, ◌-◌, ◌≤◌, ◌<◌, Bool, true, false, List, [], ◌∷◌, ◌++◌, Option, Some, None, IsSome, refl, sym, ap, subst, ◌∙◌, arith, true≢false}
+use Rattle.std.specs.Prelude.{IfSome, is_some}
 use Rattle.std.specs.List.{flat_map}
+use Rattle.std.specs.Option.{is_none}
 use Rattle.hfs_scans.specs.Elements.{each-append}
 use Rattle.hfs_blocks.specs.declared.run.Run.{Run}
 use Rattle.hfs_blocks.specs.Blocks.{run_of, nodes_in, AreRunsWithin}
-use Rattle.hfs_blocks.specs.Layers.{Numbered, changes, AreWithin}
+use Rattle.hfs_blocks.specs.Layers.{Numbered, changes, AreWithin, AreWithin-nothing}
 use Rattle.hfs_fields.specs.declared.mdb.Mdb.{Mdb}
 use Rattle.hfs_space.specs.TreeFiles.{nodes_in-tree_blocks}
+use Rattle.hfs_check.specs.declared.mount_fault.MountFault.{MountFault}
+use Rattle.hfs_check.specs.Agree.{bitmap_blocks}
+use Rattle.hfs_check.specs.Faults.{mdb_fault}
+use Rattle.hfs_check.specs.Laws.{NoMdbFault}
 use Rattle.hfs_check.specs.Parts.{Blocks, mdb_in, extents_blocks, extents_nodes}
+use Rattle.hfs_check.specs.Sound.{IsMdbSound}
 use Rattle.hfs_sparse.specs.Sparse.{sparse, HasEach, HasGrown, IsOf, StaysOf, grown-itself, grown-on, has-grown, each-grown, each-same, stays-on}
-use Rattle.hfs_needed.specs.Needed.{AgreeOn, has_extents_file, needed_of_catalog, needed_of_trees, where_right}
+use Rattle.hfs_needed.specs.Needed.{AgreeOn, is_mdb_right, has_extents_file, needed_of_catalog, needed_of_trees, needed_blocks, where_right}
 use Rattle.hfs_needed.specs.Gathered.{LieAt, HasRead}
 use Rattle.hfs_needed.proofs.SameParts.{mdb-same, extents_nodes-same, extents_blocks-same}
 use Rattle.hfs_needed.proofs.SameFaults.{has_extents-same, needed_of_catalog-same}
@@ -117,3 +123,49 @@ reads-range known total old new first count lie grown stays within = record { gr
 pub reads-block : (known : Option (List ℕ)) (total : ℕ) (old new : Numbered) (n : ℕ) → n < total → HasGrown old new → StaysOf known old new
     → ((t : ℕ) → n < t → AreWithin (changes old) t → AreWithin (changes new) t) → HasRead known total old new
 reads-block known total old new n lie grown stays within = record { grown = grown; stays = stays; within = within total lie }
+
+-- ---- all that is needed
+
+-- behind a master directory block that was read: its copy, the bitmap and both trees, whether or not the block is right
+pub needs_all : (total : ℕ) (start copied marked all : Numbered) (bitmap : List ℕ) → bitmap ≡ bitmap_blocks (mdb_in (sparse start)) → HasGrown start copied
+    → HasGrown copied marked → HasGrown marked all → IsSome (changes start 2) → IsSome (changes copied (total - 2)) → HasEach marked bitmap
+    → HasEach all (needed_of_trees (sparse all)) → HasEach all (needed_blocks total (sparse all))
+unfolding needed_blocks
+needs_all total start copied marked all bitmap is p q r two copy marks trees = (has-grown start all grown 2 two, by (is_mdb_right total (sparse all)))
+  where
+    grown : HasGrown start all
+    grown = grown-on start marked all (grown-on start copied marked p q) r
+
+    same : bitmap ≡ bitmap_blocks (mdb_in (sparse all))
+    same = is ∙ ap (λ (m : Mdb). bitmap_blocks m) (sym (mdb-stays start all grown two))
+
+    has : HasEach all ((total - 2) ∷ bitmap_blocks (mdb_in (sparse all)) ++ needed_of_trees (sparse all))
+    has = (
+      has-grown copied all (grown-on copied marked all q r) (total - 2) copy,
+      each-append (λ n. IsSome (changes all n)) (bitmap_blocks (mdb_in (sparse all))) (needed_of_trees (sparse all))
+      (subst (λ ns. HasEach all ns) same (each-grown marked all r bitmap marks)) trees,
+    )
+
+    by : (t : Bool) → HasEach all (where_right t ((total - 2) ∷ bitmap_blocks (mdb_in (sparse all)) ++ needed_of_trees (sparse all)))
+    by true = has
+    by false = tt
+
+-- behind a wrong one nothing
+pub needs_two : (total : ℕ) (read : Numbered) → is_some (mdb_fault total (mdb_in (sparse read))) ≡ true → IsSome (changes read 2)
+    → HasEach read (needed_blocks total (sparse read))
+unfolding needed_blocks
+needs_two total read wrong two = (two, by (mdb_fault total (mdb_in (sparse read))) wrong)
+  where
+    by : (o : Option MountFault) → is_some o ≡ true
+        → HasEach read (where_right (is_none o) ((total - 2) ∷ bitmap_blocks (mdb_in (sparse read)) ++ needed_of_trees (sparse read)))
+    by None e = absurd (true≢false (sym e))
+    by (Some fault) e = tt
+
+-- what was read from the start on
+pub within-start : (total n : ℕ) (new : Numbered) → n < total → ((t : ℕ) → n < t → AreWithin (changes []) t → AreWithin (changes new) t)
+    → AreWithin (changes new) total
+within-start total n new lt within = within total lt (AreWithin-nothing total)
+
+pub right-mdb : (law : NoMdbFault) (total : ℕ) (mdb : Mdb) (o : Option MountFault) → o ≡ mdb_fault total mdb → is_some o ≡ false → IsMdbSound total mdb
+right-mdb law total mdb None e no = (law total mdb).0 (sym e)
+right-mdb law total mdb (Some fault) e no = absurd (true≢false no)
