@@ -12,9 +12,7 @@ use Rattle.hfs_space.specs.TreeFiles.{nodes_in-tree_blocks}
 use Rattle.hfs_check.specs.declared.mount_fault.MountFault.{MountFault}
 use Rattle.hfs_check.specs.Agree.{bitmap_blocks}
 use Rattle.hfs_check.specs.Faults.{mdb_fault}
-use Rattle.hfs_check.specs.Laws.{NoMdbFault}
 use Rattle.hfs_check.specs.Parts.{Blocks, mdb_in, extents_blocks, extents_nodes}
-use Rattle.hfs_check.specs.Sound.{IsMdbSound}
 use Rattle.hfs_sparse.specs.Sparse.{sparse, HasEach, HasGrown, IsOf, StaysOf, grown-itself, grown-on, has-grown, each-grown, each-same, stays-on}
 use Rattle.hfs_needed.specs.Needed.{AgreeOn, is_mdb_right, has_extents_file, needed_of_catalog, needed_of_trees, needed_blocks, where_right}
 use Rattle.hfs_needed.specs.Gathered.{LieAt, HasRead}
@@ -161,11 +159,10 @@ needs_two total read wrong two = (two, by (mdb_fault total (mdb_in (sparse read)
     by None e = absurd (true≢false (sym e))
     by (Some fault) e = tt
 
--- what was read from the start on
-pub within-start : (total n : ℕ) (new : Numbered) → n < total → ((t : ℕ) → n < t → AreWithin (changes []) t → AreWithin (changes new) t)
-    → AreWithin (changes new) total
-within-start total n new lt within = within total lt (AreWithin-nothing total)
-
-pub right-mdb : (law : NoMdbFault) (total : ℕ) (mdb : Mdb) (o : Option MountFault) → o ≡ mdb_fault total mdb → is_some o ≡ false → IsMdbSound total mdb
-right-mdb law total mdb None e no = (law total mdb).0 (sym e)
-right-mdb law total mdb (Some fault) e no = absurd (true≢false no)
+-- all that was read
+pub reads-start : (known : Option (List ℕ)) (total : ℕ) (start new : Numbered) → start ≡ [] → HasRead known total start new
+    → IfSome known (λ bytes. IsOf bytes new) × AreWithin (changes new) total
+reads-start known total start new e read = (
+  of-start known new (subst (λ (s : Numbered). StaysOf known s new) e read.stays),
+  read.within (subst (λ (s : Numbered). AreWithin (changes s) total) (sym e) (AreWithin-nothing total)),
+)
