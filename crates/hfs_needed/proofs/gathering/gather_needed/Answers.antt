@@ -1,8 +1,6 @@
 -- The master directory block, and what is needed behind a right one.
-use Rattle.std.proofs.Common.{◌≡◌, ◌<◌, true, sym, ap, subst, ◌∙◌, arith}
+use Rattle.std.proofs.Common.{◌≡◌, ◌<◌, true, arith, rules}
 use Rattle.std.specs.Prelude.{is_some}
-use Rattle.hfs_blocks.specs.Layers.{Numbered}
-use Rattle.hfs_fields.specs.declared.mdb.Mdb.{Mdb}
 use Rattle.hfs_check.specs.Faults as faults
 use Rattle.hfs_check.specs.Parts.{mdb_in}
 use Rattle.hfs_sparse.specs.Sparse.{sparse}
