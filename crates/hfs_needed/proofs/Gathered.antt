@@ -141,7 +141,7 @@ needs_all total start copied marked all bitmap is p q r two copy marks trees = (
     has = (
       has-grown copied all (grown-on copied marked all q r) (total - 2) copy,
       each-append (λ n. IsSome (changes all n)) (bitmap_blocks (mdb_in (sparse all))) (needed_of_trees (sparse all))
-      (subst (λ ns. HasEach all ns) same (each-grown marked all r bitmap marks)) trees,
+          (subst (λ ns. HasEach all ns) same (each-grown marked all r bitmap marks)) trees,
     )
 
     by : (t : Bool) → HasEach all (where_right t ((total - 2) ∷ bitmap_blocks (mdb_in (sparse all)) ++ needed_of_trees (sparse all)))
