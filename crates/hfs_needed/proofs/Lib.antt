@@ -2,3 +2,5 @@ pub mod SameParts
 pub mod SameSpace
 pub mod SameFaults
 pub mod SameImages
+pub mod Gathered
+pub mod Found

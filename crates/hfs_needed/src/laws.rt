@@ -1,5 +1,6 @@
 //! What the needed blocks of a volume decide, each as the contract of a function that does nothing: a caller learns it by the
 //! call.
+ghost use Rattle.hfs_needed.specs.Gathered.{GatheredIsEnough};
 ghost use Rattle.hfs_needed.specs.Laws.{NeededIsEnough, NeededOfImages};
 
 use hfs_check::{no_blocks_fault, no_image_fault};
@@ -19,4 +20,12 @@ pub fn needed_of_images()
 {
     needed_is_enough();
     no_image_fault();
+}
+
+/// Where each needed block of an image was read, what was read has the image's first fault, its report, and its items but for
+/// the bytes of forks.
+pub fn gathered_is_enough()
+    ensures { GatheredIsEnough }
+{
+    needed_is_enough();
 }

@@ -1,6 +1,9 @@
 //! The blocks of a volume that its checks, its report and its items are read from, and what they decide.
 #![tactic(auto)]
 
+mod finding;
+mod gathering;
 mod laws;
 
-pub use crate::laws::{needed_is_enough, needed_of_images};
+pub use crate::gathering::gather_needed;
+pub use crate::laws::{gathered_is_enough, needed_is_enough, needed_of_images};

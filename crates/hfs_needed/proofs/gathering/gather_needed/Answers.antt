@@ -1,0 +1,40 @@
+-- The master directory block, and what is needed behind a right one.
+use Rattle.std.proofs.Common.{◌≡◌, ◌<◌, true, arith, rules}
+use Rattle.std.specs.Prelude.{is_some}
+use Rattle.hfs_check.specs.Faults as faults
+use Rattle.hfs_check.specs.Parts.{mdb_in}
+use Rattle.hfs_sparse.specs.Sparse.{sparse}
+use Rattle.hfs_needed.proofs.Gathered.{reads-block, reads-on, reads-start, needs_two}
+use Rattle.hfs_needed.proofs.gathering.gather_needed.Goals as goal
+
+pub returns-then-is_some-clause-needed : goal.returns-then-is_some-clause-needed
+returns-then-is_some-clause-needed g c =
+    let wrong : is_some (faults.mdb_fault c.args.count (mdb_in (sparse c.fetch.new.read))) ≡ true = search rules in
+    needs_two c.args.count c.fetch.new.read wrong c.in_ok-fetch.ensures.has
+
+pub returns-then-is_some-clause-within : goal.returns-then-is_some-clause-within
+returns-then-is_some-clause-within g c =
+    let lt : 2 < c.args.count = omega (arith, c.requires) in
+    (reads-start (g.S.BlockSource.image c.args.source.now) c.args.count c.new-read.result c.fetch.new.read c.new-read.ensures
+    (reads-block (g.S.BlockSource.image c.args.source.now) c.args.count c.new-read.result c.fetch.new.read 2 lt
+    c.in_ok-fetch.ensures.grown c.in_ok-fetch.ensures.stays c.in_ok-fetch.ensures.within)).1
+
+pub returns-clause-told : goal.returns-clause-told
+returns-clause-told g c =
+    let lt : 2 < c.args.count = omega (arith, c.requires) in
+    (reads-start (g.S.BlockSource.image c.args.source.now) c.args.count c.new-read.result c.gather_rest.new.read c.new-read.ensures
+    (reads-on (g.S.BlockSource.image c.args.source.now) (g.S.BlockSource.image c.fetch.new.source) c.args.count c.new-read.result c.fetch.new.read
+    c.gather_rest.new.read c.in_ok-fetch.ensures.image
+    (reads-block (g.S.BlockSource.image c.args.source.now) c.args.count c.new-read.result c.fetch.new.read 2 lt
+    c.in_ok-fetch.ensures.grown c.in_ok-fetch.ensures.stays c.in_ok-fetch.ensures.within)
+    c.in_ok-gather_rest.ensures.reads)).0
+
+pub returns-clause-within : goal.returns-clause-within
+returns-clause-within g c =
+    let lt : 2 < c.args.count = omega (arith, c.requires) in
+    (reads-start (g.S.BlockSource.image c.args.source.now) c.args.count c.new-read.result c.gather_rest.new.read c.new-read.ensures
+    (reads-on (g.S.BlockSource.image c.args.source.now) (g.S.BlockSource.image c.fetch.new.source) c.args.count c.new-read.result c.fetch.new.read
+    c.gather_rest.new.read c.in_ok-fetch.ensures.image
+    (reads-block (g.S.BlockSource.image c.args.source.now) c.args.count c.new-read.result c.fetch.new.read 2 lt
+    c.in_ok-fetch.ensures.grown c.in_ok-fetch.ensures.stays c.in_ok-fetch.ensures.within)
+    c.in_ok-gather_rest.ensures.reads)).1

@@ -1,0 +1,122 @@
+//! Where the needed parts of a volume lie, each found by those before it.
+ghost use Rattle.std.specs.Prelude.{◌≡◌, true, false, IfOk, MatchOption};
+ghost use Rattle.hfs_space.specs.Faults as space_spec;
+ghost use Rattle.hfs_space.specs.TreeFiles.{tree_blocks};
+ghost use Rattle.hfs_space.specs.TreeKeys.{IsExtentsTree};
+ghost use Rattle.hfs_check.specs.Parts.{mdb_in, extents_blocks, extents_nodes, catalog_blocks};
+ghost use Rattle.hfs_check.specs.Sound.{IsMdbSound};
+ghost use Rattle.hfs_needed.specs.Gathered.{LieAt};
+ghost use Rattle.hfs_needed.specs.Needed as spec;
+
+use hfs_blocks::{Blocks, Run};
+use hfs_btree::RunNodes;
+use hfs_check::{MountFault, check_extents_tree, no_extents_fault};
+use hfs_fields::{Extent, Mdb};
+use hfs_space::{ForkKind, fork_extents, is_tree_file, no_tree_file_fault, tree_runs};
+use std::alloc::{AllocError, Global};
+
+/// The runs of a tree's file that has these extents and this size in bytes. None where the file is wrong.
+fn file_runs<B: Blocks>(
+    alloc: Global,
+    blocks: &B,
+    mdb: &Mdb,
+    extents: &[Extent],
+    size: u32,
+) -> Result<Option<Vec<Run>>, AllocError>
+    requires { IsMdbSound (B.total blocks.now) mdb.now }
+    ensures { IfOk result (λ found. MatchOption found (space_spec.is_tree_file mdb.now extents.now size ≡ false)
+        (λ runs. (space_spec.is_tree_file mdb.now extents.now size ≡ true) × LieAt (B.total blocks.now) (tree_blocks mdb.now extents.now size) runs.items)) }
+{
+    no_tree_file_fault();
+    if is_tree_file(mdb, extents, size) {
+        let runs = tree_runs(alloc, blocks, mdb, extents, size)?;
+        Ok(Some(runs))
+    } else {
+        Ok(None)
+    }
+}
+
+/// The runs of the extents tree. None where its file is wrong.
+pub(crate) fn extents_runs<B: Blocks>(
+    alloc: Global,
+    blocks: &B,
+    mdb: &Mdb,
+) -> Result<Option<Vec<Run>>, AllocError>
+    requires sound { IsMdbSound (B.total blocks.now) mdb.now }
+    requires is { mdb.now ≡ mdb_in (B.blocks blocks.now) }
+    ensures { IfOk result (λ found. MatchOption found (spec.has_extents_file (B.blocks blocks.now) ≡ false)
+        (λ runs. (spec.has_extents_file (B.blocks blocks.now) ≡ true) × LieAt (B.total blocks.now) (extents_blocks (B.blocks blocks.now)) runs.items)) }
+{
+    file_runs(alloc, blocks, mdb, &mdb.extents_file, mdb.extents_file_size)
+}
+
+/// Whether the extents tree is right, which lies in these runs.
+fn is_extents_tree_right<B: Blocks>(
+    alloc: Global,
+    blocks: &B,
+    mdb: &Mdb,
+    extents_tree: &[Run],
+) -> Result<bool, AllocError>
+    requires sound { IsMdbSound (B.total blocks.now) mdb.now }
+    requires is { mdb.now ≡ mdb_in (B.blocks blocks.now) }
+    requires file { spec.has_extents_file (B.blocks blocks.now) ≡ true }
+    requires runs { LieAt (B.total blocks.now) (extents_blocks (B.blocks blocks.now)) extents_tree.now }
+    ensures { IfOk result (λ right. right ≡ spec.is_extents_tree_right (B.blocks blocks.now)) }
+{
+    no_tree_file_fault();
+    let nodes = RunNodes {
+        blocks,
+        runs: extents_tree,
+    };
+    match check_extents_tree(alloc, &nodes, mdb.extents_file_size) {
+        Ok(()) => Ok(true),
+        Err(MountFault::Memory) => Err(AllocError),
+        Err(_) => Ok(false),
+    }
+}
+
+/// The runs of the catalog tree, behind an extents tree that is right, which lies in these runs. None where the catalog file is
+/// wrong.
+fn right_catalog_runs<B: Blocks>(
+    alloc: Global,
+    blocks: &B,
+    mdb: &Mdb,
+    extents_tree: &[Run],
+) -> Result<Option<Vec<Run>>, AllocError>
+    requires sound { IsMdbSound (B.total blocks.now) mdb.now }
+    requires is { mdb.now ≡ mdb_in (B.blocks blocks.now) }
+    requires runs { LieAt (B.total blocks.now) (extents_blocks (B.blocks blocks.now)) extents_tree.now }
+    requires right { spec.is_extents_tree_right (B.blocks blocks.now) ≡ true }
+    ensures { IfOk result (λ found. MatchOption found (spec.has_catalog_file (B.blocks blocks.now) ≡ false)
+        (λ runs. (spec.has_catalog_file (B.blocks blocks.now) ≡ true) × LieAt (B.total blocks.now) (catalog_blocks (B.blocks blocks.now)) runs.items)) }
+{
+    no_extents_fault();
+    let nodes = RunNodes {
+        blocks,
+        runs: extents_tree,
+    };
+    let extents = fork_extents(alloc, &nodes, 4, ForkKind::Data, &mdb.catalog_file)?;
+    file_runs(alloc, blocks, mdb, &extents, mdb.catalog_file_size)
+}
+
+/// The runs of what is needed of the catalog. None are where the extents tree, which lies in these runs, or the catalog file is wrong.
+pub(crate) fn catalog_runs<B: Blocks>(
+    alloc: Global,
+    blocks: &B,
+    mdb: &Mdb,
+    extents_tree: &[Run],
+) -> Result<Vec<Run>, AllocError>
+    requires sound { IsMdbSound (B.total blocks.now) mdb.now }
+    requires is { mdb.now ≡ mdb_in (B.blocks blocks.now) }
+    requires file { spec.has_extents_file (B.blocks blocks.now) ≡ true }
+    requires runs { LieAt (B.total blocks.now) (extents_blocks (B.blocks blocks.now)) extents_tree.now }
+    ensures { IfOk result (λ runs. LieAt (B.total blocks.now) (spec.needed_of_catalog (B.blocks blocks.now)) runs.items) }
+{
+    if !is_extents_tree_right(alloc, blocks, mdb, extents_tree)? {
+        return Ok(Vec::new(alloc));
+    }
+    match right_catalog_runs(alloc, blocks, mdb, extents_tree)? {
+        None => Ok(Vec::new(alloc)),
+        Some(runs) => Ok(runs),
+    }
+}

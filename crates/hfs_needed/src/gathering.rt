@@ -1,0 +1,120 @@
+//! Reading the blocks of an image that its checks need.
+ghost use Rattle.std.specs.Prelude.{◌≡◌, ◌≤◌, true, None, IsSome, OnOk, IfOk};
+ghost use Rattle.hfs_blocks.specs.Layers.{changes, AreWithin};
+ghost use Rattle.hfs_check.specs.Faults as faults;
+ghost use Rattle.hfs_check.specs.Parts.{mdb_in, extents_blocks};
+ghost use Rattle.hfs_check.specs.Sound.{IsMdbSound};
+ghost use Rattle.hfs_sparse.specs.Sparse.{sparse, HasEach};
+ghost use Rattle.hfs_needed.specs.Gathered.{LieAt, HasRead, HasNeeded, IsOfKnown};
+ghost use Rattle.hfs_needed.specs.Needed.{has_extents_file, needed_of_catalog, needed_of_trees};
+
+use crate::finding::{catalog_runs, extents_runs};
+use hfs_blocks::{Patch, Run};
+use hfs_check::{mdb_fault, no_mdb_fault, read_mdb};
+use hfs_fields::Mdb;
+use hfs_sparse::{BlockSource, SparseFault, ZeroBlocks, fetch, fetch_range, fetch_runs};
+use std::alloc::Global;
+
+/// Reads what is needed of the catalog, where the blocks of the extents tree were read, which lies in these runs.
+fn gather_catalog<S: BlockSource>(
+    alloc: Global,
+    source: &mut S,
+    read: &mut Patch,
+    count: u32,
+    mdb: &Mdb,
+    extents_tree: &[Run],
+) -> Result<(), SparseFault>
+    requires sound { IsMdbSound count mdb.now }
+    requires is { mdb.now ≡ mdb_in (sparse read.old) }
+    requires file { has_extents_file (sparse read.old) ≡ true }
+    requires runs { LieAt count (extents_blocks (sparse read.old)) extents_tree.now }
+    requires has_mdb { IsSome (changes read.old 2) }
+    requires has_extents { HasEach read.old (extents_blocks (sparse read.old)) }
+    ensures has { OnOk result (HasEach read.new (needed_of_catalog (sparse read.new))) }
+    ensures reads { HasRead (S.image source.old) count read.old read.new }
+    ensures image { S.image source.new ≡ S.image source.old }
+{
+    let zeros = ZeroBlocks { count };
+    let Ok(runs) = catalog_runs(alloc, &read.over(&zeros), mdb, extents_tree) else {
+        return Err(SparseFault::Memory);
+    };
+    fetch_runs(source, read, &runs)?;
+    Ok(())
+}
+
+/// Reads what is needed of both trees, where the master directory block was read.
+fn gather_trees<S: BlockSource>(
+    alloc: Global,
+    source: &mut S,
+    read: &mut Patch,
+    count: u32,
+    mdb: &Mdb,
+) -> Result<(), SparseFault>
+    requires sound { IsMdbSound count mdb.now }
+    requires is { mdb.now ≡ mdb_in (sparse read.old) }
+    requires has_mdb { IsSome (changes read.old 2) }
+    ensures has { OnOk result (HasEach read.new (needed_of_trees (sparse read.new))) }
+    ensures reads { HasRead (S.image source.old) count read.old read.new }
+    ensures image { S.image source.new ≡ S.image source.old }
+{
+    let zeros = ZeroBlocks { count };
+    let Ok(found) = extents_runs(alloc, &read.over(&zeros), mdb) else {
+        return Err(SparseFault::Memory);
+    };
+    let Some(runs) = found else {
+        return Ok(());
+    };
+    fetch_runs(source, read, &runs)?;
+    gather_catalog(alloc, source, read, count, mdb, &runs)?;
+    Ok(())
+}
+
+/// Reads what is needed behind a master directory block that was read and is right.
+fn gather_rest<S: BlockSource>(
+    alloc: Global,
+    source: &mut S,
+    read: &mut Patch,
+    count: u32,
+    mdb: &Mdb,
+) -> Result<(), SparseFault>
+    requires some { 3 ≤ count }
+    requires sound { IsMdbSound count mdb.now }
+    requires is { mdb.now ≡ mdb_in (sparse read.old) }
+    requires has_mdb { IsSome (changes read.old 2) }
+    ensures has { OnOk result (HasNeeded count read.new) }
+    ensures reads { HasRead (S.image source.old) count read.old read.new }
+    ensures image { S.image source.new ≡ S.image source.old }
+{
+    fetch(source, read, count - 2)?;
+    let first = u32::from(mdb.bitmap_start);
+    let blocks = u32::from(mdb.allocation_blocks).div_ceil(4_096);
+    fetch_range(source, read, first, blocks)?;
+    gather_trees(alloc, source, read, count, mdb)?;
+    Ok(())
+}
+
+/// The blocks that the checks and the report of an image of `count` blocks need, found by what was read before: the master
+/// directory block, its copy, the bitmap, the extents tree and the catalog. Nothing behind a part that is wrong is read, and no block twice.
+/// Errors: a read failed, memory was refused.
+pub fn gather_needed<S: BlockSource>(
+    alloc: Global,
+    source: &mut S,
+    count: u32,
+) -> Result<Patch, SparseFault>
+    requires { 3 ≤ count }
+    ensures needed { IfOk result (λ read. HasNeeded count read) }
+    ensures told { IfOk result (λ read. IsOfKnown (S.image source.old) read) }
+    ensures within { IfOk result (λ read. AreWithin (changes read) count) }
+    ensures image { S.image source.new ≡ S.image source.old }
+{
+    no_mdb_fault();
+    let zeros = ZeroBlocks { count };
+    let mut read = Patch::new(alloc);
+    fetch(source, &mut read, 2)?;
+    let mdb = read_mdb(&read.over(&zeros));
+    if mdb_fault(&mdb, count).is_some() {
+        return Ok(read);
+    }
+    gather_rest(alloc, source, &mut read, count, &mdb)?;
+    Ok(read)
+}

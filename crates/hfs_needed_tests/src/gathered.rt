@@ -1,0 +1,128 @@
+//! What the checks find in the needed blocks, and what they find in the whole image.
+use crate::sources::FailingSource;
+use hfs_check::{MountFault, check_blocks, check_image};
+use hfs_fixtures::{SmallVolume, lay, small_image};
+use hfs_needed::gather_needed;
+use hfs_sparse::{ByteSource, SeekSource, SparseFault, ZeroBlocks};
+use std::alloc::Global;
+use std::io::Cursor;
+use std::process::Abort;
+
+/// The image of a small volume.
+fn image_of(rt: &(impl Abort + AllocGlobal), volume: SmallVolume) -> Vec<u8> {
+    let Ok(image) = small_image(rt.alloc(), volume) else {
+        panic!(rt; "the volume is not laid");
+    };
+    image
+}
+
+/// What the checks find in the whole image.
+fn fault_of(alloc: Global, image: &[u8]) -> Option<MountFault> {
+    match check_image(alloc, image) {
+        Ok(_) => None,
+        Err(fault) => Some(fault),
+    }
+}
+
+/// What they find in its needed blocks.
+fn needed_fault(rt: &(impl Abort + AllocGlobal), image: &[u8]) -> Option<MountFault> {
+    let count = (image.len() / 512) as u32;
+    let mut source = ByteSource { bytes: image };
+    let Ok(read) = gather_needed(rt.alloc(), &mut source, count) else {
+        panic!(rt; "a block is not read");
+    };
+    let zeros = ZeroBlocks { count };
+    match check_blocks(rt.alloc(), &read.over(&zeros)) {
+        Ok(_) => None,
+        Err(fault) => Some(fault),
+    }
+}
+
+/// How many blocks are read.
+fn needed_len(rt: &(impl Abort + AllocGlobal), image: &[u8]) -> usize {
+    let count = (image.len() / 512) as u32;
+    let mut source = ByteSource { bytes: image };
+    match gather_needed(rt.alloc(), &mut source, count) {
+        Ok(read) => read.len(),
+        Err(_) => 0,
+    }
+}
+
+/// Block 2, block 62, the bitmap in block 3, the extents tree in 4 and 5, and the catalog tree in 6 to 11.
+#[test]
+fn reads_both_trees_and_the_bitmap(rt: HostRuntime) {
+    let image = image_of(&rt, SmallVolume::OneFile);
+    assert_eq!(rt; needed_len(&rt, &image), 11);
+}
+
+/// Behind a wrong signature nothing is read, and behind a wrong extents tree no catalog.
+#[test]
+fn reads_nothing_behind_what_is_wrong(rt: HostRuntime) {
+    let mut image = image_of(&rt, SmallVolume::OneFile);
+    image[2048 + 8] = 9;
+    assert_eq!(rt; needed_len(&rt, &image), 5);
+    image[1024] = 0;
+    assert_eq!(rt; needed_len(&rt, &image), 1);
+}
+
+/// Each byte of blocks 2 to 6 is changed once.
+#[test]
+fn finds_the_same_in_changed_images(rt: HostRuntime) {
+    let mut image = image_of(&rt, SmallVolume::TwoLevels);
+    for at in 1_024..3_584 {
+        let byte = image[at];
+        image[at] = 255 - byte;
+        let same = needed_fault(&rt, &image) == fault_of(rt.alloc(), &image);
+        assert!(rt; same);
+        image[at] = byte;
+    }
+}
+
+/// The image is cut at each of its lengths from three blocks on.
+#[test]
+fn finds_the_same_in_cut_images(rt: HostRuntime) {
+    let mut image = image_of(&rt, SmallVolume::Folder);
+    while image.len() > 1_536 {
+        image.truncate(image.len() - 1);
+        let same = needed_fault(&rt, &image) == fault_of(rt.alloc(), &image);
+        assert!(rt; same);
+    }
+}
+
+/// What a source gives of which only so many reads do not fail.
+fn failing(rt: &(impl Abort + AllocGlobal), image: &[u8], left: u32) -> Option<SparseFault> {
+    let mut source = FailingSource {
+        source: ByteSource { bytes: image },
+        left,
+    };
+    match gather_needed(rt.alloc(), &mut source, 64) {
+        Ok(_) => None,
+        Err(fault) => Some(fault),
+    }
+}
+
+#[test]
+fn fails_where_a_read_fails(rt: HostRuntime) {
+    let image = image_of(&rt, SmallVolume::OneFile);
+    for left in 0..11 {
+        assert_eq!(rt; failing(&rt, &image, left), Some(SparseFault::ReadFailed));
+    }
+    assert_eq!(rt; failing(&rt, &image, 11), None);
+}
+
+/// A reader that can seek gives the same blocks.
+#[test]
+fn reads_by_seeking(rt: HostRuntime) {
+    let image = image_of(&rt, SmallVolume::OneFile);
+    let mut source = SeekSource {
+        reader: Cursor::new(image.as_slice()),
+    };
+    let Ok(read) = gather_needed(rt.alloc(), &mut source, 64) else {
+        panic!(rt; "a block is not read");
+    };
+    for n in 2..12 {
+        let at = n as usize * 512;
+        let same = read.get(n).map(|block| block.as_slice()) == image.get(at..at + 512);
+        assert!(rt; same);
+    }
+}
