@@ -228,6 +228,86 @@ wants 4 "cannot write $folder/none/file\n" repair "$small" "$folder/none/file"
 wants 4 "cannot write /dev/full\n" repair "$small" /dev/full
 wants 4 "cannot read $folder/none.img\n" repair "$folder/none.img" "$folder/mended.img"
 
+# Scripts: what is answered, what is written, and that nothing is where a script, an image or a write is refused. A new volume of 64
+# blocks with 20 catalog nodes has 36 free blocks.
+wide=$folder/wide.img script=$folder/script zeros=$(printf '0%.0s' {1..64})
+wants 0 '' new "$wide" D 64 20 2
+cp "$wide" "$folder/kept.img"
+
+# Writes the script, in which a line's fields are parted by tabs.
+writes() {
+    printf "$1" > "$script"
+}
+
+writes '1\tmkdir\t2\tDocs\n1\tcreate\t16\tRead Me\n1\tcreate\t16\tREAD ME\n1\tlist\t2\n'
+answers="1\t1\t0\tid 16\n1\t2\t0\tid 17\n1\t3\t-48\t-\n1\t4\t0\tlist 1\n\td 16 2 100 100 0 0 0 1 0 $zeros Docs\n"
+wants 0 "$answers" run "$wide" "$script" --now 100
+wants 0 "$answers" run "$wide" "$script" --now 100 --out "$folder/ran.img"
+cmp "$wide" "$folder/kept.img" || fail 'run wrote its image'
+wants 0 'd\t16\t1\t0\tDocs\n' ls "$folder/ran.img"
+wants 0 'f\t17\t0\t0\tRead Me\n' ls "$folder/ran.img" 16
+wants 0 'sound\nfiles 1\nfolders 1\nfree 36\nalternate same\nunowned 0\n' check "$folder/ran.img"
+cp "$wide" "$folder/same.img"
+wants 0 "$answers" run "$folder/same.img" "$script" --now 100 --out "$folder/same.img"
+cmp "$folder/same.img" "$folder/ran.img" || fail 'run over its own image'
+
+writes '1\tcreate\t2\ta\n2\tdelete\t2\tq\n'
+wants 0 '1\t1\t0\tid 16\n2\t1\t-43\t-\n' run "$wide" "$script"
+writes 'v2\tlist\t2'
+wants 0 'v2\t1\t0\tlist 0\n' run "$wide" "$script"
+writes '1\tcreate\t2\tf\n1\tnewid\t2\tf\n1\tresolve\t16\n1\tdropid\t16\n1\tresolve\t16\n'
+wants 0 '1\t1\t0\tid 16\n1\t2\t0\tid 16\n1\t3\t0\tplace 2 f\n1\t4\t0\t-\n1\t5\t-1300\t-\n' run "$wide" "$script"
+writes ''
+wants 0 '' run "$wide" "$script"
+wants 0 '' new "$folder/narrow.img" D 64 4 2
+writes '1\tcreate\t2\ta\n1\tcreate\t2\tb\n1\tcreate\t2\tc\n1\tcreate\t2\td\n1\trename\t2\ta\tA\n1\trename\t2\tA\tz\n1\tcreate\t2\te\n'
+wants 0 '1\t1\t0\tid 16\n1\t2\t0\tid 17\n1\t3\t0\tid 18\n1\t4\t0\tid 19\n1\t5\t0\t-\n1\t6\t-34\tfull 0 2\n1\t7\t-34\tfull 0 2\n' run "$folder/narrow.img" "$script"
+writes "1\tinfo\t19\tm0\n1\tread\t19\tm0\tdata\t700\t0\n1\tread\t19\tm0\tdata\t701\t0\n1\tindexed\t2\t4\n"
+"$tool" run "$disk" "$script" > "$folder/printed" || fail 'run on the disk of another program'
+[ "$(sed -n 1p "$folder/printed" | cut -d' ' -f2-4,10-11)" = 'f 20 19 700 300' ] || fail 'what is told of m0'
+sed -n '2,$p' "$folder/printed" | cmp -s - <(printf '1\t2\t0\tbytes\n1\t3\t-39\tbytes\n1\t4\t-43\t-\n') || fail 'the answers on the disk'
+
+# Faults, in their order: the files, the script, the image.
+for bad in '9\tlist\t2' '' '1\tlist\t2\t' '1\tlist' '1\tnone\t2' 'v1\tcreate\t2\ta' '1\tlist\t4294967296' '01x\tlist\t2'; do
+    writes "1\tcreate\t2\ta\n$bad\n1\tlist\t2\n"
+    wants 2 'script line 2\n' run "$wide" "$script" --out "$folder/none.img"
+done
+wants 2 'script line 2\n' run "$folder/changed.img" "$script" --out "$folder/none.img"
+head -c 16777216 /dev/zero > "$script"
+wants 2 'script line 1\n' run "$wide" "$script" --out "$folder/none.img"
+head -c 16777217 /dev/zero > "$script"
+wants 2 'script too large\n' run "$wide" "$script" --out "$folder/none.img"
+writes '1\tcreate\t2\ta\n'
+wants 2 'check C8 at 1\n' run "$folder/changed.img" "$script" --out "$folder/none.img"
+wants 4 "cannot read $folder/none.img\n" run "$folder/none.img" "$folder/none" --out "$folder/none.img"
+wants 4 "cannot read $folder/none\n" run "$wide" "$folder/none" --out "$folder/none.img"
+wants 4 "cannot write $folder/none/file\n" run "$wide" "$script" --out "$folder/none/file"
+wants 4 "cannot write /dev/full\n" run "$wide" "$script" --out /dev/full
+[ ! -e "$folder/none.img" ] || fail 'a refused run made a file'
+cmp "$wide" "$folder/kept.img" || fail 'a refused run wrote its image'
+[ -z "$(ls "$folder" | grep new$ | grep -v '^new' || true)" ] || fail 'a run leaves a file'
+
+# Eight workers, each in a folder of its own, and four viewers, in 2,000 lines. What is answered but an ID doesn't rest on who comes first.
+wants 0 '' new "$folder/many.img" D 64 40 2
+for worker in 1 2 3 4 5 6 7 8; do printf '1\tmkdir\t2\tof %s\n' $worker; done > "$script"
+"$tool" run "$folder/many.img" "$script" --out "$folder/many.img" > "$folder/printed" || fail 'eight folders'
+awk 'BEGIN { OFS = "\t"; for (line = 0; line < 2000; line++) {
+    who = line % 12 + 1; turn = int(line / 12); dir = 15 + who; name = "n" int(turn / 4); other = "m" int(turn / 4)
+    if (who > 8) print "v" (who - 8), "dirinfo", 99
+    else if (turn % 4 == 0) print who, "create", dir, name
+    else if (turn % 4 == 1) print who, "create", dir, name
+    else if (turn % 4 == 2) print who, "rename", dir, name, other
+    else print who, "delete", dir, other } }' > "$script"
+awk 'BEGIN { OFS = "\t"; for (line = 0; line < 2000; line++) {
+    who = line % 12 + 1; turn = int(line / 12)
+    if (who > 8) print "v" (who - 8), turn + 1, -120, "-"
+    else if (turn % 4 == 0) print who, turn + 1, 0, "id"
+    else if (turn % 4 == 1) print who, turn + 1, -48, "-"
+    else print who, turn + 1, 0, "-" } }' > "$folder/wanted"
+"$tool" run "$folder/many.img" "$script" --out "$folder/ran.img" > "$folder/printed" || fail 'eight workers and four viewers'
+sed 's/id [0-9]*$/id/' "$folder/printed" | cmp -s - "$folder/wanted" || fail 'the answers to eight workers and four viewers'
+[ "$("$tool" check "$folder/ran.img" | sed -n '1p;3p')" = "$(printf 'sound\nfolders 8')" ] || fail 'the volume of eight workers'
+
 # Two folders of another program's disk, whose records stand in another order than their IDs: Documents (17) and System Folder (16).
 cp "$disk" "$folder/changed.img"
 for name in Documents 'System Folder'; do
