@@ -115,6 +115,18 @@ const CHECKS: &str = "What is printed where the volume is not sound:
   C12  space
 docs/CHECKS.md says what each wants, and what N counts.";
 
+/// What the word `run` tells beside its arguments.
+const RUNS: &str = "Each line of the script is answered by a line: who called, the number of the call among the caller's own, the code, and a
+value. With --out the changed image is written before the first answer is printed.
+
+Faults, in the order in which they are looked for; each is printed alone:
+  cannot read IMAGE, or image too large
+  cannot read SCRIPT, or script too large
+  script line N      the first line that doesn't read, counted from 1; no call was made
+  what check tells   the volume of the image is refused; no call was made
+  no place for a viewer
+  cannot write FILE  the file is as it was";
+
 /// What stands behind the help text.
 const AFTER_HELP: &str = "Exit statuses:
   0  done
@@ -227,6 +239,7 @@ fn run_command<'a>(alloc: Global) -> Result<Command<'a>, AllocError> {
         .about(
             "Runs a script of calls by several workers and viewers at once, and prints the answers",
         )
+        .after_help(RUNS)
         .arg(image(alloc))?
         .arg(script)?
         .arg(moment(alloc))?
