@@ -267,25 +267,120 @@ writes "1\tinfo\t19\tm0\n1\tread\t19\tm0\tdata\t700\t0\n1\tread\t19\tm0\tdata\t7
 [ "$(sed -n 1p "$folder/printed" | cut -d' ' -f2-4,10-11)" = 'f 20 19 700 300' ] || fail 'what is told of m0'
 sed -n '2,$p' "$folder/printed" | cmp -s - <(printf '1\t2\t0\tbytes\n1\t3\t-39\tbytes\n1\t4\t-43\t-\n') || fail 'the answers on the disk'
 
-# Faults, in their order: the files, the script, the image.
-for bad in '9\tlist\t2' '' '1\tlist\t2\t' '1\tlist' '1\tnone\t2' 'v1\tcreate\t2\ta' '1\tlist\t4294967296' '01x\tlist\t2'; do
-    writes "1\tcreate\t2\ta\n$bad\n1\tlist\t2\n"
+# Lines that don't read. The first of them is named.
+wants_line() {
+    writes "1\tlist\t2\n$1\n9\tlist\t2\n"
     wants 2 'script line 2\n' run "$wide" "$script" --out "$folder/none.img"
+}
+
+for line in '' '1' '1\tlist\t2\t' '1\tlist\t2\r' ' 1\tlist\t2' '1 list 2' '\tlist\t2' '0\tlist\t2' '9\tlist\t2' '12\tlist\t2' 'v\tlist\t2' 'v0\tlist\t2' \
+    'v9\tlist\t2' 'V1\tlist\t2' '1v\tlist\t2' '01x\tlist\t2' '1\t\t2' '1\tList\t2' '1\tlists\t2' '1\tnone\t2'; do
+    wants_line "$line"
 done
-wants 2 'script line 2\n' run "$folder/changed.img" "$script" --out "$folder/none.img"
-head -c 16777216 /dev/zero > "$script"
-wants 2 'script line 1\n' run "$wide" "$script" --out "$folder/none.img"
-head -c 16777217 /dev/zero > "$script"
-wants 2 'script too large\n' run "$wide" "$script" --out "$folder/none.img"
-writes '1\tcreate\t2\ta\n'
-wants 2 'check C8 at 1\n' run "$folder/changed.img" "$script" --out "$folder/none.img"
-wants 4 "cannot read $folder/none.img\n" run "$folder/none.img" "$folder/none" --out "$folder/none.img"
-wants 4 "cannot read $folder/none\n" run "$wide" "$folder/none" --out "$folder/none.img"
+
+# Each word with all its fields, and with each of them wrong, one too few and one too many. A name may be any bytes.
+while read -r word kinds; do
+    good=() bad=()
+    for kind in $kinds; do
+        case $kind in
+            number) good+=(2) bad+=('- x +2 4294967296 00000000002') ;;
+            name) good+=(n) bad+=('') ;;
+            fork) good+=(res) bad+=('- Data rsrc 0') ;;
+            digits*) good+=("$(head -c "${kind#digits}" /dev/zero | tr '\0' a)") && bad+=("- ${good[-1]}a ${good[-1]#aa} ${good[-1]#a}g") ;;
+        esac
+    done
+    line=$(printf '\\t%s' "${good[@]}")
+    writes "1\t$word$line\n"
+    "$tool" run "$wide" "$script" > "$folder/printed" || fail "the word $word"
+    grep -q $'^1\t1\t-\?[0-9]*\t' "$folder/printed" || fail "what $word is answered"
+    wants_line "1\t$word$line\t2"
+    wants_line "1\t$word$(printf '\\t%s' "${good[@]:1}")"
+    case $word in
+        dirinfo | info | indexed | list | read) writes "v1\t$word$line\n" && wants 0 "v$(cat "$folder/printed")\n" run "$wide" "$script" ;;
+        *) wants_line "v1\t$word$line" ;;
+    esac
+    for place in "${!good[@]}"; do
+        for field in ${bad[place]}; do
+            wrong=("${good[@]}")
+            wrong[place]=${field#-}
+            wants_line "1\t$word$(printf '\\t%s' "${wrong[@]}")"
+        done
+    done
+done << 'END'
+dirinfo number
+info number name
+indexed number number
+list number
+read number name fork number number
+create number name
+mkdir number name
+delete number name
+rename number name name
+move number name number
+setfinfo number name digits32
+setinfo number name number number number digits64
+lock number name
+unlock number name
+newid number name
+dropid number
+resolve number
+END
+
+# Faults, in the order in which they are looked for, each beside the next one: the words, IMAGE, SCRIPT, its lines, the volume, FILE. A FILE that
+# was there is as it was, and none is made.
+cp "$disk" "$folder/file.img"
+run_refused() {
+    wants "$1" "$2" run "$3" "$4" --out "$folder/file.img"
+    wants "$1" "$2" run "$3" "$4" --out "$folder/none.img"
+    cmp "$disk" "$folder/file.img" || fail "FILE behind '$2'"
+    [ ! -e "$folder/none.img" ] || fail "a FILE behind '$2'"
+}
+
+run_words_refused() {
+    "$tool" run "$@" > "$folder/printed" && fail 'words that should be refused' || [ $? = 1 ] || fail "the status of the words '$*'"
+    grep -q -i usage "$folder/printed" || fail "what the words '$*' are told"
+    cmp "$disk" "$folder/file.img" || fail "FILE behind the words '$*'"
+}
+
+head -c 16777217 /dev/zero > "$folder/large.txt"
+head -c 16777216 /dev/zero > "$folder/zeros.txt"
+printf '1\tlist\t2\nlist\t2\n' > "$folder/bad.txt"
+printf '1\tcreate\t2\ta\n' > "$script"
+head -c 1535 /dev/zero > "$folder/short.img"
+truncate -s 2147483649 "$folder/large.img"
+run_words_refused
+run_words_refused "$folder/none.img"
+run_words_refused "$folder/none.img" "$folder/none.txt" more --out "$folder/file.img"
+run_words_refused "$folder/none.img" "$folder/none.txt" --now 4294967296 --out "$folder/file.img"
+run_words_refused "$folder/none.img" "$folder/none.txt" --now x --out "$folder/file.img"
+run_words_refused "$folder/none.img" "$folder/none.txt" --out
+run_refused 4 "cannot read $folder/none.img\n" "$folder/none.img" "$folder/none.txt"
+run_refused 4 "cannot read $folder/none.img\n" "$folder/none.img" "$folder/large.txt"
+run_refused 4 "cannot read $folder\n" "$folder" "$folder/bad.txt"
+run_refused 2 'image too large\n' "$folder/large.img" "$folder/large.txt"
+rm "$folder/large.img"
+run_refused 4 "cannot read $folder/none.txt\n" "$folder/short.img" "$folder/none.txt"
+run_refused 4 "cannot read $folder\n" "$folder/short.img" "$folder"
+run_refused 2 'script too large\n' "$folder/short.img" "$folder/large.txt"
+run_refused 2 'script line 1\n' "$folder/short.img" "$folder/zeros.txt"
+run_refused 2 'script line 2\n' "$folder/changed.img" "$folder/bad.txt"
+run_refused 2 'image too short\n' "$folder/short.img" "$script"
+run_refused 2 'check C8 at 1\n' "$folder/changed.img" "$script"
+wants 2 'check C8 at 1\n' run "$folder/changed.img" "$script" --out "$folder/none/file"
 wants 4 "cannot write $folder/none/file\n" run "$wide" "$script" --out "$folder/none/file"
 wants 4 "cannot write /dev/full\n" run "$wide" "$script" --out /dev/full
-[ ! -e "$folder/none.img" ] || fail 'a refused run made a file'
 cmp "$wide" "$folder/kept.img" || fail 'a refused run wrote its image'
 [ -z "$(ls "$folder" | grep new$ | grep -v '^new' || true)" ] || fail 'a run leaves a file'
+
+# A FILE in a folder that can't be written to stays, also where it is the image; root may write anywhere.
+if [ "$(id -u)" != 0 ]; then
+    mkdir "$folder/shut"
+    cp "$wide" "$folder/shut/file.img"
+    chmod 555 "$folder/shut"
+    wants 4 "cannot write $folder/shut/file.img\n" run "$folder/shut/file.img" "$script" --out "$folder/shut/file.img"
+    cmp "$wide" "$folder/shut/file.img" || fail 'FILE behind a failed write'
+    chmod 755 "$folder/shut"
+fi
 
 # Eight workers, each in a folder of its own, and four viewers, in 2,000 lines. What is answered but an ID doesn't rest on who comes first.
 wants 0 '' new "$folder/many.img" D 64 40 2
