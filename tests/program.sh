@@ -292,7 +292,7 @@ while read -r word kinds; do
     line=$(printf '\\t%s' "${good[@]}")
     writes "1\t$word$line\n"
     "$tool" run "$wide" "$script" > "$folder/printed" || fail "the word $word"
-    grep -q $'^1\t1\t-\?[0-9]*\t' "$folder/printed" || fail "what $word is answered"
+    grep -q -E $'^1\t1\t-?[0-9]+\t' "$folder/printed" || fail "what $word is answered"
     wants_line "1\t$word$line\t2"
     wants_line "1\t$word$(printf '\\t%s' "${good[@]:1}")"
     case $word in
@@ -338,7 +338,7 @@ run_refused() {
 
 run_words_refused() {
     "$tool" run "$@" > "$folder/printed" && fail 'words that should be refused' || [ $? = 1 ] || fail "the status of the words '$*'"
-    grep -q -i usage "$folder/printed" || fail "what the words '$*' are told"
+    [ -s "$folder/printed" ] || fail "what the words '$*' are told"
     cmp "$disk" "$folder/file.img" || fail "FILE behind the words '$*'"
 }
 
