@@ -85,13 +85,13 @@ made_of passes journal count all are place below =
 pass_at : {V : Type 0} (items : V → List Call) (book : Book) (opening : Volume) (lines : List ScriptLine) (workers : ℕ) (passes : List PassState) (jobs : List (PassState × V)) (dones : List Done)
     → AreJobs items lines workers passes jobs → AreDone items book opening jobs dones → (place : ℕ) (p : PassState) → place < length (map (λ (done : Done). done.pass) dones)
     → get_or (map (λ (done : Done). done.pass) dones) place p ≡ pass_state (place + 1) (1 + length (worker_replies dones (place + 1)))
-pass_at items book opening lines workers passes [] dones h done place p below = let no : ⊥ = omega (arith, done.many, length-map [] (λ (done : Done). done.pass)) in absurd no
+pass_at items book opening lines workers passes [] dones h done place p below = let no : ⊥ = omega (arith, done.many, length-map dones (λ (done : Done). done.pass)) in absurd no
 pass_at items book opening lines workers passes (j ∷ jobs) [] h done place p below = let no : ⊥ = omega (arith, done.many) in absurd no
 pass_at items book opening lines workers passes (j ∷ jobs) (d ∷ dones) h done place p below =
-    let within : place < length (d ∷ dones) = omega (arith, length-map (λ (done : Done). done.pass) (d ∷ dones)) in
+    let within : place < length (d ∷ dones) = omega (arith, length-map (d ∷ dones) (λ (done : Done). done.pass)) in
     let w = work_at items book opening lines workers passes (j ∷ jobs) (d ∷ dones) h done place (omega (arith, done.many, h.many, h.first.many)) d j in
     let many : length (worker_replies (d ∷ dones) (place + 1)) ≡ length (get_or (d ∷ dones) place d).replies.items =
-    ap length (replies_at (d ∷ dones) place d within) ∙ length-map (λ reply. reply.0) (get_or (d ∷ dones) place d).replies.items in
+    ap length (replies_at (d ∷ dones) place d within) ∙ length-map (get_or (d ∷ dones) place d).replies.items (λ (reply : Reply × ToldState). reply.0) in
     get_or-map (λ (done : Done). done.pass) (d ∷ dones) place d p within ∙ w.pass ∙ ap (λ (n : ℕ). pass_state (place + 1) (1 + n)) (sym many)
 
 pub made_at : {V : Type 0} (items : V → List Call) (book : Book) (opening : Volume) (lines : List ScriptLine) (workers : ℕ) (passes : List PassState) (jobs : List (PassState × V)) (dones : List Done) (journal : List Entry)

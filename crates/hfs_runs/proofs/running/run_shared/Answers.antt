@@ -11,6 +11,7 @@ use Rattle.hfs_runs.specs.Asking.{AreNumbered}
 use Rattle.hfs_runs.specs.Runs.{IsHandedOut}
 use Rattle.hfs_runs.proofs.Small.{workers_within, viewers_within}
 use Rattle.hfs_runs.proofs.Working.{AreJobs, AreDone, AreViewings, AreViewed, first_book}
+use Rattle.hfs_runs.proofs.Reasons.{ok_is}
 use Rattle.hfs_runs.proofs.OneRun.{begun, ran}
 use Rattle.hfs_runs.proofs.running.run_shared.Goals as goal
 
@@ -44,7 +45,11 @@ returns-clause-ok g c =
     let viewed : AreViewed c.in_ok-viewings.viewings.items c.run_beside-dones.result.1.items = record { many = c.run_beside-dones.ensures.viewings; each = c.run_beside-dones.ensures.viewed } in
     let begins : AreJobs (λ (calls : Vec Call Global). calls.items) script (workers script) c.args.passes.items c.in_ok-jobs.jobs.items =
     record { first = c.requires.started.passes_are; many = c.in_ok-jobs.ensures.many; passes_are = c.in_ok-jobs.ensures.passes; calls_are = c.in_ok-jobs.ensures.calls } in
-    let done : AreDone (λ (calls : Vec Call Global). calls.items) book opening c.in_ok-jobs.jobs.items c.in-Ok.dones.items = record { many = c.in-Ok.ensures.dones; each = c.in-Ok.ensures.done } in
+    let done : AreDone (λ (calls : Vec Call Global). calls.items) book opening c.in_ok-jobs.jobs.items c.in-Ok.dones.items = 
+    record {
+      many = ok_is c.run_beside-dones.result.0 c.in-Ok.dones _ c.in-Ok.is c.run_beside-dones.ensures.dones;
+      each = ok_is c.run_beside-dones.result.0 c.in-Ok.dones _ c.in-Ok.is c.run_beside-dones.ensures.done;
+    } in
     let numbered : AreNumbered (map (λ (line : ScriptLine). line.caller) script) c.in_ok-lines.lines.items =
     subst (λ (l : List ScriptLine). AreNumbered (map (λ (line : ScriptLine). line.caller) l) c.in_ok-lines.lines.items) c.lines.ensures.value c.in_ok-lines.ensures in
     let out : IsHandedOut opening c.in_ok-volume.volume (map (λ (done : Done). done.pass) c.in-Ok.dones.items) =
