@@ -79,7 +79,7 @@ pub counted_more : (workers viewers new_workers new_viewers : List ℕ) (callers
     → counted new_workers new_viewers c ≡ times c (take (i + 1) callers)
 counted_more workers viewers new_workers new_viewers callers i none c below here more before =
     counted_either workers viewers new_workers new_viewers callers i none c below
-      (subst (λ (caller : Caller). IsCounted workers viewers caller new_workers new_viewers) (sym here) more) before (is_same (get_or callers i none) c) refl
+    (subst (λ (caller : Caller). IsCounted workers viewers caller new_workers new_viewers) (sym here) more) before (is_same (get_or callers i none) c) refl
 
 -- ---- the lines so far
 
@@ -96,6 +96,6 @@ numbered_more callers numbered i caller number below many here is before place n
     let asked : Asked = record { caller = caller; number = number } in
     let same : asked ≡ asked_at callers i caller = λ j. record { caller = caller; number = is j } in
     below_more (λ k. get_or (numbered ++ asked ∷ []) k nothing ≡ asked_at callers k (get_or callers k none)) i
-      (λ k less. get_or_append_left numbered (asked ∷ []) nothing k (omega arith) ∙ before k none nothing less)
-      (get_or_push numbered asked nothing i many ∙ same ∙ ap (asked_at callers i) (sym (here none)))
-      place within
+    (λ k less. get_or_append_left numbered (asked ∷ []) nothing k (omega arith) ∙ before k none nothing less)
+    (get_or_push numbered asked nothing i many ∙ same ∙ ap (asked_at callers i) (sym (here none)))
+    place within

@@ -63,4 +63,4 @@ if_err (Ok x) P Q f h = h
 if_err (Err e) P Q f h = f e h
 
 pub ok_is : {T E : Type 0} (r : Result T E) (x : T) (P : T → Type 0) → r ≡ Ok x → IfOk r P → P x
-ok_is r x P is h = subst (λ (o : Result T E). IfOk o P) is h
+ok_is {T = T} {E = E} r x P is h = subst (λ (o : Result T E). IfOk o P) is h

@@ -17,8 +17,8 @@ returns c =
     let rest : List ℕ = codes "\tnone\t-\n" in
     let same : c.as_str-in-None.result.now ≡ who = c.as_str-in-None.ensures.value ∙ c.in_ok-who.ensures in
     subst (λ o. IfOk c.format.result (λ text. string_bytes text ≡ answer_text c.args.asked o)) (sym none)
-      (if_ok c.format.result _ (λ text. string_bytes text ≡ answer_text c.args.asked None)
-        (λ text h.
-          (let whole : string_bytes text ≡ c.as_str-in-None.result.now ++ (tab ++ (number ++ rest)) = h in
-          whole ∙ ap (λ l. l ++ (tab ++ (number ++ rest))) same ∙ sym (append_assoc who tab (number ++ rest)) ∙ sym (append_assoc (who ++ tab) number rest)))
-        c.format.ensures.ok)
+    (if_ok c.format.result _ (λ text. string_bytes text ≡ answer_text c.args.asked None)
+    (λ text h.
+    (let whole : string_bytes text ≡ c.as_str-in-None.result.now ++ (tab ++ (number ++ rest)) = h in
+    whole ∙ ap (λ l. l ++ (tab ++ (number ++ rest))) same ∙ sym (append_assoc who tab (number ++ rest)) ∙ sym (append_assoc (who ++ tab) number rest)))
+    c.format.ensures.ok)

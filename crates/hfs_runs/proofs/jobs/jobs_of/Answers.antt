@@ -26,13 +26,13 @@ loop-pass-preserved c =
       number = length-append yielded (pass ∷ []) ∙ omega (arith, i.number);
       many = ap length items ∙ length-append jobs (job ∷ []) ∙ omega (arith, i.many);
       passes = λ place j p within.
-        below_more (λ k. (get_or c.push.new.self.items k j).0 ≡ get_or (yielded ++ pass ∷ []) k p) at
+          below_more (λ k. (get_or c.push.new.self.items k j).0 ≡ get_or (yielded ++ pass ∷ []) k p) at
           (λ k less. ap (λ l. (get_or l k j).0) items ∙ ap (λ x. x.0) (get_or_append_left jobs (job ∷ []) j k (omega (arith, less, i.many)))
-            ∙ i.passes k j p less ∙ sym (get_or_append_left yielded (pass ∷ []) p k (omega (arith, less, i.number))))
+          ∙ i.passes k j p less ∙ sym (get_or_append_left yielded (pass ∷ []) p k (omega (arith, less, i.number))))
           (ap (λ l. (get_or l at j).0) items ∙ ap (λ x. x.0) (get_or_push jobs job j at i.many) ∙ sym (get_or_push yielded pass p at i.number))
           place within;
       calls = λ place j within.
-        below_more (λ k. (get_or c.push.new.self.items k j).1.items ≡ calls_of (Worker (k + 1)) c.args.script) at
+          below_more (λ k. (get_or c.push.new.self.items k j).1.items ≡ calls_of (Worker (k + 1)) c.args.script) at
           (λ k less. ap (λ l. (get_or l k j).1.items) items ∙ ap (λ x. x.1.items) (get_or_append_left jobs (job ∷ []) j k (omega (arith, less, i.many))) ∙ i.calls k j less)
           (ap (λ l. (get_or l at j).1.items) items ∙ ap (λ x. x.1.items) (get_or_push jobs job j at i.many) ∙ own.calls ∙ i.workers (at + 1) (omega arith))
           place within;

@@ -25,13 +25,13 @@ loop-viewer-preserved c =
       number = length-append yielded (viewer ∷ []) ∙ omega (arith, i.number);
       many = ap length items ∙ length-append viewings (viewing ∷ []) ∙ omega (arith, i.many);
       seen = λ place w k within.
-        below_more (λ n. (get_or c.push.new.self.items n w).viewer ≡ get_or (yielded ++ viewer ∷ []) n k) at
+          below_more (λ n. (get_or c.push.new.self.items n w).viewer ≡ get_or (yielded ++ viewer ∷ []) n k) at
           (λ n less. ap (λ l. (get_or l n w).viewer) items ∙ ap (λ x. x.viewer) (get_or_append_left viewings (viewing ∷ []) w n (omega (arith, less, i.many)))
-            ∙ i.seen n w k less ∙ sym (get_or_append_left yielded (viewer ∷ []) k n (omega (arith, less, i.number))))
+          ∙ i.seen n w k less ∙ sym (get_or_append_left yielded (viewer ∷ []) k n (omega (arith, less, i.number))))
           (ap (λ l. (get_or l at w).viewer) items ∙ ap (λ x. x.viewer) (get_or_push viewings viewing w at i.many) ∙ sym (get_or_push yielded viewer k at i.number))
           place within;
       calls = λ place w within.
-        below_more (λ n. (get_or c.push.new.self.items n w).calls.items ≡ calls_of (Viewer (n + 1)) c.args.script) at
+          below_more (λ n. (get_or c.push.new.self.items n w).calls.items ≡ calls_of (Viewer (n + 1)) c.args.script) at
           (λ n less. ap (λ l. (get_or l n w).calls.items) items ∙ ap (λ x. x.calls.items) (get_or_append_left viewings (viewing ∷ []) w n (omega (arith, less, i.many))) ∙ i.calls n w less)
           (ap (λ l. (get_or l at w).calls.items) items ∙ ap (λ x. x.calls.items) (get_or_push viewings viewing w at i.many) ∙ own.calls ∙ i.viewers (at + 1) (omega arith))
           place within;

@@ -41,11 +41,11 @@ loop-line-preserved c =
     record {
       many = ap length items ∙ length-append c.loop-line.numbered.items _ ∙ omega (arith, c.loop-line.invariant.many);
       each = λ place none nothing within.
-        ap (λ (l : List Asked). get_or l place nothing) items
-        ∙ numbered_more callers c.loop-line.numbered.items i line.caller c.count_call-number.result below c.loop-line.invariant.many at (c.count_call-number.ensures.number ∙ ap (λ (n : ℕ). n + 1) before)
-            c.loop-line.invariant.each place none nothing within;
+          ap (λ (l : List Asked). get_or l place nothing) items
+          ∙ numbered_more callers c.loop-line.numbered.items i line.caller c.count_call-number.result below c.loop-line.invariant.many at (c.count_call-number.ensures.number ∙ ap (λ (n : ℕ). n + 1) before)
+          c.loop-line.invariant.each place none nothing within;
       counts = λ caller small.
-        counted_more c.loop-line.workers c.loop-line.viewers c.count_call-number.new.workers c.count_call-number.new.viewers callers i line.caller caller below (at line.caller)
+          counted_more c.loop-line.workers c.loop-line.viewers c.count_call-number.new.workers c.count_call-number.new.viewers callers i line.caller caller below (at line.caller)
           c.count_call-number.ensures.counts (c.loop-line.invariant.counts caller small);
     }
 

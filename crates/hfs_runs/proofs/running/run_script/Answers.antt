@@ -12,4 +12,4 @@ start-requires-clause-viewers g c =
     subst (λ (n : ℕ). (0 < n) × (n ≤ 8)) (sym c.viewers.ensures) (viewers_within c.in-Ok.script (script_small c.args.now c.args.script.now c.in-Ok.script c.in-Ok.ensures))
 
 pub run_shared-requires-clause-small : goal.run_shared-requires-clause-small
-run_shared-requires-clause-small g c lifetimes = script_small c.args.now c.args.script.now c.in-Ok.script c.in-Ok.ensures
+run_shared-requires-clause-small g c lifetimes lives = script_small c.args.now c.args.script.now c.in-Ok.script c.in-Ok.ensures

@@ -20,7 +20,7 @@ loop-call-preserved c =
     let at = c.loop-call.call-index in
     let below : at < length c.args.calls.now.items = omega (arith, ap length items) in (
       subst (λ (replies : List Reply). AreReads c.args.calls.now.items c.args.viewer.now replies c.view_one.new.viewer) (sym more.grown)
-        (reads_more c.args.calls.now.items c.args.viewer.now c.loop-call.replies.items c.loop-call.viewer call more.reply c.view_one.new.viewer (omega (arith, i.1))
+          (reads_more c.args.calls.now.items c.args.viewer.now c.loop-call.replies.items c.loop-call.viewer call more.reply c.view_one.new.viewer (omega (arith, i.1))
           (λ d. ap (λ (n : ℕ). get_or c.args.calls.now.items n d) i.1 ∙ get_or_default c.args.calls.now.items at d call below ∙ ap (λ (l : List Call). get_or l at call) (sym items) ∙ sym c.call-item.is)
           i.0 more.read),
       ap length more.grown ∙ omega (arith, i.1, length-append c.loop-call.replies.items (more.reply ∷ [])),
