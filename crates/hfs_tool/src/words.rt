@@ -116,7 +116,8 @@ const CHECKS: &str = "What is printed where the volume is not sound:
 docs/CHECKS.md says what each wants, and what N counts.";
 
 /// What the word `run` tells beside its arguments.
-const RUNS: &str = "Each line of the script is answered by a line: who called, the number of the call among the caller's own, the code, and a
+const RUNS: &str =
+    "Each line of the script is answered by a line: who called, the number of the call among the caller's own, the code, and a
 value. With --out the changed image is written before the first answer is printed.
 
 Faults, in the order in which they are looked for; each is printed alone:
