@@ -15,7 +15,7 @@ cat << 'END'
 .\" Made by tests/man_page.sh of the program's own help; don't edit.
 .TH HFS_TOOL 1
 .SH NAME
-hfs_tool \- reads and checks HFS volumes, mends their counts, and makes new ones
+hfs_tool \- reads and checks HFS volumes, runs scripts on them, mends their counts, and makes new ones
 .SH DESCRIPTION
 END
 "$tool" --help | as_it_stands

@@ -182,6 +182,63 @@ compare_story() {
     check_sound "$folder/story.img"
 }
 
+# The ID of the item of that name in a folder.
+id_of() {
+    "$tool" ls "$1" "$2" | awk -F'\t' -v name="$3" '$5 == name { print $2 }'
+}
+
+# A script for a volume that hfsutils filled: one worker makes a folder, of that ID, with items new and moved; another deletes and
+# renames beside it, and a viewer reads.
+write_script() {
+    local home=$1 one=$2
+    printf '1\tmkdir\t2\tRun by script\n1\tcreate\t%s\tnew 1\n1\tcreate\t%s\tnew 2\n' "$home" "$home"
+    printf '2\tdelete\t%s\tfile 7\n2\trename\t%s\tfile 8\tFile Eight\nv1\tlist\t2\n' "$one" "$one"
+    printf '1\trename\t%s\tnew 1\tNEW ONE\n1\tmove\t%s\tfile 5\t%s\n1\tmove\t%s\tfile 6\t%s\n' "$home" "$one" "$home" "$one" "$home"
+    printf '1\tdelete\t%s\tnew 2\n1\tlock\t%s\tfile 5\n' "$home" "$home"
+    printf '1\tsetinfo\t%s\tfile 6\t3029529600\t3029529600\t0\t547970654d616465%048d\n' "$home" 0
+}
+
+# Wants that hfsutils shows what the script made in the mounted volume, with its IDs, its dates and the lock.
+compare_made() {
+    local home=$1 line
+    peer_list : | grep -x "d.$home.3.0.Run by script" > /dev/null || fail "the folder of the script"
+    peer_list ':Run by script:' | cut -f 5 | diff <(printf '%s\n' 'file 5' 'file 6' 'NEW ONE') - || fail "the names of the script"
+    [ "$(peer_list ':Run by script:' | tail -n 1 | cut -f 2)" = $((home + 1)) ] || fail "the ID of the script's file"
+    peer_list ':One:' | cut -f 5 | grep -x 'File Eight' > /dev/null || fail "the name that the script gave"
+    ! peer_list ':One:' | cut -f 5 | grep -x 'file 7' > /dev/null || fail "the file that the script deleted"
+    for line in 'F  .*file 5' 'f  Type/Made .*Jan  1  2000 file 6' 'f  .* 0  *0 Jan  1  2002 NEW ONE'; do
+        peer_lines -l ':Run by script:' | grep -x "$line" > /dev/null || fail "the script: $line"
+    done
+}
+
+# Runs a script on a volume that hfsutils filled, and has hfsutils tell of it, read all forks, and go on with changes of its own.
+compare_run() {
+    local image=$1 number=$2 home one gone file
+    home=$(next_id "$image")
+    one=$(id_of "$image" 2 One)
+    gone=$(id_of "$image" "$one" 'file 7')
+    copy_volume "$image" "$folder/before.run.$number"
+    write_script "$home" "$one" > "$folder/script"
+    "$tool" run "$image" "$folder/script" --now 3092688000 --out "$folder/run.img" > "$folder/answers" || fail "the script on $image"
+    [ "$(cut -f 3 "$folder/answers" | grep -c -x 0)" = "$(wc -l < "$folder/script")" ] || fail "the answers on $image"
+    check_sound "$folder/run.img"
+    check_by_fsck "$image" "$folder/run.img"
+    copy_volume "$folder/run.img" "$folder/after.run.$number"
+    [ ! -e "$folder/after.run.$number/$gone" ] || fail "a deleted file behind the script on $image"
+    rm "$folder/before.run.$number/$gone"
+    for file in "$folder/before.run.$number"/*; do
+        cmp "$file" "$folder/after.run.$number/$(basename "$file")" || fail "a fork behind the script on $image"
+    done
+    hmount "$folder/run.img" > /dev/null
+    compare_made "$home"
+    hmkdir ':Run by script:By hfsutils'
+    hcopy -r "$folder/some bytes" ':Run by script:By hfsutils:copied'
+    hdel ':Run by script:file 6'
+    hrename ':Run by script:NEW ONE' ':Run by script:By hfsutils:renamed'
+    humount
+    check_sound "$folder/run.img"
+}
+
 # A volume that hfsutils made.
 dd if=/dev/zero of="$folder/theirs.img" bs=1024 count=1440 2> /dev/null
 hformat -l Theirs "$folder/theirs.img" > /dev/null
@@ -210,5 +267,9 @@ compare_settings "$folder/ours.img"
 # Items that our calls make, rename and move, on volumes that hfsutils filled.
 compare_story "$folder/theirs.img" 1
 compare_story "$folder/ours.img" 2
+
+# Items that scripts make, rename, move, delete and lock, on the same volumes.
+compare_run "$folder/theirs.img" 1
+compare_run "$folder/ours.img" 2
 
 echo 'peers agree'

@@ -228,6 +228,181 @@ wants 4 "cannot write $folder/none/file\n" repair "$small" "$folder/none/file"
 wants 4 "cannot write /dev/full\n" repair "$small" /dev/full
 wants 4 "cannot read $folder/none.img\n" repair "$folder/none.img" "$folder/mended.img"
 
+# Scripts: what is answered, what is written, and that nothing is where a script, an image or a write is refused. A new volume of 64
+# blocks with 20 catalog nodes has 36 free blocks.
+wide=$folder/wide.img script=$folder/script zeros=$(printf '0%.0s' {1..64})
+wants 0 '' new "$wide" D 64 20 2
+cp "$wide" "$folder/kept.img"
+
+# Writes the script, in which a line's fields are parted by tabs.
+writes() {
+    printf "$1" > "$script"
+}
+
+writes '1\tmkdir\t2\tDocs\n1\tcreate\t16\tRead Me\n1\tcreate\t16\tREAD ME\n1\tlist\t2\n'
+answers="1\t1\t0\tid 16\n1\t2\t0\tid 17\n1\t3\t-48\t-\n1\t4\t0\tlist 1\n\td 16 2 100 100 0 0 0 1 0 $zeros Docs\n"
+wants 0 "$answers" run "$wide" "$script" --now 100
+wants 0 "$answers" run "$wide" "$script" --now 100 --out "$folder/ran.img"
+cmp "$wide" "$folder/kept.img" || fail 'run wrote its image'
+wants 0 'd\t16\t1\t0\tDocs\n' ls "$folder/ran.img"
+wants 0 'f\t17\t0\t0\tRead Me\n' ls "$folder/ran.img" 16
+wants 0 'sound\nfiles 1\nfolders 1\nfree 36\nalternate same\nunowned 0\n' check "$folder/ran.img"
+cp "$wide" "$folder/same.img"
+wants 0 "$answers" run "$folder/same.img" "$script" --now 100 --out "$folder/same.img"
+cmp "$folder/same.img" "$folder/ran.img" || fail 'run over its own image'
+
+writes '1\tcreate\t2\ta\n2\tdelete\t2\tq\n'
+wants 0 '1\t1\t0\tid 16\n2\t1\t-43\t-\n' run "$wide" "$script"
+writes 'v2\tlist\t2'
+wants 0 'v2\t1\t0\tlist 0\n' run "$wide" "$script"
+writes '1\tcreate\t2\tf\n1\tnewid\t2\tf\n1\tresolve\t16\n1\tdropid\t16\n1\tresolve\t16\n'
+wants 0 '1\t1\t0\tid 16\n1\t2\t0\tid 16\n1\t3\t0\tplace 2 f\n1\t4\t0\t-\n1\t5\t-1300\t-\n' run "$wide" "$script"
+writes ''
+wants 0 '' run "$wide" "$script"
+wants 0 '' new "$folder/narrow.img" D 64 4 2
+writes '1\tcreate\t2\ta\n1\tcreate\t2\tb\n1\tcreate\t2\tc\n1\tcreate\t2\td\n1\trename\t2\ta\tA\n1\trename\t2\tA\tz\n1\tcreate\t2\te\n'
+wants 0 '1\t1\t0\tid 16\n1\t2\t0\tid 17\n1\t3\t0\tid 18\n1\t4\t0\tid 19\n1\t5\t0\t-\n1\t6\t-34\tfull 0 2\n1\t7\t-34\tfull 0 2\n' run "$folder/narrow.img" "$script"
+writes "1\tinfo\t19\tm0\n1\tread\t19\tm0\tdata\t700\t0\n1\tread\t19\tm0\tdata\t701\t0\n1\tindexed\t2\t4\n"
+"$tool" run "$disk" "$script" > "$folder/printed" || fail 'run on the disk of another program'
+[ "$(sed -n 1p "$folder/printed" | cut -d' ' -f2-4,10-11)" = 'f 20 19 700 300' ] || fail 'what is told of m0'
+sed -n '2,$p' "$folder/printed" | cmp -s - <(printf '1\t2\t0\tbytes\n1\t3\t-39\tbytes\n1\t4\t-43\t-\n') || fail 'the answers on the disk'
+
+# Lines that don't read. The first of them is named.
+wants_line() {
+    writes "1\tlist\t2\n$1\n9\tlist\t2\n"
+    wants 2 'script line 2\n' run "$wide" "$script" --out "$folder/none.img"
+}
+
+for line in '' '1' '1\tlist\t2\t' '1\tlist\t2\r' ' 1\tlist\t2' '1 list 2' '\tlist\t2' '0\tlist\t2' '9\tlist\t2' '12\tlist\t2' 'v\tlist\t2' 'v0\tlist\t2' \
+    'v9\tlist\t2' 'V1\tlist\t2' '1v\tlist\t2' '01x\tlist\t2' '1\t\t2' '1\tList\t2' '1\tlists\t2' '1\tnone\t2'; do
+    wants_line "$line"
+done
+
+# Each word with all its fields, and with each of them wrong, one too few and one too many. A name may be any bytes.
+while read -r word kinds; do
+    good=() bad=()
+    for kind in $kinds; do
+        case $kind in
+            number) good+=(2) bad+=('- x +2 4294967296 00000000002') ;;
+            name) good+=(n) bad+=('') ;;
+            fork) good+=(res) bad+=('- Data rsrc 0') ;;
+            digits*) good+=("$(head -c "${kind#digits}" /dev/zero | tr '\0' a)") && bad+=("- ${good[-1]}a ${good[-1]#aa} ${good[-1]#a}g") ;;
+        esac
+    done
+    line=$(printf '\\t%s' "${good[@]}")
+    writes "1\t$word$line\n"
+    "$tool" run "$wide" "$script" > "$folder/printed" || fail "the word $word"
+    grep -q -E $'^1\t1\t-?[0-9]+\t' "$folder/printed" || fail "what $word is answered"
+    wants_line "1\t$word$line\t2"
+    wants_line "1\t$word$(printf '\\t%s' "${good[@]:1}")"
+    case $word in
+        dirinfo | info | indexed | list | read) writes "v1\t$word$line\n" && wants 0 "v$(cat "$folder/printed")\n" run "$wide" "$script" ;;
+        *) wants_line "v1\t$word$line" ;;
+    esac
+    for place in "${!good[@]}"; do
+        for field in ${bad[place]}; do
+            wrong=("${good[@]}")
+            wrong[place]=${field#-}
+            wants_line "1\t$word$(printf '\\t%s' "${wrong[@]}")"
+        done
+    done
+done << 'END'
+dirinfo number
+info number name
+indexed number number
+list number
+read number name fork number number
+create number name
+mkdir number name
+delete number name
+rename number name name
+move number name number
+setfinfo number name digits32
+setinfo number name number number number digits64
+lock number name
+unlock number name
+newid number name
+dropid number
+resolve number
+END
+
+# Faults, in the order in which they are looked for, each beside the next one: the words, IMAGE, SCRIPT, its lines, the volume, FILE. A FILE that
+# was there is as it was, and none is made.
+cp "$disk" "$folder/file.img"
+run_refused() {
+    wants "$1" "$2" run "$3" "$4" --out "$folder/file.img"
+    wants "$1" "$2" run "$3" "$4" --out "$folder/none.img"
+    cmp "$disk" "$folder/file.img" || fail "FILE behind '$2'"
+    [ ! -e "$folder/none.img" ] || fail "a FILE behind '$2'"
+}
+
+run_words_refused() {
+    "$tool" run "$@" > "$folder/printed" && fail 'words that should be refused' || [ $? = 1 ] || fail "the status of the words '$*'"
+    [ -s "$folder/printed" ] || fail "what the words '$*' are told"
+    cmp "$disk" "$folder/file.img" || fail "FILE behind the words '$*'"
+}
+
+head -c 16777217 /dev/zero > "$folder/large.txt"
+head -c 16777216 /dev/zero > "$folder/zeros.txt"
+printf '1\tlist\t2\nlist\t2\n' > "$folder/bad.txt"
+printf '1\tcreate\t2\ta\n' > "$script"
+head -c 1535 /dev/zero > "$folder/short.img"
+truncate -s 2147483649 "$folder/large.img"
+run_words_refused
+run_words_refused "$folder/none.img"
+run_words_refused "$folder/none.img" "$folder/none.txt" more --out "$folder/file.img"
+run_words_refused "$folder/none.img" "$folder/none.txt" --now 4294967296 --out "$folder/file.img"
+run_words_refused "$folder/none.img" "$folder/none.txt" --now x --out "$folder/file.img"
+run_words_refused "$folder/none.img" "$folder/none.txt" --out
+run_refused 4 "cannot read $folder/none.img\n" "$folder/none.img" "$folder/none.txt"
+run_refused 4 "cannot read $folder/none.img\n" "$folder/none.img" "$folder/large.txt"
+run_refused 4 "cannot read $folder\n" "$folder" "$folder/bad.txt"
+run_refused 2 'image too large\n' "$folder/large.img" "$folder/large.txt"
+rm "$folder/large.img"
+run_refused 4 "cannot read $folder/none.txt\n" "$folder/short.img" "$folder/none.txt"
+run_refused 4 "cannot read $folder\n" "$folder/short.img" "$folder"
+run_refused 2 'script too large\n' "$folder/short.img" "$folder/large.txt"
+run_refused 2 'script line 1\n' "$folder/short.img" "$folder/zeros.txt"
+run_refused 2 'script line 2\n' "$folder/changed.img" "$folder/bad.txt"
+run_refused 2 'image too short\n' "$folder/short.img" "$script"
+run_refused 2 'check C8 at 1\n' "$folder/changed.img" "$script"
+wants 2 'check C8 at 1\n' run "$folder/changed.img" "$script" --out "$folder/none/file"
+wants 4 "cannot write $folder/none/file\n" run "$wide" "$script" --out "$folder/none/file"
+wants 4 "cannot write /dev/full\n" run "$wide" "$script" --out /dev/full
+cmp "$wide" "$folder/kept.img" || fail 'a refused run wrote its image'
+[ -z "$(ls "$folder" | grep new$ | grep -v '^new' || true)" ] || fail 'a run leaves a file'
+
+# A FILE in a folder that can't be written to stays, also where it is the image; root may write anywhere.
+if [ "$(id -u)" != 0 ]; then
+    mkdir "$folder/shut"
+    cp "$wide" "$folder/shut/file.img"
+    chmod 555 "$folder/shut"
+    wants 4 "cannot write $folder/shut/file.img\n" run "$folder/shut/file.img" "$script" --out "$folder/shut/file.img"
+    cmp "$wide" "$folder/shut/file.img" || fail 'FILE behind a failed write'
+    chmod 755 "$folder/shut"
+fi
+
+# Eight workers, each in a folder of its own, and four viewers, in 2,000 lines. What is answered but an ID doesn't rest on who comes first.
+wants 0 '' new "$folder/many.img" D 64 40 2
+for worker in 1 2 3 4 5 6 7 8; do printf '1\tmkdir\t2\tof %s\n' $worker; done > "$script"
+"$tool" run "$folder/many.img" "$script" --out "$folder/many.img" > "$folder/printed" || fail 'eight folders'
+awk 'BEGIN { OFS = "\t"; for (line = 0; line < 2000; line++) {
+    who = line % 12 + 1; turn = int(line / 12); dir = 15 + who; name = "n" int(turn / 4); other = "m" int(turn / 4)
+    if (who > 8) print "v" (who - 8), "dirinfo", 99
+    else if (turn % 4 == 0) print who, "create", dir, name
+    else if (turn % 4 == 1) print who, "create", dir, name
+    else if (turn % 4 == 2) print who, "rename", dir, name, other
+    else print who, "delete", dir, other } }' > "$script"
+awk 'BEGIN { OFS = "\t"; for (line = 0; line < 2000; line++) {
+    who = line % 12 + 1; turn = int(line / 12)
+    if (who > 8) print "v" (who - 8), turn + 1, -120, "-"
+    else if (turn % 4 == 0) print who, turn + 1, 0, "id"
+    else if (turn % 4 == 1) print who, turn + 1, -48, "-"
+    else print who, turn + 1, 0, "-" } }' > "$folder/wanted"
+"$tool" run "$folder/many.img" "$script" --out "$folder/ran.img" > "$folder/printed" || fail 'eight workers and four viewers'
+sed 's/id [0-9]*$/id/' "$folder/printed" | cmp -s - "$folder/wanted" || fail 'the answers to eight workers and four viewers'
+[ "$("$tool" check "$folder/ran.img" | sed -n '1p;3p')" = "$(printf 'sound\nfolders 8')" ] || fail 'the volume of eight workers'
+
 # Two folders of another program's disk, whose records stand in another order than their IDs: Documents (17) and System Folder (16).
 cp "$disk" "$folder/changed.img"
 for name in Documents 'System Folder'; do

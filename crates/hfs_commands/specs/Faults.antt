@@ -1,8 +1,10 @@
 -- What is printed of a fault, and how the program ends.
-use Rattle.std.specs.Prelude.{ℕ, List, [], ◌++◌, codes, ◌≡◌, ◌⊎◌}
+use Rattle.std.specs.Prelude.{Bool, true, false, ℕ, List, [], ◌++◌, codes, ◌≡◌, ◌⊎◌}
 use Rattle.std.specs.Fmt.{decimal}
 use Rattle.hfs_check.specs.declared.mount_fault.MountFault.{MountFault}
 use Rattle.hfs_check.specs.declared.mount_fault.MountFault.TheVariants as mount
+use Rattle.hfs_runs.specs.declared.fault.ScriptFault.{ScriptFault}
+use Rattle.hfs_runs.specs.declared.fault.ScriptFault.TheVariants as run
 use Rattle.hfs_commands.specs.declared.fault.Status.{Status}
 use Rattle.hfs_commands.specs.declared.fault.Status.TheVariants as status
 use Rattle.hfs_commands.specs.declared.fault.Fault.{Fault}
@@ -17,6 +19,11 @@ status_number status.CallRefused = 3
 status_number status.DeviceFailed = 4
 status_number status.NoMemory = 5
 
+-- how the program ends after a script's run
+abbrev pub status_of_run : Bool → Status
+status_of_run true = status.Done
+status_of_run false = status.NoMemory
+
 -- how the program ends after a fault
 abbrev pub status_of : Fault → Status
 status_of fault.WordsNotText = status.WordsRefused
@@ -25,6 +32,9 @@ status_of fault.BadName = status.ImageRefused
 status_of fault.BadSize = status.ImageRefused
 status_of fault.BadNodeCount = status.ImageRefused
 status_of fault.NoRoom = status.ImageRefused
+status_of (fault.ScriptLine line) = status.ImageRefused
+status_of fault.ScriptTooLarge = status.ImageRefused
+status_of fault.NoPlace = status.NoMemory
 status_of (fault.CannotRead file) = status.DeviceFailed
 status_of (fault.CannotWrite file) = status.DeviceFailed
 status_of fault.OutputFailed = status.DeviceFailed
@@ -47,10 +57,21 @@ fault_text fault.BadName = codes "bad name"
 fault_text fault.BadSize = codes "bad size"
 fault_text fault.BadNodeCount = codes "bad node count"
 fault_text fault.NoRoom = codes "no room"
+fault_text (fault.ScriptLine line) = codes "script line " ++ decimal line
+fault_text fault.ScriptTooLarge = codes "script too large"
+fault_text fault.NoPlace = codes "no place for a viewer"
 fault_text (fault.CannotRead file) = codes "cannot read " ++ file.now
 fault_text (fault.CannotWrite file) = codes "cannot write " ++ file.now
 fault_text fault.OutputFailed = []
 fault_text fault.NoMemory = codes "out of memory"
+
+-- what a fault of a script's run means for the program
+abbrev pub fault_of_run : ScriptFault → Fault
+fault_of_run run.TooLarge = fault.ScriptTooLarge
+fault_of_run (run.Line line) = fault.ScriptLine line
+fault_of_run (run.Refused why) = fault.Refused why
+fault_of_run run.NoPlace = fault.NoPlace
+fault_of_run run.Memory = fault.NoMemory
 
 -- an image has too many bytes, or more than there is memory for
 abbrev pub IsTooMuch : Fault → Type 0

@@ -1,10 +1,11 @@
 //! Why a command was not done, and how the program ends.
 ghost use Rattle.std.specs.Prelude.{◌≡◌, ◌≢◌, MatchResult, Some};
-ghost use Rattle.hfs_commands.specs.Faults.{fault_text, status_number, status_of};
+ghost use Rattle.hfs_commands.specs.Faults.{fault_of_run, fault_text, status_number, status_of, status_of_run};
 
 use crate::refusal::Refusal;
 use hfs_check::MountFault;
 use hfs_format::FormatFault;
+use hfs_runs::ScriptFault;
 use hfs_texts::{InfoFault, LoadFault};
 use std::{fmt, io};
 
@@ -15,17 +16,28 @@ pub enum Status {
     Done,
     /// The words are refused.
     WordsRefused,
-    /// The image is refused, or the plan of a new volume.
+    /// The image is refused, or the plan of a new volume, or a script.
     ImageRefused,
     /// A call on the volume answered with a code other than 0.
     CallRefused,
     /// A read or a write failed.
     DeviceFailed,
-    /// Memory was refused.
+    /// Memory was refused, or a viewer's place, or a line of a script was not answered.
     NoMemory,
 }
 
 impl Status {
+    /// How the program ends once the answers to a script are printed: `Done` where each line was answered.
+    pub fn of_run(whole: bool) -> Status
+        ensures { result ≡ status_of_run whole }
+    {
+        if whole {
+            Status::Done
+        } else {
+            Status::NoMemory
+        }
+    }
+
     /// The exit status.
     pub fn number(self) -> u8
         ensures { result ≡ status_number self }
@@ -68,6 +80,12 @@ pub enum Fault<'a> {
     BadNodeCount,
     /// The two files of a new volume don't fit it.
     NoRoom,
+    /// The line of a script that is the first that doesn't read, counted from 1.
+    ScriptLine(u64),
+    /// A script has too many bytes.
+    ScriptTooLarge,
+    /// There was no place for a viewer.
+    NoPlace,
     /// A file, or `stdin`, was not read.
     CannotRead(&'a str),
     /// A file was not written.
@@ -89,10 +107,11 @@ impl Fault<'_> {
             Fault::BadName | Fault::BadSize | Fault::BadNodeCount | Fault::NoRoom => {
                 Status::ImageRefused
             }
+            Fault::ScriptLine(_) | Fault::ScriptTooLarge => Status::ImageRefused,
             Fault::CannotRead(_) | Fault::CannotWrite(_) | Fault::OutputFailed => {
                 Status::DeviceFailed
             }
-            Fault::NoMemory => Status::NoMemory,
+            Fault::NoPlace | Fault::NoMemory => Status::NoMemory,
         }
     }
 
@@ -139,6 +158,19 @@ impl Fault<'static> {
         }
     }
 
+    /// What a fault of a script's run means for the program.
+    pub fn of_run(fault: ScriptFault) -> Fault<'static>
+        ensures { result ≡ fault_of_run fault }
+    {
+        match fault {
+            ScriptFault::TooLarge => Fault::ScriptTooLarge,
+            ScriptFault::Line(line) => Fault::ScriptLine(line),
+            ScriptFault::Refused(why) => Fault::Refused(why),
+            ScriptFault::NoPlace => Fault::NoPlace,
+            ScriptFault::Memory => Fault::NoMemory,
+        }
+    }
+
     /// What a fault of a new volume's plan means for the program.
     pub fn of_format(fault: FormatFault) -> Fault<'static>
         ensures name { fault ≡ FormatFault.BadName → result ≡ Fault.BadName }
@@ -169,6 +201,9 @@ impl fmt::Display for Fault<'_> {
             Fault::BadSize => write!(f, "bad size"),
             Fault::BadNodeCount => write!(f, "bad node count"),
             Fault::NoRoom => write!(f, "no room"),
+            Fault::ScriptLine(line) => write!(f, "script line {line}"),
+            Fault::ScriptTooLarge => write!(f, "script too large"),
+            Fault::NoPlace => write!(f, "no place for a viewer"),
             Fault::CannotRead(file) => write!(f, "cannot read {file}"),
             Fault::CannotWrite(file) => write!(f, "cannot write {file}"),
             Fault::OutputFailed => Ok(()),

@@ -4,7 +4,7 @@ ghost use Rattle.hfs_commands.specs.Faults.{IsTooMuch};
 
 use crate::fault::Fault;
 use hfs_check::MountFault;
-use hfs_texts::{IMAGE_LIMIT, load};
+use hfs_texts::{IMAGE_LIMIT, LoadFault, load, load_within};
 use std::fs;
 use std::fs::File;
 use std::rt::Files;
@@ -21,6 +21,26 @@ pub fn load_file<'a, R: Files + AllocGlobal>(rt: &R, path: &'a str) -> Result<Ve
     match load(rt.alloc(), &mut file) {
         Ok(bytes) => Ok(bytes),
         Err(fault) => Err(Fault::of_load(fault, path)),
+    }
+}
+
+/// The most bytes of a script.
+const SCRIPT_LIMIT: u64 = 16_777_216;
+
+/// All bytes of a script's file, at most 16,777,216. Faults: `CannotRead` where it can't be opened or a read fails,
+/// `ScriptTooLarge` where it has more, `NoMemory`.
+pub fn load_script<'a, R: Files + AllocGlobal>(rt: &R, path: &'a str) -> Result<Vec<u8>, Fault<'a>>
+    ensures limit { IfOk result (λ bytes. length bytes.items ≤ 16777216) }
+    ensures faults { IfErr result (λ why. (why ≡ Fault.CannotRead path.entry) ⊎ (why ≡ Fault.ScriptTooLarge) ⊎ (why ≡ Fault.NoMemory)) }
+{
+    let Ok(mut file) = File::open(rt, path) else {
+        return Err(Fault::CannotRead(path));
+    };
+    match load_within(rt.alloc(), &mut file, SCRIPT_LIMIT) {
+        Ok(bytes) => Ok(bytes),
+        Err(LoadFault::ReadFailed) => Err(Fault::CannotRead(path)),
+        Err(LoadFault::TooLarge) => Err(Fault::ScriptTooLarge),
+        Err(LoadFault::Memory) => Err(Fault::NoMemory),
     }
 }
 

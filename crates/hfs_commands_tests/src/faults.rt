@@ -46,6 +46,15 @@ fn faults_of_plans_are_told(rt: HostRuntime) -> Result<(), Fail> {
 }
 
 #[test]
+fn faults_of_scripts_are_told(rt: HostRuntime) -> Result<(), Fail> {
+    let alloc = rt.alloc();
+    assert!(rt; is_told(alloc, Fault::ScriptLine(7), "script line 7", 2)?);
+    assert!(rt; is_told(alloc, Fault::ScriptTooLarge, "script too large", 2)?);
+    assert!(rt; is_told(alloc, Fault::NoPlace, "no place for a viewer", 5)?);
+    Ok(())
+}
+
+#[test]
 fn other_faults_are_told(rt: HostRuntime) -> Result<(), Fail> {
     let alloc = rt.alloc();
     assert!(rt; is_told(alloc, Fault::WordsNotText, "the words are not text", 1)?);

@@ -1,18 +1,24 @@
 //! What each word does.
 
-use crate::words::{ForkWords, NewVolume, Words};
+use crate::words::{ForkWords, NewVolume, RunWords, Words};
 use hfs_check::MountFault;
 use hfs_commands::{
-    Fault, Status, check_text, code_text, list_text, load_file, put, refused_text, repair_answer,
-    run_info, save_file, write_file, write_fork,
+    Fault, Status, check_text, code_text, list_text, load_file, load_script, put, refused_text,
+    repair_answer, run_info, run_script, save_file, write_file, write_fork,
 };
 use hfs_format::{FormatPlan, format};
 use hfs_volume::{Volume, mount};
 use std::fs::File;
 use std::io::{Read, Write};
+use std::sync::Wait;
+use std::thread::Threads;
 
 /// Does what the words ask for, and answers the exit status.
-pub fn obey<'a>(rt: &HostRuntime, words: &Words<'a>) -> Result<u8, Fault<'a>> {
+pub fn obey<'a, T: Threads + Wait + Sync>(
+    rt: &HostRuntime,
+    threads: &T,
+    words: &Words<'a>,
+) -> Result<u8, Fault<'a>> {
     match words {
         Words::Info { image: None } => print_info(rt, &mut rt.stdin(), "stdin"),
         Words::Info { image: Some(image) } => print_info_of(rt, *image),
@@ -21,6 +27,7 @@ pub fn obey<'a>(rt: &HostRuntime, words: &Words<'a>) -> Result<u8, Fault<'a>> {
         Words::Cat(file) => print_fork(rt, file),
         Words::New(volume) => write_new(rt, volume),
         Words::Repair { image, file } => write_repaired(rt, *image, *file),
+        Words::Run(run) => print_answers(rt, threads, run),
     }
 }
 
@@ -144,6 +151,27 @@ fn write_repaired<'a>(rt: &HostRuntime, path: &'a str, file: &'a str) -> Result<
     }
     print_lines(rt, answer.lines.as_str())?;
     Ok(answer.status)
+}
+
+/// Runs a script on an image, and prints the answers. The changed image is written before the first line is printed; where
+/// that fails, only the fault is printed.
+fn print_answers<'a, T: Threads + Wait + Sync>(
+    rt: &HostRuntime,
+    threads: &T,
+    run: &RunWords<'a>,
+) -> Result<u8, Fault<'a>> {
+    let image = load_file(rt, run.image)?;
+    let script = load_script(rt, run.script)?;
+    match run_script(threads, rt.alloc(), image, script.as_slice(), run.now) {
+        Ok(ran) => {
+            if let Some(file) = run.out {
+                save_file(rt, file, &ran.volume)?;
+            }
+            print_lines(rt, ran.text.as_str())?;
+            Ok(Status::of_run(ran.whole).number())
+        }
+        Err(fault) => Err(Fault::of_run(fault)),
+    }
 }
 
 /// Prints why an image is refused.

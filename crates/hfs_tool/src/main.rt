@@ -1,4 +1,4 @@
-//! A program that reads and checks HFS volumes, mends their counts, and makes new ones.
+//! A program that reads and checks HFS volumes, runs scripts on them, mends their counts, and makes new ones.
 #![tactic(auto)]
 
 ghost use Rattle.std.specs.Prelude.{◌≡◌, ◌⊎◌};
@@ -12,14 +12,16 @@ use crate::words::read_words;
 use clap::error::ErrorKind;
 use hfs_commands::{Fault, Status};
 use std::process::ExitCode;
+use std::sync::Wait;
+use std::thread::Threads;
 use std::{env, io};
 
 fn main(rt: HostRuntime) -> ExitCode {
-    ExitCode::from(answer(&rt))
+    ExitCode::from(answer(&rt, &rt))
 }
 
-/// Reads the words and does what they ask for. Answers the exit status.
-fn answer(rt: &HostRuntime) -> u8 {
+/// Reads the words and does what they ask for, by threads where it has many callers. Answers the exit status.
+fn answer<T: Threads + Wait + Sync>(rt: &HostRuntime, threads: &T) -> u8 {
     let Ok(arguments) = env::args(rt) else {
         return refused(rt, &Fault::WordsNotText);
     };
@@ -27,7 +29,7 @@ fn answer(rt: &HostRuntime) -> u8 {
         return refused(rt, &Fault::NoMemory);
     };
     match read_words(rt.alloc(), arguments.as_slice()) {
-        Ok(words) => match obey(rt, &words) {
+        Ok(words) => match obey(rt, threads, &words) {
             Ok(status) => status,
             Err(fault) => refused(rt, &fault),
         },

@@ -22,6 +22,8 @@ pub enum Words<'a> {
     New(NewVolume<'a>),
     /// `repair IMAGE FILE`: the image with its counts mended.
     Repair { image: &'a str, file: &'a str },
+    /// `run IMAGE SCRIPT [--now N] [--out FILE]`: the calls of a script.
+    Run(RunWords<'a>),
 }
 
 /// A fork of a file, by the place of the file in an image.
@@ -52,6 +54,19 @@ pub struct NewVolume<'a> {
     pub extents_nodes: u32,
     /// The moment of its making, in seconds since midnight of 1 January 1904.
     pub now: u32,
+}
+
+/// A script that is run on an image.
+#[derive(Clone, Copy, Debug, PartialEq, Eq)]
+pub struct RunWords<'a> {
+    /// The path of the image.
+    pub image: &'a str,
+    /// The path of the script.
+    pub script: &'a str,
+    /// The moment of every change, in seconds since midnight of 1 January 1904.
+    pub now: u32,
+    /// The path of the file that the changed image is written to.
+    pub out: Option<&'a str>,
 }
 
 /// A word that has to be there, under its name in the help text.
@@ -100,14 +115,27 @@ const CHECKS: &str = "What is printed where the volume is not sound:
   C12  space
 docs/CHECKS.md says what each wants, and what N counts.";
 
+/// What the word `run` tells beside its arguments.
+const RUNS: &str =
+    "Each line of the script is answered by a line: who called, the number of the call among the caller's own, the code, and a
+value. With --out the changed image is written before the first answer is printed.
+
+Faults, in the order in which they are looked for; each is printed alone:
+  cannot read IMAGE, or image too large
+  cannot read SCRIPT, or script too large
+  script line N      the first line that doesn't read, counted from 1; no call was made
+  what check tells   the volume of the image is refused; no call was made
+  no place for a viewer
+  cannot write FILE  the file is as it was";
+
 /// What stands behind the help text.
 const AFTER_HELP: &str = "Exit statuses:
   0  done
   1  the words are refused
-  2  the image is refused, or the plan of a new volume
+  2  the image is refused, or the plan of a new volume, or a script
   3  ls or cat met a code other than 0: -37 bad name, -43 not found, -120 no folder
   4  a file could not be read or written
-  5  out of memory
+  5  out of memory, no place for a viewer, or a line of a script not answered
 
 Examples:
   hfs_tool info disk.img
@@ -116,6 +144,7 @@ Examples:
   hfs_tool cat disk.img 19 'Read Me' > read_me.data || rm read_me.data
   hfs_tool new disk.img Archive 1600 40 4
   hfs_tool repair disk.img mended.img
+  hfs_tool run disk.img calls.txt --now 3000000000 --out disk.img
 
 After a fault its text is printed where the result would have been: test the status.";
 
@@ -123,7 +152,7 @@ After a fault its text is printed where the result would have been: test the sta
 fn command<'a>(alloc: Global) -> Result<Command<'a>, AllocError> {
     Command::new(alloc, "hfs_tool")
         .about(
-            "Reads and checks HFS volumes, mends their counts, and makes new ones. With no words: info on standard input",
+            "Reads and checks HFS volumes, runs scripts on them, mends their counts, and makes new ones. With no words: info on standard input",
         )
         .version(VERSION)
         .after_help(AFTER_HELP)
@@ -132,7 +161,8 @@ fn command<'a>(alloc: Global) -> Result<Command<'a>, AllocError> {
         .subcommand(list_command(alloc)?)?
         .subcommand(cat_command(alloc)?)?
         .subcommand(new_command(alloc)?)?
-        .subcommand(repair_command(alloc)?)
+        .subcommand(repair_command(alloc)?)?
+        .subcommand(run_command(alloc)?)
 }
 
 fn info_command<'a>(alloc: Global) -> Result<Command<'a>, AllocError> {
@@ -197,6 +227,26 @@ fn repair_command<'a>(alloc: Global) -> Result<Command<'a>, AllocError> {
         .arg(file)
 }
 
+fn run_command<'a>(alloc: Global) -> Result<Command<'a>, AllocError> {
+    let script = word(alloc, "SCRIPT").help(
+        "The calls, one a line; docs/SCRIPTS.md has the language",
+    );
+    let out = Arg::new(alloc, "out")
+        .long("out")
+        .value_name("FILE")
+        .action(ArgAction::Set)
+        .help("The file that gets the changed image, in place of what it has; it may be the image");
+    Command::new(alloc, "run")
+        .about(
+            "Runs a script of calls by several workers and viewers at once, and prints the answers",
+        )
+        .after_help(RUNS)
+        .arg(image(alloc))?
+        .arg(script)?
+        .arg(moment(alloc))?
+        .arg(out)
+}
+
 /// Reads the words, the first of which is the program's own name. An error is clap's: help that was asked for, refused
 /// words, or want of memory, told apart by its kind.
 pub fn read_words<'a>(alloc: Global, words: &'a [String]) -> Result<Words<'a>, Error> {
@@ -215,6 +265,7 @@ pub fn read_words<'a>(alloc: Global, words: &'a [String]) -> Result<Words<'a>, E
             image: text_of(inner, "IMAGE"),
             file: text_of(inner, "FILE"),
         },
+        Some(("run", inner)) => run_words(inner),
         Some((_, inner)) => info_words(inner),
         None => Words::Info { image: None },
     })
@@ -248,6 +299,15 @@ fn new_words<'a>(matches: &ArgMatches<'a>) -> Words<'a> {
         catalog_nodes: number_of(matches, "NODES"),
         extents_nodes: number_of(matches, "EXTENTS"),
         now: number_of(matches, "now"),
+    })
+}
+
+fn run_words<'a>(matches: &ArgMatches<'a>) -> Words<'a> {
+    Words::Run(RunWords {
+        image: text_of(matches, "IMAGE"),
+        script: text_of(matches, "SCRIPT"),
+        now: number_of(matches, "now"),
+        out: matches.get_str("out"),
     })
 }
 

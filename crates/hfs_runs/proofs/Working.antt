@@ -1,0 +1,147 @@
+-- What the workers and viewers of a run were answered, out of their jobs.
+use Rattle.std.proofs.Common.{◌≡◌, ◌∙◌, ℕ, ◌+◌, ◌-◌, ◌<◌, List, [], ◌∷◌, map, length, get_or, refl, sym, ap, subst, arith}
+use Rattle.std.specs.List.{All}
+use Rattle.std.proofs.lemmas.List.{get_or-map, length-map}
+use Rattle.logbook.specs.Pages.{Book}
+use Rattle.hfs_model.specs.declared.call.Call.{Call}
+use Rattle.hfs_model.specs.declared.reply.Reply.{Reply}
+use Rattle.hfs_model.specs.declared.journal.Entry.{Entry}
+use Rattle.hfs_model.specs.Volume.{Volume}
+use Rattle.hfs_scripts.specs.declared.lines.Caller.TheVariants.{Worker, Viewer}
+use Rattle.hfs_scripts.specs.declared.lines.ScriptLine.{ScriptLine}
+use Rattle.hfs_scripts.specs.Callers.{calls_of}
+use Rattle.hfs_published.specs.Histories.{Known, known, opened}
+use Rattle.hfs_published.specs.Journals.{made_by}
+use Rattle.hfs_published.specs.Tolds.{ToldState}
+use Rattle.hfs_shared.specs.declared.done.Done.{Done}
+use Rattle.hfs_shared.specs.Closings.{AreAllPasses}
+use Rattle.hfs_shared.specs.Desks.{PassState, pass_state}
+use Rattle.hfs_shared.specs.Shareds.{AreFirstPasses}
+use Rattle.hfs_shared.specs.Works.{IsWork, IsDone}
+use Rattle.hfs_runs.specs.declared.viewing.Viewing.{Viewing}
+use Rattle.hfs_runs.specs.Answers.{worker_replies, viewer_replies}
+use Rattle.hfs_runs.specs.Runs.{IsWorked, IsViewedFrom}
+use Rattle.hfs_runs.specs.Views.{AreReads, IsViewed}
+use Rattle.hfs_runs.proofs.Reading.{reads_book}
+
+-- the workers' jobs, out of the script's lines and the first passes
+pub record AreJobs {V : Type 0} (items : V → List Call) (lines : List ScriptLine) (workers : ℕ) (passes : List PassState) (jobs : List (PassState × V)) : Type 0 where
+  pub first : AreFirstPasses workers passes
+  pub many : length jobs ≡ length passes
+  pub passes_are : (i : ℕ) (j : PassState × V) (p : PassState) → i < length passes → (get_or jobs i j).0 ≡ get_or passes i p
+  pub calls_are : (i : ℕ) (j : PassState × V) → i < length passes → items (get_or jobs i j).1 ≡ calls_of (Worker (i + 1)) lines
+
+-- and what was done of them
+pub record AreDone {V : Type 0} (items : V → List Call) (book : Book) (opening : Volume) (jobs : List (PassState × V)) (dones : List Done) : Type 0 where
+  pub many : length dones ≡ length jobs
+  pub each : (i : ℕ) (d : Done) (j : PassState × V) → i < length jobs → IsDone book opening (get_or jobs i j).0 (items (get_or jobs i j).1) (get_or dones i d)
+
+-- the replies of a job
+abbrev of_done : Done → List Reply
+of_done done = map (λ reply. reply.0) done.replies.items
+
+replies_at : (dones : List Done) (place : ℕ) (d : Done) → place < length dones → worker_replies dones (place + 1) ≡ of_done (get_or dones place d)
+replies_at dones place d below =
+    let at : place + 1 - 1 ≡ place = omega arith in
+    ap (λ (n : ℕ). get_or (map of_done dones) n []) at ∙ get_or-map of_done dones place d [] below
+
+-- a job's work, under the pass of its worker
+work_at : {V : Type 0} (items : V → List Call) (book : Book) (opening : Volume) (lines : List ScriptLine) (workers : ℕ) (passes : List PassState) (jobs : List (PassState × V)) (dones : List Done)
+    → AreJobs items lines workers passes jobs → AreDone items book opening jobs dones → (place : ℕ) → place < workers → (d : Done) (j : PassState × V)
+    → IsWork book opening (pass_state (place + 1) 1) (calls_of (Worker (place + 1)) lines) (get_or dones place d).pass (get_or dones place d).replies.items
+work_at items book opening lines workers passes jobs dones h done place below d j =
+    let none = pass_state 0 0 in
+    let within : place < length passes = omega (arith, h.first.many) in
+    let w = done.each place d j (omega (arith, h.many)) in
+    let pass : (get_or jobs place j).0 ≡ pass_state (place + 1) 1 = h.passes_are place j none within ∙ h.first.each place none below in
+    let last = (get_or dones place d).pass in
+    let told = (get_or dones place d).replies.items in
+    subst (λ (calls : List Call). IsWork book opening (pass_state (place + 1) 1) calls last told) (h.calls_are place j within)
+    (subst (λ (p : PassState). IsWork book opening p (items (get_or jobs place j).1) last told) pass w.work)
+
+pub worked_at : {V : Type 0} (items : V → List Call) (book : Book) (opening : Volume) (lines : List ScriptLine) (workers : ℕ) (passes : List PassState) (jobs : List (PassState × V)) (dones : List Done)
+    → AreJobs items lines workers passes jobs → AreDone items book opening jobs dones → (place : ℕ) → place < workers
+    → IsWorked book opening (place + 1) (calls_of (Worker (place + 1)) lines) (worker_replies dones (place + 1))
+worked_at items book opening lines workers passes [] dones h done place below = let no : ⊥ = omega (arith, h.many, h.first.many) in absurd no
+worked_at items book opening lines workers passes (j ∷ jobs) [] h done place below = let no : ⊥ = omega (arith, done.many) in absurd no
+worked_at items book opening lines workers passes (j ∷ jobs) (d ∷ dones) h done place below = (
+  (get_or (d ∷ dones) place d).replies.items,
+  (get_or (d ∷ dones) place d).pass,
+  sym (replies_at (d ∷ dones) place d (omega (arith, done.many, h.many, h.first.many))),
+  work_at items book opening lines workers passes (j ∷ jobs) (d ∷ dones) h done place below d j,
+)
+
+-- each worker has as many entries as its pass says, where all passes are there
+made_of : (passes : List PassState) (journal : List Entry) (count : ℕ → ℕ) → AreAllPasses passes (length passes) journal
+    → ((i : ℕ) (p : PassState) → i < length passes → get_or passes i p ≡ pass_state (i + 1) (1 + count i))
+    → (place : ℕ) → place < length passes → made_by (place + 1) journal ≡ count place
+made_of passes journal count all are place below =
+    let has = all.each place below in
+    let none = pass_state 0 0 in
+    let same : pass_state (has.0 + 1) (1 + count has.0) ≡ pass_state (place + 1) (made_by (place + 1) journal + 1) = sym (are has.0 none has.1) ∙ has.2 none in
+    let at : has.0 ≡ place = omega (arith, ap (λ (p : PassState). p.worker) same) in
+    omega (arith, ap (λ (p : PassState). p.number) same, ap count at)
+
+pass_at : {V : Type 0} (items : V → List Call) (book : Book) (opening : Volume) (lines : List ScriptLine) (workers : ℕ) (passes : List PassState) (jobs : List (PassState × V)) (dones : List Done)
+    → AreJobs items lines workers passes jobs → AreDone items book opening jobs dones → (place : ℕ) (p : PassState) → place < length (map (λ (done : Done). done.pass) dones)
+    → get_or (map (λ (done : Done). done.pass) dones) place p ≡ pass_state (place + 1) (1 + length (worker_replies dones (place + 1)))
+pass_at items book opening lines workers passes [] dones h done place p below = let no : ⊥ = omega (arith, done.many, length-map dones (λ (done : Done). done.pass)) in absurd no
+pass_at items book opening lines workers passes (j ∷ jobs) [] h done place p below = let no : ⊥ = omega (arith, done.many) in absurd no
+pass_at items book opening lines workers passes (j ∷ jobs) (d ∷ dones) h done place p below =
+    let within : place < length (d ∷ dones) = omega (arith, length-map (d ∷ dones) (λ (done : Done). done.pass)) in
+    let w = work_at items book opening lines workers passes (j ∷ jobs) (d ∷ dones) h done place (omega (arith, done.many, h.many, h.first.many)) d j in
+    let many : length (worker_replies (d ∷ dones) (place + 1)) ≡ length (get_or (d ∷ dones) place d).replies.items =
+    ap length (replies_at (d ∷ dones) place d within) ∙ length-map (get_or (d ∷ dones) place d).replies.items (λ (reply : Reply × ToldState). reply.0) in
+    get_or-map (λ (done : Done). done.pass) (d ∷ dones) place d p within ∙ w.pass ∙ ap (λ (n : ℕ). pass_state (place + 1) (1 + n)) (sym many)
+
+pub made_at : {V : Type 0} (items : V → List Call) (book : Book) (opening : Volume) (lines : List ScriptLine) (workers : ℕ) (passes : List PassState) (jobs : List (PassState × V)) (dones : List Done) (journal : List Entry)
+    → AreJobs items lines workers passes jobs → AreDone items book opening jobs dones
+    → AreAllPasses (map (λ (done : Done). done.pass) dones) (length (map (λ (done : Done). done.pass) dones)) journal
+    → (place : ℕ) → place < workers → made_by (place + 1) journal ≡ length (worker_replies dones (place + 1))
+made_at items book opening lines workers passes jobs dones journal h done all place below =
+    made_of (map (λ (done : Done). done.pass) dones) journal (λ i. length (worker_replies dones (i + 1))) all (pass_at items book opening lines workers passes jobs dones h done) place
+    (omega (arith, length-map dones (λ (done : Done). done.pass), done.many, h.many, h.first.many))
+
+-- ---- viewers
+
+-- the viewers with their calls, out of the script's lines
+pub record AreViewings (book : Book) (opening : Volume) (lines : List ScriptLine) (viewers : ℕ) (begun : List Viewing) : Type 0 where
+  pub many : length begun ≡ viewers
+  pub seen : (i : ℕ) (v : Viewing) → i < viewers → (get_or begun i v).viewer ≡ known book (opened opening)
+  pub calls_are : (i : ℕ) (v : Viewing) → i < viewers → (get_or begun i v).calls.items ≡ calls_of (Viewer (i + 1)) lines
+
+-- and what they were answered
+pub record AreViewed (begun ended : List Viewing) : Type 0 where
+  pub many : length ended ≡ length begun
+  pub each : (i : ℕ) (v w : Viewing) → i < length begun → IsViewed (get_or begun i v) (get_or ended i w)
+
+abbrev of_viewing : Viewing → List Reply
+of_viewing viewing = viewing.replies.items
+
+viewed_replies : (ended : List Viewing) (place : ℕ) (w : Viewing) → place < length ended → viewer_replies ended (place + 1) ≡ of_viewing (get_or ended place w)
+viewed_replies ended place w below =
+    let at : place + 1 - 1 ≡ place = omega arith in
+    ap (λ (n : ℕ). get_or (map of_viewing ended) n []) at ∙ get_or-map of_viewing ended place w [] below
+
+pub viewed_at : (book : Book) (opening : Volume) (lines : List ScriptLine) (viewers : ℕ) (begun ended : List Viewing) → AreViewings book opening lines viewers begun → AreViewed begun ended
+    → (place : ℕ) → place < viewers → IsViewedFrom book opening (calls_of (Viewer (place + 1)) lines) (viewer_replies ended (place + 1))
+viewed_at book opening lines viewers [] ended h view place below = let no : ⊥ = omega (arith, h.many) in absurd no
+viewed_at book opening lines viewers (v ∷ begun) [] h view place below = let no : ⊥ = omega (arith, view.many) in absurd no
+viewed_at book opening lines viewers (v ∷ begun) (w ∷ ended) h view place below =
+    let one = view.each place v w (omega (arith, h.many)) in
+    let seen = (get_or (w ∷ ended) place w).viewer in
+    let replies = viewer_replies (w ∷ ended) (place + 1) in
+    let is = viewed_replies (w ∷ ended) place w (omega (arith, view.many, h.many)) in (
+      seen,
+      subst (λ (calls : List Call). AreReads calls (known book (opened opening)) replies seen) (h.calls_are place v below)
+          (subst (λ (before : Known). AreReads (get_or (v ∷ begun) place v).calls.items before replies seen) (h.seen place v below)
+          (subst (λ (rs : List Reply). AreReads (get_or (v ∷ begun) place v).calls.items (get_or (v ∷ begun) place v).viewer rs seen) (sym is) one.reads)),
+    )
+
+-- the first viewer is still of the history that it began with
+pub first_book : (book : Book) (opening : Volume) (lines : List ScriptLine) (viewers : ℕ) (begun ended : List Viewing) → AreViewings book opening lines viewers begun → AreViewed begun ended
+    → 0 < viewers → (w : Viewing) → (get_or ended 0 w).viewer.book ≡ book
+first_book book opening lines viewers [] ended h view some w = let no : ⊥ = omega (arith, h.many) in absurd no
+first_book book opening lines viewers (v ∷ begun) ended h view some w =
+    let one = view.each 0 v w (omega (arith, h.many)) in
+    reads_book v.calls.items v.viewer (get_or ended 0 w).replies.items (get_or ended 0 w).viewer one.reads ∙ ap (λ (k : Known). k.book) (h.seen 0 v some)

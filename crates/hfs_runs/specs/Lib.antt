@@ -1,0 +1,5 @@
+pub mod Faults
+pub mod Asking
+pub mod Views
+pub mod Answers
+pub mod Runs

@@ -1,0 +1,94 @@
+-- What a run of a script makes.
+use Rattle.std.specs.Prelude.{◌≡◌, ℕ, ◌+◌, ◌<◌, Bool, List, [], map, length, Option, Some, Result, Ok, Err, String, string_bytes}
+use Rattle.logbook.specs.Pages.{Book}
+use Rattle.hfs_model.specs.declared.call.Call.{Call}
+use Rattle.hfs_model.specs.declared.reply.Reply.{Reply}
+use Rattle.hfs_model.specs.declared.journal.Entry.{Entry}
+use Rattle.hfs_model.specs.Volume.{Volume}
+use Rattle.hfs_model.specs.Runs.{after}
+use Rattle.hfs_check.specs.declared.mount_fault.MountFault.{MountFault}
+use Rattle.hfs_check.specs.Faults.{fault_of}
+use Rattle.hfs_check.specs.Sound.{IsSound}
+use Rattle.hfs_check.specs.VolumeOf.{volume_of}
+use Rattle.hfs_volume.specs.Image.{ImageValue}
+use Rattle.hfs_scripts.specs.declared.fault.ScriptFault.TheVariants as read
+use Rattle.hfs_scripts.specs.declared.lines.Caller.{Caller}
+use Rattle.hfs_scripts.specs.declared.lines.Caller.TheVariants.{Worker, Viewer}
+use Rattle.hfs_scripts.specs.declared.lines.ScriptLine.{ScriptLine}
+use Rattle.hfs_scripts.specs.Callers.{calls_of, workers, viewers}
+use Rattle.hfs_scripts.specs.Scripts.{script_of}
+use Rattle.hfs_published.specs.Histories.{Known, known, opened}
+use Rattle.hfs_published.specs.Journals.{IsLegal, made_by}
+use Rattle.hfs_published.specs.Tolds.{ToldState}
+use Rattle.hfs_shared.specs.Closings.{IsClosed}
+use Rattle.hfs_shared.specs.Desks.{PassState, pass_state}
+use Rattle.hfs_shared.specs.Works.{IsWork}
+use Rattle.hfs_runs.specs.declared.fault.ScriptFault.{ScriptFault}
+use Rattle.hfs_runs.specs.declared.fault.ScriptFault.TheVariants as run
+use Rattle.hfs_runs.specs.declared.numbering.Asked.{Asked}
+use Rattle.hfs_runs.specs.Answers.{answers_text, is_whole}
+use Rattle.hfs_runs.specs.Asking.{AreNumbered}
+use Rattle.hfs_runs.specs.Views.{AreReads}
+
+-- ---- faults
+
+-- the bytes are a script
+abbrev pub IsScript : ℕ → List ℕ → Type 0
+IsScript now script = (lines : List ScriptLine) × (script_of now script ≡ Ok lines)
+
+-- why an image was not mounted for a run: memory was refused, or the image is
+abbrev pub IsMountFault : List ℕ → ScriptFault → Type 0
+IsMountFault image run.TooLarge = ⊥
+IsMountFault image (run.Line place) = ⊥
+IsMountFault image (run.Refused why) = fault_of image ≡ Some why
+IsMountFault image run.NoPlace = ⊥
+IsMountFault image run.Memory = Unit {0}
+
+-- why a script was not run on an image: memory was refused; or the script doesn't read; or it does, and the image is refused;
+-- or both are good, and a viewer had no place
+abbrev pub IsRunFault : ℕ → List ℕ → List ℕ → ScriptFault → Type 0
+IsRunFault now script image run.TooLarge = script_of now script ≡ Err read.TooLarge
+IsRunFault now script image (run.Line place) = script_of now script ≡ Err (read.Line place)
+IsRunFault now script image (run.Refused why) = IsScript now script × (fault_of image ≡ Some why)
+IsRunFault now script image run.NoPlace = IsScript now script × IsSound image
+IsRunFault now script image run.Memory = Unit {0}
+
+-- ---- runs
+
+-- these are the replies to the first of a worker's calls, each that of the call behind some entries of a legal journal
+abbrev pub IsWorked : Book → Volume → ℕ → List Call → List Reply → Type 0
+IsWorked book opening worker calls replies =
+    (told : List (Reply × ToldState)) × (last : PassState) × (map (λ reply. reply.0) told ≡ replies)
+    × IsWork book opening (pass_state worker 1) calls last told
+
+-- these are the replies to the first of a viewer's calls, each on a published list that begins with the one before it
+abbrev pub IsViewedFrom : Book → Volume → List Call → List Reply → Type 0
+IsViewedFrom book opening calls replies = (seen : Known) × AreReads calls (known book (opened opening)) replies seen
+
+-- a shared volume was closed with these passes and handed out
+abbrev pub IsHandedOut : Volume → ImageValue → List PassState → Type 0
+IsHandedOut opening volume passes =
+    (journal : List Entry) × (shown : ℕ) × (before : Known) × (afterwards : Known) × IsClosed opening volume journal shown passes before afterwards
+
+-- what a run of a script on an opening volume made: the volume afterwards, the text of the answers, and whether all lines were
+-- answered. The volume is the one after a legal journal, which has as many entries of each worker as it got replies.
+pub record IsRan (opening : Volume) (lines : List ScriptLine) (volume : ImageValue) (text : List ℕ) (whole : Bool) : Type 0 where
+  pub book : Book
+  pub journal : List Entry
+  pub replies : Caller → List Reply
+  pub asked : List Asked
+  pub numbered : AreNumbered (map (λ (line : ScriptLine). line.caller) lines) asked
+  pub text_is : text ≡ answers_text replies asked
+  pub whole_is : whole ≡ is_whole replies asked
+  pub legal : IsLegal opening journal
+  pub follows : volume_of volume.current ≡ after opening journal
+  pub made : (place : ℕ) → place < workers lines → made_by (place + 1) journal ≡ length (replies (Worker (place + 1)))
+  pub worked : (place : ℕ) → place < workers lines → IsWorked book opening (place + 1) (calls_of (Worker (place + 1)) lines) (replies (Worker (place + 1)))
+  pub viewed : (place : ℕ) → place < viewers lines → IsViewedFrom book opening (calls_of (Viewer (place + 1)) lines) (replies (Viewer (place + 1)))
+
+-- a script was run on an image
+pub record IsRun (now : ℕ) (script image : List ℕ) (volume : ImageValue) (text : List ℕ) (whole : Bool) : Type 0 where
+  pub lines : List ScriptLine
+  pub reads : script_of now script ≡ Ok lines
+  pub sound : IsSound image
+  pub ran : IsRan (volume_of image) lines volume text whole

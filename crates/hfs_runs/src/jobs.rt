@@ -1,0 +1,63 @@
+//! Each caller of a script with its own calls.
+ghost use Rattle.std.specs.Prelude.{◌≡◌, ◌+◌, ◌<◌, ◌≤◌, ℕ, length, get_or, IfOk};
+ghost use Rattle.hfs_scripts.specs.Callers.{calls_of};
+ghost use Rattle.hfs_scripts.specs.declared.lines.Caller.TheVariants.{Worker, Viewer as AsViewer};
+
+use crate::viewing::Viewing;
+use hfs_model::Call;
+use hfs_scripts::{Caller, Script};
+use hfs_shared::{Pass, Viewer};
+use std::alloc::{AllocError, Global};
+
+/// Each worker's pass with its calls, and the script of the other lines. The passes are of workers 1, 2 and so on.
+#[tactic(auto, using(crate::proofs::Parts::workers_kept, crate::proofs::Parts::viewers_stay))]
+pub fn jobs_of(
+    alloc: Global,
+    passes: Vec<Pass>,
+    script: Script,
+) -> Result<(Vec<(Pass, Vec<Call>)>, Script), AllocError>
+    requires { length passes.items ≤ 8 }
+    ensures many { IfOk result (λ r. length r.0.items ≡ length passes.items) }
+    ensures passes { IfOk result (λ r. (i : ℕ) (j : _) (p : _) → i < length passes.items → (get_or r.0.items i j).0 ≡ get_or passes.items i p) }
+    ensures calls { IfOk result (λ r. (i : ℕ) (j : _) → i < length passes.items → (get_or r.0.items i j).1.items ≡ calls_of (Worker (i + 1)) script) }
+    ensures others { IfOk result (λ r. (n : ℕ) → calls_of (AsViewer n) r.1 ≡ calls_of (AsViewer n) script) }
+{
+    let mut jobs = Vec::new(alloc);
+    let mut rest = script;
+    let mut number = 0;
+    for pass in passes {
+        number += 1;
+        let (own, others) = rest.part(alloc, Caller::Worker(number))?;
+        jobs.push((pass, own))?;
+        rest = others;
+    }
+    Ok((jobs, rest))
+}
+
+/// Each viewer with its calls, and with no reply yet. The viewers are 1, 2 and so on.
+#[tactic(auto, using(crate::proofs::Parts::viewers_kept))]
+pub fn viewings_of(
+    alloc: Global,
+    viewers: Vec<Viewer>,
+    script: Script,
+) -> Result<Vec<Viewing>, AllocError>
+    requires { length viewers.items ≤ 8 }
+    ensures many { IfOk result (λ v. length v.items ≡ length viewers.items) }
+    ensures viewers { IfOk result (λ v. (i : ℕ) (w : _) (k : _) → i < length viewers.items → (get_or v.items i w).viewer ≡ get_or viewers.items i k) }
+    ensures calls { IfOk result (λ v. (i : ℕ) (w : _) → i < length viewers.items → (get_or v.items i w).calls.items ≡ calls_of (AsViewer (i + 1)) script) }
+{
+    let mut viewings = Vec::new(alloc);
+    let mut rest = script;
+    let mut number = 0;
+    for viewer in viewers {
+        number += 1;
+        let (calls, others) = rest.part(alloc, Caller::Viewer(number))?;
+        viewings.push(Viewing {
+            viewer,
+            calls,
+            replies: Vec::new(alloc),
+        })?;
+        rest = others;
+    }
+    Ok(viewings)
+}

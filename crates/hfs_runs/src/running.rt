@@ -1,0 +1,196 @@
+//! A script that is run on an image.
+ghost use Rattle.std.specs.Prelude.{◌≡◌, ◌<◌, ◌≤◌, ◌⊎◌, ℕ, All, IfOk, IfErr, OnOk, get_or, length, map, string_bytes};
+ghost use Rattle.std.specs.Thread.{IsSync};
+ghost use Rattle.hfs_check.specs.Sound.{IsSound};
+ghost use Rattle.hfs_check.specs.VolumeOf.{volume_of};
+ghost use Rattle.hfs_scripts.specs.Callers.{workers, viewers};
+ghost use Rattle.hfs_shared.specs.Shareds.{IsStart};
+ghost use Rattle.hfs_shared.specs.Works.{IsDone};
+ghost use Rattle.hfs_runs.specs.Asking.{IsSmall};
+ghost use Rattle.hfs_runs.specs.Runs.{IsHandedOut, IsMountFault, IsRan, IsRun, IsRunFault};
+ghost use Rattle.hfs_runs.specs.Views.{IsViewed};
+
+use crate::answers::answers_text;
+use crate::fault::ScriptFault;
+use crate::jobs::{jobs_of, viewings_of};
+use crate::numbering::number_lines;
+use crate::viewing::{Viewing, view_all};
+use hfs_model::Call;
+use hfs_scripts::{Script, read_script};
+use hfs_shared::{Done, Gate, Parts, Pass, RunFault, Session, Shared, Viewer, Why, run_workers};
+use hfs_volume::{Volume, mount};
+use std::alloc::{AllocError, Global};
+use std::marker::Brand;
+use std::sync::Wait;
+use std::thread;
+use std::thread::Threads;
+
+/// What a run of a script made: the volume after it, the lines of the answers, and whether each line was answered.
+#[derive(Drop)]
+pub struct Ran {
+    pub volume: Volume,
+    pub text: String,
+    pub whole: bool,
+}
+
+// The gate of a run: nothing is done around a call.
+#[derive(Drop)]
+struct NoGate;
+
+impl Gate for NoGate {
+    fn before(&self, _worker: u32, _stamp: u64) {}
+
+    fn inside(&self, _worker: u32, _stamp: u64) {}
+
+    fn after(&self, _worker: u32, _stamp: u64) {}
+}
+
+// The workers make their calls, and the viewers theirs beside them.
+fn run_beside<K: Session + Send + Sync, R: Threads + Wait + Sync>(
+    shared: &Shared<K>,
+    rt: &R,
+    alloc: Global,
+    jobs: Vec<(Pass, Vec<Call>)>,
+    viewings: Vec<Viewing>,
+) -> (Result<Vec<Done>, RunFault>, Vec<Viewing>)
+    ensures dones { IfOk result.0 (λ v. length v.items ≡ length jobs.items) }
+    ensures done { IfOk result.0 (λ v. (i : ℕ) (d : _) (j : _) → i < length jobs.items → IsDone K.book K.opening (get_or jobs.items i j).0 (get_or jobs.items i j).1.items (get_or v.items i d)) }
+    ensures viewings { length result.1.items ≡ length viewings.items }
+    ensures viewed { (i : ℕ) (v : _) (w : _) → i < length viewings.items → IsViewed (get_or viewings.items i v) (get_or result.1.items i w) }
+{
+    let gate = &NoGate;
+    thread::join(
+        rt,
+        move || -> Result<Vec<Done>, RunFault>
+            requires { IsSync R.row × IsSync K.row }
+            ensures dones { IfOk result (λ v. length v.items ≡ length jobs.items) }
+            ensures done { IfOk result (λ v. (i : ℕ) (d : _) (j : _) → i < length jobs.items → IsDone K.book K.opening (get_or jobs.items i j).0 (get_or jobs.items i j).1.items (get_or v.items i d)) }
+        { run_workers(shared, rt, alloc, gate, jobs) },
+        move || -> Vec<Viewing>
+            requires { IsSync R.row }
+            ensures viewings { length result.items ≡ length viewings.items }
+            ensures viewed { (i : ℕ) (v : _) (w : _) → i < length viewings.items → IsViewed (get_or viewings.items i v) (get_or result.items i w) }
+        { view_all(rt, alloc, viewings) },
+    )
+}
+
+// The passes of workers that have ended.
+fn passes_of(alloc: Global, dones: Vec<Done>) -> Result<Vec<Pass>, AllocError>
+    ensures { IfOk result (λ v. v.items ≡ map (λ done. done.pass) dones.items) }
+{
+    let mut passes = Vec::new(alloc);
+    for done in dones {
+        let Done { pass, .. } = done;
+        passes.push(pass)?;
+    }
+    Ok(passes)
+}
+
+// Closes the shared volume by the first viewer.
+fn close<K: Session, R: Wait>(
+    shared: Shared<K>,
+    rt: &R,
+    passes: Vec<Pass>,
+    viewings: Vec<Viewing>,
+) -> Result<Volume, ScriptFault>
+    requires some { 0 < length viewings.items }
+    requires book { (v : _) → (get_or viewings.items 0 v).viewer.book ≡ K.book }
+    ensures ok { IfOk result (λ volume. IsHandedOut K.opening volume passes.items) }
+    ensures err { IfErr result (λ fault. fault ≡ ScriptFault.Memory) }
+{
+    let mut viewings = viewings;
+    match shared.close(rt, passes, &mut viewings[0].viewer) {
+        Ok(closed) => Ok(closed.volume),
+        Err(_refused) => Err(ScriptFault::Memory),
+    }
+}
+
+// Runs the calls on a volume that is to be shared.
+fn run_shared<K: Session + Send + Sync, R: Threads + Wait + Sync>(
+    rt: &R,
+    alloc: Global,
+    parts: Parts,
+    passes: Vec<Pass>,
+    readers: Vec<Viewer>,
+    script: Script,
+) -> Result<Ran, ScriptFault>
+    requires parts { (parts.book ≡ K.book) × (parts.opening ≡ K.opening) }
+    requires started { IsStart K.opening (workers script) (viewers script) parts passes.items readers.items }
+    requires small { All (λ l. IsSmall l.caller) script }
+    ensures ok { IfOk result (λ ran. IsRan K.opening script ran.volume (string_bytes ran.text) ran.whole) }
+    ensures err { IfErr result (λ fault. fault ≡ ScriptFault.Memory) }
+{
+    let shared = parts.share::<K>();
+    let lines = number_lines(alloc, script.lines())?;
+    let (jobs, rest) = jobs_of(alloc, passes, script)?;
+    let viewings = viewings_of(alloc, readers, rest)?;
+    let (dones, viewings) = run_beside(&shared, rt, alloc, jobs, viewings);
+    let Ok(dones) = dones else {
+        return Err(ScriptFault::Memory);
+    };
+    let (text, whole) = answers_text(alloc, &lines, &dones, &viewings)?;
+    let passes = passes_of(alloc, dones)?;
+    let volume = close(shared, rt, passes, viewings)?;
+    Ok(Ran {
+        volume,
+        text,
+        whole,
+    })
+}
+
+// The volume of an image.
+fn mounted(alloc: Global, image: Vec<u8>) -> Result<Volume, ScriptFault>
+    ensures sound { OnOk result (IsSound image.items) }
+    ensures current { IfOk result (λ volume. volume.current ≡ image.items) }
+    ensures err { IfErr result (IsMountFault image.items) }
+{
+    match mount(alloc, image) {
+        Ok(volume) => Ok(volume),
+        Err(refused) => Err(ScriptFault::of_mount(refused.fault)),
+    }
+}
+
+// The parts of a volume for the callers of a script, with passes and viewers.
+fn start<R: Wait>(
+    rt: &R,
+    alloc: Global,
+    volume: Volume,
+    workers: u32,
+    viewers: u32,
+) -> Result<(Parts, Vec<Pass>, Vec<Viewer>), ScriptFault>
+    requires workers { (0 < workers) × (workers ≤ 8) }
+    requires viewers { (0 < viewers) × (viewers ≤ 8) }
+    ensures ok { IfOk result (λ r. IsStart (volume_of volume.current) workers viewers r.0 r.1.items r.2.items) }
+    ensures err { IfErr result (λ fault. (fault ≡ ScriptFault.NoPlace) ⊎ (fault ≡ ScriptFault.Memory)) }
+{
+    match Parts::start(rt, alloc, volume, workers, viewers) {
+        Ok(started) => Ok(started),
+        Err(failed) => match failed.why {
+            Why::Memory => Err(ScriptFault::Memory),
+            Why::NoPlace => Err(ScriptFault::NoPlace),
+        },
+    }
+}
+
+/// Runs a script on the volume of an image: each worker makes its calls in order in a thread of its own, and viewers read beside
+/// them. The lines of the answers come in the script's order; a line that was not answered, since memory was refused
+/// to its caller, has the code `none`, and then the run is not whole. Faults in order: `TooLarge` and `Line` of the script,
+/// `Refused` of the image, `NoPlace`; and `Memory`.
+pub fn run_script<R: Threads + Wait + Sync>(
+    rt: &R,
+    alloc: Global,
+    image: Vec<u8>,
+    script: &[u8],
+    now: u32,
+) -> Result<Ran, ScriptFault>
+    ensures ok { IfOk result (λ ran. IsRun now script.now image.items ran.volume (string_bytes ran.text) ran.whole) }
+    ensures err { IfErr result (IsRunFault now script.now image.items) }
+{
+    let script = match read_script(alloc, script, now) {
+        Ok(script) => script,
+        Err(fault) => return Err(ScriptFault::of_script(fault)),
+    };
+    let volume = mounted(alloc, image)?;
+    let (parts, passes, viewers) = start(rt, alloc, volume, script.workers(), script.viewers())?;
+    run_shared::<Brand, _>(rt, alloc, parts, passes, viewers, script)
+}
