@@ -15,7 +15,7 @@ pub use checking::{check_text, refused_text};
 pub use fault::{Fault, Status};
 pub use files::{load_file, load_script, write_file};
 pub use forks::write_fork;
-pub use hfs_runs::{Ran, ScriptFault, run_script};
+pub use hfs_runs::{Gate, Ran, ScriptFault, run_script, run_script_at};
 pub use hfs_texts::{
     IMAGE_LIMIT, InfoFault, LoadFault, load, load_within, put, reply_text, run_info,
 };

@@ -10,4 +10,5 @@ mod running;
 mod viewing;
 
 pub use fault::ScriptFault;
-pub use running::{Ran, run_script};
+pub use hfs_shared::Gate;
+pub use running::{Ran, run_script, run_script_at};

@@ -46,10 +46,11 @@ impl Gate for NoGate {
 }
 
 // The workers make their calls, and the viewers theirs beside them.
-fn run_beside<K: Session + Send + Sync, R: Threads + Wait + Sync>(
+fn run_beside<K: Session + Send + Sync, R: Threads + Wait + Sync, G: Gate + Sync>(
     shared: &Shared<K>,
     rt: &R,
     alloc: Global,
+    gate: &G,
     jobs: Vec<(Pass, Vec<Call>)>,
     viewings: Vec<Viewing>,
 ) -> (Result<Vec<Done>, RunFault>, Vec<Viewing>)
@@ -58,11 +59,10 @@ fn run_beside<K: Session + Send + Sync, R: Threads + Wait + Sync>(
     ensures viewings { length result.1.items ≡ length viewings.items }
     ensures viewed { (i : ℕ) (v : _) (w : _) → i < length viewings.items → IsViewed (get_or viewings.items i v) (get_or result.1.items i w) }
 {
-    let gate = &NoGate;
     thread::join(
         rt,
         move || -> Result<Vec<Done>, RunFault>
-            requires { IsSync R.row × IsSync K.row }
+            requires { IsSync R.row × IsSync K.row × IsSync G.row }
             ensures dones { IfOk result (λ v. length v.items ≡ length jobs.items) }
             ensures done { IfOk result (λ v. (i : ℕ) (d : _) (j : _) → i < length jobs.items → IsDone K.book K.opening (get_or jobs.items i j).0 (get_or jobs.items i j).1.items (get_or v.items i d)) }
         { run_workers(shared, rt, alloc, gate, jobs) },
@@ -106,9 +106,10 @@ fn close<K: Session, R: Wait>(
 }
 
 // Runs the calls on a volume that is to be shared.
-fn run_shared<K: Session + Send + Sync, R: Threads + Wait + Sync>(
+fn run_shared<K: Session + Send + Sync, R: Threads + Wait + Sync, G: Gate + Sync>(
     rt: &R,
     alloc: Global,
+    gate: &G,
     parts: Parts,
     passes: Vec<Pass>,
     readers: Vec<Viewer>,
@@ -124,7 +125,7 @@ fn run_shared<K: Session + Send + Sync, R: Threads + Wait + Sync>(
     let lines = number_lines(alloc, script.lines())?;
     let (jobs, rest) = jobs_of(alloc, passes, script)?;
     let viewings = viewings_of(alloc, readers, rest)?;
-    let (dones, viewings) = run_beside(&shared, rt, alloc, jobs, viewings);
+    let (dones, viewings) = run_beside(&shared, rt, alloc, gate, jobs, viewings);
     let Ok(dones) = dones else {
         return Err(ScriptFault::Memory);
     };
@@ -186,11 +187,26 @@ pub fn run_script<R: Threads + Wait + Sync>(
     ensures ok { IfOk result (λ ran. IsRun now script.now image.items ran.volume (string_bytes ran.text) ran.whole) }
     ensures err { IfErr result (IsRunFault now script.now image.items) }
 {
+    run_script_at(rt, alloc, &NoGate, image, script, now)
+}
+
+/// As `run_script`, with a gate that is called around each call of a worker. What the gate does changes no answer.
+pub fn run_script_at<R: Threads + Wait + Sync, G: Gate + Sync>(
+    rt: &R,
+    alloc: Global,
+    gate: &G,
+    image: Vec<u8>,
+    script: &[u8],
+    now: u32,
+) -> Result<Ran, ScriptFault>
+    ensures ok { IfOk result (λ ran. IsRun now script.now image.items ran.volume (string_bytes ran.text) ran.whole) }
+    ensures err { IfErr result (IsRunFault now script.now image.items) }
+{
     let script = match read_script(alloc, script, now) {
         Ok(script) => script,
         Err(fault) => return Err(ScriptFault::of_script(fault)),
     };
     let volume = mounted(alloc, image)?;
     let (parts, passes, viewers) = start(rt, alloc, volume, script.workers(), script.viewers())?;
-    run_shared::<Brand, _>(rt, alloc, parts, passes, viewers, script)
+    run_shared::<Brand, _, _>(rt, alloc, gate, parts, passes, viewers, script)
 }

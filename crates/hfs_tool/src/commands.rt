@@ -1,15 +1,16 @@
 //! What each word does.
 
+use crate::progress::Progress;
 use crate::words::{ForkWords, NewVolume, RunWords, Words};
 use hfs_check::MountFault;
 use hfs_commands::{
     Fault, Status, check_text, code_text, list_text, load_file, load_script, put, refused_text,
-    repair_answer, run_info, run_script, save_file, write_file, write_fork,
+    repair_answer, run_info, run_script_at, save_file, write_file, write_fork,
 };
 use hfs_format::{FormatPlan, format};
 use hfs_volume::{Volume, mount};
 use std::fs::File;
-use std::io::{Read, Write};
+use std::io::{IsTerminal, Read, Write};
 use std::sync::Wait;
 use std::thread::Threads;
 
@@ -162,7 +163,18 @@ fn print_answers<'a, T: Threads + Wait + Sync>(
 ) -> Result<u8, Fault<'a>> {
     let image = load_file(rt, run.image)?;
     let script = load_script(rt, run.script)?;
-    match run_script(threads, rt.alloc(), image, script.as_slice(), run.now) {
+    let progress = Progress {
+        rt,
+        is_shown: rt.stderr().is_terminal(),
+    };
+    match run_script_at(
+        threads,
+        rt.alloc(),
+        &progress,
+        image,
+        script.as_slice(),
+        run.now,
+    ) {
         Ok(ran) => {
             if let Some(file) = run.out {
                 save_file(rt, file, &ran.volume)?;

@@ -5,6 +5,7 @@ ghost use Rattle.std.specs.Prelude.{◌≡◌, ◌⊎◌};
 ghost use Rattle.hfs_commands.specs.Faults.{status_number, status_of};
 
 mod commands;
+mod progress;
 mod words;
 
 use crate::commands::obey;

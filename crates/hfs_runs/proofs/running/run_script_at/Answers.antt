@@ -1,7 +1,7 @@
 use Rattle.std.proofs.Common.{◌≡◌, ◌∙◌, ℕ, ◌<◌, ◌≤◌, refl, sym, ap, subst, arith}
 use Rattle.hfs_scripts.specs.Callers.{workers, viewers}
 use Rattle.hfs_runs.proofs.Small.{script_small, workers_within, viewers_within}
-use Rattle.hfs_runs.proofs.running.run_script.Goals as goal
+use Rattle.hfs_runs.proofs.running.run_script_at.Goals as goal
 
 pub start-requires-clause-workers : goal.start-requires-clause-workers
 start-requires-clause-workers g c =

@@ -1,0 +1,25 @@
+//! What a long run of a script shows while it goes on.
+
+use hfs_commands::Gate;
+
+/// After how many calls of one worker a line is printed.
+const CALLS_SHOWN: u64 = 1_000;
+
+/// A line on standard error after each 1,000 calls of a worker, where standard error is a terminal.
+pub struct Progress<'a> {
+    pub rt: &'a HostRuntime,
+    pub is_shown: bool,
+}
+
+impl Gate for Progress<'_> {
+    fn before(&self, _worker: u32, _stamp: u64) {}
+
+    fn inside(&self, _worker: u32, _stamp: u64) {}
+
+    fn after(&self, worker: u32, stamp: u64) {
+        if self.is_shown && stamp % CALLS_SHOWN == 0 {
+            // Where the terminal takes nothing more, the run goes on.
+            let _printed = eprintln!(self.rt; "worker {worker}: {stamp} calls");
+        }
+    }
+}
