@@ -1,4 +1,6 @@
 //! What the checks find in the needed blocks, and what they find in the whole image.
+ghost use Rattle.std.specs.Prelude.{◌≤◌};
+
 use crate::sources::FailingSource;
 use hfs_check::{MountFault, check_blocks, check_image};
 use hfs_fixtures::{SmallVolume, lay, small_image};
@@ -24,9 +26,24 @@ fn fault_of(alloc: Global, image: &[u8]) -> Option<MountFault> {
     }
 }
 
+/// How many whole blocks an image has, which are at least three.
+fn block_count(rt: &impl Abort, image: &[u8]) -> u32
+    ensures { 3 ≤ result }
+{
+    match u32::try_from(image.len() / 512) {
+        Ok(count) => {
+            if count < 3 {
+                panic!(rt; "the image is too short");
+            }
+            count
+        }
+        Err(_) => panic!(rt; "the image is too long"),
+    }
+}
+
 /// What they find in its needed blocks.
 fn needed_fault(rt: &(impl Abort + AllocGlobal), image: &[u8]) -> Option<MountFault> {
-    let count = (image.len() / 512) as u32;
+    let count = block_count(rt, image);
     let mut source = ByteSource { bytes: image };
     let Ok(read) = gather_needed(rt.alloc(), &mut source, count) else {
         panic!(rt; "a block is not read");
@@ -40,12 +57,22 @@ fn needed_fault(rt: &(impl Abort + AllocGlobal), image: &[u8]) -> Option<MountFa
 
 /// How many blocks are read.
 fn needed_len(rt: &(impl Abort + AllocGlobal), image: &[u8]) -> usize {
-    let count = (image.len() / 512) as u32;
+    let count = block_count(rt, image);
     let mut source = ByteSource { bytes: image };
     match gather_needed(rt.alloc(), &mut source, count) {
         Ok(read) => read.len(),
         Err(_) => 0,
     }
+}
+
+/// Changes one byte of an image, and answers what it was.
+fn put(rt: &impl Abort, image: &mut Vec<u8>, at: usize, byte: u8) -> u8 {
+    let Some(place) = image.get_mut(at) else {
+        panic!(rt; "the image is too short");
+    };
+    let old = *place;
+    *place = byte;
+    old
 }
 
 /// Block 2, block 62, the bitmap in block 3, the extents tree in 4 and 5, and the catalog tree in 6 to 11.
@@ -59,9 +86,9 @@ fn reads_both_trees_and_the_bitmap(rt: HostRuntime) {
 #[test]
 fn reads_nothing_behind_what_is_wrong(rt: HostRuntime) {
     let mut image = image_of(&rt, SmallVolume::OneFile);
-    image[2048 + 8] = 9;
+    put(&rt, &mut image, 2_056, 9);
     assert_eq!(rt; needed_len(&rt, &image), 5);
-    image[1024] = 0;
+    put(&rt, &mut image, 1_024, 0);
     assert_eq!(rt; needed_len(&rt, &image), 1);
 }
 
@@ -70,20 +97,20 @@ fn reads_nothing_behind_what_is_wrong(rt: HostRuntime) {
 fn finds_the_same_in_changed_images(rt: HostRuntime) {
     let mut image = image_of(&rt, SmallVolume::TwoLevels);
     for at in 1_024..3_584 {
-        let byte = image[at];
-        image[at] = 255 - byte;
+        let byte = put(&rt, &mut image, at, 0);
+        put(&rt, &mut image, at, 255 - byte);
         let same = needed_fault(&rt, &image) == fault_of(rt.alloc(), &image);
         assert!(rt; same);
-        image[at] = byte;
+        put(&rt, &mut image, at, byte);
     }
 }
 
-/// The image is cut at each of its lengths from three blocks on.
+/// The image is cut at every 128 bytes, down to three blocks.
 #[test]
 fn finds_the_same_in_cut_images(rt: HostRuntime) {
     let mut image = image_of(&rt, SmallVolume::Folder);
-    while image.len() > 1_536 {
-        image.truncate(image.len() - 1);
+    for cut in 0..243 {
+        image.truncate(32_767 - 128 * cut);
         let same = needed_fault(&rt, &image) == fault_of(rt.alloc(), &image);
         assert!(rt; same);
     }
