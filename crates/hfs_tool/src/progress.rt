@@ -6,6 +6,7 @@ use hfs_commands::Gate;
 const CALLS_SHOWN: u64 = 1_000;
 
 /// A line on standard error after each 1,000 calls of a worker, where standard error is a terminal.
+#[derive(Drop)]
 pub struct Progress<'a> {
     pub rt: &'a HostRuntime,
     pub is_shown: bool,
