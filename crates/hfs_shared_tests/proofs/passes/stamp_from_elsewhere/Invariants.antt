@@ -1,0 +1,9 @@
+use Rattle.hfs_shared_tests.proofs.passes.stamp_from_elsewhere.Given as goal
+
+-- the parts that were just made
+abbrev pub ghosts-used_twice : goal.ghosts-used_twice
+ghosts-used_twice g a = record { book = a.parts.book; opening = a.parts.opening }
+
+-- the parts that were just made
+abbrev pub ghosts-refused_stamp : goal.ghosts-refused_stamp
+ghosts-refused_stamp g a = record { book = a.parts.book; opening = a.parts.opening }

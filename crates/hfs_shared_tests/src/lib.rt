@@ -1,0 +1,16 @@
+//! Tests of a volume that workers and viewers share: a small new volume, calls of which the names that a list should have are
+//! written by hand, and gates that wait for at most 100,000 turns.
+#![tactic(auto)]
+
+#[cfg(test)]
+mod beside;
+#[cfg(test)]
+mod closing;
+#[cfg(test)]
+mod meeting;
+#[cfg(test)]
+mod passes;
+#[cfg(test)]
+mod sharing;
+#[cfg(test)]
+mod telling;
