@@ -2,7 +2,8 @@
 ghost use Rattle.std.specs.Prelude.{◌≡◌};
 
 use crate::meeting::{counted, jobs_of, waits_for};
-use crate::sharing::{begun, lists, new_volume};
+use crate::sharing::{begun, new_volume};
+use hfs_model::Value;
 use hfs_shared::{Gate, Parts, Pass, Session, Viewer, run_workers};
 use std::alloc::Global;
 use std::marker::Brand;
@@ -33,12 +34,23 @@ impl Gate for Within {
     fn after(&self, _worker: u32, _stamp: u64) {}
 }
 
+/// Whether a viewer lists no file.
+fn lists_none(alloc: Global, viewer: &mut Viewer) -> bool {
+    let Ok(reply) = viewer.list(alloc, 2) else {
+        return false;
+    };
+    match &reply.value {
+        Value::Many(infos) => infos.as_slice().len() == 0,
+        _ => false,
+    }
+}
+
 /// How many viewers list no file while a worker is held under the lock.
 fn list_meanwhile(alloc: Global, gate: &Within, viewers: &mut Vec<Viewer>) -> u32 {
     let mut empty = 0_u32;
     if waits_for(&gate.held, 1) {
         for viewer in viewers {
-            if matches!(lists(alloc, viewer, b""), Ok(true)) {
+            if lists_none(alloc, viewer) {
                 empty = empty.saturating_add(1);
             }
             gate.answered.fetch_add(1, Ordering::SeqCst);
