@@ -33,11 +33,7 @@ fn new_volume(alloc: Global) -> Result<Volume> {
 }
 
 /// The parts of a volume, passes and viewers.
-fn begun(
-    rt: &impl Wait,
-    alloc: Global,
-    volume: Volume,
-) -> Result<(Parts, Vec<Pass>, Vec<Viewer>)>
+fn begun(rt: &impl Wait, alloc: Global, volume: Volume) -> Result<(Parts, Vec<Pass>, Vec<Viewer>)>
     ensures { IfOk result (λ r. All (λ k. k.book ≡ r.0.book) r.2.items) }
 {
     match Parts::start(rt, alloc, volume, WORKERS, VIEWERS) {
@@ -69,7 +65,10 @@ fn run_in<K: Session + Send + Sync, R: Threads + Wait + Sync>(
     let mut watchers = watchers_of::<K>(alloc, viewers)?;
     run_both(rt, alloc, &shared, &board, &mut workers, &mut watchers);
     for watcher in &watchers {
-        ensure!(watcher.has_all(), "a viewer lacks told lists, or was not answered");
+        ensure!(
+            watcher.has_all(),
+            "a viewer lacks told lists, or was not answered"
+        );
     }
     close(rt, alloc, shared, workers, watchers)
 }

@@ -30,11 +30,7 @@ fn take_viewer(pair: &Pair, viewers: &mut Vec<Viewer>) -> Result<Viewer, Fail>
 }
 
 /// A pair over a volume, with two viewers of it.
-fn started(
-    rt: &impl Wait,
-    alloc: Global,
-    volume: &Volume,
-) -> Result<(Pair, Vec<Viewer>), PairFault>
+fn started(rt: &impl Wait, alloc: Global, volume: &Volume) -> Result<(Pair, Vec<Viewer>), PairFault>
     ensures { IfOk result (λ r. All (λ k. k.book ≡ r.0.book) r.1.items) }
 {
     Pair::start(rt, alloc, volume, 2)
