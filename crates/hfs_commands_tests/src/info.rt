@@ -1,9 +1,9 @@
 //! The lines of a master directory block.
-use crate::devices::{FailingReader, FailingWriter};
+use crate::devices::{End, FailingReader, FailingWriter, KeepingWriter, SlowReader};
 use crate::headers;
 use crate::headers::Sample;
 use hfs_commands::{InfoFault, run_info};
-use std::alloc::Global;
+use std::alloc::{AllocError, Global};
 use std::test::Fail;
 
 /// The fields of a small volume, `Archive`.
@@ -138,4 +138,53 @@ fn failed_writes_are_told(rt: HostRuntime) {
     let mut image: &[u8] = &head;
     let ended = run_info(rt.alloc(), &mut image, &mut FailingWriter { left: 100 });
     assert!(rt; matches!(ended, Err(InfoFault::WriteFailed)));
+}
+
+/// Whether a volume that is given a byte at a time, with 100 bytes behind its head, is printed as these lines and read no further.
+fn is_printed_slowly(alloc: Global, head: &[u8], lines: &[u8]) -> Result<bool, AllocError> {
+    let mut image = Vec::from_slice(alloc, head)?;
+    for _more in 0..100 {
+        image.push(9)?;
+    }
+    let mut reader = SlowReader {
+        left: image.as_slice(),
+    };
+    let mut output = Vec::new(alloc);
+    let ended = run_info(alloc, &mut reader, &mut output);
+    Ok(ended.is_ok() && output.as_slice() == lines && reader.left.len() == 100)
+}
+
+#[test]
+fn volumes_are_read_a_byte_at_a_time(rt: HostRuntime) -> Result<(), Fail> {
+    let head = head_of(&FIELDS);
+    let (lines, ended) = printed(rt.alloc(), &head);
+    assert!(rt; ended.is_ok());
+    assert!(rt; is_printed_slowly(rt.alloc(), &head, &lines)?);
+    Ok(())
+}
+
+/// Whether a writer that ends after so many bytes has the first of these lines and no more.
+fn is_cut(alloc: Global, lines: &[u8], left: usize, end: End) -> bool {
+    let head = head_of(&FIELDS);
+    let mut image: &[u8] = &head;
+    let mut writer = KeepingWriter::new(alloc, left, end);
+    let ended = run_info(alloc, &mut image, &mut writer);
+    let is_front = writer.taken.len() == left && lines.starts_with(writer.taken.as_slice());
+    matches!(ended, Err(InfoFault::WriteFailed)) && is_front
+}
+
+#[test]
+fn failed_writes_leave_the_first_lines(rt: HostRuntime) {
+    let (lines, ended) = printed(rt.alloc(), &head_of(&FIELDS));
+    assert!(rt; ended.is_ok());
+    for left in 0..lines.len() {
+        assert!(rt;
+            is_cut(rt.alloc(), &lines, left, End::Fails),
+            "after {left}"
+        );
+        assert!(rt;
+            is_cut(rt.alloc(), &lines, left, End::TakesNone),
+            "after {left}"
+        );
+    }
 }

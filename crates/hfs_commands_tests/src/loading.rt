@@ -1,9 +1,11 @@
 //! Images by reader and by path.
-use crate::devices::FailingReader;
+use crate::devices::{EndlessReader, FailingReader, SlowReader};
 use crate::headers;
 use crate::info::head_of_sample;
-use hfs_commands::{Fault, LoadFault, load, load_file, run_info, write_file};
+use hfs_commands::{Fault, LoadFault, load, load_file, load_within, run_info, write_file};
+use std::alloc::{AllocError, Global};
 use std::fs::{File, remove_file};
+use std::io::Read;
 use std::test::Fail;
 
 #[test]
@@ -26,6 +28,76 @@ fn failed_loads_are_told(rt: HostRuntime) {
             "after {left}"
         );
     }
+}
+
+/// What is loaded of a reader within a limit; nothing is read where the limit is above that of images.
+fn loaded_within<R: Read>(alloc: Global, reader: &mut R, limit: u64) -> Result<Vec<u8>, LoadFault> {
+    if limit > 2_147_483_648 {
+        return Err(LoadFault::Memory);
+    }
+    load_within(alloc, reader, limit)
+}
+
+/// Whether an input that never ends is left after exactly one byte more than the limit.
+fn is_left(alloc: Global, limit: u64) -> bool {
+    let mut reader = EndlessReader { given: 0 };
+    let loaded = loaded_within(alloc, &mut reader, limit);
+    matches!(loaded, Err(LoadFault::TooLarge)) && reader.given as u64 == limit.saturating_add(1)
+}
+
+#[test]
+fn inputs_that_never_end_are_left(rt: HostRuntime) {
+    for limit in [0u64, 1, 4_096, 65_535, 65_536, 200_000] {
+        assert!(rt; is_left(rt.alloc(), limit), "at {limit}");
+    }
+}
+
+/// Whether so many bytes, given one at a time, are loaded within a limit.
+fn is_loaded(alloc: Global, count: usize, limit: u64) -> Result<bool, AllocError> {
+    let bytes = vec![in alloc; 7u8; count]?;
+    let mut reader = SlowReader {
+        left: bytes.as_slice(),
+    };
+    match loaded_within(alloc, &mut reader, limit) {
+        Ok(loaded) => Ok(loaded.as_slice() == bytes.as_slice()),
+        Err(_fault) => Ok(false),
+    }
+}
+
+/// Whether so many bytes, given one at a time, are too many.
+fn is_too_large(alloc: Global, count: usize, limit: u64) -> Result<bool, AllocError> {
+    let bytes = vec![in alloc; 7u8; count]?;
+    let mut reader = SlowReader {
+        left: bytes.as_slice(),
+    };
+    let loaded = loaded_within(alloc, &mut reader, limit);
+    Ok(matches!(loaded, Err(LoadFault::TooLarge)))
+}
+
+#[test]
+fn inputs_at_the_limit_are_loaded(rt: HostRuntime) -> Result<(), Fail> {
+    for count in [0usize, 1, 4_096, 65_536, 70_000] {
+        let limit = count as u64;
+        assert!(rt; is_loaded(rt.alloc(), count, limit)?, "{count}");
+    }
+    for limit in [0u64, 4_096, 65_536, 69_999] {
+        let count = (limit as usize).saturating_add(1);
+        assert!(rt; is_too_large(rt.alloc(), count, limit)?, "at {limit}");
+    }
+    Ok(())
+}
+
+#[test]
+fn failed_loads_within_a_limit_are_told(rt: HostRuntime) {
+    for left in 0..4_097 {
+        let loaded = load_within(rt.alloc(), &mut FailingReader { left }, 4_096);
+        assert!(rt;
+            matches!(loaded, Err(LoadFault::ReadFailed)),
+            "after {left}"
+        );
+    }
+    let loaded = load_within(rt.alloc(), &mut FailingReader { left: 4_097 }, 4_096);
+    assert!(rt; matches!(loaded, Err(LoadFault::TooLarge)));
 }
 
 #[test]
