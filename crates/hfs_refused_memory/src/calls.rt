@@ -9,7 +9,7 @@ use hfs_volume::{Volume, mount};
 use std::alloc::{AllocError, Global};
 
 /// The volume of an image, which is sound. Where memory is refused it is mounted once more.
-fn mounted(alloc: Global, image: Vec<u8>) -> Result<Volume> {
+pub fn mounted(alloc: Global, image: Vec<u8>) -> Result<Volume> {
     match mount(alloc, image) {
         Ok(volume) => Ok(volume),
         Err(refused) => match mount(alloc, refused.image) {
@@ -20,13 +20,13 @@ fn mounted(alloc: Global, image: Vec<u8>) -> Result<Volume> {
 }
 
 /// A name as calls have it.
-fn name(alloc: Global, bytes: &[u8]) -> Result<Bytes, AllocError> {
+pub fn name(alloc: Global, bytes: &[u8]) -> Result<Bytes, AllocError> {
     Bytes::from_slice(alloc, bytes)
 }
 
 /// Whether a call is answered with this code, and makes of a volume with the bytes `before` one with the bytes `after`. Where memory is
 /// refused the bytes must still be `before`, and the call is made once more.
-fn is_made(
+pub fn is_made(
     alloc: Global,
     volume: &mut Volume,
     call: &Call,
