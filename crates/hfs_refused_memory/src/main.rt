@@ -1,4 +1,4 @@
-//! Calls, mounting and repairs of a small volume, each made once more where memory is refused. What met the refusal must have left the
+//! Calls, mounting and repairs of small volumes, each made once more where memory is refused. What met the refusal must have left the
 //! bytes as they were, and once more it must do what it always does, so that each line reads `as said` whichever allocation is refused.
 //!
 //! `tests/refused_memory.sh` refuses each allocation in turn.
