@@ -293,10 +293,11 @@ while read -r word kinds; do
     writes "1\t$word$line\n"
     "$tool" run "$wide" "$script" > "$folder/printed" || fail "the word $word"
     grep -q -E $'^1\t1\t-?[0-9]+\t' "$folder/printed" || fail "what $word is answered"
+    answer=$(cat "$folder/printed")
     wants_line "1\t$word$line\t2"
     wants_line "1\t$word$(printf '\\t%s' "${good[@]:1}")"
     case $word in
-        dirinfo | info | indexed | list | read) writes "v1\t$word$line\n" && wants 0 "v$(cat "$folder/printed")\n" run "$wide" "$script" ;;
+        dirinfo | info | indexed | list | read) writes "v1\t$word$line\n" && wants 0 "v$answer\n" run "$wide" "$script" ;;
         *) wants_line "v1\t$word$line" ;;
     esac
     for place in "${!good[@]}"; do
