@@ -51,6 +51,32 @@ fill() {
     hrename ':One:file 4' ':Empty:moved'
 }
 
+# Fills the mounted volume, and has hfsutils put one file into the gaps between others.
+fill_gaps() {
+    local n count=0
+    hmkdir :One
+    for n in 5 6 8; do hcopy -r "$folder/some bytes" ":One:file $n"; done
+    while hcopy -r "$folder/some bytes" ":gap $((count + 1))" 2> /dev/null; do count=$((count + 1)); done
+    hdel ":gap $((count + 1))" 2> /dev/null || true
+    for ((n = 1; n <= count; n += 2)); do hdel ":gap $n"; done
+    head -c 60000 /dev/urandom > "$folder/many bytes"
+    hcopy -r "$folder/many bytes" ':One:file 7'
+}
+
+# The number that lies at a place in a file, of two bytes or of four.
+number_at() {
+    od -An -t u1 -j "$2" -N "$3" "$1" | awk '{ for (i = 1; i <= NF; i++) n = n * 256 + $i } END { print n }'
+}
+
+# How many records the extents tree has, by its header node.
+overflow_records() {
+    local start size first
+    start=$(number_at "$1" $((1024 + 28)) 2)
+    size=$(number_at "$1" $((1024 + 20)) 4)
+    first=$(number_at "$1" $((1024 + 134)) 2)
+    number_at "$1" $((start * 512 + first * size + 20)) 4
+}
+
 check_sound() {
     [ "$("$tool" check "$1" | head -n 1)" = sound ] || fail "check of $1"
 }
@@ -128,9 +154,9 @@ next_id() {
     echo $((16#$(od -An -tx1 -j 1054 -N 4 "$1" | tr -d ' ')))
 }
 
-# What fsck.hfs finds wrong with an image. It wants zeros where hfsutils writes none.
+# What fsck.hfs finds wrong with an image. It wants zeros where hfsutils writes none, and of the nodes that hfsutils gave back as they were it names the first alone.
 faults_of() {
-    fsck.hfs -fn "$1" | grep '^ ' | grep -v -e Executing -e 'The volume name' | sort
+    fsck.hfs -fn "$1" | grep '^ ' | grep -v -e Executing -e 'The volume name' | sed 's/^\( *Unused node is not erased\).*/\1/' | sort
 }
 
 # Wants that fsck.hfs, where that is installed, finds nothing wrong with an image that it didn't before.
@@ -271,5 +297,14 @@ compare_story "$folder/ours.img" 2
 # Items that scripts make, rename, move, delete and lock, on the same volumes.
 compare_run "$folder/theirs.img" 1
 compare_run "$folder/ours.img" 2
+
+# The same where the deleted file lies in many extents.
+"$tool" new "$folder/gaps.img" Gaps 1600 100 6 || fail "new ends with $?"
+hmount "$folder/gaps.img" > /dev/null
+fill_gaps
+humount
+[ "$(overflow_records "$folder/gaps.img")" -ge 3 ] || fail 'the file lies in few extents'
+compare_run "$folder/gaps.img" 3
+[ "$(overflow_records "$folder/run.img")" = 0 ] || fail "a deleted file's extents"
 
 echo 'peers agree'
