@@ -12,7 +12,7 @@ use Rattle.hfs_check.specs.declared.reported.Alternate.{Alternate}
 use Rattle.hfs_check.specs.declared.reported.Alternate.TheVariants.{Same, Differs, Missing}
 use Rattle.hfs_check.specs.declared.reported.Report.{Report}
 use Rattle.hfs_check.specs.Parts.{Blocks, mdb_in, catalog_in, owned_in}
-use Rattle.hfs_check.specs.Faults.{fault_of}
+use Rattle.hfs_check.specs.Faults.{blocks_fault, fault_of}
 
 -- ---- the alternate master directory block
 
@@ -52,3 +52,13 @@ report_with image (Some fault) = refused_report fault
 
 unfoldable pub report_of : List ℕ → Report
 report_of image = report_with image (fault_of image)
+
+-- ---- of blocks, but for the check of the image's length
+
+-- of so many blocks with this first fault
+abbrev pub report_by : ℕ → Blocks → Option MountFault → Report
+report_by total blocks None = sound_report total blocks
+report_by total blocks (Some fault) = refused_report fault
+
+unfoldable pub report_in : ℕ → Blocks → Report
+report_in total blocks = report_by total blocks (blocks_fault total blocks)

@@ -25,6 +25,6 @@ pub use crate::mount_fault::MountFault;
 pub use crate::record_checks::check_catalog_records;
 pub use crate::repair_laws::{repair_keeps_others, repair_keeps_sound_images};
 pub use crate::reported::{Alternate, Report};
-pub use crate::reporting::report;
+pub use crate::reporting::{refused_report, report, report_blocks};
 pub use crate::tree_checks::check_extents_tree;
 pub use crate::trees::VolumeTrees;

@@ -5,7 +5,7 @@ ghost use Rattle.hfs_check.specs.Parts.{mdb_in, owned_in};
 ghost use Rattle.hfs_check.specs.Report as spec;
 ghost use Rattle.hfs_check.specs.Sound.{AreBlocksSound};
 
-use crate::checking::{CheckedVolume, checked_image};
+use crate::checking::{CheckedVolume, checked_blocks, checked_image};
 use crate::mount_fault::MountFault;
 use crate::reported::{Alternate, Report, alternate_in};
 use hfs_blocks::{Blocks, ImageBytes};
@@ -37,7 +37,7 @@ fn sound_report<B: Blocks>(
 }
 
 /// The report of an image that is refused.
-fn refused_report(fault: MountFault) -> Report
+pub fn refused_report(fault: MountFault) -> Report
     ensures { result ≡ spec.refused_report fault }
 {
     Report {
@@ -47,6 +47,20 @@ fn refused_report(fault: MountFault) -> Report
         free: 0,
         alternate: Alternate::Missing,
         unowned: 0,
+    }
+}
+
+/// Reports on the blocks of an image, whose length is right: the first fault of its blocks, or the counts of a sound volume, as
+/// `Report` says. The only error is want of memory.
+#[tactic(auto, unfolding(crate::specs::Report::report_in))]
+pub fn report_blocks<B: Blocks>(alloc: Global, blocks: &B) -> Result<Report, AllocError>
+    requires { 3 ≤ B.total blocks.now }
+    ensures { IfOk result (λ report. report ≡ spec.report_in (B.total blocks.now) (B.blocks blocks.now)) }
+{
+    match checked_blocks(alloc, blocks) {
+        Ok(checked) => sound_report(alloc, blocks, &checked),
+        Err(MountFault::Memory) => Err(AllocError),
+        Err(fault) => Ok(refused_report(fault)),
     }
 }
 
