@@ -4,3 +4,6 @@ pub mod SameFaults
 pub mod SameImages
 pub mod Gathered
 pub mod Found
+pub mod Reported
+pub mod Listed
+pub mod Refused

@@ -74,7 +74,15 @@ module _ (total : ℕ) (old new : Blocks) (same : SameParts old new) (copy : new
         (map-same old new (block_numbers (mdb_in old) (fork_extents (overflow_in old) file (fork_byte kind) fork.extents)) h)
 
   hold-same : HoldSame total old new
-  hold-same = record { report = report-same; volume = volume-same; forks = fork-same; bytes = bytes-same }
+  hold-same = record {
+    report = report-same;
+    directory = same.mdb;
+    overflow = same.overflow;
+    catalog = catalog-stays old new same;
+    volume = volume-same;
+    forks = fork-same;
+    bytes = bytes-same;
+  }
 
 module _ (law : NoBlocksFault) (total : ℕ) (old new : Blocks) (h : AgreeOnNeeded total old new) where
   held : AreBlocksSound total old → HoldSame total old new

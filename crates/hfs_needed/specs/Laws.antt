@@ -32,6 +32,9 @@ blocks_of_fork blocks file kind fork =
 -- agree has the same bytes
 pub record HoldSame (total : ℕ) (old new : Blocks) : Type 0 where
   pub report : sound_report total new ≡ sound_report total old
+  pub directory : mdb_in new ≡ mdb_in old
+  pub overflow : overflow_in new ≡ overflow_in old
+  pub catalog : catalog_in new ≡ catalog_in old
   pub volume : volume_in new ≡ volume_with (contents_in new) old
   pub forks : (file : ℕ) (kind : ForkKind) (fork : ForkRecord) → blocks_of_fork new file kind fork ≡ blocks_of_fork old file kind fork
   pub bytes : (file : ℕ) (kind : ForkKind) (fork : ForkRecord) → AgreeOn (blocks_of_fork old file kind fork) old new

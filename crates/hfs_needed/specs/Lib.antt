@@ -1,3 +1,5 @@
 pub mod Needed
 pub mod Laws
 pub mod Gathered
+pub mod Known
+pub mod Opened

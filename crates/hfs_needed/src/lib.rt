@@ -4,6 +4,12 @@
 mod finding;
 mod gathering;
 mod laws;
+mod listing;
+mod opening;
+mod reporting;
 
 pub use crate::gathering::gather_needed;
 pub use crate::laws::{gathered_is_enough, needed_is_enough, needed_of_images};
+pub use crate::listing::needed_list;
+pub use crate::opening::NeededFault;
+pub use crate::reporting::needed_report;

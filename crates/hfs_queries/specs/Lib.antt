@@ -5,3 +5,4 @@ pub mod Folders
 pub mod Details
 pub mod Queries
 pub mod Replies
+pub mod NamedFiles

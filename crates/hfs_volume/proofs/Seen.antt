@@ -21,7 +21,8 @@ use Rattle.hfs_volume.specs.Opening.{opened_fork}
 use Rattle.hfs_queries.specs.Told.{IsCatalog, file_named, pick}
 use Rattle.hfs_queries.specs.Queries.{AreEntries, CatalogsAreSound, RecordsAreEntries}
 use Rattle.hfs_queries.specs.Replies.{by_nodes}
-use Rattle.hfs_volume.proofs.FileForks.{file_reply, file_opened, forks, opens, forks_in}
+use Rattle.hfs_queries.specs.NamedFiles.{forks_in}
+use Rattle.hfs_volume.proofs.FileForks.{file_reply, file_opened, forks, opens}
 
 -- the image that a volume's field has, and the nodes that are read
 module _ (value own : ImageValue) (mdb : Mdb) (extents catalog : List Run)

@@ -1,0 +1,20 @@
+-- By the image's length.
+use Rattle.std.proofs.Common.{rules}
+use Rattle.hfs_check.specs.declared.mount_fault.MountFault.TheVariants as fault
+use Rattle.hfs_needed.proofs.Refused.{length-refused, err-so}
+use Rattle.hfs_needed.proofs.Reported.{length-large, length-short, length-right}
+use Rattle.hfs_needed.proofs.opening.open_needed.Goals as goal
+
+pub returns-then-len-gt2147483648-clause-refused :
+    goal.returns-then-len-gt2147483648-clause-refused
+returns-then-len-gt2147483648-clause-refused g c =
+    length-refused fault.TooLarge (g.S.BlockSource.image c.args.source.now) c.args.len (length-large c.args.len (search rules))
+
+pub returns-then-len-lt1536-clause-refused : goal.returns-then-len-lt1536-clause-refused
+returns-then-len-lt1536-clause-refused g c =
+    length-refused fault.Short (g.S.BlockSource.image c.args.source.now) c.args.len (length-short c.args.len (search rules) (search rules))
+
+pub returns-clause-refused : goal.returns-clause-refused
+returns-clause-refused g c =
+    err-so (g.S.BlockSource.image c.args.source.now) c.args.len (length-right c.args.len (search rules) (search rules)) c.open_blocks.result
+    c.open_blocks.ensures.refused

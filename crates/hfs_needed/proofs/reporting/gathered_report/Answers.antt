@@ -1,0 +1,12 @@
+-- What was gathered is reported as the image is.
+use Rattle.std.proofs.Common.{◌∙◌}
+use Rattle.hfs_check.specs.Report.{report_in}
+use Rattle.hfs_sparse.specs.Sparse.{sparse}
+use Rattle.hfs_needed.proofs.Reported.{gathered-reports}
+use Rattle.hfs_needed.proofs.reporting.gathered_report.Goals as goal
+
+pub returns-in-Ok-clause-report : goal.returns-in-Ok-clause-report
+returns-in-Ok-clause-report g c =
+    gathered-reports c.no_blocks_fault.ensures c.gathered_is_enough.ensures (g.S.BlockSource.image c.args.source.now) c.args.count c.in_ok-read.read
+    c.in_ok-read.ensures.needed c.in_ok-read.ensures.told c.in-Ok.report
+    (c.in-Ok.ensures ∙ (λ i. report_in (c.over.ensures.below i).count (sparse (c.over.ensures.patch i))))

@@ -1,0 +1,21 @@
+-- By the image's length.
+use Rattle.std.proofs.Common.{◌≡◌, sym, subst, rules}
+use Rattle.hfs_check.specs.declared.reported.Report.{Report}
+use Rattle.hfs_check.specs.Report.{report_of}
+use Rattle.hfs_needed.specs.Known.{OfKnown}
+use Rattle.hfs_needed.proofs.Reported.{ok-so, reports-large, reports-short, reports-right}
+use Rattle.hfs_needed.proofs.reporting.needed_report.Goals as goal
+
+pub returns-then-len-gt2147483648-clause-report : goal.returns-then-len-gt2147483648-clause-report
+returns-then-len-gt2147483648-clause-report g c =
+    subst (λ (r : Report). OfKnown (g.S.BlockSource.image c.args.source.now) c.args.len (λ bytes. r ≡ report_of bytes)) (sym c.refused_report.ensures)
+    (reports-large (g.S.BlockSource.image c.args.source.now) c.args.len (search rules))
+
+pub returns-then-len-lt1536-clause-report : goal.returns-then-len-lt1536-clause-report
+returns-then-len-lt1536-clause-report g c =
+    subst (λ (r : Report). OfKnown (g.S.BlockSource.image c.args.source.now) c.args.len (λ bytes. r ≡ report_of bytes)) (sym c.refused_report-then-len-lt1536.ensures)
+    (reports-short (g.S.BlockSource.image c.args.source.now) c.args.len (search rules) (search rules))
+
+pub returns-clause-report : goal.returns-clause-report
+returns-clause-report g c =
+    ok-so c.gathered_report.result (reports-right (g.S.BlockSource.image c.args.source.now) c.args.len (search rules) (search rules)) c.gathered_report.ensures.report

@@ -1,0 +1,67 @@
+//! Lists of folders, by the needed blocks of an image.
+ghost use Rattle.std.specs.Prelude.{◌≡◌, IfOk, IfErr};
+ghost use Rattle.hfs_model.specs.Children.{entries_of};
+ghost use Rattle.hfs_model.specs.Reading.{list};
+ghost use Rattle.hfs_check.specs.Parts.{catalog_in};
+ghost use Rattle.hfs_check.specs.Sound.{AreBlocksSound};
+ghost use Rattle.hfs_check.specs.Trees.{HasTrees};
+ghost use Rattle.hfs_check.specs.VolumeOf.{volume_of};
+ghost use Rattle.hfs_queries.specs.Brief.{listed_in, without_ids};
+ghost use Rattle.hfs_sparse.specs.Sparse.{sparse};
+ghost use Rattle.hfs_needed.specs.Known.{OfKnown};
+ghost use Rattle.hfs_needed.specs.Opened.{IsRefusedFor};
+
+use crate::laws::gathered_is_enough;
+use crate::opening::{NeededFault, open_needed};
+use hfs_blocks::Patch;
+use hfs_btree::RunNodes;
+use hfs_check::{VolumeTrees, no_blocks_fault};
+use hfs_model::Reply;
+use hfs_queries::{Detail, catalog_answers, list};
+use hfs_sparse::{BlockSource, ZeroBlocks};
+use std::alloc::{AllocError, Global};
+
+/// What the children's own records tell of all children of a folder, in name order, where these blocks were read of a volume of `count`
+/// blocks.
+fn list_in_brief(
+    alloc: Global,
+    read: &Patch,
+    count: u32,
+    trees: &VolumeTrees,
+    dir: u32,
+) -> Result<Reply, AllocError>
+    requires sound { AreBlocksSound count (sparse read.now) }
+    requires trees { HasTrees count (sparse read.now) trees.now }
+    ensures { IfOk result (λ reply. reply ≡ listed_in Detail.Brief (catalog_in (sparse read.now)) dir) }
+{
+    catalog_answers();
+    let zeros = ZeroBlocks { count };
+    let nodes = RunNodes {
+        blocks: &read.over(&zeros),
+        runs: &trees.catalog,
+    };
+    list(alloc, &nodes, dir, Detail::Brief)
+}
+
+/// Lists a folder of the volume of an image of `len` bytes, of which only the blocks are read that its checks need: the reply to List, with
+/// has_id false in each item. Errors: a read failed, memory was refused, or the image is refused.
+pub fn needed_list<S: BlockSource>(
+    alloc: Global,
+    source: &mut S,
+    len: u64,
+    dir: u32,
+) -> Result<Reply, NeededFault>
+    ensures reply { IfOk result (λ reply. OfKnown (S.image source.old) len (λ bytes. reply ≡ without_ids (list (entries_of (volume_of bytes)) dir))) }
+    ensures refused { IfErr result (λ fault. IsRefusedFor (S.image source.old) len fault) }
+    ensures image { S.image source.new ≡ S.image source.old }
+{
+    catalog_answers();
+    gathered_is_enough();
+    no_blocks_fault();
+    let volume = open_needed(alloc, source, len)?;
+    let trees = &volume.sound.trees;
+    match list_in_brief(alloc, &volume.read, volume.count, trees, dir) {
+        Ok(reply) => Ok(reply),
+        Err(_) => Err(NeededFault::Memory),
+    }
+}

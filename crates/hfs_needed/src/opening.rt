@@ -1,0 +1,89 @@
+//! Volumes of which only the needed blocks are read.
+ghost use Rattle.std.specs.Prelude.{◌≡◌, ◌≢◌, ◌≤◌, ◌/◌, IfOk, IfErr};
+ghost use Rattle.hfs_check.specs.declared.mount_fault.MountFault.{MountFault};
+ghost use Rattle.hfs_needed.specs.Opened.{IsOpened, AreRefusedFor, IsRefusedFor};
+
+use crate::gathering::gather_needed;
+use crate::laws::gathered_is_enough;
+use hfs_blocks::Patch;
+use hfs_check::{MountFault, SoundVolume, check_blocks, no_blocks_fault};
+use hfs_sparse::{BlockSource, SparseFault, ZeroBlocks};
+use std::alloc::Global;
+
+/// Why nothing is told of a volume.
+#[derive(Clone, Copy, Debug, PartialEq, Eq)]
+pub enum NeededFault {
+    /// A read failed, or the reader ended too early.
+    ReadFailed,
+    /// Memory was refused.
+    Memory,
+    /// The image is refused for this fault, the first of docs/CHECKS.md's order.
+    Refused(MountFault),
+}
+
+impl NeededFault {
+    /// The fault of a read that failed or was refused memory.
+    pub(crate) fn of_sparse(fault: SparseFault) -> NeededFault
+        ensures { (why : MountFault) → result ≢ NeededFault.Refused why }
+    {
+        match fault {
+            SparseFault::ReadFailed => NeededFault::ReadFailed,
+            SparseFault::Memory => NeededFault::Memory,
+        }
+    }
+}
+
+/// The needed blocks of a sound volume, and what its checks found out.
+#[derive(Drop)]
+pub(crate) struct NeededVolume {
+    /// The blocks that were read.
+    pub(crate) read: Patch,
+    /// How many blocks the volume has.
+    pub(crate) count: u32,
+    /// Its master directory block and where its trees lie.
+    pub(crate) sound: SoundVolume,
+}
+
+/// Reads the needed blocks of an image of `count` blocks, whose length is right, and makes all checks.
+fn open_blocks<S: BlockSource>(
+    alloc: Global,
+    source: &mut S,
+    count: u32,
+) -> Result<NeededVolume, NeededFault>
+    requires { 3 ≤ count }
+    ensures opened { IfOk result (λ volume. IsOpened (S.image source.old) count volume.read volume.count volume.sound.mdb volume.sound.trees) }
+    ensures refused { IfErr result (λ fault. AreRefusedFor (S.image source.old) count fault) }
+    ensures image { S.image source.new ≡ S.image source.old }
+{
+    gathered_is_enough();
+    let read = match gather_needed(alloc, source, count) {
+        Ok(read) => read,
+        Err(fault) => return Err(NeededFault::of_sparse(fault)),
+    };
+    let zeros = ZeroBlocks { count };
+    match check_blocks(alloc, &read.over(&zeros)) {
+        Ok(sound) => Ok(NeededVolume { read, count, sound }),
+        Err(MountFault::Memory) => Err(NeededFault::Memory),
+        Err(fault) => Err(NeededFault::Refused(fault)),
+    }
+}
+
+/// Reads the needed blocks of an image of `len` bytes, and makes all checks. Errors: a read failed, memory was refused, or the image
+/// is refused.
+pub(crate) fn open_needed<S: BlockSource>(
+    alloc: Global,
+    source: &mut S,
+    len: u64,
+) -> Result<NeededVolume, NeededFault>
+    ensures opened { IfOk result (λ volume. IsOpened (S.image source.old) (len / 512) volume.read volume.count volume.sound.mdb volume.sound.trees) }
+    ensures refused { IfErr result (λ fault. IsRefusedFor (S.image source.old) len fault) }
+    ensures image { S.image source.new ≡ S.image source.old }
+{
+    if len > 2_147_483_648 {
+        return Err(NeededFault::Refused(MountFault::TooLarge));
+    }
+    if len < 1_536 {
+        return Err(NeededFault::Refused(MountFault::Short));
+    }
+    open_blocks(alloc, source, (len / 512) as u32)
+}
