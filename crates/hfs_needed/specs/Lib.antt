@@ -3,3 +3,4 @@ pub mod Laws
 pub mod Gathered
 pub mod Known
 pub mod Opened
+pub mod Forks

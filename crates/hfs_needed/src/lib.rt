@@ -2,12 +2,14 @@
 #![tactic(auto)]
 
 mod finding;
+mod forks;
 mod gathering;
 mod laws;
 mod listing;
 mod opening;
 mod reporting;
 
+pub use crate::forks::needed_fork;
 pub use crate::gathering::gather_needed;
 pub use crate::laws::{gathered_is_enough, needed_is_enough, needed_of_images};
 pub use crate::listing::needed_list;

@@ -2,12 +2,14 @@
 #![tactic(auto)]
 
 mod bytes;
+mod copying;
 mod fetching;
 mod seeking;
 mod source;
 mod zeros;
 
 pub use crate::bytes::ByteSource;
+pub use crate::copying::read_runs;
 pub use crate::fetching::{SparseFault, fetch, fetch_range, fetch_runs};
 pub use crate::seeking::SeekSource;
 pub use crate::source::BlockSource;

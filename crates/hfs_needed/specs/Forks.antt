@@ -1,0 +1,61 @@
+-- The bytes of a file's fork, of an image of which only the needed blocks and the fork's own are read.
+use Rattle.std.specs.Prelude.{◌≡◌, ℕ, ◌<◌, not, if◌then◌else◌, List, length, Result, Ok, Err}
+use Rattle.std.specs.Option.{option_map_or}
+use Rattle.hfs_fields.specs.Names.{is_item_name}
+use Rattle.hfs_fields.specs.declared.file_record.FileRecord.{FileRecord}
+use Rattle.hfs_fields.specs.declared.file_record.ForkRecord.{ForkRecord}
+use Rattle.hfs_blocks.specs.Blocks.{block_at}
+use Rattle.hfs_blocks.specs.Layers.{Numbered}
+use Rattle.hfs_scans.specs.Each.{Each}
+use Rattle.hfs_model.specs.declared.call.Fork.{Fork}
+use Rattle.hfs_model.specs.declared.call.Fork.TheVariants.{DataFork, ResFork}
+use Rattle.hfs_model.specs.declared.codes.TheConstants.{BAD_NAME, NOT_FOUND, NOT_A_FOLDER}
+use Rattle.hfs_model.specs.declared.item.Kind.{Kind}
+use Rattle.hfs_model.specs.declared.item.Kind.TheVariants as kind
+use Rattle.hfs_model.specs.declared.reply.Reply.{Reply}
+use Rattle.hfs_model.specs.Children.{is_folder, child_named}
+use Rattle.hfs_model.specs.Reading.{fork_of}
+use Rattle.hfs_model.specs.Replies.{refusal}
+use Rattle.hfs_model.specs.Volume.{Entry}
+use Rattle.hfs_space.specs.declared.fork_kind.ForkKind.{ForkKind}
+use Rattle.hfs_space.specs.declared.fork_kind.ForkKind.TheVariants.{Data, Resource}
+use Rattle.hfs_space.specs.Extents.{fork_extents, fork_byte}
+use Rattle.hfs_space.specs.Forks.{fork_bytes}
+use Rattle.hfs_space.specs.Owners.{forks_of_file}
+use Rattle.hfs_space.specs.Sound.{IsForkSound}
+use Rattle.hfs_check.specs.Parts.{Blocks, mdb_in, overflow_in}
+use Rattle.hfs_sparse.specs.Sparse.{sparse}
+
+-- ---- of the volume
+
+-- the bytes of an item's fork; -43 of a folder
+abbrev pub fork_of_kind : Fork → Kind → Result (List ℕ) Reply
+fork_of_kind fork (kind.Folder kept) = Err (refusal NOT_FOUND)
+fork_of_kind fork (kind.File file) = Ok (fork_of fork file)
+
+-- the bytes of a fork of the folder's child of that name: -37, -120, -43
+unfoldable pub named_fork : List Entry → ℕ → List ℕ → Fork → Result (List ℕ) Reply
+named_fork es dir name fork =
+    if not (is_item_name name) then Err (refusal BAD_NAME)
+    else if not (is_folder es dir) then Err (refusal NOT_A_FOLDER)
+    else option_map_or (λ (e : Entry). fork_of_kind fork e.1.kind) (child_named es dir name) (Err (refusal NOT_FOUND))
+
+-- ---- of the image
+
+-- each of the first blocks of an image with these bytes has 512 bytes
+abbrev pub HasWhole : ℕ → List ℕ → Type 0
+HasWhole total image = (n : ℕ) → n < total → length (block_at image n) ≡ 512
+
+-- the bytes of a fork in the blocks of an image, which are found by those that were read
+abbrev pub bytes_by : Numbered → List ℕ → ℕ → ForkKind → ForkRecord → List ℕ
+bytes_by read image file kind fork =
+    fork_bytes (block_at image) (mdb_in (sparse read)) (fork_extents (overflow_in (sparse read)) file (fork_byte kind) fork.extents) fork.length
+
+-- one of both forks of a file
+abbrev pub fork_by : Numbered → List ℕ → FileRecord → Fork → List ℕ
+fork_by read image file DataFork = bytes_by read image file.id Data file.«data»
+fork_by read image file ResFork = bytes_by read image file.id Resource file.resource
+
+-- the extents of both forks of a file lie in the volume, and have room for its bytes
+abbrev pub AreForksIn : Blocks → FileRecord → Type 0
+AreForksIn blocks file = Each (IsForkSound (mdb_in blocks) (overflow_in blocks)) (forks_of_file file)

@@ -1,0 +1,142 @@
+//! The bytes of forks, by the needed blocks of an image.
+ghost use Rattle.std.specs.Prelude.{◌≡◌, IfOk, IfErr, IfSome, Ok, Err};
+ghost use Rattle.hfs_model.specs.Children.{entries_of};
+ghost use Rattle.hfs_space.specs.Extents as extents;
+ghost use Rattle.hfs_space.specs.Sound.{IsForkSound};
+ghost use Rattle.hfs_check.specs.Parts.{mdb_in, overflow_in, catalog_in};
+ghost use Rattle.hfs_check.specs.Sound.{AreBlocksSound};
+ghost use Rattle.hfs_check.specs.Trees.{HasTrees};
+ghost use Rattle.hfs_check.specs.VolumeOf.{volume_of};
+ghost use Rattle.hfs_queries.specs.Told as told;
+ghost use Rattle.hfs_sparse.specs.Sparse.{sparse};
+ghost use Rattle.hfs_needed.specs.Forks.{named_fork, HasWhole, bytes_by, fork_by, AreForksIn};
+ghost use Rattle.hfs_needed.specs.Known.{OfKnown};
+ghost use Rattle.hfs_needed.specs.Opened.{IsRefusedFor};
+
+use crate::laws::gathered_is_enough;
+use crate::opening::{NeededFault, open_needed};
+use hfs_blocks::Patch;
+use hfs_btree::RunNodes;
+use hfs_check::{SoundVolume, VolumeTrees, no_blocks_fault, trees_are_sound};
+use hfs_fields::{FileRecord, ForkRecord};
+use hfs_model::{Fork, Reply};
+use hfs_queries::{catalog_answers, file_named};
+use hfs_space::{ForkKind, fork_extents, tree_runs};
+use hfs_sparse::{BlockSource, SparseFault, ZeroBlocks, read_runs};
+use std::alloc::Global;
+
+/// The bytes of a fork of a file: of its extents, which are found by the blocks that were read, those blocks are read from the source that
+/// have one of its bytes.
+fn read_kind<S: BlockSource>(
+    alloc: Global,
+    source: &mut S,
+    read: &Patch,
+    count: u32,
+    sound: &SoundVolume,
+    file: u32,
+    kind: ForkKind,
+    fork: &ForkRecord,
+) -> Result<Vec<u8>, SparseFault>
+    requires sound { AreBlocksSound count (sparse read.now) }
+    requires directory { sound.now.mdb ≡ mdb_in (sparse read.now) }
+    requires trees { HasTrees count (sparse read.now) sound.now.trees }
+    requires fork { IsForkSound (mdb_in (sparse read.now)) (overflow_in (sparse read.now)) (record { file = file; fork = extents.fork_byte kind; len = fork.now.length; first = fork.now.extents }) }
+    ensures bytes { IfOk result (λ bytes. IfSome (S.image source.old) (λ image. HasWhole count image → bytes.items ≡ bytes_by read.now image file kind fork.now)) }
+    ensures image { S.image source.new ≡ S.image source.old }
+{
+    trees_are_sound();
+    let zeros = ZeroBlocks { count };
+    let blocks = read.over(&zeros);
+    let nodes = RunNodes {
+        blocks: &blocks,
+        runs: &sound.trees.extents,
+    };
+    let Ok(extents) = fork_extents(alloc, &nodes, file, kind, &fork.extents) else {
+        return Err(SparseFault::Memory);
+    };
+    let Ok(runs) = tree_runs(alloc, &blocks, &sound.mdb, &extents, fork.length) else {
+        return Err(SparseFault::Memory);
+    };
+    let mut bytes = read_runs(alloc, source, &runs)?;
+    bytes.truncate(fork.length as usize);
+    Ok(bytes)
+}
+
+/// The bytes of one of both forks of a file.
+fn read_file<S: BlockSource>(
+    alloc: Global,
+    source: &mut S,
+    read: &Patch,
+    count: u32,
+    sound: &SoundVolume,
+    file: &FileRecord,
+    fork: Fork,
+) -> Result<Vec<u8>, SparseFault>
+    requires sound { AreBlocksSound count (sparse read.now) }
+    requires directory { sound.now.mdb ≡ mdb_in (sparse read.now) }
+    requires trees { HasTrees count (sparse read.now) sound.now.trees }
+    requires forks { AreForksIn (sparse read.now) file.now }
+    ensures bytes { IfOk result (λ bytes. IfSome (S.image source.old) (λ image. HasWhole count image → bytes.items ≡ fork_by read.now image file.now fork)) }
+    ensures image { S.image source.new ≡ S.image source.old }
+{
+    let (kind, record) = match fork {
+        Fork::DataFork => (ForkKind::Data, &file.data),
+        Fork::ResFork => (ForkKind::Resource, &file.resource),
+    };
+    read_kind(alloc, source, read, count, sound, file.id, kind, record)
+}
+
+/// The record of the folder's file of that name, or the reply that refuses it, where these blocks were read of a volume of `count` blocks.
+fn find_file(
+    read: &Patch,
+    count: u32,
+    trees: &VolumeTrees,
+    dir: u32,
+    name: &[u8],
+) -> Result<FileRecord, Reply>
+    requires sound { AreBlocksSound count (sparse read.now) }
+    requires trees { HasTrees count (sparse read.now) trees.now }
+    ensures found { result ≡ told.file_named (catalog_in (sparse read.now)) dir name.now }
+    ensures forks { IfOk result (λ file. AreForksIn (sparse read.now) file) }
+{
+    catalog_answers();
+    let zeros = ZeroBlocks { count };
+    let nodes = RunNodes {
+        blocks: &read.over(&zeros),
+        runs: &trees.catalog,
+    };
+    file_named(&nodes, dir, name)
+}
+
+/// The bytes of a file's fork in an image of `len` bytes, of which only the blocks are read that its checks need and those of the fork; or
+/// what a call that reads the fork answers where there is none: -37, -120 or -43. Errors: a read failed, memory was refused, or the image is
+/// refused.
+pub fn needed_fork<S: BlockSource>(
+    alloc: Global,
+    source: &mut S,
+    len: u64,
+    dir: u32,
+    name: &[u8],
+    fork: Fork,
+) -> Result<Result<Vec<u8>, Reply>, NeededFault>
+    ensures bytes { IfOk result (λ found. IfOk found (λ bytes. OfKnown (S.image source.old) len (λ image.
+        named_fork (entries_of (volume_of image)) dir name.now fork ≡ Ok bytes.items))) }
+    ensures unread { IfOk result (λ found. IfErr found (λ reply. OfKnown (S.image source.old) len (λ image.
+        named_fork (entries_of (volume_of image)) dir name.now fork ≡ Err reply))) }
+    ensures refused { IfErr result (λ fault. IsRefusedFor (S.image source.old) len fault) }
+    ensures image { S.image source.new ≡ S.image source.old }
+{
+    catalog_answers();
+    gathered_is_enough();
+    no_blocks_fault();
+    let volume = open_needed(alloc, source, len)?;
+    let sound = &volume.sound;
+    let file = match find_file(&volume.read, volume.count, &sound.trees, dir, name) {
+        Ok(file) => file,
+        Err(reply) => return Ok(Err(reply)),
+    };
+    match read_file(alloc, source, &volume.read, volume.count, sound, &file, fork) {
+        Ok(bytes) => Ok(Ok(bytes)),
+        Err(fault) => Err(NeededFault::of_sparse(fault)),
+    }
+}

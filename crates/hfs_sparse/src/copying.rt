@@ -1,0 +1,49 @@
+//! The bytes of blocks, one after the other.
+ghost use Rattle.std.specs.Prelude.{◌≡◌, ◌+◌, ◌++◌, ◌≤◌, OnOk, IfOk, IfSome};
+ghost use Rattle.std.specs.List.{flat_map, range_with_len};
+ghost use Rattle.hfs_blocks.specs.Blocks.{block_at, run_of, AreRunsWithin};
+
+use crate::fetching::SparseFault;
+use crate::source::BlockSource;
+use hfs_blocks::Run;
+use std::alloc::Global;
+
+/// Appends the bytes of `count` blocks from number `first` on. At an error those of the first of them may stand there.
+fn append_range<S: BlockSource>(
+    source: &mut S,
+    first: u32,
+    count: u32,
+    bytes: &mut Vec<u8>,
+) -> Result<(), SparseFault>
+    requires { first + count ≤ 4294967296 }
+    ensures gains { OnOk result (IfSome (S.image source.old) (λ image. bytes.new.items ≡ bytes.old.items ++ flat_map (block_at image) (range_with_len first count))) }
+    ensures image { S.image source.new ≡ S.image source.old }
+{
+    for i in 0..count {
+        let mut block = [0; 512];
+        let Ok(()) = source.read_block(first + i, &mut block) else {
+            return Err(SparseFault::ReadFailed);
+        };
+        let Ok(()) = bytes.extend_from_slice(&block) else {
+            return Err(SparseFault::Memory);
+        };
+    }
+    Ok(())
+}
+
+/// The bytes of the blocks of these runs, in their order. Errors: a read failed, memory was refused.
+pub fn read_runs<S: BlockSource>(
+    alloc: Global,
+    source: &mut S,
+    runs: &[Run],
+) -> Result<Vec<u8>, SparseFault>
+    requires { AreRunsWithin runs.now 4294967296 }
+    ensures bytes { IfOk result (λ bytes. IfSome (S.image source.old) (λ image. bytes.items ≡ flat_map (block_at image) (flat_map run_of runs.now))) }
+    ensures image { S.image source.new ≡ S.image source.old }
+{
+    let mut bytes = Vec::new(alloc);
+    for run in runs {
+        append_range(source, run.first, run.count, &mut bytes)?;
+    }
+    Ok(bytes)
+}
