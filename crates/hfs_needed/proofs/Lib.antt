@@ -7,3 +7,5 @@ pub mod Found
 pub mod Reported
 pub mod Listed
 pub mod Refused
+pub mod ForkBytes
+pub mod Named

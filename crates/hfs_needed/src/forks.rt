@@ -63,6 +63,7 @@ fn read_kind<S: BlockSource>(
 }
 
 /// The bytes of one of both forks of a file.
+#[tactic(auto, using(crate::proofs::Named::data_sound, crate::proofs::Named::resource_sound))]
 fn read_file<S: BlockSource>(
     alloc: Global,
     source: &mut S,
@@ -79,11 +80,17 @@ fn read_file<S: BlockSource>(
     ensures bytes { IfOk result (λ bytes. IfSome (S.image source.old) (λ image. HasWhole count image → bytes.items ≡ fork_by read.now image file.now fork)) }
     ensures image { S.image source.new ≡ S.image source.old }
 {
-    let (kind, record) = match fork {
-        Fork::DataFork => (ForkKind::Data, &file.data),
-        Fork::ResFork => (ForkKind::Resource, &file.resource),
-    };
-    read_kind(alloc, source, read, count, sound, file.id, kind, record)
+    let id = file.id;
+    match fork {
+        Fork::DataFork => {
+            let kind = ForkKind::Data;
+            read_kind(alloc, source, read, count, sound, id, kind, &file.data)
+        }
+        Fork::ResFork => {
+            let kind = ForkKind::Resource;
+            read_kind(alloc, source, read, count, sound, id, kind, &file.resource)
+        }
+    }
 }
 
 /// The record of the folder's file of that name, or the reply that refuses it, where these blocks were read of a volume of `count` blocks.
