@@ -1,5 +1,5 @@
 -- A fork that is opened, and its pieces.
-use Rattle.std.proofs.Common.{inl, inr, ◌≡◌, ◌≢◌, ◌≤◌, ◌<◌, lit≤, subst, ℕ, ◌+◌, ◌-◌, ℤ, Bool, true, false, cond, List, [], length, take, drop, take_all, arith, refl, sym, ◌∙◌, ap, Option, Some, None, Result, Ok, Err, OnErr}
+use Rattle.std.proofs.Common.{inl, inr, ◌≡◌, ◌≤◌, lit≤, subst, ℕ, ◌+◌, ◌-◌, ℤ, Bool, true, false, cond, List, [], length, take, drop, take_all, arith, refl, sym, ◌∙◌, ap, Option, Some, None, Result, Ok, Err, OnErr}
 use Rattle.std.specs.Prelude.{nat_lt, not, pos, min}
 use Rattle.std.specs.Option.{option_map_or}
 use Rattle.std.specs.Io.KnownBytes.{Appends}

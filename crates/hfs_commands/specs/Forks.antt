@@ -5,9 +5,6 @@ use Rattle.hfs_fields.specs.Names.{is_item_name}
 use Rattle.hfs_model.specs.declared.codes.TheConstants.{BAD_NAME, NOT_FOUND, NOT_A_FOLDER}
 use Rattle.hfs_model.specs.declared.call.Fork.{Fork}
 use Rattle.hfs_model.specs.declared.call.Fork.TheVariants.{DataFork, ResFork}
-use Rattle.hfs_model.specs.declared.reply.Info.{Info}
-use Rattle.hfs_model.specs.declared.reply.Value.{Value}
-use Rattle.hfs_model.specs.declared.reply.Value.TheVariants.{Nothing, Id, One, Many, Bytes, Full, Place}
 use Rattle.hfs_model.specs.Volume.{Entry}
 use Rattle.hfs_model.specs.Children.{is_folder, child_named}
 use Rattle.hfs_model.specs.declared.item.Kind.{Kind}

@@ -1,11 +1,14 @@
 //! What is told of an image.
 ghost use Rattle.std.specs.Prelude.{◌≡◌, ◌++◌, IfOk, OnOk, string_bytes};
 ghost use Rattle.hfs_check.specs.Report.{report_of};
+ghost use Rattle.hfs_needed.specs.Known.{OfKnown};
 ghost use Rattle.hfs_commands.specs.Checks.{alternate_text, check_lines, check_status, refused_line, sound_lines};
 
 use crate::fault::Status;
 use crate::refusal::Refusal;
 use hfs_check::{Alternate, MountFault, Report, report};
+use hfs_needed::needed_report;
+use hfs_sparse::{BlockSource, SparseFault};
 use hfs_texts::{Show, push_line};
 use std::alloc::{AllocError, Global};
 
@@ -70,4 +73,21 @@ pub fn check_text(alloc: Global, image: &[u8]) -> Result<(u8, String), AllocErro
 {
     let report = report(alloc, image)?;
     report_text(alloc, &report)
+}
+
+/// Answers what [`check_text`] answers of an image of `len` bytes, of which only the blocks are read that its checks need. Errors: a read
+/// failed, memory was refused.
+pub fn needed_check_text<S: BlockSource>(
+    alloc: Global,
+    source: &mut S,
+    len: u64,
+) -> Result<(u8, String), SparseFault>
+    ensures status { IfOk result (λ told. OfKnown (S.image source.old) len (λ image. told.0 ≡ check_status (report_of image))) }
+    ensures lines { IfOk result (λ told. OfKnown (S.image source.old) len (λ image. string_bytes told.1 ≡ check_lines (report_of image))) }
+{
+    let report = needed_report(alloc, source, len)?;
+    match report_text(alloc, &report) {
+        Ok(told) => Ok(told),
+        Err(_) => Err(SparseFault::Memory),
+    }
 }

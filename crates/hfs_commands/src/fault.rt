@@ -1,11 +1,14 @@
 //! Why a command was not done, and how the program ends.
 ghost use Rattle.std.specs.Prelude.{◌≡◌, ◌≢◌, MatchResult, Some};
+ghost use Rattle.hfs_check.specs.declared.mount_fault.MountFault.{MountFault};
 ghost use Rattle.hfs_commands.specs.Faults.{fault_of_run, fault_text, status_number, status_of, status_of_run};
 
 use crate::refusal::Refusal;
 use hfs_check::MountFault;
 use hfs_format::FormatFault;
+use hfs_needed::NeededFault;
 use hfs_runs::ScriptFault;
+use hfs_sparse::SparseFault;
 use hfs_texts::{InfoFault, LoadFault};
 use std::{fmt, io};
 
@@ -142,6 +145,30 @@ impl Fault<'_> {
             LoadFault::ReadFailed => Fault::CannotRead(file),
             LoadFault::TooLarge => Fault::Refused(MountFault::TooLarge),
             LoadFault::Memory => Fault::NoMemory,
+        }
+    }
+
+    /// What a fault of reading blocks of an image means for its file.
+    pub fn of_sparse(fault: SparseFault, file: &str) -> Fault<'_>
+        ensures read { fault ≡ SparseFault.ReadFailed → result ≡ Fault.CannotRead file.entry }
+        ensures memory { fault ≡ SparseFault.Memory → result ≡ Fault.NoMemory }
+    {
+        match fault {
+            SparseFault::ReadFailed => Fault::CannotRead(file),
+            SparseFault::Memory => Fault::NoMemory,
+        }
+    }
+
+    /// What it means for an image's file that its volume was not opened by the blocks that are needed.
+    pub fn of_needed(fault: NeededFault, file: &str) -> Fault<'_>
+        ensures read { fault ≡ NeededFault.ReadFailed → result ≡ Fault.CannotRead file.entry }
+        ensures memory { fault ≡ NeededFault.Memory → result ≡ Fault.NoMemory }
+        ensures refused { (why : MountFault) → fault ≡ NeededFault.Refused why → result ≡ Fault.Refused why }
+    {
+        match fault {
+            NeededFault::ReadFailed => Fault::CannotRead(file),
+            NeededFault::Memory => Fault::NoMemory,
+            NeededFault::Refused(why) => Fault::Refused(why),
         }
     }
 }

@@ -4,10 +4,44 @@ ghost use Rattle.hfs_commands.specs.Faults.{IsTooMuch};
 
 use crate::fault::Fault;
 use hfs_check::MountFault;
+use hfs_sparse::SeekSource;
 use hfs_texts::{IMAGE_LIMIT, LoadFault, load, load_within};
+use std::alloc::Global;
 use std::fs;
-use std::fs::File;
+use std::fs::{File, OpenFile};
+use std::io::{BufReader, Read};
 use std::rt::Files;
+
+/// How many bytes are read at once of an image that is read where it is needed.
+const READ_AHEAD: usize = 16_384;
+
+/// An image that was opened.
+#[derive(Drop)]
+pub enum ImageFile<F> {
+    /// A file of so many bytes, to be read where it is needed.
+    Seekable {
+        source: SeekSource<BufReader<F>>,
+        len: u64,
+    },
+    /// All bytes of anything else, such as a pipe.
+    Whole(Vec<u8>),
+}
+
+/// All bytes of what was opened by this path, at most 2,147,483,648. Faults: `CannotRead` where a read fails, `Refused(TooLarge)`
+/// where there are more, `NoMemory`.
+fn load_opened<'a, F: Read>(
+    alloc: Global,
+    file: &mut F,
+    path: &'a str,
+) -> Result<Vec<u8>, Fault<'a>>
+    ensures limit { IfOk result (λ bytes. length bytes.items ≤ IMAGE_LIMIT) }
+    ensures faults { IfErr result (λ why. (why ≡ Fault.CannotRead path.entry) ⊎ IsTooMuch why) }
+{
+    match load(alloc, file) {
+        Ok(bytes) => Ok(bytes),
+        Err(fault) => Err(Fault::of_load(fault, path)),
+    }
+}
 
 /// All bytes of a file, at most 2,147,483,648. Faults: `CannotRead` where it can't be opened or a read fails,
 /// `Refused(TooLarge)` where it has more, `NoMemory`.
@@ -18,9 +52,41 @@ pub fn load_file<'a, R: Files + AllocGlobal>(rt: &R, path: &'a str) -> Result<Ve
     let Ok(mut file) = File::open(rt, path) else {
         return Err(Fault::CannotRead(path));
     };
-    match load(rt.alloc(), &mut file) {
-        Ok(bytes) => Ok(bytes),
-        Err(fault) => Err(Fault::of_load(fault, path)),
+    load_opened(rt.alloc(), &mut file, path)
+}
+
+/// How many bytes a regular file has, where it has any. The system's own files, which have bytes but tell of none, are none of these.
+fn regular_len<F: OpenFile>(file: &F) -> Option<u64> {
+    let Ok(metadata) = file.metadata() else {
+        return None;
+    };
+    if !metadata.is_file() || metadata.len() == 0 {
+        return None;
+    }
+    Some(metadata.len())
+}
+
+/// Opens an image by its path: a regular file is left to be read where it is needed, and of anything else all bytes are read. Faults:
+/// as [`load_file`] has them, but that of a file's length, which its checks tell.
+pub fn open_image<'a, R: Files + AllocGlobal>(
+    rt: &R,
+    path: &'a str,
+) -> Result<ImageFile<R::File>, Fault<'a>>
+    ensures { IfErr result (λ why. (why ≡ Fault.CannotRead path.entry) ⊎ IsTooMuch why) }
+{
+    let Ok(mut file) = File::open(rt, path) else {
+        return Err(Fault::CannotRead(path));
+    };
+    let Some(len) = regular_len(&file) else {
+        let bytes = load_opened(rt.alloc(), &mut file, path)?;
+        return Ok(ImageFile::Whole(bytes));
+    };
+    match BufReader::with_capacity(rt.alloc(), READ_AHEAD, file) {
+        Ok(reader) => Ok(ImageFile::Seekable {
+            source: SeekSource::new(reader),
+            len,
+        }),
+        Err(_) => Err(Fault::NoMemory),
     }
 }
 

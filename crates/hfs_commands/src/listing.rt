@@ -1,13 +1,17 @@
 //! The lines of a folder's children.
-ghost use Rattle.std.specs.Prelude.{◌≡◌, ◌++◌, IfOk, OnOk, string_bytes};
+ghost use Rattle.std.specs.Prelude.{◌≡◌, ◌++◌, IfErr, IfOk, OnOk, string_bytes};
 ghost use Rattle.hfs_model.specs.Children.{entries_of};
 ghost use Rattle.hfs_model.specs.Reading.{list};
 ghost use Rattle.hfs_check.specs.VolumeOf.{volume_of};
+ghost use Rattle.hfs_needed.specs.Known.{OfKnown};
+ghost use Rattle.hfs_needed.specs.Opened.{IsRefusedFor};
 ghost use Rattle.hfs_commands.specs.Listing.{child_line, child_lines, code_line, list_lines, list_status, tabbed, tabbed_sizes, folder_lines};
 ghost use Rattle.hfs_texts.specs.Texts.{Gains};
 
 use crate::fault::Status;
 use hfs_model::{Info, ItemKind, Reply, Value};
+use hfs_needed::{NeededFault, needed_list};
+use hfs_sparse::BlockSource;
 use hfs_texts::{Show, push_line};
 use hfs_volume::Volume;
 use std::alloc::{AllocError, Global};
@@ -93,4 +97,23 @@ pub fn list_text(alloc: Global, volume: &Volume, dir: u32) -> Result<(u8, String
 {
     let reply = volume.list_in_brief(alloc, dir)?;
     children_text(alloc, &reply)
+}
+
+/// Answers what [`list_text`] answers of the volume of an image of `len` bytes, of which only the blocks are read that its checks need.
+/// Errors: a read failed, memory was refused, or the image is refused.
+pub fn needed_list_text<S: BlockSource>(
+    alloc: Global,
+    source: &mut S,
+    len: u64,
+    dir: u32,
+) -> Result<(u8, String), NeededFault>
+    ensures status { IfOk result (λ told. OfKnown (S.image source.old) len (λ image. told.0 ≡ list_status (list (entries_of (volume_of image)) dir))) }
+    ensures lines { IfOk result (λ told. OfKnown (S.image source.old) len (λ image. string_bytes told.1 ≡ folder_lines (entries_of (volume_of image)) dir)) }
+    ensures refused { IfErr result (λ fault. IsRefusedFor (S.image source.old) len fault) }
+{
+    let reply = needed_list(alloc, source, len, dir)?;
+    match children_text(alloc, &reply) {
+        Ok(told) => Ok(told),
+        Err(_) => Err(NeededFault::Memory),
+    }
 }

@@ -1,20 +1,19 @@
 -- What was found of a volume stays found while more of it is read.
-use Rattle.std.proofs.Common.{◌≡◌, ℕ, ◌+◌, ◌-◌, ◌≤◌, ◌<◌, Bool, true, false, List, [], ◌∷◌, ◌++◌, Option, Some, None, IsSome, refl, sym, ap, subst, ◌∙◌, arith, true≢false}
+use Rattle.std.proofs.Common.{◌≡◌, ℕ, ◌+◌, ◌-◌, ◌≤◌, ◌<◌, Bool, true, false, List, [], ◌∷◌, ◌++◌, Option, Some, None, IsSome, sym, ap, subst, ◌∙◌, arith, true≢false}
 use Rattle.std.specs.Prelude.{IfSome, is_some}
 use Rattle.std.specs.List.{flat_map}
 use Rattle.std.specs.Option.{is_none}
 use Rattle.hfs_scans.specs.Elements.{each-append}
 use Rattle.hfs_blocks.specs.declared.run.Run.{Run}
-use Rattle.hfs_blocks.specs.Blocks.{run_of, nodes_in, AreRunsWithin}
+use Rattle.hfs_blocks.specs.Blocks.{run_of, AreRunsWithin}
 use Rattle.hfs_blocks.specs.Layers.{Numbered, changes, AreWithin, AreWithin-nothing}
 use Rattle.hfs_fields.specs.declared.mdb.Mdb.{Mdb}
-use Rattle.hfs_space.specs.TreeFiles.{nodes_in-tree_blocks}
 use Rattle.hfs_check.specs.declared.mount_fault.MountFault.{MountFault}
 use Rattle.hfs_check.specs.Agree.{bitmap_blocks}
 use Rattle.hfs_check.specs.Faults.{mdb_fault}
-use Rattle.hfs_check.specs.Parts.{Blocks, mdb_in, extents_blocks, extents_nodes}
+use Rattle.hfs_check.specs.Parts.{mdb_in, extents_blocks, extents_nodes}
 use Rattle.hfs_sparse.specs.Sparse.{sparse, HasEach, HasGrown, IsOf, StaysOf, grown-itself, grown-on, has-grown, each-grown, each-same, stays-on}
-use Rattle.hfs_needed.specs.Needed.{AgreeOn, is_mdb_right, has_extents_file, needed_of_catalog, needed_of_trees, needed_blocks, where_right}
+use Rattle.hfs_needed.specs.Needed.{is_mdb_right, has_extents_file, needed_of_catalog, needed_of_trees, needed_blocks, where_right}
 use Rattle.hfs_needed.specs.Gathered.{LieAt, HasRead}
 use Rattle.hfs_needed.proofs.SameParts.{mdb-same, extents_nodes-same, extents_blocks-same}
 use Rattle.hfs_needed.proofs.SameFaults.{has_extents-same, needed_of_catalog-same}

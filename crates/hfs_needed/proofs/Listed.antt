@@ -1,5 +1,5 @@
 -- What is told of a folder by what was gathered is what is told of it by the image.
-use Rattle.std.proofs.Common.{◌≡◌, ℕ, ◌/◌, List, length, Option, Some, None, refl, sym, ap, subst, ◌∙◌}
+use Rattle.std.proofs.Common.{◌≡◌, ℕ, ◌/◌, List, Option, Some, None, sym, ap, subst, ◌∙◌}
 use Rattle.hfs_blocks.specs.Blocks.{block_at, block_count, length-block_at}
 use Rattle.hfs_blocks.specs.Layers.{Numbered}
 use Rattle.hfs_model.specs.Children.{entries_of}
@@ -9,7 +9,7 @@ use Rattle.hfs_catalog.specs.Records.{Catalog}
 use Rattle.hfs_check.specs.Laws.{NoBlocksFault}
 use Rattle.hfs_check.specs.Parts.{catalog_in}
 use Rattle.hfs_check.specs.Sound.{AreBlocksSound}
-use Rattle.hfs_check.specs.VolumeOf.{contents_in, volume_in, volume_of}
+use Rattle.hfs_check.specs.VolumeOf.{contents_in, volume_of}
 use Rattle.hfs_queries.specs.declared.reply.Detail.TheVariants as detail
 use Rattle.hfs_queries.specs.Brief.{listed_in, without_ids}
 use Rattle.hfs_queries.specs.Details.{listed_in-brief}

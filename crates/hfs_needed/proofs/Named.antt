@@ -1,5 +1,5 @@
 -- The file of a name, by what was gathered and by the image.
-use Rattle.std.proofs.Common.{◌≡◌, ℕ, ◌/◌, Bool, true, false, cond, List, length, Option, Some, None, Result, Ok, Err, refl, sym, ap, subst, ◌∙◌}
+use Rattle.std.proofs.Common.{◌≡◌, ℕ, ◌/◌, Bool, true, false, cond, List, Option, Some, None, Result, Ok, Err, refl, sym, ap, subst, ◌∙◌}
 use Rattle.std.specs.Prelude.{IfOk, IfSome}
 use Rattle.hfs_fields.specs.Records.{is_dir, dir_record_of, file_record_of}
 use Rattle.hfs_fields.specs.declared.file_record.FileRecord.{FileRecord}
@@ -27,7 +27,7 @@ use Rattle.hfs_queries.specs.NamedFiles.{answer_of, answer_of-file_named, forks_
 use Rattle.hfs_queries.specs.Queries.{AreEntries, RecordsAreEntries}
 use Rattle.hfs_queries.specs.Told.{file_named, only_file, pick}
 use Rattle.hfs_sparse.specs.Sparse.{sparse, IsOf}
-use Rattle.hfs_needed.specs.Forks.{fork_of_kind, named_fork, HasWhole, bytes_by, fork_by, AreForksIn}
+use Rattle.hfs_needed.specs.Forks.{fork_of_kind, named_fork, HasWhole, fork_by, AreForksIn}
 use Rattle.hfs_needed.specs.Gathered.{HasNeeded, IsOfKnown, GatheredIsEnough}
 use Rattle.hfs_needed.specs.Known.{OfKnown}
 use Rattle.hfs_needed.specs.Laws.{HoldSame}

@@ -1,6 +1,6 @@
 -- What was gathered is refused for what the image is refused for.
-use Rattle.std.proofs.Common.{◌≡◌, ℕ, ◌/◌, List, length, Option, Some, None, refl, sym, ap, ◌∙◌, ⊎_elim, Result, Ok, Err}
-use Rattle.std.specs.Prelude.{IfSome, IfErr}
+use Rattle.std.proofs.Common.{◌≡◌, ℕ, ◌/◌, List, Option, Some, None, ap, ◌∙◌, ⊎_elim, Result, Ok, Err}
+use Rattle.std.specs.Prelude.{IfErr}
 use Rattle.hfs_blocks.specs.Blocks.{block_at, block_count}
 use Rattle.hfs_blocks.specs.Layers.{Numbered}
 use Rattle.hfs_check.specs.declared.mount_fault.MountFault.{MountFault}
@@ -11,7 +11,6 @@ use Rattle.hfs_sparse.specs.Sparse.{sparse}
 use Rattle.hfs_needed.specs.declared.opening.NeededFault.{NeededFault}
 use Rattle.hfs_needed.specs.declared.opening.NeededFault.TheVariants.{Refused}
 use Rattle.hfs_needed.specs.Gathered.{HasNeeded, IsOfKnown, GatheredIsEnough}
-use Rattle.hfs_needed.specs.Known.{OfKnown}
 use Rattle.hfs_needed.specs.Opened.{AreRefusedFor, IsRefusedFor}
 
 same-fault : (f why : MountFault) → ◌≡◌ {A = NeededFault} (Refused f) (Refused why) → f ≡ why

@@ -1,5 +1,5 @@
 -- Where the needed blocks are the same, so are the report and the volume but for the bytes of forks.
-use Rattle.std.proofs.Common.{◌≡◌, ℕ, ◌/◌, List, ◌∷◌, take, length, Option, Some, None, refl, sym, ap, subst, ◌∙◌}
+use Rattle.std.proofs.Common.{◌≡◌, ℕ, ◌/◌, List, take, length, Option, Some, None, refl, ap, ◌∙◌}
 use Rattle.std.specs.Prelude.{◌-◌}
 use Rattle.hfs_fields.specs.declared.mdb.Mdb.{Mdb}
 use Rattle.hfs_fields.specs.declared.file_record.ForkRecord.{ForkRecord}
@@ -19,8 +19,8 @@ use Rattle.hfs_check.specs.declared.mount_fault.MountFault.{MountFault}
 use Rattle.hfs_check.specs.Answers.{extents_check_fault, catalog_check_fault}
 use Rattle.hfs_check.specs.Faults.{◌or_fault◌, length_fault, mdb_fault, trees_fault, records_fault, numbers_fault, blocks_fault, fault_of}
 use Rattle.hfs_check.specs.Laws.{NoBlocksFault, NoImageFault}
-use Rattle.hfs_check.specs.Parts.{Blocks, mdb_in, overflow_in, catalog_nodes, catalog_in, owned_in}
-use Rattle.hfs_check.specs.Report.{compare_mdbs, alternate_in, sound_report, refused_report, report_with, report_of}
+use Rattle.hfs_check.specs.Parts.{Blocks, mdb_in, overflow_in, owned_in}
+use Rattle.hfs_check.specs.Report.{compare_mdbs, alternate_in, sound_report, report_with, report_of}
 use Rattle.hfs_check.specs.Sound.{AreBlocksSound, IsSound}
 use Rattle.hfs_check.specs.VolumeOf.{bytes_in, contents_in, volume_in, volume_of}
 use Rattle.hfs_needed.specs.Needed.{AgreeOn, AgreeOnNeeded}

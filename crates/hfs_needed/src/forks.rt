@@ -142,7 +142,15 @@ pub fn needed_fork<S: BlockSource>(
         Ok(file) => file,
         Err(reply) => return Ok(Err(reply)),
     };
-    match read_file(alloc, source, &volume.read, volume.count, sound, &file, fork) {
+    match read_file(
+        alloc,
+        source,
+        &volume.read,
+        volume.count,
+        sound,
+        &file,
+        fork,
+    ) {
         Ok(bytes) => Ok(Ok(bytes)),
         Err(fault) => Err(NeededFault::of_sparse(fault)),
     }

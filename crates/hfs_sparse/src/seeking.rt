@@ -8,15 +8,29 @@ use std::io::{Read, Seek, SeekFrom};
 /// A reader that can go to any place, as a file can. Its bytes are not known before they are read.
 #[derive(Drop)]
 pub struct SeekSource<R> {
-    /// The reader.
-    pub reader: R,
+    reader: R,
+    /// The block that the reader stands at, where that is known: it needn't go there.
+    next: Option<u32>,
+}
+
+impl<R: Read + Seek> SeekSource<R> {
+    /// The blocks of a reader, wherever it stands.
+    pub fn new(reader: R) -> SeekSource<R> {
+        SeekSource { reader, next: None }
+    }
 }
 
 impl<R: Read + Seek> BlockSource for SeekSource<R> {
     ghost image = { λ _. None };
 
     fn read_block(&mut self, n: u32, into: &mut [u8; 512]) -> io::Result<()> {
-        self.reader.seek(SeekFrom::Start(u64::from(n) * 512))?;
-        self.reader.read_exact(into)
+        let is_there = self.next == Some(n);
+        self.next = None;
+        if !is_there {
+            self.reader.seek(SeekFrom::Start(u64::from(n) * 512))?;
+        }
+        self.reader.read_exact(into)?;
+        self.next = n.checked_add(1);
+        Ok(())
     }
 }

@@ -4,11 +4,14 @@ use crate::progress::Progress;
 use crate::words::{ForkWords, NewVolume, RunWords, Words};
 use hfs_check::MountFault;
 use hfs_commands::{
-    Fault, Status, check_text, code_text, list_text, load_file, load_script, put, refused_text,
+    BlockSource, Fault, ImageFile, Status, check_text, code_text, list_text, load_file,
+    load_script, needed_check_text, needed_fork, needed_list_text, open_image, put, refused_text,
     repair_answer, run_info, run_script_at, save_file, write_file, write_fork,
 };
 use hfs_format::{FormatPlan, format};
+use hfs_model::Reply;
 use hfs_volume::{Volume, mount};
+use std::alloc::AllocError;
 use std::fs::File;
 use std::io::{IsTerminal, Read, Write};
 use std::sync::Wait;
@@ -60,13 +63,11 @@ fn print_lines(rt: &HostRuntime, lines: &str) -> Result<(), Fault<'static>> {
     }
 }
 
-/// Prints what is told of an image by its path. Each fault of the image is told behind `refused`.
-fn print_check<'a>(rt: &HostRuntime, path: &'a str) -> Result<u8, Fault<'a>> {
-    let told = match load_file(rt, path) {
-        Ok(image) => check_text(rt.alloc(), image.as_slice()),
-        Err(Fault::Refused(why)) => refused_text(rt.alloc(), why),
-        Err(fault) => return Err(fault),
-    };
+/// Prints lines with an exit status, where memory sufficed for them, and answers the status.
+fn print_told(
+    rt: &HostRuntime,
+    told: Result<(u8, String), AllocError>,
+) -> Result<u8, Fault<'static>> {
     let Ok((status, lines)) = told else {
         return Err(Fault::NoMemory);
     };
@@ -74,9 +75,23 @@ fn print_check<'a>(rt: &HostRuntime, path: &'a str) -> Result<u8, Fault<'a>> {
     Ok(status)
 }
 
-/// The volume of an image by its path.
-fn mounted<'a>(rt: &HostRuntime, path: &'a str) -> Result<Volume, Fault<'a>> {
-    let image = load_file(rt, path)?;
+/// Prints what is told of an image by its path. Each fault of the image is told behind `refused`.
+fn print_check<'a>(rt: &HostRuntime, path: &'a str) -> Result<u8, Fault<'a>> {
+    match open_image(rt, path) {
+        Ok(ImageFile::Seekable { mut source, len }) => {
+            match needed_check_text(rt.alloc(), &mut source, len) {
+                Ok(told) => print_told(rt, Ok(told)),
+                Err(fault) => Err(Fault::of_sparse(fault, path)),
+            }
+        }
+        Ok(ImageFile::Whole(image)) => print_told(rt, check_text(rt.alloc(), image.as_slice())),
+        Err(Fault::Refused(why)) => print_told(rt, refused_text(rt.alloc(), why)),
+        Err(fault) => Err(fault),
+    }
+}
+
+/// The volume of an image whose bytes are all there.
+fn mounted(rt: &HostRuntime, image: Vec<u8>) -> Result<Volume, Fault<'static>> {
     match mount(rt.alloc(), image) {
         Ok(volume) => Ok(volume),
         Err(refused) => Err(Fault::of_mount(refused.fault)),
@@ -85,30 +100,57 @@ fn mounted<'a>(rt: &HostRuntime, path: &'a str) -> Result<Volume, Fault<'a>> {
 
 /// Prints the children of a folder by its ID.
 fn print_list<'a>(rt: &HostRuntime, path: &'a str, dir: u32) -> Result<u8, Fault<'a>> {
-    let volume = mounted(rt, path)?;
-    let Ok((status, lines)) = list_text(rt.alloc(), &volume, dir) else {
-        return Err(Fault::NoMemory);
-    };
-    print_lines(rt, lines.as_str())?;
-    Ok(status)
+    match open_image(rt, path)? {
+        ImageFile::Seekable { mut source, len } => {
+            match needed_list_text(rt.alloc(), &mut source, len, dir) {
+                Ok(told) => print_told(rt, Ok(told)),
+                Err(fault) => Err(Fault::of_needed(fault, path)),
+            }
+        }
+        ImageFile::Whole(image) => {
+            let volume = mounted(rt, image)?;
+            print_told(rt, list_text(rt.alloc(), &volume, dir))
+        }
+    }
 }
 
 /// Prints the bytes of a file's fork, or the code of the call that was refused.
 fn print_fork<'a>(rt: &HostRuntime, file: &ForkWords<'a>) -> Result<u8, Fault<'a>> {
-    let volume = mounted(rt, file.image)?;
-    let name = file.name.as_bytes();
-    let reply = write_fork(
-        rt.alloc(),
-        &mut rt.stdout(),
-        &volume,
-        file.dir,
-        name,
-        file.fork,
-    )?;
-    if reply.code == 0 {
-        return Ok(Status::Done.number());
+    match open_image(rt, file.image)? {
+        ImageFile::Seekable { mut source, len } => print_needed_fork(rt, file, &mut source, len),
+        ImageFile::Whole(image) => {
+            let volume = mounted(rt, image)?;
+            let (name, fork) = (file.name.as_bytes(), file.fork);
+            let reply = write_fork(rt.alloc(), &mut rt.stdout(), &volume, file.dir, name, fork)?;
+            if reply.code == 0 {
+                return Ok(Status::Done.number());
+            }
+            print_code(rt, &reply)
+        }
     }
-    let Ok(line) = code_text(rt.alloc(), &reply) else {
+}
+
+/// Prints the bytes of a file's fork, of which the blocks are read where they are needed.
+fn print_needed_fork<'a, S: BlockSource>(
+    rt: &HostRuntime,
+    file: &ForkWords<'a>,
+    source: &mut S,
+    len: u64,
+) -> Result<u8, Fault<'a>> {
+    let (name, fork) = (file.name.as_bytes(), file.fork);
+    match needed_fork(rt.alloc(), source, len, file.dir, name, fork) {
+        Ok(Ok(bytes)) => match put(&mut rt.stdout(), &bytes) {
+            Ok(()) => Ok(Status::Done.number()),
+            Err(_) => Err(Fault::OutputFailed),
+        },
+        Ok(Err(reply)) => print_code(rt, &reply),
+        Err(fault) => Err(Fault::of_needed(fault, file.image)),
+    }
+}
+
+/// Prints the code of a call that was refused.
+fn print_code(rt: &HostRuntime, reply: &Reply) -> Result<u8, Fault<'static>> {
+    let Ok(line) = code_text(rt.alloc(), reply) else {
         return Err(Fault::NoMemory);
     };
     print_lines(rt, line.as_str())?;
@@ -188,9 +230,5 @@ fn print_answers<'a, T: Threads + Wait + Sync>(
 
 /// Prints why an image is refused.
 fn print_refused<'a>(rt: &HostRuntime, why: MountFault) -> Result<u8, Fault<'a>> {
-    let Ok((status, lines)) = refused_text(rt.alloc(), why) else {
-        return Err(Fault::NoMemory);
-    };
-    print_lines(rt, lines.as_str())?;
-    Ok(status)
+    print_told(rt, refused_text(rt.alloc(), why))
 }

@@ -1,4 +1,4 @@
-use Rattle.std.proofs.Common.{◌≡◌, Option, Some, inl, inr}
+use Rattle.std.proofs.Common.{◌≡◌, Some, inl, inr}
 use Rattle.hfs_check.specs.Faults.{fault_of}
 use Rattle.hfs_check.specs.Repair.{repair}
 use Rattle.hfs_commands.proofs.repairing.repair_answer.Goals as goal

@@ -1,5 +1,5 @@
 -- Where the tree or the file is wrong nothing of the catalog is needed.
-use Rattle.std.proofs.Common.{◌≡◌, true, false, [], List, sym, subst, rules}
+use Rattle.std.proofs.Common.{◌≡◌, true, false, List, sym, subst, rules}
 use Rattle.hfs_blocks.specs.declared.run.Run.{Run}
 use Rattle.hfs_check.specs.Parts.{catalog_blocks}
 use Rattle.hfs_needed.specs.Gathered.{LieAt}

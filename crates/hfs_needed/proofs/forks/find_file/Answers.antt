@@ -1,5 +1,5 @@
 -- The nodes of the catalog lie among what was read.
-use Rattle.std.proofs.Common.{◌≡◌, ◌∙◌, sym, subst}
+use Rattle.std.proofs.Common.{◌∙◌, sym, subst}
 use Rattle.hfs_blocks.specs.Blocks.{nodes_in}
 use Rattle.hfs_queries.specs.Replies.{by_nodes}
 use Rattle.hfs_queries.specs.Told as told

@@ -1,5 +1,4 @@
 -- What was gathered finds the file that the image has.
-use Rattle.std.proofs.Common.{◌∙◌}
 use Rattle.hfs_needed.proofs.Named.{unread-known, bytes-known}
 use Rattle.hfs_needed.proofs.forks.needed_fork.Goals as goal
 

@@ -1,5 +1,4 @@
 -- What was gathered is told of as the image is.
-use Rattle.std.proofs.Common.{◌∙◌}
 use Rattle.hfs_needed.proofs.Listed.{lists-known}
 use Rattle.hfs_needed.proofs.listing.needed_list.Goals as goal
 
