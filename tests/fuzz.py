@@ -275,13 +275,14 @@ class Words:
         self.image, self.other = os.path.join(work, 'fuzzed.image'), os.path.join(work, 'other.image')
         self.statuses = {}
 
-    def run(self, word, *words, out=subprocess.PIPE, stdin=subprocess.DEVNULL):
-        """Runs a word, and gives its status and what it prints."""
+    def run(self, word, *words, out=subprocess.PIPE, stdin=subprocess.DEVNULL, given=None):
+        """Runs a word, with these bytes through a pipe where they are given, and gives its status and what it prints."""
         limit = 10 + 2 * len(self.content) / 1e6
         self.run_count += 1
         self.words = [word, *words]
-        process = subprocess.Popen([self.tool, word, *words], stdin=stdin, stdout=out, stderr=subprocess.DEVNULL, close_fds=False)
-        printed = self.output(process, limit)
+        process = subprocess.Popen([self.tool, word, *words], stdin=stdin if given is None else subprocess.PIPE, stdout=out,
+                                   stderr=subprocess.DEVNULL, close_fds=False)
+        printed = self.output(process, limit, given)
         if process.returncode < 0:
             raise Stop(f'ended by signal {-process.returncode}')
         if process.returncode > 5:
@@ -289,11 +290,18 @@ class Words:
         self.statuses[word, process.returncode] = self.statuses.get((word, process.returncode), 0) + 1
         return process.returncode, printed
 
-    def output(self, process, limit):
+    def both(self, word, *words):
+        """Runs a word on the image by its path, where it is read as it is needed, and out of a pipe, where it is loaded whole."""
+        told = self.run(word, *words)
+        piped = self.run(word, *('/dev/stdin' if it == self.image else it for it in words), given=self.content)
+        self.expect(piped == told, 'tells another thing of an image out of a pipe')
+        return told
+
+    def output(self, process, limit, given):
         """What a word prints until it ends. It may take so many seconds of processor time, and twenty times as many where others work too."""
         for _ in range(20):
             try:
-                return process.communicate(timeout=limit)[0]
+                return process.communicate(given, timeout=limit)[0]
             except subprocess.TimeoutExpired:
                 if processor_time(process.pid) > limit:
                     break
@@ -330,7 +338,7 @@ class Words:
 
     def check(self):
         """The fault of the image, or None."""
-        status, printed = self.run('check', self.image)
+        status, printed = self.both('check', self.image)
         self.same_image()
         if status == 0:
             self.expect(printed.startswith(b'sound\nfiles '), 'did not say that the volume is sound')
@@ -340,7 +348,7 @@ class Words:
 
     def ls(self, fault, number):
         """The lines of a folder's items."""
-        status, printed = self.run('ls', self.image, str(number))
+        status, printed = self.both('ls', self.image, str(number))
         self.same_image()
         if fault is None:
             self.expect(status == 0, 'did not list a folder of a sound volume')
@@ -349,7 +357,7 @@ class Words:
         return []
 
     def cat(self, fault, number, name, is_resource, length):
-        status, printed = self.run('cat', *(['--resource'] if is_resource else []), '--', self.image, str(number), name)
+        status, printed = self.both('cat', *(['--resource'] if is_resource else []), '--', self.image, str(number), name)
         self.same_image()
         if fault is None:
             self.expect(status == 0 and len(printed) == length, 'did not write the whole fork')

@@ -2,16 +2,16 @@
 ghost use Rattle.std.specs.Prelude.{◌≤◌};
 
 use crate::sources::FailingSource;
-use hfs_check::{MountFault, check_blocks, check_image};
+use hfs_check::{MountFault, check_blocks, check_image, report};
 use hfs_fixtures::{SmallVolume, lay, small_image};
-use hfs_needed::gather_needed;
+use hfs_needed::{gather_needed, needed_report};
 use hfs_sparse::{ByteSource, SeekSource, SparseFault, ZeroBlocks};
 use std::alloc::Global;
 use std::io::Cursor;
 use std::process::Abort;
 
 /// The image of a small volume.
-fn image_of(rt: &(impl Abort + AllocGlobal), volume: SmallVolume) -> Vec<u8> {
+pub fn image_of(rt: &(impl Abort + AllocGlobal), volume: SmallVolume) -> Vec<u8> {
     let Ok(image) = small_image(rt.alloc(), volume) else {
         panic!(rt; "the volume is not laid");
     };
@@ -52,6 +52,19 @@ fn needed_fault(rt: &(impl Abort + AllocGlobal), image: &[u8]) -> Option<MountFa
     match check_blocks(rt.alloc(), &read.over(&zeros)) {
         Ok(_) => None,
         Err(fault) => Some(fault),
+    }
+}
+
+/// Whether the needed blocks are reported as the whole image is.
+fn is_reported_alike(rt: &(impl Abort + AllocGlobal), image: &[u8]) -> bool {
+    let mut source = ByteSource { bytes: image };
+    let len = image.len() as u64;
+    match (
+        needed_report(rt.alloc(), &mut source, len),
+        report(rt.alloc(), image),
+    ) {
+        (Ok(needed), Ok(whole)) => needed == whole,
+        _ => false,
     }
 }
 
@@ -100,7 +113,7 @@ fn finds_the_same_in_changed_images(rt: HostRuntime) {
         let byte = put(&rt, &mut image, at, 0);
         put(&rt, &mut image, at, 255 - byte);
         let same = needed_fault(&rt, &image) == fault_of(rt.alloc(), &image);
-        assert!(rt; same);
+        assert!(rt; same && is_reported_alike(&rt, &image));
         put(&rt, &mut image, at, byte);
     }
 }
@@ -112,7 +125,7 @@ fn finds_the_same_in_cut_images(rt: HostRuntime) {
     for cut in 0..243 {
         image.truncate(32_767 - 128 * cut);
         let same = needed_fault(&rt, &image) == fault_of(rt.alloc(), &image);
-        assert!(rt; same);
+        assert!(rt; same && is_reported_alike(&rt, &image));
     }
 }
 
@@ -141,9 +154,7 @@ fn fails_where_a_read_fails(rt: HostRuntime) {
 #[test]
 fn reads_by_seeking(rt: HostRuntime) {
     let image = image_of(&rt, SmallVolume::OneFile);
-    let mut source = SeekSource {
-        reader: Cursor::new(image.as_slice()),
-    };
+    let mut source = SeekSource::new(Cursor::new(image.as_slice()));
     let Ok(read) = gather_needed(rt.alloc(), &mut source, 64) else {
         panic!(rt; "a block is not read");
     };

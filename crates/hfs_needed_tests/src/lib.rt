@@ -5,3 +5,5 @@
 mod gathered;
 #[cfg(test)]
 mod sources;
+#[cfg(test)]
+mod told;
