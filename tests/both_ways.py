@@ -1,0 +1,108 @@
+#!/usr/bin/env python3
+"""Wants of `check`, `ls` and `cat` that they tell the same of an image by its path, of which they read what they need, and out of a pipe, which they
+load whole: of real volumes and of volumes with a cut catalog, as they are, cut, made longer, and with numbers that lead beyond their ends.
+
+python3 both_ways.py TOOL VOLUMES        VOLUMES has real volumes, as *.img
+"""
+import os
+import subprocess
+import sys
+import tempfile
+
+HERE = os.path.dirname(os.path.abspath(__file__))
+MDB = 1024
+# The kinds of volumes that tests/slow_volumes.py lays, and how many items each gets.
+LAID = [('plain', 60), ('cut_catalog', 100), ('cut_catalog_shuffled', 300), ('cut_catalog_empty', 100), ('cut_files', 100), ('cut_file_empty', 60)]
+# Numbers of the master directory block that say where things lie or how many there are: the place and the bytes of each.
+PLACES = [('bitmap', 14, 2), ('blocks', 18, 2), ('block size', 20, 4), ('area', 28, 2), ('extents size', 130, 4), ('catalog size', 146, 4)]
+EXTENTS = [(f'{tree} extent {k} {part}', at + 4 * k + shift, 2) for tree, at in (('extents', 134), ('catalog', 150)) for k in range(3)
+           for part, shift in (('first', 0), ('count', 2))]
+
+
+def told(tool, words, given=None):
+    run = subprocess.run([tool, *words], input=given, stdin=None if given is not None else subprocess.DEVNULL, stdout=subprocess.PIPE,
+                         stderr=subprocess.PIPE, timeout=60)
+    return run.returncode, run.stdout, run.stderr
+
+
+def with_number(image, at, width, number):
+    changed = bytearray(image)
+    changed[MDB + at:MDB + at + width] = (number % (1 << 8 * width)).to_bytes(width, 'big')
+    return bytes(changed)
+
+
+def lengths(image):
+    """The image cut at its beginning and its end, and made longer."""
+    top = len(image)
+    for length in [1, 511, 512, 1023, 1024, 1025, 1535, 1536, 1537, 2048, 4096, top // 2, top // 2 + 100, top - 1537, top - 1536, top - 1025, top - 1024,
+                   top - 1023, top - 513, top - 512, top - 511, top - 1, top + 1, top + 511, top + 512, top + 100000]:
+        yield f'of {length} bytes', image[:length].ljust(length, b'\1')
+
+
+def numbers(image):
+    """The image with a number that leads elsewhere or beyond its end."""
+    for what, at, width in PLACES + EXTENTS:
+        old = int.from_bytes(image[MDB + at:MDB + at + width], 'big')
+        for number in [0, old + 1, old - 1, 0xFFFF, 0xFFFFFFFF]:
+            yield f'with {what} {number % (1 << 8 * width)}', with_number(image, at, width, number)
+
+
+def overflow(image):
+    """The image with each two bytes of the first leaf of its extents tree changed, where its catalog may go on."""
+    start = int.from_bytes(image[MDB + 28:MDB + 30], 'big') * 512
+    size = int.from_bytes(image[MDB + 20:MDB + 24], 'big')
+    leaf = start + int.from_bytes(image[MDB + 134:MDB + 136], 'big') * size + 512
+    for at in [*range(leaf, leaf + 64, 2), *range(leaf + 496, leaf + 512, 2)]:
+        for number in (0, 0xFFFF):
+            changed = bytearray(image)
+            changed[at:at + 2] = number.to_bytes(2, 'big')
+            yield f'with {number} at {at}', bytes(changed)
+
+
+def words_on(tool, path):
+    """The words that are tried on an image: of a sound one, some that reach a folder and both forks of a file."""
+    words = [['check', path], ['ls', path], ['ls', path, '99999'], ['cat', path, '2', 'no such file']]
+    for kind, number, _, length, name in (line.split(b'\t') for line in told(tool, ['ls', path])[1].split(b'\n') if line.count(b'\t') == 4):
+        if kind == b'd':
+            words.append(['ls', path, number.decode()])
+        elif name.isascii() and not name.startswith(b'-'):
+            words += [['cat', path, '2', name.decode()], ['cat', '--resource', path, '2', name.decode()]]
+        if len(words) > 7:
+            break
+    return words
+
+
+def compare(tool, path, words, image):
+    """Whether these words tell the same three ways. A fault that names the file names the other path there."""
+    by_path = told(tool, words)
+    other = ['/dev/stdin' if word == path else word for word in words]
+    wanted = (by_path[0], by_path[1].replace(path.encode(), b'/dev/stdin'), by_path[2])
+    if told(tool, other, image) != wanted:
+        return False
+    with open(path, 'rb') as file:
+        redirected = subprocess.run([tool, *other], stdin=file, stdout=subprocess.PIPE, stderr=subprocess.PIPE, timeout=60)
+    return (redirected.returncode, redirected.stdout, redirected.stderr) == wanted
+
+
+def main():
+    tool, volumes = sys.argv[1:]
+    images, runs = 0, 0
+    with tempfile.TemporaryDirectory() as work:
+        path = os.path.join(work, 'image')
+        bases = [(name, open(os.path.join(volumes, name), 'rb').read()) for name in sorted(os.listdir(volumes)) if name.endswith('.img')]
+        for kind, count in LAID:
+            subprocess.run([sys.executable, os.path.join(HERE, 'slow_volumes.py'), kind, str(count), '1', path], check=True, stdout=subprocess.DEVNULL)
+            bases.append((kind, open(path, 'rb').read()))
+        for name, base in bases:
+            for how, image in [('as it is', base), *lengths(base), *numbers(base), *overflow(base)]:
+                with open(path, 'wb') as file:
+                    file.write(image)
+                images += 1
+                for words in words_on(tool, path):
+                    runs += 1
+                    if not compare(tool, path, words, image):
+                        sys.exit(f'{name} {how}: {" ".join(words)} tells another thing by a path')
+    print(f'{images} images, {runs} words: the same by a path and out of a pipe')
+
+
+main()
