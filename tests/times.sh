@@ -1,10 +1,13 @@
 #!/usr/bin/env bash
-# Measures the program beside hfsutils, and beside fsck.hfs where it is installed, on volumes of 6,000 items: the time of one
-# run in milliseconds, the best of some runs, and the ratio of ours to theirs. The program loads and checks the whole image
-# before it tells anything of it, so its times grow with the image: the first volume is about the smallest with so many items.
+# Measures the program beside hfsutils, and beside fsck.hfs where it is installed, on volumes of 6,000 items and of 400: the time of one
+# run in milliseconds, the best of some runs, the ratio of ours to theirs, and the most memory. The program reads and checks both trees before
+# it tells anything, so its times grow with the trees, and hfsutils gives each a 128th of a volume.
+#
+# tests/times.sh [lists]        with `lists` also every folder of the smaller volumes, by one run and by a run for each
 . "$(dirname "$0")/beside.sh"
 lists=$PWD/crates/hfs_real_volumes/out/hfs_real_volumes
-[ -x "$lists" ] || (cd crates/hfs_real_volumes && rt run > /dev/null)
+with_lists=${1:-}
+[ -z "$with_lists" ] || [ -x "$lists" ] || (cd crates/hfs_real_volumes && rt run > /dev/null)
 
 # The best of so many runs of a command, in microseconds.
 best() {
@@ -55,13 +58,20 @@ count_beside() {
     fi
 }
 
-# Measures on a volume of this size.
+# The most memory that a command takes, in MB.
+memory() {
+    python3 -c 'import resource, subprocess, sys
+subprocess.run(sys.argv[1:], stdout=subprocess.DEVNULL)
+print(f"{resource.getrusage(resource.RUSAGE_CHILDREN).ru_maxrss / 1024:.1f}")' "$@"
+}
+
+# Measures on a volume of this size with so many files in each of 200 folders.
 measure() {
     local volume=$folder/many.img ours
-    sh tests/make_volume.sh "$volume" "$1" > /dev/null
+    rm -f "$volume"
+    sh tests/make_volume.sh "$volume" "$1" "$2" > /dev/null
     hmount "$volume" > /dev/null
-    hcopy -r "$folder/megabyte" :megabyte
-    echo "6,000 items in $1:"
+    echo "$((200 + 200 * $2)) items in $1:"
     ours=$(best 31 "$tool" check "$volume")
     if command -v fsck.hfs > /dev/null; then
         report 'check to fsck.hfs -n' "$ours" "$(best 31 fsck.hfs -fn "$volume")"
@@ -69,16 +79,31 @@ measure() {
         awk -v ours="$ours" 'BEGIN { printf "    check: %.1f ms; fsck.hfs is not installed\n", ours / 1000 }'
     fi
     count_beside "$volume"
-    report 'every folder to hls -laR' "$(best 31 "$lists" folders "$volume")" "$(best 31 hls -laR)"
     report 'ls of the root to hls -la' "$(best 31 "$tool" ls "$volume")" "$(best 31 hls -la)"
-    report 'a run for each folder to a run for each' "$(best 2 list_each "$volume")" "$(best 2 peer_list_each)"
-    report 'cat of 1 MB to hcopy -r' "$(best 31 "$tool" cat "$volume" 2 megabyte)" "$(best 31 hcopy -r :megabyte "$folder/copy")"
+    echo "    memory of check and of ls: $(memory "$tool" check "$volume") and $(memory "$tool" ls "$volume") MB"
+    if [ "$2" -gt 1 ]; then measure_fork "$volume"; fi
+    if [ -n "$with_lists" ] && [ "$1" != 200M ] && [ "$1" != 2000M ]; then measure_lists "$volume"; fi
     humount
 }
 
+# Measures on a file of 1 MB in the volume that is mounted.
+measure_fork() {
+    hcopy -r "$folder/megabyte" :megabyte
+    report 'cat of 1 MB to hcopy -r' "$(best 31 "$tool" cat "$1" 2 megabyte)" "$(best 31 hcopy -r :megabyte "$folder/copy")"
+}
+
+# Measures lists of every folder.
+measure_lists() {
+    report 'every folder to hls -laR' "$(best 31 "$lists" folders "$1")" "$(best 31 hls -laR)"
+    report 'a run for each folder to a run for each' "$(best 2 list_each "$1")" "$(best 2 peer_list_each)"
+}
+
 head -c 1048576 /dev/urandom > "$folder/megabyte"
-measure 6M
-measure 20M
+measure 800K 1
+measure 6M 29
+measure 20M 29
+measure 200M 29
+measure 2000M 29
 python3 tests/slow_volumes.py plain 60000 30 "$folder/more.img"
 echo '60,000 items in 30M:'
 count_beside "$folder/more.img"
