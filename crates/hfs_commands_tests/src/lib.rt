@@ -13,6 +13,8 @@ mod info;
 #[cfg(test)]
 mod loading;
 #[cfg(test)]
+mod needed;
+#[cfg(test)]
 mod replies;
 #[cfg(test)]
 mod volumes;
