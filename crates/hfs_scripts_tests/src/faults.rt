@@ -130,7 +130,7 @@ fn words_are_spelled_so(rt: HostRuntime) {
 }
 
 #[test]
-fn dirs_and_ids(rt: HostRuntime) {
+fn folders_by_their_ids(rt: HostRuntime) {
     let alloc = rt.alloc();
     let refused: [&[u8]; 8] = [
         b"1\tdirinfo",
@@ -151,6 +151,11 @@ fn dirs_and_ids(rt: HostRuntime) {
         b"1\tlist\t18446744073709551618",
     ];
     expect_refused(&rt, alloc, &lists);
+}
+
+#[test]
+fn file_ids_and_places(rt: HostRuntime) {
+    let alloc = rt.alloc();
     let drops: [&[u8]; 4] = [
         b"1\tdropid",
         b"1\tdropid\t1\t2",

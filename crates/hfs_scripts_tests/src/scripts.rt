@@ -130,7 +130,7 @@ fn numbers_and_names_read(rt: HostRuntime) -> Result<(), Fail> {
 
 /// Hexadecimal digits of either case, also mixed.
 #[test]
-fn hexadecimal_digits_of_either_case_read(rt: HostRuntime) -> Result<(), Fail> {
+fn digits_of_either_case_read_in_a_files_info(rt: HostRuntime) -> Result<(), Fail> {
     let alloc = rt.alloc();
     let line = line_of(
         alloc,
@@ -156,6 +156,13 @@ fn hexadecimal_digits_of_either_case_read(rt: HostRuntime) -> Result<(), Fail> {
         }
         _ => assert!(rt; false),
     }
+    Ok(())
+}
+
+/// The same in an item's 32 Finder bytes.
+#[test]
+fn digits_of_either_case_read_in_an_items_info(rt: HostRuntime) -> Result<(), Fail> {
+    let alloc = rt.alloc();
     let line = line_of(
         alloc,
         b"1\tsetinfo\t2\tf\t1\t2\t3\t0F0f0f0f0f0f0f0f0f0f0f0f0f0f0f0f0f0f0f0f0f0f0f0f0f0f0f0f0f0f0f0F",
