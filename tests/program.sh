@@ -26,6 +26,24 @@ wants() {
     [ "$got" = "$status" ] || fail "'$*' ends with $got"
     printf "$text" | cmp -s - "$folder/printed" || fail "'$*' prints $(cat "$folder/printed")"
     [ ! -s "$folder/errors" ] || fail "'$*' writes to standard error"
+    case $1 in check | ls | cat) wants_piped "$status" "$@" ;; esac
+}
+
+# Wants the same status and bytes of these words, with the first of them that is a file out of a pipe.
+wants_piped() {
+    local status=$1 got=0 image='' word words=()
+    shift
+    for word; do
+        if [ -z "$image" ] && [ -f "$word" ]; then
+            image=$word
+            word=/dev/stdin
+        fi
+        words+=("$word")
+    done
+    [ -n "$image" ] || return 0
+    "$tool" "${words[@]}" < <(cat "$image") > "$folder/piped" 2> "$folder/errors" || got=$?
+    [ "$got" = "$status" ] || fail "'$*' ends with $got out of a pipe"
+    cmp -s "$folder/printed" "$folder/piped" || fail "'$*' prints another thing out of a pipe"
 }
 
 # The list that libhfs made of a volume, a line for each item; a backslash stands there as its code.
@@ -502,11 +520,14 @@ for words in "info $disk" "check $disk" "ls $disk" "cat $disk 19 m2" "repair $di
     [ "$(cat "$folder/status")" = 4 ] && [ ! -s "$folder/errors" ] || fail "'$words' on a closed pipe ends with $(cat "$folder/status")"
 done
 
-# Less memory than an image needs: status 5.
+# Less memory than an image that is loaded needs: status 5. By its path no more of it is read than is needed.
 truncate -s 200M "$folder/sparse.img"
 got=0
-(ulimit -v 100000 && "$tool" check "$folder/sparse.img") > "$folder/printed" || got=$?
+(ulimit -v 100000 && "$tool" check /dev/stdin < <(cat "$folder/sparse.img")) > "$folder/printed" || got=$?
 [ "$got" = 5 ] && [ "$(cat "$folder/printed")" = 'out of memory' ] || fail "too little memory ends with $got"
+got=0
+(ulimit -v 100000 && "$tool" check "$folder/sparse.img") > "$folder/printed" || got=$?
+[ "$got" = 2 ] && [ "$(cat "$folder/printed")" = 'refused not an HFS volume (-57)' ] || fail "an image larger than the memory ends with $got"
 
 # The words: others are refused with their text on standard output, and help is given.
 for words in info 'info a.img b.img' "info $small --now" --now "mount $small" "$small" "new $folder/none.img D 64 6 x" check \

@@ -1,0 +1,80 @@
+//! The images that are changed.
+use anyhow::{Result, bail};
+use hfs_fields::{ExtKey, Extent};
+use hfs_fixtures::{FixtureFault, SmallVolume, lay, lay_overflow, small_image};
+use hfs_volume::{FormatPlan, Volume, format, mount};
+use std::alloc::Global;
+
+/// Which volume is changed: one of the small ones, or `Folder` whose file has extents beyond its record.
+#[derive(Clone, Copy)]
+pub enum Hostile {
+    Small(SmallVolume),
+    Cut,
+}
+
+/// The image of one of them.
+pub fn image_of(alloc: Global, volume: Hostile) -> Result<Vec<u8>, FixtureFault> {
+    match volume {
+        Hostile::Small(small) => small_image(alloc, small),
+        Hostile::Cut => cut_image(alloc),
+    }
+}
+
+/// The volume with the folder `d`, in it the file `f` with 2,000 bytes in allocation blocks 10, 12 and 14 by its record, and in 16 by the
+/// extents tree. The record of `f` has its body from byte 286 of block 7 on.
+fn cut_image(alloc: Global) -> Result<Vec<u8>, FixtureFault> {
+    let mut image = small_image(alloc, SmallVolume::Folder)?;
+    lay(&mut image, 2, 34, &[0, 46])?;
+    lay(&mut image, 3, 1, &[0x2a, 0x80])?;
+    lay(&mut image, 7, 312, &[0, 0, 0x07, 0xd0, 0, 0, 0x08, 0x00])?;
+    lay(&mut image, 7, 360, &[0, 10, 0, 1, 0, 12, 0, 1, 0, 14, 0, 1])?;
+    let key = ExtKey {
+        fork: 0,
+        file: 17,
+        block: 3,
+    };
+    let none = Extent { first: 0, count: 0 };
+    let fourth = Extent {
+        first: 16,
+        count: 1,
+    };
+    lay_overflow(alloc, &mut image, &key, &[fourth, none, none])?;
+    Ok(image)
+}
+
+/// A new volume `D` of so many blocks and nodes.
+pub fn planned(
+    alloc: Global,
+    blocks: u32,
+    extents_nodes: u32,
+    catalog_nodes: u32,
+) -> Result<Vec<u8>> {
+    let plan = FormatPlan {
+        name: Vec::from_slice(alloc, b"D")?,
+        blocks,
+        extents_nodes,
+        catalog_nodes,
+        now: 0,
+    };
+    match format(alloc, plan) {
+        Ok(image) => Ok(image),
+        Err(_fault) => bail!("no new volume"),
+    }
+}
+
+/// The volume of an image, which is sound.
+pub fn mounted(alloc: Global, image: Vec<u8>) -> Result<Volume> {
+    match mount(alloc, image) {
+        Ok(volume) => Ok(volume),
+        Err(_refused) => bail!("the image isn't sound"),
+    }
+}
+
+/// A volume's image as it is now.
+pub fn saved(alloc: Global, volume: &Volume) -> Result<Vec<u8>> {
+    let mut image = Vec::new(alloc);
+    match volume.save(&mut image) {
+        Ok(()) => Ok(image),
+        Err(_fault) => bail!("the image was not saved"),
+    }
+}
