@@ -3,7 +3,7 @@ use anyhow::{Result, bail, ensure};
 use hfs_model::{Call, Reply, Value};
 use hfs_store::PlainVolume;
 use hfs_texts::reply_text;
-use hfs_volume::{Volume, mount};
+use hfs_volume::{Volume, mount, mount_repaired};
 use std::alloc::Global;
 
 /// Three volumes that answer alike. The plain one is there where the volume was a new one.
@@ -22,6 +22,37 @@ fn mounted(alloc: Global, image: Vec<u8>) -> Result<Volume> {
         Ok(volume) => Ok(volume),
         Err(_refused) => bail!("the image isn't sound"),
     }
+}
+
+/// Where the master directory block has its count of files, and where that ends.
+const FILES: usize = 1_108;
+
+const FILES_END: usize = 1_112;
+
+/// A sound image with its count of files one too high.
+fn miscounted(alloc: Global, image: &[u8]) -> Result<Vec<u8>> {
+    let mut wrong = Vec::from_slice(alloc, image)?;
+    for at in (FILES..FILES_END).rev() {
+        let Some(byte) = wrong.get_mut(at) else {
+            bail!("the image is too short");
+        };
+        *byte = byte.wrapping_add(1);
+        if *byte != 0 {
+            break;
+        }
+    }
+    Ok(wrong)
+}
+
+/// The volume of a sound image, which was mended after its count of files was made one too high: it is byte for byte what it was.
+fn mended(alloc: Global, image: &[u8]) -> Result<Volume> {
+    let Ok((volume, fixes)) = mount_repaired(alloc, miscounted(alloc, image)?) else {
+        bail!("the image is not mended");
+    };
+    ensure!(fixes.len() == 1, "{} counts are mended", fixes.len());
+    let bytes = saved(alloc, &volume)?;
+    ensure!(bytes.as_slice() == image, "mended it has other bytes");
+    Ok(volume)
 }
 
 /// An image's bytes as they are now.
@@ -52,10 +83,10 @@ fn is_full(reply: &Reply) -> bool {
 }
 
 impl Trio {
-    /// The volumes of a sound image.
+    /// The volumes of a sound image. The one that is mounted again has its count of files mended before the first call.
     pub fn new(alloc: Global, image: &[u8], plain: Option<PlainVolume>) -> Result<Trio> {
         let volume = mounted(alloc, Vec::from_slice(alloc, image)?)?;
-        let again = mounted(alloc, Vec::from_slice(alloc, image)?)?;
+        let again = mended(alloc, image)?;
         Ok(Trio {
             alloc,
             volume,
