@@ -101,7 +101,7 @@ fn moment<'a>(alloc: Global) -> Arg<'a> {
 }
 
 /// The program's number, and the toolchain that proved it.
-const VERSION: &str = "0.1.0 (proved with rattle-kit-13b logic dac8208d650f15bf)";
+const VERSION: &str = "0.1.0 (proved with rattle-kit-13f logic dac8208d650f15bf)";
 
 /// What the numbers of checks mean.
 const CHECKS: &str = "What is printed where the volume is not sound:
