@@ -1,0 +1,5 @@
+use Rattle.hfs_shared_tests.proofs.Books.{of_book}
+use Rattle.hfs_shared_tests.proofs.sharing.begun.Goals as goal
+
+pub returns-in-Ok : goal.returns-in-Ok
+returns-in-Ok g c = of_book _ _ c.in-Ok.ensures.ok.viewers_are

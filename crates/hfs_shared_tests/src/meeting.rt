@@ -1,0 +1,160 @@
+//! Workers that run side by side.
+ghost use Rattle.std.specs.Prelude.{◌≡◌, ◌<◌, ◌≤◌};
+
+use crate::sharing::{begun, create, new_volume};
+use crate::waiting::waits_for;
+use hfs_model::Call;
+use hfs_shared::{Done, Gate, Parts, Pass, Session, run_workers};
+use std::alloc::{AllocError, Global};
+use std::marker::Brand;
+use std::sync::Wait;
+use std::sync::atomic::{AtomicU64, Ordering};
+use std::test::Fail;
+use std::thread::Threads;
+
+/// Workers that all stand before their first calls at once: so many are to come, so many are here, and so many waited in vain.
+#[derive(Drop)]
+struct Meeting<'a> {
+    clock: &'a HostRuntime,
+    wanted: u64,
+    here: AtomicU64,
+    late: AtomicU64,
+}
+
+impl Gate for Meeting<'_> {
+    fn before(&self, _worker: u32, stamp: u64) {
+        if stamp == 1 {
+            self.here.fetch_add(1, Ordering::SeqCst);
+            if !waits_for(self.clock, &self.here, self.wanted) {
+                self.late.fetch_add(1, Ordering::SeqCst);
+            }
+        }
+    }
+
+    fn inside(&self, _worker: u32, _stamp: u64) {}
+
+    fn after(&self, _worker: u32, _stamp: u64) {}
+}
+
+/// One worker that stands before its first call until so many calls of others are answered.
+#[derive(Drop)]
+struct Holding<'a> {
+    clock: &'a HostRuntime,
+    held: u32,
+    wanted: u64,
+    answered: AtomicU64,
+    late: AtomicU64,
+}
+
+impl Gate for Holding<'_> {
+    fn before(&self, worker: u32, stamp: u64) {
+        if worker == self.held
+            && stamp == 1
+            && !waits_for(self.clock, &self.answered, self.wanted)
+        {
+            self.late.fetch_add(1, Ordering::SeqCst);
+        }
+    }
+
+    fn inside(&self, _worker: u32, _stamp: u64) {}
+
+    fn after(&self, worker: u32, _stamp: u64) {
+        if worker != self.held {
+            self.answered.fetch_add(1, Ordering::SeqCst);
+        }
+    }
+}
+
+/// Two calls that make the files `a` and `b` in the root.
+fn two_calls(alloc: Global) -> Result<Vec<Call>, AllocError> {
+    let mut calls = Vec::new(alloc);
+    calls.push(create(alloc, b"a")?)?;
+    calls.push(create(alloc, b"b")?)?;
+    Ok(calls)
+}
+
+/// A job of two calls for each pass.
+fn jobs_of(alloc: Global, passes: Vec<Pass>) -> Result<Vec<(Pass, Vec<Call>)>, AllocError> {
+    let mut jobs = Vec::new(alloc);
+    for pass in passes {
+        let calls = two_calls(alloc)?;
+        jobs.push((pass, calls))?;
+    }
+    Ok(jobs)
+}
+
+/// How many replies there are, and how many faults.
+fn counted(dones: &Vec<Done>) -> (usize, usize) {
+    let mut replies = 0_usize;
+    let mut faults = 0_usize;
+    for done in dones {
+        replies = replies.saturating_add(done.replies.len());
+        if done.fault.is_some() {
+            faults = faults.saturating_add(1);
+        }
+    }
+    (replies, faults)
+}
+
+/// Runs two calls of each worker: how many replies there are, and how many faults.
+fn run_twos<K: Session + Send + Sync, R: Threads + Wait + Sync, G: Gate + Sync>(
+    rt: &R,
+    alloc: Global,
+    parts: Parts,
+    passes: Vec<Pass>,
+    gate: &G,
+) -> Result<(usize, usize), Fail>
+    requires { (parts.book ≡ K.book) × (parts.opening ≡ K.opening) }
+{
+    let shared = parts.share::<K>();
+    let jobs = jobs_of(alloc, passes)?;
+    match run_workers(&shared, rt, alloc, gate, jobs) {
+        Ok(dones) => Ok(counted(&dones)),
+        Err(_fault) => Err(Fail::from("not run")),
+    }
+}
+
+/// The same of a new volume with so many workers.
+fn run_new<R: Threads + Wait + Sync, G: Gate + Sync>(
+    rt: &R,
+    alloc: Global,
+    workers: u32,
+    gate: &G,
+) -> Result<(usize, usize), Fail>
+    requires { (0 < workers) × (workers ≤ 8) }
+{
+    let (parts, passes, _viewers) = begun(rt, alloc, new_volume(alloc)?, workers, 1)?;
+    run_twos::<Brand, _, _>(rt, alloc, parts, passes, gate)
+}
+
+#[test]
+fn eight_workers_meet(rt: HostRuntime) -> Result<(), Fail> {
+    let gate = Meeting {
+        clock: &rt,
+        wanted: 8,
+        here: AtomicU64::new(0),
+        late: AtomicU64::new(0),
+    };
+    let counts = run_new(&rt, rt.alloc(), 8, &gate)?;
+    assert!(rt; counts == (16, 0));
+    assert!(rt; gate.here.load(Ordering::SeqCst) == 8);
+    assert!(rt; gate.late.load(Ordering::SeqCst) == 0);
+    Ok(())
+}
+
+#[test]
+fn either_worker_is_held(rt: HostRuntime) -> Result<(), Fail> {
+    for held in [1, 2] {
+        let gate = Holding {
+            clock: &rt,
+            held,
+            wanted: 2,
+            answered: AtomicU64::new(0),
+            late: AtomicU64::new(0),
+        };
+        let counts = run_new(&rt, rt.alloc(), 2, &gate)?;
+        assert!(rt; counts == (4, 0));
+        assert!(rt; gate.late.load(Ordering::SeqCst) == 0);
+    }
+    Ok(())
+}

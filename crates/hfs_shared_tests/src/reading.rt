@@ -1,0 +1,254 @@
+//! A viewer beside a volume on which the same changes are made: when it learned of a change, it answers as the volume does.
+ghost use Rattle.std.specs.Prelude.{◌≡◌, All, OnOk};
+
+use crate::sharing::{begun, last, make, mounted};
+use hfs_fixtures::{FixtureFault, SmallVolume, new_image, small_image};
+use hfs_model::{Bytes, Call, Fork, Reply};
+use hfs_scripts::{Script, read_script};
+use hfs_shared::{Parts, Pass, Session, Shared, ViewFault, Viewer};
+use hfs_texts::reply_text;
+use hfs_volume::Volume;
+use std::alloc::{AllocError, Global};
+use std::marker::Brand;
+use std::sync::Wait;
+use std::test::Fail;
+
+/// The 25 calls that ask for a folder and what it may hold.
+fn push_asking(alloc: Global, calls: &mut Vec<Call>, dir: u32) -> Result<(), AllocError> {
+    calls.push(Call::GetDirInfo { dir })?;
+    calls.push(Call::List { dir })?;
+    for index in 0..5 {
+        calls.push(Call::GetIndexed { dir, index })?;
+    }
+    for letter in *b"abfgxyzA{" {
+        calls.push(Call::GetCatInfo {
+            dir,
+            name: Bytes::from_slice(alloc, &[letter])?,
+        })?;
+        calls.push(Call::ReadFork {
+            dir,
+            name: Bytes::from_slice(alloc, &[letter])?,
+            fork: Fork::DataFork,
+            offset: 1_530,
+            count: 500,
+        })?;
+    }
+    Ok(())
+}
+
+/// The 125 calls that ask for the folders 1, 2, 16, 17 and 18.
+fn asking(alloc: Global) -> Result<Vec<Call>, AllocError> {
+    let mut calls = Vec::new(alloc);
+    for dir in [1, 2, 16, 17, 18] {
+        push_asking(alloc, &mut calls, dir)?;
+    }
+    Ok(calls)
+}
+
+fn ask_info(alloc: Global, viewer: &mut Viewer, dir: u32, name: &Bytes) -> Result<Reply, ViewFault>
+    ensures { OnOk result (viewer.new.book ≡ viewer.old.book) }
+{
+    match Bytes::from_slice(alloc, name.as_slice()) {
+        Ok(name) => viewer.info(alloc, dir, name),
+        Err(_refused) => Err(ViewFault::Memory),
+    }
+}
+
+fn ask_fork(
+    alloc: Global,
+    viewer: &mut Viewer,
+    dir: u32,
+    name: &Bytes,
+    fork: Fork,
+    offset: u32,
+    count: u32,
+) -> Result<Reply, ViewFault>
+    ensures { OnOk result (viewer.new.book ≡ viewer.old.book) }
+{
+    match Bytes::from_slice(alloc, name.as_slice()) {
+        Ok(name) => viewer.read_fork(alloc, dir, name, fork, offset, count),
+        Err(_refused) => Err(ViewFault::Memory),
+    }
+}
+
+/// The viewer's reply to one of the five calls that it offers. `Gone` to each other call.
+fn ask(alloc: Global, viewer: &mut Viewer, call: &Call) -> Result<Reply, ViewFault>
+    ensures { OnOk result (viewer.new.book ≡ viewer.old.book) }
+{
+    match call {
+        Call::GetDirInfo { dir } => viewer.dir_info(alloc, *dir),
+        Call::GetCatInfo { dir, name } => ask_info(alloc, viewer, *dir, name),
+        Call::GetIndexed { dir, index } => viewer.indexed(alloc, *dir, *index),
+        Call::List { dir } => viewer.list(alloc, *dir),
+        Call::ReadFork {
+            dir,
+            name,
+            fork,
+            offset,
+            count,
+        } => ask_fork(alloc, viewer, *dir, name, *fork, *offset, *count),
+        Call::Create { .. }
+        | Call::DirCreate { .. }
+        | Call::Delete { .. }
+        | Call::Rename { .. }
+        | Call::CatMove { .. }
+        | Call::SetFInfo { .. }
+        | Call::SetCatInfo { .. }
+        | Call::SetFLock { .. }
+        | Call::RstFLock { .. }
+        | Call::CreateFileId { .. }
+        | Call::DeleteFileId { .. }
+        | Call::ResolveFileId { .. } => Err(ViewFault::Gone),
+    }
+}
+
+/// The volume's own reply.
+fn answer_of(alloc: Global, volume: &mut Volume, call: &Call) -> Result<Reply, AllocError> {
+    volume.call(alloc, call)
+}
+
+/// Two replies are the same, all that they tell.
+fn compare(alloc: Global, found: &Reply, wanted: &Reply) -> Result<(), Fail> {
+    let found = reply_text(alloc, "1", 1, found)?;
+    let wanted = reply_text(alloc, "1", 1, wanted)?;
+    if *found.as_str() != *wanted.as_str() {
+        return Err(Fail::from("another reply"));
+    }
+    Ok(())
+}
+
+/// The viewer answers as the volume.
+fn compare_one(
+    alloc: Global,
+    viewer: &mut Viewer,
+    volume: &mut Volume,
+    call: &Call,
+) -> Result<(), Fail>
+    ensures { OnOk result (viewer.new.book ≡ viewer.old.book) }
+{
+    let wanted = answer_of(alloc, volume, call)?;
+    match ask(alloc, viewer, call) {
+        Ok(found) => compare(alloc, &found, &wanted),
+        Err(_fault) => Err(Fail::from("no reply")),
+    }
+}
+
+/// The viewer answers each of these calls as the volume.
+fn compare_all(
+    alloc: Global,
+    viewer: &mut Viewer,
+    volume: &mut Volume,
+    calls: &Vec<Call>,
+) -> Result<(), Fail>
+    ensures { OnOk result (viewer.new.book ≡ viewer.old.book) }
+{
+    for call in calls {
+        compare_one(alloc, viewer, volume, call)?;
+    }
+    Ok(())
+}
+
+/// A change is answered on the shared volume as on the other one, and the viewer learns of it.
+fn change<K: Session>(
+    rt: &impl Wait,
+    alloc: Global,
+    shared: &Shared<K>,
+    pass: &mut Pass,
+    viewer: &mut Viewer,
+    volume: &mut Volume,
+    call: Call,
+) -> Result<(), Fail>
+    requires { viewer.old.book ≡ K.book }
+    ensures { OnOk result (viewer.new.book ≡ K.book) }
+{
+    let wanted = answer_of(alloc, volume, &call)?;
+    let (found, told) = make(rt, alloc, shared, pass, call)?;
+    compare(alloc, &found, &wanted)?;
+    viewer.learn(&told);
+    Ok(())
+}
+
+/// After each change of a script the viewer answers as the other volume. It answers how many changes there are.
+fn follow<K: Session, R: Wait>(
+    rt: &R,
+    alloc: Global,
+    parts: Parts,
+    mut passes: Vec<Pass>,
+    mut viewers: Vec<Viewer>,
+    volume: &mut Volume,
+    script: Script,
+) -> Result<u32, Fail>
+    requires parts { (parts.book ≡ K.book) × (parts.opening ≡ K.opening) }
+    requires viewers { All (λ k. k.book ≡ K.book) viewers.items }
+{
+    let shared = parts.share::<K>();
+    let mut viewer = last::<K>(&mut viewers)?;
+    let mut pass = passes.pop().ok_or("a pass")?;
+    let calls = asking(alloc)?;
+    let mut changes = 0_u32;
+    for line in script.into_lines() {
+        change(
+            rt,
+            alloc,
+            &shared,
+            &mut pass,
+            &mut viewer,
+            volume,
+            line.call,
+        )?;
+        compare_all(alloc, &mut viewer, volume, &calls)?;
+        changes = changes.saturating_add(1);
+    }
+    Ok(changes)
+}
+
+/// The same of the volume of an image, and of the lines of a script.
+fn follow_lines(
+    rt: &impl Wait,
+    alloc: Global,
+    image: Result<Vec<u8>, FixtureFault>,
+    lines: &[u8],
+) -> Result<u32, Fail> {
+    let image = image?;
+    let mut volume = mounted(alloc, image.clone()?)?;
+    let Ok(script) = read_script(alloc, lines, 9) else {
+        return Err(Fail::from("no script"));
+    };
+    let (parts, passes, viewers) = begun(rt, alloc, mounted(alloc, image)?, 1, 1)?;
+    follow::<Brand, _>(rt, alloc, parts, passes, viewers, &mut volume, script)
+}
+
+/// Folders in one another, a file that is locked, set, found by its ID, renamed, moved and deleted.
+const FOLDERS: &[u8] = b"1\tmkdir\t2\tx\n1\tmkdir\t16\ty\n1\tmkdir\t17\tz\n1\tmove\t2\tx\t18\n\
+1\tmove\t2\tx\t17\n1\tmove\t2\tx\t16\n1\tmove\t16\ty\t2\n1\tcreate\t16\tf\n1\tdelete\t2\tx\n\
+1\tlock\t16\tf\n1\tdelete\t16\tf\n1\trename\t16\tf\tg\n1\tunlock\t16\tf\n1\tnewid\t16\tf\n\
+1\tsetfinfo\t16\tf\t000102030405060708090a0b0c0d0e0f\n1\trename\t16\tf\tg\n1\tmove\t16\tg\t2\n\
+1\tdropid\t19\n1\tdelete\t2\tg\n1\tdelete\t2\tx\n";
+
+/// Names: their order, equal ones, and those that are none.
+const NAMES: &[u8] = b"1\tcreate\t2\t{\n1\tcreate\t2\t_x\n1\tcreate\t2\tB\n1\tcreate\t2\ta\n\
+1\tcreate\t2\tA\n1\tcreate\t2\ta:b\n1\tcreate\t2\t\n1\tmove\t2\ta\t2\n\
+1\tcreate\t2\tnnnnnnnnnnnnnnnnnnnnnnnnnnnnnnn\n1\tcreate\t2\tnnnnnnnnnnnnnnnnnnnnnnnnnnnnnnnn\n\
+1\tsetinfo\t2\ta\t1\t2\t3\t000102030405060708090a0b0c0d0e0f101112131415161718191a1b1c1d1e1f\n";
+
+/// A catalog that is full behind the fourth file.
+const FULL: &[u8] = b"1\tcreate\t2\ta\n1\tcreate\t2\tb\n1\tcreate\t2\tc\n1\tcreate\t2\td\n\
+1\trename\t2\ta\tA\n1\trename\t2\tA\tz\n1\tcreate\t2\te\n1\tnewid\t2\tb\n";
+
+#[test]
+fn a_viewer_answers_as_the_volume(rt: HostRuntime) -> Result<(), Fail> {
+    let alloc = rt.alloc();
+    assert!(rt; follow_lines(&rt, alloc, new_image(alloc, 40), FOLDERS)? == 20);
+    assert!(rt; follow_lines(&rt, alloc, new_image(alloc, 40), NAMES)? == 11);
+    assert!(rt; follow_lines(&rt, alloc, new_image(alloc, 4), FULL)? == 8);
+    let file = small_image(alloc, SmallVolume::OneFile);
+    assert!(rt;
+        follow_lines(
+            &rt,
+            alloc,
+            file,
+            b"1\tlock\t2\tf\n1\tunlock\t2\tf\n1\trename\t2\tf\tg\n1\tdelete\t2\tg\n"
+        )? == 4
+    );
+    Ok(())
+}

@@ -1,0 +1,136 @@
+//! A small volume that is shared, the calls on it in short, and what viewers are asked.
+ghost use Rattle.std.specs.Prelude.{◌≡◌, ◌<◌, ◌≤◌, All, IfOk, OnOk};
+
+use hfs_fixtures::new_image;
+use hfs_model::{Bytes, Call, Reply, Value};
+use hfs_shared::{CallFault, Closed, Parts, Pass, Session, Shared, Told, Viewer};
+use hfs_volume::{Volume, mount};
+use std::alloc::{AllocError, Global};
+use std::sync::Wait;
+use std::test::Fail;
+
+/// The volume of an image, which is sound.
+pub fn mounted(alloc: Global, image: Vec<u8>) -> Result<Volume, Fail> {
+    match mount(alloc, image) {
+        Ok(volume) => Ok(volume),
+        Err(refused) => Err(Fail::from(refused.fault)),
+    }
+}
+
+/// A new volume with 40 nodes of the catalog.
+pub fn new_volume(alloc: Global) -> Result<Volume, Fail> {
+    mounted(alloc, new_image(alloc, 40)?)
+}
+
+/// The parts of a volume, passes and viewers.
+pub fn begun(
+    rt: &impl Wait,
+    alloc: Global,
+    volume: Volume,
+    workers: u32,
+    viewers: u32,
+) -> Result<(Parts, Vec<Pass>, Vec<Viewer>), Fail>
+    requires { (0 < workers) × (workers ≤ 8) × (0 < viewers) × (viewers ≤ 8) }
+    ensures { IfOk result (λ r. All (λ k. k.book ≡ r.0.book) r.2.items) }
+{
+    match Parts::start(rt, alloc, volume, workers, viewers) {
+        Ok(parts) => Ok(parts),
+        Err(_fault) => Err(Fail::from("not shared")),
+    }
+}
+
+/// The last of the viewers.
+pub fn last<K: Session>(viewers: &mut Vec<Viewer>) -> Result<Viewer, Fail>
+    requires { All (λ k. k.book ≡ K.book) viewers.old.items }
+    ensures viewer { IfOk result (λ v. v.book ≡ K.book) }
+    ensures others { All (λ k. k.book ≡ K.book) viewers.new.items }
+{
+    match viewers.pop() {
+        Some(viewer) => Ok(viewer),
+        None => Err(Fail::from("no viewer")),
+    }
+}
+
+/// A call that makes a file in the root.
+pub fn create(alloc: Global, name: &[u8]) -> Result<Call, AllocError> {
+    Ok(Call::Create {
+        dir: 2,
+        name: Bytes::from_slice(alloc, name)?,
+        now: 0,
+    })
+}
+
+/// Makes a call: its reply, and what is told.
+pub fn make<K: Session>(
+    rt: &impl Wait,
+    alloc: Global,
+    shared: &Shared<K>,
+    pass: &mut Pass,
+    call: Call,
+) -> Result<(Reply, Told), Fail>
+    ensures { IfOk result (λ r. r.1.book ≡ K.book) }
+{
+    match shared.call(rt, alloc, pass, call) {
+        Ok(answer) => Ok(answer),
+        Err(_fault) => Err(Fail::from("not answered")),
+    }
+}
+
+/// Makes a file in the root: what is told.
+pub fn make_file<K: Session>(
+    rt: &impl Wait,
+    alloc: Global,
+    shared: &Shared<K>,
+    pass: &mut Pass,
+    name: &[u8],
+) -> Result<Told, Fail>
+    ensures { IfOk result (λ t. t.book ≡ K.book) }
+{
+    let (_reply, told) = make(rt, alloc, shared, pass, create(alloc, name)?)?;
+    Ok(told)
+}
+
+/// The two numbers of a stamp that was refused.
+pub fn stamp_of(fault: CallFault) -> Option<(u64, u64)> {
+    match fault {
+        CallFault::Stamp { wanted, given } => Some((wanted, given)),
+        CallFault::Memory => None,
+    }
+}
+
+/// Closes by the passes of all workers.
+pub fn closed<K: Session>(
+    rt: &impl Wait,
+    shared: Shared<K>,
+    passes: Vec<Pass>,
+    viewer: &mut Viewer,
+) -> Result<Closed, Fail>
+    requires { viewer.old.book ≡ K.book }
+{
+    match shared.close(rt, passes, viewer) {
+        Ok(closed) => Ok(closed),
+        Err(_parts) => Err(Fail::from("not closed")),
+    }
+}
+
+/// The names that a reply tells, each with a space behind it.
+pub fn names_in(alloc: Global, reply: &Reply) -> Result<Vec<u8>, AllocError> {
+    let mut text = Vec::new(alloc);
+    if let Value::Many(infos) = &reply.value {
+        for info in infos.as_slice() {
+            text.extend_from_slice(info.name.bytes())?;
+            text.push(b' ')?;
+        }
+    }
+    Ok(text)
+}
+
+/// Whether these are the names of the root's children, each with a space behind it.
+pub fn lists(alloc: Global, viewer: &mut Viewer, wanted: &[u8]) -> Result<bool, Fail>
+    ensures { OnOk result (viewer.new.book ≡ viewer.old.book) }
+{
+    match viewer.list(alloc, 2) {
+        Ok(reply) => Ok(*names_in(alloc, &reply)?.as_slice() == *wanted),
+        Err(_fault) => Err(Fail::from("no list")),
+    }
+}

@@ -1,0 +1,123 @@
+//! What viewers see of what they are told.
+ghost use Rattle.std.specs.Prelude.{◌≡◌, All, IfOk, OnOk};
+
+use crate::sharing::{begun, closed, create, last, lists, make_file, names_in, new_volume};
+use hfs_shared::{Guard, Parts, Pass, Session, Shared, Told, ViewFault, Viewer};
+use std::alloc::Global;
+use std::marker::Brand;
+use std::sync::Wait;
+use std::test::Fail;
+
+/// The told lists of two files `a` and `b`, as one worker makes them.
+fn told_of_two<K: Session>(
+    rt: &impl Wait,
+    alloc: Global,
+    shared: &Shared<K>,
+    pass: &mut Pass,
+) -> Result<(Told, Told), Fail>
+    ensures { IfOk result (λ r. (r.0.book ≡ K.book) × (r.1.book ≡ K.book)) }
+{
+    let first = make_file(rt, alloc, shared, pass, b"a")?;
+    let second = make_file(rt, alloc, shared, pass, b"b")?;
+    Ok((first, second))
+}
+
+/// Whether the viewer lists these names, or is gone.
+fn lists_or_is_gone(alloc: Global, viewer: &mut Viewer, wanted: &[u8]) -> Result<bool, Fail> {
+    match viewer.list(alloc, 2) {
+        Ok(reply) => Ok(*names_in(alloc, &reply)?.as_slice() == *wanted),
+        Err(ViewFault::Gone) => Ok(true),
+        Err(ViewFault::Memory) => Ok(false),
+    }
+}
+
+/// The entries and what is shown of a volume with two files, if a viewer that learns the second told list and then the first lists
+/// both, and does so, or is gone, when it was lent to closing.
+fn learned<K: Session, R: Wait>(
+    rt: &R,
+    alloc: Global,
+    parts: Parts,
+    mut passes: Vec<Pass>,
+    mut viewers: Vec<Viewer>,
+) -> Result<(usize, u64), Fail>
+    requires parts { (parts.book ≡ K.book) × (parts.opening ≡ K.opening) }
+    requires viewers { All (λ k. k.book ≡ K.book) viewers.items }
+{
+    let shared = parts.share::<K>();
+    let mut viewer = last::<K>(&mut viewers)?;
+    let mut pass = passes.pop().ok_or("a pass")?;
+    let (first, second) = told_of_two(rt, alloc, &shared, &mut pass)?;
+    viewer.learn(&second);
+    viewer.learn(&first);
+    let before = lists(alloc, &mut viewer, b"a b ")?;
+    passes.push(pass)?;
+    let closed = closed(rt, shared, passes, &mut viewer)?;
+    if !before || !lists_or_is_gone(alloc, &mut viewer, b"a b ")? {
+        return Err(Fail::from("another list"));
+    }
+    Ok((closed.journal.len(), closed.shown))
+}
+
+fn learned_on_new(rt: &impl Wait, alloc: Global) -> Result<(usize, u64), Fail> {
+    let (parts, passes, viewers) = begun(rt, alloc, new_volume(alloc)?, 1, 2)?;
+    learned::<Brand, _>(rt, alloc, parts, passes, viewers)
+}
+
+#[test]
+fn told_lists_are_learned_in_any_order(rt: HostRuntime) -> Result<(), Fail> {
+    let counts = learned_on_new(&rt, rt.alloc())?;
+    assert!(rt; counts == (2, 2));
+    Ok(())
+}
+
+/// Makes the file `a` under the lock.
+fn apply_one<K: Session>(
+    alloc: Global,
+    guard: &mut Guard<'_, K>,
+    pass: &mut Pass,
+) -> Result<(), Fail> {
+    let call = create(alloc, b"a")?;
+    match guard.apply(alloc, pass, &call) {
+        Ok(_reply) => Ok(()),
+        Err(_fault) => Err(Fail::from("not answered")),
+    }
+}
+
+/// While the lock is held: how many entries are shown before a publish and after it, and what is told of both numbers, if a viewer
+/// lists nothing before it, and the file `a` when it was told.
+fn shown_by_publish<K: Session, R: Wait>(
+    rt: &R,
+    alloc: Global,
+    parts: Parts,
+    mut passes: Vec<Pass>,
+    mut viewers: Vec<Viewer>,
+) -> Result<[u64; 4], Fail>
+    requires parts { (parts.book ≡ K.book) × (parts.opening ≡ K.opening) }
+    requires viewers { All (λ k. k.book ≡ K.book) viewers.items }
+{
+    let shared = parts.share::<K>();
+    let mut viewer = last::<K>(&mut viewers)?;
+    let mut pass = passes.pop().ok_or("a pass")?;
+    let mut guard = shared.lock(rt);
+    apply_one(alloc, &mut guard, &mut pass)?;
+    let waiting = guard.shown();
+    let before = lists(alloc, &mut viewer, b"")?;
+    let told = guard.publish(rt, alloc);
+    viewer.learn(&told);
+    if !before || !lists(alloc, &mut viewer, b"a ")? || viewer.changes() != 1 {
+        return Err(Fail::from("another list"));
+    }
+    Ok([waiting, guard.shown(), told.shown(), told.made()])
+}
+
+fn shown_on_new(rt: &impl Wait, alloc: Global) -> Result<[u64; 4], Fail> {
+    let (parts, passes, viewers) = begun(rt, alloc, new_volume(alloc)?, 1, 1)?;
+    shown_by_publish::<Brand, _>(rt, alloc, parts, passes, viewers)
+}
+
+#[test]
+fn what_waits_is_shown_by_a_publish(rt: HostRuntime) -> Result<(), Fail> {
+    let numbers = shown_on_new(&rt, rt.alloc())?;
+    assert!(rt; numbers == [0, 1, 1, 1]);
+    Ok(())
+}
