@@ -50,7 +50,7 @@ fn reply_of<K: Session>(
 }
 
 /// One call. Where memory is refused the pass must have the number that it had.
-fn answer<K: Session>(
+fn call_once<K: Session>(
     rt: &impl Wait,
     alloc: Global,
     shared: &Shared<K>,
@@ -76,9 +76,9 @@ fn made_at_last<K: Session>(
     way: Way,
 ) -> Result<Answer> {
     let again = call_of(alloc, text)?;
-    let first = answer(rt, alloc, shared, pass, call_of(alloc, text)?, way);
+    let first = call_once(rt, alloc, shared, pass, call_of(alloc, text)?, way);
     if way != Way::Close && matches!(&first, Answer::Refused) {
-        return Ok(answer(rt, alloc, shared, pass, again, way));
+        return Ok(call_once(rt, alloc, shared, pass, again, way));
     }
     Ok(first)
 }
