@@ -52,12 +52,12 @@ unfoldable pub items_of : Table → Items
 items_of t = finite.from_sorted (shown (item_of t.base t.mdb) t.by_id.entries)
 
 -- the items of a table in the order of their IDs
-abbrev pub entries_of : Table → List Entry
-entries_of t = finite.entries (items_of t)
+abbrev pub table_entries : Table → List Entry
+table_entries t = finite.entries (items_of t)
 
 -- the item of a row of the table, with its ID
-abbrev pub entry_of : Table → ℕ → Row → Entry
-entry_of t id r = (id, item_of t.base t.mdb r)
+abbrev pub row_entry : Table → ℕ → Row → Entry
+row_entry t id r = (id, item_of t.base t.mdb r)
 
 -- the volume of a table
 abbrev pub volume_of : Table → Volume

@@ -4,7 +4,7 @@ ghost use Rattle.std.specs.Ordering.{nat_cmp};
 ghost use Rattle.std.specs.BTreeMap as tree;
 ghost use Rattle.std.specs.Option.{option_map};
 ghost use Rattle.hfs_model.specs.Children.{entry_at};
-ghost use Rattle.hfs_item_table.specs.Tables.{HasRows, IsTable, entries_of, entry_of, IsKindIn};
+ghost use Rattle.hfs_item_table.specs.Tables.{HasRows, IsTable, table_entries, row_entry, IsKindIn};
 
 use crate::row::Row;
 use crate::table::Table;
@@ -39,7 +39,7 @@ impl Table {
     ) -> Option<&'a Row>
         requires table { IsTable self.now }
         requires rows { HasRows self.now rows.old }
-        ensures entry { entry_at (entries_of self.now) id ≡ option_map (λ r. entry_of self.now id r.now) result }
+        ensures entry { entry_at (table_entries self.now) id ≡ option_map (λ r. row_entry self.now id r.now) result }
         ensures sound { IfSome result (λ r. IsKindIn self.now id r.now.kind) }
         ensures rows { HasRows self.now rows.new }
     {
