@@ -1,12 +1,11 @@
 //! Where the two trees of a volume lie, and whether their files and shapes are right.
-ghost use Rattle.std.specs.Prelude.{◌≡◌, true, false, None, MatchOption, IfOk, OnOk, IfErr};
+ghost use Rattle.std.specs.Prelude.{◌≡◌, true, None, IfOk, OnOk, IfErr};
 ghost use Rattle.hfs_space.specs.Faults.{is_tree_file};
-ghost use Rattle.hfs_space.specs.TreeFiles.{tree_nodes, tree_blocks};
 ghost use Rattle.hfs_space.specs.TreeKeys.{IsExtentsTree};
 ghost use Rattle.hfs_check.specs.Parts.{mdb_in, extents_nodes, catalog_extents};
 ghost use Rattle.hfs_check.specs.Sound.{IsMdbSound};
 ghost use Rattle.hfs_check.specs.Answers.{Answers, IsFaultOf, extents_check_fault, catalog_check_fault, both_trees_fault};
-ghost use Rattle.hfs_check.specs.Trees.{LieIn, HasTrees, LieInExtentsOf, LieInCatalogOf, LieInExtents, LieInCatalog};
+ghost use Rattle.hfs_check.specs.Trees.{HasTrees, LieInExtentsOf, LieInCatalogOf, LieInExtents, LieInCatalog, FindsTreeFile};
 
 use crate::laws::no_extents_fault;
 use crate::mount_fault::MountFault;
@@ -26,8 +25,7 @@ fn file_runs<B: Blocks>(
     size: u32,
 ) -> Result<Option<Vec<Run>>, AllocError>
     requires { IsMdbSound (B.total blocks.now) mdb.now }
-    ensures { IfOk result (λ found. MatchOption found (is_tree_file mdb.now extents.now size ≡ false)
-        (λ runs. (is_tree_file mdb.now extents.now size ≡ true) × LieIn (B.total blocks.now) (B.blocks blocks.now) runs.items (tree_blocks mdb.now extents.now size) (tree_nodes (B.blocks blocks.now) mdb.now extents.now size))) }
+    ensures { IfOk result (FindsTreeFile (B.total blocks.now) (B.blocks blocks.now) mdb.now extents.now size) }
 {
     no_tree_file_fault();
     if is_tree_file(mdb, extents, size) {
