@@ -1,6 +1,6 @@
 //! Changed blocks.
 
-ghost use Rattle.std.specs.Prelude.{◌≡◌, ℕ, ◌<◌, ◌⊎◌, [], length, Some, OnOk, OnErr, IsSome, nat_eq, if◌then◌else◌};
+ghost use Rattle.std.specs.Prelude.{◌≡◌, ◌<◌, [], length, Some, OnOk, OnErr, IsSome, nat_eq};
 ghost use Rattle.std.specs.List.{IsDistinct};
 ghost use Rattle.std.specs.Option.{option_copied};
 ghost use Rattle.hfs_blocks.specs.Layers.{changes, numbers, with_change, AreWhole, AreWithin, HasJoined, ShowsSame, ShowsLaid, GainsOnly, IsLaid, KeepsWithin, HasEachOf, GainsNoneBut, HasChange, HasChangesOf};

@@ -1,10 +1,10 @@
 //! Places in a leaf.
 
-ghost use Rattle.std.specs.Prelude.{◌≡◌, ℕ, ◌<◌, ◌≤◌, true, List, [], IfSome, MatchOption, length, map, drop, slice_index_or};
+ghost use Rattle.std.specs.Prelude.{◌≡◌, ℕ, ◌<◌, ◌≤◌, true, List, [], IfSome, MatchOption, length, map, slice_index_or};
 ghost use Rattle.hfs_node.specs.Node.{node_of};
 ghost use Rattle.hfs_scans.specs.Each.{Each};
 ghost use Rattle.hfs_btree.specs.LeafPairs.{IsPlaceFrom};
-ghost use Rattle.hfs_btree.specs.Tree.{records_of, forward_of, pair_of, pairs_of};
+ghost use Rattle.hfs_btree.specs.Tree.{records_of, forward_of, pair_of};
 ghost use Rattle.hfs_btree.specs.Sound.{HasStructure};
 ghost use Rattle.hfs_btree.specs.Walk.{rest_at, IsAtLeaf, IsWalk, GoesOnSame};
 

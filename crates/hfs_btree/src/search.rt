@@ -1,13 +1,13 @@
 //! Looking up keys.
 
-ghost use Rattle.std.specs.Prelude.{◌≡◌, ℕ, ◌<◌, ◌≤◌, ◌-◌, true, List, [], Ok, IfOk, IfSome, length, map, option_map, slice_index_or};
+ghost use Rattle.std.specs.Prelude.{◌≡◌, ℕ, ◌<◌, ◌≤◌, true, List, [], Ok, IfOk, IfSome, length, map, option_map, slice_index_or};
 ghost use Rattle.std.specs.List.{prefix_len};
 ghost use Rattle.hfs_node.specs.Node.{node_of};
 ghost use Rattle.hfs_scans.specs.Each.{Each};
 ghost use Rattle.hfs_btree.specs.Tree.{records_of, pair_of};
 ghost use Rattle.hfs_btree.specs.Header.{header_in, record_in, depth_of, tree_content, IsBodyUnder, IsNextAfter};
 ghost use Rattle.hfs_btree.specs.LeafPairs.{leaf_body, leaf_after, leaf_first};
-ghost use Rattle.hfs_btree.specs.Search.{is_not_above, child_for, leaf_for};
+ghost use Rattle.hfs_btree.specs.Search.{is_not_above, branch_place, child_for, leaf_for};
 ghost use Rattle.hfs_btree.specs.Sound.{IsSound};
 
 use crate::entry::{body_of, child_of, is_above, key_of};
@@ -48,7 +48,7 @@ fn place_for<K: Key>(node: &NodeView<'_>, key: &K) -> usize
 /// The place of the index record whose child is where the search for a key goes on.
 pub fn place_in_index<K: Key>(bytes: &[u8; 512], key: &K) -> usize
     requires { Each (λ entry. K.is_index entry ≡ true) (records_of (node_of bytes.now)) }
-    ensures { result ≡ prefix_len (is_not_above K.Key key.now) (records_of (node_of bytes.now)) - 1 }
+    ensures { result ≡ branch_place K.Key key.now bytes.now }
 {
     match view(bytes) {
         Ok(node) => place_for(&node, key).saturating_sub(1),

@@ -109,3 +109,7 @@ fault_from g nodes met depth root = turn_fault g nodes (is_met met.items) (turn 
 -- the last of so many levels, from the root's on
 abbrev pub leaves_from : {K : Type 0} → Ghosts K → Store → ℕ → ℕ → List ℕ
 leaves_from g nodes depth root = last_level g nodes depth (root ∷ [])
+
+-- how many records the last of so many levels has, or the greatest number of 64 bits where there are more
+abbrev pub records_from : {K : Type 0} → Ghosts K → Store → ℕ → ℕ → ℕ
+records_from g nodes depth root = count_within nodes (leaves_from g nodes depth root)

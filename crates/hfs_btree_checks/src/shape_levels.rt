@@ -4,7 +4,7 @@ ghost use Rattle.std.specs.Prelude.{◌≡◌, ◌+◌, ◌<◌, None, OnOk, IfO
 ghost use Rattle.std.specs.Vec.{vec_len};
 ghost use Rattle.hfs_btree.specs.Tree.{first_of, last_of};
 ghost use Rattle.hfs_btree_checks.specs.KeySteps.{IsLevelBelow};
-ghost use Rattle.hfs_btree_checks.specs.ShapeSteps.{IsFault, IsLevelFault, PassesLevel, count_within, fault_from, leaves_from};
+ghost use Rattle.hfs_btree_checks.specs.ShapeSteps.{IsFault, IsLevelFault, PassesLevel, count_within, fault_from, leaves_from, records_from};
 
 use crate::fault::TreeFault;
 use crate::shape_map::MappedNodes;
@@ -99,7 +99,7 @@ pub(crate) fn check_levels<K: Key, N: Nodes>(
     ensures right { OnOk result (fault_from K.Key (N.nodes tree.now.nodes.now) met.old depth root ≡ None) }
     ensures first { IfOk result (λ found. found.first ≡ first_of (leaves_from K.Key (N.nodes tree.now.nodes.now) depth root)) }
     ensures last { IfOk result (λ found. found.last ≡ last_of (leaves_from K.Key (N.nodes tree.now.nodes.now) depth root)) }
-    ensures records { IfOk result (λ found. found.records ≡ count_within (N.nodes tree.now.nodes.now) (leaves_from K.Key (N.nodes tree.now.nodes.now) depth root)) }
+    ensures records { IfOk result (λ found. found.records ≡ records_from K.Key (N.nodes tree.now.nodes.now) depth root) }
 {
     if depth == 0 {
         return Ok(Leaves {

@@ -1,6 +1,6 @@
 //! The bit of a node in the node map.
 
-ghost use Rattle.std.specs.Prelude.{◌≡◌, ℕ, ◌*◌, ◌<◌, ◌≤◌, ◌⊎◌, [], true, false, IfNone, IfOk, IfSome, OnOk, MatchOption, length, slice_index_or};
+ghost use Rattle.std.specs.Prelude.{◌≡◌, ◌*◌, ◌<◌, ◌≤◌, [], false, IfNone, IfOk, IfSome, OnOk, MatchOption, length, slice_index_or};
 ghost use Rattle.hfs_node.specs.Node.{node_of};
 ghost use Rattle.hfs_btree.specs.Tree.{records_of};
 ghost use Rattle.hfs_btree.specs.Header.{header_in, record_in, bit_of, free_nodes};

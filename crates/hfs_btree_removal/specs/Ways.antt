@@ -1,12 +1,10 @@
 -- The way from the root of a tree down to a pair, as steps.
-use Rattle.std.specs.Prelude.{◌≡◌, ℕ, ◌+◌, ◌-◌, ◌<◌, ◌≤◌, List, [], ◌∷◌, ◌++◌, length, slice_index_or}
-use Rattle.std.specs.List.{prefix_len}
+use Rattle.std.specs.Prelude.{◌≡◌, ℕ, ◌+◌, ◌<◌, ◌≤◌, List, [], ◌∷◌, ◌++◌, length, slice_index_or}
 use Rattle.std.specs.declared.cmp.Ordering.TheVariants.{Equal}
 use Rattle.hfs_btree_removal.specs.declared.down.Step.{Step}
 use Rattle.hfs_btree.specs.declared.key.Key.{Ghosts}
 use Rattle.hfs_scans.specs.Each.{Each}
 use Rattle.hfs_btree.specs.Tree.{Store, records_in, records_of}
-use Rattle.hfs_btree.specs.Search.{is_not_above}
 use Rattle.hfs_node.specs.Node.{node_of}
 use Rattle.hfs_btree.specs.Header.{header_in, depth_of}
 
@@ -44,10 +42,6 @@ pub record IsLastWide (steps : List Step) (at : ℕ) : Type 0 where
 -- no node of these steps has more than one record
 abbrev pub AreNarrow : List Step → Type 0
 AreNarrow steps = Each (λ s. s.count ≤ 1) steps
-
--- in an index node with these bytes the place of the record that leads on to the key
-abbrev pub branch_place : {K : Type 0} → Ghosts K → K → List ℕ → ℕ
-branch_place g key bytes = prefix_len (is_not_above g key) (records_of (node_of bytes)) - 1
 
 -- the child that the record at a place names
 abbrev pub child_in : {K : Type 0} → Ghosts K → List ℕ → ℕ → ℕ

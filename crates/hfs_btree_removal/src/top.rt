@@ -1,11 +1,10 @@
 //! The root, where it gives way.
 
-ghost use Rattle.std.specs.Prelude.{◌≡◌, ◌+◌, ◌≤◌, [], OnOk, length};
+ghost use Rattle.std.specs.Prelude.{◌≡◌, ◌+◌, ◌≤◌, [], OnOk};
 ghost use Rattle.hfs_btree_removal.specs.Removal.{KeepsSound, GainsNothing, KeepsContent, FreesOne, root_count, RootBranches};
 ghost use Rattle.hfs_btree.specs.Header.{header_in, depth_of, tree_content};
 ghost use Rattle.hfs_btree_removal.specs.Removal.{HasLowered};
 ghost use Rattle.hfs_btree.specs.Sound.{IsSound};
-ghost use Rattle.hfs_btree.specs.Tree.{records_in};
 
 use crate::down::child_at;
 use hfs_btree::{Header, Key, count_in, read_header};

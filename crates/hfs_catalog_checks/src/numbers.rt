@@ -1,6 +1,6 @@
 //! Numbers that are found by an ID.
 
-ghost use Rattle.std.specs.Prelude.{◌≡◌, ℕ, ◌+◌, ◌<◌, ◌^◌, [], IfOk, OnOk, nat_eq, if◌then◌else◌};
+ghost use Rattle.std.specs.Prelude.{◌≡◌, ◌+◌, ◌<◌, ◌^◌, [], IfOk, OnOk};
 ghost use Rattle.std.specs.Option.{option_or};
 ghost use Rattle.hfs_catalog_checks.specs.Indexes.{number_of, count_of, with_number, only_if, NotesFirst, AddsCount};
 

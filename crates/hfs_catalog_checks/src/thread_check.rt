@@ -1,6 +1,6 @@
 //! The check of mounting on the threads of a catalog.
 
-ghost use Rattle.std.specs.Prelude.{◌≡◌, ℕ, ◌||◌, [], length, IfOk, OnOk};
+ghost use Rattle.std.specs.Prelude.{◌≡◌, ℕ, [], length, IfOk, OnOk};
 ghost use Rattle.hfs_fields.specs.Keys.{name_at};
 ghost use Rattle.hfs_fields.specs.Numbers.{number_at};
 ghost use Rattle.hfs_fields.specs.Records.{is_dir, is_thread, item_id};

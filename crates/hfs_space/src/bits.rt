@@ -1,6 +1,6 @@
 //! Bits of a block of the bitmap.
 
-ghost use Rattle.std.specs.Prelude.{◌≡◌, ℕ, ◌+◌, ◌-◌, ◌*◌, ◌<◌, ◌≤◌, ◌⊎◌, Bool, false, not, length, slice_index, slice_set};
+ghost use Rattle.std.specs.Prelude.{◌≡◌, ℕ, ◌+◌, ◌-◌, ◌*◌, ◌<◌, ◌≤◌, Bool, false, length, slice_index, slice_set};
 ghost use Rattle.hfs_space.specs.Bitmap as spec;
 
 /// Whether bit `i` is set. Bit 0 is the most significant bit of the first byte.

@@ -1,9 +1,9 @@
 //! Reading forks.
 
-ghost use Rattle.std.specs.Prelude.{◌≡◌, ◌+◌, ◌-◌, ◌*◌, ◌<◌, ◌≤◌, ◌++◌, length, OnOk, IfOk, take, drop};
+ghost use Rattle.std.specs.Prelude.{◌+◌, ◌-◌, ◌*◌, ◌<◌, ◌≤◌, length, OnOk, IfOk, take};
 ghost use Rattle.hfs_blocks.specs.Blocks.{run_of};
 ghost use Rattle.hfs_space.specs.Extents.{IsExtentWithin, AreExtentsWithin};
-ghost use Rattle.hfs_space.specs.Forks.{HasArea, blocks_each, run_bytes, extent_bytes, fork_bytes, read_from, run_part, Gains, AddsPart, IsRead};
+ghost use Rattle.hfs_space.specs.Forks.{HasArea, blocks_each, run_bytes, extent_bytes, fork_bytes, read_from, Gains, AddsPart, IsRead};
 ghost use Rattle.hfs_space.specs.Places.{IsPlace, HasRead, HasPassed};
 
 use crate::fork_place::ForkPlace;

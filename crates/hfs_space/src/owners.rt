@@ -1,5 +1,5 @@
 //! How many own each allocation block.
-ghost use Rattle.std.specs.Prelude.{◌≡◌, ◌==◌, map, count_by, IfOk};
+ghost use Rattle.std.specs.Prelude.{◌≡◌, ◌==◌, map, count_by};
 ghost use Rattle.std.specs.List.{range_with_len};
 ghost use Rattle.hfs_space.specs.Extents.{extent_blocks};
 ghost use Rattle.hfs_space.specs.Owners as spec;

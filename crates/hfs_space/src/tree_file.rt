@@ -4,7 +4,6 @@ ghost use Rattle.std.specs.Prelude.{◌≡◌, ◌+◌, ◌*◌, ◌<◌, ◌≤
 ghost use Rattle.hfs_blocks.specs.Blocks.{run_of, nodes_in, AreRunsWithin};
 ghost use Rattle.hfs_space.specs.Extents.{IsExtentWithin, AreExtentsWithin};
 ghost use Rattle.hfs_space.specs.Forks.{HasArea, run_in, blocks_each};
-ghost use Rattle.std.specs.List.{flat_map};
 ghost use Rattle.hfs_space.specs.TreeFiles.{HaveTreeBlocks, HoldTreeNodes};
 
 use hfs_blocks::{Blocks, Run};
