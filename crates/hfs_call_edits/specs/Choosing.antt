@@ -20,7 +20,7 @@ abbrev pub map_ok : {A B : Type 0} → (A → B) → Result A ℤ → Result B �
 map_ok f (Ok x) = Ok (f x)
 map_ok f (Err code) = Err code
 
--- as an item
+-- what was chosen, as an item
 abbrev pub as_item : Result Record ℤ → Result CatalogItem ℤ
 as_item chosen = map_ok catalog_item chosen
 

@@ -74,6 +74,6 @@ ChoosesRenaming old dir name new_name result = MatchResult result (λ item. IsRe
 abbrev pub nodes_for_name : List ℕ → List ℕ → ℕ → ℕ
 nodes_for_name name new_name depth = if same_name name new_name then 0 else one_record depth
 
--- to another name it comes with room for one more record
+-- to a name that differs in more than case it comes where these nodes have room for one more record
 abbrev pub HasRoomForName : List ℕ → List ℕ → Store → Type 0
 HasRoomForName name new_name nodes = same_name name new_name ≡ false → HasRoom nodes

@@ -85,13 +85,13 @@ RecordsAreEntriesIn old = AreEntries (contents_in old) (catalog_in old) (entries
 abbrev pub HasFolder : Blocks → ℕ → Type 0
 HasFolder old dir = is_folder (catalog_in old) dir ≡ true
 
--- the key and the record of the folder with that ID, where there is one
+-- the key and the record of the folder with that ID; None where there is no such folder
 abbrev pub FindsParent : Blocks → ℕ → Option (CatKey × DirRecord) → Type 0
 FindsParent old dir result = MatchOption result (is_folder (catalog_in old) dir ≡ false) (λ p. IsParent (catalog_in old) dir p.0 p.1.valence)
 
 -- ---- edits
 
--- of these blocks of the patch, and of the moment of the last change alone, with this answer
+-- the change with this patch and this answer, which of the counts changes the moment of the last change alone
 abbrev pub change_at : ℕ → Blocks → Numbered → Value → Change
 change_at now old patch answer = record { patch = patch; counts = at_time now (mdb_in old); value = answer }
 

@@ -65,8 +65,10 @@ report_in total blocks = report_by total blocks (blocks_fault total blocks)
 
 -- ---- the answers of those who report
 
+-- the report of a sound volume of so many blocks
 abbrev pub IsSoundReport : ℕ → Blocks → Report → Type 0
 IsSoundReport total blocks report = report ≡ sound_report total blocks
 
+-- the report on so many blocks
 abbrev pub IsReportOn : ℕ → Blocks → Report → Type 0
 IsReportOn total blocks report = report ≡ report_in total blocks

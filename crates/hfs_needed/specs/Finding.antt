@@ -18,9 +18,11 @@ FindsWhere right total places found = MatchOption found (right ≡ false) (λ ru
 abbrev pub FindsTreeFile : ℕ → Mdb → List Extent → ℕ → Option (Vec Run Global) → Type 0
 FindsTreeFile total mdb extents size found = FindsWhere (is_tree_file mdb extents size) total (tree_blocks mdb extents size) found
 
+-- those of the extents file
 abbrev pub FindsExtentsFile : ℕ → Blocks → Option (Vec Run Global) → Type 0
 FindsExtentsFile total blocks found = FindsWhere (has_extents_file blocks) total (extents_blocks blocks) found
 
+-- those of the catalog file
 abbrev pub FindsCatalogFile : ℕ → Blocks → Option (Vec Run Global) → Type 0
 FindsCatalogFile total blocks found = FindsWhere (has_catalog_file blocks) total (catalog_blocks blocks) found
 
