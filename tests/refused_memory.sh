@@ -1,12 +1,11 @@
 #!/usr/bin/env bash
-# Refuses each allocation of hfs_refused_memory in turn, by a library of a few lines of C that stands before malloc: each line that the
-# program then prints must read 'as said'. Where the refusal meets the laying of an image, the program ends there with status 1. Prints how
-# many allocations were refused, or which one was met otherwise and ends with status 1. Prints 'skipped' where there is no C
-# compiler.
+# Refuses each allocation of hfs_refused_memory and hfs_refused_sharing in turn, by a library of a few lines of C that stands before malloc: for
+# each line of a program's stdin by itself, counting upwards until a run meets no refusal. What the program then prints must be the line
+# of its stdout. Where the refusal meets what is laid before, the program ends there with status 1, out of memory. Prints how many
+# allocations were refused, or which one was met otherwise and ends with status 1. Prints 'skipped' where there is no C compiler.
 set -euo pipefail
 command -v cc > /dev/null || { echo skipped; exit 0; }
-cd "$(dirname "$0")/../crates/hfs_refused_memory"
-[ -x out/hfs_refused_memory ] || rt run > /dev/null
+cd "$(dirname "$0")/../crates"
 
 folder=$(mktemp -d)
 trap 'rm -rf "$folder"' EXIT
@@ -20,12 +19,12 @@ extern void *__libc_calloc(size_t, size_t);
 extern void *__libc_realloc(void *, size_t);
 extern void *__libc_memalign(size_t, size_t);
 
-static long left = -1;
+static long wanted, calls;
 
 /* Whether this is the call that is refused; it is told on descriptor 3. */
 static int refuses(void) {
-    if (left < 0) left = atol(getenv("REFUSE"));
-    if (left == 0 || --left > 0) return 0;
+    if (wanted == 0) wanted = atol(getenv("REFUSE"));
+    if (__atomic_add_fetch(&calls, 1, __ATOMIC_SEQ_CST) != wanted) return 0;
     return write(3, "refused", 7) == 7;
 }
 
@@ -42,20 +41,31 @@ int posix_memalign(void **p, size_t a, size_t n) {
 C
 cc -shared -fPIC -O1 -o "$folder/refuse.so" "$folder/refuse.c"
 
-n=0 whole=0
-while true; do
-    n=$((n + 1))
-    got=0
-    : > "$folder/refused"
-    REFUSE=$n LD_PRELOAD=$folder/refuse.so out/hfs_refused_memory > "$folder/printed" 2> "$folder/errors" 3> "$folder/refused" || got=$?
-    if grep -q -v ': as said$' "$folder/printed" || [ "$got" -gt 1 ]; then
-        echo "allocation $n: status $got, $(grep -v ': as said$' "$folder/printed")"
-        exit 1
-    fi
-    if [ "$got" = 0 ]; then
-        cmp -s stdout "$folder/printed" || { echo "allocation $n: other lines"; exit 1; }
+# Refuses each allocation of program $1 where its input is line $2, and its output line $3.
+refuse_each() {
+    local n=0 got
+    while true; do
+        n=$((n + 1)) got=0
+        : > "$folder/refused"
+        printf '%s\n' "$2" | REFUSE=$n LD_PRELOAD=$folder/refuse.so "$1/out/$1" > "$folder/printed" 2> "$folder/errors" 3> "$folder/refused" || got=$?
+        if [ "$got" = 1 ] && [ ! -s "$folder/printed" ] && grep -q 'out of memory' "$folder/errors"; then continue; fi
+        if [ "$got" != 0 ] || [ "$(cat "$folder/printed")" != "$3" ]; then
+            echo "$3, allocation $n: status $got, $(cat "$folder/printed" "$folder/errors")"
+            exit 1
+        fi
+        if grep -q ': lagged$' "$folder/errors"; then lagged=$((lagged + 1)); fi
         [ -s "$folder/refused" ] || break
         whole=$((whole + 1))
-    fi
+    done
+    refused=$((refused + n - 1))
+}
+
+refused=0 whole=0 lagged=0
+for program in hfs_refused_memory hfs_refused_sharing; do
+    [ -x "$program/out/$program" ] || (cd "$program" && rt run > /dev/null)
+    while IFS= read -r line && IFS= read -r told <&4; do
+        refuse_each "$program" "$line" "$told"
+    done < "$program/stdin" 4< "$program/stdout"
 done
-echo "$((n - 1)) allocations refused in turn: $whole met what is tried, which was as said; the others the laying of images"
+[ "$lagged" -gt 0 ] || { echo "no publish lagged"; exit 1; }
+echo "$refused allocations refused in turn: $whole met what is tried, which was as said, and $lagged let a publish lag; the others what is laid before"
