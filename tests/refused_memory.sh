@@ -3,9 +3,13 @@
 # each line of a program's stdin by itself, counting upwards until a run meets no refusal. What the program then prints must be the line
 # of its stdout. Where the refusal meets what is laid before, the program ends there with status 1, out of memory. Prints how many
 # allocations were refused, or which one was met otherwise and ends with status 1. Prints 'skipped' where there is no C compiler.
+#
+# tests/refused_memory.sh [PROGRAM..], both if none is named
 set -euo pipefail
 command -v cc > /dev/null || { echo skipped; exit 0; }
 cd "$(dirname "$0")/../crates"
+programs=("$@")
+[ ${#programs[@]} -gt 0 ] || programs=(hfs_refused_memory hfs_refused_sharing)
 
 folder=$(mktemp -d)
 trap 'rm -rf "$folder"' EXIT
@@ -41,19 +45,26 @@ int posix_memalign(void **p, size_t a, size_t n) {
 C
 cc -shared -fPIC -O1 -o "$folder/refuse.so" "$folder/refuse.c"
 
+# Whether the program ended as it does where what is laid before was refused memory: by `bail!`, or by the error of std.
+is_laying_refused() {
+    [ "$1" = 1 ] && [ -z "$2" ] && { [ "$3" = 'Error: out of memory' ] || [ "$3" = 'Error: memory allocation failed' ]; }
+}
+
 # Refuses each allocation of program $1 where its input is line $2, and its output line $3.
 refuse_each() {
-    local n=0 got
+    local n=0 got printed errors
+    printf '%s\n' "$2" > "$folder/line"
     while true; do
         n=$((n + 1)) got=0
         : > "$folder/refused"
-        printf '%s\n' "$2" | REFUSE=$n LD_PRELOAD=$folder/refuse.so "$1/out/$1" > "$folder/printed" 2> "$folder/errors" 3> "$folder/refused" || got=$?
-        if [ "$got" = 1 ] && [ ! -s "$folder/printed" ] && grep -q 'out of memory' "$folder/errors"; then continue; fi
-        if [ "$got" != 0 ] || [ "$(cat "$folder/printed")" != "$3" ]; then
-            echo "$3, allocation $n: status $got, $(cat "$folder/printed" "$folder/errors")"
+        REFUSE=$n LD_PRELOAD=$folder/refuse.so "$1/out/$1" < "$folder/line" > "$folder/printed" 2> "$folder/errors" 3> "$folder/refused" || got=$?
+        printed=$(< "$folder/printed") errors=$(< "$folder/errors")
+        if is_laying_refused "$got" "$printed" "$errors"; then continue; fi
+        if [ "$got" != 0 ] || [ "$printed" != "$3" ]; then
+            echo "$3, allocation $n: status $got, $printed$errors"
             exit 1
         fi
-        if grep -q ': lagged$' "$folder/errors"; then lagged=$((lagged + 1)); fi
+        if [[ $errors == *': lagged' ]]; then lagged=$((lagged + 1)); fi
         [ -s "$folder/refused" ] || break
         whole=$((whole + 1))
     done
@@ -61,11 +72,14 @@ refuse_each() {
 }
 
 refused=0 whole=0 lagged=0
-for program in hfs_refused_memory hfs_refused_sharing; do
+for program in "${programs[@]}"; do
     [ -x "$program/out/$program" ] || (cd "$program" && rt run > /dev/null)
     while IFS= read -r line && IFS= read -r told <&4; do
         refuse_each "$program" "$line" "$told"
     done < "$program/stdin" 4< "$program/stdout"
 done
-[ "$lagged" -gt 0 ] || { echo "no publish lagged"; exit 1; }
+if [[ " ${programs[*]} " == *' hfs_refused_sharing '* ]] && [ "$lagged" = 0 ]; then
+    echo "no publish lagged"
+    exit 1
+fi
 echo "$refused allocations refused in turn: $whole met what is tried, which was as said, and $lagged let a publish lag; the others what is laid before"
