@@ -15,6 +15,7 @@ folder=$(mktemp -d)
 trap 'rm -rf "$folder"' EXIT
 
 cat > "$folder/refuse.c" <<'C'
+#include <errno.h>
 #include <stdlib.h>
 #include <unistd.h>
 
@@ -29,7 +30,9 @@ static long wanted, calls;
 static int refuses(void) {
     if (wanted == 0) wanted = atol(getenv("REFUSE"));
     if (__atomic_add_fetch(&calls, 1, __ATOMIC_SEQ_CST) != wanted) return 0;
-    return write(3, "refused", 7) == 7;
+    if (write(3, "refused", 7) != 7) return 0;
+    errno = ENOMEM;
+    return 1;
 }
 
 void *malloc(size_t n) { return refuses() ? NULL : __libc_malloc(n); }
