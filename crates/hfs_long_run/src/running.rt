@@ -20,7 +20,7 @@ fn new_volume(alloc: Global) -> Result<Volume> {
         name: Vec::from_slice(alloc, b"D")?,
         blocks: 4096,
         extents_nodes: 2,
-        catalog_nodes: 3000,
+        catalog_nodes: 2048,
         now: 0,
     };
     let Ok(image) = format(alloc, plan) else {
