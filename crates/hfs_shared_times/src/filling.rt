@@ -27,13 +27,13 @@ pub fn name(alloc: Global, number: u32) -> Result<Bytes, AllocError> {
     Bytes::from_slice(alloc, text.as_bytes())
 }
 
-/// A new volume `D` with nodes for 6,000 items.
+/// A new volume `D` with as many catalog nodes as there may be.
 fn new_volume(alloc: Global) -> Result<Volume> {
     let plan = FormatPlan {
         name: Vec::from_slice(alloc, b"D")?,
         blocks: 4096,
         extents_nodes: 2,
-        catalog_nodes: 3000,
+        catalog_nodes: 2048,
         now: 0,
     };
     let Ok(image) = format(alloc, plan) else {

@@ -1,5 +1,5 @@
 //! How long calls through the lock take for 1, 2, 4 and 8 workers, what a publish costs beside the call itself, and how long viewers
-//! take for their lists, 1 to 8 side by side, with and without a worker that writes: on a volume of 6,000 files, where the word `time`
+//! take for their lists, 1 to 8 side by side, with and without a worker that writes: on a volume of 3,000 files, where the word `time`
 //! is given. Else the same is done on a small volume, and it is printed how many were answered.
 #![tactic(auto)]
 
@@ -23,7 +23,7 @@ use std::thread::Threads;
 /// What is measured.
 const LARGE: Size = Size {
     folders: 20,
-    files: 300,
+    files: 150,
     calls: 8_000,
     lists: 1_000,
 };
