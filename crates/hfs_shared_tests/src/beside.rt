@@ -80,12 +80,19 @@ fn count_lost(alloc: Global, viewer: &mut Viewer) -> u32 {
     lost
 }
 
-/// What a viewer sees: whether it lists nothing while worker 1 is held, and how many lists are lost from then on.
-fn watch(alloc: Global, gate: &Within, viewer: &mut Viewer) -> (bool, u32) {
-    let held = waits_for(gate.clock, &gate.held, 1);
-    let empty = list_root(alloc, viewer) == Listed::Nothing;
-    gate.answered.fetch_add(1, Ordering::SeqCst);
-    (held && empty, count_lost(alloc, viewer))
+/// A gate beside which a viewer watches.
+trait Watched {
+    fn watch(&self, alloc: Global, viewer: &mut Viewer) -> (bool, u32);
+}
+
+impl Watched for Within<'_> {
+    /// What a viewer sees: whether it lists nothing while worker 1 is held, and how many lists are lost from then on.
+    fn watch(&self, alloc: Global, viewer: &mut Viewer) -> (bool, u32) {
+        let held = waits_for(self.clock, &self.held, 1);
+        let empty = list_root(alloc, viewer) == Listed::Nothing;
+        self.answered.fetch_add(1, Ordering::SeqCst);
+        (held && empty, count_lost(alloc, viewer))
+    }
 }
 
 /// Worker 2 lists the root, and worker 1, whose job is the last, makes the file `a`.
@@ -155,11 +162,11 @@ fn answer<K: Session + Send + Sync, R: Threads + Wait + Sync, G: Gate + Sync>(
 }
 
 /// The answer to worker 1, and what a viewer sees beside it.
-fn answer_beside<K: Session + Send + Sync, R: Threads + Wait + Sync>(
+fn answer_beside<K: Session + Send + Sync, R: Threads + Wait + Sync, G: Gate + Watched + Sync>(
     shared: &Shared<K>,
     rt: &R,
     alloc: Global,
-    gate: &Within,
+    gate: &G,
     jobs: Vec<(Pass, Vec<Call>)>,
     mut viewer: Viewer,
 ) -> (Option<(Reply, Told)>, (bool, u32))
@@ -168,10 +175,10 @@ fn answer_beside<K: Session + Send + Sync, R: Threads + Wait + Sync>(
     thread::join(
         rt,
         move || -> Option<(Reply, Told)>
-            requires { IsSync R.row × IsSync K.row }
+            requires { IsSync R.row × IsSync K.row × IsSync G.row }
             ensures { IfSome result (λ r. r.1.book ≡ K.book) }
         { answer(shared, rt, alloc, gate, jobs) },
-        move || watch(alloc, gate, &mut viewer),
+        move || gate.watch(alloc, &mut viewer),
     )
 }
 
