@@ -87,18 +87,20 @@ fn watchers_of<K: Session>(alloc: Global, viewers: Vec<Viewer>) -> Result<Vec<Wa
     let mut viewers = viewers;
     let mut watchers = Vec::new(alloc);
     for _at in 0..VIEWERS {
-        watchers.push(last::<K>(&mut viewers)?)?;
+        let viewer = last::<K>(&mut viewers)?;
+        watchers.push(Watcher::new(viewer))?;
     }
     Ok(watchers)
 }
 
 /// The last of the viewers.
-fn last<K: Session>(viewers: &mut Vec<Viewer>) -> Result<Watcher<K>>
+fn last<K: Session>(viewers: &mut Vec<Viewer>) -> Result<Viewer>
     requires { All (λ k. k.book ≡ K.book) viewers.old.items }
-    ensures { All (λ k. k.book ≡ K.book) viewers.new.items }
+    ensures viewer { IfOk result (λ v. v.book ≡ K.book) }
+    ensures others { All (λ k. k.book ≡ K.book) viewers.new.items }
 {
     match viewers.pop() {
-        Some(viewer) => Ok(Watcher::new(viewer)),
+        Some(viewer) => Ok(viewer),
         None => bail!("no viewer"),
     }
 }
@@ -114,8 +116,8 @@ fn run_both<K: Session + Send + Sync, R: Threads + Wait + Sync>(
 ) {
     thread::join(
         rt,
-        || watch_all(rt, alloc, board, watchers),
         || work_all(rt, alloc, shared, board, workers),
+        || watch_all(rt, alloc, board, watchers),
     );
 }
 
