@@ -1,17 +1,19 @@
 #!/usr/bin/env bash
-# Refuses each allocation of hfs_refused_memory in turn, by a library of a few lines of C that stands before malloc: each line that the
-# program then prints must read 'as said'. Where the refusal meets the laying of an image, the program ends there with status 1. Prints how
-# many allocations were refused, or which one was met otherwise and ends with status 1. Prints 'skipped' where there is no C
-# compiler.
+# Refuses each allocation of hfs_refused_memory in turn, by a library of a few lines of C that stands before malloc: for
+# each line of the program's stdin by itself, counting upwards until a run meets no refusal. What the program then prints must be the line
+# of its stdout. Where the refusal meets what is laid before, the program ends there with status 1, out of memory. Prints how many
+# allocations were refused, or which one was met otherwise and ends with status 1. Prints 'skipped' where there is no C compiler.
 set -euo pipefail
 command -v cc > /dev/null || { echo skipped; exit 0; }
-cd "$(dirname "$0")/../crates/hfs_refused_memory"
-[ -x out/hfs_refused_memory ] || rt run > /dev/null
+program=hfs_refused_memory
+cd "$(dirname "$0")/../crates/$program"
+[ -x "out/$program" ] || rt run > /dev/null
 
 folder=$(mktemp -d)
 trap 'rm -rf "$folder"' EXIT
 
 cat > "$folder/refuse.c" <<'C'
+#include <errno.h>
 #include <stdlib.h>
 #include <unistd.h>
 
@@ -20,13 +22,15 @@ extern void *__libc_calloc(size_t, size_t);
 extern void *__libc_realloc(void *, size_t);
 extern void *__libc_memalign(size_t, size_t);
 
-static long left = -1;
+static long wanted, calls;
 
 /* Whether this is the call that is refused; it is told on descriptor 3. */
 static int refuses(void) {
-    if (left < 0) left = atol(getenv("REFUSE"));
-    if (left == 0 || --left > 0) return 0;
-    return write(3, "refused", 7) == 7;
+    if (wanted == 0) wanted = atol(getenv("REFUSE"));
+    if (__atomic_add_fetch(&calls, 1, __ATOMIC_SEQ_CST) != wanted) return 0;
+    if (write(3, "refused", 7) != 7) return 0;
+    errno = ENOMEM;
+    return 1;
 }
 
 void *malloc(size_t n) { return refuses() ? NULL : __libc_malloc(n); }
@@ -42,20 +46,33 @@ int posix_memalign(void **p, size_t a, size_t n) {
 C
 cc -shared -fPIC -O1 -o "$folder/refuse.so" "$folder/refuse.c"
 
-n=0 whole=0
-while true; do
-    n=$((n + 1))
-    got=0
-    : > "$folder/refused"
-    REFUSE=$n LD_PRELOAD=$folder/refuse.so out/hfs_refused_memory > "$folder/printed" 2> "$folder/errors" 3> "$folder/refused" || got=$?
-    if grep -q -v ': as said$' "$folder/printed" || [ "$got" -gt 1 ]; then
-        echo "allocation $n: status $got, $(grep -v ': as said$' "$folder/printed")"
-        exit 1
-    fi
-    if [ "$got" = 0 ]; then
-        cmp -s stdout "$folder/printed" || { echo "allocation $n: other lines"; exit 1; }
+# Whether the program ended as it does where what is laid before was refused memory: by `bail!`, or by the error of std.
+is_laying_refused() {
+    [ "$1" = 1 ] && [ -z "$2" ] && { [ "$3" = 'Error: out of memory' ] || [ "$3" = 'Error: memory allocation failed' ]; }
+}
+
+# Refuses each allocation where the input is line $1, and the output line $2.
+refuse_each() {
+    local n=0 got printed errors
+    printf '%s\n' "$1" > "$folder/line"
+    while true; do
+        n=$((n + 1)) got=0
+        : > "$folder/refused"
+        REFUSE=$n LD_PRELOAD=$folder/refuse.so out/$program < "$folder/line" > "$folder/printed" 2> "$folder/errors" 3> "$folder/refused" || got=$?
+        printed=$(< "$folder/printed") errors=$(< "$folder/errors")
+        if is_laying_refused "$got" "$printed" "$errors"; then continue; fi
+        if [ "$got" != 0 ] || [ "$printed" != "$2" ]; then
+            echo "$2, allocation $n: status $got, $printed$errors"
+            exit 1
+        fi
         [ -s "$folder/refused" ] || break
         whole=$((whole + 1))
-    fi
-done
-echo "$((n - 1)) allocations refused in turn: $whole met what is tried, which was as said; the others the laying of images"
+    done
+    refused=$((refused + n - 1))
+}
+
+refused=0 whole=0
+while IFS= read -r line && IFS= read -r told <&4; do
+    refuse_each "$line" "$told"
+done < stdin 4< stdout
+echo "$refused allocations refused in turn: $whole met what is tried, which was as said; the others what is laid before"

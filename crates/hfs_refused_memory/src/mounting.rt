@@ -1,7 +1,7 @@
 //! Mounting and repairs, where memory is refused once.
 
-use crate::images::{Edit, has_bytes, image_with, put};
 use anyhow::Result;
+use hfs_refused_fixtures::{Edit, has_bytes, image_with, put};
 use hfs_volume::{Fix, FixPlace, MountFault, Refused, mount, mount_repaired};
 use std::alloc::Global;
 
