@@ -1,6 +1,7 @@
 -- Blocks that are laid over other blocks.
 use Rattle.std.specs.Prelude.{◌≡◌, ℕ, ◌<◌, ◌⊎◌, Bool, true, false, List, [], length, Option, Some, None, IsSome, nat_eq, if◌then◌else◌, unwrap_or, refl}
 use Rattle.std.specs.Map.{lookup, keys_of}
+use Rattle.std.specs.Option.{option_or}
 use Rattle.std.proofs.Common.{sym, ap, ◌∙◌, subst, cond, eqb-true}
 
 -- blocks by number, where there are some
@@ -97,3 +98,19 @@ IsLaid below old other new = ShowsLaid below (changes old) (changes other) (chan
 -- where the old blocks are whole and among so many, the new ones are
 abbrev pub KeepsWithin : Numbered → Numbered → ℕ → Type 0
 KeepsWithin old new count = AreWithin (changes old) count → AreWithin (changes new) count
+
+-- new has a block of each number of which old has one
+abbrev pub HasEachOf : Changes → Changes → Type 0
+HasEachOf old new = (k : ℕ) → IsSome (old k) → IsSome (new k)
+
+-- no block came but that of number n
+abbrev pub GainsNoneBut : ℕ → Changes → Changes → Type 0
+GainsNoneBut n old new = (k : ℕ) → IsSome (new k) → IsSome (old k) ⊎ (n ≡ k)
+
+-- b is the block of number n, and the others are the same
+abbrev pub HasChange : ℕ → List ℕ → Changes → Changes → Type 0
+HasChange n b old new = (k : ℕ) → new k ≡ (if nat_eq n k then Some b else old k)
+
+-- the blocks of another, and the old ones where it has none
+abbrev pub HasChangesOf : Changes → Changes → Changes → Type 0
+HasChangesOf other old new = (k : ℕ) → new k ≡ option_or (other k) (old k)

@@ -1,9 +1,9 @@
 //! Changed blocks.
 
-ghost use Rattle.std.specs.Prelude.{◌≡◌, ℕ, ◌<◌, ◌⊎◌, [], length, Some, OnOk, OnErr, IsSome, nat_eq, if◌then◌else◌};
+ghost use Rattle.std.specs.Prelude.{◌≡◌, ◌<◌, [], length, Some, OnOk, OnErr, IsSome, nat_eq};
 ghost use Rattle.std.specs.List.{IsDistinct};
-ghost use Rattle.std.specs.Option.{option_copied, option_or};
-ghost use Rattle.hfs_blocks.specs.Layers.{changes, numbers, with_change, AreWhole, AreWithin, HasJoined, ShowsSame, ShowsLaid, GainsOnly, IsLaid};
+ghost use Rattle.std.specs.Option.{option_copied};
+ghost use Rattle.hfs_blocks.specs.Layers.{changes, numbers, with_change, AreWhole, AreWithin, HasJoined, ShowsSame, ShowsLaid, GainsOnly, IsLaid, KeepsWithin, HasEachOf, GainsNoneBut, HasChange, HasChangesOf};
 
 use crate::blocks::Blocks;
 use crate::patched::Patched;
@@ -79,10 +79,10 @@ impl Patch {
     fn enter<B: Blocks>(&mut self, below: &B, n: u32) -> Result<(), AllocError>
         requires { n < B.total below.now }
         ensures same { ShowsSame (B.blocks below.now) (changes self.old) (changes self.new) }
-        ensures kept { (k : ℕ) → IsSome (changes self.old k) → IsSome (changes self.new k) }
+        ensures kept { HasEachOf (changes self.old) (changes self.new) }
         ensures entered { OnOk result (IsSome (changes self.new n)) }
-        ensures no_other { (k : ℕ) → IsSome (changes self.new k) → IsSome (changes self.old k) ⊎ (n ≡ k) }
-        ensures within { AreWithin (changes self.old) (B.total below.now) → AreWithin (changes self.new) (B.total below.now) }
+        ensures no_other { GainsNoneBut n (changes self.old) (changes self.new) }
+        ensures within { KeepsWithin self.old self.new (B.total below.now) }
     {
         if self.get(n).is_some() {
             return Ok(());
@@ -97,10 +97,10 @@ impl Patch {
     fn enter_all<B: Blocks>(&mut self, below: &B, blocks: &BlockMap) -> Result<(), AllocError>
         requires { AreWithin (changes blocks.now.entries) (B.total below.now) }
         ensures same { ShowsSame (B.blocks below.now) (changes self.old) (changes self.new) }
-        ensures kept { (k : ℕ) → IsSome (changes self.old k) → IsSome (changes self.new k) }
-        ensures entered { OnOk result ((k : ℕ) → IsSome (changes blocks.now.entries k) → IsSome (changes self.new k)) }
+        ensures kept { HasEachOf (changes self.old) (changes self.new) }
+        ensures entered { OnOk result (HasEachOf (changes blocks.now.entries) (changes self.new)) }
         ensures no_other { GainsOnly (changes self.old) (changes blocks.now.entries) (changes self.new) }
-        ensures within { AreWithin (changes self.old) (B.total below.now) → AreWithin (changes self.new) (B.total below.now) }
+        ensures within { KeepsWithin self.old self.new (B.total below.now) }
     {
         for i in 0..blocks.len() {
             let Some((n, _)) = blocks.get_index(i) else {
@@ -114,7 +114,7 @@ impl Patch {
     /// Writes over a block that the patch has. Takes no memory.
     fn overwrite(&mut self, n: u32, block: &[u8; 512])
         requires { IsSome (changes self.old n) }
-        ensures { (k : ℕ) → changes self.new k ≡ (if nat_eq n k then Some block.now else changes self.old k) }
+        ensures { HasChange n block.now (changes self.old) (changes self.new) }
     {
         let Some(slot) = self.blocks.get_mut(&n) else {
             unreachable!();
@@ -124,8 +124,8 @@ impl Patch {
 
     /// Writes each of the blocks over the patch's block of its number. Takes no memory.
     fn overwrite_all(&mut self, blocks: &BlockMap)
-        requires { (k : ℕ) → IsSome (changes blocks.now.entries k) → IsSome (changes self.old k) }
-        ensures { (k : ℕ) → changes self.new k ≡ option_or (changes blocks.now.entries k) (changes self.old k) }
+        requires { HasEachOf (changes blocks.now.entries) (changes self.old) }
+        ensures { HasChangesOf (changes blocks.now.entries) (changes self.old) (changes self.new) }
     {
         for i in 0..blocks.len() {
             let Some((n, block)) = blocks.get_index(i) else {
@@ -143,7 +143,7 @@ impl Patch {
         ensures laid { OnOk result (IsLaid (B.blocks below.now) self.old patch.now self.new) }
         ensures kept { OnErr result (ShowsSame (B.blocks below.now) (changes self.old) (changes self.new)) }
         ensures joined { OnOk result (HasJoined (changes self.old) (changes patch.now) (changes self.new)) }
-        ensures within { AreWithin (changes self.old) (B.total below.now) → AreWithin (changes self.new) (B.total below.now) }
+        ensures within { KeepsWithin self.old self.new (B.total below.now) }
     {
         self.enter_all(below, &patch.blocks)?;
         self.overwrite_all(&patch.blocks);

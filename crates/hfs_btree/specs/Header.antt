@@ -1,6 +1,8 @@
 -- The header node of a tree, its map of nodes, and the tree that they head.
-use Rattle.std.specs.Prelude.{ℕ, zero, suc, ◌-◌, ◌/◌, ◌%◌, ◌^◌, Bool, false, not, ◌==◌, List, [], ◌∷◌, ◌++◌, map, slice_index, slice_index_or, if◌then◌else◌, Option}
+use Rattle.std.specs.Prelude.{◌≡◌, ℕ, zero, suc, ◌-◌, ◌/◌, ◌%◌, ◌^◌, Bool, false, not, ◌==◌, List, [], ◌∷◌, ◌++◌, map, slice_index, slice_index_or, if◌then◌else◌, Option}
 use Rattle.std.specs.List.{flat_map, range_with_len, count_by}
+use Rattle.std.specs.Option.{option_map}
+use Rattle.std.proofs.Common.{Vec, Global}
 use Rattle.hfs_fields.specs.Numbers.{number_at}
 use Rattle.hfs_btree.specs.declared.header.Header.{Header}
 use Rattle.hfs_btree.specs.declared.key.Key.{Ghosts}
@@ -92,3 +94,11 @@ body_at g nodes key = lookup g.compare key (tree_content g nodes)
 -- the first pair of the tree whose key is above this one
 abbrev pub next_in : {K : Type 0} → Ghosts K → Store → K → Option (K × List ℕ)
 next_in g nodes key = after g.compare key (tree_content g nodes)
+
+-- what was found is the body under the key in the tree
+abbrev pub IsBodyUnder : {K : Type 0} → Ghosts K → Store → K → Option (Vec ℕ Global) → Type 0
+IsBodyUnder g nodes key = λ found. option_map (λ v. v.items) found ≡ body_at g nodes key
+
+-- what was found is the first pair of the tree whose key is above this one
+abbrev pub IsNextAfter : {K : Type 0} → Ghosts K → Store → K → Option (K × Vec ℕ Global) → Type 0
+IsNextAfter g nodes key = λ found. option_map (λ p. (p.0, p.1.items)) found ≡ next_in g nodes key

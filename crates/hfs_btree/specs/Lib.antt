@@ -12,3 +12,4 @@ pub mod Levels
 pub mod Descent
 pub mod Parts
 pub mod Found
+pub mod LeafPairs

@@ -1,10 +1,10 @@
 //! Places in a leaf.
 
-ghost use Rattle.std.specs.Prelude.{◌≡◌, ℕ, ◌<◌, ◌≤◌, true, List, [], IfSome, MatchOption, length, map, drop, slice_index_or};
+ghost use Rattle.std.specs.Prelude.{◌≡◌, ℕ, ◌<◌, ◌≤◌, true, List, [], IfSome, MatchOption, length, map, slice_index_or};
 ghost use Rattle.hfs_node.specs.Node.{node_of};
 ghost use Rattle.hfs_scans.specs.Each.{Each};
-ghost use Rattle.hfs_btree.specs.Pairs.{pairs_from};
-ghost use Rattle.hfs_btree.specs.Tree.{records_of, forward_of, pair_of, pairs_of};
+ghost use Rattle.hfs_btree.specs.LeafPairs.{IsPlaceFrom};
+ghost use Rattle.hfs_btree.specs.Tree.{records_of, forward_of, pair_of};
 ghost use Rattle.hfs_btree.specs.Sound.{HasStructure};
 ghost use Rattle.hfs_btree.specs.Walk.{rest_at, IsAtLeaf, IsWalk, GoesOnSame};
 
@@ -59,7 +59,7 @@ pub fn entry_in(bytes: &[u8; 512], place: usize) -> Option<&[u8]>
 pub fn place_in<K: Key>(bytes: &[u8; 512], key: &K) -> usize
     requires { Each (λ entry. K.is_leaf entry ≡ true) (records_of (node_of bytes.now)) }
     ensures within { result ≤ length (records_of (node_of bytes.now)) }
-    ensures from { drop result (pairs_of K.Key bytes.now) ≡ pairs_from K.compare key.now (pairs_of K.Key bytes.now) }
+    ensures from { IsPlaceFrom K.Key bytes.now key.now result }
 {
     let Ok(node) = view(bytes) else {
         return 0;

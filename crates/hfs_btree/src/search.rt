@@ -1,14 +1,13 @@
 //! Looking up keys.
 
-ghost use Rattle.std.specs.Prelude.{◌≡◌, ℕ, ◌<◌, ◌≤◌, ◌-◌, true, List, [], Ok, IfOk, IfSome, length, map, option_map, slice_index_or};
+ghost use Rattle.std.specs.Prelude.{◌≡◌, ℕ, ◌<◌, ◌≤◌, true, List, [], Ok, IfOk, IfSome, length, map, option_map, slice_index_or};
 ghost use Rattle.std.specs.List.{prefix_len};
 ghost use Rattle.hfs_node.specs.Node.{node_of};
 ghost use Rattle.hfs_scans.specs.Each.{Each};
-ghost use Rattle.hfs_btree.specs.Pairs.{lookup, after};
-ghost use Rattle.hfs_btree.specs.Tree.{records_of, pair_of, pairs_of};
-ghost use Rattle.hfs_btree.specs.Header.{header_in, record_in, depth_of, tree_content, body_at, next_in};
-ghost use Rattle.hfs_btree.specs.Lookups.{first_pair};
-ghost use Rattle.hfs_btree.specs.Search.{is_not_above, child_for, leaf_for};
+ghost use Rattle.hfs_btree.specs.Tree.{records_of, pair_of};
+ghost use Rattle.hfs_btree.specs.Header.{header_in, record_in, depth_of, tree_content, IsBodyUnder, IsNextAfter};
+ghost use Rattle.hfs_btree.specs.LeafPairs.{leaf_body, leaf_after, leaf_first};
+ghost use Rattle.hfs_btree.specs.Search.{is_not_above, branch_place, child_for, leaf_for};
 ghost use Rattle.hfs_btree.specs.Sound.{IsSound};
 
 use crate::entry::{body_of, child_of, is_above, key_of};
@@ -49,7 +48,7 @@ fn place_for<K: Key>(node: &NodeView<'_>, key: &K) -> usize
 /// The place of the index record whose child is where the search for a key goes on.
 pub fn place_in_index<K: Key>(bytes: &[u8; 512], key: &K) -> usize
     requires { Each (λ entry. K.is_index entry ≡ true) (records_of (node_of bytes.now)) }
-    ensures { result ≡ prefix_len (is_not_above K.Key key.now) (records_of (node_of bytes.now)) - 1 }
+    ensures { result ≡ branch_place K.Key key.now bytes.now }
 {
     match view(bytes) {
         Ok(node) => place_for(&node, key).saturating_sub(1),
@@ -94,7 +93,7 @@ pub fn descend<K: Key, N: Nodes>(nodes: &N, header: &Header, key: &K, bytes: &mu
 /// The body of the record with this key, in a leaf.
 fn body_in<'a, K: Key>(bytes: &'a [u8; 512], key: &K) -> Option<&'a [u8]>
     requires { Each (λ entry. K.is_leaf entry ≡ true) (records_of (node_of bytes.now)) }
-    ensures { option_map (λ body. body.now) result ≡ lookup K.compare key.now (pairs_of K.Key bytes.now) }
+    ensures { option_map (λ body. body.now) result ≡ leaf_body K.Key bytes.now key.now }
 {
     let Ok(node) = view(bytes) else {
         return None;
@@ -118,7 +117,7 @@ pub fn find<K: Key, N: Nodes>(
     key: &K,
 ) -> Result<Option<Vec<u8>>, AllocError>
     requires { IsSound K.Key (N.nodes nodes.now) }
-    ensures { IfOk result (λ b. option_map (λ v. v.items) b ≡ body_at K.Key (N.nodes nodes.now) key.now) }
+    ensures { IfOk result (IsBodyUnder K.Key (N.nodes nodes.now) key.now) }
 {
     let header = read_header(nodes);
     if header.depth == 0 {
@@ -135,7 +134,7 @@ pub fn find<K: Key, N: Nodes>(
 /// The first record of a leaf whose key is above this one.
 fn after_in<'a, K: Key>(bytes: &'a [u8; 512], key: &K) -> Option<&'a [u8]>
     requires { Each (λ entry. K.is_leaf entry ≡ true) (records_of (node_of bytes.now)) }
-    ensures first { option_map (λ e. pair_of K.Key e.now) result ≡ after K.compare key.now (pairs_of K.Key bytes.now) }
+    ensures first { option_map (λ e. pair_of K.Key e.now) result ≡ leaf_after K.Key bytes.now key.now }
     ensures leaf { IfSome result (λ entry. K.is_leaf entry.now ≡ true) }
 {
     let Ok(node) = view(bytes) else {
@@ -154,7 +153,7 @@ fn after_in<'a, K: Key>(bytes: &'a [u8; 512], key: &K) -> Option<&'a [u8]>
 /// The first record of a leaf.
 fn first_in<K: Key>(bytes: &[u8; 512]) -> Option<&[u8]>
     requires { Each (λ entry. K.is_leaf entry ≡ true) (records_of (node_of bytes.now)) }
-    ensures first { option_map (λ entry. pair_of K.Key entry.now) result ≡ first_pair (pairs_of K.Key bytes.now) }
+    ensures first { option_map (λ e. pair_of K.Key e.now) result ≡ leaf_first K.Key bytes.now }
     ensures leaf { IfSome result (λ entry. K.is_leaf entry.now ≡ true) }
 {
     let Ok(node) = view(bytes) else {
@@ -186,7 +185,7 @@ pub fn next_after<K: Key, N: Nodes>(
     key: &K,
 ) -> Result<Option<(K, Vec<u8>)>, AllocError>
     requires { IsSound K.Key (N.nodes nodes.now) }
-    ensures { IfOk result (λ r. option_map (λ p. (p.0, p.1.items)) r ≡ next_in K.Key (N.nodes nodes.now) key.now) }
+    ensures { IfOk result (IsNextAfter K.Key (N.nodes nodes.now) key.now) }
 {
     let header = read_header(nodes);
     if header.depth == 0 {

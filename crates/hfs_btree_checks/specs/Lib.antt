@@ -7,3 +7,4 @@ pub mod OrderLaw
 pub mod Subtree
 pub mod Rises
 pub mod KeySteps
+pub mod Laws

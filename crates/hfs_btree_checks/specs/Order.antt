@@ -1,12 +1,12 @@
 -- The first fault of a tree's order: the number of the node that fails, or of the pair.
-use Rattle.std.specs.Prelude.{ℕ, zero, suc, Bool, true, not, ◌&&◌, ◌==◌, if◌then◌else◌, List, [], ◌∷◌, map, length, replicate, slice_index_or, Option, Some, None}
+use Rattle.std.specs.Prelude.{ℕ, zero, suc, ◌-◌, Bool, true, not, ◌&&◌, ◌==◌, if◌then◌else◌, List, [], ◌∷◌, map, length, replicate, slice_index_or, Option, Some, None}
 use Rattle.std.specs.List.{list_all, flat_map}
 use Rattle.std.specs.Option.{option_map}
 use Rattle.std.specs.Ordering.{is_gt, is_lt}
 use Rattle.hfs_btree.specs.declared.key.Key.{Ghosts}
 use Rattle.hfs_scans.specs.First.{first_failing}
 use Rattle.hfs_btree.specs.Pairs.{Order, Pairs}
-use Rattle.hfs_btree.specs.Tree.{Store, records_in, under, Spot, key_at}
+use Rattle.hfs_btree.specs.Tree.{Store, records_in, under, Spot, spots, level_below, key_at}
 use Rattle.hfs_btree.specs.Header.{leaves, tree_content, tree_turn}
 use Rattle.hfs_btree_checks.specs.Shape.{◌or_else◌, shape_fault}
 use Rattle.hfs_btree.specs.Sound.{part_of}
@@ -29,6 +29,10 @@ rise_fault cmp ps = first_failing (is_above_all cmp) [] ps
 -- the leaf of each pair of the content
 unfoldable pub pair_leaves : {K : Type 0} → Ghosts K → Store → List ℕ
 pair_leaves g nodes = flat_map (λ n. replicate (length (records_in nodes n)) n) (leaves g nodes)
+
+-- the number of the first leaf pair, from 0 on, whose key doesn't rise above those before it
+abbrev pub pair_order_fault : {K : Type 0} → Ghosts K → Store → Option ℕ
+pair_order_fault g nodes = rise_fault g.compare (tree_content g nodes)
 
 -- the first leaf with a key that doesn't rise above those before it, in this leaf or an earlier one
 unfoldable pub leaf_order_fault : {K : Type 0} → Ghosts K → Store → Option ℕ
@@ -53,6 +57,11 @@ is_keyed g nodes spot = are_keys_in_order g nodes spot.above spot.n
 -- the first node of the levels, in their turn, whose index keys are not in order
 unfoldable pub index_order_fault : {K : Type 0} → Ghosts K → Store → Option ℕ
 index_order_fault g nodes = first_node (is_keyed g nodes) (tree_turn g nodes)
+
+-- the first node of the level that index keys of node n lead to, whose own are not in order: n stands so many levels
+-- above the leaves, and that level stands `at` levels above them
+abbrev pub first_unkeyed : {K : Type 0} → Ghosts K → Store → ℕ → ℕ → ℕ → Option ℕ
+first_unkeyed g nodes n above at = first_node (is_keyed g nodes) (spots at 0 (level_below g nodes (above - at) (n ∷ [])))
 
 -- ---- order
 

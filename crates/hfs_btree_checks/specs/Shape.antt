@@ -126,6 +126,10 @@ has_ends g nodes =
     ((header_in nodes).first_leaf == first_of (leaves g nodes)) && ((header_in nodes).last_leaf == last_of (leaves g nodes))
     && (nat_lt 0 (depth_of nodes) || ((header_in nodes).root == 0))
 
+-- the header record names these as the first and the last leaf, and no root where it has no level
+abbrev pub names_ends : header.Header → ℕ → ℕ → Bool
+names_ends h first last = (h.first_leaf == first) && (h.last_leaf == last) && (nat_lt 0 h.depth || (h.root == 0))
+
 -- the number of leaf records and of free nodes
 unfoldable pub has_counts : {K : Type 0} → Ghosts K → Store → Bool
 has_counts g nodes = ((header_in nodes).records == length (tree_content g nodes)) && ((header_in nodes).free_nodes == free_nodes nodes)

@@ -1,5 +1,5 @@
 -- A node with those below it: the range of its leaf keys, and whether its index keys are in order.
-use Rattle.std.specs.Prelude.{◌≡◌, ℕ, zero, suc, ◌<◌, Bool, true, not, ◌&&◌, length, Option, Some, None}
+use Rattle.std.specs.Prelude.{◌≡◌, ℕ, zero, suc, ◌<◌, Bool, true, not, ◌&&◌, if◌then◌else◌, List, [], ◌∷◌, ◌++◌, length, Option, Some, None}
 use Rattle.std.specs.Bool.{Decides}
 use Rattle.std.specs.List.{list_all}
 use Rattle.std.specs.Ordering.{is_gt, is_lt}
@@ -7,7 +7,7 @@ use Rattle.hfs_btree.specs.declared.key.Key.{Ghosts}
 use Rattle.hfs_btree_checks.specs.declared.key_range.KeyRange.{KeyRange}
 use Rattle.hfs_btree.specs.Pairs.{Order, Pairs, IsAtMost, IsAbove}
 use Rattle.hfs_scans.specs.Each.{Each}
-use Rattle.hfs_btree.specs.Tree.{Store, records_in, children}
+use Rattle.hfs_btree.specs.Tree.{Store, pair_of, records_in, children}
 use Rattle.hfs_btree_checks.specs.Order.{are_keys_in_order}
 
 -- the key is at most the least of the range; there is none of no keys
@@ -35,3 +35,15 @@ IsSubtree g nodes (suc k) n =
 abbrev pub is_subtree_keyed : {K : Type 0} → Ghosts K → Store → ℕ → ℕ → Bool
 is_subtree_keyed g nodes zero n = true
 is_subtree_keyed g nodes (suc k) n = are_keys_in_order g nodes (suc k) n && list_all (is_subtree_keyed g nodes k) (children g nodes n)
+
+-- a range over the keys of both
+abbrev pub CoversBoth : {K : Type 0} → Order K → Option (KeyRange K) → Option (KeyRange K) → Option (KeyRange K) → Type 0
+CoversBoth cmp first second both = (ps qs : Pairs _) → HasRange cmp first ps → HasRange cmp second qs → HasRange cmp both (ps ++ qs)
+
+-- a range over the keys of one and the key of a leaf's record
+abbrev pub CoversAlso : {K : Type 0} → Ghosts K → Option (KeyRange K) → List ℕ → Option (KeyRange K) → Type 0
+CoversAlso g range entry wider = (ps : Pairs _) → HasRange g.compare range ps → HasRange g.compare wider (ps ++ pair_of g entry ∷ [])
+
+-- the lesser of a key and that of a leaf's record
+abbrev pub lesser_in : {K : Type 0} → Ghosts K → K → List ℕ → K
+lesser_in g first entry = if is_gt (g.compare first (g.leaf_key entry)) then g.leaf_key entry else first

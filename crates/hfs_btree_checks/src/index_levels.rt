@@ -1,12 +1,11 @@
 //! The keys of a tree's index nodes.
 
 ghost use Rattle.std.specs.Prelude.{◌≡◌, ◌++◌, true, IfOk, OnOk, map};
-ghost use Rattle.std.specs.List.{list_all, flat_map};
+ghost use Rattle.std.specs.List.{list_all};
 ghost use Rattle.hfs_scans.specs.Each.{Each};
-ghost use Rattle.hfs_btree.specs.Tree.{records_in, children};
 ghost use Rattle.hfs_btree.specs.Sound.{HasStructure};
 ghost use Rattle.hfs_btree_checks.specs.Order.{index_keys};
-ghost use Rattle.hfs_btree_checks.specs.KeySteps.{IsKeyNode};
+ghost use Rattle.hfs_btree_checks.specs.KeySteps.{IsKeyNode, AddsKeys, AddsAllKeys, AddsChildren, IsNextLevel};
 
 use crate::shape_node::push_children;
 use hfs_btree::{Key, Nodes, index_key_of, read_header};
@@ -33,8 +32,8 @@ fn visit_index_keys<K: Key, N: Nodes>(
     next: &mut Vec<u32>,
 ) -> Result<(), AllocError>
     requires { IsKeyNode K.Key (N.nodes nodes.now) 1 n }
-    ensures keys { OnOk result (keys.new.items ≡ keys.old.items ++ map K.index_key (records_in (N.nodes nodes.now) n)) }
-    ensures below { OnOk result (next.new.items ≡ next.old.items ++ children K.Key (N.nodes nodes.now) n) }
+    ensures keys { OnOk result (AddsKeys K.Key (N.nodes nodes.now) n keys.old keys.new) }
+    ensures below { OnOk result (AddsChildren K.Key (N.nodes nodes.now) n next.old next.new) }
 {
     let mut bytes = [0; 512];
     nodes.read(n, &mut bytes);
@@ -53,8 +52,8 @@ fn read_level_keys<K: Key, N: Nodes>(
     keys: &mut Vec<K>,
 ) -> Result<Vec<u32>, AllocError>
     requires { Each (IsKeyNode K.Key (N.nodes nodes.now) 1) level.now }
-    ensures keys { OnOk result (keys.new.items ≡ keys.old.items ++ flat_map (λ n. map K.index_key (records_in (N.nodes nodes.now) n)) level.now) }
-    ensures next { IfOk result (λ next. next.items ≡ flat_map (children K.Key (N.nodes nodes.now)) level.now) }
+    ensures keys { OnOk result (AddsAllKeys K.Key (N.nodes nodes.now) level.now keys.old keys.new) }
+    ensures next { IfOk result (IsNextLevel K.Key (N.nodes nodes.now) level.now) }
 {
     let mut next = Vec::new(alloc);
     for i in 0..level.len() {

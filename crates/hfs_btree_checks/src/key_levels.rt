@@ -1,13 +1,13 @@
 //! The check of a tree's keys, each by itself.
 
-ghost use Rattle.std.specs.Prelude.{◌≡◌, ◌<◌, ◌++◌, true, None, IfOk, OnOk, IfErr, MatchResult};
-ghost use Rattle.std.specs.List.{list_all, flat_map};
+ghost use Rattle.std.specs.Prelude.{◌≡◌, true, None, IfOk, OnOk, IfErr};
+ghost use Rattle.std.specs.List.{list_all};
 ghost use Rattle.hfs_scans.specs.Each.{Each};
-ghost use Rattle.hfs_btree.specs.Tree.{records_in, reads_at, children, key_at};
+ghost use Rattle.hfs_btree.specs.Tree.{reads_at, key_at};
 ghost use Rattle.hfs_btree.specs.Sound.{HasStructure};
 ghost use Rattle.hfs_btree_checks.specs.Order.{key_fault};
-ghost use Rattle.hfs_btree_checks.specs.ShapeSteps.{IsFault};
-ghost use Rattle.hfs_btree_checks.specs.KeySteps.{IsKeyNode, level_key_fault};
+ghost use Rattle.hfs_btree_checks.specs.ShapeSteps.{IsFault, FindsFault};
+ghost use Rattle.hfs_btree_checks.specs.KeySteps.{IsKeyNode, level_key_fault, all_pass, TellsPass, AddsBelow, IsLevelBelow};
 
 use crate::fault::TreeFault;
 use crate::key_test::KeyTest;
@@ -31,7 +31,7 @@ fn key_in<K: Key>(entry: &[u8], above: u16) -> K
 /// Whether each key of a node so many levels above the leaves passes.
 fn all_pass<K: Key, T: KeyTest<K>>(node: &NodeView, above: u16, test: &T) -> bool
     requires { list_all (reads_at K.Key above) node.now.records ≡ true }
-    ensures { result ≡ list_all (λ entry. T.passes test.now (key_at K.Key above entry)) node.now.records }
+    ensures { result ≡ all_pass K.Key (T.passes test.now) above node.now.records }
 {
     for i in 0..node.len() {
         let key = key_in(node.record(i), above);
@@ -52,8 +52,8 @@ fn visit_keys<K: Key, N: Nodes, T: KeyTest<K>>(
     next: &mut Vec<u32>,
 ) -> Result<bool, AllocError>
     requires { IsKeyNode K.Key (N.nodes nodes.now) above n }
-    ensures pass { IfOk result (λ pass. pass ≡ list_all (λ entry. T.passes test.now (key_at K.Key above entry)) (records_in (N.nodes nodes.now) n)) }
-    ensures below { OnOk result (0 < above → next.new.items ≡ next.old.items ++ children K.Key (N.nodes nodes.now) n) }
+    ensures pass { IfOk result (TellsPass K.Key (N.nodes nodes.now) (T.passes test.now) above n) }
+    ensures below { OnOk result (AddsBelow K.Key (N.nodes nodes.now) above n next.old next.new) }
 {
     let mut bytes = [0; 512];
     nodes.read(n, &mut bytes);
@@ -77,7 +77,7 @@ fn check_level_keys<K: Key, N: Nodes, T: KeyTest<K>>(
     requires { Each (IsKeyNode K.Key (N.nodes nodes.now) above) level.now }
     ensures fault { IfErr result (IsFault (level_key_fault K.Key (N.nodes nodes.now) (T.passes test.now) above level.now)) }
     ensures right { OnOk result (level_key_fault K.Key (N.nodes nodes.now) (T.passes test.now) above level.now ≡ None) }
-    ensures next { IfOk result (λ next. 0 < above → next.items ≡ flat_map (children K.Key (N.nodes nodes.now)) level.now) }
+    ensures next { IfOk result (IsLevelBelow K.Key (N.nodes nodes.now) above level.now) }
 {
     let mut next = Vec::new(alloc);
     for i in 0..level.len() {
@@ -97,7 +97,7 @@ pub(crate) fn check_keys<K: Key, N: Nodes, T: KeyTest<K>>(
     test: &T,
 ) -> Result<(), TreeFault>
     requires { HasStructure K.Key (N.nodes nodes.now) }
-    ensures { MatchResult result (λ _. key_fault K.Key (N.nodes nodes.now) (T.passes test.now) ≡ None) (IsFault (key_fault K.Key (N.nodes nodes.now) (T.passes test.now))) }
+    ensures { FindsFault (key_fault K.Key (N.nodes nodes.now) (T.passes test.now)) result }
 {
     let header = read_header(nodes);
     let mut level = Vec::new(alloc);

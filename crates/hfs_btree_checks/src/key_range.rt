@@ -1,10 +1,8 @@
 //! The least and the greatest of some keys.
 
-ghost use Rattle.std.specs.Prelude.{◌≡◌, true, [], ◌∷◌, ◌++◌, ◌&&◌, if◌then◌else◌};
-ghost use Rattle.std.specs.Ordering.{is_gt, is_lt};
-ghost use Rattle.hfs_btree.specs.Pairs.{Pairs};
-ghost use Rattle.hfs_btree.specs.Tree.{pair_of};
-ghost use Rattle.hfs_btree_checks.specs.Subtree.{is_at_most, is_above, HasRange};
+ghost use Rattle.std.specs.Prelude.{◌≡◌, true, ◌&&◌, if◌then◌else◌};
+ghost use Rattle.std.specs.Ordering.{is_lt};
+ghost use Rattle.hfs_btree_checks.specs.Subtree.{is_at_most, is_above, CoversBoth, CoversAlso, lesser_in};
 
 use hfs_btree::{Key, key_of};
 
@@ -43,7 +41,7 @@ pub(crate) fn joined<K: Key>(
     first: Option<KeyRange<K>>,
     second: Option<KeyRange<K>>,
 ) -> Option<KeyRange<K>>
-    ensures { (ps qs : Pairs K) → HasRange K.compare first ps → HasRange K.compare second qs → HasRange K.compare result (ps ++ qs) }
+    ensures { CoversBoth K.compare first second result }
 {
     let Some(one) = first else {
         return second;
@@ -60,7 +58,7 @@ pub(crate) fn joined<K: Key>(
 /// The key of a leaf's record where it is less, and else the first one.
 fn lesser_in<K: Key>(first: K, entry: &[u8]) -> K
     requires { K.is_leaf entry.now ≡ true }
-    ensures { result ≡ if is_gt (K.compare first (K.leaf_key entry.now)) then K.leaf_key entry.now else first }
+    ensures { result ≡ lesser_in K.Key first entry.now }
 {
     if first.compare_leaf(entry).is_gt() {
         key_of(entry)
@@ -73,7 +71,7 @@ fn lesser_in<K: Key>(first: K, entry: &[u8]) -> K
 /// compared with its greatest alone, and the key of the record is copied only where the range takes it.
 pub(crate) fn widened<K: Key>(range: Option<KeyRange<K>>, entry: &[u8]) -> Option<KeyRange<K>>
     requires { K.is_leaf entry.now ≡ true }
-    ensures { (ps : Pairs K) → HasRange K.compare range ps → HasRange K.compare result (ps ++ pair_of K.Key entry.now ∷ []) }
+    ensures { CoversAlso K.Key range entry.now result }
 {
     let Some(one) = range else {
         let key = key_of(entry);

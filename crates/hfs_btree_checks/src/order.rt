@@ -1,8 +1,9 @@
 //! The check of a tree's order, and of a whole tree.
 
-ghost use Rattle.std.specs.Prelude.{◌≡◌, ◌↔◌, ◌*◌, ◌≤◌, None, MatchResult, OnOk, length};
+ghost use Rattle.std.specs.Prelude.{◌*◌, ◌≤◌, OnOk, length};
 ghost use Rattle.hfs_btree_checks.specs.Order.{order_fault, tree_fault};
-ghost use Rattle.hfs_btree_checks.specs.ShapeSteps.{IsFault, IsPlace};
+ghost use Rattle.hfs_btree_checks.specs.Laws.{OrderedIffFaultless, SoundIffFaultless};
+ghost use Rattle.hfs_btree_checks.specs.ShapeSteps.{FindsFault, FindsPlace};
 ghost use Rattle.hfs_btree.specs.Sound.{HasStructure, HasCounts, IsOrdered, IsSound, IsWithinFile};
 
 use crate::fault::TreeFault;
@@ -16,9 +17,9 @@ use std::alloc::Global;
 pub(crate) fn check_order<K: Key, N: Nodes>(nodes: &N) -> Result<(), TreeFault>
     requires structure { HasStructure K.Key (N.nodes nodes.now) }
     requires counts { HasCounts K.Key (N.nodes nodes.now) }
-    ensures place { MatchResult result (λ _. order_fault K.Key (N.nodes nodes.now) ≡ None) (IsPlace (order_fault K.Key (N.nodes nodes.now))) }
+    ensures place { FindsPlace (order_fault K.Key (N.nodes nodes.now)) result }
     ensures ordered { OnOk result (IsOrdered K.Key (N.nodes nodes.now)) }
-    ensures law { (order_fault K.Key (N.nodes nodes.now) ≡ None) ↔ IsOrdered K.Key (N.nodes nodes.now) }
+    ensures law { OrderedIffFaultless K.Key (N.nodes nodes.now) }
 {
     if let Some(n) = index_order_fault::<K, N>(nodes) {
         return Err(TreeFault::At(n));
@@ -39,10 +40,10 @@ pub(crate) fn check_order<K: Key, N: Nodes>(nodes: &N) -> Result<(), TreeFault>
 /// Source: Inside Macintosh: Files, chapter 2, 'B*-trees'; docs/CHECKS.md has the rules.
 pub fn check_tree<K: Key, N: Nodes>(alloc: Global, nodes: &N, size: u32) -> Result<(), TreeFault>
     requires { size ≤ 512 * length (N.nodes nodes.now) }
-    ensures place { MatchResult result (λ _. tree_fault K.Key size (N.nodes nodes.now) ≡ None) (IsFault (tree_fault K.Key size (N.nodes nodes.now))) }
+    ensures place { FindsFault (tree_fault K.Key size (N.nodes nodes.now)) result }
     ensures sound { OnOk result (IsSound K.Key (N.nodes nodes.now)) }
     ensures within { OnOk result (IsWithinFile size (N.nodes nodes.now)) }
-    ensures law { (tree_fault K.Key size (N.nodes nodes.now) ≡ None) ↔ (IsSound K.Key (N.nodes nodes.now) × IsWithinFile size (N.nodes nodes.now)) }
+    ensures law { SoundIffFaultless K.Key size (N.nodes nodes.now) }
 {
     check_shape::<K, N>(alloc, nodes, size)?;
     check_order::<K, N>(nodes)

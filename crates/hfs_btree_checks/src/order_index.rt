@@ -1,11 +1,11 @@
 //! The order of index keys.
 
-ghost use Rattle.std.specs.Prelude.{◌≡◌, ◌-◌, ◌≤◌, true, [], ◌∷◌, map};
+ghost use Rattle.std.specs.Prelude.{◌≡◌, ◌≤◌, true, map};
 ghost use Rattle.std.specs.Option.{is_none};
 ghost use Rattle.hfs_scans.specs.Each.{Each};
-ghost use Rattle.hfs_btree.specs.Tree.{pair_of, under, spots, level_below};
+ghost use Rattle.hfs_btree.specs.Tree.{pair_of, under};
 ghost use Rattle.hfs_btree.specs.Sound.{HasStructure};
-ghost use Rattle.hfs_btree_checks.specs.Order.{first_node, is_keyed, are_keys_in_order, index_order_fault};
+ghost use Rattle.hfs_btree_checks.specs.Order.{first_unkeyed, are_keys_in_order, index_order_fault};
 ghost use Rattle.hfs_btree_checks.specs.Subtree.{HasRange, IsSubtree, is_subtree_keyed};
 
 use crate::key_range::{KeyRange, is_between, joined, widened};
@@ -90,7 +90,7 @@ fn read_subtree<K: Key, N: Nodes>(nodes: &N, n: u32, above: u16) -> Subtree<K>
 fn first_unkeyed<K: Key, N: Nodes>(nodes: &N, n: u32, above: u16, at: u16) -> Option<u32>
     requires tree { IsSubtree K.Key (N.nodes nodes.now) above n }
     requires below { at ≤ above }
-    ensures { result ≡ first_node (is_keyed K.Key (N.nodes nodes.now)) (spots at 0 (level_below K.Key (N.nodes nodes.now) (above - at) (n ∷ []))) }
+    ensures { result ≡ first_unkeyed K.Key (N.nodes nodes.now) n above at }
 {
     if above == at {
         let found = read_subtree::<K, N>(nodes, n, above);

@@ -1,13 +1,13 @@
 //! The order of a tree's leaf keys.
 
-ghost use Rattle.std.specs.Prelude.{◌≡◌, true, None, map, option_map};
+ghost use Rattle.std.specs.Prelude.{◌≡◌, true, None};
 ghost use Rattle.hfs_node.specs.Node.{node_of};
 ghost use Rattle.hfs_scans.specs.Each.{Each};
-ghost use Rattle.hfs_btree.specs.Tree.{records_of, pair_of};
+ghost use Rattle.hfs_btree.specs.Tree.{records_of, pairs_of};
 ghost use Rattle.hfs_btree.specs.Header.{tree_content};
 ghost use Rattle.hfs_btree.specs.Sound.{HasStructure, HasCounts};
-ghost use Rattle.hfs_btree_checks.specs.Order.{rise_fault, leaf_order_fault};
-ghost use Rattle.hfs_btree_checks.specs.Rises.{is_past, fall_from, last_key};
+ghost use Rattle.hfs_btree_checks.specs.Order.{rise_fault, pair_order_fault, leaf_order_fault};
+ghost use Rattle.hfs_btree_checks.specs.Rises.{is_past, fall_from, last_key, fall_number, fall_leaf};
 
 use hfs_btree::{Key, Nodes, count_in, forward_in, key_of, read_header};
 use hfs_node::view;
@@ -26,8 +26,8 @@ fn is_past<K: Key>(last: Option<K>, key: &K) -> bool
 /// where there is no such record, it becomes that of the leaf's last.
 fn fall_in<K: Key>(bytes: &[u8; 512], last: &mut Option<K>) -> Option<usize>
     requires { Each (λ entry. K.is_leaf entry ≡ true) (records_of (node_of bytes.now)) }
-    ensures fall { result ≡ fall_from K.compare last.old 0 (map (pair_of K.Key) (records_of (node_of bytes.now))) }
-    ensures last { result ≡ None → last.new ≡ last_key last.old (map (pair_of K.Key) (records_of (node_of bytes.now))) }
+    ensures fall { result ≡ fall_from K.compare last.old 0 (pairs_of K.Key bytes.now) }
+    ensures last { result ≡ None → last.new ≡ last_key last.old (pairs_of K.Key bytes.now) }
 {
     let Ok(node) = view(bytes) else {
         return None;
@@ -55,8 +55,8 @@ struct Fall {
 fn first_fall<K: Key, N: Nodes>(nodes: &N) -> Option<Fall>
     requires structure { HasStructure K.Key (N.nodes nodes.now) }
     requires counts { HasCounts K.Key (N.nodes nodes.now) }
-    ensures number { option_map (λ fall. fall.number) result ≡ rise_fault K.compare (tree_content K.Key (N.nodes nodes.now)) }
-    ensures leaf { option_map (λ fall. fall.leaf) result ≡ leaf_order_fault K.Key (N.nodes nodes.now) }
+    ensures number { fall_number result ≡ pair_order_fault K.Key (N.nodes nodes.now) }
+    ensures leaf { fall_leaf result ≡ leaf_order_fault K.Key (N.nodes nodes.now) }
 {
     let header = read_header(nodes);
     let mut n = header.first_leaf;

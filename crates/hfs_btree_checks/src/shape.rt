@@ -1,11 +1,12 @@
 //! The check of a tree's shape.
 
-ghost use Rattle.std.specs.Prelude.{◌≡◌, ◌↔◌, ℕ, ◌*◌, ◌≤◌, ◌&&◌, ◌||◌, ◌==◌, nat_lt, None, MatchResult, IfOk, OnOk, length};
+ghost use Rattle.std.specs.Prelude.{◌≡◌, ℕ, ◌*◌, ◌≤◌, IfOk, OnOk, length};
 ghost use Rattle.std.specs.Vec.{vec_len};
 ghost use Rattle.hfs_btree.specs.Header.{header_in};
-ghost use Rattle.hfs_btree_checks.specs.Shape.{is_own, structure_fault, shape_fault};
+ghost use Rattle.hfs_btree_checks.specs.Shape.{is_own, names_ends, structure_fault, shape_fault};
 ghost use Rattle.hfs_btree.specs.Sound.{HasStructure, IsShaped};
-ghost use Rattle.hfs_btree_checks.specs.ShapeSteps.{is_met, IsFault};
+ghost use Rattle.hfs_btree_checks.specs.ShapeSteps.{is_met, FindsFault};
+ghost use Rattle.hfs_btree_checks.specs.Laws.{ShapedIffFaultless};
 ghost use Rattle.hfs_btree_checks.specs.Counts.{counts_in, levels_ends_fault};
 
 use crate::fault::TreeFault;
@@ -20,7 +21,7 @@ use std::alloc::Global;
 
 /// Whether the header record names the ends of the last level, and no root in an empty tree.
 fn has_ends(header: &Header, leaves: &Leaves) -> bool
-    ensures { result ≡ ((header.now.first_leaf == leaves.now.first) && (header.now.last_leaf == leaves.now.last) && (nat_lt 0 header.now.depth || (header.now.root == 0))) }
+    ensures { result ≡ names_ends header.now leaves.now.first leaves.now.last }
 {
     header.first_leaf == leaves.first
         && header.last_leaf == leaves.last
@@ -38,7 +39,7 @@ fn count_mapped<K: Key, N: Nodes>(
     requires head { header ≡ header_in (N.nodes tree.now.nodes.now) }
     requires marks { vec_len met ≡ tree.now.count }
     requires own { (n : ℕ) → is_met met.items n ≡ is_own (N.nodes tree.now.nodes.now) n }
-    ensures fault { MatchResult result (λ _. levels_ends_fault K.Key (N.nodes tree.now.nodes.now) ≡ None) (IsFault (levels_ends_fault K.Key (N.nodes tree.now.nodes.now))) }
+    ensures fault { FindsFault (levels_ends_fault K.Key (N.nodes tree.now.nodes.now)) result }
     ensures counts { IfOk result (λ counts. counts ≡ counts_in K.Key (N.nodes tree.now.nodes.now)) }
 {
     let leaves = check_levels::<K, N>(alloc, tree, header.root, header.depth, &mut met)?;
@@ -67,7 +68,7 @@ pub fn count_tree<K: Key, N: Nodes>(
     size: u32,
 ) -> Result<TreeCounts, TreeFault>
     requires { size ≤ 512 * length (N.nodes nodes.now) }
-    ensures place { MatchResult result (λ _. structure_fault K.Key size (N.nodes nodes.now) ≡ None) (IsFault (structure_fault K.Key size (N.nodes nodes.now))) }
+    ensures place { FindsFault (structure_fault K.Key size (N.nodes nodes.now)) result }
     ensures structure { OnOk result (HasStructure K.Key (N.nodes nodes.now)) }
     ensures counts { IfOk result (λ counts. counts ≡ counts_in K.Key (N.nodes nodes.now)) }
 {
@@ -105,9 +106,9 @@ pub fn count_tree<K: Key, N: Nodes>(
 /// Source: Inside Macintosh: Files, chapter 2, 'B*-trees'; docs/CHECKS.md has the rules.
 pub fn check_shape<K: Key, N: Nodes>(alloc: Global, nodes: &N, size: u32) -> Result<(), TreeFault>
     requires { size ≤ 512 * length (N.nodes nodes.now) }
-    ensures place { MatchResult result (λ _. shape_fault K.Key size (N.nodes nodes.now) ≡ None) (IsFault (shape_fault K.Key size (N.nodes nodes.now))) }
+    ensures place { FindsFault (shape_fault K.Key size (N.nodes nodes.now)) result }
     ensures shaped { OnOk result (IsShaped K.Key size (N.nodes nodes.now)) }
-    ensures law { (shape_fault K.Key size (N.nodes nodes.now) ≡ None) ↔ IsShaped K.Key size (N.nodes nodes.now) }
+    ensures law { ShapedIffFaultless K.Key size (N.nodes nodes.now) }
 {
     let counts = count_tree::<K, N>(alloc, nodes, size)?;
     if tells_right(&counts) {

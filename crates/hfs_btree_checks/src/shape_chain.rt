@@ -1,13 +1,12 @@
 //! The check of a tree's map nodes, and the node map that they carry.
 
-ghost use Rattle.std.specs.Prelude.{◌≡◌, ℕ, ◌*◌, ◌<◌, ◌≤◌, ◌++◌, ◌&&◌, ◌||◌, ◌==◌, [], Ok, None, true, false, not, OnOk, IfOk, IfErr, length, slice_set};
-ghost use Rattle.std.specs.List.{flat_map, list_all, list_any};
-ghost use Rattle.std.specs.Option.{is_none};
+ghost use Rattle.std.specs.Prelude.{◌≡◌, ◌*◌, ◌≤◌, ◌++◌, Ok, true, OnOk, IfOk, IfErr, length, slice_set};
+ghost use Rattle.std.specs.List.{list_all};
 ghost use Rattle.std.specs.Vec.{vec_len};
 ghost use Rattle.hfs_btree.specs.Tree.{node_in, forward_of};
-ghost use Rattle.hfs_btree.specs.Header.{header_in, record_in, chain_from, map_nodes, map_bytes, is_marked};
-ghost use Rattle.hfs_btree_checks.specs.Shape.{is_map_value, is_map_node, is_own, first_fault, has_map};
-ghost use Rattle.hfs_btree_checks.specs.ShapeSteps.{is_met, IsWrongAt};
+ghost use Rattle.hfs_btree.specs.Header.{header_in, map_bytes, is_marked};
+ghost use Rattle.hfs_btree_checks.specs.Shape.{is_map_value, has_map};
+ghost use Rattle.hfs_btree_checks.specs.ShapeSteps.{IsWrongAt, is_new_map_node, map_part, IsWrongChain, IsNewChain, AddsMapParts, AddsChain, MeetsChain, OwnAreMet};
 
 use crate::fault::TreeFault;
 use crate::shape_map::MappedNodes;
@@ -28,11 +27,11 @@ fn visit_map_node<N: Nodes>(
     requires counted { count ≡ (header_in (N.nodes nodes.now)).nodes }
     requires within { count ≤ length (N.nodes nodes.now) }
     requires marks { vec_len met.old ≡ count }
-    ensures wrong { IfErr result (IsWrongAt (is_map_node (N.nodes nodes.now) n && not (is_met met.old.items n)) 0) }
-    ensures right { OnOk result (is_map_node (N.nodes nodes.now) n && not (is_met met.old.items n) ≡ true) }
+    ensures wrong { IfErr result (IsWrongAt (is_new_map_node (N.nodes nodes.now) met.old n) 0) }
+    ensures right { OnOk result (is_new_map_node (N.nodes nodes.now) met.old n ≡ true) }
     ensures next { IfOk result (λ next. next ≡ forward_of (node_in (N.nodes nodes.now) n)) }
     ensures marked { OnOk result (met.new.items ≡ slice_set met.old.items n true) }
-    ensures part { OnOk result (map.new.items ≡ map.old.items ++ record_in (N.nodes nodes.now) n 0) }
+    ensures part { OnOk result (map.new.items ≡ map.old.items ++ map_part (N.nodes nodes.now) n) }
 {
     if n == 0 || n >= count || met[n as usize] {
         return Err(TreeFault::At(0));
@@ -73,11 +72,11 @@ fn read_chain<N: Nodes>(
     requires counted { count ≡ (header_in (N.nodes nodes.now)).nodes }
     requires within { count ≤ length (N.nodes nodes.now) }
     requires marks { vec_len met.old ≡ count }
-    ensures wrong { IfErr result (IsWrongAt (is_none (first_fault (is_map_node (N.nodes nodes.now)) (λ n. n) (is_met met.old.items) (chain_from (N.nodes nodes.now) count first))) 0) }
-    ensures right { OnOk result (first_fault (is_map_node (N.nodes nodes.now)) (λ n. n) (is_met met.old.items) (chain_from (N.nodes nodes.now) count first) ≡ None) }
-    ensures parts { OnOk result (map.new.items ≡ map.old.items ++ flat_map (λ n. record_in (N.nodes nodes.now) n 0) (chain_from (N.nodes nodes.now) count first)) }
-    ensures numbers { OnOk result (own.new.items ≡ own.old.items ++ chain_from (N.nodes nodes.now) count first) }
-    ensures marked { OnOk result ((k : ℕ) → is_met met.new.items k ≡ (list_any (λ m. k == m) (chain_from (N.nodes nodes.now) count first) || is_met met.old.items k)) }
+    ensures wrong { IfErr result (IsWrongChain (N.nodes nodes.now) count first met.old) }
+    ensures right { OnOk result (IsNewChain (N.nodes nodes.now) count first met.old) }
+    ensures parts { OnOk result (AddsMapParts (N.nodes nodes.now) count first map.old map.new) }
+    ensures numbers { OnOk result (AddsChain (N.nodes nodes.now) count first own.old own.new) }
+    ensures marked { OnOk result (MeetsChain (N.nodes nodes.now) count first met.old met.new) }
     ensures kept { OnOk result (vec_len met.new ≡ count) }
 {
     let mut n = first;
@@ -125,7 +124,7 @@ pub(crate) fn read_map<N: Nodes>(
     ensures wrong { IfErr result (IsWrongAt (has_map (N.nodes nodes.now)) 0) }
     ensures right { OnOk result (has_map (N.nodes nodes.now) ≡ true) }
     ensures bytes { IfOk result (λ map. map.bytes.items ≡ map_bytes (N.nodes nodes.now)) }
-    ensures own { IfOk result (λ map. (n : ℕ) → is_met map.own.items n ≡ is_own (N.nodes nodes.now) n) }
+    ensures own { IfOk result (λ map. OwnAreMet (N.nodes nodes.now) map.own.items) }
     ensures marks { IfOk result (λ map. vec_len map.own ≡ count) }
     ensures long { IfOk result (λ map. count ≤ 8 * vec_len map.bytes) }
 {

@@ -1,11 +1,10 @@
 //! The check of a tree's levels.
 
-ghost use Rattle.std.specs.Prelude.{◌≡◌, ℕ, ◌+◌, ◌-◌, ◌^◌, ◌<◌, ◌++◌, ◌∷◌, [], List, None, OnOk, IfOk, IfErr, length, drop, min};
-ghost use Rattle.std.specs.List.{flat_map, sum_by};
+ghost use Rattle.std.specs.Prelude.{◌≡◌, ◌+◌, ◌<◌, None, OnOk, IfOk, IfErr, length, drop};
 ghost use Rattle.std.specs.Vec.{vec_len};
-ghost use Rattle.hfs_btree.specs.Tree.{records_in, children, Spot, spots, turn, first_of, last_of, last_level};
-ghost use Rattle.hfs_btree_checks.specs.Shape.{turn_fault};
-ghost use Rattle.hfs_btree_checks.specs.ShapeSteps.{is_met, IsFault};
+ghost use Rattle.hfs_btree.specs.Tree.{first_of, last_of};
+ghost use Rattle.hfs_btree_checks.specs.KeySteps.{IsLevelBelow};
+ghost use Rattle.hfs_btree_checks.specs.ShapeSteps.{IsFault, IsLevelFault, PassesLevel, count_within, fault_from, leaves_from, records_from};
 
 use crate::fault::TreeFault;
 use crate::shape_map::MappedNodes;
@@ -39,10 +38,10 @@ fn check_level<K: Key, N: Nodes>(
     met: &mut Vec<bool>,
 ) -> Result<CheckedLevel, TreeFault>
     requires { vec_len met.old ≡ tree.now.count }
-    ensures fault { IfErr result (λ e. (rest : List Spot) → IsFault (turn_fault K.Key (N.nodes tree.now.nodes.now) (is_met met.old.items) (spots above 0 level.now ++ rest)) e) }
-    ensures right { OnOk result ((rest : List Spot) → turn_fault K.Key (N.nodes tree.now.nodes.now) (is_met met.old.items) (spots above 0 level.now ++ rest) ≡ turn_fault K.Key (N.nodes tree.now.nodes.now) (is_met met.new.items) rest) }
-    ensures next { IfOk result (λ found. 0 < above → found.next.items ≡ flat_map (children K.Key (N.nodes tree.now.nodes.now)) level.now) }
-    ensures records { IfOk result (λ found. found.records ≡ min (sum_by (λ n. length (records_in (N.nodes tree.now.nodes.now) n)) level.now) (2 ^ 64 - 1)) }
+    ensures fault { IfErr result (IsLevelFault K.Key (N.nodes tree.now.nodes.now) met.old above level.now) }
+    ensures right { OnOk result (PassesLevel K.Key (N.nodes tree.now.nodes.now) above level.now met.old met.new) }
+    ensures next { IfOk result (λ found. IsLevelBelow K.Key (N.nodes tree.now.nodes.now) above level.now found.next) }
+    ensures records { IfOk result (λ found. found.records ≡ count_within (N.nodes tree.now.nodes.now) level.now) }
     ensures kept { OnOk result (vec_len met.new ≡ vec_len met.old) }
 {
     let mut next = Vec::new(alloc);
@@ -96,11 +95,11 @@ pub(crate) fn check_levels<K: Key, N: Nodes>(
     met: &mut Vec<bool>,
 ) -> Result<Leaves, TreeFault>
     requires { vec_len met.old ≡ tree.now.count }
-    ensures fault { IfErr result (IsFault (turn_fault K.Key (N.nodes tree.now.nodes.now) (is_met met.old.items) (turn K.Key (N.nodes tree.now.nodes.now) depth (root ∷ [])))) }
-    ensures right { OnOk result (turn_fault K.Key (N.nodes tree.now.nodes.now) (is_met met.old.items) (turn K.Key (N.nodes tree.now.nodes.now) depth (root ∷ [])) ≡ None) }
-    ensures first { IfOk result (λ found. found.first ≡ first_of (last_level K.Key (N.nodes tree.now.nodes.now) depth (root ∷ []))) }
-    ensures last { IfOk result (λ found. found.last ≡ last_of (last_level K.Key (N.nodes tree.now.nodes.now) depth (root ∷ []))) }
-    ensures records { IfOk result (λ found. found.records ≡ min (sum_by (λ n. length (records_in (N.nodes tree.now.nodes.now) n)) (last_level K.Key (N.nodes tree.now.nodes.now) depth (root ∷ []))) (2 ^ 64 - 1)) }
+    ensures fault { IfErr result (IsFault (fault_from K.Key (N.nodes tree.now.nodes.now) met.old depth root)) }
+    ensures right { OnOk result (fault_from K.Key (N.nodes tree.now.nodes.now) met.old depth root ≡ None) }
+    ensures first { IfOk result (λ found. found.first ≡ first_of (leaves_from K.Key (N.nodes tree.now.nodes.now) depth root)) }
+    ensures last { IfOk result (λ found. found.last ≡ last_of (leaves_from K.Key (N.nodes tree.now.nodes.now) depth root)) }
+    ensures records { IfOk result (λ found. found.records ≡ records_from K.Key (N.nodes tree.now.nodes.now) depth root) }
 {
     if depth == 0 {
         return Ok(Leaves {

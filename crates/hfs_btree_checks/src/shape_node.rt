@@ -1,11 +1,12 @@
 //! The check of one node of a tree's levels.
 
-ghost use Rattle.std.specs.Prelude.{◌≡◌, ℕ, ◌+◌, ◌<◌, ◌++◌, ◌&&◌, true, false, not, OnOk, IfOk, IfErr, length, map, slice_set};
+ghost use Rattle.std.specs.Prelude.{◌≡◌, ◌++◌, true, OnOk, IfOk, IfErr, map, slice_set};
 ghost use Rattle.std.specs.List.{list_all};
 ghost use Rattle.std.specs.Vec.{vec_len};
-ghost use Rattle.hfs_btree.specs.Tree.{reads_at, records_in, children};
-ghost use Rattle.hfs_btree_checks.specs.Shape.{is_kind_at, is_node_at, is_right};
-ghost use Rattle.hfs_btree_checks.specs.ShapeSteps.{is_met, IsWrongAt};
+ghost use Rattle.hfs_btree.specs.Tree.{reads_at};
+ghost use Rattle.hfs_btree_checks.specs.Shape.{is_kind_at, is_node_at};
+ghost use Rattle.hfs_btree_checks.specs.KeySteps.{AddsBelow};
+ghost use Rattle.hfs_btree_checks.specs.ShapeSteps.{IsWrongAt, is_new_and_right, spot_of, record_count};
 
 use crate::fault::TreeFault;
 use crate::shape_map::MappedNodes;
@@ -49,7 +50,7 @@ fn is_kind_above(kind: NodeKind, above: u16) -> bool
 /// Whether a node is what its place asks: between these neighbours, 0 at the ends, so many levels above the leaves.
 #[tactic(auto, unfolding(crate::specs::Shape::is_node_at))]
 fn is_at_place<K: Key>(node: &NodeView, left: u32, n: u32, right: u32, above: u16) -> bool
-    ensures { result ≡ is_node_at K.Key (record { left = left; n = n; right = right; above = above }) node.now }
+    ensures { result ≡ is_node_at K.Key (spot_of left n right above) node.now }
 {
     is_kind_above(node.kind(), above)
         && u32::from(node.height()) == u32::from(above) + 1
@@ -85,11 +86,11 @@ pub(crate) fn visit_node<K: Key, N: Nodes>(
     next: &mut Vec<u32>,
 ) -> Result<usize, TreeFault>
     requires { vec_len met.old ≡ tree.now.count }
-    ensures wrong { IfErr result (IsWrongAt (is_right K.Key (N.nodes tree.now.nodes.now) (record { left = left; n = n; right = right; above = above }) && not (is_met met.old.items n)) n) }
-    ensures right { OnOk result (is_right K.Key (N.nodes tree.now.nodes.now) (record { left = left; n = n; right = right; above = above }) && not (is_met met.old.items n) ≡ true) }
+    ensures wrong { IfErr result (IsWrongAt (is_new_and_right K.Key (N.nodes tree.now.nodes.now) met.old (spot_of left n right above)) n) }
+    ensures right { OnOk result (is_new_and_right K.Key (N.nodes tree.now.nodes.now) met.old (spot_of left n right above) ≡ true) }
     ensures marked { OnOk result (met.new.items ≡ slice_set met.old.items n true) }
-    ensures below { OnOk result (0 < above → next.new.items ≡ next.old.items ++ children K.Key (N.nodes tree.now.nodes.now) n) }
-    ensures records { IfOk result (λ len. len ≡ length (records_in (N.nodes tree.now.nodes.now) n)) }
+    ensures below { OnOk result (AddsBelow K.Key (N.nodes tree.now.nodes.now) above n next.old next.new) }
+    ensures records { IfOk result (λ len. len ≡ record_count (N.nodes tree.now.nodes.now) n) }
 {
     if n == 0 || n >= tree.count || met[n as usize] || !tree.is_marked(n) {
         return Err(TreeFault::At(n));

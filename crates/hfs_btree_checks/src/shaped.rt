@@ -1,11 +1,12 @@
 //! Trees that have their shape, and the checks that stand on it.
 
-ghost use Rattle.std.specs.Prelude.{◌≡◌, ◌↔◌, ◌*◌, ◌≤◌, None, MatchResult, OnOk, IfOk, length};
+ghost use Rattle.std.specs.Prelude.{◌≡◌, ◌*◌, ◌≤◌, None, OnOk, IfOk, length};
 ghost use Rattle.hfs_btree.specs.Header.{tree_content};
 ghost use Rattle.hfs_btree.specs.Sound.{IsOrdered};
 ghost use Rattle.hfs_btree_checks.specs.Order.{key_fault, leaf_order_fault, order_fault, rise_fault};
 ghost use Rattle.hfs_btree_checks.specs.Shape.{shape_fault};
-ghost use Rattle.hfs_btree_checks.specs.ShapeSteps.{IsFault, IsPlace};
+ghost use Rattle.hfs_btree_checks.specs.Laws.{OrderedIffFaultless};
+ghost use Rattle.hfs_btree_checks.specs.ShapeSteps.{FindsFault, FindsPlace};
 
 use crate::fault::TreeFault;
 use crate::key_levels::check_keys;
@@ -34,7 +35,7 @@ impl<'a, K: Key, N: Nodes> ShapedTree<'a, K, N> {
     /// Errors: those of `check_shape`.
     pub fn of(alloc: Global, nodes: &'a N, size: u32) -> Result<ShapedTree<'a, K, N>, TreeFault>
         requires { size ≤ 512 * length (N.nodes nodes.now) }
-        ensures fault { MatchResult result (λ _. shape_fault K.Key size (N.nodes nodes.now) ≡ None) (IsFault (shape_fault K.Key size (N.nodes nodes.now))) }
+        ensures fault { FindsFault (shape_fault K.Key size (N.nodes nodes.now)) result }
         ensures nodes { IfOk result (λ tree. tree.nodes.now ≡ nodes.now) }
     {
         check_shape::<K, N>(alloc, nodes, size)?;
@@ -56,9 +57,9 @@ impl<'a, K: Key, N: Nodes> ShapedTree<'a, K, N> {
     ///
     /// Source: Inside Macintosh: Files, chapter 2, 'B*-trees'; docs/CHECKS.md has the rules.
     pub fn check_order(&self) -> Result<(), TreeFault>
-        ensures place { MatchResult result (λ _. order_fault K.Key (N.nodes self.now.nodes.now) ≡ None) (IsPlace (order_fault K.Key (N.nodes self.now.nodes.now))) }
+        ensures place { FindsPlace (order_fault K.Key (N.nodes self.now.nodes.now)) result }
         ensures ordered { OnOk result (IsOrdered K.Key (N.nodes self.now.nodes.now)) }
-        ensures law { (order_fault K.Key (N.nodes self.now.nodes.now) ≡ None) ↔ IsOrdered K.Key (N.nodes self.now.nodes.now) }
+        ensures law { OrderedIffFaultless K.Key (N.nodes self.now.nodes.now) }
     {
         check_order::<K, N>(self.nodes)
     }
@@ -70,7 +71,7 @@ impl<'a, K: Key, N: Nodes> ShapedTree<'a, K, N> {
     /// Errors: `TreeFault::At(n)` where node `n` is the first in the turn of levels with a key that doesn't pass.
     /// `TreeFault::Memory` where memory was refused.
     pub fn check_keys<T: KeyTest<K>>(&self, alloc: Global, test: &T) -> Result<(), TreeFault>
-        ensures { MatchResult result (λ _. key_fault K.Key (N.nodes self.now.nodes.now) (T.passes test.now) ≡ None) (IsFault (key_fault K.Key (N.nodes self.now.nodes.now) (T.passes test.now))) }
+        ensures { FindsFault (key_fault K.Key (N.nodes self.now.nodes.now) (T.passes test.now)) result }
     {
         check_keys::<K, N, T>(alloc, self.nodes, test)
     }

@@ -37,3 +37,4 @@ pub mod Replaced
 pub mod Laws
 pub mod Files
 pub mod Written
+pub mod Entries

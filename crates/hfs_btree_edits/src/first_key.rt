@@ -1,7 +1,8 @@
 //! The first key of a node.
 
-ghost use Rattle.std.specs.Prelude.{◌≡◌, ◌≢◌, ◌<◌, true, [], length, slice_index_or};
+ghost use Rattle.std.specs.Prelude.{◌≡◌, ◌≢◌, ◌<◌, true, length};
 ghost use Rattle.hfs_node.specs.declared.kind.NodeKind.TheVariants.{Leaf};
+ghost use Rattle.hfs_btree_edits.specs.Entries.{first_record};
 
 use hfs_btree::{Key, index_key_of, key_of};
 use hfs_node::{Node, NodeKind};
@@ -9,10 +10,10 @@ use hfs_node::{Node, NodeKind};
 /// The first key of a leaf or an index node.
 pub fn first_key_of<K: Key>(node: &Node) -> K
     requires some { 0 < length node.now.records }
-    requires leaf { node.now.kind ≡ Leaf → K.is_leaf (slice_index_or node.now.records 0 []) ≡ true }
-    requires index { node.now.kind ≢ Leaf → K.is_index (slice_index_or node.now.records 0 []) ≡ true }
-    ensures leaf { node.now.kind ≡ Leaf → result ≡ K.leaf_key (slice_index_or node.now.records 0 []) }
-    ensures index { node.now.kind ≢ Leaf → result ≡ K.index_key (slice_index_or node.now.records 0 []) }
+    requires leaf { node.now.kind ≡ Leaf → K.is_leaf (first_record node.now) ≡ true }
+    requires index { node.now.kind ≢ Leaf → K.is_index (first_record node.now) ≡ true }
+    ensures leaf { node.now.kind ≡ Leaf → result ≡ K.leaf_key (first_record node.now) }
+    ensures index { node.now.kind ≢ Leaf → result ≡ K.index_key (first_record node.now) }
 {
     let entry = node.records.record(0);
     match node.kind {

@@ -1,11 +1,11 @@
 //! The bit of a node in the node map.
 
-ghost use Rattle.std.specs.Prelude.{◌≡◌, ℕ, ◌*◌, ◌<◌, ◌≤◌, ◌⊎◌, [], true, false, IfNone, IfOk, IfSome, OnOk, MatchOption, length, slice_index_or};
+ghost use Rattle.std.specs.Prelude.{◌≡◌, ◌*◌, ◌<◌, ◌≤◌, [], false, IfNone, IfOk, IfSome, OnOk, MatchOption, length, slice_index_or};
 ghost use Rattle.hfs_node.specs.Node.{node_of};
 ghost use Rattle.hfs_btree.specs.Tree.{records_of};
 ghost use Rattle.hfs_btree.specs.Header.{header_in, record_in, bit_of, free_nodes};
 ghost use Rattle.hfs_btree.specs.Sound.{HasMap};
-ghost use Rattle.hfs_btree_edits.specs.MapPlaces.{IsPlaced, HasBitPut};
+ghost use Rattle.hfs_btree_edits.specs.MapPlaces.{IsPlaceOfNode, IsClearAt, HasWrittenAt, KeepsBitsBut, AreAllSet};
 
 use crate::nodes_mut::NodesMut;
 use crate::stored::{load, store};
@@ -44,7 +44,7 @@ fn part_of(bytes: &[u8; 512], entry: usize) -> &[u8]
 /// The first clear bit among the first `count` of these bytes, or of as many as there are.
 fn first_clear(bytes: &[u8], count: usize) -> Option<usize>
     requires { length bytes.now ≤ 494 }
-    ensures { MatchOption result ((k : ℕ) → k < count → k < 8 * length bytes.now → bit_of bytes.now k ≡ true)
+    ensures { MatchOption result (AreAllSet count bytes.now)
         (λ i. (i < count) × (i < 8 * length bytes.now) × (bit_of bytes.now i ≡ false)) }
 {
     for i in 0..count.min(8 * bytes.len()) {
@@ -61,7 +61,7 @@ pub(crate) fn bit_of_node<N: Nodes>(nodes: &N, count: u32, n: u32) -> Option<Map
     requires map { HasMap (N.nodes nodes.now) }
     requires counted { count ≡ (header_in (N.nodes nodes.now)).nodes }
     ensures none { IfNone result (count ≤ n) }
-    ensures place { IfSome result (λ at. IsPlaced (N.nodes nodes.now) at.node at.entry at.bit at.number) }
+    ensures place { IfSome result (IsPlaceOfNode (N.nodes nodes.now)) }
     ensures number { IfSome result (λ at. at.number ≡ n) }
 {
     let mut bytes = [0; 512];
@@ -96,9 +96,9 @@ pub(crate) fn free_bit<N: Nodes>(nodes: &N, count: u32) -> Option<MapBit>
     requires map { HasMap (N.nodes nodes.now) }
     requires counted { count ≡ (header_in (N.nodes nodes.now)).nodes }
     ensures none { IfNone result (free_nodes (N.nodes nodes.now) ≡ 0) }
-    ensures place { IfSome result (λ at. IsPlaced (N.nodes nodes.now) at.node at.entry at.bit at.number) }
+    ensures place { IfSome result (IsPlaceOfNode (N.nodes nodes.now)) }
     ensures within { IfSome result (λ at. at.number < count) }
-    ensures clear { IfSome result (λ at. bit_of (record_in (N.nodes nodes.now) at.node at.entry) at.bit ≡ false) }
+    ensures clear { IfSome result (IsClearAt (N.nodes nodes.now)) }
 {
     let mut bytes = [0; 512];
     let mut node = 0;
@@ -133,7 +133,7 @@ pub(crate) fn free_bit<N: Nodes>(nodes: &N, count: u32) -> Option<MapBit>
 fn write_in(bytes: &mut [u8], i: usize, value: bool)
     requires { i < 8 * length bytes.old }
     ensures here { bit_of bytes.new i ≡ value }
-    ensures others { (k : ℕ) → (k < i) ⊎ (i < k) → bit_of bytes.new k ≡ bit_of bytes.old k }
+    ensures others { KeepsBitsBut i bytes.old bytes.new }
     ensures length { length bytes.new ≡ length bytes.old }
 {
     if value {
@@ -147,7 +147,7 @@ fn write_in(bytes: &mut [u8], i: usize, value: bool)
 fn rewritten(alloc: Global, old: &[u8], i: usize, value: bool) -> Result<Vec<u8>, AllocError>
     requires { i < 8 * length old.now }
     ensures here { IfOk result (λ made. bit_of made.items i ≡ value) }
-    ensures others { IfOk result (λ made. (k : ℕ) → (k < i) ⊎ (i < k) → bit_of made.items k ≡ bit_of old.now k) }
+    ensures others { IfOk result (λ made. KeepsBitsBut i old.now made.items) }
     ensures length { IfOk result (λ made. length made.items ≡ length old.now) }
 {
     let mut bytes = Vec::from_slice(alloc, old)?;
@@ -163,7 +163,7 @@ pub(crate) fn put_bit<S: NodesMut>(
     value: bool,
 ) -> Result<(), AllocError>
     requires { at.bit < 8 * length (record_in (S.nodes nodes.old) at.node at.entry) }
-    ensures put { OnOk result (HasBitPut at.node at.entry at.bit value (S.nodes nodes.old) (S.nodes nodes.new)) }
+    ensures put { OnOk result (HasWrittenAt at value (S.nodes nodes.old) (S.nodes nodes.new)) }
     ensures kept { OnOk result (S.kept nodes.new ≡ S.kept nodes.old) }
 {
     let mut node = load(alloc, nodes, at.node)?;

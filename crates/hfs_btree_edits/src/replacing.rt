@@ -1,14 +1,14 @@
 //! Putting a pair in the place of another one.
 
-ghost use Rattle.std.specs.Prelude.{◌≡◌, ◌<◌, true, [], Ok, Some, OnOk, IfOk, IsTrue, length, map, drop, slice_index_or};
-ghost use Rattle.std.specs.declared.cmp.Ordering.TheVariants.{Equal};
+ghost use Rattle.std.specs.Prelude.{◌≡◌, ◌<◌, true, Ok, OnOk, IfOk, IsTrue, length};
 ghost use Rattle.hfs_node.specs.Node.{node_of, Fits};
 ghost use Rattle.hfs_scans.specs.Each.{Each};
 ghost use Rattle.hfs_btree.specs.Pairs.{lookup};
-ghost use Rattle.hfs_btree.specs.Tree.{records_of, pair_of};
-ghost use Rattle.hfs_btree.specs.Header.{tree_content};
+ghost use Rattle.hfs_btree.specs.Tree.{records_of, pairs_of};
+ghost use Rattle.hfs_btree.specs.Header.{body_at};
 ghost use Rattle.hfs_btree.specs.Sound.{IsSound};
 ghost use Rattle.hfs_btree_edits.specs.Edits.{HasReplaced};
+ghost use Rattle.hfs_btree_edits.specs.Entries.{HasBodyAt, HasKeyAt};
 ghost use Rattle.hfs_btree_edits.specs.Conditions.{IsNoLonger, IsThere};
 
 use crate::nodes_mut::NodesMut;
@@ -20,10 +20,10 @@ use std::alloc::{AllocError, Global};
 /// The place of the record with this key, in a leaf that has one.
 pub fn place_of<K: Key>(bytes: &[u8; 512], key: &K) -> usize
     requires leaf { Each (λ entry. K.is_leaf entry ≡ true) (records_of (node_of bytes.now)) }
-    requires there { IsThere (lookup K.compare key.now (map (pair_of K.Key) (records_of (node_of bytes.now)))) }
+    requires there { IsThere (lookup K.compare key.now (pairs_of K.Key bytes.now)) }
     ensures within { result < length (records_of (node_of bytes.now)) }
-    ensures equal { K.compare key.now (K.leaf_key (slice_index_or (records_of (node_of bytes.now)) result [])) ≡ Equal }
-    ensures body { let entry = slice_index_or (records_of (node_of bytes.now)) result [] in lookup K.compare key.now (map (pair_of K.Key) (records_of (node_of bytes.now))) ≡ Some (drop (K.body_start entry) entry) }
+    ensures equal { HasKeyAt K.Key key.now bytes.now result }
+    ensures body { HasBodyAt K.Key key.now bytes.now result }
 {
     let Ok(node) = view(bytes) else {
         unreachable!();
@@ -60,7 +60,7 @@ pub fn replace<K: Key, N: NodesMut>(
 ) -> Result<(), AllocError>
     requires sound { IsSound K.Key (N.nodes nodes.old) }
     requires allowed { IsTrue (K.is_body_len (length body.now)) }
-    requires there { IsNoLonger body.now (lookup K.compare key.now (tree_content K.Key (N.nodes nodes.old))) }
+    requires there { IsNoLonger body.now (body_at K.Key (N.nodes nodes.old) key.now) }
     ensures replaced { OnOk result (HasReplaced K.Key key.now body.now (N.nodes nodes.old) (N.nodes nodes.new)) }
     ensures kept { OnOk result (N.kept nodes.new ≡ N.kept nodes.old) }
 {

@@ -1,15 +1,16 @@
 -- What the steps of an insertion make of a tree.
-use Rattle.std.specs.Prelude.{◌≡◌, ◌≢◌, ℕ, zero, suc, ◌+◌, ◌<◌, ◌≤◌, length}
+use Rattle.std.specs.Prelude.{◌≡◌, ◌≢◌, ℕ, zero, suc, ◌+◌, ◌-◌, ◌<◌, ◌≤◌, List, length}
 use Rattle.std.specs.List.{prefix_len}
-use Rattle.hfs_node.specs.Node.{size_of}
+use Rattle.hfs_node.specs.Node.{node_of, size_of}
 use Rattle.hfs_btree.specs.declared.key.Key.{Ghosts}
-use Rattle.hfs_btree.specs.Tree.{Store, records_in}
+use Rattle.hfs_btree.specs.Tree.{Store, records_in, records_of}
 use Rattle.hfs_scans.specs.Each.{Each}
 use Rattle.hfs_scans.specs.Members.{In}
 use Rattle.hfs_btree.specs.Header.{header_in, depth_of, free_nodes, tree_nodes, tree_content}
 use Rattle.hfs_btree.specs.Sound.{IsOther}
-use Rattle.hfs_btree.specs.Search.{is_not_above, leaf_under}
+use Rattle.hfs_btree.specs.Search.{is_not_above, child_for, leaf_for, leaf_under, IsLowWay}
 use Rattle.hfs_btree_edits.specs.Edits.{KeepsTree, level_above, node_for, IsFullFor}
+use Rattle.hfs_btree_insertion.specs.Cut.{child_at}
 use Rattle.hfs_btree_edits.specs.KeptKeys.{tree_keys, EachKey}
 
 -- ---- room
@@ -78,3 +79,37 @@ pub record HasCutLevel {K : Type 0} (g : Ghosts K) (key : K) (a : ℕ) (old new 
   pub size : (k : ℕ) → k < a → size_of (records_in new (node_for g old key k)) ≡ size_of (records_in old (node_for g old key k))
   pub room : size_of (records_in new (node_for g new key a)) ≤ 319
   pub low : IsLow g new key
+
+-- ---- words of the steps' contracts
+
+-- the leaf for the key has room for one more record of so many bytes
+abbrev pub HasLeafRoom : {K : Type 0} → Ghosts K → Store → K → ℕ → Type 0
+HasLeafRoom g nodes key len = size_of (records_in nodes (leaf_for g nodes key)) + (len + 2) ≤ 496
+
+-- on the way from the root down to the key no index node has all of its keys above the key
+abbrev pub IsRootLow : {K : Type 0} → Ghosts K → Store → K → Type 0
+IsRootLow g nodes key = IsLowWay g nodes key (depth_of nodes - 1) (header_in nodes).root
+
+-- the records of node n have so many bytes that it can be cut in two
+abbrev pub IsCuttable : Store → ℕ → Type 0
+IsCuttable nodes n = 354 < size_of (records_in nodes n)
+
+-- the child that record q of node p names can be cut
+abbrev pub IsChildCuttable : {K : Type 0} → Ghosts K → Store → ℕ → ℕ → Type 0
+IsChildCuttable g nodes p q = IsCuttable nodes (child_at g nodes p q)
+
+-- the node on the way to the key, so many levels above the leaves, can be cut
+abbrev pub IsCuttableOnWay : {K : Type 0} → Ghosts K → Store → K → ℕ → Type 0
+IsCuttableOnWay g nodes key above = IsCuttable nodes (node_for g nodes key above)
+
+-- the node on the way to the key, so many levels above the leaves, has room for one more index record
+abbrev pub HasRoomOnWay : {K : Type 0} → Ghosts K → Store → K → ℕ → Type 0
+HasRoomOnWay g nodes key above = HasRoom nodes (g.INDEX_KEY_LEN + 5) (node_for g nodes key above)
+
+-- the child for the key, of an index node with these bytes
+abbrev pub IsChildFor : {K : Type 0} → Ghosts K → K → List ℕ → ℕ → Type 0
+IsChildFor g key bytes = λ child. child ≡ child_for g key (records_of (node_of bytes))
+
+-- a node with these bytes has a key that isn't above the key
+abbrev pub HasLowKey : {K : Type 0} → Ghosts K → K → List ℕ → Type 0
+HasLowKey g key bytes = 0 < prefix_len (is_not_above g key) (records_of (node_of bytes))

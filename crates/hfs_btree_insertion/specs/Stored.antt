@@ -1,5 +1,5 @@
 -- What the writes of an insertion make of a tree's file.
-use Rattle.std.specs.Prelude.{◌≡◌, ◌≢◌, ℕ, ◌+◌, ◌<◌, List, ◌++◌, Ok, insert, Bool, true, false}
+use Rattle.std.specs.Prelude.{◌≡◌, ◌≢◌, ℕ, ◌+◌, ◌<◌, List, ◌++◌, Ok, drop, insert, Bool, true, false}
 use Rattle.hfs_node.specs.declared.node.Node.{Node}
 use Rattle.hfs_btree.specs.declared.key.Key.{Ghosts}
 use Rattle.hfs_btree_edits.specs.Edits.{with_pair, IsAboveFirst, level_above}
@@ -36,3 +36,15 @@ pub record HasPut {K : Type 0} (g : Ghosts K) (key : K) (body : List ℕ) (old n
   pub turn : tree_turn g new ≡ tree_turn g old
   pub header : header_in new ≡ record (header_in old) { records = (header_in old).records + 1 }
   pub head : KeepsHead old new
+
+-- the header record names node n as the last leaf, and nothing else has changed
+abbrev pub HasLastLeaf : ℕ → Store → Store → Type 0
+HasLastLeaf n old new = HasHeaderPut (record (header_in old) { last_leaf = n }) old new
+
+-- the header record counts one leaf record more, and nothing else has changed
+abbrev pub CountsOneMore : Store → Store → Type 0
+CountsOneMore old new = HasHeaderPut (record (header_in old) { records = (header_in old).records + 1 }) old new
+
+-- the pair of this leaf record was put in its place
+abbrev pub HasEntryPut : {K : Type 0} → Ghosts K → K → List ℕ → Store → Store → Type 0
+HasEntryPut g key entry old new = HasPut g key (drop (g.body_start entry) entry) old new

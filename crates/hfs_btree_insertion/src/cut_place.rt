@@ -1,7 +1,8 @@
 //! Where a node is cut, and the index record that names its second half.
 
-ghost use Rattle.std.specs.Prelude.{◌≡◌, ◌<◌, ◌≤◌, All, IfOk, true, [], length, take, drop, slice_index_or};
+ghost use Rattle.std.specs.Prelude.{◌≡◌, ◌<◌, ◌≤◌, All, IfOk, true, length, take, drop};
 ghost use Rattle.hfs_node.specs.Node.{Fits, size_of};
+ghost use Rattle.hfs_btree.specs.Header.{record_in};
 ghost use Rattle.hfs_btree.specs.Tree.{records_in, reads_at};
 ghost use Rattle.hfs_btree_insertion.specs.Cut.{child_at};
 ghost use Rattle.hfs_btree_insertion.specs.Halves.{NamesHalf};
@@ -62,7 +63,7 @@ pub(crate) fn half_entry<K: Key, N: Nodes>(
 ) -> Result<Vec<u8>, AllocError>
     requires within { n < length (N.nodes nodes.now) }
     requires place { place < length (records_in (N.nodes nodes.now) n) }
-    requires reads { reads_at K.Key above (slice_index_or (records_in (N.nodes nodes.now) n) place []) ≡ true }
+    requires reads { reads_at K.Key above (record_in (N.nodes nodes.now) n place) ≡ true }
     ensures { IfOk result (λ made. NamesHalf K.Key (N.nodes nodes.now) n place above m made.items) }
 {
     let mut bytes = [0; 512];
@@ -81,7 +82,7 @@ pub(crate) fn half_entry<K: Key, N: Nodes>(
 pub(crate) fn child_named<K: Key, N: Nodes>(nodes: &N, n: u32, place: usize) -> u32
     requires within { n < length (N.nodes nodes.now) }
     requires place { place < length (records_in (N.nodes nodes.now) n) }
-    requires reads { K.is_index (slice_index_or (records_in (N.nodes nodes.now) n) place []) ≡ true }
+    requires reads { K.is_index (record_in (N.nodes nodes.now) n place) ≡ true }
     ensures { result ≡ child_at K.Key (N.nodes nodes.now) n place }
 {
     let mut bytes = [0; 512];

@@ -1,11 +1,11 @@
 //! A node whose second half goes to another.
 
 ghost use Rattle.std.specs.Prelude.{◌≡◌, ◌≢◌, ◌<◌, ◌≤◌, OnOk, length};
-ghost use Rattle.hfs_btree.specs.Header.{header_in, record_in};
+ghost use Rattle.hfs_btree.specs.Header.{record_in};
 ghost use Rattle.hfs_btree.specs.Tree.{node_in, records_in, forward_of};
-ghost use Rattle.hfs_btree_edits.specs.Stored.{HasBackward, HasHeaderPut};
+ghost use Rattle.hfs_btree_edits.specs.Stored.{HasBackward};
 ghost use Rattle.hfs_btree_insertion.specs.Halves.{HasHalved};
-ghost use Rattle.hfs_btree_insertion.specs.Stored.{HasLinked};
+ghost use Rattle.hfs_btree_insertion.specs.Stored.{HasLinked, HasLastLeaf};
 
 use hfs_btree::read_header;
 use hfs_btree_edits::{NodesMut, load, put_header, store};
@@ -26,7 +26,7 @@ fn link_back<S: NodesMut>(alloc: Global, nodes: &mut S, n: u32, left: u32) -> Re
 fn put_last<S: NodesMut>(alloc: Global, nodes: &mut S, n: u32) -> Result<(), AllocError>
     requires within { 0 < length (S.nodes nodes.old) }
     requires long { 30 ≤ length (record_in (S.nodes nodes.old) 0 0) }
-    ensures put { OnOk result (HasHeaderPut (record (header_in (S.nodes nodes.old)) { last_leaf = n }) (S.nodes nodes.old) (S.nodes nodes.new)) }
+    ensures put { OnOk result (HasLastLeaf n (S.nodes nodes.old) (S.nodes nodes.new)) }
     ensures kept { OnOk result (S.kept nodes.new ≡ S.kept nodes.old) }
 {
     let mut header = read_header(nodes);

@@ -1,13 +1,13 @@
 //! A record that is put into a leaf with room for it.
 
-ghost use Rattle.std.specs.Prelude.{◌≡◌, ◌+◌, ◌-◌, ◌^◌, ◌<◌, ◌≤◌, None, IsTrue, OnOk, [], length, drop, slice_index_or};
+ghost use Rattle.std.specs.Prelude.{◌≡◌, ◌+◌, ◌^◌, ◌<◌, ◌≤◌, None, IsTrue, OnOk, [], length, slice_index_or};
 ghost use Rattle.hfs_node.specs.Node.{size_of};
 ghost use Rattle.hfs_btree.specs.Header.{header_in, record_in, depth_of, tree_content};
 ghost use Rattle.hfs_btree.specs.Pairs.{lookup};
-ghost use Rattle.hfs_btree.specs.Search.{leaf_for, IsLowWay};
+ghost use Rattle.hfs_btree.specs.Search.{leaf_for};
 ghost use Rattle.hfs_btree.specs.Sound.{IsSound};
-ghost use Rattle.hfs_btree_insertion.specs.Stored.{HasRecordPut, HasPut};
-ghost use Rattle.hfs_btree_edits.specs.Stored.{HasHeaderPut};
+ghost use Rattle.hfs_btree_insertion.specs.Stored.{HasRecordPut, CountsOneMore, HasEntryPut};
+ghost use Rattle.hfs_btree_insertion.specs.Growth.{HasLeafRoom, IsRootLow};
 ghost use Rattle.hfs_btree.specs.Tree.{records_in};
 
 use hfs_btree::{Key, descend, place_in, read_header};
@@ -38,7 +38,7 @@ fn count_record<S: NodesMut>(alloc: Global, nodes: &mut S) -> Result<(), AllocEr
     requires within { 0 < length (S.nodes nodes.old) }
     requires long { 30 ≤ length (record_in (S.nodes nodes.old) 0 0) }
     requires few { (header_in (S.nodes nodes.old)).records + 1 < 2 ^ 32 }
-    ensures counted { OnOk result (HasHeaderPut (record (header_in (S.nodes nodes.old)) { records = (header_in (S.nodes nodes.old)).records + 1 }) (S.nodes nodes.old) (S.nodes nodes.new)) }
+    ensures counted { OnOk result (CountsOneMore (S.nodes nodes.old) (S.nodes nodes.new)) }
     ensures kept { OnOk result (S.kept nodes.new ≡ S.kept nodes.old) }
 {
     let mut header = read_header(nodes);
@@ -62,11 +62,11 @@ pub(crate) fn put_in_leaf<K: Key, S: NodesMut>(
     requires leaf { IsTrue (K.is_leaf entry.items) }
     requires keyed { K.leaf_key entry.items ≡ key.now }
     requires absent { lookup K.compare key.now (tree_content K.Key (S.nodes nodes.old)) ≡ None }
-    requires low { IsLowWay K.Key (S.nodes nodes.old) key.now (depth_of (S.nodes nodes.old) - 1) (header_in (S.nodes nodes.old)).root }
+    requires low { IsRootLow K.Key (S.nodes nodes.old) key.now }
     requires found { n ≡ leaf_for K.Key (S.nodes nodes.old) key.now }
     requires read { bytes.now ≡ slice_index_or (S.nodes nodes.old) n [] }
     requires room { size_of (records_in (S.nodes nodes.old) n) + (length entry.items + 2) ≤ 496 }
-    ensures put { OnOk result (HasPut K.Key key.now (drop (K.body_start entry.items) entry.items) (S.nodes nodes.old) (S.nodes nodes.new)) }
+    ensures put { OnOk result (HasEntryPut K.Key key.now entry.items (S.nodes nodes.old) (S.nodes nodes.new)) }
     ensures kept { OnOk result (S.kept nodes.new ≡ S.kept nodes.old) }
 {
     let place = place_in(bytes, key);
@@ -87,9 +87,9 @@ pub(crate) fn put_entry<K: Key, S: NodesMut>(
     requires leaf { IsTrue (K.is_leaf entry.items) }
     requires keyed { K.leaf_key entry.items ≡ key.now }
     requires absent { lookup K.compare key.now (tree_content K.Key (S.nodes nodes.old)) ≡ None }
-    requires low { IsLowWay K.Key (S.nodes nodes.old) key.now (depth_of (S.nodes nodes.old) - 1) (header_in (S.nodes nodes.old)).root }
-    requires room { size_of (records_in (S.nodes nodes.old) (leaf_for K.Key (S.nodes nodes.old) key.now)) + (length entry.items + 2) ≤ 496 }
-    ensures put { OnOk result (HasPut K.Key key.now (drop (K.body_start entry.items) entry.items) (S.nodes nodes.old) (S.nodes nodes.new)) }
+    requires low { IsRootLow K.Key (S.nodes nodes.old) key.now }
+    requires room { HasLeafRoom K.Key (S.nodes nodes.old) key.now (length entry.items) }
+    ensures put { OnOk result (HasEntryPut K.Key key.now entry.items (S.nodes nodes.old) (S.nodes nodes.new)) }
     ensures kept { OnOk result (S.kept nodes.new ≡ S.kept nodes.old) }
 {
     let header = read_header(nodes);

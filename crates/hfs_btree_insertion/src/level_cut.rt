@@ -1,13 +1,10 @@
 //! Nodes on the way to a key that are cut in two.
 
 ghost use Rattle.std.specs.Prelude.{◌≡◌, ℕ, ◌+◌, ◌<◌, ◌≤◌, OnOk, length};
-ghost use Rattle.hfs_node.specs.Node.{size_of};
 ghost use Rattle.hfs_btree.specs.Header.{header_in, depth_of, free_nodes};
 ghost use Rattle.hfs_btree.specs.Sound.{IsSound, IsStray};
-ghost use Rattle.hfs_btree.specs.Tree.{records_in};
-ghost use Rattle.hfs_btree_edits.specs.Edits.{node_for};
-ghost use Rattle.hfs_btree_insertion.specs.Cut.{IsBranch, HasCutAt, child_at};
-ghost use Rattle.hfs_btree_insertion.specs.Growth.{HasRoom, IsLow, HasCutLevel};
+ghost use Rattle.hfs_btree_insertion.specs.Cut.{IsBranch, HasCutAt};
+ghost use Rattle.hfs_btree_insertion.specs.Growth.{HasRoom, HasRoomOnWay, IsChildCuttable, IsCuttableOnWay, IsLow, HasCutLevel};
 ghost use Rattle.hfs_btree_insertion.specs.Steps.{AreCuttable, HasCutDown};
 
 use crate::cut_place::{child_named, cut_place, half_entry};
@@ -32,7 +29,7 @@ fn cut_child<K: Key, S: NodesMut>(
     requires branch { IsBranch K.Key (S.nodes nodes.old) above parent place }
     requires stray { IsStray K.Key (S.nodes nodes.old) m }
     requires within { m < length (S.nodes nodes.old) }
-    requires over { 354 < size_of (records_in (S.nodes nodes.old) (child_at K.Key (S.nodes nodes.old) parent place)) }
+    requires over { IsChildCuttable K.Key (S.nodes nodes.old) parent place }
     requires room { HasRoom (S.nodes nodes.old) (K.INDEX_KEY_LEN + 5) parent }
     ensures cut { OnOk result (HasCutAt K.Key (S.nodes nodes.old) (S.nodes nodes.new) above parent place m) }
     ensures kept { OnOk result (S.kept nodes.new ≡ S.kept nodes.old) }
@@ -55,8 +52,8 @@ pub(crate) fn cut_level<K: Key, S: NodesMut>(
     requires sound { IsSound K.Key (S.nodes nodes.old) }
     requires low { IsLow K.Key (S.nodes nodes.old) key.now }
     requires deep { above + 1 < depth_of (S.nodes nodes.old) }
-    requires over { 354 < size_of (records_in (S.nodes nodes.old) (node_for K.Key (S.nodes nodes.old) key.now above)) }
-    requires room { HasRoom (S.nodes nodes.old) (K.INDEX_KEY_LEN + 5) (node_for K.Key (S.nodes nodes.old) key.now (above + 1)) }
+    requires over { IsCuttableOnWay K.Key (S.nodes nodes.old) key.now above }
+    requires room { HasRoomOnWay K.Key (S.nodes nodes.old) key.now (above + 1) }
     requires free { 0 < free_nodes (S.nodes nodes.old) }
     requires file { (header_in (S.nodes nodes.old)).nodes ≤ length (S.nodes nodes.old) }
     ensures cut { OnOk result (HasCutLevel K.Key key.now above (S.nodes nodes.old) (S.nodes nodes.new)) }

@@ -1,13 +1,12 @@
 //! The leaf that a new record goes to, where it has room and no index key is to be lowered for it.
 
 ghost use Rattle.std.specs.Prelude.{◌≡◌, ◌<◌, ◌≤◌, true, [], IfSome, length, slice_index_or};
-ghost use Rattle.std.specs.List.{prefix_len};
 ghost use Rattle.hfs_node.specs.Node.{node_of};
 ghost use Rattle.hfs_scans.specs.Each.{Each};
 ghost use Rattle.hfs_btree.specs.Header.{header_in, depth_of};
-ghost use Rattle.hfs_btree.specs.Search.{is_not_above, child_for};
 ghost use Rattle.hfs_btree.specs.Sound.{IsSound};
 ghost use Rattle.hfs_btree.specs.Tree.{records_of};
+ghost use Rattle.hfs_btree_insertion.specs.Growth.{HasLowKey, IsChildFor};
 ghost use Rattle.hfs_btree_insertion.specs.Room.{IsRoomyLeaf};
 
 use crate::way::size_in;
@@ -18,8 +17,8 @@ use hfs_node::view;
 /// The child where the search for a key goes on from an index node; none where all of the node's keys are above the key.
 fn low_child<K: Key>(bytes: &[u8; 512], key: &K) -> Option<u32>
     requires { Each (λ entry. K.is_index entry ≡ true) (records_of (node_of bytes.now)) }
-    ensures child { IfSome result (λ child. child ≡ child_for K.Key key.now (records_of (node_of bytes.now))) }
-    ensures low { IfSome result (λ child. 0 < prefix_len (is_not_above K.Key key.now) (records_of (node_of bytes.now))) }
+    ensures child { IfSome result (IsChildFor K.Key key.now bytes.now) }
+    ensures low { IfSome result (λ child. HasLowKey K.Key key.now bytes.now) }
 {
     let Ok(node) = view(bytes) else {
         return None;

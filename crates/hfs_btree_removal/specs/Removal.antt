@@ -1,9 +1,10 @@
 -- What the steps of a removal make of a tree's nodes.
-use Rattle.std.specs.Prelude.{◌≡◌, ◌≢◌, ℕ, zero, suc, ◌+◌, ◌-◌, ◌<◌, ◌≤◌, ◌==◌, if◌then◌else◌, true, List, [], ◌∷◌, ◌++◌, ⊤, Ok, Err, Result, Option, Some, None, length, slice_set, slice_index_or, remove}
+use Rattle.std.specs.Prelude.{◌≡◌, ◌≢◌, ℕ, zero, suc, ◌+◌, ◌-◌, ◌<◌, ◌≤◌, ◌==◌, if◌then◌else◌, true, List, [], ◌∷◌, ◌++◌, ⊤, Ok, Err, Result, Option, Some, None, length, map, slice_set, slice_index_or, remove}
 use Rattle.hfs_node.specs.declared.fault.NodeFault.{NodeFault}
 use Rattle.hfs_node.specs.declared.node.Node.{Node}
 use Rattle.hfs_node.specs.declared.kind.NodeKind.TheVariants.{Leaf}
 use Rattle.hfs_btree_removal.specs.declared.down.Step.{Step}
+use Rattle.hfs_btree_removal.specs.declared.unlink.Neighbours.{Neighbours}
 use Rattle.hfs_btree.specs.declared.header.Header.{Header as HeaderRecord}
 use Rattle.hfs_btree.specs.declared.key.Key.{Ghosts}
 use Rattle.hfs_btree_edits.specs.Edits.{without_pair}
@@ -271,3 +272,68 @@ pub record HasTakenOut {K : Type 0} (g : Ghosts K) (steps : List Step) (old new 
   pub content : (t : K) → IsWayTo g old t steps → tree_content g new ≡ without_pair g.compare t (tree_content g old)
   pub depth : depth_of new ≤ depth_of old
   pub free : free_nodes old ≤ free_nodes new
+
+-- ---- words of the steps' contracts
+
+-- the neighbours of node n, 0 where there is none
+abbrev pub left_of : Store → ℕ → ℕ
+left_of nodes n = backward_of (node_in nodes n)
+
+abbrev pub right_of : Store → ℕ → ℕ
+right_of nodes n = forward_of (node_in nodes n)
+
+-- where node n has a neighbour on the left, that is not the one on the right
+abbrev pub HasApartNeighbours : Store → ℕ → Type 0
+HasApartNeighbours nodes n = backward_of (node_in nodes n) ≢ 0 → backward_of (node_in nodes n) ≢ forward_of (node_in nodes n)
+
+-- these neighbours were linked to each other
+abbrev pub AreLinked : Store → Store → Neighbours → Type 0
+AreLinked old new = λ beside. HasUnlinked old new beside.left beside.right
+
+-- the nodes of the chain's steps left their links, one after the other
+abbrev pub AreUnlinked : List Step → Store → Store → Type 0
+AreUnlinked chain old new = AreStepsUnlinked old chain old new
+
+-- where node n is a leaf, each of its records is one of a leaf
+abbrev pub IfLeafReads : {K : Type 0} → Ghosts K → Store → ℕ → Type 0
+IfLeafReads g nodes n = (v : Node) → node_in nodes n ≡ Ok v → v.kind ≡ Leaf → Each (λ e. g.is_leaf e ≡ true) v.records
+
+-- where node n is none, each of its records is an index record
+abbrev pub IfIndexReads : {K : Type 0} → Ghosts K → Store → ℕ → Type 0
+IfIndexReads g nodes n = (v : Node) → node_in nodes n ≡ Ok v → v.kind ≢ Leaf → Each (λ e. g.is_index e ≡ true) v.records
+
+-- the record of the step is gone
+abbrev pub HasStepTaken : Step → Store → Store → Type 0
+HasStepTaken s old new = HasRecordTaken s.node s.place old new
+
+-- the step and those of the chain are the last ones of a way to a pair
+abbrev pub EndWay : {K : Type 0} → Ghosts K → Store → Step → List Step → Type 0
+EndWay g nodes p chain = (above : List Step) × IsWayBelow g nodes above p chain
+
+-- the nodes of the chain's steps are given back one after the other
+abbrev pub AreStepsReleased : {K : Type 0} → Ghosts K → List Step → Store → Store → Type 0
+AreStepsReleased g chain old new = AreReleased g (map (λ s. s.node) chain) old new
+
+-- the record of the step is an index record
+abbrev pub IsIndexStep : {K : Type 0} → Ghosts K → Store → Step → Type 0
+IsIndexStep g nodes s = g.is_index (slice_index_or (records_in nodes s.node) s.place []) ≡ true
+
+-- the record of the step has got this key, and names the same child
+abbrev pub HasStepKey : {K : Type 0} → Ghosts K → Step → K → Store → Store → Type 0
+HasStepKey g s t old new = HasKeySet g s.node s.place t old new
+
+-- how many records the root has
+abbrev pub root_count : Store → ℕ
+root_count nodes = length (records_in nodes (header_in nodes).root)
+
+-- a root that stands above the leaves has more than one child
+abbrev pub RootBranches : Store → Type 0
+RootBranches nodes = 2 ≤ depth_of nodes → 2 ≤ root_count nodes
+
+-- the pairs are the same
+abbrev pub KeepsContent : {K : Type 0} → Ghosts K → Store → Store → Type 0
+KeepsContent g old new = tree_content g new ≡ tree_content g old
+
+-- one more node is free
+abbrev pub FreesOne : Store → Store → Type 0
+FreesOne old new = free_nodes new ≡ free_nodes old + 1

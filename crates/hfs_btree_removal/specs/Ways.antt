@@ -4,7 +4,8 @@ use Rattle.std.specs.declared.cmp.Ordering.TheVariants.{Equal}
 use Rattle.hfs_btree_removal.specs.declared.down.Step.{Step}
 use Rattle.hfs_btree.specs.declared.key.Key.{Ghosts}
 use Rattle.hfs_scans.specs.Each.{Each}
-use Rattle.hfs_btree.specs.Tree.{Store, records_in}
+use Rattle.hfs_btree.specs.Tree.{Store, records_in, records_of}
+use Rattle.hfs_node.specs.Node.{node_of}
 use Rattle.hfs_btree.specs.Header.{header_in, depth_of}
 
 -- the step is at this node, and tells how many records it has and one of them
@@ -37,3 +38,11 @@ pub record IsLastWide (steps : List Step) (at : ℕ) : Type 0 where
   pub long : length before ≡ at
   pub more : 2 ≤ wide.count
   pub ones : Each (λ s. s.count ≤ 1) behind
+
+-- no node of these steps has more than one record
+abbrev pub AreNarrow : List Step → Type 0
+AreNarrow steps = Each (λ s. s.count ≤ 1) steps
+
+-- the child that the record at a place names
+abbrev pub child_in : {K : Type 0} → Ghosts K → List ℕ → ℕ → ℕ
+child_in g bytes place = g.child (slice_index_or (records_of (node_of bytes)) place [])

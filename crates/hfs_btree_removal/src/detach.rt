@@ -1,14 +1,10 @@
 //! The record at the end of a way, and the nodes below it that have no other: taken out, and given back.
 
-ghost use Rattle.std.specs.Prelude.{◌≡◌, ◌≢◌, ◌<◌, ◌≤◌, true, List, Ok, IfOk, OnOk, length, map};
-ghost use Rattle.hfs_node.specs.declared.kind.NodeKind.TheVariants.{Leaf};
-ghost use Rattle.hfs_node.specs.declared.node.Node.{Node};
-ghost use Rattle.hfs_btree_removal.specs.declared.down.Step.{Step};
-ghost use Rattle.hfs_scans.specs.Each.{Each};
-ghost use Rattle.hfs_btree_removal.specs.Removal.{fewer, AreReleased, AreStray, HasDetached, HasRecordTaken, IsNewFirst, IsWayBelow};
+ghost use Rattle.std.specs.Prelude.{◌≡◌, ◌<◌, ◌≤◌, IfOk, OnOk, length};
+ghost use Rattle.hfs_btree_removal.specs.Removal.{fewer, AreStepsReleased, AreStray, HasDetached, HasStepTaken, IfIndexReads, IfLeafReads, IsNewFirst, EndWay};
 ghost use Rattle.hfs_btree.specs.Header.{header_in};
 ghost use Rattle.hfs_btree.specs.Sound.{IsSound};
-ghost use Rattle.hfs_btree.specs.Tree.{node_in, records_in};
+ghost use Rattle.hfs_btree.specs.Tree.{records_in};
 
 use crate::down::Step;
 use crate::unlink::{Neighbours, unlink_all};
@@ -25,9 +21,9 @@ fn take_record<K: Key, S: NodesMut>(
     requires node { step.now.node < length (S.nodes nodes.old) }
     requires place { step.now.place < length (records_in (S.nodes nodes.old) step.now.node) }
     requires more { 2 ≤ length (records_in (S.nodes nodes.old) step.now.node) }
-    requires leaf { (v : Node) → node_in (S.nodes nodes.old) step.now.node ≡ Ok v → v.kind ≡ Leaf → Each (λ e. K.is_leaf e ≡ true) v.records }
-    requires index { (v : Node) → node_in (S.nodes nodes.old) step.now.node ≡ Ok v → v.kind ≢ Leaf → Each (λ e. K.is_index e ≡ true) v.records }
-    ensures taken { OnOk result (HasRecordTaken step.now.node step.now.place (S.nodes nodes.old) (S.nodes nodes.new)) }
+    requires leaf { IfLeafReads K.Key (S.nodes nodes.old) step.now.node }
+    requires index { IfIndexReads K.Key (S.nodes nodes.old) step.now.node }
+    ensures taken { OnOk result (HasStepTaken step.now (S.nodes nodes.old) (S.nodes nodes.new)) }
     ensures first { IfOk result (IsNewFirst K.Key step.now (S.nodes nodes.new)) }
     ensures kept { OnOk result (S.kept nodes.new ≡ S.kept nodes.old) }
 {
@@ -69,7 +65,7 @@ pub(crate) fn detach<K: Key, S: NodesMut>(
 ) -> Result<Option<K>, AllocError>
     requires sound { IsSound K.Key (S.nodes nodes.old) }
     requires header { header.now ≡ header_in (S.nodes nodes.old) }
-    requires way { (above : List Step) × IsWayBelow K.Key (S.nodes nodes.old) above step.now chain.now }
+    requires way { EndWay K.Key (S.nodes nodes.old) step.now chain.now }
     ensures detached { IfOk result (HasDetached K.Key step.now chain.now (S.nodes nodes.old) (S.nodes nodes.new)) }
     ensures kept { OnOk result (S.kept nodes.new ≡ S.kept nodes.old) }
 {
@@ -88,7 +84,7 @@ pub(crate) fn release_all<K: Key, S: NodesMut>(
 ) -> Result<(), AllocError>
     requires sound { IsSound K.Key (S.nodes nodes.old) }
     requires strays { AreStray K.Key (S.nodes nodes.old) chain.now }
-    ensures released { OnOk result (AreReleased K.Key (map (λ s. s.node) chain.now) (S.nodes nodes.old) (S.nodes nodes.new)) }
+    ensures released { OnOk result (AreStepsReleased K.Key chain.now (S.nodes nodes.old) (S.nodes nodes.new)) }
     ensures kept { OnOk result (S.kept nodes.new ≡ S.kept nodes.old) }
 {
     for i in 0..chain.len() {

@@ -1,15 +1,14 @@
 //! The way from the root down to a pair, step by step.
 
-ghost use Rattle.std.specs.Prelude.{◌≡◌, ◌<◌, ◌≤◌, ◌-◌, suc, true, [], IfOk, MatchOption, length, drop, slice_index_or};
-ghost use Rattle.std.specs.List.{prefix_len};
+ghost use Rattle.std.specs.Prelude.{◌≡◌, ◌<◌, ◌-◌, suc, true, IfOk, MatchOption, length, drop};
 ghost use Rattle.hfs_btree_edits.specs.Conditions.{IsThere};
 ghost use Rattle.hfs_btree.specs.Header.{header_in, depth_of, tree_content};
 ghost use Rattle.hfs_scans.specs.Each.{Each};
 ghost use Rattle.hfs_btree.specs.Pairs.{lookup};
-ghost use Rattle.hfs_btree.specs.Search.{is_not_above};
+ghost use Rattle.hfs_btree.specs.Search.{branch_place};
 ghost use Rattle.hfs_btree.specs.Sound.{IsSound};
 ghost use Rattle.hfs_btree.specs.Tree.{records_of};
-ghost use Rattle.hfs_btree_removal.specs.Ways.{IsWayTo, IsLastWide};
+ghost use Rattle.hfs_btree_removal.specs.Ways.{IsWayTo, IsLastWide, AreNarrow, child_in};
 ghost use Rattle.hfs_node.specs.Node.{node_of};
 
 use hfs_btree::{Header, Key, Nodes, child_of, count_in, entry_in};
@@ -32,7 +31,7 @@ pub(crate) struct Step {
 pub(crate) fn child_at<K: Key>(bytes: &[u8; 512], place: usize) -> u32
     requires within { place < length (records_of (node_of bytes.now)) }
     requires whole { Each (λ entry. K.is_index entry ≡ true) (records_of (node_of bytes.now)) }
-    ensures { result ≡ K.child (slice_index_or (records_of (node_of bytes.now)) place []) }
+    ensures { result ≡ child_in K.Key bytes.now place }
 {
     match entry_in(bytes, place) {
         Some(entry) => child_of::<K>(entry),
@@ -52,9 +51,9 @@ struct Branch {
 fn branch_in<K: Key>(bytes: &[u8; 512], key: &K) -> Branch
     requires some { 0 < length (records_of (node_of bytes.now)) }
     requires whole { Each (λ entry. K.is_index entry ≡ true) (records_of (node_of bytes.now)) }
-    ensures place { result.place ≡ prefix_len (is_not_above K.Key key.now) (records_of (node_of bytes.now)) - 1 }
+    ensures place { result.place ≡ branch_place K.Key key.now bytes.now }
     ensures count { result.count ≡ length (records_of (node_of bytes.now)) }
-    ensures child { result.child ≡ K.child (slice_index_or (records_of (node_of bytes.now)) result.place []) }
+    ensures child { result.child ≡ child_in K.Key bytes.now result.place }
 {
     match view(bytes) {
         Ok(node) => {
@@ -111,7 +110,7 @@ pub(crate) fn steps_to<K: Key, N: Nodes>(
 
 /// The last step whose node has a record besides the one on the way.
 pub(crate) fn last_wide(steps: &[Step]) -> Option<usize>
-    ensures { MatchOption result (Each (λ s. s.count ≤ 1) steps.now) (λ at. IsLastWide steps.now at) }
+    ensures { MatchOption result (AreNarrow steps.now) (IsLastWide steps.now) }
 {
     for i in 0..steps.len() {
         let at = steps.len() - 1 - i;

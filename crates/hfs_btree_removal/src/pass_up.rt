@@ -1,7 +1,7 @@
 //! A first key that has changed, told to the nodes above.
 
-ghost use Rattle.std.specs.Prelude.{◌≡◌, ◌<◌, true, [], OnOk, length, slice_index_or};
-ghost use Rattle.hfs_btree_removal.specs.Removal.{HasKeySet, AreSettable, HasPassedUp, HasToldAbove};
+ghost use Rattle.std.specs.Prelude.{◌≡◌, ◌<◌, OnOk, length};
+ghost use Rattle.hfs_btree_removal.specs.Removal.{HasStepKey, IsIndexStep, AreSettable, HasPassedUp, HasToldAbove};
 ghost use Rattle.hfs_btree.specs.Tree.{records_in};
 
 use crate::down::Step;
@@ -18,8 +18,8 @@ fn set_key<K: Key, S: NodesMut>(
 ) -> Result<(), AllocError>
     requires node { step.now.node < length (S.nodes nodes.old) }
     requires place { step.now.place < length (records_in (S.nodes nodes.old) step.now.node) }
-    requires index { K.is_index (slice_index_or (records_in (S.nodes nodes.old) step.now.node) step.now.place []) ≡ true }
-    ensures set { OnOk result (HasKeySet K.Key step.now.node step.now.place key.now (S.nodes nodes.old) (S.nodes nodes.new)) }
+    requires index { IsIndexStep K.Key (S.nodes nodes.old) step.now }
+    ensures set { OnOk result (HasStepKey K.Key step.now key.now (S.nodes nodes.old) (S.nodes nodes.new)) }
     ensures kept { OnOk result (S.kept nodes.new ≡ S.kept nodes.old) }
 {
     let mut node = load(alloc, nodes, step.node)?;

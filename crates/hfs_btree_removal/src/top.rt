@@ -1,11 +1,10 @@
 //! The root, where it gives way.
 
-ghost use Rattle.std.specs.Prelude.{◌≡◌, ◌+◌, ◌≤◌, [], OnOk, length};
-ghost use Rattle.hfs_btree_removal.specs.Removal.{KeepsSound, GainsNothing};
-ghost use Rattle.hfs_btree.specs.Header.{header_in, depth_of, free_nodes, tree_content};
+ghost use Rattle.std.specs.Prelude.{◌≡◌, ◌+◌, ◌≤◌, [], OnOk};
+ghost use Rattle.hfs_btree_removal.specs.Removal.{KeepsSound, GainsNothing, KeepsContent, FreesOne, root_count, RootBranches};
+ghost use Rattle.hfs_btree.specs.Header.{header_in, depth_of, tree_content};
 ghost use Rattle.hfs_btree_removal.specs.Removal.{HasLowered};
 ghost use Rattle.hfs_btree.specs.Sound.{IsSound};
-ghost use Rattle.hfs_btree.specs.Tree.{records_in};
 
 use crate::down::child_at;
 use hfs_btree::{Header, Key, count_in, read_header};
@@ -21,12 +20,12 @@ fn lower_once<K: Key, S: NodesMut>(
     requires sound { IsSound K.Key (S.nodes nodes.old) }
     requires header { header.now ≡ header_in (S.nodes nodes.old) }
     requires deep { 2 ≤ depth_of (S.nodes nodes.old) }
-    requires one { length (records_in (S.nodes nodes.old) (header_in (S.nodes nodes.old)).root) ≡ 1 }
+    requires one { root_count (S.nodes nodes.old) ≡ 1 }
     ensures keeps { OnOk result (KeepsSound K.Key (S.nodes nodes.old) (S.nodes nodes.new)) }
     ensures gains { OnOk result (GainsNothing K.Key (S.nodes nodes.old) (S.nodes nodes.new)) }
-    ensures content { OnOk result (tree_content K.Key (S.nodes nodes.new) ≡ tree_content K.Key (S.nodes nodes.old)) }
+    ensures content { OnOk result (KeepsContent K.Key (S.nodes nodes.old) (S.nodes nodes.new)) }
     ensures depth { OnOk result (depth_of (S.nodes nodes.new) + 1 ≡ depth_of (S.nodes nodes.old)) }
-    ensures free { OnOk result (free_nodes (S.nodes nodes.new) ≡ free_nodes (S.nodes nodes.old) + 1) }
+    ensures free { OnOk result (FreesOne (S.nodes nodes.old) (S.nodes nodes.new)) }
     ensures kept { OnOk result (S.kept nodes.new ≡ S.kept nodes.old) }
 {
     let mut bytes = [0; 512];
@@ -48,7 +47,7 @@ pub(crate) fn lower_root<K: Key, S: NodesMut>(
 ) -> Result<(), AllocError>
     requires { IsSound K.Key (S.nodes nodes.old) }
     ensures lowered { OnOk result (HasLowered K.Key (S.nodes nodes.old) (S.nodes nodes.new)) }
-    ensures root { OnOk result (2 ≤ depth_of (S.nodes nodes.new) → 2 ≤ length (records_in (S.nodes nodes.new) (header_in (S.nodes nodes.new)).root)) }
+    ensures root { OnOk result (RootBranches (S.nodes nodes.new)) }
     ensures kept { OnOk result (S.kept nodes.new ≡ S.kept nodes.old) }
 {
     let mut header = read_header(nodes);
@@ -77,7 +76,7 @@ pub(crate) fn drop_root<K: Key, S: NodesMut>(
     ensures gains { OnOk result (GainsNothing K.Key (S.nodes nodes.old) (S.nodes nodes.new)) }
     ensures empty { OnOk result (tree_content K.Key (S.nodes nodes.new) ≡ []) }
     ensures depth { OnOk result (depth_of (S.nodes nodes.new) ≡ 0) }
-    ensures free { OnOk result (free_nodes (S.nodes nodes.new) ≡ free_nodes (S.nodes nodes.old) + 1) }
+    ensures free { OnOk result (FreesOne (S.nodes nodes.old) (S.nodes nodes.new)) }
     ensures kept { OnOk result (S.kept nodes.new ≡ S.kept nodes.old) }
 {
     let empty = Header {

@@ -1,8 +1,7 @@
 //! A node whose neighbours are linked to each other past it.
 
-ghost use Rattle.std.specs.Prelude.{◌≡◌, ◌≢◌, ◌<◌, IfOk, OnOk, length};
-ghost use Rattle.hfs_btree.specs.Tree.{node_in, forward_of};
-ghost use Rattle.hfs_btree_removal.specs.Removal.{HasForward, HasBackwardTo, HasUnlinked, AreUnlinkable, AreStepsUnlinked, backward_of, last_left, last_right};
+ghost use Rattle.std.specs.Prelude.{◌≡◌, ◌<◌, IfOk, OnOk, length};
+ghost use Rattle.hfs_btree_removal.specs.Removal.{HasForward, HasBackwardTo, HasApartNeighbours, AreLinked, AreUnlinkable, AreUnlinked, left_of, right_of, last_left, last_right};
 
 use crate::down::Step;
 use hfs_btree_edits::{NodesMut, load, store};
@@ -60,12 +59,12 @@ pub(crate) fn unlink<S: NodesMut>(
     n: u32,
 ) -> Result<Neighbours, AllocError>
     requires within { n < length (S.nodes nodes.old) }
-    requires left { backward_of (node_in (S.nodes nodes.old) n) < length (S.nodes nodes.old) }
-    requires right { forward_of (node_in (S.nodes nodes.old) n) < length (S.nodes nodes.old) }
-    requires apart { backward_of (node_in (S.nodes nodes.old) n) ≢ 0 → backward_of (node_in (S.nodes nodes.old) n) ≢ forward_of (node_in (S.nodes nodes.old) n) }
-    ensures left { IfOk result (λ beside. beside.left ≡ backward_of (node_in (S.nodes nodes.old) n)) }
-    ensures right { IfOk result (λ beside. beside.right ≡ forward_of (node_in (S.nodes nodes.old) n)) }
-    ensures linked { IfOk result (λ beside. HasUnlinked (S.nodes nodes.old) (S.nodes nodes.new) beside.left beside.right) }
+    requires left { left_of (S.nodes nodes.old) n < length (S.nodes nodes.old) }
+    requires right { right_of (S.nodes nodes.old) n < length (S.nodes nodes.old) }
+    requires apart { HasApartNeighbours (S.nodes nodes.old) n }
+    ensures left { IfOk result (λ beside. beside.left ≡ left_of (S.nodes nodes.old) n) }
+    ensures right { IfOk result (λ beside. beside.right ≡ right_of (S.nodes nodes.old) n) }
+    ensures linked { IfOk result (AreLinked (S.nodes nodes.old) (S.nodes nodes.new)) }
     ensures kept { OnOk result (S.kept nodes.new ≡ S.kept nodes.old) }
 {
     let node = load(alloc, nodes, n)?;
@@ -86,7 +85,7 @@ pub(crate) fn unlink_all<S: NodesMut>(
     chain: &[Step],
 ) -> Result<Neighbours, AllocError>
     requires { AreUnlinkable (S.nodes nodes.old) chain.now }
-    ensures linked { OnOk result (AreStepsUnlinked (S.nodes nodes.old) chain.now (S.nodes nodes.old) (S.nodes nodes.new)) }
+    ensures linked { OnOk result (AreUnlinked chain.now (S.nodes nodes.old) (S.nodes nodes.new)) }
     ensures left { IfOk result (λ beside. beside.left ≡ last_left (S.nodes nodes.old) chain.now) }
     ensures right { IfOk result (λ beside. beside.right ≡ last_right (S.nodes nodes.old) chain.now) }
     ensures kept { OnOk result (S.kept nodes.new ≡ S.kept nodes.old) }

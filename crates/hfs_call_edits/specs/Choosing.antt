@@ -12,13 +12,17 @@ use Rattle.hfs_catalog.specs.declared.item.ItemRecord.{ItemRecord}
 use Rattle.hfs_catalog.specs.declared.item.ItemRecord.TheVariants.{Folder, File}
 use Rattle.hfs_catalog.specs.declared.item.CatalogItem.{CatalogItem}
 use Rattle.hfs_catalog.specs.Records.{Record, Catalog}
-use Rattle.hfs_catalog.specs.Lookups.{child_named}
+use Rattle.hfs_catalog.specs.Lookups.{child_named, catalog_item}
 use Rattle.hfs_queries.specs.Told.{is_folder}
 
 -- what was chosen, seen otherwise
 abbrev pub map_ok : {A B : Type 0} → (A → B) → Result A ℤ → Result B ℤ
 map_ok f (Ok x) = Ok (f x)
 map_ok f (Err code) = Err code
+
+-- what was chosen, as an item
+abbrev pub as_item : Result Record ℤ → Result CatalogItem ℤ
+as_item chosen = map_ok catalog_item chosen
 
 -- -44 of a volume that is locked by hardware, else -46 of one that is locked by software
 abbrev pub lock_code : Mdb → Option ℤ
@@ -61,6 +65,10 @@ item_to_set mdb catalog dir name = and_then (child_to_change mdb catalog dir nam
 -- a file's key, and what its record says
 abbrev pub file_part : Record → CatKey × FileRecord
 file_part r = (r.0, file_record_of r.1)
+
+-- what was chosen, as a file
+abbrev pub as_file : Result Record ℤ → Result (CatKey × FileRecord) ℤ
+as_file chosen = map_ok file_part chosen
 
 -- whether it is a locked file
 abbrev pub is_locked_body : ItemRecord → Bool

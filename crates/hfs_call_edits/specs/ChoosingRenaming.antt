@@ -20,6 +20,8 @@ use Rattle.hfs_check.specs.VolumeOf.{volume_in}
 use Rattle.hfs_call_patches.specs.declared.rekeying.Rekeying.{Rekeying}
 use Rattle.hfs_call_edits.specs.Choosing.{lock_code, unless_code, item_to_set}
 use Rattle.hfs_call_patches.specs.Renaming.{IsRenameChoice}
+use Rattle.hfs_btree.specs.Tree.{Store}
+use Rattle.hfs_catalog_edits.specs.Rooms.{HasRoom}
 
 -- ---- the choice by records
 
@@ -71,3 +73,7 @@ ChoosesRenaming old dir name new_name result = MatchResult result (λ item. IsRe
 -- to another case of its name an item comes without any
 abbrev pub nodes_for_name : List ℕ → List ℕ → ℕ → ℕ
 nodes_for_name name new_name depth = if same_name name new_name then 0 else one_record depth
+
+-- to a name that differs in more than case it comes where these nodes have room for one more record
+abbrev pub HasRoomForName : List ℕ → List ℕ → Store → Type 0
+HasRoomForName name new_name nodes = same_name name new_name ≡ false → HasRoom nodes

@@ -1,5 +1,5 @@
 -- What calls that change a volume choose in its blocks, and what they make of them.
-use Rattle.std.specs.Prelude.{◌≡◌, ℕ, ℤ, Bool, true, false, IsTrue, List, Result, Ok, Err}
+use Rattle.std.specs.Prelude.{◌≡◌, ℕ, ℤ, Bool, true, false, IsTrue, List, Result, Ok, Err, Option}
 use Rattle.std.specs.Result.{MatchResult}
 use Rattle.hfs_fields.specs.declared.key.CatKey.{CatKey}
 use Rattle.hfs_fields.specs.declared.mdb.Mdb.{Mdb}
@@ -9,7 +9,7 @@ use Rattle.hfs_fields.specs.Names.{is_item_name}
 use Rattle.hfs_blocks.specs.declared.run.Run.{Run}
 use Rattle.hfs_btree.specs.Header.{depth_of, free_nodes}
 use Rattle.hfs_model.specs.declared.call.Call.{Call}
-use Rattle.hfs_model.specs.Volume.{Entry}
+use Rattle.hfs_model.specs.Volume.{Entry, Volume}
 use Rattle.hfs_model.specs.Changes.{refused}
 use Rattle.hfs_model.specs.Need.{meets_want_of_nodes}
 use Rattle.hfs_model.specs.Step.{step}
@@ -18,13 +18,21 @@ use Rattle.hfs_catalog.specs.declared.item.ItemRecord.TheVariants.{Folder, File}
 use Rattle.hfs_catalog.specs.declared.item.CatalogItem.{CatalogItem}
 use Rattle.hfs_check.specs.Parts.{Blocks, mdb_in, catalog_nodes, catalog_in}
 use Rattle.hfs_check.specs.Sound.{AreBlocksSound}
-use Rattle.hfs_check.specs.VolumeOf.{volume_in}
+use Rattle.hfs_check.specs.VolumeOf.{volume_in, contents_in}
 use Rattle.hfs_call_patches.specs.TreeFiles.{IsCatalogFile, IsExtentsFile}
 use Rattle.hfs_call_patches.specs.Settings.{IsFileUnder, IsFolderUnder, IsFileChoice, IsFolderChoice}
 use Rattle.hfs_call_patches.specs.declared.change.Change.{Change}
 use Rattle.hfs_call_edits.specs.declared.editing.Refusal.{Refusal}
 use Rattle.hfs_call_edits.specs.declared.editing.Refusal.TheVariants as refusal
 use Rattle.hfs_call_patches.specs.CallChanges.{IsChangeOf}
+use Rattle.std.specs.Option.{MatchOption}
+use Rattle.hfs_blocks.specs.Layers.{Numbered}
+use Rattle.hfs_model.specs.Children.{entries_of}
+use Rattle.hfs_model.specs.declared.reply.Value.{Value}
+use Rattle.hfs_changes.specs.OnBlocks.{at_time}
+use Rattle.hfs_queries.specs.Queries.{AreEntries}
+use Rattle.hfs_queries.specs.Told.{is_folder}
+use Rattle.hfs_call_patches.specs.Deleting.{IsParent}
 
 -- the volume is sound; this is its master directory block, and in these runs lie the nodes of its trees
 pub record IsEditing (total : ℕ) (blocks : Blocks) (mdb : Mdb) (extents catalog : List Run) : Type 0 where
@@ -59,7 +67,33 @@ ChoosesFile old chosen result = MatchResult result (λ f. IsChosenFile old chose
 abbrev pub ChoosesItem : Blocks → Result Entry ℤ → Result CatalogItem ℤ → Type 0
 ChoosesItem old chosen result = MatchResult result (λ item. IsChosenBody old chosen item.key item.body) (λ code. chosen ≡ Err code)
 
+-- the file that the rule of a call names in the volume of these blocks, or the code that refuses it
+abbrev pub ChoosesFileBy : (Volume → Result Entry ℤ) → Blocks → Result (CatKey × FileRecord) ℤ → Type 0
+ChoosesFileBy rule old result = ChoosesFile old (rule (volume_in old)) result
+
+-- the item
+abbrev pub ChoosesItemBy : (Volume → Result Entry ℤ) → Blocks → Result CatalogItem ℤ → Type 0
+ChoosesItemBy rule old result = ChoosesItem old (rule (volume_in old)) result
+
+-- ---- what the catalog answers
+
+-- its records answer the queries of the volume's entries
+abbrev pub RecordsAreEntriesIn : Blocks → Type 0
+RecordsAreEntriesIn old = AreEntries (contents_in old) (catalog_in old) (entries_of (volume_in old))
+
+-- it has a folder with that ID
+abbrev pub HasFolder : Blocks → ℕ → Type 0
+HasFolder old dir = is_folder (catalog_in old) dir ≡ true
+
+-- the key and the record of the folder with that ID; None where there is no such folder
+abbrev pub FindsParent : Blocks → ℕ → Option (CatKey × DirRecord) → Type 0
+FindsParent old dir result = MatchOption result (is_folder (catalog_in old) dir ≡ false) (λ p. IsParent (catalog_in old) dir p.0 p.1.valence)
+
 -- ---- edits
+
+-- the change with this patch and this answer, which of the counts changes the moment of the last change alone
+abbrev pub change_at : ℕ → Blocks → Numbered → Value → Change
+change_at now old patch answer = record { patch = patch; counts = at_time now (mdb_in old); value = answer }
 
 -- whether the call meets want of nodes in the volume's catalog
 abbrev pub wants_nodes : Call → Blocks → Bool

@@ -15,6 +15,8 @@ use Rattle.hfs_queries.specs.Told.{folder_with}
 use Rattle.hfs_call_edits.specs.Choosing.{lock_code, unless_code}
 use Rattle.hfs_call_patches.specs.declared.new_items.NewPlace.{NewPlace}
 use Rattle.hfs_call_patches.specs.ReadyPlaces.{IsPlace}
+use Rattle.hfs_model.specs.Choices.{to_create}
+use Rattle.hfs_check.specs.VolumeOf.{volume_in}
 
 -- how many children a folder's record says that it has; a file has none
 abbrev pub children_in : ItemRecord → ℕ
@@ -46,3 +48,7 @@ new_place mdb catalog dir name = unless_code (lock_code mdb) (
 -- the place that a call chooses, or the code that refuses it
 abbrev pub ChoosesPlace : Blocks → Result ℕ ℤ → ℕ → List ℕ → Result NewPlace ℤ → Type 0
 ChoosesPlace old chosen dir name result = MatchResult result (IsPlace old chosen dir name) (λ code. chosen ≡ Err code)
+
+-- that of Create and of DirCreate
+abbrev pub ChoosesNewPlace : Blocks → ℕ → List ℕ → Result NewPlace ℤ → Type 0
+ChoosesNewPlace old dir name result = ChoosesPlace old (to_create (volume_in old) dir name) dir name result

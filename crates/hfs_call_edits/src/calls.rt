@@ -15,7 +15,7 @@ impl<B: Blocks> Editing<'_, B> {
     /// What a call that changes the volume makes of it, or what refuses it. The only error is want of memory.
     pub fn edit(&self, alloc: Global, call: &Call) -> Result<Result<Change, Refusal>, AllocError>
         requires { is_reading call.now ≡ false }
-        ensures { IfOk result (λ edit. IsEditOf call.now (B.total self.now) (B.blocks self.now) edit) }
+        ensures { IfOk result (IsEditOf call.now (B.total self.now) (B.blocks self.now)) }
     {
         match call {
             Call::Create { dir, name, now } => self.create(alloc, *dir, name.as_slice(), *now),
@@ -55,7 +55,7 @@ impl<B: Blocks> Editing<'_, B> {
     /// What a call that sets makes of the volume: dates, Finder bytes or a lock.
     fn set(&self, alloc: Global, call: &Call) -> Result<Result<Change, Refusal>, AllocError>
         requires { IsTrue (is_setting call.now) }
-        ensures { IfOk result (λ edit. IsEditOf call.now (B.total self.now) (B.blocks self.now) edit) }
+        ensures { IfOk result (IsEditOf call.now (B.total self.now) (B.blocks self.now)) }
     {
         match call {
             Call::SetFInfo {

@@ -1,9 +1,8 @@
 //! What calls that change items choose in the catalog. In each the first code that holds is the reply's.
 
 ghost use Rattle.std.specs.Prelude.{◌≡◌};
-ghost use Rattle.hfs_catalog.specs.Lookups.{catalog_item};
 ghost use Rattle.hfs_catalog.specs.Tree.{catalog_of};
-ghost use Rattle.hfs_call_edits.specs.Choosing.{map_ok, lock_code, child_to_change, file_to_change, file_to_set, item_to_set, file_part, is_locked_item};
+ghost use Rattle.hfs_call_edits.specs.Choosing.{lock_code, child_to_change, file_to_change, file_to_set, item_to_set, is_locked_item, as_item, as_file};
 ghost use Rattle.hfs_queries.specs.Told.{IsCatalog};
 
 use bitflags::Flags;
@@ -35,7 +34,7 @@ pub(crate) fn child_to_change<N: Nodes>(
     name: &[u8],
 ) -> Result<CatalogItem, i16>
     requires { IsCatalog (N.nodes nodes.now) }
-    ensures { result ≡ map_ok catalog_item (child_to_change mdb.now (catalog_of (N.nodes nodes.now)) dir name.now) }
+    ensures { result ≡ as_item (child_to_change mdb.now (catalog_of (N.nodes nodes.now)) dir name.now) }
 {
     if let Some(code) = lock_code(mdb) {
         return Err(code);
@@ -54,7 +53,7 @@ pub(crate) fn file_to_change<N: Nodes>(
     name: &[u8],
 ) -> Result<(CatKey, FileRecord), i16>
     requires { IsCatalog (N.nodes nodes.now) }
-    ensures { result ≡ map_ok file_part (file_to_change mdb.now (catalog_of (N.nodes nodes.now)) dir name.now) }
+    ensures { result ≡ as_file (file_to_change mdb.now (catalog_of (N.nodes nodes.now)) dir name.now) }
 {
     let item = match child_to_change(nodes, mdb, dir, name) {
         Ok(item) => item,
@@ -75,7 +74,7 @@ pub(crate) fn file_to_set<N: Nodes>(
     name: &[u8],
 ) -> Result<(CatKey, FileRecord), i16>
     requires { IsCatalog (N.nodes nodes.now) }
-    ensures { result ≡ map_ok file_part (file_to_set mdb.now (catalog_of (N.nodes nodes.now)) dir name.now) }
+    ensures { result ≡ as_file (file_to_set mdb.now (catalog_of (N.nodes nodes.now)) dir name.now) }
 {
     match file_to_change(nodes, mdb, dir, name) {
         Ok((key, file)) => {
@@ -106,7 +105,7 @@ pub(crate) fn item_to_set<N: Nodes>(
     name: &[u8],
 ) -> Result<CatalogItem, i16>
     requires { IsCatalog (N.nodes nodes.now) }
-    ensures { result ≡ map_ok catalog_item (item_to_set mdb.now (catalog_of (N.nodes nodes.now)) dir name.now) }
+    ensures { result ≡ as_item (item_to_set mdb.now (catalog_of (N.nodes nodes.now)) dir name.now) }
 {
     match child_to_change(nodes, mdb, dir, name) {
         Ok(item) => {

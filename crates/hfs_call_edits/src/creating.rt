@@ -18,7 +18,7 @@ impl<B: Blocks> Editing<'_, B> {
         name: &[u8],
         now: u32,
     ) -> Result<Result<Change, Refusal>, AllocError>
-        ensures { IfOk result (λ edit. IsEditOf (call.Create dir name.now now) (B.total self.now) (B.blocks self.now) edit) }
+        ensures { IfOk result (IsEditOf (call.Create dir name.now now) (B.total self.now) (B.blocks self.now)) }
     {
         let place = match self.new_place(dir, name) {
             Ok(place) => place,
@@ -40,7 +40,7 @@ impl<B: Blocks> Editing<'_, B> {
         name: &[u8],
         now: u32,
     ) -> Result<Result<Change, Refusal>, AllocError>
-        ensures { IfOk result (λ edit. IsEditOf (call.DirCreate dir name.now now) (B.total self.now) (B.blocks self.now) edit) }
+        ensures { IfOk result (IsEditOf (call.DirCreate dir name.now now) (B.total self.now) (B.blocks self.now)) }
     {
         let place = match self.new_place(dir, name) {
             Ok(place) => place,

@@ -1,15 +1,12 @@
 //! Delete.
 
-ghost use Rattle.std.specs.Prelude.{◌≡◌, false, true, IfOk};
-ghost use Rattle.std.specs.Option.{MatchOption};
+ghost use Rattle.std.specs.Prelude.{IfOk};
 ghost use Rattle.hfs_model.specs.declared.call.Call.TheVariants as call;
 ghost use Rattle.hfs_model.specs.Choices.{to_delete};
 ghost use Rattle.hfs_changes.specs.RemovalLaws.{without_folder};
 ghost use Rattle.hfs_check.specs.Parts.{catalog_in};
-ghost use Rattle.hfs_check.specs.VolumeOf.{volume_in};
 ghost use Rattle.hfs_call_patches.specs.Deleting.{IsParent, IsFolderToDelete, IsFolderDeletion, IsFileToDelete, IsFileDeletion};
-ghost use Rattle.hfs_call_edits.specs.Edits.{ChoosesItem, IsEditOf};
-ghost use Rattle.hfs_queries.specs.Told.{is_folder};
+ghost use Rattle.hfs_call_edits.specs.Edits.{IsEditOf, ChoosesItemBy, HasFolder, FindsParent};
 
 use crate::choosing_delete;
 use crate::editing::{Editing, Refusal};
@@ -25,8 +22,8 @@ use std::alloc::{AllocError, Global};
 impl<B: Blocks> Editing<'_, B> {
     /// The folder's item of that name, or the code that refuses to delete it.
     fn item_to_delete(&self, dir: u32, name: &[u8]) -> Result<CatalogItem, i16>
-        ensures choice { ChoosesItem (B.blocks self.now) (to_delete (volume_in (B.blocks self.now)) dir name.now) result }
-        ensures folder { IfOk result (λ item. is_folder (catalog_in (B.blocks self.now)) dir ≡ true) }
+        ensures choice { ChoosesItemBy (λ v. to_delete v dir name.now) (B.blocks self.now) result }
+        ensures folder { IfOk result (λ item. HasFolder (B.blocks self.now) dir) }
     {
         choice_stands();
         choosing_delete::item_to_delete(&self.nodes(), self.mdb, dir, name)
@@ -34,7 +31,7 @@ impl<B: Blocks> Editing<'_, B> {
 
     /// The key and the record of the folder with that ID.
     fn parent(&self, dir: u32) -> Option<(CatKey, DirRecord)>
-        ensures { MatchOption result (is_folder (catalog_in (B.blocks self.now)) dir ≡ false) (λ p. IsParent (catalog_in (B.blocks self.now)) dir p.0 p.1.valence) }
+        ensures { FindsParent (B.blocks self.now) dir result }
     {
         match folder(&self.nodes(), dir) {
             Some(item) => {
@@ -62,7 +59,7 @@ impl<B: Blocks> Editing<'_, B> {
     ) -> Result<Change, AllocError>
         requires chosen { IsFolderToDelete (B.blocks self.now) dir key.now folder.now }
         requires parent { IsParent (catalog_in (B.blocks self.now)) dir parent.now valence }
-        ensures { IfOk result (λ change. IsFolderDeletion dir key.now folder.now now (B.total self.now) (B.blocks self.now) change) }
+        ensures { IfOk result (IsFolderDeletion dir key.now folder.now now (B.total self.now) (B.blocks self.now)) }
     {
         catalog_edits_are_steps();
         let patch = patch_delete_folder(
@@ -98,7 +95,7 @@ impl<B: Blocks> Editing<'_, B> {
     ) -> Result<Change, AllocError>
         requires chosen { IsFileToDelete (B.blocks self.now) dir key.now file.now }
         requires parent { IsParent (catalog_in (B.blocks self.now)) dir parent.now valence }
-        ensures { IfOk result (λ change. IsFileDeletion dir key.now file.now now (B.total self.now) (B.blocks self.now) change) }
+        ensures { IfOk result (IsFileDeletion dir key.now file.now now (B.total self.now) (B.blocks self.now)) }
     {
         let made = patch_delete_file(
             alloc,
@@ -128,7 +125,7 @@ impl<B: Blocks> Editing<'_, B> {
         name: &[u8],
         now: u32,
     ) -> Result<Result<Change, Refusal>, AllocError>
-        ensures { IfOk result (λ edit. IsEditOf (call.Delete dir name.now now) (B.total self.now) (B.blocks self.now) edit) }
+        ensures { IfOk result (IsEditOf (call.Delete dir name.now now) (B.total self.now) (B.blocks self.now)) }
     {
         let item = match self.item_to_delete(dir, name) {
             Ok(item) => item,

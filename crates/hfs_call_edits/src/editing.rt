@@ -2,14 +2,10 @@
 
 ghost use Rattle.std.specs.Prelude.{◌≡◌};
 ghost use Rattle.hfs_blocks.specs.Blocks.{nodes_in};
-ghost use Rattle.hfs_changes.specs.OnBlocks.{at_time};
-ghost use Rattle.hfs_check.specs.Parts.{mdb_in, catalog_nodes, catalog_in};
-ghost use Rattle.hfs_check.specs.VolumeOf.{contents_in, volume_in};
+ghost use Rattle.hfs_check.specs.Parts.{catalog_nodes};
 ghost use Rattle.hfs_model.specs.declared.reply.Value.TheVariants as value;
-ghost use Rattle.hfs_model.specs.Children.{entries_of};
 ghost use Rattle.hfs_model.specs.Choices.{file_to_change, to_set_f_info, to_set_cat_info};
-ghost use Rattle.hfs_call_edits.specs.Edits.{IsEditing, ChoosesFile, ChoosesItem};
-ghost use Rattle.hfs_queries.specs.Queries.{AreEntries};
+ghost use Rattle.hfs_call_edits.specs.Edits.{IsEditing, ChoosesFileBy, ChoosesItemBy, RecordsAreEntriesIn, change_at};
 ghost use Rattle.hfs_queries.specs.Told.{IsCatalog};
 
 use crate::choosing;
@@ -77,7 +73,7 @@ impl<'a, B: Blocks> Editing<'a, B> {
     pub(crate) fn nodes(&self) -> RunNodes<'_, B>
         ensures nodes { nodes_in (B.blocks result.blocks.now) result.runs.now ≡ catalog_nodes (B.blocks self.now) }
         ensures catalog { IsCatalog (catalog_nodes (B.blocks self.now)) }
-        ensures entries { AreEntries (contents_in (B.blocks self.now)) (catalog_in (B.blocks self.now)) (entries_of (volume_in (B.blocks self.now))) }
+        ensures entries { RecordsAreEntriesIn (B.blocks self.now) }
     {
         catalog_answers();
         RunNodes {
@@ -88,7 +84,7 @@ impl<'a, B: Blocks> Editing<'a, B> {
 
     /// The folder's file of that name, with its key, or the code that refuses to change it.
     pub(crate) fn file_to_change(&self, dir: u32, name: &[u8]) -> Result<(CatKey, FileRecord), i16>
-        ensures { ChoosesFile (B.blocks self.now) (file_to_change (volume_in (B.blocks self.now)) dir name.now) result }
+        ensures { ChoosesFileBy (λ v. file_to_change v dir name.now) (B.blocks self.now) result }
     {
         choice_stands();
         choosing::file_to_change(&self.nodes(), self.mdb, dir, name)
@@ -96,7 +92,7 @@ impl<'a, B: Blocks> Editing<'a, B> {
 
     /// The folder's file of that name, with its key, or the code that refuses to set its first Finder bytes.
     pub(crate) fn file_to_set(&self, dir: u32, name: &[u8]) -> Result<(CatKey, FileRecord), i16>
-        ensures { ChoosesFile (B.blocks self.now) (to_set_f_info (volume_in (B.blocks self.now)) dir name.now) result }
+        ensures { ChoosesFileBy (λ v. to_set_f_info v dir name.now) (B.blocks self.now) result }
     {
         choice_stands();
         choosing::file_to_set(&self.nodes(), self.mdb, dir, name)
@@ -104,7 +100,7 @@ impl<'a, B: Blocks> Editing<'a, B> {
 
     /// The folder's item of that name, or the code that refuses to set its dates and Finder bytes.
     pub(crate) fn item_to_set(&self, dir: u32, name: &[u8]) -> Result<CatalogItem, i16>
-        ensures { ChoosesItem (B.blocks self.now) (to_set_cat_info (volume_in (B.blocks self.now)) dir name.now) result }
+        ensures { ChoosesItemBy (λ v. to_set_cat_info v dir name.now) (B.blocks self.now) result }
     {
         choice_stands();
         choosing::item_to_set(&self.nodes(), self.mdb, dir, name)
@@ -112,7 +108,7 @@ impl<'a, B: Blocks> Editing<'a, B> {
 
     /// A change of blocks and of the moment of the last change alone, which answers nothing.
     pub(crate) fn change(&self, patch: Patch, now: u32) -> Change
-        ensures { result ≡ record { patch = patch; counts = at_time now (mdb_in (B.blocks self.now)); value = value.Nothing } }
+        ensures { result ≡ change_at now (B.blocks self.now) patch value.Nothing }
     {
         Change {
             patch,

@@ -1,13 +1,11 @@
 //! CreateFileId and DeleteFileId.
 
 ghost use Rattle.std.specs.Prelude.{◌≡◌, IfOk};
-ghost use Rattle.hfs_check.specs.Parts.{mdb_in, catalog_in};
-ghost use Rattle.hfs_check.specs.VolumeOf.{volume_in};
-ghost use Rattle.hfs_changes.specs.OnBlocks.{at_time};
+ghost use Rattle.hfs_check.specs.Parts.{catalog_in};
 ghost use Rattle.hfs_model.specs.declared.call.Call.TheVariants as call;
 ghost use Rattle.hfs_model.specs.declared.reply.Value.TheVariants as value;
 ghost use Rattle.hfs_model.specs.FileIds.{to_create_file_id, to_delete_file_id};
-ghost use Rattle.hfs_call_edits.specs.Edits.{IsEditOf, ChoosesFile};
+ghost use Rattle.hfs_call_edits.specs.Edits.{IsEditOf, ChoosesFileBy, change_at};
 ghost use Rattle.hfs_call_patches.specs.FileIds.{IsThreadless};
 
 use crate::choosing_file_ids;
@@ -22,7 +20,7 @@ use std::alloc::{AllocError, Global};
 impl<B: Blocks> Editing<'_, B> {
     /// The folder's file of that name, which has no thread, with its key, or the code that refuses to give it one.
     fn file_without_id(&self, dir: u32, name: &[u8]) -> Result<(CatKey, FileRecord), i16>
-        ensures choice { ChoosesFile (B.blocks self.now) (to_create_file_id (volume_in (B.blocks self.now)) dir name.now) result }
+        ensures choice { ChoosesFileBy (λ v. to_create_file_id v dir name.now) (B.blocks self.now) result }
         ensures threadless { IfOk result (λ f. IsThreadless (catalog_in (B.blocks self.now)) f.0 f.1) }
     {
         choice_stands();
@@ -32,7 +30,7 @@ impl<B: Blocks> Editing<'_, B> {
 
     /// The file of that ID, which has a thread, with its key, or the code that refuses to take it away.
     fn file_with_id(&self, id: u32) -> Result<(CatKey, FileRecord), i16>
-        ensures { ChoosesFile (B.blocks self.now) (to_delete_file_id (volume_in (B.blocks self.now)) id) result }
+        ensures { ChoosesFileBy (λ v. to_delete_file_id v id) (B.blocks self.now) result }
     {
         choice_stands();
         choosing_file_ids::file_with_id(&self.nodes(), self.mdb, id)
@@ -40,7 +38,7 @@ impl<B: Blocks> Editing<'_, B> {
 
     /// A change of blocks and of the moment of the last change alone, which answers an ID.
     fn change_to_id(&self, patch: Patch, id: u32, now: u32) -> Change
-        ensures { result ≡ record { patch = patch; counts = at_time now (mdb_in (B.blocks self.now)); value = value.Id id } }
+        ensures { result ≡ change_at now (B.blocks self.now) patch (value.Id id) }
     {
         Change {
             value: Value::Id(id),
@@ -56,7 +54,7 @@ impl<B: Blocks> Editing<'_, B> {
         name: &[u8],
         now: u32,
     ) -> Result<Result<Change, Refusal>, AllocError>
-        ensures { IfOk result (λ edit. IsEditOf (call.CreateFileId dir name.now now) (B.total self.now) (B.blocks self.now) edit) }
+        ensures { IfOk result (IsEditOf (call.CreateFileId dir name.now now) (B.total self.now) (B.blocks self.now)) }
     {
         catalog_edits_are_steps();
         self.catalog_is_in_file();
@@ -86,7 +84,7 @@ impl<B: Blocks> Editing<'_, B> {
         id: u32,
         now: u32,
     ) -> Result<Result<Change, Refusal>, AllocError>
-        ensures { IfOk result (λ edit. IsEditOf (call.DeleteFileId id now) (B.total self.now) (B.blocks self.now) edit) }
+        ensures { IfOk result (IsEditOf (call.DeleteFileId id now) (B.total self.now) (B.blocks self.now)) }
     {
         catalog_edits_are_steps();
         let (key, file) = match self.file_with_id(id) {

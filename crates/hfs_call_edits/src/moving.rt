@@ -53,7 +53,7 @@ impl<B: Blocks> Editing<'_, B> {
         new_dir: u32,
         now: u32,
     ) -> Result<Result<Change, Refusal>, AllocError>
-        ensures { IfOk result (λ edit. IsEditOf (call.CatMove dir name.now new_dir now) (B.total self.now) (B.blocks self.now) edit) }
+        ensures { IfOk result (IsEditOf (call.CatMove dir name.now new_dir now) (B.total self.now) (B.blocks self.now)) }
     {
         trees_are_sound();
         catalog_is_sound();

@@ -2,10 +2,8 @@
 
 ghost use Rattle.std.specs.Prelude.{◌≡◌};
 ghost use Rattle.hfs_catalog.specs.Tree.{catalog_of};
-ghost use Rattle.hfs_check.specs.VolumeOf.{volume_in};
-ghost use Rattle.hfs_model.specs.Choices.{to_create};
 ghost use Rattle.hfs_queries.specs.Told.{IsCatalog};
-ghost use Rattle.hfs_call_edits.specs.NewPlaces.{children_in, new_place, ChoosesPlace};
+ghost use Rattle.hfs_call_edits.specs.NewPlaces.{children_in, new_place, ChoosesNewPlace};
 
 use crate::choosing::lock_code;
 use crate::editing::Editing;
@@ -64,7 +62,7 @@ fn new_place<N: Nodes>(nodes: &N, mdb: &Mdb, dir: u32, name: &[u8]) -> Result<Ne
 impl<B: Blocks> Editing<'_, B> {
     /// Where a new item of that name comes in the folder, or the code that refuses it.
     pub(crate) fn new_place(&self, dir: u32, name: &[u8]) -> Result<NewPlace, i16>
-        ensures { ChoosesPlace (B.blocks self.now) (to_create (volume_in (B.blocks self.now)) dir name.now) dir name.now result }
+        ensures { ChoosesNewPlace (B.blocks self.now) dir name.now result }
     {
         new_place(&self.nodes(), self.mdb, dir, name)
     }

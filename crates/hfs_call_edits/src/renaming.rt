@@ -1,12 +1,11 @@
 //! Rename.
 
-ghost use Rattle.std.specs.Prelude.{◌≡◌, false, IfOk, IfNone};
-ghost use Rattle.hfs_catalog_edits.specs.Rooms.{HasRoom};
+ghost use Rattle.std.specs.Prelude.{◌≡◌, IfOk, IfNone};
 ghost use Rattle.hfs_check.specs.Parts.{catalog_nodes};
 ghost use Rattle.hfs_fields.specs.Order.{same_name};
 ghost use Rattle.hfs_model.specs.declared.call.Call.TheVariants as call;
 ghost use Rattle.hfs_call_edits.specs.Edits.{IsEditOf};
-ghost use Rattle.hfs_call_edits.specs.ChoosingRenaming.{ChoosesRenaming, nodes_for_name};
+ghost use Rattle.hfs_call_edits.specs.ChoosingRenaming.{ChoosesRenaming, nodes_for_name, HasRoomForName};
 ghost use Rattle.hfs_call_edits.specs.Room.{lacking};
 
 use crate::choosing_renaming;
@@ -34,7 +33,7 @@ impl<B: Blocks> Editing<'_, B> {
     /// What refuses a new name for want of nodes. To another case of its name an item comes without any.
     fn lacks_for_name(&self, name: &[u8], new_name: &[u8]) -> Option<Refusal>
         ensures refusal { result ≡ lacking (nodes_for_name name.now new_name.now) (catalog_nodes (B.blocks self.now)) }
-        ensures room { IfNone result (same_name name.now new_name.now ≡ false → HasRoom (catalog_nodes (B.blocks self.now))) }
+        ensures room { IfNone result (HasRoomForName name.now new_name.now (catalog_nodes (B.blocks self.now))) }
     {
         if same_name(name, new_name) {
             return None;
@@ -51,7 +50,7 @@ impl<B: Blocks> Editing<'_, B> {
         new_name: &[u8],
         now: u32,
     ) -> Result<Result<Change, Refusal>, AllocError>
-        ensures { IfOk result (λ edit. IsEditOf (call.Rename dir name.now new_name.now now) (B.total self.now) (B.blocks self.now) edit) }
+        ensures { IfOk result (IsEditOf (call.Rename dir name.now new_name.now now) (B.total self.now) (B.blocks self.now)) }
     {
         trees_are_sound();
         catalog_is_sound();

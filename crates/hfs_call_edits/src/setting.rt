@@ -26,7 +26,7 @@ impl<B: Blocks> Editing<'_, B> {
         info: &[u8; 16],
         now: u32,
     ) -> Result<Result<Change, Refusal>, AllocError>
-        ensures { IfOk result (λ edit. IsEditOf (call.SetFInfo dir name.now info.now now) (B.total self.now) (B.blocks self.now) edit) }
+        ensures { IfOk result (IsEditOf (call.SetFInfo dir name.now info.now now) (B.total self.now) (B.blocks self.now)) }
     {
         catalog_edits_are_steps();
         let (key, file) = match self.file_to_set(dir, name) {
@@ -55,7 +55,7 @@ impl<B: Blocks> Editing<'_, B> {
         settings: &ItemSettings,
         now: u32,
     ) -> Result<Result<Change, Refusal>, AllocError>
-        ensures { IfOk result (λ edit. IsEditOf (set_cat_info_call dir name.now settings.now now) (B.total self.now) (B.blocks self.now) edit) }
+        ensures { IfOk result (IsEditOf (set_cat_info_call dir name.now settings.now now) (B.total self.now) (B.blocks self.now)) }
     {
         catalog_edits_are_steps();
         let item = match self.item_to_set(dir, name) {
@@ -102,7 +102,7 @@ impl<B: Blocks> Editing<'_, B> {
         locked: bool,
         now: u32,
     ) -> Result<Result<Change, Refusal>, AllocError>
-        ensures { IfOk result (λ edit. IsEditOf (lock_call locked dir name.now now) (B.total self.now) (B.blocks self.now) edit) }
+        ensures { IfOk result (IsEditOf (lock_call locked dir name.now now) (B.total self.now) (B.blocks self.now)) }
     {
         catalog_edits_are_steps();
         let (key, file) = match self.file_to_change(dir, name) {

@@ -9,7 +9,7 @@ use Rattle.hfs_btree.specs.Tree.{Store}
 use Rattle.hfs_model.specs.declared.call.Call.TheVariants as call
 use Rattle.hfs_model.specs.FileIds.{to_create_file_id, to_delete_file_id}
 use Rattle.hfs_catalog.specs.Records.{Record, Catalog}
-use Rattle.hfs_catalog.specs.Lookups.{thread_of}
+use Rattle.hfs_catalog.specs.Lookups.{thread_of, first_key}
 use Rattle.hfs_catalog.specs.Tree.{catalog_of}
 use Rattle.hfs_catalog_edits.specs.Bodies.{thread_record}
 use Rattle.hfs_catalog_edits.specs.Finds.{record_at}
@@ -20,12 +20,18 @@ use Rattle.hfs_changes.specs.FileIdLaws.{with_thread_flag}
 use Rattle.hfs_changes.specs.SettingLaws.{MakesAt}
 use Rattle.hfs_call_patches.specs.CatalogPatch.{KeepsNamed}
 use Rattle.hfs_call_patches.specs.Settings.{IsFileChoice}
+use Rattle.hfs_fields.specs.Keys.{cat_cmp}
+use Rattle.hfs_btree.specs.Pairs.{lookup}
 
 -- the file has no thread yet; it and its folder have IDs of items
 pub record IsThreadless (catalog : Catalog) (key : CatKey) (file : FileRecord) : Type 0 where
   pub folder : 2 ≤ key.parent
   pub id : 2 ≤ file.id
   pub unthreaded : thread_of catalog file.id ≡ None
+
+-- no record stands where the thread of this ID would
+abbrev pub LacksThread : ℕ → Catalog → Type 0
+LacksThread id catalog = lookup cat_cmp (first_key id) catalog ≡ None
 
 -- ---- edits
 

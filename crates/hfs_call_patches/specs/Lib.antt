@@ -12,3 +12,4 @@ pub mod Renaming
 pub mod Moving
 pub mod Valences
 pub mod Deleting
+pub mod Patches

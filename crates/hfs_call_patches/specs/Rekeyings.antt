@@ -17,6 +17,7 @@ use Rattle.hfs_catalog_edits.specs.Roots.{HasRoot}
 use Rattle.hfs_check.specs.Parts.{Blocks}
 use Rattle.hfs_changes.specs.SettingLaws.{IsChoice}
 use Rattle.hfs_call_patches.specs.declared.rekeying.Rekeying.{Rekeying}
+use Rattle.hfs_catalog_edits.specs.ItemEdits.{ItemRekeyed}
 
 -- in these nodes of a sound catalog the item stands, and may come under its other key: where the keys are not equal in order, that
 -- key is free, and there are nodes for one more record
@@ -32,6 +33,10 @@ pub record CanRekey (item : Rekeying) (nodes : Store) : Type 0 where
   pub absent : is_eq (cat_cmp item.from item.to) ≡ false → lookup cat_cmp item.to (catalog_of nodes) ≡ None
   pub inside : IsInFile nodes
   pub room : is_eq (cat_cmp item.from item.to) ≡ false → HasRoom nodes
+
+-- the item came under its other key
+abbrev pub Rekeys : Rekeying → Store → Store → Type 0
+Rekeys item old new = ItemRekeyed item.id item.from item.to old new
 
 -- a call chooses the item of this ID and this key, whose record is to have that other key
 pub record IsRekeyChoice (old : Blocks) (chosen : Result Entry ℤ) (turn : Record → Record) (item : Rekeying) : Type 0 where

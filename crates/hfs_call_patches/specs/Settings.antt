@@ -13,7 +13,7 @@ use Rattle.hfs_btree.specs.Pairs.{lookup}
 use Rattle.hfs_btree_edits.specs.Edits.{with_replaced}
 use Rattle.hfs_catalog.specs.declared.item.ItemRecord.{ItemRecord}
 use Rattle.hfs_catalog.specs.Records.{Record, Catalog}
-use Rattle.hfs_catalog_edits.specs.Bodies.{item_bytes, IsItemValue}
+use Rattle.hfs_catalog_edits.specs.Bodies.{item_bytes, IsItemValue, IfBody, IsOfKind}
 use Rattle.hfs_model.specs.Volume.{Entry}
 use Rattle.hfs_model.specs.declared.call.Call.{Call}
 use Rattle.hfs_check.specs.Parts.{Blocks, catalog_in}
@@ -36,6 +36,10 @@ IsFileUnder key catalog = IsBody is_file (lookup cat_cmp key catalog)
 -- a folder's record stands under the key
 abbrev pub IsFolderUnder : CatKey → Catalog → Type 0
 IsFolderUnder key catalog = IsBody is_dir (lookup cat_cmp key catalog)
+
+-- a record of the item's kind stands under the key
+abbrev pub IsOfKindUnder : CatKey → ItemRecord → Catalog → Type 0
+IsOfKindUnder key item catalog = IfBody (IsOfKind item) (lookup cat_cmp key catalog)
 
 -- the master directory block, with these counts, was put into the patch
 pub record PutsCounts (counts : Mdb) (own : List ℕ) (old new : Changes) : Type 0 where

@@ -32,7 +32,7 @@ pub fn add_new_file<B: Blocks>(
 ) -> Result<Change, AllocError>
     requires ready { IsReady (B.total below.now) (B.blocks below.now) runs.now mdb.now dir place.now }
     requires room { HasRoom (catalog_nodes (B.blocks below.now)) }
-    ensures { IfOk result (λ change. IsChangeOf (call.Create dir place.now.name now) (B.total below.now) (B.blocks below.now) change) }
+    ensures { IfOk result (IsChangeOf (call.Create dir place.now.name now) (B.total below.now) (B.blocks below.now)) }
 {
     trees_are_sound();
     creation_fits();
@@ -62,7 +62,7 @@ pub fn add_new_folder<B: Blocks>(
 ) -> Result<Change, AllocError>
     requires ready { IsReady (B.total below.now) (B.blocks below.now) runs.now mdb.now dir place.now }
     requires room { HasRoomForTwo (catalog_nodes (B.blocks below.now)) }
-    ensures { IfOk result (λ change. IsChangeOf (call.DirCreate dir place.now.name now) (B.total below.now) (B.blocks below.now) change) }
+    ensures { IfOk result (IsChangeOf (call.DirCreate dir place.now.name now) (B.total below.now) (B.blocks below.now)) }
 {
     trees_are_sound();
     creation_fits();

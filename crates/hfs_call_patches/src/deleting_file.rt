@@ -2,18 +2,15 @@
 //! catalog, and the counts.
 
 ghost use Rattle.std.specs.Prelude.{◌≡◌, ◌+◌, ◌<◌, ◌≤◌, IfOk};
-ghost use Rattle.std.specs.List.{flat_map};
-ghost use Rattle.hfs_blocks.specs.Blocks.{run_of, nodes_in};
-ghost use Rattle.hfs_blocks.specs.Layers.{changes, over, AreWithin};
+ghost use Rattle.hfs_blocks.specs.Layers.{changes, AreWithin};
 ghost use Rattle.hfs_btree_edits.specs.Files.{beside};
-ghost use Rattle.hfs_space.specs.Extents.{AreExtentsWithin, block_total, extent_blocks};
-ghost use Rattle.hfs_space_edits.specs.Dropped.{HasDroppedOverflow};
-ghost use Rattle.hfs_space_edits.specs.Released.{HasReleased};
+ghost use Rattle.hfs_space.specs.Extents.{AreExtentsWithin, block_total};
 ghost use Rattle.hfs_changes.specs.Deletion.{without_one_file};
-ghost use Rattle.hfs_check.specs.Parts.{mdb_in, extents_nodes, catalog_nodes, catalog_in};
+ghost use Rattle.hfs_check.specs.Parts.{mdb_in, catalog_nodes, catalog_in};
 ghost use Rattle.hfs_check.specs.Sound.{AreBlocksSound};
-ghost use Rattle.hfs_call_patches.specs.Deleting.{StaysFolder, ItemDropped, IsItemUnder, IsParent, IsFileToDelete, MakesFileDeletion};
+ghost use Rattle.hfs_call_patches.specs.Deleting.{StaysFolder, IsItemUnder, IsParent, IsFileToDelete};
 ghost use Rattle.hfs_call_patches.specs.TreeFiles.{IsExtentsFile, IsCatalogFile};
+ghost use Rattle.hfs_call_patches.specs.Patches.{Patches, LeavesExtents, LeavesCatalog, ShowsSameBeside, ReleasesExtents, DropsOverflow, DropsItem, DeletesFile};
 
 use crate::counts::put_counts;
 use crate::dropping::drop_from_folder;
@@ -71,7 +68,7 @@ fn clear_bits<B: Blocks>(
     requires sound { AreBlocksSound (B.total below.now) (B.blocks below.now) }
     requires mdb { mdb.now ≡ mdb_in (B.blocks below.now) }
     requires within { AreExtentsWithin (mdb_in (B.blocks below.now)).allocation_blocks extents.now }
-    ensures released { IfOk result (λ patch. HasReleased (mdb_in (B.blocks below.now)).bitmap_start (mdb_in (B.blocks below.now)).allocation_blocks (extent_blocks extents.now) (B.blocks below.now) (over (changes patch) (B.blocks below.now))) }
+    ensures released { IfOk result (Patches (B.blocks below.now) (ReleasesExtents extents.now)) }
     ensures within { IfOk result (λ patch. AreWithin (changes patch) (B.total below.now)) }
 {
     let bitmap = Bitmap {
@@ -95,9 +92,9 @@ fn drop_records<B: Blocks>(
     requires sound { AreBlocksSound (B.total below.now) (B.blocks below.now) }
     requires file { IsExtentsFile runs.now (B.total below.now) (B.blocks below.now) }
     requires inside { AreWithin (changes patch) (B.total below.now) }
-    requires same { nodes_in (over (changes patch) (B.blocks below.now)) runs.now ≡ extents_nodes (B.blocks below.now) }
-    ensures dropped { IfOk result (λ new. HasDroppedOverflow file (extents_nodes (B.blocks below.now)) (nodes_in (over (changes new) (B.blocks below.now)) runs.now)) }
-    ensures beside { IfOk result (λ new. beside (flat_map run_of runs.now) (over (changes new) (B.blocks below.now)) ≡ beside (flat_map run_of runs.now) (over (changes patch) (B.blocks below.now))) }
+    requires same { LeavesExtents (B.blocks below.now) runs.now patch }
+    ensures dropped { IfOk result (Patches (B.blocks below.now) (DropsOverflow file runs.now)) }
+    ensures beside { IfOk result (ShowsSameBeside runs.now (B.blocks below.now) patch) }
     ensures within { IfOk result (λ new. AreWithin (changes new) (B.total below.now)) }
 {
     trees_are_sound();
@@ -122,11 +119,11 @@ fn drop_item_over<B: Blocks>(
     requires sound { AreBlocksSound (B.total below.now) (B.blocks below.now) }
     requires file { IsCatalogFile runs.now (B.total below.now) (B.blocks below.now) }
     requires inside { AreWithin (changes patch) (B.total below.now) }
-    requires same { nodes_in (over (changes patch) (B.blocks below.now)) runs.now ≡ catalog_nodes (B.blocks below.now) }
+    requires same { LeavesCatalog (B.blocks below.now) runs.now patch }
     requires there { IsItemUnder key.now (catalog_in (B.blocks below.now)) }
     requires stays { StaysFolder key.now id folder.now (catalog_nodes (B.blocks below.now)) }
-    ensures dropped { IfOk result (λ new. ItemDropped key.now id folder.now valence now (catalog_nodes (B.blocks below.now)) (nodes_in (over (changes new) (B.blocks below.now)) runs.now)) }
-    ensures beside { IfOk result (λ new. beside (flat_map run_of runs.now) (over (changes new) (B.blocks below.now)) ≡ beside (flat_map run_of runs.now) (over (changes patch) (B.blocks below.now))) }
+    ensures dropped { IfOk result (Patches (B.blocks below.now) (DropsItem key.now id folder.now valence now runs.now)) }
+    ensures beside { IfOk result (ShowsSameBeside runs.now (B.blocks below.now) patch) }
     ensures within { IfOk result (λ new. AreWithin (changes new) (B.total below.now)) }
 {
     trees_are_sound();
@@ -156,7 +153,7 @@ pub fn patch_delete_file<B: Blocks>(
     requires mdb { mdb.now ≡ mdb_in (B.blocks below.now) }
     requires chosen { IsFileToDelete (B.blocks below.now) dir key.now file.now }
     requires parent { IsParent (catalog_in (B.blocks below.now)) dir parent.now valence }
-    ensures makes { IfOk result (λ made. MakesFileDeletion dir key.now file.now now (B.total below.now) (B.blocks below.now) made.1 (over (changes made.0) (B.blocks below.now))) }
+    ensures makes { IfOk result (DeletesFile dir key.now file.now now (B.total below.now) (B.blocks below.now)) }
     ensures within { IfOk result (λ made. AreWithin (changes made.0) (B.total below.now)) }
 {
     trees_are_sound();

@@ -1,12 +1,13 @@
 //! What Delete of a folder makes of a volume's blocks.
 
 ghost use Rattle.std.specs.Prelude.{◌≡◌, IfOk};
-ghost use Rattle.hfs_blocks.specs.Layers.{changes, over, AreWithin};
+ghost use Rattle.hfs_blocks.specs.Layers.{changes, AreWithin};
 ghost use Rattle.hfs_changes.specs.RemovalLaws.{without_folder};
 ghost use Rattle.hfs_check.specs.Parts.{mdb_in, catalog_in};
 ghost use Rattle.hfs_check.specs.Sound.{AreBlocksSound};
 ghost use Rattle.hfs_call_patches.specs.Deleting.{IsParent, IsFolderToDelete, MakesFolderDeletion};
 ghost use Rattle.hfs_call_patches.specs.TreeFiles.{IsCatalogFile};
+ghost use Rattle.hfs_call_patches.specs.Patches.{Patches};
 
 use crate::catalog_patch::{close_catalog, open_catalog};
 use crate::dropping::drop_from_folder;
@@ -48,7 +49,7 @@ pub fn patch_delete_folder<B: Blocks>(
     requires mdb { mdb.now ≡ mdb_in (B.blocks below.now) }
     requires chosen { IsFolderToDelete (B.blocks below.now) dir key.now folder.now }
     requires parent { IsParent (catalog_in (B.blocks below.now)) dir parent.now valence }
-    ensures makes { IfOk result (λ patch. MakesFolderDeletion dir key.now folder.now now (B.blocks below.now) (over (changes patch) (B.blocks below.now))) }
+    ensures makes { IfOk result (Patches (B.blocks below.now) (MakesFolderDeletion dir key.now folder.now now)) }
     ensures within { IfOk result (λ patch. AreWithin (changes patch) (B.total below.now)) }
 {
     trees_are_sound();

@@ -1,14 +1,10 @@
 //! An item that goes from its folder, in the nodes of a catalog.
 
-ghost use Rattle.std.specs.Prelude.{◌≡◌, true, OnOk};
-ghost use Rattle.hfs_fields.specs.Keys.{cat_cmp};
-ghost use Rattle.hfs_fields.specs.Records.{is_item};
+ghost use Rattle.std.specs.Prelude.{◌≡◌, OnOk};
 ghost use Rattle.hfs_scans.specs.Each.{Each};
-ghost use Rattle.hfs_btree.specs.Pairs.{lookup};
 ghost use Rattle.hfs_catalog.specs.Sound.{IsRecord};
 ghost use Rattle.hfs_catalog.specs.Tree.{IsCatalogTree, catalog_of};
-ghost use Rattle.hfs_catalog_edits.specs.Bodies.{IfBody};
-ghost use Rattle.hfs_call_patches.specs.Deleting.{StaysFolder, ItemDropped};
+ghost use Rattle.hfs_call_patches.specs.Deleting.{StaysFolder, ItemDropped, IsItemUnder};
 
 use hfs_btree_edits::NodesMut;
 use hfs_catalog_edits::{drop_item, set_valence};
@@ -30,7 +26,7 @@ pub(crate) fn drop_from_folder<N: NodesMut>(
 ) -> Result<(), AllocError>
     requires tree { IsCatalogTree (N.nodes nodes.old) }
     requires records { Each IsRecord (catalog_of (N.nodes nodes.old)) }
-    requires there { IfBody (λ body. is_item body ≡ true) (lookup cat_cmp key.now (catalog_of (N.nodes nodes.old))) }
+    requires there { IsItemUnder key.now (catalog_of (N.nodes nodes.old)) }
     requires stays { StaysFolder key.now id folder.now (N.nodes nodes.old) }
     ensures dropped { OnOk result (ItemDropped key.now id folder.now valence now (N.nodes nodes.old) (N.nodes nodes.new)) }
     ensures kept { OnOk result (N.kept nodes.new ≡ N.kept nodes.old) }

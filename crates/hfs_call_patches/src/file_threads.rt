@@ -1,17 +1,13 @@
 //! Threads of files in a catalog's nodes: with each comes and goes bit 1 of the flags of its file's record.
 
-ghost use Rattle.std.specs.Prelude.{◌≡◌, ◌≤◌, true, None, IsTrue, OnOk};
-ghost use Rattle.hfs_fields.specs.Keys.{cat_cmp};
+ghost use Rattle.std.specs.Prelude.{◌≡◌, ◌≤◌, true, IsTrue, OnOk};
 ghost use Rattle.hfs_fields.specs.Names.{is_item_name};
-ghost use Rattle.hfs_fields.specs.Records.{is_file};
-ghost use Rattle.hfs_btree.specs.Pairs.{lookup};
 ghost use Rattle.hfs_scans.specs.Each.{Each};
-ghost use Rattle.hfs_catalog.specs.Lookups.{first_key};
 ghost use Rattle.hfs_catalog.specs.Sound.{IsRecord};
 ghost use Rattle.hfs_catalog.specs.Tree.{IsCatalogTree, catalog_of};
 ghost use Rattle.hfs_catalog_edits.specs.Rooms.{IsInFile, HasRoom};
 ghost use Rattle.hfs_catalog_edits.specs.Roots.{HasRoot};
-ghost use Rattle.hfs_call_patches.specs.FileIds.{FileIdCame, FileIdWent};
+ghost use Rattle.hfs_call_patches.specs.FileIds.{FileIdCame, FileIdWent, LacksThread};
 ghost use Rattle.hfs_call_patches.specs.Settings.{IsFileUnder};
 
 use hfs_btree_edits::NodesMut;
@@ -33,7 +29,7 @@ pub(crate) fn add_file_thread<N: NodesMut>(
     requires low { 2 ≤ key.now.parent }
     requires there { IsFileUnder key.now (catalog_of (N.nodes nodes.old)) }
     requires id { 2 ≤ file.now.id }
-    requires absent { lookup cat_cmp (first_key file.now.id) (catalog_of (N.nodes nodes.old)) ≡ None }
+    requires absent { LacksThread file.now.id (catalog_of (N.nodes nodes.old)) }
     requires inside { IsInFile (N.nodes nodes.old) }
     requires room { HasRoom (N.nodes nodes.old) }
     ensures came { OnOk result (FileIdCame key.now file.now (N.nodes nodes.old) (N.nodes nodes.new)) }

@@ -1,12 +1,13 @@
 //! What CatMove makes of a volume's blocks.
 
 ghost use Rattle.std.specs.Prelude.{◌≡◌, ◌+◌, ◌<◌, ◌==◌, ◌&&◌, IfOk};
-ghost use Rattle.hfs_blocks.specs.Layers.{changes, over, AreWithin};
+ghost use Rattle.hfs_blocks.specs.Layers.{changes, AreWithin};
 ghost use Rattle.hfs_catalog_edits.specs.Swaps.{one_if};
 ghost use Rattle.hfs_check.specs.Parts.{mdb_in};
 ghost use Rattle.hfs_check.specs.Sound.{AreBlocksSound};
 ghost use Rattle.hfs_call_patches.specs.Moving.{CanMove, FitsCounts, MakesMove, counts_moved};
 ghost use Rattle.hfs_call_patches.specs.TreeFiles.{IsCatalogFile};
+ghost use Rattle.hfs_call_patches.specs.Patches.{Patches};
 
 use crate::catalog_patch::close_catalog;
 use crate::rekeying::{Rekeying, open_rekeyed};
@@ -63,7 +64,7 @@ pub fn patch_move<B: Blocks>(
     requires file { IsCatalogFile runs.now (B.total below.now) (B.blocks below.now) }
     requires mdb { mdb.now ≡ mdb_in (B.blocks below.now) }
     requires can { CanMove (B.blocks below.now) moving.now }
-    ensures makes { IfOk result (λ patch. MakesMove moving.now now (B.blocks below.now) (over (changes patch) (B.blocks below.now))) }
+    ensures makes { IfOk result (Patches (B.blocks below.now) (MakesMove moving.now now)) }
     ensures within { IfOk result (λ patch. AreWithin (changes patch) (B.total below.now)) }
 {
     catalog_is_sound();

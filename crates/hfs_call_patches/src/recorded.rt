@@ -1,15 +1,13 @@
 //! A folder's or a file's record put in the place of another, and the volume's counts, as a patch of the volume's blocks.
 
-ghost use Rattle.std.specs.Prelude.{◌≡◌, IsTrue, IfOk};
-ghost use Rattle.hfs_fields.specs.Keys.{cat_cmp};
+ghost use Rattle.std.specs.Prelude.{IsTrue, IfOk};
 ghost use Rattle.hfs_fields.specs.Names.{is_item_name};
-ghost use Rattle.hfs_blocks.specs.Layers.{changes, over, AreWithin};
-ghost use Rattle.hfs_btree.specs.Pairs.{lookup};
-ghost use Rattle.hfs_catalog_edits.specs.Bodies.{IfBody, IsOfKind};
+ghost use Rattle.hfs_blocks.specs.Layers.{changes, AreWithin};
 ghost use Rattle.hfs_check.specs.Parts.{catalog_in};
 ghost use Rattle.hfs_check.specs.Sound.{AreBlocksSound};
 ghost use Rattle.hfs_call_patches.specs.TreeFiles.{IsCatalogFile};
-ghost use Rattle.hfs_call_patches.specs.Settings.{HasSetItem};
+ghost use Rattle.hfs_call_patches.specs.Settings.{HasSetItem, IsOfKindUnder};
+ghost use Rattle.hfs_call_patches.specs.Patches.{Patches};
 
 use crate::catalog_patch::{close_catalog, open_catalog};
 use hfs_blocks::{Blocks, Patch, Run};
@@ -32,8 +30,8 @@ pub(crate) fn patch_record<B: Blocks>(
     requires sound { AreBlocksSound (B.total below.now) (B.blocks below.now) }
     requires nodes { IsCatalogFile runs.now (B.total below.now) (B.blocks below.now) }
     requires name { IsTrue (is_item_name key.now.name) }
-    requires there { IfBody (IsOfKind item.now) (lookup cat_cmp key.now (catalog_in (B.blocks below.now))) }
-    ensures set { IfOk result (λ patch. HasSetItem key.now item.now counts.now (B.blocks below.now) (over (changes patch) (B.blocks below.now))) }
+    requires there { IsOfKindUnder key.now item.now (catalog_in (B.blocks below.now)) }
+    ensures set { IfOk result (Patches (B.blocks below.now) (HasSetItem key.now item.now counts.now)) }
     ensures within { IfOk result (λ patch. AreWithin (changes patch) (B.total below.now)) }
 {
     trees_are_sound();

@@ -1,12 +1,13 @@
 //! What Rename makes of a volume's blocks.
 
 ghost use Rattle.std.specs.Prelude.{◌≡◌, IfOk};
-ghost use Rattle.hfs_blocks.specs.Layers.{changes, over, AreWithin};
+ghost use Rattle.hfs_blocks.specs.Layers.{changes, AreWithin};
 ghost use Rattle.hfs_check.specs.Parts.{mdb_in, catalog_nodes};
 ghost use Rattle.hfs_check.specs.Sound.{AreBlocksSound};
 ghost use Rattle.hfs_call_patches.specs.Rekeyings.{CanRekey};
 ghost use Rattle.hfs_call_patches.specs.Renaming.{MakesRename};
 ghost use Rattle.hfs_call_patches.specs.TreeFiles.{IsCatalogFile};
+ghost use Rattle.hfs_call_patches.specs.Patches.{Patches};
 
 use crate::catalog_patch::close_catalog;
 use crate::rekeying::{Rekeying, open_rekeyed};
@@ -30,7 +31,7 @@ pub fn patch_rename<B: Blocks>(
     requires file { IsCatalogFile runs.now (B.total below.now) (B.blocks below.now) }
     requires mdb { mdb.now ≡ mdb_in (B.blocks below.now) }
     requires can { CanRekey item.now (catalog_nodes (B.blocks below.now)) }
-    ensures makes { IfOk result (λ patch. MakesRename item.now now (B.blocks below.now) (over (changes patch) (B.blocks below.now))) }
+    ensures makes { IfOk result (Patches (B.blocks below.now) (MakesRename item.now now)) }
     ensures within { IfOk result (λ patch. AreWithin (changes patch) (B.total below.now)) }
 {
     catalog_is_sound();

@@ -15,7 +15,7 @@ use Rattle.hfs_scans.specs.First.{first_failing}
 use Rattle.hfs_catalog.specs.Records.{Record, Catalog, has_id, item_with, is_folder_id, has_thread, valence_of}
 use Rattle.hfs_catalog.specs.Parents.{reaches_root}
 use Rattle.hfs_catalog.specs.Sound.{counts_of}
-use Rattle.hfs_catalog_checks.specs.Indexes.{item_place, is_place}
+use Rattle.hfs_catalog_checks.specs.Indexes.{Numbered, count_of, item_place, is_place}
 
 -- the first holds only where the second does
 abbrev pub implies : Bool → Bool → Bool
@@ -122,3 +122,16 @@ thread_fault catalog = first_failing (λ _ r. implies (is_thread r.1) (is_thread
 -- whether record i, where it is an item's, has an ID that is right for it and that no record before has
 abbrev pub is_id_right_at : ℕ → Catalog → ℕ → Record → Bool
 is_id_right_at next catalog i r = implies (is_item r.1) (is_id_right next r && is_place (item_place catalog (item_id r.1)) i)
+
+-- the parent and the chain of parents are right, if the record is an item's
+abbrev pub is_item_parent_right : Catalog → Record → Bool
+is_item_parent_right catalog r = implies (is_item r.1) (is_parent_right catalog r)
+
+-- the first record whose place, parent or thread is wrong
+abbrev pub first_misplaced : Catalog → Option ℕ
+first_misplaced catalog = first_failing (is_place_right catalog) [] catalog
+
+-- where these are the counts of children, the record, if it is a folder's, has the count of its own as its valence
+abbrev pub is_valence_counted : Numbered → Record → Bool
+is_valence_counted counts r =
+    implies (is_dir r.1) (((dir_record_of r.1).valence == count_of counts (item_id r.1)) && nat_le (dir_record_of r.1).valence 65535)

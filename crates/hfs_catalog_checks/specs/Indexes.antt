@@ -1,10 +1,11 @@
 -- What is looked up by IDs where a whole catalog is checked.
-use Rattle.std.specs.Prelude.{◌≡◌, ℕ, ◌+◌, Bool, true, false, nat_le, ◌==◌, List, nat_eq, if◌then◌else◌, Option, Some, None}
+use Rattle.std.specs.Prelude.{◌≡◌, ℕ, ◌+◌, Bool, true, false, nat_le, ◌==◌, ◌||◌, List, nat_eq, if◌then◌else◌, Option, Some, None}
 use Rattle.std.specs.List.{position_from, list_any}
 use Rattle.std.specs.Map.{lookup}
 use Rattle.std.specs.Option.{option_map_or, unwrap_or, option_or}
 use Rattle.hfs_catalog.specs.Parents.{ReachesRoot}
-use Rattle.hfs_catalog.specs.Records.{Catalog, has_id, is_thread_of, Record}
+use Rattle.hfs_catalog.specs.Records.{Catalog, has_id, is_child_of, is_thread_of, Record}
+use Rattle.hfs_catalog_checks.specs.declared.valence_check.Siblings.{Siblings}
 
 -- numbers, each with an ID
 abbrev pub Numbered : Type 0
@@ -63,3 +64,19 @@ NotesItem old new i r = (id : ℕ) → number_of new id ≡ option_or (number_of
 -- each ID has its number, and this one the number where it had none
 abbrev pub NotesFirst : Numbered → Numbered → ℕ → ℕ → Type 0
 NotesFirst old new id n = (k : ℕ) → number_of new k ≡ option_or (number_of old k) (only_if (nat_eq id k) n)
+
+-- this number is one of them now, beside the old ones
+abbrev pub AddsNumber : ℕ → List ℕ → List ℕ → Type 0
+AddsNumber n old new = (k : ℕ) → has_number new k ≡ (has_number old k || nat_eq n k)
+
+-- the ID of the record's key is one of them now, if it is a thread's, beside the old ones
+abbrev pub AddsThread : Record → List ℕ → List ℕ → Type 0
+AddsThread r old new = (id : ℕ) → has_number new id ≡ (has_number old id || is_thread_of id r)
+
+-- the number of this ID is so many more, and the others are the same
+abbrev pub AddsCount : ℕ → ℕ → Numbered → Numbered → Type 0
+AddsCount id more old new = (k : ℕ) → count_of new k ≡ count_of old k + (if nat_eq id k then more else 0)
+
+-- with the siblings that are not counted yet, the record's parent has one more child where the record is an item's
+abbrev pub CountsChild : Record → Numbered → Siblings → Numbered → Siblings → Type 0
+CountsChild r old siblings new = λ met. (id : ℕ) → count_with new met.parent met.count id ≡ count_with old siblings.parent siblings.count id + (if is_child_of id r then 1 else 0)

@@ -1,7 +1,7 @@
 //! Sets of IDs.
 
-ghost use Rattle.std.specs.Prelude.{◌≡◌, ℕ, ◌||◌, [], OnOk, nat_eq};
-ghost use Rattle.hfs_catalog_checks.specs.Indexes.{has_number};
+ghost use Rattle.std.specs.Prelude.{◌≡◌, [], OnOk};
+ghost use Rattle.hfs_catalog_checks.specs.Indexes.{has_number, AddsNumber};
 
 use std::alloc::{AllocError, Global};
 use std::collections::BTreeSet;
@@ -40,7 +40,7 @@ impl IdSet {
 
     /// Puts an ID into the set. `Err` only where memory is wanting.
     pub(crate) fn add(&mut self, id: u32) -> Result<(), AllocError>
-        ensures { OnOk result ((k : ℕ) → has_number self.new k ≡ (has_number self.old k || nat_eq id k)) }
+        ensures { OnOk result (AddsNumber id self.old self.new) }
     {
         self.ids.insert(id)?;
         Ok(())

@@ -1,8 +1,8 @@
 //! Numbers that are found by an ID.
 
-ghost use Rattle.std.specs.Prelude.{◌≡◌, ℕ, ◌+◌, ◌<◌, ◌^◌, [], IfOk, OnOk, nat_eq, if◌then◌else◌};
+ghost use Rattle.std.specs.Prelude.{◌≡◌, ◌+◌, ◌<◌, ◌^◌, [], IfOk, OnOk};
 ghost use Rattle.std.specs.Option.{option_or};
-ghost use Rattle.hfs_catalog_checks.specs.Indexes.{number_of, count_of, with_number, only_if, NotesFirst};
+ghost use Rattle.hfs_catalog_checks.specs.Indexes.{number_of, count_of, with_number, only_if, NotesFirst, AddsCount};
 
 use std::alloc::{AllocError, Global};
 use std::collections::BTreeMap;
@@ -77,7 +77,7 @@ impl Numbers {
     /// Adds so many to the number of an ID.
     pub(crate) fn count_more(&mut self, id: u32, more: usize) -> Result<(), AllocError>
         requires { count_of self.old id + more < 2 ^ 64 }
-        ensures { OnOk result ((k : ℕ) → count_of self.new k ≡ count_of self.old k + (if nat_eq id k then more else 0)) }
+        ensures { OnOk result (AddsCount id more self.old self.new) }
     {
         let count = self.count(id);
         self.put(id, count + more)?;

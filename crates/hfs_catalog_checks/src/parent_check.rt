@@ -1,12 +1,11 @@
 //! The check of mounting on the parents of a catalog's items.
 
 ghost use Rattle.std.specs.Prelude.{◌≡◌, ◌||◌, ◌==◌, true, [], length, IfOk, OnOk};
-ghost use Rattle.hfs_fields.specs.Records.{is_item};
 ghost use Rattle.hfs_scans.specs.First.{first_failing};
 ghost use Rattle.hfs_catalog.specs.Records.{is_folder_id};
 ghost use Rattle.hfs_catalog.specs.Parents.{ReachesRoot, reaches_root};
 ghost use Rattle.hfs_catalog_checks.specs.Indexes.{has_number, AreRooted};
-ghost use Rattle.hfs_catalog_checks.specs.Faults.{implies, is_parent_right, parent_fault};
+ghost use Rattle.hfs_catalog_checks.specs.Faults.{is_item_parent_right, parent_fault};
 
 use crate::id_set::IdSet;
 use crate::index::IndexedCatalog;
@@ -88,7 +87,7 @@ fn is_parent_right(
     r: &CatalogRecord,
 ) -> Result<bool, AllocError>
     requires { AreRooted rooted.old catalog.now }
-    ensures right { IfOk result (λ right. right ≡ implies (is_item r.now.1) (is_parent_right catalog.now r.now)) }
+    ensures right { IfOk result (λ right. right ≡ is_item_parent_right catalog.now r.now) }
     ensures rooted { OnOk result (AreRooted rooted.new catalog.now) }
 {
     let Some(id) = item_id(r.body()) else {

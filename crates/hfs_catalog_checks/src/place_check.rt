@@ -1,9 +1,8 @@
 //! The check of mounting on the order, the parents and the threads of a catalog.
 
-ghost use Rattle.std.specs.Prelude.{◌≡◌, [], IfOk};
-ghost use Rattle.hfs_scans.specs.First.{first_failing};
+ghost use Rattle.std.specs.Prelude.{◌≡◌, IfOk};
 ghost use Rattle.hfs_catalog_checks.specs.Indexes.{earlier};
-ghost use Rattle.hfs_catalog_checks.specs.Faults.{is_place_right, place_fault};
+ghost use Rattle.hfs_catalog_checks.specs.Faults.{first_misplaced, place_fault};
 
 use crate::index::IndexedCatalog;
 use crate::order_check::first_not_above;
@@ -24,7 +23,7 @@ fn earlier(a: Option<usize>, b: Option<usize>) -> Option<usize>
 
 /// The number of the first record whose order, parent or thread is wrong.
 fn first_misplaced(alloc: Global, catalog: &IndexedCatalog<'_>) -> Result<Option<usize>, AllocError>
-    ensures { IfOk result (λ place. place ≡ first_failing (is_place_right catalog.now) [] catalog.now) }
+    ensures { IfOk result (λ place. place ≡ first_misplaced catalog.now) }
 {
     let records = catalog.records();
     let unordered = first_not_above(records);

@@ -1,12 +1,12 @@
 //! The check of mounting on the threads of a catalog.
 
-ghost use Rattle.std.specs.Prelude.{◌≡◌, ℕ, ◌||◌, [], length, IfOk, OnOk};
+ghost use Rattle.std.specs.Prelude.{◌≡◌, ℕ, [], length, IfOk, OnOk};
 ghost use Rattle.hfs_fields.specs.Keys.{name_at};
 ghost use Rattle.hfs_fields.specs.Numbers.{number_at};
 ghost use Rattle.hfs_fields.specs.Records.{is_dir, is_thread, item_id};
 ghost use Rattle.hfs_scans.specs.First.{first_failing};
-ghost use Rattle.hfs_catalog.specs.Records.{is_thread_of, has_thread};
-ghost use Rattle.hfs_catalog_checks.specs.Indexes.{has_number};
+ghost use Rattle.hfs_catalog.specs.Records.{has_thread};
+ghost use Rattle.hfs_catalog_checks.specs.Indexes.{has_number, AddsThread};
 ghost use Rattle.hfs_catalog_checks.specs.Faults.{implies, leads_to, is_thread_right, unthreaded, thread_fault};
 
 use crate::id_set::IdSet;
@@ -18,7 +18,7 @@ use std::alloc::{AllocError, Global};
 
 /// Notes the ID of a record's key, if it is a thread's.
 fn note_thread(ids: &mut IdSet, r: &CatalogRecord) -> Result<(), AllocError>
-    ensures { OnOk result ((id : ℕ) → has_number ids.new id ≡ (has_number ids.old id || is_thread_of id r.now)) }
+    ensures { OnOk result (AddsThread r.now ids.old ids.new) }
 {
     if is_thread(r.body()) {
         ids.add(r.key().parent)?;

@@ -1,11 +1,10 @@
 //! The check of mounting on the valences of folders.
 
-ghost use Rattle.std.specs.Prelude.{◌≡◌, ℕ, ◌+◌, ◌<◌, ◌^◌, ◌&&◌, ◌==◌, nat_le, if◌then◌else◌, [], IfOk, OnOk};
-ghost use Rattle.hfs_fields.specs.Records.{is_dir, item_id, dir_record_of};
+ghost use Rattle.std.specs.Prelude.{◌≡◌, ℕ, ◌+◌, ◌<◌, ◌^◌, [], IfOk, OnOk};
 ghost use Rattle.hfs_scans.specs.First.{first_failing};
-ghost use Rattle.hfs_catalog.specs.Records.{is_child_of, valence_of};
-ghost use Rattle.hfs_catalog_checks.specs.Indexes.{count_of, count_with};
-ghost use Rattle.hfs_catalog_checks.specs.Faults.{implies, is_valence_right, valence_fault};
+ghost use Rattle.hfs_catalog.specs.Records.{valence_of};
+ghost use Rattle.hfs_catalog_checks.specs.Indexes.{count_of, count_with, CountsChild};
+ghost use Rattle.hfs_catalog_checks.specs.Faults.{is_valence_counted, is_valence_right, valence_fault};
 
 use crate::numbers::Numbers;
 use hfs_catalog::{CatalogRecord, is_folder, is_item};
@@ -28,7 +27,7 @@ fn count_child(
     r: &CatalogRecord,
 ) -> Result<Siblings, AllocError>
     requires { (id : ℕ) → count_with counts.old siblings.parent siblings.count id + 1 < 2 ^ 64 }
-    ensures { IfOk result (λ met. (id : ℕ) → count_with counts.new met.parent met.count id ≡ count_with counts.old siblings.parent siblings.count id + (if is_child_of id r.now then 1 else 0)) }
+    ensures { IfOk result (CountsChild r.now counts.old siblings counts.new) }
 {
     if !is_item(r.body()) {
         return Ok(siblings);
@@ -64,7 +63,7 @@ pub fn child_counts(alloc: Global, catalog: &[CatalogRecord]) -> Result<Numbers,
 /// Whether a record, if it is a folder's, has the number of its children as its valence.
 #[tactic(auto, unfolding(hfs_fields::specs::Records::begins_dir))]
 fn is_valence_right(counts: &Numbers, r: &CatalogRecord) -> bool
-    ensures { result ≡ implies (is_dir r.now.1) (((dir_record_of r.now.1).valence == count_of counts.now (item_id r.now.1)) && nat_le (dir_record_of r.now.1).valence 65535) }
+    ensures { result ≡ is_valence_counted counts.now r.now }
 {
     let body = r.body();
     if !is_folder(body) {

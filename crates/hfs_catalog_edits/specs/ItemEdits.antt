@@ -1,13 +1,15 @@
 -- What the edits of items and threads make of the catalog: its records as a row of swaps, each of one that goes out and one that comes in.
-use Rattle.std.specs.Prelude.{◌≡◌, ℕ, ◌+◌, ◌*◌, ◌≤◌, ◌⊎◌, true, List, [], ◌∷◌, Option, Some, None}
+use Rattle.std.specs.Prelude.{◌≡◌, ℕ, ◌+◌, ◌*◌, ◌≤◌, ◌⊎◌, true, false, List, [], ◌∷◌, Option, Some, None}
 use Rattle.std.specs.Option.{option_map}
 use Rattle.std.specs.Ordering.{is_eq}
 use Rattle.hfs_fields.specs.declared.key.CatKey.{CatKey}
 use Rattle.hfs_fields.specs.declared.dir_record.DirRecord.{DirRecord}
 use Rattle.hfs_fields.specs.declared.file_record.FileRecord.{FileRecord}
+use Rattle.hfs_fields.specs.declared.thread_record.ThreadKind.{ThreadKind}
 use Rattle.hfs_fields.specs.declared.thread_record.ThreadKind.TheVariants as kind
+use Rattle.hfs_catalog.specs.declared.item.ItemRecord.{ItemRecord}
 use Rattle.hfs_fields.specs.Keys.{cat_cmp}
-use Rattle.hfs_fields.specs.Records.{dir_record_of, new_thread}
+use Rattle.hfs_fields.specs.Records.{dir_record_of, is_dir, is_item, new_thread}
 use Rattle.hfs_fields.specs.RecordForms.{IsDirRecordValue, dir_record_bytes, file_record_bytes, IsThreadRecordValue}
 use Rattle.hfs_btree.specs.Tree.{Store}
 use Rattle.hfs_btree.specs.Header.{depth_of, free_nodes}
@@ -19,8 +21,8 @@ use Rattle.hfs_catalog_edits.specs.Swaps.{Swaps}
 use Rattle.hfs_catalog_edits.specs.Keeps.{KeepsCatalog}
 use Rattle.hfs_catalog_edits.specs.Rooms.{TakesNoNodes}
 use Rattle.hfs_catalog_edits.specs.Finds.{record_at}
-use Rattle.hfs_catalog_edits.specs.Bodies.{with_valence, thread_record, turned, turned_record}
-use Rattle.hfs_catalog_edits.specs.RecordEdits.{RecordSet}
+use Rattle.hfs_catalog_edits.specs.Bodies.{IfBody, IsOfKind, item_bytes, with_valence, thread_record, turned, turned_record}
+use Rattle.hfs_catalog_edits.specs.RecordEdits.{RecordCame, RecordWent, RecordSet}
 
 -- ---- a folder's valence
 
@@ -104,3 +106,53 @@ pub record ItemRekeyed (id : ℕ) (here there : CatKey) (old new : Store) : Type
   pub most : free_nodes old ≤ free_nodes new + depth_of old + 1
   pub most_depth : depth_of new ≤ depth_of old + 1
   pub in_place : is_eq (cat_cmp here there) ≡ true → free_nodes new ≡ free_nodes old
+
+-- ---- words of the edits' contracts
+
+-- under the key stands the record of a file or folder
+abbrev pub IsItemAt : Store → CatKey → Type 0
+IsItemAt nodes key = IfBody (λ body. is_item body ≡ true) (lookup cat_cmp key (catalog_of nodes))
+
+-- under the key stands the record of a folder
+abbrev pub IsFolderAt : Store → CatKey → Type 0
+IsFolderAt nodes key = IfBody (λ body. is_dir body ≡ true) (lookup cat_cmp key (catalog_of nodes))
+
+-- under the key stands an item's record of the kind of this one
+abbrev pub IsSameKindAt : Store → CatKey → ItemRecord → Type 0
+IsSameKindAt nodes key item = IfBody (IsOfKind item) (lookup cat_cmp key (catalog_of nodes))
+
+-- no record has this name in the folder
+abbrev pub IsNameFree : Store → ℕ → List ℕ → Type 0
+IsNameFree nodes dir name = lookup cat_cmp (record { parent = dir; name = name }) (catalog_of nodes) ≡ None
+
+-- no record has the key of the ID's thread
+abbrev pub IsThreadKeyFree : Store → ℕ → Type 0
+IsThreadKeyFree nodes id = lookup cat_cmp (first_key id) (catalog_of nodes) ≡ None
+
+-- no record has the second key, unless the two are equal in order
+abbrev pub IsFreeUnlessSame : Store → CatKey → CatKey → Type 0
+IsFreeUnlessSame nodes here there = is_eq (cat_cmp here there) ≡ false → lookup cat_cmp there (catalog_of nodes) ≡ None
+
+-- the record of a file in this folder came
+abbrev pub FileCame : ℕ → List ℕ → FileRecord → Store → Store → Type 0
+FileCame dir name file old new = RecordCame (file_record dir name file) old new
+
+-- the record of a folder in this one came, without its thread
+abbrev pub FolderRecordCame : ℕ → List ℕ → DirRecord → Store → Store → Type 0
+FolderRecordCame dir name folder old new = RecordCame (folder_record dir name folder) old new
+
+-- the record under the key went
+abbrev pub RecordAtWent : CatKey → Store → Store → Type 0
+RecordAtWent key old new = RecordWent (record_at key (catalog_of old)) old new
+
+-- the thread of the ID went, if it had one
+abbrev pub ThreadWent : ℕ → Store → Store → Type 0
+ThreadWent id old new = RecordWent (thread_of (catalog_of old) id) old new
+
+-- a new thread of the ID came
+abbrev pub ThreadCame : ℕ → ThreadKind → ℕ → List ℕ → Store → Store → Type 0
+ThreadCame id kind dir name old new = RecordCame (thread_record id (new_thread kind dir name)) old new
+
+-- the record under the key is this item's
+abbrev pub ItemSet : CatKey → ItemRecord → Store → Store → Type 0
+ItemSet key item old new = RecordSet (key, item_bytes item) old new

@@ -1,13 +1,9 @@
 //! Items that go.
-ghost use Rattle.std.specs.Prelude.{◌≡◌, true, OnOk};
-ghost use Rattle.hfs_fields.specs.Keys.{cat_cmp};
-ghost use Rattle.hfs_fields.specs.Records.{is_item};
+ghost use Rattle.std.specs.Prelude.{◌≡◌, OnOk};
 ghost use Rattle.hfs_scans.specs.Each.{Each};
-ghost use Rattle.hfs_btree.specs.Pairs.{lookup};
 ghost use Rattle.hfs_catalog.specs.Sound.{IsRecord};
 ghost use Rattle.hfs_catalog.specs.Tree.{IsCatalogTree, catalog_of};
-ghost use Rattle.hfs_catalog_edits.specs.Bodies.{IfBody};
-ghost use Rattle.hfs_catalog_edits.specs.ItemEdits.{ItemWent};
+ghost use Rattle.hfs_catalog_edits.specs.ItemEdits.{IsItemAt, ItemWent};
 
 use crate::one_record::take;
 use crate::threads::drop_thread;
@@ -26,7 +22,7 @@ pub fn drop_item<N: NodesMut>(
 ) -> Result<(), AllocError>
     requires tree { IsCatalogTree (N.nodes nodes.old) }
     requires records { Each IsRecord (catalog_of (N.nodes nodes.old)) }
-    requires there { IfBody (λ body. is_item body ≡ true) (lookup cat_cmp key.now (catalog_of (N.nodes nodes.old))) }
+    requires there { IsItemAt (N.nodes nodes.old) key.now }
     ensures went { OnOk result (ItemWent key.now id (N.nodes nodes.old) (N.nodes nodes.new)) }
     ensures kept { OnOk result (N.kept nodes.new ≡ N.kept nodes.old) }
 {

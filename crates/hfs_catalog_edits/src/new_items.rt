@@ -1,12 +1,8 @@
 //! Items that come.
-ghost use Rattle.std.specs.Prelude.{◌≡◌, ◌≤◌, None, OnOk, length};
-ghost use Rattle.hfs_fields.specs.Keys.{cat_cmp};
+ghost use Rattle.std.specs.Prelude.{◌≡◌, ◌≤◌, OnOk, length};
 ghost use Rattle.hfs_fields.specs.RecordForms.{IsDirRecordValue, IsFileRecordValue};
-ghost use Rattle.hfs_btree.specs.Pairs.{lookup};
-ghost use Rattle.hfs_catalog.specs.Lookups.{first_key};
 ghost use Rattle.hfs_catalog.specs.Tree.{IsCatalogTree, catalog_of};
-ghost use Rattle.hfs_catalog_edits.specs.ItemEdits.{file_record, folder_record, FolderCame};
-ghost use Rattle.hfs_catalog_edits.specs.RecordEdits.{RecordCame};
+ghost use Rattle.hfs_catalog_edits.specs.ItemEdits.{IsNameFree, IsThreadKeyFree, FileCame, FolderRecordCame, FolderCame};
 ghost use Rattle.hfs_catalog_edits.specs.Rooms.{IsInFile, HasRoom, HasRoomForTwo};
 ghost use Rattle.hfs_catalog_edits.specs.Roots.{HasRoot};
 
@@ -30,10 +26,10 @@ pub fn add_file<N: NodesMut>(
     requires tree { IsCatalogTree (N.nodes nodes.old) }
     requires root { HasRoot (catalog_of (N.nodes nodes.old)) }
     requires dir { 2 ≤ dir }
-    requires absent { lookup cat_cmp (record { parent = dir; name = name.now }) (catalog_of (N.nodes nodes.old)) ≡ None }
+    requires absent { IsNameFree (N.nodes nodes.old) dir name.now }
     requires inside { IsInFile (N.nodes nodes.old) }
     requires room { HasRoom (N.nodes nodes.old) }
-    ensures came { OnOk result (RecordCame (file_record dir name.now file.now) (N.nodes nodes.old) (N.nodes nodes.new)) }
+    ensures came { OnOk result (FileCame dir name.now file.now (N.nodes nodes.old) (N.nodes nodes.new)) }
     ensures value { OnOk result (IsFileRecordValue file.now) }
     ensures kept { OnOk result (N.kept nodes.new ≡ N.kept nodes.old) }
 {
@@ -55,10 +51,10 @@ fn add_folder<N: NodesMut>(
     requires tree { IsCatalogTree (N.nodes nodes.old) }
     requires root { HasRoot (catalog_of (N.nodes nodes.old)) }
     requires dir { 2 ≤ dir }
-    requires absent { lookup cat_cmp (record { parent = dir; name = name.now }) (catalog_of (N.nodes nodes.old)) ≡ None }
+    requires absent { IsNameFree (N.nodes nodes.old) dir name.now }
     requires inside { IsInFile (N.nodes nodes.old) }
     requires room { HasRoom (N.nodes nodes.old) }
-    ensures came { OnOk result (RecordCame (folder_record dir name.now folder.now) (N.nodes nodes.old) (N.nodes nodes.new)) }
+    ensures came { OnOk result (FolderRecordCame dir name.now folder.now (N.nodes nodes.old) (N.nodes nodes.new)) }
     ensures value { OnOk result (IsDirRecordValue folder.now) }
     ensures kept { OnOk result (N.kept nodes.new ≡ N.kept nodes.old) }
 {
@@ -84,8 +80,8 @@ pub fn add_dir<N: NodesMut>(
     requires dir { 2 ≤ dir }
     requires named { 1 ≤ length name.now }
     requires id { 2 ≤ folder.now.id }
-    requires absent { lookup cat_cmp (record { parent = dir; name = name.now }) (catalog_of (N.nodes nodes.old)) ≡ None }
-    requires threadless { lookup cat_cmp (first_key folder.now.id) (catalog_of (N.nodes nodes.old)) ≡ None }
+    requires absent { IsNameFree (N.nodes nodes.old) dir name.now }
+    requires threadless { IsThreadKeyFree (N.nodes nodes.old) folder.now.id }
     requires inside { IsInFile (N.nodes nodes.old) }
     requires room { HasRoomForTwo (N.nodes nodes.old) }
     ensures came { OnOk result (FolderCame dir name.now folder.now (N.nodes nodes.old) (N.nodes nodes.new)) }

@@ -4,8 +4,8 @@ ghost use Rattle.hfs_fields.specs.Keys.{cat_cmp, is_cat_body_len};
 ghost use Rattle.hfs_btree.specs.Pairs.{lookup};
 ghost use Rattle.hfs_btree_edits.specs.Conditions.{IsNoLonger, IsThere};
 ghost use Rattle.hfs_catalog.specs.Tree.{IsCatalogTree, catalog_of};
-ghost use Rattle.hfs_catalog_edits.specs.Finds.{record_at};
-ghost use Rattle.hfs_catalog_edits.specs.RecordEdits.{RecordCame, RecordWent, RecordSet};
+ghost use Rattle.hfs_catalog_edits.specs.ItemEdits.{RecordAtWent};
+ghost use Rattle.hfs_catalog_edits.specs.RecordEdits.{RecordCame, RecordSet};
 ghost use Rattle.hfs_catalog_edits.specs.Rooms.{IsInFile, HasRoom};
 ghost use Rattle.hfs_catalog_edits.specs.Roots.{HasRoot};
 
@@ -43,7 +43,7 @@ pub(crate) fn take<N: NodesMut>(
 ) -> Result<(), AllocError>
     requires tree { IsCatalogTree (N.nodes nodes.old) }
     requires there { IsThere (lookup cat_cmp key.now (catalog_of (N.nodes nodes.old))) }
-    ensures went { OnOk result (RecordWent (record_at key.now (catalog_of (N.nodes nodes.old))) (N.nodes nodes.old) (N.nodes nodes.new)) }
+    ensures went { OnOk result (RecordAtWent key.now (N.nodes nodes.old) (N.nodes nodes.new)) }
     ensures kept { OnOk result (N.kept nodes.new ≡ N.kept nodes.old) }
 {
     remove(alloc, nodes, key)

@@ -1,14 +1,11 @@
 //! Items that come under another key.
-ghost use Rattle.std.specs.Prelude.{◌≡◌, ◌≤◌, true, false, None, OnOk, length};
+ghost use Rattle.std.specs.Prelude.{◌≡◌, ◌≤◌, false, OnOk, length};
 ghost use Rattle.std.specs.Ordering.{is_eq};
 ghost use Rattle.hfs_fields.specs.Keys.{cat_cmp};
-ghost use Rattle.hfs_fields.specs.Records.{is_item};
 ghost use Rattle.hfs_scans.specs.Each.{Each};
-ghost use Rattle.hfs_btree.specs.Pairs.{lookup};
 ghost use Rattle.hfs_catalog.specs.Sound.{IsRecord, AreNamesSound};
 ghost use Rattle.hfs_catalog.specs.Tree.{IsCatalogTree, catalog_of};
-ghost use Rattle.hfs_catalog_edits.specs.Bodies.{IfBody};
-ghost use Rattle.hfs_catalog_edits.specs.ItemEdits.{RecordMoved, ItemRekeyed};
+ghost use Rattle.hfs_catalog_edits.specs.ItemEdits.{IsItemAt, IsFreeUnlessSame, RecordMoved, ItemRekeyed};
 ghost use Rattle.hfs_catalog_edits.specs.Rooms.{IsInFile, HasRoom};
 ghost use Rattle.hfs_catalog_edits.specs.Roots.{HasRoot};
 
@@ -28,10 +25,10 @@ fn move_record<N: NodesMut>(
 ) -> Result<(), AllocError>
     requires tree { IsCatalogTree (N.nodes nodes.old) }
     requires root { HasRoot (catalog_of (N.nodes nodes.old)) }
-    requires there { IfBody (λ body. is_item body ≡ true) (lookup cat_cmp from.now (catalog_of (N.nodes nodes.old))) }
+    requires there { IsItemAt (N.nodes nodes.old) from.now }
     requires low { 2 ≤ from.now.parent }
     requires dir { 2 ≤ to.now.parent }
-    requires absent { is_eq (cat_cmp from.now to.now) ≡ false → lookup cat_cmp to.now (catalog_of (N.nodes nodes.old)) ≡ None }
+    requires absent { IsFreeUnlessSame (N.nodes nodes.old) from.now to.now }
     requires inside { IsInFile (N.nodes nodes.old) }
     requires room { is_eq (cat_cmp from.now to.now) ≡ false → HasRoom (N.nodes nodes.old) }
     ensures moved { OnOk result (RecordMoved from.now to.now (N.nodes nodes.old) (N.nodes nodes.new)) }
@@ -63,11 +60,11 @@ pub fn rekey<N: NodesMut>(
     requires records { Each IsRecord (catalog_of (N.nodes nodes.old)) }
     requires names { AreNamesSound (catalog_of (N.nodes nodes.old)) }
     requires root { HasRoot (catalog_of (N.nodes nodes.old)) }
-    requires there { IfBody (λ body. is_item body ≡ true) (lookup cat_cmp from.now (catalog_of (N.nodes nodes.old))) }
+    requires there { IsItemAt (N.nodes nodes.old) from.now }
     requires low { 2 ≤ from.now.parent }
     requires dir { 2 ≤ to.now.parent }
     requires named { 1 ≤ length to.now.name }
-    requires absent { is_eq (cat_cmp from.now to.now) ≡ false → lookup cat_cmp to.now (catalog_of (N.nodes nodes.old)) ≡ None }
+    requires absent { IsFreeUnlessSame (N.nodes nodes.old) from.now to.now }
     requires inside { IsInFile (N.nodes nodes.old) }
     requires room { is_eq (cat_cmp from.now to.now) ≡ false → HasRoom (N.nodes nodes.old) }
     ensures rekeyed { OnOk result (ItemRekeyed id from.now to.now (N.nodes nodes.old) (N.nodes nodes.new)) }

@@ -1,12 +1,8 @@
 //! Records of items that are written anew in their place.
-ghost use Rattle.std.specs.Prelude.{◌≡◌, true, OnOk};
-ghost use Rattle.hfs_fields.specs.Keys.{cat_cmp};
-ghost use Rattle.hfs_fields.specs.Records.{is_dir};
-ghost use Rattle.hfs_btree.specs.Pairs.{lookup};
-ghost use Rattle.hfs_catalog.specs.Tree.{IsCatalogTree, catalog_of};
-ghost use Rattle.hfs_catalog_edits.specs.Bodies.{item_bytes, IsItemValue, IsOfKind, IfBody};
-ghost use Rattle.hfs_catalog_edits.specs.ItemEdits.{HasValenceSet};
-ghost use Rattle.hfs_catalog_edits.specs.RecordEdits.{RecordSet};
+ghost use Rattle.std.specs.Prelude.{◌≡◌, OnOk};
+ghost use Rattle.hfs_catalog.specs.Tree.{IsCatalogTree};
+ghost use Rattle.hfs_catalog_edits.specs.Bodies.{IsItemValue};
+ghost use Rattle.hfs_catalog_edits.specs.ItemEdits.{IsFolderAt, IsSameKindAt, ItemSet, HasValenceSet};
 
 use crate::bodies::{file_body, folder_body};
 use crate::one_record::set;
@@ -26,8 +22,8 @@ pub fn set_record<N: NodesMut>(
     item: &ItemRecord,
 ) -> Result<(), AllocError>
     requires tree { IsCatalogTree (N.nodes nodes.old) }
-    requires there { IfBody (IsOfKind item.now) (lookup cat_cmp key.now (catalog_of (N.nodes nodes.old))) }
-    ensures set { OnOk result (RecordSet (key.now, item_bytes item.now) (N.nodes nodes.old) (N.nodes nodes.new)) }
+    requires there { IsSameKindAt (N.nodes nodes.old) key.now item.now }
+    ensures set { OnOk result (ItemSet key.now item.now (N.nodes nodes.old) (N.nodes nodes.new)) }
     ensures value { OnOk result (IsItemValue item.now) }
     ensures kept { OnOk result (N.kept nodes.new ≡ N.kept nodes.old) }
 {
@@ -48,7 +44,7 @@ pub fn set_valence<N: NodesMut>(
     now: u32,
 ) -> Result<(), AllocError>
     requires tree { IsCatalogTree (N.nodes nodes.old) }
-    requires there { IfBody (λ body. is_dir body ≡ true) (lookup cat_cmp key.now (catalog_of (N.nodes nodes.old))) }
+    requires there { IsFolderAt (N.nodes nodes.old) key.now }
     ensures set { OnOk result (HasValenceSet key.now valence now (N.nodes nodes.old) (N.nodes nodes.new)) }
     ensures kept { OnOk result (N.kept nodes.new ≡ N.kept nodes.old) }
 {

@@ -5,13 +5,11 @@ ghost use Rattle.hfs_fields.specs.Records.{new_thread};
 ghost use Rattle.hfs_fields.specs.RecordForms.{IsThreadRecordValue};
 ghost use Rattle.hfs_scans.specs.Each.{Each};
 ghost use Rattle.hfs_btree.specs.Pairs.{lookup};
-ghost use Rattle.hfs_catalog.specs.Lookups.{first_key, thread_of};
+ghost use Rattle.hfs_catalog.specs.Lookups.{first_key};
 ghost use Rattle.hfs_catalog.specs.Sound.{IsRecord};
 ghost use Rattle.hfs_catalog.specs.Tree.{IsCatalogTree, catalog_of};
-ghost use Rattle.hfs_catalog_edits.specs.Bodies.{thread_record};
 ghost use Rattle.hfs_catalog_edits.specs.Finds.{AreThreadsReadable};
-ghost use Rattle.hfs_catalog_edits.specs.ItemEdits.{ThreadTurned};
-ghost use Rattle.hfs_catalog_edits.specs.RecordEdits.{RecordCame, RecordWent};
+ghost use Rattle.hfs_catalog_edits.specs.ItemEdits.{ThreadCame, ThreadWent, ThreadTurned};
 ghost use Rattle.hfs_catalog_edits.specs.Rooms.{IsInFile, HasRoom};
 ghost use Rattle.hfs_catalog_edits.specs.Roots.{HasRoot};
 
@@ -40,7 +38,7 @@ pub fn add_thread<N: NodesMut>(
     requires absent { lookup cat_cmp (first_key id) (catalog_of (N.nodes nodes.old)) ≡ None }
     requires file { IsInFile (N.nodes nodes.old) }
     requires room { HasRoom (N.nodes nodes.old) }
-    ensures came { OnOk result (RecordCame (thread_record id (new_thread kind dir name.now)) (N.nodes nodes.old) (N.nodes nodes.new)) }
+    ensures came { OnOk result (ThreadCame id kind dir name.now (N.nodes nodes.old) (N.nodes nodes.new)) }
     ensures value { OnOk result (IsThreadRecordValue (new_thread kind dir name.now)) }
     ensures kept { OnOk result (N.kept nodes.new ≡ N.kept nodes.old) }
 {
@@ -54,7 +52,7 @@ pub fn add_thread<N: NodesMut>(
 pub fn drop_thread<N: NodesMut>(alloc: Global, nodes: &mut N, id: u32) -> Result<(), AllocError>
     requires tree { IsCatalogTree (N.nodes nodes.old) }
     requires records { Each IsRecord (catalog_of (N.nodes nodes.old)) }
-    ensures went { OnOk result (RecordWent (thread_of (catalog_of (N.nodes nodes.old)) id) (N.nodes nodes.old) (N.nodes nodes.new)) }
+    ensures went { OnOk result (ThreadWent id (N.nodes nodes.old) (N.nodes nodes.new)) }
     ensures kept { OnOk result (N.kept nodes.new ≡ N.kept nodes.old) }
 {
     let key = thread_key(id);

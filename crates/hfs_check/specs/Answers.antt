@@ -1,5 +1,5 @@
 -- What a check answers.
-use Rattle.std.specs.Prelude.{◌≡◌, ◌⊎◌, ℕ, List, Option, Some, None, Result, MatchResult, if◌then◌else◌}
+use Rattle.std.specs.Prelude.{◌≡◌, ◌⊎◌, ℕ, List, Option, Some, None, Result, MatchResult, if◌then◌else◌, ◌++◌}
 use Rattle.hfs_fields.specs.Records.{is_file, file_record_of}
 use Rattle.hfs_btree_checks.specs.Order.{key_fault, order_fault}
 use Rattle.hfs_btree_checks.specs.Shape.{shape_fault, ◌or_else◌}
@@ -14,10 +14,13 @@ use Rattle.hfs_space.specs.Owners.{owned_blocks}
 use Rattle.hfs_catalog.specs.Records.{Catalog}
 use Rattle.hfs_catalog.specs.Tree.{catalog_of}
 use Rattle.hfs_catalog_checks.specs.Faults.{record_fault, id_fault, valence_fault, count_fault}
-use Rattle.hfs_check.specs.Parts.{Blocks, extents_nodes, catalog_extents, catalog_nodes}
-use Rattle.hfs_check.specs.Faults.{◌or_fault◌, check_fault, extents_fault, extents_counts, catalog_fault, catalog_counts, trees_fault, catalog_name_fault, catalog_place_fault, is_fork_key, records_fault, numbers_fault}
+use Rattle.hfs_check.specs.Parts.{Blocks, extents_nodes, catalog_extents, catalog_nodes, owned_in}
+use Rattle.hfs_check.specs.Faults.{◌or_fault◌, check_fault, extents_fault, extents_counts, catalog_fault, catalog_counts, trees_fault, catalog_name_fault, catalog_place_fault, is_fork_key, records_fault, numbers_fault, blocks_fault}
 use Rattle.hfs_check.specs.declared.mount_fault.MountFault.{MountFault}
 use Rattle.hfs_check.specs.declared.mount_fault.MountFault.TheVariants.{Memory}
+use Rattle.std.specs.Option.{option_to_list}
+use Rattle.hfs_btree_checks.specs.ShapeSteps.{IsFault}
+use Rattle.hfs_btree_checks.specs.declared.fault.TreeFault.{TreeFault}
 
 -- the answer is this first fault, or memory was refused
 abbrev pub IsFaultOf : Option MountFault → MountFault → Type 0
@@ -27,9 +30,21 @@ IsFaultOf fault answer = (answer ≡ Memory) ⊎ (fault ≡ Some answer)
 abbrev pub Answers : {A : Type 0} → Option MountFault → Result A MountFault → Type 0
 Answers fault result = MatchResult result (λ _. fault ≡ None) (IsFaultOf fault)
 
+-- the answer is the first fault of so many blocks, or memory was refused
+abbrev pub IsFaultIn : ℕ → Blocks → MountFault → Type 0
+IsFaultIn total blocks answer = IsFaultOf (blocks_fault total blocks) answer
+
+-- the answer of the check of this number to a fault of its tree
+abbrev pub IsAnswerTo : TreeFault → ℕ → MountFault → Type 0
+IsAnswerTo fault number answer = (place : Option ℕ) → IsFault place fault → IsFaultOf (check_fault number place) answer
+
+-- the first fault of the forks in the keys of an extents tree
+abbrev pub fork_key_fault : Store → Option ℕ
+fork_key_fault nodes = key_fault ext_keys nodes is_fork_key
+
 -- the first fault of an extents tree in a file of so many bytes
 abbrev pub extents_tree_fault : ℕ → Store → Option ℕ
-extents_tree_fault size nodes = shape_fault ext_keys size nodes or_else key_fault ext_keys nodes is_fork_key or_else order_fault ext_keys nodes
+extents_tree_fault size nodes = shape_fault ext_keys size nodes or_else fork_key_fault nodes or_else order_fault ext_keys nodes
 
 -- what check 3 answers of a volume with this master directory block: the extents tree
 abbrev pub extents_check_fault : Mdb → Blocks → Option MountFault
@@ -46,6 +61,10 @@ both_trees_fault blocks = trees_fault (extents_counts blocks) (catalog_counts bl
 -- a file's record with its number, where the body is one
 abbrev pub numbered_file : ℕ → List ℕ → Option CatalogFile
 numbered_file number body = if is_file body then Some (record { number = number; file = file_record_of body }) else None
+
+-- the files, and behind them that of a record with this number, where the body is a file's
+abbrev pub with_file : List CatalogFile → ℕ → List ℕ → List CatalogFile
+with_file files number body = files ++ option_to_list (numbered_file number body)
 
 -- the first fault of a catalog's records, which lie in these nodes, on a volume whose next ID this is
 abbrev pub listed_fault : ℕ → Store → Catalog → Option MountFault
@@ -66,6 +85,10 @@ contents_fault blocks mdb extents catalog = listed_fault mdb.next_id catalog (ca
 -- these are all extents that somebody owns, where the two trees have these nodes
 abbrev pub AreOwned : Mdb → Overflow → Catalog → List Extent → Type 0
 AreOwned mdb overflow catalog owned = extent_blocks owned ≡ owned_blocks mdb overflow catalog
+
+-- these are all extents that somebody owns in a volume of these blocks
+abbrev pub AreAllOwned : Blocks → List Extent → Type 0
+AreAllOwned blocks owned = extent_blocks owned ≡ owned_in blocks
 
 -- the first fault behind the checks of the two trees
 abbrev pub behind_trees_fault : Blocks → Option MountFault

@@ -1,5 +1,5 @@
 -- What a report tells of an image.
-use Rattle.std.specs.Prelude.{ℕ, ◌-◌, ◌&&◌, ◌==◌, Bool, if◌then◌else◌, List, Option, Some, None, take}
+use Rattle.std.specs.Prelude.{ℕ, ◌-◌, ◌&&◌, ◌==◌, Bool, if◌then◌else◌, List, Option, Some, None, take, ◌≡◌}
 use Rattle.std.specs.Str.{bytes_eq}
 use Rattle.hfs_fields.specs.declared.mdb.Mdb.{Mdb}
 use Rattle.hfs_fields.specs.Mdb.{mdb_of}
@@ -62,3 +62,13 @@ report_by total blocks (Some fault) = refused_report fault
 
 unfoldable pub report_in : ℕ → Blocks → Report
 report_in total blocks = report_by total blocks (blocks_fault total blocks)
+
+-- ---- the answers of those who report
+
+-- the report of a sound volume of so many blocks
+abbrev pub IsSoundReport : ℕ → Blocks → Report → Type 0
+IsSoundReport total blocks report = report ≡ sound_report total blocks
+
+-- the report on so many blocks
+abbrev pub IsReportOn : ℕ → Blocks → Report → Type 0
+IsReportOn total blocks report = report ≡ report_in total blocks

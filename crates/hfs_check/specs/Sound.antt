@@ -28,6 +28,10 @@ pub record IsImageLength (bytes : ℕ) : Type 0 where
 
 -- ---- the master directory block of a volume of so many blocks
 
+-- the bitmap lies in the volume
+abbrev pub HasBitmap : Mdb → ℕ → Type 0
+HasBitmap mdb total = mdb.bitmap_start + bitmap_len mdb.allocation_blocks ≤ total
+
 pub record IsMdbSound (total : ℕ) (mdb : Mdb) : Type 0 where
   pub signature : mdb.signature ≡ 0x4244
   pub some : 1 ≤ mdb.allocation_blocks

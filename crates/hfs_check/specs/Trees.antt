@@ -1,5 +1,5 @@
 -- Where the two trees of a volume lie.
-use Rattle.std.specs.Prelude.{◌≡◌, ℕ, List}
+use Rattle.std.specs.Prelude.{◌≡◌, ℕ, List, true, false, Option, MatchOption}
 use Rattle.std.specs.List.{flat_map}
 use Rattle.hfs_fields.specs.declared.extent.Extent.{Extent}
 use Rattle.hfs_blocks.specs.declared.run.Run.{Run}
@@ -9,6 +9,8 @@ use Rattle.hfs_check.specs.declared.trees.VolumeTrees.{VolumeTrees}
 use Rattle.hfs_check.specs.Parts.{Blocks, extents_blocks, extents_nodes, catalog_extents, catalog_blocks, catalog_nodes}
 use Rattle.hfs_space.specs.TreeFiles.{tree_nodes, tree_blocks}
 use Rattle.hfs_fields.specs.declared.mdb.Mdb.{Mdb}
+use Rattle.std.proofs.Common.{Vec, Global}
+use Rattle.hfs_space.specs.Faults.{is_tree_file}
 
 -- the nodes lie in these runs of a volume of so many blocks, one in each of the blocks with these numbers
 pub record LieIn (total : ℕ) (blocks : Blocks) (runs : List Run) (places : List ℕ) (nodes : Store) : Type 0 where
@@ -43,6 +45,11 @@ LieInExtents total blocks runs = LieIn total blocks runs (extents_blocks blocks)
 -- the runs are those of the catalog file
 abbrev pub LieInCatalog : ℕ → Blocks → List Run → Type 0
 LieInCatalog total blocks runs = LieIn total blocks runs (catalog_blocks blocks) (catalog_nodes blocks)
+
+-- the runs of a tree's file that has these extents and this size, where the file is right, and else none
+abbrev pub FindsTreeFile : ℕ → Blocks → Mdb → List Extent → ℕ → Option (Vec Run Global) → Type 0
+FindsTreeFile total blocks mdb extents size found = MatchOption found (is_tree_file mdb extents size ≡ false)
+    (λ runs. (is_tree_file mdb extents size ≡ true) × LieIn total blocks runs.items (tree_blocks mdb extents size) (tree_nodes blocks mdb extents size))
 
 -- these are the trees of an image
 abbrev pub HasTreesOf : List ℕ → VolumeTrees → Type 0

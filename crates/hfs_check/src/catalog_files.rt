@@ -1,7 +1,6 @@
 //! The files of a catalog.
-ghost use Rattle.std.specs.Prelude.{◌≡◌, ◌++◌, IfOk, OnOk};
-ghost use Rattle.std.specs.Option.{option_to_list};
-ghost use Rattle.hfs_check.specs.Answers.{numbered_file};
+ghost use Rattle.std.specs.Prelude.{◌≡◌, IfOk, OnOk};
+ghost use Rattle.hfs_check.specs.Answers.{with_file};
 ghost use Rattle.hfs_space.specs.Runs.{files_in};
 
 use hfs_catalog::CatalogRecord;
@@ -10,7 +9,7 @@ use std::alloc::{AllocError, Global};
 
 /// Takes a file's record with its number, if it is one.
 fn take_file(files: &mut Vec<CatalogFile>, number: usize, body: &[u8]) -> Result<(), AllocError>
-    ensures { OnOk result (files.new.items ≡ files.old.items ++ option_to_list (numbered_file number body.now)) }
+    ensures { OnOk result (files.new.items ≡ with_file files.old.items number body.now) }
 {
     if let Some(file) = CatalogFile::read(number, body) {
         files.push(file)?;

@@ -1,16 +1,14 @@
 //! All checks of a volume, in their order.
-ghost use Rattle.std.specs.Prelude.{◌≡◌, ◌+◌, ◌≤◌, ◌<◌, None, OnOk, IfOk, IfErr, length};
+ghost use Rattle.std.specs.Prelude.{◌≡◌, ◌≤◌, ◌<◌, None, OnOk, IfOk, IfErr, length};
 ghost use Rattle.hfs_btree.specs.Sound.{HasStructure, HasCounts};
-ghost use Rattle.hfs_space.specs.Bitmap.{bitmap_len};
-ghost use Rattle.hfs_catalog.specs.Tree.{cat_keys, catalog_of};
-ghost use Rattle.hfs_blocks.specs.Blocks.{block_at, block_count};
-ghost use Rattle.hfs_space.specs.TreeKeys.{IsExtentsTree, overflow_of};
-ghost use Rattle.hfs_check.specs.Answers.{Answers, IsFaultOf, AreOwned, both_trees_fault, contents_fault, behind_trees_fault, AreOwnedIn, AnswersContents};
+ghost use Rattle.hfs_catalog.specs.Tree.{cat_keys};
+ghost use Rattle.hfs_blocks.specs.Blocks.{block_at};
+ghost use Rattle.hfs_space.specs.TreeKeys.{IsExtentsTree};
+ghost use Rattle.hfs_check.specs.Answers.{Answers, IsFaultOf, both_trees_fault, behind_trees_fault, AreOwnedIn, AnswersContents, AreAllOwned, IsFaultIn};
 ghost use Rattle.hfs_check.specs.Faults.{blocks_fault, fault_of};
-ghost use Rattle.hfs_check.specs.Parts.{mdb_in, owned_in};
-ghost use Rattle.hfs_space.specs.Extents.{extent_blocks};
-ghost use Rattle.hfs_check.specs.Sound.{IsMdbSound, AreBlocksSound, IsSound};
-ghost use Rattle.hfs_check.specs.Trees.{AreTreesIn, HasTrees, HasTreesOf};
+ghost use Rattle.hfs_check.specs.Parts.{mdb_in};
+ghost use Rattle.hfs_check.specs.Sound.{IsMdbSound, AreBlocksSound, IsSound, HasBitmap};
+ghost use Rattle.hfs_check.specs.Trees.{HasTrees, HasTreesOf};
 
 use crate::laws::{
     no_blocks_fault, no_catalog_fault, no_extents_fault, no_image_fault, no_mdb_fault,
@@ -35,7 +33,7 @@ fn check_contents<B: Blocks, E: Nodes, C: Nodes>(
     extents: &E,
     catalog: &C,
 ) -> Result<Vec<Extent>, MountFault>
-    requires bitmap { mdb.now.bitmap_start + bitmap_len mdb.now.allocation_blocks ≤ B.total blocks.now }
+    requires bitmap { HasBitmap mdb.now (B.total blocks.now) }
     requires extents { IsExtentsTree (E.nodes extents.now) }
     requires structure { HasStructure cat_keys (C.nodes catalog.now) }
     requires counts { HasCounts cat_keys (C.nodes catalog.now) }
@@ -59,7 +57,7 @@ fn check_behind_trees<B: Blocks>(
     requires trees { HasTrees (B.total blocks.now) (B.blocks blocks.now) trees.now }
     requires right { both_trees_fault (B.blocks blocks.now) ≡ None }
     ensures fault { Answers (behind_trees_fault (B.blocks blocks.now)) result }
-    ensures owned { IfOk result (λ owned. extent_blocks owned.items ≡ owned_in (B.blocks blocks.now)) }
+    ensures owned { IfOk result (λ owned. AreAllOwned (B.blocks blocks.now) owned.items) }
 {
     no_extents_fault();
     no_catalog_fault();
@@ -103,8 +101,8 @@ pub(crate) fn checked_blocks<B: Blocks>(
     ensures sound { OnOk result (AreBlocksSound (B.total blocks.now) (B.blocks blocks.now)) }
     ensures mdb { IfOk result (λ checked. checked.volume.mdb ≡ mdb_in (B.blocks blocks.now)) }
     ensures trees { IfOk result (λ checked. HasTrees (B.total blocks.now) (B.blocks blocks.now) checked.volume.trees) }
-    ensures owned { IfOk result (λ checked. extent_blocks checked.owned.items ≡ owned_in (B.blocks blocks.now)) }
-    ensures wrong { IfErr result (IsFaultOf (blocks_fault (B.total blocks.now) (B.blocks blocks.now))) }
+    ensures owned { IfOk result (λ checked. AreAllOwned (B.blocks blocks.now) checked.owned.items) }
+    ensures wrong { IfErr result (IsFaultIn (B.total blocks.now) (B.blocks blocks.now)) }
 {
     no_mdb_fault();
     no_blocks_fault();
@@ -126,8 +124,8 @@ pub(crate) fn checked_image(alloc: Global, image: &[u8]) -> Result<CheckedVolume
     ensures right { OnOk result (fault_of image.now ≡ None) }
     ensures sound { OnOk result (IsSound image.now) }
     ensures mdb { IfOk result (λ checked. checked.volume.mdb ≡ mdb_in (block_at image.now)) }
-    ensures trees { IfOk result (λ checked. HasTrees (block_count image.now) (block_at image.now) checked.volume.trees) }
-    ensures owned { IfOk result (λ checked. extent_blocks checked.owned.items ≡ owned_in (block_at image.now)) }
+    ensures trees { IfOk result (λ checked. HasTreesOf image.now checked.volume.trees) }
+    ensures owned { IfOk result (λ checked. AreAllOwned (block_at image.now) checked.owned.items) }
     ensures wrong { IfErr result (IsFaultOf (fault_of image.now)) }
 {
     no_image_fault();
@@ -153,7 +151,7 @@ pub fn check_blocks<B: Blocks>(alloc: Global, blocks: &B) -> Result<SoundVolume,
     ensures sound { OnOk result (AreBlocksSound (B.total blocks.now) (B.blocks blocks.now)) }
     ensures mdb { IfOk result (λ volume. volume.mdb ≡ mdb_in (B.blocks blocks.now)) }
     ensures trees { IfOk result (λ volume. HasTrees (B.total blocks.now) (B.blocks blocks.now) volume.trees) }
-    ensures wrong { IfErr result (IsFaultOf (blocks_fault (B.total blocks.now) (B.blocks blocks.now))) }
+    ensures wrong { IfErr result (IsFaultIn (B.total blocks.now) (B.blocks blocks.now)) }
 {
     let CheckedVolume { volume, .. } = checked_blocks(alloc, blocks)?;
     Ok(volume)

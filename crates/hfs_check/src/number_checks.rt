@@ -1,12 +1,10 @@
 //! The checks of the numbers that are counted and of the space, each as what mounting answers.
-ghost use Rattle.std.specs.Prelude.{◌≡◌, ◌+◌, ◌≤◌, IfOk};
-ghost use Rattle.hfs_space.specs.Bitmap.{bitmap_len};
-ghost use Rattle.hfs_space.specs.Extents.{extent_blocks};
+ghost use Rattle.std.specs.Prelude.{◌≡◌, IfOk};
 ghost use Rattle.hfs_space.specs.Faults as space_spec;
 ghost use Rattle.hfs_space.specs.Runs.{files_in};
 ghost use Rattle.hfs_space.specs.TreeKeys.{IsExtentsTree, overflow_of};
-ghost use Rattle.hfs_check.specs.Answers.{Answers, AreOwned, counted_fault, AnswersForks, AnswersSpace, AnswersNumbers};
-ghost use Rattle.hfs_check.specs.Faults.{check_fault};
+ghost use Rattle.hfs_check.specs.Answers.{AreOwned, AnswersForks, AnswersSpace, AnswersNumbers};
+ghost use Rattle.hfs_check.specs.Sound.{HasBitmap};
 
 use crate::catalog_files::catalog_files;
 use crate::mount_fault::MountFault;
@@ -41,7 +39,7 @@ fn check_space<B: Blocks>(
     mdb: &Mdb,
     owned: &[Extent],
 ) -> Result<(), MountFault>
-    requires { mdb.now.bitmap_start + bitmap_len mdb.now.allocation_blocks ≤ B.total blocks.now }
+    requires { HasBitmap mdb.now (B.total blocks.now) }
     ensures { AnswersSpace (B.blocks blocks.now) mdb.now owned.now result }
 {
     match space_fault(alloc, blocks, mdb, owned)? {
@@ -62,7 +60,7 @@ pub(crate) fn check_numbers<B: Blocks, N: Nodes>(
     tree: &N,
     records: &[CatalogRecord],
 ) -> Result<Vec<Extent>, MountFault>
-    requires bitmap { mdb.now.bitmap_start + bitmap_len mdb.now.allocation_blocks ≤ B.total blocks.now }
+    requires bitmap { HasBitmap mdb.now (B.total blocks.now) }
     requires tree { IsExtentsTree (N.nodes tree.now) }
     ensures fault { AnswersNumbers (B.blocks blocks.now) mdb.now (N.nodes tree.now) records.now result }
     ensures owned { IfOk result (λ owned. AreOwned mdb.now (overflow_of (N.nodes tree.now)) records.now owned.items) }

@@ -1,9 +1,9 @@
 //! Reports on images.
 ghost use Rattle.std.specs.Prelude.{◌≡◌, ◌≤◌, IfOk};
-ghost use Rattle.hfs_space.specs.Extents.{extent_blocks};
-ghost use Rattle.hfs_check.specs.Parts.{mdb_in, owned_in};
+ghost use Rattle.hfs_check.specs.Parts.{mdb_in};
 ghost use Rattle.hfs_check.specs.Report as spec;
 ghost use Rattle.hfs_check.specs.Sound.{AreBlocksSound};
+ghost use Rattle.hfs_check.specs.Answers.{AreAllOwned};
 
 use crate::checking::{CheckedVolume, checked_blocks, checked_image};
 use crate::mount_fault::MountFault;
@@ -21,8 +21,8 @@ fn sound_report<B: Blocks>(
     requires some { 3 ≤ B.total blocks.now }
     requires sound { AreBlocksSound (B.total blocks.now) (B.blocks blocks.now) }
     requires mdb { checked.now.volume.mdb ≡ mdb_in (B.blocks blocks.now) }
-    requires owned { extent_blocks checked.now.owned.items ≡ owned_in (B.blocks blocks.now) }
-    ensures { IfOk result (λ report. report ≡ spec.sound_report (B.total blocks.now) (B.blocks blocks.now)) }
+    requires owned { AreAllOwned (B.blocks blocks.now) checked.now.owned.items }
+    ensures { IfOk result (spec.IsSoundReport (B.total blocks.now) (B.blocks blocks.now)) }
 {
     let mdb = &checked.volume.mdb;
     let unowned = stray_count(alloc, blocks, mdb, &checked.owned)?;
@@ -55,7 +55,7 @@ pub fn refused_report(fault: MountFault) -> Report
 #[tactic(auto, unfolding(crate::specs::Report::report_in))]
 pub fn report_blocks<B: Blocks>(alloc: Global, blocks: &B) -> Result<Report, AllocError>
     requires { 3 ≤ B.total blocks.now }
-    ensures { IfOk result (λ report. report ≡ spec.report_in (B.total blocks.now) (B.blocks blocks.now)) }
+    ensures { IfOk result (spec.IsReportOn (B.total blocks.now) (B.blocks blocks.now)) }
 {
     match checked_blocks(alloc, blocks) {
         Ok(checked) => sound_report(alloc, blocks, &checked),

@@ -1,13 +1,12 @@
 //! The checks of the two trees, each as what mounting answers.
-ghost use Rattle.std.specs.Prelude.{◌≡◌, ◌*◌, ◌≤◌, ℕ, Option, OnOk, IfOk, length};
-ghost use Rattle.hfs_btree_checks.specs.Shape.{shape_fault, ◌or_else◌};
-ghost use Rattle.hfs_btree_checks.specs.ShapeSteps.{IsFault};
-ghost use Rattle.hfs_btree_checks.specs.Order.{key_fault, order_fault};
+ghost use Rattle.std.specs.Prelude.{◌≡◌, ◌*◌, ◌≤◌, OnOk, IfOk, length};
+ghost use Rattle.hfs_btree_checks.specs.Shape.{shape_fault};
+ghost use Rattle.hfs_btree_checks.specs.Order.{order_fault};
 ghost use Rattle.hfs_btree.specs.Sound.{IsShaped};
 ghost use Rattle.hfs_space.specs.TreeKeys.{ext_keys};
 ghost use Rattle.hfs_catalog.specs.Tree.{cat_keys};
 ghost use Rattle.hfs_check.specs.Faults.{check_fault, is_fork_key};
-ghost use Rattle.hfs_check.specs.Answers.{Answers, IsFaultOf, extents_tree_fault};
+ghost use Rattle.hfs_check.specs.Answers.{Answers, extents_tree_fault, IsAnswerTo, fork_key_fault};
 
 use crate::mount_fault::MountFault;
 use hfs_btree::Nodes;
@@ -17,7 +16,7 @@ use std::alloc::Global;
 
 /// What the check of a tree, of this number, answers for a fault of the tree.
 fn answer_of(number: u8, fault: TreeFault) -> MountFault
-    ensures { (place : Option ℕ) → IsFault place fault → IsFaultOf (check_fault number place) result }
+    ensures { IsAnswerTo fault number result }
 {
     match fault {
         TreeFault::At(node) => MountFault::Check {
@@ -76,7 +75,7 @@ fn check_fork_keys<N: Nodes>(
     alloc: Global,
     tree: &ShapedTree<'_, ExtKey, N>,
 ) -> Result<(), MountFault>
-    ensures { Answers (check_fault 3 (key_fault ext_keys (N.nodes tree.now.nodes.now) is_fork_key)) result }
+    ensures { Answers (check_fault 3 (fork_key_fault (N.nodes tree.now.nodes.now))) result }
 {
     match tree.check_keys(alloc, &IsForkKey) {
         Ok(()) => Ok(()),

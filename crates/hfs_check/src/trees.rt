@@ -1,15 +1,11 @@
 //! Where the two trees of a volume lie, and whether their files and shapes are right.
-ghost use Rattle.std.specs.Prelude.{◌≡◌, true, false, None, MatchOption, IfOk, OnOk, IfErr};
-ghost use Rattle.hfs_btree.specs.Sound.{IsSound, HasStructure, HasCounts};
+ghost use Rattle.std.specs.Prelude.{◌≡◌, true, None, IfOk, OnOk, IfErr};
 ghost use Rattle.hfs_space.specs.Faults.{is_tree_file};
-ghost use Rattle.hfs_space.specs.TreeFiles.{tree_nodes, tree_blocks};
 ghost use Rattle.hfs_space.specs.TreeKeys.{IsExtentsTree};
-ghost use Rattle.hfs_catalog.specs.Tree.{cat_keys};
-ghost use Rattle.hfs_check.specs.Parts.{mdb_in, extents_blocks, extents_nodes, catalog_extents, catalog_blocks, catalog_nodes};
-ghost use Rattle.hfs_check.specs.Sound.{IsMdbSound, IsExtentsSound, IsCatalogFileSound};
-ghost use Rattle.hfs_check.specs.Faults.{check_fault};
+ghost use Rattle.hfs_check.specs.Parts.{mdb_in, extents_nodes, catalog_extents};
+ghost use Rattle.hfs_check.specs.Sound.{IsMdbSound};
 ghost use Rattle.hfs_check.specs.Answers.{Answers, IsFaultOf, extents_check_fault, catalog_check_fault, both_trees_fault};
-ghost use Rattle.hfs_check.specs.Trees.{LieIn, HasTrees, LieInExtentsOf, LieInCatalogOf, LieInExtents, LieInCatalog};
+ghost use Rattle.hfs_check.specs.Trees.{HasTrees, LieInExtentsOf, LieInCatalogOf, LieInExtents, LieInCatalog, FindsTreeFile};
 
 use crate::laws::no_extents_fault;
 use crate::mount_fault::MountFault;
@@ -29,8 +25,7 @@ fn file_runs<B: Blocks>(
     size: u32,
 ) -> Result<Option<Vec<Run>>, AllocError>
     requires { IsMdbSound (B.total blocks.now) mdb.now }
-    ensures { IfOk result (λ found. MatchOption found (is_tree_file mdb.now extents.now size ≡ false)
-        (λ runs. (is_tree_file mdb.now extents.now size ≡ true) × LieIn (B.total blocks.now) (B.blocks blocks.now) runs.items (tree_blocks mdb.now extents.now size) (tree_nodes (B.blocks blocks.now) mdb.now extents.now size))) }
+    ensures { IfOk result (FindsTreeFile (B.total blocks.now) (B.blocks blocks.now) mdb.now extents.now size) }
 {
     no_tree_file_fault();
     if is_tree_file(mdb, extents, size) {
@@ -177,7 +172,7 @@ pub(crate) fn open_trees<B: Blocks>(
     requires sound { IsMdbSound (B.total blocks.now) mdb.now }
     requires is { mdb.now ≡ mdb_in (B.blocks blocks.now) }
     ensures right { OnOk result (both_trees_fault (B.blocks blocks.now) ≡ None) }
-    ensures trees { IfOk result (λ trees. HasTrees (B.total blocks.now) (B.blocks blocks.now) trees) }
+    ensures trees { IfOk result (HasTrees (B.total blocks.now) (B.blocks blocks.now)) }
     ensures wrong { IfErr result (IsFaultOf (both_trees_fault (B.blocks blocks.now))) }
 {
     no_extents_fault();

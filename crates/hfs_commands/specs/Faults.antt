@@ -76,3 +76,11 @@ fault_of_run run.Memory = fault.NoMemory
 -- an image has too many bytes, or more than there is memory for
 abbrev pub IsTooMuch : Fault → Type 0
 IsTooMuch why = (why ≡ fault.Refused mount.TooLarge) ⊎ (why ≡ fault.NoMemory)
+
+-- a script has too many bytes, or more than there is memory for
+abbrev pub IsTooMuchScript : Fault → Type 0
+IsTooMuchScript why = (why ≡ fault.ScriptTooLarge) ⊎ (why ≡ fault.NoMemory)
+
+-- not all was printed: standard output failed, or memory was refused
+abbrev pub IsUnprinted : Fault → Type 0
+IsUnprinted why = (why ≡ fault.OutputFailed) ⊎ (why ≡ fault.NoMemory)

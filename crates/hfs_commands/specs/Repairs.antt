@@ -1,5 +1,5 @@
 -- What is printed of a repair.
-use Rattle.std.specs.Prelude.{◌≡◌, ℕ, List, ◌++◌, Some, codes}
+use Rattle.std.specs.Prelude.{◌≡◌, ℕ, List, ◌++◌, Some, codes, MatchOption, string_bytes}
 use Rattle.std.specs.List.{flat_map}
 use Rattle.std.specs.Fmt.{decimal}
 use Rattle.hfs_check.specs.declared.mount_fault.MountFault.{MountFault}
@@ -12,6 +12,7 @@ use Rattle.hfs_repair.specs.Fixes.{AreFixes}
 use Rattle.hfs_repair.specs.Placed.{wrong_in}
 use Rattle.hfs_commands.specs.Checks.{refused_line}
 use Rattle.hfs_texts.specs.Lines.{line}
+use Rattle.hfs_commands.specs.declared.repairing.RepairAnswer.{RepairAnswer}
 
 -- which number
 unfoldable pub place_text : FixPlace → List ℕ
@@ -55,3 +56,8 @@ pub record IsRepaired (image : List ℕ) (current : List ℕ) (status : ℕ) (li
   pub mended : current ≡ repair image
   pub status_is : status ≡ 0
   pub lines_are : lines ≡ repaired_lines fixes
+
+-- the repaired image is refused, or it is mounted, and this is what is told of it
+abbrev pub TellsRepair : List ℕ → RepairAnswer → Type 0
+TellsRepair image answer = MatchOption answer.volume (IsRefused image answer.status (string_bytes answer.lines))
+    (λ volume. IsRepaired image volume.current answer.status (string_bytes answer.lines))

@@ -1,11 +1,11 @@
 //! The bytes of a file's fork, and nothing else.
-ghost use Rattle.std.specs.Prelude.{◌≡◌, ◌≢◌, ◌⊎◌, pos, take, drop, IfErr, IfOk, OnErr, OnOk};
+ghost use Rattle.std.specs.Prelude.{◌≡◌, ◌≢◌, pos, take, drop, IfErr, IfOk, OnErr, OnOk};
 ghost use Rattle.std.specs.Io.KnownBytes.{Appends};
-ghost use Rattle.hfs_model.specs.Children.{entries_of};
 ghost use Rattle.hfs_model.specs.Replies.{success};
-ghost use Rattle.hfs_check.specs.VolumeOf.{volume_of};
 ghost use Rattle.hfs_commands.specs.Forks.{IsLastRead, fork_code, fork_named};
 ghost use Rattle.hfs_texts.specs.Writing.{AppendsFront};
+ghost use Rattle.hfs_commands.specs.Faults.{IsUnprinted};
+ghost use Rattle.hfs_commands.specs.Entries.{entries_in};
 
 use crate::fault::Fault;
 use hfs_model::{Bytes, Fork, Reply, Value};
@@ -29,14 +29,14 @@ pub fn write_fork<W: Write>(
     name: &[u8],
     fork: Fork,
 ) -> Result<Reply, Fault<'static>>
-    ensures code { IfOk result (λ r. r.code ≡ fork_code (entries_of (volume_of volume.now.current)) dir name.now) }
-    ensures last { IfOk result (IsLastRead (entries_of (volume_of volume.now.current)) dir name.now fork) }
+    ensures code { IfOk result (λ r. r.code ≡ fork_code (entries_in volume.now.current) dir name.now) }
+    ensures last { IfOk result (IsLastRead (entries_in volume.now.current) dir name.now fork) }
     ensures written { OnOk result (Appends (W.contents writer.old) (W.contents writer.new)
-        (fork_named (entries_of (volume_of volume.now.current)) dir name.now fork)) }
+        (fork_named (entries_in volume.now.current) dir name.now fork)) }
     ensures unwritten { IfOk result (λ reply. reply.code ≢ pos 0 → writer.new ≡ writer.old) }
     ensures part { OnErr result (AppendsFront (W.contents writer.old) (W.contents writer.new)
-        (fork_named (entries_of (volume_of volume.now.current)) dir name.now fork)) }
-    ensures faults { IfErr result (λ fault. (fault ≡ Fault.OutputFailed) ⊎ (fault ≡ Fault.NoMemory)) }
+        (fork_named (entries_in volume.now.current) dir name.now fork)) }
+    ensures faults { IfErr result IsUnprinted }
 {
     let Ok(opened) = volume.open_fork(alloc, dir, name, fork) else {
         return Err(Fault::NoMemory);
@@ -62,7 +62,7 @@ fn write_piece<W: Write>(
     ensures left { OnOk result (source.new ≡ drop PIECE source.old) }
     ensures written { OnOk result (Appends (W.contents writer.old) (W.contents writer.new) (take PIECE source.old)) }
     ensures part { OnErr result (AppendsFront (W.contents writer.old) (W.contents writer.new) (take PIECE source.old)) }
-    ensures faults { IfErr result (λ fault. (fault ≡ Fault.OutputFailed) ⊎ (fault ≡ Fault.NoMemory)) }
+    ensures faults { IfErr result IsUnprinted }
 {
     let Ok(bytes) = source.read(alloc, PIECE) else {
         return Err(Fault::NoMemory);

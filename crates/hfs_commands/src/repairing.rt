@@ -1,9 +1,9 @@
 //! What is told of a repair.
-ghost use Rattle.std.specs.Prelude.{◌≡◌, ℕ, List, Some, IfOk, OnOk, MatchOption, string_bytes};
+ghost use Rattle.std.specs.Prelude.{◌≡◌, ℕ, List, Some, IfOk, OnOk, string_bytes};
 ghost use Rattle.hfs_check.specs.Faults.{fault_of};
 ghost use Rattle.hfs_check.specs.Repair.{repair};
 ghost use Rattle.hfs_texts.specs.Texts.{Gains};
-ghost use Rattle.hfs_commands.specs.Repairs.{place_text, fix_text, fixed_line, fixed_lines, repaired_lines, IsRefused, IsRepaired};
+ghost use Rattle.hfs_commands.specs.Repairs.{place_text, fix_text, fixed_line, fixed_lines, repaired_lines, TellsRepair};
 
 use crate::checking::refused_text;
 use crate::fault::Status;
@@ -94,8 +94,7 @@ pub struct RepairAnswer {
 
 /// The answer where the repaired image has a fault, which is not want of memory.
 fn refused_answer(alloc: Global, why: MountFault) -> Result<RepairAnswer, AllocError>
-    ensures { (image : List ℕ) → fault_of (repair image) ≡ Some why → IfOk result (λ answer. MatchOption answer.volume (IsRefused image answer.status (string_bytes answer.lines))
-        (λ volume. IsRepaired image volume.current answer.status (string_bytes answer.lines))) }
+    ensures { (image : List ℕ) → fault_of (repair image) ≡ Some why → IfOk result (TellsRepair image) }
 {
     let (status, lines) = refused_text(alloc, why)?;
     Ok(RepairAnswer {
@@ -107,8 +106,7 @@ fn refused_answer(alloc: Global, why: MountFault) -> Result<RepairAnswer, AllocE
 
 /// Mends the counted numbers of an image, and tells of it. The only error is want of memory.
 pub fn repair_answer(alloc: Global, image: Vec<u8>) -> Result<RepairAnswer, AllocError>
-    ensures { IfOk result (λ answer. MatchOption answer.volume (IsRefused image.items answer.status (string_bytes answer.lines))
-        (λ volume. IsRepaired image.items volume.current answer.status (string_bytes answer.lines))) }
+    ensures { IfOk result (TellsRepair image.items) }
 {
     match mount_repaired(alloc, image) {
         Ok((volume, fixes)) => Ok(RepairAnswer {

@@ -17,6 +17,10 @@ pub record IsCatKeyValue (key : CatKey) : Type 0 where
   pub parent : key.parent < 2 ^ 32
   pub name : length key.name ≤ 31
 
+-- its fields up to the name's last character, where this is its length
+abbrev pub cat_key_fields : ℕ → CatKey → List ℕ
+cat_key_fields len key = len ∷ 0 ∷ [] ++ big_bytes 4 key.parent ++ length key.name ∷ [] ++ key.name
+
 -- in a leaf: the length is 6 and the name's length, and a zero byte fills the key up to an even place
 unfoldable pub cat_leaf_bytes : CatKey → List ℕ
 cat_leaf_bytes key =

@@ -1,5 +1,5 @@
 -- The keys of the two trees, as they stand at the head of a record.
-use Rattle.std.specs.Prelude.{◌≡◌, ℕ, ◌+◌, ◌*◌, ◌/◌, Bool, ◌&&◌, ◌||◌, ◌==◌, nat_le, ◌↔◌, List, length, take, drop, slice_index}
+use Rattle.std.specs.Prelude.{◌≡◌, ℕ, ◌+◌, ◌*◌, ◌/◌, Bool, ◌&&◌, ◌||◌, ◌==◌, nat_le, ◌↔◌, List, length, take, drop, slice_index, ◌≤◌}
 use Rattle.std.specs.declared.cmp.Ordering.{Ordering}
 use Rattle.std.specs.declared.cmp.Ordering.TheVariants.{Equal}
 use Rattle.std.specs.Ordering.{nat_cmp, ordering_then}
@@ -23,6 +23,10 @@ name_len i bytes = slice_index bytes i
 -- the name at place i: a length byte, and so many characters
 abbrev pub name_at : ℕ → List ℕ → List ℕ
 name_at i bytes = take (name_len i bytes) (drop (i + 1) bytes)
+
+-- the characters of the name at a place lie in the bytes, where it has at most 31
+abbrev pub HoldsName : ℕ → List ℕ → Type 0
+HoldsName i bytes = name_len i bytes ≤ 31 → i + 1 + name_len i bytes ≤ length bytes
 
 -- ---- catalog keys: length 1, reserved 1, parent ID 4, name
 
@@ -57,6 +61,14 @@ is_cat_index bytes = is_cat_key bytes && (length bytes == 42) && (key_len bytes 
 unfoldable pub cat_child_of : List ℕ → ℕ
 cat_child_of bytes = number_at 38 4 bytes
 
+-- the key of a leaf's record, and where its body begins
+abbrev pub cat_leaf_of : List ℕ → CatKey × ℕ
+cat_leaf_of bytes = (cat_key_of bytes, cat_body_start bytes)
+
+-- the key of an index node's record, and the number of the node below it
+abbrev pub cat_index_of : List ℕ → CatKey × ℕ
+cat_index_of bytes = (cat_key_of bytes, cat_child_of bytes)
+
 -- by the parent's ID, then by name
 abbrev pub cat_cmp : CatKey → CatKey → Ordering
 cat_cmp x y = ordering_then (nat_cmp x.parent y.parent) (name_cmp x.name y.name)
@@ -86,6 +98,10 @@ is_ext_index bytes = is_ext_key bytes && (length bytes == 12)
 
 unfoldable pub ext_child_of : List ℕ → ℕ
 ext_child_of bytes = number_at 8 4 bytes
+
+-- the key of an index node's record, and the number of the node below it
+abbrev pub ext_index_of : List ℕ → ExtKey × ℕ
+ext_index_of bytes = (ext_key_of bytes, ext_child_of bytes)
 
 -- by the file's number, then the fork, then the first block
 abbrev pub ext_cmp : ExtKey → ExtKey → Ordering

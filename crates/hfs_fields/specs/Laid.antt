@@ -6,6 +6,10 @@ use Rattle.byteorder.specs.Numbers.{big_number-reads_back}
 use Rattle.hfs_fields.specs.Numbers.{number_at}
 use Rattle.hfs_fields.specs.Mdb.{bytes_at}
 
+-- bytes with these in place of their first ones, as many
+abbrev pub with_front : List ℕ → List ℕ → List ℕ
+with_front front bytes = front ++ drop (length front) bytes
+
 -- what is behind a place further on
 pub behind : (i k : ℕ) (w t : List ℕ) → drop i w ≡ t → drop (i + k) w ≡ drop k t
 behind i k w t h = sym (drop-drop k i w) ∙ ap (λ (bytes : List ℕ). drop k bytes) h

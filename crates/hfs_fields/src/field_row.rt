@@ -1,6 +1,7 @@
 //! The bytes of a record or a block while its fields are laid one behind the other.
-ghost use Rattle.std.specs.Prelude.{◌≡◌, ◌+◌, ◌^◌, ◌<◌, ◌≤◌, ◌↔◌, [], ◌∷◌, ◌++◌, length, drop, replicate, IsTrue};
+ghost use Rattle.std.specs.Prelude.{◌≡◌, ◌+◌, ◌^◌, ◌<◌, ◌≤◌, ◌↔◌, [], ◌∷◌, ◌++◌, length, replicate, IsTrue};
 ghost use Rattle.byteorder.specs.Endian.{big_bytes};
+ghost use Rattle.hfs_fields.specs.Laid.{with_front};
 
 use byteorder::{BigEndian, ByteOrder};
 use std::marker::Model;
@@ -115,7 +116,7 @@ impl FieldRow {
     /// Writes what is laid to the beginning of the bytes.
     pub fn copy_to(&self, bytes: &mut [u8])
         requires { length self.now ≤ length bytes.old }
-        ensures { bytes.new ≡ self.now ++ drop (length self.now) bytes.old }
+        ensures { bytes.new ≡ with_front self.now bytes.old }
     {
         let row = &self.bytes[..self.length];
         bytes[..row.len()].copy_from_slice(row);

@@ -1,9 +1,9 @@
 //! The keys of the two trees.
-ghost use Rattle.std.specs.Prelude.{◌≡◌, [], ◌∷◌, ◌++◌, drop, ◌+◌, ◌≤◌, ◌<◌, length, IsTrue, IfSome};
+ghost use Rattle.std.specs.Prelude.{◌≡◌, ◌++◌, drop, ◌+◌, ◌≤◌, ◌<◌, length, IsTrue, IfSome};
 ghost use Rattle.std.specs.Option.{SomeIff};
-ghost use Rattle.hfs_fields.specs.Keys.{key_len, name_len, name_at, is_cat_key, cat_key_of, cat_body_start, is_cat_leaf, is_cat_index, is_cat_body_len, cat_child_of, cat_cmp, is_ext_key, ext_key_of, is_ext_leaf, is_ext_index, ext_child_of, ext_cmp, IsCatKeyOrder, IsExtKeyOrder};
-ghost use Rattle.hfs_fields.specs.KeyForms.{IsCatKeyValue, cat_leaf_bytes, cat_index_record, IsExtKeyValue, ext_key_bytes, ext_index_record};
-ghost use Rattle.byteorder.specs.Endian.{big_bytes};
+ghost use Rattle.hfs_fields.specs.Keys.{name_len, name_at, is_cat_key, cat_key_of, cat_body_start, is_cat_leaf, is_cat_index, is_cat_body_len, cat_child_of, cat_cmp, is_ext_key, ext_key_of, is_ext_leaf, is_ext_index, ext_child_of, ext_cmp, IsCatKeyOrder, IsExtKeyOrder, HoldsName, cat_leaf_of, cat_index_of, ext_index_of};
+ghost use Rattle.hfs_fields.specs.KeyForms.{IsCatKeyValue, cat_leaf_bytes, cat_index_record, IsExtKeyValue, ext_key_bytes, ext_index_record, cat_key_fields};
+ghost use Rattle.hfs_fields.specs.Laid.{with_front};
 
 use crate::field_row::FieldRow;
 use crate::name::Name;
@@ -33,7 +33,7 @@ pub struct ExtKey {
 /// The name at `at`: a length byte, and so many characters. None exactly where the length is above 31.
 pub(crate) fn name_at(bytes: &[u8], at: usize) -> Option<Name>
     requires length { at < length bytes.now }
-    requires characters { name_len at bytes.now ≤ 31 → at + 1 + name_len at bytes.now ≤ length bytes.now }
+    requires characters { HoldsName at bytes.now }
     ensures { SomeIff result (name_len at bytes.now ≤ 31) (name_at at bytes.now) }
 {
     let length = bytes[at] as usize;
@@ -85,7 +85,7 @@ impl CatKey {
     /// None exactly where the record has no such key or no body of a thread, a directory or a file.
     #[tactic(auto, unfolding(crate::specs::Keys::is_cat_leaf, crate::specs::Keys::is_cat_key, crate::specs::Keys::cat_body_start))]
     pub fn read_leaf(bytes: &[u8]) -> Option<(CatKey, usize)>
-        ensures key { SomeIff result (IsTrue (is_cat_leaf bytes.now)) (cat_key_of bytes.now, cat_body_start bytes.now) }
+        ensures key { SomeIff result (IsTrue (is_cat_leaf bytes.now)) (cat_leaf_of bytes.now) }
         ensures inside { IfSome result (λ read. read.1 ≤ length bytes.now) }
     {
         let key = CatKey::read(bytes)?;
@@ -100,7 +100,7 @@ impl CatKey {
     /// None exactly where the record has not 42 bytes, its key not the length 37, or its name more than 31 characters.
     #[tactic(auto, unfolding(crate::specs::Keys::is_cat_index, crate::specs::Keys::cat_child_of))]
     pub fn read_index(bytes: &[u8]) -> Option<(CatKey, u32)>
-        ensures { SomeIff result (IsTrue (is_cat_index bytes.now)) (cat_key_of bytes.now, cat_child_of bytes.now) }
+        ensures { SomeIff result (IsTrue (is_cat_index bytes.now)) (cat_index_of bytes.now) }
     {
         let key = CatKey::read(bytes)?;
         if bytes.len() != 42 || bytes[0] != 37 {
@@ -118,7 +118,7 @@ impl CatKey {
 
     /// The key's fields as they stand in a record, up to the name's last character.
     fn laid(&self, key_length: u8) -> FieldRow
-        ensures bytes { result ≡ key_length ∷ 0 ∷ [] ++ big_bytes 4 self.now.parent ++ length self.now.name ∷ [] ++ self.now.name }
+        ensures bytes { result ≡ cat_key_fields key_length self.now }
         ensures length { length result ≡ 7 + length self.now.name }
         ensures value { IsCatKeyValue self.now }
     {
@@ -135,7 +135,7 @@ impl CatKey {
     /// the key would end at an odd place.
     pub fn write(&self, bytes: &mut [u8])
         requires { length (cat_leaf_bytes self.now) ≤ length bytes.old }
-        ensures written { bytes.new ≡ cat_leaf_bytes self.now ++ drop (length (cat_leaf_bytes self.now)) bytes.old }
+        ensures written { bytes.new ≡ with_front (cat_leaf_bytes self.now) bytes.old }
         ensures key { IsTrue (is_cat_key bytes.new) }
         ensures back { cat_key_of bytes.new ≡ self.now }
         ensures value { IsCatKeyValue self.now }
@@ -219,7 +219,7 @@ impl ExtKey {
     /// None exactly where the record has not 12 bytes, or its key not the length 7.
     #[tactic(auto, unfolding(crate::specs::Keys::is_ext_index, crate::specs::Keys::ext_child_of))]
     pub fn read_index(bytes: &[u8]) -> Option<(ExtKey, u32)>
-        ensures { SomeIff result (IsTrue (is_ext_index bytes.now)) (ext_key_of bytes.now, ext_child_of bytes.now) }
+        ensures { SomeIff result (IsTrue (is_ext_index bytes.now)) (ext_index_of bytes.now) }
     {
         let key = ExtKey::read(bytes)?;
         if bytes.len() != 12 {

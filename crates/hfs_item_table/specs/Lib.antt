@@ -4,3 +4,4 @@ pub mod Tables
 pub mod Shown
 pub mod Names
 pub mod Edits
+pub mod InPlace

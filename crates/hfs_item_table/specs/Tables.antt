@@ -1,6 +1,7 @@
 -- The items that rows stand for.
 use Rattle.std.specs.Prelude.{◌≡◌, ℕ, ◌*◌, ◌≤◌, IsTrue, List, map, Some}
 use Rattle.std.specs.Ordering.{nat_cmp}
+use Rattle.std.specs.List.{All}
 use Rattle.std.specs.FinMap as finite
 use Rattle.std.specs.BTreeMap as tree
 use Rattle.hfs_fields.specs.declared.mdb.Mdb.{Mdb}
@@ -50,6 +51,14 @@ shown show rows = map (λ e. (e.0, show e.1)) rows
 unfoldable pub items_of : Table → Items
 items_of t = finite.from_sorted (shown (item_of t.base t.mdb) t.by_id.entries)
 
+-- the items of a table in the order of their IDs
+abbrev pub table_entries : Table → List Entry
+table_entries t = finite.entries (items_of t)
+
+-- the item of a row of the table, with its ID
+abbrev pub row_entry : Table → ℕ → Row → Entry
+row_entry t id r = (id, item_of t.base t.mdb r)
+
 -- the volume of a table
 abbrev pub volume_of : Table → Volume
 volume_of t = record { items = items_of t; next_id = t.next_id; changed = t.changed; hardware_locked = t.hardware_locked; software_locked = t.software_locked }
@@ -63,6 +72,14 @@ pub record IsForkIn (mdb : Mdb) (fork : RowFork) : Type 0 where
 abbrev pub IsKindOf : Items → Mdb → ℕ → RowKind → Type 0
 IsKindOf items mdb id (Folder kept children) = children ≡ valence (finite.entries items) id
 IsKindOf items mdb id (FileRow f) = IsForkIn mdb f.«data» × IsForkIn mdb f.resource
+
+-- the same in a table
+abbrev pub IsKindIn : Table → ℕ → RowKind → Type 0
+IsKindIn t id kind = IsKindOf (items_of t) t.mdb id kind
+
+-- the table has the item of that row under that ID
+abbrev pub HasItemOf : Table → ℕ → Row → Type 0
+HasItemOf t id r = Has (items_of t) id (item_of t.base t.mdb r)
 
 -- each item stands at its place, and nothing else
 pub record AreNames (items : Items) (names : tree.BTreeMap Place ℕ) : Type 0 where
@@ -81,3 +98,7 @@ pub record IsTable (t : Table) : Type 0 where
   pub names : AreNames (items_of t) t.by_name
   pub rows : (id : ℕ) (r : Row) → tree.get nat_cmp t.by_id id ≡ Some r → IsKindOf (items_of t) t.mdb id r.kind
   pub over : IsOver t.base t.mdb
+
+-- the table has these rows, each by its ID
+abbrev pub HasRows : Table → List (ℕ × Row) → Type 0
+HasRows t rows = All (λ e. tree.get nat_cmp t.by_id e.0 ≡ Some e.1) rows

@@ -1,10 +1,11 @@
 //! What each change makes of a table. A change that `step` refuses leaves it.
-ghost use Rattle.std.specs.Prelude.{◌≡◌, OnOk, OnErr};
+ghost use Rattle.std.specs.Prelude.{◌≡◌, IsTrue, OnOk, OnErr};
 ghost use Rattle.hfs_model.specs.Changes.{set_f_info, set_cat_info, set_lock, create, delete, new_file, new_folder};
 ghost use Rattle.hfs_model.specs.FileIds.{create_file_id, delete_file_id};
 ghost use Rattle.hfs_model.specs.Lawful.{AreLawful};
 ghost use Rattle.hfs_model.specs.Step.{step};
 ghost use Rattle.hfs_item_table.specs.Edits.{Leaves, IsNew};
+ghost use Rattle.hfs_item_table.specs.InPlace.{is_in_place};
 ghost use Rattle.hfs_item_table.specs.Tables.{kind_of, items_of, volume_of, IsTable};
 
 use crate::edits;
@@ -167,30 +168,19 @@ impl Table {
         self.changed = now;
     }
 
-    /// Takes in a change. One that is refused leaves the table, as do calls that read. The only error is want of memory,
-    /// and then the items are as they were.
-    pub fn absorb(&mut self, alloc: Global, call: &Call) -> Result<(), AllocError>
+    /// Takes in a change that takes no memory. One that is refused leaves the table.
+    fn absorb_in_place(&mut self, call: &Call)
         requires table { IsTable self.old }
-        requires lawful { AreLawful (items_of self.old) self.old.next_id }
-        ensures ok { OnOk result (Leaves self.new (step (volume_of self.old) call.now).0) }
-        ensures err { OnErr result (Leaves self.new (volume_of self.old)) }
+        requires in_place { IsTrue (is_in_place call.now) }
+        ensures { Leaves self.new (step (volume_of self.old) call.now).0 }
     {
-        reading_leaves();
-        if call.is_reading() {
-            return Ok(());
-        }
         match call {
-            Call::Create { dir, name, now } => self.create(alloc, *dir, name.as_slice(), *now),
-            Call::DirCreate { dir, name, now } => self.dir_create(*dir, name.as_slice(), *now),
             Call::SetFInfo {
                 dir,
                 name,
                 info,
                 now,
-            } => {
-                self.set_f_info(*dir, name.as_slice(), info, *now);
-                Ok(())
-            }
+            } => self.set_f_info(*dir, name.as_slice(), info, *now),
             Call::SetCatInfo {
                 dir,
                 name,
@@ -200,29 +190,41 @@ impl Table {
                 info,
                 now,
             } => {
-                self.set_cat_info(
-                    *dir,
-                    name.as_slice(),
-                    *created,
-                    *modified,
-                    *backup,
-                    *info,
-                    *now,
-                );
-                Ok(())
+                let name = name.as_slice();
+                self.set_cat_info(*dir, name, *created, *modified, *backup, *info, *now);
             }
-            Call::SetFLock { dir, name, now } => {
-                self.set_lock(true, *dir, name.as_slice(), *now);
-                Ok(())
+            Call::SetFLock { dir, name, now } => self.set_lock(true, *dir, name.as_slice(), *now),
+            Call::RstFLock { dir, name, now } => self.set_lock(false, *dir, name.as_slice(), *now),
+            Call::Delete { dir, name, now } => self.delete(*dir, name.as_slice(), *now),
+            Call::CreateFileId { dir, name, now } => {
+                self.create_file_id(*dir, name.as_slice(), *now);
             }
-            Call::RstFLock { dir, name, now } => {
-                self.set_lock(false, *dir, name.as_slice(), *now);
-                Ok(())
-            }
-            Call::Delete { dir, name, now } => {
-                self.delete(*dir, name.as_slice(), *now);
-                Ok(())
-            }
+            Call::DeleteFileId { id, now } => self.delete_file_id(*id, *now),
+            Call::Create { .. }
+            | Call::DirCreate { .. }
+            | Call::Rename { .. }
+            | Call::CatMove { .. }
+            | Call::GetDirInfo { .. }
+            | Call::GetCatInfo { .. }
+            | Call::GetIndexed { .. }
+            | Call::List { .. }
+            | Call::ReadFork { .. }
+            | Call::ResolveFileId { .. } => unreachable!(),
+        }
+    }
+
+    /// Takes in a change. One that is refused leaves the table, as do calls that read. The only error is want of memory,
+    /// and then the items are as they were.
+    pub fn absorb(&mut self, alloc: Global, call: &Call) -> Result<(), AllocError>
+        requires table { IsTable self.old }
+        requires lawful { AreLawful (items_of self.old) self.old.next_id }
+        ensures ok { OnOk result (Leaves self.new (step (volume_of self.old) call.now).0) }
+        ensures err { OnErr result (Leaves self.new (volume_of self.old)) }
+    {
+        reading_leaves();
+        match call {
+            Call::Create { dir, name, now } => self.create(alloc, *dir, name.as_slice(), *now),
+            Call::DirCreate { dir, name, now } => self.dir_create(*dir, name.as_slice(), *now),
             Call::Rename {
                 dir,
                 name,
@@ -235,12 +237,14 @@ impl Table {
                 new_dir,
                 now,
             } => self.cat_move(*dir, name.as_slice(), *new_dir, *now),
-            Call::CreateFileId { dir, name, now } => {
-                self.create_file_id(*dir, name.as_slice(), *now);
-                Ok(())
-            }
-            Call::DeleteFileId { id, now } => {
-                self.delete_file_id(*id, *now);
+            Call::SetFInfo { .. }
+            | Call::SetCatInfo { .. }
+            | Call::SetFLock { .. }
+            | Call::RstFLock { .. }
+            | Call::Delete { .. }
+            | Call::CreateFileId { .. }
+            | Call::DeleteFileId { .. } => {
+                self.absorb_in_place(call);
                 Ok(())
             }
             Call::GetDirInfo { .. }
@@ -248,7 +252,7 @@ impl Table {
             | Call::GetIndexed { .. }
             | Call::List { .. }
             | Call::ReadFork { .. }
-            | Call::ResolveFileId { .. } => unreachable!(),
+            | Call::ResolveFileId { .. } => Ok(()),
         }
     }
 }

@@ -1,12 +1,11 @@
 //! What a change first chooses: an item, an ID, or the code that refuses it.
-ghost use Rattle.std.specs.Prelude.{◌≡◌, ℕ, length, true, IsTrue, IfOk, OnOk};
+ghost use Rattle.std.specs.Prelude.{◌≡◌, length, true, IsTrue, IfOk, OnOk};
 ghost use Rattle.hfs_fields.specs.Names.{is_item_name};
 ghost use Rattle.hfs_model.specs.Choices.{is_locked, lock_code, child_to_change, file_to_change, to_set_f_info, to_set_cat_info, to_create, to_delete, to_rename, to_move, is_busy, is_full, is_held, is_taken, lies_in, is_bad_move};
 ghost use Rattle.hfs_model.specs.Children.{is_folder};
 ghost use Rattle.hfs_model.specs.FileIds.{file_of_id, to_create_file_id, to_delete_file_id};
-ghost use Rattle.std.specs.FinMap as finite;
 ghost use Rattle.hfs_item_table.specs.Edits.{chosen_of, IsFound, MayAdd};
-ghost use Rattle.hfs_item_table.specs.Tables.{item_of, items_of, volume_of, IsKindOf, IsTable};
+ghost use Rattle.hfs_item_table.specs.Tables.{volume_of, IsTable, table_entries, row_entry, IsKindIn};
 
 use crate::row::{Row, RowKind};
 use crate::table::{Found, Table};
@@ -40,7 +39,7 @@ impl Table {
         requires { IsTable self.now }
         ensures choice { child_to_change (volume_of self.now) dir name.now ≡ chosen_of self.now result }
         ensures found { IfOk result (IsFound self.now) }
-        ensures sound { IfOk result (λ f. IsKindOf (items_of self.now) self.now.mdb f.id f.row.now.kind) }
+        ensures sound { IfOk result (λ f. IsKindIn self.now f.id f.row.now.kind) }
         ensures named { OnOk result (IsTrue (is_item_name name.now)) }
     {
         if self.is_locked() {
@@ -111,7 +110,7 @@ impl Table {
     #[tactic(auto, unfolding(hfs_model::specs::FileIds::file_of_id))]
     pub(crate) fn file_of_id(&self, id: u32) -> Result<Found<'_>, i16>
         requires { IsTable self.now }
-        ensures choice { file_of_id (finite.entries (items_of self.now)) id ≡ chosen_of self.now result }
+        ensures choice { file_of_id (table_entries self.now) id ≡ chosen_of self.now result }
         ensures found { IfOk result (IsFound self.now) }
     {
         let Some(row) = self.row(id) else {
@@ -158,8 +157,8 @@ impl Table {
     /// Whether it is a folder with children.
     #[tactic(auto, unfolding(hfs_model::specs::Choices::is_busy))]
     fn is_busy(&self, id: u32, row: &Row) -> bool
-        requires { IsKindOf (items_of self.now) self.now.mdb id row.now.kind }
-        ensures { result ≡ is_busy (finite.entries (items_of self.now)) (id, item_of self.now.base self.now.mdb row.now) }
+        requires { IsKindIn self.now id row.now.kind }
+        ensures { result ≡ is_busy (table_entries self.now) (row_entry self.now id row.now) }
     {
         match &row.kind {
             RowKind::Folder { children, .. } => *children > 0,
@@ -189,7 +188,7 @@ impl Table {
     /// Whether another item of the folder has that name.
     fn is_taken(&self, dir: u32, name: &Name, id: u32) -> bool
         requires { IsTable self.now }
-        ensures { result ≡ is_taken (finite.entries (items_of self.now)) dir name.now id }
+        ensures { result ≡ is_taken (table_entries self.now) dir name.now id }
     {
         match self.child(dir, name) {
             None => false,
@@ -223,7 +222,7 @@ impl Table {
     /// Whether `up` stands at most `steps` parents up from `dir`.
     fn lies_in(&self, steps: usize, dir: u32, up: u32) -> bool
         requires { IsTable self.now }
-        ensures { result ≡ lies_in (finite.entries (items_of self.now)) steps dir up }
+        ensures { result ≡ lies_in (table_entries self.now) steps dir up }
     {
         let mut at = dir;
         let mut left = steps;
@@ -243,7 +242,7 @@ impl Table {
     /// The number of items.
     fn item_count(&self) -> usize
         requires { IsTable self.now }
-        ensures { result ≡ length (finite.entries (items_of self.now)) }
+        ensures { result ≡ length (table_entries self.now) }
     {
         self.by_id.len()
     }
@@ -252,7 +251,7 @@ impl Table {
     #[tactic(auto, unfolding(hfs_model::specs::Choices::is_bad_move))]
     fn is_bad_move(&self, id: u32, row: &Row, dir: u32) -> bool
         requires { IsTable self.now }
-        ensures { result ≡ is_bad_move (finite.entries (items_of self.now)) (id, item_of self.now.base self.now.mdb row.now) dir }
+        ensures { result ≡ is_bad_move (table_entries self.now) (row_entry self.now id row.now) dir }
     {
         match &row.kind {
             RowKind::Folder { .. } => self.lies_in(self.item_count(), dir, id),
@@ -292,8 +291,8 @@ impl Table {
     #[tactic(auto, unfolding(hfs_model::specs::Choices::is_full))]
     fn is_full(&self, dir: u32) -> bool
         requires table { IsTable self.now }
-        requires folder { is_folder (finite.entries (items_of self.now)) dir ≡ true }
-        ensures { result ≡ is_full (finite.entries (items_of self.now)) dir }
+        requires folder { is_folder (table_entries self.now) dir ≡ true }
+        ensures { result ≡ is_full (table_entries self.now) dir }
     {
         match self.row(dir) {
             Some(row) => match &row.kind {
@@ -308,7 +307,7 @@ impl Table {
     #[tactic(auto, unfolding(hfs_model::specs::Choices::is_held))]
     fn is_held(&self, dir: u32, name: &Name) -> bool
         requires { IsTable self.now }
-        ensures { result ≡ is_held (finite.entries (items_of self.now)) dir name.now }
+        ensures { result ≡ is_held (table_entries self.now) dir name.now }
     {
         self.child(dir, name).is_some()
     }

@@ -4,6 +4,7 @@
 mod changes;
 mod choices;
 mod edits;
+mod following;
 mod moving;
 mod place;
 mod row;

@@ -3,13 +3,12 @@ ghost use Rattle.std.specs.Prelude.{◌≡◌, ◌+◌, ◌<◌, ◌^◌, IfSome
 ghost use Rattle.hfs_model.specs.declared.codes.TheConstants.{END_OF_FILE};
 ghost use Rattle.hfs_model.specs.declared.reply.Value.TheVariants as value;
 ghost use Rattle.std.specs.Option.{option_map};
-ghost use Rattle.std.specs.FinMap as finite;
-ghost use Rattle.hfs_model.specs.Children.{entry_at, child_named, is_folder, is_folder_kind};
+ghost use Rattle.hfs_model.specs.Children.{entry_at, child_named, is_folder};
 ghost use Rattle.hfs_model.specs.FileIds.{resolve_file_id};
-ghost use Rattle.hfs_model.specs.Lawful.{Has, IsLawful};
+ghost use Rattle.hfs_model.specs.Lawful.{IsLawful};
 ghost use Rattle.hfs_model.specs.Reading.{get_dir_info, get_cat_info, get_indexed, list, read_fork, part_of};
 ghost use Rattle.hfs_model.specs.Replies.{refusal, success, info_of, infos};
-ghost use Rattle.hfs_item_table.specs.Tables.{bytes_of, item_of, kind_of, items_of, volume_of, IsForkIn, IsKindOf, IsTable};
+ghost use Rattle.hfs_item_table.specs.Tables.{bytes_of, volume_of, IsForkIn, IsTable, table_entries, row_entry, IsKindIn, HasItemOf};
 
 use crate::place::Place;
 use crate::row::{Row, RowFork, RowKind};
@@ -86,9 +85,9 @@ impl Table {
     /// The row of an ID.
     pub(crate) fn row(&self, id: u32) -> Option<&Row>
         requires { IsTable self.now }
-        ensures entry { entry_at (finite.entries (items_of self.now)) id ≡ option_map (λ r. (id, item_of self.now.base self.now.mdb r.now)) result }
-        ensures sound { IfSome result (λ r. IsKindOf (items_of self.now) self.now.mdb id r.now.kind) }
-        ensures has { IfSome result (λ r. Has (items_of self.now) id (item_of self.now.base self.now.mdb r.now)) }
+        ensures entry { entry_at (table_entries self.now) id ≡ option_map (λ r. row_entry self.now id r.now) result }
+        ensures sound { IfSome result (λ r. IsKindIn self.now id r.now.kind) }
+        ensures has { IfSome result (λ r. HasItemOf self.now id r.now) }
     {
         self.by_id.get(&id)
     }
@@ -97,8 +96,8 @@ impl Table {
     #[tactic(auto, unfolding(hfs_model::specs::Replies::info_of))]
     fn info(&self, id: u32, row: &Row) -> Info
         requires table { IsTable self.now }
-        requires row { IsKindOf (items_of self.now) self.now.mdb id row.now.kind }
-        ensures { result ≡ info_of (finite.entries (items_of self.now)) (id, item_of self.now.base self.now.mdb row.now) }
+        requires row { IsKindIn self.now id row.now.kind }
+        ensures { result ≡ info_of (table_entries self.now) (row_entry self.now id row.now) }
     {
         let mut info = Info {
             id,
@@ -131,7 +130,7 @@ impl Table {
     /// Whether it is the ID of a folder.
     pub(crate) fn is_folder(&self, id: u32) -> bool
         requires { IsTable self.now }
-        ensures { result ≡ is_folder (finite.entries (items_of self.now)) id }
+        ensures { result ≡ is_folder (table_entries self.now) id }
     {
         match self.row(id) {
             None => false,
@@ -142,9 +141,9 @@ impl Table {
     /// The folder's item of that name.
     pub(crate) fn child(&self, dir: u32, name: &Name) -> Option<Found<'_>>
         requires { IsTable self.now }
-        ensures entry { child_named (finite.entries (items_of self.now)) dir name.now ≡ option_map (λ f. (f.id, item_of self.now.base self.now.mdb f.row.now)) result }
-        ensures sound { IfSome result (λ f. IsKindOf (items_of self.now) self.now.mdb f.id f.row.now.kind) }
-        ensures has { IfSome result (λ f. Has (items_of self.now) f.id (item_of self.now.base self.now.mdb f.row.now)) }
+        ensures entry { child_named (table_entries self.now) dir name.now ≡ option_map (λ f. row_entry self.now f.id f.row.now) result }
+        ensures sound { IfSome result (λ f. IsKindIn self.now f.id f.row.now.kind) }
+        ensures has { IfSome result (λ f. HasItemOf self.now f.id f.row.now) }
     {
         let place = Place {
             parent: dir,
@@ -163,7 +162,7 @@ impl Table {
     #[tactic(auto, unfolding(hfs_model::specs::Reading::get_dir_info))]
     pub fn get_dir_info(&self, dir: u32) -> Reply
         requires { IsTable self.now }
-        ensures { result ≡ get_dir_info (finite.entries (items_of self.now)) dir }
+        ensures { result ≡ get_dir_info (table_entries self.now) dir }
     {
         let Some(row) = self.row(dir) else {
             return refusal(NOT_A_FOLDER);
@@ -178,7 +177,7 @@ impl Table {
     #[tactic(auto, unfolding(hfs_model::specs::Reading::get_cat_info))]
     pub fn get_cat_info(&self, dir: u32, name: &[u8]) -> Reply
         requires { IsTable self.now }
-        ensures { result ≡ get_cat_info (finite.entries (items_of self.now)) dir name.now }
+        ensures { result ≡ get_cat_info (table_entries self.now) dir name.now }
     {
         let Some(name) = Name::new(name) else {
             return refusal(BAD_NAME);
@@ -196,7 +195,7 @@ impl Table {
     #[tactic(auto, unfolding(hfs_model::specs::FileIds::resolve_file_id))]
     pub fn resolve_file_id(&self, id: u32) -> Reply
         requires { IsTable self.now }
-        ensures { result ≡ resolve_file_id (finite.entries (items_of self.now)) id }
+        ensures { result ≡ resolve_file_id (table_entries self.now) id }
     {
         match self.file_of_id(id) {
             Ok(found) => success(Value::Place {
@@ -212,12 +211,13 @@ impl Table {
         requires table { IsTable self.now }
         requires lawful { IsLawful (volume_of self.now) }
         requires below { dir + 1 < 2 ^ 32 }
-        ensures { IfOk result (λ v. v.items ≡ infos (finite.entries (items_of self.now)) dir) }
+        ensures { IfOk result (λ v. v.items ≡ infos (table_entries self.now) dir) }
     {
         children_are_one();
         let mut infos = Vec::new(alloc);
+        let mut rows = self.rows_from(dir);
         for (_place, id) in self.by_name.range(Place::first(dir)..Place::first(dir + 1)) {
-            let Some(row) = self.row(*id) else {
+            let Some(row) = self.row_among(&mut rows, *id) else {
                 unreachable!()
             };
             infos.push(self.info(*id, row))?;
@@ -230,7 +230,7 @@ impl Table {
     pub fn list(&self, alloc: Global, dir: u32) -> Result<Reply, AllocError>
         requires table { IsTable self.now }
         requires lawful { IsLawful (volume_of self.now) }
-        ensures { IfOk result (λ reply. reply ≡ list (finite.entries (items_of self.now)) dir) }
+        ensures { IfOk result (λ reply. reply ≡ list (table_entries self.now) dir) }
     {
         if !self.is_folder(dir) {
             return Ok(refusal(NOT_A_FOLDER));
@@ -245,7 +245,7 @@ impl Table {
         requires table { IsTable self.now }
         requires lawful { IsLawful (volume_of self.now) }
         requires below { dir + 1 < 2 ^ 32 }
-        ensures { result ≡ slice_get (infos (finite.entries (items_of self.now)) dir) at }
+        ensures { result ≡ slice_get (infos (table_entries self.now) dir) at }
     {
         children_are_one();
         let mut left = at;
@@ -268,7 +268,7 @@ impl Table {
     pub fn get_indexed(&self, dir: u32, index: u32) -> Reply
         requires table { IsTable self.now }
         requires lawful { IsLawful (volume_of self.now) }
-        ensures { result ≡ get_indexed (finite.entries (items_of self.now)) dir index }
+        ensures { result ≡ get_indexed (table_entries self.now) dir index }
     {
         if index == 0 {
             return refusal(PARAMETER);
@@ -314,7 +314,7 @@ impl Table {
         count: u32,
     ) -> Result<Reply, AllocError>
         requires { IsTable self.now }
-        ensures { IfOk result (λ reply. reply ≡ read_fork (finite.entries (items_of self.now)) dir name.now fork offset count) }
+        ensures { IfOk result (λ reply. reply ≡ read_fork (table_entries self.now) dir name.now fork offset count) }
     {
         if count > 65536 {
             return Ok(refusal(PARAMETER));

@@ -1,5 +1,5 @@
 -- The bytes of a file's fork, of an image of which only the needed blocks and the fork's own are read.
-use Rattle.std.specs.Prelude.{◌≡◌, ℕ, ◌<◌, not, if◌then◌else◌, List, length, Result, Ok, Err}
+use Rattle.std.specs.Prelude.{◌≡◌, ℕ, ◌<◌, not, if◌then◌else◌, List, length, Result, Ok, Err, Option, IfSome}
 use Rattle.std.specs.Option.{option_map_or}
 use Rattle.hfs_fields.specs.Names.{is_item_name}
 use Rattle.hfs_fields.specs.declared.file_record.FileRecord.{FileRecord}
@@ -13,7 +13,7 @@ use Rattle.hfs_model.specs.declared.codes.TheConstants.{BAD_NAME, NOT_FOUND, NOT
 use Rattle.hfs_model.specs.declared.item.Kind.{Kind}
 use Rattle.hfs_model.specs.declared.item.Kind.TheVariants as kind
 use Rattle.hfs_model.specs.declared.reply.Reply.{Reply}
-use Rattle.hfs_model.specs.Children.{is_folder, child_named}
+use Rattle.hfs_model.specs.Children.{is_folder, child_named, entries_of}
 use Rattle.hfs_model.specs.Reading.{fork_of}
 use Rattle.hfs_model.specs.Replies.{refusal}
 use Rattle.hfs_model.specs.Volume.{Entry}
@@ -25,6 +25,9 @@ use Rattle.hfs_space.specs.Owners.{forks_of_file}
 use Rattle.hfs_space.specs.Sound.{IsForkSound}
 use Rattle.hfs_check.specs.Parts.{Blocks, mdb_in, overflow_in}
 use Rattle.hfs_sparse.specs.Sparse.{sparse}
+use Rattle.hfs_space.specs.Runs.{fork_in}
+use Rattle.hfs_check.specs.VolumeOf.{volume_of}
+use Rattle.hfs_needed.specs.Known.{OfKnown}
 
 -- ---- of the volume
 
@@ -40,11 +43,20 @@ named_fork es dir name fork =
     else if not (is_folder es dir) then Err (refusal NOT_A_FOLDER)
     else option_map_or (λ (e : Entry). fork_of_kind fork e.1.kind) (child_named es dir name) (Err (refusal NOT_FOUND))
 
+-- where the image's bytes are known, and are so many, this is the fork that its volume has under that name, or the reply
+-- that refuses it
+abbrev pub IsForkNamed : Option (List ℕ) → ℕ → ℕ → List ℕ → Fork → Result (List ℕ) Reply → Type 0
+IsForkNamed known len dir name fork found = OfKnown known len (λ image. named_fork (entries_of (volume_of image)) dir name fork ≡ found)
+
 -- ---- of the image
 
 -- each of the first blocks of an image with these bytes has 512 bytes
 abbrev pub HasWhole : ℕ → List ℕ → Type 0
 HasWhole total image = (n : ℕ) → n < total → length (block_at image n) ≡ 512
+
+-- where the image's bytes are known, and its first blocks are whole, this holds of them
+abbrev pub OfWhole : Option (List ℕ) → ℕ → (List ℕ → Type 0) → Type 0
+OfWhole known total Fact = IfSome known (λ image. HasWhole total image → Fact image)
 
 -- the bytes of a fork in the blocks of an image, which are found by those that were read
 abbrev pub bytes_by : Numbered → List ℕ → ℕ → ForkKind → ForkRecord → List ℕ
@@ -55,6 +67,10 @@ bytes_by read image file kind fork =
 abbrev pub fork_by : Numbered → List ℕ → FileRecord → Fork → List ℕ
 fork_by read image file DataFork = bytes_by read image file.id Data file.«data»
 fork_by read image file ResFork = bytes_by read image file.id Resource file.resource
+
+-- the extents of a fork of a file lie in the volume, and have room for its bytes
+abbrev pub IsForkIn : Blocks → ℕ → ForkKind → ForkRecord → Type 0
+IsForkIn blocks file kind fork = IsForkSound (mdb_in blocks) (overflow_in blocks) (fork_in file kind fork)
 
 -- the extents of both forks of a file lie in the volume, and have room for its bytes
 abbrev pub AreForksIn : Blocks → FileRecord → Type 0

@@ -4,3 +4,5 @@ pub mod Gathered
 pub mod Known
 pub mod Opened
 pub mod Forks
+pub mod Finding
+pub mod Listing

@@ -1,12 +1,10 @@
 //! Where the needed parts of a volume lie, each found by those before it.
-ghost use Rattle.std.specs.Prelude.{◌≡◌, true, false, IfOk, MatchOption};
-ghost use Rattle.hfs_space.specs.Faults as space_spec;
-ghost use Rattle.hfs_space.specs.TreeFiles.{tree_blocks};
-ghost use Rattle.hfs_space.specs.TreeKeys.{IsExtentsTree};
-ghost use Rattle.hfs_check.specs.Parts.{mdb_in, extents_blocks, extents_nodes, catalog_blocks};
+ghost use Rattle.std.specs.Prelude.{◌≡◌, true, false, IfOk};
+ghost use Rattle.hfs_check.specs.Parts.{mdb_in};
 ghost use Rattle.hfs_check.specs.Sound.{IsMdbSound};
 ghost use Rattle.hfs_needed.specs.Gathered.{LieAt};
 ghost use Rattle.hfs_needed.specs.Needed as spec;
+ghost use Rattle.hfs_needed.specs.Finding.{FindsTreeFile, FindsExtentsFile, FindsCatalogFile, LieAtExtents};
 
 use hfs_blocks::{Blocks, Run};
 use hfs_btree::RunNodes;
@@ -24,8 +22,7 @@ fn file_runs<B: Blocks>(
     size: u32,
 ) -> Result<Option<Vec<Run>>, AllocError>
     requires { IsMdbSound (B.total blocks.now) mdb.now }
-    ensures { IfOk result (λ found. MatchOption found (space_spec.is_tree_file mdb.now extents.now size ≡ false)
-        (λ runs. (space_spec.is_tree_file mdb.now extents.now size ≡ true) × LieAt (B.total blocks.now) (tree_blocks mdb.now extents.now size) runs.items)) }
+    ensures { IfOk result (FindsTreeFile (B.total blocks.now) mdb.now extents.now size) }
 {
     no_tree_file_fault();
     if is_tree_file(mdb, extents, size) {
@@ -44,8 +41,7 @@ pub(crate) fn extents_runs<B: Blocks>(
 ) -> Result<Option<Vec<Run>>, AllocError>
     requires sound { IsMdbSound (B.total blocks.now) mdb.now }
     requires is { mdb.now ≡ mdb_in (B.blocks blocks.now) }
-    ensures { IfOk result (λ found. MatchOption found (spec.has_extents_file (B.blocks blocks.now) ≡ false)
-        (λ runs. (spec.has_extents_file (B.blocks blocks.now) ≡ true) × LieAt (B.total blocks.now) (extents_blocks (B.blocks blocks.now)) runs.items)) }
+    ensures { IfOk result (FindsExtentsFile (B.total blocks.now) (B.blocks blocks.now)) }
 {
     file_runs(alloc, blocks, mdb, &mdb.extents_file, mdb.extents_file_size)
 }
@@ -60,7 +56,7 @@ fn is_extents_tree_right<B: Blocks>(
     requires sound { IsMdbSound (B.total blocks.now) mdb.now }
     requires is { mdb.now ≡ mdb_in (B.blocks blocks.now) }
     requires file { spec.has_extents_file (B.blocks blocks.now) ≡ true }
-    requires runs { LieAt (B.total blocks.now) (extents_blocks (B.blocks blocks.now)) extents_tree.now }
+    requires runs { LieAtExtents (B.total blocks.now) (B.blocks blocks.now) extents_tree.now }
     ensures { IfOk result (λ right. right ≡ spec.is_extents_tree_right (B.blocks blocks.now)) }
 {
     no_tree_file_fault();
@@ -85,10 +81,9 @@ fn right_catalog_runs<B: Blocks>(
 ) -> Result<Option<Vec<Run>>, AllocError>
     requires sound { IsMdbSound (B.total blocks.now) mdb.now }
     requires is { mdb.now ≡ mdb_in (B.blocks blocks.now) }
-    requires runs { LieAt (B.total blocks.now) (extents_blocks (B.blocks blocks.now)) extents_tree.now }
+    requires runs { LieAtExtents (B.total blocks.now) (B.blocks blocks.now) extents_tree.now }
     requires right { spec.is_extents_tree_right (B.blocks blocks.now) ≡ true }
-    ensures { IfOk result (λ found. MatchOption found (spec.has_catalog_file (B.blocks blocks.now) ≡ false)
-        (λ runs. (spec.has_catalog_file (B.blocks blocks.now) ≡ true) × LieAt (B.total blocks.now) (catalog_blocks (B.blocks blocks.now)) runs.items)) }
+    ensures { IfOk result (FindsCatalogFile (B.total blocks.now) (B.blocks blocks.now)) }
 {
     no_extents_fault();
     let nodes = RunNodes {
@@ -109,7 +104,7 @@ pub(crate) fn catalog_runs<B: Blocks>(
     requires sound { IsMdbSound (B.total blocks.now) mdb.now }
     requires is { mdb.now ≡ mdb_in (B.blocks blocks.now) }
     requires file { spec.has_extents_file (B.blocks blocks.now) ≡ true }
-    requires runs { LieAt (B.total blocks.now) (extents_blocks (B.blocks blocks.now)) extents_tree.now }
+    requires runs { LieAtExtents (B.total blocks.now) (B.blocks blocks.now) extents_tree.now }
     ensures { IfOk result (λ runs. LieAt (B.total blocks.now) (spec.needed_of_catalog (B.blocks blocks.now)) runs.items) }
 {
     if !is_extents_tree_right(alloc, blocks, mdb, extents_tree)? {

@@ -1,16 +1,11 @@
 //! The bytes of forks, by the needed blocks of an image.
-ghost use Rattle.std.specs.Prelude.{◌≡◌, IfOk, IfErr, IfSome, Ok, Err};
-ghost use Rattle.hfs_model.specs.Children.{entries_of};
-ghost use Rattle.hfs_space.specs.Extents as extents;
-ghost use Rattle.hfs_space.specs.Sound.{IsForkSound};
-ghost use Rattle.hfs_check.specs.Parts.{mdb_in, overflow_in, catalog_in};
+ghost use Rattle.std.specs.Prelude.{◌≡◌, IfOk, IfErr, Ok, Err};
+ghost use Rattle.hfs_check.specs.Parts.{mdb_in, catalog_in};
 ghost use Rattle.hfs_check.specs.Sound.{AreBlocksSound};
 ghost use Rattle.hfs_check.specs.Trees.{HasTrees};
-ghost use Rattle.hfs_check.specs.VolumeOf.{volume_of};
 ghost use Rattle.hfs_queries.specs.Told as told;
 ghost use Rattle.hfs_sparse.specs.Sparse.{sparse};
-ghost use Rattle.hfs_needed.specs.Forks.{named_fork, HasWhole, bytes_by, fork_by, AreForksIn};
-ghost use Rattle.hfs_needed.specs.Known.{OfKnown};
+ghost use Rattle.hfs_needed.specs.Forks.{bytes_by, fork_by, AreForksIn, IsForkIn, OfWhole, IsForkNamed};
 ghost use Rattle.hfs_needed.specs.Opened.{IsRefusedFor};
 
 use crate::laws::gathered_is_enough;
@@ -40,8 +35,8 @@ fn read_kind<S: BlockSource>(
     requires sound { AreBlocksSound count (sparse read.now) }
     requires directory { sound.now.mdb ≡ mdb_in (sparse read.now) }
     requires trees { HasTrees count (sparse read.now) sound.now.trees }
-    requires fork { IsForkSound (mdb_in (sparse read.now)) (overflow_in (sparse read.now)) (record { file = file; fork = extents.fork_byte kind; len = fork.now.length; first = fork.now.extents }) }
-    ensures bytes { IfOk result (λ bytes. IfSome (S.image source.old) (λ image. HasWhole count image → bytes.items ≡ bytes_by read.now image file kind fork.now)) }
+    requires fork { IsForkIn (sparse read.now) file kind fork.now }
+    ensures bytes { IfOk result (λ bytes. OfWhole (S.image source.old) count (λ image. bytes.items ≡ bytes_by read.now image file kind fork.now)) }
     ensures image { S.image source.new ≡ S.image source.old }
 {
     trees_are_sound();
@@ -77,7 +72,7 @@ fn read_file<S: BlockSource>(
     requires directory { sound.now.mdb ≡ mdb_in (sparse read.now) }
     requires trees { HasTrees count (sparse read.now) sound.now.trees }
     requires forks { AreForksIn (sparse read.now) file.now }
-    ensures bytes { IfOk result (λ bytes. IfSome (S.image source.old) (λ image. HasWhole count image → bytes.items ≡ fork_by read.now image file.now fork)) }
+    ensures bytes { IfOk result (λ bytes. OfWhole (S.image source.old) count (λ image. bytes.items ≡ fork_by read.now image file.now fork)) }
     ensures image { S.image source.new ≡ S.image source.old }
 {
     let id = file.id;
@@ -126,10 +121,8 @@ pub fn needed_fork<S: BlockSource>(
     name: &[u8],
     fork: Fork,
 ) -> Result<Result<Vec<u8>, Reply>, NeededFault>
-    ensures bytes { IfOk result (λ found. IfOk found (λ bytes. OfKnown (S.image source.old) len (λ image.
-        named_fork (entries_of (volume_of image)) dir name.now fork ≡ Ok bytes.items))) }
-    ensures unread { IfOk result (λ found. IfErr found (λ reply. OfKnown (S.image source.old) len (λ image.
-        named_fork (entries_of (volume_of image)) dir name.now fork ≡ Err reply))) }
+    ensures bytes { IfOk result (λ found. IfOk found (λ bytes. IsForkNamed (S.image source.old) len dir name.now fork (Ok bytes.items))) }
+    ensures unread { IfOk result (λ found. IfErr found (λ reply. IsForkNamed (S.image source.old) len dir name.now fork (Err reply))) }
     ensures refused { IfErr result (λ fault. IsRefusedFor (S.image source.old) len fault) }
     ensures image { S.image source.new ≡ S.image source.old }
 {

@@ -1,15 +1,14 @@
 //! Lists of folders, by the needed blocks of an image.
 ghost use Rattle.std.specs.Prelude.{◌≡◌, IfOk, IfErr};
-ghost use Rattle.hfs_model.specs.Children.{entries_of};
 ghost use Rattle.hfs_model.specs.Reading.{list};
 ghost use Rattle.hfs_check.specs.Parts.{catalog_in};
 ghost use Rattle.hfs_check.specs.Sound.{AreBlocksSound};
 ghost use Rattle.hfs_check.specs.Trees.{HasTrees};
-ghost use Rattle.hfs_check.specs.VolumeOf.{volume_of};
-ghost use Rattle.hfs_queries.specs.Brief.{listed_in, without_ids};
+ghost use Rattle.hfs_queries.specs.Brief.{listed_in};
 ghost use Rattle.hfs_sparse.specs.Sparse.{sparse};
 ghost use Rattle.hfs_needed.specs.Known.{OfKnown};
 ghost use Rattle.hfs_needed.specs.Opened.{IsRefusedFor};
+ghost use Rattle.hfs_needed.specs.Listing.{brief_list};
 
 use crate::laws::gathered_is_enough;
 use crate::opening::{NeededFault, open_needed};
@@ -51,7 +50,7 @@ pub fn needed_list<S: BlockSource>(
     len: u64,
     dir: u32,
 ) -> Result<Reply, NeededFault>
-    ensures reply { IfOk result (λ reply. OfKnown (S.image source.old) len (λ bytes. reply ≡ without_ids (list (entries_of (volume_of bytes)) dir))) }
+    ensures reply { IfOk result (λ reply. OfKnown (S.image source.old) len (λ bytes. reply ≡ brief_list bytes dir)) }
     ensures refused { IfErr result (λ fault. IsRefusedFor (S.image source.old) len fault) }
     ensures image { S.image source.new ≡ S.image source.old }
 {

@@ -1,11 +1,12 @@
 -- The writer's side of the pair of copies, as plain data.
-use Rattle.std.specs.Prelude.{◌≡◌, List, [], ◌∷◌, ◌++◌, fold, Option, Some, None}
+use Rattle.std.specs.Prelude.{◌≡◌, ℕ, List, [], ◌∷◌, ◌++◌, fold, length, All, Option, Some, None}
 use mathlib.Core.List.{IsPrefix}
 use Rattle.logbook.specs.Pages.{Book}
 use Rattle.hfs_published.specs.declared.item.Item.{Item}
 use Rattle.hfs_published.specs.declared.published.Published.{Published}
 use Rattle.hfs_published.specs.declared.published.Change as op
-use Rattle.hfs_published.specs.Histories.{Known}
+use Rattle.hfs_model.specs.Volume.{Volume}
+use Rattle.hfs_published.specs.Histories.{Known, known, opened}
 use Rattle.hfs_published.specs.Lists.{absorb, shown, IsGood, Sits}
 
 -- the history's name, the list with all changes that were added, and the one that is published
@@ -16,6 +17,22 @@ pub record PairState : Type 0 where
 
 abbrev pub pair : Book → List Item → List Item → PairState
 pair b a s = record { book = b; all = a; shown = s }
+
+-- the pair with these members behind all that were added
+abbrev pub with_added : PairState → List Item → PairState
+with_added p items = pair p.book (p.all ++ items) p.shown
+
+-- the pair with all that was added published
+abbrev pub with_all_shown : PairState → PairState
+with_all_shown p = pair p.book p.all p.all
+
+-- a pair over the volume, of which the opening alone was added and is published
+abbrev pub IsOpened : Volume → PairState → Type 0
+IsOpened v p = p ≡ pair p.book (opened v) (opened v)
+
+-- so many viewers, each of which has seen the opening alone
+abbrev pub SawOpening : ℕ → Book → Volume → List Known → Type 0
+SawOpening count b v seen = (length seen ≡ count) × All (λ k. k ≡ known b (opened v)) seen
 
 abbrev pub pair_state : Known → Published → PairState
 pair_state f x = pair f.book f.list x.front.list

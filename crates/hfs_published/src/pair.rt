@@ -5,7 +5,7 @@ ghost use Rattle.left_right.specs.Sides.{view as seat_view};
 ghost use Rattle.hfs_published.specs.declared.item.Item.TheVariants.{Change as Changed};
 ghost use Rattle.hfs_published.specs.Histories.{known, opened};
 ghost use Rattle.hfs_published.specs.Lists.{Sits};
-ghost use Rattle.hfs_published.specs.Pairs.{PairState, pair, whole, owed_list, IsPair, Opens};
+ghost use Rattle.hfs_published.specs.Pairs.{PairState, with_added, with_all_shown, whole, owed_list, IsOpened, IsPair, Opens, SawOpening};
 ghost use Rattle.hfs_published.specs.Tolds.{told};
 ghost use Rattle.hfs_check.specs.VolumeOf.{volume_of};
 
@@ -78,7 +78,7 @@ impl Pair {
     /// Adds a change after all that were added, where it waits to be published. It answers whether it did: not where memory is
     /// wanting.
     pub fn add(&mut self, call: Call) -> bool
-        ensures { MatchBool result (self.new ≡ pair self.old.book (self.old.all ++ Changed call ∷ []) self.old.shown) (self.new ≡ self.old) }
+        ensures { MatchBool result (self.new ≡ with_added self.old (Changed call ∷ [])) (self.new ≡ self.old) }
     {
         if !settle(&mut self.writer, &mut self.owed) {
             return false;
@@ -99,7 +99,7 @@ impl Pair {
     /// Shows viewers all that waits, in one step, and answers whether nothing waits any more. Where memory is wanting, nothing
     /// of it is shown, and all of it waits on.
     pub fn publish<R: Wait>(&mut self, rt: &R) -> bool
-        ensures published { MatchBool result (self.new ≡ pair self.old.book self.old.all self.old.all) (self.new ≡ self.old) }
+        ensures published { MatchBool result (self.new ≡ with_all_shown self.old) (self.new ≡ self.old) }
         ensures idle { self.old.all ≡ self.old.shown → result ≡ true }
     {
         if self.is_shown() {
@@ -151,8 +151,8 @@ impl Pair {
         viewers: u32,
     ) -> Result<(Pair, Vec<Viewer>), PairFault>
         requires { (0 < viewers) × (viewers ≤ 8) }
-        ensures pair { IfOk result (λ r. r.0 ≡ pair r.0.book (opened (volume_of volume.now.current)) (opened (volume_of volume.now.current))) }
-        ensures viewers { IfOk result (λ r. (length r.1.items ≡ viewers) × All (λ k. k ≡ known r.0.book (opened (volume_of volume.now.current))) r.1.items) }
+        ensures pair { IfOk result (λ r. IsOpened (volume_of volume.now.current) r.0) }
+        ensures viewers { IfOk result (λ r. SawOpening viewers r.0.book (volume_of volume.now.current) r.1.items) }
     {
         let (front, history) = Front::open(volume);
         let writer = open_writer(rt, alloc, volume, &front, viewers)?;

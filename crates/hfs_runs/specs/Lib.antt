@@ -3,3 +3,4 @@ pub mod Asking
 pub mod Views
 pub mod Answers
 pub mod Runs
+pub mod Jobs

@@ -23,3 +23,7 @@ pub record AreMoreReads (call : Call) (before afterwards : Known) (old new : Lis
 pub record IsViewed (before afterwards : Viewing) : Type 0 where
   pub calls : afterwards.calls ≡ before.calls
   pub reads : AreReads before.calls.items before.viewer afterwards.replies.items afterwards.viewer
+
+-- each viewer was answered, from its first call on
+abbrev pub AreViewed : List Viewing → List Viewing → Type 0
+AreViewed befores afterwards = (i : ℕ) (v : _) (w : _) → i < length befores → IsViewed (get_or befores i v) (get_or afterwards i w)

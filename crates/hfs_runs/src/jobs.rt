@@ -1,7 +1,7 @@
 //! Each caller of a script with its own calls.
-ghost use Rattle.std.specs.Prelude.{◌≡◌, ◌+◌, ◌<◌, ◌≤◌, ℕ, length, get_or, IfOk};
-ghost use Rattle.hfs_scripts.specs.Callers.{calls_of};
+ghost use Rattle.std.specs.Prelude.{◌≡◌, ◌≤◌, length, IfOk};
 ghost use Rattle.hfs_scripts.specs.declared.lines.Caller.TheVariants.{Worker, Viewer as AsViewer};
+ghost use Rattle.hfs_runs.specs.Jobs.{HaveCalls, HaveEach, HasViewersOf};
 
 use crate::viewing::Viewing;
 use hfs_model::Call;
@@ -18,9 +18,9 @@ pub fn jobs_of(
 ) -> Result<(Vec<(Pass, Vec<Call>)>, Script), AllocError>
     requires { length passes.items ≤ 8 }
     ensures many { IfOk result (λ r. length r.0.items ≡ length passes.items) }
-    ensures passes { IfOk result (λ r. (i : ℕ) (j : _) (p : _) → i < length passes.items → (get_or r.0.items i j).0 ≡ get_or passes.items i p) }
-    ensures calls { IfOk result (λ r. (i : ℕ) (j : _) → i < length passes.items → (get_or r.0.items i j).1.items ≡ calls_of (Worker (i + 1)) script) }
-    ensures others { IfOk result (λ r. (n : ℕ) → calls_of (AsViewer n) r.1 ≡ calls_of (AsViewer n) script) }
+    ensures passes { IfOk result (λ r. HaveEach (λ job. job.0) passes.items r.0.items) }
+    ensures calls { IfOk result (λ r. HaveCalls (λ job. job.1.items) Worker (length passes.items) script r.0.items) }
+    ensures others { IfOk result (λ r. HasViewersOf script r.1) }
 {
     let mut jobs = Vec::new(alloc);
     let mut rest = script;
@@ -43,8 +43,8 @@ pub fn viewings_of(
 ) -> Result<Vec<Viewing>, AllocError>
     requires { length viewers.items ≤ 8 }
     ensures many { IfOk result (λ v. length v.items ≡ length viewers.items) }
-    ensures viewers { IfOk result (λ v. (i : ℕ) (w : _) (k : _) → i < length viewers.items → (get_or v.items i w).viewer ≡ get_or viewers.items i k) }
-    ensures calls { IfOk result (λ v. (i : ℕ) (w : _) → i < length viewers.items → (get_or v.items i w).calls.items ≡ calls_of (AsViewer (i + 1)) script) }
+    ensures viewers { IfOk result (λ v. HaveEach (λ one. one.viewer) viewers.items v.items) }
+    ensures calls { IfOk result (λ v. HaveCalls (λ one. one.calls.items) AsViewer (length viewers.items) script v.items) }
 {
     let mut viewings = Vec::new(alloc);
     let mut rest = script;

@@ -1,14 +1,14 @@
 //! A script that is run on an image.
-ghost use Rattle.std.specs.Prelude.{◌≡◌, ◌<◌, ◌≤◌, ◌⊎◌, ℕ, All, IfOk, IfErr, OnOk, get_or, length, map, string_bytes};
+ghost use Rattle.std.specs.Prelude.{◌≡◌, ◌<◌, ◌≤◌, ◌⊎◌, All, IfOk, IfErr, OnOk, get_or, length, map, string_bytes};
 ghost use Rattle.std.specs.Thread.{IsSync};
 ghost use Rattle.hfs_check.specs.Sound.{IsSound};
 ghost use Rattle.hfs_check.specs.VolumeOf.{volume_of};
 ghost use Rattle.hfs_scripts.specs.Callers.{workers, viewers};
 ghost use Rattle.hfs_shared.specs.Shareds.{IsStart};
-ghost use Rattle.hfs_shared.specs.Works.{IsDone};
+ghost use Rattle.hfs_shared.specs.Works.{AreDone};
 ghost use Rattle.hfs_runs.specs.Asking.{IsSmall};
 ghost use Rattle.hfs_runs.specs.Runs.{IsHandedOut, IsMountFault, IsRan, IsRun, IsRunFault};
-ghost use Rattle.hfs_runs.specs.Views.{IsViewed};
+ghost use Rattle.hfs_runs.specs.Views.{AreViewed};
 
 use crate::answers::answers_text;
 use crate::fault::ScriptFault;
@@ -55,21 +55,21 @@ fn run_beside<K: Session + Send + Sync, R: Threads + Wait + Sync, G: Gate + Sync
     viewings: Vec<Viewing>,
 ) -> (Result<Vec<Done>, RunFault>, Vec<Viewing>)
     ensures dones { IfOk result.0 (λ v. length v.items ≡ length jobs.items) }
-    ensures done { IfOk result.0 (λ v. (i : ℕ) (d : _) (j : _) → i < length jobs.items → IsDone K.book K.opening (get_or jobs.items i j).0 (get_or jobs.items i j).1.items (get_or v.items i d)) }
+    ensures done { IfOk result.0 (λ v. AreDone K.book K.opening (λ c. c.items) jobs.items v.items) }
     ensures viewings { length result.1.items ≡ length viewings.items }
-    ensures viewed { (i : ℕ) (v : _) (w : _) → i < length viewings.items → IsViewed (get_or viewings.items i v) (get_or result.1.items i w) }
+    ensures viewed { AreViewed viewings.items result.1.items }
 {
     thread::join(
         rt,
         move || -> Result<Vec<Done>, RunFault>
             requires { IsSync R.row × IsSync K.row × IsSync G.row }
             ensures dones { IfOk result (λ v. length v.items ≡ length jobs.items) }
-            ensures done { IfOk result (λ v. (i : ℕ) (d : _) (j : _) → i < length jobs.items → IsDone K.book K.opening (get_or jobs.items i j).0 (get_or jobs.items i j).1.items (get_or v.items i d)) }
+            ensures done { IfOk result (λ v. AreDone K.book K.opening (λ c. c.items) jobs.items v.items) }
         { run_workers(shared, rt, alloc, gate, jobs) },
         move || -> Vec<Viewing>
             requires { IsSync R.row }
             ensures viewings { length result.items ≡ length viewings.items }
-            ensures viewed { (i : ℕ) (v : _) (w : _) → i < length viewings.items → IsViewed (get_or viewings.items i v) (get_or result.items i w) }
+            ensures viewed { AreViewed viewings.items result.items }
         { view_all(rt, alloc, viewings) },
     )
 }

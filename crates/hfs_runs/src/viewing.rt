@@ -1,7 +1,7 @@
 //! Viewers that run side by side.
-ghost use Rattle.std.specs.Prelude.{◌≡◌, ◌<◌, ◌++◌, ◌∷◌, [], ℕ, IsTrue, length, get_or, IfOk, OnOk, OnErr};
+ghost use Rattle.std.specs.Prelude.{◌≡◌, IsTrue, length, OnOk, OnErr};
 ghost use Rattle.hfs_model.specs.Step.{is_reading};
-ghost use Rattle.hfs_runs.specs.Views.{AreMoreReads, AreReads, IsViewed};
+ghost use Rattle.hfs_runs.specs.Views.{AreMoreReads, AreReads, IsViewed, AreViewed};
 
 use hfs_model::{Call, Reply};
 use hfs_shared::{ViewFault, Viewer};
@@ -61,7 +61,7 @@ fn view(alloc: Global, viewer: &mut Viewer, calls: &Vec<Call>) -> Vec<Reply>
 /// another's. A viewer stops at the first call that is not answered.
 pub fn view_all<R: Threads + Sync>(rt: &R, alloc: Global, viewings: Vec<Viewing>) -> Vec<Viewing>
     ensures many { length result.items ≡ length viewings.items }
-    ensures each { (i : ℕ) (v : _) (w : _) → i < length viewings.items → IsViewed (get_or viewings.items i v) (get_or result.items i w) }
+    ensures each { AreViewed viewings.items result.items }
 {
     let mut viewings = viewings;
     let threads = viewings.len().max(1);

@@ -1,14 +1,19 @@
 -- The fields of a script's line.
-use Rattle.std.specs.Prelude.{ℕ, ◌==◌, if◌then◌else◌, List, codes, bytes_eq, Option, Some, None}
+use Rattle.std.specs.Prelude.{ℕ, ◌==◌, if◌then◌else◌, List, codes, bytes_eq, Option, Some, None, map}
 use Rattle.std.specs.List.{slice_split}
 use Rattle.std.specs.Result.{result_ok}
 use Rattle.hex.specs.Hex.{decode_sized}
 use Rattle.hfs_model.specs.declared.call.Fork.{Fork}
 use Rattle.hfs_model.specs.declared.call.Fork.TheVariants.{DataFork, ResFork}
+use Rattle.std.specs.Borrow.{Bor}
 
 -- the fields of a line: the bytes that its tabs part
 unfoldable pub fields_of : List ℕ → List (List ℕ)
 fields_of line = slice_split (λ byte. byte == 9) line
+
+-- the bytes of each of these fields
+abbrev pub texts_of : List (Bor (List ℕ)) → List (List ℕ)
+texts_of fields = map (λ field. field.now) fields
 
 -- so many bytes, each as two hexadecimal digits of either case
 unfoldable pub bytes_of : ℕ → List ℕ → Option (List ℕ)

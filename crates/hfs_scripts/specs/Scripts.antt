@@ -1,10 +1,11 @@
 -- What a script is: the lines read, or the first line that doesn't read.
-use Rattle.std.specs.Prelude.{◌≡◌, ℕ, ◌+◌, ◌==◌, nat_lt, if◌then◌else◌, List, [], ◌∷◌, length, map, Option, Some, None, Result, Ok, Err}
+use Rattle.std.specs.Prelude.{◌≡◌, ℕ, ◌+◌, ◌==◌, nat_lt, if◌then◌else◌, List, [], ◌∷◌, length, map, Option, Some, None, Result, Ok, Err, MatchResult}
 use Rattle.std.specs.List.{slice_split}
 use Rattle.hfs_scripts.specs.declared.lines.ScriptLine.{ScriptLine}
 use Rattle.hfs_scripts.specs.declared.fault.ScriptFault.{ScriptFault}
 use Rattle.hfs_scripts.specs.declared.fault.ScriptFault.TheVariants.{TooLarge, Line, Memory}
 use Rattle.hfs_scripts.specs.Lines.{line_of}
+use Rattle.std.proofs.Common.{Vec, Global}
 
 -- pieces without the last, where that is empty
 abbrev pub without_empty_end : List (List ℕ) → List (List ℕ)
@@ -51,3 +52,13 @@ abbrev pub IsFaultOf : Result (List ScriptLine) ScriptFault → ScriptFault → 
 IsFaultOf script Memory = Unit {0}
 IsFaultOf script TooLarge = script ≡ Err TooLarge
 IsFaultOf script (Line place) = script ≡ Err (Line place)
+
+-- ---- what is answered
+
+-- these lines, or why they were not read
+abbrev pub GivesLines : Result (List ScriptLine) ℕ → Result (Vec ScriptLine Global) ScriptFault → Type 0
+GivesLines lines result = MatchResult result (λ read. lines ≡ Ok read.items) (IsFaultIn lines)
+
+-- this script, or why it was not read
+abbrev pub GivesScript : Result (List ScriptLine) ScriptFault → Result (List ScriptLine) ScriptFault → Type 0
+GivesScript script result = MatchResult result (λ read. script ≡ Ok read) (IsFaultOf script)

@@ -65,6 +65,14 @@ abbrev pub fork_text : Fork → List ℕ
 fork_text DataFork = codes "data"
 fork_text ResFork = codes "res"
 
+-- the fields behind the word of a read of a fork
+abbrev pub read_fields : ℕ → List ℕ → Fork → ℕ → ℕ → List (List ℕ)
+read_fields dir name fork offset count = decimal dir ∷ name ∷ fork_text fork ∷ decimal offset ∷ decimal count ∷ []
+
+-- three dates and Finder bytes
+abbrev pub info_fields : ℕ → ℕ → ℕ → List ℕ → List (List ℕ)
+info_fields created modified backup info = decimal created ∷ decimal modified ∷ decimal backup ∷ encode_lower info ∷ []
+
 -- the fields behind a call's word
 abbrev pub arguments : Call → List (List ℕ)
 arguments (call.GetDirInfo dir) = decimal dir ∷ []

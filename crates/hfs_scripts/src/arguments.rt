@@ -3,7 +3,7 @@ ghost use Rattle.std.specs.Prelude.{◌≡◌, IfOk, [], ◌∷◌, ◌++◌, le
 ghost use Rattle.std.specs.Fmt.{decimal};
 ghost use Rattle.hex.specs.Hex.{encode_lower};
 ghost use Rattle.hfs_scripts.specs.Readable.{Reads, ReadsBytes, IsReadable};
-ghost use Rattle.hfs_scripts.specs.Texts.{arguments, fork_text};
+ghost use Rattle.hfs_scripts.specs.Texts.{arguments, fork_text, read_fields, info_fields};
 
 use hfs_model::{Bytes, Call, Fork};
 use std::alloc::{AllocError, Global};
@@ -87,7 +87,7 @@ fn part_of_fork(
     offset: u32,
     count: u32,
 ) -> Result<Vec<Bytes>, AllocError>
-    ensures fields { IfOk result (λ fields. fields.items ≡ decimal dir ∷ name.now ∷ fork_text fork ∷ decimal offset ∷ decimal count ∷ []) }
+    ensures fields { IfOk result (λ fields. fields.items ≡ read_fields dir name.now fork offset count) }
     ensures dir { IfOk result (λ fields. Reads dir) }
     ensures offset { IfOk result (λ fields. Reads offset) }
     ensures count { IfOk result (λ fields. Reads count) }
@@ -109,7 +109,7 @@ fn dates_and_info(
     backup: u32,
     info: &[u8],
 ) -> Result<Vec<Bytes>, AllocError>
-    ensures fields { IfOk result (λ all. all.items ≡ fields.items ++ decimal created ∷ decimal modified ∷ decimal backup ∷ encode_lower info.now ∷ []) }
+    ensures fields { IfOk result (λ all. all.items ≡ fields.items ++ info_fields created modified backup info.now) }
     ensures created { IfOk result (λ all. Reads created) }
     ensures modified { IfOk result (λ all. Reads modified) }
     ensures backup { IfOk result (λ all. Reads backup) }

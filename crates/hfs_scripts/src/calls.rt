@@ -1,6 +1,7 @@
 //! The call of a line: what its word and the fields behind it ask for.
 ghost use Rattle.std.specs.Prelude.{◌≡◌, map, IfOk};
 ghost use Rattle.hfs_scripts.specs.Calls.{number_alone, indexed_of, target_of, read_of, rename_of, move_of, set_f_info_of, set_info_of, target_call, call_on_target, call_of};
+ghost use Rattle.hfs_scripts.specs.Fields.{texts_of};
 
 use crate::fields::{read_16_bytes, read_32_bytes, read_fork};
 use crate::numbers::read_number;
@@ -17,7 +18,7 @@ pub(crate) struct Target {
 
 #[tactic(auto, unfolding(crate::specs::Calls::number_alone))]
 fn read_number_alone(fields: &[&[u8]]) -> Option<u32>
-    ensures { result ≡ number_alone (map (λ field. field.now) fields.now) }
+    ensures { result ≡ number_alone (texts_of fields.now) }
 {
     let [number] = fields else {
         return None;
@@ -27,7 +28,7 @@ fn read_number_alone(fields: &[&[u8]]) -> Option<u32>
 
 #[tactic(auto, unfolding(crate::specs::Calls::indexed_of))]
 fn read_indexed(fields: &[&[u8]]) -> Option<Call>
-    ensures { result ≡ indexed_of (map (λ field. field.now) fields.now) }
+    ensures { result ≡ indexed_of (texts_of fields.now) }
 {
     let [dir, index] = fields else {
         return None;
@@ -40,7 +41,7 @@ fn read_indexed(fields: &[&[u8]]) -> Option<Call>
 
 #[tactic(auto, unfolding(crate::specs::Calls::target_of))]
 fn read_target(alloc: Global, fields: &[&[u8]]) -> Result<Option<Target>, AllocError>
-    ensures { IfOk result (λ item. item ≡ target_of (map (λ field. field.now) fields.now)) }
+    ensures { IfOk result (λ item. item ≡ target_of (texts_of fields.now)) }
 {
     let [dir, name] = fields else {
         return Ok(None);
@@ -56,7 +57,7 @@ fn read_target(alloc: Global, fields: &[&[u8]]) -> Result<Option<Target>, AllocE
 
 #[tactic(auto, unfolding(crate::specs::Calls::read_of))]
 fn read_read(alloc: Global, fields: &[&[u8]]) -> Result<Option<Call>, AllocError>
-    ensures { IfOk result (λ call. call ≡ read_of (map (λ field. field.now) fields.now)) }
+    ensures { IfOk result (λ call. call ≡ read_of (texts_of fields.now)) }
 {
     let [dir, name, fork, offset, count] = fields else {
         return Ok(None);
@@ -84,7 +85,7 @@ fn read_read(alloc: Global, fields: &[&[u8]]) -> Result<Option<Call>, AllocError
 
 #[tactic(auto, unfolding(crate::specs::Calls::rename_of))]
 fn read_rename(alloc: Global, fields: &[&[u8]], now: u32) -> Result<Option<Call>, AllocError>
-    ensures { IfOk result (λ call. call ≡ rename_of now (map (λ field. field.now) fields.now)) }
+    ensures { IfOk result (λ call. call ≡ rename_of now (texts_of fields.now)) }
 {
     let [dir, name, new_name] = fields else {
         return Ok(None);
@@ -102,7 +103,7 @@ fn read_rename(alloc: Global, fields: &[&[u8]], now: u32) -> Result<Option<Call>
 
 #[tactic(auto, unfolding(crate::specs::Calls::move_of))]
 fn read_move(alloc: Global, fields: &[&[u8]], now: u32) -> Result<Option<Call>, AllocError>
-    ensures { IfOk result (λ call. call ≡ move_of now (map (λ field. field.now) fields.now)) }
+    ensures { IfOk result (λ call. call ≡ move_of now (texts_of fields.now)) }
 {
     let [dir, name, new_dir] = fields else {
         return Ok(None);
@@ -123,7 +124,7 @@ fn read_move(alloc: Global, fields: &[&[u8]], now: u32) -> Result<Option<Call>, 
 
 #[tactic(auto, unfolding(crate::specs::Calls::set_f_info_of))]
 fn read_set_f_info(alloc: Global, fields: &[&[u8]], now: u32) -> Result<Option<Call>, AllocError>
-    ensures { IfOk result (λ call. call ≡ set_f_info_of now (map (λ field. field.now) fields.now)) }
+    ensures { IfOk result (λ call. call ≡ set_f_info_of now (texts_of fields.now)) }
 {
     let [dir, name, info] = fields else {
         return Ok(None);
@@ -144,7 +145,7 @@ fn read_set_f_info(alloc: Global, fields: &[&[u8]], now: u32) -> Result<Option<C
 
 #[tactic(auto, unfolding(crate::specs::Calls::set_info_of))]
 fn read_set_info(alloc: Global, fields: &[&[u8]], now: u32) -> Result<Option<Call>, AllocError>
-    ensures { IfOk result (λ call. call ≡ set_info_of now (map (λ field. field.now) fields.now)) }
+    ensures { IfOk result (λ call. call ≡ set_info_of now (texts_of fields.now)) }
 {
     let [dir, name, created, modified, backup, info] = fields else {
         return Ok(None);
@@ -201,7 +202,7 @@ fn read_on_target(
     fields: &[&[u8]],
     now: u32,
 ) -> Result<Option<Call>, AllocError>
-    ensures { IfOk result (λ call. call ≡ call_on_target now word (map (λ field. field.now) fields.now)) }
+    ensures { IfOk result (λ call. call ≡ call_on_target now word (texts_of fields.now)) }
 {
     match read_target(alloc, fields)? {
         Some(target) => Ok(on_target(word, target, now)),
@@ -217,7 +218,7 @@ pub(crate) fn read_call(
     fields: &[&[u8]],
     now: u32,
 ) -> Result<Option<Call>, AllocError>
-    ensures { IfOk result (λ call. call ≡ call_of now word (map (λ field. field.now) fields.now)) }
+    ensures { IfOk result (λ call. call ≡ call_of now word (texts_of fields.now)) }
 {
     match word {
         Word::DirInfo => Ok(read_number_alone(fields).map(|dir| Call::GetDirInfo { dir })),

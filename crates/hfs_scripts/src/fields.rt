@@ -1,6 +1,6 @@
 //! The fields of a script's line.
-ghost use Rattle.std.specs.Prelude.{◌≡◌, map, IfOk, take};
-ghost use Rattle.hfs_scripts.specs.Fields.{fields_of, bytes_of, fork_of};
+ghost use Rattle.std.specs.Prelude.{◌≡◌, IfOk, take};
+ghost use Rattle.hfs_scripts.specs.Fields.{fields_of, bytes_of, fork_of, texts_of};
 
 use hex::FromHex;
 use hfs_model::Fork;
@@ -9,7 +9,7 @@ use std::alloc::{AllocError, Global};
 /// The fields of a line; of more than nine the first nine, since no line that reads has as many.
 #[tactic(auto, unfolding(crate::specs::Fields::fields_of))]
 pub(crate) fn split_fields(alloc: Global, line: &[u8]) -> Result<Vec<&[u8]>, AllocError>
-    ensures { IfOk result (λ fields. map (λ field. field.now) fields.items ≡ take 9 (fields_of line.now)) }
+    ensures { IfOk result (λ fields. texts_of fields.items ≡ take 9 (fields_of line.now)) }
 {
     line.split(|byte| *byte == b'\t').take(9).collect(alloc)
 }

@@ -1,6 +1,7 @@
 //! A line of a script.
-ghost use Rattle.std.specs.Prelude.{◌≡◌, IfOk, map};
+ghost use Rattle.std.specs.Prelude.{◌≡◌, IfOk};
 ghost use Rattle.hfs_scripts.specs.Lines.{member_of, caller_of, may_ask, line_of_fields, line_of};
+ghost use Rattle.hfs_scripts.specs.Fields.{texts_of};
 
 use crate::calls::read_call;
 use crate::fields::split_fields;
@@ -60,7 +61,7 @@ pub(crate) fn may_ask(caller: Caller, word: Word) -> bool
 /// The line of its fields, if they make one.
 #[tactic(auto, unfolding(crate::specs::Lines::line_of_fields))]
 fn read_fields(alloc: Global, fields: &[&[u8]], now: u32) -> Result<Option<ScriptLine>, AllocError>
-    ensures { IfOk result (λ line. line ≡ line_of_fields now (map (λ field. field.now) fields.now)) }
+    ensures { IfOk result (λ line. line ≡ line_of_fields now (texts_of fields.now)) }
 {
     let [who, text, fields @ ..] = fields else {
         return Ok(None);

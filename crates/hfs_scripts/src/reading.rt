@@ -1,6 +1,6 @@
 //! Reads a script.
-ghost use Rattle.std.specs.Prelude.{◌≡◌, ◌<◌, ℕ, Ok, Err, MatchResult, length, ◌∷◌, ◌==◌, position};
-ghost use Rattle.hfs_scripts.specs.Scripts.{lines_of, lines_read, script_of, IsFaultIn, IsFaultOf};
+ghost use Rattle.std.specs.Prelude.{◌≡◌, ◌<◌, Ok, Err, length, ◌∷◌, ◌==◌, position};
+ghost use Rattle.hfs_scripts.specs.Scripts.{lines_of, lines_read, script_of, GivesLines, GivesScript};
 
 use crate::fault::ScriptFault;
 use crate::lines::{ScriptLine, read_line};
@@ -32,7 +32,7 @@ fn first_line(bytes: &[u8]) -> (&[u8], &[u8])
 
 /// The lines of bytes. At `Line` none before that line fails to read.
 fn read_lines(alloc: Global, bytes: &[u8], now: u32) -> Result<Vec<ScriptLine>, ScriptFault>
-    ensures { MatchResult result (λ lines. lines_read now bytes.now ≡ Ok lines.items) (IsFaultIn (lines_read now bytes.now)) }
+    ensures { GivesLines (lines_read now bytes.now) result }
 {
     let mut lines = Vec::new(alloc);
     let mut rest = bytes;
@@ -51,7 +51,7 @@ fn read_lines(alloc: Global, bytes: &[u8], now: u32) -> Result<Vec<ScriptLine>, 
 /// `Line` with the first line that doesn't read, counted from 1; `Memory` only where memory is wanting.
 #[tactic(auto, unfolding(crate::specs::Scripts::script_of))]
 pub fn read_script(alloc: Global, bytes: &[u8], now: u32) -> Result<Script, ScriptFault>
-    ensures { MatchResult result (λ script. script_of now bytes.now ≡ Ok script) (IsFaultOf (script_of now bytes.now)) }
+    ensures { GivesScript (script_of now bytes.now) result }
 {
     if bytes.len() > MAX_BYTES {
         return Err(ScriptFault::TooLarge);

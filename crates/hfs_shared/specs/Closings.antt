@@ -1,5 +1,5 @@
 -- Which passes close a shared volume, and what closing it gives.
-use Rattle.std.specs.Prelude.{◌≡◌, ℕ, ◌+◌, ◌<◌, List, length, get_or}
+use Rattle.std.specs.Prelude.{◌≡◌, ℕ, ◌+◌, ◌<◌, Bool, MatchBool, List, length, get_or}
 use mathlib.Core.List.{IsPrefix}
 use Rattle.hfs_model.specs.declared.journal.Entry.{Entry}
 use Rattle.hfs_model.specs.Volume.{Volume}
@@ -10,6 +10,10 @@ use Rattle.hfs_volume.specs.Image.{ImageValue}
 use Rattle.hfs_published.specs.Histories.{Known}
 use Rattle.hfs_published.specs.Journals.{IsLegal, made_by, published}
 use Rattle.hfs_shared.specs.Desks.{PassState, pass_state}
+
+-- the answer is whether it holds
+abbrev pub IsWhether : Bool → Type 0 → Type 0
+IsWhether answer P = MatchBool answer P (P → ⊥)
 
 -- the pass is among these
 abbrev pub HasPass : List PassState → PassState → Type 0

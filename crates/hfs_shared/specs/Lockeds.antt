@@ -1,10 +1,10 @@
 -- What lies under the lock, as plain data.
-use Rattle.std.specs.Prelude.{◌≡◌, ℕ, ◌≤◌, List, length}
+use Rattle.std.specs.Prelude.{◌≡◌, ℕ, ◌≤◌, List, length, drop}
 use Rattle.logbook.specs.Pages.{Book}
 use Rattle.hfs_model.specs.declared.journal.Entry.{Entry}
 use Rattle.hfs_model.specs.Volume.{Volume}
 use Rattle.hfs_check.specs.VolumeOf.{volume_of}
-use Rattle.hfs_published.specs.Journals.{published}
+use Rattle.hfs_published.specs.Journals.{published, NoneAccepted}
 use Rattle.hfs_published.specs.Pairs.{PairState}
 use Rattle.hfs_shared.specs.Desks.{DeskState, desk_state}
 
@@ -21,6 +21,10 @@ locked_state d n = record { base = d.base; current = d.current; journal = d.jour
 
 abbrev pub desk_of : LockedState → DeskState
 desk_of l = desk_state l.base l.current l.journal l.workers
+
+-- where no accepted change waits, so many entries are all of them
+abbrev pub KeepsUp : LockedState → ℕ → Type 0
+KeepsUp l n = NoneAccepted (drop l.shown l.journal) → n ≡ length l.journal
 
 -- the pair has the published lists of the journal: the one that is published covers so many entries, and the one with all that
 -- was added covers at least these

@@ -50,9 +50,13 @@ pub record IsStart (opening : Volume) (workers viewers : ℕ) (p : PartsState) (
 abbrev pub IsReplyOf : Volume → Call → Reply → Type 0
 IsReplyOf v c r = (free : ℕ) × (depth : ℕ) × (r ≡ (step_within free depth v c).1)
 
--- what is told of a journal: the published list that covers so many of its entries as it says, and how many there are
+-- what is told of a journal: the published list that covers so many of its entries, and how many there are
+abbrev pub told_of : Book → Volume → List Entry → ℕ → ToldState
+told_of book opening journal n = told (known book (published opening journal n)) n (length journal)
+
+-- what is told is that, for the number that it says
 abbrev pub IsToldOf : Book → Volume → List Entry → ToldState → Type 0
-IsToldOf book opening journal t = t ≡ told (known book (published opening journal t.shown)) t.shown (length journal)
+IsToldOf book opening journal t = t ≡ told_of book opening journal t.shown
 
 -- one call, behind these entries: its own stands last in a legal journal, its reply is the one there, and what is told is
 -- published of that journal

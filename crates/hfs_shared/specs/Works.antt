@@ -25,6 +25,20 @@ pub record IsDone (book : Book) (opening : Volume) (p : PassState) (calls : List
   pub work : IsWork book opening p calls d.pass d.replies.items
   pub whole : d.fault ≡ None → length d.replies.items ≡ length calls
 
+-- each has the pass of its job
+abbrev pub HaveTheirPasses : {V : Type 0} → List (PassState × V) → List Done → Type 0
+HaveTheirPasses jobs dones = (i : ℕ) (d : _) (j : _) → i < length jobs → (get_or dones i d).pass ≡ (get_or jobs i j).0
+
+-- each job's calls were made, from its pass on
+abbrev pub AreDone : {V : Type 0} → Book → Volume → (V → List Call) → List (PassState × V) → List Done → Type 0
+AreDone book opening calls jobs dones = (i : ℕ) (d : _) (j : _) → i < length jobs
+    → IsDone book opening (get_or jobs i j).0 (calls (get_or jobs i j).1) (get_or dones i d)
+
+-- each job's calls were made, from the pass on that was there before
+abbrev pub AreDoneFrom : {V : Type 0} → Book → Volume → (V → List Call) → List (PassState × V) → List Done → List Done → Type 0
+AreDoneFrom book opening calls jobs before afterwards = (i : ℕ) (d : _) (j : _) → i < length jobs
+    → IsDone book opening (get_or before i d).pass (calls (get_or jobs i j).1) (get_or afterwards i d)
+
 -- one call more was made
 pub record IsMoreWork (book : Book) (opening : Volume) (p : PassState) (c : Call) (q : PassState) (before afterwards : List (Reply × ToldState)) : Type 0 where
   pub reply : Reply

@@ -2,7 +2,7 @@
 ghost use Rattle.std.specs.Prelude.{◌≡◌, ◌≤◌, ◌<◌, [], length, IfOk, OnErr, IfErr};
 ghost use Rattle.hfs_check.specs.Agree.{Agrees};
 ghost use Rattle.hfs_shared.specs.Desks.{DeskState, desk_state, pass_state, wanted, full_of, full_in, entry_of, IsHeadline, IsApplied};
-ghost use Rattle.hfs_shared.specs.Faults.{IsFaultAt};
+ghost use Rattle.hfs_shared.specs.Faults.{IsCallFault};
 
 use crate::pass::Pass;
 use hfs_model::{Call, DISK_FULL, Entry, Reply, Value, step_is_never_full};
@@ -84,7 +84,7 @@ impl Desk {
     pub fn apply(&mut self, alloc: Global, pass: &mut Pass, call: &Call) -> Result<Reply, CallFault>
         ensures ok { IfOk result (λ r. IsApplied self.old pass.old call.now r self.new pass.new) }
         ensures err { OnErr result ((self.new ≡ self.old) × (pass.new ≡ pass.old)) }
-        ensures fault { IfErr result (λ f. IsFaultAt (wanted self.old.workers self.old.journal pass.old.worker) pass.old.number f) }
+        ensures fault { IfErr result (IsCallFault self.old pass.old) }
     {
         step_is_never_full();
         let wanted = self.wanted(pass.worker());

@@ -1,10 +1,9 @@
 //! The lock, held.
-ghost use Rattle.std.specs.Prelude.{◌≡◌, ◌⊎◌, length, drop, IfOk, OnErr, IfErr};
+ghost use Rattle.std.specs.Prelude.{◌≡◌, ◌⊎◌, length, IfOk, OnErr, IfErr};
 ghost use Rattle.hfs_check.specs.VolumeOf.{volume_of};
-ghost use Rattle.hfs_published.specs.Journals.{NoneAccepted};
-ghost use Rattle.hfs_shared.specs.Desks.{wanted, IsApplied};
-ghost use Rattle.hfs_shared.specs.Faults.{IsFaultAt};
-ghost use Rattle.hfs_shared.specs.Lockeds.{LockedState, desk_of};
+ghost use Rattle.hfs_shared.specs.Desks.{IsApplied};
+ghost use Rattle.hfs_shared.specs.Faults.{IsCallFault};
+ghost use Rattle.hfs_shared.specs.Lockeds.{LockedState, desk_of, KeepsUp};
 ghost use Rattle.hfs_shared.specs.Shareds.{IsToldOf};
 
 use crate::desk::CallFault;
@@ -48,7 +47,7 @@ impl<K: Session> Guard<'_, K> {
         ensures shown { self.new.shown ≡ self.old.shown }
         ensures opening { volume_of self.old.base ≡ K.opening }
         ensures err { OnErr result ((self.new ≡ self.old) × (pass.new ≡ pass.old)) }
-        ensures fault { IfErr result (λ f. IsFaultAt (wanted self.old.workers self.old.journal pass.old.worker) pass.old.number f) }
+        ensures fault { IfErr result (IsCallFault (desk_of self.old) pass.old) }
     {
         self.inner.apply(alloc, pass, call)
     }
@@ -57,7 +56,7 @@ impl<K: Session> Guard<'_, K> {
     pub fn publish<R: Wait>(&mut self, rt: &R, alloc: Global) -> Told
         ensures desk { desk_of self.new ≡ desk_of self.old }
         ensures shown { (self.new.shown ≡ length self.old.journal) ⊎ (self.new.shown ≡ self.old.shown) }
-        ensures idle { NoneAccepted (drop self.old.shown self.old.journal) → self.new.shown ≡ length self.old.journal }
+        ensures idle { KeepsUp self.old self.new.shown }
         ensures number { result.shown ≡ self.new.shown }
         ensures told { IsToldOf K.book K.opening self.old.journal result }
     {

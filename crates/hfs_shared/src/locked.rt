@@ -1,12 +1,11 @@
 //! What lies under the lock: the volume with its journal, and the list that is published of it.
 ghost use Rattle.std.specs.Prelude.{◌≡◌, ◌⊎◌, ◌≤◌, [], length, take, drop, ◌++◌, ◌-◌, IfOk, OnErr, IfErr};
 ghost use Rattle.hfs_check.specs.VolumeOf.{volume_of};
-ghost use Rattle.hfs_published.specs.Histories.{known};
 ghost use Rattle.hfs_published.specs.Journals.{published, NoneAccepted};
-ghost use Rattle.hfs_published.specs.Tolds.{told};
-ghost use Rattle.hfs_shared.specs.Desks.{wanted, IsApplied};
-ghost use Rattle.hfs_shared.specs.Faults.{IsFaultAt};
-ghost use Rattle.hfs_shared.specs.Lockeds.{LockedState, locked_state, desk_of, ShowsOf, GathersOf};
+ghost use Rattle.hfs_shared.specs.Desks.{IsApplied};
+ghost use Rattle.hfs_shared.specs.Faults.{IsCallFault};
+ghost use Rattle.hfs_shared.specs.Lockeds.{LockedState, locked_state, desk_of, KeepsUp, ShowsOf, GathersOf};
+ghost use Rattle.hfs_shared.specs.Shareds.{told_of};
 
 use crate::desk::{CallFault, Desk};
 use crate::pass::Pass;
@@ -66,7 +65,7 @@ impl<K: Session> Locked<K> {
         ensures shown { self.new.shown ≡ self.old.shown }
         ensures opening { volume_of self.old.base ≡ K.opening }
         ensures err { OnErr result ((self.new ≡ self.old) × (pass.new ≡ pass.old)) }
-        ensures fault { IfErr result (λ f. IsFaultAt (wanted self.old.workers self.old.journal pass.old.worker) pass.old.number f) }
+        ensures fault { IfErr result (IsCallFault (desk_of self.old) pass.old) }
     {
         published_stays();
         self.desk.apply(alloc, pass, call)
@@ -83,8 +82,8 @@ impl<K: Session> Locked<K> {
     pub fn publish<R: Wait>(&mut self, rt: &R, alloc: Global) -> Told
         ensures desk { desk_of self.new ≡ desk_of self.old }
         ensures shown { (self.new.shown ≡ length self.old.journal) ⊎ (self.new.shown ≡ self.old.shown) }
-        ensures idle { NoneAccepted (drop self.old.shown self.old.journal) → self.new.shown ≡ length self.old.journal }
-        ensures told { result ≡ told (known K.book (published K.opening self.old.journal self.new.shown)) self.new.shown (length self.old.journal) }
+        ensures idle { KeepsUp self.old self.new.shown }
+        ensures told { result ≡ told_of K.book K.opening self.old.journal self.new.shown }
     {
         published_grows();
         let journal = self.desk.journal();

@@ -1,7 +1,7 @@
 //! Workers that run side by side.
-ghost use Rattle.std.specs.Prelude.{◌≡◌, ◌<◌, ℕ, [], length, get_or, IfOk, OnErr, IfErr, IfSome, IfNone, OnSome};
+ghost use Rattle.std.specs.Prelude.{◌≡◌, ◌<◌, length, get_or, IfOk, OnErr, IfErr, IfSome, IfNone, OnSome};
 ghost use Rattle.hfs_shared.specs.Shareds.{IsSomeCall};
-ghost use Rattle.hfs_shared.specs.Works.{IsMoreWork, IsDone};
+ghost use Rattle.hfs_shared.specs.Works.{IsMoreWork, IsDone, HaveTheirPasses, AreDone, AreDoneFrom};
 
 use crate::desk::CallFault;
 use crate::done::{Done, RunFault};
@@ -128,7 +128,7 @@ fn begin(alloc: Global, pass: &Pass) -> Done
 // What is done of jobs that are not begun. None where memory is wanting.
 fn begin_all(alloc: Global, jobs: &Vec<(Pass, Vec<Call>)>) -> Option<Vec<Done>>
     ensures many { IfSome result (λ v. length v.items ≡ length jobs.now.items) }
-    ensures passes { IfSome result (λ v. (i : ℕ) (d : _) (j : _) → i < length jobs.now.items → (get_or v.items i d).pass ≡ (get_or jobs.now.items i j).0) }
+    ensures passes { IfSome result (λ v. HaveTheirPasses jobs.now.items v.items) }
 {
     let mut dones = Vec::new(alloc);
     for at in 0..jobs.len() {
@@ -152,7 +152,7 @@ pub fn run_workers<K: Session + Send + Sync, R: Threads + Wait + Sync, G: Gate +
     jobs: Vec<(Pass, Vec<Call>)>,
 ) -> Result<Vec<Done>, RunFault>
     ensures many { IfOk result (λ v. length v.items ≡ length jobs.items) }
-    ensures each { IfOk result (λ v. (i : ℕ) (d : _) (j : _) → i < length jobs.items → IsDone K.book K.opening (get_or jobs.items i j).0 (get_or jobs.items i j).1.items (get_or v.items i d)) }
+    ensures each { IfOk result (λ v. AreDone K.book K.opening (λ c. c.items) jobs.items v.items) }
     ensures err { IfErr result (λ f. f.jobs ≡ jobs) }
 {
     let Some(mut dones) = begin_all(alloc, &jobs) else {
@@ -173,7 +173,7 @@ fn run_all<K: Session + Send + Sync, R: Threads + Wait + Sync, G: Gate + Sync>(
 )
     requires many { length dones.old.items ≡ length jobs.now.items }
     ensures many { length dones.new.items ≡ length jobs.now.items }
-    ensures each { (i : ℕ) (d : _) (j : _) → i < length jobs.now.items → IsDone K.book K.opening (get_or dones.old.items i d).pass (get_or jobs.now.items i j).1.items (get_or dones.new.items i d) }
+    ensures each { AreDoneFrom K.book K.opening (λ c. c.items) jobs.now.items dones.old.items dones.new.items }
 {
     let threads = jobs.len().max(1);
     let run = |i: usize, done: &mut Done|

@@ -46,3 +46,19 @@ KeepsOthersIn old new below start first count = KeepsOthers (over (changes old) 
 -- a block with so many owners has none, or one and is marked
 abbrev pub is_owned_right : (ℕ → List ℕ) → ℕ → ℕ → ℕ → Bool
 is_owned_right blocks start block owners = (owners == 0) || ((owners == 1) && is_used blocks start block)
+
+-- a block with so many owners is stray: it has none, and is marked
+abbrev pub is_stray : (ℕ → List ℕ) → ℕ → ℕ → ℕ → Bool
+is_stray blocks start block owners = (owners == 0) && is_used blocks start block
+
+-- how many of the first n bits of the bytes are clear
+abbrev pub clear_below : List ℕ → ℕ → ℕ
+clear_below bytes n = count_below (λ i. not (is_marked bytes i)) n
+
+-- no bit but bit i has changed
+abbrev pub KeepsBitsBut : ℕ → List ℕ → List ℕ → Type 0
+KeepsBitsBut i old new = (k : ℕ) → (k < i) ⊎ (i < k) → is_marked new k ≡ is_marked old k
+
+-- no bit has changed but those from `first` up to `end`
+abbrev pub KeepsBitsOutside : ℕ → ℕ → List ℕ → List ℕ → Type 0
+KeepsBitsOutside first end old new = (k : ℕ) → (k < first) ⊎ (end ≤ k) → is_marked new k ≡ is_marked old k

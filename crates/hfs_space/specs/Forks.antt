@@ -1,6 +1,7 @@
 -- The bytes of forks, and of the trees' files, in the logical blocks of a volume.
 use Rattle.std.specs.Prelude.{ℕ, ◌+◌, ◌*◌, ◌/◌, ◌≤◌, List, take, drop, map, ◌-◌, ◌≡◌, ◌++◌}
 use Rattle.std.specs.List.{flat_map, range_with_len}
+use Rattle.std.proofs.Common.{Vec, Global}
 use Rattle.hfs_fields.specs.declared.extent.Extent.{Extent}
 use Rattle.hfs_fields.specs.declared.mdb.Mdb.{Mdb}
 use Rattle.hfs_blocks.specs.declared.run.Run.{Run}
@@ -53,3 +54,11 @@ run_part blocks run from end = take (end - from) (drop from (run_bytes blocks ru
 -- behind the old bytes, `count` bytes of an extent from `from` on
 abbrev pub Gains : (ℕ → List ℕ) → Mdb → Extent → ℕ → ℕ → List ℕ → List ℕ → Type 0
 Gains blocks mdb e from count old new = new ≡ old ++ take count (drop from (extent_bytes blocks mdb e))
+
+-- behind the old bytes, those of a run of blocks from `from` up to `end`
+abbrev pub AddsPart : (ℕ → List ℕ) → Run → ℕ → ℕ → Vec ℕ Global → Vec ℕ Global → Type 0
+AddsPart blocks run from end old new = new.items ≡ old.items ++ run_part blocks run from end
+
+-- the bytes are what is read of a fork with these extents and this logical length
+abbrev pub IsRead : (ℕ → List ℕ) → Mdb → List Extent → ℕ → ℕ → ℕ → Vec ℕ Global → Type 0
+IsRead blocks mdb extents len offset count = λ bytes. bytes.items ≡ read_of blocks mdb extents len offset count

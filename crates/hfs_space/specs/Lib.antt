@@ -17,3 +17,4 @@ pub mod FileLengths
 pub mod Runs
 pub mod FileLists
 pub mod Places
+pub mod Results

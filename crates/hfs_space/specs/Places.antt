@@ -1,5 +1,6 @@
 -- Places in forks.
-use Rattle.std.specs.Prelude.{ℕ, ◌*◌, ◌<◌, ◌≤◌, List, length, drop, slice_index_or, take}
+use Rattle.std.specs.Prelude.{◌≡◌, ℕ, ◌*◌, ◌<◌, ◌≤◌, List, length, drop, slice_index_or, take}
+use Rattle.std.proofs.Common.{Vec, Global}
 use Rattle.hfs_fields.specs.declared.extent.Extent.{Extent}
 use Rattle.hfs_fields.specs.declared.mdb.Mdb.{Mdb}
 use Rattle.hfs_space.specs.declared.fork_place.ForkPlace.{ForkPlace}
@@ -18,3 +19,11 @@ bytes_behind blocks mdb extents place = drop place.passed (all_bytes blocks mdb 
 -- so many of the bytes from the place on, or as many as there are
 abbrev pub bytes_from : (ℕ → List ℕ) → Mdb → List Extent → ForkPlace → ℕ → List ℕ
 bytes_from blocks mdb extents place count = take count (bytes_behind blocks mdb extents place)
+
+-- what is read from the place on has so many bytes, or as many as there are
+abbrev pub HasRead : (ℕ → List ℕ) → Mdb → List Extent → ForkPlace → ℕ → Vec ℕ Global × ForkPlace → Type 0
+HasRead blocks mdb extents place count = λ read. read.0.items ≡ bytes_from blocks mdb extents place count
+
+-- behind what is read stands what stood behind the place, but for so many bytes
+abbrev pub HasPassed : (ℕ → List ℕ) → Mdb → List Extent → ForkPlace → ℕ → Vec ℕ Global × ForkPlace → Type 0
+HasPassed blocks mdb extents place count = λ read. bytes_behind blocks mdb extents read.1 ≡ drop count (bytes_behind blocks mdb extents place)

@@ -1,7 +1,8 @@
 -- The records of the extents tree that forks go on with, by their places, and the files of a catalog by their numbers.
-use Rattle.std.specs.Prelude.{◌≡◌, ℕ, ◌+◌, ◌<◌, Bool, ◌&&◌, ◌||◌, ◌==◌, nat_lt, if◌then◌else◌, List, [], ◌∷◌, length, slice_index_or, Option, Some, None, false, ◌≤◌, ◌++◌}
+use Rattle.std.specs.Prelude.{◌≡◌, ℕ, ◌+◌, ◌<◌, Bool, ◌&&◌, ◌||◌, ◌==◌, nat_lt, if◌then◌else◌, List, [], ◌∷◌, length, slice_index_or, Option, Some, None, Result, IfOk, false, ◌≤◌, ◌++◌}
 use Rattle.std.specs.List.{flat_map, list_all, list_any}
 use Rattle.std.specs.Ordering.{is_eq}
+use Rattle.std.proofs.Common.{Vec, Global}
 use Rattle.hfs_fields.specs.declared.mdb.Mdb.{Mdb}
 use Rattle.hfs_fields.specs.declared.extent.Extent.{Extent}
 use Rattle.hfs_fields.specs.declared.key.CatKey.{CatKey}
@@ -13,8 +14,8 @@ use Rattle.hfs_space.specs.declared.files.CatalogFile.{CatalogFile}
 use Rattle.hfs_space.specs.declared.fork_kind.ForkKind.{ForkKind}
 use Rattle.hfs_fields.specs.declared.file_record.ForkRecord.{ForkRecord}
 use Rattle.hfs_space.specs.Extents.{Overflow, block_total, run_on, fork_byte, record_extents, fork_extents}
-use Rattle.hfs_space.specs.Owners.{Fork, forks_of_file, catalog_fork, goes_on_with, extents_in, is_bad_blocks}
-use Rattle.hfs_space.specs.Faults.{is_fork_right, overflow_fault, are_extents_within}
+use Rattle.hfs_space.specs.Owners.{Fork, forks_of_file, catalog_fork, goes_on_with, extents_in, extents_of_file, is_bad_blocks, owned_in}
+use Rattle.hfs_space.specs.Faults.{is_fork_right, overflow_fault, are_extents_within, IsForkFault}
 use Rattle.hfs_fields.specs.declared.file_record.FileRecord.{FileRecord}
 
 -- ---- runs
@@ -123,3 +124,23 @@ overflow_fault_with mdb overflow files = overflow_fault mdb overflow (forks_with
 abbrev pub is_overflow_right_if : Mdb → Bool → ExtKey × List ℕ → Bool
 is_overflow_right_if mdb used r = nat_lt 0 (block_total (record_extents r.1))
     && (if is_bad_blocks r then are_extents_within mdb.allocation_blocks (record_extents r.1) else used)
+
+-- the marks say which records of the extents tree some fork goes on with, where these are the files
+abbrev pub AreMarksOf : Mdb → Overflow → List CatalogFile → Vec Bool Global → Type 0
+AreMarksOf mdb overflow files = λ marks. AreMarks overflow (forks_with mdb files) marks.items
+
+-- the extents of a file's forks are added
+abbrev pub AddsExtentsOfFile : Overflow → FileRecord → Vec Extent Global → Vec Extent Global → Type 0
+AddsExtentsOfFile overflow file old new = new.items ≡ old.items ++ extents_of_file overflow file
+
+-- the extents of these files' forks are added
+abbrev pub AddsExtentsOfFiles : Overflow → List CatalogFile → Vec Extent Global → Vec Extent Global → Type 0
+AddsExtentsOfFiles overflow files old new = new.items ≡ old.items ++ extents_of_files overflow files
+
+-- the answer is the first fault of forks, of each catalog of so many records whose files these are
+abbrev pub GivesForkFault : {E : Type 0} → Mdb → List (List ℕ) → ℕ → List CatalogFile → Result (Option ℕ) E → Type 0
+GivesForkFault mdb nodes records files result = OfCatalogOf records files (λ c. IfOk result (IsForkFault mdb nodes c))
+
+-- the answer has all extents that somebody owns, of each catalog whose files these are
+abbrev pub GivesOwned : {E : Type 0} → Mdb → List (List ℕ) → List CatalogFile → Result (Vec Extent Global) E → Type 0
+GivesOwned mdb nodes files result = OfCatalog files (λ c. IfOk result (λ owned. owned.items ≡ owned_in mdb nodes c))

@@ -1,5 +1,5 @@
 -- The file of a tree: its nodes, one in each logical block, cut at the file's size.
-use Rattle.std.proofs.Common.{sym, ap, ◌∙◌}
+use Rattle.std.proofs.Common.{Vec, Global, sym, ap, ◌∙◌}
 use Rattle.std.specs.Prelude.{◌≡◌, ℕ, ◌+◌, ◌/◌, List, map, take}
 use Rattle.std.specs.List.{flat_map}
 use Rattle.std.proofs.lemmas.List.{take-map}
@@ -31,3 +31,11 @@ nodes_in-tree_blocks blocks mdb extents size runs e = ap (map blocks) e ∙ sym 
 -- in runs of these blocks lie the nodes of the tree's file
 abbrev pub HoldNodes : (ℕ → List ℕ) → Mdb → List Extent → ℕ → List Run → Type 0
 HoldNodes blocks mdb extents size runs = nodes_in blocks runs ≡ tree_nodes blocks mdb extents size
+
+-- the runs have the logical blocks of the tree's file, by their numbers
+abbrev pub HaveTreeBlocks : Mdb → List Extent → ℕ → Vec Run Global → Type 0
+HaveTreeBlocks mdb extents size = λ runs. flat_map run_of runs.items ≡ tree_blocks mdb extents size
+
+-- in the runs lie the nodes of the tree's file
+abbrev pub HoldTreeNodes : (ℕ → List ℕ) → Mdb → List Extent → ℕ → Vec Run Global → Type 0
+HoldTreeNodes blocks mdb extents size = λ runs. HoldNodes blocks mdb extents size runs.items

@@ -2,6 +2,7 @@
 
 ghost use Rattle.std.specs.Prelude.{◌≡◌, ℕ, ◌+◌, ◌<◌, ◌≤◌, ◌++◌, ◌^◌, [], length, IfOk, IsTrue, ◌↔◌};
 ghost use Rattle.hfs_space.specs.Extents as spec;
+ghost use Rattle.hfs_space.specs.Results.{GivesItems};
 ghost use Rattle.hfs_space.specs.TreeKeys.{IsExtentsTree, overflow_of, GoesOnIn, extents_through};
 
 use crate::fork_kind::{ForkKind, fork_byte};
@@ -83,7 +84,7 @@ pub fn fork_extents<N: Nodes>(
     first: &[Extent; 3],
 ) -> Result<Vec<Extent>, AllocError>
     requires { IsExtentsTree (N.nodes tree.now) }
-    ensures { IfOk result (λ extents. extents.items ≡ extents_through (N.nodes tree.now) file fork first.now) }
+    ensures { GivesItems (extents_through (N.nodes tree.now) file fork first.now) result }
 {
     let mut extents = Vec::from_slice(alloc, first)?;
     let mut blocks = block_total(first);

@@ -1,10 +1,10 @@
 //! Reading forks.
 
-ghost use Rattle.std.specs.Prelude.{◌≡◌, ◌+◌, ◌-◌, ◌*◌, ◌<◌, ◌≤◌, ◌++◌, length, OnOk, IfOk, take, drop};
+ghost use Rattle.std.specs.Prelude.{◌+◌, ◌-◌, ◌*◌, ◌<◌, ◌≤◌, length, OnOk, IfOk, take};
 ghost use Rattle.hfs_blocks.specs.Blocks.{run_of};
 ghost use Rattle.hfs_space.specs.Extents.{IsExtentWithin, AreExtentsWithin};
-ghost use Rattle.hfs_space.specs.Forks.{HasArea, blocks_each, run_bytes, extent_bytes, fork_bytes, read_from, run_part, Gains, read_of};
-ghost use Rattle.hfs_space.specs.Places.{IsPlace, bytes_behind, bytes_from};
+ghost use Rattle.hfs_space.specs.Forks.{HasArea, blocks_each, run_bytes, extent_bytes, fork_bytes, read_from, Gains, AddsPart, IsRead};
+ghost use Rattle.hfs_space.specs.Places.{IsPlace, HasRead, HasPassed};
 
 use crate::fork_place::ForkPlace;
 use hfs_blocks::{Blocks, Run};
@@ -22,7 +22,7 @@ fn read_run<B: Blocks>(
     requires within { run.first + run.count ≤ B.total blocks.now }
     requires order { from ≤ end }
     requires fits { end ≤ 512 * run.count }
-    ensures { OnOk result (bytes.new.items ≡ bytes.old.items ++ run_part (B.blocks blocks.now) run from end) }
+    ensures { OnOk result (AddsPart (B.blocks blocks.now) run from end bytes.old bytes.new) }
 {
     let mut block = [0; 512];
     let mut at = from;
@@ -78,7 +78,7 @@ pub fn read_fork<B: Blocks>(
 ) -> Result<Vec<u8>, AllocError>
     requires area { HasArea mdb.now (B.total blocks.now) }
     requires extents { AreExtentsWithin mdb.now.allocation_blocks extents.now }
-    ensures { IfOk result (λ v. v.items ≡ read_of (B.blocks blocks.now) mdb.now extents.now length offset count) }
+    ensures { IfOk result (IsRead (B.blocks blocks.now) mdb.now extents.now length offset count) }
 {
     let end = u64::from(length).min(u64::from(offset) + u64::from(count));
     let mut skip = u64::from(offset);
@@ -109,10 +109,9 @@ pub fn read_on<B: Blocks>(
     requires area { HasArea mdb.now (B.total blocks.now) }
     requires extents { AreExtentsWithin mdb.now.allocation_blocks extents.now }
     requires place { IsPlace mdb.now extents.now place }
-    ensures bytes { IfOk result (λ r. r.0.items ≡ bytes_from (B.blocks blocks.now) mdb.now extents.now place count) }
+    ensures bytes { IfOk result (HasRead (B.blocks blocks.now) mdb.now extents.now place count) }
     ensures place { IfOk result (λ read. IsPlace mdb.now extents.now read.1) }
-    ensures rest { IfOk result (λ read. bytes_behind (B.blocks blocks.now) mdb.now extents.now read.1
-        ≡ drop count (bytes_behind (B.blocks blocks.now) mdb.now extents.now place)) }
+    ensures rest { IfOk result (HasPassed (B.blocks blocks.now) mdb.now extents.now place count) }
 {
     let each = u64::from(mdb.allocation_block_size / 512);
     let mut bytes = Vec::with_capacity(alloc, count as usize)?;

@@ -7,7 +7,7 @@ ghost use Rattle.hfs_btree.specs.Pairs.{Pairs, Rises};
 ghost use Rattle.hfs_space.specs.Extents as extents;
 ghost use Rattle.hfs_space.specs.Owners.{forks_of_file, is_bad_blocks};
 ghost use Rattle.hfs_space.specs.Runs as runs;
-ghost use Rattle.hfs_space.specs.Runs.{OfCatalogOf};
+ghost use Rattle.hfs_space.specs.Results.{Gives};
 ghost use Rattle.hfs_space.specs.Faults as spec;
 ghost use Rattle.hfs_space.specs.TreeKeys.{IsExtentsTree, overflow_of};
 
@@ -33,7 +33,7 @@ fn is_fork_right(
     extents: &mut Vec<Extent>,
 ) -> Result<bool, AllocError>
     requires { Rises ext_cmp overflow.now }
-    ensures { IfOk result (λ right. right ≡ runs.is_record_fork_right mdb.now overflow.now file kind fork.now) }
+    ensures { Gives (runs.is_record_fork_right mdb.now overflow.now file kind fork.now) result }
 {
     extents.clear();
     push_fork(overflow, file, kind, &fork.extents, extents)?;
@@ -135,7 +135,7 @@ fn used_marks(
 ) -> Result<Vec<bool>, AllocError>
     requires { Rises ext_cmp overflow.now }
     ensures length { IfOk result (λ marks. length marks.items ≡ length overflow.now) }
-    ensures marks { IfOk result (λ marks. runs.AreMarks overflow.now (runs.forks_with mdb.now files.now) marks.items) }
+    ensures marks { IfOk result (runs.AreMarksOf mdb.now overflow.now files.now) }
 {
     let mut marks = vec![in alloc; false; overflow.len()]?;
     mark_used(mdb, overflow, files, &mut marks);
@@ -176,7 +176,7 @@ fn overflow_fault(
     files: &[CatalogFile],
 ) -> Result<Option<usize>, AllocError>
     requires { Rises ext_cmp overflow.now }
-    ensures fault { IfOk result (λ fault. fault ≡ runs.overflow_fault_with mdb.now overflow.now files.now) }
+    ensures fault { Gives (runs.overflow_fault_with mdb.now overflow.now files.now) result }
     ensures bound { IfOk result (λ fault. IfSome fault (λ i. i < length overflow.now)) }
 {
     let used = used_marks(alloc, mdb, overflow, files)?;
@@ -208,7 +208,7 @@ pub fn fork_fault<N: Nodes>(
 ) -> Result<Option<usize>, AllocError>
     requires tree { IsExtentsTree (N.nodes tree.now) }
     requires few { records < 2 ^ 63 }
-    ensures { OfCatalogOf records files.now (λ c. IfOk result (spec.IsForkFault mdb.now (N.nodes tree.now) c)) }
+    ensures { runs.GivesForkFault mdb.now (N.nodes tree.now) records files.now result }
 {
     let overflow = overflow_records(alloc, tree)?;
     let wrong = first_wrong_file(alloc, mdb, &overflow, files)?;

@@ -1,5 +1,5 @@
 //! All extents that somebody owns.
-ghost use Rattle.std.specs.Prelude.{◌≡◌, ◌++◌, IfOk, OnOk};
+ghost use Rattle.std.specs.Prelude.{◌≡◌, ◌++◌, OnOk};
 ghost use Rattle.std.specs.List.{flat_map};
 ghost use Rattle.hfs_fields.specs.declared.key.CatKey.{CatKey};
 ghost use Rattle.hfs_fields.specs.Keys.{ext_cmp};
@@ -7,7 +7,6 @@ ghost use Rattle.hfs_btree.specs.Pairs.{Pairs, Rises};
 ghost use Rattle.hfs_space.specs.Extents.{fork_byte};
 ghost use Rattle.hfs_space.specs.Owners as spec;
 ghost use Rattle.hfs_space.specs.Runs as runs;
-ghost use Rattle.hfs_space.specs.Runs.{OfCatalog};
 ghost use Rattle.hfs_space.specs.TreeKeys.{IsExtentsTree, overflow_of};
 
 use crate::files::CatalogFile;
@@ -26,7 +25,7 @@ fn push_file(
     owned: &mut Vec<Extent>,
 ) -> Result<(), AllocError>
     requires { Rises ext_cmp overflow.now }
-    ensures { OnOk result (owned.new.items ≡ owned.old.items ++ spec.extents_of_file overflow.now file.now) }
+    ensures { OnOk result (runs.AddsExtentsOfFile overflow.now file.now owned.old owned.new) }
 {
     push_fork(overflow, file.id, ForkKind::Data, &file.data.extents, owned)?;
     push_fork(
@@ -45,7 +44,7 @@ fn push_files(
     owned: &mut Vec<Extent>,
 ) -> Result<(), AllocError>
     requires { Rises ext_cmp overflow.now }
-    ensures { OnOk result (owned.new.items ≡ owned.old.items ++ runs.extents_of_files overflow.now files.now) }
+    ensures { OnOk result (runs.AddsExtentsOfFiles overflow.now files.now owned.old owned.new) }
 {
     for file in files {
         push_file(overflow, &file.file, owned)?;
@@ -78,7 +77,7 @@ pub fn owned_extents<N: Nodes>(
     files: &[CatalogFile],
 ) -> Result<Vec<Extent>, AllocError>
     requires { IsExtentsTree (N.nodes tree.now) }
-    ensures { OfCatalog files.now (λ c. IfOk result (λ o. o.items ≡ spec.owned_in mdb.now (N.nodes tree.now) c)) }
+    ensures { runs.GivesOwned mdb.now (N.nodes tree.now) files.now result }
 {
     let overflow = overflow_records(alloc, tree)?;
     let mut owned = Vec::new(alloc);

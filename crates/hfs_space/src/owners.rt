@@ -1,9 +1,10 @@
 //! How many own each allocation block.
-ghost use Rattle.std.specs.Prelude.{◌≡◌, ◌==◌, map, count_by, IfOk};
+ghost use Rattle.std.specs.Prelude.{◌≡◌, ◌==◌, map, count_by};
 ghost use Rattle.std.specs.List.{range_with_len};
 ghost use Rattle.hfs_space.specs.Extents.{extent_blocks};
 ghost use Rattle.hfs_space.specs.Owners as spec;
 ghost use Rattle.hfs_space.specs.Edges as edges;
+ghost use Rattle.hfs_space.specs.Results.{GivesItems};
 
 use hfs_fields::Extent;
 use std::alloc::{AllocError, Global};
@@ -34,7 +35,7 @@ fn edge_counts(
     extents: &[Extent],
     edge: Edge,
 ) -> Result<Vec<usize>, AllocError>
-    ensures { IfOk result (λ counts. counts.items ≡ edges.edge_counts edge extents.now blocks) }
+    ensures { GivesItems (edges.edge_counts edge extents.now blocks) result }
 {
     let mut counts = vec![in alloc; 0; usize::from(blocks)]?;
     for extent in extents {
@@ -53,7 +54,7 @@ pub(crate) fn owner_counts(
     blocks: u16,
     extents: &[Extent],
 ) -> Result<Vec<usize>, AllocError>
-    ensures { IfOk result (λ counts. counts.items ≡ spec.owner_counts (extent_blocks extents.now) blocks) }
+    ensures { GivesItems (spec.owner_counts (extent_blocks extents.now) blocks) result }
 {
     let first = edge_counts(alloc, blocks, extents, Edge::First)?;
     let behind = edge_counts(alloc, blocks, extents, Edge::Behind)?;

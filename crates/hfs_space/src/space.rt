@@ -1,8 +1,9 @@
 //! The check of mounting on who owns the allocation blocks.
-ghost use Rattle.std.specs.Prelude.{◌≡◌, ◌+◌, ◌<◌, ◌≤◌, ◌==◌, ◌&&◌, ◌||◌, IfOk};
-ghost use Rattle.hfs_space.specs.Bitmap.{bitmap_len, is_used, is_owned_right};
+ghost use Rattle.std.specs.Prelude.{◌≡◌, ◌+◌, ◌<◌, ◌≤◌, ◌==◌, ◌&&◌, ◌||◌};
+ghost use Rattle.hfs_space.specs.Bitmap.{bitmap_len, is_owned_right, is_stray};
 ghost use Rattle.hfs_space.specs.Extents.{extent_blocks};
 ghost use Rattle.hfs_space.specs.Faults as spec;
+ghost use Rattle.hfs_space.specs.Results.{Gives};
 
 use crate::bitmap::Bitmap;
 use crate::owners::owner_counts;
@@ -21,7 +22,7 @@ fn is_sound<B: Blocks>(bitmap: &Bitmap<'_, B>, block: u16, owners: usize) -> boo
 /// Whether a block with so many owners is marked and has none.
 fn is_stray<B: Blocks>(bitmap: &Bitmap<'_, B>, block: u16, owners: usize) -> bool
     requires { block < bitmap.now.count }
-    ensures { result ≡ (owners == 0 && is_used (B.blocks bitmap.now.blocks.now) bitmap.now.start block) }
+    ensures { result ≡ is_stray (B.blocks bitmap.now.blocks.now) bitmap.now.start block owners }
 {
     owners == 0 && bitmap.is_used(block)
 }
@@ -40,7 +41,7 @@ pub fn space_fault<B: Blocks>(
     owned: &[Extent],
 ) -> Result<Option<u32>, AllocError>
     requires { mdb.now.bitmap_start + bitmap_len mdb.now.allocation_blocks ≤ B.total blocks.now }
-    ensures { IfOk result (λ fault. fault ≡ spec.space_fault_with (B.blocks blocks.now) mdb.now owned.now) }
+    ensures { Gives (spec.space_fault_with (B.blocks blocks.now) mdb.now owned.now) result }
 {
     let bitmap = Bitmap {
         blocks,
@@ -70,7 +71,7 @@ pub fn stray_count<B: Blocks>(
     owned: &[Extent],
 ) -> Result<u32, AllocError>
     requires { mdb.now.bitmap_start + bitmap_len mdb.now.allocation_blocks ≤ B.total blocks.now }
-    ensures { IfOk result (λ strays. strays ≡ spec.strays_with (B.blocks blocks.now) mdb.now owned.now) }
+    ensures { Gives (spec.strays_with (B.blocks blocks.now) mdb.now owned.now) result }
 {
     let bitmap = Bitmap {
         blocks,

@@ -4,8 +4,7 @@ ghost use Rattle.std.specs.Prelude.{◌≡◌, ◌+◌, ◌*◌, ◌<◌, ◌≤
 ghost use Rattle.hfs_blocks.specs.Blocks.{run_of, nodes_in, AreRunsWithin};
 ghost use Rattle.hfs_space.specs.Extents.{IsExtentWithin, AreExtentsWithin};
 ghost use Rattle.hfs_space.specs.Forks.{HasArea, run_in, blocks_each};
-ghost use Rattle.std.specs.List.{flat_map};
-ghost use Rattle.hfs_space.specs.TreeFiles.{tree_nodes, tree_blocks, HoldNodes};
+ghost use Rattle.hfs_space.specs.TreeFiles.{HaveTreeBlocks, HoldTreeNodes};
 
 use hfs_blocks::{Blocks, Run};
 use hfs_fields::{Extent, Mdb};
@@ -49,8 +48,8 @@ pub fn tree_runs<B: Blocks>(
     requires area { HasArea mdb.now (B.total blocks.now) }
     requires extents { AreExtentsWithin mdb.now.allocation_blocks extents.now }
     ensures within { IfOk result (λ runs. AreRunsWithin runs.items (B.total blocks.now)) }
-    ensures numbers { IfOk result (λ runs. flat_map run_of runs.items ≡ tree_blocks mdb.now extents.now size) }
-    ensures nodes { IfOk result (λ runs. HoldNodes (B.blocks blocks.now) mdb.now extents.now size runs.items) }
+    ensures numbers { IfOk result (HaveTreeBlocks mdb.now extents.now size) }
+    ensures nodes { IfOk result (HoldTreeNodes (B.blocks blocks.now) mdb.now extents.now size) }
 {
     let mut runs = Vec::new(alloc);
     let nodes = size.div_ceil(512);

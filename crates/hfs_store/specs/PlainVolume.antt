@@ -1,10 +1,10 @@
 -- The volume that a `PlainVolume` stands for.
-use Rattle.std.specs.Prelude.{◌≡◌, ℕ, ◌+◌, ◌≤◌, List, [], ◌∷◌, length, slice_index_or, take}
+use Rattle.std.specs.Prelude.{◌≡◌, ℕ, ◌+◌, ◌≤◌, List, [], ◌∷◌, length, slice_index_or, take, Bool, ◌++◌, drop}
 use Rattle.std.specs.FinMap as map
 use Rattle.hfs_store.specs.declared.plain_volume.PlainVolume.TheInside.{Inside}
 use Rattle.hfs_model.specs.Volume.{Volume, Entry, Items}
 use Rattle.hfs_model.specs.Children.{valence}
-use Rattle.hfs_model.specs.Changes.{touched}
+use Rattle.hfs_model.specs.Changes.{touched, with_lock}
 use Rattle.hfs_model.specs.Runs.{run}
 use Rattle.hfs_model.specs.declared.call.Call.{Call}
 use Rattle.hfs_model.specs.declared.item.Item.{Item}
@@ -36,6 +36,14 @@ ItemBecomes old new at change = BecomesAt old new at (λ m e. map.insert m e.0 (
 abbrev pub with_info : Item → ℕ → ℕ → ℕ → List ℕ → Item
 with_info item created modified backup info = record item { created = created; modified = modified; backup = backup; finder = info }
 
+-- with these as the first half of its Finder bytes
+abbrev pub with_first_info : List ℕ → Item → Item
+with_first_info info item = record item { finder = info ++ drop 16 item.finder }
+
+-- a file locked or unlocked; a folder as it is
+abbrev pub with_item_lock : Bool → Item → Item
+with_item_lock locked item = record item { kind = with_lock locked item.kind }
+
 -- entries with one more at their end, whose folder is touched
 abbrev pub Gains : List Entry → List Entry → ℕ → Item → ℕ → Type 0
 Gains old new id item now = AreEntries old id → AreEntries new (id + 1)
@@ -44,6 +52,14 @@ Gains old new id item now = AreEntries old id → AreEntries new (id + 1)
 -- a volume with an item under an ID that is the last one
 abbrev pub with_last : Volume → ℕ → Item → Volume
 with_last v id item = record v { items = map.insert v.items id item; next_id = id + 1 }
+
+-- a volume with these locks
+abbrev pub with_locks : Bool → Bool → Volume → Volume
+with_locks hardware software v = record v { hardware_locked = hardware; software_locked = software }
+
+-- the folder with that ID has one child more
+abbrev pub HasOneMore : List Entry → List Entry → ℕ → Type 0
+HasOneMore old new dir = valence new dir ≡ valence old dir + 1
 
 -- a volume after some first ones of the calls
 abbrev pub HasMadeSome : Volume → Volume → List Call → Type 0

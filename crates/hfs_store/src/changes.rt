@@ -1,11 +1,10 @@
 //! Changes of the list of items.
-ghost use Rattle.std.specs.Prelude.{◌≡◌, ◌<◌, ◌++◌, drop, length, OnOk, OnErr};
+ghost use Rattle.std.specs.Prelude.{◌≡◌, ◌<◌, length, OnOk, OnErr};
 ghost use Rattle.std.specs.FinMap as map;
-ghost use Rattle.hfs_model.specs.Volume.{Entry};
-ghost use Rattle.hfs_model.specs.Changes.{touched, moved, with_lock};
+ghost use Rattle.hfs_model.specs.Changes.{touched, moved};
 ghost use Rattle.hfs_model.specs.FileIds.{with_thread_bit, set_thread};
 ghost use Rattle.hfs_model.specs.Children.{valence};
-ghost use Rattle.hfs_store.specs.PlainVolume.{Becomes, BecomesAt, ItemBecomes, Gains, with_info};
+ghost use Rattle.hfs_store.specs.PlainVolume.{Becomes, BecomesAt, ItemBecomes, Gains, with_info, with_first_info, with_item_lock};
 
 use crate::entries::place_of;
 use hfs_fields::{FileFlags, Name};
@@ -69,7 +68,7 @@ pub fn rename_item(items: &mut Vec<(u32, Item)>, at: usize, name: Name)
 /// Sets the first half of an item's Finder bytes.
 pub fn set_finder(items: &mut Vec<(u32, Item)>, at: usize, info: &[u8; 16])
     requires { at < length items.old.items }
-    ensures { ItemBecomes items.old.items items.new.items at (λ i. record i { finder = info.now ++ drop 16 i.finder }) }
+    ensures { ItemBecomes items.old.items items.new.items at (with_first_info info.now) }
 {
     items[at].1.finder[..16].copy_from_slice(info);
 }
@@ -96,7 +95,7 @@ pub fn set_info(
 /// Locks or unlocks a file.
 pub fn set_lock(items: &mut Vec<(u32, Item)>, at: usize, locked: bool)
     requires { at < length items.old.items }
-    ensures { ItemBecomes items.old.items items.new.items at (λ i. record i { kind = with_lock locked i.kind }) }
+    ensures { ItemBecomes items.old.items items.new.items at (with_item_lock locked) }
 {
     if let Kind::File(file) = &mut items[at].1.kind {
         file.locked = locked;

@@ -1,5 +1,5 @@
 //! A plain, slow volume in memory, which answers every call exactly as the definitions say.
-ghost use Rattle.std.specs.Prelude.{◌≡◌, ℕ, ◌+◌, ◌<◌, ◌≤◌, false, IsTrue, Ok, IfOk, OnOk, OnErr, length, take};
+ghost use Rattle.std.specs.Prelude.{◌≡◌, ℕ, ◌+◌, ◌<◌, ◌≤◌, false, IsTrue, Ok, IfOk, OnOk, OnErr};
 ghost use Rattle.std.specs.FinMap as map;
 ghost use Rattle.hfs_model.specs.Runs.{run};
 ghost use Rattle.hfs_model.specs.Children.{entries_of, valence};
@@ -9,7 +9,7 @@ ghost use Rattle.hfs_model.specs.Changes.{delete, rename, cat_move, create, set_
 ghost use Rattle.hfs_model.specs.FileIds.{to_create_file_id, to_delete_file_id, create_file_id, delete_file_id, resolve_file_id};
 ghost use Rattle.hfs_model.specs.Step.{step, is_reading, new_volume};
 ghost use Rattle.hfs_store.specs.Setting.{is_setting};
-ghost use Rattle.hfs_store.specs.PlainVolume.{HasMadeSome, with_last};
+ghost use Rattle.hfs_store.specs.PlainVolume.{HasMadeSome, with_last, with_locks, HasOneMore};
 ghost use Rattle.hfs_fields.specs.Names.{is_item_name};
 ghost use Rattle.hfs_store.specs.Found.{IsPlaceOf};
 
@@ -87,7 +87,7 @@ impl PlainVolume {
         requires last { id < 4294967295 }
         requires room { valence (entries_of self.old) item.parent < 65535 }
         ensures laid { OnOk result (self.new ≡ with_last self.old id item) }
-        ensures counted { OnOk result (valence (entries_of self.new) item.parent ≡ valence (entries_of self.old) item.parent + 1) }
+        ensures counted { OnOk result (HasOneMore (entries_of self.old) (entries_of self.new) item.parent) }
         ensures err { OnErr result (self.new ≡ self.old) }
     {
         let next_id = id + 1;
@@ -98,7 +98,7 @@ impl PlainVolume {
 
     /// Sets the two locks.
     pub fn set_locks(&mut self, hardware: bool, software: bool)
-        ensures { self.new ≡ record self.old { hardware_locked = hardware; software_locked = software } }
+        ensures { self.new ≡ with_locks hardware software self.old }
     {
         self.hardware_locked = hardware;
         self.software_locked = software;

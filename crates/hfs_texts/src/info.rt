@@ -1,7 +1,7 @@
 //! The lines of a master directory block, one for each field.
-ghost use Rattle.std.specs.Prelude.{◌≡◌, ◌≢◌, ◌++◌, ◌<◌, ℕ, List, OnOk, IfOk, OnErr, IsErrOf, length, string_bytes};
+ghost use Rattle.std.specs.Prelude.{◌≡◌, ◌≢◌, ◌<◌, ℕ, List, OnOk, IfOk, OnErr, IsErrOf, length, string_bytes};
 ghost use Rattle.std.specs.Io.KnownBytes.{Appends, Consumes, IsAtEnd};
-ghost use Rattle.hfs_texts.specs.Reading.{GaveHead, HasSignature, info_text};
+ghost use Rattle.hfs_texts.specs.Reading.{GaveHead, HasSignature, info_text, GaveFewer};
 ghost use Rattle.hfs_texts.specs.Writing.{AppendsFront};
 ghost use Rattle.hfs_texts.specs.Info.{first_lines, middle_lines, last_lines, info_lines};
 ghost use Rattle.hfs_texts.specs.Texts.{Gains};
@@ -57,8 +57,7 @@ pub fn run_info<R: Read, W: Write>(
     ensures no_mac_disk { IsErrOf result InfoFault.NoMacDisk → (head : List ℕ)
         × GaveHead (R.remaining reader.old) (R.remaining reader.new) head × ¬ HasSignature head }
     // The reader failed before that.
-    ensures read_failed { IsErrOf result InfoFault.ReadFailed → (read : List ℕ) × (length read < 1536)
-        × Consumes (R.remaining reader.old) (R.remaining reader.new) read }
+    ensures read_failed { IsErrOf result InfoFault.ReadFailed → GaveFewer (R.remaining reader.old) (R.remaining reader.new) 1536 }
     // The volume is read and signed, and only its lines failed: a part of them was written, from the first on.
     ensures write_failed { IsErrOf result InfoFault.WriteFailed → (head : List ℕ)
         × GaveHead (R.remaining reader.old) (R.remaining reader.new) head × HasSignature head

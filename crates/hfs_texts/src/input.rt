@@ -102,8 +102,7 @@ fn load_more<R: Read>(reader: &mut R, bytes: &mut Vec<u8>, room: usize) -> Resul
         × Consumes (R.remaining reader.old) (R.remaining reader.new) more × (bytes.new.items ≡ bytes.old.items ++ more)) }
     ensures ended { result ≡ Ok true → IsAtEnd (R.remaining reader.new) }
     ensures goes_on { result ≡ Ok false → vec_len bytes.new ≡ vec_len bytes.old + room }
-    ensures err { OnErr result ((more : List ℕ) × (length more ≤ room)
-        × Consumes (R.remaining reader.old) (R.remaining reader.new) more) }
+    ensures err { OnErr result (GaveAtMost (R.remaining reader.old) (R.remaining reader.new) room) }
     ensures not_large { IsErrOf result LoadFault.TooLarge → ⊥ }
 {
     let start = bytes.len();

@@ -1,5 +1,5 @@
 -- The rows that a catalog's records make.
-use Rattle.std.specs.Prelude.{◌≡◌, ℕ, Bool, IsTrue, nat_eq, List, Some}
+use Rattle.std.specs.Prelude.{◌≡◌, ℕ, Bool, IsTrue, nat_eq, List, ◌∷◌, Some}
 use Rattle.std.specs.List.{list_any}
 use Rattle.std.specs.Ordering.{nat_cmp}
 use Rattle.std.specs.Option.{option_map}
@@ -11,7 +11,7 @@ use Rattle.hfs_fields.specs.Records.{is_dir, is_file, item_id, is_bit_set, dir_r
 use Rattle.hfs_model.specs.declared.item.Item.{Item}
 use Rattle.hfs_model.specs.Volume.{Items}
 use Rattle.hfs_model.specs.Children.{valence}
-use Rattle.hfs_catalog.specs.Records.{Record, Catalog, item_with}
+use Rattle.hfs_catalog.specs.Records.{Record, Catalog, item_with, has_thread}
 use Rattle.hfs_catalog.specs.Items.{Contents}
 use Rattle.hfs_catalog.specs.Items as records
 use Rattle.hfs_catalog.specs.Lookups.{child_named}
@@ -30,11 +30,23 @@ use Rattle.hfs_item_table.specs.Tables.{item_of, IsKindOf}
 abbrev pub has_number : List ℕ → ℕ → Bool
 has_number numbers id = list_any (nat_eq id) numbers
 
+-- these are the IDs of which the records have a thread
+abbrev pub AreThreadsOf : Catalog → List ℕ → Type 0
+AreThreadsOf catalog numbers = (id : ℕ) → has_number numbers id ≡ has_thread catalog id
+
+-- the catalog's records in an image
+abbrev pub image_catalog : List ℕ → Catalog
+image_catalog image = catalog_in (block_at image)
+
 -- a record of an image: a folder's has the number of its children; a file's forks lie in the volume, and are the base's
 pub record IsRight (base image : List ℕ) (items : Items) (r : Record) : Type 0 where
   pub valence_is : IsTrue (is_dir r.1) → (dir_record_of r.1).valence ≡ valence (finite.entries items) (item_id r.1)
   pub forks : IsTrue (is_file r.1) → AreForksIn (block_at image) (file_record_of r.1)
   pub stay : IsTrue (is_file r.1) → ForksStay base image (file_record_of r.1)
+
+-- a record of an image, as its volume is
+abbrev pub IsRightIn : List ℕ → List ℕ → Record → Type 0
+IsRightIn base image r = IsRight base image (volume_of image).items r
 
 -- the row shows this item, and has its children's number or forks that lie in the volume
 pub record Shows (base : List ℕ) (mdb : Mdb) (items : Items) (id : ℕ) (item : Item) (row : Row) : Type 0 where
@@ -60,6 +72,10 @@ pub record AreRows (base : List ℕ) (mdb : Mdb) (items : Items) (contents : Con
 abbrev pub AreRowsOf : List ℕ → List ℕ → Catalog → Maps → Type 0
 AreRowsOf base image done maps =
     AreRows base (mdb_in (block_at image)) (volume_of image).items (contents_in (block_at image)) (catalog_in (block_at image)) done maps
+
+-- the row of one record more, where the record is an item's
+abbrev pub TakesIn : List ℕ → List ℕ → Record → Maps → Maps → Type 0
+TakesIn base image r old new = (done : Catalog) → AreRowsOf base image done old → AreRowsOf base image (r ∷ done) new
 
 -- the table of these rows, in a volume whose master directory block this is
 abbrev pub table_over : List ℕ → Mdb → Maps → Table

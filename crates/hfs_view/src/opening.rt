@@ -1,20 +1,18 @@
 //! The rows of a volume's catalog.
-ghost use Rattle.std.specs.Prelude.{◌≡◌, ℕ, [], ◌∷◌, ◌++◌, Bool, List, IfOk, OnOk};
+ghost use Rattle.std.specs.Prelude.{◌≡◌, ℕ, [], ◌∷◌, ◌++◌, List, IfOk, OnOk};
 ghost use Rattle.std.specs.FinMap as finite;
-ghost use Rattle.std.specs.BTreeMap as tree;
 ghost use Rattle.hfs_fields.specs.declared.mdb.Mdb.{Mdb};
-ghost use Rattle.hfs_fields.specs.Records.{is_item, item_id};
 ghost use Rattle.hfs_blocks.specs.Blocks.{block_at};
 ghost use Rattle.hfs_scans.specs.Each.{Each};
 ghost use Rattle.hfs_catalog.specs.Items as records;
 ghost use Rattle.hfs_catalog.specs.Items.{folder_kept, folder_of, file_of};
-ghost use Rattle.hfs_catalog.specs.Records.{Catalog, has_thread};
+ghost use Rattle.hfs_catalog.specs.Records.{has_thread};
 ghost use Rattle.hfs_check.specs.Parts.{mdb_in, catalog_in};
-ghost use Rattle.hfs_check.specs.VolumeOf.{contents_in, volume_of};
+ghost use Rattle.hfs_check.specs.VolumeOf.{contents_in};
 ghost use Rattle.hfs_model.specs.Volume.{Items};
 ghost use Rattle.hfs_volume.specs.Mounted.{fork_record, AreForksIn};
 ghost use Rattle.hfs_volume.specs.Sharing.{file_extents, ForksStay};
-ghost use Rattle.hfs_view.specs.Opened.{has_number, IsRight, Enters, AreRowsOf, table_over};
+ghost use Rattle.hfs_view.specs.Opened.{Enters, AreRowsOf, table_over, AreThreadsOf, image_catalog, IsRightIn, TakesIn};
 ghost use Rattle.hfs_model.specs.Children.{valence};
 ghost use Rattle.hfs_item_table.specs.Tables.{item_of, IsKindOf};
 
@@ -135,9 +133,9 @@ impl Maps {
         threads: &ThreadIds,
         entry: &CatalogRecord,
     ) -> Result<(), AllocError>
-        requires right { IsRight volume.now.base volume.now.current (volume_of volume.now.current).items entry.now }
-        requires threads { (id : ℕ) → has_number threads.now id ≡ has_thread (catalog_in (block_at volume.now.current)) id }
-        ensures { OnOk result ((done : Catalog) → AreRowsOf volume.now.base volume.now.current done self.old → AreRowsOf volume.now.base volume.now.current (entry.now ∷ done) self.new) }
+        requires right { IsRightIn volume.now.base volume.now.current entry.now }
+        requires threads { AreThreadsOf (image_catalog volume.now.current) threads.now }
+        ensures { OnOk result (TakesIn volume.now.base volume.now.current entry.now self.old self.new) }
     {
         let key = entry.key();
         let body = entry.body();
@@ -165,9 +163,9 @@ impl Maps {
         records: Vec<CatalogRecord>,
     ) -> Result<Maps, AllocError>
         requires records { records.items ≡ catalog_in (block_at volume.now.current) }
-        requires right { Each (IsRight volume.now.base volume.now.current (volume_of volume.now.current).items) (catalog_in (block_at volume.now.current)) }
-        requires threads { (id : ℕ) → has_number threads.now id ≡ has_thread (catalog_in (block_at volume.now.current)) id }
-        ensures { IfOk result (AreRowsOf volume.now.base volume.now.current (catalog_in (block_at volume.now.current))) }
+        requires right { Each (IsRightIn volume.now.base volume.now.current) (image_catalog volume.now.current) }
+        requires threads { AreThreadsOf (image_catalog volume.now.current) threads.now }
+        ensures { IfOk result (AreRowsOf volume.now.base volume.now.current (image_catalog volume.now.current)) }
     {
         let mut records = records;
         let mut maps = Maps {

@@ -1,7 +1,7 @@
 //! The IDs of which a catalog has a thread record.
 ghost use Rattle.std.specs.Prelude.{◌≡◌, ℕ, ◌||◌, nat_eq, OnOk, IfOk};
-ghost use Rattle.hfs_catalog.specs.Records.{has_thread, is_thread_of};
-ghost use Rattle.hfs_view.specs.Opened.{has_number};
+ghost use Rattle.hfs_catalog.specs.Records.{is_thread_of};
+ghost use Rattle.hfs_view.specs.Opened.{has_number, AreThreadsOf};
 
 use hfs_catalog::{CatalogRecord, is_thread};
 use std::alloc::{AllocError, Global};
@@ -25,7 +25,7 @@ impl Model for ThreadIds {
 impl ThreadIds {
     /// The IDs of the threads among these records, each of which is read once. The only error is want of memory.
     pub fn of(alloc: Global, records: &[CatalogRecord]) -> Result<ThreadIds, AllocError>
-        ensures { IfOk result (λ threads. (id : ℕ) → has_number threads id ≡ has_thread records.now id) }
+        ensures { IfOk result (AreThreadsOf records.now) }
     {
         let mut threads = ThreadIds {
             ids: BTreeSet::new(alloc),

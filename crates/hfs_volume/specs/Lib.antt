@@ -8,3 +8,4 @@ pub mod Layout
 pub mod Sharing
 pub mod Serving
 pub mod Steps
+pub mod ForkParts

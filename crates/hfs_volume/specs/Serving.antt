@@ -6,7 +6,14 @@ use Rattle.hfs_model.specs.declared.call.Call.{Call}
 use Rattle.hfs_model.specs.Changes.{Outcome}
 use Rattle.hfs_model.specs.Need.{step_within}
 use Rattle.hfs_check.specs.Parts.{catalog_nodes}
-use Rattle.hfs_check.specs.VolumeOf.{volume_of}
+use Rattle.hfs_check.specs.VolumeOf.{volume_of, contents_in}
+use Rattle.hfs_fields.specs.declared.file_record.FileRecord.{FileRecord}
+use Rattle.hfs_model.specs.declared.call.Fork.{Fork}
+use Rattle.hfs_model.specs.Children.{entries_of}
+use Rattle.hfs_model.specs.Volume.{Entry}
+use Rattle.hfs_catalog.specs.Records.{Catalog}
+use Rattle.hfs_queries.specs.Queries.{AreEntries}
+use Rattle.hfs_queries.specs.Told.{pick}
 
 -- the free nodes of the image's catalog tree
 abbrev pub free_in : List ℕ → ℕ
@@ -19,3 +26,17 @@ depth_in image = depth_of (catalog_nodes (block_at image))
 -- what the call makes of the image's volume, and answers, with the nodes that the catalog has
 abbrev pub outcome_in : List ℕ → Call → Outcome
 outcome_in image c = step_within (free_in image) (depth_in image) (volume_of image) c
+
+-- ---- what it answers a reader
+
+-- the entries of the image's volume
+abbrev pub entries_in : List ℕ → List Entry
+entries_in image = entries_of (volume_of image)
+
+-- the bytes that one of a file's forks has in the image
+abbrev pub fork_in : List ℕ → Fork → FileRecord → List ℕ
+fork_in image fork file = pick fork (contents_in (block_at image) file)
+
+-- the records answer the queries of the image's entries
+abbrev pub AreEntriesIn : List ℕ → Catalog → Type 0
+AreEntriesIn image catalog = AreEntries (contents_in (block_at image)) catalog (entries_in image)

@@ -60,3 +60,7 @@ bytes_of_extents image es = all_bytes (block_at image) (mdb_in (block_at image))
 -- their bytes in a base begin with those of a fork of the file of that ID
 abbrev pub HaveFork : List ℕ → Volume → ℕ → Fork → List Extent → Type 0
 HaveFork base v id fork es = (file : File) → HasFile v id file → fork_of fork file ≡ take (length (fork_of fork file)) (bytes_of_extents base es)
+
+-- these extents lie in the volume of an image
+abbrev pub AreExtentsIn : List ℕ → List Extent → Type 0
+AreExtentsIn image es = extents.AreExtentsWithin (mdb_in (block_at image)).allocation_blocks es

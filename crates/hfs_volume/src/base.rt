@@ -1,12 +1,9 @@
 //! Bytes that never change, shared by those who read them.
 
 ghost use Rattle.std.specs.Prelude.{◌≡◌, ◌≤◌, length, IfOk, IfErr};
-ghost use Rattle.hfs_blocks.specs.Blocks.{block_at};
-ghost use Rattle.hfs_space.specs.Extents.{AreExtentsWithin};
 ghost use Rattle.hfs_space.specs.Forks.{read_from};
-ghost use Rattle.hfs_check.specs.Parts.{mdb_in};
 ghost use Rattle.hfs_check.specs.Sound.{IsSound};
-ghost use Rattle.hfs_volume.specs.Sharing.{bytes_of_extents};
+ghost use Rattle.hfs_volume.specs.Sharing.{bytes_of_extents, AreExtentsIn};
 
 use crate::extent_bytes::read_extents;
 use hfs_blocks::ImageBytes;
@@ -63,7 +60,7 @@ impl Base {
         count: u32,
     ) -> Result<Vec<u8>, AllocError>
         requires sound { IsSound self.now }
-        requires extents { AreExtentsWithin (mdb_in (block_at self.now)).allocation_blocks extents.now }
+        requires extents { AreExtentsIn self.now extents.now }
         ensures { IfOk result (λ bytes. bytes.items ≡ read_from (bytes_of_extents self.now extents.now) offset count) }
     {
         let blocks = ImageBytes {

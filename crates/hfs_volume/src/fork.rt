@@ -1,14 +1,12 @@
 //! A part of a file's fork.
 
-ghost use Rattle.std.specs.Prelude.{◌≡◌, pos, ◌+◌, ◌%◌, nat_lt, if◌then◌else◌, IfOk};
+ghost use Rattle.std.specs.Prelude.{◌≡◌, ◌+◌, ◌%◌, IfOk};
 ghost use Rattle.hfs_model.specs.declared.codes.TheConstants.{END_OF_FILE};
-ghost use Rattle.hfs_model.specs.declared.reply.Value.TheVariants as value;
 ghost use Rattle.hfs_model.specs.Reading.{part_of};
-ghost use Rattle.hfs_space.specs.Extents as extents;
-ghost use Rattle.hfs_space.specs.Forks.{HasArea, fork_bytes};
-ghost use Rattle.hfs_space.specs.Sound.{IsForkSound};
-ghost use Rattle.hfs_space.specs.TreeKeys.{IsExtentsTree, overflow_of};
+ghost use Rattle.hfs_space.specs.Forks.{HasArea};
+ghost use Rattle.hfs_space.specs.TreeKeys.{IsExtentsTree};
 ghost use Rattle.hfs_volume.specs.Mounted.{fork_record};
+ghost use Rattle.hfs_volume.specs.ForkParts.{IsForkOf, bytes_of_fork, part_reply};
 
 use hfs_blocks::Blocks;
 use hfs_btree::Nodes;
@@ -20,7 +18,7 @@ use std::alloc::{AllocError, Global};
 /// The reply of these bytes, which were read from an offset on of a fork that has `length` bytes: -39 where `count` of them
 /// end behind the fork.
 fn part_reply(bytes: Vec<u8>, length: u32, offset: u32, count: u32) -> Reply
-    ensures { result ≡ record { code = if nat_lt length (offset + count) then END_OF_FILE else pos 0; value = value.Bytes bytes.items } }
+    ensures { result ≡ part_reply bytes.items length offset count }
 {
     let code = if u64::from(length) < u64::from(offset) + u64::from(count) {
         END_OF_FILE
@@ -49,8 +47,8 @@ pub(crate) fn read_part<B: Blocks, N: Nodes>(
     requires area { HasArea mdb.now (B.total blocks.now) }
     requires whole_size { mdb.now.allocation_block_size % 512 ≡ 0 }
     requires tree { IsExtentsTree (N.nodes tree.now) }
-    requires fork { IsForkSound mdb.now (overflow_of (N.nodes tree.now)) (record { file = file; fork = extents.fork_byte kind; len = fork.now.length; first = fork.now.extents }) }
-    ensures { IfOk result (λ reply. reply ≡ part_of (fork_bytes (B.blocks blocks.now) mdb.now (extents.fork_extents (overflow_of (N.nodes tree.now)) file (extents.fork_byte kind) fork.now.extents) fork.now.length) offset count) }
+    requires fork { IsForkOf mdb.now (N.nodes tree.now) file kind fork.now }
+    ensures { IfOk result (λ reply. reply ≡ part_of (bytes_of_fork (B.blocks blocks.now) mdb.now (N.nodes tree.now) file kind fork.now) offset count) }
 {
     let extents = fork_extents(alloc, tree, file, kind, &fork.extents)?;
     let bytes = read_fork(alloc, blocks, mdb, &extents, fork.length, offset, count)?;

@@ -2,10 +2,9 @@
 
 ghost use Rattle.std.specs.Prelude.{◌≡◌, ◌%◌, length, take, drop, IfOk, OnOk, OnErr};
 ghost use Rattle.hfs_blocks.specs.Blocks.{block_at, block_count};
-ghost use Rattle.hfs_space.specs.Extents as extents;
-ghost use Rattle.hfs_space.specs.Forks.{HasArea, fork_bytes};
-ghost use Rattle.hfs_space.specs.Sound.{IsForkSound};
-ghost use Rattle.hfs_space.specs.TreeKeys.{IsExtentsTree, overflow_of};
+ghost use Rattle.hfs_space.specs.Forks.{HasArea};
+ghost use Rattle.hfs_space.specs.TreeKeys.{IsExtentsTree};
+ghost use Rattle.hfs_volume.specs.ForkParts.{IsForkOf, bytes_of_fork};
 
 use crate::image::ImageBlocks;
 use hfs_btree::Nodes;
@@ -63,8 +62,8 @@ impl<'a> OpenFork<'a> {
         requires area { HasArea mdb.now (block_count blocks.image.now.current) }
         requires whole_size { mdb.now.allocation_block_size % 512 ≡ 0 }
         requires tree { IsExtentsTree (N.nodes tree.now) }
-        requires fork { IsForkSound mdb.now (overflow_of (N.nodes tree.now)) (record { file = file; fork = extents.fork_byte kind; len = fork.now.length; first = fork.now.extents }) }
-        ensures { IfOk result (λ source. source ≡ fork_bytes (block_at blocks.entry.image.now.current) mdb.now (extents.fork_extents (overflow_of (N.nodes tree.now)) file (extents.fork_byte kind) fork.now.extents) fork.now.length) }
+        requires fork { IsForkOf mdb.now (N.nodes tree.now) file kind fork.now }
+        ensures { IfOk result (λ source. source ≡ bytes_of_fork (block_at blocks.entry.image.now.current) mdb.now (N.nodes tree.now) file kind fork.now) }
     {
         let extents = fork_extents(alloc, tree, file, kind, &fork.extents)?;
         Ok(OpenFork {

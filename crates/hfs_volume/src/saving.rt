@@ -1,11 +1,11 @@
 //! Writing an image to any writer, which takes no memory.
 
-ghost use Rattle.std.specs.Prelude.{◌≡◌, ℕ, ◌-◌, ◌*◌, ◌<◌, ◌≤◌, take, drop, OnOk, IfErr, is_some, false, IsSome};
+ghost use Rattle.std.specs.Prelude.{◌≡◌, ℕ, ◌-◌, ◌*◌, ◌<◌, ◌≤◌, OnOk, IfErr, is_some, false, IsSome};
 ghost use Rattle.std.specs.Io.KnownBytes.{Appends};
 ghost use Rattle.hfs_blocks.specs.Blocks.{block_count};
 ghost use Rattle.hfs_blocks.specs.Layers.{changes, AreWithin};
 ghost use Rattle.hfs_volume.specs.Laid.{laid_over};
-ghost use Rattle.hfs_volume.specs.Saving.{HasWritten};
+ghost use Rattle.hfs_volume.specs.Saving.{HasWritten, bytes_between};
 
 use hfs_blocks::Patch;
 use std::io::{ErrorKind, Write};
@@ -65,7 +65,7 @@ fn piece<'a>(changed: &'a Patch, base: &'a [u8], n: u32, count: u32) -> (&'a [u8
     requires within { AreWithin (changes changed.now) (block_count base.now) }
     ensures after { n < result.1 }
     ensures within { result.1 ≤ count }
-    ensures bytes { result.0.now ≡ take (512 * (result.1 - n)) (drop (512 * n) (laid_over (changes changed.now) base.now)) }
+    ensures bytes { result.0.now ≡ bytes_between n result.1 (laid_over (changes changed.now) base.now) }
 {
     let end = next_changed(changed, n, count);
     if n < end {

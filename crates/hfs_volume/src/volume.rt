@@ -3,7 +3,6 @@
 ghost use Rattle.std.specs.Prelude.{◌≡◌, ◌≢◌, pos, length, nat_eq, false, IsTrue, Ok, IfOk, IfErr, OnOk, OnErr};
 ghost use Rattle.std.specs.Io.KnownBytes.{Appends};
 ghost use Rattle.std.specs.List.{IsDistinct};
-ghost use Rattle.hfs_model.specs.Children.{entries_of};
 ghost use Rattle.hfs_model.specs.Reading.{get_dir_info, get_cat_info, get_indexed, list, read_fork, part_of};
 ghost use Rattle.hfs_model.specs.FileIds.{resolve_file_id};
 ghost use Rattle.hfs_model.specs.Replies.{success};
@@ -11,16 +10,15 @@ ghost use Rattle.hfs_model.specs.Step.{step, is_reading};
 ghost use Rattle.hfs_catalog.specs.Tree.{catalog_of};
 ghost use Rattle.hfs_check.specs.Parts.{catalog_in, extents_nodes};
 ghost use Rattle.hfs_check.specs.Sound.{IsSound};
-ghost use Rattle.hfs_check.specs.VolumeOf.{contents_in, volume_of};
+ghost use Rattle.hfs_check.specs.VolumeOf.{volume_of};
 ghost use Rattle.hfs_blocks.specs.Blocks.{block_at};
 ghost use Rattle.hfs_queries.specs.Brief.{without_ids};
 ghost use Rattle.hfs_volume.specs.Image.{IsSameBeside};
 ghost use Rattle.hfs_volume.specs.Opening.{opened_fork};
-ghost use Rattle.hfs_queries.specs.Queries.{AreEntries};
 ghost use Rattle.hfs_volume.specs.Saving.{HasWritten};
-ghost use Rattle.hfs_volume.specs.Serving.{outcome_in};
-ghost use Rattle.hfs_volume.specs.Steps.{IsEditIn, IsAfter, IsOutcome, AreMade};
-ghost use Rattle.hfs_queries.specs.Told.{IsCatalog, pick};
+ghost use Rattle.hfs_volume.specs.Serving.{AreEntriesIn, entries_in, fork_in};
+ghost use Rattle.hfs_volume.specs.Steps.{IsEditIn, IsAfter, IsOutcome, AreMade, IsMade};
+ghost use Rattle.hfs_queries.specs.Told.{IsCatalog};
 ghost use Rattle.hfs_volume.specs.Mounted.{IsMounted, AreForksIn};
 
 use crate::fork::{fork_record, read_part};
@@ -120,7 +118,7 @@ impl Volume {
     ///
     /// Source: Inside Macintosh: Files, chapter 2, "High-Level HFS Routines" and "Low-Level HFS Routines".
     pub fn call(&mut self, alloc: Global, call: &Call) -> Result<Reply, AllocError>
-        ensures outcome { IfOk result (λ reply. (volume_of self.new.current, reply) ≡ outcome_in self.old.current call.now) }
+        ensures outcome { IfOk result (λ reply. IsMade self.old.current call.now reply self.new.current) }
         ensures refused { IfOk result (λ reply. reply.code ≢ pos 0 → self.new ≡ self.old) }
         ensures reading { IsTrue (is_reading call.now) → self.new ≡ self.old }
         ensures unchanged { OnErr result (self.new.current ≡ self.old.current) }
@@ -151,7 +149,7 @@ impl Volume {
 
     /// What is told of the folder of that ID: -120 where it isn't the ID of a folder. Takes no memory.
     pub fn get_dir_info(&self, dir: u32) -> Reply
-        ensures { result ≡ get_dir_info (entries_of (volume_of self.now.current)) dir }
+        ensures { result ≡ get_dir_info (entries_in self.now.current) dir }
     {
         queries::get_dir_info(&self.catalog_nodes(), dir)
     }
@@ -159,7 +157,7 @@ impl Volume {
     /// What is told of the folder's item of that name, whatever its case: -37 where the name isn't an item name, -120 where
     /// `dir` isn't the ID of a folder, -43 where it holds no item of that name. Takes no memory.
     pub fn get_cat_info(&self, dir: u32, name: &[u8]) -> Reply
-        ensures { result ≡ get_cat_info (entries_of (volume_of self.now.current)) dir name.now }
+        ensures { result ≡ get_cat_info (entries_in self.now.current) dir name.now }
     {
         queries::get_cat_info(&self.catalog_nodes(), dir, name)
     }
@@ -167,7 +165,7 @@ impl Volume {
     /// What is told of the folder's child at that place in name order, counted from 1: -50 where `index` is 0, -120 where
     /// `dir` isn't the ID of a folder, -43 where the folder has fewer children. Takes no memory.
     pub fn get_indexed(&self, dir: u32, index: u32) -> Reply
-        ensures { result ≡ get_indexed (entries_of (volume_of self.now.current)) dir index }
+        ensures { result ≡ get_indexed (entries_in self.now.current) dir index }
     {
         queries::get_indexed(&self.catalog_nodes(), dir, index)
     }
@@ -175,7 +173,7 @@ impl Volume {
     /// What is told of all the folder's children, in name order: -120 where `dir` isn't the ID of a folder. The only error
     /// is want of memory.
     pub fn list(&self, alloc: Global, dir: u32) -> Result<Reply, AllocError>
-        ensures { IfOk result (λ reply. reply ≡ list (entries_of (volume_of self.now.current)) dir) }
+        ensures { IfOk result (λ reply. reply ≡ list (entries_in self.now.current) dir) }
     {
         queries::list(alloc, &self.catalog_nodes(), dir, Detail::Full)
     }
@@ -183,7 +181,7 @@ impl Volume {
     /// The reply to `list` with `has_id` false in each item: no thread is looked up, which is most of the work of `list`. The
     /// only error is want of memory.
     pub fn list_in_brief(&self, alloc: Global, dir: u32) -> Result<Reply, AllocError>
-        ensures { IfOk result (λ reply. reply ≡ without_ids (list (entries_of (volume_of self.now.current)) dir)) }
+        ensures { IfOk result (λ reply. reply ≡ without_ids (list (entries_in self.now.current) dir)) }
     {
         queries::list(alloc, &self.catalog_nodes(), dir, Detail::Brief)
     }
@@ -191,7 +189,7 @@ impl Volume {
     /// The folder and the name of the file of that ID: -1302 where it is the ID of a folder, -1300 where no file of that ID has a
     /// thread. Takes no memory.
     pub fn resolve_file_id(&self, id: u32) -> Reply
-        ensures { result ≡ resolve_file_id (entries_of (volume_of self.now.current)) id }
+        ensures { result ≡ resolve_file_id (entries_in self.now.current) id }
     {
         queries::resolve_file_id(&self.catalog_nodes(), id)
     }
@@ -208,7 +206,7 @@ impl Volume {
         offset: u32,
         count: u32,
     ) -> Result<Reply, AllocError>
-        ensures { IfOk result (λ reply. reply ≡ read_fork (entries_of (volume_of self.now.current)) dir name.now fork offset count) }
+        ensures { IfOk result (λ reply. reply ≡ read_fork (entries_in self.now.current) dir name.now fork offset count) }
     {
         if count > 65536 {
             return Ok(refusal(PARAMETER));
@@ -229,7 +227,7 @@ impl Volume {
         count: u32,
     ) -> Result<Reply, AllocError>
         requires { AreForksIn (block_at self.now.current) file.now }
-        ensures { IfOk result (λ reply. reply ≡ part_of (pick fork (contents_in (block_at self.now.current) file.now)) offset count) }
+        ensures { IfOk result (λ reply. reply ≡ part_of (fork_in self.now.current fork file.now) offset count) }
     {
         trees_are_sound();
         let (kind, record) = fork_record(file, fork);
@@ -255,7 +253,7 @@ impl Volume {
         name: &[u8],
         fork: Fork,
     ) -> Result<Opened<'_>, AllocError>
-        ensures { IfOk result (λ opened. opened ≡ opened_fork (entries_of (volume_of self.now.current)) dir name.now fork) }
+        ensures { IfOk result (λ opened. opened ≡ opened_fork (entries_in self.now.current) dir name.now fork) }
     {
         match queries::file_named(&self.catalog_nodes(), dir, name) {
             Ok(file) => Ok(Opened::Fork(self.open_file(alloc, &file, fork)?)),
@@ -271,7 +269,7 @@ impl Volume {
         fork: Fork,
     ) -> Result<OpenFork<'_>, AllocError>
         requires { AreForksIn (block_at self.now.current) file.now }
-        ensures { IfOk result (λ source. source ≡ pick fork (contents_in (block_at self.now.current) file.now)) }
+        ensures { IfOk result (λ source. source ≡ fork_in self.now.current fork file.now) }
     {
         trees_are_sound();
         let (kind, record) = fork_record(file, fork);
@@ -308,7 +306,7 @@ impl Volume {
     /// Answers a call that changes the volume.
     fn change(&mut self, alloc: Global, call: &Call) -> Result<Reply, AllocError>
         requires { is_reading call.now ≡ false }
-        ensures outcome { IfOk result (λ reply. (volume_of self.new.current, reply) ≡ outcome_in self.old.current call.now) }
+        ensures outcome { IfOk result (λ reply. IsMade self.old.current call.now reply self.new.current) }
         ensures refused { IfOk result (λ reply. reply.code ≢ pos 0 → self.new ≡ self.old) }
         ensures unchanged { OnErr result (self.new.current ≡ self.old.current) }
         ensures base { self.new.base ≡ self.old.base }
@@ -358,7 +356,7 @@ impl Volume {
         ensures sound { IsSound self.now.current }
         ensures catalog { IsCatalog result }
         ensures content { catalog_of result ≡ catalog_in (block_at self.now.current) }
-        ensures entries { AreEntries (contents_in (block_at self.now.current)) (catalog_of result) (entries_of (volume_of self.now.current)) }
+        ensures entries { AreEntriesIn self.now.current (catalog_of result) }
     {
         catalog_answers();
         ImageNodes::new(self.image.blocks(), &self.catalog)

@@ -1,7 +1,7 @@
 //! The changes of a journal, as they are added to a pair.
 ghost use Rattle.std.specs.Prelude.{◌≡◌, ◌≤◌, ◌++◌, ◌∷◌, [], true, false, length, take, MatchBool};
 ghost use Rattle.hfs_published.specs.Journals.{is_accepted, changes, NoneAccepted};
-ghost use Rattle.hfs_published.specs.Pairs.{pair};
+ghost use Rattle.hfs_published.specs.Pairs.{with_added};
 
 use crate::copies::copy_call;
 use crate::pair::Pair;
@@ -13,7 +13,7 @@ impl Pair {
     /// entries are done.
     pub fn add_entries(&mut self, alloc: Global, entries: &[Entry]) -> usize
         ensures within { result ≤ length entries.now }
-        ensures added { self.new ≡ pair self.old.book (self.old.all ++ changes (take result entries.now)) self.old.shown }
+        ensures added { self.new ≡ with_added self.old (changes (take result entries.now)) }
         ensures idle { NoneAccepted entries.now → result ≡ length entries.now }
     {
         for at in 0..entries.len() {
@@ -26,7 +26,7 @@ impl Pair {
 
     // Adds the change of an entry, if it is one that was accepted, and answers whether the entry is done.
     fn add_entry(&mut self, alloc: Global, entry: &Entry) -> bool
-        ensures added { MatchBool result (self.new ≡ pair self.old.book (self.old.all ++ changes (entry.now ∷ [])) self.old.shown) (self.new ≡ self.old) }
+        ensures added { MatchBool result (self.new ≡ with_added self.old (changes (entry.now ∷ []))) (self.new ≡ self.old) }
         ensures idle { is_accepted entry.now ≡ false → result ≡ true }
     {
         if !is_accepted(entry) {

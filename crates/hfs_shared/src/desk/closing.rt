@@ -1,6 +1,6 @@
 //! Taking a desk apart, when all workers have given their passes back.
-ghost use Rattle.std.specs.Prelude.{◌≡◌, MatchBool};
-ghost use Rattle.hfs_shared.specs.Closings.{HasPass, AreAllPasses, HasNoOthers};
+ghost use Rattle.std.specs.Prelude.{◌≡◌};
+ghost use Rattle.hfs_shared.specs.Closings.{HasPass, AreAllPasses, HasNoOthers, IsWhether};
 ghost use Rattle.hfs_shared.specs.Desks.{pass_state, IsHeadline};
 
 use super::Desk;
@@ -48,7 +48,7 @@ impl Desk {
 
     /// Whether the passes are those of all workers, each once and with its next number.
     pub(crate) fn are_all(&self, passes: &Vec<Pass>) -> bool
-        ensures { MatchBool result (AreAllPasses passes.now.items self.now.workers self.now.journal) (AreAllPasses passes.now.items self.now.workers self.now.journal → ⊥) }
+        ensures { IsWhether result (AreAllPasses passes.now.items self.now.workers self.now.journal) }
     {
         if passes.len() != self.next.len() {
             return false;
@@ -64,7 +64,7 @@ impl Desk {
 
 // Whether this pass is among them.
 fn has(passes: &Vec<Pass>, worker: u32, number: u64) -> bool
-    ensures { MatchBool result (HasPass passes.now.items (pass_state worker number)) (HasPass passes.now.items (pass_state worker number) → ⊥) }
+    ensures { IsWhether result (HasPass passes.now.items (pass_state worker number)) }
 {
     for pass in passes {
         if pass.is(worker, number) {

@@ -1,9 +1,9 @@
 //! Ending what lies under the lock, when all workers have given their passes back.
-ghost use Rattle.std.specs.Prelude.{◌≡◌, MatchBool};
+ghost use Rattle.std.specs.Prelude.{◌≡◌};
 ghost use mathlib.Core.List.{IsPrefix};
 ghost use Rattle.hfs_check.specs.VolumeOf.{volume_of};
 ghost use Rattle.hfs_published.specs.Journals.{published};
-ghost use Rattle.hfs_shared.specs.Closings.{AreAllPasses, HasNoOthers};
+ghost use Rattle.hfs_shared.specs.Closings.{AreAllPasses, HasNoOthers, IsWhether};
 ghost use Rattle.hfs_shared.specs.Desks.{IsHeadline};
 
 use super::Locked;
@@ -16,7 +16,7 @@ use std::sync::Wait;
 impl<K: Session> Locked<K> {
     /// Whether the passes are those of all workers, each once and with its next number.
     pub(crate) fn are_all(&self, passes: &Vec<Pass>) -> bool
-        ensures { MatchBool result (AreAllPasses passes.now.items self.now.workers self.now.journal) (AreAllPasses passes.now.items self.now.workers self.now.journal → ⊥) }
+        ensures { IsWhether result (AreAllPasses passes.now.items self.now.workers self.now.journal) }
     {
         self.desk.are_all(passes)
     }

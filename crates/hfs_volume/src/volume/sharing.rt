@@ -2,12 +2,11 @@
 
 ghost use Rattle.std.specs.Prelude.{◌≡◌, [], IfOk, IfErr};
 ghost use Rattle.hfs_blocks.specs.Blocks.{block_at};
-ghost use Rattle.hfs_space.specs.Extents.{AreExtentsWithin};
 ghost use Rattle.hfs_check.specs.Agree.{Agrees};
 ghost use Rattle.hfs_check.specs.Parts.{mdb_in, catalog_in};
 ghost use Rattle.hfs_check.specs.Sound.{IsSound};
 ghost use Rattle.hfs_check.specs.VolumeOf.{volume_of};
-ghost use Rattle.hfs_volume.specs.Sharing.{file_extents, IsFileId, AreExtentsOf, HaveFork};
+ghost use Rattle.hfs_volume.specs.Sharing.{file_extents, IsFileId, AreExtentsOf, HaveFork, AreExtentsIn};
 
 use super::Volume;
 use crate::base::Base;
@@ -101,7 +100,7 @@ impl Volume {
     pub fn extents(&self, alloc: Global, id: u32, fork: Fork) -> Result<Vec<Extent>, AllocError>
         requires { IsFileId (volume_of self.now.current) id }
         ensures extents { IfOk result (λ extents. AreExtentsOf (block_at self.now.current) id fork extents.items) }
-        ensures within { IfOk result (λ extents. AreExtentsWithin (mdb_in (block_at self.now.base)).allocation_blocks extents.items) }
+        ensures within { IfOk result (λ extents. AreExtentsIn self.now.base extents.items) }
         ensures bytes { IfOk result (λ extents. HaveFork self.now.base (volume_of self.now.current) id fork extents.items) }
     {
         items_are_records();

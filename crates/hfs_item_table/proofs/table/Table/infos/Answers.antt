@@ -23,6 +23,7 @@ loop-place-init c =
       tt,
       ap (λ l. l ++ told_under (finite.entries (items_of c.args.self.now)) c.into_iter-place-iterator.result) c.new-infos.ensures.items,
       λ (e : Place × ℕ) (i : In e c.into_iter-place-iterator.result). in_under c.args.dir c.args.self.now.by_name.entries e (subst (λ (l : List (Place × ℕ)). In e l) whole i),
+      c.rows_from-rows.ensures,
     )
 
 pub unreachable-requires : goal.unreachable-requires
@@ -34,7 +35,7 @@ unreachable-requires c =
 pub loop-place-preserved : goal.loop-place-preserved
 loop-place-preserved c =
     let es = finite.entries (items_of c.args.self.now) in
-    let told : c.info.result ≡ info_of es (unwrap_or (entry_at es c.in-Some.id.now) nobody) = c.info.ensures ∙ ap (λ o. info_of es (unwrap_or o nobody)) (sym c.in-Some-row.ensures.entry) in (
+    let told : c.info.result ≡ info_of es (unwrap_or (entry_at es c.in-Some.id.now) nobody) = c.info.ensures ∙ ap (λ o. info_of es (unwrap_or o nobody)) (sym c.in-Some-row_among.ensures.entry) in (
       tt,
       tt,
       ap (λ l. l ++ told_under es c.next.new.self) c.in_ok-push.ensures.items
@@ -43,6 +44,7 @@ loop-place-preserved c =
           ∙ ap (λ l. c.loop-place.infos.items ++ told_under es l) (sym c.in-Some.ensures.steps)
           ∙ c.loop-place.invariant.2,
       λ (e : Place × ℕ) (i : In e c.next.new.self). c.loop-place.invariant.3 e (subst (λ (l : List (Place × ℕ)). In e l) (sym c.in-Some.ensures.steps) (inr i)),
+      c.in-Some-row_among.ensures.rows,
     )
 
 pub returns : goal.returns

@@ -1,0 +1,27 @@
+-- The bytes of a file's fork, by the nodes of the extents tree.
+use Rattle.std.specs.Prelude.{ℕ, ◌+◌, pos, nat_lt, if◌then◌else◌, List}
+use Rattle.hfs_fields.specs.declared.file_record.ForkRecord.{ForkRecord}
+use Rattle.hfs_fields.specs.declared.mdb.Mdb.{Mdb}
+use Rattle.hfs_btree.specs.Tree.{Store}
+use Rattle.hfs_model.specs.declared.codes.TheConstants.{END_OF_FILE}
+use Rattle.hfs_model.specs.declared.reply.Reply.{Reply}
+use Rattle.hfs_model.specs.declared.reply.Value.TheVariants as value
+use Rattle.hfs_space.specs.declared.fork_kind.ForkKind.{ForkKind}
+use Rattle.hfs_space.specs.Extents.{fork_extents, fork_byte}
+use Rattle.hfs_space.specs.Forks.{fork_bytes}
+use Rattle.hfs_space.specs.Runs.{fork_in}
+use Rattle.hfs_space.specs.Sound.{IsForkSound}
+use Rattle.hfs_space.specs.TreeKeys.{overflow_of}
+use Rattle.hfs_check.specs.Parts.{Blocks}
+
+-- the extents of a fork of the file with this ID lie in the volume, and have room for its bytes
+abbrev pub IsForkOf : Mdb → Store → ℕ → ForkKind → ForkRecord → Type 0
+IsForkOf mdb extents file kind fork = IsForkSound mdb (overflow_of extents) (fork_in file kind fork)
+
+-- its bytes, in all its extents
+abbrev pub bytes_of_fork : Blocks → Mdb → Store → ℕ → ForkKind → ForkRecord → List ℕ
+bytes_of_fork blocks mdb extents file kind fork = fork_bytes blocks mdb (fork_extents (overflow_of extents) file (fork_byte kind) fork.extents) fork.length
+
+-- the reply of these bytes of a fork of len bytes, which were read from an offset on: -39 where count of them end behind it
+abbrev pub part_reply : List ℕ → ℕ → ℕ → ℕ → Reply
+part_reply bytes len offset count = record { code = if nat_lt len (offset + count) then END_OF_FILE else pos 0; value = value.Bytes bytes }
