@@ -1,0 +1,77 @@
+//! The volume beside the plain program's.
+use anyhow::{Result, bail, ensure};
+use hfs_fields::Name;
+use hfs_model::{Call, Entry, Reply};
+use hfs_store::PlainVolume;
+use hfs_texts::reply_text;
+use hfs_volume::{Volume, mount};
+use std::alloc::{AllocError, Global};
+
+/// A new plain volume named `D`.
+fn new_plain(alloc: Global) -> Result<PlainVolume> {
+    let Some(name) = Name::new(b"D") else {
+        bail!("no name");
+    };
+    Ok(PlainVolume::new(alloc, name, 0)?)
+}
+
+/// The plain volume after the calls of a journal. An error where it answers another code.
+pub fn replay(alloc: Global, journal: &[Entry]) -> Result<PlainVolume> {
+    let mut plain = new_plain(alloc)?;
+    for entry in journal {
+        let reply = plain.call(&entry.call)?;
+        ensure!(
+            entry.full.is_none() && reply.code == entry.code,
+            "{} answered, {} expected",
+            entry.code,
+            reply.code
+        );
+    }
+    Ok(plain)
+}
+
+/// The volume, saved and mounted again. An error where it isn't sound.
+pub fn mounted_again(alloc: Global, volume: &Volume) -> Result<Volume> {
+    let mut image = Vec::new(alloc);
+    if volume.save(&mut image).is_err() {
+        bail!("the image was not saved");
+    }
+    match mount(alloc, image) {
+        Ok(volume) => Ok(volume),
+        Err(_refused) => bail!("the image isn't sound"),
+    }
+}
+
+/// An error where a folder has other items on the volume than on the plain one, or an ID names another folder or file.
+pub fn ensure_same_tree(alloc: Global, volume: &mut Volume, plain: &mut PlainVolume) -> Result<()> {
+    let next = plain.next_id();
+    ensure!(volume.next_id() == next, "another next ID");
+    for id in 0..next {
+        ensure_same_answer(alloc, volume, plain, &Call::GetDirInfo { dir: id })?;
+        ensure_same_answer(alloc, volume, plain, &Call::List { dir: id })?;
+        ensure_same_answer(alloc, volume, plain, &Call::ResolveFileId { id })?;
+    }
+    Ok(())
+}
+
+fn ensure_same_answer(
+    alloc: Global,
+    volume: &mut Volume,
+    plain: &mut PlainVolume,
+    call: &Call,
+) -> Result<()> {
+    let found = text(alloc, &volume.call(alloc, call)?)?;
+    let expected = text(alloc, &plain.call(call)?)?;
+    ensure!(
+        found.as_bytes() == expected.as_bytes(),
+        "{} answered, {} expected",
+        found,
+        expected
+    );
+    Ok(())
+}
+
+/// The text of an answer.
+fn text(alloc: Global, reply: &Reply) -> Result<String, AllocError> {
+    reply_text(alloc, "", 0, reply)
+}

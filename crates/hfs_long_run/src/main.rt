@@ -1,0 +1,43 @@
+//! One long run of a shared volume: eight workers, each with 1,000 calls drawn by numbers, and four viewers that learn every told
+//! list and list folders throughout. Then the volume is closed, saved and mounted again, so that it is sound. The plain program,
+//! which makes the calls of the journal in order, answers each the same code, and ends with the same folder tree.
+#![tactic(auto)]
+
+mod board;
+mod comparing;
+mod drawing;
+mod journal;
+mod running;
+mod watcher;
+mod worker;
+
+use crate::comparing::{ensure_same_tree, mounted_again, replay};
+use crate::journal::ensure_whole;
+use crate::running::run;
+use crate::watcher::TOLDS;
+use crate::worker::CALLS;
+use anyhow::Result;
+
+/// How many workers there are.
+const WORKERS: u32 = 8;
+
+/// How many viewers there are.
+const VIEWERS: u32 = 4;
+
+fn main(rt: HostRuntime) -> Result<()> {
+    let closed = run(&rt, rt.alloc())?;
+    println!(rt; "{} workers made {} calls each", WORKERS, CALLS)?;
+    println!(rt;
+        "{} viewers learned {} told lists each, and a list was answered after each",
+        VIEWERS, TOLDS
+    )?;
+    ensure_whole(closed.journal.as_slice())?;
+    println!(rt; "the journal has each call once, in the order of its worker")?;
+    let mut plain = replay(rt.alloc(), closed.journal.as_slice())?;
+    println!(rt; "the plain program answers each call the journal's code")?;
+    let mut volume = mounted_again(rt.alloc(), &closed.volume)?;
+    println!(rt; "the volume, saved and mounted again, is sound")?;
+    ensure_same_tree(rt.alloc(), &mut volume, &mut plain)?;
+    println!(rt; "its folder tree is the plain program's")?;
+    Ok(())
+}
