@@ -13,8 +13,8 @@ pub fn named_volume(alloc: Global, name: &[u8]) -> Result<Volume> {
     mounted(alloc, named_image(alloc, name)?)
 }
 
-/// A volume that is to be shared by so many workers and one viewer. Where memory or a place is refused it is tried once more.
-fn started(
+/// A volume that is to be shared by so many workers and one viewer.
+fn started_once(
     rt: &impl Wait,
     alloc: Global,
     volume: Volume,
@@ -25,7 +25,23 @@ fn started(
 {
     match Parts::start(rt, alloc, volume, workers, 1) {
         Ok(started) => Ok(started),
-        Err(fault) => Parts::start(rt, alloc, fault.volume, workers, 1),
+        Err(fault) => Err(fault),
+    }
+}
+
+/// The same. Where memory or a place is refused it is tried once more.
+fn started(
+    rt: &impl Wait,
+    alloc: Global,
+    volume: Volume,
+    workers: u32,
+) -> Result<(Parts, Vec<Pass>, Vec<Viewer>), StartFault>
+    requires { (0 < workers) × (workers ≤ 8) }
+    ensures { IfOk result (λ r. All (λ k. k.book ≡ r.0.book) r.2.items) }
+{
+    match started_once(rt, alloc, volume, workers) {
+        Ok(started) => Ok(started),
+        Err(fault) => started_once(rt, alloc, fault.volume, workers),
     }
 }
 

@@ -4,7 +4,7 @@ use Rattle.std.proofs.lemmas.List.Elements.{All-pop}
 use Rattle.hfs_published.specs.Histories.{Known}
 use Rattle.hfs_refused_sharing.proofs.parts.begun.Goals as goal
 
-pub returns-in-Some : goal.returns-in-Some
-returns-in-Some g c =
-    subst (λ o. IfSome o (λ (k : Known). k.book ≡ c.parts.book)) c.in-Some.is
-    (All-pop (λ (k : Known). k.book ≡ c.parts.book) _ _ _ c.pop.ensures.items c.started.ensures).1
+pub returns : goal.returns
+returns g c =
+    subst (λ o. IfSome o (λ (k : Known). k.book ≡ c.in-Ok.parts.book)) c.in-Some.is
+    (All-pop (λ (k : Known). k.book ≡ c.in-Ok.parts.book) _ _ _ c.pop.ensures.items c.in-Ok.ensures).1
