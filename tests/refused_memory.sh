@@ -1,13 +1,15 @@
 #!/usr/bin/env bash
-# Refuses each allocation of hfs_refused_memory in turn, by a library of a few lines of C that stands before malloc: for
-# each line of the program's stdin by itself, counting upwards until a run meets no refusal. What the program then prints must be the line
+# Refuses each allocation of hfs_refused_memory and hfs_refused_sharing in turn, by a library of a few lines of C that stands before malloc: for
+# each line of a program's stdin by itself, counting upwards until a run meets no refusal. What the program then prints must be the line
 # of its stdout. Where the refusal meets what is laid before, the program ends there with status 1, out of memory. Prints how many
 # allocations were refused, or which one was met otherwise and ends with status 1. Prints 'skipped' where there is no C compiler.
+#
+# tests/refused_memory.sh [PROGRAM..], both if none is named
 set -euo pipefail
 command -v cc > /dev/null || { echo skipped; exit 0; }
-program=hfs_refused_memory
-cd "$(dirname "$0")/../crates/$program"
-[ -x "out/$program" ] || rt run > /dev/null
+cd "$(dirname "$0")/../crates"
+programs=("$@")
+[ ${#programs[@]} -gt 0 ] || programs=(hfs_refused_memory hfs_refused_sharing)
 
 folder=$(mktemp -d)
 trap 'rm -rf "$folder"' EXIT
@@ -51,28 +53,36 @@ is_laying_refused() {
     [ "$1" = 1 ] && [ -z "$2" ] && { [ "$3" = 'Error: out of memory' ] || [ "$3" = 'Error: memory allocation failed' ]; }
 }
 
-# Refuses each allocation where the input is line $1, and the output line $2.
+# Refuses each allocation of program $1 where its input is line $2, and its output line $3.
 refuse_each() {
     local n=0 got printed errors
-    printf '%s\n' "$1" > "$folder/line"
+    printf '%s\n' "$2" > "$folder/line"
     while true; do
         n=$((n + 1)) got=0
         : > "$folder/refused"
-        REFUSE=$n LD_PRELOAD=$folder/refuse.so out/$program < "$folder/line" > "$folder/printed" 2> "$folder/errors" 3> "$folder/refused" || got=$?
+        REFUSE=$n LD_PRELOAD=$folder/refuse.so "$1/out/$1" < "$folder/line" > "$folder/printed" 2> "$folder/errors" 3> "$folder/refused" || got=$?
         printed=$(< "$folder/printed") errors=$(< "$folder/errors")
         if is_laying_refused "$got" "$printed" "$errors"; then continue; fi
-        if [ "$got" != 0 ] || [ "$printed" != "$2" ]; then
-            echo "$2, allocation $n: status $got, $printed$errors"
+        if [ "$got" != 0 ] || [ "$printed" != "$3" ]; then
+            echo "$3, allocation $n: status $got, $printed$errors"
             exit 1
         fi
+        if [[ $errors == *': lagged' ]]; then lagged=$((lagged + 1)); fi
         [ -s "$folder/refused" ] || break
         whole=$((whole + 1))
     done
     refused=$((refused + n - 1))
 }
 
-refused=0 whole=0
-while IFS= read -r line && IFS= read -r told <&4; do
-    refuse_each "$line" "$told"
-done < stdin 4< stdout
-echo "$refused allocations refused in turn: $whole met what is tried, which was as said; the others what is laid before"
+refused=0 whole=0 lagged=0
+for program in "${programs[@]}"; do
+    [ -x "$program/out/$program" ] || (cd "$program" && rt run > /dev/null)
+    while IFS= read -r line && IFS= read -r told <&4; do
+        refuse_each "$program" "$line" "$told"
+    done < "$program/stdin" 4< "$program/stdout"
+done
+if [[ " ${programs[*]} " == *' hfs_refused_sharing '* ]] && [ "$lagged" = 0 ]; then
+    echo "no publish lagged"
+    exit 1
+fi
+echo "$refused allocations refused in turn: $whole met what is tried, which was as said, and $lagged let a publish lag; the others what is laid before"

@@ -1,0 +1,5 @@
+use Rattle.hfs_refused_sharing.proofs.Books.{of_book}
+use Rattle.hfs_refused_sharing.proofs.parts.started_once.Goals as goal
+
+pub returns-in-Ok : goal.returns-in-Ok
+returns-in-Ok g c = of_book _ _ c.in-Ok.ensures.ok.viewers_are
