@@ -72,7 +72,7 @@ fn a_node_claimed_and_given_back(rt: HostRuntime) -> Result<(), Fail> {
     assert!(rt; free_nodes::<ExtKey, NodeTable>(&nodes) > 0);
     let n = claim_node::<ExtKey, NodeTable>(rt.alloc(), &mut nodes)?;
     // the first free node; its bit is the second of the map node, and one node fewer is free
-    assert_eq!(rt; n, 9);
+    assert!(rt; n == 9);
     let mut want = deep_tree();
     want[1][14] = 192;
     want[0][43] = 1;
@@ -164,9 +164,9 @@ fn is_patch(patch: &Patch, want: &[u8; 512]) -> bool {
 #[test]
 fn blocks_of_a_volume(rt: HostRuntime) -> Result<(), Fail> {
     let image = laid(rt.alloc(), &deep_tree())?;
-    assert_eq!(rt; image.len(), 8192);
+    assert!(rt; image.len() == 8192);
     let blocks = ImageBytes { bytes: &image };
-    assert_eq!(rt; blocks.count(), 16);
+    assert!(rt; blocks.count() == 16);
     let runs = two_runs();
     let mut nodes = opened(rt.alloc(), &blocks, &runs);
     assert!(rt; put(rt.alloc(), &mut nodes)?);

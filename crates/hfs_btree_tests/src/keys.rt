@@ -24,8 +24,8 @@ fn assert_rise(rt: &(impl Abort + AllocGlobal), edits: &[Edit], want: Option<(u3
     let Ok(tree) = ShapedTree::<ExtKey, NodeList>::of(rt.alloc(), &list, 5632) else {
         panic!(rt; "the tree hasn't its shape");
     };
-    assert_eq!(rt; tree.leaf_order_fault(), want.map(|at| at.0));
-    assert_eq!(rt; tree.rise_fault(), want.map(|at| at.1));
+    assert!(rt; tree.leaf_order_fault() == want.map(|at| at.0));
+    assert!(rt; tree.rise_fault() == want.map(|at| at.1));
 }
 
 #[test]
@@ -66,8 +66,8 @@ fn assert_names(rt: &(impl Abort + AllocGlobal), first: u8, second: u8, want: Op
     let Ok(tree) = ShapedTree::<CatKey, NodeList>::of(rt.alloc(), &list, 1024) else {
         panic!(rt; "the tree hasn't its shape");
     };
-    assert_eq!(rt; tree.rise_fault(), want);
-    assert_eq!(rt; tree.leaf_order_fault(), want.map(|_| 1));
+    assert!(rt; tree.rise_fault() == want);
+    assert!(rt; tree.leaf_order_fault() == want.map(|_| 1));
 }
 
 #[test]
@@ -99,7 +99,7 @@ fn assert_forks(rt: &(impl Abort + AllocGlobal), edits: &[Edit], want: Option<u3
         panic!(rt; "the tree hasn't its shape");
     };
     let answer = tree.check_keys(rt.alloc(), &IsForkByte);
-    assert_eq!(rt; answer.err(), want.map(TreeFault::At));
+    assert!(rt; answer.err() == want.map(TreeFault::At));
 }
 
 #[test]
@@ -129,9 +129,9 @@ fn assert_index_files(
         panic!(rt; "the tree hasn't its shape");
     };
     let keys: Vec<ExtKey> = index_keys(rt.alloc(), &list)?;
-    assert_eq!(rt; keys.len(), want.len());
+    assert!(rt; keys.len() == want.len());
     for (key, file) in keys.iter().zip(want) {
-        assert_eq!(rt; key.file, *file);
+        assert!(rt; key.file == *file);
     }
     Ok(())
 }
@@ -151,7 +151,7 @@ fn assert_files(rt: &(impl Abort + AllocGlobal), nodes: &[[u8; 512]; 11], want: 
     let mut walk: Walk<ExtKey, NodeList> = Walk::whole(&list);
     for file in want {
         let here = walk.pair().map(|pair| pair.key.file);
-        assert_eq!(rt; here, Some(*file));
+        assert!(rt; here == Some(*file));
         walk.advance();
     }
     assert!(rt; walk.pair().is_none());

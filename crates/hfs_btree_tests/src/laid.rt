@@ -63,10 +63,10 @@ fn look_ups(rt: HostRuntime) -> Result<(), Fail> {
         return Err(Fail::new("nothing follows"));
     };
     assert!(rt; key == at_block(3));
-    assert_eq!(rt; body.len(), 12);
+    assert!(rt; body.len() == 12);
     assert!(rt; next_after(rt.alloc(), &nodes, &at_block(3))?.is_none());
-    assert_eq!(rt; depth::<ExtKey, NodeList>(&nodes), 1);
-    assert_eq!(rt; free_nodes::<ExtKey, NodeList>(&nodes), 0);
+    assert!(rt; depth::<ExtKey, NodeList>(&nodes) == 1);
+    assert!(rt; free_nodes::<ExtKey, NodeList>(&nodes) == 0);
     let mut walk: Walk<ExtKey, NodeList> = Walk::from(&nodes, &at_block(1));
     let first = walk.pair().map(|pair| pair.key == at_block(3));
     assert!(rt; first == Some(true));

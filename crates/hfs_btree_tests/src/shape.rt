@@ -110,27 +110,15 @@ fn trees_of_two_nodes(rt: HostRuntime) {
         0, 1, 0, 0, 0, 1, 0, 0, 0, 1, 0, 0, 0, 1, 0, 0, 0, 1, 2, 0, 0, 7, 0, 0, 0, 2, 0, 0, 0, 0,
     ];
     let leaf = leaf_node(0, 0, 16);
-    assert_eq!(rt; small_fault(rt.alloc(), &one_leaf, leaf), None);
+    assert!(rt; small_fault(rt.alloc(), &one_leaf, leaf) == None);
     let mut high = leaf;
     high[9] = 2;
-    assert_eq!(rt;
-        small_fault(rt.alloc(), &one_leaf, high),
-        Some(TreeFault::At(1))
-    );
+    assert!(rt; small_fault(rt.alloc(), &one_leaf, high) == Some(TreeFault::At(1)));
     let mut two_records = one_leaf;
     two_records[9] = 2;
-    assert_eq!(rt;
-        small_fault(rt.alloc(), &two_records, leaf),
-        Some(TreeFault::At(0))
-    );
+    assert!(rt; small_fault(rt.alloc(), &two_records, leaf) == Some(TreeFault::At(0)));
     let mut two_levels = one_leaf;
     two_levels[1] = 2;
-    assert_eq!(rt;
-        small_fault(rt.alloc(), &two_levels, parent_of(1)),
-        Some(TreeFault::At(1))
-    );
-    assert_eq!(rt;
-        small_fault(rt.alloc(), &two_levels, parent_of(9)),
-        Some(TreeFault::At(9))
-    );
+    assert!(rt; small_fault(rt.alloc(), &two_levels, parent_of(1)) == Some(TreeFault::At(1)));
+    assert!(rt; small_fault(rt.alloc(), &two_levels, parent_of(9)) == Some(TreeFault::At(9)));
 }

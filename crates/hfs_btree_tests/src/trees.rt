@@ -171,7 +171,7 @@ pub fn assert_fault(
     let nodes = edited(rt, tree, edits);
     let list = NodeList { nodes: &nodes };
     let answer = check_shape::<ExtKey, NodeList>(rt.alloc(), &list, 5632);
-    assert_eq!(rt; answer.err(), want.map(TreeFault::At));
+    assert!(rt; answer.err() == want.map(TreeFault::At));
 }
 
 /// Checks the shape and the order of the tree with these edits: a fault at this node, or none.
@@ -184,5 +184,5 @@ pub fn assert_tree_fault(
     let nodes = edited(rt, tree, edits);
     let list = NodeList { nodes: &nodes };
     let answer = check_tree::<ExtKey, NodeList>(rt.alloc(), &list, 5632);
-    assert_eq!(rt; answer.err(), want.map(TreeFault::At));
+    assert!(rt; answer.err() == want.map(TreeFault::At));
 }

@@ -4,8 +4,8 @@ use crate::stage::{Stage, lay_digits};
 use crate::trio::Trio;
 use anyhow::{Result, bail, ensure};
 use hfs_model::Call;
-use hfs_scripts::read_script;
-use std::alloc::Global;
+use hfs_scripts::{Script, read_script};
+use std::alloc::{AllocError, Global};
 
 /// The lists of a file, as far as they were run.
 #[derive(Drop)]
@@ -70,15 +70,34 @@ fn take_check_line(lists: &mut Lists, line: &Line<'_>) -> Result<()> {
     bail!("no such word")
 }
 
-/// The call that a line of a script asks for.
-fn call_of(alloc: Global, text: &[u8], now: u32) -> Result<Call> {
+/// A line of a script, as worker 1 has it.
+fn line_of(alloc: Global, text: &[u8]) -> Result<Vec<u8>, AllocError> {
     let mut line = Vec::from_slice(alloc, b"1\t")?;
     line.extend_from_slice(text)?;
-    let Ok(script) = read_script(alloc, &line, now) else {
-        bail!("no call");
-    };
+    Ok(line)
+}
+
+/// The call of the last line of a script, if it has one.
+fn last_call(script: Script) -> Option<Call> {
     match script.into_lines().pop() {
-        Some(line) => Ok(line.call),
+        Some(line) => Some(line.call),
+        None => None,
+    }
+}
+
+/// The call that a line of a script asks for, if it reads.
+fn read_call(alloc: Global, line: &[u8], now: u32) -> Option<Call> {
+    match read_script(alloc, line, now) {
+        Ok(script) => last_call(script),
+        Err(_fault) => None,
+    }
+}
+
+/// The call that a line of a script asks for.
+fn call_of(alloc: Global, text: &[u8], now: u32) -> Result<Call> {
+    let line = line_of(alloc, text)?;
+    match read_call(alloc, &line, now) {
+        Some(call) => Ok(call),
         None => bail!("no call"),
     }
 }
@@ -137,8 +156,14 @@ impl Lists {
     fn set_volume(&mut self, text: &[u8]) -> Result<()> {
         self.begin()?;
         let stage = Stage::of(self.alloc, text)?;
-        self.wanted = Vec::from_slice(self.alloc, stage.image.as_slice())?;
+        self.want(&stage.image)?;
         self.stage = Some(stage);
+        Ok(())
+    }
+
+    /// Takes a copy of an image as the one that is wanted.
+    fn want(&mut self, image: &[u8]) -> Result<(), AllocError> {
+        self.wanted = Vec::from_slice(self.alloc, image)?;
         Ok(())
     }
 }
@@ -185,11 +210,18 @@ impl Lists {
         }
     }
 
+    /// The text of the answer to a call.
+    fn answer_to(&mut self, text: &[u8]) -> Result<String> {
+        let (alloc, now) = (self.alloc, self.now);
+        let trio = self.trio()?;
+        let call = call_of(alloc, text, now)?;
+        trio.make(&call)
+    }
+
     /// Makes a call.
     fn call(&mut self, text: &[u8]) -> Result<()> {
         self.finish()?;
-        let call = call_of(self.alloc, text, self.now)?;
-        let answer = self.trio()?.make(&call)?;
+        let answer = self.answer_to(text)?;
         self.answer = Vec::from_slice(self.alloc, behind_number(answer.as_str()))?;
         self.calls = self.calls.wrapping_add(1);
         Ok(())

@@ -44,8 +44,18 @@ fn main(rt: HostRuntime) -> Result<()> {
 fn run_file(rt: &(impl Print + AllocGlobal), file: &str, text: &[u8]) -> Result<()> {
     let lines = read_lines(rt.alloc(), text)?;
     let mut lists = Lists::new(rt.alloc());
-    for line in lines.as_slice() {
-        run_line(rt, file, &mut lists, line)?;
+    run_lines(rt, file, &mut lists, &lines)
+}
+
+/// Runs the lists of these lines, and prints how many there are.
+fn run_lines(
+    rt: &(impl Print + AllocGlobal),
+    file: &str,
+    lists: &mut Lists,
+    lines: &[Line<'_>],
+) -> Result<()> {
+    for line in lines {
+        run_line(rt, file, lists, line)?;
     }
     lists.finish()?;
     println!(rt;

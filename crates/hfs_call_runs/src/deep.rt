@@ -39,12 +39,13 @@ fn above(number: u32) -> u32 {
 /// The folders come, each into the one before it.
 fn grow(alloc: Global, pair: &mut Pair) -> Result<()> {
     for number in 0..FOLDERS {
+        let name = name(alloc, number)?;
         let call = Call::DirCreate {
             dir: above(number),
-            name: name(alloc, number)?,
+            name,
             now: number,
         };
-        pair.expect(&call, 0)?;
+        pair.expect(call, 0)?;
     }
     Ok(())
 }
@@ -58,13 +59,14 @@ fn move_folder(
     new_dir: u32,
     code: i16,
 ) -> Result<()> {
+    let name = name(alloc, number)?;
     let call = Call::CatMove {
         dir,
-        name: name(alloc, number)?,
+        name,
         new_dir,
         now: 1_000,
     };
-    pair.expect(&call, code)
+    pair.expect(call, code)
 }
 
 /// No folder goes into the last one, which lies in each of them.
@@ -116,18 +118,34 @@ fn wide_image(alloc: Global) -> Result<Vec<u8>> {
     }
 }
 
-/// Grows the folders and moves them about. The items are those of the plain program after each move of all, and after the image
-/// was saved and mounted again.
-pub fn move_about(alloc: Global) -> Result<()> {
-    let mut pair = Pair::new(alloc, wide_image(alloc)?, 2)?;
-    grow(alloc, &mut pair)?;
-    move_into_last(alloc, &mut pair)?;
+/// Grows the folders and moves them out. The items are those of the plain program after each move of all.
+fn grow_and_move(alloc: Global, pair: &mut Pair) -> Result<()> {
+    grow(alloc, pair)?;
+    move_into_last(alloc, pair)?;
     pair.ensure_same()?;
-    move_out(alloc, &mut pair)?;
-    pair.ensure_same()?;
-    turn_round(alloc, &mut pair)?;
-    move_last(alloc, &mut pair)?;
+    move_out(alloc, pair)?;
+    pair.ensure_same()
+}
+
+/// Turns the folders round, and saves and mounts the image. The items are those of the plain program before that and after it.
+fn turn_and_save(alloc: Global, pair: &mut Pair) -> Result<()> {
+    turn_round(alloc, pair)?;
+    move_last(alloc, pair)?;
     pair.ensure_same()?;
     pair.save_and_mount()?;
     pair.ensure_same()
+}
+
+/// Grows the folders and moves them about.
+fn move_all(alloc: Global, pair: &mut Pair) -> Result<()> {
+    grow_and_move(alloc, pair)?;
+    turn_and_save(alloc, pair)
+}
+
+/// Grows the folders and moves them about. The items are those of the plain program after each move of all, and after the image
+/// was saved and mounted again.
+pub fn move_about(alloc: Global) -> Result<()> {
+    let image = wide_image(alloc)?;
+    let mut pair = Pair::new(alloc, image, 2)?;
+    move_all(alloc, &mut pair)
 }

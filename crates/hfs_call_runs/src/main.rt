@@ -15,6 +15,8 @@ use crate::drawing::{Drawn, call};
 use crate::pair::Pair;
 use anyhow::{Result, bail};
 use hfs_fixtures::new_image;
+use hfs_model::Call;
+use std::alloc::Global;
 
 /// How many nodes the catalogs of the volumes have.
 const NODES: [u32; 10] = [4, 5, 6, 7, 8, 10, 13, 17, 24, 40];
@@ -26,23 +28,40 @@ const LISTS: u64 = 20;
 const CALLS: u32 = 200;
 
 fn main(rt: HostRuntime) -> Result<()> {
-    let mut codes = Codes::new(rt.alloc());
-    for nodes in NODES {
-        run_lists(&rt, nodes, &mut codes)?;
-        println!(rt;
-            "{} nodes: {} lists of {} calls, answered alike",
-            nodes, LISTS, CALLS
-        )?;
-    }
-    if let Some((call, code)) = codes.missing() {
-        bail!("call {} was never answered {}", call, code);
-    }
+    draw_all(&rt)?;
     println!(rt; "each code of each call was answered")?;
     move_about(rt.alloc())?;
     println!(rt;
         "{} folders in one another moved about, answered alike",
         FOLDERS
     )?;
+    Ok(())
+}
+
+/// Makes all lists of calls. Each code of each call was answered then.
+fn draw_all(rt: &(impl Print + AllocGlobal)) -> Result<()> {
+    let mut codes = Codes::new(rt.alloc());
+    draw_for_each(rt, &mut codes)?;
+    ensure_none(codes.missing())
+}
+
+/// Makes the lists of calls on volumes of each size, and prints that.
+fn draw_for_each(rt: &(impl Print + AllocGlobal), codes: &mut Codes) -> Result<()> {
+    for nodes in NODES {
+        run_lists(rt, nodes, codes)?;
+        println!(rt;
+            "{} nodes: {} lists of {} calls, answered alike",
+            nodes, LISTS, CALLS
+        )?;
+    }
+    Ok(())
+}
+
+/// An error where a call was never answered a code.
+fn ensure_none(missing: Option<(usize, i16)>) -> Result<()> {
+    if let Some((call, code)) = missing {
+        bail!("call {} was never answered {}", call, code);
+    }
     Ok(())
 }
 
@@ -55,18 +74,29 @@ fn run_lists(rt: &impl AllocGlobal, nodes: u32, codes: &mut Codes) -> Result<()>
     Ok(())
 }
 
-/// Makes a list of calls.
+/// Makes a list of calls on a new volume.
 fn run_list(rt: &impl AllocGlobal, nodes: u32, drawn: &mut Drawn, codes: &mut Codes) -> Result<()> {
     let image = new_image(rt.alloc(), nodes)?;
     let mut pair = Pair::new(rt.alloc(), image, drawn.below(16))?;
+    make_calls(rt.alloc(), &mut pair, drawn, codes)
+}
+
+/// Makes a list of calls.
+fn make_calls(alloc: Global, pair: &mut Pair, drawn: &mut Drawn, codes: &mut Codes) -> Result<()> {
     for n in 0..CALLS {
-        let call = call(rt.alloc(), drawn, pair.next_id(), n)?;
-        let code = pair.make(&call)?;
-        codes.note(&call, code);
+        let call = call(alloc, drawn, pair.next_id(), n)?;
+        make_call(pair, codes, call)?;
         if n % 50 == 49 {
             pair.ensure_same()?;
         }
     }
     pair.save_and_mount()?;
     pair.ensure_same()
+}
+
+/// Makes a call, and notes its code.
+fn make_call(pair: &mut Pair, codes: &mut Codes, call: Call) -> Result<()> {
+    let code = pair.make(&call)?;
+    codes.note(&call, code);
+    Ok(())
 }

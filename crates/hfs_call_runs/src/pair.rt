@@ -2,11 +2,11 @@
 use crate::same::is_same;
 use anyhow::{Result, bail, ensure};
 use hfs_fields::Name;
-use hfs_fixtures::lay;
+use hfs_fixtures::{FixtureFault, lay};
 use hfs_model::{Call, DISK_FULL, Reply, Value};
 use hfs_store::PlainVolume;
 use hfs_volume::{Volume, mount};
-use std::alloc::Global;
+use std::alloc::{AllocError, Global};
 
 /// A mounted volume and the plain volume that it holds.
 #[derive(Drop)]
@@ -24,6 +24,21 @@ fn mounted(alloc: Global, image: Vec<u8>) -> Result<Volume> {
     }
 }
 
+/// An image's bytes as they are now.
+fn saved(alloc: Global, volume: &Volume) -> Result<Vec<u8>> {
+    let mut image = Vec::new(alloc);
+    match volume.save(&mut image) {
+        Ok(()) => Ok(image),
+        Err(_fault) => bail!("the image was not saved"),
+    }
+}
+
+/// An error where another code than this one is answered.
+fn ensure_code(answered: i16, code: i16) -> Result<()> {
+    ensure!(answered == code, "{answered} answered, {code} expected");
+    Ok(())
+}
+
 /// A new plain volume named `D`.
 fn new_plain(alloc: Global) -> Result<PlainVolume> {
     let Some(name) = Name::new(b"D") else {
@@ -32,15 +47,44 @@ fn new_plain(alloc: Global) -> Result<PlainVolume> {
     Ok(PlainVolume::new(alloc, name, 0)?)
 }
 
-/// An error where the volume doesn't reply as the plain one.
-fn ensure_same_reply(reply: &Reply, expected: &Reply) -> Result<()> {
+/// The image of a new volume. With the number 0 it is locked by hardware, with 1 by software.
+fn locked(image: Vec<u8>, number: u32) -> Result<Vec<u8>, FixtureFault> {
+    let mut image = image;
+    match number {
+        0 => lay(&mut image, 2, 10, &[0x01, 0x80])?,
+        1 => lay(&mut image, 2, 10, &[0x81, 0x00])?,
+        _ => {}
+    }
+    Ok(image)
+}
+
+/// The reply to a call.
+fn reply_of(alloc: Global, volume: &mut Volume, call: &Call) -> Result<Reply, AllocError> {
+    volume.call(alloc, call)
+}
+
+/// The free nodes and levels of a catalog, as a reply tells them.
+fn told_free(value: &Value) -> Option<(u32, u32)> {
+    match value {
+        Value::Full { free, depth } => Some((*free, *depth)),
+        Value::Nothing
+        | Value::Id(_)
+        | Value::One(_)
+        | Value::Many(_)
+        | Value::Bytes(_)
+        | Value::Place { .. } => None,
+    }
+}
+
+/// An error where the volume doesn't reply as the plain one. Tells the code.
+fn ensure_same_reply(reply: &Reply, expected: &Reply) -> Result<i16> {
     ensure!(
         is_same(reply, expected),
         "{} answered, {} expected",
         reply.code,
         expected.code
     );
-    Ok(())
+    Ok(reply.code)
 }
 
 /// The code of a reply with so many free nodes and levels. An error where these are enough for the call.
@@ -57,15 +101,10 @@ fn full_code(call: &Call, code: i16, free: u32, depth: u32) -> Result<i16> {
 impl Pair {
     /// The volume of an image, a new one named `D`. One with the number 0 is locked by hardware, one with 1 by software.
     pub fn new(alloc: Global, image: Vec<u8>, number: u32) -> Result<Pair> {
-        let mut image = image;
-        match number {
-            0 => lay(&mut image, 2, 10, &[0x01, 0x80])?,
-            1 => lay(&mut image, 2, 10, &[0x81, 0x00])?,
-            _ => {}
-        }
+        let image = locked(image, number)?;
+        let volume = mounted(alloc, image)?;
         let mut plain = new_plain(alloc)?;
         plain.set_locks(number == 0, number == 1);
-        let volume = mounted(alloc, image)?;
         Ok(Pair {
             alloc,
             volume,
@@ -73,26 +112,30 @@ impl Pair {
         })
     }
 
+    /// The ID that the next item gets.
     pub fn next_id(&self) -> u32 {
         self.plain.next_id()
     }
 
+    /// An error where the plain program replies otherwise. Tells the code.
+    fn compare(&mut self, call: &Call, reply: &Reply) -> Result<i16> {
+        let expected = self.plain.call(call)?;
+        ensure_same_reply(reply, &expected)
+    }
+
     /// Makes a call in both, unless it meets want of nodes, and tells its code.
     pub fn make(&mut self, call: &Call) -> Result<i16> {
-        let reply = self.volume.call(self.alloc, call)?;
-        if let Value::Full { free, depth } = reply.value {
-            return full_code(call, reply.code, free, depth);
+        let reply = reply_of(self.alloc, &mut self.volume, call)?;
+        match told_free(&reply.value) {
+            Some((free, depth)) => full_code(call, reply.code, free, depth),
+            None => self.compare(call, &reply),
         }
-        let expected = self.plain.call(call)?;
-        ensure_same_reply(&reply, &expected)?;
-        Ok(reply.code)
     }
 
     /// Makes a call that is answered this code.
-    pub fn expect(&mut self, call: &Call, code: i16) -> Result<()> {
-        let answered = self.make(call)?;
-        ensure!(answered == code, "{} answered, {} expected", answered, code);
-        Ok(())
+    pub fn expect(&mut self, call: Call, code: i16) -> Result<()> {
+        let answered = self.make(&call)?;
+        ensure_code(answered, code)
     }
 
     /// The same replies to the calls that read, for each ID.
@@ -107,24 +150,21 @@ impl Pair {
 
     /// The same replies to the calls that read, for this ID.
     fn ensure_same_item(&mut self, id: u32) -> Result<()> {
-        self.ensure_answer(&Call::GetDirInfo { dir: id })?;
-        self.ensure_answer(&Call::List { dir: id })?;
-        self.ensure_answer(&Call::ResolveFileId { id })
+        self.ensure_answer(Call::GetDirInfo { dir: id })?;
+        self.ensure_answer(Call::List { dir: id })?;
+        self.ensure_answer(Call::ResolveFileId { id })
     }
 
     /// The same reply to a call that reads.
-    fn ensure_answer(&mut self, call: &Call) -> Result<()> {
-        let answer = self.volume.call(self.alloc, call)?;
-        let expected = self.plain.call(call)?;
-        ensure_same_reply(&answer, &expected)
+    fn ensure_answer(&mut self, call: Call) -> Result<()> {
+        let answer = reply_of(self.alloc, &mut self.volume, &call)?;
+        let _code = self.compare(&call, &answer)?;
+        Ok(())
     }
 
     /// Saves the image and mounts it again.
     pub fn save_and_mount(&mut self) -> Result<()> {
-        let mut image = Vec::new(self.alloc);
-        if self.volume.save(&mut image).is_err() {
-            bail!("the image was not saved");
-        }
+        let image = saved(self.alloc, &self.volume)?;
         self.volume = mounted(self.alloc, image)?;
         Ok(())
     }

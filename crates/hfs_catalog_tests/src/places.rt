@@ -150,9 +150,9 @@ fn wrong_valence(a: Global, rows: &[Row]) -> Result<Option<usize>, AllocError> {
 #[test]
 fn passes_a_sound_catalog(rt: HostRuntime) -> Result<(), AllocError> {
     let a = rt.alloc();
-    assert_eq!(rt; wrong_id(a, 20, &sound())?, None);
-    assert_eq!(rt; misplaced(a, true, &sound())?, None);
-    assert_eq!(rt; wrong_valence(a, &sound())?, None);
+    assert!(rt; wrong_id(a, 20, &sound())? == None);
+    assert!(rt; misplaced(a, true, &sound())? == None);
+    assert!(rt; wrong_valence(a, &sound())? == None);
     Ok(())
 }
 
@@ -160,13 +160,13 @@ fn passes_a_sound_catalog(rt: HostRuntime) -> Result<(), AllocError> {
 fn finds_wrong_ids(rt: HostRuntime) -> Result<(), AllocError> {
     let a = rt.alloc();
     // ID 19 was not given out yet.
-    assert_eq!(rt; wrong_id(a, 19, &sound())?, Some(3));
+    assert!(rt; wrong_id(a, 19, &sound())? == Some(3));
     let small = with_row(5, file(key(16, b"Notes"), 15));
-    assert_eq!(rt; wrong_id(a, 20, &small)?, Some(5));
+    assert!(rt; wrong_id(a, 20, &small)? == Some(5));
     let twice = with_row(5, file(key(16, b"Notes"), 16));
-    assert_eq!(rt; wrong_id(a, 20, &twice)?, Some(5));
+    assert!(rt; wrong_id(a, 20, &twice)? == Some(5));
     let under_one = with_row(5, file(key(1, b"Notes"), 18));
-    assert_eq!(rt; wrong_id(a, 20, &under_one)?, Some(5));
+    assert!(rt; wrong_id(a, 20, &under_one)? == Some(5));
     Ok(())
 }
 
@@ -174,11 +174,11 @@ fn finds_wrong_ids(rt: HostRuntime) -> Result<(), AllocError> {
 fn finds_a_wrong_root(rt: HostRuntime) -> Result<(), AllocError> {
     let a = rt.alloc();
     let a_file = with_row(0, file(key(1, b"Disk"), 2));
-    assert_eq!(rt; wrong_id(a, 20, &a_file)?, Some(0));
+    assert!(rt; wrong_id(a, 20, &a_file)? == Some(0));
     let deeper = with_row(0, folder(key(3, b"Disk"), 2, 2));
-    assert_eq!(rt; wrong_id(a, 20, &deeper)?, Some(0));
+    assert!(rt; wrong_id(a, 20, &deeper)? == Some(0));
     // Eight records are left, and none of them is the root's.
-    assert_eq!(rt; wrong_id(a, 20, &without_row(0))?, Some(8));
+    assert!(rt; wrong_id(a, 20, &without_row(0))? == Some(8));
     Ok(())
 }
 
@@ -187,15 +187,15 @@ fn finds_wrong_order(rt: HostRuntime) -> Result<(), AllocError> {
     let a = rt.alloc();
     // One key twice.
     let again = with_row(5, folder(key(16, b"Old"), 17, 0));
-    assert_eq!(rt; misplaced(a, true, &again)?, Some(6));
+    assert!(rt; misplaced(a, true, &again)? == Some(6));
     let below = with_row(6, folder(key(16, b"New"), 17, 0));
-    assert_eq!(rt; misplaced(a, true, &below)?, Some(6));
+    assert!(rt; misplaced(a, true, &below)? == Some(6));
     // One name twice in a folder, but for the case of its letters.
     let alike = with_row(6, folder(key(16, b"NOTES"), 17, 0));
-    assert_eq!(rt; misplaced(a, true, &alike)?, Some(6));
+    assert!(rt; misplaced(a, true, &alike)? == Some(6));
     // The index keys are out of order, and no record is at fault.
-    assert_eq!(rt; misplaced(a, false, &sound())?, Some(9));
-    assert_eq!(rt; misplaced(a, false, &alike)?, Some(6));
+    assert!(rt; misplaced(a, false, &sound())? == Some(9));
+    assert!(rt; misplaced(a, false, &alike)? == Some(6));
     Ok(())
 }
 
@@ -203,10 +203,10 @@ fn finds_wrong_order(rt: HostRuntime) -> Result<(), AllocError> {
 fn finds_wrong_parents(rt: HostRuntime) -> Result<(), AllocError> {
     let a = rt.alloc();
     let of_none = with_more(file(key(25, b"Lost"), 20));
-    assert_eq!(rt; misplaced(a, true, &of_none)?, Some(9));
+    assert!(rt; misplaced(a, true, &of_none)? == Some(9));
     // ID 19 is a file's.
     let of_a_file = with_more(file(key(19, b"Part"), 20));
-    assert_eq!(rt; misplaced(a, true, &of_a_file)?, Some(9));
+    assert!(rt; misplaced(a, true, &of_a_file)? == Some(9));
     Ok(())
 }
 
@@ -225,9 +225,9 @@ fn ring() -> [Row; 6] {
 #[test]
 fn finds_a_ring(rt: HostRuntime) -> Result<(), AllocError> {
     let a = rt.alloc();
-    assert_eq!(rt; wrong_id(a, 22, &ring())?, None);
-    assert_eq!(rt; misplaced(a, true, &ring())?, Some(3));
-    assert_eq!(rt; wrong_valence(a, &ring())?, None);
+    assert!(rt; wrong_id(a, 22, &ring())? == None);
+    assert!(rt; misplaced(a, true, &ring())? == Some(3));
+    assert!(rt; wrong_valence(a, &ring())? == None);
     Ok(())
 }
 
@@ -235,9 +235,9 @@ fn finds_a_ring(rt: HostRuntime) -> Result<(), AllocError> {
 fn finds_missing_threads(rt: HostRuntime) -> Result<(), AllocError> {
     let a = rt.alloc();
     // Folder 17 is record 6.
-    assert_eq!(rt; misplaced(a, true, &without_row(7))?, Some(6));
+    assert!(rt; misplaced(a, true, &without_row(7))? == Some(6));
     // A file need not have a thread.
-    assert_eq!(rt; misplaced(a, true, &without_row(8))?, None);
+    assert!(rt; misplaced(a, true, &without_row(8))? == None);
     Ok(())
 }
 
@@ -245,18 +245,18 @@ fn finds_missing_threads(rt: HostRuntime) -> Result<(), AllocError> {
 fn finds_wrong_threads(rt: HostRuntime) -> Result<(), AllocError> {
     let a = rt.alloc();
     let elsewhere = with_row(7, thread(17, ThreadKind::Folder, key(2, b"Old")));
-    assert_eq!(rt; misplaced(a, true, &elsewhere)?, Some(7));
+    assert!(rt; misplaced(a, true, &elsewhere)? == Some(7));
     let renamed = with_row(7, thread(17, ThreadKind::Folder, key(16, b"Older")));
-    assert_eq!(rt; misplaced(a, true, &renamed)?, Some(7));
+    assert!(rt; misplaced(a, true, &renamed)? == Some(7));
     let as_a_file = with_row(7, thread(17, ThreadKind::File, key(16, b"Old")));
-    assert_eq!(rt; misplaced(a, true, &as_a_file)?, Some(7));
+    assert!(rt; misplaced(a, true, &as_a_file)? == Some(7));
     let as_a_folder = with_row(8, thread(18, ThreadKind::Folder, key(16, b"Notes")));
-    assert_eq!(rt; misplaced(a, true, &as_a_folder)?, Some(8));
+    assert!(rt; misplaced(a, true, &as_a_folder)? == Some(8));
     let of_none = with_more(thread(30, ThreadKind::File, key(2, b"Docs")));
-    assert_eq!(rt; misplaced(a, true, &of_none)?, Some(9));
+    assert!(rt; misplaced(a, true, &of_none)? == Some(9));
     // The case of a name's letters is free.
     let capitals = with_row(7, thread(17, ThreadKind::Folder, key(16, b"OLD")));
-    assert_eq!(rt; misplaced(a, true, &capitals)?, None);
+    assert!(rt; misplaced(a, true, &capitals)? == None);
     Ok(())
 }
 
@@ -264,10 +264,10 @@ fn finds_wrong_threads(rt: HostRuntime) -> Result<(), AllocError> {
 fn finds_wrong_valences(rt: HostRuntime) -> Result<(), AllocError> {
     let a = rt.alloc();
     let root = with_row(0, folder(key(1, b"Disk"), 2, 1));
-    assert_eq!(rt; wrong_valence(a, &root)?, Some(0));
+    assert!(rt; wrong_valence(a, &root)? == Some(0));
     let many = with_row(2, folder(key(2, b"Docs"), 16, 3));
-    assert_eq!(rt; wrong_valence(a, &many)?, Some(2));
+    assert!(rt; wrong_valence(a, &many)? == Some(2));
     let empty = with_row(6, folder(key(16, b"Old"), 17, 1));
-    assert_eq!(rt; wrong_valence(a, &empty)?, Some(6));
+    assert!(rt; wrong_valence(a, &empty)? == Some(6));
     Ok(())
 }

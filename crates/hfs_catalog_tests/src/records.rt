@@ -42,21 +42,21 @@ fn catalog(alloc: Global, name: &[u8]) -> Result<Vec<CatalogRecord>, Fail> {
 #[test]
 fn finds_wrong_records(rt: HostRuntime) -> Result<(), Fail> {
     let mut records = catalog(rt.alloc(), b"Read Me")?;
-    assert_eq!(rt; record_fault(&records), None);
+    assert!(rt; record_fault(&records) == None);
     records.push(CatalogRecord::new(key(3, b"a")?, thread(rt.alloc(), 1, key(1, b"a")?.name)?))?;
-    assert_eq!(rt; record_fault(&records), Some(3));
+    assert!(rt; record_fault(&records) == Some(3));
     let unnamed = catalog(rt.alloc(), b"")?;
-    assert_eq!(rt; record_fault(&unnamed), Some(2));
+    assert!(rt; record_fault(&unnamed) == Some(2));
     Ok(())
 }
 
 #[test]
 fn finds_wrong_names(rt: HostRuntime) -> Result<(), Fail> {
     let records = catalog(rt.alloc(), b"Read Me")?;
-    assert_eq!(rt; name_fault(&[key(2, b"")?], &records), None);
-    assert_eq!(rt; name_fault(&[key(2, b"a:b")?], &records), Some(3));
+    assert!(rt; name_fault(&[key(2, b"")?], &records) == None);
+    assert!(rt; name_fault(&[key(2, b"a:b")?], &records) == Some(3));
     let colon = catalog(rt.alloc(), b"a:b")?;
-    assert_eq!(rt; name_fault(&[], &colon), Some(2));
+    assert!(rt; name_fault(&[], &colon) == Some(2));
     Ok(())
 }
 
@@ -64,13 +64,13 @@ fn finds_wrong_names(rt: HostRuntime) -> Result<(), Fail> {
 fn finds_wrong_counts(rt: HostRuntime) -> Result<(), Fail> {
     let records = catalog(rt.alloc(), b"Read Me")?;
     let mut mdb = Mdb::read(&[0; 512]);
-    assert_eq!(rt; count_fault(&mdb, &records), Some(1));
+    assert!(rt; count_fault(&mdb, &records) == Some(1));
     mdb.root_files = 1;
-    assert_eq!(rt; count_fault(&mdb, &records), Some(3));
+    assert!(rt; count_fault(&mdb, &records) == Some(3));
     mdb.files = 1;
-    assert_eq!(rt; count_fault(&mdb, &records), None);
+    assert!(rt; count_fault(&mdb, &records) == None);
     mdb.folders = 1;
-    assert_eq!(rt; count_fault(&mdb, &records), Some(4));
+    assert!(rt; count_fault(&mdb, &records) == Some(4));
     Ok(())
 }
 
@@ -86,8 +86,8 @@ fn reads_an_item(rt: HostRuntime) -> Result<(), Fail> {
     let name = key(2, b"Read Me")?.name;
     let body = file(rt.alloc(), 16)?;
     let item = item_of(CatKey { parent: 2, name }, body.as_slice()).ok_or("no item")?;
-    assert_eq!(rt; item.key.parent, 2);
-    assert_eq!(rt; id_of(item), 16);
+    assert!(rt; item.key.parent == 2);
+    assert!(rt; id_of(item) == 16);
     let other = thread(rt.alloc(), 1, name)?;
     assert!(rt; item_of(CatKey { parent: 2, name }, other.as_slice()).is_none());
     Ok(())

@@ -1,9 +1,10 @@
 //! Changes of a small volume's bytes, and what the checks find then.
 use hfs_check::{MountFault, check_image};
-use hfs_fixtures::{SmallVolume, lay, small_image};
-use hfs_volume::mount_repaired;
-use std::alloc::Global;
+use hfs_fixtures::{FixtureFault, SmallVolume, lay, small_image};
+use hfs_volume::{Refused, mount_repaired};
+use std::alloc::{AllocError, Global};
 use std::process::Abort;
+use std::test::Fail;
 
 /// New bytes in a block of an image, from byte `at` on.
 #[derive(Clone, Copy)]
@@ -19,47 +20,39 @@ pub fn put(block: usize, at: usize, bytes: &[u8]) -> Edit<'_> {
 }
 
 /// Puts bytes into an image.
-pub fn apply(rt: &impl Abort, image: &mut [u8], edit: Edit) {
-    let Ok(()) = lay(image, edit.block, edit.at, edit.bytes) else {
-        panic!(rt; "an edit is outside the image");
-    };
+pub fn apply(image: &mut [u8], edit: Edit) -> Result<(), FixtureFault> {
+    lay(image, edit.block, edit.at, edit.bytes)
 }
 
 /// The image of a volume with these edits.
-pub fn image_of(rt: &(impl Abort + AllocGlobal), volume: SmallVolume, edits: &[Edit]) -> Vec<u8> {
-    let Ok(mut image) = small_image(rt.alloc(), volume) else {
-        panic!(rt; "the volume is not laid");
-    };
+pub fn image_of(
+    alloc: Global,
+    volume: SmallVolume,
+    edits: &[Edit],
+) -> Result<Vec<u8>, FixtureFault> {
+    let mut image = small_image(alloc, volume)?;
     for edit in edits {
-        apply(rt, &mut image, *edit);
+        apply(&mut image, *edit)?;
     }
-    image
+    Ok(image)
 }
 
 /// What the checks of an image find.
-pub fn fault_of(alloc: Global, image: &[u8]) -> Option<MountFault> {
+fn fault_of(alloc: Global, image: &[u8]) -> Option<MountFault> {
     match check_image(alloc, image) {
         Ok(_) => None,
         Err(fault) => Some(fault),
     }
 }
 
+/// Whether the checks of an image find this fault, or none.
+pub fn is_fault(alloc: Global, image: &[u8], want: Option<MountFault>) -> bool {
+    fault_of(alloc, image) == want
+}
+
 /// The fault of a check, of this number, at this place.
 pub fn check(number: u8, place: u64) -> Option<MountFault> {
     Some(MountFault::Check { number, place })
-}
-
-/// Checks a volume with these edits: this fault, or none. With its counts mended it is refused with the same fault and its bytes as
-/// they were, unless the fault is one that may go with the counts.
-pub fn assert_fault(
-    rt: &(impl Abort + AllocGlobal),
-    volume: SmallVolume,
-    edits: &[Edit],
-    want: Option<MountFault>,
-) {
-    let image = image_of(rt, volume, edits);
-    assert_eq!(rt; fault_of(rt.alloc(), &image), want);
-    assert_kept(rt, image, want);
 }
 
 /// Whether a fault may be that of a count which a repair mends: the trees' counts have the place 0 as other faults of a header node
@@ -77,20 +70,75 @@ fn may_be_count(fault: Option<MountFault>) -> bool {
     }
 }
 
-/// Mends the counts of an image with this fault.
-pub fn assert_kept(rt: &(impl Abort + AllocGlobal), image: Vec<u8>, fault: Option<MountFault>) {
-    let Ok(given) = Vec::from_slice(rt.alloc(), &image) else {
-        panic!(rt; "no memory");
-    };
-    match mount_repaired(rt.alloc(), image) {
-        Ok((_volume, fixes)) => {
-            assert!(rt; may_be_count(fault));
-            assert_eq!(rt; fixes.is_empty(), fault.is_none());
-        }
-        Err(refused) => {
-            assert!(rt; refused.image.as_slice() == given.as_slice());
-            assert!(rt; may_be_count(fault) || Some(refused.fault) == fault);
-            assert!(rt; fault.is_some());
-        }
+/// Whether an image with this fault was rightly refused with its counts mended, and comes back as it was.
+fn is_rightly_refused(refused: &Refused, given: &[u8], fault: Option<MountFault>) -> bool {
+    refused.image.as_slice() == given
+        && (may_be_count(fault) || Some(refused.fault) == fault)
+        && fault.is_some()
+}
+
+/// Whether mending the counts of an image with this fault ends as it must: it is refused with the same fault and its bytes as they
+/// were, unless the fault is one that may go with the counts.
+fn is_kept(alloc: Global, image: &[u8], fault: Option<MountFault>) -> Result<bool, AllocError> {
+    match mount_repaired(alloc, Vec::from_slice(alloc, image)?) {
+        Ok((_volume, fixes)) => { Ok(may_be_count(fault) && fixes.is_empty() == fault.is_none()) }
+        Err(refused) => Ok(is_rightly_refused(&refused, image, fault)),
     }
+}
+
+/// Whether the checks of an image find this fault, or none, and mending its counts ends as it must.
+pub fn is_found(
+    alloc: Global,
+    image: &[u8],
+    want: Option<MountFault>,
+) -> Result<bool, FixtureFault> {
+    Ok(is_fault(alloc, image, want) && is_kept(alloc, image, want)?)
+}
+
+/// Whether the checks of a volume with these edits find this fault, or none, and mending its counts ends as it must.
+fn has_fault(
+    alloc: Global,
+    volume: SmallVolume,
+    edits: &[Edit],
+    want: Option<MountFault>,
+) -> Result<bool, FixtureFault> {
+    let image = image_of(alloc, volume, edits)?;
+    is_found(alloc, &image, want)
+}
+
+/// Wants a volume with these edits to have this fault, or none.
+pub fn expect_fault(
+    rt: &(impl Abort + AllocGlobal),
+    volume: SmallVolume,
+    edits: &[Edit],
+    want: Option<MountFault>,
+) -> Result<(), Fail> {
+    assert!(rt; has_fault(rt.alloc(), volume, edits, want)?);
+    Ok(())
+}
+
+/// Wants volumes to have faults. Each row has a volume, a block, a place in it, the bytes that are put there, and the number and the
+/// place of the check that fails.
+pub fn expect_faults(
+    rt: &(impl Abort + AllocGlobal),
+    rows: &[(SmallVolume, usize, usize, &[u8], u8, u64)],
+) -> Result<(), Fail> {
+    for (row, (volume, block, at, bytes, number, place)) in rows.iter().enumerate() {
+        let edits = [put(*block, *at, bytes)];
+        let want = check(*number, *place);
+        assert!(rt; has_fault(rt.alloc(), *volume, &edits, want)?, "row {row}");
+    }
+    Ok(())
+}
+
+/// Wants volumes to be sound. Each row has a volume, a block, a place in it, and the bytes that are put there.
+pub fn expect_sound(
+    rt: &(impl Abort + AllocGlobal),
+    rows: &[(SmallVolume, usize, usize, &[u8])],
+) -> Result<(), Fail> {
+    for (row, (volume, block, at, bytes)) in rows.iter().enumerate() {
+        let edits = [put(*block, *at, bytes)];
+        assert!(rt; has_fault(rt.alloc(), *volume, &edits, None)?, "row {row}");
+    }
+    Ok(())
 }

@@ -1,66 +1,44 @@
 //! Order, parents, threads, valences and counts.
 
-use crate::edited::{assert_fault, check, put};
+use crate::edited::{check, expect_fault, expect_faults, expect_sound, put};
 use hfs_fixtures::SmallVolume;
+use std::test::Fail;
 
 #[test]
-fn order(rt: HostRuntime) {
-    // the second file's name: the first one's in the other letter case, and one before it
-    assert_fault(
-        &rt,
-        SmallVolume::TwoFiles,
-        &[put(7, 263, &[b'F'])],
-        check(8, 3),
-    );
-    assert_fault(
-        &rt,
-        SmallVolume::TwoFiles,
-        &[put(7, 263, &[b'e'])],
-        check(8, 3),
-    );
-    assert_fault(&rt, SmallVolume::TwoFiles, &[put(7, 263, &[b'G'])], None);
-    // the index key of the second leaf: above that leaf's least, equal to the first leaf's greatest, and between the two
-    assert_fault(
-        &rt,
-        SmallVolume::TwoLevels,
-        &[put(9, 63, &[b'g'])],
-        check(8, 3),
-    );
-    assert_fault(
-        &rt,
-        SmallVolume::TwoLevels,
-        &[put(9, 62, &[0, 0])],
-        check(8, 3),
-    );
-    assert_fault(&rt, SmallVolume::TwoLevels, &[put(9, 63, &[b'a'])], None);
-    assert_fault(&rt, SmallVolume::TwoLevels, &[put(9, 63, &[b'F'])], None);
+fn order(rt: HostRuntime) -> Result<(), Fail> {
+    let two_files = SmallVolume::TwoFiles;
+    let two_levels = SmallVolume::TwoLevels;
+    let wrong: [(SmallVolume, usize, usize, &[u8], u8, u64); 4] = [
+        // the second file's name: the first one's in the other letter case, and one before it
+        (two_files, 7, 263, b"F", 8, 3),
+        (two_files, 7, 263, b"e", 8, 3),
+        // the index key of the second leaf: above that leaf's least, and equal to the first leaf's greatest
+        (two_levels, 9, 63, b"g", 8, 3),
+        (two_levels, 9, 62, &[0, 0], 8, 3),
+    ];
+    expect_faults(&rt, &wrong)?;
+    let right: [(SmallVolume, usize, usize, &[u8]); 3] = [
+        (two_files, 7, 263, b"G"),
+        // an index key between the two
+        (two_levels, 9, 63, b"a"),
+        (two_levels, 9, 63, b"F"),
+    ];
+    expect_sound(&rt, &right)
 }
 
 #[test]
-fn parents(rt: HostRuntime) {
+fn parents(rt: HostRuntime) -> Result<(), Fail> {
     // of the second file: the first one, and items that aren't there
-    assert_fault(
-        &rt,
-        SmallVolume::TwoFiles,
-        &[put(7, 261, &[16])],
-        check(8, 3),
-    );
-    assert_fault(
-        &rt,
-        SmallVolume::TwoFiles,
-        &[put(7, 261, &[3])],
-        check(8, 3),
-    );
-    assert_fault(
-        &rt,
-        SmallVolume::TwoFiles,
-        &[put(7, 261, &[99])],
-        check(8, 3),
-    );
+    let rows: [(SmallVolume, usize, usize, &[u8], u8, u64); 3] = [
+        (SmallVolume::TwoFiles, 7, 261, &[16], 8, 3),
+        (SmallVolume::TwoFiles, 7, 261, &[3], 8, 3),
+        (SmallVolume::TwoFiles, 7, 261, &[99], 8, 3),
+    ];
+    expect_faults(&rt, &rows)
 }
 
 #[test]
-fn a_ring_of_folders(rt: HostRuntime) {
+fn a_ring_of_folders(rt: HostRuntime) -> Result<(), Fail> {
     let edits = [
         put(2, 33, &[18]),
         put(6, 23, &[6]),
@@ -79,22 +57,27 @@ fn a_ring_of_folders(rt: HostRuntime) {
         put(7, 346, &[0, 0, 0, 16]),
         put(7, 498, &[1, 0x9a, 1, 0x4c, 1, 0x16, 0, 200, 0, 146]),
     ];
-    assert_fault(&rt, SmallVolume::New, &edits, check(8, 3));
+    expect_fault(&rt, SmallVolume::New, &edits, check(8, 3))
 }
 
 #[test]
-fn threads(rt: HostRuntime) {
-    // the root's thread: another name, the name in the other letter case, another parent, the kind of a file's
-    assert_fault(&rt, SmallVolume::New, &[put(7, 115, &[b'E'])], check(8, 1));
-    assert_fault(&rt, SmallVolume::New, &[put(7, 115, &[b'd'])], None);
-    assert_fault(&rt, SmallVolume::New, &[put(7, 113, &[2])], check(8, 1));
-    assert_fault(&rt, SmallVolume::New, &[put(7, 100, &[4])], check(8, 1));
-    // no thread of the root, but one of no item
-    assert_fault(&rt, SmallVolume::New, &[put(7, 97, &[3])], check(8, 0));
+fn threads(rt: HostRuntime) -> Result<(), Fail> {
+    let new = SmallVolume::New;
+    let wrong: [(SmallVolume, usize, usize, &[u8], u8, u64); 4] = [
+        // the root's thread: another name, another parent, the kind of a file's
+        (new, 7, 115, b"E", 8, 1),
+        (new, 7, 113, &[2], 8, 1),
+        (new, 7, 100, &[4], 8, 1),
+        // no thread of the root, but one of no item
+        (new, 7, 97, &[3], 8, 0),
+    ];
+    expect_faults(&rt, &wrong)?;
+    // the name in the other letter case
+    expect_sound(&rt, &[(new, 7, 115, b"d")])
 }
 
 #[test]
-fn folders_without_threads(rt: HostRuntime) {
+fn folders_without_threads(rt: HostRuntime) -> Result<(), Fail> {
     let edits = [
         put(2, 33, &[17]),
         put(6, 23, &[3]),
@@ -103,11 +86,11 @@ fn folders_without_threads(rt: HostRuntime) {
         put(7, 160, &[0, 0, 0, 16]),
         put(7, 504, &[0, 224, 0, 146]),
     ];
-    assert_fault(&rt, SmallVolume::New, &edits, check(8, 2));
+    expect_fault(&rt, SmallVolume::New, &edits, check(8, 2))
 }
 
 #[test]
-fn threads_of_files(rt: HostRuntime) {
+fn threads_of_files(rt: HostRuntime) -> Result<(), Fail> {
     // the thread of file 16 behind it, of the same name, of the kind of a folder's, and of another item
     let thread = [
         put(6, 23, &[4]),
@@ -117,22 +100,26 @@ fn threads_of_files(rt: HostRuntime) {
         put(7, 502, &[1, 0x36, 1, 0]),
         put(7, 264, &[4]),
     ];
-    assert_fault(&rt, SmallVolume::OneFile, &thread, None);
+    expect_fault(&rt, SmallVolume::OneFile, &thread, None)?;
     let mut of_folder = thread;
     of_folder[5] = put(7, 264, &[3]);
-    assert_fault(&rt, SmallVolume::OneFile, &of_folder, check(8, 3));
+    expect_fault(&rt, SmallVolume::OneFile, &of_folder, check(8, 3))?;
     let mut of_none = thread;
     of_none[5] = put(7, 261, &[17]);
-    assert_fault(&rt, SmallVolume::OneFile, &of_none, check(8, 3));
+    expect_fault(&rt, SmallVolume::OneFile, &of_none, check(8, 3))
 }
 
 #[test]
-fn valences_and_counts(rt: HostRuntime) {
-    assert_fault(&rt, SmallVolume::New, &[put(7, 27, &[1])], check(9, 0));
-    assert_fault(&rt, SmallVolume::OneFile, &[put(7, 27, &[0])], check(9, 0));
-    assert_fault(&rt, SmallVolume::OneFile, &[put(7, 27, &[2])], check(9, 0));
-    assert_fault(&rt, SmallVolume::New, &[put(2, 13, &[1])], check(10, 1));
-    assert_fault(&rt, SmallVolume::New, &[put(2, 83, &[1])], check(10, 2));
-    assert_fault(&rt, SmallVolume::New, &[put(2, 87, &[1])], check(10, 3));
-    assert_fault(&rt, SmallVolume::New, &[put(2, 91, &[1])], check(10, 4));
+fn valences_and_counts(rt: HostRuntime) -> Result<(), Fail> {
+    let new = SmallVolume::New;
+    let rows: [(SmallVolume, usize, usize, &[u8], u8, u64); 7] = [
+        (new, 7, 27, &[1], 9, 0),
+        (SmallVolume::OneFile, 7, 27, &[0], 9, 0),
+        (SmallVolume::OneFile, 7, 27, &[2], 9, 0),
+        (new, 2, 13, &[1], 10, 1),
+        (new, 2, 83, &[1], 10, 2),
+        (new, 2, 87, &[1], 10, 3),
+        (new, 2, 91, &[1], 10, 4),
+    ];
+    expect_faults(&rt, &rows)
 }

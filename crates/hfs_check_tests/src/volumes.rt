@@ -1,111 +1,135 @@
 //! Lengths of images, and the master directory block.
 
-use crate::edited::{assert_fault, assert_kept, check, fault_of, image_of, put};
+use crate::edited::{check, expect_fault, expect_sound, image_of, is_fault, is_found, put};
 use hfs_check::{Alternate, MountFault, report};
-use hfs_fixtures::SmallVolume;
+use hfs_fixtures::{FixtureFault, SmallVolume};
+use std::alloc::{AllocError, Global};
 use std::process::Abort;
+use std::test::Fail;
 
-/// Checks the first `len` bytes of a new volume with 1,024 zero bytes behind it.
-fn assert_cut(rt: &(impl Abort + AllocGlobal), len: usize, want: Option<MountFault>) {
-    let mut image = image_of(rt, SmallVolume::New, &[]);
-    let Ok(()) = image.extend_from_slice(&[0; 1024]) else {
-        panic!(rt; "no memory");
-    };
-    assert!(rt; len <= image.len());
+/// The first `len` bytes of a new volume with 1,024 zero bytes behind it.
+fn cut_image(alloc: Global, len: usize) -> Result<Vec<u8>, FixtureFault> {
+    let mut image = image_of(alloc, SmallVolume::New, &[])?;
+    image.extend_from_slice(&[0; 1024])?;
     image.truncate(len);
-    assert_eq!(rt; fault_of(rt.alloc(), &image), want);
-    assert_kept(rt, image, want);
+    Ok(image)
+}
+
+/// Whether an image has so many bytes, and this fault, or none.
+fn is_cut(
+    alloc: Global,
+    image: &[u8],
+    len: usize,
+    want: Option<MountFault>,
+) -> Result<bool, FixtureFault> {
+    Ok(image.len() == len && is_found(alloc, image, want)?)
+}
+
+/// Whether a new volume that is cut to so many bytes, or made longer, has this fault, or none.
+fn has_fault(alloc: Global, len: usize, want: Option<MountFault>) -> Result<bool, FixtureFault> {
+    let image = cut_image(alloc, len)?;
+    is_cut(alloc, &image, len, want)
 }
 
 #[test]
-fn lengths(rt: HostRuntime) {
-    for len in [0, 1, 512, 1_535] {
-        assert_cut(&rt, len, Some(MountFault::Short));
+fn lengths(rt: HostRuntime) -> Result<(), Fail> {
+    let short = Some(MountFault::Short);
+    let past_the_end = Some(MountFault::BadMdb(4));
+    for (len, want) in [
+        (0, short),
+        (1, short),
+        (512, short),
+        (1_535, short),
+        (1_536, past_the_end),
+        (2_048, past_the_end),
+        (31_232, past_the_end),
+        (31_743, past_the_end),
+        (31_744, None),
+        (32_255, None),
+        (32_767, None),
+        (32_768, None),
+        (33_279, None),
+        (33_792, None),
+    ] {
+        assert!(rt; has_fault(rt.alloc(), len, want)?, "{len}");
     }
-    for len in [1_536, 2_048, 31_232, 31_743] {
-        assert_cut(&rt, len, Some(MountFault::BadMdb(4)));
+    Ok(())
+}
+
+#[test]
+fn lengths_of_zeros(rt: HostRuntime) {
+    assert!(rt; is_fault(rt.alloc(), &[0; 1_535], Some(MountFault::Short)));
+    assert!(rt; is_fault(rt.alloc(), &[0; 1_536], Some(MountFault::NoMacDisk)));
+}
+
+/// Whether the report of an image tells of no fault, and this of its alternate.
+fn is_told(alloc: Global, image: &[u8], want: Alternate) -> Result<bool, FixtureFault> {
+    let told = report(alloc, image)?;
+    Ok(told.fault == None && told.alternate == want)
+}
+
+/// Whether this is the alternate of a new volume that is cut to so many bytes, or made longer.
+fn has_alternate(alloc: Global, len: usize, want: Alternate) -> Result<bool, FixtureFault> {
+    let image = cut_image(alloc, len)?;
+    is_told(alloc, &image, want)
+}
+
+#[test]
+fn alternates_of_lengths(rt: HostRuntime) -> Result<(), Fail> {
+    for (len, want) in [
+        (31_744, Alternate::Missing),
+        (32_767, Alternate::Missing),
+        (32_768, Alternate::Same),
+        (33_279, Alternate::Same),
+        (33_280, Alternate::Missing),
+    ] {
+        assert!(rt; has_alternate(rt.alloc(), len, want)?, "{len}");
     }
-    for len in [31_744, 32_255, 32_767, 32_768, 33_279, 33_792] {
-        assert_cut(&rt, len, None);
+    Ok(())
+}
+
+/// Wants a new volume with these bytes in its master directory block to fail in this test of that block.
+fn expect_bad(
+    rt: &(impl Abort + AllocGlobal),
+    at: usize,
+    bytes: &[u8],
+    test: u8,
+) -> Result<(), Fail> {
+    let want = Some(MountFault::BadMdb(test));
+    expect_fault(rt, SmallVolume::New, &[put(2, at, bytes)], want)
+}
+
+#[test]
+fn master_directory_blocks(rt: HostRuntime) -> Result<(), Fail> {
+    expect_fault(&rt, SmallVolume::New, &[], None)?;
+    let other = [put(2, 1, &[0x45])];
+    expect_fault(&rt, SmallVolume::New, &other, Some(MountFault::NoMacDisk))?;
+    let rows: [(usize, &[u8], u8); 10] = [
+        (18, &[0, 0], 1),
+        // allocation blocks of no byte, of half a block, of one and a half
+        (20, &[0, 0, 0, 0], 2),
+        (20, &[0, 0, 1, 0], 2),
+        (20, &[0, 0, 3, 0], 2),
+        // the bitmap over the master directory block, over the first allocation block, and that block over the bitmap
+        (14, &[0, 2], 3),
+        (14, &[0, 4], 3),
+        (28, &[0, 3], 3),
+        // one allocation block too many, and all of them too large
+        (18, &[0, 61], 4),
+        (20, &[0, 0, 4, 0], 4),
+        (30, &[0, 0, 0, 15], 5),
+    ];
+    for (at, bytes, test) in rows {
+        expect_bad(&rt, at, bytes, test)?;
     }
-    assert_eq!(rt; fault_of(rt.alloc(), &[0; 1_535]), Some(MountFault::Short));
-    assert_eq!(rt;
-        fault_of(rt.alloc(), &[0; 1_536]),
-        Some(MountFault::NoMacDisk)
-    );
-}
-
-/// Asks for the alternate of the first `len` bytes of a new volume with 1,024 zero bytes behind it.
-fn assert_alternate(rt: &(impl Abort + AllocGlobal), len: usize, want: Alternate) {
-    let mut image = image_of(rt, SmallVolume::New, &[]);
-    let Ok(()) = image.extend_from_slice(&[0; 1024]) else {
-        panic!(rt; "no memory");
-    };
-    assert!(rt; len <= image.len());
-    let Ok(told) = report(rt.alloc(), &image[..len]) else {
-        panic!(rt; "no memory");
-    };
-    assert_eq!(rt; told.fault, None);
-    assert_eq!(rt; told.alternate, want);
+    Ok(())
 }
 
 #[test]
-fn alternates_of_lengths(rt: HostRuntime) {
-    assert_alternate(&rt, 31_744, Alternate::Missing);
-    assert_alternate(&rt, 32_767, Alternate::Missing);
-    assert_alternate(&rt, 32_768, Alternate::Same);
-    assert_alternate(&rt, 33_279, Alternate::Same);
-    assert_alternate(&rt, 33_280, Alternate::Missing);
-}
-
-/// Checks a new volume with these bytes in its master directory block: this test of that block fails.
-fn assert_bad(rt: &(impl Abort + AllocGlobal), at: usize, bytes: &[u8], test: u8) {
-    assert_fault(
-        rt,
-        SmallVolume::New,
-        &[put(2, at, bytes)],
-        Some(MountFault::BadMdb(test)),
-    );
-}
-
-#[test]
-fn master_directory_blocks(rt: HostRuntime) {
-    assert_fault(&rt, SmallVolume::New, &[], None);
-    assert_fault(
-        &rt,
-        SmallVolume::New,
-        &[put(2, 1, &[0x45])],
-        Some(MountFault::NoMacDisk),
-    );
-    assert_bad(&rt, 18, &[0, 0], 1);
-    // allocation blocks of no byte, of half a block, of one and a half
-    assert_bad(&rt, 20, &[0, 0, 0, 0], 2);
-    assert_bad(&rt, 20, &[0, 0, 1, 0], 2);
-    assert_bad(&rt, 20, &[0, 0, 3, 0], 2);
-    // the bitmap over the master directory block, over the first allocation block, and that block over the bitmap
-    assert_bad(&rt, 14, &[0, 2], 3);
-    assert_bad(&rt, 14, &[0, 4], 3);
-    assert_bad(&rt, 28, &[0, 3], 3);
-    // one allocation block too many, and all of them too large
-    assert_bad(&rt, 18, &[0, 61], 4);
-    assert_bad(&rt, 20, &[0, 0, 4, 0], 4);
-    assert_bad(&rt, 30, &[0, 0, 0, 15], 5);
-}
-
-#[test]
-fn next_ids_and_block_numbers_at_their_bounds(rt: HostRuntime) {
-    assert_fault(&rt, SmallVolume::New, &[put(2, 30, &[0xff; 4])], None);
+fn next_ids_and_block_numbers_at_their_bounds(rt: HostRuntime) -> Result<(), Fail> {
+    expect_sound(&rt, &[(SmallVolume::New, 2, 30, &[0xff; 4])])?;
     // allocation blocks up to the image's end: two more are free than the block says
-    assert_fault(
-        &rt,
-        SmallVolume::New,
-        &[put(2, 18, &[0, 60])],
-        check(12, 60),
-    );
-    assert_fault(
-        &rt,
-        SmallVolume::New,
-        &[put(2, 18, &[0, 60]), put(2, 34, &[0, 52])],
-        None,
-    );
+    let more = put(2, 18, &[0, 60]);
+    expect_fault(&rt, SmallVolume::New, &[more], check(12, 60))?;
+    expect_fault(&rt, SmallVolume::New, &[more, put(2, 34, &[0, 52])], None)
 }

@@ -6,27 +6,37 @@ use hfs_commands::{Fault, LoadFault, load, load_file, load_within, run_info, wri
 use std::alloc::{AllocError, Global};
 use std::fs::{File, remove_file};
 use std::io::Read;
+use std::rt::Files;
 use std::test::Fail;
+
+/// Whether so many bytes are loaded.
+fn is_whole(alloc: Global, count: usize) -> Result<bool, AllocError> {
+    let bytes = vec![in alloc; 7u8; count]?;
+    let mut input: &[u8] = bytes.as_slice();
+    match load(alloc, &mut input) {
+        Ok(loaded) => Ok(loaded.as_slice() == bytes.as_slice()),
+        Err(_fault) => Ok(false),
+    }
+}
 
 #[test]
 fn whole_inputs_are_loaded(rt: HostRuntime) -> Result<(), Fail> {
     for count in [0usize, 1, 65_535, 65_536, 65_537, 200_000] {
-        let bytes = vec![in rt.alloc(); 7u8; count]?;
-        let mut input: &[u8] = bytes.as_slice();
-        let loaded = load(rt.alloc(), &mut input)?;
-        assert!(rt; loaded.as_slice() == bytes.as_slice(), "at {count}");
+        assert!(rt; is_whole(rt.alloc(), count)?, "at {count}");
     }
     Ok(())
+}
+
+/// Whether it is told that a reader fails after so many bytes.
+fn is_failed(alloc: Global, left: usize) -> bool {
+    let loaded = load(alloc, &mut FailingReader { left });
+    matches!(loaded, Err(LoadFault::ReadFailed))
 }
 
 #[test]
 fn failed_loads_are_told(rt: HostRuntime) {
     for left in 0..4097 {
-        let loaded = load(rt.alloc(), &mut FailingReader { left });
-        assert!(rt;
-            matches!(loaded, Err(LoadFault::ReadFailed)),
-            "after {left}"
-        );
+        assert!(rt; is_failed(rt.alloc(), left), "after {left}");
     }
 }
 
@@ -87,44 +97,63 @@ fn inputs_at_the_limit_are_loaded(rt: HostRuntime) -> Result<(), Fail> {
     Ok(())
 }
 
+/// Whether it is told, within a limit of 4,096 bytes, that a reader fails after so many.
+fn is_failed_within(alloc: Global, left: usize) -> bool {
+    let loaded = load_within(alloc, &mut FailingReader { left }, 4_096);
+    matches!(loaded, Err(LoadFault::ReadFailed))
+}
+
 #[test]
 fn failed_loads_within_a_limit_are_told(rt: HostRuntime) {
     for left in 0..4_097 {
-        let loaded = load_within(rt.alloc(), &mut FailingReader { left }, 4_096);
-        assert!(rt;
-            matches!(loaded, Err(LoadFault::ReadFailed)),
-            "after {left}"
-        );
+        assert!(rt; is_failed_within(rt.alloc(), left), "after {left}");
     }
     let loaded = load_within(rt.alloc(), &mut FailingReader { left: 4_097 }, 4_096);
     assert!(rt; matches!(loaded, Err(LoadFault::TooLarge)));
+}
+
+/// Whether a file has these bytes.
+fn has_bytes(rt: &(impl Files + AllocGlobal), path: &str, bytes: &[u8]) -> bool {
+    match load_file(rt, path) {
+        Ok(loaded) => loaded.as_slice() == bytes,
+        Err(_fault) => false,
+    }
+}
+
+/// Whether a file can't be loaded.
+fn is_unread(rt: &(impl Files + AllocGlobal), path: &str) -> bool {
+    let loaded = load_file(rt, path);
+    matches!(&loaded, Err(Fault::CannotRead(file)) if *file == path)
+}
+
+/// Whether no file can be written there.
+fn is_unwritten(rt: &impl Files, path: &str, bytes: &[u8]) -> bool {
+    let written = write_file(rt, path, bytes);
+    matches!(&written, Err(Fault::CannotWrite(file)) if *file == path)
+}
+
+/// Prints the lines of a file.
+fn lines_of(rt: &(impl Files + AllocGlobal), path: &str) -> Result<Vec<u8>, Fail> {
+    let mut output = Vec::new(rt.alloc());
+    let mut file = File::open(rt, path)?;
+    run_info(rt.alloc(), &mut file, &mut output)?;
+    Ok(output)
 }
 
 #[test]
 fn files_are_read_and_written(rt: HostRuntime) -> Result<(), Fail> {
     let head = head_of_sample(&headers::LOCKED);
     assert!(rt; write_file(&rt, "locked.img", &head).is_ok());
-    let loaded = load_file(&rt, "locked.img");
-    assert!(rt; matches!(&loaded, Ok(bytes) if bytes.as_slice() == head.as_slice()));
-    let mut output = Vec::new(rt.alloc());
-    let mut file = File::open(&rt, "locked.img")?;
-    run_info(rt.alloc(), &mut file, &mut output)?;
-    assert!(rt;
-        str::from_utf8(output.as_slice())?.starts_with("drSigWord 4244\ndrCrDate 2846482013\n")
-    );
-    assert!(rt;
-        matches!(
-            load_file(&rt, "missing.img"),
-            Err(Fault::CannotRead("missing.img"))
-        )
-    );
-    assert!(rt; matches!(load_file(&rt, "."), Err(Fault::CannotRead("."))));
-    assert!(rt;
-        matches!(
-            write_file(&rt, "no/folder.img", &head),
-            Err(Fault::CannotWrite("no/folder.img"))
-        )
-    );
+    assert!(rt; has_bytes(&rt, "locked.img", &head));
+    let lines = lines_of(&rt, "locked.img")?;
+    assert!(rt; lines.starts_with(b"drSigWord 4244\ndrCrDate 2846482013\n"));
     remove_file(&rt, "locked.img")?;
     Ok(())
+}
+
+#[test]
+fn other_paths_are_refused(rt: HostRuntime) {
+    assert!(rt; is_unread(&rt, "missing.img") && is_unread(&rt, "."));
+    let head = head_of_sample(&headers::LOCKED);
+    assert!(rt; is_unwritten(&rt, "no/folder.img", &head));
 }

@@ -1,82 +1,108 @@
 //! What is told of small volumes: an empty one, and one with a file in four extents.
 use crate::devices::FailingWriter;
 use hfs_commands::{Fault, check_text, list_text, write_fork};
-use hfs_fixtures::{SmallVolume, lay, small_image};
+use hfs_fixtures::{FixtureFault, SmallVolume, lay, small_image};
 use hfs_model::Fork;
-use hfs_volume::mount;
+use hfs_volume::{Volume, mount};
 use std::alloc::{AllocError, Global};
+use std::io::Write;
 use std::test::Fail;
 
 const EMPTY: &str = "sound\nfiles 0\nfolders 0\nfree 50\nalternate same\nunowned 0\n";
 
 const WITH_FILE: &str = "sound\nfiles 1\nfolders 0\nfree 46\nalternate same\nunowned 0\n";
 
+const UNOWNED: &str = "sound\nfiles 0\nfolders 0\nfree 49\nalternate same\nunowned 1\n";
+
+/// Whether the check of an image has this exit status and these lines.
+fn is_checked(alloc: Global, image: &[u8], status: u8, lines: &str) -> Result<bool, AllocError> {
+    let (told, text) = check_text(alloc, image)?;
+    Ok(told == status && text.as_str() == lines)
+}
+
+/// A new volume into which bytes are laid: each time a block, a place in it, and the bytes there.
+fn laid(alloc: Global, rows: &[(usize, usize, &'static [u8])]) -> Result<Vec<u8>, FixtureFault> {
+    let mut image = small_image(alloc, SmallVolume::New)?;
+    for (block, at, bytes) in rows {
+        lay(&mut image, *block, *at, bytes)?;
+    }
+    Ok(image)
+}
+
 #[test]
 fn images_are_checked(rt: HostRuntime) -> Result<(), Fail> {
-    let mut image = small_image(rt.alloc(), SmallVolume::New)?;
-    let (status, lines) = check_text(rt.alloc(), &image)?;
-    assert_eq!(rt; lines.as_str(), EMPTY);
-    assert_eq!(rt; status, 0);
-    lay(&mut image, 2, 84, &[0, 0, 0, 1])?;
-    let (status, lines) = check_text(rt.alloc(), &image)?;
-    assert_eq!(rt; lines.as_str(), "refused check C10 at 3\n");
-    assert_eq!(rt; status, 2);
-    let image = small_image(rt.alloc(), SmallVolume::OneFile)?;
-    let (status, lines) = check_text(rt.alloc(), &image)?;
-    assert_eq!(rt; lines.as_str(), WITH_FILE);
-    assert_eq!(rt; status, 0);
+    let image = small_image(rt.alloc(), SmallVolume::New)?;
+    assert!(rt; is_checked(rt.alloc(), &image, 0, EMPTY)?);
     Ok(())
 }
 
-/// Zeros, as many as these.
-fn zeros(alloc: Global, len: usize) -> Result<Vec<u8>, AllocError> {
-    vec![in alloc; 0u8; len]
+#[test]
+fn wrong_images_are_checked(rt: HostRuntime) -> Result<(), Fail> {
+    let image = laid(rt.alloc(), &[(2, 84, &[0, 0, 0, 1])])?;
+    assert!(rt; is_checked(rt.alloc(), &image, 2, "refused check C10 at 3\n")?);
+    Ok(())
+}
+
+#[test]
+fn images_with_files_are_checked(rt: HostRuntime) -> Result<(), Fail> {
+    let image = small_image(rt.alloc(), SmallVolume::OneFile)?;
+    assert!(rt; is_checked(rt.alloc(), &image, 0, WITH_FILE)?);
+    Ok(())
+}
+
+/// Whether so many zeros are refused with this line.
+fn are_refused(alloc: Global, len: usize, line: &str) -> Result<bool, AllocError> {
+    let image = vec![in alloc; 0u8; len]?;
+    is_checked(alloc, &image, 2, line)
 }
 
 #[test]
 fn other_bytes_are_refused(rt: HostRuntime) -> Result<(), Fail> {
-    let image = zeros(rt.alloc(), 1535)?;
-    let (status, lines) = check_text(rt.alloc(), &image)?;
-    assert_eq!(rt; lines.as_str(), "refused image too short\n");
-    assert_eq!(rt; status, 2);
-    let image = zeros(rt.alloc(), 1536)?;
-    let (status, lines) = check_text(rt.alloc(), &image)?;
-    assert_eq!(rt; lines.as_str(), "refused not an HFS volume (-57)\n");
-    assert_eq!(rt; status, 2);
+    assert!(rt; are_refused(rt.alloc(), 1535, "refused image too short\n")?);
+    assert!(rt; are_refused(rt.alloc(), 1536, "refused not an HFS volume (-57)\n")?);
     Ok(())
 }
 
 #[test]
 fn blocks_that_nobody_owns_are_told(rt: HostRuntime) -> Result<(), Fail> {
-    let mut image = small_image(rt.alloc(), SmallVolume::New)?;
-    lay(&mut image, 2, 34, &[0, 49])?;
-    lay(&mut image, 3, 2, &[0x08])?;
-    let (status, lines) = check_text(rt.alloc(), &image)?;
-    assert_eq!(rt;
-        lines.as_str(),
-        "sound\nfiles 0\nfolders 0\nfree 49\nalternate same\nunowned 1\n"
-    );
-    assert_eq!(rt; status, 0);
+    let image = laid(rt.alloc(), &[(2, 34, &[0, 49]), (3, 2, &[0x08])])?;
+    assert!(rt; is_checked(rt.alloc(), &image, 0, UNOWNED)?);
     Ok(())
+}
+
+/// A small volume, mounted.
+fn mounted(alloc: Global, volume: SmallVolume) -> Result<Volume, Fail> {
+    let image = small_image(alloc, volume)?;
+    match mount(alloc, image) {
+        Ok(volume) => Ok(volume),
+        Err(_refused) => Err(Fail::new("a small volume was refused")),
+    }
+}
+
+/// Whether the list of a folder has this exit status and these lines.
+fn is_listed(
+    alloc: Global,
+    volume: &Volume,
+    dir: u32,
+    status: u8,
+    lines: &str,
+) -> Result<bool, AllocError> {
+    let (told, text) = list_text(alloc, volume, dir)?;
+    Ok(told == status && text.as_str() == lines)
 }
 
 #[test]
 fn folders_are_listed(rt: HostRuntime) -> Result<(), Fail> {
-    let Ok(volume) = mount(rt.alloc(), small_image(rt.alloc(), SmallVolume::New)?) else {
-        return Err(Fail::new("a new volume was refused"));
-    };
-    let (status, lines) = list_text(rt.alloc(), &volume, 2)?;
-    assert_eq!(rt; lines.as_str(), "");
-    assert_eq!(rt; status, 0);
-    let (status, lines) = list_text(rt.alloc(), &volume, 99)?;
-    assert_eq!(rt; lines.as_str(), "code -120\n");
-    assert_eq!(rt; status, 3);
-    let Ok(volume) = mount(rt.alloc(), small_image(rt.alloc(), SmallVolume::OneFile)?) else {
-        return Err(Fail::new("a volume with a file was refused"));
-    };
-    let (status, lines) = list_text(rt.alloc(), &volume, 2)?;
-    assert_eq!(rt; lines.as_str(), "f\t16\t2000\t0\tf\n");
-    assert_eq!(rt; status, 0);
+    let volume = mounted(rt.alloc(), SmallVolume::New)?;
+    assert!(rt; is_listed(rt.alloc(), &volume, 2, 0, "")?);
+    assert!(rt; is_listed(rt.alloc(), &volume, 99, 3, "code -120\n")?);
+    Ok(())
+}
+
+#[test]
+fn files_are_listed(rt: HostRuntime) -> Result<(), Fail> {
+    let volume = mounted(rt.alloc(), SmallVolume::OneFile)?;
+    assert!(rt; is_listed(rt.alloc(), &volume, 2, 0, "f\t16\t2000\t0\tf\n")?);
     Ok(())
 }
 
@@ -92,45 +118,62 @@ fn is_file(bytes: &[u8]) -> bool {
     bytes.len() == 2000
 }
 
+/// Writes a fork, and answers the code of the reply.
+fn written<W: Write>(
+    alloc: Global,
+    writer: &mut W,
+    volume: &Volume,
+    dir: u32,
+    name: &[u8],
+    fork: Fork,
+) -> Result<i16, Fault<'static>> {
+    let reply = write_fork(alloc, writer, volume, dir, name, fork)?;
+    Ok(reply.code)
+}
+
+/// Whether the data fork of `f` is written.
+fn is_written(alloc: Global, volume: &Volume) -> bool {
+    let mut bytes = Vec::new(alloc);
+    let code = written(alloc, &mut bytes, volume, 2, b"F", Fork::DataFork);
+    matches!(code, Ok(0)) && is_file(&bytes)
+}
+
+/// Whether nothing is written of a resource fork, with this code.
+fn is_not_written(alloc: Global, volume: &Volume, dir: u32, name: &[u8], code: i16) -> bool {
+    let mut bytes = Vec::new(alloc);
+    let told = written(alloc, &mut bytes, volume, dir, name, Fork::ResFork);
+    matches!(told, Ok(answered) if answered == code) && bytes.is_empty()
+}
+
 #[test]
 fn forks_are_written(rt: HostRuntime) -> Result<(), Fail> {
-    let Ok(volume) = mount(rt.alloc(), small_image(rt.alloc(), SmallVolume::OneFile)?) else {
-        return Err(Fail::new("a volume with a file was refused"));
-    };
-    let mut bytes = Vec::new(rt.alloc());
-    let Ok(reply) = write_fork(rt.alloc(), &mut bytes, &volume, 2, b"F", Fork::DataFork) else {
-        return Err(Fail::new("memory was refused"));
-    };
-    assert_eq!(rt; reply.code, 0);
-    assert!(rt; is_file(&bytes));
+    let volume = mounted(rt.alloc(), SmallVolume::OneFile)?;
+    assert!(rt; is_written(rt.alloc(), &volume));
     for (dir, name, code) in [
         (2u32, &b"f"[..], 0i16),
         (2, b"g", -43),
         (99, b"f", -120),
         (1, b"D", -120),
     ] {
-        let mut bytes = Vec::new(rt.alloc());
-        let Ok(reply) = write_fork(rt.alloc(), &mut bytes, &volume, dir, name, Fork::ResFork) else {
-            return Err(Fail::new("memory was refused"));
-        };
-        assert_eq!(rt; reply.code, code);
-        assert!(rt; bytes.is_empty());
+        let is_so = is_not_written(rt.alloc(), &volume, dir, name, code);
+        assert!(rt; is_so, "{code} in {dir}");
     }
     Ok(())
 }
 
+/// The code of the reply where a writer takes so many bytes of a fork.
+fn taken(alloc: Global, volume: &Volume, left: usize) -> Result<i16, Fault<'static>> {
+    let mut writer = FailingWriter { left };
+    written(alloc, &mut writer, volume, 2, b"f", Fork::DataFork)
+}
+
 #[test]
 fn failed_writes_of_forks_are_told(rt: HostRuntime) -> Result<(), Fail> {
-    let Ok(volume) = mount(rt.alloc(), small_image(rt.alloc(), SmallVolume::OneFile)?) else {
-        return Err(Fail::new("a volume with a file was refused"));
-    };
+    let volume = mounted(rt.alloc(), SmallVolume::OneFile)?;
     for left in [0usize, 1, 1999] {
-        let mut writer = FailingWriter { left };
-        let ended = write_fork(rt.alloc(), &mut writer, &volume, 2, b"f", Fork::DataFork);
-        assert!(rt; matches!(&ended, Err(Fault::OutputFailed)), "after {left}");
+        let ended = taken(rt.alloc(), &volume, left);
+        assert!(rt; matches!(ended, Err(Fault::OutputFailed)), "after {left}");
     }
-    let mut writer = FailingWriter { left: 2000 };
-    let ended = write_fork(rt.alloc(), &mut writer, &volume, 2, b"f", Fork::DataFork);
-    assert!(rt; matches!(&ended, Ok(reply) if reply.code == 0));
+    assert!(rt; matches!(taken(rt.alloc(), &volume, 2000), Ok(0)));
     Ok(())
 }

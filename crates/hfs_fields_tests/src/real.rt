@@ -1,6 +1,6 @@
 //! A leaf of the catalog of a floppy that hfsutils made, and one record more of its next leaf. What they must say is what libhfs
 //! lists of the volume: each date there is in seconds since 1 January 1970, which is 2,082,844,800 seconds after 1904.
-use hfs_fields::{CatKey, DirRecord, FileRecord, ThreadKind, ThreadRecord};
+use hfs_fields::{CatKey, DirRecord, FileRecord, Name, ThreadKind, ThreadRecord};
 
 /// When every item of these records was made and last changed: 763,637,213 seconds after 1 January 1970.
 const MADE: u32 = 2_846_482_013;
@@ -60,71 +60,75 @@ fn locked_record() -> [u8; 112] {
     ]
 }
 
+/// The parent and the name of a record's key, and where its body begins.
+fn key_in(record: &[u8]) -> Option<(u32, Name, usize)> {
+    let (key, body) = CatKey::read_leaf(record)?;
+    Some((key.parent, key.name, body))
+}
+
+/// The thread of a folder that a record holds: the parent of the record's key, and the folder's parent and name.
+fn thread_in(record: &[u8]) -> Option<(u32, u32, Name)> {
+    let (id, name, body) = key_in(record)?;
+    let thread = ThreadRecord::read(record.get(body..)?)?;
+    match (name.bytes(), thread.kind) {
+        ([], ThreadKind::Folder) => Some((id, thread.parent, thread.name)),
+        ([], ThreadKind::File) | ([_, ..], _) => None,
+    }
+}
+
 #[test]
 fn threads(rt: HostRuntime) {
     let node = node();
-    let bytes = &node[14..68];
-    let (key, body) = CatKey::read_leaf(bytes).expect(&rt, "a key");
-    assert_eq!(rt; key.parent, 16);
-    assert_eq!(rt; key.name.bytes().len(), 0);
-    let thread = ThreadRecord::read(&bytes[body..]).expect(&rt, "a thread");
-    assert_eq!(rt; thread.kind, ThreadKind::Folder);
-    assert_eq!(rt; thread.parent, 2);
-    assert_eq!(rt; thread.name.bytes(), b"System Folder".as_slice());
+    let (id, parent, name) = thread_in(&node[14..68]).expect(&rt, "a thread");
+    assert!(rt; id == 16 && parent == 2 && name.bytes() == b"System Folder".as_slice());
+    let (id, _parent, name) = thread_in(&node[68..122]).expect(&rt, "a thread");
+    assert!(rt; id == 17 && name.bytes() == b"Documents".as_slice());
+}
 
-    let bytes = &node[68..122];
-    let (key, body) = CatKey::read_leaf(bytes).expect(&rt, "a key");
-    assert_eq!(rt; key.parent, 17);
-    let thread = ThreadRecord::read(&bytes[body..]).expect(&rt, "a thread");
-    assert_eq!(rt; thread.name.bytes(), b"Documents".as_slice());
+/// The folder that a record holds, with its parent and its name.
+fn folder_in(record: &[u8]) -> Option<(u32, Name, DirRecord)> {
+    let (parent, name, body) = key_in(record)?;
+    let folder = DirRecord::read(record.get(body..)?)?;
+    Some((parent, name, folder))
 }
 
 #[test]
 fn folder(rt: HostRuntime) {
     let node = node();
-    let bytes = &node[242..322];
-    let (key, body) = CatKey::read_leaf(bytes).expect(&rt, "a key");
-    assert_eq!(rt; key.parent, 17);
-    assert_eq!(rt; key.name.bytes(), b"Old".as_slice());
-    let folder = DirRecord::read(&bytes[body..]).expect(&rt, "a folder");
-    assert_eq!(rt; folder.id, 18);
-    assert_eq!(rt; folder.valence, 1);
-    assert_eq!(rt;
-        [folder.created, folder.modified, folder.backup],
-        [MADE, MADE, 0]
-    );
+    let (parent, name, folder) = folder_in(&node[242..322]).expect(&rt, "a folder");
+    assert!(rt; parent == 17 && name.bytes() == b"Old".as_slice());
+    assert!(rt; folder.id == 18 && folder.valence == 1);
+    assert!(rt; [folder.created, folder.modified, folder.backup] == [MADE, MADE, 0]);
+}
+
+/// The file that a record holds, with its parent and its name.
+fn file_in(record: &[u8]) -> Option<(u32, Name, FileRecord)> {
+    let (parent, name, body) = key_in(record)?;
+    let file = FileRecord::read(record.get(body..)?)?;
+    Some((parent, name, file))
 }
 
 #[test]
-fn files(rt: HostRuntime) {
+fn first_file(rt: HostRuntime) {
     let node = node();
-    let bytes = &node[122..242];
-    let (key, body) = CatKey::read_leaf(bytes).expect(&rt, "a key");
-    assert_eq!(rt; key.parent, 17);
-    assert_eq!(rt; key.name.bytes(), b"Note moved".as_slice());
-    let file = FileRecord::read(&bytes[body..]).expect(&rt, "a file");
-    assert_eq!(rt; file.id, 26);
-    assert_eq!(rt; [file.data.length, file.resource.length], [18, 0]);
-    assert_eq!(rt; [file.created, file.modified, file.backup], [MADE, MADE, 0]);
-    assert_eq!(rt; &file.finder_info[..8], b"APPLXmpl".as_slice());
-    assert!(rt; !file.flags.is_locked());
+    let (parent, name, file) = file_in(&node[122..242]).expect(&rt, "a file");
+    assert!(rt; parent == 17 && name.bytes() == b"Note moved".as_slice());
+    assert!(rt; file.id == 26 && [file.data.length, file.resource.length] == [18, 0]);
+    assert!(rt; [file.created, file.modified, file.backup] == [MADE, MADE, 0]);
+    assert!(rt; file.finder_info.starts_with(b"APPLXmpl") && !file.flags.is_locked());
+}
 
-    let bytes = &node[322..434];
-    let (key, body) = CatKey::read_leaf(bytes).expect(&rt, "a key");
-    assert_eq!(rt; key.name.bytes(), b"s3".as_slice());
-    let file = FileRecord::read(&bytes[body..]).expect(&rt, "a file");
-    assert_eq!(rt; file.id, 23);
-    assert_eq!(rt; file.data.length, 1500);
-    assert_eq!(rt; &file.finder_info[..8], b"????UNIX".as_slice());
+#[test]
+fn second_file(rt: HostRuntime) {
+    let node = node();
+    let (_parent, name, file) = file_in(&node[322..434]).expect(&rt, "a file");
+    assert!(rt; name.bytes() == b"s3".as_slice() && file.id == 23);
+    assert!(rt; file.data.length == 1500 && file.finder_info.starts_with(b"????UNIX"));
 }
 
 #[test]
 fn locked_file(rt: HostRuntime) {
-    let bytes = locked_record();
-    let (key, body) = CatKey::read_leaf(&bytes).expect(&rt, "a key");
-    assert_eq!(rt; key.name.bytes(), b"s4".as_slice());
-    let file = FileRecord::read(&bytes[body..]).expect(&rt, "a file");
-    assert_eq!(rt; file.id, 24);
-    assert_eq!(rt; file.data.length, 6000);
-    assert!(rt; file.flags.is_locked());
+    let (_parent, name, file) = file_in(&locked_record()).expect(&rt, "a file");
+    assert!(rt; name.bytes() == b"s4".as_slice() && file.id == 24);
+    assert!(rt; file.data.length == 6000 && file.flags.is_locked());
 }

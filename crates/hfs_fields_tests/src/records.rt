@@ -57,9 +57,9 @@ fn directory(rt: HostRuntime) {
             0x45, 0x46,
         ],
     };
-    assert_eq!(rt; DirRecord::read(&directory_row()), Some(dir));
-    assert_eq!(rt; DirRecord::read(without_last(&directory_row())), None);
-    assert_eq!(rt; DirRecord::read(&file_row()), None, "a file's type");
+    assert!(rt; DirRecord::read(&directory_row()) == Some(dir));
+    assert!(rt; DirRecord::read(without_last(&directory_row())) == None);
+    assert!(rt; DirRecord::read(&file_row()) == None, "a file's type");
     let mut bytes = [0xee; 72];
     dir.write(&mut bytes);
     assert!(rt; bytes.starts_with(&directory_row()));
@@ -126,9 +126,12 @@ fn file_record() -> FileRecord {
 #[test]
 fn file(rt: HostRuntime) {
     let file = file_record();
-    assert_eq!(rt; FileRecord::read(&file_row()), Some(file));
-    assert_eq!(rt; FileRecord::read(without_last(&file_row())), None);
-    assert_eq!(rt; FileRecord::read(&directory_row()), None, "a folder's type");
+    assert!(rt; FileRecord::read(&file_row()) == Some(file));
+    assert!(rt; FileRecord::read(without_last(&file_row())) == None);
+    assert!(rt;
+        FileRecord::read(&directory_row()) == None,
+        "a folder's type"
+    );
     let mut bytes = [0xee; 104];
     file.write(&mut bytes);
     assert!(rt; bytes.starts_with(&file_row()));
@@ -138,49 +141,65 @@ fn file(rt: HostRuntime) {
 #[test]
 fn thread(rt: HostRuntime) {
     let thread = ThreadRecord::read(&thread_row()).expect(&rt, "a thread");
-    assert_eq!(rt; thread.kind, ThreadKind::Folder);
-    assert_eq!(rt; thread.reserved, 0x04);
-    assert_eq!(rt;
-        thread.reserved_area,
-        [0x05, 0x06, 0x07, 0x08, 0x09, 0x0a, 0x0b, 0x0c]
-    );
-    assert_eq!(rt; thread.parent, 0x0d0e_0f10);
-    assert_eq!(rt; thread.name.bytes(), b"Notes".as_slice());
+    assert!(rt; thread.kind == ThreadKind::Folder && thread.reserved == 0x04);
+    assert!(rt; thread.reserved_area == [0x05, 0x06, 0x07, 0x08, 0x09, 0x0a, 0x0b, 0x0c]);
+    assert!(rt; thread.parent == 0x0d0e_0f10 && thread.name.bytes() == b"Notes".as_slice());
     let mut bytes = [0xee; 48];
     thread.write(&mut bytes);
     assert!(rt; bytes.starts_with(&thread_row()));
     assert!(rt; bytes.ends_with(&[0xee, 0xee]), "no byte more");
+}
 
-    assert!(rt; ThreadRecord::read(without_last(&thread_row())).is_none());
-    let mut other = thread_row();
-    other[0] = 4;
-    let of_file = ThreadRecord::read(&other).expect(&rt, "a file's thread");
-    assert_eq!(rt; of_file.kind, ThreadKind::File);
-    other[0] = 5;
-    assert!(rt; ThreadRecord::read(&other).is_none(), "no type of a thread");
-    other[0] = 3;
-    other[14] = 31;
-    assert!(rt; ThreadRecord::read(&other).is_some(), "31 characters");
-    other[14] = 32;
-    assert!(rt; ThreadRecord::read(&other).is_none(), "32 characters");
+/// The kind of the thread that a row holds with these bytes for its type and for the length of its name.
+fn kind_with(kind: u8, length: u8) -> Option<ThreadKind> {
+    let mut row = thread_row();
+    row[0] = kind;
+    row[14] = length;
+    let thread = ThreadRecord::read(&row)?;
+    Some(thread.kind)
 }
 
 #[test]
-fn extents(rt: HostRuntime) {
+fn thread_refused(rt: HostRuntime) {
+    assert!(rt; ThreadRecord::read(without_last(&thread_row())).is_none());
+    for (kind, length, found) in [
+        (4, 5, Some(ThreadKind::File)),
+        (5, 5, None),
+        (3, 31, Some(ThreadKind::Folder)),
+        (3, 32, None),
+    ] {
+        assert!(rt;
+            kind_with(kind, length) == found,
+            "type {kind}, {length} characters"
+        );
+    }
+}
+
+/// The bytes of three extents.
+const EXTENTS: [u8; 12] = [1, 2, 3, 4, 5, 6, 7, 8, 9, 10, 11, 12];
+
+#[test]
+fn one_extent(rt: HostRuntime) {
     let one = extent(0x0102, 0x0304);
-    let row = [1, 2, 3, 4, 5, 6, 7, 8, 9, 10, 11, 12];
-    assert_eq!(rt; Extent::read(&row), Some(one));
-    assert_eq!(rt; Extent::read(&[1, 2, 3]), None);
+    assert!(rt; Extent::read(&EXTENTS) == Some(one));
+    assert!(rt; Extent::read(&[1, 2, 3]) == None);
     let mut bytes = [0xee; 5];
     one.write(&mut bytes);
-    assert_eq!(rt; bytes, [1, 2, 3, 4, 0xee]);
+    assert!(rt; bytes == [1, 2, 3, 4, 0xee]);
+}
 
-    let extents = [one, extent(0x0506, 0x0708), extent(0x090a, 0x0b0c)];
-    assert_eq!(rt; Extent::read_record(&row), Some(extents));
-    assert_eq!(rt; Extent::read_record(without_last(&row)), None);
+#[test]
+fn three_extents(rt: HostRuntime) {
+    let extents = [
+        extent(0x0102, 0x0304),
+        extent(0x0506, 0x0708),
+        extent(0x090a, 0x0b0c),
+    ];
+    assert!(rt; Extent::read_record(&EXTENTS) == Some(extents));
+    assert!(rt; Extent::read_record(without_last(&EXTENTS)) == None);
     let mut bytes = [0xee; 13];
     Extent::write_record(&extents, &mut bytes);
-    assert_eq!(rt; bytes, [1, 2, 3, 4, 5, 6, 7, 8, 9, 10, 11, 12, 0xee]);
+    assert!(rt; bytes == [1, 2, 3, 4, 5, 6, 7, 8, 9, 10, 11, 12, 0xee]);
 }
 
 fn new_folder_row() -> [u8; 70] {
@@ -208,30 +227,36 @@ fn new_thread_row() -> [u8; 46] {
 }
 
 #[test]
-fn new_records(rt: HostRuntime) {
+fn new_items(rt: HostRuntime) {
     let mut folder = [0xee; 70];
     DirRecord::new(16, 0x2a2b_2c2d).write(&mut folder);
-    assert_eq!(rt; folder, new_folder_row());
+    assert!(rt; folder == new_folder_row());
     let mut file = [0xee; 102];
     FileRecord::new(17, 0x2a2b_2c2d).write(&mut file);
-    assert_eq!(rt; file, new_file_row());
+    assert!(rt; file == new_file_row());
+}
+
+#[test]
+fn new_thread(rt: HostRuntime) {
     let name = Name::new(b"Notes").expect(&rt, "an item name");
     let mut thread = [0xee; 46];
     ThreadRecord::new(ThreadKind::File, 0x0102_0304, name).write(&mut thread);
-    assert_eq!(rt; thread, new_thread_row());
+    assert!(rt; thread == new_thread_row());
 }
 
 #[test]
 fn flags(rt: HostRuntime) {
     let flags = FileFlags(0x82);
-    assert!(rt; !flags.is_locked());
-    assert!(rt; flags.has_thread());
-    assert_eq!(rt; flags.with_lock(true), FileFlags(0x83));
-    assert_eq!(rt; flags.with_lock(true).with_lock(false), FileFlags(0x82));
-    assert_eq!(rt; flags.with_thread(false), FileFlags(0x80));
-    assert_eq!(rt;
-        FileFlags(0x7c).with_thread(true),
-        FileFlags(0x7e),
+    assert!(rt; !flags.is_locked() && flags.has_thread());
+    assert!(rt; flags.with_lock(true) == FileFlags(0x83));
+    assert!(rt; flags.with_lock(true).with_lock(false) == flags);
+}
+
+#[test]
+fn thread_flag(rt: HostRuntime) {
+    assert!(rt; FileFlags(0x82).with_thread(false) == FileFlags(0x80));
+    assert!(rt;
+        FileFlags(0x7c).with_thread(true) == FileFlags(0x7e),
         "bits without a name stay"
     );
 }

@@ -2,6 +2,7 @@
 use crate::blocks::{block_of, lay};
 use crate::fault::FixtureFault;
 use crate::trees::leaf_record;
+use hfs_btree::Key;
 use hfs_fields::{
     CatKey, DirRecord, Extent, FileRecord, ForkRecord, Mdb, Name, ThreadKind, ThreadRecord,
 };
@@ -90,6 +91,17 @@ pub fn push_folder(
     let mut body = [0; DirRecord::LENGTH];
     folder.write(&mut body);
     let record = leaf_record(alloc, key, &body)?;
+    records.push(record).map_err(|_| FixtureFault::Memory)
+}
+
+/// Puts the record of an index node that leads to this child behind all other records.
+pub fn push_child(
+    alloc: Global,
+    records: &mut Records,
+    key: &CatKey,
+    child: u32,
+) -> Result<(), FixtureFault> {
+    let record = key.index_record(alloc, child)?;
     records.push(record).map_err(|_| FixtureFault::Memory)
 }
 

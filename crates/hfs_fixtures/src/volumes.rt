@@ -2,14 +2,13 @@
 use crate::blocks::lay;
 use crate::fault::FixtureFault;
 use crate::files::{
-    NONE, file_in_extents, key_of, lay_counts, lay_folder_counts, lay_fork, push_file, push_folder,
-    push_thread, replace_root,
+    NONE, file_in_extents, key_of, lay_counts, lay_folder_counts, lay_fork, push_child, push_file,
+    push_folder, push_thread, replace_root,
 };
 use crate::trees::{TreeNumbers, empty_node, lay_header, lay_node, lay_overflow, node_of};
-use hfs_btree::Key;
-use hfs_fields::{ExtKey, Extent, FileRecord, ThreadKind};
+use hfs_fields::{CatKey, ExtKey, Extent, FileRecord, ThreadKind};
 use hfs_format::{FormatPlan, format};
-use hfs_node::NodeKind;
+use hfs_node::{Node, NodeKind};
 use std::alloc::Global;
 
 /// Which volume is laid.
@@ -89,19 +88,37 @@ fn lay_files(alloc: Global, image: &mut [u8], with_second: bool) -> Result<(), F
     // allocation blocks 10, 12, 14 and 16
     lay(image, 3, 1, &[0x2a, 0x80])?;
     lay_header(image, 6, one_leaf(2 + u32::from(files)))?;
+    let second = with_second.then_some(FileRecord::new(17, 0));
+    lay_file_leaf(alloc, image, &file_in_extents(), second)?;
+    lay_fourth_extent(alloc, image)?;
+    lay_fork(image)
+}
+
+/// The catalog's leaf in block 7, with this number of items in the root.
+fn root_leaf(alloc: Global, image: &[u8], valence: u16) -> Result<Node, FixtureFault> {
     let mut leaf = node_of(alloc, image, 7)?;
-    replace_root(alloc, &mut leaf.records, files)?;
-    push_file(
-        alloc,
-        &mut leaf.records,
-        &key_of(2, b"f")?,
-        &file_in_extents(),
-    )?;
-    if with_second {
-        let second = FileRecord::new(17, 0);
-        push_file(alloc, &mut leaf.records, &key_of(2, b"g")?, &second)?;
+    replace_root(alloc, &mut leaf.records, valence)?;
+    Ok(leaf)
+}
+
+/// Lays a leaf with the file `f`, and the file `g` where there is one.
+fn lay_file_leaf(
+    alloc: Global,
+    image: &mut [u8],
+    first: &FileRecord,
+    second: Option<FileRecord>,
+) -> Result<(), FixtureFault> {
+    let valence = if second.is_some() { 2 } else { 1 };
+    let mut leaf = root_leaf(alloc, image, valence)?;
+    push_file(alloc, &mut leaf.records, &key_of(2, b"f")?, first)?;
+    if let Some(file) = second {
+        push_file(alloc, &mut leaf.records, &key_of(2, b"g")?, &file)?;
     }
-    lay_node(image, 7, &leaf)?;
+    lay_node(image, 7, &leaf)
+}
+
+/// Lays the fourth extent of the file `f` into the extents tree.
+fn lay_fourth_extent(alloc: Global, image: &mut [u8]) -> Result<(), FixtureFault> {
     let fourth = Extent {
         first: 16,
         count: 1,
@@ -111,8 +128,7 @@ fn lay_files(alloc: Global, image: &mut [u8], with_second: bool) -> Result<(), F
         file: 16,
         block: 3,
     };
-    lay_overflow(alloc, image, &key, &[fourth, NONE, NONE])?;
-    lay_fork(image)
+    lay_overflow(alloc, image, &key, &[fourth, NONE, NONE])
 }
 
 /// Lays a catalog of two leaves.
@@ -128,23 +144,32 @@ fn lay_two_levels(alloc: Global, image: &mut [u8]) -> Result<(), FixtureFault> {
         map: 0xf0,
     };
     lay_header(image, 6, header)?;
-    let mut first = node_of(alloc, image, 7)?;
-    first.forward = 2;
-    replace_root(alloc, &mut first.records, 1)?;
-    lay_node(image, 7, &first)?;
-    let mut second = empty_node(alloc, NodeKind::Leaf, 1);
-    second.backward = 1;
-    push_file(
-        alloc,
-        &mut second.records,
-        &key_of(2, b"f")?,
-        &FileRecord::new(16, 0),
-    )?;
-    lay_node(image, 8, &second)?;
+    lay_first_leaf(alloc, image)?;
+    lay_second_leaf(alloc, image)?;
+    lay_index_root(alloc, image)
+}
+
+/// Lays the leaf with the root's records, behind which another leaf comes.
+fn lay_first_leaf(alloc: Global, image: &mut [u8]) -> Result<(), FixtureFault> {
+    let mut leaf = root_leaf(alloc, image, 1)?;
+    leaf.forward = 2;
+    lay_node(image, 7, &leaf)
+}
+
+/// Lays a leaf with the file `f`, before which another leaf stands.
+fn lay_second_leaf(alloc: Global, image: &mut [u8]) -> Result<(), FixtureFault> {
+    let mut leaf = empty_node(alloc, NodeKind::Leaf, 1);
+    leaf.backward = 1;
+    let key = key_of(2, b"f")?;
+    push_file(alloc, &mut leaf.records, &key, &FileRecord::new(16, 0))?;
+    lay_node(image, 8, &leaf)
+}
+
+/// Lays the index node above both leaves.
+fn lay_index_root(alloc: Global, image: &mut [u8]) -> Result<(), FixtureFault> {
     let mut root = empty_node(alloc, NodeKind::Index, 2);
-    for (key, child) in [(key_of(1, b"D")?, 1), (key_of(2, b"f")?, 2)] {
-        let record = key.index_record(alloc, child)?;
-        root.records.push(record).map_err(|_| FixtureFault::Memory)?;
+    for (parent, name, child) in [(1, b"D", 1), (2, b"f", 2)] {
+        push_child(alloc, &mut root.records, &key_of(parent, name)?, child)?;
     }
     lay_node(image, 9, &root)
 }
@@ -153,14 +178,21 @@ fn lay_two_levels(alloc: Global, image: &mut [u8]) -> Result<(), FixtureFault> {
 fn lay_file_thread(alloc: Global, image: &mut [u8]) -> Result<(), FixtureFault> {
     lay_counts(image, 2, 18, 50)?;
     lay_header(image, 6, one_leaf(5))?;
-    let mut leaf = node_of(alloc, image, 7)?;
-    replace_root(alloc, &mut leaf.records, 2)?;
-    let key = key_of(2, b"f")?;
-    push_file(alloc, &mut leaf.records, &key, &FileRecord::new(16, 0))?;
     let mut second = FileRecord::new(17, 0);
     second.flags = second.flags.with_thread(true);
-    push_file(alloc, &mut leaf.records, &key_of(2, b"g")?, &second)?;
-    push_thread(alloc, &mut leaf.records, ThreadKind::File, 16, &key)?;
+    lay_file_leaf(alloc, image, &FileRecord::new(16, 0), Some(second))?;
+    lay_last_thread(alloc, image, ThreadKind::File, &key_of(2, b"f")?)
+}
+
+/// Lays the thread of the item 16, which stands under this key, behind all records of the leaf in block 7.
+fn lay_last_thread(
+    alloc: Global,
+    image: &mut [u8],
+    kind: ThreadKind,
+    key: &CatKey,
+) -> Result<(), FixtureFault> {
+    let mut leaf = node_of(alloc, image, 7)?;
+    push_thread(alloc, &mut leaf.records, kind, 16, key)?;
     lay_node(image, 7, &leaf)
 }
 
@@ -168,12 +200,23 @@ fn lay_file_thread(alloc: Global, image: &mut [u8]) -> Result<(), FixtureFault> 
 fn lay_folder(alloc: Global, image: &mut [u8]) -> Result<(), FixtureFault> {
     lay_folder_counts(image)?;
     lay_header(image, 6, one_leaf(5))?;
-    let mut leaf = node_of(alloc, image, 7)?;
-    replace_root(alloc, &mut leaf.records, 1)?;
     let key = key_of(2, b"d")?;
-    push_folder(alloc, &mut leaf.records, &key, 16, 1)?;
-    push_thread(alloc, &mut leaf.records, ThreadKind::Folder, 16, &key)?;
-    let file = FileRecord::new(17, 0);
-    push_file(alloc, &mut leaf.records, &key_of(16, b"f")?, &file)?;
+    lay_folder_leaf(alloc, image, &key)?;
+    lay_last_thread(alloc, image, ThreadKind::Folder, &key)?;
+    lay_last_file(alloc, image)
+}
+
+/// Lays a leaf with a folder under this key, whose ID is 16.
+fn lay_folder_leaf(alloc: Global, image: &mut [u8], key: &CatKey) -> Result<(), FixtureFault> {
+    let mut leaf = root_leaf(alloc, image, 1)?;
+    push_folder(alloc, &mut leaf.records, key, 16, 1)?;
+    lay_node(image, 7, &leaf)
+}
+
+/// Lays the empty file `f` of the folder 16 behind all records of the leaf in block 7.
+fn lay_last_file(alloc: Global, image: &mut [u8]) -> Result<(), FixtureFault> {
+    let mut leaf = node_of(alloc, image, 7)?;
+    let key = key_of(16, b"f")?;
+    push_file(alloc, &mut leaf.records, &key, &FileRecord::new(17, 0))?;
     lay_node(image, 7, &leaf)
 }

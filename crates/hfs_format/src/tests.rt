@@ -172,13 +172,13 @@ fn names_and_moments_are_written(rt: HostRuntime) -> Result<(), Fail> {
 #[test]
 fn larger_volumes_have_larger_allocation_blocks(rt: HostRuntime) -> Result<(), Fail> {
     let image = format(rt.alloc(), plan_of(rt.alloc(), b"D", 65_535, 1, 3)?)?;
-    assert_eq!(rt; image.len(), 33_553_920);
+    assert!(rt; image.len() == 33_553_920);
     assert!(rt; has(&image, 2, 18, &[0xff, 0xea, 0, 0, 2, 0, 0, 0, 8, 0, 0, 19]));
     assert!(rt; has(&image, 65_533, 34, &[0xff, 0xe6]));
     assert!(rt; has(&image, 3, 0, &[0xf0, 0]));
     assert!(rt; has(&image, 20, 32, &[2, 0, 0, 37, 0, 0, 0, 3, 0, 0, 0, 1]));
     let image = format(rt.alloc(), plan_of(rt.alloc(), b"D", 65_536, 1, 3)?)?;
-    assert_eq!(rt; image.len(), 33_554_432);
+    assert!(rt; image.len() == 33_554_432);
     assert!(rt; has(&image, 2, 18, &[0x7f, 0xf9, 0, 0, 4, 0, 0, 0, 16, 0, 0, 11]));
     assert!(rt; has(&image, 65_534, 34, &[0x7f, 0xf6]));
     assert!(rt; has(&image, 2, 130, &[0, 0, 4, 0, 0, 0, 0, 1]));
@@ -194,10 +194,10 @@ fn larger_volumes_have_larger_allocation_blocks(rt: HostRuntime) -> Result<(), F
 fn the_largest_volume_is_laid_out(rt: HostRuntime) -> Result<(), Fail> {
     let plan = plan_of(rt.alloc(), b"D", 4_194_304, 1, 2)?;
     let volume = Layout::of(&plan)?;
-    assert_eq!(rt; (volume.blocks, volume.factor), (4_194_304, 65));
-    assert_eq!(rt; (volume.start, volume.allocation_blocks), (19, 64_527));
-    assert_eq!(rt; (volume.extents.blocks, volume.extents.nodes), (1, 65));
-    assert_eq!(rt; (volume.catalog.blocks, volume.catalog.nodes), (1, 65));
+    assert!(rt; (volume.blocks, volume.factor) == (4_194_304, 65));
+    assert!(rt; (volume.start, volume.allocation_blocks) == (19, 64_527));
+    assert!(rt; (volume.extents.blocks, volume.extents.nodes) == (1, 65));
+    assert!(rt; (volume.catalog.blocks, volume.catalog.nodes) == (1, 65));
     Ok(())
 }
 

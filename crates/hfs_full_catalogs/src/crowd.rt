@@ -1,10 +1,10 @@
 //! A folder with as many children as a folder may have.
-use crate::creation::{Kind, Order, creation, deletion, name};
-use crate::disk::Disk;
-use anyhow::{Result, bail, ensure};
-use hfs_fixtures::lay;
+use crate::creation::{Kind, Order, create_named, creation, delete, delete_named, name};
+use crate::disk::{Disk, planned};
+use crate::numbers::ensure_number;
+use anyhow::Result;
+use hfs_fixtures::{FixtureFault, lay};
 use hfs_model::{Bytes, Call, DUPLICATE, FOLDER_FULL};
-use hfs_volume::{FormatPlan, format};
 use std::alloc::Global;
 
 /// How many children a folder may have.
@@ -17,48 +17,47 @@ const CROWD: u32 = 16;
 /// the extents tree.
 const CATALOG: usize = 20;
 
-/// A new volume whose catalog has 45,055 nodes.
-fn wide_image(alloc: Global) -> Result<Vec<u8>> {
-    let plan = FormatPlan {
-        name: Vec::from_slice(alloc, b"D")?,
-        blocks: 65_535,
-        extents_nodes: 1,
-        catalog_nodes: 2,
-        now: 0,
-    };
-    let mut image = match format(alloc, plan) {
-        Ok(image) => image,
-        Err(_fault) => bail!("no new volume"),
-    };
-    lay_numbers(&mut image)?;
-    lay_bitmap(&mut image)?;
-    lay_map(&mut image)?;
-    Ok(image)
-}
+/// Bytes that are laid: a block, a place in it, and the bytes there.
+type Row = (usize, usize, &'static [u8]);
 
-/// Lays the numbers of a catalog of 45,055 nodes, of which 13 aren't free, into the master directory block and the header node.
+/// The numbers of a catalog of 45,055 nodes, of which 13 aren't free, in the master directory block and the header node.
 /// The extents tree has the first of 65,514 allocation blocks, the catalog those behind it, and 20,458 are free.
-fn lay_numbers(image: &mut [u8]) -> Result<()> {
-    lay(image, 2, 34, &[0x4f, 0xea])?;
-    lay(
-        image,
-        2,
-        146,
-        &[0x01, 0x5f, 0xfe, 0x00, 0x00, 0x01, 0xaf, 0xff],
-    )?;
-    lay(image, CATALOG, 0, &[0, 0, 0, 2])?;
-    lay(
-        image,
+const NUMBERS: [Row; 5] = [
+    (2, 34, &[0x4f, 0xea]),
+    (2, 146, &[0x01, 0x5f, 0xfe, 0x00, 0x00, 0x01, 0xaf, 0xff]),
+    (CATALOG, 0, &[0, 0, 0, 2]),
+    (
         CATALOG,
         36,
         &[0x00, 0x00, 0xaf, 0xff, 0x00, 0x00, 0xaf, 0xf2],
-    )?;
-    lay(image, CATALOG, 248, &[0xff, 0xf8])?;
+    ),
+    (CATALOG, 248, &[0xff, 0xf8]),
+];
+
+/// A new volume whose catalog has 45,055 nodes.
+fn wide_image(alloc: Global) -> Result<Vec<u8>> {
+    let mut image = planned(alloc, 65_535, 2)?;
+    lay_catalog(&mut image)?;
+    Ok(image)
+}
+
+/// Lays the catalog: its numbers, the blocks that it takes, and its map.
+fn lay_catalog(image: &mut [u8]) -> Result<(), FixtureFault> {
+    lay_numbers(image)?;
+    lay_bitmap(image)?;
+    lay_map(image)
+}
+
+/// Lays the numbers of the catalog.
+fn lay_numbers(image: &mut [u8]) -> Result<(), FixtureFault> {
+    for (block, at, bytes) in NUMBERS {
+        lay(image, block, at, bytes)?;
+    }
     Ok(())
 }
 
 /// Marks 45,056 allocation blocks.
-fn lay_bitmap(image: &mut [u8]) -> Result<()> {
+fn lay_bitmap(image: &mut [u8]) -> Result<(), FixtureFault> {
     for block in 3..14 {
         lay(image, block, 0, &[0xff; 512])?;
     }
@@ -66,7 +65,7 @@ fn lay_bitmap(image: &mut [u8]) -> Result<()> {
 }
 
 /// Lays the map nodes: nodes 2 to 12, each of which names the next.
-fn lay_map(image: &mut [u8]) -> Result<()> {
+fn lay_map(image: &mut [u8]) -> Result<(), FixtureFault> {
     for node in 2..13u8 {
         let next = if node < 12 { node + 1 } else { 0 };
         let block = CATALOG + usize::from(node);
@@ -76,49 +75,51 @@ fn lay_map(image: &mut [u8]) -> Result<()> {
     Ok(())
 }
 
+/// Creates the item of this number in the folder, which is answered this code.
+fn create(alloc: Global, disk: &mut Disk, kind: Kind, number: u32, code: i16) -> Result<()> {
+    disk.expect(creation(alloc, kind, CROWD, number)?, code)
+}
+
 /// The folder comes and its children, and the file `other` beside it.
 fn fill(alloc: Global, disk: &mut Disk) -> Result<()> {
-    let folder = Call::DirCreate {
-        dir: 2,
-        name: Bytes::from_slice(alloc, b"crowd")?,
-        now: 0,
-    };
-    disk.expect(&folder, 0)?;
-    let other = Call::Create {
-        dir: 2,
-        name: Bytes::from_slice(alloc, b"other")?,
-        now: 0,
-    };
-    disk.expect(&other, 0)?;
+    create_named(alloc, disk, Kind::Folder, 2, b"crowd")?;
+    create_named(alloc, disk, Kind::File, 2, b"other")?;
     for n in 0..MOST {
-        let call = creation(alloc, Kind::File, CROWD, Order::Mixed.number(n))?;
-        disk.expect(&call, 0)?;
+        create(alloc, disk, Kind::File, Order::Mixed.number(n), 0)?;
     }
     Ok(())
 }
 
-/// The call that moves `other` into the folder.
-fn entrance(alloc: Global) -> Result<Call> {
-    Ok(Call::CatMove {
+/// Moves `other` into the folder, which is answered this code.
+fn enter(alloc: Global, disk: &mut Disk, code: i16) -> Result<()> {
+    let name = Bytes::from_slice(alloc, b"other")?;
+    let call = Call::CatMove {
         dir: 2,
-        name: Bytes::from_slice(alloc, b"other")?,
+        name,
         new_dir: CROWD,
         now: 1,
-    })
+    };
+    disk.expect(call, code)
 }
 
 /// Nothing comes into the folder any more; what is in it can be renamed.
 fn ensure_crowded(alloc: Global, disk: &mut Disk) -> Result<()> {
-    let valence = disk.valence(CROWD)?;
-    ensure!(valence == MOST, "{} children", valence);
-    let next = Order::Mixed.number(MOST);
+    disk.ensure_valence(CROWD, MOST)?;
+    ensure_refused(alloc, disk)?;
     let first = Order::Mixed.number(0);
-    disk.expect(&creation(alloc, Kind::File, CROWD, next)?, FOLDER_FULL)?;
-    disk.expect(&creation(alloc, Kind::Folder, CROWD, next)?, FOLDER_FULL)?;
-    disk.expect(&creation(alloc, Kind::File, CROWD, first)?, DUPLICATE)?;
-    disk.expect(&entrance(alloc)?, FOLDER_FULL)?;
+    let next = Order::Mixed.number(MOST);
     rename(alloc, disk, first, next)?;
     rename(alloc, disk, next, first)
+}
+
+/// Nothing comes into the folder.
+fn ensure_refused(alloc: Global, disk: &mut Disk) -> Result<()> {
+    let first = Order::Mixed.number(0);
+    let next = Order::Mixed.number(MOST);
+    create(alloc, disk, Kind::File, next, FOLDER_FULL)?;
+    create(alloc, disk, Kind::Folder, next, FOLDER_FULL)?;
+    create(alloc, disk, Kind::File, first, DUPLICATE)?;
+    enter(alloc, disk, FOLDER_FULL)
 }
 
 /// Renames one of the folder's children.
@@ -129,55 +130,56 @@ fn rename(alloc: Global, disk: &mut Disk, old: u32, new: u32) -> Result<()> {
         new_name: name(alloc, new)?,
         now: 2,
     };
-    disk.expect(&call, 0)
+    disk.expect(call, 0)
 }
 
 /// One of the children goes, and `other` comes for it; so the folder is full again. Then `other` goes.
 fn change_one(alloc: Global, disk: &mut Disk) -> Result<()> {
     let first = Order::Mixed.number(0);
     let next = Order::Mixed.number(MOST);
-    disk.expect(&deletion(alloc, CROWD, first)?, 0)?;
-    disk.expect(&entrance(alloc)?, 0)?;
-    disk.expect(&creation(alloc, Kind::File, CROWD, next)?, FOLDER_FULL)?;
-    let other = Call::Delete {
-        dir: CROWD,
-        name: Bytes::from_slice(alloc, b"other")?,
-        now: 3,
-    };
-    disk.expect(&other, 0)
+    delete(alloc, disk, CROWD, first)?;
+    enter(alloc, disk, 0)?;
+    create(alloc, disk, Kind::File, next, FOLDER_FULL)?;
+    delete_named(alloc, disk, CROWD, b"other", 3)
 }
 
 /// The other children go, in the order in which they came, and then the folder.
 fn empty(alloc: Global, disk: &mut Disk) -> Result<()> {
     for n in 1..MOST {
-        disk.expect(&deletion(alloc, CROWD, Order::Mixed.number(n))?, 0)?;
+        delete(alloc, disk, CROWD, Order::Mixed.number(n))?;
     }
-    let valence = disk.valence(CROWD)?;
-    ensure!(valence == 0, "{} children", valence);
-    let folder = Call::Delete {
-        dir: 2,
-        name: Bytes::from_slice(alloc, b"crowd")?,
-        now: 4,
-    };
-    disk.expect(&folder, 0)
+    disk.ensure_valence(CROWD, 0)?;
+    delete_named(alloc, disk, 2, b"crowd", 4)
 }
 
-/// Fills a folder and empties it again. In between it is saved and mounted again, and at the end all nodes are free that were
-/// free at first.
-pub fn crowd_folder(alloc: Global) -> Result<u32> {
-    let mut disk = Disk::new(alloc, wide_image(alloc)?, CATALOG)?;
-    fill(alloc, &mut disk)?;
-    ensure_crowded(alloc, &mut disk)?;
-    disk.mount_again()?;
-    ensure_crowded(alloc, &mut disk)?;
-    change_one(alloc, &mut disk)?;
-    empty(alloc, &mut disk)?;
-    disk.mount_again()?;
+/// An error where the catalog isn't empty, with all nodes free that were free at first.
+fn ensure_emptied(disk: &Disk) -> Result<()> {
     let header = disk.header()?;
-    ensure!(
-        header.depth == 1 && header.free_nodes == 45_042,
-        "{} free nodes",
-        header.free_nodes
-    );
+    ensure_number("levels", u32::from(header.depth), 1)?;
+    ensure_number("free nodes", header.free_nodes, 45_042)
+}
+
+/// Fills the folder, and changes one of its children. In between the disk is saved and mounted again.
+fn fill_and_change(alloc: Global, disk: &mut Disk) -> Result<()> {
+    fill(alloc, disk)?;
+    ensure_crowded(alloc, disk)?;
+    disk.mount_again()?;
+    ensure_crowded(alloc, disk)?;
+    change_one(alloc, disk)
+}
+
+/// Fills the folder and empties it again. At the end, saved and mounted again, all nodes are free that were free at first.
+fn fill_and_empty(alloc: Global, disk: &mut Disk) -> Result<()> {
+    fill_and_change(alloc, disk)?;
+    empty(alloc, disk)?;
+    disk.mount_again()?;
+    ensure_emptied(disk)
+}
+
+/// Fills a folder and empties it again, and tells how many children it had.
+pub fn crowd_folder(alloc: Global) -> Result<u32> {
+    let image = wide_image(alloc)?;
+    let mut disk = Disk::new(alloc, image, CATALOG)?;
+    fill_and_empty(alloc, &mut disk)?;
     Ok(MOST)
 }

@@ -1,9 +1,10 @@
 //! A volume that is called, saved and mounted again.
-use anyhow::{Result, bail, ensure};
+use crate::numbers::{ensure_code, ensure_number};
+use anyhow::{Result, bail};
 use hfs_btree::Header;
 use hfs_model::{Call, Reply, Value};
-use hfs_volume::{Volume, mount};
-use std::alloc::Global;
+use hfs_volume::{FormatPlan, Volume, format, mount};
+use std::alloc::{AllocError, Global};
 
 /// A mounted volume, and the block where its catalog begins.
 #[derive(Drop)]
@@ -11,6 +12,28 @@ pub struct Disk {
     alloc: Global,
     volume: Volume,
     catalog: usize,
+}
+
+/// What a reply tells: its code, and the numbers of a catalog that has too few free nodes.
+#[derive(Clone, Copy)]
+pub struct Told {
+    pub code: i16,
+    pub free: Option<(u32, u32)>,
+}
+
+/// The image of a new volume with so many blocks and catalog nodes.
+pub fn planned(alloc: Global, blocks: u32, catalog_nodes: u32) -> Result<Vec<u8>> {
+    let plan = FormatPlan {
+        name: Vec::from_slice(alloc, b"D")?,
+        blocks,
+        extents_nodes: 1,
+        catalog_nodes,
+        now: 0,
+    };
+    match format(alloc, plan) {
+        Ok(image) => Ok(image),
+        Err(_fault) => bail!("no new volume"),
+    }
 }
 
 /// The volume of an image, which is sound.
@@ -21,18 +44,64 @@ pub fn mounted(alloc: Global, image: Vec<u8>) -> Result<Volume> {
     }
 }
 
+/// The reply to a call.
+pub fn reply_of(alloc: Global, volume: &mut Volume, call: &Call) -> Result<Reply, AllocError> {
+    volume.call(alloc, call)
+}
+
+/// Writes an image's bytes as they are now behind others.
+pub fn save_into(volume: &Volume, image: &mut Vec<u8>) -> Result<()> {
+    match volume.save(image) {
+        Ok(()) => Ok(()),
+        Err(_fault) => bail!("the image was not saved"),
+    }
+}
+
+/// An image's bytes as they are now.
+fn saved(alloc: Global, volume: &Volume) -> Result<Vec<u8>> {
+    let mut image = Vec::new(alloc);
+    save_into(volume, &mut image)?;
+    Ok(image)
+}
+
 /// The header record of the tree that begins with this block.
-fn header_at(image: &[u8], block: usize) -> Result<Header> {
+fn header_at(image: &[u8], block: usize) -> Option<Header> {
     if block >= 65_536 {
-        bail!("no such block");
+        return None;
     }
     let start = 512 * block + 14;
     if start > image.len() || image.len() - start < 30 {
-        bail!("no such block");
+        return None;
     }
     let mut record = [0; 30];
     record.copy_from_slice(&image[start..start + 30]);
-    Ok(Header::read(&record))
+    Some(Header::read(&record))
+}
+
+/// The free nodes and levels of a catalog, as a reply tells them.
+fn told_free(value: &Value) -> Option<(u32, u32)> {
+    match value {
+        Value::Full { free, depth } => Some((*free, *depth)),
+        Value::Nothing
+        | Value::Id(_)
+        | Value::One(_)
+        | Value::Many(_)
+        | Value::Bytes(_)
+        | Value::Place { .. } => None,
+    }
+}
+
+/// How many children a folder has, as a reply tells it.
+fn told_valence(value: &Value) -> Option<u32> {
+    match value {
+        Value::One(info) => Some(info.valence),
+        Value::Nothing
+        | Value::Id(_)
+        | Value::Many(_)
+        | Value::Bytes(_)
+        | Value::Place { .. }
+        | Value::Full { .. } => None,
+    }
 }
 
 impl Disk {
@@ -46,57 +115,48 @@ impl Disk {
         })
     }
 
-    /// The image as it is now.
-    fn image(&self) -> Result<Vec<u8>> {
-        let mut image = Vec::new(self.alloc);
-        if self.volume.save(&mut image).is_err() {
-            bail!("the image was not saved");
-        }
-        Ok(image)
-    }
-
     /// Saves the image and mounts it again.
     pub fn mount_again(&mut self) -> Result<()> {
-        let image = self.image()?;
+        let image = saved(self.alloc, &self.volume)?;
         self.volume = mounted(self.alloc, image)?;
         Ok(())
     }
 
     /// The header record of the catalog, as it is saved.
     pub fn header(&self) -> Result<Header> {
-        let image = self.image()?;
-        header_at(&image, self.catalog)
+        let image = saved(self.alloc, &self.volume)?;
+        match header_at(&image, self.catalog) {
+            Some(header) => Ok(header),
+            None => bail!("no such block"),
+        }
     }
 
-    /// Answers a call.
-    pub fn reply(&mut self, call: &Call) -> Result<Reply> {
-        let reply = self.volume.call(self.alloc, call)?;
-        Ok(reply)
+    /// Makes a call, and answers what is told of it.
+    pub fn told(&mut self, call: Call) -> Result<Told, AllocError> {
+        let reply = reply_of(self.alloc, &mut self.volume, &call)?;
+        Ok(Told {
+            code: reply.code,
+            free: told_free(&reply.value),
+        })
     }
 
     /// Makes a call that is answered this code.
-    pub fn expect(&mut self, call: &Call, code: i16) -> Result<()> {
-        let reply = self.reply(call)?;
-        ensure!(
-            reply.code == code,
-            "{} answered, {} expected",
-            reply.code,
-            code
-        );
-        Ok(())
+    pub fn expect(&mut self, call: Call, code: i16) -> Result<()> {
+        let told = self.told(call)?;
+        ensure_code(told.code, code)
     }
 
-    /// How many children a folder has.
-    pub fn valence(&self, dir: u32) -> Result<u32> {
+    /// How many children a folder has, if there is one with this ID.
+    fn valence(&self, dir: u32) -> Option<u32> {
         let reply = self.volume.get_dir_info(dir);
-        match &reply.value {
-            Value::One(info) => Ok(info.valence),
-            Value::Nothing
-            | Value::Id(_)
-            | Value::Many(_)
-            | Value::Bytes(_)
-            | Value::Place { .. }
-            | Value::Full { .. } => bail!("no such folder"),
+        told_valence(&reply.value)
+    }
+
+    /// An error where a folder hasn't so many children.
+    pub fn ensure_valence(&self, dir: u32, count: u32) -> Result<()> {
+        match self.valence(dir) {
+            Some(valence) => ensure_number("children", valence, count),
+            None => bail!("no such folder"),
         }
     }
 }

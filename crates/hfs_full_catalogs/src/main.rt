@@ -9,14 +9,17 @@ mod crowd;
 mod disk;
 mod filling;
 mod moving;
+mod numbers;
+mod rounds;
 mod times;
 
 use crate::creation::{Kind, Order};
 use crate::crowd::crowd_folder;
 use crate::filling::fill_and_empty;
 use crate::moving::print_moves;
+use crate::numbers::ensure_number;
 use crate::times::print_times;
-use anyhow::{Result, bail, ensure};
+use anyhow::{Result, bail};
 use std::alloc::Global;
 use std::{env, fs};
 
@@ -29,18 +32,29 @@ const ORDERS: [(Order, bool); 4] = [
 ];
 
 fn main(rt: HostRuntime) -> Result<()> {
-    let mut words = env::args(&rt)?;
-    let _program = words.next();
-    let Some(first) = words.next() else {
-        return print_filled(&rt);
-    };
-    let Some(file) = words.next() else {
-        bail!("the words are: [time FILE]");
-    };
-    match first.as_str() {
-        "time" => print_measured(&rt, file.as_str()),
-        _ => bail!("the words are: [time FILE]"),
+    match file_of_words(&rt)? {
+        None => print_filled(&rt),
+        Some(file) => print_measured(&rt, file.as_str()),
     }
+}
+
+/// The first two words, as far as they are there.
+fn words_of(rt: &HostRuntime) -> Result<(Option<String>, Option<String>)> {
+    let mut words = env::args(rt)?;
+    let _program = words.next();
+    Ok((words.next(), words.next()))
+}
+
+/// The file that the words `time FILE` name, or none where there are no words.
+fn file_of_words(rt: &HostRuntime) -> Result<Option<String>> {
+    let (first, file) = words_of(rt)?;
+    let Some(first) = first else {
+        return Ok(None);
+    };
+    if first.as_str() != "time" || file.is_none() {
+        bail!("the words are: [time FILE]");
+    }
+    Ok(file)
 }
 
 /// Prints how long calls take on the volume that a file is.
@@ -66,9 +80,8 @@ fn print_filled(rt: &(impl Print + AllocGlobal)) -> Result<()> {
 fn fill_with(alloc: Global, nodes: u32, kind: Kind) -> Result<()> {
     for (order, turned) in ORDERS {
         let count = fill_and_empty(alloc, nodes, kind, order, turned)?;
-        if let Some(by_hand) = few(nodes, kind) {
-            ensure!(count == by_hand, "{} items in {} nodes", count, nodes);
-        }
+        let by_hand = few(nodes, kind).unwrap_or(count);
+        ensure_number("items", count, by_hand)?;
     }
     Ok(())
 }

@@ -1,11 +1,11 @@
 //! How long it takes to move a folder into folders that lie in one another.
 use crate::creation::{Kind, creation, name};
-use crate::disk::mounted;
-use crate::times::print_calls;
+use crate::disk::{mounted, reply_of};
+use crate::rounds::print_calls;
 use anyhow::{Result, bail};
 use hfs_model::{Call, Value};
 use hfs_volume::Volume;
-use std::alloc::Global;
+use std::alloc::{AllocError, Global};
 use std::rt::Clock;
 
 /// How many folders lie in one another.
@@ -17,17 +17,31 @@ const ROUNDS: u32 = 500;
 /// The ID of the root.
 const ROOT: u32 = 2;
 
-/// Makes a folder, and tells its ID.
-fn new_folder(alloc: Global, volume: &mut Volume, dir: u32, number: u32) -> Result<u32> {
-    let call = creation(alloc, Kind::Folder, dir, number)?;
-    match volume.call(alloc, &call)?.value {
-        Value::Id(id) => Ok(id),
+/// Makes a call, and answers the ID that it is answered, if it is one.
+fn id_of(alloc: Global, volume: &mut Volume, call: Call) -> Result<Option<u32>, AllocError> {
+    let reply = reply_of(alloc, volume, &call)?;
+    Ok(told_id(&reply.value))
+}
+
+/// The ID that a reply tells, if it is one.
+fn told_id(value: &Value) -> Option<u32> {
+    match value {
+        Value::Id(id) => Some(*id),
         Value::Nothing
         | Value::One(_)
         | Value::Many(_)
         | Value::Bytes(_)
         | Value::Place { .. }
-        | Value::Full { .. } => bail!("no new folder"),
+        | Value::Full { .. } => None,
+    }
+}
+
+/// Makes a folder, and tells its ID.
+fn new_folder(alloc: Global, volume: &mut Volume, dir: u32, number: u32) -> Result<u32> {
+    let call = creation(alloc, Kind::Folder, dir, number)?;
+    match id_of(alloc, volume, call)? {
+        Some(id) => Ok(id),
+        None => bail!("no new folder"),
     }
 }
 
@@ -42,22 +56,23 @@ fn chain(alloc: Global, volume: &mut Volume) -> Result<Vec<u32>> {
     Ok(ids)
 }
 
+/// The call that moves the folder of this number.
+fn move_of(alloc: Global, number: u32, dirs: (u32, u32), now: u32) -> Result<Call, AllocError> {
+    let (dir, new_dir) = dirs;
+    Ok(Call::CatMove {
+        dir,
+        name: name(alloc, number)?,
+        new_dir,
+        now,
+    })
+}
+
 /// The calls that move the folder of this number from the root into a folder and back.
-fn moves(alloc: Global, number: u32, new_dir: u32) -> Result<Vec<Call>> {
+fn moves(alloc: Global, number: u32, new_dir: u32) -> Result<Vec<Call>, AllocError> {
     let mut calls = Vec::new(alloc);
     for round in 0..ROUNDS {
-        calls.push(Call::CatMove {
-            dir: ROOT,
-            name: name(alloc, number)?,
-            new_dir,
-            now: round,
-        })?;
-        calls.push(Call::CatMove {
-            dir: new_dir,
-            name: name(alloc, number)?,
-            new_dir: ROOT,
-            now: round,
-        })?;
+        calls.push(move_of(alloc, number, (ROOT, new_dir), round)?)?;
+        calls.push(move_of(alloc, number, (new_dir, ROOT), round)?)?;
     }
     Ok(calls)
 }
@@ -73,16 +88,30 @@ fn print_depth(
     print_calls(rt, what, volume, &calls)
 }
 
+/// Prints how long it takes to move a folder into one of these, at three depths.
+fn print_depths(
+    rt: &(impl Print + AllocGlobal + Clock),
+    volume: &mut Volume,
+    ids: &[u32],
+) -> Result<()> {
+    let (Some(first), Some(middle), Some(last)) = (ids.get(0), ids.get(99), ids.get(199)) else {
+        bail!("too few folders");
+    };
+    print_depth(rt, volume, "CatMove at depth 1", *first)?;
+    print_depth(rt, volume, "CatMove at depth 100", *middle)?;
+    print_depth(rt, volume, "CatMove at depth 200", *last)
+}
+
+/// Makes the folders of a volume, and prints how long moves take.
+fn print_moved(rt: &(impl Print + AllocGlobal + Clock), volume: &mut Volume) -> Result<()> {
+    let ids = chain(rt.alloc(), volume)?;
+    let _moved = new_folder(rt.alloc(), volume, ROOT, DEPTH)?;
+    print_depths(rt, volume, &ids)
+}
+
 /// Prints how long moves take on the volume of an image.
 pub fn print_moves(rt: &(impl Print + AllocGlobal + Clock), image: &[u8]) -> Result<()> {
     let alloc = rt.alloc();
     let mut volume = mounted(alloc, Vec::from_slice(alloc, image)?)?;
-    let ids = chain(alloc, &mut volume)?;
-    let _moved = new_folder(alloc, &mut volume, ROOT, DEPTH)?;
-    let (Some(first), Some(middle), Some(last)) = (ids.get(0), ids.get(99), ids.get(199)) else {
-        bail!("too few folders");
-    };
-    print_depth(rt, &mut volume, "CatMove at depth 1", *first)?;
-    print_depth(rt, &mut volume, "CatMove at depth 100", *middle)?;
-    print_depth(rt, &mut volume, "CatMove at depth 200", *last)
+    print_moved(rt, &mut volume)
 }

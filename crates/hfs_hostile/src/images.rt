@@ -20,14 +20,27 @@ pub fn image_of(alloc: Global, volume: Hostile) -> Result<Vec<u8>, FixtureFault>
     }
 }
 
-/// The volume with the folder `d`, in it the file `f` with 2,000 bytes in allocation blocks 10, 12 and 14 by its record, and in 16 by the
-/// extents tree. The record of `f` has its body from byte 286 of block 7 on.
-fn cut_image(alloc: Global) -> Result<Vec<u8>, FixtureFault> {
-    let mut image = small_image(alloc, SmallVolume::Folder)?;
-    lay(&mut image, 2, 34, &[0, 46])?;
-    lay(&mut image, 3, 1, &[0x2a, 0x80])?;
-    lay(&mut image, 7, 312, &[0, 0, 0x07, 0xd0, 0, 0, 0x08, 0x00])?;
-    lay(&mut image, 7, 360, &[0, 10, 0, 1, 0, 12, 0, 1, 0, 14, 0, 1])?;
+/// Bytes that are laid: a block, a place in it, and the bytes there.
+pub type Row = (usize, usize, &'static [u8]);
+
+/// Three extents by the record of `f`, and their blocks. The record has its body from byte 286 of block 7 on.
+const THREE_EXTENTS: [Row; 4] = [
+    (2, 34, &[0, 46]),
+    (3, 1, &[0x2a, 0x80]),
+    (7, 312, &[0, 0, 0x07, 0xd0, 0, 0, 0x08, 0x00]),
+    (7, 360, &[0, 10, 0, 1, 0, 12, 0, 1, 0, 14, 0, 1]),
+];
+
+/// Lays bytes at their places.
+pub fn lay_rows(image: &mut [u8], rows: &[Row]) -> Result<(), FixtureFault> {
+    for (block, at, bytes) in rows {
+        lay(image, *block, *at, bytes)?;
+    }
+    Ok(())
+}
+
+/// Lays the fourth extent of `f` into the extents tree.
+fn lay_fourth(alloc: Global, image: &mut [u8]) -> Result<(), FixtureFault> {
     let key = ExtKey {
         fork: 0,
         file: 17,
@@ -38,7 +51,15 @@ fn cut_image(alloc: Global) -> Result<Vec<u8>, FixtureFault> {
         first: 16,
         count: 1,
     };
-    lay_overflow(alloc, &mut image, &key, &[fourth, none, none])?;
+    lay_overflow(alloc, image, &key, &[fourth, none, none])
+}
+
+/// The volume with the folder `d`, in it the file `f` with 2,000 bytes in allocation blocks 10, 12 and 14 by its record, and in 16 by the
+/// extents tree.
+fn cut_image(alloc: Global) -> Result<Vec<u8>, FixtureFault> {
+    let mut image = small_image(alloc, SmallVolume::Folder)?;
+    lay_rows(&mut image, &THREE_EXTENTS)?;
+    lay_fourth(alloc, &mut image)?;
     Ok(image)
 }
 
@@ -77,4 +98,10 @@ pub fn saved(alloc: Global, volume: &Volume) -> Result<Vec<u8>> {
         Ok(()) => Ok(image),
         Err(_fault) => bail!("the image was not saved"),
     }
+}
+
+/// The volume of an image, saved and mounted again.
+pub fn mounted_again(alloc: Global, volume: &Volume) -> Result<Volume> {
+    let image = saved(alloc, volume)?;
+    mounted(alloc, image)
 }

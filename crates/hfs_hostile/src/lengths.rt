@@ -1,9 +1,10 @@
 //! A volume cut to each length.
 use crate::images::{Hostile, image_of};
+use crate::refusals::tried;
 use crate::serving::serve;
 use anyhow::{Result, ensure};
 use hfs_fixtures::SmallVolume;
-use hfs_volume::{Alternate, MountFault, mount, report};
+use hfs_volume::{Alternate, MountFault, Report, report};
 use std::alloc::Global;
 
 /// The length of a volume of 64 blocks.
@@ -29,38 +30,46 @@ fn alternate_at(length: usize) -> Alternate {
     }
 }
 
-/// Mounts the first bytes of an image, and makes all calls where they are taken.
-fn cut_to(alloc: Global, image: Vec<u8>) -> Result<()> {
+/// Whether this is the report of the volume cut to a length.
+fn is_reported(told: &Report, length: usize) -> bool {
+    let has_alternate = told.fault.is_some() || told.alternate == alternate_at(length);
+    told.fault == fault_at(length) && has_alternate
+}
+
+/// An error where the image is reported otherwise than its length wants.
+fn ensure_reported(alloc: Global, image: &[u8]) -> Result<()> {
+    let told = report(alloc, image)?;
     let length = image.len();
-    let fault = fault_at(length);
-    let told = report(alloc, &image)?;
-    ensure!(told.fault == fault, "another report of {} bytes", length);
-    if told.fault.is_none() {
-        ensure!(
-            told.alternate == alternate_at(length),
-            "another alternate of {} bytes",
-            length
-        );
-    }
-    match mount(alloc, image) {
+    ensure!(
+        is_reported(&told, length),
+        "another report of {length} bytes"
+    );
+    Ok(())
+}
+
+/// An error where an image of this length is given back with another one, or for another fault.
+fn ensure_refused(length: usize, fault: MountFault, given_back: usize) -> Result<()> {
+    let is_wanted = Some(fault) == fault_at(length) && given_back == length;
+    ensure!(is_wanted, "another fault or image of {length} bytes");
+    Ok(())
+}
+
+/// Mounts the first bytes of an image, and makes all calls where they are taken.
+fn mount_cut(alloc: Global, image: Vec<u8>) -> Result<()> {
+    let length = image.len();
+    match tried(alloc, image) {
         Ok(volume) => {
-            ensure!(fault.is_none(), "{} bytes are taken", length);
+            ensure!(fault_at(length).is_none(), "{length} bytes are taken");
             serve(alloc, volume)
         }
-        Err(refused) => {
-            ensure!(
-                Some(refused.fault) == fault,
-                "another fault of {} bytes",
-                length
-            );
-            ensure!(
-                refused.image.len() == length,
-                "another image of {} bytes",
-                length
-            );
-            Ok(())
-        }
+        Err((fault, given_back)) => ensure_refused(length, fault, given_back),
     }
+}
+
+/// Wants the report that the first bytes of an image have, and mounts them.
+fn cut_to(alloc: Global, image: &[u8]) -> Result<()> {
+    ensure_reported(alloc, image)?;
+    mount_cut(alloc, Vec::from_slice(alloc, image)?)
 }
 
 /// Cuts a new volume to each length.
@@ -69,7 +78,7 @@ pub fn cut_to_each(alloc: Global) -> Result<()> {
     ensure!(image.len() == WHOLE, "another length");
     for left in 0..WHOLE + 1 {
         image.truncate(WHOLE - left);
-        cut_to(alloc, image.clone()?)?;
+        cut_to(alloc, &image)?;
     }
     Ok(())
 }

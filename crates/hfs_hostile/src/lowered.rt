@@ -1,9 +1,9 @@
 //! A catalog whose index keys are lower than their children's first keys at each level. Each edit keeps it sound.
-use crate::images::{mounted, planned, saved};
-use crate::serving::{create, delete};
+use crate::images::{mounted, mounted_again, planned, saved};
+use crate::serving::{create, delete, ensure_done};
 use anyhow::{Result, ensure};
 use hfs_volume::Volume;
-use std::alloc::Global;
+use std::alloc::{AllocError, Global};
 
 /// How many files there are at first: the even numbers from 0 on. Between each two of them another one comes.
 const FILES: u32 = 200;
@@ -65,13 +65,19 @@ fn lower_node(image: &mut [u8], block: usize) -> u8 {
     image.get(start.saturating_add(9)).copied().unwrap_or(0)
 }
 
+/// Creates the files of even numbers.
+fn create_even(alloc: Global, volume: &mut Volume) -> Result<()> {
+    for n in 0..FILES {
+        let code = create(alloc, volume, &name(n.saturating_mul(2)))?;
+        ensure_done(code, "file", n)?;
+    }
+    Ok(())
+}
+
 /// A volume with the files of even numbers, as it is saved.
 fn even_image(alloc: Global) -> Result<Vec<u8>> {
     let mut volume = mounted(alloc, planned(alloc, 1_024, 2, 600)?)?;
-    for n in 0..FILES {
-        let code = create(alloc, &mut volume, &name(n.saturating_mul(2)))?;
-        ensure!(code == 0, "{} at file {}", code, n);
-    }
+    create_even(alloc, &mut volume)?;
     saved(alloc, &volume)
 }
 
@@ -93,41 +99,66 @@ enum Change {
 }
 
 /// The code of the call by which a file comes or goes.
-fn code_of(alloc: Global, volume: &mut Volume, change: Change, number: u32) -> Result<i16> {
+fn code_of(
+    alloc: Global,
+    volume: &mut Volume,
+    change: Change,
+    number: u32,
+) -> Result<i16, AllocError> {
     match change {
         Change::Come => create(alloc, volume, &name(number)),
         Change::Go => delete(alloc, volume, &name(number)),
     }
 }
 
+/// A file comes or goes.
+fn change_one(alloc: Global, volume: &mut Volume, change: Change, number: u32) -> Result<()> {
+    let code = code_of(alloc, volume, change, number)?;
+    ensure_done(code, "number", number)
+}
+
+/// Saves the image and mounts it again.
+fn mount_again(alloc: Global, volume: &mut Volume) -> Result<()> {
+    *volume = mounted_again(alloc, volume)?;
+    Ok(())
+}
+
 /// Files come or go: so many, from this number on, and each so far behind the one before it. Each tenth time, and at the end, the image is saved and
 /// mounted again.
 fn change_row(
     alloc: Global,
-    volume: Volume,
+    volume: &mut Volume,
     change: Change,
     row: (u32, u32, u32),
-) -> Result<Volume> {
+) -> Result<()> {
     let (first, step, count) = row;
-    let mut volume = volume;
     for n in 0..count {
         let number = first.saturating_add(n.saturating_mul(step));
-        let code = code_of(alloc, &mut volume, change, number)?;
-        ensure!(code == 0, "{} at number {}", code, number);
+        change_one(alloc, volume, change, number)?;
         if n % 10 == 9 {
-            volume = mounted(alloc, saved(alloc, &volume)?)?;
+            mount_again(alloc, volume)?;
         }
     }
-    mounted(alloc, saved(alloc, &volume)?)
+    mount_again(alloc, volume)
+}
+
+/// In a catalog with lowered keys the files go.
+fn empty(alloc: Global, image: Vec<u8>) -> Result<()> {
+    let mut volume = mounted(alloc, image)?;
+    change_row(alloc, &mut volume, Change::Go, (0, 2, 200))
+}
+
+/// In a catalog with lowered keys files come between the others, and then all go.
+fn fill_and_empty(alloc: Global, image: Vec<u8>) -> Result<()> {
+    let mut volume = mounted(alloc, image)?;
+    change_row(alloc, &mut volume, Change::Come, (1, 2, 200))?;
+    change_row(alloc, &mut volume, Change::Go, (0, 1, 400))
 }
 
 /// In a catalog with lowered keys the files go; and in another one files come between them, and then all go.
 pub fn edit(alloc: Global) -> Result<()> {
     let mut image = even_image(alloc)?;
     lower(&mut image)?;
-    let volume = mounted(alloc, image.clone()?)?;
-    let _emptied = change_row(alloc, volume, Change::Go, (0, 2, 200))?;
-    let filled = change_row(alloc, mounted(alloc, image)?, Change::Come, (1, 2, 200))?;
-    let _emptied = change_row(alloc, filled, Change::Go, (0, 1, 400))?;
-    Ok(())
+    empty(alloc, image.clone()?)?;
+    fill_and_empty(alloc, image)
 }

@@ -9,28 +9,52 @@ mod extents;
 mod images;
 mod lengths;
 mod lowered;
+mod refusals;
 mod ring;
 mod serving;
+mod tree;
 
 use crate::images::Hostile;
 use anyhow::Result;
 use hfs_fixtures::SmallVolume;
 
 fn main(rt: HostRuntime) -> Result<()> {
-    let alloc = rt.alloc();
-    bytes::change_each(alloc, Hostile::Cut)?;
-    bytes::change_each(alloc, Hostile::Small(SmallVolume::TwoLevels))?;
-    println!(rt; "two volumes with each byte that describes them changed")?;
-    lengths::cut_to_each(alloc)?;
-    println!(rt; "a volume cut to each length")?;
-    deep::grow(alloc)?;
-    println!(rt; "a catalog of 16 levels")?;
-    ring::refuse(alloc)?;
-    println!(rt; "a ring of nine folders")?;
-    lowered::edit(alloc)?;
-    println!(rt; "a catalog with lower index keys at each level")?;
-    extents::read_and_drop(alloc)?;
-    extents::refuse(alloc)?;
-    println!(rt; "a file in 60,000 extents, and with these over each other")?;
+    try_changes(&rt)?;
+    try_catalogs(&rt)?;
+    try_extents(&rt)
+}
+
+/// Prints that volumes were tried.
+fn tell(rt: &impl Print, tried: &str) -> Result<()> {
+    println!(rt; "{tried}")?;
     Ok(())
+}
+
+/// Small volumes that are changed or cut.
+fn try_changes(rt: &(impl Print + AllocGlobal)) -> Result<()> {
+    bytes::change_each(rt.alloc(), Hostile::Cut)?;
+    bytes::change_each(rt.alloc(), Hostile::Small(SmallVolume::TwoLevels))?;
+    tell(rt, "two volumes with each byte that describes them changed")?;
+    lengths::cut_to_each(rt.alloc())?;
+    tell(rt, "a volume cut to each length")
+}
+
+/// Hostile catalogs.
+fn try_catalogs(rt: &(impl Print + AllocGlobal)) -> Result<()> {
+    deep::grow(rt.alloc())?;
+    tell(rt, "a catalog of 16 levels")?;
+    ring::refuse(rt.alloc())?;
+    tell(rt, "a ring of nine folders")?;
+    lowered::edit(rt.alloc())?;
+    tell(rt, "a catalog with lower index keys at each level")
+}
+
+/// A file in many extents.
+fn try_extents(rt: &(impl Print + AllocGlobal)) -> Result<()> {
+    extents::read_and_drop(rt.alloc())?;
+    extents::refuse(rt.alloc())?;
+    tell(
+        rt,
+        "a file in 60,000 extents, and with these over each other",
+    )
 }

@@ -1,20 +1,42 @@
 //! All calls on a volume.
-use crate::images::{mounted, saved};
-use anyhow::{Result, bail, ensure};
+use crate::images::mounted_again;
+use anyhow::{Result, ensure};
 use hfs_model::{Bytes, Call, Fork, Reply, Value};
 use hfs_volume::Volume;
-use std::alloc::Global;
+use std::alloc::{AllocError, Global};
 
 /// IDs of folders and files in the volumes that are changed, and IDs that no item has.
 const IDS: [u32; 5] = [0, 2, 16, 17, 99];
 
+/// An error where a call isn't answered 0: what it was, and its number.
+pub fn ensure_done(code: i16, what: &str, number: u32) -> Result<()> {
+    ensure!(code == 0, "{code} at {what} {number}");
+    Ok(())
+}
+
+/// The code of GetCatInfo.
+fn info_code(volume: &Volume, dir: u32, name: &[u8]) -> i16 {
+    let info = volume.get_cat_info(dir, name);
+    info.code
+}
+
+/// Reads a fork of an item.
+fn read_part(
+    alloc: Global,
+    volume: &Volume,
+    dir: u32,
+    name: &[u8],
+    fork: Fork,
+) -> Result<(), AllocError> {
+    let _part = volume.read_fork(alloc, dir, name, fork, 0, 65_536)?;
+    Ok(())
+}
+
 /// Makes the calls that read one item.
 fn read_item(alloc: Global, volume: &Volume, dir: u32, name: &[u8]) -> Result<()> {
-    let info = volume.get_cat_info(dir, name);
-    ensure!(info.code == 0, "a listed item isn't found");
-    for fork in [Fork::DataFork, Fork::ResFork] {
-        let _part = volume.read_fork(alloc, dir, name, fork, 0, 65_536)?;
-    }
+    ensure_done(info_code(volume, dir, name), "an item listed in", dir)?;
+    read_part(alloc, volume, dir, name, Fork::DataFork)?;
+    read_part(alloc, volume, dir, name, Fork::ResFork)?;
     Ok(())
 }
 
@@ -36,59 +58,73 @@ fn read_listed(alloc: Global, volume: &Volume, dir: u32, listed: &Reply) -> Resu
     }
 }
 
-/// Makes all calls that read a folder, or none where no folder has this ID.
-fn read_folder(alloc: Global, volume: &Volume, dir: u32) -> Result<()> {
+/// Makes the calls that tell of a folder.
+fn ask_folder(volume: &Volume, dir: u32) {
     let _info = volume.get_dir_info(dir);
     let _first = volume.get_indexed(dir, 1);
     let _place = volume.resolve_file_id(dir);
+}
+
+/// Makes all calls that read a folder, or none where no folder has this ID.
+fn read_folder(alloc: Global, volume: &Volume, dir: u32) -> Result<()> {
+    ask_folder(volume, dir);
     let listed = volume.list(alloc, dir)?;
     read_listed(alloc, volume, dir, &listed)
 }
 
 /// The code of a call.
-pub fn code_of(alloc: Global, volume: &mut Volume, call: &Call) -> Result<i16> {
-    let reply = volume.call(alloc, call)?;
+fn code_of(alloc: Global, volume: &mut Volume, call: Call) -> Result<i16, AllocError> {
+    let reply = volume.call(alloc, &call)?;
     Ok(reply.code)
 }
 
 /// The code of Create in the root.
-pub fn create(alloc: Global, volume: &mut Volume, name: &[u8]) -> Result<i16> {
+pub fn create(alloc: Global, volume: &mut Volume, name: &[u8]) -> Result<i16, AllocError> {
     let name = Bytes::from_slice(alloc, name)?;
-    code_of(
-        alloc,
-        volume,
-        &Call::Create {
-            dir: 2,
-            name,
-            now: 7,
-        },
-    )
+    let call = Call::Create {
+        dir: 2,
+        name,
+        now: 7,
+    };
+    code_of(alloc, volume, call)
 }
 
 /// The code of Delete in the root.
-pub fn delete(alloc: Global, volume: &mut Volume, name: &[u8]) -> Result<i16> {
+pub fn delete(alloc: Global, volume: &mut Volume, name: &[u8]) -> Result<i16, AllocError> {
     let name = Bytes::from_slice(alloc, name)?;
-    code_of(
-        alloc,
-        volume,
-        &Call::Delete {
-            dir: 2,
-            name,
-            now: 8,
-        },
-    )
+    let call = Call::Delete {
+        dir: 2,
+        name,
+        now: 8,
+    };
+    code_of(alloc, volume, call)
 }
 
-/// Makes all calls that read on each folder of a volume, a Create and a Delete; what is saved then is mounted again.
-pub fn serve(alloc: Global, mut volume: Volume) -> Result<()> {
+/// Makes a Create, and a Delete of what it created.
+fn create_and_delete(alloc: Global, volume: &mut Volume) -> Result<()> {
+    let created = create(alloc, volume, b"n")?;
+    let deleted = delete(alloc, volume, b"n")?;
+    ensure!(created != 0 || deleted == 0, "a new file isn't deleted");
+    Ok(())
+}
+
+/// Makes all calls that read on each folder of a volume, a Create and a Delete.
+fn call_all(alloc: Global, volume: &mut Volume) -> Result<()> {
     for dir in IDS {
-        read_folder(alloc, &volume, dir)?;
+        read_folder(alloc, volume, dir)?;
     }
-    let created = create(alloc, &mut volume, b"n")?;
-    let deleted = delete(alloc, &mut volume, b"n")?;
-    if created == 0 && deleted != 0 {
-        bail!("a new file isn't deleted");
-    }
-    let _volume = mounted(alloc, saved(alloc, &volume)?)?;
+    create_and_delete(alloc, volume)
+}
+
+/// Makes all calls on a volume; what is saved then is mounted again.
+pub fn serve(alloc: Global, volume: Volume) -> Result<()> {
+    let mut volume = volume;
+    call_all(alloc, &mut volume)?;
+    try_again(alloc, &volume)
+}
+
+/// Saves a volume and mounts it again.
+fn try_again(alloc: Global, volume: &Volume) -> Result<()> {
+    let _again = mounted_again(alloc, volume)?;
     Ok(())
 }

@@ -121,6 +121,18 @@ pub fn take<K: Sample>(alloc: Global, nodes: &mut NodeTable, n: u32) -> Result<(
     take_pair(alloc, nodes, &key)
 }
 
+/// An error where a pair isn't the one with this number.
+fn ensure_pair<K: Sample>(alloc: Global, n: usize, key: &K, body: &[u8]) -> Result<()> {
+    let number = u32::try_from(n)?;
+    let Some(wanted) = K::numbered(number) else {
+        bail!("no such key");
+    };
+    ensure!(wanted.compare(key).is_eq(), "another key");
+    let wanted = K::body(alloc, number)?;
+    ensure!(body == wanted.as_slice(), "another body");
+    Ok(())
+}
+
 /// An error where the tree's pairs aren't the least one and those with the numbers that are there.
 fn check_content<K: Sample>(alloc: Global, nodes: &NodeTable, there: &[bool]) -> Result<()>
     requires sound { IsSound K.Key nodes.now.nodes.items }
@@ -132,16 +144,10 @@ fn check_content<K: Sample>(alloc: Global, nodes: &NodeTable, there: &[bool]) ->
     walk.advance();
     for n in 0..there.len() {
         if there[n] {
-            let number = u32::try_from(n)?;
             let Some(pair) = walk.pair() else {
                 bail!("a pair is missing");
             };
-            let Some(key) = K::numbered(number) else {
-                bail!("no such key");
-            };
-            ensure!(key.compare(&pair.key).is_eq(), "another key");
-            let body = K::body(alloc, number)?;
-            ensure!(pair.body == body.as_slice(), "another body");
+            ensure_pair::<K>(alloc, n, &pair.key, pair.body)?;
             walk.advance();
         }
     }

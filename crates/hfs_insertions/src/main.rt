@@ -21,6 +21,7 @@ use hfs_btree::{Header, read_header};
 use hfs_btree_checks::check_tree;
 use hfs_fields::{CatKey, ExtKey};
 use hfs_node_tables::NodeTable;
+use std::alloc::Global;
 use std::rt::Clock;
 use std::{env, fs};
 
@@ -47,30 +48,30 @@ fn print_times(rt: &HostRuntime, file: &str) -> Result<()> {
 
 /// Puts pairs into each tree, and prints what became of it.
 fn print_all(rt: &HostRuntime) -> Result<()> {
-    let extents = fs::read(rt, "extents.bin")?;
-    print_grown::<ExtKey>(rt, "extents.bin", &extents, 2000)?;
-    let catalog = fs::read(rt, "catalog.bin")?;
-    print_grown::<CatKey>(rt, "catalog.bin", &catalog, 6000)?;
-    let third = fs::read(rt, "third-map-node.bin")?;
-    print_grown::<CatKey>(rt, "third-map-node.bin", &third, 13904)?;
-    let thousand = fs::read(rt, "thousand-nodes.bin")?;
-    print_files(rt, &thousand)?;
-    let last = fs::read(rt, "last-free-nodes.bin")?;
-    print_last(rt, &last)?;
-    let inexact = fs::read(rt, "inexact.bin")?;
-    print_inexact(rt, &inexact)
+    print_grown::<ExtKey>(rt, "extents.bin", 2000)?;
+    print_grown::<CatKey>(rt, "catalog.bin", 6000)?;
+    print_grown::<CatKey>(rt, "third-map-node.bin", 13904)?;
+    print_files(rt, "thousand-nodes.bin")?;
+    print_last(rt, "last-free-nodes.bin")?;
+    print_inexact(rt, "inexact.bin")
 }
 
-/// The nodes of a file, and behind them blank ones up to this count.
-fn table(rt: &impl AllocGlobal, file: &[u8], count: usize) -> Result<NodeTable> {
-    let mut bytes = Vec::from_slice(rt.alloc(), file)?;
+/// The bytes of a file, and behind them blank nodes up to this count.
+fn padded(alloc: Global, file: &[u8], count: usize) -> Result<Vec<u8>> {
+    let mut bytes = Vec::from_slice(alloc, file)?;
     for _ in file.len() / 512..count {
         bytes.extend_from_slice(&[0; 512])?;
     }
-    let Some(nodes) = NodeTable::of(rt.alloc(), &bytes)? else {
-        bail!("the file is too long");
-    };
-    Ok(nodes)
+    Ok(bytes)
+}
+
+/// The nodes of a file, and behind them blank ones up to this count.
+fn table(alloc: Global, file: &[u8], count: usize) -> Result<NodeTable> {
+    let bytes = padded(alloc, file, count)?;
+    match NodeTable::of(alloc, &bytes)? {
+        Some(nodes) => Ok(nodes),
+        None => bail!("the file is too long"),
+    }
 }
 
 /// The header record of a tree that is checked first.
@@ -79,37 +80,22 @@ fn header_of<K: Sample>(rt: &impl AllocGlobal, nodes: &NodeTable) -> Result<Head
     Ok(read_header(nodes))
 }
 
-/// Lets a tree grow and shrink in each order, and prints that it did.
-fn print_grown<K: Sample>(
-    rt: &(impl Print + AllocGlobal + Clock),
-    name: &str,
-    file: &[u8],
-    count: usize,
+/// An error where a tree has others than so many pairs, or fewer than so many levels.
+fn ensure_full<K: Sample>(
+    rt: &impl AllocGlobal,
+    nodes: &NodeTable,
+    records: u32,
+    depth: u16,
 ) -> Result<()> {
-    run::<K>(rt, file, count, Order::Rising)?;
-    run::<K>(rt, file, count, Order::Falling)?;
-    run::<K>(rt, file, count, Order::Mixed)?;
-    println!(rt; "{name} 5000 pairs put and taken in three orders")?;
+    let full = header_of::<K>(rt, nodes)?;
+    ensure!(full.depth >= depth, "too few levels");
+    ensure!(full.records == records, "another count of pairs");
     Ok(())
 }
 
-/// Puts 5,000 pairs into a tree with one leaf in this order, and takes them out again in the mixed one. At least three
-/// levels are there between, and afterwards as many levels and free nodes as before.
-fn run<K: Sample>(
-    rt: &(impl AllocGlobal + Clock),
-    file: &[u8],
-    count: usize,
-    order: Order,
-) -> Result<()> {
-    let mut nodes = table(rt, file, count)?;
-    let mut there = vec![in rt.alloc(); false; 5000]?;
-    let before = header_of::<K>(rt, &nodes)?;
-    grow::<K>(rt, &mut nodes, &mut there, order)?;
-    let full = header_of::<K>(rt, &nodes)?;
-    ensure!(full.depth >= 3, "too few levels");
-    ensure!(full.records == 5001, "another count of pairs");
-    shrink::<K>(rt.alloc(), &mut nodes, &mut there, Order::Mixed)?;
-    let after = header_of::<K>(rt, &nodes)?;
+/// An error where a tree has another number of levels or of free nodes than before.
+fn ensure_back<K: Sample>(rt: &impl AllocGlobal, nodes: &NodeTable, before: &Header) -> Result<()> {
+    let after = header_of::<K>(rt, nodes)?;
     ensure!(after.depth == before.depth, "another depth");
     ensure!(
         after.free_nodes == before.free_nodes,
@@ -118,59 +104,131 @@ fn run<K: Sample>(
     Ok(())
 }
 
-/// 300 files come to the tree, and leave it from the least name upwards; and once more, and from the greatest downwards.
-fn print_files(rt: &(impl Print + AllocGlobal + Clock), file: &[u8]) -> Result<()> {
-    let mut nodes = table(rt, file, 1000)?;
-    let before = header_of::<CatKey>(rt, &nodes)?;
-    for upwards in [true, false] {
-        put_files(rt, &mut nodes)?;
-        let full = header_of::<CatKey>(rt, &nodes)?;
-        ensure!(full.records == 301, "another count of pairs");
-        take_files(rt.alloc(), &mut nodes, upwards)?;
-        let after = header_of::<CatKey>(rt, &nodes)?;
-        ensure!(after.depth == before.depth, "another depth");
-        ensure!(
-            after.free_nodes == before.free_nodes,
-            "another count of free nodes"
-        );
+/// Lets the tree of a file grow and shrink in each order, and prints that it did.
+fn print_grown<K: Sample>(rt: &HostRuntime, name: &str, count: usize) -> Result<()> {
+    let file = fs::read(rt, name)?;
+    for order in [Order::Rising, Order::Falling, Order::Mixed] {
+        run::<K>(rt, &file, count, order)?;
     }
-    println!(rt; "thousand-nodes.bin 300 files put and taken in two orders")?;
+    println!(rt; "{name} 5000 pairs put and taken in three orders")?;
     Ok(())
 }
 
-/// A full leaf is cut, and the last two free nodes are taken.
-fn print_last(rt: &(impl Print + AllocGlobal + Clock), file: &[u8]) -> Result<()> {
-    let mut nodes = table(rt, file, 4)?;
-    let mut there = vec![in rt.alloc(); false; 64]?;
+/// Puts 5,000 pairs into a tree with one leaf in this order, and takes them out again in the mixed one. At least three
+/// levels are there between.
+fn put_and_take<K: Sample>(
+    rt: &(impl AllocGlobal + Clock),
+    nodes: &mut NodeTable,
+    order: Order,
+) -> Result<()> {
+    let mut there = vec![in rt.alloc(); false; 5000]?;
+    grow::<K>(rt, nodes, &mut there, order)?;
+    ensure_full::<K>(rt, nodes, 5001, 3)?;
+    shrink::<K>(rt.alloc(), nodes, &mut there, Order::Mixed)
+}
+
+/// Puts pairs into a tree in this order, and takes them out again. Afterwards as many levels and free nodes are there as before.
+fn run<K: Sample>(
+    rt: &(impl AllocGlobal + Clock),
+    file: &[u8],
+    count: usize,
+    order: Order,
+) -> Result<()> {
+    let mut nodes = table(rt.alloc(), file, count)?;
+    let before = header_of::<K>(rt, &nodes)?;
+    put_and_take::<K>(rt, &mut nodes, order)?;
+    ensure_back::<K>(rt, &nodes, &before)
+}
+
+/// 300 files come to the tree, and leave it from the least name upwards or from the greatest downwards. Afterwards as many levels and
+/// free nodes are there as before.
+fn run_files(
+    rt: &(impl AllocGlobal + Clock),
+    nodes: &mut NodeTable,
+    before: &Header,
+    upwards: bool,
+) -> Result<()> {
+    put_files(rt, nodes)?;
+    ensure_full::<CatKey>(rt, nodes, 301, 0)?;
+    take_files(rt.alloc(), nodes, upwards)?;
+    ensure_back::<CatKey>(rt, nodes, before)
+}
+
+/// 300 files come to the tree, and leave it from the least name upwards; and once more, and from the greatest downwards.
+fn run_both_ways(rt: &(impl AllocGlobal + Clock), file: &[u8]) -> Result<()> {
+    let mut nodes = table(rt.alloc(), file, 1000)?;
+    let before = header_of::<CatKey>(rt, &nodes)?;
+    run_files(rt, &mut nodes, &before, true)?;
+    run_files(rt, &mut nodes, &before, false)
+}
+
+/// Lets 300 files come to the tree of a file and leave it twice, and prints that they did.
+fn print_files(rt: &HostRuntime, name: &str) -> Result<()> {
+    let file = fs::read(rt, name)?;
+    run_both_ways(rt, &file)?;
+    println!(rt; "{name} 300 files put and taken in two orders")?;
+    Ok(())
+}
+
+/// The header record of a tree with so many nodes, of pairs for which `there` has a place, behind the pairs with these numbers.
+fn header_behind(
+    rt: &(impl AllocGlobal + Clock),
+    file: &[u8],
+    count: usize,
+    there: &mut Vec<bool>,
+    numbers: &[u32],
+) -> Result<Header> {
+    let mut nodes = table(rt.alloc(), file, count)?;
+    put_all::<ExtKey>(rt, &mut nodes, there, numbers)?;
+    header_of::<ExtKey>(rt, &nodes)
+}
+
+/// The pairs of the tree whose leaf is full: those with the even numbers up to 40.
+fn even_pairs(alloc: Global) -> Result<Vec<bool>> {
+    let mut there = vec![in alloc; false; 64]?;
     for i in 0..there.len() {
         there[i] = i % 2 == 0 && i <= 40;
     }
-    put_all::<ExtKey>(rt, &mut nodes, &mut there, &[1])?;
-    let header = header_of::<ExtKey>(rt, &nodes)?;
+    Ok(there)
+}
+
+/// The tree of these bytes once a full leaf is cut, and the last two free nodes are taken.
+fn last_header(rt: &(impl AllocGlobal + Clock), file: &[u8]) -> Result<Header> {
+    let mut there = even_pairs(rt.alloc())?;
+    header_behind(rt, file, 4, &mut there, &[1])
+}
+
+/// Cuts a full leaf of a file's tree, and prints what is left.
+fn print_last(rt: &HostRuntime, name: &str) -> Result<()> {
+    let file = fs::read(rt, name)?;
+    let header = last_header(rt, &file)?;
     println!(rt;
-        "last-free-nodes.bin {} levels, {} free nodes",
+        "{name} {} levels, {} free nodes",
         header.depth, header.free_nodes
     )?;
     Ok(())
 }
 
-/// Keys are put between those of index nodes and those above them.
-fn print_inexact(rt: &(impl Print + AllocGlobal + Clock), file: &[u8]) -> Result<()> {
-    let mut nodes = table(rt, file, 32)?;
-    let mut there = vec![in rt.alloc(); false; 200]?;
+/// The pairs of the tree whose index keys are not those of their children: the one with the number 190.
+fn one_pair(alloc: Global) -> Result<Vec<bool>> {
+    let mut there = vec![in alloc; false; 200]?;
     for i in 0..there.len() {
         there[i] = i == 190;
     }
-    put_all::<ExtKey>(
-        rt,
-        &mut nodes,
-        &mut there,
-        &[175, 145, 115, 101, 189, 100, 160, 130, 99],
-    )?;
-    let header = header_of::<ExtKey>(rt, &nodes)?;
-    println!(rt;
-        "inexact.bin {} levels, {} pairs",
-        header.depth, header.records
-    )?;
+    Ok(there)
+}
+
+/// The tree of these bytes once keys are put between those of index nodes and those above them.
+fn inexact_header(rt: &(impl AllocGlobal + Clock), file: &[u8]) -> Result<Header> {
+    let mut there = one_pair(rt.alloc())?;
+    let numbers = [175, 145, 115, 101, 189, 100, 160, 130, 99];
+    header_behind(rt, file, 32, &mut there, &numbers)
+}
+
+/// Puts keys between those of a file's tree, and prints how many there are.
+fn print_inexact(rt: &HostRuntime, name: &str) -> Result<()> {
+    let file = fs::read(rt, name)?;
+    let header = inexact_header(rt, &file)?;
+    println!(rt; "{name} {} levels, {} pairs", header.depth, header.records)?;
     Ok(())
 }

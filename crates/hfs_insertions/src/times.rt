@@ -67,23 +67,49 @@ fn nanos(
     Ok(rounds)
 }
 
+/// How many nanoseconds each insertion takes. Every so many pairs are taken out first, and each round puts one of them back.
+fn rounds(rt: &(impl AllocGlobal + Clock), nodes: &mut NodeTable) -> Result<Vec<u128>> {
+    let pairs = pairs(rt.alloc(), nodes)?;
+    take_pairs(rt.alloc(), nodes, &pairs)?;
+    nanos(rt, nodes, &pairs)
+}
+
+/// The middle of the rounds, and the best.
+fn middle_and_best(rounds: &mut Vec<u128>) -> Result<(u128, u128)> {
+    rounds.sort_unstable();
+    let (Some(best), Some(middle)) = (rounds.first(), rounds.get(rounds.len() / 2)) else {
+        bail!("there are too few pairs");
+    };
+    Ok((*middle, *best))
+}
+
+/// The middle and the best of the rounds.
+fn measured(rt: &(impl AllocGlobal + Clock), nodes: &mut NodeTable) -> Result<(u128, u128)> {
+    let mut rounds = rounds(rt, nodes)?;
+    middle_and_best(&mut rounds)
+}
+
+/// The records of a tree that is checked first, and its levels.
+fn counts(alloc: Global, nodes: &NodeTable) -> Result<(u32, u16)> {
+    check_tree::<CatKey, NodeTable>(alloc, nodes, nodes.size())?;
+    let levels = depth::<CatKey, NodeTable>(nodes);
+    Ok((read_header(nodes).records, levels))
+}
+
+/// Prints how long an insertion into a catalog tree in memory takes.
+fn print_measured(rt: &(impl Print + AllocGlobal + Clock), nodes: &mut NodeTable) -> Result<()> {
+    let (middle, best) = measured(rt, nodes)?;
+    let (records, levels) = counts(rt.alloc(), nodes)?;
+    println!(rt; "{records} records, depth {levels}")?;
+    println!(rt; "an insertion in {middle} ns, {best} at best")?;
+    Ok(())
+}
+
 /// Prints how long an insertion into a catalog tree takes: the middle of the rounds and the best. Every so many pairs are
 /// taken out first, and each round puts one of them back.
 pub fn print_insertions(rt: &(impl Print + AllocGlobal + Clock), file: &[u8]) -> Result<()> {
     let Some(mut nodes) = NodeTable::of(rt.alloc(), file)? else {
         bail!("the file is too long");
     };
-    let pairs = pairs(rt.alloc(), &nodes)?;
-    take_pairs(rt.alloc(), &mut nodes, &pairs)?;
-    let mut rounds = nanos(rt, &mut nodes, &pairs)?;
-    rounds.sort_unstable();
-    let (Some(best), Some(middle)) = (rounds.first(), rounds.get(rounds.len() / 2)) else {
-        bail!("there are too few pairs");
-    };
-    check_tree::<CatKey, NodeTable>(rt.alloc(), &nodes, nodes.size())?;
-    let levels = depth::<CatKey, NodeTable>(&nodes);
-    let records = read_header(&nodes).records;
-    println!(rt; "{records} records, depth {levels}")?;
-    println!(rt; "an insertion in {middle} ns, {best} at best")?;
-    Ok(())
+    print_measured(rt, &mut nodes)
 }

@@ -90,6 +90,17 @@ pub fn check_records(alloc: Global, nodes: &NodeTable) -> Result<Vec<CatalogReco
     Ok(records)
 }
 
+/// An error at the first fault of the tree and of its records, but for valences.
+pub fn ensure_sound(alloc: Global, nodes: &NodeTable) -> Result<()>
+    ensures tree { OnOk result (IsCatalogTree nodes.now.nodes.items) }
+    ensures records { OnOk result (Each IsRecord (catalog_of nodes.now.nodes.items)) }
+    ensures names { OnOk result (AreNamesSound (catalog_of nodes.now.nodes.items)) }
+    ensures root { OnOk result (HasRoot (catalog_of nodes.now.nodes.items)) }
+{
+    let _records = check_records(alloc, nodes)?;
+    Ok(())
+}
+
 /// The records, and an error at the first fault of the tree and of them.
 pub fn check_all(alloc: Global, nodes: &NodeTable) -> Result<Vec<CatalogRecord>> {
     let records = check_records(alloc, nodes)?;

@@ -1,6 +1,6 @@
 //! The edits of a catalog, each behind a look at what it asks.
 
-use crate::checking::check_records;
+use crate::checking::ensure_sound;
 use crate::conditions::{
     ensure_file, ensure_folder, ensure_inside, ensure_item, ensure_none, ensure_room,
     ensure_room_for_two,
@@ -20,7 +20,7 @@ pub fn add_file(
     key: &CatKey,
     file: &FileRecord,
 ) -> Result<()> {
-    check_records(alloc, nodes)?;
+    ensure_sound(alloc, nodes)?;
     ensure!(key.parent >= 2, "no folder");
     ensure_none(alloc, nodes, key)?;
     ensure_inside(nodes)?;
@@ -36,7 +36,7 @@ pub fn add_dir(
     key: &CatKey,
     folder: &DirRecord,
 ) -> Result<()> {
-    check_records(alloc, nodes)?;
+    ensure_sound(alloc, nodes)?;
     ensure!(key.parent >= 2, "no folder");
     ensure!(folder.id >= 2, "no ID");
     ensure!(!key.name.bytes().is_empty(), "no name");
@@ -56,7 +56,7 @@ pub fn add_thread(
     dir: u32,
     name: &Name,
 ) -> Result<()> {
-    check_records(alloc, nodes)?;
+    ensure_sound(alloc, nodes)?;
     ensure!(id >= 2, "no ID");
     ensure_none(alloc, nodes, &thread_key(id))?;
     ensure_inside(nodes)?;
@@ -67,14 +67,14 @@ pub fn add_thread(
 
 /// Drops the thread of an ID.
 pub fn drop_thread(alloc: Global, nodes: &mut NodeTable, id: u32) -> Result<()> {
-    check_records(alloc, nodes)?;
+    ensure_sound(alloc, nodes)?;
     edits::drop_thread(alloc, nodes, id)?;
     Ok(())
 }
 
 /// Drops an item.
 pub fn drop_item(alloc: Global, nodes: &mut NodeTable, key: &CatKey, id: u32) -> Result<()> {
-    check_records(alloc, nodes)?;
+    ensure_sound(alloc, nodes)?;
     ensure_item(alloc, nodes, key)?;
     edits::drop_item(alloc, nodes, key, id)?;
     Ok(())
@@ -87,7 +87,7 @@ pub fn set_record(
     key: &CatKey,
     record: &ItemRecord,
 ) -> Result<()> {
-    check_records(alloc, nodes)?;
+    ensure_sound(alloc, nodes)?;
     match record {
         ItemRecord::Folder(folder) => {
             ensure_folder(alloc, nodes, key)?;
@@ -109,7 +109,7 @@ pub fn set_valence(
     valence: u16,
     now: u32,
 ) -> Result<()> {
-    check_records(alloc, nodes)?;
+    ensure_sound(alloc, nodes)?;
     ensure_folder(alloc, nodes, key)?;
     edits::set_valence(alloc, nodes, key, valence, now)?;
     Ok(())
@@ -123,7 +123,7 @@ pub fn rekey(
     from: &CatKey,
     to: &CatKey,
 ) -> Result<()> {
-    check_records(alloc, nodes)?;
+    ensure_sound(alloc, nodes)?;
     ensure!(from.parent >= 2 && to.parent >= 2, "no folder");
     ensure!(!to.name.bytes().is_empty(), "no name");
     ensure_item(alloc, nodes, from)?;

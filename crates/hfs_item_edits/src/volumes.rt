@@ -4,7 +4,7 @@ use crate::checking::{check_all, check_records};
 use crate::edits::{add_dir, add_thread, drop_item, drop_thread, rekey, set_record, set_valence};
 use crate::items::{folder_at, has_thread, id_of, numbered};
 use anyhow::Result;
-use hfs_catalog::{CatalogItem, ItemRecord};
+use hfs_catalog::{CatalogItem, CatalogRecord, ItemRecord};
 use hfs_fields::{CatKey, DirRecord};
 use hfs_node_tables::NodeTable;
 use std::alloc::Global;
@@ -61,14 +61,28 @@ fn gets_thread(item: &CatalogItem, number: usize) -> bool {
     }
 }
 
+/// An item gets a thread, if it is a third one that is a file without one. Answers whether it did.
+fn thread_one(
+    alloc: Global,
+    nodes: &mut NodeTable,
+    records: &[CatalogRecord],
+    item: &CatalogItem,
+    number: usize,
+) -> Result<bool> {
+    if gets_thread(item, number) && !has_thread(records, id_of(item)) {
+        add_thread(alloc, nodes, id_of(item), item.key.parent, &item.key.name)?;
+        Ok(true)
+    } else {
+        Ok(false)
+    }
+}
+
 /// Each third item that is a file without a thread gets one. Answers how many did.
 pub fn thread_all(alloc: Global, nodes: &mut NodeTable, items: &[CatalogItem]) -> Result<u32> {
     let records = check_records(alloc, nodes)?;
     let mut count = 0u32;
     for i in 0..items.len() {
-        let item = items[i];
-        if gets_thread(&item, i) && !has_thread(&records, id_of(&item)) {
-            add_thread(alloc, nodes, id_of(&item), item.key.parent, &item.key.name)?;
+        if thread_one(alloc, nodes, &records, &items[i], i)? {
             count = count.wrapping_add(1);
         }
         check_hundredth(alloc, nodes, i)?;
@@ -96,14 +110,20 @@ fn place(dir: u32, number: usize) -> Result<CatKey> {
     })
 }
 
-/// Each item gets another name, and then each its own again.
-pub fn rename_all(alloc: Global, nodes: &mut NodeTable, items: &[CatalogItem]) -> Result<()> {
+/// Each item gets another name.
+fn number_all(alloc: Global, nodes: &mut NodeTable, items: &[CatalogItem]) -> Result<()> {
     for i in 0..items.len() {
         let item = items[i];
         let to = place(item.key.parent, i)?;
         rekey(alloc, nodes, id_of(&item), &item.key, &to)?;
         check_hundredth(alloc, nodes, i)?;
     }
+    Ok(())
+}
+
+/// Each item gets another name, and then each its own again.
+pub fn rename_all(alloc: Global, nodes: &mut NodeTable, items: &[CatalogItem]) -> Result<()> {
+    number_all(alloc, nodes, items)?;
     for i in 0..items.len() {
         let item = items[i];
         let from = place(item.key.parent, i)?;
@@ -113,10 +133,15 @@ pub fn rename_all(alloc: Global, nodes: &mut NodeTable, items: &[CatalogItem]) -
     Ok(())
 }
 
+/// The key of a folder, and its valence.
+fn folder_in(alloc: Global, nodes: &NodeTable, id: u32) -> Result<(CatKey, u16)> {
+    let records = check_records(alloc, nodes)?;
+    folder_at(&records, id)
+}
+
 /// A folder has one child more, or with 65,535 one fewer.
 fn change_valence(alloc: Global, nodes: &mut NodeTable, id: u32, by: u16) -> Result<()> {
-    let records = check_records(alloc, nodes)?;
-    let (key, valence) = folder_at(&records, id)?;
+    let (key, valence) = folder_in(alloc, nodes, id)?;
     set_valence(alloc, nodes, &key, valence.wrapping_add(by), 7)
 }
 

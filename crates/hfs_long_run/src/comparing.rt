@@ -15,28 +15,51 @@ fn new_plain(alloc: Global) -> Result<PlainVolume> {
     Ok(PlainVolume::new(alloc, name, 0)?)
 }
 
+/// The plain volume's code of a call.
+fn plain_code(plain: &mut PlainVolume, call: &Call) -> Result<i16> {
+    let reply = plain.call(call)?;
+    Ok(reply.code)
+}
+
+/// Makes the call of an entry on the plain volume. An error where it answers another code.
+fn replay_one(plain: &mut PlainVolume, entry: &Entry) -> Result<()> {
+    let code = plain_code(plain, &entry.call)?;
+    ensure!(
+        entry.full.is_none() && code == entry.code,
+        "{} answered, {} expected",
+        entry.code,
+        code
+    );
+    Ok(())
+}
+
+/// The same of all entries, in their order.
+fn replay_all(plain: &mut PlainVolume, journal: &[Entry]) -> Result<()> {
+    for entry in journal {
+        replay_one(plain, entry)?;
+    }
+    Ok(())
+}
+
 /// The plain volume after the calls of a journal. An error where it answers another code.
 pub fn replay(alloc: Global, journal: &[Entry]) -> Result<PlainVolume> {
     let mut plain = new_plain(alloc)?;
-    for entry in journal {
-        let reply = plain.call(&entry.call)?;
-        ensure!(
-            entry.full.is_none() && reply.code == entry.code,
-            "{} answered, {} expected",
-            entry.code,
-            reply.code
-        );
-    }
+    replay_all(&mut plain, journal)?;
     Ok(plain)
 }
 
-/// The volume, saved and mounted again. An error where it isn't sound.
-pub fn mounted_again(alloc: Global, volume: &Volume) -> Result<Volume> {
+/// The image of the volume as it is now.
+fn saved(alloc: Global, volume: &Volume) -> Result<Vec<u8>> {
     let mut image = Vec::new(alloc);
     if volume.save(&mut image).is_err() {
         bail!("the image was not saved");
     }
-    match mount(alloc, image) {
+    Ok(image)
+}
+
+/// The volume, saved and mounted again. An error where it isn't sound.
+pub fn mounted_again(alloc: Global, volume: &Volume) -> Result<Volume> {
+    match mount(alloc, saved(alloc, volume)?) {
         Ok(volume) => Ok(volume),
         Err(_refused) => bail!("the image isn't sound"),
     }
@@ -47,9 +70,9 @@ pub fn ensure_same_tree(alloc: Global, volume: &mut Volume, plain: &mut PlainVol
     let next = plain.next_id();
     ensure!(volume.next_id() == next, "another next ID");
     for id in 0..next {
-        ensure_same_answer(alloc, volume, plain, &Call::GetDirInfo { dir: id })?;
-        ensure_same_answer(alloc, volume, plain, &Call::List { dir: id })?;
-        ensure_same_answer(alloc, volume, plain, &Call::ResolveFileId { id })?;
+        ensure_same_answer(alloc, volume, plain, Call::GetDirInfo { dir: id })?;
+        ensure_same_answer(alloc, volume, plain, Call::List { dir: id })?;
+        ensure_same_answer(alloc, volume, plain, Call::ResolveFileId { id })?;
     }
     Ok(())
 }
@@ -58,10 +81,14 @@ fn ensure_same_answer(
     alloc: Global,
     volume: &mut Volume,
     plain: &mut PlainVolume,
-    call: &Call,
+    call: Call,
 ) -> Result<()> {
-    let found = text(alloc, &volume.call(alloc, call)?)?;
-    let expected = text(alloc, &plain.call(call)?)?;
+    let found = text_on(alloc, volume, &call)?;
+    let expected = plain_text(alloc, plain, &call)?;
+    ensure_same_text(found.as_str(), expected.as_str())
+}
+
+fn ensure_same_text(found: &str, expected: &str) -> Result<()> {
     ensure!(
         found.as_bytes() == expected.as_bytes(),
         "{} answered, {} expected",
@@ -69,6 +96,18 @@ fn ensure_same_answer(
         expected
     );
     Ok(())
+}
+
+/// The text of the volume's answer.
+fn text_on(alloc: Global, volume: &mut Volume, call: &Call) -> Result<String> {
+    let reply = volume.call(alloc, call)?;
+    Ok(text(alloc, &reply)?)
+}
+
+/// The text of the plain volume's answer.
+fn plain_text(alloc: Global, plain: &mut PlainVolume, call: &Call) -> Result<String> {
+    let reply = plain.call(call)?;
+    Ok(text(alloc, &reply)?)
 }
 
 /// The text of an answer.

@@ -17,6 +17,10 @@ use crate::running::run;
 use crate::watcher::TOLDS;
 use crate::worker::CALLS;
 use anyhow::Result;
+use hfs_model::Entry;
+use hfs_store::PlainVolume;
+use hfs_volume::Volume;
+use std::alloc::Global;
 
 /// How many workers there are.
 const WORKERS: u32 = 8;
@@ -26,18 +30,49 @@ const VIEWERS: u32 = 4;
 
 fn main(rt: HostRuntime) -> Result<()> {
     let closed = run(&rt, rt.alloc())?;
+    tell_counts(&rt)?;
+    check_journal(&rt, rt.alloc(), closed.journal.as_slice(), &closed.volume)
+}
+
+/// Prints how many calls were made, and how many told lists learned.
+fn tell_counts(rt: &impl Print) -> Result<()> {
     println!(rt; "{} workers made {} calls each", WORKERS, CALLS)?;
     println!(rt;
         "{} viewers learned {} told lists each, and a list was answered after each",
         VIEWERS, TOLDS
     )?;
-    ensure_whole(closed.journal.as_slice())?;
+    Ok(())
+}
+
+/// Prints what was found of the journal, and then of the volume.
+fn check_journal(rt: &impl Print, alloc: Global, journal: &[Entry], volume: &Volume) -> Result<()> {
+    ensure_whole(journal)?;
     println!(rt; "the journal has each call once, in the order of its worker")?;
-    let mut plain = replay(rt.alloc(), closed.journal.as_slice())?;
+    let mut plain = replay(alloc, journal)?;
+    check_volume(rt, alloc, volume, &mut plain)
+}
+
+/// Prints what was found of the volume beside the plain one.
+fn check_volume(
+    rt: &impl Print,
+    alloc: Global,
+    volume: &Volume,
+    plain: &mut PlainVolume,
+) -> Result<()> {
     println!(rt; "the plain program answers each call the journal's code")?;
-    let mut volume = mounted_again(rt.alloc(), &closed.volume)?;
+    let mut volume = mounted_again(alloc, volume)?;
+    check_tree(rt, alloc, &mut volume, plain)
+}
+
+/// Prints what was found of the volume when it is mounted again.
+fn check_tree(
+    rt: &impl Print,
+    alloc: Global,
+    volume: &mut Volume,
+    plain: &mut PlainVolume,
+) -> Result<()> {
     println!(rt; "the volume, saved and mounted again, is sound")?;
-    ensure_same_tree(rt.alloc(), &mut volume, &mut plain)?;
+    ensure_same_tree(alloc, volume, plain)?;
     println!(rt; "its folder tree is the plain program's")?;
     Ok(())
 }

@@ -14,8 +14,8 @@ use std::sync::Wait;
 use std::thread;
 use std::thread::Threads;
 
-/// A new volume `D` with nodes for all items that there may be.
-fn new_volume(alloc: Global) -> Result<Volume> {
+/// The image of a new volume `D` with nodes for all items that there may be.
+fn new_image(alloc: Global) -> Result<Vec<u8>> {
     let plan = FormatPlan {
         name: Vec::from_slice(alloc, b"D")?,
         blocks: 4096,
@@ -23,10 +23,15 @@ fn new_volume(alloc: Global) -> Result<Volume> {
         catalog_nodes: 2048,
         now: 0,
     };
-    let Ok(image) = format(alloc, plan) else {
-        bail!("no new volume");
-    };
-    match mount(alloc, image) {
+    match format(alloc, plan) {
+        Ok(image) => Ok(image),
+        Err(_fault) => bail!("no new volume"),
+    }
+}
+
+/// The volume of that image.
+fn new_volume(alloc: Global) -> Result<Volume> {
+    match mount(alloc, new_image(alloc)?) {
         Ok(volume) => Ok(volume),
         Err(_refused) => bail!("the new volume isn't sound"),
     }
@@ -60,17 +65,34 @@ fn run_in<K: Session + Send + Sync, R: Threads + Wait + Sync>(
     requires viewers { All (λ k. k.book ≡ K.book) viewers.items }
 {
     let shared = parts.share::<K>();
-    let board = Board::<K>::new(alloc)?;
     let mut workers = workers_of(alloc, passes)?;
     let mut watchers = watchers_of::<K>(alloc, viewers)?;
-    run_both(rt, alloc, &shared, &board, &mut workers, &mut watchers);
-    for watcher in &watchers {
+    run_on_board(rt, alloc, &shared, &mut workers, &mut watchers)?;
+    close(rt, alloc, shared, workers, &mut watchers)
+}
+
+/// Workers and viewers over a board of told lists. An error where a viewer lacks some.
+fn run_on_board<K: Session + Send + Sync, R: Threads + Wait + Sync>(
+    rt: &R,
+    alloc: Global,
+    shared: &Shared<K>,
+    workers: &mut Vec<Worker>,
+    watchers: &mut Vec<Watcher<K>>,
+) -> Result<()> {
+    let board = Board::<K>::new(alloc)?;
+    run_both(rt, alloc, shared, &board, workers, watchers);
+    ensure_all(watchers)
+}
+
+/// An error where a viewer lacks told lists.
+fn ensure_all<K: Session>(watchers: &Vec<Watcher<K>>) -> Result<()> {
+    for watcher in watchers {
         ensure!(
             watcher.has_all(),
             "a viewer lacks told lists, or was not answered"
         );
     }
-    close(rt, alloc, shared, workers, watchers)
+    Ok(())
 }
 
 fn workers_of(alloc: Global, passes: Vec<Pass>) -> Result<Vec<Worker>> {
@@ -87,10 +109,19 @@ fn watchers_of<K: Session>(alloc: Global, viewers: Vec<Viewer>) -> Result<Vec<Wa
     let mut viewers = viewers;
     let mut watchers = Vec::new(alloc);
     for _at in 0..VIEWERS {
-        let viewer = last::<K>(&mut viewers)?;
-        watchers.push(Watcher::new(viewer))?;
+        push_watcher(&mut watchers, &mut viewers)?;
     }
     Ok(watchers)
+}
+
+/// A watcher of the last of the viewers.
+fn push_watcher<K: Session>(watchers: &mut Vec<Watcher<K>>, viewers: &mut Vec<Viewer>) -> Result<()>
+    requires { All (λ k. k.book ≡ K.book) viewers.old.items }
+    ensures { All (λ k. k.book ≡ K.book) viewers.new.items }
+{
+    let viewer = last::<K>(viewers)?;
+    watchers.push(Watcher::new(viewer))?;
+    Ok(())
 }
 
 /// The last of the viewers.
@@ -142,23 +173,47 @@ fn watch_all<K: Session + Send + Sync, R: Threads + Sync>(
     thread::for_each_mut(rt, watchers.as_mut_slice(), VIEWERS as usize, &one);
 }
 
+/// The workers' passes.
+fn passes_of(alloc: Global, workers: Vec<Worker>) -> Result<Vec<Pass>> {
+    let mut passes = Vec::new(alloc);
+    for worker in workers {
+        passes.push(worker.into_pass())?;
+    }
+    Ok(passes)
+}
+
+/// The viewer of the last watcher.
+fn last_viewer<K: Session>(watchers: &mut Vec<Watcher<K>>) -> Result<Viewer>
+    ensures { IfOk result (λ v. v.book ≡ K.book) }
+{
+    match watchers.pop() {
+        Some(watcher) => Ok(watcher.into_viewer()),
+        None => bail!("no viewer"),
+    }
+}
+
 /// Closes the volume with all passes.
 fn close<K: Session>(
     rt: &impl Wait,
     alloc: Global,
     shared: Shared<K>,
     workers: Vec<Worker>,
-    mut watchers: Vec<Watcher<K>>,
+    watchers: &mut Vec<Watcher<K>>,
 ) -> Result<Closed> {
-    let mut passes = Vec::new(alloc);
-    for worker in workers {
-        passes.push(worker.into_pass())?;
-    }
-    let Some(watcher) = watchers.pop() else {
-        bail!("no viewer");
-    };
-    let mut viewer = watcher.into_viewer();
-    match shared.close(rt, passes, &mut viewer) {
+    let mut viewer = last_viewer(watchers)?;
+    close_by(rt, shared, passes_of(alloc, workers)?, &mut viewer)
+}
+
+/// Closes the volume with these passes.
+fn close_by<K: Session>(
+    rt: &impl Wait,
+    shared: Shared<K>,
+    passes: Vec<Pass>,
+    viewer: &mut Viewer,
+) -> Result<Closed>
+    requires { viewer.old.book ≡ K.book }
+{
+    match shared.close(rt, passes, viewer) {
         Ok(closed) => Ok(closed),
         Err(_parts) => bail!("not closed"),
     }

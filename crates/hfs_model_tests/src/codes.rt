@@ -1,32 +1,47 @@
 //! Every code of every call.
-use crate::fixture::{Ask, expect_codes, lay, volume};
+use crate::fixture::{Ask, expect_codes, folder_item, lay, volume};
 use hfs_fields::Name;
-use hfs_model::{Item, Kind};
 use hfs_store::PlainVolume;
-use std::alloc::{AllocError, Global};
+use std::alloc::Global;
 use std::process::Abort;
 use std::test::Fail;
 
-/// A volume with folder `x` (16) and in it file `f` (17) and folder `y` (18); in the root locked file `l` (19), file `a`
-/// (20), empty folder `e` (21).
-fn furnished(rt: &impl Abort, alloc: Global) -> Result<PlainVolume, AllocError> {
+/// The calls that furnish a volume: folder `x` (16) and in it file `f` (17) and folder `y` (18); in the root locked file `l`
+/// (19), file `a` (20), empty folder `e` (21).
+const FURNISHING: [(Ask<'static>, i16); 7] = [
+    (Ask::DirCreate(2, b"x"), 0),
+    (Ask::Create(16, b"f"), 0),
+    (Ask::DirCreate(16, b"y"), 0),
+    (Ask::Create(2, b"l"), 0),
+    (Ask::Create(2, b"a"), 0),
+    (Ask::DirCreate(2, b"e"), 0),
+    (Ask::Lock(2, b"l"), 0),
+];
+
+/// Furnishes a new volume.
+fn furnish(rt: &impl Abort, alloc: Global, plain: &mut PlainVolume) -> Result<(), Fail> {
+    expect_codes(rt, alloc, plain, 0, &FURNISHING)
+}
+
+/// Makes the calls on a furnished volume, and wants the code of each.
+fn expect_furnished(rt: &impl Abort, alloc: Global, rows: &[(Ask, i16)]) -> Result<(), Fail> {
     let mut plain = volume(alloc)?;
-    let rows = [
-        (Ask::DirCreate(2, b"x"), 0),
-        (Ask::Create(16, b"f"), 0),
-        (Ask::DirCreate(16, b"y"), 0),
-        (Ask::Create(2, b"l"), 0),
-        (Ask::Create(2, b"a"), 0),
-        (Ask::DirCreate(2, b"e"), 0),
-        (Ask::Lock(2, b"l"), 0),
-    ];
-    expect_codes(rt, alloc, &mut plain, 0, &rows)?;
-    Ok(plain)
+    expect_after_furnishing(rt, alloc, &mut plain, rows)
+}
+
+/// Furnishes a volume and makes the calls on it, and wants the code of each.
+fn expect_after_furnishing(
+    rt: &impl Abort,
+    alloc: Global,
+    plain: &mut PlainVolume,
+    rows: &[(Ask, i16)],
+) -> Result<(), Fail> {
+    furnish(rt, alloc, plain)?;
+    expect_codes(rt, alloc, plain, 0, rows)
 }
 
 #[test]
 fn of_reading_calls(rt: HostRuntime) -> Result<(), Fail> {
-    let mut plain = furnished(&rt, rt.alloc())?;
     let rows = [
         (Ask::DirInfo(17), -120),
         (Ask::DirInfo(1), -120),
@@ -49,13 +64,11 @@ fn of_reading_calls(rt: HostRuntime) -> Result<(), Fail> {
         (Ask::Read(2, b"a", 0, 1), -39),
         (Ask::Read(2, b"a", 0, 0), 0),
     ];
-    expect_codes(&rt, rt.alloc(), &mut plain, 0, &rows)?;
-    Ok(())
+    expect_furnished(&rt, rt.alloc(), &rows)
 }
 
 #[test]
 fn of_new_and_deleted_items(rt: HostRuntime) -> Result<(), Fail> {
-    let mut plain = furnished(&rt, rt.alloc())?;
     let rows = [
         (Ask::Create(9, b"a:b"), -37),
         (Ask::Create(17, b"a"), -120),
@@ -74,13 +87,11 @@ fn of_new_and_deleted_items(rt: HostRuntime) -> Result<(), Fail> {
         (Ask::Delete(2, b"a"), 0),
         (Ask::Info(2, b"a"), -43),
     ];
-    expect_codes(&rt, rt.alloc(), &mut plain, 0, &rows)?;
-    Ok(())
+    expect_furnished(&rt, rt.alloc(), &rows)
 }
 
 #[test]
 fn of_names_and_moves(rt: HostRuntime) -> Result<(), Fail> {
-    let mut plain = furnished(&rt, rt.alloc())?;
     let rows = [
         (Ask::Rename(9, b"", b"n"), -37),
         (Ask::Rename(9, b"q", b"x:y"), -37),
@@ -104,13 +115,11 @@ fn of_names_and_moves(rt: HostRuntime) -> Result<(), Fail> {
         (Ask::Move(2, b"l", 18), 0),
         (Ask::Move(2, b"b", 21), 0),
     ];
-    expect_codes(&rt, rt.alloc(), &mut plain, 0, &rows)?;
-    Ok(())
+    expect_furnished(&rt, rt.alloc(), &rows)
 }
 
 #[test]
 fn of_information_and_locks(rt: HostRuntime) -> Result<(), Fail> {
-    let mut plain = furnished(&rt, rt.alloc())?;
     let rows = [
         (Ask::SetFInfo(9, b""), -37),
         (Ask::SetFInfo(9, b"a"), -120),
@@ -135,15 +144,13 @@ fn of_information_and_locks(rt: HostRuntime) -> Result<(), Fail> {
         (Ask::Unlock(2, b"l"), 0),
         (Ask::Delete(2, b"l"), 0),
     ];
-    expect_codes(&rt, rt.alloc(), &mut plain, 0, &rows)?;
-    Ok(())
+    expect_furnished(&rt, rt.alloc(), &rows)
 }
 
 /// The file `a` (20) gets an ID and loses it; of the file `f` (17) nobody made one.
 #[test]
 fn of_file_ids(rt: HostRuntime) -> Result<(), Fail> {
-    let mut plain = furnished(&rt, rt.alloc())?;
-    let made = [
+    let rows = [
         (Ask::CreateId(9, b""), -37),
         (Ask::CreateId(9, b"a"), -120),
         (Ask::CreateId(2, b"q"), -43),
@@ -151,9 +158,6 @@ fn of_file_ids(rt: HostRuntime) -> Result<(), Fail> {
         (Ask::CreateId(2, b"A"), 0),
         (Ask::CreateId(2, b"a"), -1301),
         (Ask::CreateId(2, b"l"), 0),
-    ];
-    expect_codes(&rt, rt.alloc(), &mut plain, 0, &made)?;
-    let found = [
         (Ask::Resolve(18), -1302),
         (Ask::Resolve(1), -1300),
         (Ask::Resolve(17), -1300),
@@ -166,59 +170,77 @@ fn of_file_ids(rt: HostRuntime) -> Result<(), Fail> {
         (Ask::DeleteId(20), -1300),
         (Ask::Resolve(20), -1300),
     ];
-    expect_codes(&rt, rt.alloc(), &mut plain, 0, &found)?;
+    expect_furnished(&rt, rt.alloc(), &rows)
+}
+
+/// Makes each change, and wants this code of it; calls that read are answered as ever.
+fn expect_locked(
+    rt: &impl Abort,
+    alloc: Global,
+    plain: &mut PlainVolume,
+    code: i16,
+) -> Result<(), Fail> {
+    let rows = [
+        (Ask::Create(9, b""), code),
+        (Ask::DirCreate(2, b"n"), code),
+        (Ask::Delete(2, b"x"), code),
+        (Ask::Rename(2, b"a", b""), code),
+        (Ask::Move(2, b"x", 18), code),
+        (Ask::SetFInfo(2, b"l"), code),
+        (Ask::SetInfo(2, b"q"), code),
+        (Ask::Lock(2, b"a"), code),
+        (Ask::Unlock(2, b"l"), code),
+        (Ask::CreateId(9, b""), code),
+        (Ask::DeleteId(16), code),
+        (Ask::Resolve(16), -1302),
+        (Ask::Resolve(17), -1300),
+        (Ask::List(2), 0),
+    ];
+    expect_codes(rt, alloc, plain, 0, &rows)
+}
+
+/// Furnishes a volume, locks it in each way, and makes each change.
+fn expect_each_lock(rt: &impl Abort, alloc: Global, plain: &mut PlainVolume) -> Result<(), Fail> {
+    furnish(rt, alloc, plain)?;
+    for (hardware, software, code) in [(true, false, -44), (false, true, -46), (true, true, -44)] {
+        plain.set_locks(hardware, software);
+        expect_locked(rt, alloc, plain, code)?;
+    }
     Ok(())
 }
 
 /// Each change on a volume that is locked by hardware, by software or by both; a lock comes before every other code.
 #[test]
 fn of_locked_volumes(rt: HostRuntime) -> Result<(), Fail> {
-    let mut plain = furnished(&rt, rt.alloc())?;
-    for (hardware, software, code) in [(true, false, -44), (false, true, -46), (true, true, -44)] {
-        plain.set_locks(hardware, software);
-        let rows = [
-            (Ask::Create(9, b""), code),
-            (Ask::DirCreate(2, b"n"), code),
-            (Ask::Delete(2, b"x"), code),
-            (Ask::Rename(2, b"a", b""), code),
-            (Ask::Move(2, b"x", 18), code),
-            (Ask::SetFInfo(2, b"l"), code),
-            (Ask::SetInfo(2, b"q"), code),
-            (Ask::Lock(2, b"a"), code),
-            (Ask::Unlock(2, b"l"), code),
-            (Ask::CreateId(9, b""), code),
-            (Ask::DeleteId(16), code),
-            (Ask::Resolve(16), -1302),
-            (Ask::Resolve(17), -1300),
-            (Ask::List(2), 0),
-        ];
-        expect_codes(&rt, rt.alloc(), &mut plain, 0, &rows)?;
-    }
-    Ok(())
+    let mut plain = volume(rt.alloc())?;
+    expect_each_lock(&rt, rt.alloc(), &mut plain)
 }
 
-/// No item can be made where the next ID is 4,294,967,295; a move needs no ID.
-#[test]
-fn of_the_last_id(rt: HostRuntime) -> Result<(), Fail> {
-    let mut plain = furnished(&rt, rt.alloc())?;
-    let name = Name::new(b"z").ok_or("name")?;
-    let item = Item {
-        parent: 2,
-        name,
-        created: 0,
-        modified: 0,
-        backup: 0,
-        finder: [0; 32],
-        kind: Kind::Folder { kept: [0; 70] },
-    };
-    lay(&rt, &mut plain, 4294967294, item)?;
-    assert_eq!(rt; plain.next_id(), 4294967295);
+/// Lays the folder `z` under the last ID but one.
+fn lay_last(rt: &impl Abort, plain: &mut PlainVolume) -> Result<(), Fail> {
+    match Name::new(b"z") {
+        Some(name) => lay(rt, plain, 4294967294, folder_item(name)),
+        None => Err(Fail::new("no name")),
+    }
+}
+
+/// Furnishes a volume and lays a folder under the last ID but one, and then wants no item to be made.
+fn expect_no_more(rt: &impl Abort, alloc: Global, plain: &mut PlainVolume) -> Result<(), Fail> {
+    furnish(rt, alloc, plain)?;
+    lay_last(rt, plain)?;
+    assert!(rt; plain.next_id() == 4294967295);
     let rows = [
         (Ask::Create(2, b"Z"), -48),
         (Ask::Create(2, b"n"), -33),
         (Ask::DirCreate(4294967294, b"n"), -33),
         (Ask::Move(2, b"a", 4294967294), 0),
     ];
-    expect_codes(&rt, rt.alloc(), &mut plain, 0, &rows)?;
-    Ok(())
+    expect_codes(rt, alloc, plain, 0, &rows)
+}
+
+/// No item can be made where the next ID is 4,294,967,295; a move needs no ID.
+#[test]
+fn of_the_last_id(rt: HostRuntime) -> Result<(), Fail> {
+    let mut plain = volume(rt.alloc())?;
+    expect_no_more(&rt, rt.alloc(), &mut plain)
 }

@@ -1,40 +1,53 @@
 //! File IDs, by several calls in a row.
-use crate::fixture::{Ask, create, expect_codes, folder, id_of, root_item, volume};
-use hfs_model::Value;
+use crate::fixture::{Ask, create, expect_codes, expect_ids, is_modified, root_item, volume};
+use hfs_model::{Reply, Value};
 use hfs_store::PlainVolume;
+use std::alloc::Global;
 use std::process::Abort;
 use std::test::Fail;
 
-/// Wants the file of that ID to be in this folder and to have this name.
-fn expect_place(rt: &impl Abort, plain: &PlainVolume, id: u32, dir: u32, name: &[u8]) {
-    let reply = plain.resolve_file_id(id);
-    assert_eq!(rt; reply.code, 0);
+/// Whether a reply is that folder and that name.
+fn is_place(reply: &Reply, wanted: u32, name: &[u8]) -> bool {
     match &reply.value {
-        Value::Place {
-            dir: parent,
-            name: found,
-        } => {
-            assert_eq!(rt; *parent, dir);
-            assert_eq!(rt; found.bytes(), name);
-        }
-        _ => assert!(rt; false),
+        Value::Place { dir, name: found } => *dir == wanted && found.bytes() == name,
+        _ => false,
     }
 }
 
-/// The ID stays with the file, whatever its name and its folder.
-#[test]
-fn an_id_follows_its_file(rt: HostRuntime) -> Result<(), Fail> {
-    let mut plain = volume(rt.alloc())?;
-    assert_eq!(rt; create(&mut plain, 2, b"f", 0)?, 16);
-    assert_eq!(rt; id_of(&plain.create_file_id(2, b"f", 0)), 16);
-    assert_eq!(rt; plain.create_file_id(2, b"f", 0).code, -1301);
-    assert!(rt; root_item(&plain, b"f")?.has_id);
-    expect_place(&rt, &plain, 16, 2, b"f");
-    assert_eq!(rt; plain.rename(2, b"f", b"g", 0).code, 0);
-    expect_place(&rt, &plain, 16, 2, b"g");
-    assert_eq!(rt; id_of(&plain.dir_create(2, b"d", 0)?), 17);
-    assert_eq!(rt; plain.cat_move(2, b"g", 17, 0).code, 0);
-    expect_place(&rt, &plain, 16, 17, b"g");
+/// Whether the file of that ID is in this folder and has this name.
+fn is_in(plain: &PlainVolume, id: u32, dir: u32, name: &[u8]) -> bool {
+    let reply = plain.resolve_file_id(id);
+    reply.code == 0 && is_place(&reply, dir, name)
+}
+
+/// Whether the root has a file of this name that has an ID.
+fn has_id(plain: &PlainVolume, name: &[u8]) -> bool {
+    match root_item(plain, name) {
+        Some(info) => info.has_id,
+        None => false,
+    }
+}
+
+/// Makes the file `f` and its ID, and renames and moves the file, which is found by its ID each time.
+fn expect_followed(rt: &impl Abort, alloc: Global, plain: &mut PlainVolume) -> Result<(), Fail> {
+    let made = [(Ask::Create(2, b"f"), 16), (Ask::CreateId(2, b"f"), 16)];
+    expect_ids(rt, alloc, plain, &made)?;
+    assert!(rt; has_id(plain, b"f") && is_in(plain, 16, 2, b"f"));
+    let renamed = [
+        (Ask::CreateId(2, b"f"), -1301),
+        (Ask::Rename(2, b"f", b"g"), 0),
+    ];
+    expect_codes(rt, alloc, plain, 0, &renamed)?;
+    assert!(rt; is_in(plain, 16, 2, b"g"));
+    let moved = [(Ask::DirCreate(2, b"d"), 17), (Ask::Move(2, b"g", 17), 0)];
+    expect_ids(rt, alloc, plain, &moved)?;
+    assert!(rt; is_in(plain, 16, 17, b"g"));
+    Ok(())
+}
+
+/// Follows a file by its ID, which is then deleted.
+fn expect_deleted(rt: &impl Abort, alloc: Global, plain: &mut PlainVolume) -> Result<(), Fail> {
+    expect_followed(rt, alloc, plain)?;
     let rows = [
         (Ask::CreateId(2, b"d"), -1302),
         (Ask::DeleteId(17), -1302),
@@ -45,7 +58,26 @@ fn an_id_follows_its_file(rt: HostRuntime) -> Result<(), Fail> {
         (Ask::DeleteId(16), -1300),
         (Ask::Resolve(16), -1300),
     ];
-    expect_codes(&rt, rt.alloc(), &mut plain, 0, &rows)?;
+    expect_codes(rt, alloc, plain, 0, &rows)
+}
+
+/// The ID stays with the file, whatever its name and its folder.
+#[test]
+fn an_id_follows_its_file(rt: HostRuntime) -> Result<(), Fail> {
+    let mut plain = volume(rt.alloc())?;
+    expect_deleted(&rt, rt.alloc(), &mut plain)
+}
+
+/// Makes a file with an ID, and deletes it.
+fn expect_gone(rt: &impl Abort, alloc: Global, plain: &mut PlainVolume) -> Result<(), Fail> {
+    let rows = [
+        (Ask::Create(2, b"f"), 0),
+        (Ask::CreateId(2, b"f"), 0),
+        (Ask::Delete(2, b"f"), 0),
+        (Ask::Resolve(16), -1300),
+    ];
+    expect_codes(rt, alloc, plain, 0, &rows)?;
+    assert!(rt; plain.valence(2) == 0);
     Ok(())
 }
 
@@ -53,14 +85,29 @@ fn an_id_follows_its_file(rt: HostRuntime) -> Result<(), Fail> {
 #[test]
 fn an_id_goes_with_its_file(rt: HostRuntime) -> Result<(), Fail> {
     let mut plain = volume(rt.alloc())?;
+    expect_gone(&rt, rt.alloc(), &mut plain)
+}
+
+/// Whether the root's file `f` is dated 5, and is locked and has no ID.
+fn is_dated(plain: &PlainVolume) -> bool {
+    match root_item(plain, b"f") {
+        Some(file) => {
+            (file.created, file.modified, file.locked, file.has_id) == (5, 5, true, false)
+        }
+        None => false,
+    }
+}
+
+/// Makes a file at moment 5, and locks it and makes and deletes its ID at moment 9.
+fn expect_dates(rt: &impl Abort, alloc: Global, plain: &mut PlainVolume) -> Result<(), Fail> {
+    assert!(rt; create(plain, 2, b"f", 5)? == 16);
     let rows = [
-        (Ask::Create(2, b"f"), 0),
+        (Ask::Lock(2, b"f"), 0),
         (Ask::CreateId(2, b"f"), 0),
-        (Ask::Delete(2, b"f"), 0),
-        (Ask::Resolve(16), -1300),
+        (Ask::DeleteId(16), 0),
     ];
-    expect_codes(&rt, rt.alloc(), &mut plain, 0, &rows)?;
-    assert_eq!(rt; plain.valence(2), 0);
+    expect_codes(rt, alloc, plain, 9, &rows)?;
+    assert!(rt; is_dated(plain) && is_modified(plain, 2, 5));
     Ok(())
 }
 
@@ -68,18 +115,5 @@ fn an_id_goes_with_its_file(rt: HostRuntime) -> Result<(), Fail> {
 #[test]
 fn ids_of_a_locked_file(rt: HostRuntime) -> Result<(), Fail> {
     let mut plain = volume(rt.alloc())?;
-    assert_eq!(rt; create(&mut plain, 2, b"f", 5)?, 16);
-    let rows = [
-        (Ask::Lock(2, b"f"), 0),
-        (Ask::CreateId(2, b"f"), 0),
-        (Ask::DeleteId(16), 0),
-    ];
-    expect_codes(&rt, rt.alloc(), &mut plain, 9, &rows)?;
-    let info = root_item(&plain, b"f")?;
-    assert_eq!(rt;
-        (info.created, info.modified, info.locked, info.has_id),
-        (5, 5, true, false)
-    );
-    assert_eq!(rt; folder(&plain, 2)?.modified, 5);
-    Ok(())
+    expect_dates(&rt, rt.alloc(), &mut plain)
 }

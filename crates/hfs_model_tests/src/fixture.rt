@@ -115,6 +115,23 @@ pub fn call_of(alloc: Global, ask: &Ask, now: u32) -> Result<Call, AllocError> {
     })
 }
 
+/// The code of a call at that moment, and the ID that it answers, 0 where there is none.
+fn answer_of(
+    plain: &mut PlainVolume,
+    alloc: Global,
+    ask: &Ask,
+    now: u32,
+) -> Result<(i16, u32), AllocError> {
+    let call = call_of(alloc, ask, now)?;
+    made(plain, &call)
+}
+
+/// Makes a call: its code and the ID that it answers, 0 where there is none.
+fn made(plain: &mut PlainVolume, call: &Call) -> Result<(i16, u32), AllocError> {
+    let reply = plain.call(call)?;
+    Ok((reply.code, id_of(&reply)))
+}
+
 /// Makes the calls at that moment, and wants the code of each.
 pub fn expect_codes(
     rt: &impl Abort,
@@ -122,12 +139,32 @@ pub fn expect_codes(
     plain: &mut PlainVolume,
     now: u32,
     rows: &[(Ask, i16)],
-) -> Result<(), AllocError> {
+) -> Result<(), Fail> {
     for (row, (ask, code)) in rows.iter().enumerate() {
-        let reply = plain.call(&call_of(alloc, ask, now)?)?;
-        assert_eq!(rt; reply.code, *code, "row {row}");
+        let (found, _) = answer_of(plain, alloc, ask, now)?;
+        assert!(rt; found == *code, "row {row}");
     }
     Ok(())
+}
+
+/// Makes the calls at moment 0, and wants the ID that each answers.
+pub fn expect_ids(
+    rt: &impl Abort,
+    alloc: Global,
+    plain: &mut PlainVolume,
+    rows: &[(Ask, u32)],
+) -> Result<(), Fail> {
+    for (row, (ask, id)) in rows.iter().enumerate() {
+        let found = answer_of(plain, alloc, ask, 0)?;
+        assert!(rt; found == (0, *id), "row {row}");
+    }
+    Ok(())
+}
+
+/// Makes the calls at moment 0 on a new volume, and wants the code of each.
+pub fn expect_story(rt: &impl Abort, alloc: Global, rows: &[(Ask, i16)]) -> Result<(), Fail> {
+    let mut plain = volume(alloc)?;
+    expect_codes(rt, alloc, &mut plain, 0, rows)
 }
 
 /// A new volume named `D`, made at moment 0.
@@ -139,7 +176,7 @@ pub fn volume(alloc: Global) -> Result<PlainVolume, AllocError> {
 }
 
 /// What a reply tells of an item, where its code is 0.
-pub fn info_of(reply: &Reply) -> Option<Info> {
+fn info_of(reply: &Reply) -> Option<Info> {
     match &reply.value {
         Value::One(info) => { if reply.code == 0 { Some(*info) } else { None } }
         _ => None,
@@ -161,74 +198,94 @@ pub fn create(plain: &mut PlainVolume, dir: u32, name: &[u8], now: u32) -> Resul
 }
 
 /// What is told of a folder.
-pub fn folder(plain: &PlainVolume, dir: u32) -> Result<Info, Fail> {
-    let info = info_of(&plain.get_dir_info(dir)).ok_or("folder")?;
-    Ok(info)
+pub fn folder(plain: &PlainVolume, dir: u32) -> Option<Info> {
+    info_of(&plain.get_dir_info(dir))
 }
 
-/// What is told of an item of the root.
-pub fn root_item(plain: &PlainVolume, name: &[u8]) -> Result<Info, Fail> {
-    let info = info_of(&plain.get_cat_info(2, name)).ok_or("item")?;
-    Ok(info)
-}
-
-/// Wants the root to have children of these names, in order.
-pub fn expect_children(
-    rt: &impl Abort,
-    plain: &PlainVolume,
-    names: &[&[u8]],
-) -> Result<(), AllocError> {
-    let reply = plain.list(2)?;
-    expect_names(rt, &reply, names);
-    Ok(())
-}
-
-/// Wants a list of items with these names, in order.
-pub fn expect_names(rt: &impl Abort, reply: &Reply, names: &[&[u8]]) {
-    assert_eq!(rt; reply.code, 0);
-    match &reply.value {
-        Value::Many(infos) => {
-            let infos = infos.as_slice();
-            assert_eq!(rt; infos.len(), names.len());
-            for at in 0..names.len() {
-                assert!(rt; at < infos.len());
-                assert_eq!(rt; infos[at].name.bytes(), names[at]);
-            }
-        }
-        _ => assert!(rt; false),
+/// Whether a folder was last changed at that moment.
+pub fn is_modified(plain: &PlainVolume, dir: u32, moment: u32) -> bool {
+    match folder(plain, dir) {
+        Some(info) => info.modified == moment,
+        None => false,
     }
 }
 
-/// A file with these bytes in its data fork, all dates 0.
-pub fn file(alloc: Global, dir: u32, name: &[u8], bytes: &[u8; 2000]) -> Result<Item, AllocError> {
-    let Some(name) = Name::new(name) else {
-        return Err(AllocError);
-    };
-    Ok(Item {
-        parent: dir,
+/// What is told of an item of the root.
+pub fn root_item(plain: &PlainVolume, name: &[u8]) -> Option<Info> {
+    info_of(&plain.get_cat_info(2, name))
+}
+
+/// What is told of the root's child at that place, counted from 1.
+pub fn indexed(plain: &PlainVolume, index: u32) -> Result<Option<Info>, AllocError> {
+    let reply = plain.get_indexed(2, index)?;
+    Ok(info_of(&reply))
+}
+
+/// Wants the root to have children of these names, in order.
+pub fn expect_children(rt: &impl Abort, plain: &PlainVolume, names: &[&[u8]]) -> Result<(), Fail> {
+    assert!(rt; are_children(plain, names)?);
+    Ok(())
+}
+
+/// Whether the root has children of these names, in order.
+fn are_children(plain: &PlainVolume, names: &[&[u8]]) -> Result<bool, AllocError> {
+    let reply = plain.list(2)?;
+    Ok(are_told(&reply, names))
+}
+
+/// Whether a reply is a list of items with these names, in order.
+pub fn are_told(reply: &Reply, names: &[&[u8]]) -> bool {
+    match &reply.value {
+        Value::Many(infos) => reply.code == 0 && have_names(infos.as_slice(), names),
+        _ => false,
+    }
+}
+
+/// Whether items have these names, in order.
+fn have_names(infos: &[Info], names: &[&[u8]]) -> bool {
+    if infos.len() != names.len() {
+        return false;
+    }
+    for (info, name) in infos.iter().zip(names.iter()) {
+        if info.name.bytes() != *name {
+            return false;
+        }
+    }
+    true
+}
+
+/// An item of the root, all dates 0.
+fn item_of_root(name: Name, kind: Kind) -> Item {
+    Item {
+        parent: 2,
         name,
         created: 0,
         modified: 0,
         backup: 0,
         finder: [0; 32],
-        kind: Kind::File(File {
-            kept: [0; 102],
-            locked: false,
-            has_thread: false,
-            data: Content::new(Vec::from_slice(alloc, bytes)?),
-            resource: Content::new(Vec::new(alloc)),
-        }),
-    })
+        kind,
+    }
 }
 
-/// Lays an item under that ID.
-pub fn lay(
-    rt: &impl Abort,
-    plain: &mut PlainVolume,
-    id: u32,
-    item: Item,
-) -> Result<(), AllocError> {
-    assert!(rt; plain.next_id() <= id && id < 4294967295);
-    assert!(rt; plain.valence(item.parent) < 65535);
-    plain.lay(id, item)
+/// A folder in the root.
+pub fn folder_item(name: Name) -> Item {
+    item_of_root(name, Kind::Folder { kept: [0; 70] })
+}
+
+/// A file in the root with these bytes in its data fork.
+pub fn file_item(alloc: Global, name: Name, bytes: &[u8; 2000]) -> Result<Item, AllocError> {
+    let file = File {
+        kept: [0; 102],
+        locked: false,
+        has_thread: false,
+        data: Content::new(Vec::from_slice(alloc, bytes)?),
+        resource: Content::new(Vec::new(alloc)),
+    };
+    Ok(item_of_root(name, Kind::File(file)))
+}
+
+/// Lays an item of the root under that ID.
+pub fn lay(rt: &impl Abort, plain: &mut PlainVolume, id: u32, item: Item) -> Result<(), Fail> {
+    assert!(rt; plain.next_id() <= id && id < 4294967295 && plain.valence(item.parent) < 65535);
+    Ok(plain.lay(id, item)?)
 }

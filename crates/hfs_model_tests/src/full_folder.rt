@@ -6,10 +6,20 @@ use crate::fixture::{Ask, expect_codes, volume};
 use hfs_fields::Name;
 use hfs_model::{Item, Kind};
 use hfs_store::PlainVolume;
-use std::alloc::AllocError;
+use std::alloc::{AllocError, Global};
+use std::process::Abort;
 use std::test::Fail;
 
-/// Lays so many folders in the root, each named by the digits of its ID in base 16, as `@` to `O`.
+/// The digits of a number in base 16, as `@` to `O`.
+fn digits(id: u32) -> [u8; 8] {
+    let mut text = [b'@'; 8];
+    for at in 0..8 {
+        text[at] = b'@' + (id >> (4 * at) & 15) as u8;
+    }
+    text
+}
+
+/// Lays so many folders in the root, each named by the digits of its ID.
 fn fill(plain: &mut PlainVolume, first: u32, count: u32) -> Result<(), AllocError>
     requires room { valence (entries_of plain.old) 2 + count ≤ 65535 }
     requires ids { first + count < 4294967295 }
@@ -17,11 +27,7 @@ fn fill(plain: &mut PlainVolume, first: u32, count: u32) -> Result<(), AllocErro
 {
     for k in 0..count {
         let id = first + k;
-        let mut text = [b'@'; 8];
-        for at in 0..8 {
-            text[at] = b'@' + (id >> (4 * at) & 15) as u8;
-        }
-        let Some(name) = Name::new(&text) else {
+        let Some(name) = Name::new(&digits(id)) else {
             return Ok(());
         };
         plain.lay(
@@ -40,14 +46,13 @@ fn fill(plain: &mut PlainVolume, first: u32, count: u32) -> Result<(), AllocErro
     Ok(())
 }
 
-#[test]
-fn takes_no_more(rt: HostRuntime) -> Result<(), Fail> {
-    let mut plain = volume(rt.alloc())?;
+/// Fills the root, and wants it to take no more.
+fn expect_full(rt: &impl Abort, alloc: Global, plain: &mut PlainVolume) -> Result<(), Fail> {
     let before = [(Ask::DirCreate(2, b"x"), 0), (Ask::Create(16, b"f"), 0)];
-    expect_codes(&rt, rt.alloc(), &mut plain, 0, &before)?;
+    expect_codes(rt, alloc, plain, 0, &before)?;
     assert!(rt; plain.valence(2) == 1 && plain.next_id() == 18);
-    fill(&mut plain, 18, 65534)?;
-    assert_eq!(rt; plain.valence(2), 65535);
+    fill(plain, 18, 65534)?;
+    assert!(rt; plain.valence(2) == 65535);
     let rows = [
         (Ask::Create(2, b"n"), -33),
         (Ask::DirCreate(2, b"n"), -33),
@@ -55,6 +60,11 @@ fn takes_no_more(rt: HostRuntime) -> Result<(), Fail> {
         (Ask::Create(16, b"n"), 0),
         (Ask::Delete(16, b"f"), 0),
     ];
-    expect_codes(&rt, rt.alloc(), &mut plain, 0, &rows)?;
-    Ok(())
+    expect_codes(rt, alloc, plain, 0, &rows)
+}
+
+#[test]
+fn takes_no_more(rt: HostRuntime) -> Result<(), Fail> {
+    let mut plain = volume(rt.alloc())?;
+    expect_full(&rt, rt.alloc(), &mut plain)
 }

@@ -92,7 +92,7 @@ fn put(rt: &impl Abort, image: &mut Vec<u8>, at: usize, byte: u8) -> u8 {
 #[test]
 fn reads_both_trees_and_the_bitmap(rt: HostRuntime) {
     let image = image_of(&rt, SmallVolume::OneFile);
-    assert_eq!(rt; needed_len(&rt, &image), 11);
+    assert!(rt; needed_len(&rt, &image) == 11);
 }
 
 /// Behind a wrong signature nothing is read, and behind a wrong extents tree no catalog.
@@ -100,9 +100,9 @@ fn reads_both_trees_and_the_bitmap(rt: HostRuntime) {
 fn reads_nothing_behind_what_is_wrong(rt: HostRuntime) {
     let mut image = image_of(&rt, SmallVolume::OneFile);
     put(&rt, &mut image, 2_056, 9);
-    assert_eq!(rt; needed_len(&rt, &image), 5);
+    assert!(rt; needed_len(&rt, &image) == 5);
     put(&rt, &mut image, 1_024, 0);
-    assert_eq!(rt; needed_len(&rt, &image), 1);
+    assert!(rt; needed_len(&rt, &image) == 1);
 }
 
 /// Each byte of blocks 2 to 6 is changed once.
@@ -145,9 +145,9 @@ fn failing(rt: &(impl Abort + AllocGlobal), image: &[u8], left: u32) -> Option<S
 fn fails_where_a_read_fails(rt: HostRuntime) {
     let image = image_of(&rt, SmallVolume::OneFile);
     for left in 0..11 {
-        assert_eq!(rt; failing(&rt, &image, left), Some(SparseFault::ReadFailed));
+        assert!(rt; failing(&rt, &image, left) == Some(SparseFault::ReadFailed));
     }
-    assert_eq!(rt; failing(&rt, &image, 11), None);
+    assert!(rt; failing(&rt, &image, 11) == None);
 }
 
 /// A reader that can seek gives the same blocks.

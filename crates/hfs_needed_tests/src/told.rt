@@ -23,33 +23,55 @@ fn is_item(info: &Info, id: u32, letter: u8) -> bool {
     info.id == id && info.name.bytes() == [letter].as_slice() && !info.has_id
 }
 
+/// The items of a list, if it is one.
+fn items_of(value: &Value) -> Option<&[Info]> {
+    match value {
+        Value::Many(items) => Some(items.as_slice()),
+        Value::Nothing
+        | Value::Id(_)
+        | Value::One(_)
+        | Value::Bytes(_)
+        | Value::Place { .. }
+        | Value::Full { .. } => None,
+    }
+}
+
+/// Whether there is one item, with this ID and this name of one letter.
+fn is_only_item(items: &[Info], id: u32, letter: u8) -> bool {
+    items.iter().all(|info| is_item(info, id, letter)) && items.len() == 1
+}
+
+/// Whether the list of a folder has one item, with this ID and this name of one letter.
+fn lists_only(rt: &(impl Abort + AllocGlobal), dir: u32, id: u32, letter: u8) -> bool {
+    let reply = list_of(rt, SmallVolume::Folder, dir);
+    match items_of(&reply.value) {
+        Some(items) => is_only_item(items, id, letter),
+        None => false,
+    }
+}
+
+/// The code of the list of a folder.
+fn list_code(rt: &(impl Abort + AllocGlobal), dir: u32) -> i16 {
+    list_of(rt, SmallVolume::Folder, dir).code
+}
+
 #[test]
 fn lists_folders(rt: HostRuntime) {
-    let root = list_of(&rt, SmallVolume::Folder, 2);
-    let Value::Many(items) = root.value else {
-        panic!(&rt; "the root is not listed");
-    };
-    let has_folder = items.as_slice().iter().all(|info| is_item(info, 16, b'd'));
-    assert!(rt; has_folder && items.as_slice().len() == 1);
-    let folder = list_of(&rt, SmallVolume::Folder, 16);
-    let Value::Many(items) = folder.value else {
-        panic!(&rt; "the folder is not listed");
-    };
-    let has_file = items.as_slice().iter().all(|info| is_item(info, 17, b'f'));
-    assert!(rt; has_file && items.as_slice().len() == 1);
-    assert_eq!(rt; list_of(&rt, SmallVolume::Folder, 17).code, -120);
-    assert_eq!(rt; list_of(&rt, SmallVolume::Folder, 99).code, -120);
+    assert!(rt; lists_only(&rt, 2, 16, b'd'));
+    assert!(rt; lists_only(&rt, 16, 17, b'f'));
+    assert!(rt; list_code(&rt, 17) == -120);
+    assert!(rt; list_code(&rt, 99) == -120);
 }
 
 /// The file `f` has a thread.
 #[test]
 fn lists_no_threads(rt: HostRuntime) {
-    let Value::Many(items) = list_of(&rt, SmallVolume::FileThread, 2).value else {
+    let reply = list_of(&rt, SmallVolume::FileThread, 2);
+    let Some(items) = items_of(&reply.value) else {
         panic!(&rt; "the root is not listed");
     };
-    assert_eq!(rt; items.as_slice().len(), 2);
-    let has_none = items.as_slice().iter().all(|info| !info.has_id);
-    assert!(rt; has_none);
+    let has_none = items.iter().all(|info| !info.has_id);
+    assert!(rt; items.len() == 2 && has_none);
 }
 
 /// The bytes of a fork in a small volume, or the code that refuses it.
@@ -69,32 +91,38 @@ fn fork_of(
     }
 }
 
-/// 2,000 bytes in four extents, the last of which the extents tree has.
-#[test]
-fn reads_a_fork_in_four_extents(rt: HostRuntime) {
-    let Ok(bytes) = fork_of(&rt, SmallVolume::OneFile, 2, b"F", Fork::DataFork) else {
-        panic!(&rt; "the fork is refused");
-    };
-    assert_eq!(rt; bytes.len(), 2_000);
+/// Whether these are the 2,000 bytes of the file `f`.
+fn is_whole(bytes: &[u8]) -> bool {
     let same = bytes
         .iter()
         .enumerate()
         .all(|(k, byte)| *byte == fork_byte(k));
-    assert!(rt; same);
+    bytes.len() == 2_000 && same
+}
+
+/// 2,000 bytes in four extents, the last of which the extents tree has.
+#[test]
+fn reads_a_fork_in_four_extents(rt: HostRuntime) {
+    let fork = fork_of(&rt, SmallVolume::OneFile, 2, b"F", Fork::DataFork);
+    assert!(rt; fork.is_ok_and(|bytes| is_whole(&bytes)));
     let resource = fork_of(&rt, SmallVolume::OneFile, 2, b"f", Fork::ResFork);
     assert!(rt; resource.is_ok_and(|bytes| bytes.is_empty()));
 }
 
+/// The code that refuses a data fork, if it is refused.
+fn refusing_code(rt: &(impl Abort + AllocGlobal), dir: u32, name: &[u8]) -> Option<i16> {
+    match fork_of(rt, SmallVolume::Folder, dir, name, Fork::DataFork) {
+        Ok(_bytes) => None,
+        Err(code) => Some(code),
+    }
+}
+
 #[test]
 fn reads_no_fork_of_what_has_none(rt: HostRuntime) {
-    let of_folder = fork_of(&rt, SmallVolume::Folder, 2, b"d", Fork::DataFork);
-    assert!(rt; of_folder.is_err_and(|code| code == -43));
-    let of_nothing = fork_of(&rt, SmallVolume::Folder, 2, b"e", Fork::DataFork);
-    assert!(rt; of_nothing.is_err_and(|code| code == -43));
-    let in_file = fork_of(&rt, SmallVolume::Folder, 17, b"f", Fork::DataFork);
-    assert!(rt; in_file.is_err_and(|code| code == -120));
-    let unnamed = fork_of(&rt, SmallVolume::Folder, 2, b"", Fork::DataFork);
-    assert!(rt; unnamed.is_err_and(|code| code == -37));
+    assert!(rt; refusing_code(&rt, 2, b"d") == Some(-43), "of a folder");
+    assert!(rt; refusing_code(&rt, 2, b"e") == Some(-43), "of nothing");
+    assert!(rt; refusing_code(&rt, 17, b"f") == Some(-120), "in a file");
+    assert!(rt; refusing_code(&rt, 2, b"") == Some(-37), "without a name");
 }
 
 /// How an image of which so many bytes are told, and so many reads do not fail, is refused by a list and by a fork.
@@ -133,19 +161,24 @@ fn tells_why_an_image_is_refused(rt: HostRuntime) {
     assert!(rt; refusals(&rt, &image, 32_768, 99) == (told, told));
 }
 
+/// Whether it is told, in place of a report, that a read fails after so many.
+fn is_unreported(rt: &(impl Abort + AllocGlobal), image: &[u8], left: u32) -> bool {
+    let mut source = FailingSource {
+        source: ByteSource { bytes: image },
+        left,
+    };
+    let report = needed_report(rt.alloc(), &mut source, 32_768);
+    matches!(report, Err(SparseFault::ReadFailed))
+}
+
 /// The needed blocks are eleven, and the fork has four.
 #[test]
 fn tells_nothing_where_a_read_fails(rt: HostRuntime) {
     let image = image_of(&rt, SmallVolume::OneFile);
     let failed = Some(NeededFault::ReadFailed);
     for left in 0..11 {
-        assert!(rt; refusals(&rt, &image, 32_768, left) == (failed, failed));
-        let mut source = FailingSource {
-            source: ByteSource { bytes: &image },
-            left,
-        };
-        let report = needed_report(rt.alloc(), &mut source, 32_768);
-        assert!(rt; report.is_err_and(|fault| fault == SparseFault::ReadFailed));
+        let told = refusals(&rt, &image, 32_768, left);
+        assert!(rt; told == (failed, failed) && is_unreported(&rt, &image, left));
     }
     for left in 11..15 {
         assert!(rt; refusals(&rt, &image, 32_768, left) == (None, failed));

@@ -47,8 +47,8 @@ fn offsets_are_checked_in_order(rt: HostRuntime) -> Result<(), Fail> {
         (leaf_with(&[14; 250]), NodeFault::Outside),
     ];
     for (bytes, fault) in &cases {
-        assert_eq!(rt; view(bytes).err(), Some(*fault));
-        assert_eq!(rt; decode(rt.alloc(), bytes).err(), Some(*fault));
+        assert!(rt; view(bytes).err() == Some(*fault));
+        assert!(rt; decode(rt.alloc(), bytes).err() == Some(*fault));
     }
     Ok(())
 }
@@ -57,12 +57,12 @@ fn offsets_are_checked_in_order(rt: HostRuntime) -> Result<(), Fail> {
 fn nodes_at_the_limits_decode(rt: HostRuntime) -> Result<(), Fail> {
     let full = leaf_with(&[14, 40, 506]);
     let node = decode(rt.alloc(), &full)?;
-    assert_eq!(rt; node.records.len(), 2);
-    assert_eq!(rt; node.records.record(0).len(), 26);
-    assert_eq!(rt; node.records.record(1).len(), 466);
+    assert!(rt; node.records.len() == 2);
+    assert!(rt; node.records.record(0).len() == 26);
+    assert!(rt; node.records.record(1).len() == 466);
     let empty = leaf_with(&[14; 249]);
     let node = view(&empty)?;
-    assert_eq!(rt; node.len(), 248);
+    assert!(rt; node.len() == 248);
     for i in 0..248 {
         assert!(rt; node.record(i).is_empty());
     }
@@ -70,9 +70,9 @@ fn nodes_at_the_limits_decode(rt: HostRuntime) -> Result<(), Fail> {
 }
 
 fn assert_records(rt: &impl Abort, records: &Records, want: &[&[u8]]) {
-    assert_eq!(rt; records.len(), want.len());
+    assert!(rt; records.len() == want.len());
     for i in 0..want.len() {
-        assert_eq!(rt; records.record(i), want[i], "at {i}");
+        assert!(rt; records.record(i) == want[i], "at {i}");
     }
 }
 
@@ -85,12 +85,12 @@ fn a_node_is_written_whole(rt: HostRuntime) -> Result<(), Fail> {
     let mut want = BLANK_NODE;
     want[..19].copy_from_slice(b"\x01\x02\x03\x04\x00\x00\x00\x05\x00\x02\x00\x03\x00\x00abcde");
     want[504..].copy_from_slice(b"\x00\x13\x00\x11\x00\x11\x00\x0e");
-    assert_eq!(rt; bytes, want);
+    assert!(rt; bytes == want);
     let read = decode(rt.alloc(), &bytes)?;
-    assert_eq!(rt; read.forward, 0x0102_0304);
-    assert_eq!(rt; read.backward, 5);
-    assert_eq!(rt; read.kind, NodeKind::Index);
-    assert_eq!(rt; read.height, 2);
+    assert!(rt; read.forward == 0x0102_0304);
+    assert!(rt; read.backward == 5);
+    assert!(rt; read.kind == NodeKind::Index);
+    assert!(rt; read.height == 2);
     assert_records(&rt, &read.records, &[b"abc", b"", b"de"]);
     Ok(())
 }
@@ -99,24 +99,24 @@ fn a_node_is_written_whole(rt: HostRuntime) -> Result<(), Fail> {
 fn records_are_edited(rt: HostRuntime) -> Result<(), Fail> {
     let alloc = rt.alloc();
     let mut node = node_with(alloc, NodeKind::Leaf, &[b"a", b"b", b"c"])?;
-    assert_eq!(rt; node.records.len(), 3);
+    assert!(rt; node.records.len() == 3);
     node.records.insert(1, Vec::from_slice(alloc, b"x")?)?;
     assert_records(&rt, &node.records, &[b"a", b"x", b"b", b"c"]);
-    assert_eq!(rt; node.records.len(), 4);
-    assert_eq!(rt; node.records.remove(0).as_slice(), b"a".as_slice());
-    assert_eq!(rt; node.records.len(), 3);
-    assert_eq!(rt;
+    assert!(rt; node.records.len() == 4);
+    assert!(rt; node.records.remove(0).as_slice() == b"a".as_slice());
+    assert!(rt; node.records.len() == 3);
+    assert!(rt;
         node.records
             .replace(2, Vec::from_slice(alloc, b"y")?)
-            .as_slice(),
-        b"c".as_slice()
+            .as_slice()
+            == b"c".as_slice()
     );
     assert_records(&rt, &node.records, &[b"x", b"b", b"y"]);
-    assert_eq!(rt; node.records.len(), 3);
+    assert!(rt; node.records.len() == 3);
     let second = node.split_off(1)?;
     assert_records(&rt, &node.records, &[b"x"]);
     assert_records(&rt, &second.records, &[b"b", b"y"]);
-    assert_eq!(rt; second.height, 2);
+    assert!(rt; second.height == 2);
     Ok(())
 }
 
@@ -136,7 +136,7 @@ fn four_long(alloc: Global) -> Result<Records, AllocError>
 #[tactic(auto, unfolding(hfs_node::specs::Node::size_of))]
 fn too_many_records_are_cut(rt: HostRuntime) -> Result<(), Fail> {
     let records = four_long(rt.alloc())?;
-    assert_eq!(rt; records.cut_place(), 2);
+    assert!(rt; records.cut_place() == 2);
     Ok(())
 }
 
@@ -149,7 +149,7 @@ fn faults_are_told(rt: HostRuntime) -> Result<(), Fail> {
         (NodeFault::Memory, "out of memory"),
     ];
     for (fault, text) in cases {
-        assert_eq!(rt; fault.to_string(rt.alloc())?.as_str(), text);
+        assert!(rt; fault.to_string(rt.alloc())?.as_str() == text);
     }
     Ok(())
 }

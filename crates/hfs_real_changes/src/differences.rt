@@ -2,6 +2,7 @@
 
 use anyhow::{Result, ensure};
 use hfs_volume::Volume;
+use std::alloc::Global;
 
 /// On how many items the whole image is compared with what it was before.
 const COMPARED: u32 = 20;
@@ -25,15 +26,17 @@ pub struct Differences {
 }
 
 impl Differences {
-    /// What is known before the first call, with room for as many bytes.
-    pub fn new(before: Vec<u8>, after: Vec<u8>) -> Differences {
-        Differences {
+    /// What is known before the first call on the volume of these bytes, with room for as many.
+    pub fn of(alloc: Global, bytes: &[u8]) -> Result<Differences> {
+        let before = Vec::from_slice(alloc, bytes)?;
+        let after = Vec::from_slice(alloc, bytes)?;
+        Ok(Differences {
             before,
             after,
             compared: 0,
             changed: 0,
             most: 0,
-        }
+        })
     }
 
     /// Takes in how many blocks more are changed behind a call than before it.

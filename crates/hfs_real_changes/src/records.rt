@@ -27,37 +27,53 @@ fn is_key_same(a: &CatalogRecord, b: &CatalogRecord) -> bool {
     a.key().parent == b.key().parent && a.key().name.bytes() == b.key().name.bytes()
 }
 
-/// Whether two bodies have the same bytes, but for a folder's valence and the date of its last change, which are its bytes 4 and 5 and
-/// 14 to 17.
+/// Whether a byte of a folder's body is one of its valence or of the date of its last change, which are its bytes 4 and 5 and 14 to 17.
+fn is_counted(place: usize) -> bool {
+    place == 4 || place == 5 || (14 <= place && place < 18)
+}
+
+/// Whether two bodies have the same bytes, but for a folder's valence and the date of its last change.
 fn is_body_kept(before: &[u8], after: &[u8]) -> bool {
-    if before.len() != after.len() {
-        return false;
-    }
     let is_folder = before.first() == Some(&1);
     let mut place = 0usize;
-    let mut is_kept = true;
+    let mut is_kept = before.len() == after.len();
     for (a, b) in before.iter().zip(after) {
-        let is_counted = is_folder && (place == 4 || place == 5 || (14 <= place && place < 18));
-        is_kept = is_kept && (a == b || is_counted);
+        is_kept = is_kept && (a == b || is_folder && is_counted(place));
         place = place.wrapping_add(1);
     }
     is_kept
 }
 
+/// Whether a record has the bytes that are kept of the one before. None where it is not there, or another one.
+fn kept(before: &CatalogRecord, after: Option<&CatalogRecord>) -> Option<bool> {
+    match after {
+        Some(found) if is_key_same(before, found) => Some(is_body_kept(
+            before.body(),
+            found.body(),
+        )),
+        Some(_) | None => None,
+    }
+}
+
+/// How many of the records, from the first on, are among those before in their order, and whether all of these have the bytes that are kept.
+fn kept_records(before: &[CatalogRecord], after: &[CatalogRecord]) -> (usize, bool) {
+    let mut place = 0usize;
+    let mut are_kept = true;
+    for record in before {
+        if let Some(is_kept) = kept(record, after.get(place)) {
+            are_kept = are_kept && is_kept;
+            place = place.wrapping_add(1);
+        }
+    }
+    (place, are_kept)
+}
+
 /// An error where one of the records is not among those before, in their order and with the bytes that are kept, or where others went than
 /// so many.
 pub fn ensure_kept(before: &[CatalogRecord], after: &[CatalogRecord], gone: usize) -> Result<()> {
-    let mut left = after.iter();
-    let mut next = left.next();
-    for record in before {
-        if let Some(found) = next
-            && is_key_same(record, found)
-        {
-            ensure!(is_body_kept(record.body(), found.body()), "kept bytes");
-            next = left.next();
-        }
-    }
-    ensure!(next.is_none(), "a record that was not there");
+    let (found, are_kept) = kept_records(before, after);
+    ensure!(are_kept, "kept bytes");
+    ensure!(found == after.len(), "a record that was not there");
     ensure!(
         before.len().checked_sub(gone) == Some(after.len()),
         "another number of records"

@@ -1,6 +1,6 @@
 //! What each item is set to, and what it is told as afterwards.
 
-use crate::calls::{Settings, lock, set_cat_info, set_f_info, unlock};
+use crate::calls::{Deed, Settings, done_to, ensure_code};
 use crate::differences::Differences;
 use crate::items::{is_same, told};
 use anyhow::{Result, ensure};
@@ -37,6 +37,38 @@ fn with_settings(item: &Info, settings: &Settings) -> Info {
     info
 }
 
+/// An item as it is told behind SetFInfo with the Finder bytes 255.
+fn with_f_info(item: &Info) -> Info {
+    let mut info = *item;
+    for k in 0..16 {
+        info.finder[k] = 255;
+    }
+    info
+}
+
+/// An item as it is told locked or unlocked.
+fn with_lock(item: &Info, locked: bool) -> Info {
+    let mut info = *item;
+    info.locked = locked;
+    info
+}
+
+/// An error where the item is not told so.
+fn ensure_told(volume: &Volume, wanted: &Info) -> Result<()> {
+    let found = told(volume, wanted)?;
+    ensure!(is_same(&found, wanted), "an item is set otherwise");
+    Ok(())
+}
+
+/// What is made of each item.
+#[derive(Clone, Copy)]
+pub enum Round {
+    /// It is set, and locked where it is a file.
+    Set,
+    /// It is unlocked, where it is a file.
+    Unlock,
+}
+
 /// A volume, and how many blocks its calls have changed.
 #[derive(Drop)]
 pub struct Setting {
@@ -45,90 +77,87 @@ pub struct Setting {
 }
 
 impl Setting {
-    /// An error where a call is not answered with this code, or the item is not told so behind it.
-    fn ensure_made(&mut self, code: i16, wanted_code: i16, wanted: &Info) -> Result<()> {
-        ensure!(code == wanted_code, "another code");
-        let found = told(&self.volume, wanted)?;
-        ensure!(is_same(&found, wanted), "an item is set otherwise");
+    /// An error where a call that does this with an item is not answered with this code, or the item is not told so behind it.
+    fn ensure_made(
+        &mut self,
+        alloc: Global,
+        item: &Info,
+        deed: &Deed,
+        code: i16,
+        wanted: &Info,
+    ) -> Result<()> {
+        let found = done_to(&mut self.volume, alloc, item, deed, NOW)?;
+        ensure_code(found, code, "another code")?;
+        ensure_told(&self.volume, wanted)?;
         self.differences.take_in(&self.volume);
         Ok(())
-    }
-
-    /// Sets the first 16 Finder bytes of an unlocked file to 255, and answers how it is told then.
-    fn set_f_info(&mut self, alloc: Global, item: &Info) -> Result<Info> {
-        let code = set_f_info(&mut self.volume, alloc, item, [255; 16], NOW)?;
-        let mut wanted = *item;
-        for k in 0..16 {
-            wanted.finder[k] = 255;
-        }
-        self.ensure_made(code, 0, &wanted)?;
-        Ok(wanted)
     }
 
     /// Sets the dates and Finder bytes of an item that is not locked, and answers how it is told then.
     fn set_cat_info(&mut self, alloc: Global, item: &Info) -> Result<Info> {
         let settings = settings_of(item);
-        let code = set_cat_info(&mut self.volume, alloc, item, &settings, NOW)?;
         let wanted = with_settings(item, &settings);
-        self.ensure_made(code, 0, &wanted)?;
-        Ok(wanted)
-    }
-
-    /// Locks a file, and answers how it is told then.
-    fn lock(&mut self, alloc: Global, item: &Info) -> Result<Info> {
-        let code = lock(&mut self.volume, alloc, item, NOW)?;
-        let mut wanted = *item;
-        wanted.locked = true;
-        self.ensure_made(code, 0, &wanted)?;
+        self.ensure_made(alloc, item, &Deed::SetCatInfo(settings), 0, &wanted)?;
         Ok(wanted)
     }
 
     /// Unlocks a file, and answers how it is told then.
     fn unlock(&mut self, alloc: Global, item: &Info) -> Result<Info> {
-        let code = unlock(&mut self.volume, alloc, item, NOW)?;
-        let mut wanted = *item;
-        wanted.locked = false;
-        self.ensure_made(code, 0, &wanted)?;
+        let wanted = with_lock(item, false);
+        self.ensure_made(alloc, item, &Deed::RstFLock, 0, &wanted)?;
         Ok(wanted)
+    }
+
+    /// Sets the first 16 Finder bytes of an unlocked file to 255, then its dates and all Finder bytes, and locks it. Answers how it is told then.
+    fn set_and_lock(&mut self, alloc: Global, item: &Info) -> Result<Info> {
+        let half = with_f_info(item);
+        self.ensure_made(alloc, item, &Deed::SetFInfo([255; 16]), 0, &half)?;
+        let whole = self.set_cat_info(alloc, &half)?;
+        let locked = with_lock(&whole, true);
+        self.ensure_made(alloc, &whole, &Deed::SetFLock, 0, &locked)?;
+        Ok(locked)
     }
 
     /// Sets all of a file, and locks it; then nothing more of it is set.
     fn set_file(&mut self, alloc: Global, item: &Info) -> Result<Info> {
         let unlocked = self.unlock(alloc, item)?;
-        let half = self.set_f_info(alloc, &unlocked)?;
-        let whole = self.set_cat_info(alloc, &half)?;
-        let locked = self.lock(alloc, &whole)?;
-        let code = set_f_info(&mut self.volume, alloc, item, [7; 16], NOW)?;
-        self.ensure_made(code, FILE_LOCKED, &locked)?;
-        let code = set_cat_info(&mut self.volume, alloc, item, &settings_of(item), NOW)?;
-        self.ensure_made(code, FILE_LOCKED, &locked)?;
+        let locked = self.set_and_lock(alloc, &unlocked)?;
+        let typed = Deed::SetFInfo([7; 16]);
+        self.ensure_made(alloc, item, &typed, FILE_LOCKED, &locked)?;
+        let dated = Deed::SetCatInfo(settings_of(item));
+        self.ensure_made(alloc, item, &dated, FILE_LOCKED, &locked)?;
         Ok(locked)
     }
 
     /// Sets all of a folder. What only files have is not set.
     fn set_folder(&mut self, alloc: Global, item: &Info) -> Result<Info> {
-        let code = set_f_info(&mut self.volume, alloc, item, [7; 16], NOW)?;
-        self.ensure_made(code, NOT_FOUND, item)?;
-        let code = lock(&mut self.volume, alloc, item, NOW)?;
-        self.ensure_made(code, NOT_FOUND, item)?;
+        let typed = Deed::SetFInfo([7; 16]);
+        self.ensure_made(alloc, item, &typed, NOT_FOUND, item)?;
+        self.ensure_made(alloc, item, &Deed::SetFLock, NOT_FOUND, item)?;
         self.set_cat_info(alloc, item)
     }
 
     /// Sets all of an item, and answers how it is told then.
-    pub fn set(&mut self, alloc: Global, item: &Info) -> Result<Info> {
-        let wanted = match item.kind {
-            ItemKind::File => self.set_file(alloc, item)?,
-            ItemKind::Folder => self.set_folder(alloc, item)?,
-        };
-        self.differences.compare(&self.volume)?;
-        Ok(wanted)
+    fn set(&mut self, alloc: Global, item: &Info) -> Result<Info> {
+        match item.kind {
+            ItemKind::File => self.set_file(alloc, item),
+            ItemKind::Folder => self.set_folder(alloc, item),
+        }
     }
 
     /// Unlocks an item that was set, if it is a file, and answers how it is told then.
-    pub fn set_free(&mut self, alloc: Global, item: &Info) -> Result<Info> {
-        let wanted = match item.kind {
-            ItemKind::File => self.unlock(alloc, item)?,
-            ItemKind::Folder => *item,
+    fn set_free(&mut self, alloc: Global, item: &Info) -> Result<Info> {
+        match item.kind {
+            ItemKind::File => self.unlock(alloc, item),
+            ItemKind::Folder => Ok(*item),
+        }
+    }
+
+    /// Makes this of an item, and answers how it is told then.
+    pub fn make(&mut self, alloc: Global, item: &Info, round: Round) -> Result<Info> {
+        let wanted = match round {
+            Round::Set => self.set(alloc, item)?,
+            Round::Unlock => self.set_free(alloc, item)?,
         };
         self.differences.compare(&self.volume)?;
         Ok(wanted)

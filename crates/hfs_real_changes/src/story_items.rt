@@ -1,7 +1,6 @@
 //! The files that a story renames and moves, and how they are told behind it.
 
-use crate::forks::ensure_forks;
-use crate::items::{is_same, told};
+use crate::forks::ensure_file;
 use anyhow::{Result, ensure};
 use hfs_fields::Name;
 use hfs_model::{Info, ItemKind};
@@ -23,19 +22,25 @@ fn is_moved(item: &Info, home: u32) -> bool {
     item.kind == ItemKind::File && !item.locked && item.parent != home
 }
 
+/// Puts a file behind those that move, with the next name, as long as there is one.
+fn push_moved(files: &mut Vec<MovedFile>, item: &Info) -> Result<()> {
+    if let Some(text) = NAMES.get(files.len())
+        && let Some(name) = Name::new(text)
+    {
+        files.push(MovedFile {
+            before: *item,
+            name,
+        })?;
+    }
+    Ok(())
+}
+
 /// The first files among these items that are unlocked and stand elsewhere than in that folder, one for each name.
 pub fn moved_files(alloc: Global, items: &[Info], home: u32) -> Result<Vec<MovedFile>> {
     let mut files = Vec::new(alloc);
-    let mut names = NAMES.iter();
     for item in items {
-        if is_moved(item, home)
-            && let Some(text) = names.next()
-            && let Some(name) = Name::new(text)
-        {
-            files.push(MovedFile {
-                before: *item,
-                name,
-            })?;
+        if is_moved(item, home) {
+            push_moved(&mut files, item)?;
         }
     }
     ensure!(files.len() == NAMES.len(), "there are too few files");
@@ -55,9 +60,8 @@ pub fn ensure_moved(
     wanted.parent = home;
     wanted.name = file.name;
     wanted.has_id = has_id;
-    let found = told(volume, &wanted)?;
-    ensure!(is_same(&found, &wanted), "a moved file is told otherwise");
-    ensure_forks(alloc, base, &file.before, volume, &found)
+    let words = "a moved file is told otherwise";
+    ensure_file(alloc, base, &file.before, volume, &wanted, words)
 }
 
 /// Whether the item is one of the files that move.
@@ -75,9 +79,7 @@ pub fn ensure_others(
 ) -> Result<()> {
     for item in items {
         if item.kind == ItemKind::File && !is_among(item, files) {
-            let found = told(volume, item)?;
-            ensure!(is_same(&found, item), "another file has changed");
-            ensure_forks(alloc, base, item, volume, &found)?;
+            ensure_file(alloc, base, item, volume, item, "another file has changed")?;
         }
     }
     Ok(())

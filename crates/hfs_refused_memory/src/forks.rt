@@ -5,13 +5,10 @@ use hfs_fixtures::{SmallVolume, fork_byte, small_image};
 use hfs_model::Fork;
 use hfs_refused_fixtures::mounted;
 use hfs_volume::{OpenFork, Opened, Volume};
-use std::alloc::Global;
+use std::alloc::{AllocError, Global};
 
-/// The data fork of `f`, opened. None where the call is refused, or where memory is refused twice.
-fn opened(alloc: Global, volume: &Volume) -> Option<OpenFork<'_>> {
-    if let Ok(Opened::Fork(fork)) = volume.open_fork(alloc, 2, b"f", Fork::DataFork) {
-        return Some(fork);
-    }
+/// The data fork of `f`. None where the call is refused, or where memory is.
+fn opened_once(alloc: Global, volume: &Volume) -> Option<OpenFork<'_>> {
     match volume.open_fork(alloc, 2, b"f", Fork::DataFork) {
         Ok(Opened::Fork(fork)) => Some(fork),
         Ok(Opened::Refused(_reply)) => None,
@@ -19,38 +16,77 @@ fn opened(alloc: Global, volume: &Volume) -> Option<OpenFork<'_>> {
     }
 }
 
+/// The data fork of `f`, opened. None where the call is refused, or where memory is refused twice.
+fn opened(alloc: Global, volume: &Volume) -> Option<OpenFork<'_>> {
+    if let Some(fork) = opened_once(alloc, volume) {
+        return Some(fork);
+    }
+    opened_once(alloc, volume)
+}
+
+/// The next bytes of a fork.
+fn read(alloc: Global, fork: &mut OpenFork<'_>, count: u32) -> Result<Vec<u8>, AllocError> {
+    fork.read(alloc, count)
+}
+
 /// The next bytes of a fork. Where memory is refused as many must be left as before, and they are read once more; None where they aren't,
 /// or where memory is refused again.
 fn next(alloc: Global, fork: &mut OpenFork<'_>, count: u32) -> Option<Vec<u8>> {
     let left = fork.len();
-    if let Ok(bytes) = fork.read(alloc, count) {
+    if let Ok(bytes) = read(alloc, fork, count) {
         return Some(bytes);
     }
     if fork.len() != left {
         return None;
     }
-    fork.read(alloc, count).ok()
+    read(alloc, fork, count).ok()
 }
 
 /// Whether these are the bytes of `f` from a place on.
 fn are_bytes_from(bytes: &[u8], from: usize) -> bool {
-    let wanted = (from..).map(fork_byte);
-    bytes.iter().zip(wanted).all(|(byte, known)| *byte == known)
+    let mut place = from;
+    for byte in bytes {
+        if *byte != fork_byte(place) {
+            return false;
+        }
+        place = place.wrapping_add(1);
+    }
+    true
 }
 
-/// Whether the fork of `f`, which has 2,000 bytes in four extents, is opened and read to its end by 700 bytes at a time.
-pub fn opens(alloc: Global) -> Result<bool> {
-    let volume = mounted(alloc, small_image(alloc, SmallVolume::OneFile)?)?;
-    let Some(mut fork) = opened(alloc, &volume) else {
-        return Ok(false);
-    };
+/// Whether the next 700 bytes of the fork are so many, from a place on.
+fn reads(alloc: Global, fork: &mut OpenFork<'_>, from: usize, count: usize) -> bool {
+    match next(alloc, fork, 700) {
+        Some(bytes) => bytes.len() == count && are_bytes_from(&bytes, from),
+        None => false,
+    }
+}
+
+/// Whether the fork of `f`, which has 2,000 bytes in four extents, is read to its end by 700 bytes at a time.
+fn reads_all(alloc: Global, fork: &mut OpenFork<'_>) -> bool {
     for (from, count) in [(0, 700), (700, 700), (1_400, 600), (2_000, 0)] {
-        let Some(bytes) = next(alloc, &mut fork, 700) else {
-            return Ok(false);
-        };
-        if bytes.len() != count || !are_bytes_from(&bytes, from) {
-            return Ok(false);
+        if !reads(alloc, fork, from, count) {
+            return false;
         }
     }
-    Ok(true)
+    true
+}
+
+/// Whether the fork of `f` is opened on a volume, and read to its end.
+fn opens_on(alloc: Global, volume: &Volume) -> bool {
+    match opened(alloc, volume) {
+        Some(mut fork) => reads_all(alloc, &mut fork),
+        None => false,
+    }
+}
+
+/// The volume with the file `f`.
+fn volume_of_one_file(alloc: Global) -> Result<Volume> {
+    mounted(alloc, small_image(alloc, SmallVolume::OneFile)?)
+}
+
+/// Whether the fork of `f` is opened, and read to its end.
+pub fn opens(alloc: Global) -> Result<bool> {
+    let volume = volume_of_one_file(alloc)?;
+    Ok(opens_on(alloc, &volume))
 }

@@ -1,8 +1,11 @@
 //! A list of calls, where memory is refused once. What they make of the bytes is laid by hand: in block 7 the record of the file `f` has its
 //! body from byte 286 on.
 
+use crate::bytes::{has_edited, small_volume};
 use anyhow::Result;
-use hfs_refused_fixtures::{call_of, has_bytes, image_with, mounted, put};
+use hfs_model::Call;
+use hfs_refused_fixtures::{Edit, call_of};
+use hfs_volume::Volume;
 use std::alloc::Global;
 
 /// The bytes 1 to 16.
@@ -11,23 +14,63 @@ const ONE_TO_SIXTEEN: [u8; 16] = [1, 2, 3, 4, 5, 6, 7, 8, 9, 10, 11, 12, 13, 14,
 /// SetFInfo of `f` with these bytes, as a script has it.
 const SETTING: &[u8] = b"setfinfo\t16\tf\t0102030405060708090a0b0c0d0e0f10";
 
+/// SetFInfo and SetFLock of one file.
+fn two_calls(alloc: Global) -> Result<Vec<Call>> {
+    let mut calls = Vec::new(alloc);
+    calls.push(call_of(alloc, SETTING)?)?;
+    calls.push(call_of(alloc, b"lock\t16\tf")?)?;
+    Ok(calls)
+}
+
+/// Whether each call of a list has the code 0. None where memory is refused.
+fn are_made(alloc: Global, volume: &mut Volume) -> Result<Option<bool>> {
+    let calls = two_calls(alloc)?;
+    match volume.run(alloc, &calls) {
+        Ok(replies) => Ok(Some(replies.iter().all(|reply| reply.code == 0))),
+        Err(_refused) => Ok(None),
+    }
+}
+
+/// The moment of both calls.
+const MOMENT: Edit<'static> = Edit {
+    block: 2,
+    at: 6,
+    bytes: &[0, 0, 0, 7],
+};
+
+/// What SetFInfo lays.
+const INFO: Edit<'static> = Edit {
+    block: 7,
+    at: 290,
+    bytes: &ONE_TO_SIXTEEN,
+};
+
+/// What SetFLock lays.
+const LOCK: Edit<'static> = Edit {
+    block: 7,
+    at: 288,
+    bytes: &[0x81],
+};
+
+/// What is laid behind SetFInfo.
+const BETWEEN: [Edit<'static>; 2] = [MOMENT, INFO];
+
+/// What is laid behind both calls.
+const AFTER: [Edit<'static>; 3] = [MOMENT, INFO, LOCK];
+
+/// Whether a list of both calls is run on a volume as it is said.
+fn runs_on(alloc: Global, volume: &mut Volume) -> Result<bool> {
+    let are_made = are_made(alloc, volume)?;
+    if has_edited(alloc, volume, &AFTER)? {
+        return Ok(are_made.unwrap_or(true));
+    }
+    let is_front = has_edited(alloc, volume, &[])? || has_edited(alloc, volume, &BETWEEN)?;
+    Ok(are_made.is_none() && is_front)
+}
+
 /// Whether a list of SetFInfo and SetFLock of one file is run as it is said. Where memory is refused, the calls before the one that met it
 /// have been made: the bytes are those before both, between both or behind both, where the row of replies had no room.
 pub fn runs(alloc: Global) -> Result<bool> {
-    let before = image_with(alloc, &[])?;
-    let moment = put(2, 6, &[0, 0, 0, 7]);
-    let info = put(7, 290, &ONE_TO_SIXTEEN);
-    let between = image_with(alloc, &[moment, info])?;
-    let after = image_with(alloc, &[moment, info, put(7, 288, &[0x81])])?;
-    let mut volume = mounted(alloc, before.clone()?)?;
-    let calls = [call_of(alloc, SETTING)?, call_of(alloc, b"lock\t16\tf")?];
-    match volume.run(alloc, &calls) {
-        Ok(replies) => Ok(
-            replies.iter().all(|reply| reply.code == 0) && has_bytes(&volume, &after),
-        ),
-        Err(_refused) => {
-            let is_front = has_bytes(&volume, &before) || has_bytes(&volume, &between);
-            Ok(is_front || has_bytes(&volume, &after))
-        }
-    }
+    let mut volume = small_volume(alloc)?;
+    runs_on(alloc, &mut volume)
 }

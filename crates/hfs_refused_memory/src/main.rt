@@ -7,6 +7,7 @@
 //! `tests/refused_memory.sh` gives it line after line, and refuses each allocation in turn.
 #![tactic(auto)]
 
+mod bytes;
 mod calls;
 mod forks;
 mod lists;

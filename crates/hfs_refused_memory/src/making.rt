@@ -20,26 +20,36 @@ fn leaf(alloc: Global) -> Result<[u8; 512]> {
     Ok(bytes)
 }
 
+/// The node in a block.
+fn decoded(alloc: Global, block: &[u8; 512]) -> Result<Node, NodeFault> {
+    decode(alloc, block)
+}
+
 /// The node in a block, which is read once more where memory is refused.
 fn node_of(alloc: Global, block: &[u8; 512]) -> Result<Node, NodeFault> {
-    match decode(alloc, block) {
-        Err(NodeFault::Memory) => decode(alloc, block),
+    match decoded(alloc, block) {
+        Err(NodeFault::Memory) => decoded(alloc, block),
         answer => answer,
     }
+}
+
+/// Whether a node has three records, and these bytes when it is encoded again.
+fn is_node(node: &Node, block: &[u8; 512]) -> bool {
+    if node.records.len() != 3 || !fits(node) {
+        return false;
+    }
+    let mut bytes = BLANK_NODE;
+    encode(node, &mut bytes);
+    bytes == *block
 }
 
 /// Whether a node is decoded: encoded again it has its bytes.
 pub fn decodes(alloc: Global) -> Result<bool> {
     let block = leaf(alloc)?;
-    let Ok(node) = node_of(alloc, &block) else {
-        return Ok(false);
-    };
-    if node.records.len() != 3 || !fits(&node) {
-        return Ok(false);
+    match node_of(alloc, &block) {
+        Ok(node) => Ok(is_node(&node, &block)),
+        Err(_fault) => Ok(false),
     }
-    let mut bytes = BLANK_NODE;
-    encode(&node, &mut bytes);
-    Ok(bytes == block)
 }
 
 /// The image of a new volume with 160 blocks, 81,920 bytes.
@@ -57,14 +67,18 @@ fn formatted(alloc: Global) -> Result<Vec<u8>, FormatFault> {
     format(alloc, plan)
 }
 
+/// The same image, which is made once more where memory is refused.
+fn formatted_at_last(alloc: Global) -> Result<Vec<u8>, FormatFault> {
+    match formatted(alloc) {
+        Err(FormatFault::Memory) => formatted(alloc),
+        answer => answer,
+    }
+}
+
 /// Whether a new volume is made.
 pub fn formats(alloc: Global) -> Result<bool> {
     let wanted = formatted(alloc)?;
-    let made = match formatted(alloc) {
-        Err(FormatFault::Memory) => formatted(alloc),
-        answer => answer,
-    };
-    match made {
+    match formatted_at_last(alloc) {
         Ok(image) => Ok(image.as_slice() == wanted.as_slice()),
         Err(_fault) => Ok(false),
     }
@@ -80,12 +94,17 @@ const TOLD: Report = Report {
     unowned: 0,
 };
 
+/// The report on an image.
+fn report_once(alloc: Global, image: &[u8]) -> Result<Report, AllocError> {
+    report(alloc, image)
+}
+
 /// The report on an image, which is made once more where memory is refused.
 fn report_on(alloc: Global, image: &[u8]) -> Result<Report, AllocError> {
-    if let Ok(told) = report(alloc, image) {
+    if let Ok(told) = report_once(alloc, image) {
         return Ok(told);
     }
-    report(alloc, image)
+    report_once(alloc, image)
 }
 
 /// Whether a volume is reported on.
@@ -97,14 +116,16 @@ pub fn reports(alloc: Global) -> Result<bool> {
     }
 }
 
-/// All of these bytes as a reader gives them, read from their beginning once more where memory is refused.
+/// All of these bytes as a reader gives them.
+fn loaded_once(alloc: Global, bytes: &[u8]) -> Result<Vec<u8>, LoadFault> {
+    let mut reader: &[u8] = bytes;
+    load(alloc, &mut reader)
+}
+
+/// The same, read from their beginning once more where memory is refused.
 fn loaded(alloc: Global, bytes: &[u8]) -> Result<Vec<u8>, LoadFault> {
-    let mut first: &[u8] = bytes;
-    match load(alloc, &mut first) {
-        Err(LoadFault::Memory) => {
-            let mut second: &[u8] = bytes;
-            load(alloc, &mut second)
-        }
+    match loaded_once(alloc, bytes) {
+        Err(LoadFault::Memory) => loaded_once(alloc, bytes),
         answer => answer,
     }
 }

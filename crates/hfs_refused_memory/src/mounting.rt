@@ -15,19 +15,28 @@ fn given_back(refused: Refused, given: &[u8]) -> Option<Vec<u8>> {
     }
 }
 
+/// Whether an image is mounted, and the volume has these bytes.
+fn mounts_once(alloc: Global, image: Vec<u8>, given: &[u8]) -> Result<bool, Refused> {
+    match mount(alloc, image) {
+        Ok(volume) => Ok(has_bytes(&volume, given)),
+        Err(refused) => Err(refused),
+    }
+}
+
+/// The same of an image that was handed back, if it was.
+fn mounts_again(alloc: Global, image: Option<Vec<u8>>, given: &[u8]) -> bool {
+    match image {
+        Some(image) => mounts_once(alloc, image, given).unwrap_or(false),
+        None => false,
+    }
+}
+
 /// Whether a sound image is mounted, or handed back as it was, and then mounted.
 pub fn mounts(alloc: Global) -> Result<bool> {
     let given = image_with(alloc, &[])?;
-    let refused = match mount(alloc, given.clone()?) {
-        Ok(volume) => return Ok(has_bytes(&volume, &given)),
-        Err(refused) => refused,
-    };
-    let Some(image) = given_back(refused, &given) else {
-        return Ok(false);
-    };
-    match mount(alloc, image) {
-        Ok(volume) => Ok(has_bytes(&volume, &given)),
-        Err(_refused) => Ok(false),
+    match mounts_once(alloc, given.clone()?, &given) {
+        Ok(is_given) => Ok(is_given),
+        Err(refused) => Ok(mounts_again(alloc, given_back(refused, &given), &given)),
     }
 }
 
@@ -150,22 +159,73 @@ const FIXES: [Fix; 11] = [
     },
 ];
 
+/// Whether an image is mended of each wrong count, and the volume has these bytes.
+fn repairs_once(alloc: Global, image: Vec<u8>, sound: &[u8]) -> Result<bool, Refused> {
+    match mount_repaired(alloc, image) {
+        Ok((volume, fixes)) => Ok(fixes.as_slice() == &FIXES[..] && has_bytes(&volume, sound)),
+        Err(refused) => Err(refused),
+    }
+}
+
+/// The same of an image that was handed back, if it was.
+fn repairs_again(alloc: Global, image: Option<Vec<u8>>, sound: &[u8]) -> bool {
+    match image {
+        Some(image) => repairs_once(alloc, image, sound).unwrap_or(false),
+        None => false,
+    }
+}
+
+/// Whether an image is mended so, or handed back as it was, and then mended.
+fn repairs_at_last(alloc: Global, given: &Vec<u8>, sound: &[u8]) -> Result<bool> {
+    match repairs_once(alloc, given.clone()?, sound) {
+        Ok(is_sound) => Ok(is_sound),
+        Err(refused) => Ok(repairs_again(alloc, given_back(refused, given), sound)),
+    }
+}
+
 /// Whether an image in which each count is wrong is mended, or handed back as it was, and then mended.
 pub fn repairs(alloc: Global) -> Result<bool> {
     let sound = image_with(alloc, &[])?;
     let given = image_with(alloc, &WRONG)?;
-    let refused = match mount_repaired(alloc, given.clone()?) {
-        Ok((volume, fixes)) => return Ok(
-            fixes.as_slice() == &FIXES[..] && has_bytes(&volume, &sound),
-        ),
-        Err(refused) => refused,
-    };
-    let Some(image) = given_back(refused, &given) else {
-        return Ok(false);
-    };
+    repairs_at_last(alloc, &given, &sound)
+}
+
+/// The refusal of an image that isn't mended.
+fn refusal_of(alloc: Global, image: Vec<u8>) -> Option<Refused> {
     match mount_repaired(alloc, image) {
-        Ok((volume, fixes)) => Ok(fixes.as_slice() == &FIXES[..] && has_bytes(&volume, &sound)),
-        Err(_refused) => Ok(false),
+        Ok(_mended) => None,
+        Err(refused) => Some(refused),
+    }
+}
+
+/// Whether an image is handed back as it was, for the thread.
+fn is_for_thread(refused: &Refused, given: &[u8]) -> bool {
+    let thread = MountFault::Check {
+        number: 8,
+        place: 1,
+    };
+    refused.fault == thread && refused.image.as_slice() == given
+}
+
+/// Whether an image that was handed back is handed back once more, for the thread.
+fn refuses_again(alloc: Global, image: Option<Vec<u8>>, given: &[u8]) -> bool {
+    let Some(image) = image else {
+        return false;
+    };
+    match refusal_of(alloc, image) {
+        Some(refused) => is_for_thread(&refused, given),
+        None => false,
+    }
+}
+
+/// Whether a copy of an image is handed back as it was: for the thread, or for want of memory and then for the thread.
+fn refuses_at_last(alloc: Global, image: Vec<u8>, given: &[u8]) -> bool {
+    match refusal_of(alloc, image) {
+        Some(refused) => {
+            is_for_thread(&refused, given)
+                || refuses_again(alloc, given_back(refused, given), given)
+        }
+        None => false,
     }
 }
 
@@ -173,21 +233,5 @@ pub fn repairs(alloc: Global) -> Result<bool> {
 /// then for the thread.
 pub fn refuses(alloc: Global) -> Result<bool> {
     let given = image_with(alloc, &[put(7, 26, &[0, 3]), put(7, 115, b"E")])?;
-    let thread = MountFault::Check {
-        number: 8,
-        place: 1,
-    };
-    let Err(first) = mount_repaired(alloc, given.clone()?) else {
-        return Ok(false);
-    };
-    if first.fault == thread {
-        return Ok(first.image.as_slice() == given.as_slice());
-    }
-    let Some(image) = given_back(first, &given) else {
-        return Ok(false);
-    };
-    match mount_repaired(alloc, image) {
-        Ok(_mended) => Ok(false),
-        Err(second) => Ok(second.fault == thread && second.image.as_slice() == given.as_slice()),
-    }
+    Ok(refuses_at_last(alloc, given.clone()?, &given))
 }

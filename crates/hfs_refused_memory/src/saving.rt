@@ -1,13 +1,35 @@
 //! Saving, which takes no memory.
 
+use crate::bytes::{has_edited, small_volume};
 use anyhow::Result;
-use hfs_refused_fixtures::{call_of, has_bytes, image_with, mounted, put};
+use hfs_refused_fixtures::{Edit, call_of};
+use hfs_volume::Volume;
 use std::alloc::Global;
 
-/// Whether a volume with changed blocks is saved as it is: a file is locked, so its flags $80 are $81, and the volume has another moment.
+/// What is laid where a file is locked: its flags $80 are $81, and the volume has another moment.
+const LOCKED: [Edit<'static>; 2] = [
+    Edit {
+        block: 2,
+        at: 6,
+        bytes: &[0, 0, 0, 7],
+    },
+    Edit {
+        block: 7,
+        at: 288,
+        bytes: &[0x81],
+    },
+];
+
+/// The code of SetFLock of `f`.
+fn lock(alloc: Global, volume: &mut Volume) -> Result<i16> {
+    let call = call_of(alloc, b"lock\t16\tf")?;
+    let reply = volume.call(alloc, &call)?;
+    Ok(reply.code)
+}
+
+/// Whether a volume with changed blocks is saved as it is, where a file is locked.
 pub fn saves(alloc: Global) -> Result<bool> {
-    let after = image_with(alloc, &[put(2, 6, &[0, 0, 0, 7]), put(7, 288, &[0x81])])?;
-    let mut volume = mounted(alloc, image_with(alloc, &[])?)?;
-    let reply = volume.call(alloc, &call_of(alloc, b"lock\t16\tf")?)?;
-    Ok(reply.code == 0 && has_bytes(&volume, &after))
+    let mut volume = small_volume(alloc)?;
+    let code = lock(alloc, &mut volume)?;
+    Ok(code == 0 && has_edited(alloc, &volume, &LOCKED)?)
 }

@@ -2,7 +2,7 @@
 ghost use Rattle.std.specs.Prelude.{◌≡◌};
 
 use crate::checks::{is_closed_as, is_reply_as};
-use crate::parts::{begun, closed, named_volume};
+use crate::parts::{begun_on, closed, named_volume};
 use anyhow::{Result, bail};
 use hfs_model::{Call, Reply};
 use hfs_refused_fixtures::{call_of, split_at};
@@ -66,6 +66,19 @@ fn call_once<K: Session>(
     }
 }
 
+/// The same of a call by its text.
+fn made_once<K: Session>(
+    rt: &impl Wait,
+    alloc: Global,
+    shared: &Shared<K>,
+    pass: &mut Pass,
+    text: &[u8],
+    way: Way,
+) -> Result<Answer> {
+    let call = call_of(alloc, text)?;
+    Ok(call_once(rt, alloc, shared, pass, call, way))
+}
+
 /// How one call comes out in the end: it is made once more where memory is refused, unless that ends the calls.
 fn made_at_last<K: Session>(
     rt: &impl Wait,
@@ -75,12 +88,10 @@ fn made_at_last<K: Session>(
     text: &[u8],
     way: Way,
 ) -> Result<Answer> {
-    let again = call_of(alloc, text)?;
-    let first = call_once(rt, alloc, shared, pass, call_of(alloc, text)?, way);
-    if way != Way::Close && matches!(&first, Answer::Refused) {
-        return Ok(call_once(rt, alloc, shared, pass, again, way));
+    match made_once(rt, alloc, shared, pass, text, way)? {
+        Answer::Refused if way != Way::Close => made_once(rt, alloc, shared, pass, text, way),
+        answer => Ok(answer),
     }
-    Ok(first)
 }
 
 /// Whether a reply is the one of the twin, on which the same call is made.
@@ -93,6 +104,38 @@ fn is_twins(
 ) -> Result<bool> {
     let wanted = twin.call(alloc, &call_of(alloc, text)?)?;
     is_reply_as(alloc, reply, &wanted, code)
+}
+
+/// How a call comes out beside the twin.
+#[derive(Clone, Copy, Debug, PartialEq, Eq)]
+enum Made {
+    /// As on the twin.
+    AsTwin,
+    Refused,
+    Otherwise,
+}
+
+/// How one call comes out in the end, which stands behind its code and a space.
+fn made_beside<K: Session>(
+    rt: &impl Wait,
+    alloc: Global,
+    shared: &Shared<K>,
+    pass: &mut Pass,
+    twin: &mut Volume,
+    way: Way,
+    line: &[u8],
+) -> Result<Made> {
+    let (code, text) = split_at(line, b' ');
+    match made_at_last(rt, alloc, shared, pass, text, way)? {
+        Answer::Answered(reply) => {
+            if is_twins(alloc, twin, text, &reply, code)? {
+                return Ok(Made::AsTwin);
+            }
+            Ok(Made::Otherwise)
+        }
+        Answer::Refused => Ok(Made::Refused),
+        Answer::Otherwise => Ok(Made::Otherwise),
+    }
 }
 
 /// How many of the calls are made, each as on the twin: all, or those before the first for which memory is refused. None where one comes out
@@ -108,24 +151,47 @@ fn call_each<K: Session>(
 ) -> Result<Option<u64>> {
     let mut count = 0u64;
     for line in calls.split(|byte| *byte == b';') {
-        let (code, text) = split_at(line, b' ');
-        match made_at_last(rt, alloc, shared, pass, text, way)? {
-            Answer::Answered(reply) => {
-                if !is_twins(alloc, twin, text, &reply, code)? {
-                    return Ok(None);
-                }
-                count = count.wrapping_add(1);
-            }
-            Answer::Refused => {
-                if way == Way::Close {
-                    return Ok(Some(count));
-                }
-                return Ok(None);
-            }
-            Answer::Otherwise => return Ok(None),
+        match made_beside(rt, alloc, shared, pass, twin, way, line)? {
+            Made::AsTwin => count = count.wrapping_add(1),
+            Made::Refused if way == Way::Close => return Ok(Some(count)),
+            Made::Refused | Made::Otherwise => return Ok(None),
         }
     }
     Ok(Some(count))
+}
+
+/// The same by the first of these passes.
+fn call_by_first<K: Session>(
+    rt: &impl Wait,
+    alloc: Global,
+    shared: &Shared<K>,
+    passes: &mut Vec<Pass>,
+    twin: &mut Volume,
+    way: Way,
+    calls: &[u8],
+) -> Result<Option<u64>> {
+    let Some(pass) = passes.first_mut() else {
+        bail!("no pass");
+    };
+    call_each(rt, alloc, shared, pass, twin, way, calls)
+}
+
+/// Whether what closing gives has so many calls, and the twin's bytes.
+fn closes_as<K: Session>(
+    rt: &impl Wait,
+    alloc: Global,
+    shared: Shared<K>,
+    passes: Vec<Pass>,
+    viewer: &mut Viewer,
+    twin: &Volume,
+    count: u64,
+) -> Result<bool>
+    requires { viewer.old.book ≡ K.book }
+{
+    match closed(rt, shared, passes, viewer) {
+        Some(closed) => is_closed_as(alloc, &closed, twin, count),
+        None => Ok(false),
+    }
 }
 
 /// Whether the calls of a worker are all as on the twin, and what closing gives then has these calls and the twin's bytes.
@@ -143,22 +209,26 @@ fn call_and_close<K: Session, R: Wait>(
     requires viewer { viewer.old.book ≡ K.book }
 {
     let shared = parts.share::<K>();
-    let Some(pass) = passes.first_mut() else {
-        bail!("no pass");
-    };
-    let Some(count) = call_each(rt, alloc, &shared, pass, twin, way, calls)? else {
-        return Ok(false);
-    };
-    match closed(rt, shared, passes, viewer) {
-        Some(closed) => is_closed_as(alloc, &closed, twin, count),
+    match call_by_first(rt, alloc, &shared, &mut passes, twin, way, calls)? {
+        Some(count) => closes_as(rt, alloc, shared, passes, viewer, twin, count),
         None => Ok(false),
     }
+}
+
+/// Whether calls on a new volume are all as on the twin.
+fn calls_beside(
+    rt: &impl Wait,
+    alloc: Global,
+    twin: &mut Volume,
+    way: Way,
+    calls: &[u8],
+) -> Result<bool> {
+    let (parts, passes, mut viewer) = begun_on(rt, alloc, b"new", 1)?;
+    call_and_close::<Brand, _>(rt, alloc, parts, passes, &mut viewer, twin, way, calls)
 }
 
 /// Whether calls on a new volume are all as said: each stands behind its code and a space, and there is a semicolon between them.
 pub fn calls_as_said(rt: &impl Wait, alloc: Global, way: Way, calls: &[u8]) -> Result<bool> {
     let mut twin = named_volume(alloc, b"new")?;
-    let volume = named_volume(alloc, b"new")?;
-    let (parts, passes, mut viewer) = begun(rt, alloc, volume, 1)?;
-    call_and_close::<Brand, _>(rt, alloc, parts, passes, &mut viewer, &mut twin, way, calls)
+    calls_beside(rt, alloc, &mut twin, way, calls)
 }

@@ -35,6 +35,14 @@ fn main(rt: HostRuntime) -> Result<()> {
     Ok(())
 }
 
+/// What is printed of an outcome.
+fn words_of(outcome: Outcome) -> &'static str {
+    match outcome {
+        Outcome::AsSaid | Outcome::Lagged => "as said",
+        Outcome::Otherwise => "not as said",
+    }
+}
+
 /// Tries what a line says, and prints its title and whether all was as it is said.
 fn try_line<T: Threads + Wait + Sync>(
     rt: &(impl Print + Eprint),
@@ -46,13 +54,10 @@ fn try_line<T: Threads + Wait + Sync>(
     let Ok(title) = from_utf8(title) else {
         bail!("no title");
     };
-    match outcome_of(threads, alloc, what)? {
-        Outcome::AsSaid => println!(rt; "{title}: as said")?,
-        Outcome::Lagged => {
-            eprintln!(rt; "{title}: lagged")?;
-            println!(rt; "{title}: as said")?;
-        }
-        Outcome::Otherwise => println!(rt; "{title}: not as said")?,
+    let outcome = outcome_of(threads, alloc, what)?;
+    if outcome == Outcome::Lagged {
+        eprintln!(rt; "{title}: lagged")?;
     }
+    println!(rt; "{title}: {}", words_of(outcome))?;
     Ok(())
 }

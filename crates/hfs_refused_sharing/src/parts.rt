@@ -2,11 +2,18 @@
 ghost use Rattle.std.specs.Prelude.{◌≡◌, ◌<◌, ◌≤◌, All, IfOk};
 
 use anyhow::{Result, bail};
-use hfs_refused_fixtures::{mounted, named_image};
+use hfs_refused_fixtures::{call_of, mounted, named_image};
 use hfs_shared::{Closed, Parts, Pass, Session, Shared, StartFault, Viewer};
 use hfs_volume::Volume;
 use std::alloc::Global;
 use std::sync::Wait;
+
+/// Makes a call, which is given by its text, on a volume.
+pub fn make(alloc: Global, volume: &mut Volume, text: &[u8]) -> Result<()> {
+    let call = call_of(alloc, text)?;
+    let _reply = volume.call(alloc, &call)?;
+    Ok(())
+}
 
 /// The volume of a small image by its name.
 pub fn named_volume(alloc: Global, name: &[u8]) -> Result<Volume> {
@@ -46,7 +53,7 @@ fn started(
 }
 
 /// The same, with the viewer alone.
-pub fn begun(
+fn begun(
     rt: &impl Wait,
     alloc: Global,
     volume: Volume,
@@ -62,6 +69,19 @@ pub fn begun(
         Some(viewer) => Ok((parts, passes, viewer)),
         None => bail!("no viewer"),
     }
+}
+
+/// The same of the volume of a small image by its name.
+pub fn begun_on(
+    rt: &impl Wait,
+    alloc: Global,
+    name: &[u8],
+    workers: u32,
+) -> Result<(Parts, Vec<Pass>, Viewer)>
+    requires { (0 < workers) × (workers ≤ 8) }
+    ensures { IfOk result (λ r. r.2.book ≡ r.0.book) }
+{
+    begun(rt, alloc, named_volume(alloc, name)?, workers)
 }
 
 /// What closing gives. None where the passes are refused.

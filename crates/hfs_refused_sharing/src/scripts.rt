@@ -1,8 +1,9 @@
 //! A script that is run, where memory is refused once. Its answers are written by hand.
-use crate::parts::named_volume;
+use crate::parts::{make, named_volume};
 use anyhow::Result;
-use hfs_refused_fixtures::{call_of, has_bytes, named_image, saved};
+use hfs_refused_fixtures::{has_bytes, named_image, saved};
 use hfs_runs::{Ran, ScriptFault, run_script};
+use hfs_volume::Volume;
 use std::alloc::Global;
 use std::sync::Wait;
 use std::thread::Threads;
@@ -41,11 +42,16 @@ fn has_unanswered(text: &str) -> bool {
     text.contains("\tnone\t-\n")
 }
 
+/// The script's two changes, as the volume's own calls make them.
+fn make_both(alloc: Global, volume: &mut Volume) -> Result<()> {
+    make(alloc, volume, b"create\t2\ta")?;
+    make(alloc, volume, b"lock\t2\ta")
+}
+
 /// The image after the script, as the volume's own calls make it.
 fn image_after(alloc: Global) -> Result<Vec<u8>> {
     let mut volume = named_volume(alloc, b"folder")?;
-    volume.call(alloc, &call_of(alloc, b"create\t2\ta")?)?;
-    volume.call(alloc, &call_of(alloc, b"lock\t2\ta")?)?;
+    make_both(alloc, &mut volume)?;
     saved(alloc, &volume)
 }
 
@@ -72,22 +78,42 @@ fn is_want(fault: ScriptFault) -> bool {
     }
 }
 
+/// How a run comes out.
+#[derive(Clone, Copy, Debug, PartialEq, Eq)]
+enum Run {
+    Whole,
+    /// Memory was refused to it, or to some caller.
+    Part,
+    Otherwise,
+}
+
+/// How a run came out that ended, if these are to be its bytes.
+fn run_of(ran: &Ran, after: &[u8]) -> Run {
+    if is_whole(ran, after) {
+        return Run::Whole;
+    }
+    if is_part(ran) {
+        return Run::Part;
+    }
+    Run::Otherwise
+}
+
+/// How a run of the script on a small volume comes out.
+fn run_once<R: Threads + Wait + Sync>(threads: &R, alloc: Global, after: &[u8]) -> Result<Run> {
+    let image = named_image(alloc, b"folder")?;
+    match run_script(threads, alloc, image, SCRIPT, 7) {
+        Ok(ran) => Ok(run_of(&ran, after)),
+        Err(fault) if is_want(fault) => Ok(Run::Part),
+        Err(_fault) => Ok(Run::Otherwise),
+    }
+}
+
 /// Whether the script is run whole on a small volume, or in part, or not at all for want of memory or of a place, and then whole.
 pub fn runs_as_said<R: Threads + Wait + Sync>(threads: &R, alloc: Global) -> Result<bool> {
     let after = image_after(alloc)?;
-    let first = named_image(alloc, b"folder")?;
-    let second = first.clone()?;
-    let is_refused = match run_script(threads, alloc, first, SCRIPT, 7) {
-        Ok(ran) => {
-            if is_whole(&ran, &after) {
-                return Ok(true);
-            }
-            is_part(&ran)
-        }
-        Err(fault) => is_want(fault),
-    };
-    match run_script(threads, alloc, second, SCRIPT, 7) {
-        Ok(ran) => Ok(is_refused && is_whole(&ran, &after)),
-        Err(_fault) => Ok(false),
+    match run_once(threads, alloc, &after)? {
+        Run::Whole => Ok(true),
+        Run::Part => Ok(run_once(threads, alloc, &after)? == Run::Whole),
+        Run::Otherwise => Ok(false),
     }
 }

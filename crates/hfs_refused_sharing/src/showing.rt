@@ -2,10 +2,10 @@
 ghost use Rattle.std.specs.Prelude.{◌≡◌, IfOk, OnOk};
 
 use crate::checks::{create, letters_in};
-use crate::parts::{begun, named_volume};
+use crate::parts::begun_on;
 use crate::trials::Outcome;
 use anyhow::{Result, bail, ensure};
-use hfs_model::Call;
+use hfs_model::{Call, Reply};
 use hfs_shared::{CallFault, Parts, Pass, Session, Shared, Told, Viewer};
 use std::alloc::Global;
 use std::marker::Brand;
@@ -37,32 +37,51 @@ fn told_of<K: Session>(
 ) -> Result<Told>
     ensures { IfOk result (λ t. t.book ≡ K.book) }
 {
-    let first = create(alloc, name)?;
-    let second = create(alloc, name)?;
-    if let Ok(told) = told_once(rt, alloc, shared, pass, first) {
+    if let Ok(told) = told_once(rt, alloc, shared, pass, create(alloc, name)?) {
         return Ok(told);
     }
-    match told_once(rt, alloc, shared, pass, second) {
+    match told_once(rt, alloc, shared, pass, create(alloc, name)?) {
         Ok(told) => Ok(told),
         Err(_fault) => bail!("a call was not made"),
     }
 }
 
-/// How many files the viewer lists, which are `a`, `b` and so on. Where memory is refused it is asked once more.
+/// How many files a reply tells, which are `a`, `b` and so on.
+fn count_in(reply: &Reply) -> Option<u64> {
+    match letters_in(reply) {
+        Some(count) => Some(count as u64),
+        None => None,
+    }
+}
+
+/// How many files the viewer lists, which are `a`, `b` and so on. None where memory is refused, or it lists something else.
+fn listed_once(alloc: Global, viewer: &mut Viewer) -> Option<u64>
+    ensures { viewer.new.book ≡ viewer.old.book }
+{
+    match viewer.list(alloc, 2) {
+        Ok(reply) => count_in(&reply),
+        Err(_fault) => None,
+    }
+}
+
+/// The same. Where memory is refused it is asked once more.
 fn listed(alloc: Global, viewer: &mut Viewer) -> Result<u64>
     ensures { OnOk result (viewer.new.book ≡ viewer.old.book) }
 {
-    let answer = match viewer.list(alloc, 2) {
-        Ok(reply) => Ok(reply),
-        Err(_fault) => viewer.list(alloc, 2),
-    };
-    let Ok(reply) = answer else {
-        bail!("a viewer was not answered");
-    };
-    match letters_in(&reply) {
-        Some(count) => Ok(count as u64),
-        None => bail!("a viewer lists something else"),
+    if let Some(count) = listed_once(alloc, viewer) {
+        return Ok(count);
     }
+    match listed_once(alloc, viewer) {
+        Some(count) => Ok(count),
+        None => bail!("a viewer was not answered, or lists something else"),
+    }
+}
+
+/// An error where another call was made than the one of that number, or the viewer lists others than are told.
+fn ensure_told(is_number: bool, is_listed: bool) -> Result<()> {
+    ensure!(is_number, "another call was made");
+    ensure!(is_listed, "a viewer lists others than are told");
+    Ok(())
 }
 
 /// Makes a file, the call of that number, and lets the viewer learn what is told: how many calls are shown then, all of which it lists.
@@ -81,8 +100,7 @@ fn shown<K: Session>(
     let told = told_of(rt, alloc, shared, pass, name)?;
     viewer.learn(&told);
     let count = listed(alloc, viewer)?;
-    ensure!(told.made() == number, "another call was made");
-    ensure!(told.shown() == count, "a viewer lists others than are told");
+    ensure_told(told.made() == number, told.shown() == count)?;
     Ok(count)
 }
 
@@ -97,33 +115,52 @@ fn outcome_of_counts(counts: [u64; 3]) -> Outcome {
     Outcome::Otherwise
 }
 
+/// How many calls are shown behind each of three files that are made.
+fn show_each<K: Session>(
+    rt: &impl Wait,
+    alloc: Global,
+    shared: &Shared<K>,
+    passes: &mut Vec<Pass>,
+    viewer: &mut Viewer,
+) -> Result<[u64; 3]>
+    requires { viewer.old.book ≡ K.book }
+{
+    let Some(pass) = passes.first_mut() else {
+        bail!("no pass");
+    };
+    let first = shown(rt, alloc, shared, pass, viewer, b"a", 1)?;
+    let second = shown(rt, alloc, shared, pass, viewer, b"b", 2)?;
+    let third = shown(rt, alloc, shared, pass, viewer, b"c", 3)?;
+    Ok([first, second, third])
+}
+
+/// How many calls are shown when what waits is published.
+fn shown_at_last<K: Session>(rt: &impl Wait, alloc: Global, shared: &Shared<K>) -> u64 {
+    let told = shared.lock(rt).publish(rt, alloc);
+    told.shown()
+}
+
 /// Three files are made, and shown to a viewer.
 fn show_three<K: Session, R: Wait>(
     rt: &R,
     alloc: Global,
     parts: Parts,
     mut passes: Vec<Pass>,
-    mut viewer: Viewer,
+    viewer: &mut Viewer,
 ) -> Result<Outcome>
     requires parts { (parts.book ≡ K.book) × (parts.opening ≡ K.opening) }
-    requires viewer { viewer.book ≡ K.book }
+    requires viewer { viewer.old.book ≡ K.book }
 {
     let shared = parts.share::<K>();
-    let Some(pass) = passes.first_mut() else {
-        bail!("no pass");
-    };
-    let first = shown(rt, alloc, &shared, pass, &mut viewer, b"a", 1)?;
-    let second = shown(rt, alloc, &shared, pass, &mut viewer, b"b", 2)?;
-    let third = shown(rt, alloc, &shared, pass, &mut viewer, b"c", 3)?;
-    let last = shared.lock(rt).publish(rt, alloc);
-    ensure!(last.shown() == 3, "what waited is not shown");
-    Ok(outcome_of_counts([first, second, third]))
+    let counts = show_each(rt, alloc, &shared, &mut passes, viewer)?;
+    let is_all = shown_at_last(rt, alloc, &shared) == 3;
+    ensure!(is_all, "what waited is not shown");
+    Ok(outcome_of_counts(counts))
 }
 
 /// How three files that are made on a new volume are shown: each as it is made, or, where memory is refused to what publishes it, with the
 /// next call.
 pub fn shows_as_said(rt: &impl Wait, alloc: Global) -> Result<Outcome> {
-    let volume = named_volume(alloc, b"new")?;
-    let (parts, passes, viewer) = begun(rt, alloc, volume, 1)?;
-    show_three::<Brand, _>(rt, alloc, parts, passes, viewer)
+    let (parts, passes, mut viewer) = begun_on(rt, alloc, b"new", 1)?;
+    show_three::<Brand, _>(rt, alloc, parts, passes, &mut viewer)
 }

@@ -1,7 +1,7 @@
 //! A volume that is shared, where memory is refused once.
-use crate::parts::named_volume;
+use crate::parts::{make, named_volume};
 use anyhow::Result;
-use hfs_refused_fixtures::{call_of, has_bytes, saved};
+use hfs_refused_fixtures::{has_bytes, saved};
 use hfs_shared::{Parts, Pass, StartFault, Viewer};
 use hfs_volume::Volume;
 use std::alloc::Global;
@@ -10,7 +10,7 @@ use std::sync::Wait;
 /// A volume with changed blocks: its file is locked.
 fn changed_volume(alloc: Global) -> Result<Volume> {
     let mut volume = named_volume(alloc, b"folder")?;
-    volume.call(alloc, &call_of(alloc, b"lock\t16\tf")?)?;
+    make(alloc, &mut volume, b"lock\t16\tf")?;
     Ok(volume)
 }
 
@@ -25,15 +25,28 @@ fn are_first(passes: &Vec<Pass>, viewers: &Vec<Viewer>) -> bool {
         && viewers.iter().all(|viewer| viewer.changes() == 0)
 }
 
+/// Whether a volume is shared by two workers and two viewers.
+fn starts_once(rt: &impl Wait, alloc: Global, volume: Volume) -> Result<bool, StartFault> {
+    match Parts::start(rt, alloc, volume, 2, 2) {
+        Ok((_parts, passes, viewers)) => Ok(are_first(&passes, &viewers)),
+        Err(fault) => Err(fault),
+    }
+}
+
 /// Whether the volume that is handed back has these bytes, and is then shared.
 fn starts_again(rt: &impl Wait, alloc: Global, fault: StartFault, before: &[u8]) -> bool {
     let StartFault { why: _, volume } = fault;
     if !has_bytes(&volume, before) {
         return false;
     }
-    match Parts::start(rt, alloc, volume, 2, 2) {
-        Ok((_parts, passes, viewers)) => are_first(&passes, &viewers),
-        Err(_fault) => false,
+    starts_once(rt, alloc, volume).unwrap_or(false)
+}
+
+/// Whether a volume with these bytes is shared, or handed back as it was, and then shared.
+fn starts_at_last(rt: &impl Wait, alloc: Global, volume: Volume, before: &[u8]) -> bool {
+    match starts_once(rt, alloc, volume) {
+        Ok(are_first) => are_first,
+        Err(fault) => starts_again(rt, alloc, fault, before),
     }
 }
 
@@ -41,8 +54,5 @@ fn starts_again(rt: &impl Wait, alloc: Global, fault: StartFault, before: &[u8])
 pub fn starts_as_said(rt: &impl Wait, alloc: Global) -> Result<bool> {
     let volume = changed_volume(alloc)?;
     let before = saved(alloc, &volume)?;
-    match Parts::start(rt, alloc, volume, 2, 2) {
-        Ok((_parts, passes, viewers)) => Ok(are_first(&passes, &viewers)),
-        Err(fault) => Ok(starts_again(rt, alloc, fault, &before)),
-    }
+    Ok(starts_at_last(rt, alloc, volume, &before))
 }

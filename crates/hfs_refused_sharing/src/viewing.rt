@@ -1,6 +1,6 @@
 //! What a viewer is asked, where memory is refused once, beside a twin of the volume that is asked the same with memory.
 use crate::checks::is_reply_as;
-use crate::parts::{begun, named_volume};
+use crate::parts::{begun_on, named_volume};
 use anyhow::{Result, bail};
 use hfs_model::{Bytes, Call, Reply};
 use hfs_refused_fixtures::{call_of, split_at};
@@ -75,17 +75,49 @@ fn is_answered(
     }
 }
 
+/// The same of a call that stands behind its code and a space.
+fn is_line_answered(
+    alloc: Global,
+    viewer: &mut Viewer,
+    twin: &mut Volume,
+    line: &[u8],
+) -> Result<bool> {
+    let (code, text) = split_at(line, b' ');
+    let call = call_of(alloc, text)?;
+    is_answered(alloc, viewer, twin, &call, code)
+}
+
+/// The same of all these calls, with a semicolon between them.
+fn are_answered(
+    alloc: Global,
+    viewer: &mut Viewer,
+    twin: &mut Volume,
+    calls: &[u8],
+) -> Result<bool> {
+    for line in calls.split(|byte| *byte == b';') {
+        if !is_line_answered(alloc, viewer, twin, line)? {
+            return Ok(false);
+        }
+    }
+    Ok(true)
+}
+
+/// The same of a viewer of a small volume by its name.
+fn views_beside(
+    rt: &impl Wait,
+    alloc: Global,
+    name: &[u8],
+    twin: &mut Volume,
+    calls: &[u8],
+) -> Result<bool> {
+    let (_parts, _passes, mut viewer) = begun_on(rt, alloc, name, 1)?;
+    are_answered(alloc, &mut viewer, twin, calls)
+}
+
 /// Whether what a viewer of a small volume is asked is all as said. The volume's name stands first; each call stands behind its code and a
 /// space, and there is a semicolon between them.
 pub fn views_as_said(rt: &impl Wait, alloc: Global, what: &[u8]) -> Result<bool> {
     let (name, calls) = split_at(what, b';');
     let mut twin = named_volume(alloc, name)?;
-    let (_parts, _passes, mut viewer) = begun(rt, alloc, named_volume(alloc, name)?, 1)?;
-    let mut are_all = true;
-    for line in calls.split(|byte| *byte == b';') {
-        let (code, text) = split_at(line, b' ');
-        let call = call_of(alloc, text)?;
-        are_all = are_all && is_answered(alloc, &mut viewer, &mut twin, &call, code)?;
-    }
-    Ok(are_all)
+    views_beside(rt, alloc, name, &mut twin, calls)
 }

@@ -2,8 +2,8 @@
 ghost use Rattle.std.specs.Prelude.{◌≡◌};
 
 use crate::checks::{create, letters_in};
-use crate::parts::{begun, closed, named_volume};
-use anyhow::{Result, bail, ensure};
+use crate::parts::{begun_on, closed};
+use anyhow::{Result, ensure};
 use hfs_model::{Call, Reply};
 use hfs_shared::{
     CallFault, Closed, Done, Gate, Parts, Pass, Session, Shared, Told, Viewer, run_workers,
@@ -37,12 +37,22 @@ fn calls_left(alloc: Global, pass: &Pass) -> Result<Vec<Call>, AllocError> {
     Ok(calls)
 }
 
+/// A worker with its calls.
+fn push_job(
+    alloc: Global,
+    jobs: &mut Vec<(Pass, Vec<Call>)>,
+    pass: Pass,
+) -> Result<(), AllocError> {
+    let calls = calls_left(alloc, &pass)?;
+    jobs.push((pass, calls))?;
+    Ok(())
+}
+
 /// Each worker with its calls.
 fn jobs_of(alloc: Global, passes: Vec<Pass>) -> Result<Vec<(Pass, Vec<Call>)>, AllocError> {
     let mut jobs = Vec::new(alloc);
     for pass in passes {
-        let calls = calls_left(alloc, &pass)?;
-        jobs.push((pass, calls))?;
+        push_job(alloc, &mut jobs, pass)?;
     }
     Ok(jobs)
 }
@@ -57,19 +67,30 @@ fn is_done(pass: &Pass, replies: &[(Reply, Told)], fault: Option<CallFault>) -> 
     is_end && replies.iter().all(|(reply, _told)| reply.code == 0)
 }
 
+/// The pass of a worker that has ended.
+fn push_done(passes: &mut Vec<Pass>, done: Done) -> Result<()> {
+    let Done {
+        pass,
+        replies,
+        fault,
+    } = done;
+    ensure!(is_done(&pass, &replies, fault), "a worker ended otherwise");
+    passes.push(pass)?;
+    Ok(())
+}
+
 /// The passes of workers that have ended.
 fn passes_of(alloc: Global, dones: Vec<Done>) -> Result<Vec<Pass>> {
     let mut passes = Vec::new(alloc);
     for done in dones {
-        let Done {
-            pass,
-            replies,
-            fault,
-        } = done;
-        ensure!(is_done(&pass, &replies, fault), "a worker ended otherwise");
-        passes.push(pass)?;
+        push_done(&mut passes, done)?;
     }
     Ok(passes)
+}
+
+/// Whether so many calls are all that a worker has not made yet.
+fn are_left(alloc: Global, pass: &Pass, count: usize) -> Result<bool> {
+    Ok(calls_left(alloc, pass)?.len() == count)
 }
 
 /// The passes of jobs that came back, which have all their calls.
@@ -77,7 +98,7 @@ fn passes_back(alloc: Global, jobs: Vec<(Pass, Vec<Call>)>) -> Result<Vec<Pass>>
     let mut passes = Vec::new(alloc);
     for (pass, calls) in jobs {
         ensure!(
-            calls.len() == calls_left(alloc, &pass)?.len(),
+            are_left(alloc, &pass, calls.len())?,
             "a job came back otherwise"
         );
         passes.push(pass)?;
@@ -99,6 +120,18 @@ fn run_once<K: Session + Send + Sync, R: Threads + Wait + Sync>(
     }
 }
 
+/// The same three times.
+fn run_thrice<K: Session + Send + Sync, R: Threads + Wait + Sync>(
+    shared: &Shared<K>,
+    threads: &R,
+    alloc: Global,
+    passes: Vec<Pass>,
+) -> Result<Vec<Pass>> {
+    let passes = run_once(shared, threads, alloc, passes)?;
+    let passes = run_once(shared, threads, alloc, passes)?;
+    run_once(shared, threads, alloc, passes)
+}
+
 /// Whether what closing gives has all four calls and files.
 fn has_all(alloc: Global, closed: &Closed) -> Result<bool> {
     let reply = closed.volume.list(alloc, 2)?;
@@ -110,17 +143,15 @@ fn run_all<K: Session + Send + Sync, R: Threads + Wait + Sync>(
     threads: &R,
     alloc: Global,
     parts: Parts,
-    mut passes: Vec<Pass>,
-    mut viewer: Viewer,
+    passes: Vec<Pass>,
+    viewer: &mut Viewer,
 ) -> Result<bool>
     requires parts { (parts.book ≡ K.book) × (parts.opening ≡ K.opening) }
-    requires viewer { viewer.book ≡ K.book }
+    requires viewer { viewer.old.book ≡ K.book }
 {
     let shared = parts.share::<K>();
-    for _round in 0..3 {
-        passes = run_once(&shared, threads, alloc, passes)?;
-    }
-    match closed(threads, shared, passes, &mut viewer) {
+    let passes = run_thrice(&shared, threads, alloc, passes)?;
+    match closed(threads, shared, passes, viewer) {
         Some(closed) => has_all(alloc, &closed),
         None => Ok(false),
     }
@@ -128,7 +159,6 @@ fn run_all<K: Session + Send + Sync, R: Threads + Wait + Sync>(
 
 /// Whether two workers on a new volume make all their calls in the end, each once.
 pub fn works_as_said<R: Threads + Wait + Sync>(threads: &R, alloc: Global) -> Result<bool> {
-    let volume = named_volume(alloc, b"new")?;
-    let (parts, passes, viewer) = begun(threads, alloc, volume, 2)?;
-    run_all::<Brand, _>(threads, alloc, parts, passes, viewer)
+    let (parts, passes, mut viewer) = begun_on(threads, alloc, b"new", 2)?;
+    run_all::<Brand, _>(threads, alloc, parts, passes, &mut viewer)
 }

@@ -13,6 +13,7 @@ use crate::times::print_removals;
 use anyhow::{Result, bail, ensure};
 use hfs_fields::CatKey;
 use hfs_node_tables::{NodeTable, is_exact};
+use std::alloc::Global;
 use std::{env, fs};
 
 /// The files of catalog trees.
@@ -72,24 +73,24 @@ fn print_times(rt: &HostRuntime, file: &str) -> Result<()> {
 
 /// Takes all records out of each tree in each order, and prints how many there were.
 fn print_emptied(rt: &HostRuntime) -> Result<()> {
-    let orders = [
+    for name in NAMES {
+        print_orders(rt, name)?;
+    }
+    Ok(())
+}
+
+/// Takes all records out of a file's tree in each order, and prints how many there were.
+fn print_orders(rt: &HostRuntime, name: &str) -> Result<()> {
+    let file = fs::read(rt, name)?;
+    for order in [
         Order::Rising,
         Order::Falling,
         Order::Mixed,
         Order::Drawn(1),
         Order::Drawn(2),
-    ];
-    for name in NAMES {
-        let file = fs::read(rt, name)?;
-        for order in orders {
-            let EmptyTree {
-                records,
-                exact,
-                free,
-            } = emptied(rt, &file, order)?;
-            let keys = if exact { "exact" } else { "inexact" };
-            println!(rt; "{name} {records} records, {keys}, then {free} free nodes")?;
-        }
+    ] {
+        let tree = emptied(rt.alloc(), &file, order)?;
+        print_tree(rt, name, &tree)?;
     }
     Ok(())
 }
@@ -105,31 +106,68 @@ struct EmptyTree {
     free: u32,
 }
 
-/// Takes all records out. An error where a tree that was exact is no more.
-fn emptied(rt: &impl AllocGlobal, file: &[u8], order: Order) -> Result<EmptyTree> {
-    let alloc = rt.alloc();
-    let Some(mut nodes) = NodeTable::of(alloc, file)? else {
-        bail!("the file is too long");
-    };
-    let exact = is_exact::<CatKey>(&nodes);
-    let mut list = keys(alloc, &nodes)?;
+/// Prints how many records a tree had.
+fn print_tree(rt: &impl Print, name: &str, tree: &EmptyTree) -> Result<()> {
+    let keys = if tree.exact { "exact" } else { "inexact" };
+    let (records, free) = (tree.records, tree.free);
+    println!(rt; "{name} {records} records, {keys}, then {free} free nodes")?;
+    Ok(())
+}
+
+/// Takes the record at this place of the list out. An error where a tree that was exact is no more.
+fn take_at(
+    alloc: Global,
+    nodes: &mut NodeTable,
+    list: &mut Vec<CatKey>,
+    place: usize,
+    exact: bool,
+) -> Result<()> {
+    if place >= list.len() {
+        bail!("no such record");
+    }
+    let key = list.remove(place);
+    take(alloc, nodes, &key)?;
+    ensure!(
+        !exact || is_exact::<CatKey>(nodes),
+        "an index key is not its child's"
+    );
+    Ok(())
+}
+
+/// Takes all records out, and answers how many there were. An error where a tree that was exact is no more.
+fn take_all(alloc: Global, nodes: &mut NodeTable, order: Order, exact: bool) -> Result<usize> {
+    let mut list = keys(alloc, nodes)?;
     let records = list.len();
     let mut order = order;
     for _ in 0..records {
         let (place, next) = order.next(list.len());
         order = next;
-        if place >= list.len() {
-            bail!("no such record");
-        }
-        let key = list.remove(place);
-        take(alloc, &mut nodes, &key)?;
-        ensure!(
-            !exact || is_exact::<CatKey>(&nodes),
-            "an index key is not its child's"
-        );
+        take_at(alloc, nodes, &mut list, place, exact)?;
     }
-    let left = keys(alloc, &nodes)?;
-    ensure!(left.is_empty(), "a record is left");
+    Ok(records)
+}
+
+/// An error where a tree has a record.
+fn ensure_empty(alloc: Global, nodes: &NodeTable) -> Result<()> {
+    let left = keys(alloc, nodes)?.len();
+    ensure!(left == 0, "a record is left");
+    Ok(())
+}
+
+/// The nodes of a file.
+fn table(alloc: Global, file: &[u8]) -> Result<NodeTable> {
+    match NodeTable::of(alloc, file)? {
+        Some(nodes) => Ok(nodes),
+        None => bail!("the file is too long"),
+    }
+}
+
+/// Takes all records out of a file's tree. An error where a tree that was exact is no more.
+fn emptied(alloc: Global, file: &[u8], order: Order) -> Result<EmptyTree> {
+    let mut nodes = table(alloc, file)?;
+    let exact = is_exact::<CatKey>(&nodes);
+    let records = take_all(alloc, &mut nodes, order, exact)?;
+    ensure_empty(alloc, &nodes)?;
     let free = free_after(alloc, &nodes)?;
     Ok(EmptyTree {
         records,

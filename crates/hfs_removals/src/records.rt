@@ -39,14 +39,19 @@ pub fn has(alloc: Global, nodes: &NodeTable, key: &CatKey) -> Result<bool> {
     Ok(found.is_some())
 }
 
-/// Takes a pair out, and checks the tree. An error where the tree has no such pair, or still has it afterwards.
-pub fn take(alloc: Global, nodes: &mut NodeTable, key: &CatKey) -> Result<()> {
+/// Takes a pair out. An error where the tree has no such pair.
+fn remove_pair(alloc: Global, nodes: &mut NodeTable, key: &CatKey) -> Result<()> {
     check_tree::<CatKey, NodeTable>(alloc, nodes, nodes.size())?;
     let Some(_body) = find(alloc, nodes, key)? else {
         bail!("no such key");
     };
     remove(alloc, nodes, key)?;
-    check_tree::<CatKey, NodeTable>(alloc, nodes, nodes.size())?;
+    Ok(())
+}
+
+/// Takes a pair out, and checks the tree. An error where the tree has no such pair, or still has it afterwards.
+pub fn take(alloc: Global, nodes: &mut NodeTable, key: &CatKey) -> Result<()> {
+    remove_pair(alloc, nodes, key)?;
     let left = has(alloc, nodes, key)?;
     ensure!(!left, "the key is still there");
     Ok(())

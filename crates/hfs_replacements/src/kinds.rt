@@ -24,6 +24,27 @@ pub fn rewrite(alloc: Global, nodes: &mut NodeTable, records: &[Record]) -> Resu
     Ok(())
 }
 
+/// An error where the body under a key is none, or not these bytes.
+fn ensure_body(alloc: Global, nodes: &NodeTable, key: &CatKey, body: &[u8]) -> Result<()> {
+    match body_under(alloc, nodes, key)? {
+        Some(found) => ensure!(found.as_slice() == body, "another body"),
+        None => bail!("a record is gone"),
+    }
+    Ok(())
+}
+
+/// A record gets these bytes.
+fn put_body(alloc: Global, nodes: &mut NodeTable, key: &CatKey, body: &[u8]) -> Result<()> {
+    put(alloc, nodes, key, body)?;
+    ensure_body(alloc, nodes, key, body)
+}
+
+/// A record gets another body of the same length.
+fn turn(alloc: Global, nodes: &mut NodeTable, record: &Record) -> Result<()> {
+    let other = turned(alloc, &record.body)?;
+    put_body(alloc, nodes, &record.key, &other)
+}
+
 /// Each record gets another body of the same length, and its own one back; then the nodes are as at first.
 pub fn same_length(
     alloc: Global,
@@ -33,12 +54,7 @@ pub fn same_length(
 ) -> Result<u32> {
     let mut count = 0u32;
     for record in records {
-        let other = turned(alloc, &record.body)?;
-        put(alloc, nodes, &record.key, &other)?;
-        let Some(found) = body_under(alloc, nodes, &record.key)? else {
-            bail!("a record is gone");
-        };
-        ensure!(found.as_slice() == other.as_slice(), "another body");
+        turn(alloc, nodes, record)?;
         put(alloc, nodes, &record.key, &record.body)?;
         ensure!(
             nodes.nodes.as_slice() == first.nodes.as_slice(),
@@ -54,12 +70,7 @@ pub fn shorter(alloc: Global, nodes: &mut NodeTable, records: &[Record]) -> Resu
     let mut count = 0u32;
     for record in records {
         if record.body.len() > 46 {
-            let body = [0x5a; 46];
-            put(alloc, nodes, &record.key, &body)?;
-            let Some(found) = body_under(alloc, nodes, &record.key)? else {
-                bail!("a record is gone");
-            };
-            ensure!(found.as_slice() == &body[..], "another body");
+            put_body(alloc, nodes, &record.key, &[0x5a; 46])?;
             count = count.saturating_add(1);
         }
     }

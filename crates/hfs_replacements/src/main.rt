@@ -6,9 +6,10 @@ mod kinds;
 mod records;
 
 use crate::kinds::{are_respelled, other_case, rewrite, same_length, shorter};
-use crate::records::records;
+use crate::records::{Record, records};
 use anyhow::{Result, bail, ensure};
 use hfs_node_tables::NodeTable;
+use std::alloc::Global;
 use std::fs;
 
 /// The files of catalog trees.
@@ -20,33 +21,68 @@ const NAMES: [&str; 3] = [
 
 fn main(rt: HostRuntime) -> Result<()> {
     for name in NAMES {
-        let file = fs::read(&rt, name)?;
-        print_replaced(&rt, name, &file)?;
+        print_replaced(&rt, name)?;
     }
     Ok(())
 }
 
 /// The nodes of a file.
-fn table(rt: &impl AllocGlobal, file: &[u8]) -> Result<NodeTable> {
-    let Some(nodes) = NodeTable::of(rt.alloc(), file)? else {
-        bail!("the file is too long");
-    };
+fn table(alloc: Global, file: &[u8]) -> Result<NodeTable> {
+    match NodeTable::of(alloc, file)? {
+        Some(nodes) => Ok(nodes),
+        None => bail!("the file is too long"),
+    }
+}
+
+/// The nodes of a file, with each record laid again.
+fn rewritten(alloc: Global, file: &[u8], list: &[Record]) -> Result<NodeTable> {
+    let mut nodes = table(alloc, file)?;
+    rewrite(alloc, &mut nodes, list)?;
     Ok(nodes)
 }
 
-/// Replaces the records of a tree, and prints how many were.
-fn print_replaced(rt: &(impl Print + AllocGlobal), name: &str, file: &[u8]) -> Result<()> {
-    let mut first = table(rt, file)?;
-    let mut nodes = table(rt, file)?;
-    let list = records(rt.alloc(), &first)?;
-    rewrite(rt.alloc(), &mut first, &list)?;
-    rewrite(rt.alloc(), &mut nodes, &list)?;
-    let same = same_length(rt.alloc(), &mut nodes, &first, &list)?;
-    let less = shorter(rt.alloc(), &mut nodes, &list)?;
-    let mut spelled = table(rt, file)?;
-    let case = other_case(rt.alloc(), &mut spelled, &list)?;
-    let after = records(rt.alloc(), &spelled)?;
-    ensure!(are_respelled(&list, &after), "a key is not as it was given");
+/// How many records were replaced by a body of the same length, and behind that by a shorter one.
+fn replaced_bodies(alloc: Global, file: &[u8], list: &[Record]) -> Result<(u32, u32)> {
+    let first = rewritten(alloc, file, list)?;
+    let mut nodes = rewritten(alloc, file, list)?;
+    let same = same_length(alloc, &mut nodes, &first, list)?;
+    let less = shorter(alloc, &mut nodes, list)?;
+    Ok((same, less))
+}
+
+/// An error where a tree hasn't the keys of these records, spelled in the other case.
+fn ensure_respelled(alloc: Global, nodes: &NodeTable, list: &[Record]) -> Result<()> {
+    let after = records(alloc, nodes)?;
+    ensure!(are_respelled(list, &after), "a key is not as it was given");
+    Ok(())
+}
+
+/// How many records were replaced under a name in the other case.
+fn replaced_names(alloc: Global, file: &[u8], list: &[Record]) -> Result<u32> {
+    let mut nodes = table(alloc, file)?;
+    let case = other_case(alloc, &mut nodes, list)?;
+    ensure_respelled(alloc, &nodes, list)?;
+    Ok(case)
+}
+
+/// The records of a file's tree.
+fn records_of(alloc: Global, file: &[u8]) -> Result<Vec<Record>> {
+    let nodes = table(alloc, file)?;
+    records(alloc, &nodes)
+}
+
+/// How many records of a file's tree were replaced: by a body of the same length, by a shorter one, and under a name in the other case.
+fn replaced(alloc: Global, file: &[u8]) -> Result<(u32, u32, u32)> {
+    let list = records_of(alloc, file)?;
+    let (same, less) = replaced_bodies(alloc, file, &list)?;
+    let case = replaced_names(alloc, file, &list)?;
+    Ok((same, less, case))
+}
+
+/// Replaces the records of a file's tree, and prints how many were.
+fn print_replaced(rt: &HostRuntime, name: &str) -> Result<()> {
+    let file = fs::read(rt, name)?;
+    let (same, less, case) = replaced(rt.alloc(), &file)?;
     println!(rt; "{name} {same} of the same length, {less} shorter, {case} in the other case")?;
     Ok(())
 }

@@ -1,40 +1,45 @@
 //! What doesn't read: the first such line is named, counted from 1.
 use hfs_scripts::{ScriptFault, read_script};
-use std::alloc::Global;
+use std::alloc::{AllocError, Global};
 use std::process::Abort;
 use std::test::Fail;
 
-/// Wants the line of that number to be the first that doesn't read.
-fn expect_line(rt: &impl Abort, alloc: Global, script: &[u8], line: u64) {
+/// Whether the line of that number is the first that doesn't read.
+fn is_line(alloc: Global, script: &[u8], line: u64) -> bool {
     match read_script(alloc, script, 0) {
-        Ok(_) => assert!(rt; false),
-        Err(fault) => assert_eq!(rt; fault, ScriptFault::Line(line)),
+        Ok(_) => false,
+        Err(fault) => fault == ScriptFault::Line(line),
     }
+}
+
+/// Whether a script reads.
+fn is_read(alloc: Global, script: &[u8]) -> bool {
+    read_script(alloc, script, 0).is_ok()
 }
 
 /// Wants each of these lines to be one that doesn't read.
 fn expect_refused(rt: &impl Abort, alloc: Global, lines: &[&[u8]]) {
     for line in lines {
-        expect_line(rt, alloc, line, 1);
+        assert!(rt; is_line(alloc, line, 1));
     }
 }
 
 /// Wants each of these lines to read.
 fn expect_read(rt: &impl Abort, alloc: Global, lines: &[&[u8]]) {
     for line in lines {
-        assert!(rt; read_script(alloc, line, 0).is_ok());
+        assert!(rt; is_read(alloc, line));
     }
 }
 
 #[test]
 fn the_first_bad_line_is_named(rt: HostRuntime) {
     let alloc = rt.alloc();
-    expect_line(&rt, alloc, b"1\tlist\t2\n9\tlist\t2\n", 2);
-    expect_line(&rt, alloc, b"1\tlist\t2\n9\tlist\t2\n0\tlist\t2\n", 2);
-    expect_line(&rt, alloc, b"1\tlist\t2\n\n1\tlist\t2\n", 2);
-    expect_line(&rt, alloc, b"1\tlist\t2\n\n", 2);
-    expect_line(&rt, alloc, b"\n", 1);
-    expect_line(&rt, alloc, b"v1\tcreate\t2\ta", 1);
+    assert!(rt; is_line(alloc, b"1\tlist\t2\n9\tlist\t2\n", 2));
+    assert!(rt; is_line(alloc, b"1\tlist\t2\n9\tlist\t2\n0\tlist\t2\n", 2));
+    assert!(rt; is_line(alloc, b"1\tlist\t2\n\n1\tlist\t2\n", 2));
+    assert!(rt; is_line(alloc, b"1\tlist\t2\n\n", 2));
+    assert!(rt; is_line(alloc, b"\n", 1));
+    assert!(rt; is_line(alloc, b"v1\tcreate\t2\ta", 1));
 }
 
 /// Every word with its fields, as a line reads; `v` in place of the worker reads for five of them.
@@ -181,31 +186,29 @@ fn file_ids_and_places(rt: HostRuntime) {
     expect_refused(&rt, alloc, &indexes);
 }
 
-/// A word with DIR and NAME: a field missing, one too many, a bad number, a large one, one of eleven digits.
-fn expect_targets_refused(rt: &impl Abort, alloc: Global, word: &str) -> Result<(), Fail> {
-    let missing = format!(in alloc; "1\t{word}\t2")?;
-    expect_line(rt, alloc, missing.as_str().as_bytes(), 1);
-    let many = format!(in alloc; "1\t{word}\t2\ta\tb")?;
-    expect_line(rt, alloc, many.as_str().as_bytes(), 1);
-    let bad = format!(in alloc; "1\t{word}\ttwo\ta")?;
-    expect_line(rt, alloc, bad.as_str().as_bytes(), 1);
-    let large = format!(in alloc; "1\t{word}\t4294967296\ta")?;
-    expect_line(rt, alloc, large.as_str().as_bytes(), 1);
-    let long = format!(in alloc; "1\t{word}\t00000000002\ta")?;
-    expect_line(rt, alloc, long.as_str().as_bytes(), 1);
-    Ok(())
+/// Whether a word with these fields behind it is a line that doesn't read.
+fn is_refused_behind(alloc: Global, word: &str, fields: &str) -> Result<bool, AllocError> {
+    let line = format!(in alloc; "1\t{word}\t{fields}")?;
+    Ok(is_line(alloc, line.as_str().as_bytes(), 1))
+}
+
+/// Whether a word with DIR and NAME is refused: a field missing, one too many, a bad number, a large one, one of eleven digits.
+fn are_targets_refused(alloc: Global, word: &str) -> Result<bool, AllocError> {
+    for fields in ["2", "2\ta\tb", "two\ta", "4294967296\ta", "00000000002\ta"] {
+        if !is_refused_behind(alloc, word, fields)? {
+            return Ok(false);
+        }
+    }
+    Ok(true)
 }
 
 #[test]
 fn dirs_and_names(rt: HostRuntime) -> Result<(), Fail> {
-    let alloc = rt.alloc();
-    expect_targets_refused(&rt, alloc, "info")?;
-    expect_targets_refused(&rt, alloc, "create")?;
-    expect_targets_refused(&rt, alloc, "mkdir")?;
-    expect_targets_refused(&rt, alloc, "delete")?;
-    expect_targets_refused(&rt, alloc, "lock")?;
-    expect_targets_refused(&rt, alloc, "unlock")?;
-    expect_targets_refused(&rt, alloc, "newid")?;
+    for word in [
+        "info", "create", "mkdir", "delete", "lock", "unlock", "newid",
+    ] {
+        assert!(rt; are_targets_refused(rt.alloc(), word)?, "{word}");
+    }
     Ok(())
 }
 

@@ -2,7 +2,7 @@
 ghost use Rattle.std.specs.Prelude.{◌≡◌, All, IfSome};
 ghost use Rattle.std.specs.Thread.{IsSync};
 
-use crate::sharing::{begun, create, last, names_in, new_volume};
+use crate::sharing::{begun, create, last, list_of, new_volume, only, tells};
 use crate::waiting::waits_for;
 use hfs_model::{Bytes, Call, Reply, Value};
 use hfs_shared::{Done, Gate, Parts, Pass, Session, Shared, Told, Viewer, run_workers};
@@ -49,31 +49,36 @@ enum Listed {
     Another,
 }
 
-fn list_root(alloc: Global, viewer: &mut Viewer) -> Listed {
-    let Ok(reply) = viewer.list(alloc, 2) else {
-        return Listed::Another;
-    };
-    let Ok(names) = names_in(alloc, &reply) else {
-        return Listed::Another;
-    };
-    if names.as_slice() == b"".as_slice() {
+/// What a reply lists.
+fn listed_in(alloc: Global, reply: &Reply) -> Listed {
+    if tells(alloc, reply, b"").unwrap_or(false) {
         return Listed::Nothing;
     }
-    if names.as_slice() == b"a ".as_slice() {
+    if tells(alloc, reply, b"a ").unwrap_or(false) {
         return Listed::One;
     }
     Listed::Another
 }
 
-/// How many of a thousand lists are neither empty nor of the file, or empty where the file was listed before.
+fn list_root(alloc: Global, viewer: &mut Viewer) -> Listed {
+    match list_of(alloc, viewer) {
+        Ok(reply) => listed_in(alloc, &reply),
+        Err(_fault) => Listed::Another,
+    }
+}
+
+/// Whether a list is neither empty nor of the file, or empty where the file was listed before.
+fn is_lost(last: Listed, now: Listed) -> bool {
+    now == Listed::Another || (now == Listed::Nothing && last == Listed::One)
+}
+
+/// How many of a thousand lists are lost.
 fn count_lost(alloc: Global, viewer: &mut Viewer) -> u32 {
     let mut lost = 0_u32;
     let mut last = Listed::Nothing;
     for _turn in 0..1_000 {
         let now = list_root(alloc, viewer);
-        if now == Listed::Another || (now == Listed::Nothing && last == Listed::One) {
-            lost = lost.saturating_add(1);
-        }
+        lost = lost.saturating_add(u32::from(is_lost(last, now)));
         last = now;
         thread::yield_now();
     }
@@ -95,19 +100,32 @@ impl Watched for Within<'_> {
     }
 }
 
+/// A row of one call.
+fn row_of(alloc: Global, call: Call) -> Result<Vec<Call>, AllocError> {
+    let mut calls = Vec::new(alloc);
+    calls.push(call)?;
+    Ok(calls)
+}
+
+/// A job of one call.
+fn push_job(
+    alloc: Global,
+    jobs: &mut Vec<(Pass, Vec<Call>)>,
+    pass: Option<Pass>,
+    call: Call,
+) -> Result<(), Fail> {
+    let Some(pass) = pass else {
+        return Err(Fail::from("a pass"));
+    };
+    jobs.push((pass, row_of(alloc, call)?))?;
+    Ok(())
+}
+
 /// Worker 2 lists the root, and worker 1, whose job is the last, makes the file `a`.
-fn jobs_of(alloc: Global, mut passes: Vec<Pass>) -> Result<Vec<(Pass, Vec<Call>)>, AllocError> {
+fn jobs_of(alloc: Global, mut passes: Vec<Pass>) -> Result<Vec<(Pass, Vec<Call>)>, Fail> {
     let mut jobs = Vec::new(alloc);
-    if let Some(second) = passes.pop()
-        && let Some(first) = passes.pop()
-    {
-        let mut listing = Vec::new(alloc);
-        listing.push(Call::List { dir: 2 })?;
-        jobs.push((second, listing))?;
-        let mut making = Vec::new(alloc);
-        making.push(create(alloc, b"a")?)?;
-        jobs.push((first, making))?;
-    }
+    push_job(alloc, &mut jobs, passes.pop(), Call::List { dir: 2 })?;
+    push_job(alloc, &mut jobs, passes.pop(), create(alloc, b"a")?)?;
     Ok(jobs)
 }
 
@@ -203,6 +221,40 @@ fn id_seen(alloc: Global, viewer: &mut Viewer) -> Result<Option<u32>, Fail> {
 /// The ID that worker 1 is told, that which a viewer finds when it learned what was told, and what the other saw beside both workers.
 type Seen = (Option<u32>, Option<u32>, (bool, u32));
 
+/// The ID that a reply tells, and that which a viewer finds when it learned what was told.
+fn ids(
+    alloc: Global,
+    viewer: &mut Viewer,
+    reply: &Reply,
+    told: &Told,
+) -> Result<(Option<u32>, Option<u32>), Fail>
+    requires { told.now.book ≡ viewer.old.book }
+{
+    viewer.learn(told);
+    Ok((id_in(reply), id_seen(alloc, viewer)?))
+}
+
+/// What two viewers see, of which the second watches beside both workers.
+fn see_both<K: Session + Send + Sync, R: Threads + Wait + Sync>(
+    shared: &Shared<K>,
+    rt: &R,
+    alloc: Global,
+    gate: &Within,
+    passes: Vec<Pass>,
+    first: &mut Viewer,
+    second: Viewer,
+) -> Result<Seen, Fail>
+    requires { first.old.book ≡ K.book }
+{
+    let jobs = jobs_of(alloc, passes)?;
+    let (answer, watched) = answer_beside(shared, rt, alloc, gate, jobs, second);
+    let Some((reply, told)) = answer else {
+        return Err(Fail::from("no answer"));
+    };
+    let (made, found) = ids(alloc, first, &reply, &told)?;
+    Ok((made, found, watched))
+}
+
 fn see<K: Session + Send + Sync, R: Threads + Wait + Sync>(
     rt: &R,
     alloc: Global,
@@ -216,14 +268,8 @@ fn see<K: Session + Send + Sync, R: Threads + Wait + Sync>(
 {
     let shared = parts.share::<K>();
     let second = last::<K>(&mut viewers)?;
-    let mut first = last::<K>(&mut viewers)?;
-    let jobs = jobs_of(alloc, passes)?;
-    let (answer, watched) = answer_beside(&shared, rt, alloc, gate, jobs, second);
-    let Some((reply, told)) = answer else {
-        return Err(Fail::from("no answer"));
-    };
-    first.learn(&told);
-    Ok((id_in(&reply), id_seen(alloc, &mut first)?, watched))
+    let mut first = only::<K>(viewers)?;
+    see_both(&shared, rt, alloc, gate, passes, &mut first, second)
 }
 
 fn see_on_new<R: Threads + Wait + Sync>(
@@ -244,7 +290,7 @@ fn viewers_are_answered_while_a_worker_is_held(rt: HostRuntime) -> Result<(), Fa
         late: AtomicU64::new(0),
     };
     let seen = see_on_new(&rt, rt.alloc(), &gate)?;
-    assert!(rt; seen == (Some(16), Some(16), (true, 0)));
-    assert!(rt; gate.late.load(Ordering::SeqCst) == 0);
+    let late = gate.late.load(Ordering::SeqCst);
+    assert!(rt; seen == (Some(16), Some(16), (true, 0)) && late == 0);
     Ok(())
 }

@@ -1,7 +1,7 @@
 //! Closing a shared volume, and sharing it again.
-ghost use Rattle.std.specs.Prelude.{◌≡◌, All};
+ghost use Rattle.std.specs.Prelude.{◌≡◌, All, OnOk};
 
-use crate::sharing::{begun, closed, last, lists, make_file, names_in, new_volume};
+use crate::sharing::{begun, closed, lists, make_file, new_volume, only, tells};
 use hfs_model::Entry;
 use hfs_shared::{Closed, Parts, Pass, Session, Shared, Viewer};
 use hfs_volume::Volume;
@@ -37,6 +37,44 @@ fn has_ten(journal: &[Entry], worker: u32) -> bool {
     last == 10
 }
 
+/// Ten calls of each worker.
+fn make_tens<K: Session>(
+    rt: &impl Wait,
+    alloc: Global,
+    shared: &Shared<K>,
+    passes: &mut Vec<Pass>,
+) -> Result<(), Fail> {
+    for pass in passes {
+        make_ten(rt, alloc, shared, pass)?;
+    }
+    Ok(())
+}
+
+/// Closes, which is refused: what is shared, and the passes that are handed back.
+fn refused<K: Session>(
+    rt: &impl Wait,
+    shared: Shared<K>,
+    passes: Vec<Pass>,
+    viewer: &mut Viewer,
+) -> Result<(Shared<K>, Vec<Pass>), Fail>
+    requires { viewer.old.book ≡ K.book }
+    ensures { OnOk result (viewer.new.book ≡ K.book) }
+{
+    match shared.close(rt, passes, viewer) {
+        Ok(_closed) => Err(Fail::from("closed with one pass")),
+        Err(parts) => Ok(parts),
+    }
+}
+
+/// Both passes, where the first was handed back. An error where it is another.
+fn both(mut passes: Vec<Pass>, second: Pass) -> Result<Vec<Pass>, Fail> {
+    if passes.len() != 1 || !passes[0].is(1, 11) {
+        return Err(Fail::from("other passes"));
+    }
+    passes.push(second)?;
+    Ok(passes)
+}
+
 /// Closes with one pass of two, which is refused with that pass handed back, and then with both.
 fn close_twice<K: Session>(
     rt: &impl Wait,
@@ -47,14 +85,8 @@ fn close_twice<K: Session>(
     requires { viewer.old.book ≡ K.book }
 {
     let second = passes.pop().ok_or("a second pass")?;
-    let Err((shared, mut passes)) = shared.close(rt, passes, viewer) else {
-        return Err(Fail::from("closed with one pass"));
-    };
-    if passes.len() != 1 || !passes[0].is(1, 11) {
-        return Err(Fail::from("other passes"));
-    }
-    passes.push(second)?;
-    closed(rt, shared, passes, viewer)
+    let (shared, passes) = refused(rt, shared, passes, viewer)?;
+    closed(rt, shared, both(passes, second)?, viewer)
 }
 
 /// Two workers make ten calls each, and the volume is closed.
@@ -63,16 +95,14 @@ fn closed_after_twenty<K: Session, R: Wait>(
     alloc: Global,
     parts: Parts,
     mut passes: Vec<Pass>,
-    mut viewers: Vec<Viewer>,
+    viewers: Vec<Viewer>,
 ) -> Result<Closed, Fail>
     requires parts { (parts.book ≡ K.book) × (parts.opening ≡ K.opening) }
     requires viewers { All (λ k. k.book ≡ K.book) viewers.items }
 {
     let shared = parts.share::<K>();
-    let mut viewer = last::<K>(&mut viewers)?;
-    for pass in &mut passes {
-        make_ten(rt, alloc, &shared, pass)?;
-    }
+    let mut viewer = only::<K>(viewers)?;
+    make_tens(rt, alloc, &shared, &mut passes)?;
     close_twice(rt, shared, passes, &mut viewer)
 }
 
@@ -82,12 +112,17 @@ fn closed_one(rt: &impl Wait, alloc: Global) -> Result<Closed, Fail> {
     closed_after_twenty::<Brand, _>(rt, alloc, parts, passes, viewers)
 }
 
+/// How many entries a journal has, and how many of them are shown, and whether both workers have ten.
+fn counted(closed: &Closed) -> (usize, u64, bool) {
+    let journal = closed.journal.as_slice();
+    let have_ten = has_ten(journal, 1) && has_ten(journal, 2);
+    (journal.len(), closed.shown, have_ten)
+}
+
 #[test]
 fn a_journal_has_all_calls(rt: HostRuntime) -> Result<(), Fail> {
     let closed = closed_one(&rt, rt.alloc())?;
-    assert!(rt; closed.journal.len() == 20);
-    assert!(rt; closed.shown == 20);
-    assert!(rt; has_ten(closed.journal.as_slice(), 1) && has_ten(closed.journal.as_slice(), 2));
+    assert!(rt; counted(&closed) == (20, 20, true));
     Ok(())
 }
 
@@ -97,13 +132,13 @@ fn closed_untouched<K: Session, R: Wait>(
     alloc: Global,
     parts: Parts,
     passes: Vec<Pass>,
-    mut viewers: Vec<Viewer>,
+    viewers: Vec<Viewer>,
 ) -> Result<Volume, Fail>
     requires parts { (parts.book ≡ K.book) × (parts.opening ≡ K.opening) }
     requires viewers { All (λ k. k.book ≡ K.book) viewers.items }
 {
     let shared = parts.share::<K>();
-    let mut viewer = last::<K>(&mut viewers)?;
+    let mut viewer = only::<K>(viewers)?;
     if !lists(alloc, &mut viewer, b"a b c d e f g h i j ")? {
         return Err(Fail::from("another list"));
     }
@@ -117,19 +152,25 @@ fn shared_again(rt: &impl Wait, alloc: Global, volume: Volume) -> Result<Volume,
     closed_untouched::<Brand, _>(rt, alloc, parts, passes, viewers)
 }
 
-/// The names of the root's children, each with a space behind it.
-fn names_on(alloc: Global, volume: &Volume) -> Result<Vec<u8>, Fail> {
+/// The volume that two workers have closed. An error where no block of it changed.
+fn changed_one(rt: &impl Wait, alloc: Global) -> Result<Volume, Fail> {
+    let closed = closed_one(rt, alloc)?;
+    if closed.volume.changed() == 0 {
+        return Err(Fail::from("no block changed"));
+    }
+    Ok(closed.volume)
+}
+
+/// Whether these are the names of a volume's root's children, each with a space behind it.
+fn has_names(alloc: Global, volume: &Volume, wanted: &[u8]) -> Result<bool, Fail> {
     let reply = volume.list(alloc, 2)?;
-    Ok(names_in(alloc, &reply)?)
+    Ok(tells(alloc, &reply, wanted)?)
 }
 
 #[test]
 fn a_closed_volume_is_shared_again(rt: HostRuntime) -> Result<(), Fail> {
-    let closed = closed_one(&rt, rt.alloc())?;
-    assert!(rt; closed.volume.changed() > 0);
-    let volume = shared_again(&rt, rt.alloc(), closed.volume)?;
+    let volume = shared_again(&rt, rt.alloc(), changed_one(&rt, rt.alloc())?)?;
     assert!(rt; volume.changed() == 0);
-    let names = names_on(rt.alloc(), &volume)?;
-    assert!(rt; names.as_slice() == b"a b c d e f g h i j ".as_slice());
+    assert!(rt; has_names(rt.alloc(), &volume, b"a b c d e f g h i j ")?);
     Ok(())
 }

@@ -40,21 +40,19 @@ fn reads(
     }
 }
 
+/// What is read from an offset on, of so many bytes, with which code.
+const PARTS: [(u32, u32, i16, &[u8]); 3] = [
+    (1_530, 10, 0, b"\x18\x19\x1a\x1b\x1c\x1d\x1e\x1f\x20\x21"),
+    (1_995, 10, -39, b"\xee\xef\xf0\xf1\xf2"),
+    (0, 65_537, -50, b""),
+];
+
 #[test]
 fn a_fork_is_read(rt: HostRuntime) -> Result<(), Fail> {
     let mut viewer = viewer_of_one_file(&rt, rt.alloc())?;
-    let ten = b"\x18\x19\x1a\x1b\x1c\x1d\x1e\x1f\x20\x21";
-    assert!(rt; reads(rt.alloc(), &mut viewer, 1_530, 10, 0, ten)?);
-    assert!(rt;
-        reads(
-            rt.alloc(),
-            &mut viewer,
-            1_995,
-            10,
-            -39,
-            b"\xee\xef\xf0\xf1\xf2"
-        )?
-    );
-    assert!(rt; reads(rt.alloc(), &mut viewer, 0, 65_537, -50, b"")?);
+    for (offset, count, code, bytes) in PARTS {
+        let reads = reads(rt.alloc(), &mut viewer, offset, count, code, bytes)?;
+        assert!(rt; reads, "from byte {offset}");
+    }
     Ok(())
 }

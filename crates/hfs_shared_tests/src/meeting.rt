@@ -21,6 +21,14 @@ struct Meeting<'a> {
     late: AtomicU64,
 }
 
+impl Meeting<'_> {
+    /// How many are here, and how many waited in vain.
+    fn loaded(&self) -> (u64, u64) {
+        let here = self.here.load(Ordering::SeqCst);
+        (here, self.late.load(Ordering::SeqCst))
+    }
+}
+
 impl Gate for Meeting<'_> {
     fn before(&self, _worker: u32, stamp: u64) {
         if stamp == 1 {
@@ -68,17 +76,27 @@ impl Gate for Holding<'_> {
 /// Two calls that make the files `a` and `b` in the root.
 fn two_calls(alloc: Global) -> Result<Vec<Call>, AllocError> {
     let mut calls = Vec::new(alloc);
-    calls.push(create(alloc, b"a")?)?;
-    calls.push(create(alloc, b"b")?)?;
+    for letter in *b"ab" {
+        calls.push(create(alloc, &[letter])?)?;
+    }
     Ok(calls)
+}
+
+/// A job of two calls.
+fn push_job(
+    alloc: Global,
+    jobs: &mut Vec<(Pass, Vec<Call>)>,
+    pass: Pass,
+) -> Result<(), AllocError> {
+    jobs.push((pass, two_calls(alloc)?))?;
+    Ok(())
 }
 
 /// A job of two calls for each pass.
 fn jobs_of(alloc: Global, passes: Vec<Pass>) -> Result<Vec<(Pass, Vec<Call>)>, AllocError> {
     let mut jobs = Vec::new(alloc);
     for pass in passes {
-        let calls = two_calls(alloc)?;
-        jobs.push((pass, calls))?;
+        push_job(alloc, &mut jobs, pass)?;
     }
     Ok(jobs)
 }
@@ -136,25 +154,34 @@ fn eight_workers_meet(rt: HostRuntime) -> Result<(), Fail> {
         late: AtomicU64::new(0),
     };
     let counts = run_new(&rt, rt.alloc(), 8, &gate)?;
-    assert!(rt; counts == (16, 0));
-    assert!(rt; gate.here.load(Ordering::SeqCst) == 8);
-    assert!(rt; gate.late.load(Ordering::SeqCst) == 0);
+    let (here, late) = gate.loaded();
+    assert!(rt; counts == (16, 0) && here == 8 && late == 0);
     Ok(())
+}
+
+/// Two workers, one of which is held: how many replies there are, how many faults, and how many waited in vain.
+fn run_held<R: Threads + Wait + Sync>(
+    rt: &R,
+    clock: &HostRuntime,
+    alloc: Global,
+    held: u32,
+) -> Result<(usize, usize, u64), Fail> {
+    let gate = Holding {
+        clock,
+        held,
+        wanted: 2,
+        answered: AtomicU64::new(0),
+        late: AtomicU64::new(0),
+    };
+    let (replies, faults) = run_new(rt, alloc, 2, &gate)?;
+    Ok((replies, faults, gate.late.load(Ordering::SeqCst)))
 }
 
 #[test]
 fn either_worker_is_held(rt: HostRuntime) -> Result<(), Fail> {
     for held in [1, 2] {
-        let gate = Holding {
-            clock: &rt,
-            held,
-            wanted: 2,
-            answered: AtomicU64::new(0),
-            late: AtomicU64::new(0),
-        };
-        let counts = run_new(&rt, rt.alloc(), 2, &gate)?;
-        assert!(rt; counts == (4, 0));
-        assert!(rt; gate.late.load(Ordering::SeqCst) == 0);
+        let counts = run_held(&rt, &rt, rt.alloc(), held)?;
+        assert!(rt; counts == (4, 0, 0), "worker {held}");
     }
     Ok(())
 }

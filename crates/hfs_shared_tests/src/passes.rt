@@ -1,7 +1,7 @@
 //! Passes that are refused.
 ghost use Rattle.std.specs.Prelude.{◌≡◌, All};
 
-use crate::sharing::{begun, closed, create, last, make_file, new_volume, stamp_of};
+use crate::sharing::{begun, closed, create, last_pass, make_file, new_volume, only, stamp_of};
 use hfs_shared::{Parts, Pass, Session, Shared, Viewer};
 use std::alloc::Global;
 use std::marker::Brand;
@@ -11,6 +11,18 @@ use std::test::Fail;
 /// What a refusal tells and leaves: the stamp's two numbers, the pass's number, the entries of the journal, and the blocks of the
 /// volume that changed.
 type Refusal = (Option<(u64, u64)>, u64, usize, u32);
+
+/// Two calls of a worker.
+fn make_two<K: Session>(
+    rt: &impl Wait,
+    alloc: Global,
+    shared: &Shared<K>,
+    pass: &mut Pass,
+) -> Result<(), Fail> {
+    make_file(rt, alloc, shared, pass, b"a")?;
+    make_file(rt, alloc, shared, pass, b"b")?;
+    Ok(())
+}
 
 /// The first pass of two, when its worker has made two calls.
 fn used_twice<K: Session, R: Wait>(
@@ -23,9 +35,8 @@ fn used_twice<K: Session, R: Wait>(
 {
     let shared = parts.share::<K>();
     let _second = passes.pop();
-    let mut pass = passes.pop().ok_or("a pass")?;
-    make_file(rt, alloc, &shared, &mut pass, b"a")?;
-    make_file(rt, alloc, &shared, &mut pass, b"b")?;
+    let mut pass = last_pass(passes)?;
+    make_two(rt, alloc, &shared, &mut pass)?;
     Ok(pass)
 }
 
@@ -55,14 +66,14 @@ fn refused<K: Session, R: Wait>(
     alloc: Global,
     parts: Parts,
     passes: Vec<Pass>,
-    mut viewers: Vec<Viewer>,
+    viewers: Vec<Viewer>,
     mut pass: Pass,
 ) -> Result<Refusal, Fail>
     requires parts { (parts.book ≡ K.book) × (parts.opening ≡ K.opening) }
     requires viewers { All (λ k. k.book ≡ K.book) viewers.items }
 {
     let shared = parts.share::<K>();
-    let mut viewer = last::<K>(&mut viewers)?;
+    let mut viewer = only::<K>(viewers)?;
     let stamp = refused_stamp(rt, alloc, &shared, &mut pass)?;
     let closed = closed(rt, shared, passes, &mut viewer)?;
     Ok((

@@ -1,8 +1,8 @@
 //! A viewer beside a volume on which the same changes are made: when it learned of a change, it answers as the volume does.
 ghost use Rattle.std.specs.Prelude.{◌≡◌, All, OnOk};
 
-use crate::sharing::{begun, last, make, mounted};
-use hfs_fixtures::{FixtureFault, SmallVolume, new_image, small_image};
+use crate::sharing::{begun, last_pass, make, mounted, only};
+use hfs_fixtures::{SmallVolume, new_image, small_image};
 use hfs_model::{Bytes, Call, Fork, Reply};
 use hfs_scripts::{Script, read_script};
 use hfs_shared::{Parts, Pass, Session, Shared, ViewFault, Viewer};
@@ -13,6 +13,27 @@ use std::marker::Brand;
 use std::sync::Wait;
 use std::test::Fail;
 
+/// The 2 calls that ask for a file.
+fn push_named(
+    alloc: Global,
+    calls: &mut Vec<Call>,
+    dir: u32,
+    letter: u8,
+) -> Result<(), AllocError> {
+    calls.push(Call::GetCatInfo {
+        dir,
+        name: Bytes::from_slice(alloc, &[letter])?,
+    })?;
+    calls.push(Call::ReadFork {
+        dir,
+        name: Bytes::from_slice(alloc, &[letter])?,
+        fork: Fork::DataFork,
+        offset: 1_530,
+        count: 500,
+    })?;
+    Ok(())
+}
+
 /// The 25 calls that ask for a folder and what it may hold.
 fn push_asking(alloc: Global, calls: &mut Vec<Call>, dir: u32) -> Result<(), AllocError> {
     calls.push(Call::GetDirInfo { dir })?;
@@ -21,17 +42,7 @@ fn push_asking(alloc: Global, calls: &mut Vec<Call>, dir: u32) -> Result<(), All
         calls.push(Call::GetIndexed { dir, index })?;
     }
     for letter in *b"abfgxyzA{" {
-        calls.push(Call::GetCatInfo {
-            dir,
-            name: Bytes::from_slice(alloc, &[letter])?,
-        })?;
-        calls.push(Call::ReadFork {
-            dir,
-            name: Bytes::from_slice(alloc, &[letter])?,
-            fork: Fork::DataFork,
-            offset: 1_530,
-            count: 500,
-        })?;
+        push_named(alloc, calls, dir, letter)?;
     }
     Ok(())
 }
@@ -107,10 +118,15 @@ fn answer_of(alloc: Global, volume: &mut Volume, call: &Call) -> Result<Reply, A
     volume.call(alloc, call)
 }
 
+/// All that a reply tells.
+fn text_of(alloc: Global, reply: &Reply) -> Result<String, AllocError> {
+    reply_text(alloc, "1", 1, reply)
+}
+
 /// Two replies are the same, all that they tell.
 fn compare(alloc: Global, found: &Reply, wanted: &Reply) -> Result<(), Fail> {
-    let found = reply_text(alloc, "1", 1, found)?;
-    let wanted = reply_text(alloc, "1", 1, wanted)?;
+    let found = text_of(alloc, found)?;
+    let wanted = text_of(alloc, wanted)?;
     if *found.as_str() != *wanted.as_str() {
         return Err(Fail::from("another reply"));
     }
@@ -168,13 +184,53 @@ fn change<K: Session>(
     Ok(())
 }
 
+/// After a change the viewer answers each of these calls as the other volume.
+fn follow_one<K: Session>(
+    rt: &impl Wait,
+    alloc: Global,
+    shared: &Shared<K>,
+    pass: &mut Pass,
+    viewer: &mut Viewer,
+    volume: &mut Volume,
+    calls: &Vec<Call>,
+    call: Call,
+) -> Result<(), Fail>
+    requires { viewer.old.book ≡ K.book }
+    ensures { OnOk result (viewer.new.book ≡ K.book) }
+{
+    change(rt, alloc, shared, pass, viewer, volume, call)?;
+    compare_all(alloc, viewer, volume, calls)?;
+    Ok(())
+}
+
 /// After each change of a script the viewer answers as the other volume. It answers how many changes there are.
+fn follow_all<K: Session, R: Wait>(
+    rt: &R,
+    alloc: Global,
+    shared: &Shared<K>,
+    pass: &mut Pass,
+    viewer: &mut Viewer,
+    volume: &mut Volume,
+    script: Script,
+) -> Result<u32, Fail>
+    requires { viewer.old.book ≡ K.book }
+{
+    let calls = asking(alloc)?;
+    let mut changes = 0_u32;
+    for line in script.into_lines() {
+        follow_one(rt, alloc, shared, pass, viewer, volume, &calls, line.call)?;
+        changes = changes.saturating_add(1);
+    }
+    Ok(changes)
+}
+
+/// The same of the parts of a volume.
 fn follow<K: Session, R: Wait>(
     rt: &R,
     alloc: Global,
     parts: Parts,
-    mut passes: Vec<Pass>,
-    mut viewers: Vec<Viewer>,
+    passes: Vec<Pass>,
+    viewers: Vec<Viewer>,
     volume: &mut Volume,
     script: Script,
 ) -> Result<u32, Fail>
@@ -182,40 +238,41 @@ fn follow<K: Session, R: Wait>(
     requires viewers { All (λ k. k.book ≡ K.book) viewers.items }
 {
     let shared = parts.share::<K>();
-    let mut viewer = last::<K>(&mut viewers)?;
-    let mut pass = passes.pop().ok_or("a pass")?;
-    let calls = asking(alloc)?;
-    let mut changes = 0_u32;
-    for line in script.into_lines() {
-        change(
-            rt,
-            alloc,
-            &shared,
-            &mut pass,
-            &mut viewer,
-            volume,
-            line.call,
-        )?;
-        compare_all(alloc, &mut viewer, volume, &calls)?;
-        changes = changes.saturating_add(1);
-    }
-    Ok(changes)
+    let mut viewer = only::<K>(viewers)?;
+    let mut pass = last_pass(passes)?;
+    follow_all(rt, alloc, &shared, &mut pass, &mut viewer, volume, script)
 }
 
-/// The same of the volume of an image, and of the lines of a script.
+/// The script of these lines, at the moment 9.
+fn script_of(alloc: Global, lines: &[u8]) -> Result<Script, Fail> {
+    match read_script(alloc, lines, 9) {
+        Ok(script) => Ok(script),
+        Err(_fault) => Err(Fail::from("no script")),
+    }
+}
+
+/// The same of a volume, beside another one with the same bytes, and of the lines of a script.
 fn follow_lines(
     rt: &impl Wait,
     alloc: Global,
-    image: Result<Vec<u8>, FixtureFault>,
+    shared: Volume,
+    volume: &mut Volume,
     lines: &[u8],
 ) -> Result<u32, Fail> {
-    let image = image?;
+    let (parts, passes, viewers) = begun(rt, alloc, shared, 1, 1)?;
+    let script = script_of(alloc, lines)?;
+    follow::<Brand, _>(rt, alloc, parts, passes, viewers, volume, script)
+}
+
+/// The same of the volume of an image.
+fn follow_image(rt: &impl Wait, alloc: Global, image: Vec<u8>, lines: &[u8]) -> Result<u32, Fail> {
     let mut volume = mounted(alloc, image.clone()?)?;
-    let Ok(script) = read_script(alloc, lines, 9) else {
-        return Err(Fail::from("no script"));
-    };
-    let (parts, passes, viewers) = begun(rt, alloc, mounted(alloc, image)?, 1, 1)?;
-    follow::<Brand, _>(rt, alloc, parts, passes, viewers, &mut volume, script)
+    follow_lines(rt, alloc, mounted(alloc, image)?, &mut volume, lines)
+}
+
+/// The same of a new volume with so many nodes of the catalog.
+fn follow_new(rt: &impl Wait, alloc: Global, nodes: u32, lines: &[u8]) -> Result<u32, Fail> {
+    follow_image(rt, alloc, new_image(alloc, nodes)?, lines)
 }
 
 /// Folders in one another, a file that is locked, set, found by its ID, renamed, moved and deleted.
@@ -237,18 +294,19 @@ const FULL: &[u8] = b"1\tcreate\t2\ta\n1\tcreate\t2\tb\n1\tcreate\t2\tc\n1\tcrea
 
 #[test]
 fn a_viewer_answers_as_the_volume(rt: HostRuntime) -> Result<(), Fail> {
-    let alloc = rt.alloc();
-    assert!(rt; follow_lines(&rt, alloc, new_image(alloc, 40), FOLDERS)? == 20);
-    assert!(rt; follow_lines(&rt, alloc, new_image(alloc, 40), NAMES)? == 11);
-    assert!(rt; follow_lines(&rt, alloc, new_image(alloc, 4), FULL)? == 8);
-    let file = small_image(alloc, SmallVolume::OneFile);
-    assert!(rt;
-        follow_lines(
-            &rt,
-            alloc,
-            file,
-            b"1\tlock\t2\tf\n1\tunlock\t2\tf\n1\trename\t2\tf\tg\n1\tdelete\t2\tg\n"
-        )? == 4
-    );
+    for (nodes, lines, changes) in [(40, FOLDERS, 20), (40, NAMES, 11), (4, FULL, 8)] {
+        let followed = follow_new(&rt, rt.alloc(), nodes, lines)?;
+        assert!(rt; followed == changes, "a script of {changes} changes");
+    }
+    Ok(())
+}
+
+/// A file with a fork, which is locked, renamed and deleted.
+const ONE_FILE: &[u8] = b"1\tlock\t2\tf\n1\tunlock\t2\tf\n1\trename\t2\tf\tg\n1\tdelete\t2\tg\n";
+
+#[test]
+fn a_viewer_answers_as_a_volume_with_a_file(rt: HostRuntime) -> Result<(), Fail> {
+    let image = small_image(rt.alloc(), SmallVolume::OneFile)?;
+    assert!(rt; follow_image(&rt, rt.alloc(), image, ONE_FILE)? == 4);
     Ok(())
 }

@@ -2,8 +2,8 @@
 ghost use Rattle.std.specs.Prelude.{◌≡◌, ◌<◌, ◌≤◌, All, IfOk, OnOk};
 
 use hfs_fixtures::new_image;
-use hfs_model::{Bytes, Call, Reply, Value};
-use hfs_shared::{CallFault, Closed, Parts, Pass, Session, Shared, Told, Viewer};
+use hfs_model::{Bytes, Call, Info, Reply, Value};
+use hfs_shared::{CallFault, Closed, Parts, Pass, Session, Shared, Told, ViewFault, Viewer};
 use hfs_volume::{Volume, mount};
 use std::alloc::{AllocError, Global};
 use std::sync::Wait;
@@ -49,6 +49,19 @@ pub fn last<K: Session>(viewers: &mut Vec<Viewer>) -> Result<Viewer, Fail>
         Some(viewer) => Ok(viewer),
         None => Err(Fail::from("no viewer")),
     }
+}
+
+/// The one viewer of these.
+pub fn only<K: Session>(mut viewers: Vec<Viewer>) -> Result<Viewer, Fail>
+    requires { All (λ k. k.book ≡ K.book) viewers.items }
+    ensures { IfOk result (λ v. v.book ≡ K.book) }
+{
+    last::<K>(&mut viewers)
+}
+
+/// The last of the passes, where the others are left aside.
+pub fn last_pass(mut passes: Vec<Pass>) -> Result<Pass, Fail> {
+    Ok(passes.pop().ok_or("a pass")?)
 }
 
 /// A call that makes a file in the root.
@@ -113,24 +126,51 @@ pub fn closed<K: Session>(
     }
 }
 
-/// The names that a reply tells, each with a space behind it.
-pub fn names_in(alloc: Global, reply: &Reply) -> Result<Vec<u8>, AllocError> {
+/// Pushes a name and a space.
+fn push_name(text: &mut Vec<u8>, name: &[u8]) -> Result<(), AllocError> {
+    text.extend_from_slice(name)?;
+    text.push(b' ')?;
+    Ok(())
+}
+
+/// The names of these items, each with a space behind it.
+fn names_of(alloc: Global, infos: &[Info]) -> Result<Vec<u8>, AllocError> {
     let mut text = Vec::new(alloc);
-    if let Value::Many(infos) = &reply.value {
-        for info in infos.as_slice() {
-            text.extend_from_slice(info.name.bytes())?;
-            text.push(b' ')?;
-        }
+    for info in infos {
+        push_name(&mut text, info.name.bytes())?;
     }
     Ok(text)
+}
+
+/// Whether a reply tells these names, each with a space behind it.
+pub fn tells(alloc: Global, reply: &Reply, wanted: &[u8]) -> Result<bool, AllocError> {
+    match &reply.value {
+        Value::Many(infos) => Ok(*names_of(alloc, infos.as_slice())?.as_slice() == *wanted),
+        Value::Nothing
+        | Value::Id(_)
+        | Value::One(_)
+        | Value::Bytes(_)
+        | Value::Place { .. }
+        | Value::Full { .. } => Ok(wanted.is_empty()),
+    }
+}
+
+/// What a viewer lists of the root.
+pub fn list_of(alloc: Global, viewer: &mut Viewer) -> Result<Reply, ViewFault>
+    ensures { OnOk result (viewer.new.book ≡ viewer.old.book) }
+{
+    match viewer.list(alloc, 2) {
+        Ok(reply) => Ok(reply),
+        Err(fault) => Err(fault),
+    }
 }
 
 /// Whether these are the names of the root's children, each with a space behind it.
 pub fn lists(alloc: Global, viewer: &mut Viewer, wanted: &[u8]) -> Result<bool, Fail>
     ensures { OnOk result (viewer.new.book ≡ viewer.old.book) }
 {
-    match viewer.list(alloc, 2) {
-        Ok(reply) => Ok(*names_in(alloc, &reply)?.as_slice() == *wanted),
+    match list_of(alloc, viewer) {
+        Ok(reply) => Ok(tells(alloc, &reply, wanted)?),
         Err(_fault) => Err(Fail::from("no list")),
     }
 }

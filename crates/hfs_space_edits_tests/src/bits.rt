@@ -42,12 +42,12 @@ fn released(rt: &(impl Abort + AllocGlobal), extents: &[Extent]) -> Result<([u8;
 fn both_forks(rt: HostRuntime) -> Result<(), Fail> {
     let data = [extent(10, 1), extent(12, 1), extent(0, 0), extent(14, 1)];
     let (bytes, free) = released(&rt, &data)?;
-    assert_eq!(rt; bytes, [0xff, 0, 0x80, 0]);
-    assert_eq!(rt; free, 49);
+    assert!(rt; bytes == [0xff, 0, 0x80, 0]);
+    assert!(rt; free == 49);
     let both = [extent(10, 1), extent(12, 1), extent(14, 1), extent(16, 1)];
     let (bytes, free) = released(&rt, &both)?;
-    assert_eq!(rt; bytes, [0xff, 0, 0, 0]);
-    assert_eq!(rt; free, 50);
+    assert!(rt; bytes == [0xff, 0, 0, 0]);
+    assert!(rt; free == 50);
     Ok(())
 }
 
@@ -55,8 +55,8 @@ fn both_forks(rt: HostRuntime) -> Result<(), Fail> {
 fn stray_blocks_stay(rt: HostRuntime) -> Result<(), Fail> {
     // block 12 is marked, and stands between two blocks that go
     let (bytes, free) = released(&rt, &[extent(10, 1), extent(14, 1)])?;
-    assert_eq!(rt; bytes, [0xff, 0x08, 0x80, 0]);
-    assert_eq!(rt; free, 48);
+    assert!(rt; bytes == [0xff, 0x08, 0x80, 0]);
+    assert!(rt; free == 48);
     Ok(())
 }
 
@@ -64,15 +64,15 @@ fn stray_blocks_stay(rt: HostRuntime) -> Result<(), Fail> {
 fn extents_without_blocks(rt: HostRuntime) -> Result<(), Fail> {
     let none = [extent(10, 0), extent(57, 0), extent(65_535, 0)];
     let (bytes, free) = released(&rt, &none)?;
-    assert_eq!(rt; bytes, [0xff, 0x2a, 0x80, 0]);
-    assert_eq!(rt; free, 46);
+    assert!(rt; bytes == [0xff, 0x2a, 0x80, 0]);
+    assert!(rt; free == 46);
     Ok(())
 }
 
 #[test]
 fn a_block_that_is_clear_already(rt: HostRuntime) -> Result<(), Fail> {
     let (bytes, free) = released(&rt, &[extent(8, 3), extent(10, 1), extent(57, 1)])?;
-    assert_eq!(rt; bytes, [0xff, 0x0a, 0x80, 0]);
-    assert_eq!(rt; free, 47);
+    assert!(rt; bytes == [0xff, 0x0a, 0x80, 0]);
+    assert!(rt; free == 47);
     Ok(())
 }

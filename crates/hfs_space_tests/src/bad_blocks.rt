@@ -7,6 +7,7 @@ use crate::bytes::mdb_with;
 use hfs_btree::NodeList;
 use hfs_fields::Extent;
 use hfs_space::{fork_fault, owned_extents};
+use std::alloc::{AllocError, Global};
 use std::test::Fail;
 
 /// The header node: depth 1, root, first and last leaf 1, two records, two nodes, none of them free.
@@ -44,42 +45,47 @@ fn bad_blocks_tree() -> [[u8; 512]; 2]
     [header_node(), leaf_node()]
 }
 
-#[test]
-fn bad_blocks_of_the_volume(rt: HostRuntime) -> Result<(), Fail> {
+/// Whether the forks of a volume with so many allocation blocks and this tree have this fault.
+fn has_fault(alloc: Global, allocation_blocks: u16, fault: usize) -> Result<bool, AllocError> {
     let list = bad_blocks_tree();
     let tree = NodeList { nodes: &list };
+    let mdb = mdb_with(allocation_blocks, 1, 4);
+    Ok(fork_fault(alloc, &mdb, &tree, &[], 8)? == Some(fault))
+}
+
+#[test]
+fn bad_blocks_of_the_volume(rt: HostRuntime) -> Result<(), Fail> {
     // Of 41 blocks the last is block 40; record 1 has no block.
-    for allocation_blocks in [41, 58] {
-        let mdb = mdb_with(allocation_blocks, 1, 4);
-        let fault = fork_fault(rt.alloc(), &mdb, &tree, &[], 8)?;
-        assert_eq!(rt; fault, Some(9));
+    for (allocation_blocks, fault) in [(41, 9), (58, 9), (40, 8)] {
+        let is_told = has_fault(rt.alloc(), allocation_blocks, fault)?;
+        assert!(rt; is_told, "{allocation_blocks} blocks");
     }
-    let smaller = mdb_with(40, 1, 4);
-    let fault = fork_fault(rt.alloc(), &smaller, &tree, &[], 8)?;
-    assert_eq!(rt; fault, Some(8));
     Ok(())
+}
+
+/// The extents that are owned where there are only bad blocks.
+fn owned_with_bad_blocks(alloc: Global) -> Result<Vec<Extent>, AllocError> {
+    let list = bad_blocks_tree();
+    let tree = NodeList { nodes: &list };
+    owned_extents(alloc, &mdb_with(58, 1, 4), &tree, &[])
+}
+
+/// Whether of twelve extents the two of the bad blocks stand behind six others.
+fn are_bad_blocks_owned(owned: &[Extent]) -> bool {
+    let first = Extent {
+        first: 30,
+        count: 2,
+    };
+    let second = Extent {
+        first: 40,
+        count: 1,
+    };
+    owned.len() == 12 && owned.get(6) == Some(&first) && owned.get(7) == Some(&second)
 }
 
 #[test]
 fn bad_blocks_are_owned(rt: HostRuntime) -> Result<(), Fail> {
-    let list = bad_blocks_tree();
-    let tree = NodeList { nodes: &list };
-    let mdb = mdb_with(58, 1, 4);
-    let owned = owned_extents(rt.alloc(), &mdb, &tree, &[])?;
-    assert_eq!(rt; owned.len(), 12);
-    assert!(rt;
-        owned.get(6).copied()
-            == Some(Extent {
-                first: 30,
-                count: 2
-            })
-    );
-    assert!(rt;
-        owned.get(7).copied()
-            == Some(Extent {
-                first: 40,
-                count: 1
-            })
-    );
+    let owned = owned_with_bad_blocks(rt.alloc())?;
+    assert!(rt; are_bad_blocks_owned(&owned));
     Ok(())
 }

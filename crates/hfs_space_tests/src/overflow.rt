@@ -4,13 +4,12 @@ ghost use Rattle.hfs_space.specs.TreeKeys.{IsExtentsTree};
 ghost use Rattle.hfs_space_tests.specs.OverflowTree.{header_bytes, leaf_bytes};
 
 use crate::bytes::mdb_with;
-use hfs_blocks::ImageBytes;
+use crate::forks::part;
 use hfs_btree::NodeList;
 use hfs_fields::{Extent, FileRecord, ForkRecord};
 use hfs_fixtures::{SmallVolume, small_image};
-use hfs_space::{
-    CatalogFile, ForkKind, are_within, fork_extents, fork_fault, owned_extents, read_fork,
-};
+use hfs_space::{CatalogFile, ForkKind, fork_extents, fork_fault, owned_extents};
+use std::alloc::{AllocError, Global};
 use std::test::Fail;
 
 /// The header node: depth 1, root, first and last leaf 1, four records, two nodes, none of them free.
@@ -61,11 +60,32 @@ fn laid_extents() -> [Extent; 3] {
     [extent(10, 1), extent(12, 1), extent(14, 1)]
 }
 
-#[test]
-fn forks_go_on_in_the_tree(rt: HostRuntime) -> Result<(), Fail> {
+/// The extents of a fork whose record has these first ones.
+fn extents_in_tree(
+    alloc: Global,
+    file: u32,
+    kind: ForkKind,
+    first: &[Extent; 3],
+) -> Result<Vec<Extent>, AllocError> {
     let list = overflow_tree();
     let tree = NodeList { nodes: &list };
-    let laid = fork_extents(rt.alloc(), &tree, 16, ForkKind::Data, &laid_extents())?;
+    fork_extents(alloc, &tree, file, kind, first)
+}
+
+/// Whether a fork whose record has these first extents has these in all.
+fn has_extents(
+    alloc: Global,
+    file: u32,
+    kind: ForkKind,
+    first: &[Extent; 3],
+    wanted: &[Extent],
+) -> Result<bool, AllocError> {
+    let found = extents_in_tree(alloc, file, kind, first)?;
+    Ok(found.as_slice() == wanted)
+}
+
+#[test]
+fn forks_go_on_in_the_tree(rt: HostRuntime) -> Result<(), Fail> {
     let wanted = [
         extent(10, 1),
         extent(12, 1),
@@ -74,19 +94,15 @@ fn forks_go_on_in_the_tree(rt: HostRuntime) -> Result<(), Fail> {
         NONE,
         NONE,
     ];
-    assert!(rt; laid.as_slice() == wanted.as_slice());
-    let from_the_start = fork_extents(rt.alloc(), &tree, 17, ForkKind::Data, &[NONE; 3])?;
+    assert!(rt; has_extents(rt.alloc(), 16, ForkKind::Data, &laid_extents(), &wanted)?);
     let wanted = [NONE, NONE, NONE, extent(20, 2), NONE, NONE];
-    assert!(rt; from_the_start.as_slice() == wanted.as_slice());
+    assert!(rt; has_extents(rt.alloc(), 17, ForkKind::Data, &[NONE; 3], &wanted)?);
     Ok(())
 }
 
 #[test]
 fn seven_extents(rt: HostRuntime) -> Result<(), Fail> {
-    let list = overflow_tree();
-    let tree = NodeList { nodes: &list };
     let first = [extent(24, 1), extent(26, 1), extent(28, 1)];
-    let seven = fork_extents(rt.alloc(), &tree, 18, ForkKind::Data, &first)?;
     let wanted = [
         extent(24, 1),
         extent(26, 1),
@@ -98,19 +114,17 @@ fn seven_extents(rt: HostRuntime) -> Result<(), Fail> {
         NONE,
         NONE,
     ];
-    assert!(rt; seven.as_slice() == wanted.as_slice());
+    assert!(rt; has_extents(rt.alloc(), 18, ForkKind::Data, &first, &wanted)?);
     Ok(())
 }
 
+/// The other fork of file 16, and file 18 at another block.
 #[test]
 fn forks_end_where_nothing_goes_on(rt: HostRuntime) -> Result<(), Fail> {
-    let list = overflow_tree();
-    let tree = NodeList { nodes: &list };
-    let other_fork = fork_extents(rt.alloc(), &tree, 16, ForkKind::Resource, &laid_extents())?;
-    assert!(rt; other_fork.as_slice() == laid_extents().as_slice());
+    let laid = laid_extents();
+    assert!(rt; has_extents(rt.alloc(), 16, ForkKind::Resource, &laid, &laid)?);
     let two_blocks = [extent(24, 2), NONE, NONE];
-    let at_another_block = fork_extents(rt.alloc(), &tree, 18, ForkKind::Data, &two_blocks)?;
-    assert!(rt; at_another_block.as_slice() == two_blocks.as_slice());
+    assert!(rt; has_extents(rt.alloc(), 18, ForkKind::Data, &two_blocks, &two_blocks)?);
     Ok(())
 }
 
@@ -128,30 +142,21 @@ fn laid_record() -> [u8; 102] {
     bytes
 }
 
-#[test]
-fn a_file_is_read_by_its_record(rt: HostRuntime) -> Result<(), Fail> {
-    let Some(file) = FileRecord::read(&laid_record()) else {
+/// Ten bytes of a file's data fork from 1,530 on, by its record.
+fn part_by_record(alloc: Global, image: &[u8], record: &[u8; 102]) -> Result<Vec<u8>, Fail> {
+    let Some(file) = FileRecord::read(record) else {
         return Err(Fail::new("not a file's record"));
     };
-    let list = overflow_tree();
-    let tree = NodeList { nodes: &list };
-    let data = ForkKind::Data;
-    let extents = fork_extents(rt.alloc(), &tree, file.id, data, &file.data.extents)?;
+    let extents = extents_in_tree(alloc, file.id, ForkKind::Data, &file.data.extents)?;
+    part(alloc, image, &extents, file.data.length, 1_530, 10)
+}
+
+#[test]
+fn a_file_is_read_by_its_record(rt: HostRuntime) -> Result<(), Fail> {
     let image = small_image(rt.alloc(), SmallVolume::OneFile)?;
-    assert!(rt; image.len() == 64 * 512);
-    let blocks = ImageBytes { bytes: &image };
-    let mdb = mdb_with(58, 1, 4);
-    assert!(rt;
-        mdb.allocation_blocks == 58 && mdb.allocation_block_size == 512 && mdb.allocation_start == 4
-    );
-    assert!(rt; are_within(&extents, 58));
-    // From 1,530 on the last bytes of the third block and the first of the fourth, which the tree has.
-    let length = file.data.length;
-    let middle = read_fork(rt.alloc(), &blocks, &mdb, &extents, length, 1_530, 10)?;
-    assert_eq!(rt;
-        middle.as_slice(),
-        [24, 25, 26, 27, 28, 29, 30, 31, 32, 33].as_slice()
-    );
+    let middle = part_by_record(rt.alloc(), &image, &laid_record())?;
+    // The last bytes of the third block and the first of the fourth, which the tree has.
+    assert!(rt; middle.as_slice() == [24, 25, 26, 27, 28, 29, 30, 31, 32, 33].as_slice());
     Ok(())
 }
 
@@ -172,70 +177,78 @@ fn laid_files() -> [CatalogFile; 3] {
     ]
 }
 
-#[test]
-fn sound_extents(rt: HostRuntime) -> Result<(), Fail> {
+/// Whether the forks of a volume with so many allocation blocks, these files and so many records have this fault, or none.
+fn has_fault(
+    alloc: Global,
+    allocation_blocks: u16,
+    files: &[CatalogFile],
+    records: u16,
+    fault: Option<usize>,
+) -> Result<bool, AllocError> {
     let list = overflow_tree();
     let tree = NodeList { nodes: &list };
-    let mdb = mdb_with(58, 1, 4);
-    let fault = fork_fault(rt.alloc(), &mdb, &tree, &laid_files(), 8)?;
-    assert_eq!(rt; fault, None);
+    let mdb = mdb_with(allocation_blocks, 1, 4);
+    Ok(fork_fault(alloc, &mdb, &tree, files, usize::from(records))? == fault)
+}
+
+#[test]
+fn sound_extents(rt: HostRuntime) -> Result<(), Fail> {
+    assert!(rt; has_fault(rt.alloc(), 58, &laid_files(), 8, None)?);
     Ok(())
 }
 
 #[test]
 fn records_that_no_fork_goes_on_with(rt: HostRuntime) -> Result<(), Fail> {
-    let list = overflow_tree();
-    let tree = NodeList { nodes: &list };
-    let mdb = mdb_with(58, 1, 4);
     let [first, second, third] = laid_files();
     // File 17 isn't there; the tree's record 1 is its.
-    let fault = fork_fault(rt.alloc(), &mdb, &tree, &[first, third], 8)?;
-    assert_eq!(rt; fault, Some(9));
+    assert!(rt; has_fault(rt.alloc(), 58, &[first, third], 8, Some(9))?);
     // File 18 ends a block earlier, so that neither record 2 nor 3 goes on.
     let shorter = file_with(6, 18, 512, [extent(24, 1), extent(26, 1), NONE]);
-    let fault = fork_fault(rt.alloc(), &mdb, &tree, &[first, second, shorter], 8)?;
-    assert_eq!(rt; fault, Some(10));
-    let fault = fork_fault(rt.alloc(), &mdb, &tree, &[], 0)?;
-    assert_eq!(rt; fault, Some(0));
+    assert!(rt; has_fault(rt.alloc(), 58, &[first, second, shorter], 8, Some(10))?);
+    assert!(rt; has_fault(rt.alloc(), 58, &[], 0, Some(0))?);
     Ok(())
 }
 
 #[test]
 fn wrong_forks(rt: HostRuntime) -> Result<(), Fail> {
-    let list = overflow_tree();
-    let tree = NodeList { nodes: &list };
     let [first, second, third] = laid_files();
     // Four blocks have 2,048 bytes.
-    let mdb = mdb_with(58, 1, 4);
     let longer = file_with(3, 16, 2_049, laid_extents());
-    let fault = fork_fault(rt.alloc(), &mdb, &tree, &[longer, second, third], 8)?;
-    assert_eq!(rt; fault, Some(3));
+    assert!(rt; has_fault(rt.alloc(), 58, &[longer, second, third], 8, Some(3))?);
     // The last overflow record of file 18 has block 36.
-    let smaller = mdb_with(36, 1, 4);
-    let fault = fork_fault(rt.alloc(), &smaller, &tree, &[first, second, third], 8)?;
-    assert_eq!(rt; fault, Some(6));
+    assert!(rt; has_fault(rt.alloc(), 36, &[first, second, third], 8, Some(6))?);
     // A fault of the resource fork.
     let mut other = third;
     other.file.resource.length = 1;
-    let fault = fork_fault(rt.alloc(), &mdb, &tree, &[first, second, other], 8)?;
-    assert_eq!(rt; fault, Some(6));
+    assert!(rt; has_fault(rt.alloc(), 58, &[first, second, other], 8, Some(6))?);
     Ok(())
 }
 
-#[test]
-fn owned_extents_of_all_forks(rt: HostRuntime) -> Result<(), Fail> {
+/// The extents that the laid files and the files of the two trees own.
+fn owned_by_all(alloc: Global) -> Result<Vec<Extent>, AllocError> {
     let list = overflow_tree();
     let tree = NodeList { nodes: &list };
     let mut mdb = mdb_with(58, 1, 4);
     mdb.catalog_file = [extent(2, 6), NONE, NONE];
     mdb.extents_file = [extent(0, 2), NONE, NONE];
-    let owned = owned_extents(rt.alloc(), &mdb, &tree, &laid_files())?;
-    let mut some = Vec::new(rt.alloc());
-    for one in &owned {
+    owned_extents(alloc, &mdb, &tree, &laid_files())
+}
+
+/// Those of the extents that have a block.
+fn with_blocks(alloc: Global, owned: &[Extent]) -> Result<Vec<Extent>, AllocError> {
+    let mut some = Vec::new(alloc);
+    for one in owned {
         if one.count > 0 {
             some.push(*one)?;
         }
     }
+    Ok(some)
+}
+
+#[test]
+fn owned_extents_of_all_forks(rt: HostRuntime) -> Result<(), Fail> {
+    let owned = owned_by_all(rt.alloc())?;
+    let some = with_blocks(rt.alloc(), &owned)?;
     let wanted = [
         extent(2, 6),
         extent(10, 1),
@@ -256,14 +269,17 @@ fn owned_extents_of_all_forks(rt: HostRuntime) -> Result<(), Fail> {
     Ok(())
 }
 
+/// Whether a file of this number is read from its record, and has this ID.
+fn is_read(number: usize, record: &[u8], id: u32) -> bool {
+    match CatalogFile::read(number, record) {
+        Some(file) => file.number == number && file.file.id == id,
+        None => false,
+    }
+}
+
 #[test]
 fn files_of_a_catalog(rt: HostRuntime) {
-    let body = laid_record();
-    let Some(file) = CatalogFile::read(7, &body) else {
-        return assert!(rt; false, "not a file's record");
-    };
-    assert_eq!(rt; file.number, 7);
-    assert_eq!(rt; file.file.id, 16);
+    assert!(rt; is_read(7, &laid_record(), 16));
     assert!(rt; CatalogFile::read(7, &[2; 101]).is_none());
     assert!(rt; CatalogFile::read(7, &[0; 102]).is_none());
 }

@@ -4,9 +4,9 @@ use crate::progress::Progress;
 use crate::words::{ForkWords, NewVolume, RunWords, Words};
 use hfs_check::MountFault;
 use hfs_commands::{
-    BlockSource, Fault, ImageFile, Status, check_text, code_text, list_text, load_file,
-    load_script, needed_check_text, needed_fork, needed_list_text, open_image, put, refused_text,
-    repair_answer, run_info, run_script_at, save_file, write_file, write_fork,
+    BlockSource, Fault, ImageFile, RepairAnswer, Status, check_text, code_text, list_text,
+    load_file, load_script, needed_check_text, needed_fork, needed_list_text, open_image, put,
+    refused_text, repair_answer, run_info, run_script_at, save_file, write_file, write_fork,
 };
 use hfs_format::{FormatPlan, format};
 use hfs_model::Reply;
@@ -118,16 +118,23 @@ fn print_list<'a>(rt: &HostRuntime, path: &'a str, dir: u32) -> Result<u8, Fault
 fn print_fork<'a>(rt: &HostRuntime, file: &ForkWords<'a>) -> Result<u8, Fault<'a>> {
     match open_image(rt, file.image)? {
         ImageFile::Seekable { mut source, len } => print_needed_fork(rt, file, &mut source, len),
-        ImageFile::Whole(image) => {
-            let volume = mounted(rt, image)?;
-            let (name, fork) = (file.name.as_bytes(), file.fork);
-            let reply = write_fork(rt.alloc(), &mut rt.stdout(), &volume, file.dir, name, fork)?;
-            if reply.code == 0 {
-                return Ok(Status::Done.number());
-            }
-            print_code(rt, &reply)
-        }
+        ImageFile::Whole(image) => print_whole_fork(rt, file, image),
     }
+}
+
+/// Prints the bytes of a file's fork, out of a whole image.
+fn print_whole_fork<'a>(
+    rt: &HostRuntime,
+    file: &ForkWords<'a>,
+    image: Vec<u8>,
+) -> Result<u8, Fault<'a>> {
+    let volume = mounted(rt, image)?;
+    let (name, fork) = (file.name.as_bytes(), file.fork);
+    let reply = write_fork(rt.alloc(), &mut rt.stdout(), &volume, file.dir, name, fork)?;
+    if reply.code == 0 {
+        return Ok(Status::Done.number());
+    }
+    print_code(rt, &reply)
 }
 
 /// Prints the bytes of a file's fork, of which the blocks are read where they are needed.
@@ -186,9 +193,18 @@ fn write_repaired<'a>(rt: &HostRuntime, path: &'a str, file: &'a str) -> Result<
         Err(Fault::Refused(why)) => return print_refused(rt, why),
         Err(fault) => return Err(fault),
     };
-    let Ok(answer) = repair_answer(rt.alloc(), image) else {
-        return Err(Fault::NoMemory);
-    };
+    match repair_answer(rt.alloc(), image) {
+        Ok(answer) => write_answer(rt, file, &answer),
+        Err(_refused) => Err(Fault::NoMemory),
+    }
+}
+
+/// Writes a mended volume to a file, and prints what was mended.
+fn write_answer<'a>(
+    rt: &HostRuntime,
+    file: &'a str,
+    answer: &RepairAnswer,
+) -> Result<u8, Fault<'a>> {
     if let Some(volume) = &answer.volume {
         save_file(rt, file, volume)?;
     }

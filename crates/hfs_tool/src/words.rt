@@ -100,8 +100,8 @@ fn moment<'a>(alloc: Global) -> Arg<'a> {
         .help("The moment, in seconds since midnight of 1 January 1904")
 }
 
-/// The program's number, and the toolchain that proved it.
-const VERSION: &str = "0.1.0 (proved with rattle-kit-13f logic dac8208d650f15bf)";
+/// The program's number, and the logic that it is proved in: kits that differ in their tools alone have the same.
+const VERSION: &str = "0.1.0 (proved with Rattle's logic dac8208d650f15bf)";
 
 /// What the numbers of checks mean.
 const CHECKS: &str = "What is printed where the volume is not sound:
@@ -150,19 +150,32 @@ After a fault its text is printed where the result would have been: test the sta
 
 /// The program's command, with a subcommand for each word.
 fn command<'a>(alloc: Global) -> Result<Command<'a>, AllocError> {
-    Command::new(alloc, "hfs_tool")
+    let bare = Command::new(alloc, "hfs_tool")
         .about(
             "Reads and checks HFS volumes, runs scripts on them, mends their counts, and makes new ones. With no words: info on standard input",
         )
         .version(VERSION)
-        .after_help(AFTER_HELP)
-        .subcommand(info_command(alloc)?)?
-        .subcommand(check_command(alloc)?)?
-        .subcommand(list_command(alloc)?)?
-        .subcommand(cat_command(alloc)?)?
-        .subcommand(new_command(alloc)?)?
-        .subcommand(repair_command(alloc)?)?
-        .subcommand(run_command(alloc)?)
+        .after_help(AFTER_HELP);
+    let reading = with_reading_words(alloc, bare)?;
+    let with_new = with_word(reading, new_command(alloc))?;
+    let with_repair = with_word(with_new, repair_command(alloc))?;
+    with_word(with_repair, run_command(alloc))
+}
+
+/// A command with one subcommand more.
+fn with_word<'a>(
+    command: Command<'a>,
+    word: Result<Command<'a>, AllocError>,
+) -> Result<Command<'a>, AllocError> {
+    command.subcommand(word?)
+}
+
+/// A command with the words that read an image.
+fn with_reading_words<'a>(alloc: Global, bare: Command<'a>) -> Result<Command<'a>, AllocError> {
+    let with_info = with_word(bare, info_command(alloc))?;
+    let with_check = with_word(with_info, check_command(alloc))?;
+    let with_list = with_word(with_check, list_command(alloc))?;
+    with_word(with_list, cat_command(alloc))
 }
 
 fn info_command<'a>(alloc: Global) -> Result<Command<'a>, AllocError> {
@@ -178,38 +191,45 @@ fn check_command<'a>(alloc: Global) -> Result<Command<'a>, AllocError> {
         .arg(image(alloc))
 }
 
-fn list_command<'a>(alloc: Global) -> Result<Command<'a>, AllocError> {
-    let dir = Arg::new(alloc, "DIR")
+/// The ID of a folder, the root's where it isn't given.
+fn folder<'a>(alloc: Global) -> Arg<'a> {
+    Arg::new(alloc, "DIR")
         .action(ArgAction::Set)
         .value_parser(value_parser!(u32).range(0..=4294967295))
         .default_value("2")
-        .help("The ID of the folder");
+        .help("The ID of the folder")
+}
+
+fn list_command<'a>(alloc: Global) -> Result<Command<'a>, AllocError> {
     Command::new(alloc, "ls")
         .about(
             "Prints a line for each child of a folder: kind, ID, valence or data length, 0 or resource length, name",
         )
         .arg(image(alloc))?
-        .arg(dir)
+        .arg(folder(alloc))
+}
+
+/// The choice of a file's resource fork.
+fn resource<'a>(alloc: Global) -> Arg<'a> {
+    Arg::new(alloc, "resource")
+        .long("resource")
+        .action(ArgAction::SetTrue)
+        .help("The resource fork in place of the data fork")
 }
 
 fn cat_command<'a>(alloc: Global) -> Result<Command<'a>, AllocError> {
-    let resource = Arg::new(alloc, "resource")
-        .long("resource")
-        .action(ArgAction::SetTrue)
-        .help("The resource fork in place of the data fork");
     Command::new(alloc, "cat")
         .about("Writes the bytes of a file's fork, and nothing else")
         .arg(image(alloc))?
         .arg(number(alloc, "DIR").help("The ID of the folder that holds the file"))?
         .arg(name(alloc).help("The file's name"))?
-        .arg(resource)
+        .arg(resource(alloc))
 }
 
 fn new_command<'a>(alloc: Global) -> Result<Command<'a>, AllocError> {
-    let file = word(alloc, "FILE").help("The file that is written; what it has is lost");
     Command::new(alloc, "new")
         .about("Writes a new, empty volume, in place of what the file has")
-        .arg(file)?
+        .arg(word(alloc, "FILE").help("The file that is written; what it has is lost"))?
         .arg(name(alloc).help("The volume's name, 1 to 27 characters"))?
         .arg(number(alloc, "BLOCKS").help("Blocks of 512 bytes, 8 to 4,194,304"))?
         .arg(number(alloc, "NODES").help("Nodes of the catalog, at least 2"))?
@@ -218,33 +238,33 @@ fn new_command<'a>(alloc: Global) -> Result<Command<'a>, AllocError> {
 }
 
 fn repair_command<'a>(alloc: Global) -> Result<Command<'a>, AllocError> {
-    let file = word(alloc, "FILE").help(
-        "The file that is written, in place of what it has; it may be the image",
-    );
     Command::new(alloc, "repair")
         .about("Writes a volume with its counts mended, where nothing else is wrong")
         .arg(image(alloc))?
-        .arg(file)
+        .arg(word(alloc, "FILE").help(
+            "The file that is written, in place of what it has; it may be the image",
+        ))
 }
 
-fn run_command<'a>(alloc: Global) -> Result<Command<'a>, AllocError> {
-    let script = word(alloc, "SCRIPT").help(
-        "The calls, one a line; docs/SCRIPTS.md has the language",
-    );
-    let out = Arg::new(alloc, "out")
+/// The file of a changed image.
+fn out<'a>(alloc: Global) -> Arg<'a> {
+    Arg::new(alloc, "out")
         .long("out")
         .value_name("FILE")
         .action(ArgAction::Set)
-        .help("The file that gets the changed image, in place of what it has; it may be the image");
+        .help("The file that gets the changed image, in place of what it has; it may be the image")
+}
+
+fn run_command<'a>(alloc: Global) -> Result<Command<'a>, AllocError> {
     Command::new(alloc, "run")
         .about(
             "Runs a script of calls by several workers and viewers at once, and prints the answers",
         )
         .after_help(RUNS)
         .arg(image(alloc))?
-        .arg(script)?
+        .arg(word(alloc, "SCRIPT").help("The calls, one a line; docs/SCRIPTS.md has the language"))?
         .arg(moment(alloc))?
-        .arg(out)
+        .arg(out(alloc))
 }
 
 /// Reads the words, the first of which is the program's own name. An error is clap's: help that was asked for, refused

@@ -12,18 +12,28 @@ fn children(alloc: Global, rows: &Rows, dir: u32) -> Result<Vec<Info>, AllocErro
     }
 }
 
+/// The call that reads one of a child's forks.
 fn read_fork(alloc: Global, child: &Info, fork: Fork, offset: u32) -> Result<Call, AllocError> {
-    let name = Bytes::from_slice(alloc, child.name.bytes())?;
     Ok(Call::ReadFork {
         dir: child.parent,
-        name,
+        name: Bytes::from_slice(alloc, child.name.bytes())?,
         fork,
         offset,
         count: 65536,
     })
 }
 
-/// The calls that ask for a child, the first of which spells its name in small letters.
+/// The call that asks for a child by its name in small letters.
+fn small_name(alloc: Global, child: &Info) -> Result<Call, AllocError> {
+    let mut name = Vec::from_slice(alloc, child.name.bytes())?;
+    name.make_ascii_lowercase();
+    Ok(Call::GetCatInfo {
+        dir: child.parent,
+        name: Bytes::new(name),
+    })
+}
+
+/// The calls that ask for a child.
 fn push_child(
     alloc: Global,
     calls: &mut Vec<Call>,
@@ -31,12 +41,7 @@ fn push_child(
     index: u32,
 ) -> Result<(), AllocError> {
     let dir = child.parent;
-    let mut name = Vec::from_slice(alloc, child.name.bytes())?;
-    name.make_ascii_lowercase();
-    calls.push(Call::GetCatInfo {
-        dir,
-        name: Bytes::new(name),
-    })?;
+    calls.push(small_name(alloc, child)?)?;
     calls.push(Call::GetIndexed { dir, index })?;
     for fork in [Fork::DataFork, Fork::ResFork] {
         calls.push(read_fork(alloc, child, fork, 0)?)?;
@@ -45,24 +50,40 @@ fn push_child(
     Ok(())
 }
 
+/// The calls that ask for the children of an ID, and for the place behind the last of them.
+fn push_children(
+    alloc: Global,
+    calls: &mut Vec<Call>,
+    children: &[Info],
+    dir: u32,
+) -> Result<(), AllocError> {
+    let mut index = 0;
+    for child in children {
+        calls.push(Call::GetIndexed { dir, index })?;
+        index = index.saturating_add(1);
+        push_child(alloc, calls, child, index)?;
+    }
+    let index = index.saturating_add(1);
+    calls.push(Call::GetIndexed { dir, index })?;
+    Ok(())
+}
+
+/// The call that asks for an item that no folder has.
+fn no_item(alloc: Global, dir: u32) -> Result<Call, AllocError> {
+    Ok(Call::GetCatInfo {
+        dir,
+        name: Bytes::from_slice(alloc, b"no such item")?,
+    })
+}
+
 /// The calls that ask for an ID and for what it holds.
 fn push_id(alloc: Global, calls: &mut Vec<Call>, rows: &Rows, id: u32) -> Result<(), AllocError> {
     calls.push(Call::GetDirInfo { dir: id })?;
     calls.push(Call::List { dir: id })?;
     calls.push(Call::ResolveFileId { id })?;
-    let mut index = 0;
-    for child in children(alloc, rows, id)?.iter() {
-        calls.push(Call::GetIndexed { dir: id, index })?;
-        index = index.saturating_add(1);
-        push_child(alloc, calls, child, index)?;
-    }
-    calls.push(Call::GetIndexed {
-        dir: id,
-        index: index.saturating_add(1),
-    })?;
-    let name = Bytes::from_slice(alloc, b"no such item")?;
-    calls.push(Call::GetCatInfo { dir: id, name })?;
-    Ok(())
+    calls.push(no_item(alloc, id)?)?;
+    let children = children(alloc, rows, id)?;
+    push_children(alloc, calls, &children, id)
 }
 
 /// Every reading call for the IDs below `last`.

@@ -2,46 +2,97 @@
 use crate::asking::reading_calls;
 use crate::same::is_same;
 use hfs_fixtures::{SmallVolume, small_image};
+use hfs_model::Call;
 use hfs_view::Rows;
 use hfs_volume::{Volume, mount};
 use std::alloc::{AllocError, Global};
+use std::process::Abort;
 use std::test::Fail;
 
 /// The volume of an image, which is sound.
-pub fn mounted(alloc: Global, image: Vec<u8>) -> Result<Volume, Fail> {
+fn mounted(alloc: Global, image: Vec<u8>) -> Result<Volume, Fail> {
     match mount(alloc, image) {
         Ok(volume) => Ok(volume),
         Err(refused) => Err(Fail::from(refused.fault)),
     }
 }
 
-/// How many reading calls rows answer otherwise than their volume, and how many there were.
-fn count_unlike(alloc: Global, volume: &Volume) -> Result<(u32, usize), AllocError> {
-    let rows = Rows::of(alloc, volume)?;
-    let calls = reading_calls(alloc, &rows, volume.next_id().min(100))?;
-    let mut unlike = 0_u32;
-    for call in calls.iter() {
-        if call.is_reading() && !is_same(&rows.read(alloc, call)?, &volume.read(alloc, call)?) {
-            unlike = unlike.saturating_add(1);
-        }
+/// A small volume, mounted.
+pub fn small_volume(alloc: Global, small: SmallVolume) -> Result<Volume, Fail> {
+    let image = small_image(alloc, small)?;
+    mounted(alloc, image)
+}
+
+/// Whether rows answer a reading call otherwise than their volume.
+fn is_unlike(alloc: Global, rows: &Rows, volume: &Volume, call: &Call) -> Result<bool, AllocError> {
+    if !call.is_reading() {
+        return Ok(false);
     }
-    Ok((unlike, calls.len()))
+    let reply = rows.read(alloc, call)?;
+    let wanted = volume.read(alloc, call)?;
+    Ok(!is_same(&reply, &wanted))
+}
+
+/// Wants rows to answer so many reading calls, and each as their volume.
+fn expect_alike(
+    rt: &impl Abort,
+    alloc: Global,
+    rows: &Rows,
+    volume: &Volume,
+    calls: &[Call],
+    count: usize,
+) -> Result<(), Fail> {
+    assert!(rt; calls.len() == count);
+    for (at, call) in calls.iter().enumerate() {
+        assert!(rt; !is_unlike(alloc, rows, volume, call)?, "call {at}");
+    }
+    Ok(())
+}
+
+/// Wants rows of a volume to answer so many reading calls as the volume.
+fn expect_rows_alike(
+    rt: &impl Abort,
+    alloc: Global,
+    rows: &Rows,
+    volume: &Volume,
+    count: usize,
+) -> Result<(), Fail> {
+    let calls = reading_calls(alloc, rows, volume.next_id().min(100))?;
+    expect_alike(rt, alloc, rows, volume, &calls, count)
+}
+
+/// Wants the rows of a volume to answer so many reading calls as the volume.
+fn expect_own_rows(
+    rt: &impl Abort,
+    alloc: Global,
+    volume: &Volume,
+    count: usize,
+) -> Result<(), Fail> {
+    let rows = Rows::of(alloc, volume)?;
+    expect_rows_alike(rt, alloc, &rows, volume, count)
+}
+
+/// Wants the rows of a small volume to answer so many reading calls as the volume.
+fn expect_small(
+    rt: &impl Abort,
+    alloc: Global,
+    small: SmallVolume,
+    count: usize,
+) -> Result<(), Fail> {
+    let volume = small_volume(alloc, small)?;
+    expect_own_rows(rt, alloc, &volume, count)
 }
 
 #[test]
 fn rows_answer_as_their_volume(rt: HostRuntime) -> Result<(), Fail> {
-    let volumes = [
+    for (small, count) in [
         (SmallVolume::New, 80),
         (SmallVolume::OneFile, 92),
         (SmallVolume::TwoFiles, 104),
         (SmallVolume::TwoLevels, 92),
         (SmallVolume::FileThread, 104),
-    ];
-    for (small, count) in volumes {
-        let volume = mounted(rt.alloc(), small_image(rt.alloc(), small)?)?;
-        let (unlike, calls) = count_unlike(rt.alloc(), &volume)?;
-        assert_eq!(rt; unlike, 0);
-        assert_eq!(rt; calls, count);
+    ] {
+        expect_small(&rt, rt.alloc(), small, count)?;
     }
     Ok(())
 }

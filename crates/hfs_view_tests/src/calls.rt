@@ -18,22 +18,24 @@ pub enum Change<'a> {
     DeleteId(u32),
 }
 
-fn name_of(alloc: Global, change: &Change) -> Result<Bytes, AllocError> {
+/// The folder of the call, or its file ID, and the name in the folder, empty where the call has none.
+fn place_of<'a>(change: &Change<'a>) -> (u32, &'a [u8]) {
     match *change {
-        Change::Create(_, name) => Bytes::from_slice(alloc, name),
-        Change::DirCreate(_, name) => Bytes::from_slice(alloc, name),
-        Change::Delete(_, name) => Bytes::from_slice(alloc, name),
-        Change::Rename(_, name, _) => Bytes::from_slice(alloc, name),
-        Change::Move(_, name, _) => Bytes::from_slice(alloc, name),
-        Change::SetFInfo(_, name) => Bytes::from_slice(alloc, name),
-        Change::SetInfo(_, name) => Bytes::from_slice(alloc, name),
-        Change::Lock(_, name) => Bytes::from_slice(alloc, name),
-        Change::Unlock(_, name) => Bytes::from_slice(alloc, name),
-        Change::CreateId(_, name) => Bytes::from_slice(alloc, name),
-        Change::DeleteId(_) => Bytes::from_slice(alloc, b""),
+        Change::Create(dir, name) => (dir, name),
+        Change::DirCreate(dir, name) => (dir, name),
+        Change::Delete(dir, name) => (dir, name),
+        Change::Rename(dir, name, _) => (dir, name),
+        Change::Move(dir, name, _) => (dir, name),
+        Change::SetFInfo(dir, name) => (dir, name),
+        Change::SetInfo(dir, name) => (dir, name),
+        Change::Lock(dir, name) => (dir, name),
+        Change::Unlock(dir, name) => (dir, name),
+        Change::CreateId(dir, name) => (dir, name),
+        Change::DeleteId(id) => (id, b""),
     }
 }
 
+/// The call that sets all Finder bytes to 7, and the dates to 1, 2 and 3.
 fn set_info(dir: u32, name: Bytes, now: u32) -> Call {
     Call::SetCatInfo {
         dir,
@@ -46,35 +48,48 @@ fn set_info(dir: u32, name: Bytes, now: u32) -> Call {
     }
 }
 
+/// The call that renames an item.
+fn rename(
+    alloc: Global,
+    dir: u32,
+    name: Bytes,
+    new_name: &[u8],
+    now: u32,
+) -> Result<Call, AllocError> {
+    let new_name = Bytes::from_slice(alloc, new_name)?;
+    Ok(Call::Rename {
+        dir,
+        name,
+        new_name,
+        now,
+    })
+}
+
 /// The call at that moment. Finder bytes are set to 7, dates to 1, 2 and 3.
 pub fn call_of(alloc: Global, change: &Change, now: u32) -> Result<Call, AllocError> {
-    let name = name_of(alloc, change)?;
+    let (dir, name) = place_of(change);
+    let name = Bytes::from_slice(alloc, name)?;
     Ok(match *change {
-        Change::Create(dir, _) => Call::Create { dir, name, now },
-        Change::DirCreate(dir, _) => Call::DirCreate { dir, name, now },
-        Change::Delete(dir, _) => Call::Delete { dir, name, now },
-        Change::Rename(dir, _, new_name) => Call::Rename {
-            dir,
-            name,
-            new_name: Bytes::from_slice(alloc, new_name)?,
-            now,
-        },
-        Change::Move(dir, _, new_dir) => Call::CatMove {
+        Change::Create(_, _) => Call::Create { dir, name, now },
+        Change::DirCreate(_, _) => Call::DirCreate { dir, name, now },
+        Change::Delete(_, _) => Call::Delete { dir, name, now },
+        Change::Rename(_, _, new_name) => return rename(alloc, dir, name, new_name, now),
+        Change::Move(_, _, new_dir) => Call::CatMove {
             dir,
             name,
             new_dir,
             now,
         },
-        Change::SetFInfo(dir, _) => Call::SetFInfo {
+        Change::SetFInfo(_, _) => Call::SetFInfo {
             dir,
             name,
             info: [7; 16],
             now,
         },
-        Change::SetInfo(dir, _) => set_info(dir, name, now),
-        Change::Lock(dir, _) => Call::SetFLock { dir, name, now },
-        Change::Unlock(dir, _) => Call::RstFLock { dir, name, now },
-        Change::CreateId(dir, _) => Call::CreateFileId { dir, name, now },
+        Change::SetInfo(_, _) => set_info(dir, name, now),
+        Change::Lock(_, _) => Call::SetFLock { dir, name, now },
+        Change::Unlock(_, _) => Call::RstFLock { dir, name, now },
+        Change::CreateId(_, _) => Call::CreateFileId { dir, name, now },
         Change::DeleteId(id) => Call::DeleteFileId { id, now },
     })
 }

@@ -16,11 +16,13 @@ fn numbers(info: &Info) -> [u32; 8] {
     ]
 }
 
+/// Whether two names have the same bytes.
 fn is_same_name(a: &Name, b: &Name) -> bool {
     *a.bytes() == *b.bytes()
 }
 
-pub fn is_same_info(a: &Info, b: &Info) -> bool {
+/// Whether the same is told of two items.
+fn is_same_info(a: &Info, b: &Info) -> bool {
     numbers(a) == numbers(b)
         && is_same_name(&a.name, &b.name)
         && a.finder == b.finder
@@ -29,10 +31,20 @@ pub fn is_same_info(a: &Info, b: &Info) -> bool {
         && a.has_id == b.has_id
 }
 
+/// Whether the same is told of items in the same order.
 fn are_same_infos(a: &[Info], b: &[Info]) -> bool {
-    a.len() == b.len() && a.iter().zip(b.iter()).all(|(x, y)| is_same_info(x, y))
+    if a.len() != b.len() {
+        return false;
+    }
+    for (x, y) in a.iter().zip(b.iter()) {
+        if !is_same_info(x, y) {
+            return false;
+        }
+    }
+    true
 }
 
+/// Whether two values are the same.
 fn is_same_value(a: &Value, b: &Value) -> bool {
     match (a, b) {
         (Value::Nothing, Value::Nothing) => true,

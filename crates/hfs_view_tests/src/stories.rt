@@ -1,50 +1,132 @@
 //! Rows that take in changes answer as the plain program that makes them.
 use crate::asking::reading_calls;
-use crate::beside_volumes::mounted;
+use crate::beside_volumes::small_volume;
 use crate::calls::{Change, call_of};
 use crate::same::is_same;
 use hfs_fields::Name;
-use hfs_fixtures::{SmallVolume, small_image};
+use hfs_fixtures::SmallVolume;
 use hfs_model::Call;
 use hfs_store::PlainVolume;
 use hfs_view::Rows;
+use hfs_volume::Volume;
 use std::alloc::{AllocError, Global};
 use std::process::Abort;
 use std::test::Fail;
 
-/// How many reading calls the rows answer otherwise than the plain volume.
-fn count_unlike(alloc: Global, rows: &Rows, plain: &mut PlainVolume) -> Result<u32, AllocError> {
-    let calls = reading_calls(alloc, rows, plain.next_id().min(100))?;
-    let mut unlike = 0_u32;
-    for call in calls.iter() {
-        if call.is_reading() && !is_same(&rows.read(alloc, call)?, &plain.call(call)?) {
-            unlike = unlike.saturating_add(1);
-        }
+/// Whether rows answer a reading call otherwise than the plain volume.
+fn is_unlike(
+    alloc: Global,
+    rows: &Rows,
+    plain: &mut PlainVolume,
+    call: &Call,
+) -> Result<bool, AllocError> {
+    if !call.is_reading() {
+        return Ok(false);
     }
-    Ok(unlike)
+    let reply = rows.read(alloc, call)?;
+    let wanted = plain.call(call)?;
+    Ok(!is_same(&reply, &wanted))
 }
 
-/// A new volume named `D`, as rows of an image and plainly.
-fn new_pair(alloc: Global) -> Result<(Rows, PlainVolume), Fail> {
-    let volume = mounted(alloc, small_image(alloc, SmallVolume::New)?)?;
-    let rows = Rows::of(alloc, &volume)?;
-    let name = Name::new(b"D").ok_or("no name")?;
-    Ok((rows, PlainVolume::new(alloc, name, 0)?))
-}
-
-/// Makes the changes in both, the first at moment 1, and wants the code of each, and the same answers to all reading calls
-/// after each.
-pub fn expect_same(rt: &impl Abort, alloc: Global, changes: &[(Change, i16)]) -> Result<(), Fail> {
-    let (mut rows, mut plain) = new_pair(alloc)?;
-    let mut now = 0_u32;
-    for (change, code) in changes.iter() {
-        now = now.saturating_add(1);
-        let call: Call = call_of(alloc, change, now)?;
-        rows.absorb(&call)?;
-        assert_eq!(rt; plain.call(&call)?.code, *code);
-        assert_eq!(rt; count_unlike(alloc, &rows, &mut plain)?, 0);
+/// Wants rows to answer each of these reading calls as the plain volume.
+fn expect_calls_alike(
+    rt: &impl Abort,
+    alloc: Global,
+    rows: &Rows,
+    plain: &mut PlainVolume,
+    calls: &[Call],
+) -> Result<(), Fail> {
+    for (at, call) in calls.iter().enumerate() {
+        assert!(rt; !is_unlike(alloc, rows, plain, call)?, "call {at}");
     }
     Ok(())
+}
+
+/// Wants rows to answer all reading calls as the plain volume.
+fn expect_alike(
+    rt: &impl Abort,
+    alloc: Global,
+    rows: &Rows,
+    plain: &mut PlainVolume,
+) -> Result<(), Fail> {
+    let calls = reading_calls(alloc, rows, plain.next_id().min(100))?;
+    expect_calls_alike(rt, alloc, rows, plain, &calls)
+}
+
+/// Makes a call in both; the code.
+fn make(
+    alloc: Global,
+    rows: &mut Rows,
+    plain: &mut PlainVolume,
+    change: &Change,
+    now: u32,
+) -> Result<i16, AllocError> {
+    let call = call_of(alloc, change, now)?;
+    rows.absorb(&call)?;
+    made(plain, &call)
+}
+
+/// Makes a call in the plain volume; the code.
+fn made(plain: &mut PlainVolume, call: &Call) -> Result<i16, AllocError> {
+    let reply = plain.call(call)?;
+    Ok(reply.code)
+}
+
+/// Makes the changes in both, the first at moment 1.
+fn expect_changes(
+    rt: &impl Abort,
+    alloc: Global,
+    rows: &mut Rows,
+    plain: &mut PlainVolume,
+    changes: &[(Change, i16)],
+) -> Result<(), Fail> {
+    let mut now = 0_u32;
+    for (change, code) in changes {
+        now = now.saturating_add(1);
+        assert!(rt;
+            make(alloc, rows, plain, change, now)? == *code,
+            "change {now}"
+        );
+        expect_alike(rt, alloc, rows, plain)?;
+    }
+    Ok(())
+}
+
+/// A new volume named `D`.
+fn new_plain(alloc: Global) -> Result<PlainVolume, AllocError> {
+    match Name::new(b"D") {
+        Some(name) => PlainVolume::new(alloc, name, 0),
+        None => Err(AllocError),
+    }
+}
+
+/// Makes the changes in rows and in a new plain volume.
+fn expect_beside(
+    rt: &impl Abort,
+    alloc: Global,
+    rows: &mut Rows,
+    changes: &[(Change, i16)],
+) -> Result<(), Fail> {
+    let mut plain = new_plain(alloc)?;
+    expect_changes(rt, alloc, rows, &mut plain, changes)
+}
+
+/// The rows of a new volume named `D`.
+fn new_rows(alloc: Global) -> Result<Rows, Fail> {
+    let volume = small_volume(alloc, SmallVolume::New)?;
+    rows_of(alloc, &volume)
+}
+
+/// The rows of a volume.
+fn rows_of(alloc: Global, volume: &Volume) -> Result<Rows, Fail> {
+    Ok(Rows::of(alloc, volume)?)
+}
+
+/// Makes the changes in rows of an image and in a plain volume, both new, the first at moment 1, and wants the code of each, and
+/// the same answers to all reading calls after each.
+pub fn expect_same(rt: &impl Abort, alloc: Global, changes: &[(Change, i16)]) -> Result<(), Fail> {
+    let mut rows = new_rows(alloc)?;
+    expect_beside(rt, alloc, &mut rows, changes)
 }
 
 #[test]

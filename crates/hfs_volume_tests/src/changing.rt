@@ -1,88 +1,132 @@
 //! Calls that are run as a list, and a changed volume that is saved by a writer that fails.
+use crate::fixture::is_saved_as;
 use hfs_fixtures::{SmallVolume, lay, tiny_image};
-use hfs_model::{Bytes, Call};
+use hfs_model::{Bytes, Call, Reply};
 use hfs_volume::Volume;
 use hfs_volume_fixtures::{FrontWriter, mounted, patterned, set_f_info, small_volume};
 use std::alloc::{AllocError, Global};
+use std::process::Abort;
 use std::test::Fail;
 
 /// The bytes 1 to 16.
 const ONE_TO_SIXTEEN: [u8; 16] = [1, 2, 3, 4, 5, 6, 7, 8, 9, 10, 11, 12, 13, 14, 15, 16];
 
+/// The call that locks the file `f`.
+fn lock_f(alloc: Global) -> Result<Call, AllocError> {
+    Ok(Call::SetFLock {
+        dir: 2,
+        name: Bytes::from_slice(alloc, b"f")?,
+        now: 5,
+    })
+}
+
+/// The call that sets the Finder bytes of the file `f`.
+fn set_f(alloc: Global) -> Result<Call, AllocError> {
+    Ok(Call::SetFInfo {
+        dir: 2,
+        name: Bytes::from_slice(alloc, b"f")?,
+        info: ONE_TO_SIXTEEN,
+        now: 6,
+    })
+}
+
 /// The calls that lock the file `f`, set its Finder bytes, and ask for the root.
 fn three_calls(alloc: Global) -> Result<Vec<Call>, AllocError> {
     let mut calls = Vec::new(alloc);
-    let name = Bytes::from_slice(alloc, b"f")?;
-    calls.push(Call::SetFLock {
-        dir: 2,
-        name,
-        now: 5,
-    })?;
-    let name = Bytes::from_slice(alloc, b"f")?;
-    calls.push(Call::SetFInfo {
-        dir: 2,
-        name,
-        info: ONE_TO_SIXTEEN,
-        now: 6,
-    })?;
+    calls.push(lock_f(alloc)?)?;
+    calls.push(set_f(alloc)?)?;
     calls.push(Call::GetDirInfo { dir: 2 })?;
     Ok(calls)
 }
 
-/// The codes of calls that are made one after the other.
-fn codes_of(volume: &mut Volume, alloc: Global, calls: &[Call]) -> Result<Vec<i16>, AllocError> {
-    let replies = volume.run(alloc, calls)?;
-    let mut codes = Vec::new(alloc);
-    for reply in replies.iter() {
-        codes.push(reply.code)?;
+/// Whether these are the codes of replies.
+fn have_codes(replies: &[Reply], codes: [i16; 3]) -> bool {
+    match replies {
+        [first, second, third] => [first.code, second.code, third.code] == codes,
+        _ => false,
     }
-    Ok(codes)
+}
+
+/// Whether calls, made one after the other, are answered by these codes.
+fn are_answered(
+    volume: &mut Volume,
+    alloc: Global,
+    calls: &[Call],
+    codes: [i16; 3],
+) -> Result<bool, Fail> {
+    let replies = volume.run(alloc, calls)?;
+    Ok(have_codes(replies.as_slice(), codes))
+}
+
+/// Whether the three calls, made one after the other, are answered by these codes.
+fn are_three_answered(volume: &mut Volume, alloc: Global, codes: [i16; 3]) -> Result<bool, Fail> {
+    let calls = three_calls(alloc)?;
+    are_answered(volume, alloc, &calls, codes)
+}
+
+/// Wants the three calls to be answered in their order.
+fn expect_answers(rt: &impl Abort, volume: &mut Volume, alloc: Global) -> Result<(), Fail> {
+    assert!(rt; are_three_answered(volume, alloc, [0, -45, 0])?);
+    Ok(())
 }
 
 #[test]
 fn calls_are_run_in_their_order(rt: HostRuntime) -> Result<(), Fail> {
     let mut volume = small_volume(rt.alloc(), SmallVolume::OneFile)?;
-    let calls = three_calls(rt.alloc())?;
-    let codes = codes_of(&mut volume, rt.alloc(), calls.as_slice())?;
-    assert!(rt; codes.as_slice() == [0, -45, 0].as_slice());
-    Ok(())
+    expect_answers(&rt, &mut volume, rt.alloc())
+}
+
+/// Whether a writer that fails after so many bytes is told of so many.
+fn is_told(volume: &Volume, writer: &mut FrontWriter, left: usize) -> bool {
+    match volume.save(writer) {
+        Ok(()) => false,
+        Err(fault) => fault.written == left as u64,
+    }
 }
 
 /// Whether a writer that fails after so many bytes gets the first of these and no others.
 fn is_front(volume: &Volume, whole: &[u8], left: usize) -> bool {
     let mut writer = FrontWriter::new(whole, left);
-    let is_told = match volume.save(&mut writer) {
-        Ok(()) => false,
-        Err(fault) => fault.written == left as u64,
-    };
-    is_told && writer.has_taken(left)
+    is_told(volume, &mut writer, left) && writer.has_taken(left)
 }
 
-/// Whether a writer that takes so many bytes gets all of these.
-fn is_whole(volume: &Volume, whole: &[u8], left: usize) -> bool {
-    let mut writer = FrontWriter::new(whole, left);
-    let is_saved = volume.save(&mut writer).is_ok();
-    is_saved && writer.has_taken(left)
+/// The smallest volume with 100 bytes more.
+fn tiny_volume(alloc: Global) -> Result<Vec<u8>, Fail> {
+    Ok(patterned(tiny_image(alloc)?)?)
 }
 
-/// The smallest volume with 100 bytes more, and what SetFInfo makes of it.
-fn tiny_images(alloc: Global) -> Result<(Vec<u8>, Vec<u8>), Fail> {
-    let image = patterned(tiny_image(alloc)?)?;
-    let mut want = image.clone()?;
-    lay(&mut want, 2, 6, &[0, 0, 0, 7])?;
-    lay(&mut want, 7, 290, &ONE_TO_SIXTEEN)?;
-    Ok((image, want))
+/// What SetFInfo makes of the smallest volume with 100 bytes more.
+fn changed_volume(alloc: Global) -> Result<Vec<u8>, Fail> {
+    let mut image = tiny_volume(alloc)?;
+    lay(&mut image, 2, 6, &[0, 0, 0, 7])?;
+    lay(&mut image, 7, 290, &ONE_TO_SIXTEEN)?;
+    Ok(image)
+}
+
+/// Whether SetFInfo is made on the smallest volume.
+fn is_info_set(volume: &mut Volume, alloc: Global) -> Result<bool, AllocError> {
+    Ok(set_f_info(volume, alloc, 16, b"f", ONE_TO_SIXTEEN, 7)? == 0)
+}
+
+/// Wants a volume to be saved as these bytes, and each front of them by a writer that fails.
+fn expect_fronts(rt: &impl Abort, volume: &Volume, want: &[u8]) {
+    assert!(rt; want.len() == 8_292 && is_saved_as(volume, want));
+    for left in 0..8_292 {
+        assert!(rt; is_front(volume, want, left), "{left}");
+    }
+}
+
+/// Sets the Finder bytes, and wants the changed volume and each front of it to be saved.
+fn expect_saved(rt: &impl Abort, volume: &mut Volume, alloc: Global) -> Result<(), Fail> {
+    assert!(rt; is_info_set(volume, alloc)?);
+    let want = changed_volume(alloc)?;
+    expect_fronts(rt, volume, &want);
+    Ok(())
 }
 
 #[test]
 fn a_writer_that_fails_after_a_call_has_the_first_bytes(rt: HostRuntime) -> Result<(), Fail> {
-    let (image, want) = tiny_images(rt.alloc())?;
+    let image = tiny_volume(rt.alloc())?;
     let mut volume = mounted(rt.alloc(), image)?;
-    assert!(rt; set_f_info(&mut volume, rt.alloc(), 16, b"f", ONE_TO_SIXTEEN, 7)? == 0);
-    assert!(rt; want.len() == 8_292);
-    for left in 0..8_292 {
-        assert!(rt; is_front(&volume, want.as_slice(), left), "{left}");
-    }
-    assert!(rt; is_whole(&volume, want.as_slice(), 8_292));
-    Ok(())
+    expect_saved(&rt, &mut volume, rt.alloc())
 }

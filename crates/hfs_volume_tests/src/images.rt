@@ -1,16 +1,37 @@
 //! Images, and the bytes that they were opened with.
-use hfs_volume::Image;
+use hfs_volume::{Base, Image};
+use std::alloc::{AllocError, Global};
+use std::process::Abort;
 use std::test::Fail;
+
+/// The image of five bytes.
+fn five_bytes(alloc: Global) -> Result<Image, Fail> {
+    match Image::new(alloc, Vec::from_slice(alloc, b"three")?) {
+        Ok(image) => Ok(image),
+        Err(_failed) => Err(Fail::new("memory was refused")),
+    }
+}
+
+/// Whether these bytes are handed out by a base and by another that shares it.
+fn is_shared(base: &Base, bytes: &[u8]) -> Result<bool, AllocError> {
+    let other = base.share()?;
+    Ok(base.bytes() == bytes && other.bytes() == bytes)
+}
+
+/// Whether an image without a whole block was opened with these bytes.
+fn has_base(image: &Image, bytes: &[u8]) -> Result<bool, AllocError> {
+    let base = image.base()?;
+    Ok(image.count() == 0 && is_shared(&base, bytes)?)
+}
+
+/// Wants an image to have been opened with the five bytes.
+fn expect_five(rt: &impl Abort, image: &Image) -> Result<(), Fail> {
+    assert!(rt; has_base(image, b"three")?);
+    Ok(())
+}
 
 #[test]
 fn a_base_is_shared(rt: HostRuntime) -> Result<(), Fail> {
-    let Ok(image) = Image::new(rt.alloc(), Vec::from_slice(rt.alloc(), b"three")?) else {
-        return Err(Fail::new("memory was refused"));
-    };
-    assert_eq!(rt; image.count(), 0);
-    let base = image.base()?;
-    assert_eq!(rt; base.bytes(), b"three".as_slice());
-    let other = base.share()?;
-    assert_eq!(rt; other.bytes(), b"three".as_slice());
-    Ok(())
+    let image = five_bytes(rt.alloc())?;
+    expect_five(&rt, &image)
 }

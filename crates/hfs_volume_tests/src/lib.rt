@@ -6,6 +6,8 @@ mod changing;
 #[cfg(test)]
 mod edges;
 #[cfg(test)]
+mod fixture;
+#[cfg(test)]
 mod images;
 #[cfg(test)]
 mod mounting;

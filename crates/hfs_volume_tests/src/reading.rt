@@ -1,33 +1,56 @@
 //! The calls that read.
+use crate::fixture::code_of;
 use hfs_fixtures::SmallVolume;
 use hfs_model::{Bytes, Call, Fork, Info, ItemKind, Reply, Value};
-use hfs_volume::{Opened, Volume};
+use hfs_volume::{OpenFork, Opened, Volume};
 use hfs_volume_fixtures::small_volume;
 use std::alloc::{AllocError, Global};
+use std::process::Abort;
 use std::test::Fail;
 
-/// What is told of one item, if the reply is that.
-fn one(reply: &Reply) -> Option<Info> {
+/// Whether a reply is a list of so many children.
+fn is_list(reply: &Reply, count: usize) -> bool {
     match &reply.value {
-        Value::One(info) => Some(*info),
-        _ => None,
+        Value::Many(infos) => reply.code == 0 && infos.as_slice().len() == count,
+        _ => false,
     }
+}
+
+/// Whether the root has so many children, by a list of them.
+fn has_children(volume: &Volume, alloc: Global, count: usize) -> Result<bool, AllocError> {
+    let reply = volume.list(alloc, 2)?;
+    Ok(is_list(&reply, count))
+}
+
+/// Whether this is what is told of the root of a new volume.
+fn is_new_root(info: &Info) -> bool {
+    (info.parent, info.kind, info.valence) == (1, ItemKind::Folder, 0)
+        && info.name.bytes() == b"D".as_slice()
+}
+
+/// Whether a reply tells of the root of a new volume.
+fn is_told_new(reply: &Reply) -> bool {
+    match &reply.value {
+        Value::One(info) => reply.code == 0 && is_new_root(info),
+        _ => false,
+    }
+}
+
+/// Whether a volume's root is that of a new volume.
+fn has_new_root(volume: &Volume, alloc: Global) -> Result<bool, AllocError> {
+    Ok(has_children(volume, alloc, 0)? && is_told_new(&volume.get_dir_info(2)))
+}
+
+/// Wants the root of a volume to be that of a new volume.
+fn expect_new_root(rt: &impl Abort, volume: &Volume, alloc: Global) -> Result<(), Fail> {
+    assert!(rt; has_new_root(volume, alloc)?);
+    Ok(())
 }
 
 #[test]
 fn a_new_volume_has_an_empty_root(rt: HostRuntime) -> Result<(), Fail> {
     let volume = small_volume(rt.alloc(), SmallVolume::New)?;
-    let list = volume.list(rt.alloc(), 2)?;
-    assert_eq!(rt; list.code, 0);
-    assert!(rt; matches!(&list.value, Value::Many(infos) if infos.as_slice().is_empty()));
-    let root = volume.get_dir_info(2);
-    assert_eq!(rt; root.code, 0);
-    let info = one(&root).ok_or("no item")?;
-    assert_eq!(rt; info.parent, 1);
-    assert_eq!(rt; info.name.bytes(), b"D".as_slice());
-    assert!(rt; info.kind == ItemKind::Folder);
-    assert_eq!(rt; info.valence, 0);
-    Ok(())
+    expect_new_root(&rt, &volume, rt.alloc())
 }
 
 /// The code of asking for a folder's children.
@@ -36,63 +59,111 @@ fn list_code(volume: &Volume, alloc: Global, dir: u32) -> Result<i16, AllocError
     Ok(reply.code)
 }
 
+/// The code of asking for a folder.
+fn dir_code(volume: &Volume, dir: u32) -> i16 {
+    volume.get_dir_info(dir).code
+}
+
+/// The code of asking for an item of the root.
+fn name_code(volume: &Volume, name: &[u8]) -> i16 {
+    volume.get_cat_info(2, name).code
+}
+
+/// The code of asking for a child of the root.
+fn index_code(volume: &Volume, index: u32) -> i16 {
+    volume.get_indexed(2, index).code
+}
+
+/// Wants these places, names and folders to be none.
+fn expect_none(rt: &impl Abort, volume: &Volume, alloc: Global) -> Result<(), Fail> {
+    assert!(rt; index_code(volume, 0) == -50 && index_code(volume, 1) == -43);
+    assert!(rt; name_code(volume, b"q") == -43 && name_code(volume, b"a:b") == -37);
+    for dir in [1, 3, 16] {
+        assert!(rt; dir_code(volume, dir) == -120, "{dir}");
+        assert!(rt; list_code(volume, alloc, dir)? == -120, "{dir}");
+    }
+    Ok(())
+}
+
 #[test]
 fn places_and_folders_that_are_none(rt: HostRuntime) -> Result<(), Fail> {
     let volume = small_volume(rt.alloc(), SmallVolume::New)?;
-    assert_eq!(rt; volume.get_indexed(2, 0).code, -50);
-    assert_eq!(rt; volume.get_indexed(2, 1).code, -43);
-    for dir in [1, 3, 16] {
-        assert_eq!(rt; volume.get_dir_info(dir).code, -120);
-        assert_eq!(rt; list_code(&volume, rt.alloc(), dir)?, -120);
+    expect_none(&rt, &volume, rt.alloc())
+}
+
+/// Whether this is what is told of the file `f`.
+fn is_f(info: &Info) -> bool {
+    (info.id, info.parent, info.kind) == (16, 2, ItemKind::File)
+        && (info.data_len, info.res_len) == (2000, 0)
+        && !info.locked
+        && !info.has_id
+        && info.name.bytes() == b"f".as_slice()
+}
+
+/// Whether a reply tells of the file `f`.
+fn is_told_f(reply: &Reply) -> bool {
+    match &reply.value {
+        Value::One(info) => reply.code == 0 && is_f(info),
+        _ => false,
     }
-    assert_eq!(rt; volume.get_cat_info(2, b"q").code, -43);
-    assert_eq!(rt; volume.get_cat_info(2, b"a:b").code, -37);
+}
+
+/// Whether the root has the file `f` under that name and at that place.
+fn has_f(volume: &Volume, name: &[u8], index: u32) -> bool {
+    is_told_f(&volume.get_cat_info(2, name)) && is_told_f(&volume.get_indexed(2, index))
+}
+
+/// Wants the root to have the file `f` alone.
+fn expect_f(rt: &impl Abort, volume: &Volume, alloc: Global) -> Result<(), Fail> {
+    assert!(rt; has_f(volume, b"F", 1) && has_children(volume, alloc, 1)?);
     Ok(())
 }
 
 #[test]
 fn a_file_is_found_by_name_and_by_place(rt: HostRuntime) -> Result<(), Fail> {
     let volume = small_volume(rt.alloc(), SmallVolume::OneFile)?;
-    for reply in [volume.get_cat_info(2, b"F"), volume.get_indexed(2, 1)] {
-        assert_eq!(rt; reply.code, 0);
-        let info = one(&reply).ok_or("no item")?;
-        assert_eq!(rt; info.id, 16);
-        assert_eq!(rt; info.parent, 2);
-        assert_eq!(rt; info.name.bytes(), b"f".as_slice());
-        assert!(rt; info.kind == ItemKind::File);
-        assert_eq!(rt; info.data_len, 2000);
-        assert_eq!(rt; info.res_len, 0);
-        assert!(rt; !info.locked && !info.has_id);
-    }
-    let list = volume.list(rt.alloc(), 2)?;
-    assert!(rt; matches!(&list.value, Value::Many(infos) if infos.as_slice().len() == 1));
-    Ok(())
+    expect_f(&rt, &volume, rt.alloc())
 }
 
-/// Code and bytes of a part of the data fork of file `f` in the root.
-fn part(
-    volume: &Volume,
-    alloc: Global,
-    offset: u32,
-    count: u32,
-) -> Result<(i16, Vec<u8>), AllocError> {
-    let call = Call::ReadFork {
+/// The call that reads a part of the data fork of file `f` in the root.
+fn part(alloc: Global, offset: u32, count: u32) -> Result<Call, AllocError> {
+    Ok(Call::ReadFork {
         dir: 2,
         name: Bytes::from_slice(alloc, b"f")?,
         fork: Fork::DataFork,
         offset,
         count,
-    };
-    let Reply { code, value } = volume.read(alloc, &call)?;
-    match value {
-        Value::Bytes(bytes) => Ok((code, bytes.into_vec())),
-        _ => Ok((code, Vec::new(alloc))),
-    }
+    })
 }
 
-#[test]
-fn a_fork_is_read_through_its_overflow_extent(rt: HostRuntime) -> Result<(), Fail> {
-    let volume = small_volume(rt.alloc(), SmallVolume::OneFile)?;
+/// Whether a reply has this code and these bytes, none where it has no bytes.
+fn is_reply(reply: &Reply, code: i16, bytes: &[u8]) -> bool {
+    let found = match &reply.value {
+        Value::Bytes(found) => found.as_slice(),
+        _ => &[],
+    };
+    reply.code == code && found == bytes
+}
+
+/// Whether a part of the data fork of file `f` is answered by this code and these bytes.
+fn is_part(
+    volume: &Volume,
+    alloc: Global,
+    offset: u32,
+    count: u32,
+    code: i16,
+    bytes: &[u8],
+) -> Result<bool, AllocError> {
+    let call = part(alloc, offset, count)?;
+    if !call.is_reading() {
+        return Ok(false);
+    }
+    let reply = volume.read(alloc, &call)?;
+    Ok(is_reply(&reply, code, bytes))
+}
+
+/// Wants parts of the data fork of file `f` to be answered by a code and by bytes.
+fn expect_parts(rt: &impl Abort, volume: &Volume, alloc: Global) -> Result<(), Fail> {
     let cases: [(u32, u32, i16, &[u8]); 5] = [
         (
             1530,
@@ -106,29 +177,60 @@ fn a_fork_is_read_through_its_overflow_extent(rt: HostRuntime) -> Result<(), Fai
         (0, 65537, -50, &[]),
     ];
     for (offset, count, code, bytes) in cases {
-        let (found, read) = part(&volume, rt.alloc(), offset, count)?;
-        assert_eq!(rt; found, code);
-        assert!(rt; read.as_slice() == bytes, "{offset} {count}");
+        assert!(rt;
+            is_part(volume, alloc, offset, count, code, bytes)?,
+            "{offset} {count}"
+        );
     }
     Ok(())
 }
 
 #[test]
+fn a_fork_is_read_through_its_overflow_extent(rt: HostRuntime) -> Result<(), Fail> {
+    let volume = small_volume(rt.alloc(), SmallVolume::OneFile)?;
+    expect_parts(&rt, &volume, rt.alloc())
+}
+
+/// Whether the next bytes of a fork, where so many are asked for, are so many and begin with these.
+fn are_next(
+    source: &mut OpenFork,
+    alloc: Global,
+    count: u32,
+    len: usize,
+    front: &[u8],
+) -> Result<bool, AllocError> {
+    let bytes = source.read(alloc, count)?;
+    Ok(bytes.len() == len && bytes.starts_with(front))
+}
+
+/// Wants a fork to be read to its end: so many bytes where so many are asked for, which begin with these.
+fn expect_read(rt: &impl Abort, source: &mut OpenFork, alloc: Global) -> Result<(), Fail> {
+    let reads: [(u32, usize, &[u8]); 4] = [
+        (1530, 1530, &[]),
+        (4, 4, &[0x18, 0x19, 0x1a, 0x1b]),
+        (461, 461, &[]),
+        (1000, 5, &[0xee, 0xef, 0xf0, 0xf1, 0xf2]),
+    ];
+    assert!(rt; source.len() == 2000);
+    for (count, len, front) in reads {
+        assert!(rt; are_next(source, alloc, count, len, front)?, "{count}");
+    }
+    assert!(rt; source.len() == 0);
+    Ok(())
+}
+
+/// Opens the data fork of an item of the root, and wants it to be read to its end.
+fn expect_opened(rt: &impl Abort, volume: &Volume, alloc: Global, name: &[u8]) -> Result<(), Fail> {
+    match volume.open_fork(alloc, 2, name, Fork::DataFork)? {
+        Opened::Fork(mut source) => expect_read(rt, &mut source, alloc),
+        Opened::Refused(_) => Err(Fail::new("the fork is refused")),
+    }
+}
+
+#[test]
 fn a_fork_is_opened_and_read_to_its_end(rt: HostRuntime) -> Result<(), Fail> {
     let volume = small_volume(rt.alloc(), SmallVolume::OneFile)?;
-    let Opened::Fork(mut source) = volume.open_fork(rt.alloc(), 2, b"F", Fork::DataFork)? else {
-        return Err(Fail::new("the fork is refused"));
-    };
-    assert_eq!(rt; source.len(), 2000);
-    let first = source.read(rt.alloc(), 1530)?;
-    assert_eq!(rt; first.len(), 1530);
-    let next = source.read(rt.alloc(), 4)?;
-    assert_eq!(rt; next.as_slice(), [0x18, 0x19, 0x1a, 0x1b].as_slice());
-    assert_eq!(rt; source.read(rt.alloc(), 461)?.len(), 461);
-    let last = source.read(rt.alloc(), 1000)?;
-    assert_eq!(rt; last.as_slice(), [0xee, 0xef, 0xf0, 0xf1, 0xf2].as_slice());
-    assert_eq!(rt; source.len(), 0);
-    Ok(())
+    expect_opened(&rt, &volume, rt.alloc(), b"F")
 }
 
 /// The code with which opening the resource fork of a file is refused; 0 where it is opened.
@@ -139,15 +241,28 @@ fn opening_code(volume: &Volume, alloc: Global, dir: u32, name: &[u8]) -> Result
     }
 }
 
+/// Wants forks to be refused with their codes; 0 where one is opened.
+fn expect_refused(rt: &impl Abort, volume: &Volume, alloc: Global) -> Result<(), Fail> {
+    let rows: [(u32, &[u8], i16); 5] = [
+        (2, b"f", 0),
+        (2, b"a:b", -37),
+        (99, b"f", -120),
+        (2, b"g", -43),
+        (1, b"D", -120),
+    ];
+    for (row, (dir, name, code)) in rows.iter().enumerate() {
+        assert!(rt;
+            opening_code(volume, alloc, *dir, name)? == *code,
+            "row {row}"
+        );
+    }
+    Ok(())
+}
+
 #[test]
 fn forks_that_are_not_opened(rt: HostRuntime) -> Result<(), Fail> {
     let volume = small_volume(rt.alloc(), SmallVolume::OneFile)?;
-    assert_eq!(rt; opening_code(&volume, rt.alloc(), 2, b"f")?, 0);
-    assert_eq!(rt; opening_code(&volume, rt.alloc(), 2, b"a:b")?, -37);
-    assert_eq!(rt; opening_code(&volume, rt.alloc(), 99, b"f")?, -120);
-    assert_eq!(rt; opening_code(&volume, rt.alloc(), 2, b"g")?, -43);
-    assert_eq!(rt; opening_code(&volume, rt.alloc(), 1, b"D")?, -120);
-    Ok(())
+    expect_refused(&rt, &volume, rt.alloc())
 }
 
 /// Whether a reply is that folder and that name.
@@ -158,19 +273,40 @@ fn is_place(reply: &Reply, parent: u32, wanted: &[u8]) -> bool {
     }
 }
 
+/// The code of asking for a file's place.
+fn place_code(volume: &Volume, id: u32) -> i16 {
+    volume.resolve_file_id(id).code
+}
+
+/// Whether a reply tells of an item that has an ID, or of one that has none.
+fn is_told_id(reply: &Reply, has_id: bool) -> bool {
+    match &reply.value {
+        Value::One(info) => reply.code == 0 && info.has_id == has_id,
+        _ => false,
+    }
+}
+
+/// Whether the file `f` has the ID 16 and the file `g` has none.
+fn have_ids(volume: &Volume) -> bool {
+    is_place(&volume.resolve_file_id(16), 2, b"f")
+        && is_told_id(&volume.get_cat_info(2, b"f"), true)
+        && is_told_id(&volume.get_cat_info(2, b"g"), false)
+}
+
+/// Wants the file `f` alone to have an ID, and the place of each ID to be answered by its code, however it is asked for.
+fn expect_places(rt: &impl Abort, volume: &mut Volume, alloc: Global) -> Result<(), Fail> {
+    assert!(rt; have_ids(volume));
+    for (id, code) in [(16, 0), (17, -1300), (2, -1302), (1, -1300), (18, -1300)] {
+        assert!(rt; place_code(volume, id) == code, "{id}");
+        let called = code_of(volume, alloc, Call::ResolveFileId { id })?;
+        assert!(rt; called == code, "{id}");
+    }
+    Ok(())
+}
+
 /// A file has an ID where it has a thread, whatever its flags say.
 #[test]
 fn a_file_is_found_by_its_thread(rt: HostRuntime) -> Result<(), Fail> {
     let mut volume = small_volume(rt.alloc(), SmallVolume::FileThread)?;
-    assert!(rt; is_place(&volume.resolve_file_id(16), 2, b"f"));
-    for (id, code) in [(16, 0), (17, -1300), (2, -1302), (1, -1300), (18, -1300)] {
-        assert_eq!(rt; volume.resolve_file_id(id).code, code);
-        let reply = volume.call(rt.alloc(), &Call::ResolveFileId { id })?;
-        assert_eq!(rt; reply.code, code);
-    }
-    for (name, has_id) in [(b"f", true), (b"g", false)] {
-        let info = one(&volume.get_cat_info(2, name)).ok_or("no item")?;
-        assert_eq!(rt; info.has_id, has_id);
-    }
-    Ok(())
+    expect_places(&rt, &mut volume, rt.alloc())
 }

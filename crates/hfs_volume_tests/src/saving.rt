@@ -2,13 +2,15 @@
 ghost use Rattle.std.specs.Prelude.{◌<◌};
 ghost use Rattle.hfs_blocks.specs.Blocks.{block_count};
 
+use crate::fixture;
 use hfs_blocks::Patch;
 use hfs_fixtures::{SmallVolume, small_image};
-use hfs_volume::{Image, SaveFault};
-use hfs_volume_fixtures::{LimitedWriter, mounted};
+use hfs_volume::{Image, SaveFault, Volume};
+use hfs_volume_fixtures::{LimitedWriter, mounted, patterned};
 use std::alloc::{AllocError, Global};
 use std::io;
 use std::io::Write;
+use std::process::Abort;
 use std::test::Fail;
 
 /// Bytes whose blocks all differ: byte `k` is `k` mod 251.
@@ -58,6 +60,15 @@ fn commit_three(alloc: Global, image: &mut Image, values: [u8; 3]) -> Result<(),
     image.commit(&patch)
 }
 
+/// Commits blocks 1, 2 and 4 of an image that has five blocks.
+fn change(alloc: Global, image: &mut Image, values: [u8; 3]) -> Result<(), AllocError> {
+    if image.count() == 5 {
+        commit_three(alloc, image, values)
+    } else {
+        Ok(())
+    }
+}
+
 /// What is saved of an image by a writer that takes so many bytes, and how the saving ended.
 fn saved(alloc: Global, image: &Image, left: usize) -> (Vec<u8>, Result<(), SaveFault>) {
     let mut writer = LimitedWriter::new(alloc, left);
@@ -65,43 +76,68 @@ fn saved(alloc: Global, image: &Image, left: usize) -> (Vec<u8>, Result<(), Save
     (writer.taken, end)
 }
 
+/// Whether a writer that takes so many bytes gets these.
+fn is_saved(alloc: Global, image: &Image, left: usize, whole: &[u8]) -> bool {
+    let (bytes, end) = saved(alloc, image, left);
+    end.is_ok() && bytes.as_slice() == whole
+}
+
+/// Whether an image has three changed blocks, and is saved as so many bytes of the pattern with these values in them.
+fn is_changed(
+    alloc: Global,
+    image: &Image,
+    len: usize,
+    left: usize,
+    values: [u8; 3],
+) -> Result<bool, AllocError> {
+    let want = changed_pattern(alloc, len, values)?;
+    Ok(image.changed() == 3 && is_saved(alloc, image, left, &want))
+}
+
+/// Whether an image was opened with these bytes.
+fn has_base(image: &Image, bytes: &[u8]) -> Result<bool, AllocError> {
+    let base = image.base()?;
+    Ok(base.bytes() == bytes)
+}
+
+/// Whether an image was opened with so many bytes of the pattern.
+fn has_pattern(alloc: Global, image: &Image, len: usize) -> Result<bool, AllocError> {
+    let bytes = pattern(alloc, len)?;
+    has_base(image, &bytes)
+}
+
+/// Whether an image has five blocks and no change.
+fn is_unchanged(image: &Image) -> bool {
+    image.count() == 5 && image.changed() == 0
+}
+
+/// Changes three blocks of an image of 2,660 bytes, and wants them to be saved, and the base to stay.
+fn expect_changed(rt: &impl Abort, alloc: Global, image: &mut Image) -> Result<(), Fail> {
+    assert!(rt; is_unchanged(image));
+    change(alloc, image, [7, 8, 9])?;
+    assert!(rt; is_changed(alloc, image, 2660, 10_000, [7, 8, 9])?);
+    assert!(rt; has_pattern(alloc, image, 2660)?);
+    Ok(())
+}
+
 #[test]
 fn changed_blocks_are_saved_and_the_tail_is_kept(rt: HostRuntime) -> Result<(), Fail> {
     let mut image = pattern_image(rt.alloc(), 2660)?;
-    assert_eq!(rt; image.count(), 5);
-    assert_eq!(rt; image.changed(), 0);
-    if image.count() == 5 {
-        commit_three(rt.alloc(), &mut image, [7, 8, 9])?;
-    }
-    assert_eq!(rt; image.changed(), 3);
-    let (bytes, end) = saved(rt.alloc(), &image, 10_000);
-    assert!(rt; end.is_ok());
-    assert_eq!(rt;
-        bytes.as_slice(),
-        changed_pattern(rt.alloc(), 2660, [7, 8, 9])?.as_slice()
-    );
-    let base = image.base()?;
-    assert_eq!(rt; base.bytes(), pattern(rt.alloc(), 2660)?.as_slice());
+    expect_changed(&rt, rt.alloc(), &mut image)
+}
+
+/// Changes three blocks of an image of 2,560 bytes twice, and wants the later changes to be saved.
+fn expect_changed_twice(rt: &impl Abort, alloc: Global, image: &mut Image) -> Result<(), Fail> {
+    change(alloc, image, [7, 8, 9])?;
+    change(alloc, image, [10, 11, 12])?;
+    assert!(rt; is_changed(alloc, image, 2560, 2560, [10, 11, 12])?);
     Ok(())
 }
 
 #[test]
 fn a_later_commit_writes_over_an_earlier_one(rt: HostRuntime) -> Result<(), Fail> {
     let mut image = pattern_image(rt.alloc(), 2560)?;
-    if image.count() == 5 {
-        commit_three(rt.alloc(), &mut image, [7, 8, 9])?;
-    }
-    if image.count() == 5 {
-        commit_three(rt.alloc(), &mut image, [10, 11, 12])?;
-    }
-    assert_eq!(rt; image.changed(), 3);
-    let (bytes, end) = saved(rt.alloc(), &image, 2560);
-    assert!(rt; end.is_ok());
-    assert_eq!(rt;
-        bytes.as_slice(),
-        changed_pattern(rt.alloc(), 2560, [10, 11, 12])?.as_slice()
-    );
-    Ok(())
+    expect_changed_twice(&rt, rt.alloc(), &mut image)
 }
 
 /// Whether a writer that fails after so many bytes has the first of these and no others.
@@ -115,36 +151,24 @@ fn is_front(alloc: Global, image: &Image, whole: &[u8], left: usize) -> bool {
     }
 }
 
+/// Changes three blocks, and wants each front of the changed pattern to be saved by a writer that fails.
+fn expect_fronts(rt: &impl Abort, alloc: Global, image: &mut Image) -> Result<(), Fail> {
+    change(alloc, image, [7, 8, 9])?;
+    let whole = changed_pattern(alloc, 2660, [7, 8, 9])?;
+    for left in 0..2660 {
+        assert!(rt; is_front(alloc, image, &whole, left), "after {left}");
+    }
+    Ok(())
+}
+
 #[test]
 fn a_writer_that_fails_has_the_first_bytes(rt: HostRuntime) -> Result<(), Fail> {
     let mut image = pattern_image(rt.alloc(), 2660)?;
-    if image.count() == 5 {
-        commit_three(rt.alloc(), &mut image, [7, 8, 9])?;
-    }
-    let whole = changed_pattern(rt.alloc(), 2660, [7, 8, 9])?;
-    for left in 0..2660 {
-        assert!(rt; is_front(rt.alloc(), &image, whole.as_slice(), left));
-    }
-    Ok(())
-}
-
-#[test]
-fn a_commit_without_memory_leaves_the_bytes(rt: HostRuntime) -> Result<(), Fail> {
-    let mut image = pattern_image(rt.alloc(), 2660)?;
-    let before = pattern(rt.alloc(), 2660)?;
-    let after = changed_pattern(rt.alloc(), 2660, [7, 8, 9])?;
-    if image.count() == 5 {
-        let whole = match commit_three(rt.alloc(), &mut image, [7, 8, 9]) {
-            Ok(()) => after.as_slice(),
-            Err(_error) => before.as_slice(),
-        };
-        assert!(rt; is_saved_as(rt.alloc(), &image, whole));
-    }
-    Ok(())
+    expect_fronts(&rt, rt.alloc(), &mut image)
 }
 
 /// Whether these bytes are saved, or no byte more was taken for want of memory.
-fn is_saved_as(alloc: Global, image: &Image, whole: &[u8]) -> bool {
+fn is_saved_or_refused(alloc: Global, image: &Image, whole: &[u8]) -> bool {
     let (bytes, end) = saved(alloc, image, whole.len());
     match end {
         Ok(()) => bytes.as_slice() == whole,
@@ -152,19 +176,46 @@ fn is_saved_as(alloc: Global, image: &Image, whole: &[u8]) -> bool {
     }
 }
 
+/// Whether an image is saved as it is meant to be after a commit: changed, or as before where memory was refused.
+fn is_whole_after(alloc: Global, image: &Image, is_changed: bool) -> Result<bool, AllocError> {
+    let whole = if is_changed {
+        changed_pattern(alloc, 2660, [7, 8, 9])?
+    } else {
+        pattern(alloc, 2660)?
+    };
+    Ok(is_saved_or_refused(alloc, image, &whole))
+}
+
+/// Changes three blocks, and wants all of them to be saved, or none where memory was refused.
+fn expect_whole(rt: &impl Abort, alloc: Global, image: &mut Image) -> Result<(), Fail> {
+    let is_changed = change(alloc, image, [7, 8, 9]).is_ok();
+    assert!(rt; is_whole_after(alloc, image, is_changed)?);
+    Ok(())
+}
+
+#[test]
+fn a_commit_without_memory_leaves_the_bytes(rt: HostRuntime) -> Result<(), Fail> {
+    let mut image = pattern_image(rt.alloc(), 2660)?;
+    expect_whole(&rt, rt.alloc(), &mut image)
+}
+
+/// The image of a small volume with 100 bytes more.
+fn longer_image(alloc: Global) -> Result<Vec<u8>, Fail> {
+    Ok(patterned(small_image(alloc, SmallVolume::OneFile)?)?)
+}
+
+/// Wants a volume to be saved as that image.
+fn expect_longer(rt: &impl Abort, alloc: Global, volume: &Volume) -> Result<(), Fail> {
+    let given = longer_image(alloc)?;
+    assert!(rt; fixture::is_unchanged(volume, &given)?);
+    Ok(())
+}
+
 #[test]
 fn a_mounted_volume_is_saved_as_it_was(rt: HostRuntime) -> Result<(), Fail> {
-    let mut image = small_image(rt.alloc(), SmallVolume::OneFile)?;
-    for k in 0..100u8 {
-        image.push(k)?;
-    }
-    let given = image.clone()?;
+    let image = longer_image(rt.alloc())?;
     let volume = mounted(rt.alloc(), image)?;
-    assert_eq!(rt; volume.changed(), 0);
-    let mut writer = LimitedWriter::new(rt.alloc(), 100_000);
-    assert!(rt; volume.save(&mut writer).is_ok());
-    assert_eq!(rt; writer.taken.as_slice(), given.as_slice());
-    Ok(())
+    expect_longer(&rt, rt.alloc(), &volume)
 }
 
 /// Takes a byte at a time, and none after some.
@@ -196,14 +247,17 @@ fn is_stopped(image: &Image, left: usize) -> bool {
     }
 }
 
+/// Changes three blocks, and wants a writer that takes no more to be left after each byte.
+fn expect_stopped(rt: &impl Abort, alloc: Global, image: &mut Image) -> Result<(), Fail> {
+    change(alloc, image, [7, 8, 9])?;
+    for left in 0..2660 {
+        assert!(rt; is_stopped(image, left), "after {left}");
+    }
+    Ok(())
+}
+
 #[test]
 fn a_writer_that_takes_no_more_is_left(rt: HostRuntime) -> Result<(), Fail> {
     let mut image = pattern_image(rt.alloc(), 2660)?;
-    if image.count() == 5 {
-        commit_three(rt.alloc(), &mut image, [7, 8, 9])?;
-    }
-    for left in 0..2660 {
-        assert!(rt; is_stopped(&image, left), "after {left}");
-    }
-    Ok(())
+    expect_stopped(&rt, rt.alloc(), &mut image)
 }

@@ -1,94 +1,158 @@
 //! What those who read beside the writer take from a volume.
+use crate::fixture::is_unchanged;
 use hfs_fields::{Extent, FileRecord, ForkRecord};
 use hfs_fixtures::SmallVolume;
-use hfs_model::{Fork, Reply, Value};
+use hfs_model::{Fork, Info, Reply, Value};
+use hfs_volume::Volume;
 use hfs_volume_fixtures::{delete, saved, small_volume};
+use std::alloc::{AllocError, Global};
+use std::process::Abort;
 use std::test::Fail;
 
-/// How many children a list tells of.
-fn count_of(reply: &Reply) -> usize {
+/// Whether one of these items has a thread.
+fn has_thread(infos: &[Info]) -> bool {
+    for info in infos {
+        if info.has_id {
+            return true;
+        }
+    }
+    false
+}
+
+/// How many children a list tells of, and whether one of them has a thread.
+fn told(reply: &Reply) -> (usize, bool) {
     match &reply.value {
-        Value::Many(infos) => infos.as_slice().len(),
-        _ => 0,
+        Value::Many(infos) => (infos.as_slice().len(), has_thread(infos.as_slice())),
+        _ => (0, false),
     }
 }
 
-/// Whether a list tells of a child that has a thread.
-fn has_threads(reply: &Reply) -> bool {
-    match &reply.value {
-        Value::Many(infos) => infos.as_slice().iter().any(|info| info.has_id),
-        _ => false,
-    }
+/// Whether a list of the root tells of so many children, and whether one of them has a thread.
+fn is_told(
+    volume: &Volume,
+    alloc: Global,
+    count: usize,
+    has_thread: bool,
+) -> Result<bool, AllocError> {
+    let reply = volume.list(alloc, 2)?;
+    Ok(told(&reply) == (count, has_thread))
+}
+
+/// Whether a list of the root in brief tells of so many children, and of no thread.
+fn is_told_in_brief(volume: &Volume, alloc: Global, count: usize) -> Result<bool, AllocError> {
+    let reply = volume.list_in_brief(alloc, 2)?;
+    Ok(told(&reply) == (count, false))
+}
+
+/// Wants a volume to tell of two children in its root, and of a thread only where it is asked for one.
+fn expect_two_children(rt: &impl Abort, volume: &Volume, alloc: Global) -> Result<(), Fail> {
+    assert!(rt; is_told(volume, alloc, 2, true)?);
+    assert!(rt; is_told_in_brief(volume, alloc, 2)?);
+    Ok(())
 }
 
 #[test]
 fn a_list_in_brief_looks_up_no_thread(rt: HostRuntime) -> Result<(), Fail> {
     let volume = small_volume(rt.alloc(), SmallVolume::FileThread)?;
-    let list = volume.list(rt.alloc(), 2)?;
-    assert_eq!(rt; count_of(&list), 2);
-    assert!(rt; has_threads(&list));
-    let brief = volume.list_in_brief(rt.alloc(), 2)?;
-    assert_eq!(rt; count_of(&brief), 2);
-    assert!(rt; !has_threads(&brief));
+    expect_two_children(&rt, &volume, rt.alloc())
+}
+
+/// Whether so many records are handed out, and this is the next ID.
+fn has_records(
+    volume: &Volume,
+    alloc: Global,
+    count: usize,
+    next_id: u32,
+) -> Result<bool, AllocError> {
+    let records = volume.records(alloc)?;
+    Ok(records.len() == count && volume.next_id() == next_id)
+}
+
+/// Wants a volume to have five records.
+fn expect_five_records(rt: &impl Abort, volume: &Volume, alloc: Global) -> Result<(), Fail> {
+    assert!(rt; has_records(volume, alloc, 5, 18)?);
     Ok(())
 }
 
 #[test]
 fn all_records_are_handed_out(rt: HostRuntime) -> Result<(), Fail> {
     let volume = small_volume(rt.alloc(), SmallVolume::FileThread)?;
-    let records = volume.records(rt.alloc())?;
-    assert_eq!(rt; records.len(), 5);
-    assert_eq!(rt; volume.next_id(), 18);
-    Ok(())
+    expect_five_records(&rt, &volume, rt.alloc())
 }
 
-/// The data fork of the file `f`, as its record has it.
-fn data_fork() -> ForkRecord {
-    let first = Extent {
-        first: 10,
-        count: 1,
-    };
-    let second = Extent {
-        first: 12,
-        count: 1,
-    };
-    let third = Extent {
-        first: 14,
-        count: 1,
-    };
-    ForkRecord {
+/// One allocation block.
+fn one_block(first: u16) -> Extent {
+    Extent { first, count: 1 }
+}
+
+/// The record of the file `f`.
+fn file_record() -> FileRecord {
+    let mut file = FileRecord::new(16, 0);
+    file.data = ForkRecord {
         first_block: 0,
         length: 2_000,
         physical_length: 2_048,
-        extents: [first, second, third],
-    }
+        extents: [one_block(10), one_block(12), one_block(14)],
+    };
+    file
+}
+
+/// Whether the data fork of the file `f` has so many extents, of which this is the fourth.
+fn has_extents(
+    volume: &Volume,
+    alloc: Global,
+    count: usize,
+    fourth: Extent,
+) -> Result<bool, AllocError> {
+    let extents = volume.file_extents(alloc, &file_record(), Fork::DataFork)?;
+    Ok(extents.len() == count && extents.get(3) == Some(&fourth))
+}
+
+/// Wants the fourth extent of the file `f` to be that of the extents tree.
+fn expect_fourth(rt: &impl Abort, volume: &Volume, alloc: Global) -> Result<(), Fail> {
+    // the two behind the fourth are empty
+    assert!(rt; has_extents(volume, alloc, 6, one_block(16))?);
+    Ok(())
 }
 
 #[test]
 fn extents_go_on_in_the_extents_tree(rt: HostRuntime) -> Result<(), Fail> {
     let volume = small_volume(rt.alloc(), SmallVolume::OneFile)?;
-    let mut file = FileRecord::new(16, 0);
-    file.data = data_fork();
-    let extents = volume.file_extents(rt.alloc(), &file, Fork::DataFork)?;
-    // the two behind the fourth are empty
-    assert_eq!(rt; extents.len(), 6);
-    let fourth = extents.get(3).ok_or("no fourth extent")?;
-    assert_eq!(rt; fourth.first, 16);
-    assert_eq!(rt; fourth.count, 1);
-    Ok(())
+    expect_fourth(&rt, &volume, rt.alloc())
+}
+
+/// Whether a volume, mounted anew, is the one of these bytes.
+fn is_anew(volume: Volume, alloc: Global, bytes: &[u8]) -> Result<bool, Fail> {
+    match volume.mounted_anew(alloc) {
+        Ok(anew) => Ok(is_unchanged(&anew, bytes)?),
+        Err(_failed) => Ok(false),
+    }
+}
+
+/// Whether a volume, mounted anew, is the one of the bytes that it is saved as.
+fn is_anew_as_saved(volume: Volume, alloc: Global) -> Result<bool, Fail> {
+    let bytes = saved(alloc, &volume)?;
+    is_anew(volume, alloc, &bytes)
+}
+
+/// Whether the file `f` is deleted, and blocks are changed then.
+fn is_f_deleted(volume: &mut Volume, alloc: Global) -> Result<bool, Fail> {
+    Ok(delete(volume, alloc, 2, b"f", 7)? == 0 && volume.changed() > 0)
+}
+
+/// Whether a volume is mounted anew as it is once the file `f` is deleted.
+fn is_anew_without_f(volume: Volume, alloc: Global) -> Result<bool, Fail> {
+    let mut changed = volume;
+    if is_f_deleted(&mut changed, alloc)? {
+        is_anew_as_saved(changed, alloc)
+    } else {
+        Ok(false)
+    }
 }
 
 #[test]
 fn a_volume_is_mounted_anew_as_it_is(rt: HostRuntime) -> Result<(), Fail> {
-    let mut volume = small_volume(rt.alloc(), SmallVolume::OneFile)?;
-    let code = delete(&mut volume, rt.alloc(), 2, b"f", 7)?;
-    assert!(rt; code == 0 && volume.changed() > 0);
-    let bytes = saved(rt.alloc(), &volume)?;
-    let anew = volume.mounted_anew(rt.alloc()).ok().ok_or("no memory")?;
-    assert!(rt; anew.changed() == 0);
-    let base = anew.base()?;
-    assert!(rt; base.bytes() == bytes.as_slice());
-    let again = saved(rt.alloc(), &anew)?;
-    assert!(rt; again.as_slice() == bytes.as_slice());
+    let volume = small_volume(rt.alloc(), SmallVolume::OneFile)?;
+    assert!(rt; is_anew_without_f(volume, rt.alloc())?);
     Ok(())
 }

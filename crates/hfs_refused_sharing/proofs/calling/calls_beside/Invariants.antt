@@ -1,4 +1,4 @@
-use Rattle.hfs_refused_sharing.proofs.calling.calls_as_said.Given as goal
+use Rattle.hfs_refused_sharing.proofs.calling.calls_beside.Given as goal
 
 -- the parts that were just made
 abbrev pub ghosts-call_and_close : goal.ghosts-call_and_close

@@ -1,5 +1,5 @@
 use Rattle.std.specs.Prelude.{◌≡◌}
-use Rattle.hfs_shared_tests.proofs.reading.follow.Given as goal
+use Rattle.hfs_shared_tests.proofs.reading.follow_all.Given as goal
 
 -- it is a viewer of the shared volume
 abbrev pub invariant-loop-line : goal.invariant-loop-line
