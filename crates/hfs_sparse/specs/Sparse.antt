@@ -1,9 +1,11 @@
 -- Blocks of an image that were read, with zeros in place of the others.
-use Rattle.std.specs.Prelude.{◌≡◌, ℕ, List, length, Option, Some, None, IsSome, IfSome, replicate, unwrap_or}
-use Rattle.std.proofs.Common.{refl, sym, ap, subst, ◌∙◌, true≢false, [], ◌∷◌}
+use Rattle.std.specs.Prelude.{◌≡◌, ◌++◌, ℕ, List, length, Option, Some, None, IsSome, IfSome, replicate, unwrap_or}
+use Rattle.std.specs.List.{flat_map, range_with_len}
+use Rattle.std.proofs.Common.{Vec, Global, refl, sym, ap, subst, ◌∙◌, true≢false, [], ◌∷◌}
 use Rattle.std.proofs.lemmas.List.{length-replicate}
 use Rattle.hfs_scans.specs.Each.{Each}
-use Rattle.hfs_blocks.specs.Blocks.{block_at}
+use Rattle.hfs_blocks.specs.declared.run.Run.{Run}
+use Rattle.hfs_blocks.specs.Blocks.{block_at, run_of}
 use Rattle.hfs_blocks.specs.Layers.{Numbered, changes, over}
 
 -- a block that was not read
@@ -33,6 +35,18 @@ IsOf bytes read = (n : ℕ) (block : List ℕ) → changes read n ≡ Some block
 -- where the image's bytes are known, what was read since is of it, too
 abbrev pub StaysOf : Option (List ℕ) → Numbered → Numbered → Type 0
 StaysOf known old new = IfSome known (λ bytes. IsOf bytes old → IsOf bytes new)
+
+-- where the image's bytes are known, this is block n of it
+abbrev pub HoldsBlock : Option (List ℕ) → ℕ → List ℕ → Type 0
+HoldsBlock known n block = IfSome known (λ bytes. block ≡ block_at bytes n)
+
+-- where the image's bytes are known, these are the bytes of the runs' blocks
+abbrev pub HoldsRuns : Option (List ℕ) → List Run → Vec ℕ Global → Type 0
+HoldsRuns known runs = λ bytes. IfSome known (λ image. bytes.items ≡ flat_map (block_at image) (flat_map run_of runs))
+
+-- where the image's bytes are known, behind the old bytes those of `count` blocks from `first` on
+abbrev pub AddsRange : Option (List ℕ) → ℕ → ℕ → Vec ℕ Global → Vec ℕ Global → Type 0
+AddsRange known first count old new = IfSome known (λ image. new.items ≡ old.items ++ flat_map (block_at image) (range_with_len first count))
 
 -- ---- laws
 

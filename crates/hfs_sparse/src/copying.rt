@@ -1,7 +1,7 @@
 //! The bytes of blocks, one after the other.
-ghost use Rattle.std.specs.Prelude.{◌≡◌, ◌+◌, ◌++◌, ◌≤◌, OnOk, IfOk, IfSome};
-ghost use Rattle.std.specs.List.{flat_map, range_with_len};
-ghost use Rattle.hfs_blocks.specs.Blocks.{block_at, run_of, AreRunsWithin};
+ghost use Rattle.std.specs.Prelude.{◌≡◌, ◌+◌, ◌≤◌, OnOk, IfOk};
+ghost use Rattle.hfs_blocks.specs.Blocks.{AreRunsWithin};
+ghost use Rattle.hfs_sparse.specs.Sparse.{AddsRange, HoldsRuns};
 
 use crate::fetching::SparseFault;
 use crate::source::BlockSource;
@@ -16,7 +16,7 @@ fn append_range<S: BlockSource>(
     bytes: &mut Vec<u8>,
 ) -> Result<(), SparseFault>
     requires { first + count ≤ 4294967296 }
-    ensures gains { OnOk result (IfSome (S.image source.old) (λ image. bytes.new.items ≡ bytes.old.items ++ flat_map (block_at image) (range_with_len first count))) }
+    ensures gains { OnOk result (AddsRange (S.image source.old) first count bytes.old bytes.new) }
     ensures image { S.image source.new ≡ S.image source.old }
 {
     for i in 0..count {
@@ -38,7 +38,7 @@ pub fn read_runs<S: BlockSource>(
     runs: &[Run],
 ) -> Result<Vec<u8>, SparseFault>
     requires { AreRunsWithin runs.now 4294967296 }
-    ensures bytes { IfOk result (λ bytes. IfSome (S.image source.old) (λ image. bytes.items ≡ flat_map (block_at image) (flat_map run_of runs.now))) }
+    ensures bytes { IfOk result (HoldsRuns (S.image source.old) runs.now) }
     ensures image { S.image source.new ≡ S.image source.old }
 {
     let mut bytes = Vec::new(alloc);

@@ -2,7 +2,7 @@
 ghost use Rattle.std.specs.Prelude.{◌≡◌, ℕ, ◌+◌, ◌<◌, ◌≤◌, IsSome, OnOk, length};
 ghost use Rattle.std.specs.List.{flat_map, range_with_len};
 ghost use Rattle.hfs_blocks.specs.Blocks.{run_of, AreRunsWithin};
-ghost use Rattle.hfs_blocks.specs.Layers.{changes, AreWithin};
+ghost use Rattle.hfs_blocks.specs.Layers.{changes, KeepsWithin};
 ghost use Rattle.hfs_sparse.specs.Sparse.{HasEach, HasGrown, StaysOf};
 
 use crate::source::BlockSource;
@@ -22,7 +22,7 @@ pub fn fetch<S: BlockSource>(source: &mut S, read: &mut Patch, n: u32) -> Result
     ensures has { OnOk result (IsSome (changes read.new n)) }
     ensures grown { HasGrown read.old read.new }
     ensures stays { StaysOf (S.image source.old) read.old read.new }
-    ensures within { (total : ℕ) → n < total → AreWithin (changes read.old) total → AreWithin (changes read.new) total }
+    ensures within { (total : ℕ) → n < total → KeepsWithin read.old read.new total }
     ensures image { S.image source.new ≡ S.image source.old }
 {
     if read.get(n).is_some() {
@@ -49,7 +49,7 @@ pub fn fetch_range<S: BlockSource>(
     ensures has { OnOk result (HasEach read.new (range_with_len first count)) }
     ensures grown { HasGrown read.old read.new }
     ensures stays { StaysOf (S.image source.old) read.old read.new }
-    ensures within { (total : ℕ) → first + count ≤ total → AreWithin (changes read.old) total → AreWithin (changes read.new) total }
+    ensures within { (total : ℕ) → first + count ≤ total → KeepsWithin read.old read.new total }
     ensures image { S.image source.new ≡ S.image source.old }
 {
     for i in 0..count {
@@ -68,7 +68,7 @@ pub fn fetch_runs<S: BlockSource>(
     ensures has { OnOk result (HasEach read.new (flat_map run_of runs.now)) }
     ensures grown { HasGrown read.old read.new }
     ensures stays { StaysOf (S.image source.old) read.old read.new }
-    ensures within { (total : ℕ) → AreRunsWithin runs.now total → AreWithin (changes read.old) total → AreWithin (changes read.new) total }
+    ensures within { (total : ℕ) → AreRunsWithin runs.now total → KeepsWithin read.old read.new total }
     ensures image { S.image source.new ≡ S.image source.old }
 {
     for run in runs {

@@ -1,6 +1,6 @@
 //! Where blocks are read from.
-ghost use Rattle.std.specs.Prelude.{◌≡◌, List, ℕ, Option, OnOk, IfSome};
-ghost use Rattle.hfs_blocks.specs.Blocks.{block_at};
+ghost use Rattle.std.specs.Prelude.{◌≡◌, List, ℕ, Option, OnOk};
+ghost use Rattle.hfs_sparse.specs.Sparse.{HoldsBlock};
 
 use std::io;
 
@@ -11,6 +11,6 @@ pub trait BlockSource {
 
     /// Reads block `n`, counted from 0, into 512 bytes. Error: the read failed, or the image ends before the block does.
     fn read_block(&mut self, n: u32, into: &mut [u8; 512]) -> io::Result<()>
-        ensures block { OnOk result (IfSome (image self.old) (λ bytes. into.new ≡ block_at bytes n)) }
+        ensures block { OnOk result (HoldsBlock (image self.old) n into.new) }
         ensures image { image self.new ≡ image self.old };
 }
