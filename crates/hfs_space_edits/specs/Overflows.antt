@@ -1,5 +1,5 @@
 -- The records of the extents tree by the file that they are of.
-use Rattle.std.specs.Prelude.{◌≡◌, ℕ, Bool, true, not, ◌==◌, List, filter}
+use Rattle.std.specs.Prelude.{◌≡◌, ℕ, Bool, true, not, ◌==◌, List, Option, MatchOption, filter}
 use Rattle.hfs_fields.specs.declared.key.ExtKey.{ExtKey}
 use Rattle.hfs_fields.specs.Keys.{ext_cmp}
 use Rattle.hfs_scans.specs.Each.{Each}
@@ -23,3 +23,7 @@ AreOfOthers file overflow = Each (λ r. is_of_other file r ≡ true) overflow
 pub record IsKeyOf (file : ℕ) (key : ExtKey) (overflow : Overflow) : Type 0 where
   pub own : key.file ≡ file
   pub there : IsThere (lookup ext_cmp key overflow)
+
+-- what is found is a key of the file's, or nothing where it has none of the records
+abbrev pub FindsKeyOf : ℕ → Overflow → Option ExtKey → Type 0
+FindsKeyOf file overflow found = MatchOption found (AreOfOthers file overflow) (λ key. IsKeyOf file key overflow)

@@ -1,9 +1,9 @@
 //! The records of the extents tree of a file that goes.
 
-ghost use Rattle.std.specs.Prelude.{◌≡◌, MatchOption, OnOk};
+ghost use Rattle.std.specs.Prelude.{◌≡◌, OnOk};
 ghost use Rattle.hfs_space.specs.TreeKeys.{IsExtentsTree, overflow_of};
-ghost use Rattle.hfs_space_edits.specs.Overflows.{AreOfOthers, IsKeyOf};
-ghost use Rattle.hfs_space_edits.specs.Dropped.{HasDroppedOverflow};
+ghost use Rattle.hfs_space_edits.specs.Overflows.{AreOfOthers, FindsKeyOf};
+ghost use Rattle.hfs_space_edits.specs.Dropped.{Edits, HasDroppedOverflow};
 
 use hfs_btree::{Nodes, Walk};
 use hfs_btree_edits::NodesMut;
@@ -14,7 +14,7 @@ use std::alloc::{AllocError, Global};
 /// The key of a file's first record in the extents tree, if it has one. Takes no memory.
 fn first_of_file<N: Nodes>(nodes: &N, file: u32) -> Option<ExtKey>
     requires { IsExtentsTree (N.nodes nodes.now) }
-    ensures { MatchOption result (AreOfOthers file (overflow_of (N.nodes nodes.now))) (λ key. IsKeyOf file key (overflow_of (N.nodes nodes.now))) }
+    ensures { FindsKeyOf file (overflow_of (N.nodes nodes.now)) result }
 {
     let least = ExtKey {
         fork: 0,
@@ -37,7 +37,7 @@ fn first_of_file<N: Nodes>(nodes: &N, file: u32) -> Option<ExtKey>
 /// Source: Inside Macintosh: Files, chapter 2, 'Extents overflow file'.
 pub fn drop_overflow<S: NodesMut>(alloc: Global, nodes: &mut S, file: u32) -> Result<(), AllocError>
     requires { IsExtentsTree (S.nodes nodes.old) }
-    ensures dropped { OnOk result (HasDroppedOverflow file (S.nodes nodes.old) (S.nodes nodes.new)) }
+    ensures dropped { Edits result (HasDroppedOverflow file) S.nodes nodes.old nodes.new }
     ensures none { AreOfOthers file (overflow_of (S.nodes nodes.old)) → nodes.new ≡ nodes.old }
     ensures kept { OnOk result (S.kept nodes.new ≡ S.kept nodes.old) }
 {

@@ -1,8 +1,7 @@
 //! All extents of a file.
 
-ghost use Rattle.std.specs.Prelude.{◌≡◌, IfOk};
-ghost use Rattle.std.specs.List.{flat_map};
-ghost use Rattle.hfs_space.specs.Owners.{extents_in, forks_of_file};
+ghost use Rattle.hfs_space.specs.Owners.{extents_of_file};
+ghost use Rattle.hfs_space.specs.Results.{GivesItems};
 ghost use Rattle.hfs_space.specs.TreeKeys.{IsExtentsTree, overflow_of};
 
 use hfs_btree::Nodes;
@@ -21,7 +20,7 @@ pub fn file_extents<N: Nodes>(
     file: &FileRecord,
 ) -> Result<Vec<Extent>, AllocError>
     requires { IsExtentsTree (N.nodes tree.now) }
-    ensures { IfOk result (λ extents. extents.items ≡ flat_map (extents_in (overflow_of (N.nodes tree.now))) (forks_of_file file.now)) }
+    ensures { GivesItems (extents_of_file (overflow_of (N.nodes tree.now)) file.now) result }
 {
     let mut extents = fork_extents(alloc, tree, file.id, ForkKind::Data, &file.data.extents)?;
     let resource = fork_extents(

@@ -1,7 +1,7 @@
 //! The allocation blocks of a file that goes.
 
 ghost use Rattle.std.specs.Prelude.{OnOk};
-ghost use Rattle.hfs_blocks.specs.Layers.{changes, AreWithin};
+ghost use Rattle.hfs_blocks.specs.Layers.{KeepsWithin};
 ghost use Rattle.hfs_space.specs.Extents.{AreExtentsWithin};
 ghost use Rattle.hfs_space_edits.specs.Released.{HasReleasedOver};
 
@@ -26,7 +26,7 @@ pub fn release_extents<B: Blocks>(
 ) -> Result<(), AllocError>
     requires { AreExtentsWithin bitmap.now.count extents.now }
     ensures released { OnOk result (HasReleasedOver (B.blocks bitmap.now.blocks.now) bitmap.now.start bitmap.now.count extents.now patch.old patch.new) }
-    ensures within { AreWithin (changes patch.old) (B.total bitmap.now.blocks.now) → AreWithin (changes patch.new) (B.total bitmap.now.blocks.now) }
+    ensures within { KeepsWithin patch.old patch.new (B.total bitmap.now.blocks.now) }
 {
     for i in 0..extents.len() {
         let extent = extents[i];
