@@ -1,5 +1,5 @@
 -- What is told of items where nobody asks whether a file has a thread.
-use Rattle.std.specs.Prelude.{ℕ, false, not, if◌then◌else◌, map}
+use Rattle.std.specs.Prelude.{ℕ, false, not, if◌then◌else◌, List, map}
 use Rattle.hfs_model.specs.declared.codes.TheConstants.{NOT_A_FOLDER}
 use Rattle.hfs_model.specs.declared.reply.Info.{Info}
 use Rattle.hfs_model.specs.declared.reply.Value.{Value}
@@ -52,3 +52,7 @@ abbrev pub listed_in : Detail → Catalog → ℕ → Reply
 listed_in detail catalog dir =
     if not (is_folder catalog dir) then refusal NOT_A_FOLDER
     else success (value.Many (map (in_detail detail) (child_infos catalog dir)))
+
+-- so much of what is told of each child of a folder
+abbrev pub infos_in : Detail → Catalog → ℕ → List Info
+infos_in detail catalog dir = map (in_detail detail) (child_infos catalog dir)

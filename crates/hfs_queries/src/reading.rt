@@ -1,13 +1,14 @@
 //! The calls that read the catalog alone. In each the first code that holds is the reply's.
 
-ghost use Rattle.std.specs.Prelude.{◌≡◌, IfOk, map};
+ghost use Rattle.std.specs.Prelude.{◌≡◌, IfOk};
 ghost use Rattle.std.specs.Option.{option_map};
 ghost use Rattle.hfs_model.specs.declared.reply.Value.TheVariants as value;
 ghost use Rattle.hfs_model.specs.Replies.{success};
 ghost use Rattle.hfs_catalog.specs.Lookups.{catalog_item};
 ghost use Rattle.hfs_catalog.specs.Tree.{catalog_of};
-ghost use Rattle.hfs_queries.specs.Brief.{in_detail, listed_in};
-ghost use Rattle.hfs_queries.specs.Told.{IsCatalog, folder_with, child_in, dir_info, cat_info, child_infos, indexed, resolved, file_named};
+ghost use Rattle.hfs_space.specs.Results.{GivesItems};
+ghost use Rattle.hfs_queries.specs.Brief.{infos_in, listed_in};
+ghost use Rattle.hfs_queries.specs.Told.{IsCatalog, folder_with, child_in, dir_info, cat_info, indexed, resolved, file_named};
 
 use crate::reply::{Detail, item_info, refusal, success};
 use hfs_btree::Nodes;
@@ -92,7 +93,7 @@ fn infos<N: Nodes>(
     detail: Detail,
 ) -> Result<Vec<Info>, AllocError>
     requires { IsCatalog (N.nodes nodes.now) }
-    ensures { IfOk result (λ infos. infos.items ≡ map (in_detail detail) (child_infos (catalog_of (N.nodes nodes.now)) dir)) }
+    ensures { GivesItems (infos_in detail (catalog_of (N.nodes nodes.now)) dir) result }
 {
     let items = children(alloc, nodes, dir)?;
     let mut infos = Vec::with_capacity(alloc, items.len())?;
