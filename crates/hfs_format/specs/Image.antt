@@ -1,9 +1,10 @@
 -- The image of a new volume, block by block.
-use Rattle.std.specs.Prelude.{ℕ, ◌+◌, ◌-◌, ◌*◌, Bool, ◌&&◌, ◌||◌, ◌==◌, nat_lt, nat_le, if◌then◌else◌, List, replicate}
+use Rattle.std.specs.Prelude.{ℕ, ◌+◌, ◌-◌, ◌*◌, Bool, ◌&&◌, ◌||◌, ◌==◌, nat_lt, nat_le, if◌then◌else◌, List, None, replicate, ◌≡◌}
+use Rattle.std.proofs.Common.{Vec, Global}
 use Rattle.std.specs.List.{flat_map, range_with_len}
 use Rattle.hfs_format.specs.declared.plan.FormatPlan.{FormatPlan}
 use Rattle.hfs_format.specs.declared.layout.Layout.{Layout}
-use Rattle.hfs_format.specs.Plan.{layout_of, used_blocks}
+use Rattle.hfs_format.specs.Plan.{format_fault, layout_of, used_blocks}
 use Rattle.hfs_format.specs.NewMdb.{new_mdb_block}
 use Rattle.hfs_format.specs.BitRow.{bit_row}
 use Rattle.hfs_format.specs.NewTrees.{empty_tree, one_leaf_tree, header_node, root_leaf, node_bytes}
@@ -39,3 +40,7 @@ volume_image volume = flat_map (new_block volume) (range_with_len 0 volume.block
 -- the image of the planned volume
 abbrev pub new_image : FormatPlan → List ℕ
 new_image plan = volume_image (layout_of plan)
+
+-- the plan has no fault, and this is its volume's image
+abbrev pub IsNewImage : FormatPlan → Vec ℕ Global → Type 0
+IsNewImage plan image = (format_fault plan ≡ None) × (image.items ≡ new_image plan)

@@ -9,6 +9,7 @@ use Rattle.hfs_fields.specs.declared.dir_record.DirRecord.{DirRecord}
 use Rattle.hfs_fields.specs.declared.thread_record.ThreadKind.TheVariants.{Folder}
 use Rattle.hfs_node.specs.Kind.{byte_of}
 use Rattle.hfs_node.specs.Node.{size_of, start_of}
+use Rattle.hfs_node.specs.declared.kind.NodeKind.{NodeKind}
 use Rattle.hfs_node.specs.declared.kind.NodeKind.TheVariants.{Header, Leaf}
 use Rattle.hfs_node.specs.declared.node.Node.{Node}
 use Rattle.hfs_btree.specs.declared.header.Header.{Header as TreeHeader}
@@ -16,6 +17,10 @@ use Rattle.hfs_format.specs.declared.layout.Layout.{Layout}
 use Rattle.hfs_format.specs.BitRow.{bit_row}
 
 -- ---- a node's bytes
+
+-- the descriptor of a node without neighbours that has so many records
+abbrev pub lone_descriptor : NodeKind → ℕ → ℕ → List ℕ
+lone_descriptor kind height records = replicate 8 0 ++ byte_of kind ∷ height ∷ [] ++ big_bytes 2 records ++ replicate 2 0
 
 -- the descriptor, 14 bytes
 unfoldable pub descriptor_bytes : Node → List ℕ

@@ -1,6 +1,7 @@
 -- The numbers of a new volume, and why a plan is refused. Blocks are logical blocks of 512 bytes where they are not
 -- said to be allocation blocks.
-use Rattle.std.specs.Prelude.{ℕ, ◌+◌, ◌-◌, ◌*◌, ◌/◌, ◌≤◌, Bool, not, ◌&&◌, nat_le, if◌then◌else◌, List, length, Option, Some, None, ◌≡◌, ◌⊎◌}
+use Rattle.std.specs.Prelude.{ℕ, ◌+◌, ◌-◌, ◌*◌, ◌/◌, ◌≤◌, Bool, not, ◌&&◌, nat_le, if◌then◌else◌, List, length, Option, Some, None, ◌≡◌, ◌⊎◌, IsTrue}
+use Rattle.std.specs.Option.{SomeIff}
 use Rattle.hfs_fields.specs.Names.{is_item_name}
 use Rattle.hfs_format.specs.declared.plan.FormatPlan.{FormatPlan}
 use Rattle.hfs_format.specs.declared.layout.Layout.{Layout}
@@ -100,3 +101,11 @@ IsFormatFault plan fault = ((fault ≡ Memory) × (format_fault plan ≡ None)) 
 -- the plan has no fault, and its parts lie so
 abbrev pub IsLaidOut : FormatPlan → Layout → Type 0
 IsLaidOut plan volume = (format_fault plan ≡ None) × (volume ≡ layout_of plan)
+
+-- this is the plan's first fault
+abbrev pub HasFault : FormatPlan → FormatFault → Type 0
+HasFault plan fault = format_fault plan ≡ Some fault
+
+-- what is found is the file of so many nodes, or nothing where they are too few or too many
+abbrev pub FindsFile : ℕ → ℕ → ℕ → Option TreeFile → Type 0
+FindsFile least factor nodes found = SomeIff found (IsTrue (is_node_count least factor nodes)) (tree_file factor nodes)

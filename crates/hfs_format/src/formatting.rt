@@ -1,7 +1,7 @@
 //! Images of new volumes.
-ghost use Rattle.std.specs.Prelude.{vec_len, ◌≡◌, ◌+◌, ◌*◌, ◌-◌, ◌<◌, ◌≤◌, ◌⊎◌, None, Some, IfOk, IfErr};
+ghost use Rattle.std.specs.Prelude.{vec_len, ◌≡◌, ◌+◌, ◌*◌, ◌-◌, ◌<◌, ◌≤◌, ◌⊎◌, Some, IfOk, IfErr};
 ghost use Rattle.hfs_format.specs.BitRow.{bit_row};
-ghost use Rattle.hfs_format.specs.Plan.{IsLayout, used_blocks, format_fault, IsFormatFault};
+ghost use Rattle.hfs_format.specs.Plan.{IsLayout, used_blocks, IsFormatFault};
 ghost use Rattle.hfs_format.specs.FormatLaws.{planned_volume};
 ghost use Rattle.hfs_format.specs.Image as spec;
 ghost use Rattle.hfs_check.specs.Sound.{IsSound};
@@ -79,7 +79,7 @@ fn volume_image(alloc: Global, volume: &Layout) -> Result<Vec<u8>, AllocError>
 /// the parts lie is this project's own choice.
 #[tactic(auto, unfolding(crate::specs::Plan::layout_of))]
 pub fn format(alloc: Global, plan: FormatPlan) -> Result<Vec<u8>, FormatFault>
-    ensures image { IfOk result (λ image. (format_fault plan ≡ None) × (image.items ≡ spec.new_image plan)) }
+    ensures image { IfOk result (spec.IsNewImage plan) }
     ensures len { IfOk result (λ image. vec_len image ≡ 512 * plan.blocks) }
     ensures sound { IfOk result (λ image. IsSound image.items) }
     ensures volume { IfOk result (λ image. volume_of image.items ≡ planned_volume plan) }

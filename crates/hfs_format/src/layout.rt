@@ -2,7 +2,7 @@
 ghost use Rattle.std.specs.Prelude.{◌≡◌, ℕ, ◌*◌, ◌/◌, ◌<◌, ◌≤◌, ◌+◌, None, Some, IsTrue, MatchResult, IfOk, IfSome, length};
 ghost use Rattle.std.specs.Option.{SomeIff};
 ghost use Rattle.hfs_format.specs.Plan as spec;
-ghost use Rattle.hfs_format.specs.Plan.{IsLayout};
+ghost use Rattle.hfs_format.specs.Plan.{HasFault, IsLaidOut, IsLayout};
 
 use crate::fault::FormatFault;
 use crate::plan::FormatPlan;
@@ -71,7 +71,7 @@ fn allocation_start(blocks: u32, factor: u32) -> u16
 fn tree_file(least: u32, factor: u32, nodes: u32) -> Option<TreeFile>
     requires some { 1 ≤ factor }
     requires few { factor ≤ 65 }
-    ensures file { SomeIff result (IsTrue (spec.is_node_count least factor nodes)) (spec.tree_file factor nodes) }
+    ensures file { spec.FindsFile least factor nodes result }
     ensures bounds { IfSome result (λ file. (least ≤ file.nodes) × (file.nodes ≤ 2048)) }
 {
     if nodes < least || nodes > 2048 {
@@ -114,7 +114,7 @@ impl Layout {
     /// Where the parts of the planned volume lie, or the plan's first fault.
     #[tactic(auto, unfolding(crate::specs::Plan::format_fault, crate::specs::Plan::layout_of))]
     pub fn of(plan: &FormatPlan) -> Result<Layout, FormatFault>
-        ensures answer { MatchResult result (spec.IsLaidOut plan.entry.now) (λ f. spec.format_fault plan.entry.now ≡ Some f) }
+        ensures answer { MatchResult result (IsLaidOut plan.entry.now) (HasFault plan.entry.now) }
         ensures bounds { IfOk result IsLayout }
     {
         let Some(name) = volume_name(&plan.name) else {

@@ -1,7 +1,5 @@
 //! The parts of a node without neighbours.
-ghost use Rattle.std.specs.Prelude.{◌≡◌, ◌+◌, ◌-◌, ◌≤◌, [], ◌∷◌, ◌++◌, length, replicate};
-ghost use Rattle.byteorder.specs.Endian.{big_bytes};
-ghost use Rattle.hfs_node.specs.Kind.{byte_of};
+ghost use Rattle.std.specs.Prelude.{◌≡◌, ◌+◌, ◌-◌, ◌≤◌, [], ◌∷◌, length};
 ghost use Rattle.hfs_format.specs.NewTrees as spec;
 
 use hfs_fields::FieldRow;
@@ -9,7 +7,7 @@ use hfs_node::NodeKind;
 
 /// The descriptor of a node without neighbours.
 pub fn descriptor(kind: NodeKind, height: u8, records: u16) -> FieldRow
-    ensures bytes { result ≡ replicate 8 0 ++ byte_of kind ∷ height ∷ [] ++ big_bytes 2 records ++ replicate 2 0 }
+    ensures bytes { result ≡ spec.lone_descriptor kind height records }
     ensures length { length result ≡ 14 }
 {
     let mut row = FieldRow::new();
