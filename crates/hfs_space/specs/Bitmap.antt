@@ -43,9 +43,9 @@ AreClearIn patch below start first count = AreClear (over (changes patch) below)
 abbrev pub KeepsOthersIn : Numbered → Numbered → (ℕ → List ℕ) → ℕ → ℕ → ℕ → Type 0
 KeepsOthersIn old new below start first count = KeepsOthers (over (changes old) below) (over (changes new) below) start first count
 
--- a block with so many owners has none, or one and is marked
-abbrev pub is_owned_right : (ℕ → List ℕ) → ℕ → ℕ → ℕ → Bool
-is_owned_right blocks start block owners = (owners == 0) || ((owners == 1) && is_used blocks start block)
+-- a block may have so many owners: none, or one where it is marked
+abbrev pub is_allowed : (ℕ → List ℕ) → ℕ → ℕ → ℕ → Bool
+is_allowed blocks start block owners = (owners == 0) || ((owners == 1) && is_used blocks start block)
 
 -- a block with so many owners is stray: it has none, and is marked
 abbrev pub is_stray : (ℕ → List ℕ) → ℕ → ℕ → ℕ → Bool

@@ -1,5 +1,5 @@
 -- The bytes of forks, and of the trees' files, in the logical blocks of a volume.
-use Rattle.std.specs.Prelude.{ℕ, ◌+◌, ◌*◌, ◌/◌, ◌≤◌, List, take, drop, map, ◌-◌, ◌≡◌, ◌++◌}
+use Rattle.std.specs.Prelude.{ℕ, ◌+◌, ◌*◌, ◌/◌, ◌≤◌, List, take, drop, map, ◌-◌, ◌≡◌, ◌++◌, Result, OnOk}
 use Rattle.std.specs.List.{flat_map, range_with_len}
 use Rattle.std.proofs.Common.{Vec, Global}
 use Rattle.hfs_fields.specs.declared.extent.Extent.{Extent}
@@ -51,9 +51,9 @@ read_of blocks mdb extents len offset count = read_from (fork_bytes blocks mdb e
 abbrev pub run_part : (ℕ → List ℕ) → Run → ℕ → ℕ → List ℕ
 run_part blocks run from end = take (end - from) (drop from (run_bytes blocks run.first run.count))
 
--- behind the old bytes, `count` bytes of an extent from `from` on
-abbrev pub Gains : (ℕ → List ℕ) → Mdb → Extent → ℕ → ℕ → List ℕ → List ℕ → Type 0
-Gains blocks mdb e from count old new = new ≡ old ++ take count (drop from (extent_bytes blocks mdb e))
+-- what succeeds adds, behind the old bytes, `count` bytes of an extent from `from` on
+abbrev pub Gains : {T E : Type 0} → Result T E → (ℕ → List ℕ) → Mdb → Extent → ℕ → ℕ → Vec ℕ Global → Vec ℕ Global → Type 0
+Gains result blocks mdb e from count old new = OnOk result (new.items ≡ old.items ++ take count (drop from (extent_bytes blocks mdb e)))
 
 -- behind the old bytes, those of a run of blocks from `from` up to `end`
 abbrev pub AddsPart : (ℕ → List ℕ) → Run → ℕ → ℕ → Vec ℕ Global → Vec ℕ Global → Type 0

@@ -97,8 +97,8 @@ abbrev pub AddsRun : Overflow → ℕ → ForkKind → List Extent → List Bool
 AddsRun overflow file kind first old new = AddsMarks overflow (run_of_fork file (fork_byte kind) first overflow) old new
 
 -- behind the old extents, those of a fork whose record has these first ones
-abbrev pub AddsFork : Overflow → ℕ → ForkKind → List Extent → List Extent → List Extent → Type 0
-AddsFork overflow file kind first old new = new ≡ old ++ fork_extents overflow file (fork_byte kind) first
+abbrev pub AddsFork : Overflow → ℕ → ForkKind → List Extent → Vec Extent Global → Vec Extent Global → Type 0
+AddsFork overflow file kind first old new = new.items ≡ old.items ++ fork_extents overflow file (fork_byte kind) first
 
 -- this holds of each catalog whose files these are
 abbrev pub OfCatalog : List CatalogFile → (Pairs CatKey → Type 0) → Type 0

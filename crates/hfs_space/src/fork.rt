@@ -48,7 +48,7 @@ fn read_extent<B: Blocks>(
     requires area { HasArea mdb.now (B.total blocks.now) }
     requires within { IsExtentWithin mdb.now.allocation_blocks extent }
     requires fits { from + count ≤ 512 * (extent.count * blocks_each mdb.now) }
-    ensures { OnOk result (Gains (B.blocks blocks.now) mdb.now extent from count bytes.old.items bytes.new.items) }
+    ensures { Gains result (B.blocks blocks.now) mdb.now extent from count bytes.old bytes.new }
 {
     if count == 0 {
         return Ok(());

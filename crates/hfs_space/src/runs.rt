@@ -87,7 +87,7 @@ pub(crate) fn push_fork(
     extents: &mut Vec<Extent>,
 ) -> Result<(), AllocError>
     requires { Rises ext_cmp overflow.now }
-    ensures { OnOk result (spec.AddsFork overflow.now file kind first.now extents.old.items extents.new.items) }
+    ensures { OnOk result (spec.AddsFork overflow.now file kind first.now extents.old extents.new) }
 {
     extents.extend_from_slice(first)?;
     let fork = fork_byte(kind);

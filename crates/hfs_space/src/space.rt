@@ -1,6 +1,6 @@
 //! The check of mounting on who owns the allocation blocks.
 ghost use Rattle.std.specs.Prelude.{◌≡◌, ◌+◌, ◌<◌, ◌≤◌, ◌==◌, ◌&&◌, ◌||◌};
-ghost use Rattle.hfs_space.specs.Bitmap.{bitmap_len, is_owned_right, is_stray};
+ghost use Rattle.hfs_space.specs.Bitmap.{bitmap_len, is_allowed, is_stray};
 ghost use Rattle.hfs_space.specs.Extents.{extent_blocks};
 ghost use Rattle.hfs_space.specs.Faults as spec;
 ghost use Rattle.hfs_space.specs.Results.{Gives};
@@ -14,7 +14,7 @@ use std::alloc::{AllocError, Global};
 /// Whether a block with so many owners is sound: it has none, or one and is marked.
 fn is_sound<B: Blocks>(bitmap: &Bitmap<'_, B>, block: u16, owners: usize) -> bool
     requires { block < bitmap.now.count }
-    ensures { result ≡ is_owned_right (B.blocks bitmap.now.blocks.now) bitmap.now.start block owners }
+    ensures { result ≡ is_allowed (B.blocks bitmap.now.blocks.now) bitmap.now.start block owners }
 {
     owners == 0 || (owners == 1 && bitmap.is_used(block))
 }
