@@ -1,5 +1,6 @@
 -- What a check answers.
-use Rattle.std.specs.Prelude.{◌≡◌, ◌⊎◌, ℕ, List, Option, Some, None, Result, MatchResult, if◌then◌else◌, ◌++◌}
+use Rattle.std.specs.Prelude.{◌≡◌, ◌⊎◌, ℕ, List, Option, Some, None, Result, IfOk, MatchResult, if◌then◌else◌, ◌++◌}
+use Rattle.std.proofs.Common.{Vec, Global}
 use Rattle.hfs_fields.specs.Records.{is_file, file_record_of}
 use Rattle.hfs_btree_checks.specs.Order.{key_fault, order_fault}
 use Rattle.hfs_btree_checks.specs.Shape.{shape_fault, ◌or_else◌}
@@ -110,3 +111,11 @@ AnswersSpace blocks mdb owned result = Answers (check_fault 12 (space_fault bloc
 
 abbrev pub AnswersNumbers : {A : Type 0} → Blocks → Mdb → Store → Catalog → Result A MountFault → Type 0
 AnswersNumbers blocks mdb extents catalog result = Answers (counted_fault blocks mdb (overflow_of extents) catalog) result
+
+-- the answer has all extents that somebody owns
+abbrev pub GivesAllOwned : {E : Type 0} → Mdb → Overflow → Catalog → Result (Vec Extent Global) E → Type 0
+GivesAllOwned mdb overflow catalog result = IfOk result (λ owned. AreOwned mdb overflow catalog owned.items)
+
+-- the answer has all extents that somebody owns, where these are the nodes of the two trees
+abbrev pub GivesOwnedIn : {E : Type 0} → Mdb → Store → Store → Result (Vec Extent Global) E → Type 0
+GivesOwnedIn mdb extents catalog result = IfOk result (λ owned. AreOwnedIn mdb extents catalog owned.items)

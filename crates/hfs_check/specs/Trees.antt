@@ -1,5 +1,5 @@
 -- Where the two trees of a volume lie.
-use Rattle.std.specs.Prelude.{◌≡◌, ℕ, List, true, false, Option, MatchOption}
+use Rattle.std.specs.Prelude.{◌≡◌, ℕ, List, true, false, Option, MatchOption, Result, IfOk}
 use Rattle.std.specs.List.{flat_map}
 use Rattle.hfs_fields.specs.declared.extent.Extent.{Extent}
 use Rattle.hfs_blocks.specs.declared.run.Run.{Run}
@@ -54,3 +54,23 @@ FindsTreeFile total blocks mdb extents size found = MatchOption found (is_tree_f
 -- these are the trees of an image
 abbrev pub HasTreesOf : List ℕ → VolumeTrees → Type 0
 HasTreesOf image trees = HasTrees (block_count image) (block_at image) trees
+
+-- the volume in the answer has its two trees
+abbrev pub GivesTrees : {A E : Type 0} → ℕ → Blocks → (A → VolumeTrees) → Result A E → Type 0
+GivesTrees total blocks trees result = IfOk result (λ found. HasTrees total blocks (trees found))
+
+-- the answer has the runs of a tree's file, or none where the file is wrong
+abbrev pub GivesRuns : {E : Type 0} → ℕ → Blocks → Mdb → List Extent → ℕ → Result (Option (Vec Run Global)) E → Type 0
+GivesRuns total blocks mdb extents size result = IfOk result (FindsTreeFile total blocks mdb extents size)
+
+-- the runs are those of the extents tree
+abbrev pub HoldExtents : ℕ → Blocks → Vec Run Global → Type 0
+HoldExtents total blocks = λ runs. LieInExtents total blocks runs.items
+
+-- the extents are the catalog file's
+abbrev pub AreCatalogExtents : Blocks → Vec Extent Global → Type 0
+AreCatalogExtents blocks extents = extents.items ≡ catalog_extents blocks
+
+-- the runs in the answer are those of the catalog tree
+abbrev pub GivesCatalog : {A E : Type 0} → ℕ → Blocks → (A → Vec Run Global) → Result A E → Type 0
+GivesCatalog total blocks runs result = IfOk result (λ found. LieInCatalog total blocks (runs found).items)

@@ -4,11 +4,11 @@ ghost use Rattle.hfs_btree.specs.Sound.{HasStructure, HasCounts};
 ghost use Rattle.hfs_catalog.specs.Tree.{cat_keys};
 ghost use Rattle.hfs_blocks.specs.Blocks.{block_at};
 ghost use Rattle.hfs_space.specs.TreeKeys.{IsExtentsTree};
-ghost use Rattle.hfs_check.specs.Answers.{Answers, IsFaultOf, both_trees_fault, behind_trees_fault, AreOwnedIn, AnswersContents, AreAllOwned, IsFaultIn};
+ghost use Rattle.hfs_check.specs.Answers.{Answers, IsFaultOf, both_trees_fault, behind_trees_fault, GivesOwnedIn, AnswersContents, AreAllOwned, IsFaultIn};
 ghost use Rattle.hfs_check.specs.Faults.{blocks_fault, fault_of};
 ghost use Rattle.hfs_check.specs.Parts.{mdb_in};
 ghost use Rattle.hfs_check.specs.Sound.{IsMdbSound, AreBlocksSound, IsSound, HasBitmap};
-ghost use Rattle.hfs_check.specs.Trees.{HasTrees, HasTreesOf};
+ghost use Rattle.hfs_check.specs.Trees.{GivesTrees, HasTrees, HasTreesOf};
 
 use crate::laws::{
     no_blocks_fault, no_catalog_fault, no_extents_fault, no_image_fault, no_mdb_fault,
@@ -38,7 +38,7 @@ fn check_contents<B: Blocks, E: Nodes, C: Nodes>(
     requires structure { HasStructure cat_keys (C.nodes catalog.now) }
     requires counts { HasCounts cat_keys (C.nodes catalog.now) }
     ensures fault { AnswersContents (B.blocks blocks.now) mdb.now (E.nodes extents.now) (C.nodes catalog.now) result }
-    ensures owned { IfOk result (λ owned. AreOwnedIn mdb.now (E.nodes extents.now) (C.nodes catalog.now) owned.items) }
+    ensures owned { GivesOwnedIn mdb.now (E.nodes extents.now) (C.nodes catalog.now) result }
 {
     let records = read_records(alloc, catalog)?;
     check_catalog_records(alloc, mdb.next_id, catalog, &records)?;
@@ -150,7 +150,7 @@ pub fn check_blocks<B: Blocks>(alloc: Global, blocks: &B) -> Result<SoundVolume,
     ensures right { OnOk result (blocks_fault (B.total blocks.now) (B.blocks blocks.now) ≡ None) }
     ensures sound { OnOk result (AreBlocksSound (B.total blocks.now) (B.blocks blocks.now)) }
     ensures mdb { IfOk result (λ volume. volume.mdb ≡ mdb_in (B.blocks blocks.now)) }
-    ensures trees { IfOk result (λ volume. HasTrees (B.total blocks.now) (B.blocks blocks.now) volume.trees) }
+    ensures trees { GivesTrees (B.total blocks.now) (B.blocks blocks.now) (λ v. v.trees) result }
     ensures wrong { IfErr result (IsFaultIn (B.total blocks.now) (B.blocks blocks.now)) }
 {
     let CheckedVolume { volume, .. } = checked_blocks(alloc, blocks)?;

@@ -1,9 +1,9 @@
 //! The checks of the numbers that are counted and of the space, each as what mounting answers.
-ghost use Rattle.std.specs.Prelude.{◌≡◌, IfOk};
+ghost use Rattle.std.specs.Prelude.{◌≡◌};
 ghost use Rattle.hfs_space.specs.Faults as space_spec;
 ghost use Rattle.hfs_space.specs.Runs.{files_in};
 ghost use Rattle.hfs_space.specs.TreeKeys.{IsExtentsTree, overflow_of};
-ghost use Rattle.hfs_check.specs.Answers.{AreOwned, AnswersForks, AnswersSpace, AnswersNumbers};
+ghost use Rattle.hfs_check.specs.Answers.{GivesAllOwned, AnswersForks, AnswersSpace, AnswersNumbers};
 ghost use Rattle.hfs_check.specs.Sound.{HasBitmap};
 
 use crate::catalog_files::catalog_files;
@@ -63,7 +63,7 @@ pub(crate) fn check_numbers<B: Blocks, N: Nodes>(
     requires bitmap { HasBitmap mdb.now (B.total blocks.now) }
     requires tree { IsExtentsTree (N.nodes tree.now) }
     ensures fault { AnswersNumbers (B.blocks blocks.now) mdb.now (N.nodes tree.now) records.now result }
-    ensures owned { IfOk result (λ owned. AreOwned mdb.now (overflow_of (N.nodes tree.now)) records.now owned.items) }
+    ensures owned { GivesAllOwned mdb.now (overflow_of (N.nodes tree.now)) records.now result }
 {
     check_valences(alloc, records)?;
     check_counts(mdb, records)?;

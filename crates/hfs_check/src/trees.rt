@@ -5,7 +5,7 @@ ghost use Rattle.hfs_space.specs.TreeKeys.{IsExtentsTree};
 ghost use Rattle.hfs_check.specs.Parts.{mdb_in, extents_nodes, catalog_extents};
 ghost use Rattle.hfs_check.specs.Sound.{IsMdbSound};
 ghost use Rattle.hfs_check.specs.Answers.{Answers, IsFaultOf, extents_check_fault, catalog_check_fault, both_trees_fault};
-ghost use Rattle.hfs_check.specs.Trees.{HasTrees, LieInExtentsOf, LieInCatalogOf, LieInExtents, LieInCatalog, FindsTreeFile};
+ghost use Rattle.hfs_check.specs.Trees.{AreCatalogExtents, GivesCatalog, GivesRuns, HasTrees, HoldExtents, LieInExtentsOf, LieInCatalogOf, LieInExtents};
 
 use crate::laws::no_extents_fault;
 use crate::mount_fault::MountFault;
@@ -25,7 +25,7 @@ fn file_runs<B: Blocks>(
     size: u32,
 ) -> Result<Option<Vec<Run>>, AllocError>
     requires { IsMdbSound (B.total blocks.now) mdb.now }
-    ensures { IfOk result (FindsTreeFile (B.total blocks.now) (B.blocks blocks.now) mdb.now extents.now size) }
+    ensures { GivesRuns (B.total blocks.now) (B.blocks blocks.now) mdb.now extents.now size result }
 {
     no_tree_file_fault();
     if is_tree_file(mdb, extents, size) {
@@ -80,7 +80,7 @@ fn open_extents<B: Blocks>(alloc: Global, blocks: &B, mdb: &Mdb) -> Result<Vec<R
     requires sound { IsMdbSound (B.total blocks.now) mdb.now }
     requires is { mdb.now ≡ mdb_in (B.blocks blocks.now) }
     ensures right { OnOk result (extents_check_fault mdb.now (B.blocks blocks.now) ≡ None) }
-    ensures runs { IfOk result (λ runs. LieInExtents (B.total blocks.now) (B.blocks blocks.now) runs.items) }
+    ensures runs { IfOk result (HoldExtents (B.total blocks.now) (B.blocks blocks.now)) }
     ensures wrong { IfErr result (IsFaultOf (extents_check_fault mdb.now (B.blocks blocks.now))) }
 {
     match file_runs(alloc, blocks, mdb, &mdb.extents_file, mdb.extents_file_size)? {
@@ -134,8 +134,8 @@ fn open_catalog<B: Blocks>(
     requires runs { LieInExtents (B.total blocks.now) (B.blocks blocks.now) extents_tree.now }
     requires tree { IsExtentsTree (extents_nodes (B.blocks blocks.now)) }
     ensures right { OnOk result (catalog_check_fault mdb.now (B.blocks blocks.now) ≡ None) }
-    ensures extents { IfOk result (λ file. file.extents.items ≡ catalog_extents (B.blocks blocks.now)) }
-    ensures runs { IfOk result (λ file. LieInCatalog (B.total blocks.now) (B.blocks blocks.now) file.runs.items) }
+    ensures extents { IfOk result (λ file. AreCatalogExtents (B.blocks blocks.now) file.extents) }
+    ensures runs { GivesCatalog (B.total blocks.now) (B.blocks blocks.now) (λ f. f.runs) result }
     ensures wrong { IfErr result (IsFaultOf (catalog_check_fault mdb.now (B.blocks blocks.now))) }
 {
     let extents = catalog_file_extents(alloc, blocks, mdb, extents_tree)?;
