@@ -8,7 +8,7 @@ use Rattle.hfs_space.specs.Faults.{is_tree_file}
 use Rattle.hfs_space.specs.TreeFiles.{tree_blocks}
 use Rattle.hfs_check.specs.Parts.{Blocks, extents_blocks, catalog_blocks}
 use Rattle.hfs_needed.specs.Gathered.{LieAt}
-use Rattle.hfs_needed.specs.Needed.{has_extents_file, has_catalog_file}
+use Rattle.hfs_needed.specs.Needed.{has_extents_file, has_catalog_file, needed_of_catalog}
 
 -- the runs at these places of a volume of so many blocks, where the file is right, and else none
 abbrev pub FindsWhere : Bool → ℕ → List ℕ → Option (Vec Run Global) → Type 0
@@ -29,3 +29,7 @@ FindsCatalogFile total blocks found = FindsWhere (has_catalog_file blocks) total
 -- the runs are those of the extents file
 abbrev pub LieAtExtents : ℕ → Blocks → List Run → Type 0
 LieAtExtents total blocks runs = LieAt total (extents_blocks blocks) runs
+
+-- the runs lie where the catalog's needed blocks do
+abbrev pub LieAtNeeded : ℕ → Blocks → Vec Run Global → Type 0
+LieAtNeeded total blocks = λ runs. LieAt total (needed_of_catalog blocks) runs.items

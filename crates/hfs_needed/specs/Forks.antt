@@ -1,5 +1,6 @@
 -- The bytes of a file's fork, of an image of which only the needed blocks and the fork's own are read.
-use Rattle.std.specs.Prelude.{◌≡◌, ℕ, ◌<◌, not, if◌then◌else◌, List, length, Result, Ok, Err, Option, IfSome}
+use Rattle.std.specs.Prelude.{◌≡◌, ℕ, ◌<◌, not, if◌then◌else◌, List, length, Result, Ok, Err, Option, IfSome, IfOk, IfErr}
+use Rattle.std.proofs.Common.{Vec, Global}
 use Rattle.std.specs.Option.{option_map_or}
 use Rattle.hfs_fields.specs.Names.{is_item_name}
 use Rattle.hfs_fields.specs.declared.file_record.FileRecord.{FileRecord}
@@ -75,3 +76,19 @@ IsForkIn blocks file kind fork = IsForkSound (mdb_in blocks) (overflow_in blocks
 -- the extents of both forks of a file lie in the volume, and have room for its bytes
 abbrev pub AreForksIn : Blocks → FileRecord → Type 0
 AreForksIn blocks file = Each (IsForkSound (mdb_in blocks) (overflow_in blocks)) (forks_of_file file)
+
+-- what is found under that name, where it is bytes, is the fork's
+abbrev pub FindsForkNamed : Option (List ℕ) → ℕ → ℕ → List ℕ → Fork → Result (Vec ℕ Global) Reply → Type 0
+FindsForkNamed known len dir name fork = λ found. IfOk found (λ bytes. IsForkNamed known len dir name fork (Ok bytes.items))
+
+-- and where it is a reply, refuses the fork
+abbrev pub RefusesForkNamed : Option (List ℕ) → ℕ → ℕ → List ℕ → Fork → Result (Vec ℕ Global) Reply → Type 0
+RefusesForkNamed known len dir name fork = λ found. IfErr found (λ reply. IsForkNamed known len dir name fork (Err reply))
+
+-- the bytes are those of a fork of the image, where it is known and whole
+abbrev pub HoldsFork : Option (List ℕ) → ℕ → Numbered → ℕ → ForkKind → ForkRecord → Vec ℕ Global → Type 0
+HoldsFork known total read file kind fork = λ bytes. OfWhole known total (λ image. bytes.items ≡ bytes_by read image file kind fork)
+
+-- the bytes are those of one of both forks of a file of the image, where it is known and whole
+abbrev pub HoldsForkOf : Option (List ℕ) → ℕ → Numbered → FileRecord → Fork → Vec ℕ Global → Type 0
+HoldsForkOf known total read file fork = λ bytes. OfWhole known total (λ image. bytes.items ≡ fork_by read image file fork)

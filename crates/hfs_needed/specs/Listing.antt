@@ -1,11 +1,16 @@
 -- The lists of folders.
-use Rattle.std.specs.Prelude.{ℕ, List}
+use Rattle.std.specs.Prelude.{◌≡◌, ℕ, List, Option}
 use Rattle.hfs_model.specs.declared.reply.Reply.{Reply}
 use Rattle.hfs_model.specs.Children.{entries_of}
 use Rattle.hfs_model.specs.Reading.{list}
 use Rattle.hfs_check.specs.VolumeOf.{volume_of}
 use Rattle.hfs_queries.specs.Brief.{without_ids}
+use Rattle.hfs_needed.specs.Known.{OfKnown}
 
 -- the reply to List of a folder of an image's volume, with has_id false in each item
 abbrev pub brief_list : List ℕ → ℕ → Reply
 brief_list image dir = without_ids (list (entries_of (volume_of image)) dir)
+
+-- where the image's bytes are known, and are so many, this is the folder's list in brief
+abbrev pub IsBriefList : Option (List ℕ) → ℕ → ℕ → Reply → Type 0
+IsBriefList known len dir reply = OfKnown known len (λ image. reply ≡ brief_list image dir)

@@ -2,9 +2,8 @@
 ghost use Rattle.std.specs.Prelude.{◌≡◌, true, false, IfOk};
 ghost use Rattle.hfs_check.specs.Parts.{mdb_in};
 ghost use Rattle.hfs_check.specs.Sound.{IsMdbSound};
-ghost use Rattle.hfs_needed.specs.Gathered.{LieAt};
 ghost use Rattle.hfs_needed.specs.Needed as spec;
-ghost use Rattle.hfs_needed.specs.Finding.{FindsTreeFile, FindsExtentsFile, FindsCatalogFile, LieAtExtents};
+ghost use Rattle.hfs_needed.specs.Finding.{FindsTreeFile, FindsExtentsFile, FindsCatalogFile, LieAtExtents, LieAtNeeded};
 
 use hfs_blocks::{Blocks, Run};
 use hfs_btree::RunNodes;
@@ -105,7 +104,7 @@ pub(crate) fn catalog_runs<B: Blocks>(
     requires is { mdb.now ≡ mdb_in (B.blocks blocks.now) }
     requires file { spec.has_extents_file (B.blocks blocks.now) ≡ true }
     requires runs { LieAtExtents (B.total blocks.now) (B.blocks blocks.now) extents_tree.now }
-    ensures { IfOk result (λ runs. LieAt (B.total blocks.now) (spec.needed_of_catalog (B.blocks blocks.now)) runs.items) }
+    ensures { IfOk result (LieAtNeeded (B.total blocks.now) (B.blocks blocks.now)) }
 {
     if !is_extents_tree_right(alloc, blocks, mdb, extents_tree)? {
         return Ok(Vec::new(alloc));

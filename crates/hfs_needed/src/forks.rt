@@ -1,11 +1,11 @@
 //! The bytes of forks, by the needed blocks of an image.
-ghost use Rattle.std.specs.Prelude.{◌≡◌, IfOk, IfErr, Ok, Err};
+ghost use Rattle.std.specs.Prelude.{◌≡◌, IfOk, IfErr};
 ghost use Rattle.hfs_check.specs.Parts.{mdb_in, catalog_in};
 ghost use Rattle.hfs_check.specs.Sound.{AreBlocksSound};
 ghost use Rattle.hfs_check.specs.Trees.{HasTrees};
 ghost use Rattle.hfs_queries.specs.Told as told;
 ghost use Rattle.hfs_sparse.specs.Sparse.{sparse};
-ghost use Rattle.hfs_needed.specs.Forks.{bytes_by, fork_by, AreForksIn, IsForkIn, OfWhole, IsForkNamed};
+ghost use Rattle.hfs_needed.specs.Forks.{AreForksIn, FindsForkNamed, HoldsFork, HoldsForkOf, IsForkIn, RefusesForkNamed};
 ghost use Rattle.hfs_needed.specs.Opened.{IsRefusedFor};
 
 use crate::laws::gathered_is_enough;
@@ -36,7 +36,7 @@ fn read_kind<S: BlockSource>(
     requires directory { sound.now.mdb ≡ mdb_in (sparse read.now) }
     requires trees { HasTrees count (sparse read.now) sound.now.trees }
     requires fork { IsForkIn (sparse read.now) file kind fork.now }
-    ensures bytes { IfOk result (λ bytes. OfWhole (S.image source.old) count (λ image. bytes.items ≡ bytes_by read.now image file kind fork.now)) }
+    ensures bytes { IfOk result (HoldsFork (S.image source.old) count read.now file kind fork.now) }
     ensures image { S.image source.new ≡ S.image source.old }
 {
     trees_are_sound();
@@ -72,7 +72,7 @@ fn read_file<S: BlockSource>(
     requires directory { sound.now.mdb ≡ mdb_in (sparse read.now) }
     requires trees { HasTrees count (sparse read.now) sound.now.trees }
     requires forks { AreForksIn (sparse read.now) file.now }
-    ensures bytes { IfOk result (λ bytes. OfWhole (S.image source.old) count (λ image. bytes.items ≡ fork_by read.now image file.now fork)) }
+    ensures bytes { IfOk result (HoldsForkOf (S.image source.old) count read.now file.now fork) }
     ensures image { S.image source.new ≡ S.image source.old }
 {
     let id = file.id;
@@ -121,8 +121,8 @@ pub fn needed_fork<S: BlockSource>(
     name: &[u8],
     fork: Fork,
 ) -> Result<Result<Vec<u8>, Reply>, NeededFault>
-    ensures bytes { IfOk result (λ found. IfOk found (λ bytes. IsForkNamed (S.image source.old) len dir name.now fork (Ok bytes.items))) }
-    ensures unread { IfOk result (λ found. IfErr found (λ reply. IsForkNamed (S.image source.old) len dir name.now fork (Err reply))) }
+    ensures bytes { IfOk result (FindsForkNamed (S.image source.old) len dir name.now fork) }
+    ensures unread { IfOk result (RefusesForkNamed (S.image source.old) len dir name.now fork) }
     ensures refused { IfErr result (λ fault. IsRefusedFor (S.image source.old) len fault) }
     ensures image { S.image source.new ≡ S.image source.old }
 {

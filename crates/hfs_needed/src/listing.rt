@@ -5,10 +5,10 @@ ghost use Rattle.hfs_check.specs.Parts.{catalog_in};
 ghost use Rattle.hfs_check.specs.Sound.{AreBlocksSound};
 ghost use Rattle.hfs_check.specs.Trees.{HasTrees};
 ghost use Rattle.hfs_queries.specs.Brief.{listed_in};
+ghost use Rattle.hfs_space.specs.Results.{Gives};
 ghost use Rattle.hfs_sparse.specs.Sparse.{sparse};
-ghost use Rattle.hfs_needed.specs.Known.{OfKnown};
 ghost use Rattle.hfs_needed.specs.Opened.{IsRefusedFor};
-ghost use Rattle.hfs_needed.specs.Listing.{brief_list};
+ghost use Rattle.hfs_needed.specs.Listing.{IsBriefList};
 
 use crate::laws::gathered_is_enough;
 use crate::opening::{NeededFault, open_needed};
@@ -31,7 +31,7 @@ fn list_in_brief(
 ) -> Result<Reply, AllocError>
     requires sound { AreBlocksSound count (sparse read.now) }
     requires trees { HasTrees count (sparse read.now) trees.now }
-    ensures { IfOk result (λ reply. reply ≡ listed_in Detail.Brief (catalog_in (sparse read.now)) dir) }
+    ensures { Gives (listed_in Detail.Brief (catalog_in (sparse read.now)) dir) result }
 {
     catalog_answers();
     let zeros = ZeroBlocks { count };
@@ -50,7 +50,7 @@ pub fn needed_list<S: BlockSource>(
     len: u64,
     dir: u32,
 ) -> Result<Reply, NeededFault>
-    ensures reply { IfOk result (λ reply. OfKnown (S.image source.old) len (λ bytes. reply ≡ brief_list bytes dir)) }
+    ensures reply { IfOk result (IsBriefList (S.image source.old) len dir) }
     ensures refused { IfErr result (λ fault. IsRefusedFor (S.image source.old) len fault) }
     ensures image { S.image source.new ≡ S.image source.old }
 {

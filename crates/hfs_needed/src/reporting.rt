@@ -1,8 +1,6 @@
 //! The report on an image of which only the needed blocks are read.
-ghost use Rattle.std.specs.Prelude.{◌≡◌, ◌≤◌, IfOk, IfSome};
-ghost use Rattle.hfs_blocks.specs.Blocks.{block_at};
-ghost use Rattle.hfs_check.specs.Report.{report_in, report_of};
-ghost use Rattle.hfs_needed.specs.Known.{OfKnown};
+ghost use Rattle.std.specs.Prelude.{◌≡◌, ◌≤◌, IfOk};
+ghost use Rattle.hfs_needed.specs.Known.{IsReportIn, IsReportOf};
 
 use crate::gathering::gather_needed;
 use crate::laws::gathered_is_enough;
@@ -17,7 +15,7 @@ fn gathered_report<S: BlockSource>(
     count: u32,
 ) -> Result<Report, SparseFault>
     requires { 3 ≤ count }
-    ensures report { IfOk result (λ report. IfSome (S.image source.old) (λ bytes. report ≡ report_in count (block_at bytes))) }
+    ensures report { IfOk result (IsReportIn (S.image source.old) count) }
     ensures image { S.image source.new ≡ S.image source.old }
 {
     gathered_is_enough();
@@ -37,7 +35,7 @@ pub fn needed_report<S: BlockSource>(
     source: &mut S,
     len: u64,
 ) -> Result<Report, SparseFault>
-    ensures report { IfOk result (λ report. OfKnown (S.image source.old) len (λ bytes. report ≡ report_of bytes)) }
+    ensures report { IfOk result (IsReportOf (S.image source.old) len) }
     ensures image { S.image source.new ≡ S.image source.old }
 {
     if len > 2_147_483_648 {
