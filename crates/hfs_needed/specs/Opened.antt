@@ -11,6 +11,7 @@ use Rattle.hfs_check.specs.Sound.{AreBlocksSound}
 use Rattle.hfs_check.specs.Trees.{HasTrees}
 use Rattle.hfs_sparse.specs.Sparse.{sparse}
 use Rattle.hfs_needed.specs.declared.opening.NeededFault.{NeededFault}
+use Rattle.hfs_needed.specs.declared.opening.NeededVolume.{NeededVolume}
 use Rattle.hfs_needed.specs.declared.opening.NeededFault.TheVariants.{Refused}
 use Rattle.hfs_needed.specs.Gathered.{HasNeeded, IsOfKnown}
 use Rattle.hfs_needed.specs.Known.{OfKnown}
@@ -32,3 +33,7 @@ AreRefusedFor known total fault = (why : MountFault) → fault ≡ Refused why �
 -- where an image of so many bytes is refused, it is for its first fault
 abbrev pub IsRefusedFor : Option (List ℕ) → ℕ → NeededFault → Type 0
 IsRefusedFor known len fault = (why : MountFault) → fault ≡ Refused why → OfKnown known len (λ bytes. fault_of bytes ≡ Some why)
+
+-- the volume is opened, with what it has of the image
+abbrev pub IsOpenedOf : Option (List ℕ) → ℕ → NeededVolume → Type 0
+IsOpenedOf known total = λ volume. IsOpened known total volume.read volume.count volume.sound.mdb volume.sound.trees

@@ -1,7 +1,7 @@
 //! Volumes of which only the needed blocks are read.
 ghost use Rattle.std.specs.Prelude.{◌≡◌, ◌≢◌, ◌≤◌, ◌/◌, IfOk, IfErr};
 ghost use Rattle.hfs_check.specs.declared.mount_fault.MountFault.{MountFault};
-ghost use Rattle.hfs_needed.specs.Opened.{IsOpened, AreRefusedFor, IsRefusedFor};
+ghost use Rattle.hfs_needed.specs.Opened.{IsOpenedOf, AreRefusedFor, IsRefusedFor};
 
 use crate::gathering::gather_needed;
 use crate::laws::gathered_is_enough;
@@ -51,7 +51,7 @@ fn open_blocks<S: BlockSource>(
     count: u32,
 ) -> Result<NeededVolume, NeededFault>
     requires { 3 ≤ count }
-    ensures opened { IfOk result (λ volume. IsOpened (S.image source.old) count volume.read volume.count volume.sound.mdb volume.sound.trees) }
+    ensures opened { IfOk result (IsOpenedOf (S.image source.old) count) }
     ensures refused { IfErr result (λ fault. AreRefusedFor (S.image source.old) count fault) }
     ensures image { S.image source.new ≡ S.image source.old }
 {
@@ -75,7 +75,7 @@ pub(crate) fn open_needed<S: BlockSource>(
     source: &mut S,
     len: u64,
 ) -> Result<NeededVolume, NeededFault>
-    ensures opened { IfOk result (λ volume. IsOpened (S.image source.old) (len / 512) volume.read volume.count volume.sound.mdb volume.sound.trees) }
+    ensures opened { IfOk result (IsOpenedOf (S.image source.old) (len / 512)) }
     ensures refused { IfErr result (λ fault. IsRefusedFor (S.image source.old) len fault) }
     ensures image { S.image source.new ≡ S.image source.old }
 {
