@@ -6,6 +6,7 @@ use Rattle.hfs_blocks.specs.declared.run.Run.{Run}
 use Rattle.hfs_blocks.specs.Blocks.{run_of, nodes_in, AreRunsWithin, block_at, block_count}
 use Rattle.hfs_btree.specs.Tree.{Store}
 use Rattle.hfs_check.specs.declared.trees.VolumeTrees.{VolumeTrees}
+use Rattle.hfs_check.specs.declared.checking.CheckedVolume.{CheckedVolume}
 use Rattle.hfs_check.specs.Parts.{Blocks, extents_blocks, extents_nodes, catalog_extents, catalog_blocks, catalog_nodes}
 use Rattle.hfs_space.specs.TreeFiles.{tree_nodes, tree_blocks}
 use Rattle.hfs_fields.specs.declared.mdb.Mdb.{Mdb}
@@ -74,3 +75,7 @@ AreCatalogExtents blocks extents = extents.items ≡ catalog_extents blocks
 -- the runs in the answer are those of the catalog tree
 abbrev pub GivesCatalog : {A E : Type 0} → ℕ → Blocks → (A → Vec Run Global) → Result A E → Type 0
 GivesCatalog total blocks runs result = IfOk result (λ found. LieInCatalog total blocks (runs found).items)
+
+-- the checked volume has its two trees
+abbrev pub HasCheckedTrees : ℕ → Blocks → CheckedVolume → Type 0
+HasCheckedTrees total blocks = λ checked. HasTrees total blocks checked.volume.trees

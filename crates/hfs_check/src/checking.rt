@@ -8,7 +8,7 @@ ghost use Rattle.hfs_check.specs.Answers.{Answers, IsFaultOf, both_trees_fault, 
 ghost use Rattle.hfs_check.specs.Faults.{blocks_fault, fault_of};
 ghost use Rattle.hfs_check.specs.Parts.{mdb_in};
 ghost use Rattle.hfs_check.specs.Sound.{IsMdbSound, AreBlocksSound, IsSound, HasBitmap};
-ghost use Rattle.hfs_check.specs.Trees.{GivesTrees, HasTrees, HasTreesOf};
+ghost use Rattle.hfs_check.specs.Trees.{GivesTrees, HasCheckedTrees, HasTrees, HasTreesOf};
 
 use crate::laws::{
     no_blocks_fault, no_catalog_fault, no_extents_fault, no_image_fault, no_mdb_fault,
@@ -100,7 +100,7 @@ pub(crate) fn checked_blocks<B: Blocks>(
     ensures right { OnOk result (blocks_fault (B.total blocks.now) (B.blocks blocks.now) ≡ None) }
     ensures sound { OnOk result (AreBlocksSound (B.total blocks.now) (B.blocks blocks.now)) }
     ensures mdb { IfOk result (λ checked. checked.volume.mdb ≡ mdb_in (B.blocks blocks.now)) }
-    ensures trees { IfOk result (λ checked. HasTrees (B.total blocks.now) (B.blocks blocks.now) checked.volume.trees) }
+    ensures trees { IfOk result (HasCheckedTrees (B.total blocks.now) (B.blocks blocks.now)) }
     ensures owned { IfOk result (λ checked. AreAllOwned (B.blocks blocks.now) checked.owned.items) }
     ensures wrong { IfErr result (IsFaultIn (B.total blocks.now) (B.blocks blocks.now)) }
 {
