@@ -57,7 +57,7 @@ fn make<K: Session>(
     let tell = answered(rt, alloc, shared, &mut worker.pass, call)?;
     board.lay(rt, tell)?;
     if turn % 4 == 0 {
-        board.lay(rt, published(rt, alloc, shared))?;
+        board.lay(rt, published(rt, shared))?;
     }
     Some(())
 }
@@ -77,7 +77,7 @@ fn answered<K: Session>(
 }
 
 /// What is told of what is published.
-fn published<K: Session>(rt: &impl Wait, alloc: Global, shared: &Shared<K>) -> Tell<K> {
+fn published<K: Session>(rt: &impl Wait, shared: &Shared<K>) -> Tell<K> {
     let mut guard = shared.lock(rt);
-    Tell::new(guard.publish(rt, alloc))
+    Tell::new(guard.publish(rt))
 }

@@ -3,7 +3,6 @@
 #![tactic(auto)]
 
 mod absorbs;
-mod copies;
 mod crossing;
 mod front;
 mod item;
@@ -14,7 +13,6 @@ mod rule;
 mod told;
 mod viewer;
 
-pub use copies::copy_call;
 pub use crossing::may_cross;
 pub use laws::{published_begins, published_grows, published_is_after, published_stays};
 pub use pair::{Pair, PairFault};

@@ -135,8 +135,8 @@ fn show_each<K: Session>(
 }
 
 /// How many calls are shown when what waits is published.
-fn shown_at_last<K: Session>(rt: &impl Wait, alloc: Global, shared: &Shared<K>) -> u64 {
-    let told = shared.lock(rt).publish(rt, alloc);
+fn shown_at_last<K: Session>(rt: &impl Wait, shared: &Shared<K>) -> u64 {
+    let told = shared.lock(rt).publish(rt);
     told.shown()
 }
 
@@ -153,7 +153,7 @@ fn show_three<K: Session, R: Wait>(
 {
     let shared = parts.share::<K>();
     let counts = show_each(rt, alloc, &shared, &mut passes, viewer)?;
-    let is_all = shown_at_last(rt, alloc, &shared) == 3;
+    let is_all = shown_at_last(rt, &shared) == 3;
     ensure!(is_all, "what waited is not shown");
     Ok(outcome_of_counts(counts))
 }

@@ -6,7 +6,6 @@ ghost use Rattle.hfs_shared.specs.Faults.{IsCallFault};
 
 use crate::pass::Pass;
 use hfs_model::{Call, DISK_FULL, Entry, Reply, Value, step_is_never_full};
-use hfs_published::copy_call;
 use hfs_volume::Volume;
 use std::alloc::Global;
 use std::marker::Model;
@@ -98,7 +97,7 @@ impl Desk {
         if self.journal.reserve(1).is_err() {
             return Err(CallFault::Memory);
         }
-        let Ok(copy) = copy_call(alloc, call) else {
+        let Ok(copy) = call.copied() else {
             return Err(CallFault::Memory);
         };
         let Ok(reply) = self.volume.call(alloc, call) else {

@@ -53,14 +53,14 @@ impl<K: Session> Guard<'_, K> {
     }
 
     /// Shows all that waits, in one step, or nothing of it where memory is wanting; what is then published is told.
-    pub fn publish<R: Wait>(&mut self, rt: &R, alloc: Global) -> Told
+    pub fn publish<R: Wait>(&mut self, rt: &R) -> Told
         ensures desk { desk_of self.new ≡ desk_of self.old }
         ensures shown { (self.new.shown ≡ length self.old.journal) ⊎ (self.new.shown ≡ self.old.shown) }
         ensures idle { KeepsUp self.old self.new.shown }
         ensures number { result.shown ≡ self.new.shown }
         ensures told { IsToldOf K.book K.opening self.old.journal result }
     {
-        self.inner.publish(rt, alloc)
+        self.inner.publish(rt)
     }
 
     /// How many entries of the journal the published list covers. Takes no memory.

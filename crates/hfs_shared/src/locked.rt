@@ -79,7 +79,7 @@ impl<K: Session> Locked<K> {
     }
 
     /// Shows all that waits, in one step, or nothing of it where memory is wanting; what is then published is told.
-    pub fn publish<R: Wait>(&mut self, rt: &R, alloc: Global) -> Told
+    pub fn publish<R: Wait>(&mut self, rt: &R) -> Told
         ensures desk { desk_of self.new ≡ desk_of self.old }
         ensures shown { (self.new.shown ≡ length self.old.journal) ⊎ (self.new.shown ≡ self.old.shown) }
         ensures idle { KeepsUp self.old self.new.shown }
@@ -87,21 +87,21 @@ impl<K: Session> Locked<K> {
     {
         published_grows();
         let journal = self.desk.journal();
-        self.added = gather(alloc, &mut self.pair, journal, self.added);
+        self.added = gather(&mut self.pair, journal, self.added);
         self.shown = show(rt, &mut self.pair, self.added, journal.len(), self.shown);
         self.pair.told(self.shown as u64, journal.len() as u64)
     }
 }
 
 // Adds the changes of the next entries to the pair, as far as there is memory. It answers how many entries the pair then has.
-fn gather(alloc: Global, pair: &mut Pair, journal: &[Entry], added: usize) -> usize
+fn gather(pair: &mut Pair, journal: &[Entry], added: usize) -> usize
     requires { added ≤ length journal.now }
     ensures order { (added ≤ result) × (result ≤ length journal.now) }
     ensures lists { GathersOf pair.old journal.now added pair.new result }
     ensures idle { NoneAccepted (drop added journal.now) → result ≡ length journal.now }
 {
     published_grows();
-    added + pair.add_entries(alloc, &journal[added..])
+    added + pair.add_entries(&journal[added..])
 }
 
 // Shows what the pair has, if it has the changes of all entries. It answers how many entries the published list then covers.

@@ -52,7 +52,7 @@ impl<K: Session> Shared<K> {
     {
         let mut guard = self.lock(rt);
         let reply = guard.apply(alloc, pass, &call)?;
-        let told = guard.publish(rt, alloc);
+        let told = guard.publish(rt);
         Ok((reply, told))
     }
 

@@ -62,7 +62,7 @@ fn call_inside<K: Session, R: Wait, G: Gate>(
     let mut guard = shared.lock(rt);
     let reply = guard.apply(alloc, pass, call)?;
     gate.inside(worker, stamp);
-    let told = guard.publish(rt, alloc);
+    let told = guard.publish(rt);
     Ok((reply, told))
 }
 

@@ -116,13 +116,12 @@ fn apply_one<K: Session>(
 /// Publishes what waits, and lets a viewer learn it: what is told of how many entries are shown, and are made.
 fn publish_to<K: Session>(
     rt: &impl Wait,
-    alloc: Global,
     guard: &mut Guard<'_, K>,
     viewer: &mut Viewer,
 ) -> (u64, u64)
     requires { viewer.old.book ≡ K.book }
 {
-    let told = guard.publish(rt, alloc);
+    let told = guard.publish(rt);
     viewer.learn(&told);
     (told.shown(), told.made())
 }
@@ -142,7 +141,7 @@ fn shown_under_lock<K: Session>(
     apply_one(alloc, &mut guard, pass)?;
     let waiting = guard.shown();
     let before = lists(alloc, viewer, b"")?;
-    let (shown, made) = publish_to(rt, alloc, &mut guard, viewer);
+    let (shown, made) = publish_to(rt, &mut guard, viewer);
     if !before || !lists(alloc, viewer, b"a ")? || viewer.changes() != 1 {
         return Err(Fail::from("another list"));
     }

@@ -38,7 +38,7 @@ fn make<K: Session, T: Wait>(
     }
     let made = start.elapsed(rt)?;
     let start = Instant::now(rt)?;
-    drop(guard.publish(threads, alloc));
+    drop(guard.publish(threads));
     let shown = start.elapsed(rt)?;
     Ok(Spent { made, shown })
 }

@@ -3,21 +3,19 @@ ghost use Rattle.std.specs.Prelude.{◌≡◌, ◌≤◌, ◌++◌, ◌∷◌, [
 ghost use Rattle.hfs_published.specs.Journals.{is_accepted, changes, NoneAccepted};
 ghost use Rattle.hfs_published.specs.Pairs.{with_added};
 
-use crate::copies::copy_call;
 use crate::pair::Pair;
 use hfs_model::Entry;
-use std::alloc::Global;
 
 impl Pair {
     /// Adds the accepted changes of the next entries of a journal, as far as there is memory. It answers how many of the
     /// entries are done.
-    pub fn add_entries(&mut self, alloc: Global, entries: &[Entry]) -> usize
+    pub fn add_entries(&mut self, entries: &[Entry]) -> usize
         ensures within { result ≤ length entries.now }
         ensures added { self.new ≡ with_added self.old (changes (take result entries.now)) }
         ensures idle { NoneAccepted entries.now → result ≡ length entries.now }
     {
         for at in 0..entries.len() {
-            if !self.add_entry(alloc, &entries[at]) {
+            if !self.add_entry(&entries[at]) {
                 return at;
             }
         }
@@ -25,14 +23,14 @@ impl Pair {
     }
 
     // Adds the change of an entry, if it is one that was accepted, and answers whether the entry is done.
-    fn add_entry(&mut self, alloc: Global, entry: &Entry) -> bool
+    fn add_entry(&mut self, entry: &Entry) -> bool
         ensures added { MatchBool result (self.new ≡ with_added self.old (changes (entry.now ∷ []))) (self.new ≡ self.old) }
         ensures idle { is_accepted entry.now ≡ false → result ≡ true }
     {
         if !is_accepted(entry) {
             return true;
         }
-        match copy_call(alloc, &entry.call) {
+        match entry.call.copied() {
             Ok(call) => self.add(call),
             Err(_) => false,
         }
