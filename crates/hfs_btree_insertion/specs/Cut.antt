@@ -70,3 +70,7 @@ pub record HasCutAt {K : Type 0} (g : Ghosts K) (old new : Store) (k p q m : ℕ
   pub content : tree_content g new ≡ tree_content g old
   pub first : size_of (take c (records_in old (child_at g old p q))) ≤ 319
   pub second : size_of (drop c (records_in old (child_at g old p q))) ≤ 319
+
+-- the child that record q of node p names was cut, and its second half went to node m
+abbrev pub IsChildCut : {K : Type 0} → Ghosts K → ℕ → ℕ → ℕ → ℕ → Store → Store → Type 0
+IsChildCut g k p q m old new = HasCutAt g old new k p q m

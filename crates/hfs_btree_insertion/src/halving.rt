@@ -5,7 +5,7 @@ ghost use Rattle.hfs_btree.specs.Header.{record_in};
 ghost use Rattle.hfs_btree.specs.Tree.{node_in, records_in, forward_of};
 ghost use Rattle.hfs_btree_edits.specs.Stored.{HasBackward};
 ghost use Rattle.hfs_btree_insertion.specs.Halves.{HasHalved};
-ghost use Rattle.hfs_btree_insertion.specs.Stored.{HasLinked, HasLastLeaf};
+ghost use Rattle.hfs_btree_insertion.specs.Stored.{Edits, HasLinked, HasLastLeaf};
 
 use hfs_btree::read_header;
 use hfs_btree_edits::{NodesMut, load, put_header, store};
@@ -14,7 +14,7 @@ use std::alloc::{AllocError, Global};
 /// Sets the backward link of a node.
 fn link_back<S: NodesMut>(alloc: Global, nodes: &mut S, n: u32, left: u32) -> Result<(), AllocError>
     requires { n < length (S.nodes nodes.old) }
-    ensures linked { OnOk result (HasBackward n left (S.nodes nodes.old) (S.nodes nodes.new)) }
+    ensures linked { Edits result (HasBackward n left) S.nodes nodes.old nodes.new }
     ensures kept { OnOk result (S.kept nodes.new ≡ S.kept nodes.old) }
 {
     let mut node = load(alloc, nodes, n)?;
@@ -26,7 +26,7 @@ fn link_back<S: NodesMut>(alloc: Global, nodes: &mut S, n: u32, left: u32) -> Re
 fn put_last<S: NodesMut>(alloc: Global, nodes: &mut S, n: u32) -> Result<(), AllocError>
     requires within { 0 < length (S.nodes nodes.old) }
     requires long { 30 ≤ length (record_in (S.nodes nodes.old) 0 0) }
-    ensures put { OnOk result (HasLastLeaf n (S.nodes nodes.old) (S.nodes nodes.new)) }
+    ensures put { Edits result (HasLastLeaf n) S.nodes nodes.old nodes.new }
     ensures kept { OnOk result (S.kept nodes.new ≡ S.kept nodes.old) }
 {
     let mut header = read_header(nodes);
@@ -45,7 +45,7 @@ fn link_right<S: NodesMut>(
 ) -> Result<(), AllocError>
     requires within { right < length (S.nodes nodes.old) }
     requires long { 30 ≤ length (record_in (S.nodes nodes.old) 0 0) }
-    ensures linked { OnOk result (HasLinked right n leaves (S.nodes nodes.old) (S.nodes nodes.new)) }
+    ensures linked { Edits result (HasLinked right n leaves) S.nodes nodes.old nodes.new }
     ensures kept { OnOk result (S.kept nodes.new ≡ S.kept nodes.old) }
 {
     if right != 0 {
@@ -72,7 +72,7 @@ pub(crate) fn halve<S: NodesMut>(
     requires place { place ≤ length (records_in (S.nodes nodes.old) n) }
     requires right { forward_of (node_in (S.nodes nodes.old) n) < length (S.nodes nodes.old) }
     requires long { 30 ≤ length (record_in (S.nodes nodes.old) 0 0) }
-    ensures halved { OnOk result (HasHalved n m place leaves (S.nodes nodes.old) (S.nodes nodes.new)) }
+    ensures halved { Edits result (HasHalved n m place leaves) S.nodes nodes.old nodes.new }
     ensures kept { OnOk result (S.kept nodes.new ≡ S.kept nodes.old) }
 {
     let mut first = load(alloc, nodes, n)?;

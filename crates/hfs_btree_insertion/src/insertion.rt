@@ -4,9 +4,10 @@ ghost use Rattle.std.specs.Prelude.{◌≡◌, ◌+◌, ◌*◌, ◌^◌, ◌<�
 ghost use Rattle.hfs_btree.specs.Header.{header_in, depth_of, free_nodes, tree_content};
 ghost use Rattle.hfs_btree.specs.Pairs.{lookup};
 ghost use Rattle.hfs_btree.specs.Sound.{IsSound};
-ghost use Rattle.hfs_btree_edits.specs.Edits.{IsAboveFirst, HasInserted};
+ghost use Rattle.hfs_btree_edits.specs.Edits.{IsAboveFirst};
 ghost use Rattle.hfs_btree_insertion.specs.Growth.{IsLow};
 ghost use Rattle.hfs_btree_insertion.specs.Room.{HasMadeRoom};
+ghost use Rattle.hfs_btree_insertion.specs.Stored.{Edits, Inserts};
 
 use crate::leaf_put::{put_entry, put_in_leaf};
 use crate::level_cut::cut_levels;
@@ -33,7 +34,7 @@ fn make_room<K: Key, S: NodesMut>(
     requires shallow { depth_of (S.nodes nodes.old) ≤ 15 }
     requires free { depth_of (S.nodes nodes.old) + 1 ≤ free_nodes (S.nodes nodes.old) }
     requires file { (header_in (S.nodes nodes.old)).nodes ≤ length (S.nodes nodes.old) }
-    ensures room { OnOk result (HasMadeRoom K.Key key.now len (S.nodes nodes.old) (S.nodes nodes.new)) }
+    ensures room { Edits result (HasMadeRoom K.Key key.now len) S.nodes nodes.old nodes.new }
     ensures kept { OnOk result (S.kept nodes.new ≡ S.kept nodes.old) }
 {
     let header = read_header(nodes);
@@ -68,7 +69,7 @@ pub fn insert<K: Key, S: NodesMut>(
     requires free { depth_of (S.nodes nodes.old) + 1 ≤ free_nodes (S.nodes nodes.old) }
     requires small { 512 * (header_in (S.nodes nodes.old)).nodes < 2 ^ 32 }
     requires file { (header_in (S.nodes nodes.old)).nodes ≤ length (S.nodes nodes.old) }
-    ensures inserted { OnOk result (HasInserted K.Key key.now body.now (S.nodes nodes.old) (S.nodes nodes.new)) }
+    ensures inserted { OnOk result (Inserts K.Key key.now body.now S.nodes nodes.old nodes.new) }
     ensures kept { OnOk result (S.kept nodes.new ≡ S.kept nodes.old) }
 {
     let entry = key.leaf_record(alloc, body)?;

@@ -6,7 +6,7 @@ ghost use Rattle.hfs_btree.specs.Header.{header_in, record_in, depth_of, tree_co
 ghost use Rattle.hfs_btree.specs.Pairs.{lookup};
 ghost use Rattle.hfs_btree.specs.Search.{leaf_for};
 ghost use Rattle.hfs_btree.specs.Sound.{IsSound};
-ghost use Rattle.hfs_btree_insertion.specs.Stored.{HasRecordPut, CountsOneMore, HasEntryPut};
+ghost use Rattle.hfs_btree_insertion.specs.Stored.{Edits, HasRecordPut, CountsOneMore, HasEntryPut};
 ghost use Rattle.hfs_btree_insertion.specs.Growth.{HasLeafRoom, IsRootLow};
 ghost use Rattle.hfs_btree.specs.Tree.{records_in};
 
@@ -25,7 +25,7 @@ pub(crate) fn put_record<S: NodesMut>(
     requires within { n < length (S.nodes nodes.old) }
     requires place { place ≤ length (records_in (S.nodes nodes.old) n) }
     requires room { size_of (records_in (S.nodes nodes.old) n) + (length entry.items + 2) ≤ 496 }
-    ensures put { OnOk result (HasRecordPut n place entry.items (S.nodes nodes.old) (S.nodes nodes.new)) }
+    ensures put { Edits result (HasRecordPut n place entry.items) S.nodes nodes.old nodes.new }
     ensures kept { OnOk result (S.kept nodes.new ≡ S.kept nodes.old) }
 {
     let mut node = load(alloc, nodes, n)?;
@@ -38,7 +38,7 @@ fn count_record<S: NodesMut>(alloc: Global, nodes: &mut S) -> Result<(), AllocEr
     requires within { 0 < length (S.nodes nodes.old) }
     requires long { 30 ≤ length (record_in (S.nodes nodes.old) 0 0) }
     requires few { (header_in (S.nodes nodes.old)).records + 1 < 2 ^ 32 }
-    ensures counted { OnOk result (CountsOneMore (S.nodes nodes.old) (S.nodes nodes.new)) }
+    ensures counted { Edits result CountsOneMore S.nodes nodes.old nodes.new }
     ensures kept { OnOk result (S.kept nodes.new ≡ S.kept nodes.old) }
 {
     let mut header = read_header(nodes);
@@ -66,7 +66,7 @@ pub(crate) fn put_in_leaf<K: Key, S: NodesMut>(
     requires found { n ≡ leaf_for K.Key (S.nodes nodes.old) key.now }
     requires read { bytes.now ≡ slice_index_or (S.nodes nodes.old) n [] }
     requires room { size_of (records_in (S.nodes nodes.old) n) + (length entry.items + 2) ≤ 496 }
-    ensures put { OnOk result (HasEntryPut K.Key key.now entry.items (S.nodes nodes.old) (S.nodes nodes.new)) }
+    ensures put { Edits result (HasEntryPut K.Key key.now entry.items) S.nodes nodes.old nodes.new }
     ensures kept { OnOk result (S.kept nodes.new ≡ S.kept nodes.old) }
 {
     let place = place_in(bytes, key);
@@ -89,7 +89,7 @@ pub(crate) fn put_entry<K: Key, S: NodesMut>(
     requires absent { lookup K.compare key.now (tree_content K.Key (S.nodes nodes.old)) ≡ None }
     requires low { IsRootLow K.Key (S.nodes nodes.old) key.now }
     requires room { HasLeafRoom K.Key (S.nodes nodes.old) key.now (length entry.items) }
-    ensures put { OnOk result (HasEntryPut K.Key key.now entry.items (S.nodes nodes.old) (S.nodes nodes.new)) }
+    ensures put { Edits result (HasEntryPut K.Key key.now entry.items) S.nodes nodes.old nodes.new }
     ensures kept { OnOk result (S.kept nodes.new ≡ S.kept nodes.old) }
 {
     let header = read_header(nodes);

@@ -3,9 +3,10 @@
 ghost use Rattle.std.specs.Prelude.{◌≡◌, ℕ, ◌+◌, ◌<◌, ◌≤◌, OnOk, length};
 ghost use Rattle.hfs_btree.specs.Header.{header_in, depth_of, free_nodes};
 ghost use Rattle.hfs_btree.specs.Sound.{IsSound, IsStray};
-ghost use Rattle.hfs_btree_insertion.specs.Cut.{IsBranch, HasCutAt};
+ghost use Rattle.hfs_btree_insertion.specs.Cut.{IsBranch, IsChildCut};
 ghost use Rattle.hfs_btree_insertion.specs.Growth.{HasRoom, HasRoomOnWay, IsChildCuttable, IsCuttableOnWay, IsLow, HasCutLevel};
 ghost use Rattle.hfs_btree_insertion.specs.Steps.{AreCuttable, HasCutDown};
+ghost use Rattle.hfs_btree_insertion.specs.Stored.{Edits};
 
 use crate::cut_place::{child_named, cut_place, half_entry};
 use crate::halving::halve;
@@ -31,7 +32,7 @@ fn cut_child<K: Key, S: NodesMut>(
     requires within { m < length (S.nodes nodes.old) }
     requires over { IsChildCuttable K.Key (S.nodes nodes.old) parent place }
     requires room { HasRoom (S.nodes nodes.old) (K.INDEX_KEY_LEN + 5) parent }
-    ensures cut { OnOk result (HasCutAt K.Key (S.nodes nodes.old) (S.nodes nodes.new) above parent place m) }
+    ensures cut { Edits result (IsChildCut K.Key above parent place m) S.nodes nodes.old nodes.new }
     ensures kept { OnOk result (S.kept nodes.new ≡ S.kept nodes.old) }
 {
     let n = child_named::<K, S>(nodes, parent, place);
@@ -56,7 +57,7 @@ pub(crate) fn cut_level<K: Key, S: NodesMut>(
     requires room { HasRoomOnWay K.Key (S.nodes nodes.old) key.now (above + 1) }
     requires free { 0 < free_nodes (S.nodes nodes.old) }
     requires file { (header_in (S.nodes nodes.old)).nodes ≤ length (S.nodes nodes.old) }
-    ensures cut { OnOk result (HasCutLevel K.Key key.now above (S.nodes nodes.old) (S.nodes nodes.new)) }
+    ensures cut { Edits result (HasCutLevel K.Key key.now above) S.nodes nodes.old nodes.new }
     ensures kept { OnOk result (S.kept nodes.new ≡ S.kept nodes.old) }
 {
     let m = claim_node::<K, S>(alloc, nodes)?;
@@ -80,7 +81,7 @@ pub(crate) fn cut_levels<K: Key, S: NodesMut>(
     requires low { IsLow K.Key (S.nodes nodes.old) key.now }
     requires free { full ≤ free_nodes (S.nodes nodes.old) }
     requires file { (header_in (S.nodes nodes.old)).nodes ≤ length (S.nodes nodes.old) }
-    ensures cut { OnOk result (HasCutDown K.Key key.now 0 full (S.nodes nodes.old) (S.nodes nodes.new)) }
+    ensures cut { Edits result (HasCutDown K.Key key.now 0 full) S.nodes nodes.old nodes.new }
     ensures kept { OnOk result (S.kept nodes.new ≡ S.kept nodes.old) }
 {
     let mut above = full;

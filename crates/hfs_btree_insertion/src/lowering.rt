@@ -6,6 +6,7 @@ ghost use Rattle.hfs_btree.specs.Sound.{IsSound};
 ghost use Rattle.hfs_btree.specs.Tree.{records_in};
 ghost use Rattle.hfs_btree_edits.specs.Edits.{IsAboveFirst};
 ghost use Rattle.hfs_btree_insertion.specs.Lowering.{HasFirstKey, HasLowFirst, HasLowered};
+ghost use Rattle.hfs_btree_insertion.specs.Stored.{Edits};
 
 use hfs_btree::{Key, child_in, child_of, entry_in, is_above, read_header};
 use hfs_btree_edits::{NodesMut, load, store};
@@ -21,7 +22,7 @@ fn set_first<K: Key, S: NodesMut>(
     requires within { n < length (S.nodes nodes.old) }
     requires some { 0 < length (records_in (S.nodes nodes.old) n) }
     requires index { K.is_index (slice_index_or (records_in (S.nodes nodes.old) n) 0 []) ≡ true }
-    ensures set { OnOk result (HasFirstKey K.Key n key.now (S.nodes nodes.old) (S.nodes nodes.new)) }
+    ensures set { Edits result (HasFirstKey K.Key n key.now) S.nodes nodes.old nodes.new }
     ensures kept { OnOk result (S.kept nodes.new ≡ S.kept nodes.old) }
 {
     let mut node = load(alloc, nodes, n)?;
@@ -43,7 +44,7 @@ fn lower_first<K: Key, S: NodesMut>(
     requires within { n < length (S.nodes nodes.old) }
     requires some { 0 < length (records_in (S.nodes nodes.old) n) }
     requires index { K.is_index (slice_index_or (records_in (S.nodes nodes.old) n) 0 []) ≡ true }
-    ensures low { OnOk result (HasLowFirst K.Key n key.now (S.nodes nodes.old) (S.nodes nodes.new)) }
+    ensures low { Edits result (HasLowFirst K.Key n key.now) S.nodes nodes.old nodes.new }
     ensures kept { OnOk result (S.kept nodes.new ≡ S.kept nodes.old) }
 {
     let Some(first) = entry_in(bytes, 0) else {
@@ -65,7 +66,7 @@ pub(crate) fn lower_keys<K: Key, S: NodesMut>(
 ) -> Result<(), AllocError>
     requires sound { IsSound K.Key (S.nodes nodes.old) }
     requires above { IsAboveFirst K.compare key.now (tree_content K.Key (S.nodes nodes.old)) }
-    ensures lowered { OnOk result (HasLowered K.Key key.now 0 (S.nodes nodes.old) (S.nodes nodes.new)) }
+    ensures lowered { Edits result (HasLowered K.Key key.now 0) S.nodes nodes.old nodes.new }
     ensures kept { OnOk result (S.kept nodes.new ≡ S.kept nodes.old) }
 {
     let header = read_header(nodes);

@@ -63,7 +63,7 @@ pub(crate) fn raise<K: Key, S: NodesMut>(alloc: Global, nodes: &mut S) -> Result
     requires shallow { depth_of (S.nodes nodes.old) ≤ 15 }
     requires free { 0 < free_nodes (S.nodes nodes.old) }
     requires file { (header_in (S.nodes nodes.old)).nodes ≤ length (S.nodes nodes.old) }
-    ensures raised { OnOk result (HasRaised K.Key (S.nodes nodes.old) (S.nodes nodes.new)) }
+    ensures raised { Edits result (HasRaised K.Key) S.nodes nodes.old nodes.new }
     ensures kept { OnOk result (S.kept nodes.new ≡ S.kept nodes.old) }
 {
     let m = claim_node::<K, S>(alloc, nodes)?;

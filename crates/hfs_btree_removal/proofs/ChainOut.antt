@@ -15,7 +15,7 @@ use Rattle.hfs_scans.specs.Members.{In, each_in}
 use Rattle.hfs_btree.specs.Tree.{Store, Spot, node_in, records_in, records_of, children, pair_of, pairs, first_of, last_of, spots, under}
 use Rattle.hfs_btree.specs.Header.{header_in, record_in, depth_of, leaves, own_nodes, tree_turn, tree_nodes}
 use Rattle.hfs_btree.specs.Sound.{IsOther, IsRight, IsSound, IsExact, AreKeysInOrder, first_key}
-use Rattle.hfs_btree_removal.specs.Removal.{HasTold, HasPassedUp, HasTakenOut, HasDetached, AreUnlinkable, AreStepsUnlinked, AreReleased, AreSettable, AreStray, IsWayBelow, fewer, last_left, last_right, backward_of}
+use Rattle.hfs_btree_removal.specs.Removal.{HasTold, IsPassedUp, HasTakenOut, HasDetached, AreUnlinkable, AreStepsUnlinked, AreReleased, AreSettable, AreStray, IsWayBelow, fewer, last_left, last_right, backward_of}
 use Rattle.hfs_btree_edits.specs.Stored.{HasNewHeader, bytes_in}
 use Rattle.hfs_scans.specs.Elements.{each-left, each-right, each-unmap}
 use Rattle.hfs_btree_removal.specs.Ways.{IsWayTo}
@@ -249,7 +249,7 @@ module _ {K : Type 0} (g : Ghosts K) (total : IsTotalOrder g.compare) (old : Sto
           ∙ sym key-is in
           subst Q e here
 
-      module _ (four : Store) (up : HasPassedUp g t above three four) where
+      module _ (four : Store) (up : IsPassedUp g t above three four) where
         pub chain-told : HasTold g three four
         chain-told = told4 g old above p ss w total sound (suc k) deep three chain-sound det.depth det.root det.uppers x in-x t past first-key four up
 

@@ -6,7 +6,7 @@ use Rattle.hfs_btree_removal.specs.declared.down.Step.{Step}
 use Rattle.hfs_btree.specs.declared.key.Key.{Ghosts}
 use Rattle.hfs_scans.specs.Each.{Each}
 use Rattle.hfs_btree.specs.Tree.{Store, node_in, records_in, records_of}
-use Rattle.hfs_btree_removal.specs.Removal.{HasKeySet, AreSettable, AreKeysSet, IsEnded, HasPassedUp, AreBehindFirst}
+use Rattle.hfs_btree_removal.specs.Removal.{HasKeySet, AreSettable, AreKeysSet, IsEnded, IsPassedUp, AreBehindFirst}
 
 abbrev no-step : Step
 no-step = record { node = 0; place = 0; count = 0 }
@@ -98,7 +98,7 @@ module _ {K : Type 0} (g : Ghosts K) (t : K) where
             let zero' : s.place ≡ 0 = omega arith in
             record { set = subst Q e (subst P (sym parted) (now, set, key)); firsts = subst R e (subst AreFirst (sym parted) (zero', firsts)) }
 
-        pub passed-here : 0 < s.place → HasPassedUp g t steps old new
+        pub passed-here : 0 < s.place → IsPassedUp g t steps old new
         passed-here some = record {
           above = take at steps;
           told = s ∷ drop (at + 1) steps;
@@ -108,7 +108,7 @@ module _ {K : Type 0} (g : Ghosts K) (t : K) where
           ended = ended-at (take at steps) s (drop (at + 1) steps) some;
         }
 
-    pub passed-all : (i : ℕ) (now : Store) → IsPassing steps old i now → length steps ≤ i → HasPassedUp g t steps old now
+    pub passed-all : (i : ℕ) (now : Store) → IsPassing steps old i now → length steps ≤ i → IsPassedUp g t steps old now
     passed-all i now p le =
         let e : length steps - i ≡ 0 = omega arith in
         let P : ℕ → Type 0 = λ n. AreKeysSet g t (drop n steps) old now in

@@ -17,7 +17,7 @@ use Rattle.hfs_scans.specs.Elements.{each-left, each-right, each-unmap}
 use Rattle.hfs_btree.specs.Tree.{Store, Spot, node_in, records_in, records_of, pair_of, pairs, first_of, last_level, under}
 use Rattle.hfs_btree.specs.Header.{header_in, depth_of, root_level, leaves, own_nodes, tree_turn, tree_nodes}
 use Rattle.hfs_btree.specs.Sound.{IsOther, IsRight, IsSound, IsExact, HasStructure, first_key}
-use Rattle.hfs_btree_removal.specs.Removal.{HasTold, HasPassedUp, HasTakenOut, HasDetached, HasRecordTaken, IsNewFirst, AreSettable, IsWayBelow, fewer, last_left, last_right}
+use Rattle.hfs_btree_removal.specs.Removal.{HasTold, IsPassedUp, HasTakenOut, HasDetached, HasRecordTaken, IsNewFirst, AreSettable, IsWayBelow, fewer, last_left, last_right}
 use Rattle.hfs_btree_edits.specs.Stored.{HasNewHeader, IsRecounted}
 use Rattle.hfs_btree_removal.specs.Ways.{IsWayTo}
 use Rattle.hfs_btree_removal.proofs.DetachedOrder.{level-lift}
@@ -193,7 +193,7 @@ module _ {K : Type 0} (g : Ghosts K) (total : IsTotalOrder g.compare) (old : Sto
           let Q : K → Type 0 = λ y. g.compare x.0 y ≡ Less in
           subst Q (sym key-is) (subst P (sym told-key.0) (leaf-second g v.records rising more))
 
-      module _ (four : Store) (up : HasPassedUp g t above three four) where
+      module _ (four : Store) (up : IsPassedUp g t above three four) where
         pub leaf-told : HasTold g three four
         leaf-told = told4 g old above p [] w total sound zero deep three leaf-sound depth3 root3 uppers x in-x t past first-key four up
 

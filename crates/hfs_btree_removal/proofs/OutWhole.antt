@@ -12,7 +12,7 @@ use Rattle.hfs_btree.specs.Header.{header_in, record_in, depth_of, root_level, l
 use Rattle.hfs_btree.specs.Sound.{IsRight, IsSound, IsExact}
 use Rattle.hfs_btree.specs.Decoded.{decoded-within}
 use Rattle.hfs_btree.specs.Descent.{content-about}
-use Rattle.hfs_btree_removal.specs.Removal.{HasTold, HasPassedUp, HasTakenOut, HasDetached, HasRecordTaken, AreUnlinkable, AreStepsUnlinked, AreReleased, AreSettable, AreStray, IsWayBelow, HasToldAbove}
+use Rattle.hfs_btree_removal.specs.Removal.{HasTold, IsPassedUp, HasTakenOut, HasDetached, HasRecordTaken, AreUnlinkable, AreStepsUnlinked, AreReleased, AreSettable, AreStray, IsWayBelow, HasToldAbove}
 use Rattle.hfs_btree_removal.specs.Ways.{IsWayTo, IsLastWide}
 use Rattle.hfs_btree_removal.proofs.ChainOut.{gaps, chain-can, chain-take, chain-sound, chain-settable, chain-told, chain-exact, chain-same, chain-stray, chain-out}
 use Rattle.hfs_btree_removal.proofs.LeafOut.{leaf-take, leaf-sound, leaf-settable, leaf-told, leaf-exact, leaf-same, leaf-out}
@@ -96,7 +96,7 @@ module _ {K : Type 0} (g : Ghosts K) (total : IsTotalOrder g.compare) (old : Sto
     pub told : HasTold g three four
     pub exact : IsExact g old → IsExact g four
 
-  pub out-told : (chain : List Step) (w : IsWayBelow g old above p chain) (three : Store) (changed : Option K) (d : HasDetached g p chain old three changed) (t : K) → changed ≡ Some t → (four : Store) → HasPassedUp g t above three four → IsToldAbove three four
+  pub out-told : (chain : List Step) (w : IsWayBelow g old above p chain) (three : Store) (changed : Option K) (d : HasDetached g p chain old three changed) (t : K) → changed ≡ Some t → (four : Store) → IsPassedUp g t above three four → IsToldAbove three four
   out-told [] w three changed d t is four up = record { told = leaf-told g total old sound above p w three changed d t is four up; exact = leaf-exact g total old sound above p w three changed d t is four up }
   out-told (s ∷ bs) w three changed d t is four up = record {
     told = chain-told g total old sound above p s bs w three changed d t is four up;

@@ -8,7 +8,7 @@ use Rattle.hfs_scans.specs.Elements.{each-right}
 use Rattle.hfs_btree.specs.Tree.{Store}
 use Rattle.hfs_btree.specs.Header.{header_in, depth_of}
 use Rattle.hfs_btree.specs.Sound.{IsSound, IsExact, first_key}
-use Rattle.hfs_btree_removal.specs.Removal.{HasTold, HasPassedUp, IsEnded}
+use Rattle.hfs_btree_removal.specs.Removal.{HasTold, IsPassedUp, IsEnded}
 use Rattle.hfs_btree_removal.specs.Ways.{Leads}
 use Rattle.hfs_btree_edits.specs.LevelParts.{lift, lift-is}
 use Rattle.hfs_btree_removal.proofs.ExactBut.{IsExactBut}
@@ -17,7 +17,7 @@ use Rattle.hfs_btree_removal.proofs.Passed.{high, IsLower, IsPassed, passed}
 use Rattle.hfs_btree_removal.proofs.WayLevels.{high-is, leads-split, leads-level}
 
 module _ {K : Type 0} (g : Ghosts K) (total : IsTotalOrder g.compare) (one : Store) (sound : IsSound g one) (above : List Step) (p j : ℕ) (deep : depth_of one ≡ suc (lift (high above zero) j))
-    (leads : Leads g one (header_in one).root above p) (t : K) (lower : Each (IsLower g total one sound t p j) above) (first : t ≡ first_key g one j p) (two : Store) (up : HasPassedUp g t above one two) where
+    (leads : Leads g one (header_in one).root above p) (t : K) (lower : Each (IsLower g total one sound t p j) above) (first : t ≡ first_key g one j p) (two : Store) (up : IsPassedUp g t above one two) where
   abbrev root : ℕ
   root = (header_in one).root
 

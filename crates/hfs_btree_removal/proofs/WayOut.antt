@@ -11,7 +11,7 @@ use Rattle.hfs_btree.specs.Lookups.{le-lt}
 use Rattle.hfs_btree.specs.Tree.{Store, Spot, records_in, records_of, under}
 use Rattle.hfs_btree.specs.Header.{header_in, depth_of, root_level}
 use Rattle.hfs_btree.specs.Sound.{IsSound, IsExact, first_key}
-use Rattle.hfs_btree_removal.specs.Removal.{HasTold, HasPassedUp, AreSettable, IsWayBelow}
+use Rattle.hfs_btree_removal.specs.Removal.{HasTold, IsPassedUp, AreSettable, IsWayBelow}
 use Rattle.hfs_btree_removal.specs.Ways.{IsStep, Leads, IsWayTo}
 use Rattle.hfs_btree_removal.proofs.ExactBut.{IsExactBut}
 use Rattle.hfs_btree_edits.specs.LevelParts.{lift, lift-is, upper}
@@ -85,7 +85,7 @@ module _ {K : Type 0} (g : Ghosts K) (old : Store) (above : List Step) (p : Step
     pub settable3 : AreSettable g three above
     settable3 = settable g total three sound3 p.node j above zero (flat (depth_of three) deep3) [] (header_in three).root [] refl leads3
 
-    module _ (x : K × List ℕ) (in-x : In x (under g old j p.node)) (t : K) (past : g.compare x.0 t ≡ Less) (first : t ≡ first_key g three j p.node) (four : Store) (up : HasPassedUp g t above three four) where
+    module _ (x : K × List ℕ) (in-x : In x (under g old j p.node)) (t : K) (past : g.compare x.0 t ≡ Less) (first : t ≡ first_key g three j p.node) (four : Store) (up : IsPassedUp g t above three four) where
       under-old : Each (IsUnder g total old sound p.node j x) above
       under-old = (over g total old sound p.node j x above zero (flat (depth_of old) deep) [] root [] refl parts.0 in-x).1
 

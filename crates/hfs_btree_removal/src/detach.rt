@@ -1,7 +1,7 @@
 //! The record at the end of a way, and the nodes below it that have no other: taken out, and given back.
 
 ghost use Rattle.std.specs.Prelude.{◌≡◌, ◌<◌, ◌≤◌, IfOk, OnOk, length};
-ghost use Rattle.hfs_btree_removal.specs.Removal.{fewer, AreStepsReleased, AreStray, HasDetached, HasStepTaken, IfIndexReads, IfLeafReads, IsNewFirst, EndWay};
+ghost use Rattle.hfs_btree_removal.specs.Removal.{fewer, AreStepsReleased, AreStray, Detaches, Edits, HasStepTaken, IfIndexReads, IfLeafReads, IsNewFirst, EndWay};
 ghost use Rattle.hfs_btree.specs.Header.{header_in};
 ghost use Rattle.hfs_btree.specs.Sound.{IsSound};
 ghost use Rattle.hfs_btree.specs.Tree.{records_in};
@@ -23,7 +23,7 @@ fn take_record<K: Key, S: NodesMut>(
     requires more { 2 ≤ length (records_in (S.nodes nodes.old) step.now.node) }
     requires leaf { IfLeafReads K.Key (S.nodes nodes.old) step.now.node }
     requires index { IfIndexReads K.Key (S.nodes nodes.old) step.now.node }
-    ensures taken { OnOk result (HasStepTaken step.now (S.nodes nodes.old) (S.nodes nodes.new)) }
+    ensures taken { Edits result (HasStepTaken step.now) S.nodes nodes.old nodes.new }
     ensures first { IfOk result (IsNewFirst K.Key step.now (S.nodes nodes.new)) }
     ensures kept { OnOk result (S.kept nodes.new ≡ S.kept nodes.old) }
 {
@@ -66,7 +66,7 @@ pub(crate) fn detach<K: Key, S: NodesMut>(
     requires sound { IsSound K.Key (S.nodes nodes.old) }
     requires header { header.now ≡ header_in (S.nodes nodes.old) }
     requires way { EndWay K.Key (S.nodes nodes.old) step.now chain.now }
-    ensures detached { IfOk result (HasDetached K.Key step.now chain.now (S.nodes nodes.old) (S.nodes nodes.new)) }
+    ensures detached { IfOk result (Detaches K.Key step.now chain.now S.nodes nodes.old nodes.new) }
     ensures kept { OnOk result (S.kept nodes.new ≡ S.kept nodes.old) }
 {
     let beside = unlink_all(alloc, nodes, chain)?;
@@ -84,7 +84,7 @@ pub(crate) fn release_all<K: Key, S: NodesMut>(
 ) -> Result<(), AllocError>
     requires sound { IsSound K.Key (S.nodes nodes.old) }
     requires strays { AreStray K.Key (S.nodes nodes.old) chain.now }
-    ensures released { OnOk result (AreStepsReleased K.Key chain.now (S.nodes nodes.old) (S.nodes nodes.new)) }
+    ensures released { Edits result (AreStepsReleased K.Key chain.now) S.nodes nodes.old nodes.new }
     ensures kept { OnOk result (S.kept nodes.new ≡ S.kept nodes.old) }
 {
     for i in 0..chain.len() {

@@ -1,7 +1,7 @@
 //! A first key that has changed, told to the nodes above.
 
 ghost use Rattle.std.specs.Prelude.{◌≡◌, ◌<◌, OnOk, length};
-ghost use Rattle.hfs_btree_removal.specs.Removal.{HasStepKey, IsIndexStep, AreSettable, HasPassedUp, HasToldAbove};
+ghost use Rattle.hfs_btree_removal.specs.Removal.{Edits, HasStepKey, IsIndexStep, AreSettable, IsPassedUp, HasToldAbove};
 ghost use Rattle.hfs_btree.specs.Tree.{records_in};
 
 use crate::down::Step;
@@ -19,7 +19,7 @@ fn set_key<K: Key, S: NodesMut>(
     requires node { step.now.node < length (S.nodes nodes.old) }
     requires place { step.now.place < length (records_in (S.nodes nodes.old) step.now.node) }
     requires index { IsIndexStep K.Key (S.nodes nodes.old) step.now }
-    ensures set { OnOk result (HasStepKey K.Key step.now key.now (S.nodes nodes.old) (S.nodes nodes.new)) }
+    ensures set { Edits result (HasStepKey K.Key step.now key.now) S.nodes nodes.old nodes.new }
     ensures kept { OnOk result (S.kept nodes.new ≡ S.kept nodes.old) }
 {
     let mut node = load(alloc, nodes, step.node)?;
@@ -37,7 +37,7 @@ fn pass_up<K: Key, S: NodesMut>(
     key: &K,
 ) -> Result<(), AllocError>
     requires { AreSettable K.Key (S.nodes nodes.old) steps.now }
-    ensures passed { OnOk result (HasPassedUp K.Key key.now steps.now (S.nodes nodes.old) (S.nodes nodes.new)) }
+    ensures passed { Edits result (IsPassedUp K.Key key.now steps.now) S.nodes nodes.old nodes.new }
     ensures kept { OnOk result (S.kept nodes.new ≡ S.kept nodes.old) }
 {
     for i in 0..steps.len() {
@@ -58,7 +58,7 @@ pub(crate) fn tell_above<K: Key, S: NodesMut>(
     changed: Option<K>,
 ) -> Result<(), AllocError>
     requires { AreSettable K.Key (S.nodes nodes.old) above.now }
-    ensures told { OnOk result (HasToldAbove K.Key changed above.now (S.nodes nodes.old) (S.nodes nodes.new)) }
+    ensures told { Edits result (HasToldAbove K.Key changed above.now) S.nodes nodes.old nodes.new }
     ensures kept { OnOk result (S.kept nodes.new ≡ S.kept nodes.old) }
 {
     match changed {

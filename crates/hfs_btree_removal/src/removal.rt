@@ -5,7 +5,7 @@ ghost use Rattle.hfs_btree_edits.specs.Conditions.{IsThere};
 ghost use Rattle.hfs_btree_edits.specs.Edits.{HasRemoved};
 ghost use Rattle.hfs_btree.specs.Header.{header_in, tree_content};
 ghost use Rattle.hfs_btree.specs.Pairs.{lookup};
-ghost use Rattle.hfs_btree_removal.specs.Removal.{HasTakenOut};
+ghost use Rattle.hfs_btree_removal.specs.Removal.{Edits, HasTakenOut};
 ghost use Rattle.hfs_btree.specs.Sound.{IsSound};
 ghost use Rattle.hfs_btree_removal.specs.Ways.{IsWayTo, IsLastWide};
 
@@ -30,7 +30,7 @@ fn take_out<K: Key, S: NodesMut>(
     requires header { header.now ≡ header_in (S.nodes nodes.old) }
     requires way { (t : K) × IsWayTo K.Key (S.nodes nodes.old) t steps.now }
     requires wide { IsLastWide steps.now wide }
-    ensures out { OnOk result (HasTakenOut K.Key steps.now (S.nodes nodes.old) (S.nodes nodes.new)) }
+    ensures out { Edits result (HasTakenOut K.Key steps.now) S.nodes nodes.old nodes.new }
     ensures kept { OnOk result (S.kept nodes.new ≡ S.kept nodes.old) }
 {
     let above = &steps[..wide];
@@ -51,7 +51,7 @@ fn take_out<K: Key, S: NodesMut>(
 pub fn remove<K: Key, S: NodesMut>(alloc: Global, nodes: &mut S, key: &K) -> Result<(), AllocError>
     requires sound { IsSound K.Key (S.nodes nodes.old) }
     requires there { IsThere (lookup K.compare key.now (tree_content K.Key (S.nodes nodes.old))) }
-    ensures removed { OnOk result (HasRemoved K.Key key.now (S.nodes nodes.old) (S.nodes nodes.new)) }
+    ensures removed { Edits result (HasRemoved K.Key key.now) S.nodes nodes.old nodes.new }
     ensures kept { OnOk result (S.kept nodes.new ≡ S.kept nodes.old) }
 {
     lower_root::<K, S>(alloc, nodes)?;

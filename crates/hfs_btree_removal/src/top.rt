@@ -21,11 +21,11 @@ fn lower_once<K: Key, S: NodesMut>(
     requires header { header.now ≡ header_in (S.nodes nodes.old) }
     requires deep { 2 ≤ depth_of (S.nodes nodes.old) }
     requires one { root_count (S.nodes nodes.old) ≡ 1 }
-    ensures keeps { OnOk result (KeepsSound K.Key (S.nodes nodes.old) (S.nodes nodes.new)) }
-    ensures gains { OnOk result (GainsNothing K.Key (S.nodes nodes.old) (S.nodes nodes.new)) }
-    ensures content { OnOk result (KeepsContent K.Key (S.nodes nodes.old) (S.nodes nodes.new)) }
+    ensures keeps { Edits result (KeepsSound K.Key) S.nodes nodes.old nodes.new }
+    ensures gains { Edits result (GainsNothing K.Key) S.nodes nodes.old nodes.new }
+    ensures content { Edits result (KeepsContent K.Key) S.nodes nodes.old nodes.new }
     ensures depth { OnOk result (depth_of (S.nodes nodes.new) + 1 ≡ depth_of (S.nodes nodes.old)) }
-    ensures free { OnOk result (FreesOne (S.nodes nodes.old) (S.nodes nodes.new)) }
+    ensures free { Edits result FreesOne S.nodes nodes.old nodes.new }
     ensures kept { OnOk result (S.kept nodes.new ≡ S.kept nodes.old) }
 {
     let mut bytes = [0; 512];
@@ -46,7 +46,7 @@ pub(crate) fn lower_root<K: Key, S: NodesMut>(
     nodes: &mut S,
 ) -> Result<(), AllocError>
     requires { IsSound K.Key (S.nodes nodes.old) }
-    ensures lowered { OnOk result (HasLowered K.Key (S.nodes nodes.old) (S.nodes nodes.new)) }
+    ensures lowered { Edits result (HasLowered K.Key) S.nodes nodes.old nodes.new }
     ensures root { OnOk result (RootBranches (S.nodes nodes.new)) }
     ensures kept { OnOk result (S.kept nodes.new ≡ S.kept nodes.old) }
 {
@@ -72,11 +72,11 @@ pub(crate) fn drop_root<K: Key, S: NodesMut>(
     requires sound { IsSound K.Key (S.nodes nodes.old) }
     requires header { header.now ≡ header_in (S.nodes nodes.old) }
     requires one { depth_of (S.nodes nodes.old) ≡ 1 }
-    ensures keeps { OnOk result (KeepsSound K.Key (S.nodes nodes.old) (S.nodes nodes.new)) }
-    ensures gains { OnOk result (GainsNothing K.Key (S.nodes nodes.old) (S.nodes nodes.new)) }
+    ensures keeps { Edits result (KeepsSound K.Key) S.nodes nodes.old nodes.new }
+    ensures gains { Edits result (GainsNothing K.Key) S.nodes nodes.old nodes.new }
     ensures empty { OnOk result (tree_content K.Key (S.nodes nodes.new) ≡ []) }
     ensures depth { OnOk result (depth_of (S.nodes nodes.new) ≡ 0) }
-    ensures free { OnOk result (FreesOne (S.nodes nodes.old) (S.nodes nodes.new)) }
+    ensures free { Edits result FreesOne S.nodes nodes.old nodes.new }
     ensures kept { OnOk result (S.kept nodes.new ≡ S.kept nodes.old) }
 {
     let empty = Header {

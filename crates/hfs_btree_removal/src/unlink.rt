@@ -1,7 +1,7 @@
 //! A node whose neighbours are linked to each other past it.
 
 ghost use Rattle.std.specs.Prelude.{◌≡◌, ◌<◌, IfOk, OnOk, length};
-ghost use Rattle.hfs_btree_removal.specs.Removal.{HasForward, HasBackwardTo, HasApartNeighbours, AreLinked, AreUnlinkable, AreUnlinked, left_of, right_of, last_left, last_right};
+ghost use Rattle.hfs_btree_removal.specs.Removal.{Edits, HasForward, HasBackwardTo, HasApartNeighbours, AreLinked, AreUnlinkable, AreUnlinked, left_of, right_of, last_left, last_right};
 
 use crate::down::Step;
 use hfs_btree_edits::{NodesMut, load, store};
@@ -22,7 +22,7 @@ fn link_forward<S: NodesMut>(
     to: u32,
 ) -> Result<(), AllocError>
     requires { n < length (S.nodes nodes.old) }
-    ensures linked { OnOk result (HasForward n to (S.nodes nodes.old) (S.nodes nodes.new)) }
+    ensures linked { Edits result (HasForward n to) S.nodes nodes.old nodes.new }
     ensures kept { OnOk result (S.kept nodes.new ≡ S.kept nodes.old) }
 {
     if n == 0 {
@@ -41,7 +41,7 @@ fn link_backward<S: NodesMut>(
     to: u32,
 ) -> Result<(), AllocError>
     requires { n < length (S.nodes nodes.old) }
-    ensures linked { OnOk result (HasBackwardTo n to (S.nodes nodes.old) (S.nodes nodes.new)) }
+    ensures linked { Edits result (HasBackwardTo n to) S.nodes nodes.old nodes.new }
     ensures kept { OnOk result (S.kept nodes.new ≡ S.kept nodes.old) }
 {
     if n == 0 {
@@ -85,9 +85,9 @@ pub(crate) fn unlink_all<S: NodesMut>(
     chain: &[Step],
 ) -> Result<Neighbours, AllocError>
     requires { AreUnlinkable (S.nodes nodes.old) chain.now }
-    ensures linked { OnOk result (AreUnlinked chain.now (S.nodes nodes.old) (S.nodes nodes.new)) }
-    ensures left { IfOk result (λ beside. beside.left ≡ last_left (S.nodes nodes.old) chain.now) }
-    ensures right { IfOk result (λ beside. beside.right ≡ last_right (S.nodes nodes.old) chain.now) }
+    ensures linked { Edits result (AreUnlinked chain.now) S.nodes nodes.old nodes.new }
+    ensures left { IfOk result (λ ends. ends.left ≡ last_left (S.nodes nodes.old) chain.now) }
+    ensures right { IfOk result (λ ends. ends.right ≡ last_right (S.nodes nodes.old) chain.now) }
     ensures kept { OnOk result (S.kept nodes.new ≡ S.kept nodes.old) }
 {
     let mut last = Neighbours { left: 0, right: 0 };

@@ -1,9 +1,11 @@
 -- What look-ups answer.
-use Rattle.std.specs.Prelude.{ℕ, Bool, false, ◌&&◌, ◌==◌, if◌then◌else◌, List, find, filter, Option, [], Some, None}
+use Rattle.std.specs.Prelude.{◌≡◌, ℕ, Bool, false, ◌&&◌, ◌==◌, if◌then◌else◌, IsTrue, List, ◌++◌, map, find, filter, Option, [], Some, None}
+use Rattle.std.specs.Option.{option_map, option_to_list}
 use Rattle.hfs_fields.specs.Order.{same_name}
 use Rattle.hfs_fields.specs.declared.key.CatKey.{CatKey}
 use Rattle.hfs_fields.specs.declared.thread_record.ThreadRecord.{ThreadRecord}
-use Rattle.hfs_fields.specs.Records.{is_dir, is_item, begins_thread, dir_record_of, file_record_of, thread_record_of}
+use Rattle.hfs_fields.specs.Records.{is_dir, is_item, is_thread, begins_thread, dir_record_of, file_record_of, thread_record_of}
+use Rattle.hfs_btree.specs.Lookups.{first_pair}
 use Rattle.hfs_catalog.specs.declared.item.ItemRecord.{ItemRecord}
 use Rattle.hfs_catalog.specs.declared.item.ItemRecord.TheVariants.{Folder, File}
 use Rattle.hfs_catalog.specs.declared.item.CatalogItem.{CatalogItem}
@@ -62,3 +64,25 @@ item_at (Some r) = if is_item r.1 then Some (catalog_item r) else None
 abbrev pub is_under : ℕ → Option Record → Bool
 is_under dir None = false
 is_under dir (Some r) = r.0.parent == dir
+
+-- ---- words of the look-ups' contracts
+
+-- the item of that name, whatever its case, under this parent
+abbrev pub item_named : Catalog → ℕ → List ℕ → Option CatalogItem
+item_named catalog dir name = option_map catalog_item (child_named catalog dir name)
+
+-- the items under this parent, in the catalog's order
+abbrev pub child_items : Catalog → ℕ → List CatalogItem
+child_items catalog dir = map catalog_item (children_of catalog dir)
+
+-- what the thread of this ID says
+abbrev pub thread_in : Catalog → ℕ → Option ThreadRecord
+thread_in catalog id = option_map (λ r. thread_record_of r.1) (thread_of catalog id)
+
+-- a body is a thread's record that can be read
+abbrev pub IsReadableThread : List ℕ → Type 0
+IsReadableThread body = IsTrue (is_thread body && begins_thread body)
+
+-- the item of the first record, if that is one's, came behind the others
+abbrev pub AddsFirstItem : Catalog → List CatalogItem → List CatalogItem → Type 0
+AddsFirstItem records old new = new ≡ old ++ option_to_list (item_at (first_pair records))

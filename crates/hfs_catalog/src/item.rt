@@ -1,8 +1,7 @@
 //! One item of the catalog, as its record has it.
 ghost use Rattle.std.specs.Prelude.{◌≡◌, if◌then◌else◌, Some, None};
 ghost use Rattle.hfs_fields.specs.Records.{is_dir, is_file, is_item, is_thread, item_id};
-ghost use Rattle.hfs_catalog.specs.Records.{has_id};
-ghost use Rattle.hfs_catalog.specs.Lookups.{catalog_item};
+ghost use Rattle.hfs_catalog.specs.Lookups.{catalog_item, with_id_at};
 
 use hfs_fields::{CatKey, DirRecord, FileRecord, ThreadRecord, u32_at};
 
@@ -63,7 +62,7 @@ pub fn item_of(key: CatKey, body: &[u8]) -> Option<CatalogItem>
 /// The item of a record, if it has that ID.
 #[tactic(auto, unfolding(crate::specs::Lookups::catalog_item))]
 pub(crate) fn item_with_id(key: CatKey, body: &[u8], id: u32) -> Option<CatalogItem>
-    ensures { result ≡ if has_id id (key, body.now) then Some (catalog_item (key, body.now)) else None }
+    ensures { result ≡ with_id_at id (Some (key, body.now)) }
 {
     let item = item_of(key, body)?;
     let own = match item.body {

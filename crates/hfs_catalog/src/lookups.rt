@@ -1,14 +1,14 @@
 //! Look-ups in the catalog of a volume.
-ghost use Rattle.std.specs.Prelude.{◌≡◌, ◌==◌, ◌++◌, IfOk, OnOk, ◌&&◌, Some, None, length, map, option_map, slice_get, IsTrue};
-ghost use Rattle.std.specs.Option.{SomeIff, is_some, option_to_list};
-ghost use Rattle.hfs_fields.specs.Records.{is_thread, begins_thread, thread_record_of};
+ghost use Rattle.std.specs.Prelude.{◌≡◌, ◌==◌, IfOk, OnOk, length, option_map, slice_get};
+ghost use Rattle.std.specs.Option.{SomeIff, is_some};
+ghost use Rattle.hfs_fields.specs.Records.{thread_record_of};
 ghost use Rattle.hfs_scans.specs.Each.{Each};
 ghost use Rattle.hfs_btree.specs.Lookups.{first_pair};
 ghost use Rattle.hfs_btree.specs.Sound.{IsDistinct};
 ghost use Rattle.hfs_catalog.specs.Records.{item_with, item_ids};
 ghost use Rattle.hfs_catalog.specs.Sound.{IsRecord, AreNamesSound, ArePlacesSound};
 ghost use Rattle.hfs_catalog.specs.Tree.{IsCatalogTree, catalog_of};
-ghost use Rattle.hfs_catalog.specs.Lookups.{catalog_item, child_named, children_of, thread_of, named_at, thread_at, with_id_at, first_key, is_under, item_at};
+ghost use Rattle.hfs_catalog.specs.Lookups.{catalog_item, item_named, child_items, thread_in, IsReadableThread, AddsFirstItem, named_at, thread_at, with_id_at, first_key, is_under, item_at};
 
 use crate::item::{CatalogItem, is_item, is_thread, item_of, item_with_id};
 use hfs_btree::{Nodes, Walk};
@@ -35,7 +35,7 @@ fn named_at<N: Nodes>(walk: &Walk<'_, CatKey, N>, dir: u32, name: &Name) -> Opti
 /// It reads the header node and one node of each level, and takes no memory.
 pub fn lookup<N: Nodes>(nodes: &N, dir: u32, name: &Name) -> Option<CatalogItem>
     requires { IsCatalogTree (N.nodes nodes.now) }
-    ensures { result ≡ option_map catalog_item (child_named (catalog_of (N.nodes nodes.now)) dir name.now) }
+    ensures { result ≡ item_named (catalog_of (N.nodes nodes.now)) dir name.now }
 {
     let key = CatKey {
         parent: dir,
@@ -47,7 +47,7 @@ pub fn lookup<N: Nodes>(nodes: &N, dir: u32, name: &Name) -> Option<CatalogItem>
 
 /// A thread's record. None exactly where the body is no thread's, or its name's length is above 31.
 fn thread_record(body: &[u8]) -> Option<ThreadRecord>
-    ensures { SomeIff result (IsTrue (is_thread body.now && begins_thread body.now)) (thread_record_of body.now) }
+    ensures { SomeIff result (IsReadableThread body.now) (thread_record_of body.now) }
 {
     if is_thread(body) {
         ThreadRecord::read(body)
@@ -87,7 +87,7 @@ pub fn thread<N: Nodes>(nodes: &N, id: u32) -> Option<ThreadRecord>
     requires tree { IsCatalogTree (N.nodes nodes.now) }
     requires records { Each IsRecord (catalog_of (N.nodes nodes.now)) }
     requires names { AreNamesSound (catalog_of (N.nodes nodes.now)) }
-    ensures { result ≡ option_map (λ r. thread_record_of r.1) (thread_of (catalog_of (N.nodes nodes.now)) id) }
+    ensures { result ≡ thread_in (catalog_of (N.nodes nodes.now)) id }
 {
     let walk = Walk::from(nodes, &first_key(id));
     thread_at(&walk, id)
@@ -169,7 +169,7 @@ fn take_item<N: Nodes>(
     found: &mut Vec<CatalogItem>,
     walk: &Walk<'_, CatKey, N>,
 ) -> Result<(), AllocError>
-    ensures { OnOk result (found.new.items ≡ found.old.items ++ option_to_list (item_at (first_pair walk.now))) }
+    ensures { OnOk result (AddsFirstItem walk.now found.old.items found.new.items) }
 {
     if let Some(item) = item_at(walk) {
         found.push(item)?;
@@ -186,7 +186,7 @@ pub fn children<N: Nodes>(
     dir: u32,
 ) -> Result<Vec<CatalogItem>, AllocError>
     requires { IsCatalogTree (N.nodes nodes.now) }
-    ensures { IfOk result (λ v. v.items ≡ map catalog_item (children_of (catalog_of (N.nodes nodes.now)) dir)) }
+    ensures { IfOk result (λ v. v.items ≡ child_items (catalog_of (N.nodes nodes.now)) dir) }
 {
     let mut found = Vec::new(alloc);
     let mut walk = Walk::from(nodes, &first_key(dir));
@@ -213,7 +213,7 @@ fn is_item_at<N: Nodes>(walk: &Walk<'_, CatKey, N>) -> bool
 /// It reads each leaf up to that place once, and takes no memory.
 pub fn child_at<N: Nodes>(nodes: &N, dir: u32, place: u32) -> Option<CatalogItem>
     requires { IsCatalogTree (N.nodes nodes.now) }
-    ensures { result ≡ slice_get (map catalog_item (children_of (catalog_of (N.nodes nodes.now)) dir)) place }
+    ensures { result ≡ slice_get (child_items (catalog_of (N.nodes nodes.now)) dir) place }
 {
     let mut left = place;
     let mut walk = Walk::from(nodes, &first_key(dir));

@@ -61,6 +61,10 @@ earlier (Some i) (Some j) = if nat_le i j then Some i else Some j
 abbrev pub NotesItem : Numbered → Numbered → ℕ → Record → Type 0
 NotesItem old new i r = (id : ℕ) → number_of new id ≡ option_or (number_of old id) (only_if (has_id id r) i)
 
+-- the number of this ID is this one now, and the others are the same
+abbrev pub SetsNumber : ℕ → ℕ → Numbered → Numbered → Type 0
+SetsNumber id n old new = number_of new ≡ with_number (number_of old) id n
+
 -- each ID has its number, and this one the number where it had none
 abbrev pub NotesFirst : Numbered → Numbered → ℕ → ℕ → Type 0
 NotesFirst old new id n = (k : ℕ) → number_of new k ≡ option_or (number_of old k) (only_if (nat_eq id k) n)

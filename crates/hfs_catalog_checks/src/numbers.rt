@@ -1,8 +1,7 @@
 //! Numbers that are found by an ID.
 
 ghost use Rattle.std.specs.Prelude.{◌≡◌, ◌+◌, ◌<◌, ◌^◌, [], IfOk, OnOk};
-ghost use Rattle.std.specs.Option.{option_or};
-ghost use Rattle.hfs_catalog_checks.specs.Indexes.{number_of, count_of, with_number, only_if, NotesFirst, AddsCount};
+ghost use Rattle.hfs_catalog_checks.specs.Indexes.{number_of, count_of, SetsNumber, NotesFirst, AddsCount};
 
 use std::alloc::{AllocError, Global};
 use std::collections::BTreeMap;
@@ -42,7 +41,7 @@ impl Numbers {
 
     /// Gives an ID this number, in place of the one that it has, which is the answer.
     fn replace(&mut self, id: u32, number: usize) -> Result<Option<usize>, AllocError>
-        ensures put { OnOk result (number_of self.new ≡ with_number (number_of self.old) id number) }
+        ensures put { OnOk result (SetsNumber id number self.old self.new) }
         ensures was { IfOk result (λ was. was ≡ number_of self.old id) }
     {
         let was = self.numbers.insert(id, number)?;
@@ -51,7 +50,7 @@ impl Numbers {
 
     /// Gives an ID this number, in place of the one that it has.
     pub(crate) fn put(&mut self, id: u32, number: usize) -> Result<(), AllocError>
-        ensures { OnOk result (number_of self.new ≡ with_number (number_of self.old) id number) }
+        ensures { OnOk result (SetsNumber id number self.old self.new) }
     {
         self.replace(id, number)?;
         Ok(())

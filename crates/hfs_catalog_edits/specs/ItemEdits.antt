@@ -1,5 +1,5 @@
 -- What the edits of items and threads make of the catalog: its records as a row of swaps, each of one that goes out and one that comes in.
-use Rattle.std.specs.Prelude.{◌≡◌, ℕ, ◌+◌, ◌*◌, ◌≤◌, ◌⊎◌, true, false, List, [], ◌∷◌, Option, Some, None}
+use Rattle.std.specs.Prelude.{◌≡◌, ℕ, ◌+◌, ◌*◌, ◌≤◌, ◌⊎◌, true, false, List, [], ◌∷◌, Option, Some, None, Result, OnOk}
 use Rattle.std.specs.Option.{option_map}
 use Rattle.std.specs.Ordering.{is_eq}
 use Rattle.hfs_fields.specs.declared.key.CatKey.{CatKey}
@@ -109,6 +109,10 @@ pub record ItemRekeyed (id : ℕ) (here there : CatKey) (old new : Store) : Type
 
 -- ---- words of the edits' contracts
 
+-- where the result is Ok, the fact holds of the nodes before and after
+abbrev pub Edits : {T E V : Type 0} → Result T E → (Store → Store → Type 0) → (V → Store) → V → V → Type 0
+Edits result Fact nodes old new = OnOk result (Fact (nodes old) (nodes new))
+
 -- under the key stands the record of a file or folder
 abbrev pub IsItemAt : Store → CatKey → Type 0
 IsItemAt nodes key = IfBody (λ body. is_item body ≡ true) (lookup cat_cmp key (catalog_of nodes))
@@ -138,8 +142,8 @@ abbrev pub FileCame : ℕ → List ℕ → FileRecord → Store → Store → Ty
 FileCame dir name file old new = RecordCame (file_record dir name file) old new
 
 -- the record of a folder in this one came, without its thread
-abbrev pub FolderRecordCame : ℕ → List ℕ → DirRecord → Store → Store → Type 0
-FolderRecordCame dir name folder old new = RecordCame (folder_record dir name folder) old new
+abbrev pub FolderAdded : ℕ → List ℕ → DirRecord → Store → Store → Type 0
+FolderAdded dir name folder old new = RecordCame (folder_record dir name folder) old new
 
 -- the record under the key went
 abbrev pub RecordAtWent : CatKey → Store → Store → Type 0

@@ -3,7 +3,7 @@ ghost use Rattle.std.specs.Prelude.{◌≡◌, OnOk};
 ghost use Rattle.hfs_scans.specs.Each.{Each};
 ghost use Rattle.hfs_catalog.specs.Sound.{IsRecord};
 ghost use Rattle.hfs_catalog.specs.Tree.{IsCatalogTree, catalog_of};
-ghost use Rattle.hfs_catalog_edits.specs.ItemEdits.{IsItemAt, ItemWent};
+ghost use Rattle.hfs_catalog_edits.specs.ItemEdits.{Edits, IsItemAt, ItemWent};
 
 use crate::one_record::take;
 use crate::threads::drop_thread;
@@ -23,7 +23,7 @@ pub fn drop_item<N: NodesMut>(
     requires tree { IsCatalogTree (N.nodes nodes.old) }
     requires records { Each IsRecord (catalog_of (N.nodes nodes.old)) }
     requires there { IsItemAt (N.nodes nodes.old) key.now }
-    ensures went { OnOk result (ItemWent key.now id (N.nodes nodes.old) (N.nodes nodes.new)) }
+    ensures went { Edits result (ItemWent key.now id) N.nodes nodes.old nodes.new }
     ensures kept { OnOk result (N.kept nodes.new ≡ N.kept nodes.old) }
 {
     take(alloc, nodes, key)?;

@@ -2,7 +2,7 @@
 ghost use Rattle.std.specs.Prelude.{◌≡◌, ◌≤◌, OnOk, length};
 ghost use Rattle.hfs_fields.specs.RecordForms.{IsDirRecordValue, IsFileRecordValue};
 ghost use Rattle.hfs_catalog.specs.Tree.{IsCatalogTree, catalog_of};
-ghost use Rattle.hfs_catalog_edits.specs.ItemEdits.{IsNameFree, IsThreadKeyFree, FileCame, FolderRecordCame, FolderCame};
+ghost use Rattle.hfs_catalog_edits.specs.ItemEdits.{Edits, IsNameFree, IsThreadKeyFree, FileCame, FolderAdded, FolderCame};
 ghost use Rattle.hfs_catalog_edits.specs.Rooms.{IsInFile, HasRoom, HasRoomForTwo};
 ghost use Rattle.hfs_catalog_edits.specs.Roots.{HasRoot};
 
@@ -29,7 +29,7 @@ pub fn add_file<N: NodesMut>(
     requires absent { IsNameFree (N.nodes nodes.old) dir name.now }
     requires inside { IsInFile (N.nodes nodes.old) }
     requires room { HasRoom (N.nodes nodes.old) }
-    ensures came { OnOk result (FileCame dir name.now file.now (N.nodes nodes.old) (N.nodes nodes.new)) }
+    ensures came { Edits result (FileCame dir name.now file.now) N.nodes nodes.old nodes.new }
     ensures value { OnOk result (IsFileRecordValue file.now) }
     ensures kept { OnOk result (N.kept nodes.new ≡ N.kept nodes.old) }
 {
@@ -54,7 +54,7 @@ fn add_folder<N: NodesMut>(
     requires absent { IsNameFree (N.nodes nodes.old) dir name.now }
     requires inside { IsInFile (N.nodes nodes.old) }
     requires room { HasRoom (N.nodes nodes.old) }
-    ensures came { OnOk result (FolderRecordCame dir name.now folder.now (N.nodes nodes.old) (N.nodes nodes.new)) }
+    ensures came { Edits result (FolderAdded dir name.now folder.now) N.nodes nodes.old nodes.new }
     ensures value { OnOk result (IsDirRecordValue folder.now) }
     ensures kept { OnOk result (N.kept nodes.new ≡ N.kept nodes.old) }
 {
@@ -84,7 +84,7 @@ pub fn add_dir<N: NodesMut>(
     requires threadless { IsThreadKeyFree (N.nodes nodes.old) folder.now.id }
     requires inside { IsInFile (N.nodes nodes.old) }
     requires room { HasRoomForTwo (N.nodes nodes.old) }
-    ensures came { OnOk result (FolderCame dir name.now folder.now (N.nodes nodes.old) (N.nodes nodes.new)) }
+    ensures came { Edits result (FolderCame dir name.now folder.now) N.nodes nodes.old nodes.new }
     ensures kept { OnOk result (N.kept nodes.new ≡ N.kept nodes.old) }
 {
     add_folder(alloc, nodes, dir, name, folder)?;

@@ -4,7 +4,7 @@ ghost use Rattle.hfs_fields.specs.Keys.{cat_cmp, is_cat_body_len};
 ghost use Rattle.hfs_btree.specs.Pairs.{lookup};
 ghost use Rattle.hfs_btree_edits.specs.Conditions.{IsNoLonger, IsThere};
 ghost use Rattle.hfs_catalog.specs.Tree.{IsCatalogTree, catalog_of};
-ghost use Rattle.hfs_catalog_edits.specs.ItemEdits.{RecordAtWent};
+ghost use Rattle.hfs_catalog_edits.specs.ItemEdits.{Edits, RecordAtWent};
 ghost use Rattle.hfs_catalog_edits.specs.RecordEdits.{RecordCame, RecordSet};
 ghost use Rattle.hfs_catalog_edits.specs.Rooms.{IsInFile, HasRoom};
 ghost use Rattle.hfs_catalog_edits.specs.Roots.{HasRoot};
@@ -29,7 +29,7 @@ pub(crate) fn put<N: NodesMut>(
     requires absent { lookup cat_cmp key.now (catalog_of (N.nodes nodes.old)) ≡ None }
     requires file { IsInFile (N.nodes nodes.old) }
     requires room { HasRoom (N.nodes nodes.old) }
-    ensures came { OnOk result (RecordCame (key.now, body.now) (N.nodes nodes.old) (N.nodes nodes.new)) }
+    ensures came { Edits result (RecordCame (key.now, body.now)) N.nodes nodes.old nodes.new }
     ensures kept { OnOk result (N.kept nodes.new ≡ N.kept nodes.old) }
 {
     insert(alloc, nodes, key, body)
@@ -43,7 +43,7 @@ pub(crate) fn take<N: NodesMut>(
 ) -> Result<(), AllocError>
     requires tree { IsCatalogTree (N.nodes nodes.old) }
     requires there { IsThere (lookup cat_cmp key.now (catalog_of (N.nodes nodes.old))) }
-    ensures went { OnOk result (RecordAtWent key.now (N.nodes nodes.old) (N.nodes nodes.new)) }
+    ensures went { Edits result (RecordAtWent key.now) N.nodes nodes.old nodes.new }
     ensures kept { OnOk result (N.kept nodes.new ≡ N.kept nodes.old) }
 {
     remove(alloc, nodes, key)
@@ -59,7 +59,7 @@ pub(crate) fn set<N: NodesMut>(
     requires tree { IsCatalogTree (N.nodes nodes.old) }
     requires allowed { IsTrue (is_cat_body_len (length body.now)) }
     requires there { IsNoLonger body.now (lookup cat_cmp key.now (catalog_of (N.nodes nodes.old))) }
-    ensures set { OnOk result (RecordSet (key.now, body.now) (N.nodes nodes.old) (N.nodes nodes.new)) }
+    ensures set { Edits result (RecordSet (key.now, body.now)) N.nodes nodes.old nodes.new }
     ensures kept { OnOk result (N.kept nodes.new ≡ N.kept nodes.old) }
 {
     replace(alloc, nodes, key, body)

@@ -5,7 +5,7 @@ ghost use Rattle.hfs_fields.specs.Keys.{cat_cmp};
 ghost use Rattle.hfs_scans.specs.Each.{Each};
 ghost use Rattle.hfs_catalog.specs.Sound.{IsRecord, AreNamesSound};
 ghost use Rattle.hfs_catalog.specs.Tree.{IsCatalogTree, catalog_of};
-ghost use Rattle.hfs_catalog_edits.specs.ItemEdits.{IsItemAt, IsFreeUnlessSame, RecordMoved, ItemRekeyed};
+ghost use Rattle.hfs_catalog_edits.specs.ItemEdits.{Edits, IsItemAt, IsFreeUnlessSame, RecordMoved, ItemRekeyed};
 ghost use Rattle.hfs_catalog_edits.specs.Rooms.{IsInFile, HasRoom};
 ghost use Rattle.hfs_catalog_edits.specs.Roots.{HasRoot};
 
@@ -31,7 +31,7 @@ fn move_record<N: NodesMut>(
     requires absent { IsFreeUnlessSame (N.nodes nodes.old) from.now to.now }
     requires inside { IsInFile (N.nodes nodes.old) }
     requires room { is_eq (cat_cmp from.now to.now) ≡ false → HasRoom (N.nodes nodes.old) }
-    ensures moved { OnOk result (RecordMoved from.now to.now (N.nodes nodes.old) (N.nodes nodes.new)) }
+    ensures moved { Edits result (RecordMoved from.now to.now) N.nodes nodes.old nodes.new }
     ensures kept { OnOk result (N.kept nodes.new ≡ N.kept nodes.old) }
 {
     let Some(body) = find(alloc, nodes, from)? else {
@@ -67,7 +67,7 @@ pub fn rekey<N: NodesMut>(
     requires absent { IsFreeUnlessSame (N.nodes nodes.old) from.now to.now }
     requires inside { IsInFile (N.nodes nodes.old) }
     requires room { is_eq (cat_cmp from.now to.now) ≡ false → HasRoom (N.nodes nodes.old) }
-    ensures rekeyed { OnOk result (ItemRekeyed id from.now to.now (N.nodes nodes.old) (N.nodes nodes.new)) }
+    ensures rekeyed { Edits result (ItemRekeyed id from.now to.now) N.nodes nodes.old nodes.new }
     ensures kept { OnOk result (N.kept nodes.new ≡ N.kept nodes.old) }
 {
     move_record(alloc, nodes, from, to)?;

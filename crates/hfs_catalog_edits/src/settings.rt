@@ -2,7 +2,7 @@
 ghost use Rattle.std.specs.Prelude.{◌≡◌, OnOk};
 ghost use Rattle.hfs_catalog.specs.Tree.{IsCatalogTree};
 ghost use Rattle.hfs_catalog_edits.specs.Bodies.{IsItemValue};
-ghost use Rattle.hfs_catalog_edits.specs.ItemEdits.{IsFolderAt, IsSameKindAt, ItemSet, HasValenceSet};
+ghost use Rattle.hfs_catalog_edits.specs.ItemEdits.{Edits, IsFolderAt, IsSameKindAt, ItemSet, HasValenceSet};
 
 use crate::bodies::{file_body, folder_body};
 use crate::one_record::set;
@@ -23,7 +23,7 @@ pub fn set_record<N: NodesMut>(
 ) -> Result<(), AllocError>
     requires tree { IsCatalogTree (N.nodes nodes.old) }
     requires there { IsSameKindAt (N.nodes nodes.old) key.now item.now }
-    ensures set { OnOk result (ItemSet key.now item.now (N.nodes nodes.old) (N.nodes nodes.new)) }
+    ensures set { Edits result (ItemSet key.now item.now) N.nodes nodes.old nodes.new }
     ensures value { OnOk result (IsItemValue item.now) }
     ensures kept { OnOk result (N.kept nodes.new ≡ N.kept nodes.old) }
 {
@@ -45,7 +45,7 @@ pub fn set_valence<N: NodesMut>(
 ) -> Result<(), AllocError>
     requires tree { IsCatalogTree (N.nodes nodes.old) }
     requires there { IsFolderAt (N.nodes nodes.old) key.now }
-    ensures set { OnOk result (HasValenceSet key.now valence now (N.nodes nodes.old) (N.nodes nodes.new)) }
+    ensures set { Edits result (HasValenceSet key.now valence now) N.nodes nodes.old nodes.new }
     ensures kept { OnOk result (N.kept nodes.new ≡ N.kept nodes.old) }
 {
     let Some(body) = find(alloc, nodes, key)? else {

@@ -9,7 +9,7 @@ ghost use Rattle.hfs_catalog.specs.Lookups.{first_key};
 ghost use Rattle.hfs_catalog.specs.Sound.{IsRecord};
 ghost use Rattle.hfs_catalog.specs.Tree.{IsCatalogTree, catalog_of};
 ghost use Rattle.hfs_catalog_edits.specs.Finds.{AreThreadsReadable};
-ghost use Rattle.hfs_catalog_edits.specs.ItemEdits.{ThreadCame, ThreadWent, ThreadTurned};
+ghost use Rattle.hfs_catalog_edits.specs.ItemEdits.{Edits, ThreadCame, ThreadWent, ThreadTurned};
 ghost use Rattle.hfs_catalog_edits.specs.Rooms.{IsInFile, HasRoom};
 ghost use Rattle.hfs_catalog_edits.specs.Roots.{HasRoot};
 
@@ -38,7 +38,7 @@ pub fn add_thread<N: NodesMut>(
     requires absent { lookup cat_cmp (first_key id) (catalog_of (N.nodes nodes.old)) ≡ None }
     requires file { IsInFile (N.nodes nodes.old) }
     requires room { HasRoom (N.nodes nodes.old) }
-    ensures came { OnOk result (ThreadCame id kind dir name.now (N.nodes nodes.old) (N.nodes nodes.new)) }
+    ensures came { Edits result (ThreadCame id kind dir name.now) N.nodes nodes.old nodes.new }
     ensures value { OnOk result (IsThreadRecordValue (new_thread kind dir name.now)) }
     ensures kept { OnOk result (N.kept nodes.new ≡ N.kept nodes.old) }
 {
@@ -52,7 +52,7 @@ pub fn add_thread<N: NodesMut>(
 pub fn drop_thread<N: NodesMut>(alloc: Global, nodes: &mut N, id: u32) -> Result<(), AllocError>
     requires tree { IsCatalogTree (N.nodes nodes.old) }
     requires records { Each IsRecord (catalog_of (N.nodes nodes.old)) }
-    ensures went { OnOk result (ThreadWent id (N.nodes nodes.old) (N.nodes nodes.new)) }
+    ensures went { Edits result (ThreadWent id) N.nodes nodes.old nodes.new }
     ensures kept { OnOk result (N.kept nodes.new ≡ N.kept nodes.old) }
 {
     let key = thread_key(id);
@@ -72,7 +72,7 @@ pub(crate) fn turn_thread<N: NodesMut>(
     requires tree { IsCatalogTree (N.nodes nodes.old) }
     requires records { Each IsRecord (catalog_of (N.nodes nodes.old)) }
     requires threads { AreThreadsReadable (catalog_of (N.nodes nodes.old)) }
-    ensures turned { OnOk result (ThreadTurned id to.now (N.nodes nodes.old) (N.nodes nodes.new)) }
+    ensures turned { Edits result (ThreadTurned id to.now) N.nodes nodes.old nodes.new }
     ensures kept { OnOk result (N.kept nodes.new ≡ N.kept nodes.old) }
 {
     let key = thread_key(id);
