@@ -1,5 +1,5 @@
 -- What the edits of a tree make of it.
-use Rattle.std.specs.Prelude.{◌≡◌, ◌≢◌, false, ℕ, zero, suc, ◌+◌, ◌-◌, ◌<◌, ◌≤◌, List, [], ◌∷◌, ◌++◌, length, if◌then◌else◌}
+use Rattle.std.specs.Prelude.{◌≡◌, ◌≢◌, false, ℕ, zero, suc, ◌+◌, ◌-◌, ◌<◌, ◌≤◌, List, [], ◌∷◌, ◌++◌, length, if◌then◌else◌, Result, OnOk}
 use Rattle.std.specs.declared.cmp.Ordering.TheVariants.{Less}
 use Rattle.std.specs.Ordering.{is_eq, is_gt}
 use Rattle.hfs_node.specs.Node.{size_of}
@@ -14,6 +14,12 @@ use Rattle.hfs_btree.specs.Search.{leaf_under, leaf_for}
 use Rattle.hfs_btree.specs.Sound.{IsOther, IsSound, IsExact, KeepsFrame}
 use Rattle.hfs_btree_edits.specs.Stored.{bytes_in}
 use Rattle.hfs_btree_edits.specs.KeptKeys.{tree_keys, EachKey, IsKeyOr}
+
+-- ---- before and after
+
+-- where the result is Ok, the fact holds of the nodes before and after
+abbrev pub Edits : {T E V : Type 0} → Result T E → (Store → Store → Type 0) → (V → Store) → V → V → Type 0
+Edits result Fact nodes old new = OnOk result (Fact (nodes old) (nodes new))
 
 -- ---- pairs
 

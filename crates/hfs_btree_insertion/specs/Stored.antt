@@ -1,5 +1,5 @@
 -- What the writes of an insertion make of a tree's file.
-use Rattle.std.specs.Prelude.{◌≡◌, ◌≢◌, ℕ, ◌+◌, ◌<◌, List, ◌++◌, Result, Ok, OnOk, drop, insert, Bool, true, false}
+use Rattle.std.specs.Prelude.{◌≡◌, ◌≢◌, ℕ, ◌+◌, ◌<◌, List, ◌++◌, Ok, drop, insert, Bool, true, false}
 use Rattle.hfs_node.specs.declared.node.Node.{Node}
 use Rattle.hfs_btree.specs.declared.key.Key.{Ghosts}
 use Rattle.hfs_btree_edits.specs.Edits.{with_pair, IsAboveFirst, level_above, HasInserted}
@@ -48,10 +48,6 @@ CountsOneMore old new = HasHeaderPut (record (header_in old) { records = (header
 -- the pair of this leaf record was put in its place
 abbrev pub HasEntryPut : {K : Type 0} → Ghosts K → K → List ℕ → Store → Store → Type 0
 HasEntryPut g key entry old new = HasPut g key (drop (g.body_start entry) entry) old new
-
--- where the result is Ok, the fact holds of the nodes before and after
-abbrev pub Edits : {T E V : Type 0} → Result T E → (Store → Store → Type 0) → (V → Store) → V → V → Type 0
-Edits result Fact nodes old new = OnOk result (Fact (nodes old) (nodes new))
 
 -- the pair was inserted into the tree that these nodes are
 abbrev pub Inserts : {K V : Type 0} → Ghosts K → K → List ℕ → (V → Store) → V → V → Type 0

@@ -4,8 +4,9 @@ ghost use Rattle.std.specs.Prelude.{◌≡◌, ◌≢◌, ◌<◌, ◌≤◌, On
 ghost use Rattle.hfs_btree.specs.Header.{record_in};
 ghost use Rattle.hfs_btree.specs.Tree.{node_in, records_in, forward_of};
 ghost use Rattle.hfs_btree_edits.specs.Stored.{HasBackward};
+ghost use Rattle.hfs_btree_edits.specs.Edits.{Edits};
 ghost use Rattle.hfs_btree_insertion.specs.Halves.{HasHalved};
-ghost use Rattle.hfs_btree_insertion.specs.Stored.{Edits, HasLinked, HasLastLeaf};
+ghost use Rattle.hfs_btree_insertion.specs.Stored.{HasLinked, HasLastLeaf};
 
 use hfs_btree::read_header;
 use hfs_btree_edits::{NodesMut, load, put_header, store};

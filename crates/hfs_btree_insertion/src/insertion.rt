@@ -4,10 +4,10 @@ ghost use Rattle.std.specs.Prelude.{◌≡◌, ◌+◌, ◌*◌, ◌^◌, ◌<�
 ghost use Rattle.hfs_btree.specs.Header.{header_in, depth_of, free_nodes, tree_content};
 ghost use Rattle.hfs_btree.specs.Pairs.{lookup};
 ghost use Rattle.hfs_btree.specs.Sound.{IsSound};
-ghost use Rattle.hfs_btree_edits.specs.Edits.{IsAboveFirst};
+ghost use Rattle.hfs_btree_edits.specs.Edits.{Edits, IsAboveFirst};
 ghost use Rattle.hfs_btree_insertion.specs.Growth.{IsLow};
 ghost use Rattle.hfs_btree_insertion.specs.Room.{HasMadeRoom};
-ghost use Rattle.hfs_btree_insertion.specs.Stored.{Edits, Inserts};
+ghost use Rattle.hfs_btree_insertion.specs.Stored.{Inserts};
 
 use crate::leaf_put::{put_entry, put_in_leaf};
 use crate::level_cut::cut_levels;

@@ -6,7 +6,8 @@ ghost use Rattle.hfs_btree.specs.Header.{header_in, record_in, depth_of, tree_co
 ghost use Rattle.hfs_btree.specs.Pairs.{lookup};
 ghost use Rattle.hfs_btree.specs.Search.{leaf_for};
 ghost use Rattle.hfs_btree.specs.Sound.{IsSound};
-ghost use Rattle.hfs_btree_insertion.specs.Stored.{Edits, HasRecordPut, CountsOneMore, HasEntryPut};
+ghost use Rattle.hfs_btree_edits.specs.Edits.{Edits};
+ghost use Rattle.hfs_btree_insertion.specs.Stored.{HasRecordPut, CountsOneMore, HasEntryPut};
 ghost use Rattle.hfs_btree_insertion.specs.Growth.{HasLeafRoom, IsRootLow};
 ghost use Rattle.hfs_btree.specs.Tree.{records_in};
 

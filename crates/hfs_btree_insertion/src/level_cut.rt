@@ -3,10 +3,10 @@
 ghost use Rattle.std.specs.Prelude.{◌≡◌, ℕ, ◌+◌, ◌<◌, ◌≤◌, OnOk, length};
 ghost use Rattle.hfs_btree.specs.Header.{header_in, depth_of, free_nodes};
 ghost use Rattle.hfs_btree.specs.Sound.{IsSound, IsStray};
+ghost use Rattle.hfs_btree_edits.specs.Edits.{Edits};
 ghost use Rattle.hfs_btree_insertion.specs.Cut.{IsBranch, IsChildCut};
 ghost use Rattle.hfs_btree_insertion.specs.Growth.{HasRoom, HasRoomOnWay, IsChildCuttable, IsCuttableOnWay, IsLow, HasCutLevel};
 ghost use Rattle.hfs_btree_insertion.specs.Steps.{AreCuttable, HasCutDown};
-ghost use Rattle.hfs_btree_insertion.specs.Stored.{Edits};
 
 use crate::cut_place::{child_named, cut_place, half_entry};
 use crate::halving::halve;

@@ -4,9 +4,8 @@ ghost use Rattle.std.specs.Prelude.{◌≡◌, ◌<◌, true, [], OnOk, length, 
 ghost use Rattle.hfs_btree.specs.Header.{tree_content};
 ghost use Rattle.hfs_btree.specs.Sound.{IsSound};
 ghost use Rattle.hfs_btree.specs.Tree.{records_in};
-ghost use Rattle.hfs_btree_edits.specs.Edits.{IsAboveFirst};
+ghost use Rattle.hfs_btree_edits.specs.Edits.{Edits, IsAboveFirst};
 ghost use Rattle.hfs_btree_insertion.specs.Lowering.{HasFirstKey, HasLowFirst, HasLowered};
-ghost use Rattle.hfs_btree_insertion.specs.Stored.{Edits};
 
 use hfs_btree::{Key, child_in, child_of, entry_in, is_above, read_header};
 use hfs_btree_edits::{NodesMut, load, store};

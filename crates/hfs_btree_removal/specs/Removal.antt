@@ -1,5 +1,5 @@
 -- What the steps of a removal make of a tree's nodes.
-use Rattle.std.specs.Prelude.{◌≡◌, ◌≢◌, ℕ, zero, suc, ◌+◌, ◌-◌, ◌<◌, ◌≤◌, ◌==◌, if◌then◌else◌, true, List, [], ◌∷◌, ◌++◌, ⊤, Ok, Err, OnOk, Result, Option, Some, None, length, map, slice_set, slice_index_or, remove}
+use Rattle.std.specs.Prelude.{◌≡◌, ◌≢◌, ℕ, zero, suc, ◌+◌, ◌-◌, ◌<◌, ◌≤◌, ◌==◌, if◌then◌else◌, true, List, [], ◌∷◌, ◌++◌, ⊤, Ok, Err, Result, Option, Some, None, length, map, slice_set, slice_index_or, remove}
 use Rattle.hfs_node.specs.declared.fault.NodeFault.{NodeFault}
 use Rattle.hfs_node.specs.declared.node.Node.{Node}
 use Rattle.hfs_node.specs.declared.kind.NodeKind.TheVariants.{Leaf}
@@ -337,10 +337,6 @@ KeepsContent g old new = tree_content g new ≡ tree_content g old
 -- one more node is free
 abbrev pub FreesOne : Store → Store → Type 0
 FreesOne old new = free_nodes new ≡ free_nodes old + 1
-
--- where the result is Ok, the fact holds of the nodes before and after
-abbrev pub Edits : {T E V : Type 0} → Result T E → (Store → Store → Type 0) → (V → Store) → V → V → Type 0
-Edits result Fact nodes old new = OnOk result (Fact (nodes old) (nodes new))
 
 -- the chain left its links, and the record on the way its node, of these nodes
 abbrev pub Detaches : {K V : Type 0} → Ghosts K → Step → List Step → (V → Store) → V → V → Option K → Type 0

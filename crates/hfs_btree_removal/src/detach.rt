@@ -1,7 +1,8 @@
 //! The record at the end of a way, and the nodes below it that have no other: taken out, and given back.
 
 ghost use Rattle.std.specs.Prelude.{◌≡◌, ◌<◌, ◌≤◌, IfOk, OnOk, length};
-ghost use Rattle.hfs_btree_removal.specs.Removal.{fewer, AreStepsReleased, AreStray, Detaches, Edits, HasStepTaken, IfIndexReads, IfLeafReads, IsNewFirst, EndWay};
+ghost use Rattle.hfs_btree_edits.specs.Edits.{Edits};
+ghost use Rattle.hfs_btree_removal.specs.Removal.{fewer, AreStepsReleased, AreStray, Detaches, HasStepTaken, IfIndexReads, IfLeafReads, IsNewFirst, EndWay};
 ghost use Rattle.hfs_btree.specs.Header.{header_in};
 ghost use Rattle.hfs_btree.specs.Sound.{IsSound};
 ghost use Rattle.hfs_btree.specs.Tree.{records_in};

@@ -1,7 +1,8 @@
 //! A first key that has changed, told to the nodes above.
 
 ghost use Rattle.std.specs.Prelude.{◌≡◌, ◌<◌, OnOk, length};
-ghost use Rattle.hfs_btree_removal.specs.Removal.{Edits, HasStepKey, IsIndexStep, AreSettable, IsPassedUp, HasToldAbove};
+ghost use Rattle.hfs_btree_edits.specs.Edits.{Edits};
+ghost use Rattle.hfs_btree_removal.specs.Removal.{HasStepKey, IsIndexStep, AreSettable, IsPassedUp, HasToldAbove};
 ghost use Rattle.hfs_btree.specs.Tree.{records_in};
 
 use crate::down::Step;

@@ -2,10 +2,10 @@
 
 ghost use Rattle.std.specs.Prelude.{◌≡◌, OnOk};
 ghost use Rattle.hfs_btree_edits.specs.Conditions.{IsThere};
-ghost use Rattle.hfs_btree_edits.specs.Edits.{HasRemoved};
+ghost use Rattle.hfs_btree_edits.specs.Edits.{Edits, HasRemoved};
 ghost use Rattle.hfs_btree.specs.Header.{header_in, tree_content};
 ghost use Rattle.hfs_btree.specs.Pairs.{lookup};
-ghost use Rattle.hfs_btree_removal.specs.Removal.{Edits, HasTakenOut};
+ghost use Rattle.hfs_btree_removal.specs.Removal.{HasTakenOut};
 ghost use Rattle.hfs_btree.specs.Sound.{IsSound};
 ghost use Rattle.hfs_btree_removal.specs.Ways.{IsWayTo, IsLastWide};
 

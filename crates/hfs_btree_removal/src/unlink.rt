@@ -1,7 +1,8 @@
 //! A node whose neighbours are linked to each other past it.
 
 ghost use Rattle.std.specs.Prelude.{◌≡◌, ◌<◌, IfOk, OnOk, length};
-ghost use Rattle.hfs_btree_removal.specs.Removal.{Edits, HasForward, HasBackwardTo, HasApartNeighbours, AreLinked, AreUnlinkable, AreUnlinked, left_of, right_of, last_left, last_right};
+ghost use Rattle.hfs_btree_edits.specs.Edits.{Edits};
+ghost use Rattle.hfs_btree_removal.specs.Removal.{HasForward, HasBackwardTo, HasApartNeighbours, AreLinked, AreUnlinkable, AreUnlinked, left_of, right_of, last_left, last_right};
 
 use crate::down::Step;
 use hfs_btree_edits::{NodesMut, load, store};

@@ -1,5 +1,5 @@
 -- What the edits of items and threads make of the catalog: its records as a row of swaps, each of one that goes out and one that comes in.
-use Rattle.std.specs.Prelude.{◌≡◌, ℕ, ◌+◌, ◌*◌, ◌≤◌, ◌⊎◌, true, false, List, [], ◌∷◌, Option, Some, None, Result, OnOk}
+use Rattle.std.specs.Prelude.{◌≡◌, ℕ, ◌+◌, ◌*◌, ◌≤◌, ◌⊎◌, true, false, List, [], ◌∷◌, Option, Some, None}
 use Rattle.std.specs.Option.{option_map}
 use Rattle.std.specs.Ordering.{is_eq}
 use Rattle.hfs_fields.specs.declared.key.CatKey.{CatKey}
@@ -108,10 +108,6 @@ pub record ItemRekeyed (id : ℕ) (here there : CatKey) (old new : Store) : Type
   pub in_place : is_eq (cat_cmp here there) ≡ true → free_nodes new ≡ free_nodes old
 
 -- ---- words of the edits' contracts
-
--- where the result is Ok, the fact holds of the nodes before and after
-abbrev pub Edits : {T E V : Type 0} → Result T E → (Store → Store → Type 0) → (V → Store) → V → V → Type 0
-Edits result Fact nodes old new = OnOk result (Fact (nodes old) (nodes new))
 
 -- under the key stands the record of a file or folder
 abbrev pub IsItemAt : Store → CatKey → Type 0

@@ -2,7 +2,8 @@
 ghost use Rattle.std.specs.Prelude.{◌≡◌, ◌≤◌, OnOk, length};
 ghost use Rattle.hfs_fields.specs.RecordForms.{IsDirRecordValue, IsFileRecordValue};
 ghost use Rattle.hfs_catalog.specs.Tree.{IsCatalogTree, catalog_of};
-ghost use Rattle.hfs_catalog_edits.specs.ItemEdits.{Edits, IsNameFree, IsThreadKeyFree, FileCame, FolderAdded, FolderCame};
+ghost use Rattle.hfs_btree_edits.specs.Edits.{Edits};
+ghost use Rattle.hfs_catalog_edits.specs.ItemEdits.{IsNameFree, IsThreadKeyFree, FileCame, FolderAdded, FolderCame};
 ghost use Rattle.hfs_catalog_edits.specs.Rooms.{IsInFile, HasRoom, HasRoomForTwo};
 ghost use Rattle.hfs_catalog_edits.specs.Roots.{HasRoot};
 

@@ -5,7 +5,8 @@ ghost use Rattle.hfs_fields.specs.Keys.{cat_cmp};
 ghost use Rattle.hfs_scans.specs.Each.{Each};
 ghost use Rattle.hfs_catalog.specs.Sound.{IsRecord, AreNamesSound};
 ghost use Rattle.hfs_catalog.specs.Tree.{IsCatalogTree, catalog_of};
-ghost use Rattle.hfs_catalog_edits.specs.ItemEdits.{Edits, IsItemAt, IsFreeUnlessSame, RecordMoved, ItemRekeyed};
+ghost use Rattle.hfs_btree_edits.specs.Edits.{Edits};
+ghost use Rattle.hfs_catalog_edits.specs.ItemEdits.{IsItemAt, IsFreeUnlessSame, RecordMoved, ItemRekeyed};
 ghost use Rattle.hfs_catalog_edits.specs.Rooms.{IsInFile, HasRoom};
 ghost use Rattle.hfs_catalog_edits.specs.Roots.{HasRoot};
 

@@ -1,8 +1,9 @@
 //! Records of items that are written anew in their place.
 ghost use Rattle.std.specs.Prelude.{◌≡◌, OnOk};
 ghost use Rattle.hfs_catalog.specs.Tree.{IsCatalogTree};
+ghost use Rattle.hfs_btree_edits.specs.Edits.{Edits};
 ghost use Rattle.hfs_catalog_edits.specs.Bodies.{IsItemValue};
-ghost use Rattle.hfs_catalog_edits.specs.ItemEdits.{Edits, IsFolderAt, IsSameKindAt, ItemSet, HasValenceSet};
+ghost use Rattle.hfs_catalog_edits.specs.ItemEdits.{IsFolderAt, IsSameKindAt, ItemSet, HasValenceSet};
 
 use crate::bodies::{file_body, folder_body};
 use crate::one_record::set;

@@ -8,8 +8,9 @@ ghost use Rattle.hfs_btree.specs.Pairs.{lookup};
 ghost use Rattle.hfs_catalog.specs.Lookups.{first_key};
 ghost use Rattle.hfs_catalog.specs.Sound.{IsRecord};
 ghost use Rattle.hfs_catalog.specs.Tree.{IsCatalogTree, catalog_of};
+ghost use Rattle.hfs_btree_edits.specs.Edits.{Edits};
 ghost use Rattle.hfs_catalog_edits.specs.Finds.{AreThreadsReadable};
-ghost use Rattle.hfs_catalog_edits.specs.ItemEdits.{Edits, ThreadCame, ThreadWent, ThreadTurned};
+ghost use Rattle.hfs_catalog_edits.specs.ItemEdits.{ThreadCame, ThreadWent, ThreadTurned};
 ghost use Rattle.hfs_catalog_edits.specs.Rooms.{IsInFile, HasRoom};
 ghost use Rattle.hfs_catalog_edits.specs.Roots.{HasRoot};
 
