@@ -1,9 +1,8 @@
 //! A tree that grows by pairs with numbered keys, and is checked again and again.
 
-ghost use Rattle.std.specs.Prelude.{◌≡◌, true, OnOk, IfOk};
-ghost use Rattle.hfs_btree.specs.Header.{tree_content};
-ghost use Rattle.hfs_btree_edits.specs.Edits.{IsAboveFirst};
+ghost use Rattle.std.specs.Prelude.{OnOk, IfOk};
 ghost use Rattle.hfs_btree.specs.Sound.{IsSound};
+ghost use Rattle.hfs_insertions.specs.Least.{TestsLeast};
 
 use crate::sample::Sample;
 use anyhow::{Result, bail, ensure};
@@ -38,7 +37,7 @@ impl Order {
 /// Whether the tree has the least key, and this one is above it.
 fn is_above_least<K: Sample>(alloc: Global, nodes: &NodeTable, least: &K, key: &K) -> Result<bool>
     requires sound { IsSound K.Key nodes.now.nodes.items }
-    ensures { IfOk result (λ above. above ≡ true → IsAboveFirst K.Key.compare key.now (tree_content K.Key nodes.now.nodes.items)) }
+    ensures { IfOk result (TestsLeast K.Key key.now nodes.now.nodes.items) }
 {
     let order = least.compare(key);
     if !order.is_lt() {

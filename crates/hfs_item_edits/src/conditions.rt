@@ -1,11 +1,11 @@
 //! What the edits ask, each looked at before.
 
-ghost use Rattle.std.specs.Prelude.{◌≡◌, true, None, OnOk};
+ghost use Rattle.std.specs.Prelude.{◌≡◌, None, OnOk};
 ghost use Rattle.hfs_fields.specs.Keys.{cat_cmp};
 ghost use Rattle.hfs_fields.specs.Records.{is_dir, is_file, is_item};
 ghost use Rattle.hfs_btree.specs.Pairs.{lookup};
 ghost use Rattle.hfs_catalog.specs.Tree.{IsCatalogTree, catalog_of};
-ghost use Rattle.hfs_catalog_edits.specs.Bodies.{IfBody};
+ghost use Rattle.hfs_item_edits.specs.Bodies.{HasBody};
 ghost use Rattle.hfs_catalog_edits.specs.Rooms.{IsInFile, HasRoom, HasRoomForTwo};
 
 use anyhow::{Result, bail, ensure};
@@ -18,7 +18,7 @@ use std::alloc::Global;
 /// An error where no item stands under the key.
 pub fn ensure_item(alloc: Global, nodes: &NodeTable, key: &CatKey) -> Result<()>
     requires { IsCatalogTree nodes.now.nodes.items }
-    ensures { OnOk result (IfBody (λ body. is_item body ≡ true) (lookup cat_cmp key.now (catalog_of nodes.now.nodes.items))) }
+    ensures { OnOk result (HasBody is_item key.now nodes.now.nodes.items) }
 {
     let Some(body) = find(alloc, nodes, key)? else {
         bail!("no item");
@@ -30,7 +30,7 @@ pub fn ensure_item(alloc: Global, nodes: &NodeTable, key: &CatKey) -> Result<()>
 /// An error where no folder stands under the key.
 pub fn ensure_folder(alloc: Global, nodes: &NodeTable, key: &CatKey) -> Result<()>
     requires { IsCatalogTree nodes.now.nodes.items }
-    ensures { OnOk result (IfBody (λ body. is_dir body ≡ true) (lookup cat_cmp key.now (catalog_of nodes.now.nodes.items))) }
+    ensures { OnOk result (HasBody is_dir key.now nodes.now.nodes.items) }
 {
     let Some(body) = find(alloc, nodes, key)? else {
         bail!("no folder");
@@ -42,7 +42,7 @@ pub fn ensure_folder(alloc: Global, nodes: &NodeTable, key: &CatKey) -> Result<(
 /// An error where no file stands under the key.
 pub fn ensure_file(alloc: Global, nodes: &NodeTable, key: &CatKey) -> Result<()>
     requires { IsCatalogTree nodes.now.nodes.items }
-    ensures { OnOk result (IfBody (λ body. is_file body ≡ true) (lookup cat_cmp key.now (catalog_of nodes.now.nodes.items))) }
+    ensures { OnOk result (HasBody is_file key.now nodes.now.nodes.items) }
 {
     let Some(body) = find(alloc, nodes, key)? else {
         bail!("no file");
