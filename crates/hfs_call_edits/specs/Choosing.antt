@@ -14,6 +14,8 @@ use Rattle.hfs_catalog.specs.declared.item.CatalogItem.{CatalogItem}
 use Rattle.hfs_catalog.specs.Records.{Record, Catalog}
 use Rattle.hfs_catalog.specs.Lookups.{child_named, catalog_item}
 use Rattle.hfs_queries.specs.Told.{is_folder}
+use Rattle.hfs_btree.specs.Tree.{Store}
+use Rattle.hfs_catalog.specs.Tree.{catalog_of}
 
 -- what was chosen, seen otherwise
 abbrev pub map_ok : {A B : Type 0} → (A → B) → Result A ℤ → Result B ℤ
@@ -77,3 +79,13 @@ is_locked_body (File r) = is_bit_set 0 r.flags.0
 
 abbrev pub is_locked_item : CatalogItem → Bool
 is_locked_item item = is_locked_body item.body
+
+-- ---- in the nodes of a catalog
+
+-- the folder's item of that name
+abbrev pub chosen_child : Mdb → Store → ℕ → List ℕ → Result CatalogItem ℤ
+chosen_child mdb nodes dir name = as_item (child_to_change mdb (catalog_of nodes) dir name)
+
+-- the folder's file of that name
+abbrev pub chosen_file : Mdb → Store → ℕ → List ℕ → Result (CatKey × FileRecord) ℤ
+chosen_file mdb nodes dir name = as_file (file_to_change mdb (catalog_of nodes) dir name)

@@ -8,7 +8,9 @@ use Rattle.hfs_catalog.specs.declared.item.ItemRecord.{ItemRecord}
 use Rattle.hfs_catalog.specs.declared.item.ItemRecord.TheVariants.{Folder, File}
 use Rattle.hfs_catalog.specs.declared.item.CatalogItem.{CatalogItem}
 use Rattle.hfs_catalog.specs.Records.{Record, Catalog}
-use Rattle.hfs_call_edits.specs.Choosing.{child_to_change, unless_locked}
+use Rattle.hfs_call_edits.specs.Choosing.{as_item, child_to_change, unless_locked}
+use Rattle.hfs_btree.specs.Tree.{Store}
+use Rattle.hfs_catalog.specs.Tree.{catalog_of}
 
 -- ---- the item
 
@@ -31,3 +33,7 @@ is_busy_body (File r) = false
 
 abbrev pub is_busy_item : CatalogItem → Bool
 is_busy_item item = is_busy_body item.body
+
+-- the folder's item of that name, in the nodes of a catalog
+abbrev pub chosen_to_delete : Mdb → Store → ℕ → List ℕ → Result CatalogItem ℤ
+chosen_to_delete mdb nodes dir name = as_item (item_to_delete mdb (catalog_of nodes) dir name)

@@ -21,6 +21,8 @@ use Rattle.hfs_call_patches.specs.declared.moving.Moving.{Moving}
 use Rattle.hfs_call_edits.specs.Choosing.{map_ok, child_to_change}
 use Rattle.hfs_call_edits.specs.ChoosingRenaming.{own_id}
 use Rattle.hfs_call_patches.specs.Moving.{IsMoving}
+use Rattle.hfs_btree.specs.Tree.{Store}
+use Rattle.hfs_catalog.specs.Tree.{catalog_of}
 
 -- ---- offspring, upwards
 
@@ -85,3 +87,7 @@ pub record IsMoveRefused (old : Blocks) (dir : ℕ) (name : List ℕ) (new_dir :
 
 abbrev pub ChoosesMoving : Blocks → ℕ → List ℕ → ℕ → Result Moving ℤ → Type 0
 ChoosesMoving old dir name new_dir result = MatchResult result (λ m. IsMoving old dir name new_dir m) (λ code. IsMoveRefused old dir name new_dir code)
+
+-- in the nodes of a catalog
+abbrev pub moving_within : Store → ℕ → CatalogItem → List ℕ → FolderPlace → ℕ → Result Moving ℤ
+moving_within nodes steps item name left new_dir = moving_to (catalog_of nodes) steps item name left new_dir

@@ -1,5 +1,5 @@
 -- What Rename chooses, and the nodes that it needs.
-use Rattle.std.specs.Prelude.{◌≡◌, ℕ, ℤ, pos, ◌≤◌, Bool, true, false, not, ◌==◌, if◌then◌else◌, List, IsTrue, Result, Ok, Err}
+use Rattle.std.specs.Prelude.{◌≡◌, ℕ, ℤ, pos, ◌≤◌, Bool, true, false, not, ◌==◌, if◌then◌else◌, List, IsTrue, Option, Result, Ok, Err}
 use Rattle.std.specs.Ordering.{int_eq}
 use Rattle.std.specs.Result.{MatchResult}
 use Rattle.std.specs.Option.{option_map_or}
@@ -15,13 +15,16 @@ use Rattle.hfs_catalog.specs.declared.item.ItemRecord.TheVariants.{Folder, File}
 use Rattle.hfs_catalog.specs.declared.item.CatalogItem.{CatalogItem}
 use Rattle.hfs_catalog.specs.Records.{Record, Catalog}
 use Rattle.hfs_catalog.specs.Lookups.{child_named}
-use Rattle.hfs_check.specs.Parts.{Blocks}
+use Rattle.hfs_check.specs.Parts.{Blocks, catalog_nodes}
 use Rattle.hfs_check.specs.VolumeOf.{volume_in}
 use Rattle.hfs_call_patches.specs.declared.rekeying.Rekeying.{Rekeying}
-use Rattle.hfs_call_edits.specs.Choosing.{lock_code, unless_code, item_to_set}
+use Rattle.hfs_call_edits.specs.Choosing.{map_ok, lock_code, unless_code, item_to_set}
 use Rattle.hfs_call_patches.specs.Renaming.{IsRenameChoice}
 use Rattle.hfs_btree.specs.Tree.{Store}
 use Rattle.hfs_catalog_edits.specs.Rooms.{HasRoom}
+use Rattle.hfs_catalog.specs.Tree.{catalog_of}
+use Rattle.hfs_call_edits.specs.declared.editing.Refusal.{Refusal}
+use Rattle.hfs_call_edits.specs.Room.{lacking}
 
 -- ---- the choice by records
 
@@ -77,3 +80,15 @@ nodes_for_name name new_name depth = if same_name name new_name then 0 else one_
 -- to a name that differs in more than case it comes where these nodes have room for one more record
 abbrev pub HasRoomForName : List ℕ → List ℕ → Store → Type 0
 HasRoomForName name new_name nodes = same_name name new_name ≡ false → HasRoom nodes
+
+-- the item that Rename chooses in the nodes of a catalog, under its new name
+abbrev pub chosen_renaming : Mdb → Store → ℕ → List ℕ → List ℕ → Result Rekeying ℤ
+chosen_renaming mdb nodes dir name new_name = map_ok (renaming new_name) (item_to_rename mdb (catalog_of nodes) dir name new_name)
+
+-- what refuses a new name in a volume of these blocks for want of nodes
+abbrev pub lacking_for_name : List ℕ → List ℕ → Blocks → Option Refusal
+lacking_for_name name new_name blocks = lacking (nodes_for_name name new_name) (catalog_nodes blocks)
+
+-- its catalog has room for the name
+abbrev pub HasRoomToRename : List ℕ → List ℕ → Blocks → Type 0
+HasRoomToRename name new_name blocks = HasRoomForName name new_name (catalog_nodes blocks)

@@ -33,6 +33,8 @@ use Rattle.hfs_changes.specs.OnBlocks.{at_time}
 use Rattle.hfs_queries.specs.Queries.{AreEntries}
 use Rattle.hfs_queries.specs.Told.{is_folder}
 use Rattle.hfs_call_patches.specs.Deleting.{IsParent}
+use Rattle.hfs_call_patches.specs.FileIds.{IsThreadless}
+use Rattle.hfs_blocks.specs.Blocks.{nodes_in}
 
 -- the volume is sound; this is its master directory block, and in these runs lie the nodes of its trees
 pub record IsEditing (total : ℕ) (blocks : Blocks) (mdb : Mdb) (extents catalog : List Run) : Type 0 where
@@ -40,6 +42,18 @@ pub record IsEditing (total : ℕ) (blocks : Blocks) (mdb : Mdb) (extents catalo
   pub directory : mdb ≡ mdb_in blocks
   pub extents_file : IsExtentsFile extents total blocks
   pub catalog_file : IsCatalogFile catalog total blocks
+
+-- so are these blocks
+abbrev pub IsEditingIn : {B : Type 0} → (B → ℕ) → (B → Blocks) → B → Mdb → List Run → List Run → Type 0
+IsEditingIn total blocks b mdb extents catalog = IsEditing (total b) (blocks b) mdb extents catalog
+
+-- the nodes in these runs are those of the other blocks' catalog
+abbrev pub AreCatalogNodes : {B : Type 0} → (B → Blocks) → B → List Run → B → Type 0
+AreCatalogNodes blocks b runs of = nodes_in (blocks b) runs ≡ catalog_nodes (blocks of)
+
+-- the file has no thread yet in the catalog of these blocks
+abbrev pub IsThreadlessIn : Blocks → CatKey × FileRecord → Type 0
+IsThreadlessIn blocks file = IsThreadless (catalog_in blocks) file.0 file.1
 
 -- ---- choices
 

@@ -1,9 +1,10 @@
 //! What each call makes of a volume's blocks.
 
-ghost use Rattle.std.specs.Prelude.{◌≡◌, false, IfOk, IsTrue};
+ghost use Rattle.std.specs.Prelude.{◌≡◌, false, IsTrue};
 ghost use Rattle.hfs_model.specs.Step.{is_reading};
 ghost use Rattle.hfs_call_edits.specs.Edits.{IsEditOf};
-ghost use Rattle.hfs_call_edits.specs.Serving.{is_setting};
+ghost use Rattle.hfs_call_edits.specs.Serving.{sets_info};
+ghost use Rattle.hfs_call_patches.specs.CallChanges.{Makes};
 
 use crate::editing::{Editing, Refusal};
 use hfs_blocks::Blocks;
@@ -15,7 +16,7 @@ impl<B: Blocks> Editing<'_, B> {
     /// What a call that changes the volume makes of it, or what refuses it. The only error is want of memory.
     pub fn edit(&self, alloc: Global, call: &Call) -> Result<Result<Change, Refusal>, AllocError>
         requires { is_reading call.now ≡ false }
-        ensures { IfOk result (IsEditOf call.now (B.total self.now) (B.blocks self.now)) }
+        ensures { Makes result (IsEditOf call.now) B.total B.blocks self.now }
     {
         match call {
             Call::Create { dir, name, now } => self.create(alloc, *dir, name.as_slice(), *now),
@@ -39,10 +40,13 @@ impl<B: Blocks> Editing<'_, B> {
                 self.create_file_id(alloc, *dir, name.as_slice(), *now)
             }
             Call::DeleteFileId { id, now } => self.delete_file_id(alloc, *id, *now),
-            Call::SetFInfo { .. }
-            | Call::SetCatInfo { .. }
-            | Call::SetFLock { .. }
-            | Call::RstFLock { .. } => self.set(alloc, call),
+            Call::SetFLock { dir, name, now } => {
+                self.set_lock(alloc, *dir, name.as_slice(), true, *now)
+            }
+            Call::RstFLock { dir, name, now } => {
+                self.set_lock(alloc, *dir, name.as_slice(), false, *now)
+            }
+            Call::SetFInfo { .. } | Call::SetCatInfo { .. } => self.set_info(alloc, call),
             Call::GetDirInfo { .. }
             | Call::GetCatInfo { .. }
             | Call::GetIndexed { .. }
@@ -52,10 +56,10 @@ impl<B: Blocks> Editing<'_, B> {
         }
     }
 
-    /// What a call that sets makes of the volume: dates, Finder bytes or a lock.
-    fn set(&self, alloc: Global, call: &Call) -> Result<Result<Change, Refusal>, AllocError>
-        requires { IsTrue (is_setting call.now) }
-        ensures { IfOk result (IsEditOf call.now (B.total self.now) (B.blocks self.now)) }
+    /// What a call that sets dates or Finder bytes makes of the volume.
+    fn set_info(&self, alloc: Global, call: &Call) -> Result<Result<Change, Refusal>, AllocError>
+        requires { IsTrue (sets_info call.now) }
+        ensures { Makes result (IsEditOf call.now) B.total B.blocks self.now }
     {
         match call {
             Call::SetFInfo {
@@ -81,18 +85,14 @@ impl<B: Blocks> Editing<'_, B> {
                 };
                 self.set_cat_info(alloc, *dir, name.as_slice(), &settings, *now)
             }
-            Call::SetFLock { dir, name, now } => {
-                self.set_lock(alloc, *dir, name.as_slice(), true, *now)
-            }
-            Call::RstFLock { dir, name, now } => {
-                self.set_lock(alloc, *dir, name.as_slice(), false, *now)
-            }
             Call::GetDirInfo { .. }
             | Call::GetCatInfo { .. }
             | Call::GetIndexed { .. }
             | Call::List { .. }
             | Call::ReadFork { .. }
             | Call::ResolveFileId { .. }
+            | Call::SetFLock { .. }
+            | Call::RstFLock { .. }
             | Call::Create { .. }
             | Call::DirCreate { .. }
             | Call::Delete { .. }

@@ -2,7 +2,7 @@
 
 ghost use Rattle.std.specs.Prelude.{◌≡◌};
 ghost use Rattle.hfs_catalog.specs.Tree.{catalog_of};
-ghost use Rattle.hfs_call_edits.specs.Choosing.{lock_code, child_to_change, file_to_change, file_to_set, item_to_set, is_locked_item, as_item, as_file};
+ghost use Rattle.hfs_call_edits.specs.Choosing.{lock_code, child_to_change, file_to_change, file_to_set, item_to_set, is_locked_item, as_item, as_file, chosen_child, chosen_file};
 ghost use Rattle.hfs_queries.specs.Told.{IsCatalog};
 
 use bitflags::Flags;
@@ -34,7 +34,7 @@ pub(crate) fn child_to_change<N: Nodes>(
     name: &[u8],
 ) -> Result<CatalogItem, i16>
     requires { IsCatalog (N.nodes nodes.now) }
-    ensures { result ≡ as_item (child_to_change mdb.now (catalog_of (N.nodes nodes.now)) dir name.now) }
+    ensures { result ≡ chosen_child mdb.now (N.nodes nodes.now) dir name.now }
 {
     if let Some(code) = lock_code(mdb) {
         return Err(code);
@@ -53,7 +53,7 @@ pub(crate) fn file_to_change<N: Nodes>(
     name: &[u8],
 ) -> Result<(CatKey, FileRecord), i16>
     requires { IsCatalog (N.nodes nodes.now) }
-    ensures { result ≡ as_file (file_to_change mdb.now (catalog_of (N.nodes nodes.now)) dir name.now) }
+    ensures { result ≡ chosen_file mdb.now (N.nodes nodes.now) dir name.now }
 {
     let item = match child_to_change(nodes, mdb, dir, name) {
         Ok(item) => item,

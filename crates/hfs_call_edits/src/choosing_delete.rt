@@ -1,9 +1,7 @@
 //! What Delete chooses in the catalog. The first code that holds is the reply's.
 
 ghost use Rattle.std.specs.Prelude.{◌≡◌};
-ghost use Rattle.hfs_catalog.specs.Tree.{catalog_of};
-ghost use Rattle.hfs_call_edits.specs.Choosing.{as_item};
-ghost use Rattle.hfs_call_edits.specs.ChoosingDelete.{is_busy_item, item_to_delete};
+ghost use Rattle.hfs_call_edits.specs.ChoosingDelete.{is_busy_item, item_to_delete, chosen_to_delete};
 ghost use Rattle.hfs_queries.specs.Told.{IsCatalog};
 
 use crate::choosing::{child_to_change, is_locked};
@@ -30,7 +28,7 @@ pub(crate) fn item_to_delete<N: Nodes>(
     name: &[u8],
 ) -> Result<CatalogItem, i16>
     requires { IsCatalog (N.nodes nodes.now) }
-    ensures { result ≡ as_item (item_to_delete mdb.now (catalog_of (N.nodes nodes.now)) dir name.now) }
+    ensures { result ≡ chosen_to_delete mdb.now (N.nodes nodes.now) dir name.now }
 {
     match child_to_change(nodes, mdb, dir, name) {
         Ok(item) => {

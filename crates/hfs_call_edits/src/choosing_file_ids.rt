@@ -3,7 +3,7 @@
 ghost use Rattle.std.specs.Prelude.{◌≡◌};
 ghost use Rattle.hfs_catalog.specs.Tree.{catalog_of};
 ghost use Rattle.hfs_call_edits.specs.Choosing.{as_file};
-ghost use Rattle.hfs_call_edits.specs.ChoosingFileIds.{file_without_id, file_with_id};
+ghost use Rattle.hfs_call_edits.specs.ChoosingFileIds.{file_without_id, file_with_id, chosen_without_id};
 ghost use Rattle.hfs_queries.specs.Told.{IsCatalog};
 
 use crate::choosing::{child_to_change, lock_code};
@@ -20,7 +20,7 @@ pub(crate) fn file_without_id<N: Nodes>(
     name: &[u8],
 ) -> Result<(CatKey, FileRecord), i16>
     requires { IsCatalog (N.nodes nodes.now) }
-    ensures { result ≡ as_file (file_without_id mdb.now (catalog_of (N.nodes nodes.now)) dir name.now) }
+    ensures { result ≡ chosen_without_id mdb.now (N.nodes nodes.now) dir name.now }
 {
     let item = match child_to_change(nodes, mdb, dir, name) {
         Ok(item) => item,

@@ -3,7 +3,7 @@
 ghost use Rattle.std.specs.Prelude.{◌≡◌};
 ghost use Rattle.hfs_catalog.specs.Tree.{catalog_of};
 ghost use Rattle.hfs_queries.specs.Told.{IsCatalog};
-ghost use Rattle.hfs_call_edits.specs.ChoosingMoving.{up_by_folders, folder_place, is_folder_item, most_steps, moving_to, item_to_move};
+ghost use Rattle.hfs_call_edits.specs.ChoosingMoving.{up_by_folders, folder_place, is_folder_item, most_steps, moving_to, item_to_move, moving_within};
 
 use crate::choosing::child_to_change;
 use crate::choosing_renaming::own_id;
@@ -70,7 +70,7 @@ fn moving_to<N: Nodes>(
     new_dir: u32,
 ) -> Result<Moving, i16>
     requires { IsCatalog (N.nodes nodes.now) }
-    ensures { result ≡ moving_to (catalog_of (N.nodes nodes.now)) steps item.now name.now left new_dir }
+    ensures { result ≡ moving_within (N.nodes nodes.now) steps item.now name.now left new_dir }
 {
     let id = own_id(item);
     let folder = is_folder(item);

@@ -3,8 +3,7 @@
 ghost use Rattle.std.specs.Prelude.{◌≡◌};
 ghost use Rattle.hfs_catalog.specs.Tree.{catalog_of};
 ghost use Rattle.hfs_queries.specs.Told.{IsCatalog};
-ghost use Rattle.hfs_call_edits.specs.Choosing.{map_ok};
-ghost use Rattle.hfs_call_edits.specs.ChoosingRenaming.{own_id, is_taken, item_to_rename, renaming};
+ghost use Rattle.hfs_call_edits.specs.ChoosingRenaming.{own_id, is_taken, item_to_rename, chosen_renaming};
 
 use crate::choosing::{item_to_set, lock_code};
 use hfs_btree::Nodes;
@@ -43,7 +42,7 @@ pub(crate) fn item_to_rename<N: Nodes>(
     new_name: &[u8],
 ) -> Result<Rekeying, i16>
     requires { IsCatalog (N.nodes nodes.now) }
-    ensures { result ≡ map_ok (renaming new_name.now) (item_to_rename mdb.now (catalog_of (N.nodes nodes.now)) dir name.now new_name.now) }
+    ensures { result ≡ chosen_renaming mdb.now (N.nodes nodes.now) dir name.now new_name.now }
 {
     if let Some(code) = lock_code(mdb) {
         return Err(code);

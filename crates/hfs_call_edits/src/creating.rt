@@ -1,8 +1,8 @@
 //! Create and DirCreate.
 
-ghost use Rattle.std.specs.Prelude.{IfOk};
 ghost use Rattle.hfs_model.specs.declared.call.Call.TheVariants as call;
 ghost use Rattle.hfs_call_edits.specs.Edits.{IsEditOf};
+ghost use Rattle.hfs_call_patches.specs.CallChanges.{Makes};
 
 use crate::editing::{Editing, Refusal};
 use hfs_blocks::Blocks;
@@ -18,7 +18,7 @@ impl<B: Blocks> Editing<'_, B> {
         name: &[u8],
         now: u32,
     ) -> Result<Result<Change, Refusal>, AllocError>
-        ensures { IfOk result (IsEditOf (call.Create dir name.now now) (B.total self.now) (B.blocks self.now)) }
+        ensures { Makes result (IsEditOf (call.Create dir name.now now)) B.total B.blocks self.now }
     {
         let place = match self.new_place(dir, name) {
             Ok(place) => place,
@@ -40,7 +40,8 @@ impl<B: Blocks> Editing<'_, B> {
         name: &[u8],
         now: u32,
     ) -> Result<Result<Change, Refusal>, AllocError>
-        ensures { IfOk result (IsEditOf (call.DirCreate dir name.now now) (B.total self.now) (B.blocks self.now)) }
+        ensures { Makes result (IsEditOf (call.DirCreate dir name.now now))
+            B.total B.blocks self.now }
     {
         let place = match self.new_place(dir, name) {
             Ok(place) => place,

@@ -7,6 +7,7 @@ ghost use Rattle.hfs_changes.specs.RemovalLaws.{without_folder};
 ghost use Rattle.hfs_check.specs.Parts.{catalog_in};
 ghost use Rattle.hfs_call_patches.specs.Deleting.{IsParent, IsFolderToDelete, IsFolderDeletion, IsFileToDelete, IsFileDeletion};
 ghost use Rattle.hfs_call_edits.specs.Edits.{IsEditOf, ChoosesItemBy, HasFolder, FindsParent};
+ghost use Rattle.hfs_call_patches.specs.CallChanges.{Makes};
 
 use crate::choosing_delete;
 use crate::editing::{Editing, Refusal};
@@ -59,7 +60,8 @@ impl<B: Blocks> Editing<'_, B> {
     ) -> Result<Change, AllocError>
         requires chosen { IsFolderToDelete (B.blocks self.now) dir key.now folder.now }
         requires parent { IsParent (catalog_in (B.blocks self.now)) dir parent.now valence }
-        ensures { IfOk result (IsFolderDeletion dir key.now folder.now now (B.total self.now) (B.blocks self.now)) }
+        ensures { Makes result (IsFolderDeletion dir key.now folder.now now)
+            B.total B.blocks self.now }
     {
         catalog_edits_are_steps();
         let patch = patch_delete_folder(
@@ -95,7 +97,7 @@ impl<B: Blocks> Editing<'_, B> {
     ) -> Result<Change, AllocError>
         requires chosen { IsFileToDelete (B.blocks self.now) dir key.now file.now }
         requires parent { IsParent (catalog_in (B.blocks self.now)) dir parent.now valence }
-        ensures { IfOk result (IsFileDeletion dir key.now file.now now (B.total self.now) (B.blocks self.now)) }
+        ensures { Makes result (IsFileDeletion dir key.now file.now now) B.total B.blocks self.now }
     {
         let made = patch_delete_file(
             alloc,
@@ -125,7 +127,7 @@ impl<B: Blocks> Editing<'_, B> {
         name: &[u8],
         now: u32,
     ) -> Result<Result<Change, Refusal>, AllocError>
-        ensures { IfOk result (IsEditOf (call.Delete dir name.now now) (B.total self.now) (B.blocks self.now)) }
+        ensures { Makes result (IsEditOf (call.Delete dir name.now now)) B.total B.blocks self.now }
     {
         let item = match self.item_to_delete(dir, name) {
             Ok(item) => item,

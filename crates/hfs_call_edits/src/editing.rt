@@ -1,11 +1,10 @@
 //! What calls that change a volume make of its blocks.
 
 ghost use Rattle.std.specs.Prelude.{◌≡◌};
-ghost use Rattle.hfs_blocks.specs.Blocks.{nodes_in};
 ghost use Rattle.hfs_check.specs.Parts.{catalog_nodes};
 ghost use Rattle.hfs_model.specs.declared.reply.Value.TheVariants as value;
 ghost use Rattle.hfs_model.specs.Choices.{file_to_change, to_set_f_info, to_set_cat_info};
-ghost use Rattle.hfs_call_edits.specs.Edits.{IsEditing, ChoosesFileBy, ChoosesItemBy, RecordsAreEntriesIn, change_at};
+ghost use Rattle.hfs_call_edits.specs.Edits.{IsEditing, ChoosesFileBy, ChoosesItemBy, RecordsAreEntriesIn, change_at, IsEditingIn, AreCatalogNodes};
 ghost use Rattle.hfs_queries.specs.Told.{IsCatalog};
 
 use crate::choosing;
@@ -58,7 +57,7 @@ impl<'a, B: Blocks> Editing<'a, B> {
         extents: &'a [Run],
         catalog: &'a [Run],
     ) -> Editing<'a, B>
-        requires { IsEditing (B.total blocks.now) (B.blocks blocks.now) mdb.now extents.now catalog.now }
+        requires { IsEditingIn B.total B.blocks blocks.now mdb.now extents.now catalog.now }
         ensures { result ≡ blocks.now }
     {
         Editing {
@@ -71,7 +70,7 @@ impl<'a, B: Blocks> Editing<'a, B> {
 
     /// The nodes of the catalog, whose records answer the queries of the volume.
     pub(crate) fn nodes(&self) -> RunNodes<'_, B>
-        ensures nodes { nodes_in (B.blocks result.blocks.now) result.runs.now ≡ catalog_nodes (B.blocks self.now) }
+        ensures nodes { AreCatalogNodes B.blocks result.blocks.now result.runs.now self.now }
         ensures catalog { IsCatalog (catalog_nodes (B.blocks self.now)) }
         ensures entries { RecordsAreEntriesIn (B.blocks self.now) }
     {

@@ -1,12 +1,11 @@
 //! CreateFileId and DeleteFileId.
 
 ghost use Rattle.std.specs.Prelude.{◌≡◌, IfOk};
-ghost use Rattle.hfs_check.specs.Parts.{catalog_in};
 ghost use Rattle.hfs_model.specs.declared.call.Call.TheVariants as call;
 ghost use Rattle.hfs_model.specs.declared.reply.Value.TheVariants as value;
 ghost use Rattle.hfs_model.specs.FileIds.{to_create_file_id, to_delete_file_id};
-ghost use Rattle.hfs_call_edits.specs.Edits.{IsEditOf, ChoosesFileBy, change_at};
-ghost use Rattle.hfs_call_patches.specs.FileIds.{IsThreadless};
+ghost use Rattle.hfs_call_edits.specs.Edits.{IsEditOf, ChoosesFileBy, change_at, IsThreadlessIn};
+ghost use Rattle.hfs_call_patches.specs.CallChanges.{Makes};
 
 use crate::choosing_file_ids;
 use crate::editing::{Editing, Refusal};
@@ -20,8 +19,9 @@ use std::alloc::{AllocError, Global};
 impl<B: Blocks> Editing<'_, B> {
     /// The folder's file of that name, which has no thread, with its key, or the code that refuses to give it one.
     fn file_without_id(&self, dir: u32, name: &[u8]) -> Result<(CatKey, FileRecord), i16>
-        ensures choice { ChoosesFileBy (λ v. to_create_file_id v dir name.now) (B.blocks self.now) result }
-        ensures threadless { IfOk result (λ f. IsThreadless (catalog_in (B.blocks self.now)) f.0 f.1) }
+        ensures choice { ChoosesFileBy (λ v. to_create_file_id v dir name.now)
+            (B.blocks self.now) result }
+        ensures threadless { IfOk result (IsThreadlessIn (B.blocks self.now)) }
     {
         choice_stands();
         file_is_threadless();
@@ -54,7 +54,8 @@ impl<B: Blocks> Editing<'_, B> {
         name: &[u8],
         now: u32,
     ) -> Result<Result<Change, Refusal>, AllocError>
-        ensures { IfOk result (IsEditOf (call.CreateFileId dir name.now now) (B.total self.now) (B.blocks self.now)) }
+        ensures { Makes result (IsEditOf (call.CreateFileId dir name.now now))
+            B.total B.blocks self.now }
     {
         catalog_edits_are_steps();
         self.catalog_is_in_file();
@@ -84,7 +85,7 @@ impl<B: Blocks> Editing<'_, B> {
         id: u32,
         now: u32,
     ) -> Result<Result<Change, Refusal>, AllocError>
-        ensures { IfOk result (IsEditOf (call.DeleteFileId id now) (B.total self.now) (B.blocks self.now)) }
+        ensures { Makes result (IsEditOf (call.DeleteFileId id now)) B.total B.blocks self.now }
     {
         catalog_edits_are_steps();
         let (key, file) = match self.file_with_id(id) {

@@ -1,11 +1,12 @@
 //! CatMove.
 
-ghost use Rattle.std.specs.Prelude.{◌≡◌, IfOk};
+ghost use Rattle.std.specs.Prelude.{◌≡◌};
 ghost use Rattle.hfs_model.specs.declared.call.Call.TheVariants as call;
 ghost use Rattle.hfs_model.specs.declared.reply.Value.TheVariants as value;
 ghost use Rattle.hfs_call_edits.specs.Edits.{IsEditOf};
 ghost use Rattle.hfs_call_edits.specs.ChoosingMoving.{ChoosesMoving};
 ghost use Rattle.hfs_call_patches.specs.Moving.{counts_moved};
+ghost use Rattle.hfs_call_patches.specs.CallChanges.{Makes};
 
 use crate::choosing_moving;
 use crate::editing::{Editing, Refusal};
@@ -53,7 +54,8 @@ impl<B: Blocks> Editing<'_, B> {
         new_dir: u32,
         now: u32,
     ) -> Result<Result<Change, Refusal>, AllocError>
-        ensures { IfOk result (IsEditOf (call.CatMove dir name.now new_dir now) (B.total self.now) (B.blocks self.now)) }
+        ensures { Makes result (IsEditOf (call.CatMove dir name.now new_dir now))
+            B.total B.blocks self.now }
     {
         trees_are_sound();
         catalog_is_sound();

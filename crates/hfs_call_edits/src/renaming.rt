@@ -1,12 +1,11 @@
 //! Rename.
 
-ghost use Rattle.std.specs.Prelude.{◌≡◌, IfOk, IfNone};
-ghost use Rattle.hfs_check.specs.Parts.{catalog_nodes};
+ghost use Rattle.std.specs.Prelude.{◌≡◌, IfNone};
 ghost use Rattle.hfs_fields.specs.Order.{same_name};
 ghost use Rattle.hfs_model.specs.declared.call.Call.TheVariants as call;
 ghost use Rattle.hfs_call_edits.specs.Edits.{IsEditOf};
-ghost use Rattle.hfs_call_edits.specs.ChoosingRenaming.{ChoosesRenaming, nodes_for_name, HasRoomForName};
-ghost use Rattle.hfs_call_edits.specs.Room.{lacking};
+ghost use Rattle.hfs_call_edits.specs.ChoosingRenaming.{ChoosesRenaming, lacking_for_name, HasRoomToRename};
+ghost use Rattle.hfs_call_patches.specs.CallChanges.{Makes};
 
 use crate::choosing_renaming;
 use crate::editing::{Editing, Refusal};
@@ -32,8 +31,8 @@ impl<B: Blocks> Editing<'_, B> {
 
     /// What refuses a new name for want of nodes. To another case of its name an item comes without any.
     fn lacks_for_name(&self, name: &[u8], new_name: &[u8]) -> Option<Refusal>
-        ensures refusal { result ≡ lacking (nodes_for_name name.now new_name.now) (catalog_nodes (B.blocks self.now)) }
-        ensures room { IfNone result (HasRoomForName name.now new_name.now (catalog_nodes (B.blocks self.now))) }
+        ensures refusal { result ≡ lacking_for_name name.now new_name.now (B.blocks self.now) }
+        ensures room { IfNone result (HasRoomToRename name.now new_name.now (B.blocks self.now)) }
     {
         if same_name(name, new_name) {
             return None;
@@ -50,7 +49,8 @@ impl<B: Blocks> Editing<'_, B> {
         new_name: &[u8],
         now: u32,
     ) -> Result<Result<Change, Refusal>, AllocError>
-        ensures { IfOk result (IsEditOf (call.Rename dir name.now new_name.now now) (B.total self.now) (B.blocks self.now)) }
+        ensures { Makes result (IsEditOf (call.Rename dir name.now new_name.now now))
+            B.total B.blocks self.now }
     {
         trees_are_sound();
         catalog_is_sound();

@@ -1,10 +1,10 @@
 //! What the calls that set make of a volume's blocks.
 
-ghost use Rattle.std.specs.Prelude.{IfOk};
 ghost use Rattle.hfs_model.specs.declared.call.Call.TheVariants as call;
 ghost use Rattle.hfs_changes.specs.SettingLaws.{lock_call};
 ghost use Rattle.hfs_call_edits.specs.Edits.{IsEditOf};
 ghost use Rattle.hfs_call_patches.specs.Settings.{set_cat_info_call};
+ghost use Rattle.hfs_call_patches.specs.CallChanges.{Makes};
 
 use crate::editing::{Editing, Refusal};
 use hfs_blocks::Blocks;
@@ -26,7 +26,8 @@ impl<B: Blocks> Editing<'_, B> {
         info: &[u8; 16],
         now: u32,
     ) -> Result<Result<Change, Refusal>, AllocError>
-        ensures { IfOk result (IsEditOf (call.SetFInfo dir name.now info.now now) (B.total self.now) (B.blocks self.now)) }
+        ensures { Makes result (IsEditOf (call.SetFInfo dir name.now info.now now))
+            B.total B.blocks self.now }
     {
         catalog_edits_are_steps();
         let (key, file) = match self.file_to_set(dir, name) {
@@ -55,7 +56,8 @@ impl<B: Blocks> Editing<'_, B> {
         settings: &ItemSettings,
         now: u32,
     ) -> Result<Result<Change, Refusal>, AllocError>
-        ensures { IfOk result (IsEditOf (set_cat_info_call dir name.now settings.now now) (B.total self.now) (B.blocks self.now)) }
+        ensures { Makes result (IsEditOf (set_cat_info_call dir name.now settings.now now))
+            B.total B.blocks self.now }
     {
         catalog_edits_are_steps();
         let item = match self.item_to_set(dir, name) {
@@ -102,7 +104,8 @@ impl<B: Blocks> Editing<'_, B> {
         locked: bool,
         now: u32,
     ) -> Result<Result<Change, Refusal>, AllocError>
-        ensures { IfOk result (IsEditOf (lock_call locked dir name.now now) (B.total self.now) (B.blocks self.now)) }
+        ensures { Makes result (IsEditOf (lock_call locked dir name.now now))
+            B.total B.blocks self.now }
     {
         catalog_edits_are_steps();
         let (key, file) = match self.file_to_change(dir, name) {

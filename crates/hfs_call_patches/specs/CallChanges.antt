@@ -1,5 +1,5 @@
 -- The change that a call makes of a volume's blocks.
-use Rattle.std.specs.Prelude.{◌≡◌, ℕ}
+use Rattle.std.specs.Prelude.{◌≡◌, ℕ, Result, IfOk}
 use Rattle.hfs_fields.specs.Counts.{with_counts}
 use Rattle.hfs_blocks.specs.Layers.{changes, over, AreWithin}
 use Rattle.hfs_model.specs.declared.call.Call.{Call}
@@ -16,3 +16,7 @@ pub record IsChangeOf (c : Call) (total : ℕ) (old : Blocks) (change : Change) 
   pub stepped : IsStepped c total old (over (changes change.patch) old)
   pub directory : mdb_in (over (changes change.patch) old) ≡ with_counts change.counts (mdb_in old)
   pub reply : (step (volume_in old) c).1 ≡ success change.value
+
+-- where the result is Ok, the fact holds of these blocks and of what was made
+abbrev pub Makes : {R E B : Type 0} → Result R E → (ℕ → Blocks → R → Type 0) → (B → ℕ) → (B → Blocks) → B → Type 0
+Makes result Fact total blocks b = IfOk result (Fact (total b) (blocks b))

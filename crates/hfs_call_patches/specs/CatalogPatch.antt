@@ -5,15 +5,19 @@ use Rattle.hfs_fields.specs.declared.key.CatKey.{CatKey}
 use Rattle.hfs_fields.specs.declared.mdb.Mdb.{Mdb}
 use Rattle.hfs_blocks.specs.declared.run.Run.{Run}
 use Rattle.hfs_blocks.specs.Blocks.{run_of}
-use Rattle.hfs_blocks.specs.Layers.{Changes, over}
+use Rattle.hfs_blocks.specs.Layers.{Changes, Numbered, changes, over}
 use Rattle.hfs_btree.specs.Tree.{Store}
 use Rattle.hfs_btree_edits.specs.Files.{beside}
 use Rattle.hfs_scans.specs.Each.{Each}
 use Rattle.hfs_catalog.specs.Records.{Catalog}
 use Rattle.hfs_catalog.specs.Sound.{IsIndexKeyName}
+use Rattle.hfs_catalog.specs.Tree.{catalog_of}
 use Rattle.hfs_catalog_edits.specs.Keeps.{KeepsCatalog}
-use Rattle.hfs_check.specs.Parts.{Blocks, catalog_in}
+use Rattle.hfs_check.specs.Parts.{Blocks, catalog_in, catalog_nodes}
 use Rattle.hfs_changes.specs.OnBlocks.{HasTree}
+use Rattle.hfs_call_patches.specs.Patches.{patched_nodes, Patches}
+use Rattle.hfs_call_patches.specs.Rekeyings.{Rekeys}
+use Rattle.hfs_call_patches.specs.declared.rekeying.Rekeying.{Rekeying}
 
 -- a patch over the same blocks, for nodes in the same runs, which shows no other block than those of the nodes anew
 abbrev pub StandsOver : {B : Type 0} → (B → Blocks) → B → List Run → B → List Run → Changes → Type 0
@@ -30,3 +34,26 @@ pub record KeepsNamed (old new : Store) : Type 0 where
 pub record HasCatalog (counts : Mdb) (records : Catalog) (old new : Blocks) : Type 0 where
   pub tree : HasTree counts old new
   pub content : catalog_in new ≡ records
+
+-- ---- of nodes in these runs, over a patch: b and qs are what they lie in, below what a volume's blocks are
+
+-- the patch stands over the same blocks
+abbrev pub LiesOver : {B : Type 0} → (B → Blocks) → B → List Run → B → List Run → Numbered → Type 0
+LiesOver blocks below runs b qs patch = StandsOver blocks below runs b qs (changes patch)
+
+-- they are those of the volume's catalog
+abbrev pub AreCatalogNodes : {B : Type 0} → (B → Blocks) → B → B → List Run → Numbered → Type 0
+AreCatalogNodes blocks below b qs patch = patched_nodes (blocks b) patch qs ≡ catalog_nodes (blocks below)
+
+-- they keep the volume's catalog, with names that an index may have
+abbrev pub KeepsCatalogNames : {B : Type 0} → (B → Blocks) → B → B → List Run → Numbered → Type 0
+KeepsCatalogNames blocks below b qs patch = KeepsNamed (catalog_nodes (blocks below)) (patched_nodes (blocks b) patch qs)
+
+-- another patch gives the volume these counts, and their records in its catalog
+abbrev pub PutsCatalog : {B : Type 0} → Mdb → (B → Blocks) → B → B → List Run → Numbered → Numbered → Type 0
+PutsCatalog counts blocks below b qs patch made =
+    Patches (blocks below) (HasCatalog counts (catalog_of (patched_nodes (blocks b) patch qs))) made
+
+-- in them the item came under its other key
+abbrev pub RekeysOver : {B : Type 0} → Rekeying → (B → Blocks) → B → B → List Run → Numbered → Type 0
+RekeysOver item blocks below b qs patch = Rekeys item (catalog_nodes (blocks below)) (patched_nodes (blocks b) patch qs)

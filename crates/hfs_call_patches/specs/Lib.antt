@@ -13,3 +13,4 @@ pub mod Moving
 pub mod Valences
 pub mod Deleting
 pub mod Patches
+pub mod SettingPatches

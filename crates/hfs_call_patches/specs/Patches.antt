@@ -1,8 +1,9 @@
 -- What a patch makes of a volume's blocks.
-use Rattle.std.specs.Prelude.{◌≡◌, ℕ, List}
+use Rattle.std.specs.Prelude.{◌≡◌, ℕ, List, Result, IfOk}
 use Rattle.std.specs.List.{flat_map}
 use Rattle.hfs_fields.specs.declared.key.CatKey.{CatKey}
 use Rattle.hfs_fields.specs.declared.extent.Extent.{Extent}
+use Rattle.hfs_fields.specs.declared.dir_record.DirRecord.{DirRecord}
 use Rattle.hfs_fields.specs.declared.file_record.FileRecord.{FileRecord}
 use Rattle.hfs_fields.specs.declared.mdb.Mdb.{Mdb}
 use Rattle.hfs_blocks.specs.declared.run.Run.{Run}
@@ -14,7 +15,7 @@ use Rattle.hfs_space.specs.Extents.{extent_blocks}
 use Rattle.hfs_space_edits.specs.Dropped.{HasDroppedOverflow}
 use Rattle.hfs_space_edits.specs.Released.{HasReleased}
 use Rattle.hfs_check.specs.Parts.{Blocks, mdb_in, extents_nodes, catalog_nodes}
-use Rattle.hfs_call_patches.specs.Deleting.{ItemDropped, MakesFileDeletion}
+use Rattle.hfs_call_patches.specs.Deleting.{ItemDropped, MakesFileDeletion, MakesFolderDeletion}
 
 -- ---- the blocks and the nodes behind it
 
@@ -29,6 +30,10 @@ patched_nodes blocks patch runs = nodes_in (patched blocks patch) runs
 -- the patch makes of these blocks others so that the fact holds of the old ones and the new
 abbrev pub Patches : Blocks → (Blocks → Blocks → Type 0) → Numbered → Type 0
 Patches blocks Fact patch = Fact blocks (patched blocks patch)
+
+-- where the result is Ok, it is a patch that does so
+abbrev pub GivesPatch : {E : Type 0} → Result Numbered E → Blocks → (Blocks → Blocks → Type 0) → Type 0
+GivesPatch result blocks Fact = IfOk result (Patches blocks Fact)
 
 -- ---- what it leaves as it is
 
@@ -61,3 +66,7 @@ DropsItem key id folder n now runs old new = ItemDropped key id folder n now (ca
 -- a patch and the counts behind it make the step of a Delete, wherever one chooses this file
 abbrev pub DeletesFile : ℕ → CatKey → FileRecord → ℕ → ℕ → Blocks → Numbered × Mdb → Type 0
 DeletesFile dir key file now total blocks made = MakesFileDeletion dir key file now total blocks made.1 (patched blocks made.0)
+
+-- where the result is Ok, it is a patch that makes the step of a Delete, wherever one chooses this folder
+abbrev pub DeletesFolder : {E : Type 0} → Result Numbered E → ℕ → CatKey → DirRecord → ℕ → Blocks → Type 0
+DeletesFolder result dir key folder now blocks = GivesPatch result blocks (MakesFolderDeletion dir key folder now)

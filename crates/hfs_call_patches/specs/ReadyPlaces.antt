@@ -33,3 +33,7 @@ pub record IsReady (total : ℕ) (old : Blocks) (runs : List Run) (mdb : Mdb) (d
   pub chosen : IsPlace old (to_create (volume_in old) dir place.name) dir place.name place
   pub inside : IsInFile (catalog_nodes old)
   pub records : (header_in (catalog_nodes old)).records < 2 ^ 32
+
+-- so are these blocks
+abbrev pub IsReadyIn : {B : Type 0} → (B → ℕ) → (B → Blocks) → B → List Run → Mdb → ℕ → NewPlace → Type 0
+IsReadyIn total blocks b runs mdb dir place = IsReady (total b) (blocks b) runs mdb dir place

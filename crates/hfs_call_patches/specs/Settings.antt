@@ -1,5 +1,5 @@
 -- What a setting of an item's record makes of a volume's blocks.
-use Rattle.std.specs.Prelude.{◌≡◌, ℕ, ℤ, Bool, true, List, length, take, Option, Some, None, Result}
+use Rattle.std.specs.Prelude.{◌≡◌, ℕ, ℤ, Bool, true, List, length, take, Option, Some, None, Result, OnOk}
 use Rattle.hfs_fields.specs.declared.key.CatKey.{CatKey}
 use Rattle.hfs_fields.specs.declared.mdb.Mdb.{Mdb}
 use Rattle.hfs_fields.specs.declared.dir_record.DirRecord.{DirRecord}
@@ -8,7 +8,7 @@ use Rattle.hfs_fields.specs.Counts.{SameBesideCounts, with_counts}
 use Rattle.hfs_fields.specs.Keys.{cat_cmp}
 use Rattle.hfs_fields.specs.Mdb.{mdb_of}
 use Rattle.hfs_fields.specs.Records.{is_dir, is_file, dir_record_of, file_record_of}
-use Rattle.hfs_blocks.specs.Layers.{Changes, with_change}
+use Rattle.hfs_blocks.specs.Layers.{Changes, Numbered, changes, with_change}
 use Rattle.hfs_btree.specs.Pairs.{lookup}
 use Rattle.hfs_btree_edits.specs.Edits.{with_replaced}
 use Rattle.hfs_catalog.specs.declared.item.ItemRecord.{ItemRecord}
@@ -48,6 +48,10 @@ pub record PutsCounts (counts : Mdb) (own : List ℕ) (old new : Changes) : Type
   pub long : length block ≡ 512
   pub others : SameBesideCounts own block
   pub fields : mdb_of (take 162 block) ≡ with_counts counts (mdb_of (take 162 own))
+
+-- where the result is Ok, they were put into the patch over these blocks
+abbrev pub PutsCountsOver : {T E : Type 0} → Result T E → Mdb → Blocks → Numbered → Numbered → Type 0
+PutsCountsOver result counts blocks old new = OnOk result (PutsCounts counts (blocks 2) (changes old) (changes new))
 
 -- the body stands in the place of the one under the key, and the volume has these counts
 pub record HasSetRecord (key : CatKey) (body : List ℕ) (counts : Mdb) (old new : Blocks) : Type 0 where

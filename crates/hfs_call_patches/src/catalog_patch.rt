@@ -1,13 +1,10 @@
 //! The catalog of a volume over a patch of its blocks: opened, to be edited, and closed with the volume's counts.
 
-ghost use Rattle.std.specs.Prelude.{◌≡◌, IfOk};
+ghost use Rattle.std.specs.Prelude.{IfOk};
 ghost use Rattle.hfs_blocks.specs.Layers.{changes, over, AreWithin};
-ghost use Rattle.hfs_catalog.specs.Tree.{catalog_of};
-ghost use Rattle.hfs_check.specs.Parts.{catalog_nodes};
 ghost use Rattle.hfs_check.specs.Sound.{AreBlocksSound};
-ghost use Rattle.hfs_call_patches.specs.CatalogPatch.{StandsOver, KeepsNamed, HasCatalog};
 ghost use Rattle.hfs_call_patches.specs.TreeFiles.{IsCatalogFile};
-ghost use Rattle.hfs_call_patches.specs.Patches.{Patches, patched_nodes};
+ghost use Rattle.hfs_call_patches.specs.CatalogPatch.{LiesOver, AreCatalogNodes, KeepsCatalogNames, PutsCatalog};
 
 use crate::counts::put_counts;
 use hfs_blocks::{Blocks, Patch, Run};
@@ -24,8 +21,10 @@ pub(crate) fn open_catalog<'a, B: Blocks>(
 ) -> PatchNodes<'a, B>
     requires sound { AreBlocksSound (B.total below.now) (B.blocks below.now) }
     requires file { IsCatalogFile runs.now (B.total below.now) (B.blocks below.now) }
-    ensures nodes { patched_nodes (B.blocks result.below.now) result.patch result.runs.now ≡ catalog_nodes (B.blocks below.now) }
-    ensures over { StandsOver (λ b. B.blocks b) below.now runs.now result.below.now result.runs.now (changes result.patch) }
+    ensures nodes { AreCatalogNodes B.blocks below.now
+        result.below.now result.runs.now result.patch }
+    ensures over { LiesOver B.blocks below.now runs.now
+        result.below.now result.runs.now result.patch }
 {
     PatchNodes {
         below,
@@ -43,9 +42,12 @@ pub(crate) fn close_catalog<B: Blocks>(
 ) -> Result<Patch, AllocError>
     requires sound { AreBlocksSound (B.total below.now) (B.blocks below.now) }
     requires file { IsCatalogFile runs.now (B.total below.now) (B.blocks below.now) }
-    requires over { StandsOver (λ b. B.blocks b) below.now runs.now nodes.below.now nodes.runs.now (changes nodes.patch) }
-    requires keeps { KeepsNamed (catalog_nodes (B.blocks below.now)) (patched_nodes (B.blocks nodes.below.now) nodes.patch nodes.runs.now) }
-    ensures catalog { IfOk result (Patches (B.blocks below.now) (HasCatalog counts.now (catalog_of (patched_nodes (B.blocks nodes.entry.below.now) nodes.entry.patch nodes.entry.runs.now)))) }
+    requires over { LiesOver B.blocks below.now runs.now
+        nodes.below.now nodes.runs.now nodes.patch }
+    requires keeps { KeepsCatalogNames B.blocks below.now
+        nodes.below.now nodes.runs.now nodes.patch }
+    ensures catalog { IfOk result (PutsCatalog counts.now B.blocks below.now nodes.entry.below.now
+        nodes.entry.runs.now nodes.entry.patch) }
     ensures within { IfOk result (λ patch. AreWithin (changes patch) (B.total below.now)) }
 {
     catalog_file_stays();

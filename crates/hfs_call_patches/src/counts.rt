@@ -1,9 +1,8 @@
 //! The counts in a volume's master directory block.
 
-ghost use Rattle.std.specs.Prelude.{◌≡◌, ◌<◌, OnOk};
+ghost use Rattle.std.specs.Prelude.{◌≡◌, ◌<◌};
 ghost use Rattle.hfs_fields.specs.Counts.{with_counts};
-ghost use Rattle.hfs_blocks.specs.Layers.{changes};
-ghost use Rattle.hfs_call_patches.specs.Settings.{PutsCounts};
+ghost use Rattle.hfs_call_patches.specs.Settings.{PutsCountsOver};
 
 use hfs_blocks::{Blocks, Patch};
 use hfs_fields::Mdb;
@@ -13,7 +12,7 @@ use std::alloc::AllocError;
 /// error is want of memory.
 pub fn put_counts<B: Blocks>(below: &B, patch: &mut Patch, counts: &Mdb) -> Result<(), AllocError>
     requires { 2 < B.total below.now }
-    ensures { OnOk result (PutsCounts counts.now (B.blocks below.now 2) (changes patch.old) (changes patch.new)) }
+    ensures { PutsCountsOver result counts.now (B.blocks below.now) patch.old patch.new }
 {
     let mut block = [0; 512];
     below.block(2, &mut block);

@@ -1,11 +1,10 @@
 //! What Create and DirCreate make of a volume's blocks.
 
-ghost use Rattle.std.specs.Prelude.{IfOk};
 ghost use Rattle.hfs_model.specs.declared.call.Call.TheVariants as call;
 ghost use Rattle.hfs_catalog_edits.specs.Rooms.{HasRoom, HasRoomForTwo};
 ghost use Rattle.hfs_check.specs.Parts.{catalog_nodes};
-ghost use Rattle.hfs_call_patches.specs.CallChanges.{IsChangeOf};
-ghost use Rattle.hfs_call_patches.specs.ReadyPlaces.{IsReady};
+ghost use Rattle.hfs_call_patches.specs.CallChanges.{IsChangeOf, Makes};
+ghost use Rattle.hfs_call_patches.specs.ReadyPlaces.{IsReadyIn};
 
 use crate::catalog_patch::{close_catalog, open_catalog};
 use crate::change::Change;
@@ -30,9 +29,10 @@ pub fn add_new_file<B: Blocks>(
     place: &NewPlace,
     now: u32,
 ) -> Result<Change, AllocError>
-    requires ready { IsReady (B.total below.now) (B.blocks below.now) runs.now mdb.now dir place.now }
+    requires ready { IsReadyIn B.total B.blocks below.now runs.now mdb.now dir place.now }
     requires room { HasRoom (catalog_nodes (B.blocks below.now)) }
-    ensures { IfOk result (IsChangeOf (call.Create dir place.now.name now) (B.total below.now) (B.blocks below.now)) }
+    ensures { Makes result (IsChangeOf (call.Create dir place.now.name now))
+        B.total B.blocks below.now }
 {
     trees_are_sound();
     creation_fits();
@@ -60,9 +60,10 @@ pub fn add_new_folder<B: Blocks>(
     place: &NewPlace,
     now: u32,
 ) -> Result<Change, AllocError>
-    requires ready { IsReady (B.total below.now) (B.blocks below.now) runs.now mdb.now dir place.now }
+    requires ready { IsReadyIn B.total B.blocks below.now runs.now mdb.now dir place.now }
     requires room { HasRoomForTwo (catalog_nodes (B.blocks below.now)) }
-    ensures { IfOk result (IsChangeOf (call.DirCreate dir place.now.name now) (B.total below.now) (B.blocks below.now)) }
+    ensures { Makes result (IsChangeOf (call.DirCreate dir place.now.name now))
+        B.total B.blocks below.now }
 {
     trees_are_sound();
     creation_fits();

@@ -10,7 +10,8 @@ ghost use Rattle.hfs_check.specs.Parts.{mdb_in, catalog_nodes, catalog_in};
 ghost use Rattle.hfs_check.specs.Sound.{AreBlocksSound};
 ghost use Rattle.hfs_call_patches.specs.Deleting.{StaysFolder, IsItemUnder, IsParent, IsFileToDelete};
 ghost use Rattle.hfs_call_patches.specs.TreeFiles.{IsExtentsFile, IsCatalogFile};
-ghost use Rattle.hfs_call_patches.specs.Patches.{Patches, LeavesExtents, LeavesCatalog, ShowsSameBeside, ReleasesExtents, DropsOverflow, DropsItem, DeletesFile};
+ghost use Rattle.hfs_call_patches.specs.Patches.{Patches, LeavesExtents, LeavesCatalog, ShowsSameBeside, ReleasesExtents, DropsOverflow, DropsItem, DeletesFile, GivesPatch};
+ghost use Rattle.hfs_call_patches.specs.CallChanges.{Makes};
 
 use crate::counts::put_counts;
 use crate::dropping::drop_from_folder;
@@ -122,7 +123,8 @@ fn drop_item_over<B: Blocks>(
     requires same { LeavesCatalog (B.blocks below.now) runs.now patch }
     requires there { IsItemUnder key.now (catalog_in (B.blocks below.now)) }
     requires stays { StaysFolder key.now id folder.now (catalog_nodes (B.blocks below.now)) }
-    ensures dropped { IfOk result (Patches (B.blocks below.now) (DropsItem key.now id folder.now valence now runs.now)) }
+    ensures dropped { GivesPatch result (B.blocks below.now)
+        (DropsItem key.now id folder.now valence now runs.now) }
     ensures beside { IfOk result (ShowsSameBeside runs.now (B.blocks below.now) patch) }
     ensures within { IfOk result (λ new. AreWithin (changes new) (B.total below.now)) }
 {
@@ -153,7 +155,7 @@ pub fn patch_delete_file<B: Blocks>(
     requires mdb { mdb.now ≡ mdb_in (B.blocks below.now) }
     requires chosen { IsFileToDelete (B.blocks below.now) dir key.now file.now }
     requires parent { IsParent (catalog_in (B.blocks below.now)) dir parent.now valence }
-    ensures makes { IfOk result (DeletesFile dir key.now file.now now (B.total below.now) (B.blocks below.now)) }
+    ensures makes { Makes result (DeletesFile dir key.now file.now now) B.total B.blocks below.now }
     ensures within { IfOk result (λ made. AreWithin (changes made.0) (B.total below.now)) }
 {
     trees_are_sound();

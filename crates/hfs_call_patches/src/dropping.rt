@@ -5,6 +5,7 @@ ghost use Rattle.hfs_scans.specs.Each.{Each};
 ghost use Rattle.hfs_catalog.specs.Sound.{IsRecord};
 ghost use Rattle.hfs_catalog.specs.Tree.{IsCatalogTree, catalog_of};
 ghost use Rattle.hfs_call_patches.specs.Deleting.{StaysFolder, ItemDropped, IsItemUnder};
+ghost use Rattle.hfs_btree_edits.specs.Edits.{Edits};
 
 use hfs_btree_edits::NodesMut;
 use hfs_catalog_edits::{drop_item, set_valence};
@@ -28,7 +29,8 @@ pub(crate) fn drop_from_folder<N: NodesMut>(
     requires records { Each IsRecord (catalog_of (N.nodes nodes.old)) }
     requires there { IsItemUnder key.now (catalog_of (N.nodes nodes.old)) }
     requires stays { StaysFolder key.now id folder.now (N.nodes nodes.old) }
-    ensures dropped { OnOk result (ItemDropped key.now id folder.now valence now (N.nodes nodes.old) (N.nodes nodes.new)) }
+    ensures dropped { Edits result (ItemDropped key.now id folder.now valence now)
+        N.nodes nodes.old nodes.new }
     ensures kept { OnOk result (N.kept nodes.new ≡ N.kept nodes.old) }
 {
     drop_item(alloc, nodes, key, id)?;

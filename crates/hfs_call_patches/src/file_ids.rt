@@ -7,10 +7,10 @@ ghost use Rattle.hfs_catalog_edits.specs.Rooms.{IsInFile, HasRoom};
 ghost use Rattle.hfs_check.specs.Parts.{mdb_in, catalog_in, catalog_nodes};
 ghost use Rattle.hfs_check.specs.Sound.{AreBlocksSound};
 ghost use Rattle.hfs_changes.specs.OnBlocks.{at_time};
-ghost use Rattle.hfs_call_patches.specs.FileIds.{IsThreadless, MakesCreateFileId, MakesDeleteFileId};
+ghost use Rattle.hfs_call_patches.specs.FileIds.{IsThreadless};
 ghost use Rattle.hfs_call_patches.specs.TreeFiles.{IsCatalogFile};
 ghost use Rattle.hfs_call_patches.specs.Settings.{IsFileUnder};
-ghost use Rattle.hfs_call_patches.specs.Patches.{Patches};
+ghost use Rattle.hfs_call_patches.specs.SettingPatches.{CreatesFileId, DeletesFileId};
 
 use crate::catalog_patch::{close_catalog, open_catalog};
 use crate::file_threads::{add_file_thread, drop_file_thread};
@@ -39,7 +39,7 @@ pub fn patch_create_file_id<B: Blocks>(
     requires threadless { IsThreadless (catalog_in (B.blocks below.now)) key.now file.now }
     requires inside { IsInFile (catalog_nodes (B.blocks below.now)) }
     requires room { HasRoom (catalog_nodes (B.blocks below.now)) }
-    ensures makes { IfOk result (Patches (B.blocks below.now) (MakesCreateFileId key.now file.now now)) }
+    ensures makes { CreatesFileId result key.now file.now now (B.blocks below.now) }
     ensures within { IfOk result (λ patch. AreWithin (changes patch) (B.total below.now)) }
 {
     trees_are_sound();
@@ -64,7 +64,7 @@ pub fn patch_delete_file_id<B: Blocks>(
     requires mdb { mdb.now ≡ mdb_in (B.blocks below.now) }
     requires name { IsTrue (is_item_name key.now.name) }
     requires there { IsFileUnder key.now (catalog_in (B.blocks below.now)) }
-    ensures makes { IfOk result (Patches (B.blocks below.now) (MakesDeleteFileId key.now file.now now)) }
+    ensures makes { DeletesFileId result key.now file.now now (B.blocks below.now) }
     ensures within { IfOk result (λ patch. AreWithin (changes patch) (B.total below.now)) }
 {
     trees_are_sound();

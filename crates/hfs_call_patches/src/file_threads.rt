@@ -9,6 +9,7 @@ ghost use Rattle.hfs_catalog_edits.specs.Rooms.{IsInFile, HasRoom};
 ghost use Rattle.hfs_catalog_edits.specs.Roots.{HasRoot};
 ghost use Rattle.hfs_call_patches.specs.FileIds.{FileIdCame, FileIdWent, LacksThread};
 ghost use Rattle.hfs_call_patches.specs.Settings.{IsFileUnder};
+ghost use Rattle.hfs_btree_edits.specs.Edits.{Edits};
 
 use hfs_btree_edits::NodesMut;
 use hfs_catalog::ItemRecord;
@@ -32,7 +33,7 @@ pub(crate) fn add_file_thread<N: NodesMut>(
     requires absent { LacksThread file.now.id (catalog_of (N.nodes nodes.old)) }
     requires inside { IsInFile (N.nodes nodes.old) }
     requires room { HasRoom (N.nodes nodes.old) }
-    ensures came { OnOk result (FileIdCame key.now file.now (N.nodes nodes.old) (N.nodes nodes.new)) }
+    ensures came { Edits result (FileIdCame key.now file.now) N.nodes nodes.old nodes.new }
     ensures kept { OnOk result (N.kept nodes.new ≡ N.kept nodes.old) }
 {
     let flagged = FileRecord {
@@ -61,7 +62,7 @@ pub(crate) fn drop_file_thread<N: NodesMut>(
     requires records { Each IsRecord (catalog_of (N.nodes nodes.old)) }
     requires name { IsTrue (is_item_name key.now.name) }
     requires there { IsFileUnder key.now (catalog_of (N.nodes nodes.old)) }
-    ensures went { OnOk result (FileIdWent key.now file.now (N.nodes nodes.old) (N.nodes nodes.new)) }
+    ensures went { Edits result (FileIdWent key.now file.now) N.nodes nodes.old nodes.new }
     ensures kept { OnOk result (N.kept nodes.new ≡ N.kept nodes.old) }
 {
     let flagged = FileRecord {

@@ -4,6 +4,7 @@ ghost use Rattle.std.specs.Prelude.{◌≡◌, ◌+◌, ◌<◌, ◌^◌, OnOk};
 ghost use Rattle.hfs_catalog.specs.Tree.{IsCatalogTree};
 ghost use Rattle.hfs_catalog_edits.specs.Rooms.{HasRoom, HasRoomForTwo};
 ghost use Rattle.hfs_call_patches.specs.NewItems.{TakesItem, TakesFolder, PutsFile, PutsFolder};
+ghost use Rattle.hfs_btree_edits.specs.Edits.{Edits};
 
 use hfs_btree_edits::NodesMut;
 use hfs_catalog_edits::{add_dir, add_file, set_valence};
@@ -32,7 +33,7 @@ pub(crate) fn put_file<N: NodesMut>(
     requires place { TakesItem dir place.now (N.nodes nodes.old) }
     requires room { HasRoom (N.nodes nodes.old) }
     requires short { place.now.children + 1 < 2 ^ 16 }
-    ensures put { OnOk result (PutsFile id dir place.now now (N.nodes nodes.old) (N.nodes nodes.new)) }
+    ensures put { Edits result (PutsFile id dir place.now now) N.nodes nodes.old nodes.new }
     ensures kept { OnOk result (N.kept nodes.new ≡ N.kept nodes.old) }
 {
     let file = FileRecord::new(id, now);
@@ -55,7 +56,7 @@ pub(crate) fn put_folder<N: NodesMut>(
     requires place { TakesFolder id dir place.now (N.nodes nodes.old) }
     requires room { HasRoomForTwo (N.nodes nodes.old) }
     requires short { place.now.children + 1 < 2 ^ 16 }
-    ensures put { OnOk result (PutsFolder id dir place.now now (N.nodes nodes.old) (N.nodes nodes.new)) }
+    ensures put { Edits result (PutsFolder id dir place.now now) N.nodes nodes.old nodes.new }
     ensures kept { OnOk result (N.kept nodes.new ≡ N.kept nodes.old) }
 {
     let folder = DirRecord::new(id, now);

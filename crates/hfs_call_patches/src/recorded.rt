@@ -7,7 +7,7 @@ ghost use Rattle.hfs_check.specs.Parts.{catalog_in};
 ghost use Rattle.hfs_check.specs.Sound.{AreBlocksSound};
 ghost use Rattle.hfs_call_patches.specs.TreeFiles.{IsCatalogFile};
 ghost use Rattle.hfs_call_patches.specs.Settings.{HasSetItem, IsOfKindUnder};
-ghost use Rattle.hfs_call_patches.specs.Patches.{Patches};
+ghost use Rattle.hfs_call_patches.specs.Patches.{GivesPatch};
 
 use crate::catalog_patch::{close_catalog, open_catalog};
 use hfs_blocks::{Blocks, Patch, Run};
@@ -31,7 +31,7 @@ pub(crate) fn patch_record<B: Blocks>(
     requires nodes { IsCatalogFile runs.now (B.total below.now) (B.blocks below.now) }
     requires name { IsTrue (is_item_name key.now.name) }
     requires there { IsOfKindUnder key.now item.now (catalog_in (B.blocks below.now)) }
-    ensures set { IfOk result (Patches (B.blocks below.now) (HasSetItem key.now item.now counts.now)) }
+    ensures set { GivesPatch result (B.blocks below.now) (HasSetItem key.now item.now counts.now) }
     ensures within { IfOk result (λ patch. AreWithin (changes patch) (B.total below.now)) }
 {
     trees_are_sound();

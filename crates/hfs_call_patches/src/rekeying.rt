@@ -1,13 +1,12 @@
 //! An item that comes under another key, in the catalog over a patch.
 
 ghost use Rattle.std.specs.Prelude.{IfOk};
-ghost use Rattle.hfs_blocks.specs.Layers.{changes, over};
+ghost use Rattle.hfs_blocks.specs.Layers.{over};
 ghost use Rattle.hfs_check.specs.Parts.{catalog_nodes};
 ghost use Rattle.hfs_check.specs.Sound.{AreBlocksSound};
-ghost use Rattle.hfs_call_patches.specs.CatalogPatch.{StandsOver};
-ghost use Rattle.hfs_call_patches.specs.Rekeyings.{CanRekey, Rekeys};
+ghost use Rattle.hfs_call_patches.specs.Rekeyings.{CanRekey};
 ghost use Rattle.hfs_call_patches.specs.TreeFiles.{IsCatalogFile};
-ghost use Rattle.hfs_call_patches.specs.Patches.{patched_nodes};
+ghost use Rattle.hfs_call_patches.specs.CatalogPatch.{LiesOver, RekeysOver};
 
 use crate::catalog_patch::open_catalog;
 use hfs_blocks::{Blocks, Run};
@@ -35,8 +34,10 @@ pub(crate) fn open_rekeyed<'a, B: Blocks>(
     requires sound { AreBlocksSound (B.total below.now) (B.blocks below.now) }
     requires file { IsCatalogFile runs.now (B.total below.now) (B.blocks below.now) }
     requires can { CanRekey item.now (catalog_nodes (B.blocks below.now)) }
-    ensures rekeyed { IfOk result (λ nodes. Rekeys item.now (catalog_nodes (B.blocks below.now)) (patched_nodes (B.blocks nodes.below.now) nodes.patch nodes.runs.now)) }
-    ensures over { IfOk result (λ nodes. StandsOver (λ b. B.blocks b) below.now runs.now nodes.below.now nodes.runs.now (changes nodes.patch)) }
+    ensures rekeyed { IfOk result (λ nodes.
+        RekeysOver item.now B.blocks below.now nodes.below.now nodes.runs.now nodes.patch) }
+    ensures over { IfOk result (λ nodes.
+        LiesOver B.blocks below.now runs.now nodes.below.now nodes.runs.now nodes.patch) }
 {
     let mut nodes = open_catalog(alloc, below, runs);
     rekey(alloc, &mut nodes, item.id, &item.from, &item.to)?;

@@ -7,8 +7,8 @@ ghost use Rattle.hfs_changes.specs.OnBlocks.{at_time};
 ghost use Rattle.hfs_check.specs.Parts.{mdb_in, catalog_in};
 ghost use Rattle.hfs_check.specs.Sound.{AreBlocksSound};
 ghost use Rattle.hfs_call_patches.specs.TreeFiles.{IsCatalogFile};
-ghost use Rattle.hfs_call_patches.specs.Settings.{IsFolderUnder, IsFileUnder, MakesSetFInfo, MakesSetFileInfo, MakesSetFolderInfo, MakesSetLock};
-ghost use Rattle.hfs_call_patches.specs.Patches.{Patches};
+ghost use Rattle.hfs_call_patches.specs.Settings.{IsFolderUnder, IsFileUnder};
+ghost use Rattle.hfs_call_patches.specs.SettingPatches.{SetsFInfo, SetsFileInfo, SetsFolderInfo, SetsLock};
 
 use crate::recorded::patch_record;
 use hfs_blocks::{Blocks, Patch, Run};
@@ -63,7 +63,7 @@ pub fn patch_set_f_info<B: Blocks>(
     requires mdb { mdb.now ≡ mdb_in (B.blocks below.now) }
     requires name { IsTrue (is_item_name key.now.name) }
     requires there { IsFileUnder key.now (catalog_in (B.blocks below.now)) }
-    ensures makes { IfOk result (Patches (B.blocks below.now) (MakesSetFInfo key.now file.now info.now now)) }
+    ensures makes { SetsFInfo result key.now file.now info.now now (B.blocks below.now) }
     ensures within { IfOk result (λ patch. AreWithin (changes patch) (B.total below.now)) }
 {
     set_f_info_makes();
@@ -97,7 +97,7 @@ pub fn patch_set_file_info<B: Blocks>(
     requires mdb { mdb.now ≡ mdb_in (B.blocks below.now) }
     requires name { IsTrue (is_item_name key.now.name) }
     requires there { IsFileUnder key.now (catalog_in (B.blocks below.now)) }
-    ensures makes { IfOk result (Patches (B.blocks below.now) (MakesSetFileInfo key.now file.now settings.now now)) }
+    ensures makes { SetsFileInfo result key.now file.now settings.now now (B.blocks below.now) }
     ensures within { IfOk result (λ patch. AreWithin (changes patch) (B.total below.now)) }
 {
     set_cat_info_makes();
@@ -136,7 +136,7 @@ pub fn patch_set_folder_info<B: Blocks>(
     requires mdb { mdb.now ≡ mdb_in (B.blocks below.now) }
     requires name { IsTrue (is_item_name key.now.name) }
     requires there { IsFolderUnder key.now (catalog_in (B.blocks below.now)) }
-    ensures makes { IfOk result (Patches (B.blocks below.now) (MakesSetFolderInfo key.now folder.now settings.now now)) }
+    ensures makes { SetsFolderInfo result key.now folder.now settings.now now (B.blocks below.now) }
     ensures within { IfOk result (λ patch. AreWithin (changes patch) (B.total below.now)) }
 {
     set_cat_info_makes();
@@ -175,7 +175,7 @@ pub fn patch_set_lock<B: Blocks>(
     requires mdb { mdb.now ≡ mdb_in (B.blocks below.now) }
     requires name { IsTrue (is_item_name key.now.name) }
     requires there { IsFileUnder key.now (catalog_in (B.blocks below.now)) }
-    ensures makes { IfOk result (Patches (B.blocks below.now) (MakesSetLock locked key.now file.now now)) }
+    ensures makes { SetsLock result locked key.now file.now now (B.blocks below.now) }
     ensures within { IfOk result (λ patch. AreWithin (changes patch) (B.total below.now)) }
 {
     set_lock_makes();

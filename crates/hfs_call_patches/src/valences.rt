@@ -3,6 +3,7 @@
 ghost use Rattle.std.specs.Prelude.{◌≡◌, ◌+◌, ◌<◌, ◌≤◌, ◌^◌, OnOk};
 ghost use Rattle.hfs_catalog.specs.Tree.{IsCatalogTree, catalog_of};
 ghost use Rattle.hfs_call_patches.specs.Valences.{StandAt, ValencesSet};
+ghost use Rattle.hfs_btree_edits.specs.Edits.{Edits};
 
 use hfs_btree_edits::NodesMut;
 use hfs_catalog_edits::set_valence;
@@ -29,7 +30,7 @@ pub(crate) fn set_valences<N: NodesMut>(
     requires stand { StandAt left.now entered.now (catalog_of (N.nodes nodes.old)) }
     requires some { 1 ≤ left.now.valence }
     requires room { entered.now.valence + 1 < 2 ^ 16 }
-    ensures set { OnOk result (ValencesSet left.now entered.now now (N.nodes nodes.old) (N.nodes nodes.new)) }
+    ensures set { Edits result (ValencesSet left.now entered.now now) N.nodes nodes.old nodes.new }
     ensures kept { OnOk result (N.kept nodes.new ≡ N.kept nodes.old) }
 {
     folders_stand();
