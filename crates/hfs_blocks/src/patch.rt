@@ -68,7 +68,8 @@ impl Patch {
 
     /// Puts block `n` into the patch, in place of the one that it has. At an error the patch is as it was.
     pub fn put(&mut self, n: u32, block: &[u8; 512]) -> Result<(), AllocError>
-        ensures written { OnOk result (changes self.new ≡ with_change (changes self.old) n block.now) }
+        ensures written { OnOk result
+            (changes self.new ≡ with_change (changes self.old) n block.now) }
         ensures kept { OnErr result (self.new ≡ self.old) }
     {
         self.blocks.insert(n, *block)?;
@@ -99,7 +100,8 @@ impl Patch {
         ensures same { ShowsSame (B.blocks below.now) (changes self.old) (changes self.new) }
         ensures kept { HasEachOf (changes self.old) (changes self.new) }
         ensures entered { OnOk result (HasEachOf (changes blocks.now.entries) (changes self.new)) }
-        ensures no_other { GainsOnly (changes self.old) (changes blocks.now.entries) (changes self.new) }
+        ensures no_other { GainsOnly (changes self.old) (changes blocks.now.entries)
+            (changes self.new) }
         ensures within { KeepsWithin self.old self.new (B.total below.now) }
     {
         for i in 0..blocks.len() {
@@ -141,8 +143,10 @@ impl Patch {
     pub fn lay<B: Blocks>(&mut self, below: &B, patch: &Patch) -> Result<(), AllocError>
         requires { AreWithin (changes patch.now) (B.total below.now) }
         ensures laid { OnOk result (IsLaid (B.blocks below.now) self.old patch.now self.new) }
-        ensures kept { OnErr result (ShowsSame (B.blocks below.now) (changes self.old) (changes self.new)) }
-        ensures joined { OnOk result (HasJoined (changes self.old) (changes patch.now) (changes self.new)) }
+        ensures kept { OnErr result
+            (ShowsSame (B.blocks below.now) (changes self.old) (changes self.new)) }
+        ensures joined { OnOk result
+            (HasJoined (changes self.old) (changes patch.now) (changes self.new)) }
         ensures within { KeepsWithin self.old self.new (B.total below.now) }
     {
         self.enter_all(below, &patch.blocks)?;

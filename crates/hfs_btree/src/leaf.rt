@@ -86,7 +86,8 @@ pub(crate) fn settle<K: Key, N: Nodes>(
     requires count { count ≡ length (records_of (node_of bytes.old)) }
     requires at { IsAtLeaf K.Key (N.nodes nodes.now) bytes.old place most }
     ensures walk { IsWalk K.Key (N.nodes nodes.now) bytes.new result.0 result.1 }
-    ensures same { GoesOnSame K.Key (N.nodes nodes.now) bytes.old place most bytes.new result.0 result.1 }
+    ensures same { GoesOnSame K.Key (N.nodes nodes.now)
+        bytes.old place most bytes.new result.0 result.1 }
 {
     if place < count {
         return (place, most);

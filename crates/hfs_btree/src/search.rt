@@ -134,7 +134,8 @@ pub fn find<K: Key, N: Nodes>(
 /// The first record of a leaf whose key is above this one.
 fn after_in<'a, K: Key>(bytes: &'a [u8; 512], key: &K) -> Option<&'a [u8]>
     requires { Each (λ entry. K.is_leaf entry ≡ true) (records_of (node_of bytes.now)) }
-    ensures first { option_map (λ e. pair_of K.Key e.now) result ≡ leaf_after K.Key bytes.now key.now }
+    ensures first { option_map (λ e. pair_of K.Key e.now) result
+        ≡ leaf_after K.Key bytes.now key.now }
     ensures leaf { IfSome result (λ entry. K.is_leaf entry.now ≡ true) }
 {
     let Ok(node) = view(bytes) else {

@@ -75,8 +75,10 @@ fn check_level_keys<K: Key, N: Nodes, T: KeyTest<K>>(
     test: &T,
 ) -> Result<Vec<u32>, TreeFault>
     requires { Each (IsKeyNode K.Key (N.nodes nodes.now) above) level.now }
-    ensures fault { IfErr result (IsFault (level_key_fault K.Key (N.nodes nodes.now) (T.passes test.now) above level.now)) }
-    ensures right { OnOk result (level_key_fault K.Key (N.nodes nodes.now) (T.passes test.now) above level.now ≡ None) }
+    ensures fault { IfErr result
+        (IsFault (level_key_fault K.Key (N.nodes nodes.now) (T.passes test.now) above level.now)) }
+    ensures right { OnOk result
+        (level_key_fault K.Key (N.nodes nodes.now) (T.passes test.now) above level.now ≡ None) }
     ensures next { IfOk result (IsLevelBelow K.Key (N.nodes nodes.now) above level.now) }
 {
     let mut next = Vec::new(alloc);

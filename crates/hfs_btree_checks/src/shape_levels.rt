@@ -38,10 +38,14 @@ fn check_level<K: Key, N: Nodes>(
     met: &mut Vec<bool>,
 ) -> Result<CheckedLevel, TreeFault>
     requires { vec_len met.old ≡ tree.now.count }
-    ensures fault { IfErr result (IsLevelFault K.Key (N.nodes tree.now.nodes.now) met.old above level.now) }
-    ensures right { OnOk result (PassesLevel K.Key (N.nodes tree.now.nodes.now) above level.now met.old met.new) }
-    ensures next { IfOk result (λ found. IsLevelBelow K.Key (N.nodes tree.now.nodes.now) above level.now found.next) }
-    ensures records { IfOk result (λ found. found.records ≡ count_within (N.nodes tree.now.nodes.now) level.now) }
+    ensures fault { IfErr result
+        (IsLevelFault K.Key (N.nodes tree.now.nodes.now) met.old above level.now) }
+    ensures right { OnOk result
+        (PassesLevel K.Key (N.nodes tree.now.nodes.now) above level.now met.old met.new) }
+    ensures next { IfOk result (λ found.
+        IsLevelBelow K.Key (N.nodes tree.now.nodes.now) above level.now found.next) }
+    ensures records { IfOk result (λ found.
+        found.records ≡ count_within (N.nodes tree.now.nodes.now) level.now) }
     ensures kept { OnOk result (vec_len met.new ≡ vec_len met.old) }
 {
     let mut next = Vec::new(alloc);
@@ -95,11 +99,16 @@ pub(crate) fn check_levels<K: Key, N: Nodes>(
     met: &mut Vec<bool>,
 ) -> Result<Leaves, TreeFault>
     requires { vec_len met.old ≡ tree.now.count }
-    ensures fault { IfErr result (IsFault (fault_from K.Key (N.nodes tree.now.nodes.now) met.old depth root)) }
-    ensures right { OnOk result (fault_from K.Key (N.nodes tree.now.nodes.now) met.old depth root ≡ None) }
-    ensures first { IfOk result (λ found. found.first ≡ first_of (leaves_from K.Key (N.nodes tree.now.nodes.now) depth root)) }
-    ensures last { IfOk result (λ found. found.last ≡ last_of (leaves_from K.Key (N.nodes tree.now.nodes.now) depth root)) }
-    ensures records { IfOk result (λ found. found.records ≡ records_from K.Key (N.nodes tree.now.nodes.now) depth root) }
+    ensures fault { IfErr result
+        (IsFault (fault_from K.Key (N.nodes tree.now.nodes.now) met.old depth root)) }
+    ensures right { OnOk result
+        (fault_from K.Key (N.nodes tree.now.nodes.now) met.old depth root ≡ None) }
+    ensures first { IfOk result (λ found.
+        found.first ≡ first_of (leaves_from K.Key (N.nodes tree.now.nodes.now) depth root)) }
+    ensures last { IfOk result (λ found.
+        found.last ≡ last_of (leaves_from K.Key (N.nodes tree.now.nodes.now) depth root)) }
+    ensures records { IfOk result (λ found.
+        found.records ≡ records_from K.Key (N.nodes tree.now.nodes.now) depth root) }
 {
     if depth == 0 {
         return Ok(Leaves {

@@ -71,7 +71,8 @@ impl<'a, K: Key, N: Nodes> ShapedTree<'a, K, N> {
     /// Errors: `TreeFault::At(n)` where node `n` is the first in the turn of levels with a key that doesn't pass.
     /// `TreeFault::Memory` where memory was refused.
     pub fn check_keys<T: KeyTest<K>>(&self, alloc: Global, test: &T) -> Result<(), TreeFault>
-        ensures { FindsFault (key_fault K.Key (N.nodes self.now.nodes.now) (T.passes test.now)) result }
+        ensures { FindsFault
+            (key_fault K.Key (N.nodes self.now.nodes.now) (T.passes test.now)) result }
     {
         check_keys::<K, N, T>(alloc, self.nodes, test)
     }

@@ -16,6 +16,7 @@ pub trait NodesMut: Nodes {
     /// Writes 512 bytes as node `n`, and no other node.
     fn write(&mut self, n: u32, from: &[u8; 512]) -> Result<(), AllocError>
         requires { n < length (Self.nodes self.old) }
-        ensures written { OnOk result (Self.nodes self.new ≡ slice_set (Self.nodes self.old) n from.now) }
+        ensures written { OnOk result
+            (Self.nodes self.new ≡ slice_set (Self.nodes self.old) n from.now) }
         ensures kept { OnOk result (kept self.new ≡ kept self.old) };
 }

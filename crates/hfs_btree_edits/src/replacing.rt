@@ -7,7 +7,7 @@ ghost use Rattle.hfs_btree.specs.Pairs.{lookup};
 ghost use Rattle.hfs_btree.specs.Tree.{records_of, pairs_of};
 ghost use Rattle.hfs_btree.specs.Header.{body_at};
 ghost use Rattle.hfs_btree.specs.Sound.{IsSound};
-ghost use Rattle.hfs_btree_edits.specs.Edits.{HasReplaced};
+ghost use Rattle.hfs_btree_edits.specs.Edits.{Edits, HasReplaced};
 ghost use Rattle.hfs_btree_edits.specs.Entries.{HasBodyAt, HasKeyAt};
 ghost use Rattle.hfs_btree_edits.specs.Conditions.{IsNoLonger, IsThere};
 
@@ -61,7 +61,8 @@ pub fn replace<K: Key, N: NodesMut>(
     requires sound { IsSound K.Key (N.nodes nodes.old) }
     requires allowed { IsTrue (K.is_body_len (length body.now)) }
     requires there { IsNoLonger body.now (body_at K.Key (N.nodes nodes.old) key.now) }
-    ensures replaced { OnOk result (HasReplaced K.Key key.now body.now (N.nodes nodes.old) (N.nodes nodes.new)) }
+    ensures replaced { Edits result
+        (HasReplaced K.Key key.now body.now) N.nodes nodes.old nodes.new }
     ensures kept { OnOk result (N.kept nodes.new ≡ N.kept nodes.old) }
 {
     let header = read_header(nodes);

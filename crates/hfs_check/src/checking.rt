@@ -37,7 +37,8 @@ fn check_contents<B: Blocks, E: Nodes, C: Nodes>(
     requires extents { IsExtentsTree (E.nodes extents.now) }
     requires structure { HasStructure cat_keys (C.nodes catalog.now) }
     requires counts { HasCounts cat_keys (C.nodes catalog.now) }
-    ensures fault { AnswersContents (B.blocks blocks.now) mdb.now (E.nodes extents.now) (C.nodes catalog.now) result }
+    ensures fault { AnswersContents (B.blocks blocks.now) mdb.now (E.nodes extents.now)
+        (C.nodes catalog.now) result }
     ensures owned { GivesOwnedIn mdb.now (E.nodes extents.now) (C.nodes catalog.now) result }
 {
     let records = read_records(alloc, catalog)?;

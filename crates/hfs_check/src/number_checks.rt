@@ -62,7 +62,8 @@ pub(crate) fn check_numbers<B: Blocks, N: Nodes>(
 ) -> Result<Vec<Extent>, MountFault>
     requires bitmap { HasBitmap mdb.now (B.total blocks.now) }
     requires tree { IsExtentsTree (N.nodes tree.now) }
-    ensures fault { AnswersNumbers (B.blocks blocks.now) mdb.now (N.nodes tree.now) records.now result }
+    ensures fault { AnswersNumbers (B.blocks blocks.now) mdb.now
+        (N.nodes tree.now) records.now result }
     ensures owned { GivesAllOwned mdb.now (overflow_of (N.nodes tree.now)) records.now result }
 {
     check_valences(alloc, records)?;

@@ -64,7 +64,8 @@ fn check_catalog<B: Blocks>(
 ) -> Result<(), MountFault>
     requires sound { IsMdbSound (B.total blocks.now) mdb.now }
     requires file { is_tree_file mdb.now extents.now mdb.now.catalog_file_size ≡ true }
-    requires runs { LieInCatalogOf (B.total blocks.now) (B.blocks blocks.now) mdb.now extents.now runs.now }
+    requires runs { LieInCatalogOf (B.total blocks.now)
+        (B.blocks blocks.now) mdb.now extents.now runs.now }
     requires is { mdb.now ≡ mdb_in (B.blocks blocks.now) }
     requires extents { extents.now ≡ catalog_extents (B.blocks blocks.now) }
     ensures { Answers (catalog_check_fault mdb.now (B.blocks blocks.now)) result }

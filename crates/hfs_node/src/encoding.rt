@@ -42,9 +42,11 @@ fn put_records(records: &Records, out: &mut [u8; 512])
     requires room { size_of records.now ≤ 496 }
     requires clear { IsZeroFrom 14 512 out.old }
     ensures laid { AreLaid records.now (length records.now) out.new }
-    ensures free { offset_of out.new (length records.now) ≡ start_of records.now (length records.now) }
+    ensures free { offset_of out.new (length records.now)
+        ≡ start_of records.now (length records.now) }
     ensures head { SameHead out.old out.new }
-    ensures clear { IsZeroFrom (start_of records.now (length records.now)) (510 - 2 * length records.now) out.new }
+    ensures clear { IsZeroFrom (start_of records.now (length records.now))
+        (510 - 2 * length records.now) out.new }
 {
     let mut at = 14;
     for i in 0..records.len() {
@@ -58,7 +60,8 @@ fn put_records(records: &Records, out: &mut [u8; 512])
 pub fn encode(node: &Node, out: &mut [u8; 512])
     requires { Fits node.now }
     ensures node { node_of out.new ≡ Ok node.now }
-    ensures offsets { (k : ℕ) → k ≤ length node.now.records → offset_of out.new k ≡ start_of node.now.records k }
+    ensures offsets { (k : ℕ) → k ≤ length node.now.records
+        → offset_of out.new k ≡ start_of node.now.records k }
     ensures clear { IsClear node.now.records out.new }
 {
     *out = BLANK_NODE;

@@ -45,8 +45,10 @@ impl Node {
     /// first one this node's links, kind and height. Where memory is refused nothing changes.
     pub fn split_off(&mut self, at: usize) -> Result<Node, AllocError>
         requires { at ≤ length self.old.records }
-        ensures first { OnOk result (self.new ≡ record self.old { records = take at self.old.records }) }
-        ensures second { IfOk result (λ tail. tail ≡ record self.old { records = drop at self.old.records }) }
+        ensures first { OnOk result
+            (self.new ≡ record self.old { records = take at self.old.records }) }
+        ensures second { IfOk result (λ tail.
+            tail ≡ record self.old { records = drop at self.old.records }) }
         ensures err { OnErr result (self.new ≡ self.old) }
     {
         let records = self.records.split_off(at)?;

@@ -122,7 +122,8 @@ fn records_are_edited(rt: HostRuntime) -> Result<(), Fail> {
 
 /// Four records of 140 bytes.
 fn four_long(alloc: Global) -> Result<Records, AllocError>
-    ensures { IfOk result (λ records. records ≡ replicate 140 7 ∷ replicate 140 7 ∷ replicate 140 7 ∷ replicate 140 7 ∷ []) }
+    ensures { IfOk result (λ records.
+        records ≡ replicate 140 7 ∷ replicate 140 7 ∷ replicate 140 7 ∷ replicate 140 7 ∷ []) }
 {
     let mut records = Records::new(alloc);
     records.push(vec![in alloc; 7; 140]?)?;

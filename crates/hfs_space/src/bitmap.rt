@@ -41,7 +41,8 @@ impl<B: Blocks> Bitmap<'_, B> {
 
     /// How many allocation blocks are not marked as in use. Takes no memory.
     pub fn free_count(&self) -> u32
-        ensures { result ≡ spec.clear_count (B.blocks self.now.blocks.now) self.now.start self.now.count }
+        ensures { result ≡ spec.clear_count
+            (B.blocks self.now.blocks.now) self.now.start self.now.count }
     {
         let count = u32::from(self.count);
         let mut bytes = [0; 512];
@@ -60,8 +61,10 @@ impl<B: Blocks> Bitmap<'_, B> {
     /// among the volume's.
     pub fn release(&self, patch: &mut Patch, first: u16, count: u16) -> Result<(), AllocError>
         requires { first + count ≤ self.now.count }
-        ensures cleared { OnOk result (spec.AreClearIn patch.new (B.blocks self.now.blocks.now) self.now.start first count) }
-        ensures others { spec.KeepsOthersIn patch.old patch.new (B.blocks self.now.blocks.now) self.now.start first count }
+        ensures cleared { OnOk result
+            (spec.AreClearIn patch.new (B.blocks self.now.blocks.now) self.now.start first count) }
+        ensures others { spec.KeepsOthersIn patch.old patch.new
+            (B.blocks self.now.blocks.now) self.now.start first count }
         ensures within { KeepsWithin patch.old patch.new (B.total self.now.blocks.now) }
     {
         let first = u32::from(first);

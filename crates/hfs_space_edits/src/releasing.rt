@@ -25,7 +25,8 @@ pub fn release_extents<B: Blocks>(
     extents: &[Extent],
 ) -> Result<(), AllocError>
     requires { AreExtentsWithin bitmap.now.count extents.now }
-    ensures released { OnOk result (HasReleasedOver (B.blocks bitmap.now.blocks.now) bitmap.now.start bitmap.now.count extents.now patch.old patch.new) }
+    ensures released { OnOk result (HasReleasedOver (B.blocks bitmap.now.blocks.now)
+        bitmap.now.start bitmap.now.count extents.now patch.old patch.new) }
     ensures within { KeepsWithin patch.old patch.new (B.total bitmap.now.blocks.now) }
 {
     for i in 0..extents.len() {

@@ -68,7 +68,8 @@ pub fn fetch_runs<S: BlockSource>(
     ensures has { OnOk result (HasEach read.new (flat_map run_of runs.now)) }
     ensures grown { HasGrown read.old read.new }
     ensures stays { StaysOf (S.image source.old) read.old read.new }
-    ensures within { (total : ℕ) → AreRunsWithin runs.now total → KeepsWithin read.old read.new total }
+    ensures within { (total : ℕ) → AreRunsWithin runs.now total
+        → KeepsWithin read.old read.new total }
     ensures image { S.image source.new ≡ S.image source.old }
 {
     for run in runs {
