@@ -43,7 +43,8 @@ pub fn forward_in(bytes: &[u8; 512]) -> u32
 /// The record at a place, if there is one.
 pub fn entry_in(bytes: &[u8; 512], place: usize) -> Option<&[u8]>
     ensures { MatchOption result (length (records_of (node_of bytes.now)) ≤ place)
-        (λ entry. (place < length (records_of (node_of bytes.now))) × (entry.now ≡ slice_index_or (records_of (node_of bytes.now)) place [])) }
+        (λ entry. (place < length (records_of (node_of bytes.now)))
+        × (entry.now ≡ slice_index_or (records_of (node_of bytes.now)) place [])) }
 {
     let Ok(node) = view(bytes) else {
         return None;

@@ -9,7 +9,7 @@ use Rattle.hfs_node.specs.declared.node.Node.{Node}
 use Rattle.hfs_btree.specs.declared.header.Header as header
 use Rattle.hfs_btree.specs.declared.key.Key.{Ghosts}
 use Rattle.hfs_btree.specs.Tree.{Store, node_in, Spot, first_of, last_of, reads_at}
-use Rattle.hfs_btree.specs.Header.{header_in, map_nodes, own_nodes, map_bytes, is_marked, free_nodes, depth_of, leaves, tree_content, tree_turn}
+use Rattle.hfs_btree.specs.Header.{header_in, header_of, map_nodes, own_nodes, map_bytes, is_marked, free_nodes, depth_of, leaves, tree_content, tree_turn}
 
 -- no fault where the test holds, else one of the whole tree
 abbrev pub unless : Bool → Option ℕ
@@ -47,6 +47,14 @@ is_header_node (Err e) = false
 -- the header record is one of such a tree in a file of so many bytes
 unfoldable pub is_header_record : {K : Type 0} → Ghosts K → ℕ → header.Header → Bool
 is_header_record g size h = (h.node_size == 512) && (h.key_len == g.INDEX_KEY_LEN) && nat_le 1 h.nodes && nat_le (512 * h.nodes) size && nat_le h.depth 16
+
+-- the header record that is a node's first
+abbrev pub own_header : Node → header.Header
+own_header v = header_of (slice_index_or v.records 0 [])
+
+-- the node is a header node, and its header record that of such a tree
+abbrev pub is_header_with : {K : Type 0} → Ghosts K → ℕ → Node → Bool
+is_header_with g size v = is_header_value v && is_header_record g size (own_header v)
 
 abbrev pub has_header : {K : Type 0} → Ghosts K → ℕ → Store → Bool
 has_header g size nodes = is_header_node (node_in nodes 0) && is_header_record g size (header_in nodes)

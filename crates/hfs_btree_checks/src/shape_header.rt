@@ -1,8 +1,7 @@
 //! The check of a tree's header node.
 
-ghost use Rattle.std.specs.Prelude.{◌≡◌, ◌&&◌, true, false, [], MatchOption, slice_index_or};
-ghost use Rattle.hfs_btree.specs.Header.{header_of};
-ghost use Rattle.hfs_btree_checks.specs.Shape.{is_header_value, is_header_record};
+ghost use Rattle.std.specs.Prelude.{◌≡◌, true, false, MatchOption};
+ghost use Rattle.hfs_btree_checks.specs.Shape.{is_header_value, is_header_record, is_header_with, own_header};
 
 use hfs_btree::{Header, Key};
 use hfs_node::{NodeKind, NodeView};
@@ -32,9 +31,8 @@ fn is_right_header<K: Key>(header: &Header, size: u32) -> bool
 /// The header record of a tree with these keys in a file of `size` bytes, whose node 0 this is. None exactly where node 0
 /// or its header record isn't that of such a tree.
 pub(crate) fn checked_header<K: Key>(node: &NodeView, size: u32) -> Option<Header>
-    ensures { MatchOption result
-        (is_header_value node.now && is_header_record K.Key size (header_of (slice_index_or node.now.records 0 [])) ≡ false)
-        (λ header. (is_header_value node.now && is_header_record K.Key size (header_of (slice_index_or node.now.records 0 [])) ≡ true) × (header ≡ header_of (slice_index_or node.now.records 0 []))) }
+    ensures { MatchOption result (is_header_with K.Key size node.now ≡ false)
+        (λ header. (is_header_with K.Key size node.now ≡ true) × (header ≡ own_header node.now)) }
 {
     if !is_header(node) {
         return None;

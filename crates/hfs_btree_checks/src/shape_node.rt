@@ -87,9 +87,10 @@ pub(crate) fn visit_node<K: Key, N: Nodes>(
 ) -> Result<usize, TreeFault>
     requires { vec_len met.old ≡ tree.now.count }
     ensures wrong { IfErr result (IsWrongAt
-        (is_new_and_right K.Key (N.nodes tree.now.nodes.now) met.old (spot_of left n right above)) n) }
-    ensures right { OnOk result (
-        is_new_and_right K.Key (N.nodes tree.now.nodes.now) met.old (spot_of left n right above) ≡ true) }
+        (is_new_and_right K.Key (N.nodes tree.now.nodes.now) met.old
+        (spot_of left n right above)) n) }
+    ensures right { OnOk result (is_new_and_right K.Key (N.nodes tree.now.nodes.now) met.old
+        (spot_of left n right above) ≡ true) }
     ensures marked { OnOk result (met.new.items ≡ slice_set met.old.items n true) }
     ensures below { OnOk result
         (AddsBelow K.Key (N.nodes tree.now.nodes.now) above n next.old next.new) }

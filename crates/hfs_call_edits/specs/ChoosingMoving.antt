@@ -88,6 +88,6 @@ pub record IsMoveRefused (old : Blocks) (dir : ℕ) (name : List ℕ) (new_dir :
 abbrev pub ChoosesMoving : Blocks → ℕ → List ℕ → ℕ → Result Moving ℤ → Type 0
 ChoosesMoving old dir name new_dir result = MatchResult result (λ m. IsMoving old dir name new_dir m) (λ code. IsMoveRefused old dir name new_dir code)
 
--- in the nodes of a catalog
+-- a move of an item to another folder, in the nodes of a catalog
 abbrev pub moving_within : Store → ℕ → CatalogItem → List ℕ → FolderPlace → ℕ → Result Moving ℤ
 moving_within nodes steps item name left new_dir = moving_to (catalog_of nodes) steps item name left new_dir

@@ -43,13 +43,13 @@ pub record IsEditing (total : ℕ) (blocks : Blocks) (mdb : Mdb) (extents catalo
   pub extents_file : IsExtentsFile extents total blocks
   pub catalog_file : IsCatalogFile catalog total blocks
 
--- so are these blocks
+-- the same of the blocks that a value shows
 abbrev pub IsEditingIn : {B : Type 0} → (B → ℕ) → (B → Blocks) → B → Mdb → List Run → List Run → Type 0
 IsEditingIn total blocks b mdb extents catalog = IsEditing (total b) (blocks b) mdb extents catalog
 
--- the nodes in these runs are those of the other blocks' catalog
-abbrev pub AreCatalogNodes : {B : Type 0} → (B → Blocks) → B → List Run → B → Type 0
-AreCatalogNodes blocks b runs of = nodes_in (blocks b) runs ≡ catalog_nodes (blocks of)
+-- in these runs of the first value's blocks lie the nodes of the second's catalog
+abbrev pub HoldCatalog : {B : Type 0} → (B → Blocks) → B → List Run → B → Type 0
+HoldCatalog blocks b runs of = nodes_in (blocks b) runs ≡ catalog_nodes (blocks of)
 
 -- the file has no thread yet in the catalog of these blocks
 abbrev pub IsThreadlessIn : Blocks → CatKey × FileRecord → Type 0

@@ -4,7 +4,7 @@ ghost use Rattle.std.specs.Prelude.{◌≡◌};
 ghost use Rattle.hfs_check.specs.Parts.{catalog_nodes};
 ghost use Rattle.hfs_model.specs.declared.reply.Value.TheVariants as value;
 ghost use Rattle.hfs_model.specs.Choices.{file_to_change, to_set_f_info, to_set_cat_info};
-ghost use Rattle.hfs_call_edits.specs.Edits.{IsEditing, ChoosesFileBy, ChoosesItemBy, RecordsAreEntriesIn, change_at, IsEditingIn, AreCatalogNodes};
+ghost use Rattle.hfs_call_edits.specs.Edits.{IsEditing, ChoosesFileBy, ChoosesItemBy, RecordsAreEntriesIn, change_at, IsEditingIn, HoldCatalog};
 ghost use Rattle.hfs_queries.specs.Told.{IsCatalog};
 
 use crate::choosing;
@@ -70,7 +70,7 @@ impl<'a, B: Blocks> Editing<'a, B> {
 
     /// The nodes of the catalog, whose records answer the queries of the volume.
     pub(crate) fn nodes(&self) -> RunNodes<'_, B>
-        ensures nodes { AreCatalogNodes B.blocks result.blocks.now result.runs.now self.now }
+        ensures nodes { HoldCatalog B.blocks result.blocks.now result.runs.now self.now }
         ensures catalog { IsCatalog (catalog_nodes (B.blocks self.now)) }
         ensures entries { RecordsAreEntriesIn (B.blocks self.now) }
     {

@@ -68,5 +68,5 @@ abbrev pub DeletesFile : ℕ → CatKey → FileRecord → ℕ → ℕ → Block
 DeletesFile dir key file now total blocks made = MakesFileDeletion dir key file now total blocks made.1 (patched blocks made.0)
 
 -- where the result is Ok, it is a patch that makes the step of a Delete, wherever one chooses this folder
-abbrev pub DeletesFolder : {E : Type 0} → Result Numbered E → ℕ → CatKey → DirRecord → ℕ → Blocks → Type 0
-DeletesFolder result dir key folder now blocks = GivesPatch result blocks (MakesFolderDeletion dir key folder now)
+abbrev pub GivesFolderDeletion : {E : Type 0} → Result Numbered E → ℕ → CatKey → DirRecord → ℕ → Blocks → Type 0
+GivesFolderDeletion result dir key folder now blocks = GivesPatch result blocks (MakesFolderDeletion dir key folder now)

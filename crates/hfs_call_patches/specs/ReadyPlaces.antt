@@ -34,6 +34,6 @@ pub record IsReady (total : ℕ) (old : Blocks) (runs : List Run) (mdb : Mdb) (d
   pub inside : IsInFile (catalog_nodes old)
   pub records : (header_in (catalog_nodes old)).records < 2 ^ 32
 
--- so are these blocks
+-- the same of the blocks that a value shows
 abbrev pub IsReadyIn : {B : Type 0} → (B → ℕ) → (B → Blocks) → B → List Run → Mdb → ℕ → NewPlace → Type 0
 IsReadyIn total blocks b runs mdb dir place = IsReady (total b) (blocks b) runs mdb dir place

@@ -10,26 +10,26 @@ use Rattle.hfs_call_patches.specs.FileIds.{MakesCreateFileId, MakesDeleteFileId}
 use Rattle.hfs_call_patches.specs.Patches.{GivesPatch}
 use Rattle.hfs_call_patches.specs.Settings.{MakesSetFInfo, MakesSetFileInfo, MakesSetFolderInfo, MakesSetLock}
 
--- the first half of a file's Finder bytes
+-- the first half of a file's Finder bytes is set
 abbrev pub SetsFInfo : {E : Type 0} → Result Numbered E → CatKey → FileRecord → List ℕ → ℕ → Blocks → Type 0
 SetsFInfo result key file info now blocks = GivesPatch result blocks (MakesSetFInfo key file info now)
 
--- a file's dates and Finder bytes
+-- a file's dates and Finder bytes are set
 abbrev pub SetsFileInfo : {E : Type 0} → Result Numbered E → CatKey → FileRecord → ItemSettings → ℕ → Blocks → Type 0
 SetsFileInfo result key file set now blocks = GivesPatch result blocks (MakesSetFileInfo key file set now)
 
--- a folder's
+-- a folder's dates and Finder bytes are set
 abbrev pub SetsFolderInfo : {E : Type 0} → Result Numbered E → CatKey → DirRecord → ItemSettings → ℕ → Blocks → Type 0
 SetsFolderInfo result key folder set now blocks = GivesPatch result blocks (MakesSetFolderInfo key folder set now)
 
--- whether a file is locked
+-- a file is locked, or unlocked
 abbrev pub SetsLock : {E : Type 0} → Result Numbered E → Bool → CatKey → FileRecord → ℕ → Blocks → Type 0
 SetsLock result locked key file now blocks = GivesPatch result blocks (MakesSetLock locked key file now)
 
--- a file's thread, which comes
+-- a file gets a thread
 abbrev pub CreatesFileId : {E : Type 0} → Result Numbered E → CatKey → FileRecord → ℕ → Blocks → Type 0
 CreatesFileId result key file now blocks = GivesPatch result blocks (MakesCreateFileId key file now)
 
--- and which goes
+-- a file's thread goes
 abbrev pub DeletesFileId : {E : Type 0} → Result Numbered E → CatKey → FileRecord → ℕ → Blocks → Type 0
 DeletesFileId result key file now blocks = GivesPatch result blocks (MakesDeleteFileId key file now)

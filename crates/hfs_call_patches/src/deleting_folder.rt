@@ -7,7 +7,7 @@ ghost use Rattle.hfs_check.specs.Parts.{mdb_in, catalog_in};
 ghost use Rattle.hfs_check.specs.Sound.{AreBlocksSound};
 ghost use Rattle.hfs_call_patches.specs.Deleting.{IsParent, IsFolderToDelete};
 ghost use Rattle.hfs_call_patches.specs.TreeFiles.{IsCatalogFile};
-ghost use Rattle.hfs_call_patches.specs.Patches.{DeletesFolder};
+ghost use Rattle.hfs_call_patches.specs.Patches.{GivesFolderDeletion};
 
 use crate::catalog_patch::{close_catalog, open_catalog};
 use crate::dropping::drop_from_folder;
@@ -49,7 +49,7 @@ pub fn patch_delete_folder<B: Blocks>(
     requires mdb { mdb.now ≡ mdb_in (B.blocks below.now) }
     requires chosen { IsFolderToDelete (B.blocks below.now) dir key.now folder.now }
     requires parent { IsParent (catalog_in (B.blocks below.now)) dir parent.now valence }
-    ensures makes { DeletesFolder result dir key.now folder.now now (B.blocks below.now) }
+    ensures makes { GivesFolderDeletion result dir key.now folder.now now (B.blocks below.now) }
     ensures within { IfOk result (λ patch. AreWithin (changes patch) (B.total below.now)) }
 {
     trees_are_sound();
