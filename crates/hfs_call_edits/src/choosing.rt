@@ -10,7 +10,7 @@ use hfs_btree::Nodes;
 use hfs_catalog::{CatalogItem, ItemRecord};
 use hfs_fields::{CatKey, FileRecord, Mdb, Name};
 use hfs_model::{BAD_NAME, FILE_LOCKED, HARDWARE_LOCKED, NOT_FOUND, SOFTWARE_LOCKED};
-use hfs_queries::child_in;
+use hfs_queries::folder_child;
 
 /// The code that refuses each change of a locked volume.
 pub(crate) fn lock_code(mdb: &Mdb) -> Option<i16>
@@ -42,7 +42,7 @@ pub(crate) fn child_to_change<N: Nodes>(
     let Some(name) = Name::new(name) else {
         return Err(BAD_NAME);
     };
-    child_in(nodes, dir, &name)
+    folder_child(nodes, dir, &name)
 }
 
 /// The folder's file of that name, with its key, or the code that refuses to change it.

@@ -13,7 +13,7 @@ use Rattle.hfs_catalog.specs.Records.{Record, Catalog, item_with, is_child_of}
 use Rattle.hfs_catalog.specs.Sound.{IsSoundCatalog, IsRoot, IsGiven, HasPlace}
 use Rattle.hfs_catalog.specs.Lookups.{catalog_item, child_named, is_child_named}
 use Rattle.hfs_queries.specs.Folders.{HasId, found_with}
-use Rattle.hfs_queries.specs.Told.{only_folder, is_folder, child_in}
+use Rattle.hfs_queries.specs.Told.{only_folder, is_folder, folder_child}
 use Rattle.hfs_scans.specs.Members.{each_in, found_in}
 
 folder_with_id : (o : Option Record) → option_map_or (λ (r : Record). is_dir r.1) o false ≡ true → is_some (option_and_then only_folder o) ≡ true
@@ -46,13 +46,13 @@ module _ (next : ℕ) (catalog : Catalog) (sound : IsSoundCatalog next catalog) 
       (each_in _ catalog r sound.places.parents found.0 both.0)
 
   -- what the look-up found under 1 is the root
-  pub child_in-one : (dir : ℕ) (name : List ℕ) → dir ≡ 1 → Err NOT_A_FOLDER ≡ child_in catalog dir name
-  child_in-one dir name is =
+  pub folder_child-one : (dir : ℕ) (name : List ℕ) → dir ≡ 1 → Err NOT_A_FOLDER ≡ folder_child catalog dir name
+  folder_child-one dir name is =
       let none : is_folder catalog dir ≡ false = ap (is_folder catalog) is ∙ is_folder-one in
       ap (λ (b : Bool). cond (not b) (Err NOT_A_FOLDER) (ok_or (option_map catalog_item (child_named catalog dir name)) NOT_FOUND)) (sym none)
 
-  pub child_in-found : (dir : ℕ) (name : List ℕ) (item : CatalogItem) → Some item ≡ option_map catalog_item (child_named catalog dir name) → dir ≢ 1 → Ok item ≡ child_in catalog dir name
-  child_in-found dir name item is other =
+  pub folder_child-found : (dir : ℕ) (name : List ℕ) (item : CatalogItem) → Some item ≡ option_map catalog_item (child_named catalog dir name) → dir ≢ 1 → Ok item ≡ folder_child catalog dir name
+  folder_child-found dir name item is other =
       elim (child_named catalog dir name) as (λ (o : Option Record). child_named catalog dir name ≡ o → Some item ≡ option_map catalog_item o → Ok item ≡ cond (not (is_folder catalog dir)) (Err NOT_A_FOLDER) (ok_or (option_map catalog_item o) NOT_FOUND)) [
         | None ↦ λ e none. absurd (none-some item (sym none))
         | Some r ↦ λ e some.

@@ -93,8 +93,8 @@ abbrev pub is_folder : Catalog → ℕ → Bool
 is_folder catalog dir = is_some (folder_with catalog dir)
 
 -- the folder's item of that name: -120, -43
-abbrev pub child_in : Catalog → ℕ → List ℕ → Result CatalogItem ℤ
-child_in catalog dir name =
+abbrev pub folder_child : Catalog → ℕ → List ℕ → Result CatalogItem ℤ
+folder_child catalog dir name =
     if not (is_folder catalog dir) then Err NOT_A_FOLDER
     else ok_or (option_map catalog_item (child_named catalog dir name)) NOT_FOUND
 

@@ -7,6 +7,7 @@ mod reply;
 
 pub use laws::catalog_answers;
 pub use reading::{
-    child_in, file_named, folder, get_cat_info, get_dir_info, get_indexed, list, resolve_file_id,
+    file_named, folder, folder_child, get_cat_info, get_dir_info, get_indexed, list,
+    resolve_file_id,
 };
 pub use reply::{Detail, refusal, success};

@@ -8,7 +8,7 @@ ghost use Rattle.hfs_catalog.specs.Lookups.{catalog_item};
 ghost use Rattle.hfs_catalog.specs.Tree.{catalog_of};
 ghost use Rattle.hfs_space.specs.Results.{GivesItems};
 ghost use Rattle.hfs_queries.specs.Brief.{infos_in, listed_in};
-ghost use Rattle.hfs_queries.specs.Told.{IsCatalog, folder_with, child_in, dir_info, cat_info, indexed, resolved, file_named};
+ghost use Rattle.hfs_queries.specs.Told.{IsCatalog, folder_with, folder_child, dir_info, cat_info, indexed, resolved, file_named};
 
 use crate::reply::{Detail, item_info, refusal, success};
 use hfs_btree::Nodes;
@@ -40,9 +40,9 @@ const ABOVE_ROOT: u32 = 1;
 
 /// The folder's item of that name, or the code that says why there is none: -120 where there is no such folder, -43 where it has no
 /// such item. Where there is an item it is found by one look-up, for what holds an item is a folder, but for 1, which holds the root.
-pub fn child_in<N: Nodes>(nodes: &N, dir: u32, name: &Name) -> Result<CatalogItem, i16>
+pub fn folder_child<N: Nodes>(nodes: &N, dir: u32, name: &Name) -> Result<CatalogItem, i16>
     requires { IsCatalog (N.nodes nodes.now) }
-    ensures { result ≡ child_in (catalog_of (N.nodes nodes.now)) dir name.now }
+    ensures { result ≡ folder_child (catalog_of (N.nodes nodes.now)) dir name.now }
 {
     match lookup(nodes, dir, name) {
         Some(item) => {
@@ -79,7 +79,7 @@ pub fn get_cat_info<N: Nodes>(nodes: &N, dir: u32, name: &[u8]) -> Reply
     let Some(name) = Name::new(name) else {
         return refusal(BAD_NAME);
     };
-    match child_in(nodes, dir, &name) {
+    match folder_child(nodes, dir, &name) {
         Ok(item) => success(Value::One(item_info(nodes, &item, Detail::Full))),
         Err(code) => refusal(code),
     }
