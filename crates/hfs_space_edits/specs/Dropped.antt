@@ -1,5 +1,5 @@
 -- What a tree is from which records were taken, one after the other.
-use Rattle.std.specs.Prelude.{◌≡◌, ℕ, ◌+◌, ◌≤◌, length, drop, Result, OnOk}
+use Rattle.std.specs.Prelude.{◌≡◌, ℕ, ◌+◌, ◌≤◌, length, drop}
 use Rattle.hfs_btree.specs.declared.key.Key.{Ghosts}
 use Rattle.hfs_btree.specs.Tree.{Store}
 use Rattle.hfs_btree.specs.Header.{header_in, depth_of, free_nodes, tree_nodes}
@@ -27,7 +27,3 @@ pub record HasShrunk {K : Type 0} (g : Ghosts K) (old new : Store) : Type 0 wher
 pub record HasDroppedOverflow (file : ℕ) (old new : Store) : Type 0 where
   pub shrunk : HasShrunk ext_keys old new
   pub content : overflow_of new ≡ without_file file (overflow_of old)
-
--- what succeeds makes this of the nodes
-abbrev pub Edits : {T E V : Type 0} → Result T E → (Store → Store → Type 0) → (V → Store) → V → V → Type 0
-Edits result Made nodes old new = OnOk result (Made (nodes old) (nodes new))

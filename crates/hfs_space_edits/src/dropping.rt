@@ -3,7 +3,8 @@
 ghost use Rattle.std.specs.Prelude.{◌≡◌, OnOk};
 ghost use Rattle.hfs_space.specs.TreeKeys.{IsExtentsTree, overflow_of};
 ghost use Rattle.hfs_space_edits.specs.Overflows.{AreOfOthers, FindsKeyOf};
-ghost use Rattle.hfs_space_edits.specs.Dropped.{Edits, HasDroppedOverflow};
+ghost use Rattle.hfs_btree_edits.specs.Edits.{Edits};
+ghost use Rattle.hfs_space_edits.specs.Dropped.{HasDroppedOverflow};
 
 use hfs_btree::{Nodes, Walk};
 use hfs_btree_edits::NodesMut;
