@@ -5,6 +5,8 @@ use Rattle.std.specs.Option.{option_map}
 use Rattle.std.specs.BTreeMap as tree
 use Rattle.std.specs.FinMap as finite
 use Rattle.hfs_fields.specs.declared.mdb.Mdb.{Mdb}
+use Rattle.hfs_model.specs.declared.item.Kind.{Kind}
+use Rattle.hfs_model.specs.Changes.{cat_move, create, rename, set_cat_info}
 use Rattle.hfs_model.specs.Children.{is_folder, child_named, valence}
 use Rattle.hfs_model.specs.Volume.{Volume, Items, Entry}
 use Rattle.hfs_model.specs.FileIds.{with_thread_bit}
@@ -13,7 +15,7 @@ use Rattle.hfs_item_table.specs.declared.place.Place.{Place}
 use Rattle.hfs_item_table.specs.Places.{place_cmp}
 use Rattle.hfs_item_table.specs.declared.table.Table.{Table}
 use Rattle.hfs_item_table.specs.declared.table.Found.{Found}
-use Rattle.hfs_item_table.specs.Tables.{item_of, items_of, volume_of, IsTable, IsKindOf}
+use Rattle.hfs_item_table.specs.Tables.{item_of, items_of, kind_of, volume_of, IsTable, IsKindOf}
 use Rattle.hfs_item_table.specs.declared.row.Row.{Row}
 use Rattle.hfs_item_table.specs.declared.row.RowKind.{RowKind}
 use Rattle.hfs_item_table.specs.declared.row.RowKind.TheVariants.{Folder, File}
@@ -54,6 +56,10 @@ abbrev pub chosen_of : Table → Result Found ℤ → Result Entry ℤ
 chosen_of t (Ok f) = Ok (f.id, item_of t.base t.mdb f.row.now)
 chosen_of t (Err code) = Err code
 
+-- what is chosen in the table's volume is this, or the same code
+abbrev pub Chooses : Table → (Volume → Result Entry ℤ) → Result Found ℤ → Type 0
+Chooses t choice found = choice (volume_of t) ≡ chosen_of t found
+
 -- an item was chosen, and the table has it
 abbrev pub IsFound : Table → Found → Type 0
 IsFound t f = Has (items_of t) f.id (item_of t.base t.mdb f.row.now)
@@ -62,6 +68,26 @@ IsFound t f = Has (items_of t) f.id (item_of t.base t.mdb f.row.now)
 pub record Leaves (t : Table) (v : Volume) : Type 0 where
   pub table : IsTable t
   pub volume : volume_of t ≡ v
+
+-- the dates and the Finder bytes of the folder's item of that name are set
+abbrev pub SetsCatInfo : ℕ → List ℕ → ℕ → ℕ → ℕ → List ℕ → ℕ → Table → Table → Type 0
+SetsCatInfo dir name created modified backup info now old new = Leaves new (set_cat_info (volume_of old) dir name created modified backup info now).0
+
+-- an item of that kind is made under the folder
+abbrev pub Adds : Kind → ℕ → List ℕ → ℕ → Table → Table → Type 0
+Adds kind dir name now old new = Leaves new (create kind (volume_of old) dir name now).0
+
+-- the same of a row's kind
+abbrev pub AddsRow : RowKind → ℕ → List ℕ → ℕ → Table → Table → Type 0
+AddsRow kind dir name now old new = Adds (kind_of old.base old.mdb kind) dir name now old new
+
+-- the folder's item of that name gets the new one
+abbrev pub Renames : ℕ → List ℕ → List ℕ → ℕ → Table → Table → Type 0
+Renames dir name new_name now old new = Leaves new (rename (volume_of old) dir name new_name now).0
+
+-- the folder's item of that name comes to the new folder
+abbrev pub MovesItem : ℕ → List ℕ → ℕ → ℕ → Table → Table → Type 0
+MovesItem dir name new_dir now old new = Leaves new (cat_move (volume_of old) dir name new_dir now).0
 
 -- ---- one more child
 

@@ -1,7 +1,9 @@
 -- The items that rows stand for.
-use Rattle.std.specs.Prelude.{◌≡◌, ℕ, ◌*◌, ◌≤◌, IsTrue, List, map, Some}
+use Rattle.std.specs.Prelude.{◌≡◌, ℕ, ◌*◌, ◌≤◌, Bool, IsTrue, List, map, Option, Some}
+use Rattle.std.specs.Borrow.{Bor}
 use Rattle.std.specs.Ordering.{nat_cmp}
 use Rattle.std.specs.List.{All}
+use Rattle.std.specs.Option.{option_map}
 use Rattle.std.specs.FinMap as finite
 use Rattle.std.specs.BTreeMap as tree
 use Rattle.hfs_fields.specs.declared.mdb.Mdb.{Mdb}
@@ -12,7 +14,8 @@ use Rattle.hfs_model.specs.declared.item.File.{File}
 use Rattle.hfs_model.specs.declared.item.Kind.{Kind}
 use Rattle.hfs_model.specs.declared.item.Kind.TheVariants as kind
 use Rattle.hfs_model.specs.Volume.{Volume, Items, Entry}
-use Rattle.hfs_model.specs.Children.{valence}
+use Rattle.hfs_model.specs.Children.{entry_at, child_named, valence}
+use Rattle.hfs_model.specs.Choices.{is_bad_move}
 use Rattle.hfs_model.specs.Lawful.{Has}
 use Rattle.hfs_space.specs.Extents.{AreExtentsWithin, block_total}
 use Rattle.hfs_space.specs.Forks.{fork_bytes}
@@ -25,6 +28,7 @@ use Rattle.hfs_item_table.specs.declared.row.RowKind.{RowKind}
 use Rattle.hfs_item_table.specs.declared.row.RowKind.TheVariants.{Folder, File as FileRow}
 use Rattle.hfs_item_table.specs.declared.row.RowFile.{RowFile}
 use Rattle.hfs_item_table.specs.declared.row.RowFork.{RowFork}
+use Rattle.hfs_item_table.specs.declared.table.Found.{Found}
 use Rattle.hfs_item_table.specs.declared.table.Table.{Table}
 use Rattle.hfs_item_table.specs.Places.{place_cmp, place}
 
@@ -58,6 +62,22 @@ table_entries t = finite.entries (items_of t)
 -- the item of a row of the table, with its ID
 abbrev pub row_entry : Table → ℕ → Row → Entry
 row_entry t id r = (id, item_of t.base t.mdb r)
+
+-- what is found is the row of the table's item of that ID
+abbrev pub FindsRow : Table → ℕ → Option (Bor Row) → Type 0
+FindsRow t id found = entry_at (table_entries t) id ≡ option_map (λ r. row_entry t id r.now) found
+
+-- what is found is the row of the folder's item of that name
+abbrev pub FindsChild : Table → ℕ → List ℕ → Option Found → Type 0
+FindsChild t dir name found = child_named (table_entries t) dir name ≡ option_map (λ f. row_entry t f.id f.row.now) found
+
+-- a move to that folder would put the row's item into itself
+abbrev pub moves_into_itself : Table → ℕ → Row → ℕ → Bool
+moves_into_itself t id r dir = is_bad_move (table_entries t) (row_entry t id r) dir
+
+-- the bytes of a fork of the table
+abbrev pub bytes_in : Table → RowFork → List ℕ
+bytes_in t fork = bytes_of t.base t.mdb fork
 
 -- the volume of a table
 abbrev pub volume_of : Table → Volume

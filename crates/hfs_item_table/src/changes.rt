@@ -1,12 +1,12 @@
 //! What each change makes of a table. A change that `step` refuses leaves it.
-ghost use Rattle.std.specs.Prelude.{◌≡◌, IsTrue, OnOk, OnErr};
-ghost use Rattle.hfs_model.specs.Changes.{set_f_info, set_cat_info, set_lock, create, delete, new_file, new_folder};
+ghost use Rattle.std.specs.Prelude.{IsTrue, OnOk, OnErr};
+ghost use Rattle.hfs_model.specs.Changes.{set_f_info, set_lock, delete, new_file, new_folder};
 ghost use Rattle.hfs_model.specs.FileIds.{create_file_id, delete_file_id};
 ghost use Rattle.hfs_model.specs.Lawful.{AreLawful};
 ghost use Rattle.hfs_model.specs.Step.{step};
-ghost use Rattle.hfs_item_table.specs.Edits.{Leaves, IsNew};
+ghost use Rattle.hfs_item_table.specs.Edits.{Adds, AddsRow, Leaves, IsNew, SetsCatInfo};
 ghost use Rattle.hfs_item_table.specs.InPlace.{is_in_place};
-ghost use Rattle.hfs_item_table.specs.Tables.{kind_of, items_of, volume_of, IsTable};
+ghost use Rattle.hfs_item_table.specs.Tables.{items_of, volume_of, IsTable};
 
 use crate::edits;
 use crate::edits::new_row;
@@ -43,7 +43,7 @@ impl Table {
         now: u32,
     )
         requires { IsTable self.old }
-        ensures { Leaves self.new (set_cat_info (volume_of self.old) dir name.now created modified backup info now).0 }
+        ensures { SetsCatInfo dir name.now created modified backup info now self.old self.new }
     {
         let id = match self.to_set_cat_info(dir, name) {
             Ok(found) => found.id,
@@ -98,7 +98,7 @@ impl Table {
         requires table { IsTable self.old }
         requires lawful { AreLawful (items_of self.old) self.old.next_id }
         requires kind { IsNew self.old.mdb kind }
-        ensures ok { OnOk result (Leaves self.new (create (kind_of self.old.base self.old.mdb kind) (volume_of self.old) dir name.now now).0) }
+        ensures ok { OnOk result (AddsRow kind dir name.now now self.old self.new) }
         ensures err { OnErr result (Leaves self.new (volume_of self.old)) }
     {
         let id = match self.to_create(dir, name) {
@@ -133,7 +133,7 @@ impl Table {
     ) -> Result<(), AllocError>
         requires table { IsTable self.old }
         requires lawful { AreLawful (items_of self.old) self.old.next_id }
-        ensures ok { OnOk result (Leaves self.new (create new_file (volume_of self.old) dir name.now now).0) }
+        ensures ok { OnOk result (Adds new_file dir name.now now self.old self.new) }
         ensures err { OnErr result (Leaves self.new (volume_of self.old)) }
     {
         let kind = edits::new_file(alloc);
@@ -144,7 +144,7 @@ impl Table {
     pub fn dir_create(&mut self, dir: u32, name: &[u8], now: u32) -> Result<(), AllocError>
         requires table { IsTable self.old }
         requires lawful { AreLawful (items_of self.old) self.old.next_id }
-        ensures ok { OnOk result (Leaves self.new (create new_folder (volume_of self.old) dir name.now now).0) }
+        ensures ok { OnOk result (Adds new_folder dir name.now now self.old self.new) }
         ensures err { OnErr result (Leaves self.new (volume_of self.old)) }
     {
         let kind = edits::new_folder();

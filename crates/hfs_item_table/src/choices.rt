@@ -1,11 +1,11 @@
 //! What a change first chooses: an item, an ID, or the code that refuses it.
 ghost use Rattle.std.specs.Prelude.{◌≡◌, length, true, IsTrue, IfOk, OnOk};
 ghost use Rattle.hfs_fields.specs.Names.{is_item_name};
-ghost use Rattle.hfs_model.specs.Choices.{is_locked, lock_code, child_to_change, file_to_change, to_set_f_info, to_set_cat_info, to_create, to_delete, to_rename, to_move, is_busy, is_full, is_held, is_taken, lies_in, is_bad_move};
+ghost use Rattle.hfs_model.specs.Choices.{is_locked, lock_code, child_to_change, file_to_change, to_set_f_info, to_set_cat_info, to_create, to_delete, to_rename, to_move, is_busy, is_full, is_held, is_taken, lies_in};
 ghost use Rattle.hfs_model.specs.Children.{is_folder};
 ghost use Rattle.hfs_model.specs.FileIds.{file_of_id, to_create_file_id, to_delete_file_id};
-ghost use Rattle.hfs_item_table.specs.Edits.{chosen_of, IsFound, MayAdd};
-ghost use Rattle.hfs_item_table.specs.Tables.{volume_of, IsTable, table_entries, row_entry, IsKindIn};
+ghost use Rattle.hfs_item_table.specs.Edits.{Chooses, chosen_of, IsFound, MayAdd};
+ghost use Rattle.hfs_item_table.specs.Tables.{volume_of, IsTable, table_entries, row_entry, IsKindIn, moves_into_itself};
 
 use crate::row::{Row, RowKind};
 use crate::table::{Found, Table};
@@ -37,7 +37,7 @@ impl Table {
     #[tactic(auto, unfolding(hfs_model::specs::Choices::child_to_change))]
     pub(crate) fn child_to_change(&self, dir: u32, name: &[u8]) -> Result<Found<'_>, i16>
         requires { IsTable self.now }
-        ensures choice { child_to_change (volume_of self.now) dir name.now ≡ chosen_of self.now result }
+        ensures choice { Chooses self.now (λ v. child_to_change v dir name.now) result }
         ensures found { IfOk result (IsFound self.now) }
         ensures sound { IfOk result (λ f. IsKindIn self.now f.id f.row.now.kind) }
         ensures named { OnOk result (IsTrue (is_item_name name.now)) }
@@ -61,7 +61,7 @@ impl Table {
     #[tactic(auto, unfolding(hfs_model::specs::Choices::file_to_change))]
     pub(crate) fn file_to_change(&self, dir: u32, name: &[u8]) -> Result<Found<'_>, i16>
         requires { IsTable self.now }
-        ensures choice { file_to_change (volume_of self.now) dir name.now ≡ chosen_of self.now result }
+        ensures choice { Chooses self.now (λ v. file_to_change v dir name.now) result }
         ensures found { IfOk result (IsFound self.now) }
     {
         let found = match self.child_to_change(dir, name) {
@@ -77,7 +77,7 @@ impl Table {
     #[tactic(auto, unfolding(hfs_model::specs::Choices::to_set_f_info))]
     pub(crate) fn to_set_f_info(&self, dir: u32, name: &[u8]) -> Result<Found<'_>, i16>
         requires { IsTable self.now }
-        ensures choice { to_set_f_info (volume_of self.now) dir name.now ≡ chosen_of self.now result }
+        ensures choice { Chooses self.now (λ v. to_set_f_info v dir name.now) result }
         ensures found { IfOk result (IsFound self.now) }
     {
         let found = match self.file_to_change(dir, name) {
@@ -93,7 +93,7 @@ impl Table {
     #[tactic(auto, unfolding(hfs_model::specs::Choices::to_set_cat_info))]
     pub(crate) fn to_set_cat_info(&self, dir: u32, name: &[u8]) -> Result<Found<'_>, i16>
         requires { IsTable self.now }
-        ensures choice { to_set_cat_info (volume_of self.now) dir name.now ≡ chosen_of self.now result }
+        ensures choice { Chooses self.now (λ v. to_set_cat_info v dir name.now) result }
         ensures found { IfOk result (IsFound self.now) }
     {
         let found = match self.child_to_change(dir, name) {
@@ -127,7 +127,7 @@ impl Table {
     #[tactic(auto, unfolding(hfs_model::specs::FileIds::to_create_file_id))]
     pub(crate) fn to_create_file_id(&self, dir: u32, name: &[u8]) -> Result<Found<'_>, i16>
         requires { IsTable self.now }
-        ensures choice { to_create_file_id (volume_of self.now) dir name.now ≡ chosen_of self.now result }
+        ensures choice { Chooses self.now (λ v. to_create_file_id v dir name.now) result }
         ensures found { IfOk result (IsFound self.now) }
     {
         let found = match self.child_to_change(dir, name) {
@@ -145,7 +145,7 @@ impl Table {
     #[tactic(auto, unfolding(hfs_model::specs::FileIds::to_delete_file_id))]
     pub(crate) fn to_delete_file_id(&self, id: u32) -> Result<Found<'_>, i16>
         requires { IsTable self.now }
-        ensures choice { to_delete_file_id (volume_of self.now) id ≡ chosen_of self.now result }
+        ensures choice { Chooses self.now (λ v. to_delete_file_id v id) result }
         ensures found { IfOk result (IsFound self.now) }
     {
         if self.is_locked() {
@@ -169,7 +169,7 @@ impl Table {
     #[tactic(auto, unfolding(hfs_model::specs::Choices::to_delete))]
     pub(crate) fn to_delete(&self, dir: u32, name: &[u8]) -> Result<Found<'_>, i16>
         requires { IsTable self.now }
-        ensures choice { to_delete (volume_of self.now) dir name.now ≡ chosen_of self.now result }
+        ensures choice { Chooses self.now (λ v. to_delete v dir name.now) result }
         ensures found { IfOk result (IsFound self.now) }
     {
         let found = match self.child_to_change(dir, name) {
@@ -199,7 +199,7 @@ impl Table {
     #[tactic(auto, unfolding(hfs_model::specs::Choices::to_rename, hfs_model::specs::Choices::to_set_cat_info))]
     pub(crate) fn to_rename(&self, dir: u32, name: &[u8], new_name: &[u8]) -> Result<Found<'_>, i16>
         requires { IsTable self.now }
-        ensures choice { to_rename (volume_of self.now) dir name.now new_name.now ≡ chosen_of self.now result }
+        ensures choice { Chooses self.now (λ v. to_rename v dir name.now new_name.now) result }
         ensures found { IfOk result (IsFound self.now) }
         ensures named { OnOk result (IsTrue (is_item_name new_name.now)) }
     {
@@ -251,7 +251,7 @@ impl Table {
     #[tactic(auto, unfolding(hfs_model::specs::Choices::is_bad_move))]
     fn is_bad_move(&self, id: u32, row: &Row, dir: u32) -> bool
         requires { IsTable self.now }
-        ensures { result ≡ is_bad_move (table_entries self.now) (row_entry self.now id row.now) dir }
+        ensures { result ≡ moves_into_itself self.now id row.now dir }
     {
         match &row.kind {
             RowKind::Folder { .. } => self.lies_in(self.item_count(), dir, id),
@@ -262,7 +262,7 @@ impl Table {
     #[tactic(auto, unfolding(hfs_model::specs::Choices::to_move))]
     pub(crate) fn to_move(&self, dir: u32, name: &[u8], new_dir: u32) -> Result<Found<'_>, i16>
         requires { IsTable self.now }
-        ensures choice { to_move (volume_of self.now) dir name.now new_dir ≡ chosen_of self.now result }
+        ensures choice { Chooses self.now (λ v. to_move v dir name.now new_dir) result }
         ensures found { IfOk result (IsFound self.now) }
     {
         let found = match self.child_to_change(dir, name) {

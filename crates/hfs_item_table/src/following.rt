@@ -2,9 +2,7 @@
 ghost use Rattle.std.specs.Prelude.{◌≡◌, IfSome, Some};
 ghost use Rattle.std.specs.Ordering.{nat_cmp};
 ghost use Rattle.std.specs.BTreeMap as tree;
-ghost use Rattle.std.specs.Option.{option_map};
-ghost use Rattle.hfs_model.specs.Children.{entry_at};
-ghost use Rattle.hfs_item_table.specs.Tables.{HasRows, IsTable, table_entries, row_entry, IsKindIn};
+ghost use Rattle.hfs_item_table.specs.Tables.{FindsRow, HasRows, IsTable, IsKindIn};
 
 use crate::row::Row;
 use crate::table::Table;
@@ -39,7 +37,7 @@ impl Table {
     ) -> Option<&'a Row>
         requires table { IsTable self.now }
         requires rows { HasRows self.now rows.old }
-        ensures entry { entry_at (table_entries self.now) id ≡ option_map (λ r. row_entry self.now id r.now) result }
+        ensures entry { FindsRow self.now id result }
         ensures sound { IfSome result (λ r. IsKindIn self.now id r.now.kind) }
         ensures rows { HasRows self.now rows.new }
     {

@@ -1,7 +1,6 @@
 //! Items that get another name, or stand in another folder. A change that `step` refuses leaves the table.
 ghost use Rattle.std.specs.Prelude.{OnOk, OnErr};
-ghost use Rattle.hfs_model.specs.Changes.{rename, cat_move};
-ghost use Rattle.hfs_item_table.specs.Edits.{Leaves};
+ghost use Rattle.hfs_item_table.specs.Edits.{Leaves, MovesItem, Renames};
 ghost use Rattle.hfs_item_table.specs.Tables.{volume_of, IsTable};
 
 use crate::edits;
@@ -20,7 +19,7 @@ impl Table {
         now: u32,
     ) -> Result<(), AllocError>
         requires { IsTable self.old }
-        ensures ok { OnOk result (Leaves self.new (rename (volume_of self.old) dir name.now new_name.now now).0) }
+        ensures ok { OnOk result (Renames dir name.now new_name.now now self.old self.new) }
         ensures err { OnErr result (Leaves self.new (volume_of self.old)) }
     {
         let found = match self.to_rename(dir, name, new_name) {
@@ -53,7 +52,7 @@ impl Table {
         now: u32,
     ) -> Result<(), AllocError>
         requires { IsTable self.old }
-        ensures ok { OnOk result (Leaves self.new (cat_move (volume_of self.old) dir name.now new_dir now).0) }
+        ensures ok { OnOk result (MovesItem dir name.now new_dir now self.old self.new) }
         ensures err { OnErr result (Leaves self.new (volume_of self.old)) }
     {
         let found = match self.to_move(dir, name, new_dir) {

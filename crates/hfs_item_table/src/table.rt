@@ -1,14 +1,13 @@
 //! Rows by their IDs, and their IDs by the places of their items.
-ghost use Rattle.std.specs.Prelude.{◌≡◌, ◌+◌, ◌<◌, ◌^◌, IfSome, IfOk, [], pos, nat_lt, slice_get, if◌then◌else◌};
-ghost use Rattle.hfs_model.specs.declared.codes.TheConstants.{END_OF_FILE};
-ghost use Rattle.hfs_model.specs.declared.reply.Value.TheVariants as value;
-ghost use Rattle.std.specs.Option.{option_map};
-ghost use Rattle.hfs_model.specs.Children.{entry_at, child_named, is_folder};
+ghost use Rattle.std.specs.Prelude.{◌≡◌, ◌+◌, ◌<◌, ◌^◌, IfSome, IfOk, slice_get};
+ghost use Rattle.hfs_model.specs.Children.{is_folder};
 ghost use Rattle.hfs_model.specs.FileIds.{resolve_file_id};
 ghost use Rattle.hfs_model.specs.Lawful.{IsLawful};
 ghost use Rattle.hfs_model.specs.Reading.{get_dir_info, get_cat_info, get_indexed, list, read_fork, part_of};
 ghost use Rattle.hfs_model.specs.Replies.{refusal, success, info_of, infos};
-ghost use Rattle.hfs_item_table.specs.Tables.{bytes_of, volume_of, IsForkIn, IsTable, table_entries, row_entry, IsKindIn, HasItemOf};
+ghost use Rattle.hfs_space.specs.Results.{Gives};
+ghost use Rattle.hfs_volume.specs.ForkParts.{part_reply};
+ghost use Rattle.hfs_item_table.specs.Tables.{FindsChild, FindsRow, bytes_in, volume_of, IsForkIn, IsTable, table_entries, row_entry, IsKindIn, HasItemOf};
 
 use crate::place::Place;
 use crate::row::{Row, RowFork, RowKind};
@@ -60,7 +59,7 @@ fn success(value: Value) -> Reply
 /// The reply of these bytes, which were read from an offset on of a fork that has `length` bytes: -39 where `count` of them
 /// end behind the fork.
 fn part_reply(bytes: Vec<u8>, size: u32, offset: u32, count: u32) -> Reply
-    ensures { result ≡ record { code = if nat_lt size (offset + count) then END_OF_FILE else pos 0; value = value.Bytes bytes.items } }
+    ensures { result ≡ part_reply bytes.items size offset count }
 {
     let code = if u64::from(size) < u64::from(offset) + u64::from(count) {
         END_OF_FILE
@@ -85,7 +84,7 @@ impl Table {
     /// The row of an ID.
     pub(crate) fn row(&self, id: u32) -> Option<&Row>
         requires { IsTable self.now }
-        ensures entry { entry_at (table_entries self.now) id ≡ option_map (λ r. row_entry self.now id r.now) result }
+        ensures entry { FindsRow self.now id result }
         ensures sound { IfSome result (λ r. IsKindIn self.now id r.now.kind) }
         ensures has { IfSome result (λ r. HasItemOf self.now id r.now) }
     {
@@ -141,7 +140,7 @@ impl Table {
     /// The folder's item of that name.
     pub(crate) fn child(&self, dir: u32, name: &Name) -> Option<Found<'_>>
         requires { IsTable self.now }
-        ensures entry { child_named (table_entries self.now) dir name.now ≡ option_map (λ f. row_entry self.now f.id f.row.now) result }
+        ensures entry { FindsChild self.now dir name.now result }
         ensures sound { IfSome result (λ f. IsKindIn self.now f.id f.row.now.kind) }
         ensures has { IfSome result (λ f. HasItemOf self.now f.id f.row.now) }
     {
@@ -293,7 +292,7 @@ impl Table {
     ) -> Result<Reply, AllocError>
         requires table { IsTable self.now }
         requires fork { IsForkIn self.now.mdb fork.now }
-        ensures { IfOk result (λ reply. reply ≡ part_of (bytes_of self.now.base self.now.mdb fork.now) offset count) }
+        ensures { Gives (part_of (bytes_in self.now fork.now) offset count) result }
     {
         let rest = fork.size.saturating_sub(offset);
         let bytes = self
@@ -314,7 +313,7 @@ impl Table {
         count: u32,
     ) -> Result<Reply, AllocError>
         requires { IsTable self.now }
-        ensures { IfOk result (λ reply. reply ≡ read_fork (table_entries self.now) dir name.now fork offset count) }
+        ensures { Gives (read_fork (table_entries self.now) dir name.now fork offset count) result }
     {
         if count > 65536 {
             return Ok(refusal(PARAMETER));

@@ -11,9 +11,13 @@ pub record ImageValue : Type 0 where
   pub current : List ℕ
   pub changed : List ℕ
 
+-- the bytes, with the changed blocks in place of their own
+abbrev pub patched : Numbered → List ℕ → List ℕ
+patched changed bytes = laid_over (changes changed) bytes
+
 -- an image with these blocks changed
 abbrev pub image_of : List ℕ → Numbered → ImageValue
-image_of base changed = record { base = base; current = laid_over (changes changed) base; changed = numbers changed }
+image_of base changed = record { base = base; current = patched changed base; changed = numbers changed }
 
 -- block n is kept as changed
 abbrev pub is_changed : ImageValue → ℕ → Bool

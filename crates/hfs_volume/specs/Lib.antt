@@ -9,3 +9,4 @@ pub mod Sharing
 pub mod Serving
 pub mod Steps
 pub mod ForkParts
+pub mod Refusals

@@ -9,7 +9,9 @@ use Rattle.hfs_check.specs.Parts.{catalog_nodes}
 use Rattle.hfs_check.specs.VolumeOf.{volume_of, contents_in}
 use Rattle.hfs_fields.specs.declared.file_record.FileRecord.{FileRecord}
 use Rattle.hfs_model.specs.declared.call.Fork.{Fork}
+use Rattle.hfs_model.specs.declared.reply.Reply.{Reply}
 use Rattle.hfs_model.specs.Children.{entries_of}
+use Rattle.hfs_model.specs.Reading.{read_fork}
 use Rattle.hfs_model.specs.Volume.{Entry}
 use Rattle.hfs_catalog.specs.Records.{Catalog}
 use Rattle.hfs_queries.specs.Queries.{AreEntries}
@@ -32,6 +34,10 @@ outcome_in image c = step_within (free_in image) (depth_in image) (volume_of ima
 -- the entries of the image's volume
 abbrev pub entries_in : List ℕ → List Entry
 entries_in image = entries_of (volume_of image)
+
+-- the reply with a part of a fork of the image
+abbrev pub fork_reply : List ℕ → ℕ → List ℕ → Fork → ℕ → ℕ → Reply
+fork_reply image dir name fork offset count = read_fork (entries_in image) dir name fork offset count
 
 -- the bytes that one of a file's forks has in the image
 abbrev pub fork_in : List ℕ → Fork → FileRecord → List ℕ

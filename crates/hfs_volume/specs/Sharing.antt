@@ -1,5 +1,6 @@
 -- What those who read beside the writer take from a mounted volume.
 use Rattle.std.specs.Prelude.{◌≡◌, ℕ, IsTrue, List, length, take, Some}
+use Rattle.std.proofs.Common.{Vec, Global}
 use Rattle.hfs_fields.specs.declared.extent.Extent.{Extent}
 use Rattle.hfs_fields.specs.declared.file_record.FileRecord.{FileRecord}
 use Rattle.hfs_fields.specs.Records.{is_file, file_record_of}
@@ -14,10 +15,12 @@ use Rattle.hfs_model.specs.Reading.{fork_of}
 use Rattle.hfs_model.specs.Volume.{Volume}
 use Rattle.hfs_space.specs.Extents as extents
 use Rattle.hfs_space.specs.ForkLengths.{all_bytes}
-use Rattle.hfs_space.specs.Forks.{fork_bytes}
+use Rattle.hfs_space.specs.Forks.{fork_bytes, read_from}
 use Rattle.hfs_catalog.specs.Records.{Record, Catalog, item_with}
 use Rattle.hfs_check.specs.Agree.{Agrees}
 use Rattle.hfs_check.specs.Parts.{Blocks, mdb_in, overflow_in, catalog_in}
+use Rattle.hfs_check.specs.VolumeOf.{volume_of}
+use Rattle.hfs_volume.specs.Image.{ImageValue}
 use Rattle.hfs_volume.specs.Mounted.{fork_record}
 
 -- all extents of one of a file's forks
@@ -57,6 +60,10 @@ AreExtentsOf blocks id fork es = (r : Record) → IsFileOf (catalog_in blocks) i
 abbrev pub bytes_of_extents : List ℕ → List Extent → List ℕ
 bytes_of_extents image es = all_bytes (block_at image) (mdb_in (block_at image)) es
 
+-- those from an offset on: so many of them, or as many as there are
+abbrev pub part_of_extents : List ℕ → List Extent → ℕ → ℕ → List ℕ
+part_of_extents image es offset count = read_from (bytes_of_extents image es) offset count
+
 -- their bytes in a base begin with those of a fork of the file of that ID
 abbrev pub HaveFork : List ℕ → Volume → ℕ → Fork → List Extent → Type 0
 HaveFork base v id fork es = (file : File) → HasFile v id file → fork_of fork file ≡ take (length (fork_of fork file)) (bytes_of_extents base es)
@@ -64,3 +71,11 @@ HaveFork base v id fork es = (file : File) → HasFile v id file → fork_of for
 -- these extents lie in the volume of an image
 abbrev pub AreExtentsIn : List ℕ → List Extent → Type 0
 AreExtentsIn image es = extents.AreExtentsWithin (mdb_in (block_at image)).allocation_blocks es
+
+-- they are all extents of a fork of the image's file of that ID
+abbrev pub AreForkExtents : List ℕ → ℕ → Fork → Vec Extent Global → Type 0
+AreForkExtents image id fork es = AreExtentsOf (block_at image) id fork es.items
+
+-- their bytes in the base begin with those of a fork of the image's file of that ID
+abbrev pub BeginWithFork : ImageValue → ℕ → Fork → Vec Extent Global → Type 0
+BeginWithFork image id fork es = HaveFork image.base (volume_of image.current) id fork es.items

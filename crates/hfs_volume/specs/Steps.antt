@@ -1,5 +1,6 @@
 -- What the edit of a call makes of an image.
 use Rattle.std.specs.Prelude.{◌≡◌, ℕ, List, [], ◌∷◌, Result, Ok}
+use Rattle.std.proofs.Common.{Vec, Global}
 use Rattle.hfs_blocks.specs.Blocks.{block_at, block_count}
 use Rattle.hfs_model.specs.declared.call.Call.{Call}
 use Rattle.hfs_model.specs.declared.reply.Reply.{Reply}
@@ -27,9 +28,17 @@ IsEditOn c image edit = IsEditOf c (block_count image) (block_at image) edit
 abbrev pub IsAfter : List ℕ → Change → Volume → Type 0
 IsAfter image change v = (c : Call) → IsEditOn c image (Ok change) → v ≡ (step (volume_of image) c).0
 
+-- the image's volume is the one of each call that makes the change
+abbrev pub IsImageAfter : List ℕ → Change → List ℕ → Type 0
+IsImageAfter image change next = IsAfter image change (volume_of next)
+
 -- the outcome is the one of each call whose edit this is
 abbrev pub IsOutcome : List ℕ → Result Change Refusal → Outcome → Type 0
 IsOutcome image edit outcome = (c : Call) → IsEditOn c image edit → outcome ≡ outcome_in image c
+
+-- the edit of the old image has this reply, and leaves the new one
+abbrev pub IsEditReply : Result Change Refusal → List ℕ → List ℕ → Reply → Type 0
+IsEditReply edit old new reply = IsOutcome old edit (volume_of new, reply)
 
 -- the reply of what refuses a call
 abbrev pub refusal_reply : Refusal → Reply
@@ -42,9 +51,17 @@ refusal_reply (refused.Full free depth) = full free depth
 abbrev pub IsMade : List ℕ → Call → Reply → List ℕ → Type 0
 IsMade image c reply next = (volume_of next, reply) ≡ outcome_in image c
 
+-- the call has this reply of the old image, and leaves the new one
+abbrev pub IsReplyTo : Call → List ℕ → List ℕ → Reply → Type 0
+IsReplyTo c old new reply = IsMade old c reply new
+
 -- the replies of calls that were made of an image one after the other, each of what those before it left, and the last image
 abbrev pub AreMade : List ℕ → List Call → List Reply → List ℕ → Type 0
 AreMade image [] [] last = image ≡ last
 AreMade image [] (reply ∷ replies) last = ⊥
 AreMade image (c ∷ cs) [] last = ⊥
 AreMade image (c ∷ cs) (reply ∷ replies) last = (next : List ℕ) × IsMade image c reply next × AreMade next cs replies last
+
+-- the calls have these replies of the old image, and leave the new one
+abbrev pub AreRepliesTo : List Call → List ℕ → List ℕ → Vec Reply Global → Type 0
+AreRepliesTo cs old new replies = AreMade old cs replies.items new

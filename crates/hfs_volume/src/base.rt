@@ -1,9 +1,9 @@
 //! Bytes that never change, shared by those who read them.
 
 ghost use Rattle.std.specs.Prelude.{◌≡◌, ◌≤◌, length, IfOk, IfErr};
-ghost use Rattle.hfs_space.specs.Forks.{read_from};
+ghost use Rattle.hfs_space.specs.Results.{GivesItems};
 ghost use Rattle.hfs_check.specs.Sound.{IsSound};
-ghost use Rattle.hfs_volume.specs.Sharing.{bytes_of_extents, AreExtentsIn};
+ghost use Rattle.hfs_volume.specs.Sharing.{part_of_extents, AreExtentsIn};
 
 use crate::extent_bytes::read_extents;
 use hfs_blocks::ImageBytes;
@@ -61,7 +61,7 @@ impl Base {
     ) -> Result<Vec<u8>, AllocError>
         requires sound { IsSound self.now }
         requires extents { AreExtentsIn self.now extents.now }
-        ensures { IfOk result (λ bytes. bytes.items ≡ read_from (bytes_of_extents self.now extents.now) offset count) }
+        ensures { GivesItems (part_of_extents self.now extents.now offset count) result }
     {
         let blocks = ImageBytes {
             bytes: self.bytes(),

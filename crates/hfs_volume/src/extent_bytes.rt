@@ -1,9 +1,9 @@
 //! Bytes of extents, from any offset on.
 
-ghost use Rattle.std.specs.Prelude.{◌≡◌, ◌-◌, ◌*◌, IfOk};
+ghost use Rattle.std.specs.Prelude.{◌≡◌, ◌-◌, ◌*◌};
 ghost use Rattle.hfs_space.specs.Extents.{block_total, AreExtentsWithin};
-ghost use Rattle.hfs_space.specs.ForkLengths.{all_bytes};
-ghost use Rattle.hfs_space.specs.Forks.{HasArea, blocks_each, read_from};
+ghost use Rattle.hfs_space.specs.Forks.{HasArea, blocks_each};
+ghost use Rattle.hfs_volume.specs.ForkParts.{GivesExtentBytes};
 
 use hfs_blocks::Blocks;
 use hfs_fields::{Extent, Mdb};
@@ -35,7 +35,7 @@ pub(crate) fn read_extents<B: Blocks>(
 ) -> Result<Vec<u8>, AllocError>
     requires area { HasArea mdb.now (B.total blocks.now) }
     requires extents { AreExtentsWithin mdb.now.allocation_blocks extents.now }
-    ensures { IfOk result (λ bytes. bytes.items ≡ read_from (all_bytes (B.blocks blocks.now) mdb.now extents.now) offset count) }
+    ensures { GivesExtentBytes (B.blocks blocks.now) mdb.now extents.now offset count result }
 {
     let each = u64::from(mdb.allocation_block_size / 512);
     let lack = lacking(mdb, extents, u64::from(offset) + u64::from(count));

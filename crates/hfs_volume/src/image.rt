@@ -1,13 +1,11 @@
 //! An image: its bytes as they were opened, and the blocks that were changed since.
 
 ghost use Rattle.std.specs.Prelude.{◌≡◌, [], ◌<◌, ◌≤◌, ◌^◌, length, IfOk, IfErr, OnOk, OnErr, nat_eq};
-ghost use Rattle.std.specs.Io.KnownBytes.{Appends};
 ghost use Rattle.std.specs.List.{IsDistinct};
 ghost use Rattle.hfs_blocks.specs.Blocks.{block_at, block_count, length-block_at, few-block_count};
 ghost use Rattle.hfs_blocks.specs.Layers.{changes, AreWithin};
-ghost use Rattle.hfs_volume.specs.Image.{HasKept, IsSameBeside};
-ghost use Rattle.hfs_volume.specs.Laid.{laid_over};
-ghost use Rattle.hfs_volume.specs.Saving.{HasWritten};
+ghost use Rattle.hfs_volume.specs.Image.{HasKept, IsSameBeside, patched};
+ghost use Rattle.hfs_volume.specs.Saving.{WritesAll, BreaksOff};
 
 use crate::base::Base;
 use crate::saving::{SaveFault, save_laid};
@@ -89,7 +87,7 @@ impl Image {
     /// Lays a patch over the image. At an error the bytes are as they were. The bytes as they were opened stay.
     pub fn commit(&mut self, patch: &Patch) -> Result<(), AllocError>
         requires { AreWithin (changes patch.now) (block_count self.old.current) }
-        ensures current { OnOk result (self.new.current ≡ laid_over (changes patch.now) self.old.current) }
+        ensures current { OnOk result (self.new.current ≡ patched patch.now self.old.current) }
         ensures changed { OnOk result (HasKept self.old (changes patch.now) self.new) }
         ensures unchanged { OnErr result (self.new.current ≡ self.old.current) }
         ensures base { self.new.base ≡ self.old.base }
@@ -103,8 +101,8 @@ impl Image {
 
     /// Writes the bytes as they are now. Takes no memory. At a fault the first of them went out, and no others.
     pub fn save<W: Write>(&self, writer: &mut W) -> Result<(), SaveFault>
-        ensures ok { OnOk result (Appends (W.contents writer.old) (W.contents writer.new) self.now.current) }
-        ensures err { IfErr result (λ fault. HasWritten (W.contents writer.old) (W.contents writer.new) fault.written self.now.current) }
+        ensures ok { WritesAll result W.contents writer.old writer.new self.now.current }
+        ensures err { BreaksOff result W.contents writer.old writer.new self.now.current }
     {
         let base = self.base.bytes();
         let count = (base.len() / 512) as u32;

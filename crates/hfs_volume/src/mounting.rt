@@ -1,9 +1,8 @@
 //! Mounting.
 
 ghost use Rattle.std.specs.Prelude.{◌≡◌, [], IfOk, IfErr, OnOk};
-ghost use Rattle.hfs_check.specs.Answers.{IsFaultOf};
-ghost use Rattle.hfs_check.specs.Faults.{fault_of};
 ghost use Rattle.hfs_check.specs.Sound.{IsSound};
+ghost use Rattle.hfs_volume.specs.Refusals.{HasFaultOf};
 
 use crate::image::Image;
 use crate::volume::Volume;
@@ -28,7 +27,7 @@ pub fn mount(alloc: Global, image: Vec<u8>) -> Result<Volume, Refused>
     ensures base { IfOk result (λ volume. volume.base ≡ image.items) }
     ensures current { IfOk result (λ volume. volume.current ≡ image.items) }
     ensures changed { IfOk result (λ volume. volume.changed ≡ []) }
-    ensures fault { IfErr result (λ refused. IsFaultOf (fault_of image.items) refused.fault) }
+    ensures fault { IfErr result (HasFaultOf image.items) }
     ensures given { IfErr result (λ refused. refused.image ≡ image) }
 {
     agrees_with_itself();

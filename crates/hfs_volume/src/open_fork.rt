@@ -1,10 +1,10 @@
 //! A file's fork that is read from its beginning on.
 
 ghost use Rattle.std.specs.Prelude.{◌≡◌, ◌%◌, length, take, drop, IfOk, OnOk, OnErr};
-ghost use Rattle.hfs_blocks.specs.Blocks.{block_at, block_count};
+ghost use Rattle.hfs_blocks.specs.Blocks.{block_count};
 ghost use Rattle.hfs_space.specs.Forks.{HasArea};
 ghost use Rattle.hfs_space.specs.TreeKeys.{IsExtentsTree};
-ghost use Rattle.hfs_volume.specs.ForkParts.{IsForkOf, bytes_of_fork};
+ghost use Rattle.hfs_volume.specs.ForkParts.{IsForkOf, GivesFork};
 
 use crate::image::ImageBlocks;
 use hfs_btree::Nodes;
@@ -63,7 +63,7 @@ impl<'a> OpenFork<'a> {
         requires whole_size { mdb.now.allocation_block_size % 512 ≡ 0 }
         requires tree { IsExtentsTree (N.nodes tree.now) }
         requires fork { IsForkOf mdb.now (N.nodes tree.now) file kind fork.now }
-        ensures { IfOk result (λ source. source ≡ bytes_of_fork (block_at blocks.entry.image.now.current) mdb.now (N.nodes tree.now) file kind fork.now) }
+        ensures { GivesFork blocks.entry mdb.now (N.nodes tree.now) file kind fork.now result }
     {
         let extents = fork_extents(alloc, tree, file, kind, &fork.extents)?;
         Ok(OpenFork {

@@ -1,13 +1,12 @@
 //! Mounting of images that are right but for their counts.
 
 ghost use Rattle.std.specs.Prelude.{◌≡◌, [], IfOk, IfErr, OnOk};
-ghost use Rattle.hfs_check.specs.Answers.{IsFaultOf};
-ghost use Rattle.hfs_check.specs.Faults.{fault_of};
 ghost use Rattle.hfs_check.specs.Repair.{repair};
 ghost use Rattle.hfs_check.specs.Sound.{IsSound};
 ghost use Rattle.hfs_repair.specs.Fixes.{AreFixes};
 ghost use Rattle.hfs_repair.specs.Placed.{wrong_in};
 ghost use Rattle.hfs_repair.specs.Puts.{put_back};
+ghost use Rattle.hfs_volume.specs.Refusals.{HasFaultOf};
 
 use crate::mounting::{Refused, mount};
 use crate::volume::Volume;
@@ -40,7 +39,7 @@ pub fn mount_repaired(alloc: Global, image: Vec<u8>) -> Result<(Volume, Vec<Fix>
     ensures current { IfOk result (λ mounted. mounted.0.current ≡ repair image.items) }
     ensures changed { IfOk result (λ mounted. mounted.0.changed ≡ []) }
     ensures fixes { IfOk result (λ mounted. AreFixes (wrong_in image.items) mounted.1.items) }
-    ensures fault { IfErr result (λ refused. IsFaultOf (fault_of (repair image.items)) refused.fault) }
+    ensures fault { IfErr result (HasFaultOf (repair image.items)) }
     ensures given { IfErr result (λ refused. refused.image.items ≡ image.items) }
 {
     let mut image = image;

@@ -1,11 +1,10 @@
 //! Writing an image to any writer, which takes no memory.
 
-ghost use Rattle.std.specs.Prelude.{◌≡◌, ℕ, ◌-◌, ◌*◌, ◌<◌, ◌≤◌, OnOk, IfErr, is_some, false, IsSome};
-ghost use Rattle.std.specs.Io.KnownBytes.{Appends};
+ghost use Rattle.std.specs.Prelude.{◌≡◌, ℕ, ◌-◌, ◌*◌, ◌<◌, ◌≤◌, IfErr, is_some, false, IsSome};
 ghost use Rattle.hfs_blocks.specs.Blocks.{block_count};
 ghost use Rattle.hfs_blocks.specs.Layers.{changes, AreWithin};
-ghost use Rattle.hfs_volume.specs.Laid.{laid_over};
-ghost use Rattle.hfs_volume.specs.Saving.{HasWritten, bytes_between};
+ghost use Rattle.hfs_volume.specs.Image.{patched};
+ghost use Rattle.hfs_volume.specs.Saving.{WritesAll, WritesFirst, BreaksOff, bytes_between};
 
 use hfs_blocks::Patch;
 use std::io::{ErrorKind, Write};
@@ -21,8 +20,8 @@ pub struct SaveFault {
 
 /// Writes the bytes. At an error, says how many of the first went out.
 fn write_counted<W: Write>(writer: &mut W, bytes: &[u8]) -> Result<(), usize>
-    ensures ok { OnOk result (Appends (W.contents writer.old) (W.contents writer.new) bytes.now) }
-    ensures err { IfErr result (λ done. HasWritten (W.contents writer.old) (W.contents writer.new) done bytes.now) }
+    ensures ok { WritesAll result W.contents writer.old writer.new bytes.now }
+    ensures err { IfErr result (WritesFirst W.contents writer.old writer.new bytes.now) }
 {
     let mut done = 0;
     for _turn in 0..u64::MAX {
@@ -65,7 +64,7 @@ fn piece<'a>(changed: &'a Patch, base: &'a [u8], n: u32, count: u32) -> (&'a [u8
     requires within { AreWithin (changes changed.now) (block_count base.now) }
     ensures after { n < result.1 }
     ensures within { result.1 ≤ count }
-    ensures bytes { result.0.now ≡ bytes_between n result.1 (laid_over (changes changed.now) base.now) }
+    ensures bytes { result.0.now ≡ bytes_between n result.1 (patched changed.now base.now) }
 {
     let end = next_changed(changed, n, count);
     if n < end {
@@ -89,8 +88,8 @@ pub(crate) fn save_laid<W: Write>(
 ) -> Result<(), SaveFault>
     requires count { count ≡ block_count base.now }
     requires within { AreWithin (changes changed.now) (block_count base.now) }
-    ensures ok { OnOk result (Appends (W.contents writer.old) (W.contents writer.new) (laid_over (changes changed.now) base.now)) }
-    ensures err { IfErr result (λ fault. HasWritten (W.contents writer.old) (W.contents writer.new) fault.written (laid_over (changes changed.now) base.now)) }
+    ensures ok { WritesAll result W.contents writer.old writer.new (patched changed.now base.now) }
+    ensures err { BreaksOff result W.contents writer.old writer.new (patched changed.now base.now) }
 {
     let mut n = 0;
     while n < count {

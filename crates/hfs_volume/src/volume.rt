@@ -1,9 +1,8 @@
 //! A mounted volume.
 
-ghost use Rattle.std.specs.Prelude.{◌≡◌, ◌≢◌, pos, length, nat_eq, false, IsTrue, Ok, IfOk, IfErr, OnOk, OnErr};
-ghost use Rattle.std.specs.Io.KnownBytes.{Appends};
+ghost use Rattle.std.specs.Prelude.{◌≡◌, ◌≢◌, pos, length, nat_eq, false, IsTrue, Ok, IfOk, OnOk, OnErr};
 ghost use Rattle.std.specs.List.{IsDistinct};
-ghost use Rattle.hfs_model.specs.Reading.{get_dir_info, get_cat_info, get_indexed, list, read_fork, part_of};
+ghost use Rattle.hfs_model.specs.Reading.{get_dir_info, get_cat_info, get_indexed, list, part_of};
 ghost use Rattle.hfs_model.specs.FileIds.{resolve_file_id};
 ghost use Rattle.hfs_model.specs.Replies.{success};
 ghost use Rattle.hfs_model.specs.Step.{step, is_reading};
@@ -13,11 +12,12 @@ ghost use Rattle.hfs_check.specs.Sound.{IsSound};
 ghost use Rattle.hfs_check.specs.VolumeOf.{volume_of};
 ghost use Rattle.hfs_blocks.specs.Blocks.{block_at};
 ghost use Rattle.hfs_queries.specs.Brief.{without_ids};
+ghost use Rattle.hfs_space.specs.Results.{Gives};
 ghost use Rattle.hfs_volume.specs.Image.{IsSameBeside};
 ghost use Rattle.hfs_volume.specs.Opening.{opened_fork};
-ghost use Rattle.hfs_volume.specs.Saving.{HasWritten};
-ghost use Rattle.hfs_volume.specs.Serving.{AreEntriesIn, entries_in, fork_in};
-ghost use Rattle.hfs_volume.specs.Steps.{IsEditIn, IsAfter, IsOutcome, AreMade, IsMade};
+ghost use Rattle.hfs_volume.specs.Saving.{WritesAll, BreaksOff};
+ghost use Rattle.hfs_volume.specs.Serving.{AreEntriesIn, entries_in, fork_in, fork_reply};
+ghost use Rattle.hfs_volume.specs.Steps.{IsEditIn, IsEditReply, IsImageAfter, IsReplyTo, AreRepliesTo};
 ghost use Rattle.hfs_queries.specs.Told.{IsCatalog};
 ghost use Rattle.hfs_volume.specs.Mounted.{IsMounted, AreForksIn};
 
@@ -118,7 +118,7 @@ impl Volume {
     ///
     /// Source: Inside Macintosh: Files, chapter 2, "High-Level HFS Routines" and "Low-Level HFS Routines".
     pub fn call(&mut self, alloc: Global, call: &Call) -> Result<Reply, AllocError>
-        ensures outcome { IfOk result (λ reply. IsMade self.old.current call.now reply self.new.current) }
+        ensures outcome { IfOk result (IsReplyTo call.now self.old.current self.new.current) }
         ensures refused { IfOk result (λ reply. reply.code ≢ pos 0 → self.new ≡ self.old) }
         ensures reading { IsTrue (is_reading call.now) → self.new ≡ self.old }
         ensures unchanged { OnErr result (self.new.current ≡ self.old.current) }
@@ -136,7 +136,7 @@ impl Volume {
     /// Answers calls one after the other: the replies in order. The only error is want of memory, where the calls
     /// before the one that it met have been made.
     pub fn run(&mut self, alloc: Global, calls: &[Call]) -> Result<Vec<Reply>, AllocError>
-        ensures made { IfOk result (λ replies. AreMade self.old.current calls.now replies.items self.new.current) }
+        ensures made { IfOk result (AreRepliesTo calls.now self.old.current self.new.current) }
         ensures base { self.new.base ≡ self.old.base }
     {
         let mut replies = Vec::new(alloc);
@@ -181,7 +181,7 @@ impl Volume {
     /// The reply to `list` with `has_id` false in each item: no thread is looked up, which is most of the work of `list`. The
     /// only error is want of memory.
     pub fn list_in_brief(&self, alloc: Global, dir: u32) -> Result<Reply, AllocError>
-        ensures { IfOk result (λ reply. reply ≡ without_ids (list (entries_in self.now.current) dir)) }
+        ensures { Gives (without_ids (list (entries_in self.now.current) dir)) result }
     {
         queries::list(alloc, &self.catalog_nodes(), dir, Detail::Brief)
     }
@@ -206,7 +206,7 @@ impl Volume {
         offset: u32,
         count: u32,
     ) -> Result<Reply, AllocError>
-        ensures { IfOk result (λ reply. reply ≡ read_fork (entries_in self.now.current) dir name.now fork offset count) }
+        ensures { Gives (fork_reply self.now.current dir name.now fork offset count) result }
     {
         if count > 65536 {
             return Ok(refusal(PARAMETER));
@@ -227,7 +227,7 @@ impl Volume {
         count: u32,
     ) -> Result<Reply, AllocError>
         requires { AreForksIn (block_at self.now.current) file.now }
-        ensures { IfOk result (λ reply. reply ≡ part_of (fork_in self.now.current fork file.now) offset count) }
+        ensures { Gives (part_of (fork_in self.now.current fork file.now) offset count) result }
     {
         trees_are_sound();
         let (kind, record) = fork_record(file, fork);
@@ -253,7 +253,7 @@ impl Volume {
         name: &[u8],
         fork: Fork,
     ) -> Result<Opened<'_>, AllocError>
-        ensures { IfOk result (λ opened. opened ≡ opened_fork (entries_in self.now.current) dir name.now fork) }
+        ensures { Gives (opened_fork (entries_in self.now.current) dir name.now fork) result }
     {
         match queries::file_named(&self.catalog_nodes(), dir, name) {
             Ok(file) => Ok(Opened::Fork(self.open_file(alloc, &file, fork)?)),
@@ -287,8 +287,8 @@ impl Volume {
     /// Writes the image's bytes as they are now, what follows the last whole block too. Takes no memory. At a fault the first
     /// of them went out, and no others.
     pub fn save<W: Write>(&self, writer: &mut W) -> Result<(), SaveFault>
-        ensures ok { OnOk result (Appends (W.contents writer.old) (W.contents writer.new) self.now.current) }
-        ensures err { IfErr result (λ fault. HasWritten (W.contents writer.old) (W.contents writer.new) fault.written self.now.current) }
+        ensures ok { WritesAll result W.contents writer.old writer.new self.now.current }
+        ensures err { BreaksOff result W.contents writer.old writer.new self.now.current }
     {
         self.image.save(writer)
     }
@@ -306,7 +306,7 @@ impl Volume {
     /// Answers a call that changes the volume.
     fn change(&mut self, alloc: Global, call: &Call) -> Result<Reply, AllocError>
         requires { is_reading call.now ≡ false }
-        ensures outcome { IfOk result (λ reply. IsMade self.old.current call.now reply self.new.current) }
+        ensures outcome { IfOk result (IsReplyTo call.now self.old.current self.new.current) }
         ensures refused { IfOk result (λ reply. reply.code ≢ pos 0 → self.new ≡ self.old) }
         ensures unchanged { OnErr result (self.new.current ≡ self.old.current) }
         ensures base { self.new.base ≡ self.old.base }
@@ -321,7 +321,7 @@ impl Volume {
     /// Makes of the image what some call makes of it, and answers the call.
     fn make(&mut self, edit: Result<Change, Refusal>) -> Result<Reply, AllocError>
         requires { IsEditIn self.old.current edit }
-        ensures outcome { IfOk result (λ reply. IsOutcome self.old.current edit (volume_of self.new.current, reply)) }
+        ensures outcome { IfOk result (IsEditReply edit self.old.current self.new.current) }
         ensures refused { IfOk result (λ reply. reply.code ≢ pos 0 → self.new ≡ self.old) }
         ensures unchanged { OnErr result (self.new.current ≡ self.old.current) }
         ensures base { self.new.base ≡ self.old.base }
@@ -335,7 +335,7 @@ impl Volume {
     /// Lays a change over the image. The volume's own master directory block follows when nothing can go wrong any more.
     fn commit(&mut self, change: Change) -> Result<Reply, AllocError>
         requires { IsEditIn self.old.current (Ok change) }
-        ensures volume { OnOk result (IsAfter self.old.current change (volume_of self.new.current)) }
+        ensures volume { OnOk result (IsImageAfter self.old.current change self.new.current) }
         ensures reply { IfOk result (λ reply. reply ≡ success change.value) }
         ensures unchanged { OnErr result (self.new.current ≡ self.old.current) }
         ensures base { self.new.base ≡ self.old.base }

@@ -6,7 +6,8 @@ ghost use Rattle.hfs_check.specs.Agree.{Agrees};
 ghost use Rattle.hfs_check.specs.Parts.{mdb_in, catalog_in};
 ghost use Rattle.hfs_check.specs.Sound.{IsSound};
 ghost use Rattle.hfs_check.specs.VolumeOf.{volume_of};
-ghost use Rattle.hfs_volume.specs.Sharing.{file_extents, IsFileId, AreExtentsOf, HaveFork, AreExtentsIn};
+ghost use Rattle.hfs_space.specs.Results.{GivesItems};
+ghost use Rattle.hfs_volume.specs.Sharing.{file_extents, IsFileId, AreForkExtents, BeginWithFork, AreExtentsIn};
 
 use super::Volume;
 use crate::base::Base;
@@ -86,7 +87,7 @@ impl Volume {
         file: &FileRecord,
         fork: Fork,
     ) -> Result<Vec<Extent>, AllocError>
-        ensures { IfOk result (λ extents. extents.items ≡ file_extents (block_at self.now.current) fork file.now) }
+        ensures { GivesItems (file_extents (block_at self.now.current) fork file.now) result }
     {
         trees_are_sound();
         let _image = &self.image;
@@ -99,9 +100,9 @@ impl Volume {
     /// is want of memory.
     pub fn extents(&self, alloc: Global, id: u32, fork: Fork) -> Result<Vec<Extent>, AllocError>
         requires { IsFileId (volume_of self.now.current) id }
-        ensures extents { IfOk result (λ extents. AreExtentsOf (block_at self.now.current) id fork extents.items) }
+        ensures extents { IfOk result (AreForkExtents self.now.current id fork) }
         ensures within { IfOk result (λ extents. AreExtentsIn self.now.base extents.items) }
-        ensures bytes { IfOk result (λ extents. HaveFork self.now.base (volume_of self.now.current) id fork extents.items) }
+        ensures bytes { IfOk result (BeginWithFork self.now id fork) }
     {
         items_are_records();
         file_forks_stay();
