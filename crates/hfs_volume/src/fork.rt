@@ -48,7 +48,9 @@ pub(crate) fn read_part<B: Blocks, N: Nodes>(
     requires whole_size { mdb.now.allocation_block_size % 512 ≡ 0 }
     requires tree { IsExtentsTree (N.nodes tree.now) }
     requires fork { IsForkOf mdb.now (N.nodes tree.now) file kind fork.now }
-    ensures { IfOk result (λ reply. reply ≡ part_of (bytes_of_fork (B.blocks blocks.now) mdb.now (N.nodes tree.now) file kind fork.now) offset count) }
+    ensures { IfOk result (λ reply. reply ≡ part_of
+        (bytes_of_fork (B.blocks blocks.now) mdb.now (N.nodes tree.now) file kind fork.now)
+        offset count) }
 {
     let extents = fork_extents(alloc, tree, file, kind, &fork.extents)?;
     let bytes = read_fork(alloc, blocks, mdb, &extents, fork.length, offset, count)?;
