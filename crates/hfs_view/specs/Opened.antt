@@ -1,14 +1,19 @@
 -- The rows that a catalog's records make.
-use Rattle.std.specs.Prelude.{◌≡◌, ℕ, Bool, IsTrue, nat_eq, List, ◌∷◌, Some}
+use Rattle.std.specs.Prelude.{◌≡◌, ℕ, ◌||◌, Bool, IsTrue, nat_eq, List, ◌∷◌, Some}
 use Rattle.std.specs.List.{list_any}
 use Rattle.std.specs.Ordering.{nat_cmp}
 use Rattle.std.specs.Option.{option_map}
 use Rattle.std.specs.FinMap as finite
 use Rattle.std.specs.BTreeMap as tree
 use Rattle.hfs_blocks.specs.Blocks.{block_at}
+use Rattle.hfs_fields.specs.declared.dir_record.DirRecord.{DirRecord}
+use Rattle.hfs_fields.specs.declared.file_record.FileRecord.{FileRecord}
+use Rattle.hfs_fields.specs.declared.key.CatKey.{CatKey}
 use Rattle.hfs_fields.specs.declared.mdb.Mdb.{Mdb}
 use Rattle.hfs_fields.specs.Records.{is_dir, is_file, item_id, is_bit_set, dir_record_of, file_record_of}
+use Rattle.hfs_model.specs.declared.call.Fork.{Fork}
 use Rattle.hfs_model.specs.declared.item.Item.{Item}
+use Rattle.hfs_scans.specs.Each.{Each}
 use Rattle.hfs_model.specs.Volume.{Items}
 use Rattle.hfs_model.specs.Children.{valence}
 use Rattle.hfs_catalog.specs.Records.{Record, Catalog, item_with, has_thread}
@@ -17,10 +22,12 @@ use Rattle.hfs_catalog.specs.Items as records
 use Rattle.hfs_catalog.specs.Lookups.{child_named}
 use Rattle.hfs_check.specs.Parts.{mdb_in, catalog_in}
 use Rattle.hfs_check.specs.VolumeOf.{contents_in, volume_of}
-use Rattle.hfs_volume.specs.Sharing.{ForksStay}
+use Rattle.hfs_volume.specs.Image.{ImageValue}
+use Rattle.hfs_volume.specs.Sharing.{ForksStay, file_extents}
 use Rattle.hfs_volume.specs.Mounted.{AreForksIn}
 use Rattle.hfs_item_table.specs.declared.place.Place.{Place}
 use Rattle.hfs_item_table.specs.declared.row.Row.{Row}
+use Rattle.hfs_item_table.specs.declared.row.RowFork.{RowFork}
 use Rattle.hfs_view.specs.declared.opening.Maps.{Maps}
 use Rattle.hfs_item_table.specs.declared.table.Table.{Table}
 use Rattle.hfs_item_table.specs.Places.{place, place_cmp}
@@ -29,6 +36,10 @@ use Rattle.hfs_item_table.specs.Tables.{item_of, IsKindOf}
 -- whether the number is one of these
 abbrev pub has_number : List ℕ → ℕ → Bool
 has_number numbers id = list_any (nat_eq id) numbers
+
+-- the new numbers are the old ones, and those that pass the test
+abbrev pub AddsNumbers : (ℕ → Bool) → List ℕ → List ℕ → Type 0
+AddsNumbers passes old new = (k : ℕ) → has_number new k ≡ (has_number old k || passes k)
 
 -- these are the IDs of which the records have a thread
 abbrev pub AreThreadsOf : Catalog → List ℕ → Type 0
@@ -47,6 +58,33 @@ pub record IsRight (base image : List ℕ) (items : Items) (r : Record) : Type 0
 -- a record of an image, as its volume is
 abbrev pub IsRightIn : List ℕ → List ℕ → Record → Type 0
 IsRightIn base image r = IsRight base image (volume_of image).items r
+
+-- the records of an image over its base are right
+abbrev pub AreRight : ImageValue → Type 0
+AreRight image = Each (IsRightIn image.base image.current) (image_catalog image.current)
+
+-- ---- the rows of records
+
+-- the row shows the folder of this record, whatever the base
+abbrev pub ShowsFolder : CatKey → DirRecord → Row → Type 0
+ShowsFolder key folder row = (base : List ℕ) (mdb : Mdb) → item_of base mdb row ≡ records.folder_of key folder
+
+-- it has the number of the children, where the record has it
+abbrev pub HasChildrenOf : DirRecord → Row → Type 0
+HasChildrenOf folder row = (items : Items) (mdb : Mdb) (id : ℕ) → folder.valence ≡ valence (finite.entries items) id → IsKindOf items mdb id row.kind
+
+-- it has all extents of the file's fork in the image
+abbrev pub HasExtents : List ℕ → Fork → FileRecord → RowFork → Type 0
+HasExtents image fork file row = row.extents.items ≡ file_extents (block_at image) fork file
+
+-- the row shows the file of this record, with a thread or without one
+abbrev pub ShowsFile : ImageValue → Bool → CatKey → FileRecord → Row → Type 0
+ShowsFile image threaded key file row =
+    item_of image.base (mdb_in (block_at image.current)) row ≡ records.file_of threaded (contents_in (block_at image.current) file) key file
+
+-- its forks lie in the image's volume
+abbrev pub HasForksIn : List ℕ → Row → Type 0
+HasForksIn image row = (items : Items) (id : ℕ) → IsKindOf items (mdb_in (block_at image)) id row.kind
 
 -- the row shows this item, and has its children's number or forks that lie in the volume
 pub record Shows (base : List ℕ) (mdb : Mdb) (items : Items) (id : ℕ) (item : Item) (row : Row) : Type 0 where
@@ -76,6 +114,14 @@ AreRowsOf base image done maps =
 -- the row of one record more, where the record is an item's
 abbrev pub TakesIn : List ℕ → List ℕ → Record → Maps → Maps → Type 0
 TakesIn base image r old new = (done : Catalog) → AreRowsOf base image done old → AreRowsOf base image (r ∷ done) new
+
+-- the same over the image's base
+abbrev pub TakesRecord : ImageValue → Record → Maps → Maps → Type 0
+TakesRecord image r old new = TakesIn image.base image.current r old new
+
+-- these are the rows of all records of an image, over its base
+abbrev pub AreAllRows : ImageValue → Maps → Type 0
+AreAllRows image maps = AreRowsOf image.base image.current (image_catalog image.current) maps
 
 -- the table of these rows, in a volume whose master directory block this is
 abbrev pub table_over : List ℕ → Mdb → Maps → Table

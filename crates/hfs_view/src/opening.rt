@@ -1,20 +1,10 @@
 //! The rows of a volume's catalog.
-ghost use Rattle.std.specs.Prelude.{◌≡◌, ℕ, [], ◌∷◌, ◌++◌, List, IfOk, OnOk};
-ghost use Rattle.std.specs.FinMap as finite;
-ghost use Rattle.hfs_fields.specs.declared.mdb.Mdb.{Mdb};
+ghost use Rattle.std.specs.Prelude.{◌≡◌, ◌++◌, IfOk, OnOk};
 ghost use Rattle.hfs_blocks.specs.Blocks.{block_at};
-ghost use Rattle.hfs_scans.specs.Each.{Each};
-ghost use Rattle.hfs_catalog.specs.Items as records;
-ghost use Rattle.hfs_catalog.specs.Items.{folder_kept, folder_of, file_of};
-ghost use Rattle.hfs_catalog.specs.Records.{has_thread};
-ghost use Rattle.hfs_check.specs.Parts.{mdb_in, catalog_in};
-ghost use Rattle.hfs_check.specs.VolumeOf.{contents_in};
-ghost use Rattle.hfs_model.specs.Volume.{Items};
+ghost use Rattle.hfs_check.specs.Parts.{catalog_in};
 ghost use Rattle.hfs_volume.specs.Mounted.{fork_record, AreForksIn};
-ghost use Rattle.hfs_volume.specs.Sharing.{file_extents, ForksStay};
-ghost use Rattle.hfs_view.specs.Opened.{Enters, AreRowsOf, table_over, AreThreadsOf, image_catalog, IsRightIn, TakesIn};
-ghost use Rattle.hfs_model.specs.Children.{valence};
-ghost use Rattle.hfs_item_table.specs.Tables.{item_of, IsKindOf};
+ghost use Rattle.hfs_volume.specs.Sharing.{ForksStay};
+ghost use Rattle.hfs_view.specs.Opened.{AreAllRows, AreRight, AreThreadsOf, Enters, HasChildrenOf, HasExtents, HasForksIn, IsRightIn, ShowsFile, ShowsFolder, TakesRecord, image_catalog, table_over};
 
 use crate::kept::{file_kept, folder_kept};
 use crate::locks::{is_hardware_locked, is_software_locked};
@@ -47,8 +37,8 @@ fn finder_bytes(info: &[u8; 16], extended: &[u8; 16]) -> [u8; 32]
 /// The row of a folder's record.
 #[tactic(auto, unfolding(hfs_catalog::specs::Items::folder_of))]
 fn folder_row(key: &CatKey, folder: &DirRecord) -> Row
-    ensures shows { (base : List ℕ) (mdb : Mdb) → item_of base mdb result ≡ folder_of key.now folder.now }
-    ensures kind { (items : Items) (mdb : Mdb) (id : ℕ) → folder.now.valence ≡ valence (finite.entries items) id → IsKindOf items mdb id result.kind }
+    ensures shows { ShowsFolder key.now folder.now result }
+    ensures kind { HasChildrenOf folder.now result }
 {
     Row {
         parent: key.parent,
@@ -71,7 +61,7 @@ fn fork_row(
     file: &FileRecord,
     fork: Fork,
 ) -> Result<RowFork, AllocError>
-    ensures extents { IfOk result (λ f. f.extents.items ≡ file_extents (block_at volume.now.current) fork file.now) }
+    ensures extents { IfOk result (HasExtents volume.now.current fork file.now) }
     ensures size { IfOk result (λ f. f.size ≡ (fork_record fork file.now).1.length) }
 {
     let extents = volume.file_extents(alloc, file, fork)?;
@@ -92,8 +82,8 @@ fn file_row(
 ) -> Result<Row, AllocError>
     requires forks { AreForksIn (block_at volume.now.current) file.now }
     requires stay { ForksStay volume.now.base volume.now.current file.now }
-    ensures shows { IfOk result (λ r. item_of volume.now.base (mdb_in (block_at volume.now.current)) r ≡ file_of has_thread (contents_in (block_at volume.now.current) file.now) key.now file.now) }
-    ensures kind { IfOk result (λ r. (items : Items) (id : ℕ) → IsKindOf items (mdb_in (block_at volume.now.current)) id r.kind) }
+    ensures shows { IfOk result (ShowsFile volume.now has_thread key.now file.now) }
+    ensures kind { IfOk result (HasForksIn volume.now.current) }
 {
     let data = fork_row(alloc, volume, file, Fork::DataFork)?;
     let resource = fork_row(alloc, volume, file, Fork::ResFork)?;
@@ -135,7 +125,7 @@ impl Maps {
     ) -> Result<(), AllocError>
         requires right { IsRightIn volume.now.base volume.now.current entry.now }
         requires threads { AreThreadsOf (image_catalog volume.now.current) threads.now }
-        ensures { OnOk result (TakesIn volume.now.base volume.now.current entry.now self.old self.new) }
+        ensures { OnOk result (TakesRecord volume.now entry.now self.old self.new) }
     {
         let key = entry.key();
         let body = entry.body();
@@ -163,9 +153,9 @@ impl Maps {
         records: Vec<CatalogRecord>,
     ) -> Result<Maps, AllocError>
         requires records { records.items ≡ catalog_in (block_at volume.now.current) }
-        requires right { Each (IsRightIn volume.now.base volume.now.current) (image_catalog volume.now.current) }
+        requires right { AreRight volume.now }
         requires threads { AreThreadsOf (image_catalog volume.now.current) threads.now }
-        ensures { IfOk result (AreRowsOf volume.now.base volume.now.current (image_catalog volume.now.current)) }
+        ensures { IfOk result (AreAllRows volume.now) }
     {
         let mut records = records;
         let mut maps = Maps {

@@ -1,7 +1,7 @@
 //! The IDs of which a catalog has a thread record.
-ghost use Rattle.std.specs.Prelude.{◌≡◌, ℕ, ◌||◌, nat_eq, OnOk, IfOk};
+ghost use Rattle.std.specs.Prelude.{◌≡◌, nat_eq, OnOk, IfOk};
 ghost use Rattle.hfs_catalog.specs.Records.{is_thread_of};
-ghost use Rattle.hfs_view.specs.Opened.{has_number, AreThreadsOf};
+ghost use Rattle.hfs_view.specs.Opened.{AddsNumbers, has_number, AreThreadsOf};
 
 use hfs_catalog::{CatalogRecord, is_thread};
 use std::alloc::{AllocError, Global};
@@ -38,7 +38,7 @@ impl ThreadIds {
 
     /// Takes the ID of a record, if it is a thread.
     fn take(&mut self, entry: &CatalogRecord) -> Result<(), AllocError>
-        ensures { OnOk result ((id : ℕ) → has_number self.new id ≡ (has_number self.old id || is_thread_of id entry.now)) }
+        ensures { OnOk result (AddsNumbers (λ id. is_thread_of id entry.now) self.old self.new) }
     {
         if is_thread(entry.body()) {
             self.add(entry.key().parent)?;
@@ -48,7 +48,7 @@ impl ThreadIds {
 
     /// Puts an ID into the set. The only error is want of memory.
     fn add(&mut self, id: u32) -> Result<(), AllocError>
-        ensures { OnOk result ((k : ℕ) → has_number self.new k ≡ (has_number self.old k || nat_eq id k)) }
+        ensures { OnOk result (AddsNumbers (nat_eq id) self.old self.new) }
     {
         self.ids.insert(id)?;
         Ok(())
