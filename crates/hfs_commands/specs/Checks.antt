@@ -1,10 +1,11 @@
 -- What is printed of an image's checks.
-use Rattle.std.specs.Prelude.{ℕ, List, ◌++◌, Option, Some, None, codes}
+use Rattle.std.specs.Prelude.{◌≡◌, ℕ, List, ◌++◌, Option, Some, None, codes, String, string_bytes}
 use Rattle.std.specs.Fmt.{decimal}
 use Rattle.hfs_check.specs.declared.mount_fault.MountFault.{MountFault}
 use Rattle.hfs_check.specs.declared.reported.Alternate.{Alternate}
 use Rattle.hfs_check.specs.declared.reported.Alternate.TheVariants as alternate
 use Rattle.hfs_check.specs.declared.reported.Report.{Report}
+use Rattle.hfs_check.specs.Report.{report_of}
 use Rattle.hfs_commands.specs.declared.fault.Status.{Status}
 use Rattle.hfs_commands.specs.declared.fault.Status.TheVariants as status
 use Rattle.hfs_commands.specs.Faults.{refusal_text, status_number}
@@ -45,3 +46,11 @@ check_lines report = checked_lines report.fault report
 -- the exit status after them
 abbrev pub check_status : Report → ℕ
 check_status report = status_number (checked_status report.fault)
+
+-- this is the exit status after an image's check
+abbrev pub IsCheckStatus : ℕ → List ℕ → Type 0
+IsCheckStatus number = λ image. number ≡ check_status (report_of image)
+
+-- this text has the lines of an image's check
+abbrev pub HasCheckLines : {Z : Type 0} → String Z → List ℕ → Type 0
+HasCheckLines text = λ image. string_bytes text ≡ check_lines (report_of image)

@@ -1,10 +1,13 @@
 -- What is printed of a fault, and how the program ends.
 use Rattle.std.specs.Prelude.{Bool, true, false, ℕ, List, [], ◌++◌, codes, ◌≡◌, ◌⊎◌}
+use Rattle.std.specs.Borrow.{Bor}
 use Rattle.std.specs.Fmt.{decimal}
 use Rattle.hfs_check.specs.declared.mount_fault.MountFault.{MountFault}
 use Rattle.hfs_check.specs.declared.mount_fault.MountFault.TheVariants as mount
 use Rattle.hfs_runs.specs.declared.fault.ScriptFault.{ScriptFault}
 use Rattle.hfs_runs.specs.declared.fault.ScriptFault.TheVariants as run
+use Rattle.hfs_needed.specs.declared.opening.NeededFault.{NeededFault}
+use Rattle.hfs_needed.specs.declared.opening.NeededFault.TheVariants as needed
 use Rattle.hfs_commands.specs.declared.fault.Status.{Status}
 use Rattle.hfs_commands.specs.declared.fault.Status.TheVariants as status
 use Rattle.hfs_commands.specs.declared.fault.Fault.{Fault}
@@ -84,3 +87,15 @@ IsTooMuchScript why = (why ≡ fault.ScriptTooLarge) ⊎ (why ≡ fault.NoMemory
 -- not all was printed: standard output failed, or memory was refused
 abbrev pub IsUnprinted : Fault → Type 0
 IsUnprinted why = (why ≡ fault.OutputFailed) ⊎ (why ≡ fault.NoMemory)
+
+-- a script was not read: its file can't be read, or it is too much
+abbrev pub IsUnreadScript : Bor (List ℕ) → Fault → Type 0
+IsUnreadScript path why = (why ≡ fault.CannotRead path) ⊎ IsTooMuchScript why
+
+-- the image is refused for this
+abbrev pub IsRefusal : MountFault → Fault → Type 0
+IsRefusal why found = found ≡ fault.Refused why
+
+-- an image that was refused is refused for the same
+abbrev pub KeepsRefusal : NeededFault → Fault → Type 0
+KeepsRefusal opening found = (why : MountFault) → opening ≡ needed.Refused why → IsRefusal why found

@@ -44,3 +44,7 @@ pub record IsLastRead (es : List Entry) (dir : ℕ) (name : List ℕ) (fork : Fo
   pub small : count ≤ 65536
   pub ends : offset + count ≡ length (fork_named es dir name fork)
   pub reads : reply ≡ read_fork es dir name fork offset count
+
+-- a reply has the code of reading a fork of the folder's child of that name
+abbrev pub HasForkCode : List Entry → ℕ → List ℕ → Reply → Type 0
+HasForkCode es dir name = λ reply. reply.code ≡ fork_code es dir name

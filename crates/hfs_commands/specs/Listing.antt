@@ -1,5 +1,5 @@
 -- What is printed of a folder's children.
-use Rattle.std.specs.Prelude.{ℕ, List, ◌++◌, codes}
+use Rattle.std.specs.Prelude.{◌≡◌, ℕ, List, ◌++◌, codes, String, string_bytes}
 use Rattle.std.specs.List.{flat_map}
 use Rattle.std.specs.Fmt.{decimal, signed_decimal}
 use Rattle.hfs_model.specs.declared.reply.Reply.{Reply}
@@ -15,6 +15,7 @@ use Rattle.hfs_texts.specs.Answers.{kind_text}
 use Rattle.hfs_texts.specs.Lines.{line, item_name_text}
 use Rattle.hfs_model.specs.Volume.{Entry}
 use Rattle.hfs_model.specs.Reading.{list}
+use Rattle.hfs_commands.specs.Entries.{entries_in}
 
 -- a word with a tab before it
 unfoldable pub tabbed : List ℕ → List ℕ
@@ -66,3 +67,11 @@ list_status reply = status_number (listed_status reply.value)
 -- the lines of a folder
 abbrev pub folder_lines : List Entry → ℕ → List ℕ
 folder_lines es dir = list_lines (list es dir)
+
+-- this is the exit status after the lines of a folder of an image
+abbrev pub IsFolderStatus : ℕ → ℕ → List ℕ → Type 0
+IsFolderStatus dir number = λ image. number ≡ list_status (list (entries_in image) dir)
+
+-- this text has the lines of a folder of an image
+abbrev pub HasFolderLines : {Z : Type 0} → ℕ → String Z → List ℕ → Type 0
+HasFolderLines dir text = λ image. string_bytes text ≡ folder_lines (entries_in image) dir

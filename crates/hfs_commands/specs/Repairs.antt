@@ -1,5 +1,5 @@
 -- What is printed of a repair.
-use Rattle.std.specs.Prelude.{◌≡◌, ℕ, List, ◌++◌, Some, codes, MatchOption, string_bytes}
+use Rattle.std.specs.Prelude.{◌≡◌, ℕ, List, ◌++◌, Some, codes, MatchOption, Result, IfOk, string_bytes}
 use Rattle.std.specs.List.{flat_map}
 use Rattle.std.specs.Fmt.{decimal}
 use Rattle.hfs_check.specs.declared.mount_fault.MountFault.{MountFault}
@@ -61,3 +61,7 @@ pub record IsRepaired (image : List ℕ) (current : List ℕ) (status : ℕ) (li
 abbrev pub TellsRepair : List ℕ → RepairAnswer → Type 0
 TellsRepair image answer = MatchOption answer.volume (IsRefused image answer.status (string_bytes answer.lines))
     (λ volume. IsRepaired image volume.current answer.status (string_bytes answer.lines))
+
+-- the answer tells the repair of any image that has this fault when it is repaired
+abbrev pub TellsRefusal : {E : Type 0} → MountFault → Result RepairAnswer E → Type 0
+TellsRefusal why result = (image : List ℕ) → fault_of (repair image) ≡ Some why → IfOk result (TellsRepair image)

@@ -1,8 +1,7 @@
 //! What is told of an image.
 ghost use Rattle.std.specs.Prelude.{◌≡◌, ◌++◌, IfOk, OnOk, string_bytes};
-ghost use Rattle.hfs_check.specs.Report.{report_of};
 ghost use Rattle.hfs_needed.specs.Known.{OfKnown};
-ghost use Rattle.hfs_commands.specs.Checks.{alternate_text, check_lines, check_status, refused_line, sound_lines};
+ghost use Rattle.hfs_commands.specs.Checks.{HasCheckLines, IsCheckStatus, alternate_text, check_lines, check_status, refused_line, sound_lines};
 
 use crate::fault::Status;
 use crate::refusal::Refusal;
@@ -68,8 +67,8 @@ fn report_text(alloc: Global, report: &Report) -> Result<(u8, String), AllocErro
 /// Checks an image, and answers the exit status and the lines: 0 and the counts of a sound volume, or 2 and the first
 /// fault, in the order of docs/CHECKS.md. The only error is want of memory.
 pub fn check_text(alloc: Global, image: &[u8]) -> Result<(u8, String), AllocError>
-    ensures status { IfOk result (λ told. told.0 ≡ check_status (report_of image.now)) }
-    ensures lines { IfOk result (λ told. string_bytes told.1 ≡ check_lines (report_of image.now)) }
+    ensures status { IfOk result (λ told. IsCheckStatus told.0 image.now) }
+    ensures lines { IfOk result (λ told. HasCheckLines told.1 image.now) }
 {
     let report = report(alloc, image)?;
     report_text(alloc, &report)
@@ -82,8 +81,8 @@ pub fn needed_check_text<S: BlockSource>(
     source: &mut S,
     len: u64,
 ) -> Result<(u8, String), SparseFault>
-    ensures status { IfOk result (λ told. OfKnown (S.image source.old) len (λ image. told.0 ≡ check_status (report_of image))) }
-    ensures lines { IfOk result (λ told. OfKnown (S.image source.old) len (λ image. string_bytes told.1 ≡ check_lines (report_of image))) }
+    ensures status { IfOk result (λ told. OfKnown (S.image source.old) len (IsCheckStatus told.0)) }
+    ensures lines { IfOk result (λ told. OfKnown (S.image source.old) len (HasCheckLines told.1)) }
 {
     let report = needed_report(alloc, source, len)?;
     match report_text(alloc, &report) {

@@ -1,7 +1,6 @@
 //! Why a command was not done, and how the program ends.
 ghost use Rattle.std.specs.Prelude.{◌≡◌, ◌≢◌, MatchResult, Some};
-ghost use Rattle.hfs_check.specs.declared.mount_fault.MountFault.{MountFault};
-ghost use Rattle.hfs_commands.specs.Faults.{fault_of_run, fault_text, status_number, status_of, status_of_run};
+ghost use Rattle.hfs_commands.specs.Faults.{IsRefusal, KeepsRefusal, fault_of_run, fault_text, status_number, status_of, status_of_run};
 
 use crate::refusal::Refusal;
 use hfs_check::MountFault;
@@ -120,8 +119,8 @@ impl Fault<'_> {
 
     /// What a fault of printing a master directory block means for the file that it was read from.
     pub fn of_info(fault: InfoFault, file: &str) -> Fault<'_>
-        ensures short { fault ≡ InfoFault.Short → result ≡ Fault.Refused MountFault.Short }
-        ensures signature { fault ≡ InfoFault.NoMacDisk → result ≡ Fault.Refused MountFault.NoMacDisk }
+        ensures short { fault ≡ InfoFault.Short → IsRefusal MountFault.Short result }
+        ensures signature { fault ≡ InfoFault.NoMacDisk → IsRefusal MountFault.NoMacDisk result }
         ensures read { fault ≡ InfoFault.ReadFailed → result ≡ Fault.CannotRead file.entry }
         ensures write { fault ≡ InfoFault.WriteFailed → result ≡ Fault.OutputFailed }
         ensures memory { fault ≡ InfoFault.Memory → result ≡ Fault.NoMemory }
@@ -138,7 +137,7 @@ impl Fault<'_> {
     /// What a fault of loading an image means for its file.
     pub fn of_load(fault: LoadFault, file: &str) -> Fault<'_>
         ensures read { fault ≡ LoadFault.ReadFailed → result ≡ Fault.CannotRead file.entry }
-        ensures large { fault ≡ LoadFault.TooLarge → result ≡ Fault.Refused MountFault.TooLarge }
+        ensures large { fault ≡ LoadFault.TooLarge → IsRefusal MountFault.TooLarge result }
         ensures memory { fault ≡ LoadFault.Memory → result ≡ Fault.NoMemory }
     {
         match fault {
@@ -163,7 +162,7 @@ impl Fault<'_> {
     pub fn of_needed(fault: NeededFault, file: &str) -> Fault<'_>
         ensures read { fault ≡ NeededFault.ReadFailed → result ≡ Fault.CannotRead file.entry }
         ensures memory { fault ≡ NeededFault.Memory → result ≡ Fault.NoMemory }
-        ensures refused { (why : MountFault) → fault ≡ NeededFault.Refused why → result ≡ Fault.Refused why }
+        ensures refused { KeepsRefusal fault result }
     {
         match fault {
             NeededFault::ReadFailed => Fault::CannotRead(file),

@@ -1,6 +1,6 @@
 //! Files by their paths.
 ghost use Rattle.std.specs.Prelude.{◌≡◌, ◌≤◌, ◌⊎◌, IfErr, IfOk, length};
-ghost use Rattle.hfs_commands.specs.Faults.{IsTooMuch, IsTooMuchScript};
+ghost use Rattle.hfs_commands.specs.Faults.{IsTooMuch, IsUnreadScript};
 
 use crate::fault::Fault;
 use hfs_check::MountFault;
@@ -97,7 +97,7 @@ const SCRIPT_LIMIT: u64 = 16_777_216;
 /// `ScriptTooLarge` where it has more, `NoMemory`.
 pub fn load_script<'a, R: Files + AllocGlobal>(rt: &R, path: &'a str) -> Result<Vec<u8>, Fault<'a>>
     ensures limit { IfOk result (λ bytes. length bytes.items ≤ 16777216) }
-    ensures faults { IfErr result (λ why. (why ≡ Fault.CannotRead path.entry) ⊎ IsTooMuchScript why) }
+    ensures faults { IfErr result (λ why. IsUnreadScript path.entry why) }
 {
     let Ok(mut file) = File::open(rt, path) else {
         return Err(Fault::CannotRead(path));

@@ -2,7 +2,7 @@
 ghost use Rattle.std.specs.Prelude.{◌≡◌, ◌≢◌, pos, take, drop, IfErr, IfOk, OnErr, OnOk};
 ghost use Rattle.std.specs.Io.KnownBytes.{Appends};
 ghost use Rattle.hfs_model.specs.Replies.{success};
-ghost use Rattle.hfs_commands.specs.Forks.{IsLastRead, fork_code, fork_named};
+ghost use Rattle.hfs_commands.specs.Forks.{HasForkCode, IsLastRead, fork_named};
 ghost use Rattle.hfs_texts.specs.Writing.{AppendsFront};
 ghost use Rattle.hfs_commands.specs.Faults.{IsUnprinted};
 ghost use Rattle.hfs_commands.specs.Entries.{entries_in};
@@ -29,7 +29,7 @@ pub fn write_fork<W: Write>(
     name: &[u8],
     fork: Fork,
 ) -> Result<Reply, Fault<'static>>
-    ensures code { IfOk result (λ r. r.code ≡ fork_code (entries_in volume.now.current) dir name.now) }
+    ensures code { IfOk result (HasForkCode (entries_in volume.now.current) dir name.now) }
     ensures last { IfOk result (IsLastRead (entries_in volume.now.current) dir name.now fork) }
     ensures written { OnOk result (Appends (W.contents writer.old) (W.contents writer.new)
         (fork_named (entries_in volume.now.current) dir name.now fork)) }
@@ -60,8 +60,10 @@ fn write_piece<W: Write>(
 ) -> Result<Reply, Fault<'static>>
     ensures reply { IfOk result (λ reply. reply ≡ success (Value.Bytes (take PIECE source.old))) }
     ensures left { OnOk result (source.new ≡ drop PIECE source.old) }
-    ensures written { OnOk result (Appends (W.contents writer.old) (W.contents writer.new) (take PIECE source.old)) }
-    ensures part { OnErr result (AppendsFront (W.contents writer.old) (W.contents writer.new) (take PIECE source.old)) }
+    ensures written { OnOk result (Appends (W.contents writer.old) (W.contents writer.new)
+        (take PIECE source.old)) }
+    ensures part { OnErr result (AppendsFront (W.contents writer.old) (W.contents writer.new)
+        (take PIECE source.old)) }
     ensures faults { IfErr result IsUnprinted }
 {
     let Ok(bytes) = source.read(alloc, PIECE) else {

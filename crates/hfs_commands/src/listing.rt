@@ -1,11 +1,9 @@
 //! The lines of a folder's children.
 ghost use Rattle.std.specs.Prelude.{◌≡◌, IfErr, IfOk, OnOk, string_bytes};
-ghost use Rattle.hfs_model.specs.Reading.{list};
 ghost use Rattle.hfs_needed.specs.Known.{OfKnown};
 ghost use Rattle.hfs_needed.specs.Opened.{IsRefusedFor};
-ghost use Rattle.hfs_commands.specs.Listing.{child_line, child_lines, code_line, list_lines, list_status, tabbed, tabbed_sizes, folder_lines};
+ghost use Rattle.hfs_commands.specs.Listing.{HasFolderLines, IsFolderStatus, child_line, child_lines, code_line, list_lines, list_status, tabbed, tabbed_sizes};
 ghost use Rattle.hfs_texts.specs.Texts.{Gains};
-ghost use Rattle.hfs_commands.specs.Entries.{entries_in};
 
 use crate::fault::Status;
 use hfs_model::{Info, ItemKind, Reply, Value};
@@ -91,8 +89,8 @@ pub fn children_text(alloc: Global, reply: &Reply) -> Result<(u8, String), Alloc
 /// Lists a folder by its ID, and answers the exit status and the lines: 0 and a line for each child in name order, or 3
 /// and the code of the call. The only error is want of memory.
 pub fn list_text(alloc: Global, volume: &Volume, dir: u32) -> Result<(u8, String), AllocError>
-    ensures status { IfOk result (λ told. told.0 ≡ list_status (list (entries_in volume.now.current) dir)) }
-    ensures lines { IfOk result (λ t. string_bytes t.1 ≡ folder_lines (entries_in volume.now.current) dir) }
+    ensures status { IfOk result (λ told. IsFolderStatus dir told.0 volume.now.current) }
+    ensures lines { IfOk result (λ told. HasFolderLines dir told.1 volume.now.current) }
 {
     let reply = volume.list_in_brief(alloc, dir)?;
     children_text(alloc, &reply)
@@ -106,8 +104,8 @@ pub fn needed_list_text<S: BlockSource>(
     len: u64,
     dir: u32,
 ) -> Result<(u8, String), NeededFault>
-    ensures status { IfOk result (λ told. OfKnown (S.image source.old) len (λ image. told.0 ≡ list_status (list (entries_in image) dir))) }
-    ensures lines { IfOk result (λ told. OfKnown (S.image source.old) len (λ image. string_bytes told.1 ≡ folder_lines (entries_in image) dir)) }
+    ensures status { IfOk result (λ t. OfKnown (S.image source.old) len (IsFolderStatus dir t.0)) }
+    ensures lines { IfOk result (λ t. OfKnown (S.image source.old) len (HasFolderLines dir t.1)) }
     ensures refused { IfErr result (λ fault. IsRefusedFor (S.image source.old) len fault) }
 {
     let reply = needed_list(alloc, source, len, dir)?;

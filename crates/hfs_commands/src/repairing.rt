@@ -1,9 +1,7 @@
 //! What is told of a repair.
-ghost use Rattle.std.specs.Prelude.{◌≡◌, ℕ, List, Some, IfOk, OnOk, string_bytes};
-ghost use Rattle.hfs_check.specs.Faults.{fault_of};
-ghost use Rattle.hfs_check.specs.Repair.{repair};
+ghost use Rattle.std.specs.Prelude.{◌≡◌, IfOk, OnOk, string_bytes};
 ghost use Rattle.hfs_texts.specs.Texts.{Gains};
-ghost use Rattle.hfs_commands.specs.Repairs.{place_text, fix_text, fixed_line, fixed_lines, repaired_lines, TellsRepair};
+ghost use Rattle.hfs_commands.specs.Repairs.{place_text, fix_text, fixed_line, fixed_lines, repaired_lines, TellsRefusal, TellsRepair};
 
 use crate::checking::refused_text;
 use crate::fault::Status;
@@ -94,7 +92,7 @@ pub struct RepairAnswer {
 
 /// The answer where the repaired image has a fault, which is not want of memory.
 fn refused_answer(alloc: Global, why: MountFault) -> Result<RepairAnswer, AllocError>
-    ensures { (image : List ℕ) → fault_of (repair image) ≡ Some why → IfOk result (TellsRepair image) }
+    ensures { TellsRefusal why result }
 {
     let (status, lines) = refused_text(alloc, why)?;
     Ok(RepairAnswer {

@@ -8,3 +8,4 @@ pub mod Scripts
 pub mod Callers
 pub mod Texts
 pub mod Readable
+pub mod Results

@@ -1,7 +1,9 @@
 //! The fields behind a call's word.
-ghost use Rattle.std.specs.Prelude.{◌≡◌, IfOk, [], ◌∷◌, ◌++◌, length};
+ghost use Rattle.std.specs.Prelude.{◌≡◌, false, IfOk, IsTrue, [], ◌∷◌, length};
 ghost use Rattle.std.specs.Fmt.{decimal};
 ghost use Rattle.hex.specs.Hex.{encode_lower};
+ghost use Rattle.hfs_model.specs.Step.{is_reading};
+ghost use Rattle.hfs_scripts.specs.Results.{GainsItems, GivesItems};
 ghost use Rattle.hfs_scripts.specs.Readable.{Reads, ReadsBytes, IsReadable};
 ghost use Rattle.hfs_scripts.specs.Texts.{arguments, fork_text, read_fields, info_fields};
 
@@ -42,7 +44,7 @@ fn fork_field(alloc: Global, fork: Fork) -> Result<Bytes, AllocError>
 }
 
 fn one_number(alloc: Global, number: u32) -> Result<Vec<Bytes>, AllocError>
-    ensures fields { IfOk result (λ fields. fields.items ≡ decimal number ∷ []) }
+    ensures fields { GivesItems (decimal number ∷ []) result }
     ensures reads { IfOk result (λ fields. Reads number) }
 {
     let number = number_field(alloc, number)?;
@@ -50,7 +52,7 @@ fn one_number(alloc: Global, number: u32) -> Result<Vec<Bytes>, AllocError>
 }
 
 fn two_numbers(alloc: Global, dir: u32, index: u32) -> Result<Vec<Bytes>, AllocError>
-    ensures fields { IfOk result (λ fields. fields.items ≡ decimal dir ∷ decimal index ∷ []) }
+    ensures fields { GivesItems (decimal dir ∷ decimal index ∷ []) result }
     ensures dir { IfOk result (λ fields. Reads dir) }
     ensures index { IfOk result (λ fields. Reads index) }
 {
@@ -60,7 +62,7 @@ fn two_numbers(alloc: Global, dir: u32, index: u32) -> Result<Vec<Bytes>, AllocE
 }
 
 fn target(alloc: Global, dir: u32, name: &Bytes) -> Result<Vec<Bytes>, AllocError>
-    ensures fields { IfOk result (λ fields. fields.items ≡ decimal dir ∷ name.now ∷ []) }
+    ensures fields { GivesItems (decimal dir ∷ name.now ∷ []) result }
     ensures reads { IfOk result (λ fields. Reads dir) }
 {
     let dir = number_field(alloc, dir)?;
@@ -70,7 +72,7 @@ fn target(alloc: Global, dir: u32, name: &Bytes) -> Result<Vec<Bytes>, AllocErro
 
 /// DIR and NAME with one field more.
 fn target_and(alloc: Global, dir: u32, name: &Bytes, field: Bytes) -> Result<Vec<Bytes>, AllocError>
-    ensures fields { IfOk result (λ fields. fields.items ≡ decimal dir ∷ name.now ∷ field ∷ []) }
+    ensures fields { GivesItems (decimal dir ∷ name.now ∷ field ∷ []) result }
     ensures reads { IfOk result (λ fields. Reads dir) }
 {
     let dir = number_field(alloc, dir)?;
@@ -87,7 +89,7 @@ fn part_of_fork(
     offset: u32,
     count: u32,
 ) -> Result<Vec<Bytes>, AllocError>
-    ensures fields { IfOk result (λ fields. fields.items ≡ read_fields dir name.now fork offset count) }
+    ensures fields { GivesItems (read_fields dir name.now fork offset count) result }
     ensures dir { IfOk result (λ fields. Reads dir) }
     ensures offset { IfOk result (λ fields. Reads offset) }
     ensures count { IfOk result (λ fields. Reads count) }
@@ -109,7 +111,7 @@ fn dates_and_info(
     backup: u32,
     info: &[u8],
 ) -> Result<Vec<Bytes>, AllocError>
-    ensures fields { IfOk result (λ all. all.items ≡ fields.items ++ info_fields created modified backup info.now) }
+    ensures fields { GainsItems fields (info_fields created modified backup info.now) result }
     ensures created { IfOk result (λ all. Reads created) }
     ensures modified { IfOk result (λ all. Reads modified) }
     ensures backup { IfOk result (λ all. Reads backup) }
@@ -122,9 +124,10 @@ fn dates_and_info(
     Ok(fields)
 }
 
-/// The fields behind the call's word.
-pub(crate) fn argument_fields(alloc: Global, call: &Call) -> Result<Vec<Bytes>, AllocError>
-    ensures fields { IfOk result (λ fields. fields.items ≡ arguments call.now) }
+/// The fields of a call that only reads.
+fn reading_fields(alloc: Global, call: &Call) -> Result<Vec<Bytes>, AllocError>
+    requires { IsTrue (is_reading call.now) }
+    ensures fields { GivesItems (arguments call.now) result }
     ensures reads { IfOk result (λ fields. IsReadable call.now) }
 {
     match call {
@@ -139,6 +142,28 @@ pub(crate) fn argument_fields(alloc: Global, call: &Call) -> Result<Vec<Bytes>, 
             offset,
             count,
         } => part_of_fork(alloc, *dir, name, *fork, *offset, *count),
+        Call::ResolveFileId { id } => one_number(alloc, *id),
+        Call::Create { .. }
+        | Call::DirCreate { .. }
+        | Call::Delete { .. }
+        | Call::Rename { .. }
+        | Call::CatMove { .. }
+        | Call::SetFInfo { .. }
+        | Call::SetCatInfo { .. }
+        | Call::SetFLock { .. }
+        | Call::RstFLock { .. }
+        | Call::CreateFileId { .. }
+        | Call::DeleteFileId { .. } => unreachable!(),
+    }
+}
+
+/// The fields of a call that may change the volume.
+fn changing_fields(alloc: Global, call: &Call) -> Result<Vec<Bytes>, AllocError>
+    requires { is_reading call.now ≡ false }
+    ensures fields { GivesItems (arguments call.now) result }
+    ensures reads { IfOk result (λ fields. IsReadable call.now) }
+{
+    match call {
         Call::Create { dir, name, .. } => target(alloc, *dir, name),
         Call::DirCreate { dir, name, .. } => target(alloc, *dir, name),
         Call::Delete { dir, name, .. } => target(alloc, *dir, name),
@@ -147,28 +172,19 @@ pub(crate) fn argument_fields(alloc: Global, call: &Call) -> Result<Vec<Bytes>, 
             name,
             new_name,
             ..
-        } => {
-            let new_name = name_field(alloc, new_name)?;
-            target_and(alloc, *dir, name, new_name)
-        }
+        } => target_and(alloc, *dir, name, name_field(alloc, new_name)?),
         Call::CatMove {
             dir,
             name,
             new_dir,
             ..
-        } => {
-            let new_dir = number_field(alloc, *new_dir)?;
-            target_and(alloc, *dir, name, new_dir)
-        }
+        } => target_and(alloc, *dir, name, number_field(alloc, *new_dir)?),
         Call::SetFInfo {
             dir,
             name,
             info,
             ..
-        } => {
-            let info = hex_field(alloc, info)?;
-            target_and(alloc, *dir, name, info)
-        }
+        } => target_and(alloc, *dir, name, hex_field(alloc, info)?),
         Call::SetCatInfo {
             dir,
             name,
@@ -185,6 +201,23 @@ pub(crate) fn argument_fields(alloc: Global, call: &Call) -> Result<Vec<Bytes>, 
         Call::RstFLock { dir, name, .. } => target(alloc, *dir, name),
         Call::CreateFileId { dir, name, .. } => target(alloc, *dir, name),
         Call::DeleteFileId { id, .. } => one_number(alloc, *id),
-        Call::ResolveFileId { id } => one_number(alloc, *id),
+        Call::GetDirInfo { .. }
+        | Call::GetCatInfo { .. }
+        | Call::GetIndexed { .. }
+        | Call::List { .. }
+        | Call::ReadFork { .. }
+        | Call::ResolveFileId { .. } => unreachable!(),
+    }
+}
+
+/// The fields behind the call's word.
+pub(crate) fn argument_fields(alloc: Global, call: &Call) -> Result<Vec<Bytes>, AllocError>
+    ensures fields { IfOk result (λ fields. fields.items ≡ arguments call.now) }
+    ensures reads { IfOk result (λ fields. IsReadable call.now) }
+{
+    if call.is_reading() {
+        reading_fields(alloc, call)
+    } else {
+        changing_fields(alloc, call)
     }
 }

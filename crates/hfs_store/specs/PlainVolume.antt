@@ -1,13 +1,15 @@
 -- The volume that a `PlainVolume` stands for.
-use Rattle.std.specs.Prelude.{◌≡◌, ℕ, ◌+◌, ◌≤◌, List, [], ◌∷◌, length, slice_index_or, take, Bool, ◌++◌, drop}
+use Rattle.std.specs.Prelude.{◌≡◌, ℕ, ◌+◌, ◌≤◌, List, [], ◌∷◌, length, slice_index_or, take, Bool, ◌++◌, drop, Result, IfOk}
 use Rattle.std.specs.FinMap as map
 use Rattle.hfs_store.specs.declared.plain_volume.PlainVolume.TheInside.{Inside}
 use Rattle.hfs_model.specs.Volume.{Volume, Entry, Items}
-use Rattle.hfs_model.specs.Children.{valence}
-use Rattle.hfs_model.specs.Changes.{touched, with_lock}
+use Rattle.hfs_model.specs.Children.{entries_of, valence}
+use Rattle.hfs_model.specs.Changes.{Outcome, touched, with_lock}
 use Rattle.hfs_model.specs.Runs.{run}
 use Rattle.hfs_model.specs.declared.call.Call.{Call}
 use Rattle.hfs_model.specs.declared.item.Item.{Item}
+use Rattle.hfs_model.specs.declared.reply.Reply.{Reply}
+use Rattle.hfs_store.specs.Found.{IsPlaceOf}
 
 -- the IDs strictly rise, and are at least low and below high
 abbrev pub Rises : ℕ → ℕ → List Entry → Type 0
@@ -32,9 +34,17 @@ BecomesAt old new at change = (d : Entry) → Becomes old new (λ m. change m (s
 abbrev pub ItemBecomes : List Entry → List Entry → ℕ → (Item → Item) → Type 0
 ItemBecomes old new at change = BecomesAt old new at (λ m e. map.insert m e.0 (change e.1))
 
+-- the items without an entry, with its folder's modified date
+abbrev pub removed : Items → Entry → ℕ → ℕ → Items
+removed items e dir now = touched (map.remove items e.0) dir now
+
 -- an item with these dates and Finder bytes
 abbrev pub with_info : Item → ℕ → ℕ → ℕ → List ℕ → Item
 with_info item created modified backup info = record item { created = created; modified = modified; backup = backup; finder = info }
+
+-- and the item at a place has these dates and Finder bytes
+abbrev pub InfoBecomes : List Entry → List Entry → ℕ → ℕ → ℕ → ℕ → List ℕ → Type 0
+InfoBecomes old new at created modified backup info = ItemBecomes old new at (λ i. with_info i created modified backup info)
 
 -- with these as the first half of its Finder bytes
 abbrev pub with_first_info : List ℕ → Item → Item
@@ -58,8 +68,20 @@ abbrev pub with_locks : Bool → Bool → Volume → Volume
 with_locks hardware software v = record v { hardware_locked = hardware; software_locked = software }
 
 -- the folder with that ID has one child more
-abbrev pub HasOneMore : List Entry → List Entry → ℕ → Type 0
-HasOneMore old new dir = valence new dir ≡ valence old dir + 1
+abbrev pub HasOneMore : Volume → Volume → ℕ → Type 0
+HasOneMore old new dir = valence (entries_of new) dir ≡ valence (entries_of old) dir + 1
+
+-- the place of the chosen item of a volume, or the same error
+abbrev pub IsPlaceIn : {E : Type 0} → Volume → Result Entry E → Result ℕ E → Type 0
+IsPlaceIn v chosen result = IsPlaceOf (entries_of v) chosen result
+
+-- an answer that is no error is this
+abbrev pub Gives : {A E : Type 0} → A → Result A E → Type 0
+Gives x result = IfOk result (λ y. y ≡ x)
+
+-- an answer that is no error is the reply of a call's outcome, and this is its volume
+abbrev pub GivesOutcome : {E : Type 0} → Outcome → Volume → Result Reply E → Type 0
+GivesOutcome outcome v result = IfOk result (λ reply. (v, reply) ≡ outcome)
 
 -- a volume after some first ones of the calls
 abbrev pub HasMadeSome : Volume → Volume → List Call → Type 0

@@ -4,7 +4,7 @@ ghost use Rattle.std.specs.FinMap as map;
 ghost use Rattle.hfs_model.specs.Changes.{touched, moved};
 ghost use Rattle.hfs_model.specs.FileIds.{with_thread_bit, set_thread};
 ghost use Rattle.hfs_model.specs.Children.{valence};
-ghost use Rattle.hfs_store.specs.PlainVolume.{Becomes, BecomesAt, ItemBecomes, Gains, with_info, with_first_info, with_item_lock};
+ghost use Rattle.hfs_store.specs.PlainVolume.{Becomes, BecomesAt, ItemBecomes, InfoBecomes, Gains, removed, with_first_info, with_item_lock};
 
 use crate::entries::place_of;
 use hfs_fields::{FileFlags, Name};
@@ -40,7 +40,7 @@ fn set_parent(items: &mut Vec<(u32, Item)>, at: usize, parent: u32)
 /// Takes the item at a place away, and sets the modified date of the folder that held it.
 pub fn remove_item(items: &mut Vec<(u32, Item)>, at: usize, dir: u32, now: u32)
     requires { at < length items.old.items }
-    ensures { BecomesAt items.old.items items.new.items at (λ m e. touched (map.remove m e.0) dir now) }
+    ensures { BecomesAt items.old.items items.new.items at (λ m e. removed m e dir now) }
 {
     take_away(items, at);
     touch(items, dir, now);
@@ -83,7 +83,7 @@ pub fn set_info(
     info: [u8; 32],
 )
     requires { at < length items.old.items }
-    ensures { ItemBecomes items.old.items items.new.items at (λ i. with_info i created modified backup info) }
+    ensures { InfoBecomes items.old.items items.new.items at created modified backup info }
 {
     let item = &mut items[at].1;
     item.created = created;

@@ -9,9 +9,8 @@ ghost use Rattle.hfs_model.specs.Changes.{delete, rename, cat_move, create, set_
 ghost use Rattle.hfs_model.specs.FileIds.{to_create_file_id, to_delete_file_id, create_file_id, delete_file_id, resolve_file_id};
 ghost use Rattle.hfs_model.specs.Step.{step, is_reading, new_volume};
 ghost use Rattle.hfs_store.specs.Setting.{is_setting};
-ghost use Rattle.hfs_store.specs.PlainVolume.{HasMadeSome, with_last, with_locks, HasOneMore};
+ghost use Rattle.hfs_store.specs.PlainVolume.{Gives, GivesOutcome, HasMadeSome, HasOneMore, IsPlaceIn, with_last, with_locks};
 ghost use Rattle.hfs_fields.specs.Names.{is_item_name};
-ghost use Rattle.hfs_store.specs.Found.{IsPlaceOf};
 
 use crate::changes::{
     add_item, move_item, remove_item, rename_item, set_finder, set_info, set_lock, set_thread,
@@ -87,7 +86,7 @@ impl PlainVolume {
         requires last { id < 4294967295 }
         requires room { valence (entries_of self.old) item.parent < 65535 }
         ensures laid { OnOk result (self.new ≡ with_last self.old id item) }
-        ensures counted { OnOk result (HasOneMore (entries_of self.old) (entries_of self.new) item.parent) }
+        ensures counted { OnOk result (HasOneMore self.old self.new item.parent) }
         ensures err { OnErr result (self.new ≡ self.old) }
     {
         let next_id = id + 1;
@@ -144,14 +143,14 @@ impl PlainVolume {
 
     /// What is told of the folder's child at that place in name order, counted from 1.
     pub fn get_indexed(&self, dir: u32, index: u32) -> Result<Reply, AllocError>
-        ensures { IfOk result (λ r. r ≡ get_indexed (entries_of self.now) dir index) }
+        ensures { Gives (get_indexed (entries_of self.now) dir index) result }
     {
         reading::get_indexed(self.alloc, self.entries(), dir, index)
     }
 
     /// What is told of the folder's children, in name order.
     pub fn list(&self, dir: u32) -> Result<Reply, AllocError>
-        ensures { IfOk result (λ r. r ≡ list (entries_of self.now) dir) }
+        ensures { Gives (list (entries_of self.now) dir) result }
     {
         reading::list(self.alloc, self.entries(), dir)
     }
@@ -165,7 +164,7 @@ impl PlainVolume {
         offset: u32,
         count: u32,
     ) -> Result<Reply, AllocError>
-        ensures { IfOk result (λ r. r ≡ read_fork (entries_of self.now) dir name.now fork offset count) }
+        ensures { Gives (read_fork (entries_of self.now) dir name.now fork offset count) result }
     {
         reading::read_fork(self.alloc, self.entries(), dir, name, fork, offset, count)
     }
@@ -199,7 +198,7 @@ impl PlainVolume {
     /// The place of the folder's item of that name, in a volume that may be changed.
     #[tactic(auto, unfolding(hfs_model::specs::Choices::child_to_change))]
     fn child_to_change(&self, dir: u32, name: &[u8]) -> Result<usize, i16>
-        ensures { IsPlaceOf (entries_of self.now) (child_to_change self.now dir name.now) result }
+        ensures { IsPlaceIn self.now (child_to_change self.now dir name.now) result }
     {
         if self.is_locked() {
             return Err(self.lock_code());
@@ -219,7 +218,7 @@ impl PlainVolume {
 
     #[tactic(auto, unfolding(hfs_model::specs::Choices::to_delete))]
     fn to_delete(&self, dir: u32, name: &[u8]) -> Result<usize, i16>
-        ensures { IsPlaceOf (entries_of self.now) (to_delete self.now dir name.now) result }
+        ensures { IsPlaceIn self.now (to_delete self.now dir name.now) result }
     {
         let at = self.child_to_change(dir, name)?;
         let entries = self.entries();
@@ -236,7 +235,7 @@ impl PlainVolume {
     /// The same of a file.
     #[tactic(auto, unfolding(hfs_model::specs::Choices::file_to_change))]
     fn file_to_change(&self, dir: u32, name: &[u8]) -> Result<usize, i16>
-        ensures { IsPlaceOf (entries_of self.now) (file_to_change self.now dir name.now) result }
+        ensures { IsPlaceIn self.now (file_to_change self.now dir name.now) result }
     {
         let at = self.child_to_change(dir, name)?;
         if is_folder_kind(&self.entries()[at].1.kind) {
@@ -247,7 +246,7 @@ impl PlainVolume {
 
     #[tactic(auto, unfolding(hfs_model::specs::Choices::to_rename))]
     fn to_rename(&self, dir: u32, name: &[u8], new_name: &[u8]) -> Result<usize, i16>
-        ensures place { IsPlaceOf (entries_of self.now) (to_rename self.now dir name.now new_name.now) result }
+        ensures place { IsPlaceIn self.now (to_rename self.now dir name.now new_name.now) result }
         ensures named { OnOk result (IsTrue (is_item_name new_name.now)) }
     {
         if self.is_locked() {
@@ -270,7 +269,7 @@ impl PlainVolume {
 
     #[tactic(auto, unfolding(hfs_model::specs::Choices::to_move))]
     fn to_move(&self, dir: u32, name: &[u8], new_dir: u32) -> Result<usize, i16>
-        ensures place { IsPlaceOf (entries_of self.now) (to_move self.now dir name.now new_dir) result }
+        ensures place { IsPlaceIn self.now (to_move self.now dir name.now new_dir) result }
         ensures room { OnOk result (valence (entries_of self.now) new_dir < 65535) }
     {
         let at = self.child_to_change(dir, name)?;
@@ -320,7 +319,7 @@ impl PlainVolume {
 
     #[tactic(auto, unfolding(hfs_model::specs::Choices::to_set_f_info))]
     fn to_set_f_info(&self, dir: u32, name: &[u8]) -> Result<usize, i16>
-        ensures { IsPlaceOf (entries_of self.now) (to_set_f_info self.now dir name.now) result }
+        ensures { IsPlaceIn self.now (to_set_f_info self.now dir name.now) result }
     {
         let at = self.file_to_change(dir, name)?;
         if is_locked_file(&self.entries()[at].1.kind) {
@@ -331,7 +330,7 @@ impl PlainVolume {
 
     #[tactic(auto, unfolding(hfs_model::specs::Choices::to_set_cat_info))]
     fn to_set_cat_info(&self, dir: u32, name: &[u8]) -> Result<usize, i16>
-        ensures { IsPlaceOf (entries_of self.now) (to_set_cat_info self.now dir name.now) result }
+        ensures { IsPlaceIn self.now (to_set_cat_info self.now dir name.now) result }
     {
         let at = self.child_to_change(dir, name)?;
         if is_locked_file(&self.entries()[at].1.kind) {
@@ -342,7 +341,7 @@ impl PlainVolume {
 
     #[tactic(auto, unfolding(hfs_model::specs::FileIds::to_create_file_id))]
     fn to_create_file_id(&self, dir: u32, name: &[u8]) -> Result<usize, i16>
-        ensures { IsPlaceOf (entries_of self.now) (to_create_file_id self.now dir name.now) result }
+        ensures { IsPlaceIn self.now (to_create_file_id self.now dir name.now) result }
     {
         let at = self.child_to_change(dir, name)?;
         let kind = &self.entries()[at].1.kind;
@@ -357,7 +356,7 @@ impl PlainVolume {
 
     #[tactic(auto, unfolding(hfs_model::specs::FileIds::to_delete_file_id))]
     fn to_delete_file_id(&self, id: u32) -> Result<usize, i16>
-        ensures { IsPlaceOf (entries_of self.now) (to_delete_file_id self.now id) result }
+        ensures { IsPlaceIn self.now (to_delete_file_id self.now id) result }
     {
         if self.is_locked() {
             return Err(self.lock_code());
@@ -424,7 +423,8 @@ impl PlainVolume {
         info: [u8; 32],
         now: u32,
     ) -> Reply
-        ensures { (self.new, result) ≡ set_cat_info self.old dir name.now created modified backup info now }
+        ensures { (self.new, result)
+            ≡ set_cat_info self.old dir name.now created modified backup info now }
     {
         match self.to_set_cat_info(dir, name) {
             Ok(at) => {
@@ -503,7 +503,7 @@ impl PlainVolume {
     /// A new item of that kind.
     #[tactic(auto, unfolding(hfs_model::specs::Changes::create))]
     fn add(&mut self, kind: Kind, dir: u32, name: &[u8], now: u32) -> Result<Reply, AllocError>
-        ensures ok { IfOk result (λ r. (self.new, r) ≡ create kind self.old dir name.now now) }
+        ensures ok { GivesOutcome (create kind self.old dir name.now now) self.new result }
         ensures err { OnErr result (self.new ≡ self.old) }
     {
         match self.to_create(dir, name) {
@@ -522,7 +522,7 @@ impl PlainVolume {
 
     /// A new, empty file.
     pub fn create(&mut self, dir: u32, name: &[u8], now: u32) -> Result<Reply, AllocError>
-        ensures ok { IfOk result (λ r. (self.new, r) ≡ create new_file self.old dir name.now now) }
+        ensures ok { GivesOutcome (create new_file self.old dir name.now now) self.new result }
         ensures err { OnErr result (self.new ≡ self.old) }
     {
         let kind = new_file(self.alloc);
@@ -531,7 +531,7 @@ impl PlainVolume {
 
     /// A new, empty folder.
     pub fn dir_create(&mut self, dir: u32, name: &[u8], now: u32) -> Result<Reply, AllocError>
-        ensures ok { IfOk result (λ r. (self.new, r) ≡ create new_folder self.old dir name.now now) }
+        ensures ok { GivesOutcome (create new_folder self.old dir name.now now) self.new result }
         ensures err { OnErr result (self.new ≡ self.old) }
     {
         self.add(new_folder(), dir, name, now)
@@ -540,7 +540,7 @@ impl PlainVolume {
     /// Answers a call. A refused call, and one for which memory was wanting, changes nothing.
     #[tactic(auto)]
     pub fn call(&mut self, call: &Call) -> Result<Reply, AllocError>
-        ensures ok { IfOk result (λ r. (self.new, r) ≡ step self.old call.now) }
+        ensures ok { GivesOutcome (step self.old call.now) self.new result }
         ensures err { OnErr result (self.new ≡ self.old) }
     {
         if call.is_reading() {
@@ -554,7 +554,7 @@ impl PlainVolume {
     #[tactic(auto)]
     fn read(&self, call: &Call) -> Result<Reply, AllocError>
         requires { IsTrue (is_reading call.now) }
-        ensures { IfOk result (λ r. (self.now, r) ≡ step self.now call.now) }
+        ensures { GivesOutcome (step self.now call.now) self.now result }
     {
         match call {
             Call::GetDirInfo { dir } => Ok(self.get_dir_info(*dir)),
@@ -588,7 +588,7 @@ impl PlainVolume {
     #[tactic(auto)]
     fn change(&mut self, call: &Call) -> Result<Reply, AllocError>
         requires { is_reading call.now ≡ false }
-        ensures ok { IfOk result (λ r. (self.new, r) ≡ step self.old call.now) }
+        ensures ok { GivesOutcome (step self.old call.now) self.new result }
         ensures err { OnErr result (self.new ≡ self.old) }
     {
         match call {

@@ -1,8 +1,8 @@
 //! The lines of a master directory block, one for each field.
-ghost use Rattle.std.specs.Prelude.{◌≡◌, ◌≢◌, ◌<◌, ℕ, List, OnOk, IfOk, OnErr, IsErrOf, length, string_bytes};
-ghost use Rattle.std.specs.Io.KnownBytes.{Appends, Consumes, IsAtEnd};
-ghost use Rattle.hfs_texts.specs.Reading.{GaveHead, HasSignature, info_text, GaveFewer};
-ghost use Rattle.hfs_texts.specs.Writing.{AppendsFront};
+ghost use Rattle.std.specs.Prelude.{◌≡◌, ℕ, List, OnOk, IfOk, IsErrOf, string_bytes};
+ghost use Rattle.std.specs.Io.KnownBytes.{Appends};
+ghost use Rattle.hfs_texts.specs.Reading.{GaveHead, HasSignature, info_text, GaveFewer, GaveLast};
+ghost use Rattle.hfs_texts.specs.Writing.{AppendsFront, OnOtherErr};
 ghost use Rattle.hfs_texts.specs.Info.{first_lines, middle_lines, last_lines, info_lines};
 ghost use Rattle.hfs_texts.specs.Texts.{Gains};
 
@@ -48,16 +48,18 @@ pub fn run_info<R: Read, W: Write>(
     writer: &mut W,
 ) -> Result<(), InfoFault>
     // 1,536 bytes were read, and their lines were written and nothing else.
-    ensures ok { OnOk result ((head : List ℕ) × GaveHead (R.remaining reader.old) (R.remaining reader.new) head × HasSignature head
+    ensures ok { OnOk result ((head : List ℕ)
+        × GaveHead (R.remaining reader.old) (R.remaining reader.new) head × HasSignature head
         × Appends (W.contents writer.old) (W.contents writer.new) (info_text head)) }
     // The input ended earlier.
-    ensures short { IsErrOf result InfoFault.Short → (read : List ℕ) × (length read < 1536)
-        × Consumes (R.remaining reader.old) (R.remaining reader.new) read × IsAtEnd (R.remaining reader.new) }
+    ensures short { IsErrOf result InfoFault.Short
+        → GaveLast (R.remaining reader.old) (R.remaining reader.new) 1536 }
     // 1,536 bytes were read, and the signature is another.
     ensures no_mac_disk { IsErrOf result InfoFault.NoMacDisk → (head : List ℕ)
         × GaveHead (R.remaining reader.old) (R.remaining reader.new) head × ¬ HasSignature head }
     // The reader failed before that.
-    ensures read_failed { IsErrOf result InfoFault.ReadFailed → GaveFewer (R.remaining reader.old) (R.remaining reader.new) 1536 }
+    ensures read_failed { IsErrOf result InfoFault.ReadFailed
+        → GaveFewer (R.remaining reader.old) (R.remaining reader.new) 1536 }
     // The volume is read and signed, and only its lines failed: a part of them was written, from the first on.
     ensures write_failed { IsErrOf result InfoFault.WriteFailed → (head : List ℕ)
         × GaveHead (R.remaining reader.old) (R.remaining reader.new) head × HasSignature head
@@ -66,7 +68,7 @@ pub fn run_info<R: Read, W: Write>(
     ensures memory { IsErrOf result InfoFault.Memory → (head : List ℕ)
         × GaveHead (R.remaining reader.old) (R.remaining reader.new) head × HasSignature head }
     // Nothing was written.
-    ensures unwritten { OnErr result (result ≢ Err InfoFault.WriteFailed → writer.new ≡ writer.old) }
+    ensures unwritten { OnOtherErr result InfoFault.WriteFailed (writer.new ≡ writer.old) }
 {
     let mut head = [0; 1536];
     let Ok(count) = fill(reader, &mut head) else {

@@ -1,7 +1,7 @@
 //! Reading from any reader.
 ghost use Rattle.std.specs.Prelude.{◌≡◌, ◌<◌, ◌≤◌, ◌+◌, ◌-◌, ◌^◌, ℕ, List, IfOk, OnOk, OnErr, IsErrOf, Ok, true, false, ◌++◌, length, vec_len, take, drop};
 ghost use Rattle.std.specs.Io.KnownBytes.{Consumes, IsAtEnd};
-ghost use Rattle.hfs_texts.specs.Reading.{GaveFewer, GaveSo, GaveAtMost};
+ghost use Rattle.hfs_texts.specs.Reading.{EndsIfShort, GaveAtMost, GaveFewer, GaveSo, HasFilled, HasLoaded, StopsPast};
 
 use std::alloc::{AllocError, Global};
 use std::io;
@@ -13,9 +13,10 @@ use thiserror::Error;
 pub fn fill<R: Read>(reader: &mut R, buffer: &mut [u8]) -> io::Result<usize>
     requires { 0 < length buffer.old }
     ensures within { IfOk result (λ count. count ≤ length buffer.new) }
-    ensures taken { IfOk result (λ n. Consumes (R.remaining reader.old) (R.remaining reader.new) (take n buffer.new)) }
-    ensures ended { IfOk result (λ count. count < length buffer.new → IsAtEnd (R.remaining reader.new)) }
-    ensures err { OnErr result (GaveFewer (R.remaining reader.old) (R.remaining reader.new) (length buffer.new)) }
+    ensures taken { HasFilled (R.remaining reader.old) (R.remaining reader.new) buffer.new result }
+    ensures ended { IfOk result (λ n. EndsIfShort (R.remaining reader.new) buffer.new n) }
+    ensures err { OnErr result (GaveFewer (R.remaining reader.old) (R.remaining reader.new)
+        (length buffer.new)) }
 {
     let mut count = 0;
     for _turn in 0..u64::MAX {
@@ -64,11 +65,12 @@ pub enum LoadFault {
 /// All bytes up to the reader's end, at most `IMAGE_LIMIT`. A reader that gives more is left after exactly one byte
 /// more, so a device that never ends is left too.
 pub fn load<R: Read>(alloc: Global, reader: &mut R) -> Result<Vec<u8>, LoadFault>
-    ensures whole { IfOk result (λ bytes. Consumes (R.remaining reader.old) (R.remaining reader.new) bytes.items) }
+    ensures whole { HasLoaded (R.remaining reader.old) (R.remaining reader.new) result }
     ensures ended { OnOk result (IsAtEnd (R.remaining reader.new)) }
     ensures limit { IfOk result (λ bytes. length bytes.items ≤ IMAGE_LIMIT) }
-    ensures too_large { IsErrOf result LoadFault.TooLarge → GaveSo (R.remaining reader.old) (R.remaining reader.new) (IMAGE_LIMIT + 1) }
-    ensures stops { OnErr result (GaveAtMost (R.remaining reader.old) (R.remaining reader.new) (IMAGE_LIMIT + 1)) }
+    ensures too_large { IsErrOf result LoadFault.TooLarge
+        → GaveSo (R.remaining reader.old) (R.remaining reader.new) (IMAGE_LIMIT + 1) }
+    ensures stops { StopsPast (R.remaining reader.old) (R.remaining reader.new) IMAGE_LIMIT result }
 {
     load_within(alloc, reader, IMAGE_LIMIT as u64)
 }
@@ -77,11 +79,12 @@ pub fn load<R: Read>(alloc: Global, reader: &mut R) -> Result<Vec<u8>, LoadFault
 /// exactly one byte more.
 pub fn load_within<R: Read>(alloc: Global, reader: &mut R, limit: u64) -> Result<Vec<u8>, LoadFault>
     requires { limit ≤ IMAGE_LIMIT }
-    ensures whole { IfOk result (λ bytes. Consumes (R.remaining reader.old) (R.remaining reader.new) bytes.items) }
+    ensures whole { HasLoaded (R.remaining reader.old) (R.remaining reader.new) result }
     ensures ended { OnOk result (IsAtEnd (R.remaining reader.new)) }
     ensures limit { IfOk result (λ bytes. length bytes.items ≤ limit) }
-    ensures too_large { IsErrOf result LoadFault.TooLarge → GaveSo (R.remaining reader.old) (R.remaining reader.new) (limit + 1) }
-    ensures stops { OnErr result (GaveAtMost (R.remaining reader.old) (R.remaining reader.new) (limit + 1)) }
+    ensures too_large { IsErrOf result LoadFault.TooLarge
+        → GaveSo (R.remaining reader.old) (R.remaining reader.new) (limit + 1) }
+    ensures stops { StopsPast (R.remaining reader.old) (R.remaining reader.new) limit result }
 {
     let most = limit as usize;
     let mut bytes = Vec::new(alloc);
@@ -99,7 +102,8 @@ fn load_more<R: Read>(reader: &mut R, bytes: &mut Vec<u8>, room: usize) -> Resul
     requires some { 0 < room }
     requires end { vec_len bytes.old + room < 2 ^ 64 }
     ensures ok { OnOk result ((more : List ℕ) × (length more ≤ room)
-        × Consumes (R.remaining reader.old) (R.remaining reader.new) more × (bytes.new.items ≡ bytes.old.items ++ more)) }
+        × Consumes (R.remaining reader.old) (R.remaining reader.new) more
+        × (bytes.new.items ≡ bytes.old.items ++ more)) }
     ensures ended { result ≡ Ok true → IsAtEnd (R.remaining reader.new) }
     ensures goes_on { result ≡ Ok false → vec_len bytes.new ≡ vec_len bytes.old + room }
     ensures err { OnErr result (GaveAtMost (R.remaining reader.old) (R.remaining reader.new) room) }
@@ -134,9 +138,11 @@ fn fill_behind<R: Read>(reader: &mut R, bytes: &mut [u8], start: usize) -> io::R
     requires { start < length bytes.old }
     ensures front { take start bytes.new ≡ take start bytes.old }
     ensures within { IfOk result (λ count. start + count ≤ length bytes.new) }
-    ensures taken { IfOk result (λ n. Consumes (R.remaining reader.old) (R.remaining reader.new) (take n (drop start bytes.new))) }
-    ensures ended { IfOk result (λ count. start + count < length bytes.new → IsAtEnd (R.remaining reader.new)) }
-    ensures err { OnErr result (GaveFewer (R.remaining reader.old) (R.remaining reader.new) (length bytes.new - start)) }
+    ensures taken { HasFilled (R.remaining reader.old) (R.remaining reader.new)
+        (drop start bytes.new) result }
+    ensures ended { IfOk result (λ n. EndsIfShort (R.remaining reader.new) bytes.new (start + n)) }
+    ensures err { OnErr result (GaveFewer (R.remaining reader.old) (R.remaining reader.new)
+        (length bytes.new - start)) }
 {
     fill(reader, &mut bytes[start..])
 }

@@ -9,7 +9,8 @@ use std::io::{ErrorKind, Write};
 /// Writes all bytes. At an error a part of them may have gone out, from the first on, and nothing else.
 pub fn put<W: Write>(writer: &mut W, bytes: &[u8]) -> io::Result<()>
     ensures ok { OnOk result (Appends (W.contents writer.old) (W.contents writer.new) bytes.now) }
-    ensures err { OnErr result (AppendsFront (W.contents writer.old) (W.contents writer.new) bytes.now) }
+    ensures err { OnErr result (AppendsFront (W.contents writer.old) (W.contents writer.new)
+        bytes.now) }
 {
     let mut count = 0;
     for _turn in 0..u64::MAX {
