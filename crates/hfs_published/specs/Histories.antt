@@ -2,7 +2,8 @@
 use Rattle.std.specs.Prelude.{◌≡◌, ℕ, ◌+◌, true, List, [], ◌∷◌, ◌++◌, length}
 use Rattle.logbook.specs.Pages.{Cell, Step, View, Book}
 use Rattle.hfs_published.specs.declared.item.Item.{Item}
-use Rattle.hfs_published.specs.declared.item.Item.TheVariants.{Opening}
+use Rattle.hfs_published.specs.declared.item.Item.TheVariants.{Opening, Change}
+use Rattle.hfs_model.specs.declared.call.Call.{Call}
 use Rattle.hfs_model.specs.Volume.{Volume}
 
 -- a beginning of a history, by the history's name
@@ -12,6 +13,10 @@ pub record Known : Type 0 where
 
 abbrev pub known : Book → List Item → Known
 known b l = record { book = b; list = l }
+
+-- a beginning with one change more
+abbrev pub with_change : Known → Call → Known
+with_change k c = known k.book (k.list ++ Change c ∷ [])
 
 -- the opening alone
 abbrev pub opened : Volume → List Item

@@ -4,3 +4,5 @@ pub mod Journals
 pub mod Laws
 pub mod Pairs
 pub mod Tolds
+pub mod Answers
+pub mod Writers

@@ -1,5 +1,5 @@
 -- What a published list stands for, and the rule of the pair of copies.
-use Rattle.std.specs.Prelude.{◌≡◌, ℕ, List, [], fold, Option, Some}
+use Rattle.std.specs.Prelude.{◌≡◌, ℕ, ◌<◌, List, [], fold, length, Option, Some, Result, IfOk}
 use mathlib.Core.Option.{some}
 use mathlib.Core.List.{IsPrefix}
 use lib.ListN.{get_elem?}
@@ -51,3 +51,15 @@ pub record Reads (call : Call) (before : Known) (r : Reply) (after : Known) : Ty
   pub book : after.book ≡ before.book
   pub later : IsPrefix before.list after.list
   pub reply : r ≡ (step (shown after.list) call).1
+
+-- the reply, where there is one, is that of a list which begins with the one before
+abbrev pub GivesReply : {E : Type 0} → Call → Known → Known → Result Reply E → Type 0
+GivesReply call before after result = IfOk result (λ r. Reads call before r after)
+
+-- the seat has then seen this list, which begins with the one that it had met
+abbrev pub HasTaken : Known → Option Known → Known → Type 0
+HasTaken now v met = Sits now v × (now.book ≡ met.book) × IsPrefix met.list now.list
+
+-- two lists are shorter than a third
+abbrev pub AreShorter : Known → Known → Known → Type 0
+AreShorter j k than = (length j.list < length than.list) × (length k.list < length than.list)

@@ -3,10 +3,16 @@ use Rattle.std.specs.Prelude.{◌≡◌, ℕ, List, [], ◌∷◌, ◌++◌, fol
 use mathlib.Core.List.{IsPrefix}
 use Rattle.logbook.specs.Pages.{Book}
 use Rattle.hfs_published.specs.declared.item.Item.{Item}
+use Rattle.hfs_published.specs.declared.item.Item.TheVariants.{Change}
 use Rattle.hfs_published.specs.declared.published.Published.{Published}
 use Rattle.hfs_published.specs.declared.published.Change as op
+use Rattle.hfs_model.specs.declared.call.Call.{Call}
+use Rattle.hfs_model.specs.declared.journal.Entry.{Entry}
 use Rattle.hfs_model.specs.Volume.{Volume}
+use Rattle.hfs_check.specs.VolumeOf.{volume_of}
+use Rattle.hfs_volume.specs.Image.{ImageValue}
 use Rattle.hfs_published.specs.Histories.{Known, known, opened}
+use Rattle.hfs_published.specs.Journals.{changes}
 use Rattle.hfs_published.specs.Lists.{absorb, shown, IsGood, Sits}
 
 -- the history's name, the list with all changes that were added, and the one that is published
@@ -22,6 +28,14 @@ pair b a s = record { book = b; all = a; shown = s }
 abbrev pub with_added : PairState → List Item → PairState
 with_added p items = pair p.book (p.all ++ items) p.shown
 
+-- the pair with this change behind all that were added
+abbrev pub with_call : PairState → Call → PairState
+with_call p c = with_added p (Change c ∷ [])
+
+-- the pair with the entry's change behind all that were added, if that is an accepted one
+abbrev pub with_entry : PairState → Entry → PairState
+with_entry p e = with_added p (changes (e ∷ []))
+
 -- the pair with all that was added published
 abbrev pub with_all_shown : PairState → PairState
 with_all_shown p = pair p.book p.all p.all
@@ -30,9 +44,17 @@ with_all_shown p = pair p.book p.all p.all
 abbrev pub IsOpened : Volume → PairState → Type 0
 IsOpened v p = p ≡ pair p.book (opened v) (opened v)
 
+-- so many viewers, each of which has seen this list
+abbrev pub HaveSeen : ℕ → Known → List Known → Type 0
+HaveSeen count f seen = (length seen ≡ count) × All (λ k. k ≡ f) seen
+
 -- so many viewers, each of which has seen the opening alone
 abbrev pub SawOpening : ℕ → Book → Volume → List Known → Type 0
-SawOpening count b v seen = (length seen ≡ count) × All (λ k. k ≡ known b (opened v)) seen
+SawOpening count b v seen = HaveSeen count (known b (opened v)) seen
+
+-- and that is of the volume as its image is now
+abbrev pub SawOpeningOf : ℕ → Book → ImageValue → List Known → Type 0
+SawOpeningOf count b image seen = SawOpening count b (volume_of image.current) seen
 
 abbrev pub pair_state : Known → Published → PairState
 pair_state f x = pair f.book f.list x.front.list

@@ -1,8 +1,8 @@
 //! A beginning of the history, as a token that can be copied.
-ghost use Rattle.std.specs.Prelude.{◌≡◌, ◌⊎◌, ◌+◌, ◌<◌, ◌++◌, ◌∷◌, [], true, length, MatchBool};
+ghost use Rattle.std.specs.Prelude.{◌≡◌, ◌⊎◌, ◌+◌, true, length};
 ghost use mathlib.Core.List.{IsPrefix};
-ghost use Rattle.hfs_published.specs.declared.item.Item.TheVariants.{Change};
-ghost use Rattle.hfs_published.specs.Histories.{Known, known, opened};
+ghost use Rattle.hfs_published.specs.Answers.{IsAllOrNothing, IsWhetherPrefix};
+ghost use Rattle.hfs_published.specs.Histories.{with_change, opened};
 ghost use Rattle.hfs_check.specs.VolumeOf.{volume_of};
 
 use crate::item::{Add, Item, Law, Nothing, Opens};
@@ -93,7 +93,7 @@ impl Front {
     /// Whether this begins the other, of the same history.
     pub fn begins(&self, other: &Front) -> bool
         requires { other.now.book ≡ self.now.book }
-        ensures { MatchBool result (IsPrefix self.now.list other.now.list) (length other.now.list < length self.now.list) }
+        ensures { IsWhetherPrefix result self.now.list other.now.list }
     {
         let mut both = self.seen.again();
         both.learn(&other.seen);
@@ -106,7 +106,7 @@ impl Front {
     /// Adds a change, and says whether it did. It does where no one else adds.
     pub fn add(&mut self, history: &History, call: &Call) -> bool
         requires { history.now.head.book ≡ self.old.book }
-        ensures { MatchBool result (self.new ≡ known self.old.book (self.old.list ++ Change call.now ∷ [])) (self.new ≡ self.old) }
+        ensures { IsAllOrNothing result (with_change self.old call.now) self.old self.new }
     {
         if self.changes >= MOST {
             return false;

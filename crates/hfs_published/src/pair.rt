@@ -1,12 +1,13 @@
 //! The writer's side of the pair of copies.
-ghost use Rattle.std.specs.Prelude.{◌≡◌, ◌≢◌, ◌<◌, ◌≤◌, ◌++◌, ◌∷◌, [], true, length, drop, All, None, IfOk, MatchBool};
+ghost use Rattle.std.specs.Prelude.{◌≡◌, ◌≢◌, ◌<◌, ◌≤◌, ◌++◌, ◌∷◌, [], true, drop, None, IfOk, MatchBool};
 ghost use mathlib.Core.List.{IsPrefix};
 ghost use Rattle.left_right.specs.Sides.{view as seat_view};
-ghost use Rattle.hfs_published.specs.declared.item.Item.TheVariants.{Change as Changed};
+ghost use Rattle.hfs_published.specs.Answers.{IsAllOrNothing};
 ghost use Rattle.hfs_published.specs.Histories.{known, opened};
 ghost use Rattle.hfs_published.specs.Lists.{Sits};
-ghost use Rattle.hfs_published.specs.Pairs.{PairState, with_added, with_all_shown, whole, owed_list, IsOpened, IsPair, Opens, SawOpening};
+ghost use Rattle.hfs_published.specs.Pairs.{PairState, with_all_shown, whole, IsOpened, IsPair, HaveSeen, with_call, SawOpeningOf};
 ghost use Rattle.hfs_published.specs.Tolds.{told};
+ghost use Rattle.hfs_published.specs.Writers.{pending_in, waiting_in, KeepsLog, KeepsPending, HasOpened, IsPairIn, ShowsAllOrSame};
 ghost use Rattle.hfs_check.specs.VolumeOf.{volume_of};
 
 use crate::front::{Front, History};
@@ -78,7 +79,7 @@ impl Pair {
     /// Adds a change after all that were added, where it waits to be published. It answers whether it did: not where memory is
     /// wanting.
     pub fn add(&mut self, call: Call) -> bool
-        ensures { MatchBool result (self.new ≡ with_added self.old (Changed call ∷ [])) (self.new ≡ self.old) }
+        ensures { IsAllOrNothing result (with_call self.old call) self.old self.new }
     {
         if !settle(&mut self.writer, &mut self.owed) {
             return false;
@@ -99,7 +100,7 @@ impl Pair {
     /// Shows viewers all that waits, in one step, and answers whether nothing waits any more. Where memory is wanting, nothing
     /// of it is shown, and all of it waits on.
     pub fn publish<R: Wait>(&mut self, rt: &R) -> bool
-        ensures published { MatchBool result (self.new ≡ with_all_shown self.old) (self.new ≡ self.old) }
+        ensures published { IsAllOrNothing result (with_all_shown self.old) self.old self.new }
         ensures idle { self.old.all ≡ self.old.shown → result ≡ true }
     {
         if self.is_shown() {
@@ -152,7 +153,7 @@ impl Pair {
     ) -> Result<(Pair, Vec<Viewer>), PairFault>
         requires { (0 < viewers) × (viewers ≤ 8) }
         ensures pair { IfOk result (λ r. IsOpened (volume_of volume.now.current) r.0) }
-        ensures viewers { IfOk result (λ r. SawOpening viewers r.0.book (volume_of volume.now.current) r.1.items) }
+        ensures viewers { IfOk result (λ r. SawOpeningOf viewers r.0.book volume.now r.1.items) }
     {
         let (front, history) = Front::open(volume);
         let writer = open_writer(rt, alloc, volume, &front, viewers)?;
@@ -191,7 +192,7 @@ impl Drop for Pair {
 // Appends the change. It comes back where there is no memory.
 fn hand_over(writer: &mut PairWriter, change: Change) -> Option<Change>
     ensures desk { writer.new.desk ≡ writer.old.desk }
-    ensures pending { drop writer.new.behind writer.new.log.items ++ owed_list result ≡ drop writer.old.behind writer.old.log.items ++ change ∷ [] }
+    ensures pending { waiting_in writer.new result ≡ pending_in writer.old ++ change ∷ [] }
 {
     match writer.append(change) {
         Ok(()) => None,
@@ -202,7 +203,7 @@ fn hand_over(writer: &mut PairWriter, change: Change) -> Option<Change>
 // Appends the change that is owed, if there is one, and answers whether none is owed any more.
 fn settle(writer: &mut PairWriter, owed: &mut Option<Change>) -> bool
     ensures desk { writer.new.desk ≡ writer.old.desk }
-    ensures pending { drop writer.new.behind writer.new.log.items ++ owed_list owed.new ≡ drop writer.old.behind writer.old.log.items ++ owed_list owed.old }
+    ensures pending { waiting_in writer.new owed.new ≡ waiting_in writer.old owed.old }
     ensures none { MatchBool result (owed.new ≡ None) (owed.new ≢ None) }
 {
     let Some(change) = owed.take() else {
@@ -222,7 +223,7 @@ fn open_writer<R: Wait>(
 ) -> Result<PairWriter, PairFault>
     requires room { (0 < viewers) × (viewers ≤ 8) }
     requires front { front.now.list ≡ opened (volume_of volume.now.current) }
-    ensures { IfOk result (λ w. Opens front.now w.desk.shown.value (drop w.behind w.log.items) (seat_view w.desk.place)) }
+    ensures { IfOk result (λ w. HasOpened front.now w) }
 {
     let first = copy_of(alloc, volume, front)?;
     let second = copy_of(alloc, volume, front)?;
@@ -259,8 +260,8 @@ fn seat_all(
     count: u32,
 ) -> (PairWriter, Result<Vec<Viewer>, PairFault>)
     requires { Sits front.now (seat_view writer.desk.place) }
-    ensures writer { (result.0.desk.shown ≡ writer.desk.shown) × (drop result.0.behind result.0.log.items ≡ drop writer.behind writer.log.items) }
-    ensures viewers { IfOk result.1 (λ v. (length v.items ≡ count) × All (λ k. k ≡ front.now) v.items) }
+    ensures writer { KeepsPending writer result.0 }
+    ensures viewers { IfOk result.1 (λ v. HaveSeen count front.now v.items) }
 {
     let mut viewers = Vec::new(alloc);
     for _i in 0..count {
@@ -280,7 +281,7 @@ fn seat_one(
     requires { Sits front.now (seat_view writer.old.desk.place) }
     ensures viewer { IfOk result (λ _. viewers.new.items ≡ viewers.old.items ++ front.now ∷ []) }
     ensures view { seat_view writer.new.desk.place ≡ seat_view writer.old.desk.place }
-    ensures same { (writer.new.desk.shown ≡ writer.old.desk.shown) × (writer.new.log ≡ writer.old.log) × (writer.new.behind ≡ writer.old.behind) }
+    ensures same { KeepsLog writer.old writer.new }
 {
     let viewer = seat(writer, front)?;
     match viewers.push(viewer) {
@@ -294,7 +295,7 @@ fn seat(writer: &mut PairWriter, front: &Front) -> Result<Viewer, PairFault>
     requires { Sits front.now (seat_view writer.old.desk.place) }
     ensures viewer { IfOk result (λ v. v ≡ front.now) }
     ensures view { seat_view writer.new.desk.place ≡ seat_view writer.old.desk.place }
-    ensures same { (writer.new.desk.shown ≡ writer.old.desk.shown) × (writer.new.log ≡ writer.old.log) × (writer.new.behind ≡ writer.old.behind) }
+    ensures same { KeepsLog writer.old writer.new }
 {
     let mut reader = match writer.factory().reader() {
         Ok(reader) => reader,
@@ -312,10 +313,10 @@ fn show_all<R: Wait>(
     owed: &Option<Change>,
     rt: &R,
 ) -> (PairWriter, bool)
-    requires pair { IsPair front.now history.now.head.book writer.desk.shown.value (drop writer.behind writer.log.items) owed.now }
+    requires pair { IsPairIn front.now history.now.head.book writer owed.now }
     requires none { owed.now ≡ None }
-    ensures pair { IsPair front.now history.now.head.book result.0.desk.shown.value (drop result.0.behind result.0.log.items) owed.now }
-    ensures shown { MatchBool result.1 (result.0.desk.shown.value.front ≡ front.now) (result.0.desk.shown.value ≡ writer.desk.shown.value) }
+    ensures pair { IsPairIn front.now history.now.head.book result.0 owed.now }
+    ensures shown { ShowsAllOrSame result.1 front.now writer result.0 }
 {
     let (writer, shown) = writer.publish_as::<Sees, R>(rt);
     (writer, shown.is_ok())

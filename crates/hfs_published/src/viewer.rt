@@ -1,9 +1,9 @@
 //! A viewer: a reader of the pair, the list that it read last, and the longest list that it saw or was told of.
-ghost use Rattle.std.specs.Prelude.{◌≡◌, ◌⊎◌, ◌+◌, ◌<◌, length, IfOk, IfErr, OnErr, IfSome, IsNone, IsTrue};
+ghost use Rattle.std.specs.Prelude.{◌≡◌, ◌⊎◌, ◌+◌, length, IfOk, IfErr, OnErr, IfSome, IsNone, IsTrue};
 ghost use mathlib.Core.List.{IsPrefix};
 ghost use Rattle.left_right.specs.Sides.{view as seat_view};
-ghost use Rattle.hfs_published.specs.Lists.{shown, Sits, Reads};
-ghost use Rattle.hfs_model.specs.Step.{step, is_reading};
+ghost use Rattle.hfs_published.specs.Lists.{Sits, GivesReply, HasTaken, AreShorter};
+ghost use Rattle.hfs_model.specs.Step.{is_reading};
 ghost use Rattle.hfs_model.specs.declared.call.Call.TheVariants.{GetDirInfo, GetCatInfo, GetIndexed, List, ReadFork};
 
 use crate::front::Front;
@@ -68,7 +68,7 @@ impl Viewer {
     /// or was told of. `Memory` where memory is wanting; `Gone` where there is no copy to read, as after the pair was ended.
     pub fn read(&mut self, alloc: Global, call: &Call) -> Result<Reply, ViewFault>
         requires { IsTrue (is_reading call.now) }
-        ensures ok { IfOk result (λ r. Reads call.now self.old r self.new) }
+        ensures ok { GivesReply call.now self.old self.new result }
         ensures err { OnErr result (self.new ≡ self.old) }
     {
         let parts = (&self.met, &self.front, alloc, call);
@@ -92,7 +92,7 @@ impl Viewer {
 
     /// What is told of the folder of that ID, with the codes of `Volume::get_dir_info`.
     pub fn dir_info(&mut self, alloc: Global, dir: u32) -> Result<Reply, ViewFault>
-        ensures ok { IfOk result (λ r. Reads (GetDirInfo dir) self.old r self.new) }
+        ensures ok { GivesReply (GetDirInfo dir) self.old self.new result }
         ensures err { OnErr result (self.new ≡ self.old) }
     {
         self.read(alloc, &Call::GetDirInfo { dir })
@@ -100,7 +100,7 @@ impl Viewer {
 
     /// What is told of the folder's item of that name, with the codes of `Volume::get_cat_info`.
     pub fn info(&mut self, alloc: Global, dir: u32, name: Bytes) -> Result<Reply, ViewFault>
-        ensures ok { IfOk result (λ r. Reads (GetCatInfo dir name) self.old r self.new) }
+        ensures ok { GivesReply (GetCatInfo dir name) self.old self.new result }
         ensures err { OnErr result (self.new ≡ self.old) }
     {
         self.read(alloc, &Call::GetCatInfo { dir, name })
@@ -109,7 +109,7 @@ impl Viewer {
     /// What is told of the folder's child at that place in name order, counted from 1, with the codes of
     /// `Volume::get_indexed`.
     pub fn indexed(&mut self, alloc: Global, dir: u32, index: u32) -> Result<Reply, ViewFault>
-        ensures ok { IfOk result (λ r. Reads (GetIndexed dir index) self.old r self.new) }
+        ensures ok { GivesReply (GetIndexed dir index) self.old self.new result }
         ensures err { OnErr result (self.new ≡ self.old) }
     {
         self.read(alloc, &Call::GetIndexed { dir, index })
@@ -117,7 +117,7 @@ impl Viewer {
 
     /// What is told of all the folder's children, in name order, with the codes of `Volume::list`.
     pub fn list(&mut self, alloc: Global, dir: u32) -> Result<Reply, ViewFault>
-        ensures ok { IfOk result (λ r. Reads (List dir) self.old r self.new) }
+        ensures ok { GivesReply (List dir) self.old self.new result }
         ensures err { OnErr result (self.new ≡ self.old) }
     {
         self.read(alloc, &Call::List { dir })
@@ -133,7 +133,7 @@ impl Viewer {
         offset: u32,
         count: u32,
     ) -> Result<Reply, ViewFault>
-        ensures ok { IfOk result (λ r. Reads (ReadFork dir name fork offset count) self.old r self.new) }
+        ensures ok { GivesReply (ReadFork dir name fork offset count) self.old self.new result }
         ensures err { OnErr result (self.new ≡ self.old) }
     {
         let call = Call::ReadFork {
@@ -181,9 +181,9 @@ fn read(
     requires book { met.now.book ≡ front.now.book }
     requires reading { IsTrue (is_reading call.now) }
     ensures none { IfErr result.1 (λ _. Sits met.now (seat_view result.0.place)) }
-    ensures met { IfOk result.1 (λ r. Sits r.1 (seat_view result.0.place) × (r.1.book ≡ met.now.book) × IsPrefix met.now.list r.1.list) }
-    ensures reads { IfOk result.1 (λ r. IfSome r.0 (λ x. IfOk x (λ y. Reads call.now front.now y r.1))) }
-    ensures stale { IfOk result.1 (λ r. IsNone r.0 → (length r.1.list < length front.now.list) × (length met.now.list < length front.now.list)) }
+    ensures met { IfOk result.1 (λ r. HasTaken r.1 (seat_view result.0.place) met.now) }
+    ensures reads { IfOk result.1 (λ r. IfSome r.0 (λ x. GivesReply call.now front.now r.1 x)) }
+    ensures stale { IfOk result.1 (λ r. IsNone r.0 → AreShorter r.1 met.now front.now) }
 {
     let reading = match reader.enter_as::<Sees>() {
         Ok(reading) => reading,

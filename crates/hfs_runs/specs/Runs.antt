@@ -1,5 +1,5 @@
 -- What a run of a script makes.
-use Rattle.std.specs.Prelude.{◌≡◌, ℕ, ◌+◌, ◌<◌, Bool, List, [], map, length, Option, Some, Result, Ok, Err, String, string_bytes}
+use Rattle.std.specs.Prelude.{◌≡◌, ℕ, ◌+◌, ◌<◌, ◌⊎◌, Bool, List, [], map, length, Option, Some, Result, Ok, Err, String, string_bytes}
 use Rattle.logbook.specs.Pages.{Book}
 use Rattle.hfs_model.specs.declared.call.Call.{Call}
 use Rattle.hfs_model.specs.declared.reply.Reply.{Reply}
@@ -26,6 +26,7 @@ use Rattle.hfs_shared.specs.Works.{IsWork}
 use Rattle.hfs_runs.specs.declared.fault.ScriptFault.{ScriptFault}
 use Rattle.hfs_runs.specs.declared.fault.ScriptFault.TheVariants as run
 use Rattle.hfs_runs.specs.declared.numbering.Asked.{Asked}
+use Rattle.hfs_runs.specs.declared.running.Ran.{Ran}
 use Rattle.hfs_runs.specs.Answers.{answers_text, is_whole}
 use Rattle.hfs_runs.specs.Asking.{AreNumbered}
 use Rattle.hfs_runs.specs.Views.{AreReads}
@@ -43,6 +44,10 @@ IsMountFault image (run.Line place) = ⊥
 IsMountFault image (run.Refused why) = fault_of image ≡ Some why
 IsMountFault image run.NoPlace = ⊥
 IsMountFault image run.Memory = Unit {0}
+
+-- why a volume was not shared for a run: a viewer had no place, or memory was refused
+abbrev pub IsStartFault : ScriptFault → Type 0
+IsStartFault fault = (fault ≡ run.NoPlace) ⊎ (fault ≡ run.Memory)
 
 -- why a script was not run on an image: memory was refused; or the script doesn't read; or it does, and the image is refused;
 -- or both are good, and a viewer had no place
@@ -86,9 +91,17 @@ pub record IsRan (opening : Volume) (lines : List ScriptLine) (volume : ImageVal
   pub worked : (place : ℕ) → place < workers lines → IsWorked book opening (place + 1) (calls_of (Worker (place + 1)) lines) (replies (Worker (place + 1)))
   pub viewed : (place : ℕ) → place < viewers lines → IsViewedFrom book opening (calls_of (Viewer (place + 1)) lines) (replies (Viewer (place + 1)))
 
+-- what was made is that of a run of these lines on an opening volume
+abbrev pub IsRanOf : Volume → List ScriptLine → Ran → Type 0
+IsRanOf opening lines ran = IsRan opening lines ran.volume (string_bytes ran.text) ran.whole
+
 -- a script was run on an image
 pub record IsRun (now : ℕ) (script image : List ℕ) (volume : ImageValue) (text : List ℕ) (whole : Bool) : Type 0 where
   pub lines : List ScriptLine
   pub reads : script_of now script ≡ Ok lines
   pub sound : IsSound image
   pub ran : IsRan (volume_of image) lines volume text whole
+
+-- what was made is that of a run of this script on this image
+abbrev pub IsRunOf : ℕ → List ℕ → List ℕ → Ran → Type 0
+IsRunOf now script image ran = IsRun now script image ran.volume (string_bytes ran.text) ran.whole

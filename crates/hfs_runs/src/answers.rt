@@ -24,7 +24,8 @@ fn who(alloc: Global, caller: Caller) -> Result<String, AllocError>
 
 // The reply to a call, if it was answered.
 fn reply_to<'a>(dones: &'a Vec<Done>, viewings: &'a Vec<Viewing>, asked: Asked) -> Option<&'a Reply>
-    ensures { option_copied result ≡ reply_to (replies_of dones.now.items viewings.now.items) asked }
+    ensures { option_copied result
+        ≡ reply_to (replies_of dones.now.items viewings.now.items) asked }
 {
     let at = asked.number.saturating_sub(1) as usize;
     match asked.caller {
@@ -59,7 +60,8 @@ fn viewer_reply(viewings: &Vec<Viewing>, viewer: u32, at: usize) -> Option<&Repl
 // The lines of the answer to one call; where there is no reply, a line with the code `none`.
 #[tactic(auto, unfolding(crate::specs::Answers::answer_text))]
 fn answer_text(alloc: Global, asked: Asked, reply: Option<&Reply>) -> Result<String, AllocError>
-    ensures { IfOk result (λ text. string_bytes text ≡ answer_text asked (option_copied reply.entry)) }
+    ensures { IfOk result (λ text.
+        string_bytes text ≡ answer_text asked (option_copied reply.entry)) }
 {
     let who = who(alloc, asked.caller)?;
     match reply {
@@ -76,8 +78,10 @@ pub fn answers_text(
     dones: &Vec<Done>,
     viewings: &Vec<Viewing>,
 ) -> Result<(String, bool), AllocError>
-    ensures text { IfOk result (λ r. string_bytes r.0 ≡ answers_text (replies_of dones.now.items viewings.now.items) lines.now) }
-    ensures whole { IfOk result (λ r. r.1 ≡ is_whole (replies_of dones.now.items viewings.now.items) lines.now) }
+    ensures text { IfOk result (λ r.
+        string_bytes r.0 ≡ answers_text (replies_of dones.now.items viewings.now.items) lines.now) }
+    ensures whole { IfOk result (λ r.
+        r.1 ≡ is_whole (replies_of dones.now.items viewings.now.items) lines.now) }
 {
     let mut text = String::new(alloc);
     let mut whole = true;

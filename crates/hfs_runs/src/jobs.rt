@@ -19,7 +19,8 @@ pub fn jobs_of(
     requires { length passes.items ≤ 8 }
     ensures many { IfOk result (λ r. length r.0.items ≡ length passes.items) }
     ensures passes { IfOk result (λ r. HaveEach (λ job. job.0) passes.items r.0.items) }
-    ensures calls { IfOk result (λ r. HaveCalls (λ job. job.1.items) Worker (length passes.items) script r.0.items) }
+    ensures calls { IfOk result (λ r.
+        HaveCalls (λ job. job.1.items) Worker (length passes.items) script r.0.items) }
     ensures others { IfOk result (λ r. HasViewersOf script r.1) }
 {
     let mut jobs = Vec::new(alloc);
@@ -44,7 +45,8 @@ pub fn viewings_of(
     requires { length viewers.items ≤ 8 }
     ensures many { IfOk result (λ v. length v.items ≡ length viewers.items) }
     ensures viewers { IfOk result (λ v. HaveEach (λ one. one.viewer) viewers.items v.items) }
-    ensures calls { IfOk result (λ v. HaveCalls (λ one. one.calls.items) AsViewer (length viewers.items) script v.items) }
+    ensures calls { IfOk result (λ v.
+        HaveCalls (λ one. one.calls.items) AsViewer (length viewers.items) script v.items) }
 {
     let mut viewings = Vec::new(alloc);
     let mut rest = script;

@@ -1,5 +1,5 @@
 //! A script that is run on an image.
-ghost use Rattle.std.specs.Prelude.{◌≡◌, ◌<◌, ◌≤◌, ◌⊎◌, All, IfOk, IfErr, OnOk, get_or, length, map, string_bytes};
+ghost use Rattle.std.specs.Prelude.{◌≡◌, ◌<◌, ◌≤◌, All, IfOk, IfErr, OnOk, get_or, length, map};
 ghost use Rattle.std.specs.Thread.{IsSync};
 ghost use Rattle.hfs_check.specs.Sound.{IsSound};
 ghost use Rattle.hfs_check.specs.VolumeOf.{volume_of};
@@ -7,7 +7,7 @@ ghost use Rattle.hfs_scripts.specs.Callers.{workers, viewers};
 ghost use Rattle.hfs_shared.specs.Shareds.{IsStart};
 ghost use Rattle.hfs_shared.specs.Works.{AreDone};
 ghost use Rattle.hfs_runs.specs.Asking.{IsSmall};
-ghost use Rattle.hfs_runs.specs.Runs.{IsHandedOut, IsMountFault, IsRan, IsRun, IsRunFault};
+ghost use Rattle.hfs_runs.specs.Runs.{IsHandedOut, IsMountFault, IsRunFault, IsRunOf, IsRanOf, IsStartFault};
 ghost use Rattle.hfs_runs.specs.Views.{AreViewed};
 
 use crate::answers::answers_text;
@@ -64,7 +64,8 @@ fn run_beside<K: Session + Send + Sync, R: Threads + Wait + Sync, G: Gate + Sync
         move || -> Result<Vec<Done>, RunFault>
             requires { IsSync R.row × IsSync K.row × IsSync G.row }
             ensures dones { IfOk result (λ v. length v.items ≡ length jobs.items) }
-            ensures done { IfOk result (λ v. AreDone K.book K.opening (λ c. c.items) jobs.items v.items) }
+            ensures done { IfOk result (λ v.
+                AreDone K.book K.opening (λ c. c.items) jobs.items v.items) }
         { run_workers(shared, rt, alloc, gate, jobs) },
         move || -> Vec<Viewing>
             requires { IsSync R.row }
@@ -116,9 +117,10 @@ fn run_shared<K: Session + Send + Sync, R: Threads + Wait + Sync, G: Gate + Sync
     script: Script,
 ) -> Result<Ran, ScriptFault>
     requires parts { (parts.book ≡ K.book) × (parts.opening ≡ K.opening) }
-    requires started { IsStart K.opening (workers script) (viewers script) parts passes.items readers.items }
+    requires started { IsStart K.opening (workers script) (viewers script)
+        parts passes.items readers.items }
     requires small { All (λ l. IsSmall l.caller) script }
-    ensures ok { IfOk result (λ ran. IsRan K.opening script ran.volume (string_bytes ran.text) ran.whole) }
+    ensures ok { IfOk result (λ ran. IsRanOf K.opening script ran) }
     ensures err { IfErr result (λ fault. fault ≡ ScriptFault.Memory) }
 {
     let shared = parts.share::<K>();
@@ -161,8 +163,9 @@ fn start<R: Wait>(
 ) -> Result<(Parts, Vec<Pass>, Vec<Viewer>), ScriptFault>
     requires workers { (0 < workers) × (workers ≤ 8) }
     requires viewers { (0 < viewers) × (viewers ≤ 8) }
-    ensures ok { IfOk result (λ r. IsStart (volume_of volume.current) workers viewers r.0 r.1.items r.2.items) }
-    ensures err { IfErr result (λ fault. (fault ≡ ScriptFault.NoPlace) ⊎ (fault ≡ ScriptFault.Memory)) }
+    ensures ok { IfOk result (λ r.
+        IsStart (volume_of volume.current) workers viewers r.0 r.1.items r.2.items) }
+    ensures err { IfErr result IsStartFault }
 {
     match Parts::start(rt, alloc, volume, workers, viewers) {
         Ok(started) => Ok(started),
@@ -184,7 +187,7 @@ pub fn run_script<R: Threads + Wait + Sync>(
     script: &[u8],
     now: u32,
 ) -> Result<Ran, ScriptFault>
-    ensures ok { IfOk result (λ ran. IsRun now script.now image.items ran.volume (string_bytes ran.text) ran.whole) }
+    ensures ok { IfOk result (λ ran. IsRunOf now script.now image.items ran) }
     ensures err { IfErr result (IsRunFault now script.now image.items) }
 {
     run_script_at(rt, alloc, &NoGate, image, script, now)
@@ -199,7 +202,7 @@ pub fn run_script_at<R: Threads + Wait + Sync, G: Gate + Sync>(
     script: &[u8],
     now: u32,
 ) -> Result<Ran, ScriptFault>
-    ensures ok { IfOk result (λ ran. IsRun now script.now image.items ran.volume (string_bytes ran.text) ran.whole) }
+    ensures ok { IfOk result (λ ran. IsRunOf now script.now image.items ran) }
     ensures err { IfErr result (IsRunFault now script.now image.items) }
 {
     let script = match read_script(alloc, script, now) {

@@ -25,8 +25,10 @@ fn view_one(
     replies: &mut Vec<Reply>,
 ) -> Result<(), ViewFault>
     requires { IsTrue (is_reading call.now) }
-    ensures ok { OnOk result (AreMoreReads call.now viewer.old viewer.new replies.old.items replies.new.items) }
-    ensures err { OnErr result ((viewer.new ≡ viewer.old) × (replies.new.items ≡ replies.old.items)) }
+    ensures ok { OnOk result
+        (AreMoreReads call.now viewer.old viewer.new replies.old.items replies.new.items) }
+    ensures err { OnErr result
+        ((viewer.new ≡ viewer.old) × (replies.new.items ≡ replies.old.items)) }
 {
     if replies.reserve(1).is_err() {
         return Err(ViewFault::Memory);

@@ -9,6 +9,7 @@ use Rattle.hfs_check.specs.VolumeOf.{volume_of}
 use Rattle.hfs_volume.specs.Image.{ImageValue}
 use Rattle.hfs_published.specs.Histories.{Known}
 use Rattle.hfs_published.specs.Journals.{IsLegal, made_by, published}
+use Rattle.hfs_shared.specs.declared.closed.Closed.{Closed}
 use Rattle.hfs_shared.specs.Desks.{PassState, pass_state}
 
 -- the answer is whether it holds
@@ -40,3 +41,7 @@ pub record IsClosed (opening : Volume) (volume : ImageValue) (journal : List Ent
   pub others : HasNoOthers (length passes) journal
   pub seen : afterwards.list ≡ published opening journal shown
   pub begins : IsPrefix before.list afterwards.list
+
+-- and this is what it gave
+abbrev pub IsClosedAs : Volume → Closed → List PassState → Known → Known → Type 0
+IsClosedAs opening c passes before afterwards = IsClosed opening c.volume c.journal.items c.shown passes before afterwards

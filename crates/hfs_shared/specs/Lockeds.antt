@@ -1,5 +1,5 @@
 -- What lies under the lock, as plain data.
-use Rattle.std.specs.Prelude.{◌≡◌, ℕ, ◌≤◌, List, length, drop}
+use Rattle.std.specs.Prelude.{◌≡◌, ℕ, ◌≤◌, ◌⊎◌, List, length, drop}
 use Rattle.logbook.specs.Pages.{Book}
 use Rattle.hfs_model.specs.declared.journal.Entry.{Entry}
 use Rattle.hfs_model.specs.Volume.{Volume}
@@ -21,6 +21,10 @@ locked_state d n = record { base = d.base; current = d.current; journal = d.jour
 
 abbrev pub desk_of : LockedState → DeskState
 desk_of l = desk_state l.base l.current l.journal l.workers
+
+-- so many entries are all of them, or those that the published list covers already
+abbrev pub CoversAllOrSame : LockedState → ℕ → Type 0
+CoversAllOrSame l n = (n ≡ length l.journal) ⊎ (n ≡ l.shown)
 
 -- where no accepted change waits, so many entries are all of them
 abbrev pub KeepsUp : LockedState → ℕ → Type 0

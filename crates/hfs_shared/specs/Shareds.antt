@@ -8,6 +8,7 @@ use Rattle.hfs_model.specs.Volume.{Volume}
 use Rattle.hfs_model.specs.Runs.{after}
 use Rattle.hfs_model.specs.Need.{step_within}
 use Rattle.hfs_check.specs.VolumeOf.{volume_of}
+use Rattle.hfs_volume.specs.Image.{ImageValue}
 use Rattle.hfs_published.specs.Histories.{Known, known, opened}
 use Rattle.hfs_published.specs.Journals.{IsLegal, published}
 use Rattle.hfs_published.specs.Pairs.{PairState}
@@ -43,6 +44,10 @@ pub record IsStart (opening : Volume) (workers viewers : ℕ) (p : PartsState) (
   pub passes_are : AreFirstPasses workers passes
   pub many : length seen ≡ viewers
   pub viewers_are : All (λ k. k ≡ known p.book (opened opening)) seen
+
+-- and the opening is the volume as its image is now
+abbrev pub IsStartOf : ImageValue → ℕ → ℕ → PartsState → List PassState → List Known → Type 0
+IsStartOf image workers viewers p passes seen = IsStart (volume_of image.current) workers viewers p passes seen
 
 -- ---- one call
 

@@ -1,9 +1,9 @@
 //! The lock, held.
-ghost use Rattle.std.specs.Prelude.{◌≡◌, ◌⊎◌, length, IfOk, OnErr, IfErr};
+ghost use Rattle.std.specs.Prelude.{◌≡◌, IfOk, OnErr, IfErr};
 ghost use Rattle.hfs_check.specs.VolumeOf.{volume_of};
 ghost use Rattle.hfs_shared.specs.Desks.{IsApplied};
 ghost use Rattle.hfs_shared.specs.Faults.{IsCallFault};
-ghost use Rattle.hfs_shared.specs.Lockeds.{LockedState, desk_of, KeepsUp};
+ghost use Rattle.hfs_shared.specs.Lockeds.{LockedState, desk_of, KeepsUp, CoversAllOrSame};
 ghost use Rattle.hfs_shared.specs.Shareds.{IsToldOf};
 
 use crate::desk::CallFault;
@@ -43,7 +43,8 @@ impl<K: Session> Guard<'_, K> {
     /// Makes a call of a worker: one entry more in the journal, and the pass's number is one more. `Stamp` where that number is
     /// not the next one of its worker, before anything else is looked at. At a fault nothing has changed.
     pub fn apply(&mut self, alloc: Global, pass: &mut Pass, call: &Call) -> Result<Reply, CallFault>
-        ensures ok { IfOk result (λ r. IsApplied (desk_of self.old) pass.old call.now r (desk_of self.new) pass.new) }
+        ensures ok { IfOk result (λ r.
+            IsApplied (desk_of self.old) pass.old call.now r (desk_of self.new) pass.new) }
         ensures shown { self.new.shown ≡ self.old.shown }
         ensures opening { volume_of self.old.base ≡ K.opening }
         ensures err { OnErr result ((self.new ≡ self.old) × (pass.new ≡ pass.old)) }
@@ -55,7 +56,7 @@ impl<K: Session> Guard<'_, K> {
     /// Shows all that waits, in one step, or nothing of it where memory is wanting; what is then published is told.
     pub fn publish<R: Wait>(&mut self, rt: &R) -> Told
         ensures desk { desk_of self.new ≡ desk_of self.old }
-        ensures shown { (self.new.shown ≡ length self.old.journal) ⊎ (self.new.shown ≡ self.old.shown) }
+        ensures shown { CoversAllOrSame self.old self.new.shown }
         ensures idle { KeepsUp self.old self.new.shown }
         ensures number { result.shown ≡ self.new.shown }
         ensures told { IsToldOf K.book K.opening self.old.journal result }

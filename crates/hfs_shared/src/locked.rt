@@ -1,10 +1,10 @@
 //! What lies under the lock: the volume with its journal, and the list that is published of it.
-ghost use Rattle.std.specs.Prelude.{◌≡◌, ◌⊎◌, ◌≤◌, [], length, take, drop, ◌++◌, ◌-◌, IfOk, OnErr, IfErr};
+ghost use Rattle.std.specs.Prelude.{◌≡◌, ◌⊎◌, ◌≤◌, [], length, drop, ◌-◌, IfOk, OnErr, IfErr};
 ghost use Rattle.hfs_check.specs.VolumeOf.{volume_of};
 ghost use Rattle.hfs_published.specs.Journals.{published, NoneAccepted};
 ghost use Rattle.hfs_shared.specs.Desks.{IsApplied};
 ghost use Rattle.hfs_shared.specs.Faults.{IsCallFault};
-ghost use Rattle.hfs_shared.specs.Lockeds.{LockedState, locked_state, desk_of, KeepsUp, ShowsOf, GathersOf};
+ghost use Rattle.hfs_shared.specs.Lockeds.{LockedState, locked_state, desk_of, KeepsUp, ShowsOf, GathersOf, CoversAllOrSame};
 ghost use Rattle.hfs_shared.specs.Shareds.{told_of};
 
 use crate::desk::{CallFault, Desk};
@@ -61,7 +61,8 @@ impl<K: Session> Locked<K> {
     /// Makes a call of a worker: one entry more in the journal. `Stamp` where the pass's number is not the next one of its
     /// worker, before anything else is looked at.
     pub fn apply(&mut self, alloc: Global, pass: &mut Pass, call: &Call) -> Result<Reply, CallFault>
-        ensures ok { IfOk result (λ r. IsApplied (desk_of self.old) pass.old call.now r (desk_of self.new) pass.new) }
+        ensures ok { IfOk result (λ r.
+            IsApplied (desk_of self.old) pass.old call.now r (desk_of self.new) pass.new) }
         ensures shown { self.new.shown ≡ self.old.shown }
         ensures opening { volume_of self.old.base ≡ K.opening }
         ensures err { OnErr result ((self.new ≡ self.old) × (pass.new ≡ pass.old)) }
@@ -81,7 +82,7 @@ impl<K: Session> Locked<K> {
     /// Shows all that waits, in one step, or nothing of it where memory is wanting; what is then published is told.
     pub fn publish<R: Wait>(&mut self, rt: &R) -> Told
         ensures desk { desk_of self.new ≡ desk_of self.old }
-        ensures shown { (self.new.shown ≡ length self.old.journal) ⊎ (self.new.shown ≡ self.old.shown) }
+        ensures shown { CoversAllOrSame self.old self.new.shown }
         ensures idle { KeepsUp self.old self.new.shown }
         ensures told { result ≡ told_of K.book K.opening self.old.journal self.new.shown }
     {

@@ -1,8 +1,7 @@
 //! The parts of a shared volume, before a session names them.
 ghost use Rattle.std.specs.Prelude.{◌≡◌, ◌<◌, ◌≤◌, [], IfOk, IfErr, IfSome};
-ghost use Rattle.hfs_check.specs.VolumeOf.{volume_of};
 ghost use Rattle.hfs_shared.specs.Desks.{desk_state};
-ghost use Rattle.hfs_shared.specs.Shareds.{AreFirstPasses, IsStart};
+ghost use Rattle.hfs_shared.specs.Shareds.{AreFirstPasses, IsStartOf};
 
 use crate::desk::Desk;
 use crate::locked::Locked;
@@ -68,7 +67,7 @@ impl Parts {
     ) -> Result<(Parts, Vec<Pass>, Vec<Viewer>), StartFault>
         requires workers { (0 < workers) × (workers ≤ 8) }
         requires viewers { (0 < viewers) × (viewers ≤ 8) }
-        ensures ok { IfOk result (λ r. IsStart (volume_of volume.current) workers viewers r.0 r.1.items r.2.items) }
+        ensures ok { IfOk result (λ r. IsStartOf volume workers viewers r.0 r.1.items r.2.items) }
         ensures err { IfErr result (λ f. f.volume.current ≡ volume.current) }
     {
         let Some(passes) = first_passes(alloc, workers) else {

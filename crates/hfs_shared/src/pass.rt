@@ -1,5 +1,6 @@
 //! A worker's pass.
-ghost use Rattle.std.specs.Prelude.{◌≡◌, ◌≢◌, ◌+◌, ◌<◌, ◌^◌, MatchBool};
+ghost use Rattle.std.specs.Prelude.{◌≡◌, ◌+◌, ◌<◌, ◌^◌};
+ghost use Rattle.hfs_shared.specs.Closings.{IsWhether};
 ghost use Rattle.hfs_shared.specs.Desks.{PassState, pass_state};
 
 use std::marker::Model;
@@ -47,7 +48,7 @@ impl Pass {
 
     /// Whether it is the pass of this worker, with this number.
     pub fn is(&self, worker: u32, number: u64) -> bool
-        ensures { MatchBool result (self.now ≡ pass_state worker number) (self.now ≢ pass_state worker number) }
+        ensures { IsWhether result (self.now ≡ pass_state worker number) }
     {
         self.worker == worker && self.number == number
     }

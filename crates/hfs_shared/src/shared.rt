@@ -1,6 +1,6 @@
 //! The shared volume.
 ghost use Rattle.std.specs.Prelude.{◌≡◌, IfOk, OnErr, IfErr};
-ghost use Rattle.hfs_shared.specs.Closings.{IsClosed};
+ghost use Rattle.hfs_shared.specs.Closings.{IsClosedAs};
 ghost use Rattle.hfs_shared.specs.Shareds.{IsSomeCall};
 
 use crate::closed::Closed;
@@ -66,7 +66,7 @@ impl<K: Session> Shared<K> {
         viewer: &mut Viewer,
     ) -> Result<Closed, (Shared<K>, Vec<Pass>)>
         requires { viewer.old.book ≡ K.book }
-        ensures ok { IfOk result (λ c. IsClosed K.opening c.volume c.journal.items c.shown passes.items viewer.old viewer.new) }
+        ensures ok { IfOk result (λ c. IsClosedAs K.opening c passes.items viewer.old viewer.new) }
         ensures err { IfErr result (λ e. (e.1 ≡ passes) × (viewer.new ≡ viewer.old)) }
     {
         let locked = self.into_locked();

@@ -76,7 +76,8 @@ fn one_more<K: Session, R: Wait, G: Gate>(
     call: &Call,
     replies: &mut Vec<(Reply, Told)>,
 ) -> Option<CallFault>
-    ensures none { IfNone result (IsMoreWork K.book K.opening pass.old call.now pass.new replies.old.items replies.new.items) }
+    ensures none { IfNone result (IsMoreWork K.book K.opening pass.old call.now pass.new
+        replies.old.items replies.new.items) }
     ensures some { OnSome result ((replies.new.items ≡ replies.old.items) × (pass.new ≡ pass.old)) }
 {
     if replies.reserve(1).is_err() {
@@ -173,12 +174,14 @@ fn run_all<K: Session + Send + Sync, R: Threads + Wait + Sync, G: Gate + Sync>(
 )
     requires many { length dones.old.items ≡ length jobs.now.items }
     ensures many { length dones.new.items ≡ length jobs.now.items }
-    ensures each { AreDoneFrom K.book K.opening (λ c. c.items) jobs.now.items dones.old.items dones.new.items }
+    ensures each { AreDoneFrom K.book K.opening (λ c. c.items) jobs.now.items
+        dones.old.items dones.new.items }
 {
     let threads = jobs.len().max(1);
     let run = |i: usize, done: &mut Done|
         requires { i < length jobs.now.items }
-        ensures { (j : _) → IsDone K.book K.opening done.entry.now.pass (get_or jobs.entry.now.items i j).1.items done.exit.now }
+        ensures { (j : _) → IsDone K.book K.opening done.entry.now.pass
+            (get_or jobs.entry.now.items i j).1.items done.exit.now }
     { work(shared, rt, alloc, gate, &jobs[i].1, done) };
     thread::for_each_mut(rt, dones.as_mut_slice(), threads, &run);
 }

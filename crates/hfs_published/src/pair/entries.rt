@@ -1,7 +1,8 @@
 //! The changes of a journal, as they are added to a pair.
-ghost use Rattle.std.specs.Prelude.{◌≡◌, ◌≤◌, ◌++◌, ◌∷◌, [], true, false, length, take, MatchBool};
+ghost use Rattle.std.specs.Prelude.{◌≡◌, ◌≤◌, true, false, length, take};
+ghost use Rattle.hfs_published.specs.Answers.{IsAllOrNothing};
 ghost use Rattle.hfs_published.specs.Journals.{is_accepted, changes, NoneAccepted};
-ghost use Rattle.hfs_published.specs.Pairs.{with_added};
+ghost use Rattle.hfs_published.specs.Pairs.{with_added, with_entry};
 
 use crate::pair::Pair;
 use hfs_model::Entry;
@@ -24,7 +25,7 @@ impl Pair {
 
     // Adds the change of an entry, if it is one that was accepted, and answers whether the entry is done.
     fn add_entry(&mut self, entry: &Entry) -> bool
-        ensures added { MatchBool result (self.new ≡ with_added self.old (changes (entry.now ∷ []))) (self.new ≡ self.old) }
+        ensures added { IsAllOrNothing result (with_entry self.old entry.now) self.old self.new }
         ensures idle { is_accepted entry.now ≡ false → result ≡ true }
     {
         if !is_accepted(entry) {

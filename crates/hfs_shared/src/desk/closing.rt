@@ -48,7 +48,8 @@ impl Desk {
 
     /// Whether the passes are those of all workers, each once and with its next number.
     pub(crate) fn are_all(&self, passes: &Vec<Pass>) -> bool
-        ensures { IsWhether result (AreAllPasses passes.now.items self.now.workers self.now.journal) }
+        ensures { IsWhether result
+            (AreAllPasses passes.now.items self.now.workers self.now.journal) }
     {
         if passes.len() != self.next.len() {
             return false;

@@ -16,7 +16,8 @@ use std::sync::Wait;
 impl<K: Session> Locked<K> {
     /// Whether the passes are those of all workers, each once and with its next number.
     pub(crate) fn are_all(&self, passes: &Vec<Pass>) -> bool
-        ensures { IsWhether result (AreAllPasses passes.now.items self.now.workers self.now.journal) }
+        ensures { IsWhether result
+            (AreAllPasses passes.now.items self.now.workers self.now.journal) }
     {
         self.desk.are_all(passes)
     }
