@@ -1,6 +1,7 @@
 //! A new root.
 
 ghost use Rattle.std.specs.Prelude.{◌≡◌, ◌∷◌, [], ◌+◌, ◌-◌, ◌<◌, ◌≤◌, IfOk, OnOk, length};
+ghost use Rattle.hfs_btree_edits.specs.Edits.{Edits};
 ghost use Rattle.hfs_btree_insertion.specs.Growth.{HasRaised};
 ghost use Rattle.hfs_btree.specs.Header.{header_in, depth_of, free_nodes};
 ghost use Rattle.hfs_btree_insertion.specs.Raise.{IsRootAbove, HasRootPut};

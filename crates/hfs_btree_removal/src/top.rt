@@ -1,6 +1,7 @@
 //! The root, where it gives way.
 
 ghost use Rattle.std.specs.Prelude.{◌≡◌, ◌+◌, ◌≤◌, [], OnOk};
+ghost use Rattle.hfs_btree_edits.specs.Edits.{Edits};
 ghost use Rattle.hfs_btree_removal.specs.Removal.{KeepsSound, GainsNothing, KeepsContent, FreesOne, root_count, RootBranches};
 ghost use Rattle.hfs_btree.specs.Header.{header_in, depth_of, tree_content};
 ghost use Rattle.hfs_btree_removal.specs.Removal.{HasLowered};
