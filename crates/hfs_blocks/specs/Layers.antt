@@ -95,6 +95,22 @@ GainsOnly old other new = (k : ℕ) → IsSome (new k) → IsSome (old k) ⊎ Is
 abbrev pub IsLaid : (ℕ → List ℕ) → Numbered → Numbered → Numbered → Type 0
 IsLaid below old other new = ShowsLaid below (changes old) (changes other) (changes new)
 
+-- b was put as the block of number n
+abbrev pub HasPut : ℕ → List ℕ → Numbered → Numbered → Type 0
+HasPut n b old new = changes new ≡ with_change (changes old) n b
+
+-- over these blocks, a patch shows the same as the old one
+abbrev pub IsSameOver : (ℕ → List ℕ) → Numbered → Numbered → Type 0
+IsSameOver below old new = ShowsSame below (changes old) (changes new)
+
+-- a patch has a block of each number of which the old one or another has one, and of no other
+abbrev pub IsJoined : Numbered → Numbered → Numbered → Type 0
+IsJoined old other new = HasJoined (changes old) (changes other) (changes new)
+
+-- no block was entered but those that another patch has
+abbrev pub EntersOnly : Numbered → Numbered → Numbered → Type 0
+EntersOnly old other new = GainsOnly (changes old) (changes other) (changes new)
+
 -- where the old blocks are whole and among so many, the new ones are
 abbrev pub KeepsWithin : Numbered → Numbered → ℕ → Type 0
 KeepsWithin old new count = AreWithin (changes old) count → AreWithin (changes new) count

@@ -3,7 +3,7 @@
 ghost use Rattle.std.specs.Prelude.{◌≡◌, ◌<◌, [], length, Some, OnOk, OnErr, IsSome, nat_eq};
 ghost use Rattle.std.specs.List.{IsDistinct};
 ghost use Rattle.std.specs.Option.{option_copied};
-ghost use Rattle.hfs_blocks.specs.Layers.{changes, numbers, with_change, AreWhole, AreWithin, HasJoined, ShowsSame, ShowsLaid, GainsOnly, IsLaid, KeepsWithin, HasEachOf, GainsNoneBut, HasChange, HasChangesOf};
+ghost use Rattle.hfs_blocks.specs.Layers.{changes, numbers, AreWhole, AreWithin, ShowsLaid, IsLaid, KeepsWithin, HasEachOf, GainsNoneBut, HasChange, HasChangesOf, HasPut, IsSameOver, IsJoined, EntersOnly};
 
 use crate::blocks::Blocks;
 use crate::patched::Patched;
@@ -68,7 +68,7 @@ impl Patch {
 
     /// Puts block `n` into the patch, in place of the one that it has. At an error the patch is as it was.
     pub fn put(&mut self, n: u32, block: &[u8; 512]) -> Result<(), AllocError>
-        ensures written { OnOk result (changes self.new ≡ with_change (changes self.old) n block.now) }
+        ensures written { OnOk result (HasPut n block.now self.old self.new) }
         ensures kept { OnErr result (self.new ≡ self.old) }
     {
         self.blocks.insert(n, *block)?;
@@ -78,7 +78,7 @@ impl Patch {
     /// Enters block `n` with the bytes that it has below, unless the patch has it.
     fn enter<B: Blocks>(&mut self, below: &B, n: u32) -> Result<(), AllocError>
         requires { n < B.total below.now }
-        ensures same { ShowsSame (B.blocks below.now) (changes self.old) (changes self.new) }
+        ensures same { IsSameOver (B.blocks below.now) self.old self.new }
         ensures kept { HasEachOf (changes self.old) (changes self.new) }
         ensures entered { OnOk result (IsSome (changes self.new n)) }
         ensures no_other { GainsNoneBut n (changes self.old) (changes self.new) }
@@ -96,10 +96,10 @@ impl Patch {
     /// Enters each of the blocks that the patch lacks, with the bytes that it has below.
     fn enter_all<B: Blocks>(&mut self, below: &B, blocks: &BlockMap) -> Result<(), AllocError>
         requires { AreWithin (changes blocks.now.entries) (B.total below.now) }
-        ensures same { ShowsSame (B.blocks below.now) (changes self.old) (changes self.new) }
+        ensures same { IsSameOver (B.blocks below.now) self.old self.new }
         ensures kept { HasEachOf (changes self.old) (changes self.new) }
         ensures entered { OnOk result (HasEachOf (changes blocks.now.entries) (changes self.new)) }
-        ensures no_other { GainsOnly (changes self.old) (changes blocks.now.entries) (changes self.new) }
+        ensures no_other { EntersOnly self.old blocks.now.entries self.new }
         ensures within { KeepsWithin self.old self.new (B.total below.now) }
     {
         for i in 0..blocks.len() {
@@ -141,8 +141,8 @@ impl Patch {
     pub fn lay<B: Blocks>(&mut self, below: &B, patch: &Patch) -> Result<(), AllocError>
         requires { AreWithin (changes patch.now) (B.total below.now) }
         ensures laid { OnOk result (IsLaid (B.blocks below.now) self.old patch.now self.new) }
-        ensures kept { OnErr result (ShowsSame (B.blocks below.now) (changes self.old) (changes self.new)) }
-        ensures joined { OnOk result (HasJoined (changes self.old) (changes patch.now) (changes self.new)) }
+        ensures kept { OnErr result (IsSameOver (B.blocks below.now) self.old self.new) }
+        ensures joined { OnOk result (IsJoined self.old patch.now self.new) }
         ensures within { KeepsWithin self.old self.new (B.total below.now) }
     {
         self.enter_all(below, &patch.blocks)?;

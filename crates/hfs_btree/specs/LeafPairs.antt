@@ -1,9 +1,11 @@
 -- Pairs of one leaf, by its bytes.
 use Rattle.std.specs.Prelude.{◌≡◌, ℕ, List, Option, drop}
+use Rattle.std.specs.Option.{option_map}
+use Rattle.std.specs.Borrow.{Bor}
 use Rattle.hfs_btree.specs.declared.key.Key.{Ghosts}
 use Rattle.hfs_btree.specs.Lookups.{first_pair}
 use Rattle.hfs_btree.specs.Pairs.{lookup, after, pairs_from}
-use Rattle.hfs_btree.specs.Tree.{pairs_of}
+use Rattle.hfs_btree.specs.Tree.{pair_of, pairs_of}
 
 -- the body under a key
 abbrev pub leaf_body : {K : Type 0} → Ghosts K → List ℕ → K → Option (List ℕ)
@@ -12,6 +14,10 @@ leaf_body g bytes key = lookup g.compare key (pairs_of g bytes)
 -- the first pair whose key is above this one
 abbrev pub leaf_after : {K : Type 0} → Ghosts K → List ℕ → K → Option (K × List ℕ)
 leaf_after g bytes key = after g.compare key (pairs_of g bytes)
+
+-- the pair of a leaf's record, if there is one
+abbrev pub entry_pair : {K : Type 0} → Ghosts K → Option (Bor (List ℕ)) → Option (K × List ℕ)
+entry_pair g entry = option_map (λ e. pair_of g e.now) entry
 
 -- the first pair
 abbrev pub leaf_first : {K : Type 0} → Ghosts K → List ℕ → Option (K × List ℕ)

@@ -1,4 +1,5 @@
 pub mod Pairs
+pub mod Reads
 pub mod Tree
 pub mod Header
 pub mod HeaderForm

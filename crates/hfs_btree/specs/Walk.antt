@@ -36,6 +36,6 @@ pub record IsWalk {K : Type 0} (g : Ghosts K) (nodes : Store) (bytes : List ℕ)
   pub structure : HasStructure g nodes
   pub at : (IsAtLeaf g nodes bytes place most × (place < length (records_of (node_of bytes)))) ⊎ IsPastEnd bytes place
 
--- from one place in a leaf the same pairs follow as from another
-abbrev pub GoesOnSame : {K : Type 0} → Ghosts K → Store → List ℕ → ℕ → ℕ → List ℕ → ℕ → ℕ → Type 0
-GoesOnSame g nodes old_bytes old_place old_most bytes place most = rest_at g nodes bytes place most ≡ rest_at g nodes old_bytes old_place old_most
+-- from a place in a leaf, with so many leaves at most behind it, the same pairs follow as from another
+abbrev pub GoesOnSame : {K : Type 0} → Ghosts K → Store → List ℕ → ℕ → ℕ → List ℕ → ℕ × ℕ → Type 0
+GoesOnSame g nodes old_bytes old_place old_most bytes next = rest_at g nodes bytes next.0 next.1 ≡ rest_at g nodes old_bytes old_place old_most

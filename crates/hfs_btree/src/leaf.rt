@@ -6,7 +6,7 @@ ghost use Rattle.hfs_scans.specs.Each.{Each};
 ghost use Rattle.hfs_btree.specs.LeafPairs.{IsPlaceFrom};
 ghost use Rattle.hfs_btree.specs.Tree.{records_of, forward_of, pair_of};
 ghost use Rattle.hfs_btree.specs.Sound.{HasStructure};
-ghost use Rattle.hfs_btree.specs.Walk.{rest_at, IsAtLeaf, IsWalk, GoesOnSame};
+ghost use Rattle.hfs_btree.specs.Walk.{IsAtLeaf, IsWalk, GoesOnSame};
 
 use crate::key::Key;
 use crate::nodes::Nodes;
@@ -86,7 +86,7 @@ pub(crate) fn settle<K: Key, N: Nodes>(
     requires count { count ≡ length (records_of (node_of bytes.old)) }
     requires at { IsAtLeaf K.Key (N.nodes nodes.now) bytes.old place most }
     ensures walk { IsWalk K.Key (N.nodes nodes.now) bytes.new result.0 result.1 }
-    ensures same { GoesOnSame K.Key (N.nodes nodes.now) bytes.old place most bytes.new result.0 result.1 }
+    ensures same { GoesOnSame K.Key (N.nodes nodes.now) bytes.old place most bytes.new result }
 {
     if place < count {
         return (place, most);

@@ -6,7 +6,7 @@ ghost use Rattle.hfs_node.specs.Node.{node_of};
 ghost use Rattle.hfs_scans.specs.Each.{Each};
 ghost use Rattle.hfs_btree.specs.Tree.{records_of, pair_of};
 ghost use Rattle.hfs_btree.specs.Header.{header_in, record_in, depth_of, tree_content, IsBodyUnder, IsNextAfter};
-ghost use Rattle.hfs_btree.specs.LeafPairs.{leaf_body, leaf_after, leaf_first};
+ghost use Rattle.hfs_btree.specs.LeafPairs.{entry_pair, leaf_body, leaf_after, leaf_first};
 ghost use Rattle.hfs_btree.specs.Search.{is_not_above, branch_place, child_for, leaf_for};
 ghost use Rattle.hfs_btree.specs.Sound.{IsSound};
 
@@ -134,7 +134,7 @@ pub fn find<K: Key, N: Nodes>(
 /// The first record of a leaf whose key is above this one.
 fn after_in<'a, K: Key>(bytes: &'a [u8; 512], key: &K) -> Option<&'a [u8]>
     requires { Each (λ entry. K.is_leaf entry ≡ true) (records_of (node_of bytes.now)) }
-    ensures first { option_map (λ e. pair_of K.Key e.now) result ≡ leaf_after K.Key bytes.now key.now }
+    ensures first { entry_pair K.Key result ≡ leaf_after K.Key bytes.now key.now }
     ensures leaf { IfSome result (λ entry. K.is_leaf entry.now ≡ true) }
 {
     let Ok(node) = view(bytes) else {
@@ -153,7 +153,7 @@ fn after_in<'a, K: Key>(bytes: &'a [u8; 512], key: &K) -> Option<&'a [u8]>
 /// The first record of a leaf.
 fn first_in<K: Key>(bytes: &[u8; 512]) -> Option<&[u8]>
     requires { Each (λ entry. K.is_leaf entry ≡ true) (records_of (node_of bytes.now)) }
-    ensures first { option_map (λ e. pair_of K.Key e.now) result ≡ leaf_first K.Key bytes.now }
+    ensures first { entry_pair K.Key result ≡ leaf_first K.Key bytes.now }
     ensures leaf { IfSome result (λ entry. K.is_leaf entry.now ≡ true) }
 {
     let Ok(node) = view(bytes) else {

@@ -1,9 +1,12 @@
 -- What the parts of the passes over a tree's keys promise.
-use Rattle.std.specs.Prelude.{◌≡◌, ℕ, ◌<◌, Bool, true, if◌then◌else◌, List, [], ◌∷◌, ◌++◌, length, map, Option, Some, None}
+use Rattle.std.specs.Prelude.{◌≡◌, ℕ, ◌<◌, Bool, true, if◌then◌else◌, List, [], ◌∷◌, ◌++◌, length, map, Option, Some, None, Result, OnOk, IfErr}
 use Rattle.std.specs.List.{flat_map, list_all}
 use Rattle.std.proofs.Common.{Vec, Global}
 use Rattle.hfs_btree.specs.declared.key.Key.{Ghosts}
 use Rattle.hfs_btree.specs.Tree.{Store, records_in, children, reads_at, key_at}
+use Rattle.hfs_btree_checks.specs.declared.fault.TreeFault.{TreeFault}
+use Rattle.hfs_btree_checks.specs.Order.{key_fault}
+use Rattle.hfs_btree_checks.specs.ShapeSteps.{IsFault, FindsFault}
 
 -- a node of the file, whose records are those of a node so many levels above the leaves
 pub record IsKeyNode {K : Type 0} (g : Ghosts K) (nodes : Store) (above n : ℕ) : Type 0 where
@@ -15,6 +18,18 @@ abbrev pub level_key_fault : {K : Type 0} → Ghosts K → Store → (K → Bool
 level_key_fault g nodes test above [] = None
 level_key_fault g nodes test above (n ∷ ns) =
     if list_all (λ entry. test (key_at g above entry)) (records_in nodes n) then level_key_fault g nodes test above ns else Some n
+
+-- at an error the answer names the first node of the level with a key that the test refuses, or memory was refused
+abbrev pub FailsKeys : {K A : Type 0} → Ghosts K → Store → (K → Bool) → ℕ → List ℕ → Result A TreeFault → Type 0
+FailsKeys g nodes test above level result = IfErr result (IsFault (level_key_fault g nodes test above level))
+
+-- at Ok the test takes each key of the level
+abbrev pub TakesKeys : {K A : Type 0} → Ghosts K → Store → (K → Bool) → ℕ → List ℕ → Result A TreeFault → Type 0
+TakesKeys g nodes test above level result = OnOk result (level_key_fault g nodes test above level ≡ None)
+
+-- Ok only where the test takes each key of the tree, and else the answer names the first node with another, or memory was refused
+abbrev pub FindsKeyFault : {K A : Type 0} → Ghosts K → Store → (K → Bool) → Result A TreeFault → Type 0
+FindsKeyFault g nodes test result = FindsFault (key_fault g nodes test) result
 
 -- the test takes the key of each record, as of a node so many levels above the leaves
 abbrev pub all_pass : {K : Type 0} → Ghosts K → (K → Bool) → ℕ → List (List ℕ) → Bool
@@ -36,9 +51,9 @@ AddsAllKeys g nodes level old new = new.items ≡ old.items ++ flat_map (λ n. m
 abbrev pub AddsChildren : {K : Type 0} → Ghosts K → Store → ℕ → Vec ℕ Global → Vec ℕ Global → Type 0
 AddsChildren g nodes n old new = new.items ≡ old.items ++ children g nodes n
 
--- the children of node n are added, if it stands above the leaves
-abbrev pub AddsBelow : {K : Type 0} → Ghosts K → Store → ℕ → ℕ → Vec ℕ Global → Vec ℕ Global → Type 0
-AddsBelow g nodes above n old new = 0 < above → new.items ≡ old.items ++ children g nodes n
+-- at Ok the children of node n are added, if it stands above the leaves
+abbrev pub AddsBelow : {K A E : Type 0} → Ghosts K → Store → ℕ → ℕ → Vec ℕ Global → Vec ℕ Global → Result A E → Type 0
+AddsBelow g nodes above n old new result = OnOk result (0 < above → new.items ≡ old.items ++ children g nodes n)
 
 -- the level below one of index nodes: their children, in turn
 abbrev pub IsNextLevel : {K : Type 0} → Ghosts K → Store → List ℕ → Vec ℕ Global → Type 0

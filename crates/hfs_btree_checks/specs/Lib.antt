@@ -8,3 +8,4 @@ pub mod Subtree
 pub mod Rises
 pub mod KeySteps
 pub mod Laws
+pub mod LevelSteps

@@ -1,13 +1,11 @@
 //! The check of a tree's keys, each by itself.
 
-ghost use Rattle.std.specs.Prelude.{◌≡◌, true, None, IfOk, OnOk, IfErr};
+ghost use Rattle.std.specs.Prelude.{◌≡◌, true, IfOk};
 ghost use Rattle.std.specs.List.{list_all};
 ghost use Rattle.hfs_scans.specs.Each.{Each};
 ghost use Rattle.hfs_btree.specs.Tree.{reads_at, key_at};
 ghost use Rattle.hfs_btree.specs.Sound.{HasStructure};
-ghost use Rattle.hfs_btree_checks.specs.Order.{key_fault};
-ghost use Rattle.hfs_btree_checks.specs.ShapeSteps.{IsFault, FindsFault};
-ghost use Rattle.hfs_btree_checks.specs.KeySteps.{IsKeyNode, level_key_fault, all_pass, TellsPass, AddsBelow, IsLevelBelow};
+ghost use Rattle.hfs_btree_checks.specs.KeySteps.{IsKeyNode, FailsKeys, TakesKeys, FindsKeyFault, all_pass, TellsPass, AddsBelow, IsLevelBelow};
 
 use crate::fault::TreeFault;
 use crate::key_test::KeyTest;
@@ -53,7 +51,7 @@ fn visit_keys<K: Key, N: Nodes, T: KeyTest<K>>(
 ) -> Result<bool, AllocError>
     requires { IsKeyNode K.Key (N.nodes nodes.now) above n }
     ensures pass { IfOk result (TellsPass K.Key (N.nodes nodes.now) (T.passes test.now) above n) }
-    ensures below { OnOk result (AddsBelow K.Key (N.nodes nodes.now) above n next.old next.new) }
+    ensures below { AddsBelow K.Key (N.nodes nodes.now) above n next.old next.new result }
 {
     let mut bytes = [0; 512];
     nodes.read(n, &mut bytes);
@@ -75,8 +73,8 @@ fn check_level_keys<K: Key, N: Nodes, T: KeyTest<K>>(
     test: &T,
 ) -> Result<Vec<u32>, TreeFault>
     requires { Each (IsKeyNode K.Key (N.nodes nodes.now) above) level.now }
-    ensures fault { IfErr result (IsFault (level_key_fault K.Key (N.nodes nodes.now) (T.passes test.now) above level.now)) }
-    ensures right { OnOk result (level_key_fault K.Key (N.nodes nodes.now) (T.passes test.now) above level.now ≡ None) }
+    ensures fault { FailsKeys K.Key (N.nodes nodes.now) (T.passes test.now) above level.now result }
+    ensures right { TakesKeys K.Key (N.nodes nodes.now) (T.passes test.now) above level.now result }
     ensures next { IfOk result (IsLevelBelow K.Key (N.nodes nodes.now) above level.now) }
 {
     let mut next = Vec::new(alloc);
@@ -97,7 +95,7 @@ pub(crate) fn check_keys<K: Key, N: Nodes, T: KeyTest<K>>(
     test: &T,
 ) -> Result<(), TreeFault>
     requires { HasStructure K.Key (N.nodes nodes.now) }
-    ensures { FindsFault (key_fault K.Key (N.nodes nodes.now) (T.passes test.now)) result }
+    ensures { FindsKeyFault K.Key (N.nodes nodes.now) (T.passes test.now) result }
 {
     let header = read_header(nodes);
     let mut level = Vec::new(alloc);

@@ -1,10 +1,10 @@
 //! The check of a tree's levels.
 
-ghost use Rattle.std.specs.Prelude.{◌≡◌, ◌+◌, ◌<◌, None, OnOk, IfOk, IfErr, length, drop};
+ghost use Rattle.std.specs.Prelude.{◌≡◌, ◌+◌, ◌<◌, OnOk, IfOk, length, drop};
 ghost use Rattle.std.specs.Vec.{vec_len};
 ghost use Rattle.hfs_btree.specs.Tree.{first_of, last_of};
-ghost use Rattle.hfs_btree_checks.specs.KeySteps.{IsLevelBelow};
-ghost use Rattle.hfs_btree_checks.specs.ShapeSteps.{IsFault, IsLevelFault, PassesLevel, count_within, fault_from, leaves_from, records_from};
+ghost use Rattle.hfs_btree_checks.specs.LevelSteps.{FailsLevel, HasLevelBelow, CountsRecords, FailsFrom, PassesFrom, NamesFirst, NamesLast, CountsLeaves};
+ghost use Rattle.hfs_btree_checks.specs.ShapeSteps.{PassesLevel};
 
 use crate::fault::TreeFault;
 use crate::shape_map::MappedNodes;
@@ -38,10 +38,10 @@ fn check_level<K: Key, N: Nodes>(
     met: &mut Vec<bool>,
 ) -> Result<CheckedLevel, TreeFault>
     requires { vec_len met.old ≡ tree.now.count }
-    ensures fault { IfErr result (IsLevelFault K.Key (N.nodes tree.now.nodes.now) met.old above level.now) }
+    ensures fault { FailsLevel K.Key (N.nodes tree.now.nodes.now) met.old above level.now result }
     ensures right { OnOk result (PassesLevel K.Key (N.nodes tree.now.nodes.now) above level.now met.old met.new) }
-    ensures next { IfOk result (λ found. IsLevelBelow K.Key (N.nodes tree.now.nodes.now) above level.now found.next) }
-    ensures records { IfOk result (λ found. found.records ≡ count_within (N.nodes tree.now.nodes.now) level.now) }
+    ensures next { IfOk result (HasLevelBelow K.Key (N.nodes tree.now.nodes.now) above level.now) }
+    ensures records { IfOk result (CountsRecords (N.nodes tree.now.nodes.now) level.now) }
     ensures kept { OnOk result (vec_len met.new ≡ vec_len met.old) }
 {
     let mut next = Vec::new(alloc);
@@ -95,11 +95,11 @@ pub(crate) fn check_levels<K: Key, N: Nodes>(
     met: &mut Vec<bool>,
 ) -> Result<Leaves, TreeFault>
     requires { vec_len met.old ≡ tree.now.count }
-    ensures fault { IfErr result (IsFault (fault_from K.Key (N.nodes tree.now.nodes.now) met.old depth root)) }
-    ensures right { OnOk result (fault_from K.Key (N.nodes tree.now.nodes.now) met.old depth root ≡ None) }
-    ensures first { IfOk result (λ found. found.first ≡ first_of (leaves_from K.Key (N.nodes tree.now.nodes.now) depth root)) }
-    ensures last { IfOk result (λ found. found.last ≡ last_of (leaves_from K.Key (N.nodes tree.now.nodes.now) depth root)) }
-    ensures records { IfOk result (λ found. found.records ≡ records_from K.Key (N.nodes tree.now.nodes.now) depth root) }
+    ensures fault { FailsFrom K.Key (N.nodes tree.now.nodes.now) met.old depth root result }
+    ensures right { PassesFrom K.Key (N.nodes tree.now.nodes.now) met.old depth root result }
+    ensures first { IfOk result (NamesFirst K.Key (N.nodes tree.now.nodes.now) depth root) }
+    ensures last { IfOk result (NamesLast K.Key (N.nodes tree.now.nodes.now) depth root) }
+    ensures records { IfOk result (CountsLeaves K.Key (N.nodes tree.now.nodes.now) depth root) }
 {
     if depth == 0 {
         return Ok(Leaves {

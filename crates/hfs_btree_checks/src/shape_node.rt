@@ -1,12 +1,13 @@
 //! The check of one node of a tree's levels.
 
-ghost use Rattle.std.specs.Prelude.{◌≡◌, ◌++◌, true, OnOk, IfOk, IfErr, map, slice_set};
+ghost use Rattle.std.specs.Prelude.{◌≡◌, ◌++◌, true, OnOk, IfOk, map, slice_set};
 ghost use Rattle.std.specs.List.{list_all};
 ghost use Rattle.std.specs.Vec.{vec_len};
 ghost use Rattle.hfs_btree.specs.Tree.{reads_at};
 ghost use Rattle.hfs_btree_checks.specs.Shape.{is_kind_at, is_node_at};
 ghost use Rattle.hfs_btree_checks.specs.KeySteps.{AddsBelow};
-ghost use Rattle.hfs_btree_checks.specs.ShapeSteps.{IsWrongAt, is_new_and_right, spot_of, record_count};
+ghost use Rattle.hfs_btree_checks.specs.LevelSteps.{FailsAt, PassesAt};
+ghost use Rattle.hfs_btree_checks.specs.ShapeSteps.{spot_of, record_count};
 
 use crate::fault::TreeFault;
 use crate::shape_map::MappedNodes;
@@ -86,10 +87,10 @@ pub(crate) fn visit_node<K: Key, N: Nodes>(
     next: &mut Vec<u32>,
 ) -> Result<usize, TreeFault>
     requires { vec_len met.old ≡ tree.now.count }
-    ensures wrong { IfErr result (IsWrongAt (is_new_and_right K.Key (N.nodes tree.now.nodes.now) met.old (spot_of left n right above)) n) }
-    ensures right { OnOk result (is_new_and_right K.Key (N.nodes tree.now.nodes.now) met.old (spot_of left n right above) ≡ true) }
+    ensures wrong { FailsAt K.Key (N.nodes tree.now.nodes.now) met.old left n right above result }
+    ensures right { PassesAt K.Key (N.nodes tree.now.nodes.now) met.old left n right above result }
     ensures marked { OnOk result (met.new.items ≡ slice_set met.old.items n true) }
-    ensures below { OnOk result (AddsBelow K.Key (N.nodes tree.now.nodes.now) above n next.old next.new) }
+    ensures below { AddsBelow K.Key (N.nodes tree.now.nodes.now) above n next.old next.new result }
     ensures records { IfOk result (λ len. len ≡ record_count (N.nodes tree.now.nodes.now) n) }
 {
     if n == 0 || n >= tree.count || met[n as usize] || !tree.is_marked(n) {

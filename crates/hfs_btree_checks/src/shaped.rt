@@ -3,8 +3,9 @@
 ghost use Rattle.std.specs.Prelude.{◌≡◌, ◌*◌, ◌≤◌, None, OnOk, IfOk, length};
 ghost use Rattle.hfs_btree.specs.Header.{tree_content};
 ghost use Rattle.hfs_btree.specs.Sound.{IsOrdered};
-ghost use Rattle.hfs_btree_checks.specs.Order.{key_fault, leaf_order_fault, order_fault, rise_fault};
+ghost use Rattle.hfs_btree_checks.specs.Order.{leaf_order_fault, order_fault, rise_fault};
 ghost use Rattle.hfs_btree_checks.specs.Shape.{shape_fault};
+ghost use Rattle.hfs_btree_checks.specs.KeySteps.{FindsKeyFault};
 ghost use Rattle.hfs_btree_checks.specs.Laws.{OrderedIffFaultless};
 ghost use Rattle.hfs_btree_checks.specs.ShapeSteps.{FindsFault, FindsPlace};
 
@@ -71,7 +72,7 @@ impl<'a, K: Key, N: Nodes> ShapedTree<'a, K, N> {
     /// Errors: `TreeFault::At(n)` where node `n` is the first in the turn of levels with a key that doesn't pass.
     /// `TreeFault::Memory` where memory was refused.
     pub fn check_keys<T: KeyTest<K>>(&self, alloc: Global, test: &T) -> Result<(), TreeFault>
-        ensures { FindsFault (key_fault K.Key (N.nodes self.now.nodes.now) (T.passes test.now)) result }
+        ensures { FindsKeyFault K.Key (N.nodes self.now.nodes.now) (T.passes test.now) result }
     {
         check_keys::<K, N, T>(alloc, self.nodes, test)
     }

@@ -101,6 +101,10 @@ pub record HasClaimed {K : Type 0} (g : Ghosts K) (n : ℕ) (old new : Store) : 
   pub strays : (m : ℕ) → m ≢ n → IsStray g new m ↔ IsStray g old m
   pub bytes : (m : ℕ) → Each (IsOther m) (own_nodes old) → bytes_in new m ≡ bytes_in old m
 
+-- the answer is a free node that was marked as in use
+abbrev pub IsClaimed : {K : Type 0} → Ghosts K → Store → Store → ℕ → Type 0
+IsClaimed g old new = λ n. HasClaimed g n old new
+
 -- node n was a stray one; its mark is clear, its bytes are zeros, and one more node is counted as free; beside header, map and
 -- node n nothing has changed
 pub record IsReleased {K : Type 0} (g : Ghosts K) (n : ℕ) (old new : Store) : Type 0 where

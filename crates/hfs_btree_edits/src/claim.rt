@@ -3,7 +3,7 @@
 ghost use Rattle.std.specs.Prelude.{◌≡◌, ◌<◌, IfOk, OnOk};
 ghost use Rattle.hfs_btree.specs.Header.{free_nodes};
 ghost use Rattle.hfs_btree.specs.Sound.{IsSound};
-ghost use Rattle.hfs_btree_edits.specs.Stored.{HasClaimed};
+ghost use Rattle.hfs_btree_edits.specs.Stored.{IsClaimed};
 
 use crate::header_store::put_header;
 use crate::map_bit::{free_bit, put_bit};
@@ -15,7 +15,7 @@ use std::alloc::{AllocError, Global};
 pub fn claim_node<K: Key, S: NodesMut>(alloc: Global, nodes: &mut S) -> Result<u32, AllocError>
     requires sound { IsSound K.Key (S.nodes nodes.old) }
     requires some { 0 < free_nodes (S.nodes nodes.old) }
-    ensures claimed { IfOk result (λ n. HasClaimed K.Key n (S.nodes nodes.old) (S.nodes nodes.new)) }
+    ensures claimed { IfOk result (IsClaimed K.Key (S.nodes nodes.old) (S.nodes nodes.new)) }
     ensures kept { OnOk result (S.kept nodes.new ≡ S.kept nodes.old) }
 {
     let mut header = read_header(nodes);

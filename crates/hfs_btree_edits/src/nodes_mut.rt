@@ -1,6 +1,7 @@
 //! What the edits of a tree ask of the file below it.
 
-ghost use Rattle.std.specs.Prelude.{◌≡◌, ◌<◌, OnOk, length, slice_set};
+ghost use Rattle.std.specs.Prelude.{◌≡◌, ◌<◌, OnOk, length};
+ghost use Rattle.hfs_btree_edits.specs.Writes.{WritesNode};
 
 use hfs_btree::Nodes;
 use std::alloc::AllocError;
@@ -16,6 +17,6 @@ pub trait NodesMut: Nodes {
     /// Writes 512 bytes as node `n`, and no other node.
     fn write(&mut self, n: u32, from: &[u8; 512]) -> Result<(), AllocError>
         requires { n < length (Self.nodes self.old) }
-        ensures written { OnOk result (Self.nodes self.new ≡ slice_set (Self.nodes self.old) n from.now) }
+        ensures written { WritesNode n from.now (Self.nodes self.old) (Self.nodes self.new) result }
         ensures kept { OnOk result (kept self.new ≡ kept self.old) };
 }

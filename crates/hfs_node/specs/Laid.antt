@@ -26,7 +26,19 @@ SameHead old new = (k : ℕ) → k < 14 → slice_index new k ≡ slice_index ol
 abbrev pub IsZeroFrom : ℕ → ℕ → List ℕ → Type 0
 IsZeroFrom a b bytes = (k : ℕ) → a ≤ k → k < b → slice_index bytes k ≡ 0
 
+-- where the free space behind all the records begins
+abbrev pub free_start : List (List ℕ) → ℕ
+free_start records = start_of records (length records)
+
+-- the bytes between the records and their offsets are zero
+abbrev pub IsFreeSpaceClear : List (List ℕ) → List ℕ → Type 0
+IsFreeSpaceClear records bytes = IsZeroFrom (free_start records) (510 - 2 * length records) bytes
+
+-- the offsets say where each record begins, and the last of them where the free space does
+abbrev pub HasOffsets : List (List ℕ) → List ℕ → Type 0
+HasOffsets records bytes = (k : ℕ) → k ≤ length records → offset_of bytes k ≡ start_of records k
+
 -- the reserved bytes of the descriptor, and those between the records and their offsets, are zero
 pub record IsClear (records : List (List ℕ)) (bytes : List ℕ) : Type 0 where
   pub reserved : IsZeroFrom 12 14 bytes
-  pub free : IsZeroFrom (start_of records (length records)) (510 - 2 * length records) bytes
+  pub free : IsFreeSpaceClear records bytes

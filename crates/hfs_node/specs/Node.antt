@@ -1,5 +1,5 @@
 -- A node of 512 bytes, as a list of records.
-use Rattle.std.specs.Prelude.{◌≡◌, ℕ, zero, suc, ◌+◌, ◌*◌, ◌-◌, ◌≤◌, Bool, true, ◌&&◌, nat_le, if◌then◌else◌, List, map, length, take, slice_index, slice_range, Option, Some, None, Result, Ok, Err, IsOk, ◌⊎◌}
+use Rattle.std.specs.Prelude.{◌≡◌, ℕ, zero, suc, ◌+◌, ◌*◌, ◌-◌, ◌≤◌, Bool, true, ◌&&◌, nat_le, if◌then◌else◌, List, map, length, take, drop, slice_index, slice_range, Option, Some, None, Result, Ok, Err, IsOk, ◌⊎◌}
 use Rattle.std.specs.List.{range_with_len, sum_by}
 use Rattle.hfs_fields.specs.Numbers.{number_at}
 use Rattle.hfs_node.specs.Kind.{kind_of}
@@ -72,6 +72,14 @@ Fits n = size_of n.records ≤ 496
 -- where record k begins, and behind the last where the free space begins
 unfoldable pub start_of : List (List ℕ) → ℕ → ℕ
 start_of records k = 14 + sum_by (λ r. length r) (take k records)
+
+-- the node with its records before a place
+abbrev pub node_before : ℕ → Node → Node
+node_before at node = record node { records = take at node.records }
+
+-- the node with its records from a place on
+abbrev pub node_from : ℕ → Node → Node
+node_from at node = record node { records = drop at node.records }
 
 -- a copy that can't be made: the bytes' own fault, or want of memory where they are a node
 abbrev pub IsFaultOfCopy : NodeFault → Result Node NodeFault → Type 0

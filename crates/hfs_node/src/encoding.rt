@@ -1,7 +1,7 @@
 //! A node that is written to its bytes.
 ghost use Rattle.std.specs.Prelude.{◌≡◌, ◌+◌, ◌*◌, ◌-◌, ◌<◌, ◌≤◌, ℕ, Ok, Some, length, slice_index};
 ghost use Rattle.hfs_node.specs.Node.{node_of, offset_of, size_of, start_of, Fits};
-ghost use Rattle.hfs_node.specs.Laid.{HasHead, AreLaid, SameHead, IsClear, IsZeroFrom};
+ghost use Rattle.hfs_node.specs.Laid.{HasHead, AreLaid, SameHead, IsClear, IsZeroFrom, free_start, IsFreeSpaceClear, HasOffsets};
 
 use crate::node::{BLANK_NODE, Node};
 use crate::records::Records;
@@ -42,9 +42,9 @@ fn put_records(records: &Records, out: &mut [u8; 512])
     requires room { size_of records.now ≤ 496 }
     requires clear { IsZeroFrom 14 512 out.old }
     ensures laid { AreLaid records.now (length records.now) out.new }
-    ensures free { offset_of out.new (length records.now) ≡ start_of records.now (length records.now) }
+    ensures free { offset_of out.new (length records.now) ≡ free_start records.now }
     ensures head { SameHead out.old out.new }
-    ensures clear { IsZeroFrom (start_of records.now (length records.now)) (510 - 2 * length records.now) out.new }
+    ensures clear { IsFreeSpaceClear records.now out.new }
 {
     let mut at = 14;
     for i in 0..records.len() {
@@ -58,7 +58,7 @@ fn put_records(records: &Records, out: &mut [u8; 512])
 pub fn encode(node: &Node, out: &mut [u8; 512])
     requires { Fits node.now }
     ensures node { node_of out.new ≡ Ok node.now }
-    ensures offsets { (k : ℕ) → k ≤ length node.now.records → offset_of out.new k ≡ start_of node.now.records k }
+    ensures offsets { HasOffsets node.now.records out.new }
     ensures clear { IsClear node.now.records out.new }
 {
     *out = BLANK_NODE;

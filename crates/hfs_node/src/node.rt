@@ -1,6 +1,6 @@
 //! A node in memory.
-ghost use Rattle.std.specs.Prelude.{◌≡◌, ◌≤◌, ◌↔◌, IsTrue, OnOk, OnErr, IfOk, length, take, drop};
-ghost use Rattle.hfs_node.specs.Node.{Fits};
+ghost use Rattle.std.specs.Prelude.{◌≡◌, ◌≤◌, ◌↔◌, IsTrue, OnOk, OnErr, IfOk, length};
+ghost use Rattle.hfs_node.specs.Node.{Fits, node_before, node_from};
 
 use crate::kind::NodeKind;
 use crate::records::Records;
@@ -45,8 +45,8 @@ impl Node {
     /// first one this node's links, kind and height. Where memory is refused nothing changes.
     pub fn split_off(&mut self, at: usize) -> Result<Node, AllocError>
         requires { at ≤ length self.old.records }
-        ensures first { OnOk result (self.new ≡ record self.old { records = take at self.old.records }) }
-        ensures second { IfOk result (λ tail. tail ≡ record self.old { records = drop at self.old.records }) }
+        ensures first { OnOk result (self.new ≡ node_before at self.old) }
+        ensures second { IfOk result (λ tail. tail ≡ node_from at self.old) }
         ensures err { OnErr result (self.new ≡ self.old) }
     {
         let records = self.records.split_off(at)?;

@@ -1,4 +1,4 @@
-ghost use Rattle.std.specs.Prelude.{◌≡◌, ◌≤◌, [], ◌∷◌, IfOk, length, replicate};
+ghost use Rattle.std.specs.Prelude.{◌≡◌, ◌≤◌, IfOk, length, replicate};
 
 use byteorder::{BigEndian, ByteOrder};
 use hfs_node::{BLANK_NODE, Node, NodeFault, NodeKind, Records, decode, encode, fits, view};
@@ -122,7 +122,7 @@ fn records_are_edited(rt: HostRuntime) -> Result<(), Fail> {
 
 /// Four records of 140 bytes.
 fn four_long(alloc: Global) -> Result<Records, AllocError>
-    ensures { IfOk result (λ records. records ≡ replicate 140 7 ∷ replicate 140 7 ∷ replicate 140 7 ∷ replicate 140 7 ∷ []) }
+    ensures { IfOk result (λ records. records ≡ replicate 4 (replicate 140 7)) }
 {
     let mut records = Records::new(alloc);
     records.push(vec![in alloc; 7; 140]?)?;
