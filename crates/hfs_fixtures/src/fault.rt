@@ -1,10 +1,10 @@
-//! Why a volume was not laid.
+//! Why a volume was not had.
 use hfs_format::FormatFault;
 use hfs_node::NodeFault;
 use std::alloc::AllocError;
 use thiserror::Error;
 
-/// Why a volume was not laid.
+/// Why a volume was not laid, mounted or saved.
 #[derive(Clone, Copy, Debug, PartialEq, Eq, Error)]
 pub enum FixtureFault {
     /// The bytes lie outside the image.
@@ -16,6 +16,12 @@ pub enum FixtureFault {
     /// No new volume was made.
     #[error("no new volume")]
     Plan,
+    /// The image was refused when it was mounted.
+    #[error("the image isn't sound")]
+    Unsound,
+    /// The image was not saved whole.
+    #[error("the image was not saved")]
+    Unsaved,
     /// Memory was refused.
     #[error("out of memory")]
     Memory,

@@ -15,4 +15,4 @@ pub use crate::blocks::lay;
 pub use crate::fault::FixtureFault;
 pub use crate::files::fork_byte;
 pub use crate::trees::lay_overflow;
-pub use crate::volumes::{SmallVolume, new_image, small_image, tiny_image};
+pub use crate::volumes::{SmallVolume, new_image, planned, small_image, tiny_image};

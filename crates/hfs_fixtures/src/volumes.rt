@@ -32,22 +32,27 @@ pub enum SmallVolume {
 
 /// A new volume with so many catalog nodes.
 pub fn new_image(alloc: Global, catalog_nodes: u32) -> Result<Vec<u8>, FixtureFault> {
-    planned(alloc, 64, catalog_nodes)
+    planned(alloc, 64, 2, catalog_nodes)
 }
 
 /// The volume `Folder` with 16 blocks in the place of 64.
 pub fn tiny_image(alloc: Global) -> Result<Vec<u8>, FixtureFault> {
-    let mut image = planned(alloc, 16, 6)?;
+    let mut image = planned(alloc, 16, 2, 6)?;
     lay_folder(alloc, &mut image)?;
     Ok(image)
 }
 
-/// A new volume with so many blocks and catalog nodes.
-fn planned(alloc: Global, blocks: u32, catalog_nodes: u32) -> Result<Vec<u8>, FixtureFault> {
+/// A new volume `D` of so many blocks, nodes of the extents file and nodes of the catalog, made at the moment 0.
+pub fn planned(
+    alloc: Global,
+    blocks: u32,
+    extents_nodes: u32,
+    catalog_nodes: u32,
+) -> Result<Vec<u8>, FixtureFault> {
     let plan = FormatPlan {
         name: Vec::from_slice(alloc, b"D")?,
         blocks,
-        extents_nodes: 2,
+        extents_nodes,
         catalog_nodes,
         now: 0,
     };

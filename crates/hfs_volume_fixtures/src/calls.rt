@@ -1,11 +1,12 @@
 //! Calls that change a volume.
+use crate::volumes::reply_to;
 use hfs_model::{Bytes, Call};
 use hfs_volume::Volume;
 use std::alloc::{AllocError, Global};
 
 /// The code that a call is answered.
 fn make(volume: &mut Volume, alloc: Global, call: Call) -> Result<i16, AllocError> {
-    let reply = volume.call(alloc, &call)?;
+    let reply = reply_to(volume, alloc, &call)?;
     Ok(reply.code)
 }
 

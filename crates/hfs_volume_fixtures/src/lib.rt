@@ -1,11 +1,12 @@
-//! Small mounted volumes for tests, some calls on them in short, and writers that fail. No function here promises anything: what a
-//! test finds out, it compares with values that were written by hand.
+//! Volumes of any size for tests: mounted, called, saved and mounted again; some calls in short, and writers that fail. No function
+//! here promises anything, so that no test reads the contracts of these calls again: what a test finds out, it compares with
+//! values that were written by hand.
 #![tactic(auto)]
 
 mod calls;
-mod images;
+mod volumes;
 mod writers;
 
 pub use crate::calls::{create, delete, set_f_info};
-pub use crate::images::{mounted, patterned, saved, small_volume};
+pub use crate::volumes::{mounted, mounted_again, patterned, reply_to, save_into, saved, small_volume};
 pub use crate::writers::{FrontWriter, LimitedWriter};
