@@ -1,8 +1,8 @@
 //! 200 folders, each in the one before it, that are moved about.
 use crate::pair::Pair;
-use anyhow::{Result, bail};
+use anyhow::Result;
+use hfs_fixtures::planned;
 use hfs_model::{BAD_MOVE, Bytes, Call, DUPLICATE};
-use hfs_volume::{FormatPlan, format};
 use std::alloc::{AllocError, Global};
 
 /// How many folders there are.
@@ -103,21 +103,6 @@ fn move_last(alloc: Global, pair: &mut Pair) -> Result<()> {
     Ok(())
 }
 
-/// A new volume whose catalog has nodes for all folders.
-fn wide_image(alloc: Global) -> Result<Vec<u8>> {
-    let plan = FormatPlan {
-        name: Vec::from_slice(alloc, b"D")?,
-        blocks: 512,
-        extents_nodes: 1,
-        catalog_nodes: 400,
-        now: 0,
-    };
-    match format(alloc, plan) {
-        Ok(image) => Ok(image),
-        Err(_fault) => bail!("no new volume"),
-    }
-}
-
 /// Grows the folders and moves them out. The items are those of the plain program after each move of all.
 fn grow_and_move(alloc: Global, pair: &mut Pair) -> Result<()> {
     grow(alloc, pair)?;
@@ -145,7 +130,8 @@ fn move_all(alloc: Global, pair: &mut Pair) -> Result<()> {
 /// Grows the folders and moves them about. The items are those of the plain program after each move of all, and after the image
 /// was saved and mounted again.
 pub fn move_about(alloc: Global) -> Result<()> {
-    let image = wide_image(alloc)?;
+    // the catalog has nodes for all folders
+    let image = planned(alloc, 512, 1, 400)?;
     let mut pair = Pair::new(alloc, image, 2)?;
     move_all(alloc, &mut pair)
 }

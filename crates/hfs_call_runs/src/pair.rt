@@ -5,8 +5,9 @@ use hfs_fields::Name;
 use hfs_fixtures::{FixtureFault, lay};
 use hfs_model::{Call, DISK_FULL, Reply, Value};
 use hfs_store::PlainVolume;
-use hfs_volume::{Volume, mount};
-use std::alloc::{AllocError, Global};
+use hfs_volume::Volume;
+use hfs_volume_fixtures::{mounted, mounted_again, reply_to};
+use std::alloc::Global;
 
 /// A mounted volume and the plain volume that it holds.
 #[derive(Drop)]
@@ -14,23 +15,6 @@ pub struct Pair {
     alloc: Global,
     volume: Volume,
     plain: PlainVolume,
-}
-
-/// The volume of an image, which is sound.
-fn mounted(alloc: Global, image: Vec<u8>) -> Result<Volume> {
-    match mount(alloc, image) {
-        Ok(volume) => Ok(volume),
-        Err(_refused) => bail!("the image isn't sound"),
-    }
-}
-
-/// An image's bytes as they are now.
-fn saved(alloc: Global, volume: &Volume) -> Result<Vec<u8>> {
-    let mut image = Vec::new(alloc);
-    match volume.save(&mut image) {
-        Ok(()) => Ok(image),
-        Err(_fault) => bail!("the image was not saved"),
-    }
 }
 
 /// An error where another code than this one is answered.
@@ -56,11 +40,6 @@ fn locked(image: Vec<u8>, number: u32) -> Result<Vec<u8>, FixtureFault> {
         _ => {}
     }
     Ok(image)
-}
-
-/// The reply to a call.
-fn reply_of(alloc: Global, volume: &mut Volume, call: &Call) -> Result<Reply, AllocError> {
-    volume.call(alloc, call)
 }
 
 /// The free nodes and levels of a catalog, as a reply tells them.
@@ -125,7 +104,7 @@ impl Pair {
 
     /// Makes a call in both, unless it meets want of nodes, and tells its code.
     pub fn make(&mut self, call: &Call) -> Result<i16> {
-        let reply = reply_of(self.alloc, &mut self.volume, call)?;
+        let reply = reply_to(&mut self.volume, self.alloc, call)?;
         match told_free(&reply.value) {
             Some((free, depth)) => full_code(call, reply.code, free, depth),
             None => self.compare(call, &reply),
@@ -157,15 +136,19 @@ impl Pair {
 
     /// The same reply to a call that reads.
     fn ensure_answer(&mut self, call: Call) -> Result<()> {
-        let answer = reply_of(self.alloc, &mut self.volume, &call)?;
-        let _code = self.compare(&call, &answer)?;
+        let _code = self.compare_read(&call)?;
         Ok(())
+    }
+
+    /// Makes a call that reads in both. Tells its code.
+    fn compare_read(&mut self, call: &Call) -> Result<i16> {
+        let reply = reply_to(&mut self.volume, self.alloc, call)?;
+        self.compare(call, &reply)
     }
 
     /// Saves the image and mounts it again.
     pub fn save_and_mount(&mut self) -> Result<()> {
-        let image = saved(self.alloc, &self.volume)?;
-        self.volume = mounted(self.alloc, image)?;
+        self.volume = mounted_again(self.alloc, &self.volume)?;
         Ok(())
     }
 }
