@@ -102,6 +102,12 @@ fn call_of(alloc: Global, text: &[u8], now: u32) -> Result<Call> {
     }
 }
 
+/// The volumes of a stage.
+fn trio_of(alloc: Global, stage: Stage) -> Result<Trio> {
+    let Stage { image, plain } = stage;
+    Trio::new(alloc, &image, plain)
+}
+
 /// An answer's text from its code on: the number of the call, 0, and two tabs stand before it.
 fn behind_number(text: &str) -> &[u8] {
     let bytes = text.as_bytes();
@@ -198,12 +204,17 @@ impl Lists {
         lay_digits(self.alloc, &mut self.wanted, text)
     }
 
+    /// Mounts the volumes on which calls are made, if they aren't yet.
+    fn open(&mut self) -> Result<()> {
+        if let Some(stage) = self.stage.take() {
+            self.trio = Some(trio_of(self.alloc, stage)?);
+        }
+        Ok(())
+    }
+
     /// The volumes on which calls are made, mounted now if they aren't yet.
     pub(crate) fn trio(&mut self) -> Result<&mut Trio> {
-        if let Some(stage) = self.stage.take() {
-            let Stage { image, plain } = stage;
-            self.trio = Some(Trio::new(self.alloc, &image, plain)?);
-        }
+        self.open()?;
         match &mut self.trio {
             Some(trio) => Ok(trio),
             None => bail!("no volume"),

@@ -2,8 +2,7 @@
 use crate::lines::first_number;
 use anyhow::{Result, bail};
 use hfs_fields::Name;
-use hfs_fixtures::{SmallVolume, lay, small_image};
-use hfs_format::{FormatPlan, format};
+use hfs_fixtures::{SmallVolume, lay, planned, small_image};
 use hfs_store::PlainVolume;
 use std::alloc::Global;
 
@@ -22,27 +21,12 @@ fn new_plain(alloc: Global) -> Result<PlainVolume> {
     Ok(PlainVolume::new(alloc, name, 0)?)
 }
 
-/// The image of a new volume named `D` with so many blocks and nodes of the catalog.
-fn planned(alloc: Global, blocks: u32, catalog_nodes: u32) -> Result<Vec<u8>> {
-    let plan = FormatPlan {
-        name: Vec::from_slice(alloc, b"D")?,
-        blocks,
-        extents_nodes: 2,
-        catalog_nodes,
-        now: 0,
-    };
-    match format(alloc, plan) {
-        Ok(image) => Ok(image),
-        Err(_fault) => bail!("no such volume"),
-    }
-}
-
 /// The stage of a new volume, as `BLOCKS NODES` says.
 fn new_stage(alloc: Global, sizes: &[u8]) -> Result<Stage> {
     let (blocks, behind) = first_number(sizes)?;
     let (nodes, _behind) = first_number(behind)?;
     Ok(Stage {
-        image: planned(alloc, blocks, nodes)?,
+        image: planned(alloc, blocks, 2, nodes)?,
         plain: Some(new_plain(alloc)?),
     })
 }

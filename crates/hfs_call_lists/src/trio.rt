@@ -3,7 +3,8 @@ use anyhow::{Result, bail, ensure};
 use hfs_model::{Call, Reply, Value};
 use hfs_store::PlainVolume;
 use hfs_texts::reply_text;
-use hfs_volume::{Volume, mount, mount_repaired};
+use hfs_volume::{Volume, mount_repaired};
+use hfs_volume_fixtures::{mounted, mounted_again, reply_to, saved};
 use std::alloc::{AllocError, Global};
 
 /// Three volumes that answer alike. The plain one is there where the volume was a new one.
@@ -14,14 +15,6 @@ pub struct Trio {
     again: Volume,
     plain: Option<PlainVolume>,
     calls: u32,
-}
-
-/// The volume of an image, which is sound.
-fn mounted(alloc: Global, image: Vec<u8>) -> Result<Volume> {
-    match mount(alloc, image) {
-        Ok(volume) => Ok(volume),
-        Err(_refused) => bail!("the image isn't sound"),
-    }
 }
 
 /// Where the master directory block has its count of files, and where that ends.
@@ -76,15 +69,6 @@ fn mended(alloc: Global, image: &[u8]) -> Result<Volume> {
     Ok(volume)
 }
 
-/// An image's bytes as they are now.
-fn saved(alloc: Global, volume: &Volume) -> Result<Vec<u8>> {
-    let mut image = Vec::new(alloc);
-    if volume.save(&mut image).is_err() {
-        bail!("the image was not saved");
-    }
-    Ok(image)
-}
-
 /// Whether a reply tells of want of nodes, of which the plain program knows nothing.
 fn is_full(reply: &Reply) -> bool {
     match &reply.value {
@@ -104,7 +88,7 @@ fn answer_of(
     volume: &mut Volume,
     call: &Call,
 ) -> Result<(String, bool), AllocError> {
-    let reply = volume.call(alloc, call)?;
+    let reply = reply_to(volume, alloc, call)?;
     let text = reply_text(alloc, "", 0, &reply)?;
     Ok((text, is_full(&reply)))
 }
@@ -161,8 +145,7 @@ impl Trio {
     /// Saves the other volume and mounts it again before each of the first 50 calls, and each fiftieth of the others.
     fn mount_again(&mut self) -> Result<()> {
         if self.calls < 50 || self.calls % 50 == 0 {
-            let image = saved(self.alloc, &self.again)?;
-            self.again = mounted(self.alloc, image)?;
+            self.again = mounted_again(self.alloc, &self.again)?;
         }
         self.calls = self.calls.wrapping_add(1);
         Ok(())
