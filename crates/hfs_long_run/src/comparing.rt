@@ -4,7 +4,8 @@ use hfs_fields::Name;
 use hfs_model::{Call, Entry, Reply};
 use hfs_store::PlainVolume;
 use hfs_texts::reply_text;
-use hfs_volume::{Volume, mount};
+use hfs_volume::Volume;
+use hfs_volume_fixtures::reply_to;
 use std::alloc::{AllocError, Global};
 
 /// A new plain volume named `D`.
@@ -48,23 +49,6 @@ pub fn replay(alloc: Global, journal: &[Entry]) -> Result<PlainVolume> {
     Ok(plain)
 }
 
-/// The image of the volume as it is now.
-fn saved(alloc: Global, volume: &Volume) -> Result<Vec<u8>> {
-    let mut image = Vec::new(alloc);
-    if volume.save(&mut image).is_err() {
-        bail!("the image was not saved");
-    }
-    Ok(image)
-}
-
-/// The volume, saved and mounted again. An error where it isn't sound.
-pub fn mounted_again(alloc: Global, volume: &Volume) -> Result<Volume> {
-    match mount(alloc, saved(alloc, volume)?) {
-        Ok(volume) => Ok(volume),
-        Err(_refused) => bail!("the image isn't sound"),
-    }
-}
-
 /// An error where a folder has other items on the volume than on the plain one, or an ID names another folder or file.
 pub fn ensure_same_tree(alloc: Global, volume: &mut Volume, plain: &mut PlainVolume) -> Result<()> {
     let next = plain.next_id();
@@ -77,14 +61,24 @@ pub fn ensure_same_tree(alloc: Global, volume: &mut Volume, plain: &mut PlainVol
     Ok(())
 }
 
+/// An error where the volume answers a call otherwise than the plain one.
 fn ensure_same_answer(
     alloc: Global,
     volume: &mut Volume,
     plain: &mut PlainVolume,
     call: Call,
 ) -> Result<()> {
-    let found = text_on(alloc, volume, &call)?;
-    let expected = plain_text(alloc, plain, &call)?;
+    compare_answers(alloc, volume, plain, &call)
+}
+
+fn compare_answers(
+    alloc: Global,
+    volume: &mut Volume,
+    plain: &mut PlainVolume,
+    call: &Call,
+) -> Result<()> {
+    let found = text_on(alloc, volume, call)?;
+    let expected = plain_text(alloc, plain, call)?;
     ensure_same_text(found.as_str(), expected.as_str())
 }
 
@@ -100,7 +94,7 @@ fn ensure_same_text(found: &str, expected: &str) -> Result<()> {
 
 /// The text of the volume's answer.
 fn text_on(alloc: Global, volume: &mut Volume, call: &Call) -> Result<String> {
-    let reply = volume.call(alloc, call)?;
+    let reply = reply_to(volume, alloc, call)?;
     Ok(text(alloc, &reply)?)
 }
 

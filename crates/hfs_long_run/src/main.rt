@@ -11,7 +11,7 @@ mod running;
 mod watcher;
 mod worker;
 
-use crate::comparing::{ensure_same_tree, mounted_again, replay};
+use crate::comparing::{ensure_same_tree, replay};
 use crate::journal::ensure_whole;
 use crate::running::run;
 use crate::watcher::TOLDS;
@@ -20,6 +20,7 @@ use anyhow::Result;
 use hfs_model::Entry;
 use hfs_store::PlainVolume;
 use hfs_volume::Volume;
+use hfs_volume_fixtures::mounted_again;
 use std::alloc::Global;
 
 /// How many workers there are.

@@ -6,35 +6,20 @@ use crate::watcher::{Watcher, watch};
 use crate::worker::{Worker, work};
 use crate::{VIEWERS, WORKERS};
 use anyhow::{Result, bail, ensure};
+use hfs_fixtures::{FixtureFault, planned};
 use hfs_shared::{Closed, Parts, Pass, Session, Shared, Viewer};
-use hfs_volume::{FormatPlan, Volume, format, mount};
+use hfs_volume::Volume;
+use hfs_volume_fixtures::mounted;
 use std::alloc::Global;
 use std::marker::Brand;
 use std::sync::Wait;
 use std::thread;
 use std::thread::Threads;
 
-/// The image of a new volume `D` with nodes for all items that there may be.
-fn new_image(alloc: Global) -> Result<Vec<u8>> {
-    let plan = FormatPlan {
-        name: Vec::from_slice(alloc, b"D")?,
-        blocks: 4096,
-        extents_nodes: 2,
-        catalog_nodes: 2048,
-        now: 0,
-    };
-    match format(alloc, plan) {
-        Ok(image) => Ok(image),
-        Err(_fault) => bail!("no new volume"),
-    }
-}
-
-/// The volume of that image.
-fn new_volume(alloc: Global) -> Result<Volume> {
-    match mount(alloc, new_image(alloc)?) {
-        Ok(volume) => Ok(volume),
-        Err(_refused) => bail!("the new volume isn't sound"),
-    }
+/// A new volume `D` with nodes for all items that there may be.
+fn new_volume(alloc: Global) -> Result<Volume, FixtureFault> {
+    let image = planned(alloc, 4096, 2, 2048)?;
+    mounted(alloc, image)
 }
 
 /// The parts of a volume, passes and viewers.
