@@ -1,15 +1,25 @@
 //! What is asked of rows and of those beside them: every reading call, for each ID, and for each name that a folder has.
-use hfs_model::{Bytes, Call, Fork, Info, Value};
+use hfs_model::{Bytes, Call, Fork, Info, Reply, Value};
 use hfs_view::Rows;
 use std::alloc::{AllocError, Global};
 
+/// The reply of rows to the call that lists a folder.
+fn list_reply(alloc: Global, rows: &Rows, dir: u32) -> Result<Reply, AllocError> {
+    rows.read(alloc, &Call::List { dir })
+}
+
+/// What a value tells of many items, empty where it tells something else.
+fn infos_of(alloc: Global, value: Value) -> Vec<Info> {
+    match value {
+        Value::Many(infos) => infos.into_vec(),
+        _ => Vec::new(alloc),
+    }
+}
+
 /// What is told of a folder's children by rows, empty of what is no folder.
 fn children(alloc: Global, rows: &Rows, dir: u32) -> Result<Vec<Info>, AllocError> {
-    let reply = rows.read(alloc, &Call::List { dir })?;
-    match reply.value {
-        Value::Many(infos) => Ok(infos.into_vec()),
-        _ => Ok(Vec::new(alloc)),
-    }
+    let reply = list_reply(alloc, rows, dir)?;
+    Ok(infos_of(alloc, reply.value))
 }
 
 /// The call that reads one of a child's forks.

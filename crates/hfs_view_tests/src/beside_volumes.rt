@@ -1,27 +1,14 @@
 //! Rows of mounted volumes answer as the volumes do.
 use crate::asking::reading_calls;
 use crate::same::is_same;
-use hfs_fixtures::{SmallVolume, small_image};
+use hfs_fixtures::SmallVolume;
 use hfs_model::Call;
 use hfs_view::Rows;
-use hfs_volume::{Volume, mount};
+use hfs_volume::Volume;
+use hfs_volume_fixtures::small_volume;
 use std::alloc::{AllocError, Global};
 use std::process::Abort;
 use std::test::Fail;
-
-/// The volume of an image, which is sound.
-fn mounted(alloc: Global, image: Vec<u8>) -> Result<Volume, Fail> {
-    match mount(alloc, image) {
-        Ok(volume) => Ok(volume),
-        Err(refused) => Err(Fail::from(refused.fault)),
-    }
-}
-
-/// A small volume, mounted.
-pub fn small_volume(alloc: Global, small: SmallVolume) -> Result<Volume, Fail> {
-    let image = small_image(alloc, small)?;
-    mounted(alloc, image)
-}
 
 /// Whether rows answer a reading call otherwise than their volume.
 fn is_unlike(alloc: Global, rows: &Rows, volume: &Volume, call: &Call) -> Result<bool, AllocError> {

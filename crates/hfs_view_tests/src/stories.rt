@@ -1,6 +1,5 @@
 //! Rows that take in changes answer as the plain program that makes them.
 use crate::asking::reading_calls;
-use crate::beside_volumes::small_volume;
 use crate::calls::{Change, call_of};
 use crate::same::is_same;
 use hfs_fields::Name;
@@ -9,6 +8,7 @@ use hfs_model::Call;
 use hfs_store::PlainVolume;
 use hfs_view::Rows;
 use hfs_volume::Volume;
+use hfs_volume_fixtures::small_volume;
 use std::alloc::{AllocError, Global};
 use std::process::Abort;
 use std::test::Fail;
@@ -62,12 +62,12 @@ fn make(
     now: u32,
 ) -> Result<i16, AllocError> {
     let call = call_of(alloc, change, now)?;
-    rows.absorb(&call)?;
-    made(plain, &call)
+    make_both(rows, plain, &call)
 }
 
-/// Makes a call in the plain volume; the code.
-fn made(plain: &mut PlainVolume, call: &Call) -> Result<i16, AllocError> {
+/// Makes a call in rows and in the plain volume; the code of the latter.
+fn make_both(rows: &mut Rows, plain: &mut PlainVolume, call: &Call) -> Result<i16, AllocError> {
+    rows.absorb(call)?;
     let reply = plain.call(call)?;
     Ok(reply.code)
 }
