@@ -96,7 +96,12 @@ fn make_calls(alloc: Global, pair: &mut Pair, drawn: &mut Drawn, codes: &mut Cod
 
 /// Makes a call, and notes its code.
 fn make_call(pair: &mut Pair, codes: &mut Codes, call: Call) -> Result<()> {
-    let code = pair.make(&call)?;
-    codes.note(&call, code);
+    make_and_note(pair, codes, &call)
+}
+
+/// Makes a call that others keep, and notes its code.
+fn make_and_note(pair: &mut Pair, codes: &mut Codes, call: &Call) -> Result<()> {
+    let code = pair.make(call)?;
+    codes.note(call, code);
     Ok(())
 }

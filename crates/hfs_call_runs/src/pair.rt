@@ -113,7 +113,12 @@ impl Pair {
 
     /// Makes a call that is answered this code.
     pub fn expect(&mut self, call: Call, code: i16) -> Result<()> {
-        let answered = self.make(&call)?;
+        self.make_expecting(&call, code)
+    }
+
+    /// Makes a call. An error where another code than this one is answered.
+    fn make_expecting(&mut self, call: &Call, code: i16) -> Result<()> {
+        let answered = self.make(call)?;
         ensure_code(answered, code)
     }
 
@@ -136,14 +141,14 @@ impl Pair {
 
     /// The same reply to a call that reads.
     fn ensure_answer(&mut self, call: Call) -> Result<()> {
-        let _code = self.compare_read(&call)?;
-        Ok(())
+        self.compare_answer(&call)
     }
 
-    /// Makes a call that reads in both. Tells its code.
-    fn compare_read(&mut self, call: &Call) -> Result<i16> {
-        let reply = reply_to(&mut self.volume, self.alloc, call)?;
-        self.compare(call, &reply)
+    /// Makes a call that reads in both. An error where the plain program replies otherwise.
+    fn compare_answer(&mut self, call: &Call) -> Result<()> {
+        let answer = reply_to(&mut self.volume, self.alloc, call)?;
+        let _code = self.compare(call, &answer)?;
+        Ok(())
     }
 
     /// Saves the image and mounts it again.
