@@ -1,10 +1,10 @@
 //! A file in 60,000 extents of one block, all but three of them in the extents tree.
-use crate::images::{Row, lay_rows};
+use crate::images::{Row, lay_rows, new_volume};
 use crate::refusals::ensure_refused;
 use crate::serving::ensure_done;
 use crate::tree::{Places, lay_tree};
 use anyhow::{Result, ensure};
-use hfs_fixtures::{FixtureFault, lay, planned};
+use hfs_fixtures::{FixtureFault, lay};
 use hfs_model::{Fork, Value};
 use hfs_volume::Volume;
 use hfs_volume_fixtures::{create, delete, mounted, mounted_again, saved};
@@ -43,11 +43,16 @@ fn create_file(alloc: Global, volume: &mut Volume) -> Result<()> {
     ensure_done(code, "the creation of file", 16)
 }
 
-/// The volume with the file `f`, which is empty.
+/// A volume with the file `f` that comes to it, which is empty.
+fn image_of(alloc: Global, volume: &mut Volume) -> Result<Vec<u8>> {
+    create_file(alloc, volume)?;
+    Ok(saved(alloc, volume)?)
+}
+
+/// A new volume with the file `f`, which is empty.
 fn empty_image(alloc: Global) -> Result<Vec<u8>> {
-    let mut volume = mounted(alloc, planned(alloc, 65_535, 1_000, 4)?)?;
-    create_file(alloc, &mut volume)?;
-    Ok(saved(alloc, &volume)?)
+    let mut volume = new_volume(alloc, 65_535, 1_000, 4)?;
+    image_of(alloc, &mut volume)
 }
 
 /// The volume with the file `f` of 60,000 blocks.

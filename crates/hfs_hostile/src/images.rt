@@ -1,6 +1,8 @@
 //! The images that are changed.
 use hfs_fields::{ExtKey, Extent};
-use hfs_fixtures::{FixtureFault, SmallVolume, lay, lay_overflow, small_image};
+use hfs_fixtures::{FixtureFault, SmallVolume, lay, lay_overflow, planned, small_image};
+use hfs_volume::Volume;
+use hfs_volume_fixtures::mounted;
 use std::alloc::Global;
 
 /// Which volume is changed: one of the small ones, or `Folder` whose file has extents beyond its record.
@@ -59,4 +61,15 @@ fn cut_image(alloc: Global) -> Result<Vec<u8>, FixtureFault> {
     lay_rows(&mut image, &THREE_EXTENTS)?;
     lay_fourth(alloc, &mut image)?;
     Ok(image)
+}
+
+/// A new volume `D` of so many blocks and nodes, mounted.
+pub fn new_volume(
+    alloc: Global,
+    blocks: u32,
+    extents_nodes: u32,
+    catalog_nodes: u32,
+) -> Result<Volume, FixtureFault> {
+    let image = planned(alloc, blocks, extents_nodes, catalog_nodes)?;
+    mounted(alloc, image)
 }

@@ -1,7 +1,7 @@
 //! A catalog whose index keys are lower than their children's first keys at each level. Each edit keeps it sound.
+use crate::images::new_volume;
 use crate::serving::ensure_done;
 use anyhow::{Result, ensure};
-use hfs_fixtures::planned;
 use hfs_volume::Volume;
 use hfs_volume_fixtures::{create, delete, mounted, mounted_again, saved};
 use std::alloc::{AllocError, Global};
@@ -75,11 +75,16 @@ fn create_even(alloc: Global, volume: &mut Volume) -> Result<()> {
     Ok(())
 }
 
-/// A volume with the files of even numbers, as it is saved.
+/// A volume with the files of even numbers that come to it, as it is saved.
+fn image_of(alloc: Global, volume: &mut Volume) -> Result<Vec<u8>> {
+    create_even(alloc, volume)?;
+    Ok(saved(alloc, volume)?)
+}
+
+/// A new volume with the files of even numbers, as it is saved.
 fn even_image(alloc: Global) -> Result<Vec<u8>> {
-    let mut volume = mounted(alloc, planned(alloc, 1_024, 2, 600)?)?;
-    create_even(alloc, &mut volume)?;
-    Ok(saved(alloc, &volume)?)
+    let mut volume = new_volume(alloc, 1_024, 2, 600)?;
+    image_of(alloc, &mut volume)
 }
 
 /// Lowers all index keys. An error where there are fewer than four levels.
