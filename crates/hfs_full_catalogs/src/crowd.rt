@@ -1,9 +1,9 @@
 //! A folder with as many children as a folder may have.
 use crate::creation::{Kind, Order, create_named, creation, delete, delete_named, name};
-use crate::disk::{Disk, planned};
+use crate::disk::Disk;
 use crate::numbers::ensure_number;
 use anyhow::Result;
-use hfs_fixtures::{FixtureFault, lay};
+use hfs_fixtures::{FixtureFault, lay, planned};
 use hfs_model::{Bytes, Call, DUPLICATE, FOLDER_FULL};
 use std::alloc::Global;
 
@@ -35,8 +35,8 @@ const NUMBERS: [Row; 5] = [
 ];
 
 /// A new volume whose catalog has 45,055 nodes.
-fn wide_image(alloc: Global) -> Result<Vec<u8>> {
-    let mut image = planned(alloc, 65_535, 2)?;
+fn wide_image(alloc: Global) -> Result<Vec<u8>, FixtureFault> {
+    let mut image = planned(alloc, 65_535, 1, 2)?;
     lay_catalog(&mut image)?;
     Ok(image)
 }

@@ -2,8 +2,9 @@
 use crate::numbers::{ensure_code, ensure_number};
 use anyhow::{Result, bail};
 use hfs_btree::Header;
-use hfs_model::{Call, Reply, Value};
-use hfs_volume::{FormatPlan, Volume, format, mount};
+use hfs_model::{Call, Value};
+use hfs_volume::Volume;
+use hfs_volume_fixtures::{mounted, mounted_again, reply_to, saved};
 use std::alloc::{AllocError, Global};
 
 /// A mounted volume, and the block where its catalog begins.
@@ -19,49 +20,6 @@ pub struct Disk {
 pub struct Told {
     pub code: i16,
     pub free: Option<(u32, u32)>,
-}
-
-/// The image of a new volume with so many blocks and catalog nodes.
-pub fn planned(alloc: Global, blocks: u32, catalog_nodes: u32) -> Result<Vec<u8>> {
-    let plan = FormatPlan {
-        name: Vec::from_slice(alloc, b"D")?,
-        blocks,
-        extents_nodes: 1,
-        catalog_nodes,
-        now: 0,
-    };
-    match format(alloc, plan) {
-        Ok(image) => Ok(image),
-        Err(_fault) => bail!("no new volume"),
-    }
-}
-
-/// The volume of an image, which is sound.
-pub fn mounted(alloc: Global, image: Vec<u8>) -> Result<Volume> {
-    match mount(alloc, image) {
-        Ok(volume) => Ok(volume),
-        Err(_refused) => bail!("the image isn't sound"),
-    }
-}
-
-/// The reply to a call.
-pub fn reply_of(alloc: Global, volume: &mut Volume, call: &Call) -> Result<Reply, AllocError> {
-    volume.call(alloc, call)
-}
-
-/// Writes an image's bytes as they are now behind others.
-pub fn save_into(volume: &Volume, image: &mut Vec<u8>) -> Result<()> {
-    match volume.save(image) {
-        Ok(()) => Ok(()),
-        Err(_fault) => bail!("the image was not saved"),
-    }
-}
-
-/// An image's bytes as they are now.
-fn saved(alloc: Global, volume: &Volume) -> Result<Vec<u8>> {
-    let mut image = Vec::new(alloc);
-    save_into(volume, &mut image)?;
-    Ok(image)
 }
 
 /// The header record of the tree that begins with this block.
@@ -117,8 +75,7 @@ impl Disk {
 
     /// Saves the image and mounts it again.
     pub fn mount_again(&mut self) -> Result<()> {
-        let image = saved(self.alloc, &self.volume)?;
-        self.volume = mounted(self.alloc, image)?;
+        self.volume = mounted_again(self.alloc, &self.volume)?;
         Ok(())
     }
 
@@ -133,7 +90,7 @@ impl Disk {
 
     /// Makes a call, and answers what is told of it.
     pub fn told(&mut self, call: Call) -> Result<Told, AllocError> {
-        let reply = reply_of(self.alloc, &mut self.volume, &call)?;
+        let reply = reply_to(&mut self.volume, self.alloc, &call)?;
         Ok(Told {
             code: reply.code,
             free: told_free(&reply.value),

@@ -1,9 +1,10 @@
 //! Catalogs that are filled until no node is left, and emptied again.
 use crate::creation::{Kind, Order, creation, delete};
-use crate::disk::{Disk, Told, planned};
+use crate::disk::{Disk, Told};
 use crate::numbers::{ensure_code, ensure_number};
 use anyhow::{Result, bail, ensure};
 use hfs_btree::Header;
+use hfs_fixtures::planned;
 use hfs_model::DISK_FULL;
 use std::alloc::{AllocError, Global};
 
@@ -13,7 +14,7 @@ const MOST: u32 = 1_000;
 /// A new volume of 128 blocks with so many catalog nodes: the catalog begins behind two boot blocks, the master directory block,
 /// one block of the bitmap and one of the extents tree.
 fn new_disk(alloc: Global, nodes: u32) -> Result<Disk> {
-    let image = planned(alloc, 128, nodes)?;
+    let image = planned(alloc, 128, 1, nodes)?;
     Disk::new(alloc, image, 5)
 }
 

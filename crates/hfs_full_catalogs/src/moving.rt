@@ -1,10 +1,10 @@
 //! How long it takes to move a folder into folders that lie in one another.
 use crate::creation::{Kind, creation, name};
-use crate::disk::{mounted, reply_of};
 use crate::rounds::print_calls;
 use anyhow::{Result, bail};
 use hfs_model::{Call, Value};
 use hfs_volume::Volume;
+use hfs_volume_fixtures::{mounted, reply_to};
 use std::alloc::{AllocError, Global};
 use std::rt::Clock;
 
@@ -19,7 +19,7 @@ const ROOT: u32 = 2;
 
 /// Makes a call, and answers the ID that it is answered, if it is one.
 fn id_of(alloc: Global, volume: &mut Volume, call: Call) -> Result<Option<u32>, AllocError> {
-    let reply = reply_of(alloc, volume, &call)?;
+    let reply = reply_to(volume, alloc, &call)?;
     Ok(told_id(&reply.value))
 }
 

@@ -1,16 +1,16 @@
 //! How long each of a row of calls takes.
-use crate::disk::reply_of;
 use crate::numbers::ensure_code;
 use anyhow::{Result, bail};
 use hfs_model::Call;
 use hfs_volume::Volume;
+use hfs_volume_fixtures::reply_to;
 use std::alloc::{AllocError, Global};
 use std::rt::Clock;
 use std::time::Instant;
 
 /// The code of a call.
 fn code_of(alloc: Global, volume: &mut Volume, call: &Call) -> Result<i16, AllocError> {
-    let reply = reply_of(alloc, volume, call)?;
+    let reply = reply_to(volume, alloc, call)?;
     Ok(reply.code)
 }
 

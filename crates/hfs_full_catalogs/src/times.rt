@@ -1,10 +1,10 @@
 //! How long calls take on a volume of folders with files.
 use crate::creation::{Kind, creation, deletion};
-use crate::disk::{mounted, save_into};
 use crate::rounds::print_calls;
 use anyhow::{Result, bail};
 use hfs_model::{Bytes, Call, Info, ItemKind, Value};
 use hfs_volume::Volume;
+use hfs_volume_fixtures::{mounted, save_into};
 use std::alloc::{AllocError, Global};
 use std::rt::Clock;
 use std::time::Instant;

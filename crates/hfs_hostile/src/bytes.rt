@@ -1,9 +1,10 @@
 //! Every single byte of what describes a volume in turn set to other values.
-use crate::images::{Hostile, image_of, mounted};
+use crate::images::{Hostile, image_of};
 use crate::refusals::tried;
 use crate::serving::serve;
 use anyhow::{Result, ensure};
 use hfs_volume::MountFault;
+use hfs_volume_fixtures::mounted;
 use std::alloc::{AllocError, Global};
 
 /// Where what describes a volume begins and ends: the master directory block, the bitmap, two nodes of the extents tree and six of the

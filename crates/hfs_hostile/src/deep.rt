@@ -1,9 +1,9 @@
 //! A catalog of 16 levels, of which all but the last have one node with one child.
-use crate::images::mounted;
 use crate::refusals::ensure_refused;
 use crate::serving::serve;
 use anyhow::Result;
 use hfs_fixtures::{FixtureFault, lay, new_image};
+use hfs_volume_fixtures::mounted;
 use std::alloc::Global;
 
 /// How many nodes the catalog has.

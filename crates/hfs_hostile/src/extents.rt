@@ -1,12 +1,13 @@
 //! A file in 60,000 extents of one block, all but three of them in the extents tree.
-use crate::images::{Row, lay_rows, mounted, mounted_again, planned, saved};
+use crate::images::{Row, lay_rows, new_volume};
 use crate::refusals::ensure_refused;
-use crate::serving::{create, delete, ensure_done};
+use crate::serving::ensure_done;
 use crate::tree::{Places, lay_tree};
 use anyhow::{Result, ensure};
 use hfs_fixtures::{FixtureFault, lay};
 use hfs_model::{Fork, Value};
 use hfs_volume::Volume;
+use hfs_volume_fixtures::{create, delete, mounted, mounted_again, saved};
 use std::alloc::{AllocError, Global};
 
 /// Where the last of the file's 60,000 blocks begins.
@@ -38,15 +39,20 @@ fn lay_file(image: &mut [u8], places: Places) -> Result<(), FixtureFault> {
 
 /// Creates the file `f`.
 fn create_file(alloc: Global, volume: &mut Volume) -> Result<()> {
-    let code = create(alloc, volume, b"f")?;
+    let code = create(volume, alloc, 2, b"f", 7)?;
     ensure_done(code, "the creation of file", 16)
 }
 
-/// The volume with the file `f`, which is empty.
+/// A volume with the file `f` that comes to it, which is empty.
+fn image_of(alloc: Global, volume: &mut Volume) -> Result<Vec<u8>> {
+    create_file(alloc, volume)?;
+    Ok(saved(alloc, volume)?)
+}
+
+/// A new volume with the file `f`, which is empty.
 fn empty_image(alloc: Global) -> Result<Vec<u8>> {
-    let mut volume = mounted(alloc, planned(alloc, 65_535, 1_000, 4)?)?;
-    create_file(alloc, &mut volume)?;
-    saved(alloc, &volume)
+    let mut volume = new_volume(alloc, 65_535, 1_000, 4)?;
+    image_of(alloc, &mut volume)
 }
 
 /// The volume with the file `f` of 60,000 blocks.
@@ -79,7 +85,7 @@ fn has_last_block(alloc: Global, volume: &Volume) -> Result<bool, AllocError> {
 /// The file is read at its end and deleted.
 fn drop_file(alloc: Global, volume: &mut Volume) -> Result<()> {
     ensure!(has_last_block(alloc, volume)?, "other bytes");
-    let code = delete(alloc, volume, b"f")?;
+    let code = delete(volume, alloc, 2, b"f", 8)?;
     ensure_done(code, "the deletion of file", 16)
 }
 

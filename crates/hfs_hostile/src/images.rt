@@ -1,8 +1,8 @@
 //! The images that are changed.
-use anyhow::{Result, bail};
 use hfs_fields::{ExtKey, Extent};
-use hfs_fixtures::{FixtureFault, SmallVolume, lay, lay_overflow, small_image};
-use hfs_volume::{FormatPlan, Volume, format, mount};
+use hfs_fixtures::{FixtureFault, SmallVolume, lay, lay_overflow, planned, small_image};
+use hfs_volume::Volume;
+use hfs_volume_fixtures::mounted;
 use std::alloc::Global;
 
 /// Which volume is changed: one of the small ones, or `Folder` whose file has extents beyond its record.
@@ -63,45 +63,13 @@ fn cut_image(alloc: Global) -> Result<Vec<u8>, FixtureFault> {
     Ok(image)
 }
 
-/// A new volume `D` of so many blocks and nodes.
-pub fn planned(
+/// A new volume `D` of so many blocks and nodes, mounted.
+pub fn new_volume(
     alloc: Global,
     blocks: u32,
     extents_nodes: u32,
     catalog_nodes: u32,
-) -> Result<Vec<u8>> {
-    let plan = FormatPlan {
-        name: Vec::from_slice(alloc, b"D")?,
-        blocks,
-        extents_nodes,
-        catalog_nodes,
-        now: 0,
-    };
-    match format(alloc, plan) {
-        Ok(image) => Ok(image),
-        Err(_fault) => bail!("no new volume"),
-    }
-}
-
-/// The volume of an image, which is sound.
-pub fn mounted(alloc: Global, image: Vec<u8>) -> Result<Volume> {
-    match mount(alloc, image) {
-        Ok(volume) => Ok(volume),
-        Err(_refused) => bail!("the image isn't sound"),
-    }
-}
-
-/// A volume's image as it is now.
-pub fn saved(alloc: Global, volume: &Volume) -> Result<Vec<u8>> {
-    let mut image = Vec::new(alloc);
-    match volume.save(&mut image) {
-        Ok(()) => Ok(image),
-        Err(_fault) => bail!("the image was not saved"),
-    }
-}
-
-/// The volume of an image, saved and mounted again.
-pub fn mounted_again(alloc: Global, volume: &Volume) -> Result<Volume> {
-    let image = saved(alloc, volume)?;
+) -> Result<Volume, FixtureFault> {
+    let image = planned(alloc, blocks, extents_nodes, catalog_nodes)?;
     mounted(alloc, image)
 }

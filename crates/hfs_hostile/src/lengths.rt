@@ -59,8 +59,9 @@ fn mount_cut(alloc: Global, image: Vec<u8>) -> Result<()> {
     let length = image.len();
     match tried(alloc, image) {
         Ok(volume) => {
+            serve(alloc, volume)?;
             ensure!(fault_at(length).is_none(), "{length} bytes are taken");
-            serve(alloc, volume)
+            Ok(())
         }
         Err((fault, given_back)) => ensure_refused(length, fault, given_back),
     }

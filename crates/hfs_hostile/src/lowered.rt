@@ -1,8 +1,9 @@
 //! A catalog whose index keys are lower than their children's first keys at each level. Each edit keeps it sound.
-use crate::images::{mounted, mounted_again, planned, saved};
-use crate::serving::{create, delete, ensure_done};
+use crate::images::new_volume;
+use crate::serving::ensure_done;
 use anyhow::{Result, ensure};
 use hfs_volume::Volume;
+use hfs_volume_fixtures::{create, delete, mounted, mounted_again, saved};
 use std::alloc::{AllocError, Global};
 
 /// How many files there are at first: the even numbers from 0 on. Between each two of them another one comes.
@@ -68,17 +69,22 @@ fn lower_node(image: &mut [u8], block: usize) -> u8 {
 /// Creates the files of even numbers.
 fn create_even(alloc: Global, volume: &mut Volume) -> Result<()> {
     for n in 0..FILES {
-        let code = create(alloc, volume, &name(n.saturating_mul(2)))?;
+        let code = create(volume, alloc, 2, &name(n.saturating_mul(2)), 7)?;
         ensure_done(code, "file", n)?;
     }
     Ok(())
 }
 
-/// A volume with the files of even numbers, as it is saved.
+/// A volume with the files of even numbers that come to it, as it is saved.
+fn image_of(alloc: Global, volume: &mut Volume) -> Result<Vec<u8>> {
+    create_even(alloc, volume)?;
+    Ok(saved(alloc, volume)?)
+}
+
+/// A new volume with the files of even numbers, as it is saved.
 fn even_image(alloc: Global) -> Result<Vec<u8>> {
-    let mut volume = mounted(alloc, planned(alloc, 1_024, 2, 600)?)?;
-    create_even(alloc, &mut volume)?;
-    saved(alloc, &volume)
+    let mut volume = new_volume(alloc, 1_024, 2, 600)?;
+    image_of(alloc, &mut volume)
 }
 
 /// Lowers all index keys. An error where there are fewer than four levels.
@@ -106,8 +112,8 @@ fn code_of(
     number: u32,
 ) -> Result<i16, AllocError> {
     match change {
-        Change::Come => create(alloc, volume, &name(number)),
-        Change::Go => delete(alloc, volume, &name(number)),
+        Change::Come => create(volume, alloc, 2, &name(number), 7),
+        Change::Go => delete(volume, alloc, 2, &name(number), 8),
     }
 }
 

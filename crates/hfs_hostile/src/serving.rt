@@ -1,8 +1,8 @@
 //! All calls on a volume.
-use crate::images::mounted_again;
 use anyhow::{Result, ensure};
-use hfs_model::{Bytes, Call, Fork, Reply, Value};
+use hfs_model::{Fork, Reply, Value};
 use hfs_volume::Volume;
+use hfs_volume_fixtures::{create, delete, mounted_again};
 use std::alloc::{AllocError, Global};
 
 /// IDs of folders and files in the volumes that are changed, and IDs that no item has.
@@ -72,38 +72,10 @@ fn read_folder(alloc: Global, volume: &Volume, dir: u32) -> Result<()> {
     read_listed(alloc, volume, dir, &listed)
 }
 
-/// The code of a call.
-fn code_of(alloc: Global, volume: &mut Volume, call: Call) -> Result<i16, AllocError> {
-    let reply = volume.call(alloc, &call)?;
-    Ok(reply.code)
-}
-
-/// The code of Create in the root.
-pub fn create(alloc: Global, volume: &mut Volume, name: &[u8]) -> Result<i16, AllocError> {
-    let name = Bytes::from_slice(alloc, name)?;
-    let call = Call::Create {
-        dir: 2,
-        name,
-        now: 7,
-    };
-    code_of(alloc, volume, call)
-}
-
-/// The code of Delete in the root.
-pub fn delete(alloc: Global, volume: &mut Volume, name: &[u8]) -> Result<i16, AllocError> {
-    let name = Bytes::from_slice(alloc, name)?;
-    let call = Call::Delete {
-        dir: 2,
-        name,
-        now: 8,
-    };
-    code_of(alloc, volume, call)
-}
-
 /// Makes a Create, and a Delete of what it created.
 fn create_and_delete(alloc: Global, volume: &mut Volume) -> Result<()> {
-    let created = create(alloc, volume, b"n")?;
-    let deleted = delete(alloc, volume, b"n")?;
+    let created = create(volume, alloc, 2, b"n", 7)?;
+    let deleted = delete(volume, alloc, 2, b"n", 8)?;
     ensure!(created != 0 || deleted == 0, "a new file isn't deleted");
     Ok(())
 }
