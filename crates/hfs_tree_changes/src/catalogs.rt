@@ -88,15 +88,10 @@ pub fn replace_record(
     Ok(())
 }
 
-/// Takes a pair out. An error where the tree has no such pair.
-fn remove_record(alloc: Global, nodes: &mut NodeTable, key: &CatKey) -> Result<()> {
-    check_tree::<CatKey, NodeTable>(alloc, nodes, nodes.size())?;
-    take_pair(alloc, nodes, key)
-}
-
 /// Takes a pair out, and checks the tree. An error where the tree has no such pair, or still has it afterwards.
 pub fn take_record(alloc: Global, nodes: &mut NodeTable, key: &CatKey) -> Result<()> {
-    remove_record(alloc, nodes, key)?;
+    check_tree::<CatKey, NodeTable>(alloc, nodes, nodes.size())?;
+    take_pair(alloc, nodes, key)?;
     let left = body_under(alloc, nodes, key)?;
     ensure!(left.is_none(), "the key is still there");
     Ok(())

@@ -24,19 +24,14 @@ pub fn rewrite(alloc: Global, nodes: &mut NodeTable, records: &[Record]) -> Resu
     Ok(())
 }
 
-/// An error where the body under a key is none, or not these bytes.
-fn ensure_body(alloc: Global, nodes: &NodeTable, key: &CatKey, body: &[u8]) -> Result<()> {
+/// A record gets these bytes. An error where the body under its key is none then, or not these bytes.
+fn put_body(alloc: Global, nodes: &mut NodeTable, key: &CatKey, body: &[u8]) -> Result<()> {
+    replace_record(alloc, nodes, key, body)?;
     match body_under(alloc, nodes, key)? {
         Some(found) => ensure!(found.as_slice() == body, "another body"),
         None => bail!("a record is gone"),
     }
     Ok(())
-}
-
-/// A record gets these bytes.
-fn put_body(alloc: Global, nodes: &mut NodeTable, key: &CatKey, body: &[u8]) -> Result<()> {
-    replace_record(alloc, nodes, key, body)?;
-    ensure_body(alloc, nodes, key, body)
 }
 
 /// A record gets another body of the same length.
