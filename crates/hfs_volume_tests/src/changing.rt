@@ -1,6 +1,6 @@
 //! Calls that are run as a list, and a changed volume that is saved by a writer that fails.
 use crate::fixture::is_saved_as;
-use hfs_fixtures::{SmallVolume, lay, tiny_image};
+use hfs_fixtures::{FixtureFault, SmallVolume, lay, tiny_image};
 use hfs_model::{Bytes, Call, Reply};
 use hfs_volume::Volume;
 use hfs_volume_fixtures::{FrontWriter, mounted, patterned, set_f_info, small_volume};
@@ -53,27 +53,26 @@ fn are_answered(
     alloc: Global,
     calls: &[Call],
     codes: [i16; 3],
-) -> Result<bool, Fail> {
+) -> Result<bool, AllocError> {
     let replies = volume.run(alloc, calls)?;
     Ok(have_codes(replies.as_slice(), codes))
 }
 
 /// Whether the three calls, made one after the other, are answered by these codes.
-fn are_three_answered(volume: &mut Volume, alloc: Global, codes: [i16; 3]) -> Result<bool, Fail> {
+fn are_three_answered(
+    volume: &mut Volume,
+    alloc: Global,
+    codes: [i16; 3],
+) -> Result<bool, AllocError> {
     let calls = three_calls(alloc)?;
     are_answered(volume, alloc, &calls, codes)
-}
-
-/// Wants the three calls to be answered in their order.
-fn expect_answers(rt: &impl Abort, volume: &mut Volume, alloc: Global) -> Result<(), Fail> {
-    assert!(rt; are_three_answered(volume, alloc, [0, -45, 0])?);
-    Ok(())
 }
 
 #[test]
 fn calls_are_run_in_their_order(rt: HostRuntime) -> Result<(), Fail> {
     let mut volume = small_volume(rt.alloc(), SmallVolume::OneFile)?;
-    expect_answers(&rt, &mut volume, rt.alloc())
+    assert!(rt; are_three_answered(&mut volume, rt.alloc(), [0, -45, 0])?);
+    Ok(())
 }
 
 /// Whether a writer that fails after so many bytes is told of so many.
@@ -91,21 +90,16 @@ fn is_front(volume: &Volume, whole: &[u8], left: usize) -> bool {
 }
 
 /// The smallest volume with 100 bytes more.
-fn tiny_volume(alloc: Global) -> Result<Vec<u8>, Fail> {
+fn tiny_volume(alloc: Global) -> Result<Vec<u8>, FixtureFault> {
     Ok(patterned(tiny_image(alloc)?)?)
 }
 
 /// What SetFInfo makes of the smallest volume with 100 bytes more.
-fn changed_volume(alloc: Global) -> Result<Vec<u8>, Fail> {
+fn changed_volume(alloc: Global) -> Result<Vec<u8>, FixtureFault> {
     let mut image = tiny_volume(alloc)?;
     lay(&mut image, 2, 6, &[0, 0, 0, 7])?;
     lay(&mut image, 7, 290, &ONE_TO_SIXTEEN)?;
     Ok(image)
-}
-
-/// Whether SetFInfo is made on the smallest volume.
-fn is_info_set(volume: &mut Volume, alloc: Global) -> Result<bool, AllocError> {
-    Ok(set_f_info(volume, alloc, 16, b"f", ONE_TO_SIXTEEN, 7)? == 0)
 }
 
 /// Wants a volume to be saved as these bytes, and each front of them by a writer that fails.
@@ -117,8 +111,8 @@ fn expect_fronts(rt: &impl Abort, volume: &Volume, want: &[u8]) {
 }
 
 /// Sets the Finder bytes, and wants the changed volume and each front of it to be saved.
-fn expect_saved(rt: &impl Abort, volume: &mut Volume, alloc: Global) -> Result<(), Fail> {
-    assert!(rt; is_info_set(volume, alloc)?);
+fn expect_saved(rt: &impl Abort, volume: &mut Volume, alloc: Global) -> Result<(), FixtureFault> {
+    assert!(rt; set_f_info(volume, alloc, 16, b"f", ONE_TO_SIXTEEN, 7)? == 0);
     let want = changed_volume(alloc)?;
     expect_fronts(rt, volume, &want);
     Ok(())
@@ -126,7 +120,7 @@ fn expect_saved(rt: &impl Abort, volume: &mut Volume, alloc: Global) -> Result<(
 
 #[test]
 fn a_writer_that_fails_after_a_call_has_the_first_bytes(rt: HostRuntime) -> Result<(), Fail> {
-    let image = tiny_volume(rt.alloc())?;
-    let mut volume = mounted(rt.alloc(), image)?;
-    expect_saved(&rt, &mut volume, rt.alloc())
+    let mut volume = mounted(rt.alloc(), tiny_volume(rt.alloc())?)?;
+    expect_saved(&rt, &mut volume, rt.alloc())?;
+    Ok(())
 }

@@ -4,22 +4,17 @@ use crate::mounting::has_fault;
 use hfs_check::MountFault;
 use hfs_fixtures::{FixtureFault, SmallVolume, lay, small_image};
 use hfs_model::{Call, Fork};
-use hfs_volume::{Volume, mount};
+use hfs_volume::Volume;
 use hfs_volume_fixtures::{create, mounted};
 use std::alloc::{AllocError, Global};
 use std::process::Abort;
 use std::test::Fail;
 
-/// Whether the root of a volume is listed.
-fn is_listed(volume: &mut Volume, alloc: Global) -> Result<bool, Fail> {
-    Ok(code_of(volume, alloc, Call::List { dir: 2 })? == 0)
-}
-
 /// Whether the root of a new volume with these attributes is listed.
-fn is_listed_with(alloc: Global, attributes: [u8; 2]) -> Result<bool, Fail> {
+fn is_listed_with(alloc: Global, attributes: [u8; 2]) -> Result<bool, FixtureFault> {
     let image = laid(alloc, SmallVolume::New, &[(2, 10, &attributes)])?;
     let mut volume = mounted(alloc, image)?;
-    is_listed(&mut volume, alloc)
+    Ok(code_of(&mut volume, alloc, Call::List { dir: 2 })? == 0)
 }
 
 #[test]
@@ -40,7 +35,7 @@ fn cut_image(alloc: Global, len: usize) -> Result<Vec<u8>, FixtureFault> {
 /// Whether the first bytes of a new volume are mounted.
 fn is_mounted(alloc: Global, len: usize) -> Result<bool, FixtureFault> {
     let image = cut_image(alloc, len)?;
-    Ok(mount(alloc, image).is_ok())
+    Ok(mounted(alloc, image).is_ok())
 }
 
 /// Whether the first bytes of a new volume are refused for this fault.
@@ -56,31 +51,20 @@ fn a_cut_image_is_mounted_while_its_blocks_are_there(rt: HostRuntime) -> Result<
     Ok(())
 }
 
-/// Looks the item `f` up, whatever is answered.
-fn look_up(volume: &Volume) {
-    volume.get_cat_info(2, b"f");
-}
-
-/// Reads a block of the item `f`, whatever is answered.
-fn read_block(volume: &Volume, alloc: Global) -> Result<(), AllocError> {
-    volume.read_fork(alloc, 2, b"f", Fork::DataFork, 0, 512)?;
-    Ok(())
-}
-
 /// Makes each call that reads, and one that changes the volume, whatever they answer; true where each is answered.
 fn answers_calls(volume: &mut Volume, alloc: Global) -> Result<bool, AllocError> {
     code_of(volume, alloc, Call::GetDirInfo { dir: 2 })?;
     code_of(volume, alloc, Call::List { dir: 2 })?;
     code_of(volume, alloc, Call::GetIndexed { dir: 2, index: 1 })?;
-    look_up(volume);
-    read_block(volume, alloc)?;
+    volume.get_cat_info(2, b"f");
+    volume.read_fork(alloc, 2, b"f", Fork::DataFork, 0, 512)?;
     create(volume, alloc, 2, b"f", 0)?;
     Ok(true)
 }
 
 /// Whether an image is mounted; where it is, it answers the calls.
 fn answers(alloc: Global, image: Vec<u8>) -> Result<bool, AllocError> {
-    match mount(alloc, image) {
+    match mounted(alloc, image) {
         Ok(mut volume) => answers_calls(&mut volume, alloc),
         Err(_refused) => Ok(false),
     }

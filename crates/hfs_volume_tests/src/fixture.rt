@@ -2,7 +2,7 @@
 use hfs_fixtures::{FixtureFault, SmallVolume, lay, small_image};
 use hfs_model::Call;
 use hfs_volume::Volume;
-use hfs_volume_fixtures::FrontWriter;
+use hfs_volume_fixtures::{FrontWriter, reply_to};
 use std::alloc::{AllocError, Global};
 
 /// A small image with bytes laid over it: each row has a block, a place in it, and what is laid there.
@@ -20,7 +20,7 @@ pub fn laid(
 
 /// The code that a call is answered.
 pub fn code_of(volume: &mut Volume, alloc: Global, call: Call) -> Result<i16, AllocError> {
-    let reply = volume.call(alloc, &call)?;
+    let reply = reply_to(volume, alloc, &call)?;
     Ok(reply.code)
 }
 

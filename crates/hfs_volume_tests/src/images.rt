@@ -1,7 +1,6 @@
 //! Images, and the bytes that they were opened with.
 use hfs_volume::{Base, Image};
 use std::alloc::{AllocError, Global};
-use std::process::Abort;
 use std::test::Fail;
 
 /// The image of five bytes.
@@ -24,14 +23,9 @@ fn has_base(image: &Image, bytes: &[u8]) -> Result<bool, AllocError> {
     Ok(image.count() == 0 && is_shared(&base, bytes)?)
 }
 
-/// Wants an image to have been opened with the five bytes.
-fn expect_five(rt: &impl Abort, image: &Image) -> Result<(), Fail> {
-    assert!(rt; has_base(image, b"three")?);
-    Ok(())
-}
-
 #[test]
 fn a_base_is_shared(rt: HostRuntime) -> Result<(), Fail> {
     let image = five_bytes(rt.alloc())?;
-    expect_five(&rt, &image)
+    assert!(rt; has_base(&image, b"three")?);
+    Ok(())
 }

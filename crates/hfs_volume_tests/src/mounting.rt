@@ -6,33 +6,16 @@ use hfs_volume::{Refused, mount, mount_repaired};
 use std::alloc::{AllocError, Global};
 use std::test::Fail;
 
-/// Why an image was refused, where it is handed back as it was.
-fn fault_in(refused: &Refused, given: &[u8]) -> Option<MountFault> {
-    if refused.image.as_slice() == given {
-        Some(refused.fault)
-    } else {
-        None
-    }
-}
-
-/// Why an image is refused, where it is handed back as it was.
-fn fault_of(alloc: Global, image: &[u8]) -> Result<Option<MountFault>, AllocError> {
-    match mount(alloc, Vec::from_slice(alloc, image)?) {
-        Ok(_volume) => Ok(None),
-        Err(refused) => Ok(fault_in(&refused, image)),
-    }
+/// Whether an image was refused for this fault, and is handed back as it was.
+fn is_for(refused: &Refused, given: &[u8], fault: MountFault) -> bool {
+    refused.fault == fault && refused.image.as_slice() == given
 }
 
 /// Whether an image is refused for this fault, and handed back as it was.
 pub fn has_fault(alloc: Global, image: &[u8], fault: MountFault) -> Result<bool, AllocError> {
-    Ok(fault_of(alloc, image)? == Some(fault))
-}
-
-/// Why an image is refused with its counts mended too, where it is handed back as it was.
-fn fault_in_repair(alloc: Global, image: &[u8]) -> Result<Option<MountFault>, AllocError> {
-    match mount_repaired(alloc, Vec::from_slice(alloc, image)?) {
-        Ok(_mended) => Ok(None),
-        Err(refused) => Ok(fault_in(&refused, image)),
+    match mount(alloc, Vec::from_slice(alloc, image)?) {
+        Ok(_volume) => Ok(false),
+        Err(refused) => Ok(is_for(&refused, image, fault)),
     }
 }
 
@@ -42,7 +25,10 @@ pub fn has_fault_in_repair(
     image: &[u8],
     fault: MountFault,
 ) -> Result<bool, AllocError> {
-    Ok(fault_in_repair(alloc, image)? == Some(fault))
+    match mount_repaired(alloc, Vec::from_slice(alloc, image)?) {
+        Ok(_mended) => Ok(false),
+        Err(refused) => Ok(is_for(&refused, image, fault)),
+    }
 }
 
 /// Whether an image is refused for this fault, and with its counts mended too, and handed back as it was both times.

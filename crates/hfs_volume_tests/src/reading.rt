@@ -41,27 +41,11 @@ fn has_new_root(volume: &Volume, alloc: Global) -> Result<bool, AllocError> {
     Ok(has_children(volume, alloc, 0)? && is_told_new(&volume.get_dir_info(2)))
 }
 
-/// Wants the root of a volume to be that of a new volume.
-fn expect_new_root(rt: &impl Abort, volume: &Volume, alloc: Global) -> Result<(), Fail> {
-    assert!(rt; has_new_root(volume, alloc)?);
-    Ok(())
-}
-
 #[test]
 fn a_new_volume_has_an_empty_root(rt: HostRuntime) -> Result<(), Fail> {
     let volume = small_volume(rt.alloc(), SmallVolume::New)?;
-    expect_new_root(&rt, &volume, rt.alloc())
-}
-
-/// The code of asking for a folder's children.
-fn list_code(volume: &Volume, alloc: Global, dir: u32) -> Result<i16, AllocError> {
-    let reply = volume.list(alloc, dir)?;
-    Ok(reply.code)
-}
-
-/// The code of asking for a folder.
-fn dir_code(volume: &Volume, dir: u32) -> i16 {
-    volume.get_dir_info(dir).code
+    assert!(rt; has_new_root(&volume, rt.alloc())?);
+    Ok(())
 }
 
 /// The code of asking for an item of the root.
@@ -74,13 +58,18 @@ fn index_code(volume: &Volume, index: u32) -> i16 {
     volume.get_indexed(2, index).code
 }
 
+/// Whether this is the ID of no folder, however it is asked for.
+fn is_none(volume: &Volume, alloc: Global, dir: u32) -> Result<bool, AllocError> {
+    let reply = volume.list(alloc, dir)?;
+    Ok(reply.code == -120 && volume.get_dir_info(dir).code == -120)
+}
+
 /// Wants these places, names and folders to be none.
 fn expect_none(rt: &impl Abort, volume: &Volume, alloc: Global) -> Result<(), Fail> {
     assert!(rt; index_code(volume, 0) == -50 && index_code(volume, 1) == -43);
     assert!(rt; name_code(volume, b"q") == -43 && name_code(volume, b"a:b") == -37);
     for dir in [1, 3, 16] {
-        assert!(rt; dir_code(volume, dir) == -120, "{dir}");
-        assert!(rt; list_code(volume, alloc, dir)? == -120, "{dir}");
+        assert!(rt; is_none(volume, alloc, dir)?, "{dir}");
     }
     Ok(())
 }
@@ -113,16 +102,11 @@ fn has_f(volume: &Volume, name: &[u8], index: u32) -> bool {
     is_told_f(&volume.get_cat_info(2, name)) && is_told_f(&volume.get_indexed(2, index))
 }
 
-/// Wants the root to have the file `f` alone.
-fn expect_f(rt: &impl Abort, volume: &Volume, alloc: Global) -> Result<(), Fail> {
-    assert!(rt; has_f(volume, b"F", 1) && has_children(volume, alloc, 1)?);
-    Ok(())
-}
-
 #[test]
 fn a_file_is_found_by_name_and_by_place(rt: HostRuntime) -> Result<(), Fail> {
     let volume = small_volume(rt.alloc(), SmallVolume::OneFile)?;
-    expect_f(&rt, &volume, rt.alloc())
+    assert!(rt; has_f(&volume, b"F", 1) && has_children(&volume, rt.alloc(), 1)?);
+    Ok(())
 }
 
 /// The call that reads a part of the data fork of file `f` in the root.
@@ -145,6 +129,21 @@ fn is_reply(reply: &Reply, code: i16, bytes: &[u8]) -> bool {
     reply.code == code && found == bytes
 }
 
+/// Whether a call that reads is answered by this code and these bytes.
+fn is_read(
+    volume: &Volume,
+    alloc: Global,
+    call: &Call,
+    code: i16,
+    bytes: &[u8],
+) -> Result<bool, AllocError> {
+    if !call.is_reading() {
+        return Ok(false);
+    }
+    let reply = volume.read(alloc, call)?;
+    Ok(is_reply(&reply, code, bytes))
+}
+
 /// Whether a part of the data fork of file `f` is answered by this code and these bytes.
 fn is_part(
     volume: &Volume,
@@ -155,11 +154,7 @@ fn is_part(
     bytes: &[u8],
 ) -> Result<bool, AllocError> {
     let call = part(alloc, offset, count)?;
-    if !call.is_reading() {
-        return Ok(false);
-    }
-    let reply = volume.read(alloc, &call)?;
-    Ok(is_reply(&reply, code, bytes))
+    is_read(volume, alloc, &call, code, bytes)
 }
 
 /// Wants parts of the data fork of file `f` to be answered by a code and by bytes.
@@ -273,11 +268,6 @@ fn is_place(reply: &Reply, parent: u32, wanted: &[u8]) -> bool {
     }
 }
 
-/// The code of asking for a file's place.
-fn place_code(volume: &Volume, id: u32) -> i16 {
-    volume.resolve_file_id(id).code
-}
-
 /// Whether a reply tells of an item that has an ID, or of one that has none.
 fn is_told_id(reply: &Reply, has_id: bool) -> bool {
     match &reply.value {
@@ -293,13 +283,17 @@ fn have_ids(volume: &Volume) -> bool {
         && is_told_id(&volume.get_cat_info(2, b"g"), false)
 }
 
+/// Whether the place of an ID is answered by this code, however it is asked for.
+fn is_answered(volume: &mut Volume, alloc: Global, id: u32, code: i16) -> Result<bool, AllocError> {
+    let called = code_of(volume, alloc, Call::ResolveFileId { id })?;
+    Ok(called == code && volume.resolve_file_id(id).code == code)
+}
+
 /// Wants the file `f` alone to have an ID, and the place of each ID to be answered by its code, however it is asked for.
 fn expect_places(rt: &impl Abort, volume: &mut Volume, alloc: Global) -> Result<(), Fail> {
     assert!(rt; have_ids(volume));
     for (id, code) in [(16, 0), (17, -1300), (2, -1302), (1, -1300), (18, -1300)] {
-        assert!(rt; place_code(volume, id) == code, "{id}");
-        let called = code_of(volume, alloc, Call::ResolveFileId { id })?;
-        assert!(rt; called == code, "{id}");
+        assert!(rt; is_answered(volume, alloc, id, code)?, "{id}");
     }
     Ok(())
 }

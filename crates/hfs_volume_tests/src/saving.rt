@@ -4,7 +4,7 @@ ghost use Rattle.hfs_blocks.specs.Blocks.{block_count};
 
 use crate::fixture;
 use hfs_blocks::Patch;
-use hfs_fixtures::{SmallVolume, small_image};
+use hfs_fixtures::{FixtureFault, SmallVolume, small_image};
 use hfs_volume::{Image, SaveFault, Volume};
 use hfs_volume_fixtures::{LimitedWriter, mounted, patterned};
 use std::alloc::{AllocError, Global};
@@ -94,16 +94,11 @@ fn is_changed(
     Ok(image.changed() == 3 && is_saved(alloc, image, left, &want))
 }
 
-/// Whether an image was opened with these bytes.
-fn has_base(image: &Image, bytes: &[u8]) -> Result<bool, AllocError> {
-    let base = image.base()?;
-    Ok(base.bytes() == bytes)
-}
-
 /// Whether an image was opened with so many bytes of the pattern.
 fn has_pattern(alloc: Global, image: &Image, len: usize) -> Result<bool, AllocError> {
     let bytes = pattern(alloc, len)?;
-    has_base(image, &bytes)
+    let base = image.base()?;
+    Ok(base.bytes() == bytes.as_slice())
 }
 
 /// Whether an image has five blocks and no change.
@@ -126,18 +121,18 @@ fn changed_blocks_are_saved_and_the_tail_is_kept(rt: HostRuntime) -> Result<(), 
     expect_changed(&rt, rt.alloc(), &mut image)
 }
 
-/// Changes three blocks of an image of 2,560 bytes twice, and wants the later changes to be saved.
-fn expect_changed_twice(rt: &impl Abort, alloc: Global, image: &mut Image) -> Result<(), Fail> {
+/// Whether changes of three blocks of an image of 2,560 bytes, made twice, are saved as the later ones.
+fn is_changed_twice(alloc: Global, image: &mut Image) -> Result<bool, AllocError> {
     change(alloc, image, [7, 8, 9])?;
     change(alloc, image, [10, 11, 12])?;
-    assert!(rt; is_changed(alloc, image, 2560, 2560, [10, 11, 12])?);
-    Ok(())
+    is_changed(alloc, image, 2560, 2560, [10, 11, 12])
 }
 
 #[test]
 fn a_later_commit_writes_over_an_earlier_one(rt: HostRuntime) -> Result<(), Fail> {
     let mut image = pattern_image(rt.alloc(), 2560)?;
-    expect_changed_twice(&rt, rt.alloc(), &mut image)
+    assert!(rt; is_changed_twice(rt.alloc(), &mut image)?);
+    Ok(())
 }
 
 /// Whether a writer that fails after so many bytes has the first of these and no others.
@@ -186,21 +181,16 @@ fn is_whole_after(alloc: Global, image: &Image, is_changed: bool) -> Result<bool
     Ok(is_saved_or_refused(alloc, image, &whole))
 }
 
-/// Changes three blocks, and wants all of them to be saved, or none where memory was refused.
-fn expect_whole(rt: &impl Abort, alloc: Global, image: &mut Image) -> Result<(), Fail> {
-    let is_changed = change(alloc, image, [7, 8, 9]).is_ok();
-    assert!(rt; is_whole_after(alloc, image, is_changed)?);
-    Ok(())
-}
-
 #[test]
 fn a_commit_without_memory_leaves_the_bytes(rt: HostRuntime) -> Result<(), Fail> {
     let mut image = pattern_image(rt.alloc(), 2660)?;
-    expect_whole(&rt, rt.alloc(), &mut image)
+    let is_changed = change(rt.alloc(), &mut image, [7, 8, 9]).is_ok();
+    assert!(rt; is_whole_after(rt.alloc(), &image, is_changed)?);
+    Ok(())
 }
 
 /// The image of a small volume with 100 bytes more.
-fn longer_image(alloc: Global) -> Result<Vec<u8>, Fail> {
+fn longer_image(alloc: Global) -> Result<Vec<u8>, FixtureFault> {
     Ok(patterned(small_image(alloc, SmallVolume::OneFile)?)?)
 }
 

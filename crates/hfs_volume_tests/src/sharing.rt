@@ -1,12 +1,11 @@
 //! What those who read beside the writer take from a volume.
 use crate::fixture::is_unchanged;
 use hfs_fields::{Extent, FileRecord, ForkRecord};
-use hfs_fixtures::SmallVolume;
+use hfs_fixtures::{FixtureFault, SmallVolume};
 use hfs_model::{Fork, Info, Reply, Value};
 use hfs_volume::Volume;
 use hfs_volume_fixtures::{delete, saved, small_volume};
 use std::alloc::{AllocError, Global};
-use std::process::Abort;
 use std::test::Fail;
 
 /// Whether one of these items has a thread.
@@ -44,17 +43,13 @@ fn is_told_in_brief(volume: &Volume, alloc: Global, count: usize) -> Result<bool
     Ok(told(&reply) == (count, false))
 }
 
-/// Wants a volume to tell of two children in its root, and of a thread only where it is asked for one.
-fn expect_two_children(rt: &impl Abort, volume: &Volume, alloc: Global) -> Result<(), Fail> {
-    assert!(rt; is_told(volume, alloc, 2, true)?);
-    assert!(rt; is_told_in_brief(volume, alloc, 2)?);
-    Ok(())
-}
-
 #[test]
 fn a_list_in_brief_looks_up_no_thread(rt: HostRuntime) -> Result<(), Fail> {
     let volume = small_volume(rt.alloc(), SmallVolume::FileThread)?;
-    expect_two_children(&rt, &volume, rt.alloc())
+    assert!(rt;
+        is_told(&volume, rt.alloc(), 2, true)? && is_told_in_brief(&volume, rt.alloc(), 2)?
+    );
+    Ok(())
 }
 
 /// Whether so many records are handed out, and this is the next ID.
@@ -68,16 +63,11 @@ fn has_records(
     Ok(records.len() == count && volume.next_id() == next_id)
 }
 
-/// Wants a volume to have five records.
-fn expect_five_records(rt: &impl Abort, volume: &Volume, alloc: Global) -> Result<(), Fail> {
-    assert!(rt; has_records(volume, alloc, 5, 18)?);
-    Ok(())
-}
-
 #[test]
 fn all_records_are_handed_out(rt: HostRuntime) -> Result<(), Fail> {
     let volume = small_volume(rt.alloc(), SmallVolume::FileThread)?;
-    expect_five_records(&rt, &volume, rt.alloc())
+    assert!(rt; has_records(&volume, rt.alloc(), 5, 18)?);
+    Ok(())
 }
 
 /// One allocation block.
@@ -108,40 +98,35 @@ fn has_extents(
     Ok(extents.len() == count && extents.get(3) == Some(&fourth))
 }
 
-/// Wants the fourth extent of the file `f` to be that of the extents tree.
-fn expect_fourth(rt: &impl Abort, volume: &Volume, alloc: Global) -> Result<(), Fail> {
-    // the two behind the fourth are empty
-    assert!(rt; has_extents(volume, alloc, 6, one_block(16))?);
-    Ok(())
-}
-
 #[test]
 fn extents_go_on_in_the_extents_tree(rt: HostRuntime) -> Result<(), Fail> {
     let volume = small_volume(rt.alloc(), SmallVolume::OneFile)?;
-    expect_fourth(&rt, &volume, rt.alloc())
+    // the two behind the fourth are empty
+    assert!(rt; has_extents(&volume, rt.alloc(), 6, one_block(16))?);
+    Ok(())
 }
 
 /// Whether a volume, mounted anew, is the one of these bytes.
-fn is_anew(volume: Volume, alloc: Global, bytes: &[u8]) -> Result<bool, Fail> {
+fn is_anew(volume: Volume, alloc: Global, bytes: &[u8]) -> Result<bool, AllocError> {
     match volume.mounted_anew(alloc) {
-        Ok(anew) => Ok(is_unchanged(&anew, bytes)?),
+        Ok(anew) => is_unchanged(&anew, bytes),
         Err(_failed) => Ok(false),
     }
 }
 
 /// Whether a volume, mounted anew, is the one of the bytes that it is saved as.
-fn is_anew_as_saved(volume: Volume, alloc: Global) -> Result<bool, Fail> {
+fn is_anew_as_saved(volume: Volume, alloc: Global) -> Result<bool, FixtureFault> {
     let bytes = saved(alloc, &volume)?;
-    is_anew(volume, alloc, &bytes)
+    Ok(is_anew(volume, alloc, &bytes)?)
 }
 
 /// Whether the file `f` is deleted, and blocks are changed then.
-fn is_f_deleted(volume: &mut Volume, alloc: Global) -> Result<bool, Fail> {
+fn is_f_deleted(volume: &mut Volume, alloc: Global) -> Result<bool, AllocError> {
     Ok(delete(volume, alloc, 2, b"f", 7)? == 0 && volume.changed() > 0)
 }
 
 /// Whether a volume is mounted anew as it is once the file `f` is deleted.
-fn is_anew_without_f(volume: Volume, alloc: Global) -> Result<bool, Fail> {
+fn is_anew_without_f(volume: Volume, alloc: Global) -> Result<bool, FixtureFault> {
     let mut changed = volume;
     if is_f_deleted(&mut changed, alloc)? {
         is_anew_as_saved(changed, alloc)

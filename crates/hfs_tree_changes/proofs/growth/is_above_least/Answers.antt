@@ -3,8 +3,8 @@ use Rattle.std.specs.Prelude.{option_map}
 use Rattle.std.specs.Ordering.{is_lt}
 use Rattle.hfs_btree.specs.Header.{tree_content}
 use Rattle.hfs_btree.specs.Pairs.{lookup}
-use Rattle.hfs_insertions.proofs.AboveFirst.{above-first}
-use Rattle.hfs_insertions.proofs.growth.is_above_least.Goals as goal
+use Rattle.hfs_tree_changes.proofs.AboveFirst.{above-first}
+use Rattle.hfs_tree_changes.proofs.growth.is_above_least.Goals as goal
 
 pub returns-in-Some : goal.returns-in-Some
 returns-in-Some g c =

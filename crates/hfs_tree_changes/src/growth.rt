@@ -2,7 +2,7 @@
 
 ghost use Rattle.std.specs.Prelude.{OnOk, IfOk};
 ghost use Rattle.hfs_btree.specs.Sound.{IsSound};
-ghost use Rattle.hfs_insertions.specs.Least.{TestsLeast};
+ghost use Rattle.hfs_tree_changes.specs.Least.{TestsLeast};
 
 use crate::sample::Sample;
 use anyhow::{Result, bail, ensure};

@@ -1,37 +1,19 @@
-//! Replaces each record of the catalog trees of three volumes that other programs made: by a body of the same length and
-//! back, by a shorter one, and under a name in the other case. The tree is checked after each.
-#![tactic(auto)]
+//! Each record of the catalog trees of three volumes is replaced: by a body of the same length and back, by a shorter one, and
+//! under a name in the other case. The tree is checked after each.
 
-mod kinds;
-mod records;
-
+use crate::catalogs::{NAMES, Record, records, table};
 use crate::kinds::{are_respelled, other_case, rewrite, same_length, shorter};
-use crate::records::{Record, records};
-use anyhow::{Result, bail, ensure};
+use anyhow::{Result, ensure};
 use hfs_node_tables::NodeTable;
 use std::alloc::Global;
 use std::fs;
 
-/// The files of catalog trees.
-const NAMES: [&str; 3] = [
-    "hfsutils-800k-catalog.bin",
-    "hfsutils-1440k-names-catalog.bin",
-    "genisoimage-locked-catalog.bin",
-];
-
-fn main(rt: HostRuntime) -> Result<()> {
+/// Replaces the records of each tree, and prints how many were.
+pub fn print_replacements(rt: &HostRuntime) -> Result<()> {
     for name in NAMES {
-        print_replaced(&rt, name)?;
+        print_replaced(rt, name)?;
     }
     Ok(())
-}
-
-/// The nodes of a file.
-fn table(alloc: Global, file: &[u8]) -> Result<NodeTable> {
-    match NodeTable::of(alloc, file)? {
-        Some(nodes) => Ok(nodes),
-        None => bail!("the file is too long"),
-    }
 }
 
 /// The nodes of a file, with each record laid again.

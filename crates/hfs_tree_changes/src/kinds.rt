@@ -1,6 +1,6 @@
 //! The ways in which each record of a tree is replaced. Each answers how many records were.
 
-use crate::records::{Record, body_under, put};
+use crate::catalogs::{Record, body_under, replace_record};
 use anyhow::{Result, bail, ensure};
 use hfs_fields::{CatKey, Name};
 use hfs_node_tables::NodeTable;
@@ -19,24 +19,19 @@ fn turned(alloc: Global, body: &[u8]) -> Result<Vec<u8>> {
 /// than their names need; behind this the leaves are laid as `replace` lays them.
 pub fn rewrite(alloc: Global, nodes: &mut NodeTable, records: &[Record]) -> Result<()> {
     for record in records {
-        put(alloc, nodes, &record.key, &record.body)?;
+        replace_record(alloc, nodes, &record.key, &record.body)?;
     }
     Ok(())
 }
 
-/// An error where the body under a key is none, or not these bytes.
-fn ensure_body(alloc: Global, nodes: &NodeTable, key: &CatKey, body: &[u8]) -> Result<()> {
+/// A record gets these bytes. An error where the body under its key is none then, or not these bytes.
+fn put_body(alloc: Global, nodes: &mut NodeTable, key: &CatKey, body: &[u8]) -> Result<()> {
+    replace_record(alloc, nodes, key, body)?;
     match body_under(alloc, nodes, key)? {
         Some(found) => ensure!(found.as_slice() == body, "another body"),
         None => bail!("a record is gone"),
     }
     Ok(())
-}
-
-/// A record gets these bytes.
-fn put_body(alloc: Global, nodes: &mut NodeTable, key: &CatKey, body: &[u8]) -> Result<()> {
-    put(alloc, nodes, key, body)?;
-    ensure_body(alloc, nodes, key, body)
 }
 
 /// A record gets another body of the same length.
@@ -55,7 +50,7 @@ pub fn same_length(
     let mut count = 0u32;
     for record in records {
         turn(alloc, nodes, record)?;
-        put(alloc, nodes, &record.key, &record.body)?;
+        replace_record(alloc, nodes, &record.key, &record.body)?;
         ensure!(
             nodes.nodes.as_slice() == first.nodes.as_slice(),
             "other bytes"
@@ -106,7 +101,7 @@ pub fn other_case(alloc: Global, nodes: &mut NodeTable, records: &[Record]) -> R
                 parent: record.key.parent,
                 name,
             };
-            put(alloc, nodes, &key, &record.body)?;
+            replace_record(alloc, nodes, &key, &record.body)?;
             count = count.saturating_add(1);
         }
     }

@@ -1,53 +1,22 @@
-//! Puts 5,000 pairs into small trees, in rising, falling and mixed order, and takes them out again: with a node map in the
-//! header node, with one that goes on, and where only nodes of its last part are free. The tree and its pairs are checked
-//! after each of the first 500, and then after every hundredth.
-//!
-//! `time FILE` prints how long an insertion into the catalog tree takes that this file is.
-#![tactic(auto)]
+//! 5,000 pairs are put into small trees, in rising, falling and mixed order, and taken out again: with a node map in the header node,
+//! with one that goes on, and where only nodes of its last part are free. The tree and its pairs are checked after each of the
+//! first 500, and then after every hundredth.
 
-mod files;
-mod growth;
-mod runs;
-mod sample;
-mod times;
-
+use crate::catalogs::{header_of, table};
 use crate::files::{put_files, take_files};
 use crate::growth::Order;
 use crate::runs::{grow, put_all, shrink};
 use crate::sample::Sample;
-use crate::times::print_insertions;
-use anyhow::{Result, bail, ensure};
-use hfs_btree::{Header, read_header};
-use hfs_btree_checks::check_tree;
+use anyhow::{Result, ensure};
+use hfs_btree::Header;
 use hfs_fields::{CatKey, ExtKey};
 use hfs_node_tables::NodeTable;
 use std::alloc::Global;
+use std::fs;
 use std::rt::Clock;
-use std::{env, fs};
-
-fn main(rt: HostRuntime) -> Result<()> {
-    let mut words = env::args(&rt)?;
-    let _program = words.next();
-    let Some(first) = words.next() else {
-        return print_all(&rt);
-    };
-    let Some(file) = words.next() else {
-        bail!("the words are: [time FILE]");
-    };
-    match first.as_str() {
-        "time" => print_times(&rt, file.as_str()),
-        _ => bail!("the words are: [time FILE]"),
-    }
-}
-
-/// Prints how long an insertion into the tree of a file takes.
-fn print_times(rt: &HostRuntime, file: &str) -> Result<()> {
-    let bytes = fs::read(rt, file)?;
-    print_insertions(rt, &bytes)
-}
 
 /// Puts pairs into each tree, and prints what became of it.
-fn print_all(rt: &HostRuntime) -> Result<()> {
+pub fn print_insertions(rt: &HostRuntime) -> Result<()> {
     print_grown::<ExtKey>(rt, "extents.bin", 2000)?;
     print_grown::<CatKey>(rt, "catalog.bin", 6000)?;
     print_grown::<CatKey>(rt, "third-map-node.bin", 13904)?;
@@ -66,36 +35,27 @@ fn padded(alloc: Global, file: &[u8], count: usize) -> Result<Vec<u8>> {
 }
 
 /// The nodes of a file, and behind them blank ones up to this count.
-fn table(alloc: Global, file: &[u8], count: usize) -> Result<NodeTable> {
+fn padded_table(alloc: Global, file: &[u8], count: usize) -> Result<NodeTable> {
     let bytes = padded(alloc, file, count)?;
-    match NodeTable::of(alloc, &bytes)? {
-        Some(nodes) => Ok(nodes),
-        None => bail!("the file is too long"),
-    }
-}
-
-/// The header record of a tree that is checked first.
-fn header_of<K: Sample>(rt: &impl AllocGlobal, nodes: &NodeTable) -> Result<Header> {
-    check_tree::<K, NodeTable>(rt.alloc(), nodes, nodes.size())?;
-    Ok(read_header(nodes))
+    table(alloc, &bytes)
 }
 
 /// An error where a tree has others than so many pairs, or fewer than so many levels.
 fn ensure_full<K: Sample>(
-    rt: &impl AllocGlobal,
+    alloc: Global,
     nodes: &NodeTable,
     records: u32,
     depth: u16,
 ) -> Result<()> {
-    let full = header_of::<K>(rt, nodes)?;
+    let full = header_of::<K>(alloc, nodes)?;
     ensure!(full.depth >= depth, "too few levels");
     ensure!(full.records == records, "another count of pairs");
     Ok(())
 }
 
 /// An error where a tree has another number of levels or of free nodes than before.
-fn ensure_back<K: Sample>(rt: &impl AllocGlobal, nodes: &NodeTable, before: &Header) -> Result<()> {
-    let after = header_of::<K>(rt, nodes)?;
+fn ensure_back<K: Sample>(alloc: Global, nodes: &NodeTable, before: &Header) -> Result<()> {
+    let after = header_of::<K>(alloc, nodes)?;
     ensure!(after.depth == before.depth, "another depth");
     ensure!(
         after.free_nodes == before.free_nodes,
@@ -123,7 +83,7 @@ fn put_and_take<K: Sample>(
 ) -> Result<()> {
     let mut there = vec![in rt.alloc(); false; 5000]?;
     grow::<K>(rt, nodes, &mut there, order)?;
-    ensure_full::<K>(rt, nodes, 5001, 3)?;
+    ensure_full::<K>(rt.alloc(), nodes, 5001, 3)?;
     shrink::<K>(rt.alloc(), nodes, &mut there, Order::Mixed)
 }
 
@@ -134,10 +94,10 @@ fn run<K: Sample>(
     count: usize,
     order: Order,
 ) -> Result<()> {
-    let mut nodes = table(rt.alloc(), file, count)?;
-    let before = header_of::<K>(rt, &nodes)?;
+    let mut nodes = padded_table(rt.alloc(), file, count)?;
+    let before = header_of::<K>(rt.alloc(), &nodes)?;
     put_and_take::<K>(rt, &mut nodes, order)?;
-    ensure_back::<K>(rt, &nodes, &before)
+    ensure_back::<K>(rt.alloc(), &nodes, &before)
 }
 
 /// 300 files come to the tree, and leave it from the least name upwards or from the greatest downwards. Afterwards as many levels and
@@ -149,15 +109,15 @@ fn run_files(
     upwards: bool,
 ) -> Result<()> {
     put_files(rt, nodes)?;
-    ensure_full::<CatKey>(rt, nodes, 301, 0)?;
+    ensure_full::<CatKey>(rt.alloc(), nodes, 301, 0)?;
     take_files(rt.alloc(), nodes, upwards)?;
-    ensure_back::<CatKey>(rt, nodes, before)
+    ensure_back::<CatKey>(rt.alloc(), nodes, before)
 }
 
 /// 300 files come to the tree, and leave it from the least name upwards; and once more, and from the greatest downwards.
 fn run_both_ways(rt: &(impl AllocGlobal + Clock), file: &[u8]) -> Result<()> {
-    let mut nodes = table(rt.alloc(), file, 1000)?;
-    let before = header_of::<CatKey>(rt, &nodes)?;
+    let mut nodes = padded_table(rt.alloc(), file, 1000)?;
+    let before = header_of::<CatKey>(rt.alloc(), &nodes)?;
     run_files(rt, &mut nodes, &before, true)?;
     run_files(rt, &mut nodes, &before, false)
 }
@@ -178,9 +138,9 @@ fn header_behind(
     there: &mut Vec<bool>,
     numbers: &[u32],
 ) -> Result<Header> {
-    let mut nodes = table(rt.alloc(), file, count)?;
+    let mut nodes = padded_table(rt.alloc(), file, count)?;
     put_all::<ExtKey>(rt, &mut nodes, there, numbers)?;
-    header_of::<ExtKey>(rt, &nodes)
+    header_of::<ExtKey>(rt.alloc(), &nodes)
 }
 
 /// The pairs of the tree whose leaf is full: those with the even numbers up to 40.

@@ -1,27 +1,13 @@
-//! Takes all records out of the catalog trees of three volumes that other programs made: from the first on, from the last on,
-//! from the middle outwards, and in an order by chance. After each the tree is checked, and its index keys are exact where they
-//! were at first; at the end its file has as many free nodes as an empty one.
-//!
-//! `time FILE` prints how long a removal from the catalog tree takes that this file is.
-#![tactic(auto)]
+//! All records are taken out of the catalog trees of three volumes: from the first on, from the last on, from the middle outwards,
+//! and in an order by chance. After each the tree is checked, and its index keys are exact where they were at first; at the end
+//! its file has as many free nodes as an empty one.
 
-mod records;
-mod times;
-
-use crate::records::{free_after, keys, take};
-use crate::times::print_removals;
+use crate::catalogs::{NAMES, Record, header_of, records, table, take_record};
 use anyhow::{Result, bail, ensure};
 use hfs_fields::CatKey;
 use hfs_node_tables::{NodeTable, is_exact};
 use std::alloc::Global;
-use std::{env, fs};
-
-/// The files of catalog trees.
-const NAMES: [&str; 3] = [
-    "hfsutils-800k-catalog.bin",
-    "hfsutils-1440k-names-catalog.bin",
-    "genisoimage-locked-catalog.bin",
-];
+use std::fs;
 
 /// An order in which records are taken out.
 #[derive(Clone, Copy)]
@@ -50,29 +36,8 @@ impl Order {
     }
 }
 
-fn main(rt: HostRuntime) -> Result<()> {
-    let mut words = env::args(&rt)?;
-    let _program = words.next();
-    let Some(first) = words.next() else {
-        return print_emptied(&rt);
-    };
-    let Some(file) = words.next() else {
-        bail!("the words are: [time FILE]");
-    };
-    match first.as_str() {
-        "time" => print_times(&rt, file.as_str()),
-        _ => bail!("the words are: [time FILE]"),
-    }
-}
-
-/// Prints how long a removal from the tree of a file takes.
-fn print_times(rt: &HostRuntime, file: &str) -> Result<()> {
-    let bytes = fs::read(rt, file)?;
-    print_removals(rt, &bytes)
-}
-
 /// Takes all records out of each tree in each order, and prints how many there were.
-fn print_emptied(rt: &HostRuntime) -> Result<()> {
+pub fn print_removals(rt: &HostRuntime) -> Result<()> {
     for name in NAMES {
         print_orders(rt, name)?;
     }
@@ -118,15 +83,15 @@ fn print_tree(rt: &impl Print, name: &str, tree: &EmptyTree) -> Result<()> {
 fn take_at(
     alloc: Global,
     nodes: &mut NodeTable,
-    list: &mut Vec<CatKey>,
+    list: &mut Vec<Record>,
     place: usize,
     exact: bool,
 ) -> Result<()> {
     if place >= list.len() {
         bail!("no such record");
     }
-    let key = list.remove(place);
-    take(alloc, nodes, &key)?;
+    let record = list.remove(place);
+    take_record(alloc, nodes, &record.key)?;
     ensure!(
         !exact || is_exact::<CatKey>(nodes),
         "an index key is not its child's"
@@ -136,30 +101,22 @@ fn take_at(
 
 /// Takes all records out, and answers how many there were. An error where a tree that was exact is no more.
 fn take_all(alloc: Global, nodes: &mut NodeTable, order: Order, exact: bool) -> Result<usize> {
-    let mut list = keys(alloc, nodes)?;
-    let records = list.len();
+    let mut list = records(alloc, nodes)?;
+    let count = list.len();
     let mut order = order;
-    for _ in 0..records {
+    for _ in 0..count {
         let (place, next) = order.next(list.len());
         order = next;
         take_at(alloc, nodes, &mut list, place, exact)?;
     }
-    Ok(records)
+    Ok(count)
 }
 
 /// An error where a tree has a record.
 fn ensure_empty(alloc: Global, nodes: &NodeTable) -> Result<()> {
-    let left = keys(alloc, nodes)?.len();
+    let left = records(alloc, nodes)?.len();
     ensure!(left == 0, "a record is left");
     Ok(())
-}
-
-/// The nodes of a file.
-fn table(alloc: Global, file: &[u8]) -> Result<NodeTable> {
-    match NodeTable::of(alloc, file)? {
-        Some(nodes) => Ok(nodes),
-        None => bail!("the file is too long"),
-    }
 }
 
 /// Takes all records out of a file's tree. An error where a tree that was exact is no more.
@@ -168,7 +125,7 @@ fn emptied(alloc: Global, file: &[u8], order: Order) -> Result<EmptyTree> {
     let exact = is_exact::<CatKey>(&nodes);
     let records = take_all(alloc, &mut nodes, order, exact)?;
     ensure_empty(alloc, &nodes)?;
-    let free = free_after(alloc, &nodes)?;
+    let free = header_of::<CatKey>(alloc, &nodes)?.free_nodes;
     Ok(EmptyTree {
         records,
         exact,

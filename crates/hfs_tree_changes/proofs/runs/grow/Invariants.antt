@@ -1,5 +1,5 @@
 use Rattle.hfs_btree.specs.Sound.{IsSound}
-use Rattle.hfs_insertions.proofs.runs.shrink.Given as goal
+use Rattle.hfs_tree_changes.proofs.runs.grow.Given as goal
 
 abbrev pub invariant-loop : goal.invariant-loop
 invariant-loop g l = record {
