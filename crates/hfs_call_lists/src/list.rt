@@ -144,13 +144,11 @@ impl Lists {
         Ok(())
     }
 
-    /// Forgets the list before.
-    fn begin(&mut self) -> Result<()> {
-        self.finish()?;
+    /// Forgets the list before, and counts this one.
+    fn forget(&mut self) {
         self.count = self.count.wrapping_add(1);
         self.now = 0;
         self.trio = None;
-        Ok(())
     }
 
     fn set_now(&mut self, text: &[u8]) -> Result<()> {
@@ -160,7 +158,13 @@ impl Lists {
 
     /// Begins a list with its volume.
     fn set_volume(&mut self, text: &[u8]) -> Result<()> {
-        self.begin()?;
+        self.finish()?;
+        self.forget();
+        self.set_stage(text)
+    }
+
+    /// Takes a volume as the one on which calls will be made.
+    fn set_stage(&mut self, text: &[u8]) -> Result<()> {
         let stage = Stage::of(self.alloc, text)?;
         self.want(&stage.image)?;
         self.stage = Some(stage);
@@ -223,10 +227,14 @@ impl Lists {
 
     /// The text of the answer to a call.
     fn answer_to(&mut self, text: &[u8]) -> Result<String> {
-        let (alloc, now) = (self.alloc, self.now);
+        let call = call_of(self.alloc, text, self.now)?;
+        self.make(&call)
+    }
+
+    /// Makes a call on the volumes. The text of the answer.
+    fn make(&mut self, call: &Call) -> Result<String> {
         let trio = self.trio()?;
-        let call = call_of(alloc, text, now)?;
-        trio.make(&call)
+        trio.make(call)
     }
 
     /// Makes a call.
