@@ -3,7 +3,8 @@ use crate::devices::FailingWriter;
 use hfs_commands::{Fault, check_text, list_text, write_fork};
 use hfs_fixtures::{FixtureFault, SmallVolume, lay, small_image};
 use hfs_model::Fork;
-use hfs_volume::{Volume, mount};
+use hfs_volume::Volume;
+use hfs_volume_fixtures::small_volume;
 use std::alloc::{AllocError, Global};
 use std::io::Write;
 use std::test::Fail;
@@ -70,15 +71,6 @@ fn blocks_that_nobody_owns_are_told(rt: HostRuntime) -> Result<(), Fail> {
     Ok(())
 }
 
-/// A small volume, mounted.
-fn mounted(alloc: Global, volume: SmallVolume) -> Result<Volume, Fail> {
-    let image = small_image(alloc, volume)?;
-    match mount(alloc, image) {
-        Ok(volume) => Ok(volume),
-        Err(_refused) => Err(Fail::new("a small volume was refused")),
-    }
-}
-
 /// Whether the list of a folder has this exit status and these lines.
 fn is_listed(
     alloc: Global,
@@ -93,7 +85,7 @@ fn is_listed(
 
 #[test]
 fn folders_are_listed(rt: HostRuntime) -> Result<(), Fail> {
-    let volume = mounted(rt.alloc(), SmallVolume::New)?;
+    let volume = small_volume(rt.alloc(), SmallVolume::New)?;
     assert!(rt; is_listed(rt.alloc(), &volume, 2, 0, "")?);
     assert!(rt; is_listed(rt.alloc(), &volume, 99, 3, "code -120\n")?);
     Ok(())
@@ -101,7 +93,7 @@ fn folders_are_listed(rt: HostRuntime) -> Result<(), Fail> {
 
 #[test]
 fn files_are_listed(rt: HostRuntime) -> Result<(), Fail> {
-    let volume = mounted(rt.alloc(), SmallVolume::OneFile)?;
+    let volume = small_volume(rt.alloc(), SmallVolume::OneFile)?;
     assert!(rt; is_listed(rt.alloc(), &volume, 2, 0, "f\t16\t2000\t0\tf\n")?);
     Ok(())
 }
@@ -147,7 +139,7 @@ fn is_not_written(alloc: Global, volume: &Volume, dir: u32, name: &[u8], code: i
 
 #[test]
 fn forks_are_written(rt: HostRuntime) -> Result<(), Fail> {
-    let volume = mounted(rt.alloc(), SmallVolume::OneFile)?;
+    let volume = small_volume(rt.alloc(), SmallVolume::OneFile)?;
     assert!(rt; is_written(rt.alloc(), &volume));
     for (dir, name, code) in [
         (2u32, &b"f"[..], 0i16),
@@ -169,7 +161,7 @@ fn taken(alloc: Global, volume: &Volume, left: usize) -> Result<i16, Fault<'stat
 
 #[test]
 fn failed_writes_of_forks_are_told(rt: HostRuntime) -> Result<(), Fail> {
-    let volume = mounted(rt.alloc(), SmallVolume::OneFile)?;
+    let volume = small_volume(rt.alloc(), SmallVolume::OneFile)?;
     for left in [0usize, 1, 1999] {
         let ended = taken(rt.alloc(), &volume, left);
         assert!(rt; matches!(ended, Err(Fault::OutputFailed)), "after {left}");
