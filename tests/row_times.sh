@@ -8,8 +8,8 @@ set -euo pipefail
 cd "$(dirname "$0")/.."
 folder=$(mktemp -d)
 trap 'rm -rf "$folder"' EXIT
-rows=$PWD/crates/hfs_row_times/out/hfs_row_times
-[ -x "$rows" ] || (cd crates/hfs_row_times && rt run > /dev/null)
+times=$PWD/crates/hfs_volume_times/out/hfs_volume_times
+[ -x "$times" ] || (cd crates/hfs_volume_times && rt run > /dev/null)
 
 if [ $# -gt 0 ]; then
     cc -O2 -I"$1" tests/libhfs_times.c "$1/libhfs.a" -o "$folder/libhfs_times"
@@ -21,4 +21,4 @@ else
     echo 'libhfs is not measured: its folder is not given'
     python3 tests/slow_volumes.py plain 60000 30 "$folder/many.img"
 fi
-"$rows" "$folder/many.img"
+"$times" rows "$folder/many.img"

@@ -1,34 +1,30 @@
-//! Small new volumes, and scripts that are run on them.
+//! Scripts that are run on small new volumes.
+use hfs_fixtures::new_image;
 use hfs_runs::{Ran, ScriptFault, run_script};
-use hfs_volume::{FormatPlan, format};
 use std::alloc::Global;
 use std::sync::Wait;
 use std::test::Fail;
 use std::thread::Threads;
 
-/// The image of a new volume `D` of 64 blocks, with so many nodes of the catalog.
-pub fn image(alloc: Global, catalog_nodes: u32) -> Result<Vec<u8>, Fail> {
-    let plan = FormatPlan {
-        name: Vec::from_slice(alloc, b"D")?,
-        blocks: 64,
-        extents_nodes: 2,
-        catalog_nodes,
-        now: 0,
-    };
-    match format(alloc, plan) {
-        Ok(image) => Ok(image),
-        Err(_fault) => Err(Fail::from("not formatted")),
-    }
+/// A run of a script on an image at this moment, or its fault.
+fn run<R: Threads + Wait + Sync>(
+    rt: &R,
+    alloc: Global,
+    image: Vec<u8>,
+    script: &[u8],
+    now: u32,
+) -> Result<Ran, ScriptFault> {
+    run_script(rt, alloc, image, script, now)
 }
 
-/// A run of a script at the moment 100.
+/// A run of a script at the moment 100, on a new volume with so many nodes of the catalog.
 pub fn ran<R: Threads + Wait + Sync>(
     rt: &R,
     alloc: Global,
     catalog_nodes: u32,
     script: &[u8],
 ) -> Result<Ran, Fail> {
-    match run_script(rt, alloc, image(alloc, catalog_nodes)?, script, 100) {
+    match run(rt, alloc, new_image(alloc, catalog_nodes)?, script, 100) {
         Ok(ran) => Ok(ran),
         Err(_fault) => Err(Fail::from("not run")),
     }
@@ -53,7 +49,7 @@ pub fn fault<R: Threads + Wait + Sync>(
     image: Vec<u8>,
     script: &[u8],
 ) -> Option<ScriptFault> {
-    match run_script(rt, alloc, image, script, 0) {
+    match run(rt, alloc, image, script, 0) {
         Ok(_ran) => None,
         Err(fault) => Some(fault),
     }

@@ -2,10 +2,10 @@
 ghost use Rattle.std.specs.Prelude.{◌≡◌, All, IfSome};
 ghost use Rattle.std.specs.Thread.{IsSync};
 
-use crate::sharing::{begun, create, last, list_of, new_volume, only, tells};
+use crate::sharing::{begun, create, last, list_of, new_volume, only, run, tells};
 use crate::waiting::waits_for;
 use hfs_model::{Bytes, Call, Reply, Value};
-use hfs_shared::{Done, Gate, Parts, Pass, Session, Shared, Told, Viewer, run_workers};
+use hfs_shared::{Done, Gate, Parts, Pass, Session, Shared, Told, Viewer};
 use std::alloc::{AllocError, Global};
 use std::marker::Brand;
 use std::sync::Wait;
@@ -127,22 +127,6 @@ fn jobs_of(alloc: Global, mut passes: Vec<Pass>) -> Result<Vec<(Pass, Vec<Call>)
     push_job(alloc, &mut jobs, passes.pop(), Call::List { dir: 2 })?;
     push_job(alloc, &mut jobs, passes.pop(), create(alloc, b"a")?)?;
     Ok(jobs)
-}
-
-/// What is done of the jobs.
-fn run<K: Session + Send + Sync, R: Threads + Wait + Sync, G: Gate + Sync>(
-    shared: &Shared<K>,
-    rt: &R,
-    alloc: Global,
-    gate: &G,
-    jobs: Vec<(Pass, Vec<Call>)>,
-) -> Option<Vec<Done>>
-    ensures { IfSome result (λ v. All (λ d. All (λ r. r.1.book ≡ K.book) d.replies.items) v.items) }
-{
-    match run_workers(shared, rt, alloc, gate, jobs) {
-        Ok(dones) => Some(dones),
-        Err(_fault) => None,
-    }
 }
 
 /// The answers to the last worker.

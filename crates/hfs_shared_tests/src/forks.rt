@@ -1,15 +1,16 @@
 //! A fork as a viewer reads it: of the file `f` with 2,000 bytes, byte `k` of which is `k` mod 251.
-use crate::sharing::{begun, mounted};
-use hfs_fixtures::{SmallVolume, small_image};
+use crate::sharing::begun;
+use hfs_fixtures::SmallVolume;
 use hfs_model::{Bytes, Fork, Reply, Value};
 use hfs_shared::Viewer;
+use hfs_volume_fixtures::small_volume;
 use std::alloc::Global;
 use std::sync::Wait;
 use std::test::Fail;
 
 /// A viewer of the volume with that file.
 fn viewer_of_one_file(rt: &impl Wait, alloc: Global) -> Result<Viewer, Fail> {
-    let volume = mounted(alloc, small_image(alloc, SmallVolume::OneFile)?)?;
+    let volume = small_volume(alloc, SmallVolume::OneFile)?;
     let (_parts, _passes, mut viewers) = begun(rt, alloc, volume, 1, 1)?;
     Ok(viewers.pop().ok_or("a viewer")?)
 }

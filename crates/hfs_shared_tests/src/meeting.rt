@@ -1,10 +1,10 @@
 //! Workers that run side by side.
 ghost use Rattle.std.specs.Prelude.{◌≡◌, ◌<◌, ◌≤◌};
 
-use crate::sharing::{begun, create, new_volume};
+use crate::sharing::{begun, create, new_volume, run};
 use crate::waiting::waits_for;
 use hfs_model::Call;
-use hfs_shared::{Done, Gate, Parts, Pass, Session, run_workers};
+use hfs_shared::{Done, Gate, Parts, Pass, Session};
 use std::alloc::{AllocError, Global};
 use std::marker::Brand;
 use std::sync::Wait;
@@ -126,9 +126,9 @@ fn run_twos<K: Session + Send + Sync, R: Threads + Wait + Sync, G: Gate + Sync>(
 {
     let shared = parts.share::<K>();
     let jobs = jobs_of(alloc, passes)?;
-    match run_workers(&shared, rt, alloc, gate, jobs) {
-        Ok(dones) => Ok(counted(&dones)),
-        Err(_fault) => Err(Fail::from("not run")),
+    match run(&shared, rt, alloc, gate, jobs) {
+        Some(dones) => Ok(counted(&dones)),
+        None => Err(Fail::from("not run")),
     }
 }
 

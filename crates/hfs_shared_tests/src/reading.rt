@@ -1,13 +1,14 @@
 //! A viewer beside a volume on which the same changes are made: when it learned of a change, it answers as the volume does.
 ghost use Rattle.std.specs.Prelude.{◌≡◌, All, OnOk};
 
-use crate::sharing::{begun, last_pass, make, mounted, only};
+use crate::sharing::{begun, last_pass, make, only};
 use hfs_fixtures::{SmallVolume, new_image, small_image};
 use hfs_model::{Bytes, Call, Fork, Reply};
 use hfs_scripts::{Script, read_script};
 use hfs_shared::{Parts, Pass, Session, Shared, ViewFault, Viewer};
 use hfs_texts::reply_text;
 use hfs_volume::Volume;
+use hfs_volume_fixtures::{mounted, reply_to};
 use std::alloc::{AllocError, Global};
 use std::marker::Brand;
 use std::sync::Wait;
@@ -113,11 +114,6 @@ fn ask(alloc: Global, viewer: &mut Viewer, call: &Call) -> Result<Reply, ViewFau
     }
 }
 
-/// The volume's own reply.
-fn answer_of(alloc: Global, volume: &mut Volume, call: &Call) -> Result<Reply, AllocError> {
-    volume.call(alloc, call)
-}
-
 /// All that a reply tells.
 fn text_of(alloc: Global, reply: &Reply) -> Result<String, AllocError> {
     reply_text(alloc, "1", 1, reply)
@@ -142,7 +138,7 @@ fn compare_one(
 ) -> Result<(), Fail>
     ensures { OnOk result (viewer.new.book ≡ viewer.old.book) }
 {
-    let wanted = answer_of(alloc, volume, call)?;
+    let wanted = reply_to(volume, alloc, call)?;
     match ask(alloc, viewer, call) {
         Ok(found) => compare(alloc, &found, &wanted),
         Err(_fault) => Err(Fail::from("no reply")),
@@ -177,7 +173,7 @@ fn change<K: Session>(
     requires { viewer.old.book ≡ K.book }
     ensures { OnOk result (viewer.new.book ≡ K.book) }
 {
-    let wanted = answer_of(alloc, volume, &call)?;
+    let wanted = reply_to(volume, alloc, &call)?;
     let (found, told) = make(rt, alloc, shared, pass, call)?;
     compare(alloc, &found, &wanted)?;
     viewer.learn(&told);

@@ -1,24 +1,21 @@
 //! A small volume that is shared, the calls on it in short, and what viewers are asked.
-ghost use Rattle.std.specs.Prelude.{◌≡◌, ◌<◌, ◌≤◌, All, IfOk, OnOk};
+ghost use Rattle.std.specs.Prelude.{◌≡◌, ◌<◌, ◌≤◌, All, IfOk, IfSome, OnOk};
 
-use hfs_fixtures::new_image;
+use hfs_fixtures::{FixtureFault, new_image};
 use hfs_model::{Bytes, Call, Info, Reply, Value};
-use hfs_shared::{CallFault, Closed, Parts, Pass, Session, Shared, Told, ViewFault, Viewer};
-use hfs_volume::{Volume, mount};
+use hfs_shared::{
+    CallFault, Closed, Done, Gate, Parts, Pass, Session, Shared, Told, ViewFault, Viewer,
+    run_workers,
+};
+use hfs_volume::Volume;
+use hfs_volume_fixtures::mounted;
 use std::alloc::{AllocError, Global};
 use std::sync::Wait;
 use std::test::Fail;
-
-/// The volume of an image, which is sound.
-pub fn mounted(alloc: Global, image: Vec<u8>) -> Result<Volume, Fail> {
-    match mount(alloc, image) {
-        Ok(volume) => Ok(volume),
-        Err(refused) => Err(Fail::from(refused.fault)),
-    }
-}
+use std::thread::Threads;
 
 /// A new volume with 40 nodes of the catalog.
-pub fn new_volume(alloc: Global) -> Result<Volume, Fail> {
+pub fn new_volume(alloc: Global) -> Result<Volume, FixtureFault> {
     mounted(alloc, new_image(alloc, 40)?)
 }
 
@@ -108,6 +105,22 @@ pub fn stamp_of(fault: CallFault) -> Option<(u64, u64)> {
     match fault {
         CallFault::Stamp { wanted, given } => Some((wanted, given)),
         CallFault::Memory => None,
+    }
+}
+
+/// What is done of the jobs of workers that run side by side.
+pub fn run<K: Session + Send + Sync, R: Threads + Wait + Sync, G: Gate + Sync>(
+    shared: &Shared<K>,
+    rt: &R,
+    alloc: Global,
+    gate: &G,
+    jobs: Vec<(Pass, Vec<Call>)>,
+) -> Option<Vec<Done>>
+    ensures { IfSome result (λ v. All (λ d. All (λ r. r.1.book ≡ K.book) d.replies.items) v.items) }
+{
+    match run_workers(shared, rt, alloc, gate, jobs) {
+        Ok(dones) => Some(dones),
+        Err(_fault) => None,
     }
 }
 

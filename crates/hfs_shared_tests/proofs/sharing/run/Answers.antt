@@ -1,7 +1,7 @@
 use Rattle.std.proofs.Common.{Vec, Global}
 use Rattle.hfs_model.specs.declared.call.Call.{Call}
 use Rattle.hfs_shared_tests.proofs.Answered.{told_of}
-use Rattle.hfs_shared_tests.proofs.beside.run.Goals as goal
+use Rattle.hfs_shared_tests.proofs.sharing.run.Goals as goal
 
 pub returns-in-Ok : goal.returns-in-Ok
 returns-in-Ok g c =

@@ -1,10 +1,10 @@
 //! What a publish costs beside the call itself.
 ghost use Rattle.std.specs.Prelude.{◌≡◌};
 
-use crate::asking::calls;
 use crate::filling::Size;
 use crate::printing::{Printed, print_spent};
 use crate::sessions::begun;
+use crate::worker_calls::calls;
 use anyhow::{Result, bail};
 use hfs_model::Call;
 use hfs_shared::{Parts, Pass, Session, Shared};

@@ -1,10 +1,10 @@
 //! A copy of the volume that is shared.
 ghost use Rattle.std.specs.Prelude.{◌≡◌, ◌<◌, ◌≤◌};
 
-use crate::filling::copy_of;
 use anyhow::{Result, bail};
 use hfs_shared::{Gate, Parts, Pass, Viewer};
 use hfs_volume::Volume;
+use hfs_volume_fixtures::mounted_again;
 use std::alloc::Global;
 use std::sync::Wait;
 
@@ -30,7 +30,7 @@ pub fn begun(
 ) -> Result<(Parts, Vec<Pass>, Vec<Viewer>)>
     requires { (0 < workers) × (workers ≤ 8) × (0 < viewers) × (viewers ≤ 8) }
 {
-    match Parts::start(rt, alloc, copy_of(alloc, volume)?, workers, viewers) {
+    match Parts::start(rt, alloc, mounted_again(alloc, volume)?, workers, viewers) {
         Ok(parts) => Ok(parts),
         Err(_fault) => bail!("the volume isn't shared"),
     }

@@ -1,10 +1,10 @@
 //! Calls through the lock.
 ghost use Rattle.std.specs.Prelude.{◌≡◌, ◌<◌, ◌≤◌};
 
-use crate::asking::{Job, jobs};
 use crate::filling::Size;
 use crate::printing::{Printed, print_spent};
 use crate::sessions::{NoGate, begun};
+use crate::worker_calls::{Job, jobs};
 use anyhow::{Result, bail};
 use hfs_shared::{Done, Parts, Session, run_workers};
 use hfs_volume::Volume;

@@ -1,37 +1,14 @@
 //! How long rows take to be made, to answer and to take in changes, and how long the volume's calls take.
 
 use crate::answering::Answers;
-use crate::asked::{all_items, changes, indexes, lists, look_ups};
+use crate::printing::{Printed, print_spent};
+use crate::row_calls::{all_items, changes, indexes, lists, look_ups};
 use anyhow::Result;
 use hfs_model::{Call, Info};
 use hfs_view::Rows;
 use hfs_volume::Volume;
 use std::rt::Clock;
-use std::time::{Duration, Instant};
-
-/// What is printed of what was measured.
-#[derive(Clone, Copy, PartialEq, Eq)]
-pub enum Printed {
-    Counts,
-    Times,
-}
-
-fn print_spent(
-    rt: &impl Print,
-    printed: Printed,
-    what: &str,
-    spent: Duration,
-    count: usize,
-) -> Result<()> {
-    match printed {
-        Printed::Counts => println!(rt; "{what}: {count}")?,
-        Printed::Times => {
-            let each = spent.as_nanos() / (count as u128).max(1);
-            println!(rt; "{what}: {each} ns each ({count})")?;
-        }
-    }
-    Ok(())
-}
+use std::time::Instant;
 
 /// Makes the calls, and prints how many items were told of or changed.
 fn measure<A: Answers>(
@@ -81,7 +58,7 @@ fn measure_calls<A: Answers>(
 }
 
 /// Measures the rows of a volume, and the volume itself.
-pub fn measure_volume(
+pub fn measure_rows(
     rt: &(impl Print + AllocGlobal + Clock),
     printed: Printed,
     volume: &mut Volume,

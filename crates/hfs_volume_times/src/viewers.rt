@@ -1,10 +1,10 @@
 //! Lists of viewers, alone and beside a worker that writes.
 ghost use Rattle.std.specs.Prelude.{◌≡◌};
 
-use crate::asking::calls;
 use crate::filling::{FIRST_FOLDER, Size};
 use crate::printing::{Printed, print_spent};
 use crate::sessions::begun;
+use crate::worker_calls::calls;
 use anyhow::{Result, bail};
 use hfs_model::{Call, Value};
 use hfs_shared::{Parts, Pass, Session, Shared, Viewer};

@@ -1,4 +1,4 @@
-//! The calls that are made.
+//! The calls that are made of rows, and of their volume.
 
 use hfs_model::{Bytes, Call, Info, ItemKind, Value};
 use hfs_view::Rows;

@@ -3,6 +3,7 @@
 use hfs_model::{Call, Reply, Value};
 use hfs_view::Rows;
 use hfs_volume::Volume;
+use hfs_volume_fixtures::reply_to;
 use std::alloc::{AllocError, Global};
 
 /// What answers calls, and makes changes.
@@ -12,7 +13,7 @@ pub trait Answers {
 }
 
 /// How many items a reply tells of.
-pub fn told(reply: &Reply) -> usize {
+fn told(reply: &Reply) -> usize {
     match &reply.value {
         Value::Many(infos) => infos.as_slice().len(),
         Value::Nothing
@@ -26,7 +27,7 @@ pub fn told(reply: &Reply) -> usize {
 
 impl Answers for Volume {
     fn answer(&mut self, alloc: Global, call: &Call) -> Result<usize, AllocError> {
-        Ok(told(&self.call(alloc, call)?))
+        Ok(told(&reply_to(self, alloc, call)?))
     }
 }
 

@@ -1,4 +1,4 @@
-use Rattle.hfs_shared_times.proofs.viewers.measure_beside.Given as goal
+use Rattle.hfs_volume_times.proofs.viewers.measure_beside.Given as goal
 
 -- the parts that were just made
 abbrev pub ghosts-run_in : goal.ghosts-run_in

@@ -1,12 +1,17 @@
-//! The volume that is measured: folders of files.
+//! The volume that is shared: folders of files.
 
-use anyhow::{Result, bail, ensure};
+use anyhow::{Result, ensure};
+use hfs_fixtures::planned;
 use hfs_model::{Bytes, Call};
-use hfs_volume::{FormatPlan, Volume, format, mount};
+use hfs_volume::Volume;
+use hfs_volume_fixtures::{mounted, reply_to};
 use std::alloc::{AllocError, Global};
 
 /// The ID of the first folder that is made; the others have those behind it.
 pub const FIRST_FOLDER: u32 = 16;
+
+/// As many catalog nodes as there may be.
+const CATALOG_NODES: u32 = 2_048;
 
 /// How many items the volume has, and how much is asked of it.
 #[derive(Clone, Copy)]
@@ -27,27 +32,9 @@ pub fn name(alloc: Global, number: u32) -> Result<Bytes, AllocError> {
     Bytes::from_slice(alloc, text.as_bytes())
 }
 
-/// A new volume `D` with as many catalog nodes as there may be.
-fn new_volume(alloc: Global) -> Result<Volume> {
-    let plan = FormatPlan {
-        name: Vec::from_slice(alloc, b"D")?,
-        blocks: 4096,
-        extents_nodes: 2,
-        catalog_nodes: 2048,
-        now: 0,
-    };
-    let Ok(image) = format(alloc, plan) else {
-        bail!("no new volume");
-    };
-    match mount(alloc, image) {
-        Ok(volume) => Ok(volume),
-        Err(_refused) => bail!("the new volume isn't sound"),
-    }
-}
-
 /// Makes a call that is to be done. An error where it is refused.
 fn make(alloc: Global, volume: &mut Volume, call: &Call) -> Result<()> {
-    let reply = volume.call(alloc, call)?;
+    let reply = reply_to(volume, alloc, call)?;
     ensure!(reply.code == 0, "an item isn't made: {}", reply.code);
     Ok(())
 }
@@ -62,7 +49,7 @@ fn fill(alloc: Global, volume: &mut Volume, dir: u32, files: u32) -> Result<()> 
 
 /// A volume with so many folders, each with so many files.
 pub fn filled(alloc: Global, size: Size) -> Result<Volume> {
-    let mut volume = new_volume(alloc)?;
+    let mut volume = mounted(alloc, planned(alloc, 4_096, 2, CATALOG_NODES)?)?;
     for folder in 0..size.folders {
         let name = name(alloc, folder)?;
         let call = Call::DirCreate {
@@ -77,16 +64,4 @@ pub fn filled(alloc: Global, size: Size) -> Result<Volume> {
         fill(alloc, &mut volume, dir, size.files)?;
     }
     Ok(volume)
-}
-
-/// The volume, saved and mounted anew.
-pub fn copy_of(alloc: Global, volume: &Volume) -> Result<Volume> {
-    let mut image = Vec::new(alloc);
-    if volume.save(&mut image).is_err() {
-        bail!("the image isn't saved");
-    }
-    match mount(alloc, image) {
-        Ok(volume) => Ok(volume),
-        Err(_refused) => bail!("the image isn't sound"),
-    }
 }

@@ -1,4 +1,4 @@
-use Rattle.hfs_shared_times.proofs.publishing.measure.Given as goal
+use Rattle.hfs_volume_times.proofs.publishing.measure.Given as goal
 
 -- the parts that were just made
 abbrev pub ghosts-make_in : goal.ghosts-make_in
