@@ -1,26 +1,20 @@
 //! The rows of a volume for viewers, beside the calls of the volume itself.
 
-use crate::infos::is_same;
+use crate::asking::reading;
 use crate::items::with_case_swapped;
+use crate::sums::PIECE;
 use anyhow::{Result, bail, ensure};
 use hfs_model::{Bytes, Call, Fork, Info, ItemKind, Reply, Value};
+use hfs_real_changes::{are_same, is_same};
 use hfs_view::Rows;
 use hfs_volume::Volume;
 use std::alloc::Global;
-
-/// The most bytes that one call reads.
-const PIECE: u32 = 65_536;
-
-/// Whether two lists tell the same of the same items.
-fn are_same(a: &[Info], b: &[Info]) -> bool {
-    a.len() == b.len() && a.iter().zip(b).all(|(x, y)| is_same(Some(*x), y))
-}
 
 /// Whether two replies have the same code and tell the same.
 fn is_same_reply(a: &Reply, b: &Reply) -> bool {
     let is_value = match (&a.value, &b.value) {
         (Value::Nothing, Value::Nothing) => true,
-        (Value::One(x), Value::One(y)) => is_same(Some(*x), y),
+        (Value::One(x), Value::One(y)) => is_same(x, y),
         (Value::Many(x), Value::Many(y)) => are_same(x.as_slice(), y.as_slice()),
         (Value::Bytes(x), Value::Bytes(y)) => x.as_slice() == y.as_slice(),
         (Value::Place { dir, name }, Value::Place { dir: d, name: n }) => {
@@ -53,13 +47,7 @@ fn ensure_fork(
 ) -> Result<()> {
     let mut offset = 0u32;
     for _piece in 0..(length / PIECE).wrapping_add(1) {
-        let call = Call::ReadFork {
-            dir: file.parent,
-            name: Bytes::from_slice(alloc, file.name.bytes())?,
-            fork,
-            offset,
-            count: PIECE,
-        };
+        let call = reading(alloc, file, fork, offset, PIECE)?;
         ensure_call(alloc, volume, rows, &call)?;
         offset = offset.wrapping_add(PIECE);
     }
@@ -87,24 +75,25 @@ fn ensure_child(
     Ok(())
 }
 
-/// An error where rows tell something else of an ID, or of what it holds, than their volume.
-fn ensure_id(alloc: Global, volume: &Volume, rows: &Rows, id: u32) -> Result<()> {
-    for call in [
-        Call::GetDirInfo { dir: id },
-        Call::List { dir: id },
-        Call::ResolveFileId { id },
-        Call::GetIndexed { dir: id, index: 0 },
-    ] {
-        ensure_call(alloc, volume, rows, &call)?;
-    }
+/// How many children a folder has. An error where rows tell something else of one of them than their volume.
+fn ensure_children(alloc: Global, volume: &Volume, rows: &Rows, dir: u32) -> Result<u32> {
     let mut index = 0u32;
-    if let Value::Many(children) = volume.list(alloc, id)?.value {
+    if let Value::Many(children) = volume.list(alloc, dir)?.value {
         for child in children.as_slice() {
             index = index.wrapping_add(1);
             ensure_child(alloc, volume, rows, child, index)?;
         }
     }
-    let index = index.wrapping_add(1);
+    Ok(index)
+}
+
+/// An error where rows tell something else of an ID, or of what it holds, than their volume.
+fn ensure_id(alloc: Global, volume: &Volume, rows: &Rows, id: u32) -> Result<()> {
+    ensure_call(alloc, volume, rows, &Call::GetDirInfo { dir: id })?;
+    ensure_call(alloc, volume, rows, &Call::List { dir: id })?;
+    ensure_call(alloc, volume, rows, &Call::ResolveFileId { id })?;
+    ensure_call(alloc, volume, rows, &Call::GetIndexed { dir: id, index: 0 })?;
+    let index = ensure_children(alloc, volume, rows, id)?.wrapping_add(1);
     ensure_call(alloc, volume, rows, &Call::GetIndexed { dir: id, index })
 }
 
