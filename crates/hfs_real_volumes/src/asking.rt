@@ -1,5 +1,6 @@
 //! What a mounted volume answers.
 
+use crate::items::with_case_swapped;
 use anyhow::{Result, bail, ensure};
 use hfs_model::{Bytes, Call, Fork, Info, Reply, Value};
 use hfs_real_changes::is_same;
@@ -30,6 +31,15 @@ pub fn children(volume: &mut Volume, alloc: Global, dir: u32) -> Result<Vec<Info
         Value::Many(infos) => Ok(infos.into_vec()),
         _ => bail!("a list is none"),
     }
+}
+
+/// The call that tells of an item by its name, which is spelled in the other case.
+pub fn naming(alloc: Global, item: &Info) -> Result<Call, AllocError> {
+    let name = Bytes::from_slice(alloc, with_case_swapped(&item.name).bytes())?;
+    Ok(Call::GetCatInfo {
+        dir: item.parent,
+        name,
+    })
 }
 
 /// The call that reads a part of a file's fork.

@@ -1,15 +1,15 @@
 //! The folders of a volume from the root on, by the calls of the File Manager and by the catalog's tree.
 
-use crate::asking::{children, tells};
+use crate::asking::{children, naming, tells};
 use crate::catalog::Catalog;
 use crate::image::Image;
-use crate::items::{self, is_told, with_case_swapped};
+use crate::items::{self, is_told};
 use crate::lines::print_info;
 use crate::lookups::ensure_found;
 use crate::sums::{Sums, ensure_forks, told_sums};
 use anyhow::{Result, bail, ensure};
 use hfs_catalog::{CatalogItem, item_of};
-use hfs_model::{Bytes, Call, Info, ItemKind, Value};
+use hfs_model::{Call, Info, ItemKind, Value};
 use hfs_volume::Volume;
 use hfs_volume_fixtures::reply_to;
 use std::alloc::{AllocError, Global};
@@ -74,20 +74,35 @@ pub fn push_folders(items: &[Info], waiting: &mut Vec<u32>) -> Result<(), AllocE
     Ok(())
 }
 
-/// An error where a call tells something else of an item. Its name is spelled in the other case.
-fn ensure_calls(volume: &mut Volume, alloc: Global, item: &Info, index: u32) -> Result<()> {
+/// Whether an item is told by its place among the children of its folder.
+fn is_indexed(volume: &mut Volume, alloc: Global, item: &Info, index: u32) -> Result<bool> {
     let dir = item.parent;
-    let is_indexed = tells(volume, alloc, &Call::GetIndexed { dir, index }, Some(item))?;
-    ensure!(is_indexed, "GetIndexed tells something else");
-    let name = Bytes::from_slice(alloc, with_case_swapped(&item.name).bytes())?;
-    let is_named = tells(volume, alloc, &Call::GetCatInfo { dir, name }, Some(item))?;
-    ensure!(is_named, "GetCatInfo tells something else");
+    Ok(tells(volume, alloc, &Call::GetIndexed { dir, index }, Some(item))?)
+}
+
+/// Whether an item is told by its name, which is spelled in the other case.
+fn is_named(volume: &mut Volume, alloc: Global, item: &Info) -> Result<bool> {
+    let call = naming(alloc, item)?;
+    Ok(tells(volume, alloc, &call, Some(item))?)
+}
+
+/// Whether a folder is told by its ID, and a file is not.
+fn is_identified(volume: &mut Volume, alloc: Global, item: &Info) -> Result<bool> {
     let folder = match item.kind {
         ItemKind::Folder => Some(item),
         ItemKind::File => None,
     };
-    let is_folder = tells(volume, alloc, &Call::GetDirInfo { dir: item.id }, folder)?;
-    ensure!(is_folder, "GetDirInfo tells something else");
+    Ok(tells(volume, alloc, &Call::GetDirInfo { dir: item.id }, folder)?)
+}
+
+/// An error where a call tells something else of an item.
+fn ensure_calls(volume: &mut Volume, alloc: Global, item: &Info, index: u32) -> Result<()> {
+    let is_indexed = is_indexed(volume, alloc, item, index)?;
+    ensure!(is_indexed, "GetIndexed tells something else");
+    let is_named = is_named(volume, alloc, item)?;
+    ensure!(is_named, "GetCatInfo tells something else");
+    let is_identified = is_identified(volume, alloc, item)?;
+    ensure!(is_identified, "GetDirInfo tells something else");
     Ok(())
 }
 

@@ -5,7 +5,7 @@ use crate::image::Image;
 use anyhow::{Result, ensure};
 use hfs_catalog::{CatalogItem, ItemRecord};
 use hfs_fields::ForkRecord;
-use hfs_model::{END_OF_FILE, Fork, Info, ItemKind};
+use hfs_model::{Call, END_OF_FILE, Fork, Info, ItemKind};
 use hfs_volume::Volume;
 use std::alloc::Global;
 
@@ -31,6 +31,30 @@ fn fnv1a(sum: u64, bytes: &[u8]) -> u64 {
     hash
 }
 
+/// The code and the length of a piece of a file's fork, and the check sum from a sum on.
+fn piece_sum(
+    volume: &mut Volume,
+    alloc: Global,
+    call: &Call,
+    sum: u64,
+) -> Result<(i16, usize, u64)> {
+    let (code, bytes) = part(volume, alloc, call)?;
+    Ok((code, bytes.len(), fnv1a(sum, &bytes)))
+}
+
+/// The code and the length of the piece of a file's fork at an offset, and the check sum from a sum on.
+fn sum_at(
+    volume: &mut Volume,
+    alloc: Global,
+    file: &Info,
+    fork: Fork,
+    offset: u32,
+    sum: u64,
+) -> Result<(i16, usize, u64)> {
+    let call = reading(alloc, file, fork, offset, PIECE)?;
+    piece_sum(volume, alloc, &call, sum)
+}
+
 /// The check sum of a file's fork of that length, read piece by piece to its end, which only the last piece may meet.
 fn fork_sum(
     volume: &mut Volume,
@@ -43,12 +67,12 @@ fn fork_sum(
     let mut sum = BASIS;
     let mut read = 0usize;
     for piece in 0..pieces.wrapping_add(1) {
-        let call = reading(alloc, file, fork, piece.wrapping_mul(PIECE), PIECE)?;
-        let (code, bytes) = part(volume, alloc, &call)?;
+        let offset = piece.wrapping_mul(PIECE);
+        let (code, length, next) = sum_at(volume, alloc, file, fork, offset, sum)?;
         let wanted = if piece == pieces { END_OF_FILE } else { 0 };
         ensure!(code == wanted, "a fork ends elsewhere");
-        sum = fnv1a(sum, &bytes);
-        read = read.wrapping_add(bytes.len());
+        sum = next;
+        read = read.wrapping_add(length);
     }
     ensure!(read == length as usize, "a fork has another length");
     Ok(sum)
