@@ -1,7 +1,7 @@
 //! What a mounted volume answers.
 
 use crate::items::with_case_swapped;
-use anyhow::{Result, bail, ensure};
+use anyhow::{Result, bail};
 use hfs_model::{Bytes, Call, Fork, Info, Reply, Value};
 use hfs_real_changes::is_same;
 use hfs_volume::Volume;
@@ -26,10 +26,9 @@ pub fn tells(
 /// What is told of a folder's children. An error where it is no folder.
 pub fn children(volume: &mut Volume, alloc: Global, dir: u32) -> Result<Vec<Info>> {
     let Reply { code, value } = reply_to(volume, alloc, &Call::List { dir })?;
-    ensure!(code == 0, "a folder is not listed");
-    match value {
-        Value::Many(infos) => Ok(infos.into_vec()),
-        _ => bail!("a list is none"),
+    match (code, value) {
+        (0, Value::Many(infos)) => Ok(infos.into_vec()),
+        _ => bail!("a folder is not listed"),
     }
 }
 

@@ -4,10 +4,18 @@
 use crate::folders::push_folders;
 use anyhow::{Result, bail, ensure};
 use hfs_commands::children_text;
-use hfs_model::Value;
+use hfs_model::{Reply, Value};
 use hfs_volume::Volume;
 use std::alloc::Global;
 use std::io::{BufWriter, Write};
+
+/// Writes the lines of a list.
+fn write_lines<W: Write>(alloc: Global, out: &mut W, reply: &Reply) -> Result<()> {
+    let (status, lines) = children_text(alloc, reply)?;
+    ensure!(status == 0, "a folder is not listed");
+    out.write_all(lines.as_bytes())?;
+    Ok(())
+}
 
 /// Writes the lines of a folder, and puts the folders among its items on the pile of those that wait.
 fn write_folder<W: Write>(
@@ -18,9 +26,7 @@ fn write_folder<W: Write>(
     waiting: &mut Vec<u32>,
 ) -> Result<()> {
     let reply = volume.list_in_brief(alloc, dir)?;
-    let (status, lines) = children_text(alloc, &reply)?;
-    ensure!(status == 0, "a folder is not listed");
-    out.write_all(lines.as_bytes())?;
+    write_lines(alloc, out, &reply)?;
     if let Value::Many(items) = &reply.value {
         push_folders(items.as_slice(), waiting)?;
     }

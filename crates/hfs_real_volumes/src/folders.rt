@@ -175,6 +175,23 @@ fn print_folder(
     Ok(())
 }
 
+/// Prints the items of each folder, of which there are at most so many.
+fn print_folders(
+    rt: &(impl Print + AllocGlobal),
+    volume: &mut Volume,
+    below: Below<'_>,
+    most: usize,
+) -> Result<()> {
+    let mut waiting = vec![in rt.alloc(); 2]?;
+    for _turn in 0..most {
+        let Some(dir) = waiting.pop() else {
+            return Ok(());
+        };
+        print_folder(rt, volume, below, dir, &mut waiting)?;
+    }
+    bail!("there are more folders than that")
+}
+
 /// Prints the items of each folder: those of one, and behind them those of the folders among them, in their order.
 pub fn print_all(
     rt: &(impl Print + AllocGlobal),
@@ -191,13 +208,5 @@ pub fn print_all(
         catalog,
         walked: &walked,
     };
-    let mut waiting = Vec::new(rt.alloc());
-    waiting.push(2)?;
-    for _turn in 0..count {
-        let Some(dir) = waiting.pop() else {
-            return Ok(());
-        };
-        print_folder(rt, volume, below, dir, &mut waiting)?;
-    }
-    bail!("there are more folders than that")
+    print_folders(rt, volume, below, count)
 }
