@@ -1,9 +1,14 @@
-//! Calls that change, on a folder's item of a name or on an item that is told.
+//! Calls that change, on a folder's item of a name, and what they answer.
 
+use crate::items::Place;
 use anyhow::{Result, ensure};
-use hfs_model::{Bytes, Call, Info, Reply, Value};
+use hfs_model::{Bytes, Call, Value};
 use hfs_volume::Volume;
-use std::alloc::{AllocError, Global};
+use hfs_volume_fixtures::reply_to;
+use std::alloc::Global;
+
+/// The moment of each change, 1 January 2002.
+const NOW: u32 = 3_092_688_000;
 
 /// What SetCatInfo sets.
 #[derive(Clone, Copy)]
@@ -37,7 +42,7 @@ pub struct Answer {
 }
 
 /// SetCatInfo on the item of this name.
-fn set_cat_info(dir: u32, name: Bytes, settings: &Settings, now: u32) -> Call {
+fn set_cat_info(dir: u32, name: Bytes, settings: &Settings) -> Call {
     Call::SetCatInfo {
         dir,
         name,
@@ -45,12 +50,13 @@ fn set_cat_info(dir: u32, name: Bytes, settings: &Settings, now: u32) -> Call {
         modified: settings.modified,
         backup: settings.backup,
         info: settings.info,
-        now,
+        now: NOW,
     }
 }
 
 /// The call that does this with the item of this name.
-fn call_of(dir: u32, name: Bytes, deed: &Deed, now: u32) -> Call {
+fn call_of(dir: u32, name: Bytes, deed: &Deed) -> Call {
+    let now = NOW;
     match *deed {
         Deed::Create => Call::Create { dir, name, now },
         Deed::DirCreate => Call::DirCreate { dir, name, now },
@@ -67,103 +73,77 @@ fn call_of(dir: u32, name: Bytes, deed: &Deed, now: u32) -> Call {
             info,
             now,
         },
-        Deed::SetCatInfo(settings) => set_cat_info(dir, name, &settings, now),
+        Deed::SetCatInfo(settings) => set_cat_info(dir, name, &settings),
         Deed::SetFLock => Call::SetFLock { dir, name, now },
         Deed::RstFLock => Call::RstFLock { dir, name, now },
         Deed::CreateFileId => Call::CreateFileId { dir, name, now },
     }
 }
 
-/// The ID in a value.
-fn id_in(value: &Value) -> Option<u32> {
-    if let Value::Id(id) = value {
-        Some(*id)
-    } else {
-        None
-    }
-}
-
-/// The free nodes and the levels in a value.
-fn full_in(value: &Value) -> Option<(u32, u32)> {
-    if let Value::Full { free, depth } = value {
-        Some((*free, *depth))
-    } else {
-        None
-    }
-}
-
-/// The reply to a call, which goes here: each place where one goes costs a proof.
-fn reply_to(volume: &mut Volume, alloc: Global, call: Call) -> Result<Reply, AllocError> {
-    volume.call(alloc, &call)
-}
-
 /// What a call answers.
-fn answer_to(volume: &mut Volume, alloc: Global, call: Call) -> Result<Answer> {
+fn answer_to(volume: &mut Volume, alloc: Global, call: &Call) -> Result<Answer> {
     let reply = reply_to(volume, alloc, call)?;
+    let (id, full) = match &reply.value {
+        Value::Id(id) => (Some(*id), None),
+        Value::Full { free, depth } => (None, Some((*free, *depth))),
+        _ => (None, None),
+    };
     Ok(Answer {
         code: reply.code,
-        id: id_in(&reply.value),
-        full: full_in(&reply.value),
+        id,
+        full,
     })
 }
 
-/// What the call answers that does this with the folder's item of a name.
-pub fn done(
+/// What the call answers that does this with an item.
+pub fn done(volume: &mut Volume, alloc: Global, place: Place<'_>, deed: &Deed) -> Result<Answer> {
+    let name = Bytes::from_slice(alloc, place.1)?;
+    let call = call_of(place.0, name, deed);
+    answer_to(volume, alloc, &call)
+}
+
+/// An error with these words where the call that does this with an item is answered with another code.
+pub fn ensure_done(
     volume: &mut Volume,
     alloc: Global,
-    dir: u32,
-    name: &[u8],
+    place: Place<'_>,
     deed: &Deed,
-    now: u32,
-) -> Result<Answer> {
-    let name = Bytes::from_slice(alloc, name)?;
-    answer_to(volume, alloc, call_of(dir, name, deed, now))
-}
-
-/// The code of the call that does this with an item.
-pub fn done_to(
-    volume: &mut Volume,
-    alloc: Global,
-    item: &Info,
-    deed: &Deed,
-    now: u32,
-) -> Result<i16> {
-    let answer = done(volume, alloc, item.parent, item.name.bytes(), deed, now)?;
-    Ok(answer.code)
-}
-
-/// The call that gives the folder's item of a name another one.
-fn rename_call(alloc: Global, dir: u32, name: &[u8], new_name: &[u8], now: u32) -> Result<Call> {
-    let name = Bytes::from_slice(alloc, name)?;
-    let new_name = Bytes::from_slice(alloc, new_name)?;
-    Ok(Call::Rename {
-        dir,
-        name,
-        new_name,
-        now,
-    })
-}
-
-/// The code of Rename.
-pub fn rename(
-    volume: &mut Volume,
-    alloc: Global,
-    dir: u32,
-    name: &[u8],
-    new_name: &[u8],
-    now: u32,
-) -> Result<i16> {
-    let call = rename_call(alloc, dir, name, new_name, now)?;
-    Ok(answer_to(volume, alloc, call)?.code)
+    code: i16,
+    words: &'static str,
+) -> Result<()> {
+    let answer = done(volume, alloc, place, deed)?;
+    ensure!(answer.code == code, words);
+    Ok(())
 }
 
 /// The code of DeleteFileId.
-pub fn delete_file_id(volume: &mut Volume, alloc: Global, id: u32, now: u32) -> Result<i16> {
-    Ok(answer_to(volume, alloc, Call::DeleteFileId { id, now })?.code)
+pub fn delete_file_id(volume: &mut Volume, alloc: Global, id: u32) -> Result<i16> {
+    let answer = answer_to(volume, alloc, &Call::DeleteFileId { id, now: NOW })?;
+    Ok(answer.code)
 }
 
-/// An error with these words where a call is answered with another code than is wanted.
-pub fn ensure_code(code: i16, wanted: i16, words: &'static str) -> Result<()> {
-    ensure!(code == wanted, words);
+/// The call that gives an item another name.
+fn rename_call(alloc: Global, place: Place<'_>, new_name: &[u8]) -> Result<Call> {
+    let name = Bytes::from_slice(alloc, place.1)?;
+    let new_name = Bytes::from_slice(alloc, new_name)?;
+    Ok(Call::Rename {
+        dir: place.0,
+        name,
+        new_name,
+        now: NOW,
+    })
+}
+
+/// An error with these words where an item can't be given another name.
+pub fn ensure_renamed(
+    volume: &mut Volume,
+    alloc: Global,
+    place: Place<'_>,
+    new_name: &[u8],
+    words: &'static str,
+) -> Result<()> {
+    let call = rename_call(alloc, place, new_name)?;
+    let answer = answer_to(volume, alloc, &call)?;
+    ensure!(answer.code == 0, words);
     Ok(())
 }

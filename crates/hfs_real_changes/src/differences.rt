@@ -2,6 +2,7 @@
 
 use anyhow::{Result, ensure};
 use hfs_volume::Volume;
+use hfs_volume_fixtures::save_into;
 use std::alloc::Global;
 
 /// On how many items the whole image is compared with what it was before.
@@ -22,7 +23,8 @@ pub struct Differences {
     after: Vec<u8>,
     compared: u32,
     changed: u32,
-    most: u32,
+    /// The most blocks that any call has changed for the first time.
+    pub most: u32,
 }
 
 impl Differences {
@@ -53,16 +55,11 @@ impl Differences {
         }
         self.compared = self.compared.wrapping_add(1);
         self.after.clear();
-        ensure!(volume.save(&mut self.after).is_ok(), "not saved");
+        save_into(volume, &mut self.after)?;
         ensure!(self.after.len() == self.before.len(), "another length");
         let count = count_differing(&self.before, &self.after);
         ensure!(count <= 2, "more blocks are changed");
         std::mem::swap(&mut self.before, &mut self.after);
         Ok(())
-    }
-
-    /// The most blocks that any call has changed for the first time.
-    pub fn most(&self) -> u32 {
-        self.most
     }
 }

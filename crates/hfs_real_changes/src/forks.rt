@@ -1,6 +1,6 @@
 //! The forks of files, compared with those of another volume.
 
-use crate::items::{is_same, told};
+use crate::items::{ensure_told, place_of};
 use anyhow::{Result, bail, ensure};
 use hfs_model::{Fork, Info};
 use hfs_volume::{Opened, Volume};
@@ -8,7 +8,8 @@ use std::alloc::Global;
 
 /// All bytes of a file's fork.
 fn fork_bytes(volume: &Volume, alloc: Global, file: &Info, fork: Fork) -> Result<Vec<u8>> {
-    match volume.open_fork(alloc, file.parent, file.name.bytes(), fork)? {
+    let place = place_of(file);
+    match volume.open_fork(alloc, place.0, place.1, fork)? {
         Opened::Fork(open) => {
             let mut open = open;
             let length = open.len();
@@ -18,57 +19,21 @@ fn fork_bytes(volume: &Volume, alloc: Global, file: &Info, fork: Fork) -> Result
     }
 }
 
-/// Whether a file's fork has these bytes.
-fn has_bytes(
-    volume: &Volume,
-    alloc: Global,
-    file: &Info,
-    fork: Fork,
-    bytes: &[u8],
-) -> Result<bool> {
-    let found = fork_bytes(volume, alloc, file, fork)?;
-    Ok(found.as_slice() == bytes)
+/// A file of a volume.
+pub type FileIn<'a> = (&'a Volume, &'a Info);
+
+/// Whether a file's fork has the same bytes as that of another file.
+fn is_fork_same(alloc: Global, a: FileIn<'_>, b: FileIn<'_>, fork: Fork) -> Result<bool> {
+    let bytes = fork_bytes(a.0, alloc, a.1, fork)?;
+    let found = fork_bytes(b.0, alloc, b.1, fork)?;
+    Ok(found == bytes)
 }
 
-/// Whether a file's fork has the same bytes as that of a file of the base.
-fn is_fork_same(
-    alloc: Global,
-    base: &Volume,
-    before: &Info,
-    volume: &Volume,
-    after: &Info,
-    fork: Fork,
-) -> Result<bool> {
-    let bytes = fork_bytes(base, alloc, before, fork)?;
-    has_bytes(volume, alloc, after, fork, &bytes)
-}
-
-/// An error where one of a file's forks has other bytes than that of a file of the base.
-fn ensure_forks(
-    alloc: Global,
-    base: &Volume,
-    before: &Info,
-    volume: &Volume,
-    after: &Info,
-) -> Result<()> {
-    let is_data_same = is_fork_same(alloc, base, before, volume, after, Fork::DataFork)?;
-    ensure!(is_data_same, "another data fork");
-    let is_resource_same = is_fork_same(alloc, base, before, volume, after, Fork::ResFork)?;
-    ensure!(is_resource_same, "another resource fork");
+/// An error where a file is told otherwise than is wanted, or where a fork of it has other bytes than that of the file before.
+pub fn ensure_file(alloc: Global, before: FileIn<'_>, wanted: FileIn<'_>) -> Result<()> {
+    ensure_told(wanted.0, wanted.1, "a file is told otherwise")?;
+    let is_data_same = is_fork_same(alloc, before, wanted, Fork::DataFork)?;
+    let is_resource_same = is_fork_same(alloc, before, wanted, Fork::ResFork)?;
+    ensure!(is_data_same && is_resource_same, "a fork has other bytes");
     Ok(())
-}
-
-/// An error with these words where a file is told otherwise than is wanted, and one where a fork of it has other bytes than that of a file
-/// of the base.
-pub fn ensure_file(
-    alloc: Global,
-    base: &Volume,
-    before: &Info,
-    volume: &Volume,
-    wanted: &Info,
-    words: &'static str,
-) -> Result<()> {
-    let found = told(volume, wanted)?;
-    ensure!(is_same(&found, wanted), words);
-    ensure_forks(alloc, base, before, volume, &found)
 }

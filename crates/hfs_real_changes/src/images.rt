@@ -1,30 +1,15 @@
-//! Images: mounted, saved, and told as sound.
+//! Images: mounted, told as sound, and with other locks.
 
-use anyhow::{Result, bail, ensure};
+use anyhow::{Result, ensure};
 use hfs_check::{Report, report};
-use hfs_volume::{Volume, mount};
+use hfs_volume::Volume;
+use hfs_volume_fixtures::mounted;
 use std::alloc::Global;
-
-/// The volume of an image. An error where it is refused.
-pub fn mounted(alloc: Global, image: Vec<u8>) -> Result<Volume> {
-    match mount(alloc, image) {
-        Ok(volume) => Ok(volume),
-        Err(_refused) => bail!("the volume is refused"),
-    }
-}
 
 /// The volume of a copy of an image. An error where it is refused.
 pub fn copied(alloc: Global, image: &[u8]) -> Result<Volume> {
-    mounted(alloc, Vec::from_slice(alloc, image)?)
-}
-
-/// The bytes of a volume's image as they are now.
-pub fn saved(alloc: Global, volume: &Volume) -> Result<Vec<u8>> {
-    let mut bytes = Vec::new(alloc);
-    match volume.save(&mut bytes) {
-        Ok(()) => Ok(bytes),
-        Err(_fault) => bail!("the image was not saved"),
-    }
+    let copy = Vec::from_slice(alloc, image)?;
+    Ok(mounted(alloc, copy)?)
 }
 
 /// The report on an image. An error where it is not sound.

@@ -1,77 +1,56 @@
 //! The items of a volume as they are told.
 
 use anyhow::{Result, bail, ensure};
-use hfs_model::{Info, ItemKind, Value};
+use hfs_model::{Info, ItemKind, NOT_FOUND, Reply, Value};
 use hfs_volume::Volume;
 use std::alloc::Global;
 
-/// What is told of an item, by its folder and name.
-pub fn told(volume: &Volume, item: &Info) -> Result<Info> {
-    let reply = volume.get_cat_info(item.parent, item.name.bytes());
-    match &reply.value {
-        Value::One(info) => Ok(*info),
-        _ => bail!("an item is not told"),
-    }
+/// An item's folder and name.
+pub type Place<'a> = (u32, &'a [u8]);
+
+/// The folder and the name of an item.
+pub fn place_of(item: &Info) -> Place<'_> {
+    (item.parent, item.name.bytes())
 }
 
-/// Puts items behind those that are known, and the folders among them on the pile of those that wait.
-fn push_all(children: &[Info], items: &mut Vec<Info>, waiting: &mut Vec<u32>) -> Result<()> {
-    for child in children {
-        items.push(*child)?;
-        if child.kind == ItemKind::Folder {
-            waiting.push(child.id)?;
-        }
-    }
+/// What is answered of an item.
+fn reply_of(volume: &Volume, place: Place<'_>) -> Reply {
+    volume.get_cat_info(place.0, place.1)
+}
+
+/// An error with these words where an item is told of.
+pub fn ensure_absent(volume: &Volume, place: Place<'_>, words: &'static str) -> Result<()> {
+    let reply = reply_of(volume, place);
+    ensure!(reply.code == NOT_FOUND, words);
     Ok(())
 }
 
-/// Puts the items of a folder behind those that are known, and the folders among them on the pile of those that wait.
-fn push_children(
-    volume: &Volume,
-    alloc: Global,
-    dir: u32,
-    items: &mut Vec<Info>,
-    waiting: &mut Vec<u32>,
-) -> Result<()> {
+/// Puts the items of a folder behind those that are known.
+fn push_children(volume: &Volume, alloc: Global, dir: u32, items: &mut Vec<Info>) -> Result<()> {
     let reply = volume.list(alloc, dir)?;
     match &reply.value {
-        Value::Many(children) => push_all(children.as_slice(), items, waiting),
+        Value::Many(children) => Ok(items.extend_from_slice(children.as_slice())?),
         _ => bail!("a folder is not listed"),
     }
 }
 
-/// Puts the items of the folders that wait, of at most so many, and of those below them behind those that are known.
-fn push_waiting(
-    volume: &Volume,
-    alloc: Global,
-    most: usize,
-    items: &mut Vec<Info>,
-    waiting: &mut Vec<u32>,
-) -> Result<()> {
-    for _turn in 0..most {
-        let Some(dir) = waiting.pop() else {
-            return Ok(());
-        };
-        push_children(volume, alloc, dir, items, waiting)?;
-    }
-    bail!("there are more folders than that")
-}
-
-/// Puts all items of a volume with at most so many folders behind those that are known.
-fn push_items(volume: &Volume, alloc: Global, most: usize, items: &mut Vec<Info>) -> Result<()> {
-    let mut waiting = vec![in alloc; 2]?;
-    push_waiting(volume, alloc, most, items, &mut waiting)
-}
-
-/// All items of a volume with at most so many folders, but the root.
+/// All items of a volume with fewer items than so many, but the root, folder by folder.
 pub fn items_of(volume: &Volume, alloc: Global, most: usize) -> Result<Vec<Info>> {
     let mut items = Vec::new(alloc);
-    push_items(volume, alloc, most, &mut items)?;
-    Ok(items)
+    push_children(volume, alloc, 2, &mut items)?;
+    for k in 0..most {
+        let Some(item) = items.get(k).copied() else {
+            return Ok(items);
+        };
+        if item.kind == ItemKind::Folder {
+            push_children(volume, alloc, item.id, &mut items)?;
+        }
+    }
+    bail!("there are more items than that")
 }
 
-/// Whether two items have the same place, name, kind and lengths.
-fn are_places_same(a: &Info, b: &Info) -> bool {
+/// Whether what is told of two items is the same in each field.
+pub fn is_same(a: &Info, b: &Info) -> bool {
     a.id == b.id
         && a.parent == b.parent
         && a.kind == b.kind
@@ -80,11 +59,6 @@ fn are_places_same(a: &Info, b: &Info) -> bool {
         && a.valence == b.valence
         && a.data_len == b.data_len
         && a.res_len == b.res_len
-}
-
-/// Whether what is told of two items is the same in each field.
-pub fn is_same(a: &Info, b: &Info) -> bool {
-    are_places_same(a, b)
         && a.created == b.created
         && a.modified == b.modified
         && a.backup == b.backup
@@ -92,23 +66,24 @@ pub fn is_same(a: &Info, b: &Info) -> bool {
         && a.locked == b.locked
 }
 
-/// An error where items are not told as these, in this order.
-fn ensure_same(found: &[Info], wanted: &[Info]) -> Result<()> {
-    ensure!(found.len() == wanted.len(), "another number of items");
-    for (item, info) in found.iter().zip(wanted) {
-        ensure!(is_same(item, info), "an item is told otherwise");
-    }
+/// Whether two lists tell the same of the same items, in the same order.
+pub fn are_same(a: &[Info], b: &[Info]) -> bool {
+    a.len() == b.len() && a.iter().zip(b).all(|(x, y)| is_same(x, y))
+}
+
+/// An error with these words where an item is told otherwise than is wanted.
+pub fn ensure_told(volume: &Volume, wanted: &Info, words: &'static str) -> Result<()> {
+    let reply = reply_of(volume, place_of(wanted));
+    let is_told = match &reply.value {
+        Value::One(info) => is_same(info, wanted),
+        _ => false,
+    };
+    ensure!(is_told, words);
     Ok(())
 }
 
-/// An error where the items of a volume are not told as these, in this order.
-pub fn ensure_told(volume: &Volume, alloc: Global, wanted: &[Info], most: usize) -> Result<()> {
-    let found = items_of(volume, alloc, most)?;
-    ensure_same(&found, wanted)
-}
-
 /// The files among the items.
-fn files_of(alloc: Global, items: &[Info]) -> Result<Vec<Info>> {
+pub fn files_of(alloc: Global, items: &[Info]) -> Result<Vec<Info>> {
     let mut files = Vec::new(alloc);
     for item in items {
         if item.kind == ItemKind::File {
@@ -116,10 +91,4 @@ fn files_of(alloc: Global, items: &[Info]) -> Result<Vec<Info>> {
         }
     }
     Ok(files)
-}
-
-/// All files of a volume with at most so many folders.
-pub fn files_in(volume: &Volume, alloc: Global, most: usize) -> Result<Vec<Info>> {
-    let items = items_of(volume, alloc, most)?;
-    files_of(alloc, &items)
 }

@@ -3,21 +3,23 @@
 //! the calls the volume is saved, mounted again and told once more.
 #![tactic(auto)]
 
+mod before;
 mod calls;
+mod deeds;
 mod deletions;
 mod differences;
 mod forks;
 mod images;
 mod items;
 mod records;
-mod setting_volumes;
+mod rounds;
 mod settings;
 mod story;
 mod story_items;
-mod written;
 
+pub use crate::deeds::{refuse_all, set_items, unlock_files};
 pub use crate::deletions::delete_all;
-pub use crate::images::{mounted, saved, with_attributes};
-pub use crate::setting_volumes::{refuse_all, set_and_unlock};
+pub use crate::images::{copied, with_attributes};
+pub use crate::items::{are_same, is_same};
+pub use crate::rounds::set_and_unlock;
 pub use crate::story::{Story, refuse_folder, tell};
-pub use crate::written::{set_items, unlock_files};

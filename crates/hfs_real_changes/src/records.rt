@@ -44,39 +44,20 @@ fn is_body_kept(before: &[u8], after: &[u8]) -> bool {
     is_kept
 }
 
-/// Whether a record has the bytes that are kept of the one before. None where it is not there, or another one.
-fn kept(before: &CatalogRecord, after: Option<&CatalogRecord>) -> Option<bool> {
-    match after {
-        Some(found) if is_key_same(before, found) => Some(is_body_kept(
-            before.body(),
-            found.body(),
-        )),
-        Some(_) | None => None,
-    }
-}
-
-/// How many of the records, from the first on, are among those before in their order, and whether all of these have the bytes that are kept.
-fn kept_records(before: &[CatalogRecord], after: &[CatalogRecord]) -> (usize, bool) {
-    let mut place = 0usize;
-    let mut are_kept = true;
-    for record in before {
-        if let Some(is_kept) = kept(record, after.get(place)) {
-            are_kept = are_kept && is_kept;
-            place = place.wrapping_add(1);
-        }
-    }
-    (place, are_kept)
-}
-
 /// An error where one of the records is not among those before, in their order and with the bytes that are kept, or where others went than
 /// so many.
 pub fn ensure_kept(before: &[CatalogRecord], after: &[CatalogRecord], gone: usize) -> Result<()> {
-    let (found, are_kept) = kept_records(before, after);
-    ensure!(are_kept, "kept bytes");
-    ensure!(found == after.len(), "a record that was not there");
-    ensure!(
-        before.len().checked_sub(gone) == Some(after.len()),
-        "another number of records"
-    );
+    let mut place = 0usize;
+    for record in before {
+        if let Some(found) = after.get(place)
+            && is_key_same(record, found)
+        {
+            ensure!(is_body_kept(record.body(), found.body()), "kept bytes");
+            place = place.wrapping_add(1);
+        }
+    }
+    ensure!(place == after.len(), "a record that was not there");
+    let wanted = before.len().checked_sub(gone);
+    ensure!(wanted == Some(after.len()), "another number of records");
     Ok(())
 }

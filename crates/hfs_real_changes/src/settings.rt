@@ -1,15 +1,24 @@
-//! What each item is set to, and what it is told as afterwards.
+//! What each item is set to, step by step, and what it is told as behind each step.
 
-use crate::calls::{Deed, Settings, done_to, ensure_code};
-use crate::differences::Differences;
-use crate::items::{is_same, told};
-use anyhow::{Result, ensure};
+use crate::calls::{Deed, Settings};
 use hfs_model::{FILE_LOCKED, Info, ItemKind, NOT_FOUND};
-use hfs_volume::Volume;
-use std::alloc::Global;
 
-/// The moment of each change.
-pub const NOW: u32 = 3_123_456_789;
+/// A call on an item, the code that it is answered, and what the item is told as behind it.
+#[derive(Clone, Copy)]
+pub struct Step {
+    pub deed: Deed,
+    pub code: i16,
+    pub wanted: Info,
+}
+
+/// Such a call.
+fn call_step(deed: &Deed, code: i16, wanted: &Info) -> Step {
+    Step {
+        deed: *deed,
+        code,
+        wanted: *wanted,
+    }
+}
 
 /// Dates and Finder bytes that no other item gets: the dates are the item's ID before, behind and without a moment of 1999, and Finder
 /// byte `k` is the ID and `k`, mod 251.
@@ -53,113 +62,35 @@ fn with_lock(item: &Info, locked: bool) -> Info {
     info
 }
 
-/// An error where the item is not told so.
-fn ensure_told(volume: &Volume, wanted: &Info) -> Result<()> {
-    let found = told(volume, wanted)?;
-    ensure!(is_same(&found, wanted), "an item is set otherwise");
-    Ok(())
+/// Unlocks a file.
+pub fn unlocking(item: &Info) -> [Step; 1] {
+    [call_step(&Deed::RstFLock, 0, &with_lock(item, false))]
 }
 
-/// What is made of each item.
-#[derive(Clone, Copy)]
-pub enum Round {
-    /// It is set, and locked where it is a file.
-    Set,
-    /// It is unlocked, where it is a file.
-    Unlock,
+/// Unlocks a file, sets its first 16 Finder bytes to 255, then its dates and all Finder bytes, and locks it; then nothing more of it is set.
+pub fn setting_file(item: &Info) -> [Step; 6] {
+    let dated = Deed::SetCatInfo(settings_of(item));
+    let unlocked = with_lock(item, false);
+    let half = with_f_info(&unlocked);
+    let whole = with_settings(&half, &settings_of(item));
+    let locked = with_lock(&whole, true);
+    [
+        call_step(&Deed::RstFLock, 0, &unlocked),
+        call_step(&Deed::SetFInfo([255; 16]), 0, &half),
+        call_step(&dated, 0, &whole),
+        call_step(&Deed::SetFLock, 0, &locked),
+        call_step(&Deed::SetFInfo([7; 16]), FILE_LOCKED, &locked),
+        call_step(&dated, FILE_LOCKED, &locked),
+    ]
 }
 
-/// A volume, and how many blocks its calls have changed.
-#[derive(Drop)]
-pub struct Setting {
-    pub volume: Volume,
-    pub differences: Differences,
-}
-
-impl Setting {
-    /// An error where a call that does this with an item is not answered with this code, or the item is not told so behind it.
-    fn ensure_made(
-        &mut self,
-        alloc: Global,
-        item: &Info,
-        deed: &Deed,
-        code: i16,
-        wanted: &Info,
-    ) -> Result<()> {
-        let found = done_to(&mut self.volume, alloc, item, deed, NOW)?;
-        ensure_code(found, code, "another code")?;
-        ensure_told(&self.volume, wanted)?;
-        self.differences.take_in(&self.volume);
-        Ok(())
-    }
-
-    /// Sets the dates and Finder bytes of an item that is not locked, and answers how it is told then.
-    fn set_cat_info(&mut self, alloc: Global, item: &Info) -> Result<Info> {
-        let settings = settings_of(item);
-        let wanted = with_settings(item, &settings);
-        self.ensure_made(alloc, item, &Deed::SetCatInfo(settings), 0, &wanted)?;
-        Ok(wanted)
-    }
-
-    /// Unlocks a file, and answers how it is told then.
-    fn unlock(&mut self, alloc: Global, item: &Info) -> Result<Info> {
-        let wanted = with_lock(item, false);
-        self.ensure_made(alloc, item, &Deed::RstFLock, 0, &wanted)?;
-        Ok(wanted)
-    }
-
-    /// Sets the first 16 Finder bytes of an unlocked file to 255, then its dates and all Finder bytes, and locks it. Answers how it is told then.
-    fn set_and_lock(&mut self, alloc: Global, item: &Info) -> Result<Info> {
-        let half = with_f_info(item);
-        self.ensure_made(alloc, item, &Deed::SetFInfo([255; 16]), 0, &half)?;
-        let whole = self.set_cat_info(alloc, &half)?;
-        let locked = with_lock(&whole, true);
-        self.ensure_made(alloc, &whole, &Deed::SetFLock, 0, &locked)?;
-        Ok(locked)
-    }
-
-    /// Sets all of a file, and locks it; then nothing more of it is set.
-    fn set_file(&mut self, alloc: Global, item: &Info) -> Result<Info> {
-        let unlocked = self.unlock(alloc, item)?;
-        let locked = self.set_and_lock(alloc, &unlocked)?;
-        let typed = Deed::SetFInfo([7; 16]);
-        self.ensure_made(alloc, item, &typed, FILE_LOCKED, &locked)?;
-        let dated = Deed::SetCatInfo(settings_of(item));
-        self.ensure_made(alloc, item, &dated, FILE_LOCKED, &locked)?;
-        Ok(locked)
-    }
-
-    /// Sets all of a folder. What only files have is not set.
-    fn set_folder(&mut self, alloc: Global, item: &Info) -> Result<Info> {
-        let typed = Deed::SetFInfo([7; 16]);
-        self.ensure_made(alloc, item, &typed, NOT_FOUND, item)?;
-        self.ensure_made(alloc, item, &Deed::SetFLock, NOT_FOUND, item)?;
-        self.set_cat_info(alloc, item)
-    }
-
-    /// Sets all of an item, and answers how it is told then.
-    fn set(&mut self, alloc: Global, item: &Info) -> Result<Info> {
-        match item.kind {
-            ItemKind::File => self.set_file(alloc, item),
-            ItemKind::Folder => self.set_folder(alloc, item),
-        }
-    }
-
-    /// Unlocks an item that was set, if it is a file, and answers how it is told then.
-    fn set_free(&mut self, alloc: Global, item: &Info) -> Result<Info> {
-        match item.kind {
-            ItemKind::File => self.unlock(alloc, item),
-            ItemKind::Folder => Ok(*item),
-        }
-    }
-
-    /// Makes this of an item, and answers how it is told then.
-    pub fn make(&mut self, alloc: Global, item: &Info, round: Round) -> Result<Info> {
-        let wanted = match round {
-            Round::Set => self.set(alloc, item)?,
-            Round::Unlock => self.set_free(alloc, item)?,
-        };
-        self.differences.compare(&self.volume)?;
-        Ok(wanted)
-    }
+/// Sets the dates and Finder bytes of a folder. What only files have is not set.
+pub fn setting_folder(item: &Info) -> [Step; 3] {
+    let settings = settings_of(item);
+    let set = with_settings(item, &settings);
+    [
+        call_step(&Deed::SetFInfo([7; 16]), NOT_FOUND, item),
+        call_step(&Deed::SetFLock, NOT_FOUND, item),
+        call_step(&Deed::SetCatInfo(settings), 0, &set),
+    ]
 }

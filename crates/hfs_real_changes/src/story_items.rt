@@ -1,5 +1,6 @@
 //! The files that a story renames and moves, and how they are told behind it.
 
+use crate::before::Before;
 use crate::forks::ensure_file;
 use anyhow::{Result, ensure};
 use hfs_fields::Name;
@@ -17,11 +18,6 @@ pub struct MovedFile {
     pub name: Name,
 }
 
-/// Whether a file can be renamed, and doesn't stand in that folder.
-fn is_moved(item: &Info, home: u32) -> bool {
-    item.kind == ItemKind::File && !item.locked && item.parent != home
-}
-
 /// Puts a file behind those that move, with the next name, as long as there is one.
 fn push_moved(files: &mut Vec<MovedFile>, item: &Info) -> Result<()> {
     if let Some(text) = NAMES.get(files.len())
@@ -35,11 +31,11 @@ fn push_moved(files: &mut Vec<MovedFile>, item: &Info) -> Result<()> {
     Ok(())
 }
 
-/// The first files among these items that are unlocked and stand elsewhere than in that folder, one for each name.
-pub fn moved_files(alloc: Global, items: &[Info], home: u32) -> Result<Vec<MovedFile>> {
+/// The first files among these items that are unlocked, one for each name.
+pub fn moved_files(alloc: Global, items: &[Info]) -> Result<Vec<MovedFile>> {
     let mut files = Vec::new(alloc);
     for item in items {
-        if is_moved(item, home) {
+        if item.kind == ItemKind::File && !item.locked {
             push_moved(&mut files, item)?;
         }
     }
@@ -47,39 +43,33 @@ pub fn moved_files(alloc: Global, items: &[Info], home: u32) -> Result<Vec<Moved
     Ok(files)
 }
 
-/// An error where a file is told otherwise than as it was, but for its folder, its name and its ID, or where its forks are others.
-pub fn ensure_moved(
-    alloc: Global,
-    base: &Volume,
-    volume: &Volume,
-    file: &MovedFile,
-    home: u32,
-    has_id: bool,
-) -> Result<()> {
-    let mut wanted = file.before;
-    wanted.parent = home;
-    wanted.name = file.name;
-    wanted.has_id = has_id;
-    let words = "a moved file is told otherwise";
-    ensure_file(alloc, base, &file.before, volume, &wanted, words)
+/// What an item is told as behind the story: a file that moves stands in that folder under its new name, and each but the first has an ID.
+fn wanted_of(item: &Info, files: &[MovedFile], home: u32) -> Info {
+    let mut wanted = *item;
+    let mut has_id = false;
+    for file in files {
+        if file.before.id == item.id {
+            wanted.parent = home;
+            wanted.name = file.name;
+            wanted.has_id = has_id;
+        }
+        has_id = true;
+    }
+    wanted
 }
 
-/// Whether the item is one of the files that move.
-fn is_among(item: &Info, files: &[MovedFile]) -> bool {
-    files.iter().any(|file| file.before.id == item.id)
-}
-
-/// An error where a file that doesn't move is told otherwise than it was, or has other forks.
-pub fn ensure_others(
+/// An error where a file is told otherwise than behind the story, or has other forks than before.
+pub fn ensure_files(
     alloc: Global,
-    base: &Volume,
+    before: &Before,
     volume: &Volume,
-    items: &[Info],
     files: &[MovedFile],
+    home: u32,
 ) -> Result<()> {
-    for item in items {
-        if item.kind == ItemKind::File && !is_among(item, files) {
-            ensure_file(alloc, base, item, volume, item, "another file has changed")?;
+    for item in &before.items {
+        if item.kind == ItemKind::File {
+            let wanted = wanted_of(item, files, home);
+            ensure_file(alloc, (&before.volume, item), (volume, &wanted))?;
         }
     }
     Ok(())

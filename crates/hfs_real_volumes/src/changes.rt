@@ -38,25 +38,36 @@ fn print_story(rt: &(impl Print + AllocGlobal), name: &str, image: &[u8]) -> Res
     Ok(())
 }
 
-/// Changes the volumes beside the program.
-pub fn print_changes(rt: &HostRuntime) -> Result<()> {
-    let alloc = rt.alloc();
+/// Changes the volume with no room for a folder.
+fn print_narrow(rt: &HostRuntime) -> Result<()> {
     let (name, free, depth) = NARROW;
     let image = fs::read(rt, name)?;
-    real::refuse_folder(alloc, &image, free, depth)?;
+    real::refuse_folder(rt.alloc(), &image, free, depth)?;
     println!(rt; "{name}: no folder made with {free} free nodes and {depth} levels")?;
-    print_set(rt, name, &image)?;
-    let image = fs::read(rt, ROOMY)?;
-    print_set(rt, ROOMY, &image)?;
-    print_story(rt, ROOMY, &image)?;
+    print_set(rt, name, &image)
+}
+
+/// Changes a volume that has room and no locks.
+fn print_open(rt: &(impl Print + AllocGlobal), name: &str, image: &[u8]) -> Result<()> {
+    print_set(rt, name, image)?;
+    print_story(rt, name, image)
+}
+
+/// Tries to change the locked volume, and changes it without its locks.
+fn print_locked(rt: &HostRuntime) -> Result<()> {
     let image = fs::read(rt, LOCKED)?;
-    println!(rt;
-        "{LOCKED}: {} items refused",
-        real::refuse_all(alloc, &image)?
-    )?;
-    let image = real::with_attributes(alloc, &image, UNLOCKED)?;
-    print_set(rt, LOCKED, &image)?;
-    print_story(rt, LOCKED, &image)
+    let items = real::refuse_all(rt.alloc(), &image)?;
+    println!(rt; "{LOCKED}: {items} items refused")?;
+    let unlocked = real::with_attributes(rt.alloc(), &image, UNLOCKED)?;
+    print_open(rt, LOCKED, &unlocked)
+}
+
+/// Changes the volumes beside the program.
+pub fn print_changes(rt: &HostRuntime) -> Result<()> {
+    print_narrow(rt)?;
+    let image = fs::read(rt, ROOMY)?;
+    print_open(rt, ROOMY, &image)?;
+    print_locked(rt)
 }
 
 /// Writes the image that some calls leave of a file's: `set`, with each item dated and each file typed and locked; `unlock`, with each

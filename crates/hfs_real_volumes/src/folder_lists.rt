@@ -1,12 +1,37 @@
 //! Every folder of a mounted volume, in the lines of `hfs_tool ls`: the items of the root, and behind them those of the
 //! folders among them, in their order. It is what stands beside `hls -laR` of hfsutils in `tests/times.sh`.
 
+use crate::folders::push_folders;
 use anyhow::{Result, bail, ensure};
 use hfs_commands::children_text;
-use hfs_model::{ItemKind, Reply, Value};
+use hfs_model::{Reply, Value};
 use hfs_volume::Volume;
-use std::alloc::{AllocError, Global};
+use std::alloc::Global;
 use std::io::{BufWriter, Write};
+
+/// Writes the lines of a list.
+fn write_lines<W: Write>(alloc: Global, out: &mut W, reply: &Reply) -> Result<()> {
+    let (status, lines) = children_text(alloc, reply)?;
+    ensure!(status == 0, "a folder is not listed");
+    out.write_all(lines.as_bytes())?;
+    Ok(())
+}
+
+/// Writes the lines of a folder, and puts the folders among its items on the pile of those that wait.
+fn write_folder<W: Write>(
+    alloc: Global,
+    out: &mut W,
+    volume: &Volume,
+    dir: u32,
+    waiting: &mut Vec<u32>,
+) -> Result<()> {
+    let reply = volume.list_in_brief(alloc, dir)?;
+    write_lines(alloc, out, &reply)?;
+    if let Value::Many(items) = &reply.value {
+        push_folders(items.as_slice(), waiting)?;
+    }
+    Ok(())
+}
 
 /// Writes the lines of each folder, of which there are at most so many.
 fn write_folders<W: Write>(alloc: Global, out: &mut W, volume: &Volume, most: usize) -> Result<()> {
@@ -16,26 +41,9 @@ fn write_folders<W: Write>(alloc: Global, out: &mut W, volume: &Volume, most: us
         let Some(dir) = waiting.pop() else {
             return Ok(());
         };
-        let reply = volume.list_in_brief(alloc, dir)?;
-        let (status, lines) = children_text(alloc, &reply)?;
-        ensure!(status == 0, "a folder is not listed");
-        out.write_all(lines.as_bytes())?;
-        push_folders(&reply, &mut waiting)?;
+        write_folder(alloc, out, volume, dir, &mut waiting)?;
     }
     bail!("there are more folders than that")
-}
-
-/// Puts the folders among the items of a list on the pile of those that wait, the first on top.
-fn push_folders(reply: &Reply, waiting: &mut Vec<u32>) -> Result<(), AllocError> {
-    let Value::Many(items) = &reply.value else {
-        return Ok(());
-    };
-    for item in items.as_slice().iter().rev() {
-        if item.kind == ItemKind::Folder {
-            waiting.push(item.id)?;
-        }
-    }
-    Ok(())
 }
 
 /// Prints the lines of every folder of a volume, of which there are at most so many.

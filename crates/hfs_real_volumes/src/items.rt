@@ -2,6 +2,7 @@
 
 use hfs_catalog::{CatalogItem, ItemRecord};
 use hfs_fields::{CatKey, Name};
+use hfs_model::{Info, ItemKind};
 
 /// An item's ID.
 pub fn id_of(item: &CatalogItem) -> u32 {
@@ -27,6 +28,24 @@ pub fn is_same(found: Option<CatalogItem>, item: &CatalogItem) -> bool {
         _ => false,
     };
     is_body_same && are_keys_same(&found.key, &item.key)
+}
+
+/// Whether what is told of an item is what its record in the catalog has.
+pub fn is_told(item: &CatalogItem, info: &Info) -> bool {
+    let is_body_told = match item.body {
+        ItemRecord::Folder(folder) => {
+            info.kind == ItemKind::Folder
+                && info.id == folder.id
+                && info.valence == u32::from(folder.valence)
+        }
+        ItemRecord::File(file) => {
+            info.kind == ItemKind::File
+                && info.id == file.id
+                && info.data_len == file.data.length
+                && info.res_len == file.resource.length
+        }
+    };
+    is_body_told && info.parent == item.key.parent && info.name.bytes() == item.key.name.bytes()
 }
 
 /// A letter in the other case; any other byte itself.

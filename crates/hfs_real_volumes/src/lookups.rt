@@ -1,4 +1,4 @@
-//! Looks items up in each way, and names the ways that answer wrong.
+//! Looks items up in each way, and ends with the name of the way that answers wrong.
 
 use crate::catalog::Catalog;
 use crate::items::{are_keys_same, id_of, is_same, with_case_swapped};
@@ -61,41 +61,26 @@ fn has_its_children(
     Ok(count == usize::from(valence) && (count > 0 || catalog.lookup(id, &item.key.name).is_none()))
 }
 
-/// The ways in which an item is not found, each behind a tab. None where all is well.
-pub fn wrong_ways(alloc: Global, catalog: &Catalog<'_>, item: &CatalogItem) -> Result<String> {
-    let mut ways = String::new(alloc);
-    if !is_found(alloc, catalog, item)? {
-        ways.push_str("\tfind")?;
-    }
+/// An error where an item is not found in some way.
+pub fn ensure_found(alloc: Global, catalog: &Catalog<'_>, item: &CatalogItem) -> Result<()> {
+    ensure!(is_found(alloc, catalog, item)?, "find");
     let name = with_case_swapped(&item.key.name);
-    if !is_same(catalog.lookup(item.key.parent, &name), item) {
-        ways.push_str("\tlookup")?;
-    }
-    if !is_same(catalog.by_id(id_of(item)), item) {
-        ways.push_str("\tby_id")?;
-    }
-    if !is_threaded(catalog, item) {
-        ways.push_str("\tthread")?;
-    }
-    if !is_followed(alloc, catalog, item)? {
-        ways.push_str("\tnext_after")?;
-    }
-    if !has_its_children(alloc, catalog, item)? {
-        ways.push_str("\tchildren")?;
-    }
-    Ok(ways)
+    let named = catalog.lookup(item.key.parent, &name);
+    ensure!(is_same(named, item), "lookup");
+    ensure!(is_same(catalog.by_id(id_of(item)), item), "by_id");
+    ensure!(is_threaded(catalog, item), "thread");
+    ensure!(is_followed(alloc, catalog, item)?, "next_after");
+    ensure!(has_its_children(alloc, catalog, item)?, "children");
+    Ok(())
 }
 
 /// An error where the root is not found in each way.
 pub fn ensure_root(alloc: Global, catalog: &Catalog<'_>) -> Result<()> {
-    let root = catalog.by_id(2);
-    let Some(root) = root else {
+    let Some(root) = catalog.by_id(2) else {
         bail!("the root is not found");
     };
     ensure!(root.key.parent == 1, "the root is not under 1");
-    let ways = wrong_ways(alloc, catalog, &root)?;
-    ensure!(ways.is_empty(), "the root is not found in some way");
-    Ok(())
+    ensure_found(alloc, catalog, &root)
 }
 
 /// An error where an ID is found that no item has.

@@ -3,7 +3,7 @@
 //! folder, `f` for a file or `F` for a locked one, the ID, the parent, the valence or the length of the data fork, the length
 //! of the resource fork, the check sums of both forks, type and creator, the moments of creation, change and backup in Unix
 //! time, and the name, with tabs between; a folder has `-` for what only a file has. It is what the calls of the File Manager
-//! on the mounted volume tell; more words follow only where another call, a look-up in the catalog's tree, or the blocks of a
+//! on the mounted volume tell; the program ends with an error where another call, a look-up in the catalog's tree, or the blocks of a
 //! fork say something else. Then come the nodes of one catalog, written and read again, and the lines of `hfs_tool ls` for
 //! every folder of a volume.
 //!
@@ -20,7 +20,6 @@ mod changes;
 mod folder_lists;
 mod folders;
 mod image;
-mod infos;
 mod items;
 mod lines;
 mod list_times;
@@ -33,9 +32,14 @@ mod rows;
 mod sums;
 mod trees;
 
+use crate::catalog::Catalog;
+use crate::image::Image;
 use anyhow::{Result, bail, ensure};
 use hfs_check::report;
 use hfs_commands::load_file;
+use hfs_real_changes::copied;
+use hfs_volume::Volume;
+use hfs_volume_fixtures::mounted;
 use std::{env, fs};
 
 /// The volumes that are sound.
@@ -53,19 +57,20 @@ const WORDS: &str =
     "the words are: [folders FILE | time FILE | change [set | unlock | story] FILE OUT]";
 
 fn main(rt: HostRuntime) -> Result<()> {
-    let mut words = env::args(&rt)?;
-    let _program = words.next();
-    let Some(first) = words.next() else {
-        return print_volumes(&rt);
+    let words = env::args(&rt)?.collect::<Vec<String>>(rt.alloc())?;
+    obey(&rt, &words)
+}
+
+/// Does what the words behind the program's own say.
+fn obey(rt: &HostRuntime, words: &[String]) -> Result<()> {
+    let Some(word) = words.get(1) else {
+        return print_volumes(rt);
     };
-    let Some(file) = words.next() else {
-        bail!(WORDS);
-    };
-    match (first.as_str(), words.next(), words.next()) {
-        ("folders", None, None) => print_folders(&rt, file.as_str()),
-        ("time", None, None) => print_times(&rt, file.as_str()),
-        ("change", Some(image), Some(out)) => {
-            changes::write_changed(&rt, file.as_str(), image.as_str(), out.as_str())
+    match (word.as_str(), words.get(2), words.get(3), words.get(4)) {
+        ("folders", Some(file), None, None) => print_folders(rt, file.as_str()),
+        ("time", Some(file), None, None) => print_times(rt, file.as_str()),
+        ("change", Some(calls), Some(file), Some(out)) => {
+            changes::write_changed(rt, calls.as_str(), file.as_str(), out.as_str())
         }
         _ => bail!(WORDS),
     }
@@ -100,23 +105,56 @@ fn print_volume(rt: &HostRuntime, name: &str) -> Result<()> {
     let bytes = fs::read(rt, name)?;
     let told = report(rt.alloc(), &bytes)?;
     reports::print_report(rt, name, &told)?;
-    let mut volume = asking::mounted(rt.alloc(), Vec::from_slice(rt.alloc(), &bytes)?)?;
-    let image = image::open(&bytes)?;
-    ensure!(
-        image.free_count() == told.free,
-        "the bitmap has another count"
-    );
+    print_trees(rt, name, &bytes, told.free)
+}
+
+/// Prints that the trees of a volume with so many free blocks are sound, and all its items.
+fn print_trees(rt: &HostRuntime, name: &str, bytes: &[u8], free: u32) -> Result<()> {
+    let image = image::open(bytes)?;
+    let is_count = image.free_count() == free;
+    ensure!(is_count, "the bitmap has another count");
     let nodes = trees::catalog_nodes(rt.alloc(), &image)?;
-    let catalog = catalog::check(rt.alloc(), &image.mdb, &nodes)?;
+    print_catalog(rt, name, bytes, &image, &nodes)
+}
+
+/// Prints that a volume's trees are sound, and all its items.
+fn print_catalog(
+    rt: &HostRuntime,
+    name: &str,
+    bytes: &[u8],
+    image: &Image<'_>,
+    nodes: &[[u8; 512]],
+) -> Result<()> {
+    let catalog = catalog::check(rt.alloc(), &image.mdb, nodes)?;
+    let (depth, free) = (catalog.depth(), catalog.free_nodes());
     println!(rt;
-        "{name} extents tree sound, catalog tree sound, depth {}, {} nodes free",
-        catalog.depth(),
-        catalog.free_nodes()
+        "{name} extents tree sound, catalog tree sound, depth {depth}, {free} nodes free"
     )?;
-    folders::print_all(rt, &mut volume, &image, &catalog)?;
-    rows::ensure_same(rt.alloc(), &volume)?;
+    print_items(rt, bytes, image, &catalog)?;
     lookups::ensure_root(rt.alloc(), &catalog)?;
     lookups::ensure_absent(rt.alloc(), &catalog, image.mdb.next_id)
+}
+
+/// Prints all items of a volume, and compares its rows with it.
+fn print_items(
+    rt: &HostRuntime,
+    bytes: &[u8],
+    image: &Image<'_>,
+    catalog: &Catalog<'_>,
+) -> Result<()> {
+    let mut volume = copied(rt.alloc(), bytes)?;
+    print_mounted(rt, &mut volume, image, catalog)
+}
+
+/// Prints all items of a mounted volume, and compares its rows with it.
+fn print_mounted(
+    rt: &HostRuntime,
+    volume: &mut Volume,
+    image: &Image<'_>,
+    catalog: &Catalog<'_>,
+) -> Result<()> {
+    folders::print_all(rt, volume, image, catalog)?;
+    rows::ensure_same(rt.alloc(), volume)
 }
 
 /// Prints the nodes of a volume's catalog.
@@ -135,17 +173,22 @@ fn print_folders(rt: &HostRuntime, file: &str) -> Result<()> {
     };
     // each folder has a record of more than one byte
     let most = image.len();
-    let volume = asking::mounted(rt.alloc(), image)?;
+    let volume = mounted(rt.alloc(), image)?;
     folder_lists::print_folders(rt, &volume, most)
 }
 
 /// Prints how long it takes to read and write the nodes of a volume's catalog, to list its folders, and to mount it.
 fn print_times(rt: &HostRuntime, file: &str) -> Result<()> {
     let bytes = fs::read(rt, file)?;
-    let image = image::open(&bytes)?;
+    print_catalog_times(rt, &bytes)?;
+    mount_times::print_mounting(rt, &bytes)
+}
+
+/// Prints how long it takes to read and write the nodes of a volume's catalog, and to list its folders.
+fn print_catalog_times(rt: &HostRuntime, bytes: &[u8]) -> Result<()> {
+    let image = image::open(bytes)?;
     let nodes = trees::catalog_nodes(rt.alloc(), &image)?;
     node_times::print_times(rt, &nodes)?;
     let catalog = catalog::check(rt.alloc(), &image.mdb, &nodes)?;
-    list_times::print_listing(rt, &catalog)?;
-    mount_times::print_mounting(rt, &bytes)
+    list_times::print_listing(rt, &catalog)
 }

@@ -1,7 +1,7 @@
 //! How long a volume takes to mount.
 
-use crate::asking::mounted;
 use anyhow::{Result, bail};
+use hfs_volume_fixtures::mounted;
 use std::rt::Clock;
 use std::time::Instant;
 

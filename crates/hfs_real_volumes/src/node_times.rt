@@ -1,52 +1,85 @@
 //! How long it takes to view, copy and write nodes.
 use anyhow::{Result, ensure};
 use hfs_node::{BLANK_NODE, Node, decode, encode, fits, view};
-use std::alloc::Global;
+use std::alloc::{AllocError, Global};
 use std::rt::Clock;
-use std::time::{Duration, Instant};
+use std::time::Instant;
 
 /// How many nodes are measured.
 const ROUNDS: usize = 1_000_000;
 
-/// Prints the nanoseconds that one node takes.
-pub fn print_times(rt: &(impl Print + AllocGlobal + Clock), nodes: &[[u8; 512]]) -> Result<()> {
-    let mut good = Vec::new(rt.alloc());
-    let mut copies = Vec::new(rt.alloc());
-    for bytes in nodes {
-        if let Ok(node) = decode(rt.alloc(), bytes) {
-            good.push(*bytes)?;
-            copies.push(node)?;
-        }
-    }
-    ensure!(!good.is_empty(), "the file has no node");
-    let start = Instant::now(rt)?;
-    let viewed = view_all(&good);
-    print_time(rt, "view", start.elapsed(rt)?, viewed)?;
-    let start = Instant::now(rt)?;
-    let copied = copy_all(rt.alloc(), &good);
-    print_time(rt, "decode", start.elapsed(rt)?, copied)?;
-    let start = Instant::now(rt)?;
-    let written = write_all(&copies);
-    print_time(rt, "encode", start.elapsed(rt)?, written)
+/// What is done with each node.
+#[derive(Clone, Copy)]
+enum Work {
+    View,
+    Decode,
+    Encode,
 }
 
-fn print_time(rt: &impl Print, what: &str, spent: Duration, sum: usize) -> Result<()> {
-    let each = spent.as_nanos() / ROUNDS as u128;
+/// The nodes of a file that can be viewed, and a copy of each.
+#[derive(Drop)]
+struct Good {
+    nodes: Vec<[u8; 512]>,
+    copies: Vec<Node>,
+}
+
+/// Prints the nanoseconds that one node takes.
+pub fn print_times(rt: &(impl Print + AllocGlobal + Clock), nodes: &[[u8; 512]]) -> Result<()> {
+    let good = good_nodes(rt.alloc(), nodes)?;
+    ensure!(!good.nodes.is_empty(), "the file has no node");
+    print_time(rt, "view", Work::View, &good)?;
+    print_time(rt, "decode", Work::Decode, &good)?;
+    print_time(rt, "encode", Work::Encode, &good)
+}
+
+/// The nodes that can be viewed.
+fn good_nodes(alloc: Global, nodes: &[[u8; 512]]) -> Result<Good, AllocError> {
+    let mut good = Good {
+        nodes: Vec::new(alloc),
+        copies: Vec::new(alloc),
+    };
+    for bytes in nodes {
+        if let Ok(node) = decode(alloc, bytes) {
+            good.nodes.push(*bytes)?;
+            good.copies.push(node)?;
+        }
+    }
+    Ok(good)
+}
+
+/// Does this with the nodes in turn, and prints how long one of them takes.
+fn print_time(
+    rt: &(impl Print + AllocGlobal + Clock),
+    what: &str,
+    work: Work,
+    good: &Good,
+) -> Result<()> {
+    let start = Instant::now(rt)?;
+    let sum = work_through(rt.alloc(), work, &good.nodes, &good.copies);
+    let each = start.elapsed(rt)?.as_nanos() / ROUNDS as u128;
     println!(rt; "{what}: {each} ns a node ({ROUNDS} nodes, checksum {sum})")?;
     Ok(())
 }
 
-/// Views the nodes in turn, with each record, and adds up the records' lengths.
-fn view_all(nodes: &[[u8; 512]]) -> usize {
+/// Does this with the nodes in turn, and adds up the lengths of their records, or the last bytes of what is written.
+fn work_through(alloc: Global, work: Work, nodes: &[[u8; 512]], copies: &[Node]) -> usize {
+    let mut out = BLANK_NODE;
     let mut sum = 0usize;
     for k in 0..ROUNDS {
-        if !nodes.is_empty() {
-            sum = sum.wrapping_add(viewed_length(&nodes[k % nodes.len()]));
+        if !nodes.is_empty() && nodes.len() == copies.len() {
+            let at = k % nodes.len();
+            let more = match work {
+                Work::View => viewed_length(&nodes[at]),
+                Work::Decode => copied_length(alloc, &nodes[at]),
+                Work::Encode => written_byte(&copies[at], &mut out),
+            };
+            sum = sum.wrapping_add(more);
         }
     }
     sum
 }
 
+/// The length of a node's records as it is viewed.
 fn viewed_length(bytes: &[u8; 512]) -> usize {
     let Ok(node) = view(bytes) else {
         return 0;
@@ -58,17 +91,7 @@ fn viewed_length(bytes: &[u8; 512]) -> usize {
     sum
 }
 
-/// Copies the nodes in turn, and adds up the records' lengths.
-fn copy_all(alloc: Global, nodes: &[[u8; 512]]) -> usize {
-    let mut sum = 0usize;
-    for k in 0..ROUNDS {
-        if !nodes.is_empty() {
-            sum = sum.wrapping_add(copied_length(alloc, &nodes[k % nodes.len()]));
-        }
-    }
-    sum
-}
-
+/// The length of the records of a node's copy.
 fn copied_length(alloc: Global, bytes: &[u8; 512]) -> usize {
     let Ok(node) = decode(alloc, bytes) else {
         return 0;
@@ -80,18 +103,7 @@ fn copied_length(alloc: Global, bytes: &[u8; 512]) -> usize {
     sum
 }
 
-/// Writes the nodes in turn, and adds up their last bytes.
-fn write_all(nodes: &[Node]) -> usize {
-    let mut out = BLANK_NODE;
-    let mut sum = 0usize;
-    for k in 0..ROUNDS {
-        if !nodes.is_empty() {
-            sum = sum.wrapping_add(written_byte(&nodes[k % nodes.len()], &mut out));
-        }
-    }
-    sum
-}
-
+/// The last byte but one of a node as it is written.
 fn written_byte(node: &Node, out: &mut [u8; 512]) -> usize {
     if !fits(node) {
         return 0;
