@@ -72,29 +72,40 @@ fn blocks_that_nobody_owns_are_told(rt: HostRuntime) -> Result<(), Fail> {
 }
 
 /// Whether the list of a folder has this exit status and these lines.
-fn is_listed(
+fn has_list(
     alloc: Global,
     volume: &Volume,
     dir: u32,
     status: u8,
     lines: &str,
-) -> Result<bool, AllocError> {
+) -> Result<bool, FixtureFault> {
     let (told, text) = list_text(alloc, volume, dir)?;
     Ok(told == status && text.as_str() == lines)
 }
 
+/// Whether the list of a folder of a small volume has this exit status and these lines.
+fn is_listed(
+    alloc: Global,
+    volume: SmallVolume,
+    dir: u32,
+    status: u8,
+    lines: &str,
+) -> Result<bool, FixtureFault> {
+    let volume = small_volume(alloc, volume)?;
+    has_list(alloc, &volume, dir, status, lines)
+}
+
 #[test]
 fn folders_are_listed(rt: HostRuntime) -> Result<(), Fail> {
-    let volume = small_volume(rt.alloc(), SmallVolume::New)?;
-    assert!(rt; is_listed(rt.alloc(), &volume, 2, 0, "")?);
-    assert!(rt; is_listed(rt.alloc(), &volume, 99, 3, "code -120\n")?);
+    assert!(rt; is_listed(rt.alloc(), SmallVolume::New, 2, 0, "")?);
+    assert!(rt; is_listed(rt.alloc(), SmallVolume::New, 99, 3, "code -120\n")?);
     Ok(())
 }
 
 #[test]
 fn files_are_listed(rt: HostRuntime) -> Result<(), Fail> {
-    let volume = small_volume(rt.alloc(), SmallVolume::OneFile)?;
-    assert!(rt; is_listed(rt.alloc(), &volume, 2, 0, "f\t16\t2000\t0\tf\n")?);
+    let lines = "f\t16\t2000\t0\tf\n";
+    assert!(rt; is_listed(rt.alloc(), SmallVolume::OneFile, 2, 0, lines)?);
     Ok(())
 }
 

@@ -176,10 +176,15 @@ fn fill_and_empty(alloc: Global, disk: &mut Disk) -> Result<()> {
     ensure_emptied(disk)
 }
 
+/// The disk whose catalog has 45,055 nodes.
+fn wide_disk(alloc: Global) -> Result<Disk> {
+    let image = wide_image(alloc)?;
+    Disk::new(alloc, image, CATALOG)
+}
+
 /// Fills a folder and empties it again, and tells how many children it had.
 pub fn crowd_folder(alloc: Global) -> Result<u32> {
-    let image = wide_image(alloc)?;
-    let mut disk = Disk::new(alloc, image, CATALOG)?;
+    let mut disk = wide_disk(alloc)?;
     fill_and_empty(alloc, &mut disk)?;
     Ok(MOST)
 }

@@ -2,7 +2,7 @@
 use crate::numbers::{ensure_code, ensure_number};
 use anyhow::{Result, bail};
 use hfs_btree::Header;
-use hfs_model::{Call, Value};
+use hfs_model::{Call, Reply, Value};
 use hfs_volume::Volume;
 use hfs_volume_fixtures::{mounted, mounted_again, reply_to, saved};
 use std::alloc::{AllocError, Global};
@@ -20,6 +20,11 @@ pub struct Disk {
 pub struct Told {
     pub code: i16,
     pub free: Option<(u32, u32)>,
+}
+
+/// The reply to a call, which is let go here alone: its proof is long where a function can end in more than one place.
+pub fn reply_of(alloc: Global, volume: &mut Volume, call: Call) -> Result<Reply, AllocError> {
+    reply_to(volume, alloc, &call)
 }
 
 /// The header record of the tree that begins with this block.
@@ -90,7 +95,7 @@ impl Disk {
 
     /// Makes a call, and answers what is told of it.
     pub fn told(&mut self, call: Call) -> Result<Told, AllocError> {
-        let reply = reply_to(&mut self.volume, self.alloc, &call)?;
+        let reply = reply_of(self.alloc, &mut self.volume, call)?;
         Ok(Told {
             code: reply.code,
             free: told_free(&reply.value),

@@ -36,9 +36,14 @@ fn ensure_full(told: Told, header: Header, need: u64) -> Result<()> {
     Ok(())
 }
 
+/// Creates an item in the root, and answers what is told of it.
+fn told_of(alloc: Global, disk: &mut Disk, kind: Kind, number: u32) -> Result<Told, AllocError> {
+    disk.told(creation(alloc, kind, 2, number)?)
+}
+
 /// Creates an item in the root, and tells whether it came. Where it doesn't, the catalog has too few free nodes.
 fn is_created(alloc: Global, disk: &mut Disk, kind: Kind, number: u32) -> Result<bool> {
-    let told = disk.told(creation(alloc, kind, 2, number)?)?;
+    let told = told_of(alloc, disk, kind, number)?;
     if told.code == 0 {
         return Ok(true);
     }

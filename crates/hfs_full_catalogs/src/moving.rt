@@ -1,10 +1,11 @@
 //! How long it takes to move a folder into folders that lie in one another.
 use crate::creation::{Kind, creation, name};
+use crate::disk::reply_of;
 use crate::rounds::print_calls;
 use anyhow::{Result, bail};
 use hfs_model::{Call, Value};
 use hfs_volume::Volume;
-use hfs_volume_fixtures::{mounted, reply_to};
+use hfs_volume_fixtures::mounted;
 use std::alloc::{AllocError, Global};
 use std::rt::Clock;
 
@@ -17,9 +18,16 @@ const ROUNDS: u32 = 500;
 /// The ID of the root.
 const ROOT: u32 = 2;
 
+/// The depths at which a folder is moved, and the places of the folders that lie so deep.
+const DEPTHS: [(&'static str, usize); 3] = [
+    ("CatMove at depth 1", 0),
+    ("CatMove at depth 100", 99),
+    ("CatMove at depth 200", 199),
+];
+
 /// Makes a call, and answers the ID that it is answered, if it is one.
 fn id_of(alloc: Global, volume: &mut Volume, call: Call) -> Result<Option<u32>, AllocError> {
-    let reply = reply_to(volume, alloc, &call)?;
+    let reply = reply_of(alloc, volume, call)?;
     Ok(told_id(&reply.value))
 }
 
@@ -67,24 +75,50 @@ fn move_of(alloc: Global, number: u32, dirs: (u32, u32), now: u32) -> Result<Cal
     })
 }
 
-/// The calls that move the folder of this number from the root into a folder and back.
+/// Puts the call that moves the folder of this number behind the others.
+fn push_move(
+    alloc: Global,
+    number: u32,
+    dirs: (u32, u32),
+    now: u32,
+    calls: &mut Vec<Call>,
+) -> Result<(), AllocError> {
+    calls.push(move_of(alloc, number, dirs, now)?)?;
+    Ok(())
+}
+
+/// Puts the calls that move the folder of this number from the root into a folder and back behind the others.
+fn push_moves(
+    alloc: Global,
+    number: u32,
+    new_dir: u32,
+    now: u32,
+    calls: &mut Vec<Call>,
+) -> Result<(), AllocError> {
+    push_move(alloc, number, (ROOT, new_dir), now, calls)?;
+    push_move(alloc, number, (new_dir, ROOT), now, calls)
+}
+
+/// The calls of all rounds.
 fn moves(alloc: Global, number: u32, new_dir: u32) -> Result<Vec<Call>, AllocError> {
     let mut calls = Vec::new(alloc);
     for round in 0..ROUNDS {
-        calls.push(move_of(alloc, number, (ROOT, new_dir), round)?)?;
-        calls.push(move_of(alloc, number, (new_dir, ROOT), round)?)?;
+        push_moves(alloc, number, new_dir, round, &mut calls)?;
     }
     Ok(calls)
 }
 
-/// Prints how long it takes to move a folder into another that lies so deep.
+/// Prints how long it takes to move a folder into another, if that is there.
 fn print_depth(
     rt: &(impl Print + AllocGlobal + Clock),
     volume: &mut Volume,
     what: &str,
-    dir: u32,
+    dir: Option<&u32>,
 ) -> Result<()> {
-    let calls = moves(rt.alloc(), DEPTH, dir)?;
+    let Some(dir) = dir else {
+        bail!("too few folders");
+    };
+    let calls = moves(rt.alloc(), DEPTH, *dir)?;
     print_calls(rt, what, volume, &calls)
 }
 
@@ -94,12 +128,10 @@ fn print_depths(
     volume: &mut Volume,
     ids: &[u32],
 ) -> Result<()> {
-    let (Some(first), Some(middle), Some(last)) = (ids.get(0), ids.get(99), ids.get(199)) else {
-        bail!("too few folders");
-    };
-    print_depth(rt, volume, "CatMove at depth 1", *first)?;
-    print_depth(rt, volume, "CatMove at depth 100", *middle)?;
-    print_depth(rt, volume, "CatMove at depth 200", *last)
+    for (what, place) in DEPTHS {
+        print_depth(rt, volume, what, ids.get(place))?;
+    }
+    Ok(())
 }
 
 /// Makes the folders of a volume, and prints how long moves take.
