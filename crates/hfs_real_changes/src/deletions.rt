@@ -47,9 +47,7 @@ fn delete_file(volume: &mut Volume, alloc: Global, file: &Info) -> Result<()> {
 
 /// Whether a report tells the same as before, but of so many files that are left.
 fn is_report_left(before: &Report, told: &Report, left: usize) -> bool {
-    told.unowned == before.unowned
-        && told.folders == before.folders
-        && told.files as usize == left
+    told.unowned == before.unowned && told.folders == before.folders && told.files as usize == left
 }
 
 /// The report on an image with so many files. An error where it is not sound, or anything of what is left has changed but the number and the date of folders.

@@ -54,7 +54,12 @@ fn make_home(volume: &mut Volume, alloc: Global) -> Result<u32> {
     for (place, deed, code, words) in [
         (first, Deed::Create, 0, "a file is not made"),
         (place, Deed::Delete, BUSY, "a folder with a file is deleted"),
-        (place, Deed::CatMove(home), BAD_MOVE, "a folder is put into itself"),
+        (
+            place,
+            Deed::CatMove(home),
+            BAD_MOVE,
+            "a folder is put into itself",
+        ),
         (first, Deed::Delete, 0, "a file is not deleted"),
     ] {
         ensure_done(volume, alloc, place, &deed, code, words)?;

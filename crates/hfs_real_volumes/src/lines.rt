@@ -39,7 +39,10 @@ fn print_end(rt: &(impl Print + AllocGlobal), info: &Info) -> Result<()> {
 /// Prints what a file's line has before its moments.
 fn print_file(rt: &impl Print, info: &Info, sums: Sums) -> Result<()> {
     let kind = if info.locked { "F" } else { "f" };
-    print!(rt; "{kind}\t{}\t{}\t{}\t{}", info.id, info.parent, info.data_len, info.res_len)?;
+    print!(rt;
+        "{kind}\t{}\t{}\t{}\t{}",
+        info.id, info.parent, info.data_len, info.res_len
+    )?;
     let [a, b, c, d, e, f, g, h, ..] = info.finder;
     print!(rt;
         "\t{:016x}\t{:016x}\t{:08x}/{:08x}",
@@ -55,7 +58,10 @@ fn print_file(rt: &impl Print, info: &Info, sums: Sums) -> Result<()> {
 pub fn print_info(rt: &(impl Print + AllocGlobal), info: &Info, sums: Option<Sums>) -> Result<()> {
     match sums {
         Some(sums) => print_file(rt, info, sums)?,
-        None => print!(rt; "d\t{}\t{}\t{}\t-\t-\t-\t-", info.id, info.parent, info.valence)?,
+        None => print!(rt;
+            "d\t{}\t{}\t{}\t-\t-\t-\t-",
+            info.id, info.parent, info.valence
+        )?,
     }
     print_end(rt, info)
 }

@@ -18,7 +18,12 @@ fn zeros(alloc: Global) -> Result<Vec<u8>, Fail> {
 #[test]
 fn a_line_that_does_not_read(rt: HostRuntime) -> Result<(), Fail> {
     let alloc = rt.alloc();
-    let second = fault(&rt, alloc, new_image(alloc, 6)?, b"1\tlist\t2\n9\tlist\t2\n");
+    let second = fault(
+        &rt,
+        alloc,
+        new_image(alloc, 6)?,
+        b"1\tlist\t2\n9\tlist\t2\n",
+    );
     assert!(rt; second == Some(ScriptFault::Line(2)));
     let first = fault(&rt, alloc, zeros(alloc)?, b"v1\tcreate\t2\ta\n");
     assert!(rt; first == Some(ScriptFault::Line(1)));

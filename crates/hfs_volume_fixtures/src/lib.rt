@@ -8,5 +8,7 @@ mod volumes;
 mod writers;
 
 pub use crate::calls::{create, delete, set_f_info};
-pub use crate::volumes::{mounted, mounted_again, patterned, reply_to, save_into, saved, small_volume};
+pub use crate::volumes::{
+    mounted, mounted_again, patterned, reply_to, save_into, saved, small_volume,
+};
 pub use crate::writers::{FrontWriter, LimitedWriter};
