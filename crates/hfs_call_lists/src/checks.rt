@@ -47,14 +47,6 @@ fn compare_digits(alloc: Global, image: &[u8], at: usize, digits: &[u8]) -> Resu
     Ok(())
 }
 
-/// A place, an older place and a count, as `PLACE OLD-PLACE COUNT` says.
-fn kept_places(text: &[u8]) -> Result<(usize, usize, usize)> {
-    let (at, behind) = first_number(text)?;
-    let (before, behind) = first_number(behind)?;
-    let count = number_of(behind)?;
-    Ok((at as usize, before as usize, count as usize))
-}
-
 /// Whether so many bytes at a place of an image are those at a place of another one.
 fn is_kept(image: &[u8], at: usize, old: &[u8], before: usize, count: usize) -> bool {
     let part = image.iter().skip(at).take(count);
@@ -64,10 +56,12 @@ fn is_kept(image: &[u8], at: usize, old: &[u8], before: usize, count: usize) -> 
 impl Lists {
     /// An error where a part of the image isn't what another part was, as `PLACE OLD-PLACE COUNT` says.
     pub fn compare_kept(&mut self, text: &[u8]) -> Result<()> {
-        let (at, before, count) = kept_places(text)?;
+        let (at, behind) = first_number(text)?;
+        let (before, behind) = first_number(behind)?;
+        let count = number_of(behind)? as usize;
         let image = self.image()?;
         ensure!(
-            is_kept(&image, at, &self.wanted, before, count),
+            is_kept(&image, at as usize, &self.wanted, before as usize, count),
             "other bytes"
         );
         Ok(())

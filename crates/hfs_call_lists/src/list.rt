@@ -102,12 +102,6 @@ fn call_of(alloc: Global, text: &[u8], now: u32) -> Result<Call> {
     }
 }
 
-/// The volumes of a stage.
-fn trio_of(alloc: Global, stage: Stage) -> Result<Trio> {
-    let Stage { image, plain } = stage;
-    Trio::new(alloc, &image, plain)
-}
-
 /// An answer's text from its code on: the number of the call, 0, and two tabs stand before it.
 fn behind_number(text: &str) -> &[u8] {
     let bytes = text.as_bytes();
@@ -144,11 +138,12 @@ impl Lists {
         Ok(())
     }
 
-    /// Forgets the list before, and counts this one.
-    fn forget(&mut self) {
+    /// Counts a list, which begins at the moment 0. The volumes of the list before go when its own are mounted.
+    fn begin(&mut self) -> Result<()> {
+        self.finish()?;
         self.count = self.count.wrapping_add(1);
         self.now = 0;
-        self.trio = None;
+        Ok(())
     }
 
     fn set_now(&mut self, text: &[u8]) -> Result<()> {
@@ -158,13 +153,7 @@ impl Lists {
 
     /// Begins a list with its volume.
     fn set_volume(&mut self, text: &[u8]) -> Result<()> {
-        self.finish()?;
-        self.forget();
-        self.set_stage(text)
-    }
-
-    /// Takes a volume as the one on which calls will be made.
-    fn set_stage(&mut self, text: &[u8]) -> Result<()> {
+        self.begin()?;
         let stage = Stage::of(self.alloc, text)?;
         self.want(&stage.image)?;
         self.stage = Some(stage);
@@ -208,17 +197,12 @@ impl Lists {
         lay_digits(self.alloc, &mut self.wanted, text)
     }
 
-    /// Mounts the volumes on which calls are made, if they aren't yet.
-    fn open(&mut self) -> Result<()> {
-        if let Some(stage) = self.stage.take() {
-            self.trio = Some(trio_of(self.alloc, stage)?);
-        }
-        Ok(())
-    }
-
     /// The volumes on which calls are made, mounted now if they aren't yet.
     pub(crate) fn trio(&mut self) -> Result<&mut Trio> {
-        self.open()?;
+        if let Some(stage) = self.stage.take() {
+            let Stage { image, plain } = stage;
+            self.trio = Some(Trio::new(self.alloc, &image, plain)?);
+        }
         match &mut self.trio {
             Some(trio) => Ok(trio),
             None => bail!("no volume"),
@@ -227,14 +211,10 @@ impl Lists {
 
     /// The text of the answer to a call.
     fn answer_to(&mut self, text: &[u8]) -> Result<String> {
-        let call = call_of(self.alloc, text, self.now)?;
-        self.make(&call)
-    }
-
-    /// Makes a call on the volumes. The text of the answer.
-    fn make(&mut self, call: &Call) -> Result<String> {
+        let (alloc, now) = (self.alloc, self.now);
         let trio = self.trio()?;
-        trio.make(call)
+        let call = call_of(alloc, text, now)?;
+        trio.make(&call)
     }
 
     /// Makes a call.

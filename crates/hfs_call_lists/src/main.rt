@@ -43,16 +43,11 @@ fn main(rt: HostRuntime) -> Result<()> {
 /// Runs the lists of a file, and prints how many there are.
 fn run_file(rt: &(impl Print + AllocGlobal), file: &str, text: &[u8]) -> Result<()> {
     let lines = read_lines(rt.alloc(), text)?;
-    run_lists(rt, file, &lines)
+    let mut lists = Lists::new(rt.alloc());
+    run_lines(rt, file, &mut lists, &lines)
 }
 
 /// Runs the lists of these lines, and prints how many there are.
-fn run_lists(rt: &(impl Print + AllocGlobal), file: &str, lines: &[Line<'_>]) -> Result<()> {
-    let mut lists = Lists::new(rt.alloc());
-    run_lines(rt, file, &mut lists, lines)
-}
-
-/// Runs these lines behind others, and prints how many lists there are.
 fn run_lines(
     rt: &(impl Print + AllocGlobal),
     file: &str,
