@@ -4,7 +4,7 @@ use crate::progress::Progress;
 use crate::words::{ForkWords, NewVolume, RunWords, Words};
 use hfs_check::MountFault;
 use hfs_commands::{
-    BlockSource, Fault, ImageFile, RepairAnswer, Status, check_text, code_text, list_text,
+    BlockSource, Fault, ImageFile, Ran, RepairAnswer, Status, check_text, code_text, list_text,
     load_file, load_script, needed_check_text, needed_fork, needed_list_text, open_image, put,
     refused_text, repair_answer, run_info, run_script_at, save_file, write_file, write_fork,
 };
@@ -129,12 +129,29 @@ fn print_whole_fork<'a>(
     image: Vec<u8>,
 ) -> Result<u8, Fault<'a>> {
     let volume = mounted(rt, image)?;
+    print_fork_of(rt, file, &volume)
+}
+
+/// Prints the bytes of a file's fork, out of a mounted volume.
+fn print_fork_of<'a>(
+    rt: &HostRuntime,
+    file: &ForkWords<'a>,
+    volume: &Volume,
+) -> Result<u8, Fault<'a>> {
     let (name, fork) = (file.name.as_bytes(), file.fork);
-    let reply = write_fork(rt.alloc(), &mut rt.stdout(), &volume, file.dir, name, fork)?;
-    if reply.code == 0 {
-        return Ok(Status::Done.number());
+    match write_fork(rt.alloc(), &mut rt.stdout(), volume, file.dir, name, fork) {
+        Ok(reply) => print_end(rt, &reply),
+        Err(fault) => Err(fault),
     }
-    print_code(rt, &reply)
+}
+
+/// Prints the code of a call that was refused, and nothing where it was done.
+fn print_end(rt: &HostRuntime, reply: &Reply) -> Result<u8, Fault<'static>> {
+    if reply.code == 0 {
+        Ok(Status::Done.number())
+    } else {
+        print_code(rt, reply)
+    }
 }
 
 /// Prints the bytes of a file's fork, of which the blocks are read where they are needed.
@@ -233,15 +250,18 @@ fn print_answers<'a, T: Threads + Wait + Sync>(
         script.as_slice(),
         run.now,
     ) {
-        Ok(ran) => {
-            if let Some(file) = run.out {
-                save_file(rt, file, &ran.volume)?;
-            }
-            print_lines(rt, ran.text.as_str())?;
-            Ok(Status::of_run(ran.whole).number())
-        }
+        Ok(ran) => print_ran(rt, run.out, &ran),
         Err(fault) => Err(Fault::of_run(fault)),
     }
+}
+
+/// Writes the changed image to its file, where one is given, and prints the answers.
+fn print_ran<'a>(rt: &HostRuntime, out: Option<&'a str>, ran: &Ran) -> Result<u8, Fault<'a>> {
+    if let Some(file) = out {
+        save_file(rt, file, &ran.volume)?;
+    }
+    print_lines(rt, ran.text.as_str())?;
+    Ok(Status::of_run(ran.whole).number())
 }
 
 /// Prints why an image is refused.

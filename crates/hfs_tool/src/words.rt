@@ -8,7 +8,7 @@ use hfs_model::Fork;
 use std::alloc::{AllocError, Global};
 
 /// What the words ask for.
-#[derive(Debug, Drop)]
+#[derive(Drop)]
 pub enum Words<'a> {
     /// `info IMAGE`: the fields of the master directory block; of standard input where there are no words.
     Info { image: Option<&'a str> },
@@ -27,7 +27,7 @@ pub enum Words<'a> {
 }
 
 /// A fork of a file, by the place of the file in an image.
-#[derive(Clone, Copy, Debug, PartialEq, Eq)]
+#[derive(Clone, Copy)]
 pub struct ForkWords<'a> {
     /// The path of the image.
     pub image: &'a str,
@@ -40,7 +40,7 @@ pub struct ForkWords<'a> {
 }
 
 /// A new volume, and the file that it is written to.
-#[derive(Clone, Copy, Debug, PartialEq, Eq)]
+#[derive(Clone, Copy)]
 pub struct NewVolume<'a> {
     /// The path of the file, whose contents are replaced.
     pub file: &'a str,
@@ -57,7 +57,7 @@ pub struct NewVolume<'a> {
 }
 
 /// A script that is run on an image.
-#[derive(Clone, Copy, Debug, PartialEq, Eq)]
+#[derive(Clone, Copy)]
 pub struct RunWords<'a> {
     /// The path of the image.
     pub image: &'a str,
@@ -79,9 +79,20 @@ fn image<'a>(alloc: Global) -> Arg<'a> {
     word(alloc, "IMAGE").help("The image of the bare volume, beginning with its boot blocks")
 }
 
-/// A number from 0 to 4,294,967,295 that has to be there.
-pub fn number<'a>(alloc: Global, name: &'a str) -> Arg<'a> {
-    word(alloc, name).value_parser(value_parser!(u32).range(0..=4294967295))
+/// Takes numbers from 0 to 4,294,967,295 alone.
+fn of_numbers(argument: Arg<'_>) -> Arg<'_> {
+    argument.value_parser(value_parser!(u32).range(0..=4294967295))
+}
+
+/// A number that has to be there.
+fn number<'a>(alloc: Global, name: &'a str) -> Arg<'a> {
+    of_numbers(word(alloc, name))
+}
+
+/// A number that has this value where it isn't given.
+fn number_or<'a>(alloc: Global, name: &'a str, default: &'a str) -> Arg<'a> {
+    let argument = Arg::new(alloc, name).action(ArgAction::Set);
+    of_numbers(argument).default_value(default)
 }
 
 /// A name of an item or a volume, which may begin with a hyphen.
@@ -91,12 +102,9 @@ fn name<'a>(alloc: Global) -> Arg<'a> {
 
 /// The moment of every change, 0 where it isn't given.
 fn moment<'a>(alloc: Global) -> Arg<'a> {
-    Arg::new(alloc, "now")
+    number_or(alloc, "now", "0")
         .long("now")
         .value_name("N")
-        .action(ArgAction::Set)
-        .value_parser(value_parser!(u32).range(0..=4294967295))
-        .default_value("0")
         .help("The moment, in seconds since midnight of 1 January 1904")
 }
 
@@ -150,32 +158,39 @@ After a fault its text is printed where the result would have been: test the sta
 
 /// The program's command, with a subcommand for each word.
 fn command<'a>(alloc: Global) -> Result<Command<'a>, AllocError> {
-    let bare = Command::new(alloc, "hfs_tool")
+    let with_info = with_word(Ok(bare_command(alloc)), info_command(alloc));
+    let with_check = with_word(with_info, check_command(alloc));
+    let with_list = with_word(with_check, list_command(alloc));
+    let with_cat = with_word(with_list, cat_command(alloc));
+    let with_new = with_word(with_cat, new_command(alloc));
+    let with_repair = with_word(with_new, repair_command(alloc));
+    with_word(with_repair, run_command(alloc))
+}
+
+/// The program's command, with no word yet.
+fn bare_command<'a>(alloc: Global) -> Command<'a> {
+    Command::new(alloc, "hfs_tool")
         .about(
             "Reads and checks HFS volumes, runs scripts on them, mends their counts, and makes new ones. With no words: info on standard input",
         )
         .version(VERSION)
-        .after_help(AFTER_HELP);
-    let reading = with_reading_words(alloc, bare)?;
-    let with_new = with_word(reading, new_command(alloc))?;
-    let with_repair = with_word(with_new, repair_command(alloc))?;
-    with_word(with_repair, run_command(alloc))
+        .after_help(AFTER_HELP)
 }
 
-/// A command with one subcommand more.
+/// A command with one subcommand more, where memory sufficed for both.
 fn with_word<'a>(
-    command: Command<'a>,
+    command: Result<Command<'a>, AllocError>,
     word: Result<Command<'a>, AllocError>,
 ) -> Result<Command<'a>, AllocError> {
-    command.subcommand(word?)
+    command?.subcommand(word?)
 }
 
-/// A command with the words that read an image.
-fn with_reading_words<'a>(alloc: Global, bare: Command<'a>) -> Result<Command<'a>, AllocError> {
-    let with_info = with_word(bare, info_command(alloc))?;
-    let with_check = with_word(with_info, check_command(alloc))?;
-    let with_list = with_word(with_check, list_command(alloc))?;
-    with_word(with_list, cat_command(alloc))
+/// A command with one argument more, where memory sufficed for it.
+fn with_argument<'a>(
+    command: Result<Command<'a>, AllocError>,
+    argument: Arg<'a>,
+) -> Result<Command<'a>, AllocError> {
+    command?.arg(argument)
 }
 
 fn info_command<'a>(alloc: Global) -> Result<Command<'a>, AllocError> {
@@ -193,20 +208,16 @@ fn check_command<'a>(alloc: Global) -> Result<Command<'a>, AllocError> {
 
 /// The ID of a folder, the root's where it isn't given.
 fn folder<'a>(alloc: Global) -> Arg<'a> {
-    Arg::new(alloc, "DIR")
-        .action(ArgAction::Set)
-        .value_parser(value_parser!(u32).range(0..=4294967295))
-        .default_value("2")
-        .help("The ID of the folder")
+    number_or(alloc, "DIR", "2").help("The ID of the folder")
 }
 
 fn list_command<'a>(alloc: Global) -> Result<Command<'a>, AllocError> {
-    Command::new(alloc, "ls")
+    let with_image = Command::new(alloc, "ls")
         .about(
             "Prints a line for each child of a folder: kind, ID, valence or data length, 0 or resource length, name",
         )
-        .arg(image(alloc))?
-        .arg(folder(alloc))
+        .arg(image(alloc));
+    with_argument(with_image, folder(alloc))
 }
 
 /// The choice of a file's resource fork.
@@ -218,32 +229,39 @@ fn resource<'a>(alloc: Global) -> Arg<'a> {
 }
 
 fn cat_command<'a>(alloc: Global) -> Result<Command<'a>, AllocError> {
-    Command::new(alloc, "cat")
+    let with_image = Command::new(alloc, "cat")
         .about("Writes the bytes of a file's fork, and nothing else")
-        .arg(image(alloc))?
-        .arg(number(alloc, "DIR").help("The ID of the folder that holds the file"))?
-        .arg(name(alloc).help("The file's name"))?
-        .arg(resource(alloc))
+        .arg(image(alloc));
+    let dir = number(alloc, "DIR").help("The ID of the folder that holds the file");
+    let with_dir = with_argument(with_image, dir);
+    let with_name = with_argument(with_dir, name(alloc).help("The file's name"));
+    with_argument(with_name, resource(alloc))
 }
 
 fn new_command<'a>(alloc: Global) -> Result<Command<'a>, AllocError> {
-    Command::new(alloc, "new")
+    let file = word(alloc, "FILE").help("The file that is written; what it has is lost");
+    let with_file = Command::new(alloc, "new")
         .about("Writes a new, empty volume, in place of what the file has")
-        .arg(word(alloc, "FILE").help("The file that is written; what it has is lost"))?
-        .arg(name(alloc).help("The volume's name, 1 to 27 characters"))?
-        .arg(number(alloc, "BLOCKS").help("Blocks of 512 bytes, 8 to 4,194,304"))?
-        .arg(number(alloc, "NODES").help("Nodes of the catalog, at least 2"))?
-        .arg(number(alloc, "EXTENTS").help("Nodes of the extents file, at least 1"))?
-        .arg(moment(alloc))
+        .arg(file);
+    let volume = name(alloc).help("The volume's name, 1 to 27 characters");
+    let with_name = with_argument(with_file, volume);
+    let blocks = number(alloc, "BLOCKS").help("Blocks of 512 bytes, 8 to 4,194,304");
+    let with_blocks = with_argument(with_name, blocks);
+    let nodes = number(alloc, "NODES").help("Nodes of the catalog, at least 2");
+    let with_nodes = with_argument(with_blocks, nodes);
+    let extents = number(alloc, "EXTENTS").help("Nodes of the extents file, at least 1");
+    let with_extents = with_argument(with_nodes, extents);
+    with_argument(with_extents, moment(alloc))
 }
 
 fn repair_command<'a>(alloc: Global) -> Result<Command<'a>, AllocError> {
-    Command::new(alloc, "repair")
+    let with_image = Command::new(alloc, "repair")
         .about("Writes a volume with its counts mended, where nothing else is wrong")
-        .arg(image(alloc))?
-        .arg(word(alloc, "FILE").help(
-            "The file that is written, in place of what it has; it may be the image",
-        ))
+        .arg(image(alloc));
+    let file = word(alloc, "FILE").help(
+        "The file that is written, in place of what it has; it may be the image",
+    );
+    with_argument(with_image, file)
 }
 
 /// The file of a changed image.
@@ -256,39 +274,59 @@ fn out<'a>(alloc: Global) -> Arg<'a> {
 }
 
 fn run_command<'a>(alloc: Global) -> Result<Command<'a>, AllocError> {
-    Command::new(alloc, "run")
+    let with_image = Command::new(alloc, "run")
         .about(
             "Runs a script of calls by several workers and viewers at once, and prints the answers",
         )
         .after_help(RUNS)
-        .arg(image(alloc))?
-        .arg(word(alloc, "SCRIPT").help("The calls, one a line; docs/SCRIPTS.md has the language"))?
-        .arg(moment(alloc))?
-        .arg(out(alloc))
+        .arg(image(alloc));
+    let script = word(alloc, "SCRIPT").help(
+        "The calls, one a line; docs/SCRIPTS.md has the language",
+    );
+    let with_script = with_argument(with_image, script);
+    let with_now = with_argument(with_script, moment(alloc));
+    with_argument(with_now, out(alloc))
 }
 
 /// Reads the words, the first of which is the program's own name. An error is clap's: help that was asked for, refused
 /// words, or want of memory, told apart by its kind.
 pub fn read_words<'a>(alloc: Global, words: &'a [String]) -> Result<Words<'a>, Error> {
-    let matches = command(alloc)?.try_get_matches_from(words)?;
-    Ok(match matches.subcommand() {
-        Some(("check", inner)) => Words::Check {
+    let matches = matches_of(alloc, words)?;
+    Ok(words_of(&matches))
+}
+
+/// What the program's command finds in the words.
+fn matches_of<'a>(alloc: Global, words: &'a [String]) -> Result<ArgMatches<'a>, Error> {
+    command(alloc)?.try_get_matches_from(words)
+}
+
+/// What the words ask for, by what was found in them.
+fn words_of<'a>(matches: &ArgMatches<'a>) -> Words<'a> {
+    match matches.subcommand() {
+        Some((word, inner)) => words_behind(word, inner),
+        None => Words::Info { image: None },
+    }
+}
+
+/// What the words ask for behind the first of them.
+fn words_behind<'a>(word: &str, inner: &ArgMatches<'a>) -> Words<'a> {
+    match word {
+        "check" => Words::Check {
             image: text_of(inner, "IMAGE"),
         },
-        Some(("ls", inner)) => Words::List {
+        "ls" => Words::List {
             image: text_of(inner, "IMAGE"),
             dir: number_of(inner, "DIR"),
         },
-        Some(("cat", inner)) => cat_words(inner),
-        Some(("new", inner)) => new_words(inner),
-        Some(("repair", inner)) => Words::Repair {
+        "cat" => cat_words(inner),
+        "new" => new_words(inner),
+        "repair" => Words::Repair {
             image: text_of(inner, "IMAGE"),
             file: text_of(inner, "FILE"),
         },
-        Some(("run", inner)) => run_words(inner),
-        Some((_, inner)) => info_words(inner),
-        None => Words::Info { image: None },
-    })
+        "run" => run_words(inner),
+        _ => info_words(inner),
+    }
 }
 
 fn info_words<'a>(matches: &ArgMatches<'a>) -> Words<'a> {
