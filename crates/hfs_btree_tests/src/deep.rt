@@ -5,6 +5,8 @@ ghost use Rattle.hfs_btree_tests.specs.Laid.{deep_header, index_of, leaf_of};
 
 use hfs_btree::{Key, NodeList, Walk, depth, find, next_after};
 use hfs_fields::ExtKey;
+use std::alloc::{AllocError, Global};
+use std::process::Abort;
 use std::test::Fail;
 
 /// The header node: depth 3, root 1, first leaf 4, last leaf 7, four records, eight nodes, none of them free.
@@ -98,35 +100,78 @@ fn first_of(file: u32) -> ExtKey {
     }
 }
 
-#[test]
-fn keys_below_the_children(rt: HostRuntime) -> Result<(), Fail> {
+/// Whether the tree has a pair under the first key of this file.
+fn has(alloc: Global, file: u32) -> Result<bool, AllocError> {
+    let list = deep_tree();
+    let found = find(alloc, &NodeList { nodes: &list }, &first_of(file))?;
+    Ok(found.is_some())
+}
+
+/// The file of the first pair behind the first key of this file.
+fn follower(alloc: Global, file: u32) -> Result<Option<u32>, AllocError> {
+    let list = deep_tree();
+    match next_after(alloc, &NodeList { nodes: &list }, &first_of(file))? {
+        Some((key, _body)) => Ok(Some(key.file)),
+        None => Ok(None),
+    }
+}
+
+/// Wants the tree to have three levels, and a walk from the first key of file 15 on to come to the three pairs behind it.
+fn assert_walk(rt: &impl Abort) {
     let list = deep_tree();
     let nodes = NodeList { nodes: &list };
     assert!(rt; depth::<ExtKey, NodeList>(&nodes) == 3);
-    for file in [10, 20, 40, 50] {
-        assert!(rt;
-            find(rt.alloc(), &nodes, &first_of(file))?.is_some(),
-            "file {file}"
-        );
-    }
-    for file in [9, 15, 30, 35, 45, 51] {
-        assert!(rt;
-            find(rt.alloc(), &nodes, &first_of(file))?.is_none(),
-            "file {file}"
-        );
-    }
-    for (file, want) in [(9, 10), (10, 20), (20, 40), (30, 40), (35, 40), (40, 50)] {
-        let after = next_after(rt.alloc(), &nodes, &first_of(file))?;
-        let next = after.map(|pair| pair.0.file);
-        assert!(rt; next == Some(want), "after file {file}");
-    }
-    assert!(rt; next_after(rt.alloc(), &nodes, &first_of(50))?.is_none());
     let mut walk: Walk<ExtKey, NodeList> = Walk::from(&nodes, &first_of(15));
     for file in [20, 40, 50] {
-        let here = walk.pair().map(|pair| pair.key.file);
-        assert!(rt; here == Some(file), "file {file}");
+        let here = match walk.pair() {
+            Some(pair) => Some(pair.key.file),
+            None => None,
+        };
+        assert!(rt; here == Some(file));
         walk.advance();
     }
     assert!(rt; walk.pair().is_none());
+}
+
+/// Wants these files to have pairs or none.
+fn assert_found(rt: &(impl Abort + AllocGlobal), rows: &[(u32, bool)]) -> Result<(), Fail> {
+    for (file, want) in rows {
+        assert!(rt; has(rt.alloc(), *file)? == *want, "file {file}");
+    }
+    Ok(())
+}
+
+/// Wants pairs of these files to follow the first keys of others.
+fn assert_next(rt: &(impl Abort + AllocGlobal), rows: &[(u32, Option<u32>)]) -> Result<(), Fail> {
+    for (file, want) in rows {
+        assert!(rt; follower(rt.alloc(), *file)? == *want, "after file {file}");
+    }
+    Ok(())
+}
+
+#[test]
+fn keys_below_the_children(rt: HostRuntime) -> Result<(), Fail> {
+    let there = [(10, true), (20, true), (40, true), (50, true)];
+    assert_found(&rt, &there)?;
+    let missing = [
+        (9, false),
+        (15, false),
+        (30, false),
+        (35, false),
+        (45, false),
+        (51, false),
+    ];
+    assert_found(&rt, &missing)?;
+    let next = [
+        (9, Some(10)),
+        (10, Some(20)),
+        (20, Some(40)),
+        (30, Some(40)),
+        (35, Some(40)),
+        (40, Some(50)),
+        (50, None),
+    ];
+    assert_next(&rt, &next)?;
+    assert_walk(&rt);
     Ok(())
 }

@@ -41,13 +41,22 @@ fn put<S: NodesMut>(alloc: Global, nodes: &mut S) -> Result<bool, AllocError> {
     let Ok(_) = check_tree::<ExtKey, S>(alloc, nodes, 5632) else {
         return Ok(false);
     };
-    let Some(old) = find(alloc, nodes, &KEY)? else {
-        return Ok(false);
+    let len = match find(alloc, nodes, &KEY)? {
+        Some(old) => old.len(),
+        None => return Ok(false),
     };
-    if old.len() < 12 {
+    if len < 12 {
         return Ok(false);
     }
     replace(alloc, nodes, &KEY, &BODY)?;
+    has_body(alloc, nodes)
+}
+
+/// Whether the tree is sound and has the extents under the key.
+fn has_body<S: Nodes>(alloc: Global, nodes: &S) -> Result<bool, AllocError> {
+    if nodes.count() != 11 {
+        return Ok(false);
+    }
     let Ok(_) = check_tree::<ExtKey, S>(alloc, nodes, 5632) else {
         return Ok(false);
     };

@@ -17,13 +17,21 @@ fn is_leaf_record<K: Key>(
         return Ok(false);
     }
     let made = key.leaf_record(alloc, body)?;
-    let mut want = Vec::from_slice(alloc, head)?;
-    want.extend_from_slice(body)?;
-    let is_back = match K::read_leaf(&made) {
-        Some((back, start)) => back.compare(key).is_eq() && start == head.len(),
+    Ok(is_read_leaf(&made, key, head.len()) && is_joined(&made, head, body))
+}
+
+/// Whether a leaf's record is read back as this key and a body from this byte on.
+fn is_read_leaf<K: Key>(record: &[u8], key: &K, start: usize) -> bool {
+    match K::read_leaf(record) {
+        Some((back, from)) => back.compare(key).is_eq() && from == start,
         None => false,
-    };
-    Ok(made.as_slice() == want.as_slice() && is_back)
+    }
+}
+
+/// Whether bytes are those of a head and then those of a body.
+fn is_joined(bytes: &[u8], head: &[u8], body: &[u8]) -> bool {
+    let len = head.len();
+    len <= bytes.len() && &bytes[..len] == head && &bytes[len..] == body
 }
 
 /// Whether the record of an index node with this key and this child is these bytes, and is read back.

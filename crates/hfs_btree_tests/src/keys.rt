@@ -1,31 +1,26 @@
 //! The order of leaf keys, a test of each key, and walks, of trees whose order isn't known.
 ghost use Rattle.std.specs.Prelude.{◌||◌, ◌==◌};
 
-use crate::trees::{Edit, apply, deep_tree, empty_tree, header_node, put};
+use crate::trees::{Edit, deep_tree, edited, empty_tree, header_node, put};
 use hfs_btree::{NodeList, Walk};
 use hfs_btree_checks::{KeyTest, ShapedTree, TreeFault, check_shape, index_keys};
 use hfs_fields::{CatKey, ExtKey};
 use std::process::Abort;
 use std::test::Fail;
 
-/// The deep tree with these edits.
-fn edited(rt: &impl Abort, edits: &[Edit]) -> [[u8; 512]; 11] {
-    let mut nodes = deep_tree();
-    for change in edits {
-        apply(rt, &mut nodes, *change);
-    }
-    nodes
-}
-
 /// Asks for the first leaf key of the deep tree with these edits that doesn't rise: its leaf and its number, or none.
 fn assert_rise(rt: &(impl Abort + AllocGlobal), edits: &[Edit], want: Option<(u32, usize)>) {
-    let nodes = edited(rt, edits);
+    let nodes = edited(rt, deep_tree(), edits);
     let list = NodeList { nodes: &nodes };
     let Ok(tree) = ShapedTree::<ExtKey, NodeList>::of(rt.alloc(), &list, 5632) else {
         panic!(rt; "the tree hasn't its shape");
     };
-    assert!(rt; tree.leaf_order_fault() == want.map(|at| at.0));
-    assert!(rt; tree.rise_fault() == want.map(|at| at.1));
+    let (leaf, number) = match want {
+        Some((leaf, number)) => (Some(leaf), Some(number)),
+        None => (None, None),
+    };
+    assert!(rt; tree.leaf_order_fault() == leaf);
+    assert!(rt; tree.rise_fault() == number);
 }
 
 #[test]
@@ -67,7 +62,11 @@ fn assert_names(rt: &(impl Abort + AllocGlobal), first: u8, second: u8, want: Op
         panic!(rt; "the tree hasn't its shape");
     };
     assert!(rt; tree.rise_fault() == want);
-    assert!(rt; tree.leaf_order_fault() == want.map(|_| 1));
+    let leaf = match want {
+        Some(_) => Some(1),
+        None => None,
+    };
+    assert!(rt; tree.leaf_order_fault() == leaf);
 }
 
 #[test]
@@ -93,7 +92,7 @@ impl KeyTest<ExtKey> for IsForkByte {
 
 /// Checks the fork bytes of the deep tree with these edits: a fault at this node, or none.
 fn assert_forks(rt: &(impl Abort + AllocGlobal), edits: &[Edit], want: Option<u32>) {
-    let nodes = edited(rt, edits);
+    let nodes = edited(rt, deep_tree(), edits);
     let list = NodeList { nodes: &nodes };
     let Ok(tree) = ShapedTree::<ExtKey, NodeList>::of(rt.alloc(), &list, 5632) else {
         panic!(rt; "the tree hasn't its shape");
@@ -118,6 +117,19 @@ fn fork_bytes(rt: HostRuntime) {
     assert_forks(&rt, &[put(8, 15, &[1]), put(6, 15, &[1])], Some(6));
 }
 
+/// Whether keys are of these files, in order.
+fn are_of(keys: &[ExtKey], files: &[u32]) -> bool {
+    if keys.len() != files.len() {
+        return false;
+    }
+    for (key, file) in keys.iter().zip(files) {
+        if key.file != *file {
+            return false;
+        }
+    }
+    true
+}
+
 /// Asks for the files of a tree's index keys.
 fn assert_index_files(
     rt: &(impl Abort + AllocGlobal),
@@ -129,10 +141,7 @@ fn assert_index_files(
         panic!(rt; "the tree hasn't its shape");
     };
     let keys: Vec<ExtKey> = index_keys(rt.alloc(), &list)?;
-    assert!(rt; keys.len() == want.len());
-    for (key, file) in keys.iter().zip(want) {
-        assert!(rt; key.file == *file);
-    }
+    assert!(rt; are_of(&keys, want));
     Ok(())
 }
 
@@ -150,7 +159,10 @@ fn assert_files(rt: &(impl Abort + AllocGlobal), nodes: &[[u8; 512]; 11], want: 
     };
     let mut walk: Walk<ExtKey, NodeList> = Walk::whole(&list);
     for file in want {
-        let here = walk.pair().map(|pair| pair.key.file);
+        let here = match walk.pair() {
+            Some(pair) => Some(pair.key.file),
+            None => None,
+        };
         assert!(rt; here == Some(*file));
         walk.advance();
     }
@@ -160,7 +172,7 @@ fn assert_files(rt: &(impl Abort + AllocGlobal), nodes: &[[u8; 512]; 11], want: 
 #[test]
 fn whole_walks(rt: HostRuntime) {
     assert_files(&rt, &deep_tree(), &[16, 17, 18, 19, 20]);
-    let nodes = edited(&rt, &[put(6, 19, &[3]), put(7, 19, &[3])]);
+    let nodes = edited(&rt, deep_tree(), &[put(6, 19, &[3]), put(7, 19, &[3])]);
     assert_files(&rt, &nodes, &[16, 17, 3, 3, 20]);
     assert_files(&rt, &empty_tree(), &[]);
 }

@@ -5,6 +5,8 @@ ghost use Rattle.hfs_btree_tests.specs.Laid.{header_bytes, leaf_bytes};
 
 use hfs_btree::{Key, NodeList, Walk, depth, find, free_nodes, next_after};
 use hfs_fields::ExtKey;
+use std::alloc::{AllocError, Global};
+use std::process::Abort;
 use std::test::Fail;
 
 /// The header node: depth 1, root, first and last leaf 1, one record, two nodes, none of them free.
@@ -48,29 +50,44 @@ fn at_block(block: u16) -> ExtKey {
     }
 }
 
-#[test]
-fn look_ups(rt: HostRuntime) -> Result<(), Fail> {
+/// The body under the key of this block.
+fn found(alloc: Global, block: u16) -> Result<Option<Vec<u8>>, AllocError> {
+    let list = laid_tree();
+    find(alloc, &NodeList { nodes: &list }, &at_block(block))
+}
+
+/// Whether the pair behind the key of this block is the record, where there is one.
+fn is_next(alloc: Global, block: u16) -> Result<Option<bool>, AllocError> {
+    let list = laid_tree();
+    match next_after(alloc, &NodeList { nodes: &list }, &at_block(block))? {
+        Some((key, body)) => Ok(Some(key == at_block(3) && body.len() == 12)),
+        None => Ok(None),
+    }
+}
+
+/// Wants the tree to have one level and no free node, and a walk from block 1 on to come to the record alone.
+fn assert_walk(rt: &impl Abort) {
     let list = laid_tree();
     let nodes = NodeList { nodes: &list };
-    let found = find(rt.alloc(), &nodes, &at_block(3))?;
-    let Some(body) = found else {
-        return Err(Fail::new("not found"));
-    };
-    assert!(rt; body.as_slice() == [0, 16, 0, 1, 0, 0, 0, 0, 0, 0, 0, 0].as_slice());
-    assert!(rt; find(rt.alloc(), &nodes, &at_block(0))?.is_none());
-    let after = next_after(rt.alloc(), &nodes, &at_block(0))?;
-    let Some((key, body)) = after else {
-        return Err(Fail::new("nothing follows"));
-    };
-    assert!(rt; key == at_block(3));
-    assert!(rt; body.len() == 12);
-    assert!(rt; next_after(rt.alloc(), &nodes, &at_block(3))?.is_none());
     assert!(rt; depth::<ExtKey, NodeList>(&nodes) == 1);
     assert!(rt; free_nodes::<ExtKey, NodeList>(&nodes) == 0);
     let mut walk: Walk<ExtKey, NodeList> = Walk::from(&nodes, &at_block(1));
-    let first = walk.pair().map(|pair| pair.key == at_block(3));
-    assert!(rt; first == Some(true));
+    let first = match walk.pair() {
+        Some(pair) => pair.key == at_block(3),
+        None => false,
+    };
+    assert!(rt; first);
     walk.advance();
     assert!(rt; walk.pair().is_none());
+}
+
+#[test]
+fn look_ups(rt: HostRuntime) -> Result<(), Fail> {
+    let body = [0, 16, 0, 1, 0, 0, 0, 0, 0, 0, 0, 0];
+    assert!(rt; found(rt.alloc(), 3)?.as_deref() == Some(body.as_slice()));
+    assert!(rt; found(rt.alloc(), 0)?.is_none());
+    assert!(rt; is_next(rt.alloc(), 0)? == Some(true));
+    assert!(rt; is_next(rt.alloc(), 3)?.is_none());
+    assert_walk(&rt);
     Ok(())
 }

@@ -2,11 +2,6 @@
 use hfs_blocks::{Blocks, ImageBytes, Run};
 use hfs_btree::{Nodes, RunNodes};
 
-/// Whether all bytes of a block are this one.
-fn is_filled(block: &[u8; 512], byte: u8) -> bool {
-    block.iter().all(|x| *x == byte)
-}
-
 #[test]
 fn nodes_follow_the_runs(rt: HostRuntime) {
     let mut image = [0u8; 3100];
@@ -40,6 +35,6 @@ fn nodes_follow_the_runs(rt: HostRuntime) {
     let mut block = [0; 512];
     for (n, byte) in [(0, 4), (1, 5), (2, 1), (3, 3)] {
         nodes.read(n, &mut block);
-        assert!(rt; is_filled(&block, byte), "node {n}");
+        assert!(rt; block == [byte; 512], "node {n}");
     }
 }

@@ -1,5 +1,5 @@
 //! Each rule of a tree's shape, broken once.
-use crate::trees::{assert_fault, deep_tree, empty_tree, header_node, leaf_node, put};
+use crate::trees::{assert_fault, deep_tree, empty_tree, header_node, leaf_node, narrow_node, put};
 use hfs_btree::NodeList;
 use hfs_btree_checks::{TreeFault, check_shape};
 use hfs_fields::ExtKey;
@@ -95,15 +95,6 @@ fn small_fault(alloc: Global, record: &[u8; 30], node: [u8; 512]) -> Option<Tree
     check_shape::<ExtKey, NodeList>(alloc, &list, 1024).err()
 }
 
-/// An index node of height 2 with one child.
-fn parent_of(child: u8) -> [u8; 512] {
-    let mut bytes = [0; 512];
-    bytes[8..12].copy_from_slice(&[0, 2, 0, 1]);
-    bytes[14..26].copy_from_slice(&[7, 0, 0, 0, 0, 16, 0, 3, 0, 0, 0, child]);
-    bytes[508..512].copy_from_slice(&[0, 26, 0, 14]);
-    bytes
-}
-
 #[test]
 fn trees_of_two_nodes(rt: HostRuntime) {
     let one_leaf = [
@@ -119,6 +110,8 @@ fn trees_of_two_nodes(rt: HostRuntime) {
     assert!(rt; small_fault(rt.alloc(), &two_records, leaf) == Some(TreeFault::At(0)));
     let mut two_levels = one_leaf;
     two_levels[1] = 2;
-    assert!(rt; small_fault(rt.alloc(), &two_levels, parent_of(1)) == Some(TreeFault::At(1)));
-    assert!(rt; small_fault(rt.alloc(), &two_levels, parent_of(9)) == Some(TreeFault::At(9)));
+    for child in [1, 9] {
+        let fault = small_fault(rt.alloc(), &two_levels, narrow_node(2, 16, child));
+        assert!(rt; fault == Some(TreeFault::At(child as u32)));
+    }
 }

@@ -49,7 +49,7 @@ fn index_node(left: u8, right: u8, height: u8, files: [u8; 2], children: [u8; 2]
 }
 
 /// An index node of this height without neighbours, with one child and the file of its key.
-fn narrow_node(height: u8, file: u8, child: u8) -> [u8; 512] {
+pub fn narrow_node(height: u8, file: u8, child: u8) -> [u8; 512] {
     let mut bytes = [0; 512];
     bytes[8..12].copy_from_slice(&[0, height, 0, 1]);
     bytes[14..26].copy_from_slice(&[7, 0, 0, 0, 0, file, 0, 3, 0, 0, 0, child]);
@@ -142,7 +142,7 @@ pub fn put(node: usize, at: usize, bytes: &[u8]) -> Edit<'_> {
 }
 
 /// Puts bytes into a node.
-pub fn apply(rt: &impl Abort, nodes: &mut [[u8; 512]], edit: Edit) {
+fn apply(rt: &impl Abort, nodes: &mut [[u8; 512]], edit: Edit) {
     let len = edit.bytes.len();
     assert!(rt; edit.node < nodes.len());
     assert!(rt; len <= 512);
@@ -153,7 +153,7 @@ pub fn apply(rt: &impl Abort, nodes: &mut [[u8; 512]], edit: Edit) {
 }
 
 /// The tree with these edits.
-fn edited(rt: &impl Abort, tree: [[u8; 512]; 11], edits: &[Edit]) -> [[u8; 512]; 11] {
+pub fn edited(rt: &impl Abort, tree: [[u8; 512]; 11], edits: &[Edit]) -> [[u8; 512]; 11] {
     let mut nodes = tree;
     for change in edits {
         apply(rt, &mut nodes, *change);

@@ -28,37 +28,51 @@ fn has_id(plain: &PlainVolume, name: &[u8]) -> bool {
     }
 }
 
+/// The file `f` made, and its ID.
+const MADE: [(Ask<'static>, u32); 2] = [
+    (Ask::Create(2, b"f"), 16),
+    (Ask::CreateId(2, b"f"), 16),
+];
+
+/// No second ID, and another name.
+const RENAMED: [(Ask<'static>, i16); 2] = [
+    (Ask::CreateId(2, b"f"), -1301),
+    (Ask::Rename(2, b"f", b"g"), 0),
+];
+
+/// A folder made, and the file moved into it.
+const MOVED: [(Ask<'static>, u32); 2] = [
+    (Ask::DirCreate(2, b"d"), 17),
+    (Ask::Move(2, b"g", 17), 0),
+];
+
 /// Makes the file `f` and its ID, and renames and moves the file, which is found by its ID each time.
 fn expect_followed(rt: &impl Abort, alloc: Global, plain: &mut PlainVolume) -> Result<(), Fail> {
-    let made = [(Ask::Create(2, b"f"), 16), (Ask::CreateId(2, b"f"), 16)];
-    expect_ids(rt, alloc, plain, &made)?;
+    expect_ids(rt, alloc, plain, &MADE)?;
     assert!(rt; has_id(plain, b"f") && is_in(plain, 16, 2, b"f"));
-    let renamed = [
-        (Ask::CreateId(2, b"f"), -1301),
-        (Ask::Rename(2, b"f", b"g"), 0),
-    ];
-    expect_codes(rt, alloc, plain, 0, &renamed)?;
+    expect_codes(rt, alloc, plain, 0, &RENAMED)?;
     assert!(rt; is_in(plain, 16, 2, b"g"));
-    let moved = [(Ask::DirCreate(2, b"d"), 17), (Ask::Move(2, b"g", 17), 0)];
-    expect_ids(rt, alloc, plain, &moved)?;
+    expect_ids(rt, alloc, plain, &MOVED)?;
     assert!(rt; is_in(plain, 16, 17, b"g"));
     Ok(())
 }
 
+/// Calls that delete IDs, and their codes.
+const DELETED: [(Ask<'static>, i16); 8] = [
+    (Ask::CreateId(2, b"d"), -1302),
+    (Ask::DeleteId(17), -1302),
+    (Ask::DeleteId(2), -1302),
+    (Ask::DeleteId(1), -1300),
+    (Ask::DeleteId(99), -1300),
+    (Ask::DeleteId(16), 0),
+    (Ask::DeleteId(16), -1300),
+    (Ask::Resolve(16), -1300),
+];
+
 /// Follows a file by its ID, which is then deleted.
 fn expect_deleted(rt: &impl Abort, alloc: Global, plain: &mut PlainVolume) -> Result<(), Fail> {
     expect_followed(rt, alloc, plain)?;
-    let rows = [
-        (Ask::CreateId(2, b"d"), -1302),
-        (Ask::DeleteId(17), -1302),
-        (Ask::DeleteId(2), -1302),
-        (Ask::DeleteId(1), -1300),
-        (Ask::DeleteId(99), -1300),
-        (Ask::DeleteId(16), 0),
-        (Ask::DeleteId(16), -1300),
-        (Ask::Resolve(16), -1300),
-    ];
-    expect_codes(rt, alloc, plain, 0, &rows)
+    expect_codes(rt, alloc, plain, 0, &DELETED)
 }
 
 /// The ID stays with the file, whatever its name and its folder.
@@ -68,15 +82,17 @@ fn an_id_follows_its_file(rt: HostRuntime) -> Result<(), Fail> {
     expect_deleted(&rt, rt.alloc(), &mut plain)
 }
 
+/// Calls that make a file with an ID and delete it, and their codes.
+const GONE: [(Ask<'static>, i16); 4] = [
+    (Ask::Create(2, b"f"), 0),
+    (Ask::CreateId(2, b"f"), 0),
+    (Ask::Delete(2, b"f"), 0),
+    (Ask::Resolve(16), -1300),
+];
+
 /// Makes a file with an ID, and deletes it.
 fn expect_gone(rt: &impl Abort, alloc: Global, plain: &mut PlainVolume) -> Result<(), Fail> {
-    let rows = [
-        (Ask::Create(2, b"f"), 0),
-        (Ask::CreateId(2, b"f"), 0),
-        (Ask::Delete(2, b"f"), 0),
-        (Ask::Resolve(16), -1300),
-    ];
-    expect_codes(rt, alloc, plain, 0, &rows)?;
+    expect_codes(rt, alloc, plain, 0, &GONE)?;
     assert!(rt; plain.valence(2) == 0);
     Ok(())
 }
@@ -92,21 +108,23 @@ fn an_id_goes_with_its_file(rt: HostRuntime) -> Result<(), Fail> {
 fn is_dated(plain: &PlainVolume) -> bool {
     match root_item(plain, b"f") {
         Some(file) => {
-            (file.created, file.modified, file.locked, file.has_id) == (5, 5, true, false)
+            file.created == 5 && file.modified == 5 && file.locked && !file.has_id
         }
         None => false,
     }
 }
 
+/// Calls that lock a file and make and delete its ID, and their codes.
+const UNDATED: [(Ask<'static>, i16); 3] = [
+    (Ask::Lock(2, b"f"), 0),
+    (Ask::CreateId(2, b"f"), 0),
+    (Ask::DeleteId(16), 0),
+];
+
 /// Makes a file at moment 5, and locks it and makes and deletes its ID at moment 9.
 fn expect_dates(rt: &impl Abort, alloc: Global, plain: &mut PlainVolume) -> Result<(), Fail> {
     assert!(rt; create(plain, 2, b"f", 5)? == 16);
-    let rows = [
-        (Ask::Lock(2, b"f"), 0),
-        (Ask::CreateId(2, b"f"), 0),
-        (Ask::DeleteId(16), 0),
-    ];
-    expect_codes(rt, alloc, plain, 9, &rows)?;
+    expect_codes(rt, alloc, plain, 9, &UNDATED)?;
     assert!(rt; is_dated(plain) && is_modified(plain, 2, 5));
     Ok(())
 }

@@ -7,7 +7,6 @@ use std::process::Abort;
 use std::test::Fail;
 
 /// A call whose names are borrowed.
-#[derive(Clone, Copy)]
 pub enum Ask<'a> {
     DirInfo(u32),
     Info(u32, &'a [u8]),
@@ -116,7 +115,7 @@ pub fn call_of(alloc: Global, ask: &Ask, now: u32) -> Result<Call, AllocError> {
 }
 
 /// The code of a call at that moment, and the ID that it answers, 0 where there is none.
-fn answer_of(
+pub fn answer_of(
     plain: &mut PlainVolume,
     alloc: Global,
     ask: &Ask,
@@ -155,8 +154,8 @@ pub fn expect_ids(
     rows: &[(Ask, u32)],
 ) -> Result<(), Fail> {
     for (row, (ask, id)) in rows.iter().enumerate() {
-        let found = answer_of(plain, alloc, ask, 0)?;
-        assert!(rt; found == (0, *id), "row {row}");
+        let (code, found) = answer_of(plain, alloc, ask, 0)?;
+        assert!(rt; code == 0 && found == *id, "row {row}");
     }
     Ok(())
 }

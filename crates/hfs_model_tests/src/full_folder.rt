@@ -46,21 +46,28 @@ fn fill(plain: &mut PlainVolume, first: u32, count: u32) -> Result<(), AllocErro
     Ok(())
 }
 
+/// A folder and a file in it.
+const BEFORE: [(Ask<'static>, i16); 2] = [
+    (Ask::DirCreate(2, b"x"), 0),
+    (Ask::Create(16, b"f"), 0),
+];
+
+/// Calls on a full root, and their codes.
+const AFTER: [(Ask<'static>, i16); 5] = [
+    (Ask::Create(2, b"n"), -33),
+    (Ask::DirCreate(2, b"n"), -33),
+    (Ask::Move(16, b"f", 2), -33),
+    (Ask::Create(16, b"n"), 0),
+    (Ask::Delete(16, b"f"), 0),
+];
+
 /// Fills the root, and wants it to take no more.
 fn expect_full(rt: &impl Abort, alloc: Global, plain: &mut PlainVolume) -> Result<(), Fail> {
-    let before = [(Ask::DirCreate(2, b"x"), 0), (Ask::Create(16, b"f"), 0)];
-    expect_codes(rt, alloc, plain, 0, &before)?;
+    expect_codes(rt, alloc, plain, 0, &BEFORE)?;
     assert!(rt; plain.valence(2) == 1 && plain.next_id() == 18);
     fill(plain, 18, 65534)?;
     assert!(rt; plain.valence(2) == 65535);
-    let rows = [
-        (Ask::Create(2, b"n"), -33),
-        (Ask::DirCreate(2, b"n"), -33),
-        (Ask::Move(16, b"f", 2), -33),
-        (Ask::Create(16, b"n"), 0),
-        (Ask::Delete(16, b"f"), 0),
-    ];
-    expect_codes(rt, alloc, plain, 0, &rows)
+    expect_codes(rt, alloc, plain, 0, &AFTER)
 }
 
 #[test]

@@ -17,7 +17,9 @@ const TOO_LONG: &[u8] = b"nnnnnnnnnnnnnnnnnnnnnnnnnnnnnnnn";
 
 /// Whether this is what is told of the root of a new volume.
 fn is_new_root(root: &Info) -> bool {
-    (root.parent, root.valence, root.kind) == (1, 0, ItemKind::Folder)
+    root.parent == 1
+        && root.valence == 0
+        && root.kind == ItemKind::Folder
         && root.name.bytes() == b"D".as_slice()
 }
 
@@ -30,22 +32,24 @@ fn expect_new(rt: &impl Abort, plain: &PlainVolume) -> Result<(), Fail> {
 
 /// Whether this is told of the root after a file is made in it at moment 5.
 fn has_one(root: &Info) -> bool {
-    (root.valence, root.modified, root.created) == (1, 5, 0)
+    root.valence == 1 && root.modified == 5 && root.created == 0
 }
+
+/// Calls that are refused, and their codes.
+const AFTER_THE_FIRST: [(Ask<'static>, i16); 5] = [
+    (Ask::Indexed(2, 0), -50),
+    (Ask::DirInfo(1), -120),
+    (Ask::DirInfo(3), -120),
+    (Ask::DirInfo(16), -120),
+    (Ask::Delete(2, b"q"), -43),
+];
 
 /// Makes the first file of a new volume.
 fn expect_first(rt: &impl Abort, alloc: Global, plain: &mut PlainVolume) -> Result<(), Fail> {
     expect_new(rt, plain)?;
     assert!(rt; create(plain, 2, b"f", 5)? == 16);
     assert!(rt; has_one(&folder(plain, 2).ok_or("folder")?));
-    let rows = [
-        (Ask::Indexed(2, 0), -50),
-        (Ask::DirInfo(1), -120),
-        (Ask::DirInfo(3), -120),
-        (Ask::DirInfo(16), -120),
-        (Ask::Delete(2, b"q"), -43),
-    ];
-    expect_codes(rt, alloc, plain, 0, &rows)
+    expect_codes(rt, alloc, plain, 0, &AFTER_THE_FIRST)
 }
 
 #[test]
@@ -54,34 +58,38 @@ fn a_new_volume(rt: HostRuntime) -> Result<(), Fail> {
     expect_first(&rt, rt.alloc(), &mut plain)
 }
 
+/// Four files made, and their IDs.
+const FOUR_FILES: [(Ask<'static>, u32); 4] = [
+    (Ask::Create(2, b"{"), 16),
+    (Ask::Create(2, b"_x"), 17),
+    (Ask::Create(2, b"B"), 18),
+    (Ask::Create(2, b"a"), 19),
+];
+
 /// Makes four files, which the root then has in the order of their names.
 fn expect_in_order(rt: &impl Abort, alloc: Global, plain: &mut PlainVolume) -> Result<(), Fail> {
-    let rows = [
-        (Ask::Create(2, b"{"), 16),
-        (Ask::Create(2, b"_x"), 17),
-        (Ask::Create(2, b"B"), 18),
-        (Ask::Create(2, b"a"), 19),
-    ];
-    expect_ids(rt, alloc, plain, &rows)?;
+    expect_ids(rt, alloc, plain, &FOUR_FILES)?;
     expect_children(rt, plain, &[b"a", b"B", b"_x", b"{"])
 }
+
+/// Calls that give names, and their codes.
+const NAMES: [(Ask<'static>, i16); 10] = [
+    (Ask::Create(2, b"Read Me"), 0),
+    (Ask::Create(2, b"READ ME"), -48),
+    (Ask::Create(2, LONG), 0),
+    (Ask::Create(2, TOO_LONG), -37),
+    (Ask::Create(2, b""), -37),
+    (Ask::Create(2, b"a:b"), -37),
+    (Ask::Create(2, b"a\x60b"), -37),
+    (Ask::Rename(2, b"a", b"A"), 0),
+    (Ask::Rename(2, b"A", b"x:y"), -37),
+    (Ask::Rename(9, b"A", b"x:y"), -37),
+];
 
 /// Makes four files and gives names, most of which are refused.
 fn expect_names(rt: &impl Abort, alloc: Global, plain: &mut PlainVolume) -> Result<(), Fail> {
     expect_in_order(rt, alloc, plain)?;
-    let rows = [
-        (Ask::Create(2, b"Read Me"), 0),
-        (Ask::Create(2, b"READ ME"), -48),
-        (Ask::Create(2, LONG), 0),
-        (Ask::Create(2, TOO_LONG), -37),
-        (Ask::Create(2, b""), -37),
-        (Ask::Create(2, b"a:b"), -37),
-        (Ask::Create(2, b"a\x60b"), -37),
-        (Ask::Rename(2, b"a", b"A"), 0),
-        (Ask::Rename(2, b"A", b"x:y"), -37),
-        (Ask::Rename(9, b"A", b"x:y"), -37),
-    ];
-    expect_codes(rt, alloc, plain, 0, &rows)?;
+    expect_codes(rt, alloc, plain, 0, &NAMES)?;
     assert!(rt; plain.next_id() == 22);
     expect_children(rt, plain, &[b"A", b"B", LONG, b"Read Me", b"_x", b"{"])
 }
@@ -142,13 +150,16 @@ fn expect_half(rt: &impl Abort, plain: &PlainVolume) -> Result<(), Fail> {
     Ok(())
 }
 
+/// The place behind the last child.
+const BEHIND_THE_LAST: [(Ask<'static>, i16); 1] = [(Ask::Indexed(2, 151), -43)];
+
 /// Makes 300 files, deletes every other one, and wants the rest to be there.
 fn expect_many(rt: &impl Abort, alloc: Global, plain: &mut PlainVolume) -> Result<(), Fail> {
     make_files(rt, plain)?;
     delete_half(rt, plain);
     assert!(rt; plain.next_id() == 316 && plain.valence(2) == 150);
     expect_half(rt, plain)?;
-    expect_codes(rt, alloc, plain, 0, &[(Ask::Indexed(2, 151), -43)])
+    expect_codes(rt, alloc, plain, 0, &BEHIND_THE_LAST)
 }
 
 /// 300 files, of which every other one is deleted.
@@ -158,34 +169,41 @@ fn half_of_many_files(rt: HostRuntime) -> Result<(), Fail> {
     expect_many(&rt, rt.alloc(), &mut plain)
 }
 
+/// Calls that make three folders and move the outermost into those within, and their codes.
+const FOLDERS: [(Ask<'static>, i16); 6] = [
+    (Ask::DirCreate(2, b"x"), 0),
+    (Ask::DirCreate(16, b"y"), 0),
+    (Ask::DirCreate(17, b"z"), 0),
+    (Ask::Move(2, b"x", 18), -122),
+    (Ask::Move(2, b"x", 17), -122),
+    (Ask::Move(2, b"x", 16), -122),
+];
+
+/// The middle folder moved into the root.
+const INTO_THE_ROOT: [(Ask<'static>, i16); 1] = [(Ask::Move(16, b"y", 2), 0)];
+
 /// Makes three folders, one in the other, and moves the second of them into the root at moment 9.
 fn move_folders(rt: &impl Abort, alloc: Global, plain: &mut PlainVolume) -> Result<(), Fail> {
-    let before = [
-        (Ask::DirCreate(2, b"x"), 0),
-        (Ask::DirCreate(16, b"y"), 0),
-        (Ask::DirCreate(17, b"z"), 0),
-        (Ask::Move(2, b"x", 18), -122),
-        (Ask::Move(2, b"x", 17), -122),
-        (Ask::Move(2, b"x", 16), -122),
-    ];
-    expect_codes(rt, alloc, plain, 0, &before)?;
-    expect_codes(rt, alloc, plain, 9, &[(Ask::Move(16, b"y", 2), 0)])
+    expect_codes(rt, alloc, plain, 0, &FOLDERS)?;
+    expect_codes(rt, alloc, plain, 9, &INTO_THE_ROOT)
 }
 
-/// Parent, valence and last change of a folder.
-fn numbers_of(plain: &PlainVolume, dir: u32) -> Option<(u32, u32, u32)> {
+/// Whether a folder has this parent, this valence and this last change.
+fn has_numbers(plain: &PlainVolume, dir: u32, parent: u32, valence: u32, modified: u32) -> bool {
     match folder(plain, dir) {
-        Some(info) => Some((info.parent, info.valence, info.modified)),
-        None => None,
+        Some(info) => {
+            info.parent == parent && info.valence == valence && info.modified == modified
+        }
+        None => false,
     }
 }
 
 /// Moves folders, and wants their numbers.
 fn expect_moved(rt: &impl Abort, alloc: Global, plain: &mut PlainVolume) -> Result<(), Fail> {
     move_folders(rt, alloc, plain)?;
-    for (dir, numbers) in [(17, (2, 1, 0)), (16, (2, 0, 9)), (2, (1, 2, 9))] {
-        assert!(rt; numbers_of(plain, dir) == Some(numbers), "folder {dir}");
-    }
+    assert!(rt; has_numbers(plain, 17, 2, 1, 0));
+    assert!(rt; has_numbers(plain, 16, 2, 0, 9));
+    assert!(rt; has_numbers(plain, 2, 1, 2, 9));
     Ok(())
 }
 
@@ -195,22 +213,24 @@ fn moves_of_folders(rt: HostRuntime) -> Result<(), Fail> {
     expect_moved(&rt, rt.alloc(), &mut plain)
 }
 
+/// Calls that lock and delete a file, and their codes.
+const LOCKS_AND_DELETES: [(Ask<'static>, i16); 11] = [
+    (Ask::DirCreate(2, b"x"), 0),
+    (Ask::Create(16, b"f"), 0),
+    (Ask::Delete(2, b"x"), -47),
+    (Ask::Lock(16, b"f"), 0),
+    (Ask::Delete(16, b"f"), -45),
+    (Ask::Rename(16, b"f", b"g"), -45),
+    (Ask::Unlock(16, b"f"), 0),
+    (Ask::Delete(16, b"f"), 0),
+    (Ask::Delete(2, b"x"), 0),
+    (Ask::Create(2, b"a"), 0),
+    (Ask::Move(2, b"a", 2), -48),
+];
+
 #[test]
 fn locks_and_deletes(rt: HostRuntime) -> Result<(), Fail> {
-    let rows = [
-        (Ask::DirCreate(2, b"x"), 0),
-        (Ask::Create(16, b"f"), 0),
-        (Ask::Delete(2, b"x"), -47),
-        (Ask::Lock(16, b"f"), 0),
-        (Ask::Delete(16, b"f"), -45),
-        (Ask::Rename(16, b"f", b"g"), -45),
-        (Ask::Unlock(16, b"f"), 0),
-        (Ask::Delete(16, b"f"), 0),
-        (Ask::Delete(2, b"x"), 0),
-        (Ask::Create(2, b"a"), 0),
-        (Ask::Move(2, b"a", 2), -48),
-    ];
-    expect_story(&rt, rt.alloc(), &rows)
+    expect_story(&rt, rt.alloc(), &LOCKS_AND_DELETES)
 }
 
 /// The first half of a file's Finder bytes.
@@ -236,33 +256,34 @@ fn locked(plain: &mut PlainVolume, name: &[u8]) -> i16 {
     plain.set_lock(true, 2, name, 10).code
 }
 
-/// Whether this is told of the file after the first half of its Finder bytes is set.
-fn is_half(info: &Info) -> bool {
-    (info.created, info.modified, info.backup) == (5, 5, 0)
-        && &info.finder[..16] == HALF.as_slice()
-        && &info.finder[16..] == [0; 16].as_slice()
+/// Whether a file is dated so.
+fn is_dated(info: &Info, created: u32, modified: u32, backup: u32) -> bool {
+    info.created == created && info.modified == modified && info.backup == backup
 }
 
-/// Whether that is told of the file of this name.
+/// Whether the file of this name is told of as it is after the first half of its Finder bytes is set.
 fn has_half(plain: &PlainVolume, name: &[u8]) -> bool {
     match root_item(plain, name) {
-        Some(info) => is_half(&info),
+        Some(info) => {
+            is_dated(&info, 5, 5, 0)
+                && &info.finder[..16] == HALF.as_slice()
+                && &info.finder[16..] == [0; 16].as_slice()
+        }
         None => false,
     }
 }
 
-/// Whether this is told of the file after all changes.
-fn is_all(info: &Info) -> bool {
-    (info.created, info.modified, info.backup) == (1, 2, 3)
-        && info.finder == [0xaa; 32]
-        && info.name.bytes() == b"F".as_slice()
-        && (info.locked, info.has_id, info.kind) == (true, false, ItemKind::File)
-}
-
-/// Whether that is told of the file of this name.
+/// Whether the file of this name is told of as it is after all changes.
 fn has_all(plain: &PlainVolume, name: &[u8]) -> bool {
     match root_item(plain, name) {
-        Some(info) => is_all(&info),
+        Some(info) => {
+            is_dated(&info, 1, 2, 3)
+                && info.finder == [0xaa; 32]
+                && info.name.bytes() == b"F".as_slice()
+                && info.locked
+                && !info.has_id
+                && info.kind == ItemKind::File
+        }
         None => false,
     }
 }
@@ -354,7 +375,7 @@ fn expect_parts(rt: &impl Abort, plain: &PlainVolume) -> Result<(), Fail> {
 /// Whether a file of the root has 2,000 bytes in its data fork and none in the other.
 fn has_lengths(plain: &PlainVolume, name: &[u8]) -> bool {
     match root_item(plain, name) {
-        Some(info) => (info.data_len, info.res_len) == (2000, 0),
+        Some(info) => info.data_len == 2000 && info.res_len == 0,
         None => false,
     }
 }
@@ -377,16 +398,19 @@ fn parts_of_a_fork(rt: HostRuntime) -> Result<(), Fail> {
     expect_forks(&rt, rt.alloc(), &mut plain)
 }
 
-/// The calls of a list.
+/// Calls of a list.
+const LISTED: [Ask<'static>; 4] = [
+    Ask::DirCreate(2, b"Docs"),
+    Ask::Create(16, b"Read Me"),
+    Ask::Create(16, b"READ ME"),
+    Ask::List(2),
+];
+
+/// The calls of the list.
 fn calls_of(alloc: Global) -> Result<Vec<Call>, AllocError> {
     let mut calls = Vec::new(alloc);
-    for ask in [
-        Ask::DirCreate(2, b"Docs"),
-        Ask::Create(16, b"Read Me"),
-        Ask::Create(16, b"READ ME"),
-        Ask::List(2),
-    ] {
-        calls.push(call_of(alloc, &ask, 100)?)?;
+    for ask in LISTED.iter() {
+        calls.push(call_of(alloc, ask, 100)?)?;
     }
     Ok(calls)
 }
