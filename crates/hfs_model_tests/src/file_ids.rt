@@ -29,10 +29,7 @@ fn has_id(plain: &PlainVolume, name: &[u8]) -> bool {
 }
 
 /// The file `f` made, and its ID.
-const MADE: [(Ask<'static>, u32); 2] = [
-    (Ask::Create(2, b"f"), 16),
-    (Ask::CreateId(2, b"f"), 16),
-];
+const MADE: [(Ask<'static>, u32); 2] = [(Ask::Create(2, b"f"), 16), (Ask::CreateId(2, b"f"), 16)];
 
 /// No second ID, and another name.
 const RENAMED: [(Ask<'static>, i16); 2] = [
@@ -107,9 +104,7 @@ fn an_id_goes_with_its_file(rt: HostRuntime) -> Result<(), Fail> {
 /// Whether the root's file `f` is dated 5, and is locked and has no ID.
 fn is_dated(plain: &PlainVolume) -> bool {
     match root_item(plain, b"f") {
-        Some(file) => {
-            file.created == 5 && file.modified == 5 && file.locked && !file.has_id
-        }
+        Some(file) => { file.created == 5 && file.modified == 5 && file.locked && !file.has_id }
         None => false,
     }
 }

@@ -47,10 +47,7 @@ fn fill(plain: &mut PlainVolume, first: u32, count: u32) -> Result<(), AllocErro
 }
 
 /// A folder and a file in it.
-const BEFORE: [(Ask<'static>, i16); 2] = [
-    (Ask::DirCreate(2, b"x"), 0),
-    (Ask::Create(16, b"f"), 0),
-];
+const BEFORE: [(Ask<'static>, i16); 2] = [(Ask::DirCreate(2, b"x"), 0), (Ask::Create(16, b"f"), 0)];
 
 /// Calls on a full root, and their codes.
 const AFTER: [(Ask<'static>, i16); 5] = [
