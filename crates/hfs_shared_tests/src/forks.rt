@@ -12,7 +12,10 @@ use std::test::Fail;
 fn viewer_of_one_file(rt: &impl Wait, alloc: Global) -> Result<Viewer, Fail> {
     let volume = small_volume(alloc, SmallVolume::OneFile)?;
     let (_parts, _passes, mut viewers) = begun(rt, alloc, volume, 1, 1)?;
-    Ok(viewers.pop().ok_or("a viewer")?)
+    match viewers.pop() {
+        Some(viewer) => Ok(viewer),
+        None => Err(Fail::from("no viewer")),
+    }
 }
 
 /// Whether a reply has this code, and these bytes.

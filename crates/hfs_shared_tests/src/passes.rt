@@ -1,7 +1,7 @@
 //! Passes that are refused.
 ghost use Rattle.std.specs.Prelude.{◌≡◌, All};
 
-use crate::sharing::{begun, closed, create, last_pass, make_file, new_volume, only, stamp_of};
+use crate::sharing::{applied, begun, closed, last_pass, make_file, new_volume, only, stamp_of};
 use hfs_shared::{Parts, Pass, Session, Shared, Viewer};
 use std::alloc::Global;
 use std::marker::Brand;
@@ -53,10 +53,10 @@ fn refused_stamp<K: Session>(
     shared: &Shared<K>,
     pass: &mut Pass,
 ) -> Result<Option<(u64, u64)>, Fail> {
-    let call = create(alloc, b"c")?;
-    match shared.lock(rt).apply(alloc, pass, &call) {
-        Ok(_reply) => Err(Fail::from("answered")),
-        Err(fault) => Ok(stamp_of(fault)),
+    let mut guard = shared.lock(rt);
+    match applied(alloc, &mut guard, pass, b"c")? {
+        None => Err(Fail::from("answered")),
+        Some(fault) => Ok(stamp_of(fault)),
     }
 }
 

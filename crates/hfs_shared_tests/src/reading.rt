@@ -14,6 +14,18 @@ use std::marker::Brand;
 use std::sync::Wait;
 use std::test::Fail;
 
+/// The call that asks for a part of a file's data fork.
+fn reading(alloc: Global, dir: u32, name: &[u8]) -> Result<Call, AllocError> {
+    let name = Bytes::from_slice(alloc, name)?;
+    Ok(Call::ReadFork {
+        dir,
+        name,
+        fork: Fork::DataFork,
+        offset: 1_530,
+        count: 500,
+    })
+}
+
 /// The 2 calls that ask for a file.
 fn push_named(
     alloc: Global,
@@ -21,17 +33,9 @@ fn push_named(
     dir: u32,
     letter: u8,
 ) -> Result<(), AllocError> {
-    calls.push(Call::GetCatInfo {
-        dir,
-        name: Bytes::from_slice(alloc, &[letter])?,
-    })?;
-    calls.push(Call::ReadFork {
-        dir,
-        name: Bytes::from_slice(alloc, &[letter])?,
-        fork: Fork::DataFork,
-        offset: 1_530,
-        count: 500,
-    })?;
+    let name = Bytes::from_slice(alloc, &[letter])?;
+    calls.push(Call::GetCatInfo { dir, name })?;
+    calls.push(reading(alloc, dir, &[letter])?)?;
     Ok(())
 }
 

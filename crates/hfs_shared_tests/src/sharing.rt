@@ -4,7 +4,7 @@ ghost use Rattle.std.specs.Prelude.{◌≡◌, ◌<◌, ◌≤◌, All, IfOk, If
 use hfs_fixtures::{FixtureFault, new_image};
 use hfs_model::{Bytes, Call, Info, Reply, Value};
 use hfs_shared::{
-    CallFault, Closed, Done, Gate, Parts, Pass, Session, Shared, Told, ViewFault, Viewer,
+    CallFault, Closed, Done, Gate, Guard, Parts, Pass, Session, Shared, Told, ViewFault, Viewer,
     run_workers,
 };
 use hfs_volume::Volume;
@@ -58,7 +58,10 @@ pub fn only<K: Session>(mut viewers: Vec<Viewer>) -> Result<Viewer, Fail>
 
 /// The last of the passes, where the others are left aside.
 pub fn last_pass(mut passes: Vec<Pass>) -> Result<Pass, Fail> {
-    Ok(passes.pop().ok_or("a pass")?)
+    match passes.pop() {
+        Some(pass) => Ok(pass),
+        None => Err(Fail::from("no pass")),
+    }
 }
 
 /// A call that makes a file in the root.
@@ -98,6 +101,20 @@ pub fn make_file<K: Session>(
 {
     let (_reply, told) = make(rt, alloc, shared, pass, create(alloc, name)?)?;
     Ok(told)
+}
+
+/// Makes a file in the root under the lock: why it was refused, if it was.
+pub fn applied<K: Session>(
+    alloc: Global,
+    guard: &mut Guard<'_, K>,
+    pass: &mut Pass,
+    name: &[u8],
+) -> Result<Option<CallFault>, AllocError> {
+    let call = create(alloc, name)?;
+    match guard.apply(alloc, pass, &call) {
+        Ok(_reply) => Ok(None),
+        Err(fault) => Ok(Some(fault)),
+    }
 }
 
 /// The two numbers of a stamp that was refused.

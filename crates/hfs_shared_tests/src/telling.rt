@@ -1,28 +1,14 @@
 //! What viewers see of what they are told.
-ghost use Rattle.std.specs.Prelude.{◌≡◌, All, IfOk, OnOk};
+ghost use Rattle.std.specs.Prelude.{◌≡◌, All, OnOk};
 
 use crate::sharing::{
-    begun, closed, create, last, last_pass, list_of, lists, make_file, new_volume, only, tells,
+    applied, begun, closed, last, last_pass, list_of, lists, make_file, new_volume, only, tells,
 };
-use hfs_shared::{Guard, Parts, Pass, Session, Shared, Told, ViewFault, Viewer};
+use hfs_shared::{Guard, Parts, Pass, Session, Shared, ViewFault, Viewer};
 use std::alloc::Global;
 use std::marker::Brand;
 use std::sync::Wait;
 use std::test::Fail;
-
-/// The told lists of two files `a` and `b`, as one worker makes them.
-fn told_of_two<K: Session>(
-    rt: &impl Wait,
-    alloc: Global,
-    shared: &Shared<K>,
-    pass: &mut Pass,
-) -> Result<(Told, Told), Fail>
-    ensures { IfOk result (λ r. (r.0.book ≡ K.book) × (r.1.book ≡ K.book)) }
-{
-    let first = make_file(rt, alloc, shared, pass, b"a")?;
-    let second = make_file(rt, alloc, shared, pass, b"b")?;
-    Ok((first, second))
-}
 
 /// Whether the viewer lists these names, or is gone.
 fn lists_or_is_gone(alloc: Global, viewer: &mut Viewer, wanted: &[u8]) -> Result<bool, Fail> {
@@ -33,7 +19,7 @@ fn lists_or_is_gone(alloc: Global, viewer: &mut Viewer, wanted: &[u8]) -> Result
     }
 }
 
-/// Whether a viewer that learns the second told list and then the first lists both files.
+/// Whether a viewer that learns what is told of the file `b`, and then of the file `a` that was made before it, lists both.
 fn learns_both<K: Session>(
     rt: &impl Wait,
     alloc: Global,
@@ -47,7 +33,8 @@ fn learns_both<K: Session>(
     let Some(pass) = passes.first_mut() else {
         return Err(Fail::from("a pass"));
     };
-    let (first, second) = told_of_two(rt, alloc, shared, pass)?;
+    let first = make_file(rt, alloc, shared, pass, b"a")?;
+    let second = make_file(rt, alloc, shared, pass, b"b")?;
     viewer.learn(&second);
     viewer.learn(&first);
     lists(alloc, viewer, b"a b ")
@@ -106,10 +93,9 @@ fn apply_one<K: Session>(
     guard: &mut Guard<'_, K>,
     pass: &mut Pass,
 ) -> Result<(), Fail> {
-    let call = create(alloc, b"a")?;
-    match guard.apply(alloc, pass, &call) {
-        Ok(_reply) => Ok(()),
-        Err(_fault) => Err(Fail::from("not answered")),
+    match applied(alloc, guard, pass, b"a")? {
+        None => Ok(()),
+        Some(_fault) => Err(Fail::from("not answered")),
     }
 }
 
