@@ -1,0 +1,19 @@
+# Completion of hfs_tool's words and paths, for bash.
+_hfs_tool() {
+    local word=${COMP_WORDS[COMP_CWORD]} first=${COMP_WORDS[1]} options=--help
+    if [ "$COMP_CWORD" -eq 1 ]; then
+        mapfile -t COMPREPLY < <(compgen -W 'info check ls cat new repair run help --help --version' -- "$word")
+        return
+    fi
+    case $first in
+        cat) options='--resource --help' ;;
+        new) options='--now --help' ;;
+        run) options='--now --out --help' ;;
+        help) mapfile -t COMPREPLY < <(compgen -W 'info check ls cat new repair run' -- "$word") && return ;;
+    esac
+    case $word in
+        -*) mapfile -t COMPREPLY < <(compgen -W "$options" -- "$word") ;;
+        *) mapfile -t COMPREPLY < <(compgen -f -- "$word") && compopt -o filenames 2> /dev/null ;;
+    esac
+}
+complete -F _hfs_tool hfs_tool

@@ -1,0 +1,46 @@
+#!/usr/bin/env bash
+# Makes the package, lays it into a folder, and runs what was installed: the program, its man page, and the completion of its words.
+# Prints 'the package agrees', or what differs and ends with status 1. Where dpkg-deb is missing it says that it was skipped.
+set -euo pipefail
+cd "$(dirname "$0")/.."
+command -v dpkg-deb > /dev/null || { echo 'the package: skipped, since dpkg-deb is missing'; exit 0; }
+folder=$(mktemp -d)
+trap 'rm -rf "$folder"' EXIT
+
+fail() {
+    echo "the package differs: $1"
+    exit 1
+}
+
+package=$(scripts/package.sh "$folder")
+version=$(crates/hfs_tool/out/hfs_tool --version | awk '{ print $2 }')
+[ "$(dpkg-deb -f "$package" Version)" = "$version" ] || fail 'its version'
+[ "$(dpkg-deb -f "$package" Depends)" = libc6 ] || fail 'what it stands on'
+dpkg-deb -x "$package" "$folder/root"
+tool=$folder/root/usr/bin/hfs_tool
+share=$folder/root/usr/share
+
+[ "$("$tool" check tests/volumes/hfsutils-800k.img | head -n 1)" = sound ] || fail 'what the installed program says of a disk'
+if command -v ldd > /dev/null; then
+    others=$(ldd "$tool" | awk '{ print $1 }' | grep -v -E '^(linux-vdso|libc|libm|libpthread|libdl|librt|libgcc_s|/lib.*ld-linux)' || true)
+    [ -z "$others" ] || fail "it needs $others"
+fi
+if command -v man > /dev/null; then
+    page=$(MANWIDTH=100 man -l "$share/man/man1/hfs_tool.1.gz" 2> /dev/null)
+    grep -q 'THE WORD REPAIR' <<< "$page" || fail 'its man page'
+else
+    echo 'the package: its man page was not read, since man is missing'
+fi
+for name in README.md MANUAL.md copyright changelog.gz; do
+    [ -s "$share/doc/hfs-tool/$name" ] || fail "$name is not there"
+done
+
+# What bash offers behind these words.
+offered() {
+    bash -c '. "$1"; shift; COMP_WORDS=(hfs_tool "$@"); COMP_CWORD=$#; _hfs_tool; printf "%s\n" "${COMPREPLY[@]}" | sort | tr "\n" " "' _ \
+        "$share/bash-completion/completions/hfs_tool" "$@"
+}
+[ "$(offered re)" = 'repair ' ] || fail 'the completion of a word'
+[ "$(offered run --)" = '--help --now --out ' ] || fail 'the completion of an option'
+[ -n "$(offered check tests/vol)" ] || fail 'the completion of a path'
+echo 'the package agrees'
