@@ -94,10 +94,10 @@ for name in hfsutils-800k hfsutils-1440k-names genisoimage-locked; do
     cmp "$volumes/$name.img" "$folder/read.img" || fail "$name was written"
 done
 
-# What the README is shown with: images in a folder, and three volumes with something before them.
+# What the README and the manual are shown with: images in a folder, and three volumes with something before them.
 readme=$folder/readme
 mkdir "$readme" "$readme/images"
-ln -s "$PWD/crates" "$PWD/scripts" "$readme"
+ln -s "$PWD/crates" "$PWD/scripts" "$PWD/tests" "$readme"
 cp "$volumes/hfsutils-800k.img" "$readme/images/m0.img"
 cp "$volumes/genisoimage-locked.img" "$readme/images/old disk.img"
 cp "$volumes/refused-icon.img" "$readme/images/icon.img"
@@ -129,18 +129,19 @@ partition() {
     cat "$volumes/hfsutils-800k.img"
 } > "$readme/floppy.bin"
 
-# Runs a command of the README, and wants of it what stands below.
+# Runs a command of the page, and wants of it what stands below.
 shown() {
     [ -n "$command" ] || return 0
     eval "$command" > "$folder/printed" 2> "$folder/errors" || true
-    cmp -s "$folder/wanted" "$folder/printed" || fail "the README's line '$command' prints $(cat "$folder/printed")"
-    [ ! -s "$folder/errors" ] || fail "the README's line '$command' writes to standard error: $(cat "$folder/errors")"
+    cmp -s "$folder/wanted" "$folder/printed" || fail "the line '$command' of $page prints $(cat "$folder/printed")"
+    [ ! -s "$folder/errors" ] || fail "the line '$command' of $page writes to standard error: $(cat "$folder/errors")"
     command=''
 }
 
-# Each line of the README behind a '$', with those behind a '>' that go on with it, in one shell.
-(
-    lines=$PWD/README.md
+# Runs each line of a page behind a '$', with those behind a '>' that go on with it, in one shell. There are so many at least.
+runs_page() (
+    page=$1
+    lines=$PWD/$page
     cd "$readme"
     unset tool
     command='' inside='' count=0
@@ -153,8 +154,11 @@ shown() {
             yes*) printf '%s\n' "$line" >> "$folder/wanted" ;;
         esac
     done 3< "$lines"
-    [ "$count" -ge 25 ] || fail 'the README has no command lines'
+    [ "$count" -ge "$2" ] || fail "$page has no command lines"
 )
+
+runs_page README.md 8
+runs_page docs/MANUAL.md 40
 
 # The man page is what the help says.
 tests/man_page.sh | cmp -s - docs/hfs_tool.1 || fail 'docs/hfs_tool.1 is not made of the help'
