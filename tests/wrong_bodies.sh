@@ -6,6 +6,8 @@
 # neither, of all. It says what `rt` says of each, and last how many there were; its status is 1 where one isn't refused or
 # can't be tried, and 2 where it could not begin. RT_JOBS says how many are tried side by side.
 #
+# tests/wrong_bodies.sh --look [..]: proves nothing, and says in a second which of them name a text that isn't there once.
+#
 # It lays them into must-fail/ of a copy of the crates, removed at the end, and runs `rt must-fail` there. The copy begins with
 # the libraries of this checkout, which are built here first where they are missing, and with what checks here have kept.
 set -euo pipefail
@@ -30,9 +32,38 @@ changed_since() {
     (git diff --name-only "$1" -- crates && git ls-files --others --exclude-standard -- crates) | cut -d / -f 2 | sort -u
 }
 
+# The edits, of these files, that can't be laid into their crates.
+look() {
+    python3 - "$@" << 'END'
+import sys
+lost = 0
+for path in sys.argv[1:]:
+    texts, file, old = {}, "", ""
+    for line in open(path, encoding="utf-8").read().split("\n"):
+        word, _, text = line.partition(": ")
+        if word == "file":
+            file = path.split("/wrong-bodies/")[0] + "/" + text
+            texts.setdefault(file, open(file, encoding="utf-8").read())
+        elif word == "old":
+            old = text
+        elif line.startswith("new:"):
+            if texts[file].count(old) != 1:
+                print(f"{path}: the text is in {file} {texts[file].count(old)} times: {old}")
+                lost += 1
+            texts[file] = texts[file].replace(old, line[4:].lstrip())
+print(f"{len(sys.argv) - 1} wrong bodies looked at: {lost} texts that aren't there once")
+sys.exit(lost > 0)
+END
+}
+
 wanted=()
+is_look=false
 while [ $# -gt 0 ]; do
     case $1 in
+        --look)
+            is_look=true
+            shift
+            ;;
         --since)
             [ $# -gt 1 ] || fail "--since wants a commit"
             git rev-parse --verify --quiet "$2^{commit}" > /dev/null || fail "$2 is no commit"
@@ -52,6 +83,11 @@ mapfile -t crates < <(with_bodies "${wanted[@]}")
 if [ ${#crates[@]} = 0 ]; then
     echo "0 wrong bodies: none of these crates has any here"
     exit 0
+fi
+
+if $is_look; then
+    look $(for crate in "${crates[@]}"; do echo "crates/$crate/wrong-bodies"/*.edit; done)
+    exit
 fi
 
 python3 scripts/build_libraries.py --below "$(scripts/lanes.sh)" 1 "${crates[@]}" || fail "a library could not be built"
