@@ -1,18 +1,29 @@
 #!/usr/bin/env python3
-"""Builds the libraries of these crates, and all below them, as `rt` keeps them, so that `scripts/check_one.sh` and `rt` take them: up to LANES at
-once, each with JOBS jobs. `rt check` in a crate at the top does the same one after the other, and sums each source once for each way that crates.txt
-leads to it; here each sum is remembered, so nothing may be edited meanwhile. It stands on names of the kit's own script (rtlib), which may change.
+"""Builds the libraries of these crates, and all below them, as `rt` keeps them, so that `rt` and `scripts/check_one.sh` take
+them: up to LANES at once, each with JOBS jobs; with --below those below them alone. `rt lib` does the same one after the other.
+As `rt` does, it takes from other checkouts on this machine what was built there of the same text. Each library's sources are
+summed once, so nothing may be edited meanwhile. It stands on names of the kit's own scripts (rt and rtlib), which may change.
 
-scripts/build_libraries.py LANES JOBS CRATE.. , as in: scripts/build_libraries.py 2 3 hfs_shared hfs_commands
+scripts/build_libraries.py [--below] LANES JOBS CRATE.. , as in: scripts/build_libraries.py 2 3 hfs_shared hfs_commands
 """
 import functools
+import importlib.machinery
+import importlib.util
 import os
 import sys
+import tempfile
 import time
 from concurrent.futures import FIRST_COMPLETED, ThreadPoolExecutor, wait
 
-sys.path.insert(0, "/opt/rattle/bin")
-import rtlib
+sys.dont_write_bytecode = True
+
+
+def load_rt():
+    loader = importlib.machinery.SourceFileLoader("rt_script", "/opt/rattle/bin/rt")
+    module = importlib.util.module_from_spec(importlib.util.spec_from_loader("rt_script", loader))
+    sys.modules["rt_script"] = module
+    loader.exec_module(module)
+    return module
 
 
 def chain_lengths(left):
@@ -26,14 +37,15 @@ def chain_lengths(left):
 
 
 def build(left, built, lanes, jobs):
-    """Builds the libraries, each once those below it are built, and those first for which the most wait. Returns those that were not built."""
+    """Builds the libraries, each once those below it are built, and those first for which the most wait. Returns those that
+    were not built."""
     order, running, failed = chain_lengths(left), {}, []
     with ThreadPoolExecutor(lanes) as pool:
         while True:
             ready = [it for it in left if all(dep in built for dep in it.below())]
             for it in sorted(ready, key=lambda it: -order[it])[: lanes - len(running)]:
                 left.remove(it)
-                it.out = open(f"/tmp/build.{it.name}.log", "w")
+                it.out = tempfile.TemporaryFile("w+", errors="replace")
                 running[pool.submit(it.build_rlib, ["--jobs", jobs], False)] = it, time.time()
             if not running:
                 return failed + left
@@ -44,18 +56,28 @@ def build(left, built, lanes, jobs):
                 if is_built:
                     built.add(it)
                 else:
+                    it.out.seek(0)
+                    print(it.out.read(), end="", flush=True)
                     failed.append(it)
 
 
-def main(lanes, jobs, *names):
+def main(*words):
+    is_below, (lanes, jobs, *names) = words[0] == "--below", [it for it in words if it != "--below"]
     root = os.path.realpath(os.path.join(os.path.dirname(__file__), ".."))
     os.chdir(root)
-    rtlib.Crate.stamp = functools.lru_cache(None)(rtlib.Crate.stamp)
-    crates = {it.name: it for it in rtlib.crates_below(root)}
-    rtlib.guarded()
+    rt = load_rt()
+    rt.share_work(True)
+    rt.rtlib.Crate.stamp = functools.lru_cache(None)(rt.rtlib.Crate.stamp)
+    crates = {it.name: it for it in rt.rtlib.crates_below(root)}
+    lacking = [it for it in names if it not in crates]
+    if lacking:
+        print("no crate:", *lacking, file=sys.stderr)
+        return 2
+    rt.rtlib.guarded()
     wanted = []
     for name in names:
-        wanted += [it for it in [*crates[name].below(), crates[name]] if it not in wanted]
+        wanted += [it for it in [*crates[name].below(), *[crates[name]] * (not is_below)] if it not in wanted]
+    _held = rt.rtlib.lock(wanted)
     built = {it for it in wanted if it.is_built()}
     return 1 if build([it for it in wanted if it not in built], built, int(lanes), jobs) else 0
 

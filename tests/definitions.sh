@@ -1,7 +1,7 @@
 #!/usr/bin/env bash
 # Prints, from the files themselves, where each definition stands and which wrong bodies the prover refuses: for each crate
-# (or those that are named) the files of its specs/ with what each is about, and the edits of its must-fail/ with the text
-# that each changes.
+# (or those that are named) the files of its specs/ with what each is about, and the edits of its must-fail/, which the gate
+# tries, and of its wrong-bodies/, which tests/wrong_bodies.sh tries, with the text that each changes.
 set -euo pipefail
 cd "$(dirname "$0")/.."
 
@@ -16,9 +16,10 @@ for crate in "${crates[@]}"; do
             *) printf '    %-24s %s\n' "specs/$(basename "$file")" "$(sed -n '1s/^-- *//p' "$file")" ;;
         esac
     done
-    for file in "crates/$crate"/must-fail/*.edit; do
+    for file in "crates/$crate"/{must-fail,wrong-bodies}/*.edit; do
         [ -e "$file" ] || continue
-        printf '    must-fail/%s, in %s:\n' "$(basename "$file" .edit)" "$(sed -n '1s/^file: *//p' "$file")"
+        edit=${file#"crates/$crate/"}
+        printf '    %s, in %s:\n' "${edit%.edit}" "$(sed -n '1s/^file: *//p' "$file")"
         sed -n -e 's/^old: */        - /p' -e 's/^new: */        + /p' "$file"
     done
 done
