@@ -12,7 +12,6 @@
 # the libraries of this checkout, which are built here first where they are missing, and with what checks here have kept.
 set -euo pipefail
 cd "$(dirname "$0")/.."
-root=$PWD
 
 fail() {
     echo "wrong_bodies: $1" >&2
@@ -23,7 +22,7 @@ fail() {
 with_bodies() {
     local crate
     for crate in $(sed -n 's/^\([a-z0-9_]*\)[: ].*/\1/p' crates.txt); do
-        if [[ " $* " == *" $crate "* && -n $(ls "crates/$crate/wrong-bodies" 2> /dev/null) ]]; then echo "$crate"; fi
+        if [[ " $* " == *" $crate "* ]] && compgen -G "crates/$crate/wrong-bodies/*.edit" > /dev/null; then echo "$crate"; fi
     done
 }
 
@@ -115,7 +114,7 @@ done
 
 count() { grep -c "$1" "$folder/said" || true; }
 edits=0
-for crate in "${crates[@]}"; do edits=$((edits + $(ls "$root/crates/$crate/wrong-bodies" | wc -l))); done
+for crate in "${crates[@]}"; do edits=$((edits + $(ls "$copy/crates/$crate/must-fail"/*.edit | wc -l))); done
 refused=$(count ': refused, as it must be')
 echo "$edits wrong bodies in ${#crates[@]} crates: $refused refused, $(count ': NOT REFUSED') not refused, $(count ': BAD EDIT') bad, $(count ': NOT TRIED') not tried"
 [ "$refused" = "$edits" ]
