@@ -5,6 +5,8 @@ from dataclasses import dataclass
 from pathlib import Path
 
 ROOT = Path(__file__).resolve().parents[2]
+# Volumes of other programs.
+REAL_VOLUMES = ROOT / 'crates' / 'hfs_real_volumes' / 'data'
 # How many seconds a program may take, where nothing else is said.
 SECONDS = 120
 
