@@ -1,4 +1,4 @@
-/* Prints how long libhfs takes for what `hfs_full_catalogs time` measures: on a volume of tests/make_volume.sh, which is changed.
+/* Prints how long libhfs takes for what `run_times.py calls` measures: on a volume of measure/make_volume.sh, which is changed.
  *
  * cc -O2 -I LIBHFS call_times.c LIBHFS/libhfs.a -o call_times; call_times VOLUME
  */

@@ -1,22 +1,25 @@
-#!/bin/sh
-# How long calls take, and how long libhfs takes for the same, on volumes of 6,000 items and of three sizes. The folder is that
-# of libhfs in the source of hfsutils, built by its `configure` and `make`.
+#!/usr/bin/env bash
+# How long calls take, and how long libhfs takes for the same where its folder is given, on volumes of 6,000 items and of three sizes. The
+# folder is that of libhfs in the source of hfsutils 3.2.6, built by its `configure` and `make`.
 #
-# sh call_times.sh LIBHFS, after a build of hfs_full_catalogs
-set -eu
+# measure/call_times.sh [FOLDER-OF-LIBHFS]
+set -euo pipefail
+cd "$(dirname "$0")/.."
+if [ $# = 0 ]; then
+    echo 'libhfs is not measured: its folder is not given'
+    exec python3 measure/run_times.py calls
+fi
 libhfs=$1
-here=$(cd "$(dirname "$0")" && pwd)
-program=$here/../crates/hfs_full_catalogs/out/hfs_full_catalogs
 work=$(mktemp -d)
 trap 'rm -rf "$work"' EXIT
 
-cc -O2 -I "$libhfs" "$here/call_times.c" "$libhfs/libhfs.a" -o "$work/libhfs"
+cc -O2 -I "$libhfs" measure/call_times.c "$libhfs/libhfs.a" -o "$work/libhfs"
 # it leaves a catalog with room for our calls, which never make its file longer
-cc -O2 -DFILES=8 -I "$libhfs" "$here/call_times.c" "$libhfs/libhfs.a" -o "$work/room"
+cc -O2 -DFILES=8 -I "$libhfs" measure/call_times.c "$libhfs/libhfs.a" -o "$work/room"
 for size in 6M 20M 64M; do
-    sh "$here/make_volume.sh" "$work/many.img" "$size"
+    sh measure/make_volume.sh "$work/many.img" "$size"
     echo "$size"
     "$work/room" "$work/many.img" > "$work/printed"
-    "$program" time "$work/many.img"
+    python3 measure/run_times.py calls "$work/many.img"
     "$work/libhfs" "$work/many.img"
 done

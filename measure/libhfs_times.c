@@ -1,5 +1,5 @@
 /*
- * How long libhfs takes for what hfs_volume_times measures of rows and of a mounted volume (tests/row_times.sh).
+ * How long libhfs takes for what measure/row_times.sh measures of the calls that read, and for changes.
  *
  * libhfs_times FILE        measures on that volume, files of which are deleted and made again
  * libhfs_times make FILE   lays a new volume of 60,000 items in that file first, which has its size already

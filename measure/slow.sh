@@ -2,7 +2,7 @@
 # Measures the program on sound volumes that are old or hostile, beside plain ones of as many items and bytes, and fails where
 # it takes more than three times as long. It is run by hand, and no part of the gate.
 #
-# tests/slow.sh [time]
+# measure/slow.sh [time]
 #
 # What is counted are instructions, by callgrind of valgrind, where that is installed, and else, or where `time` is asked for,
 # processor time. `cat` is always measured in time, since bytes that are copied cost time and hardly an instruction. Counting

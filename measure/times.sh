@@ -3,11 +3,9 @@
 # run in milliseconds, the best of some runs, the ratio of ours to theirs, and the most memory. The program reads and checks both trees before
 # it tells anything, so its times grow with the trees, and hfsutils gives each a 128th of a volume.
 #
-# tests/times.sh [lists]        with `lists` also every folder of the smaller volumes, by one run and by a run for each
-. "$(dirname "$0")/beside.sh"
-lists=$PWD/crates/hfs_real_volumes/out/hfs_real_volumes
+# measure/times.sh [lists]        with `lists` also every folder of the smaller volumes, by one run and by a run for each
+. "$(dirname "$0")/../tests/beside.sh"
 with_lists=${1:-}
-[ -z "$with_lists" ] || [ -x "$lists" ] || (cd crates/hfs_real_volumes && rt run > /dev/null)
 
 # The best of so many runs of a command, in microseconds.
 best() {
@@ -69,7 +67,7 @@ print(f"{resource.getrusage(resource.RUSAGE_CHILDREN).ru_maxrss / 1024:.1f}")' "
 measure() {
     local volume=$folder/many.img ours
     rm -f "$volume"
-    sh tests/make_volume.sh "$volume" "$1" "$2" > /dev/null
+    sh measure/make_volume.sh "$volume" "$1" "$2" > /dev/null
     hmount "$volume" > /dev/null
     echo "$((200 + 200 * $2)) items in $1:"
     ours=$(best 31 "$tool" check "$volume")
@@ -92,9 +90,10 @@ measure_fork() {
     report 'cat of 1 MB to hcopy -r' "$(best 31 "$tool" cat "$1" 2 megabyte)" "$(best 31 hcopy -r :megabyte "$folder/copy")"
 }
 
-# Measures lists of every folder.
+# Measures lists of every folder: by one run of a script, and by a run for each.
 measure_lists() {
-    report 'every folder to hls -laR' "$(best 31 "$lists" folders "$1")" "$(best 31 hls -laR)"
+    { echo 2 && "$tool" ls "$1" | awk -F'\t' '$1 == "d" { print $2 }'; } | sed 's/^/1\tlist\t/' > "$folder/lists"
+    report 'every folder to hls -laR' "$(best 31 "$tool" run "$1" "$folder/lists")" "$(best 31 hls -laR)"
     report 'a run for each folder to a run for each' "$(best 2 list_each "$1")" "$(best 2 peer_list_each)"
 }
 

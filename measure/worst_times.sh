@@ -24,7 +24,7 @@ cost() {
 
 # Makes a volume.
 make() {
-    python3 tests/worst_volumes.py "$1" "$2" 64 "$folder/volume.img"
+    python3 measure/worst_volumes.py "$1" "$2" 64 "$folder/volume.img"
 }
 
 make plain 60000

@@ -1,12 +1,15 @@
 #!/usr/bin/env python3
-"""Writes volumes on which `check` has as much to do as is known, for tests/worst_times.sh; most are not sound.
+"""Writes volumes on which `check` has as much to do as is known, for measure/worst_times.sh; most are not sound.
 
 python3 worst_volumes.py KIND COUNT MEGABYTES FILE
 
 KIND is one of the names in WORST, or of those of slow_volumes.py.
 """
+import os
 import struct
 import sys
+
+sys.path.insert(0, os.path.join(os.path.dirname(os.path.abspath(__file__)), '..', 'tests'))
 
 import slow_volumes
 from slow_volumes import CATALOG_FILE, FIRST_FREE, NODE, ROOT, Volume

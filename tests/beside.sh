@@ -3,7 +3,7 @@
 set -euo pipefail
 cd "$(dirname "$0")/.."
 tool=$PWD/crates/hfs_tool/out/hfs_tool
-volumes=$PWD/crates/hfs_real_volumes/data
+volumes=$PWD/tests/volumes
 
 if ! command -v hmount > /dev/null; then
     echo 'skipped: hfsutils is not installed'

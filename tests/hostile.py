@@ -4,7 +4,7 @@ be; folders in a ring; index keys that are lower than they need be, at each leve
 and within its processor time; `check`, `ls`, `cat` and `run` tell the same fault; and where `check` says sound, each call of one script of
 all calls is answered as hfs_plain answers it, by either build, and what is saved then is sound.
 
-tests/hostile.py [--values N] [--step N] [--whole] [--turn N] [--keep FOLDER]
+tests/hostile.py [--values N] [--step N] [--whole] [--turn N] [--kept FOLDER]
 
 Of the four values of each byte (0, $7F, $FF and one more than it is) N are tried, from another one on at each byte: in the turns 0 to 3
 each byte gets each of them. Of the lengths those near each block are tried and each Nth one between. With --whole all values and lengths.
@@ -401,10 +401,10 @@ def main() -> None:
     parser.add_argument('--step', type=int, default=64, help='each how manieth length is tried beside those near blocks (64)')
     parser.add_argument('--whole', action='store_true', help='all values of each byte, and all lengths')
     parser.add_argument('--turn', type=int, default=0, help='from which of the four values on (0)')
-    parser.add_argument('--keep', type=Path, default=Path('hostile-differs'), help='the folder in which the files of a difference are left')
+    parser.add_argument('--kept', type=Path, default=Path('hostile.kept'), help='the folder in which the files of a difference are left')
     words = parser.parse_args()
     started = time.monotonic()
-    with opened_bench(found_programs(), words.keep) as bench:
+    with opened_bench(found_programs(), words.kept) as bench:
         counts = attempt_by_pool(bench, jobs_of(words))
         for attempt in SINGLE.values():
             attempt(bench)

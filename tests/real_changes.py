@@ -1,7 +1,7 @@
 #!/usr/bin/env python3
 """Calls that change, on three volumes that other programs made, by each build of hfs_tool beside hfs_plain.
 
-tests/real_changes.py [--keep FOLDER]                     tries all that is told below
+tests/real_changes.py [--kept FOLDER]                     tries all that is told below
 tests/real_changes.py leave set|unlock|story IMAGE OUT    writes the image that some calls leave of another
 
 All items are dated and given Finder bytes, all files locked and unlocked; all files are deleted, and what is left is compared; a story
@@ -436,7 +436,7 @@ LEFT = {'set': set_items, 'unlock': unlock_files, 'story': lambda bench, content
 
 def main() -> None:
     parser = argparse.ArgumentParser(description=__doc__.split('\n')[0])
-    parser.add_argument('--keep', type=Path, default=Path('real-changes-differ'), help='the folder in which the files of a difference are left')
+    parser.add_argument('--kept', type=Path, default=Path('real_changes.kept'), help='the folder in which the files of a difference are left')
     words = parser.add_subparsers(dest='word')
     leave = words.add_parser('leave', help='writes the image that some calls leave')
     leave.add_argument('calls', choices=LEFT)
@@ -444,7 +444,7 @@ def main() -> None:
     leave.add_argument('out', type=Path)
     given = parser.parse_args()
     started = time.monotonic()
-    with opened_bench(found_programs(), given.keep) as bench:
+    with opened_bench(found_programs(), given.kept) as bench:
         if given.word == 'leave':
             given.out.write_bytes(LEFT[given.calls](bench, given.image.read_bytes()))
         else:

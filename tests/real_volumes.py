@@ -1,7 +1,7 @@
 #!/usr/bin/env python3
 """Five volumes that other programs made: what the programs of this repository tell of them, against what those others tell.
 
-tests/real_volumes.py [--keep FOLDER]
+tests/real_volumes.py [--kept FOLDER]
 
 tests/volumes has the images, and of the three that are sound the lists that libhfs made of them: a line for each item, folder by folder
 from the root on. It is `d` for a folder, `f` for a file or `F` for a locked one, the ID, the parent, the valence or the length of the
@@ -198,9 +198,9 @@ class Comparison:
 
 def main() -> None:
     parser = argparse.ArgumentParser(description=__doc__.split('\n')[0])
-    parser.add_argument('--keep', type=Path, default=Path('real-volumes-differ'), help='the folder in which the files of a difference are left')
+    parser.add_argument('--kept', type=Path, default=Path('real_volumes.kept'), help='the folder in which the files of a difference are left')
     words = parser.parse_args()
-    with opened_bench(found_programs(), words.keep) as bench:
+    with opened_bench(found_programs(), words.kept) as bench:
         comparison = Comparison(bench)
         comparison.all()
     counts = comparison.counts
