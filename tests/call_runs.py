@@ -79,7 +79,7 @@ def draw_on_new(bench: Bench, given, codes: Codes) -> None:
 def draw_on_real(bench: Bench, given, codes: Codes) -> None:
     """Makes drawn lists on the volumes of other programs."""
     for name in REAL:
-        content = (ROOT / 'crates' / 'hfs_real_volumes' / 'data' / f'{name}.img').read_bytes()
+        content = (ROOT / 'tests' / 'volumes' / f'{name}.img').read_bytes()
         for image in dict.fromkeys((content, unlocked(content))):
             draw_list(Disk(bench, image), random.Random(f'{given.seed} {name}'), given.calls, codes)
         print(f'{name}: a list of {given.calls} calls, answered alike', flush=True)
