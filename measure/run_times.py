@@ -1,14 +1,17 @@
 #!/usr/bin/env python3
-"""How long calls take in `hfs_tool run`: of workers, under the volume's lock, and of viewers, whose answers are made of rows.
+"""How long calls take in `hfs_tool run`: of workers under the lock, and of viewers, whom rows answer.
 
-measure/run_times.py calls [IMAGE]     SetFInfo, Create, Delete and CatMove by one worker, and saving; without IMAGE on a volume of 6,000
-                                       items that it makes, in 6 MB
-measure/run_times.py rows [IMAGE]      look-ups, lists and children by place, by a viewer and by a worker; without IMAGE on one of 60,000 items
-measure/run_times.py shared            calls of 1, 2, 4 and 8 workers; lists of 1, 2, 4 and 8 viewers, alone and beside a worker that writes
+measure/run_times.py calls [IMAGE]   SetFInfo, Create, Delete and CatMove by a worker, and saving;
+                                     without IMAGE on a volume of 6,000 items that it makes, in 6 MB
+measure/run_times.py rows [IMAGE]    look-ups, lists and children by place, by a viewer and by a
+                                     worker; without IMAGE on one of 60,000 items
+measure/run_times.py shared          calls of 1, 2, 4 and 8 workers; lists of 1, 2, 4 and 8 viewers,
+                                     alone and beside a worker that writes
 
-A script is run some times, and one without its lines as often: the middle of the first less the middle of the second, and the best less
-the best, for each call. So it has what a call costs with its line that is read and its answer that is printed, and nothing of what it
-takes to load, check and share the volume. The volume needs free nodes in its catalog.
+A script is run some times, and one without its lines as often: the middle of the first less the
+middle of the second, and the best less the best, for each call. So it has what a call costs with its
+line that is read and its answer that is printed, and nothing of what it takes to load, check and
+share the volume. The volume needs free nodes in its catalog.
 """
 import argparse
 import os
@@ -63,7 +66,8 @@ class Runs:
         return times[RUNS // 2], times[0]
 
     def report(self, what: str, text: str, count: int, beside: str = '') -> None:
-        """Prints what a call takes of a script with so many beside those of another script, which it begins with."""
+        """Prints what a call takes of a script with so many beside those of another script, which
+        it begins with."""
         without, most = self.spent(beside), self.spent(text)
         middle, best = ((a - b) / max(count, 1) * 1e6 for a, b in zip(most, without))
         print(f'{what}: {middle:.2f} µs each in the middle, {best:.2f} at best ({count})', flush=True)
@@ -105,7 +109,8 @@ def measure_calls(runs: Runs) -> None:
 
 
 def measure_moves(runs: Runs, next_id: int, rounds: int = 200) -> None:
-    """Measures moves of a folder into one of the root, into one 100 deep and one 200 deep, and back."""
+    """Measures moves of a folder into one of the root, into one 100 deep and one 200 deep, and
+    back."""
     chain = [Call.of('mkdir', ROOT_ID if it == 0 else next_id + it - 1, 'deep') for it in range(200)]
     chain.append(Call.of('mkdir', ROOT_ID, 'moving'))
     for depth in (1, 100, 200):
@@ -161,7 +166,8 @@ def made_volume(tool: Path, folder: Path, megabytes: int, folders: int, files: i
     return image
 
 
-# What is measured, and the volume on which it is where none is given: its megabytes, folders, and files in each.
+# What is measured, and the volume on which it is where none is given: its megabytes, folders, and
+# files in each.
 MEASURED = {'calls': (measure_calls, (6, 200, 29)), 'rows': (measure_rows, (40, 200, 299)), 'shared': (measure_shared, (6, 20, 150))}
 
 

@@ -2,7 +2,7 @@
 from dataclasses import dataclass
 from functools import cached_property
 
-from driver.image import BLOCK, DATA_FORK, RESOURCE_FORK, Extent, Image, extents_at, number_at
+from driver.image import DATA_FORK, RESOURCE_FORK, Image, extents_at, number_at
 
 FOLDER, FILE, FOLDER_THREAD, FILE_THREAD = 1, 2, 3, 4
 # Where a folder's record and a file's have their ID and the first of their three dates.
@@ -104,7 +104,8 @@ class Catalog:
         return [it for it in self.items if it.parent == folder]
 
     def walked(self) -> list[Record]:
-        """All items, folder by folder: those of the root, and behind them those of the folders among them, in their order."""
+        """All items, folder by folder: those of the root, and behind them those of the folders
+        among them, in their order."""
         found, waiting = [], [2]
         while waiting:
             children = self.children(waiting.pop())

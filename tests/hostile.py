@@ -1,20 +1,27 @@
 #!/usr/bin/env python3
-"""Hostile volumes: small ones with each byte of what describes them set to other values, or cut to each length; a catalog as deep as may
-be; folders in a ring; index keys that are lower than they need be, at each level; a file in 60,000 extents. Each word ends, by no signal
-and within its processor time; `check`, `ls`, `cat` and `run` tell the same fault; and where `check` says sound, each call of one script of
-all calls is answered as hfs_plain answers it, by either build, and what is saved then is sound.
+"""Hostile volumes, by each build of hfs_tool beside hfs_plain.
 
 tests/hostile.py [--values N] [--step N] [--whole] [--turn N] [--kept FOLDER]
 
-Of the four values of each byte (0, $7F, $FF and one more than it is) N are tried, from another one on at each byte: in the turns 0 to 3
-each byte gets each of them. Of the lengths those near each block are tried and each Nth one between. With --whole all values and lengths.
-What it prints is how many images and calls that were. At a difference it ends with 1 and leaves the image and the scripts of it.
+Tried are small volumes with each byte of what describes them set to other values, or cut to
+each length; a catalog as deep as may be; folders in a ring; index keys that are lower than they
+need be, at each level; a file in 60,000 extents.
+
+Each word ends, by no signal and within its processor time; `check`, `ls`, `cat` and `run` tell the
+same fault; and where `check` says sound, each call of one script of all calls is answered as
+hfs_plain answers it, and what is saved then is sound.
+
+Of the four values of each byte (0, $7F, $FF and one more than it is) N are tried, from another one
+on at each byte: in the turns 0 to 3 each byte gets each of them. Of the lengths those near each
+block are tried and each Nth one between. With --whole all values and lengths are.
+
+What it prints is how many images and calls that were. At a difference it ends with 1 and leaves
+the image and the scripts of it.
 """
 import argparse
 import os
 import shutil
 import signal
-import sys
 import tempfile
 import time
 from dataclasses import dataclass, field, fields
@@ -26,16 +33,17 @@ from typing import Iterable, Iterator, Optional
 import hostile_images
 from driver.calls import Answer, Call, read_answers, script_of
 from driver.disk import Bench, Disk, opened_bench, read_plain
-from driver.image import BLOCK, Image
+from driver.image import BLOCK
 from driver.keeping import ensure
 from driver.programs import Difference, Program, Programs, found_programs
 from hostile_images import ROOT
 
-# Where what describes a small volume begins and ends: the master directory block, the bitmap, two nodes of the extents tree and six of the
-# catalog, in blocks 2 to 11.
+# Where what describes a small volume begins and ends: the master directory block, the bitmap, two
+# nodes of the extents tree and six of the catalog, in blocks 2 to 11.
 FIRST, END = 2 * BLOCK, 12 * BLOCK
 VALUES = 4
-# The processor seconds that a word may take of an image of 32 KB, and how long it is waited for where others work too.
+# The processor seconds that a word may take of an image of 32 KB, and how long it is waited for
+# where others work too.
 LIMIT, PATIENCE = 2.0, 60.0
 NOW = 77
 # IDs of folders and files in the volumes that are changed, and IDs that no item has.
@@ -124,7 +132,8 @@ class Bed:
         return path
 
     def run(self, program: Program, *words) -> Ended:
-        """Runs a program, which may take so much processor time, and writes nothing to standard error."""
+        """Runs a program, which may take so much processor time, and writes nothing to standard
+        error."""
         printed, errors = self.folder / 'printed', self.folder / 'errors'
         writing = os.O_WRONLY | os.O_CREAT | os.O_TRUNC
         actions = [(os.POSIX_SPAWN_OPEN, 0, '/dev/null', os.O_RDONLY, 0), (os.POSIX_SPAWN_OPEN, 1, printed, writing, 0o600),
@@ -156,7 +165,8 @@ class Bed:
         return os.WEXITSTATUS(status)
 
     def attempt(self, number: int, wanted: Optional[str] = None) -> None:
-        """Runs each word on the image, of which this number tells the build, and by how many words. Wants this fault, or none, where one is known."""
+        """Runs each word on the image, of which this number tells the build, and by how many words.
+        Wants this fault, or none, where one is known."""
         tools = self.programs.tools
         tool = tools[number % len(tools)]
         self.counts.images += 1
@@ -183,7 +193,8 @@ class Bed:
             ensure(told == Ended(2, fault), f'check says {fault!r}, and {words[0]} {told}')
 
     def taken(self, number: int, text: str) -> None:
-        """A volume that is taken: the answers are those of hfs_plain, and the saved image is sound."""
+        """A volume that is taken: the answers are those of hfs_plain, and the saved image is
+        sound."""
         answers = read_answers(text)
         ensure(len(answers) == len(CALLS), f'run gives {len(answers)} answers')
         self.counts.taken += 1
@@ -197,7 +208,8 @@ class Bed:
             self.closer(tool, text, state)
 
     def plain_state(self, answers: list[Answer]):
-        """The volume that hfs_plain makes of the image, by the calls that met no want of nodes, each of which it answers alike."""
+        """The volume that hfs_plain makes of the image, by the calls that met no want of nodes,
+        each of which it answers alike."""
         kept = tuple(at for at, answer in enumerate(answers) if not answer.wanting)
         script = self.folder / f'plain {len(kept)} {hash(kept)}'
         if not script.exists():
@@ -211,7 +223,8 @@ class Bed:
         return state
 
     def closer(self, tool: Program, text: str, state) -> None:
-        """The other build answers and saves alike, the saved image holds the volume of hfs_plain, and viewers answer as a worker does."""
+        """The other build answers and saves alike, the saved image holds the volume of hfs_plain,
+        and viewers answer as a worker does."""
         saved, other = self.folder / 'saved', self.folder / 'saved too'
         again = self.run(tool, 'run', self.image, self.folder / 'calls', '--now', NOW, '--out', other)
         ensure(again == Ended(0, text) and other.read_bytes() == saved.read_bytes(), f'{tool.name} answers or saves otherwise')
@@ -249,7 +262,8 @@ class Byte:
 
 @dataclass(frozen=True)
 class Length:
-    """A new volume cut to a length: it has 64 blocks, and its allocation blocks end before the last two."""
+    """A new volume cut to a length: it has 64 blocks, and its allocation blocks end before the last
+    two."""
     length: int
 
     def lay(self, bed: Bed) -> None:
@@ -352,13 +366,14 @@ def try_deep(bench: Bench) -> None:
 
 
 def try_ring(bench: Bench) -> None:
-    """A ring is refused at the first record of its folders, behind those of the volume's root and the first thread."""
+    """A ring is refused at the first record of its folders, behind those of the volume's root and
+    the first thread."""
     ensure_refused(bench, bytes(hostile_images.ring()), 'check C8 at 3', 'a ring of folders')
 
 
 def try_lowered(bench: Bench, files: int = 200) -> None:
-    """In a catalog of four levels or more with lowered index keys files go; and files come between the others, and then all go. Each
-    tenth time the image is saved and mounted again."""
+    """In a catalog of four levels or more with lowered index keys files go; and files come between
+    the others, and then all go. Each tenth time the image is saved and mounted again."""
     nodes = 600
     disk = Disk(bench, bench.new_volume(1_024, nodes))
     names = [f'{it:04}' for it in range(2 * files)]
@@ -374,8 +389,8 @@ def try_lowered(bench: Bench, files: int = 200) -> None:
 
 
 def try_extents(bench: Bench) -> None:
-    """A file in 60,000 extents is read at its end and deleted, and its blocks are free then. Where the extents lie over each other,
-    their block is named."""
+    """A file in 60,000 extents is read at its end and deleted, and its blocks are free then. Where
+    the extents lie over each other, their block is named."""
     disk = Disk(bench, bytes(hostile_images.many_extents(True)))
     calls = [Call.of('read', ROOT, 'f', 'data', 59_999 * BLOCK, 4), Call.of('delete', ROOT, 'f')]
     told = [it.told for it in disk.make(calls, NOW)]

@@ -58,7 +58,8 @@ class Tree:
 
 @dataclass
 class Plan:
-    """A volume whose catalog is laid: how large it is, and what its master directory block counts."""
+    """A volume whose catalog is laid: how large it is, and what its master directory block
+    counts."""
     blocks: int = 64
     catalog_nodes: int = 6
     extents_nodes: int = 2
@@ -99,7 +100,8 @@ class Plan:
         return (head + middle + trees).ljust(BLOCK, b'\0')
 
     def image(self, catalog, nodes, extents=None, extents_nodes=None):
-        """The image with these trees: their numbers, and the nodes behind the header node by their numbers."""
+        """The image with these trees: their numbers, and the nodes behind the header node by their
+        numbers."""
         image = Image(bytearray(self.blocks * BLOCK))
         directory = self.directory_block()
         image.lay(MDB, 0, directory)
@@ -168,7 +170,8 @@ def new_volume(blocks=64, catalog_nodes=6, extents_nodes=2):
 
 
 def cut_file():
-    """The folder d, and in it the file f with 2,000 bytes in allocation blocks 10, 12 and 14 by its record, and in 16 by the extents tree."""
+    """The folder d, and in it the file f with 2,000 bytes in allocation blocks 10, 12 and 14 by its
+    record, and in 16 by the extents tree."""
     records = [folder(1, 'D', ROOT, 1), thread(ROOT, 1, 'D'), folder(ROOT, 'd', 16, 1), thread(16, ROOT, 'd'),
                file(16, 'f', 17, 2_000, [(10, 1), (12, 1), (14, 1)])]
     overflow = extents_key(0, 17, 3) + extent_bytes([(16, 1)])
@@ -189,7 +192,8 @@ def two_levels():
 
 
 def deep(levels):
-    """A new volume whose catalog has so many levels: node 1 is the leaf, and each next one stands above the one before it."""
+    """A new volume whose catalog has so many levels: node 1 is the leaf, and each next one stands
+    above the one before it."""
     records = [folder(1, 'D', ROOT, 0), thread(ROOT, 1, 'D')]
     nodes = {1: node(LEAF, 1, records)}
     for height in range(2, levels + 1):
@@ -198,7 +202,8 @@ def deep(levels):
 
 
 def ring(folders=9):
-    """Folders in a ring: each stands in the one before it, and the first in the last. Each has a leaf of its own, node 2 and those behind it."""
+    """Folders in a ring: each stands in the one before it, and the first in the last. Each has a
+    leaf of its own, node 2 and those behind it."""
     ids = list(range(FIRST_FREE, FIRST_FREE + folders))
     leaves = {1: [folder(1, 'D', ROOT, 0), thread(ROOT, 1, 'D')]}
     for place, number in enumerate(ids):
@@ -229,7 +234,8 @@ def rows_of(entries, room):
 
 
 def levels_of(records):
-    """The levels of an extents tree with these records, the leaves first; 22 records of a leaf fill a node, and 35 of an index node."""
+    """The levels of an extents tree with these records, the leaves first; 22 records of a leaf fill
+    a node, and 35 of an index node."""
     levels = [Level(1, 1, rows_of(records, 22))]
     while len(levels[-1].rows) > 1:
         below = levels[-1]
@@ -239,7 +245,8 @@ def levels_of(records):
 
 
 def many_extents(are_apart, count=60_000):
-    """The file f in so many extents of one block, from the last allocation block downwards, or all of them on that one."""
+    """The file f in so many extents of one block, from the last allocation block downwards, or all
+    of them on that one."""
     plan = Plan(65_535, 4, 1_000, next_id=17, root_files=1, files=1)
     last = plan.allocation_blocks - 1
     blocks = [last - n if are_apart else last for n in range(count)]
@@ -255,7 +262,8 @@ def many_extents(are_apart, count=60_000):
 
 
 def lower_index_keys(content, catalog_nodes, catalog=CATALOG):
-    """Lowers the last character of the name in each index key of a catalog, if it has one. Gives the height of its tree."""
+    """Lowers the last character of the name in each index key of a catalog, if it has one. Gives
+    the height of its tree."""
     image, height = Image(content), 0
     for block in range(catalog, catalog + catalog_nodes):
         count = image.number(block, 10, 2)

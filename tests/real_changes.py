@@ -1,19 +1,22 @@
 #!/usr/bin/env python3
-"""Calls that change, on three volumes that other programs made, by each build of hfs_tool beside hfs_plain.
+"""Calls that change, on three volumes of other programs, by each build of hfs_tool beside hfs_plain.
 
-tests/real_changes.py [--kept FOLDER]                     tries all that is told below
-tests/real_changes.py leave set|unlock|story IMAGE OUT    writes the image that some calls leave of another
+tests/real_changes.py [--kept FOLDER]                    tries all that is told below
+tests/real_changes.py leave set|unlock|story IMAGE OUT   writes the image that some calls leave
 
-All items are dated and given Finder bytes, all files locked and unlocked; all files are deleted, and what is left is compared; a story
-of items that are made, renamed, moved, given IDs and deleted is told; the catalog is filled up to -34 and emptied again; viewers read
-beside a worker that changes, and each of their answers is that of the volume at some moment, none before that of an earlier answer. Where
-a volume is locked by hardware, and where its catalog has no room for a folder, nothing is changed. Behind each list of calls the volume is
-saved and mounted again, the definitions hold the same items, and each byte that calls keep is as it was (tests/driver). What each call
-is to be answered stands here. What it prints is what it counted. At a difference it ends with 1 and leaves the files of it.
+All items are dated and given Finder bytes, all files locked and unlocked; all files are deleted, and
+what is left is compared; a story of items that are made, renamed, moved, given IDs and deleted is
+told; the catalog is filled up to -34 and emptied again; viewers read beside a worker that changes,
+and each of their answers is that of the volume at some moment, none before that of an earlier
+answer. Where a volume is locked by hardware, and where its catalog has no room for a folder, nothing
+is changed. Behind each list of calls the volume is saved and mounted again, the definitions hold the
+same items, and each byte that calls keep is as it was (tests/driver). What each call is to be
+answered stands here. What it prints is what it counted. At a difference it ends with 1 and leaves
+the files of it.
 """
 import argparse
 import time
-from dataclasses import dataclass, field, replace
+from dataclasses import dataclass, replace
 from pathlib import Path
 from typing import Iterator, Sequence
 
@@ -30,12 +33,14 @@ from told import Item, Question, item_of, name_of, refused
 NOW = 3_092_688_000
 ROOT = 2
 DONE = '0\t-'
-# The volume with no room for a folder in its catalog, with its free nodes and levels; and the one that is locked, by hardware and by software.
+# The volume with no room for a folder in its catalog, with its free nodes and levels; and the one
+# that is locked, by hardware and by software.
 NARROW, NARROW_ROOM = 'hfsutils-800k', 'full 6 2'
 LOCKED_NAME = 'genisoimage-locked'
 # Where drAtrb stands, and what it is without the two locks.
 ATTRIBUTES, UNLOCKED = 1_024 + 10, b'\1\0'
-# On how many items each call is made alone, to see how many blocks it changes, and how many those may be.
+# On how many items each call is made alone, to see how many blocks it changes, and how many those
+# may be.
 ALONE, MOST_BLOCKS = 20, 2
 # How many files are deleted from one comparison of all that is left to the next.
 STEP = 25
@@ -56,7 +61,8 @@ def items_of(content: bytes) -> list[Item]:
 
 
 def make_all(disk: Disk, asked: Sequence[Question], size: int = 0) -> None:
-    """Makes calls that are to be answered so; with a size, the volume is saved and mounted again behind each so many."""
+    """Makes calls that are to be answered so; with a size, the volume is saved and mounted again
+    behind each so many."""
     calls = [call for call, _ in asked]
     answers = disk.make_in_parts(calls, size, NOW) if size else disk.make(calls, NOW)
     for (call, wanted), answer in zip(asked, answers, strict=True):
@@ -66,8 +72,8 @@ def make_all(disk: Disk, asked: Sequence[Question], size: int = 0) -> None:
 # ---- all items set
 
 def settings_of(item: Item) -> Item:
-    """An item with dates and Finder bytes that no other gets: the dates are its ID before, behind and without a moment of 1999, and
-    Finder byte k is the ID and k, mod 251."""
+    """An item with dates and Finder bytes that no other gets: the dates are its ID before, behind
+    and without a moment of 1999, and Finder byte k is the ID and k, mod 251."""
     finder = bytes((item.id + it) % 251 for it in range(32))
     return replace(item, created=3_000_000_000 - item.id, modified=3_000_000_000 + item.id, backup=item.id, finder=finder)
 
@@ -99,7 +105,8 @@ def setting_steps(item: Item) -> Iterator[tuple[Call, str, Item]]:
 
 
 def setting(items: list[Item]) -> tuple[list[Question], list[Item]]:
-    """The calls that set all items, with a look at the item behind each call; and the items as they are then."""
+    """The calls that set all items, with a look at the item behind each call; and the items as they
+    are then."""
     asked, after = [], []
     for item in items:
         told = item
@@ -123,7 +130,8 @@ def set_places(record: Record) -> set[int]:
 
 
 def ensure_set(before: Catalog, after: Catalog) -> None:
-    """A difference where anything of the catalog is otherwise but what calls set: each record stands where it stood, in the same node."""
+    """A difference where anything of the catalog is otherwise but what calls set: each record
+    stands where it stood, in the same node."""
     old, new = before.image.catalog, after.image.catalog
     ensure(old.level_nodes == new.level_nodes and old.room == new.room, 'other nodes are in use')
     for number in old.level_nodes:
@@ -155,7 +163,8 @@ def set_each(bench: Bench, content: bytes, items: list[Item]) -> int:
 
 
 def set_and_unlock(bench: Bench, content: bytes) -> tuple[int, int]:
-    """Sets and unlocks all items of a volume with 100 bytes behind its last block; how many there are, and the most blocks that a call changes."""
+    """Sets and unlocks all items of a volume with 100 bytes behind its last block; how many there
+    are, and the most blocks that a call changes."""
     given = content + bytes(it % 251 for it in range(100))
     disk, before = Disk(bench, given), Catalog(given)
     items, report = items_of(given), disk.report
@@ -208,14 +217,15 @@ def deleting(file: Item) -> Iterator[Question]:
 
 
 def is_kept(before: Record, after: Record) -> bool:
-    """Whether two records have the same bytes, but for a folder's valence and the date of its last change."""
+    """Whether two records have the same bytes, but for a folder's valence and the date of its last
+    change."""
     counted = {4, 5, 14, 15, 16, 17} if before.kind == FOLDER else set()
     return len(before.body) == len(after.body) and all(a == b or at in counted for at, (a, b) in enumerate(zip(before.body, after.body)))
 
 
 def ensure_left(before: Catalog, after: Catalog, gone: set[int]) -> None:
-    """A difference where another record is gone than those of these files, or where anything of what is left has changed but the number and
-    the date of folders."""
+    """A difference where another record is gone than those of these files, or where anything of
+    what is left has changed but the number and the date of folders."""
     left = [it for it in before.records if it.id not in gone]
     ensure([(it.parent, it.name) for it in left] == [(it.parent, it.name) for it in after.records], 'other records are left')
     for record, found in zip(left, after.records):
@@ -271,20 +281,23 @@ def made_files(home: int) -> list[Question]:
 
 
 def moved_file(file: Item, name: str, home: int) -> list[Question]:
-    """A file gets a new name, moves, and gets an ID, by which it is found then, and which it gets once."""
+    """A file gets a new name, moves, and gets an ID, by which it is found then, and which it gets
+    once."""
     return [(Call.of('rename', file.parent, file.name, name), DONE), (Call.of('move', file.parent, name, home), DONE),
             (Call.of('info', file.parent, name), refused(-43)), (Call.of('newid', home, name), f'0\tid {file.id}'),
             (Call.of('newid', home, name), refused(-1301)), (Call.of('resolve', file.id), f'0\tplace {home} {name}')]
 
 
 def undone(file: Item, home: int) -> list[Question]:
-    """The first file's ID is taken away, the third of those that were made is deleted, and the second gets its name in capitals."""
+    """The first file's ID is taken away, the third of those that were made is deleted, and the
+    second gets its name in capitals."""
     return [(Call.of('dropid', file.id), DONE), (Call.of('resolve', file.id), refused(-1300)), (Call.of('delete', home, MADE[2]), DONE),
             (Call.of('rename', home, MADE[1], MADE[1].upper()), DONE)]
 
 
 def behind_story(item: Item, moved: list[Item], home: int) -> Item:
-    """What a file is told as behind the story: one that moves stands in the story's folder under its new name, and each but the first has an ID."""
+    """What a file is told as behind the story: one that moves stands in the story's folder under
+    its new name, and each but the first has an ID."""
     for place, (file, name) in enumerate(zip(moved, MOVED)):
         if file.id == item.id:
             return replace(item, parent=home, name=name, has_id=place > 0)
@@ -318,7 +331,8 @@ def tell_story(bench: Bench, content: bytes) -> Story:
 # ---- a catalog that is filled
 
 def fill_and_empty(bench: Bench, content: bytes) -> int:
-    """Makes files in the root of a volume up to -34, and deletes them again; how many there were."""
+    """Makes files in the root of a volume up to -34, and deletes them again; how many there
+    were."""
     disk, items = Disk(bench, content), items_of(content)
     count = 0
     while True:
@@ -335,7 +349,8 @@ def fill_and_empty(bench: Bench, content: bytes) -> int:
 # ---- viewers beside a worker
 
 def watched_changes(items: list[Item], next_id: int) -> list[Call]:
-    """Changes that viewers see: a folder comes, with files; others are renamed, moved, locked and dated."""
+    """Changes that viewers see: a folder comes, with files; others are renamed, moved, locked and
+    dated."""
     file = next(it for it in items if not it.is_folder and not it.is_locked)
     calls = [Call.of('mkdir', ROOT, HOME)]
     for at, name in enumerate(MADE):
@@ -346,7 +361,8 @@ def watched_changes(items: list[Item], next_id: int) -> list[Call]:
 
 
 def ensure_watched(answers: list[str], asked: list[int], states: list[list[str]], who: str) -> None:
-    """A difference where a viewer's answers are not those of the volume at moments of which none comes before an earlier one."""
+    """A difference where a viewer's answers are not those of the volume at moments of which none
+    comes before an earlier one."""
     moment = 0
     for told, question in zip(answers, asked, strict=True):
         later = next((it for it in range(moment, len(states)) if states[it][question] == told), None)
@@ -414,7 +430,8 @@ def set_items(bench: Bench, content: bytes) -> bytes:
     """Each item dated, a locked file too, and each file typed and locked."""
     asked = []
     for item in items_of(content):
-        # Created on 3 February 2001 at 04:05:06, changed on 31 December 1999 at 23:59:59, backed up on 29 February 2000 at 12:00:00.
+        # Created on 3 February 2001 at 04:05:06, changed on 31 December 1999 at 23:59:59, backed up
+        # on 29 February 2000 at 12:00:00.
         dated = replace(item, created=3_064_017_906, modified=3_029_529_599, backup=3_034_670_400, finder=bytes(32))
         place = (item.parent, item.name)
         typed = [(Call.of('setfinfo', *place, b'TypeMade'.hex() + '00' * 8), DONE), (Call.of('lock', *place), DONE)]

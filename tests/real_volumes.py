@@ -1,17 +1,21 @@
 #!/usr/bin/env python3
-"""Five volumes that other programs made: what the programs of this repository tell of them, against what those others tell.
+"""What is told of five volumes that other programs made, against what those others tell.
 
 tests/real_volumes.py [--kept FOLDER]
 
-tests/volumes has the images, and of the three that are sound the lists that libhfs made of them: a line for each item, folder by folder
-from the root on. It is `d` for a folder, `f` for a file or `F` for a locked one, the ID, the parent, the valence or the length of the
-data fork, the length of the resource fork, the check sums of both forks, type and creator, the moments of creation, change and backup in
-Unix time, and the name, with tabs between; a folder has `-` for what only a file has, and a backslash in a name stands as its code.
+tests/volumes has the images, and of the three that are sound the lists that libhfs made of them: a
+line for each item, folder by folder from the root on. It is `d` for a folder, `f` for a file or `F`
+for a locked one, the ID, the parent, the valence or the length of the data fork, the length of the
+resource fork, the check sums of both forks, type and creator, the moments of creation, change and
+backup in Unix time, and the name, with tabs between. A folder has `-` for what only a file has, and
+a backslash in a name stands as its code.
 
-What is compared: the report of `check`; the bytes of each record and of each fork, read here by the layout of the format, with the lists;
-the answer to each call that reads, of each ID and each item, forks piece by piece to their ends, by each build of hfs_tool, by its
-viewers (whose answers are made of rows) and by hfs_plain, with those bytes; the lines of `ls` for each folder and the bytes of `cat` for
-each fork. What it prints is how many of all that there were. At a difference it ends with 1 and leaves the image and the script of it.
+What is compared: the report of `check`; the bytes of each record and of each fork, read here by the
+layout of the format, with the lists; the answer to each call that reads, of each ID and each item,
+forks piece by piece to their ends, by each build of hfs_tool, by its viewers (whose answers are made
+of rows) and by hfs_plain, with those bytes; the lines of `ls` for each folder and the bytes of `cat`
+for each fork. What it prints is how many of all that there were. At a difference it ends with 1 and
+leaves the image and the script of it.
 """
 import argparse
 from dataclasses import dataclass, field
@@ -38,7 +42,8 @@ def image_of(name: str) -> Path:
 
 @dataclass(frozen=True)
 class Known:
-    """What hfsutils and libhfs show of a volume, and the depth of its catalog with its free nodes."""
+    """What hfsutils and libhfs show of a volume, and the depth of its catalog with its free
+    nodes."""
     name: str
     files: int
     folders: int
@@ -144,7 +149,8 @@ class Comparison:
         return listed
 
     def answers(self, name: str, catalog: Catalog) -> None:
-        """Each call that reads, by a worker and by viewers of each build, and by the definitions."""
+        """Each call that reads, by a worker and by viewers of each build, and by the
+        definitions."""
         asked = questions(catalog)
         viewed = [(call, told) for call, told in asked if call.word != 'resolve']
         calls, viewer_calls = ([call for call, _ in it] for it in (asked, viewed))

@@ -76,7 +76,8 @@ def of_item(catalog: Catalog, item: Record, index: int) -> Iterator[Question]:
 
 
 def of_fork(file: Record, fork: str, content: bytes) -> Iterator[Question]:
-    """The calls that read a fork piece by piece to its end, which the last one meets, and beyond it."""
+    """The calls that read a fork piece by piece to its end, which the last one meets, and beyond
+    it."""
     for offset in range(0, len(content) + 1, PIECE):
         piece = content[offset:offset + PIECE]
         code = 0 if len(piece) == PIECE else -39
@@ -114,7 +115,8 @@ def of_no_folder(catalog: Catalog, number: int) -> Iterator[Question]:
 
 
 def questions(catalog: Catalog) -> list[Question]:
-    """Each call that reads with what it is to be answered: of each ID from 0 to behind the next one, and of each item in both its forks."""
+    """Each call that reads with what it is to be answered: of each ID from 0 to behind the next
+    one, and of each item in both its forks."""
     found = [(Call.of('info', 2, it), refused(-37)) for it in NO_ITEM_NAMES]
     for number in range(catalog.image.next_id + 2):
         item = catalog.by_id.get(number)
