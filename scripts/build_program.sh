@@ -2,7 +2,7 @@
 # Proves a program over its libraries as `rt` keeps them, and builds it by LLVM as `rt` does, into its out/. It trusts the libraries' kept work, so it
 # serves while a program is tried and measured, and is no verdict. The libraries must have been built (scripts/build_libraries.py).
 #
-# scripts/build_program.sh CRATE, as in: scripts/build_program.sh hfs_full_catalogs
+# scripts/build_program.sh CRATE, as in: scripts/build_program.sh hfs_plain
 set -euo pipefail
 root=$(cd "$(dirname "$0")/.." && pwd)
 kit=/opt/rattle

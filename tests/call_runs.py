@@ -17,7 +17,7 @@ from driver.disk import Bench, Disk, finished, opened_bench
 from driver.drawing import ROOT_ID, Drawing, parts
 from driver.image import MDB
 from driver.keeping import ensure
-from driver.programs import ROOT, found_programs
+from driver.programs import REAL_VOLUMES, found_programs
 
 # How many nodes the catalogs of the new volumes have.
 NODES = (4, 5, 6, 7, 8, 10, 13, 17, 24, 40)
@@ -36,6 +36,9 @@ CODES = {
     'setinfo': f'0 {LOCKED} -37 -120 -43 -45', 'lock': f'0 {LOCKED} -37 -120 -43', 'unlock': f'0 {LOCKED} -37 -120 -43',
     'newid': f'0 {LOCKED} -37 -120 -43 -1302 -1301 -34', 'dropid': f'0 {LOCKED} -1302 -1300', 'resolve': '0 -1302 -1300',
 }
+LISTED = {(word, code) for word, row in CODES.items() for code in row.split()}
+# How many lists are drawn for each number of nodes, and how many calls a list has. With fewer not each code is answered.
+LISTS, CALLS = 20, 200
 # How many folders lie in one another, and the ID of the first.
 FOLDERS, FIRST = 200, 16
 DUPLICATE, BAD_MOVE = '-48\t-', '-122\t-'
@@ -79,16 +82,21 @@ def draw_on_new(bench: Bench, given, codes: Codes) -> None:
 def draw_on_real(bench: Bench, given, codes: Codes) -> None:
     """Makes drawn lists on the volumes of other programs."""
     for name in REAL:
-        content = (ROOT / 'tests' / 'volumes' / f'{name}.img').read_bytes()
+        content = (REAL_VOLUMES / f'{name}.img').read_bytes()
         for image in dict.fromkeys((content, unlocked(content))):
             draw_list(Disk(bench, image), random.Random(f'{given.seed} {name}'), given.calls, codes)
         print(f'{name}: a list of {given.calls} calls, answered alike', flush=True)
 
 
+def ensure_listed(codes: Codes) -> None:
+    """A difference where a call was answered a code that it has not."""
+    ensure(codes <= LISTED, f'answered, and not listed: {sorted(codes - LISTED)}')
+
+
 def ensure_all(codes: Codes) -> None:
-    """A difference where a call was never answered one of its codes, or one that it has not."""
-    wanted = {(word, code) for word, row in CODES.items() for code in row.split()}
-    ensure(codes == wanted, f'never answered: {sorted(wanted - codes)}; answered, but not listed: {sorted(codes - wanted)}')
+    """A difference where a call was never answered one of its codes."""
+    ensure(codes >= LISTED, f'never answered: {sorted(LISTED - codes)}')
+    print('each code of each call was answered', flush=True)
 
 
 def name_of(number: int) -> str:
@@ -128,8 +136,8 @@ def move_about(bench: Bench) -> None:
 
 def main() -> None:
     words = argparse.ArgumentParser(description='Makes drawn lists of calls.')
-    words.add_argument('--lists', type=int, default=20, help='how many lists are drawn for each number of nodes')
-    words.add_argument('--calls', type=int, default=200, help='how many calls a list has')
+    words.add_argument('--lists', type=int, default=LISTS, help='how many lists are drawn for each number of nodes')
+    words.add_argument('--calls', type=int, default=CALLS, help='how many calls a list has')
     words.add_argument('--seed', default='1', help='what the lists are drawn by')
     words.add_argument('--kept', type=Path, default=Path('call_runs.kept'), help='where the files of what differs are kept')
     given = words.parse_args()
@@ -137,8 +145,9 @@ def main() -> None:
     with opened_bench(found_programs(), given.kept) as bench:
         draw_on_new(bench, given, codes)
         draw_on_real(bench, given, codes)
-        ensure_all(codes)
-        print('each code of each call was answered', flush=True)
+        ensure_listed(codes)
+        if given.lists * given.calls >= LISTS * CALLS:
+            ensure_all(codes)
         move_about(bench)
         finished('drawn lists', bench, started)
 

@@ -181,7 +181,7 @@ def ensure_journal(bench: Bench, image: Path, journal: list[Made], now: int) -> 
     calls = [call for worker in WORKERS for call in sight_calls(worker)]
     for made in journal:
         calls += [made.call] + (sight_calls(made.worker) if made.is_change else [])
-    answers, state = bench.plain(image, bench.lay('plain script', script_of(calls)), now)
+    answers, state = bench.plain(image, bench.lay('plain_script', script_of(calls)), now)
     following = iter(answers)
     sights = {worker: [next_sight(following)] for worker in WORKERS}
     for made in journal:
@@ -215,6 +215,7 @@ def run_round(disk: Disk, program: Program, lines: Lines, now: int) -> tuple[Ima
     """Runs a script. The volume that is saved, when it is as it must be, and how many answers to viewers are from in between."""
     bench = disk.bench
     image, script = bench.lay('image', disk.image.content), bench.lay('script', lines.text)
+    bench.lay('now', f'{now}\n')
     text = bench.run(program, image, script, now, bench.folder / 'saved')
     bench.lay('answers', text)
     answers = lines.answers(text)

@@ -25,10 +25,9 @@ from catalog_records import Catalog, Record
 from driver.calls import read_answers, script_of
 from driver.disk import Bench, opened_bench
 from driver.keeping import ensure
-from driver.programs import ROOT, Program, found_programs
+from driver.programs import REAL_VOLUMES, Program, found_programs
 from told import first_difference, name_of, questions
 
-VOLUMES = ROOT / 'tests' / 'volumes'
 # Seconds from the clock of the Macintosh to that of Unix.
 UNIX = 2_082_844_800
 # The offset basis with which libhfs's lists were made.
@@ -37,7 +36,7 @@ VIEWERS = ('v1', 'v2')
 
 
 def image_of(name: str) -> Path:
-    return VOLUMES / f'{name}.img'
+    return REAL_VOLUMES / f'{name}.img'
 
 
 @dataclass(frozen=True)
@@ -139,7 +138,7 @@ class Comparison:
 
     def list_of(self, name: str, catalog: Catalog) -> list[Listed]:
         """The list that libhfs made of a volume, with which the bytes of its records agree."""
-        listed = [Listed.of(it) for it in (VOLUMES / f'{name}.list').read_text(encoding='ascii').splitlines()]
+        listed = [Listed.of(it) for it in (REAL_VOLUMES / f'{name}.list').read_text(encoding='ascii').splitlines()]
         walked = catalog.walked()
         ensure(len(listed) == len(walked), f'{name} has {len(walked)} items, and its list {len(listed)}')
         for line, item in zip(listed, walked):

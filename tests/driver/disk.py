@@ -108,10 +108,13 @@ class Bench:
         return dict(line.split(' ') for line in lines[1:])
 
     def keep(self, what: str) -> None:
-        """Keeps the files of what differs, and says what it was."""
+        """Keeps the files of what differs, and says what it was, and how it is seen again."""
         shutil.rmtree(self.kept, ignore_errors=True)
         shutil.copytree(self.folder, self.kept)
-        (self.kept / 'what').write_text(what + '\n', encoding='utf-8', errors='replace')
+        now = self.folder / 'now'
+        moment = now.read_text().strip() if now.exists() else '0'
+        again = f'hfs_tool run image script --now {moment} --out saved\nhfs_plain image plain_script --now {moment}\n'
+        (self.kept / 'what').write_text(f'{what}\n{again}', encoding='utf-8', errors='replace')
 
 
 @contextmanager
@@ -172,9 +175,9 @@ class Disk:
         text = bench.run(first, image, script, now, saved)
         bench.lay('answers', text)
         for program in others:
-            other = bench.run(program, image, script, now, bench.folder / 'saved by rattle')
+            other = bench.run(program, image, script, now, bench.folder / 'saved_by_rattle')
             ensure(other == text, difference_of(program.name, other, first.name, text))
-            ensure((bench.folder / 'saved by rattle').read_bytes() == saved.read_bytes(), f'{program.name} saves another image')
+            ensure((bench.folder / 'saved_by_rattle').read_bytes() == saved.read_bytes(), f'{program.name} saves another image')
             bench.counts.images += 1
         answers = read_answers(text)
         numbers = [('1', str(it)) for it in range(1, len(calls) + 1)]
@@ -185,8 +188,8 @@ class Disk:
         """The catalog's room behind the first calls, by the image that is saved then."""
         bench = self.bench
         part = bench.lay('part', script_of(calls[:count]))
-        bench.run(bench.programs.tool, bench.folder / 'image', part, now, bench.folder / 'saved part')
-        return Image((bench.folder / 'saved part').read_bytes()).catalog.room
+        bench.run(bench.programs.tool, bench.folder / 'image', part, now, bench.folder / 'saved_part')
+        return Image((bench.folder / 'saved_part').read_bytes()).catalog.room
 
     def ensure_room(self, calls: Sequence[Call], answers: list[Answer], now: int) -> None:
         """A difference where a call that is answered -34 had its reserve, or tells another room than there was, or one that is
@@ -207,7 +210,7 @@ class Disk:
     def run_plain(self, image: Path, calls: Sequence[Call], answers: list[Answer], now: int) -> State:
         """The volume that hfs_plain makes of the image by the calls that met no want of nodes, each of which it answers alike."""
         pairs = [(call, answer) for call, answer in zip(calls, answers) if not answer.wanting]
-        script = self.bench.lay('plain script', script_of(call for call, _ in pairs))
+        script = self.bench.lay('plain_script', script_of(call for call, _ in pairs))
         plain, state = self.bench.plain(image, script, now)
         ensure(len(plain) == len(pairs), f'hfs_plain answers {len(plain)} of {len(pairs)} calls')
         for number, (answer, (call, told)) in enumerate(zip(plain, pairs), 1):

@@ -5,6 +5,8 @@ from dataclasses import dataclass
 from pathlib import Path
 
 ROOT = Path(__file__).resolve().parents[2]
+# Volumes of other programs.
+REAL_VOLUMES = ROOT / 'tests' / 'volumes'
 # How many seconds a program may take, where nothing else is said.
 SECONDS = 120
 
@@ -61,7 +63,7 @@ class Programs:
 def built(crate: str) -> Path:
     """A program as LLVM builds it, which is built and proved now where it isn't there."""
     path = ROOT / 'crates' / crate / 'out' / crate
-    if not path.exists():
+    if not path.exists() and path.parents[1].is_dir():
         subprocess.run(['rt', 'run'], cwd=path.parents[1], stdin=subprocess.DEVNULL, stdout=subprocess.DEVNULL, check=False)
     if not path.exists():
         raise SystemExit(f'{path} is not there, and rt run does not build it')
