@@ -23,7 +23,7 @@ from typing import Iterator, Sequence
 from catalog_records import DATES, FLAGS, FOLDER, LOCKED, Catalog, Record
 from driver.calls import Call, read_answers, script_of
 from driver.disk import Bench, Disk, difference_of, finished, opened_bench
-from driver.image import changed_blocks
+from driver.image import BLOCK, MDB, Image, changed_blocks, extents_at, number_at
 from driver.keeping import ensure
 from driver.programs import found_programs
 from real_volumes import SOUND, image_of
@@ -38,10 +38,12 @@ DONE = '0\t-'
 NARROW, NARROW_ROOM = 'hfsutils-800k', 'full 6 2'
 LOCKED_NAME = 'genisoimage-locked'
 # Where drAtrb stands, and what it is without the two locks.
-ATTRIBUTES, UNLOCKED = 1_024 + 10, b'\1\0'
+ATTRIBUTES, UNLOCKED = MDB + 10, b'\1\0'
 # On how many items each call is made alone, to see how many blocks it changes, and how many those
 # may be.
 ALONE, MOST_BLOCKS = 20, 2
+# How many nodes the catalogs get more that have too few for items to be renamed and moved.
+ROOM = 400
 # How many files are deleted from one comparison of all that is left to the next.
 STEP = 25
 HOME = 'Made by calls'
@@ -235,7 +237,8 @@ def ensure_left(before: Catalog, after: Catalog, gone: set[int]) -> None:
 
 
 def delete_all(bench: Bench, content: bytes) -> dict[str, str]:
-    """Deletes all files of a volume from the last on, and gives the report on what is left."""
+    """Deletes all files of a volume from the last on, and gives the report on what is left; then all
+    folders."""
     disk, before = Disk(bench, content), Catalog(content)
     files = [it for it in items_of(content) if not it.is_folder]
     gone: set[int] = set()
@@ -251,7 +254,68 @@ def delete_all(bench: Bench, content: bytes) -> dict[str, str]:
               'alternate': disk.report['alternate'], 'unowned': disk.report['unowned']}
     told = bench.report_of(bench.folder / 'saved')
     ensure(told == wanted, f'check tells {told}, wanted {wanted}')
+    make_all(disk, [(Call.of('delete', it.parent, it.name), DONE) for it in reversed(items_of(disk.image.content))])
+    ensure([it.id for it in Catalog(disk.image.content).items] == [], 'an item is left')
     return told
+
+
+# ---- all items renamed, moved and given IDs
+
+def with_room(content: bytes, nodes: int) -> bytes:
+    """A volume whose catalog has so many free nodes more, in the first free blocks that lie behind one another."""
+    image, laid = Image(content), bytearray(content)
+    count = -(-nodes // image.factor)
+    bits = ''.join(f'{it:08b}' for it in image.bitmap)[:image.block_count]
+    first = bits.index('0' * count)
+    for block in range(first, first + count):
+        laid[image.bitmap_start * BLOCK + block // 8] |= 0x80 >> block % 8
+    header = image.catalog.blocks[0] * BLOCK
+    more = count * image.factor
+    # drFreeBks, drCTFlSize, bthNNodes and bthFree
+    for at, width, change in ((MDB + 34, 2, -count), (MDB + 146, 4, more * BLOCK), (header + 36, 4, more), (header + 40, 4, more)):
+        laid[at:at + width] = (number_at(content, at, width) + change).to_bytes(width, 'big')
+    taken = len(extents_at(content, MDB + 150))
+    laid[MDB + 150 + 4 * taken:MDB + 154 + 4 * taken] = first.to_bytes(2, 'big') + count.to_bytes(2, 'big')
+    return bytes(laid)
+
+
+def about(item: Item, home: int) -> Iterator[Question]:
+    """The calls that rename and move an item, give it an ID where it is a file, and undo all that."""
+    dir, name, new = item.parent, item.name, f'item {item.id} of {item.parent}'
+    yield Call.of('rename', dir, name, new), DONE
+    yield Call.of('rename', dir, new, new.upper()), DONE
+    yield Call.of('info', dir, name), refused(-43)
+    yield Call.of('move', dir, new, home), DONE
+    yield Call.of('move', dir, new, home), refused(-43)
+    yield Call.of('info', home, new), replace(item, parent=home, name=new.upper()).info
+    if item.is_folder:
+        yield Call.of('move', home, new, item.id), refused(-122)
+        yield Call.of('newid', home, new), refused(-1302)
+    else:
+        yield Call.of('newid', home, new), f'0\tid {item.id}'
+        yield Call.of('resolve', item.id), f'0\tplace {home} {new.upper()}'
+        yield Call.of('dropid', item.id), DONE
+        yield Call.of('resolve', item.id), refused(-1300)
+    yield Call.of('rename', home, new, name), DONE
+    yield Call.of('move', home, name, dir), DONE
+
+
+def move_about(bench: Bench, content: bytes) -> int:
+    """Renames and moves each item of a volume and back again; how many there are. A locked file is not renamed."""
+    catalog = Catalog(content)
+    items = items_of(content)
+    home = catalog.image.next_id
+    disk = Disk(bench, content)
+    make_all(disk, [(Call.of('mkdir', ROOT, HOME), f'0\tid {home}')])
+    free = [it for it in items if not it.is_locked]
+    make_all(disk, [asked for item in free for asked in about(item, home)], 150)
+    make_all(disk, [(Call.of('delete', ROOT, HOME), DONE)])
+    undated = lambda given: [replace(it, modified=0) if it.is_folder else it for it in given]
+    ensure(undated(items_of(disk.image.content)) == undated(items), 'other items are behind it')
+    after = Catalog(disk.image.content)
+    for file in catalog.files:
+        ensure(after.forks(after.by_id[file.id]) == catalog.forks(file), f'a fork of {file}')
+    return len(free)
 
 
 # ---- a story
@@ -402,6 +466,8 @@ def try_volume(bench: Bench, name: str, content: bytes) -> None:
     print(f'{name}: {count} items set, at most {most} blocks by a call')
     told = delete_all(bench, content)
     print(f"{name}: all files deleted, folders {told['folders']}, free {told['free']}, unowned {told['unowned']}")
+    roomy = with_room(content, ROOM) if name != LOCKED_NAME else content
+    print(f'{name}: {move_about(bench, roomy)} items renamed, moved and given IDs, and all that undone')
     filled = fill_and_empty(bench, content)
     print(f'{name}: {filled} files made up to -34 and deleted')
     if name == NARROW:
