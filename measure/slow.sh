@@ -10,7 +10,7 @@
 # as many bytes in their one file. Where fsck.hfs is installed it is asked whether each volume is sound.
 set -euo pipefail
 cd "$(dirname "$0")/.."
-tool=$PWD/crates/hfs_tool/out/hfs_tool
+tool=${HFS_TOOL:-$PWD/crates/hfs_tool/out/hfs_tool}
 [ -x "$tool" ] || (cd crates/hfs_tool && rt run < stdin > /dev/null)
 
 folder=$(mktemp -d)

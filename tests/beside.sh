@@ -2,7 +2,7 @@
 # installed here: hfsutils is Debian's package of that name.
 set -euo pipefail
 cd "$(dirname "$0")/.."
-tool=$PWD/crates/hfs_tool/out/hfs_tool
+tool=${HFS_TOOL:-$PWD/crates/hfs_tool/out/hfs_tool}
 volumes=$PWD/tests/volumes
 
 if ! command -v hmount > /dev/null; then

@@ -4,7 +4,7 @@
 # programs is compared by tests/real_volumes.py.
 set -euo pipefail
 cd "$(dirname "$0")/.."
-tool=$PWD/crates/hfs_tool/out/hfs_tool
+tool=${HFS_TOOL:-$PWD/crates/hfs_tool/out/hfs_tool}
 volumes=$PWD/tests/volumes
 [ -x "$tool" ] || (cd crates/hfs_tool && rt run < stdin > /dev/null)
 
