@@ -173,7 +173,7 @@ class Bed:
         checked = self.run(tool, 'check', self.image)
         saved = self.folder / 'saved'
         saved.unlink(missing_ok=True)
-        ran = self.run(tool, 'run', self.image, self.folder / 'calls', '--now', NOW, '--out', saved)
+        ran = self.run(tool, 'run', self.image, self.folder / 'script', '--now', NOW, '--out', saved)
         if checked.status == 0:
             ensure(checked.text.startswith('sound\n') and ran.status == 0, f'check says sound, and run ends with {ran}')
             ensure(not wanted, f'check says sound, where {wanted!r} is wanted')
@@ -210,10 +210,8 @@ class Bed:
     def plain_state(self, answers: list[Answer]):
         """The volume that hfs_plain makes of the image, by the calls that met no want of nodes,
         each of which it answers alike."""
-        kept = tuple(at for at, answer in enumerate(answers) if not answer.wanting)
-        script = self.folder / f'plain {len(kept)} {hash(kept)}'
-        if not script.exists():
-            script.write_text(script_of(CALLS[at] for at in kept), encoding='ascii')
+        kept = [at for at, answer in enumerate(answers) if not answer.wanting]
+        script = self.lay('plain_script', script_of(CALLS[at] for at in kept))
         told = self.run(self.programs.plain, self.image, script, '--now', NOW)
         ensure(told.status == 0, f'hfs_plain ends with {told.status}')
         plain, state = read_plain(told.text)
@@ -226,7 +224,7 @@ class Bed:
         """The other build answers and saves alike, the saved image holds the volume of hfs_plain,
         and viewers answer as a worker does."""
         saved, other = self.folder / 'saved', self.folder / 'saved too'
-        again = self.run(tool, 'run', self.image, self.folder / 'calls', '--now', NOW, '--out', other)
+        again = self.run(tool, 'run', self.image, self.folder / 'script', '--now', NOW, '--out', other)
         ensure(again == Ended(0, text) and other.read_bytes() == saved.read_bytes(), f'{tool.name} answers or saves otherwise')
         held = read_plain(self.run(self.programs.plain, saved, self.folder / 'nothing').text)[1]
         ensure(held == state, 'the saved image holds another volume')
@@ -306,11 +304,12 @@ def length_jobs(step: int, turn: int) -> Iterator[Length]:
 BED: list[Bed] = []
 
 
-def open_bed(programs: Programs, folder: Path) -> None:
+def open_bed(programs: Programs, folder: str) -> None:
     """Begins a process of the pool."""
     signal.signal(signal.SIGALRM, overdue)
     bed = Bed(programs, Path(tempfile.mkdtemp(dir=folder)))
-    bed.lay('calls', script_of(CALLS))
+    bed.lay('script', script_of(CALLS))
+    bed.lay('now', f'{NOW}\n')
     bed.lay('viewed', script_of(VIEWED) + script_of(VIEWED, 'v1'))
     bed.lay('nothing', '')
     BED.append(bed)
@@ -337,11 +336,11 @@ def chunks(jobs: Iterable, size: int = 64) -> list[list]:
 def attempt_by_pool(bench: Bench, jobs: Iterable) -> Counts:
     """Tries images by as many processes as there are processors."""
     counts = Counts()
-    with Pool(os.cpu_count(), open_bed, (bench.programs, bench.folder)) as pool:
+    with tempfile.TemporaryDirectory(dir=bench.folder.parent) as beds, Pool(os.cpu_count(), open_bed, (bench.programs, beds)) as pool:
         for counted, what, folder in pool.imap_unordered(attempt_all, chunks(jobs)):
             counts.add(counted)
             if what:
-                shutil.copytree(folder, bench.folder / 'image that differs')
+                shutil.copytree(folder, bench.folder, dirs_exist_ok=True)
                 raise Difference(what)
     return counts
 

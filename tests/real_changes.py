@@ -441,7 +441,7 @@ def watch(bench: Bench, content: bytes, viewers: int = 4, rounds: int = 60) -> i
     questions = [Call.of('list', ROOT), Call.of('list', next_id), Call.of('dirinfo', ROOT), Call.of('indexed', next_id, 2), Call.of('info', next_id, MADE[0])]
     image = bench.lay('image', content)
     script = [it for change in [None, *changes] for it in ([change] if change else []) + questions]
-    plain = [it.told for it in bench.plain(image, bench.lay('plain script', script_of(script)), NOW)[0]]
+    plain = [it.told for it in bench.plain(image, bench.lay('plain_script', script_of(script)), NOW)[0]]
     states = [plain[:len(questions)]]
     for at in range(len(questions), len(plain), len(questions) + 1):
         states.append(plain[at + 1:at + 1 + len(questions)])

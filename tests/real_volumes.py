@@ -158,7 +158,7 @@ class Comparison:
         for tool in self.tools:
             told = [it.told for it in read_answers(self.bench.text(tool, 'run', image_of(name), script))]
             self.compare(tool, name, wanted, told)
-        plain = self.bench.plain(image_of(name), self.bench.lay('plain script', script_of(calls)), 0)[0]
+        plain = self.bench.plain(image_of(name), self.bench.lay('plain_script', script_of(calls)), 0)[0]
         self.compare(self.bench.programs.plain, name, asked, [it.told for it in plain])
 
     def compare(self, program: Program, name: str, asked: list, told: list[str]) -> None:
