@@ -2,8 +2,8 @@
 # installed here: hfsutils is Debian's package of that name.
 set -euo pipefail
 cd "$(dirname "$0")/.."
-tool=$PWD/crates/hfs_tool/out/hfs_tool
-volumes=$PWD/crates/hfs_real_volumes/data
+tool=${HFS_TOOL:-$PWD/crates/hfs_tool/out/hfs_tool}
+volumes=$PWD/tests/volumes
 
 if ! command -v hmount > /dev/null; then
     echo 'skipped: hfsutils is not installed'

@@ -6,4 +6,4 @@ cd "$(dirname "$0")/.."
 command -v python3 > /dev/null || { echo skipped; exit 0; }
 tool=${HFS_TOOL:-$PWD/crates/hfs_tool/out/hfs_tool}
 [ -x "$tool" ] || (cd crates/hfs_tool && rt run < stdin > /dev/null)
-python3 tests/both_ways.py "$tool" "$PWD/crates/hfs_real_volumes/data"
+python3 tests/both_ways.py "$tool" "$PWD/tests/volumes"

@@ -25,7 +25,7 @@ lay() {
 if [ "${1:-}" = image ]; then given=${4:-}; else given=${3:-}; fi
 if [ -z "$given" ]; then
     given=$folder
-    cp crates/hfs_real_volumes/data/*.img "$folder"
+    cp tests/volumes/*.img "$folder"
     lay deep 60
     lay tall 100
     lay cut_catalog_shuffled 300

@@ -3,9 +3,12 @@
 # is listed and read by ours, and what ours wrote is mounted, listed and filled by hfsutils. Prints 'peers agree', or
 # 'skipped' where hfsutils is not installed, or what differs and ends with status 1.
 . "$(dirname "$0")/beside.sh"
-changes=$PWD/crates/hfs_real_volumes/out/hfs_real_volumes
-# It is built, and then ends without its volumes.
-[ -x "$changes" ] || (cd crates/hfs_real_volumes && rt run > /dev/null 2>&1) || true
+command -v python3 > /dev/null || { echo 'skipped: python3 is not installed'; exit 0; }
+
+# Writes the image that calls leave of another, each of them compared with the definitions meanwhile (tests/real_changes.py).
+leave() {
+    python3 tests/real_changes.py leave "$@"
+}
 
 fail() {
     echo "peers differ: $1"
@@ -119,10 +122,10 @@ compare_settings() {
     hmount "$image" > /dev/null
     peer_items > "$folder/before"
     humount
-    "$changes" change set "$image" "$folder/locked.img" || fail "the items of $image are not set"
+    leave set "$image" "$folder/locked.img" || fail "the items of $image are not set"
     check_sound "$folder/locked.img"
     compare_set "$folder/locked.img" F
-    "$changes" change unlock "$folder/locked.img" "$folder/unlocked.img" || fail "the files of $image are not unlocked"
+    leave unlock "$folder/locked.img" "$folder/unlocked.img" || fail "the files of $image are not unlocked"
     check_sound "$folder/unlocked.img"
     compare_set "$folder/unlocked.img" f
 }
@@ -194,7 +197,7 @@ change_by_peer() {
 compare_story() {
     local image=$1 number=$2
     copy_volume "$image" "$folder/before.$number"
-    "$changes" change story "$image" "$folder/story.img" || fail "the story on $image"
+    leave story "$image" "$folder/story.img" || fail "the story on $image"
     check_sound "$folder/story.img"
     check_by_fsck "$image" "$folder/story.img"
     copy_volume "$folder/story.img" "$folder/after.$number"

@@ -1,12 +1,11 @@
 #!/usr/bin/env bash
-# Runs the program as its users do: every folder of three real volumes listed and both forks of each file read, against
-# the lists that libhfs made of them; what the README shows; each exit status with its text; and that nothing which reads
-# changes an image. Prints 'the program agrees', or what differs and ends with status 1.
+# Runs the program as its users do: what the README shows; each exit status with its text; and that nothing which reads
+# changes an image. Prints 'the program agrees', or what differs and ends with status 1. What it tells of volumes of other
+# programs is compared by tests/real_volumes.py.
 set -euo pipefail
 cd "$(dirname "$0")/.."
-tool=$PWD/crates/hfs_tool/out/hfs_tool
-volumes=$PWD/crates/hfs_real_volumes/data
-lists=$PWD/crates/hfs_real_volumes/stdout
+tool=${HFS_TOOL:-$PWD/crates/hfs_tool/out/hfs_tool}
+volumes=$PWD/tests/volumes
 [ -x "$tool" ] || (cd crates/hfs_tool && rt run < stdin > /dev/null)
 
 folder=$(mktemp -d)
@@ -46,53 +45,11 @@ wants_piped() {
     cmp -s "$folder/printed" "$folder/piped" || fail "'$*' prints another thing out of a pipe"
 }
 
-# The list that libhfs made of a volume, a line for each item; a backslash stands there as its code.
-list_of() {
-    awk -F'\t' -v name="$1.img " 'NF == 1 { here = (index($0, name) == 1); next } here' "$lists" | sed 's/\\5c/\\/g'
-}
-
-# The FNV-1a sum of standard input, from the basis that the lists have.
-sum() {
-    perl -e 'use integer; local $/; my $sum = 0x14650fb0739d0383;
-        for (unpack "C*", <STDIN> // "") { $sum = ($sum ^ $_) * 0x100000001b3 } printf "%016x", $sum'
-}
-
-# Compares the list of every folder of a volume.
-compare_folders() {
-    local name=$1 image=$2 dir
-    for dir in 2 $(awk -F'\t' '$1 == "d" { print $2 }' "$folder/list"); do
-        awk -F'\t' -v dir="$dir" 'BEGIN { OFS = "\t" }
-            $3 == dir { print ($1 == "d" ? "d" : "f"), $2, $4, ($1 == "d" ? 0 : $5), $12 }' "$folder/list" > "$folder/wanted"
-        "$tool" ls "$image" "$dir" > "$folder/printed" || fail "ls $dir of $name ends with $?"
-        cmp "$folder/wanted" "$folder/printed" || fail "the folder $dir of $name"
-    done
-}
-
-# Compares the sums of both forks of every file of a volume.
-compare_forks() {
-    local name=$1 image=$2 kind id parent length resource data_sum resource_sum rest item
-    while IFS=$'\t' read -r kind id parent length resource data_sum resource_sum rest; do
-        [ "$kind" != d ] || continue
-        item=${rest##*$'\t'}
-        [ "$("$tool" cat "$image" "$parent" "$item" | sum)" = "$data_sum" ] || fail "the data fork of $id in $name"
-        [ "$("$tool" cat "$image" "$parent" "$item" --resource | sum)" = "$resource_sum" ] || fail "the resource fork of $id in $name"
-    done < "$folder/list"
-}
-
 # Makes changed.img of an image, with other bytes from a place on.
 change() {
     cp "$1" "$folder/changed.img"
     printf "$3" | dd of="$folder/changed.img" bs=1 seek="$2" conv=notrunc 2> /dev/null
 }
-
-for name in hfsutils-800k hfsutils-1440k-names genisoimage-locked; do
-    cp "$volumes/$name.img" "$folder/read.img"
-    list_of "$name" > "$folder/list"
-    [ -s "$folder/list" ] || fail "there is no list of $name"
-    compare_folders "$name" "$folder/read.img"
-    compare_forks "$name" "$folder/read.img"
-    cmp "$volumes/$name.img" "$folder/read.img" || fail "$name was written"
-done
 
 # What the README and the manual are shown with: images in a folder, and three volumes with something before them.
 readme=$folder/readme

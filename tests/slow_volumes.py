@@ -1,5 +1,5 @@
 #!/usr/bin/env python3
-"""Writes sound HFS volumes that are old or hostile, and plain ones of the same size, for tests/slow.sh.
+"""Writes sound HFS volumes that are old or hostile, and plain ones of the same size, for measure/slow.sh.
 
 python3 slow_volumes.py KIND COUNT MEGABYTES FILE
 

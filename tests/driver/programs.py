@@ -6,7 +6,7 @@ from pathlib import Path
 
 ROOT = Path(__file__).resolve().parents[2]
 # Volumes of other programs.
-REAL_VOLUMES = ROOT / 'crates' / 'hfs_real_volumes' / 'data'
+REAL_VOLUMES = ROOT / 'tests' / 'volumes'
 # How many seconds a program may take, where nothing else is said.
 SECONDS = 120
 

@@ -1,0 +1,188 @@
+#!/usr/bin/env python3
+"""How long calls take in `hfs_tool run`: of workers under the lock, and of viewers, whom rows answer.
+
+measure/run_times.py calls [IMAGE]   SetFInfo, Create, Delete and CatMove by a worker, and saving;
+                                     without IMAGE on a volume of 6,000 items that it makes, in 6 MB
+measure/run_times.py rows [IMAGE]    look-ups, lists and children by place, by a viewer and by a
+                                     worker; without IMAGE on one of 60,000 items
+measure/run_times.py shared          calls of 1, 2, 4 and 8 workers; lists of 1, 2, 4 and 8 viewers,
+                                     alone and beside a worker that writes
+
+A script is run some times, and one without its lines as often: the middle of the first less the
+middle of the second, and the best less the best, for each call. So it has what a call costs with its
+line that is read and its answer that is printed, and nothing of what it takes to load, check and
+share the volume. The volume needs free nodes in its catalog.
+"""
+import argparse
+import os
+import subprocess
+import sys
+import tempfile
+import time
+from dataclasses import dataclass
+from pathlib import Path
+from typing import Iterable, Optional
+
+ROOT = Path(__file__).resolve().parents[1]
+sys.path.insert(0, str(ROOT / 'tests'))
+
+from driver.calls import Call, script_of  # noqa: E402
+from driver.programs import built  # noqa: E402
+
+RUNS = 7
+ROOT_ID, FIRST_FREE = 2, 16
+# How far one look-up is from the one before it, in items.
+STEP = 7_919
+LOOK_UPS = 60_000
+
+
+@dataclass(frozen=True)
+class Item:
+    """An item as `list` tells of it."""
+    kind: str
+    id: int
+    parent: int
+    name: str
+
+
+@dataclass
+class Runs:
+    """The program on a volume, and a folder for the files that it reads and writes."""
+    tool: Path
+    folder: Path
+    image: Path
+
+    def once(self, script: Path, *words) -> float:
+        """How many seconds a run of a script takes."""
+        begin = time.perf_counter()
+        subprocess.run([self.tool, 'run', self.image, script, *words], stdout=subprocess.DEVNULL, check=True)
+        return time.perf_counter() - begin
+
+    def spent(self, text: str, *words) -> tuple[float, float]:
+        """The middle and the best of some runs of a script."""
+        script = self.folder / 'script'
+        script.write_text(text, encoding='latin-1')
+        times = sorted(self.once(script, *words) for _ in range(RUNS))
+        return times[RUNS // 2], times[0]
+
+    def report(self, what: str, text: str, count: int, beside: str = '') -> None:
+        """Prints what a call takes of a script with so many beside those of another script, which
+        it begins with."""
+        without, most = self.spent(beside), self.spent(text)
+        middle, best = ((a - b) / max(count, 1) * 1e6 for a, b in zip(most, without))
+        print(f'{what}: {middle:.2f} µs each in the middle, {best:.2f} at best ({count})', flush=True)
+
+    def items(self) -> list[Item]:
+        """All items but the root, folder by folder."""
+        found, waiting = [], [ROOT_ID]
+        while waiting:
+            script = self.folder / 'script'
+            script.write_text(script_of(Call.of('list', it) for it in waiting), encoding='ascii')
+            told = subprocess.run([self.tool, 'run', self.image, script], stdout=subprocess.PIPE, check=True).stdout.decode('latin-1')
+            fields = [line[1:].split(' ', 11) for line in told.split('\n') if line.startswith('\t')]
+            level = [Item(it[0], int(it[1]), int(it[2]), it[11]) for it in fields]
+            found += level
+            waiting = [it.id for it in level if it.kind == 'd']
+        return found
+
+
+def files_in(folders: Iterable[int], count: int, word: str) -> list[Call]:
+    return [Call.of(word, folder, f'new file {it}') for folder in folders for it in range(count)]
+
+
+def measure_calls(runs: Runs) -> None:
+    """Measures changes of one worker, and saving."""
+    items = runs.items()
+    folders = [it.id for it in items if it.kind == 'd']
+    print(f'{len(items)} items in {runs.image.stat().st_size / 1e6:.1f} MB')
+    settings = [Call.of('setfinfo', it.parent, it.name, '07' * 16) for it in items if it.kind == 'f']
+    runs.report('SetFInfo', script_of(settings), len(settings))
+    made, gone = (files_in(folders, 5, word) for word in ('create', 'delete'))
+    runs.report('Create', script_of(made), len(made))
+    runs.report('Delete', script_of(made + gone), len(gone), script_of(made))
+    runs.report('SetFInfo behind both', script_of(made + gone + settings), len(settings), script_of(made + gone))
+    measure_moves(runs, max(it.id for it in items) + 1)
+    script = runs.folder / 'nothing'
+    script.write_text('')
+    saved = min(runs.once(script, '--out', runs.folder / 'saved') for _ in range(RUNS)) - min(runs.once(script) for _ in range(RUNS))
+    print(f'saved, beside a run that does not: {saved * 1e3:.1f} ms')
+
+
+def measure_moves(runs: Runs, next_id: int, rounds: int = 200) -> None:
+    """Measures moves of a folder into one of the root, into one 100 deep and one 200 deep, and
+    back."""
+    chain = [Call.of('mkdir', ROOT_ID if it == 0 else next_id + it - 1, 'deep') for it in range(200)]
+    chain.append(Call.of('mkdir', ROOT_ID, 'moving'))
+    for depth in (1, 100, 200):
+        into = next_id + depth - 1
+        moves = [Call.of('move', ROOT_ID, 'moving', into), Call.of('move', into, 'moving', ROOT_ID)] * rounds
+        runs.report(f'CatMove into a folder {depth} deep, and back', script_of(chain + moves), len(moves), script_of(chain))
+
+
+def measure_rows(runs: Runs) -> None:
+    """Measures reading calls of a viewer and of a worker."""
+    items = runs.items()
+    folders = [ROOT_ID, *(it.id for it in items if it.kind == 'd')]
+    print(f'{len(items)} items in {runs.image.stat().st_size / 1e6:.1f} MB')
+    near, far = ([Call.of('info', it.parent, it.name) for it in (items[k * step % len(items)] for k in range(LOOK_UPS))] for step in (1, STEP))
+    lists = [Call.of('list', it) for it in folders]
+    last = [it for it in items if it.parent == items[-1].parent]
+    indexed = [Call.of('indexed', items[-1].parent, it + 1) for it in range(len(last))] * 20
+    for who, name in (('v1', 'a viewer, of rows'), ('1', 'a worker, of the volume')):
+        print(name)
+        runs.report('  look-up by name', script_of(far, who), len(far))
+        runs.report('  look-up by name, one item after the other', script_of(near, who), len(near))
+        runs.report('  List, an item', script_of(lists, who), len(items))
+        runs.report(f'  GetIndexed in a folder of {len(last)}', script_of(indexed, who), len(indexed))
+
+
+def measure_shared(runs: Runs, calls: int = 16_000, lists: int = 400) -> None:
+    """Measures workers and viewers side by side."""
+    items = runs.items()
+    files = [it for it in items if it.kind == 'f']
+    folders = sorted({it.parent for it in files})
+    for workers in (1, 2, 4, 8):
+        lines = [Call.of('lock' if it % 2 == 0 else 'unlock', files[it % len(files)].parent, files[it % len(files)].name) for it in range(calls)]
+        text = ''.join(script_of(lines[who - 1::workers], who) for who in range(1, workers + 1))
+        runs.report(f'a call through the lock, {workers} workers', text, calls, f'{workers}\tdirinfo\t2\n')
+    writing = script_of(Call.of('lock', it.parent, it.name) for it in files * 3)
+    for viewers in (1, 2, 4, 8):
+        asked = [Call.of('list', folders[it % len(folders)]) for it in range(lists)]
+        count = viewers * lists * len(files) // len(folders)
+        text = ''.join(script_of(asked, f'v{who}') for who in range(1, viewers + 1))
+        runs.report(f'an item of the lists of {viewers} viewers', text, count, f'v{viewers}\tdirinfo\t2\n')
+        runs.report(f'an item of the lists of {viewers} viewers beside a worker', writing + text, count, writing + f'v{viewers}\tdirinfo\t2\n')
+
+
+def made_volume(tool: Path, folder: Path, megabytes: int, folders: int, files: int) -> Path:
+    """A new volume with so many folders in its root, each with so many files, and room for more."""
+    image, script = folder / 'image', folder / 'script'
+    nodes = 200 + folders * files * 3 // 4
+    subprocess.run([tool, 'new', image, 'Many', str(2_048 * megabytes), str(nodes), '4'], check=True)
+    calls = [Call.of('mkdir', ROOT_ID, f'Folder {it:03}') for it in range(folders)]
+    calls += [Call.of('create', FIRST_FREE + it, f'Letter of day {k:03}') for it in range(folders) for k in range(files)]
+    script.write_text(script_of(calls), encoding='ascii')
+    subprocess.run([tool, 'run', image, script, '--out', image], stdout=subprocess.DEVNULL, check=True)
+    return image
+
+
+# What is measured, and the volume on which it is where none is given: its megabytes, folders, and
+# files in each.
+MEASURED = {'calls': (measure_calls, (6, 200, 29)), 'rows': (measure_rows, (40, 200, 299)), 'shared': (measure_shared, (6, 20, 150))}
+
+
+def main() -> None:
+    parser = argparse.ArgumentParser(description=__doc__.split('\n')[0])
+    parser.add_argument('what', choices=MEASURED)
+    parser.add_argument('image', type=Path, nargs='?')
+    words = parser.parse_args()
+    tool = Path(os.environ.get('HFS_TOOL') or built('hfs_tool'))
+    measure, size = MEASURED[words.what]
+    with tempfile.TemporaryDirectory() as work:
+        folder = Path(work)
+        image: Optional[Path] = words.image
+        measure(Runs(tool, folder, image or made_volume(tool, folder, *size)))
+
+
+if __name__ == '__main__':
+    main()
