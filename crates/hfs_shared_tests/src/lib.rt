@@ -15,6 +15,8 @@ mod passes;
 #[cfg(test)]
 mod reading;
 #[cfg(test)]
+mod replaying;
+#[cfg(test)]
 mod sharing;
 #[cfg(test)]
 mod telling;
