@@ -1,8 +1,10 @@
 #!/usr/bin/env python3
-"""Runs the words of the program on small volumes with bytes laid over them, as volumes/images.txt says, and compares what they tell with what stands there. Each
-image is read by its path and out of a pipe, a script without a line is run on it, and it is repaired: what is refused for another fault than a count stays
-as it was. `info` prints the heads of volumes/heads.txt. Then each byte of some blocks is changed, and an image is cut at many places, and `check` tells the
-same both ways; and viewers and workers read all of each volume, and are answered the same.
+"""Runs the words of the program on small volumes with bytes laid over them, as volumes/images.txt
+says, and compares what they tell with what stands there. Each image is read by its path and out of
+a pipe, a script without a line is run on it, and it is repaired: what is refused for another fault
+than a count stays as it was. `info` prints the heads of volumes/heads.txt. Then each byte of some
+blocks is changed, and an image is cut at many places, and `check` tells the same both ways; and
+viewers and workers read all of each volume, and are answered the same.
 
 tests/images.py      runs $HFS_TOOL, or the program as it is built in crates/hfs_tool/out
 """
@@ -68,8 +70,9 @@ def edited(image, edits):
 
 
 def may_be_count(fault):
-    """Whether a fault may be that of a count which a repair mends: the trees' counts have the place 0 as other faults of a header node have, and the count of
-    free blocks the number of blocks, 58 or more."""
+    """Whether a fault may be that of a count which a repair mends: the trees' counts have the place
+    0 as other faults of a header node have, and the count of free blocks the number of blocks, 58
+    or more."""
     words = fault.split(' ')
     if words[0] != 'check':
         return False
@@ -78,7 +81,8 @@ def may_be_count(fault):
 
 
 class Cases:
-    """The cases of a text: the volumes that they begin with, and how many tests and images there were."""
+    """The cases of a text: the volumes that they begin with, and how many tests and images there
+    were."""
 
     def __init__(self, volumes, folder):
         self.volumes = volumes
@@ -99,8 +103,9 @@ class Cases:
         self.check_repair(image, lines[0])
 
     def check_repair(self, image, fault):
-        """A repair ends as it must behind such a check: without a fix; refused for the same fault with the bytes as they were; or, where that may be a count, with a
-        fix or refused for another."""
+        """A repair ends as it must behind such a check: without a fix; refused for the same fault
+        with the bytes as they were; or, where that may be a count, with a fix or refused for
+        another."""
         status, printed = told(['repair', str(self.path), str(self.path)])
         is_kept = self.path.read_bytes() == image
         if fault == 'sound':
@@ -113,7 +118,8 @@ class Cases:
             raise Differs(f'repair ends with {status} and prints {printed!r}')
 
     def repair(self, name, image, lines):
-        """What `repair` tells; a volume that is repaired is the one that it was laid over, and one that is refused is as it was."""
+        """What `repair` tells; a volume that is repaired is the one that it was laid over, and one
+        that is refused is as it was."""
         is_sound = lines[-1] == 'sound'
         want(['repair', str(self.path), str(self.path)], 0 if is_sound else 2, text_of(lines))
         if self.path.read_bytes() != (self.volumes[name] if is_sound else image):
@@ -192,7 +198,8 @@ def run_heads(folder):
 
 
 def changed_images(volumes):
-    """TwoLevels with each byte of blocks 2 to 6 turned over once, and Folder cut at every 128 bytes, down to three blocks."""
+    """TwoLevels with each byte of blocks 2 to 6 turned over once, and Folder cut at every 128
+    bytes, down to three blocks."""
     image = volumes['TwoLevels']
     for at in range(2 * BLOCK, 7 * BLOCK):
         yield image[:at] + bytes([255 - image[at]]) + image[at + 1:]
@@ -201,7 +208,8 @@ def changed_images(volumes):
 
 
 def is_checked_alike(path, image):
-    """Whether `check` tells the same of an image by its path, of which it reads what it needs, and out of a pipe."""
+    """Whether `check` tells the same of an image by its path, of which it reads what it needs, and
+    out of a pipe."""
     path.write_bytes(image)
     return told(['check', str(path)]) == told(['check', '/dev/stdin'], image)
 
@@ -232,7 +240,8 @@ def reading_calls():
 
 
 def replies_to(who, path, script, calls):
-    """What a caller is answered to calls that read. An answer's first fields are who asked and the number of the call, and further lines begin with a tab."""
+    """What a caller is answered to calls that read. An answer's first fields are who asked and the
+    number of the call, and further lines begin with a tab."""
     script.write_text(''.join(f'{who}\t{call}\n' for call in calls), 'ascii')
     status, printed = told(['run', str(path), str(script)])
     if status != 0:
@@ -255,6 +264,9 @@ def run_readers(volumes, folder):
 
 
 def main():
+    if not Path(TOOL).is_file():
+        print(f'{TOOL} is not built')
+        return 1
     with tempfile.TemporaryDirectory() as name:
         folder = Path(name)
         volumes = {small: gzip.decompress((HERE / 'volumes' / 'small' / f'{file}.img.gz').read_bytes()) for small, file in SMALL.items()}

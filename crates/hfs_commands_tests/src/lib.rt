@@ -1,5 +1,6 @@
-//! Tests of the program's words with devices that fail, and of images whose reads fail; of texts that no run of the program shows; and of the
-//! text of scripts. What the words print, `tests/images.py` and `tests/program.sh` show.
+//! Tests of the program's words with devices that fail, and of images whose reads fail; of texts
+//! that no run of the program shows; and of the text of scripts. What the words print,
+//! `tests/images.py` and `tests/program.sh` show.
 #![tactic(auto)]
 
 #[cfg(test)]

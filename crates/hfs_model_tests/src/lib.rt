@@ -1,5 +1,6 @@
-//! Tests of names, of the free nodes that calls need, and of what the plain program alone can be asked for. Each code of each call, and worked lists
-//! of calls, stand as text in `tests/volumes/lists`.
+//! Tests of names, of the free nodes that calls need, and of what the plain program alone can be
+//! asked for. Each code of each call, and worked lists of calls, stand as text in
+//! `tests/volumes/lists`.
 #![tactic(auto)]
 
 #[cfg(test)]

@@ -1,5 +1,5 @@
-//! Eight workers that run side by side, and the plain program, which makes the calls of the journal in their order: it answers each the same code,
-//! and ends with the same folder tree.
+//! Eight workers that run side by side, and the plain program, which makes the calls of the journal
+//! in their order: it answers each the same code, and ends with the same folder tree.
 ghost use Rattle.std.specs.Prelude.{◌≡◌, All};
 
 use crate::reading::{compare, script_of};
@@ -25,7 +25,8 @@ const LINES: &[u8] =
 1\tlist\t2\n1\tresolve\t18\n1\tmkdir\t2\te\n1\tmove\t2\tb\t20\n1\tmove\t2\te\t16\n1\tdelete\t2\tz\n";
 
 /// A gate that holds nobody.
-struct Unheld {}
+#[derive(Drop)]
+struct Unheld;
 
 impl Gate for Unheld {
     fn before(&self, _worker: u32, _stamp: u64) {}
@@ -83,10 +84,11 @@ fn closed_after_jobs<K: Session + Send + Sync, R: Threads + Wait + Sync>(
     let shared = parts.share::<K>();
     let mut viewer = only::<K>(viewers)?;
     let jobs = jobs_of(alloc, passes)?;
-    match run(&shared, rt, alloc, &Unheld {}, jobs) {
-        Some(dones) => closed(rt, shared, passes_of(alloc, dones)?, &mut viewer),
-        None => Err(Fail::from("not run")),
-    }
+    let Some(dones) = run(&shared, rt, alloc, &Unheld, jobs) else {
+        return Err(Fail::from("not run"));
+    };
+    let passes = passes_of(alloc, dones)?;
+    closed(rt, shared, passes, &mut viewer)
 }
 
 /// A new volume, closed when eight workers have done their jobs.
@@ -157,7 +159,8 @@ fn compare_saved(alloc: Global, volume: &Volume, plain: &mut PlainVolume) -> Res
     compare_trees(alloc, &mut again, plain)
 }
 
-/// Whether the plain volume answers each call of the journal its code. Then its folder tree is that of the volume.
+/// Whether the plain volume answers each call of the journal its code. Then its folder tree is that
+/// of the volume.
 fn is_replayed(alloc: Global, closed: &Closed) -> Result<bool, Fail> {
     let mut plain = new_plain(alloc)?;
     let are_alike = are_remade(&mut plain, closed.journal.as_slice())?;

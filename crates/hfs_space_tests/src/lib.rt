@@ -1,5 +1,5 @@
-//! Tests of the bitmap, of forks, and of what a file that goes gives back, on volumes, trees and bitmaps that are laid by hand. What
-//! the checks of both find, `tests/images.py` shows.
+//! Tests of the bitmap, of forks, and of what a file that goes gives back, on volumes, trees and
+//! bitmaps that are laid by hand. What the checks of both find, `tests/images.py` shows.
 #![tactic(auto)]
 
 #[cfg(test)]

@@ -1,5 +1,6 @@
-//! What programs share that run while memory is refused: small volumes by their names, calls by their text, and bytes that are compared
-//! without memory. What a program finds out, it compares with what was written by hand, or with what the same call does with memory.
+//! What programs share that run while memory is refused: small volumes by their names, calls by
+//! their text, and bytes that are compared without memory. What a program finds out, it compares
+//! with what was written by hand, or with what the same call does with memory.
 
 mod calls;
 mod images;

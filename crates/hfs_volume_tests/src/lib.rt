@@ -1,6 +1,7 @@
-//! Tests of mounted volumes, on small ones, and of the rows that viewers read, beside the plain program that makes the same calls. Expected values
-//! are written by hand from the format of a volume. What calls answer stands as text in `tests/volumes/lists`, what mounting and repair find in
-//! `tests/volumes/images.txt`.
+//! Tests of mounted volumes, on small ones, and of the rows that viewers read, beside the plain
+//! program that makes the same calls. Expected values are written by hand from the format of a
+//! volume. What calls answer stands as text in `tests/volumes/lists`, what mounting and repair find
+//! in `tests/volumes/images.txt`.
 #![tactic(auto)]
 
 #[cfg(test)]
