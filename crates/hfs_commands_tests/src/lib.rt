@@ -17,4 +17,6 @@ mod needed;
 #[cfg(test)]
 mod replies;
 #[cfg(test)]
+mod saving;
+#[cfg(test)]
 mod volumes;

@@ -2,19 +2,19 @@
 use hfs_check::MountFault;
 use hfs_commands::{
     BlockSource, Fault, ImageFile, NeededFault, SparseFault, needed_check_text, needed_fork,
-    needed_list_text, open_image, write_file,
+    needed_list_text, open_image, save_file,
 };
 use hfs_fixtures::{FixtureFault, SmallVolume, small_image};
 use hfs_model::Fork;
 use std::alloc::Global;
-use std::fs::remove_file;
+use std::fs::{remove_file, write};
 use std::rt::Files;
 use std::test::Fail;
 
 /// Writes the image of a volume with a file. Tells whether it was written.
 fn is_written(rt: &(impl Files + AllocGlobal), path: &str) -> Result<bool, FixtureFault> {
     let image = small_image(rt.alloc(), SmallVolume::OneFile)?;
-    Ok(write_file(rt, path, &image).is_ok())
+    Ok(save_file(rt, path, &image).written.is_ok())
 }
 
 /// Whether a check has this exit status and these lines.
@@ -84,7 +84,7 @@ fn is_unread(rt: &(impl Files + AllocGlobal), path: &str) -> bool {
 
 #[test]
 fn other_files_are_loaded(rt: HostRuntime) -> Result<(), Fail> {
-    assert!(rt; write_file(&rt, "empty.img", &[]).is_ok());
+    write(&rt, "empty.img", "")?;
     assert!(rt; is_empty(&rt, "empty.img"));
     assert!(rt; is_unread(&rt, "missing.img") && is_unread(&rt, "."));
     remove_file(&rt, "empty.img")?;
