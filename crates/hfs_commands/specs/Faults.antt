@@ -8,6 +8,7 @@ use Rattle.hfs_runs.specs.declared.fault.ScriptFault.{ScriptFault}
 use Rattle.hfs_runs.specs.declared.fault.ScriptFault.TheVariants as run
 use Rattle.hfs_needed.specs.declared.opening.NeededFault.{NeededFault}
 use Rattle.hfs_needed.specs.declared.opening.NeededFault.TheVariants as needed
+use Rattle.hfs_commands.specs.Paths.{path_text}
 use Rattle.hfs_commands.specs.declared.fault.Status.{Status}
 use Rattle.hfs_commands.specs.declared.fault.Status.TheVariants as status
 use Rattle.hfs_commands.specs.declared.fault.Fault.{Fault}
@@ -63,8 +64,8 @@ fault_text fault.NoRoom = codes "no room"
 fault_text (fault.ScriptLine line) = codes "script line " ++ decimal line
 fault_text fault.ScriptTooLarge = codes "script too large"
 fault_text fault.NoPlace = codes "no place for a viewer"
-fault_text (fault.CannotRead file) = codes "cannot read " ++ file.now
-fault_text (fault.CannotWrite file) = codes "cannot write " ++ file.now
+fault_text (fault.CannotRead file) = codes "cannot read " ++ path_text file.now
+fault_text (fault.CannotWrite file) = codes "cannot write " ++ path_text file.now
 fault_text fault.OutputFailed = []
 fault_text fault.NoMemory = codes "out of memory"
 

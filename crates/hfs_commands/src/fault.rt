@@ -2,6 +2,7 @@
 ghost use Rattle.std.specs.Prelude.{◌≡◌, ◌≢◌, MatchResult, Some};
 ghost use Rattle.hfs_commands.specs.Faults.{IsRefusal, KeepsRefusal, fault_of_run, fault_text, status_number, status_of, status_of_run};
 
+use crate::paths::ShownPath;
 use crate::refusal::Refusal;
 use hfs_check::MountFault;
 use hfs_format::FormatFault;
@@ -230,8 +231,8 @@ impl fmt::Display for Fault<'_> {
             Fault::ScriptLine(line) => write!(f, "script line {line}"),
             Fault::ScriptTooLarge => write!(f, "script too large"),
             Fault::NoPlace => write!(f, "no place for a viewer"),
-            Fault::CannotRead(file) => write!(f, "cannot read {file}"),
-            Fault::CannotWrite(file) => write!(f, "cannot write {file}"),
+            Fault::CannotRead(file) => write!(f, "cannot read {}", ShownPath(*file)),
+            Fault::CannotWrite(file) => write!(f, "cannot write {}", ShownPath(*file)),
             Fault::OutputFailed => Ok(()),
             Fault::NoMemory => write!(f, "out of memory"),
         }

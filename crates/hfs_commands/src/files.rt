@@ -7,7 +7,6 @@ use hfs_check::MountFault;
 use hfs_sparse::SeekSource;
 use hfs_texts::{IMAGE_LIMIT, LoadFault, load, load_within};
 use std::alloc::Global;
-use std::fs;
 use std::fs::{File, OpenFile};
 use std::io::{BufReader, Read};
 use std::rt::Files;
@@ -107,15 +106,5 @@ pub fn load_script<'a, R: Files + AllocGlobal>(rt: &R, path: &'a str) -> Result<
         Err(LoadFault::ReadFailed) => Err(Fault::CannotRead(path)),
         Err(LoadFault::TooLarge) => Err(Fault::ScriptTooLarge),
         Err(LoadFault::Memory) => Err(Fault::NoMemory),
-    }
-}
-
-/// Makes these bytes the file's, in place of what it had. Fault: `CannotWrite`, and then the file may hold a part.
-pub fn write_file<'a, R: Files>(rt: &R, path: &'a str, bytes: &[u8]) -> Result<(), Fault<'a>>
-    ensures { IfErr result (λ fault. fault ≡ Fault.CannotWrite path.entry) }
-{
-    match fs::write(rt, path, bytes) {
-        Ok(()) => Ok(()),
-        Err(_) => Err(Fault::CannotWrite(path)),
     }
 }

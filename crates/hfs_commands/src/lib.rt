@@ -2,18 +2,23 @@
 //! are written. The words themselves, and standard input and output, are in `hfs_tool`.
 #![tactic(auto)]
 
+mod beside;
 mod checking;
+mod contents;
 mod fault;
 mod files;
 mod forks;
 mod listing;
+mod paths;
 mod refusal;
 mod repairing;
 mod saving;
 
+pub use beside::Leftover;
 pub use checking::{check_text, needed_check_text, refused_text};
+pub use contents::Contents;
 pub use fault::{Fault, Status};
-pub use files::{ImageFile, load_file, load_script, open_image, write_file};
+pub use files::{ImageFile, load_file, load_script, open_image};
 pub use forks::write_fork;
 pub use hfs_needed::{NeededFault, needed_fork};
 pub use hfs_runs::{Gate, Ran, ScriptFault, run_script, run_script_at};
@@ -22,6 +27,7 @@ pub use hfs_texts::{
     IMAGE_LIMIT, InfoFault, LoadFault, load, load_within, put, reply_text, run_info,
 };
 pub use listing::{children_text, code_text, list_text, needed_list_text};
+pub use paths::ShownPath;
 pub use refusal::Refusal;
 pub use repairing::{RepairAnswer, repair_answer};
-pub use saving::save_file;
+pub use saving::{Saved, save_file};

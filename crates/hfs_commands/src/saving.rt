@@ -1,99 +1,183 @@
-//! Volumes that are written to files, in place of what these had.
-ghost use Rattle.std.specs.Prelude.{◌≡◌, IfErr};
+//! Files that are written in place of what they had.
+ghost use Rattle.std.specs.Prelude.{◌≡◌, None, IfErr, IfOk, string_bytes};
+ghost use Rattle.std.specs.Option.{option_map};
+ghost use Rattle.hfs_commands.specs.Saving.{IsOpenTarget, TellsSomeFirst};
+ghost use Rattle.hfs_commands.specs.Paths.{TellsFirst};
 
+use crate::beside::{Leftover, NewFile, create_beside};
+use crate::contents::Contents;
 use crate::fault::Fault;
-use hfs_volume::Volume;
 use std::fs::{File, Metadata, OpenFile, OpenOptions};
-use std::io::{ErrorKind, Write};
+use std::io::ErrorKind;
+use std::os::unix::fs::MetadataExt;
 use std::rt::Files;
 use std::{fs, io};
 
-/// How many names are tried for a file beside another.
-const NAMES: u32 = 100;
+/// Who may read and write a new file: all that the system's mask allows.
+const FOR_ALL: u32 = 0o666;
 
-/// Writes a volume's image as it is now.
-fn save_to<W: Write>(volume: &Volume, writer: &mut W) -> io::Result<()> {
-    match volume.save(writer) {
-        Ok(()) => Ok(()),
-        Err(_) => Err(io::Error::from(ErrorKind::WriteZero)),
-    }
+/// Who may read and write a file that is to be put in another's place, until it gets that one's permissions.
+const FOR_OWNER: u32 = 0o600;
+
+/// What stands at a path that is to be written.
+#[derive(Drop)]
+enum Target {
+    /// Nothing, so that a file is made.
+    Nothing,
+    /// A regular file, perhaps behind a link, that may be written.
+    Regular(Metadata),
+    /// Anything else, such as a device or a pipe.
+    Other,
 }
 
-/// Opens a new file beside another one, under a name that no file has, and answers the name, too.
-fn create_beside<R: Files + AllocGlobal>(rt: &R, path: &str) -> io::Result<(R::File, String)> {
-    for number in 0..NAMES {
-        let mut name = String::new(rt.alloc());
-        write!(name, "{path}.{number}.new")?;
-        match File::create_new(rt, name.as_str()) {
-            Ok(file) => return Ok((file, name)),
-            Err(error) => {
-                if error.kind() != ErrorKind::AlreadyExists {
-                    return Err(error);
-                }
+/// What stands at a path that is to be written. Error: a link that leads to no file, a regular file that nobody may write or that
+/// can't be opened for writing, or a path that can't be looked up.
+fn target_of<R: Files>(rt: &R, path: &str) -> io::Result<Target>
+    ensures { IfOk result IsOpenTarget }
+{
+    match rt.metadata(path) {
+        Ok(found) => opened_target(rt, path, found),
+        Err(error) => {
+            if error.kind() == ErrorKind::NotFound {
+                free_target(rt, path)
+            } else {
+                Err(error)
             }
         }
     }
-    Err(io::Error::from(ErrorKind::AlreadyExists))
 }
 
-/// Writes an image to a new file, and all of it to the device.
-fn fill_file<F: Write + OpenFile>(
-    file: &mut F,
-    volume: &Volume,
+/// The target at a path where no file is found: nothing, where no link stands there either.
+fn free_target<R: Files>(rt: &R, path: &str) -> io::Result<Target>
+    ensures { IfOk result IsOpenTarget }
+{
+    match rt.symlink_metadata(path) {
+        Ok(_) => Err(io::Error::from(ErrorKind::NotFound)),
+        Err(error) => {
+            if error.kind() == ErrorKind::NotFound {
+                Ok(Target::Nothing)
+            } else {
+                Err(error)
+            }
+        }
+    }
+}
+
+/// The target at a path where this was found. A regular file is opened for writing, and not cut.
+fn opened_target<R: Files>(rt: &R, path: &str, found: Metadata) -> io::Result<Target>
+    ensures { IfOk result IsOpenTarget }
+{
+    if !found.is_file() {
+        return Ok(Target::Other);
+    }
+    if found.permissions().readonly() {
+        return Err(io::Error::from(ErrorKind::PermissionDenied));
+    }
+    OpenOptions::new().write(true).open(rt, path)?;
+    Ok(Target::Regular(found))
+}
+
+/// The path of the file that a path leads to: the path itself, if it isn't a link.
+fn real_path<R: Files + AllocGlobal>(rt: &R, path: &str) -> io::Result<String> {
+    if rt.symlink_metadata(path)?.is_symlink() {
+        return Ok(fs::canonicalize(rt, path)?.into_string());
+    }
+    Ok(String::from_str(rt.alloc(), path)?)
+}
+
+/// Gives a new file the owner and the group of another, each where the system allows it, and its permissions.
+fn keep_access<R: Files>(rt: &R, made: &NewFile<R::File>, old: &Metadata) -> io::Result<()> {
+    let _group = rt.lchown(made.path.as_str(), None, Some(old.gid()));
+    let _owner = rt.lchown(made.path.as_str(), Some(old.uid()), None);
+    made.file.set_permissions(old.permissions())
+}
+
+/// Writes a new file that is to be put in an old one's place, and all of it to the device.
+fn fill<R: Files, C: Contents>(
+    rt: &R,
+    made: &mut NewFile<R::File>,
+    contents: &C,
     old: Option<Metadata>,
 ) -> io::Result<()> {
-    save_to(volume, file)?;
+    contents.write_to(&mut made.file)?;
     if let Some(old) = old {
-        file.set_permissions(old.permissions())?;
+        keep_access(rt, made, &old)?;
     }
-    file.sync_all()
+    made.file.sync_all()
 }
 
-/// Writes an image to a file beside this one, and renames that over it. At an error the file is as it was, and the one beside it is
-/// gone, if it can be removed.
-fn replace<R: Files + AllocGlobal>(
+/// Writes to a file beside this path, and renames that over it. At an error the path is as it was, and the file beside it is gone, if
+/// it can be removed. Where a name was taken, the first is told.
+fn replace<R: Files + AllocGlobal, C: Contents>(
     rt: &R,
     path: &str,
-    volume: &Volume,
+    contents: &C,
     old: Option<Metadata>,
-) -> io::Result<()> {
-    let (mut file, name) = create_beside(rt, path)?;
-    let written = fill_file(&mut file, volume, old);
-    let placed = match written {
-        Ok(()) => fs::rename(rt, name.as_str(), path),
+    leftover: &mut Option<Leftover>,
+) -> io::Result<()>
+    requires { leftover.old ≡ None }
+    ensures { TellsFirst path.now (option_map (λ told. string_bytes told.path) leftover.new) }
+{
+    let mode = if old.is_some() { FOR_OWNER } else { FOR_ALL };
+    let mut made = create_beside(rt, path, mode, leftover)?;
+    let placed = match fill(rt, &mut made, contents, old) {
+        Ok(()) => fs::rename(rt, made.path.as_str(), path),
         Err(error) => Err(error),
     };
     if placed.is_err() {
-        let _removed = fs::remove_file(rt, name.as_str());
+        let _removed = fs::remove_file(rt, made.path.as_str());
     }
     placed
 }
 
-/// Writes an image to a path: where a link leads to; straight where no regular file is there.
-fn save_at<R: Files + AllocGlobal>(rt: &R, path: &str, volume: &Volume) -> io::Result<()> {
-    let Ok(old) = rt.metadata(path) else {
-        return replace(rt, path, volume, None);
-    };
-    if !old.is_file() {
-        let mut device = File::create(rt, path)?;
-        return save_to(volume, &mut device);
+/// Writes to a path: where a link leads to; straight where no regular file is there. Where a name beside it was taken, the first is told.
+fn save_at<R: Files + AllocGlobal, C: Contents>(
+    rt: &R,
+    path: &str,
+    contents: &C,
+    leftover: &mut Option<Leftover>,
+) -> io::Result<()>
+    requires { leftover.old ≡ None }
+    ensures { TellsSomeFirst (option_map (λ told. string_bytes told.path) leftover.new) }
+{
+    match target_of(rt, path)? {
+        Target::Nothing => replace(rt, path, contents, None, leftover),
+        Target::Regular(old) => {
+            let real = real_path(rt, path)?;
+            replace(rt, real.as_str(), contents, Some(old), leftover)
+        }
+        Target::Other => {
+            let mut device = File::create(rt, path)?;
+            contents.write_to(&mut device)
+        }
     }
-    let real = fs::canonicalize(rt, path)?.into_string();
-    replace(rt, real.as_str(), volume, Some(old))
 }
 
-/// Writes a volume's image as it is now to a file, in place of what it had. It is written to a file beside it and goes to the
-/// device before that is renamed over it, so that a write that fails leaves the file as it was. A link is followed, the file's
-/// permissions are kept, and what is no regular file is written straight. Fault: `CannotWrite`.
-pub fn save_file<'a, R: Files + AllocGlobal>(
+/// How a file was written.
+#[derive(Drop)]
+pub struct Saved<'a> {
+    /// The first of the files beside it that were there already, where any was.
+    pub leftover: Option<Leftover>,
+    /// Whether it was written. Fault: `CannotWrite`.
+    pub written: Result<(), Fault<'a>>,
+}
+
+/// Writes a file, in place of what it had. What is written goes to a file beside it and to the device before that is renamed over it,
+/// so that a write that fails leaves the file as it was. A link to a file is followed; permissions are kept, and owner and group
+/// where the system allows it; what is no regular file is written straight. Fault: `CannotWrite`, also where a link leads to no
+/// file, and where nobody may write the file or it can't be opened for writing.
+pub fn save_file<'a, R: Files + AllocGlobal, C: Contents>(
     rt: &R,
     path: &'a str,
-    volume: &Volume,
-) -> Result<(), Fault<'a>>
-    ensures { IfErr result (λ fault. fault ≡ Fault.CannotWrite path.entry) }
+    contents: &C,
+) -> Saved<'a>
+    ensures fault { IfErr result.written (λ fault. fault ≡ Fault.CannotWrite path.entry) }
+    ensures told { TellsSomeFirst (option_map (λ told. string_bytes told.path) result.leftover) }
 {
-    match save_at(rt, path, volume) {
+    let mut leftover = None;
+    let written = match save_at(rt, path, contents, &mut leftover) {
         Ok(()) => Ok(()),
         Err(_) => Err(Fault::CannotWrite(path)),
-    }
+    };
+    Saved { leftover, written }
 }

@@ -34,3 +34,13 @@ fn other_faults_are_told(rt: HostRuntime) -> Result<(), Fail> {
     }
     Ok(())
 }
+
+#[test]
+fn paths_are_told_without_control_characters(rt: HostRuntime) -> Result<(), Fail> {
+    let path = "a\t\u{1b}[1m\u{1f} ~\u{7f}\\\u{e9}";
+    let read = "cannot read a\\09\\1b[1m\\1f ~\\7f\\5c\u{e9}";
+    assert!(rt; is_told(rt.alloc(), Fault::CannotRead(path), read, 4)?);
+    let written = "cannot write \\00\\5c00";
+    assert!(rt; is_told(rt.alloc(), Fault::CannotWrite("\0\\00"), written, 4)?);
+    Ok(())
+}

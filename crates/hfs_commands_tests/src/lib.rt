@@ -22,4 +22,6 @@ mod texts;
 #[cfg(test)]
 mod told;
 #[cfg(test)]
+mod saving;
+#[cfg(test)]
 mod volumes;

@@ -1,12 +1,13 @@
 //! What each word does.
 
 use crate::progress::Progress;
+use crate::saving::{save, tell};
 use crate::words::{ForkWords, NewVolume, RunWords, Words};
 use hfs_check::MountFault;
 use hfs_commands::{
     BlockSource, Fault, ImageFile, Ran, RepairAnswer, Status, check_text, code_text, list_text,
     load_file, load_script, needed_check_text, needed_fork, needed_list_text, open_image, put,
-    refused_text, repair_answer, run_info, run_script_at, save_file, write_file, write_fork,
+    refused_text, repair_answer, run_info, run_script_at, write_fork,
 };
 use hfs_format::{FormatPlan, format};
 use hfs_model::Reply;
@@ -195,7 +196,8 @@ fn write_new<'a>(rt: &HostRuntime, volume: &NewVolume<'a>) -> Result<u8, Fault<'
     };
     match format(rt.alloc(), plan) {
         Ok(image) => {
-            write_file(rt, volume.file, &image)?;
+            let leftover = save(rt, volume.file, &image)?;
+            tell(rt, &leftover);
             Ok(Status::Done.number())
         }
         Err(fault) => Err(Fault::of_format(fault)),
@@ -222,10 +224,12 @@ fn write_answer<'a>(
     file: &'a str,
     answer: &RepairAnswer,
 ) -> Result<u8, Fault<'a>> {
-    if let Some(volume) = &answer.volume {
-        save_file(rt, file, volume)?;
-    }
+    let leftover = match &answer.volume {
+        Some(volume) => save(rt, file, volume)?,
+        None => None,
+    };
     print_lines(rt, answer.lines.as_str())?;
+    tell(rt, &leftover);
     Ok(answer.status)
 }
 
@@ -257,10 +261,12 @@ fn print_answers<'a, T: Threads + Wait + Sync>(
 
 /// Writes the changed image to its file, where one is given, and prints the answers.
 fn print_ran<'a>(rt: &HostRuntime, out: Option<&'a str>, ran: &Ran) -> Result<u8, Fault<'a>> {
-    if let Some(file) = out {
-        save_file(rt, file, &ran.volume)?;
-    }
+    let leftover = match out {
+        Some(file) => save(rt, file, &ran.volume)?,
+        None => None,
+    };
     print_lines(rt, ran.text.as_str())?;
+    tell(rt, &leftover);
     Ok(Status::of_run(ran.whole).number())
 }
 

@@ -154,7 +154,11 @@ Examples:
   hfs_tool repair disk.img mended.img
   hfs_tool run disk.img calls.txt --now 3000000000 --out disk.img
 
-After a fault its text is printed where the result would have been: test the status.";
+After a fault its text is printed where the result would have been: test the status.
+
+What new, repair and run --out write goes to FILE.0.new beside FILE, which is renamed over FILE when it is whole: after a fault
+FILE is as it was. FILE keeps its permissions, and its owner and group where the system allows it. It is not written where nobody
+may write it, or where it is a link to no file.";
 
 /// The program's command, with a subcommand for each word.
 fn command<'a>(alloc: Global) -> Result<Command<'a>, AllocError> {
@@ -239,7 +243,7 @@ fn cat_command<'a>(alloc: Global) -> Result<Command<'a>, AllocError> {
 }
 
 fn new_command<'a>(alloc: Global) -> Result<Command<'a>, AllocError> {
-    let file = word(alloc, "FILE").help("The file that is written; what it has is lost");
+    let file = word(alloc, "FILE").help("The file that is written, in place of what it has");
     let with_file = Command::new(alloc, "new")
         .about("Writes a new, empty volume, in place of what the file has")
         .arg(file);

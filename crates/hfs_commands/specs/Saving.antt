@@ -1,0 +1,16 @@
+-- What is written over, and what is told of it.
+use Rattle.std.specs.Prelude.{◌≢◌, ℕ, List, Option, bit_and, ⊤}
+use Rattle.std.specs.Fs.{IsFile, file_type, metadata_mode}
+use Rattle.hfs_commands.specs.declared.saving.Target.{Target}
+use Rattle.hfs_commands.specs.declared.saving.Target.TheVariants as target
+use Rattle.hfs_commands.specs.Paths.{TellsFirst}
+
+-- what is written over is a regular file that somebody may write, where it is a file
+abbrev pub IsOpenTarget : Target → Type 0
+IsOpenTarget target.Nothing = ⊤
+IsOpenTarget (target.Regular old) = IsFile (file_type old) × (bit_and (metadata_mode old) 0o222 ≢ 0)
+IsOpenTarget target.Other = ⊤
+
+-- nothing is told, or the first name beside some path
+abbrev pub TellsSomeFirst : Option (List ℕ) → Type 0
+TellsSomeFirst told = (path : List ℕ) × TellsFirst path told

@@ -1,0 +1,27 @@
+//! Files that are written, and what is told of those beside them.
+
+use hfs_commands::{Contents, Fault, Leftover, save_file};
+
+/// Writes a file, and answers which file beside it was left by a run that was stopped, if any was there. Where the write fails, that
+/// one is told before the fault.
+pub fn save<'a, C: Contents>(
+    rt: &HostRuntime,
+    file: &'a str,
+    contents: &C,
+) -> Result<Option<Leftover>, Fault<'a>> {
+    let saved = save_file(rt, file, contents);
+    match saved.written {
+        Ok(()) => Ok(saved.leftover),
+        Err(fault) => {
+            tell(rt, &saved.leftover);
+            Err(fault)
+        }
+    }
+}
+
+/// Tells on standard error of a file that a run left that was stopped. Where nothing more can be written there, the program goes on.
+pub fn tell(rt: &HostRuntime, leftover: &Option<Leftover>) {
+    if let Some(leftover) = leftover {
+        let _printed = eprintln!(rt; "{leftover}");
+    }
+}

@@ -1,0 +1,390 @@
+#!/usr/bin/env bash
+# Tries what the words that write a file leave of it: write protection, owner, group and mode, second links, links, disks that are full
+# and runs that are killed in the middle of the write; what is told of files that such runs left; and how paths are printed. Each is tried
+# by who runs this; where that is root, by a plain user as well. Prints 'files are left as their owner left them', or what differs and
+# ends with status 1.
+set -euo pipefail
+cd "$(dirname "$0")/.."
+built=$PWD/crates/hfs_tool/out/hfs_tool
+[ -x "$built" ] || (cd crates/hfs_tool && rt run < stdin > /dev/null)
+
+folder=$(mktemp -d)
+disk=''
+leave() {
+    [ -z "$disk" ] || umount "$disk" 2> /dev/null || true
+    rm -rf "$folder"
+}
+trap leave EXIT
+chmod 755 "$folder"
+tool=$folder/hfs_tool
+cp "$built" "$tool"
+umask 022
+
+fail() {
+    echo "files differ, by $who: $1"
+    exit 1
+}
+
+# Wants this status, these bytes on standard output and these on standard error of the program with the words behind them.
+wants() {
+    local status=$1 text=$2 errors=$3 got=0
+    shift 3
+    "${as[@]}" "$tool" "$@" > "$folder/printed" 2> "$folder/errors" || got=$?
+    [ "$got" = "$status" ] || fail "'$*' ends with $got and prints $(cat "$folder/printed")"
+    printf "$text" | cmp -s - "$folder/printed" || fail "'$*' prints $(cat "$folder/printed")"
+    printf "$errors" | cmp -s - "$folder/errors" || fail "'$*' writes to standard error: $(cat "$folder/errors")"
+}
+
+# All that is to stay of a file: mode, owner, group, times, place on the disk, links and bytes.
+state() {
+    stat -c '%a %u %g %y %i %h %s' "$1"
+    sha256sum < "$1"
+}
+
+# Makes the old file: some bytes, with this mode, of the one who runs the program.
+lay() {
+    rm -f "$here/file.img"
+    echo 'what was there' > "$here/file.img"
+    if [ -n "$plain" ]; then chown 65534:65534 "$here/file.img"; fi
+    chmod "$1" "$here/file.img"
+    touch -d '2001-02-03 04:05:06' "$here/file.img"
+    state "$here/file.img" > "$folder/old"
+}
+
+# Wants the old file as it was, and none beside it but those that a test laid.
+is_kept() {
+    state "$here/file.img" | cmp -s - "$folder/old" || fail "$1: the old file is not as it was"
+    is_alone "$1"
+}
+
+is_alone() {
+    [ -z "$(find "$here" -name '*.new')" ] || fail "$1: a file is left"
+}
+
+# The three words that write a file: their words for this one, and what they print.
+word() {
+    case $1 in
+        new) words=(new "$2" D 64 6 2) printed='' ;;
+        repair) words=(repair "$folder/wrong.img" "$2") printed='fixed drFilCnt 1 0\nsound\n' ;;
+        run) words=(run "$folder/small.img" "$folder/script" --out "$2") printed='1\t1\t0\tid 16\n' ;;
+    esac
+}
+
+# Wants that a word is refused, with the old file as it was.
+refused() {
+    word "$1" "$2"
+    wants 4 "cannot write $2\n" '' "${words[@]}"
+    is_kept "$1 $3"
+}
+
+# Wants that a word writes the file at this path, and that a path holds its bytes then.
+written() {
+    word "$1" "$2"
+    wants 0 "$printed" '' "${words[@]}"
+    cmp -s "$folder/$1.img" "$3" || fail "$1 does not write $3"
+}
+
+who=nobody as=()
+"$tool" new "$folder/small.img" D 64 6 2
+cp "$folder/small.img" "$folder/new.img"
+cp "$folder/small.img" "$folder/repair.img"
+cp "$folder/small.img" "$folder/wrong.img"
+printf '\000\000\000\001' | dd of="$folder/wrong.img" bs=1 seek=$((2 * 512 + 84)) conv=notrunc 2> "$folder/words"
+printf '1\tcreate\t2\ta\n' > "$folder/script"
+"$tool" run "$folder/small.img" "$folder/script" --out "$folder/run.img" > "$folder/printed"
+[ "$("$tool" ls "$folder/run.img" | cut -f 5)" = a ] || fail 'what run writes'
+
+# Whether a file may be written and by whom: without a permission for anybody no one writes it, root neither.
+protection() {
+    local name
+    for name in new repair run; do
+        for mode in 444 400 555 000; do
+            lay "$mode"
+            refused "$name" "$here/file.img" "over a file of mode $mode"
+        done
+        for mode in 600 640 664 666; do
+            lay "$mode"
+            written "$name" "$here/file.img" "$here/file.img"
+            [ "$(stat -c %a "$here/file.img")" = "$mode" ] || fail "$name does not keep the mode $mode"
+            is_alone "$name"
+        done
+        # a group may write it, and its owner may not: root may
+        lay 060
+        if [ "$who" = root ]; then
+            written "$name" "$here/file.img" "$here/file.img"
+            [ "$(stat -c %a "$here/file.img")" = 60 ] || fail "$name does not keep the mode 060"
+        else
+            refused "$name" "$here/file.img" 'over a file that its owner may not write'
+        fi
+        rm -f "$here/file.img"
+        written "$name" "$here/file.img" "$here/file.img"
+        [ "$(stat -c %a "$here/file.img")" = 644 ] || fail "the mode of a file that $name makes"
+    done
+}
+
+# Wants the mode, the owner and the group of the file behind a word that writes it.
+owned() {
+    chown "$2" "$here/file.img"
+    chmod "$3" "$here/file.img"
+    written "$1" "$here/file.img" "$here/file.img"
+    [ "$(stat -c '%a %u %g' "$here/file.img")" = "$4" ] || fail "$1 leaves $(stat -c '%a %u %g' "$here/file.img") of $2 $3"
+}
+
+# Owner and group: root keeps both, a plain user the group, where it is one of theirs.
+owners() {
+    local name
+    for name in new repair run; do
+        lay 644
+        if [ -z "$plain" ]; then
+            owned "$name" 1234:3456 640 '640 1234 3456'
+            continue
+        fi
+        owned "$name" 65534:2345 660 '660 65534 2345'
+        owned "$name" 65534:3456 660 '660 65534 65534'
+        owned "$name" 0:0 666 '666 65534 65534'
+        # another's file that may only be read, in a folder where a new one could take its place
+        lay 644
+        chown 0:0 "$here/file.img"
+        state "$here/file.img" > "$folder/old"
+        refused "$name" "$here/file.img" "over another's file"
+        # a folder that may only be read
+        lay 644
+        chown 0:0 "$here"
+        refused "$name" "$here/file.img" 'into a folder that may only be read'
+        refused "$name" "$here/none.img" 'into a folder that may only be read'
+        chown 65534:65534 "$here"
+    done
+}
+
+# The second name of a file keeps the old bytes.
+second_links() {
+    local name
+    for name in new repair run; do
+        lay 644
+        rm -f "$here/second.img"
+        ln "$here/file.img" "$here/second.img"
+        written "$name" "$here/file.img" "$here/file.img"
+        [ "$(cat "$here/second.img")" = 'what was there' ] || fail "$name writes a second name of the file"
+    done
+    rm "$here/second.img"
+}
+
+# Links: to a file, by a folder, to nothing, round in a ring.
+links() {
+    local name
+    mkdir -p "$here/inner"
+    if [ -n "$plain" ]; then chown 65534:65534 "$here/inner"; fi
+    ln -s file.img "$here/link.img"
+    ln -s ../link.img "$here/inner/link.img"
+    ln -s none.img "$here/nothing.img"
+    ln -s round.img "$here/ring.img"
+    ln -s ring.img "$here/round.img"
+    mkfifo -m 666 "$here/pipe"
+    for name in new repair run; do
+        for link in link.img inner/link.img; do
+            lay 640
+            written "$name" "$here/$link" "$here/file.img"
+            [ -L "$here/link.img" ] && [ -L "$here/inner/link.img" ] && [ ! -L "$here/file.img" ] || fail "$name: a link is gone"
+            [ "$(stat -c %a "$here/file.img")" = 640 ] || fail "$name does not keep the mode behind a link"
+        done
+        lay 444
+        refused "$name" "$here/link.img" 'over a file without permissions behind a link'
+        lay 644
+        refused "$name" "$here/nothing.img" 'over a link to nothing'
+        refused "$name" "$here/ring.img" 'over a ring of links'
+        refused "$name" "$here/none/file.img" 'into a folder that is not there'
+        refused "$name" "$here/inner" 'over a folder'
+        [ -L "$here/nothing.img" ] && [ -L "$here/ring.img" ] && [ ! -e "$here/none.img" ] || fail "$name writes over a link to nothing"
+        # what is no regular file is written straight
+        cat "$here/pipe" > "$folder/piped" &
+        word "$name" "$here/pipe"
+        wants 0 "$printed" '' "${words[@]}"
+        wait
+        cmp -s "$folder/$name.img" "$folder/piped" || fail "$name into a pipe"
+        refused "$name" /dev/full 'to a full device'
+    done
+    rm -r "$here"/*.img "$here/inner" "$here/pipe"
+}
+
+# What runs that were stopped left.
+leftovers() {
+    local name n told
+    for name in new repair run; do
+        lay 644
+        echo left > "$here/file.img.0.new"
+        word "$name" "$here/file.img"
+        told="$here/file.img.0.new is there, left by a run that was stopped\n"
+        wants 0 "$printed" "$told" "${words[@]}"
+        cmp -s "$folder/$name.img" "$here/file.img" || fail "$name beside a file that was left"
+        # the answers come first
+        "${as[@]}" "$tool" "${words[@]}" 2>&1 | cmp -s - <(printf "$printed$told") || fail "$name tells a file that was left before its answers"
+        echo left > "$here/file.img.1.new"
+        wants 0 "$printed" "$told" "${words[@]}"
+        rm "$here/file.img.0.new"
+        wants 0 "$printed" '' "${words[@]}"
+        ln -s file.img "$here/link.img"
+        echo left > "$here/file.img.0.new"
+        word "$name" "$here/link.img"
+        wants 0 "$printed" "$told" "${words[@]}"
+        rm "$here/link.img"
+        # a name that is taken by a folder or by a link to nothing is taken
+        rm "$here/file.img.0.new"
+        ln -s nothing "$here/file.img.0.new"
+        word "$name" "$here/file.img"
+        wants 0 "$printed" "$told" "${words[@]}"
+        rm "$here/file.img.0.new"
+        [ "$(cat "$here/file.img.1.new")" = left ] && [ "$(find "$here" -name '*.new' | wc -l)" = 1 ] || fail "$name removes a file that was left"
+        lay 644
+        for n in {0..99}; do echo left > "$here/file.img.$n.new"; done
+        wants 4 "cannot write $here/file.img\n" "$told" "${words[@]}"
+        state "$here/file.img" | cmp -s - "$folder/old" || fail "$name writes where all names are taken"
+        [ "$(cat "$here"/file.img.*.new | grep -c left)" = 100 ] || fail "$name removes a file that was left"
+        rm "$here/file.img.99.new"
+        wants 0 "$printed" "$told" "${words[@]}"
+        [ "$(find "$here" -name '*.new' | wc -l)" = 99 ] || fail "$name where one name is free"
+        rm "$here"/*.new
+        # a write that fails tells it before the fault
+        lay 644
+        echo left > "$here/file.img.0.new"
+        "${as[@]}" bash -c 'trap "" XFSZ; ulimit -f 16; "$@" 2>&1' sh "$tool" "${words[@]}" > "$folder/printed" && fail "$name past the largest file" || [ $? = 4 ]
+        printf "${told}cannot write $here/file.img\n" | cmp -s - "$folder/printed" || fail "$name past the largest file prints $(cat "$folder/printed")"
+        state "$here/file.img" | cmp -s - "$folder/old" || fail "$name past the largest file: the old file is not as it was"
+        rm "$here/file.img.0.new"
+        is_kept "$name past the largest file"
+    done
+}
+
+# How paths are printed: a byte below $20, $7F and the backslash as a backslash and two digits, all others as they are.
+paths() {
+    local raw=$here/$'a\tb\x1b[31m\n\x01\x1f \x7e\x7f\\c\xc3\xa9.img' shown
+    shown=$here/'a\\09b\\1b[31m\\0a\\01\\1f ~\\7f\\5cc'$'\xc3\xa9''.img'
+    for name in info check ls; do wants 4 "cannot read $shown\n" '' "$name" "$raw"; done
+    wants 4 "cannot read $shown\n" '' cat "$raw" 2 a
+    wants 4 "cannot read $shown\n" '' repair "$raw" "$here/out.img"
+    wants 4 "cannot read $shown\n" '' run "$raw" "$folder/script"
+    wants 4 "cannot read $shown\n" '' run "$folder/small.img" "$raw"
+    for name in new repair run; do
+        word "$name" "$raw/none"
+        wants 4 "cannot write $shown/none\n" '' "${words[@]}"
+        echo left > "$raw.0.new"
+        word "$name" "$raw"
+        wants 0 "$printed" "$shown.0.new is there, left by a run that was stopped\n" "${words[@]}"
+        rm "$raw" "$raw.0.new"
+    done
+}
+
+# The three words with a volume of 4 MB, for writes that take a while.
+large_word() {
+    case $1 in
+        new) words=(new "$here/file.img" D 8192 40 4) printed='' ;;
+        repair) words=(repair "$folder/large.wrong.img" "$here/file.img") printed='fixed drFilCnt 1 0\nsound\n' ;;
+        run) words=(run "$folder/large.small.img" "$folder/script" --out "$here/file.img") printed='1\t1\t0\tid 16\n' ;;
+    esac
+}
+
+# Writes that meet a full disk, which has room for a part of the new file.
+full_disks() {
+    local name
+    for name in new repair run; do
+        lay 640
+        large_word "$name"
+        wants 4 "cannot write $here/file.img\n" '' "${words[@]}"
+        is_kept "$name on a full disk"
+    done
+}
+
+# Runs that are killed at twenty moments: while the new file grows, twentieth by twentieth.
+killed() {
+    local name
+    for name in new repair run; do
+        lay 640
+        large_word "$name"
+        python3 - "$here/file.img" "$folder/large.$name.img" "${as[@]}" "$tool" "${words[@]}" << 'END' || fail "$name, killed"
+import hashlib, os, signal, subprocess, sys, time
+path, wanted, words = sys.argv[1], sys.argv[2], sys.argv[3:]
+def state():
+    found = os.stat(path)
+    return (found.st_mode, found.st_uid, found.st_gid, found.st_mtime_ns, found.st_ino, hashlib.sha256(open(path, "rb").read()).hexdigest())
+whole = hashlib.sha256(open(wanted, "rb").read()).hexdigest()
+size = os.path.getsize(wanted)
+old = state()
+parts = 0
+for moment in range(20):
+    beside = f"{path}.{parts}.new"
+    run = subprocess.Popen(words, stdout=subprocess.DEVNULL, stderr=subprocess.DEVNULL)
+    while run.poll() is None:
+        try:
+            if os.stat(beside).st_size >= size * moment // 20:
+                break
+        except OSError:
+            pass
+    run.send_signal(signal.SIGKILL)
+    run.wait()
+    now = state()
+    if now != old:
+        # the new volume had taken its place already: it is whole, with the old one's mode and owner
+        if now[:3] != old[:3] or now[5] != whole:
+            sys.exit(f"at moment {moment} the file is neither the old nor the new one")
+        old = now
+    if os.path.exists(beside):
+        if os.path.getsize(beside) > size:
+            sys.exit(f"at moment {moment} too much is left")
+        parts += 1
+if parts < 5:
+    sys.exit(f"only {parts} of twenty runs were killed in time")
+for number in range(parts):
+    os.remove(f"{path}.{number}.new")
+END
+        is_alone "$name, killed"
+        lay 640
+        wants 0 "$printed" '' "${words[@]}"
+        cmp -s "$folder/large.$name.img" "$here/file.img" || fail "$name behind runs that were killed"
+    done
+}
+
+"$tool" new "$folder/large.new.img" D 8192 40 4
+cp "$folder/large.new.img" "$folder/large.small.img"
+cp "$folder/large.new.img" "$folder/large.repair.img"
+cp "$folder/large.new.img" "$folder/large.wrong.img"
+printf '\000\000\000\001' | dd of="$folder/large.wrong.img" bs=1 seek=$((2 * 512 + 84)) conv=notrunc 2> "$folder/words"
+"$tool" run "$folder/large.small.img" "$folder/script" --out "$folder/large.run.img" > "$folder/printed"
+
+# All of these by one user, in a folder of theirs.
+by() {
+    who=$1 plain=''
+    shift
+    as=("$@")
+    here=$folder/$who
+    [ "$who" != plain ] || plain=yes
+    mkdir "$here"
+    if [ -n "$plain" ]; then chown 65534:65534 "$here"; fi
+    protection
+    [ "$(id -u)" != 0 ] || owners
+    second_links
+    links
+    leftovers
+    paths
+    killed
+    rm -rf "$here"
+    disk=$folder/disk
+    mkdir "$disk"
+    if mount -t tmpfs -o size=1000k tmpfs "$disk" 2> "$folder/words"; then
+        here=$disk
+        if [ -n "$plain" ]; then chown 65534:65534 "$here"; fi
+        full_disks
+        umount "$disk"
+    else
+        echo "no tmpfs can be mounted here: full disks are not tried by $who"
+    fi
+    rmdir "$disk"
+    disk=''
+}
+
+if [ "$(id -u)" = 0 ]; then
+    by root
+    by plain setpriv --reuid=65534 --regid=65534 --groups=2345
+else
+    echo 'this is not root: owners and groups are not tried'
+    by user
+fi
+echo 'files are left as their owner left them'
