@@ -1,5 +1,5 @@
 -- The volume that a `PlainVolume` stands for.
-use Rattle.std.specs.Prelude.{◌≡◌, ℕ, ◌+◌, ◌≤◌, List, [], ◌∷◌, length, slice_index_or, take, Bool, ◌++◌, drop, Result, IfOk}
+use Rattle.std.specs.Prelude.{◌≡◌, ℕ, ◌+◌, ◌≤◌, List, [], ◌∷◌, length, slice_index_or, take, Bool, false, ◌++◌, drop, Result, IfOk}
 use Rattle.std.specs.FinMap as map
 use Rattle.hfs_store.specs.declared.plain_volume.PlainVolume.TheInside.{Inside}
 use Rattle.hfs_model.specs.Volume.{Volume, Entry, Items}
@@ -58,6 +58,10 @@ with_item_lock locked item = record item { kind = with_lock locked item.kind }
 abbrev pub Gains : List Entry → List Entry → ℕ → Item → ℕ → Type 0
 Gains old new id item now = AreEntries old id → AreEntries new (id + 1)
     × (map.from_sorted new ≡ touched (map.insert (map.from_sorted old) id item) item.parent now)
+
+-- the volume of these entries, with no lock set
+abbrev pub unlocked_volume : List Entry → ℕ → ℕ → Volume
+unlocked_volume es next changed = record { items = map.from_sorted es; next_id = next; changed = changed; hardware_locked = false; software_locked = false }
 
 -- a volume with an item under an ID that is the last one
 abbrev pub with_last : Volume → ℕ → Item → Volume

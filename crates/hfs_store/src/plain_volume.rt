@@ -9,7 +9,7 @@ ghost use Rattle.hfs_model.specs.Changes.{delete, rename, cat_move, create, set_
 ghost use Rattle.hfs_model.specs.FileIds.{to_create_file_id, to_delete_file_id, create_file_id, delete_file_id, resolve_file_id};
 ghost use Rattle.hfs_model.specs.Step.{step, is_reading, new_volume};
 ghost use Rattle.hfs_store.specs.Setting.{is_setting};
-ghost use Rattle.hfs_store.specs.PlainVolume.{Gives, GivesOutcome, HasMadeSome, HasOneMore, IsPlaceIn, with_last, with_locks};
+ghost use Rattle.hfs_store.specs.PlainVolume.{AreEntries, Gives, GivesOutcome, HasMadeSome, HasOneMore, IsPlaceIn, unlocked_volume, with_last, with_locks};
 ghost use Rattle.hfs_fields.specs.Names.{is_item_name};
 
 use crate::changes::{
@@ -78,6 +78,21 @@ impl PlainVolume {
         })
     }
 
+    /// The volume of these items, in the order of their IDs, with no lock set. Takes no memory.
+    pub fn of(alloc: Global, items: Vec<(u32, Item)>, next_id: u32, changed: u32) -> Self
+        requires { AreEntries items.items next_id }
+        ensures { result ≡ unlocked_volume items.items next_id changed }
+    {
+        PlainVolume {
+            alloc,
+            items,
+            next_id,
+            changed,
+            hardware_locked: false,
+            software_locked: false,
+        }
+    }
+
     /// Puts an item under an ID that is not below the next one, which rises to the one after it. So a volume is laid
     /// item by item, in the order of the IDs. `Err` only where memory is wanting, and then the volume is as it was.
     #[tactic(auto)]
@@ -119,8 +134,29 @@ impl PlainVolume {
         valence(self.entries(), dir) as u32
     }
 
+    /// The moment of the last change.
+    pub fn changed(&self) -> u32
+        ensures { result ≡ self.now.changed }
+    {
+        self.changed
+    }
+
+    /// Whether the drive is locked.
+    pub fn is_hardware_locked(&self) -> bool
+        ensures { result ≡ self.now.hardware_locked }
+    {
+        self.hardware_locked
+    }
+
+    /// Whether the volume itself is locked.
+    pub fn is_software_locked(&self) -> bool
+        ensures { result ≡ self.now.software_locked }
+    {
+        self.software_locked
+    }
+
     /// The items in the order of their IDs.
-    fn entries(&self) -> &[(u32, Item)]
+    pub fn entries(&self) -> &[(u32, Item)]
         ensures entries { result.now ≡ entries_of self.now }
         ensures room { (id : ℕ) → valence result.now id ≤ 65535 }
     {

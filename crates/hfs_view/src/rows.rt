@@ -1,7 +1,10 @@
 //! The rows that viewers read.
 ghost use Rattle.std.specs.Prelude.{◌≡◌, IsTrue, IfOk, OnOk, OnErr};
 ghost use Rattle.hfs_check.specs.VolumeOf.{volume_of};
+ghost use Rattle.hfs_model.specs.Lawful.{IsLawful};
 ghost use Rattle.hfs_model.specs.Step.{step, is_reading};
+ghost use Rattle.hfs_item_table.specs.Tables.{IsTable};
+ghost use Rattle.hfs_item_table.specs.Tables as tables;
 
 use crate::opening::{Maps, table_over};
 use crate::threads::ThreadIds;
@@ -53,6 +56,15 @@ impl Rows {
         let maps = Maps::of(alloc, volume, &threads, records)?;
         let table = table_over(base, volume.directory(), maps);
         Ok(Rows { alloc, table })
+    }
+
+    /// The table of the rows: by their IDs and by their names, with what is told of the volume beside its items.
+    pub fn table(&self) -> &Table
+        ensures volume { tables.volume_of result.now ≡ self.now }
+        ensures table { IsTable result.now }
+        ensures lawful { IsLawful self.now }
+    {
+        &self.table
     }
 
     /// Takes in a change. One that is refused leaves the rows, as do calls that read. The only error is want of memory,

@@ -1,0 +1,36 @@
+//! The program's words.
+
+/// What the words ask for.
+#[derive(Clone, Copy)]
+pub struct Words<'a> {
+    /// The path of the image.
+    pub image: &'a str,
+    /// The path of the script.
+    pub script: &'a str,
+    /// The moment of every change, in seconds since midnight of 1 January 1904.
+    pub now: u32,
+}
+
+/// What the words ask for, the first of which is the program's own name. None where they are no such words.
+pub fn words_of(words: &[String]) -> Option<Words<'_>> {
+    match words {
+        [_program, image, script] => Some(Words {
+            image: image.as_str(),
+            script: script.as_str(),
+            now: 0,
+        }),
+        [_program, image, script, option, now] => timed(image, script, option, now),
+        _ => None,
+    }
+}
+
+/// What the words ask for where they have a moment.
+fn timed<'a>(image: &'a str, script: &'a str, option: &str, now: &str) -> Option<Words<'a>> {
+    if option != "--now" {
+        return None;
+    }
+    match now.parse::<u32>() {
+        Ok(now) => Some(Words { image, script, now }),
+        Err(_) => None,
+    }
+}
