@@ -23,15 +23,15 @@ fi
 cd "$folder"
 python3 scripts/build_libraries.py "$("$root/scripts/lanes.sh")" 1 hfs_fields hfs_node hfs_blocks hfs_scans
 
-least=
+sums=()
 for ((run = 1; run <= runs; run++)); do
     rm -rf crates/hfs_btree/out
     TIMEFORMAT='%U %S %R'
     took=$({ time RT_JOBS=1 scripts/check_one.sh hfs_btree > "$folder/said" 2>&1 || true; } 2>&1)
-    [[ $(tail -n 1 "$folder/said") == logic=proved* ]] || { tail -n 5 "$folder/said" && exit 1; }
+    [[ $(tail -n 1 "$folder/said") == logic=proved* ]] || { tail -n 5 "$folder/said" && echo "the check failed" && exit 1; }
     read -r user system clock <<< "$took"
     sum=$(awk "BEGIN { printf \"%.1f\", $user + $system }")
     echo "run $run: $sum s of processor time (user $user, system $system), $clock s on the clock"
-    least=$(awk "BEGIN { print (\"$least\" == \"\" || $sum < $least + 0) ? $sum : $least }")
+    sums+=("$sum")
 done
-echo "the unit: $least s"
+echo "the unit: $(printf '%s\n' "${sums[@]}" | sort -n | head -n 1) s"
