@@ -1,8 +1,9 @@
 #!/usr/bin/env bash
-# Tries what the words that write a file leave of it: write protection, owner, group and mode, second links, links, disks that are full
-# and runs that are killed in the middle of the write; what is told of files that such runs left; and how paths are printed. Each is tried
-# by who runs this; where that is root, by a plain user as well. Prints 'files are left as their owner left them', or what differs and
-# ends with status 1.
+# Tries what the words that write a file leave of it: write protection, owner, group and mode,
+# second links, links, disks that are full and runs that are killed in the middle of the write; what
+# is told of files that such runs left; and how paths are printed. Each is tried by who runs this;
+# where that is root, by a plain user as well. Prints 'files are left as their owner left them', or
+# what differs and ends with status 1.
 set -euo pipefail
 cd "$(dirname "$0")/.."
 built=$PWD/crates/hfs_tool/out/hfs_tool
@@ -25,7 +26,8 @@ fail() {
     exit 1
 }
 
-# Wants this status, these bytes on standard output and these on standard error of the program with the words behind them.
+# Wants this status, these bytes on standard output and these on standard error of the program with
+# the words behind them.
 wants() {
     local status=$1 text=$2 errors=$3 got=0
     shift 3
@@ -94,7 +96,8 @@ printf '1\tcreate\t2\ta\n' > "$folder/script"
 "$tool" run "$folder/small.img" "$folder/script" --out "$folder/run.img" > "$folder/printed"
 [ "$("$tool" ls "$folder/run.img" | cut -f 5)" = a ] || fail 'what run writes'
 
-# Whether a file may be written and by whom: without a permission for anybody no one writes it, root neither.
+# Whether a file may be written and by whom: without a permission for anybody no one writes it, root
+# neither.
 protection() {
     local name
     for name in new repair run; do
@@ -254,7 +257,8 @@ leftovers() {
     done
 }
 
-# How paths are printed: a byte below $20, $7F and the backslash as a backslash and two digits, all others as they are.
+# How paths are printed: a byte below $20, $7F and the backslash as a backslash and two digits, all
+# others as they are.
 paths() {
     local raw=$here/$'a\tb\x1b[31m\n\x01\x1f \x7e\x7f\\c\xc3\xa9.img' shown
     shown=$here/'a\\09b\\1b[31m\\0a\\01\\1f ~\\7f\\5cc'$'\xc3\xa9''.img'

@@ -12,7 +12,8 @@ is_escaped b = nat_lt b 0x20 || b == 0x7F || b == 0x5C
 unfoldable pub escaped_byte : ℕ → List ℕ
 escaped_byte b = 92 ∷ hex_byte b
 
--- a byte of a path: digits behind a backslash where it is below $20, $7F or the backslash, else itself
+-- a byte of a path: digits behind a backslash where it is below $20, $7F or the backslash, else
+-- itself
 unfoldable pub path_byte : ℕ → List ℕ
 path_byte b = if is_escaped b then escaped_byte b else b ∷ []
 
@@ -28,12 +29,14 @@ path_beside path number = path ++ codes "." ++ decimal number ++ codes ".new"
 unfoldable pub leftover_text : List ℕ → List ℕ
 leftover_text path = path_text path ++ codes " is there, left by a run that was stopped"
 
--- of the files beside a path whose numbers come before this one, the first: what is told where they were there already
+-- of the files beside a path whose numbers come before this one, the first: what is told where they
+-- were there already
 abbrev pub taken_before : List ℕ → ℕ → Option (List ℕ)
 taken_before path zero = None
 taken_before path (suc number) = Some (path_beside path 0)
 
--- a new file has the name of a number below 100, and where names before it were taken the first of them is told
+-- a new file has the name of a number below 100, and where names before it were taken the first of
+-- them is told
 pub record IsBeside (path : List ℕ) (name : List ℕ) (told : Option (List ℕ)) : Type 0 where
   pub number : ℕ
   pub few : number < 100

@@ -48,7 +48,8 @@ fn path_beside(alloc: Global, path: &str, number: u32) -> Result<String, AllocEr
     format!(in alloc; "{path}.{number}.new")
 }
 
-/// Makes a file that is not there yet, to be read and written by those whom this mode and the system's mask allow.
+/// Makes a file that is not there yet, to be read and written by those whom this mode and the
+/// system's mask allow.
 fn create_new<R: Files>(rt: &R, path: &str, mode: u32) -> io::Result<R::File> {
     OpenOptions::new()
         .read(true)
@@ -58,8 +59,8 @@ fn create_new<R: Files>(rt: &R, path: &str, mode: u32) -> io::Result<R::File> {
         .open(rt, path)
 }
 
-/// Makes a file beside another one, under the first of the names `PATH.0.new` to `PATH.99.new` that no file has. Where the first was
-/// taken it is told. Error: none could be made, or all are taken.
+/// Makes a file beside another one, under the first of the names `PATH.0.new` to `PATH.99.new` that
+/// no file has. Where the first was taken it is told. Error: none could be made, or all are taken.
 pub fn create_beside<R: Files + AllocGlobal>(
     rt: &R,
     path: &str,

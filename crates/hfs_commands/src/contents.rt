@@ -13,7 +13,8 @@ pub trait Contents {
     /// Its bytes.
     ghost bytes: { Self → List ℕ };
 
-    /// Writes all its bytes. At an error a part of them may have gone out, from the first on, and nothing else.
+    /// Writes all its bytes. At an error a part of them may have gone out, from the first on, and
+    /// nothing else.
     fn write_to<W: Write>(&self, writer: &mut W) -> io::Result<()>
         ensures ok { OnOk result (Appends (W.contents writer.old) (W.contents writer.new)
             (bytes self.now)) }

@@ -16,7 +16,8 @@ use std::{fs, io};
 /// Who may read and write a new file: all that the system's mask allows.
 const FOR_ALL: u32 = 0o666;
 
-/// Who may read and write a file that is to be put in another's place, until it gets that one's permissions.
+/// Who may read and write a file that is to be put in another's place, until it gets that one's
+/// permissions.
 const FOR_OWNER: u32 = 0o600;
 
 /// What stands at a path that is to be written.
@@ -30,8 +31,8 @@ enum Target {
     Other,
 }
 
-/// What stands at a path that is to be written. Error: a link that leads to no file, a regular file that nobody may write or that
-/// can't be opened for writing, or a path that can't be looked up.
+/// What stands at a path that is to be written. Error: a link that leads to no file, a regular file
+/// that nobody may write or that can't be opened for writing, or a path that can't be looked up.
 fn target_of<R: Files>(rt: &R, path: &str) -> io::Result<Target>
     ensures { IfOk result IsOpenTarget }
 {
@@ -85,7 +86,8 @@ fn real_path<R: Files + AllocGlobal>(rt: &R, path: &str) -> io::Result<String> {
     Ok(String::from_str(rt.alloc(), path)?)
 }
 
-/// Gives a new file the owner and the group of another, each where the system allows it, and its permissions.
+/// Gives a new file the owner and the group of another, each where the system allows it, and its
+/// permissions.
 fn keep_access<R: Files>(rt: &R, made: &NewFile<R::File>, old: &Metadata) -> io::Result<()> {
     let _group = rt.lchown(made.path.as_str(), None, Some(old.gid()));
     let _owner = rt.lchown(made.path.as_str(), Some(old.uid()), None);
@@ -106,8 +108,8 @@ fn fill<R: Files, C: Contents>(
     made.file.sync_all()
 }
 
-/// Writes to a file beside this path, and renames that over it. At an error the path is as it was, and the file beside it is gone, if
-/// it can be removed. Where a name was taken, the first is told.
+/// Writes to a file beside this path, and renames that over it. At an error the path is as it was,
+/// and the file beside it is gone, if it can be removed. Where a name was taken, the first is told.
 fn replace<R: Files + AllocGlobal, C: Contents>(
     rt: &R,
     path: &str,
@@ -130,7 +132,8 @@ fn replace<R: Files + AllocGlobal, C: Contents>(
     placed
 }
 
-/// Writes to a path: where a link leads to; straight where no regular file is there. Where a name beside it was taken, the first is told.
+/// Writes to a path: where a link leads to; straight where no regular file is there. Where a name
+/// beside it was taken, the first is told.
 fn save_at<R: Files + AllocGlobal, C: Contents>(
     rt: &R,
     path: &str,
@@ -162,10 +165,11 @@ pub struct Saved<'a> {
     pub written: Result<(), Fault<'a>>,
 }
 
-/// Writes a file, in place of what it had. What is written goes to a file beside it and to the device before that is renamed over it,
-/// so that a write that fails leaves the file as it was. A link to a file is followed; permissions are kept, and owner and group
-/// where the system allows it; what is no regular file is written straight. Fault: `CannotWrite`, also where a link leads to no
-/// file, and where nobody may write the file or it can't be opened for writing.
+/// Writes a file, in place of what it had. What is written goes to a file beside it and to the
+/// device before that is renamed over it, so that a write that fails leaves the file as it was. A
+/// link to a file is followed; permissions are kept, and owner and group where the system allows
+/// it; what is no regular file is written straight. Fault: `CannotWrite`, also where a link leads
+/// to no file, and where nobody may write the file or it can't be opened for writing.
 pub fn save_file<'a, R: Files + AllocGlobal, C: Contents>(
     rt: &R,
     path: &'a str,

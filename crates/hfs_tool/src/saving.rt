@@ -2,8 +2,8 @@
 
 use hfs_commands::{Contents, Fault, Leftover, save_file};
 
-/// Writes a file, and answers which file beside it was left by a run that was stopped, if any was there. Where the write fails, that
-/// one is told before the fault.
+/// Writes a file, and answers which file beside it was left by a run that was stopped, if any was
+/// there. Where the write fails, that one is told before the fault.
 pub fn save<'a, C: Contents>(
     rt: &HostRuntime,
     file: &'a str,
@@ -19,7 +19,8 @@ pub fn save<'a, C: Contents>(
     }
 }
 
-/// Tells on standard error of a file that a run left that was stopped. Where nothing more can be written there, the program goes on.
+/// Tells on standard error of a file that a run left that was stopped. Where nothing more can be
+/// written there, the program goes on.
 pub fn tell(rt: &HostRuntime, leftover: &Option<Leftover>) {
     if let Some(leftover) = leftover {
         let _printed = eprintln!(rt; "{leftover}");
