@@ -7,6 +7,7 @@ mod fault;
 mod files;
 mod forks;
 mod listing;
+mod macbinary;
 mod refusal;
 mod repairing;
 mod saving;
@@ -22,6 +23,7 @@ pub use hfs_texts::{
     IMAGE_LIMIT, InfoFault, LoadFault, load, load_within, put, reply_text, run_info,
 };
 pub use listing::{children_text, code_text, list_text, needed_list_text};
+pub use macbinary::write_macbinary;
 pub use refusal::Refusal;
 pub use repairing::{RepairAnswer, repair_answer};
 pub use saving::save_file;
