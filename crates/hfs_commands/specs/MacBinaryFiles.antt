@@ -1,5 +1,5 @@
 -- What is written of a file with both forks: a MacBinary II file.
-use Rattle.std.specs.Prelude.{ℕ, ℤ, List, [], take, Result, Ok, Err}
+use Rattle.std.specs.Prelude.{◌≡◌, ℕ, ℤ, pos, List, [], take, Result, Ok, Err}
 use Rattle.hfs_encodings.specs.MacBinary.{macbinary_bytes}
 use Rattle.hfs_encodings.specs.declared.macbinary.MacBinaryHead.{MacBinaryHead}
 use Rattle.hfs_model.specs.declared.codes.TheConstants.{NOT_FOUND}
@@ -56,3 +56,8 @@ macbinary_of (Err code) data_fork resource_fork = []
 -- the MacBinary file of the folder's file of that name; none where there is no such file
 unfoldable pub macbinary_named : List Entry → ℕ → List ℕ → List ℕ
 macbinary_named es dir name = macbinary_of (file_named es dir name) (fork_named es dir name DataFork) (fork_named es dir name ResFork)
+
+-- 0 of a file, else the code that refuses it
+abbrev pub IsCodeOf : Result Info ℤ → ℤ → Type 0
+IsCodeOf (Ok info) code = code ≡ pos 0
+IsCodeOf (Err found) code = code ≡ found

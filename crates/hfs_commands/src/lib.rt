@@ -16,14 +16,14 @@ pub use checking::{check_text, needed_check_text, refused_text};
 pub use fault::{Fault, Status};
 pub use files::{ImageFile, load_file, load_script, open_image, write_file};
 pub use forks::write_fork;
-pub use hfs_needed::{NeededFault, needed_fork};
+pub use hfs_needed::{NeededFault, NeededFile, needed_file, needed_fork};
 pub use hfs_runs::{Gate, Ran, ScriptFault, run_script, run_script_at};
 pub use hfs_sparse::{BlockSource, SparseFault};
 pub use hfs_texts::{
     IMAGE_LIMIT, InfoFault, LoadFault, load, load_within, put, reply_text, run_info,
 };
 pub use listing::{children_text, code_text, list_text, needed_list_text};
-pub use macbinary::write_macbinary;
+pub use macbinary::{put_macbinary, write_macbinary};
 pub use refusal::Refusal;
 pub use repairing::{RepairAnswer, repair_answer};
 pub use saving::save_file;

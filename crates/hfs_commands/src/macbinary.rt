@@ -7,7 +7,7 @@ ghost use Rattle.hfs_texts.specs.Writing.{AppendsFront};
 ghost use Rattle.hfs_commands.specs.Entries.{entries_in};
 ghost use Rattle.hfs_commands.specs.Faults.{IsUnprinted};
 ghost use Rattle.hfs_commands.specs.Forks.{HasForkCode, fork_named};
-ghost use Rattle.hfs_commands.specs.MacBinaryFiles.{file_named, file_of_reply, macbinary_head, macbinary_named};
+ghost use Rattle.hfs_commands.specs.MacBinaryFiles.{IsCodeOf, file_named, file_of_reply, macbinary_head, macbinary_named, macbinary_of};
 
 use crate::fault::Fault;
 use crate::forks::write_fork;
@@ -42,6 +42,60 @@ pub fn write_macbinary<W: Write>(
         Ok(info) => write_told(alloc, writer, volume, dir, name, &info),
         Err(code) => Ok(refusal(code)),
     }
+}
+
+/// Writes the MacBinary file of a file that a reply to GetCatInfo tells of, with these forks, and answers 0; or the code of a reply that tells
+/// of none (-43 of a folder), and nothing is written. The fault is `OutputFailed`, and then a part may have gone out, from the beginning on.
+pub fn put_macbinary<W: Write>(
+    writer: &mut W,
+    told: &Reply,
+    data: &[u8],
+    resource: &[u8],
+) -> Result<i16, Fault<'static>>
+    ensures code { IfOk result (IsCodeOf (file_of_reply told.now)) }
+    ensures written { OnOk result (Appends (W.contents writer.old) (W.contents writer.new)
+        (macbinary_of (file_of_reply told.now) data.now resource.now)) }
+    ensures part { OnErr result (AppendsFront (W.contents writer.old) (W.contents writer.new)
+        (macbinary_of (file_of_reply told.now) data.now resource.now)) }
+    ensures faults { IfErr result IsUnprinted }
+{
+    match file_of(told) {
+        Ok(info) => match put_parts(writer, &info, data, resource) {
+            Ok(()) => Ok(0),
+            Err(fault) => Err(fault),
+        },
+        Err(code) => Ok(code),
+    }
+}
+
+/// Writes the header of a file that is told of, and these forks.
+fn put_parts<W: Write>(
+    writer: &mut W,
+    info: &Info,
+    data: &[u8],
+    resource: &[u8],
+) -> Result<(), Fault<'static>>
+    ensures written { OnOk result (Appends (W.contents writer.old) (W.contents writer.new)
+        (macbinary_bytes (macbinary_head info.now) data.now resource.now)) }
+    ensures part { OnErr result (AppendsFront (W.contents writer.old) (W.contents writer.new)
+        (macbinary_bytes (macbinary_head info.now) data.now resource.now)) }
+    ensures faults { IfErr result IsUnprinted }
+{
+    write_bytes(writer, &macbinary_head(info).bytes())?;
+    put_filled(writer, data)?;
+    put_filled(writer, resource)
+}
+
+/// Writes a fork, filled up.
+fn put_filled<W: Write>(writer: &mut W, fork: &[u8]) -> Result<(), Fault<'static>>
+    ensures written { OnOk result (Appends (W.contents writer.old) (W.contents writer.new)
+        (filled fork.now)) }
+    ensures part { OnErr result (AppendsFront (W.contents writer.old) (W.contents writer.new)
+        (filled fork.now)) }
+    ensures faults { IfErr result IsUnprinted }
+{
+    write_bytes(writer, fork)?;
+    write_zeros(writer, padding(fork.len()))
 }
 
 /// What is told of the folder's file of that name, or the code that refuses it.
