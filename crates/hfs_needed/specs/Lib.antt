@@ -6,3 +6,4 @@ pub mod Opened
 pub mod Forks
 pub mod Finding
 pub mod Listing
+pub mod WholeFiles

@@ -59,7 +59,7 @@ fn read_kind<S: BlockSource>(
 
 /// The bytes of one of both forks of a file.
 #[tactic(auto, using(crate::proofs::Named::data_sound, crate::proofs::Named::resource_sound))]
-fn read_file<S: BlockSource>(
+pub(crate) fn read_file<S: BlockSource>(
     alloc: Global,
     source: &mut S,
     read: &Patch,
@@ -89,7 +89,7 @@ fn read_file<S: BlockSource>(
 }
 
 /// The record of the folder's file of that name, or the reply that refuses it, where these blocks were read of a volume of `count` blocks.
-fn find_file(
+pub(crate) fn find_file(
     read: &Patch,
     count: u32,
     trees: &VolumeTrees,

@@ -8,6 +8,7 @@ mod laws;
 mod listing;
 mod opening;
 mod reporting;
+mod whole_files;
 
 pub use crate::forks::needed_fork;
 pub use crate::gathering::gather_needed;
@@ -15,3 +16,4 @@ pub use crate::laws::{gathered_is_enough, needed_is_enough, needed_of_images};
 pub use crate::listing::needed_list;
 pub use crate::opening::NeededFault;
 pub use crate::reporting::needed_report;
+pub use crate::whole_files::{NeededFile, needed_file};

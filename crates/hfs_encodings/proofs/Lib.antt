@@ -1,0 +1,3 @@
+pub mod Table
+pub mod WrittenAppleDouble
+pub mod WrittenMacBinary

@@ -1,0 +1,3 @@
+pub mod Crc
+pub mod AppleDouble
+pub mod MacBinary

@@ -1,0 +1,35 @@
+-- What is told of an item by what was gathered is what is told of it by the image.
+use Rattle.std.proofs.Common.{◌≡◌, ℕ, ◌/◌, List, Option, Some, None, sym, ap, subst, ◌∙◌}
+use Rattle.hfs_blocks.specs.Blocks.{block_at, block_count}
+use Rattle.hfs_blocks.specs.Layers.{Numbered}
+use Rattle.hfs_model.specs.Children.{entries_of}
+use Rattle.hfs_model.specs.Reading.{get_cat_info}
+use Rattle.hfs_model.specs.declared.reply.Reply.{Reply}
+use Rattle.hfs_catalog.specs.Records.{Catalog}
+use Rattle.hfs_check.specs.Laws.{NoBlocksFault}
+use Rattle.hfs_check.specs.Parts.{catalog_in}
+use Rattle.hfs_check.specs.Sound.{AreBlocksSound}
+use Rattle.hfs_check.specs.VolumeOf.{contents_in, volume_of}
+use Rattle.hfs_queries.specs.Queries.{RecordsAreEntries}
+use Rattle.hfs_queries.specs.Replies.{cat_infos}
+use Rattle.hfs_queries.specs.Told.{cat_info}
+use Rattle.hfs_sparse.specs.Sparse.{sparse, IsOf}
+use Rattle.hfs_needed.specs.Gathered.{HasNeeded, IsOfKnown, GatheredIsEnough}
+use Rattle.hfs_needed.specs.Known.{OfKnown}
+use Rattle.hfs_needed.proofs.Listed.{held, entries-are}
+
+module _ (law : NoBlocksFault) (enough : GatheredIsEnough) (answers : RecordsAreEntries) (bytes : List ℕ) (read : Numbered)
+    (needed : HasNeeded (block_count bytes) read) (of : IsOf bytes read) (sound : AreBlocksSound (block_count bytes) (sparse read)) where
+  told-is : (dir : ℕ) (name : List ℕ) → cat_info (catalog_in (sparse read)) dir name ≡ get_cat_info (entries_of (volume_of bytes)) dir name
+  told-is dir name =
+      ap (λ (catalog : Catalog). cat_info catalog dir name) (sym (held law enough answers bytes read needed of sound).catalog)
+      ∙ cat_infos (contents_in (block_at bytes)) (catalog_in (block_at bytes)) (entries_of (volume_of bytes)) (entries-are law enough answers bytes read needed of sound) dir name
+
+pub told-known : NoBlocksFault → GatheredIsEnough → RecordsAreEntries → (known : Option (List ℕ)) (len : ℕ) (read : Numbered) → HasNeeded (len / 512) read
+    → IsOfKnown known read → AreBlocksSound (len / 512) (sparse read) → (dir : ℕ) (name : List ℕ) (reply : Reply) → reply ≡ cat_info (catalog_in (sparse read)) dir name
+    → OfKnown known len (λ bytes. reply ≡ get_cat_info (entries_of (volume_of bytes)) dir name)
+told-known law enough answers None len read needed of sound dir name reply e = tt
+told-known law enough answers (Some bytes) len read needed of sound dir name reply e = λ same.
+    e
+    ∙ told-is law enough answers bytes read (subst (λ (n : ℕ). HasNeeded (n / 512) read) (sym same) needed) of
+    (subst (λ (n : ℕ). AreBlocksSound (n / 512) (sparse read)) (sym same) sound) dir name

@@ -1,0 +1,87 @@
+//! What is told of a file, and both its forks, by the needed blocks of an image.
+ghost use Rattle.std.specs.Prelude.{◌≡◌, IfOk, IfErr};
+ghost use Rattle.hfs_check.specs.Parts.{catalog_in};
+ghost use Rattle.hfs_check.specs.Sound.{AreBlocksSound};
+ghost use Rattle.hfs_check.specs.Trees.{HasTrees};
+ghost use Rattle.hfs_queries.specs.Told as told;
+ghost use Rattle.hfs_sparse.specs.Sparse.{sparse};
+ghost use Rattle.hfs_needed.specs.Opened.{IsRefusedFor};
+ghost use Rattle.hfs_needed.specs.WholeFiles.{HoldsDataNamed, HoldsResourceNamed, RefusesFileNamed, TellsOfFile};
+
+use crate::forks::{find_file, read_file};
+use crate::laws::gathered_is_enough;
+use crate::opening::{NeededFault, open_needed};
+use hfs_blocks::Patch;
+use hfs_btree::RunNodes;
+use hfs_check::{VolumeTrees, no_blocks_fault};
+use hfs_model::{Fork, Reply};
+use hfs_queries::{catalog_answers, get_cat_info};
+use hfs_sparse::{BlockSource, ZeroBlocks};
+use std::alloc::Global;
+
+/// A file with both forks.
+#[derive(Drop)]
+pub struct NeededFile {
+    /// The reply to GetCatInfo of the file.
+    pub told: Reply,
+    /// The bytes of its data fork.
+    pub data: Vec<u8>,
+    /// The bytes of its resource fork.
+    pub resource: Vec<u8>,
+}
+
+/// What is told of the folder's item of that name, where these blocks were read of a volume of `count` blocks.
+fn tell_of(read: &Patch, count: u32, trees: &VolumeTrees, dir: u32, name: &[u8]) -> Reply
+    requires sound { AreBlocksSound count (sparse read.now) }
+    requires trees { HasTrees count (sparse read.now) trees.now }
+    ensures { result ≡ told.cat_info (catalog_in (sparse read.now)) dir name.now }
+{
+    catalog_answers();
+    let zeros = ZeroBlocks { count };
+    let nodes = RunNodes {
+        blocks: &read.over(&zeros),
+        runs: &trees.catalog,
+    };
+    get_cat_info(&nodes, dir, name)
+}
+
+/// What is told of a file in an image of `len` bytes, and the bytes of both its forks: only the blocks are read that its checks need and those
+/// of the forks. Or what a call that reads a fork answers where there is no such file: -37, -120 or -43. Errors: a read failed, memory was
+/// refused, or the image is refused.
+pub fn needed_file<S: BlockSource>(
+    alloc: Global,
+    source: &mut S,
+    len: u64,
+    dir: u32,
+    name: &[u8],
+) -> Result<Result<NeededFile, Reply>, NeededFault>
+    ensures told { IfOk result (TellsOfFile (S.image source.old) len dir name.now) }
+    ensures data_fork { IfOk result (HoldsDataNamed (S.image source.old) len dir name.now) }
+    ensures resource_fork { IfOk result (HoldsResourceNamed (S.image source.old) len dir name.now) }
+    ensures unread { IfOk result (RefusesFileNamed (S.image source.old) len dir name.now) }
+    ensures refused { IfErr result (λ fault. IsRefusedFor (S.image source.old) len fault) }
+    ensures image { S.image source.new ≡ S.image source.old }
+{
+    catalog_answers();
+    gathered_is_enough();
+    no_blocks_fault();
+    let volume = open_needed(alloc, source, len)?;
+    let (read, count, sound) = (&volume.read, volume.count, &volume.sound);
+    let file = match find_file(read, count, &sound.trees, dir, name) {
+        Ok(file) => file,
+        Err(reply) => return Ok(Err(reply)),
+    };
+    let told = tell_of(read, count, &sound.trees, dir, name);
+    let data = match read_file(alloc, source, read, count, sound, &file, Fork::DataFork) {
+        Ok(data) => data,
+        Err(fault) => return Err(NeededFault::of_sparse(fault)),
+    };
+    match read_file(alloc, source, read, count, sound, &file, Fork::ResFork) {
+        Ok(resource) => Ok(Ok(NeededFile {
+            told,
+            data,
+            resource,
+        })),
+        Err(fault) => Err(NeededFault::of_sparse(fault)),
+    }
+}
