@@ -2,7 +2,7 @@
 """How long calls take in `hfs_tool run`: of workers under the lock, and of viewers, whom rows answer.
 
 measure/run_times.py calls [IMAGE]   SetFInfo, Create, Delete and CatMove by a worker, and saving;
-                                     without IMAGE on a volume of 3,000 items that it makes, in 6 MB
+                                     without IMAGE on a volume of 1,800 items that it makes, in 6 MB
 measure/run_times.py rows [IMAGE]    look-ups, lists and children by place, by a viewer and by a
                                      worker; without IMAGE on one of 60,000 items
 measure/run_times.py shared          calls of 1, 2, 4 and 8 workers; lists of 1, 2, 4 and 8 viewers,
@@ -36,6 +36,8 @@ ROOT_ID, FIRST_FREE = 2, 16
 # How far one look-up is from the one before it, in items.
 STEP = 7_919
 LOOK_UPS = 60_000
+# How many calls there are at least of what is measured.
+ENOUGH = 10_000
 # As many catalog nodes as a new volume may have.
 MOST_NODES = 2_048
 
@@ -80,9 +82,19 @@ class Runs:
     def report(self, what: str, text: str, count: int, beside: str = '') -> None:
         """Prints what a call takes of a script with so many beside those of another script, which
         it begins with."""
+        self.ensure_done(text)
         without, most = self.spent(beside), self.spent(text)
         middle, best = ((a - b) / max(count, 1) * 1e6 for a, b in zip(most, without))
         print(f'{what}: {middle:.2f} µs each in the middle, {best:.2f} at best ({count})', flush=True)
+
+    def ensure_done(self, text: str) -> None:
+        """Ends the script where a call is refused."""
+        script = self.folder / 'script'
+        script.write_text(text, encoding='latin-1')
+        told = subprocess.run([self.tool, 'run', self.image, script], stdout=subprocess.PIPE, check=True).stdout.decode('latin-1')
+        refused = next((it for it in told.split('\n') if it and it[0] != '\t' and it.split('\t')[2] != '0'), None)
+        if refused:
+            raise SystemExit(f'a call is answered {refused}')
 
     def items(self) -> list[Item]:
         """All items but the root, folder by folder."""
@@ -108,11 +120,12 @@ def measure_calls(runs: Runs) -> None:
     folders = [it.id for it in items if it.kind == 'd']
     print(f'{len(items)} items in {runs.image.stat().st_size / 1e6:.1f} MB')
     settings = [Call.of('setfinfo', it.parent, it.name, '07' * 16) for it in items if it.kind == 'f']
+    settings *= 1 + ENOUGH // len(settings)
+    both = [call for word in ('create', 'delete') for call in files_in(folders, 5, word)]
+    both *= 1 + ENOUGH // len(both)
     runs.report('SetFInfo', script_of(settings), len(settings))
-    made, gone = (files_in(folders, 5, word) for word in ('create', 'delete'))
-    runs.report('Create', script_of(made), len(made))
-    runs.report('Delete', script_of(made + gone), len(gone), script_of(made))
-    runs.report('SetFInfo behind both', script_of(made + gone + settings), len(settings), script_of(made + gone))
+    runs.report('Create and Delete, the mean of both', script_of(both), len(both))
+    runs.report('SetFInfo behind these', script_of(both + settings), len(settings), script_of(both))
     measure_moves(runs, max(it.id for it in items) + 1)
     script = runs.folder / 'nothing'
     script.write_text('')
@@ -120,7 +133,7 @@ def measure_calls(runs: Runs) -> None:
     print(f'saved, beside a run that does not: {saved * 1e3:.1f} ms')
 
 
-def measure_moves(runs: Runs, next_id: int, rounds: int = 200) -> None:
+def measure_moves(runs: Runs, next_id: int, rounds: int = ENOUGH // 2) -> None:
     """Measures moves of a folder into one of the root, into one 100 deep and one 200 deep, and
     back."""
     chain = [Call.of('mkdir', ROOT_ID if it == 0 else next_id + it - 1, 'deep') for it in range(200)]
@@ -139,7 +152,7 @@ def measure_rows(runs: Runs) -> None:
     near, far = ([Call.of('info', it.parent, it.name) for it in (items[k * step % len(items)] for k in range(LOOK_UPS))] for step in (1, STEP))
     lists = [Call.of('list', it) for it in folders]
     last = [it for it in items if it.parent == items[-1].parent]
-    indexed = [Call.of('indexed', items[-1].parent, it + 1) for it in range(len(last))] * 20
+    indexed = [Call.of('indexed', items[-1].parent, it + 1) for it in range(len(last))] * (1 + ENOUGH // len(last))
     for who, name in (('v1', 'a viewer, of rows'), ('1', 'a worker, of the volume')):
         print(name)
         runs.report('  look-up by name', script_of(far, who), len(far))
@@ -186,7 +199,7 @@ def laid_volume(folder: Path, items: int, megabytes: int) -> Path:
 
 
 def measured_calls(tool: Path, folder: Path, image: Optional[Path]) -> None:
-    measure_calls(Runs(tool, folder, image or made_volume(tool, folder, 100, 29)))
+    measure_calls(Runs(tool, folder, image or made_volume(tool, folder, 60, 29)))
 
 
 def measured_rows(tool: Path, folder: Path, image: Optional[Path]) -> None:
