@@ -9,6 +9,8 @@ ROOT = Path(__file__).resolve().parents[2]
 REAL_VOLUMES = ROOT / 'crates' / 'hfs_real_volumes' / 'data'
 # How many seconds a program may take, where nothing else is said.
 SECONDS = 120
+# No program looks at its environment.
+ENVIRONMENT = {'PATH': os.defpath}
 
 
 class Difference(Exception):
@@ -33,7 +35,7 @@ class Program:
         how = {'input': given} if given is not None else {'stdin': subprocess.DEVNULL}
         try:
             ran = subprocess.run([self.path, *map(str, words)], stdout=subprocess.PIPE, stderr=subprocess.PIPE,
-                                 timeout=seconds, close_fds=False, **how)
+                                 timeout=seconds, close_fds=False, env=ENVIRONMENT, **how)
         except subprocess.TimeoutExpired:
             raise Difference(f"{self.name} takes more than {seconds} s of '{' '.join(map(str, words))}'") from None
         if ran.stderr:
