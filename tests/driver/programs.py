@@ -7,8 +7,8 @@ from pathlib import Path
 ROOT = Path(__file__).resolve().parents[2]
 # Volumes of other programs.
 REAL_VOLUMES = ROOT / 'crates' / 'hfs_real_volumes' / 'data'
-# How many seconds a program may take, where nothing else is said.
-SECONDS = 120
+# How many seconds a program may take, also where others work beside it, if nothing else is said.
+SECONDS = 600
 # No program looks at its environment.
 ENVIRONMENT = {'PATH': os.defpath}
 
