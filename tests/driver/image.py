@@ -48,9 +48,13 @@ class Node:
         return self.content[8] == 0xFF
 
     @property
+    def places(self) -> list[int]:
+        """Where each record begins, and where the last one ends."""
+        return [number_at(self.content, BLOCK - 2 - 2 * it, 2) for it in range(number_at(self.content, 10, 2) + 1)]
+
+    @property
     def records(self) -> list[bytes]:
-        count = number_at(self.content, 10, 2)
-        places = [number_at(self.content, BLOCK - 2 - 2 * it, 2) for it in range(count + 1)]
+        places = self.places
         return [self.content[first:end] for first, end in zip(places, places[1:])]
 
 
@@ -114,10 +118,14 @@ class Tree:
         return numbers
 
     @cached_property
+    def map_bits(self) -> bytes:
+        """The node map."""
+        return b''.join(self.node(it).records[0 if it else 2] for it in self.map_nodes)
+
+    @cached_property
     def marked_nodes(self) -> set[int]:
         """The numbers of the nodes that the node map says are in use."""
-        bits = b''.join(self.node(it).records[0 if it else 2] for it in self.map_nodes)
-        return {it for it in range(self.count) if bits[it // 8] & 0x80 >> it % 8}
+        return {it for it in range(self.count) if self.map_bits[it // 8] & 0x80 >> it % 8}
 
 
 class Image:

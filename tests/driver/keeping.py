@@ -5,6 +5,8 @@ from driver.programs import Difference
 
 # The fields of the master directory block that calls change: drLsMod, drNmFls, drNxtCNID, drFreeBks, drNmRtDirs, drFilCnt, drDirCnt.
 COUNTS = ((6, 4), (12, 2), (30, 4), (34, 2), (82, 2), (84, 4), (88, 4))
+# The fields of a header node that calls change: bthDepth, bthRoot, bthNRecs, bthFNode, bthLNode, bthFree.
+HEADER = ((14, 2), (16, 4), (20, 4), (24, 4), (28, 4), (40, 4))
 
 
 def ensure(holds: bool, what: str) -> None:
@@ -12,16 +14,29 @@ def ensure(holds: bool, what: str) -> None:
         raise Difference(what)
 
 
-def beside_counts(block: bytes) -> bytes:
-    """The master directory block with zeros in its counts."""
+def beside(block: bytes, fields) -> bytes:
+    """A block with zeros in these fields."""
     bare = bytearray(block)
-    for at, width in COUNTS:
+    for at, width in fields:
         bare[at:at + width] = bytes(width)
     return bytes(bare)
 
 
+def map_frame(tree: Tree) -> list[bytes]:
+    """The header node and the map nodes of a tree without what calls change: numbers of the header record, and the bits of nodes."""
+    frame = [tree.map_bits[tree.count // 8 + 1:]]
+    for number in tree.map_nodes:
+        node, record = tree.node(number), 0 if number else 2
+        first, end = node.places[record], node.places[record + 1]
+        frame.append(beside(node.content, ((first, end - first), *(() if number else HEADER))))
+    return frame
+
+
 def bitmap_after(old: Image, new: Image) -> bytes:
-    """The bitmap of the old image without the blocks of the files that are gone."""
+    """The bitmap of the old image without the blocks of the files that are gone. Where it hasn't changed, no file is looked for: `check`
+    then tells more unowned blocks, if one is gone that had some."""
+    if new.bitmap == old.bitmap:
+        return old.bitmap
     bits = bytearray(old.bitmap)
     for number in old.file_blocks.keys() - new.file_blocks.keys():
         for block in old.file_blocks[number]:
@@ -33,6 +48,7 @@ def ensure_nodes_kept(what: str, old: Tree, new: Tree, changed: set[int]) -> Non
     """A difference where a node changed that is no header, map or level node, or where the map says other than came and left."""
     ensure(old.blocks == new.blocks and old.count == new.count, f'{what} has other nodes')
     ensure(old.map_nodes == new.map_nodes, f'{what} has other map nodes')
+    ensure(map_frame(old) == map_frame(new), f'the header node or a map node of {what} beside its numbers and its bits')
     came, left = new.level_nodes - old.level_nodes, old.level_nodes - new.level_nodes
     ensure(new.marked_nodes == (old.marked_nodes | came) - left, f'the node map of {what}')
     ensure(not came & old.marked_nodes, f'a node of {what} that came was in use')
@@ -48,7 +64,7 @@ def ensure_kept(old: Image, new: Image) -> list[int]:
     if not changed:
         return changed
     ensure(len(old.content) == len(new.content), 'the image has another length')
-    ensure(beside_counts(old.block(2)) == beside_counts(new.block(2)), 'the master directory block beside its counts')
+    ensure(beside(old.block(2), COUNTS) == beside(new.block(2), COUNTS), 'the master directory block beside its counts')
     ensure(new.bitmap == bitmap_after(old, new), 'the bitmap')
     others = set(changed) - {2} - set(old.bitmap_blocks)
     for what, tree, tree_after in (('the extents tree', old.extents_tree, new.extents_tree), ('the catalog', old.catalog, new.catalog)):
