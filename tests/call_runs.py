@@ -24,7 +24,7 @@ NODES = (4, 5, 6, 7, 8, 10, 13, 17, 24, 40)
 # The sound volumes of other programs.
 REAL = ('hfsutils-800k', 'hfsutils-1440k-names', 'genisoimage-locked')
 # After how many calls the image is saved and mounted again.
-SIZES = (1, 5, 25, 50, 50)
+SIZES = (1, 10, 50, 50, 100)
 LOCKS = {0: '0180', 1: '8100', 2: '8180'}
 # The codes of each call, as docs/CALLS.md lists them, but for -33, for which a folder must have 65,535 children.
 LOCKED = '-44 -46'

@@ -9,6 +9,7 @@ tests/full_catalogs.py [--most NODES] [--kept FOLDER]
 import argparse
 import sys
 import time
+from copy import copy
 from pathlib import Path
 from typing import Callable, Optional
 
@@ -55,10 +56,9 @@ def ensure_new(disk: Disk, nodes: int) -> None:
     ensure(catalog.room == Room(nodes - 2, 1) and catalog.records == 2, f'{catalog.room} and {catalog.records} records')
 
 
-def fill_and_empty(bench: Bench, content: bytes, nodes: int, word: str, order: str) -> int:
+def fill_and_empty(disk: Disk, nodes: int, word: str, order: str) -> int:
     """Fills the catalog of a new volume, and empties it again. Tells how many items it held."""
     number_of, is_turned = ORDERS[order]
-    disk = Disk(bench, content)
     ensure_new(disk, nodes)
     names = [name_of(number_of(turn)) for turn in range(4 * nodes + 4)]
     answers = disk.make([Call.of(word, 2, name) for name in names], 1)
@@ -78,10 +78,10 @@ def fill_all(bench: Bench, most: int) -> None:
     """Fills and empties each catalog, with files and with folders in each order."""
     items = 0
     for nodes in range(2, most + 1):
-        content = bench.new_volume(128, nodes, 1)
+        new = Disk(bench, bench.new_volume(128, nodes, 1))
         for word in ('create', 'mkdir'):
             for order in ORDERS:
-                items += fill_and_empty(bench, content, nodes, word, order)
+                items += fill_and_empty(copy(new), nodes, word, order)
                 bench.counts.lists += 1
     print(f'catalogs of 2 to {most} nodes filled with files, and with folders, and emptied: {items} items', flush=True)
 

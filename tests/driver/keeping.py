@@ -33,7 +33,10 @@ def map_frame(tree: Tree) -> list[bytes]:
 
 
 def bitmap_after(old: Image, new: Image) -> bytes:
-    """The bitmap of the old image without the blocks of the files that are gone."""
+    """The bitmap of the old image without the blocks of the files that are gone. Where it hasn't changed, no file is looked for: `check`
+    then tells more unowned blocks, if one is gone that had some."""
+    if new.bitmap == old.bitmap:
+        return old.bitmap
     bits = bytearray(old.bitmap)
     for number in old.file_blocks.keys() - new.file_blocks.keys():
         for block in old.file_blocks[number]:

@@ -7,8 +7,10 @@ from pathlib import Path
 ROOT = Path(__file__).resolve().parents[2]
 # Volumes of other programs.
 REAL_VOLUMES = ROOT / 'tests' / 'volumes'
-# How many seconds a program may take, where nothing else is said.
-SECONDS = 120
+# How many seconds a program may take, also where others work beside it, if nothing else is said.
+SECONDS = 600
+# No program looks at its environment.
+ENVIRONMENT = {'PATH': os.defpath}
 
 
 class Difference(Exception):
@@ -33,7 +35,7 @@ class Program:
         how = {'input': given} if given is not None else {'stdin': subprocess.DEVNULL}
         try:
             ran = subprocess.run([self.path, *map(str, words)], stdout=subprocess.PIPE, stderr=subprocess.PIPE,
-                                 timeout=seconds, close_fds=False, **how)
+                                 timeout=seconds, close_fds=False, env=ENVIRONMENT, **how)
         except subprocess.TimeoutExpired:
             raise Difference(f"{self.name} takes more than {seconds} s of '{' '.join(map(str, words))}'") from None
         if ran.stderr:
