@@ -5,7 +5,6 @@ use crate::sources::FailingSource;
 use hfs_fixtures::{SmallVolume, small_image};
 use hfs_needed::gather_needed;
 use hfs_sparse::{ByteSource, SeekSource, SparseFault};
-use std::alloc::Global;
 use std::io::Cursor;
 use std::process::Abort;
 

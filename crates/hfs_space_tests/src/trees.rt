@@ -4,7 +4,7 @@ use hfs_btree_checks::check_tree;
 use hfs_fields::{ExtKey, Extent};
 use hfs_fixtures::{NodeTable, SmallVolume, small_image};
 use hfs_node::{BLANK_NODE, Node, NodeKind, Records, encode, fits};
-use std::alloc::{AllocError, Global};
+use std::alloc::Global;
 use std::test::Fail;
 
 /// A key by its numbers.
