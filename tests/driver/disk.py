@@ -13,8 +13,8 @@ from driver.image import Image
 from driver.keeping import ensure, ensure_kept
 from driver.programs import Difference, Program, Programs
 
-# The calls that are done without a change of the catalog's nodes, beside those that need none and take none away.
-TAKES_NODES_AWAY = ('delete', 'dropid')
+# The calls that may give nodes back when they are done. All others leave as many free nodes or fewer, and as many levels or more.
+GIVES_NODES = ('delete', 'dropid', 'move', 'rename')
 
 
 @dataclass(frozen=True)
@@ -141,10 +141,19 @@ class Known:
         need = call.need(self.room.depth)
         if need:
             self.room = Room(max(0, self.room.free - need), self.room.depth + 1)
-        self.is_exact = self.is_exact and not need and call.word not in TAKES_NODES_AWAY
+        self.is_exact = self.is_exact and not need and call.word not in GIVES_NODES
 
-    def is_enough(self, call: Call) -> bool:
-        return self.room.free >= call.need(self.room.depth)
+
+def is_enough(room: Room, call: Call) -> bool:
+    """Whether a catalog with this room has the reserve of a call."""
+    return room.free >= call.need(room.depth)
+
+
+def last_done(calls: Sequence[Call], answers: list[Answer], words=None) -> int:
+    """The place of the last call that is done and changes something, of these words where they are given; -1 without one."""
+    places = [at for at, (call, answer) in enumerate(zip(calls, answers))
+              if answer.is_done and not call.is_reading and (words is None or call.word in words)]
+    return places[-1] if places else -1
 
 
 class Disk:
@@ -163,8 +172,9 @@ class Disk:
         image, script = bench.lay('image', self.image.content), bench.lay('script', script_of(calls))
         bench.lay('now', f'{now}\n')
         answers = self.run_both(image, script, now, calls)
-        self.ensure_room(calls, answers, now)
-        self.take(calls, answers, self.run_plain(image, calls, answers, now) if beside_plain else None)
+        saved = Image((bench.folder / 'saved').read_bytes())
+        self.ensure_room(calls, answers, now, saved.catalog.room)
+        self.take(calls, answers, saved, self.run_plain(image, calls, answers, now) if beside_plain else None)
         bench.counts.calls += len(calls)
         return answers
 
@@ -191,20 +201,24 @@ class Disk:
         bench.run(bench.programs.tool, bench.folder / 'image', part, now, bench.folder / 'saved_part')
         return Image((bench.folder / 'saved_part').read_bytes()).catalog.room
 
-    def ensure_room(self, calls: Sequence[Call], answers: list[Answer], now: int) -> None:
+    def ensure_room(self, calls: Sequence[Call], answers: list[Answer], now: int, end: Room) -> None:
         """A difference where a call that is answered -34 had its reserve, or tells another room than there was, or one that is
-        done had less than its reserve."""
+        done had less than its reserve. After all calls there is the room `end`, which tells much of the room before them."""
+        last_change, last_giving = last_done(calls, answers), last_done(calls, answers, GIVES_NODES)
         known = Known(self.image.catalog.room, True)
         for at, (call, answer) in enumerate(zip(calls, answers)):
             wanting = answer.wanting
-            if not known.is_exact and (wanting or answer.is_done and not known.is_enough(call)):
+            if at > last_change:
+                known = Known(end, True)
+            had_end = not known.is_exact and at > last_giving and is_enough(end, call)
+            if not known.is_exact and (wanting or answer.is_done and not is_enough(known.room, call) and not had_end):
                 known = Known(self.room_before(calls, at, now), True)
             if wanting:
                 self.bench.counts.wanting += 1
                 ensure(wanting == known.room, f'call {at + 1} tells {wanting}, and there was {known.room}')
-                ensure(not known.is_enough(call), f'call {at + 1} is answered -34 with {known.room}')
+                ensure(not is_enough(known.room, call), f'call {at + 1} is answered -34 with {known.room}')
             elif answer.is_done:
-                ensure(known.is_enough(call), f'call {at + 1} is done with {known.room}')
+                ensure(had_end or is_enough(known.room, call), f'call {at + 1} is done with {known.room}')
                 known.pass_done(call)
 
     def run_plain(self, image: Path, calls: Sequence[Call], answers: list[Answer], now: int) -> State:
@@ -218,10 +232,9 @@ class Disk:
             ensure(answer.told == told.told, f'{call} is answered {told.told!r}, by hfs_plain {answer.told!r}')
         return state
 
-    def take(self, calls: Sequence[Call], answers: list[Answer], state: Optional[State]) -> None:
+    def take(self, calls: Sequence[Call], answers: list[Answer], image: Image, state: Optional[State]) -> None:
         """Takes the saved image, when it is as it must be: it holds this volume, is sound, and keeps what calls keep."""
         saved = self.bench.folder / 'saved'
-        image = Image(saved.read_bytes())
         changed = ensure_kept(self.image, image)
         is_changing = any(answer.is_done and not call.is_reading for call, answer in zip(calls, answers))
         ensure(is_changing or not changed, f'calls that change nothing change {len(changed)} blocks')
