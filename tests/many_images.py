@@ -16,7 +16,7 @@ from driver.programs import Difference, Program, Programs
 
 # The processor seconds that a word may take of a small image, and how long it is waited for where
 # others work too.
-LIMIT, PATIENCE = 2.0, 60.0
+LIMIT, PATIENCE = 2.0, 600.0
 NOW = 77
 # Of so many images one is looked at more closely.
 CLOSER = 8
