@@ -11,7 +11,7 @@ pub struct Words<'a> {
     pub now: u32,
 }
 
-/// What the words ask for, the first of which is the program's own name. None where they are no such words.
+/// What the words ask for, the first of which is the program's name. None where they aren't right.
 pub fn words_of(words: &[String]) -> Option<Words<'_>> {
     match words {
         [_program, image, script] => Some(Words {

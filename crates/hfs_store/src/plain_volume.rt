@@ -78,8 +78,8 @@ impl PlainVolume {
         })
     }
 
-    /// The volume of these items, with no lock set. They stand in the order of their IDs, each of which is below the next one, and no
-    /// folder has more than 65,535 of them. Takes no memory.
+    /// The volume of these items, with no lock set. Their IDs rise and are below `next_id`, and no
+    /// folder has more than 65,535 items. Takes no memory.
     pub fn of(alloc: Global, items: Vec<(u32, Item)>, next_id: u32, changed: u32) -> Self
         requires { AreEntries items.items next_id }
         ensures { result ≡ unlocked_volume items.items next_id changed }

@@ -58,7 +58,7 @@ impl Rows {
         Ok(Rows { alloc, table })
     }
 
-    /// The table of the rows: by their IDs and by their names, with what is told of the volume beside its items.
+    /// The table of the rows, with what the volume has beside its items.
     pub fn table(&self) -> &Table
         ensures volume { tables.volume_of result.now ≡ self.now }
         ensures table { IsTable result.now }
