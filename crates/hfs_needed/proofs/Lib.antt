@@ -1,3 +1,6 @@
+pub mod MarkedLaw
+pub mod TreeNodes
+pub mod SameTrees
 pub mod SameParts
 pub mod SameSpace
 pub mod SameFaults

@@ -8,10 +8,14 @@ mod laws;
 mod listing;
 mod opening;
 mod reporting;
+mod tree_header;
+mod tree_nodes;
 
 pub use crate::forks::needed_fork;
 pub use crate::gathering::gather_needed;
-pub use crate::laws::{gathered_is_enough, needed_is_enough, needed_of_images};
+pub use crate::laws::{
+    gathered_is_enough, marked_nodes_decide, needed_is_enough, needed_of_images,
+};
 pub use crate::listing::needed_list;
 pub use crate::opening::NeededFault;
 pub use crate::reporting::needed_report;
