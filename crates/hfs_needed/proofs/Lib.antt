@@ -12,3 +12,4 @@ pub mod Listed
 pub mod Refused
 pub mod ForkBytes
 pub mod Named
+pub mod OpenedAt

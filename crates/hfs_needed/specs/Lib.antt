@@ -8,3 +8,4 @@ pub mod Forks
 pub mod Finding
 pub mod Listing
 pub mod TreeReads
+pub mod OpenedValues

@@ -6,6 +6,7 @@ mod forks;
 mod gathering;
 mod laws;
 mod listing;
+mod opened;
 mod opening;
 mod reporting;
 mod tree_header;
@@ -17,5 +18,6 @@ pub use crate::laws::{
     gathered_is_enough, marked_nodes_decide, needed_is_enough, needed_of_images,
 };
 pub use crate::listing::needed_list;
+pub use crate::opened::OpenedImage;
 pub use crate::opening::NeededFault;
 pub use crate::reporting::needed_report;

@@ -22,7 +22,7 @@ use std::alloc::{AllocError, Global};
 
 /// What the children's own records tell of all children of a folder, in name order, where these blocks were read of a volume of `count`
 /// blocks.
-fn list_in_brief(
+pub(crate) fn list_in_brief(
     alloc: Global,
     read: &Patch,
     count: u32,
