@@ -1,14 +1,15 @@
 //! An image that is opened and checked once, and asked as often as one likes.
 ghost use Rattle.std.specs.Prelude.{◌≡◌, IfOk, IfErr};
 ghost use Rattle.hfs_needed.specs.Forks.{FindsForkNamed, RefusesForkNamed};
-ghost use Rattle.hfs_needed.specs.Listing.{IsBriefList};
+ghost use Rattle.hfs_needed.specs.Listing.{IsBriefList, HoldsCatalog};
 ghost use Rattle.hfs_needed.specs.Opened.{IsRefusedFor};
 ghost use Rattle.hfs_needed.specs.OpenedValues.{opened_value};
 
 use crate::forks::opened_fork;
 use crate::laws::gathered_is_enough;
-use crate::listing::list_in_brief;
+use crate::listing::{catalog_records, list_in_brief};
 use crate::opening::{NeededFault, NeededVolume, open_needed};
+use hfs_catalog::CatalogRecord;
 use hfs_check::no_blocks_fault;
 use hfs_model::{Fork, Reply};
 use hfs_queries::catalog_answers;
@@ -64,6 +65,18 @@ impl<S: BlockSource + Drop> OpenedImage<S> {
         no_blocks_fault();
         let volume = &self.volume;
         list_in_brief(alloc, &volume.read, volume.count, &volume.sound.trees, dir)
+    }
+
+    /// All records of the catalog, in the order of its leaves: those of the items, and of their threads. Nothing is read. Error: memory was
+    /// refused.
+    pub fn records(&self, alloc: Global) -> Result<Vec<CatalogRecord>, AllocError>
+        ensures { IfOk result (HoldsCatalog self.now.known self.now.len) }
+    {
+        catalog_answers();
+        gathered_is_enough();
+        no_blocks_fault();
+        let volume = &self.volume;
+        catalog_records(alloc, &volume.read, volume.count, &volume.sound.trees)
     }
 
     /// The bytes of a file's fork, whose own blocks alone are read; or what a call that reads the fork answers where there is none: -37,

@@ -97,10 +97,12 @@ fn reads_both_trees_and_the_bitmap(rt: HostRuntime) {
 }
 
 /// Nodes 2 to 5 of the catalog, in blocks 8 to 11, are not marked: whatever they hold, they are not read, and nothing else is reported.
+/// Each sixteenth byte of them is changed once.
 #[test]
 fn heeds_no_node_that_is_not_marked(rt: HostRuntime) {
     let mut image = image_of(&rt, SmallVolume::OneFile);
-    for at in 4_096..6_144 {
+    for k in 256..384 {
+        let at = 16 * k;
         let byte = put(&rt, &mut image, at, 0);
         put(&rt, &mut image, at, 255 - byte);
         assert!(rt; needed_len(&rt, &image) == 7 && is_reported_alike(&rt, &image));

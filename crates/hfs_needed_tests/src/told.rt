@@ -4,7 +4,7 @@ use crate::sources::FailingSource;
 use hfs_check::MountFault;
 use hfs_fixtures::{SmallVolume, fork_byte};
 use hfs_model::{Fork, Info, Reply, Value};
-use hfs_needed::{NeededFault, needed_fork, needed_list, needed_report};
+use hfs_needed::{NeededFault, OpenedImage, needed_fork, needed_list, needed_report};
 use hfs_sparse::{ByteSource, SparseFault};
 use std::process::Abort;
 
@@ -184,4 +184,46 @@ fn tells_nothing_where_a_read_fails(rt: HostRuntime) {
         assert!(rt; refusals(&rt, &image, 32_768, left) == (None, failed));
     }
     assert!(rt; refusals(&rt, &image, 32_768, 11) == (None, None));
+}
+
+/// Whether an opened image lists the root with the file `f`, and has the file's fork, first and once more.
+fn tells_the_file(rt: &(impl Abort + AllocGlobal), image: &[u8]) -> bool {
+    let source = ByteSource { bytes: image };
+    let Ok(mut opened) = OpenedImage::open(rt.alloc(), source, 32_768) else {
+        return false;
+    };
+    let first = opened.fork(rt.alloc(), 2, b"f", Fork::DataFork);
+    let again = opened.fork(rt.alloc(), 2, b"f", Fork::DataFork);
+    lists_the_file(rt, &opened) && is_fork(first) && is_fork(again)
+}
+
+/// Whether this is the fork of the file `f`.
+fn is_fork(found: Result<Result<Vec<u8>, Reply>, SparseFault>) -> bool {
+    let Ok(Ok(bytes)) = found else {
+        return false;
+    };
+    for k in 0..bytes.len() {
+        if bytes[k] != fork_byte(k) {
+            return false;
+        }
+    }
+    bytes.len() == 2_000
+}
+
+/// Whether an opened image lists the root with the file `f`, and has three records: the root's, its thread's and the file's.
+fn lists_the_file(rt: &impl AllocGlobal, opened: &OpenedImage<ByteSource<'_>>) -> bool {
+    let (Ok(reply), Ok(records)) = (opened.list(rt.alloc(), 2), opened.records(rt.alloc())) else {
+        return false;
+    };
+    match items_of(&reply.value) {
+        Some(items) => is_only_item(items, 16, b'f') && records.len() == 3,
+        None => false,
+    }
+}
+
+/// Opened once, an image tells as often as it is asked.
+#[test]
+fn an_opened_image_tells_again(rt: HostRuntime) {
+    let image = image_of(&rt, SmallVolume::OneFile);
+    assert!(rt; tells_the_file(&rt, &image));
 }
