@@ -127,9 +127,10 @@ def unmarked(image):
     for tree in trees(image):
         if any(image[tree.places[0]:tree.places[0] + 4]):
             return
+        leaf = image[tree.places[tree.root % len(tree.places)]:][:512]
         for n in range(tree.nodes):
             if not tree.marked(image, n):
-                changes.append((tree.places[n], [map_node(n), b'\xff' * 512, bytes(range(256)) * 2, image[tree.places[tree.root]:tree.places[tree.root] + 512]][n % 4]))
+                changes.append((tree.places[n], [map_node(n), b'\xff' * 512, bytes(range(256)) * 2, leaf][n % 4]))
     if changes:
         yield 'with other bytes in free nodes', put(image, *changes)
 
