@@ -1,6 +1,7 @@
 #!/usr/bin/env python3
 """Wants of `check`, `ls` and `cat` that they tell the same of an image by its path, of which they read what they need, and out of a pipe, which they
-load whole: of real volumes and of volumes with a cut catalog, as they are, cut, made longer, and with numbers that lead beyond their ends.
+load whole: of real volumes and of volumes with a cut catalog, as they are, cut, made longer, with numbers that lead beyond their ends, and with damaged
+node maps. Where only nodes that no map marks hold other bytes, it wants that nothing else is told.
 
 python3 both_ways.py TOOL VOLUMES        VOLUMES has real volumes, as *.img
 """
@@ -59,6 +60,81 @@ def overflow(image):
             yield f'with {number} at {at}', bytes(changed)
 
 
+class Tree:
+    """A tree of an image, whose file's first extents are taken."""
+
+    def __init__(self, image, extents, length):
+        number = lambda at, width: int.from_bytes(image[at:at + width], 'big')
+        area, size = number(MDB + 28, 2) * 512, number(MDB + 20, 4)
+        self.places = []
+        for k in range(3):
+            first, count = number(MDB + extents + 4 * k, 2), number(MDB + extents + 4 * k + 2, 2)
+            self.places += range(area + first * size, area + (first + count) * size, 512)
+        self.places = self.places[:number(MDB + length, 4) // 512]
+        head = self.places[0]
+        self.record = head + number(head + 510, 2)
+        self.map, self.map_end = head + number(head + 506, 2), head + number(head + 504, 2)
+        self.nodes, self.root, self.first_leaf = (number(self.record + at, 4) for at in (22, 2, 10))
+        self.nodes = min(self.nodes, len(self.places))
+
+    def marked(self, image, n):
+        at = self.map + n // 8
+        return at >= self.map_end or image[at] >> 7 - n % 8 & 1 == 1
+
+
+def trees(image):
+    return Tree(image, 134, 130), Tree(image, 150, 146)
+
+
+def put(image, *changes):
+    changed = bytearray(image)
+    for at, what in changes:
+        changed[at:at + len(what)] = what
+    return bytes(changed)
+
+
+def map_node(forward):
+    """A map node with all bits set, which leads to another."""
+    return forward.to_bytes(4, 'big') + bytes(4) + b'\x02\0\0\x01\0\0' + b'\xff' * 492 + bytes(2) + (506).to_bytes(2, 'big') + (14).to_bytes(2, 'big')
+
+
+def maps(image):
+    """The image with a damaged node map: bits cleared under nodes in use, all bits set or cleared, map nodes in rings and chains, other numbers of nodes."""
+    for tree, name in zip(trees(image), ('extents', 'catalog')):
+        head = tree.places[0]
+        live = [n for n in range(tree.nodes) if tree.marked(image, n) and tree.map + n // 8 < tree.map_end]
+        for n in sorted({*live[:8], *live[-8:], *live[::max(1, len(live) // 8)], tree.root, tree.first_leaf} & set(live)):
+            at = tree.map + n // 8
+            yield f'without the mark of {name} node {n}', put(image, (at, bytes([image[at] & ~(1 << 7 - n % 8)])))
+        yield f'with all {name} nodes marked', put(image, (tree.map, b'\xff' * (tree.map_end - tree.map)))
+        yield f'with no {name} node marked', put(image, (tree.map, bytes(tree.map_end - tree.map)))
+        yield f'with the {name} header alone marked', put(image, (tree.map, b'\x80' + bytes(tree.map_end - tree.map - 1)))
+        for count in (0, 1, tree.nodes - 1, tree.nodes + 1, len(tree.places), len(tree.places) + 1, 0xFFFF, 0xFFFFFFFF):
+            yield f'with {count} {name} nodes', put(image, (tree.record + 22, (count % (1 << 32)).to_bytes(4, 'big')))
+        for n in (1, tree.root, tree.first_leaf, tree.nodes - 1, tree.nodes, 0xFFFFFFFF):
+            yield f'with {name} node {n} as a map node', put(image, (head, n.to_bytes(4, 'big')))
+        last, before = tree.nodes - 1, tree.nodes - 2
+        if before > 1:
+            for what, first, second in (('one', 0, 0), ('a ring of one', last, 0), ('two', before, 0), ('a ring of two', before, last), ('one that leads to the header', 0, 0),
+                                        ('one that leads to the root', tree.root, 0), ('one that leads beyond', tree.nodes, 0)):
+                yield (f'with {what} of {name} map nodes at its end',
+                       put(image, (head, last.to_bytes(4, 'big')), (tree.places[last], map_node(first)), (tree.places[before], map_node(second))))
+
+
+def unmarked(image):
+    """The image with other bytes in the nodes that no map marks, where each map has but the header node's bits."""
+    changes = []
+    for tree in trees(image):
+        if any(image[tree.places[0]:tree.places[0] + 4]):
+            return
+        leaf = image[tree.places[tree.root % len(tree.places)]:][:512]
+        for n in range(tree.nodes):
+            if not tree.marked(image, n):
+                changes.append((tree.places[n], [map_node(n), b'\xff' * 512, bytes(range(256)) * 2, leaf][n % 4]))
+    if changes:
+        yield 'with other bytes in free nodes', put(image, *changes)
+
+
 def words_on(tool, path):
     """The words that are tried on an image: of a sound one, some that reach a folder and both forks of a file."""
     words = [['check', path], ['ls', path], ['ls', path, '99999'], ['cat', path, '2', 'no such file']]
@@ -94,7 +170,15 @@ def main():
             subprocess.run([sys.executable, os.path.join(HERE, 'slow_volumes.py'), kind, str(count), '1', path], check=True, stdout=subprocess.DEVNULL)
             bases.append((kind, open(path, 'rb').read()))
         for name, base in bases:
-            for how, image in [('as it is', base), *lengths(base), *numbers(base), *overflow(base)]:
+            for how, image in unmarked(base):
+                told_of = []
+                for bytes_now in (base, image):
+                    with open(path, 'wb') as file:
+                        file.write(bytes_now)
+                    told_of.append([told(tool, words) for words in words_on(tool, path)])
+                if told_of[0] != told_of[1]:
+                    sys.exit(f'{name} {how}: another thing is told')
+            for how, image in [('as it is', base), *lengths(base), *numbers(base), *overflow(base), *maps(base), *unmarked(base)]:
                 with open(path, 'wb') as file:
                     file.write(image)
                 images += 1

@@ -15,6 +15,7 @@ mod info;
 mod loading;
 #[cfg(test)]
 mod needed;
+mod opened;
 #[cfg(test)]
 mod sources;
 #[cfg(test)]

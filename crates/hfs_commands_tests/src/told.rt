@@ -54,17 +54,17 @@ fn is_unreported(rt: &(impl Abort + AllocGlobal), image: &[u8], left: u32) -> bo
     matches!(report, Err(SparseFault::ReadFailed))
 }
 
-/// The needed blocks are eleven, and the fork has four.
+/// The needed blocks are seven, and the fork has four.
 #[test]
 fn tells_nothing_where_a_read_fails(rt: HostRuntime) {
     let image = image_of(&rt, SmallVolume::OneFile);
     let failed = Some(NeededFault::ReadFailed);
-    for left in 0..11 {
+    for left in 0..7 {
         let told = refusals(&rt, &image, 32_768, left);
         assert!(rt; told == (failed, failed) && is_unreported(&rt, &image, left));
     }
-    for left in 11..15 {
+    for left in 7..11 {
         assert!(rt; refusals(&rt, &image, 32_768, left) == (None, failed));
     }
-    assert!(rt; refusals(&rt, &image, 32_768, 15) == (None, None));
+    assert!(rt; refusals(&rt, &image, 32_768, 11) == (None, None));
 }

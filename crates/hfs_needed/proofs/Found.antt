@@ -1,13 +1,13 @@
 -- Where the nodes of both trees were found.
-use Rattle.std.proofs.Common.{◌≡◌, ℕ, ◌*◌, ◌≤◌, Bool, true, false, List, [], length, Option, Some, None, refl, sym, ap, subst, ◌∙◌, arith, inl, inr, true≢false}
-use Rattle.std.specs.Prelude.{◌%◌, ◌&&◌}
+use Rattle.std.proofs.Common.{◌≡◌, ℕ, ◌*◌, ◌≤◌, true, false, List, length, Option, Some, None, refl, sym, ap, subst, ◌∙◌, inl, inr, true≢false}
+use Rattle.std.specs.Prelude.{◌%◌}
 use Rattle.std.specs.List.{flat_map}
 use Rattle.std.specs.Option.{is_none}
 use Rattle.std.proofs.lemmas.Option.{none-some}
 use Rattle.hfs_fields.specs.declared.mdb.Mdb.{Mdb}
 use Rattle.hfs_fields.specs.declared.extent.Extent.{Extent}
 use Rattle.hfs_blocks.specs.declared.run.Run.{Run}
-use Rattle.hfs_blocks.specs.Blocks.{run_of, nodes_in, AreRunsWithin}
+use Rattle.hfs_blocks.specs.Blocks.{run_of, nodes_in}
 use Rattle.hfs_btree.specs.Tree.{Store}
 use Rattle.hfs_btree_checks.specs.Shape.{has_counts, shape_fault}
 use Rattle.hfs_space.specs.Extents.{fork_extents}
@@ -23,13 +23,11 @@ use Rattle.hfs_check.specs.Answers.{IsFaultOf, extents_tree_fault, extents_check
 use Rattle.hfs_check.specs.Faults.{check_fault, extents_fault}
 use Rattle.hfs_check.specs.Laws.{NoExtentsFault}
 use Rattle.hfs_check.specs.Parts.{Blocks, mdb_in, extents_blocks, extents_nodes, overflow_in, catalog_extents, catalog_blocks}
-use Rattle.hfs_needed.specs.Needed.{has_extents_file, is_extents_tree_right, has_catalog_file, needed_of_catalog, where_right}
-use Rattle.hfs_needed.specs.Gathered.{LieAt}
+use Rattle.hfs_needed.specs.Needed.{has_extents_file, is_extents_tree_right, has_catalog_file}
 
--- ---- no runs
-
-pub no-runs : (total : ℕ) → AreRunsWithin [] total
-no-runs total = record { within = λ i none lt. absurd (omega (arith, lt)); few = omega arith; counted = λ i none lt. absurd (omega (arith, lt)) }
+pub no-fault : {A : Type 0} (o : Option A) → is_none o ≡ true → o ≡ None
+no-fault None e = refl
+no-fault (Some x) e = absurd (true≢false (sym e))
 
 -- ---- the extents tree
 
@@ -75,10 +73,6 @@ module _ (blocks : Blocks) (mdb : Mdb) (is : mdb ≡ mdb_in blocks) where
     -- ---- the catalog's file
 
     module _ (law : NoExtentsFault) (right : is_extents_tree_right blocks ≡ true) where
-      no-fault : {A : Type 0} (o : Option A) → is_none o ≡ true → o ≡ None
-      no-fault None e = refl
-      no-fault (Some x) e = absurd (true≢false (sym e))
-
       no-place : (place : Option ℕ) → check_fault 3 place ≡ None → place ≡ None
       no-place None e = refl
       no-place (Some place) e = absurd (none-some _ (sym e))
@@ -102,28 +96,3 @@ module _ (blocks : Blocks) (mdb : Mdb) (is : mdb ≡ mdb_in blocks) where
     pub catalog-blocks-are : tree_blocks mdb extents mdb.catalog_file_size ≡ catalog_blocks blocks
     unfolding catalog_blocks
     catalog-blocks-are = λ i. tree_blocks (is i) (same i) (is i).catalog_file_size
-
--- ---- what is needed of the catalog
-
-module _ (total : ℕ) (blocks : Blocks) where
-  pub needs-no-tree : false ≡ is_extents_tree_right blocks → LieAt total (needed_of_catalog blocks) []
-  unfolding needed_of_catalog
-  needs-no-tree wrong = record {
-    within = no-runs total;
-    numbers = ap (λ (t : Bool). where_right (t && has_catalog_file blocks) (catalog_blocks blocks)) wrong;
-  }
-
-  pub needs-no-file : true ≡ is_extents_tree_right blocks → has_catalog_file blocks ≡ false → LieAt total (needed_of_catalog blocks) []
-  unfolding needed_of_catalog
-  needs-no-file right wrong = record {
-    within = no-runs total;
-    numbers = λ i. where_right (right i && sym wrong i) (catalog_blocks blocks);
-  }
-
-  pub needs-file : true ≡ is_extents_tree_right blocks → has_catalog_file blocks ≡ true → (runs : List Run) → LieAt total (catalog_blocks blocks) runs
-      → LieAt total (needed_of_catalog blocks) runs
-  unfolding needed_of_catalog
-  needs-file right file runs lie = record {
-    within = lie.within;
-    numbers = lie.numbers ∙ (λ i. where_right (right i && sym file i) (catalog_blocks blocks));
-  }

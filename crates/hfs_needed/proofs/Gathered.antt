@@ -1,22 +1,38 @@
 -- What was found of a volume stays found while more of it is read.
-use Rattle.std.proofs.Common.{◌≡◌, ℕ, ◌+◌, ◌-◌, ◌≤◌, ◌<◌, Bool, true, false, List, [], ◌∷◌, ◌++◌, Option, Some, None, IsSome, sym, ap, subst, ◌∙◌, arith, true≢false}
-use Rattle.std.specs.Prelude.{IfSome, is_some}
+use Rattle.std.proofs.Common.{◌≡◌, ℕ, ◌+◌, ◌-◌, ◌*◌, ◌≤◌, ◌<◌, Bool, true, false, List, [], ◌∷◌, ◌++◌, length, map, Option, Some, None, IsSome, sym, ap, subst, ◌∙◌, arith, true≢false, ⊎_elim}
+use Rattle.std.specs.Prelude.{◌%◌, ◌&&◌, IfSome, is_some}
 use Rattle.std.specs.List.{flat_map}
 use Rattle.std.specs.Option.{is_none}
+use Rattle.std.proofs.lemmas.Bool.{and_parts, cases_eq}
+use Rattle.std.proofs.lemmas.List.{length-map}
 use Rattle.hfs_scans.specs.Elements.{each-append}
 use Rattle.hfs_blocks.specs.declared.run.Run.{Run}
-use Rattle.hfs_blocks.specs.Blocks.{run_of, AreRunsWithin}
+use Rattle.hfs_btree.specs.Header.{bit_of}
+use Rattle.hfs_blocks.specs.Blocks.{run_of, nodes_in, AreRunsWithin}
 use Rattle.hfs_blocks.specs.Layers.{Numbered, changes, AreWithin, AreWithin-nothing}
 use Rattle.hfs_fields.specs.declared.mdb.Mdb.{Mdb}
+use Rattle.hfs_fields.specs.declared.extent.Extent.{Extent}
+use Rattle.hfs_space.specs.Faults.{is_tree_file}
+use Rattle.hfs_space.specs.FileLengths.{length-tree_nodes}
+use Rattle.hfs_space.specs.Laws.{NoTreeFileFault}
+use Rattle.hfs_space.specs.TreeFiles.{tree_nodes, tree_blocks}
+use Rattle.hfs_space.specs.TreeKeys.{ext_keys}
+use Rattle.hfs_catalog.specs.Tree.{cat_keys}
 use Rattle.hfs_check.specs.declared.mount_fault.MountFault.{MountFault}
 use Rattle.hfs_check.specs.Agree.{bitmap_blocks}
 use Rattle.hfs_check.specs.Faults.{mdb_fault}
-use Rattle.hfs_check.specs.Parts.{mdb_in, extents_blocks, extents_nodes}
+use Rattle.hfs_check.specs.Answers.{extents_check_fault}
+use Rattle.hfs_check.specs.Parts.{Blocks, mdb_in, extents_blocks, extents_nodes, catalog_extents, catalog_blocks, catalog_nodes}
 use Rattle.hfs_sparse.specs.Sparse.{sparse, HasEach, HasGrown, IsOf, StaysOf, grown-itself, grown-on, has-grown, each-grown, each-same, stays-on}
-use Rattle.hfs_needed.specs.Needed.{is_mdb_right, has_extents_file, needed_of_catalog, needed_of_trees, needed_blocks, where_right}
+use Rattle.hfs_needed.specs.Marked.{where_right, needed_of_tree}
+use Rattle.hfs_needed.specs.Needed.{AgreeOn, is_mdb_right, has_extents_file, is_extents_tree_right, has_catalog_file, needed_of_extents, needed_of_catalog, needed_of_trees, needed_blocks}
 use Rattle.hfs_needed.specs.Gathered.{LieAt, HasRead}
-use Rattle.hfs_needed.proofs.SameParts.{mdb-same, extents_nodes-same, extents_blocks-same}
-use Rattle.hfs_needed.proofs.SameFaults.{has_extents-same, needed_of_catalog-same}
+use Rattle.hfs_needed.specs.TreeReads.{nodes_of, block_for, HasNode, ReadsRuns}
+use Rattle.hfs_needed.proofs.Found.{no-fault}
+use Rattle.hfs_needed.proofs.SameParts.{mdb-same, extents_blocks-same, extents-map, catalog-map, catalog_blocks-same}
+use Rattle.hfs_needed.proofs.SameFaults.{has_extents-same, needed_of_extents-same, x}
+use Rattle.hfs_needed.proofs.SameTrees.{nodes-map}
+use Rattle.hfs_needed.proofs.TreeNodes.{has-where}
 
 -- ---- reading more and more
 
@@ -54,29 +70,79 @@ module _ (old new : Numbered) (grown : HasGrown old new) (has_mdb : IsSome (chan
   pub has_extents-stays : has_extents_file (sparse new) ≡ has_extents_file (sparse old)
   has_extents-stays = has_extents-same (sparse old) (sparse new) mdb-stays
 
-  module _ (has : HasEach old (extents_blocks (sparse old))) where
-    nodes-stay : extents_nodes (sparse new) ≡ extents_nodes (sparse old)
-    nodes-stay = extents_nodes-same (sparse old) (sparse new) mdb-stays (each-same old new grown (extents_blocks (sparse old)) has)
+  -- a tree in runs that were found
+  module _ (total : ℕ) (runs : List Run) (size : ℕ) where
+    pub has_extents-now : LieAt total (extents_blocks (sparse old)) runs → size ≡ (mdb_in (sparse old)).extents_file_size
+        → HasEach new (needed_of_tree ext_keys size (nodes_of new runs) (flat_map run_of runs)) → HasEach new (needed_of_extents (sparse new))
+    unfolding nodes_in
+    has_extents-now lie size_is h =
+        let nodes : nodes_of new runs ≡ extents_nodes (sparse new) = ap (map (sparse new)) lie.numbers ∙ sym (extents-map (sparse old) (sparse new) mdb-stays) in
+        let many : size ≡ (mdb_in (sparse new)).extents_file_size = size_is ∙ ap (λ (m : Mdb). m.extents_file_size) (sym mdb-stays) in
+        let numbers : flat_map run_of runs ≡ extents_blocks (sparse new) = lie.numbers ∙ sym extents_blocks-stay in
+        subst (λ ns. HasEach new ns) (λ i. needed_of_tree ext_keys (many i) (nodes i) (numbers i)) h
 
-    pub needed-stays : needed_of_catalog (sparse new) ≡ needed_of_catalog (sparse old)
-    needed-stays = needed_of_catalog-same (sparse old) (sparse new) mdb-stays nodes-stay
+  module _ (has : HasEach old (needed_of_extents (sparse old))) where
+    agree : AgreeOn (needed_of_extents (sparse old)) (sparse old) (sparse new)
+    agree = each-same old new grown (needed_of_extents (sparse old)) has
 
-    -- the catalog's blocks were read, as they were found
-    pub has_catalog : (total : ℕ) (runs : List Run) → LieAt total (needed_of_catalog (sparse old)) runs → HasEach new (flat_map run_of runs)
-        → HasEach new (needed_of_catalog (sparse new))
-    has_catalog total runs lie h = subst (λ ns. HasEach new ns) (lie.numbers ∙ sym needed-stays) h
+    -- what is needed of the extents tree was read
+    pub has_extents-later : HasEach new (needed_of_extents (sparse new))
+    has_extents-later = subst (λ ns. HasEach new ns) (sym (needed_of_extents-same (sparse old) (sparse new) mdb-stays agree))
+        (each-grown old new grown (needed_of_extents (sparse old)) has)
 
-    -- and the extents tree's
-    pub has_extents-later : HasEach new (extents_blocks (sparse new))
-    has_extents-later = subst (λ ns. HasEach new ns) (sym extents_blocks-stay) (each-grown old new grown (extents_blocks (sparse old)) has)
+    -- and behind a right one what is needed of the catalog, which lies in runs that were found
+    pub has_catalog : (total : ℕ) (runs : List Run) (size : ℕ) → (is_extents_tree_right (sparse old) && has_catalog_file (sparse old)) ≡ true
+        → LieAt total (catalog_blocks (sparse old)) runs → size ≡ (mdb_in (sparse old)).catalog_file_size
+        → HasEach new (needed_of_tree cat_keys size (nodes_of new runs) (flat_map run_of runs)) → HasEach new (needed_of_catalog (sparse new))
+    unfolding needed_of_catalog nodes_in
+    has_catalog total runs size right lie size_is h =
+        let none = no-fault (extents_check_fault (mdb_in (sparse old)) (sparse old)) (and_parts (is_extents_tree_right (sparse old)) (has_catalog_file (sparse old)) right).0 in
+        let extents = x (sparse old) (sparse new) mdb-stays agree none in
+        let nodes : nodes_of new runs ≡ catalog_nodes (sparse new) = ap (map (sparse new)) lie.numbers ∙ sym (catalog-map (sparse old) (sparse new) mdb-stays extents) in
+        let many : size ≡ (mdb_in (sparse new)).catalog_file_size = size_is ∙ ap (λ (m : Mdb). m.catalog_file_size) (sym mdb-stays) in
+        let numbers : flat_map run_of runs ≡ catalog_blocks (sparse new) = lie.numbers ∙ sym (catalog_blocks-same (sparse old) (sparse new) mdb-stays extents) in
+        has-where new (is_extents_tree_right (sparse new) && has_catalog_file (sparse new))
+        (needed_of_tree cat_keys (mdb_in (sparse new)).catalog_file_size (catalog_nodes (sparse new)) (catalog_blocks (sparse new)))
+        (subst (λ ns. HasEach new ns) (λ i. needed_of_tree cat_keys (many i) (nodes i) (numbers i)) h)
+    -- nothing of it behind a wrong one, or a wrong file
 
-  pub has_extents-now : (total : ℕ) (runs : List Run) → LieAt total (extents_blocks (sparse old)) runs → HasEach new (flat_map run_of runs)
-      → HasEach new (extents_blocks (sparse new))
-  has_extents-now total runs lie h = subst (λ ns. HasEach new ns) (lie.numbers ∙ sym extents_blocks-stay) h
+pub needs-no-catalog : (read : Numbered) → (is_extents_tree_right (sparse read) && has_catalog_file (sparse read)) ≡ false → HasEach read (needed_of_catalog (sparse read))
+unfolding needed_of_catalog
+needs-no-catalog read wrong =
+    subst (λ (t : Bool). HasEach read (where_right t (needed_of_tree cat_keys (mdb_in (sparse read)).catalog_file_size (catalog_nodes (sparse read)) (catalog_blocks (sparse read)))))
+    (sym wrong) tt
 
+-- a tree's file has room for its bytes
+pub has-room : (blocks : Blocks) (mdb : Mdb) (extents : List Extent) (size total : ℕ) (runs : List Run) → NoTreeFileFault → mdb.allocation_block_size % 512 ≡ 0
+    → is_tree_file mdb extents size ≡ true → LieAt total (tree_blocks mdb extents size) runs → (512 ≤ size) × (size ≤ 512 * length (flat_map run_of runs))
+has-room blocks mdb extents size total runs law whole right lie =
+    let file = (law mdb extents size).0 right in
+    let many : length (tree_nodes blocks mdb extents size) ≡ length (flat_map run_of runs) =
+    ap (λ (ns : List (List ℕ)). length ns) (nodes-map blocks mdb extents size) ∙ length-map (tree_blocks mdb extents size) blocks ∙ sym (ap (λ (ns : List ℕ). length ns) lie.numbers) in
+    let room = length-tree_nodes blocks mdb extents size whole file in
+    let some = file.node in
+    (some, omega (arith, room, many))
+
+pub extents-room : (blocks : Blocks) (mdb : Mdb) → mdb ≡ mdb_in blocks → (total : ℕ) (runs : List Run) → NoTreeFileFault → mdb.allocation_block_size % 512 ≡ 0
+    → has_extents_file blocks ≡ true → LieAt total (extents_blocks blocks) runs → (512 ≤ mdb.extents_file_size) × (mdb.extents_file_size ≤ 512 * length (flat_map run_of runs))
+unfolding extents_blocks
+extents-room blocks mdb is total runs law whole right lie =
+    subst (λ (m : Mdb). (512 ≤ m.extents_file_size) × (m.extents_file_size ≤ 512 * length (flat_map run_of runs))) (sym is)
+    (has-room blocks (mdb_in blocks) (mdb_in blocks).extents_file (mdb_in blocks).extents_file_size total runs law
+    (subst (λ (m : Mdb). m.allocation_block_size % 512 ≡ 0) is whole) right lie)
+
+pub catalog-room : (blocks : Blocks) (mdb : Mdb) → mdb ≡ mdb_in blocks → (total : ℕ) (runs : List Run) → NoTreeFileFault → mdb.allocation_block_size % 512 ≡ 0
+    → has_catalog_file blocks ≡ true → LieAt total (catalog_blocks blocks) runs → (512 ≤ mdb.catalog_file_size) × (mdb.catalog_file_size ≤ 512 * length (flat_map run_of runs))
+unfolding catalog_blocks
+catalog-room blocks mdb is total runs law whole right lie =
+    subst (λ (m : Mdb). (512 ≤ m.catalog_file_size) × (m.catalog_file_size ≤ 512 * length (flat_map run_of runs))) (sym is)
+    (has-room blocks (mdb_in blocks) (catalog_extents blocks) (mdb_in blocks).catalog_file_size total runs law
+    (subst (λ (m : Mdb). m.allocation_block_size % 512 ≡ 0) is whole) right lie)
+
+module _ (old new : Numbered) (grown : HasGrown old new) (has_mdb : IsSome (changes old 2)) where
   pub lie-later : (total : ℕ) (runs same : List Run) → same ≡ runs → LieAt total (extents_blocks (sparse old)) runs → LieAt total (extents_blocks (sparse new)) same
   lie-later total runs same e lie =
-      subst (λ rs. LieAt total (extents_blocks (sparse new)) rs) (sym e) (subst (λ ns. LieAt total ns runs) (sym extents_blocks-stay) lie)
+      subst (λ rs. LieAt total (extents_blocks (sparse new)) rs) (sym e) (subst (λ ns. LieAt total ns runs) (sym (extents_blocks-stay old new grown has_mdb)) lie)
 
 -- what was found by the blocks that were read, over zeros
 pub lie-at : (Places : Numbered → List ℕ) (total many : ℕ) (read seen : Numbered) (runs same : List Run) → seen ≡ read → many ≡ total → same ≡ runs
@@ -89,15 +155,15 @@ lie-at Places total many read seen runs same e f h lie =
 -- without an extents file nothing is needed
 pub needs_none : (read : Numbered) → has_extents_file (sparse read) ≡ false → HasEach read (needed_of_trees (sparse read))
 unfolding needed_of_trees
-needs_none read e = subst (λ (t : Bool). HasEach read (where_right t (extents_blocks (sparse read) ++ needed_of_catalog (sparse read)))) (sym e) tt
+needs_none read e = subst (λ (t : Bool). HasEach read (where_right t (needed_of_extents (sparse read) ++ needed_of_catalog (sparse read)))) (sym e) tt
 
--- the extents tree's blocks, and those of the catalog
-pub needs_both : (read : Numbered) → has_extents_file (sparse read) ≡ true → HasEach read (extents_blocks (sparse read))
-    → HasEach read (needed_of_catalog (sparse read)) → HasEach read (needed_of_trees (sparse read))
+-- else what is needed of both trees
+pub needs_both : (read : Numbered) → HasEach read (needed_of_extents (sparse read)) → HasEach read (needed_of_catalog (sparse read))
+    → HasEach read (needed_of_trees (sparse read))
 unfolding needed_of_trees
-needs_both read e h k =
-    subst (λ (t : Bool). HasEach read (where_right t (extents_blocks (sparse read) ++ needed_of_catalog (sparse read)))) (sym e)
-    (each-append (λ n. IsSome (changes read n)) (extents_blocks (sparse read)) (needed_of_catalog (sparse read)) h k)
+needs_both read h k =
+    has-where read (has_extents_file (sparse read)) (needed_of_extents (sparse read) ++ needed_of_catalog (sparse read))
+    (each-append (λ n. IsSome (changes read n)) (needed_of_extents (sparse read)) (needed_of_catalog (sparse read)) h k)
 
 -- ---- runs that were read
 
@@ -165,3 +231,20 @@ reads-start known total start new e read = (
   of-start known new (subst (λ (s : Numbered). StaysOf known s new) e read.stays),
   read.within (subst (λ (s : Numbered). AreWithin (changes s) total) (sym e) (AreWithin-nothing total)),
 )
+
+-- ---- runs of which some blocks were read
+
+pub reads-runs-itself : (known : Option (List ℕ)) (runs : List Run) (read : Numbered) → ReadsRuns known runs read read
+reads-runs-itself known runs read = λ total h. reads-itself known total read
+
+pub reads-runs-on : (known later : Option (List ℕ)) (runs : List Run) (old middle new : Numbered) → later ≡ known → ReadsRuns known runs old middle
+    → ReadsRuns later runs middle new → ReadsRuns known runs old new
+reads-runs-on known later runs old middle new e p q = λ total h. reads-on known later total old middle new e (p total h) (q total h)
+
+-- one node more, if it is marked
+pub marked-more : (old new : Numbered) → HasGrown old new → (runs : List Run) (bits : List ℕ) (n : ℕ) → (bit_of bits n ≡ true → HasNode new runs n)
+    → ((k : ℕ) → k < n → bit_of bits k ≡ true → HasNode old runs k) → (k : ℕ) → k < n + 1 → bit_of bits k ≡ true → HasNode new runs k
+marked-more old new grown runs bits n here before k lt e = ⊎_elim
+    (λ (same : k ≡ n). subst (λ m. HasNode new runs m) (sym same) (here (subst (λ m. bit_of bits m ≡ true) same e)))
+    (λ (other : k ≡ n → ⊥). has-grown old new grown (block_for runs k) (before k (omega (arith, lt, other)) e))
+    (cases_eq k n)

@@ -1,3 +1,6 @@
+pub mod MarkedLaw
+pub mod TreeNodes
+pub mod SameTrees
 pub mod SameParts
 pub mod SameSpace
 pub mod SameFaults
@@ -9,4 +12,5 @@ pub mod Listed
 pub mod Refused
 pub mod ForkBytes
 pub mod Named
+pub mod OpenedAt
 pub mod ToldFiles

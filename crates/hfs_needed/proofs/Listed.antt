@@ -50,3 +50,12 @@ lists-known law enough answers (Some bytes) len read needed of sound dir reply e
     e
     ∙ listed-is law enough answers bytes read (subst (λ (n : ℕ). HasNeeded (n / 512) read) (sym same) needed) of
     (subst (λ (n : ℕ). AreBlocksSound (n / 512) (sparse read)) (sym same) sound) dir
+
+pub records-known : NoBlocksFault → GatheredIsEnough → RecordsAreEntries → (known : Option (List ℕ)) (len : ℕ) (read : Numbered) → HasNeeded (len / 512) read
+    → IsOfKnown known read → AreBlocksSound (len / 512) (sparse read) → (records : Catalog) → records ≡ catalog_in (sparse read)
+    → OfKnown known len (λ bytes. records ≡ catalog_in (block_at bytes))
+records-known law enough answers None len read needed of sound records e = tt
+records-known law enough answers (Some bytes) len read needed of sound records e = λ same.
+    e
+    ∙ sym (held law enough answers bytes read (subst (λ (n : ℕ). HasNeeded (n / 512) read) (sym same) needed) of
+    (subst (λ (n : ℕ). AreBlocksSound (n / 512) (sparse read)) (sym same) sound)).catalog

@@ -1,25 +1,30 @@
 -- Where the needed blocks are the same, so are the first fault and what is held.
-use Rattle.std.proofs.Common.{◌≡◌, ℕ, Bool, true, false, List, ◌∷◌, ◌++◌, Option, Some, None, refl, sym, ap, subst, ◌∙◌}
+use Rattle.std.proofs.Common.{◌≡◌, ℕ, Bool, true, false, List, [], ◌∷◌, ◌++◌, Option, Some, None, refl, sym, ap, subst, ◌∙◌}
 use Rattle.std.specs.Prelude.{◌-◌, ◌&&◌}
 use Rattle.std.specs.Option.{is_none}
+use Rattle.std.proofs.lemmas.Bool.{and_left, and_right}
 use Rattle.std.proofs.lemmas.Option.{none-some}
 use Rattle.hfs_fields.specs.declared.mdb.Mdb.{Mdb}
 use Rattle.hfs_fields.specs.declared.extent.Extent.{Extent}
 use Rattle.hfs_scans.specs.Elements.{each-left, each-right}
 use Rattle.hfs_btree.specs.Tree.{Store}
-use Rattle.hfs_btree_checks.specs.Shape.{has_counts}
+use Rattle.hfs_btree_checks.specs.Order.{index_keys, key_fault, index_order_fault, order_fault}
+use Rattle.hfs_btree_checks.specs.Shape.{unless, ◌or_else◌, has_counts, structure_fault}
 use Rattle.hfs_space.specs.Faults.{is_tree_file, fork_fault, space_fault}
 use Rattle.hfs_space.specs.TreeKeys.{ext_keys}
 use Rattle.hfs_catalog.specs.Tree.{cat_keys}
-use Rattle.hfs_catalog_checks.specs.Faults.{record_fault, id_fault, valence_fault, count_fault}
+use Rattle.hfs_catalog_checks.specs.Faults.{record_fault, id_fault, name_fault, place_fault, valence_fault, count_fault}
 use Rattle.hfs_check.specs.declared.mount_fault.MountFault.{MountFault}
 use Rattle.hfs_check.specs.declared.mount_fault.MountFault.TheVariants as fault
 use Rattle.hfs_check.specs.Agree.{bitmap_blocks}
 use Rattle.hfs_check.specs.Answers.{extents_check_fault, catalog_check_fault}
-use Rattle.hfs_check.specs.Faults.{◌or_fault◌, check_fault, mdb_fault, extents_fault, catalog_fault, trees_fault, catalog_name_fault, catalog_place_fault, records_fault, numbers_fault, blocks_fault}
+use Rattle.hfs_check.specs.Faults.{◌or_fault◌, check_fault, mdb_fault, is_fork_key, extents_fault, catalog_fault, trees_fault, catalog_name_fault, catalog_place_fault, records_fault, numbers_fault, blocks_fault}
 use Rattle.hfs_check.specs.Parts.{Blocks, mdb_in, extents_blocks, extents_nodes, overflow_in, catalog_extents, catalog_blocks, catalog_nodes, catalog_in, owned_in}
-use Rattle.hfs_needed.specs.Needed.{AgreeOn, AgreeOnNeeded, is_mdb_right, has_extents_file, is_extents_tree_right, has_catalog_file, where_right, needed_of_catalog, needed_of_trees, needed_blocks}
-use Rattle.hfs_needed.proofs.SameParts.{mdb-same, extents_nodes-same, extents_blocks-same, overflow-same, catalog_extents-same, catalog_blocks-same, catalog_nodes-same, catalog-same, owned-same}
+use Rattle.hfs_needed.specs.Marked.{where_right, needed_of_tree, HoldSameTree, TreesAnswerSame}
+use Rattle.hfs_needed.specs.Needed.{AgreeOn, AgreeOnNeeded, is_mdb_right, has_extents_file, is_extents_tree_right, has_catalog_file, needed_of_extents, needed_of_catalog, needed_of_trees, needed_blocks}
+use Rattle.hfs_needed.proofs.MarkedLaw as law
+use Rattle.hfs_needed.proofs.SameParts.{mdb-same, extents_blocks-same, catalog_extents-same, catalog_blocks-same, extents-map, catalog-map, owned-same}
+use Rattle.hfs_needed.proofs.SameTrees.{by-nodes}
 use Rattle.hfs_needed.proofs.SameSpace.{space_fault-same}
 
 -- ---- one fault behind the other
@@ -69,13 +74,80 @@ catalog-file blocks none = elim (has_catalog_file blocks) as (λ (t : Bool). has
       (sym none ∙ catalog-wrong (mdb_in blocks) (catalog_extents blocks) (has_counts cat_keys (catalog_nodes blocks)) (catalog_nodes blocks) e))
 ] refl
 
+-- ---- two trees
+
+-- the extents tree of volumes with this master directory block
+module _ (mdb : Mdb) (old new : Store) (same : TreesAnswerSame ext_keys mdb.extents_file_size old new) where
+  abbrev shape : Store → Option ℕ
+  shape nodes = structure_fault ext_keys mdb.extents_file_size nodes or_else unless (has_counts ext_keys nodes)
+
+  abbrev order : Store → Option ℕ
+  order nodes = key_fault ext_keys nodes is_fork_key or_else order_fault ext_keys nodes
+
+  abbrev file : Option ℕ
+  file = unless (is_tree_file mdb mdb.extents_file mdb.extents_file_size)
+
+  shape-same : shape new ≡ shape old
+  shape-same =
+      law.or-same (structure_fault ext_keys mdb.extents_file_size old) (structure_fault ext_keys mdb.extents_file_size new)
+      (unless (has_counts ext_keys old)) (unless (has_counts ext_keys new)) same.fault (λ none. ap unless (same.held none).counts)
+
+  order-same : HoldSameTree ext_keys old new → order new ≡ order old
+  unfolding order_fault
+  order-same hold = λ i. hold.key_faults is_fork_key i or_else hold.index_order i or_else hold.leaf_order i
+
+  extents_fault-same : extents_fault (has_counts ext_keys new) mdb new ≡ extents_fault (has_counts ext_keys old) mdb old
+  unfolding extents_fault
+  extents_fault-same =
+      law.or-same file file (shape old or_else order old) (shape new or_else order new) refl
+      (λ right.
+      law.or-same (shape old) (shape new) (order old) (order new) shape-same
+      (λ none. order-same (same.held (law.or-parts (structure_fault ext_keys mdb.extents_file_size old) (unless (has_counts ext_keys old)) none).0)))
+
+  extents-hold : extents_fault (has_counts ext_keys old) mdb old ≡ None → HoldSameTree ext_keys old new
+  unfolding extents_fault
+  extents-hold none =
+      let behind = law.or-parts file (shape old or_else order old) none in
+      let shaped = law.or-parts (shape old) (order old) behind.1 in
+      same.held (law.or-parts (structure_fault ext_keys mdb.extents_file_size old) (unless (has_counts ext_keys old)) shaped.0).0
+
+-- and the catalog tree
+module _ (mdb : Mdb) (extents : List Extent) (old new : Store) (same : TreesAnswerSame cat_keys mdb.catalog_file_size old new) where
+  abbrev catalog_shape : Store → Option ℕ
+  catalog_shape nodes = structure_fault cat_keys mdb.catalog_file_size nodes or_else unless (has_counts cat_keys nodes)
+
+  catalog_fault-same : catalog_fault (has_counts cat_keys new) mdb extents new ≡ catalog_fault (has_counts cat_keys old) mdb extents old
+  unfolding catalog_fault
+  catalog_fault-same =
+      law.or-same (unless (is_tree_file mdb extents mdb.catalog_file_size)) (unless (is_tree_file mdb extents mdb.catalog_file_size))
+      (catalog_shape old) (catalog_shape new) refl
+      (λ right.
+      law.or-same (structure_fault cat_keys mdb.catalog_file_size old) (structure_fault cat_keys mdb.catalog_file_size new)
+      (unless (has_counts cat_keys old)) (unless (has_counts cat_keys new)) same.fault (λ none. ap unless (same.held none).counts))
+
+  catalog-hold : catalog_fault (has_counts cat_keys old) mdb extents old ≡ None → HoldSameTree cat_keys old new
+  unfolding catalog_fault
+  catalog-hold none =
+      let behind = law.or-parts (unless (is_tree_file mdb extents mdb.catalog_file_size)) (catalog_shape old) none in
+      same.held (law.or-parts (structure_fault cat_keys mdb.catalog_file_size old) (unless (has_counts cat_keys old)) behind.1).0
+
+no-place : (number : ℕ) (place : Option ℕ) → check_fault number place ≡ None → place ≡ None
+no-place number None e = refl
+no-place number (Some place) e = absurd (none-some (fault.Check number place) (sym e))
+
+-- nothing is needed behind a part that is wrong
+where-wrong : (test : Bool) (numbers : List ℕ) → test ≡ false → where_right test numbers ≡ []
+where-wrong test numbers e = ap (λ (t : Bool). where_right t numbers) e
+
 -- ---- two volumes
 
 -- what is read off the needed blocks of a volume without a fault in its trees
 pub record SameParts (old new : Blocks) : Type 0 where
   pub mdb : mdb_in new ≡ mdb_in old
   pub overflow : overflow_in new ≡ overflow_in old
-  pub nodes : catalog_nodes new ≡ catalog_nodes old
+  pub catalog : catalog_in new ≡ catalog_in old
+  pub index_keys : index_keys cat_keys (catalog_nodes new) ≡ index_keys cat_keys (catalog_nodes old)
+  pub index_order : index_order_fault cat_keys (catalog_nodes new) ≡ index_order_fault cat_keys (catalog_nodes old)
   pub bitmap : AgreeOn (bitmap_blocks (mdb_in old)) old new
 
 module _ (old new : Blocks) where
@@ -83,74 +155,132 @@ module _ (old new : Blocks) where
   right : (test : Bool) (numbers : List ℕ) → test ≡ true → AgreeOn (where_right test numbers) old new → AgreeOn numbers old new
   right test numbers e h = subst (λ (t : Bool). AgreeOn (where_right t numbers) old new) e h
 
-  -- ---- behind the extents tree
-
-  module _ (m : mdb_in new ≡ mdb_in old) (n : extents_nodes new ≡ extents_nodes old) where
-    check-of-nodes : extents_check_fault (mdb_in new) new ≡ extents_check_fault (mdb_in old) old
-    check-of-nodes = λ i. check_fault 3 (extents_fault (has_counts ext_keys (n i)) (m i) (n i))
-
-    x : catalog_extents new ≡ catalog_extents old
-    x = catalog_extents-same old new m n
-
-    has_catalog-same : has_catalog_file new ≡ has_catalog_file old
-    has_catalog-same = λ i. is_tree_file (m i) (x i) (m i).catalog_file_size
-
-    pub needed_of_catalog-same : needed_of_catalog new ≡ needed_of_catalog old
-    unfolding needed_of_catalog
-    needed_of_catalog-same = λ i. where_right (is_none (check-of-nodes i) && has_catalog-same i) (catalog_blocks-same old new m x i)
-
-    module _ (none : extents_check_fault (mdb_in old) old ≡ None) (h : AgreeOn (needed_of_catalog old) old new) where
-      nodes-of-catalog : has_catalog_file old ≡ true → catalog_nodes new ≡ catalog_nodes old
-      unfolding needed_of_catalog
-      nodes-of-catalog e =
-          catalog_nodes-same old new m x
-          (right (is_extents_tree_right old && has_catalog_file old) (catalog_blocks old) (λ i. is-none (extents_check_fault (mdb_in old) old) none i && e i) h)
-
-      catalog_check-same : catalog_check_fault (mdb_in new) new ≡ catalog_check_fault (mdb_in old) old
-      catalog_check-same =
-          elim (has_catalog_file old)
-          as (λ (t : Bool). has_catalog_file old ≡ t → catalog_check_fault (mdb_in new) new ≡ catalog_check_fault (mdb_in old) old) [
-            | true ↦ λ e. λ i. check_fault 4 (catalog_fault (has_counts cat_keys (nodes-of-catalog e i)) (m i) (x i) (nodes-of-catalog e i))
-            | false ↦ λ e.
-                catalog-wrong (mdb_in new) (catalog_extents new) (has_counts cat_keys (catalog_nodes new)) (catalog_nodes new) (has_catalog-same ∙ e)
-                ∙ sym (catalog-wrong (mdb_in old) (catalog_extents old) (has_counts cat_keys (catalog_nodes old)) (catalog_nodes old) e)
-          ]
-          refl
-
-      catalog_nodes-right : catalog_check_fault (mdb_in old) old ≡ None → catalog_nodes new ≡ catalog_nodes old
-      catalog_nodes-right no_fault = nodes-of-catalog (catalog-file old no_fault)
-
-  -- ---- the extents tree
-
   module _ (m : mdb_in new ≡ mdb_in old) where
+    -- ---- the catalog
+
+    module _ (x : catalog_extents new ≡ catalog_extents old) where
+      has_catalog-same : has_catalog_file new ≡ has_catalog_file old
+      has_catalog-same = λ i. is_tree_file (m i) (x i) (m i).catalog_file_size
+
+      abbrev needed_of_nodes : Blocks → List ℕ
+      needed_of_nodes blocks = needed_of_tree cat_keys (mdb_in blocks).catalog_file_size (catalog_nodes blocks) (catalog_blocks blocks)
+
+      module _ (h : AgreeOn (needed_of_nodes old) old new) where
+        catalogs : TreesAnswerSame cat_keys (mdb_in old).catalog_file_size (catalog_nodes old) (catalog_nodes new)
+        catalogs = by-nodes old new cat_keys (mdb_in old).catalog_file_size (catalog_blocks old) (catalog_nodes old) (catalog_nodes new)
+            (catalog-map old old refl refl) (catalog-map old new m x) h
+
+        check-of-catalog : catalog_check_fault (mdb_in new) new ≡ catalog_check_fault (mdb_in old) old
+        check-of-catalog =
+            (λ i. check_fault 4 (catalog_fault (has_counts cat_keys (catalog_nodes new)) (m i) (x i) (catalog_nodes new)))
+            ∙ ap (check_fault 4) (catalog_fault-same (mdb_in old) (catalog_extents old) (catalog_nodes old) (catalog_nodes new) catalogs)
+
+        needed-of-catalog : needed_of_nodes new ≡ needed_of_nodes old
+        needed-of-catalog =
+            (λ i. needed_of_tree cat_keys (m i).catalog_file_size (catalog_nodes new) (catalog_blocks-same old new m x i)) ∙ catalogs.needed (catalog_blocks old)
+
+    -- ---- the extents tree
+
     pub has_extents-same : has_extents_file new ≡ has_extents_file old
     has_extents-same = ap (λ (mdb : Mdb). is_tree_file mdb mdb.extents_file mdb.extents_file_size) m
 
-    module _ (h : AgreeOn (needed_of_trees old) old new) where
-      both-trees : has_extents_file old ≡ true → AgreeOn (extents_blocks old ++ needed_of_catalog old) old new
-      unfolding needed_of_trees
-      both-trees e = right (has_extents_file old) (extents_blocks old ++ needed_of_catalog old) e h
+    module _ (h : AgreeOn (needed_of_extents old) old new) where
+      extents : TreesAnswerSame ext_keys (mdb_in old).extents_file_size (extents_nodes old) (extents_nodes new)
+      extents = by-nodes old new ext_keys (mdb_in old).extents_file_size (extents_blocks old) (extents_nodes old) (extents_nodes new)
+          (extents-map old old refl) (extents-map old new m) h
 
-      nodes-of-file : has_extents_file old ≡ true → extents_nodes new ≡ extents_nodes old
-      nodes-of-file e = extents_nodes-same old new m (each-left (λ n. new n ≡ old n) (extents_blocks old) (needed_of_catalog old) (both-trees e))
+      pub needed_of_extents-same : needed_of_extents new ≡ needed_of_extents old
+      needed_of_extents-same =
+          (λ i. needed_of_tree ext_keys (m i).extents_file_size (extents_nodes new) (extents_blocks-same old new m i)) ∙ extents.needed (extents_blocks old)
+
+      check-of-extents : extents_check_fault (mdb_in new) new ≡ extents_check_fault (mdb_in old) old
+      check-of-extents =
+          (λ i. check_fault 3 (extents_fault (has_counts ext_keys (extents_nodes new)) (m i) (extents_nodes new)))
+          ∙ ap (check_fault 3) (extents_fault-same (mdb_in old) (extents_nodes old) (extents_nodes new) extents)
+
+      module _ (none : extents_check_fault (mdb_in old) old ≡ None) where
+        pub overflow-same : overflow_in new ≡ overflow_in old
+        unfolding overflow_in
+        overflow-same = (extents-hold (mdb_in old) (extents_nodes old) (extents_nodes new) extents
+            (no-place 3 (extents_fault (has_counts ext_keys (extents_nodes old)) (mdb_in old) (extents_nodes old)) none)).content
+
+        pub x : catalog_extents new ≡ catalog_extents old
+        x = catalog_extents-same old new m overflow-same
+
+        -- behind an extents tree that is right
+        agree-on-catalog : AgreeOn (needed_of_catalog old) old new → has_catalog_file old ≡ true → AgreeOn (needed_of_nodes x old) old new
+        unfolding needed_of_catalog
+        agree-on-catalog k e =
+            right (is_extents_tree_right old && has_catalog_file old) (needed_of_nodes x old) (λ i. is-none (extents_check_fault (mdb_in old) old) none i && e i) k
+
+        module _ (k : AgreeOn (needed_of_catalog old) old new) where
+          catalog_check-same : catalog_check_fault (mdb_in new) new ≡ catalog_check_fault (mdb_in old) old
+          catalog_check-same =
+              elim (has_catalog_file old)
+              as (λ (t : Bool). has_catalog_file old ≡ t → catalog_check_fault (mdb_in new) new ≡ catalog_check_fault (mdb_in old) old) [
+                | true ↦ λ e. check-of-catalog x (agree-on-catalog k e)
+                | false ↦ λ e.
+                    catalog-wrong (mdb_in new) (catalog_extents new) (has_counts cat_keys (catalog_nodes new)) (catalog_nodes new) (has_catalog-same x ∙ e)
+                    ∙ sym (catalog-wrong (mdb_in old) (catalog_extents old) (has_counts cat_keys (catalog_nodes old)) (catalog_nodes old) e)
+              ]
+              refl
+
+          catalog-held : catalog_check_fault (mdb_in old) old ≡ None → HoldSameTree cat_keys (catalog_nodes old) (catalog_nodes new)
+          catalog-held no_fault = catalog-hold (mdb_in old) (catalog_extents old) (catalog_nodes old) (catalog_nodes new)
+              (catalogs x (agree-on-catalog k (catalog-file old no_fault)))
+              (no-place 4 (catalog_fault (has_counts cat_keys (catalog_nodes old)) (mdb_in old) (catalog_extents old) (catalog_nodes old)) no_fault)
+
+          needed-of-right : needed_of_catalog new ≡ needed_of_catalog old
+          unfolding needed_of_catalog
+          needed-of-right =
+              elim (has_catalog_file old)
+              as (λ (t : Bool). has_catalog_file old ≡ t → needed_of_catalog new ≡ needed_of_catalog old) [
+                | true ↦ λ e. λ i. where_right (is_none (check-of-extents i) && has_catalog-same x i) (needed-of-catalog x (agree-on-catalog k e) i)
+                | false ↦ λ e.
+                    where-wrong (is_extents_tree_right new && has_catalog_file new) (needed_of_nodes x new) (and_right (is_extents_tree_right new) (has_catalog_file new) (has_catalog-same x ∙ e))
+                    ∙ sym (where-wrong (is_extents_tree_right old && has_catalog_file old) (needed_of_nodes x old) (and_right (is_extents_tree_right old) (has_catalog_file old) e))
+              ]
+              refl
+
+      pub needed_of_catalog-same : AgreeOn (needed_of_catalog old) old new → needed_of_catalog new ≡ needed_of_catalog old
+      unfolding needed_of_catalog
+      needed_of_catalog-same k =
+          elim (extents_check_fault (mdb_in old) old)
+          as (λ (o : Option MountFault). extents_check_fault (mdb_in old) old ≡ o → needed_of_catalog new ≡ needed_of_catalog old) [
+            | None ↦ λ none. needed-of-right none k
+            | Some why ↦ λ e.
+                let wrong : is_extents_tree_right old ≡ false = ap is_none e in
+                let later : is_extents_tree_right new ≡ false = ap is_none (check-of-extents ∙ e) in
+                where-wrong (is_extents_tree_right new && has_catalog_file new)
+                (needed_of_tree cat_keys (mdb_in new).catalog_file_size (catalog_nodes new) (catalog_blocks new)) (and_left (is_extents_tree_right new) (has_catalog_file new) later)
+                ∙ sym (where-wrong (is_extents_tree_right old && has_catalog_file old)
+                (needed_of_tree cat_keys (mdb_in old).catalog_file_size (catalog_nodes old) (catalog_blocks old)) (and_left (is_extents_tree_right old) (has_catalog_file old) wrong))
+          ]
+          refl
+
+    -- ---- both
+
+    module _ (h : AgreeOn (needed_of_trees old) old new) where
+      both-trees : has_extents_file old ≡ true → AgreeOn (needed_of_extents old ++ needed_of_catalog old) old new
+      unfolding needed_of_trees
+      both-trees e = right (has_extents_file old) (needed_of_extents old ++ needed_of_catalog old) e h
+
+      agree-on-extents : has_extents_file old ≡ true → AgreeOn (needed_of_extents old) old new
+      agree-on-extents e = each-left (λ n. new n ≡ old n) (needed_of_extents old) (needed_of_catalog old) (both-trees e)
+
+      behind-extents : has_extents_file old ≡ true → AgreeOn (needed_of_catalog old) old new
+      behind-extents e = each-right (λ n. new n ≡ old n) (needed_of_extents old) (needed_of_catalog old) (both-trees e)
 
       extents_check-same : extents_check_fault (mdb_in new) new ≡ extents_check_fault (mdb_in old) old
       extents_check-same =
           elim (has_extents_file old)
           as (λ (t : Bool). has_extents_file old ≡ t → extents_check_fault (mdb_in new) new ≡ extents_check_fault (mdb_in old) old) [
-            | true ↦ λ e. check-of-nodes m (nodes-of-file e)
+            | true ↦ λ e. check-of-extents (agree-on-extents e)
             | false ↦ λ e.
                 extents-wrong (mdb_in new) (has_counts ext_keys (extents_nodes new)) (extents_nodes new) (has_extents-same ∙ e)
                 ∙ sym (extents-wrong (mdb_in old) (has_counts ext_keys (extents_nodes old)) (extents_nodes old) e)
           ]
           refl
-
-      module _ (none : extents_check_fault (mdb_in old) old ≡ None) where
-        extents_nodes-right : extents_nodes new ≡ extents_nodes old
-        extents_nodes-right = nodes-of-file (extents-file old none)
-
-        behind_extents : AgreeOn (needed_of_catalog old) old new
-        behind_extents = each-right (λ n. new n ≡ old n) (extents_blocks old) (needed_of_catalog old) (both-trees (extents-file old none))
 
       trees-same : trees_fault (has_counts ext_keys (extents_nodes new)) (has_counts cat_keys (catalog_nodes new)) new
           ≡ trees_fault (has_counts ext_keys (extents_nodes old)) (has_counts cat_keys (catalog_nodes old)) old
@@ -158,19 +288,23 @@ module _ (old new : Blocks) where
       trees-same =
           or-same (extents_check_fault (mdb_in old) old) (extents_check_fault (mdb_in new) new) (catalog_check_fault (mdb_in old) old)
           (catalog_check_fault (mdb_in new) new) extents_check-same
-          (λ none. catalog_check-same m (extents_nodes-right none) none (behind_extents none))
+          (λ none.
+          let file = extents-file old none in
+          catalog_check-same (agree-on-extents file) none (behind-extents file))
 
       needed_of_trees-same : needed_of_trees new ≡ needed_of_trees old
       unfolding needed_of_trees
       needed_of_trees-same =
           elim (has_extents_file old)
           as (λ (t : Bool). has_extents_file old ≡ t →
-          where_right (has_extents_file new) (extents_blocks new ++ needed_of_catalog new)
-          ≡ where_right (has_extents_file old) (extents_blocks old ++ needed_of_catalog old)) [
-            | true ↦ λ e. λ i. where_right (has_extents-same i) (extents_blocks-same old new m i ++ needed_of_catalog-same m (nodes-of-file e) i)
+          where_right (has_extents_file new) (needed_of_extents new ++ needed_of_catalog new)
+          ≡ where_right (has_extents_file old) (needed_of_extents old ++ needed_of_catalog old)) [
+            | true ↦ λ e. λ i.
+                where_right (has_extents-same i)
+                (needed_of_extents-same (agree-on-extents e) i ++ needed_of_catalog-same (agree-on-extents e) (behind-extents e) i)
             | false ↦ λ e.
-                ap (λ (t : Bool). where_right t (extents_blocks new ++ needed_of_catalog new)) (has_extents-same ∙ e)
-                ∙ sym (ap (λ (t : Bool). where_right t (extents_blocks old ++ needed_of_catalog old)) e)
+                ap (λ (t : Bool). where_right t (needed_of_extents new ++ needed_of_catalog new)) (has_extents-same ∙ e)
+                ∙ sym (ap (λ (t : Bool). where_right t (needed_of_extents old ++ needed_of_catalog old)) e)
           ]
           refl
 
@@ -178,16 +312,17 @@ module _ (old new : Blocks) where
 
   module _ (same : SameParts old new) where
     pub catalog-stays : catalog_in new ≡ catalog_in old
-    catalog-stays = catalog-same old new same.nodes
+    catalog-stays = same.catalog
 
     pub owned-stays : owned_in new ≡ owned_in old
     owned-stays = owned-same old new same.mdb same.overflow catalog-stays
 
     records-same : records_fault new ≡ records_fault old
-    unfolding records_fault
+    unfolding records_fault catalog_name_fault catalog_place_fault
     records-same = λ i.
         check_fault 5 (record_fault (catalog-stays i)) or_fault check_fault 6 (id_fault (same.mdb i).next_id (catalog-stays i))
-        or_fault check_fault 7 (catalog_name_fault (same.nodes i) (catalog-stays i)) or_fault check_fault 8 (catalog_place_fault (same.nodes i) (catalog-stays i))
+        or_fault check_fault 7 (name_fault (same.index_keys i) (catalog-stays i))
+        or_fault check_fault 8 (place_fault (is_none (same.index_order i)) (catalog-stays i))
 
     space-same : space_fault new (mdb_in new) (owned_in new) ≡ space_fault old (mdb_in old) (owned_in old)
     space-same = (λ i. space_fault new (same.mdb i) (owned-stays i)) ∙ space_fault-same old new (mdb_in old) same.bitmap (owned_in old)
@@ -224,11 +359,20 @@ module _ (old new : Blocks) where
       trees = each-right (λ n. new n ≡ old n) (bitmap_blocks (mdb_in old)) (needed_of_trees old) behind.1
 
       module _ (no_extents : extents_check_fault (mdb_in old) old ≡ None) (no_catalog : catalog_check_fault (mdb_in old) old ≡ None) where
+        file-right : has_extents_file old ≡ true
+        file-right = extents-file old no_extents
+
+        catalog-same : HoldSameTree cat_keys (catalog_nodes old) (catalog_nodes new)
+        catalog-same = catalog-held m-same (agree-on-extents m-same trees file-right) no_extents (behind-extents m-same trees file-right) no_catalog
+
         pub parts : SameParts old new
+        unfolding catalog_in
         parts = record {
           mdb = m-same;
-          overflow = overflow-same old new (extents_nodes-right m-same trees no_extents);
-          nodes = catalog_nodes-right m-same (extents_nodes-right m-same trees no_extents) no_extents (behind_extents m-same trees no_extents) no_catalog;
+          overflow = overflow-same m-same (agree-on-extents m-same trees file-right) no_extents;
+          catalog = catalog-same.content;
+          index_keys = catalog-same.index_keys;
+          index_order = catalog-same.index_order;
           bitmap = bitmap;
         }
 

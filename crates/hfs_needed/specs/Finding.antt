@@ -1,5 +1,5 @@
 -- What is found of the runs of a volume's trees.
-use Rattle.std.specs.Prelude.{◌≡◌, ℕ, Bool, true, false, List, Option, MatchOption}
+use Rattle.std.specs.Prelude.{◌≡◌, ℕ, Bool, true, false, ◌&&◌, List, Option, MatchOption}
 use Rattle.std.proofs.Common.{Vec, Global}
 use Rattle.hfs_fields.specs.declared.extent.Extent.{Extent}
 use Rattle.hfs_fields.specs.declared.mdb.Mdb.{Mdb}
@@ -8,7 +8,7 @@ use Rattle.hfs_space.specs.Faults.{is_tree_file}
 use Rattle.hfs_space.specs.TreeFiles.{tree_blocks}
 use Rattle.hfs_check.specs.Parts.{Blocks, extents_blocks, catalog_blocks}
 use Rattle.hfs_needed.specs.Gathered.{LieAt}
-use Rattle.hfs_needed.specs.Needed.{has_extents_file, has_catalog_file, needed_of_catalog}
+use Rattle.hfs_needed.specs.Needed.{has_extents_file, is_extents_tree_right, has_catalog_file}
 
 -- the runs at these places of a volume of so many blocks, where the file is right, and else none
 abbrev pub FindsWhere : Bool → ℕ → List ℕ → Option (Vec Run Global) → Type 0
@@ -26,10 +26,10 @@ FindsExtentsFile total blocks found = FindsWhere (has_extents_file blocks) total
 abbrev pub FindsCatalogFile : ℕ → Blocks → Option (Vec Run Global) → Type 0
 FindsCatalogFile total blocks found = FindsWhere (has_catalog_file blocks) total (catalog_blocks blocks) found
 
+-- those of the catalog file, behind an extents tree that is right
+abbrev pub FindsCatalog : ℕ → Blocks → Option (Vec Run Global) → Type 0
+FindsCatalog total blocks found = FindsWhere (is_extents_tree_right blocks && has_catalog_file blocks) total (catalog_blocks blocks) found
+
 -- the runs are those of the extents file
 abbrev pub LieAtExtents : ℕ → Blocks → List Run → Type 0
 LieAtExtents total blocks runs = LieAt total (extents_blocks blocks) runs
-
--- the runs lie where the catalog's needed blocks do
-abbrev pub LieAtNeeded : ℕ → Blocks → Vec Run Global → Type 0
-LieAtNeeded total blocks = λ runs. LieAt total (needed_of_catalog blocks) runs.items

@@ -1,3 +1,4 @@
+pub mod Marked
 pub mod Needed
 pub mod Laws
 pub mod Gathered
@@ -6,4 +7,6 @@ pub mod Opened
 pub mod Forks
 pub mod Finding
 pub mod Listing
+pub mod TreeReads
+pub mod OpenedValues
 pub mod WholeFiles

@@ -1,13 +1,17 @@
--- The blocks of a volume that its checks, its report and its items are read from; the bytes of forks are in others. Each part
--- is found by those before it, and nothing is read behind a part that is wrong.
-use Rattle.std.specs.Prelude.{◌≡◌, ℕ, ◌-◌, Bool, ◌&&◌, if◌then◌else◌, List, [], ◌∷◌, ◌++◌}
+-- The blocks of a volume that its checks, its report and its items are read from; the bytes of forks are in others, and of a
+-- tree's file those that its map doesn't mark. Each part is found by those before it, and nothing is read behind a part that is
+-- wrong.
+use Rattle.std.specs.Prelude.{◌≡◌, ℕ, ◌-◌, Bool, ◌&&◌, List, ◌∷◌, ◌++◌}
 use Rattle.std.specs.Option.{is_none}
 use Rattle.hfs_scans.specs.Each.{Each}
 use Rattle.hfs_space.specs.Faults.{is_tree_file}
+use Rattle.hfs_space.specs.TreeKeys.{ext_keys}
+use Rattle.hfs_catalog.specs.Tree.{cat_keys}
 use Rattle.hfs_check.specs.Agree.{bitmap_blocks}
 use Rattle.hfs_check.specs.Answers.{extents_check_fault}
 use Rattle.hfs_check.specs.Faults.{mdb_fault}
-use Rattle.hfs_check.specs.Parts.{Blocks, mdb_in, extents_blocks, catalog_extents, catalog_blocks}
+use Rattle.hfs_check.specs.Parts.{Blocks, mdb_in, extents_blocks, extents_nodes, catalog_extents, catalog_blocks, catalog_nodes}
+use Rattle.hfs_needed.specs.Marked.{where_right, needed_of_tree}
 
 -- ---- what is right, so that the next part can be found
 
@@ -28,17 +32,19 @@ has_catalog_file blocks = is_tree_file (mdb_in blocks) (catalog_extents blocks) 
 
 -- ---- the blocks, by their numbers
 
--- these, where the test holds
-abbrev pub where_right : Bool → List ℕ → List ℕ
-where_right test numbers = if test then numbers else []
+-- those of the extents tree
+abbrev pub needed_of_extents : Blocks → List ℕ
+needed_of_extents blocks = needed_of_tree ext_keys (mdb_in blocks).extents_file_size (extents_nodes blocks) (extents_blocks blocks)
 
--- behind an extents tree that is right, those of the catalog's nodes
+-- behind an extents tree that is right, those of the catalog tree
 unfoldable pub needed_of_catalog : Blocks → List ℕ
-needed_of_catalog blocks = where_right (is_extents_tree_right blocks && has_catalog_file blocks) (catalog_blocks blocks)
+needed_of_catalog blocks =
+    where_right (is_extents_tree_right blocks && has_catalog_file blocks)
+    (needed_of_tree cat_keys (mdb_in blocks).catalog_file_size (catalog_nodes blocks) (catalog_blocks blocks))
 
--- those of the extents tree's nodes, and of the catalog's
+-- those of both trees
 unfoldable pub needed_of_trees : Blocks → List ℕ
-needed_of_trees blocks = where_right (has_extents_file blocks) (extents_blocks blocks ++ needed_of_catalog blocks)
+needed_of_trees blocks = where_right (has_extents_file blocks) (needed_of_extents blocks ++ needed_of_catalog blocks)
 
 -- of a volume of so many blocks: the master directory block, its copy in the last block but one, the bitmap, and both trees
 unfoldable pub needed_blocks : ℕ → Blocks → List ℕ

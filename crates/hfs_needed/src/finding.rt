@@ -3,7 +3,7 @@ ghost use Rattle.std.specs.Prelude.{◌≡◌, true, false, IfOk};
 ghost use Rattle.hfs_check.specs.Parts.{mdb_in};
 ghost use Rattle.hfs_check.specs.Sound.{IsMdbSound};
 ghost use Rattle.hfs_needed.specs.Needed as spec;
-ghost use Rattle.hfs_needed.specs.Finding.{FindsTreeFile, FindsExtentsFile, FindsCatalogFile, LieAtExtents, LieAtNeeded};
+ghost use Rattle.hfs_needed.specs.Finding.{FindsTreeFile, FindsExtentsFile, FindsCatalogFile, FindsCatalog, LieAtExtents};
 
 use hfs_blocks::{Blocks, Run};
 use hfs_btree::RunNodes;
@@ -93,24 +93,21 @@ fn right_catalog_runs<B: Blocks>(
     file_runs(alloc, blocks, mdb, &extents, mdb.catalog_file_size)
 }
 
-/// The runs of what is needed of the catalog. None are where the extents tree, which lies in these runs, or the catalog file is wrong.
+/// The runs of the catalog tree. None where the extents tree, which lies in these runs, or the catalog file is wrong.
 pub(crate) fn catalog_runs<B: Blocks>(
     alloc: Global,
     blocks: &B,
     mdb: &Mdb,
     extents_tree: &[Run],
-) -> Result<Vec<Run>, AllocError>
+) -> Result<Option<Vec<Run>>, AllocError>
     requires sound { IsMdbSound (B.total blocks.now) mdb.now }
     requires is { mdb.now ≡ mdb_in (B.blocks blocks.now) }
     requires file { spec.has_extents_file (B.blocks blocks.now) ≡ true }
     requires runs { LieAtExtents (B.total blocks.now) (B.blocks blocks.now) extents_tree.now }
-    ensures { IfOk result (LieAtNeeded (B.total blocks.now) (B.blocks blocks.now)) }
+    ensures { IfOk result (FindsCatalog (B.total blocks.now) (B.blocks blocks.now)) }
 {
     if !is_extents_tree_right(alloc, blocks, mdb, extents_tree)? {
-        return Ok(Vec::new(alloc));
+        return Ok(None);
     }
-    match right_catalog_runs(alloc, blocks, mdb, extents_tree)? {
-        None => Ok(Vec::new(alloc)),
-        Some(runs) => Ok(runs),
-    }
+    right_catalog_runs(alloc, blocks, mdb, extents_tree)
 }

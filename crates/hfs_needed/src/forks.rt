@@ -1,15 +1,15 @@
 //! The bytes of forks, by the needed blocks of an image.
-ghost use Rattle.std.specs.Prelude.{◌≡◌, IfOk, IfErr};
+ghost use Rattle.std.specs.Prelude.{◌≡◌, ℕ, ◌/◌, IfOk, IfErr};
 ghost use Rattle.hfs_check.specs.Parts.{mdb_in, catalog_in};
 ghost use Rattle.hfs_check.specs.Sound.{AreBlocksSound};
 ghost use Rattle.hfs_check.specs.Trees.{HasTrees};
 ghost use Rattle.hfs_queries.specs.Told as told;
 ghost use Rattle.hfs_sparse.specs.Sparse.{sparse};
 ghost use Rattle.hfs_needed.specs.Forks.{AreForksIn, FindsForkNamed, HoldsFork, HoldsForkOf, IsForkIn, RefusesForkNamed};
-ghost use Rattle.hfs_needed.specs.Opened.{IsRefusedFor};
+ghost use Rattle.hfs_needed.specs.Opened.{IsOpenedOf, IsRefusedFor};
 
 use crate::laws::gathered_is_enough;
-use crate::opening::{NeededFault, open_needed};
+use crate::opening::{NeededFault, NeededVolume, open_needed};
 use hfs_blocks::Patch;
 use hfs_btree::RunNodes;
 use hfs_check::{SoundVolume, VolumeTrees, no_blocks_fault, trees_are_sound};
@@ -110,6 +110,45 @@ pub(crate) fn find_file(
     file_named(&nodes, dir, name)
 }
 
+/// The bytes of a file's fork of an image that was opened so; or what a call that reads the fork answers where there is none: -37, -120 or
+/// -43. Errors: a read failed, memory was refused.
+pub(crate) fn opened_fork<S: BlockSource>(
+    alloc: Global,
+    source: &mut S,
+    volume: &NeededVolume,
+    dir: u32,
+    name: &[u8],
+    fork: Fork,
+) -> Result<Result<Vec<u8>, Reply>, SparseFault>
+    requires { IsOpenedOf (S.image source.old) volume.now.count volume.now }
+    ensures bytes { (len : ℕ) → len / 512 ≡ volume.now.count
+        → IfOk result (FindsForkNamed (S.image source.old) len dir name.now fork) }
+    ensures unread { (len : ℕ) → len / 512 ≡ volume.now.count
+        → IfOk result (RefusesForkNamed (S.image source.old) len dir name.now fork) }
+    ensures image { S.image source.new ≡ S.image source.old }
+{
+    catalog_answers();
+    gathered_is_enough();
+    no_blocks_fault();
+    let sound = &volume.sound;
+    let file = match find_file(&volume.read, volume.count, &sound.trees, dir, name) {
+        Ok(file) => file,
+        Err(reply) => return Ok(Err(reply)),
+    };
+    match read_file(
+        alloc,
+        source,
+        &volume.read,
+        volume.count,
+        sound,
+        &file,
+        fork,
+    ) {
+        Ok(bytes) => Ok(Ok(bytes)),
+        Err(fault) => Err(fault),
+    }
+}
+
 /// The bytes of a file's fork in an image of `len` bytes, of which only the blocks are read that its checks need and those of the fork; or
 /// what a call that reads the fork answers where there is none: -37, -120 or -43. Errors: a read failed, memory was refused, or the image is
 /// refused.
@@ -126,25 +165,9 @@ pub fn needed_fork<S: BlockSource>(
     ensures refused { IfErr result (λ fault. IsRefusedFor (S.image source.old) len fault) }
     ensures image { S.image source.new ≡ S.image source.old }
 {
-    catalog_answers();
-    gathered_is_enough();
-    no_blocks_fault();
     let volume = open_needed(alloc, source, len)?;
-    let sound = &volume.sound;
-    let file = match find_file(&volume.read, volume.count, &sound.trees, dir, name) {
-        Ok(file) => file,
-        Err(reply) => return Ok(Err(reply)),
-    };
-    match read_file(
-        alloc,
-        source,
-        &volume.read,
-        volume.count,
-        sound,
-        &file,
-        fork,
-    ) {
-        Ok(bytes) => Ok(Ok(bytes)),
+    match opened_fork(alloc, source, &volume, dir, name, fork) {
+        Ok(found) => Ok(found),
         Err(fault) => Err(NeededFault::of_sparse(fault)),
     }
 }

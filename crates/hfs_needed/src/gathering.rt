@@ -6,16 +6,18 @@ ghost use Rattle.hfs_check.specs.Parts.{mdb_in, extents_blocks};
 ghost use Rattle.hfs_check.specs.Sound.{IsMdbSound};
 ghost use Rattle.hfs_sparse.specs.Sparse.{sparse, HasEach};
 ghost use Rattle.hfs_needed.specs.Gathered.{LieAt, HasRead, HasNeeded, IsOfKnown};
-ghost use Rattle.hfs_needed.specs.Needed.{has_extents_file, needed_of_catalog, needed_of_trees};
+ghost use Rattle.hfs_needed.specs.Needed.{has_extents_file, needed_of_extents, needed_of_catalog, needed_of_trees};
 
 use crate::finding::{catalog_runs, extents_runs};
+use crate::tree_nodes::gather_tree;
 use hfs_blocks::{Patch, Run};
 use hfs_check::{mdb_fault, no_mdb_fault, read_mdb};
-use hfs_fields::Mdb;
-use hfs_sparse::{BlockSource, SparseFault, ZeroBlocks, fetch, fetch_range, fetch_runs};
+use hfs_fields::{CatKey, ExtKey, Mdb};
+use hfs_space::no_tree_file_fault;
+use hfs_sparse::{BlockSource, SparseFault, ZeroBlocks, fetch, fetch_range};
 use std::alloc::Global;
 
-/// Reads what is needed of the catalog, where the blocks of the extents tree were read, which lies in these runs.
+/// Reads what is needed of the catalog, where what is needed of the extents tree was read, which lies in these runs.
 fn gather_catalog<S: BlockSource>(
     alloc: Global,
     source: &mut S,
@@ -29,16 +31,20 @@ fn gather_catalog<S: BlockSource>(
     requires file { has_extents_file (sparse read.old) ≡ true }
     requires runs { LieAt count (extents_blocks (sparse read.old)) extents_tree.now }
     requires has_mdb { IsSome (changes read.old 2) }
-    requires has_extents { HasEach read.old (extents_blocks (sparse read.old)) }
+    requires has_extents { HasEach read.old (needed_of_extents (sparse read.old)) }
     ensures has { OnOk result (HasEach read.new (needed_of_catalog (sparse read.new))) }
     ensures reads { HasRead (S.image source.old) count read.old read.new }
     ensures image { S.image source.new ≡ S.image source.old }
 {
+    no_tree_file_fault();
     let zeros = ZeroBlocks { count };
-    let Ok(runs) = catalog_runs(alloc, &read.over(&zeros), mdb, extents_tree) else {
+    let Ok(found) = catalog_runs(alloc, &read.over(&zeros), mdb, extents_tree) else {
         return Err(SparseFault::Memory);
     };
-    fetch_runs(source, read, &runs)?;
+    let Some(runs) = found else {
+        return Ok(());
+    };
+    gather_tree::<CatKey, S>(alloc, source, read, &runs, mdb.catalog_file_size)?;
     Ok(())
 }
 
@@ -57,6 +63,7 @@ fn gather_trees<S: BlockSource>(
     ensures reads { HasRead (S.image source.old) count read.old read.new }
     ensures image { S.image source.new ≡ S.image source.old }
 {
+    no_tree_file_fault();
     let zeros = ZeroBlocks { count };
     let Ok(found) = extents_runs(alloc, &read.over(&zeros), mdb) else {
         return Err(SparseFault::Memory);
@@ -64,7 +71,7 @@ fn gather_trees<S: BlockSource>(
     let Some(runs) = found else {
         return Ok(());
     };
-    fetch_runs(source, read, &runs)?;
+    gather_tree::<ExtKey, S>(alloc, source, read, &runs, mdb.extents_file_size)?;
     gather_catalog(alloc, source, read, count, mdb, &runs)?;
     Ok(())
 }
@@ -94,7 +101,8 @@ fn gather_rest<S: BlockSource>(
 }
 
 /// The blocks that the checks and the report of an image of `count` blocks need, found by what was read before: the master
-/// directory block, its copy, the bitmap, the extents tree and the catalog. Nothing behind a part that is wrong is read, and no block twice.
+/// directory block, its copy, the bitmap, and of the extents tree and the catalog the header node, the map nodes and those that the
+/// map marks. Nothing behind a part that is wrong is read, and no block twice.
 /// Errors: a read failed, memory was refused.
 pub fn gather_needed<S: BlockSource>(
     alloc: Global,

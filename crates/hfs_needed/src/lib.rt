@@ -6,14 +6,20 @@ mod forks;
 mod gathering;
 mod laws;
 mod listing;
+mod opened;
 mod opening;
 mod reporting;
+mod tree_header;
+mod tree_nodes;
 mod whole_files;
 
 pub use crate::forks::needed_fork;
 pub use crate::gathering::gather_needed;
-pub use crate::laws::{gathered_is_enough, needed_is_enough, needed_of_images};
+pub use crate::laws::{
+    gathered_is_enough, marked_nodes_decide, needed_is_enough, needed_of_images,
+};
 pub use crate::listing::needed_list;
+pub use crate::opened::OpenedImage;
 pub use crate::opening::NeededFault;
 pub use crate::reporting::needed_report;
 pub use crate::whole_files::{NeededFile, needed_file};

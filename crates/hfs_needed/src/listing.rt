@@ -14,6 +14,7 @@ use crate::laws::gathered_is_enough;
 use crate::opening::{NeededFault, open_needed};
 use hfs_blocks::Patch;
 use hfs_btree::RunNodes;
+use hfs_catalog::{CatalogRecord, read_records};
 use hfs_check::{VolumeTrees, no_blocks_fault};
 use hfs_model::Reply;
 use hfs_queries::{Detail, catalog_answers, list};
@@ -22,7 +23,7 @@ use std::alloc::{AllocError, Global};
 
 /// What the children's own records tell of all children of a folder, in name order, where these blocks were read of a volume of `count`
 /// blocks.
-fn list_in_brief(
+pub(crate) fn list_in_brief(
     alloc: Global,
     read: &Patch,
     count: u32,
@@ -40,6 +41,26 @@ fn list_in_brief(
         runs: &trees.catalog,
     };
     list(alloc, &nodes, dir, Detail::Brief)
+}
+
+/// All records of the catalog, where these blocks were read of a volume of `count` blocks.
+pub(crate) fn catalog_records(
+    alloc: Global,
+    read: &Patch,
+    count: u32,
+    trees: &VolumeTrees,
+) -> Result<Vec<CatalogRecord>, AllocError>
+    requires sound { AreBlocksSound count (sparse read.now) }
+    requires trees { HasTrees count (sparse read.now) trees.now }
+    ensures { IfOk result (λ records. records.items ≡ catalog_in (sparse read.now)) }
+{
+    catalog_answers();
+    let zeros = ZeroBlocks { count };
+    let nodes = RunNodes {
+        blocks: &read.over(&zeros),
+        runs: &trees.catalog,
+    };
+    read_records(alloc, &nodes)
 }
 
 /// Lists a folder of the volume of an image of `len` bytes, of which only the blocks are read that its checks need: the reply to List, with

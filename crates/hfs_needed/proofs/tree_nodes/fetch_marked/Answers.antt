@@ -1,0 +1,23 @@
+use Rattle.std.proofs.Common.{◌<◌, ◌∙◌, arith}
+use Rattle.hfs_needed.proofs.Gathered.{reads-runs-on, marked-more}
+use Rattle.hfs_needed.proofs.TreeNodes.{marked-all}
+use Rattle.hfs_needed.proofs.tree_nodes.fetch_marked.Goals as goal
+
+pub returns-in_err-fetch_if_marked-clause-reads : goal.returns-in_err-fetch_if_marked-clause-reads
+returns-in_err-fetch_if_marked-clause-reads g c =
+    reads-runs-on (g.S.BlockSource.image c.args.source.now) (g.S.BlockSource.image c.loop-n.source) c.args.runs.now c.args.read.now c.loop-n.read
+    c.fetch_if_marked.new.read c.loop-n.invariant.image c.loop-n.invariant.reads c.in_err-fetch_if_marked.ensures.reads
+
+pub loop-n-preserved : goal.loop-n-preserved
+loop-n-preserved g c = record {
+  has = marked-more c.loop-n.read c.fetch_if_marked.new.read (c.in_ok-fetch_if_marked.ensures.reads 4294967296 c.requires.small).grown c.args.runs.now
+      c.args.map.now c.loop-n.n c.in_ok-fetch_if_marked.ensures.has c.loop-n.invariant.has;
+  reads = reads-runs-on (g.S.BlockSource.image c.args.source.now) (g.S.BlockSource.image c.loop-n.source) c.args.runs.now c.args.read.now c.loop-n.read
+      c.fetch_if_marked.new.read c.loop-n.invariant.image c.loop-n.invariant.reads c.in_ok-fetch_if_marked.ensures.reads;
+  image = c.in_ok-fetch_if_marked.ensures.image ∙ c.loop-n.invariant.image;
+}
+
+pub returns-clause-has : goal.returns-clause-has
+returns-clause-has g c =
+    marked-all c.loop-n.read c.args.runs.now c.args.map.now c.args.count
+    (λ k lt e. c.loop-n.invariant.has k (let below : k < c.loop-n.n = omega (arith, lt, c.loop-n-test.false) in below) e)

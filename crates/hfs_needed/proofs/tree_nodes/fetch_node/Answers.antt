@@ -1,0 +1,20 @@
+use Rattle.std.proofs.Common.{ap, sym, ◌∙◌}
+use Rattle.hfs_blocks.specs.Layers.{changes}
+use Rattle.hfs_needed.proofs.Gathered.{reads-block}
+use Rattle.hfs_needed.proofs.TreeNodes.{node-bytes}
+use Rattle.hfs_needed.proofs.tree_nodes.fetch_node.Goals as goal
+
+pub returns-in_err-fetch-clause-reads : goal.returns-in_err-fetch-clause-reads
+returns-in_err-fetch-clause-reads g c = λ total h.
+    reads-block (g.S.BlockSource.image c.args.source.now) total c.args.read.now c.fetch.new.read c.block_of-place.result (c.block_of-place.ensures.inside total h)
+    c.in_err-fetch.ensures.grown c.in_err-fetch.ensures.stays c.in_err-fetch.ensures.within
+
+pub returns-clause-node : goal.returns-clause-node
+returns-clause-node g c =
+    node-bytes c.fetch.new.read c.args.runs.now c.args.n c.in-Some.block.now c.requires.within
+    (ap (changes c.fetch.new.read) (sym c.block_of-place.ensures.number) ∙ sym c.in-Some.ensures.value)
+
+pub returns-clause-reads : goal.returns-clause-reads
+returns-clause-reads g c = λ total h.
+    reads-block (g.S.BlockSource.image c.args.source.now) total c.args.read.now c.fetch.new.read c.block_of-place.result (c.block_of-place.ensures.inside total h)
+    c.in_ok-fetch.ensures.grown c.in_ok-fetch.ensures.stays c.in_ok-fetch.ensures.within

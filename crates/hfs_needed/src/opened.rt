@@ -1,0 +1,99 @@
+//! An image that is opened and checked once, and asked as often as one likes.
+ghost use Rattle.std.specs.Prelude.{◌≡◌, IfOk, IfErr};
+ghost use Rattle.hfs_needed.specs.Forks.{FindsForkNamed, RefusesForkNamed};
+ghost use Rattle.hfs_needed.specs.Listing.{IsBriefList, HoldsCatalog};
+ghost use Rattle.hfs_needed.specs.Opened.{IsRefusedFor};
+ghost use Rattle.hfs_needed.specs.OpenedValues.{opened_value};
+
+use crate::forks::opened_fork;
+use crate::laws::gathered_is_enough;
+use crate::listing::{catalog_records, list_in_brief};
+use crate::opening::{NeededFault, NeededVolume, open_needed};
+use hfs_catalog::CatalogRecord;
+use hfs_check::no_blocks_fault;
+use hfs_model::{Fork, Reply};
+use hfs_queries::catalog_answers;
+use hfs_sparse::{BlockSource, SparseFault};
+use std::alloc::{AllocError, Global};
+use std::marker::Model;
+
+/// A sound image whose needed blocks were read and checked once. What it tells is what the whole image's volume tells, where the source
+/// tells the image's bytes.
+#[derive(Drop)]
+pub struct OpenedImage<S: BlockSource> {
+    /// Where the blocks of forks are read from.
+    source: S,
+    /// How many bytes the image has.
+    len: u64,
+    volume: NeededVolume,
+}
+
+impl<S: BlockSource> Model for OpenedImage<S> {
+    ghost use Rattle.std.specs.Prelude.{◌/◌};
+    ghost use Rattle.hfs_needed.specs.Opened.{IsOpenedOf};
+    ghost use Rattle.hfs_needed.specs.OpenedValues.{OpenedValue, opened_value};
+
+    ghost Value = { OpenedValue };
+
+    ghost view = { λ o. opened_value (S.image o.source) o.len };
+
+    ghost invariant = { λ o. IsOpenedOf (S.image o.source) (o.len / 512) o.volume };
+}
+
+impl<S: BlockSource + Drop> OpenedImage<S> {
+    /// Reads the needed blocks of an image of `len` bytes, and makes all checks. Errors: a read failed, memory was refused, or the image
+    /// is refused.
+    pub fn open(alloc: Global, source: S, len: u64) -> Result<OpenedImage<S>, NeededFault>
+        ensures image { IfOk result (λ image. image ≡ opened_value (S.image source) len) }
+        ensures refused { IfErr result (λ fault. IsRefusedFor (S.image source) len fault) }
+    {
+        let mut source = source;
+        let volume = open_needed(alloc, &mut source, len)?;
+        Ok(OpenedImage {
+            source,
+            len,
+            volume,
+        })
+    }
+
+    /// The reply to List of a folder, with has_id false in each item. Nothing is read. Error: memory was refused.
+    pub fn list(&self, alloc: Global, dir: u32) -> Result<Reply, AllocError>
+        ensures { IfOk result (IsBriefList self.now.known self.now.len dir) }
+    {
+        catalog_answers();
+        gathered_is_enough();
+        no_blocks_fault();
+        let volume = &self.volume;
+        list_in_brief(alloc, &volume.read, volume.count, &volume.sound.trees, dir)
+    }
+
+    /// All records of the catalog, in the order of its leaves: those of the items, and of their threads. Nothing is read. Error: memory was
+    /// refused.
+    pub fn records(&self, alloc: Global) -> Result<Vec<CatalogRecord>, AllocError>
+        ensures { IfOk result (HoldsCatalog self.now.known self.now.len) }
+    {
+        catalog_answers();
+        gathered_is_enough();
+        no_blocks_fault();
+        let volume = &self.volume;
+        catalog_records(alloc, &volume.read, volume.count, &volume.sound.trees)
+    }
+
+    /// The bytes of a file's fork, whose own blocks alone are read; or what a call that reads the fork answers where there is none: -37,
+    /// -120 or -43. Errors: a read failed, memory was refused.
+    pub fn fork(
+        &mut self,
+        alloc: Global,
+        dir: u32,
+        name: &[u8],
+        fork: Fork,
+    ) -> Result<Result<Vec<u8>, Reply>, SparseFault>
+        ensures bytes { IfOk result
+            (FindsForkNamed self.old.known self.old.len dir name.now fork) }
+        ensures unread { IfOk result
+            (RefusesForkNamed self.old.known self.old.len dir name.now fork) }
+        ensures kept { self.new ≡ self.old }
+    {
+        opened_fork(alloc, &mut self.source, &self.volume, dir, name, fork)
+    }
+}

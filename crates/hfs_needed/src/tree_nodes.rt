@@ -1,0 +1,252 @@
+//! Reading the nodes of a tree that decide: its header node, its map nodes, and the nodes that its map marks.
+ghost use Rattle.std.specs.Prelude.{◌≡◌, ◌*◌, ◌<◌, ◌≤◌, true, [], length, slice_index_or, OnOk, IfOk};
+ghost use Rattle.std.specs.List.{flat_map};
+ghost use Rattle.std.specs.Vec.{vec_len};
+ghost use Rattle.hfs_blocks.specs.Blocks.{run_of, AreRunsWithin};
+ghost use Rattle.hfs_btree.specs.Tree.{node_in};
+ghost use Rattle.hfs_btree.specs.Header.{header_in, bit_of};
+ghost use Rattle.hfs_btree_checks.specs.Shape.{is_map_value};
+ghost use Rattle.hfs_needed.specs.Marked.{needed_of_tree};
+ghost use Rattle.hfs_needed.specs.TreeReads.{nodes_of, HasNode, ReadsRuns, IsHeadOf, FindsHead, FindsMapNode, HasChain, TellsChain, FindsMap, HasMapChain, HasMarked};
+ghost use Rattle.hfs_sparse.specs.Sparse.{HasEach};
+
+use crate::tree_header::{TreeHead, read_head};
+use hfs_blocks::{Patch, Run, block_of};
+use hfs_btree::{Key, bit_at};
+use hfs_node::{NodeKind, NodeView, view};
+use hfs_sparse::{BlockSource, SparseFault, fetch};
+use std::alloc::Global;
+
+/// Reads node `n` of a tree's file, unless it was read before, and copies it.
+fn fetch_node<S: BlockSource>(
+    source: &mut S,
+    read: &mut Patch,
+    runs: &[Run],
+    n: u32,
+    into: &mut [u8; 512],
+) -> Result<(), SparseFault>
+    requires within { n < length (flat_map run_of runs.now) }
+    requires small { AreRunsWithin runs.now 4294967296 }
+    ensures node { OnOk result (into.new ≡ slice_index_or (nodes_of read.new runs.now) n []) }
+    ensures has { OnOk result (HasNode read.new runs.now n) }
+    ensures reads { ReadsRuns (S.image source.old) runs.now read.old read.new }
+    ensures image { S.image source.new ≡ S.image source.old }
+{
+    let place = block_of(runs, n);
+    fetch(source, read, place)?;
+    let Some(block) = read.get(place) else {
+        unreachable!();
+    };
+    *into = *block;
+    Ok(())
+}
+
+/// Reads node 0, and what it tells of the tree's map. None exactly where it isn't the header node of a tree with these keys in a file
+/// of `size` bytes.
+fn fetch_head<K: Key, S: BlockSource>(
+    alloc: Global,
+    source: &mut S,
+    read: &mut Patch,
+    runs: &[Run],
+    size: u32,
+) -> Result<Option<TreeHead>, SparseFault>
+    requires within { 0 < length (flat_map run_of runs.now) }
+    requires small { AreRunsWithin runs.now 4294967296 }
+    ensures found { IfOk result (FindsHead K.Key size (node_in (nodes_of read.new runs.now) 0)) }
+    ensures has { OnOk result (HasNode read.new runs.now 0) }
+    ensures reads { ReadsRuns (S.image source.old) runs.now read.old read.new }
+    ensures image { S.image source.new ≡ S.image source.old }
+{
+    let mut block = [0; 512];
+    fetch_node(source, read, runs, 0, &mut block)?;
+    match read_head::<K>(alloc, &block, size) {
+        Ok(head) => Ok(head),
+        Err(_) => Err(SparseFault::Memory),
+    }
+}
+
+/// Whether a node is a map node with a record.
+fn is_map(node: &NodeView) -> bool
+    ensures { result ≡ is_map_value node.now }
+{
+    match node.kind() {
+        NodeKind::Map => !node.is_empty(),
+        NodeKind::Index | NodeKind::Header | NodeKind::Leaf => false,
+    }
+}
+
+/// Reads node `n`. Where it is a map node, its part of the node map is added to `map`, and the node behind it, or 0, is the answer. None
+/// where it is no map node.
+fn fetch_map_node<S: BlockSource>(
+    source: &mut S,
+    read: &mut Patch,
+    runs: &[Run],
+    n: u32,
+    map: &mut Vec<u8>,
+) -> Result<Option<u32>, SparseFault>
+    requires within { n < length (flat_map run_of runs.now) }
+    requires small { AreRunsWithin runs.now 4294967296 }
+    ensures found { IfOk result
+        (FindsMapNode (nodes_of read.new runs.now) n map.old.items map.new.items) }
+    ensures has { OnOk result (HasNode read.new runs.now n) }
+    ensures reads { ReadsRuns (S.image source.old) runs.now read.old read.new }
+    ensures image { S.image source.new ≡ S.image source.old }
+{
+    let mut block = [0; 512];
+    fetch_node(source, read, runs, n, &mut block)?;
+    let Ok(node) = view(&block) else {
+        return Ok(None);
+    };
+    if !is_map(&node) {
+        return Ok(None);
+    }
+    let Ok(()) = map.extend_from_slice(node.record(0)) else {
+        return Err(SparseFault::Memory);
+    };
+    Ok(Some(node.forward()))
+}
+
+/// Reads the chain of map nodes from node `first` on, 0 where there is none, of a tree of `count` nodes, as far as it is one: up to the
+/// first that is no map node, none of the tree's, or was met before. Marks each as met, and adds their parts of the node map to `map`.
+/// Whether the chain is one.
+fn fetch_chain<S: BlockSource>(
+    source: &mut S,
+    read: &mut Patch,
+    runs: &[Run],
+    count: u32,
+    first: u32,
+    met: &mut Vec<bool>,
+    map: &mut Vec<u8>,
+) -> Result<bool, SparseFault>
+    requires counted { count ≡ (header_in (nodes_of read.old runs.now)).nodes }
+    requires head { HasNode read.old runs.now 0 }
+    requires within { count ≤ length (flat_map run_of runs.now) }
+    requires small { AreRunsWithin runs.now 4294967296 }
+    requires marks { vec_len met.old ≡ count }
+    ensures has { OnOk result (HasChain read.new runs.now count first met.old.items) }
+    ensures whole { IfOk result
+        (TellsChain (nodes_of read.new runs.now) count first met.old map.old map.new) }
+    ensures reads { ReadsRuns (S.image source.old) runs.now read.old read.new }
+    ensures image { S.image source.new ≡ S.image source.old }
+{
+    let mut n = first;
+    let mut most = count;
+    while most > 0 {
+        if n == 0 {
+            return Ok(true);
+        }
+        if n >= count || met[n as usize] {
+            return Ok(false);
+        }
+        most -= 1;
+        let Some(next) = fetch_map_node(source, read, runs, n, map)? else {
+            return Ok(false);
+        };
+        met[n as usize] = true;
+        n = next;
+    }
+    Ok(true)
+}
+
+/// Reads the map nodes of a tree whose header node tells this, as far as they are a chain. The node map; None only where it is wrong.
+fn fetch_map<S: BlockSource>(
+    alloc: Global,
+    source: &mut S,
+    read: &mut Patch,
+    runs: &[Run],
+    head: TreeHead,
+) -> Result<Option<Vec<u8>>, SparseFault>
+    requires head { IsHeadOf (node_in (nodes_of read.old runs.now) 0) head }
+    requires has { HasNode read.old runs.now 0 }
+    requires within { head.nodes ≤ length (flat_map run_of runs.now) }
+    requires small { AreRunsWithin runs.now 4294967296 }
+    ensures has { OnOk result (HasMapChain read.new runs.now) }
+    ensures found { IfOk result (FindsMap (nodes_of read.new runs.now) head.nodes) }
+    ensures reads { ReadsRuns (S.image source.old) runs.now read.old read.new }
+    ensures image { S.image source.new ≡ S.image source.old }
+{
+    let TreeHead {
+        nodes,
+        first,
+        mut map,
+    } = head;
+    let Ok(mut met) = vec![in alloc; false; nodes as usize] else {
+        return Err(SparseFault::Memory);
+    };
+    if !fetch_chain(source, read, runs, nodes, first, &mut met, &mut map)? {
+        return Ok(None);
+    }
+    if (nodes as usize).div_ceil(8) > map.len() {
+        return Ok(None);
+    }
+    Ok(Some(map))
+}
+
+/// Reads node `n`, if the map marks it.
+fn fetch_if_marked<S: BlockSource>(
+    source: &mut S,
+    read: &mut Patch,
+    runs: &[Run],
+    map: &[u8],
+    n: u32,
+) -> Result<(), SparseFault>
+    requires bit { n < 8 * length map.now }
+    requires within { n < length (flat_map run_of runs.now) }
+    requires small { AreRunsWithin runs.now 4294967296 }
+    ensures has { OnOk result (bit_of map.now n ≡ true → HasNode read.new runs.now n) }
+    ensures reads { ReadsRuns (S.image source.old) runs.now read.old read.new }
+    ensures image { S.image source.new ≡ S.image source.old }
+{
+    if !bit_at(map, n as usize) {
+        return Ok(());
+    }
+    fetch(source, read, block_of(runs, n))
+}
+
+/// Reads those of the first `count` nodes that the map marks.
+fn fetch_marked<S: BlockSource>(
+    source: &mut S,
+    read: &mut Patch,
+    runs: &[Run],
+    map: &[u8],
+    count: u32,
+) -> Result<(), SparseFault>
+    requires bits { count ≤ 8 * length map.now }
+    requires within { count ≤ length (flat_map run_of runs.now) }
+    requires small { AreRunsWithin runs.now 4294967296 }
+    ensures has { OnOk result (HasMarked read.new runs.now map.now count) }
+    ensures reads { ReadsRuns (S.image source.old) runs.now read.old read.new }
+    ensures image { S.image source.new ≡ S.image source.old }
+{
+    for n in 0..count {
+        fetch_if_marked(source, read, runs, map, n)?;
+    }
+    Ok(())
+}
+
+/// Reads what decides of a tree with these keys whose file has `size` bytes and lies in these runs: its header node, where that is right
+/// its map nodes, and where the map can be right the nodes that it marks.
+pub(crate) fn gather_tree<K: Key, S: BlockSource>(
+    alloc: Global,
+    source: &mut S,
+    read: &mut Patch,
+    runs: &[Run],
+    size: u32,
+) -> Result<(), SparseFault>
+    requires some { 512 ≤ size }
+    requires within { size ≤ 512 * length (flat_map run_of runs.now) }
+    requires small { AreRunsWithin runs.now 4294967296 }
+    ensures has { OnOk result (HasEach read.new
+        (needed_of_tree K.Key size (nodes_of read.new runs.now) (flat_map run_of runs.now))) }
+    ensures reads { ReadsRuns (S.image source.old) runs.now read.old read.new }
+    ensures image { S.image source.new ≡ S.image source.old }
+{
+    let Some(head) = fetch_head::<K, S>(alloc, source, read, runs, size)? else {
+        return Ok(());
+    };
+    let count = head.nodes;
+    let Some(map) = fetch_map(alloc, source, read, runs, head)? else {
+        return Ok(());
+    };
+    fetch_marked(source, read, runs, &map, count)
+}
