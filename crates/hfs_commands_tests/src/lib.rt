@@ -15,14 +15,15 @@ mod info;
 mod loading;
 #[cfg(test)]
 mod needed;
+#[cfg(test)]
 mod opened;
+#[cfg(test)]
+mod saving;
 #[cfg(test)]
 mod sources;
 #[cfg(test)]
 mod texts;
 #[cfg(test)]
 mod told;
-#[cfg(test)]
-mod saving;
 #[cfg(test)]
 mod volumes;
