@@ -4,7 +4,7 @@ its free nodes again. And makes a folder with as many children as a folder may h
 compiler builds it, beside hfs_plain; the image is saved and mounted again when it is full, and when it is empty. What it prints
 last is how many calls there were, or what differs.
 
-tests/full_catalogs.py [--most NODES] [--kept FOLDER]
+tests/full_catalogs.py [--most NODES] [--whole] [--kept FOLDER]
 """
 import argparse
 import sys
@@ -27,6 +27,8 @@ ORDERS: dict[str, tuple[Callable[[int], int], bool]] = {
     'drawn, and turned round': (lambda turn: turn * 24_001 % 65_537, True),
 }
 DRAWN = ORDERS['drawn'][0]
+# How many nodes the catalogs have that are filled in each order.
+NARROW = 20
 # The most children of a folder, and the ID of the folder that has them.
 MOST, CROWD = 65_535, 16
 # The block where the catalog of the wide volume begins, behind the boot blocks, the master directory block, 16 blocks of the
@@ -74,13 +76,19 @@ def fill_and_empty(disk: Disk, nodes: int, word: str, order: str) -> int:
     return count
 
 
-def fill_all(bench: Bench, most: int) -> None:
-    """Fills and empties each catalog, with files and with folders in each order."""
+def orders_of(nodes: int, is_whole: bool) -> list[str]:
+    """The orders in which a catalog is filled: all, or of a wide one two, others than those of the next wider one."""
+    orders = list(ORDERS)
+    return orders if is_whole or nodes <= NARROW else orders[nodes % 2::2]
+
+
+def fill_all(bench: Bench, most: int, is_whole: bool) -> None:
+    """Fills and empties each catalog, with files and with folders."""
     items = 0
     for nodes in range(2, most + 1):
         new = Disk(bench, bench.new_volume(128, nodes, 1))
         for word in ('create', 'mkdir'):
-            for order in ORDERS:
+            for order in orders_of(nodes, is_whole):
                 items += fill_and_empty(copy(new), nodes, word, order)
                 bench.counts.lists += 1
     print(f'catalogs of 2 to {most} nodes filled with files, and with folders, and emptied: {items} items', flush=True)
@@ -121,33 +129,25 @@ def ensure_items(state: State, wanted: list[tuple[str, str, str]]) -> None:
 
 
 def ensure_crowded(disk: Disk) -> None:
-    """Nothing comes into the folder any more, and what is in it can be renamed."""
+    """Nothing comes into the folder any more, and what is in it can be renamed. One of the children goes, and another item comes for
+    it; so the folder is full again. Then that goes."""
     first, following = name_of(DRAWN(0)), name_of(DRAWN(MOST))
-    calls = {
-        Call.of('dirinfo', CROWD): f'0\tinfo d {CROWD} 2 1 1 0 0 0 {MOST} 0 {ZEROS} crowd',
-        Call.of('create', CROWD, following): '-33\t-',
-        Call.of('mkdir', CROWD, following): '-33\t-',
-        Call.of('create', CROWD, first): '-48\t-',
-        Call.of('move', 2, 'other', CROWD): '-33\t-',
-        Call.of('rename', CROWD, first, following): '0\t-',
-        Call.of('rename', CROWD, following, first): '0\t-',
-    }
-    answers = disk.make(list(calls), 1)
-    for answer, (call, told) in zip(answers, calls.items()):
-        ensure(answer.told == told, f'{call} is answered {answer.told!r}')
-
-
-def change_one(disk: Disk) -> None:
-    """One of the children goes, and another item comes for it; so the folder is full again. Then that goes."""
-    first, following = name_of(DRAWN(0)), name_of(DRAWN(MOST))
-    calls = {
-        Call.of('delete', CROWD, first): '0\t-',
-        Call.of('move', 2, 'other', CROWD): '0\t-',
-        Call.of('create', CROWD, following): '-33\t-',
-        Call.of('delete', CROWD, 'other'): '0\t-',
-    }
-    answers = disk.make(list(calls), 1)
-    ensure([it.told for it in answers] == list(calls.values()), 'a child is exchanged otherwise')
+    calls = [
+        (Call.of('dirinfo', CROWD), f'0\tinfo d {CROWD} 2 1 1 0 0 0 {MOST} 0 {ZEROS} crowd'),
+        (Call.of('create', CROWD, following), '-33\t-'),
+        (Call.of('mkdir', CROWD, following), '-33\t-'),
+        (Call.of('create', CROWD, first), '-48\t-'),
+        (Call.of('move', 2, 'other', CROWD), '-33\t-'),
+        (Call.of('rename', CROWD, first, following), '0\t-'),
+        (Call.of('rename', CROWD, following, first), '0\t-'),
+        (Call.of('delete', CROWD, first), '0\t-'),
+        (Call.of('move', 2, 'other', CROWD), '0\t-'),
+        (Call.of('create', CROWD, following), '-33\t-'),
+        (Call.of('delete', CROWD, 'other'), '0\t-'),
+    ]
+    answers = disk.make([call for call, _ in calls], 1)
+    for answer, (call, told) in zip(answers, calls):
+        ensure(answer.told == told, f'{call} is answered {answer.told!r}, wanted {told!r}')
 
 
 def crowd_folder(bench: Bench) -> None:
@@ -162,7 +162,6 @@ def crowd_folder(bench: Bench) -> None:
     children = [item_line(CROWD + 2 + turn, CROWD, name) for turn, name in enumerate(names)]
     ensure_items(disk.state, [item_line(2, 1, 'D'), item_line(CROWD, 2, 'crowd'), item_line(CROWD + 1, 2, 'other'), *children])
     ensure_crowded(disk)
-    change_one(disk)
     calls = [*(Call.of('delete', CROWD, name) for name in names[1:]), Call.of('delete', 2, 'crowd')]
     answers = disk.make(calls, 1, beside_plain=False)
     ensure(all(it.told == '0\t-' for it in answers), 'a child is not deleted')
@@ -175,11 +174,12 @@ def crowd_folder(bench: Bench) -> None:
 def main() -> None:
     words = argparse.ArgumentParser(description='Fills catalogs and a folder.')
     words.add_argument('--most', type=int, default=60, help='how many nodes the widest of the filled catalogs has')
+    words.add_argument('--whole', action='store_true', help='fill wide catalogs in each of the four orders, too, and not in two')
     words.add_argument('--kept', type=Path, default=Path('full_catalogs.kept'), help='where the files of what differs are kept')
     given = words.parse_args()
     started = time.monotonic()
     with opened_bench(found_programs(), given.kept) as bench:
-        fill_all(bench, given.most)
+        fill_all(bench, given.most, given.whole)
         crowd_folder(bench)
         finished('full catalogs', bench, started)
 
