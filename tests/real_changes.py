@@ -87,7 +87,9 @@ def set_info(item: Item, to: Item) -> Call:
 
 def setting_steps(item: Item) -> Iterator[tuple[Call, str, Item]]:
     """The calls that set an item, what each is answered, and what the item is told as behind it."""
-    call = lambda word, *fields: Call.of(word, item.parent, item.name, *fields)
+    def call(word: str, *fields) -> Call:
+        return Call.of(word, item.parent, item.name, *fields)
+
     final = settings_of(item)
     if item.is_folder:
         yield call('setfinfo', '07' * 16), refused(-43), item
@@ -300,6 +302,11 @@ def about(item: Item, home: int) -> Iterator[Question]:
     yield Call.of('move', home, name, dir), DONE
 
 
+def undated(items: list[Item]) -> list[Item]:
+    """Items without the date of change of folders."""
+    return [replace(it, modified=0) if it.is_folder else it for it in items]
+
+
 def move_about(bench: Bench, content: bytes) -> int:
     """Renames and moves each item of a volume and back again; how many there are. A locked file is not renamed."""
     catalog = Catalog(content)
@@ -310,7 +317,6 @@ def move_about(bench: Bench, content: bytes) -> int:
     free = [it for it in items if not it.is_locked]
     make_all(disk, [asked for item in free for asked in about(item, home)], 150)
     make_all(disk, [(Call.of('delete', ROOT, HOME), DONE)])
-    undated = lambda given: [replace(it, modified=0) if it.is_folder else it for it in given]
     ensure(undated(items_of(disk.image.content)) == undated(items), 'other items are behind it')
     after = Catalog(disk.image.content)
     for file in catalog.files:
