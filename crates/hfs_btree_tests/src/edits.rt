@@ -12,7 +12,7 @@ use hfs_btree::{Nodes, find, free_nodes};
 use hfs_btree_checks::check_tree;
 use hfs_btree_edits::{NodesMut, PatchNodes, claim_node, release, replace};
 use hfs_fields::ExtKey;
-use hfs_node_tables::NodeTable;
+use hfs_fixtures::NodeTable;
 use std::alloc::{AllocError, Global};
 use std::test::Fail;
 

@@ -5,7 +5,7 @@ use hfs_btree::{Nodes, depth, find, free_nodes};
 use hfs_btree_checks::check_tree;
 use hfs_btree_removal::remove;
 use hfs_fields::ExtKey;
-use hfs_node_tables::{NodeTable, is_exact};
+use hfs_fixtures::{NodeTable, is_exact};
 use std::alloc::{AllocError, Global};
 use std::process::Abort;
 use std::test::Fail;

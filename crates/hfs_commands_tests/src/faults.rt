@@ -1,5 +1,4 @@
 //! Texts and exit statuses of faults, each written by hand.
-use hfs_check::MountFault;
 use hfs_commands::Fault;
 use std::alloc::{AllocError, Global};
 use std::test::Fail;
@@ -8,40 +7,6 @@ use std::test::Fail;
 fn is_told(alloc: Global, fault: Fault<'_>, text: &str, status: u8) -> Result<bool, AllocError> {
     let told = format!(in alloc; "{fault}")?;
     Ok(told.as_str() == text && fault.status().number() == status)
-}
-
-#[test]
-fn faults_of_images_are_told(rt: HostRuntime) -> Result<(), Fail> {
-    let check = MountFault::Check {
-        number: 10,
-        place: 3,
-    };
-    for (why, text) in [
-        (MountFault::Short, "image too short"),
-        (MountFault::TooLarge, "image too large"),
-        (MountFault::NoMacDisk, "not an HFS volume (-57)"),
-        (MountFault::BadMdb(4), "bad master directory block M4 (-60)"),
-        (check, "check C10 at 3"),
-    ] {
-        assert!(rt;
-            is_told(rt.alloc(), Fault::of_mount(why), text, 2)?,
-            "{text}"
-        );
-    }
-    Ok(())
-}
-
-#[test]
-fn faults_of_plans_are_told(rt: HostRuntime) -> Result<(), Fail> {
-    for (fault, text) in [
-        (Fault::BadName, "bad name"),
-        (Fault::BadSize, "bad size"),
-        (Fault::BadNodeCount, "bad node count"),
-        (Fault::NoRoom, "no room"),
-    ] {
-        assert!(rt; is_told(rt.alloc(), fault, text, 2)?, "{text}");
-    }
-    Ok(())
 }
 
 #[test]

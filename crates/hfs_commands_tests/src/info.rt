@@ -1,7 +1,5 @@
-//! The lines of a master directory block.
-use crate::devices::{End, FailingReader, FailingWriter, KeepingWriter, SlowReader};
-use crate::headers;
-use crate::headers::Sample;
+//! The lines of a master directory block, and readers and writers that fail.
+use crate::devices::{End, FailingReader, KeepingWriter, SlowReader};
 use hfs_commands::{InfoFault, run_info};
 use std::alloc::{AllocError, Global};
 use std::io::{Read, Write};
@@ -26,17 +24,6 @@ const FIELDS: [u8; 162] = [
 fn head_of(fields: &[u8; 162]) -> [u8; 1536] {
     let mut head = [0; 1536];
     head[1024..1186].copy_from_slice(fields);
-    head
-}
-
-/// The head of an image that another program made.
-pub fn head_of_sample(sample: &Sample) -> [u8; 1536] {
-    let mut head = [0; 1536];
-    for (start, bytes) in sample.runs {
-        for (cell, byte) in head.iter_mut().skip(*start).zip(bytes.iter()) {
-            *cell = *byte;
-        }
-    }
     head
 }
 
@@ -70,87 +57,6 @@ fn printed(alloc: Global, mut image: &[u8]) -> (Vec<u8>, Ending) {
     (output, ending)
 }
 
-/// Whether an image is printed as this text.
-fn is_printed(alloc: Global, image: &[u8], text: &str) -> bool {
-    let (output, ending) = printed(alloc, image);
-    ending == Ending::Done && output.as_slice() == text.as_bytes()
-}
-
-/// Whether nothing is printed of an image, and that ends so.
-fn is_refused(alloc: Global, image: &[u8], wanted: Ending) -> bool {
-    let (output, ending) = printed(alloc, image);
-    ending == wanted && output.is_empty()
-}
-
-/// Lines as one text.
-fn text_of(alloc: Global, lines: &[&str]) -> Result<String, AllocError> {
-    let mut text = String::new(alloc);
-    for line in lines {
-        text.push_str(line)?;
-        text.push('\n')?;
-    }
-    Ok(text)
-}
-
-/// Whether the head of an image that another program made is printed as its lines, or is refused where it has none.
-fn is_sample_printed(alloc: Global, sample: &Sample) -> Result<bool, AllocError> {
-    let head = head_of_sample(sample);
-    match sample.lines {
-        None => Ok(is_refused(alloc, &head, Ending::NoMacDisk)),
-        Some(lines) => Ok(is_printed(alloc, &head, text_of(alloc, lines)?.as_str())),
-    }
-}
-
-#[test]
-fn volumes_of_other_programs_are_printed(rt: HostRuntime) -> Result<(), Fail> {
-    for sample in [
-        headers::FLOPPY,
-        headers::FRAGMENTED,
-        headers::LOCKED,
-        headers::MANY,
-        headers::MKFS,
-        headers::WRAPPER,
-        headers::NOT_HFS,
-    ] {
-        assert!(rt; is_sample_printed(rt.alloc(), &sample)?, "{}", sample.name);
-    }
-    Ok(())
-}
-
-/// The line of the volume's name in a text.
-fn name_line(text: &str) -> Option<&str> {
-    text.lines().find(|line| line.starts_with("drVN"))
-}
-
-/// Whether a volume of these fields is printed with this line of its name.
-fn has_name_line(alloc: Global, fields: &[u8; 162], line: &str) -> bool {
-    let (output, ending) = printed(alloc, &head_of(fields));
-    match str::from_utf8(output.as_slice()) {
-        Ok(text) => ending == Ending::Done && name_line(text) == Some(line),
-        Err(_) => false,
-    }
-}
-
-/// The line of a name that is followed by 20 zeros.
-const PADDED: &str =
-    "drVN Archive\\00\\00\\00\\00\\00\\00\\00\\00\\00\\00\\00\\00\\00\\00\\00\\00\\00\\00\\00\\00";
-
-#[test]
-fn names_are_escaped(rt: HostRuntime) {
-    let mut fields = FIELDS;
-    fields[36..40].copy_from_slice(&[0x03, 0x41, 0x0d, 0x5c]);
-    assert!(rt; has_name_line(rt.alloc(), &fields, "drVN A\\0d\\5c"));
-    fields = FIELDS;
-    fields[36] = 0xff;
-    assert!(rt; has_name_line(rt.alloc(), &fields, PADDED));
-}
-
-#[test]
-fn other_images_are_refused(rt: HostRuntime) {
-    assert!(rt; is_refused(rt.alloc(), &[0; 1535], Ending::Short));
-    assert!(rt; is_refused(rt.alloc(), &[0; 1536], Ending::NoMacDisk));
-}
-
 /// Whether nothing is printed where a reader fails after so many bytes.
 fn is_unread(alloc: Global, left: usize) -> bool {
     let mut output = Vec::new(alloc);
@@ -163,14 +69,6 @@ fn failed_reads_are_told(rt: HostRuntime) {
     for left in 0..1536 {
         assert!(rt; is_unread(rt.alloc(), left), "after {left}");
     }
-}
-
-#[test]
-fn failed_writes_are_told(rt: HostRuntime) {
-    let head = head_of(&FIELDS);
-    let mut image: &[u8] = &head;
-    let ending = ending_of(rt.alloc(), &mut image, &mut FailingWriter { left: 100 });
-    assert!(rt; ending == Ending::WriteFailed);
 }
 
 /// The head of an image with 100 bytes behind it.

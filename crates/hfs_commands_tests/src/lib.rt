@@ -1,5 +1,6 @@
-//! Tests of what the program prints: of volumes that were laid by hand, of volumes of other programs, and of devices that
-//! fail.
+//! Tests of the program's words with devices that fail, and of images whose reads fail; of texts
+//! that no run of the program shows; and of the text of scripts. What the words print,
+//! `tests/images.py` and `tests/program.sh` show.
 #![tactic(auto)]
 
 #[cfg(test)]
@@ -7,7 +8,7 @@ mod devices;
 #[cfg(test)]
 mod faults;
 #[cfg(test)]
-mod headers;
+mod gathered;
 #[cfg(test)]
 mod info;
 #[cfg(test)]
@@ -15,6 +16,10 @@ mod loading;
 #[cfg(test)]
 mod needed;
 #[cfg(test)]
-mod replies;
+mod sources;
+#[cfg(test)]
+mod texts;
+#[cfg(test)]
+mod told;
 #[cfg(test)]
 mod volumes;

@@ -1,12 +1,8 @@
-//! Images by reader and by path.
+//! Inputs by reader.
 use crate::devices::{EndlessReader, FailingReader, SlowReader};
-use crate::headers;
-use crate::info::head_of_sample;
-use hfs_commands::{Fault, LoadFault, load, load_file, load_within, run_info, write_file};
+use hfs_commands::{LoadFault, load, load_within};
 use std::alloc::{AllocError, Global};
-use std::fs::{File, remove_file};
 use std::io::Read;
-use std::rt::Files;
 use std::test::Fail;
 
 /// Whether so many bytes are loaded.
@@ -110,50 +106,4 @@ fn failed_loads_within_a_limit_are_told(rt: HostRuntime) {
     }
     let loaded = load_within(rt.alloc(), &mut FailingReader { left: 4_097 }, 4_096);
     assert!(rt; matches!(loaded, Err(LoadFault::TooLarge)));
-}
-
-/// Whether a file has these bytes.
-fn has_bytes(rt: &(impl Files + AllocGlobal), path: &str, bytes: &[u8]) -> bool {
-    match load_file(rt, path) {
-        Ok(loaded) => loaded.as_slice() == bytes,
-        Err(_fault) => false,
-    }
-}
-
-/// Whether a file can't be loaded.
-fn is_unread(rt: &(impl Files + AllocGlobal), path: &str) -> bool {
-    let loaded = load_file(rt, path);
-    matches!(&loaded, Err(Fault::CannotRead(file)) if *file == path)
-}
-
-/// Whether no file can be written there.
-fn is_unwritten(rt: &impl Files, path: &str, bytes: &[u8]) -> bool {
-    let written = write_file(rt, path, bytes);
-    matches!(&written, Err(Fault::CannotWrite(file)) if *file == path)
-}
-
-/// Prints the lines of a file.
-fn lines_of(rt: &(impl Files + AllocGlobal), path: &str) -> Result<Vec<u8>, Fail> {
-    let mut output = Vec::new(rt.alloc());
-    let mut file = File::open(rt, path)?;
-    run_info(rt.alloc(), &mut file, &mut output)?;
-    Ok(output)
-}
-
-#[test]
-fn files_are_read_and_written(rt: HostRuntime) -> Result<(), Fail> {
-    let head = head_of_sample(&headers::LOCKED);
-    assert!(rt; write_file(&rt, "locked.img", &head).is_ok());
-    assert!(rt; has_bytes(&rt, "locked.img", &head));
-    let lines = lines_of(&rt, "locked.img")?;
-    assert!(rt; lines.starts_with(b"drSigWord 4244\ndrCrDate 2846482013\n"));
-    remove_file(&rt, "locked.img")?;
-    Ok(())
-}
-
-#[test]
-fn other_paths_are_refused(rt: HostRuntime) {
-    assert!(rt; is_unread(&rt, "missing.img") && is_unread(&rt, "."));
-    let head = head_of_sample(&headers::LOCKED);
-    assert!(rt; is_unwritten(&rt, "no/folder.img", &head));
 }

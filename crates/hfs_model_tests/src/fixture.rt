@@ -114,58 +114,6 @@ pub fn call_of(alloc: Global, ask: &Ask, now: u32) -> Result<Call, AllocError> {
     })
 }
 
-/// The code of a call at that moment, and the ID that it answers, 0 where there is none.
-pub fn answer_of(
-    plain: &mut PlainVolume,
-    alloc: Global,
-    ask: &Ask,
-    now: u32,
-) -> Result<(i16, u32), AllocError> {
-    let call = call_of(alloc, ask, now)?;
-    made(plain, &call)
-}
-
-/// Makes a call: its code and the ID that it answers, 0 where there is none.
-fn made(plain: &mut PlainVolume, call: &Call) -> Result<(i16, u32), AllocError> {
-    let reply = plain.call(call)?;
-    Ok((reply.code, id_of(&reply)))
-}
-
-/// Makes the calls at that moment, and wants the code of each.
-pub fn expect_codes(
-    rt: &impl Abort,
-    alloc: Global,
-    plain: &mut PlainVolume,
-    now: u32,
-    rows: &[(Ask, i16)],
-) -> Result<(), Fail> {
-    for (row, (ask, code)) in rows.iter().enumerate() {
-        let (found, _) = answer_of(plain, alloc, ask, now)?;
-        assert!(rt; found == *code, "row {row}");
-    }
-    Ok(())
-}
-
-/// Makes the calls at moment 0, and wants the ID that each answers.
-pub fn expect_ids(
-    rt: &impl Abort,
-    alloc: Global,
-    plain: &mut PlainVolume,
-    rows: &[(Ask, u32)],
-) -> Result<(), Fail> {
-    for (row, (ask, id)) in rows.iter().enumerate() {
-        let (code, found) = answer_of(plain, alloc, ask, 0)?;
-        assert!(rt; code == 0 && found == *id, "row {row}");
-    }
-    Ok(())
-}
-
-/// Makes the calls at moment 0 on a new volume, and wants the code of each.
-pub fn expect_story(rt: &impl Abort, alloc: Global, rows: &[(Ask, i16)]) -> Result<(), Fail> {
-    let mut plain = volume(alloc)?;
-    expect_codes(rt, alloc, &mut plain, 0, rows)
-}
-
 /// A new volume named `D`, made at moment 0.
 pub fn volume(alloc: Global) -> Result<PlainVolume, AllocError> {
     match Name::new(b"D") {
@@ -190,46 +138,9 @@ pub fn id_of(reply: &Reply) -> u32 {
     }
 }
 
-/// Makes an empty file at that moment; its ID, 0 where it is refused.
-pub fn create(plain: &mut PlainVolume, dir: u32, name: &[u8], now: u32) -> Result<u32, AllocError> {
-    let reply = plain.create(dir, name, now)?;
-    Ok(id_of(&reply))
-}
-
-/// What is told of a folder.
-pub fn folder(plain: &PlainVolume, dir: u32) -> Option<Info> {
-    info_of(&plain.get_dir_info(dir))
-}
-
-/// Whether a folder was last changed at that moment.
-pub fn is_modified(plain: &PlainVolume, dir: u32, moment: u32) -> bool {
-    match folder(plain, dir) {
-        Some(info) => info.modified == moment,
-        None => false,
-    }
-}
-
 /// What is told of an item of the root.
 pub fn root_item(plain: &PlainVolume, name: &[u8]) -> Option<Info> {
     info_of(&plain.get_cat_info(2, name))
-}
-
-/// What is told of the root's child at that place, counted from 1.
-pub fn indexed(plain: &PlainVolume, index: u32) -> Result<Option<Info>, AllocError> {
-    let reply = plain.get_indexed(2, index)?;
-    Ok(info_of(&reply))
-}
-
-/// Wants the root to have children of these names, in order.
-pub fn expect_children(rt: &impl Abort, plain: &PlainVolume, names: &[&[u8]]) -> Result<(), Fail> {
-    assert!(rt; are_children(plain, names)?);
-    Ok(())
-}
-
-/// Whether the root has children of these names, in order.
-fn are_children(plain: &PlainVolume, names: &[&[u8]]) -> Result<bool, AllocError> {
-    let reply = plain.list(2)?;
-    Ok(are_told(&reply, names))
 }
 
 /// Whether a reply is a list of items with these names, in order.
@@ -264,11 +175,6 @@ fn item_of_root(name: Name, kind: Kind) -> Item {
         finder: [0; 32],
         kind,
     }
-}
-
-/// A folder in the root.
-pub fn folder_item(name: Name) -> Item {
-    item_of_root(name, Kind::Folder { kept: [0; 70] })
 }
 
 /// A file in the root with these bytes in its data fork.

@@ -1,14 +1,10 @@
-//! Tests of the File Manager's definitions, run on the plain program that computes them.
+//! Tests of names, of the free nodes that calls need, and of what the plain program alone can be
+//! asked for. Each code of each call, and worked lists of calls, stand as text in
+//! `tests/volumes/lists`.
 #![tactic(auto)]
 
 #[cfg(test)]
-mod codes;
-#[cfg(test)]
-mod file_ids;
-#[cfg(test)]
 mod fixture;
-#[cfg(test)]
-mod full_folder;
 #[cfg(test)]
 mod names;
 #[cfg(test)]

@@ -1,8 +1,8 @@
 //! The small volume, and its bytes with others laid in their place.
 
 use anyhow::Result;
-use hfs_refused_fixtures::{Edit, has_bytes, image_with, mounted};
 use hfs_volume::Volume;
+use hfs_volume_fixtures::refused::{Edit, has_bytes, image_with, mounted};
 use std::alloc::Global;
 
 /// The volume with the folder `d`, and in it the file `f`.

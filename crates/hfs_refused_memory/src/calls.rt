@@ -2,8 +2,10 @@
 
 use anyhow::Result;
 use hfs_model::{Call, Reply};
-use hfs_refused_fixtures::{call_of, has_bytes, has_code, mounted, saved, split_at, text_of};
 use hfs_volume::Volume;
+use hfs_volume_fixtures::refused::{
+    call_of, has_bytes, has_code, mounted, saved, split_at, text_of,
+};
 use std::alloc::{AllocError, Global};
 
 /// A volume's reply to a call.

@@ -3,8 +3,8 @@
 use anyhow::Result;
 use hfs_fixtures::{SmallVolume, fork_byte, small_image};
 use hfs_model::Fork;
-use hfs_refused_fixtures::mounted;
 use hfs_volume::{OpenFork, Opened, Volume};
+use hfs_volume_fixtures::refused::mounted;
 use std::alloc::{AllocError, Global};
 
 /// The data fork of `f`. None where the call is refused, or where memory is.

@@ -4,8 +4,8 @@
 use crate::bytes::{has_edited, small_volume};
 use anyhow::Result;
 use hfs_model::Call;
-use hfs_refused_fixtures::{Edit, call_of};
 use hfs_volume::Volume;
+use hfs_volume_fixtures::refused::{Edit, call_of};
 use std::alloc::Global;
 
 /// The bytes 1 to 16.

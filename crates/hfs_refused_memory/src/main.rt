@@ -18,7 +18,7 @@ mod trials;
 
 use crate::trials::is_as_said;
 use anyhow::{Result, bail};
-use hfs_refused_fixtures::{input, split_at};
+use hfs_volume_fixtures::refused::{input, split_at};
 use std::alloc::Global;
 use std::str::from_utf8;
 

@@ -1,8 +1,8 @@
 //! Mounting and repairs, where memory is refused once.
 
 use anyhow::Result;
-use hfs_refused_fixtures::{Edit, has_bytes, image_with, put};
 use hfs_volume::{Fix, FixPlace, MountFault, Refused, mount, mount_repaired};
+use hfs_volume_fixtures::refused::{Edit, has_bytes, image_with, put};
 use std::alloc::Global;
 
 /// The image that a refusal for want of memory hands back, if it is this one.

@@ -2,8 +2,8 @@
 
 use crate::bytes::{has_edited, small_volume};
 use anyhow::Result;
-use hfs_refused_fixtures::{Edit, call_of};
 use hfs_volume::Volume;
+use hfs_volume_fixtures::refused::{Edit, call_of};
 use std::alloc::Global;
 
 /// What is laid where a file is locked: its flags $80 are $81, and the volume has another moment.

@@ -2,7 +2,7 @@
 use crate::calls::are_as_twin;
 use crate::{forks, lists, making, mounting, saving};
 use anyhow::{Result, bail};
-use hfs_refused_fixtures::{named_image, split_at};
+use hfs_volume_fixtures::refused::{named_image, split_at};
 use std::alloc::Global;
 
 /// Whether what a line says behind its title is as it is said.

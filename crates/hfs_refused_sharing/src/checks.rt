@@ -1,9 +1,9 @@
 //! What is compared of journals and replies.
 use anyhow::Result;
 use hfs_model::{Bytes, Call, Entry, Info, Reply, Value};
-use hfs_refused_fixtures::{has_bytes, has_code, saved, text_of};
 use hfs_shared::Closed;
 use hfs_volume::Volume;
+use hfs_volume_fixtures::refused::{has_bytes, has_code, saved, text_of};
 use std::alloc::{AllocError, Global};
 
 /// Whether a journal has so many entries of worker 1, with the stamps from 1 on.

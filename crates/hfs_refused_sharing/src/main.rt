@@ -19,7 +19,7 @@ mod working;
 
 use crate::trials::{Outcome, outcome_of};
 use anyhow::{Result, bail};
-use hfs_refused_fixtures::{input, split_at};
+use hfs_volume_fixtures::refused::{input, split_at};
 use std::alloc::Global;
 use std::str::from_utf8;
 use std::sync::Wait;

@@ -2,9 +2,9 @@
 ghost use Rattle.std.specs.Prelude.{◌≡◌, ◌<◌, ◌≤◌, All, IfOk};
 
 use anyhow::{Result, bail};
-use hfs_refused_fixtures::{call_of, mounted, named_image};
 use hfs_shared::{Closed, Parts, Pass, Session, Shared, StartFault, Viewer};
 use hfs_volume::Volume;
+use hfs_volume_fixtures::refused::{call_of, mounted, named_image};
 use std::alloc::Global;
 use std::sync::Wait;
 

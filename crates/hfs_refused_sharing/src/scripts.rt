@@ -1,9 +1,9 @@
 //! A script that is run, where memory is refused once. Its answers are written by hand.
 use crate::parts::{make, named_volume};
 use anyhow::Result;
-use hfs_refused_fixtures::{has_bytes, named_image, saved};
 use hfs_runs::{Ran, ScriptFault, run_script};
 use hfs_volume::Volume;
+use hfs_volume_fixtures::refused::{has_bytes, named_image, saved};
 use std::alloc::Global;
 use std::sync::Wait;
 use std::thread::Threads;

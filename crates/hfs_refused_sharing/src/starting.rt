@@ -1,9 +1,9 @@
 //! A volume that is shared, where memory is refused once.
 use crate::parts::{make, named_volume};
 use anyhow::Result;
-use hfs_refused_fixtures::{has_bytes, saved};
 use hfs_shared::{Parts, Pass, StartFault, Viewer};
 use hfs_volume::Volume;
+use hfs_volume_fixtures::refused::{has_bytes, saved};
 use std::alloc::Global;
 use std::sync::Wait;
 

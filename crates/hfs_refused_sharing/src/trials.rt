@@ -6,7 +6,7 @@ use crate::starting::starts_as_said;
 use crate::viewing::views_as_said;
 use crate::working::works_as_said;
 use anyhow::{Result, bail};
-use hfs_refused_fixtures::split_at;
+use hfs_volume_fixtures::refused::split_at;
 use std::alloc::Global;
 use std::sync::Wait;
 use std::thread::Threads;

@@ -3,9 +3,9 @@ use crate::checks::is_reply_as;
 use crate::parts::{begun_on, named_volume};
 use anyhow::{Result, bail};
 use hfs_model::{Bytes, Call, Reply};
-use hfs_refused_fixtures::{call_of, split_at};
 use hfs_shared::{ViewFault, Viewer};
 use hfs_volume::Volume;
+use hfs_volume_fixtures::refused::{call_of, split_at};
 use std::alloc::{AllocError, Global};
 use std::sync::Wait;
 

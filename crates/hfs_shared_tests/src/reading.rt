@@ -124,7 +124,7 @@ fn text_of(alloc: Global, reply: &Reply) -> Result<String, AllocError> {
 }
 
 /// Two replies are the same, all that they tell.
-fn compare(alloc: Global, found: &Reply, wanted: &Reply) -> Result<(), Fail> {
+pub fn compare(alloc: Global, found: &Reply, wanted: &Reply) -> Result<(), Fail> {
     let found = text_of(alloc, found)?;
     let wanted = text_of(alloc, wanted)?;
     if *found.as_str() != *wanted.as_str() {
@@ -244,7 +244,7 @@ fn follow<K: Session, R: Wait>(
 }
 
 /// The script of these lines, at the moment 9.
-fn script_of(alloc: Global, lines: &[u8]) -> Result<Script, Fail> {
+pub fn script_of(alloc: Global, lines: &[u8]) -> Result<Script, Fail> {
     match read_script(alloc, lines, 9) {
         Ok(script) => Ok(script),
         Err(_fault) => Err(Fail::from("no script")),

@@ -1,2 +1,1 @@
 mod OverflowSound
-mod BadBlocksSound

@@ -1,2 +1,1 @@
 pub mod OverflowTree
-pub mod BadBlocksTree

@@ -1,8 +1,8 @@
-//! Blocks that are filled by a rule, and master directory blocks.
+//! Blocks that are filled by a rule, master directory blocks, and extents.
 
 ghost use Rattle.std.specs.Prelude.{◌≡◌, IfOk, vec_len};
 
-use hfs_fields::Mdb;
+use hfs_fields::{Extent, Mdb};
 use std::alloc::{AllocError, Global};
 
 /// So many bytes, each by its place.
@@ -27,4 +27,9 @@ pub fn mdb_with(allocation_blocks: u16, blocks_each: u8, allocation_start: u16) 
     mdb.allocation_start = allocation_start;
     mdb.write(&mut block);
     Mdb::read(&block)
+}
+
+/// The extent of so many blocks from this one on.
+pub fn extent(first: u16, count: u16) -> Extent {
+    Extent { first, count }
 }

@@ -20,7 +20,7 @@ fn extents_of<const N: usize>(pairs: [(u16, u16); N]) -> [Extent; N] {
 }
 
 /// A part of a fork of so many bytes in these extents, of an image of the laid volume's size.
-pub fn part(
+fn part(
     alloc: Global,
     image: &[u8],
     extents: &[Extent],

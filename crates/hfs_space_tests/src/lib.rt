@@ -1,10 +1,11 @@
-//! Tests of the bitmap, of forks, and of the checks of both, on volumes that are laid by hand.
+//! Tests of the bitmap, of forks, and of what a file that goes gives back, on volumes, trees and
+//! bitmaps that are laid by hand. What the checks of both find, `tests/images.py` shows.
 #![tactic(auto)]
 
 #[cfg(test)]
-mod bad_blocks;
-#[cfg(test)]
 mod bitmaps;
+#[cfg(test)]
+mod bits;
 #[cfg(test)]
 mod bytes;
 #[cfg(test)]
@@ -12,4 +13,6 @@ mod forks;
 #[cfg(test)]
 mod overflow;
 #[cfg(test)]
-mod space;
+mod records;
+#[cfg(test)]
+mod trees;

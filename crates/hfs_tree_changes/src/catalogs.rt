@@ -7,7 +7,7 @@ use hfs_btree::{Header, Key, find, next_after, read_header};
 use hfs_btree_checks::check_tree;
 use hfs_btree_edits::replace;
 use hfs_fields::{CatKey, Name};
-use hfs_node_tables::NodeTable;
+use hfs_fixtures::NodeTable;
 use std::alloc::Global;
 
 /// The files of catalog trees that other programs made.

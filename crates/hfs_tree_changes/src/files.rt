@@ -5,9 +5,8 @@ use crate::sample::Sample;
 use anyhow::{Result, bail, ensure};
 use hfs_btree_checks::check_tree;
 use hfs_fields::{CatKey, Name};
-use hfs_node_tables::{NodeTable, is_exact};
+use hfs_fixtures::{NodeTable, is_exact};
 use std::alloc::Global;
-use std::rt::Clock;
 
 /// How many files come.
 const FILES: u32 = 300;
@@ -27,15 +26,15 @@ fn file_key(number: u32) -> Result<CatKey> {
 }
 
 /// Puts the files into the tree, in the order of their names. After each the tree is checked, and its index keys are exact.
-pub fn put_files(rt: &(impl AllocGlobal + Clock), nodes: &mut NodeTable) -> Result<()> {
+pub fn put_files(alloc: Global, nodes: &mut NodeTable) -> Result<()> {
     let Some(least) = CatKey::least() else {
         bail!("no least key");
     };
     for n in 0..FILES {
-        check_tree::<CatKey, NodeTable>(rt.alloc(), nodes, nodes.size())?;
+        check_tree::<CatKey, NodeTable>(alloc, nodes, nodes.size())?;
         ensure!(is_exact::<CatKey>(nodes), "an index key is not its child's");
         let key = file_key(n)?;
-        put_pair(rt, nodes, &least, &key, &[2; 102])?;
+        put_pair(alloc, nodes, &least, &key, &[2; 102])?;
     }
     Ok(())
 }

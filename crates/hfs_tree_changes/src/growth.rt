@@ -10,10 +10,8 @@ use hfs_btree::{Walk, depth, find, free_nodes, read_header};
 use hfs_btree_checks::check_tree;
 use hfs_btree_insertion::insert;
 use hfs_btree_removal::remove;
-use hfs_node_tables::NodeTable;
+use hfs_fixtures::NodeTable;
 use std::alloc::Global;
-use std::rt::Clock;
-use std::time::Instant;
 
 /// An order in which keys come.
 #[derive(Clone, Copy)]
@@ -49,19 +47,17 @@ fn is_above_least<K: Sample>(alloc: Global, nodes: &NodeTable, least: &K, key: &
     }
 }
 
-/// Puts a pair into a tree whose least key is this one, and tells how many nanoseconds the insertion took, without what is
-/// looked up before it. An error where one of the conditions isn't met.
+/// Puts a pair into a tree whose least key is this one. An error where one of the conditions isn't met.
 pub fn put_pair<K: Sample>(
-    rt: &(impl AllocGlobal + Clock),
+    alloc: Global,
     nodes: &mut NodeTable,
     least: &K,
     key: &K,
     body: &[u8],
-) -> Result<u128>
+) -> Result<()>
     requires sound { IsSound K.Key nodes.old.nodes.items }
     ensures sound { OnOk result (IsSound K.Key nodes.new.nodes.items) }
 {
-    let alloc = rt.alloc();
     ensure!(K::is_body_len(body.len()), "no length of a body");
     let above = is_above_least(alloc, nodes, least, key)?;
     ensure!(above, "not above the least key");
@@ -76,13 +72,12 @@ pub fn put_pair<K: Sample>(
         header.nodes as usize <= nodes.nodes.len(),
         "too short a file"
     );
-    let start = Instant::now(rt)?;
     insert(alloc, nodes, key, body)?;
-    Ok(start.elapsed(rt)?.as_nanos())
+    Ok(())
 }
 
 /// Puts the pair with this number into the tree. An error where one of the conditions isn't met.
-pub fn put<K: Sample>(rt: &(impl AllocGlobal + Clock), nodes: &mut NodeTable, n: u32) -> Result<()>
+pub fn put<K: Sample>(alloc: Global, nodes: &mut NodeTable, n: u32) -> Result<()>
     requires sound { IsSound K.Key nodes.old.nodes.items }
     ensures sound { OnOk result (IsSound K.Key nodes.new.nodes.items) }
 {
@@ -92,9 +87,8 @@ pub fn put<K: Sample>(rt: &(impl AllocGlobal + Clock), nodes: &mut NodeTable, n:
     let Some(least) = K::least() else {
         bail!("no least key");
     };
-    let body = K::body(rt.alloc(), n)?;
-    put_pair(rt, nodes, &least, &key, &body)?;
-    Ok(())
+    let body = K::body(alloc, n)?;
+    put_pair(alloc, nodes, &least, &key, &body)
 }
 
 /// Takes a pair out of the tree.

@@ -10,10 +10,9 @@ use crate::sample::Sample;
 use anyhow::{Result, ensure};
 use hfs_btree::Header;
 use hfs_fields::{CatKey, ExtKey};
-use hfs_node_tables::NodeTable;
+use hfs_fixtures::NodeTable;
 use std::alloc::Global;
 use std::fs;
-use std::rt::Clock;
 
 /// Puts pairs into each tree, and prints what became of it.
 pub fn print_insertions(rt: &HostRuntime) -> Result<()> {
@@ -68,7 +67,7 @@ fn ensure_back<K: Sample>(alloc: Global, nodes: &NodeTable, before: &Header) -> 
 fn print_grown<K: Sample>(rt: &HostRuntime, name: &str, count: usize) -> Result<()> {
     let file = fs::read(rt, name)?;
     for order in [Order::Rising, Order::Falling, Order::Mixed] {
-        run::<K>(rt, &file, count, order)?;
+        run::<K>(rt.alloc(), &file, count, order)?;
     }
     println!(rt; "{name} 5000 pairs put and taken in three orders")?;
     Ok(())
@@ -76,71 +75,57 @@ fn print_grown<K: Sample>(rt: &HostRuntime, name: &str, count: usize) -> Result<
 
 /// Puts 5,000 pairs into a tree with one leaf in this order, and takes them out again in the mixed one. At least three
 /// levels are there between.
-fn put_and_take<K: Sample>(
-    rt: &(impl AllocGlobal + Clock),
-    nodes: &mut NodeTable,
-    order: Order,
-) -> Result<()> {
-    let mut there = vec![in rt.alloc(); false; 5000]?;
-    grow::<K>(rt, nodes, &mut there, order)?;
-    ensure_full::<K>(rt.alloc(), nodes, 5001, 3)?;
-    shrink::<K>(rt.alloc(), nodes, &mut there, Order::Mixed)
+fn put_and_take<K: Sample>(alloc: Global, nodes: &mut NodeTable, order: Order) -> Result<()> {
+    let mut there = vec![in alloc; false; 5000]?;
+    grow::<K>(alloc, nodes, &mut there, order)?;
+    ensure_full::<K>(alloc, nodes, 5001, 3)?;
+    shrink::<K>(alloc, nodes, &mut there, Order::Mixed)
 }
 
 /// Puts pairs into a tree in this order, and takes them out again. Afterwards as many levels and free nodes are there as before.
-fn run<K: Sample>(
-    rt: &(impl AllocGlobal + Clock),
-    file: &[u8],
-    count: usize,
-    order: Order,
-) -> Result<()> {
-    let mut nodes = padded_table(rt.alloc(), file, count)?;
-    let before = header_of::<K>(rt.alloc(), &nodes)?;
-    put_and_take::<K>(rt, &mut nodes, order)?;
-    ensure_back::<K>(rt.alloc(), &nodes, &before)
+fn run<K: Sample>(alloc: Global, file: &[u8], count: usize, order: Order) -> Result<()> {
+    let mut nodes = padded_table(alloc, file, count)?;
+    let before = header_of::<K>(alloc, &nodes)?;
+    put_and_take::<K>(alloc, &mut nodes, order)?;
+    ensure_back::<K>(alloc, &nodes, &before)
 }
 
 /// 300 files come to the tree, and leave it from the least name upwards or from the greatest downwards. Afterwards as many levels and
 /// free nodes are there as before.
-fn run_files(
-    rt: &(impl AllocGlobal + Clock),
-    nodes: &mut NodeTable,
-    before: &Header,
-    upwards: bool,
-) -> Result<()> {
-    put_files(rt, nodes)?;
-    ensure_full::<CatKey>(rt.alloc(), nodes, 301, 0)?;
-    take_files(rt.alloc(), nodes, upwards)?;
-    ensure_back::<CatKey>(rt.alloc(), nodes, before)
+fn run_files(alloc: Global, nodes: &mut NodeTable, before: &Header, upwards: bool) -> Result<()> {
+    put_files(alloc, nodes)?;
+    ensure_full::<CatKey>(alloc, nodes, 301, 0)?;
+    take_files(alloc, nodes, upwards)?;
+    ensure_back::<CatKey>(alloc, nodes, before)
 }
 
 /// 300 files come to the tree, and leave it from the least name upwards; and once more, and from the greatest downwards.
-fn run_both_ways(rt: &(impl AllocGlobal + Clock), file: &[u8]) -> Result<()> {
-    let mut nodes = padded_table(rt.alloc(), file, 1000)?;
-    let before = header_of::<CatKey>(rt.alloc(), &nodes)?;
-    run_files(rt, &mut nodes, &before, true)?;
-    run_files(rt, &mut nodes, &before, false)
+fn run_both_ways(alloc: Global, file: &[u8]) -> Result<()> {
+    let mut nodes = padded_table(alloc, file, 1000)?;
+    let before = header_of::<CatKey>(alloc, &nodes)?;
+    run_files(alloc, &mut nodes, &before, true)?;
+    run_files(alloc, &mut nodes, &before, false)
 }
 
 /// Lets 300 files come to the tree of a file and leave it twice, and prints that they did.
 fn print_files(rt: &HostRuntime, name: &str) -> Result<()> {
     let file = fs::read(rt, name)?;
-    run_both_ways(rt, &file)?;
+    run_both_ways(rt.alloc(), &file)?;
     println!(rt; "{name} 300 files put and taken in two orders")?;
     Ok(())
 }
 
 /// The header record of a tree with so many nodes, of pairs for which `there` has a place, behind the pairs with these numbers.
 fn header_behind(
-    rt: &(impl AllocGlobal + Clock),
+    alloc: Global,
     file: &[u8],
     count: usize,
     there: &mut Vec<bool>,
     numbers: &[u32],
 ) -> Result<Header> {
-    let mut nodes = padded_table(rt.alloc(), file, count)?;
-    put_all::<ExtKey>(rt, &mut nodes, there, numbers)?;
-    header_of::<ExtKey>(rt.alloc(), &nodes)
+    let mut nodes = padded_table(alloc, file, count)?;
+    put_all::<ExtKey>(alloc, &mut nodes, there, numbers)?;
+    header_of::<ExtKey>(alloc, &nodes)
 }
 
 /// The pairs of the tree whose leaf is full: those with the even numbers up to 40.
@@ -153,15 +138,15 @@ fn even_pairs(alloc: Global) -> Result<Vec<bool>> {
 }
 
 /// The tree of these bytes once a full leaf is cut, and the last two free nodes are taken.
-fn last_header(rt: &(impl AllocGlobal + Clock), file: &[u8]) -> Result<Header> {
-    let mut there = even_pairs(rt.alloc())?;
-    header_behind(rt, file, 4, &mut there, &[1])
+fn last_header(alloc: Global, file: &[u8]) -> Result<Header> {
+    let mut there = even_pairs(alloc)?;
+    header_behind(alloc, file, 4, &mut there, &[1])
 }
 
 /// Cuts a full leaf of a file's tree, and prints what is left.
 fn print_last(rt: &HostRuntime, name: &str) -> Result<()> {
     let file = fs::read(rt, name)?;
-    let header = last_header(rt, &file)?;
+    let header = last_header(rt.alloc(), &file)?;
     println!(rt;
         "{name} {} levels, {} free nodes",
         header.depth, header.free_nodes
@@ -179,16 +164,16 @@ fn one_pair(alloc: Global) -> Result<Vec<bool>> {
 }
 
 /// The tree of these bytes once keys are put between those of index nodes and those above them.
-fn inexact_header(rt: &(impl AllocGlobal + Clock), file: &[u8]) -> Result<Header> {
-    let mut there = one_pair(rt.alloc())?;
+fn inexact_header(alloc: Global, file: &[u8]) -> Result<Header> {
+    let mut there = one_pair(alloc)?;
     let numbers = [175, 145, 115, 101, 189, 100, 160, 130, 99];
-    header_behind(rt, file, 32, &mut there, &numbers)
+    header_behind(alloc, file, 32, &mut there, &numbers)
 }
 
 /// Puts keys between those of a file's tree, and prints how many there are.
 fn print_inexact(rt: &HostRuntime, name: &str) -> Result<()> {
     let file = fs::read(rt, name)?;
-    let header = inexact_header(rt, &file)?;
+    let header = inexact_header(rt.alloc(), &file)?;
     println!(rt; "{name} {} levels, {} pairs", header.depth, header.records)?;
     Ok(())
 }

@@ -3,7 +3,7 @@
 use crate::catalogs::{Record, body_under, replace_record};
 use anyhow::{Result, bail, ensure};
 use hfs_fields::{CatKey, Name};
-use hfs_node_tables::NodeTable;
+use hfs_fixtures::NodeTable;
 use std::alloc::Global;
 
 /// Each byte of these turned over.

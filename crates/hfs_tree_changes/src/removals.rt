@@ -5,7 +5,7 @@
 use crate::catalogs::{NAMES, Record, header_of, records, table, take_record};
 use anyhow::{Result, bail, ensure};
 use hfs_fields::CatKey;
-use hfs_node_tables::{NodeTable, is_exact};
+use hfs_fixtures::{NodeTable, is_exact};
 use std::alloc::Global;
 use std::fs;
 

@@ -4,7 +4,7 @@
 use crate::catalogs::{NAMES, Record, records, table};
 use crate::kinds::{are_respelled, other_case, rewrite, same_length, shorter};
 use anyhow::{Result, ensure};
-use hfs_node_tables::NodeTable;
+use hfs_fixtures::NodeTable;
 use std::alloc::Global;
 use std::fs;
 

@@ -7,33 +7,32 @@ use crate::growth::{Order, check, put, take};
 use crate::sample::Sample;
 use anyhow::Result;
 use hfs_btree_checks::check_tree;
-use hfs_node_tables::NodeTable;
+use hfs_fixtures::NodeTable;
 use std::alloc::Global;
-use std::rt::Clock;
 
 /// Puts the pairs into the tree for which `there` has a place, in an order of their numbers.
 pub fn grow<K: Sample>(
-    rt: &(impl AllocGlobal + Clock),
+    alloc: Global,
     nodes: &mut NodeTable,
     there: &mut Vec<bool>,
     order: Order,
 ) -> Result<()> {
-    check_tree::<K, NodeTable>(rt.alloc(), nodes, nodes.size())?;
+    check_tree::<K, NodeTable>(alloc, nodes, nodes.size())?;
     let mut n = 0;
     let mut count = 0u32;
     for _ in 0..8192 {
         n = order.after(n);
         let place = n as usize;
         if place < there.len() {
-            put::<K>(rt, nodes, n)?;
+            put::<K>(alloc, nodes, n)?;
             there[place] = true;
             count = count.wrapping_add(1);
             if count <= 500 || count % 100 == 0 {
-                check::<K>(rt.alloc(), nodes, there)?;
+                check::<K>(alloc, nodes, there)?;
             }
         }
     }
-    check::<K>(rt.alloc(), nodes, there)
+    check::<K>(alloc, nodes, there)
 }
 
 /// Takes the pairs out again that are there, in an order of their numbers.
@@ -61,20 +60,20 @@ pub fn shrink<K: Sample>(
 
 /// Puts the pairs with these numbers into the tree, and checks it after each.
 pub fn put_all<K: Sample>(
-    rt: &(impl AllocGlobal + Clock),
+    alloc: Global,
     nodes: &mut NodeTable,
     there: &mut Vec<bool>,
     numbers: &[u32],
 ) -> Result<()> {
-    check::<K>(rt.alloc(), nodes, there)?;
+    check::<K>(alloc, nodes, there)?;
     for i in 0..numbers.len() {
         let n = numbers[i];
         let place = n as usize;
         if place < there.len() {
-            check_tree::<K, NodeTable>(rt.alloc(), nodes, nodes.size())?;
-            put::<K>(rt, nodes, n)?;
+            check_tree::<K, NodeTable>(alloc, nodes, nodes.size())?;
+            put::<K>(alloc, nodes, n)?;
             there[place] = true;
-            check::<K>(rt.alloc(), nodes, there)?;
+            check::<K>(alloc, nodes, there)?;
         }
     }
     Ok(())

@@ -1,9 +1,11 @@
-//! Volumes of any size for tests: mounted, called, saved and mounted again; some calls in short, and writers that fail. No function
-//! here promises anything, so that no test reads the contracts of these calls again: what a test finds out, it compares with
-//! values that were written by hand.
+//! Volumes of any size for tests: mounted, called, saved and mounted again; some calls in short,
+//! and writers that fail; and in `refused` what programs share that run while memory is refused. No
+//! function here promises anything, so that no test reads the contracts of these calls again: what
+//! a test finds out, it compares with values that were written by hand.
 #![tactic(auto)]
 
 mod calls;
+pub mod refused;
 mod volumes;
 mod writers;
 

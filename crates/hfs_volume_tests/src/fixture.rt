@@ -1,8 +1,7 @@
-//! Small images with bytes laid over them, the codes of calls, and what a volume is saved as.
+//! Small images with bytes laid over them, and what a volume is saved as.
 use hfs_fixtures::{FixtureFault, SmallVolume, lay, small_image};
-use hfs_model::Call;
 use hfs_volume::Volume;
-use hfs_volume_fixtures::{FrontWriter, reply_to};
+use hfs_volume_fixtures::FrontWriter;
 use std::alloc::{AllocError, Global};
 
 /// A small image with bytes laid over it: each row has a block, a place in it, and what is laid there.
@@ -16,12 +15,6 @@ pub fn laid(
         lay(&mut image, *block, *at, bytes)?;
     }
     Ok(image)
-}
-
-/// The code that a call is answered.
-pub fn code_of(volume: &mut Volume, alloc: Global, call: Call) -> Result<i16, AllocError> {
-    let reply = reply_to(volume, alloc, &call)?;
-    Ok(reply.code)
 }
 
 /// Whether a volume was opened with these bytes, and is saved as them.

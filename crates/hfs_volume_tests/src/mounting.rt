@@ -1,4 +1,4 @@
-//! Mounting, and images that are refused.
+//! Images that are refused, and come back as they were.
 use crate::fixture::laid;
 use hfs_check::MountFault;
 use hfs_fixtures::{FixtureFault, SmallVolume};
@@ -12,7 +12,7 @@ fn is_for(refused: &Refused, given: &[u8], fault: MountFault) -> bool {
 }
 
 /// Whether an image is refused for this fault, and handed back as it was.
-pub fn has_fault(alloc: Global, image: &[u8], fault: MountFault) -> Result<bool, AllocError> {
+fn has_fault(alloc: Global, image: &[u8], fault: MountFault) -> Result<bool, AllocError> {
     match mount(alloc, Vec::from_slice(alloc, image)?) {
         Ok(_volume) => Ok(false),
         Err(refused) => Ok(is_for(&refused, image, fault)),
@@ -20,11 +20,7 @@ pub fn has_fault(alloc: Global, image: &[u8], fault: MountFault) -> Result<bool,
 }
 
 /// Whether an image is refused for this fault with its counts mended too, and handed back as it was.
-pub fn has_fault_in_repair(
-    alloc: Global,
-    image: &[u8],
-    fault: MountFault,
-) -> Result<bool, AllocError> {
+fn has_fault_in_repair(alloc: Global, image: &[u8], fault: MountFault) -> Result<bool, AllocError> {
     match mount_repaired(alloc, Vec::from_slice(alloc, image)?) {
         Ok(_mended) => Ok(false),
         Err(refused) => Ok(is_for(&refused, image, fault)),
@@ -50,55 +46,30 @@ fn what_is_no_volume_is_refused(rt: HostRuntime) -> Result<(), Fail> {
     Ok(())
 }
 
-/// Whether a small volume with these bytes in a block is refused for this fault.
-fn is_laid_refused(
+/// Whether a small volume with a number laid wrong, and other bytes, is refused with its counts mended too, and handed back as it was.
+fn is_mending_refused(
     alloc: Global,
     volume: SmallVolume,
-    row: (usize, usize, &[u8]),
+    rows: &[(usize, usize, &[u8])],
     fault: MountFault,
 ) -> Result<bool, FixtureFault> {
-    let image = laid(alloc, volume, &[row])?;
-    Ok(is_refused(alloc, &image, fault)?)
+    let wrong = laid(alloc, volume, rows)?;
+    Ok(has_fault_in_repair(alloc, &wrong, fault)?)
 }
 
 #[test]
-fn wrong_volumes_are_refused_with_their_place(rt: HostRuntime) -> Result<(), Fail> {
-    let chained = MountFault::Check {
-        number: 4,
+fn another_fault_leaves_all_as_it_was(rt: HostRuntime) -> Result<(), Fail> {
+    let threads = MountFault::Check {
+        number: 8,
         place: 1,
     };
+    let wrong: [(usize, usize, &[u8]); 2] = [(2, 84, &[0, 0, 0, 1]), (7, 115, b"E")];
+    assert!(rt; is_mending_refused(rt.alloc(), SmallVolume::New, &wrong, threads)?);
     let owned = MountFault::Check {
         number: 12,
         place: 14,
     };
-    let rows: [(SmallVolume, usize, usize, &[u8], MountFault); 4] = [
-        (SmallVolume::New, 2, 18, &[0, 0], MountFault::BadMdb(1)),
-        (
-            SmallVolume::New,
-            2,
-            30,
-            &[0, 0, 0, 15],
-            MountFault::BadMdb(5),
-        ),
-        (SmallVolume::New, 7, 0, &[0, 0, 0, 1], chained),
-        (SmallVolume::OneFile, 5, 22, &[0, 14], owned),
-    ];
-    for (volume, block, at, bytes, fault) in rows {
-        assert!(rt;
-            is_laid_refused(rt.alloc(), volume, (block, at, bytes), fault)?,
-            "{block} {at}"
-        );
-    }
-    Ok(())
-}
-
-#[test]
-fn a_wrong_count_is_refused_with_its_place(rt: HostRuntime) -> Result<(), Fail> {
-    let files = laid(rt.alloc(), SmallVolume::New, &[(2, 84, &[0, 0, 0, 1])])?;
-    let counted = MountFault::Check {
-        number: 10,
-        place: 3,
-    };
-    assert!(rt; has_fault(rt.alloc(), &files, counted)?);
+    let twice: [(usize, usize, &[u8]); 2] = [(5, 22, &[0, 14]), (2, 84, &[0, 0, 0, 5])];
+    assert!(rt; is_mending_refused(rt.alloc(), SmallVolume::OneFile, &twice, owned)?);
     Ok(())
 }

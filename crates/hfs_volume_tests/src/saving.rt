@@ -162,33 +162,6 @@ fn a_writer_that_fails_has_the_first_bytes(rt: HostRuntime) -> Result<(), Fail> 
     expect_fronts(&rt, rt.alloc(), &mut image)
 }
 
-/// Whether these bytes are saved, or no byte more was taken for want of memory.
-fn is_saved_or_refused(alloc: Global, image: &Image, whole: &[u8]) -> bool {
-    let (bytes, end) = saved(alloc, image, whole.len());
-    match end {
-        Ok(()) => bytes.as_slice() == whole,
-        Err(_fault) => whole.starts_with(bytes.as_slice()),
-    }
-}
-
-/// Whether an image is saved as it is meant to be after a commit: changed, or as before where memory was refused.
-fn is_whole_after(alloc: Global, image: &Image, is_changed: bool) -> Result<bool, AllocError> {
-    let whole = if is_changed {
-        changed_pattern(alloc, 2660, [7, 8, 9])?
-    } else {
-        pattern(alloc, 2660)?
-    };
-    Ok(is_saved_or_refused(alloc, image, &whole))
-}
-
-#[test]
-fn a_commit_without_memory_leaves_the_bytes(rt: HostRuntime) -> Result<(), Fail> {
-    let mut image = pattern_image(rt.alloc(), 2660)?;
-    let is_changed = change(rt.alloc(), &mut image, [7, 8, 9]).is_ok();
-    assert!(rt; is_whole_after(rt.alloc(), &image, is_changed)?);
-    Ok(())
-}
-
 /// The image of a small volume with 100 bytes more.
 fn longer_image(alloc: Global) -> Result<Vec<u8>, FixtureFault> {
     Ok(patterned(small_image(alloc, SmallVolume::OneFile)?)?)

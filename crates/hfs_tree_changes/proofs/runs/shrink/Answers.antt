@@ -1,6 +1,6 @@
 use Rattle.std.proofs.Common.{sym, subst}
 use Rattle.hfs_btree.specs.Sound.{IsSound}
-use Rattle.hfs_node_tables.specs.declared.node_table.NodeTable.{NodeTable}
+use Rattle.hfs_fixtures.specs.declared.node_table.NodeTable.{NodeTable}
 use Rattle.hfs_tree_changes.proofs.runs.shrink.Goals.{then-place-len+in_ok-take+then-n-eq0+in_ok-check, then-place-len+in_ok-take+else-n-eq0, else-place-len}
 use Rattle.hfs_tree_changes.proofs.runs.shrink.Goals as goal
 
