@@ -6,7 +6,7 @@ _hfs_tool() {
         return
     fi
     case $first in
-        cat) options='--resource --help' ;;
+        cat) options='--resource --macbinary --help' ;;
         new) options='--now --help' ;;
         run) options='--now --out --help' ;;
         help) mapfile -t COMPREPLY < <(compgen -W 'info check ls cat new repair run' -- "$word") && return ;;

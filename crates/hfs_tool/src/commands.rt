@@ -2,12 +2,13 @@
 
 use crate::progress::Progress;
 use crate::saving::{save, tell};
-use crate::words::{ForkWords, NewVolume, RunWords, Words};
+use crate::words::{FileWords, ForkWords, NewVolume, RunWords, Words};
 use hfs_check::MountFault;
 use hfs_commands::{
-    BlockSource, Fault, ImageFile, Ran, RepairAnswer, Status, check_text, code_text, list_text,
-    load_file, load_script, needed_check_text, needed_fork, needed_list_text, open_image, put,
-    refused_text, repair_answer, run_info, run_script_at, write_fork,
+    BlockSource, Fault, ImageFile, NeededFile, Ran, RepairAnswer, Status, check_text, code_text,
+    list_text, load_file, load_script, needed_check_text, needed_file, needed_fork,
+    needed_list_text, open_image, put, put_macbinary, refused_text, repair_answer, run_info,
+    run_script_at, write_fork, write_macbinary,
 };
 use hfs_format::{FormatPlan, format};
 use hfs_model::Reply;
@@ -30,6 +31,7 @@ pub fn obey<'a, T: Threads + Wait + Sync>(
         Words::Check { image } => print_check(rt, *image),
         Words::List { image, dir } => print_list(rt, *image, *dir),
         Words::Cat(file) => print_fork(rt, file),
+        Words::MacBinary(file) => print_macbinary(rt, file),
         Words::New(volume) => write_new(rt, volume),
         Words::Repair { image, file } => write_repaired(rt, *image, *file),
         Words::Run(run) => print_answers(rt, threads, run),
@@ -141,6 +143,70 @@ fn print_fork_of<'a>(
 ) -> Result<u8, Fault<'a>> {
     let (name, fork) = (file.name.as_bytes(), file.fork);
     match write_fork(rt.alloc(), &mut rt.stdout(), volume, file.dir, name, fork) {
+        Ok(reply) => print_end(rt, &reply),
+        Err(fault) => Err(fault),
+    }
+}
+
+/// Prints a file with both forks as one MacBinary file, or the code of the call that was refused.
+fn print_macbinary<'a>(rt: &HostRuntime, file: &FileWords<'a>) -> Result<u8, Fault<'a>> {
+    match open_image(rt, file.image)? {
+        ImageFile::Seekable { mut source, len } => {
+            print_needed_macbinary(rt, file, &mut source, len)
+        }
+        ImageFile::Whole(image) => print_whole_macbinary(rt, file, image),
+    }
+}
+
+/// Prints a file with both forks, of which the blocks are read where they are needed.
+fn print_needed_macbinary<'a, S: BlockSource>(
+    rt: &HostRuntime,
+    file: &FileWords<'a>,
+    source: &mut S,
+    len: u64,
+) -> Result<u8, Fault<'a>> {
+    match needed_file(rt.alloc(), source, len, file.dir, file.name.as_bytes()) {
+        Ok(found) => print_found(rt, found),
+        Err(fault) => Err(Fault::of_needed(fault, file.image)),
+    }
+}
+
+/// Prints a file with both forks, or the code of the call that was refused.
+fn print_found(rt: &HostRuntime, found: Result<NeededFile, Reply>) -> Result<u8, Fault<'static>> {
+    match found {
+        Ok(file) => print_file(rt, &file),
+        Err(reply) => print_code(rt, &reply),
+    }
+}
+
+/// Prints a file with both forks, or the code of a reply that tells of no file.
+fn print_file(rt: &HostRuntime, file: &NeededFile) -> Result<u8, Fault<'static>> {
+    let code = put_macbinary(&mut rt.stdout(), &file.told, &file.data, &file.resource)?;
+    if code == 0 {
+        Ok(Status::Done.number())
+    } else {
+        print_code(rt, &file.told)
+    }
+}
+
+/// Prints a file with both forks, out of a whole image.
+fn print_whole_macbinary<'a>(
+    rt: &HostRuntime,
+    file: &FileWords<'a>,
+    image: Vec<u8>,
+) -> Result<u8, Fault<'a>> {
+    let volume = mounted(rt, image)?;
+    print_macbinary_of(rt, file, &volume)
+}
+
+/// Prints a file with both forks, out of a mounted volume.
+fn print_macbinary_of<'a>(
+    rt: &HostRuntime,
+    file: &FileWords<'a>,
+    volume: &Volume,
+) -> Result<u8, Fault<'a>> {
+    let name = file.name.as_bytes();
+    match write_macbinary(rt.alloc(), &mut rt.stdout(), volume, file.dir, name) {
         Ok(reply) => print_end(rt, &reply),
         Err(fault) => Err(fault),
     }

@@ -18,6 +18,8 @@ pub enum Words<'a> {
     List { image: &'a str, dir: u32 },
     /// `cat IMAGE DIR NAME [--resource]`: the bytes of a file's fork.
     Cat(ForkWords<'a>),
+    /// `cat IMAGE DIR NAME --macbinary`: a file with both forks.
+    MacBinary(FileWords<'a>),
     /// `new FILE NAME BLOCKS NODES EXTENTS [--now N]`: a new volume.
     New(NewVolume<'a>),
     /// `repair IMAGE FILE`: the image with its counts mended.
@@ -37,6 +39,17 @@ pub struct ForkWords<'a> {
     pub name: &'a str,
     /// Which of its forks.
     pub fork: Fork,
+}
+
+/// A file, by its place in an image.
+#[derive(Clone, Copy)]
+pub struct FileWords<'a> {
+    /// The path of the image.
+    pub image: &'a str,
+    /// The ID of the folder that holds the file.
+    pub dir: u32,
+    /// The file's name.
+    pub name: &'a str,
 }
 
 /// A new volume, and the file that it is written to.
@@ -150,6 +163,7 @@ Examples:
   hfs_tool check disk.img
   hfs_tool ls disk.img
   hfs_tool cat disk.img 19 'Read Me' > read_me.data || rm read_me.data
+  hfs_tool cat disk.img 19 'Read Me' --macbinary > read_me.bin || rm read_me.bin
   hfs_tool new disk.img Archive 1600 40 4
   hfs_tool repair disk.img mended.img
   hfs_tool run disk.img calls.txt --now 3000000000 --out disk.img
@@ -197,6 +211,14 @@ fn with_argument<'a>(
     command?.arg(argument)
 }
 
+/// A command with one argument more, where memory sufficed for both.
+fn with_made_argument<'a>(
+    command: Result<Command<'a>, AllocError>,
+    argument: Result<Arg<'a>, AllocError>,
+) -> Result<Command<'a>, AllocError> {
+    command?.arg(argument?)
+}
+
 fn info_command<'a>(alloc: Global) -> Result<Command<'a>, AllocError> {
     Command::new(alloc, "info")
         .about("Prints the fields of a volume's master directory block")
@@ -232,14 +254,26 @@ fn resource<'a>(alloc: Global) -> Arg<'a> {
         .help("The resource fork in place of the data fork")
 }
 
+/// The choice of a file with both forks.
+fn macbinary<'a>(alloc: Global) -> Result<Arg<'a>, AllocError> {
+    Arg::new(alloc, "macbinary")
+        .long("macbinary")
+        .action(ArgAction::SetTrue)
+        .help("Both forks with name, type, creator and dates, as one MacBinary file")
+        .conflicts_with("resource")
+}
+
 fn cat_command<'a>(alloc: Global) -> Result<Command<'a>, AllocError> {
     let with_image = Command::new(alloc, "cat")
-        .about("Writes the bytes of a file's fork, and nothing else")
+        .about(
+            "Writes the bytes of a file's fork, or of the file with both forks, and nothing else",
+        )
         .arg(image(alloc));
     let dir = number(alloc, "DIR").help("The ID of the folder that holds the file");
     let with_dir = with_argument(with_image, dir);
     let with_name = with_argument(with_dir, name(alloc).help("The file's name"));
-    with_argument(with_name, resource(alloc))
+    let with_resource = with_argument(with_name, resource(alloc));
+    with_made_argument(with_resource, macbinary(alloc))
 }
 
 fn new_command<'a>(alloc: Global) -> Result<Command<'a>, AllocError> {
@@ -340,6 +374,18 @@ fn info_words<'a>(matches: &ArgMatches<'a>) -> Words<'a> {
 }
 
 fn cat_words<'a>(matches: &ArgMatches<'a>) -> Words<'a> {
+    if matches.get_flag("macbinary") {
+        Words::MacBinary(FileWords {
+            image: text_of(matches, "IMAGE"),
+            dir: number_of(matches, "DIR"),
+            name: text_of(matches, "NAME"),
+        })
+    } else {
+        fork_words(matches)
+    }
+}
+
+fn fork_words<'a>(matches: &ArgMatches<'a>) -> Words<'a> {
     let fork = if matches.get_flag("resource") {
         Fork::ResFork
     } else {
