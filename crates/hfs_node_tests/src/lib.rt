@@ -1,9 +1,11 @@
-//! Tests of nodes against bytes by hand; of the records, keys and counts in them against rows of bytes by hand, and against a catalog
+//! Tests of nodes against bytes by hand; of AppleDouble and MacBinary files likewise; of the records, keys and counts in them against rows of bytes by hand, and against a catalog
 //! node of a real volume.
 #![tactic(auto)]
 
 #[cfg(test)]
 mod counts;
+#[cfg(test)]
+mod encodings;
 #[cfg(test)]
 mod keys;
 #[cfg(test)]
