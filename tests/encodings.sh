@@ -64,7 +64,7 @@ if command -v hmount > /dev/null; then
     truncate -s 800K peer.img
     hformat -l Peer peer.img > log
     hcopy -m ours.bin : 2>&1 || fail "hcopy -m ends with $?"
-    hls -l > log
+    hls -la > log # the file is invisible
     grep -q 'TEXT/ttxt  *3  *2000 ' log || fail "hls tells $(cat log)"
     hcopy -r :f data || fail "hcopy -r ends with $?"
     hcopy -m :f back.bin || fail "hcopy -m ends with $?"
