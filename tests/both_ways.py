@@ -5,6 +5,7 @@ node maps. Where only nodes that no map marks hold other bytes, it wants that no
 
 python3 both_ways.py TOOL VOLUMES        VOLUMES has real volumes, as *.img
 """
+import concurrent.futures
 import os
 import subprocess
 import sys
@@ -160,33 +161,59 @@ def compare(tool, path, words, image):
     return (redirected.returncode, redirected.stdout, redirected.stderr) == wanted
 
 
-def main():
-    tool, volumes = sys.argv[1:]
+def volumes_to_try(volumes, path):
+    """The volumes of this folder, and volumes with a cut catalog, each by its name."""
+    for name in sorted(os.listdir(volumes)):
+        if name.endswith('.img'):
+            yield name, open(os.path.join(volumes, name), 'rb').read()
+    for kind, count in LAID:
+        subprocess.run([sys.executable, os.path.join(HERE, 'slow_volumes.py'), kind, str(count), '1', path], check=True, stdout=subprocess.DEVNULL)
+        yield kind, open(path, 'rb').read()
+
+
+def fault_of_free_nodes(tool, path, base):
+    """How the volume tells another thing where its free nodes hold other bytes, or None."""
+    for how, image in unmarked(base):
+        told_of = []
+        for bytes_now in (base, image):
+            with open(path, 'wb') as file:
+                file.write(bytes_now)
+            told_of.append([told(tool, words) for words in words_on(tool, path)])
+        if told_of[0] != told_of[1]:
+            return f'{how}: another thing is told'
+    return None
+
+
+def tried(tool, name, base):
+    """How many images were made of a volume, how many words were compared on them, and the first that differs, or None."""
     images, runs = 0, 0
     with tempfile.TemporaryDirectory() as work:
         path = os.path.join(work, 'image')
-        bases = [(name, open(os.path.join(volumes, name), 'rb').read()) for name in sorted(os.listdir(volumes)) if name.endswith('.img')]
-        for kind, count in LAID:
-            subprocess.run([sys.executable, os.path.join(HERE, 'slow_volumes.py'), kind, str(count), '1', path], check=True, stdout=subprocess.DEVNULL)
-            bases.append((kind, open(path, 'rb').read()))
-        for name, base in bases:
-            for how, image in unmarked(base):
-                told_of = []
-                for bytes_now in (base, image):
-                    with open(path, 'wb') as file:
-                        file.write(bytes_now)
-                    told_of.append([told(tool, words) for words in words_on(tool, path)])
-                if told_of[0] != told_of[1]:
-                    sys.exit(f'{name} {how}: another thing is told')
-            for how, image in [('as it is', base), *lengths(base), *numbers(base), *overflow(base), *maps(base), *unmarked(base)]:
-                with open(path, 'wb') as file:
-                    file.write(image)
-                images += 1
-                for words in words_on(tool, path):
-                    runs += 1
-                    if not compare(tool, path, words, image):
-                        sys.exit(f'{name} {how}: {" ".join(words)} tells another thing by a path')
-    print(f'{images} images, {runs} words: the same by a path and out of a pipe')
+        fault = fault_of_free_nodes(tool, path, base)
+        if fault:
+            return images, runs, f'{name} {fault}'
+        for how, image in [('as it is', base), *lengths(base), *numbers(base), *overflow(base), *maps(base), *unmarked(base)]:
+            with open(path, 'wb') as file:
+                file.write(image)
+            images += 1
+            for words in words_on(tool, path):
+                runs += 1
+                if not compare(tool, path, words, image):
+                    return images, runs, f'{name} {how}: {" ".join(words)} tells another thing by a path'
+    return images, runs, None
 
 
-main()
+def main():
+    tool, volumes = sys.argv[1:]
+    with tempfile.TemporaryDirectory() as work:
+        bases = list(volumes_to_try(volumes, os.path.join(work, 'image')))
+    with concurrent.futures.ProcessPoolExecutor(os.cpu_count()) as pool:
+        results = list(pool.map(tried, [tool] * len(bases), *zip(*bases)))
+    for _, _, fault in results:
+        if fault:
+            sys.exit(fault)
+    print(f'{sum(it[0] for it in results)} images, {sum(it[1] for it in results)} words: the same by a path and out of a pipe')
+
+
+if __name__ == '__main__':
+    main()
