@@ -46,8 +46,8 @@ for path in sys.argv[1:]:
         elif word == "old":
             old = text
         elif line.startswith("new:"):
-            if texts[file].count(old) != 1:
-                print(f"{path}: the text is in {file} {texts[file].count(old)} times: {old}")
+            if texts[file].count(old) != 1 or old == line[4:].lstrip():
+                print(f"{path}: the text is in {file} {texts[file].count(old)} times, and must stand once and be changed: {old}")
                 lost += 1
             texts[file] = texts[file].replace(old, line[4:].lstrip())
 print(f"{len(sys.argv) - 1} wrong bodies looked at: {lost} texts that aren't there once")
