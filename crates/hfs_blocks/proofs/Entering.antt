@@ -2,7 +2,8 @@
 use Rattle.std.proofs.Common.{◌≡◌, ℕ, ◌<◌, ◌⊎◌, Bool, true, false, cond, List, [], ◌∷◌, length, Option, Some, None, IsSome, unwrap_or, nat_eq, slice_get, refl, sym, ap, ◌∙◌, subst, arith, suc, ⊎_elim, inl, inr, true≢false, eqb-true, rules}
 use Rattle.std.specs.Map.{lookup}
 use Rattle.std.specs.Option.{option_or}
-use Rattle.hfs_blocks.specs.Layers.{Changes, Numbered, changes, with_change, over, AreWithin, AreWithin-with_change, HasJoined}
+use Rattle.hfs_blocks.specs.Layers.{Changes, Numbered, changes, with_change, over, AreWithin, HasJoined}
+use Rattle.hfs_blocks.proofs.LayerLemmas.{AreWithin-with_change}
 
 -- a block that is there is that of an entry
 pub found : (es : Numbered) (k : ℕ) → IsSome (changes es k) → (j : ℕ) × (p : ℕ × List ℕ) × (j < length es) × (slice_get es j ≡ Some p) × (p.0 ≡ k)

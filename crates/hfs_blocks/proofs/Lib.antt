@@ -1,2 +1,3 @@
 pub mod Entering
 mod FileRuns
+pub mod LayerLemmas

@@ -1,8 +1,7 @@
 -- Blocks that are laid over other blocks.
-use Rattle.std.specs.Prelude.{◌≡◌, ℕ, ◌<◌, ◌⊎◌, Bool, true, false, List, [], length, Option, Some, None, IsSome, nat_eq, if◌then◌else◌, unwrap_or, refl}
+use Rattle.std.specs.Prelude.{◌≡◌, ℕ, ◌<◌, ◌⊎◌, List, length, Option, Some, None, IsSome, nat_eq, if◌then◌else◌, unwrap_or, refl}
 use Rattle.std.specs.Map.{lookup, keys_of}
 use Rattle.std.specs.Option.{option_or}
-use Rattle.std.proofs.Common.{sym, ap, ◌∙◌, subst, cond, eqb-true}
 
 -- blocks by number, where there are some
 abbrev pub Changes : Type 0
@@ -50,42 +49,12 @@ ShowsSame below old new = (k : ℕ) → over new below k ≡ over old below k
 abbrev pub ShowsLaid : (ℕ → List ℕ) → Changes → Changes → Changes → Type 0
 ShowsLaid below old other new = (k : ℕ) → over new below k ≡ over other (over old below) k
 
--- the blocks, with b as the one of number n
-abbrev pub with_block : (ℕ → List ℕ) → ℕ → List ℕ → ℕ → List ℕ
-with_block blocks n b k = if nat_eq n k then b else blocks k
-
 pub length-over : (changes : Changes) (below : ℕ → List ℕ) (n : ℕ) → AreWhole changes → length (below n) ≡ 512 → length (over changes below n) ≡ 512
 length-over changes below n whole own = by (changes n) refl
   where
     by : (o : Option (List ℕ)) → changes n ≡ o → length (unwrap_or o (below n)) ≡ 512
     by None e = own
     by (Some b) e = whole n b e
-
--- a block that is put into a patch whose blocks are within
-pub AreWithin-with_change : (changes : Changes) (n : ℕ) (b : List ℕ) (count : ℕ) → n < count → length b ≡ 512 → AreWithin changes count → AreWithin (with_change changes n b) count
-AreWithin-with_change changes n b count low whole within k c found = by (nat_eq n k) refl
-  where
-    by : (t : Bool) → nat_eq n k ≡ t → (k < count) × (length c ≡ 512)
-    by true same =
-        let e : Some b ≡ Some c = sym (ap (λ t. cond t (Some b) (changes k)) same) ∙ found in
-        let bc : b ≡ c = cc in
-        (subst (λ x. x < count) (eqb-true n k same) low, subst (λ (x : List ℕ). length x ≡ 512) bc whole)
-    by false other = within k c (sym (ap (λ t. cond t (Some b) (changes k)) other) ∙ found)
-
--- a patch without blocks has none that isn't within
-pub AreWithin-nothing : (count : ℕ) → AreWithin (changes []) count
-AreWithin-nothing count n b found = absurd (none_some found)
-  where
-    none_some : None ≡ Some b → ⊥
-    none_some e = cc
-
--- a block that is put into a patch is put over what the patch was laid over
-pub over-with_change : (changes : Changes) (below : ℕ → List ℕ) (n : ℕ) (b : List ℕ) → over (with_change changes n b) below ≡ with_block (over changes below) n b
-over-with_change changes below n b i k = by (nat_eq n k) i
-  where
-    by : (t : Bool) → unwrap_or (if t then Some b else changes k) (below k) ≡ (if t then b else unwrap_or (changes k) (below k))
-    by true = refl
-    by false = refl
 
 -- no block came but those that another has
 abbrev pub GainsOnly : Changes → Changes → Changes → Type 0

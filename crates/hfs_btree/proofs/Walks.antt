@@ -10,16 +10,16 @@ use Rattle.hfs_btree.specs.declared.header.Header.{Header}
 use Rattle.hfs_btree.specs.declared.key.Key.{Ghosts}
 use Rattle.hfs_btree.specs.Pairs.{Pairs, pairs_from}
 use Rattle.hfs_scans.specs.Each.{Each}
-use Rattle.hfs_scans.specs.Elements.{each-at}
+use Rattle.hfs_scans.proofs.ElementLemmas.{each-at}
 use Rattle.hfs_btree.specs.Tree.{Store, node_in, first_of, forward_of, pair_of, pairs, records_in, records_of}
 use Rattle.hfs_btree.specs.Header.{header_in, depth_of, leaves, tree_content}
-use Rattle.hfs_btree.specs.Lookups.{from-between}
+use Rattle.hfs_btree.proofs.LookupLemmas.{from-between}
 use Rattle.hfs_btree.specs.Search.{leaf_for}
 use Rattle.hfs_btree.specs.Sound.{HasStructure, HasCounts, IsSound, IsRight}
 use Rattle.hfs_btree.specs.Walk.{pairs_along, rest_at, IsAtLeaf, IsWalk}
-use Rattle.hfs_btree.specs.Decoded.{records-read, read-in, decoded-within}
-use Rattle.hfs_btree.specs.Descent.{leaf-node, leaf-entries, content-about}
-use Rattle.hfs_btree.specs.Found.{found, about, one-behind, behind-is, next-within, next-some}
+use Rattle.hfs_btree.proofs.DecodedLemmas.{records-read, read-in, decoded-within}
+use Rattle.hfs_btree.proofs.DescentLemmas.{leaf-node, leaf-entries, content-about}
+use Rattle.hfs_btree.proofs.FoundLemmas.{found, about, one-behind, behind-is, next-within, next-some}
 
 module _ {K : Type 0} (g : Ghosts K) (nodes : Store) (structure : HasStructure g nodes) where
   pub along-none : (most n : ℕ) → n ≡ 0 → pairs_along g nodes most n ≡ []

@@ -7,9 +7,4 @@ pub mod Keys
 pub mod Lookups
 pub mod Search
 pub mod Walk
-pub mod Decoded
-pub mod Levels
-pub mod Descent
-pub mod Parts
-pub mod Found
 pub mod LeafPairs

@@ -38,7 +38,3 @@ IsAtMost cmp key ps = Each (λ p. is_gt (cmp key p.0) ≡ false) ps
 -- the key is above each key of the pairs
 abbrev pub IsAbove : {K : Type 0} → Order K → K → Pairs K → Type 0
 IsAbove cmp key ps = Each (λ p. cmp p.0 key ≡ Less) ps
-
--- the key is below each key of the pairs
-abbrev pub IsBelow : {K : Type 0} → Order K → K → Pairs K → Type 0
-IsBelow cmp key ps = Each (λ p. cmp key p.0 ≡ Less) ps

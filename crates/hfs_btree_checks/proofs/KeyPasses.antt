@@ -12,7 +12,7 @@ use Rattle.hfs_btree_checks.specs.declared.fault.TreeFault.TheVariants.{At, Memo
 use Rattle.hfs_btree.specs.declared.header.Header.{Header}
 use Rattle.hfs_btree.specs.declared.key.Key.{Ghosts}
 use Rattle.hfs_scans.specs.Each.{Each}
-use Rattle.hfs_scans.specs.Elements.{each-left, each-right, each-mono}
+use Rattle.hfs_scans.proofs.ElementLemmas.{each-left, each-right, each-mono}
 use Rattle.hfs_btree.specs.Tree.{Store, Spot, records_in, records_of, reads_at, children, spots, turn}
 use Rattle.hfs_btree.specs.Header.{header_in}
 use Rattle.hfs_btree.specs.Sound.{HasStructure, IsRight}
@@ -20,8 +20,8 @@ use Rattle.hfs_btree_checks.specs.Shape.{◌or_else◌}
 use Rattle.hfs_btree_checks.specs.ShapeSteps.{IsFault}
 use Rattle.hfs_btree_checks.specs.Order.{first_node, has_keys, key_fault, index_keys_at, index_keys}
 use Rattle.hfs_btree_checks.specs.KeySteps.{IsKeyNode, level_key_fault}
-use Rattle.hfs_btree.specs.Decoded.{decoded-within}
-use Rattle.hfs_btree.specs.Levels.{each-spots}
+use Rattle.hfs_btree.proofs.DecodedLemmas.{decoded-within}
+use Rattle.hfs_btree.proofs.LevelLemmas.{each-spots}
 use Rattle.hfs_btree_checks.proofs.ShapeNode.{decodes}
 use Rattle.hfs_btree_checks.proofs.ShapeTurn.{turn-step}
 

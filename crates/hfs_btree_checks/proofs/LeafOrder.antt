@@ -16,9 +16,9 @@ use Rattle.hfs_btree.specs.Header.{header_in, leaves, tree_content}
 use Rattle.hfs_btree.specs.Sound.{HasStructure, HasCounts, IsRight}
 use Rattle.hfs_btree_checks.specs.Order.{rise_fault, leaf_order_fault, pair_leaves}
 use Rattle.hfs_btree_checks.specs.Rises.{fall_from, last_key}
-use Rattle.hfs_btree.specs.Decoded.{records-read, read-in, decoded-within}
-use Rattle.hfs_btree.specs.Descent.{leaf-node, leaf-entries}
-use Rattle.hfs_btree.specs.Found.{behind-is}
+use Rattle.hfs_btree.proofs.DecodedLemmas.{records-read, read-in, decoded-within}
+use Rattle.hfs_btree.proofs.DescentLemmas.{leaf-node, leaf-entries}
+use Rattle.hfs_btree.proofs.FoundLemmas.{behind-is}
 use Rattle.hfs_btree_checks.proofs.Rising.{rise-is, fall-append, fall-left, fall-shift, fall-within}
 
 -- the leaves before node n were read, which have so many pairs, and their keys rise; `last` is the last of them

@@ -12,3 +12,5 @@ pub mod Rising
 pub mod LeafOrder
 pub mod KeyPasses
 pub mod OrderWhole
+pub mod OrderLawLemmas
+pub mod ShapeLawLemmas

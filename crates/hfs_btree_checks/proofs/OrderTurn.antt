@@ -8,14 +8,14 @@ use Rattle.std.proofs.lemmas.List.{drop_more, drop_all, append-nil}
 use Rattle.std.proofs.lemmas.List.Concat.{flat_map-append}
 use Rattle.hfs_btree.specs.declared.key.Key.{Ghosts}
 use Rattle.hfs_scans.specs.Each.{Each}
-use Rattle.hfs_scans.specs.Elements.{each-left, each-right}
+use Rattle.hfs_scans.proofs.ElementLemmas.{each-left, each-right}
 use Rattle.hfs_btree.specs.Tree.{Store, Spot, records_in, records_of, children, spots, turn, level_below}
 use Rattle.hfs_btree.specs.Header.{header_in, depth_of, root_level, tree_turn}
 use Rattle.hfs_btree.specs.Sound.{IsRight, HasStructure}
 use Rattle.hfs_btree_checks.specs.Shape.{◌or_else◌}
 use Rattle.hfs_btree_checks.specs.Order.{first_node, are_keys_in_order, is_keyed, index_order_fault}
 use Rattle.hfs_btree_checks.specs.Subtree.{IsSubtree, is_subtree_keyed}
-use Rattle.hfs_btree.specs.Levels.{records-some}
+use Rattle.hfs_btree.proofs.LevelLemmas.{records-some}
 
 -- ---- nodes that are right
 

@@ -10,11 +10,11 @@ use Rattle.hfs_btree.specs.declared.key.Key.{Ghosts}
 use Rattle.hfs_btree_checks.specs.declared.key_range.KeyRange.{KeyRange}
 use Rattle.hfs_btree.specs.Pairs.{Pairs}
 use Rattle.hfs_scans.specs.Each.{Each}
-use Rattle.hfs_scans.specs.Elements.{each-at, each-unmap}
+use Rattle.hfs_scans.proofs.ElementLemmas.{each-at, each-unmap}
 use Rattle.hfs_btree.specs.Tree.{Store, records_in, pair_of, under}
 use Rattle.hfs_btree.specs.Sound.{part_of}
 use Rattle.hfs_btree_checks.specs.Order.{are_parts_in_order, are_keys_in_order}
-use Rattle.hfs_btree_checks.specs.OrderLaw.{above-by, least-by}
+use Rattle.hfs_btree_checks.proofs.OrderLawLemmas.{above-by, least-by}
 use Rattle.hfs_btree_checks.specs.Subtree.{is_at_most, is_above, HasRange, IsSubtree, is_subtree_keyed}
 use Rattle.hfs_btree_checks.proofs.KeyRanges.{range-none}
 

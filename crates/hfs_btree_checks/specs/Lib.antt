@@ -1,9 +1,7 @@
 pub mod Shape
 pub mod ShapeSteps
-pub mod ShapeLaw
 pub mod Counts
 pub mod Order
-pub mod OrderLaw
 pub mod Subtree
 pub mod Rises
 pub mod KeySteps

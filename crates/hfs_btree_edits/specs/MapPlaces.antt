@@ -2,8 +2,8 @@
 use Rattle.std.specs.Prelude.{◌≡◌, ℕ, zero, suc, ◌+◌, ◌*◌, ◌<◌, ◌⊎◌, Bool, true, false, List, [], ◌∷◌, ◌++◌, Ok, length, slice_set, slice_index_or}
 use Rattle.std.specs.List.{flat_map}
 use Rattle.hfs_node.specs.declared.node.Node.{Node}
-use Rattle.hfs_btree.specs.Tree.{Store, node_in, forward_of}
-use Rattle.hfs_btree.specs.Header.{record_in, chain_from, own_nodes, bit_of}
+use Rattle.hfs_btree.specs.Tree.{Store, node_in}
+use Rattle.hfs_btree.specs.Header.{record_in, own_nodes, bit_of}
 use Rattle.hfs_btree_edits.specs.declared.map_bit.MapBit.{MapBit}
 use Rattle.hfs_btree_edits.specs.Stored.{HasStored}
 
@@ -18,13 +18,6 @@ part_in nodes n = record_in nodes n (entry_of n)
 -- how many bits the parts of these nodes have
 abbrev pub bits_of : Store → List ℕ → ℕ
 bits_of nodes ns = 8 * length (flat_map (part_in nodes) ns)
-
--- node `at` has a part of the map, behind so many bits of others, and at most so many nodes follow
-pub record IsPart (nodes : Store) (most at entry before : ℕ) : Type 0 where
-  pub done : List ℕ
-  pub split : own_nodes nodes ≡ done ++ at ∷ chain_from nodes most (forward_of (node_in nodes at))
-  pub which : entry ≡ entry_of at
-  pub bits : before ≡ bits_of nodes done
 
 -- the bit of node n is that bit of the part that node `at` has
 pub record IsPlaced (nodes : Store) (at entry bit n : ℕ) : Type 0 where

@@ -11,12 +11,12 @@ use Rattle.std.proofs.lemmas.List.Folds.{flat_map-map}
 use Rattle.hfs_btree_insertion.proofs.PartLists.{parts-left, parts-right, rises-before, rises-right, rises-least, above-front, first-most}
 use Rattle.hfs_btree.specs.Pairs.{Pairs, Rises, IsAbove, IsAtMost}
 use Rattle.hfs_scans.specs.Each.{Each}
-use Rattle.hfs_scans.specs.Elements.{each-append, each-left, each-right, each-mono, each-unmap}
+use Rattle.hfs_scans.proofs.ElementLemmas.{each-append, each-left, each-right, each-mono, each-unmap}
 use Rattle.hfs_btree.specs.Tree.{Store, Spot, records_in, children, pair_of, pairs, spots, turn, under, level_below, last_level}
 use Rattle.hfs_btree.specs.Header.{depth_of, root_level, tree_content}
 use Rattle.hfs_btree.specs.Sound.{AreKeysInOrder, ArePartsInOrder, IsRight, part_of}
-use Rattle.hfs_btree.specs.Levels.{flat_map-flat_map, map-split, records-some}
-use Rattle.hfs_btree_edits.specs.LevelParts.{parts-kept, at-spots, of-spots, KeepsRecords, KeepsAt, KeepsUnder, under-kept, same-flat, keys-kept}
+use Rattle.hfs_btree.proofs.LevelLemmas.{flat_map-flat_map, map-split, records-some}
+use Rattle.hfs_btree_edits.proofs.LevelPartLemmas.{parts-kept, at-spots, of-spots, KeepsRecords, KeepsAt, KeepsUnder, under-kept, same-flat, keys-kept}
 
 module _ {K : Type 0} (g : Ghosts K) (nodes : Store) where
   -- the pairs under such records of a node so many levels above the leaves

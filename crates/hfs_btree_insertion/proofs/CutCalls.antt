@@ -6,14 +6,14 @@ use Rattle.std.proofs.lemmas.Bool.{eq-eqb}
 use Rattle.hfs_node.specs.declared.node.Node.{Node}
 use Rattle.hfs_node.specs.declared.fault.NodeFault.{NodeFault}
 use Rattle.hfs_node.specs.Node.{size_of}
-use Rattle.hfs_node.specs.Decoding.{node_of-fits}
-use Rattle.hfs_node.specs.ReadBack.{few-records}
+use Rattle.hfs_node.proofs.DecodingLemmas.{node_of-fits}
+use Rattle.hfs_node.proofs.ReadBackLemmas.{few-records}
 use Rattle.hfs_btree.specs.declared.key.Key.{Ghosts}
 use Rattle.hfs_scans.specs.Each.{Each}
-use Rattle.hfs_scans.specs.Elements.{each-at}
+use Rattle.hfs_scans.proofs.ElementLemmas.{each-at}
 use Rattle.hfs_btree.specs.Tree.{Store, node_in, records_in, records_of, reads_at, forward_of, first_of}
 use Rattle.hfs_btree.specs.Sound.{IsRight, IsSound, IsStray}
-use Rattle.hfs_btree.specs.Descent.{IsOnWay, way-node, index-entries}
+use Rattle.hfs_btree.proofs.DescentLemmas.{IsOnWay, way-node, index-entries}
 use Rattle.hfs_btree_edits.specs.Stored.{HasStored}
 use Rattle.hfs_btree_insertion.specs.Stored.{HasRecordPut}
 use Rattle.hfs_btree_insertion.specs.Cut.{IsBranch, child_at, HasCutAt}

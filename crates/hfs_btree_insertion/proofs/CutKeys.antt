@@ -4,14 +4,16 @@ use Rattle.std.specs.Prelude.{insert}
 use Rattle.hfs_btree.specs.declared.key.Key.{Ghosts}
 use Rattle.hfs_scans.specs.Each.{Each}
 use Rattle.hfs_scans.specs.Members.{In}
-use Rattle.hfs_scans.specs.Elements.{each-at, each-append, each-left, each-right}
+use Rattle.hfs_scans.proofs.ElementLemmas.{each-at, each-append, each-left, each-right}
 use Rattle.hfs_btree.specs.Tree.{Store, Spot, records_in, key_at, spots}
 use Rattle.hfs_btree.specs.Header.{tree_turn}
 use Rattle.hfs_btree.specs.Sound.{IsOther, HasStructure}
 use Rattle.hfs_btree_edits.specs.Stored.{HasClaimed}
-use Rattle.hfs_btree_edits.specs.LevelParts.{KeepsAt, KeepsRecords, entry_key, numbers}
-use Rattle.hfs_btree_edits.specs.Apart.{each-take, each-drop}
-use Rattle.hfs_btree_edits.specs.KeptKeys.{EachKey, tree_keys, hold-keys, keys-hold}
+use Rattle.hfs_btree_edits.proofs.LevelPartLemmas.{KeepsAt, KeepsRecords, numbers}
+use Rattle.hfs_btree_edits.specs.LevelParts.{entry_key}
+use Rattle.hfs_btree_edits.proofs.ApartLemmas.{each-take, each-drop}
+use Rattle.hfs_btree_edits.specs.KeptKeys.{EachKey, tree_keys}
+use Rattle.hfs_btree_edits.proofs.KeptKeyLemmas.{hold-keys, keys-hold}
 use Rattle.hfs_btree_insertion.specs.Cut.{IsSplit}
 use Rattle.hfs_btree_insertion.specs.Growth.{NodesStay, KeysStay}
 use Rattle.hfs_btree_insertion.proofs.Taken.{claimed-keep}

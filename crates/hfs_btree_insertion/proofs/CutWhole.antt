@@ -15,14 +15,14 @@ use Rattle.hfs_btree_insertion.specs.Cut.{IsSplit, IsBranch, child_at, HasCutAt}
 use Rattle.hfs_btree_edits.specs.LevelParts.{lift}
 use Rattle.hfs_btree_edits.specs.Edits.{level_above, node_for}
 use Rattle.hfs_btree_insertion.specs.Growth.{IsLow, HasCutLevel}
-use Rattle.hfs_btree.specs.Descent.{place-within, way-some}
-use Rattle.hfs_btree_edits.specs.LevelParts.{lift-is}
+use Rattle.hfs_btree.proofs.DescentLemmas.{place-within, way-some}
+use Rattle.hfs_btree_edits.proofs.LevelPartLemmas.{lift-is}
 use Rattle.hfs_btree_insertion.proofs.LevelWays.{some-of, standing}
-use Rattle.hfs_btree.specs.Decoded.{records-read}
+use Rattle.hfs_btree.proofs.DecodedLemmas.{records-read}
 use Rattle.hfs_btree_insertion.proofs.WayTo.{IsAt, at-level, leaf-next, read-index}
 use Rattle.hfs_scans.specs.Each.{Each}
-use Rattle.hfs_scans.specs.Elements.{each-left, each-right, each-append}
-use Rattle.hfs_btree_edits.specs.LevelParts.{numbers}
+use Rattle.hfs_scans.proofs.ElementLemmas.{each-left, each-right, each-append}
+use Rattle.hfs_btree_edits.proofs.LevelPartLemmas.{numbers}
 use Rattle.hfs_btree_insertion.proofs.Splits.{uppers, lowers, above-level, old-level, new-level, bn, hn, all-is, forward-is, new-nodes, new-exact, stray-gone, stray-same, one-more, levels-above, level-grown, levels-below}
 use Rattle.hfs_btree_insertion.proofs.SplitWays.{way-above, way-below, way-node, records-uppers, records-below, low-above, low-half, half-size, new-at, one-down}
 use Rattle.hfs_btree_insertion.proofs.CutKeys.{claimed-stay, claimed-keys, split-stay, split-keys, stay-then, keys-then}

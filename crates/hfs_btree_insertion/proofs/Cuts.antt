@@ -8,14 +8,14 @@ use Rattle.hfs_node.specs.declared.node.Node.{Node}
 use Rattle.hfs_node.specs.declared.fault.NodeFault.{NodeFault}
 use Rattle.hfs_btree.specs.declared.key.Key.{Ghosts}
 use Rattle.hfs_scans.specs.Each.{Each}
-use Rattle.hfs_scans.specs.Elements.{each-left, each-right}
+use Rattle.hfs_scans.proofs.ElementLemmas.{each-left, each-right}
 use Rattle.hfs_btree.specs.Tree.{Store, Spot, records_in, children, spots, first_of, turn}
 use Rattle.hfs_btree.specs.Header.{root_level, map_nodes, own_nodes, tree_turn, tree_nodes}
 use Rattle.hfs_btree.specs.Sound.{IsOther, IsDistinct, IsRight, HasStructure}
-use Rattle.hfs_btree.specs.Levels.{at-spot}
-use Rattle.hfs_btree.specs.Descent.{next-split}
-use Rattle.hfs_btree_edits.specs.LevelParts.{upper, numbers, numbers-spots, turn-split}
-use Rattle.hfs_btree_edits.specs.Apart.{apart-at, in-second, in-third, right-others}
+use Rattle.hfs_btree.proofs.LevelLemmas.{at-spot}
+use Rattle.hfs_btree.proofs.DescentLemmas.{next-split}
+use Rattle.hfs_btree_edits.proofs.LevelPartLemmas.{upper, numbers, numbers-spots, turn-split}
+use Rattle.hfs_btree_edits.proofs.ApartLemmas.{apart-at, in-second, in-third, right-others}
 
 module _ {K : Type 0} (g : Ghosts K) (old : Store) (i k p n m q c : ℕ) (a : IsCut g old i k p n m q c) (structure : HasStructure g old) where
   abbrev pub es : List (List ℕ)

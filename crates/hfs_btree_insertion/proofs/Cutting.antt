@@ -7,10 +7,10 @@ use Rattle.std.proofs.lemmas.List.Elements.{All-nil, All-cons}
 use Rattle.hfs_node.specs.declared.node.Node.{Node}
 use Rattle.hfs_node.specs.declared.fault.NodeFault.{NodeFault}
 use Rattle.hfs_node.specs.Node.{size_of}
-use Rattle.hfs_node.specs.Sizes.{size_of-insert}
+use Rattle.hfs_node.proofs.SizeLemmas.{size_of-insert}
 use Rattle.hfs_btree.specs.declared.key.Key.{Ghosts}
 use Rattle.hfs_scans.specs.Each.{Each}
-use Rattle.hfs_scans.specs.Elements.{each-at, each-right}
+use Rattle.hfs_scans.proofs.ElementLemmas.{each-at, each-right}
 use Rattle.hfs_btree.specs.Tree.{Store, Spot, node_in, records_in, records_of, reads_at, spots, first_of, turn}
 use Rattle.hfs_btree.specs.Header.{record_in, root_level}
 use Rattle.hfs_btree.specs.Sound.{IsSound, IsRight, IsStray}
@@ -18,9 +18,9 @@ use Rattle.hfs_btree_edits.specs.Stored.{HasStored}
 use Rattle.hfs_btree_insertion.specs.Stored.{HasLinked}
 use Rattle.hfs_btree_insertion.specs.Cut.{IsCut, IsBranch, child_at, HasCutAt}
 use Rattle.hfs_btree_edits.specs.LevelParts.{entry_key}
-use Rattle.hfs_btree.specs.Decoded.{decoded-within}
-use Rattle.hfs_btree.specs.Descent.{IsOnWay, way-node, way-down, way-within, index-entries}
-use Rattle.hfs_btree_edits.specs.LevelParts.{upper, turn-split}
+use Rattle.hfs_btree.proofs.DecodedLemmas.{decoded-within}
+use Rattle.hfs_btree.proofs.DescentLemmas.{IsOnWay, way-node, way-down, way-within, index-entries}
+use Rattle.hfs_btree_edits.proofs.LevelPartLemmas.{upper, turn-split}
 use Rattle.hfs_btree_insertion.proofs.Cuts.{hn}
 use Rattle.hfs_btree_insertion.proofs.PutWhole.{head-long, own-long}
 use Rattle.hfs_btree_insertion.proofs.SplitWrites.{IsEntry, z-own, split-writes, split-sound}

@@ -9,16 +9,16 @@ use Rattle.std.proofs.lemmas.Bool.{cases_Bool, cond-true, cond-false}
 use Rattle.hfs_btree.specs.declared.key.Key.{Ghosts}
 use Rattle.hfs_btree.specs.Pairs.{Pairs, Rises, IsAtMost}
 use Rattle.hfs_scans.specs.Each.{Each}
-use Rattle.hfs_scans.specs.Elements.{each-at, each-left, each-right, each-mono, each-both}
-use Rattle.hfs_btree.specs.Lookups.{le-lt}
+use Rattle.hfs_scans.proofs.ElementLemmas.{each-at, each-left, each-right, each-mono, each-both}
+use Rattle.hfs_btree.proofs.LookupLemmas.{le-lt}
 use Rattle.hfs_btree.specs.Tree.{Store, Spot, records_in, children, spots, first_of, turn, under}
 use Rattle.hfs_btree.specs.Header.{header_in, depth_of, root_level, tree_turn, tree_content}
 use Rattle.hfs_btree.specs.Sound.{IsSound, IsRight, IsExact, AreKeysExact, AreKeysInOrder, first_key}
 use Rattle.hfs_btree.specs.Search.{is_not_above, child_for, leaf_under}
 use Rattle.hfs_btree_edits.specs.Edits.{IsAboveFirst}
 use Rattle.hfs_btree_edits.specs.LevelParts.{entry_key}
-use Rattle.hfs_btree.specs.Levels.{records-some, at-spot}
-use Rattle.hfs_btree.specs.Descent.{next-split, place-within}
+use Rattle.hfs_btree.proofs.LevelLemmas.{records-some, at-spot}
+use Rattle.hfs_btree.proofs.DescentLemmas.{next-split, place-within}
 use Rattle.hfs_btree_insertion.proofs.Contents.{content, under-content, content-under, Keyed, AreRecordsInOrder, records-keyed, HavePairs, have-pairs, middle-most}
 use Rattle.hfs_btree_insertion.proofs.Exacts.{first-entry}
 

@@ -6,11 +6,11 @@ use Rattle.std.specs.List.{flat_map}
 use Rattle.std.specs.declared.cmp.Ordering.TheVariants.{Equal}
 use Rattle.hfs_btree.specs.declared.key.Key.{Ghosts}
 use Rattle.hfs_scans.specs.Each.{Each}
-use Rattle.hfs_scans.specs.Elements.{each-append, each-left, each-right, each-mono}
+use Rattle.hfs_scans.proofs.ElementLemmas.{each-append, each-left, each-right, each-mono}
 use Rattle.hfs_btree.specs.Tree.{Store, Spot, records_in, children, spots, turn, level_below}
 use Rattle.hfs_btree.specs.Header.{record_in}
 use Rattle.hfs_btree.specs.Sound.{AreKeysExact, first_key}
-use Rattle.hfs_btree_edits.specs.LevelParts.{upper, of-spots, KeepsRecords, KeepsAt}
+use Rattle.hfs_btree_edits.proofs.LevelPartLemmas.{upper, of-spots, KeepsRecords, KeepsAt}
 
 pub first-entry : {K : Type 0} (g : Ghosts K) (nodes : Store) (k n : ℕ) → first_key g nodes k n ≡ entry_key g k (record_in nodes n 0)
 first-entry g nodes zero n = refl

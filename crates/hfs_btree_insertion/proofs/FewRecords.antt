@@ -7,16 +7,16 @@ use Rattle.std.proofs.lemmas.List.{length-map}
 use Rattle.hfs_node.specs.declared.node.Node.{Node}
 use Rattle.hfs_node.specs.declared.fault.NodeFault.{NodeFault}
 use Rattle.hfs_node.specs.Node.{node_of}
-use Rattle.hfs_node.specs.Decoding.{node_of-is, length-records, count-inside}
+use Rattle.hfs_node.proofs.DecodingLemmas.{node_of-is, length-records, count-inside}
 use Rattle.hfs_btree.specs.declared.key.Key.{Ghosts}
 use Rattle.hfs_scans.specs.Each.{Each}
-use Rattle.hfs_scans.specs.Elements.{each-append, each-left, each-right}
+use Rattle.hfs_scans.proofs.ElementLemmas.{each-append, each-left, each-right}
 use Rattle.hfs_btree.specs.Tree.{Store, node_in, records_in, records_of, pair_of, pairs}
 use Rattle.hfs_btree.specs.Header.{header_in, depth_of, root_level, leaves, own_nodes, tree_nodes, tree_content}
 use Rattle.hfs_btree.specs.Sound.{IsOther, IsDistinct, IsRight, IsSound}
-use Rattle.hfs_btree.specs.Levels.{each-spots}
-use Rattle.hfs_btree.specs.Descent.{leaves-right}
-use Rattle.hfs_btree_edits.specs.Distinct.{distinct-right, last-distinct, other-before, other-behind}
+use Rattle.hfs_btree.proofs.LevelLemmas.{each-spots}
+use Rattle.hfs_btree.proofs.DescentLemmas.{leaves-right}
+use Rattle.hfs_btree_edits.proofs.DistinctLemmas.{distinct-right, last-distinct, other-before, other-behind}
 
 -- ---- different numbers below one are no more than it
 

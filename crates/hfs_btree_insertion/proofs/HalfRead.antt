@@ -4,10 +4,10 @@ use Rattle.std.specs.Prelude.{Ok, Err, true}
 use Rattle.hfs_node.specs.declared.node.Node.{Node}
 use Rattle.hfs_node.specs.declared.fault.NodeFault.{NodeFault}
 use Rattle.hfs_node.specs.Node.{node_of, size_of}
-use Rattle.hfs_node.specs.Sizes.{size_of-nil, size_of-take-le, size_of-take-drop}
+use Rattle.hfs_node.proofs.SizeLemmas.{size_of-nil, size_of-take-le, size_of-take-drop}
 use Rattle.hfs_btree.specs.declared.key.Key.{Ghosts}
 use Rattle.hfs_btree.specs.Tree.{Store, records_in, records_of}
-use Rattle.hfs_btree.specs.Decoded.{records-read, error-empty}
+use Rattle.hfs_btree.proofs.DecodedLemmas.{records-read, error-empty}
 use Rattle.hfs_btree_edits.specs.LevelParts.{entry_key}
 use Rattle.hfs_btree_insertion.specs.Cut.{child_at}
 use Rattle.hfs_btree_insertion.specs.Halves.{NamesHalf}

@@ -5,13 +5,14 @@ use Rattle.hfs_node.specs.Node.{size_of}
 use Rattle.hfs_btree.specs.declared.header.Header.{Header}
 use Rattle.hfs_btree.specs.declared.key.Key.{Ghosts}
 use Rattle.hfs_btree.specs.Pairs.{Pairs, lookup}
-use Rattle.hfs_scans.specs.Elements.{each-left, each-right, each-append}
+use Rattle.hfs_scans.proofs.ElementLemmas.{each-left, each-right, each-append}
 use Rattle.hfs_btree.specs.Tree.{Store, Spot, records_in}
 use Rattle.hfs_btree.specs.Header.{header_in, depth_of, own_nodes, free_nodes, tree_nodes, tree_content}
 use Rattle.hfs_btree.specs.Sound.{IsOther, IsSound}
 use Rattle.hfs_btree.specs.Search.{is_not_above, leaf_under}
 use Rattle.hfs_btree_edits.specs.Edits.{IsAboveFirst, KeepsTree, level_above, node_for, entry_len, with_pair, HasGrown, HasRisen, HasInserted}
-use Rattle.hfs_btree_edits.specs.KeptKeys.{IsKeyOr, keys-hold, keys-hold_with}
+use Rattle.hfs_btree_edits.specs.KeptKeys.{IsKeyOr}
+use Rattle.hfs_btree_edits.proofs.KeptKeyLemmas.{keys-hold, keys-hold_with}
 use Rattle.hfs_btree_insertion.specs.Growth.{len_at, IsLow}
 use Rattle.hfs_btree_insertion.specs.Lowering.{HasLowered}
 use Rattle.hfs_btree_insertion.specs.Room.{HasMadeRoom}

@@ -4,16 +4,16 @@ use Rattle.std.specs.List.{flat_map, prefix_len}
 use Rattle.hfs_node.specs.Node.{size_of}
 use Rattle.hfs_btree.specs.declared.key.Key.{Ghosts}
 use Rattle.hfs_scans.specs.Each.{Each}
-use Rattle.hfs_scans.specs.Elements.{each-left, each-right, each-mono}
+use Rattle.hfs_scans.proofs.ElementLemmas.{each-left, each-right, each-mono}
 use Rattle.hfs_btree.specs.Tree.{Store, Spot, records_in, children, spots, turn, level_below}
 use Rattle.hfs_btree.specs.Header.{header_in, depth_of, root_level, tree_turn}
 use Rattle.hfs_btree.specs.Sound.{HasStructure, IsRight}
 use Rattle.hfs_btree.specs.Search.{is_not_above, child_for, leaf_under}
-use Rattle.hfs_btree.specs.Descent.{next-split, place-within}
-use Rattle.hfs_btree.specs.Levels.{records-some}
+use Rattle.hfs_btree.proofs.DescentLemmas.{next-split, place-within}
+use Rattle.hfs_btree.proofs.LevelLemmas.{records-some}
 use Rattle.hfs_btree_insertion.specs.Growth.{KeepsLevels}
 use Rattle.hfs_btree_edits.specs.LevelParts.{lift}
-use Rattle.hfs_btree_edits.specs.LevelParts.{upper, of-spots, flat-kept, KeepsRecords, KeepsAt}
+use Rattle.hfs_btree_edits.proofs.LevelPartLemmas.{upper, of-spots, flat-kept, KeepsRecords, KeepsAt}
 use Rattle.hfs_btree_insertion.proofs.WayTo.{leaf-next}
 
 abbrev pub HasRecords : Store → Spot → Type 0

@@ -11,13 +11,14 @@ use Rattle.hfs_btree.specs.declared.key.Key.{Ghosts}
 use Rattle.hfs_btree.specs.Pairs.{Pairs}
 use Rattle.hfs_scans.specs.Each.{Each}
 use Rattle.hfs_btree.specs.Tree.{Store, Spot, records_in, records_of}
-use Rattle.hfs_btree.specs.Decoded.{records-read}
+use Rattle.hfs_btree.proofs.DecodedLemmas.{records-read}
 use Rattle.hfs_btree.specs.Header.{header_in, record_in, depth_of, tree_turn, tree_content}
 use Rattle.hfs_btree.specs.Sound.{IsOther, IsSound}
 use Rattle.hfs_btree.specs.Search.{is_not_above, child_for}
-use Rattle.hfs_btree.specs.Descent.{way-some, content-none}
+use Rattle.hfs_btree.proofs.DescentLemmas.{way-some, content-none}
 use Rattle.hfs_btree_edits.specs.Edits.{IsAboveFirst, node_for}
-use Rattle.hfs_btree_edits.specs.KeptKeys.{EachKey, IsKeyOr, own-keys, keys-hold_with, each-key-mono}
+use Rattle.hfs_btree_edits.specs.KeptKeys.{EachKey, IsKeyOr}
+use Rattle.hfs_btree_edits.proofs.KeptKeyLemmas.{own-keys, keys-hold_with, each-key-mono}
 use Rattle.hfs_btree_insertion.specs.Growth.{NodesStay}
 use Rattle.hfs_btree_insertion.specs.Lowering.{HasFirstKey, HasLowFirst, HasLowered}
 use Rattle.hfs_btree_insertion.proofs.Steps.{keeps-same, keeps-then}

@@ -11,7 +11,7 @@ use Rattle.hfs_btree.specs.Tree.{Store, records_in, level_below}
 use Rattle.hfs_btree.specs.Header.{header_in, depth_of, root_level, free_nodes, tree_content}
 use Rattle.hfs_btree.specs.Sound.{IsSound}
 use Rattle.hfs_btree.specs.Search.{is_not_above, child_for, leaf_under, IsLowWay}
-use Rattle.hfs_btree.specs.Descent.{root-way, way-some}
+use Rattle.hfs_btree.proofs.DescentLemmas.{root-way, way-some}
 use Rattle.hfs_btree_edits.specs.Edits.{IsAboveFirst, level_above, node_for}
 use Rattle.hfs_btree_insertion.specs.Growth.{len_at, HasRoom, AreFull, IsLow, HasRaised}
 use Rattle.hfs_btree_insertion.specs.Steps.{AreCuttable, HasCutDown}

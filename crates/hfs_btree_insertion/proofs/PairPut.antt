@@ -6,10 +6,11 @@ use Rattle.std.specs.declared.cmp.Ordering.TheVariants.{Less, Equal, Greater}
 use Rattle.std.specs.Cmp.{IsTotalOrder}
 use Rattle.std.proofs.lemmas.Bool.{cases_Bool, cond-true, cond-false}
 use Rattle.std.proofs.lemmas.List.{length-drop}
-use Rattle.hfs_btree.specs.Pairs.{Order, Pairs, Rises, IsAbove, IsBelow, lookup, pairs_from}
+use Rattle.hfs_btree.specs.Pairs.{Order, Pairs, Rises, IsAbove, lookup, pairs_from}
+use Rattle.hfs_btree.proofs.PairLemmas.{IsBelow}
 use Rattle.hfs_scans.specs.Each.{Each}
-use Rattle.hfs_scans.specs.Elements.{each-mono}
-use Rattle.hfs_btree.specs.Lookups.{flipped, above-below}
+use Rattle.hfs_scans.proofs.ElementLemmas.{each-mono}
+use Rattle.hfs_btree.proofs.LookupLemmas.{flipped, above-below}
 use Rattle.hfs_btree_edits.specs.Edits.{with_pair}
 
 module _ {K : Type 0} (cmp : Order K) (total : IsTotalOrder cmp) (key : K) (body : List ℕ) where

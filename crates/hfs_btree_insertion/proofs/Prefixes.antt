@@ -9,8 +9,8 @@ use Rattle.std.proofs.lemmas.Bool.{cases_Bool, cond-true, cond-false}
 use Rattle.hfs_btree.specs.Pairs.{Order, Pairs, IsAbove, IsAtMost}
 use Rattle.hfs_scans.specs.Each.{Each}
 use Rattle.hfs_btree.specs.Sound.{ArePartsInOrder}
-use Rattle.hfs_scans.specs.Elements.{each-left}
-use Rattle.hfs_btree.specs.Lookups.{le-lt, lt-le}
+use Rattle.hfs_scans.proofs.ElementLemmas.{each-left}
+use Rattle.hfs_btree.proofs.LookupLemmas.{le-lt, lt-le}
 use Rattle.hfs_btree_insertion.proofs.PartLists.{above-front}
 
 module _ (p : List ℕ → Bool) where

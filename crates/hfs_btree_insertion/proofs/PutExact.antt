@@ -8,13 +8,13 @@ use Rattle.hfs_node.specs.declared.node.Node.{Node}
 use Rattle.hfs_node.specs.declared.fault.NodeFault.{NodeFault}
 use Rattle.hfs_btree.specs.declared.key.Key.{Ghosts}
 use Rattle.hfs_scans.specs.Each.{Each}
-use Rattle.hfs_scans.specs.Elements.{each-append, each-left, each-right, each-mono}
+use Rattle.hfs_scans.proofs.ElementLemmas.{each-append, each-left, each-right, each-mono}
 use Rattle.hfs_btree.specs.Tree.{Store, Spot, records_in, records_of, children, spots, turn}
 use Rattle.hfs_btree.specs.Header.{depth_of, root_level, tree_turn}
 use Rattle.hfs_btree.specs.Sound.{IsRight, IsSound, IsExact, AreKeysExact}
-use Rattle.hfs_btree.specs.Search.{IsLeafFor}
+use Rattle.hfs_btree.proofs.SearchLemmas.{IsLeafFor}
 use Rattle.hfs_btree_insertion.proofs.Exacts.{KeepsFirst, Exact, exact-spots, exact-of-spots, level-exact, keeps-first}
-use Rattle.hfs_btree_edits.specs.LevelParts.{of-spots}
+use Rattle.hfs_btree_edits.proofs.LevelPartLemmas.{of-spots}
 use Rattle.hfs_btree_insertion.proofs.Puts.{IsPutIn, index-records, keeps, index-keeps, put-turn}
 
 leaves-exact : {K : Type 0} (g : Ghosts K) (nodes : Store) (left : ℕ) (ns : List ℕ) → Each (λ (x : Spot). AreKeysExact g nodes x.above x.n) (spots 0 left ns)

@@ -11,16 +11,18 @@ use Rattle.hfs_node.specs.declared.kind.NodeKind.TheVariants.{Leaf, Index}
 use Rattle.hfs_btree.specs.declared.key.Key.{Ghosts}
 use Rattle.hfs_btree.specs.Pairs.{Order, Pairs, lookup, pairs_from}
 use Rattle.hfs_scans.specs.Each.{Each}
-use Rattle.hfs_scans.specs.Elements.{each-append, each-mono, each-both, each-unmap}
-use Rattle.hfs_btree.specs.Lookups.{lookup-between}
+use Rattle.hfs_scans.proofs.ElementLemmas.{each-append, each-mono, each-both, each-unmap}
+use Rattle.hfs_btree.proofs.LookupLemmas.{lookup-between}
 use Rattle.hfs_btree.specs.Tree.{Store, Spot, records_in, records_of, pair_of, pairs, kind_at, key_at}
 use Rattle.hfs_btree.specs.Header.{header_in, depth_of, own_nodes, tree_turn, tree_nodes, tree_content}
 use Rattle.hfs_btree.specs.Sound.{IsOther, IsRight, IsSound, IsExact, HasStructure, KeepsFrame}
-use Rattle.hfs_btree.specs.Search.{leaf_under, IsLeafFor}
-use Rattle.hfs_btree.specs.Descent.{content-about}
+use Rattle.hfs_btree.specs.Search.{leaf_under}
+use Rattle.hfs_btree.proofs.SearchLemmas.{IsLeafFor}
+use Rattle.hfs_btree.proofs.DescentLemmas.{content-about}
 use Rattle.hfs_btree_edits.specs.Edits.{IsAboveFirst}
-use Rattle.hfs_btree_edits.specs.KeptKeys.{EachKey, IsKeyOr, hold-keys_with}
-use Rattle.hfs_btree_edits.specs.Apart.{each-take, each-drop}
+use Rattle.hfs_btree_edits.specs.KeptKeys.{EachKey, IsKeyOr}
+use Rattle.hfs_btree_edits.proofs.KeptKeyLemmas.{hold-keys_with}
+use Rattle.hfs_btree_edits.proofs.ApartLemmas.{each-take, each-drop}
 use Rattle.hfs_btree_insertion.proofs.LevelWays.{tree-way}
 use Rattle.hfs_btree_insertion.proofs.ExactWays.{exact-way}
 use Rattle.hfs_btree_insertion.proofs.Puts.{IsPutIn, keeps, kind-is, put-turn, put-nodes}

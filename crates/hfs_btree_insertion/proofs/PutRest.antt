@@ -5,13 +5,13 @@ use Rattle.std.specs.List.{flat_map}
 use Rattle.hfs_btree.specs.declared.key.Key.{Ghosts}
 use Rattle.hfs_btree.specs.Pairs.{lookup}
 use Rattle.hfs_scans.specs.Each.{Each}
-use Rattle.hfs_scans.specs.Elements.{each-left, each-right}
+use Rattle.hfs_scans.proofs.ElementLemmas.{each-left, each-right}
 use Rattle.hfs_btree.specs.Tree.{Store, Spot, records_in, children, spots, turn, level_below}
 use Rattle.hfs_btree.specs.Header.{depth_of, root_level, tree_content}
 use Rattle.hfs_btree.specs.Sound.{IsSound}
-use Rattle.hfs_btree.specs.Search.{IsLeafFor}
+use Rattle.hfs_btree.proofs.SearchLemmas.{IsLeafFor}
 use Rattle.hfs_btree_edits.specs.Edits.{level_above}
-use Rattle.hfs_btree_edits.specs.LevelParts.{flat-kept}
+use Rattle.hfs_btree_edits.proofs.LevelPartLemmas.{flat-kept}
 use Rattle.hfs_btree_insertion.proofs.Puts.{IsPutIn, index-records, index-keeps}
 
 -- ---- levels

@@ -5,23 +5,24 @@ use Rattle.std.specs.Cmp.{IsTotalOrder}
 use Rattle.hfs_node.specs.declared.node.Node.{Node}
 use Rattle.hfs_node.specs.declared.fault.NodeFault.{NodeFault}
 use Rattle.hfs_node.specs.Node.{node_of, size_of}
-use Rattle.hfs_node.specs.Sizes.{size_of-insert}
+use Rattle.hfs_node.proofs.SizeLemmas.{size_of-insert}
 use Rattle.hfs_btree.specs.declared.header.Header.{Header}
 use Rattle.hfs_btree.specs.declared.key.Key.{Ghosts}
 use Rattle.hfs_scans.specs.Each.{Each}
 use Rattle.hfs_btree.specs.Pairs.{lookup, pairs_from}
-use Rattle.hfs_scans.specs.Elements.{each-left, each-right}
+use Rattle.hfs_scans.proofs.ElementLemmas.{each-left, each-right}
 use Rattle.hfs_btree.specs.Tree.{Store, Spot, node_in, records_in, records_of, pair_of, pairs, turn, level_below, last_level}
 use Rattle.hfs_btree.specs.Header.{header_in, record_in, depth_of, root_level, leaves, own_nodes, tree_nodes, tree_content}
 use Rattle.hfs_btree.specs.Sound.{IsOther, IsDistinct, IsSound, HasHeader}
-use Rattle.hfs_btree.specs.Search.{leaf_for, IsLeafFor, IsLowWay}
+use Rattle.hfs_btree.specs.Search.{leaf_for, IsLowWay}
+use Rattle.hfs_btree.proofs.SearchLemmas.{IsLeafFor}
 use Rattle.hfs_btree_edits.specs.Stored.{HasStored, HasHeaderPut, KeepsHead}
 use Rattle.hfs_btree_insertion.specs.Stored.{HasRecordPut, HasPut}
-use Rattle.hfs_btree_edits.specs.Apart.{apart-at}
-use Rattle.hfs_btree.specs.Decoded.{decoded-within, records-read}
-use Rattle.hfs_btree_edits.specs.Heads.{header-new, head-kept, header-kept, map-kept}
-use Rattle.hfs_btree_edits.specs.Owns.{KeepsOwn, stored-own, own-header, own-head, own-has-header, own-has-map, own-record, head-then}
-use Rattle.hfs_btree.specs.Descent.{leaf-node}
+use Rattle.hfs_btree_edits.proofs.ApartLemmas.{apart-at}
+use Rattle.hfs_btree.proofs.DecodedLemmas.{decoded-within, records-read}
+use Rattle.hfs_btree_edits.proofs.HeadLemmas.{header-new, head-kept, header-kept, map-kept}
+use Rattle.hfs_btree_edits.proofs.OwnLemmas.{KeepsOwn, stored-own, own-header, own-head, own-has-header, own-has-map, own-record, head-then}
+use Rattle.hfs_btree.proofs.DescentLemmas.{leaf-node}
 use Rattle.hfs_btree_insertion.proofs.PutRest.{put-levels}
 use Rattle.hfs_btree_insertion.proofs.PutKeeps.{put-exact_above, put-keys, put-frame, leaf-among}
 use Rattle.hfs_btree_insertion.proofs.Puts.{IsPutIn, last-of-turn, put-sound, put-content, put-turn}

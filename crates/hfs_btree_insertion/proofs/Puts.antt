@@ -14,22 +14,24 @@ use Rattle.hfs_node.specs.declared.kind.NodeKind.TheVariants.{Leaf, Index}
 use Rattle.hfs_node.specs.declared.node.Node.{Node}
 use Rattle.hfs_node.specs.declared.fault.NodeFault.{NodeFault}
 use Rattle.hfs_btree.specs.declared.key.Key.{Ghosts}
-use Rattle.hfs_btree.specs.Pairs.{Order, Pairs, Rises, IsAbove, IsBelow, lookup, pairs_from}
+use Rattle.hfs_btree.specs.Pairs.{Order, Pairs, Rises, IsAbove, lookup, pairs_from}
+use Rattle.hfs_btree.proofs.PairLemmas.{IsBelow}
 use Rattle.hfs_scans.specs.Each.{Each}
-use Rattle.hfs_scans.specs.Elements.{each-append, each-left, each-right, each-mono, each-both}
+use Rattle.hfs_scans.proofs.ElementLemmas.{each-append, each-left, each-right, each-mono, each-both}
 use Rattle.hfs_btree.specs.Tree.{Store, Spot, node_in, records_in, records_of, children, pair_of, pairs, spots, first_of, last_of, turn, under, level_below, last_level, kind_at, reads_at}
 use Rattle.hfs_btree.specs.Header.{header_in, depth_of, root_level, leaves, own_nodes, free_nodes, tree_turn, tree_nodes, tree_content}
 use Rattle.hfs_btree.specs.Sound.{IsOther, IsDistinct, IsRight, IsOrdered, IsSound, HasHeader, HasMap, ArePartsInOrder, AreKeysInOrder, part_of}
-use Rattle.hfs_btree.specs.Search.{is_not_above, child_for, leaf_under, leaf_for, IsLeafFor, IsLowWay}
+use Rattle.hfs_btree.specs.Search.{is_not_above, child_for, leaf_under, leaf_for, IsLowWay}
+use Rattle.hfs_btree.proofs.SearchLemmas.{IsLeafFor}
 use Rattle.hfs_btree_edits.specs.Edits.{with_pair}
 use Rattle.hfs_btree_edits.specs.Stored.{KeepsHead}
-use Rattle.hfs_btree_edits.specs.Apart.{apart-at, each-take, each-drop}
+use Rattle.hfs_btree_edits.proofs.ApartLemmas.{apart-at, each-take, each-drop}
 use Rattle.hfs_btree_insertion.proofs.Contents.{Keyed, keyed-spots, keyed-of-spots, have-pairs, turn-parts-right, content-under}
-use Rattle.hfs_btree.specs.Descent.{next-split, place-within, leaf-node}
-use Rattle.hfs_btree_edits.specs.LevelParts.{KeepsRecords, KeepsUnder, same-flat, parts-kept, level-kept, level-keyed, children-kept, of-spots, at-spots, numbers-spots, flat-kept}
-use Rattle.hfs_btree.specs.Levels.{map-split, at-spot}
+use Rattle.hfs_btree.proofs.DescentLemmas.{next-split, place-within, leaf-node}
+use Rattle.hfs_btree_edits.proofs.LevelPartLemmas.{KeepsRecords, KeepsUnder, same-flat, parts-kept, level-kept, level-keyed, children-kept, of-spots, at-spots, numbers-spots, flat-kept}
+use Rattle.hfs_btree.proofs.LevelLemmas.{map-split, at-spot}
 use Rattle.hfs_btree_insertion.proofs.PairPut.{put-past, put-before, each-put, rises-put, length-put, put-at}
-use Rattle.hfs_btree.specs.Parts.{beside-place, first-above, rest-count, first-fits}
+use Rattle.hfs_btree.proofs.PartLemmas.{beside-place, first-above, rest-count, first-fits}
 
 -- ---- the parts of one node, of which one has a pair more
 

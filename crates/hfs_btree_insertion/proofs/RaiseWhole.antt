@@ -6,13 +6,14 @@ use Rattle.std.specs.List.{flat_map}
 use Rattle.hfs_node.specs.declared.node.Node.{Node}
 use Rattle.hfs_node.specs.declared.fault.NodeFault.{NodeFault}
 use Rattle.hfs_node.specs.Node.{size_of}
-use Rattle.hfs_node.specs.Sizes.{size_of-insert, size_of-nil}
+use Rattle.hfs_node.proofs.SizeLemmas.{size_of-insert, size_of-nil}
 use Rattle.hfs_btree.specs.declared.header.Header.{Header}
 use Rattle.hfs_btree.specs.declared.key.Key.{Ghosts}
 use Rattle.hfs_scans.specs.Each.{Each}
-use Rattle.hfs_scans.specs.Elements.{each-at, each-left, each-right, each-append}
+use Rattle.hfs_scans.proofs.ElementLemmas.{each-at, each-left, each-right, each-append}
 use Rattle.hfs_btree.specs.Tree.{Store, Spot, node_in, records_in, records_of, reads_at, key_at, first_of, level_below}
-use Rattle.hfs_btree_edits.specs.KeptKeys.{EachKey, hold-keys}
+use Rattle.hfs_btree_edits.specs.KeptKeys.{EachKey}
+use Rattle.hfs_btree_edits.proofs.KeptKeyLemmas.{hold-keys}
 use Rattle.hfs_btree.specs.Header.{header_in, record_in, depth_of, root_level, own_nodes, tree_turn, tree_nodes}
 use Rattle.hfs_btree.specs.Sound.{IsOther, IsSound, IsRight, IsStray, IsExact, AreKeysExact, first_key}
 use Rattle.hfs_btree.specs.Search.{child_for, leaf_under}
@@ -20,14 +21,14 @@ use Rattle.hfs_btree_edits.specs.Stored.{HasStored, HasHeaderPut, HasClaimed}
 use Rattle.hfs_btree_edits.specs.LevelParts.{entry_key}
 use Rattle.hfs_btree_insertion.specs.Raise.{IsRootAbove, IsRaised, HasRootPut}
 use Rattle.hfs_btree_insertion.specs.Growth.{KeepsLevels, NodesStay, KeysStay, HasRaised}
-use Rattle.hfs_btree.specs.Descent.{IsOnWay, root-way, way-node, way-within}
+use Rattle.hfs_btree.proofs.DescentLemmas.{IsOnWay, root-way, way-node, way-within}
 use Rattle.hfs_btree_insertion.proofs.Exacts.{first-entry, Exact, turn-exact, keeps-first}
 use Rattle.hfs_btree_insertion.proofs.PartLists.{equal-key}
-use Rattle.hfs_btree_edits.specs.Heads.{header-new, head-kept, header-kept, map-kept}
-use Rattle.hfs_btree_edits.specs.Owns.{KeepsOwn, stored-own, own-header, own-head, own-has-header, own-has-map, head-then}
+use Rattle.hfs_btree_edits.proofs.HeadLemmas.{header-new, head-kept, header-kept, map-kept}
+use Rattle.hfs_btree_edits.proofs.OwnLemmas.{KeepsOwn, stored-own, own-header, own-head, own-has-header, own-has-map, head-then}
 use Rattle.hfs_btree_insertion.proofs.PutWhole.{head-long, own-long}
 use Rattle.hfs_btree_insertion.proofs.Raises.{all-keep, below, raise-turn, raise-nodes, raise-content, raise-sound, records-root, turn-old}
-use Rattle.hfs_btree_edits.specs.LevelParts.{KeepsRecords, KeepsAt}
+use Rattle.hfs_btree_edits.proofs.LevelPartLemmas.{KeepsRecords, KeepsAt}
 use Rattle.hfs_btree_insertion.proofs.LevelWays.{level-same, record-same, under-same, child-one, levels-then}
 use Rattle.hfs_btree_insertion.proofs.CutKeys.{key-same, kept-keys, claimed-stay, claimed-keys, stay-then, keys-then}
 use Rattle.hfs_btree_insertion.proofs.Taken.{HasTaken, taken-keeps, taken-free, taken-content, claimed-levels, claimed-depth}

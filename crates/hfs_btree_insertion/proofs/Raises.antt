@@ -7,15 +7,15 @@ use Rattle.std.specs.List.{flat_map, count_by}
 use Rattle.hfs_btree.specs.declared.key.Key.{Ghosts}
 use Rattle.hfs_btree.specs.Pairs.{Pairs, Rises, IsAtMost}
 use Rattle.hfs_scans.specs.Each.{Each}
-use Rattle.hfs_scans.specs.Elements.{each-right, each-mono}
+use Rattle.hfs_scans.proofs.ElementLemmas.{each-right, each-mono}
 use Rattle.hfs_btree.specs.Tree.{Store, Spot, node_in, records_in, records_of, children, spots, first_of, last_of, turn, under, level_below, last_level}
 use Rattle.hfs_btree.specs.Header.{header_in, root_level, leaves, own_nodes, free_nodes, tree_turn, tree_nodes, tree_content}
 use Rattle.hfs_btree.specs.Sound.{IsOther, IsDistinct, IsRight, IsOrdered, IsSound, IsStray, IsWithin, HasLevels, HasEnds, HasCounts, HasHeader, HasMap, AreKeysInOrder}
 use Rattle.hfs_btree_insertion.specs.Raise.{IsRaised}
-use Rattle.hfs_btree_edits.specs.Apart.{distinct-put, nonzero, marked-within}
+use Rattle.hfs_btree_edits.proofs.ApartLemmas.{distinct-put, nonzero, marked-within}
 use Rattle.hfs_btree_insertion.proofs.Contents.{content, under-content, content-under, Keyed, AreRecordsInOrder, records-keyed, HavePairs, have-pairs, middle-most}
-use Rattle.hfs_btree_edits.specs.LevelParts.{numbers, at-spots, of-spots, turn-kept, turn-keyed, under-kept, KeepsRecords, KeepsAt, KeepsUnder}
-use Rattle.hfs_btree.specs.Levels.{records-some}
+use Rattle.hfs_btree_edits.proofs.LevelPartLemmas.{numbers, at-spots, of-spots, turn-kept, turn-keyed, under-kept, KeepsRecords, KeepsAt, KeepsUnder}
+use Rattle.hfs_btree.proofs.LevelLemmas.{records-some}
 
 module _ {K : Type 0} (g : Ghosts K) (total : IsTotalOrder g.compare) (old new : Store) (d m : ℕ) (s : IsRaised g old new d m) (sound : IsSound g old) where
   abbrev root : ℕ

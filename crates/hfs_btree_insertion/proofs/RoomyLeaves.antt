@@ -9,7 +9,7 @@ use Rattle.hfs_btree.specs.Tree.{Store, records_in, records_of}
 use Rattle.hfs_btree.specs.Header.{header_in, depth_of, tree_content}
 use Rattle.hfs_btree.specs.Sound.{IsSound}
 use Rattle.hfs_btree.specs.Search.{is_not_above, IsLowWay}
-use Rattle.hfs_btree.specs.Decoded.{records-read}
+use Rattle.hfs_btree.proofs.DecodedLemmas.{records-read}
 use Rattle.hfs_btree_edits.specs.Edits.{IsAboveFirst, node_for}
 use Rattle.hfs_btree_insertion.specs.Growth.{HasRoom, AreFull, IsLow}
 use Rattle.hfs_btree_insertion.specs.Lowering.{HasLowered}

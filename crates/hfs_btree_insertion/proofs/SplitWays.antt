@@ -12,15 +12,15 @@ use Rattle.std.proofs.lemmas.List.Sums.{prefix_len-le-length}
 use Rattle.hfs_btree.specs.declared.key.Key.{Ghosts}
 use Rattle.hfs_btree.specs.Pairs.{Pairs}
 use Rattle.hfs_scans.specs.Each.{Each}
-use Rattle.hfs_scans.specs.Elements.{each-left, each-right, each-mono}
+use Rattle.hfs_scans.proofs.ElementLemmas.{each-left, each-right, each-mono}
 use Rattle.hfs_btree.specs.Tree.{Store, Spot, records_in, children, spots, turn, under}
 use Rattle.hfs_btree.specs.Header.{header_in, root_level}
 use Rattle.hfs_btree.specs.Sound.{HasStructure, IsOrdered, IsRight}
 use Rattle.hfs_btree.specs.Search.{is_not_above, child_for, leaf_under}
 use Rattle.hfs_btree_insertion.proofs.Contents.{AreRecordsInOrder, HavePairs}
-use Rattle.hfs_btree.specs.Descent.{next-split, place-within}
-use Rattle.hfs_btree_edits.specs.LevelParts.{upper, of-spots, KeepsRecords, KeepsAt}
-use Rattle.hfs_btree.specs.Levels.{records-some}
+use Rattle.hfs_btree.proofs.DescentLemmas.{next-split, place-within}
+use Rattle.hfs_btree_edits.proofs.LevelPartLemmas.{upper, of-spots, KeepsRecords, KeepsAt}
+use Rattle.hfs_btree.proofs.LevelLemmas.{records-some}
 use Rattle.hfs_node.specs.Node.{size_of}
 use Rattle.hfs_btree_insertion.proofs.LevelWays.{at-way, at-upper}
 use Rattle.hfs_btree_insertion.proofs.Prefixes.{insert-other, insert-one, insert-before, insert-here, take-prefix, drop-prefix, drop-some, earlier-fit}

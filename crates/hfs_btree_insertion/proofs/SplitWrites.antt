@@ -9,7 +9,7 @@ use Rattle.hfs_node.specs.declared.fault.NodeFault.{NodeFault}
 use Rattle.hfs_btree.specs.declared.header.Header.{Header}
 use Rattle.hfs_btree.specs.declared.key.Key.{Ghosts}
 use Rattle.hfs_scans.specs.Each.{Each}
-use Rattle.hfs_scans.specs.Elements.{each-left, each-right}
+use Rattle.hfs_scans.proofs.ElementLemmas.{each-left, each-right}
 use Rattle.hfs_btree.specs.Tree.{Store, node_in, records_in, first_of}
 use Rattle.hfs_btree.specs.Header.{header_in, own_nodes, tree_content}
 use Rattle.std.specs.Cmp.{IsTotalOrder}
@@ -17,9 +17,9 @@ use Rattle.hfs_btree.specs.Sound.{IsOther, IsDistinct, HasStructure, HasHeader, 
 use Rattle.hfs_btree_edits.specs.Stored.{HasStored, HasHeaderPut, HasBackward, bytes_in}
 use Rattle.hfs_btree_insertion.specs.Stored.{HasLinked}
 use Rattle.hfs_btree_insertion.proofs.Cuts.{bn, hn, above-level, old-level, uppers, lowers, distinct, forward-is, n-others, m-others, p-level}
-use Rattle.hfs_btree_edits.specs.Heads.{header-new, head-kept, header-kept, map-kept}
-use Rattle.hfs_btree_edits.specs.LevelParts.{numbers}
-use Rattle.hfs_btree_edits.specs.Owns.{KeepsOwn, stored-own, own-header, own-head, own-then, own-map, own-has-header, own-has-map, head-then}
+use Rattle.hfs_btree_edits.proofs.HeadLemmas.{header-new, head-kept, header-kept, map-kept}
+use Rattle.hfs_btree_edits.proofs.LevelPartLemmas.{numbers}
+use Rattle.hfs_btree_edits.proofs.OwnLemmas.{KeepsOwn, stored-own, own-header, own-head, own-then, own-map, own-has-header, own-has-map, head-then}
 
 each-all : (P : ℕ → Type 0) (xs : List ℕ) → ((x : ℕ) → P x) → Each P xs
 each-all P [] f = tt

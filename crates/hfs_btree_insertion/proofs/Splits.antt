@@ -13,16 +13,16 @@ use Rattle.hfs_node.specs.declared.fault.NodeFault.{NodeFault}
 use Rattle.hfs_btree.specs.declared.key.Key.{Ghosts}
 use Rattle.hfs_btree.specs.Pairs.{Pairs, Rises, IsAbove, IsAtMost}
 use Rattle.hfs_scans.specs.Each.{Each}
-use Rattle.hfs_scans.specs.Elements.{each-append, each-left, each-right, each-mono}
+use Rattle.hfs_scans.proofs.ElementLemmas.{each-append, each-left, each-right, each-mono}
 use Rattle.hfs_btree.specs.Tree.{Store, Spot, node_in, records_in, records_of, children, spots, first_of, last_of, turn, under, level_below, last_level, kind_at, reads_at}
 use Rattle.hfs_btree.specs.Header.{header_in, depth_of, root_level, map_nodes, own_nodes, leaves, free_nodes, tree_turn, tree_nodes, tree_content}
 use Rattle.std.specs.Cmp.{IsTotalOrder}
 use Rattle.hfs_btree.specs.Sound.{IsOther, IsDistinct, IsRight, IsStray, IsSound, IsOrdered, HasStructure, HasLevels, HasEnds, HasCounts, HasHeader, HasMap, IsWithin, ArePartsInOrder, AreKeysInOrder, part_of}
-use Rattle.hfs_btree.specs.Levels.{flat_map-flat_map, map-split}
-use Rattle.hfs_btree_edits.specs.LevelParts.{upper, numbers, of-spots, turn-split, upper-kept, level-below-kept, turn-kept, flat-kept, KeepsRecords, KeepsAt, KeepsUnder, same-flat, parts-kept, level-kept, children-kept, keys-kept, upper-keyed, turn-keyed}
+use Rattle.hfs_btree.proofs.LevelLemmas.{flat_map-flat_map, map-split}
+use Rattle.hfs_btree_edits.proofs.LevelPartLemmas.{upper, numbers, of-spots, turn-split, upper-kept, level-below-kept, turn-kept, flat-kept, KeepsRecords, KeepsAt, KeepsUnder, same-flat, parts-kept, level-kept, children-kept, keys-kept, upper-keyed, turn-keyed}
 use Rattle.hfs_btree_insertion.proofs.PartLists.{parts-cut, rises-left, rises-right}
 use Rattle.hfs_btree_insertion.proofs.Contents.{content, under-content, content-append, content-under, under-lift, turn-parts, Keyed, keyed-spots, keyed-of-spots, AreRecordsInOrder, records-keyed, keyed-records, keyed-left, keyed-right, HavePairs, have-pairs, turn-parts-right, middle-above, middle-most, records-kept, content-kept, level-under, nodes-keyed}
-use Rattle.hfs_btree_edits.specs.Apart.{distinct-put, map-insert, behind-third, front-third, nonzero, each-take, each-drop, marked-within}
+use Rattle.hfs_btree_edits.proofs.ApartLemmas.{distinct-put, map-insert, behind-third, front-third, nonzero, each-take, each-drop, marked-within}
 use Rattle.std.proofs.lemmas.List.{get_or-drop}
 use Rattle.hfs_btree.specs.Sound.{AreKeysExact, IsExact, first_key}
 use Rattle.hfs_btree_insertion.proofs.PartLists.{equal-key}

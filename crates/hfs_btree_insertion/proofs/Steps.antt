@@ -5,13 +5,13 @@ use Rattle.std.proofs.lemmas.Bool.{cases_eq, cases_lt}
 use Rattle.hfs_node.specs.Node.{size_of}
 use Rattle.hfs_btree.specs.declared.key.Key.{Ghosts}
 use Rattle.hfs_scans.specs.Each.{Each}
-use Rattle.hfs_scans.specs.Elements.{each-at, each-append, each-left, each-right}
+use Rattle.hfs_scans.proofs.ElementLemmas.{each-at, each-append, each-left, each-right}
 use Rattle.hfs_btree.specs.Tree.{Store, records_in}
 use Rattle.hfs_btree.specs.Header.{header_in, depth_of, own_nodes, free_nodes, tree_nodes}
 use Rattle.hfs_btree.specs.Sound.{IsOther, IsSound, KeepsFrame}
-use Rattle.hfs_btree.specs.Descent.{index-entries, way-some}
+use Rattle.hfs_btree.proofs.DescentLemmas.{index-entries, way-some}
 use Rattle.hfs_btree_edits.specs.Edits.{KeepsTree, level_above, node_for}
-use Rattle.hfs_btree_edits.specs.KeptKeys.{own-keys}
+use Rattle.hfs_btree_edits.proofs.KeptKeyLemmas.{own-keys}
 use Rattle.hfs_btree_insertion.specs.Growth.{len_at, HasRoom, AreFull, IsLow, NodesStay, HasRaised, HasCutLevel}
 use Rattle.hfs_btree_insertion.specs.Steps.{AreCuttable, HasCutDown}
 use Rattle.hfs_btree_insertion.proofs.WayTo.{at-level}

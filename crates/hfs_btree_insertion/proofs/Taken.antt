@@ -6,15 +6,15 @@ use Rattle.std.proofs.lemmas.Bool.{cases_eq}
 use Rattle.hfs_btree.specs.declared.header.Header.{Header}
 use Rattle.hfs_btree.specs.declared.key.Key.{Ghosts}
 use Rattle.hfs_scans.specs.Each.{Each}
-use Rattle.hfs_scans.specs.Elements.{each-mono, each-left}
+use Rattle.hfs_scans.proofs.ElementLemmas.{each-mono, each-left}
 use Rattle.hfs_btree.specs.Tree.{Store, Spot, node_in, records_of}
 use Rattle.hfs_btree.specs.Header.{header_in, depth_of, own_nodes, free_nodes, tree_turn, tree_nodes, tree_content}
 use Rattle.hfs_btree.specs.Sound.{IsOther, IsSound, IsExact, IsStray}
 use Rattle.hfs_btree_edits.specs.Stored.{HasClaimed, KeepsHead, bytes_in}
 use Rattle.hfs_btree_edits.specs.Edits.{KeepsTree}
 use Rattle.hfs_btree_insertion.specs.Growth.{KeepsLevels}
-use Rattle.hfs_btree_edits.specs.Apart.{marked-within}
-use Rattle.hfs_btree_edits.specs.LevelParts.{KeepsAt}
+use Rattle.hfs_btree_edits.proofs.ApartLemmas.{marked-within}
+use Rattle.hfs_btree_edits.proofs.LevelPartLemmas.{KeepsAt}
 use Rattle.hfs_btree_insertion.proofs.LevelWays.{same-tree}
 
 -- a stray node was taken into the levels

@@ -9,8 +9,8 @@ use Rattle.hfs_btree.specs.Tree.{Store, records_in, records_of}
 use Rattle.hfs_btree.specs.Header.{header_in, depth_of}
 use Rattle.hfs_btree.specs.Sound.{HasStructure}
 use Rattle.hfs_btree.specs.Search.{child_for, leaf_under}
-use Rattle.hfs_btree.specs.Decoded.{records-read}
-use Rattle.hfs_btree.specs.Descent.{IsOnWay, root-way, way-within, way-for, way-some, index-entries}
+use Rattle.hfs_btree.proofs.DecodedLemmas.{records-read}
+use Rattle.hfs_btree.proofs.DescentLemmas.{IsOnWay, root-way, way-within, way-for, way-some, index-entries}
 use Rattle.hfs_btree_edits.specs.Edits.{node_for, IsFullFor}
 use Rattle.hfs_btree_insertion.specs.Growth.{len_at, HasRoom, AreFull}
 

@@ -11,22 +11,26 @@ use Rattle.hfs_btree.specs.declared.header.Header.{Header}
 use Rattle.hfs_btree.specs.declared.key.Key.{Ghosts}
 use Rattle.hfs_btree.specs.Pairs.{Pairs}
 use Rattle.hfs_scans.specs.Each.{Each}
-use Rattle.hfs_scans.specs.Members.{In, each_in}
+use Rattle.hfs_scans.specs.Members.{In}
+use Rattle.hfs_scans.proofs.MemberLemmas.{each_in}
 use Rattle.hfs_btree.specs.Tree.{Store, Spot, node_in, records_in, records_of, children, pair_of, pairs, first_of, last_of, spots, under}
 use Rattle.hfs_btree.specs.Header.{header_in, record_in, depth_of, leaves, own_nodes, tree_turn, tree_nodes}
 use Rattle.hfs_btree.specs.Sound.{IsOther, IsRight, IsSound, IsExact, AreKeysInOrder, first_key}
-use Rattle.hfs_btree_removal.specs.Removal.{HasTold, IsPassedUp, HasTakenOut, HasDetached, AreUnlinkable, AreStepsUnlinked, AreReleased, AreSettable, AreStray, IsWayBelow, fewer, last_left, last_right, backward_of}
-use Rattle.hfs_btree_edits.specs.Stored.{HasNewHeader, bytes_in}
-use Rattle.hfs_scans.specs.Elements.{each-left, each-right, each-unmap}
+use Rattle.hfs_btree_removal.proofs.RemovalLemmas.{HasTold}
+use Rattle.hfs_btree_removal.specs.Removal.{IsPassedUp, HasTakenOut, HasDetached, AreUnlinkable, AreStepsUnlinked, AreReleased, AreSettable, AreStray, IsWayBelow, fewer, last_left, last_right, backward_of}
+use Rattle.hfs_btree_edits.proofs.StoredLemmas.{HasNewHeader}
+use Rattle.hfs_btree_edits.specs.Stored.{bytes_in}
+use Rattle.hfs_scans.proofs.ElementLemmas.{each-left, each-right, each-unmap}
 use Rattle.hfs_btree_removal.specs.Ways.{IsWayTo}
-use Rattle.hfs_btree.specs.Levels.{each-spots}
+use Rattle.hfs_btree.proofs.LevelLemmas.{each-spots}
 use Rattle.hfs_btree_removal.proofs.Chains.{Cut, with_node, IsChain, bottom}
 use Rattle.hfs_btree_removal.proofs.CutsUnlinked.{AreAt, beside-all, cuts-unlinked, all-can, left-is, right-is}
 use Rattle.hfs_btree_removal.proofs.Detached.{IsDetached, others, old-numbers}
 use Rattle.hfs_btree_removal.proofs.DetachedOrder.{at-bottom, new-leaves, old-leaves, old-content, gone, sound-is}
 use Rattle.hfs_btree_removal.proofs.ExactBut.{IsExactBut, detached-exact, exact-for}
 use Rattle.hfs_btree_removal.proofs.Firsts.{at-level}
-use Rattle.hfs_btree_edits.specs.LevelParts.{lift, lift-is, numbers}
+use Rattle.hfs_btree_edits.specs.LevelParts.{lift}
+use Rattle.hfs_btree_edits.proofs.LevelPartLemmas.{lift-is, numbers}
 use Rattle.hfs_btree_removal.proofs.Links.{last_or}
 use Rattle.hfs_btree_removal.proofs.Overs.{in-flat, in-chain, parts-second}
 use Rattle.hfs_btree_removal.proofs.Parting.{CS, bc, hc, levels, some-below, distinct-below, same-p, fields, has-header, was-p, is-p, kept-U, kept-before, kept-behind, gaps-three, stray-chain}

@@ -6,20 +6,22 @@ use Rattle.hfs_btree.specs.declared.header.Header.{Header}
 use Rattle.hfs_btree.specs.declared.key.Key.{Ghosts}
 use Rattle.hfs_scans.specs.Each.{Each}
 use Rattle.hfs_scans.specs.Members.{In}
-use Rattle.hfs_scans.specs.Elements.{each-left, each-right}
+use Rattle.hfs_scans.proofs.ElementLemmas.{each-left, each-right}
 use Rattle.hfs_btree_removal.specs.Removal.{KeepsSound}
-pub use Rattle.hfs_btree_removal.specs.Removal.{AreReleased}
 use Rattle.hfs_btree.specs.Tree.{Store, Spot}
 use Rattle.hfs_btree.specs.Header.{header_in, depth_of, map_nodes, map_bytes, own_nodes, free_nodes, tree_content, tree_turn, tree_nodes}
 use Rattle.hfs_btree.specs.Sound.{IsOther, IsSound, IsExact, IsStray}
-use Rattle.hfs_btree_edits.specs.LevelParts.{numbers}
+use Rattle.hfs_btree_edits.proofs.LevelPartLemmas.{numbers}
 use Rattle.hfs_node.specs.Laid.{IsZeroFrom}
-use Rattle.hfs_btree_edits.specs.KeptKeys.{tree_keys, EachKey, own-keys}
+use Rattle.hfs_btree_edits.specs.KeptKeys.{tree_keys, EachKey}
+use Rattle.hfs_btree_edits.proofs.KeptKeyLemmas.{own-keys}
 use Rattle.hfs_btree_edits.specs.Stored.{bytes_in}
 use Rattle.hfs_btree_removal.proofs.KeysKept.{keys-then, released-keys}
-use Rattle.hfs_btree_edits.specs.Headed.{map_nodes-is, map_bytes-is, free-is}
+use Rattle.hfs_btree_edits.proofs.HeadedLemmas.{map_nodes-is, map_bytes-is, free-is}
 use Rattle.hfs_btree_removal.proofs.Lowered.{IsLowered, lowered-sound, lowered-exact, lowered-stray, content-same, old-nodes, new-nodes}
-use Rattle.hfs_btree_edits.specs.Released.{IsReleased, released-sound, released-exact, released-stray, released-gone, released-content, released-turn, one-more}
+use Rattle.hfs_btree_edits.specs.Stored.{IsReleased}
+use Rattle.hfs_btree_edits.proofs.ReleasedLemmas.{released-sound, released-exact, released-stray, released-gone, released-content, released-turn, one-more}
+pub use Rattle.hfs_btree_removal.specs.Removal.{AreReleased}
 
 -- a number stands in a list or is none of it
 pub either : (m : ℕ) (ns : List ℕ) → In m ns ⊎ Each (λ n. n ≢ m) ns

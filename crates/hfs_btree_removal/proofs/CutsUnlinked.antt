@@ -4,14 +4,14 @@ use Rattle.std.specs.List.{flat_map}
 use Rattle.hfs_btree_removal.specs.declared.down.Step.{Step}
 use Rattle.hfs_btree.specs.declared.key.Key.{Ghosts}
 use Rattle.hfs_scans.specs.Each.{Each}
-use Rattle.hfs_scans.specs.Elements.{each-left, each-right}
+use Rattle.hfs_scans.proofs.ElementLemmas.{each-left, each-right}
 use Rattle.hfs_btree.specs.Tree.{Store, Spot, node_in, forward_of, first_of, spots}
 use Rattle.hfs_btree.specs.Sound.{IsOther, IsDistinct, IsRight}
 use Rattle.hfs_btree_removal.specs.Removal.{HasUnlinked, IsUnlinkable, IsClear, AreUnlinkable, AreStepsUnlinked, backward_of}
 use Rattle.hfs_btree_removal.proofs.Chains.{Cut, with_node}
-use Rattle.hfs_btree.specs.Decoded.{decoded-within}
-use Rattle.hfs_btree_edits.specs.Distinct.{distinct-left, distinct-right}
-use Rattle.hfs_btree_edits.specs.LevelParts.{numbers}
+use Rattle.hfs_btree.proofs.DecodedLemmas.{decoded-within}
+use Rattle.hfs_btree_edits.proofs.DistinctLemmas.{distinct-left, distinct-right}
+use Rattle.hfs_btree_edits.proofs.LevelPartLemmas.{numbers}
 use Rattle.hfs_btree_removal.proofs.Links.{last_or}
 use Rattle.hfs_btree_removal.proofs.Unlinked.{AreUnlinked, Some, numbers-with, cross-back}
 

@@ -8,18 +8,20 @@ use Rattle.hfs_node.specs.declared.node.Node.{Node}
 use Rattle.hfs_node.specs.declared.fault.NodeFault.{NodeFault}
 use Rattle.hfs_btree.specs.declared.key.Key.{Ghosts}
 use Rattle.hfs_scans.specs.Each.{Each}
-use Rattle.hfs_scans.specs.Elements.{each-append, each-left, each-right, each-mono}
+use Rattle.hfs_scans.proofs.ElementLemmas.{each-append, each-left, each-right, each-mono}
 use Rattle.hfs_btree.specs.Tree.{Store, Spot, node_in, records_in, records_of, children, first_of, last_of, spots, turn, level_below, reads_at}
 use Rattle.hfs_btree.specs.Header.{header_in, depth_of, root_level, leaves, own_nodes, tree_turn, tree_nodes}
 use Rattle.hfs_btree.specs.Sound.{IsOther, IsDistinct, IsRight, IsStray, HasStructure}
-use Rattle.hfs_btree.specs.Descent.{next-split}
-use Rattle.hfs_btree_edits.specs.EditedOrder.{each-flat}
-use Rattle.hfs_btree_edits.specs.LevelParts.{lift, upper, numbers, numbers-spots, turn-split, upper-kept, KeepsAt, KeepsRecords}
+use Rattle.hfs_btree.proofs.DescentLemmas.{next-split}
+use Rattle.hfs_btree_edits.proofs.EditedOrderLemmas.{each-flat}
+use Rattle.hfs_btree_edits.specs.LevelParts.{lift}
+use Rattle.hfs_btree_edits.proofs.LevelPartLemmas.{upper, numbers, numbers-spots, turn-split, upper-kept, KeepsAt, KeepsRecords}
 use Rattle.hfs_btree_removal.proofs.Chains.{Cut, with_node, without_node, IsChain, cuts, turn-with, KeepsBeside, turn-without, distinct-without, other-without, other-with}
 use Rattle.hfs_btree_removal.proofs.Links.{last_or, IsKept, IsFrontGap, IsBackGap, right-kept, spots-kept, gap-linked, gap-records}
-use Rattle.hfs_btree_edits.specs.Headed.{HasNewHeader, own_nodes-is, marked-on, marked-back, has_header, has_map}
+use Rattle.hfs_btree_edits.proofs.StoredLemmas.{HasNewHeader}
+use Rattle.hfs_btree_edits.proofs.HeadedLemmas.{own_nodes-is, marked-on, marked-back, has_header, has_map}
 use Rattle.hfs_btree_removal.proofs.PartsLess.{map-remove, each-remove, length-remove'}
-use Rattle.hfs_btree.specs.Levels.{each-spots}
+use Rattle.hfs_btree.proofs.LevelLemmas.{each-spots}
 use Rattle.hfs_btree_edits.specs.KeptKeys.{EachKey}
 use Rattle.hfs_btree_removal.proofs.KeysKept.{HaveKeys, kept-has, all-have, spots-of}
 

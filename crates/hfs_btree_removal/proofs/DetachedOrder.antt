@@ -9,20 +9,21 @@ use Rattle.hfs_btree.specs.declared.key.Key.{Ghosts}
 use Rattle.hfs_btree_edits.specs.Edits.{without_pair}
 use Rattle.hfs_btree.specs.Pairs.{Order, Pairs, Rises}
 use Rattle.hfs_scans.specs.Each.{Each}
-use Rattle.hfs_scans.specs.Elements.{each-append, each-left, each-right, each-mono}
+use Rattle.hfs_scans.proofs.ElementLemmas.{each-append, each-left, each-right, each-mono}
 use Rattle.hfs_btree.specs.Tree.{Store, Spot, node_in, records_in, records_of, children, pair_of, pairs, spots, first_of, last_of, turn, under, level_below, last_level}
 use Rattle.hfs_btree.specs.Header.{header_in, root_level, leaves, tree_content, tree_turn}
 use Rattle.hfs_btree.specs.Sound.{IsSound, IsRight, AreKeysInOrder, ArePartsInOrder, part_of, HasCounts}
-use Rattle.hfs_btree.specs.Levels.{each-spots, map-split, under-some}
-use Rattle.hfs_btree_edits.specs.Kept.{flat_map-same}
-use Rattle.hfs_btree.specs.Descent.{next-split}
-use Rattle.hfs_btree_edits.specs.EditedPairs.{rises-before, rises-without, above-equal, without-at}
-use Rattle.hfs_btree_edits.specs.EditedOrder.{each-flat, Bounded, Keyed, Keyed', join, keys-level}
-use Rattle.hfs_btree_edits.specs.Bounds.{KeepsBounds, bounds-same}
-use Rattle.hfs_btree_edits.specs.LevelParts.{lift, upper, at-spots, KeepsAt, KeepsRecords, KeepsUnder, parts-kept, under-kept, children-kept, level-kept, turn-keyed}
+use Rattle.hfs_btree.proofs.LevelLemmas.{each-spots, map-split, under-some}
+use Rattle.hfs_btree_edits.proofs.KeptLemmas.{flat_map-same}
+use Rattle.hfs_btree.proofs.DescentLemmas.{next-split}
+use Rattle.hfs_btree_edits.proofs.EditedPairLemmas.{rises-before, rises-without, above-equal, without-at}
+use Rattle.hfs_btree_edits.proofs.EditedOrderLemmas.{each-flat, Bounded, Keyed, Keyed', join, keys-level}
+use Rattle.hfs_btree_edits.proofs.BoundLemmas.{KeepsBounds, bounds-same}
+use Rattle.hfs_btree_edits.specs.LevelParts.{lift}
+use Rattle.hfs_btree_edits.proofs.LevelPartLemmas.{upper, at-spots, KeepsAt, KeepsRecords, KeepsUnder, parts-kept, under-kept, children-kept, level-kept, turn-keyed}
 use Rattle.hfs_btree_removal.proofs.PartsLess.{map-remove, parts-drop}
 use Rattle.hfs_btree_removal.proofs.Chains.{Cut, with_node, without_node, fronts, backs, only_child, IsChain, cuts, bottom, level-with, KeepsBeside, level-without, turn-fronts, turn-backs}
-use Rattle.hfs_btree_edits.specs.Headed.{free-is}
+use Rattle.hfs_btree_edits.proofs.HeadedLemmas.{free-is}
 use Rattle.hfs_btree_removal.proofs.Detached.{IsDetached, es, c, bc, hc, cs, uppers, above-level, place, old-turn, new-turn, new-below, beside, uppers-keep, right-cuts, new-es, same-root, structure-is}
 
 -- ---- lists

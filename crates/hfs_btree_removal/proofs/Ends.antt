@@ -10,19 +10,20 @@ use Rattle.hfs_node.specs.declared.kind.NodeKind.TheVariants.{Leaf}
 use Rattle.hfs_btree_removal.specs.declared.down.Step.{Step}
 use Rattle.hfs_btree.specs.declared.key.Key.{Ghosts}
 use Rattle.hfs_scans.specs.Each.{Each}
-use Rattle.hfs_scans.specs.Elements.{each-left, each-right}
+use Rattle.hfs_scans.proofs.ElementLemmas.{each-left, each-right}
 use Rattle.hfs_btree.specs.Tree.{Store, Spot, node_in, records_in, records_of, children, first_of, last_of, turn, level_below, kind_at, reads_at, spots}
 use Rattle.hfs_btree.specs.Header.{depth_of, root_level, own_nodes, tree_turn, tree_nodes}
 use Rattle.hfs_btree.specs.Sound.{IsRight, IsDistinct, HasStructure}
-use Rattle.hfs_btree.specs.Decoded.{decoded-within}
+use Rattle.hfs_btree.proofs.DecodedLemmas.{decoded-within}
 use Rattle.hfs_btree_removal.specs.Removal.{AreUnlinkable, AreStray}
 use Rattle.hfs_btree.specs.Sound.{IsOther, IsStray}
 use Rattle.hfs_btree_removal.specs.Ways.{IsStep, Leads}
-use Rattle.hfs_btree.specs.Descent.{next-split}
+use Rattle.hfs_btree.proofs.DescentLemmas.{next-split}
 use Rattle.hfs_btree_removal.proofs.Chains.{Cut, with_node}
 use Rattle.hfs_btree_removal.proofs.CutsUnlinked.{AreAt, at-steps}
-use Rattle.hfs_btree_edits.specs.Distinct.{distinct-right, other-before, turn-nodes}
-use Rattle.hfs_btree_edits.specs.LevelParts.{lift, upper, numbers, turn-split, of-spots}
+use Rattle.hfs_btree_edits.proofs.DistinctLemmas.{distinct-right, other-before, turn-nodes}
+use Rattle.hfs_btree_edits.specs.LevelParts.{lift}
+use Rattle.hfs_btree_edits.proofs.LevelPartLemmas.{upper, numbers, turn-split, of-spots}
 use Rattle.hfs_btree_removal.proofs.Links.{last_or, IsKept}
 use Rattle.hfs_btree_removal.proofs.Passed.{high}
 use Rattle.hfs_btree_removal.proofs.Unlinked.{Some, cross, numbers-with}

@@ -5,13 +5,13 @@ use Rattle.std.specs.List.{flat_map}
 use Rattle.std.specs.declared.cmp.Ordering.TheVariants.{Equal}
 use Rattle.hfs_btree.specs.declared.key.Key.{Ghosts}
 use Rattle.hfs_scans.specs.Each.{Each}
-use Rattle.hfs_scans.specs.Elements.{each-mono, each-left, each-right, each-append}
+use Rattle.hfs_scans.proofs.ElementLemmas.{each-mono, each-left, each-right, each-append}
 use Rattle.hfs_btree.specs.Tree.{Store, Spot, records_in, children, first_of, spots, turn}
 use Rattle.hfs_btree.specs.Header.{record_in, depth_of, root_level, tree_turn}
 use Rattle.hfs_btree.specs.Sound.{IsExact, IsSound, IsRight, AreKeysExact, first_key}
-use Rattle.hfs_btree.specs.Levels.{each-spots}
-use Rattle.hfs_btree_edits.specs.EditedOrder.{each-flat, turn-step}
-use Rattle.hfs_btree_edits.specs.LevelParts.{KeepsAt, KeepsRecords}
+use Rattle.hfs_btree.proofs.LevelLemmas.{each-spots}
+use Rattle.hfs_btree_edits.proofs.EditedOrderLemmas.{each-flat, turn-step}
+use Rattle.hfs_btree_edits.proofs.LevelPartLemmas.{KeepsAt, KeepsRecords}
 use Rattle.hfs_btree_removal.proofs.PartsLess.{each-remove}
 use Rattle.hfs_btree_removal.proofs.Chains.{Cut, with_node, without_node, KeepsBeside}
 use Rattle.hfs_btree_removal.proofs.Detached.{IsDetached, es, cs, uppers, above-level, old-turn, new-turn, new-es, beside, uppers-keep}

@@ -9,14 +9,15 @@ use Rattle.std.proofs.lemmas.List.Folds.{flat_map-map}
 use Rattle.hfs_btree.specs.declared.key.Key.{Ghosts}
 use Rattle.hfs_btree.specs.Pairs.{Order, Pairs, Rises, IsAtMost}
 use Rattle.hfs_scans.specs.Each.{Each}
-use Rattle.hfs_scans.specs.Elements.{each-mono, each-left, each-right, each-unmap}
+use Rattle.hfs_scans.proofs.ElementLemmas.{each-mono, each-left, each-right, each-unmap}
 use Rattle.hfs_btree.specs.Tree.{Store, Spot, records_in, children, pair_of, pairs, first_of, spots, turn, under, level_below, last_level}
 use Rattle.hfs_btree.specs.Header.{depth_of, root_level, leaves, tree_turn}
 use Rattle.hfs_btree.specs.Sound.{IsRight, IsSound, HasStructure, AreKeysInOrder, ArePartsInOrder, part_of, first_key}
-use Rattle.hfs_btree.specs.Levels.{at-spot, under-some, records-some}
-use Rattle.hfs_btree.specs.Descent.{content-about}
-use Rattle.hfs_btree_edits.specs.EditedOrder.{each-flat}
-use Rattle.hfs_btree_edits.specs.LevelParts.{lift, upper, turn-split}
+use Rattle.hfs_btree.proofs.LevelLemmas.{at-spot, under-some, records-some}
+use Rattle.hfs_btree.proofs.DescentLemmas.{content-about}
+use Rattle.hfs_btree_edits.proofs.EditedOrderLemmas.{each-flat}
+use Rattle.hfs_btree_edits.specs.LevelParts.{lift}
+use Rattle.hfs_btree_edits.proofs.LevelPartLemmas.{upper, turn-split}
 use Rattle.hfs_btree_removal.proofs.DetachedOrder.{level-lift}
 use Rattle.hfs_btree_removal.proofs.Told.{first-most}
 

@@ -3,14 +3,15 @@ use Rattle.std.proofs.Common.{◌≡◌, ℕ, List, ◌∷◌, ◌++◌, refl, s
 use Rattle.hfs_node.specs.Laid.{IsZeroFrom}
 use Rattle.hfs_btree.specs.declared.key.Key.{Ghosts}
 use Rattle.hfs_scans.specs.Each.{Each}
-use Rattle.hfs_scans.specs.Elements.{each-mono, each-append, each-left, each-right, each-map}
-use Rattle.hfs_scans.specs.Members.{In, each_in}
+use Rattle.hfs_scans.proofs.ElementLemmas.{each-mono, each-append, each-left, each-right, each-map}
+use Rattle.hfs_scans.specs.Members.{In}
+use Rattle.hfs_scans.proofs.MemberLemmas.{each_in}
 use Rattle.hfs_btree.specs.Tree.{Store, Spot}
 use Rattle.hfs_btree.specs.Header.{map_nodes, own_nodes, is_marked, tree_turn, tree_nodes}
 use Rattle.hfs_btree.specs.Sound.{IsOther, IsRight, IsMarked, IsSound}
 use Rattle.hfs_btree_edits.specs.Edits.{KeepsTree}
-use Rattle.hfs_btree_edits.specs.KeptKeys.{own-keys, each-among}
-use Rattle.hfs_btree_edits.specs.Released.{apart}
+use Rattle.hfs_btree_edits.proofs.KeptKeyLemmas.{own-keys, each-among}
+use Rattle.hfs_btree_edits.proofs.ReleasedLemmas.{apart}
 use Rattle.hfs_btree_edits.specs.Stored.{bytes_in}
 use Rattle.hfs_btree_removal.specs.Removal.{KeepsSound, GainsNothing}
 use Rattle.hfs_btree_removal.proofs.Composed.{either, not-other}

@@ -3,17 +3,19 @@ use Rattle.std.proofs.Common.{◌≡◌, ◌≢◌, ℕ, List, [], ◌∷◌, �
 use Rattle.hfs_node.specs.Laid.{IsZeroFrom}
 use Rattle.hfs_btree.specs.declared.key.Key.{Ghosts}
 use Rattle.hfs_scans.specs.Each.{Each}
-use Rattle.hfs_scans.specs.Elements.{each-left, each-right}
+use Rattle.hfs_scans.proofs.ElementLemmas.{each-left, each-right}
 use Rattle.hfs_scans.specs.Members.{In}
 use Rattle.hfs_btree.specs.Tree.{Store}
 use Rattle.hfs_btree.specs.Header.{header_in, map_nodes, own_nodes, tree_nodes}
 use Rattle.hfs_btree.specs.Sound.{IsOther, IsSound}
-use Rattle.hfs_btree_edits.specs.Headed.{map_nodes-is}
+use Rattle.hfs_btree_edits.proofs.HeadedLemmas.{map_nodes-is}
 use Rattle.hfs_btree_edits.specs.KeptKeys.{tree_keys, EachKey}
-use Rattle.hfs_btree_edits.specs.LevelParts.{numbers}
-use Rattle.hfs_btree_edits.specs.Released.{IsReleased, released-turn}
+use Rattle.hfs_btree_edits.proofs.LevelPartLemmas.{numbers}
+use Rattle.hfs_btree_edits.specs.Stored.{IsReleased}
+use Rattle.hfs_btree_edits.proofs.ReleasedLemmas.{released-turn}
 use Rattle.hfs_btree_edits.specs.Stored.{bytes_in}
-use Rattle.hfs_btree_removal.specs.Removal.{IsLowered, IsEmptied, GainsNothing}
+use Rattle.hfs_btree_removal.proofs.RemovalLemmas.{IsLowered, IsEmptied}
+use Rattle.hfs_btree_removal.specs.Removal.{GainsNothing}
 use Rattle.hfs_btree_removal.proofs.Composed.{not-other}
 use Rattle.hfs_btree_removal.proofs.Emptied.{emptied-sound, emptied-keys, old-nodes as leaf-was, new-nodes as leaf-is}
 use Rattle.hfs_btree_removal.proofs.KeysKept.{keys-then, released-keys}

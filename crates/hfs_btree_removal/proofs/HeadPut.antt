@@ -6,24 +6,25 @@ use Rattle.hfs_node.specs.declared.node.Node.{Node}
 use Rattle.hfs_node.specs.declared.fault.NodeFault.{NodeFault}
 use Rattle.hfs_btree.specs.declared.header.Header.{Header}
 use Rattle.hfs_btree.specs.declared.key.Key.{Ghosts}
-use Rattle.hfs_scans.specs.Elements.{each-mono}
+use Rattle.hfs_scans.proofs.ElementLemmas.{each-mono}
 use Rattle.hfs_btree_edits.specs.Stored.{HasHeaderPut}
 use Rattle.hfs_btree.specs.Tree.{Store, node_in, records_in, records_of, forward_of, first_of}
 use Rattle.hfs_btree.specs.Header.{header_of, header_in, record_in, depth_of, map_nodes, free_nodes, tree_content}
 use Rattle.hfs_btree.specs.Sound.{HasStructure, IsMapNode, IsSound, IsStray}
 use Rattle.hfs_btree_removal.specs.Removal.{KeepsSound, GainsNothing}
 use Rattle.hfs_btree_removal.proofs.GainsRoot.{lowered-gains, emptied-gains}
-use Rattle.hfs_btree_removal.specs.Removal.{IsEmptied, IsLowered}
+use Rattle.hfs_btree_removal.proofs.RemovalLemmas.{IsEmptied, IsLowered}
 use Rattle.hfs_btree_edits.specs.Stored.{IsReleased}
 use Rattle.hfs_node.specs.Node.{node_of}
-use Rattle.hfs_btree.specs.Decoded.{records-read}
+use Rattle.hfs_btree.proofs.DecodedLemmas.{records-read}
 use Rattle.hfs_btree_removal.proofs.Lowered.{lowered-sound, lowered-root}
 use Rattle.hfs_btree_removal.proofs.Composed.{given-keeps, given-content, given-depth}
 use Rattle.hfs_btree_removal.proofs.Emptied.{emptied-sound, emptied-root}
 use Rattle.hfs_btree_removal.proofs.RemovedRest.{last-keeps, last-content}
-use Rattle.hfs_btree_edits.specs.Kept.{IsSame}
-use Rattle.hfs_btree_edits.specs.Headed.{HasNewHeader, free-is}
-use Rattle.hfs_btree_edits.specs.Released.{one-more}
+use Rattle.hfs_btree_edits.specs.Stored.{IsSame}
+use Rattle.hfs_btree_edits.proofs.StoredLemmas.{HasNewHeader}
+use Rattle.hfs_btree_edits.proofs.HeadedLemmas.{free-is}
+use Rattle.hfs_btree_edits.proofs.ReleasedLemmas.{one-more}
 
 module _ {K : Type 0} (g : Ghosts K) (old new : Store) (structure : HasStructure g old) (h : Header) (p : HasHeaderPut h old new) where
   same-value : (u w : Node) (r : Result Node NodeFault) → r ≡ Ok u → r ≡ Ok w → u ≡ w

@@ -2,16 +2,17 @@
 use Rattle.std.proofs.Common.{◌≡◌, ℕ, zero, suc, ◌<◌, List, [], ◌∷◌, get_or, refl, sym, ap, subst, arith}
 use Rattle.hfs_btree.specs.declared.key.Key.{Ghosts}
 use Rattle.hfs_scans.specs.Each.{Each}
-use Rattle.hfs_scans.specs.Elements.{each-mono, each-at}
+use Rattle.hfs_scans.proofs.ElementLemmas.{each-mono, each-at}
 use Rattle.hfs_scans.specs.Members.{In}
 use Rattle.hfs_btree.specs.Tree.{Store, Spot, records_in, records_of, first_of, key_at, spots}
 use Rattle.hfs_btree.specs.Header.{tree_turn}
 use Rattle.hfs_btree.specs.Sound.{IsSound, first_key}
-use Rattle.hfs_btree_edits.specs.KeptKeys.{tree_keys, EachKey, hold-keys, keys-hold}
-use Rattle.hfs_btree_edits.specs.LevelParts.{KeepsAt}
-use Rattle.hfs_btree_edits.specs.Unchanged.{IsUnchanged}
+use Rattle.hfs_btree_edits.specs.KeptKeys.{tree_keys, EachKey}
+use Rattle.hfs_btree_edits.proofs.KeptKeyLemmas.{hold-keys, keys-hold}
+use Rattle.hfs_btree_edits.proofs.LevelPartLemmas.{KeepsAt}
+use Rattle.hfs_btree_edits.proofs.UnchangedLemmas.{IsUnchanged}
 use Rattle.hfs_btree_edits.specs.Stored.{IsReleased}
-use Rattle.hfs_btree_edits.specs.Released.{released-same, released-turn}
+use Rattle.hfs_btree_edits.proofs.ReleasedLemmas.{released-same, released-turn}
 
 -- the fact holds of the keys of the node at the spot
 abbrev pub HaveKeys : {K : Type 0} → Ghosts K → (K → Type 0) → Store → Spot → Type 0

@@ -13,19 +13,21 @@ use Rattle.hfs_btree.specs.Pairs.{Pairs, Rises}
 use Rattle.hfs_scans.specs.Each.{Each}
 use Rattle.hfs_scans.specs.Members.{In}
 use Rattle.hfs_btree_edits.specs.Stored.{bytes_in}
-use Rattle.hfs_scans.specs.Elements.{each-left, each-right, each-unmap}
+use Rattle.hfs_scans.proofs.ElementLemmas.{each-left, each-right, each-unmap}
 use Rattle.hfs_btree.specs.Tree.{Store, Spot, node_in, records_in, records_of, pair_of, pairs, first_of, last_level, under}
 use Rattle.hfs_btree.specs.Header.{header_in, depth_of, root_level, leaves, own_nodes, tree_turn, tree_nodes}
 use Rattle.hfs_btree.specs.Sound.{IsOther, IsRight, IsSound, IsExact, HasStructure, first_key}
-use Rattle.hfs_btree_removal.specs.Removal.{HasTold, IsPassedUp, HasTakenOut, HasDetached, HasRecordTaken, IsNewFirst, AreSettable, IsWayBelow, fewer, last_left, last_right}
-use Rattle.hfs_btree_edits.specs.Stored.{HasNewHeader, IsRecounted}
+use Rattle.hfs_btree_removal.proofs.RemovalLemmas.{HasTold}
+use Rattle.hfs_btree_removal.specs.Removal.{IsPassedUp, HasTakenOut, HasDetached, HasRecordTaken, IsNewFirst, AreSettable, IsWayBelow, fewer, last_left, last_right}
+use Rattle.hfs_btree_edits.proofs.StoredLemmas.{HasNewHeader, IsRecounted}
 use Rattle.hfs_btree_removal.specs.Ways.{IsWayTo}
 use Rattle.hfs_btree_removal.proofs.DetachedOrder.{level-lift}
-use Rattle.hfs_btree_edits.specs.Edited.{IsEdited}
+use Rattle.hfs_btree_edits.proofs.EditedLemmas.{IsEdited}
 use Rattle.hfs_btree_removal.proofs.ExactBut.{IsExactBut, exact-for}
 use Rattle.hfs_btree_removal.proofs.Firsts.{at-level, leaf-rises}
 use Rattle.hfs_btree_removal.proofs.HeadPut.{head-put, put-fields}
-use Rattle.hfs_btree_edits.specs.LevelParts.{lift, upper}
+use Rattle.hfs_btree_edits.specs.LevelParts.{lift}
+use Rattle.hfs_btree_edits.proofs.LevelPartLemmas.{upper}
 use Rattle.hfs_btree_removal.proofs.Links.{IsKept}
 use Rattle.hfs_btree_removal.proofs.Overs.{in-map, leaf-second}
 use Rattle.hfs_btree_removal.proofs.Passed.{high}

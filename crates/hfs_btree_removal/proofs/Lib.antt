@@ -37,3 +37,4 @@ pub mod WayOut
 pub mod ChainOut
 pub mod LeafOut
 pub mod OutWhole
+mod RemovalLemmas

@@ -9,8 +9,8 @@ use Rattle.hfs_btree.specs.Header.{header_in, depth_of, free_nodes, tree_content
 use Rattle.hfs_btree_removal.specs.Removal.{HasLowered}
 use Rattle.hfs_btree.specs.Sound.{IsSound}
 use Rattle.hfs_btree.specs.Tree.{Store, records_in, records_of}
-use Rattle.hfs_btree.specs.Decoded.{records-read}
-use Rattle.hfs_btree.specs.Descent.{root-way, way-some, way-within}
+use Rattle.hfs_btree.proofs.DecodedLemmas.{records-read}
+use Rattle.hfs_btree.proofs.DescentLemmas.{root-way, way-some, way-within}
 use Rattle.hfs_btree_removal.proofs.Composed.{keeps-then}
 
 module _ {K : Type 0} (g : Ghosts K) where

@@ -6,18 +6,19 @@ use Rattle.hfs_btree.specs.declared.header.Header.{Header}
 use Rattle.hfs_btree.specs.declared.key.Key.{Ghosts}
 use Rattle.hfs_btree.specs.Pairs.{Pairs, Rises}
 use Rattle.hfs_scans.specs.Each.{Each}
-use Rattle.hfs_scans.specs.Elements.{each-mono, each-left, each-right, each-append}
+use Rattle.hfs_scans.proofs.ElementLemmas.{each-mono, each-left, each-right, each-append}
 use Rattle.hfs_btree.specs.Tree.{Store, Spot, records_of, children, first_of, last_of, spots, turn, last_level, pairs}
 use Rattle.hfs_btree.specs.Header.{header_in, root_level, leaves, own_nodes, tree_content, tree_turn, tree_nodes}
 use Rattle.hfs_btree.specs.Sound.{IsOther, IsDistinct, IsRight, IsSound, IsExact, IsStray, AreKeysInOrder, AreKeysExact}
 use Rattle.hfs_btree_removal.proofs.Chains.{only_child, below-cut, distinct-skip}
 use Rattle.hfs_btree_removal.proofs.KeysKept.{HaveKeys, all-have}
-use Rattle.hfs_btree_edits.specs.KeptKeys.{tree_keys, EachKey, hold-keys}
-use Rattle.hfs_btree_edits.specs.LevelParts.{KeepsAt}
+use Rattle.hfs_btree_edits.specs.KeptKeys.{tree_keys, EachKey}
+use Rattle.hfs_btree_edits.proofs.KeptKeyLemmas.{hold-keys}
+use Rattle.hfs_btree_edits.proofs.LevelPartLemmas.{KeepsAt}
 use Rattle.hfs_scans.specs.Members.{In}
-use Rattle.hfs_btree_edits.specs.Distinct.{other-before, other-behind}
-use Rattle.hfs_btree_edits.specs.Headed.{own_nodes-is, marked-on, marked-back, free-is, has_header, has_map}
-use Rattle.hfs_btree_edits.specs.Unchanged.{IsUnchanged, turn-unchanged, last-unchanged, rights-unchanged, keyed-unchanged, exact-unchanged, content-unchanged}
+use Rattle.hfs_btree_edits.proofs.DistinctLemmas.{other-before, other-behind}
+use Rattle.hfs_btree_edits.proofs.HeadedLemmas.{own_nodes-is, marked-on, marked-back, free-is, has_header, has_map}
+use Rattle.hfs_btree_edits.proofs.UnchangedLemmas.{IsUnchanged, turn-unchanged, last-unchanged, rights-unchanged, keyed-unchanged, exact-unchanged, content-unchanged}
 pub use Rattle.hfs_btree_removal.specs.Removal.{IsLowered}
 
 module _ {K : Type 0} (g : Ghosts K) (old new : Store) (k : ℕ) (d : IsLowered g old new k) (sound : IsSound g old) where

@@ -4,14 +4,15 @@ use Rattle.std.specs.List.{flat_map}
 use Rattle.std.proofs.lemmas.List.{map-append}
 use Rattle.hfs_btree.specs.declared.key.Key.{Ghosts}
 use Rattle.hfs_scans.specs.Each.{Each}
-use Rattle.hfs_scans.specs.Elements.{each-mono, each-left, each-right, each-append, each-unmap}
+use Rattle.hfs_scans.proofs.ElementLemmas.{each-mono, each-left, each-right, each-append, each-unmap}
 use Rattle.hfs_btree.specs.Tree.{Store, Spot, records_in, children, spots, turn, level_below}
 use Rattle.hfs_btree.specs.Header.{depth_of, root_level, own_nodes, tree_turn, tree_nodes}
 use Rattle.hfs_btree.specs.Sound.{IsDistinct, HasStructure}
-use Rattle.hfs_btree.specs.Descent.{next-split}
-use Rattle.hfs_btree_edits.specs.Distinct.{other-before, other-behind, turn-nodes}
-use Rattle.hfs_btree_edits.specs.EditedOrder.{each-flat}
-use Rattle.hfs_btree_edits.specs.LevelParts.{lift, upper, numbers, numbers-spots, at-spots, turn-split}
+use Rattle.hfs_btree.proofs.DescentLemmas.{next-split}
+use Rattle.hfs_btree_edits.proofs.DistinctLemmas.{other-before, other-behind, turn-nodes}
+use Rattle.hfs_btree_edits.proofs.EditedOrderLemmas.{each-flat}
+use Rattle.hfs_btree_edits.specs.LevelParts.{lift}
+use Rattle.hfs_btree_edits.proofs.LevelPartLemmas.{upper, numbers, numbers-spots, at-spots, turn-split}
 
 -- the children of a node above the leaves pass
 abbrev pub HavePassing : {K : Type 0} → Ghosts K → Store → (ℕ → Type 0) → Spot → Type 0

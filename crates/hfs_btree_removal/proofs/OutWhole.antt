@@ -10,9 +10,10 @@ use Rattle.hfs_btree.specs.Pairs.{Pairs}
 use Rattle.hfs_btree.specs.Tree.{Store, node_in, records_in, records_of, pair_of, pairs, last_level}
 use Rattle.hfs_btree.specs.Header.{header_in, record_in, depth_of, root_level, leaves}
 use Rattle.hfs_btree.specs.Sound.{IsRight, IsSound, IsExact}
-use Rattle.hfs_btree.specs.Decoded.{decoded-within}
-use Rattle.hfs_btree.specs.Descent.{content-about}
-use Rattle.hfs_btree_removal.specs.Removal.{HasTold, IsPassedUp, HasTakenOut, HasDetached, HasRecordTaken, AreUnlinkable, AreStepsUnlinked, AreReleased, AreSettable, AreStray, IsWayBelow, HasToldAbove}
+use Rattle.hfs_btree.proofs.DecodedLemmas.{decoded-within}
+use Rattle.hfs_btree.proofs.DescentLemmas.{content-about}
+use Rattle.hfs_btree_removal.proofs.RemovalLemmas.{HasTold}
+use Rattle.hfs_btree_removal.specs.Removal.{IsPassedUp, HasTakenOut, HasDetached, HasRecordTaken, AreUnlinkable, AreStepsUnlinked, AreReleased, AreSettable, AreStray, IsWayBelow, HasToldAbove}
 use Rattle.hfs_btree_removal.specs.Ways.{IsWayTo, IsLastWide}
 use Rattle.hfs_btree_removal.proofs.ChainOut.{gaps, chain-can, chain-take, chain-sound, chain-settable, chain-told, chain-exact, chain-same, chain-stray, chain-out}
 use Rattle.hfs_btree_removal.proofs.LeafOut.{leaf-take, leaf-sound, leaf-settable, leaf-told, leaf-exact, leaf-same, leaf-out}

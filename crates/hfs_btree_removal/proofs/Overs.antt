@@ -10,18 +10,20 @@ use Rattle.hfs_btree_removal.specs.declared.down.Step.{Step}
 use Rattle.hfs_btree.specs.declared.key.Key.{Ghosts}
 use Rattle.hfs_btree.specs.Pairs.{Order, Pairs, Rises, IsAtMost, IsAbove}
 use Rattle.hfs_scans.specs.Each.{Each}
-use Rattle.hfs_scans.specs.Members.{In, each_in}
-use Rattle.hfs_scans.specs.Elements.{each-at}
+use Rattle.hfs_scans.specs.Members.{In}
+use Rattle.hfs_scans.proofs.MemberLemmas.{each_in}
+use Rattle.hfs_scans.proofs.ElementLemmas.{each-at}
 use Rattle.hfs_btree.specs.Tree.{Store, node_in, records_in, records_of, children, pair_of, first_of, under, level_below}
 use Rattle.hfs_btree.specs.Header.{depth_of, root_level}
 use Rattle.hfs_btree.specs.Sound.{IsRight, IsSound, AreKeysInOrder, ArePartsInOrder}
-use Rattle.hfs_btree.specs.Decoded.{decoded-within}
-use Rattle.hfs_btree.specs.Descent.{next-split}
+use Rattle.hfs_btree.proofs.DecodedLemmas.{decoded-within}
+use Rattle.hfs_btree.proofs.DescentLemmas.{next-split}
 use Rattle.hfs_btree_removal.specs.Removal.{IsSettable, AreSettable}
 use Rattle.hfs_btree_removal.specs.Ways.{IsStep, Leads}
 use Rattle.hfs_btree_removal.proofs.Chains.{IsChain, bottom, only_child, only-one}
-use Rattle.hfs_btree_edits.specs.Edited.{height-in}
-use Rattle.hfs_btree_edits.specs.LevelParts.{lift, lift-is}
+use Rattle.hfs_btree_edits.proofs.EditedLemmas.{height-in}
+use Rattle.hfs_btree_edits.specs.LevelParts.{lift}
+use Rattle.hfs_btree_edits.proofs.LevelPartLemmas.{lift-is}
 use Rattle.hfs_btree_removal.proofs.Firsts.{level-next, at-level}
 use Rattle.hfs_btree_removal.proofs.Passed.{high}
 

@@ -8,20 +8,22 @@ use Rattle.hfs_node.specs.declared.fault.NodeFault.{NodeFault}
 use Rattle.hfs_btree.specs.declared.header.Header.{Header}
 use Rattle.hfs_btree.specs.declared.key.Key.{Ghosts}
 use Rattle.hfs_scans.specs.Each.{Each}
-use Rattle.hfs_scans.specs.Elements.{each-mono, each-append, each-left, each-right}
+use Rattle.hfs_scans.proofs.ElementLemmas.{each-mono, each-append, each-left, each-right}
 use Rattle.hfs_btree.specs.Tree.{Store, Spot, node_in, records_in, records_of, forward_of, children, spots, turn, level_below}
 use Rattle.hfs_btree.specs.Header.{header_of, header_in, record_in, depth_of, root_level, map_nodes, own_nodes, tree_turn, tree_nodes}
 use Rattle.hfs_btree.specs.Sound.{IsOther, IsDistinct, IsMapNode, IsMarked, IsRight, IsStray, HasStructure}
-use Rattle.hfs_btree.specs.Descent.{next-split}
+use Rattle.hfs_btree.proofs.DescentLemmas.{next-split}
 use Rattle.hfs_btree_edits.specs.Stored.{HasHeaderPut}
-use Rattle.hfs_btree_edits.specs.Stored.{IsSame, HasNewHeader}
+use Rattle.hfs_btree_edits.specs.Stored.{IsSame}
+use Rattle.hfs_btree_edits.proofs.StoredLemmas.{HasNewHeader}
 use Rattle.hfs_btree_removal.specs.Removal.{HasRecordTaken}
 use Rattle.hfs_btree_removal.proofs.Chains.{Cut, with_node, without_node, IsChain, cuts, turn-with}
 use Rattle.hfs_btree_removal.proofs.Detached.{HasGap, IsDetached, cs, others, old-numbers, new-numbers}
-use Rattle.hfs_btree_edits.specs.Distinct.{distinct-right, other-before, other-behind}
-use Rattle.hfs_btree_edits.specs.EditedOrder.{each-flat}
-use Rattle.hfs_btree_edits.specs.Headed.{marked-on}
-use Rattle.hfs_btree_edits.specs.LevelParts.{lift, upper, numbers, numbers-spots, turn-split, of-spots}
+use Rattle.hfs_btree_edits.proofs.DistinctLemmas.{distinct-right, other-before, other-behind}
+use Rattle.hfs_btree_edits.proofs.EditedOrderLemmas.{each-flat}
+use Rattle.hfs_btree_edits.proofs.HeadedLemmas.{marked-on}
+use Rattle.hfs_btree_edits.specs.LevelParts.{lift}
+use Rattle.hfs_btree_edits.proofs.LevelPartLemmas.{upper, numbers, numbers-spots, turn-split, of-spots}
 use Rattle.hfs_btree_removal.proofs.Links.{IsKept}
 use Rattle.hfs_btree_removal.proofs.Unlinked.{HasGaps, Some, cross, numbers-with, gap-later}
 

@@ -5,8 +5,8 @@ use Rattle.std.specs.Cmp.{IsTotalOrder}
 use Rattle.std.specs.declared.cmp.Ordering.TheVariants.{Less}
 use Rattle.hfs_btree.specs.Pairs.{Order, Pairs, IsAbove, IsAtMost}
 use Rattle.hfs_scans.specs.Each.{Each}
-use Rattle.hfs_scans.specs.Elements.{each-mono}
-use Rattle.hfs_btree.specs.Lookups.{lt-le}
+use Rattle.hfs_scans.proofs.ElementLemmas.{each-mono}
+use Rattle.hfs_btree.proofs.LookupLemmas.{lt-le}
 use Rattle.hfs_btree.specs.Sound.{ArePartsInOrder}
 
 pub map-remove : {X Y : Type 0} (f : X → Y) (xs : List X) (q : ℕ) → q < length xs → map f (remove xs q) ≡ map f (take q xs) ++ map f (drop (suc q) xs)

@@ -14,17 +14,20 @@ use Rattle.hfs_scans.specs.Each.{Each}
 use Rattle.hfs_btree.specs.Tree.{Store, Spot, node_in, records_in, records_of, children, first_of, under, level_below}
 use Rattle.hfs_btree.specs.Header.{depth_of, root_level, tree_turn, tree_nodes}
 use Rattle.hfs_btree.specs.Sound.{IsOther, IsRight, IsSound, IsExact, first_key}
-use Rattle.hfs_btree.specs.Descent.{next-split}
-use Rattle.hfs_btree_removal.specs.Removal.{HasTold, HasKeySet, AreKeysSet, AreBehindFirst}
+use Rattle.hfs_btree.proofs.DescentLemmas.{next-split}
+use Rattle.hfs_btree_removal.proofs.RemovalLemmas.{HasTold}
+use Rattle.hfs_btree_removal.specs.Removal.{HasKeySet, AreKeysSet, AreBehindFirst}
 use Rattle.hfs_btree_removal.specs.Ways.{IsStep, Leads}
-use Rattle.hfs_btree_edits.specs.Kept.{flat_map-same}
-use Rattle.hfs_btree_edits.specs.Edited.{IsEdited, height-in}
-use Rattle.hfs_btree_edits.specs.LevelParts.{lift, lift-is, numbers}
-use Rattle.hfs_btree_edits.specs.KeptKeys.{tree_keys, own-keys}
+use Rattle.hfs_btree_edits.proofs.KeptLemmas.{flat_map-same}
+use Rattle.hfs_btree_edits.proofs.EditedLemmas.{IsEdited, height-in}
+use Rattle.hfs_btree_edits.specs.LevelParts.{lift}
+use Rattle.hfs_btree_edits.proofs.LevelPartLemmas.{lift-is, numbers}
+use Rattle.hfs_btree_edits.specs.KeptKeys.{tree_keys}
+use Rattle.hfs_btree_edits.proofs.KeptKeyLemmas.{own-keys}
 use Rattle.hfs_btree_edits.specs.Stored.{bytes_in}
 use Rattle.hfs_btree_removal.proofs.KeysKept.{HaveKeys, first-has, keys-then}
 use Rattle.hfs_scans.specs.Members.{In}
-use Rattle.hfs_scans.specs.Elements.{each-unmap}
+use Rattle.hfs_scans.proofs.ElementLemmas.{each-unmap}
 use Rattle.hfs_btree_removal.proofs.Raised.{sons-at}
 use Rattle.hfs_btree_removal.proofs.ExactBut.{IsExactBut}
 use Rattle.hfs_btree_removal.proofs.Told.{has-told, told-but, told-exact}

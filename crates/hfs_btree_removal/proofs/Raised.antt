@@ -13,17 +13,17 @@ use Rattle.hfs_btree.specs.declared.header.Header.{Header as HeaderRecord}
 use Rattle.hfs_btree.specs.declared.key.Key.{Ghosts}
 use Rattle.hfs_btree.specs.Pairs.{Pairs, Rises, IsAtMost}
 use Rattle.hfs_scans.specs.Each.{Each}
-use Rattle.hfs_scans.specs.Elements.{each-mono, each-left, each-right}
+use Rattle.hfs_scans.proofs.ElementLemmas.{each-mono, each-left, each-right}
 use Rattle.hfs_btree.specs.Tree.{Store, Spot, node_in, records_in, records_of, children, pair_of, pairs, spots, turn, last_level, under, kind_at}
 use Rattle.hfs_btree.specs.Header.{header_in, depth_of, root_level, leaves, free_nodes, tree_content, tree_turn}
 use Rattle.hfs_btree.specs.Sound.{IsRight, IsSound, AreKeysInOrder, ArePartsInOrder, part_of, KeepsFrame}
-use Rattle.hfs_btree.specs.Levels.{each-spots, map-split}
-use Rattle.hfs_btree_edits.specs.Kept.{header-kept, marks-kept, free-same, flat_map-same}
-use Rattle.hfs_btree_edits.specs.Edited.{IsEdited, height-in, head-stays, map-stays, turn-stays, leaves-stay, frame-stays, structure-stays}
-use Rattle.hfs_btree_edits.specs.EditedOrder.{each-flat, turn-step}
-use Rattle.hfs_btree_edits.specs.LevelParts.{KeepsUnder, same-flat}
+use Rattle.hfs_btree.proofs.LevelLemmas.{each-spots, map-split}
+use Rattle.hfs_btree_edits.proofs.KeptLemmas.{header-kept, marks-kept, free-same, flat_map-same}
+use Rattle.hfs_btree_edits.proofs.EditedLemmas.{IsEdited, height-in, head-stays, map-stays, turn-stays, leaves-stay, frame-stays, structure-stays}
+use Rattle.hfs_btree_edits.proofs.EditedOrderLemmas.{each-flat, turn-step}
+use Rattle.hfs_btree_edits.proofs.LevelPartLemmas.{KeepsUnder, same-flat}
 use Rattle.hfs_btree_removal.proofs.PartsLess.{parts-raise}
-use Rattle.hfs_btree_edits.specs.Replaced.{each-set, map-set}
+use Rattle.hfs_btree_edits.proofs.ReplacedLemmas.{each-set, map-set}
 use Rattle.hfs_btree.specs.Tree.{key_at}
 use Rattle.hfs_btree_edits.specs.KeptKeys.{EachKey}
 use Rattle.hfs_btree_removal.proofs.KeysKept.{HaveKeys, kept-has}

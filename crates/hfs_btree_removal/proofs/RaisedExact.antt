@@ -5,11 +5,11 @@ use Rattle.std.proofs.lemmas.Bool.{cases_eq}
 use Rattle.hfs_node.specs.declared.node.Node.{Node}
 use Rattle.hfs_btree.specs.declared.key.Key.{Ghosts}
 use Rattle.hfs_scans.specs.Each.{Each}
-use Rattle.hfs_scans.specs.Elements.{each-unmap}
+use Rattle.hfs_scans.proofs.ElementLemmas.{each-unmap}
 use Rattle.hfs_btree.specs.Tree.{Store, Spot, node_in, records_in, records_of, children, turn}
 use Rattle.hfs_btree.specs.Header.{record_in, depth_of, root_level, tree_turn}
 use Rattle.hfs_btree.specs.Sound.{IsRight, first_key}
-use Rattle.hfs_btree_edits.specs.Edited.{IsEdited, height-in}
+use Rattle.hfs_btree_edits.proofs.EditedLemmas.{IsEdited, height-in}
 use Rattle.hfs_btree_removal.proofs.ExactBut.{IsExactFor, IsExactBut, AreKeysExactFor, KeepsFirst, WasExact, exact-moved}
 
 -- all but one element pass, and what stands in its place passes

@@ -8,7 +8,7 @@ use Rattle.hfs_btree.specs.Tree.{Store}
 use Rattle.hfs_btree.specs.Sound.{IsSound, IsStray}
 use Rattle.hfs_btree_edits.specs.Stored.{IsReleased}
 use Rattle.hfs_btree_removal.specs.Removal.{AreReleased, AreStray}
-use Rattle.hfs_btree_edits.specs.Released.{released-sound, released-stray}
+use Rattle.hfs_btree_edits.proofs.ReleasedLemmas.{released-sound, released-stray}
 
 abbrev no-step : Step
 no-step = record { node = 0; place = 0; count = 0 }

@@ -9,24 +9,26 @@ use Rattle.std.proofs.lemmas.List.{length-map}
 use Rattle.hfs_node.specs.declared.node.Node.{Node}
 use Rattle.hfs_btree.specs.declared.key.Key.{Ghosts}
 use Rattle.hfs_scans.specs.Each.{Each}
-use Rattle.hfs_scans.specs.Members.{In, each_in}
-use Rattle.hfs_scans.specs.Elements.{each-left, each-right, each-mono, each-unmap}
+use Rattle.hfs_scans.specs.Members.{In}
+use Rattle.hfs_scans.proofs.MemberLemmas.{each_in}
+use Rattle.hfs_scans.proofs.ElementLemmas.{each-left, each-right, each-mono, each-unmap}
 use Rattle.hfs_btree_edits.specs.Edits.{without_pair}
 use Rattle.hfs_btree_removal.specs.Removal.{KeepsSound, GainsNothing}
 use Rattle.hfs_node.specs.Laid.{IsZeroFrom}
-use Rattle.hfs_btree_edits.specs.KeptKeys.{each-among, hold-keys}
+use Rattle.hfs_btree_edits.proofs.KeptKeyLemmas.{each-among, hold-keys}
 use Rattle.hfs_btree_edits.specs.Stored.{bytes_in}
 use Rattle.hfs_btree_removal.proofs.KeysKept.{keys-then}
 use Rattle.hfs_btree.specs.Tree.{Store, Spot, node_in, records_in, records_of, spots}
 use Rattle.hfs_btree.specs.Header.{record_in, depth_of, root_level, own_nodes, free_nodes, tree_content, tree_turn, tree_nodes}
 use Rattle.hfs_btree.specs.Sound.{IsOther, IsRight, IsSound, IsExact, IsStray, KeepsFrame, AreKeysExact}
-use Rattle.hfs_btree_edits.specs.LevelParts.{numbers}
+use Rattle.hfs_btree_edits.proofs.LevelPartLemmas.{numbers}
 use Rattle.hfs_btree_removal.proofs.Chains.{Cut, with_node, without_node, numbers-fewer}
-use Rattle.hfs_btree_edits.specs.Edited.{IsEdited, height-in}
-use Rattle.hfs_btree_edits.specs.Headed.{map_nodes-is, map_bytes-is, free-is}
+use Rattle.hfs_btree_edits.proofs.EditedLemmas.{IsEdited, height-in}
+use Rattle.hfs_btree_edits.proofs.HeadedLemmas.{map_nodes-is, map_bytes-is, free-is}
 use Rattle.hfs_btree_removal.proofs.Detached.{IsDetached, cs, others, old-numbers, new-numbers, stray-on, stray-back, nodes-fewer, nodes-back, detached-keys}
 use Rattle.hfs_btree_removal.proofs.DetachedOrder.{content-is, gone}
-use Rattle.hfs_btree_edits.specs.Reheaded.{IsRecounted, recounted-turn}
+use Rattle.hfs_btree_edits.proofs.StoredLemmas.{IsRecounted}
+use Rattle.hfs_btree_edits.proofs.ReheadedLemmas.{recounted-turn}
 use Rattle.hfs_btree_removal.proofs.ExactBut.{IsExactFor, KeepsFirst, WasExact, exact-moved}
 use Rattle.hfs_btree_removal.proofs.Composed.{either, not-stray, not-other, AreReleased, HasGiven, all-given}
 pub use Rattle.hfs_btree_removal.specs.Removal.{HasTold}

@@ -10,23 +10,26 @@ use Rattle.hfs_btree.specs.declared.key.Key.{Ghosts}
 use Rattle.hfs_scans.specs.Members.{In}
 use Rattle.hfs_btree_edits.specs.Edits.{without_pair}
 use Rattle.hfs_btree_removal.specs.Removal.{KeepsSound, GainsNothing}
-use Rattle.hfs_btree_edits.specs.KeptKeys.{EachKey, hold-keys}
+use Rattle.hfs_btree_edits.specs.KeptKeys.{EachKey}
+use Rattle.hfs_btree_edits.proofs.KeptKeyLemmas.{hold-keys}
 use Rattle.hfs_btree_edits.specs.Stored.{bytes_in}
 use Rattle.hfs_btree_removal.proofs.KeysKept.{HaveKeys, kept-has, keys-then}
 use Rattle.hfs_btree_removal.proofs.PartsLess.{each-remove}
 use Rattle.hfs_scans.specs.Each.{Each}
-use Rattle.hfs_scans.specs.Elements.{each-right}
+use Rattle.hfs_scans.proofs.ElementLemmas.{each-right}
 use Rattle.hfs_btree.specs.Tree.{Store, Spot, records_in, records_of, key_at}
 use Rattle.hfs_btree.specs.Header.{header_in, depth_of, leaves, own_nodes, tree_content, tree_turn, tree_nodes}
 use Rattle.hfs_btree.specs.Sound.{IsOther, IsRight, IsSound, IsExact, IsStray}
-use Rattle.hfs_btree_edits.specs.Kept.{map_nodes-same}
-use Rattle.hfs_btree_edits.specs.LevelParts.{numbers}
-use Rattle.hfs_btree_edits.specs.Edited.{IsEdited}
-use Rattle.hfs_btree_edits.specs.Headed.{map_nodes-is, map_bytes-is, free-is}
-use Rattle.hfs_btree_edits.specs.Reheaded.{IsRecounted, recounted-turn, recounted-stray}
+use Rattle.hfs_btree_edits.proofs.KeptLemmas.{map_nodes-same}
+use Rattle.hfs_btree_edits.proofs.LevelPartLemmas.{numbers}
+use Rattle.hfs_btree_edits.proofs.EditedLemmas.{IsEdited}
+use Rattle.hfs_btree_edits.proofs.HeadedLemmas.{map_nodes-is, map_bytes-is, free-is}
+use Rattle.hfs_btree_edits.proofs.StoredLemmas.{IsRecounted}
+use Rattle.hfs_btree_edits.proofs.ReheadedLemmas.{recounted-turn, recounted-stray}
 use Rattle.hfs_btree_removal.proofs.TakenLeaf.{gone, taken-frame, taken-free, taken-turn, taken-header, taken-structure, taken-content}
 use Rattle.hfs_btree_removal.proofs.Emptied.{IsEmptied, emptied-sound, emptied-exact, emptied-stray, old-nodes, new-nodes, no-content}
-use Rattle.hfs_btree_edits.specs.Released.{IsReleased, released-sound, released-exact, released-stray, released-gone, released-content, released-turn, one-more}
+use Rattle.hfs_btree_edits.specs.Stored.{IsReleased}
+use Rattle.hfs_btree_edits.proofs.ReleasedLemmas.{released-sound, released-exact, released-stray, released-gone, released-content, released-turn, one-more}
 use Rattle.hfs_btree_removal.proofs.Composed.{not-stray, not-other}
 use Rattle.hfs_btree_removal.proofs.Removed.{HasTold}
 

@@ -13,22 +13,23 @@ use Rattle.hfs_btree.specs.declared.header.Header.{Header}
 use Rattle.hfs_btree.specs.declared.key.Key.{Ghosts}
 use Rattle.hfs_btree.specs.Pairs.{Pairs, Rises}
 use Rattle.hfs_scans.specs.Each.{Each}
-use Rattle.hfs_scans.specs.Elements.{each-mono}
+use Rattle.hfs_scans.proofs.ElementLemmas.{each-mono}
 use Rattle.hfs_btree_edits.specs.Edits.{without_pair}
 use Rattle.hfs_btree.specs.Tree.{Store, Spot, node_in, records_of, pair_of, pairs, first_of}
 use Rattle.hfs_btree.specs.Header.{header_in, depth_of, root_level, leaves, free_nodes, tree_content, tree_turn, tree_nodes, own_nodes}
 use Rattle.hfs_btree.specs.Sound.{IsDistinct, IsRight, IsSound, AreKeysInOrder, KeepsFrame}
-use Rattle.hfs_btree.specs.Levels.{map-split}
-use Rattle.hfs_btree.specs.Descent.{leaf-node, content-about}
-use Rattle.hfs_btree_edits.specs.Kept.{flat_map-same, header-kept, marks-kept, free-same}
-use Rattle.hfs_btree_edits.specs.Edited.{IsEdited, height-in, head-stays, map-stays, turn-stays, leaves-stay, frame-stays, structure-stays}
-use Rattle.hfs_btree_edits.specs.EditedPairs.{rises-before, rises-without, above-equal, without-at}
-use Rattle.hfs_btree_edits.specs.EditedOrder.{StaysAt, keys-stay}
-use Rattle.hfs_btree_edits.specs.Bounds.{KeepsBounds, bounds-same, bounds-without}
-use Rattle.hfs_btree_edits.specs.Distinct.{distinct-right, other-before, other-behind, last-distinct}
+use Rattle.hfs_btree.proofs.LevelLemmas.{map-split}
+use Rattle.hfs_btree.proofs.DescentLemmas.{leaf-node, content-about}
+use Rattle.hfs_btree_edits.proofs.KeptLemmas.{flat_map-same, header-kept, marks-kept, free-same}
+use Rattle.hfs_btree_edits.proofs.EditedLemmas.{IsEdited, height-in, head-stays, map-stays, turn-stays, leaves-stay, frame-stays, structure-stays}
+use Rattle.hfs_btree_edits.proofs.EditedPairLemmas.{rises-before, rises-without, above-equal, without-at}
+use Rattle.hfs_btree_edits.proofs.EditedOrderLemmas.{StaysAt, keys-stay}
+use Rattle.hfs_btree_edits.proofs.BoundLemmas.{KeepsBounds, bounds-same, bounds-without}
+use Rattle.hfs_btree_edits.proofs.DistinctLemmas.{distinct-right, other-before, other-behind, last-distinct}
 use Rattle.hfs_btree_removal.proofs.PartsLess.{map-remove, each-remove, length-remove'}
-use Rattle.hfs_btree_edits.specs.Headed.{free-is}
-use Rattle.hfs_btree_edits.specs.Reheaded.{IsRecounted, recounted-structure, recounted-content, recounted-keys}
+use Rattle.hfs_btree_edits.proofs.HeadedLemmas.{free-is}
+use Rattle.hfs_btree_edits.proofs.StoredLemmas.{IsRecounted}
+use Rattle.hfs_btree_edits.proofs.ReheadedLemmas.{recounted-structure, recounted-content, recounted-keys}
 
 module _ {K : Type 0} (g : Ghosts K) (total : IsTotalOrder g.compare) (old mid : Store) (sound : IsSound g old) (before : List ℕ) (n : ℕ) (behind : List ℕ) (split : leaves g old ≡ before ++ n ∷ behind)
     (v : Node) (place : ℕ) (within : place < length v.records) (more : 2 ≤ length v.records) (edit : IsEdited old mid n v (remove v.records place)) where

@@ -10,14 +10,15 @@ use Rattle.hfs_btree.specs.declared.header.Header.{Header}
 use Rattle.hfs_btree.specs.declared.key.Key.{Ghosts}
 use Rattle.hfs_btree.specs.Pairs.{Order, Pairs, IsAtMost, IsAbove}
 use Rattle.hfs_scans.specs.Each.{Each}
-use Rattle.hfs_scans.specs.Elements.{each-mono, each-append, each-unmap}
-use Rattle.hfs_btree.specs.Lookups.{lt-le}
+use Rattle.hfs_scans.proofs.ElementLemmas.{each-mono, each-append, each-unmap}
+use Rattle.hfs_btree.proofs.LookupLemmas.{lt-le}
 use Rattle.hfs_btree.specs.Tree.{Store, Spot, records_in, records_of, children, turn, under, level_below}
 use Rattle.hfs_btree.specs.Header.{header_in, depth_of, root_level, own_nodes, tree_turn, tree_nodes}
 use Rattle.hfs_btree.specs.Sound.{IsDistinct, IsOther, IsRight, IsSound, IsExact, HasStructure, AreKeysExact, ArePartsInOrder, first_key}
-use Rattle.hfs_btree_edits.specs.Distinct.{other-behind, turn-nodes}
-use Rattle.hfs_btree_edits.specs.Edited.{IsEdited}
-use Rattle.hfs_btree_edits.specs.KeptKeys.{tree_keys, hold-keys, key-holds}
+use Rattle.hfs_btree_edits.proofs.DistinctLemmas.{other-behind, turn-nodes}
+use Rattle.hfs_btree_edits.proofs.EditedLemmas.{IsEdited}
+use Rattle.hfs_btree_edits.specs.KeptKeys.{tree_keys}
+use Rattle.hfs_btree_edits.proofs.KeptKeyLemmas.{hold-keys, key-holds}
 use Rattle.hfs_btree_edits.specs.Stored.{bytes_in}
 use Rattle.hfs_scans.specs.Members.{In}
 use Rattle.hfs_btree_edits.specs.LevelParts.{lift}

@@ -4,13 +4,15 @@ use Rattle.std.specs.Cmp.{IsTotalOrder}
 use Rattle.hfs_btree_removal.specs.declared.down.Step.{Step}
 use Rattle.hfs_btree.specs.declared.key.Key.{Ghosts}
 use Rattle.hfs_scans.specs.Each.{Each}
-use Rattle.hfs_scans.specs.Elements.{each-right}
+use Rattle.hfs_scans.proofs.ElementLemmas.{each-right}
 use Rattle.hfs_btree.specs.Tree.{Store}
 use Rattle.hfs_btree.specs.Header.{header_in, depth_of}
 use Rattle.hfs_btree.specs.Sound.{IsSound, IsExact, first_key}
-use Rattle.hfs_btree_removal.specs.Removal.{HasTold, IsPassedUp, IsEnded}
+use Rattle.hfs_btree_removal.proofs.RemovalLemmas.{HasTold}
+use Rattle.hfs_btree_removal.specs.Removal.{IsPassedUp, IsEnded}
 use Rattle.hfs_btree_removal.specs.Ways.{Leads}
-use Rattle.hfs_btree_edits.specs.LevelParts.{lift, lift-is}
+use Rattle.hfs_btree_edits.specs.LevelParts.{lift}
+use Rattle.hfs_btree_edits.proofs.LevelPartLemmas.{lift-is}
 use Rattle.hfs_btree_removal.proofs.ExactBut.{IsExactBut}
 use Rattle.hfs_btree_removal.proofs.Told.{exact-root}
 use Rattle.hfs_btree_removal.proofs.Passed.{high, IsLower, IsPassed, passed}

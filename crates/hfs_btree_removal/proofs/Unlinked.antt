@@ -3,11 +3,11 @@ use Rattle.std.proofs.Common.{◌≡◌, ◌≢◌, ℕ, List, [], ◌∷◌, �
 use Rattle.std.specs.List.{flat_map}
 use Rattle.std.proofs.lemmas.List.{map-append}
 use Rattle.hfs_scans.specs.Each.{Each}
-use Rattle.hfs_scans.specs.Elements.{each-left, each-right, each-append}
+use Rattle.hfs_scans.proofs.ElementLemmas.{each-left, each-right, each-append}
 use Rattle.hfs_btree.specs.Tree.{Store, Spot, first_of}
 use Rattle.hfs_btree.specs.Sound.{IsOther, IsDistinct}
-use Rattle.hfs_btree_edits.specs.Distinct.{distinct-left, distinct-right}
-use Rattle.hfs_btree_edits.specs.LevelParts.{numbers, numbers-spots}
+use Rattle.hfs_btree_edits.proofs.DistinctLemmas.{distinct-left, distinct-right}
+use Rattle.hfs_btree_edits.proofs.LevelPartLemmas.{numbers, numbers-spots}
 use Rattle.hfs_btree_removal.proofs.Chains.{Cut, with_node}
 use Rattle.hfs_btree_removal.proofs.Links.{last_or, IsKept, IsForward, IsBackward, IsFrontGap, IsBackGap}
 use Rattle.hfs_btree_removal.proofs.Detached.{HasGap}

@@ -7,14 +7,16 @@ use Rattle.hfs_btree_removal.specs.declared.down.Step.{Step}
 use Rattle.hfs_btree.specs.declared.key.Key.{Ghosts}
 use Rattle.hfs_scans.specs.Each.{Each}
 use Rattle.hfs_scans.specs.Members.{In}
-use Rattle.hfs_btree.specs.Lookups.{le-lt}
+use Rattle.hfs_btree.proofs.LookupLemmas.{le-lt}
 use Rattle.hfs_btree.specs.Tree.{Store, Spot, records_in, records_of, under}
 use Rattle.hfs_btree.specs.Header.{header_in, depth_of, root_level}
 use Rattle.hfs_btree.specs.Sound.{IsSound, IsExact, first_key}
-use Rattle.hfs_btree_removal.specs.Removal.{HasTold, IsPassedUp, AreSettable, IsWayBelow}
+use Rattle.hfs_btree_removal.proofs.RemovalLemmas.{HasTold}
+use Rattle.hfs_btree_removal.specs.Removal.{IsPassedUp, AreSettable, IsWayBelow}
 use Rattle.hfs_btree_removal.specs.Ways.{IsStep, Leads, IsWayTo}
 use Rattle.hfs_btree_removal.proofs.ExactBut.{IsExactBut}
-use Rattle.hfs_btree_edits.specs.LevelParts.{lift, lift-is, upper}
+use Rattle.hfs_btree_edits.specs.LevelParts.{lift}
+use Rattle.hfs_btree_edits.proofs.LevelPartLemmas.{lift-is, upper}
 use Rattle.hfs_btree_removal.proofs.Links.{IsKept}
 use Rattle.hfs_btree_removal.proofs.Passed.{high, IsLower}
 use Rattle.hfs_btree_removal.proofs.Overs.{IsUnder, over, settable}

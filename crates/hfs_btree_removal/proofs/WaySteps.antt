@@ -15,9 +15,9 @@ use Rattle.hfs_btree.specs.Header.{depth_of, tree_content}
 use Rattle.hfs_btree.specs.Search.{is_not_above, child_for, leaf_for}
 use Rattle.hfs_btree.specs.Sound.{IsSound}
 use Rattle.hfs_btree_removal.specs.Ways.{IsStep, Leads, IsLastWide}
-use Rattle.hfs_btree.specs.Decoded.{records-read}
-use Rattle.hfs_btree.specs.Descent.{IsOnWay, way-some, place-within, index-entries}
-use Rattle.hfs_btree.specs.Found.{found-entries, found-body}
+use Rattle.hfs_btree.proofs.DecodedLemmas.{records-read}
+use Rattle.hfs_btree.proofs.DescentLemmas.{IsOnWay, way-some, place-within, index-entries}
+use Rattle.hfs_btree.proofs.FoundLemmas.{found-entries, found-body}
 
 module _ {K : Type 0} (g : Ghosts K) (nodes : Store) where
   -- one step more

@@ -11,7 +11,7 @@ use Rattle.hfs_catalog.specs.declared.item.CatalogItem.{CatalogItem}
 use Rattle.hfs_catalog.specs.Records.{Record}
 use Rattle.hfs_catalog.specs.Lookups.{catalog_item}
 use Rattle.hfs_call_edits.specs.Choosing.{map_ok, only_file, is_locked, unless_locked, file_part, is_locked_body, is_locked_item}
-use Rattle.hfs_queries.specs.Folders.{folder_not_file}
+use Rattle.hfs_queries.proofs.FolderLemmas.{folder_not_file}
 
 same_file : (f g : FileRecord) → File f ≡ File g → f ≡ g
 same_file f g e = cc

@@ -10,7 +10,7 @@ use Rattle.hfs_blocks.specs.declared.run.Run.{Run}
 use Rattle.hfs_blocks.specs.Blocks.{nodes_in}
 use Rattle.hfs_blocks.specs.Layers.{Numbered, changes, over, AreWithin}
 use Rattle.hfs_btree.specs.Header.{depth_of, free_nodes}
-use Rattle.hfs_space.specs.TreeFiles.{nodes_in-tree_blocks}
+use Rattle.hfs_space.proofs.TreeFileLemmas.{nodes_in-tree_blocks}
 use Rattle.hfs_model.specs.declared.call.Call.{Call}
 use Rattle.hfs_model.specs.declared.call.Call.TheVariants as call
 use Rattle.hfs_model.specs.declared.reply.Value.TheVariants as answer

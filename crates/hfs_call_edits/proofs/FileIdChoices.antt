@@ -10,7 +10,7 @@ use Rattle.hfs_fields.specs.declared.file_record.FileRecord.{FileRecord}
 use Rattle.hfs_fields.specs.declared.mdb.Mdb.{Mdb}
 use Rattle.hfs_fields.specs.declared.thread_record.ThreadRecord.{ThreadRecord}
 use Rattle.hfs_fields.specs.Records.{is_dir, item_id, dir_record_of, file_record_of, thread_record_of}
-use Rattle.hfs_scans.specs.Members.{each_in}
+use Rattle.hfs_scans.proofs.MemberLemmas.{each_in}
 use Rattle.hfs_model.specs.declared.codes.TheConstants.{FILE_ID_NOT_FOUND, FILE_ID_EXISTS, NOT_A_FILE}
 use Rattle.hfs_model.specs.Choices.{and_then}
 use Rattle.hfs_catalog.specs.declared.item.ItemRecord.TheVariants.{Folder, File}
@@ -18,8 +18,8 @@ use Rattle.hfs_catalog.specs.declared.item.CatalogItem.{CatalogItem}
 use Rattle.hfs_catalog.specs.Records.{Record, Catalog, item_with, has_thread, is_thread_of}
 use Rattle.hfs_catalog.specs.Lookups.{catalog_item, thread_of}
 use Rattle.hfs_catalog.specs.Sound.{IsSoundCatalog}
-use Rattle.hfs_queries.specs.Folders.{found_with, folder_not_file}
-use Rattle.hfs_queries.specs.Found.{is_some-find, is_some-option_map}
+use Rattle.hfs_queries.proofs.FolderLemmas.{found_with, folder_not_file}
+use Rattle.hfs_queries.proofs.FoundLemmas.{is_some-find, is_some-option_map}
 use Rattle.hfs_call_edits.specs.Choosing.{map_ok, lock_code, unless_code, file_part}
 use Rattle.hfs_call_edits.specs.ChoosingFileIds.{unless_threaded, if_threaded, file_with_id}
 use Rattle.hfs_call_edits.proofs.Choices.{same_ok, err_ok}

@@ -9,7 +9,8 @@ use Rattle.hfs_fields.specs.declared.mdb.Mdb.{Mdb}
 use Rattle.hfs_fields.specs.declared.file_record.FileRecord.{FileRecord}
 use Rattle.hfs_fields.specs.Names.{is_item_name}
 use Rattle.hfs_fields.specs.Records.{is_dir, is_file, is_item, item_id, is_bit_set, dir_record_of, file_record_of}
-use Rattle.hfs_scans.specs.Members.{In, each_in}
+use Rattle.hfs_scans.specs.Members.{In}
+use Rattle.hfs_scans.proofs.MemberLemmas.{each_in}
 use Rattle.hfs_model.specs.declared.codes.TheConstants.{BAD_NAME, NOT_FOUND, HARDWARE_LOCKED, SOFTWARE_LOCKED, NOT_A_FOLDER, FILE_ID_NOT_FOUND, FILE_ID_EXISTS, NOT_A_FILE}
 use Rattle.hfs_model.specs.Volume.{Volume, Entry}
 use Rattle.hfs_model.specs.Children.{is_folder, is_folder_kind, child_named, entries_of}
@@ -26,9 +27,9 @@ use Rattle.hfs_check.specs.Sound.{AreBlocksSound}
 use Rattle.hfs_check.specs.VolumeOf.{contents_in, volume_in}
 use Rattle.hfs_changes.specs.PlaceLaws.{FileIsThreadless}
 use Rattle.hfs_changes.specs.SettingLaws.{IsChoice, ChoiceStands}
-use Rattle.hfs_queries.specs.Folders.{HasId, found_with}
+use Rattle.hfs_queries.proofs.FolderLemmas.{HasId, found_with}
 use Rattle.hfs_queries.specs.Queries.{AreEntries}
-use Rattle.hfs_queries.specs.Replies.{folder_kind}
+use Rattle.hfs_queries.proofs.ReplyLemmas.{folder_kind}
 use Rattle.hfs_call_patches.specs.Settings.{IsBody}
 use Rattle.hfs_call_edits.specs.Choosing.{map_ok, unless_code, lock_code, file_part}
 use Rattle.hfs_call_edits.specs.Choosing as records
@@ -37,7 +38,7 @@ use Rattle.hfs_call_patches.specs.FileIds.{IsThreadless}
 use Rattle.hfs_call_edits.specs.ChoosingFileIds.{unless_threaded, if_threaded, file_without_id, file_with_id}
 use Rattle.hfs_call_edits.proofs.Choices.{same_ok, err_ok}
 use Rattle.hfs_call_edits.proofs.Chosen.{child_same, child_is, chosen_file}
-use Rattle.hfs_call_patches.specs.ChosenFiles.{file_no_dir, file_id_is}
+use Rattle.hfs_call_patches.proofs.ChosenFileLemmas.{file_no_dir, file_id_is}
 
 -- ---- a file that has a thread, or none
 

@@ -21,7 +21,7 @@ use Rattle.hfs_catalog.specs.Records.{Record}
 use Rattle.hfs_catalog.specs.Items.{item_of}
 use Rattle.hfs_catalog.specs.Tree.{catalog_of}
 use Rattle.hfs_catalog_edits.specs.Rooms.{IsInFile, HasRoom}
-use Rattle.hfs_catalog_edits.specs.Roots.{sound_has_root}
+use Rattle.hfs_catalog_edits.proofs.RootLemmas.{sound_has_root}
 use Rattle.hfs_check.specs.Laws.{CatalogIsSound, TreesAreSound}
 use Rattle.hfs_check.specs.Parts.{Blocks, mdb_in, catalog_nodes, catalog_in}
 use Rattle.hfs_check.specs.Sound.{AreBlocksSound}

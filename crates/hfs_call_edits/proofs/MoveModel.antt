@@ -8,7 +8,7 @@ use Rattle.hfs_fields.specs.declared.mdb.Mdb.{Mdb}
 use Rattle.hfs_fields.specs.Names.{is_item_name}
 use Rattle.hfs_fields.specs.Order.{same_name}
 use Rattle.hfs_fields.specs.Records.{is_dir, is_item, is_bit_set, item_id, dir_record_of, file_record_of}
-use Rattle.hfs_scans.specs.Members.{each_in}
+use Rattle.hfs_scans.proofs.MemberLemmas.{each_in}
 use Rattle.hfs_model.specs.declared.codes.TheConstants.{BAD_NAME, DUPLICATE, NOT_A_FOLDER, BAD_MOVE, FOLDER_FULL}
 use Rattle.hfs_model.specs.Volume.{Entry}
 use Rattle.hfs_model.specs.Children.{entries_of}
@@ -25,12 +25,12 @@ use Rattle.hfs_check.specs.Sound.{AreBlocksSound}
 use Rattle.hfs_check.specs.VolumeOf.{contents_in, volume_in}
 use Rattle.hfs_changes.specs.Changes.{IsFolderWith}
 use Rattle.hfs_changes.specs.OffspringLaws.{OffspringByParents}
-use Rattle.hfs_changes.specs.Once.{distinct_once, item_found}
+use Rattle.hfs_changes.proofs.OnceLemmas.{distinct_once, item_found}
 use Rattle.hfs_changes.specs.SettingLaws.{ChoiceStands}
-use Rattle.hfs_queries.specs.Folders.{found_with}
-use Rattle.hfs_queries.specs.Found.{is_some-option_map}
+use Rattle.hfs_queries.proofs.FolderLemmas.{found_with}
+use Rattle.hfs_queries.proofs.FoundLemmas.{is_some-option_map}
 use Rattle.hfs_queries.specs.Queries.{AreEntries}
-use Rattle.hfs_queries.specs.Replies.{folder_kind, folder_same}
+use Rattle.hfs_queries.proofs.ReplyLemmas.{folder_kind, folder_same}
 use Rattle.hfs_queries.specs.Told.{only_folder, folder_with}
 use Rattle.hfs_call_patches.specs.declared.moving.Moving.{Moving}
 use Rattle.hfs_call_edits.specs.Choosing.{map_ok}

@@ -23,7 +23,7 @@ use Rattle.hfs_check.specs.Parts.{Blocks, mdb_in, catalog_in}
 use Rattle.hfs_check.specs.Sound.{AreBlocksSound}
 use Rattle.hfs_check.specs.VolumeOf.{contents_in, volume_in}
 use Rattle.hfs_changes.specs.Changes.{IsFolderWith}
-use Rattle.hfs_changes.specs.Once.{distinct_once, item_found}
+use Rattle.hfs_changes.proofs.OnceLemmas.{distinct_once, item_found}
 use Rattle.hfs_changes.specs.PlaceLaws.{FolderIdIs}
 use Rattle.hfs_changes.specs.SettingLaws.{ChoiceStands}
 use Rattle.hfs_queries.specs.Queries.{AreEntries}

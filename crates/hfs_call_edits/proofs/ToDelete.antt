@@ -5,7 +5,8 @@ use Rattle.std.specs.Option.{ok_or}
 use Rattle.hfs_fields.specs.declared.mdb.Mdb.{Mdb}
 use Rattle.hfs_fields.specs.Names.{is_item_name}
 use Rattle.hfs_fields.specs.Records.{is_dir, is_item, is_bit_set, dir_record_of, file_record_of}
-use Rattle.hfs_scans.specs.Members.{In, each_in, found_in}
+use Rattle.hfs_scans.specs.Members.{In}
+use Rattle.hfs_scans.proofs.MemberLemmas.{each_in, found_in}
 use Rattle.hfs_model.specs.declared.codes.TheConstants.{BAD_NAME, NOT_FOUND, FILE_LOCKED, NOT_A_FOLDER, BUSY}
 use Rattle.hfs_model.specs.declared.reply.Info.{Info}
 use Rattle.hfs_model.specs.Volume.{Volume, Entry}
@@ -23,7 +24,7 @@ use Rattle.hfs_check.specs.Sound.{AreBlocksSound}
 use Rattle.hfs_check.specs.VolumeOf.{contents_in, volume_in}
 use Rattle.hfs_changes.specs.SettingLaws.{ChoiceStands}
 use Rattle.hfs_queries.specs.Queries.{AreEntries}
-use Rattle.hfs_queries.specs.Replies.{folder_kind, child_item}
+use Rattle.hfs_queries.proofs.ReplyLemmas.{folder_kind, child_item}
 use Rattle.hfs_queries.specs.Told.{is_folder, body_info, folder_info, file_info}
 use Rattle.hfs_call_edits.specs.Choosing.{map_ok, lock_code, unless_code, is_locked, unless_locked, is_locked_body, is_locked_item}
 use Rattle.hfs_call_edits.specs.Choosing as records

@@ -12,9 +12,11 @@ use Rattle.hfs_btree.specs.Tree.{Store}
 use Rattle.hfs_catalog.specs.Records.{Record}
 use Rattle.hfs_catalog.specs.Tree.{IsCatalogTree, catalog_of}
 use Rattle.hfs_catalog_edits.specs.Bodies.{IfBody, with_valence}
-use Rattle.hfs_catalog_edits.specs.Finds.{record_at, own_record, body_at}
+use Rattle.hfs_catalog_edits.specs.Finds.{record_at}
+use Rattle.hfs_catalog_edits.proofs.FindLemmas.{own_record, body_at}
 use Rattle.hfs_catalog_edits.specs.ItemEdits.{HasValenceSet, ValenceSet}
-use Rattle.hfs_catalog_edits.specs.Keeps.{KeepsCatalog, keeps_then}
+use Rattle.hfs_catalog_edits.specs.Keeps.{KeepsCatalog}
+use Rattle.hfs_catalog_edits.proofs.KeepLemmas.{keeps_then}
 use Rattle.hfs_catalog_edits.specs.Swaps.{Swaps}
 use Rattle.hfs_changes.specs.Changes.{with_children, folder_with}
 use Rattle.hfs_changes.specs.PlaceLaws.{BothStand, StandsStill}

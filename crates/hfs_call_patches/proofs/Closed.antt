@@ -7,16 +7,18 @@ use Rattle.hfs_fields.specs.Counts.{SameBesideCounts, with_counts}
 use Rattle.hfs_fields.specs.Mdb.{mdb_of}
 use Rattle.hfs_blocks.specs.declared.run.Run.{Run}
 use Rattle.hfs_blocks.specs.Blocks.{run_of, nodes_in}
-use Rattle.hfs_blocks.specs.Layers.{Changes, over, with_block, over-with_change}
+use Rattle.hfs_blocks.specs.Layers.{Changes, over}
+use Rattle.hfs_blocks.proofs.LayerLemmas.{with_block, over-with_change}
 use Rattle.hfs_btree.specs.Header.{header_in}
 use Rattle.hfs_btree.specs.Sound.{IsOther, KeepsFrame}
 use Rattle.hfs_btree.specs.Tree.{Store}
 use Rattle.hfs_btree_checks.specs.Order.{index_keys}
 use Rattle.hfs_btree_edits.specs.Files.{is_one_of, beside, AreWithin}
-use Rattle.hfs_btree_edits.specs.Written.{at_other, at_own, untouched, put_within}
+use Rattle.hfs_btree_edits.proofs.WrittenLemmas.{at_other, at_own, untouched, put_within}
 use Rattle.hfs_scans.specs.Each.{Each}
 use Rattle.hfs_space.specs.ForkLaws.{block_numbers}
-use Rattle.hfs_space.specs.TreeFiles.{node_count, tree_blocks, nodes_in-tree_blocks}
+use Rattle.hfs_space.specs.TreeFiles.{node_count, tree_blocks}
+use Rattle.hfs_space.proofs.TreeFileLemmas.{nodes_in-tree_blocks}
 use Rattle.hfs_catalog.specs.Sound.{IsIndexKeyName}
 use Rattle.hfs_catalog.specs.Tree.{cat_keys, IsCatalogTree, catalog_of}
 use Rattle.hfs_check.specs.Parts.{Blocks, mdb_in, catalog_extents, catalog_nodes, catalog_blocks, catalog_in}

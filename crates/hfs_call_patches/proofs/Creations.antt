@@ -12,13 +12,13 @@ use Rattle.hfs_fields.specs.RecordForms.{IsDirRecordValue}
 use Rattle.hfs_blocks.specs.declared.run.Run.{Run}
 use Rattle.hfs_blocks.specs.Layers.{Numbered, changes, over, AreWithin}
 use Rattle.hfs_btree.specs.Tree.{Store}
-use Rattle.hfs_scans.specs.Members.{each_in}
+use Rattle.hfs_scans.proofs.MemberLemmas.{each_in}
 use Rattle.hfs_catalog.specs.Records.{Record, Catalog}
 use Rattle.hfs_catalog.specs.Lookups.{thread_of}
 use Rattle.hfs_catalog.specs.Sound.{IsIndexKeyName}
 use Rattle.hfs_catalog.specs.Tree.{catalog_of}
-use Rattle.hfs_catalog_edits.specs.Finds.{no_thread_key}
-use Rattle.hfs_catalog_edits.specs.Roots.{sound_has_root}
+use Rattle.hfs_catalog_edits.proofs.FindLemmas.{no_thread_key}
+use Rattle.hfs_catalog_edits.proofs.RootLemmas.{sound_has_root}
 use Rattle.hfs_catalog_edits.specs.Swaps.{Swaps}
 use Rattle.hfs_model.specs.declared.call.Call.TheVariants as call
 use Rattle.hfs_model.specs.declared.reply.Value.TheVariants as answer
@@ -31,13 +31,13 @@ use Rattle.hfs_changes.specs.CreationLaws.{with_file, with_folder, CreateMakes, 
 use Rattle.hfs_changes.specs.Laws.{CatalogEditsAreSteps}
 use Rattle.hfs_changes.specs.OnBlocks.{HasTree}
 use Rattle.hfs_changes.specs.PlaceLaws.{FolderIdIs, CreationIsFree, NextIsThreadless}
-use Rattle.hfs_queries.specs.Folders.{found_with}
+use Rattle.hfs_queries.proofs.FolderLemmas.{found_with}
 use Rattle.hfs_call_patches.specs.declared.new_items.NewPlace.{NewPlace}
 use Rattle.hfs_call_patches.specs.CatalogPatch.{KeepsNamed, HasCatalog}
 use Rattle.hfs_call_patches.specs.CallChanges.{IsChangeOf}
 use Rattle.hfs_call_patches.specs.NewItems.{IsOwnFolder, TakesItem, TakesFolder, HasPutFile, PutsFile, HasPutFolder, PutsFolder}
 use Rattle.hfs_call_patches.specs.ReadyPlaces.{IsReady}
-use Rattle.hfs_call_patches.specs.CreationAnswers.{file_answered, folder_answered}
+use Rattle.hfs_call_patches.proofs.CreationAnswerLemmas.{file_answered, folder_answered}
 
 -- ---- what the calls answer
 

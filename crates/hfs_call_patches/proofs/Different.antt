@@ -6,12 +6,13 @@ use Rattle.std.proofs.lemmas.List.Concat.{flat_map-append}
 use Rattle.hfs_fields.specs.declared.mdb.Mdb.{Mdb}
 use Rattle.hfs_fields.specs.declared.extent.Extent.{Extent}
 use Rattle.hfs_scans.specs.Each.{Each}
-use Rattle.hfs_scans.specs.Elements.{each-append, each-left}
+use Rattle.hfs_scans.proofs.ElementLemmas.{each-append, each-left}
 use Rattle.hfs_blocks.specs.Blocks.{nodes_in}
 use Rattle.hfs_btree.specs.Sound.{IsOther, IsDistinct}
 use Rattle.hfs_space.specs.Extents.{extent_blocks}
 use Rattle.hfs_space.specs.Forks.{blocks_each}
-use Rattle.hfs_space.specs.ForkLaws.{allocation_block, file_blocks-in_order, block_numbers}
+use Rattle.hfs_space.proofs.ForkLawLemmas.{allocation_block, file_blocks-in_order}
+use Rattle.hfs_space.specs.ForkLaws.{block_numbers}
 use Rattle.hfs_space.specs.Owners.{forks_of, catalog_fork, extents_in, bad_extents, owned_extents, owned_blocks}
 use Rattle.hfs_space.specs.TreeFiles.{node_count, tree_blocks}
 use Rattle.hfs_check.specs.Parts.{Blocks, mdb_in, overflow_in, catalog_extents, catalog_blocks, catalog_in, owned_in}

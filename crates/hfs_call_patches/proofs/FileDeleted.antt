@@ -9,7 +9,8 @@ use Rattle.hfs_fields.specs.declared.extent.Extent.{Extent}
 use Rattle.hfs_fields.specs.declared.file_record.FileRecord.{FileRecord}
 use Rattle.hfs_fields.specs.declared.mdb.Mdb.{Mdb}
 use Rattle.hfs_fields.specs.Records.{is_dir, item_id, dir_record_of, file_record_of}
-use Rattle.hfs_scans.specs.Members.{In, each_in}
+use Rattle.hfs_scans.specs.Members.{In}
+use Rattle.hfs_scans.proofs.MemberLemmas.{each_in}
 use Rattle.hfs_btree.specs.Tree.{Store}
 use Rattle.hfs_space.specs.Extents.{AreExtentsWithin, block_total, extent_blocks}
 use Rattle.hfs_space.specs.Owners.{Fork, forks_of, forks_of_file, extents_in}
@@ -21,7 +22,7 @@ use Rattle.hfs_model.specs.Choices.{to_delete}
 use Rattle.hfs_catalog.specs.Records.{Record, Catalog}
 use Rattle.hfs_catalog.specs.Lookups.{thread_of}
 use Rattle.hfs_catalog.specs.Sound.{IsRoot, IsGiven}
-use Rattle.hfs_catalog_edits.specs.Bodies.{dir_length, file_length}
+use Rattle.hfs_catalog_edits.proofs.BodyLemmas.{dir_length, file_length}
 use Rattle.hfs_check.specs.Parts.{Blocks, mdb_in, extents_nodes, overflow_in, catalog_nodes, catalog_in}
 use Rattle.hfs_check.specs.Sound.{AreBlocksSound}
 use Rattle.hfs_check.specs.VolumeOf.{volume_in}
@@ -30,8 +31,9 @@ use Rattle.hfs_changes.specs.DropLaws.{DroppedLeaves}
 use Rattle.hfs_changes.specs.PlaceLaws.{DeleteLeavesFolder}
 use Rattle.hfs_changes.specs.RemovalLaws.{HasDroppedItem}
 use Rattle.hfs_changes.specs.SettingLaws.{ChoiceStands}
-use Rattle.hfs_queries.specs.Folders.{found_with}
-use Rattle.hfs_call_patches.specs.Deleting.{IsParent, ItemDropped, IsFileGone, IsFileDeleted}
+use Rattle.hfs_queries.proofs.FolderLemmas.{found_with}
+use Rattle.hfs_call_patches.specs.Deleting.{IsParent, ItemDropped, IsFileDeleted}
+use Rattle.hfs_call_patches.proofs.DeletingLemmas.{IsFileGone}
 use Rattle.hfs_call_patches.specs.Settings.{IsFileChoice}
 use Rattle.hfs_call_patches.proofs.FromFolder.{dropped_by}
 

@@ -9,21 +9,23 @@ use Rattle.hfs_fields.specs.declared.extent.Extent.{Extent}
 use Rattle.hfs_fields.specs.Counts.{SameBesideCounts, with_counts}
 use Rattle.hfs_fields.specs.Mdb.{mdb_of}
 use Rattle.hfs_scans.specs.Each.{Each}
-use Rattle.hfs_scans.specs.Elements.{each-left, each-right, each-mono, each-both}
+use Rattle.hfs_scans.proofs.ElementLemmas.{each-left, each-right, each-mono, each-both}
 use Rattle.hfs_blocks.specs.declared.run.Run.{Run}
 use Rattle.hfs_blocks.specs.Blocks.{run_of, nodes_in}
-use Rattle.hfs_blocks.specs.Layers.{Changes, over, with_block, over-with_change}
+use Rattle.hfs_blocks.specs.Layers.{Changes, over}
+use Rattle.hfs_blocks.proofs.LayerLemmas.{with_block, over-with_change}
 use Rattle.hfs_btree.specs.Header.{header_in}
 use Rattle.hfs_btree.specs.Sound.{IsOther, KeepsFrame}
 use Rattle.hfs_btree.specs.Tree.{Store}
 use Rattle.hfs_btree_checks.specs.Order.{index_keys}
 use Rattle.hfs_btree_edits.specs.Files.{beside}
-use Rattle.hfs_btree_edits.specs.Written.{at_other, at_own}
+use Rattle.hfs_btree_edits.proofs.WrittenLemmas.{at_other, at_own}
 use Rattle.hfs_space.specs.Bitmap.{bitmap_len, is_used, is_marked, clear_count}
-use Rattle.hfs_space.specs.Counting.{count_below-same, count_below-le}
+use Rattle.hfs_space.proofs.CountingLemmas.{count_below-same, count_below-le}
 use Rattle.hfs_space.specs.ForkLaws.{block_numbers}
 use Rattle.hfs_space.specs.Owners.{owners}
-use Rattle.hfs_space.specs.TreeFiles.{node_count, tree_blocks, nodes_in-tree_blocks}
+use Rattle.hfs_space.specs.TreeFiles.{node_count, tree_blocks}
+use Rattle.hfs_space.proofs.TreeFileLemmas.{nodes_in-tree_blocks}
 use Rattle.hfs_space_edits.specs.Dropped.{HasDroppedOverflow}
 use Rattle.hfs_space_edits.specs.Released.{AreAlone, HasReleased}
 use Rattle.hfs_catalog.specs.Sound.{IsIndexKeyName}
@@ -34,7 +36,7 @@ use Rattle.hfs_check.specs.Agree.{IsBeside, bitmap_blocks, node_blocks, changing
 use Rattle.hfs_changes.specs.Deletion.{EditsVolume, HasCleared}
 use Rattle.hfs_changes.specs.DropLaws.{DeletionLeavesFile}
 use Rattle.hfs_call_patches.specs.CatalogPatch.{KeepsNamed}
-use Rattle.hfs_call_patches.specs.Deleting.{IsFileGone}
+use Rattle.hfs_call_patches.proofs.DeletingLemmas.{IsFileGone}
 use Rattle.hfs_call_patches.specs.TreeFiles.{IsExtentsFile, IsCatalogFile}
 use Rattle.hfs_call_patches.specs.Settings.{PutsCounts}
 use Rattle.hfs_call_patches.proofs.EditedNodes.{first_only, behind_drop, same_on}

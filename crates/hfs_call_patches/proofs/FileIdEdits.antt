@@ -14,20 +14,25 @@ use Rattle.hfs_fields.specs.Keys.{cat_cmp}
 use Rattle.hfs_fields.specs.Names.{is_item_name, is_name_character}
 use Rattle.hfs_fields.specs.Order.{name_cmp}
 use Rattle.hfs_fields.specs.Records.{is_dir, is_file, new_thread}
-use Rattle.hfs_fields.specs.RecordForms.{IsFileRecordValue, file_record_bytes, length-file_record_bytes, IsThreadRecordValue}
+use Rattle.hfs_fields.specs.RecordForms.{IsFileRecordValue, file_record_bytes, IsThreadRecordValue}
+use Rattle.hfs_fields.proofs.RecordFormLemmas.{length-file_record_bytes}
 use Rattle.hfs_scans.specs.Each.{Each}
-use Rattle.hfs_scans.specs.Members.{In, found_in}
+use Rattle.hfs_scans.specs.Members.{In}
+use Rattle.hfs_scans.proofs.MemberLemmas.{found_in}
 use Rattle.hfs_btree.specs.Pairs.{lookup}
 use Rattle.hfs_btree.specs.Tree.{Store}
 use Rattle.hfs_catalog.specs.Records.{Record}
 use Rattle.hfs_catalog.specs.Lookups.{first_key, thread_of}
 use Rattle.hfs_catalog.specs.Sound.{IsRecord}
 use Rattle.hfs_catalog.specs.Tree.{catalog_of}
-use Rattle.hfs_catalog_edits.specs.Finds.{has_key, record_at, some_text, still_none}
-use Rattle.hfs_catalog_edits.specs.Keeps.{keeps_then}
+use Rattle.hfs_catalog_edits.specs.Finds.{has_key, record_at}
+use Rattle.hfs_catalog_edits.proofs.FindLemmas.{some_text, still_none}
+use Rattle.hfs_catalog_edits.proofs.KeepLemmas.{keeps_then}
 use Rattle.hfs_catalog_edits.specs.RecordEdits.{RecordCame, RecordWent, RecordSet}
-use Rattle.hfs_catalog_edits.specs.Roots.{HasRoot, root_stays}
-use Rattle.hfs_catalog_edits.specs.Swaps.{list_of, swapped_each}
+use Rattle.hfs_catalog_edits.specs.Roots.{HasRoot}
+use Rattle.hfs_catalog_edits.proofs.RootLemmas.{root_stays}
+use Rattle.hfs_catalog_edits.specs.Swaps.{list_of}
+use Rattle.hfs_catalog_edits.proofs.SwapLemmas.{swapped_each}
 use Rattle.hfs_changes.specs.FileIdLaws.{with_thread_flag}
 use Rattle.hfs_call_patches.specs.FileIds.{flagged_file, file_thread, FileIdCame, FileIdWent}
 

@@ -11,16 +11,17 @@ use Rattle.hfs_catalog.specs.Records.{Record, Catalog, item_with}
 use Rattle.hfs_catalog.specs.Lookups.{thread_of}
 use Rattle.hfs_catalog.specs.Tree.{catalog_of}
 use Rattle.hfs_catalog_edits.specs.Bodies.{thread_record}
-use Rattle.hfs_catalog_edits.specs.Finds.{record_at, own_record}
+use Rattle.hfs_catalog_edits.specs.Finds.{record_at}
+use Rattle.hfs_catalog_edits.proofs.FindLemmas.{own_record}
 use Rattle.hfs_catalog_edits.specs.Swaps.{Swaps}
 use Rattle.hfs_check.specs.Parts.{Blocks, mdb_in, catalog_nodes, catalog_in}
 use Rattle.hfs_check.specs.Sound.{AreBlocksSound}
 use Rattle.hfs_changes.specs.FileIdLaws.{with_thread_flag, file_with_flag, CreateFileIdMakes, DeleteFileIdMakes}
 use Rattle.hfs_changes.specs.OnBlocks.{at_time, HasTree}
-use Rattle.hfs_queries.specs.Folders.{found_with}
+use Rattle.hfs_queries.proofs.FolderLemmas.{found_with}
 use Rattle.hfs_call_patches.specs.CatalogPatch.{HasCatalog}
 use Rattle.hfs_call_patches.specs.FileIds.{flagged_file, FileIdCame, FileIdWent, MakesCreateFileId, MakesDeleteFileId}
-use Rattle.hfs_call_patches.specs.ChosenFiles.{file_id_is}
+use Rattle.hfs_call_patches.proofs.ChosenFileLemmas.{file_id_is}
 use Rattle.hfs_call_patches.proofs.Opened.{content_open}
 
 -- ---- what was edited is what the law asks for

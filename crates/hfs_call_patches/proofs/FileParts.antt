@@ -6,7 +6,7 @@ use Rattle.std.proofs.lemmas.List.Concat.{flat_map-append}
 use Rattle.hfs_fields.specs.declared.mdb.Mdb.{Mdb}
 use Rattle.hfs_fields.specs.declared.extent.Extent.{Extent}
 use Rattle.hfs_scans.specs.Each.{Each}
-use Rattle.hfs_scans.specs.Elements.{each-append, each-left, each-right, each-mono}
+use Rattle.hfs_scans.proofs.ElementLemmas.{each-append, each-left, each-right, each-mono}
 use Rattle.hfs_blocks.specs.Blocks.{run_of}
 use Rattle.hfs_btree.specs.Sound.{IsOther, IsDistinct}
 use Rattle.hfs_space.specs.Forks.{run_in}

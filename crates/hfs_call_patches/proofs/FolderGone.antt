@@ -14,7 +14,7 @@ use Rattle.hfs_changes.specs.OnBlocks.{HasTree}
 use Rattle.hfs_changes.specs.PlaceLaws.{DeleteLeavesFolder}
 use Rattle.hfs_changes.specs.RemovalLaws.{HasDroppedItem, without_folder, DeleteFolderMakes}
 use Rattle.hfs_changes.specs.SettingLaws.{ChoiceStands}
-use Rattle.hfs_queries.specs.Folders.{found_with}
+use Rattle.hfs_queries.proofs.FolderLemmas.{found_with}
 use Rattle.hfs_call_patches.specs.CatalogPatch.{HasCatalog}
 use Rattle.hfs_call_patches.specs.Deleting.{IsParent, ItemDropped, MakesFolderDeletion}
 use Rattle.hfs_call_patches.specs.Settings.{IsFolderChoice}

@@ -6,7 +6,7 @@ use Rattle.hfs_fields.specs.declared.dir_record.DirRecord.{DirRecord}
 use Rattle.hfs_fields.specs.Keys.{cat_cmp}
 use Rattle.hfs_fields.specs.Records.{is_dir, is_item, item_id, dir_record_of, file_record_of}
 use Rattle.hfs_scans.specs.Each.{Each}
-use Rattle.hfs_scans.specs.Members.{each_in}
+use Rattle.hfs_scans.proofs.MemberLemmas.{each_in}
 use Rattle.hfs_btree.specs.Pairs.{Rises, lookup}
 use Rattle.hfs_btree.specs.Tree.{Store}
 use Rattle.hfs_model.specs.Choices.{to_delete}
@@ -15,9 +15,11 @@ use Rattle.hfs_catalog.specs.Lookups.{thread_of}
 use Rattle.hfs_catalog.specs.Sound.{IsRecord, IsIndexKeyName}
 use Rattle.hfs_catalog.specs.Tree.{catalog_of}
 use Rattle.hfs_catalog_edits.specs.Bodies.{IfBody}
-use Rattle.hfs_catalog_edits.specs.Finds.{record_at, body_at, own_record}
+use Rattle.hfs_catalog_edits.specs.Finds.{record_at}
+use Rattle.hfs_catalog_edits.proofs.FindLemmas.{body_at, own_record}
 use Rattle.hfs_catalog_edits.specs.ItemEdits.{ItemWent, ValenceSet}
-use Rattle.hfs_catalog_edits.specs.Keeps.{KeepsCatalog, keeps_then}
+use Rattle.hfs_catalog_edits.specs.Keeps.{KeepsCatalog}
+use Rattle.hfs_catalog_edits.proofs.KeepLemmas.{keeps_then}
 use Rattle.hfs_catalog_edits.specs.Swaps.{Swaps}
 use Rattle.hfs_check.specs.Parts.{Blocks, catalog_nodes, catalog_in}
 use Rattle.hfs_check.specs.Sound.{AreBlocksSound}
@@ -27,7 +29,7 @@ use Rattle.hfs_changes.specs.BoundLaws.{RemovalFits}
 use Rattle.hfs_changes.specs.PlaceLaws.{DeleteLeavesFolder}
 use Rattle.hfs_changes.specs.RemovalLaws.{HasDroppedItem}
 use Rattle.hfs_changes.specs.SettingLaws.{IsChoice, ChoiceStands}
-use Rattle.hfs_queries.specs.Folders.{found_with}
+use Rattle.hfs_queries.proofs.FolderLemmas.{found_with}
 use Rattle.hfs_call_patches.specs.CatalogPatch.{KeepsNamed}
 use Rattle.hfs_call_patches.specs.Deleting.{IsParent, StaysFolder, ItemDropped}
 

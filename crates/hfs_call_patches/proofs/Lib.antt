@@ -18,3 +18,6 @@ pub mod EditedNodes
 pub mod FileParts
 pub mod FileGone
 pub mod FileDeleted
+pub mod ChosenFileLemmas
+pub mod CreationAnswerLemmas
+mod DeletingLemmas

@@ -5,7 +5,7 @@ use Rattle.hfs_fields.specs.declared.key.CatKey.{CatKey}
 use Rattle.hfs_fields.specs.declared.mdb.Mdb.{Mdb}
 use Rattle.hfs_fields.specs.Names.{is_item_name}
 use Rattle.hfs_fields.specs.Records.{is_dir, dir_record_of}
-use Rattle.hfs_scans.specs.Members.{each_in}
+use Rattle.hfs_scans.proofs.MemberLemmas.{each_in}
 use Rattle.hfs_btree.specs.Tree.{Store}
 use Rattle.hfs_model.specs.declared.call.Call.TheVariants as call
 use Rattle.hfs_catalog.specs.Lookups.{first_key, thread_of}
@@ -13,7 +13,7 @@ use Rattle.hfs_catalog.specs.Records.{Record}
 use Rattle.hfs_catalog.specs.Sound.{IsIndexKeyName}
 use Rattle.hfs_catalog.specs.Tree.{catalog_of}
 use Rattle.hfs_catalog_edits.specs.ItemEdits as edits
-use Rattle.hfs_catalog_edits.specs.Keeps.{keeps_then}
+use Rattle.hfs_catalog_edits.proofs.KeepLemmas.{keeps_then}
 use Rattle.hfs_check.specs.Laws.{CatalogIsSound}
 use Rattle.hfs_check.specs.Parts.{Blocks, mdb_in, catalog_nodes, catalog_in}
 use Rattle.hfs_check.specs.Sound.{AreBlocksSound}
@@ -22,7 +22,7 @@ use Rattle.hfs_changes.specs.Laws.{MakesStep}
 use Rattle.hfs_changes.specs.MoveLaws.{CatMoveMakes, HasMovedItem, under_folder, with_moved}
 use Rattle.hfs_changes.specs.OnBlocks.{HasTree}
 use Rattle.hfs_changes.specs.PlaceLaws.{BothStand, MoveLeavesFolders}
-use Rattle.hfs_queries.specs.Folders.{found_with}
+use Rattle.hfs_queries.proofs.FolderLemmas.{found_with}
 use Rattle.hfs_call_patches.specs.CatalogPatch.{HasCatalog, KeepsNamed}
 use Rattle.hfs_call_patches.specs.declared.valences.FolderPlace.{FolderPlace}
 use Rattle.hfs_call_patches.specs.declared.moving.Moving.{Moving}

@@ -13,10 +13,11 @@ use Rattle.hfs_catalog.specs.Lookups.{first_key, thread_of}
 use Rattle.hfs_catalog.specs.Sound.{IsRecord}
 use Rattle.hfs_catalog.specs.Tree.{IsCatalogTree, catalog_of}
 use Rattle.hfs_catalog_edits.specs.Bodies.{item_bytes, IsItemValue}
-use Rattle.hfs_catalog_edits.specs.Finds.{no_thread_key}
+use Rattle.hfs_catalog_edits.proofs.FindLemmas.{no_thread_key}
 use Rattle.hfs_catalog_edits.specs.RecordEdits.{RecordSet}
 use Rattle.hfs_catalog_edits.specs.Rooms.{IsInFile}
-use Rattle.hfs_catalog_edits.specs.Roots.{HasRoot, sound_has_root}
+use Rattle.hfs_catalog_edits.specs.Roots.{HasRoot}
+use Rattle.hfs_catalog_edits.proofs.RootLemmas.{sound_has_root}
 use Rattle.hfs_check.specs.Parts.{Blocks, mdb_in, catalog_nodes, catalog_in}
 use Rattle.hfs_check.specs.Sound.{AreBlocksSound}
 use Rattle.hfs_call_patches.specs.CatalogPatch.{HasCatalog}

@@ -7,7 +7,7 @@ use Rattle.hfs_blocks.specs.Blocks.{run_of}
 use Rattle.hfs_btree.specs.Sound.{IsOther}
 use Rattle.hfs_btree_edits.specs.Files.{is_one_of}
 use Rattle.hfs_scans.specs.Each.{Each}
-use Rattle.hfs_scans.specs.Elements.{each-append}
+use Rattle.hfs_scans.proofs.ElementLemmas.{each-append}
 use Rattle.hfs_space.specs.Forks.{run_in}
 use Rattle.hfs_space.specs.ForkLaws.{block_numbers}
 

@@ -13,11 +13,12 @@ use Rattle.hfs_scans.specs.Members.{In}
 use Rattle.hfs_catalog.specs.Records.{Record, Catalog}
 use Rattle.hfs_catalog.specs.Tree.{IsCatalogTree, catalog_of}
 use Rattle.hfs_catalog_edits.specs.Bodies.{IfBody}
-use Rattle.hfs_catalog_edits.specs.Finds.{record_at, body_at, own_record}
+use Rattle.hfs_catalog_edits.specs.Finds.{record_at}
+use Rattle.hfs_catalog_edits.proofs.FindLemmas.{body_at, own_record}
 use Rattle.hfs_catalog_edits.specs.ItemEdits.{HasValenceSet, file_record, FolderCame}
-use Rattle.hfs_catalog_edits.specs.Keeps.{keeps_then}
+use Rattle.hfs_catalog_edits.proofs.KeepLemmas.{keeps_then}
 use Rattle.hfs_catalog_edits.specs.RecordEdits.{RecordCame}
-use Rattle.hfs_catalog_edits.specs.Roots.{swapped_in}
+use Rattle.hfs_catalog_edits.proofs.RootLemmas.{swapped_in}
 use Rattle.hfs_catalog_edits.specs.Swaps.{Swaps}
 use Rattle.hfs_changes.specs.Changes.{folder_with}
 use Rattle.hfs_call_patches.specs.declared.new_items.NewPlace.{NewPlace}

@@ -1,30 +1,23 @@
 -- An item that Delete chooses, and what it makes of the catalog's nodes and of the volume.
-use Rattle.std.specs.Prelude.{◌≡◌, ℕ, ◌+◌, true, List, length}
-use Rattle.hfs_fields.specs.Counts.{SameBesideCounts, with_counts}
+use Rattle.std.specs.Prelude.{◌≡◌, ℕ, true, List}
+use Rattle.hfs_fields.specs.Counts.{with_counts}
 use Rattle.hfs_fields.specs.Keys.{cat_cmp}
 use Rattle.hfs_fields.specs.Records.{is_dir, is_item, dir_record_of}
 use Rattle.hfs_fields.specs.declared.dir_record.DirRecord.{DirRecord}
 use Rattle.hfs_fields.specs.declared.file_record.FileRecord.{FileRecord}
 use Rattle.hfs_fields.specs.declared.key.CatKey.{CatKey}
 use Rattle.hfs_fields.specs.declared.mdb.Mdb.{Mdb}
-use Rattle.hfs_scans.specs.Each.{Each}
 use Rattle.hfs_btree.specs.Pairs.{lookup}
-use Rattle.hfs_btree.specs.Sound.{KeepsFrame}
 use Rattle.hfs_btree.specs.Tree.{Store}
-use Rattle.hfs_btree_checks.specs.Order.{index_keys}
-use Rattle.hfs_space.specs.Bitmap.{clear_count}
-use Rattle.hfs_space_edits.specs.Dropped.{HasDroppedOverflow}
 use Rattle.hfs_model.specs.declared.call.Call.TheVariants as call
 use Rattle.hfs_model.specs.Choices.{to_delete}
 use Rattle.hfs_catalog.specs.Records.{Record, Catalog}
-use Rattle.hfs_catalog.specs.Sound.{IsIndexKeyName}
-use Rattle.hfs_catalog.specs.Tree.{cat_keys, IsCatalogTree, catalog_of}
+use Rattle.hfs_catalog.specs.Tree.{catalog_of}
 use Rattle.hfs_catalog_edits.specs.Bodies.{IfBody}
 use Rattle.hfs_catalog_edits.specs.ItemEdits.{ItemWent, HasValenceSet}
-use Rattle.hfs_check.specs.Parts.{Blocks, mdb_in, extents_nodes, catalog_nodes, catalog_in}
+use Rattle.hfs_check.specs.Parts.{Blocks, mdb_in}
 use Rattle.hfs_check.specs.VolumeOf.{volume_in}
 use Rattle.hfs_changes.specs.Changes.{IsFolderWith}
-use Rattle.hfs_changes.specs.Deletion.{EditsVolume, HasCleared}
 use Rattle.hfs_changes.specs.Laws.{MakesStep, IsStepped}
 use Rattle.hfs_changes.specs.RemovalLaws.{without_folder}
 use Rattle.hfs_call_patches.specs.CallChanges.{IsChangeOf}
@@ -80,19 +73,6 @@ IsFolderDeletion dir key folder now total old change =
 pub record IsFileToDelete (old : Blocks) (dir : ℕ) (key : CatKey) (file : FileRecord) : Type 0 where
   pub name : List ℕ
   pub chosen : IsFileChoice old (to_delete (volume_in old) dir name) key file
-
--- the volume has these counts, the catalog of these nodes, the extents tree without this file's records, and the bits clear of these
--- allocation blocks, which were marked
-pub record IsFileGone (id : ℕ) (freed : List ℕ) (counts : Mdb) (nodes : Store) (old new : Blocks) : Type 0 where
-  pub edits : EditsVolume counts old new
-  pub beside : SameBesideCounts (old 2) (new 2)
-  pub tree : IsCatalogTree (catalog_nodes new)
-  pub frame : KeepsFrame cat_keys (catalog_nodes old) (catalog_nodes new)
-  pub index : Each IsIndexKeyName (index_keys cat_keys (catalog_nodes new))
-  pub overflow : HasDroppedOverflow id (extents_nodes old) (extents_nodes new)
-  pub cleared : HasCleared freed old new
-  pub free : clear_count new (mdb_in old).bitmap_start (mdb_in old).allocation_blocks ≡ (mdb_in old).free_blocks + length freed
-  pub content : catalog_in new ≡ catalog_of nodes
 
 -- the call's step was made of the volume, with these counts
 pub record IsFileDeleted (dir : ℕ) (name : List ℕ) (now total : ℕ) (old : Blocks) (counts : Mdb) (new : Blocks) : Type 0 where

@@ -1,12 +1,10 @@
 pub mod TreeFiles
 pub mod Settings
 pub mod CatalogPatch
-pub mod ChosenFiles
 pub mod FileIds
 pub mod ReadyPlaces
 pub mod NewItems
 pub mod CallChanges
-pub mod CreationAnswers
 pub mod Rekeyings
 pub mod Renaming
 pub mod Moving

@@ -19,13 +19,14 @@ use Rattle.hfs_btree.specs.Sound.{IsDistinct, IsOther}
 use Rattle.hfs_model.specs.declared.item.Item.{Item}
 use Rattle.hfs_model.specs.Volume.{Items, Entry}
 use Rattle.hfs_model.specs.Children.{valence, is_child, is_folder_kind}
-use Rattle.hfs_model.specs.Chains.{leads_still}
+use Rattle.hfs_model.proofs.ChainLemmas.{leads_still}
 use Rattle.hfs_model.specs.Lawful.{Has, IsFolder, LiesIn, AreLawful, parent_of}
 use Rattle.hfs_catalog.specs.Records.{Record, Catalog, item_with, items_of, item_ids, is_folder_id, is_child_of, valence_of}
 use Rattle.hfs_catalog.specs.Parents.{parent_in}
 use Rattle.hfs_catalog.specs.Sound.{IsRoot, IsGiven, HasRightId, HasPlace, HasValence, IsSoundCatalog}
 use Rattle.hfs_catalog.specs.Items.{Contents, item_of, entry_of, items_in}
-use Rattle.hfs_scans.specs.Members.{In, each_in}
+use Rattle.hfs_scans.specs.Members.{In}
+use Rattle.hfs_scans.proofs.MemberLemmas.{each_in}
 use Rattle.hfs_catalog.proofs.Held.{with_id, item_parent, item_name, item_folder, items_are_records, has_item, has_record, HasRecord}
 
 -- ---- how many items a folder has

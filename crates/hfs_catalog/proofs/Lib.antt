@@ -4,3 +4,4 @@ pub mod NameOrder
 pub mod Found
 pub mod Steps
 pub mod Queries
+pub mod DistinctLemmas

@@ -12,7 +12,7 @@ use Rattle.hfs_fields.specs.Keys.{cat_cmp}
 use Rattle.hfs_fields.specs.Records.{is_item, item_id}
 use Rattle.hfs_scans.specs.Each.{Each}
 use Rattle.hfs_btree.specs.Pairs.{Rises}
-use Rattle.hfs_scans.specs.Elements.{each-at}
+use Rattle.hfs_scans.proofs.ElementLemmas.{each-at}
 use Rattle.hfs_model.specs.declared.item.Item.{Item}
 use Rattle.hfs_model.specs.Volume.{Volume, Entry}
 use Rattle.hfs_model.specs.Children.{children}
@@ -21,9 +21,10 @@ use Rattle.hfs_model.specs.Laws.{AreChildren, ChildrenAreOne}
 use Rattle.hfs_catalog.specs.Records.{Record, Catalog, has_id, item_with, is_child_of}
 use Rattle.hfs_catalog.specs.Sound.{IsSoundCatalog}
 use Rattle.hfs_catalog.specs.Items.{Contents, item_of, entry_of, items_in, children_in}
-use Rattle.hfs_scans.specs.Scans.{Later}
-use Rattle.hfs_catalog.specs.Distinct.{Differs, later_from_distinct}
-use Rattle.hfs_scans.specs.Members.{In, each_in}
+use Rattle.hfs_scans.proofs.ScanLemmas.{Later}
+use Rattle.hfs_catalog.proofs.DistinctLemmas.{Differs, later_from_distinct}
+use Rattle.hfs_scans.specs.Members.{In}
+use Rattle.hfs_scans.proofs.MemberLemmas.{each_in}
 use Rattle.hfs_catalog.proofs.Held.{item_parent, item_name, has_item, has_record}
 use Rattle.hfs_catalog.proofs.Lawful.{sound_is_lawful}
 

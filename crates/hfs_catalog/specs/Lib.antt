@@ -5,4 +5,3 @@ pub mod Items
 pub mod Tree
 pub mod Lookups
 pub mod Laws
-pub mod Distinct

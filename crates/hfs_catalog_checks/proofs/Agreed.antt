@@ -5,13 +5,13 @@ use Rattle.std.proofs.lemmas.Bool.{eqb-true, eq-eqb}
 use Rattle.hfs_fields.specs.declared.mdb.Mdb.{Mdb}
 use Rattle.hfs_fields.specs.declared.key.CatKey.{CatKey}
 use Rattle.hfs_scans.specs.Each.{Each}
-use Rattle.hfs_scans.specs.Elements.{each-mono, each-both}
+use Rattle.hfs_scans.proofs.ElementLemmas.{each-mono, each-both}
 use Rattle.hfs_scans.specs.First.{first_failing}
 use Rattle.hfs_catalog.specs.Records.{Catalog}
 use Rattle.hfs_catalog.specs.Sound.{EachFolder, IsRecord, AreNamesSound, IsIndexKeyName, HasValence, AreCountsSound, counts_of}
 use Rattle.hfs_catalog_checks.specs.Faults.{unless, is_record_right, record_fault, is_name_right, is_index_key_name, name_fault, is_valence_right, valence_fault, count_fault}
-use Rattle.hfs_scans.specs.TwoFaults.{neither, both_none}
-use Rattle.hfs_scans.specs.Scans.{check, all_decides}
+use Rattle.hfs_scans.proofs.TwoFaultLemmas.{neither, both_none}
+use Rattle.hfs_scans.proofs.ScanLemmas.{check, all_decides}
 use Rattle.hfs_catalog_checks.proofs.Decided.{record_decides, name_decides, index_key_decides, valence_decides}
 
 some_none : {A : Type 0} (x : A) → Some x ≡ None → ⊥

@@ -7,15 +7,15 @@ use Rattle.std.proofs.lemmas.Bool.{true≢false, and_parts, and_from}
 use Rattle.std.proofs.lemmas.Bool.Decides.{Decides-not}
 use Rattle.hfs_fields.specs.Records.{is_item, item_id}
 use Rattle.hfs_scans.specs.Each.{Each}
-use Rattle.hfs_scans.specs.Elements.{each-mono}
+use Rattle.hfs_scans.proofs.ElementLemmas.{each-mono}
 use Rattle.hfs_scans.specs.First.{first_failing}
-use Rattle.hfs_catalog.specs.Distinct.{Differs, distinct_from_later, later_from_distinct}
+use Rattle.hfs_catalog.proofs.DistinctLemmas.{Differs, distinct_from_later, later_from_distinct}
 use Rattle.hfs_catalog.specs.Records.{Record, Catalog, has_id}
 use Rattle.hfs_catalog.specs.Sound.{HasRightId, AreIdsSound}
 use Rattle.hfs_catalog_checks.specs.Faults.{implies, is_id_right, is_id_new, is_item_id_right, id_fault}
-use Rattle.hfs_scans.specs.Scans.{all_decides, passes_from_none, none_from_passes, both_from_passes, passes_from_both, later_from_passes, passes_from_later}
+use Rattle.hfs_scans.proofs.ScanLemmas.{all_decides, passes_from_none, none_from_passes, both_from_passes, passes_from_both, later_from_passes, passes_from_later}
 use Rattle.hfs_catalog_checks.proofs.Decided.{itself, Decides-implies, id_decides}
-use Rattle.hfs_scans.specs.TwoFaults.{neither, both_none}
+use Rattle.hfs_scans.proofs.TwoFaultLemmas.{neither, both_none}
 use Rattle.hfs_catalog_checks.proofs.Agreed.{holds, no_fault}
 
 some_none : {A : Type 0} (x : A) → Some x ≡ None → ⊥

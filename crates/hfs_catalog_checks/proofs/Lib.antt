@@ -10,3 +10,4 @@ pub mod OrderSteps
 pub mod ParentSteps
 pub mod PlaceSteps
 pub mod Ordered
+mod IndexeLemmas

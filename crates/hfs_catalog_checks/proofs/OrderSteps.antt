@@ -7,7 +7,7 @@ use Rattle.std.proofs.lemmas.List.Folds.{list_all-append}
 use Rattle.hfs_fields.specs.Keys.{cat_cmp, cat_cmp_total}
 use Rattle.hfs_scans.specs.Each.{Each}
 use Rattle.hfs_btree.specs.Pairs.{Rises}
-use Rattle.hfs_scans.specs.Elements.{each-mono, each-right, each-append}
+use Rattle.hfs_scans.proofs.ElementLemmas.{each-mono, each-right, each-append}
 use Rattle.hfs_scans.specs.First.{first_failing}
 use Rattle.hfs_catalog.specs.Records.{Record, Catalog}
 use Rattle.hfs_catalog_checks.specs.Faults.{is_above}

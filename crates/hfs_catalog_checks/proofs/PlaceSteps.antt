@@ -5,7 +5,7 @@ use Rattle.std.proofs.lemmas.Bool.{leb-true, le-leb}
 use Rattle.std.proofs.lemmas.List.{length-append}
 use Rattle.hfs_fields.specs.Records.{is_dir, is_item, is_thread, item_id}
 use Rattle.hfs_scans.specs.First.{first_failing}
-use Rattle.hfs_scans.specs.Scans.{found_at}
+use Rattle.hfs_scans.proofs.ScanLemmas.{found_at}
 use Rattle.hfs_catalog.specs.Records.{Record, Catalog, has_thread}
 use Rattle.hfs_catalog_checks.specs.Indexes.{earlier}
 use Rattle.hfs_catalog_checks.specs.Faults.{implies, is_above, is_parent_right, is_thread_right, is_place_right}

@@ -11,14 +11,14 @@ use Rattle.hfs_fields.specs.Keys.{cat_cmp}
 use Rattle.hfs_fields.specs.Records.{is_dir, is_item, is_thread, item_id}
 use Rattle.hfs_scans.specs.Each.{Each}
 use Rattle.hfs_btree.specs.Pairs.{Rises}
-use Rattle.hfs_scans.specs.Elements.{each-mono, each-both}
+use Rattle.hfs_scans.proofs.ElementLemmas.{each-mono, each-both}
 use Rattle.hfs_scans.specs.First.{first_failing}
 use Rattle.hfs_catalog.specs.Records.{Record, Catalog, is_folder_id, has_thread}
 use Rattle.hfs_catalog.specs.Sound.{HasPlace, HasItem, ArePlacesSound}
 use Rattle.hfs_catalog_checks.specs.Faults.{is_above, is_parent_right, is_place_right, place_fault}
-use Rattle.hfs_scans.specs.Scans.{all_decides, passes_from_none, none_from_passes, both_from_passes, passes_from_both, Later, later_from_passes, passes_from_later}
+use Rattle.hfs_scans.proofs.ScanLemmas.{all_decides, passes_from_none, none_from_passes, both_from_passes, passes_from_both, Later, later_from_passes, passes_from_later}
 use Rattle.hfs_catalog_checks.proofs.Decided.{itself, Decides-implies, thread_decides}
-use Rattle.hfs_scans.specs.TwoFaults.{neither, both_none}
+use Rattle.hfs_scans.proofs.TwoFaultLemmas.{neither, both_none}
 use Rattle.hfs_catalog_checks.proofs.Agreed.{holds, no_fault}
 use Rattle.hfs_catalog_checks.proofs.Reach.{reach_decides}
 

@@ -7,7 +7,8 @@ use Rattle.std.proofs.lemmas.Bool.{eqb-true, or_cases, or_left, or_right, trueâ‰
 use Rattle.std.proofs.lemmas.List.{length-map}
 use Rattle.std.proofs.lemmas.List.Sums.{sum_by-cons, length-filter, count_by-le-length}
 use Rattle.hfs_fields.specs.Records.{is_item, item_id}
-use Rattle.hfs_model.specs.Chains.{Leads, Ends, no_longer}
+use Rattle.hfs_model.specs.Chains.{Leads}
+use Rattle.hfs_model.proofs.ChainLemmas.{Ends, no_longer}
 use Rattle.hfs_catalog.specs.Records.{Record, Catalog, item_with, items_of, item_ids}
 use Rattle.hfs_catalog.specs.Parents.{parent_in, ReachesRoot, reaches_root}
 

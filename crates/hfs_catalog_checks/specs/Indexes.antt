@@ -35,10 +35,6 @@ only_if holds n = if holds then Some n else None
 abbrev pub item_place : Catalog → ℕ → Option ℕ
 item_place catalog id = position_from (has_id id) 0 catalog
 
--- the place of the first thread whose key is this ID
-abbrev pub thread_place : Catalog → ℕ → Option ℕ
-thread_place catalog id = position_from (is_thread_of id) 0 catalog
-
 -- whether the place that is known is this one
 abbrev pub is_place : Option ℕ → ℕ → Bool
 is_place place i = option_map_or (λ j. j == i) place false

@@ -7,13 +7,14 @@ use Rattle.hfs_btree.specs.Tree.{Store}
 use Rattle.hfs_btree.specs.Pairs.{lookup}
 use Rattle.hfs_btree_edits.specs.Conditions.{IsThere}
 use Rattle.hfs_btree_edits.specs.Edits.{without_pair, with_replaced, HasInserted, HasRemoved, HasReplaced}
-use Rattle.hfs_btree_edits.specs.FreeAfter.{free-after, free-same_depth}
+use Rattle.hfs_btree_edits.proofs.FreeAfterLemmas.{free-after, free-same_depth}
 use Rattle.hfs_catalog.specs.Records.{Record, Catalog}
 use Rattle.hfs_catalog.specs.Tree.{cat_keys, IsCatalogTree, catalog_of}
 use Rattle.hfs_catalog_edits.specs.Swaps.{Swaps}
-use Rattle.hfs_catalog_edits.specs.Edited.{with_pair-swaps, without_pair-swaps, with_replaced-swaps}
-use Rattle.hfs_catalog_edits.specs.Keeps.{keeps_tree, key_given}
-use Rattle.hfs_catalog_edits.specs.Finds.{record_at, body_at}
+use Rattle.hfs_catalog_edits.proofs.EditedLemmas.{with_pair-swaps, without_pair-swaps, with_replaced-swaps}
+use Rattle.hfs_catalog_edits.proofs.KeepLemmas.{keeps_tree, key_given}
+use Rattle.hfs_catalog_edits.specs.Finds.{record_at}
+use Rattle.hfs_catalog_edits.proofs.FindLemmas.{body_at}
 use Rattle.hfs_catalog_edits.specs.RecordEdits.{RecordCame, RecordWent, RecordSet}
 
 -- the record whose body is there

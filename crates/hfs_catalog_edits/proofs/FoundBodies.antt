@@ -7,8 +7,10 @@ use Rattle.hfs_fields.specs.Keys.{cat_cmp}
 use Rattle.hfs_fields.specs.Records.{is_dir, begins_dir, type_byte}
 use Rattle.hfs_btree.specs.Pairs.{lookup}
 use Rattle.hfs_catalog.specs.Records.{Record, Catalog}
-use Rattle.hfs_catalog_edits.specs.Bodies.{IfBody, dir_length}
-use Rattle.hfs_catalog_edits.specs.Finds.{record_at, body_at}
+use Rattle.hfs_catalog_edits.specs.Bodies.{IfBody}
+use Rattle.hfs_catalog_edits.proofs.BodyLemmas.{dir_length}
+use Rattle.hfs_catalog_edits.specs.Finds.{record_at}
+use Rattle.hfs_catalog_edits.proofs.FindLemmas.{body_at}
 
 -- the body that is there has what a body there has
 pub body_has : (P : List ℕ → Type 0) (o : Option (List ℕ)) (body : List ℕ) → IfBody P o → o ≡ Some body → P body

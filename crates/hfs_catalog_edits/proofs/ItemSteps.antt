@@ -16,7 +16,8 @@ use Rattle.hfs_fields.specs.Order.{name_cmp}
 use Rattle.hfs_fields.specs.Records.{is_item, is_thread, begins_thread, new_thread}
 use Rattle.hfs_fields.specs.RecordForms.{IsDirRecordValue, IsThreadRecordValue}
 use Rattle.hfs_scans.specs.Each.{Each}
-use Rattle.hfs_scans.specs.Members.{In, found_in}
+use Rattle.hfs_scans.specs.Members.{In}
+use Rattle.hfs_scans.proofs.MemberLemmas.{found_in}
 use Rattle.hfs_btree.specs.Tree.{Store}
 use Rattle.hfs_btree.specs.Pairs.{lookup}
 use Rattle.hfs_btree_edits.specs.Conditions.{IsNoLonger}
@@ -24,11 +25,14 @@ use Rattle.hfs_catalog.specs.Records.{Record, Catalog, is_thread_of}
 use Rattle.hfs_catalog.specs.Tree.{catalog_of}
 use Rattle.hfs_catalog.specs.Lookups.{thread_of, first_key}
 use Rattle.hfs_catalog.specs.Sound.{IsRecord, AreNamesSound}
-use Rattle.hfs_catalog_edits.specs.Swaps.{Swaps, list_of, passes, swapped_each}
-use Rattle.hfs_catalog_edits.specs.Keeps.{keeps_then}
-use Rattle.hfs_catalog_edits.specs.Roots.{HasRoot, root_stays}
+use Rattle.hfs_catalog_edits.specs.Swaps.{Swaps, list_of}
+use Rattle.hfs_catalog_edits.proofs.SwapLemmas.{passes, swapped_each}
+use Rattle.hfs_catalog_edits.proofs.KeepLemmas.{keeps_then}
+use Rattle.hfs_catalog_edits.specs.Roots.{HasRoot}
+use Rattle.hfs_catalog_edits.proofs.RootLemmas.{root_stays}
 use Rattle.hfs_catalog_edits.specs.Bodies.{IfBody, turned_record}
-use Rattle.hfs_catalog_edits.specs.Finds.{has_key, record_at, some_text, still_none, passed_by, item_no_thread, AreThreadsReadable, readable_threads}
+use Rattle.hfs_catalog_edits.specs.Finds.{has_key, record_at, AreThreadsReadable}
+use Rattle.hfs_catalog_edits.proofs.FindLemmas.{some_text, still_none, passed_by, item_no_thread, readable_threads}
 use Rattle.hfs_catalog_edits.specs.RecordEdits.{RecordCame, RecordWent, RecordSet}
 use Rattle.hfs_catalog_edits.specs.ItemEdits.{folder_record, folder_thread, FolderCame, ItemWent, Rekeyed, with_key, RecordMoved, ThreadTurned, ItemRekeyed}
 use Rattle.hfs_catalog_edits.proofs.FoundBodies.{record_with}

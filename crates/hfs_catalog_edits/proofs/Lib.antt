@@ -3,3 +3,10 @@ pub mod FoundBodies
 pub mod ThreadEdits
 pub mod Outcomes
 pub mod ItemSteps
+pub mod BodyLemmas
+pub mod EditedLemmas
+pub mod FindLemmas
+pub mod KeepLemmas
+mod RoomLemmas
+pub mod RootLemmas
+pub mod SwapLemmas

@@ -7,9 +7,11 @@ use Rattle.hfs_fields.specs.declared.key.CatKey.{CatKey}
 use Rattle.hfs_fields.specs.declared.thread_record.ThreadRecord.{ThreadRecord}
 use Rattle.hfs_fields.specs.Keys.{cat_cmp}
 use Rattle.hfs_fields.specs.Records.{is_thread, begins_thread, thread_record_of}
-use Rattle.hfs_fields.specs.RecordForms.{IsThreadRecordValue, thread_record_bytes, length-thread_record_bytes}
+use Rattle.hfs_fields.specs.RecordForms.{IsThreadRecordValue, thread_record_bytes}
+use Rattle.hfs_fields.proofs.RecordFormLemmas.{length-thread_record_bytes}
 use Rattle.hfs_scans.specs.Each.{Each}
-use Rattle.hfs_scans.specs.Members.{In, each_in, found_in}
+use Rattle.hfs_scans.specs.Members.{In}
+use Rattle.hfs_scans.proofs.MemberLemmas.{each_in, found_in}
 use Rattle.hfs_btree.specs.Tree.{Store}
 use Rattle.hfs_btree.specs.Pairs.{lookup}
 use Rattle.hfs_btree_edits.specs.Conditions.{IsNoLonger}
@@ -18,8 +20,9 @@ use Rattle.hfs_catalog.specs.Tree.{IsCatalogTree, catalog_of}
 use Rattle.hfs_catalog.specs.Lookups.{thread_of, first_key}
 use Rattle.hfs_catalog.specs.Sound.{IsRecord}
 use Rattle.hfs_catalog_edits.specs.Swaps.{Swaps}
-use Rattle.hfs_catalog_edits.specs.Keeps.{keeps_itself, keeps_more}
-use Rattle.hfs_catalog_edits.specs.Finds.{record_at, thread_at_key, thread_is_short, AreThreadsReadable}
+use Rattle.hfs_catalog_edits.proofs.KeepLemmas.{keeps_itself, keeps_more}
+use Rattle.hfs_catalog_edits.specs.Finds.{record_at, AreThreadsReadable}
+use Rattle.hfs_catalog_edits.proofs.FindLemmas.{thread_at_key, thread_is_short}
 use Rattle.hfs_catalog_edits.specs.Bodies.{turned, turned_record}
 use Rattle.hfs_catalog_edits.specs.RecordEdits.{RecordWent, RecordSet}
 use Rattle.hfs_catalog_edits.specs.ItemEdits.{ThreadTurned}

@@ -1,11 +1,10 @@
 -- The bodies that edits write.
-use Rattle.std.proofs.Common.{◌≡◌, ℕ, true, eqb, List, length}
+use Rattle.std.proofs.Common.{◌≡◌, ℕ, true, List}
 use Rattle.std.specs.Prelude.{Option, Some, None}
-use Rattle.std.proofs.lemmas.Bool.{eqb-true, and_parts}
 use Rattle.hfs_fields.specs.declared.key.CatKey.{CatKey}
 use Rattle.hfs_fields.specs.declared.dir_record.DirRecord.{DirRecord}
 use Rattle.hfs_fields.specs.declared.thread_record.ThreadRecord.{ThreadRecord}
-use Rattle.hfs_fields.specs.Records.{is_dir, is_file, type_byte, thread_record_of}
+use Rattle.hfs_fields.specs.Records.{is_dir, is_file, thread_record_of}
 use Rattle.hfs_fields.specs.RecordForms.{IsDirRecordValue, dir_record_bytes, IsFileRecordValue, file_record_bytes, thread_record_bytes}
 use Rattle.hfs_catalog.specs.declared.item.ItemRecord.{ItemRecord}
 use Rattle.hfs_catalog.specs.declared.item.ItemRecord.TheVariants.{Folder, File}
@@ -37,12 +36,6 @@ IfBody P (Some body) = P body
 -- a folder's record with another valence and moment; every other field stays
 abbrev pub with_valence : ℕ → ℕ → DirRecord → DirRecord
 with_valence n now dir = record dir { valence = n; modified = now }
-
-pub dir_length : (body : List ℕ) → is_dir body ≡ true → length body ≡ 70
-dir_length body is = eqb-true (length body) 70 (and_parts (eqb (type_byte body) 1) (eqb (length body) 70) is).1
-
-pub file_length : (body : List ℕ) → is_file body ≡ true → length body ≡ 102
-file_length body is = eqb-true (length body) 102 (and_parts (eqb (type_byte body) 2) (eqb (length body) 102) is).1
 
 -- ---- threads
 

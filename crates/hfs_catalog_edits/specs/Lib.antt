@@ -1,5 +1,4 @@
 pub mod Swaps
-pub mod Edited
 pub mod Keeps
 pub mod Rooms
 pub mod Roots

@@ -9,7 +9,8 @@ use Rattle.hfs_fields.specs.Keys.{cat_cmp}
 use Rattle.hfs_fields.specs.Records.{is_dir, is_item, item_id, dir_record_of}
 use Rattle.hfs_scans.specs.Each.{Each}
 use Rattle.hfs_btree.specs.Pairs.{Rises}
-use Rattle.hfs_scans.specs.Members.{In, each_in}
+use Rattle.hfs_scans.specs.Members.{In}
+use Rattle.hfs_scans.proofs.MemberLemmas.{each_in}
 use Rattle.hfs_model.specs.declared.item.Item.{Item}
 use Rattle.hfs_model.specs.Lawful.{AreLawful}
 use Rattle.hfs_model.specs.Changes.{touched}
@@ -18,10 +19,12 @@ use Rattle.hfs_catalog.specs.Sound.{IsRecord, IsRoot, IsGiven, HasPlace, AreName
 use Rattle.hfs_catalog.specs.Items.{Contents, folder_of, item_of, items_in}
 use Rattle.hfs_catalog.specs.Lookups.{thread_of}
 use Rattle.hfs_catalog.specs.Laws.{ItemsAreRecords}
-use Rattle.hfs_catalog_edits.specs.Swaps.{Swaps, list_of, passes, one_if, swapped_count, swapped_each, number_of, swapped_sum}
-use Rattle.hfs_changes.specs.Once.{item_or_thread}
-use Rattle.hfs_changes.specs.Steps.{AreOnce, IfThere, IsThreadOf, ItemStep, ThreadStep, with_one, is_there, item_once, item_after, item_threads, thread_once, thread_after, thread_items}
-use Rattle.hfs_changes.specs.Links.{AreLinked, AreCounted}
+use Rattle.hfs_catalog_edits.specs.Swaps.{Swaps, list_of, one_if}
+use Rattle.hfs_catalog_edits.proofs.SwapLemmas.{passes, swapped_count, swapped_each, number_of, swapped_sum}
+use Rattle.hfs_changes.proofs.OnceLemmas.{item_or_thread}
+use Rattle.hfs_changes.proofs.StepLemmas.{AreOnce, ItemStep, ThreadStep, with_one, item_once, item_after, item_threads, thread_once, thread_after, thread_items}
+use Rattle.hfs_changes.specs.Steps.{IfThere, IsThreadOf, is_there}
+use Rattle.hfs_changes.proofs.LinkLemmas.{AreLinked, AreCounted}
 use Rattle.hfs_changes.specs.Sound.{IsNearlySound}
 use Rattle.hfs_changes.specs.Changes.{KeepsContents, IsItsThread, HasAdded}
 use Rattle.hfs_changes.proofs.Items.{with_id}

@@ -4,7 +4,7 @@ use Rattle.std.specs.Prelude.{◌==◌}
 use Rattle.hfs_fields.specs.declared.mdb.Mdb.{Mdb}
 use Rattle.hfs_fields.specs.declared.extent.Extent.{Extent}
 use Rattle.hfs_fields.specs.Counts.{with_counts}
-use Rattle.hfs_scans.specs.Elements.{each-right}
+use Rattle.hfs_scans.proofs.ElementLemmas.{each-right}
 use Rattle.hfs_btree.specs.declared.key.Key.{Ghosts}
 use Rattle.hfs_btree.specs.Tree.{Store}
 use Rattle.hfs_btree.specs.Sound.{IsOther, KeepsFrame}
@@ -18,7 +18,7 @@ use Rattle.hfs_catalog.specs.Sound.{AreIdsSound, AreCountsSound}
 use Rattle.hfs_check.specs.Parts.{Blocks, mdb_in, extents_nodes, overflow_in, catalog_extents, catalog_nodes, catalog_in, owned_in, is_marked_in}
 use Rattle.hfs_check.specs.Sound.{IsMdbSound, IsExtentsSound, IsCatalogFileSound, AreBlocksSound}
 use Rattle.hfs_check.specs.Agree.{bitmap_blocks, node_blocks, changing_blocks, IsBeside, KeepsVolume}
-use Rattle.hfs_changes.specs.OnBlocks.{IsCatalogEdit}
+use Rattle.hfs_changes.proofs.OnBlockLemmas.{IsCatalogEdit}
 use Rattle.hfs_changes.proofs.Space.{owned_each, space_same}
 use Rattle.hfs_changes.proofs.CatalogEdits.{extents_stay, overflow_stays, catalog_extents_stay, bitmap_stays, clear_stays}
 

@@ -11,9 +11,9 @@ use Rattle.hfs_scans.specs.Each.{Each}
 use Rattle.hfs_scans.specs.Members.{In}
 use Rattle.hfs_btree.specs.Sound.{IsOther}
 use Rattle.hfs_space.specs.Bitmap.{bitmap_len, is_used, is_marked, count_below, clear_count}
-use Rattle.hfs_space.specs.Counting.{count_below-same}
+use Rattle.hfs_space.proofs.CountingLemmas.{count_below-same}
 use Rattle.hfs_blocks.specs.Blocks.{run_of}
-use Rattle.hfs_scans.specs.Elements.{each-append}
+use Rattle.hfs_scans.proofs.ElementLemmas.{each-append}
 use Rattle.std.specs.Prelude.{not}
 use Rattle.hfs_space.specs.Extents.{Overflow, extent_blocks, fork_extents}
 use Rattle.hfs_space.specs.Forks.{blocks_each, run_in, fork_bytes}

@@ -6,7 +6,8 @@ use Rattle.std.proofs.lemmas.List.Sums.{sum_by-cons}
 use Rattle.hfs_fields.specs.declared.mdb.Mdb.{Mdb}
 use Rattle.hfs_fields.specs.Records.{is_dir, is_file, is_item, item_id, dir_record_of}
 use Rattle.hfs_btree.specs.Header.{header_in}
-use Rattle.hfs_scans.specs.Members.{In, each_in}
+use Rattle.hfs_scans.specs.Members.{In}
+use Rattle.hfs_scans.proofs.MemberLemmas.{each_in}
 use Rattle.hfs_model.specs.Children.{valence, entries_of}
 use Rattle.hfs_model.specs.Choices.{is_full, to_create, to_move}
 use Rattle.hfs_catalog.specs.Records.{Record, Catalog, item_with, is_child_of, valence_of}
@@ -18,7 +19,7 @@ use Rattle.hfs_check.specs.Laws.{CatalogIsSound}
 use Rattle.hfs_check.specs.VolumeOf.{contents_in, volume_in}
 use Rattle.hfs_catalog_edits.specs.Swaps.{one_if}
 use Rattle.hfs_changes.specs.Changes.{IsFolderWith}
-use Rattle.hfs_changes.specs.Once.{counted}
+use Rattle.hfs_changes.proofs.OnceLemmas.{counted}
 use Rattle.hfs_changes.specs.SettingLaws.{IsChoice}
 use Rattle.hfs_changes.specs.BoundLaws.{HasRoomForOne, CreationFits, CountsItem, RemovalFits, CountsMove, MoveFits}
 use Rattle.hfs_changes.proofs.Items.{with_id, item_parent}

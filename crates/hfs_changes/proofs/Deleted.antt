@@ -8,7 +8,7 @@ use Rattle.hfs_fields.specs.declared.mdb.Mdb.{Mdb}
 use Rattle.hfs_fields.specs.declared.extent.Extent.{Extent}
 use Rattle.hfs_fields.specs.Counts.{with_counts}
 use Rattle.hfs_fields.specs.Records.{is_bit_set}
-use Rattle.hfs_btree_edits.specs.KeptKeys.{keys-hold}
+use Rattle.hfs_btree_edits.proofs.KeptKeyLemmas.{keys-hold}
 use Rattle.hfs_space.specs.Bitmap.{bitmap_len, is_used, clear_count}
 use Rattle.hfs_space.specs.Extents.{Overflow}
 use Rattle.hfs_space.specs.Owners.{owned_blocks, owners}

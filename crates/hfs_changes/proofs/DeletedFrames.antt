@@ -8,7 +8,7 @@ use Rattle.hfs_fields.specs.declared.file_record.FileRecord.{FileRecord}
 use Rattle.hfs_fields.specs.Counts.{with_counts}
 use Rattle.hfs_fields.specs.Records.{is_file, file_record_of}
 use Rattle.hfs_scans.specs.Each.{Each}
-use Rattle.hfs_scans.specs.Elements.{each-append}
+use Rattle.hfs_scans.proofs.ElementLemmas.{each-append}
 use Rattle.hfs_scans.specs.Members.{In}
 use Rattle.hfs_btree.specs.Sound.{IsOther}
 use Rattle.hfs_space.specs.Bitmap.{bitmap_len}

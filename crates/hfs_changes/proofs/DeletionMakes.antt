@@ -11,7 +11,8 @@ use Rattle.hfs_fields.specs.Counts.{with_counts}
 use Rattle.hfs_fields.specs.Keys.{cat_cmp}
 use Rattle.hfs_fields.specs.Records.{is_dir, is_file, is_item, item_id, dir_record_of, file_record_of}
 use Rattle.hfs_scans.specs.Each.{Each}
-use Rattle.hfs_scans.specs.Members.{In, each_in}
+use Rattle.hfs_scans.specs.Members.{In}
+use Rattle.hfs_scans.proofs.MemberLemmas.{each_in}
 use Rattle.hfs_btree.specs.Pairs.{Rises}
 use Rattle.hfs_space.specs.Extents.{Overflow, IsExtentWithin, AreExtentsWithin, extent_blocks}
 use Rattle.hfs_space.specs.Owners.{Fork, forks_of, extents_in, owned_blocks, owners}
@@ -31,7 +32,8 @@ use Rattle.hfs_check.specs.Parts.{Blocks, mdb_in, overflow_in, catalog_in, owned
 use Rattle.hfs_check.specs.Sound.{AreBlocksSound}
 use Rattle.hfs_check.specs.Laws.{CatalogIsSound}
 use Rattle.hfs_check.specs.VolumeOf.{contents_in, volume_in}
-use Rattle.hfs_catalog_edits.specs.Swaps.{Swaps, one_if, passes, number_of, list_of}
+use Rattle.hfs_catalog_edits.specs.Swaps.{Swaps, one_if, list_of}
+use Rattle.hfs_catalog_edits.proofs.SwapLemmas.{passes, number_of}
 use Rattle.hfs_changes.specs.Deletion.{AreOtherFiles, fork_blocks, without_one_file, HasDeletedFile, MakesDeletion, DeleteFileMakes, ForkBlocksAreAlone, ForkExtentsAreWithin}
 use Rattle.hfs_changes.specs.SettingLaws.{IsChoice}
 use Rattle.hfs_changes.proofs.Dropped.{near, items3, dropped_items, dropped_sum, one_fewer_count, not_in_itself}

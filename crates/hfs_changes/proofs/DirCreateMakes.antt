@@ -9,7 +9,8 @@ use Rattle.hfs_fields.specs.declared.thread_record.ThreadKind.TheVariants.{Folde
 use Rattle.hfs_fields.specs.Counts.{with_counts}
 use Rattle.hfs_fields.specs.Keys.{cat_cmp}
 use Rattle.hfs_fields.specs.Records.{is_dir, is_file, dir_record_of, new_thread, new_dir}
-use Rattle.hfs_fields.specs.RecordForms.{IsDirRecordValue, dir_record_bytes, is_dir-written}
+use Rattle.hfs_fields.specs.RecordForms.{IsDirRecordValue, dir_record_bytes}
+use Rattle.hfs_fields.proofs.RecordFormLemmas.{is_dir-written}
 use Rattle.hfs_btree.specs.Pairs.{Rises}
 use Rattle.hfs_space.specs.Owners.{forks_of, owned_blocks, owners}
 use Rattle.hfs_model.specs.declared.call.Call.TheVariants as call
@@ -26,7 +27,7 @@ use Rattle.hfs_check.specs.Sound.{AreBlocksSound}
 use Rattle.hfs_check.specs.Laws.{CatalogIsSound}
 use Rattle.hfs_check.specs.VolumeOf.{contents_in, volume_in}
 use Rattle.hfs_catalog_edits.specs.Swaps.{one_if}
-use Rattle.hfs_changes.specs.Once.{counted}
+use Rattle.hfs_changes.proofs.OnceLemmas.{counted}
 use Rattle.hfs_changes.specs.Changes.{thread_record, HasAdded, with_children}
 use Rattle.hfs_changes.specs.CreationLaws.{with_folder, folder_record_in, DirCreateMakes}
 use Rattle.hfs_changes.specs.Laws.{MakesStep}

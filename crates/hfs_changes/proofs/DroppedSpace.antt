@@ -8,7 +8,8 @@ use Rattle.hfs_fields.specs.declared.extent.Extent.{Extent}
 use Rattle.hfs_fields.specs.Counts.{with_counts}
 use Rattle.hfs_fields.specs.Records.{is_file, file_record_of}
 use Rattle.hfs_scans.specs.Each.{Each}
-use Rattle.hfs_scans.specs.Members.{In, each_in}
+use Rattle.hfs_scans.specs.Members.{In}
+use Rattle.hfs_scans.proofs.MemberLemmas.{each_in}
 use Rattle.hfs_space.specs.Extents.{Overflow, block_total, AreExtentsWithin}
 use Rattle.hfs_space.specs.Bitmap.{is_used}
 use Rattle.hfs_space.specs.Owners.{Fork, forks_of_file, forks_of, catalog_fork, all_forks, records_in, goes_on_with, owners, is_stray_block}

@@ -11,7 +11,8 @@ use Rattle.hfs_fields.specs.Keys.{cat_cmp}
 use Rattle.hfs_fields.specs.Names.{is_item_name}
 use Rattle.hfs_fields.specs.Records.{is_dir, is_file, is_item, is_thread, item_id, file_record_of, is_bit_set, with_bit, new_thread}
 use Rattle.hfs_fields.specs.RecordForms.{IsFileRecordValue, file_record_bytes}
-use Rattle.hfs_scans.specs.Members.{In, each_in}
+use Rattle.hfs_scans.specs.Members.{In}
+use Rattle.hfs_scans.proofs.MemberLemmas.{each_in}
 use Rattle.hfs_btree.specs.Pairs.{Rises}
 use Rattle.hfs_space.specs.Owners.{forks_of, forks_of_file, owned_blocks, owners}
 use Rattle.hfs_model.specs.declared.call.Call.{Call}
@@ -36,7 +37,7 @@ use Rattle.hfs_check.specs.Sound.{AreBlocksSound}
 use Rattle.hfs_check.specs.Laws.{CatalogIsSound}
 use Rattle.hfs_check.specs.VolumeOf.{bytes_in, contents_in, volume_in}
 use Rattle.hfs_catalog_edits.specs.Swaps.{Swaps}
-use Rattle.hfs_changes.specs.Once.{item_or_thread}
+use Rattle.hfs_changes.proofs.OnceLemmas.{item_or_thread}
 use Rattle.hfs_changes.specs.Steps.{IfThere, is_there}
 use Rattle.hfs_changes.specs.Changes.{KeepsContents, thread_record, IsAlike, IsItsThread}
 use Rattle.hfs_changes.specs.OnBlocks.{at_time, HasTree}
@@ -46,7 +47,7 @@ use Rattle.hfs_changes.specs.PlaceLaws.{FileIsThreadless}
 use Rattle.hfs_changes.proofs.Items.{with_id, item_kind}
 use Rattle.hfs_changes.proofs.Maps.{thread_known}
 use Rattle.hfs_changes.proofs.LedThreads.{new_thread_is}
-use Rattle.hfs_changes.specs.Steps.{item_threads}
+use Rattle.hfs_changes.proofs.StepLemmas.{item_threads}
 use Rattle.hfs_changes.proofs.Linked.{sound_once}
 use Rattle.hfs_changes.proofs.SetItems.{edit_step}
 use Rattle.hfs_changes.proofs.Chosen.{chained, unless, same_ok}

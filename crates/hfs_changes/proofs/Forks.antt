@@ -10,7 +10,7 @@ use Rattle.hfs_fields.specs.declared.key.ExtKey.{ExtKey}
 use Rattle.hfs_fields.specs.Counts.{with_counts}
 use Rattle.hfs_fields.specs.Keys.{ext_cmp}
 use Rattle.hfs_scans.specs.Each.{Each}
-use Rattle.hfs_scans.specs.Elements.{each-mono}
+use Rattle.hfs_scans.proofs.ElementLemmas.{each-mono}
 use Rattle.hfs_space.specs.Extents.{Overflow}
 use Rattle.hfs_space.specs.Owners.{Fork, forks_of, catalog_fork, all_forks, records_in, goes_on_with, owners, owned_blocks}
 use Rattle.hfs_space.specs.Sound.{IsForkSound, AreForksSound}

@@ -7,12 +7,13 @@ use Rattle.std.proofs.lemmas.Bool.{eq-eqb}
 use Rattle.hfs_fields.specs.declared.mdb.Mdb.{Mdb}
 use Rattle.hfs_fields.specs.declared.extent.Extent.{Extent}
 use Rattle.hfs_scans.specs.Each.{Each}
-use Rattle.hfs_scans.specs.Elements.{each-append, each-mono, each-unmap, each-map}
+use Rattle.hfs_scans.proofs.ElementLemmas.{each-append, each-mono, each-unmap, each-map}
 use Rattle.hfs_btree.specs.Sound.{IsOther}
 use Rattle.hfs_blocks.specs.Blocks.{nodes_in}
 use Rattle.hfs_space.specs.Extents.{extent_blocks}
 use Rattle.hfs_space.specs.Forks.{blocks_each, file_blocks, fork_bytes, joined}
-use Rattle.hfs_space.specs.ForkLaws.{allocation_block, file_blocks-in_order, block_numbers}
+use Rattle.hfs_space.proofs.ForkLawLemmas.{allocation_block, file_blocks-in_order}
+use Rattle.hfs_space.specs.ForkLaws.{block_numbers}
 use Rattle.hfs_space.specs.TreeFiles.{tree_nodes, node_count}
 use Rattle.hfs_space.specs.Owners.{owners}
 use Rattle.hfs_changes.proofs.Space.{each_owned}

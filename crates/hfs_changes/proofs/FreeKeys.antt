@@ -15,7 +15,8 @@ use Rattle.hfs_fields.specs.Keys.{cat_cmp}
 use Rattle.hfs_fields.specs.Order.{name_cmp, name_cmp_total, same_name}
 use Rattle.hfs_fields.specs.Records.{is_item, item_id}
 use Rattle.hfs_scans.specs.Each.{Each}
-use Rattle.hfs_scans.specs.Members.{In, each_in, found_in}
+use Rattle.hfs_scans.specs.Members.{In}
+use Rattle.hfs_scans.proofs.MemberLemmas.{each_in, found_in}
 use Rattle.hfs_btree.specs.Pairs.{lookup}
 use Rattle.hfs_model.specs.Volume.{Entry}
 use Rattle.hfs_model.specs.Children as model
@@ -30,7 +31,7 @@ use Rattle.hfs_check.specs.Parts.{Blocks, mdb_in, catalog_in}
 use Rattle.hfs_check.specs.Sound.{AreBlocksSound}
 use Rattle.hfs_check.specs.Laws.{CatalogIsSound}
 use Rattle.hfs_check.specs.VolumeOf.{contents_in, volume_in}
-use Rattle.hfs_changes.specs.Once.{counted, none_counted, item_found}
+use Rattle.hfs_changes.proofs.OnceLemmas.{counted, none_counted, item_found}
 use Rattle.hfs_changes.specs.Changes.{IsFolderWith}
 use Rattle.hfs_changes.specs.SettingLaws.{IsChoice, with_name}
 use Rattle.hfs_changes.specs.MoveLaws.{under_folder}

@@ -7,14 +7,14 @@ use Rattle.hfs_scans.specs.Members.{In}
 use Rattle.hfs_model.specs.declared.item.Item.{Item}
 use Rattle.hfs_model.specs.Volume.{Items}
 use Rattle.hfs_model.specs.Children.{is_folder_kind}
-use Rattle.hfs_model.specs.Chains.{leads_still}
+use Rattle.hfs_model.proofs.ChainLemmas.{leads_still}
 use Rattle.hfs_model.specs.Lawful.{Has, IsFolder, LiesIn, AreLawful, parent_of}
 use Rattle.hfs_catalog.specs.Records.{Record, Catalog, item_with, is_folder_id}
 use Rattle.hfs_catalog.specs.Parents.{parent_in, ReachesRoot}
 use Rattle.hfs_catalog.specs.Sound.{HasRightId, HasPlace, IsSoundCatalog}
 use Rattle.hfs_catalog.specs.Items.{Contents, item_of, items_in}
 use Rattle.hfs_catalog.specs.Laws.{ItemsAreRecords}
-use Rattle.hfs_changes.specs.Once.{item_found, once_distinct}
+use Rattle.hfs_changes.proofs.OnceLemmas.{item_found, once_distinct}
 use Rattle.hfs_changes.specs.Sound.{IsNearlySound}
 use Rattle.hfs_changes.proofs.Items.{item_parent, item_kind, has_item, has_record}
 

@@ -7,17 +7,19 @@ use Rattle.hfs_fields.specs.declared.extent.Extent.{Extent}
 use Rattle.hfs_fields.specs.Counts.{with_counts}
 use Rattle.hfs_fields.specs.Records.{is_file, is_dir, is_thread, file_record_of, no_extents}
 use Rattle.hfs_scans.specs.Each.{Each}
-use Rattle.hfs_scans.specs.Members.{each_in}
+use Rattle.hfs_scans.proofs.MemberLemmas.{each_in}
 use Rattle.hfs_space.specs.Extents.{Overflow, block_total, extent_blocks, record_extents, fork_extents}
 use Rattle.hfs_space.specs.Owners.{Fork, forks_of_file, forks_of, extents_in, owned_blocks, owners}
 use Rattle.hfs_space.specs.Sound.{IsForkSound, AreForksSound}
 use Rattle.hfs_catalog.specs.Records.{Record, Catalog}
 use Rattle.hfs_catalog.specs.Sound.{IsSoundCatalog}
 use Rattle.hfs_catalog.specs.Laws.{ItemsAreRecords}
-use Rattle.hfs_catalog_edits.specs.Swaps.{list_of, passes, one_if, number_of, swapped_count, swapped_each, swapped_sum}
-use Rattle.hfs_changes.specs.Once.{item_or_thread}
+use Rattle.hfs_catalog_edits.specs.Swaps.{list_of, one_if}
+use Rattle.hfs_catalog_edits.proofs.SwapLemmas.{passes, number_of, swapped_count, swapped_each, swapped_sum}
+use Rattle.hfs_changes.proofs.OnceLemmas.{item_or_thread}
 use Rattle.hfs_changes.specs.Steps.{IfThere}
-use Rattle.hfs_changes.specs.Changes.{IsItsThread, HasSet, HasAdded}
+use Rattle.hfs_changes.specs.Changes.{IsItsThread, HasAdded}
+use Rattle.hfs_changes.proofs.ChangeLemmas.{HasSet}
 use Rattle.hfs_changes.proofs.Items.{with_id}
 use Rattle.hfs_changes.proofs.Space.{record_has}
 use Rattle.hfs_changes.proofs.Forks.{forks_kept, owners_kept}

@@ -42,3 +42,8 @@ pub mod DeletedFrames
 pub mod Deleted
 pub mod DeletionMakes
 pub mod Offspring
+mod ChangeLemmas
+mod LinkLemmas
+mod OnBlockLemmas
+pub mod OnceLemmas
+mod StepLemmas

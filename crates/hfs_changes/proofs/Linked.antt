@@ -7,13 +7,14 @@ use Rattle.hfs_fields.specs.Keys.{cat_cmp}
 use Rattle.hfs_fields.specs.Records.{is_dir, is_file, is_item, is_thread, item_id}
 use Rattle.hfs_scans.specs.Each.{Each}
 use Rattle.hfs_btree.specs.Pairs.{Rises}
-use Rattle.hfs_scans.specs.Members.{In, each_in, found_in}
+use Rattle.hfs_scans.specs.Members.{In}
+use Rattle.hfs_scans.proofs.MemberLemmas.{each_in, found_in}
 use Rattle.hfs_catalog.specs.Records.{Record, Catalog, item_with, has_thread, is_thread_of, valence_of}
 use Rattle.hfs_catalog.specs.Sound.{IsRecord, AreNamesSound, IsSoundCatalog}
 use Rattle.hfs_catalog.specs.Lookups.{thread_of}
-use Rattle.hfs_changes.specs.Once.{distinct_once, thread_once, item_found, thread_found}
-use Rattle.hfs_changes.specs.Steps.{AreOnce}
-use Rattle.hfs_changes.specs.Links.{AreLinked, AreCounted}
+use Rattle.hfs_changes.proofs.OnceLemmas.{distinct_once, thread_once, item_found, thread_found}
+use Rattle.hfs_changes.proofs.StepLemmas.{AreOnce}
+use Rattle.hfs_changes.proofs.LinkLemmas.{AreLinked, AreCounted}
 use Rattle.hfs_changes.specs.Sound.{IsNearlySound}
 use Rattle.hfs_changes.proofs.Items.{with_id}
 use Rattle.hfs_changes.proofs.FromLawful.{each_of}

@@ -7,7 +7,8 @@ use Rattle.hfs_fields.specs.declared.key.CatKey.{CatKey}
 use Rattle.hfs_fields.specs.declared.dir_record.DirRecord.{DirRecord}
 use Rattle.hfs_fields.specs.declared.file_record.FileRecord.{FileRecord}
 use Rattle.hfs_fields.specs.Records.{is_dir, is_file, is_item, type_byte, item_id, dir_record_of, file_record_of, is_bit_set, with_bit, new_dir, new_file}
-use Rattle.hfs_fields.specs.RecordForms.{IsDirRecordValue, dir_record_bytes, is_dir-written, dir_record_of-written, IsFileRecordValue, file_record_bytes, length-file_record_bytes, file_record_of-written}
+use Rattle.hfs_fields.specs.RecordForms.{IsDirRecordValue, dir_record_bytes, IsFileRecordValue, file_record_bytes}
+use Rattle.hfs_fields.proofs.RecordFormLemmas.{is_dir-written, dir_record_of-written, length-file_record_bytes, file_record_of-written}
 use Rattle.hfs_model.specs.declared.item.Kind.TheVariants as kind
 use Rattle.hfs_model.specs.Changes as model
 use Rattle.hfs_model.specs.Changes.{new_item, with_lock}

@@ -10,7 +10,8 @@ use Rattle.hfs_fields.specs.declared.thread_record.ThreadKind.TheVariants.{Folde
 use Rattle.hfs_fields.specs.Names.{is_item_name}
 use Rattle.hfs_fields.specs.Order.{same_name, name_cmp_total}
 use Rattle.hfs_fields.specs.Records.{is_dir, is_thread, is_dir_thread, is_file_thread, begins_thread, thread_record_of}
-use Rattle.hfs_fields.specs.RecordForms.{IsThreadRecordValue, thread_type, thread_record_bytes, length-thread_record_bytes, thread_record_of-written, begins_thread-written}
+use Rattle.hfs_fields.specs.RecordForms.{IsThreadRecordValue, thread_type, thread_record_bytes}
+use Rattle.hfs_fields.proofs.RecordFormLemmas.{length-thread_record_bytes, thread_record_of-written, begins_thread-written}
 use Rattle.hfs_catalog.specs.Records.{Record}
 use Rattle.hfs_changes.specs.Changes.{IsItsThread}
 use Rattle.hfs_changes.specs.ItemLaws.{is_folder_kind}

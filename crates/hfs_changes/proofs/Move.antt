@@ -6,7 +6,8 @@ use Rattle.std.proofs.lemmas.Bool.{eq-eqb, true≢false, or_left}
 use Rattle.std.proofs.lemmas.Option.{same_Some}
 use Rattle.hfs_fields.specs.Names.{is_item_name}
 use Rattle.hfs_fields.specs.Records.{is_dir, is_item, is_thread, item_id, dir_record_of}
-use Rattle.hfs_scans.specs.Members.{In, each_in}
+use Rattle.hfs_scans.specs.Members.{In}
+use Rattle.hfs_scans.proofs.MemberLemmas.{each_in}
 use Rattle.hfs_model.specs.Volume.{Entry}
 use Rattle.hfs_model.specs.Children.{is_folder_kind, child_named, entries_of}
 use Rattle.hfs_model.specs.Choices.{lies_in, is_bad_move, is_held, to_move}
@@ -19,8 +20,8 @@ use Rattle.hfs_check.specs.Parts.{Blocks, mdb_in, catalog_in}
 use Rattle.hfs_check.specs.Sound.{AreBlocksSound}
 use Rattle.hfs_check.specs.Laws.{CatalogIsSound}
 use Rattle.hfs_check.specs.VolumeOf.{contents_in, volume_in}
-use Rattle.hfs_catalog_edits.specs.Swaps.{swapped_sum}
-use Rattle.hfs_changes.specs.Once.{item_or_thread}
+use Rattle.hfs_catalog_edits.proofs.SwapLemmas.{swapped_sum}
+use Rattle.hfs_changes.proofs.OnceLemmas.{item_or_thread}
 use Rattle.hfs_changes.specs.Changes.{led_to, IsFolderWith, HasRekeyed, HasMoved, folder_with}
 use Rattle.hfs_changes.specs.SettingLaws.{IsChoice}
 use Rattle.hfs_changes.specs.MoveLaws.{under_folder, HasMovedItem}

@@ -28,7 +28,8 @@ use Rattle.hfs_check.specs.Parts.{Blocks, mdb_in, overflow_in, catalog_in, owned
 use Rattle.hfs_check.specs.Sound.{AreBlocksSound}
 use Rattle.hfs_check.specs.Laws.{CatalogIsSound}
 use Rattle.hfs_check.specs.VolumeOf.{contents_in, volume_in}
-use Rattle.hfs_catalog_edits.specs.Swaps.{one_if, swapped_each}
+use Rattle.hfs_catalog_edits.specs.Swaps.{one_if}
+use Rattle.hfs_catalog_edits.proofs.SwapLemmas.{swapped_each}
 use Rattle.hfs_changes.specs.Changes.{KeepsContents, led_to, HasMoved, folder_with}
 use Rattle.hfs_changes.specs.OnBlocks.{HasTree}
 use Rattle.hfs_changes.specs.Laws.{MakesStep}

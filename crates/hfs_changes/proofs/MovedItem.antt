@@ -16,8 +16,8 @@ use Rattle.hfs_catalog.specs.Items.{Contents, folder_of, item_of, items_in}
 use Rattle.hfs_catalog.specs.Lookups.{thread_of}
 use Rattle.hfs_catalog.specs.Laws.{ItemsAreRecords}
 use Rattle.hfs_catalog_edits.specs.Swaps.{one_if}
-use Rattle.hfs_changes.specs.Steps.{AreOnce, ItemStep, with_one, item_once, item_after, item_threads}
-use Rattle.hfs_changes.specs.Links.{AreLinked}
+use Rattle.hfs_changes.proofs.StepLemmas.{AreOnce, ItemStep, with_one, item_once, item_after, item_threads}
+use Rattle.hfs_changes.proofs.LinkLemmas.{AreLinked}
 use Rattle.hfs_changes.specs.Sound.{IsNearlySound}
 use Rattle.hfs_changes.specs.Changes.{KeepsContents, HasMoved}
 use Rattle.hfs_changes.proofs.Items.{with_id}

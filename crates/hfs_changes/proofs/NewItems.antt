@@ -7,7 +7,8 @@ use Rattle.hfs_fields.specs.declared.dir_record.DirRecord.{DirRecord}
 use Rattle.hfs_fields.specs.declared.file_record.FileRecord.{FileRecord}
 use Rattle.hfs_fields.specs.Names.{is_name_character, is_item_name}
 use Rattle.hfs_fields.specs.Records.{is_dir, is_file, dir_record_of, new_dir, new_file}
-use Rattle.hfs_fields.specs.RecordForms.{IsDirRecordValue, IsFileRecordValue, is_dir-written}
+use Rattle.hfs_fields.specs.RecordForms.{IsDirRecordValue, IsFileRecordValue}
+use Rattle.hfs_fields.proofs.RecordFormLemmas.{is_dir-written}
 use Rattle.hfs_catalog.specs.Records.{Record, Catalog}
 use Rattle.hfs_catalog_edits.specs.Swaps.{Swaps}
 use Rattle.hfs_changes.specs.Changes.{IsItsThread, IsNewItem, IsFolderWith, HasAdded, with_children, folder_with}

@@ -11,7 +11,8 @@ use Rattle.hfs_fields.specs.declared.mdb.Mdb.{Mdb}
 use Rattle.hfs_fields.specs.declared.key.ExtKey.{ExtKey}
 use Rattle.hfs_fields.specs.Keys.{ext_cmp}
 use Rattle.hfs_fields.specs.Records.{is_file, is_dir, is_item, item_id, file_record_of}
-use Rattle.hfs_scans.specs.Members.{In, each_in}
+use Rattle.hfs_scans.specs.Members.{In}
+use Rattle.hfs_scans.proofs.MemberLemmas.{each_in}
 use Rattle.hfs_space.specs.Extents.{Overflow, block_total, record_extents, goes_on, run_on}
 use Rattle.hfs_space.specs.Owners.{Fork, forks_of_file, forks_of, catalog_fork, all_forks, records_in, is_bad_blocks, goes_on_with}
 use Rattle.hfs_space.specs.Sound.{AreForksSound}

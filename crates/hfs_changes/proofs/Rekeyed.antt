@@ -10,8 +10,9 @@ use Rattle.hfs_catalog.specs.Items.{Contents, item_of, items_in}
 use Rattle.hfs_catalog.specs.Lookups.{thread_of}
 use Rattle.hfs_catalog.specs.Laws.{ItemsAreRecords}
 use Rattle.hfs_catalog_edits.specs.Swaps.{one_if}
-use Rattle.hfs_changes.specs.Steps.{AreOnce, with_one, is_there}
-use Rattle.hfs_changes.specs.Links.{AreLinked}
+use Rattle.hfs_changes.proofs.StepLemmas.{AreOnce, with_one}
+use Rattle.hfs_changes.specs.Steps.{is_there}
+use Rattle.hfs_changes.proofs.LinkLemmas.{AreLinked}
 use Rattle.hfs_changes.specs.Sound.{IsNearlySound}
 use Rattle.hfs_changes.specs.Changes.{KeepsContents, HasRekeyed}
 use Rattle.hfs_changes.proofs.Linked.{sound_linked}

@@ -14,9 +14,10 @@ use Rattle.hfs_check.specs.Parts.{Blocks, mdb_in, catalog_in}
 use Rattle.hfs_check.specs.Sound.{AreBlocksSound}
 use Rattle.hfs_check.specs.Laws.{CatalogIsSound}
 use Rattle.hfs_check.specs.VolumeOf.{contents_in, volume_in}
-use Rattle.hfs_catalog_edits.specs.Swaps.{passes, one_if, number_of}
-use Rattle.hfs_changes.specs.Once.{counted, item_found}
-use Rattle.hfs_changes.specs.Steps.{with_one}
+use Rattle.hfs_catalog_edits.proofs.SwapLemmas.{passes, number_of}
+use Rattle.hfs_catalog_edits.specs.Swaps.{one_if}
+use Rattle.hfs_changes.proofs.OnceLemmas.{counted, item_found}
+use Rattle.hfs_changes.proofs.StepLemmas.{with_one}
 use Rattle.hfs_changes.specs.Changes.{HasDropped, folder_with}
 use Rattle.hfs_changes.specs.SettingLaws.{IsChoice}
 use Rattle.hfs_changes.specs.RemovalLaws.{HasDroppedItem, LeavesFiles}

@@ -10,19 +10,22 @@ use Rattle.hfs_fields.specs.Names.{is_item_name}
 use Rattle.hfs_fields.specs.Records.{is_dir, is_item, item_id, dir_record_of}
 use Rattle.hfs_scans.specs.Each.{Each}
 use Rattle.hfs_btree.specs.Pairs.{Rises}
-use Rattle.hfs_scans.specs.Members.{In, each_in}
+use Rattle.hfs_scans.specs.Members.{In}
+use Rattle.hfs_scans.proofs.MemberLemmas.{each_in}
 use Rattle.hfs_model.specs.Lawful.{AreLawful}
 use Rattle.hfs_catalog.specs.Records.{Record, Catalog, item_with, is_child_of, valence_of}
 use Rattle.hfs_catalog.specs.Sound.{IsRecord, AreNamesSound, IsSoundCatalog}
 use Rattle.hfs_catalog.specs.Items.{Contents, item_of, items_in}
 use Rattle.hfs_catalog.specs.Lookups.{thread_of}
 use Rattle.hfs_catalog.specs.Laws.{ItemsAreRecords}
-use Rattle.hfs_catalog_edits.specs.Swaps.{Swaps, one_if, swapped_count, swapped_each}
-use Rattle.hfs_changes.specs.Once.{item_or_thread}
-use Rattle.hfs_changes.specs.Steps.{AreOnce, ItemStep, with_one, item_once, item_after, item_threads}
-use Rattle.hfs_changes.specs.Links.{AreLinked, AreCounted}
+use Rattle.hfs_catalog_edits.specs.Swaps.{Swaps, one_if}
+use Rattle.hfs_catalog_edits.proofs.SwapLemmas.{swapped_count, swapped_each}
+use Rattle.hfs_changes.proofs.OnceLemmas.{item_or_thread}
+use Rattle.hfs_changes.proofs.StepLemmas.{AreOnce, ItemStep, with_one, item_once, item_after, item_threads}
+use Rattle.hfs_changes.proofs.LinkLemmas.{AreLinked, AreCounted}
 use Rattle.hfs_changes.specs.Sound.{IsNearlySound}
-use Rattle.hfs_changes.specs.Changes.{IsAlike, HasSet, KeepsContents}
+use Rattle.hfs_changes.specs.Changes.{IsAlike, KeepsContents}
+use Rattle.hfs_changes.proofs.ChangeLemmas.{HasSet}
 use Rattle.hfs_changes.proofs.Items.{with_id}
 use Rattle.hfs_changes.proofs.FromLawful.{sound}
 use Rattle.hfs_changes.proofs.Linked.{sound_once, sound_linked, sound_counted, nearly_sound}

@@ -14,10 +14,11 @@ use Rattle.std.specs.declared.cmp.Ordering.{Ordering}
 use Rattle.std.specs.declared.cmp.Ordering.TheVariants.{Less, Equal, Greater}
 use Rattle.std.specs.Ordering.{is_eq, ordering_reverse}
 use Rattle.std.proofs.lemmas.Option.{none-some, same_Some}
-use Rattle.hfs_catalog_edits.specs.Edited.{at_equal_key, with_replaced-swaps}
+use Rattle.hfs_catalog_edits.proofs.EditedLemmas.{at_equal_key, with_replaced-swaps}
 use Rattle.hfs_changes.proofs.Items.{with_id}
 use Rattle.hfs_fields.specs.Records.{is_dir, is_file, dir_record_of, file_record_of}
-use Rattle.hfs_fields.specs.RecordForms.{IsDirRecordValue, dir_record_bytes, is_dir-written, IsFileRecordValue, file_record_bytes}
+use Rattle.hfs_fields.specs.RecordForms.{IsDirRecordValue, dir_record_bytes, IsFileRecordValue, file_record_bytes}
+use Rattle.hfs_fields.proofs.RecordFormLemmas.{is_dir-written}
 use Rattle.hfs_btree.specs.Pairs.{Rises, lookup}
 use Rattle.hfs_space.specs.Owners.{forks_of, forks_of_file, owned_blocks, owners}
 use Rattle.hfs_model.specs.declared.call.Call.{Call}
@@ -32,8 +33,9 @@ use Rattle.hfs_check.specs.Parts.{Blocks, mdb_in, overflow_in, catalog_in, owned
 use Rattle.hfs_check.specs.Sound.{AreBlocksSound}
 use Rattle.hfs_check.specs.Laws.{CatalogIsSound}
 use Rattle.hfs_check.specs.VolumeOf.{contents_in, volume_in}
-use Rattle.hfs_catalog_edits.specs.Swaps.{Swaps, one_if, swapped_count}
-use Rattle.hfs_changes.specs.Changes.{HasSet}
+use Rattle.hfs_catalog_edits.specs.Swaps.{Swaps, one_if}
+use Rattle.hfs_catalog_edits.proofs.SwapLemmas.{swapped_count}
+use Rattle.hfs_changes.proofs.ChangeLemmas.{HasSet}
 use Rattle.hfs_changes.specs.OnBlocks.{at_time, HasTree}
 use Rattle.hfs_changes.specs.Laws.{MakesStep}
 use Rattle.hfs_changes.specs.SettingLaws.{IsChoice, HasSetBody}

@@ -9,7 +9,7 @@ use Rattle.hfs_check.specs.Parts.{mdb_in, catalog_in}
 use Rattle.hfs_check.specs.Laws.{CatalogIsSound}
 use Rattle.hfs_check.specs.VolumeOf.{contents_in, volume_in}
 use Rattle.hfs_catalog_edits.specs.Swaps.{Swaps, list_of}
-use Rattle.hfs_changes.specs.Once.{item_or_thread}
+use Rattle.hfs_changes.proofs.OnceLemmas.{item_or_thread}
 use Rattle.hfs_changes.specs.Changes.{ItemRekeyed}
 use Rattle.hfs_changes.specs.MoveLaws.{under_folder}
 use Rattle.hfs_changes.specs.PlaceLaws.{StandsStill, DeleteLeavesFolder, MoveLeavesFolders}

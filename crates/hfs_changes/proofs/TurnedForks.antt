@@ -5,14 +5,15 @@ use Rattle.hfs_fields.specs.declared.mdb.Mdb.{Mdb}
 use Rattle.hfs_fields.specs.Counts.{with_counts}
 use Rattle.hfs_fields.specs.Records.{is_thread}
 use Rattle.hfs_scans.specs.Each.{Each}
-use Rattle.hfs_scans.specs.Members.{each_in}
+use Rattle.hfs_scans.proofs.MemberLemmas.{each_in}
 use Rattle.hfs_space.specs.Extents.{Overflow}
 use Rattle.hfs_space.specs.Owners.{Fork, forks_of, owned_blocks, owners}
 use Rattle.hfs_space.specs.Sound.{IsForkSound, AreForksSound}
 use Rattle.hfs_catalog.specs.Records.{Record, Catalog}
 use Rattle.hfs_catalog.specs.Lookups.{thread_of}
 use Rattle.hfs_catalog.specs.Sound.{IsSoundCatalog}
-use Rattle.hfs_catalog_edits.specs.Swaps.{one_if, passes, number_of, list_of, swapped_count, swapped_sum, swapped_each}
+use Rattle.hfs_catalog_edits.specs.Swaps.{one_if, list_of}
+use Rattle.hfs_catalog_edits.proofs.SwapLemmas.{passes, number_of, swapped_count, swapped_sum, swapped_each}
 use Rattle.hfs_changes.specs.Steps.{IfThere}
 use Rattle.hfs_changes.specs.Changes.{IsItsThread}
 use Rattle.hfs_changes.proofs.Items.{with_id}

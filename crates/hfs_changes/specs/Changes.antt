@@ -21,13 +21,6 @@ pub record IsAlike (r s : Record) : Type 0 where
   pub file : is_file s.1 ≡ is_file r.1
   pub id : item_id s.1 ≡ item_id r.1
 
--- the item's record was put in place of the one that it had, and a folder has its valence as it was
-pub record HasSet (i : ℕ) (r s : Record) (old new : Catalog) : Type 0 where
-  pub swap : Swaps (Some r) (Some s) old new
-  pub was : item_with old i ≡ Some r
-  pub alike : IsAlike r s
-  pub valence : is_dir r.1 ≡ true → (dir_record_of s.1).valence ≡ (dir_record_of r.1).valence
-
 -- the forks of each file have the bytes that they had
 abbrev pub KeepsContents : Contents → Contents → Catalog → Type 0
 KeepsContents old new catalog = (k : ℕ) (r : Record) → item_with catalog k ≡ Some r → is_dir r.1 ≡ false → new (file_record_of r.1) ≡ old (file_record_of r.1)

@@ -1,7 +1,6 @@
 pub mod Once
 pub mod Sound
 pub mod Steps
-pub mod Links
 pub mod Changes
 pub mod OnBlocks
 pub mod Laws

@@ -12,11 +12,11 @@ use Rattle.hfs_scans.specs.Each.{Each}
 use Rattle.hfs_btree.specs.Tree.{Store, records_in, key_at}
 use Rattle.hfs_btree.specs.Header.{tree_turn}
 use Rattle.hfs_btree_checks.specs.Shape.{has_counts, shape_fault}
-use Rattle.hfs_btree_checks.specs.ShapeLaw.{shape-law}
+use Rattle.hfs_btree_checks.proofs.ShapeLawLemmas.{shape-law}
 use Rattle.hfs_btree.specs.Sound.{IsShaped}
 use Rattle.hfs_btree_checks.specs.Order.{has_keys, key_fault, index_keys, index_order_fault}
-use Rattle.hfs_btree_checks.specs.OrderLaw.{first_node-law, index-order-law, order-law}
-use Rattle.hfs_scans.specs.Scans.{all_decides}
+use Rattle.hfs_btree_checks.proofs.OrderLawLemmas.{first_node-law, index-order-law, order-law}
+use Rattle.hfs_scans.proofs.ScanLemmas.{all_decides}
 use Rattle.hfs_space.specs.Bitmap.{bitmap_len}
 use Rattle.hfs_space.specs.Forks.{blocks_each}
 use Rattle.hfs_space.specs.TreeKeys.{ext_keys}

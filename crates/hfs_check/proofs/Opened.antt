@@ -9,7 +9,7 @@ use Rattle.hfs_blocks.specs.Blocks.{block_at, block_count}
 use Rattle.hfs_btree_checks.specs.Shape.{has_counts, shape_fault}
 use Rattle.hfs_btree.specs.Tree.{Store}
 use Rattle.hfs_blocks.specs.declared.run.Run.{Run}
-use Rattle.hfs_space.specs.FileLengths.{length-tree_nodes}
+use Rattle.hfs_space.proofs.FileLengthLemmas.{length-tree_nodes}
 use Rattle.hfs_space.specs.Extents.{fork_extents}
 use Rattle.hfs_space.specs.Faults.{is_tree_file}
 use Rattle.hfs_space.specs.Owners.{catalog_fork, owned_blocks}

@@ -5,7 +5,7 @@ use Rattle.std.proofs.lemmas.List.{get_or-take, get_or-drop}
 use Rattle.hfs_fields.specs.declared.mdb.Mdb.{Mdb}
 use Rattle.hfs_fields.specs.declared.extent.Extent.{Extent}
 use Rattle.hfs_fields.specs.Numbers.{number_at}
-use Rattle.hfs_fields.specs.Puts.{number_at-same}
+use Rattle.hfs_fields.proofs.PutLemmas.{number_at-same}
 use Rattle.hfs_fields.specs.Counts.{IsBesideCounts, SameBesideCounts}
 use Rattle.hfs_btree.specs.declared.key.Key.{Ghosts}
 use Rattle.hfs_scans.specs.Each.{Each}

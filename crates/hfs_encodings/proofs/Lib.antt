@@ -1,3 +1,4 @@
 pub mod Table
 pub mod WrittenAppleDouble
 pub mod WrittenMacBinary
+mod AppleDoubleLemmas

@@ -2,7 +2,7 @@
 use Rattle.std.proofs.Common.{◌≡◌, ◌∙◌, ap, arith, ℕ, ◌+◌, ◌^◌, ◌<◌, ◌≤◌, List, [], ◌∷◌, ◌++◌, length, take, drop}
 use Rattle.std.proofs.lemmas.List.{length-append, take_all}
 use Rattle.byteorder.specs.Endian.{big_bytes}
-use Rattle.hfs_fields.specs.Laid.{behind, next, number-read, bytes-read, laid, row, laid-append}
+use Rattle.hfs_fields.proofs.LaidLemmas.{behind, next, number-read, bytes-read, laid, row, laid-append}
 use Rattle.hfs_encodings.specs.declared.apple_double.AppleDoubleHead.{AppleDoubleHead}
 use Rattle.hfs_encodings.specs.AppleDouble.{HoldsAppleDouble, apple_double_layout, apple_double_head_bytes, apple_double_head_of}
 

@@ -4,7 +4,7 @@ use Rattle.std.specs.Prelude.{◌==◌, nat_le}
 use Rattle.std.proofs.lemmas.List.{append_assoc, append-nil, length-append, length-replicate, length-take, length-drop, take_at, take_all, take-append-drop, drop_more, get_or-drop}
 use Rattle.std.proofs.lemmas.Bool.{le-leb, eq-eqb}
 use Rattle.byteorder.specs.Endian.{big_bytes}
-use Rattle.hfs_fields.specs.Laid.{behind, next, number-read, bytes-read, laid, row, laid-append}
+use Rattle.hfs_fields.proofs.LaidLemmas.{behind, next, number-read, bytes-read, laid, row, laid-append}
 use Rattle.hfs_fields.specs.Numbers.{number_at}
 use Rattle.hfs_fields.specs.Mdb.{bytes_at}
 use Rattle.hfs_fields.specs.Records.{is_bit_set}

@@ -18,10 +18,6 @@ apple_double_layout =
 unfoldable pub apple_double_head_bytes : AppleDoubleHead → List ℕ
 apple_double_head_bytes head = apple_double_layout ++ big_bytes 4 head.resource_length ++ head.finder
 
--- the whole file of an item with these Finder bytes and this resource fork
-abbrev pub apple_double_bytes : List ℕ → List ℕ → List ℕ
-apple_double_bytes finder fork = apple_double_head_bytes (record { finder = finder; resource_length = length fork }) ++ fork
-
 -- ---- what is read
 
 -- the file begins with a head in this layout

@@ -4,7 +4,8 @@ use Rattle.std.proofs.lemmas.List.{get_or-drop, get_or-take, length-take, length
 use Rattle.std.proofs.lemmas.Bool.{cases_lt}
 use Rattle.byteorder.specs.Endian.{big_bytes}
 use Rattle.hfs_fields.specs.Numbers.{number_at}
-use Rattle.hfs_fields.specs.Puts.{IsPut, number_at-same, number_at-kept, number_at-put}
+use Rattle.hfs_fields.specs.Puts.{IsPut}
+use Rattle.hfs_fields.proofs.PutLemmas.{number_at-same, number_at-kept, number_at-put}
 use Rattle.hfs_fields.specs.Mdb.{mdb_of, bytes_at}
 use Rattle.hfs_fields.specs.Counts.{HasCounts, IsOutside, IsBesideCounts, SameBesideCounts, with_counts}
 use Rattle.hfs_fields.specs.declared.mdb.Mdb.{Mdb}

@@ -85,9 +85,6 @@ is_ext_key bytes = nat_le 8 (length bytes) && (key_len bytes == 7)
 unfoldable pub ext_key_of : List ℕ → ExtKey
 ext_key_of bytes = record { fork = slice_index bytes 1; file = number_at 2 4 bytes; block = number_at 6 2 bytes }
 
-abbrev pub ext_body_of : List ℕ → List ℕ
-ext_body_of bytes = drop 8 bytes
-
 -- a record of a leaf: a key, and three extents
 unfoldable pub is_ext_leaf : List ℕ → Bool
 is_ext_leaf bytes = is_ext_key bytes && (length bytes == 20)

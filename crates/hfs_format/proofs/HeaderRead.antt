@@ -6,14 +6,14 @@ use Rattle.std.proofs.lemmas.List.{append-nil}
 use Rattle.std.proofs.lemmas.List.Sums.{sum_by-cons}
 use Rattle.std.proofs.lemmas.List.FromFn.{get_or-map-range_with_len}
 use Rattle.std.proofs.lemmas.Bool.{lt-ltb}
-use Rattle.hfs_fields.specs.Laid.{number-read}
+use Rattle.hfs_fields.proofs.LaidLemmas.{number-read}
 use Rattle.hfs_btree.specs.declared.header.Header.{Header}
 use Rattle.hfs_btree.specs.declared.key.Key.{Ghosts}
 use Rattle.hfs_btree.specs.Tree.{Store, node_in, records_of, forward_of}
 use Rattle.hfs_btree.specs.Header.{header_of, header_in, record_in, chain_from, map_nodes, map_bytes, bit_of, marks, free_nodes, is_marked}
 use Rattle.hfs_scans.specs.Each.{Each}
 use Rattle.hfs_btree.specs.Sound.{HasHeader, HasMap, IsDistinct, IsMapNode, IsMarked}
-use Rattle.hfs_format.specs.BitRow.{length-bit_row}
+use Rattle.hfs_format.proofs.BitRowLemmas.{length-bit_row}
 use Rattle.hfs_format.proofs.BitsRead.{bit_of-bit_row, count_below-clear}
 use Rattle.hfs_format.specs.NewTrees.{header_record, node_map, header_node}
 use Rattle.hfs_format.proofs.NewBlocks.{length-header_record}

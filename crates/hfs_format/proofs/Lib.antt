@@ -12,3 +12,4 @@ pub mod NewCatalog
 pub mod NewSpace
 pub mod PlanFacts
 pub mod NewImage
+mod BitRowLemmas

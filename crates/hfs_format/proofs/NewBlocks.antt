@@ -7,14 +7,15 @@ use Rattle.std.proofs.lemmas.Bool.{cond_both}
 use Rattle.hfs_fields.specs.declared.key.CatKey.{CatKey}
 use Rattle.hfs_fields.specs.KeyForms.{cat_leaf_bytes, length-cat_leaf_bytes}
 use Rattle.hfs_fields.specs.Records.{new_dir, new_thread}
-use Rattle.hfs_fields.specs.RecordForms.{IsDirRecordValue, dir_record_bytes, length-dir_record_bytes, IsThreadRecordValue, thread_record_bytes, length-thread_record_bytes}
+use Rattle.hfs_fields.specs.RecordForms.{IsDirRecordValue, dir_record_bytes, IsThreadRecordValue, thread_record_bytes}
+use Rattle.hfs_fields.proofs.RecordFormLemmas.{length-dir_record_bytes, length-thread_record_bytes}
 use Rattle.hfs_fields.specs.declared.thread_record.ThreadKind.TheVariants.{Folder}
 use Rattle.hfs_node.specs.Node.{size_of}
 use Rattle.hfs_blocks.specs.Blocks.{block_at, block_count}
 use Rattle.hfs_format.specs.declared.layout.Layout.{Layout}
 use Rattle.hfs_btree.specs.declared.header.Header.{Header}
 use Rattle.hfs_format.specs.Plan.{used_blocks}
-use Rattle.hfs_format.specs.BitRow.{length-bit_row}
+use Rattle.hfs_format.proofs.BitRowLemmas.{length-bit_row}
 use Rattle.hfs_format.specs.NewTrees.{empty_tree, one_leaf_tree, header_record, header_node, root_directory, root_record, root_thread, root_leaf}
 use Rattle.hfs_format.specs.Image.{is_mdb_block, is_bitmap_block, extents_start, catalog_start, new_block, volume_image}
 use Rattle.hfs_format.proofs.NewVolume.{IsNewVolume, length-new_mdb_block}

@@ -7,7 +7,8 @@ use Rattle.std.proofs.lemmas.Bool.{and_parts, leb-true, cond-true}
 use Rattle.hfs_fields.specs.Names.{is_item_name}
 use Rattle.hfs_fields.specs.Order.{same_name, name_order}
 use Rattle.hfs_fields.specs.Records.{is_dir, is_file, is_item, is_thread, is_dir_thread, is_file_thread, begins_thread, item_id, dir_record_of, thread_record_of, new_dir, new_thread}
-use Rattle.hfs_fields.specs.RecordForms.{dir_record_bytes, is_dir-written, dir_record_of-written, IsThreadRecordValue, thread_record_bytes, length-thread_record_bytes, thread_record_of-written, begins_thread-written}
+use Rattle.hfs_fields.specs.RecordForms.{dir_record_bytes, IsThreadRecordValue, thread_record_bytes}
+use Rattle.hfs_fields.proofs.RecordFormLemmas.{is_dir-written, dir_record_of-written, length-thread_record_bytes, thread_record_of-written, begins_thread-written}
 use Rattle.hfs_fields.specs.declared.dir_record.DirRecord.{DirRecord}
 use Rattle.hfs_fields.specs.declared.thread_record.ThreadRecord.{ThreadRecord}
 use Rattle.hfs_fields.specs.declared.thread_record.ThreadKind.TheVariants.{Folder}

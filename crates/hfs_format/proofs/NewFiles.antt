@@ -6,10 +6,12 @@ use Rattle.std.proofs.lemmas.List.{append-nil}
 use Rattle.std.proofs.lemmas.List.{take_all}
 use Rattle.std.proofs.lemmas.List.FromFn.{get_or-map-range_with_len, length-map-range_with_len}
 use Rattle.std.proofs.lemmas.Bool.{or_from, and_right, and_from, ne_eqb, eq-eqb, le-ltb, lt-ltb, le-leb, cond-true, cond-false}
-use Rattle.hfs_fields.specs.KeyForms.{IsCatKeyValue, cat_leaf_bytes, is_cat_leaf-leaf, cat_key_of-leaf, cat_body_of-leaf}
+use Rattle.hfs_fields.specs.KeyForms.{IsCatKeyValue, cat_leaf_bytes}
+use Rattle.hfs_fields.proofs.KeyFormLemmas.{is_cat_leaf-leaf, cat_key_of-leaf, cat_body_of-leaf}
 use Rattle.hfs_fields.specs.Keys.{is_cat_leaf, is_cat_body_len}
 use Rattle.hfs_fields.specs.Records.{new_thread}
-use Rattle.hfs_fields.specs.RecordForms.{dir_record_bytes, length-dir_record_bytes, thread_record_bytes, length-thread_record_bytes}
+use Rattle.hfs_fields.specs.RecordForms.{dir_record_bytes, thread_record_bytes}
+use Rattle.hfs_fields.proofs.RecordFormLemmas.{length-dir_record_bytes, length-thread_record_bytes}
 use Rattle.hfs_fields.specs.declared.key.CatKey.{CatKey}
 use Rattle.hfs_fields.specs.declared.thread_record.ThreadKind.TheVariants.{Folder}
 use Rattle.hfs_node.specs.declared.node.Node.{Node}

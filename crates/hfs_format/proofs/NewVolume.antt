@@ -3,7 +3,8 @@ use Rattle.std.proofs.Common.{◌≡◌, ℕ, zero, suc, ◌+◌, ◌-◌, ◌*�
 use Rattle.std.specs.Prelude.{IsTrue}
 use Rattle.std.proofs.lemmas.List.{length-append, length-replicate}
 use Rattle.hfs_fields.specs.Mdb.{mdb_of}
-use Rattle.hfs_fields.specs.MdbForm.{IsMdbHeadValue, IsMdbTailValue, IsMdbValue, mdb_bytes, length-mdb_bytes, mdb_of-first}
+use Rattle.hfs_fields.specs.MdbForm.{IsMdbHeadValue, IsMdbTailValue, IsMdbValue, mdb_bytes}
+use Rattle.hfs_fields.proofs.MdbFormLemmas.{length-mdb_bytes, mdb_of-first}
 use Rattle.hfs_fields.specs.Names.{is_item_name}
 use Rattle.hfs_fields.specs.RecordForms.{IsExtentValue, AreExtentValues}
 use Rattle.hfs_fields.specs.declared.extent.Extent.{Extent}

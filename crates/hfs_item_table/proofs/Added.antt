@@ -10,9 +10,10 @@ use Rattle.hfs_fields.specs.Order.{same_name}
 use Rattle.hfs_model.specs.declared.item.Item.{Item}
 use Rattle.hfs_model.specs.Volume.{Items}
 use Rattle.hfs_model.specs.Lawful.{Has}
-use Rattle.hfs_item_table.specs.Facts.{none_is_some, same_some}
+use Rattle.hfs_item_table.proofs.FactLemmas.{none_is_some, same_some}
 use Rattle.hfs_item_table.specs.declared.place.Place.{Place}
-use Rattle.hfs_item_table.specs.Places.{place, place_cmp, level, names_level}
+use Rattle.hfs_item_table.specs.Places.{place, place_cmp}
+use Rattle.hfs_item_table.proofs.PlaceLemmas.{level, names_level}
 use Rattle.hfs_item_table.specs.Tables.{AreNames}
 use Rattle.hfs_item_table.proofs.Named.{tied, is_level, level_parents}
 

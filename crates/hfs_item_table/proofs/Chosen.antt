@@ -9,7 +9,7 @@ use Rattle.hfs_model.specs.Lawful.{Has, IsFolder}
 use Rattle.hfs_model.specs.declared.codes.TheConstants.{NOT_FOUND, FILE_LOCKED}
 use Rattle.hfs_model.specs.Replies.{is_locked_file}
 use Rattle.hfs_model.specs.Choices.{child_to_change, unless_locked_file, and_then, is_locked, lock_code}
-use Rattle.hfs_item_table.specs.Facts.{not_refused, found_folder, folder_is, found_has, two_tests}
+use Rattle.hfs_item_table.proofs.FactLemmas.{not_refused, found_folder, folder_is, found_has, two_tests}
 
 -- ---- what an accepted change has tested
 

@@ -9,7 +9,7 @@ use Rattle.std.proofs.lemmas.List.Sums.{sum_by-cons}
 use Rattle.hfs_model.specs.declared.item.Item.{Item}
 use Rattle.hfs_model.specs.Volume.{Items, Entry}
 use Rattle.hfs_model.specs.Children.{valence, is_child}
-use Rattle.hfs_item_table.specs.Facts.{none_is_some}
+use Rattle.hfs_item_table.proofs.FactLemmas.{none_is_some}
 
 -- 1 of a child, and 0 of any other
 abbrev pub one : ℕ → Entry → ℕ

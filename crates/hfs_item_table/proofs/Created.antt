@@ -16,7 +16,7 @@ use Rattle.hfs_model.specs.Lawful.{Has, AreLawful, IsFolder}
 use Rattle.hfs_model.specs.Choices.{is_held, is_full}
 use Rattle.hfs_model.specs.Changes.{touched, new_item, add}
 use Rattle.hfs_item_table.proofs.Counts.{count_edited}
-use Rattle.hfs_item_table.specs.Facts.{true_false, none_is_some, same_some, folder_is, not_full}
+use Rattle.hfs_item_table.proofs.FactLemmas.{true_false, none_is_some, same_some, folder_is, not_full}
 use Rattle.hfs_item_table.proofs.Members.{In, has_from_in}
 use Rattle.hfs_item_table.specs.declared.place.Place.{Place}
 use Rattle.std.specs.Prelude.{take, ◌*◌}
@@ -32,7 +32,7 @@ use Rattle.hfs_item_table.specs.declared.table.Table.{Table}
 use Rattle.hfs_item_table.specs.Places.{place, place_cmp}
 use Rattle.hfs_item_table.specs.Tables.{bytes_of, IsForkIn, item_of, kind_of, items_of, volume_of, AreNames, IsTable, IsKindOf}
 use Rattle.hfs_item_table.specs.Edits.{Writes, Leaves, HasRoom, kind_with_child, with_child}
-use Rattle.hfs_item_table.specs.Shown.{items, get_items, put_item}
+use Rattle.hfs_item_table.proofs.ShownLemmas.{items, get_items, put_item}
 use Rattle.hfs_item_table.proofs.Named.{entry_has, child_named_is, tied, is_level}
 use Rattle.hfs_item_table.proofs.Edited.{names_still, kind_still, picked_map}
 use Rattle.hfs_item_table.proofs.Counted.{one, count_new}

@@ -13,7 +13,7 @@ use Rattle.hfs_model.specs.Volume.{Items}
 use Rattle.hfs_model.specs.Children.{valence}
 use Rattle.hfs_model.specs.Lawful.{Has}
 use Rattle.hfs_item_table.proofs.Counts.{count_edited}
-use Rattle.hfs_item_table.specs.Facts.{none_is_some, same_some}
+use Rattle.hfs_item_table.proofs.FactLemmas.{none_is_some, same_some}
 use Rattle.hfs_item_table.specs.declared.place.Place.{Place}
 use Rattle.hfs_item_table.specs.declared.row.Row.{Row}
 use Rattle.hfs_item_table.specs.declared.row.RowKind.{RowKind}
@@ -22,7 +22,7 @@ use Rattle.hfs_item_table.specs.declared.table.Table.{Table}
 use Rattle.hfs_item_table.specs.Places.{place, place_cmp}
 use Rattle.hfs_item_table.specs.Tables.{item_of, items_of, AreNames, IsTable, IsKindOf}
 use Rattle.hfs_item_table.specs.Edits.{Writes}
-use Rattle.hfs_item_table.specs.Shown.{get_items}
+use Rattle.hfs_item_table.proofs.ShownLemmas.{get_items}
 use Rattle.hfs_item_table.proofs.LookedUp.{get_of}
 
 -- the number of a folder's children alone depends on the items

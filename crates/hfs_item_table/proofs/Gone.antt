@@ -19,7 +19,7 @@ use Rattle.hfs_item_table.proofs.Chosen.{IsChild, child_chosen, chained, unlocke
 use Rattle.hfs_model.specs.Lawful.{Has}
 use Rattle.hfs_model.specs.Changes.{touched, moved, change}
 use Rattle.hfs_item_table.proofs.Counts.{count_edited}
-use Rattle.hfs_item_table.specs.Facts.{none_is_some, same_some, has_entry, not_refused, not_full}
+use Rattle.hfs_item_table.proofs.FactLemmas.{none_is_some, same_some, has_entry, not_refused, not_full}
 use Rattle.hfs_item_table.specs.declared.place.Place.{Place}
 use Rattle.hfs_item_table.specs.declared.row.Row.{Row}
 use Rattle.hfs_item_table.specs.declared.row.RowKind.{RowKind}
@@ -28,7 +28,7 @@ use Rattle.hfs_item_table.specs.declared.table.Table.{Table}
 use Rattle.hfs_item_table.specs.Places.{place, place_cmp}
 use Rattle.hfs_item_table.specs.Tables.{item_of, kind_of, items_of, volume_of, AreNames, IsTable, IsKindOf, IsForkIn}
 use Rattle.hfs_item_table.specs.Edits.{Writes, Leaves, HasRoom, Moves, kind_less_child, kind_with_child, with_child, without_child, with_name, with_parent}
-use Rattle.hfs_item_table.specs.Shown.{items, get_items, drop_item, entries_items}
+use Rattle.hfs_item_table.proofs.ShownLemmas.{items, get_items, drop_item, entries_items}
 use Rattle.hfs_item_table.proofs.Named.{entry_has, entry_at_is, tie, tied}
 use Rattle.hfs_item_table.proofs.Counted.{one, count_new}
 use Rattle.hfs_item_table.proofs.Added.{new_here, new_other}

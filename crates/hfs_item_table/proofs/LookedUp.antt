@@ -6,19 +6,20 @@ use Rattle.std.specs.FinMap as map
 use Rattle.std.specs.BTreeMap as tree
 use Rattle.std.specs.BTreeMap.{get}
 use Rattle.hfs_blocks.specs.Blocks.{block_at, block_count, length-block_at}
-use Rattle.hfs_space.specs.ForkLengths.{all_bytes, length-fork_bytes}
+use Rattle.hfs_space.specs.ForkLengths.{all_bytes}
+use Rattle.hfs_space.proofs.ForkLengthLemmas.{length-fork_bytes}
 use Rattle.std.specs.Prelude.{IfSome, ◌*◌, ◌/◌, ◌%◌, min, nat_lt, pos}
 use Rattle.hfs_fields.specs.declared.extent.Extent.{Extent}
 use Rattle.hfs_space.specs.Extents.{AreExtentsWithin}
 use Rattle.hfs_space.specs.Forks.{HasArea, blocks_each, fork_bytes, read_from}
 use Rattle.hfs_check.specs.Parts.{mdb_in}
-use Rattle.hfs_volume.specs.Layout.{same_bytes}
+use Rattle.hfs_volume.proofs.LayoutLemmas.{same_bytes}
 use Rattle.hfs_volume.specs.Sharing.{bytes_of_extents}
 use Rattle.hfs_model.specs.declared.codes.TheConstants.{END_OF_FILE}
 use Rattle.hfs_model.specs.declared.reply.Value.TheVariants as value
 use Rattle.hfs_model.specs.Lawful.{Has, AreLawful}
 use Rattle.hfs_model.specs.Reading.{part_of}
-use Rattle.hfs_item_table.specs.Facts.{folder_is, found_has}
+use Rattle.hfs_item_table.proofs.FactLemmas.{folder_is, found_has}
 use Rattle.hfs_model.specs.Replies.{info_of}
 use Rattle.hfs_model.specs.declared.reply.Info.{Info}
 use Rattle.hfs_model.specs.declared.reply.ItemKind.TheVariants as item_kind
@@ -32,7 +33,7 @@ use Rattle.hfs_item_table.specs.declared.row.Row.{Row}
 use Rattle.hfs_item_table.specs.declared.table.Table.{Table}
 use Rattle.hfs_item_table.specs.Places.{place, place_cmp}
 use Rattle.hfs_item_table.specs.Tables.{bytes_of, item_of, kind_of, items_of, IsForkIn, IsTable}
-use Rattle.hfs_item_table.specs.Shown.{get_items}
+use Rattle.hfs_item_table.proofs.ShownLemmas.{get_items}
 use Rattle.hfs_item_table.proofs.Named.{entry_at_is, child_named_is}
 use Rattle.hfs_item_table.proofs.Cut.{read-take}
 

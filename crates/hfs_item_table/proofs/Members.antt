@@ -12,7 +12,7 @@ use Rattle.std.proofs.lemmas.Bool.{cases_eq, eq-eqb, ne_eqb}
 use Rattle.hfs_model.specs.declared.item.Item.{Item}
 use Rattle.hfs_model.specs.Volume.{Items, Entry}
 use Rattle.hfs_model.specs.Lawful.{Has}
-use Rattle.hfs_item_table.specs.Facts.{none_is_some, same_some, true_false}
+use Rattle.hfs_item_table.proofs.FactLemmas.{none_is_some, same_some, true_false}
 
 -- x stands in the list
 abbrev pub In : {A : Type 0} → A → List A → Type 0

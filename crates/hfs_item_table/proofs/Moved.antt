@@ -14,9 +14,10 @@ use Rattle.hfs_model.specs.Volume.{Items, Entry}
 use Rattle.hfs_model.specs.Children.{entry_at, child_named, is_child_named}
 use Rattle.hfs_model.specs.Choices.{is_taken, is_other_named}
 use Rattle.hfs_model.specs.Lawful.{Has}
-use Rattle.hfs_item_table.specs.Facts.{none_is_some, same_some, true_false, found_has, no_entry, two_tests}
+use Rattle.hfs_item_table.proofs.FactLemmas.{none_is_some, same_some, true_false, found_has, no_entry, two_tests}
 use Rattle.hfs_item_table.specs.declared.place.Place.{Place}
-use Rattle.hfs_item_table.specs.Places.{place, place_cmp, place_cmp_total, level, names_level}
+use Rattle.hfs_item_table.specs.Places.{place, place_cmp, place_cmp_total}
+use Rattle.hfs_item_table.proofs.PlaceLemmas.{level, names_level}
 use Rattle.hfs_item_table.specs.Tables.{AreNames}
 use Rattle.hfs_item_table.specs.Edits.{Moves}
 use Rattle.hfs_item_table.proofs.Named.{tie, tied, is_level, level_parents, child_named_is, entry_has}

@@ -24,13 +24,13 @@ use Rattle.hfs_model.specs.Children.{entry_at, has_id, child_named, is_child_nam
 use Rattle.hfs_model.specs.Lawful.{Has, IsLawful}
 use Rattle.hfs_model.specs.Laws.{AreChildren, ChildrenAreOne}
 use Rattle.hfs_model.specs.Replies.{info_of, infos}
-use Rattle.hfs_item_table.specs.Facts.{true_false, none_is_some, same_some, found_has, no_entry, two_tests}
+use Rattle.hfs_item_table.proofs.FactLemmas.{true_false, none_is_some, same_some, found_has, no_entry, two_tests}
 use Rattle.hfs_item_table.proofs.Members.{In, in_from_contains, contains_from_in}
 use Rattle.hfs_item_table.proofs.NameOrder.{keyed, names_cmp, IsInNameOrder, pairs_rise}
 use Rattle.hfs_item_table.specs.declared.place.Place.{Place}
 use Rattle.hfs_item_table.specs.Places.{place, place_cmp, place_cmp_total}
 use Rattle.hfs_item_table.specs.Tables.{AreNames}
-use Rattle.hfs_item_table.specs.Names.{nobody, entry_or, told_under, names_under}
+use Rattle.hfs_item_table.proofs.NameLemmas.{nobody, entry_or, told_under, names_under}
 
 -- ---- the range of a folder
 

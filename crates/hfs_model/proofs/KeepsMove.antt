@@ -9,7 +9,8 @@ use Rattle.hfs_model.specs.declared.item.Item.{Item}
 use Rattle.hfs_model.specs.declared.codes.TheConstants.{NOT_A_FOLDER, BAD_MOVE, DUPLICATE, FOLDER_FULL}
 use Rattle.hfs_model.specs.Volume.{Volume, Items, Entry}
 use Rattle.hfs_model.specs.Children.{is_folder_kind, valence, entries_of}
-use Rattle.hfs_model.specs.Chains.{Leads, leads_past, last_step}
+use Rattle.hfs_model.specs.Chains.{Leads}
+use Rattle.hfs_model.proofs.ChainLemmas.{leads_past, last_step}
 use Rattle.hfs_model.specs.Lawful.{Has, IsFolder, AreLawful, IsLawful, LiesIn, parent_of}
 use Rattle.hfs_model.specs.Choices.{to_move, is_bad_move, lies_in}
 use Rattle.hfs_model.specs.Changes.{cat_move, moved, change}

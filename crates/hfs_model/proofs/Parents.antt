@@ -10,7 +10,8 @@ use Rattle.std.proofs.lemmas.List.Sums.{sum_by-cons}
 use Rattle.hfs_model.specs.declared.item.Item.{Item}
 use Rattle.hfs_model.specs.Volume.{Items, Entry}
 use Rattle.hfs_model.specs.Children.{entry_at, has_id}
-use Rattle.hfs_model.specs.Chains.{Leads, Ends, from_above, before_end, no_longer}
+use Rattle.hfs_model.specs.Chains.{Leads}
+use Rattle.hfs_model.proofs.ChainLemmas.{Ends, from_above, before_end, no_longer}
 use Rattle.hfs_model.specs.Lawful.{Has, AreLawful, LiesIn, parent_of}
 use Rattle.hfs_model.specs.Choices.{lies_in}
 use Rattle.hfs_model.proofs.Facts.{none_is_some, same_some, true_false, has_entry, no_entry}

@@ -10,7 +10,7 @@ use Rattle.hfs_fields.specs.declared.mdb.Mdb.{Mdb}
 use Rattle.hfs_blocks.specs.declared.run.Run.{Run}
 use Rattle.hfs_blocks.specs.Blocks.{run_of, nodes_in, block_at, AreRunsWithin}
 use Rattle.hfs_scans.specs.Each.{Each}
-use Rattle.hfs_scans.specs.Elements.{each-append}
+use Rattle.hfs_scans.proofs.ElementLemmas.{each-append}
 use Rattle.hfs_space.specs.ForkLaws.{block_numbers}
 use Rattle.hfs_btree.specs.Tree.{Store}
 use Rattle.hfs_space.specs.declared.fork_kind.ForkKind.{ForkKind}

@@ -12,10 +12,11 @@ use Rattle.hfs_btree.specs.Tree.{Store}
 use Rattle.hfs_btree_checks.specs.Shape.{has_counts, shape_fault}
 use Rattle.hfs_space.specs.Extents.{fork_extents}
 use Rattle.hfs_space.specs.Faults.{is_tree_file}
-use Rattle.hfs_space.specs.FileLengths.{length-tree_nodes}
+use Rattle.hfs_space.proofs.FileLengthLemmas.{length-tree_nodes}
 use Rattle.hfs_space.specs.Laws.{NoTreeFileFault}
 use Rattle.hfs_space.specs.Owners.{catalog_fork}
-use Rattle.hfs_space.specs.TreeFiles.{tree_nodes, tree_blocks, nodes_in-tree_blocks}
+use Rattle.hfs_space.specs.TreeFiles.{tree_nodes, tree_blocks}
+use Rattle.hfs_space.proofs.TreeFileLemmas.{nodes_in-tree_blocks}
 use Rattle.hfs_space.specs.TreeKeys.{ext_keys, IsExtentsTree, overflow_of}
 use Rattle.hfs_check.specs.declared.mount_fault.MountFault.{MountFault}
 use Rattle.hfs_check.specs.declared.mount_fault.MountFault.TheVariants as fault

@@ -5,15 +5,16 @@ use Rattle.std.specs.List.{flat_map}
 use Rattle.std.specs.Option.{is_none}
 use Rattle.std.proofs.lemmas.Bool.{and_parts, cases_eq}
 use Rattle.std.proofs.lemmas.List.{length-map}
-use Rattle.hfs_scans.specs.Elements.{each-append}
+use Rattle.hfs_scans.proofs.ElementLemmas.{each-append}
 use Rattle.hfs_blocks.specs.declared.run.Run.{Run}
 use Rattle.hfs_btree.specs.Header.{bit_of}
 use Rattle.hfs_blocks.specs.Blocks.{run_of, nodes_in, AreRunsWithin}
-use Rattle.hfs_blocks.specs.Layers.{Numbered, changes, AreWithin, AreWithin-nothing}
+use Rattle.hfs_blocks.specs.Layers.{Numbered, changes, AreWithin}
+use Rattle.hfs_blocks.proofs.LayerLemmas.{AreWithin-nothing}
 use Rattle.hfs_fields.specs.declared.mdb.Mdb.{Mdb}
 use Rattle.hfs_fields.specs.declared.extent.Extent.{Extent}
 use Rattle.hfs_space.specs.Faults.{is_tree_file}
-use Rattle.hfs_space.specs.FileLengths.{length-tree_nodes}
+use Rattle.hfs_space.proofs.FileLengthLemmas.{length-tree_nodes}
 use Rattle.hfs_space.specs.Laws.{NoTreeFileFault}
 use Rattle.hfs_space.specs.TreeFiles.{tree_nodes, tree_blocks}
 use Rattle.hfs_space.specs.TreeKeys.{ext_keys}
@@ -23,7 +24,8 @@ use Rattle.hfs_check.specs.Agree.{bitmap_blocks}
 use Rattle.hfs_check.specs.Faults.{mdb_fault}
 use Rattle.hfs_check.specs.Answers.{extents_check_fault}
 use Rattle.hfs_check.specs.Parts.{Blocks, mdb_in, extents_blocks, extents_nodes, catalog_extents, catalog_blocks, catalog_nodes}
-use Rattle.hfs_sparse.specs.Sparse.{sparse, HasEach, HasGrown, IsOf, StaysOf, grown-itself, grown-on, has-grown, each-grown, each-same, stays-on}
+use Rattle.hfs_sparse.specs.Sparse.{sparse, HasEach, HasGrown, IsOf, StaysOf}
+use Rattle.hfs_sparse.proofs.SparseLemmas.{grown-itself, grown-on, has-grown, each-grown, each-same, stays-on}
 use Rattle.hfs_needed.specs.Marked.{where_right, needed_of_tree}
 use Rattle.hfs_needed.specs.Needed.{AgreeOn, is_mdb_right, has_extents_file, is_extents_tree_right, has_catalog_file, needed_of_extents, needed_of_catalog, needed_of_trees, needed_blocks}
 use Rattle.hfs_needed.specs.Gathered.{LieAt, HasRead}

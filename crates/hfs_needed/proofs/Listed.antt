@@ -12,9 +12,9 @@ use Rattle.hfs_check.specs.Sound.{AreBlocksSound}
 use Rattle.hfs_check.specs.VolumeOf.{contents_in, volume_of}
 use Rattle.hfs_queries.specs.declared.reply.Detail.TheVariants as detail
 use Rattle.hfs_queries.specs.Brief.{listed_in, without_ids}
-use Rattle.hfs_queries.specs.Details.{listed_in-brief}
+use Rattle.hfs_queries.proofs.DetailLemmas.{listed_in-brief}
 use Rattle.hfs_queries.specs.Queries.{AreEntries, RecordsAreEntries}
-use Rattle.hfs_queries.specs.Replies.{lists}
+use Rattle.hfs_queries.proofs.ReplyLemmas.{lists}
 use Rattle.hfs_sparse.specs.Sparse.{sparse, IsOf}
 use Rattle.hfs_needed.specs.Laws.{AnswerSame, HoldSame}
 use Rattle.hfs_needed.specs.Gathered.{HasNeeded, IsOfKnown, GatheredIsEnough}

@@ -8,10 +8,10 @@ use Rattle.std.proofs.lemmas.Option.{none-some}
 use Rattle.hfs_node.specs.declared.fault.NodeFault.{NodeFault}
 use Rattle.hfs_node.specs.declared.node.Node.{Node}
 use Rattle.hfs_scans.specs.Each.{Each}
-use Rattle.hfs_scans.specs.Elements.{each-left, each-right, each-append, each-mono}
+use Rattle.hfs_scans.proofs.ElementLemmas.{each-left, each-right, each-append, each-mono}
 use Rattle.hfs_btree.specs.declared.header.Header as header
 use Rattle.hfs_btree.specs.declared.key.Key.{Ghosts}
-use Rattle.hfs_btree.specs.Levels.{each-spots}
+use Rattle.hfs_btree.proofs.LevelLemmas.{each-spots}
 use Rattle.hfs_btree.specs.Tree.{Store, Spot, node_in, records_of, records_in, forward_of, pair_of, pairs, children, level_below, last_level, first_of, last_of, spots, turn, under, key_at}
 use Rattle.hfs_btree.specs.Header.{header_of, header_in, record_in, chain_from, map_nodes, map_bytes, bit_of, marks, is_marked, free_nodes, depth_of, root_level, leaves, tree_content, tree_turn}
 use Rattle.hfs_btree.specs.Sound.{part_of}

@@ -23,7 +23,7 @@ use Rattle.hfs_check.specs.Laws.{NoBlocksFault}
 use Rattle.hfs_check.specs.Parts.{Blocks, mdb_in, overflow_in, catalog_in}
 use Rattle.hfs_check.specs.Sound.{AreBlocksSound}
 use Rattle.hfs_check.specs.VolumeOf.{bytes_in, contents_in, volume_of}
-use Rattle.hfs_queries.specs.NamedFiles.{answer_of, answer_of-file_named, forks_in}
+use Rattle.hfs_queries.proofs.NamedFileLemmas.{answer_of, answer_of-file_named, forks_in}
 use Rattle.hfs_queries.specs.Queries.{AreEntries, RecordsAreEntries}
 use Rattle.hfs_queries.specs.Told.{file_named, only_file, pick}
 use Rattle.hfs_sparse.specs.Sparse.{sparse, IsOf}

@@ -7,7 +7,7 @@ use Rattle.std.proofs.lemmas.List.FromFn.{length-range_with_len, get_or-range_wi
 use Rattle.std.proofs.lemmas.List.Sums.{sum_by-cons}
 use Rattle.hfs_fields.specs.declared.mdb.Mdb.{Mdb}
 use Rattle.hfs_scans.specs.Each.{Each}
-use Rattle.hfs_scans.specs.Elements.{each-at}
+use Rattle.hfs_scans.proofs.ElementLemmas.{each-at}
 use Rattle.hfs_scans.specs.First.{first_failing}
 use Rattle.hfs_space.specs.Bitmap.{bitmap_len, is_marked, is_used, count_below, clear_count}
 use Rattle.hfs_space.specs.Faults.{block_fault, free_fault, space_fault, stray_count}

@@ -5,7 +5,7 @@ use Rattle.hfs_fields.specs.declared.mdb.Mdb.{Mdb}
 use Rattle.hfs_fields.specs.declared.extent.Extent.{Extent}
 use Rattle.hfs_blocks.specs.Blocks.{nodes_in}
 use Rattle.hfs_scans.specs.Each.{Each}
-use Rattle.hfs_scans.specs.Elements.{each-left, each-right, each-mono, each-unmap}
+use Rattle.hfs_scans.proofs.ElementLemmas.{each-left, each-right, each-mono, each-unmap}
 use Rattle.hfs_node.specs.Node.{node_of}
 use Rattle.hfs_btree.specs.declared.key.Key.{Ghosts}
 use Rattle.hfs_btree.specs.Tree.{Store, node_in}

@@ -11,7 +11,7 @@ use Rattle.hfs_check.specs.Parts.{catalog_in}
 use Rattle.hfs_check.specs.Sound.{AreBlocksSound}
 use Rattle.hfs_check.specs.VolumeOf.{contents_in, volume_of}
 use Rattle.hfs_queries.specs.Queries.{RecordsAreEntries}
-use Rattle.hfs_queries.specs.Replies.{cat_infos}
+use Rattle.hfs_queries.proofs.ReplyLemmas.{cat_infos}
 use Rattle.hfs_queries.specs.Told.{cat_info}
 use Rattle.hfs_sparse.specs.Sparse.{sparse, IsOf}
 use Rattle.hfs_needed.specs.Gathered.{HasNeeded, IsOfKnown, GatheredIsEnough}

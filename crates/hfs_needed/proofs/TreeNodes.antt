@@ -7,7 +7,7 @@ use Rattle.std.proofs.lemmas.Bool.{and_parts, and_from, and_left, and_right, leb
 use Rattle.hfs_node.specs.declared.node.Node.{Node}
 use Rattle.hfs_node.specs.Node.{node_of}
 use Rattle.hfs_scans.specs.Each.{Each}
-use Rattle.hfs_scans.specs.Elements.{each-append, each-mono, each-unmap}
+use Rattle.hfs_scans.proofs.ElementLemmas.{each-append, each-mono, each-unmap}
 use Rattle.hfs_blocks.specs.declared.run.Run.{Run}
 use Rattle.hfs_blocks.specs.Blocks.{run_of, nodes_in}
 use Rattle.hfs_blocks.specs.Layers.{Numbered, changes}
@@ -20,7 +20,8 @@ use Rattle.hfs_btree_checks.specs.ShapeSteps.{is_met, map_part}
 use Rattle.hfs_btree_checks.proofs.ShapeTurn.{met-more}
 use Rattle.hfs_btree_checks.proofs.ShapeChain.{chain-step, chain-goes-on}
 use Rattle.hfs_btree_checks.proofs.ShapeMaps.{unmet, chain-fault-is, wrong-chain, no-bits}
-use Rattle.hfs_sparse.specs.Sparse.{zero_block, sparse, HasEach, HasGrown, each-grown, each-same, has-grown}
+use Rattle.hfs_sparse.specs.Sparse.{zero_block, sparse, HasEach, HasGrown}
+use Rattle.hfs_sparse.proofs.SparseLemmas.{each-grown, each-same, has-grown}
 use Rattle.hfs_needed.specs.Marked.{where_right, chain_of, map_chain, marked_of, needed_of_map, needed_of_tree, IsSameNode}
 use Rattle.hfs_needed.specs.TreeReads.{nodes_of, block_for, HasNode, IsHeadOf, HasChain, IsMapOf, HasMapChain, HasMarked}
 use Rattle.hfs_needed.specs.declared.tree_header.TreeHead.{TreeHead}

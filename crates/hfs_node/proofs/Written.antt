@@ -3,12 +3,13 @@ use Rattle.std.proofs.Common.{◌≡◌, ℕ, ◌+◌, ◌-◌, ◌*◌, ◌^◌
 use Rattle.std.specs.Prelude.{slice_range}
 use Rattle.std.proofs.lemmas.Bool.{cases_eq}
 use Rattle.byteorder.specs.Endian.{big_bytes}
-use Rattle.hfs_fields.specs.Puts.{IsPut, number_at-same, number_at-kept, number_at-put, slice_range-kept, slice_range-put}
+use Rattle.hfs_fields.specs.Puts.{IsPut}
+use Rattle.hfs_fields.proofs.PutLemmas.{number_at-same, number_at-kept, number_at-put, slice_range-kept, slice_range-put}
 use Rattle.hfs_node.specs.declared.node.Node.{Node}
 use Rattle.hfs_node.specs.Kind.{kind_of}
 use Rattle.hfs_node.specs.Node.{count_of, offset_of, start_of, size_of}
 use Rattle.hfs_node.specs.Laid.{AreLaid, HasHead, SameHead}
-use Rattle.hfs_node.specs.ReadBack.{start-more, start-rises, start-room, few-records}
+use Rattle.hfs_node.proofs.ReadBackLemmas.{start-more, start-rises, start-room, few-records}
 
 -- ---- one record more
 

@@ -1,6 +1,5 @@
 -- The types of nodes.
-use Rattle.std.proofs.Common.{refl}
-use Rattle.std.specs.Prelude.{◌≡◌, ℕ, ◌==◌, if◌then◌else◌, Option, Some, None}
+use Rattle.std.specs.Prelude.{ℕ, ◌==◌, if◌then◌else◌, Option, Some, None}
 use Rattle.hfs_node.specs.declared.kind.NodeKind.{NodeKind}
 use Rattle.hfs_node.specs.declared.kind.NodeKind.TheVariants.{Index, Header, Map, Leaf}
 
@@ -14,11 +13,3 @@ byte_of Leaf = 255
 -- the kind that a type byte names
 unfoldable pub kind_of : ℕ → Option NodeKind
 kind_of byte = if byte == 0 then Some Index else (if byte == 1 then Some Header else (if byte == 2 then Some Map else (if byte == 255 then Some Leaf else None)))
-
--- each kind is named by its byte
-pub kind_of-byte_of : (kind : NodeKind) → kind_of (byte_of kind) ≡ Some kind
-unfolding kind_of
-kind_of-byte_of Index = refl
-kind_of-byte_of Header = refl
-kind_of-byte_of Map = refl
-kind_of-byte_of Leaf = refl

@@ -6,7 +6,7 @@ use crate::records::Records;
 
 impl Records {
     /// The bytes that the records and their offsets take in a node.
-    #[tactic(auto, using(crate::specs::Sizes::sizes))]
+    #[tactic(auto, using(crate::proofs::SizeLemmas::sizes))]
     pub fn size(&self) -> usize
         requires { size_of self.now < 65536 }
         ensures { result ≡ size_of self.now }
@@ -21,7 +21,7 @@ impl Records {
     /// The place at which records that are too many for one node are cut, so that each part fits one: the
     /// first place with half of the bytes before it. A record has at most 140 bytes, and with their
     /// offsets the records take at most 638, as those of a full node and one more do.
-    #[tactic(auto, using(crate::specs::Sizes::sizes))]
+    #[tactic(auto, using(crate::proofs::SizeLemmas::sizes))]
     pub fn cut_place(&self) -> usize
         requires over { 496 < size_of self.now }
         requires little { size_of self.now ≤ 638 }

@@ -25,7 +25,7 @@ pub struct Node {
 }
 
 /// Whether the records and their offsets have room in a node.
-#[tactic(auto, using(crate::specs::Sizes::sizes))]
+#[tactic(auto, using(crate::proofs::SizeLemmas::sizes))]
 pub fn fits(node: &Node) -> bool
     ensures { IsTrue result ↔ Fits node.now }
 {

@@ -5,7 +5,8 @@ use Rattle.hfs_blocks.specs.Blocks.{block_at}
 use Rattle.hfs_space.specs.ForkLengths.{all_bytes}
 use Rattle.hfs_space.specs.Forks.{fork_bytes}
 use Rattle.hfs_check.specs.Parts.{mdb_in}
-use Rattle.hfs_volume.specs.Layout.{SameLayout, same_bytes}
+use Rattle.hfs_volume.specs.Layout.{SameLayout}
+use Rattle.hfs_volume.proofs.LayoutLemmas.{same_bytes}
 use Rattle.hfs_volume.specs.Sharing.{part_of_extents}
 use Rattle.hfs_item_table.specs.declared.row.RowFork.{RowFork}
 use Rattle.hfs_item_table.specs.declared.table.Table.{Table}

@@ -15,7 +15,7 @@ use Rattle.hfs_model.specs.Lawful.{IsLawful}
 use Rattle.hfs_store.specs.PlainVolume.{AreEntries, Rises, unlocked_volume, with_locks}
 use Rattle.hfs_item_table.specs.declared.row.Row.{Row}
 use Rattle.hfs_item_table.specs.declared.table.Table.{Table}
-use Rattle.hfs_item_table.specs.Shown.{entries_items, get_items}
+use Rattle.hfs_item_table.proofs.ShownLemmas.{entries_items, get_items}
 use Rattle.hfs_item_table.specs.Tables.{IsTable, item_of, items_of, shown, volume_of}
 use Rattle.hfs_plain.specs.Entries.{row_entries}
 

@@ -17,10 +17,10 @@ use Rattle.hfs_catalog.specs.declared.item.CatalogItem.{CatalogItem}
 use Rattle.hfs_catalog.specs.Records.{Record, Catalog, item_with, has_thread, is_thread_of}
 use Rattle.hfs_catalog.specs.Sound.{IsSoundCatalog}
 use Rattle.hfs_catalog.specs.Lookups.{catalog_item, thread_of}
-use Rattle.hfs_scans.specs.Members.{each_in}
+use Rattle.hfs_scans.proofs.MemberLemmas.{each_in}
 use Rattle.hfs_queries.specs.Told.{placed, resolved}
-use Rattle.hfs_queries.specs.Found.{is_some-find, is_some-option_map}
-use Rattle.hfs_queries.specs.Folders.{found_with, folder_not_file}
+use Rattle.hfs_queries.proofs.FoundLemmas.{is_some-find, is_some-option_map}
+use Rattle.hfs_queries.proofs.FolderLemmas.{found_with, folder_not_file}
 
 -- whether the ID has a thread, by the look-up of it
 pub thread_there : (catalog : Catalog) (id : ℕ) (found : Option ThreadRecord) → found ≡ option_map (λ (r : Record). thread_record_of r.1) (thread_of catalog id) → has_thread catalog id ≡ is_some found

@@ -15,7 +15,7 @@ use Rattle.hfs_catalog.specs.declared.item.CatalogItem.{CatalogItem}
 use Rattle.hfs_catalog.specs.Records.{Record, Catalog}
 use Rattle.hfs_catalog.specs.Lookups.{catalog_item, child_named}
 use Rattle.hfs_queries.specs.Told.{is_folder, only_file, file_named}
-use Rattle.hfs_queries.specs.Folders.{folder_not_file}
+use Rattle.hfs_queries.proofs.FolderLemmas.{folder_not_file}
 
 same_file : (f g : FileRecord) → File f ≡ File g → f ≡ g
 same_file f g e = cc

@@ -12,9 +12,9 @@ use Rattle.hfs_catalog.specs.declared.item.CatalogItem.{CatalogItem}
 use Rattle.hfs_catalog.specs.Records.{Record, Catalog, item_with, is_child_of}
 use Rattle.hfs_catalog.specs.Sound.{IsSoundCatalog, IsRoot, IsGiven, HasPlace}
 use Rattle.hfs_catalog.specs.Lookups.{catalog_item, child_named, is_child_named}
-use Rattle.hfs_queries.specs.Folders.{HasId, found_with}
+use Rattle.hfs_queries.proofs.FolderLemmas.{HasId, found_with}
 use Rattle.hfs_queries.specs.Told.{only_folder, is_folder, folder_child}
-use Rattle.hfs_scans.specs.Members.{each_in, found_in}
+use Rattle.hfs_scans.proofs.MemberLemmas.{each_in, found_in}
 
 folder_with_id : (o : Option Record) → option_map_or (λ (r : Record). is_dir r.1) o false ≡ true → is_some (option_and_then only_folder o) ≡ true
 folder_with_id None h = absurd (true≢false (sym h))

@@ -9,7 +9,7 @@ use Rattle.hfs_fields.specs.declared.dir_record.DirRecord.{DirRecord}
 use Rattle.hfs_fields.specs.declared.file_record.FileRecord.{FileRecord}
 use Rattle.hfs_fields.specs.declared.file_record.ForkRecord.{ForkRecord}
 use Rattle.hfs_scans.specs.Each.{Each}
-use Rattle.hfs_scans.specs.Elements.{each-mono, each-both}
+use Rattle.hfs_scans.proofs.ElementLemmas.{each-mono, each-both}
 use Rattle.hfs_model.specs.Volume.{Entry}
 use Rattle.hfs_model.specs.Children.{valence, entries_of}
 use Rattle.hfs_model.specs.Replies.{info_of}
@@ -30,7 +30,7 @@ use Rattle.hfs_check.specs.Sound.{AreBlocksSound}
 use Rattle.hfs_check.specs.VolumeOf.{bytes_in, contents_in, volume_in}
 use Rattle.hfs_queries.specs.Told.{IsCatalog, folder_info, file_info, body_info, told}
 use Rattle.hfs_queries.specs.Queries.{AreEntries, RecordsAreEntries, CatalogsAreSound}
-use Rattle.hfs_space.specs.ForkLengths.{length-fork_bytes}
+use Rattle.hfs_space.proofs.ForkLengthLemmas.{length-fork_bytes}
 
 -- ---- what is told of a folder
 

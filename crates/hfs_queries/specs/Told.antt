@@ -116,11 +116,6 @@ indexed catalog dir index =
     else if not (is_folder catalog dir) then refusal NOT_A_FOLDER
     else option_map_or (λ (info : Info). success (value.One info)) (slice_get (child_infos catalog dir) (index - 1)) (refusal NOT_FOUND)
 
-abbrev pub listed : Catalog → ℕ → Reply
-listed catalog dir =
-    if not (is_folder catalog dir) then refusal NOT_A_FOLDER
-    else success (value.Many (child_infos catalog dir))
-
 -- ---- file IDs
 
 -- where a file with a thread stands: -1302 of a folder, -1300 of a file without one

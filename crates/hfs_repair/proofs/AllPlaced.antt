@@ -12,8 +12,8 @@ use Rattle.hfs_scans.specs.Each.{Each}
 use Rattle.hfs_btree.specs.Tree.{Store, records_in}
 use Rattle.hfs_btree.specs.Header.{header_in, free_nodes, leaves, tree_content}
 use Rattle.hfs_btree.specs.Sound.{HasStructure}
-use Rattle.hfs_btree.specs.Decoded.{decoded-within}
-use Rattle.hfs_btree.specs.Descent.{leaf-node}
+use Rattle.hfs_btree.proofs.DecodedLemmas.{decoded-within}
+use Rattle.hfs_btree.proofs.DescentLemmas.{leaf-node}
 use Rattle.hfs_space.specs.ForkLaws.{block_numbers}
 use Rattle.hfs_space.specs.TreeFiles.{node_count, tree_nodes, tree_blocks}
 use Rattle.hfs_space.specs.TreeKeys.{ext_keys}

@@ -14,9 +14,9 @@ use Rattle.hfs_scans.specs.Each.{Each}
 use Rattle.hfs_btree.specs.Tree.{Store, first_of, forward_of, pair_of, pairs, records_of}
 use Rattle.hfs_btree.specs.Header.{header_in, leaves, tree_content}
 use Rattle.hfs_btree.specs.Sound.{HasStructure, IsRight}
-use Rattle.hfs_btree.specs.Decoded.{records-read, read-in, decoded-within}
-use Rattle.hfs_btree.specs.Descent.{leaf-node, leaf-entries}
-use Rattle.hfs_btree.specs.Found.{behind-is}
+use Rattle.hfs_btree.proofs.DecodedLemmas.{records-read, read-in, decoded-within}
+use Rattle.hfs_btree.proofs.DescentLemmas.{leaf-node, leaf-entries}
+use Rattle.hfs_btree.proofs.FoundLemmas.{behind-is}
 use Rattle.hfs_catalog.specs.Tree.{cat_keys}
 use Rattle.hfs_repair.specs.Fields.{PlacedNumber}
 use Rattle.hfs_repair.specs.Placed.{is_wrong, placed_from, placed_in_leaf, placed_valences}

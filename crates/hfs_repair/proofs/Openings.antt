@@ -9,11 +9,11 @@ use Rattle.hfs_fields.specs.declared.extent.Extent.{Extent}
 use Rattle.hfs_btree.specs.declared.key.Key.{Ghosts}
 use Rattle.hfs_btree.specs.Tree.{Store}
 use Rattle.hfs_btree.specs.Sound.{IsSound}
-use Rattle.hfs_btree.specs.Decoded.{decoded-within}
+use Rattle.hfs_btree.proofs.DecodedLemmas.{decoded-within}
 use Rattle.hfs_btree_checks.specs.Shape.{shape_fault, ◌or_else◌}
-use Rattle.hfs_btree_checks.specs.ShapeLaw.{shape-law, structure-law}
+use Rattle.hfs_btree_checks.proofs.ShapeLawLemmas.{shape-law, structure-law}
 use Rattle.hfs_btree_checks.specs.Order.{key_fault, order_fault}
-use Rattle.hfs_btree_checks.specs.OrderLaw.{order-law}
+use Rattle.hfs_btree_checks.proofs.OrderLawLemmas.{order-law}
 use Rattle.hfs_space.specs.Extents.{fork_extents}
 use Rattle.hfs_space.specs.TreeKeys.{ext_keys, overflow_of}
 use Rattle.hfs_catalog.specs.Tree.{cat_keys}

@@ -10,17 +10,18 @@ use Rattle.hfs_btree.specs.declared.header.Header.{Header}
 use Rattle.hfs_btree.specs.declared.key.Key.{Ghosts}
 use Rattle.hfs_btree.specs.Pairs.{Pairs}
 use Rattle.hfs_scans.specs.Each.{Each}
-use Rattle.hfs_scans.specs.Elements.{each-mono}
+use Rattle.hfs_scans.proofs.ElementLemmas.{each-mono}
 use Rattle.hfs_btree.specs.Tree.{Store, Spot, node_in, records_of, forward_of, key_at}
 use Rattle.hfs_btree.specs.Header.{header_of, header_in, record_in, depth_of, map_nodes, free_nodes, tree_content, tree_turn}
 use Rattle.hfs_btree.specs.Sound.{HasStructure, IsMapNode, IsRight, IsOrdered}
 use Rattle.hfs_btree.specs.Pairs.{Rises}
 use Rattle.hfs_btree_checks.specs.Order.{first_node, has_keys, key_fault, order_fault}
 use Rattle.hfs_btree_checks.specs.Counts.{in_field}
-use Rattle.hfs_btree_checks.specs.OrderLaw.{order-law}
-use Rattle.hfs_btree_edits.specs.Stored.{HasHeaderPut, HasNewHeader, IsRecounted, IsSame}
-use Rattle.hfs_btree_edits.specs.Headed.{free-is, map_nodes-is}
-use Rattle.hfs_btree_edits.specs.Reheaded.{recounted-turn, recounted-content, recounted-structure, recounted-keys}
+use Rattle.hfs_btree_checks.proofs.OrderLawLemmas.{order-law}
+use Rattle.hfs_btree_edits.specs.Stored.{HasHeaderPut, IsSame}
+use Rattle.hfs_btree_edits.proofs.StoredLemmas.{HasNewHeader, IsRecounted}
+use Rattle.hfs_btree_edits.proofs.HeadedLemmas.{free-is, map_nodes-is}
+use Rattle.hfs_btree_edits.proofs.ReheadedLemmas.{recounted-turn, recounted-content, recounted-structure, recounted-keys}
 use Rattle.hfs_repair.specs.Recounted.{IsRecountOf}
 
 -- ---- the keys

@@ -2,7 +2,7 @@
 use Rattle.std.proofs.Common.{◌≡◌, ℕ, ◌+◌, ◌-◌, ◌*◌, ◌/◌, ◌%◌, ◌<◌, ◌≤◌, not, List, sym, ap, ◌∙◌, arith}
 use Rattle.std.specs.Prelude.{min}
 use Rattle.hfs_space.specs.Bitmap.{is_marked, is_used, count_below, clear_count}
-use Rattle.hfs_space.specs.Counting.{count_below-add, count_below-same, count_below-le}
+use Rattle.hfs_space.proofs.CountingLemmas.{count_below-add, count_below-same, count_below-le}
 
 pub clear-block : (blocks : ℕ → List ℕ) (start total i bits : ℕ) → bits ≡ min 4096 (total - i * 4096) → 4096 * i < total
     → clear_count blocks start (min total (4096 * (i + 1))) ≡ clear_count blocks start (min total (4096 * i)) + count_below (λ j. not (is_marked (blocks (start + i)) j)) bits

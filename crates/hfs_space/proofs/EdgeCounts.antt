@@ -11,7 +11,8 @@ use Rattle.hfs_space.specs.declared.owners.Edge.{Edge}
 use Rattle.hfs_space.specs.declared.owners.Edge.TheVariants.{First, Behind}
 use Rattle.hfs_space.specs.Extents.{extent_blocks}
 use Rattle.hfs_space.specs.Owners.{owners}
-use Rattle.hfs_space.specs.Edges.{block_at, edge_count, edges_before}
+use Rattle.hfs_space.specs.Edges.{block_at, edge_count}
+use Rattle.hfs_space.proofs.EdgeLemmas.{edges_before}
 
 -- ---- counting edges
 

@@ -5,7 +5,8 @@ use Rattle.std.proofs.lemmas.List.{take_all, drop_more, drop_all, drop-drop}
 use Rattle.hfs_fields.specs.declared.extent.Extent.{Extent}
 use Rattle.hfs_fields.specs.declared.mdb.Mdb.{Mdb}
 use Rattle.hfs_space.specs.Extents.{IsExtentWithin}
-use Rattle.hfs_space.specs.ForkLengths.{all_bytes, all_bytes-cons, all_bytes-nil, length-extent_bytes}
+use Rattle.hfs_space.specs.ForkLengths.{all_bytes, all_bytes-cons, all_bytes-nil}
+use Rattle.hfs_space.proofs.ForkLengthLemmas.{length-extent_bytes}
 use Rattle.hfs_space.specs.Forks.{HasArea, blocks_each, extent_bytes, fork_bytes, read_from}
 use Rattle.hfs_space.proofs.Pieces.{drop_past, read-append, read-take}
 

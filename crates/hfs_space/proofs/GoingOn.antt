@@ -8,7 +8,7 @@ use Rattle.hfs_fields.specs.declared.extent.Extent.{Extent}
 use Rattle.hfs_fields.specs.Keys.{ext_cmp}
 use Rattle.hfs_btree.specs.Pairs.{Rises, lookup}
 use Rattle.hfs_space.specs.Extents.{Overflow, block_total, record_extents, run_on, extents_from, fork_extents}
-use Rattle.hfs_space.specs.Lookups.{key_at, found_extents, then_on, extents_from-rising}
+use Rattle.hfs_space.proofs.LookupLemmas.{key_at, found_extents, then_on, extents_from-rising}
 
 module _ (overflow : Overflow) (rises : Rises ext_cmp overflow) (file fork block : ℕ) where
   abbrev found : Option (List ℕ)

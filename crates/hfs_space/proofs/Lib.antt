@@ -18,3 +18,12 @@ pub mod Copied
 pub mod UsedMarks
 pub mod ForkFaults
 pub mod OwnedAll
+pub mod BitmapLawLemmas
+pub mod CountingLemmas
+mod EdgeLemmas
+pub mod FileLengthLemmas
+mod FileListLemmas
+pub mod ForkLawLemmas
+pub mod ForkLengthLemmas
+mod LookupLemmas
+pub mod TreeFileLemmas

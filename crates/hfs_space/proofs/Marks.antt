@@ -9,7 +9,7 @@ use Rattle.std.proofs.lemmas.Nat.Bits.{bit_at_lowest, bit_at-suc, bit_at-lt, bit
 use Rattle.std.proofs.lemmas.Bool.{cases_eq}
 use Rattle.std.proofs.lemmas.List.{get_or-take, get_or-set_same, get_or-set_other}
 use Rattle.hfs_space.specs.Bitmap.{is_marked, count_below}
-use Rattle.hfs_space.specs.Counting.{count_below-add, count_below-same, count_below-suc}
+use Rattle.hfs_space.proofs.CountingLemmas.{count_below-add, count_below-same, count_below-suc}
 
 -- the first k of these numbers together
 abbrev sum_to : ℕ → (ℕ → ℕ) → ℕ

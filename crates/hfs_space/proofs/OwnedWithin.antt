@@ -7,7 +7,7 @@ use Rattle.hfs_fields.specs.declared.key.CatKey.{CatKey}
 use Rattle.hfs_fields.specs.declared.key.ExtKey.{ExtKey}
 use Rattle.hfs_btree.specs.Pairs.{Pairs}
 use Rattle.hfs_scans.specs.Each.{Each}
-use Rattle.hfs_scans.specs.Elements.{each-append, each-mono}
+use Rattle.hfs_scans.proofs.ElementLemmas.{each-append, each-mono}
 use Rattle.hfs_space.specs.Extents.{Overflow, record_extents, extent_blocks, IsExtentWithin}
 use Rattle.hfs_space.specs.Owners.{Fork, forks_of, all_forks, catalog_fork, extents_in, is_bad_blocks, bad_extents, owned_extents, owned_blocks}
 use Rattle.hfs_space.specs.Sound.{IsTreeFile, IsForkSound, IsOverflowSound, AreForksSound}

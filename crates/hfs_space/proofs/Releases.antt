@@ -2,7 +2,7 @@
 use Rattle.std.proofs.Common.{◌≡◌, ◌≢◌, ℕ, ◌+◌, ◌-◌, ◌*◌, ◌/◌, ◌%◌, ◌<◌, ◌≤◌, ◌⊎◌, inl, inr, ⊎_elim, false, List, cond, sym, ap, ◌∙◌, arith, refl}
 use Rattle.std.specs.Prelude.{min, max}
 use Rattle.std.proofs.lemmas.Bool.{cases_eq, eq-eqb, ne_eqb}
-use Rattle.hfs_blocks.specs.Layers.{with_block}
+use Rattle.hfs_blocks.proofs.LayerLemmas.{with_block}
 use Rattle.hfs_space.specs.Bitmap.{is_marked, is_used}
 
 -- the bits from first up to end are clear below the bits of block i of the bitmap, and everything else is as it was

@@ -1,8 +1,7 @@
 -- The file of a tree: its nodes, one in each logical block, cut at the file's size.
-use Rattle.std.proofs.Common.{Vec, Global, sym, ap, ◌∙◌}
-use Rattle.std.specs.Prelude.{◌≡◌, ℕ, ◌+◌, ◌/◌, List, map, take}
+use Rattle.std.proofs.Common.{Vec, Global}
+use Rattle.std.specs.Prelude.{◌≡◌, ℕ, ◌+◌, ◌/◌, List, take}
 use Rattle.std.specs.List.{flat_map}
-use Rattle.std.proofs.lemmas.List.{take-map}
 use Rattle.hfs_fields.specs.declared.extent.Extent.{Extent}
 use Rattle.hfs_fields.specs.declared.mdb.Mdb.{Mdb}
 use Rattle.hfs_blocks.specs.declared.run.Run.{Run}
@@ -21,12 +20,6 @@ tree_nodes blocks mdb extents size = take (node_count size) (file_blocks blocks 
 -- the logical blocks in which these nodes lie, by their numbers
 unfoldable pub tree_blocks : Mdb → List Extent → ℕ → List ℕ
 tree_blocks mdb extents size = take (node_count size) (block_numbers mdb extents)
-
--- what lies in runs of these blocks is the file's nodes, whatever the blocks hold
-pub nodes_in-tree_blocks : (blocks : ℕ → List ℕ) (mdb : Mdb) (extents : List Extent) (size : ℕ) (runs : List Run)
-    → flat_map run_of runs ≡ tree_blocks mdb extents size → nodes_in blocks runs ≡ tree_nodes blocks mdb extents size
-unfolding nodes_in tree_nodes tree_blocks
-nodes_in-tree_blocks blocks mdb extents size runs e = ap (map blocks) e ∙ sym (take-map blocks (node_count size) (block_numbers mdb extents))
 
 -- in runs of these blocks lie the nodes of the tree's file
 abbrev pub HoldNodes : (ℕ → List ℕ) → Mdb → List Extent → ℕ → List Run → Type 0

@@ -10,7 +10,7 @@ use Rattle.std.proofs.lemmas.Bool.{eq-eqb, ne_eqb, cases_eq, true≢false}
 use Rattle.hfs_fields.specs.declared.key.ExtKey.{ExtKey}
 use Rattle.hfs_fields.specs.Keys.{ext_cmp, ext_cmp_total}
 use Rattle.hfs_scans.specs.Each.{Each}
-use Rattle.hfs_scans.specs.Elements.{each-mono}
+use Rattle.hfs_scans.proofs.ElementLemmas.{each-mono}
 use Rattle.hfs_btree.specs.Pairs.{lookup, pairs_from, Rises}
 use Rattle.hfs_btree.specs.Lookups.{first_pair}
 use Rattle.hfs_btree_edits.specs.Conditions.{IsThere}

@@ -8,7 +8,7 @@ use Rattle.std.proofs.lemmas.List.{take_more}
 use Rattle.std.proofs.lemmas.List.FromFn.{length-range_with_len}
 use Rattle.hfs_fields.specs.declared.extent.Extent.{Extent}
 use Rattle.hfs_space.specs.Bitmap.{clear_count, AreClear, KeepsOthers}
-use Rattle.hfs_space.specs.BitmapLaws.{AreUsed, clear_count-released}
+use Rattle.hfs_space.proofs.BitmapLawLemmas.{AreUsed, clear_count-released}
 use Rattle.hfs_space.specs.Extents.{extent_blocks}
 use Rattle.hfs_space.specs.Owners.{owners}
 use Rattle.hfs_space_edits.specs.Released.{HasReleased, AreAlone}

@@ -4,10 +4,11 @@ use Rattle.hfs_btree.specs.declared.key.Key.{Ghosts}
 use Rattle.hfs_btree.specs.Tree.{Store}
 use Rattle.hfs_btree.specs.Header.{header_in, own_nodes, tree_nodes}
 use Rattle.hfs_btree.specs.Sound.{IsSound, IsOther, IsStray, KeepsFrame}
-use Rattle.hfs_scans.specs.Elements.{each-append, each-left, each-right}
+use Rattle.hfs_scans.proofs.ElementLemmas.{each-append, each-left, each-right}
 use Rattle.hfs_scans.specs.Members.{In}
-use Rattle.hfs_btree_edits.specs.Behind.{nodes-behind}
-use Rattle.hfs_btree_edits.specs.KeptKeys.{own-keys, keys-hold, tree_keys}
+use Rattle.hfs_btree_edits.proofs.BehindLemmas.{nodes-behind}
+use Rattle.hfs_btree_edits.proofs.KeptKeyLemmas.{own-keys, keys-hold}
+use Rattle.hfs_btree_edits.specs.KeptKeys.{tree_keys}
 use Rattle.hfs_btree_edits.specs.Stored.{bytes_in}
 use Rattle.hfs_btree_edits.specs.Edits.{KeepsTree, HasRemoved}
 use Rattle.hfs_space_edits.specs.Dropped.{HasShrunk}

@@ -4,11 +4,13 @@ use Rattle.std.specs.Prelude.{IfSome}
 use Rattle.std.proofs.lemmas.Bool.{cases_eq}
 use Rattle.std.specs.List.{flat_map, range_with_len}
 use Rattle.hfs_scans.specs.Each.{Each}
-use Rattle.hfs_scans.specs.Elements.{each-append}
+use Rattle.hfs_scans.proofs.ElementLemmas.{each-append}
 use Rattle.hfs_blocks.specs.declared.run.Run.{Run}
 use Rattle.hfs_blocks.specs.Blocks.{run_of, block_at}
-use Rattle.hfs_blocks.specs.Layers.{Changes, Numbered, changes, with_change, AreWithin, AreWithin-with_change}
-use Rattle.hfs_sparse.specs.Sparse.{HasEach, HasGrown, IsOf, StaysOf, has-grown, each-grown, stays-on}
+use Rattle.hfs_blocks.specs.Layers.{Changes, Numbered, changes, with_change, AreWithin}
+use Rattle.hfs_blocks.proofs.LayerLemmas.{AreWithin-with_change}
+use Rattle.hfs_sparse.specs.Sparse.{HasEach, HasGrown, IsOf, StaysOf}
+use Rattle.hfs_sparse.proofs.SparseLemmas.{has-grown, each-grown, stays-on}
 
 module _ (old new : Numbered) (n : ℕ) (b : List ℕ) (is : changes new ≡ with_change (changes old) n b) where
   written : (k : ℕ) → changes new k ≡ cond (nat_eq n k) (Some b) (changes old k)

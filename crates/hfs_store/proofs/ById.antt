@@ -11,7 +11,7 @@ use Rattle.std.specs.FinMap.Entries.{by_order, put, below_all, is_sorted, is_sor
 use Rattle.hfs_model.specs.Volume.{Entry}
 use Rattle.hfs_model.specs.Children.{entry_at}
 use Rattle.hfs_model.specs.Changes.{touched}
-use Rattle.hfs_model.specs.Others.{others, remove_is}
+use Rattle.hfs_model.proofs.OtherLemmas.{others, remove_is}
 use Rattle.hfs_store.specs.PlainVolume.{Rises}
 use Rattle.hfs_model.specs.declared.item.Item.{Item}
 

@@ -8,7 +8,7 @@ use Rattle.std.proofs.lemmas.Bool.{cases_Bool, cond-false}
 use Rattle.hfs_btree.specs.Pairs.{Order, Pairs, Rises, lookup}
 use Rattle.hfs_scans.specs.Each.{Each}
 use Rattle.hfs_btree_edits.specs.Edits.{IsAboveFirst}
-use Rattle.hfs_btree_edits.specs.EditedPairs.{less-equal}
+use Rattle.hfs_btree_edits.proofs.EditedPairLemmas.{less-equal}
 
 equal-of : (o : Ordering) → is_eq o ≡ true → o ≡ Equal
 equal-of Less e = cc

@@ -2,3 +2,4 @@ pub mod Numbers
 pub mod Finder
 pub mod Opened
 pub mod Made
+mod OpenedLemmas

@@ -10,7 +10,8 @@ use Rattle.hfs_fields.specs.Order.{same_name}
 use Rattle.hfs_fields.specs.Records.{is_dir, is_file, item_id, dir_record_of, file_record_of}
 use Rattle.hfs_blocks.specs.Blocks.{block_at, block_count}
 use Rattle.hfs_scans.specs.Each.{Each}
-use Rattle.hfs_scans.specs.Members.{In, each_in}
+use Rattle.hfs_scans.specs.Members.{In}
+use Rattle.hfs_scans.proofs.MemberLemmas.{each_in}
 use Rattle.hfs_model.specs.declared.item.Item.{Item}
 use Rattle.hfs_model.specs.Volume.{Items, Entry}
 use Rattle.hfs_model.specs.Children as model
@@ -29,7 +30,8 @@ use Rattle.hfs_check.specs.Parts.{mdb_in, overflow_in, catalog_in}
 use Rattle.hfs_check.specs.Sound.{IsSound}
 use Rattle.hfs_check.specs.VolumeOf.{contents_in, volume_in, volume_of}
 use Rattle.hfs_fields.specs.declared.mdb.Mdb.{Mdb}
-use Rattle.hfs_volume.specs.Layout.{SameLayout, same_layout}
+use Rattle.hfs_volume.specs.Layout.{SameLayout}
+use Rattle.hfs_volume.proofs.LayoutLemmas.{same_layout}
 use Rattle.hfs_volume.specs.Mounted.{AreForksIn}
 use Rattle.hfs_volume.specs.Sharing.{ForksStay, FileForksStay}
 use Rattle.hfs_view.specs.declared.opening.Maps.{Maps}
@@ -39,9 +41,9 @@ use Rattle.hfs_item_table.specs.Places.{place, place_cmp}
 use Rattle.hfs_item_table.specs.Tables as tables
 use Rattle.hfs_item_table.specs.Tables.{item_of, items_of, IsTable, IsKindOf, AreNames}
 use Rattle.hfs_view.specs.Opened.{IsRight, AreRowsOf, table_over}
-use Rattle.hfs_item_table.specs.Facts.{none_is_some, same_some, found_has, no_entry, two_tests}
-use Rattle.hfs_item_table.specs.Places.{level, names_level}
-use Rattle.hfs_item_table.specs.Shown.{get_items}
+use Rattle.hfs_item_table.proofs.FactLemmas.{none_is_some, same_some, found_has, no_entry, two_tests}
+use Rattle.hfs_item_table.proofs.PlaceLemmas.{level, names_level}
+use Rattle.hfs_item_table.proofs.ShownLemmas.{get_items}
 
 each_of : {A : Type 0} (P : A → Type 0) (xs : List A) → ((x : A) → In x xs → P x) → Each P xs
 each_of P [] f = tt

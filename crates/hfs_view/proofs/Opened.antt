@@ -21,7 +21,7 @@ use Rattle.hfs_model.specs.Volume.{Items}
 use Rattle.std.specs.FinMap as finite
 use Rattle.hfs_model.specs.Children.{valence}
 use Rattle.hfs_scans.specs.Each.{Each}
-use Rattle.hfs_scans.specs.Elements.{each-right}
+use Rattle.hfs_scans.proofs.ElementLemmas.{each-right}
 use Rattle.hfs_fields.specs.declared.dir_record.DirRecord.{DirRecord}
 use Rattle.hfs_space.specs.Extents.{fork_byte, AreExtentsWithin, block_total}
 use Rattle.hfs_space.specs.Forks.{fork_bytes}
@@ -43,8 +43,8 @@ use Rattle.hfs_item_table.specs.declared.row.RowKind.TheVariants.{File as FileRo
 use Rattle.hfs_item_table.specs.Places.{place, place_cmp}
 use Rattle.hfs_item_table.specs.Tables.{bytes_of, item_of, IsForkIn, IsKindOf}
 use Rattle.hfs_view.specs.Opened.{IsRight, Enters, AreRows, AreRowsOf}
-use Rattle.hfs_item_table.specs.Facts.{same_some}
-use Rattle.hfs_item_table.specs.Shown.{option_map_cond}
+use Rattle.hfs_item_table.proofs.FactLemmas.{same_some}
+use Rattle.hfs_item_table.proofs.ShownLemmas.{option_map_cond}
 
 -- ---- a file's row
 

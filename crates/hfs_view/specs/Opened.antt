@@ -12,7 +12,6 @@ use Rattle.hfs_fields.specs.declared.key.CatKey.{CatKey}
 use Rattle.hfs_fields.specs.declared.mdb.Mdb.{Mdb}
 use Rattle.hfs_fields.specs.Records.{is_dir, is_file, item_id, is_bit_set, dir_record_of, file_record_of}
 use Rattle.hfs_model.specs.declared.call.Fork.{Fork}
-use Rattle.hfs_model.specs.declared.item.Item.{Item}
 use Rattle.hfs_scans.specs.Each.{Each}
 use Rattle.hfs_model.specs.Volume.{Items}
 use Rattle.hfs_model.specs.Children.{valence}
@@ -85,11 +84,6 @@ ShowsFile image threaded key file row =
 -- its forks lie in the image's volume
 abbrev pub HasForksIn : List ℕ → Row → Type 0
 HasForksIn image row = (items : Items) (id : ℕ) → IsKindOf items (mdb_in (block_at image)) id row.kind
-
--- the row shows this item, and has its children's number or forks that lie in the volume
-pub record Shows (base : List ℕ) (mdb : Mdb) (items : Items) (id : ℕ) (item : Item) (row : Row) : Type 0 where
-  pub item_is : item_of base mdb row ≡ item
-  pub kind : IsKindOf items mdb id row.kind
 
 -- a row more, under its ID and at its place
 pub record Enters (id : ℕ) (row : Row) (old new : Maps) : Type 0 where

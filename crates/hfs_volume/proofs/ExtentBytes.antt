@@ -7,7 +7,8 @@ use Rattle.std.proofs.Math.Nat.{add-mul}
 use Rattle.hfs_fields.specs.declared.extent.Extent.{Extent}
 use Rattle.hfs_fields.specs.declared.mdb.Mdb.{Mdb}
 use Rattle.hfs_space.specs.Extents.{IsExtentWithin, AreExtentsWithin, block_total}
-use Rattle.hfs_space.specs.ForkLengths.{all_bytes, all_bytes-cons, all_bytes-nil, length-extent_bytes}
+use Rattle.hfs_space.specs.ForkLengths.{all_bytes, all_bytes-cons, all_bytes-nil}
+use Rattle.hfs_space.proofs.ForkLengthLemmas.{length-extent_bytes}
 use Rattle.hfs_space.specs.Forks.{HasArea, blocks_each, extent_bytes}
 
 -- ---- how many there are

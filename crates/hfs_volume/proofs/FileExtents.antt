@@ -9,7 +9,8 @@ use Rattle.hfs_fields.specs.declared.file_record.FileRecord.{FileRecord}
 use Rattle.hfs_fields.specs.Records.{is_dir, is_file, is_item, dir_record_of, file_record_of}
 use Rattle.hfs_blocks.specs.Blocks.{block_at}
 use Rattle.hfs_scans.specs.Each.{Each}
-use Rattle.hfs_scans.specs.Members.{In, each_in, found_in}
+use Rattle.hfs_scans.specs.Members.{In}
+use Rattle.hfs_scans.proofs.MemberLemmas.{each_in, found_in}
 use Rattle.hfs_model.specs.declared.call.Fork.{Fork}
 use Rattle.hfs_model.specs.declared.call.Fork.TheVariants.{DataFork, ResFork}
 use Rattle.hfs_model.specs.declared.item.File.{File}
@@ -31,7 +32,8 @@ use Rattle.hfs_catalog.specs.Lookups.{catalog_item}
 use Rattle.hfs_check.specs.Agree.{Agrees}
 use Rattle.hfs_check.specs.Parts.{mdb_in, overflow_in, catalog_in}
 use Rattle.hfs_check.specs.VolumeOf.{bytes_in, contents_in, volume_in, volume_of}
-use Rattle.hfs_volume.specs.Layout.{SameLayout, same_layout, same_bytes}
+use Rattle.hfs_volume.specs.Layout.{SameLayout}
+use Rattle.hfs_volume.proofs.LayoutLemmas.{same_layout, same_bytes}
 use Rattle.hfs_volume.specs.Mounted.{AreForksIn, fork_record}
 use Rattle.hfs_volume.specs.Sharing.{file_extents, ForksStay, FileForksStay, HasFile, AreExtentsOf, HaveFork, bytes_of_extents}
 use Rattle.hfs_queries.specs.Told.{pick}

@@ -17,3 +17,4 @@ pub mod Stepping
 pub mod Anew
 pub mod Outcomes
 pub mod RunSteps
+pub mod LayoutLemmas

@@ -8,7 +8,7 @@ use Rattle.hfs_fields.specs.declared.mdb.Mdb.{Mdb}
 use Rattle.hfs_blocks.specs.Blocks.{block_at, block_count, length-block_at}
 use Rattle.hfs_space.specs.Extents.{AreExtentsWithin, block_total}
 use Rattle.hfs_space.specs.Forks.{HasArea, file_blocks, joined, fork_bytes}
-use Rattle.hfs_space.specs.ForkLengths.{length-fork_bytes}
+use Rattle.hfs_space.proofs.ForkLengthLemmas.{length-fork_bytes}
 use Rattle.hfs_volume.specs.Image.{ImageValue}
 use Rattle.hfs_volume.specs.LeftBytes.{IsOpenFork}
 

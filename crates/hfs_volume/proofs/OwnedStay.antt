@@ -8,14 +8,15 @@ use Rattle.hfs_fields.specs.declared.extent.Extent.{Extent}
 use Rattle.hfs_fields.specs.Records.{is_file, file_record_of}
 use Rattle.hfs_blocks.specs.Blocks.{block_at, run_of}
 use Rattle.hfs_scans.specs.Each.{Each}
-use Rattle.hfs_scans.specs.Elements.{each-append}
+use Rattle.hfs_scans.proofs.ElementLemmas.{each-append}
 use Rattle.hfs_scans.specs.Members.{In}
 use Rattle.hfs_btree.specs.Sound.{IsOther}
 use Rattle.hfs_model.specs.declared.call.Fork.{Fork}
 use Rattle.hfs_model.specs.declared.call.Fork.TheVariants.{DataFork, ResFork}
 use Rattle.hfs_space.specs.Bitmap.{bitmap_len}
 use Rattle.hfs_space.specs.Extents.{Overflow, extent_blocks}
-use Rattle.hfs_space.specs.ForkLaws.{block_numbers, fork_bytes-same}
+use Rattle.hfs_space.specs.ForkLaws.{block_numbers}
+use Rattle.hfs_space.proofs.ForkLawLemmas.{fork_bytes-same}
 use Rattle.hfs_space.specs.Forks.{blocks_each, run_in}
 use Rattle.hfs_space.specs.Owners.{forks_of_file, owned_blocks, owners}
 use Rattle.hfs_catalog.specs.Records.{Record}

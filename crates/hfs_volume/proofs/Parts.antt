@@ -8,7 +8,7 @@ use Rattle.hfs_model.specs.declared.reply.Value.TheVariants as value
 use Rattle.hfs_model.specs.Reading.{part_of}
 use Rattle.hfs_space.specs.Extents.{AreExtentsWithin, block_total}
 use Rattle.hfs_space.specs.Forks.{HasArea, fork_bytes, read_from}
-use Rattle.hfs_space.specs.ForkLengths.{length-fork_bytes}
+use Rattle.hfs_space.proofs.ForkLengthLemmas.{length-fork_bytes}
 
 -- a fork has as many bytes as its length says
 pub part_is : (blocks : ℕ → List ℕ) (total : ℕ) → ((n : ℕ) → n < total → length (blocks n) ≡ 512) → (mdb : Mdb) → HasArea mdb total → mdb.allocation_block_size % 512 ≡ 0

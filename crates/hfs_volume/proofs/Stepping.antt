@@ -7,7 +7,8 @@ use Rattle.hfs_fields.specs.Counts.{with_counts}
 use Rattle.hfs_blocks.specs.declared.run.Run.{Run}
 use Rattle.hfs_blocks.specs.Blocks.{block_at, block_count, run_of, nodes_in, AreRunsWithin}
 use Rattle.hfs_blocks.specs.Layers.{Changes, AreWithin, changes, over}
-use Rattle.hfs_space.specs.TreeFiles.{tree_blocks, nodes_in-tree_blocks}
+use Rattle.hfs_space.specs.TreeFiles.{tree_blocks}
+use Rattle.hfs_space.proofs.TreeFileLemmas.{nodes_in-tree_blocks}
 use Rattle.hfs_model.specs.declared.call.Call.{Call}
 use Rattle.hfs_model.specs.Step.{step}
 use Rattle.hfs_check.specs.Agree.{Agrees, KeepsVolume}

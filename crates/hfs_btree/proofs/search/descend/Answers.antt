@@ -3,8 +3,8 @@ use Rattle.std.specs.Prelude.{true}
 use Rattle.hfs_btree.specs.declared.header.Header.{Header}
 use Rattle.hfs_scans.specs.Each.{Each}
 use Rattle.hfs_btree.specs.Search.{leaf_under, child_for}
-use Rattle.hfs_btree.specs.Decoded.{records-read}
-use Rattle.hfs_btree.specs.Descent.{IsOnWay, root-way, way-within, way-some, way-for, index-entries, leaf-step, leaf-end}
+use Rattle.hfs_btree.proofs.DecodedLemmas.{records-read}
+use Rattle.hfs_btree.proofs.DescentLemmas.{IsOnWay, root-way, way-within, way-some, way-for, index-entries, leaf-step, leaf-end}
 use Rattle.hfs_btree.proofs.search.descend.Goals as goal
 
 pub read-requires : goal.read-requires

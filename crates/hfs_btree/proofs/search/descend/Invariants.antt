@@ -1,6 +1,6 @@
 use Rattle.std.proofs.Common.{◌≡◌, get_or, []}
 use Rattle.hfs_btree.specs.Search.{leaf_for, leaf_under}
-use Rattle.hfs_btree.specs.Descent.{IsOnWay}
+use Rattle.hfs_btree.proofs.DescentLemmas.{IsOnWay}
 use Rattle.hfs_btree.proofs.search.descend.Given as goal
 
 abbrev pub invariant-loop-below : goal.invariant-loop-below

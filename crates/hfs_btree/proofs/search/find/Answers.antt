@@ -1,6 +1,6 @@
 use Rattle.std.proofs.Common.{◌∙◌, ap}
 use Rattle.std.specs.Prelude.{Some}
-use Rattle.hfs_btree.specs.Found.{some-levels, found-entries, found-body}
+use Rattle.hfs_btree.proofs.FoundLemmas.{some-levels, found-entries, found-body}
 use Rattle.hfs_btree.proofs.search.find.Goals as goal
 
 pub body_in-requires : goal.body_in-requires

@@ -3,7 +3,7 @@ use Rattle.std.specs.Prelude.{Some}
 use Rattle.std.specs.List.{flat_map}
 use Rattle.hfs_btree.specs.Lookups.{first_pair}
 use Rattle.hfs_btree.specs.Tree.{pair_of, pairs}
-use Rattle.hfs_btree.specs.Found.{some-levels, found, found-entries, forward-is, next-here, next-behind, none-behind, next-within, next-entries, next-first}
+use Rattle.hfs_btree.proofs.FoundLemmas.{some-levels, found, found-entries, forward-is, next-here, next-behind, none-behind, next-within, next-entries, next-first}
 use Rattle.hfs_btree.proofs.search.next_after.Goals as goal
 
 pub after_in-requires : goal.after_in-requires

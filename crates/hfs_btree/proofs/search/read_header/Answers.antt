@@ -2,7 +2,7 @@ use Rattle.std.proofs.Common.{◌≡◌, ℕ, ◌<◌, ◌≤◌, List, [], ◌�
 use Rattle.std.specs.Prelude.{Ok, Err}
 use Rattle.hfs_btree.specs.Tree.{records_in, records_of, node_in}
 use Rattle.hfs_btree.specs.Header.{header_of}
-use Rattle.hfs_btree.specs.Decoded.{records-within, read-in, error-empty}
+use Rattle.hfs_btree.proofs.DecodedLemmas.{records-within, read-in, error-empty}
 use Rattle.hfs_btree.proofs.search.read_header.Goals as goal
 
 some-of : (es : List (List ℕ)) → 30 ≤ length (get_or es 0 []) → 0 < length es

@@ -1,5 +1,5 @@
 use Rattle.std.proofs.Common.{None, Some, sym, ◌∙◌}
-use Rattle.hfs_btree_checks.specs.OrderLaw.{order-law}
+use Rattle.hfs_btree_checks.proofs.OrderLawLemmas.{order-law}
 use Rattle.hfs_btree_checks.proofs.OrderWhole.{order-first, order-second}
 use Rattle.hfs_btree_checks.proofs.order.check_order.Goals as goal
 

@@ -1,5 +1,5 @@
 use Rattle.hfs_btree_checks.specs.Order.{order_fault, tree_fault}
-use Rattle.hfs_btree_checks.specs.OrderLaw.{sound-law}
+use Rattle.hfs_btree_checks.proofs.OrderLawLemmas.{sound-law}
 use Rattle.hfs_btree_checks.proofs.ShapeTurn.{passed-fault}
 use Rattle.hfs_btree_checks.proofs.OrderWhole.{tree-first, tree-second, as-fault}
 use Rattle.hfs_btree_checks.proofs.order.check_tree.Goals as goal

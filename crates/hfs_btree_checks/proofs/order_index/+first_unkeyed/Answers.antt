@@ -2,7 +2,7 @@ use Rattle.std.proofs.Common.{◌≡◌, ℕ, suc, ◌-◌, ◌∷◌, [], lengt
 use Rattle.std.proofs.lemmas.Bool.{cond-true, cond-false}
 use Rattle.hfs_btree.specs.Tree.{records_of, level_below}
 use Rattle.hfs_btree_checks.specs.Subtree.{IsSubtree}
-use Rattle.hfs_btree.specs.Decoded.{records-within}
+use Rattle.hfs_btree.proofs.DecodedLemmas.{records-within}
 use Rattle.hfs_btree_checks.proofs.ShapeNode.{decodes}
 use Rattle.hfs_btree_checks.proofs.Subtrees.{subtree-some, index-at, child-at}
 use Rattle.hfs_btree_checks.proofs.OrderTurn.{first, level-one, under-found, under-passed, under-end, under-node}

@@ -3,7 +3,7 @@ use Rattle.std.specs.Prelude.{◌&&◌}
 use Rattle.hfs_btree.specs.Pairs.{Pairs}
 use Rattle.hfs_btree.specs.Tree.{records_of, under}
 use Rattle.hfs_btree_checks.specs.Subtree.{is_above, is_at_most, HasRange, IsSubtree, is_subtree_keyed}
-use Rattle.hfs_btree.specs.Decoded.{records-within}
+use Rattle.hfs_btree.proofs.DecodedLemmas.{records-within}
 use Rattle.hfs_btree_checks.proofs.ShapeNode.{decodes}
 use Rattle.hfs_btree_checks.proofs.Subtrees.{subtree-some, leaf-records, leaf-under, index-at, child-at, seen-none, seen-more, seen-range, seen-keys, seen-all, under-is, keys-is, subtree-is}
 use Rattle.hfs_btree_checks.proofs.order_index.+read_subtree.Goals as goal

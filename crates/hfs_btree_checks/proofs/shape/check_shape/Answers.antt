@@ -2,7 +2,7 @@ use Rattle.std.proofs.Common.{ℕ, ◌<◌, ◌^◌, sym, ap, ◌∙◌, subst}
 use Rattle.hfs_btree.specs.declared.header.Header.{Header}
 use Rattle.hfs_btree_checks.specs.declared.tree_counts.TreeCounts.{TreeCounts}
 use Rattle.hfs_btree_checks.specs.Shape.{unless}
-use Rattle.hfs_btree_checks.specs.ShapeLaw.{shape-law}
+use Rattle.hfs_btree_checks.proofs.ShapeLawLemmas.{shape-law}
 use Rattle.hfs_btree_checks.specs.Counts as spec
 use Rattle.hfs_btree_checks.proofs.ShapeTurn.{passed-fault}
 use Rattle.hfs_btree_checks.proofs.ShapeWhole.{structure-first, counted-fault, tells-right}

@@ -5,7 +5,7 @@ use Rattle.hfs_btree_checks.specs.Shape.{is_header_value}
 use Rattle.hfs_btree_checks.proofs.ShapeNode.{decodes}
 use Rattle.hfs_btree_checks.proofs.ShapeTurn.{passed-fault}
 use Rattle.hfs_btree_checks.proofs.ShapeWhole.{value-parts, record-parts, header-is, has_header-is, no-header, no-nodes, headless, mapped, mapless-fault, answered, shaped-where}
-use Rattle.hfs_btree_checks.specs.ShapeLaw.{structure-law}
+use Rattle.hfs_btree_checks.proofs.ShapeLawLemmas.{structure-law}
 use Rattle.hfs_btree_checks.proofs.shape.count_tree.Goals as goal
 
 pub returns-then-count-eq0-clause-place : goal.returns-then-count-eq0-clause-place

@@ -1,6 +1,6 @@
 use Rattle.std.proofs.Common.{ap, ◌-◌, arith}
 use Rattle.hfs_btree.specs.declared.header.Header.{Header}
-use Rattle.hfs_btree_edits.specs.Claims.{some-node, claim}
+use Rattle.hfs_btree_edits.proofs.ClaimLemmas.{some-node, claim}
 use Rattle.hfs_btree_edits.proofs.claim.claim_node.Goals as goal
 
 pub free_bit-requires-clause-some : goal.free_bit-requires-clause-some

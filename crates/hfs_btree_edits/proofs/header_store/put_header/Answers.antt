@@ -1,6 +1,6 @@
 use Rattle.std.proofs.Common.{◌≡◌, ◌≤◌, ◌∙◌, subst, ap, ℕ, List, [], length, get_or, set, set-set, sym}
 use Rattle.hfs_btree.specs.Tree.{records_of}
-use Rattle.hfs_btree_edits.specs.Stores.{fits-set, fits-as, header-put, some-records, on-ok}
+use Rattle.hfs_btree_edits.proofs.StoreLemmas.{fits-set, fits-as, header-put, some-records, on-ok}
 use Rattle.hfs_btree_edits.proofs.header_store.put_header.Goals as goal
 
 pub rewritten-entry-requires : goal.rewritten-entry-requires

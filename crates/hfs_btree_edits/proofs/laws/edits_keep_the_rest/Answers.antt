@@ -1,4 +1,4 @@
-use Rattle.hfs_btree_edits.specs.Behind.{node-behind}
+use Rattle.hfs_btree_edits.proofs.BehindLemmas.{node-behind}
 use Rattle.hfs_btree_edits.proofs.laws.edits_keep_the_rest.Goals as goal
 
 pub returns : goal.returns

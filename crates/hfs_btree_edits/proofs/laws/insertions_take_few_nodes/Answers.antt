@@ -1,4 +1,4 @@
-use Rattle.hfs_btree_edits.specs.FreeAfter.{free-after, free-same_depth}
+use Rattle.hfs_btree_edits.proofs.FreeAfterLemmas.{free-after, free-same_depth}
 use Rattle.hfs_btree_edits.proofs.laws.insertions_take_few_nodes.Goals as goal
 
 pub returns : goal.returns

@@ -1,5 +1,5 @@
 use Rattle.std.specs.Prelude.{◌≡◌, true}
-use Rattle.hfs_btree_edits.specs.KeptKeys.{keys-hold_with}
+use Rattle.hfs_btree_edits.proofs.KeptKeyLemmas.{keys-hold_with}
 use Rattle.hfs_btree_edits.proofs.laws.new_keys_pass.Goals as goal
 
 pub returns : goal.returns

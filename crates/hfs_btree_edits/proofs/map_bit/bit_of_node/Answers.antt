@@ -1,6 +1,6 @@
 use Rattle.std.proofs.Common.{refl, ap, ℕ, ◌*◌, ◌-◌, List, length, arith}
-use Rattle.hfs_btree_edits.specs.MapWalk.{first-part, next-part, part-within, part-read, forward-read, placed-in}
-use Rattle.hfs_btree_edits.specs.FullMap.{last-past}
+use Rattle.hfs_btree_edits.proofs.MapWalkLemmas.{first-part, next-part, part-within, part-read, forward-read, placed-in}
+use Rattle.hfs_btree_edits.proofs.FullMapLemmas.{last-past}
 use Rattle.hfs_btree_edits.proofs.map_bit.bit_of_node.Goals as goal
 
 pub loop-before-init : goal.loop-before-init

@@ -1,5 +1,5 @@
 use Rattle.std.proofs.Common.{◌≤◌}
-use Rattle.hfs_btree_edits.specs.MapPlaces.{IsPart}
+use Rattle.hfs_btree_edits.proofs.MapPlaceLemmas.{IsPart}
 use Rattle.hfs_btree_edits.proofs.map_bit.bit_of_node.Given as goal
 
 abbrev pub invariant-loop-before : goal.invariant-loop-before

@@ -1,7 +1,7 @@
 use Rattle.std.proofs.Common.{◌∙◌, ap, sym, refl, ℕ, ◌*◌, ◌-◌, List, length, arith}
 use Rattle.hfs_btree.specs.Header.{bit_of}
-use Rattle.hfs_btree_edits.specs.MapWalk.{first-part, next-part, part-within, part-read, entry-read, forward-read, placed-in}
-use Rattle.hfs_btree_edits.specs.FullMap.{next-set, none-free, last-past, last-free}
+use Rattle.hfs_btree_edits.proofs.MapWalkLemmas.{first-part, next-part, part-within, part-read, entry-read, forward-read, placed-in}
+use Rattle.hfs_btree_edits.proofs.FullMapLemmas.{next-set, none-free, last-past, last-free}
 use Rattle.hfs_btree_edits.proofs.map_bit.free_bit.Goals as goal
 
 pub loop-before-init : goal.loop-before-init

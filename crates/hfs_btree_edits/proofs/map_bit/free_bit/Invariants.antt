@@ -1,6 +1,6 @@
 use Rattle.std.proofs.Common.{◌≤◌, ◌+◌}
-use Rattle.hfs_btree_edits.specs.FullMap.{AreSet}
-use Rattle.hfs_btree_edits.specs.MapPlaces.{IsPart}
+use Rattle.hfs_btree_edits.proofs.FullMapLemmas.{AreSet}
+use Rattle.hfs_btree_edits.proofs.MapPlaceLemmas.{IsPart}
 use Rattle.hfs_btree_edits.proofs.map_bit.free_bit.Given as goal
 
 abbrev pub invariant-loop-before : goal.invariant-loop-before

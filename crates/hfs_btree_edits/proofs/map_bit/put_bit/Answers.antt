@@ -1,6 +1,6 @@
 use Rattle.std.proofs.Common.{◌∙◌, ap, ℕ, List, length}
-use Rattle.hfs_btree_edits.specs.Stores.{fits-set, fits-as, on-ok}
-use Rattle.hfs_btree_edits.specs.MapWalk.{bit-within, bit-some, bit-put}
+use Rattle.hfs_btree_edits.proofs.StoreLemmas.{fits-set, fits-as, on-ok}
+use Rattle.hfs_btree_edits.proofs.MapWalkLemmas.{bit-within, bit-some, bit-put}
 use Rattle.hfs_btree_edits.proofs.map_bit.put_bit.Goals as goal
 
 pub load-requires : goal.load-requires

@@ -1,5 +1,5 @@
 use Rattle.std.proofs.Common.{sym, ◌∙◌}
-use Rattle.hfs_btree_edits.specs.MapBits.{bit_of-set_same, bit_of-set_other, bit_of-clear_same, bit_of-clear_other}
+use Rattle.hfs_btree_edits.proofs.MapBitLemmas.{bit_of-set_same, bit_of-set_other, bit_of-clear_same, bit_of-clear_other}
 use Rattle.hfs_btree_edits.proofs.map_bit.write_in.Goals as goal
 
 pub returns-then-value-clause-here : goal.returns-then-value-clause-here

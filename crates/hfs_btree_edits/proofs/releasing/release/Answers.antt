@@ -1,9 +1,9 @@
 use Rattle.std.proofs.Common.{ap, subst, ℕ, ◌+◌, arith}
 use Rattle.hfs_btree.specs.declared.header.Header.{Header}
 use Rattle.hfs_btree_edits.specs.MapPlaces.{IsPlaced}
-use Rattle.hfs_btree_edits.specs.Apart.{marked-within}
-use Rattle.hfs_btree_edits.specs.Stores.{on-ok}
-use Rattle.hfs_btree_edits.specs.Claims.{count-fits, give-back, blank-zeros}
+use Rattle.hfs_btree_edits.proofs.ApartLemmas.{marked-within}
+use Rattle.hfs_btree_edits.proofs.StoreLemmas.{on-ok}
+use Rattle.hfs_btree_edits.proofs.ClaimLemmas.{count-fits, give-back, blank-zeros}
 use Rattle.hfs_btree_edits.proofs.releasing.release.Goals as goal
 
 pub overflow_add-header : goal.overflow_add-header

@@ -1,7 +1,7 @@
 use Rattle.std.proofs.Common.{◌≡◌, ◌≤◌, ◌∙◌, ℕ, List, ap, sym, subst}
 use Rattle.hfs_node.specs.Node.{size_of}
-use Rattle.hfs_btree_edits.specs.Writes.{on_ok}
-use Rattle.hfs_btree_edits.specs.Replaced.{replaced-entries, replaced-there, replaced-fits, replaced-by}
+use Rattle.hfs_btree_edits.proofs.WriteLemmas.{on_ok}
+use Rattle.hfs_btree_edits.proofs.ReplacedLemmas.{replaced-entries, replaced-there, replaced-fits, replaced-by}
 use Rattle.hfs_btree_edits.proofs.replacing.replace.Goals as goal
 
 pub place_of-place-requires-clause-leaf : goal.place_of-place-requires-clause-leaf

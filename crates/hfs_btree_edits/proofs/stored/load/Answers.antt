@@ -1,6 +1,6 @@
 use Rattle.std.proofs.Common.{sym, ap, ◌∙◌}
 use Rattle.std.specs.Prelude.{Ok}
-use Rattle.hfs_btree.specs.Decoded.{read-in}
+use Rattle.hfs_btree.proofs.DecodedLemmas.{read-in}
 use Rattle.hfs_btree_edits.proofs.stored.load.Goals as goal
 
 pub returns-in_ok-copy-in-Ok-clause-node : goal.returns-in_ok-copy-in-Ok-clause-node

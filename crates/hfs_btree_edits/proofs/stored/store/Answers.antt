@@ -1,4 +1,4 @@
-use Rattle.hfs_btree_edits.specs.Stores.{stored, on-ok}
+use Rattle.hfs_btree_edits.proofs.StoreLemmas.{stored, on-ok}
 use Rattle.hfs_btree_edits.proofs.stored.store.Goals as goal
 
 pub returns-clause-stored : goal.returns-clause-stored

@@ -1,5 +1,5 @@
 use Rattle.std.proofs.Common.{◌≡◌, ◌++◌, ◌≤◌, ℕ, List, ap, arith, subst, length}
-use Rattle.hfs_btree_edits.specs.Stores.{on-ok}
+use Rattle.hfs_btree_edits.proofs.StoreLemmas.{on-ok}
 use Rattle.hfs_btree_insertion.specs.Stored.{HasPut}
 use Rattle.hfs_btree_insertion.proofs.MadeRoom.{low-whole}
 use Rattle.hfs_btree_insertion.proofs.Inserted.{lower-low, room-few, has-inserted}

@@ -1,4 +1,4 @@
-use Rattle.hfs_btree_edits.specs.Stores.{on-ok}
+use Rattle.hfs_btree_edits.proofs.StoreLemmas.{on-ok}
 use Rattle.hfs_btree_insertion.proofs.MadeRoom.{made-cut, made-raised, raised-low, less-full, all-full, can-cut, can-cut_raised}
 use Rattle.hfs_btree_insertion.proofs.LowerSteps.{some-levels_above}
 use Rattle.hfs_btree_insertion.proofs.insertion.make_room.Goals as goal

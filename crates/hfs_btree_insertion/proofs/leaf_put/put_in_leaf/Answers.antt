@@ -1,9 +1,9 @@
 use Rattle.std.proofs.Common.{◌≤◌, ℕ, List, sym, ap, arith, length}
 use Rattle.hfs_btree.specs.Tree.{records_in}
-use Rattle.hfs_btree.specs.Decoded.{records-read}
-use Rattle.hfs_btree.specs.Found.{found, found-entries}
+use Rattle.hfs_btree.proofs.DecodedLemmas.{records-read}
+use Rattle.hfs_btree.proofs.FoundLemmas.{found, found-entries}
 use Rattle.hfs_btree_insertion.proofs.PutWhole.{put-whole, mid-long, mid-records, from-read}
-use Rattle.hfs_btree_edits.specs.Stores.{on-ok}
+use Rattle.hfs_btree_edits.proofs.StoreLemmas.{on-ok}
 use Rattle.hfs_btree_insertion.proofs.leaf_put.put_in_leaf.Goals as goal
 
 pub place_in-place-requires : goal.place_in-place-requires

@@ -1,4 +1,4 @@
-use Rattle.hfs_btree_edits.specs.Stores.{on-ok}
+use Rattle.hfs_btree_edits.proofs.StoreLemmas.{on-ok}
 use Rattle.hfs_btree_insertion.proofs.PutWhole.{record-put, fits-insert, place-as}
 use Rattle.hfs_btree_insertion.proofs.leaf_put.put_record.Goals as goal
 

@@ -1,5 +1,5 @@
 use Rattle.std.proofs.Common.{arith}
-use Rattle.hfs_btree_edits.specs.Stores.{on-ok}
+use Rattle.hfs_btree_edits.proofs.StoreLemmas.{on-ok}
 use Rattle.hfs_btree_insertion.proofs.Cutting.{parent-within}
 use Rattle.hfs_btree_insertion.proofs.CutCalls.{index-there, place-small, child-there, child-short, child-entry, first-ready, place-ready, right-ready, cut-by}
 use Rattle.hfs_btree_insertion.proofs.level_cut.cut_child.Goals as goal

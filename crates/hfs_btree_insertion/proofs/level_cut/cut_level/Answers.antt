@@ -1,5 +1,5 @@
 use Rattle.std.proofs.Common.{◌+◌}
-use Rattle.hfs_btree_edits.specs.Stores.{on-ok}
+use Rattle.hfs_btree_edits.proofs.StoreLemmas.{on-ok}
 use Rattle.hfs_btree_insertion.proofs.Taken.{stray-there}
 use Rattle.hfs_btree_insertion.proofs.CutWhole.{parent-index, branch-read, over-read, room-read, cut-read}
 use Rattle.hfs_btree_insertion.proofs.level_cut.cut_level.Goals as goal

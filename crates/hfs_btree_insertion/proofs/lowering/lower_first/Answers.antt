@@ -1,5 +1,5 @@
 use Rattle.std.proofs.Common.{◌∙◌, sym}
-use Rattle.hfs_btree_edits.specs.Stores.{on-ok}
+use Rattle.hfs_btree_edits.proofs.StoreLemmas.{on-ok}
 use Rattle.hfs_btree_insertion.proofs.LowerSteps.{entry-there, entry-index, entry-above, was-lowered, was-low}
 use Rattle.hfs_btree_insertion.proofs.lowering.lower_first.Goals as goal
 

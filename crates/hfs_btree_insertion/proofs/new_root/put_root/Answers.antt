@@ -1,6 +1,6 @@
 use Rattle.std.proofs.Common.{ap, ◌+◌}
 use Rattle.hfs_btree.specs.declared.header.Header.{Header}
-use Rattle.hfs_btree_edits.specs.Stores.{on-ok}
+use Rattle.hfs_btree_edits.proofs.StoreLemmas.{on-ok}
 use Rattle.hfs_btree_insertion.proofs.RaiseWhole.{root-fits, root-long, root-put}
 use Rattle.hfs_btree_insertion.proofs.new_root.put_root.Goals as goal
 

@@ -1,5 +1,5 @@
 use Rattle.std.proofs.Common.{arith}
-use Rattle.hfs_btree_edits.specs.Stores.{on-ok}
+use Rattle.hfs_btree_edits.proofs.StoreLemmas.{on-ok}
 use Rattle.hfs_btree_insertion.proofs.Taken.{claimed-depth, stray-there}
 use Rattle.hfs_btree_insertion.proofs.RaiseWhole.{raise-whole}
 use Rattle.hfs_btree_insertion.proofs.new_root.raise.Goals as goal

@@ -4,7 +4,7 @@ use Rattle.hfs_btree.specs.declared.header.Header.{Header}
 use Rattle.hfs_btree.specs.Search.{leaf_under}
 use Rattle.hfs_btree.specs.Header.{header_in}
 use Rattle.hfs_btree_removal.specs.Ways.{Leads}
-use Rattle.hfs_btree.specs.Descent.{IsOnWay, root-way, way-within, way-for, leaf-step, leaf-end}
+use Rattle.hfs_btree.proofs.DescentLemmas.{IsOnWay, root-way, way-within, way-for, leaf-step, leaf-end}
 use Rattle.hfs_btree_removal.proofs.WaySteps.{leads-more, step-entries, step-some, step-is, step-child, step-for, way-entries, way-there, way-leaf, way-equal}
 use Rattle.hfs_btree_removal.proofs.down.steps_to.Goals as goal
 

@@ -2,7 +2,7 @@ use Rattle.std.proofs.Common.{◌≡◌, ◌+◌, get_or, [], length}
 use Rattle.hfs_btree.specs.Header.{header_in, depth_of}
 use Rattle.hfs_btree.specs.Search.{leaf_for, leaf_under}
 use Rattle.hfs_btree_removal.specs.Ways.{Leads}
-use Rattle.hfs_btree.specs.Descent.{IsOnWay}
+use Rattle.hfs_btree.proofs.DescentLemmas.{IsOnWay}
 use Rattle.hfs_btree_removal.proofs.down.steps_to.Given as goal
 
 abbrev pub invariant-loop-below : goal.invariant-loop-below

@@ -6,7 +6,7 @@ use Rattle.hfs_scans.specs.Each.{Each}
 use Rattle.hfs_btree_removal.specs.Removal.{HasLowered}
 use Rattle.hfs_btree.specs.Tree.{Store, records_in}
 use Rattle.hfs_btree_removal.specs.Ways.{IsWayTo}
-use Rattle.hfs_btree_edits.specs.Writes.{on_ok}
+use Rattle.hfs_btree_edits.proofs.WriteLemmas.{on_ok}
 use Rattle.hfs_btree_removal.proofs.RemoveWhole.{on_both, removed-all, one-level, removed-last}
 use Rattle.hfs_btree_removal.proofs.removal.remove.Goals as goal
 

@@ -1,6 +1,7 @@
 -- A patch without blocks shows what is below it.
 use Rattle.std.proofs.Common.{◌≡◌, ℕ, None, [], ap, sym, subst}
-use Rattle.hfs_blocks.specs.Layers.{Numbered, changes, AreWithin-nothing, AreWithin}
+use Rattle.hfs_blocks.specs.Layers.{Numbered, changes, AreWithin}
+use Rattle.hfs_blocks.proofs.LayerLemmas.{AreWithin-nothing}
 use Rattle.hfs_btree.specs.Sound.{IsDistinct}
 use Rattle.hfs_call_patches.proofs.Different.{different}
 use Rattle.hfs_call_patches.proofs.Closed.{opened_nodes, opened_beside}

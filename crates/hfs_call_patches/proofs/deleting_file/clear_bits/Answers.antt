@@ -1,6 +1,7 @@
 -- The bits were cleared in a patch that had no block.
 use Rattle.std.proofs.Common.{sym, subst}
-use Rattle.hfs_blocks.specs.Layers.{Numbered, changes, over, AreWithin, AreWithin-nothing}
+use Rattle.hfs_blocks.specs.Layers.{Numbered, changes, over, AreWithin}
+use Rattle.hfs_blocks.proofs.LayerLemmas.{AreWithin-nothing}
 use Rattle.hfs_check.specs.Parts.{mdb_in}
 use Rattle.hfs_call_patches.proofs.EditedNodes.{released_from}
 use Rattle.hfs_call_patches.proofs.deleting_file.clear_bits.Goals as goal

@@ -3,7 +3,7 @@ use Rattle.std.proofs.Common.{◌+◌, ◌∙◌, ap, refl, sym, subst, arith}
 use Rattle.hfs_fields.specs.declared.mdb.Mdb.{Mdb}
 use Rattle.hfs_blocks.specs.Blocks.{nodes_in}
 use Rattle.hfs_blocks.specs.Layers.{changes, over}
-use Rattle.hfs_btree_edits.specs.Written.{put_within}
+use Rattle.hfs_btree_edits.proofs.WrittenLemmas.{put_within}
 use Rattle.hfs_space.specs.Extents.{block_total, extent_blocks}
 use Rattle.hfs_space.specs.TreeKeys.{IsExtentsTree}
 use Rattle.hfs_changes.specs.Deletion.{without_one_file}

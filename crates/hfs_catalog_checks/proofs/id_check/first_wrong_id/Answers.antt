@@ -1,7 +1,7 @@
 use Rattle.std.proofs.Common.{◌∙◌, sym}
 use Rattle.hfs_catalog_checks.specs.Faults.{is_item_id_right}
 use Rattle.hfs_catalog_checks.proofs.IdSteps.{id_is}
-use Rattle.hfs_scans.specs.ScanSteps.{scan_stop, scan_go}
+use Rattle.hfs_scans.proofs.ScanStepLemmas.{scan_stop, scan_go}
 use Rattle.hfs_catalog_checks.proofs.id_check.first_wrong_id.Goals as goal
 
 pub returns-then-not-is_item_id_right : goal.returns-then-not-is_item_id_right

@@ -1,7 +1,7 @@
 use Rattle.std.proofs.Common.{◌∙◌, sym}
 use Rattle.hfs_catalog_checks.specs.Faults.{is_above}
 use Rattle.hfs_catalog_checks.proofs.OrderSteps.{one_rises, above_is, rises_more}
-use Rattle.hfs_scans.specs.ScanSteps.{scan_stop, scan_go}
+use Rattle.hfs_scans.proofs.ScanStepLemmas.{scan_stop, scan_go}
 use Rattle.hfs_catalog_checks.proofs.order_check.first_not_above.Goals as goal
 
 pub loop-i-init : goal.loop-i-init

@@ -2,7 +2,7 @@ use Rattle.std.proofs.Common.{◌∙◌, sym}
 use Rattle.hfs_catalog_checks.specs.Indexes.{count_of}
 use Rattle.hfs_catalog_checks.specs.Faults.{is_valence_right}
 use Rattle.hfs_catalog_checks.proofs.ValenceSteps.{valence_is}
-use Rattle.hfs_scans.specs.ScanSteps.{scan_stop, scan_go}
+use Rattle.hfs_scans.proofs.ScanStepLemmas.{scan_stop, scan_go}
 use Rattle.hfs_catalog_checks.proofs.valence_check.first_wrong_valence.Goals as goal
 
 pub returns-then-not-is_valence_right : goal.returns-then-not-is_valence_right

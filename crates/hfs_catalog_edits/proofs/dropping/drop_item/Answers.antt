@@ -1,4 +1,4 @@
-use Rattle.hfs_btree_edits.specs.Writes.{on_ok}
+use Rattle.hfs_btree_edits.proofs.WriteLemmas.{on_ok}
 use Rattle.hfs_catalog_edits.proofs.ItemSteps.{records_after, item_went}
 use Rattle.hfs_catalog_edits.proofs.dropping.drop_item.Goals as goal
 

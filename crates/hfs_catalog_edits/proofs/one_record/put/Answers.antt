@@ -1,6 +1,6 @@
-use Rattle.hfs_btree_edits.specs.Writes.{on_ok}
+use Rattle.hfs_btree_edits.proofs.WriteLemmas.{on_ok}
 use Rattle.hfs_catalog.specs.Tree.{catalog_of}
-use Rattle.hfs_catalog_edits.specs.Roots.{above_root}
+use Rattle.hfs_catalog_edits.proofs.RootLemmas.{above_root}
 use Rattle.hfs_catalog_edits.proofs.Edits.{came}
 use Rattle.hfs_catalog_edits.proofs.one_record.put.Goals as goal
 

@@ -3,7 +3,7 @@ use Rattle.std.specs.Ordering.{is_eq}
 use Rattle.hfs_fields.specs.Keys.{cat_cmp}
 use Rattle.hfs_btree.specs.Pairs.{lookup}
 use Rattle.hfs_btree_edits.specs.Conditions.{IsNoLonger}
-use Rattle.hfs_btree_edits.specs.Writes.{on_ok}
+use Rattle.hfs_btree_edits.proofs.WriteLemmas.{on_ok}
 use Rattle.hfs_catalog.specs.Tree.{catalog_of}
 use Rattle.hfs_catalog_edits.specs.RecordEdits.{RecordCame, RecordSet}
 use Rattle.hfs_catalog_edits.proofs.ItemSteps.{equal_no_longer, moved_in_place, root_between, absent_between, moved_along}

@@ -1,6 +1,6 @@
 use Rattle.std.proofs.Common.{◌-◌, ℕ, List, ◌++◌, length, replicate, sym, ap, ◌∙◌}
 use Rattle.byteorder.specs.Endian.{big_bytes}
-use Rattle.hfs_format.specs.BitRow.{length-bit_row}
+use Rattle.hfs_format.proofs.BitRowLemmas.{length-bit_row}
 use Rattle.hfs_format.specs.NewTrees.{header_node, header_record, node_map}
 use Rattle.hfs_format.proofs.Laid.{header-bytes}
 use Rattle.hfs_format.proofs.tree_header.header_block.Goals as goal

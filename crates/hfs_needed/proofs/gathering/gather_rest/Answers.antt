@@ -4,7 +4,7 @@ use Rattle.std.specs.List.{range_with_len}
 use Rattle.hfs_fields.specs.declared.mdb.Mdb.{Mdb}
 use Rattle.hfs_space.specs.Bitmap.{bitmap_len}
 use Rattle.hfs_check.specs.Agree.{bitmap_blocks}
-use Rattle.hfs_sparse.specs.Sparse.{grown-on}
+use Rattle.hfs_sparse.proofs.SparseLemmas.{grown-on}
 use Rattle.hfs_needed.proofs.Gathered.{reads-block, reads-range, reads-on, mdb-stays, needs_all}
 use Rattle.hfs_needed.proofs.gathering.gather_rest.Goals as goal
 

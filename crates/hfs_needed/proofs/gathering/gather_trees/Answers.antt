@@ -4,7 +4,8 @@ use Rattle.hfs_fields.specs.declared.mdb.Mdb.{Mdb}
 use Rattle.hfs_blocks.specs.Layers.{Numbered}
 use Rattle.hfs_check.specs.Parts.{extents_blocks}
 use Rattle.hfs_sparse.specs.declared.zeros.ZeroBlocks.{ZeroBlocks}
-use Rattle.hfs_sparse.specs.Sparse.{sparse, has-grown}
+use Rattle.hfs_sparse.specs.Sparse.{sparse}
+use Rattle.hfs_sparse.proofs.SparseLemmas.{has-grown}
 use Rattle.hfs_needed.specs.Gathered.{LieAt}
 use Rattle.hfs_needed.specs.Needed.{has_extents_file}
 use Rattle.hfs_needed.proofs.Gathered.{lie-at, lie-later, reads-on, mdb-stays, extents-room, has_extents-stays, has_extents-now, has_extents-later, needs_none, needs_both}

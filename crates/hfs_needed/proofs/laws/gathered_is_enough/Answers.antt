@@ -1,5 +1,6 @@
 use Rattle.hfs_blocks.specs.Blocks.{block_at}
-use Rattle.hfs_sparse.specs.Sparse.{sparse, each-of}
+use Rattle.hfs_sparse.specs.Sparse.{sparse}
+use Rattle.hfs_sparse.proofs.SparseLemmas.{each-of}
 use Rattle.hfs_needed.specs.Needed.{needed_blocks}
 use Rattle.hfs_needed.proofs.laws.gathered_is_enough.Goals as goal
 

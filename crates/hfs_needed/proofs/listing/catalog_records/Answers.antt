@@ -2,7 +2,7 @@
 use Rattle.std.proofs.Common.{◌≡◌, ◌∙◌, sym, subst}
 use Rattle.hfs_blocks.specs.Blocks.{nodes_in}
 use Rattle.hfs_catalog.specs.Records.{Catalog}
-use Rattle.hfs_queries.specs.Replies.{by_nodes}
+use Rattle.hfs_queries.proofs.ReplyLemmas.{by_nodes}
 use Rattle.hfs_queries.specs.Told.{IsCatalog}
 use Rattle.std.specs.Prelude.{IfOk}
 use Rattle.hfs_sparse.specs.Sparse.{sparse}

@@ -5,7 +5,7 @@ use Rattle.hfs_blocks.specs.Blocks.{nodes_in}
 use Rattle.hfs_model.specs.declared.reply.Reply.{Reply}
 use Rattle.hfs_queries.specs.declared.reply.Detail.TheVariants as detail
 use Rattle.hfs_queries.specs.Brief.{listed_in}
-use Rattle.hfs_queries.specs.Replies.{by_nodes}
+use Rattle.hfs_queries.proofs.ReplyLemmas.{by_nodes}
 use Rattle.hfs_queries.specs.Told.{IsCatalog}
 use Rattle.hfs_sparse.specs.Sparse.{sparse}
 use Rattle.hfs_needed.proofs.listing.list_in_brief.Goals as goal

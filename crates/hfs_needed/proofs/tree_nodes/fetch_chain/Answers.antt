@@ -7,7 +7,7 @@ use Rattle.hfs_node.specs.declared.node.Node.{Node}
 use Rattle.hfs_btree.specs.Tree.{forward_of, node_in}
 use Rattle.hfs_btree_checks.specs.Shape.{is_within, is_map_result}
 use Rattle.hfs_btree_checks.specs.ShapeSteps.{is_met}
-use Rattle.hfs_sparse.specs.Sparse.{grown-itself, grown-on, has-grown}
+use Rattle.hfs_sparse.proofs.SparseLemmas.{grown-itself, grown-on, has-grown}
 use Rattle.hfs_needed.specs.TreeReads.{nodes_of, block_for, record_at, IsMapLink, FindsMapNode}
 use Rattle.hfs_needed.proofs.Gathered.{reads-runs-on}
 use Rattle.hfs_needed.proofs.TreeNodes.{node-stays, count-stays, goes-on, done-has, done-is, done-parts, outside-has, outside-is, wrong-has, wrong-is, out-past, out-again, no-chain-from}

@@ -2,7 +2,7 @@
 use Rattle.std.proofs.Common.{◌≡◌, ℕ, ◌*◌, ◌≤◌, Option, Vec, Global, false, length, List, sym, subst, ◌∙◌}
 use Rattle.hfs_btree.specs.Tree.{node_in}
 use Rattle.hfs_btree_checks.specs.Shape.{has_header, has_map}
-use Rattle.hfs_sparse.specs.Sparse.{has-grown}
+use Rattle.hfs_sparse.proofs.SparseLemmas.{has-grown}
 use Rattle.hfs_needed.specs.TreeReads.{nodes_of, block_for, IsHeadOf, FindsHead, IsMapOf, FindsMap}
 use Rattle.hfs_needed.specs.declared.tree_header.TreeHead.{TreeHead}
 use Rattle.hfs_needed.proofs.Gathered.{reads-runs-on}

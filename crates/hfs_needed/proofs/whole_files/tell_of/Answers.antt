@@ -1,7 +1,7 @@
 -- The nodes of the catalog lie among what was read.
 use Rattle.std.proofs.Common.{◌∙◌, sym, subst}
 use Rattle.hfs_blocks.specs.Blocks.{nodes_in}
-use Rattle.hfs_queries.specs.Replies.{by_nodes}
+use Rattle.hfs_queries.proofs.ReplyLemmas.{by_nodes}
 use Rattle.hfs_queries.specs.Told as told
 use Rattle.hfs_sparse.specs.Sparse.{sparse}
 use Rattle.hfs_needed.proofs.whole_files.tell_of.Goals as goal

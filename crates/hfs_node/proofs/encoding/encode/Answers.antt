@@ -1,6 +1,6 @@
 use Rattle.std.proofs.Common.{arith, ◌∙◌}
 use Rattle.std.proofs.lemmas.List.{get_or-replicate}
-use Rattle.hfs_node.specs.ReadBack.{node_of-encoded, offset_of-encoded}
+use Rattle.hfs_node.proofs.ReadBackLemmas.{node_of-encoded, offset_of-encoded}
 use Rattle.hfs_node.proofs.Written.{head-kept}
 use Rattle.hfs_node.proofs.encoding.encode.Goals as goal
 

@@ -1,7 +1,7 @@
 use Rattle.std.proofs.Common.{ℕ, ◌∙◌, arith, inr, subst}
 use Rattle.byteorder.specs.Endian.{big_bytes}
 use Rattle.hfs_fields.specs.Puts.{IsPut}
-use Rattle.hfs_node.specs.ReadBack.{few-records}
+use Rattle.hfs_node.proofs.ReadBackLemmas.{few-records}
 use Rattle.hfs_node.proofs.Written.{head-from}
 use Rattle.hfs_node.proofs.encoding.put_head.Goals as goal
 

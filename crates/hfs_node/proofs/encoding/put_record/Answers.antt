@@ -2,7 +2,7 @@ use Rattle.std.proofs.Common.{ℕ, ◌+◌, ◌-◌, ◌*◌, List, length, arit
 use Rattle.byteorder.specs.Endian.{big_bytes}
 use Rattle.hfs_fields.specs.Puts.{IsPut}
 use Rattle.hfs_node.specs.Node.{start_of}
-use Rattle.hfs_node.specs.ReadBack.{start-room, start-more, start-least, few-records}
+use Rattle.hfs_node.proofs.ReadBackLemmas.{start-room, start-more, start-least, few-records}
 use Rattle.hfs_node.proofs.Written.{laid-more}
 use Rattle.hfs_node.proofs.encoding.put_record.Goals as goal
 

@@ -3,7 +3,7 @@ use Rattle.byteorder.specs.Endian.{big_bytes}
 use Rattle.hfs_fields.specs.Puts.{IsPut}
 use Rattle.hfs_node.specs.Node.{start_of}
 use Rattle.hfs_node.specs.Laid.{AreLaid}
-use Rattle.hfs_node.specs.ReadBack.{start-room, start-zero, few-records}
+use Rattle.hfs_node.proofs.ReadBackLemmas.{start-room, start-zero, few-records}
 use Rattle.hfs_node.proofs.Written.{laid-kept, free-put}
 use Rattle.hfs_node.proofs.encoding.put_records.Goals as goal
 

@@ -1,5 +1,5 @@
 use Rattle.std.proofs.Common.{◌+◌, ap, length, arith}
-use Rattle.hfs_node.specs.Sizes.{size_of-take_more, size_of-take-le}
+use Rattle.hfs_node.proofs.SizeLemmas.{size_of-take_more, size_of-take-le}
 use Rattle.hfs_node.proofs.node.fits.Goals as goal
 
 pub returns-then-len-room : goal.returns-then-len-room

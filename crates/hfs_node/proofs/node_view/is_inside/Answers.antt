@@ -1,5 +1,5 @@
 use Rattle.std.proofs.Common.{sym, arith}
-use Rattle.hfs_node.specs.Decoding.{low-outside, high-outside, all-inside}
+use Rattle.hfs_node.proofs.DecodingLemmas.{low-outside, high-outside, all-inside}
 use Rattle.hfs_node.proofs.node_view.is_inside.Goals as goal
 use Rattle.hfs_node.proofs.node_view.is_inside.Goals.{then-offset-lt14-via-then-offset-lt14, then-offset-lt14-via-else-offset-lt14+then-offset-row}
 

@@ -1,5 +1,5 @@
 use Rattle.std.proofs.Common.{sym, arith}
-use Rattle.hfs_node.specs.Decoding.{falling}
+use Rattle.hfs_node.proofs.DecodingLemmas.{falling}
 use Rattle.hfs_node.proofs.node_view.is_rising.Goals as goal
 
 pub returns-then-offset_at : goal.returns-then-offset_at

@@ -1,5 +1,5 @@
 use Rattle.std.proofs.Common.{sym}
-use Rattle.hfs_node.specs.Decoding.{node_of-unknown, node_of-outside, node_of-falling, node_of-ok, node_with-fits, count-inside}
+use Rattle.hfs_node.proofs.DecodingLemmas.{node_of-unknown, node_of-outside, node_of-falling, node_of-ok, node_with-fits, count-inside}
 use Rattle.hfs_node.specs.Node.{IsNode}
 use Rattle.hfs_node.proofs.node_view.view.Goals as goal
 

@@ -1,6 +1,6 @@
 -- The item of the name is a folder's or a file's.
 use Rattle.hfs_catalog.specs.Tree.{catalog_of}
-use Rattle.hfs_queries.specs.Folders.{folder_there}
+use Rattle.hfs_queries.proofs.FolderLemmas.{folder_there}
 use Rattle.hfs_queries.proofs.Files.{of_folder, of_file}
 use Rattle.hfs_queries.proofs.reading.file_named.Goals as goal
 

@@ -3,7 +3,7 @@ use Rattle.std.proofs.Common.{◌≡◌, None, sym, ◌∙◌, ap}
 use Rattle.std.specs.Option.{option_map}
 use Rattle.hfs_catalog.specs.Lookups.{catalog_item}
 use Rattle.hfs_catalog.specs.Tree.{catalog_of}
-use Rattle.hfs_queries.specs.Folders.{not_some, unthreaded, item_is_folder, item_is_file}
+use Rattle.hfs_queries.proofs.FolderLemmas.{not_some, unthreaded, item_is_folder, item_is_file}
 use Rattle.hfs_queries.proofs.reading.folder.Goals as goal
 
 pub returns-then-is_none : goal.returns-then-is_none

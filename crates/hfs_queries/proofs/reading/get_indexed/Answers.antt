@@ -6,8 +6,8 @@ use Rattle.hfs_model.specs.declared.reply.Value.TheVariants as value
 use Rattle.hfs_model.specs.Replies.{success}
 use Rattle.hfs_catalog.specs.Lookups.{catalog_item, children_of}
 use Rattle.hfs_catalog.specs.Tree.{catalog_of}
-use Rattle.hfs_queries.specs.Folders.{folder_there}
-use Rattle.hfs_queries.specs.Details.{indexed_at}
+use Rattle.hfs_queries.proofs.FolderLemmas.{folder_there}
+use Rattle.hfs_queries.proofs.DetailLemmas.{indexed_at}
 use Rattle.hfs_queries.proofs.reading.get_indexed.Goals as goal
 
 pub returns-in-Some : goal.returns-in-Some

@@ -1,6 +1,6 @@
 use Rattle.std.proofs.Common.{◌∙◌}
 use Rattle.hfs_catalog.specs.Tree.{catalog_of}
-use Rattle.hfs_queries.specs.Details.{all_infos}
+use Rattle.hfs_queries.proofs.DetailLemmas.{all_infos}
 use Rattle.hfs_queries.proofs.reading.infos.Goals as goal
 
 pub returns : goal.returns

@@ -10,8 +10,8 @@ use Rattle.hfs_queries.specs.Told.{file_info, body_info, item_info}
 use Rattle.hfs_queries.specs.Brief.{in_detail}
 use Rattle.hfs_queries.specs.declared.reply.Detail.{Detail}
 use Rattle.hfs_catalog.specs.declared.item.ItemRecord.{ItemRecord}
-use Rattle.hfs_queries.specs.Found.{is_some-find, is_some-option_map}
-use Rattle.hfs_queries.specs.Details.{folder-in_detail, file-brief}
+use Rattle.hfs_queries.proofs.FoundLemmas.{is_some-find, is_some-option_map}
+use Rattle.hfs_queries.proofs.DetailLemmas.{folder-in_detail, file-brief}
 use Rattle.hfs_queries.proofs.reply.item_info.Goals as goal
 
 pub returns-in-Folder : goal.returns-in-Folder

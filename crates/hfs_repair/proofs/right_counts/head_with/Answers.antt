@@ -1,7 +1,7 @@
 use Rattle.std.proofs.Common.{◌∙◌, ◌≤◌, refl, ap, ℕ, List, length, arith}
 use Rattle.hfs_btree.specs.declared.header.Header.{Header}
-use Rattle.hfs_btree.specs.Decoded.{decoded-within}
-use Rattle.hfs_btree_edits.specs.Stores.{fits-set, fits-as, header-put, some-records, stored}
+use Rattle.hfs_btree.proofs.DecodedLemmas.{decoded-within}
+use Rattle.hfs_btree_edits.proofs.StoreLemmas.{fits-set, fits-as, header-put, some-records, stored}
 use Rattle.hfs_repair.proofs.Recounts.{is-recount}
 use Rattle.hfs_repair.proofs.right_counts.head_with.Goals as goal
 

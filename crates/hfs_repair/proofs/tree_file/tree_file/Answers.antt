@@ -1,7 +1,7 @@
 use Rattle.std.proofs.Common.{◌≤◌, ◌*◌, ap, length, sym, subst, ◌∙◌}
 use Rattle.hfs_btree.specs.Tree.{Store}
 use Rattle.hfs_blocks.specs.Blocks.{nodes_in}
-use Rattle.hfs_space.specs.FileLengths.{length-tree_nodes}
+use Rattle.hfs_space.proofs.FileLengthLemmas.{length-tree_nodes}
 use Rattle.hfs_repair.proofs.tree_file.tree_file.Goals as goal
 
 pub right_counts-requires : goal.right_counts-requires

@@ -1,4 +1,4 @@
-use Rattle.hfs_scans.specs.Scans.{scan_is_first}
+use Rattle.hfs_scans.proofs.ScanLemmas.{scan_is_first}
 use Rattle.hfs_scans.proofs.laws.scans_are_first.Goals as goal
 
 pub returns : goal.returns

@@ -1,4 +1,4 @@
-use Rattle.hfs_scans.specs.Scans.{scan_is_whole}
+use Rattle.hfs_scans.proofs.ScanLemmas.{scan_is_whole}
 use Rattle.hfs_scans.proofs.laws.scans_are_whole.Goals as goal
 
 pub returns : goal.returns

@@ -2,7 +2,7 @@
 use Rattle.std.proofs.Common.{◌+◌, ◌*◌, ◌/◌, not, cond, ◌∙◌, arith, ap}
 use Rattle.hfs_space.specs.Bitmap.{count_below, is_marked}
 use Rattle.hfs_space.proofs.Marks.{clear-front, clear-bit}
-use Rattle.hfs_space.specs.Counting.{count_below-le}
+use Rattle.hfs_space.proofs.CountingLemmas.{count_below-le}
 use Rattle.hfs_space.proofs.bits.clear_in.Goals as goal
 use Rattle.hfs_space.proofs.bits.clear_in.Goals.{then-not-is_marked, else-not-is_marked}
 

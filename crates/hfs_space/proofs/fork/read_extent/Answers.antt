@@ -1,6 +1,6 @@
 -- The extent's blocks are blocks of the volume.
 use Rattle.std.proofs.Common.{arith, ◌<◌}
-use Rattle.hfs_space.specs.ForkLengths.{extent-end}
+use Rattle.hfs_space.proofs.ForkLengthLemmas.{extent-end}
 use Rattle.hfs_space.proofs.ForkPieces.{some-block, same-end}
 use Rattle.hfs_space.specs.Forks.{blocks_each}
 use Rattle.hfs_space.proofs.fork.read_extent.Goals as goal

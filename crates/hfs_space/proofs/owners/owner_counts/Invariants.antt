@@ -4,7 +4,7 @@ use Rattle.std.specs.List.{range_with_len}
 use Rattle.hfs_space.specs.declared.owners.Edge.TheVariants.{First, Behind}
 use Rattle.hfs_space.specs.Extents.{extent_blocks}
 use Rattle.hfs_space.specs.Owners.{owners}
-use Rattle.hfs_space.specs.Edges.{edges_before}
+use Rattle.hfs_space.proofs.EdgeLemmas.{edges_before}
 use Rattle.hfs_space.proofs.owners.owner_counts.Given as goal
 
 abbrev pub invariant-loop-block : goal.invariant-loop-block

@@ -3,7 +3,7 @@ use Rattle.std.proofs.Common.{◌≡◌, ◌+◌, ◌*◌, ◌<◌, ◌∙◌, s
 use Rattle.std.specs.Prelude.{min}
 use Rattle.std.specs.List.{range_with_len}
 use Rattle.hfs_space.specs.Forks.{blocks_each, run_in}
-use Rattle.hfs_space.specs.ForkLengths.{extent-end}
+use Rattle.hfs_space.proofs.ForkLengthLemmas.{extent-end}
 use Rattle.hfs_space.proofs.TreeRuns.{take-range}
 use Rattle.hfs_space.proofs.tree_file.first_blocks.Goals as goal
 

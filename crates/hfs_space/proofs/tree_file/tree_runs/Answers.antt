@@ -3,7 +3,8 @@ use Rattle.std.proofs.Common.{◌≡◌, ◌+◌, ◌-◌, ◌∷◌, [], ◌++�
 use Rattle.std.specs.List.{flat_map}
 use Rattle.hfs_fields.specs.declared.extent.Extent.{Extent}
 use Rattle.hfs_blocks.specs.Blocks.{run_of}
-use Rattle.hfs_space.specs.TreeFiles.{tree_blocks, nodes_in-tree_blocks}
+use Rattle.hfs_space.specs.TreeFiles.{tree_blocks}
+use Rattle.hfs_space.proofs.TreeFileLemmas.{nodes_in-tree_blocks}
 use Rattle.hfs_space.proofs.TreeRuns.{AreRunsOf, one-more, none-more, runs-end}
 use Rattle.hfs_space.proofs.tree_file.tree_runs.Goals as goal
 use Rattle.hfs_space.proofs.tree_file.tree_runs.Goals.{then-run-gt0+in_ok-push, else-run-gt0}

@@ -1,7 +1,7 @@
 -- Block by block.
 use Rattle.std.proofs.Common.{◌∙◌, IsSome, arith}
 use Rattle.hfs_blocks.specs.Layers.{changes}
-use Rattle.hfs_sparse.specs.Sparse.{grown-on}
+use Rattle.hfs_sparse.proofs.SparseLemmas.{grown-on}
 use Rattle.hfs_sparse.proofs.Fetched.{one-more, each-range, stays-later}
 use Rattle.hfs_sparse.proofs.fetching.fetch_range.Goals as goal
 

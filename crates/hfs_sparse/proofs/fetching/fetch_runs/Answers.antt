@@ -2,7 +2,7 @@
 use Rattle.std.proofs.Common.{◌∙◌, IsSome, arith}
 use Rattle.hfs_blocks.specs.declared.run.Run.{Run}
 use Rattle.hfs_blocks.specs.Layers.{changes}
-use Rattle.hfs_sparse.specs.Sparse.{grown-on}
+use Rattle.hfs_sparse.proofs.SparseLemmas.{grown-on}
 use Rattle.hfs_sparse.proofs.Fetched.{one-run-more, each-runs, stays-later}
 use Rattle.hfs_sparse.proofs.fetching.fetch_runs.Goals as goal
 

@@ -2,7 +2,8 @@
 use Rattle.std.proofs.Common.{◌≡◌, ℕ, ◌<◌, sym, subst, arith, replicate}
 use Rattle.std.proofs.lemmas.List.{length-replicate}
 use Rattle.hfs_blocks.specs.Blocks.{block_count}
-use Rattle.hfs_blocks.specs.Layers.{Numbered, Changes, changes, with_change, AreWithin, AreWithin-with_change, AreWithin-nothing}
+use Rattle.hfs_blocks.specs.Layers.{Numbered, Changes, changes, with_change, AreWithin}
+use Rattle.hfs_blocks.proofs.LayerLemmas.{AreWithin-with_change, AreWithin-nothing}
 use Rattle.hfs_volume_tests.proofs.saving.commit_three.Goals as goal
 
 one_more : (old new : Changes) (n value count : ℕ) → new ≡ with_change old n (replicate 512 value) → n < count → AreWithin old count → AreWithin new count

@@ -1,5 +1,5 @@
 use Rattle.std.proofs.Common.{arith, append-nil}
-use Rattle.hfs_fields.specs.KeyForms.{is_cat_index-record, cat_key_of-record, cat_child_of-record}
+use Rattle.hfs_fields.proofs.KeyFormLemmas.{is_cat_index-record, cat_key_of-record, cat_child_of-record}
 use Rattle.hfs_btree.proofs.keys.CatKeyKey.index_record.Goals as goal
 
 pub returns-clause-index : goal.returns-clause-index

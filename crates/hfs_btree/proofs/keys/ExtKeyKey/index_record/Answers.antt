@@ -1,5 +1,5 @@
 use Rattle.std.proofs.Common.{arith, append-nil}
-use Rattle.hfs_fields.specs.KeyForms.{is_ext_index-record, ext_key_of-record, ext_child_of-record}
+use Rattle.hfs_fields.proofs.KeyFormLemmas.{is_ext_index-record, ext_key_of-record, ext_child_of-record}
 use Rattle.hfs_btree.proofs.keys.ExtKeyKey.index_record.Goals as goal
 
 pub returns-clause-index : goal.returns-clause-index

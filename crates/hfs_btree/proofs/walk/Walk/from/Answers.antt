@@ -1,7 +1,7 @@
 use Rattle.std.proofs.Common.{◌∙◌, ap, sym}
 use Rattle.hfs_btree.specs.Pairs.{pairs_from}
-use Rattle.hfs_btree.specs.Descent.{content-none}
-use Rattle.hfs_btree.specs.Found.{some-levels, found-entries}
+use Rattle.hfs_btree.proofs.DescentLemmas.{content-none}
+use Rattle.hfs_btree.proofs.FoundLemmas.{some-levels, found-entries}
 use Rattle.hfs_btree.proofs.Walks.{start-at, start-same}
 use Rattle.hfs_btree.proofs.walk.Walk.from.Goals as goal
 

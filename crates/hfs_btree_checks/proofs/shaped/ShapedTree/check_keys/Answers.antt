@@ -1,4 +1,4 @@
-use Rattle.hfs_btree_checks.specs.ShapeLaw.{shape-law}
+use Rattle.hfs_btree_checks.proofs.ShapeLawLemmas.{shape-law}
 use Rattle.hfs_btree_checks.proofs.shaped.ShapedTree.check_keys.Goals as goal
 
 pub check_keys-requires : goal.check_keys-requires

@@ -1,4 +1,4 @@
-use Rattle.hfs_btree_checks.specs.ShapeLaw.{shape-law}
+use Rattle.hfs_btree_checks.proofs.ShapeLawLemmas.{shape-law}
 use Rattle.hfs_btree_checks.proofs.shaped.ShapedTree.check_order.Goals as goal
 
 pub check_order-requires-clause-structure : goal.check_order-requires-clause-structure

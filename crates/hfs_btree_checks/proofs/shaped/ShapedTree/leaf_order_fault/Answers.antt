@@ -1,4 +1,4 @@
-use Rattle.hfs_btree_checks.specs.ShapeLaw.{shape-law}
+use Rattle.hfs_btree_checks.proofs.ShapeLawLemmas.{shape-law}
 use Rattle.hfs_btree_checks.proofs.shaped.ShapedTree.leaf_order_fault.Goals as goal
 
 pub leaf_order_fault-requires-clause-structure : goal.leaf_order_fault-requires-clause-structure

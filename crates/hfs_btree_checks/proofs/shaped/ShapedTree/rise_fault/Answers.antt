@@ -1,4 +1,4 @@
-use Rattle.hfs_btree_checks.specs.ShapeLaw.{shape-law}
+use Rattle.hfs_btree_checks.proofs.ShapeLawLemmas.{shape-law}
 use Rattle.hfs_btree_checks.proofs.shaped.ShapedTree.rise_fault.Goals as goal
 
 pub rise_fault-requires-clause-structure : goal.rise_fault-requires-clause-structure

@@ -1,6 +1,6 @@
 -- One more block of the file is in the patch.
 use Rattle.hfs_blocks.specs.Layers.{changes, over}
-use Rattle.hfs_btree_edits.specs.Written.{written_node, kept_beside, node_within, stays_within}
+use Rattle.hfs_btree_edits.proofs.WrittenLemmas.{written_node, kept_beside, node_within, stays_within}
 use Rattle.hfs_btree_edits.proofs.patch_nodes.PatchNodesNodesMut.write.Goals as goal
 
 pub block_of-block-requires-clause-within : goal.block_of-block-requires-clause-within

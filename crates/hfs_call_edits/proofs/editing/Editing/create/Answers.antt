@@ -6,7 +6,7 @@ use Rattle.hfs_model.specs.Need.{one_record}
 use Rattle.hfs_check.specs.Parts.{mdb_in}
 use Rattle.hfs_check.specs.VolumeOf.{volume_in}
 use Rattle.hfs_call_edits.proofs.ChosenPlaces.{creation_code}
-use Rattle.hfs_call_patches.specs.CreationAnswers.{file_refused, file_answered}
+use Rattle.hfs_call_patches.proofs.CreationAnswerLemmas.{file_refused, file_answered}
 use Rattle.hfs_call_edits.proofs.NewItemEdits.{ready_for, change_seen}
 use Rattle.hfs_call_edits.proofs.Wanting.{enough_nodes, full_edit, refused_edit}
 use Rattle.hfs_call_edits.proofs.editing.Editing.create.Goals as goal

@@ -9,7 +9,7 @@ use Rattle.hfs_model.specs.Replies.{success}
 use Rattle.hfs_call_edits.proofs.Edited.{file_choice, editing_now}
 use Rattle.hfs_call_edits.proofs.FileIdReplies.{create_refused, create_accepted, change_to}
 use Rattle.hfs_call_edits.proofs.FileIdsChosen.{create_code}
-use Rattle.hfs_call_patches.specs.ChosenFiles.{file_id_is}
+use Rattle.hfs_call_patches.proofs.ChosenFileLemmas.{file_id_is}
 use Rattle.hfs_call_edits.proofs.Wanting.{enough_nodes, full_edit, refused_edit}
 use Rattle.hfs_call_edits.proofs.editing.Editing.create_file_id.Goals as goal
 

@@ -6,7 +6,7 @@ use Rattle.hfs_model.specs.Need.{two_records}
 use Rattle.hfs_check.specs.Parts.{mdb_in}
 use Rattle.hfs_check.specs.VolumeOf.{volume_in}
 use Rattle.hfs_call_edits.proofs.ChosenPlaces.{creation_code}
-use Rattle.hfs_call_patches.specs.CreationAnswers.{folder_refused, folder_answered}
+use Rattle.hfs_call_patches.proofs.CreationAnswerLemmas.{folder_refused, folder_answered}
 use Rattle.hfs_call_edits.proofs.NewItemEdits.{ready_for, change_seen}
 use Rattle.hfs_call_edits.proofs.Wanting.{enough_nodes, full_edit, refused_edit}
 use Rattle.hfs_call_edits.proofs.editing.Editing.dir_create.Goals as goal

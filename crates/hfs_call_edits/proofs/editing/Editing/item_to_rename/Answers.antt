@@ -1,7 +1,7 @@
 -- The records choose what the volume's entries do.
 use Rattle.hfs_call_edits.proofs.RenameModel.{chooses_renaming}
 use Rattle.hfs_call_edits.proofs.Edited.{editing_now}
-use Rattle.hfs_queries.specs.Replies.{by_nodes}
+use Rattle.hfs_queries.proofs.ReplyLemmas.{by_nodes}
 use Rattle.hfs_call_edits.proofs.editing.Editing.item_to_rename.Goals as goal
 
 pub returns : goal.returns

@@ -1,7 +1,7 @@
 -- The records put a new item where the volume's entries do.
 use Rattle.hfs_call_edits.proofs.ChosenPlaces.{place_chosen}
 use Rattle.hfs_call_edits.proofs.Edited.{editing_now}
-use Rattle.hfs_queries.specs.Replies.{by_nodes}
+use Rattle.hfs_queries.proofs.ReplyLemmas.{by_nodes}
 use Rattle.hfs_call_edits.proofs.editing.Editing.new_place.Goals as goal
 
 pub returns : goal.returns

@@ -3,7 +3,7 @@ use Rattle.std.proofs.Common.{◌∙◌}
 use Rattle.std.specs.Option.{option_map}
 use Rattle.hfs_catalog.specs.Lookups.{catalog_item}
 use Rattle.hfs_check.specs.Parts.{catalog_in}
-use Rattle.hfs_queries.specs.Replies.{by_nodes}
+use Rattle.hfs_queries.proofs.ReplyLemmas.{by_nodes}
 use Rattle.hfs_queries.specs.Told.{folder_with}
 use Rattle.hfs_call_edits.proofs.Parents.{no_parent, parent_found, no_file_parent}
 use Rattle.hfs_call_edits.proofs.editing.Editing.parent.Goals as goal

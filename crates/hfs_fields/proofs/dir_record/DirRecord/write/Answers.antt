@@ -1,6 +1,7 @@
 use Rattle.std.proofs.Common.{length, ap, ◌∙◌, arith}
 use Rattle.hfs_fields.specs.Records.{begins_dir, dir_record_of}
-use Rattle.hfs_fields.specs.RecordForms.{dir_record_bytes, length-dir_record_bytes, begins_dir-written, dir_record_of-written}
+use Rattle.hfs_fields.specs.RecordForms.{dir_record_bytes}
+use Rattle.hfs_fields.proofs.RecordFormLemmas.{length-dir_record_bytes, begins_dir-written, dir_record_of-written}
 use Rattle.hfs_fields.proofs.Written.{written}
 use Rattle.hfs_fields.proofs.dir_record.DirRecord.write.Goals as goal
 

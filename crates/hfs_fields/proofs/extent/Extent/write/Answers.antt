@@ -1,6 +1,7 @@
 use Rattle.std.proofs.Common.{◌++◌, drop, refl, ◌∙◌, ap}
 use Rattle.byteorder.specs.Endian.{big_bytes}
-use Rattle.hfs_fields.specs.RecordForms.{extent_bytes, extent_at-read}
+use Rattle.hfs_fields.specs.RecordForms.{extent_bytes}
+use Rattle.hfs_fields.proofs.RecordFormLemmas.{extent_at-read}
 use Rattle.hfs_fields.proofs.Written.{written}
 use Rattle.hfs_fields.proofs.extent.Extent.write.Goals as goal
 

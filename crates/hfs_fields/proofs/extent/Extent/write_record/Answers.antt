@@ -1,5 +1,6 @@
 use Rattle.std.proofs.Common.{drop}
-use Rattle.hfs_fields.specs.RecordForms.{extents_bytes, length-extents_bytes, extents_at-read}
+use Rattle.hfs_fields.specs.RecordForms.{extents_bytes}
+use Rattle.hfs_fields.proofs.RecordFormLemmas.{length-extents_bytes, extents_at-read}
 use Rattle.hfs_fields.proofs.Written.{written}
 use Rattle.hfs_fields.proofs.extent.Extent.write_record.Goals as goal
 

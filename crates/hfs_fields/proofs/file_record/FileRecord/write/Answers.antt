@@ -1,6 +1,7 @@
 use Rattle.std.proofs.Common.{length, ap, ◌∙◌, arith}
 use Rattle.hfs_fields.specs.Records.{begins_file, file_record_of}
-use Rattle.hfs_fields.specs.RecordForms.{file_record_bytes, length-file_record_bytes, begins_file-written, file_record_of-written}
+use Rattle.hfs_fields.specs.RecordForms.{file_record_bytes}
+use Rattle.hfs_fields.proofs.RecordFormLemmas.{length-file_record_bytes, begins_file-written, file_record_of-written}
 use Rattle.hfs_fields.proofs.Written.{written}
 use Rattle.hfs_fields.proofs.file_record.FileRecord.write.Goals as goal
 

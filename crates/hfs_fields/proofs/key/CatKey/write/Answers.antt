@@ -1,6 +1,7 @@
 use Rattle.std.proofs.Common.{length, ap, ◌∙◌, refl, arith}
 use Rattle.hfs_fields.specs.Keys.{is_cat_key, cat_key_of}
-use Rattle.hfs_fields.specs.KeyForms.{cat_leaf_bytes, length-cat_leaf_bytes, is_cat_key-leaf, cat_key_of-leaf}
+use Rattle.hfs_fields.specs.KeyForms.{cat_leaf_bytes, length-cat_leaf_bytes}
+use Rattle.hfs_fields.proofs.KeyFormLemmas.{is_cat_key-leaf, cat_key_of-leaf}
 use Rattle.hfs_fields.proofs.Written.{written}
 use Rattle.hfs_fields.proofs.key.CatKey.write.Goals as goal
 

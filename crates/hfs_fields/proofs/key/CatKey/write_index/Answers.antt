@@ -1,7 +1,8 @@
 use Rattle.std.proofs.Common.{◌≡◌, ◌++◌, length, arith}
 use Rattle.std.proofs.lemmas.List.{length-append}
 use Rattle.byteorder.specs.Endian.{big_bytes}
-use Rattle.hfs_fields.specs.KeyForms.{cat_index_bytes, cat_index_record, length-cat_index_bytes}
+use Rattle.hfs_fields.specs.KeyForms.{cat_index_bytes, cat_index_record}
+use Rattle.hfs_fields.proofs.KeyFormLemmas.{length-cat_index_bytes}
 use Rattle.hfs_fields.proofs.Written.{written}
 use Rattle.hfs_fields.proofs.key.CatKey.write_index.Goals as goal
 

@@ -1,6 +1,7 @@
 use Rattle.std.proofs.Common.{drop, ap, ◌∙◌}
 use Rattle.hfs_fields.specs.Keys.{is_ext_key, ext_key_of}
-use Rattle.hfs_fields.specs.KeyForms.{length-ext_key_bytes, is_ext_key-written, ext_key_of-written}
+use Rattle.hfs_fields.specs.KeyForms.{length-ext_key_bytes}
+use Rattle.hfs_fields.proofs.KeyFormLemmas.{is_ext_key-written, ext_key_of-written}
 use Rattle.hfs_fields.proofs.Written.{written}
 use Rattle.hfs_fields.proofs.key.ExtKey.write.Goals as goal
 

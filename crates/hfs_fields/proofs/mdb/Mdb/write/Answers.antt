@@ -1,6 +1,7 @@
 use Rattle.std.proofs.Common.{◌++◌, length, drop, take, ap, ◌∙◌, arith}
 use Rattle.hfs_fields.specs.Mdb.{mdb_of}
-use Rattle.hfs_fields.specs.MdbForm.{mdb_head_bytes, mdb_tail_bytes, mdb_bytes, length-mdb_head_bytes, length-mdb_tail_bytes, length-mdb_bytes, mdb_of-first}
+use Rattle.hfs_fields.specs.MdbForm.{mdb_head_bytes, mdb_tail_bytes, mdb_bytes}
+use Rattle.hfs_fields.proofs.MdbFormLemmas.{length-mdb_head_bytes, length-mdb_tail_bytes, length-mdb_bytes, mdb_of-first}
 use Rattle.hfs_fields.proofs.Written.{written}
 use Rattle.hfs_fields.proofs.mdb.Mdb.write.Goals as goal
 

@@ -1,5 +1,5 @@
 use Rattle.std.proofs.Common.{◌≤◌, length, rules}
-use Rattle.hfs_fields.specs.NameFields.{padded}
+use Rattle.hfs_fields.proofs.NameFieldLemmas.{padded}
 use Rattle.hfs_fields.proofs.name.Name.of_bytes.Goals as goal
 
 pub invariant_of-result : goal.invariant_of-result

@@ -1,6 +1,7 @@
 use Rattle.std.proofs.Common.{length, ap, ◌∙◌, arith}
 use Rattle.hfs_fields.specs.Records.{begins_thread, thread_record_of}
-use Rattle.hfs_fields.specs.RecordForms.{thread_record_bytes, length-thread_record_bytes, begins_thread-written, thread_record_of-written}
+use Rattle.hfs_fields.specs.RecordForms.{thread_record_bytes}
+use Rattle.hfs_fields.proofs.RecordFormLemmas.{length-thread_record_bytes, begins_thread-written, thread_record_of-written}
 use Rattle.hfs_fields.proofs.Written.{written}
 use Rattle.hfs_fields.proofs.thread_record.ThreadRecord.write.Goals as goal
 

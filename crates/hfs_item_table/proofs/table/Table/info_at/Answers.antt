@@ -11,7 +11,7 @@ use Rattle.hfs_item_table.proofs.Members.{In, passed_one}
 use Rattle.hfs_item_table.specs.declared.place.Place.{Place}
 use Rattle.hfs_item_table.specs.Places.{place_cmp}
 use Rattle.hfs_item_table.specs.Tables.{items_of, volume_of}
-use Rattle.hfs_item_table.specs.Names.{nobody, told_of, told_under, names_under}
+use Rattle.hfs_item_table.proofs.NameLemmas.{nobody, told_of, told_under, names_under}
 use Rattle.hfs_item_table.proofs.Named.{between_is, in_under, has_item, listed}
 use Rattle.hfs_item_table.proofs.table.Table.info_at.Goals as goal
 

@@ -5,7 +5,7 @@ use Rattle.std.specs.FinMap as finite
 use Rattle.hfs_item_table.proofs.Members.{In}
 use Rattle.hfs_item_table.specs.declared.place.Place.{Place}
 use Rattle.hfs_item_table.specs.Tables.{items_of}
-use Rattle.hfs_item_table.specs.Names.{told_under}
+use Rattle.hfs_item_table.proofs.NameLemmas.{told_under}
 use Rattle.hfs_item_table.proofs.table.Table.info_at.Given as goal
 
 abbrev pub invariant-loop-place : goal.invariant-loop-place

@@ -1,6 +1,6 @@
 use Rattle.std.proofs.Common.{arith, ap, length, sym, ◌∙◌}
 use Rattle.hfs_node.specs.declared.node.Node.{Node}
-use Rattle.hfs_node.specs.Decoding.{length-records, count-inside}
+use Rattle.hfs_node.proofs.DecodingLemmas.{length-records, count-inside}
 use Rattle.hfs_node.proofs.node_view.NodeView.len.Goals as goal
 
 pub returns-clause-count : goal.returns-clause-count

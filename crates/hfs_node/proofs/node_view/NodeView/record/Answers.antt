@@ -1,6 +1,6 @@
 use Rattle.std.proofs.Common.{◌+◌, arith, ap, length, get_or, [], sym, ◌∙◌}
 use Rattle.hfs_node.specs.declared.node.Node.{Node}
-use Rattle.hfs_node.specs.Decoding.{length-records, get_or-records, count-inside, offset-inside, offset-rising, length-record}
+use Rattle.hfs_node.proofs.DecodingLemmas.{length-records, get_or-records, count-inside, offset-inside, offset-rising, length-record}
 use Rattle.hfs_node.proofs.node_view.NodeView.record.Goals as goal
 
 pub record_at-requires-clause-within : goal.record_at-requires-clause-within

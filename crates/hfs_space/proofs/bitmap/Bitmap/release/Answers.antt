@@ -1,7 +1,8 @@
 -- The bits in one more block are clear.
 use Rattle.std.proofs.Common.{◌+◌, ◌-◌, ◌*◌, ◌∙◌, ap, subst, sym, rules}
 use Rattle.hfs_space.specs.Bitmap.{is_marked}
-use Rattle.hfs_blocks.specs.Layers.{Changes, Numbered, changes, over, with_block, over-with_change, AreWithin, AreWithin-with_change}
+use Rattle.hfs_blocks.specs.Layers.{Changes, Numbered, changes, over, AreWithin}
+use Rattle.hfs_blocks.proofs.LayerLemmas.{with_block, over-with_change, AreWithin-with_change}
 use Rattle.hfs_space.proofs.Releases.{releasing-more}
 use Rattle.hfs_space.proofs.bitmap.Bitmap.release.Goals as goal
 

@@ -3,8 +3,8 @@ use Rattle.std.specs.Prelude.{IfOk}
 use Rattle.hfs_catalog.specs.Tree.{catalog_of}
 use Rattle.hfs_model.specs.declared.reply.Reply.{Reply}
 use Rattle.hfs_queries.specs.Brief.{without_ids}
-use Rattle.hfs_queries.specs.Replies.{lists}
-use Rattle.hfs_queries.specs.Details.{listed_in-brief}
+use Rattle.hfs_queries.proofs.ReplyLemmas.{lists}
+use Rattle.hfs_queries.proofs.DetailLemmas.{listed_in-brief}
 use Rattle.hfs_volume.proofs.volume.Volume.list_in_brief.Goals as goal
 
 pub returns : goal.returns

@@ -1,0 +1,5 @@
+pub mod ElementLemmas
+pub mod MemberLemmas
+pub mod ScanStepLemmas
+pub mod ScanLemmas
+pub mod TwoFaultLemmas
