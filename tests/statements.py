@@ -1,9 +1,10 @@
 #!/usr/bin/env python3
-"""Looks at what is stated and where: every item of specs/ is reached by a clause of the sources, since specs/ holds what a reader must
-believe and lemmas stand in proofs/; and no lemma of proofs/ stands in two files under one name with one statement.
+"""Looks at what is stated and where. Every item of specs/ is reached by a clause of the sources, since specs/ holds what a reader must
+believe and lemmas stand in proofs/. And a lemma of proofs/ should stand once.
 
-tests/statements.py: prints each item that no clause reaches and each lemma that stands twice, and last how many items and lemmas there
-are; its status is 1 where it prints one of the first two. It proves nothing and takes seconds.
+tests/statements.py [--twice]: prints each item that no clause reaches, with --twice also each lemma that stands in two files under one
+name with one statement, and last how many there are of each; its status is 1 where an item is not reached. It proves nothing and takes
+seconds.
 """
 import collections
 import pathlib
@@ -128,11 +129,12 @@ def main():
     lost, copies = unreached(specs), twice(proofs)
     for crate, module, name in lost:
         print(f"crates/{crate}/specs/{module.replace('.', '/')}.antt: no clause reaches {name}")
-    for (name, statement), files in copies.items():
-        print(f"{name} : {statement} stands in {', '.join(files)}")
+    if "--twice" in sys.argv:
+        for (name, statement), files in copies.items():
+            print(f"{name} : {statement} stands in {', '.join(files)}")
     count = sum(len(items) for items, _ in specs.values()), sum(len(items) for items, _ in proofs.values())
     print(f"{count[0]} items of specs/: {len(lost)} reached by no clause; {count[1]} items of proofs/: {len(copies)} stand twice")
-    return int(bool(lost or copies))
+    return int(bool(lost))
 
 
 sys.exit(main())
