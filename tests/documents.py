@@ -15,8 +15,9 @@ ROOT = pathlib.Path(__file__).resolve().parent.parent
 PAGES = [ROOT / "README.md", ROOT / "CONTRIBUTING.md", *sorted((ROOT / "docs").glob("*.md")), *sorted(ROOT.glob("crates/*/README.md"))]
 NARROW = [ROOT / "README.md", ROOT / "CONTRIBUTING.md", ROOT / "docs/MANUAL.md"]
 HOUSE_WORDS = (
-    "base book came choice content desk exact front headline journal kept laid legal level mark needed opening owned pair pass "
-    "patch place room row run seat session shown spot stray told turn"
+    "agrees base beside book came choice content desk entry exact fault frame front gate headline journal kept laid "
+    "lawful legal level mark needed opening outcome overflow owed owned pair pass patch place rekeyed room row run seat "
+    "session shaped shown sits sound source spot stamp stray swap table told turn turned want way went"
 ).split()
 
 
@@ -50,8 +51,11 @@ def files():
     return [f"/{it}" for it in told.stdout.splitlines()]
 
 
-def is_there(name, every):
-    """Whether a file has this name, or lies somewhere in the crate that the name begins with."""
+def is_there(name, every, page):
+    """Whether a file has this name, or lies somewhere in the crate that the name begins with. In a crate's page its own
+    files are meant."""
+    if page.parent.parent.name == "crates" and name.startswith(("src/", "specs/", "proofs/")):
+        return f"/{page.parent.relative_to(ROOT)}/{name}" in every
     crate, _, rest = name.removeprefix("../").partition("/")
     return any(it.endswith(f"/{crate}/{rest}".rstrip("/")) or rest and it.startswith(f"/crates/{crate}/") and it.endswith(f"/{rest}") for it in every)
 
@@ -63,7 +67,7 @@ def files_that_are_gone():
         for number, line in enumerate(page.read_text().splitlines(), 1):
             for match in named.finditer(line):
                 name = match[1] or match[2]
-                if not is_there(name, every):
+                if not is_there(name, every, page):
                     yield f"{page.relative_to(ROOT)}:{number}: there is no {name}"
 
 
