@@ -15,9 +15,10 @@ ROOT = pathlib.Path(__file__).resolve().parent.parent
 PAGES = [ROOT / "README.md", ROOT / "CONTRIBUTING.md", *sorted((ROOT / "docs").glob("*.md")), *sorted(ROOT.glob("crates/*/README.md"))]
 NARROW = [ROOT / "README.md", ROOT / "CONTRIBUTING.md", *sorted((ROOT / "docs").glob("*.md"))]
 HOUSE_WORDS = (
-    "agrees base beside book came choice content desk entry exact fault frame front gate headline journal kept laid "
-    "lawful legal level mark needed opening outcome overflow owed owned pair pass patch place rekeyed room row run seat "
-    "session shaped shown sits sound source spot stamp stray swap table told turn turned want way went"
+    "absorb agrees base beside book came choice claimed content covers desk entry exact fault frame front gate "
+    "gathered headline journal kept laid lawful legal level mark needed offspring opening outcome overflow owed owned "
+    "pair pass patch place published raised rekeyed room row run seat session shaped shown sits sound source spot "
+    "stamp step stray swap table told turn turned viewer want way went wide within worker"
 ).split()
 
 
