@@ -3,7 +3,7 @@
 
 - each crate of the program has a README and a row in docs/ARCHITECTURE.md, whose picture is what crates.txt says;
 - each word of the house that stands in a contract's definitions has its entry in the glossary;
-- each file that the documents name is there;
+- each file that the documents name is there, and each heading that a link leads to;
 - no line of README.md, CONTRIBUTING.md and docs/ is longer than 100 columns, but for the rows of tables.
 """
 import pathlib
@@ -72,6 +72,23 @@ def files_that_are_gone():
                     yield f"{page.relative_to(ROOT)}:{number}: there is no {name}"
 
 
+def anchor(heading):
+    """What a link to a heading ends with."""
+    return re.sub(r"[^\w\- ]", "", heading.replace("`", "").strip().lower()).replace(" ", "-")
+
+
+def headings(page):
+    text = re.sub(r"```.*?```", "", page.read_text(), flags=re.S)
+    return {anchor(it) for it in re.findall(r"^#+ (.*)$", text, re.M)}
+
+
+def links_that_lead_nowhere():
+    for page in PAGES:
+        for name, heading in re.findall(r"\]\(([\w./-]*)#([\w-]+)\)", page.read_text()):
+            if heading not in headings((page.parent / name).resolve() if name else page):
+                yield f"{page.relative_to(ROOT)}: there is no heading {name}#{heading}"
+
+
 def lines_that_are_long():
     for page in NARROW:
         for number, line in enumerate(page.read_text().splitlines(), 1):
@@ -80,7 +97,13 @@ def lines_that_are_long():
 
 
 def main():
-    found = [*crates_without_a_page(), *words_without_an_entry(), *files_that_are_gone(), *lines_that_are_long()]
+    found = [
+        *crates_without_a_page(),
+        *words_without_an_entry(),
+        *files_that_are_gone(),
+        *links_that_lead_nowhere(),
+        *lines_that_are_long(),
+    ]
     print("\n".join(found) or f"the documents agree: {len(PAGES)} pages, {len(chain())} crates")
     return 1 if found else 0
 
