@@ -3,8 +3,8 @@
 
 - each crate of the program has a README and a row in docs/ARCHITECTURE.md, whose picture is what crates.txt says;
 - each word of the house that stands in a contract's definitions has its entry in the glossary;
-- each file that the documents name is there;
-- no line of README.md, docs/MANUAL.md and CONTRIBUTING.md is longer than 100 columns.
+- each file that the documents name is there, and each heading that a link leads to;
+- no line of README.md, CONTRIBUTING.md and docs/ is longer than 100 columns, but for the rows of tables.
 """
 import pathlib
 import re
@@ -13,10 +13,12 @@ import sys
 
 ROOT = pathlib.Path(__file__).resolve().parent.parent
 PAGES = [ROOT / "README.md", ROOT / "CONTRIBUTING.md", *sorted((ROOT / "docs").glob("*.md")), *sorted(ROOT.glob("crates/*/README.md"))]
-NARROW = [ROOT / "README.md", ROOT / "CONTRIBUTING.md", ROOT / "docs/MANUAL.md"]
+NARROW = [ROOT / "README.md", ROOT / "CONTRIBUTING.md", *sorted((ROOT / "docs").glob("*.md"))]
 HOUSE_WORDS = (
-    "base book came choice content desk exact front headline journal kept laid legal level mark needed opening owned pair pass "
-    "patch place room row run seat session shown spot stray told turn"
+    "absorb agrees base beside book came choice claimed content covers desk entry exact fault frame front gate "
+    "gathered headline journal kept laid lawful legal level mark needed offspring opening outcome overflow owed owned "
+    "pair pass patch place published raised rekeyed room row run seat session shaped shown sits sound source spot "
+    "stamp step stray swap table told turn turned viewer want way went wide within worker"
 ).split()
 
 
@@ -50,8 +52,11 @@ def files():
     return [f"/{it}" for it in told.stdout.splitlines()]
 
 
-def is_there(name, every):
-    """Whether a file has this name, or lies somewhere in the crate that the name begins with."""
+def is_there(name, every, page):
+    """Whether a file has this name, or lies somewhere in the crate that the name begins with. In a crate's page its own
+    files are meant."""
+    if page.parent.parent.name == "crates" and name.startswith(("src/", "specs/", "proofs/")):
+        return f"/{page.parent.relative_to(ROOT)}/{name}" in every
     crate, _, rest = name.removeprefix("../").partition("/")
     return any(it.endswith(f"/{crate}/{rest}".rstrip("/")) or rest and it.startswith(f"/crates/{crate}/") and it.endswith(f"/{rest}") for it in every)
 
@@ -63,8 +68,25 @@ def files_that_are_gone():
         for number, line in enumerate(page.read_text().splitlines(), 1):
             for match in named.finditer(line):
                 name = match[1] or match[2]
-                if not is_there(name, every):
+                if not is_there(name, every, page):
                     yield f"{page.relative_to(ROOT)}:{number}: there is no {name}"
+
+
+def anchor(heading):
+    """What a link to a heading ends with."""
+    return re.sub(r"[^\w\- ]", "", heading.replace("`", "").strip().lower()).replace(" ", "-")
+
+
+def headings(page):
+    text = re.sub(r"```.*?```", "", page.read_text(), flags=re.S)
+    return {anchor(it) for it in re.findall(r"^#+ (.*)$", text, re.M)}
+
+
+def links_that_lead_nowhere():
+    for page in PAGES:
+        for name, heading in re.findall(r"\]\(([\w./-]*)#([\w-]+)\)", page.read_text()):
+            if heading not in headings((page.parent / name).resolve() if name else page):
+                yield f"{page.relative_to(ROOT)}: there is no heading {name}#{heading}"
 
 
 def lines_that_are_long():
@@ -75,7 +97,13 @@ def lines_that_are_long():
 
 
 def main():
-    found = [*crates_without_a_page(), *words_without_an_entry(), *files_that_are_gone(), *lines_that_are_long()]
+    found = [
+        *crates_without_a_page(),
+        *words_without_an_entry(),
+        *files_that_are_gone(),
+        *links_that_lead_nowhere(),
+        *lines_that_are_long(),
+    ]
     print("\n".join(found) or f"the documents agree: {len(PAGES)} pages, {len(chain())} crates")
     return 1 if found else 0
 
