@@ -7,7 +7,7 @@ use Rattle.std.proofs.lemmas.Bool.Decides.{nat_tests}
 use Rattle.std.proofs.lemmas.List.Sums.{sum_by-drop_more}
 use Rattle.hfs_names.specs.declared.calendar.Day.{Day}
 use Rattle.hfs_names.specs.Calendar.{is_leap_year, month_lengths, year_length, day_from_month, day_of_year, day_from_year, day_since_1904, days_of_years, days_before, IsDay}
-use Rattle.hfs_names.proofs.Tests.{each_below, at-each}
+use Rattle.hfs_names.proofs.EachBelow.{each_below, at-each}
 
 -- ---- months
 

@@ -12,7 +12,7 @@ use Rattle.hfs_names.specs.Digits.{upper_byte}
 use Rattle.hfs_names.specs.MacRoman.{high_characters, roman_character, character_text}
 use Rattle.hfs_names.specs.HostNames.{is_reserved, is_device_name, is_dropped_at_end, is_first_escaped, host_character, host_rest, host_name}
 use Rattle.hfs_names.specs.Laws.{is_bytes, IsSafe, AreHostNames}
-use Rattle.hfs_names.proofs.Tests.{each_below, at-each}
+use Rattle.hfs_names.proofs.EachBelow.{each_below, at-each}
 use Rattle.hfs_names.proofs.Codes.{Spells, word_length, IsCode, spells-one, spells-pass, spells-short, spells-mapped, all-at}
 
 -- ---- what a word is of
@@ -36,7 +36,7 @@ read-word (a ∷ b ∷ c ∷ rest) = if a == 61 then digit-value b * 16 + digit-
 -- ---- what was tried of each word
 
 -- the bytes that no word has
-is-safe-byte : ℕ → Bool
+unfoldable pub is-safe-byte : ℕ → Bool
 is-safe-byte x = not (x == 47) && not (x == 0)
 
 word-test : List ℕ → ℕ → Bool
@@ -46,7 +46,7 @@ word-test word c =
 -- the same without regard to case
 folded-test : List ℕ → ℕ → Bool
 folded-test word c =
-    (fold_letter (read-word word) == fold_letter c) && ((word_length (get_or word 0 0) == length word) && nat_lt 0 (length word))
+    (fold_letter (read-word word) == fold_letter c) && ((word_length (get_or word 0 0) == length word) && (nat_lt 0 (length word) && list_all is-safe-byte word))
 
 both-tests : Bool → ℕ → Bool
 both-tests escaped c = word-test (host_character escaped c) c && folded-test (folded (host_character escaped c)) c
@@ -96,6 +96,7 @@ record FoldedFacts (word : List ℕ) (c : ℕ) : Type 0 where
   pub reads : fold_letter (read-word word) ≡ fold_letter c
   pub len : word_length (get_or word 0 0) ≡ length word
   pub begun : 0 < length word
+  pub safe : list_all is-safe-byte word ≡ true
 
 word-facts : (escaped : Bool) (c : ℕ) → is-letter is-byte escaped c ≡ true → WordFacts (host_character escaped c) c
 unfolding both-tests word-test
@@ -114,7 +115,8 @@ folded-facts escaped c h =
     let all = (and_parts _ _ (tests-of escaped c h)).1 in
     let a = and_parts _ _ all in
     let b = and_parts _ _ a.1 in
-    record { reads = eqb-true _ _ a.0; len = eqb-true _ _ b.0; begun = ltb-true _ _ b.1 }
+    let d = and_parts _ _ b.1 in
+    record { reads = eqb-true _ _ a.0; len = eqb-true _ _ b.0; begun = ltb-true _ _ d.0; safe = d.1 }
 
 -- ---- what a host name spells
 
@@ -178,7 +180,7 @@ no-word w u e h len =
     let three : 3 ≡ length w = ap word_length first ∙ len in
     absurd (omega (arith, ap length e, length-append w u))
 
-one-name : (a b : List ℕ) → is_bytes a ≡ true → is_bytes b ≡ true → host_name a ≡ host_name b → a ≡ b
+pub one-name : (a b : List ℕ) → is_bytes a ≡ true → is_bytes b ≡ true → host_name a ≡ host_name b → a ≡ b
 unfolding is-byte
 one-name [] [] p q e = refl
 one-name [] (d ∷ b) p q e =
@@ -202,7 +204,7 @@ folded-spells : (c : ℕ) (behind : List ℕ) → is_bytes (c ∷ behind) ≡ tr
 unfolding is-byte
 folded-spells c behind h = spells-mapped fold_letter host_character (is-letter is-byte) (c ∷ behind) _ (name-spells is-byte c behind h)
 
-one-folded : (a b : List ℕ) → is_bytes a ≡ true → is_bytes b ≡ true → folded (host_name a) ≡ folded (host_name b) → folded a ≡ folded b
+pub one-folded : (a b : List ℕ) → is_bytes a ≡ true → is_bytes b ≡ true → folded (host_name a) ≡ folded (host_name b) → folded a ≡ folded b
 one-folded [] [] p q e = refl
 one-folded [] (d ∷ b) p q e =
     let s = folded-spells d b q in
@@ -218,7 +220,7 @@ one-folded (c ∷ a) (d ∷ b) p q e =
 
 -- ---- safe and short
 
-text-safe : (a : List ℕ) → is_bytes a ≡ true → list_all is-safe-byte (host_name a) ≡ true
+pub text-safe : (a : List ℕ) → is_bytes a ≡ true → list_all is-safe-byte (host_name a) ≡ true
 unfolding is-byte is-safe-byte host_name
 text-safe [] h = refl
 text-safe (c ∷ behind) h =
@@ -263,16 +265,31 @@ first-byte (c ∷ behind) h e =
     (ltb-true c 256 two.0) refl refl refl in
     eqb-false _ _ no (sym (get_or-append (host_character (is_first_escaped c behind) c) (host_rest behind) 0 0 f.begun) ∙ e)
 
-begun : (a : List ℕ) → is_bytes a ≡ true → host_name a ≢ []
+pub begun : (a : List ℕ) → is_bytes a ≡ true → host_name a ≢ []
 unfolding is-byte host_name
 begun [] h e = absurd (omega (arith, ap length e))
 begun (c ∷ behind) h e =
     let f = word-facts (is_first_escaped c behind) c (first-letter c behind h) in
     absurd (omega (arith, ap length e, length-append (host_character (is_first_escaped c behind) c) (host_rest behind), f.begun))
 
-safe-byte : (x : ℕ) → is-safe-byte x ≡ true → (x ≢ 47) × (x ≢ 0)
+pub safe-byte : (x : ℕ) → is-safe-byte x ≡ true → (x ≢ 47) × (x ≢ 0)
 unfolding is-safe-byte
 safe-byte x h = let two = and_parts _ _ h in (eqb-false x 47 (not-true _ two.0), eqb-false x 0 (not-true _ two.1))
+
+pub folded-safe : (a : List ℕ) → is_bytes a ≡ true → list_all is-safe-byte (folded (host_name a)) ≡ true
+unfolding is-safe-byte host_name
+folded-safe [] h = refl
+folded-safe (c ∷ behind) h =
+    spells-pass (λ e c. folded (host_character e c)) (is-letter is-byte) is-safe-byte (λ e c h. (folded-facts e c h).safe) (c ∷ behind) _ (folded-spells c behind h)
+
+pub folded-begun : (a : List ℕ) → is_bytes a ≡ true → folded (host_name a) ≡ [] → ⊥
+folded-begun a h e =
+    let first = begun a h in
+    first (of-none (host_name a) e)
+  where
+    of-none : (t : List ℕ) → folded t ≡ [] → t ≡ []
+    of-none [] e = refl
+    of-none (x ∷ t) e = absurd (omega (arith, ap length e))
 
 text-is-safe : (a : List ℕ) → is_bytes a ≡ true → IsSafe (host_name a)
 text-is-safe a h = record {

@@ -1,5 +1,5 @@
--- What holds of host names and of days.
-use Rattle.std.specs.Prelude.{◌≡◌, ◌≢◌, ℕ, nat_lt, Bool, ◌/◌, ◌^◌, ◌<◌, ◌≤◌, List, [], length, slice_index, IsTrue, codes}
+-- What holds of host names, of host paths and of days.
+use Rattle.std.specs.Prelude.{◌≡◌, ◌≢◌, ℕ, nat_lt, Bool, ◌/◌, ◌^◌, ◌<◌, ◌≤◌, List, [], length, slice_index, map, IsTrue, codes}
 use Rattle.std.specs.List.{list_all}
 use Rattle.std.specs.declared.cmp.Ordering.TheVariants.{Equal}
 use Rattle.hfs_fields.specs.Names.{is_item_name}
@@ -28,6 +28,14 @@ pub record AreHostNames (host_name : List ℕ → List ℕ) : Type 0 where
   pub one_in_case : (a b : List ℕ) → IsTrue (is_bytes a) → IsTrue (is_bytes b) → folded (host_name a) ≡ folded (host_name b) → name_cmp a b ≡ Equal
   -- and for an item's name no other letters have a case than those from a to z
   pub ascii : (a : List ℕ) → IsTrue (is_item_name a) → (k : ℕ) → k < length (host_name a) → slice_index (host_name a) k < 128
+
+-- the laws of host paths
+pub record AreHostPaths (host_path : List (List ℕ) → List ℕ) : Type 0 where
+  -- what leads to one host path are the same names
+  pub one_path : (a b : List (List ℕ)) → IsTrue (list_all is_bytes a) → IsTrue (list_all is_bytes b) → host_path a ≡ host_path b → a ≡ b
+  -- and without regard to case names that are the same in name order, one by one
+  pub one_in_case : (a b : List (List ℕ)) → IsTrue (list_all is_bytes a) → IsTrue (list_all is_bytes b) → folded (host_path a) ≡ folded (host_path b)
+      → map folded a ≡ map folded b
 
 -- the law of days: the day of each date of 32 bits is one of the calendar, and as many days behind 1 January 1904 as are asked for
 pub record AreDays (day_since_1904 : ℕ → Day) : Type 0 where

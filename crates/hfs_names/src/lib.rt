@@ -16,7 +16,7 @@ pub use calendar::Day;
 pub use characters::push_characters;
 pub use digits::push_hex;
 pub use hosts::{host_name, push_host_name};
-pub use laws::{day_laws, host_name_laws, known_moments};
+pub use laws::{day_laws, host_name_laws, host_path_laws, known_moments};
 pub use moments::push_moment;
 pub use paths::{push_host_path, push_mac_path, push_mac_path_characters};
 pub use plain::push_plain_text;
