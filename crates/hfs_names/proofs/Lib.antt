@@ -1,0 +1,7 @@
+mod EachBelow
+mod Stems
+pub mod Days
+pub mod DayLaw
+mod Codes
+pub mod HostNameLemmas
+pub mod HostPathLemmas

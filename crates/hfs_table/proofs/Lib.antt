@@ -1,0 +1,2 @@
+mod Dates
+mod Objects
