@@ -1,0 +1,7 @@
+//! The items of a volume in the order of its table: the root first, behind each folder those of its children in name order, and behind each
+//! child what lies in it.
+#![tactic(auto)]
+
+mod laws;
+
+pub use laws::tables_are_inventories;
