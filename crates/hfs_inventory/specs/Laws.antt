@@ -1,5 +1,5 @@
 -- What holds of the definitions. Each statement is what a function of src/laws.rt ensures.
-use Rattle.std.specs.Prelude.{◌≡◌, ◌≢◌, ◌↔◌, ℕ, List, map, AllPairs, Contains}
+use Rattle.std.specs.Prelude.{◌≢◌, ◌↔◌, List, map, AllPairs, Contains}
 use Rattle.hfs_model.specs.Volume.{Volume, Items, Entry}
 use Rattle.hfs_model.specs.Lawful.{Has, IsLawful}
 use Rattle.hfs_inventory.specs.Rows.{Row, table_of}
