@@ -2,6 +2,11 @@
 //! child what lies in it.
 #![tactic(auto)]
 
+mod inventory;
 mod laws;
+mod levels;
+mod runs;
+mod told;
 
+pub use inventory::Inventory;
 pub use laws::tables_are_inventories;
