@@ -2,3 +2,4 @@ pub mod ListLemmas
 pub mod TableLemmas
 pub mod RunLemmas
 pub mod LevelLemmas
+pub mod ToldLemmas

@@ -1,6 +1,6 @@
 -- The table of a lawful volume has each item once and behind its folder.
-use Rattle.std.proofs.Common.{◌≡◌, ◌≢◌, inl, inr, ⊎_elim, ℕ, zero, suc, ◌<◌, List, [], ◌∷◌, length, map, refl, sym, ◌∙◌, ap, subst, arith, Option, Some, None}
-use Rattle.std.specs.List.{Contains, AllPairs}
+use Rattle.std.proofs.Common.{◌≡◌, ◌≢◌, inl, inr, ⊎_elim, ℕ, zero, suc, ◌+◌, ◌-◌, ◌<◌, ◌≤◌, ◌++◌, List, [], ◌∷◌, length, map, refl, sym, ◌∙◌, ap, subst, arith, Option, Some, None}
+use Rattle.std.specs.List.{flat_map, Contains, AllPairs}
 use Rattle.std.specs.Option.{option_map}
 use Rattle.std.specs.FinMap as fin
 use Rattle.std.specs.declared.cmp.Ordering.TheVariants.{Less}
@@ -8,7 +8,7 @@ use Rattle.std.specs.Ordering.{is_eq}
 use Rattle.hfs_fields.specs.Order.{name_cmp, name_order}
 use Rattle.hfs_model.specs.declared.item.Item.{Item}
 use Rattle.hfs_model.specs.Volume.{Volume, Items, Entry}
-use Rattle.hfs_model.specs.Children.{children}
+use Rattle.hfs_model.specs.Children.{children, entries_of}
 use Rattle.hfs_model.specs.Chains.{Leads}
 use Rattle.hfs_model.specs.Lawful.{Has, IsLawful, parent_of}
 use Rattle.hfs_model.proofs.Facts.{same_some, true_false}
@@ -208,3 +208,43 @@ module _ (v : Volume) (h : IsLawful v) where
 
 pub tables_are_inventories : (v : Volume) → IsLawful v → IsInventory v.items (table_of v)
 tables_are_inventories v h = is_inventory v h
+
+-- ---- a table doesn't depend on how deep it may go, where that is deep enough
+
+none_in : (xs : List Entry) → ((c : Entry) → In c xs → ⊥) → xs ≡ []
+none_in [] none = refl
+none_in (c ∷ xs) none = absurd (none c (inl refl))
+
+flat_map-same : {A B : Type 0} (f g : A → List B) (xs : List A) → ((x : A) → In x xs → f x ≡ g x) → flat_map f xs ≡ flat_map g xs
+flat_map-same f g [] same = refl
+flat_map-same f g (x ∷ xs) same = λ i. same x (inl refl) i ++ flat_map-same f g xs (λ y j. same y (inr j)) i
+
+module _ (v : Volume) (h : IsLawful v) where
+  pub rows_steady : (n k j : ℕ) (above : List (List ℕ)) (dir : ℕ) → Ends (parent_of v.items) j dir → length (entries_of v) ≤ j + n
+      → rows_in (entries_of v) n above dir ≡ rows_in (entries_of v) (n + k) above dir
+  rows_steady zero k j above dir end deep = nothing k
+    where
+      none : children (entries_of v) dir ≡ []
+      none = none_in (children (entries_of v) dir) (λ c i.
+          let child = child_from_in v.items v.next_id h dir c i in
+          let top = to_top v h c child.0 in
+          let whole = from_above (parent_of v.items) (suc top.0) 0 c.0 1 top.2 (top_ends v h) in
+          let same : suc j ≡ whole.0 = one_end (parent_of v.items) (suc j) whole.0 c.0 (dir, step_up v h c dir i, end) whole.2 in
+          omega (arith, deep, top.1, whole.1, same))
+
+      nothing : (k : ℕ) → [] ≡ rows_in (entries_of v) (0 + k) above dir
+      nothing zero = refl
+      nothing (suc k) =
+          let one_more : 0 + suc k ≡ suc k = omega arith in
+          sym (ap (λ (m : ℕ). rows_in (entries_of v) m above dir) one_more ∙ ap (flat_map (below v h k above)) none)
+  rows_steady (suc n) k j above dir end deep =
+      let more : suc n + k ≡ suc (n + k) = omega arith in
+      flat_map-same (below v h n above) (below v h (n + k) above) (children (entries_of v) dir)
+      (λ c i. ap (λ (l : List Row). row_below above c ∷ l) (rows_steady n k (suc j) (path_below above c) c.0 (dir, step_up v h c dir i, end) (omega (arith, deep))))
+      ∙ ap (λ (m : ℕ). rows_in (entries_of v) m above dir) (sym more)
+
+  -- so with any number from that of the items on
+  pub rows_deep : (n : ℕ) → length (entries_of v) ≤ n → rows_of (entries_of v) ≡ rows_in (entries_of v) n [] 1
+  rows_deep n le =
+      let k : length (entries_of v) + (n - length (entries_of v)) ≡ n = omega (arith, le) in
+      rows_steady (length (entries_of v)) (n - length (entries_of v)) 0 [] 1 (top_ends v h) (omega arith) ∙ ap (λ (m : ℕ). rows_in (entries_of v) m [] 1) k

@@ -1,5 +1,5 @@
-use Rattle.std.proofs.Common.{rules, ◌≡◌, ◌≤◌, ◌<◌, length, ◌∙◌, sym, arith, of_calls}
-use Rattle.hfs_inventory.proofs.LevelLemmas.{level_goes_on, level_ends, level_too_deep, shorter, no_levels}
+use Rattle.std.proofs.Common.{rules, ◌≤◌, ◌<◌, length, ◌∙◌, arith}
+use Rattle.hfs_inventory.proofs.LevelLemmas.{level_goes_on, level_ends, level_too_deep, shorter}
 use Rattle.hfs_inventory.proofs.levels.next_row.Goals as goal
 
 pub returns-in-Some-next_item-clause-row : goal.returns-in-Some-next_item-clause-row
