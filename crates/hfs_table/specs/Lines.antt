@@ -45,9 +45,13 @@ csv_line names info = join_by (λ column. csv_field (field_text names info colum
 abbrev pub member : List (List ℕ) → Info → Column → List json.Token
 member names info column = json.key (column_name column) ∷ cell_value (cell column names info) ∷ []
 
--- an object with the members in the order of the columns, and a line feed
+-- an object with the members in the order of the columns
+unfoldable pub object : List (List ℕ) → Info → List json.Token
+object names info = json.begin_object ∷ flat_map (member names info) columns ++ json.end_object ∷ []
+
+-- its text without spaces, and a line feed
 unfoldable pub json_line : List (List ℕ) → Info → List ℕ
-json_line names info = print (json.begin_object ∷ flat_map (member names info) columns ++ json.end_object ∷ []) ++ codes "\n"
+json_line names info = print (object names info) ++ codes "\n"
 
 -- ---- any format
 

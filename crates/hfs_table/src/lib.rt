@@ -7,5 +7,7 @@ mod csv;
 mod format;
 mod json_line;
 mod tab;
+#[cfg(test)]
+mod tests;
 
 pub use format::{Format, push_head, push_row};

@@ -6,6 +6,6 @@ use Rattle.hfs_table.proofs.json_line.put_members.Given as goal
 
 abbrev pub invariant-loop-column : goal.invariant-loop-column
 invariant-loop-column l = record {
-  before : l.object.before ≡ l.initial.object.before;
-  tokens : l.object.tokens ≡ l.initial.object.tokens ++ flat_map (member l.names l.info) (take l.column-index l.columns);
+  before : l.writer.before ≡ l.initial.writer.before;
+  tokens : l.writer.tokens ≡ l.initial.writer.tokens ++ flat_map (member l.names l.info) (take l.column-index l.columns);
 }
