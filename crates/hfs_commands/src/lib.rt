@@ -9,6 +9,7 @@ mod fault;
 mod files;
 mod forks;
 mod hint;
+mod items;
 mod listing;
 mod macbinary;
 mod paths;
@@ -22,13 +23,15 @@ pub use contents::Contents;
 pub use fault::{Fault, Status};
 pub use files::{ImageFile, load_file, load_script, open_image};
 pub use forks::write_fork;
-pub use hfs_needed::{NeededFault, NeededFile, needed_file, needed_fork};
+pub use hfs_needed::{NeededFault, NeededFile, OpenedImage, needed_file, needed_fork};
 pub use hfs_runs::{Gate, Ran, ScriptFault, run_script, run_script_at};
-pub use hfs_sparse::{BlockSource, SparseFault};
+pub use hfs_sparse::{BlockSource, ByteSource, SparseFault};
+pub use hfs_table::Format;
 pub use hfs_texts::{
     IMAGE_LIMIT, InfoFault, LoadFault, load, load_within, put, reply_text, run_info,
 };
 pub use hint::Hint;
+pub use items::write_items;
 pub use listing::{children_text, code_text, list_text, needed_list_text};
 pub use macbinary::{put_macbinary, write_macbinary};
 pub use paths::ShownPath;

@@ -16,7 +16,11 @@ use Rattle.hfs_queries.proofs.DetailLemmas.{listed_in-brief}
 use Rattle.hfs_queries.specs.Queries.{AreEntries, RecordsAreEntries}
 use Rattle.hfs_queries.proofs.ReplyLemmas.{lists}
 use Rattle.hfs_sparse.specs.Sparse.{sparse, IsOf}
+use Rattle.hfs_inventory.specs.Laws.{CatalogsTellTables}
+use Rattle.hfs_inventory.specs.Levels.{Going, catalog_rows}
+use Rattle.hfs_inventory.specs.Told.{told_rows}
 use Rattle.hfs_needed.specs.Laws.{AnswerSame, HoldSame}
+use Rattle.hfs_needed.specs.Listing.{HoldsTable}
 use Rattle.hfs_needed.specs.Gathered.{HasNeeded, IsOfKnown, GatheredIsEnough}
 use Rattle.hfs_needed.specs.Known.{OfKnown}
 
@@ -59,3 +63,18 @@ records-known law enough answers (Some bytes) len read needed of sound records e
     e
     ∙ sym (held law enough answers bytes read (subst (λ (n : ℕ). HasNeeded (n / 512) read) (sym same) needed) of
     (subst (λ (n : ℕ). AreBlocksSound (n / 512) (sparse read)) (sym same) sound)).catalog
+
+told-of : CatalogsTellTables → (bytes : List ℕ) → AreBlocksSound (block_count bytes) (block_at bytes) → catalog_rows (catalog_in (block_at bytes)) ≡ told_rows (entries_of (volume_of bytes))
+unfolding volume_of
+told-of tells bytes sound = tells (block_count bytes) (block_at bytes) (length-block_at bytes) sound
+
+pub table-known : NoBlocksFault → GatheredIsEnough → RecordsAreEntries → CatalogsTellTables → (known : Option (List ℕ)) (len : ℕ) (read : Numbered) → HasNeeded (len / 512) read
+    → IsOfKnown known read → AreBlocksSound (len / 512) (sparse read) → (records : Catalog) → records ≡ catalog_in (sparse read) → (inventory : Going)
+    → inventory.left ≡ catalog_rows records → HoldsTable known len inventory
+table-known law enough answers tells None len read needed of sound records e inventory is = tt
+table-known law enough answers tells (Some bytes) len read needed of sound records e inventory is = λ same.
+    let needed' = subst (λ (n : ℕ). HasNeeded (n / 512) read) (sym same) needed in
+    let sound' = subst (λ (n : ℕ). AreBlocksSound (n / 512) (sparse read)) (sym same) sound in
+    is
+    ∙ ap catalog_rows (e ∙ sym (held law enough answers bytes read needed' of sound').catalog)
+    ∙ told-of tells bytes (image-sound law enough answers bytes read needed' of sound')

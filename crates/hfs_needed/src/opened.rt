@@ -1,7 +1,7 @@
 //! An image that is opened and checked once, and asked as often as one likes.
 ghost use Rattle.std.specs.Prelude.{◌≡◌, IfOk, IfErr};
 ghost use Rattle.hfs_needed.specs.Forks.{FindsForkNamed, RefusesForkNamed};
-ghost use Rattle.hfs_needed.specs.Listing.{IsBriefList, HoldsCatalog};
+ghost use Rattle.hfs_needed.specs.Listing.{IsBriefList, HoldsCatalog, HoldsTable};
 ghost use Rattle.hfs_needed.specs.Opened.{IsRefusedFor};
 ghost use Rattle.hfs_needed.specs.OpenedValues.{opened_value};
 
@@ -11,6 +11,7 @@ use crate::listing::{catalog_records, list_in_brief};
 use crate::opening::{NeededFault, NeededVolume, open_needed};
 use hfs_catalog::CatalogRecord;
 use hfs_check::no_blocks_fault;
+use hfs_inventory::{Inventory, catalogs_tell_tables};
 use hfs_model::{Fork, Reply};
 use hfs_queries::catalog_answers;
 use hfs_sparse::{BlockSource, SparseFault};
@@ -77,6 +78,19 @@ impl<S: BlockSource + Drop> OpenedImage<S> {
         no_blocks_fault();
         let volume = &self.volume;
         catalog_records(alloc, &volume.read, volume.count, &volume.sound.trees)
+    }
+
+    /// All items, one after the other in the order of the table. Nothing is read. Error: memory was refused.
+    pub fn inventory(&self, alloc: Global) -> Result<Inventory, AllocError>
+        ensures { IfOk result (HoldsTable self.now.known self.now.len) }
+    {
+        catalog_answers();
+        catalogs_tell_tables();
+        gathered_is_enough();
+        no_blocks_fault();
+        let volume = &self.volume;
+        let records = catalog_records(alloc, &volume.read, volume.count, &volume.sound.trees)?;
+        Inventory::new(alloc, records)
     }
 
     /// The bytes of a file's fork, whose own blocks alone are read; or what a call that reads the fork answers where there is none: -37,

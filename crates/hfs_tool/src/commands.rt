@@ -5,10 +5,10 @@ use crate::saving::{save, tell};
 use crate::words::{FileWords, ForkWords, NewVolume, RunWords, Words};
 use hfs_check::MountFault;
 use hfs_commands::{
-    BlockSource, Fault, ImageFile, NeededFile, Ran, RepairAnswer, Status, check_text, code_text,
-    list_text, load_file, load_script, needed_check_text, needed_file, needed_fork,
-    needed_list_text, open_image, put, put_macbinary, refused_text, repair_answer, run_info,
-    run_script_at, write_fork, write_macbinary,
+    BlockSource, ByteSource, Fault, Format, ImageFile, NeededFile, OpenedImage, Ran, RepairAnswer,
+    Status, check_text, code_text, list_text, load_file, load_script, needed_check_text,
+    needed_file, needed_fork, needed_list_text, open_image, put, put_macbinary, refused_text,
+    repair_answer, run_info, run_script_at, write_fork, write_items, write_macbinary,
 };
 use hfs_format::{FormatPlan, format};
 use hfs_model::Reply;
@@ -30,6 +30,7 @@ pub fn obey<'a, T: Threads + Wait + Sync>(
         Words::Info { image: Some(image) } => print_info_of(rt, *image),
         Words::Check { image } => print_check(rt, *image),
         Words::List { image, dir } => print_list(rt, *image, *dir),
+        Words::Items { image, format } => print_items(rt, *image, *format),
         Words::Cat(file) => print_fork(rt, file),
         Words::MacBinary(file) => print_macbinary(rt, file),
         Words::New(volume) => write_new(rt, volume),
@@ -115,6 +116,49 @@ fn print_list<'a>(rt: &HostRuntime, path: &'a str, dir: u32) -> Result<u8, Fault
             print_told(rt, list_text(rt.alloc(), &volume, dir))
         }
     }
+}
+
+/// Prints the table of an image's items.
+fn print_items<'a>(rt: &HostRuntime, path: &'a str, format: Format) -> Result<u8, Fault<'a>> {
+    match open_image(rt, path)? {
+        ImageFile::Seekable { source, len } => print_items_of(rt, path, source, len, format),
+        ImageFile::Whole(image) => print_whole_items(rt, path, &image, format),
+    }
+}
+
+/// Prints the table of the items of an image whose bytes are all there.
+fn print_whole_items<'a>(
+    rt: &HostRuntime,
+    path: &'a str,
+    image: &[u8],
+    format: Format,
+) -> Result<u8, Fault<'a>> {
+    let source = ByteSource { bytes: image };
+    print_items_of(rt, path, source, image.len() as u64, format)
+}
+
+/// Prints the table of the items of an image of so many bytes.
+fn print_items_of<'a, S: BlockSource + Drop>(
+    rt: &HostRuntime,
+    path: &'a str,
+    source: S,
+    len: u64,
+    format: Format,
+) -> Result<u8, Fault<'a>> {
+    match OpenedImage::open(rt.alloc(), source, len) {
+        Ok(opened) => print_table(rt, &opened, format),
+        Err(fault) => Err(Fault::of_needed(fault, path)),
+    }
+}
+
+/// Prints the table of an opened image's items.
+fn print_table<S: BlockSource + Drop>(
+    rt: &HostRuntime,
+    opened: &OpenedImage<S>,
+    format: Format,
+) -> Result<u8, Fault<'static>> {
+    write_items(rt.alloc(), &mut rt.stdout(), opened, format)?;
+    Ok(Status::Done.number())
 }
 
 /// Prints the bytes of a file's fork, or the code of the call that was refused.

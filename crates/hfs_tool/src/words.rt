@@ -4,6 +4,7 @@ ghost use Rattle.std.specs.Prelude.{◌≡◌, [], unwrap_or};
 ghost use Rattle.clap.specs.Matches.{first_value, found_of};
 
 use clap::{Arg, ArgAction, ArgMatches, Command, Error, value_parser};
+use hfs_commands::Format;
 use hfs_model::Fork;
 use std::alloc::{AllocError, Global};
 
@@ -16,6 +17,8 @@ pub enum Words<'a> {
     Check { image: &'a str },
     /// `ls IMAGE [DIR]`: a line for each child of the folder of that ID.
     List { image: &'a str, dir: u32 },
+    /// `items IMAGE [--format tab|csv|json]`: a line for each item of the volume.
+    Items { image: &'a str, format: Format },
     /// `cat IMAGE DIR NAME [--resource]`: the bytes of a file's fork.
     Cat(ForkWords<'a>),
     /// `cat IMAGE DIR NAME --macbinary`: a file with both forks.
@@ -149,6 +152,21 @@ Faults, in the order in which they are looked for; each is printed alone:
   no place for a viewer
   cannot write FILE  the file is as it was";
 
+/// What the columns of the table are.
+const COLUMNS: &str = "The columns:
+  path                        names from the volume down to the item, with colons between
+  kind, id, parent            folder or file; its ID; the ID of its folder
+  type, creator               of a file, four characters each
+  flags                       the Finder's flags, four hexadecimal digits
+  locked, file_id             of a file: yes or no
+  created, modified, backup   as 1999-12-31T23:59:59, in no zone; empty for no date
+  items                       of a folder: how many items it holds
+  data_bytes, resource_bytes  of a file: the lengths of its forks
+  finder                      all 32 bytes of the Finder, hexadecimal
+
+In tables a character below 32, DEL and the backslash are a backslash and two hexadecimal digits. In JSON path, type and creator
+hold the characters themselves, numbers are numbers, yes and no are true and false, and an empty field is null.";
+
 /// What stands behind the help text.
 const AFTER_HELP: &str = "Exit statuses:
   0  done
@@ -162,6 +180,7 @@ Examples:
   hfs_tool info disk.img
   hfs_tool check disk.img
   hfs_tool ls disk.img
+  hfs_tool items disk.img --format csv > items.csv || rm items.csv
   hfs_tool cat disk.img 19 'Read Me' > read_me.data || rm read_me.data
   hfs_tool cat disk.img 19 'Read Me' --macbinary > read_me.bin || rm read_me.bin
   hfs_tool new disk.img Archive 1600 40 4
@@ -179,7 +198,8 @@ fn command<'a>(alloc: Global) -> Result<Command<'a>, AllocError> {
     let with_info = with_word(Ok(bare_command(alloc)), info_command(alloc));
     let with_check = with_word(with_info, check_command(alloc));
     let with_list = with_word(with_check, list_command(alloc));
-    let with_cat = with_word(with_list, cat_command(alloc));
+    let with_items = with_word(with_list, items_command(alloc));
+    let with_cat = with_word(with_items, cat_command(alloc));
     let with_new = with_word(with_cat, new_command(alloc));
     let with_repair = with_word(with_new, repair_command(alloc));
     with_word(with_repair, run_command(alloc))
@@ -244,6 +264,30 @@ fn list_command<'a>(alloc: Global) -> Result<Command<'a>, AllocError> {
         )
         .arg(image(alloc));
     with_argument(with_image, folder(alloc))
+}
+
+/// The names of the formats of a table.
+const FORMATS: &[&str] = &["tab", "csv", "json"];
+
+/// The format of a table, with tabs where it isn't given.
+fn format<'a>(alloc: Global) -> Arg<'a> {
+    Arg::new(alloc, "format")
+        .long("format")
+        .value_name("FORMAT")
+        .action(ArgAction::Set)
+        .value_parser(FORMATS)
+        .default_value("tab")
+        .help("Fields with tabs between, CSV with a head, or an object of JSON for each item")
+}
+
+fn items_command<'a>(alloc: Global) -> Result<Command<'a>, AllocError> {
+    let with_image = Command::new(alloc, "items")
+        .about(
+            "Prints a line for each item of the volume: the root first, behind each folder what lies in it",
+        )
+        .after_help(COLUMNS)
+        .arg(image(alloc));
+    with_argument(with_image, format(alloc))
 }
 
 /// The choice of a file's resource fork.
@@ -356,6 +400,10 @@ fn words_behind<'a>(word: &str, inner: &ArgMatches<'a>) -> Words<'a> {
             image: text_of(inner, "IMAGE"),
             dir: number_of(inner, "DIR"),
         },
+        "items" => Words::Items {
+            image: text_of(inner, "IMAGE"),
+            format: format_of(inner),
+        },
         "cat" => cat_words(inner),
         "new" => new_words(inner),
         "repair" => Words::Repair {
@@ -370,6 +418,15 @@ fn words_behind<'a>(word: &str, inner: &ArgMatches<'a>) -> Words<'a> {
 fn info_words<'a>(matches: &ArgMatches<'a>) -> Words<'a> {
     Words::Info {
         image: matches.get_str("IMAGE"),
+    }
+}
+
+/// The format of a table that was asked for.
+fn format_of(matches: &ArgMatches<'_>) -> Format {
+    match text_of(matches, "format") {
+        "csv" => Format::Csv,
+        "json" => Format::Json,
+        _ => Format::Tab,
     }
 }
 

@@ -1,0 +1,64 @@
+-- What is written of a table while its rows come.
+use Rattle.std.proofs.Common.{◌≡◌, ◌∙◌, refl, sym, ap, subst, arith, ℕ, ◌+◌, ◌≤◌, Bool, true, false, Some, None, List, [], ◌∷◌, ◌++◌, length, take, min, Option, append_assoc, append-nil}
+use Rattle.std.specs.Io.KnownBytes.{Appends}
+use Rattle.std.proofs.KnownBytes.{Appends-nil, Appends-trans}
+use Rattle.hfs_inventory.specs.Told.{ToldRow}
+use Rattle.hfs_table.specs.Lines.{head_text}
+use Rattle.hfs_table.specs.declared.format.Format.{Format}
+use Rattle.hfs_texts.specs.Writing.{AppendsFront}
+use Rattle.hfs_needed.specs.Known.{OfKnown}
+use Rattle.hfs_needed.specs.Listing.{HoldsTable}
+use Rattle.hfs_inventory.specs.Levels.{Going}
+use Rattle.hfs_commands.specs.Items.{MovesRow, items_text, rows_text, table_text}
+use Rattle.hfs_commands.proofs.Rows.{front_first, front_next, whole_next}
+
+-- these bytes went out; the text that is gathered and the lines of the rows that are to come make the rest
+pub record IsBegun (format : Format) (start now : Option (List ℕ)) (text : List ℕ) (left : List ToldRow) (whole : List ℕ) : Type 0 where
+  pub out : List ℕ
+  pub written : Appends start now out
+  pub rest : whole ≡ out ++ (text ++ rows_text format left)
+
+false_true : false ≡ true → ⊥
+false_true e = cc
+
+module _ (format : Format) (start : Option (List ℕ)) (whole : List ℕ) where
+  -- one row more is gathered, or there is none
+  pub gathered : (more : Bool) (now : Option (List ℕ)) (text new : List ℕ) (rows left : List ToldRow) → IsBegun format start now text rows whole
+      → MovesRow format more text new rows left → more ≡ true → IsBegun format start now new left whole
+  gathered true now text new rows left begun moved is = record { out = begun.out; written = begun.written; rest = begun.rest ∙ ap (λ (l : List ℕ). begun.out ++ l) moved.0 }
+  gathered false now text new rows left begun moved is = absurd (false_true is)
+
+  pub none-gathered : (more : Bool) (now : Option (List ℕ)) (text new : List ℕ) (rows left : List ToldRow) → IsBegun format start now text rows whole
+      → MovesRow format more text new rows left → more ≡ false → IsBegun format start now new rows whole
+  none-gathered true now text new rows left begun moved is = absurd (false_true (sym is))
+  none-gathered false now text new rows left begun moved is = subst (λ (t : List ℕ). IsBegun format start now t rows whole) (sym moved.0) begun
+
+  -- the text goes out
+  pub put-out : (now later : Option (List ℕ)) (text : List ℕ) (left : List ToldRow) → IsBegun format start now text left whole
+      → Appends now later text → (new : List ℕ) → new ≡ [] → IsBegun format start later new left whole
+  put-out now later text left begun written new none = record {
+    out = begun.out ++ text;
+    written = whole_next start now later begun.out text begun.written written;
+    rest = begun.rest ∙ sym (append_assoc begun.out text (rows_text format left)) ∙ ap (λ (l : List ℕ). (begun.out ++ text) ++ (l ++ rows_text format left)) (sym none);
+  }
+
+  -- a part of the text goes out
+  pub front : (now later : Option (List ℕ)) (text : List ℕ) (left : List ToldRow) → IsBegun format start now text left whole → AppendsFront now later text → AppendsFront start later whole
+  front now later text left begun part =
+      subst (AppendsFront start later) (sym begun.rest)
+      (front_next start now later begun.out (text ++ rows_text format left) begun.written (front_first now later text (rows_text format left) part))
+
+  -- nothing more goes out
+  pub stopped : (now : Option (List ℕ)) (text : List ℕ) (left : List ToldRow) → IsBegun format start now text left whole → AppendsFront start now whole
+  stopped now text left begun = front now now text left begun (0, Appends-nil now)
+
+-- at first
+pub begins : (format : Format) (start : Option (List ℕ)) (text : List ℕ) (left : List ToldRow) → text ≡ head_text format → IsBegun format start start text left (table_text format left)
+unfolding table_text
+begins format start text left head = record { out = []; written = Appends-nil start; rest = ap (λ (l : List ℕ). l ++ rows_text format left) (sym head) }
+
+-- the table of the rows to come is that of an image whose rows they are
+pub known-text : (P : List ℕ → Type 0) (format : Format) (known : Option (List ℕ)) (len : ℕ) (inventory : Going) → HoldsTable known len inventory → P (table_text format inventory.left)
+    → OfKnown known len (λ image. P (items_text format image))
+known-text P format None len inventory holds p = tt
+known-text P format (Some bytes) len inventory holds p = λ same. subst P (ap (table_text format) (holds same)) p

@@ -1,0 +1,5 @@
+pub mod ListLemmas
+pub mod TableLemmas
+pub mod RunLemmas
+pub mod LevelLemmas
+pub mod ToldLemmas

@@ -1,0 +1,25 @@
+-- What was opened gives the rows of the image's table.
+use Rattle.std.proofs.Common.{subst, sym}
+use Rattle.std.specs.Prelude.{IfOk}
+use Rattle.hfs_fields.specs.Keys.{cat_cmp}
+use Rattle.hfs_btree.specs.Pairs.{Rises}
+use Rattle.hfs_catalog.specs.Records.{Catalog}
+use Rattle.hfs_inventory.specs.Levels.{Going}
+use Rattle.hfs_needed.specs.Listing.{HoldsTable}
+use Rattle.hfs_needed.specs.OpenedValues.{OpenedValue}
+use Rattle.hfs_needed.proofs.Listed.{table-known}
+use Rattle.hfs_needed.proofs.Reported.{ok-so}
+use Rattle.hfs_needed.proofs.opened.OpenedImage.inventory.Goals as goal
+
+pub new-requires : goal.new-requires
+new-requires g c = subst (λ (catalog : Catalog). Rises cat_cmp catalog) (sym c.in_ok-records.ensures) c.self.invariant.sound.places.records.rises
+
+pub returns : goal.returns
+returns g c =
+    let opened = c.self.inside in
+    let is = c.self.invariant in
+    subst (λ (s : OpenedValue). IfOk c.new.result (HoldsTable s.known s.len)) c.self.view_is
+    (ok-so c.new.result
+    (λ (inventory : Going).
+    table-known c.no_blocks_fault.ensures c.gathered_is_enough.ensures c.catalog_answers.ensures.entries c.catalogs_tell_tables.ensures (g.S.BlockSource.image opened.source) opened.len
+    opened.volume.read is.needed is.of is.sound c.in_ok-records.records.items c.in_ok-records.ensures inventory) c.new.ensures)
