@@ -119,7 +119,7 @@ runs_page docs/MANUAL.md 40
 
 # The man page is what the help says.
 tests/man_page.sh | cmp -s - docs/hfs_tool.1 || fail 'docs/hfs_tool.1 is not made of the help'
-[ "$("$tool" --version)" = "hfs_tool 0.1.0 (proved with Rattle's $(rt version | sed 's/^[^ ]* //'))" ] || fail 'the version'
+[ "$("$tool" --version)" = "hfs_tool 1.0.0 (proved with Rattle's $(rt version | sed 's/^[^ ]* //'))" ] || fail 'the version'
 
 # What the README says that they print.
 disk=$volumes/hfsutils-800k.img

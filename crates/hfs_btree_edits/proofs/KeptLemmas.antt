@@ -10,6 +10,8 @@ use Rattle.hfs_scans.proofs.ElementLemmas.{each-mono}
 use Rattle.hfs_btree.specs.Tree.{Store, node_in, records_in, records_of, forward_of}
 use Rattle.hfs_btree.specs.Header.{header_of, header_in, record_in, chain_from, map_nodes, own_nodes, map_bytes, bit_of, marks, free_nodes}
 use Rattle.hfs_btree.specs.Sound.{HasHeader, HasMap, IsMapNode, IsMarked}
+use Rattle.hfs_btree_edits.specs.Stored.{IsSame}
+use Rattle.hfs_btree_edits.specs.Stored.{IsOnward}
 
 pub flat_map-same : {X Y : Type 0} (f h : X → List Y) (xs : List X) → Each (λ x. f x ≡ h x) xs → flat_map f xs ≡ flat_map h xs
 flat_map-same f h [] e = refl

@@ -10,6 +10,7 @@ use Rattle.hfs_btree.specs.Header.{depth_of, root_level, leaves, own_nodes, tree
 use Rattle.hfs_btree.specs.Sound.{IsOther, IsDistinct, IsRight, IsExact, IsStray, HasStructure, AreKeysInOrder, AreKeysExact}
 use Rattle.hfs_btree_edits.proofs.HeadedLemmas.{own_nodes-is, marked-on, marked-back, has_header, has_map}
 use Rattle.hfs_btree_edits.proofs.UnchangedLemmas.{IsUnchanged, turn-unchanged, last-unchanged, rights-unchanged, keyed-unchanged, exact-unchanged, content-unchanged}
+use Rattle.hfs_btree_edits.proofs.StoredLemmas.{IsRecounted}
 
 module _ {K : Type 0} (g : Ghosts K) (old new : Store) (d : IsRecounted g old new) (structure : HasStructure g old) where
   not-zero : (n : ℕ) → 1 ≤ n → n ≢ 0

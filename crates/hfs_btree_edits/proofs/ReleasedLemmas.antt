@@ -15,6 +15,7 @@ use Rattle.hfs_btree.specs.Header.{header_in, depth_of, root_level, map_nodes, o
 use Rattle.hfs_btree.specs.Sound.{IsOther, IsDistinct, IsRight, IsMapNode, IsMarked, IsSound, IsExact, IsStray, HasHeader, HasMap, AreKeysInOrder, AreKeysExact}
 use Rattle.hfs_btree_edits.proofs.KeptLemmas.{map_nodes-same}
 use Rattle.hfs_btree_edits.proofs.UnchangedLemmas.{IsUnchanged, turn-unchanged, last-unchanged, rights-unchanged, keyed-unchanged, exact-unchanged, content-unchanged}
+use Rattle.hfs_btree_edits.specs.Stored.{IsReleased}
 
 -- the elements of a second part are other than those of the first
 pub apart : (xs ys : List ℕ) → IsDistinct (xs ++ ys) → Each (λ y. Each (IsOther y) xs) ys

@@ -96,7 +96,7 @@ module _ {K : Type 0} (g : Ghosts K) (old new : Store) where
   last-records : (k : ℕ) (ns : List ℕ) → Each (IsUnchanged old new) (turn g old (suc k) ns) → Each (KeepsRecords g old new) (Rattle.hfs_btree.specs.Tree.level_below g old k ns)
   last-records zero ns h = each-spots (IsUnchanged old new) (KeepsRecords g old new) zero (λ l n r u. ap records_of u.same) 0 ns (each-left (IsUnchanged old new) (spots zero 0 ns) [] h)
   last-records (suc k) ns h =
-      last-records k (flat_map (children g old) ns) (Rattle.hfs_scans.specs.Elements.each-right (IsUnchanged old new) (spots (suc k) 0 ns) (turn g old (suc k) (flat_map (children g old) ns)) h)
+      last-records k (flat_map (children g old) ns) (Rattle.hfs_scans.proofs.ElementLemmas.each-right (IsUnchanged old new) (spots (suc k) 0 ns) (turn g old (suc k) (flat_map (children g old) ns)) h)
 
   pub content-unchanged : (d : ℕ) (ns : List ℕ) → Each (IsUnchanged old new) (turn g old d ns) → flat_map (pairs g new) (last_level g new d ns) ≡ flat_map (pairs g old) (last_level g old d ns)
   content-unchanged zero ns h = refl

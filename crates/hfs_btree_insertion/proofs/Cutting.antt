@@ -127,7 +127,7 @@ module _ {K : Type 0} (g : Ghosts K) (old : Store) (sound : IsSound g old) (k p 
         let is : node.forward ≡ first_of child-way.behind = ap (λ (v : Node). v.forward) (same-value node node-spot.1.value (sym was_node ∙ node-spot.1.decodes)) ∙ node-spot.1.right in
         let P : ℕ → Type 0 = λ x. x < length old in
         subst P (sym is) (behind-within g old k 0 child-way.before n child-way.behind some-nodes
-        (Rattle.hfs_scans.specs.Elements.each-left (IsRight g old) (spots k 0 (child-way.before ++ n ∷ child-way.behind)) _ child-way.right))
+        (Rattle.hfs_scans.proofs.ElementLemmas.each-left (IsRight g old) (spots k 0 (child-way.before ++ n ∷ child-way.behind)) _ child-way.right))
 
     pub node-size : size_of node.records ≡ size_of (records_in old n)
     node-size = ap size_of node-records

@@ -157,7 +157,7 @@ module _ {K : Type 0} (g : Ghosts K) (total : IsTotalOrder g.compare) (old new :
     x-fact = at-spot Fact (suc k) 0 before x behind level-facts
 
     entries : 0 < length es
-    entries = Rattle.hfs_btree.specs.Levels.records-some g old Fact (λ spot h. h.0) _ x-fact.1.0
+    entries = Rattle.hfs_btree.proofs.LevelLemmas.records-some g old Fact (λ spot h. h.0) _ x-fact.1.0
 
     q-within : q < length es
     q-within = place-within g key es entries
@@ -233,7 +233,7 @@ module _ {K : Type 0} (g : Ghosts K) (total : IsTotalOrder g.compare) (old new :
 
       beside-keyed : (xs : List ℕ) → Each (KeepsRecords g old new) xs → Each (λ y. Each (KeepsUnder g old new k) (children g old y)) xs → Each (AreKeysInOrder g old (suc k)) xs → Each (AreKeysInOrder g new (suc k)) xs
       beside-keyed [] keep parts keys = tt
-      beside-keyed (y ∷ xs) keep parts keys = (Rattle.hfs_btree_edits.specs.LevelParts.keys-kept g old new k y keep.0 parts.0 keys.0, beside-keyed xs keep.1 parts.1 keys.1)
+      beside-keyed (y ∷ xs) keep parts keys = (Rattle.hfs_btree_edits.proofs.LevelPartLemmas.keys-kept g old new k y keep.0 parts.0 keys.0, beside-keyed xs keep.1 parts.1 keys.1)
 
       index-done : IsDone (suc k) x before behind
       index-done =

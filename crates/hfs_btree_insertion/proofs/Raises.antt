@@ -67,7 +67,7 @@ module _ {K : Type 0} (g : Ghosts K) (total : IsTotalOrder g.compare) (old new :
   raise-nodes = ap numbers raise-turn
 
   same-below : (j : ℕ) (ns : List ℕ) → Each (KeepsAt g old new) (turn g old (suc j) ns) → level_below g new j ns ≡ level_below g old j ns
-  same-below j ns h = Rattle.hfs_btree_edits.specs.LevelParts.level-below-kept g old new j ns h
+  same-below j ns h = Rattle.hfs_btree_edits.proofs.LevelPartLemmas.level-below-kept g old new j ns h
 
   raise-leaves : leaves g new ≡ leaves g old
   raise-leaves =

@@ -14,7 +14,7 @@ use std::alloc::{AllocError, Global};
 
 /// The place at which the records of a node are cut: the first with at least 177 bytes before it. A record takes at most
 /// 142 bytes with its offset, so each part has room for one more.
-#[tactic(auto, using(hfs_node::specs::Sizes::sizes))]
+#[tactic(auto, using(hfs_node::proofs::SizeLemmas::sizes))]
 fn half_place(node: &NodeView<'_>) -> usize
     requires over { 354 < size_of node.now.records }
     requires fits { Fits node.now }

@@ -37,7 +37,7 @@ pub(crate) fn node_at<K: Key, N: Nodes>(
 }
 
 /// The bytes that a node's records and their offsets take.
-#[tactic(auto, using(hfs_node::specs::Sizes::sizes))]
+#[tactic(auto, using(hfs_node::proofs::SizeLemmas::sizes))]
 pub(crate) fn size_in(bytes: &[u8; 512]) -> usize
     ensures size { result ≡ size_of (records_of (node_of bytes.now)) }
     ensures small { result ≤ 123008 }

@@ -83,10 +83,10 @@ module _ {K : Type 0} (g : Ghosts K) (total : IsTotalOrder g.compare) (old : Sto
   are-levels : Each (λ cut. Each (IsRight g old) (with_node cut)) cuts'
   are-levels = levels g old sound.structure i k deep b p.node h (at g old above p ss w).split p.place (within g old above p ss w) chain
 
-  are-some : Each IsSome (Rattle.hfs_btree_edits.specs.LevelParts.numbers (flat_map with_node cuts'))
+  are-some : Each IsSome (Rattle.hfs_btree_edits.proofs.LevelPartLemmas.numbers (flat_map with_node cuts'))
   are-some = some-below g old sound.structure i k deep b p.node h (at g old above p ss w).split p.place (within g old above p ss w) chain
 
-  are-distinct : Rattle.hfs_btree.specs.Sound.IsDistinct (Rattle.hfs_btree_edits.specs.LevelParts.numbers (flat_map with_node cuts'))
+  are-distinct : Rattle.hfs_btree.specs.Sound.IsDistinct (Rattle.hfs_btree_edits.proofs.LevelPartLemmas.numbers (flat_map with_node cuts'))
   are-distinct = distinct-below g old sound.structure i k deep b p.node h (at g old above p ss w).split p.place (within g old above p ss w) chain
 
   pub chain-can : AreUnlinkable old ss

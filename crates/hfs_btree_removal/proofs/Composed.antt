@@ -95,7 +95,7 @@ module _ {K : Type 0} (g : Ghosts K) where
       frame = record {
         file = free.len ∙ len;
         nodes = ap (λ (h : Header). h.nodes) free.header ∙ low.head.nodes;
-        map = Rattle.hfs_btree_edits.specs.Kept.map_nodes-same mid new (ap (λ (h : Header). h.nodes) free.header) free.onward free.onwards ∙ map_nodes-is g old mid low.head;
+        map = Rattle.hfs_btree_edits.proofs.KeptLemmas.map_nodes-same mid new (ap (λ (h : Header). h.nodes) free.header) free.onward free.onwards ∙ map_nodes-is g old mid low.head;
         map_length = free.map_length ∙ ap (λ (bs : List ℕ). length bs) (map_bytes-is g old mid low.head);
         stray = stray-is;
       };
@@ -165,7 +165,7 @@ module _ {K : Type 0} (g : Ghosts K) where
   own-later : (n : ℕ) (old mid : Store) (d : IsReleased g n old mid) (m : ℕ) → Each (IsOther m) (own_nodes old) → Each (IsOther m) (own_nodes mid)
   own-later n old mid d m own =
       let P : List ℕ → Type 0 = λ xs. Each (IsOther m) (0 ∷ xs) in
-      subst P (sym (Rattle.hfs_btree_edits.specs.Kept.map_nodes-same old mid (ap (λ (x : Header). x.nodes) d.header) d.onward d.onwards)) own
+      subst P (sym (Rattle.hfs_btree_edits.proofs.KeptLemmas.map_nodes-same old mid (ap (λ (x : Header). x.nodes) d.header) d.onward d.onwards)) own
 
   -- a node that was given back stays blank
   blank-later : (n : ℕ) (ns : List ℕ) (old mid new : Store) → IsReleased g n old mid → HasGiven ns mid new → IsZeroFrom 0 512 (bytes_in new n)
@@ -189,7 +189,7 @@ module _ {K : Type 0} (g : Ghosts K) where
         exact = λ e. rest.exact (released-exact g n old mid d sound e);
         file = rest.file ∙ d.len;
         nodes = rest.nodes ∙ ap (λ (x : Header). x.nodes) d.header;
-        map = rest.map ∙ Rattle.hfs_btree_edits.specs.Kept.map_nodes-same old mid (ap (λ (x : Header). x.nodes) d.header) d.onward d.onwards;
+        map = rest.map ∙ Rattle.hfs_btree_edits.proofs.KeptLemmas.map_nodes-same old mid (ap (λ (x : Header). x.nodes) d.header) d.onward d.onwards;
         map_length = rest.map_length ∙ d.map_length;
         depth = rest.depth ∙ ap (λ (x : Header). x.depth) d.header;
         turn = rest.turn ∙ released-turn g n old mid d sound;

@@ -266,7 +266,7 @@ module _ {K : Type 0} (g : Ghosts K) (total : IsTotalOrder g.compare) (old new :
 
   beside-keys : (ns : List ℕ) → Each (KeepsRecords g old new) ns → Each (λ n. Each (KeepsUnder g old new k) (children g old n)) ns → Each (λ n. AreKeysInOrder g old (suc k) n) ns → Each (NewKeys (suc k)) ns
   beside-keys [] a b h = tt
-  beside-keys (n ∷ ns) a b h = (Rattle.hfs_btree_edits.specs.LevelParts.keys-kept g old new k n a.0 b.0 h.0, beside-keys ns a.1 b.1 h.1)
+  beside-keys (n ∷ ns) a b h = (Rattle.hfs_btree_edits.proofs.LevelPartLemmas.keys-kept g old new k n a.0 b.0 h.0, beside-keys ns a.1 b.1 h.1)
 
   level-keys : Each (NewKeys (suc k)) L
   level-keys =
@@ -307,7 +307,7 @@ module _ {K : Type 0} (g : Ghosts K) (total : IsTotalOrder g.compare) (old new :
       ap (λ (n : ℕ). last_level g new n (root_level new)) (d.depth ∙ d.deep)
       ∙ ap (level_below g new (lift i (suc k))) (same-root g old new i k p q d st)
       ∙ level-lift g new i (suc k) (root_level old)
-      ∙ ap (level_below g new (suc k)) ((Rattle.hfs_btree_edits.specs.LevelParts.upper-kept g old new i (suc k) (root_level old) (uppers-keep g old new i k p q d st)).1 ∙ d.level)
+      ∙ ap (level_below g new (suc k)) ((Rattle.hfs_btree_edits.proofs.LevelPartLemmas.upper-kept g old new i (suc k) (root_level old) (uppers-keep g old new i k p q d st)).1 ∙ d.level)
       ∙ ap (level_below g new k) (new-below g old new i k p q d st)
       ∙ level-without g old new k B C H keeps-beside
 

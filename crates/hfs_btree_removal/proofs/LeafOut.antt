@@ -233,5 +233,5 @@ module _ {K : Type 0} (g : Ghosts K) (total : IsTotalOrder g.compare) (old : Sto
             gains = leaf-gains g total old two three four sound b p.node h split v p.place lt more edit recount records3 free3 d.put.stored.len told exact beside;
             content = λ t way. leaf-content g total old two three four sound b p.node h split v p.place lt more edit recount records3 free3 d.put.stored.len told exact t (equal t way);
             depth = (let e = leaf-depth g total old two three four sound b p.node h split v p.place lt more edit recount records3 free3 d.put.stored.len told exact in omega arith);
-            free = (let a = told.free in let e = Rattle.hfs_btree_edits.specs.Headed.free-is g two three new-head in let f = taken-free g total old two sound b p.node h split v p.place lt more edit in omega arith);
+            free = (let a = told.free in let e = Rattle.hfs_btree_edits.proofs.HeadedLemmas.free-is g two three new-head in let f = taken-free g total old two sound b p.node h split v p.place lt more edit in omega arith);
           }

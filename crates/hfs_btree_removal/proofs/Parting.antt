@@ -308,7 +308,7 @@ module _ {K : Type 0} (g : Ghosts K) (old new : Store) (i k p q : ℕ) (d : IsDe
   marked-cuts : (xs : List Cut) → Each (λ cut. Each (IsRight g old) (with_node cut)) xs → Each (λ (cut : Cut). IsMarked new cut.n) xs
   marked-cuts [] h = tt
   marked-cuts (cut ∷ xs) h =
-      (marked-on g old new d.head cut.n (Rattle.hfs_btree.specs.Levels.at-spot (IsRight g old) cut.above 0 cut.front cut.n cut.back h.0).1.marked, marked-cuts xs h.1)
+      (marked-on g old new d.head cut.n (Rattle.hfs_btree.proofs.LevelLemmas.at-spot (IsRight g old) cut.above 0 cut.front cut.n cut.back h.0).1.marked, marked-cuts xs h.1)
 
   strays : (xs : List Cut) → Each (λ (cut : Cut). IsMarked new cut.n) xs → Each (λ (cut : Cut). Each (IsOther cut.n) (own_nodes new ++ tree_nodes g new)) xs → Each (λ (cut : Cut). IsStray g new cut.n) xs
   strays [] a b = tt

@@ -130,7 +130,7 @@ module _ {K : Type 0} (g : Ghosts K) (total : IsTotalOrder g.compare) (old new :
       (parts-raise g.compare total [] (map part (take place es)) (g.index_key (get_or es place [])) (g.index_key made) own (map part (drop (suc place) es)) higher most (subst S (map-split part es place [] within) h))
 
   part-kept : (j : ℕ) (xs : List (List ℕ)) → Each (KeepsUnder g old new j) (map g.child xs) → map (part_of g (under g new j)) xs ≡ map (part_of g (under g old j)) xs
-  part-kept j xs h = Rattle.hfs_btree_edits.specs.LevelParts.parts-kept g old new j xs h
+  part-kept j xs h = Rattle.hfs_btree_edits.proofs.LevelPartLemmas.parts-kept g old new j xs h
 
   step-here : Each (KeepsUnder g old new k) (children g old n) → AreKeysInOrder g old (suc k) n → AreKeysInOrder g new (suc k) n
   step-here below keys =
@@ -141,7 +141,7 @@ module _ {K : Type 0} (g : Ghosts K) (total : IsTotalOrder g.compare) (old new :
       subst S (sym (ap records_of edit.is)) (subst T (sym (part-kept k rs here)) (raised (subst T (ap (λ r. map part (records_of r)) edit.was) keys)))
 
   step-there : (j m : ℕ) → m ≢ n → Each (KeepsUnder g old new j) (children g old m) → AreKeysInOrder g old (suc j) m → AreKeysInOrder g new (suc j) m
-  step-there j m d below keys = Rattle.hfs_btree_edits.specs.LevelParts.keys-kept g old new j m (ap records_of (edit.others m d)) below keys
+  step-there j m d below keys = Rattle.hfs_btree_edits.proofs.LevelPartLemmas.keys-kept g old new j m (ap records_of (edit.others m d)) below keys
 
   key-step : (j l m r : ℕ) → R (record { left = l; n = m; right = r; above = suc j }) → Each (KeepsUnder g old new j) (children g old m) → P (record { left = l; n = m; right = r; above = suc j })
       → Q (record { left = l; n = m; right = r; above = suc j })

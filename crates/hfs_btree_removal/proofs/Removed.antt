@@ -101,7 +101,7 @@ module _ {K : Type 0} (g : Ghosts K) (total : IsTotalOrder g.compare) (old one t
       let c = numbers-fewer CS in
       let e = ap (λ (ss : List Spot). length (numbers ss)) (rest.turn ∙ told.turn) in
       let f = length-map CS (λ (cut : Cut). cut.n) in
-      let own = ap (λ (ns : List ℕ). length ns) (Rattle.hfs_btree_edits.specs.Headed.own_nodes-is g old one d.head) in
+      let own = ap (λ (ns : List ℕ). length ns) (Rattle.hfs_btree_edits.proofs.HeadedLemmas.own_nodes-is g old one d.head) in
       let s = others g old one i k p q d sound.structure in
       omega (
         arith,

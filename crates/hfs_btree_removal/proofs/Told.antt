@@ -33,11 +33,11 @@ use Rattle.hfs_btree_removal.proofs.Removed.{HasTold}
 module _ {K : Type 0} (cmp : Order K) (total : IsTotalOrder cmp) (own : List ℕ → Pairs K) (key : List ℕ → K) where
   -- a key that is below one that is at most some pairs' is at most theirs
   most-behind : (low high : K) (ps : Pairs K) → cmp low high ≡ Less → IsAtMost cmp high ps → IsAtMost cmp low ps
-  most-behind low high ps lt h = each-mono _ _ ps (λ p le. ap is_gt (Rattle.hfs_btree.specs.Lookups.lt-le cmp total low high p.0 lt le)) h
+  most-behind low high ps lt h = each-mono _ _ ps (λ p le. ap is_gt (Rattle.hfs_btree.proofs.LookupLemmas.lt-le cmp total low high p.0 lt le)) h
 
   past-own : (low high : K) (ps : Pairs K) → 0 < length ps → IsAtMost cmp low ps → IsAbove cmp high ps → cmp low high ≡ Less
   past-own low high [] some a b = absurd (omega arith)
-  past-own low high (p ∷ ps) some a b = Rattle.hfs_btree.specs.Lookups.le-lt cmp total low p.0 high a.0 b.0
+  past-own low high (p ∷ ps) some a b = Rattle.hfs_btree.proofs.LookupLemmas.le-lt cmp total low p.0 high a.0 b.0
 
   pub first-most : (low : K) (e : List ℕ) (es : List (List ℕ)) → cmp low low ≡ Equal → IsAtMost cmp low (own e) → Each (λ x. 0 < length (own x)) (e ∷ es)
       → ArePartsInOrder cmp (own e) (map (λ x. (key x, own x)) es) → IsAtMost cmp low (flat_map own (e ∷ es))

@@ -23,7 +23,7 @@ fn is_record_right(r: &CatalogRecord) -> bool
 }
 
 /// The number of the first record that is neither a folder's or a file's under a name, nor a thread's under an empty one.
-#[tactic(auto, using(hfs_scans::specs::ScanSteps::scan_stop, hfs_scans::specs::ScanSteps::scan_go, hfs_scans::specs::ScanSteps::scan_end), unfolding(crate::specs::Faults::record_fault))]
+#[tactic(auto, using(hfs_scans::proofs::ScanStepLemmas::scan_stop, hfs_scans::proofs::ScanStepLemmas::scan_go, hfs_scans::proofs::ScanStepLemmas::scan_end), unfolding(crate::specs::Faults::record_fault))]
 pub fn record_fault(catalog: &[CatalogRecord]) -> Option<usize>
     ensures { result ≡ record_fault catalog.now }
 {
@@ -55,7 +55,7 @@ fn is_name_right(r: &CatalogRecord) -> bool
         && (!is_thread(body) || is_thread_name_right(body))
 }
 
-#[tactic(auto, using(hfs_scans::specs::ScanSteps::scan_stop, hfs_scans::specs::ScanSteps::scan_go, hfs_scans::specs::ScanSteps::scan_end))]
+#[tactic(auto, using(hfs_scans::proofs::ScanStepLemmas::scan_stop, hfs_scans::proofs::ScanStepLemmas::scan_go, hfs_scans::proofs::ScanStepLemmas::scan_end))]
 fn first_wrong_name(catalog: &[CatalogRecord]) -> Option<usize>
     ensures { result ≡ first_failing (λ _ r. is_name_right r) [] catalog.now }
 {

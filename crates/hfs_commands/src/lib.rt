@@ -8,6 +8,7 @@ mod contents;
 mod fault;
 mod files;
 mod forks;
+mod hint;
 mod listing;
 mod macbinary;
 mod paths;
@@ -27,6 +28,7 @@ pub use hfs_sparse::{BlockSource, SparseFault};
 pub use hfs_texts::{
     IMAGE_LIMIT, InfoFault, LoadFault, load, load_within, put, reply_text, run_info,
 };
+pub use hint::Hint;
 pub use listing::{children_text, code_text, list_text, needed_list_text};
 pub use macbinary::{put_macbinary, write_macbinary};
 pub use paths::ShownPath;

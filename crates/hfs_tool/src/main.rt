@@ -5,11 +5,13 @@ ghost use Rattle.std.specs.Prelude.{◌≡◌, ◌⊎◌};
 ghost use Rattle.hfs_commands.specs.Faults.{status_number, status_of};
 
 mod commands;
+mod hints;
 mod progress;
 mod saving;
 mod words;
 
 use crate::commands::obey;
+use crate::hints::tell_hint;
 use crate::words::read_words;
 use clap::error::ErrorKind;
 use hfs_commands::{Fault, Status};
@@ -52,10 +54,16 @@ fn refused(rt: &HostRuntime, fault: &Fault<'_>) -> u8
     fault.status().after(print_fault(rt, fault))
 }
 
-/// Prints a fault alone on its line. After standard output failed nothing more is printed.
+/// Prints a fault alone on its line, and what a refusal means on standard error. After standard
+/// output failed nothing more is printed.
 fn print_fault(rt: &HostRuntime, fault: &Fault<'_>) -> io::Result<()> {
     match fault {
         Fault::OutputFailed => Ok(()),
+        Fault::Refused(why) => {
+            println!(rt; "{fault}")?;
+            tell_hint(rt, *why);
+            Ok(())
+        }
         _ => println!(rt; "{fault}"),
     }
 }

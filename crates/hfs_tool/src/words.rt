@@ -122,7 +122,7 @@ fn moment<'a>(alloc: Global) -> Arg<'a> {
 }
 
 /// The program's number, and the logic that it is proved in: kits that differ in their tools alone have the same.
-const VERSION: &str = "0.1.0 (proved with Rattle's logic dac8208d650f15bf)";
+const VERSION: &str = "1.0.0 (proved with Rattle's logic dac8208d650f15bf)";
 
 /// What the numbers of checks mean.
 const CHECKS: &str = "What is printed where the volume is not sound:

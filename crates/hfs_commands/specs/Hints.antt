@@ -1,0 +1,29 @@
+-- What a refusal means for who has the disk in hand.
+use Rattle.std.specs.Prelude.{ℕ, List, codes, Option, None, Some, ◌==◌, ◌||◌, if◌then◌else◌}
+use Rattle.hfs_check.specs.declared.mount_fault.MountFault.{MountFault}
+use Rattle.hfs_check.specs.declared.mount_fault.MountFault.TheVariants as mount
+use Rattle.hfs_commands.specs.declared.hint.Hint.{Hint}
+use Rattle.hfs_commands.specs.declared.hint.Hint.TheVariants as hint
+
+-- names are the subject of check 7, valences and counts those of 9 and 10
+unfoldable pub hint_of_check : ℕ → Hint
+hint_of_check number =
+    if number == 7 then hint.NameNotTaken
+    else if number == 9 || number == 10 then hint.WrongCounts
+    else hint.Damaged
+
+-- none where the refusal's own text says all
+unfoldable pub hint_of : MountFault → Option Hint
+hint_of mount.TooLarge = None
+hint_of mount.Short = None
+hint_of mount.NoMacDisk = Some hint.NotHere
+hint_of (mount.BadMdb test) = Some hint.Damaged
+hint_of (mount.Check number place) = Some (hint_of_check number)
+hint_of mount.Memory = None
+
+-- one line for a terminal
+unfoldable pub hint_text : Hint → List ℕ
+hint_text hint.NotHere = codes "no HFS volume begins here; hfs_tool volumes FILE looks for one inside"
+hint_text hint.WrongCounts = codes "counts are wrong, the files may be whole; hfs_tool repair mends counts"
+hint_text hint.NameNotTaken = codes "the disk may be sound: it has a name that this program does not take"
+hint_text hint.Damaged = codes "the disk is damaged"
