@@ -6,7 +6,7 @@ ghost use Rattle.hfs_check.specs.Trees.{HasTrees};
 ghost use Rattle.hfs_queries.specs.Told as told;
 ghost use Rattle.hfs_sparse.specs.Sparse.{sparse};
 ghost use Rattle.hfs_needed.specs.Forks.{AreForksIn, FindsForkNamed, HoldsFork, HoldsForkOf, IsForkIn, RefusesForkNamed};
-ghost use Rattle.hfs_needed.specs.Opened.{IsOpenedOf, IsRefusedFor};
+ghost use Rattle.hfs_needed.specs.Opened.{IsOpenedOf, IsRefusedFor, IsSoundOf};
 
 use crate::laws::gathered_is_enough;
 use crate::opening::{NeededFault, NeededVolume, open_needed};
@@ -159,6 +159,7 @@ pub fn needed_fork<S: BlockSource>(
 ) -> Result<Result<Vec<u8>, Reply>, NeededFault>
     ensures bytes { IfOk result (FindsForkNamed (S.image source.old) len dir name.now fork) }
     ensures unread { IfOk result (RefusesForkNamed (S.image source.old) len dir name.now fork) }
+    ensures sound { IfOk result (λ told. IsSoundOf (S.image source.old) len) }
     ensures refused { IfErr result (λ fault. IsRefusedFor (S.image source.old) len fault) }
     ensures image { S.image source.new ≡ S.image source.old }
 {
