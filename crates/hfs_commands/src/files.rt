@@ -4,22 +4,19 @@ ghost use Rattle.hfs_commands.specs.Faults.{IsTooMuch, IsUnreadScript};
 
 use crate::fault::Fault;
 use hfs_check::MountFault;
-use hfs_sparse::SeekSource;
+use hfs_sparse::{FileReader, SeekSource};
 use hfs_texts::{IMAGE_LIMIT, LoadFault, load, load_within};
 use std::alloc::Global;
 use std::fs::{File, OpenFile};
-use std::io::{BufReader, Read};
+use std::io::{Read, Seek};
 use std::rt::Files;
-
-/// How many bytes are read at once of an image that is read where it is needed.
-const READ_AHEAD: usize = 16_384;
 
 /// An image that was opened.
 #[derive(Drop)]
-pub enum ImageFile<F> {
+pub enum ImageFile<F: Read + Seek> {
     /// A file of so many bytes, to be read where it is needed.
     Seekable {
-        source: SeekSource<BufReader<F>>,
+        source: SeekSource<FileReader<F>>,
         len: u64,
     },
     /// All bytes of anything else, such as a pipe.
@@ -80,13 +77,10 @@ pub fn open_image<'a, R: Files + AllocGlobal>(
         let bytes = load_opened(rt.alloc(), &mut file, path)?;
         return Ok(ImageFile::Whole(bytes));
     };
-    match BufReader::with_capacity(rt.alloc(), READ_AHEAD, file) {
-        Ok(reader) => Ok(ImageFile::Seekable {
-            source: SeekSource::new(reader),
-            len,
-        }),
-        Err(_) => Err(Fault::NoMemory),
-    }
+    Ok(ImageFile::Seekable {
+        source: SeekSource::new(FileReader(file)),
+        len,
+    })
 }
 
 /// The most bytes of a script.

@@ -2,7 +2,7 @@
 ghost use Rattle.std.specs.Prelude.{◌≡◌, IfOk, IfErr};
 ghost use Rattle.hfs_needed.specs.Forks.{FindsForkNamed, RefusesForkNamed};
 ghost use Rattle.hfs_needed.specs.Listing.{IsBriefList, HoldsCatalog, HoldsTable};
-ghost use Rattle.hfs_needed.specs.Opened.{IsRefusedFor};
+ghost use Rattle.hfs_needed.specs.Opened.{IsRefusedFor, IsSoundOf};
 ghost use Rattle.hfs_needed.specs.OpenedValues.{opened_value};
 
 use crate::forks::opened_fork;
@@ -46,6 +46,7 @@ impl<S: BlockSource + Drop> OpenedImage<S> {
     /// is refused.
     pub fn open(alloc: Global, source: S, len: u64) -> Result<OpenedImage<S>, NeededFault>
         ensures image { IfOk result (λ image. image ≡ opened_value (S.image source) len) }
+        ensures sound { IfOk result (λ image. IsSoundOf (S.image source) len) }
         ensures refused { IfErr result (λ fault. IsRefusedFor (S.image source) len fault) }
     {
         let mut source = source;

@@ -5,18 +5,17 @@ ghost use Rattle.hfs_check.specs.Sound.{AreBlocksSound};
 ghost use Rattle.hfs_check.specs.Trees.{HasTrees};
 ghost use Rattle.hfs_queries.specs.Told as told;
 ghost use Rattle.hfs_sparse.specs.Sparse.{sparse};
-ghost use Rattle.hfs_needed.specs.Opened.{IsRefusedFor};
+ghost use Rattle.hfs_needed.specs.Opened.{IsRefusedFor, IsSoundOf};
 ghost use Rattle.hfs_needed.specs.WholeFiles.{HoldsDataNamed, HoldsResourceNamed, RefusesFileNamed, TellsOfFile};
 
 use crate::forks::{find_file, read_file};
 use crate::laws::gathered_is_enough;
 use crate::opening::{NeededFault, open_needed};
-use hfs_blocks::Patch;
 use hfs_btree::RunNodes;
 use hfs_check::{VolumeTrees, no_blocks_fault};
 use hfs_model::{Fork, Reply};
 use hfs_queries::{catalog_answers, get_cat_info};
-use hfs_sparse::{BlockSource, ZeroBlocks};
+use hfs_sparse::{BlockSource, SparseBlocks};
 use std::alloc::Global;
 
 /// A file with both forks.
@@ -31,15 +30,14 @@ pub struct NeededFile {
 }
 
 /// What is told of the folder's item of that name, where these blocks were read of a volume of `count` blocks.
-fn tell_of(read: &Patch, count: u32, trees: &VolumeTrees, dir: u32, name: &[u8]) -> Reply
+fn tell_of(read: &SparseBlocks, count: u32, trees: &VolumeTrees, dir: u32, name: &[u8]) -> Reply
     requires sound { AreBlocksSound count (sparse read.now) }
     requires trees { HasTrees count (sparse read.now) trees.now }
     ensures { result ≡ told.cat_info (catalog_in (sparse read.now)) dir name.now }
 {
     catalog_answers();
-    let zeros = ZeroBlocks { count };
     let nodes = RunNodes {
-        blocks: &read.over(&zeros),
+        blocks: &read.volume(count),
         runs: &trees.catalog,
     };
     get_cat_info(&nodes, dir, name)
@@ -59,6 +57,7 @@ pub fn needed_file<S: BlockSource>(
     ensures data_fork { IfOk result (HoldsDataNamed (S.image source.old) len dir name.now) }
     ensures resource_fork { IfOk result (HoldsResourceNamed (S.image source.old) len dir name.now) }
     ensures unread { IfOk result (RefusesFileNamed (S.image source.old) len dir name.now) }
+    ensures sound { IfOk result (λ told. IsSoundOf (S.image source.old) len) }
     ensures refused { IfErr result (λ fault. IsRefusedFor (S.image source.old) len fault) }
     ensures image { S.image source.new ≡ S.image source.old }
 {
