@@ -1,13 +1,13 @@
 -- Each day that is found is a day of the calendar, and as far behind 1 January 1904 as was asked.
-use Rattle.std.proofs.Common.{◌≡◌, ◌∙◌, sym, ap, subst, refl, ℕ, zero, suc, ◌+◌, ◌-◌, ◌*◌, ◌/◌, ◌%◌, ◌^◌, ◌<◌, ◌≤◌, Bool, true, false, List, [], ◌∷◌, length, take, get_or, add-one, arith, inl, inr}
-use Rattle.std.specs.Prelude.{sum, nat_lt, slice_index}
+use Rattle.std.proofs.Common.{◌≡◌, ◌∙◌, sym, ap, subst, refl, ℕ, zero, suc, ◌+◌, ◌-◌, ◌*◌, ◌/◌, ◌%◌, ◌<◌, ◌≤◌, true, List, [], ◌∷◌, length, take, get_or, add-one, arith, inl, inr}
+use Rattle.std.specs.Prelude.{sum, nat_lt}
 use Rattle.std.specs.List.{list_all}
 use Rattle.std.proofs.lemmas.Bool.{cases_lt, cases_Bool, and_parts, ltb-true}
 use Rattle.std.proofs.lemmas.List.Sums.{sum_by-cons}
 use Rattle.hfs_names.specs.declared.calendar.Day.{Day}
 use Rattle.hfs_names.specs.Calendar.{is_leap_year, month_lengths, year_length, day_from_month, day_of_year, day_since_1904, days_of_years, days_before, IsDay}
 use Rattle.hfs_names.specs.Laws.{AreDays}
-use Rattle.hfs_names.proofs.Days.{DaysIn, LeapCycle, first-month, later-month, year_length-months, leap-cycles, since-1904, in-leap-year, in-year-behind, lengths-behind}
+use Rattle.hfs_names.proofs.Days.{LeapCycle, first-month, later-month, year_length-months, leap-cycles, since-1904, in-leap-year, in-year-behind}
 
 -- ---- a day among months
 

@@ -1,12 +1,10 @@
 -- Days counted from 1904 on.
-use Rattle.std.proofs.Common.{◌≡◌, ◌∙◌, sym, ap, subst, refl, ℕ, zero, suc, ◌+◌, ◌-◌, ◌*◌, ◌/◌, ◌%◌, ◌^◌, ◌<◌, ◌≤◌, Bool, true, false, not, ◌&&◌, List, [], ◌∷◌, length, take, drop, get_or, arith, drop-cons, inl, inr, ◌⊎◌}
-use Rattle.std.specs.Prelude.{sum, if◌then◌else◌, nat_lt, slice_index}
-use Rattle.std.specs.List.{list_all}
-use Rattle.std.proofs.lemmas.Bool.{lt-ltb, le-ltb, cases_lt, and_parts, ltb-true, not-true, cond_above, cond_below}
-use Rattle.std.proofs.lemmas.Bool.Decides.{nat_tests}
+use Rattle.std.proofs.Common.{◌≡◌, ◌∙◌, sym, ap, subst, refl, ℕ, zero, suc, ◌+◌, ◌-◌, ◌*◌, ◌/◌, ◌%◌, ◌<◌, ◌≤◌, Bool, true, false, not, ◌&&◌, List, ◌∷◌, length, drop, get_or, arith, drop-cons, inl, inr}
+use Rattle.std.specs.Prelude.{sum}
+use Rattle.std.proofs.lemmas.Bool.{lt-ltb, le-ltb, cases_lt, and_parts, not-true}
 use Rattle.std.proofs.lemmas.List.Sums.{sum_by-drop_more}
 use Rattle.hfs_names.specs.declared.calendar.Day.{Day}
-use Rattle.hfs_names.specs.Calendar.{is_leap_year, month_lengths, year_length, day_from_month, day_of_year, day_from_year, day_since_1904, days_of_years, days_before, IsDay}
+use Rattle.hfs_names.specs.Calendar.{is_leap_year, month_lengths, year_length, day_from_month, day_of_year, day_from_year, day_since_1904}
 use Rattle.hfs_names.proofs.EachBelow.{each_below, at-each}
 
 -- ---- months

@@ -1,13 +1,13 @@
 -- The laws of host names. What holds of the word of each character was tried on all 256 bytes.
-use Rattle.std.proofs.Common.{◌≡◌, ◌≢◌, ◌∙◌, sym, ap, subst, refl, ℕ, zero, suc, ◌+◌, ◌-◌, ◌*◌, ◌/◌, ◌%◌, ◌<◌, ◌≤◌, Bool, true, false, not, ◌&&◌, ◌||◌, List, [], ◌∷◌, ◌++◌, length, map, get_or, arith, length-append}
-use Rattle.std.specs.Prelude.{◌==◌, nat_lt, if◌then◌else◌, slice_index, IsTrue, codes}
-use Rattle.std.specs.List.{list_all, list_any}
+use Rattle.std.proofs.Common.{◌≡◌, ◌≢◌, ◌∙◌, sym, ap, subst, refl, ℕ, suc, ◌+◌, ◌-◌, ◌*◌, ◌<◌, ◌≤◌, Bool, true, false, not, ◌&&◌, ◌||◌, List, [], ◌∷◌, ◌++◌, length, get_or, arith, length-append}
+use Rattle.std.specs.Prelude.{◌==◌, nat_lt, if◌then◌else◌, slice_index}
+use Rattle.std.specs.List.{list_all}
 use lib.Utf8.{encode}
 use Rattle.std.proofs.Math.ListN.{get_or-append}
-use Rattle.std.proofs.lemmas.Bool.{and_parts, and_from, eqb-true, eqb-false, ltb-true, leb-true, lt-ltb, not-true, false≢true, cases_Bool}
+use Rattle.std.proofs.lemmas.Bool.{and_parts, and_from, eqb-true, eqb-false, ltb-true, leb-true, not-true}
 use Rattle.std.proofs.lemmas.List.{map-id}
 use Rattle.hfs_fields.specs.Names.{is_item_name, is_name_character}
-use Rattle.hfs_fields.specs.Order.{fold_letter, folded, name_cmp, name_order}
+use Rattle.hfs_fields.specs.Order.{fold_letter, folded, name_order}
 use Rattle.hfs_names.specs.Digits.{upper_byte}
 use Rattle.hfs_names.specs.MacRoman.{high_characters, roman_character, character_text}
 use Rattle.hfs_names.specs.HostNames.{is_reserved, is_device_name, is_dropped_at_end, is_first_escaped, host_character, host_rest, host_name}

@@ -1,7 +1,7 @@
 -- The laws of host paths: a path is parted at its slashes, since no host name has one.
-use Rattle.std.proofs.Common.{◌≡◌, ◌∙◌, sym, ap, refl, ℕ, ◌<◌, Bool, true, List, [], ◌∷◌, ◌++◌, length, map, arith, inl, inr, ◌⊎◌}
+use Rattle.std.proofs.Common.{◌≡◌, ◌∙◌, sym, ap, refl, ℕ, true, List, [], ◌∷◌, ◌++◌, length, map, arith, inl, inr, ◌⊎◌}
 use Rattle.std.specs.Prelude.{codes, flat_map}
-use Rattle.std.specs.List.{list_all, join_by}
+use Rattle.std.specs.List.{list_all}
 use Rattle.std.proofs.lemmas.Bool.{and_parts}
 use Rattle.std.proofs.lemmas.List.{map-append}
 use Rattle.hfs_fields.specs.Order.{fold_letter, folded}

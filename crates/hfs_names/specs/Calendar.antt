@@ -1,5 +1,5 @@
 -- The Gregorian calendar, from 1904 on.
-use Rattle.std.specs.Prelude.{◌≡◌, ℕ, zero, suc, ◌+◌, ◌-◌, ◌%◌, ◌<◌, ◌≤◌, Bool, ◌&&◌, ◌||◌, not, ◌==◌, nat_lt, if◌then◌else◌, List, [], ◌∷◌, sum, take, slice_index}
+use Rattle.std.specs.Prelude.{ℕ, zero, suc, ◌+◌, ◌-◌, ◌%◌, ◌≤◌, Bool, ◌&&◌, ◌||◌, not, ◌==◌, nat_lt, if◌then◌else◌, List, [], ◌∷◌, sum, take, slice_index}
 use Rattle.hfs_names.specs.declared.calendar.Day.{Day}
 
 -- each fourth year is a leap year, but of those that end a century only each fourth

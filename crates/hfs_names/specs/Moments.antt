@@ -1,5 +1,5 @@
 -- Moments: dates of a Macintosh, which are seconds since midnight of 1 January 1904 in no zone that is told.
-use Rattle.std.specs.Prelude.{ℕ, zero, suc, ◌+◌, ◌/◌, ◌%◌, ◌==◌, if◌then◌else◌, List, [], ◌++◌, codes}
+use Rattle.std.specs.Prelude.{ℕ, ◌/◌, ◌%◌, ◌==◌, if◌then◌else◌, List, [], ◌++◌, codes}
 use Rattle.hfs_names.specs.declared.calendar.Day.{Day}
 use Rattle.hfs_names.specs.Calendar.{day_since_1904}
 use Rattle.hfs_names.specs.Digits.{two_digits, four_digits}

@@ -12,7 +12,6 @@ mod plain;
 #[cfg(test)]
 mod tests;
 
-pub use calendar::Day;
 pub use characters::push_characters;
 pub use digits::push_hex;
 pub use hosts::{host_name, push_host_name};

@@ -1,6 +1,6 @@
 -- An object's tokens, put one part after the other.
 use Rattle.std.proofs.Common.{◌≡◌, ◌∙◌, ap, List, [], ◌∷◌, ◌++◌, append_assoc, Result, Ok, Err}
-use Rattle.std.specs.Prelude.{flat_map, OnOk}
+use Rattle.std.specs.Prelude.{flat_map}
 use Rattle.json.specs.Token.{Token, begin_object, end_object}
 use Rattle.json.specs.Written.{Written, Writes}
 use Rattle.hfs_model.specs.declared.reply.Info.{Info}

@@ -2,9 +2,9 @@
 ghost use Rattle.std.specs.Prelude.{◌≡◌, ◌++◌, OnOk};
 ghost use Rattle.hfs_table.specs.Lines.{head_text, row_text};
 
-use crate::csv::{push_csv_head, push_csv_line};
+use crate::csv_line::{push_csv_head, push_csv_line};
 use crate::json_line::push_json_line;
-use crate::tab::push_tab_line;
+use crate::tab_line::push_tab_line;
 use hfs_fields::Name;
 use hfs_model::Info;
 use std::alloc::{AllocError, Global};

@@ -3,10 +3,10 @@
 
 mod cells;
 mod column;
-mod csv;
+mod csv_line;
 mod format;
 mod json_line;
-mod tab;
+mod tab_line;
 #[cfg(test)]
 mod tests;
 

@@ -1,6 +1,5 @@
 -- a day's year has four digits, its month and day two
-use Rattle.std.proofs.Common.{◌/◌, ◌<◌, arith}
-use Rattle.hfs_names.specs.declared.calendar.Day.{Day}
+use Rattle.std.proofs.Common.{◌/◌, arith}
 use Rattle.hfs_names.proofs.DayLaw.{found-day, day-digits}
 use Rattle.hfs_names.proofs.moments.push_moment.Goals as goal
 

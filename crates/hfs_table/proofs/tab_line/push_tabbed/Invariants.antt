@@ -4,7 +4,7 @@ use Rattle.std.specs.Prelude.{codes}
 use Rattle.std.specs.List.{flat_map}
 use Rattle.hfs_table.specs.declared.column.Column.{Column}
 use Rattle.hfs_table.specs.Lines.{field_text}
-use Rattle.hfs_table.proofs.tab.push_tabbed.Given as goal
+use Rattle.hfs_table.proofs.tab_line.push_tabbed.Given as goal
 
 abbrev pub invariant-loop-column : goal.invariant-loop-column
 invariant-loop-column l =
