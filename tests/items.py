@@ -288,7 +288,7 @@ def listed_by_peer(image, home):
             inside = f'{folder}{name}:'
             waiting.append((path, inside, iter(lists.get(inside, []))))
         else:
-            rows.append([path, 'file', number, kind, creator, 'yes' if lock == 'F' else 'no', '', length, resource])
+            rows.append([path, 'file', number, plain(kind), plain(creator), 'yes' if lock == 'F' else 'no', '', length, resource])
     return title, rows
 
 
@@ -347,7 +347,7 @@ def peers_volumes(folder):
             (tree / f'Folder {n}' / f'Text {n}.txt').write_bytes(b'text' * n)
             (tree / f'Folder {n}' / 'inner' / 'Data').write_bytes(bytes(1000 * n))
         do('genisoimage', '-quiet', '-hfs', '-hfs-volid', 'Hybrid', '-o', 'hybrid.img', 'tree')
-        do('genisoimage', '-quiet', '-hfs', '-hfs-volid', 'Locked one', '-hfs-creator', 'Xmpl', '-hfs-type', 'BINA', '-input-charset', 'ascii', '-o', 'codes.img', 'tree/Folder 3')
+        do('genisoimage', '-quiet', '-hfs', '-hfs-volid', 'Locked one', '-hfs-creator', 'Xmpl', '-hfs-type', 'BINA', '-o', 'codes.img', 'tree/Folder 3')
         names += ['hybrid', 'codes']
     return names
 
