@@ -138,13 +138,13 @@ def unmarked(image):
 
 def words_on(tool, path):
     """The words that are tried on an image: of a sound one, some that reach a folder and both forks of a file."""
-    words = [['check', path], ['ls', path], ['ls', path, '99999'], ['cat', path, '2', 'no such file']]
+    words = [['check', path], ['ls', path], ['ls', path, '99999'], ['items', path], ['cat', path, '2', 'no such file']]
     for kind, number, _, length, name in (line.split(b'\t') for line in told(tool, ['ls', path])[1].split(b'\n') if line.count(b'\t') == 4):
         if kind == b'd':
             words.append(['ls', path, number.decode()])
         elif name.isascii() and not name.startswith(b'-'):
             words += [['cat', path, '2', name.decode()], ['cat', '--resource', path, '2', name.decode()]]
-        if len(words) > 7:
+        if len(words) > 8:
             break
     return words
 
