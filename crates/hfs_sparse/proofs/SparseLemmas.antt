@@ -1,10 +1,10 @@
 -- Lemmas about the definitions of specs/Sparse.antt.
-use Rattle.std.specs.Prelude.{◌≡◌, ℕ, List, Option, Some, None, IsSome, unwrap_or}
+use Rattle.std.specs.Prelude.{◌≡◌, ℕ, ◌*◌, List, length, take, drop, Option, Some, None, IsSome, IfSome, unwrap_or}
 use Rattle.std.proofs.Common.{refl, sym, ap, subst, ◌∙◌, true≢false, [], ◌∷◌}
 use Rattle.hfs_scans.specs.Each.{Each}
 use Rattle.hfs_blocks.specs.Blocks.{block_at}
 use Rattle.hfs_blocks.specs.Layers.{Numbered, changes}
-use Rattle.hfs_sparse.specs.Sparse.{zero_block, sparse, HasEach, HasGrown, IsOf, StaysOf}
+use Rattle.hfs_sparse.specs.Sparse.{zero_block, sparse, HasEach, HasGrown, HoldsFrom, IsOf, StaysOf}
 
 -- ---- laws
 
@@ -41,3 +41,9 @@ each-of bytes read is (n ∷ numbers) h = (read-same bytes n (changes read n) h.
 pub stays-on : (known : Option (List ℕ)) (old middle new : Numbered) → StaysOf known old middle → StaysOf known middle new → StaysOf known old new
 stays-on None old middle new p q = tt
 stays-on (Some bytes) old middle new p q = λ is. q (p is)
+
+-- of 512 bytes that were read from the place of a block on
+pub block-from : (known : Option (List ℕ)) (n : ℕ) (block : List ℕ) → length block ≡ 512 → HoldsFrom known (512 * n) block
+    → IfSome known (λ image. block ≡ block_at image n)
+block-from None n block long held = tt
+block-from (Some image) n block long held = held ∙ ap (λ k. take k (drop (512 * n) image)) long

@@ -1,5 +1,5 @@
 -- Blocks of an image that were read, with zeros in place of the others.
-use Rattle.std.specs.Prelude.{◌≡◌, ◌++◌, ℕ, List, length, Option, Some, IsSome, IfSome, replicate}
+use Rattle.std.specs.Prelude.{◌≡◌, ◌++◌, ℕ, List, length, take, drop, Option, Some, IsSome, IfSome, replicate}
 use Rattle.std.specs.List.{flat_map, range_with_len}
 use Rattle.std.proofs.Common.{Vec, Global}
 use Rattle.std.proofs.lemmas.List.{length-replicate}
@@ -36,9 +36,13 @@ IsOf bytes read = (n : ℕ) (block : List ℕ) → changes read n ≡ Some block
 abbrev pub StaysOf : Option (List ℕ) → Numbered → Numbered → Type 0
 StaysOf known old new = IfSome known (λ bytes. IsOf bytes old → IsOf bytes new)
 
--- where the image's bytes are known, this is block n of it
-abbrev pub HoldsBlock : Option (List ℕ) → ℕ → List ℕ → Type 0
-HoldsBlock known n block = IfSome known (λ bytes. block ≡ block_at bytes n)
+-- where the bytes are known, these are those that they have from a place on, as many as these are
+abbrev pub HoldsFrom : Option (List ℕ) → ℕ → List ℕ → Type 0
+HoldsFrom known place bytes = IfSome known (λ all. bytes ≡ take (length bytes) (drop place all))
+
+-- where the bytes are known, a reader stands there
+abbrev pub StandsAt : Option (List ℕ) → ℕ → ℕ → Type 0
+StandsAt known place target = IfSome known (λ all. place ≡ target)
 
 -- where the image's bytes are known, these are the bytes of the runs' blocks
 abbrev pub HoldsRuns : Option (List ℕ) → List Run → Vec ℕ Global → Type 0

@@ -15,13 +15,12 @@ pub struct ByteSource<'a> {
 impl BlockSource for ByteSource<'_> {
     ghost image = { λ s. Some s.bytes.now };
 
-    fn read_block(&mut self, n: u32, into: &mut [u8; 512]) -> io::Result<()> {
-        let from = n as usize * 512;
-        let to = from + 512;
-        if self.bytes.len() < to {
+    fn read_blocks(&mut self, first: u32, into: &mut [u8]) -> io::Result<()> {
+        let from = first as usize * 512;
+        if self.bytes.len() < from || self.bytes.len() - from < into.len() {
             return Err(io::Error::from(ErrorKind::UnexpectedEof));
         }
-        into.copy_from_slice(&self.bytes[from..to]);
+        into.copy_from_slice(&self.bytes[from..from + into.len()]);
         Ok(())
     }
 }

@@ -21,7 +21,7 @@ fn append_range<S: BlockSource>(
 {
     for i in 0..count {
         let mut block = [0; 512];
-        let Ok(()) = source.read_block(first + i, &mut block) else {
+        let Ok(()) = source.read_blocks(first + i, &mut block) else {
             return Err(SparseFault::ReadFailed);
         };
         let Ok(()) = bytes.extend_from_slice(&block) else {

@@ -29,7 +29,7 @@ pub fn fetch<S: BlockSource>(source: &mut S, read: &mut Patch, n: u32) -> Result
         return Ok(());
     }
     let mut block = [0; 512];
-    let Ok(()) = source.read_block(n, &mut block) else {
+    let Ok(()) = source.read_blocks(n, &mut block) else {
         return Err(SparseFault::ReadFailed);
     };
     let Ok(()) = read.put(n, &block) else {

@@ -4,6 +4,7 @@
 mod bytes;
 mod copying;
 mod fetching;
+mod placed;
 mod seeking;
 mod source;
 mod zeros;
@@ -11,6 +12,7 @@ mod zeros;
 pub use crate::bytes::ByteSource;
 pub use crate::copying::read_runs;
 pub use crate::fetching::{SparseFault, fetch, fetch_range, fetch_runs};
+pub use crate::placed::{FileReader, PlacedReader};
 pub use crate::seeking::SeekSource;
 pub use crate::source::BlockSource;
 pub use crate::zeros::ZeroBlocks;

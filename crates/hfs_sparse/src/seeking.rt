@@ -1,36 +1,54 @@
 //! Blocks of what can be sought in, as files can.
-ghost use Rattle.std.specs.Prelude.{None};
+ghost use Rattle.std.specs.Prelude.{◌≡◌};
 
+use crate::placed::PlacedReader;
 use crate::source::BlockSource;
 use std::io;
-use std::io::{Read, Seek, SeekFrom};
+use std::marker::Model;
 
-/// A reader that can go to any place, as a file can. Its bytes are not known before they are read.
+/// The blocks of a reader that can go to any place.
 #[derive(Drop)]
-pub struct SeekSource<R> {
-    reader: R,
-    /// The block that the reader stands at, where that is known: it needn't go there.
-    next: Option<u32>,
+pub struct SeekSource<P: PlacedReader> {
+    reader: P,
+    /// Where the reader stands, where that is known: it needn't go there.
+    place: Option<u64>,
 }
 
-impl<R: Read + Seek> SeekSource<R> {
+impl<P: PlacedReader> Model for SeekSource<P> {
+    ghost use Rattle.std.specs.Prelude.{ℕ, List, Option, IfSome};
+    ghost use Rattle.hfs_sparse.specs.Sparse.{StandsAt};
+
+    ghost Value = { Option (List ℕ) };
+
+    ghost view = { λ s. P.bytes s.reader };
+
+    ghost invariant = { λ s. IfSome s.place (StandsAt (P.bytes s.reader) (P.place s.reader)) };
+}
+
+impl<P: PlacedReader> SeekSource<P> {
     /// The blocks of a reader, wherever it stands.
-    pub fn new(reader: R) -> SeekSource<R> {
-        SeekSource { reader, next: None }
+    pub fn new(reader: P) -> SeekSource<P>
+        ensures { result ≡ P.bytes reader }
+    {
+        SeekSource {
+            reader,
+            place: None,
+        }
     }
 }
 
-impl<R: Read + Seek> BlockSource for SeekSource<R> {
-    ghost image = { λ _. None };
+impl<P: PlacedReader> BlockSource for SeekSource<P> {
+    ghost image = { λ s. s };
 
-    fn read_block(&mut self, n: u32, into: &mut [u8; 512]) -> io::Result<()> {
-        let is_there = self.next == Some(n);
-        self.next = None;
+    fn read_blocks(&mut self, first: u32, into: &mut [u8]) -> io::Result<()> {
+        let place = u64::from(first) * 512;
+        let is_there = self.place == Some(place);
+        self.place = None;
         if !is_there {
-            self.reader.seek(SeekFrom::Start(u64::from(n) * 512))?;
+            self.reader.go_to(place)?;
         }
-        self.reader.read_exact(into)?;
-        self.next = n.checked_add(1);
+        self.reader.read_on(into)?;
+        self.place = place.checked_add(into.len() as u64);
         Ok(())
     }
 }

@@ -1,6 +1,6 @@
 //! Where blocks are read from.
-ghost use Rattle.std.specs.Prelude.{◌≡◌, List, ℕ, Option, OnOk};
-ghost use Rattle.hfs_sparse.specs.Sparse.{HoldsBlock};
+ghost use Rattle.std.specs.Prelude.{◌≡◌, ◌*◌, List, ℕ, Option, OnOk};
+ghost use Rattle.hfs_sparse.specs.Sparse.{HoldsFrom};
 
 use std::io;
 
@@ -9,8 +9,9 @@ pub trait BlockSource {
     /// The bytes of the whole image, where they are known. A file doesn't tell them.
     ghost image: { Self → Option (List ℕ) };
 
-    /// Reads block `n`, counted from 0, into 512 bytes. Error: the read failed, or the image ends before the block does.
-    fn read_block(&mut self, n: u32, into: &mut [u8; 512]) -> io::Result<()>
-        ensures block { OnOk result (HoldsBlock (image self.old) n into.new) }
+    /// Reads the blocks from number `first` on, counted from 0, as many as there is room for in `into`, by one read. Error: the read failed,
+    /// or the image ends before the room is full; what stands there then is not told.
+    fn read_blocks(&mut self, first: u32, into: &mut [u8]) -> io::Result<()>
+        ensures read { OnOk result (HoldsFrom (image self.old) (512 * first) into.new) }
         ensures image { image self.new ≡ image self.old };
 }

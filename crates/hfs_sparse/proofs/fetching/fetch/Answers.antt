@@ -3,6 +3,7 @@ use Rattle.std.proofs.Common.{◌≡◌, false, Option, Some, None, Bor, refl, s
 use Rattle.std.specs.Prelude.{is_some}
 use Rattle.std.specs.Option.{option_copied}
 use Rattle.hfs_blocks.specs.Layers.{Numbered, changes, AreWithin}
+use Rattle.hfs_sparse.proofs.SparseLemmas.{block-from}
 use Rattle.hfs_sparse.proofs.Fetched.{put-there, put-grown, put-stays, put-within}
 use Rattle.hfs_sparse.proofs.fetching.fetch.Goals as goal
 
@@ -22,7 +23,8 @@ returns-clause-grown g c =
     put-grown c.args.read.now c.put.new.self c.args.n _ c.in-Ok-put.ensures.written (sym c.get.ensures.value ∙ copied_none c.get.result none)
 
 pub returns-clause-stays : goal.returns-clause-stays
-returns-clause-stays g c = put-stays c.args.read.now c.put.new.self c.args.n _ c.in-Ok-put.ensures.written (g.S.BlockSource.image c.args.source.now) c.in-Ok.ensures.block
+returns-clause-stays g c = put-stays c.args.read.now c.put.new.self c.args.n _ c.in-Ok-put.ensures.written (g.S.BlockSource.image c.args.source.now)
+    (block-from (g.S.BlockSource.image c.args.source.now) c.args.n _ (search rules) c.in-Ok.ensures.read)
 
 pub returns-clause-within : goal.returns-clause-within
-returns-clause-within g c = put-within c.args.read.now c.put.new.self c.args.n _ c.in-Ok-put.ensures.written c.read_block.array_long
+returns-clause-within g c = put-within c.args.read.now c.put.new.self c.args.n _ c.in-Ok-put.ensures.written (search rules)
