@@ -9,7 +9,7 @@ use Rattle.hfs_scans.proofs.ElementLemmas.{each-append, each-left, each-right}
 use Rattle.hfs_btree.specs.Tree.{Store, Spot, records_in, children, first_of, spots, turn, level_below}
 use Rattle.hfs_btree.specs.Sound.{IsOther, IsDistinct}
 use Rattle.hfs_btree_edits.proofs.LevelPartLemmas.{numbers, numbers-spots, KeepsRecords, flat-kept}
-pub use Rattle.hfs_btree_removal.specs.Removal.{only_child}
+pub use Rattle.hfs_btree_removal.proofs.RemovalLemmas.{only_child}
 
 -- a level of which a node leaves, between those before it and those behind
 pub record Cut : Type 0 where

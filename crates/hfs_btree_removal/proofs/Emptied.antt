@@ -14,7 +14,7 @@ use Rattle.hfs_btree_edits.specs.KeptKeys.{tree_keys, EachKey}
 use Rattle.hfs_btree_removal.proofs.KeysKept.{HaveKeys}
 use Rattle.hfs_scans.specs.Members.{In}
 use Rattle.hfs_btree_edits.proofs.HeadedLemmas.{own_nodes-is, marked-on, marked-back, free-is, has_header, has_map}
-pub use Rattle.hfs_btree_removal.specs.Removal.{IsEmptied}
+pub use Rattle.hfs_btree_removal.proofs.RemovalLemmas.{IsEmptied}
 
 module _ {K : Type 0} (g : Ghosts K) (old new : Store) (d : IsEmptied g old new) (sound : IsSound g old) where
   abbrev r : ℕ

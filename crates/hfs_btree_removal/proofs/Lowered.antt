@@ -19,7 +19,7 @@ use Rattle.hfs_scans.specs.Members.{In}
 use Rattle.hfs_btree_edits.proofs.DistinctLemmas.{other-before, other-behind}
 use Rattle.hfs_btree_edits.proofs.HeadedLemmas.{own_nodes-is, marked-on, marked-back, free-is, has_header, has_map}
 use Rattle.hfs_btree_edits.proofs.UnchangedLemmas.{IsUnchanged, turn-unchanged, last-unchanged, rights-unchanged, keyed-unchanged, exact-unchanged, content-unchanged}
-pub use Rattle.hfs_btree_removal.specs.Removal.{IsLowered}
+pub use Rattle.hfs_btree_removal.proofs.RemovalLemmas.{IsLowered}
 
 module _ {K : Type 0} (g : Ghosts K) (old new : Store) (k : ℕ) (d : IsLowered g old new k) (sound : IsSound g old) where
   abbrev r : ℕ

@@ -31,7 +31,7 @@ use Rattle.hfs_btree_edits.proofs.StoredLemmas.{IsRecounted}
 use Rattle.hfs_btree_edits.proofs.ReheadedLemmas.{recounted-turn}
 use Rattle.hfs_btree_removal.proofs.ExactBut.{IsExactFor, KeepsFirst, WasExact, exact-moved}
 use Rattle.hfs_btree_removal.proofs.Composed.{either, not-stray, not-other, AreReleased, HasGiven, all-given}
-pub use Rattle.hfs_btree_removal.specs.Removal.{HasTold}
+pub use Rattle.hfs_btree_removal.proofs.RemovalLemmas.{HasTold}
 
 in-right : (m : ℕ) (xs ys : List ℕ) → In m ys → In m (xs ++ ys)
 in-right m [] ys i = i

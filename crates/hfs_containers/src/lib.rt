@@ -4,21 +4,19 @@
 
 mod disk_copy;
 mod finding;
-mod known;
 mod macbinary;
 mod partition_map;
 mod pieces;
+mod placed;
 mod ranges;
-mod seeking;
 mod source;
 mod sums;
 mod volumes;
 mod window;
 
 pub use crate::finding::{find_ranges, nth_range};
-pub use crate::known::KnownFile;
+pub use crate::placed::PlacedFile;
 pub use crate::ranges::{ByteRange, Container, FoundRange};
-pub use crate::seeking::SeekFile;
 pub use crate::source::ReadAt;
 pub use crate::sums::data_sum;
 pub use crate::volumes::volume_name;

@@ -1,7 +1,6 @@
 //! Where bytes are read from.
-ghost use Rattle.std.specs.Prelude.{◌≡◌, List, ℕ, Option, OnOk, length};
-ghost use Rattle.hfs_fields.specs.Mdb.{bytes_at};
-ghost use Rattle.hfs_containers.specs.Reading.{IsTold};
+ghost use Rattle.std.specs.Prelude.{◌≡◌, List, ℕ, Option, OnOk};
+ghost use Rattle.hfs_sparse.specs.Sparse.{HoldsFrom};
 
 use std::io;
 
@@ -10,9 +9,9 @@ pub trait ReadAt {
     /// The file's bytes, where they are known. A file on a disk doesn't tell them.
     ghost known: { Self → Option (List ℕ) };
 
-    /// Reads the bytes from `place` on, counted from 0, as many as there is room for. Error: the read failed, or the file
-    /// has fewer.
+    /// Reads the bytes from `place` on, counted from 0, as many as there is room for in `into`. Error: the read failed, or the
+    /// file ends before the room is full.
     fn read_at(&mut self, place: u64, into: &mut [u8]) -> io::Result<()>
-        ensures bytes { OnOk result (IsTold (known self.old) (bytes_at place (length into.old)) into.new) }
+        ensures read { OnOk result (HoldsFrom (known self.old) place into.new) }
         ensures known { known self.new ≡ known self.old };
 }

@@ -47,7 +47,7 @@ impl<S: ReadAt> ReadAt for Window<S> {
 impl<S: ReadAt> BlockSource for Window<S> {
     ghost image = { λ window. option_map (bytes_in window.range) (S.known window.source) };
 
-    fn read_block(&mut self, n: u32, into: &mut [u8; 512]) -> io::Result<()> {
-        self.read_at(u64::from(n) * 512, into)
+    fn read_blocks(&mut self, first: u32, into: &mut [u8]) -> io::Result<()> {
+        self.read_at(u64::from(first) * 512, into)
     }
 }

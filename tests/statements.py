@@ -1,0 +1,138 @@
+#!/usr/bin/env python3
+"""Looks at what is stated and where: every item of specs/ is reached by a clause of the sources, since specs/ holds what a reader must
+believe and lemmas stand in proofs/; and no lemma of proofs/ stands in two files under one name with one statement.
+
+tests/statements.py: prints each item that no clause reaches and each lemma that stands twice, and last how many items and lemmas there
+are; its status is 1 where it prints one of the first two. It proves nothing and takes seconds.
+"""
+import collections
+import pathlib
+import re
+import sys
+
+ROOT = pathlib.Path(__file__).resolve().parent.parent
+# An item's first line, without what stands before its name: a signature, or a record's or data type's head.
+HEAD = re.compile(r"^(?:(?:abbrev|unfoldable|opaque|pub|record|data|ruleset|step)\s+)*([^\s:(){},]+)\s*(?:[({].*)?:\s")
+IMPORT = re.compile(r"use\s+Rattle\.(\w+)\.(specs|proofs)\.([\w.]+?)(?:\.\{([^}]*)\})?(?:\s+as\s+(\S+?))?;?\s*$")
+TOKEN = re.compile(r"[^\s(){},;]+")
+
+
+def items_of(text):
+    """The items of a file, each by its name with its lines; what stands before the first is left out."""
+    items, name = {}, None
+    for line in text.split("\n"):
+        if line.startswith(("use ", "pub use ", "open ", "--")) or not line.strip():
+            continue
+        if not line[0].isspace():
+            head = HEAD.match(line)
+            if head and head[1] != name:
+                name = head[1]
+        if name:
+            items.setdefault(name, []).append(line)
+    return items
+
+
+class Imports:
+    """What the use lines of a file bring: words and prefixes, each with where it comes from."""
+
+    def __init__(self, lines):
+        self.words, self.prefixes = {}, {}
+        for line in lines:
+            found = IMPORT.search(line.strip())
+            if not found or found[2] != "specs":
+                continue
+            crate, _, module, names, alias = found.groups()
+            if names is None:
+                self.prefixes[alias or module.split(".")[-1]] = (crate, module)
+            for part in (names or "").split(","):
+                old, _, new = part.strip().partition(" as ")
+                if old:
+                    self.words[(new or old).strip()] = (crate, module, old.strip())
+
+    def reached_by(self, token):
+        """The items that a token may name, one within a module that it begins with included."""
+        head, _, rest = token.partition(".")
+        found = [self.words[it] for it in {token, head} if it in self.words]
+        if rest and head in self.prefixes:
+            found.append((*self.prefixes[head], rest.split(".")[0]))
+        return found
+
+
+def with_operators(names):
+    """Names, and for each operator, such as ◌or◌, the words that stand between what it takes."""
+    return {**{part: it for it in names if "◌" in it for part in it.split("◌") if part}, **{it: it for it in names}}
+
+
+def modules_of(folder):
+    """The files of specs/ or proofs/ of each crate: crate and module with items and imports."""
+    found = {}
+    for path in sorted(ROOT.glob(f"crates/*/{folder}/**/*.antt")):
+        crate, module = path.relative_to(ROOT).parts[1], ".".join(path.relative_to(ROOT).with_suffix("").parts[3:])
+        if module == "Lib" or module.startswith("declared"):
+            continue
+        text = path.read_text(encoding="utf-8")
+        found[crate, module] = items_of(text), Imports([it for it in text.split("\n") if it.startswith(("use ", "pub use "))])
+    return found
+
+
+def named_by_clauses():
+    """What the sources import for their clauses."""
+    for path in sorted(ROOT.glob("crates/*/src/**/*.rt")):
+        text = path.read_text(encoding="utf-8")
+        imports = Imports(re.sub(r"\s+", " ", it) for it in re.findall(r"ghost use [^;]*;", text))
+        yield from imports.words.values()
+        for alias in imports.prefixes:
+            for name in re.findall(r"(?<![\w.])" + re.escape(alias) + r"\.([^\s(){},;]+)", text):
+                yield (*imports.prefixes[alias], name.split(".")[0])
+
+
+def unreached(modules):
+    """The items of specs/ that no clause reaches, by crate, module and name."""
+    reached, todo = set(), list(named_by_clauses())
+    while todo:
+        crate, module, name = todo.pop()
+        items, imports = modules.get((crate, module), ({}, None))
+        if name not in items or (crate, module, name) in reached:
+            continue
+        reached.add((crate, module, name))
+        own, brought = with_operators(items), with_operators(imports.words)
+        for token in set(TOKEN.findall("\n".join(items[name]))):
+            todo += [(crate, module, own[it]) for it in {token, token.split(".")[0]} if it in own]
+            todo += imports.reached_by(brought.get(token, token))
+    return [(*key, name) for key, (items, _) in modules.items() for name in items if (*key, name) not in reached]
+
+
+def statement_of(name, lines):
+    """An item's statement, without line breaks: its signature up to the first line of its body."""
+    said = [lines[0].split(" : ", 1)[-1]]
+    for line in lines[1:]:
+        if not line[0].isspace():
+            break
+        said.append(line)
+    return " ".join(" ".join(said).split())
+
+
+def twice(modules):
+    """The lemmas that stand in several files under one name with one statement, with those files."""
+    found = collections.defaultdict(set)
+    for (crate, module), (items, _) in modules.items():
+        for name, lines in items.items():
+            statement = statement_of(name, lines)
+            if not statement.startswith("goal."):
+                found[name, statement].add(f"{crate}/proofs/{module}")
+    return {key: sorted(files) for key, files in found.items() if len(files) > 1}
+
+
+def main():
+    specs, proofs = modules_of("specs"), modules_of("proofs")
+    lost, copies = unreached(specs), twice(proofs)
+    for crate, module, name in lost:
+        print(f"crates/{crate}/specs/{module.replace('.', '/')}.antt: no clause reaches {name}")
+    for (name, statement), files in copies.items():
+        print(f"{name} : {statement} stands in {', '.join(files)}")
+    count = sum(len(items) for items, _ in specs.values()), sum(len(items) for items, _ in proofs.values())
+    print(f"{count[0]} items of specs/: {len(lost)} reached by no clause; {count[1]} items of proofs/: {len(copies)} stand twice")
+    return int(bool(lost or copies))
+
+
+sys.exit(main())
