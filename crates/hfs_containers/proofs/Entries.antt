@@ -1,5 +1,5 @@
 -- Entry by entry.
-use Rattle.std.proofs.Common.{◌≡◌, ◌∙◌, ℕ, suc, ◌+◌, ◌-◌, ◌*◌, ◌<◌, ◌≤◌, Bool, true, false, cond, List, [], ◌∷◌, ◌++◌, Option, Some, None, Result, Ok, Err, ap, sym, subst, arith, append_assoc, append-nil}
+use Rattle.std.proofs.Common.{◌≡◌, ◌∙◌, ℕ, suc, ◌+◌, ◌-◌, ◌*◌, ◌<◌, ◌≤◌, true, false, cond, List, [], ◌∷◌, ◌++◌, Option, Some, None, Result, Ok, Err, ap, sym, subst, arith, append_assoc, append-nil}
 use Rattle.std.specs.Prelude.{IfSome, OnOk, map}
 use Rattle.std.specs.List.{flat_map, range_with_len, take_while}
 use Rattle.std.specs.Option.{option_to_list}

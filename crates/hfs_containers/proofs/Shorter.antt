@@ -1,10 +1,9 @@
 -- What the definitions make where there are enough bytes, and where there are too few.
-use Rattle.std.proofs.Common.{◌≡◌, ℕ, ◌+◌, ◌<◌, ◌≤◌, Bool, true, false, cond, List, Option, Some, None, sym}
+use Rattle.std.proofs.Common.{◌≡◌, ℕ, ◌+◌, ◌<◌, ◌≤◌, true, false, cond, List, None, sym}
 use Rattle.std.specs.Prelude.{nat_le}
 use Rattle.std.proofs.lemmas.Bool.{le-leb, lt-leb}
 use Rattle.hfs_fields.specs.Mdb.{bytes_at}
 use Rattle.hfs_containers.specs.declared.ranges.ByteRange.{ByteRange}
-use Rattle.hfs_containers.specs.declared.ranges.FoundRange.{FoundRange}
 use Rattle.hfs_containers.specs.Ranges.{signed_name, volume_name_in}
 use Rattle.hfs_containers.specs.DiskCopy.{disk_copy_in, disk_copy_of}
 use Rattle.hfs_containers.specs.MacBinary.{data_fork_in, data_fork_of}

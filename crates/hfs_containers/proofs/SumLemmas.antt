@@ -1,5 +1,5 @@
 -- The sum of bytes that are read in pieces.
-use Rattle.std.proofs.Common.{◌≡◌, ◌∙◌, ℕ, zero, suc, ◌+◌, ◌-◌, ◌*◌, ◌%◌, ◌<◌, ◌≤◌, ◌⊎◌, inl, inr, min, Bool, true, false, leb, List, [], ◌∷◌, ◌++◌, length, take, drop, get_or, Option, Some, None, refl, ap, sym, subst, arith}
+use Rattle.std.proofs.Common.{◌≡◌, ◌∙◌, ℕ, zero, suc, ◌+◌, ◌-◌, ◌*◌, ◌<◌, ◌≤◌, ◌⊎◌, inl, inr, min, Bool, true, false, leb, List, [], ◌∷◌, ◌++◌, length, take, drop, get_or, Option, Some, None, refl, ap, sym, subst, arith}
 use Rattle.std.specs.Prelude.{IfSome}
 use Rattle.std.proofs.lemmas.List.{take_all, drop_all, drop-drop, drop_more, length-take, length-drop, append-nil}
 use Rattle.std.proofs.lemmas.Bool.{leb-true, leb-false}
@@ -103,7 +103,3 @@ goes-whole None range sum done end all = tt
 goes-whole (Some file) range sum done end all =
     let none : range.len - done ≡ 0 = omega (arith, end) in
     ap (λ k. sum_from sum (bytes_at (range.start + done) k file)) (sym none) ∙ all
-
-pub goes-first : (known : Option (List ℕ)) (range : ByteRange) → GoesOn known range 0 0
-goes-first None range = tt
-goes-first (Some file) range = let e : range.start + 0 ≡ range.start = omega arith in ap (λ k. sum_from 0 (bytes_at k range.len file)) e

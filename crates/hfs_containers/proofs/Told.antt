@@ -1,6 +1,6 @@
 -- What follows from what a file tells.
 use Rattle.std.proofs.Common.{◌≡◌, ℕ, List, Option, Some, None, Result, Ok, Err, subst}
-use Rattle.std.specs.Prelude.{IfSome, IfOk}
+use Rattle.std.specs.Prelude.{IfOk}
 use Rattle.hfs_containers.specs.Reading.{IsTold}
 
 pub told : {X Y : Type 0} (known : Option (List ℕ)) (f : List ℕ → X) (h : List ℕ → Y) (x : X) (y : Y) → IsTold known f x

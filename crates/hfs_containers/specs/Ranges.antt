@@ -1,5 +1,5 @@
 -- Ranges of a file's bytes, and the volumes that they hold.
-use Rattle.std.specs.Prelude.{ℕ, ◌+◌, ◌-◌, min, Bool, ◌&&◌, ◌==◌, nat_le, if◌then◌else◌, List, Option, Some, None}
+use Rattle.std.specs.Prelude.{ℕ, ◌+◌, ◌==◌, nat_le, if◌then◌else◌, List, Option, Some, None}
 use Rattle.std.specs.Option.{option_map}
 use Rattle.hfs_fields.specs.Numbers.{number_at}
 use Rattle.hfs_fields.specs.Mdb.{bytes_at}

@@ -1,5 +1,5 @@
 -- Each range once, of those that were looked for.
-use Rattle.std.proofs.Common.{◌≡◌, ◌∙◌, ℕ, List, length, Option, Some, None, Result, Ok, Err, Vec, Global, ap, sym}
+use Rattle.std.proofs.Common.{◌≡◌, ◌∙◌, ℕ, List, Option, Some, None, Result, Ok, Err, Vec, Global, ap, sym}
 use Rattle.std.specs.Prelude.{IfOk}
 use Rattle.hfs_containers.specs.declared.ranges.FoundRange.{FoundRange}
 use Rattle.hfs_containers.specs.Reading.{IsTold, IsToldOf}

@@ -1,5 +1,5 @@
 -- A disk copy comes before a volume.
-use Rattle.std.proofs.Common.{◌≡◌, ◌∙◌, ap, sym}
+use Rattle.std.proofs.Common.{◌∙◌, ap, sym}
 use Rattle.std.specs.Option.{option_or}
 use Rattle.hfs_containers.specs.declared.ranges.Container.TheVariants.{MacBinary}
 use Rattle.hfs_containers.specs.Ranges.{volume_as}

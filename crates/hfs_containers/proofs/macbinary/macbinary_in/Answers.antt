@@ -1,5 +1,5 @@
 -- What is found in the data fork.
-use Rattle.std.proofs.Common.{◌≡◌, ◌∙◌, ap, sym}
+use Rattle.std.proofs.Common.{◌∙◌, ap, sym}
 use Rattle.std.specs.Option.{option_and_then}
 use Rattle.hfs_containers.specs.MacBinary.{data_fork_in, found_in_fork, macbinary_in}
 use Rattle.hfs_containers.proofs.Told.{told, told-last}

@@ -1,5 +1,5 @@
 -- Blocks of 512 bytes come before those of 2,048.
-use Rattle.std.proofs.Common.{◌≡◌, ◌∙◌, Bool, cond, Option, Some, None, ap, sym, ℕ}
+use Rattle.std.proofs.Common.{◌∙◌, Bool, cond, Option, Some, None, ap, sym, ℕ}
 use Rattle.hfs_containers.specs.PartitionMap.{has_map_at, map_block_in}
 use Rattle.hfs_containers.proofs.Told.{told, told-both}
 use Rattle.hfs_containers.proofs.partition_map.map_block_in.Goals as goal

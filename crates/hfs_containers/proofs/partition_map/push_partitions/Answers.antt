@@ -1,6 +1,5 @@
 -- The partitions of the map, where there is one.
-use Rattle.std.proofs.Common.{◌≡◌, ◌∙◌, ◌++◌, List, ap, sym, append-nil}
-use Rattle.hfs_containers.specs.declared.ranges.FoundRange.{FoundRange}
+use Rattle.std.proofs.Common.{◌∙◌, ◌++◌, ap, sym, append-nil}
 use Rattle.hfs_containers.specs.PartitionMap.{map_block_in, partitions_in, partitions_of_map}
 use Rattle.hfs_containers.proofs.Told.{told}
 use Rattle.hfs_containers.proofs.Entries.{partitions-found}

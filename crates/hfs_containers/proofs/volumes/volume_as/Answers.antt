@@ -1,5 +1,5 @@
 -- The range, where a name was found.
-use Rattle.std.proofs.Common.{◌≡◌, ◌∙◌, ap, sym}
+use Rattle.std.proofs.Common.{◌∙◌, ap, sym}
 use Rattle.std.specs.Option.{option_map}
 use Rattle.hfs_containers.specs.Ranges.{found_as, volume_as, volume_name_in}
 use Rattle.hfs_containers.proofs.Told.{told}

@@ -1,5 +1,5 @@
 -- The name stands in the block that was read.
-use Rattle.std.proofs.Common.{◌≡◌, ◌∙◌, ◌+◌, ap, sym, arith, rules}
+use Rattle.std.proofs.Common.{◌≡◌, ◌∙◌, ◌+◌, ap, rules}
 use Rattle.hfs_fields.specs.Mdb.{bytes_at}
 use Rattle.hfs_containers.specs.Ranges.{signed_name, volume_name_in}
 use Rattle.hfs_containers.proofs.Told.{told, told-always}
