@@ -4,11 +4,11 @@ ghost use Rattle.hfs_commands.specs.Faults.{IsTooMuch, IsUnreadScript};
 
 use crate::fault::Fault;
 use hfs_check::MountFault;
-use hfs_sparse::SeekSource;
+use hfs_sparse::{FileReader, SeekSource};
 use hfs_texts::{IMAGE_LIMIT, LoadFault, load, load_within};
 use std::alloc::Global;
 use std::fs::{File, OpenFile};
-use std::io::{BufReader, Read};
+use std::io::{BufReader, Read, Seek};
 use std::rt::Files;
 
 /// How many bytes are read at once of an image that is read where it is needed.
@@ -16,10 +16,10 @@ const READ_AHEAD: usize = 16_384;
 
 /// An image that was opened.
 #[derive(Drop)]
-pub enum ImageFile<F> {
+pub enum ImageFile<F: Read + Seek> {
     /// A file of so many bytes, to be read where it is needed.
     Seekable {
-        source: SeekSource<BufReader<F>>,
+        source: SeekSource<FileReader<BufReader<F>>>,
         len: u64,
     },
     /// All bytes of anything else, such as a pipe.
@@ -28,7 +28,7 @@ pub enum ImageFile<F> {
 
 /// All bytes of what was opened by this path, at most 2,147,483,648. Faults: `CannotRead` where a read fails, `Refused(TooLarge)`
 /// where there are more, `NoMemory`.
-fn load_opened<'a, F: Read>(
+pub(crate) fn load_opened<'a, F: Read>(
     alloc: Global,
     file: &mut F,
     path: &'a str,
@@ -82,7 +82,7 @@ pub fn open_image<'a, R: Files + AllocGlobal>(
     };
     match BufReader::with_capacity(rt.alloc(), READ_AHEAD, file) {
         Ok(reader) => Ok(ImageFile::Seekable {
-            source: SeekSource::new(reader),
+            source: SeekSource::new(FileReader(reader)),
             len,
         }),
         Err(_) => Err(Fault::NoMemory),

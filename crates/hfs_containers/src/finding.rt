@@ -96,7 +96,7 @@ pub fn nth_range<S: ReadAt>(
     alloc: Global,
     source: &mut S,
     len: u64,
-    n: u32,
+    n: u64,
 ) -> Result<Option<FoundRange>, SparseFault>
     ensures nth { IfOk result (IsToldOf (S.known source.old) len (nth_found_in n)) }
     ensures known { S.known source.new ≡ S.known source.old }

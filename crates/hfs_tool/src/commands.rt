@@ -2,6 +2,10 @@
 
 use crate::progress::Progress;
 use crate::saving::{save, tell};
+use crate::volumes::{
+    print_volume_check, print_volume_fork, print_volume_info, print_volume_list,
+    print_volume_macbinary, print_volumes,
+};
 use crate::words::{FileWords, ForkWords, NewVolume, RunWords, Words};
 use hfs_check::MountFault;
 use hfs_commands::{
@@ -26,12 +30,28 @@ pub fn obey<'a, T: Threads + Wait + Sync>(
     words: &Words<'a>,
 ) -> Result<u8, Fault<'a>> {
     match words {
-        Words::Info { image: None } => print_info(rt, &mut rt.stdin(), "stdin"),
-        Words::Info { image: Some(image) } => print_info_of(rt, *image),
-        Words::Check { image } => print_check(rt, *image),
-        Words::List { image, dir } => print_list(rt, *image, *dir),
-        Words::Cat(file) => print_fork(rt, file),
-        Words::MacBinary(file) => print_macbinary(rt, file),
+        Words::StandardInput => print_info(rt, &mut rt.stdin(), "stdin"),
+        Words::Info { image, volume } => match volume {
+            Some(n) => print_volume_info(rt, *image, *n),
+            None => print_info_of(rt, *image),
+        },
+        Words::Check { image, volume } => match volume {
+            Some(n) => print_volume_check(rt, *image, *n),
+            None => print_check(rt, *image),
+        },
+        Words::List { image, volume, dir } => match volume {
+            Some(n) => print_volume_list(rt, *image, *n, *dir),
+            None => print_list(rt, *image, *dir),
+        },
+        Words::Cat(file) => match file.volume {
+            Some(n) => print_volume_fork(rt, file, n),
+            None => print_fork(rt, file),
+        },
+        Words::MacBinary(file) => match file.volume {
+            Some(n) => print_volume_macbinary(rt, file, n),
+            None => print_macbinary(rt, file),
+        },
+        Words::Volumes { file } => print_volumes(rt, *file),
         Words::New(volume) => write_new(rt, volume),
         Words::Repair { image, file } => write_repaired(rt, *image, *file),
         Words::Run(run) => print_answers(rt, threads, run),
@@ -47,7 +67,7 @@ fn print_info_of<'a>(rt: &HostRuntime, image: &'a str) -> Result<u8, Fault<'a>> 
 }
 
 /// Prints the master directory block that a reader gives.
-fn print_info<'a, R: Read>(
+pub fn print_info<'a, R: Read>(
     rt: &HostRuntime,
     reader: &mut R,
     name: &'a str,
@@ -59,7 +79,7 @@ fn print_info<'a, R: Read>(
 }
 
 /// Prints lines, by as few calls as the output takes.
-fn print_lines(rt: &HostRuntime, lines: &str) -> Result<(), Fault<'static>> {
+pub fn print_lines(rt: &HostRuntime, lines: &str) -> Result<(), Fault<'static>> {
     match put(&mut rt.stdout(), lines.as_bytes()) {
         Ok(()) => Ok(()),
         Err(_) => Err(Fault::OutputFailed),
@@ -67,7 +87,7 @@ fn print_lines(rt: &HostRuntime, lines: &str) -> Result<(), Fault<'static>> {
 }
 
 /// Prints lines with an exit status, where memory sufficed for them, and answers the status.
-fn print_told(
+pub fn print_told(
     rt: &HostRuntime,
     told: Result<(u8, String), AllocError>,
 ) -> Result<u8, Fault<'static>> {
@@ -105,15 +125,26 @@ fn mounted(rt: &HostRuntime, image: Vec<u8>) -> Result<Volume, Fault<'static>> {
 fn print_list<'a>(rt: &HostRuntime, path: &'a str, dir: u32) -> Result<u8, Fault<'a>> {
     match open_image(rt, path)? {
         ImageFile::Seekable { mut source, len } => {
-            match needed_list_text(rt.alloc(), &mut source, len, dir) {
-                Ok(told) => print_told(rt, Ok(told)),
-                Err(fault) => Err(Fault::of_needed(fault, path)),
-            }
+            print_needed_list(rt, path, &mut source, len, dir)
         }
         ImageFile::Whole(image) => {
             let volume = mounted(rt, image)?;
             print_told(rt, list_text(rt.alloc(), &volume, dir))
         }
+    }
+}
+
+/// Prints the children of a folder, of which the blocks are read that are needed.
+pub fn print_needed_list<'a, S: BlockSource>(
+    rt: &HostRuntime,
+    path: &'a str,
+    source: &mut S,
+    len: u64,
+    dir: u32,
+) -> Result<u8, Fault<'a>> {
+    match needed_list_text(rt.alloc(), source, len, dir) {
+        Ok(told) => print_told(rt, Ok(told)),
+        Err(fault) => Err(Fault::of_needed(fault, path)),
     }
 }
 
@@ -159,7 +190,7 @@ fn print_macbinary<'a>(rt: &HostRuntime, file: &FileWords<'a>) -> Result<u8, Fau
 }
 
 /// Prints a file with both forks, of which the blocks are read where they are needed.
-fn print_needed_macbinary<'a, S: BlockSource>(
+pub fn print_needed_macbinary<'a, S: BlockSource>(
     rt: &HostRuntime,
     file: &FileWords<'a>,
     source: &mut S,
@@ -222,7 +253,7 @@ fn print_end(rt: &HostRuntime, reply: &Reply) -> Result<u8, Fault<'static>> {
 }
 
 /// Prints the bytes of a file's fork, of which the blocks are read where they are needed.
-fn print_needed_fork<'a, S: BlockSource>(
+pub fn print_needed_fork<'a, S: BlockSource>(
     rt: &HostRuntime,
     file: &ForkWords<'a>,
     source: &mut S,
