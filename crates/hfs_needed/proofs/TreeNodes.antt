@@ -49,11 +49,11 @@ at-number f [] n lt = absurd (omega (arith, lt))
 at-number f (x ∷ xs) zero lt = refl
 at-number f (x ∷ xs) (suc n) lt = at-number f xs n (omega (arith, lt))
 
--- a node whose block was read
-pub node-bytes : (read : Numbered) (runs : List Run) (n : ℕ) (block : List ℕ) → n < length (flat_map run_of runs) → changes read (block_for runs n) ≡ Some block
+-- a copy of the block of a node
+pub node-bytes : (read : Numbered) (runs : List Run) (n : ℕ) (block : List ℕ) → n < length (flat_map run_of runs) → block ≡ sparse read (block_for runs n)
     → block ≡ get_or (nodes_of read runs) n []
 unfolding nodes_in
-node-bytes read runs n block lt e = sym (at-number (sparse read) (flat_map run_of runs) n lt ∙ ap (λ (o : Option (List ℕ)). unwrap_or o zero_block) e)
+node-bytes read runs n block lt e = e ∙ sym (at-number (sparse read) (flat_map run_of runs) n lt)
 
 module _ (old new : Numbered) (grown : HasGrown old new) (runs : List Run) where
   -- it reads the same whatever else is read

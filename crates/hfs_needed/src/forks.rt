@@ -10,14 +10,13 @@ ghost use Rattle.hfs_needed.specs.Opened.{IsOpenedOf, IsRefusedFor};
 
 use crate::laws::gathered_is_enough;
 use crate::opening::{NeededFault, NeededVolume, open_needed};
-use hfs_blocks::Patch;
 use hfs_btree::RunNodes;
 use hfs_check::{SoundVolume, VolumeTrees, no_blocks_fault, trees_are_sound};
 use hfs_fields::{FileRecord, ForkRecord};
 use hfs_model::{Fork, Reply};
 use hfs_queries::{catalog_answers, file_named};
 use hfs_space::{ForkKind, fork_extents, tree_runs};
-use hfs_sparse::{BlockSource, SparseFault, ZeroBlocks, read_runs};
+use hfs_sparse::{BlockSource, SparseBlocks, SparseFault, read_runs};
 use std::alloc::Global;
 
 /// The bytes of a fork of a file: of its extents, which are found by the blocks that were read, those blocks are read from the source that
@@ -25,7 +24,7 @@ use std::alloc::Global;
 fn read_kind<S: BlockSource>(
     alloc: Global,
     source: &mut S,
-    read: &Patch,
+    read: &SparseBlocks,
     count: u32,
     sound: &SoundVolume,
     file: u32,
@@ -40,8 +39,7 @@ fn read_kind<S: BlockSource>(
     ensures image { S.image source.new ≡ S.image source.old }
 {
     trees_are_sound();
-    let zeros = ZeroBlocks { count };
-    let blocks = read.over(&zeros);
+    let blocks = read.volume(count);
     let nodes = RunNodes {
         blocks: &blocks,
         runs: &sound.trees.extents,
@@ -62,7 +60,7 @@ fn read_kind<S: BlockSource>(
 pub(crate) fn read_file<S: BlockSource>(
     alloc: Global,
     source: &mut S,
-    read: &Patch,
+    read: &SparseBlocks,
     count: u32,
     sound: &SoundVolume,
     file: &FileRecord,
@@ -90,7 +88,7 @@ pub(crate) fn read_file<S: BlockSource>(
 
 /// The record of the folder's file of that name, or the reply that refuses it, where these blocks were read of a volume of `count` blocks.
 pub(crate) fn find_file(
-    read: &Patch,
+    read: &SparseBlocks,
     count: u32,
     trees: &VolumeTrees,
     dir: u32,
@@ -102,9 +100,8 @@ pub(crate) fn find_file(
     ensures forks { IfOk result (λ file. AreForksIn (sparse read.now) file) }
 {
     catalog_answers();
-    let zeros = ZeroBlocks { count };
     let nodes = RunNodes {
-        blocks: &read.over(&zeros),
+        blocks: &read.volume(count),
         runs: &trees.catalog,
     };
     file_named(&nodes, dir, name)

@@ -10,18 +10,18 @@ ghost use Rattle.hfs_needed.specs.Needed.{has_extents_file, needed_of_extents, n
 
 use crate::finding::{catalog_runs, extents_runs};
 use crate::tree_nodes::gather_tree;
-use hfs_blocks::{Patch, Run};
+use hfs_blocks::Run;
 use hfs_check::{mdb_fault, no_mdb_fault, read_mdb};
 use hfs_fields::{CatKey, ExtKey, Mdb};
 use hfs_space::no_tree_file_fault;
-use hfs_sparse::{BlockSource, SparseFault, ZeroBlocks, fetch, fetch_range};
+use hfs_sparse::{BlockSource, SparseBlocks, SparseFault, fetch, fetch_range};
 use std::alloc::Global;
 
 /// Reads what is needed of the catalog, where what is needed of the extents tree was read, which lies in these runs.
 fn gather_catalog<S: BlockSource>(
     alloc: Global,
     source: &mut S,
-    read: &mut Patch,
+    read: &mut SparseBlocks,
     count: u32,
     mdb: &Mdb,
     extents_tree: &[Run],
@@ -37,8 +37,7 @@ fn gather_catalog<S: BlockSource>(
     ensures image { S.image source.new ≡ S.image source.old }
 {
     no_tree_file_fault();
-    let zeros = ZeroBlocks { count };
-    let Ok(found) = catalog_runs(alloc, &read.over(&zeros), mdb, extents_tree) else {
+    let Ok(found) = catalog_runs(alloc, &read.volume(count), mdb, extents_tree) else {
         return Err(SparseFault::Memory);
     };
     let Some(runs) = found else {
@@ -52,7 +51,7 @@ fn gather_catalog<S: BlockSource>(
 fn gather_trees<S: BlockSource>(
     alloc: Global,
     source: &mut S,
-    read: &mut Patch,
+    read: &mut SparseBlocks,
     count: u32,
     mdb: &Mdb,
 ) -> Result<(), SparseFault>
@@ -64,8 +63,7 @@ fn gather_trees<S: BlockSource>(
     ensures image { S.image source.new ≡ S.image source.old }
 {
     no_tree_file_fault();
-    let zeros = ZeroBlocks { count };
-    let Ok(found) = extents_runs(alloc, &read.over(&zeros), mdb) else {
+    let Ok(found) = extents_runs(alloc, &read.volume(count), mdb) else {
         return Err(SparseFault::Memory);
     };
     let Some(runs) = found else {
@@ -80,7 +78,7 @@ fn gather_trees<S: BlockSource>(
 fn gather_rest<S: BlockSource>(
     alloc: Global,
     source: &mut S,
-    read: &mut Patch,
+    read: &mut SparseBlocks,
     count: u32,
     mdb: &Mdb,
 ) -> Result<(), SparseFault>
@@ -108,7 +106,7 @@ pub fn gather_needed<S: BlockSource>(
     alloc: Global,
     source: &mut S,
     count: u32,
-) -> Result<Patch, SparseFault>
+) -> Result<SparseBlocks, SparseFault>
     requires { 3 ≤ count }
     ensures needed { IfOk result (λ read. HasNeeded count read) }
     ensures told { IfOk result (λ read. IsOfKnown (S.image source.old) read) }
@@ -116,10 +114,9 @@ pub fn gather_needed<S: BlockSource>(
     ensures image { S.image source.new ≡ S.image source.old }
 {
     no_mdb_fault();
-    let zeros = ZeroBlocks { count };
-    let mut read = Patch::new(alloc);
+    let mut read = SparseBlocks::new(alloc);
     fetch(source, &mut read, 2)?;
-    let mdb = read_mdb(&read.over(&zeros));
+    let mdb = read_mdb(&read.volume(count));
     if mdb_fault(&mdb, count).is_some() {
         return Ok(read);
     }

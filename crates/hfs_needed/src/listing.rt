@@ -12,20 +12,19 @@ ghost use Rattle.hfs_needed.specs.Listing.{IsBriefList};
 
 use crate::laws::gathered_is_enough;
 use crate::opening::{NeededFault, open_needed};
-use hfs_blocks::Patch;
 use hfs_btree::RunNodes;
 use hfs_catalog::{CatalogRecord, read_records};
 use hfs_check::{VolumeTrees, no_blocks_fault};
 use hfs_model::Reply;
 use hfs_queries::{Detail, catalog_answers, list};
-use hfs_sparse::{BlockSource, ZeroBlocks};
+use hfs_sparse::{BlockSource, SparseBlocks};
 use std::alloc::{AllocError, Global};
 
 /// What the children's own records tell of all children of a folder, in name order, where these blocks were read of a volume of `count`
 /// blocks.
 pub(crate) fn list_in_brief(
     alloc: Global,
-    read: &Patch,
+    read: &SparseBlocks,
     count: u32,
     trees: &VolumeTrees,
     dir: u32,
@@ -35,9 +34,8 @@ pub(crate) fn list_in_brief(
     ensures { Gives (listed_in Detail.Brief (catalog_in (sparse read.now)) dir) result }
 {
     catalog_answers();
-    let zeros = ZeroBlocks { count };
     let nodes = RunNodes {
-        blocks: &read.over(&zeros),
+        blocks: &read.volume(count),
         runs: &trees.catalog,
     };
     list(alloc, &nodes, dir, Detail::Brief)
@@ -46,7 +44,7 @@ pub(crate) fn list_in_brief(
 /// All records of the catalog, where these blocks were read of a volume of `count` blocks.
 pub(crate) fn catalog_records(
     alloc: Global,
-    read: &Patch,
+    read: &SparseBlocks,
     count: u32,
     trees: &VolumeTrees,
 ) -> Result<Vec<CatalogRecord>, AllocError>
@@ -55,9 +53,8 @@ pub(crate) fn catalog_records(
     ensures { IfOk result (λ records. records.items ≡ catalog_in (sparse read.now)) }
 {
     catalog_answers();
-    let zeros = ZeroBlocks { count };
     let nodes = RunNodes {
-        blocks: &read.over(&zeros),
+        blocks: &read.volume(count),
         runs: &trees.catalog,
     };
     read_records(alloc, &nodes)

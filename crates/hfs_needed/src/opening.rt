@@ -5,9 +5,8 @@ ghost use Rattle.hfs_needed.specs.Opened.{IsOpenedOf, AreRefusedFor, IsRefusedFo
 
 use crate::gathering::gather_needed;
 use crate::laws::gathered_is_enough;
-use hfs_blocks::Patch;
 use hfs_check::{MountFault, SoundVolume, check_blocks, no_blocks_fault};
-use hfs_sparse::{BlockSource, SparseFault, ZeroBlocks};
+use hfs_sparse::{BlockSource, SparseBlocks, SparseFault};
 use std::alloc::Global;
 
 /// Why nothing is told of a volume.
@@ -37,7 +36,7 @@ impl NeededFault {
 #[derive(Drop)]
 pub(crate) struct NeededVolume {
     /// The blocks that were read.
-    pub(crate) read: Patch,
+    pub(crate) read: SparseBlocks,
     /// How many blocks the volume has.
     pub(crate) count: u32,
     /// Its master directory block and where its trees lie.
@@ -60,8 +59,7 @@ fn open_blocks<S: BlockSource>(
         Ok(read) => read,
         Err(fault) => return Err(NeededFault::of_sparse(fault)),
     };
-    let zeros = ZeroBlocks { count };
-    match check_blocks(alloc, &read.over(&zeros)) {
+    match check_blocks(alloc, &read.volume(count)) {
         Ok(sound) => Ok(NeededVolume { read, count, sound }),
         Err(MountFault::Memory) => Err(NeededFault::Memory),
         Err(fault) => Err(NeededFault::Refused(fault)),

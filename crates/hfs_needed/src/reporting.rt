@@ -5,7 +5,7 @@ ghost use Rattle.hfs_needed.specs.Known.{IsReportIn, IsReportOf};
 use crate::gathering::gather_needed;
 use crate::laws::gathered_is_enough;
 use hfs_check::{MountFault, Report, no_blocks_fault, refused_report, report_blocks};
-use hfs_sparse::{BlockSource, SparseFault, ZeroBlocks};
+use hfs_sparse::{BlockSource, SparseFault};
 use std::alloc::Global;
 
 /// The report on the blocks of an image of `count` blocks, whose length is right.
@@ -21,8 +21,7 @@ fn gathered_report<S: BlockSource>(
     gathered_is_enough();
     no_blocks_fault();
     let read = gather_needed(alloc, source, count)?;
-    let zeros = ZeroBlocks { count };
-    match report_blocks(alloc, &read.over(&zeros)) {
+    match report_blocks(alloc, &read.volume(count)) {
         Ok(report) => Ok(report),
         Err(_) => Err(SparseFault::Memory),
     }

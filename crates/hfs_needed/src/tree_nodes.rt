@@ -11,16 +11,16 @@ ghost use Rattle.hfs_needed.specs.TreeReads.{nodes_of, HasNode, ReadsRuns, IsHea
 ghost use Rattle.hfs_sparse.specs.Sparse.{HasEach};
 
 use crate::tree_header::{TreeHead, read_head};
-use hfs_blocks::{Patch, Run, block_of};
+use hfs_blocks::{Run, block_of};
 use hfs_btree::{Key, bit_at};
 use hfs_node::{NodeKind, NodeView, view};
-use hfs_sparse::{BlockSource, SparseFault, fetch};
+use hfs_sparse::{BlockSource, SparseBlocks, SparseFault, fetch};
 use std::alloc::Global;
 
 /// Reads node `n` of a tree's file, unless it was read before, and copies it.
 fn fetch_node<S: BlockSource>(
     source: &mut S,
-    read: &mut Patch,
+    read: &mut SparseBlocks,
     runs: &[Run],
     n: u32,
     into: &mut [u8; 512],
@@ -34,10 +34,7 @@ fn fetch_node<S: BlockSource>(
 {
     let place = block_of(runs, n);
     fetch(source, read, place)?;
-    let Some(block) = read.get(place) else {
-        unreachable!();
-    };
-    *into = *block;
+    read.copy_block(place, into);
     Ok(())
 }
 
@@ -46,7 +43,7 @@ fn fetch_node<S: BlockSource>(
 fn fetch_head<K: Key, S: BlockSource>(
     alloc: Global,
     source: &mut S,
-    read: &mut Patch,
+    read: &mut SparseBlocks,
     runs: &[Run],
     size: u32,
 ) -> Result<Option<TreeHead>, SparseFault>
@@ -79,7 +76,7 @@ fn is_map(node: &NodeView) -> bool
 /// where it is no map node.
 fn fetch_map_node<S: BlockSource>(
     source: &mut S,
-    read: &mut Patch,
+    read: &mut SparseBlocks,
     runs: &[Run],
     n: u32,
     map: &mut Vec<u8>,
@@ -111,7 +108,7 @@ fn fetch_map_node<S: BlockSource>(
 /// Whether the chain is one.
 fn fetch_chain<S: BlockSource>(
     source: &mut S,
-    read: &mut Patch,
+    read: &mut SparseBlocks,
     runs: &[Run],
     count: u32,
     first: u32,
@@ -152,7 +149,7 @@ fn fetch_chain<S: BlockSource>(
 fn fetch_map<S: BlockSource>(
     alloc: Global,
     source: &mut S,
-    read: &mut Patch,
+    read: &mut SparseBlocks,
     runs: &[Run],
     head: TreeHead,
 ) -> Result<Option<Vec<u8>>, SparseFault>
@@ -185,7 +182,7 @@ fn fetch_map<S: BlockSource>(
 /// Reads node `n`, if the map marks it.
 fn fetch_if_marked<S: BlockSource>(
     source: &mut S,
-    read: &mut Patch,
+    read: &mut SparseBlocks,
     runs: &[Run],
     map: &[u8],
     n: u32,
@@ -206,7 +203,7 @@ fn fetch_if_marked<S: BlockSource>(
 /// Reads those of the first `count` nodes that the map marks.
 fn fetch_marked<S: BlockSource>(
     source: &mut S,
-    read: &mut Patch,
+    read: &mut SparseBlocks,
     runs: &[Run],
     map: &[u8],
     count: u32,
@@ -229,7 +226,7 @@ fn fetch_marked<S: BlockSource>(
 pub(crate) fn gather_tree<K: Key, S: BlockSource>(
     alloc: Global,
     source: &mut S,
-    read: &mut Patch,
+    read: &mut SparseBlocks,
     runs: &[Run],
     size: u32,
 ) -> Result<(), SparseFault>

@@ -11,12 +11,11 @@ ghost use Rattle.hfs_needed.specs.WholeFiles.{HoldsDataNamed, HoldsResourceNamed
 use crate::forks::{find_file, read_file};
 use crate::laws::gathered_is_enough;
 use crate::opening::{NeededFault, open_needed};
-use hfs_blocks::Patch;
 use hfs_btree::RunNodes;
 use hfs_check::{VolumeTrees, no_blocks_fault};
 use hfs_model::{Fork, Reply};
 use hfs_queries::{catalog_answers, get_cat_info};
-use hfs_sparse::{BlockSource, ZeroBlocks};
+use hfs_sparse::{BlockSource, SparseBlocks};
 use std::alloc::Global;
 
 /// A file with both forks.
@@ -31,15 +30,14 @@ pub struct NeededFile {
 }
 
 /// What is told of the folder's item of that name, where these blocks were read of a volume of `count` blocks.
-fn tell_of(read: &Patch, count: u32, trees: &VolumeTrees, dir: u32, name: &[u8]) -> Reply
+fn tell_of(read: &SparseBlocks, count: u32, trees: &VolumeTrees, dir: u32, name: &[u8]) -> Reply
     requires sound { AreBlocksSound count (sparse read.now) }
     requires trees { HasTrees count (sparse read.now) trees.now }
     ensures { result ≡ told.cat_info (catalog_in (sparse read.now)) dir name.now }
 {
     catalog_answers();
-    let zeros = ZeroBlocks { count };
     let nodes = RunNodes {
-        blocks: &read.over(&zeros),
+        blocks: &read.volume(count),
         runs: &trees.catalog,
     };
     get_cat_info(&nodes, dir, name)

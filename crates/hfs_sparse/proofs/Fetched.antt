@@ -1,62 +1,14 @@
 -- What one more block that was read makes of those that were read before.
-use Rattle.std.proofs.Common.{◌≡◌, ℕ, zero, suc, ◌+◌, ◌<◌, Bool, true, false, cond, List, [], ◌∷◌, length, Option, Some, None, IsSome, nat_eq, eqb-true, get_or, refl, sym, ap, ◌∙◌, subst, arith, true≢false, rules, ⊎_elim}
-use Rattle.std.specs.Prelude.{IfSome}
-use Rattle.std.proofs.lemmas.Bool.{cases_eq}
+use Rattle.std.proofs.Common.{◌≡◌, ℕ, zero, suc, ◌+◌, ◌-◌, ◌<◌, ◌≤◌, List, [], ◌∷◌, length, Option, IsSome, get_or, refl, sym, ap, ◌∙◌, subst, arith, ⊎_elim}
+use Rattle.std.proofs.lemmas.Bool.{cases_eq, cases_lt}
 use Rattle.std.specs.List.{flat_map, range_with_len}
 use Rattle.hfs_scans.specs.Each.{Each}
 use Rattle.hfs_scans.proofs.ElementLemmas.{each-append}
 use Rattle.hfs_blocks.specs.declared.run.Run.{Run}
-use Rattle.hfs_blocks.specs.Blocks.{run_of, block_at}
-use Rattle.hfs_blocks.specs.Layers.{Changes, Numbered, changes, with_change, AreWithin}
-use Rattle.hfs_blocks.proofs.LayerLemmas.{AreWithin-with_change}
-use Rattle.hfs_sparse.specs.Sparse.{HasEach, HasGrown, IsOf, StaysOf}
+use Rattle.hfs_blocks.specs.Blocks.{run_of}
+use Rattle.hfs_blocks.specs.Layers.{Numbered, changes}
+use Rattle.hfs_sparse.specs.Sparse.{HasEach, HasGrown, StaysOf}
 use Rattle.hfs_sparse.proofs.SparseLemmas.{has-grown, each-grown, stays-on}
-
-module _ (old new : Numbered) (n : ℕ) (b : List ℕ) (is : changes new ≡ with_change (changes old) n b) where
-  written : (k : ℕ) → changes new k ≡ cond (nat_eq n k) (Some b) (changes old k)
-  written k = ap (λ (f : Changes). f k) is
-
-  pub put-there : IsSome (changes new n)
-  put-there = subst (λ o. IsSome o) (sym (written n)) (by (nat_eq n n) refl)
-    where
-      by : (t : Bool) → nat_eq n n ≡ t → IsSome (cond t (Some b) (changes old n))
-      by true e = refl
-      by false e = absurd (true≢false (sym (same n) ∙ e))
-        where
-          same : (x : ℕ) → nat_eq x x ≡ true
-          same x = search rules
-
-  pub put-grown : changes old n ≡ None → HasGrown old new
-  put-grown none k some = written k ∙ by (nat_eq n k) refl
-    where
-      by : (t : Bool) → nat_eq n k ≡ t → cond t (Some b) (changes old k) ≡ changes old k
-      by true e = absurd (true≢false (sym some ∙ ap is_there (ap (changes old) (sym (eqb-true n k e)) ∙ none)))
-        where
-          is_there : Option (List ℕ) → Bool
-          is_there None = false
-          is_there (Some x) = true
-      by false e = refl
-
-  put-of : (bytes : List ℕ) → b ≡ block_at bytes n → IsOf bytes old → IsOf bytes new
-  put-of bytes own of k block found = by (nat_eq n k) refl
-    where
-      by : (t : Bool) → nat_eq n k ≡ t → block ≡ block_at bytes k
-      by true e =
-          let here : Some b ≡ Some block = sym (ap (λ t. cond t (Some b) (changes old k)) e) ∙ sym (written k) ∙ found in
-          let same : b ≡ block = cc in
-          sym same ∙ own ∙ ap (block_at bytes) (eqb-true n k e)
-      by false e = of k block (sym (ap (λ t. cond t (Some b) (changes old k)) e) ∙ sym (written k) ∙ found)
-
-  pub put-stays : (known : Option (List ℕ)) → IfSome known (λ bytes. b ≡ block_at bytes n) → StaysOf known old new
-  put-stays None own = tt
-  put-stays (Some bytes) own = put-of bytes own
-
-  pub put-within : length b ≡ 512 → (total : ℕ) → n < total → AreWithin (changes old) total → AreWithin (changes new) total
-  put-within whole total low within = subst (λ f. AreWithin f total) (sym is) (AreWithin-with_change (changes old) n b total low whole within)
-
-pub stays-itself : (known : Option (List ℕ)) (read : Numbered) → StaysOf known read read
-stays-itself None read = tt
-stays-itself (Some bytes) read = λ of. of
 
 -- ---- blocks in a row
 
@@ -102,3 +54,21 @@ module _ (old new : Numbered) (grown : HasGrown old new) where
 -- what is known of the image stays known
 pub stays-later : (known later : Option (List ℕ)) (old middle new : Numbered) → later ≡ known → StaysOf known old middle → StaysOf later middle new → StaysOf known old new
 stays-later known later old middle new e p q = stays-on known old middle new p (subst (λ o. StaysOf o middle new) e q)
+
+-- ---- some more of a range
+
+range-at : (P : ℕ → Type 0) (a n : ℕ) → Each P (range_with_len a n) → (k : ℕ) → k < n → P (a + k)
+range-at P a zero each k lt = absurd (omega (arith, lt))
+range-at P a (suc n) each zero lt = subst P (let e : a ≡ a + 0 = omega arith in e) each.0
+range-at P a (suc n) each (suc k) lt =
+    subst P (let e : a + 1 + k ≡ a + suc k = omega arith in e) (range-at P (a + 1) n each.1 k (omega (arith, lt)))
+
+pub some-more : (old new : Numbered) → HasGrown old new → (first done step : ℕ) → ((k : ℕ) → k < done → IsSome (changes old (first + k)))
+    → HasEach new (range_with_len (first + done) step) → (k : ℕ) → k < done + step → IsSome (changes new (first + k))
+some-more old new grown first done step before here k lt = ⊎_elim
+    (λ (low : k < done). has-grown old new grown (first + k) (before k low))
+    (λ (high : done ≤ k).
+    let place : first + done + (k - done) ≡ first + k = omega (arith, high) in
+    subst (λ n. IsSome (changes new n)) place
+    (range-at (λ n. IsSome (changes new n)) (first + done) step here (k - done) (omega (arith, high, lt))))
+    (cases_lt k done)

@@ -1,3 +1,6 @@
 pub mod Fetched
 pub mod Copied
 pub mod SparseLemmas
+pub mod BlockBytes
+pub mod PuttingIn
+pub mod ReadingIn

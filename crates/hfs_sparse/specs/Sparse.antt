@@ -1,5 +1,5 @@
 -- Blocks of an image that were read, with zeros in place of the others.
-use Rattle.std.specs.Prelude.{◌≡◌, ◌++◌, ℕ, List, length, take, drop, Option, Some, IsSome, IfSome, replicate}
+use Rattle.std.specs.Prelude.{◌≡◌, ◌≤◌, ◌++◌, ℕ, List, length, take, drop, Option, Some, IsSome, IfSome, replicate}
 use Rattle.std.specs.List.{flat_map, range_with_len}
 use Rattle.std.proofs.Common.{Vec, Global}
 use Rattle.std.proofs.lemmas.List.{length-replicate}
@@ -23,6 +23,10 @@ sparse read = over (changes read) (λ _. zero_block)
 -- each of these blocks was read
 abbrev pub HasEach : Numbered → List ℕ → Type 0
 HasEach read numbers = Each (λ n. IsSome (changes read n)) numbers
+
+-- so many blocks from a number on were read, at least one and at most as many as were wanted
+abbrev pub HasSome : Numbered → ℕ → ℕ → ℕ → Type 0
+HasSome read first most count = (1 ≤ count) × (count ≤ most) × HasEach read (range_with_len first count)
 
 -- what was read stays as it was read, and more may have been
 abbrev pub HasGrown : Numbered → Numbered → Type 0

@@ -8,27 +8,25 @@ use crate::source::BlockSource;
 use hfs_blocks::Run;
 use std::alloc::Global;
 
-/// Appends the bytes of `count` blocks from number `first` on. At an error those of the first of them may stand there.
+/// Appends the bytes of `count` blocks from number `first` on, by one read. At an error zeros may stand there, or some of these bytes.
 fn append_range<S: BlockSource>(
     source: &mut S,
     first: u32,
     count: u32,
     bytes: &mut Vec<u8>,
 ) -> Result<(), SparseFault>
-    requires { first + count ≤ 4294967296 }
     ensures gains { OnOk result (AddsRange (S.image source.old) first count bytes.old bytes.new) }
     ensures image { S.image source.new ≡ S.image source.old }
 {
-    for i in 0..count {
-        let mut block = [0; 512];
-        let Ok(()) = source.read_blocks(first + i, &mut block) else {
-            return Err(SparseFault::ReadFailed);
-        };
-        let Ok(()) = bytes.extend_from_slice(&block) else {
-            return Err(SparseFault::Memory);
-        };
+    let from = bytes.len();
+    let to = from + count as usize * 512;
+    let Ok(()) = bytes.resize(to, 0) else {
+        return Err(SparseFault::Memory);
+    };
+    match source.read_blocks(first, &mut bytes[from..to]) {
+        Ok(()) => Ok(()),
+        Err(_) => Err(SparseFault::ReadFailed),
     }
-    Ok(())
 }
 
 /// The bytes of the blocks of these runs, in their order. Errors: a read failed, memory was refused.

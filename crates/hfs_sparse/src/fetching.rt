@@ -1,12 +1,16 @@
 //! Reading the blocks that are wanted.
-ghost use Rattle.std.specs.Prelude.{◌≡◌, ℕ, ◌+◌, ◌<◌, ◌≤◌, IsSome, OnOk, length};
+ghost use Rattle.std.specs.Prelude.{◌≡◌, ℕ, ◌+◌, ◌<◌, ◌≤◌, IsSome, OnOk, IfOk, length};
 ghost use Rattle.std.specs.List.{flat_map, range_with_len};
 ghost use Rattle.hfs_blocks.specs.Blocks.{run_of, AreRunsWithin};
 ghost use Rattle.hfs_blocks.specs.Layers.{changes, KeepsWithin};
-ghost use Rattle.hfs_sparse.specs.Sparse.{HasEach, HasGrown, StaysOf};
+ghost use Rattle.hfs_sparse.specs.Sparse.{HasEach, HasGrown, HasSome, StaysOf};
 
+use crate::blocks::SparseBlocks;
 use crate::source::BlockSource;
-use hfs_blocks::{Patch, Run};
+use hfs_blocks::Run;
+
+/// The most blocks that are read at once, which have 64 KB.
+const MOST_AT_ONCE: u32 = 128;
 
 /// Why a block was not read.
 #[derive(Clone, Copy, Debug, PartialEq, Eq)]
@@ -17,31 +21,50 @@ pub enum SparseFault {
     Memory,
 }
 
+/// Reads some of the first of `most` blocks from number `first` on, those that were not read before by one read. How many they are, at least
+/// one. At an error what was read before stays.
+fn fetch_some<S: BlockSource>(
+    source: &mut S,
+    read: &mut SparseBlocks,
+    first: u32,
+    most: u32,
+) -> Result<u32, SparseFault>
+    requires some { 1 ≤ most }
+    requires numbers { first + most ≤ 4294967296 }
+    ensures has { IfOk result (HasSome read.new first most) }
+    ensures grown { HasGrown read.old read.new }
+    ensures stays { StaysOf (S.image source.old) read.old read.new }
+    ensures within { (total : ℕ) → first + most ≤ total → KeepsWithin read.old read.new total }
+    ensures image { S.image source.new ≡ S.image source.old }
+{
+    let unread = read.unread(first, most.min(MOST_AT_ONCE));
+    if unread == 0 {
+        return Ok(1);
+    }
+    read.read_range(source, first, unread)?;
+    Ok(unread)
+}
+
 /// Reads block `n`, unless it was read before. At an error what was read before stays.
-pub fn fetch<S: BlockSource>(source: &mut S, read: &mut Patch, n: u32) -> Result<(), SparseFault>
+pub fn fetch<S: BlockSource>(
+    source: &mut S,
+    read: &mut SparseBlocks,
+    n: u32,
+) -> Result<(), SparseFault>
     ensures has { OnOk result (IsSome (changes read.new n)) }
     ensures grown { HasGrown read.old read.new }
     ensures stays { StaysOf (S.image source.old) read.old read.new }
     ensures within { (total : ℕ) → n < total → KeepsWithin read.old read.new total }
     ensures image { S.image source.new ≡ S.image source.old }
 {
-    if read.get(n).is_some() {
-        return Ok(());
-    }
-    let mut block = [0; 512];
-    let Ok(()) = source.read_blocks(n, &mut block) else {
-        return Err(SparseFault::ReadFailed);
-    };
-    let Ok(()) = read.put(n, &block) else {
-        return Err(SparseFault::Memory);
-    };
+    fetch_some(source, read, n, 1)?;
     Ok(())
 }
 
-/// Reads `count` blocks from number `first` on, each unless it was read before.
+/// Reads `count` blocks from number `first` on, each unless it was read before, and up to 128 that stand side by side by one read.
 pub fn fetch_range<S: BlockSource>(
     source: &mut S,
-    read: &mut Patch,
+    read: &mut SparseBlocks,
     first: u32,
     count: u32,
 ) -> Result<(), SparseFault>
@@ -52,8 +75,9 @@ pub fn fetch_range<S: BlockSource>(
     ensures within { (total : ℕ) → first + count ≤ total → KeepsWithin read.old read.new total }
     ensures image { S.image source.new ≡ S.image source.old }
 {
-    for i in 0..count {
-        fetch(source, read, first + i)?;
+    let mut left = count;
+    while left > 0 {
+        left -= fetch_some(source, read, first + (count - left), left)?;
     }
     Ok(())
 }
@@ -61,7 +85,7 @@ pub fn fetch_range<S: BlockSource>(
 /// Reads the blocks of these runs, each unless it was read before.
 pub fn fetch_runs<S: BlockSource>(
     source: &mut S,
-    read: &mut Patch,
+    read: &mut SparseBlocks,
     runs: &[Run],
 ) -> Result<(), SparseFault>
     requires { AreRunsWithin runs.now 4294967296 }

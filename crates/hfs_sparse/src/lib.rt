@@ -1,18 +1,21 @@
 //! Images of which only some blocks are read, each when it is wanted, with zeros in place of the others.
 #![tactic(auto)]
 
+mod blocks;
 mod bytes;
 mod copying;
 mod fetching;
+mod held;
 mod placed;
 mod seeking;
 mod source;
-mod zeros;
+mod volume;
 
+pub use crate::blocks::SparseBlocks;
 pub use crate::bytes::ByteSource;
 pub use crate::copying::read_runs;
 pub use crate::fetching::{SparseFault, fetch, fetch_range, fetch_runs};
 pub use crate::placed::{FileReader, PlacedReader};
 pub use crate::seeking::SeekSource;
 pub use crate::source::BlockSource;
-pub use crate::zeros::ZeroBlocks;
+pub use crate::volume::SparseVolume;

@@ -9,14 +9,14 @@ use Rattle.hfs_needed.proofs.forks.find_file.Goals as goal
 
 pub file_named-requires : goal.file_named-requires
 file_named-requires c =
-    subst told.IsCatalog (sym ((λ i. nodes_in (sparse (c.over.ensures.patch i)) (c.deref.ensures.value i)) ∙ c.requires.trees.catalog.same))
+    subst told.IsCatalog (sym ((λ i. nodes_in (sparse (c.volume.ensures.read i)) (c.deref.ensures.value i)) ∙ c.requires.trees.catalog.same))
     (c.catalog_answers.ensures.sound c.args.count (sparse c.args.read.now) c.requires.sound)
 
 pub returns-clause-found : goal.returns-clause-found
 returns-clause-found c =
     c.file_named.ensures
     ∙ by_nodes (λ catalog. told.file_named catalog c.args.dir c.args.name.now) (sparse c.args.read.now) _
-    ((λ i. nodes_in (sparse (c.over.ensures.patch i)) (c.deref.ensures.value i)) ∙ c.requires.trees.catalog.same)
+    ((λ i. nodes_in (sparse (c.volume.ensures.read i)) (c.deref.ensures.value i)) ∙ c.requires.trees.catalog.same)
 
 pub returns-clause-forks : goal.returns-clause-forks
 returns-clause-forks c =

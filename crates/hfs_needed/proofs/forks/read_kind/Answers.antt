@@ -18,7 +18,7 @@ pub tree_runs-requires-clause-extents : goal.tree_runs-requires-clause-extents
 tree_runs-requires-clause-extents g c =
     subst (λ (extents : List Extent). AreExtentsWithin c.args.sound.now.mdb.allocation_blocks extents)
     (sym (c.deref-2.ensures.value ∙ c.in-Ok.ensures
-    ∙ extents-by (sparse c.args.read.now) _ ((λ i. nodes_in (sparse (c.over-blocks.ensures.patch i)) (c.deref.ensures.value i)) ∙ c.requires.trees.extents.same)
+    ∙ extents-by (sparse c.args.read.now) _ ((λ i. nodes_in (sparse (c.volume-blocks.ensures.read i)) (c.deref.ensures.value i)) ∙ c.requires.trees.extents.same)
     c.args.file c.args.kind c.args.fork.now.extents))
     (subst (λ (mdb : Mdb). AreExtentsWithin mdb.allocation_blocks (fork_extents (overflow_in (sparse c.args.read.now)) c.args.file (fork_byte c.args.kind) c.args.fork.now.extents))
     (sym c.requires.directory) c.requires.fork.within)
@@ -30,12 +30,12 @@ returns-clause-bytes g c =
     let len = c.args.fork.now.length in
     let within : AreRunsWithin c.deref-3.result.now c.args.count =
     subst (λ (runs : List Run). AreRunsWithin runs c.args.count) (sym c.deref-3.ensures.value)
-    (subst (λ (n : ℕ). AreRunsWithin c.in-Ok-tree_runs.runs.items n) (λ i. (c.over-blocks.ensures.below i).count) c.in-Ok-tree_runs.ensures.within) in
+    (subst (λ (n : ℕ). AreRunsWithin c.in-Ok-tree_runs.runs.items n) c.volume-blocks.ensures.count c.in-Ok-tree_runs.ensures.within) in
     subst (λ (mdb : Mdb). IfSome known (λ image. HasWhole c.args.count image
     → cut ≡ fork_bytes (block_at image) mdb (fork_extents (overflow_in (sparse c.args.read.now)) c.args.file (fork_byte c.args.kind) c.args.fork.now.extents) len)) c.requires.directory
     (subst (λ (extents : List Extent). IfSome known (λ image. HasWhole c.args.count image → cut ≡ fork_bytes (block_at image) c.args.sound.now.mdb extents len))
     (c.deref-2.ensures.value ∙ c.in-Ok.ensures
-    ∙ extents-by (sparse c.args.read.now) _ ((λ i. nodes_in (sparse (c.over-blocks.ensures.patch i)) (c.deref.ensures.value i)) ∙ c.requires.trees.extents.same)
+    ∙ extents-by (sparse c.args.read.now) _ ((λ i. nodes_in (sparse (c.volume-blocks.ensures.read i)) (c.deref.ensures.value i)) ∙ c.requires.trees.extents.same)
     c.args.file c.args.kind c.args.fork.now.extents)
     (fork-known known c.args.count c.deref-3.result.now within c.args.sound.now.mdb c.deref-2.result.now len
     (ap (flat_map run_of) c.deref-3.ensures.value ∙ c.in-Ok-tree_runs.ensures.numbers) c.in_ok-bytes.bytes.items cut c.in_ok-bytes.ensures.bytes

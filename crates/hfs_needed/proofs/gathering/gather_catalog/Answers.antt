@@ -5,7 +5,6 @@ use Rattle.std.proofs.lemmas.Bool.{and_parts}
 use Rattle.hfs_fields.specs.declared.mdb.Mdb.{Mdb}
 use Rattle.hfs_blocks.specs.Layers.{Numbered}
 use Rattle.hfs_check.specs.Parts.{catalog_blocks}
-use Rattle.hfs_sparse.specs.declared.zeros.ZeroBlocks.{ZeroBlocks}
 use Rattle.hfs_sparse.specs.Sparse.{sparse}
 use Rattle.hfs_needed.specs.Gathered.{LieAt}
 use Rattle.hfs_needed.specs.Needed.{is_extents_tree_right, has_catalog_file}
@@ -14,44 +13,44 @@ use Rattle.hfs_needed.proofs.gathering.gather_catalog.Goals as goal
 
 pub returns-in_default-found-clause-has : goal.returns-in_default-found-clause-has
 returns-in_default-found-clause-has g c =
-    let none : (is_extents_tree_right (sparse c.over.result.patch.now) && has_catalog_file (sparse c.over.result.patch.now)) ≡ false = search rules in
+    let none : (is_extents_tree_right (sparse c.volume.result.read.now) && has_catalog_file (sparse c.volume.result.read.now)) ≡ false = search rules in
     needs-no-catalog c.args.read.now
-    (subst (λ (r : Numbered). (is_extents_tree_right (sparse r) && has_catalog_file (sparse r)) ≡ false) c.over.ensures.patch none)
+    (subst (λ (r : Numbered). (is_extents_tree_right (sparse r) && has_catalog_file (sparse r)) ≡ false) c.volume.ensures.read none)
 
 pub gather_tree-requires-clause-within : goal.gather_tree-requires-clause-within
 gather_tree-requires-clause-within g c =
-    let found : ((is_extents_tree_right (sparse c.over.result.patch.now) && has_catalog_file (sparse c.over.result.patch.now)) ≡ true)
-    × LieAt c.over.result.below.now.count (catalog_blocks (sparse c.over.result.patch.now)) c.in-Some.runs.items = search rules in
+    let found : ((is_extents_tree_right (sparse c.volume.result.read.now) && has_catalog_file (sparse c.volume.result.read.now)) ≡ true)
+    × LieAt c.volume.result.count (catalog_blocks (sparse c.volume.result.read.now)) c.in-Some.runs.items = search rules in
     let right : (is_extents_tree_right (sparse c.args.read.now) && has_catalog_file (sparse c.args.read.now)) ≡ true =
-    subst (λ (r : Numbered). (is_extents_tree_right (sparse r) && has_catalog_file (sparse r)) ≡ true) c.over.ensures.patch found.0 in
-    let lie = lie-at (λ (r : Numbered). catalog_blocks (sparse r)) c.args.count c.over.result.below.now.count c.args.read.now c.over.result.patch.now
-    c.in-Some.runs.items c.deref.result.now c.over.ensures.patch (ap (λ (z : ZeroBlocks). z.count) c.over.ensures.below) c.deref.ensures.value found.1 in
+    subst (λ (r : Numbered). (is_extents_tree_right (sparse r) && has_catalog_file (sparse r)) ≡ true) c.volume.ensures.read found.0 in
+    let lie = lie-at (λ (r : Numbered). catalog_blocks (sparse r)) c.args.count c.volume.result.count c.args.read.now c.volume.result.read.now
+    c.in-Some.runs.items c.deref.result.now c.volume.ensures.read c.volume.ensures.count c.deref.ensures.value found.1 in
     (catalog-room (sparse c.args.read.now) c.args.mdb.now c.requires.is c.args.count c.deref.result.now c.no_tree_file_fault.ensures c.requires.sound.whole_size
     (and_parts (is_extents_tree_right (sparse c.args.read.now)) (has_catalog_file (sparse c.args.read.now)) right).1 lie).1
 
 pub returns-in_err-gather_tree-clause-reads : goal.returns-in_err-gather_tree-clause-reads
 returns-in_err-gather_tree-clause-reads g c =
-    let found : ((is_extents_tree_right (sparse c.over.result.patch.now) && has_catalog_file (sparse c.over.result.patch.now)) ≡ true)
-    × LieAt c.over.result.below.now.count (catalog_blocks (sparse c.over.result.patch.now)) c.in-Some.runs.items = search rules in
-    let lie = lie-at (λ (r : Numbered). catalog_blocks (sparse r)) c.args.count c.over.result.below.now.count c.args.read.now c.over.result.patch.now
-    c.in-Some.runs.items c.deref.result.now c.over.ensures.patch (ap (λ (z : ZeroBlocks). z.count) c.over.ensures.below) c.deref.ensures.value found.1 in
+    let found : ((is_extents_tree_right (sparse c.volume.result.read.now) && has_catalog_file (sparse c.volume.result.read.now)) ≡ true)
+    × LieAt c.volume.result.count (catalog_blocks (sparse c.volume.result.read.now)) c.in-Some.runs.items = search rules in
+    let lie = lie-at (λ (r : Numbered). catalog_blocks (sparse r)) c.args.count c.volume.result.count c.args.read.now c.volume.result.read.now
+    c.in-Some.runs.items c.deref.result.now c.volume.ensures.read c.volume.ensures.count c.deref.ensures.value found.1 in
     c.in_err-gather_tree.ensures.reads c.args.count lie.within
 
 pub returns-clause-has : goal.returns-clause-has
 returns-clause-has g c =
-    let found : ((is_extents_tree_right (sparse c.over.result.patch.now) && has_catalog_file (sparse c.over.result.patch.now)) ≡ true)
-    × LieAt c.over.result.below.now.count (catalog_blocks (sparse c.over.result.patch.now)) c.in-Some.runs.items = search rules in
+    let found : ((is_extents_tree_right (sparse c.volume.result.read.now) && has_catalog_file (sparse c.volume.result.read.now)) ≡ true)
+    × LieAt c.volume.result.count (catalog_blocks (sparse c.volume.result.read.now)) c.in-Some.runs.items = search rules in
     let right : (is_extents_tree_right (sparse c.args.read.now) && has_catalog_file (sparse c.args.read.now)) ≡ true =
-    subst (λ (r : Numbered). (is_extents_tree_right (sparse r) && has_catalog_file (sparse r)) ≡ true) c.over.ensures.patch found.0 in
-    let lie = lie-at (λ (r : Numbered). catalog_blocks (sparse r)) c.args.count c.over.result.below.now.count c.args.read.now c.over.result.patch.now
-    c.in-Some.runs.items c.deref.result.now c.over.ensures.patch (ap (λ (z : ZeroBlocks). z.count) c.over.ensures.below) c.deref.ensures.value found.1 in
+    subst (λ (r : Numbered). (is_extents_tree_right (sparse r) && has_catalog_file (sparse r)) ≡ true) c.volume.ensures.read found.0 in
+    let lie = lie-at (λ (r : Numbered). catalog_blocks (sparse r)) c.args.count c.volume.result.count c.args.read.now c.volume.result.read.now
+    c.in-Some.runs.items c.deref.result.now c.volume.ensures.read c.volume.ensures.count c.deref.ensures.value found.1 in
     has_catalog c.args.read.now c.gather_tree.new.read (c.in_ok-gather_tree.ensures.reads c.args.count lie.within).grown c.requires.has_mdb c.requires.has_extents
     c.args.count c.deref.result.now c.args.mdb.now.catalog_file_size right lie (ap (λ (m : Mdb). m.catalog_file_size) c.requires.is) c.in_ok-gather_tree.ensures.has
 
 pub returns-clause-reads : goal.returns-clause-reads
 returns-clause-reads g c =
-    let found : ((is_extents_tree_right (sparse c.over.result.patch.now) && has_catalog_file (sparse c.over.result.patch.now)) ≡ true)
-    × LieAt c.over.result.below.now.count (catalog_blocks (sparse c.over.result.patch.now)) c.in-Some.runs.items = search rules in
-    let lie = lie-at (λ (r : Numbered). catalog_blocks (sparse r)) c.args.count c.over.result.below.now.count c.args.read.now c.over.result.patch.now
-    c.in-Some.runs.items c.deref.result.now c.over.ensures.patch (ap (λ (z : ZeroBlocks). z.count) c.over.ensures.below) c.deref.ensures.value found.1 in
+    let found : ((is_extents_tree_right (sparse c.volume.result.read.now) && has_catalog_file (sparse c.volume.result.read.now)) ≡ true)
+    × LieAt c.volume.result.count (catalog_blocks (sparse c.volume.result.read.now)) c.in-Some.runs.items = search rules in
+    let lie = lie-at (λ (r : Numbered). catalog_blocks (sparse r)) c.args.count c.volume.result.count c.args.read.now c.volume.result.read.now
+    c.in-Some.runs.items c.deref.result.now c.volume.ensures.read c.volume.ensures.count c.deref.ensures.value found.1 in
     c.in_ok-gather_tree.ensures.reads c.args.count lie.within

@@ -12,6 +12,13 @@ returns-then-is_some-clause-needed g c =
     let wrong : is_some (faults.mdb_fault c.args.count (mdb_in (sparse c.fetch.new.read))) ≡ true = search rules in
     needs_two c.args.count c.fetch.new.read wrong c.in_ok-fetch.ensures.has
 
+pub returns-then-is_some-clause-told : goal.returns-then-is_some-clause-told
+returns-then-is_some-clause-told g c =
+    let lt : 2 < c.args.count = omega (arith, c.requires) in
+    (reads-start (g.S.BlockSource.image c.args.source.now) c.args.count c.new-read.result c.fetch.new.read c.new-read.ensures
+    (reads-block (g.S.BlockSource.image c.args.source.now) c.args.count c.new-read.result c.fetch.new.read 2 lt
+    c.in_ok-fetch.ensures.grown c.in_ok-fetch.ensures.stays c.in_ok-fetch.ensures.within)).0
+
 pub returns-then-is_some-clause-within : goal.returns-then-is_some-clause-within
 returns-then-is_some-clause-within g c =
     let lt : 2 < c.args.count = omega (arith, c.requires) in

@@ -10,16 +10,16 @@ use Rattle.hfs_needed.proofs.listing.catalog_records.Goals as goal
 
 pub read_records-requires-clause-structure : goal.read_records-requires-clause-structure
 read_records-requires-clause-structure c =
-    (subst IsCatalog (sym ((λ i. nodes_in (sparse (c.over.ensures.patch i)) (c.deref.ensures.value i)) ∙ c.requires.trees.catalog.same))
+    (subst IsCatalog (sym ((λ i. nodes_in (sparse (c.volume.ensures.read i)) (c.deref.ensures.value i)) ∙ c.requires.trees.catalog.same))
     (c.catalog_answers.ensures.sound c.args.count (sparse c.args.read.now) c.requires.sound)).tree.structure
 
 pub read_records-requires-clause-counts : goal.read_records-requires-clause-counts
 read_records-requires-clause-counts c =
-    (subst IsCatalog (sym ((λ i. nodes_in (sparse (c.over.ensures.patch i)) (c.deref.ensures.value i)) ∙ c.requires.trees.catalog.same))
+    (subst IsCatalog (sym ((λ i. nodes_in (sparse (c.volume.ensures.read i)) (c.deref.ensures.value i)) ∙ c.requires.trees.catalog.same))
     (c.catalog_answers.ensures.sound c.args.count (sparse c.args.read.now) c.requires.sound)).tree.counts
 
 pub returns : goal.returns
 returns c =
     subst (λ (r : Catalog). IfOk c.read_records.result (λ records. records.items ≡ r))
     (by_nodes (λ catalog. catalog) (sparse c.args.read.now) _
-    ((λ i. nodes_in (sparse (c.over.ensures.patch i)) (c.deref.ensures.value i)) ∙ c.requires.trees.catalog.same)) c.read_records.ensures
+    ((λ i. nodes_in (sparse (c.volume.ensures.read i)) (c.deref.ensures.value i)) ∙ c.requires.trees.catalog.same)) c.read_records.ensures

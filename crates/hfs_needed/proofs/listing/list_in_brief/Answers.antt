@@ -12,11 +12,11 @@ use Rattle.hfs_needed.proofs.listing.list_in_brief.Goals as goal
 
 pub list-requires : goal.list-requires
 list-requires c =
-    subst IsCatalog (sym ((λ i. nodes_in (sparse (c.over.ensures.patch i)) (c.deref.ensures.value i)) ∙ c.requires.trees.catalog.same))
+    subst IsCatalog (sym ((λ i. nodes_in (sparse (c.volume.ensures.read i)) (c.deref.ensures.value i)) ∙ c.requires.trees.catalog.same))
     (c.catalog_answers.ensures.sound c.args.count (sparse c.args.read.now) c.requires.sound)
 
 pub returns : goal.returns
 returns c =
     subst (λ (r : Reply). IfOk c.list.result (λ reply. reply ≡ r))
     (by_nodes (λ catalog. listed_in detail.Brief catalog c.args.dir) (sparse c.args.read.now) _
-    ((λ i. nodes_in (sparse (c.over.ensures.patch i)) (c.deref.ensures.value i)) ∙ c.requires.trees.catalog.same)) c.list.ensures
+    ((λ i. nodes_in (sparse (c.volume.ensures.read i)) (c.deref.ensures.value i)) ∙ c.requires.trees.catalog.same)) c.list.ensures

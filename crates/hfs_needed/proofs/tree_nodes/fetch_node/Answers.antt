@@ -1,5 +1,5 @@
-use Rattle.std.proofs.Common.{ap, sym, ◌∙◌}
-use Rattle.hfs_blocks.specs.Layers.{changes}
+use Rattle.std.proofs.Common.{ap, ◌∙◌}
+use Rattle.hfs_sparse.specs.Sparse.{sparse}
 use Rattle.hfs_needed.proofs.Gathered.{reads-block}
 use Rattle.hfs_needed.proofs.TreeNodes.{node-bytes}
 use Rattle.hfs_needed.proofs.tree_nodes.fetch_node.Goals as goal
@@ -11,8 +11,8 @@ returns-in_err-fetch-clause-reads g c = λ total h.
 
 pub returns-clause-node : goal.returns-clause-node
 returns-clause-node g c =
-    node-bytes c.fetch.new.read c.args.runs.now c.args.n c.in-Some.block.now c.requires.within
-    (ap (changes c.fetch.new.read) (sym c.block_of-place.ensures.number) ∙ sym c.in-Some.ensures.value)
+    node-bytes c.fetch.new.read c.args.runs.now c.args.n c.copy_block.new.into c.requires.within
+    (c.copy_block.ensures ∙ ap (sparse c.fetch.new.read) c.block_of-place.ensures.number)
 
 pub returns-clause-reads : goal.returns-clause-reads
 returns-clause-reads g c = λ total h.

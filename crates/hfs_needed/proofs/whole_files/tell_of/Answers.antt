@@ -8,11 +8,11 @@ use Rattle.hfs_needed.proofs.whole_files.tell_of.Goals as goal
 
 pub get_cat_info-requires : goal.get_cat_info-requires
 get_cat_info-requires c =
-    subst told.IsCatalog (sym ((λ i. nodes_in (sparse (c.over.ensures.patch i)) (c.deref.ensures.value i)) ∙ c.requires.trees.catalog.same))
+    subst told.IsCatalog (sym ((λ i. nodes_in (sparse (c.volume.ensures.read i)) (c.deref.ensures.value i)) ∙ c.requires.trees.catalog.same))
     (c.catalog_answers.ensures.sound c.args.count (sparse c.args.read.now) c.requires.sound)
 
 pub returns : goal.returns
 returns c =
     c.get_cat_info.ensures
     ∙ by_nodes (λ catalog. told.cat_info catalog c.args.dir c.args.name.now) (sparse c.args.read.now) _
-    ((λ i. nodes_in (sparse (c.over.ensures.patch i)) (c.deref.ensures.value i)) ∙ c.requires.trees.catalog.same)
+    ((λ i. nodes_in (sparse (c.volume.ensures.read i)) (c.deref.ensures.value i)) ∙ c.requires.trees.catalog.same)

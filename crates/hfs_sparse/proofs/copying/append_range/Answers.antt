@@ -1,13 +1,18 @@
--- Block by block.
-use Rattle.std.proofs.Common.{◌∙◌, ◌+◌, rules}
-use Rattle.hfs_sparse.proofs.SparseLemmas.{block-from}
-use Rattle.hfs_sparse.proofs.Copied.{one-block}
+-- What was read stands behind the old bytes.
+use Rattle.std.proofs.Common.{◌≡◌, ◌+◌, ◌-◌, ◌*◌, length, rules, ◌∙◌}
+use Rattle.std.proofs.lemmas.List.{with_items_is}
+use borrow.Rule.Slice.PartMut.{put_mid}
+use Rattle.hfs_sparse.proofs.Copied.{range-read}
 use Rattle.hfs_sparse.proofs.copying.append_range.Goals as goal
 
-pub loop-i-preserved : goal.loop-i-preserved
-loop-i-preserved g c = record {
-  bytes = one-block (g.S.BlockSource.image c.args.source.now) (g.S.BlockSource.image c.loop-i.source) c.loop-i.invariant.image c.args.first c.loop-i.i
-      c.args.count c.loop-i-test.true _ _ c.read_blocks.new.into _ c.in-Ok-extend_from_slice.ensures.items
-      (block-from (g.S.BlockSource.image c.loop-i.source) (c.args.first + c.loop-i.i) _ (search rules) c.in-Ok.ensures.read) c.loop-i.invariant.bytes;
-  image = c.in-Ok.ensures.image ∙ c.loop-i.invariant.image;
-}
+pub returns-in-Ok-read_blocks-clause-gains : goal.returns-in-Ok-read_blocks-clause-gains
+returns-in-Ok-read_blocks-clause-gains g c =
+    let from = c.len-from.result in
+    let laid = put_mid from (from + c.args.count * 512 - from) c.deref_mut.result.now c.read_blocks.new.into in
+    let long : length laid ≡ c.resize.new.self.len = search rules in
+    let at : from ≡ length c.args.bytes.now.items = search rules in
+    let whole : length c.deref_mut.result.now ≡ from + c.args.count * 512 = search rules in
+    let fits : length c.read_blocks.new.into ≡ c.args.count * 512 = search rules in
+    range-read (g.S.BlockSource.image c.args.source.now) c.args.first c.args.count from c.args.bytes.now.items c.deref_mut.result.now _ _
+    c.read_blocks.new.into at (c.deref_mut.ensures.value ∙ c.in-Ok.ensures.items) whole (with_items_is c.resize.new.self laid long) fits
+    c.in-Ok-read_blocks.ensures.read

@@ -1,14 +1,18 @@
 -- The first blocks were read.
-use Rattle.std.specs.Prelude.{◌≡◌, ℕ, ◌+◌, ◌<◌, ◌≤◌, IsSome}
+use Rattle.std.specs.Prelude.{◌≡◌, ℕ, ◌+◌, ◌-◌, ◌<◌, ◌≤◌, IsSome}
 use Rattle.hfs_blocks.specs.Layers.{changes, AreWithin}
 use Rattle.hfs_sparse.specs.Sparse.{HasGrown, StaysOf}
 use Rattle.hfs_sparse.proofs.fetching.fetch_range.Given as goal
 
-abbrev pub invariant-loop-i : goal.invariant-loop-i
-invariant-loop-i g l = record {
-  has : (k : ℕ) → k < l.i → IsSome (changes l.read (l.first + k));
+abbrev pub invariant-loop-left : goal.invariant-loop-left
+invariant-loop-left g l = record {
+  few : l.left ≤ l.count;
+  has : (k : ℕ) → k < l.count - l.left → IsSome (changes l.read (l.first + k));
   grown : HasGrown l.initial.read l.read;
   stays : StaysOf (g.S.BlockSource.image l.initial.source) l.initial.read l.read;
   within : (total : ℕ) → l.first + l.count ≤ total → AreWithin (changes l.initial.read) total → AreWithin (changes l.read) total;
   image : g.S.BlockSource.image l.source ≡ g.S.BlockSource.image l.initial.source;
 }
+
+abbrev pub decreases-loop-left : goal.decreases-loop-left
+decreases-loop-left g l = l.left

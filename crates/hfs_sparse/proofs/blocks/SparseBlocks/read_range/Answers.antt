@@ -1,0 +1,9 @@
+-- What was read is among as many blocks.
+use Rattle.std.proofs.Common.{subst}
+use Rattle.hfs_blocks.specs.Layers.{Numbered, KeepsWithin}
+use Rattle.hfs_sparse.specs.Held.{held_blocks}
+use Rattle.hfs_sparse.proofs.blocks.SparseBlocks.read_range.Goals as goal
+
+pub returns-clause-within : goal.returns-clause-within
+returns-clause-within g c = λ total le.
+    subst (λ (l : Numbered). KeepsWithin l (held_blocks c.read_in.new.self) total) c.self.view_is (c.read_in.ensures.within total le)
