@@ -74,8 +74,9 @@ pub fn check_text(alloc: Global, image: &[u8]) -> Result<(u8, String), AllocErro
     report_text(alloc, &report)
 }
 
-/// Answers what [`check_text`] answers of an image of `len` bytes, of which only the blocks are read that its checks need. Errors: a read
-/// failed, memory was refused.
+/// Answers what [`check_text`] answers of an image of `len` bytes, of which only the blocks are read that its checks need. Errors:
+/// `ReadFailed` where a read of one of these blocks failed, or the source ends before one does; `Memory` where it was refused. A fault of the
+/// image is no error: it is told of.
 pub fn needed_check_text<S: BlockSource>(
     alloc: Global,
     source: &mut S,

@@ -8,7 +8,7 @@ use hfs_check::MountFault;
 use hfs_format::FormatFault;
 use hfs_needed::NeededFault;
 use hfs_runs::ScriptFault;
-use hfs_sparse::SparseFault;
+use hfs_sparse::{CopyFault, SparseFault};
 use hfs_texts::{InfoFault, LoadFault};
 use std::{fmt, io};
 
@@ -95,6 +95,8 @@ pub enum Fault<'a> {
     NoPlace,
     /// A file, or `stdin`, was not read.
     CannotRead(&'a str),
+    /// A read of a file failed behind a part of what was printed of it, so that nothing more is printed.
+    BrokenOff(&'a str),
     /// A file was not written.
     CannotWrite(&'a str),
     /// Standard output failed, so that nothing more is printed.
@@ -115,9 +117,8 @@ impl Fault<'_> {
                 Status::ImageRefused
             }
             Fault::ScriptLine(_) | Fault::ScriptTooLarge => Status::ImageRefused,
-            Fault::CannotRead(_) | Fault::CannotWrite(_) | Fault::OutputFailed => {
-                Status::DeviceFailed
-            }
+            Fault::CannotRead(_) | Fault::BrokenOff(_) => Status::DeviceFailed,
+            Fault::CannotWrite(_) | Fault::OutputFailed => Status::DeviceFailed,
             Fault::NoPlace | Fault::NoMemory => Status::NoMemory,
         }
     }
@@ -160,6 +161,21 @@ impl Fault<'_> {
         match fault {
             SparseFault::ReadFailed => Fault::CannotRead(file),
             SparseFault::Memory => Fault::NoMemory,
+        }
+    }
+
+    /// What a fault of printing a fork means for the image's file that it was read from.
+    pub fn of_copy(fault: CopyFault, file: &str) -> Fault<'_>
+        ensures read { fault ≡ CopyFault.ReadFailed → result ≡ Fault.CannotRead file.entry }
+        ensures broken { fault ≡ CopyFault.BrokenOff → result ≡ Fault.BrokenOff file.entry }
+        ensures write { fault ≡ CopyFault.WriteFailed → result ≡ Fault.OutputFailed }
+        ensures memory { fault ≡ CopyFault.Memory → result ≡ Fault.NoMemory }
+    {
+        match fault {
+            CopyFault::Memory => Fault::NoMemory,
+            CopyFault::ReadFailed => Fault::CannotRead(file),
+            CopyFault::BrokenOff => Fault::BrokenOff(file),
+            CopyFault::WriteFailed => Fault::OutputFailed,
         }
     }
 
@@ -238,6 +254,7 @@ impl fmt::Display for Fault<'_> {
             Fault::ScriptTooLarge => write!(f, "script too large"),
             Fault::NoPlace => write!(f, "no place for a viewer"),
             Fault::CannotRead(file) => write!(f, "cannot read {}", ShownPath(*file)),
+            Fault::BrokenOff(file) => write!(f, "cannot read {}", ShownPath(*file)),
             Fault::CannotWrite(file) => write!(f, "cannot write {}", ShownPath(*file)),
             Fault::OutputFailed => Ok(()),
             Fault::NoMemory => write!(f, "out of memory"),

@@ -8,18 +8,15 @@ use hfs_sparse::{FileReader, SeekSource};
 use hfs_texts::{IMAGE_LIMIT, LoadFault, load, load_within};
 use std::alloc::Global;
 use std::fs::{File, OpenFile};
-use std::io::{BufReader, Read, Seek};
+use std::io::{Read, Seek};
 use std::rt::Files;
-
-/// How many bytes are read at once of an image that is read where it is needed.
-const READ_AHEAD: usize = 16_384;
 
 /// An image that was opened.
 #[derive(Drop)]
 pub enum ImageFile<F: Read + Seek> {
     /// A file of so many bytes, to be read where it is needed.
     Seekable {
-        source: SeekSource<FileReader<BufReader<F>>>,
+        source: SeekSource<FileReader<F>>,
         len: u64,
     },
     /// All bytes of anything else, such as a pipe.
@@ -55,7 +52,7 @@ pub fn load_file<'a, R: Files + AllocGlobal>(rt: &R, path: &'a str) -> Result<Ve
 }
 
 /// How many bytes a regular file has, where it has any. The system's own files, which have bytes but tell of none, are none of these.
-fn regular_len<F: OpenFile>(file: &F) -> Option<u64> {
+pub(crate) fn regular_len<F: OpenFile>(file: &F) -> Option<u64> {
     let Ok(metadata) = file.metadata() else {
         return None;
     };
@@ -80,13 +77,10 @@ pub fn open_image<'a, R: Files + AllocGlobal>(
         let bytes = load_opened(rt.alloc(), &mut file, path)?;
         return Ok(ImageFile::Whole(bytes));
     };
-    match BufReader::with_capacity(rt.alloc(), READ_AHEAD, file) {
-        Ok(reader) => Ok(ImageFile::Seekable {
-            source: SeekSource::new(FileReader(reader)),
-            len,
-        }),
-        Err(_) => Err(Fault::NoMemory),
-    }
+    Ok(ImageFile::Seekable {
+        source: SeekSource::new(FileReader(file)),
+        len,
+    })
 }
 
 /// The most bytes of a script.

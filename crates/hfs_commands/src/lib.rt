@@ -26,9 +26,9 @@ pub use fault::{Fault, Status};
 pub use files::{ImageFile, load_file, load_script, open_image};
 pub use forks::write_fork;
 pub use hfs_containers::{ByteRange, ReadAt, Window};
-pub use hfs_needed::{NeededFault, NeededFile, needed_file, needed_fork};
+pub use hfs_needed::{NeededFault, NeededFile, OpenedImage, needed_file};
 pub use hfs_runs::{Gate, Ran, ScriptFault, run_script, run_script_at};
-pub use hfs_sparse::{BlockSource, SparseFault};
+pub use hfs_sparse::{BlockSource, CopyFault, SparseFault};
 pub use hfs_texts::{
     IMAGE_LIMIT, InfoFault, LoadFault, load, load_within, put, reply_text, run_info,
 };

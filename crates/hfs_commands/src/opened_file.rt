@@ -4,13 +4,13 @@ ghost use Rattle.hfs_commands.specs.OpenedFiles.{known_bytes};
 use hfs_containers::{PlacedFile, ReadAt};
 use hfs_sparse::FileReader;
 use std::io;
-use std::io::{BufReader, Cursor, Read, Seek};
+use std::io::{Cursor, Read, Seek};
 
 /// The bytes of a file that was opened.
 #[derive(Drop)]
 pub enum OpenedFile<F: Read + Seek> {
     /// What can be sought in, to be read where it is needed.
-    Seekable(PlacedFile<FileReader<BufReader<F>>>),
+    Seekable(PlacedFile<FileReader<F>>),
     /// All bytes of anything else, such as a pipe.
     Whole(Vec<u8>),
 }

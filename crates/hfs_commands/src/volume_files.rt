@@ -3,17 +3,14 @@ ghost use Rattle.std.specs.Prelude.{◌≡◌, ◌⊎◌, IfErr};
 ghost use Rattle.hfs_commands.specs.Faults.{IsTooMuch};
 
 use crate::fault::Fault;
-use crate::files::load_opened;
+use crate::files::{load_opened, regular_len};
 use crate::opened_file::OpenedFile;
 use hfs_containers::{ByteRange, PlacedFile, Window, nth_range};
 use hfs_sparse::FileReader;
 use std::alloc::Global;
 use std::fs::{File, OpenFile};
-use std::io::{BufReader, Read, Seek, SeekFrom};
+use std::io::{Read, Seek, SeekFrom};
 use std::rt::Files;
-
-/// How many bytes are read at once of a file that is read where it is needed.
-const READ_AHEAD: usize = 16_384;
 
 /// Whether what was opened is a folder.
 fn is_folder<F: OpenFile>(file: &F) -> bool {
@@ -23,29 +20,11 @@ fn is_folder<F: OpenFile>(file: &F) -> bool {
     }
 }
 
-/// How many bytes a regular file has, where it has any. The system's own files, which have bytes but tell of none, are none of
-/// these.
-fn regular_len<F: OpenFile>(file: &F) -> Option<u64> {
-    match file.metadata() {
-        Ok(metadata) if metadata.is_file() && metadata.len() > 0 => Some(metadata.len()),
-        _ => None,
-    }
-}
-
-/// The first `len` bytes of what can be sought in, to be read where they are needed. Fault: `NoMemory`.
-fn sought<'a, F: Read + Seek + Drop>(
-    alloc: Global,
-    file: F,
-    len: u64,
-) -> Result<Window<OpenedFile<F>>, Fault<'a>>
-    ensures { IfErr result (λ why. why ≡ Fault.NoMemory) }
-{
-    match BufReader::with_capacity(alloc, READ_AHEAD, file) {
-        Ok(reader) => Ok(Window {
-            source: OpenedFile::Seekable(PlacedFile::new(FileReader(reader))),
-            range: ByteRange { start: 0, len },
-        }),
-        Err(_) => Err(Fault::NoMemory),
+/// The first `len` bytes of what can be sought in, to be read where they are needed.
+fn sought<F: Read + Seek>(file: F, len: u64) -> Window<OpenedFile<F>> {
+    Window {
+        source: OpenedFile::Seekable(PlacedFile::new(FileReader(file))),
+        range: ByteRange { start: 0, len },
     }
 }
 
@@ -81,7 +60,7 @@ pub fn open_file<'a, R: Files + AllocGlobal>(
         return Err(Fault::CannotRead(path));
     }
     match file.seek(SeekFrom::End(0)) {
-        Ok(len) => sought(rt.alloc(), file, len),
+        Ok(len) => Ok(sought(file, len)),
         Err(_) => loaded(rt.alloc(), file, path),
     }
 }
@@ -131,7 +110,7 @@ fn open_image_bytes<'a, R: Files + AllocGlobal>(
         return Err(Fault::CannotRead(path));
     };
     match regular_len(&file) {
-        Some(len) => sought(rt.alloc(), file, len),
+        Some(len) => Ok(sought(file, len)),
         None => loaded(rt.alloc(), file, path),
     }
 }

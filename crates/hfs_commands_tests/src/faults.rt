@@ -26,6 +26,7 @@ fn other_faults_are_told(rt: HostRuntime) -> Result<(), Fail> {
     for (fault, text, status) in [
         (Fault::WordsNotText, "the words are not text", 1u8),
         (Fault::CannotRead("a b.img"), "cannot read a b.img", 4),
+        (Fault::BrokenOff("a.img"), "cannot read a.img", 4),
         (Fault::CannotWrite("new.img"), "cannot write new.img", 4),
         (Fault::OutputFailed, "", 4),
         (Fault::NoMemory, "out of memory", 5),

@@ -4,7 +4,7 @@ ghost use Rattle.std.specs.Prelude.{◌≤◌};
 use crate::sources::FailingSource;
 use hfs_fixtures::{SmallVolume, small_image};
 use hfs_needed::gather_needed;
-use hfs_sparse::{ByteSource, SeekSource, SparseFault};
+use hfs_sparse::{ByteSource, FileReader, PlacedReader, SeekSource, SparseFault};
 use std::io::Cursor;
 use std::process::Abort;
 
@@ -120,17 +120,38 @@ fn fails_where_a_read_fails(rt: HostRuntime) {
     assert!(rt; failing(&rt, &image, 7) == None);
 }
 
-/// A reader that can seek gives the same blocks.
-#[test]
-fn reads_by_seeking(rt: HostRuntime) {
-    let image = image_of(&rt, SmallVolume::OneFile);
-    let mut source = SeekSource::new(Cursor::new(image.as_slice()));
+/// Whether blocks 2 to 7 are read of an image by a source that goes to them.
+fn reads_by_seeking<P: PlacedReader>(
+    rt: &(impl Abort + AllocGlobal),
+    image: &[u8],
+    reader: P,
+) -> bool {
+    let mut source = SeekSource::new(reader);
     let Ok(read) = gather_needed(rt.alloc(), &mut source, 64) else {
         panic!(rt; "a block is not read");
     };
+    let mut is_same = true;
     for n in 2..8 {
         let at = n as usize * 512;
-        let same = read.get(n).map(|block| block.as_slice()) == image.get(at..at + 512);
-        assert!(rt; same);
+        let mut block = [0; 512];
+        read.copy_block(n, &mut block);
+        is_same = is_same && image.get(at..at + 512) == Some(block.as_slice());
     }
+    is_same
+}
+
+/// A reader of bytes in memory gives the same blocks.
+#[test]
+fn reads_memory_by_seeking(rt: HostRuntime) {
+    let image = image_of(&rt, SmallVolume::OneFile);
+    let cursor = Cursor::new(image.as_slice());
+    assert!(rt; reads_by_seeking(&rt, &image, cursor));
+}
+
+/// So does what can be read and sought in as a file.
+#[test]
+fn reads_a_file_by_seeking(rt: HostRuntime) {
+    let image = image_of(&rt, SmallVolume::OneFile);
+    let cursor = Cursor::new(image.as_slice());
+    assert!(rt; reads_by_seeking(&rt, &image, FileReader(cursor)));
 }

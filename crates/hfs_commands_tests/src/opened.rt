@@ -1,15 +1,21 @@
 //! An image that is opened once, and asked more than once.
 use crate::gathered::image_of;
+use crate::sources::FailingSource;
 use hfs_fixtures::{SmallVolume, fork_byte};
 use hfs_model::{Fork, Info, Reply, Value};
 use hfs_needed::OpenedImage;
-use hfs_sparse::{ByteSource, SparseFault};
+use hfs_sparse::{ByteSource, CopyFault, SparseFault};
 
 /// Whether this is the fork of the file `f`, of 2,000 bytes.
 fn is_fork(found: Result<Result<Vec<u8>, Reply>, SparseFault>) -> bool {
-    let Ok(Ok(bytes)) = found else {
-        return false;
-    };
+    match found {
+        Ok(Ok(bytes)) => are_of_fork(&bytes),
+        _ => false,
+    }
+}
+
+/// Whether these are the bytes of that fork.
+fn are_of_fork(bytes: &[u8]) -> bool {
     for k in 0..bytes.len() {
         if bytes[k] != fork_byte(k) {
             return false;
@@ -62,4 +68,32 @@ fn tells_the_file(rt: &impl AllocGlobal, image: &[u8]) -> bool {
 fn an_opened_image_tells_again(rt: HostRuntime) {
     let image = image_of(&rt, SmallVolume::OneFile);
     assert!(rt; tells_the_file(&rt, &image));
+}
+
+/// What is written of the fork of the file `f`, where so many reads do not fail, and how it ends.
+fn written(
+    rt: &impl AllocGlobal,
+    image: &[u8],
+    left: u32,
+) -> (Vec<u8>, Result<Result<(), Reply>, CopyFault>) {
+    let source = FailingSource {
+        source: ByteSource { bytes: image },
+        left,
+    };
+    let mut bytes = Vec::new(rt.alloc());
+    let Ok(mut opened) = OpenedImage::open(rt.alloc(), source, 32_768) else {
+        return (bytes, Err(CopyFault::Memory));
+    };
+    let end = opened.write_fork(rt.alloc(), 2, b"f", Fork::DataFork, &mut bytes);
+    (bytes, end)
+}
+
+/// The needed blocks are seven, each read alone, and the fork's four lie side by side.
+#[test]
+fn an_opened_image_writes_a_fork(rt: HostRuntime) {
+    let image = image_of(&rt, SmallVolume::OneFile);
+    let (bytes, end) = written(&rt, &image, 8);
+    assert!(rt; are_of_fork(&bytes) && matches!(&end, Ok(Ok(()))));
+    let (none, failed) = written(&rt, &image, 7);
+    assert!(rt; none.is_empty() && matches!(&failed, Err(CopyFault::ReadFailed)));
 }

@@ -16,11 +16,11 @@ pub struct FailingSource<'a> {
 impl BlockSource for FailingSource<'_> {
     ghost image = { λ _. None };
 
-    fn read_block(&mut self, n: u32, into: &mut [u8; 512]) -> io::Result<()> {
+    fn read_blocks(&mut self, first: u32, into: &mut [u8]) -> io::Result<()> {
         if self.left == 0 {
             return Err(io::Error::from(ErrorKind::Other));
         }
         self.left -= 1;
-        self.source.read_block(n, into)
+        self.source.read_blocks(first, into)
     }
 }

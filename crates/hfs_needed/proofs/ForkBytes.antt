@@ -1,6 +1,8 @@
 -- The bytes of a fork stand in the first of its blocks, which are as many as its length asks for.
-use Rattle.std.proofs.Common.{inl, inr, ◌≡◌, ℕ, zero, suc, ◌+◌, ◌-◌, ◌*◌, ◌<◌, ◌≤◌, List, [], ◌∷◌, ◌++◌, length, take, map, get_or, Option, Some, None, refl, sym, ap, subst, ◌∙◌, arith}
-use Rattle.std.specs.Prelude.{IfSome}
+use Rattle.std.proofs.Common.{inl, inr, ◌≡◌, ℕ, zero, suc, ◌+◌, ◌-◌, ◌*◌, ◌<◌, ◌≤◌, List, [], ◌∷◌, ◌++◌, length, take, map, get_or, Option, Some, None, Result, Ok, Err, Vec, Global, refl, sym, ap, subst, ◌∙◌, arith}
+use Rattle.std.specs.Prelude.{IfSome, IfOk, OnErr}
+use Rattle.std.proofs.KnownBytes.{Appends-nil}
+use Rattle.hfs_texts.specs.Writing.{AppendsFront}
 use Rattle.std.specs.List.{flat_map, range_with_len}
 use Rattle.std.proofs.lemmas.List.{take-append-le, take_at, drop_at}
 use Rattle.std.proofs.lemmas.Bool.Decides.{leb_tells}
@@ -16,10 +18,13 @@ use Rattle.hfs_btree.specs.Tree.{Store}
 use Rattle.hfs_space.specs.declared.fork_kind.ForkKind.{ForkKind}
 use Rattle.hfs_space.specs.Extents.{fork_extents, fork_byte}
 use Rattle.hfs_space.specs.Forks.{joined, fork_bytes}
-use Rattle.hfs_space.specs.TreeFiles.{node_count, tree_blocks}
+use Rattle.hfs_space.specs.TreeFiles.{HaveTreeBlocks, node_count, tree_blocks}
 use Rattle.hfs_space.specs.TreeKeys.{extents_through, overflow_of}
-use Rattle.hfs_check.specs.Parts.{Blocks, extents_nodes, overflow_in}
-use Rattle.hfs_needed.specs.Forks.{HasWhole}
+use Rattle.hfs_check.specs.Parts.{Blocks, extents_nodes, mdb_in, overflow_in}
+use Rattle.hfs_needed.specs.Forks.{HasWhole, AreForkRuns}
+use Rattle.hfs_fields.specs.declared.file_record.ForkRecord.{ForkRecord}
+use Rattle.hfs_blocks.specs.Layers.{Numbered}
+use Rattle.hfs_sparse.specs.Sparse.{sparse}
 
 module _ (f : ℕ → List ℕ) where
   -- of whole blocks, the first have the first bytes
@@ -87,3 +92,34 @@ pub extents-by : (blocks : Blocks) (nodes : Store) → nodes ≡ extents_nodes b
     → extents_through nodes file kind first ≡ fork_extents (overflow_in blocks) file (fork_byte kind) first
 unfolding overflow_in
 extents-by blocks nodes e file kind first = ap (λ (n : Store). fork_extents (overflow_of n) file (fork_byte kind) first) e
+
+-- runs that lie at the places of these extents are the fork's
+pub runs-so : {E : Type 0} (r : Result (Vec Run Global) E) (total count : ℕ) (mdb : Mdb) (extents : List Extent) → total ≡ count
+    → (read : Numbered) (file : ℕ) (kind : ForkKind) (fork : ForkRecord) → mdb ≡ mdb_in (sparse read)
+    → extents ≡ fork_extents (overflow_in (sparse read)) file (fork_byte kind) fork.extents
+    → IfOk r (λ runs. AreRunsWithin runs.items total) → IfOk r (HaveTreeBlocks mdb extents fork.length)
+    → IfOk r (λ runs. AreForkRuns read count file kind fork runs.items)
+runs-so (Ok runs) total count mdb extents same read file kind fork directory are lie have = record {
+  within = subst (λ n. AreRunsWithin runs.items n) same lie;
+  numbers = have ∙ (λ i. tree_blocks (directory i) (are i) fork.length);
+}
+runs-so (Err e) total count mdb extents same read file kind fork directory are lie have = tt
+
+-- what holds of what stands first in the runs of a fork's first blocks holds of its bytes
+pub fork-fact : (known : Option (List ℕ)) (total : ℕ) (runs : List Run) → AreRunsWithin runs total → (mdb : Mdb) (extents : List Extent) (len : ℕ)
+    → flat_map run_of runs ≡ tree_blocks mdb extents len → (Fact : List ℕ → Type 0)
+    → IfSome known (λ image. Fact (take len (flat_map (block_at image) (flat_map run_of runs))))
+    → IfSome known (λ image. HasWhole total image → Fact (fork_bytes (block_at image) mdb extents len))
+fork-fact None total runs within mdb extents len are Fact own = tt
+fork-fact (Some image) total runs within mdb extents len are Fact own = λ whole.
+    subst Fact (fork-of-runs (block_at image) total whole runs within mdb extents len are) own
+
+-- nothing was written of it
+pub fork-unwritten : (known : Option (List ℕ)) (total : ℕ) (bytes : List ℕ → List ℕ) (a : Option (List ℕ))
+    → IfSome known (λ image. HasWhole total image → AppendsFront a a (bytes image))
+fork-unwritten None total bytes a = tt
+fork-unwritten (Some image) total bytes a = λ whole. (0, Appends-nil a)
+
+pub on-error : {A E : Type 0} {P Q : Type 0} (r : Result A E) → (P → Q) → OnErr r P → OnErr r Q
+on-error (Ok x) f h = tt
+on-error (Err e) f h = f h

@@ -1,9 +1,9 @@
 -- What was found of a volume stays found while more of it is read.
 use Rattle.std.proofs.Common.{◌≡◌, ℕ, ◌+◌, ◌-◌, ◌*◌, ◌≤◌, ◌<◌, Bool, true, false, List, [], ◌∷◌, ◌++◌, length, map, Option, Some, None, IsSome, sym, ap, subst, ◌∙◌, arith, true≢false, ⊎_elim}
 use Rattle.std.specs.Prelude.{◌%◌, ◌&&◌, IfSome, is_some}
-use Rattle.std.specs.List.{flat_map}
+use Rattle.std.specs.List.{flat_map, range_with_len}
 use Rattle.std.specs.Option.{is_none}
-use Rattle.std.proofs.lemmas.Bool.{and_parts, cases_eq}
+use Rattle.std.proofs.lemmas.Bool.{and_parts, cases_lt}
 use Rattle.std.proofs.lemmas.List.{length-map}
 use Rattle.hfs_scans.proofs.ElementLemmas.{each-append}
 use Rattle.hfs_blocks.specs.declared.run.Run.{Run}
@@ -25,11 +25,12 @@ use Rattle.hfs_check.specs.Faults.{mdb_fault}
 use Rattle.hfs_check.specs.Answers.{extents_check_fault}
 use Rattle.hfs_check.specs.Parts.{Blocks, mdb_in, extents_blocks, extents_nodes, catalog_extents, catalog_blocks, catalog_nodes}
 use Rattle.hfs_sparse.specs.Sparse.{sparse, HasEach, HasGrown, IsOf, StaysOf}
+use Rattle.hfs_sparse.proofs.Fetched.{range-at}
 use Rattle.hfs_sparse.proofs.SparseLemmas.{grown-itself, grown-on, has-grown, each-grown, each-same, stays-on}
 use Rattle.hfs_needed.specs.Marked.{where_right, needed_of_tree}
 use Rattle.hfs_needed.specs.Needed.{AgreeOn, is_mdb_right, has_extents_file, is_extents_tree_right, has_catalog_file, needed_of_extents, needed_of_catalog, needed_of_trees, needed_blocks}
 use Rattle.hfs_needed.specs.Gathered.{LieAt, HasRead}
-use Rattle.hfs_needed.specs.TreeReads.{nodes_of, block_for, HasNode, ReadsRuns}
+use Rattle.hfs_needed.specs.TreeReads.{nodes_of, block_for, HasNode, ReadsRuns, HasMarkedFrom, LieBeside}
 use Rattle.hfs_needed.proofs.Found.{no-fault}
 use Rattle.hfs_needed.proofs.SameParts.{mdb-same, extents_blocks-same, extents-map, catalog-map, catalog_blocks-same}
 use Rattle.hfs_needed.proofs.SameFaults.{has_extents-same, needed_of_extents-same, x}
@@ -243,10 +244,34 @@ pub reads-runs-on : (known later : Option (List ℕ)) (runs : List Run) (old mid
     → ReadsRuns later runs middle new → ReadsRuns known runs old new
 reads-runs-on known later runs old middle new e p q = λ total h. reads-on known later total old middle new e (p total h) (q total h)
 
--- one node more, if it is marked
-pub marked-more : (old new : Numbered) → HasGrown old new → (runs : List Run) (bits : List ℕ) (n : ℕ) → (bit_of bits n ≡ true → HasNode new runs n)
-    → ((k : ℕ) → k < n → bit_of bits k ≡ true → HasNode old runs k) → (k : ℕ) → k < n + 1 → bit_of bits k ≡ true → HasNode new runs k
-marked-more old new grown runs bits n here before k lt e = ⊎_elim
-    (λ (same : k ≡ n). subst (λ m. HasNode new runs m) (sym same) (here (subst (λ m. bit_of bits m ≡ true) same e)))
-    (λ (other : k ≡ n → ⊥). has-grown old new grown (block_for runs k) (before k (omega (arith, lt, other)) e))
-    (cases_eq k n)
+-- some nodes more, if they are marked
+pub marked-more : (old new : Numbered) → HasGrown old new → (runs : List Run) (bits : List ℕ) (n step : ℕ) → HasMarkedFrom new runs bits n step
+    → ((k : ℕ) → k < n → bit_of bits k ≡ true → HasNode old runs k) → (k : ℕ) → k < n + step → bit_of bits k ≡ true → HasNode new runs k
+marked-more old new grown runs bits n step here before k lt e = ⊎_elim
+    (λ (low : k < n). has-grown old new grown (block_for runs k) (before k low e))
+    (λ (high : n ≤ k).
+    let place : n + (k - n) ≡ k = omega (arith, high) in
+    subst (λ m. HasNode new runs m) place (here (k - n) (omega (arith, lt, high)) (subst (λ m. bit_of bits m ≡ true) (sym place) e)))
+    (cases_lt k n)
+
+-- of those that lie side by side, each was read
+pub beside-read : (read : Numbered) (runs : List Run) (bits : List ℕ) (n count : ℕ) → LieBeside runs n count
+    → HasEach read (range_with_len (block_for runs n) count) → HasMarkedFrom read runs bits n count
+beside-read read runs bits n count beside each k lt e =
+    subst (λ m. IsSome (changes read m)) (sym (beside k lt)) (range-at (λ m. IsSome (changes read m)) (block_for runs n) count each k lt)
+
+-- the first lies beside itself
+pub beside-first : (runs : List Run) (n k : ℕ) → k < n + 1 - n → block_for runs (n + k) ≡ block_for runs n + k
+beside-first runs n k lt =
+    let same : n + k ≡ n = omega (arith, lt) in
+    let more : block_for runs n ≡ block_for runs n + k = omega (arith, lt) in
+    ap (block_for runs) same ∙ more
+
+-- one more that lies beside
+pub beside-more : (runs : List Run) (n count : ℕ) → LieBeside runs n count → block_for runs (n + count) ≡ block_for runs n + count → LieBeside runs n (count + 1)
+beside-more runs n count beside here k lt = ⊎_elim
+    (λ (low : k < count). beside k low)
+    (λ (high : count ≤ k).
+    let same : count ≡ k = omega (arith, lt, high) in
+    subst (λ m. block_for runs (n + m) ≡ block_for runs n + m) same here)
+    (cases_lt k count)

@@ -27,7 +27,7 @@ use Rattle.hfs_queries.proofs.NamedFileLemmas.{answer_of, answer_of-file_named, 
 use Rattle.hfs_queries.specs.Queries.{AreEntries, RecordsAreEntries}
 use Rattle.hfs_queries.specs.Told.{file_named, only_file, pick}
 use Rattle.hfs_sparse.specs.Sparse.{sparse, IsOf}
-use Rattle.hfs_needed.specs.Forks.{fork_of_kind, named_fork, HasWhole, fork_by, AreForksIn}
+use Rattle.hfs_needed.specs.Forks.{fork_of_kind, named_fork, HasWhole, fork_by, AreForksIn, OfForkNamed}
 use Rattle.hfs_needed.specs.Gathered.{HasNeeded, IsOfKnown, GatheredIsEnough}
 use Rattle.hfs_needed.specs.Known.{OfKnown}
 use Rattle.hfs_needed.specs.Laws.{HoldSame}
@@ -113,3 +113,16 @@ module _ (law : NoBlocksFault) (enough : GatheredIsEnough) (answers : RecordsAre
       (subst (λ (n : ℕ). HasWhole n bytes) counted (length-block_at bytes)) in
       sym (told law enough answers bytes read needed' of sound' dir name fork (Ok file) is)
       ∙ ap Ok (sym (content_is ∙ bytes-same law enough answers bytes read needed' of sound' file fork))
+
+  -- what holds of the bytes that are found holds of the fork's
+  pub fact-known : (known now : Option (List ℕ)) → now ≡ known → IsOfKnown known read → (count : ℕ) → count ≡ len / 512 → (file : FileRecord)
+      → Ok file ≡ file_named (catalog_in (sparse read)) dir name → (Fact : List ℕ → Type 0)
+      → IfSome now (λ image. HasWhole count image → Fact (fork_by read image file fork)) → OfForkNamed known len dir name fork Fact
+  fact-known None now same_image of count whole file is Fact own = tt
+  fact-known (Some bytes) now same_image of count whole file is Fact own = λ same.
+      let counted : block_count bytes ≡ count = ap (λ (n : ℕ). n / 512) same ∙ sym whole in (
+        fork_by read bytes file fork,
+        bytes-known (Some bytes) (Some bytes) refl of count whole file is (fork_by read bytes file fork) (λ complete. refl) same,
+        subst (λ o. IfSome o (λ image. HasWhole count image → Fact (fork_by read image file fork))) same_image own
+            (subst (λ (n : ℕ). HasWhole n bytes) counted (length-block_at bytes)),
+      )

@@ -11,7 +11,9 @@ use Rattle.hfs_sparse.specs.Sparse.{sparse}
 use Rattle.hfs_needed.specs.declared.opening.NeededFault.{NeededFault}
 use Rattle.hfs_needed.specs.declared.opening.NeededFault.TheVariants.{Refused}
 use Rattle.hfs_needed.specs.Gathered.{HasNeeded, IsOfKnown, GatheredIsEnough}
-use Rattle.hfs_needed.specs.Opened.{AreRefusedFor, IsRefusedFor}
+use Rattle.hfs_needed.specs.declared.opening.NeededVolume.{NeededVolume}
+use Rattle.hfs_needed.specs.Opened.{AreRefusedFor, IsOpenedOf, IsRefusedFor, IsSoundOf}
+use Rattle.hfs_check.specs.Laws.{NoBlocksFault}
 
 same-fault : (f why : MountFault) → ◌≡◌ {A = NeededFault} (Refused f) (Refused why) → f ≡ why
 same-fault f why e = cc
@@ -44,3 +46,14 @@ pub err-so : {A : Type 0} (known : Option (List ℕ)) (len : ℕ) → length_fau
     → IfErr r (λ f. AreRefusedFor known (len / 512) f) → IfErr r (λ f. IsRefusedFor known len f)
 err-so known len right (Ok a) h = tt
 err-so known len right (Err f) h = of-blocks known len right f h
+
+-- what was opened is of an image without a fault
+pub opened-sound : NoBlocksFault → GatheredIsEnough → (known : Option (List ℕ)) (len : ℕ) → length_fault len ≡ None → (volume : NeededVolume)
+    → IsOpenedOf known (len / 512) volume → IsSoundOf known len
+unfolding fault_of
+opened-sound law enough None len right volume opened = tt
+opened-sound law enough (Some bytes) len right volume opened = λ same.
+    ap (λ (found : Option MountFault). found or_fault blocks_fault (block_count bytes) (block_at bytes)) (ap length_fault same ∙ right)
+    ∙ ap (λ (n : ℕ). blocks_fault (n / 512) (block_at bytes)) same
+    ∙ (enough (len / 512) bytes volume.read opened.needed opened.of).fault
+    ∙ (law (len / 512) (sparse volume.read)).1 opened.sound

@@ -1,11 +1,14 @@
 -- The bytes of a file's fork, of an image of which only the needed blocks and the fork's own are read.
-use Rattle.std.specs.Prelude.{◌≡◌, ℕ, ◌<◌, not, if◌then◌else◌, List, length, Result, Ok, Err, Option, IfSome, IfOk, IfErr}
+use Rattle.std.specs.Prelude.{◌≡◌, ℕ, ◌<◌, not, if◌then◌else◌, List, length, Result, Ok, Err, Option, IfSome, IfOk, IfErr, OnOk, ⊤}
 use Rattle.std.proofs.Common.{Vec, Global}
 use Rattle.std.specs.Option.{option_map_or}
+use Rattle.std.specs.Io.KnownBytes.{Appends}
 use Rattle.hfs_fields.specs.Names.{is_item_name}
 use Rattle.hfs_fields.specs.declared.file_record.FileRecord.{FileRecord}
 use Rattle.hfs_fields.specs.declared.file_record.ForkRecord.{ForkRecord}
-use Rattle.hfs_blocks.specs.Blocks.{block_at}
+use Rattle.std.specs.List.{flat_map}
+use Rattle.hfs_blocks.specs.declared.run.Run.{Run}
+use Rattle.hfs_blocks.specs.Blocks.{block_at, run_of, AreRunsWithin}
 use Rattle.hfs_blocks.specs.Layers.{Numbered}
 use Rattle.hfs_scans.specs.Each.{Each}
 use Rattle.hfs_model.specs.declared.call.Fork.{Fork}
@@ -27,6 +30,7 @@ use Rattle.hfs_space.specs.Sound.{IsForkSound}
 use Rattle.hfs_check.specs.Parts.{Blocks, mdb_in, overflow_in}
 use Rattle.hfs_sparse.specs.Sparse.{sparse}
 use Rattle.hfs_space.specs.Runs.{fork_in}
+use Rattle.hfs_space.specs.TreeFiles.{tree_blocks}
 use Rattle.hfs_check.specs.VolumeOf.{volume_of}
 use Rattle.hfs_needed.specs.Known.{OfKnown}
 
@@ -77,6 +81,17 @@ IsForkIn blocks file kind fork = IsForkSound (mdb_in blocks) (overflow_in blocks
 abbrev pub AreForksIn : Blocks → FileRecord → Type 0
 AreForksIn blocks file = Each (IsForkSound (mdb_in blocks) (overflow_in blocks)) (forks_of_file file)
 
+-- the runs lie in a volume of so many blocks, and are those of the blocks that have the bytes of a fork, found by what was read
+pub record AreForkRuns (read : Numbered) (count file : ℕ) (kind : ForkKind) (fork : ForkRecord) (runs : List Run) : Type 0 where
+  pub within : AreRunsWithin runs count
+  pub numbers : flat_map run_of runs
+      ≡ tree_blocks (mdb_in (sparse read)) (fork_extents (overflow_in (sparse read)) file (fork_byte kind) fork.extents) fork.length
+
+-- where the image's bytes are known, and are so many, this holds of the bytes of the fork that its volume has under that name
+abbrev pub OfForkNamed : Option (List ℕ) → ℕ → ℕ → List ℕ → Fork → (List ℕ → Type 0) → Type 0
+OfForkNamed known len dir name fork Fact =
+    OfKnown known len (λ image. (bytes : List ℕ) × (named_fork (entries_of (volume_of image)) dir name fork ≡ Ok bytes) × Fact bytes)
+
 -- what is found under that name, where it is bytes, is the fork's
 abbrev pub FindsForkNamed : Option (List ℕ) → ℕ → ℕ → List ℕ → Fork → Result (Vec ℕ Global) Reply → Type 0
 FindsForkNamed known len dir name fork = λ found. IfOk found (λ bytes. IsForkNamed known len dir name fork (Ok bytes.items))
@@ -92,3 +107,21 @@ HoldsFork known total read file kind fork = λ bytes. OfWhole known total (λ im
 -- the bytes are those of one of both forks of a file of the image, where it is known and whole
 abbrev pub HoldsForkOf : Option (List ℕ) → ℕ → Numbered → FileRecord → Fork → Vec ℕ Global → Type 0
 HoldsForkOf known total read file fork = λ bytes. OfWhole known total (λ image. bytes.items ≡ fork_by read image file fork)
+
+-- ---- of the bytes that are written
+
+-- where the image is known and whole, this holds of the bytes of a fork of it
+abbrev pub OfFork : Option (List ℕ) → ℕ → Numbered → ℕ → ForkKind → ForkRecord → (List ℕ → Type 0) → Type 0
+OfFork known total read file kind fork Fact = OfWhole known total (λ image. Fact (bytes_by read image file kind fork))
+
+-- of one of both forks of a file of it
+abbrev pub OfForkOf : Option (List ℕ) → ℕ → Numbered → FileRecord → Fork → (List ℕ → Type 0) → Type 0
+OfForkOf known total read file fork Fact = OfWhole known total (λ image. Fact (fork_by read image file fork))
+
+-- where no reply refuses it, the fork of that name was written
+abbrev pub WritesForkNamed : Option (List ℕ) → ℕ → ℕ → List ℕ → Fork → Option (List ℕ) → Option (List ℕ) → Result ⊤ Reply → Type 0
+WritesForkNamed known len dir name fork old new = λ found. OnOk found (OfForkNamed known len dir name fork (Appends old new))
+
+-- and where one does, it refuses the fork
+abbrev pub RefusesWriting : Option (List ℕ) → ℕ → ℕ → List ℕ → Fork → Result ⊤ Reply → Type 0
+RefusesWriting known len dir name fork = λ found. IfErr found (λ reply. IsForkNamed known len dir name fork (Err reply))

@@ -1,5 +1,5 @@
 -- Volumes of which only the needed blocks were read.
-use Rattle.std.specs.Prelude.{◌≡◌, ℕ, List, Option, Some, IfSome}
+use Rattle.std.specs.Prelude.{◌≡◌, ℕ, List, Option, Some, None, IfSome}
 use Rattle.hfs_fields.specs.declared.mdb.Mdb.{Mdb}
 use Rattle.hfs_blocks.specs.Blocks.{block_at}
 use Rattle.hfs_blocks.specs.Layers.{Numbered}
@@ -33,6 +33,10 @@ AreRefusedFor known total fault = (why : MountFault) → fault ≡ Refused why �
 -- where an image of so many bytes is refused, it is for its first fault
 abbrev pub IsRefusedFor : Option (List ℕ) → ℕ → NeededFault → Type 0
 IsRefusedFor known len fault = (why : MountFault) → fault ≡ Refused why → OfKnown known len (λ bytes. fault_of bytes ≡ Some why)
+
+-- where the image's bytes are known, and are so many, it has no fault
+abbrev pub IsSoundOf : Option (List ℕ) → ℕ → Type 0
+IsSoundOf known len = OfKnown known len (λ bytes. fault_of bytes ≡ None)
 
 -- the volume is opened, with what it has of the image
 abbrev pub IsOpenedOf : Option (List ℕ) → ℕ → NeededVolume → Type 0

@@ -1,5 +1,5 @@
 -- What was read of a tree whose file lies in runs of blocks.
-use Rattle.std.specs.Prelude.{◌≡◌, ℕ, ◌*◌, ◌≤◌, Bool, true, false, ◌&&◌, List, [], ◌++◌, map, length, slice_index_or, Option, Result, IsSome, MatchOption}
+use Rattle.std.specs.Prelude.{◌≡◌, ℕ, ◌+◌, ◌*◌, ◌<◌, ◌≤◌, Bool, true, false, ◌&&◌, List, [], ◌++◌, map, length, slice_index_or, Option, Result, IsSome, MatchOption}
 use Rattle.std.specs.List.{flat_map, range_with_len}
 use Rattle.std.specs.Option.{is_none}
 use Rattle.std.proofs.Common.{Vec, Global}
@@ -95,3 +95,11 @@ HasMapChain read runs = HasEach read (map (block_for runs) (map_chain (nodes_of 
 -- of so many nodes those were read that a map marks
 abbrev pub HasMarked : Numbered → List Run → List ℕ → ℕ → Type 0
 HasMarked read runs bits count = HasEach read (marked_of (map (bit_of bits) (range_with_len 0 count)) (flat_map run_of runs))
+
+-- so many nodes from this one on lie in blocks side by side
+abbrev pub LieBeside : List Run → ℕ → ℕ → Type 0
+LieBeside runs n count = (k : ℕ) → k < count → block_for runs (n + k) ≡ block_for runs n + k
+
+-- of so many nodes from this one on those were read that a map marks
+abbrev pub HasMarkedFrom : Numbered → List Run → List ℕ → ℕ → ℕ → Type 0
+HasMarkedFrom read runs bits n count = (k : ℕ) → k < count → bit_of bits (n + k) ≡ true → HasNode read runs (n + k)

@@ -1,26 +1,56 @@
 //! The bytes of forks, by the needed blocks of an image.
-ghost use Rattle.std.specs.Prelude.{◌≡◌, ℕ, ◌/◌, IfOk, IfErr};
+ghost use Rattle.std.specs.Prelude.{◌≡◌, ℕ, ◌/◌, Err, IfOk, IfErr, OnErr, OnOk};
+ghost use Rattle.std.specs.Io.KnownBytes.{Appends};
+ghost use Rattle.hfs_texts.specs.Writing.{AppendsFront};
 ghost use Rattle.hfs_check.specs.Parts.{mdb_in, catalog_in};
 ghost use Rattle.hfs_check.specs.Sound.{AreBlocksSound};
 ghost use Rattle.hfs_check.specs.Trees.{HasTrees};
 ghost use Rattle.hfs_queries.specs.Told as told;
 ghost use Rattle.hfs_sparse.specs.Sparse.{sparse};
-ghost use Rattle.hfs_needed.specs.Forks.{AreForksIn, FindsForkNamed, HoldsFork, HoldsForkOf, IsForkIn, RefusesForkNamed};
-ghost use Rattle.hfs_needed.specs.Opened.{IsOpenedOf, IsRefusedFor};
+ghost use Rattle.hfs_needed.specs.Forks.{AreForkRuns, AreForksIn, FindsForkNamed, HoldsFork, HoldsForkOf, IsForkIn, OfFork, OfForkNamed, OfForkOf, RefusesForkNamed, RefusesWriting, WritesForkNamed};
+ghost use Rattle.hfs_needed.specs.Opened.{IsOpenedOf, IsRefusedFor, IsSoundOf};
 
 use crate::laws::gathered_is_enough;
 use crate::opening::{NeededFault, NeededVolume, open_needed};
+use hfs_blocks::Run;
 use hfs_btree::RunNodes;
 use hfs_check::{SoundVolume, VolumeTrees, no_blocks_fault, trees_are_sound};
 use hfs_fields::{FileRecord, ForkRecord};
 use hfs_model::{Fork, Reply};
 use hfs_queries::{catalog_answers, file_named};
 use hfs_space::{ForkKind, fork_extents, tree_runs};
-use hfs_sparse::{BlockSource, SparseBlocks, SparseFault, read_runs};
-use std::alloc::Global;
+use hfs_sparse::{BlockSource, CopyFault, SparseBlocks, SparseFault, copy_runs, read_runs};
+use std::alloc::{AllocError, Global};
+use std::io::Write;
 
-/// The bytes of a fork of a file: of its extents, which are found by the blocks that were read, those blocks are read from the source that
-/// have one of its bytes.
+/// The runs of the blocks of a fork of a file that have one of its bytes, in their order: its extents, which are found by the blocks that were
+/// read.
+pub(crate) fn kind_runs(
+    alloc: Global,
+    read: &SparseBlocks,
+    count: u32,
+    sound: &SoundVolume,
+    file: u32,
+    kind: ForkKind,
+    fork: &ForkRecord,
+) -> Result<Vec<Run>, AllocError>
+    requires sound { AreBlocksSound count (sparse read.now) }
+    requires directory { sound.now.mdb ≡ mdb_in (sparse read.now) }
+    requires trees { HasTrees count (sparse read.now) sound.now.trees }
+    requires fork { IsForkIn (sparse read.now) file kind fork.now }
+    ensures { IfOk result (λ runs. AreForkRuns read.now count file kind fork.now runs.items) }
+{
+    trees_are_sound();
+    let blocks = read.volume(count);
+    let nodes = RunNodes {
+        blocks: &blocks,
+        runs: &sound.trees.extents,
+    };
+    let extents = fork_extents(alloc, &nodes, file, kind, &fork.extents)?;
+    tree_runs(alloc, &blocks, &sound.mdb, &extents, fork.length)
+}
+
+/// The bytes of a fork of a file: of its runs, those blocks are read from the source that have one of its bytes.
 fn read_kind<S: BlockSource>(
     alloc: Global,
     source: &mut S,
@@ -38,16 +68,7 @@ fn read_kind<S: BlockSource>(
     ensures bytes { IfOk result (HoldsFork (S.image source.old) count read.now file kind fork.now) }
     ensures image { S.image source.new ≡ S.image source.old }
 {
-    trees_are_sound();
-    let blocks = read.volume(count);
-    let nodes = RunNodes {
-        blocks: &blocks,
-        runs: &sound.trees.extents,
-    };
-    let Ok(extents) = fork_extents(alloc, &nodes, file, kind, &fork.extents) else {
-        return Err(SparseFault::Memory);
-    };
-    let Ok(runs) = tree_runs(alloc, &blocks, &sound.mdb, &extents, fork.length) else {
+    let Ok(runs) = kind_runs(alloc, read, count, sound, file, kind, fork) else {
         return Err(SparseFault::Memory);
     };
     let mut bytes = read_runs(alloc, source, &runs)?;
@@ -159,6 +180,7 @@ pub fn needed_fork<S: BlockSource>(
 ) -> Result<Result<Vec<u8>, Reply>, NeededFault>
     ensures bytes { IfOk result (FindsForkNamed (S.image source.old) len dir name.now fork) }
     ensures unread { IfOk result (RefusesForkNamed (S.image source.old) len dir name.now fork) }
+    ensures sound { IfOk result (λ told. IsSoundOf (S.image source.old) len) }
     ensures refused { IfErr result (λ fault. IsRefusedFor (S.image source.old) len fault) }
     ensures image { S.image source.new ≡ S.image source.old }
 {
@@ -166,5 +188,113 @@ pub fn needed_fork<S: BlockSource>(
     match opened_fork(alloc, source, &volume, dir, name, fork) {
         Ok(found) => Ok(found),
         Err(fault) => Err(NeededFault::of_sparse(fault)),
+    }
+}
+
+/// Writes the bytes of a fork of a file piece by piece, as they are read.
+fn write_kind<S: BlockSource, W: Write>(
+    alloc: Global,
+    source: &mut S,
+    read: &SparseBlocks,
+    count: u32,
+    sound: &SoundVolume,
+    file: u32,
+    kind: ForkKind,
+    fork: &ForkRecord,
+    writer: &mut W,
+) -> Result<(), CopyFault>
+    requires sound { AreBlocksSound count (sparse read.now) }
+    requires directory { sound.now.mdb ≡ mdb_in (sparse read.now) }
+    requires trees { HasTrees count (sparse read.now) sound.now.trees }
+    requires fork { IsForkIn (sparse read.now) file kind fork.now }
+    ensures written { OnOk result (OfFork (S.image source.old) count read.now file kind fork.now
+        (Appends (W.contents writer.old) (W.contents writer.new))) }
+    ensures part { OnErr result (OfFork (S.image source.old) count read.now file kind fork.now
+        (AppendsFront (W.contents writer.old) (W.contents writer.new))) }
+    ensures none { result ≡ Err CopyFault.ReadFailed → writer.new ≡ writer.old }
+    ensures memory { result ≡ Err CopyFault.Memory → writer.new ≡ writer.old }
+    ensures image { S.image source.new ≡ S.image source.old }
+{
+    let Ok(runs) = kind_runs(alloc, read, count, sound, file, kind, fork) else {
+        return Err(CopyFault::Memory);
+    };
+    copy_runs(alloc, source, &runs, fork.length, writer)
+}
+
+/// Writes the bytes of one of both forks of a file piece by piece, as they are read.
+#[tactic(auto, using(crate::proofs::Named::data_sound, crate::proofs::Named::resource_sound))]
+fn write_file<S: BlockSource, W: Write>(
+    alloc: Global,
+    source: &mut S,
+    read: &SparseBlocks,
+    count: u32,
+    sound: &SoundVolume,
+    file: &FileRecord,
+    fork: Fork,
+    writer: &mut W,
+) -> Result<(), CopyFault>
+    requires sound { AreBlocksSound count (sparse read.now) }
+    requires directory { sound.now.mdb ≡ mdb_in (sparse read.now) }
+    requires trees { HasTrees count (sparse read.now) sound.now.trees }
+    requires forks { AreForksIn (sparse read.now) file.now }
+    ensures written { OnOk result (OfForkOf (S.image source.old) count read.now file.now fork
+        (Appends (W.contents writer.old) (W.contents writer.new))) }
+    ensures part { OnErr result (OfForkOf (S.image source.old) count read.now file.now fork
+        (AppendsFront (W.contents writer.old) (W.contents writer.new))) }
+    ensures none { result ≡ Err CopyFault.ReadFailed → writer.new ≡ writer.old }
+    ensures memory { result ≡ Err CopyFault.Memory → writer.new ≡ writer.old }
+    ensures image { S.image source.new ≡ S.image source.old }
+{
+    let id = file.id;
+    match fork {
+        Fork::DataFork => {
+            let kind = ForkKind::Data;
+            let part = &file.data;
+            write_kind(alloc, source, read, count, sound, id, kind, part, writer)
+        }
+        Fork::ResFork => {
+            let kind = ForkKind::Resource;
+            let part = &file.resource;
+            write_kind(alloc, source, read, count, sound, id, kind, part, writer)
+        }
+    }
+}
+
+/// Writes the bytes of a file's fork of an image that was opened so, piece by piece, as they are read; or answers what a call that reads the
+/// fork answers where there is none: -37, -120 or -43, and nothing is written. Errors: as [`copy_runs`] has them.
+pub(crate) fn write_opened<S: BlockSource, W: Write>(
+    alloc: Global,
+    source: &mut S,
+    volume: &NeededVolume,
+    dir: u32,
+    name: &[u8],
+    fork: Fork,
+    writer: &mut W,
+) -> Result<Result<(), Reply>, CopyFault>
+    requires { IsOpenedOf (S.image source.old) volume.now.count volume.now }
+    ensures written { (len : ℕ) → len / 512 ≡ volume.now.count
+        → IfOk result (WritesForkNamed (S.image source.old) len dir name.now fork
+        (W.contents writer.old) (W.contents writer.new)) }
+    ensures unread { (len : ℕ) → len / 512 ≡ volume.now.count
+        → IfOk result (RefusesWriting (S.image source.old) len dir name.now fork) }
+    ensures part { (len : ℕ) → len / 512 ≡ volume.now.count
+        → OnErr result (OfForkNamed (S.image source.old) len dir name.now fork
+        (AppendsFront (W.contents writer.old) (W.contents writer.new))) }
+    ensures unwritten { IfOk result (λ found. OnErr found (writer.new ≡ writer.old)) }
+    ensures none { result ≡ Err CopyFault.ReadFailed → writer.new ≡ writer.old }
+    ensures memory { result ≡ Err CopyFault.Memory → writer.new ≡ writer.old }
+    ensures image { S.image source.new ≡ S.image source.old }
+{
+    catalog_answers();
+    gathered_is_enough();
+    no_blocks_fault();
+    let (read, count, sound) = (&volume.read, volume.count, &volume.sound);
+    let file = match find_file(read, count, &sound.trees, dir, name) {
+        Ok(file) => file,
+        Err(reply) => return Ok(Err(reply)),
+    };
+    match write_file(alloc, source, read, count, sound, &file, fork, writer) {
+        Ok(()) => Ok(Ok(())),
+        Err(fault) => Err(fault),
     }
 }

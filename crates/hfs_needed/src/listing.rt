@@ -7,7 +7,7 @@ ghost use Rattle.hfs_check.specs.Trees.{HasTrees};
 ghost use Rattle.hfs_queries.specs.Brief.{listed_in};
 ghost use Rattle.hfs_space.specs.Results.{Gives};
 ghost use Rattle.hfs_sparse.specs.Sparse.{sparse};
-ghost use Rattle.hfs_needed.specs.Opened.{IsRefusedFor};
+ghost use Rattle.hfs_needed.specs.Opened.{IsRefusedFor, IsSoundOf};
 ghost use Rattle.hfs_needed.specs.Listing.{IsBriefList};
 
 use crate::laws::gathered_is_enough;
@@ -69,6 +69,7 @@ pub fn needed_list<S: BlockSource>(
     dir: u32,
 ) -> Result<Reply, NeededFault>
     ensures reply { IfOk result (IsBriefList (S.image source.old) len dir) }
+    ensures sound { IfOk result (λ told. IsSoundOf (S.image source.old) len) }
     ensures refused { IfErr result (λ fault. IsRefusedFor (S.image source.old) len fault) }
     ensures image { S.image source.new ≡ S.image source.old }
 {

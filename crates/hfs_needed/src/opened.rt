@@ -1,11 +1,12 @@
 //! An image that is opened and checked once, and asked as often as one likes.
-ghost use Rattle.std.specs.Prelude.{◌≡◌, IfOk, IfErr};
-ghost use Rattle.hfs_needed.specs.Forks.{FindsForkNamed, RefusesForkNamed};
+ghost use Rattle.std.specs.Prelude.{◌≡◌, Err, IfOk, IfErr, OnErr};
+ghost use Rattle.hfs_texts.specs.Writing.{AppendsFront};
+ghost use Rattle.hfs_needed.specs.Forks.{FindsForkNamed, OfForkNamed, RefusesForkNamed, RefusesWriting, WritesForkNamed};
 ghost use Rattle.hfs_needed.specs.Listing.{IsBriefList, HoldsCatalog};
-ghost use Rattle.hfs_needed.specs.Opened.{IsRefusedFor};
+ghost use Rattle.hfs_needed.specs.Opened.{IsRefusedFor, IsSoundOf};
 ghost use Rattle.hfs_needed.specs.OpenedValues.{opened_value};
 
-use crate::forks::opened_fork;
+use crate::forks::{opened_fork, write_opened};
 use crate::laws::gathered_is_enough;
 use crate::listing::{catalog_records, list_in_brief};
 use crate::opening::{NeededFault, NeededVolume, open_needed};
@@ -13,8 +14,9 @@ use hfs_catalog::CatalogRecord;
 use hfs_check::no_blocks_fault;
 use hfs_model::{Fork, Reply};
 use hfs_queries::catalog_answers;
-use hfs_sparse::{BlockSource, SparseFault};
+use hfs_sparse::{BlockSource, CopyFault, SparseFault};
 use std::alloc::{AllocError, Global};
+use std::io::Write;
 use std::marker::Model;
 
 /// A sound image whose needed blocks were read and checked once. What it tells is what the whole image's volume tells, where the source
@@ -45,6 +47,7 @@ impl<S: BlockSource + Drop> OpenedImage<S> {
     /// is refused.
     pub fn open(alloc: Global, source: S, len: u64) -> Result<OpenedImage<S>, NeededFault>
         ensures image { IfOk result (λ image. image ≡ opened_value (S.image source) len) }
+        ensures sound { IfOk result (λ image. IsSoundOf (S.image source) len) }
         ensures refused { IfErr result (λ fault. IsRefusedFor (S.image source) len fault) }
     {
         let mut source = source;
@@ -95,5 +98,39 @@ impl<S: BlockSource + Drop> OpenedImage<S> {
         ensures kept { self.new ≡ self.old }
     {
         opened_fork(alloc, &mut self.source, &self.volume, dir, name, fork)
+    }
+
+    /// Writes the bytes of a file's fork piece by piece, as they are read, at most 65,536 at a time: memory doesn't grow with the fork. Or answers
+    /// what a call that reads the fork answers where there is none: -37, -120 or -43, and nothing is written. Errors: a read failed or
+    /// memory was refused, before anything was written; a read failed behind bytes that were written, or the writer failed: then a part
+    /// of the fork may have gone out, from its beginning on, and nothing else.
+    pub fn write_fork<W: Write>(
+        &mut self,
+        alloc: Global,
+        dir: u32,
+        name: &[u8],
+        fork: Fork,
+        writer: &mut W,
+    ) -> Result<Result<(), Reply>, CopyFault>
+        ensures written { IfOk result (WritesForkNamed self.old.known self.old.len dir name.now fork
+            (W.contents writer.old) (W.contents writer.new)) }
+        ensures unread { IfOk result
+            (RefusesWriting self.old.known self.old.len dir name.now fork) }
+        ensures part { OnErr result (OfForkNamed self.old.known self.old.len dir name.now fork
+            (AppendsFront (W.contents writer.old) (W.contents writer.new))) }
+        ensures unwritten { IfOk result (λ found. OnErr found (writer.new ≡ writer.old)) }
+        ensures none { result ≡ Err CopyFault.ReadFailed → writer.new ≡ writer.old }
+        ensures memory { result ≡ Err CopyFault.Memory → writer.new ≡ writer.old }
+        ensures kept { self.new ≡ self.old }
+    {
+        write_opened(
+            alloc,
+            &mut self.source,
+            &self.volume,
+            dir,
+            name,
+            fork,
+            writer,
+        )
     }
 }

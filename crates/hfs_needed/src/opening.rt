@@ -1,7 +1,7 @@
 //! Volumes of which only the needed blocks are read.
 ghost use Rattle.std.specs.Prelude.{◌≡◌, ◌≢◌, ◌≤◌, ◌/◌, IfOk, IfErr};
 ghost use Rattle.hfs_check.specs.declared.mount_fault.MountFault.{MountFault};
-ghost use Rattle.hfs_needed.specs.Opened.{IsOpenedOf, AreRefusedFor, IsRefusedFor};
+ghost use Rattle.hfs_needed.specs.Opened.{IsOpenedOf, IsSoundOf, AreRefusedFor, IsRefusedFor};
 
 use crate::gathering::gather_needed;
 use crate::laws::gathered_is_enough;
@@ -74,9 +74,12 @@ pub(crate) fn open_needed<S: BlockSource>(
     len: u64,
 ) -> Result<NeededVolume, NeededFault>
     ensures opened { IfOk result (IsOpenedOf (S.image source.old) (len / 512)) }
+    ensures sound { IfOk result (λ volume. IsSoundOf (S.image source.old) len) }
     ensures refused { IfErr result (λ fault. IsRefusedFor (S.image source.old) len fault) }
     ensures image { S.image source.new ≡ S.image source.old }
 {
+    gathered_is_enough();
+    no_blocks_fault();
     if len > 2_147_483_648 {
         return Err(NeededFault::Refused(MountFault::TooLarge));
     }

@@ -1,5 +1,5 @@
 //! Reading the nodes of a tree that decide: its header node, its map nodes, and the nodes that its map marks.
-ghost use Rattle.std.specs.Prelude.{◌≡◌, ◌*◌, ◌<◌, ◌≤◌, true, [], length, slice_index_or, OnOk, IfOk};
+ghost use Rattle.std.specs.Prelude.{◌≡◌, ℕ, ◌+◌, ◌*◌, ◌<◌, ◌≤◌, true, [], length, slice_index_or, OnOk, IfOk};
 ghost use Rattle.std.specs.List.{flat_map};
 ghost use Rattle.std.specs.Vec.{vec_len};
 ghost use Rattle.hfs_blocks.specs.Blocks.{run_of, AreRunsWithin};
@@ -7,14 +7,14 @@ ghost use Rattle.hfs_btree.specs.Tree.{node_in};
 ghost use Rattle.hfs_btree.specs.Header.{header_in, bit_of};
 ghost use Rattle.hfs_btree_checks.specs.Shape.{is_map_value};
 ghost use Rattle.hfs_needed.specs.Marked.{needed_of_tree};
-ghost use Rattle.hfs_needed.specs.TreeReads.{nodes_of, HasNode, ReadsRuns, IsHeadOf, FindsHead, FindsMapNode, HasChain, TellsChain, FindsMap, HasMapChain, HasMarked};
+ghost use Rattle.hfs_needed.specs.TreeReads.{nodes_of, HasNode, ReadsRuns, IsHeadOf, FindsHead, FindsMapNode, HasChain, TellsChain, FindsMap, HasMapChain, HasMarked, HasMarkedFrom, LieBeside, block_for};
 ghost use Rattle.hfs_sparse.specs.Sparse.{HasEach};
 
 use crate::tree_header::{TreeHead, read_head};
 use hfs_blocks::{Run, block_of};
 use hfs_btree::{Key, bit_at};
 use hfs_node::{NodeKind, NodeView, view};
-use hfs_sparse::{BlockSource, SparseBlocks, SparseFault, fetch};
+use hfs_sparse::{BlockSource, SparseBlocks, SparseFault, fetch, fetch_range};
 use std::alloc::Global;
 
 /// Reads node `n` of a tree's file, unless it was read before, and copies it.
@@ -179,28 +179,54 @@ fn fetch_map<S: BlockSource>(
     Ok(Some(map))
 }
 
-/// Reads node `n`, if the map marks it.
-fn fetch_if_marked<S: BlockSource>(
+/// How many nodes from node `n` on, at least that one, are marked and lie side by side, up to node `end`.
+fn marked_beside(runs: &[Run], map: &[u8], n: u32, end: u32) -> u32
+    requires some { n < end }
+    requires bits { end ≤ 8 * length map.now }
+    requires within { end ≤ length (flat_map run_of runs.now) }
+    requires small { AreRunsWithin runs.now 4294967296 }
+    ensures few { (1 ≤ result) × (n + result ≤ end) }
+    ensures beside { LieBeside runs.now n result }
+    ensures inside { (total : ℕ) → AreRunsWithin runs.now total
+        → block_for runs.now n + result ≤ total }
+{
+    let first = u64::from(block_of(runs, n));
+    for m in n + 1..end {
+        let place = first + u64::from(m - n);
+        if !bit_at(map, m as usize) || u64::from(block_of(runs, m)) != place {
+            return m - n;
+        }
+    }
+    end - n
+}
+
+/// Reads node `n`, if the map marks it, and with it the marked nodes right behind it, up to node `end`. How many nodes it looked at.
+fn fetch_marked_from<S: BlockSource>(
     source: &mut S,
     read: &mut SparseBlocks,
     runs: &[Run],
     map: &[u8],
     n: u32,
-) -> Result<(), SparseFault>
-    requires bit { n < 8 * length map.now }
-    requires within { n < length (flat_map run_of runs.now) }
+    end: u32,
+) -> Result<u32, SparseFault>
+    requires some { n < end }
+    requires bits { end ≤ 8 * length map.now }
+    requires within { end ≤ length (flat_map run_of runs.now) }
     requires small { AreRunsWithin runs.now 4294967296 }
-    ensures has { OnOk result (bit_of map.now n ≡ true → HasNode read.new runs.now n) }
+    ensures few { IfOk result (λ step. (1 ≤ step) × (n + step ≤ end)) }
+    ensures has { IfOk result (HasMarkedFrom read.new runs.now map.now n) }
     ensures reads { ReadsRuns (S.image source.old) runs.now read.old read.new }
     ensures image { S.image source.new ≡ S.image source.old }
 {
     if !bit_at(map, n as usize) {
-        return Ok(());
+        return Ok(1);
     }
-    fetch(source, read, block_of(runs, n))
+    let count = marked_beside(runs, map, n, end);
+    fetch_range(source, read, block_of(runs, n), count)?;
+    Ok(count)
 }
 
-/// Reads those of the first `count` nodes that the map marks.
+/// Reads those of the first `count` nodes that the map marks, those that lie side by side together.
 fn fetch_marked<S: BlockSource>(
     source: &mut S,
     read: &mut SparseBlocks,
@@ -215,8 +241,9 @@ fn fetch_marked<S: BlockSource>(
     ensures reads { ReadsRuns (S.image source.old) runs.now read.old read.new }
     ensures image { S.image source.new ≡ S.image source.old }
 {
-    for n in 0..count {
-        fetch_if_marked(source, read, runs, map, n)?;
+    let mut n = 0;
+    while n < count {
+        n += fetch_marked_from(source, read, runs, map, n, count)?;
     }
     Ok(())
 }

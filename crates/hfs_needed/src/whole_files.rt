@@ -5,7 +5,7 @@ ghost use Rattle.hfs_check.specs.Sound.{AreBlocksSound};
 ghost use Rattle.hfs_check.specs.Trees.{HasTrees};
 ghost use Rattle.hfs_queries.specs.Told as told;
 ghost use Rattle.hfs_sparse.specs.Sparse.{sparse};
-ghost use Rattle.hfs_needed.specs.Opened.{IsRefusedFor};
+ghost use Rattle.hfs_needed.specs.Opened.{IsRefusedFor, IsSoundOf};
 ghost use Rattle.hfs_needed.specs.WholeFiles.{HoldsDataNamed, HoldsResourceNamed, RefusesFileNamed, TellsOfFile};
 
 use crate::forks::{find_file, read_file};
@@ -57,6 +57,7 @@ pub fn needed_file<S: BlockSource>(
     ensures data_fork { IfOk result (HoldsDataNamed (S.image source.old) len dir name.now) }
     ensures resource_fork { IfOk result (HoldsResourceNamed (S.image source.old) len dir name.now) }
     ensures unread { IfOk result (RefusesFileNamed (S.image source.old) len dir name.now) }
+    ensures sound { IfOk result (λ told. IsSoundOf (S.image source.old) len) }
     ensures refused { IfErr result (λ fault. IsRefusedFor (S.image source.old) len fault) }
     ensures image { S.image source.new ≡ S.image source.old }
 {

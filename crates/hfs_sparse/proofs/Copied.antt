@@ -33,7 +33,7 @@ take-add a b xs =
     sym (take-append-drop a (take (a + b) xs))
     ∙ (λ i. take-take a (a + b) xs (let le : a ≤ a + b = omega arith in le) i ++ drop-take a b xs i)
 
-flat-range : (image : List ℕ) (first n : ℕ) → flat_map (block_at image) (range_with_len first n) ≡ take (n * 512) (drop (512 * first) image)
+pub flat-range : (image : List ℕ) (first n : ℕ) → flat_map (block_at image) (range_with_len first n) ≡ take (n * 512) (drop (512 * first) image)
 flat-range image first zero = refl
 flat-range image first (suc n) =
     let all : suc n * 512 ≡ 512 + n * 512 = omega arith in

@@ -57,7 +57,7 @@ stays-later known later old middle new e p q = stays-on known old middle new p (
 
 -- ---- some more of a range
 
-range-at : (P : ℕ → Type 0) (a n : ℕ) → Each P (range_with_len a n) → (k : ℕ) → k < n → P (a + k)
+pub range-at : (P : ℕ → Type 0) (a n : ℕ) → Each P (range_with_len a n) → (k : ℕ) → k < n → P (a + k)
 range-at P a zero each k lt = absurd (omega (arith, lt))
 range-at P a (suc n) each zero lt = subst P (let e : a ≡ a + 0 = omega arith in e) each.0
 range-at P a (suc n) each (suc k) lt =

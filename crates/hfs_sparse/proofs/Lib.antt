@@ -4,3 +4,4 @@ pub mod SparseLemmas
 pub mod BlockBytes
 pub mod PuttingIn
 pub mod ReadingIn
+pub mod Written

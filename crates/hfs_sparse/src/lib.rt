@@ -10,6 +10,7 @@ mod placed;
 mod seeking;
 mod source;
 mod volume;
+mod writing;
 
 pub use crate::blocks::SparseBlocks;
 pub use crate::bytes::ByteSource;
@@ -19,3 +20,4 @@ pub use crate::placed::{FileReader, PlacedReader};
 pub use crate::seeking::SeekSource;
 pub use crate::source::BlockSource;
 pub use crate::volume::SparseVolume;
+pub use crate::writing::{CopyFault, copy_runs};

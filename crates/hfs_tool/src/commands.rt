@@ -9,10 +9,10 @@ use crate::volumes::{
 use crate::words::{FileWords, ForkWords, NewVolume, RunWords, Words};
 use hfs_check::MountFault;
 use hfs_commands::{
-    BlockSource, Fault, ImageFile, NeededFile, Ran, RepairAnswer, Status, check_text, code_text,
-    list_text, load_file, load_script, needed_check_text, needed_file, needed_fork,
-    needed_list_text, open_image, put, put_macbinary, refused_text, repair_answer, run_info,
-    run_script_at, write_fork, write_macbinary,
+    BlockSource, Fault, ImageFile, NeededFile, OpenedImage, Ran, RepairAnswer, Status, check_text,
+    code_text, list_text, load_file, load_script, needed_check_text, needed_file, needed_list_text,
+    open_image, put, put_macbinary, refused_text, repair_answer, run_info, run_script_at,
+    write_fork, write_macbinary,
 };
 use hfs_format::{FormatPlan, format};
 use hfs_model::Reply;
@@ -151,7 +151,7 @@ pub fn print_needed_list<'a, S: BlockSource>(
 /// Prints the bytes of a file's fork, or the code of the call that was refused.
 fn print_fork<'a>(rt: &HostRuntime, file: &ForkWords<'a>) -> Result<u8, Fault<'a>> {
     match open_image(rt, file.image)? {
-        ImageFile::Seekable { mut source, len } => print_needed_fork(rt, file, &mut source, len),
+        ImageFile::Seekable { source, len } => print_needed_fork(rt, file, source, len),
         ImageFile::Whole(image) => print_whole_fork(rt, file, image),
     }
 }
@@ -252,21 +252,22 @@ fn print_end(rt: &HostRuntime, reply: &Reply) -> Result<u8, Fault<'static>> {
     }
 }
 
-/// Prints the bytes of a file's fork, of which the blocks are read where they are needed.
-pub fn print_needed_fork<'a, S: BlockSource>(
+/// Prints the bytes of a file's fork, piece by piece as they are read.
+pub fn print_needed_fork<'a, S: BlockSource + Drop>(
     rt: &HostRuntime,
     file: &ForkWords<'a>,
-    source: &mut S,
+    source: S,
     len: u64,
 ) -> Result<u8, Fault<'a>> {
+    let mut image = match OpenedImage::open(rt.alloc(), source, len) {
+        Ok(image) => image,
+        Err(fault) => return Err(Fault::of_needed(fault, file.image)),
+    };
     let (name, fork) = (file.name.as_bytes(), file.fork);
-    match needed_fork(rt.alloc(), source, len, file.dir, name, fork) {
-        Ok(Ok(bytes)) => match put(&mut rt.stdout(), &bytes) {
-            Ok(()) => Ok(Status::Done.number()),
-            Err(_) => Err(Fault::OutputFailed),
-        },
+    match image.write_fork(rt.alloc(), file.dir, name, fork, &mut rt.stdout()) {
+        Ok(Ok(())) => Ok(Status::Done.number()),
         Ok(Err(reply)) => print_code(rt, &reply),
-        Err(fault) => Err(Fault::of_needed(fault, file.image)),
+        Err(fault) => Err(Fault::of_copy(fault, file.image)),
     }
 }
 

@@ -56,10 +56,11 @@ fn refused(rt: &HostRuntime, fault: &Fault<'_>) -> u8
 }
 
 /// Prints a fault alone on its line, and what a refusal means on standard error. After standard
-/// output failed nothing more is printed.
+/// output failed nothing more is printed, and behind a part of a fork the fault goes to standard error.
 fn print_fault(rt: &HostRuntime, fault: &Fault<'_>) -> io::Result<()> {
     match fault {
         Fault::OutputFailed => Ok(()),
+        Fault::BrokenOff(_) => eprintln!(rt; "{fault}"),
         Fault::Refused(why) => {
             println!(rt; "{fault}")?;
             tell_hint(rt, *why);

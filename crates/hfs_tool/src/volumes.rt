@@ -63,9 +63,9 @@ pub fn print_volume_fork<'a>(
     file: &ForkWords<'a>,
     n: u64,
 ) -> Result<u8, Fault<'a>> {
-    let mut volume = open_volume(rt, file.image, n)?;
+    let volume = open_volume(rt, file.image, n)?;
     let len = volume.len();
-    print_needed_fork(rt, file, &mut volume, len)
+    print_needed_fork(rt, file, volume, len)
 }
 
 /// Prints a file with both forks, of the `n`-th volume in a file.

@@ -16,6 +16,6 @@ returns g c =
       refused = blocks-refused c.gathered_is_enough.ensures (g.S.BlockSource.image c.args.source.now) c.args.count c.in-Ok.read c.in-Ok.ensures.needed
           c.in-Ok.ensures.told c.in-Err-check_blocks.fault other
           (subst (λ (f : Option MountFault). IsFaultOf f c.in-Err-check_blocks.fault)
-          (λ i. blocks_fault c.volume.ensures.count i (sparse (c.volume.ensures.read i))) c.in-Err-check_blocks.ensures.wrong);
+          (λ i. blocks_fault (c.volume.ensures.count i) (sparse (c.volume.ensures.read i))) c.in-Err-check_blocks.ensures.wrong);
       image = c.gather_needed.ensures.image;
     }

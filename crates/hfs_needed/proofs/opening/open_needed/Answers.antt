@@ -1,8 +1,9 @@
 -- By the image's length.
 use Rattle.std.proofs.Common.{rules}
 use Rattle.hfs_check.specs.declared.mount_fault.MountFault.TheVariants as fault
-use Rattle.hfs_needed.proofs.Refused.{length-refused, err-so}
-use Rattle.hfs_needed.proofs.Reported.{length-large, length-short, length-right}
+use Rattle.hfs_needed.specs.declared.opening.NeededVolume.{NeededVolume}
+use Rattle.hfs_needed.proofs.Refused.{length-refused, err-so, opened-sound}
+use Rattle.hfs_needed.proofs.Reported.{length-large, length-short, length-right, ok-so}
 use Rattle.hfs_needed.proofs.opening.open_needed.Goals as goal
 
 pub returns-then-len-gt2147483648-clause-refused :
@@ -18,3 +19,10 @@ pub returns-clause-refused : goal.returns-clause-refused
 returns-clause-refused g c =
     err-so (g.S.BlockSource.image c.args.source.now) c.args.len (length-right c.args.len (search rules) (search rules)) c.open_blocks.result
     c.open_blocks.ensures.refused
+
+pub returns-clause-sound : goal.returns-clause-sound
+returns-clause-sound g c =
+    ok-so c.open_blocks.result
+    (λ (volume : NeededVolume) opened.
+    opened-sound c.no_blocks_fault.ensures c.gathered_is_enough.ensures (g.S.BlockSource.image c.args.source.now) c.args.len
+    (length-right c.args.len (search rules) (search rules)) volume opened) c.open_blocks.ensures.opened

@@ -9,4 +9,4 @@ pub returns-in-Ok-clause-report : goal.returns-in-Ok-clause-report
 returns-in-Ok-clause-report g c =
     gathered-reports c.no_blocks_fault.ensures c.gathered_is_enough.ensures (g.S.BlockSource.image c.args.source.now) c.args.count c.in_ok-read.read
     c.in_ok-read.ensures.needed c.in_ok-read.ensures.told c.in-Ok.report
-    (c.in-Ok.ensures ∙ (λ i. report_in c.volume.ensures.count i (sparse (c.volume.ensures.read i))))
+    (c.in-Ok.ensures ∙ (λ i. report_in (c.volume.ensures.count i) (sparse (c.volume.ensures.read i))))

@@ -3,18 +3,19 @@ use Rattle.hfs_needed.proofs.Gathered.{reads-runs-on, marked-more}
 use Rattle.hfs_needed.proofs.TreeNodes.{marked-all}
 use Rattle.hfs_needed.proofs.tree_nodes.fetch_marked.Goals as goal
 
-pub returns-in_err-fetch_if_marked-clause-reads : goal.returns-in_err-fetch_if_marked-clause-reads
-returns-in_err-fetch_if_marked-clause-reads g c =
+pub returns-in_err-n-clause-reads : goal.returns-in_err-n-clause-reads
+returns-in_err-n-clause-reads g c =
     reads-runs-on (g.S.BlockSource.image c.args.source.now) (g.S.BlockSource.image c.loop-n.source) c.args.runs.now c.args.read.now c.loop-n.read
-    c.fetch_if_marked.new.read c.loop-n.invariant.image c.loop-n.invariant.reads c.in_err-fetch_if_marked.ensures.reads
+    c.fetch_marked_from.new.read c.loop-n.invariant.image c.loop-n.invariant.reads c.in_err-n.ensures.reads
 
 pub loop-n-preserved : goal.loop-n-preserved
 loop-n-preserved g c = record {
-  has = marked-more c.loop-n.read c.fetch_if_marked.new.read (c.in_ok-fetch_if_marked.ensures.reads 4294967296 c.requires.small).grown c.args.runs.now
-      c.args.map.now c.loop-n.n c.in_ok-fetch_if_marked.ensures.has c.loop-n.invariant.has;
+  few = c.in_ok-n.ensures.few.1;
+  has = marked-more c.loop-n.read c.fetch_marked_from.new.read (c.in_ok-n.ensures.reads 4294967296 c.requires.small).grown c.args.runs.now c.args.map.now c.loop-n.n
+      c.in_ok-n.field-0 c.in_ok-n.ensures.has c.loop-n.invariant.has;
   reads = reads-runs-on (g.S.BlockSource.image c.args.source.now) (g.S.BlockSource.image c.loop-n.source) c.args.runs.now c.args.read.now c.loop-n.read
-      c.fetch_if_marked.new.read c.loop-n.invariant.image c.loop-n.invariant.reads c.in_ok-fetch_if_marked.ensures.reads;
-  image = c.in_ok-fetch_if_marked.ensures.image ∙ c.loop-n.invariant.image;
+      c.fetch_marked_from.new.read c.loop-n.invariant.image c.loop-n.invariant.reads c.in_ok-n.ensures.reads;
+  image = c.in_ok-n.ensures.image ∙ c.loop-n.invariant.image;
 }
 
 pub returns-clause-has : goal.returns-clause-has

@@ -1,11 +1,15 @@
-use Rattle.std.proofs.Common.{◌≡◌, ℕ, ◌<◌, true}
+use Rattle.std.proofs.Common.{◌≡◌, ℕ, ◌-◌, ◌<◌, ◌≤◌, true}
 use Rattle.hfs_btree.specs.Header.{bit_of}
 use Rattle.hfs_needed.specs.TreeReads.{HasNode, ReadsRuns}
 use Rattle.hfs_needed.proofs.tree_nodes.fetch_marked.Given as goal
 
 abbrev pub invariant-loop-n : goal.invariant-loop-n
 invariant-loop-n g l = record {
+  few : l.n ≤ l.count;
   has : (k : ℕ) → k < l.n → bit_of l.map k ≡ true → HasNode l.read l.runs k;
   reads : ReadsRuns (g.S.BlockSource.image l.initial.source) l.runs l.initial.read l.read;
   image : g.S.BlockSource.image l.source ≡ g.S.BlockSource.image l.initial.source;
 }
+
+abbrev pub decreases-loop-n : goal.decreases-loop-n
+decreases-loop-n g l = l.count - l.n
