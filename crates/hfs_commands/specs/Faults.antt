@@ -32,6 +32,8 @@ status_of_run false = status.NoMemory
 abbrev pub status_of : Fault → Status
 status_of fault.WordsNotText = status.WordsRefused
 status_of (fault.Refused why) = status.ImageRefused
+status_of (fault.NoVolume n) = status.ImageRefused
+status_of fault.NoVolumes = status.ImageRefused
 status_of fault.BadName = status.ImageRefused
 status_of fault.BadSize = status.ImageRefused
 status_of fault.BadNodeCount = status.ImageRefused
@@ -58,6 +60,8 @@ refusal_text mount.Memory = codes "out of memory"
 unfoldable pub fault_text : Fault → List ℕ
 fault_text fault.WordsNotText = codes "the words are not text"
 fault_text (fault.Refused why) = refusal_text why
+fault_text (fault.NoVolume n) = codes "no volume " ++ decimal n
+fault_text fault.NoVolumes = codes "no HFS volume"
 fault_text fault.BadName = codes "bad name"
 fault_text fault.BadSize = codes "bad size"
 fault_text fault.BadNodeCount = codes "bad node count"

@@ -75,6 +75,10 @@ pub enum Fault<'a> {
     WordsNotText,
     /// The image is refused, and not for want of memory.
     Refused(MountFault),
+    /// A file has fewer volumes than this number, which is counted from 1.
+    NoVolume(u64),
+    /// A file has no volume.
+    NoVolumes,
     /// A new volume can't have this name.
     BadName,
     /// A new volume can't have so few or so many blocks.
@@ -108,7 +112,7 @@ impl Fault<'_> {
     {
         match self {
             Fault::WordsNotText => Status::WordsRefused,
-            Fault::Refused(_) => Status::ImageRefused,
+            Fault::Refused(_) | Fault::NoVolume(_) | Fault::NoVolumes => Status::ImageRefused,
             Fault::BadName | Fault::BadSize | Fault::BadNodeCount | Fault::NoRoom => {
                 Status::ImageRefused
             }
@@ -240,6 +244,8 @@ impl fmt::Display for Fault<'_> {
         match self {
             Fault::WordsNotText => write!(f, "the words are not text"),
             Fault::Refused(why) => write!(f, "{}", Refusal(*why)),
+            Fault::NoVolume(n) => write!(f, "no volume {n}"),
+            Fault::NoVolumes => write!(f, "no HFS volume"),
             Fault::BadName => write!(f, "bad name"),
             Fault::BadSize => write!(f, "bad size"),
             Fault::BadNodeCount => write!(f, "bad node count"),

@@ -25,7 +25,7 @@ pub enum ImageFile<F: Read + Seek> {
 
 /// All bytes of what was opened by this path, at most 2,147,483,648. Faults: `CannotRead` where a read fails, `Refused(TooLarge)`
 /// where there are more, `NoMemory`.
-fn load_opened<'a, F: Read>(
+pub(crate) fn load_opened<'a, F: Read>(
     alloc: Global,
     file: &mut F,
     path: &'a str,
@@ -52,7 +52,7 @@ pub fn load_file<'a, R: Files + AllocGlobal>(rt: &R, path: &'a str) -> Result<Ve
 }
 
 /// How many bytes a regular file has, where it has any. The system's own files, which have bytes but tell of none, are none of these.
-fn regular_len<F: OpenFile>(file: &F) -> Option<u64> {
+pub(crate) fn regular_len<F: OpenFile>(file: &F) -> Option<u64> {
     let Ok(metadata) = file.metadata() else {
         return None;
     };

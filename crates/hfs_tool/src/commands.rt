@@ -2,6 +2,10 @@
 
 use crate::progress::Progress;
 use crate::saving::{save, tell};
+use crate::volumes::{
+    print_volume_check, print_volume_fork, print_volume_info, print_volume_items,
+    print_volume_list, print_volume_macbinary, print_volumes,
+};
 use crate::words::{FileWords, ForkWords, NewVolume, RunWords, Words};
 use hfs_check::MountFault;
 use hfs_commands::{
@@ -26,13 +30,36 @@ pub fn obey<'a, T: Threads + Wait + Sync>(
     words: &Words<'a>,
 ) -> Result<u8, Fault<'a>> {
     match words {
-        Words::Info { image: None } => print_info(rt, &mut rt.stdin(), "stdin"),
-        Words::Info { image: Some(image) } => print_info_of(rt, *image),
-        Words::Check { image } => print_check(rt, *image),
-        Words::List { image, dir } => print_list(rt, *image, *dir),
-        Words::Items { image, format } => print_items(rt, *image, *format),
-        Words::Cat(file) => print_fork(rt, file),
-        Words::MacBinary(file) => print_macbinary(rt, file),
+        Words::StandardInput => print_info(rt, &mut rt.stdin(), "stdin"),
+        Words::Info { image, volume } => match volume {
+            Some(n) => print_volume_info(rt, *image, *n),
+            None => print_info_of(rt, *image),
+        },
+        Words::Check { image, volume } => match volume {
+            Some(n) => print_volume_check(rt, *image, *n),
+            None => print_check(rt, *image),
+        },
+        Words::List { image, volume, dir } => match volume {
+            Some(n) => print_volume_list(rt, *image, *n, *dir),
+            None => print_list(rt, *image, *dir),
+        },
+        Words::Items {
+            image,
+            volume,
+            format,
+        } => match volume {
+            Some(n) => print_volume_items(rt, *image, *n, *format),
+            None => print_items(rt, *image, *format),
+        },
+        Words::Cat(file) => match file.volume {
+            Some(n) => print_volume_fork(rt, file, n),
+            None => print_fork(rt, file),
+        },
+        Words::MacBinary(file) => match file.volume {
+            Some(n) => print_volume_macbinary(rt, file, n),
+            None => print_macbinary(rt, file),
+        },
+        Words::Volumes { file } => print_volumes(rt, *file),
         Words::New(volume) => write_new(rt, volume),
         Words::Repair { image, file } => write_repaired(rt, *image, *file),
         Words::Run(run) => print_answers(rt, threads, run),
@@ -48,7 +75,7 @@ fn print_info_of<'a>(rt: &HostRuntime, image: &'a str) -> Result<u8, Fault<'a>> 
 }
 
 /// Prints the master directory block that a reader gives.
-fn print_info<'a, R: Read>(
+pub fn print_info<'a, R: Read>(
     rt: &HostRuntime,
     reader: &mut R,
     name: &'a str,
@@ -60,7 +87,7 @@ fn print_info<'a, R: Read>(
 }
 
 /// Prints lines, by as few calls as the output takes.
-fn print_lines(rt: &HostRuntime, lines: &str) -> Result<(), Fault<'static>> {
+pub fn print_lines(rt: &HostRuntime, lines: &str) -> Result<(), Fault<'static>> {
     match put(&mut rt.stdout(), lines.as_bytes()) {
         Ok(()) => Ok(()),
         Err(_) => Err(Fault::OutputFailed),
@@ -68,7 +95,7 @@ fn print_lines(rt: &HostRuntime, lines: &str) -> Result<(), Fault<'static>> {
 }
 
 /// Prints lines with an exit status, where memory sufficed for them, and answers the status.
-fn print_told(
+pub fn print_told(
     rt: &HostRuntime,
     told: Result<(u8, String), AllocError>,
 ) -> Result<u8, Fault<'static>> {
@@ -106,15 +133,26 @@ fn mounted(rt: &HostRuntime, image: Vec<u8>) -> Result<Volume, Fault<'static>> {
 fn print_list<'a>(rt: &HostRuntime, path: &'a str, dir: u32) -> Result<u8, Fault<'a>> {
     match open_image(rt, path)? {
         ImageFile::Seekable { mut source, len } => {
-            match needed_list_text(rt.alloc(), &mut source, len, dir) {
-                Ok(told) => print_told(rt, Ok(told)),
-                Err(fault) => Err(Fault::of_needed(fault, path)),
-            }
+            print_needed_list(rt, path, &mut source, len, dir)
         }
         ImageFile::Whole(image) => {
             let volume = mounted(rt, image)?;
             print_told(rt, list_text(rt.alloc(), &volume, dir))
         }
+    }
+}
+
+/// Prints the children of a folder, of which the blocks are read that are needed.
+pub fn print_needed_list<'a, S: BlockSource>(
+    rt: &HostRuntime,
+    path: &'a str,
+    source: &mut S,
+    len: u64,
+    dir: u32,
+) -> Result<u8, Fault<'a>> {
+    match needed_list_text(rt.alloc(), source, len, dir) {
+        Ok(told) => print_told(rt, Ok(told)),
+        Err(fault) => Err(Fault::of_needed(fault, path)),
     }
 }
 
@@ -138,7 +176,7 @@ fn print_whole_items<'a>(
 }
 
 /// Prints the table of the items of an image of so many bytes.
-fn print_items_of<'a, S: BlockSource + Drop>(
+pub fn print_items_of<'a, S: BlockSource + Drop>(
     rt: &HostRuntime,
     path: &'a str,
     source: S,
@@ -203,7 +241,7 @@ fn print_macbinary<'a>(rt: &HostRuntime, file: &FileWords<'a>) -> Result<u8, Fau
 }
 
 /// Prints a file with both forks, of which the blocks are read where they are needed.
-fn print_needed_macbinary<'a, S: BlockSource>(
+pub fn print_needed_macbinary<'a, S: BlockSource>(
     rt: &HostRuntime,
     file: &FileWords<'a>,
     source: &mut S,
@@ -266,7 +304,7 @@ fn print_end(rt: &HostRuntime, reply: &Reply) -> Result<u8, Fault<'static>> {
 }
 
 /// Prints the bytes of a file's fork, piece by piece as they are read.
-fn print_needed_fork<'a, S: BlockSource + Drop>(
+pub fn print_needed_fork<'a, S: BlockSource + Drop>(
     rt: &HostRuntime,
     file: &ForkWords<'a>,
     source: S,

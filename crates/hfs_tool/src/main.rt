@@ -8,6 +8,7 @@ mod commands;
 mod hints;
 mod progress;
 mod saving;
+mod volumes;
 mod words;
 
 use crate::commands::obey;

@@ -11,22 +11,45 @@ use std::alloc::{AllocError, Global};
 /// What the words ask for.
 #[derive(Drop)]
 pub enum Words<'a> {
-    /// `info IMAGE`: the fields of the master directory block; of standard input where there are no words.
-    Info { image: Option<&'a str> },
-    /// `check IMAGE`: what is told of the image.
-    Check { image: &'a str },
-    /// `ls IMAGE [DIR]`: a line for each child of the folder of that ID.
-    List { image: &'a str, dir: u32 },
-    /// `items IMAGE [--format tab|csv|json]`: a line for each item of the volume.
-    Items { image: &'a str, format: Format },
-    /// `cat IMAGE DIR NAME [--resource]`: the bytes of a file's fork.
+    /// No words: the fields of the master directory block that standard input has.
+    StandardInput,
+    /// `info IMAGE [--volume N]`: the fields of the master directory block.
+    Info {
+        image: &'a str,
+        volume: Option<u64>,
+    },
+    /// `check IMAGE [--volume N]`: what is told of the image.
+    Check {
+        image: &'a str,
+        volume: Option<u64>,
+    },
+    /// `ls IMAGE [DIR] [--volume N]`: a line for each child of the folder of that ID.
+    List {
+        image: &'a str,
+        volume: Option<u64>,
+        dir: u32,
+    },
+    /// `items IMAGE [--format tab|csv|json] [--volume N]`: a line for each item of the volume.
+    Items {
+        image: &'a str,
+        volume: Option<u64>,
+        format: Format,
+    },
+    /// `cat IMAGE DIR NAME [--resource] [--volume N]`: the bytes of a file's fork.
     Cat(ForkWords<'a>),
-    /// `cat IMAGE DIR NAME --macbinary`: a file with both forks.
+    /// `cat IMAGE DIR NAME --macbinary [--volume N]`: a file with both forks.
     MacBinary(FileWords<'a>),
+    /// `volumes FILE`: a line for each volume that lies in a file.
+    Volumes {
+        file: &'a str,
+    },
     /// `new FILE NAME BLOCKS NODES EXTENTS [--now N]`: a new volume.
     New(NewVolume<'a>),
     /// `repair IMAGE FILE`: the image with its counts mended.
-    Repair { image: &'a str, file: &'a str },
+    Repair {
+        image: &'a str,
+        file: &'a str,
+    },
     /// `run IMAGE SCRIPT [--now N] [--out FILE]`: the calls of a script.
     Run(RunWords<'a>),
 }
@@ -36,6 +59,8 @@ pub enum Words<'a> {
 pub struct ForkWords<'a> {
     /// The path of the image.
     pub image: &'a str,
+    /// The number of the volume in it, where one is asked for.
+    pub volume: Option<u64>,
     /// The ID of the folder that holds the file.
     pub dir: u32,
     /// The file's name.
@@ -49,6 +74,8 @@ pub struct ForkWords<'a> {
 pub struct FileWords<'a> {
     /// The path of the image.
     pub image: &'a str,
+    /// The number of the volume in it, where one is asked for.
+    pub volume: Option<u64>,
     /// The ID of the folder that holds the file.
     pub dir: u32,
     /// The file's name.
@@ -95,6 +122,16 @@ fn image<'a>(alloc: Global) -> Arg<'a> {
     word(alloc, "IMAGE").help("The image of the bare volume, beginning with its boot blocks")
 }
 
+/// The number of the volume in an image.
+fn volume<'a>(alloc: Global) -> Arg<'a> {
+    Arg::new(alloc, "volume")
+        .long("volume")
+        .value_name("N")
+        .action(ArgAction::Set)
+        .value_parser(value_parser!(u64))
+        .help("The N-th of the volumes that volumes IMAGE lists, in place of the image's own bytes")
+}
+
 /// Takes numbers from 0 to 4,294,967,295 alone.
 fn of_numbers(argument: Arg<'_>) -> Arg<'_> {
     argument.value_parser(value_parser!(u32).range(0..=4294967295))
@@ -138,6 +175,20 @@ const CHECKS: &str = "What is printed where the volume is not sound:
   C7   names (characters that this program doesn't take: no fault of the disk)
   C12  space
 docs/CHECKS.md says what each wants, and what N counts.";
+
+/// What the word `volumes` tells beside its arguments.
+const VOLUMES: &str = "How a volume lies in the file:
+  bare       it is the whole file
+  macbinary  it is the data fork of a MacBinary file
+  disk copy  it is the data of a Disk Copy 4.2 file, which may be the data fork of a MacBinary file;
+             'sum right' or 'sum wrong' tells whether the sum in its header is that of the data
+  partition  it is a partition of type Apple_HFS in a map with blocks of 512 or 2,048 bytes
+A disk copy or a partition without a volume is listed, too, with 'no volume' at the line's end.
+
+The words info, check, ls and cat take the N-th of them by --volume N; run and repair take no --volume.
+
+Not looked for: a map within a map or within a disk copy, Disk Copy 6 and other compressed forms, images with
+sectors of 2,352 bytes, MFS, and HFS Plus without a wrapper.";
 
 /// What the word `run` tells beside its arguments.
 const RUNS: &str =
@@ -183,6 +234,8 @@ Examples:
   hfs_tool items disk.img --format csv > items.csv || rm items.csv
   hfs_tool cat disk.img 19 'Read Me' > read_me.data || rm read_me.data
   hfs_tool cat disk.img 19 'Read Me' --macbinary > read_me.bin || rm read_me.bin
+  hfs_tool volumes hard_disk.img
+  hfs_tool ls hard_disk.img --volume 1
   hfs_tool new disk.img Archive 1600 40 4
   hfs_tool repair disk.img mended.img
   hfs_tool run disk.img calls.txt --now 3000000000 --out disk.img
@@ -200,7 +253,8 @@ fn command<'a>(alloc: Global) -> Result<Command<'a>, AllocError> {
     let with_list = with_word(with_check, list_command(alloc));
     let with_items = with_word(with_list, items_command(alloc));
     let with_cat = with_word(with_items, cat_command(alloc));
-    let with_new = with_word(with_cat, new_command(alloc));
+    let with_volumes = with_word(with_cat, volumes_command(alloc));
+    let with_new = with_word(with_volumes, new_command(alloc));
     let with_repair = with_word(with_new, repair_command(alloc));
     with_word(with_repair, run_command(alloc))
 }
@@ -240,16 +294,18 @@ fn with_made_argument<'a>(
 }
 
 fn info_command<'a>(alloc: Global) -> Result<Command<'a>, AllocError> {
-    Command::new(alloc, "info")
+    let with_image = Command::new(alloc, "info")
         .about("Prints the fields of a volume's master directory block")
-        .arg(image(alloc))
+        .arg(image(alloc));
+    with_argument(with_image, volume(alloc))
 }
 
 fn check_command<'a>(alloc: Global) -> Result<Command<'a>, AllocError> {
-    Command::new(alloc, "check")
+    let with_image = Command::new(alloc, "check")
         .about("Checks a volume, and prints its counts or its first fault")
         .after_help(CHECKS)
-        .arg(image(alloc))
+        .arg(image(alloc));
+    with_argument(with_image, volume(alloc))
 }
 
 /// The ID of a folder, the root's where it isn't given.
@@ -263,7 +319,8 @@ fn list_command<'a>(alloc: Global) -> Result<Command<'a>, AllocError> {
             "Prints a line for each child of a folder: kind, ID, valence or data length, 0 or resource length, name",
         )
         .arg(image(alloc));
-    with_argument(with_image, folder(alloc))
+    let with_folder = with_argument(with_image, folder(alloc));
+    with_argument(with_folder, volume(alloc))
 }
 
 /// The names of the formats of a table.
@@ -287,7 +344,8 @@ fn items_command<'a>(alloc: Global) -> Result<Command<'a>, AllocError> {
         )
         .after_help(COLUMNS)
         .arg(image(alloc));
-    with_argument(with_image, format(alloc))
+    let with_format = with_argument(with_image, format(alloc));
+    with_argument(with_format, volume(alloc))
 }
 
 /// The choice of a file's resource fork.
@@ -317,7 +375,20 @@ fn cat_command<'a>(alloc: Global) -> Result<Command<'a>, AllocError> {
     let with_dir = with_argument(with_image, dir);
     let with_name = with_argument(with_dir, name(alloc).help("The file's name"));
     let with_resource = with_argument(with_name, resource(alloc));
-    with_made_argument(with_resource, macbinary(alloc))
+    let with_macbinary = with_made_argument(with_resource, macbinary(alloc));
+    with_argument(with_macbinary, volume(alloc))
+}
+
+fn volumes_command<'a>(alloc: Global) -> Result<Command<'a>, AllocError> {
+    let file = word(alloc, "FILE").help(
+        "The file that volumes are looked for in; it may be a device",
+    );
+    Command::new(alloc, "volumes")
+        .about(
+            "Prints a line for each HFS volume in a file: number, how it lies, first byte, bytes, name",
+        )
+        .after_help(VOLUMES)
+        .arg(file)
 }
 
 fn new_command<'a>(alloc: Global) -> Result<Command<'a>, AllocError> {
@@ -386,7 +457,7 @@ fn matches_of<'a>(alloc: Global, words: &'a [String]) -> Result<ArgMatches<'a>, 
 fn words_of<'a>(matches: &ArgMatches<'a>) -> Words<'a> {
     match matches.subcommand() {
         Some((word, inner)) => words_behind(word, inner),
-        None => Words::Info { image: None },
+        None => Words::StandardInput,
     }
 }
 
@@ -395,14 +466,20 @@ fn words_behind<'a>(word: &str, inner: &ArgMatches<'a>) -> Words<'a> {
     match word {
         "check" => Words::Check {
             image: text_of(inner, "IMAGE"),
+            volume: volume_of(inner),
         },
         "ls" => Words::List {
             image: text_of(inner, "IMAGE"),
+            volume: volume_of(inner),
             dir: number_of(inner, "DIR"),
         },
         "items" => Words::Items {
             image: text_of(inner, "IMAGE"),
+            volume: volume_of(inner),
             format: format_of(inner),
+        },
+        "volumes" => Words::Volumes {
+            file: text_of(inner, "FILE"),
         },
         "cat" => cat_words(inner),
         "new" => new_words(inner),
@@ -417,7 +494,8 @@ fn words_behind<'a>(word: &str, inner: &ArgMatches<'a>) -> Words<'a> {
 
 fn info_words<'a>(matches: &ArgMatches<'a>) -> Words<'a> {
     Words::Info {
-        image: matches.get_str("IMAGE"),
+        image: text_of(matches, "IMAGE"),
+        volume: volume_of(matches),
     }
 }
 
@@ -434,6 +512,7 @@ fn cat_words<'a>(matches: &ArgMatches<'a>) -> Words<'a> {
     if matches.get_flag("macbinary") {
         Words::MacBinary(FileWords {
             image: text_of(matches, "IMAGE"),
+            volume: volume_of(matches),
             dir: number_of(matches, "DIR"),
             name: text_of(matches, "NAME"),
         })
@@ -450,6 +529,7 @@ fn fork_words<'a>(matches: &ArgMatches<'a>) -> Words<'a> {
     };
     Words::Cat(ForkWords {
         image: text_of(matches, "IMAGE"),
+        volume: volume_of(matches),
         dir: number_of(matches, "DIR"),
         name: text_of(matches, "NAME"),
         fork,
@@ -486,4 +566,9 @@ fn text_of<'a>(matches: &ArgMatches<'a>, id: &str) -> &'a str
 /// The number of a word that has to be there or has a default.
 fn number_of(matches: &ArgMatches<'_>, id: &str) -> u32 {
     matches.get_one::<u32>(id).unwrap_or(0)
+}
+
+/// The number of a volume in an image, where one is asked for.
+fn volume_of(matches: &ArgMatches<'_>) -> Option<u64> {
+    matches.get_one::<u64>("volume")
 }

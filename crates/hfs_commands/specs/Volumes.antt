@@ -1,0 +1,73 @@
+-- What is printed of the volumes in a file.
+use Rattle.std.specs.Prelude.{ℕ, ◌+◌, Bool, true, false, ◌==◌, List, [], ◌∷◌, ◌++◌, take, codes, Option, None, Some}
+use Rattle.std.specs.Fmt.{decimal}
+use Rattle.hfs_names.specs.PlainTexts.{plain_text}
+use Rattle.hfs_containers.specs.declared.ranges.Container.{Container}
+use Rattle.hfs_containers.specs.declared.ranges.Container.TheVariants.{Bare, MacBinary, DiskCopy, Partition}
+use Rattle.hfs_containers.specs.declared.ranges.FoundRange.{FoundRange}
+use Rattle.hfs_containers.specs.Ranges.{bytes_in, volume_name_in}
+use Rattle.hfs_containers.specs.Found.{found_in}
+use Rattle.hfs_containers.specs.Sums.{sum_of}
+
+-- how a range lies in the file
+abbrev pub container_text : Container → List ℕ
+container_text Bare = codes "bare"
+container_text MacBinary = codes "macbinary"
+container_text (DiskCopy sum) = codes "disk copy"
+container_text Partition = codes "partition"
+
+-- the plain text of a name in its field of a length byte and characters
+unfoldable pub name_text : List ℕ → List ℕ
+name_text [] = []
+name_text (len ∷ characters) = plain_text (take len characters)
+
+-- the name of the volume, if there is one
+abbrev pub name_field : Option (List ℕ) → List ℕ
+name_field None = []
+name_field (Some name) = name_text name
+
+-- whether the sum that a disk copy's header tells is that of its data; None of what has no header
+abbrev pub sum_told : Container → List ℕ → Option Bool
+sum_told Bare bytes = None
+sum_told MacBinary bytes = None
+sum_told (DiskCopy sum) bytes = Some (sum_of bytes == sum)
+sum_told Partition bytes = None
+
+abbrev pub sum_field : Option Bool → List ℕ
+sum_field None = []
+sum_field (Some true) = codes "\tsum right"
+sum_field (Some false) = codes "\tsum wrong"
+
+-- what is told where there is no volume
+abbrev pub missing_field : Option (List ℕ) → List ℕ
+missing_field None = codes "\tno volume"
+missing_field (Some name) = []
+
+-- number, how it lies, first byte, bytes
+unfoldable pub place_fields : ℕ → FoundRange → List ℕ
+place_fields number found =
+    decimal number ++ codes "\t" ++ container_text found.container ++ codes "\t" ++ decimal found.range.start ++ codes "\t" ++ decimal found.range.len
+
+-- the line of a range, of the name of its volume and of what is told of its sum
+unfoldable pub volume_line : ℕ → FoundRange → Option (List ℕ) → Option Bool → List ℕ
+volume_line number found name sum =
+    place_fields number found ++ codes "\t" ++ name_field name ++ sum_field sum ++ missing_field name ++ codes "\n"
+
+-- the line of a range of a file
+unfoldable pub line_of : ℕ → FoundRange → List ℕ → List ℕ
+line_of number found file =
+    volume_line number found (volume_name_in found.range file) (sum_told found.container (bytes_in found.range file))
+
+-- the lines of these ranges, with numbers from this one on
+unfoldable pub lines_from : ℕ → List FoundRange → List ℕ → List ℕ
+lines_from number [] file = []
+lines_from number (found ∷ ranges) file = line_of number found file ++ lines_from (number + 1) ranges file
+
+-- the lines of what was found, if anything was
+abbrev pub lines_of : List FoundRange → List ℕ → Option (List ℕ)
+lines_of [] file = None
+lines_of (found ∷ ranges) file = Some (lines_from 1 (found ∷ ranges) file)
+
+-- the lines of a file's volumes
+unfoldable pub volume_lines : List ℕ → Option (List ℕ)
+volume_lines file = lines_of (found_in file) file

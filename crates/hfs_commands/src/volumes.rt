@@ -1,0 +1,172 @@
+//! What is told of the volumes in a file.
+ghost use Rattle.std.specs.Prelude.{◌≡◌, ◌++◌, IfOk, OnOk, string_bytes};
+ghost use Rattle.std.specs.Option.{option_map};
+ghost use Rattle.hfs_containers.specs.Ranges.{bytes_in};
+ghost use Rattle.hfs_containers.specs.Reading.{IsTold, IsToldOf};
+ghost use Rattle.hfs_texts.specs.Texts.{Gains};
+ghost use Rattle.hfs_commands.specs.Volumes.{container_text, line_of, lines_from, missing_field, name_field, name_text, place_fields, sum_field, sum_told, volume_line, volume_lines};
+
+use hfs_containers::{Container, FoundRange, ReadAt, data_sum, find_ranges, volume_name};
+use hfs_names::push_plain_text;
+use hfs_sparse::SparseFault;
+use std::alloc::{AllocError, Global};
+
+/// Appends how a range lies in its file.
+fn push_container(text: &mut String, container: Container) -> Result<(), AllocError>
+    ensures { OnOk result (Gains text.old text.new (container_text container)) }
+{
+    match container {
+        Container::Bare => text.push_str("bare"),
+        Container::MacBinary => text.push_str("macbinary"),
+        Container::DiskCopy { .. } => text.push_str("disk copy"),
+        Container::Partition => text.push_str("partition"),
+    }
+}
+
+/// Appends the plain text of a name in its field of a length byte and characters.
+#[tactic(auto, unfolding(crate::specs::Volumes::name_text))]
+fn push_name(text: &mut String, name: &[u8]) -> Result<(), AllocError>
+    ensures { OnOk result (Gains text.old text.new (name_text name.now)) }
+{
+    match name {
+        [] => Ok(()),
+        [len, characters @ ..] => {
+            let len = characters.len().min(usize::from(*len));
+            push_plain_text(text, &characters[..len])
+        }
+    }
+}
+
+/// Appends the name of a volume, where there is one.
+fn push_name_field(text: &mut String, name: &Option<[u8; 28]>) -> Result<(), AllocError>
+    ensures { OnOk result (Gains text.old text.new (name_field name.now)) }
+{
+    match name {
+        Some(name) => push_name(text, name),
+        None => Ok(()),
+    }
+}
+
+/// Appends whether the sum is right, where there is one.
+fn push_sum_field(text: &mut String, sum: Option<bool>) -> Result<(), AllocError>
+    ensures { OnOk result (Gains text.old text.new (sum_field sum)) }
+{
+    match sum {
+        Some(true) => text.push_str("\tsum right"),
+        Some(false) => text.push_str("\tsum wrong"),
+        None => Ok(()),
+    }
+}
+
+/// Appends that there is no volume, where there is none.
+fn push_missing_field(text: &mut String, name: &Option<[u8; 28]>) -> Result<(), AllocError>
+    ensures { OnOk result (Gains text.old text.new (missing_field name.now)) }
+{
+    match name {
+        Some(_) => Ok(()),
+        None => text.push_str("\tno volume"),
+    }
+}
+
+/// Appends a range's number, how it lies, its first byte and how many bytes it has.
+#[tactic(auto, unfolding(crate::specs::Volumes::place_fields))]
+fn push_place(text: &mut String, number: u64, found: &FoundRange) -> Result<(), AllocError>
+    ensures { OnOk result (Gains text.old text.new (place_fields number found.now)) }
+{
+    write!(text, "{}", number)?;
+    text.push('\t')?;
+    push_container(text, found.container)?;
+    text.push('\t')?;
+    write!(text, "{}", found.range.start)?;
+    text.push('\t')?;
+    write!(text, "{}", found.range.len)
+}
+
+/// Appends the line of a range, with the name of its volume and what is told of its sum.
+#[tactic(auto, unfolding(crate::specs::Volumes::volume_line))]
+fn push_volume_line(
+    text: &mut String,
+    number: u64,
+    found: &FoundRange,
+    name: &Option<[u8; 28]>,
+    sum: Option<bool>,
+) -> Result<(), AllocError>
+    ensures { OnOk result (Gains text.old text.new (volume_line number found.now name.now sum)) }
+{
+    push_place(text, number, found)?;
+    text.push('\t')?;
+    push_name_field(text, name)?;
+    push_sum_field(text, sum)?;
+    push_missing_field(text, name)?;
+    text.push('\n')
+}
+
+/// Whether the sum that a disk copy's header tells is that of its data, which is read. None of another range.
+fn sum_told<S: ReadAt>(source: &mut S, found: &FoundRange) -> Result<Option<bool>, SparseFault>
+    ensures told { IfOk result (IsTold (S.known source.old)
+        (λ file. sum_told found.now.container (bytes_in found.now.range file))) }
+    ensures known { S.known source.new ≡ S.known source.old }
+{
+    match found.container {
+        Container::DiskCopy { sum } => {
+            let own = data_sum(source, found.range)?;
+            Ok(Some(own == sum))
+        }
+        Container::Bare | Container::MacBinary | Container::Partition => Ok(None),
+    }
+}
+
+/// Appends the line of a range of a file.
+fn push_line_of<S: ReadAt>(
+    text: &mut String,
+    source: &mut S,
+    number: u64,
+    found: &FoundRange,
+) -> Result<(), SparseFault>
+    ensures line { OnOk result (IsTold (S.known source.old)
+        (λ file. string_bytes text.old ++ line_of number found.now file) (string_bytes text.new)) }
+    ensures known { S.known source.new ≡ S.known source.old }
+{
+    let name = volume_name(source, found.range)?;
+    let sum = sum_told(source, found)?;
+    match push_volume_line(text, number, found, &name, sum) {
+        Ok(()) => Ok(()),
+        Err(_) => Err(SparseFault::Memory),
+    }
+}
+
+/// Appends the lines of these ranges, with numbers from 1 on.
+fn push_lines<S: ReadAt>(
+    text: &mut String,
+    source: &mut S,
+    ranges: &[FoundRange],
+) -> Result<(), SparseFault>
+    ensures lines { OnOk result (IsTold (S.known source.old)
+        (λ file. string_bytes text.old ++ lines_from 1 ranges.now file) (string_bytes text.new)) }
+    ensures known { S.known source.new ≡ S.known source.old }
+{
+    for i in 0..ranges.len() {
+        push_line_of(text, source, i as u64 + 1, &ranges[i])?;
+    }
+    Ok(())
+}
+
+/// The lines of the volumes that lie in a file of `len` bytes, counted from 1: number, how it lies, the byte where it begins, its bytes, the plain text
+/// of its name, with tabs between; behind these whether a disk copy's sum is right, and whether there is no volume in the range. None where there
+/// is no line. Errors: a read failed, memory was refused.
+pub fn volume_lines<S: ReadAt>(
+    alloc: Global,
+    source: &mut S,
+    len: u64,
+) -> Result<Option<String>, SparseFault>
+    ensures { IfOk result (λ told. IsToldOf (S.known source.old) len volume_lines
+        (option_map string_bytes told)) }
+{
+    let ranges = find_ranges(alloc, source, len)?;
+    if ranges.is_empty() {
+        return Ok(None);
+    }
+    let mut text = String::new(alloc);
+    push_lines(&mut text, source, &ranges)?;
+    Ok(Some(text))
+}

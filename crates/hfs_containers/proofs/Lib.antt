@@ -1,0 +1,5 @@
+pub mod Told
+pub mod Shorter
+mod Entries
+mod SumLemmas
+mod Windows

@@ -1,0 +1,36 @@
+-- All that is found in a file.
+use Rattle.std.specs.Prelude.{ℕ, ◌-◌, Bool, ◌&&◌, ◌==◌, if◌then◌else◌, List, [], ◌∷◌, ◌++◌, length, Option, None, slice_get}
+use Rattle.std.specs.List.{fold, list_any}
+use Rattle.std.specs.Option.{option_to_list}
+use Rattle.hfs_containers.specs.declared.ranges.ByteRange.{ByteRange}
+use Rattle.hfs_containers.specs.declared.ranges.Container.TheVariants.{Bare}
+use Rattle.hfs_containers.specs.declared.ranges.FoundRange.{FoundRange}
+use Rattle.hfs_containers.specs.Ranges.{range_of, volume_as}
+use Rattle.hfs_containers.specs.MacBinary.{macbinary_in}
+use Rattle.hfs_containers.specs.DiskCopy.{disk_copy_in}
+use Rattle.hfs_containers.specs.PartitionMap.{partitions_in}
+
+-- the ranges as they are looked for, in a file of so many bytes: the file itself, MacBinary, Disk Copy, a partition map
+unfoldable pub looked_for : ℕ → List ℕ → List FoundRange
+looked_for len file =
+    option_to_list (volume_as Bare (range_of 0 len) file) ++ option_to_list (macbinary_in len file) ++ option_to_list (disk_copy_in (range_of 0 len) file)
+    ++ partitions_in len file
+
+unfoldable pub is_same_range : ByteRange → ByteRange → Bool
+is_same_range a b = (a.start == b.start) && (a.len == b.len)
+
+-- behind those that were found before, where its range is none of theirs
+unfoldable pub with_new : List FoundRange → FoundRange → List FoundRange
+with_new found next = if list_any (λ (other : FoundRange). is_same_range other.range next.range) found then found else found ++ next ∷ []
+
+-- each range once, where it stands first
+unfoldable pub each_once : List FoundRange → List FoundRange
+each_once ranges = fold with_new [] ranges
+
+-- what is found in a file
+unfoldable pub found_in : List ℕ → List FoundRange
+found_in file = each_once (looked_for (length file) file)
+
+-- the n-th of them, counted from 1
+unfoldable pub nth_found_in : ℕ → List ℕ → Option FoundRange
+nth_found_in n file = if n == 0 then None else slice_get (found_in file) (n - 1)

@@ -1,0 +1,7 @@
+pub mod Reading
+pub mod Ranges
+pub mod MacBinary
+pub mod DiskCopy
+pub mod PartitionMap
+pub mod Found
+pub mod Sums

@@ -1,0 +1,109 @@
+//! All that is found in a file.
+ghost use Rattle.std.specs.Prelude.{◌≡◌, IfOk, OnOk};
+ghost use Rattle.std.specs.List.{list_any};
+ghost use Rattle.hfs_containers.specs.Reading.{IsTold, IsToldOf};
+ghost use Rattle.hfs_containers.specs.Found.{each_once, found_in, is_same_range, looked_for, nth_found_in, with_new};
+
+use crate::disk_copy::disk_copy_in;
+use crate::macbinary::macbinary_in;
+use crate::partition_map::push_partitions;
+use crate::ranges::{ByteRange, Container, FoundRange, push_found};
+use crate::source::ReadAt;
+use crate::volumes::volume_as;
+use hfs_sparse::SparseFault;
+use std::alloc::Global;
+
+/// The ranges as they are looked for, in a file of `len` bytes.
+#[tactic(auto, unfolding(crate::specs::Found::looked_for))]
+fn looked_for<S: ReadAt>(
+    alloc: Global,
+    source: &mut S,
+    len: u64,
+) -> Result<Vec<FoundRange>, SparseFault>
+    ensures found { IfOk result (λ found. IsTold (S.known source.old) (looked_for len) found.items) }
+    ensures known { S.known source.new ≡ S.known source.old }
+{
+    let file = ByteRange { start: 0, len };
+    let mut found = Vec::new(alloc);
+    let bare = volume_as(source, Container::Bare, file)?;
+    push_found(&mut found, bare)?;
+    let macbinary = macbinary_in(source, len)?;
+    push_found(&mut found, macbinary)?;
+    let disk_copy = disk_copy_in(source, file)?;
+    push_found(&mut found, disk_copy)?;
+    push_partitions(source, len, &mut found)?;
+    Ok(found)
+}
+
+#[tactic(auto, unfolding(crate::specs::Found::is_same_range))]
+fn is_same_range(a: &ByteRange, b: &ByteRange) -> bool
+    ensures { result ≡ is_same_range a.now b.now }
+{
+    a.start == b.start && a.len == b.len
+}
+
+/// Whether a range stands among those that were found.
+fn has_range(found: &[FoundRange], range: &ByteRange) -> bool
+    ensures { result ≡ list_any (λ (other : FoundRange). is_same_range other.range range.now) found.now }
+{
+    found.iter().any(|other| is_same_range(&other.range, range))
+}
+
+/// Appends a range that was not found before.
+#[tactic(auto, unfolding(crate::specs::Found::with_new))]
+fn push_new(found: &mut Vec<FoundRange>, next: FoundRange) -> Result<(), SparseFault>
+    ensures { OnOk result (found.new.items ≡ with_new found.old.items next) }
+{
+    if has_range(found, &next.range) {
+        return Ok(());
+    }
+    match found.push(next) {
+        Ok(()) => Ok(()),
+        Err(_) => Err(SparseFault::Memory),
+    }
+}
+
+/// Each range once, where it stands first.
+#[tactic(auto, unfolding(crate::specs::Found::each_once))]
+fn each_once(alloc: Global, ranges: &[FoundRange]) -> Result<Vec<FoundRange>, SparseFault>
+    ensures { IfOk result (λ found. found.items ≡ each_once ranges.now) }
+{
+    let mut found = Vec::new(alloc);
+    for next in ranges {
+        push_new(&mut found, *next)?;
+    }
+    Ok(found)
+}
+
+/// The ranges of a file of `len` bytes that are told of, each once, in the order in which they are looked for: the whole file and the data fork of
+/// a MacBinary file where they hold a volume, the data of a disk copy (also in that fork), and the partitions of type Apple_HFS. Errors: a read
+/// failed, memory was refused.
+pub fn find_ranges<S: ReadAt>(
+    alloc: Global,
+    source: &mut S,
+    len: u64,
+) -> Result<Vec<FoundRange>, SparseFault>
+    ensures found { IfOk result (λ found. IsToldOf (S.known source.old) len found_in found.items) }
+    ensures known { S.known source.new ≡ S.known source.old }
+{
+    let ranges = looked_for(alloc, source, len)?;
+    each_once(alloc, &ranges)
+}
+
+/// The `n`-th range that is found in a file of `len` bytes, counted from 1. None where there are fewer, and for 0. Errors as [`find_ranges`] has them.
+#[tactic(auto, unfolding(crate::specs::Found::nth_found_in))]
+pub fn nth_range<S: ReadAt>(
+    alloc: Global,
+    source: &mut S,
+    len: u64,
+    n: u64,
+) -> Result<Option<FoundRange>, SparseFault>
+    ensures nth { IfOk result (IsToldOf (S.known source.old) len (nth_found_in n)) }
+    ensures known { S.known source.new ≡ S.known source.old }
+{
+    if n == 0 {
+        return Ok(None);
+    }
+    let found = find_ranges(alloc, source, len)?;
+    Ok(found.get(n as usize - 1).copied())
+}

@@ -1,0 +1,23 @@
+//! Where volumes lie in a file: the file itself, MacBinary, Disk Copy 4.2, partition maps; and a range of a file, read as if
+//! it were the file.
+#![tactic(auto)]
+
+mod disk_copy;
+mod finding;
+mod macbinary;
+mod partition_map;
+mod pieces;
+mod placed;
+mod ranges;
+mod source;
+mod sums;
+mod volumes;
+mod window;
+
+pub use crate::finding::{find_ranges, nth_range};
+pub use crate::placed::PlacedFile;
+pub use crate::ranges::{ByteRange, Container, FoundRange};
+pub use crate::source::ReadAt;
+pub use crate::sums::data_sum;
+pub use crate::volumes::volume_name;
+pub use crate::window::Window;

@@ -1,0 +1,84 @@
+//! MacBinary files, as far as to their data fork. Source: MacBinary II Standard Proposal (1987).
+ghost use Rattle.std.specs.Prelude.{◌≡◌, ◌+◌, ◌^◌, ◌<◌, IfOk, IfSome};
+ghost use Rattle.hfs_containers.specs.Reading.{IsTold};
+ghost use Rattle.hfs_containers.specs.MacBinary.{data_fork_in, data_fork_of, filled, found_in_fork, is_macbinary_head, macbinary_in};
+
+use crate::disk_copy::disk_copy_in;
+use crate::pieces::piece_at;
+use crate::ranges::{ByteRange, Container, FoundRange};
+use crate::source::ReadAt;
+use crate::volumes::volume_as;
+use hfs_fields::{u16_at, u32_at};
+use hfs_sparse::SparseFault;
+
+/// How many bytes the header has.
+const HEAD: u64 = 128;
+
+#[tactic(auto, unfolding(crate::specs::MacBinary::is_macbinary_head))]
+fn is_macbinary_head(head: &[u8; 128]) -> bool
+    ensures { result ≡ is_macbinary_head head.now }
+{
+    head[0] == 0 && head[1] >= 1 && head[1] <= 63 && head[74] == 0 && head[82] == 0
+}
+
+/// So many bytes, filled up to a multiple of 128.
+fn filled(len: u16) -> u64
+    ensures filled { result ≡ filled len }
+    ensures small { result < 2 ^ 17 }
+{
+    (u64::from(len) + 127) / 128 * 128
+}
+
+/// The data fork of a file of `len` bytes with this header: behind it, and behind a second one whose length it tells.
+#[tactic(auto, unfolding(crate::specs::MacBinary::data_fork_of))]
+fn data_fork_of(len: u64, head: &[u8; 128]) -> Option<ByteRange>
+    ensures fork { result ≡ data_fork_of len head.now }
+    ensures small { IfSome result (λ fork. fork.start < 2 ^ 18) }
+{
+    let start = HEAD + filled(u16_at(head, 120));
+    let bytes = u64::from(u32_at(head, 83));
+    if is_macbinary_head(head) && start + bytes <= len {
+        Some(ByteRange { start, len: bytes })
+    } else {
+        None
+    }
+}
+
+/// The data fork of a MacBinary file of `len` bytes.
+fn data_fork_in<S: ReadAt>(source: &mut S, len: u64) -> Result<Option<ByteRange>, SparseFault>
+    ensures fork { IfOk result (IsTold (S.known source.old) (data_fork_in len)) }
+    ensures small { IfOk result (λ fork. IfSome fork (λ fork. fork.start < 2 ^ 18)) }
+    ensures known { S.known source.new ≡ S.known source.old }
+{
+    if len < HEAD {
+        return Ok(None);
+    }
+    let head = piece_at(source, 0)?;
+    Ok(data_fork_of(len, &head))
+}
+
+/// In a data fork a disk copy, or else a volume.
+fn found_in_fork<S: ReadAt>(
+    source: &mut S,
+    fork: ByteRange,
+) -> Result<Option<FoundRange>, SparseFault>
+    requires { fork.start < 2 ^ 18 }
+    ensures found { IfOk result (IsTold (S.known source.old) (found_in_fork fork)) }
+    ensures known { S.known source.new ≡ S.known source.old }
+{
+    match disk_copy_in(source, fork)? {
+        Some(found) => Ok(Some(found)),
+        None => volume_as(source, Container::MacBinary, fork),
+    }
+}
+
+/// What lies in the data fork of a MacBinary file of `len` bytes.
+pub fn macbinary_in<S: ReadAt>(source: &mut S, len: u64) -> Result<Option<FoundRange>, SparseFault>
+    ensures found { IfOk result (IsTold (S.known source.old) (macbinary_in len)) }
+    ensures known { S.known source.new ≡ S.known source.old }
+{
+    match data_fork_in(source, len)? {
+        Some(fork) => found_in_fork(source, fork),
+        None => Ok(None),
+    }
+}

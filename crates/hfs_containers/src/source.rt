@@ -1,0 +1,17 @@
+//! Where bytes are read from.
+ghost use Rattle.std.specs.Prelude.{◌≡◌, List, ℕ, Option, OnOk};
+ghost use Rattle.hfs_sparse.specs.Sparse.{HoldsFrom};
+
+use std::io;
+
+/// A file whose bytes can be read from any place on, where each read may fail.
+pub trait ReadAt {
+    /// The file's bytes, where they are known. A file on a disk doesn't tell them.
+    ghost known: { Self → Option (List ℕ) };
+
+    /// Reads the bytes from `place` on, counted from 0, as many as there is room for in `into`. Error: the read failed, or the
+    /// file ends before the room is full.
+    fn read_at(&mut self, place: u64, into: &mut [u8]) -> io::Result<()>
+        ensures read { OnOk result (HoldsFrom (known self.old) place into.new) }
+        ensures known { known self.new ≡ known self.old };
+}

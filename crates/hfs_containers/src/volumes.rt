@@ -1,0 +1,66 @@
+//! Whether a range holds a volume.
+ghost use Rattle.std.specs.Prelude.{◌≡◌, IfOk};
+ghost use Rattle.hfs_containers.specs.Reading.{IsTold};
+ghost use Rattle.hfs_containers.specs.Ranges.{signed_name, volume_as, volume_name_in};
+
+use crate::pieces::piece_at;
+use crate::ranges::{ByteRange, Container, FoundRange};
+use crate::source::ReadAt;
+use hfs_fields::u16_at;
+use hfs_sparse::SparseFault;
+
+/// The signature of an HFS volume, in drSigWord.
+const SIGNATURE: u16 = 0x4244;
+
+/// The fewest bytes of a volume: its boot blocks and its master directory block.
+const SHORTEST: u64 = 1_536;
+
+/// The byte of a volume where its master directory block begins.
+const BLOCK_PLACE: u64 = 1_024;
+
+/// The name's field of a master directory block, where it is signed.
+#[tactic(auto, unfolding(crate::specs::Ranges::signed_name))]
+fn signed_name(block: &[u8; 64]) -> Option<[u8; 28]>
+    ensures { result ≡ signed_name block.now }
+{
+    if u16_at(block, 0) != SIGNATURE {
+        return None;
+    }
+    let mut name = [0; 28];
+    name.copy_from_slice(&block[36..64]);
+    Some(name)
+}
+
+/// The name's field (drVN, a length byte and 27 characters) of the volume that a range holds. None exactly where it has fewer than 1,536
+/// bytes or another signature. Errors: the read failed, or the file ends before the range.
+pub fn volume_name<S: ReadAt>(
+    source: &mut S,
+    range: ByteRange,
+) -> Result<Option<[u8; 28]>, SparseFault>
+    ensures name { IfOk result (IsTold (S.known source.old) (volume_name_in range)) }
+    ensures known { S.known source.new ≡ S.known source.old }
+{
+    if range.len < SHORTEST {
+        return Ok(None);
+    }
+    let Some(place) = range.start.checked_add(BLOCK_PLACE) else {
+        return Err(SparseFault::ReadFailed);
+    };
+    let block = piece_at(source, place)?;
+    Ok(signed_name(&block))
+}
+
+/// The range, where it holds a volume.
+pub fn volume_as<S: ReadAt>(
+    source: &mut S,
+    container: Container,
+    range: ByteRange,
+) -> Result<Option<FoundRange>, SparseFault>
+    ensures found { IfOk result (IsTold (S.known source.old) (volume_as container range)) }
+    ensures known { S.known source.new ≡ S.known source.old }
+{
+    match volume_name(source, range)? {
+        Some(_) => Ok(Some(FoundRange { container, range })),
+        None => Ok(None),
+    }
+}
