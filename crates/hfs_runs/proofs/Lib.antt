@@ -2,6 +2,8 @@ mod Reading
 mod Parts
 mod Small
 mod Texts
+mod OneJournal
+mod Learning
 mod Working
 mod Counting
 mod OneRun

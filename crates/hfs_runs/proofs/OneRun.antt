@@ -1,5 +1,5 @@
 -- A run, out of what each of its steps gave.
-use Rattle.std.proofs.Common.{◌≡◌, ◌∙◌, ℕ, zero, suc, ◌+◌, ◌<◌, Bool, List, [], ◌∷◌, map, length, get_or, subst, arith, Result, Ok}
+use Rattle.std.proofs.Common.{◌≡◌, ◌∙◌, ℕ, ◌+◌, ◌<◌, Bool, true, false, List, [], map, length, get_or, subst, arith, Ok}
 use Rattle.std.specs.List.{All}
 use Rattle.logbook.specs.Pages.{Book}
 use Rattle.hfs_model.specs.declared.call.Call.{Call}
@@ -12,6 +12,8 @@ use Rattle.hfs_scripts.specs.declared.lines.ScriptLine.{ScriptLine}
 use Rattle.hfs_scripts.specs.Callers.{calls_of, workers, viewers}
 use Rattle.hfs_scripts.specs.Scripts.{script_of}
 use Rattle.hfs_published.specs.Histories.{Known, known, opened}
+use Rattle.hfs_published.specs.Laws.{PublishedIsAfter}
+use Rattle.hfs_shared.specs.Closings.{IsWhether}
 use Rattle.hfs_shared.specs.declared.done.Done.{Done}
 use Rattle.hfs_shared.specs.Desks.{PassState}
 use Rattle.hfs_runs.specs.declared.numbering.Asked.{Asked}
@@ -19,7 +21,8 @@ use Rattle.hfs_runs.specs.declared.viewing.Viewing.{Viewing}
 use Rattle.hfs_runs.specs.Answers.{answers_text, is_whole, replies_of}
 use Rattle.hfs_runs.specs.Asking.{AreNumbered}
 use Rattle.hfs_runs.specs.Runs.{IsHandedOut, IsRan, IsRun}
-use Rattle.hfs_runs.proofs.Working.{AreJobs, AreDone, AreViewings, AreViewed, worked_at, made_at, viewed_at}
+use Rattle.hfs_runs.specs.Tellings.{AreWhole, OfEach}
+use Rattle.hfs_runs.proofs.Working.{AreJobs, AreDone, AreViewings, AreViewed, IsEnd, worked_at, made_at, stand_at, viewed_at}
 
 all_at : {X : Type 0} (P : X → Type 0) (xs : List X) (i : ℕ) (d : X) → All P xs → i < length xs → P (get_or xs i d)
 all_at P xs i d all below = all i d below
@@ -35,27 +38,39 @@ begun book opening lines count seen lent many all same views calls =
       calls_are = λ i v below. calls i v (omega (arith, many));
     }
 
-pub ran : {V : Type 0} (items : V → List Call) (book : Book) (opening : Volume) (lines : List ScriptLine) (volume : ImageValue) (text : List ℕ) (whole : Bool) (asked : List Asked) (passes : List PassState)
+when_true : {P : Type 0} (b : Bool) → b ≡ true → IsWhether b P → P
+when_true true is h = h
+when_true false is h = absurd (cc is)
+
+pub ran : {V : Type 0} (items : V → List Call) (book : Book) (image : List ℕ) (lines : List ScriptLine) (volume : ImageValue) (text : List ℕ) (whole shown : Bool) (asked : List Asked) (passes : List PassState)
     (jobs : List (PassState × V)) (dones : List Done) (begun ended : List Viewing) → AreNumbered (map (λ (line : ScriptLine). line.caller) lines) asked → AreJobs items lines (workers lines) passes jobs
-    → AreDone items book opening jobs dones → AreViewings book opening lines (viewers lines) begun → AreViewed begun ended → text ≡ answers_text (replies_of dones ended) asked
-    → whole ≡ is_whole (replies_of dones ended) asked → IsHandedOut opening volume (map (λ (done : Done). done.pass) dones) → IsRan opening lines volume text whole
-ran items book opening lines volume text whole asked passes jobs dones begun ended numbered begins done views viewed text_is whole_is out =
+    → AreDone items book (volume_of image) jobs dones → AreViewings book (volume_of image) lines (viewers lines) begun → AreViewed begun ended → text ≡ answers_text (replies_of dones ended) asked
+    → whole ≡ is_whole (replies_of dones ended) asked → PublishedIsAfter → IsWhether shown (OfEach AreWhole dones) → IsHandedOut image volume dones → IsRan image lines volume text whole shown
+ran items book image lines volume text whole shown asked passes jobs dones begun ended numbered begins done views viewed text_is whole_is law shown_is out =
+    let opening = volume_of image in
+    let closed = out.closed in
+    let end : IsEnd opening out.journal out.shown out.before.list out.afterwards.list dones =
+    record { legal = closed.legal; learned = out.learned; begins = closed.begins; published_is = closed.seen } in
     record {
       book = book;
-      journal = out.0;
+      journal = out.journal;
       replies = replies_of dones ended;
       asked = asked;
       numbered = numbered;
       text_is = text_is;
       whole_is = whole_is;
-      legal = out.4.legal;
-      follows = out.4.follows;
-      made = λ place below. made_at items book opening lines (workers lines) passes jobs dones out.0 begins done out.4.all place below;
+      base_is = closed.base_is;
+      agrees = closed.agrees;
+      legal = closed.legal;
+      follows = closed.follows;
+      made = λ place below. made_at items book opening lines (workers lines) passes jobs dones out.journal begins done closed.all place below;
       worked = λ place below. worked_at items book opening lines (workers lines) passes jobs dones begins done place below;
       viewed = λ place below. viewed_at book opening lines (viewers lines) begun ended views viewed place below;
+      stands = λ yes place below.
+          stand_at items book opening lines (workers lines) passes jobs dones begins done law out.journal out.shown out.before.list out.afterwards.list end (when_true shown yes shown_is) place below;
     }
 
-pub is_run : (now : ℕ) (script image : List ℕ) (lines : List ScriptLine) (opening : Volume) (volume : ImageValue) (text : List ℕ) (whole : Bool) → script_of now script ≡ Ok lines → IsSound image
-    → opening ≡ volume_of image → IsRan opening lines volume text whole → IsRun now script image volume text whole
-is_run now script image lines opening volume text whole reads sound same ran =
-    record { lines = lines; reads = reads; sound = sound; ran = subst (λ (v : Volume). IsRan v lines volume text whole) same ran }
+pub is_run : (now : ℕ) (script image : List ℕ) (lines : List ScriptLine) (base : List ℕ) (volume : ImageValue) (text : List ℕ) (whole shown : Bool) → script_of now script ≡ Ok lines → IsSound image
+    → base ≡ image → IsRan base lines volume text whole shown → IsRun now script image volume text whole shown
+is_run now script image lines base volume text whole shown reads sound same ran =
+    record { lines = lines; reads = reads; sound = sound; ran = subst (λ (b : List ℕ). IsRan b lines volume text whole shown) same ran }

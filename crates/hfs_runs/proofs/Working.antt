@@ -1,9 +1,10 @@
 -- What the workers and viewers of a run were answered, out of their jobs.
-use Rattle.std.proofs.Common.{◌≡◌, ◌∙◌, ℕ, ◌+◌, ◌-◌, ◌<◌, List, [], ◌∷◌, map, length, get_or, refl, sym, ap, subst, arith}
-use Rattle.std.specs.List.{All}
+use Rattle.std.proofs.Common.{◌≡◌, ◌∙◌, ℕ, ◌+◌, ◌-◌, ◌<◌, List, [], ◌∷◌, map, length, get_or, sym, ap, subst, arith}
 use Rattle.std.proofs.lemmas.List.{get_or-map, length-map}
+use mathlib.Core.List.{IsPrefix}
 use Rattle.logbook.specs.Pages.{Book}
 use Rattle.hfs_model.specs.declared.call.Call.{Call}
+use Rattle.hfs_model.specs.declared.call.Call.TheVariants.{GetDirInfo}
 use Rattle.hfs_model.specs.declared.reply.Reply.{Reply}
 use Rattle.hfs_model.specs.declared.journal.Entry.{Entry}
 use Rattle.hfs_model.specs.Volume.{Volume}
@@ -11,7 +12,9 @@ use Rattle.hfs_scripts.specs.declared.lines.Caller.TheVariants.{Worker, Viewer}
 use Rattle.hfs_scripts.specs.declared.lines.ScriptLine.{ScriptLine}
 use Rattle.hfs_scripts.specs.Callers.{calls_of}
 use Rattle.hfs_published.specs.Histories.{Known, known, opened}
-use Rattle.hfs_published.specs.Journals.{made_by}
+use Rattle.hfs_published.specs.declared.item.Item.{Item}
+use Rattle.hfs_published.specs.Journals.{made_by, IsLegal, published}
+use Rattle.hfs_published.specs.Laws.{PublishedIsAfter}
 use Rattle.hfs_published.specs.Tolds.{ToldState}
 use Rattle.hfs_shared.specs.declared.done.Done.{Done}
 use Rattle.hfs_shared.specs.Closings.{AreAllPasses}
@@ -21,6 +24,9 @@ use Rattle.hfs_shared.specs.Works.{IsWork, IsDone}
 use Rattle.hfs_runs.specs.declared.viewing.Viewing.{Viewing}
 use Rattle.hfs_runs.specs.Answers.{worker_replies, viewer_replies}
 use Rattle.hfs_runs.specs.Runs.{IsWorked, IsViewedFrom}
+use Rattle.hfs_runs.specs.Tellings.{AreOf, AreWhole, AllBegin, OfEach}
+use Rattle.hfs_runs.specs.Standing.{Stands, AllStand}
+use Rattle.hfs_runs.proofs.OneJournal.{stands}
 use Rattle.hfs_runs.specs.Views.{AreReads, IsViewed}
 use Rattle.hfs_runs.proofs.Reading.{reads_book}
 
@@ -35,6 +41,10 @@ pub record AreJobs {V : Type 0} (items : V → List Call) (lines : List ScriptLi
 pub record AreDone {V : Type 0} (items : V → List Call) (book : Book) (opening : Volume) (jobs : List (PassState × V)) (dones : List Done) : Type 0 where
   pub many : length dones ≡ length jobs
   pub each : (i : ℕ) (d : Done) (j : PassState × V) → i < length jobs → IsDone book opening (get_or jobs i j).0 (items (get_or jobs i j).1) (get_or dones i d)
+
+-- a told list with nothing in it
+told_none : Book → ToldState
+told_none book = record { book = book; list = []; shown = 0; made = 0 }
 
 -- the replies of a job
 abbrev of_done : Done → List Reply
@@ -101,6 +111,43 @@ pub made_at : {V : Type 0} (items : V → List Call) (book : Book) (opening : Vo
 made_at items book opening lines workers passes jobs dones journal h done all place below =
     made_of (map (λ (done : Done). done.pass) dones) journal (λ i. length (worker_replies dones (i + 1))) all (pass_at items book opening lines workers passes jobs dones h done) place
     (omega (arith, length-map dones (λ (done : Done). done.pass), done.many, h.many, h.first.many))
+
+-- ---- what workers were told
+
+-- the told lists are of the run's history
+pub told_of : {V : Type 0} (items : V → List Call) (book : Book) (opening : Volume) (jobs : List (PassState × V)) (dones : List Done)
+    → AreDone items book opening jobs dones → OfEach (AreOf book) dones
+told_of items book opening [] dones done i d below = let no : ⊥ = omega (arith, below, done.many) in absurd no
+told_of items book opening (j ∷ jobs) dones done i d below = λ k r under.
+    let one = done.each i d j (omega (arith, below, done.many)) in
+    ap (λ (t : ToldState). t.book) (one.work.each k (GetDirInfo 0) r under).1.told_is.tells
+
+-- what a run was closed with: a legal journal, of which the list that its viewer saw last is published
+pub record IsEnd (opening : Volume) (journal : List Entry) (covered : ℕ) (seen last : List Item) (dones : List Done) : Type 0 where
+  pub legal : IsLegal opening journal
+  pub learned : OfEach (AllBegin seen) dones
+  pub begins : IsPrefix seen last
+  pub published_is : last ≡ published opening journal covered
+
+pub stand_at : {V : Type 0} (items : V → List Call) (book : Book) (opening : Volume) (lines : List ScriptLine) (workers : ℕ) (passes : List PassState) (jobs : List (PassState × V)) (dones : List Done)
+    → AreJobs items lines workers passes jobs → AreDone items book opening jobs dones → PublishedIsAfter
+    → (journal : List Entry) (covered : ℕ) (seen last : List Item) → IsEnd opening journal covered seen last dones → OfEach AreWhole dones
+    → (place : ℕ) → place < workers → AllStand opening journal (calls_of (Worker (place + 1)) lines) (worker_replies dones (place + 1))
+stand_at items book opening lines workers passes [] dones h done law journal covered seen last end whole place below = let no : ⊥ = omega (arith, below, h.many, h.first.many) in absurd no
+stand_at items book opening lines workers passes (j ∷ jobs) [] h done law journal covered seen last end whole place below = let no : ⊥ = omega (arith, done.many) in absurd no
+stand_at items book opening lines workers passes (j ∷ jobs) (d ∷ dones) h done law journal covered seen last end whole place below = λ k c r under.
+    let within : place < length (d ∷ dones) = omega (arith, below, done.many, h.many, h.first.many) in
+    let answers = (get_or (d ∷ dones) place d).replies.items in
+    let are : worker_replies (d ∷ dones) (place + 1) ≡ of_done (get_or (d ∷ dones) place d) = replies_at (d ∷ dones) place d within in
+    let few : k < length answers = omega (arith, under, ap length are, length-map answers (λ (reply : Reply × ToldState). reply.0)) in
+    let answer : Reply × ToldState = get_or answers k (r, told_none book) in
+    let calls = calls_of (Worker (place + 1)) lines in
+    let w = work_at items book opening lines workers passes (j ∷ jobs) (d ∷ dones) h done place below d j in
+    let one : Stands opening journal (get_or calls k c) answer.0 =
+    stands law book opening journal covered seen last _ _ (get_or calls k c) answer.0 answer.1 end.legal (w.each k c (r, told_none book) few)
+    (whole place d within k (r, told_none book) few) (end.learned place d within k (r, told_none book) few) end.begins end.published_is in
+    subst (λ (x : Reply). Stands opening journal (get_or calls k c) x)
+    (sym (ap (λ (l : List Reply). get_or l k r) are ∙ get_or-map (λ (reply : Reply × ToldState). reply.0) answers k (r, told_none book) r few)) one
 
 -- ---- viewers
 

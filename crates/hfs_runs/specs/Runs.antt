@@ -1,12 +1,12 @@
 -- What a run of a script makes.
-use Rattle.std.specs.Prelude.{◌≡◌, ℕ, ◌+◌, ◌<◌, ◌⊎◌, Bool, List, [], map, length, Option, Some, Result, Ok, Err, String, string_bytes}
+use Rattle.std.specs.Prelude.{◌≡◌, ℕ, ◌+◌, ◌<◌, ◌⊎◌, Bool, true, List, map, length, Some, Ok, Err, string_bytes}
 use Rattle.logbook.specs.Pages.{Book}
 use Rattle.hfs_model.specs.declared.call.Call.{Call}
 use Rattle.hfs_model.specs.declared.reply.Reply.{Reply}
 use Rattle.hfs_model.specs.declared.journal.Entry.{Entry}
 use Rattle.hfs_model.specs.Volume.{Volume}
 use Rattle.hfs_model.specs.Runs.{after}
-use Rattle.hfs_check.specs.declared.mount_fault.MountFault.{MountFault}
+use Rattle.hfs_check.specs.Agree.{Agrees}
 use Rattle.hfs_check.specs.Faults.{fault_of}
 use Rattle.hfs_check.specs.Sound.{IsSound}
 use Rattle.hfs_check.specs.VolumeOf.{volume_of}
@@ -21,6 +21,7 @@ use Rattle.hfs_published.specs.Histories.{Known, known, opened}
 use Rattle.hfs_published.specs.Journals.{IsLegal, made_by}
 use Rattle.hfs_published.specs.Tolds.{ToldState}
 use Rattle.hfs_shared.specs.Closings.{IsClosed}
+use Rattle.hfs_shared.specs.declared.done.Done.{Done}
 use Rattle.hfs_shared.specs.Desks.{PassState, pass_state}
 use Rattle.hfs_shared.specs.Works.{IsWork}
 use Rattle.hfs_runs.specs.declared.fault.ScriptFault.{ScriptFault}
@@ -29,6 +30,8 @@ use Rattle.hfs_runs.specs.declared.numbering.Asked.{Asked}
 use Rattle.hfs_runs.specs.declared.running.Ran.{Ran}
 use Rattle.hfs_runs.specs.Answers.{answers_text, is_whole}
 use Rattle.hfs_runs.specs.Asking.{AreNumbered}
+use Rattle.hfs_runs.specs.Standing.{AllStand}
+use Rattle.hfs_runs.specs.Tellings.{AllBegin, OfEach}
 use Rattle.hfs_runs.specs.Views.{AreReads}
 
 -- ---- faults
@@ -70,14 +73,21 @@ IsWorked book opening worker calls replies =
 abbrev pub IsViewedFrom : Book → Volume → List Call → List Reply → Type 0
 IsViewedFrom book opening calls replies = (seen : Known) × AreReads calls (known book (opened opening)) replies seen
 
--- a shared volume was closed with these passes and handed out
-abbrev pub IsHandedOut : Volume → ImageValue → List PassState → Type 0
-IsHandedOut opening volume passes =
-    (journal : List Entry) × (shown : ℕ) × (before : Known) × (afterwards : Known) × IsClosed opening volume journal shown passes before afterwards
+-- a shared volume was closed with the passes of workers that had ended, and handed out; the viewer that it was closed by had
+-- learned all that they were told
+pub record IsHandedOut (base : List ℕ) (volume : ImageValue) (dones : List Done) : Type 0 where
+  pub journal : List Entry
+  pub shown : ℕ
+  pub before : Known
+  pub afterwards : Known
+  pub closed : IsClosed base volume journal shown (map (λ (done : Done). done.pass) dones) before afterwards
+  pub learned : OfEach (AllBegin before.list) dones
 
--- what a run of a script on an opening volume made: the volume afterwards, the text of the answers, and whether all lines were
--- answered. The volume is the one after a legal journal, which has as many entries of each worker as it got replies.
-pub record IsRan (opening : Volume) (lines : List ScriptLine) (volume : ImageValue) (text : List ℕ) (whole : Bool) : Type 0 where
+-- what a run of a script on an image made: the volume afterwards, the text of the answers, whether all lines were answered, and
+-- whether each change was shown at once. The volume's image agrees with the given one, and its volume is the one after a legal
+-- journal, which has as many entries of each worker as it got replies. Where each change was shown at once, each reply to a
+-- worker stands in that journal.
+pub record IsRan (image : List ℕ) (lines : List ScriptLine) (volume : ImageValue) (text : List ℕ) (whole shown : Bool) : Type 0 where
   pub book : Book
   pub journal : List Entry
   pub replies : Caller → List Reply
@@ -85,23 +95,26 @@ pub record IsRan (opening : Volume) (lines : List ScriptLine) (volume : ImageVal
   pub numbered : AreNumbered (map (λ (line : ScriptLine). line.caller) lines) asked
   pub text_is : text ≡ answers_text replies asked
   pub whole_is : whole ≡ is_whole replies asked
-  pub legal : IsLegal opening journal
-  pub follows : volume_of volume.current ≡ after opening journal
+  pub base_is : volume.base ≡ image
+  pub agrees : Agrees image volume.current
+  pub legal : IsLegal (volume_of image) journal
+  pub follows : volume_of volume.current ≡ after (volume_of image) journal
   pub made : (place : ℕ) → place < workers lines → made_by (place + 1) journal ≡ length (replies (Worker (place + 1)))
-  pub worked : (place : ℕ) → place < workers lines → IsWorked book opening (place + 1) (calls_of (Worker (place + 1)) lines) (replies (Worker (place + 1)))
-  pub viewed : (place : ℕ) → place < viewers lines → IsViewedFrom book opening (calls_of (Viewer (place + 1)) lines) (replies (Viewer (place + 1)))
+  pub worked : (place : ℕ) → place < workers lines → IsWorked book (volume_of image) (place + 1) (calls_of (Worker (place + 1)) lines) (replies (Worker (place + 1)))
+  pub viewed : (place : ℕ) → place < viewers lines → IsViewedFrom book (volume_of image) (calls_of (Viewer (place + 1)) lines) (replies (Viewer (place + 1)))
+  pub stands : shown ≡ true → (place : ℕ) → place < workers lines → AllStand (volume_of image) journal (calls_of (Worker (place + 1)) lines) (replies (Worker (place + 1)))
 
--- what was made is that of a run of these lines on an opening volume
-abbrev pub IsRanOf : Volume → List ScriptLine → Ran → Type 0
-IsRanOf opening lines ran = IsRan opening lines ran.volume (string_bytes ran.text) ran.whole
+-- what was made is that of a run of these lines on an image
+abbrev pub IsRanOf : List ℕ → List ScriptLine → Ran → Type 0
+IsRanOf image lines ran = IsRan image lines ran.volume (string_bytes ran.text) ran.whole ran.shown
 
 -- a script was run on an image
-pub record IsRun (now : ℕ) (script image : List ℕ) (volume : ImageValue) (text : List ℕ) (whole : Bool) : Type 0 where
+pub record IsRun (now : ℕ) (script image : List ℕ) (volume : ImageValue) (text : List ℕ) (whole shown : Bool) : Type 0 where
   pub lines : List ScriptLine
   pub reads : script_of now script ≡ Ok lines
   pub sound : IsSound image
-  pub ran : IsRan (volume_of image) lines volume text whole
+  pub ran : IsRan image lines volume text whole shown
 
 -- what was made is that of a run of this script on this image
 abbrev pub IsRunOf : ℕ → List ℕ → List ℕ → Ran → Type 0
-IsRunOf now script image ran = IsRun now script image ran.volume (string_bytes ran.text) ran.whole
+IsRunOf now script image ran = IsRun now script image ran.volume (string_bytes ran.text) ran.whole ran.shown

@@ -3,10 +3,12 @@
 #![tactic(auto)]
 
 mod answers;
+mod closing;
 mod fault;
 mod jobs;
 mod numbering;
 mod running;
+mod telling;
 mod viewing;
 
 pub use fault::ScriptFault;

@@ -1,5 +1,5 @@
 //! A script that is run on an image.
-ghost use Rattle.std.specs.Prelude.{◌≡◌, ◌<◌, ◌≤◌, All, IfOk, IfErr, OnOk, get_or, length, map};
+ghost use Rattle.std.specs.Prelude.{◌≡◌, ◌<◌, ◌≤◌, All, IfOk, IfErr, OnOk, length};
 ghost use Rattle.std.specs.Thread.{IsSync};
 ghost use Rattle.hfs_check.specs.Sound.{IsSound};
 ghost use Rattle.hfs_check.specs.VolumeOf.{volume_of};
@@ -7,30 +7,38 @@ ghost use Rattle.hfs_scripts.specs.Callers.{workers, viewers};
 ghost use Rattle.hfs_shared.specs.Shareds.{IsStart};
 ghost use Rattle.hfs_shared.specs.Works.{AreDone};
 ghost use Rattle.hfs_runs.specs.Asking.{IsSmall};
-ghost use Rattle.hfs_runs.specs.Runs.{IsHandedOut, IsMountFault, IsRunFault, IsRunOf, IsRanOf, IsStartFault};
+ghost use Rattle.hfs_runs.specs.Runs.{IsMountFault, IsRunFault, IsRunOf, IsRanOf, IsStartFault};
 ghost use Rattle.hfs_runs.specs.Views.{AreViewed};
 
 use crate::answers::answers_text;
+use crate::closing::close;
 use crate::fault::ScriptFault;
 use crate::jobs::{jobs_of, viewings_of};
 use crate::numbering::number_lines;
+use crate::telling::are_all_whole;
 use crate::viewing::{Viewing, view_all};
 use hfs_model::Call;
+use hfs_published::published_is_after;
 use hfs_scripts::{Script, read_script};
 use hfs_shared::{Done, Gate, Parts, Pass, RunFault, Session, Shared, Viewer, Why, run_workers};
 use hfs_volume::{Volume, mount};
-use std::alloc::{AllocError, Global};
+use std::alloc::Global;
 use std::marker::Brand;
 use std::sync::Wait;
 use std::thread;
 use std::thread::Threads;
 
-/// What a run of a script made: the volume after it, the lines of the answers, and whether each line was answered.
+/// What a run of a script made.
 #[derive(Drop)]
 pub struct Ran {
+    /// The volume after it.
     pub volume: Volume,
+    /// The lines of the answers.
     pub text: String,
+    /// Whether each line was answered.
     pub whole: bool,
+    /// Whether viewers were shown each change at once, and none later for want of memory.
+    pub shown: bool,
 }
 
 // The gate of a run: nothing is done around a call.
@@ -55,7 +63,8 @@ fn run_beside<K: Session + Send + Sync, R: Threads + Wait + Sync, G: Gate + Sync
     viewings: Vec<Viewing>,
 ) -> (Result<Vec<Done>, RunFault>, Vec<Viewing>)
     ensures dones { IfOk result.0 (λ v. length v.items ≡ length jobs.items) }
-    ensures done { IfOk result.0 (λ v. AreDone K.book K.opening (λ c. c.items) jobs.items v.items) }
+    ensures done { IfOk result.0 (λ v.
+        AreDone K.book (volume_of K.base) (λ c. c.items) jobs.items v.items) }
     ensures viewings { length result.1.items ≡ length viewings.items }
     ensures viewed { AreViewed viewings.items result.1.items }
 {
@@ -65,7 +74,7 @@ fn run_beside<K: Session + Send + Sync, R: Threads + Wait + Sync, G: Gate + Sync
             requires { IsSync R.row × IsSync K.row × IsSync G.row }
             ensures dones { IfOk result (λ v. length v.items ≡ length jobs.items) }
             ensures done { IfOk result (λ v.
-                AreDone K.book K.opening (λ c. c.items) jobs.items v.items) }
+                AreDone K.book (volume_of K.base) (λ c. c.items) jobs.items v.items) }
         { run_workers(shared, rt, alloc, gate, jobs) },
         move || -> Vec<Viewing>
             requires { IsSync R.row }
@@ -73,37 +82,6 @@ fn run_beside<K: Session + Send + Sync, R: Threads + Wait + Sync, G: Gate + Sync
             ensures viewed { AreViewed viewings.items result.items }
         { view_all(rt, alloc, viewings) },
     )
-}
-
-// The passes of workers that have ended.
-fn passes_of(alloc: Global, dones: Vec<Done>) -> Result<Vec<Pass>, AllocError>
-    ensures { IfOk result (λ v. v.items ≡ map (λ done. done.pass) dones.items) }
-{
-    let mut passes = Vec::new(alloc);
-    for done in dones {
-        let Done { pass, .. } = done;
-        passes.push(pass)?;
-    }
-    Ok(passes)
-}
-
-// Closes the shared volume by the first viewer.
-fn close<K: Session, R: Wait>(
-    shared: Shared<K>,
-    rt: &R,
-    passes: Vec<Pass>,
-    viewings: Vec<Viewing>,
-) -> Result<Volume, ScriptFault>
-    requires some { 0 < length viewings.items }
-    requires book { (v : _) → (get_or viewings.items 0 v).viewer.book ≡ K.book }
-    ensures ok { IfOk result (λ volume. IsHandedOut K.opening volume passes.items) }
-    ensures err { IfErr result (λ fault. fault ≡ ScriptFault.Memory) }
-{
-    let mut viewings = viewings;
-    match shared.close(rt, passes, &mut viewings[0].viewer) {
-        Ok(closed) => Ok(closed.volume),
-        Err(_refused) => Err(ScriptFault::Memory),
-    }
 }
 
 // Runs the calls on a volume that is to be shared.
@@ -116,13 +94,14 @@ fn run_shared<K: Session + Send + Sync, R: Threads + Wait + Sync, G: Gate + Sync
     readers: Vec<Viewer>,
     script: Script,
 ) -> Result<Ran, ScriptFault>
-    requires parts { (parts.book ≡ K.book) × (parts.opening ≡ K.opening) }
-    requires started { IsStart K.opening (workers script) (viewers script)
+    requires parts { (parts.book ≡ K.book) × (parts.base ≡ K.base) }
+    requires started { IsStart K.base (workers script) (viewers script)
         parts passes.items readers.items }
     requires small { All (λ l. IsSmall l.caller) script }
-    ensures ok { IfOk result (λ ran. IsRanOf K.opening script ran) }
+    ensures ok { IfOk result (λ ran. IsRanOf K.base script ran) }
     ensures err { IfErr result (λ fault. fault ≡ ScriptFault.Memory) }
 {
+    published_is_after();
     let shared = parts.share::<K>();
     let lines = number_lines(alloc, script.lines())?;
     let (jobs, rest) = jobs_of(alloc, passes, script)?;
@@ -132,12 +111,13 @@ fn run_shared<K: Session + Send + Sync, R: Threads + Wait + Sync, G: Gate + Sync
         return Err(ScriptFault::Memory);
     };
     let (text, whole) = answers_text(alloc, &lines, &dones, &viewings)?;
-    let passes = passes_of(alloc, dones)?;
-    let volume = close(shared, rt, passes, viewings)?;
+    let shown = are_all_whole(&dones);
+    let volume = close(rt, alloc, shared, dones, viewings)?;
     Ok(Ran {
         volume,
         text,
         whole,
+        shown,
     })
 }
 
@@ -164,7 +144,7 @@ fn start<R: Wait>(
     requires workers { (0 < workers) × (workers ≤ 8) }
     requires viewers { (0 < viewers) × (viewers ≤ 8) }
     ensures ok { IfOk result (λ r.
-        IsStart (volume_of volume.current) workers viewers r.0 r.1.items r.2.items) }
+        IsStart volume.current workers viewers r.0 r.1.items r.2.items) }
     ensures err { IfErr result IsStartFault }
 {
     match Parts::start(rt, alloc, volume, workers, viewers) {

@@ -83,7 +83,16 @@ target_call now word.Delete item = Some (call.Delete item.dir item.name now)
 target_call now word.Lock item = Some (call.SetFLock item.dir item.name now)
 target_call now word.Unlock item = Some (call.RstFLock item.dir item.name now)
 target_call now word.NewId item = Some (call.CreateFileId item.dir item.name now)
-target_call now _ item = None
+target_call now word.DirInfo item = None
+target_call now word.Indexed item = None
+target_call now word.List item = None
+target_call now word.Read item = None
+target_call now word.Rename item = None
+target_call now word.Move item = None
+target_call now word.SetFInfo item = None
+target_call now word.SetInfo item = None
+target_call now word.DropId item = None
+target_call now word.Resolve item = None
 
 unfoldable pub call_on_target : ℕ → Word → List (List ℕ) → Option Call
 call_on_target now word fields = target_of fields >>= target_call now word
@@ -100,4 +109,10 @@ call_of now word.SetFInfo fields = set_f_info_of now fields
 call_of now word.SetInfo fields = set_info_of now fields
 call_of now word.DropId fields = option_map (λ id. call.DeleteFileId id now) (number_alone fields)
 call_of now word.Resolve fields = option_map (λ id. call.ResolveFileId id) (number_alone fields)
-call_of now word fields = call_on_target now word fields
+call_of now word.Info fields = call_on_target now word.Info fields
+call_of now word.Create fields = call_on_target now word.Create fields
+call_of now word.MkDir fields = call_on_target now word.MkDir fields
+call_of now word.Delete fields = call_on_target now word.Delete fields
+call_of now word.Lock fields = call_on_target now word.Lock fields
+call_of now word.Unlock fields = call_on_target now word.Unlock fields
+call_of now word.NewId fields = call_on_target now word.NewId fields

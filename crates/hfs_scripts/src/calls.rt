@@ -190,7 +190,16 @@ fn on_target(word: Word, target: Target, now: u32) -> Option<Call>
         Word::Lock => Some(Call::SetFLock { dir, name, now }),
         Word::Unlock => Some(Call::RstFLock { dir, name, now }),
         Word::NewId => Some(Call::CreateFileId { dir, name, now }),
-        _ => None,
+        Word::DirInfo
+        | Word::Indexed
+        | Word::List
+        | Word::Read
+        | Word::Rename
+        | Word::Move
+        | Word::SetFInfo
+        | Word::SetInfo
+        | Word::DropId
+        | Word::Resolve => None,
     }
 }
 

@@ -93,6 +93,17 @@ pub(crate) fn is_for_viewers(word: Word) -> bool
 {
     match word {
         Word::DirInfo | Word::Info | Word::Indexed | Word::List | Word::Read => true,
-        _ => false,
+        Word::Create
+        | Word::MkDir
+        | Word::Delete
+        | Word::Rename
+        | Word::Move
+        | Word::SetFInfo
+        | Word::SetInfo
+        | Word::Lock
+        | Word::Unlock
+        | Word::NewId
+        | Word::DropId
+        | Word::Resolve => false,
     }
 }

@@ -1,5 +1,5 @@
 -- What one call under the lock says, with what is told of it.
-use Rattle.std.proofs.Common.{◌≡◌, ℕ, List, [], ◌∷◌, ◌++◌, length, sym, ap, ◌∙◌, subst}
+use Rattle.std.proofs.Common.{◌≡◌, ℕ, ◌≤◌, List, length, sym, ap, ◌∙◌, subst}
 use Rattle.logbook.specs.Pages.{Book}
 use Rattle.hfs_model.specs.declared.call.Call.{Call}
 use Rattle.hfs_model.specs.declared.reply.Reply.{Reply}
@@ -14,18 +14,32 @@ use Rattle.hfs_published.specs.Histories.{known}
 use Rattle.hfs_published.specs.Journals.{IsLegal, published}
 use Rattle.hfs_published.specs.Tolds.{ToldState, told}
 use Rattle.hfs_shared.specs.Desks.{DeskState, PassState, IsApplied}
+use Rattle.hfs_shared.specs.declared.desk.CallFault.{CallFault}
+use Rattle.hfs_shared.specs.declared.desk.CallFault.TheVariants.{Stamp, Memory}
+use Rattle.hfs_shared.specs.Faults.{IsFaultAt, IsFaultUnder}
 use Rattle.hfs_shared.specs.Shareds.{IsToldOf, IsSomeCall}
 
 -- what is told of so many entries tells their number
-pub told_number : (book : Book) (opening : Volume) (journal : List Entry) (n : ℕ) (t : ToldState) → t ≡ told (known book (published opening journal n)) n (length journal) → IsToldOf book opening journal t
-told_number book opening journal n t is =
+pub told_number : (book : Book) (opening : Volume) (journal : List Entry) (n : ℕ) (t : ToldState) → n ≤ length journal
+    → t ≡ told (known book (published opening journal n)) n (length journal) → IsToldOf book opening journal t
+told_number book opening journal n t few is =
     let number : t.shown ≡ n = ap (λ (s : ToldState). s.shown) is in
-    is ∙ (λ i. told (known book (published opening journal (sym number i))) (sym number i) (length journal))
+    record {
+      tells = is ∙ (λ i. told (known book (published opening journal (sym number i))) (sym number i) (length journal));
+      within = subst (λ (k : ℕ). k ≤ length journal) (sym number) few;
+    }
 
-pub is_call : (book : Book) (opening : Volume) (s t : DeskState) (p q : PassState) (c : Call) (r : Reply) (x : ToldState)
-    → volume_of s.base ≡ opening → IsApplied s p c r t q → IsToldOf book opening t.journal x → IsSomeCall book opening p c r x q
-is_call book opening s t p q c r x opens a told_is =
-    let opens_after : volume_of t.base ≡ opening = ap volume_of a.base ∙ opens in
+-- the fault of a call, by the pass's number alone
+pub fault_under : (wanted given : ℕ) (f : CallFault) → IsFaultAt wanted given f → IsFaultUnder given f
+fault_under wanted given (Stamp w g) h = (h.1, λ same. h.2 (sym h.1 ∙ same ∙ h.0))
+fault_under wanted given Memory h = tt
+
+pub is_call : (book : Book) (base : List ℕ) (s t : DeskState) (p q : PassState) (c : Call) (r : Reply) (x : ToldState)
+    → t.base ≡ base → IsApplied s p c r t q → IsToldOf book (volume_of base) t.journal x → IsSomeCall book (volume_of base) p c r x q
+is_call book base s t p q c r x base_is a told_is =
+    let opening = volume_of base in
+    let opens_after : volume_of t.base ≡ opening = ap volume_of base_is in
+    let opens : volume_of s.base ≡ opening = ap volume_of (sym a.base ∙ base_is) in
     let v_is = a.headline.follows ∙ ap (λ (v : Volume). after v s.journal) opens in (
       s.journal,
       record {

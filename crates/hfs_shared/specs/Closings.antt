@@ -1,8 +1,7 @@
 -- Which passes close a shared volume, and what closing it gives.
-use Rattle.std.specs.Prelude.{◌≡◌, ℕ, ◌+◌, ◌<◌, Bool, MatchBool, List, length, get_or}
+use Rattle.std.specs.Prelude.{◌≡◌, ℕ, ◌+◌, ◌<◌, ◌≤◌, Bool, MatchBool, List, length, get_or}
 use mathlib.Core.List.{IsPrefix}
 use Rattle.hfs_model.specs.declared.journal.Entry.{Entry}
-use Rattle.hfs_model.specs.Volume.{Volume}
 use Rattle.hfs_model.specs.Runs.{after}
 use Rattle.hfs_check.specs.Agree.{Agrees}
 use Rattle.hfs_check.specs.VolumeOf.{volume_of}
@@ -11,6 +10,7 @@ use Rattle.hfs_published.specs.Histories.{Known}
 use Rattle.hfs_published.specs.Journals.{IsLegal, made_by, published}
 use Rattle.hfs_shared.specs.declared.closed.Closed.{Closed}
 use Rattle.hfs_shared.specs.Desks.{PassState, pass_state}
+use Rattle.hfs_shared.specs.Lockeds.{LockedState}
 
 -- the answer is whether it holds
 abbrev pub IsWhether : Bool → Type 0 → Type 0
@@ -29,19 +29,28 @@ pub record AreAllPasses (passes : List PassState) (workers : ℕ) (journal : Lis
 abbrev pub HasNoOthers : ℕ → List Entry → Type 0
 HasNoOthers workers journal = ((w : ℕ) → workers < w → made_by w journal ≡ 0) × (made_by 0 journal ≡ 0)
 
--- what closing gives for these passes, and the lent viewer's list before and after it. The volume agrees with the one that
--- was shared, and is the one after the journal; each worker has as many entries as its pass says, and nobody else has any;
--- the viewer has then seen what is published, which begins with what it had seen.
-pub record IsClosed (opening : Volume) (volume : ImageValue) (journal : List Entry) (shown : ℕ) (passes : List PassState) (before afterwards : Known) : Type 0 where
-  pub opens : volume_of volume.base ≡ opening
-  pub agrees : Agrees volume.base volume.current
-  pub legal : IsLegal opening journal
-  pub follows : volume_of volume.current ≡ after opening journal
+-- the passes are those that close it
+abbrev pub AreTheirPasses : List PassState → LockedState → Type 0
+AreTheirPasses passes l = AreAllPasses passes l.workers l.journal
+
+-- what closing gives for these passes, and the lent viewer's list before and after it. The volume's image agrees with the
+-- one that was shared, this base, and its volume is the one after the journal; each worker has as many entries as its pass says,
+-- and nobody else has any; the viewer has then seen what is published, which begins with what it had seen.
+pub record IsClosed (base : List ℕ) (volume : ImageValue) (journal : List Entry) (shown : ℕ) (passes : List PassState) (before afterwards : Known) : Type 0 where
+  pub base_is : volume.base ≡ base
+  pub agrees : Agrees base volume.current
+  pub legal : IsLegal (volume_of base) journal
+  pub follows : volume_of volume.current ≡ after (volume_of base) journal
   pub all : AreAllPasses passes (length passes) journal
   pub others : HasNoOthers (length passes) journal
-  pub seen : afterwards.list ≡ published opening journal shown
+  pub seen : afterwards.list ≡ published (volume_of base) journal shown
+  pub within : shown ≤ length journal
   pub begins : IsPrefix before.list afterwards.list
 
 -- and this is what it gave
-abbrev pub IsClosedAs : Volume → Closed → List PassState → Known → Known → Type 0
-IsClosedAs opening c passes before afterwards = IsClosed opening c.volume c.journal.items c.shown passes before afterwards
+abbrev pub IsClosedAs : List ℕ → Closed → List PassState → Known → Known → Type 0
+IsClosedAs base c passes before afterwards = IsClosed base c.volume c.journal.items c.shown passes before afterwards
+
+-- what closing gives is what lay under the lock
+abbrev pub GivesAll : LockedState → Closed → Type 0
+GivesAll l c = (c.volume.current ≡ l.current) × (c.journal.items ≡ l.journal) × (c.shown ≡ l.shown)

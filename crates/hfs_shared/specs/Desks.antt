@@ -1,5 +1,5 @@
 -- The volume with its journal, as plain data, and the headline.
-use Rattle.std.specs.Prelude.{◌≡◌, ◌≢◌, ℕ, ◌+◌, ◌<◌, ◌≤◌, ◌&&◌, leb, cond, pos, List, [], ◌∷◌, ◌++◌, length, slice_index, if◌then◌else◌, Option, Some, None}
+use Rattle.std.specs.Prelude.{◌≡◌, ◌≢◌, ℕ, ◌+◌, ◌<◌, ◌≤◌, ◌&&◌, leb, cond, pos, IsTrue, List, [], ◌∷◌, ◌++◌, length, slice_index, if◌then◌else◌, Option, Some, None}
 use Rattle.std.specs.Ordering.{int_eq}
 use Rattle.hfs_model.specs.declared.codes.TheConstants.{DISK_FULL}
 use Rattle.hfs_model.specs.declared.call.Call.{Call}
@@ -7,6 +7,7 @@ use Rattle.hfs_model.specs.declared.reply.Reply.{Reply}
 use Rattle.hfs_model.specs.declared.reply.Value.{Value}
 use Rattle.hfs_model.specs.declared.reply.Value.TheVariants as value
 use Rattle.hfs_model.specs.declared.journal.Entry.{Entry}
+use Rattle.hfs_model.specs.Step.{is_reading}
 use Rattle.hfs_model.specs.Runs.{after}
 use Rattle.hfs_check.specs.Agree.{Agrees}
 use Rattle.hfs_check.specs.VolumeOf.{volume_of}
@@ -80,5 +81,6 @@ pub record IsApplied (s : DeskState) (p : PassState) (c : Call) (r : Reply) (t :
   pub wanted_is : p.number ≡ wanted s.workers s.journal p.worker
   pub outcome : (volume_of t.current, r) ≡ outcome_in s.current c
   pub refused : r.code ≢ pos 0 → t.current ≡ s.current
+  pub reading : IsTrue (is_reading c) → t.current ≡ s.current
   pub headline : IsHeadline s.base s.current s.journal
   pub headline_after : IsHeadline t.base t.current t.journal

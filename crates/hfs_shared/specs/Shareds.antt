@@ -1,5 +1,5 @@
 -- What the calls of a shared volume say.
-use Rattle.std.specs.Prelude.{◌≡◌, ℕ, ◌+◌, ◌<◌, List, [], ◌∷◌, ◌++◌, length, get_or, All}
+use Rattle.std.specs.Prelude.{◌≡◌, ℕ, ◌+◌, ◌<◌, ◌≤◌, List, [], ◌∷◌, ◌++◌, length, get_or, All}
 use Rattle.logbook.specs.Pages.{Book}
 use Rattle.hfs_model.specs.declared.call.Call.{Call}
 use Rattle.hfs_model.specs.declared.reply.Reply.{Reply}
@@ -13,22 +13,23 @@ use Rattle.hfs_published.specs.Histories.{Known, known, opened}
 use Rattle.hfs_published.specs.Journals.{IsLegal, published}
 use Rattle.hfs_published.specs.Pairs.{PairState}
 use Rattle.hfs_published.specs.Tolds.{ToldState, told}
-use Rattle.hfs_shared.specs.Desks.{DeskState, PassState, pass_state, entry_of}
+use Rattle.hfs_shared.specs.Desks.{DeskState, PassState, pass_state, entry_of, IsHeadline}
 
 -- ---- before the volume is shared
 
--- the name of the published list's history, the volume that opens it, and how many workers there are
+-- the name of the published list's history, the image that is shared, and how many workers there are
 pub record PartsState : Type 0 where
   pub book : Book
-  pub opening : Volume
+  pub base : List ℕ
   pub workers : ℕ
 
 abbrev pub parts_state : DeskState → PairState → PartsState
-parts_state d p = record { book = p.book; opening = volume_of d.base; workers = d.workers }
+parts_state d p = record { book = p.book; base = d.base; workers = d.workers }
 
 -- no call was made yet, and the opening alone is published
 pub record IsUnused (d : DeskState) (p : PairState) : Type 0 where
   pub empty : d.journal ≡ []
+  pub headline : IsHeadline d.base d.current d.journal
   pub all : p.all ≡ opened (volume_of d.base)
   pub shown : p.shown ≡ opened (volume_of d.base)
 
@@ -37,17 +38,17 @@ pub record AreFirstPasses (workers : ℕ) (passes : List PassState) : Type 0 whe
   pub many : length passes ≡ workers
   pub each : (i : ℕ) (none : PassState) → i < workers → get_or passes i none ≡ pass_state (i + 1) 1
 
--- the parts of a volume, the first passes, and viewers that have seen the opening alone
-pub record IsStart (opening : Volume) (workers viewers : ℕ) (p : PartsState) (passes : List PassState) (seen : List Known) : Type 0 where
-  pub opening_is : p.opening ≡ opening
+-- the parts of an image's volume, the first passes, and viewers that have seen the opening alone, which is that volume
+pub record IsStart (base : List ℕ) (workers viewers : ℕ) (p : PartsState) (passes : List PassState) (seen : List Known) : Type 0 where
+  pub base_is : p.base ≡ base
   pub workers_are : p.workers ≡ workers
   pub passes_are : AreFirstPasses workers passes
   pub many : length seen ≡ viewers
-  pub viewers_are : All (λ k. k ≡ known p.book (opened opening)) seen
+  pub viewers_are : All (λ k. k ≡ known p.book (opened (volume_of base))) seen
 
--- and the opening is the volume as its image is now
+-- and the image is the volume's as it is now
 abbrev pub IsStartOf : ImageValue → ℕ → ℕ → PartsState → List PassState → List Known → Type 0
-IsStartOf image workers viewers p passes seen = IsStart (volume_of image.current) workers viewers p passes seen
+IsStartOf image workers viewers p passes seen = IsStart image.current workers viewers p passes seen
 
 -- ---- one call
 
@@ -59,9 +60,10 @@ IsReplyOf v c r = (free : ℕ) × (depth : ℕ) × (r ≡ (step_within free dept
 abbrev pub told_of : Book → Volume → List Entry → ℕ → ToldState
 told_of book opening journal n = told (known book (published opening journal n)) n (length journal)
 
--- what is told is that, for the number that it says
-abbrev pub IsToldOf : Book → Volume → List Entry → ToldState → Type 0
-IsToldOf book opening journal t = t ≡ told_of book opening journal t.shown
+-- what is told is that, for the number that it says, which is at most the number of entries
+pub record IsToldOf (book : Book) (opening : Volume) (journal : List Entry) (t : ToldState) : Type 0 where
+  pub tells : t ≡ told_of book opening journal t.shown
+  pub within : t.shown ≤ length journal
 
 -- one call, behind these entries: its own stands last in a legal journal, its reply is the one there, and what is told is
 -- published of that journal

@@ -1,5 +1,5 @@
 -- What a worker does.
-use Rattle.std.specs.Prelude.{◌≡◌, ℕ, ◌+◌, ◌<◌, ◌≤◌, List, [], ◌∷◌, ◌++◌, length, get_or, None}
+use Rattle.std.specs.Prelude.{◌≡◌, ℕ, ◌+◌, ◌<◌, ◌≤◌, List, [], ◌∷◌, ◌++◌, length, get_or, None, IfSome}
 use Rattle.logbook.specs.Pages.{Book}
 use Rattle.hfs_model.specs.declared.call.Call.{Call}
 use Rattle.hfs_model.specs.declared.reply.Reply.{Reply}
@@ -7,6 +7,7 @@ use Rattle.hfs_model.specs.Volume.{Volume}
 use Rattle.hfs_published.specs.Tolds.{ToldState}
 use Rattle.hfs_shared.specs.declared.done.Done.{Done}
 use Rattle.hfs_shared.specs.Desks.{PassState, pass_state}
+use Rattle.hfs_shared.specs.Faults.{IsFaultUnder}
 use Rattle.hfs_shared.specs.Shareds.{IsSomeCall}
 
 -- the pass with its number so much higher
@@ -20,10 +21,11 @@ pub record IsWork (book : Book) (opening : Volume) (p : PassState) (calls : List
   pub each : (k : ℕ) (c : Call) (r : Reply × ToldState) → k < length replies
       → IsSomeCall book opening (later p k) (get_or calls k c) (get_or replies k r).0 (get_or replies k r).1 (later p (k + 1))
 
--- and without a fault all calls were made
+-- and without a fault all calls were made; a fault is that of the next call
 pub record IsDone (book : Book) (opening : Volume) (p : PassState) (calls : List Call) (d : Done) : Type 0 where
   pub work : IsWork book opening p calls d.pass d.replies.items
   pub whole : d.fault ≡ None → length d.replies.items ≡ length calls
+  pub refused : IfSome d.fault (IsFaultUnder d.pass.number)
 
 -- each has the pass of its job
 abbrev pub HaveTheirPasses : {V : Type 0} → List (PassState × V) → List Done → Type 0

@@ -47,6 +47,7 @@ impl Desk {
         requires workers { workers ≤ 8 }
         requires fresh { volume.current ≡ volume.base }
         ensures ok { IfOk result (λ d. d ≡ desk_state volume.base volume.base [] workers) }
+        ensures headline { IfOk result (λ d. IsHeadline d.base d.current d.journal) }
         ensures err { IfErr result (λ v. v ≡ volume) }
     {
         let Ok(next) = Vec::from_elem(alloc, 1u64, workers as usize) else {

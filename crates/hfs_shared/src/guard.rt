@@ -3,7 +3,7 @@ ghost use Rattle.std.specs.Prelude.{◌≡◌, IfOk, OnErr, IfErr};
 ghost use Rattle.hfs_check.specs.VolumeOf.{volume_of};
 ghost use Rattle.hfs_shared.specs.Desks.{IsApplied};
 ghost use Rattle.hfs_shared.specs.Faults.{IsCallFault};
-ghost use Rattle.hfs_shared.specs.Lockeds.{LockedState, desk_of, KeepsUp, CoversAllOrSame};
+ghost use Rattle.hfs_shared.specs.Lockeds.{LockedState, desk_of, IsUnderLock, KeepsUp, CoversAllOrSame};
 ghost use Rattle.hfs_shared.specs.Shareds.{IsToldOf};
 
 use crate::desk::CallFault;
@@ -46,7 +46,7 @@ impl<K: Session> Guard<'_, K> {
         ensures ok { IfOk result (λ r.
             IsApplied (desk_of self.old) pass.old call.now r (desk_of self.new) pass.new) }
         ensures shown { self.new.shown ≡ self.old.shown }
-        ensures opening { volume_of self.old.base ≡ K.opening }
+        ensures headline { IsUnderLock K.base self.new }
         ensures err { OnErr result ((self.new ≡ self.old) × (pass.new ≡ pass.old)) }
         ensures fault { IfErr result (IsCallFault (desk_of self.old) pass.old) }
     {
@@ -59,14 +59,16 @@ impl<K: Session> Guard<'_, K> {
         ensures shown { CoversAllOrSame self.old self.new.shown }
         ensures idle { KeepsUp self.old self.new.shown }
         ensures number { result.shown ≡ self.new.shown }
-        ensures told { IsToldOf K.book K.opening self.old.journal result }
+        ensures told { IsToldOf K.book (volume_of K.base) self.old.journal result }
+        ensures headline { IsUnderLock K.base self.new }
     {
         self.inner.publish(rt)
     }
 
     /// How many entries of the journal the published list covers. Takes no memory.
     pub fn shown(&self) -> u64
-        ensures { result ≡ self.now.shown }
+        ensures number { result ≡ self.now.shown }
+        ensures headline { IsUnderLock K.base self.now }
     {
         self.inner.shown()
     }

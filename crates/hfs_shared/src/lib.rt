@@ -14,7 +14,7 @@ mod shared;
 mod workers;
 
 pub use closed::Closed;
-pub use desk::{CallFault, Desk};
+pub use desk::CallFault;
 pub use done::{Done, RunFault};
 pub use guard::Guard;
 pub use hfs_model::Entry;

@@ -2,9 +2,9 @@
 ghost use Rattle.std.specs.Prelude.{◌≡◌, ◌⊎◌, ◌≤◌, [], length, drop, ◌-◌, IfOk, OnErr, IfErr};
 ghost use Rattle.hfs_check.specs.VolumeOf.{volume_of};
 ghost use Rattle.hfs_published.specs.Journals.{published, NoneAccepted};
-ghost use Rattle.hfs_shared.specs.Desks.{IsApplied};
+ghost use Rattle.hfs_shared.specs.Desks.{IsApplied, IsHeadline};
 ghost use Rattle.hfs_shared.specs.Faults.{IsCallFault};
-ghost use Rattle.hfs_shared.specs.Lockeds.{LockedState, locked_state, desk_of, KeepsUp, ShowsOf, GathersOf, CoversAllOrSame};
+ghost use Rattle.hfs_shared.specs.Lockeds.{LockedState, locked_state, desk_of, IsUnderLock, KeepsUp, ShowsOf, GathersOf, CoversAllOrSame};
 ghost use Rattle.hfs_shared.specs.Shareds.{told_of};
 
 use crate::desk::{CallFault, Desk};
@@ -36,14 +36,15 @@ impl<K: Session> Model for Locked<K> {
 
     ghost view = { λ l. locked_state l.desk l.shown };
 
-    ghost invariant = { λ l. IsLocked K.book K.opening l.desk l.pair l.added l.shown };
+    ghost invariant = { λ l. IsLocked K.book K.base l.desk l.pair l.added l.shown };
 }
 
 impl<K: Session> Locked<K> {
     /// A desk with no entries, and a pair that has the opening alone.
-    pub fn new(desk: Desk, pair: Pair) -> Locked<K>
+    pub(crate) fn new(desk: Desk, pair: Pair) -> Locked<K>
         requires empty { desk.journal ≡ [] }
-        requires opening { volume_of desk.base ≡ K.opening }
+        requires base { desk.base ≡ K.base }
+        requires headline { IsHeadline desk.base desk.current desk.journal }
         requires book { pair.book ≡ K.book }
         requires all { pair.all ≡ published (volume_of desk.base) [] 0 }
         requires shown { pair.shown ≡ published (volume_of desk.base) [] 0 }
@@ -64,7 +65,7 @@ impl<K: Session> Locked<K> {
         ensures ok { IfOk result (λ r.
             IsApplied (desk_of self.old) pass.old call.now r (desk_of self.new) pass.new) }
         ensures shown { self.new.shown ≡ self.old.shown }
-        ensures opening { volume_of self.old.base ≡ K.opening }
+        ensures headline { IsUnderLock K.base self.new }
         ensures err { OnErr result ((self.new ≡ self.old) × (pass.new ≡ pass.old)) }
         ensures fault { IfErr result (IsCallFault (desk_of self.old) pass.old) }
     {
@@ -74,7 +75,8 @@ impl<K: Session> Locked<K> {
 
     /// How many entries the published list covers.
     pub fn shown(&self) -> u64
-        ensures { result ≡ self.now.shown }
+        ensures number { result ≡ self.now.shown }
+        ensures headline { IsUnderLock K.base self.now }
     {
         self.shown as u64
     }
@@ -84,7 +86,9 @@ impl<K: Session> Locked<K> {
         ensures desk { desk_of self.new ≡ desk_of self.old }
         ensures shown { CoversAllOrSame self.old self.new.shown }
         ensures idle { KeepsUp self.old self.new.shown }
-        ensures told { result ≡ told_of K.book K.opening self.old.journal self.new.shown }
+        ensures told { result
+            ≡ told_of K.book (volume_of K.base) self.old.journal self.new.shown }
+        ensures headline { IsUnderLock K.base self.new }
     {
         published_grows();
         let journal = self.desk.journal();

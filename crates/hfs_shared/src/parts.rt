@@ -1,6 +1,6 @@
 //! The parts of a shared volume, before a session names them.
 ghost use Rattle.std.specs.Prelude.{◌≡◌, ◌<◌, ◌≤◌, [], IfOk, IfErr, IfSome};
-ghost use Rattle.hfs_shared.specs.Desks.{desk_state};
+ghost use Rattle.hfs_shared.specs.Desks.{desk_state, IsHeadline};
 ghost use Rattle.hfs_shared.specs.Shareds.{AreFirstPasses, IsStartOf};
 
 use crate::desk::Desk;
@@ -31,8 +31,8 @@ pub struct StartFault {
     pub volume: Volume,
 }
 
-/// A volume that is to be shared, with no call made yet. Contracts see the name of the published list's history, the volume
-/// that opens it, and how many workers there are.
+/// A volume that is to be shared, with no call made yet. Contracts see the name of the published list's history, the image that
+/// is shared, whose volume opens that list, and how many workers there are.
 #[derive(Drop)]
 pub struct Parts {
     desk: Desk,
@@ -43,11 +43,6 @@ impl Model for Parts {
     ghost use Rattle.hfs_shared.specs.Shareds.{PartsState, parts_state, IsUnused};
 
     ghost Value = { PartsState };
-
-    ghost use Rattle.hfs_model.specs.Volume.{volume_code};
-    ghost use Rattle.std.specs.Coded.{codes};
-
-    ghost coded = { Prim.hlevel (codes, volume_code) };
 
     ghost view = { λ p. parts_state p.desk p.pair };
 
@@ -84,9 +79,9 @@ impl Parts {
         }
     }
 
-    /// Shares the volume in a session, which names its history and the volume that opens it. Takes no memory.
+    /// Shares the volume in a session, which names its history and its image. Takes no memory.
     pub fn share<K: Session>(self) -> Shared<K>
-        requires { (self.book ≡ K.book) × (self.opening ≡ K.opening) }
+        requires { (self.book ≡ K.book) × (self.base ≡ K.base) }
     {
         let Parts { desk, pair } = self;
         Shared::new(Locked::new(desk, pair))
@@ -103,6 +98,7 @@ fn fault(why: Why, volume: Volume) -> StartFault
 fn new_desk(alloc: Global, volume: Volume, workers: u32) -> Result<Desk, Volume>
     requires { workers ≤ 8 }
     ensures ok { IfOk result (λ d. d ≡ desk_state volume.current volume.current [] workers) }
+    ensures headline { IfOk result (λ d. IsHeadline d.base d.current d.journal) }
     ensures err { IfErr result (λ v. v.current ≡ volume.current) }
 {
     match unchanged(alloc, volume) {

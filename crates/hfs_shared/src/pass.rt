@@ -64,7 +64,7 @@ impl Pass {
     }
 
     /// Raises the number by one.
-    pub fn raise(&mut self)
+    pub(crate) fn raise(&mut self)
         requires { self.old.number + 1 < 2 ^ 64 }
         ensures { self.new ≡ pass_state self.old.worker (self.old.number + 1) }
     {

@@ -1,21 +1,20 @@
-//! Which pair of copies a shared volume has, and its opening.
+//! Which pair of copies a shared volume has, and over which image it was shared.
 use std::marker::Brand;
 
-/// Names one pair of copies, by its history, and the volume that opens it.
+/// Names one pair of copies, by its history, and the image that was shared: its volume opens the history.
 pub trait Session {
+    ghost use Rattle.std.specs.Prelude.{ℕ, List};
     ghost use Rattle.logbook.specs.Pages.{Book};
-    ghost use Rattle.hfs_model.specs.Volume.{Volume};
 
     ghost book: { Book };
 
-    ghost opening: { Volume };
+    ghost base: { List ℕ };
 }
 
 impl Session for Brand {
     ghost use Rattle.std.specs.Prelude.{[]};
-    ghost use Rattle.hfs_model.specs.Step.{new_volume};
 
     ghost book = { record { number = 0; log_name = 0; cells_name = 0 } };
 
-    ghost opening = { new_volume [] 0 };
+    ghost base = { [] };
 }

@@ -1,6 +1,8 @@
 //! The shared volume.
 ghost use Rattle.std.specs.Prelude.{◌≡◌, IfOk, OnErr, IfErr};
+ghost use Rattle.hfs_check.specs.VolumeOf.{volume_of};
 ghost use Rattle.hfs_shared.specs.Closings.{IsClosedAs};
+ghost use Rattle.hfs_shared.specs.Faults.{IsFaultUnder};
 ghost use Rattle.hfs_shared.specs.Shareds.{IsSomeCall};
 
 use crate::closed::Closed;
@@ -28,7 +30,8 @@ impl<K: Session> Shared<K> {
         }
     }
 
-    fn into_locked(self) -> Locked<K> {
+    /// What lies under the lock, for a caller who alone has it.
+    pub fn into_locked(self) -> Locked<K> {
         let Shared { lock } = self;
         lock.into_inner()
     }
@@ -47,8 +50,10 @@ impl<K: Session> Shared<K> {
         pass: &mut Pass,
         call: Call,
     ) -> Result<(Reply, Told), CallFault>
-        ensures ok { IfOk result (λ r. IsSomeCall K.book K.opening pass.old call r.0 r.1 pass.new) }
+        ensures ok { IfOk result (λ r.
+            IsSomeCall K.book (volume_of K.base) pass.old call r.0 r.1 pass.new) }
         ensures err { OnErr result (pass.new ≡ pass.old) }
+        ensures fault { IfErr result (IsFaultUnder pass.old.number) }
     {
         let mut guard = self.lock(rt);
         let reply = guard.apply(alloc, pass, &call)?;
@@ -57,8 +62,8 @@ impl<K: Session> Shared<K> {
     }
 
     /// Ends the sharing, for which it waits for viewers that read; the lent viewer, of the same `Shared`, learns all that was
-    /// published. Refused where the passes are not those of all workers, each once and with its next number: then the same parts
-    /// come back, and the viewer is unchanged.
+    /// published. Refused as by [`Locked::close`], where the passes are not those of all workers, each once and with its next
+    /// number: then the same parts come back, and the viewer is unchanged.
     pub fn close<R: Wait>(
         self,
         rt: &R,
@@ -66,14 +71,12 @@ impl<K: Session> Shared<K> {
         viewer: &mut Viewer,
     ) -> Result<Closed, (Shared<K>, Vec<Pass>)>
         requires { viewer.old.book ≡ K.book }
-        ensures ok { IfOk result (λ c. IsClosedAs K.opening c passes.items viewer.old viewer.new) }
+        ensures ok { IfOk result (λ c. IsClosedAs K.base c passes.items viewer.old viewer.new) }
         ensures err { IfErr result (λ e. (e.1 ≡ passes) × (viewer.new ≡ viewer.old)) }
     {
-        let locked = self.into_locked();
-        if !locked.are_all(&passes) {
-            return Err((Shared::new(locked), passes));
+        match self.into_locked().close(rt, passes, viewer) {
+            Ok(closed) => Ok(closed),
+            Err((locked, passes)) => Err((Shared::new(locked), passes)),
         }
-        locked.teach(rt, viewer);
-        Ok(locked.end(rt))
     }
 }

@@ -1,10 +1,10 @@
 //! Ending what lies under the lock, when all workers have given their passes back.
-ghost use Rattle.std.specs.Prelude.{◌≡◌};
+ghost use Rattle.std.specs.Prelude.{◌≡◌, IfOk, IfErr, MatchResult};
 ghost use mathlib.Core.List.{IsPrefix};
 ghost use Rattle.hfs_check.specs.VolumeOf.{volume_of};
 ghost use Rattle.hfs_published.specs.Journals.{published};
-ghost use Rattle.hfs_shared.specs.Closings.{AreAllPasses, HasNoOthers, IsWhether};
-ghost use Rattle.hfs_shared.specs.Desks.{IsHeadline};
+ghost use Rattle.hfs_shared.specs.Closings.{AreAllPasses, AreTheirPasses, GivesAll, HasNoOthers, IsClosedAs, IsWhether};
+ghost use Rattle.hfs_shared.specs.Lockeds.{IsUnderLock};
 
 use super::Locked;
 use crate::closed::Closed;
@@ -14,31 +14,55 @@ use hfs_published::Viewer;
 use std::sync::Wait;
 
 impl<K: Session> Locked<K> {
-    /// Whether the passes are those of all workers, each once and with its next number.
-    pub(crate) fn are_all(&self, passes: &Vec<Pass>) -> bool
+    /// Ends the pair, for which it waits for viewers that read; the lent viewer, of that pair, learns all that was published.
+    /// Refused exactly where the passes are not those of all workers, each once and with its next number: then the same parts
+    /// come back, and the viewer is unchanged.
+    pub fn close<R: Wait>(
+        self,
+        rt: &R,
+        passes: Vec<Pass>,
+        viewer: &mut Viewer,
+    ) -> Result<Closed, (Locked<K>, Vec<Pass>)>
+        requires { viewer.old.book ≡ K.book }
+        ensures exactly { MatchResult result (λ _. AreTheirPasses passes.items self)
+            (λ _. AreTheirPasses passes.items self → ⊥) }
+        ensures ok { IfOk result (λ c. IsClosedAs K.base c passes.items viewer.old viewer.new) }
+        ensures all { IfOk result (λ c. GivesAll self c) }
+        ensures err { IfErr result (λ e.
+            (e.0 ≡ self) × (e.1 ≡ passes) × (viewer.new ≡ viewer.old)) }
+    {
+        if !self.are_all(&passes) {
+            return Err((self, passes));
+        }
+        self.teach(rt, viewer);
+        Ok(self.end(rt))
+    }
+
+    // Whether the passes are those of all workers, each once and with its next number.
+    fn are_all(&self, passes: &Vec<Pass>) -> bool
         ensures { IsWhether result
             (AreAllPasses passes.now.items self.now.workers self.now.journal) }
     {
         self.desk.are_all(passes)
     }
 
-    /// The viewer learns all that was published. It waits where the viewer knows of more, which no viewer of this pair does.
-    pub(crate) fn teach<R: Wait>(&self, rt: &R, viewer: &mut Viewer)
+    // The viewer learns all that was published. It waits where the viewer knows of more, which no viewer of this pair does.
+    fn teach<R: Wait>(&self, rt: &R, viewer: &mut Viewer)
         requires { viewer.old.book ≡ K.book }
-        ensures seen { viewer.new.list ≡ published K.opening self.now.journal self.now.shown }
+        ensures seen { viewer.new.list
+            ≡ published (volume_of K.base) self.now.journal self.now.shown }
         ensures begins { IsPrefix viewer.old.list viewer.new.list }
     {
         self.pair.teach(rt, viewer);
     }
 
-    /// Ends the pair, which waits for the readers, and gives the rest.
-    pub(crate) fn end<R: Wait>(self, rt: &R) -> Closed
+    // Ends the pair, which waits for the readers, and gives the rest.
+    fn end<R: Wait>(self, rt: &R) -> Closed
         ensures base { result.volume.base ≡ self.base }
         ensures current { result.volume.current ≡ self.current }
         ensures journal { result.journal.items ≡ self.journal }
         ensures shown { result.shown ≡ self.shown }
-        ensures headline { IsHeadline self.base self.current self.journal }
-        ensures opening { volume_of self.base ≡ K.opening }
+        ensures headline { IsUnderLock K.base self }
         ensures others { HasNoOthers self.workers self.journal }
     {
         let Locked {

@@ -1,4 +1,4 @@
-use Rattle.std.proofs.Common.{◌≡◌, ◌∙◌, ◌+◌, ◌<◌, ◌≤◌, ℕ, length, get_or, List, [], ◌∷◌, ◌++◌, refl, sym, ap, subst, arith, length-append, Vec, Global}
+use Rattle.std.proofs.Common.{◌≡◌, ◌∙◌, ◌+◌, length, get_or, [], ◌∷◌, ◌++◌, sym, ap, arith, length-append, Vec, Global}
 use Rattle.std.proofs.lemmas.List.{get_or_append_left, get_or_push, append_assoc}
 use Rattle.std.specs.Vec.Iter.{into_iter_items}
 use borrow.Author.Count.{below_more}

@@ -1,10 +1,8 @@
-use Rattle.std.proofs.Common.{◌≡◌, ◌∙◌, ℕ, ◌+◌, ◌<◌, ◌≤◌, List, [], ◌∷◌, ◌++◌, map, take, length, get_or, refl, sym, ap, subst, arith, length-append}
+use Rattle.std.proofs.Common.{◌≡◌, ◌∙◌, ℕ, ◌+◌, ◌<◌, ◌≤◌, List, map, take, length, get_or, sym, ap, subst, arith, length-append}
 use Rattle.std.proofs.lemmas.List.{length-take-le, length-map}
-use Rattle.std.proofs.Math.Seq.{take-length}
-use Rattle.hfs_scripts.specs.declared.lines.Caller.{Caller}
 use Rattle.hfs_scripts.specs.declared.lines.ScriptLine.{ScriptLine}
 use Rattle.hfs_runs.specs.declared.numbering.Asked.{Asked}
-use Rattle.hfs_runs.specs.Asking.{AreNumbered, IsSmall, asked_at, times}
+use Rattle.hfs_runs.specs.Asking.{IsSmall, times}
 use Rattle.hfs_runs.proofs.Counting.{none_counted, caller_at, numbered_more, counted_more, times_within}
 use Rattle.hfs_runs.proofs.numbering.number_lines.Goals as goal
 

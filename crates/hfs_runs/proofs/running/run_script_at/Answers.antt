@@ -1,5 +1,4 @@
-use Rattle.std.proofs.Common.{◌≡◌, ◌∙◌, ℕ, ◌<◌, ◌≤◌, refl, sym, ap, subst, arith}
-use Rattle.hfs_scripts.specs.Callers.{workers, viewers}
+use Rattle.std.proofs.Common.{ℕ, ◌<◌, ◌≤◌, sym, subst}
 use Rattle.hfs_runs.proofs.Small.{script_small, workers_within, viewers_within}
 use Rattle.hfs_runs.proofs.running.run_script_at.Goals as goal
 

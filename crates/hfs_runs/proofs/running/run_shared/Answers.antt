@@ -1,17 +1,18 @@
-use Rattle.std.proofs.Common.{◌≡◌, ◌∙◌, ℕ, ◌+◌, ◌<◌, ◌≤◌, List, map, length, get_or, refl, sym, ap, subst, arith, string_bytes, Vec, Global}
+use Rattle.std.proofs.Common.{◌≡◌, ◌∙◌, ◌+◌, List, map, ap, subst, arith, string_bytes, Vec, Global}
 use Rattle.std.specs.List.{All}
 use Rattle.logbook.specs.Pages.{Book}
 use Rattle.hfs_model.specs.declared.call.Call.{Call}
 use Rattle.hfs_scripts.specs.Callers.{workers, viewers}
 use Rattle.hfs_scripts.specs.declared.lines.ScriptLine.{ScriptLine}
 use Rattle.hfs_published.specs.Histories.{Known, known, opened}
+use Rattle.hfs_check.specs.VolumeOf.{volume_of}
+use Rattle.hfs_shared.specs.Closings.{IsWhether}
 use Rattle.hfs_shared.specs.declared.done.Done.{Done}
-use Rattle.hfs_shared.specs.Desks.{PassState}
 use Rattle.hfs_runs.specs.Answers.{answers_text, is_whole, replies_of}
 use Rattle.hfs_runs.specs.Asking.{AreNumbered}
-use Rattle.hfs_runs.specs.Runs.{IsHandedOut}
-use Rattle.hfs_runs.proofs.Small.{workers_within, viewers_within}
-use Rattle.hfs_runs.proofs.Working.{AreJobs, AreDone, AreViewings, AreViewed, first_book}
+use Rattle.hfs_runs.specs.Tellings.{AreWhole, OfEach}
+use Rattle.hfs_runs.proofs.Small.{viewers_within}
+use Rattle.hfs_runs.proofs.Working.{AreJobs, AreDone, AreViewings, AreViewed, first_book, told_of}
 use Rattle.hfs_runs.proofs.Reasons.{ok_is}
 use Rattle.hfs_runs.proofs.OneRun.{begun, ran}
 use Rattle.hfs_runs.proofs.running.run_shared.Goals as goal
@@ -26,7 +27,7 @@ close-requires-clause-some g c =
 pub close-requires-clause-book : goal.close-requires-clause-book
 close-requires-clause-book g c =
     let book = g.K.Session.book in
-    let opening = g.K.Session.opening in
+    let opening = volume_of g.K.Session.base in
     let seen = subst (λ (b : Book). All (λ (k : Known). k ≡ known b (opened opening)) c.args.readers.items) c.requires.parts.0 c.requires.started.viewers_are in
     let views : AreViewings book opening c.args.script (viewers c.args.script) c.in_ok-viewings.viewings.items =
     begun book opening c.args.script (viewers c.args.script) c.args.readers.items c.in_ok-viewings.viewings.items c.requires.started.many seen c.in_ok-viewings.ensures.many
@@ -34,10 +35,19 @@ close-requires-clause-book g c =
     let viewed : AreViewed c.in_ok-viewings.viewings.items c.run_beside-dones.result.1.items = record { many = c.run_beside-dones.ensures.viewings; each = c.run_beside-dones.ensures.viewed } in
     first_book book opening c.args.script (viewers c.args.script) c.in_ok-viewings.viewings.items c.run_beside-dones.result.1.items views viewed (viewers_within c.args.script c.requires.small).0
 
+pub close-requires-clause-told : goal.close-requires-clause-told
+close-requires-clause-told g c =
+    let done : AreDone (λ (calls : Vec Call Global). calls.items) g.K.Session.book (volume_of g.K.Session.base) c.in_ok-jobs.jobs.items c.in-Ok.dones.items =
+    record {
+      many = ok_is c.run_beside-dones.result.0 c.in-Ok.dones _ c.in-Ok.is c.run_beside-dones.ensures.dones;
+      each = ok_is c.run_beside-dones.result.0 c.in-Ok.dones _ c.in-Ok.is c.run_beside-dones.ensures.done;
+    } in
+    told_of (λ (calls : Vec Call Global). calls.items) g.K.Session.book (volume_of g.K.Session.base) c.in_ok-jobs.jobs.items c.in-Ok.dones.items done
+
 pub returns-clause-ok : goal.returns-clause-ok
 returns-clause-ok g c =
     let book = g.K.Session.book in
-    let opening = g.K.Session.opening in
+    let opening = volume_of g.K.Session.base in
     let script = c.args.script in
     let seen = subst (λ (b : Book). All (λ (k : Known). k ≡ known b (opened opening)) c.args.readers.items) c.requires.parts.0 c.requires.started.viewers_are in
     let views : AreViewings book opening script (viewers script) c.in_ok-viewings.viewings.items =
@@ -53,10 +63,10 @@ returns-clause-ok g c =
     } in
     let numbered : AreNumbered (map (λ (line : ScriptLine). line.caller) script) c.in_ok-lines.lines.items =
     subst (λ (l : List ScriptLine). AreNumbered (map (λ (line : ScriptLine). line.caller) l) c.in_ok-lines.lines.items) c.lines.ensures c.in_ok-lines.ensures in
-    let out : IsHandedOut opening c.in_ok-volume.volume (map (λ (done : Done). done.pass) c.in-Ok.dones.items) =
-    subst (λ (ps : List PassState). IsHandedOut opening c.in_ok-volume.volume ps) c.in_ok-passes.ensures c.in_ok-volume.ensures.ok in
     let replies = replies_of c.in-Ok.dones.items c.run_beside-dones.result.1.items in
     let text : string_bytes c.in_ok-text.text ≡ answers_text replies c.in_ok-lines.lines.items = c.in_ok-text.ensures.text ∙ ap (answers_text replies) c.deref.ensures.value in
     let whole : c.in_ok-text.whole ≡ is_whole replies c.in_ok-lines.lines.items = c.in_ok-text.ensures.whole ∙ ap (is_whole replies) c.deref.ensures.value in
-    ran (λ (calls : Vec Call Global). calls.items) book opening script c.in_ok-volume.volume (string_bytes c.in_ok-text.text) c.in_ok-text.whole c.in_ok-lines.lines.items c.args.passes.items
-    c.in_ok-jobs.jobs.items c.in-Ok.dones.items c.in_ok-viewings.viewings.items c.run_beside-dones.result.1.items numbered begins done views viewed text whole out
+    let shown : IsWhether c.are_all_whole-shown.result (OfEach AreWhole c.in-Ok.dones.items) =
+    subst (λ (ds : List Done). IsWhether c.are_all_whole-shown.result (OfEach AreWhole ds)) c.deref-2.ensures.value c.are_all_whole-shown.ensures in
+    ran (λ (calls : Vec Call Global). calls.items) book g.K.Session.base script c.in_ok-volume.volume (string_bytes c.in_ok-text.text) c.in_ok-text.whole c.are_all_whole-shown.result c.in_ok-lines.lines.items c.args.passes.items
+    c.in_ok-jobs.jobs.items c.in-Ok.dones.items c.in_ok-viewings.viewings.items c.run_beside-dones.result.1.items numbered begins done views viewed text whole c.published_is_after.ensures shown c.in_ok-volume.ensures.ok

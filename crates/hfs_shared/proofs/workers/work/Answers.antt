@@ -1,10 +1,13 @@
 use Rattle.std.proofs.Common.{◌≡◌, ℕ, ◌<◌, List, [], ◌∷◌, length, get_or, true, false, Option, Some, None, refl, sym, ap, ◌∙◌, subst, arith, length-append}
-use Rattle.std.specs.Prelude.{is_some, IfNone, OnSome}
+use Rattle.std.specs.Prelude.{is_some, IfSome, IfNone, OnSome}
 use Rattle.std.proofs.lemmas.List.{get_or_default}
 use Rattle.hfs_model.specs.declared.call.Call.{Call}
 use Rattle.hfs_model.specs.declared.reply.Reply.{Reply}
+use Rattle.hfs_check.specs.VolumeOf.{volume_of}
 use Rattle.hfs_published.specs.Tolds.{ToldState}
+use Rattle.hfs_shared.specs.declared.desk.CallFault.{CallFault}
 use Rattle.hfs_shared.specs.Desks.{PassState}
+use Rattle.hfs_shared.specs.Faults.{IsFaultUnder}
 use Rattle.hfs_shared.specs.Works.{IsWork}
 use Rattle.hfs_shared.proofs.Working.{work_more}
 use Rattle.hfs_shared.proofs.workers.work.Goals.{else-loop-call-test, then-loop-call-test+then-is_some}
@@ -26,6 +29,10 @@ not_none : {A : Type 0} {P : Type 0} (o : Option A) → is_some o ≡ true → o
 not_none None e h = absurd (cc e)
 not_none (Some x) e h = absurd (cc h)
 
+of_none : {A : Type 0} (P : A → Type 0) (o : Option A) → o ≡ None → IfSome o P
+of_none P None e = tt
+of_none P (Some x) e = absurd (cc e)
+
 pub loop-call-preserved : goal.loop-call-preserved
 loop-call-preserved g c =
     let i = c.loop-call.invariant in
@@ -35,7 +42,7 @@ loop-call-preserved g c =
     let call = c.call-item.result in
     let at = c.loop-call.call-index in
     let below : at < length c.args.calls.now.items = omega (arith, ap length items) in (
-      work_more g.K.Session.book g.K.Session.opening c.args.done.now.pass c.args.calls.now.items c.loop-call.done.pass c.one_more-fault.new.pass c.loop-call.replies.items c.one_more-fault.new.replies.items
+      work_more g.K.Session.book (volume_of g.K.Session.base) c.args.done.now.pass c.args.calls.now.items c.loop-call.done.pass c.one_more-fault.new.pass c.loop-call.replies.items c.one_more-fault.new.replies.items
           call i.0 (omega (arith, i.1))
           (λ d. ap (λ (n : ℕ). get_or c.args.calls.now.items n d) i.1 ∙ get_or_default c.args.calls.now.items at d call below ∙ ap (λ (l : List Call). get_or l at call) (sym items) ∙ sym c.call-item.is)
           more,
@@ -48,7 +55,7 @@ returns g c =
     let i = c.loop-call.invariant in
     let calls = c.args.calls.now.items in
     let end = c.loop-call-test in
-    let Work : PassState → List (Reply × ToldState) → Type 0 = λ q replies. IsWork g.K.Session.book g.K.Session.opening c.args.done.now.pass calls q replies in
+    let Work : PassState → List (Reply × ToldState) → Type 0 = λ q replies. IsWork g.K.Session.book (volume_of g.K.Session.base) c.args.done.now.pass calls q replies in
     let work : Work end.done.pass end.replies.items =
     elim end.branch as (λ _. Work end.done.pass end.replies.items) [
       | else-loop-call-test w ↦
@@ -62,4 +69,12 @@ returns g c =
       | else-loop-call-test w ↦ λ none. ap (λ v. length v.items) w.replies-is ∙ omega (arith, i.1, ap length c.deref-call-items.ensures.value)
       | then-loop-call-test+then-is_some w ↦ λ none. not_none w.one_more-fault.result (sym w.if-is_some.ensures) (sym w.fault-is ∙ none)
     ] in
-    record { work = work; whole = whole }
+    let Refused : Option CallFault → PassState → Type 0 = λ fault q. IfSome fault (IsFaultUnder q.number) in
+    let refused : Refused end.fault end.done.pass =
+    elim end.branch as (λ _. Refused end.fault end.done.pass) [
+      | else-loop-call-test w ↦ of_none (IsFaultUnder end.done.pass.number) end.fault (w.fault-is ∙ i.2)
+      | then-loop-call-test+then-is_some w ↦
+          (let same = on_some w.one_more-fault.result (sym w.if-is_some.ensures) w.one_more-fault.ensures.some in
+          subst (λ (y : Option CallFault × PassState). Refused y.0 y.1) (λ j. (sym w.fault-is j, sym (ap (λ d. d.pass) w.done-is ∙ same.1) j)) w.one_more-fault.ensures.fault)
+    ] in
+    record { work = work; whole = whole; refused = refused }

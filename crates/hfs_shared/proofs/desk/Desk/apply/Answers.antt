@@ -65,6 +65,7 @@ returns-clause-ok c =
       pass = c.raise.ensures;
       wanted_is = sym c.number-number.ensures.value ∙ is_wanted c ∙ ap (λ (s : DeskState). wanted s.workers s.journal p.worker) same;
       outcome = subst (λ (s : DeskState). (volume_of c.call.new.self.current, c.in-Ok-call.reply) ≡ outcome_in s.current c.args.call.now) same c.in-Ok-call.ensures.outcome;
+      reading = λ reads. ap (λ v. v.current) (c.call.ensures.reading reads) ∙ ap (λ (s : DeskState). s.current) same;
       refused = λ other. ap (λ v. v.current) (c.in-Ok-call.ensures.refused other) ∙ ap (λ (s : DeskState). s.current) same;
       headline = subst (λ (s : DeskState). IsHeadline s.base s.current s.journal) same c.self.invariant.0;
       headline_after = headline_is c;

@@ -1,4 +1,4 @@
-use Rattle.std.proofs.Common.{◌≡◌, ◌+◌, ◌<◌, ℕ}
+use Rattle.std.proofs.Common.{◌+◌, ◌<◌, ℕ}
 use Rattle.hfs_published.specs.Journals.{made_by}
 use Rattle.hfs_shared.specs.Desks.{pass_state}
 use Rattle.hfs_shared.specs.Closings.{HasPass}

@@ -1,7 +1,13 @@
 use Rattle.std.proofs.Common.{subst}
 use Rattle.hfs_shared.specs.Closings.{HasNoOthers}
-use Rattle.hfs_shared.specs.Lockeds.{LockedState}
+use Rattle.hfs_shared.specs.Lockeds.{LockedState, IsUnderLock}
+use Rattle.hfs_shared.proofs.Showing.{under_lock}
 use Rattle.hfs_shared.proofs.locked.Locked.end.Goals as goal
 
 pub returns-clause-others : goal.returns-clause-others
 returns-clause-others g c = subst (λ (s : LockedState). HasNoOthers s.workers s.journal) c.self.view_is c.into_parts-volume.ensures.others
+
+pub returns-clause-headline : goal.returns-clause-headline
+returns-clause-headline g c =
+    let l = c.self.inside in
+    subst (λ (s : LockedState). IsUnderLock g.K.Session.base s) c.self.view_is (under_lock g.K.Session.book g.K.Session.base l.desk l.pair l.added l.shown c.self.invariant)
