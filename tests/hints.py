@@ -74,11 +74,9 @@ def main():
             want(['ls', str(path)], status, line, said)
             want(['cat', str(path), '2', 'none'], status or 3, line or 'code -43\n', said)
             want(['run', str(path), str(script)], status, line, said)
-            checked = untold(['check', str(path)])
-            want(['check', str(path)], status, 'refused ' + line if fault else checked[1], said)
         path.write_bytes(sound[:1000])
         want(['ls', str(path)], 2, 'image too short\n', '')
-    print(f'{len(CASES) + 1} images, four words each: the hints are as written')
+    print(f'{len(CASES) + 1} images, three words each: the hints are as written')
 
 
 main()

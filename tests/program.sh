@@ -77,8 +77,22 @@ partition() {
     head -c $((61 * 512)) /dev/zero
     cat "$volumes/hfsutils-800k.img"
 } > "$readme/hard_disk.img"
+# The sum of Disk Copy: each 16-bit word is added, and then the sum is turned right by one bit.
+data_sum() {
+    python3 - "$1" << 'END'
+import struct
+import sys
+total = 0
+for word, in struct.iter_unpack('>H', open(sys.argv[1], 'rb').read()):
+    total = (total + word) & 0xffffffff
+    total = total >> 1 | (total & 1) << 31
+print(total)
+END
+}
+
 {
-    printf '\006Floppy' && head -c 57 /dev/zero && number 819200 && head -c 14 /dev/zero && printf '\001\000'
+    printf '\006Floppy' && head -c 57 /dev/zero && number 819200 && number 0 && number "$(data_sum "$volumes/hfsutils-800k.img")"
+    head -c 6 /dev/zero && printf '\001\000'
     cat "$volumes/hfsutils-800k.img"
 } > "$readme/floppy.dc42"
 {
