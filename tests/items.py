@@ -184,7 +184,7 @@ def compare_file(tables):
     """A file with a type, dates, a lock and both forks, of which the resource fork is laid by hand."""
     image = tables.folder / 'file.img'
     image.write_bytes(gzip.decompress((VOLUMES / 'small' / 'one-file.img.gz').read_bytes()))
-    finder = '54455854747874744101010203040506101112131415161718191a1b1c1d1e1f'
+    finder = '54455854747478744101010203040506101112131415161718191a1b1c1d1e1f'
     tables.changed(image, f'setinfo\t2\tf\t3029529600\t4294967295\t1\t{finder}\nlock\t2\tf')
     content = bytearray(image.read_bytes())
     record = content.index(b'TEXTttxt') - 4
@@ -382,10 +382,7 @@ def compare_many(tables, items):
             calls.append(f'create\t{above}\t{own}')
             files.setdefault(name, {})[own] = number
             number += 1
-    # A leaf has room for three records of files at least, and is half full at least.
-    nodes = items + 4000
-    blocks = min(65_000 * 8, nodes + 20_000)
-    image = tables.new('many', blocks, nodes, 4, '\n'.join(calls))
+    image = tables.new('many', 4000, 2048, 4, '\n'.join(calls))
     wanted = [folder_row('D', 2, 1, folders)]
     for name in sorted(numbers):
         wanted.append(folder_row(f'D:{name}', numbers[name], 2, width))
@@ -404,7 +401,7 @@ def compare_deep(tables, depth):
         behind.append(file_row(f'{path}:z', number + 2, above))
         path, above, number = f'{path}:m{n:03}', number, number + 3
     wanted.append(folder_row(path, above, calls_parent(depth), 0))
-    image = tables.new('in-one-another', 4000, 40 + 6 * depth, 4, '\n'.join(calls))
+    image = tables.new('in-one-another', 4000, 2048, 4, '\n'.join(calls))
     tables.want(image, wanted + behind[::-1])
 
 
@@ -415,7 +412,7 @@ def calls_parent(n):
 
 def main():
     parser = argparse.ArgumentParser(description=__doc__, formatter_class=argparse.RawDescriptionHelpFormatter)
-    parser.add_argument('--items', type=int, default=6_000, help='how many items the large volume has')
+    parser.add_argument('--items', type=int, default=3_000, help='how many items the large volume has, at most 4,000')
     parser.add_argument('--deep', type=int, default=200, help='how many folders lie in one another')
     parser.add_argument('--kept', help='a folder that keeps the large volume')
     words = parser.parse_args()
