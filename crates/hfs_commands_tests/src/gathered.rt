@@ -121,7 +121,7 @@ fn fails_where_a_read_fails(rt: HostRuntime) {
 }
 
 /// Whether blocks 2 to 7 are read of an image by a source that goes to them.
-fn reads_by_seeking<P: PlacedReader>(
+fn reads_by_seeking<P: PlacedReader + Drop>(
     rt: &(impl Abort + AllocGlobal),
     image: &[u8],
     reader: P,
