@@ -218,20 +218,16 @@ def same_on_cut(folder, what, data):
             wants(f'{what}: {before} {behind}', told([*before, path, *behind, '--volume', str(k)]), wanted)
             if before != ['info']:
                 wants(f'{what}: {before} {behind}, piped', told([*before, '/dev/stdin', *behind, '--volume', str(k)], data), wanted)
-    missing = len(found(data)) + 1
-    for n in (0, missing, 2 ** 64 - 1):
-        for words in (['info', path_of(folder, data)], ['check', path_of(folder, data)], ['ls', path_of(folder, data)], ['cat', path_of(folder, data), '2', 'f']):
+    path = folder.file('file', data)
+    for n in (0, len(found(data)) + 1, 2 ** 64 - 1):
+        for words in (['info', path], ['check', path], ['ls', path], ['cat', path, '2', 'f']):
             wants(f'{what}: {words[0]}', told([*words, '--volume', str(n)]), (2, f'no volume {n}\n'.encode()))
-
-
-def path_of(folder, data):
-    return folder.file('file', data)
 
 
 # ---- rows by hand
 
 def rows(folder, p6):
-    volume_lines = lambda *rows: (0, b''.join(row + b'\n' for row in rows))
+    volume_lines = lambda *told_lines: (0, b''.join(line + b'\n' for line in told_lines))
     none = (2, b'no HFS volume\n')
     disk = b''.ljust(512, b'\0') + entry(3, 1, 3, b'Apple_partition_map') + entry(3, 4, 64, b'Apple_HFS') + entry(3, 68, 9, b'apple_hfs') + p6 + bytes(1536)
     folder.lists('a map', disk, volume_lines(b'1\tpartition\t2048\t32768\tD', b'2\tpartition\t34816\t1536\t\tno volume'))
@@ -286,8 +282,8 @@ def edges(folder, p6):
     cases += [(f'a second header of {length}', second(length)) for length in (1, 127, 128, 129, 384)]
     # a fork that begins at 512, where a partition begins, too
     both = bytearray(in_macbinary(p6.ljust(33280, b'\0'), bytes(384)))
-    both[512 + 0:512 + 0] = b''
-    cases.append(('a fork at a block', bytes(both)))
+    both[512:1024] = entry(1, 1, 65, b'Apple_HFS')
+    cases.append(('a fork that is a partition', bytes(both)))
     cases += [('a fork that is cut', in_macbinary(p6)[:-1]), ('a fork that ends with the file', in_macbinary(p6)[:128 + len(p6)])]
     cases += [(f'a header with {value} at {at}', bytes(changed(in_macbinary(p6), at, value))) for at, value in ((0, 1), (1, 0), (1, 63), (1, 64), (74, 1), (82, 1))]
     cases += [(f'a disk copy with {value} at {at}', bytes(changed(in_disk_copy(p6), at, value))) for at, value in ((0, 0), (0, 63), (0, 64), (82, 0), (83, 1))]
