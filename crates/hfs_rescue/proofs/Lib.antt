@@ -1,0 +1,5 @@
+pub mod FileLemmas
+pub mod NodeLemmas
+pub mod ChainLemmas
+pub mod RangeLemmas
+pub mod LeafLemmas

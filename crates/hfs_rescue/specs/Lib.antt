@@ -1,0 +1,5 @@
+pub mod Allocation
+pub mod Directory
+pub mod TreeFiles
+pub mod InUse
+pub mod LeafRecords
