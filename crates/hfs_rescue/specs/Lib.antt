@@ -3,3 +3,6 @@ pub mod Directory
 pub mod TreeFiles
 pub mod InUse
 pub mod LeafRecords
+pub mod OverflowRecords
+pub mod CatalogRecords
+pub mod Remains

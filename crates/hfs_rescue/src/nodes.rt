@@ -1,6 +1,7 @@
 //! The nodes of a tree's file.
 ghost use Rattle.std.specs.Prelude.{◌≡◌, ◌*◌, ◌<◌, ◌≤◌, ◌^◌, None, length, slice_index_or};
 ghost use Rattle.hfs_space.specs.Forks.{blocks_each};
+ghost use Rattle.hfs_space.specs.TreeFiles.{node_count};
 ghost use Rattle.hfs_node.specs.Node.{node_of};
 ghost use Rattle.hfs_btree.specs.Tree.{node_in};
 ghost use Rattle.hfs_rescue.specs.TreeFiles.{AreThere, first_nodes, node_at, node_total, nodes_of};
@@ -34,6 +35,13 @@ pub(crate) fn block_at(file: &[Option<u16>], place: usize) -> Option<u16>
     } else {
         None
     }
+}
+
+/// How many nodes a file of `size` bytes has, the last of which may be cut.
+pub(crate) fn node_count(size: u32) -> u32
+    ensures { result ≡ node_count size }
+{
+    size.div_ceil(512)
 }
 
 impl<B: Blocks> FileNodes<'_, B> {
