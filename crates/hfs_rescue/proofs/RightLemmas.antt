@@ -1,11 +1,11 @@
 -- The checks of both trees, where nodes may be missing.
-use Rattle.std.proofs.Common.{◌≡◌, ℕ, ◌+◌, ◌/◌, ◌%◌, Bool, true, false, List, Option, Some, None, refl, sym, ap, ◌∙◌, arith}
+use Rattle.std.proofs.Common.{◌≡◌, ℕ, ◌+◌, ◌/◌, ◌%◌, true, false, List, Option, Some, None, refl, arith}
 use Rattle.std.specs.Prelude.{min}
-use Rattle.std.specs.Option.{is_none, option_map}
+use Rattle.std.specs.Option.{is_none}
 use Rattle.hfs_fields.specs.declared.mdb.Mdb.{Mdb}
 use Rattle.hfs_btree.specs.Tree.{Store}
-use Rattle.hfs_btree.specs.Sound.{IsShaped, HasStructure, HasCounts}
-use Rattle.hfs_btree_checks.specs.Shape.{unless, ◌or_else◌, has_counts, shape_fault}
+use Rattle.hfs_btree.specs.Sound.{IsShaped}
+use Rattle.hfs_btree_checks.specs.Shape.{shape_fault}
 use Rattle.hfs_space.specs.Faults.{is_tree_file}
 use Rattle.hfs_space.specs.TreeFiles.{node_count}
 use Rattle.hfs_space.specs.TreeKeys.{ext_keys}
@@ -14,7 +14,6 @@ use Rattle.hfs_fields.specs.declared.extent.Extent.{Extent}
 use Rattle.hfs_check.specs.Answers.{extents_tree_fault}
 use Rattle.hfs_check.specs.Faults.{check_fault, extents_fault, catalog_fault}
 use Rattle.hfs_check.specs.Laws.{NoExtentsFault, NoCatalogFault}
-use Rattle.hfs_check.specs.declared.mount_fault.MountFault.{MountFault}
 use Rattle.hfs_rescue.specs.OverflowRecords.{is_extents_tree_right}
 use Rattle.hfs_rescue.specs.CatalogRecords.{is_catalog_tree_right}
 

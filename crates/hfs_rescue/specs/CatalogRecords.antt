@@ -1,5 +1,5 @@
 -- The records of a catalog, wherever they are found.
-use Rattle.std.specs.Prelude.{◌≡◌, ℕ, ◌-◌, ◌*◌, ◌/◌, Bool, true, false, ◌&&◌, ◌||◌, ◌==◌, nat_lt, nat_le, if◌then◌else◌, List, [], ◌∷◌, ◌++◌, length, count_by, Option}
+use Rattle.std.specs.Prelude.{ℕ, ◌-◌, ◌*◌, ◌/◌, Bool, true, false, ◌&&◌, ◌||◌, ◌==◌, nat_lt, nat_le, if◌then◌else◌, List, [], ◌∷◌, ◌++◌, length, count_by, Option}
 use Rattle.std.specs.List.{flat_map, list_all, list_any, range_with_len}
 use Rattle.std.specs.Option.{is_none, is_some, option_map_or}
 use Rattle.hfs_fields.specs.declared.mdb.Mdb.{Mdb}
@@ -15,7 +15,7 @@ use Rattle.hfs_space.specs.Forks.{blocks_each}
 use Rattle.hfs_space.specs.TreeFiles.{node_count}
 use Rattle.hfs_check.specs.Parts.{Blocks}
 use Rattle.hfs_check.specs.Faults.{catalog_fault}
-use Rattle.hfs_rescue.specs.TreeFiles.{FileBlocks, first_nodes, nodes_of, mark_of}
+use Rattle.hfs_rescue.specs.TreeFiles.{FileBlocks, first_nodes, nodes_of}
 use Rattle.hfs_rescue.specs.LeafRecords.{all_leaf_records, leaf_records, with_age}
 use Rattle.hfs_rescue.specs.declared.leaf_records.LeafRecord.{LeafRecord}
 use Rattle.hfs_rescue.specs.declared.catalog.FoundRecord.{FoundRecord}

@@ -1,5 +1,5 @@
 -- The block that is taken for an image's directory, where mounting refuses the image: a master directory block in any of its blocks.
-use Rattle.std.specs.Prelude.{ℕ, zero, suc, ◌-◌, Bool, true, false, ◌&&◌, ◌==◌, nat_lt, nat_le, if◌then◌else◌, List, [], ◌∷◌, ◌++◌, find, length, Option, Some, None, Result, Ok, Err}
+use Rattle.std.specs.Prelude.{ℕ, zero, suc, ◌-◌, ◌<◌, ◌≤◌, Bool, true, false, ◌&&◌, ◌==◌, nat_lt, nat_le, if◌then◌else◌, List, [], ◌∷◌, ◌++◌, find, length, Option, Some, None, Result, Ok, Err}
 use Rattle.std.specs.Option.{option_or, is_none}
 use Rattle.hfs_fields.specs.Mdb.{mdb_in_block}
 use Rattle.hfs_fields.specs.declared.mdb.Mdb.{Mdb}
@@ -76,3 +76,7 @@ directory_in total blocks =
 -- of an image: none where its length is not that of a volume
 unfoldable pub directory_of : List ℕ → Option ℕ
 directory_of image = if is_none (length_fault (length image)) then directory_in (block_count image) (block_at image) else None
+
+-- block n is one of so many, and tells what an allocation block is
+abbrev pub IsDirectory : ℕ → Blocks → ℕ → Type 0
+IsDirectory total blocks n = (n < total) × (512 ≤ (mdb_at blocks n).allocation_block_size)

@@ -1,5 +1,5 @@
 -- The records of the extents tree, and the extents of a fork by them.
-use Rattle.std.specs.Prelude.{◌≡◌, ℕ, zero, suc, ◌+◌, Bool, ◌&&◌, ◌==◌, nat_lt, if◌then◌else◌, List, [], ◌∷◌, ◌++◌, find, Option, Some, None, slice_index_or, ◌<◌}
+use Rattle.std.specs.Prelude.{◌≡◌, ℕ, zero, suc, ◌+◌, Bool, ◌&&◌, ◌==◌, nat_lt, if◌then◌else◌, List, [], ◌∷◌, ◌++◌, find, Option, None, slice_index_or, ◌<◌}
 use Rattle.std.specs.List.{flat_map, position_from}
 use Rattle.std.specs.Option.{is_none, option_map_or, option_or}
 use Rattle.hfs_fields.specs.declared.mdb.Mdb.{Mdb}

@@ -11,27 +11,27 @@ use Rattle.hfs_rescue.specs.declared.catalog.FoundRecord.{FoundRecord}
 use Rattle.hfs_rescue.specs.declared.remains.Remains.{Remains}
 
 -- the blocks of the extents file
-abbrev pub extents_file_in : ℕ → Mdb → FileBlocks
-extents_file_in total mdb = file_blocks total mdb mdb.extents_file
+abbrev pub extents_file_blocks : ℕ → Mdb → FileBlocks
+extents_file_blocks total mdb = file_blocks total mdb mdb.extents_file
 
 -- the records of the extents tree
-abbrev pub overflow_in : ℕ → Blocks → Mdb → Overflow
-overflow_in total blocks mdb = overflow_records blocks mdb (extents_file_in total mdb)
+abbrev pub remaining_overflow : ℕ → Blocks → Mdb → Overflow
+remaining_overflow total blocks mdb = overflow_records blocks mdb (extents_file_blocks total mdb)
 
 -- all extents of the catalog file, and its blocks
-abbrev pub catalog_extents_in : ℕ → Blocks → Mdb → List Extent
-catalog_extents_in total blocks mdb = catalog_extents (overflow_in total blocks mdb) mdb
+abbrev pub catalog_file_extents : ℕ → Blocks → Mdb → List Extent
+catalog_file_extents total blocks mdb = catalog_extents (remaining_overflow total blocks mdb) mdb
 
-abbrev pub catalog_file_in : ℕ → Blocks → Mdb → FileBlocks
-catalog_file_in total blocks mdb = file_blocks total mdb (catalog_extents_in total blocks mdb)
+abbrev pub catalog_file_blocks : ℕ → Blocks → Mdb → FileBlocks
+catalog_file_blocks total blocks mdb = file_blocks total mdb (catalog_file_extents total blocks mdb)
 
 -- the catalog's records
-abbrev pub found_in : ℕ → Blocks → Mdb → List FoundRecord
-found_in total blocks mdb = catalog_records total blocks mdb (catalog_extents_in total blocks mdb) (catalog_file_in total blocks mdb)
+abbrev pub remaining_records : ℕ → Blocks → Mdb → List FoundRecord
+remaining_records total blocks mdb = catalog_records total blocks mdb (catalog_file_extents total blocks mdb) (catalog_file_blocks total blocks mdb)
 
 -- all of these, in a volume of so many blocks
 pub record AreRemains (total : ℕ) (blocks : Blocks) (mdb : Mdb) (remains : Remains) : Type 0 where
-  pub extents_file : remains.extents_file.items ≡ extents_file_in total mdb
-  pub overflow : remains.overflow.items ≡ overflow_in total blocks mdb
-  pub catalog_file : remains.catalog_file.items ≡ catalog_file_in total blocks mdb
-  pub found : remains.found.items ≡ found_in total blocks mdb
+  pub extents_file : remains.extents_file.items ≡ extents_file_blocks total mdb
+  pub overflow : remains.overflow.items ≡ remaining_overflow total blocks mdb
+  pub catalog_file : remains.catalog_file.items ≡ catalog_file_blocks total blocks mdb
+  pub found : remains.found.items ≡ remaining_records total blocks mdb

@@ -1,6 +1,7 @@
 //! The block that is taken for an image's directory.
-ghost use Rattle.std.specs.Prelude.{◌≡◌, ◌*◌, ◌<◌, ◌≤◌, find, length, true};
+ghost use Rattle.std.specs.Prelude.{◌≡◌, ◌*◌, ◌<◌, ◌≤◌, find, length, true, IfSome};
 ghost use Rattle.std.specs.Option.{option_or};
+ghost use Rattle.hfs_blocks.specs.Blocks.{block_at, block_count};
 ghost use Rattle.hfs_node.specs.Node.{node_of};
 ghost use Rattle.hfs_check.specs.Faults.{is_block_size};
 ghost use Rattle.hfs_rescue.specs.Directory as spec;
@@ -101,7 +102,8 @@ fn has_beginning<B: Blocks>(blocks: &B, mdb: &Mdb, beginning: Beginning) -> bool
 #[tactic(auto, unfolding(crate::specs::Directory::serves))]
 fn serves<B: Blocks>(blocks: &B, beginning: Beginning, n: u32) -> bool
     requires { n < B.total blocks.now }
-    ensures { result ≡ spec.serves (B.total blocks.now) (B.blocks blocks.now) beginning n }
+    ensures is { result ≡ spec.serves (B.total blocks.now) (B.blocks blocks.now) beginning n }
+    ensures size { result ≡ true → 512 ≤ (spec.mdb_at (B.blocks blocks.now) n).allocation_block_size }
 {
     let mdb = read_mdb_at(blocks, n);
     will_do(&mdb) && has_beginning(blocks, &mdb, beginning)
@@ -110,8 +112,9 @@ fn serves<B: Blocks>(blocks: &B, beginning: Beginning, n: u32) -> bool
 /// The first of the two blocks in which a directory belongs that serves.
 fn in_usual_places<B: Blocks>(blocks: &B, beginning: Beginning) -> Option<u32>
     requires { 3 ≤ B.total blocks.now }
-    ensures { result ≡ find (spec.serves (B.total blocks.now) (B.blocks blocks.now) beginning)
+    ensures first { result ≡ find (spec.serves (B.total blocks.now) (B.blocks blocks.now) beginning)
         (spec.usual_places (B.total blocks.now)) }
+    ensures is { IfSome result (spec.IsDirectory (B.total blocks.now) (B.blocks blocks.now)) }
 {
     if serves(blocks, beginning, 2) {
         return Some(2);
@@ -125,8 +128,9 @@ fn in_usual_places<B: Blocks>(blocks: &B, beginning: Beginning) -> Option<u32>
 
 /// The last block that serves.
 fn last_serving<B: Blocks>(blocks: &B, beginning: Beginning) -> Option<u32>
-    ensures { result ≡ find (spec.serves (B.total blocks.now) (B.blocks blocks.now) beginning)
+    ensures first { result ≡ find (spec.serves (B.total blocks.now) (B.blocks blocks.now) beginning)
         (spec.downward (B.total blocks.now)) }
+    ensures is { IfSome result (spec.IsDirectory (B.total blocks.now) (B.blocks blocks.now)) }
 {
     let mut n = blocks.count();
     while n > 0 {
@@ -141,8 +145,9 @@ fn last_serving<B: Blocks>(blocks: &B, beginning: Beginning) -> Option<u32>
 /// The first block that serves: of those in which a directory belongs, or else of all from the last to the first.
 fn in_all_places<B: Blocks>(blocks: &B, beginning: Beginning) -> Option<u32>
     requires { 3 ≤ B.total blocks.now }
-    ensures { result ≡ find (spec.serves (B.total blocks.now) (B.blocks blocks.now) beginning)
+    ensures first { result ≡ find (spec.serves (B.total blocks.now) (B.blocks blocks.now) beginning)
         (spec.all_places (B.total blocks.now)) }
+    ensures is { IfSome result (spec.IsDirectory (B.total blocks.now) (B.blocks blocks.now)) }
 {
     match in_usual_places(blocks, beginning) {
         Some(n) => Some(n),
@@ -159,7 +164,8 @@ fn in_all_places<B: Blocks>(blocks: &B, beginning: Beginning) -> Option<u32>
 #[tactic(auto, unfolding(crate::specs::Directory::directory_in))]
 pub fn directory_in<B: Blocks>(blocks: &B) -> Option<u32>
     requires { 3 ≤ B.total blocks.now }
-    ensures { result ≡ spec.directory_in (B.total blocks.now) (B.blocks blocks.now) }
+    ensures first { result ≡ spec.directory_in (B.total blocks.now) (B.blocks blocks.now) }
+    ensures is { IfSome result (spec.IsDirectory (B.total blocks.now) (B.blocks blocks.now)) }
 {
     if let Some(n) = in_usual_places(blocks, Beginning::Both) {
         return Some(n);
@@ -174,7 +180,8 @@ pub fn directory_in<B: Blocks>(blocks: &B) -> Option<u32>
 /// than 1,536 bytes or more than 2,147,483,648.
 #[tactic(auto, unfolding(crate::specs::Directory::directory_of, hfs_check::specs::Faults::length_fault))]
 pub fn directory_of(image: &[u8]) -> Option<u32>
-    ensures { result ≡ spec.directory_of image.now }
+    ensures first { result ≡ spec.directory_of image.now }
+    ensures is { IfSome result (spec.IsDirectory (block_count image.now) (block_at image.now)) }
 {
     if image.len() < 1536 || image.len() > 2_147_483_648 {
         return None;

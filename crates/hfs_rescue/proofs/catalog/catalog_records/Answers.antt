@@ -1,4 +1,4 @@
-use Rattle.std.proofs.Common.{◌≡◌, ℕ, true, sym, subst, ◌∙◌}
+use Rattle.std.proofs.Common.{ℕ, sym, subst, ◌∙◌}
 use Rattle.hfs_btree.specs.Sound.{HasStructure, HasCounts}
 use Rattle.hfs_catalog.specs.Tree.{cat_keys}
 use Rattle.hfs_rescue.specs.TreeFiles.{first_nodes}

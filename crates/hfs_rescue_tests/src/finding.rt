@@ -1,0 +1,40 @@
+//! What is found of an image.
+use hfs_blocks::ImageBytes;
+use hfs_rescue::{Remains, directory_in, find_remains, read_mdb_at};
+use std::alloc::Global;
+use std::test::Fail;
+
+/// What is found of an image by its own directory.
+pub fn found(alloc: Global, image: &[u8]) -> Result<Remains, Fail> {
+    if image.len() < 1536 || image.len() > 2_147_483_648 {
+        return Err(Fail::new("the image has another length"));
+    }
+    let blocks = ImageBytes { bytes: image };
+    let Some(n) = directory_in(&blocks) else {
+        return Err(Fail::new("there is no directory"));
+    };
+    let mdb = read_mdb_at(&blocks, n);
+    Ok(find_remains(alloc, &blocks, &mdb)?)
+}
+
+/// Zeros in place of an image's blocks from `first` up to `end`.
+pub fn wipe(image: &mut [u8], first: usize, end: usize) {
+    for byte in 512 * first..512 * end {
+        if byte < image.len() {
+            image[byte] = 0;
+        }
+    }
+}
+
+/// One letter for each of the first eight records that were found: `o` where it is old, else `n`; spaces behind them.
+pub fn ages(remains: &Remains) -> [u8; 8] {
+    let mut letters = [b' '; 8];
+    let mut count = 0;
+    for record in &remains.found {
+        if count < 8 {
+            letters[count] = if record.old { b'o' } else { b'n' };
+            count += 1;
+        }
+    }
+    letters
+}
