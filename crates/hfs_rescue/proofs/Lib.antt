@@ -6,3 +6,4 @@ pub mod LeafLemmas
 pub mod StepLemmas
 pub mod ForkLemmas
 pub mod RightLemmas
+pub mod ItemLemmas

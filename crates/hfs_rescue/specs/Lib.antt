@@ -6,3 +6,4 @@ pub mod LeafRecords
 pub mod OverflowRecords
 pub mod CatalogRecords
 pub mod Remains
+pub mod Items
