@@ -68,7 +68,8 @@ fn push_of_leaves(
     leaves: &[LeafRecord],
     records: &mut Vec<FoundRecord>,
 ) -> Result<(), AllocError>
-    ensures { OnOk result (records.new.items ≡ records.old.items ++ spec.found_in_leaves leaves.now) }
+    ensures { OnOk result (records.new.items ≡ records.old.items ++ spec.found_in_leaves
+        leaves.now) }
 {
     for leaf in leaves {
         push_found(alloc, leaf, records)?;
@@ -150,7 +151,8 @@ fn scattered_records<B: Blocks>(
     nodes: &FileNodes<'_, B>,
 ) -> Result<Vec<FoundRecord>, AllocError>
     ensures { IfOk result (λ records. records.items ≡ spec.scattered_records
-        (B.total nodes.now.blocks.now) (B.blocks nodes.now.blocks.now) nodes.now.mdb.now nodes.now.file.now) }
+        (B.total nodes.now.blocks.now) (B.blocks nodes.now.blocks.now) nodes.now.mdb.now
+        nodes.now.file.now) }
 {
     let mut records = Vec::new(alloc);
     let leaves = all_leaf_records(alloc, nodes)?;
@@ -174,7 +176,8 @@ pub fn catalog_records<B: Blocks>(
     extents: &[Extent],
 ) -> Result<Vec<FoundRecord>, AllocError>
     ensures { IfOk result (λ records. records.items ≡ spec.catalog_records
-        (B.total nodes.now.blocks.now) (B.blocks nodes.now.blocks.now) nodes.now.mdb.now extents.now nodes.now.file.now) }
+        (B.total nodes.now.blocks.now) (B.blocks nodes.now.blocks.now) nodes.now.mdb.now
+        extents.now nodes.now.file.now) }
 {
     no_catalog_fault();
     if is_catalog_tree_right(alloc, nodes, extents)? {

@@ -103,7 +103,8 @@ fn has_beginning<B: Blocks>(blocks: &B, mdb: &Mdb, beginning: Beginning) -> bool
 fn serves<B: Blocks>(blocks: &B, beginning: Beginning, n: u32) -> bool
     requires { n < B.total blocks.now }
     ensures is { result ≡ spec.serves (B.total blocks.now) (B.blocks blocks.now) beginning n }
-    ensures size { result ≡ true → 512 ≤ (spec.mdb_at (B.blocks blocks.now) n).allocation_block_size }
+    ensures size { result ≡ true → 512 ≤ (spec.mdb_at (B.blocks blocks.now)
+        n).allocation_block_size }
 {
     let mdb = read_mdb_at(blocks, n);
     will_do(&mdb) && has_beginning(blocks, &mdb, beginning)

@@ -10,11 +10,11 @@ use hfs_fields::{Extent, Mdb};
 use std::alloc::{AllocError, Global};
 
 /// Notes the place of a record at the block of the fork from which it goes on, where it is the first of this fork there.
-fn note_place(places: &mut [Option<usize>], record: &OverflowRecord, file: u32, fork: u8, i: usize)
+fn note_place(places: &mut [Option<usize>], entry: &OverflowRecord, file: u32, fork: u8, i: usize)
     requires { length places.old ≡ 65536 }
-    ensures { spec.NotesPlace file fork i record.now places.old places.new }
+    ensures { spec.NotesPlace file fork i entry.now places.old places.new }
 {
-    let key = record.key();
+    let key = entry.key();
     if key.file != file || key.fork != fork {
         return;
     }
@@ -26,7 +26,8 @@ fn note_place(places: &mut [Option<usize>], record: &OverflowRecord, file: u32, 
 
 /// No place for each number of two bytes.
 fn no_places(alloc: Global) -> Result<Vec<Option<usize>>, AllocError>
-    ensures none { IfOk result (λ places. (block : ℕ) → slice_index_or places.items block None ≡ None) }
+    ensures none { IfOk result (λ places. (block : ℕ) → slice_index_or places.items block None ≡
+        None) }
     ensures long { IfOk result (λ places. length places.items ≡ 65536) }
 {
     let mut places = Vec::new(alloc);
@@ -102,7 +103,8 @@ impl<'a> ForkRecords<'a> {
 
     /// The first record from a block of the fork on.
     fn at(&self, block: u32) -> Option<&OverflowRecord>
-        ensures { option_copied result ≡ spec.record_at self.now.records.now self.now.file self.now.fork block }
+        ensures { option_copied result ≡ spec.record_at self.now.records.now self.now.file
+            self.now.fork block }
     {
         match place_at(&self.places, block) {
             Some(place) => self.records.get(place),
@@ -129,22 +131,23 @@ fn block_total(extents: &[Extent; 3]) -> u32
 }
 
 /// How many blocks a record has.
-fn blocks_in(record: &OverflowRecord) -> u32
-    ensures total { result ≡ space.block_total (space.record_extents record.now.1) }
+fn blocks_in(entry: &OverflowRecord) -> u32
+    ensures total { result ≡ space.block_total (space.record_extents entry.now.1) }
     ensures few { result < 2 ^ 18 }
 {
-    match record.extents() {
+    match entry.extents() {
         Some(extents) => block_total(&extents),
         None => 0,
     }
 }
 
 /// Adds the extents of a record.
-fn push_extents(record: &OverflowRecord, extents: &mut Vec<Extent>) -> Result<(), AllocError>
-    ensures items { OnOk result (extents.new.items ≡ extents.old.items ++ space.record_extents record.now.1) }
+fn push_extents(entry: &OverflowRecord, extents: &mut Vec<Extent>) -> Result<(), AllocError>
+    ensures items { OnOk result (extents.new.items ≡ extents.old.items ++ space.record_extents
+        entry.now.1) }
     ensures few { OnOk result (length extents.new.items ≤ length extents.old.items + 3) }
 {
-    if let Some(more) = record.extents() {
+    if let Some(more) = entry.extents() {
         extents.extend_from_slice(&more)?;
     }
     Ok(())
@@ -163,7 +166,8 @@ fn fork_extents(
     first: &[Extent; 3],
 ) -> Result<Vec<Extent>, AllocError>
     requires { wanted ≤ 65536 }
-    ensures extents { IfOk result (λ extents. extents.items ≡ spec.fork_extents records.now file fork wanted first.now) }
+    ensures extents { IfOk result (λ extents. extents.items ≡ spec.fork_extents records.now file
+        fork wanted first.now) }
     ensures few { IfOk result (λ extents. length extents.items ≤ 196611) }
 {
     let fork_records = ForkRecords::of(alloc, records, file, fork)?;
@@ -196,7 +200,8 @@ pub fn catalog_extents(
     records: &[OverflowRecord],
     mdb: &Mdb,
 ) -> Result<Vec<Extent>, AllocError>
-    ensures extents { IfOk result (λ extents. extents.items ≡ spec.catalog_extents records.now mdb.now) }
+    ensures extents { IfOk result (λ extents. extents.items ≡ spec.catalog_extents records.now
+        mdb.now) }
     ensures few { IfOk result (λ extents. length extents.items ≤ 196611) }
 {
     fork_extents(alloc, records, 4, 0, 65536, &mdb.catalog_file)

@@ -53,7 +53,8 @@ fn read_map_node<B: Blocks>(
     map: &mut Vec<u8>,
 ) -> Result<Option<u32>, AllocError>
     ensures { IfOk result (FindsMapNode
-        (nodes_of (B.blocks nodes.now.blocks.now) nodes.now.mdb.now nodes.now.file.now) n map.old.items map.new.items) }
+        (nodes_of (B.blocks nodes.now.blocks.now) nodes.now.mdb.now nodes.now.file.now) n
+        map.old.items map.new.items) }
 {
     let mut bytes = [0; 512];
     nodes.read_node(u64::from(n), &mut bytes);
@@ -74,8 +75,10 @@ fn read_chain<B: Blocks>(
     first: u32,
     map: &mut Vec<u8>,
 ) -> Result<(), AllocError>
-    ensures { let store = nodes_of (B.blocks nodes.now.blocks.now) nodes.now.mdb.now nodes.now.file.now in
-        OnOk result (map.new.items ≡ map.old.items ++ chain_bytes store (λ n. false) (length store) first) }
+    ensures { let store = nodes_of (B.blocks nodes.now.blocks.now) nodes.now.mdb.now
+        nodes.now.file.now in
+        OnOk result (map.new.items ≡ map.old.items ++ chain_bytes store (λ n. false) (length
+        store) first) }
 {
     let mut met = BTreeSet::new(alloc);
     let mut n = first;
@@ -100,7 +103,8 @@ fn read_map<B: Blocks>(
     alloc: Global,
     nodes: &FileNodes<'_, B>,
 ) -> Result<Option<Vec<u8>>, AllocError>
-    ensures { IfOk result (TellsUse (nodes_of (B.blocks nodes.now.blocks.now) nodes.now.mdb.now nodes.now.file.now)) }
+    ensures { IfOk result (TellsUse (nodes_of (B.blocks nodes.now.blocks.now) nodes.now.mdb.now
+        nodes.now.file.now)) }
 {
     let mut bytes = [0; 512];
     nodes.read_node(0, &mut bytes);
@@ -131,7 +135,8 @@ impl NodesInUse {
     /// It is believed where node 0 is a header node with three records, the first of at least 18 bytes, and the map marks node 0
     /// and the node that bthLNode names. The only error is want of memory.
     pub fn of<B: Blocks>(alloc: Global, nodes: &FileNodes<'_, B>) -> Result<NodesInUse, AllocError>
-        ensures { IfOk result (λ used. TellsUse (nodes_of (B.blocks nodes.now.blocks.now) nodes.now.mdb.now nodes.now.file.now) used.map) }
+        ensures { IfOk result (λ used. TellsUse (nodes_of (B.blocks nodes.now.blocks.now)
+            nodes.now.mdb.now nodes.now.file.now) used.map) }
     {
         let map = read_map(alloc, nodes)?;
         Ok(NodesInUse { map })

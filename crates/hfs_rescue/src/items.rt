@@ -12,7 +12,8 @@ use std::alloc::{AllocError, Global};
 
 /// The ID of a folder's or a file's record that has a name; None of any other record.
 fn named_id(entry: &CatalogRecord) -> Option<u32>
-    ensures { result ≡ if is_item entry.now.1 && not (length entry.now.0.name == 0) then Some (item_id entry.now.1) else None }
+    ensures { result ≡ if is_item entry.now.1 && not (length entry.now.0.name == 0) then Some
+        (item_id entry.now.1) else None }
 {
     if entry.key().name.bytes().is_empty() {
         return None;

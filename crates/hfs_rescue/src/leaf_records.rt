@@ -57,7 +57,8 @@ pub(crate) fn push_leaf(
     old: bool,
     records: &mut Vec<LeafRecord>,
 ) -> Result<(), AllocError>
-    ensures { OnOk result (spec.Adds (spec.with_age old (spec.leaf_records (node_of bytes.now))) records.old records.new) }
+    ensures { OnOk result (spec.Adds (spec.with_age old (spec.leaf_records (node_of bytes.now)))
+        records.old records.new) }
 {
     let Ok(node) = view(bytes) else {
         return Ok(());
@@ -77,8 +78,11 @@ fn push_node<B: Blocks>(
     old: bool,
     records: &mut Vec<LeafRecord>,
 ) -> Result<(), AllocError>
-    requires { TellsUse (nodes_of (B.blocks nodes.now.blocks.now) nodes.now.mdb.now nodes.now.file.now) used.now.map }
-    ensures { OnOk result (spec.Adds (spec.records_at (nodes_of (B.blocks nodes.now.blocks.now) nodes.now.mdb.now nodes.now.file.now) old n) records.old records.new) }
+    requires { TellsUse (nodes_of (B.blocks nodes.now.blocks.now) nodes.now.mdb.now
+        nodes.now.file.now) used.now.map }
+    ensures { OnOk result (spec.Adds (spec.records_at
+        (nodes_of (B.blocks nodes.now.blocks.now) nodes.now.mdb.now nodes.now.file.now) old n)
+        records.old records.new) }
 {
     if used.has(n) == old {
         return Ok(());
@@ -98,10 +102,13 @@ fn push_block<B: Blocks>(
     records: &mut Vec<LeafRecord>,
 ) -> Result<(), AllocError>
     requires place { place < length nodes.now.file.now }
-    requires used { TellsUse (nodes_of (B.blocks nodes.now.blocks.now) nodes.now.mdb.now nodes.now.file.now) used.now.map }
+    requires used { TellsUse (nodes_of (B.blocks nodes.now.blocks.now) nodes.now.mdb.now
+        nodes.now.file.now) used.now.map }
     ensures { OnOk result (spec.Adds (flat_map
-        (spec.records_at (nodes_of (B.blocks nodes.now.blocks.now) nodes.now.mdb.now nodes.now.file.now) old)
-        (range_with_len (place * blocks_each nodes.now.mdb.now) (blocks_each nodes.now.mdb.now))) records.old records.new) }
+        (spec.records_at (nodes_of (B.blocks nodes.now.blocks.now) nodes.now.mdb.now
+        nodes.now.file.now) old)
+        (range_with_len (place * blocks_each nodes.now.mdb.now) (blocks_each nodes.now.mdb.now)))
+        records.old records.new) }
 {
     let Some(_block) = block_at(nodes.file, place) else {
         return Ok(());
@@ -123,8 +130,11 @@ fn push_of_age<B: Blocks>(
     old: bool,
     records: &mut Vec<LeafRecord>,
 ) -> Result<(), AllocError>
-    requires { TellsUse (nodes_of (B.blocks nodes.now.blocks.now) nodes.now.mdb.now nodes.now.file.now) used.now.map }
-    ensures { OnOk result (spec.Adds (spec.records_of_age (nodes_of (B.blocks nodes.now.blocks.now) nodes.now.mdb.now nodes.now.file.now) old) records.old records.new) }
+    requires { TellsUse (nodes_of (B.blocks nodes.now.blocks.now) nodes.now.mdb.now
+        nodes.now.file.now) used.now.map }
+    ensures { OnOk result (spec.Adds (spec.records_of_age
+        (nodes_of (B.blocks nodes.now.blocks.now) nodes.now.mdb.now nodes.now.file.now) old)
+        records.old records.new) }
 {
     for place in 0..nodes.file.len() {
         push_block(alloc, nodes, used, place, old, records)?;

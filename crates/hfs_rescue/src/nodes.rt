@@ -64,7 +64,8 @@ impl<B: Blocks> FileNodes<'_, B> {
     /// Copies node `n` into 512 bytes: zeros, which decode as no node, where its block is missing or the file has no such node.
     #[tactic(auto, unfolding(crate::specs::TreeFiles::node_at))]
     pub fn read(&self, n: u64, into: &mut [u8; 512])
-        ensures { into.new ≡ node_at (B.blocks self.now.blocks.now) self.now.mdb.now self.now.file.now n }
+        ensures { into.new ≡ node_at (B.blocks self.now.blocks.now) self.now.mdb.now
+            self.now.file.now n }
     {
         let each = u64::from(self.mdb.allocation_block_size / 512);
         match block_at(self.file, (n / each) as usize) {
@@ -95,7 +96,8 @@ pub struct FirstNodes<'a, B: Blocks> {
 }
 
 impl<B: Blocks> Nodes for FirstNodes<'_, B> {
-    ghost nodes = { λ s. first_nodes (B.blocks s.nodes.now.blocks.now) s.nodes.now.mdb.now s.nodes.now.file.now s.count };
+    ghost nodes = { λ s. first_nodes (B.blocks s.nodes.now.blocks.now) s.nodes.now.mdb.now
+        s.nodes.now.file.now s.count };
 
     fn count(&self) -> u32 {
         self.count

@@ -122,7 +122,8 @@ fn records_of_leaves(
 
 /// Whether a check found no fault. The only error is want of memory.
 fn has_passed(answer: Result<(), MountFault>) -> Result<bool, AllocError>
-    ensures { IfOk result (λ right. (fault : Option MountFault) → Answers fault answer → right ≡ is_none fault) }
+    ensures { IfOk result (λ right. (fault : Option MountFault) → Answers fault answer → right ≡
+        is_none fault) }
 {
     match answer {
         Ok(()) => Ok(true),

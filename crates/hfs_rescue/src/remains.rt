@@ -37,7 +37,8 @@ fn overflow_of<B: Blocks>(
     requires size { 512 ≤ mdb.now.allocation_block_size }
     requires there { files.AreThere (B.total blocks.now) mdb.now file.now }
     requires few { length file.now < 2 ^ 40 }
-    ensures { IfOk result (λ records. records.items ≡ overflow.overflow_records (B.blocks blocks.now) mdb.now file.now) }
+    ensures { IfOk result (λ records. records.items ≡ overflow.overflow_records (B.blocks
+        blocks.now) mdb.now file.now) }
 {
     let nodes = FileNodes { blocks, mdb, file };
     overflow_records(alloc, &nodes)
@@ -54,7 +55,8 @@ fn found_of<B: Blocks>(
     requires size { 512 ≤ mdb.now.allocation_block_size }
     requires there { files.AreThere (B.total blocks.now) mdb.now file.now }
     requires few { length file.now < 2 ^ 40 }
-    ensures { IfOk result (λ records. records.items ≡ catalog.catalog_records (B.total blocks.now) (B.blocks blocks.now) mdb.now extents.now file.now) }
+    ensures { IfOk result (λ records. records.items ≡ catalog.catalog_records (B.total blocks.now)
+        (B.blocks blocks.now) mdb.now extents.now file.now) }
 {
     let nodes = FileNodes { blocks, mdb, file };
     catalog_records(alloc, &nodes, extents)

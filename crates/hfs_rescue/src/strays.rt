@@ -27,7 +27,8 @@ fn mark_place(marks: &mut [bool], place: Option<u16>)
 
 /// A mark for each allocation block of the directory, set where it is one of the file's.
 fn file_marks<B: Blocks>(alloc: Global, nodes: &FileNodes<'_, B>) -> Result<Vec<bool>, AllocError>
-    ensures { IfOk result (λ marks. (b : ℕ) → mark_of marks.items b ≡ spec.has_block nodes.now.file.now b) }
+    ensures { IfOk result (λ marks. (b : ℕ) → mark_of marks.items b ≡ spec.has_block
+        nodes.now.file.now b) }
 {
     let mut marks = vec![in alloc; false; usize::from(nodes.mdb.allocation_blocks)]?;
     for place in nodes.file {
@@ -39,7 +40,8 @@ fn file_marks<B: Blocks>(alloc: Global, nodes: &FileNodes<'_, B>) -> Result<Vec<
 /// Whether logical block `k` is one of a file's, whose allocation blocks are marked.
 fn is_marked(mdb: &Mdb, marks: &[bool], k: u32) -> bool
     requires { 512 ≤ mdb.now.allocation_block_size }
-    ensures { result ≡ (nat_le mdb.now.allocation_start k && mark_of marks.now ((k - mdb.now.allocation_start) / blocks_each mdb.now)) }
+    ensures { result ≡ (nat_le mdb.now.allocation_start k && mark_of marks.now
+        ((k - mdb.now.allocation_start) / blocks_each mdb.now)) }
 {
     let start = u32::from(mdb.allocation_start);
     if k < start {
@@ -77,7 +79,8 @@ fn push_stray<B: Blocks>(
 ) -> Result<(), AllocError>
     requires within { k < B.total nodes.now.blocks.now }
     requires marks { (b : ℕ) → mark_of marks.now b ≡ spec.has_block nodes.now.file.now b }
-    ensures { OnOk result (Adds (spec.stray_records_at (B.blocks nodes.now.blocks.now) nodes.now.mdb.now nodes.now.file.now k) records.old records.new) }
+    ensures { OnOk result (Adds (spec.stray_records_at (B.blocks nodes.now.blocks.now)
+        nodes.now.mdb.now nodes.now.file.now k) records.old records.new) }
 {
     if is_marked(nodes.mdb, marks, k) {
         return Ok(());
@@ -98,7 +101,8 @@ pub(crate) fn all_stray_records<B: Blocks>(
     nodes: &FileNodes<'_, B>,
 ) -> Result<Vec<LeafRecord>, AllocError>
     ensures { IfOk result (λ records. records.items ≡ spec.all_stray_records
-        (B.total nodes.now.blocks.now) (B.blocks nodes.now.blocks.now) nodes.now.mdb.now nodes.now.file.now) }
+        (B.total nodes.now.blocks.now) (B.blocks nodes.now.blocks.now) nodes.now.mdb.now
+        nodes.now.file.now) }
 {
     let marks = file_marks(alloc, nodes)?;
     let mut records = Vec::new(alloc);

@@ -1,6 +1,6 @@
 //! What is found of an image.
 use hfs_blocks::ImageBytes;
-use hfs_rescue::{Remains, directory_in, find_remains, read_mdb_at};
+use hfs_rescue::{FoundRecord, Remains, directory_in, find_remains, items_of, read_mdb_at};
 use std::alloc::Global;
 use std::test::Fail;
 
@@ -26,11 +26,18 @@ pub fn wipe(image: &mut [u8], first: usize, end: usize) {
     }
 }
 
-/// One letter for each of the first eight records that were found: `o` where it is old, else `n`; spaces behind them.
-pub fn ages(remains: &Remains) -> [u8; 8] {
+/// A letter for each of the first eight items of an image, as `ages` gives them.
+pub fn items(alloc: Global, image: &[u8]) -> Result<[u8; 8], Fail> {
+    let remains = found(alloc, image)?;
+    let items = items_of(alloc, remains.found)?;
+    Ok(ages(&items))
+}
+
+/// One letter for each of the first eight records: `o` where it is old, else `n`; spaces behind them.
+pub fn ages(records: &[FoundRecord]) -> [u8; 8] {
     let mut letters = [b' '; 8];
     let mut count = 0;
-    for record in &remains.found {
+    for record in records {
         if count < 8 {
             letters[count] = if record.old { b'o' } else { b'n' };
             count += 1;

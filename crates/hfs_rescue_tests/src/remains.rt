@@ -1,5 +1,5 @@
 //! The records that are found of a damaged volume.
-use crate::finding::{ages, found, wipe};
+use crate::finding::{ages, found, items, wipe};
 use hfs_fixtures::{SmallVolume, lay, small_image};
 use std::alloc::Global;
 use std::process::Abort;
@@ -10,7 +10,7 @@ use std::test::Fail;
 fn told(alloc: Global, image: &[u8]) -> Result<([u8; 8], usize, usize), Fail> {
     let remains = found(alloc, image)?;
     let there = remains.catalog_file.iter().filter(|b| b.is_some()).count();
-    Ok((ages(&remains), remains.overflow.len(), there))
+    Ok((ages(&remains.found), remains.overflow.len(), there))
 }
 
 /// A sound volume has the root, its thread and the file.
@@ -73,5 +73,22 @@ fn remains_of_a_leaf_not_in_use(rt: HostRuntime) -> Result<(), Fail> {
     lay(&mut image, 7, 22, &[9])?;
     lay(&mut image, 6, 20, &[0, 0, 0, 4])?;
     assert!(rt; told(rt.alloc(), &image)? == (*b"nnooo   ", 1, 6));
+    Ok(())
+}
+
+/// A file whose old record has the ID of an item is no item again, and the root that is left in an old leaf alone is one.
+#[test]
+fn items_of_a_leaf_not_in_use(rt: HostRuntime) -> Result<(), Fail> {
+    let alloc = rt.alloc();
+    let mut image = small_image(alloc, SmallVolume::OneFile)?;
+    if image.len() != 32_768 {
+        return Err(Fail::new("another length"));
+    }
+    let mut leaf = [0; 512];
+    leaf.copy_from_slice(&image[3584..4096]);
+    lay(&mut image, 8, 0, &leaf)?;
+    lay(&mut image, 7, 22, &[9])?;
+    lay(&mut image, 6, 20, &[0, 0, 0, 4])?;
+    assert!(rt; items(alloc, &image)? == *b"no      ");
     Ok(())
 }
