@@ -12,7 +12,7 @@ fn directory(alloc: Global, first: usize, end: usize, kept: usize) -> Result<Opt
     if end > 64 || kept > 64 || image.len() != 32_768 {
         return Err(Fail::new("no such block"));
     }
-    wipe(&mut image, first, end);
+    wipe(&mut image, first, end)?;
     Ok(directory_of(&image[..512 * kept]))
 }
 
@@ -45,8 +45,8 @@ fn directory_elsewhere(rt: HostRuntime) -> Result<(), Fail> {
         return Err(Fail::new("another length"));
     }
     bytes.copy_from_slice(&image[1024..1186]);
-    wipe(&mut image, 2, 3);
-    wipe(&mut image, 62, 63);
+    wipe(&mut image, 2, 3)?;
+    wipe(&mut image, 62, 63)?;
     lay(&mut image, 50, 0, &bytes)?;
     assert!(rt; directory_of(&image) == Some(50));
     Ok(())

@@ -1,5 +1,6 @@
 //! What is found of an image.
 use hfs_blocks::ImageBytes;
+use hfs_fixtures::lay;
 use hfs_rescue::{FoundRecord, Remains, directory_in, find_remains, items_of, read_mdb_at};
 use std::alloc::Global;
 use std::test::Fail;
@@ -17,13 +18,12 @@ pub fn found(alloc: Global, image: &[u8]) -> Result<Remains, Fail> {
     Ok(find_remains(alloc, &blocks, &mdb)?)
 }
 
-/// Zeros in place of an image's blocks from `first` up to `end`.
-pub fn wipe(image: &mut [u8], first: usize, end: usize) {
-    for byte in 512 * first..512 * end {
-        if byte < image.len() {
-            image[byte] = 0;
-        }
+/// Lays zeros in place of an image's blocks from `first` up to `end`.
+pub fn wipe(image: &mut [u8], first: usize, end: usize) -> Result<(), Fail> {
+    for block in first..end {
+        lay(image, block, 0, &[0; 512])?;
     }
+    Ok(())
 }
 
 /// A letter for each of the first eight items of an image, as `ages` gives them.

@@ -45,7 +45,7 @@ fn remains_without_a_catalog_file(rt: HostRuntime) -> Result<(), Fail> {
 #[test]
 fn remains_without_header_nodes(rt: HostRuntime) -> Result<(), Fail> {
     let mut image = small_image(rt.alloc(), SmallVolume::OneFile)?;
-    wipe(&mut image, 4, 7);
+    wipe(&mut image, 4, 7)?;
     assert!(rt; told(rt.alloc(), &image)? == (*b"nnn     ", 0, 6));
     Ok(())
 }
