@@ -1,0 +1,28 @@
+//! What remains of a damaged volume: a directory, the blocks and nodes that are there, and the records in them.
+#![tactic(auto)]
+
+mod allocation;
+mod catalog;
+mod directory;
+mod fork_extents;
+mod in_use;
+mod items;
+mod leaf_records;
+mod nodes;
+mod overflow;
+mod remains;
+mod sets;
+mod strays;
+mod tree_file;
+
+pub use allocation::{is_there, start_of};
+pub use catalog::{FoundRecord, catalog_records, is_catalog_tree_right};
+pub use directory::{Beginning, directory_in, directory_of, read_mdb_at};
+pub use fork_extents::catalog_extents;
+pub use in_use::NodesInUse;
+pub use items::items_of;
+pub use leaf_records::{LeafRecord, all_leaf_records};
+pub use nodes::{FileNodes, FirstNodes};
+pub use overflow::{OverflowRecord, is_extents_tree_right, overflow_records};
+pub use remains::{Remains, find_remains};
+pub use tree_file::file_blocks;

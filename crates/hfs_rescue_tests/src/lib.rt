@@ -1,0 +1,9 @@
+//! Tests of what is found of damaged volumes.
+#![tactic(auto)]
+
+#[cfg(test)]
+mod directories;
+#[cfg(test)]
+mod finding;
+#[cfg(test)]
+mod remains;
