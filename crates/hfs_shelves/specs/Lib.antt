@@ -1,0 +1,4 @@
+pub mod Entries
+pub mod Steps
+pub mod ShelfPaths
+pub mod Told
