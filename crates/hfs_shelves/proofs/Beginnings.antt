@@ -1,5 +1,5 @@
 -- Beginnings of lists of what a shelf was given.
-use Rattle.std.proofs.Common.{◌≡◌, ℕ, List, [], ◌∷◌, ◌++◌, refl, sym, ap, ◌∙◌, subst, append_assoc, inl, inr}
+use Rattle.std.proofs.Common.{◌≡◌, ℕ, List, [], ◌∷◌, ◌++◌, refl, sym, ap, ◌∙◌, subst, append_assoc, append-nil, inl, inr}
 use Rattle.hfs_shelves.specs.Entries.{ShelfEntry, folder, file, with_folder, with_file, with_piece, IsPart, IsBeginning}
 
 -- a list and what came behind it
@@ -56,5 +56,31 @@ begins_longer (entry ∷ behind) [] rest path bytes more (inl h) = inr (part_of_
 begins_longer (entry ∷ behind) [] rest path bytes more (inr h) = inr (part_longer entry path bytes more h.0, h.1)
 begins_longer (entry ∷ behind) (first ∷ before) rest path bytes more (inl h) = inl (h.0, begins_longer behind before rest path bytes more h.1)
 begins_longer (entry ∷ behind) (first ∷ before) rest path bytes more (inr h) = inr h
+
+-- no bytes change nothing
+pub with_piece-none : (xs : List ShelfEntry) → with_piece xs [] ≡ xs
+with_piece-none [] = refl
+with_piece-none (folder path ∷ []) = refl
+with_piece-none (file path bytes ∷ []) = ap (λ (all : List ℕ). file path all ∷ []) (append-nil bytes)
+with_piece-none (entry ∷ next ∷ rest) = ap (λ (behind : List ShelfEntry). entry ∷ behind) (with_piece-none (next ∷ rest))
+
+-- two pieces are one
+pub with_piece-twice : (xs : List ShelfEntry) (a b : List ℕ) → with_piece (with_piece xs a) b ≡ with_piece xs (a ++ b)
+with_piece-twice [] a b = refl
+with_piece-twice (folder path ∷ []) a b = refl
+with_piece-twice (file path bytes ∷ []) a b = ap (λ (all : List ℕ). file path all ∷ []) (append_assoc bytes a b)
+with_piece-twice (entry ∷ folder path ∷ []) a b = refl
+with_piece-twice (entry ∷ file path bytes ∷ []) a b = ap (λ (all : List ℕ). entry ∷ file path all ∷ []) (append_assoc bytes a b)
+with_piece-twice (entry ∷ next ∷ third ∷ rest) a b = ap (λ (behind : List ShelfEntry). entry ∷ behind) (with_piece-twice (next ∷ third ∷ rest) a b)
+
+-- a beginning stays one when the piece goes on
+pub begins_longer_piece : (now given : List ShelfEntry) (piece more : List ℕ) → IsBeginning now (with_piece given piece) → IsBeginning now (with_piece given (piece ++ more))
+begins_longer_piece now [] piece more h = h
+begins_longer_piece now (folder path ∷ []) piece more h = h
+begins_longer_piece now (file path bytes ∷ []) piece more h =
+    subst (λ (all : List ℕ). IsBeginning now (file path all ∷ [])) (append_assoc bytes piece more) (begins_longer now [] [] path (bytes ++ piece) more h)
+begins_longer_piece [] (entry ∷ next ∷ rest) piece more h = tt
+begins_longer_piece (first ∷ behind) (entry ∷ next ∷ rest) piece more (inl h) = inl (h.0, begins_longer_piece behind (next ∷ rest) piece more h.1)
+begins_longer_piece (first ∷ behind) (entry ∷ next ∷ rest) piece more (inr h) = inr h
 
 pub ruleset beginnings = (begins_folder, begins_file, begins_piece)
