@@ -12,8 +12,17 @@ use Rattle.hfs_bag.specs.Items.{BagItem, data_entry, digests_of_kind, double_ent
 use Rattle.hfs_bag.specs.Sources.{SourceState, HasItem}
 use Rattle.hfs_bag.specs.Bags.{digest_line, items_entries, manifest, manifest_line}
 use Rattle.hfs_bag.specs.Filling.{HoldsMore}
-use Rattle.hfs_bag.specs.Giving.{HasListed, HasListedSome, IsNextOf}
+use Rattle.hfs_bag.specs.Giving.{HasListed, IsNextOf}
 use Rattle.hfs_bag.proofs.GivingLemmas.{items_entries-append}
+
+-- the lines of some of the items that were to come did
+pub record HasListedSome (given_old given_new : List ShelfEntry) (old new : SourceState) (Held Holds : List ℕ → Type 0) : Type 0 where
+  pub all : new.all ≡ old.all
+  pub table : new.table ≡ old.table
+  pub items : List BagItem
+  pub left : old.left ≡ items ++ new.left
+  pub given : given_new ≡ with_piece given_old (manifest (items_entries items))
+  pub digest : HoldsMore Held Holds (manifest (items_entries items))
 
 pub manifest-append : (xs ys : List ShelfEntry) → manifest (xs ++ ys) ≡ manifest xs ++ manifest ys
 manifest-append xs ys = flat_map-append manifest_line xs ys

@@ -37,12 +37,3 @@ pub record HasListed (given_old given_new : List ShelfEntry) (old new : SourceSt
   pub left : old.left ≡ item ∷ new.left
   pub given : given_new ≡ with_piece given_old (manifest (item_entries item))
   pub digest : HoldsMore Held Holds (manifest (item_entries item))
-
--- the lines of some of the items that were to come did
-pub record HasListedSome (given_old given_new : List ShelfEntry) (old new : SourceState) (Held Holds : List ℕ → Type 0) : Type 0 where
-  pub all : new.all ≡ old.all
-  pub table : new.table ≡ old.table
-  pub items : List BagItem
-  pub left : old.left ≡ items ++ new.left
-  pub given : given_new ≡ with_piece given_old (manifest (items_entries items))
-  pub digest : HoldsMore Held Holds (manifest (items_entries items))

@@ -2,7 +2,7 @@
 use Rattle.std.proofs.Common.{◌≡◌, drop, map}
 use Rattle.sha2.specs.Hashers.{Holds256}
 use Rattle.hfs_bag.specs.Items.{item_digests}
-use Rattle.hfs_bag.specs.Giving.{HasListedSome}
+use Rattle.hfs_bag.proofs.ListingLemmas.{HasListedSome}
 use Rattle.hfs_bag.proofs.manifests.list_items.Given as goal
 
 abbrev pub invariant-loop-at : goal.invariant-loop-at
