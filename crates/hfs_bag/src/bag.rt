@@ -21,10 +21,14 @@ fn give_payload<S: Shelf, B: BagSource>(
     shelf: &mut S,
     source: &mut B,
 ) -> Result<Given, BagFault>
-    ensures whole { OnOk result (S.given shelf.new ≡ S.given shelf.old ++ payload (B.state source.old).all) }
-    ensures part { OnErr result (IsBeginning (S.given shelf.new) (S.given shelf.old ++ payload (B.state source.old).all)) }
-    ensures digests { IfOk result (λ given. given.digests.items ≡ map item_digests (B.state source.old).all) }
-    ensures bytes { IfOk result (λ given. given.bytes ≡ bytes_in (payload (B.state source.old).all)) }
+    ensures whole { OnOk result (S.given shelf.new ≡ S.given shelf.old ++ payload
+        (B.state source.old).all) }
+    ensures part { OnErr result (IsBeginning (S.given shelf.new)
+        (S.given shelf.old ++ payload (B.state source.old).all)) }
+    ensures digests { IfOk result (λ given. given.digests.items ≡ map item_digests
+        (B.state source.old).all) }
+    ensures bytes { IfOk result (λ given. given.bytes ≡ bytes_in
+        (payload (B.state source.old).all)) }
     ensures all { OnOk result ((B.state source.new).all ≡ (B.state source.old).all) }
     ensures table { OnOk result ((B.state source.new).table ≡ (B.state source.old).table) }
 {

@@ -19,9 +19,11 @@ fn move_piece<S: Shelf, B: BagSource>(
     digest: &mut Sha256,
     piece: &mut Vec<u8>,
 ) -> Result<bool, BagFault>
-    ensures moved { OnOk result (HasMoved (S.given shelf.old) (S.given shelf.new) (B.state source.old) (B.state source.new) (Holds256 digest.old) (Holds256 digest.new)) }
+    ensures moved { OnOk result (HasMoved (S.given shelf.old) (S.given shelf.new)
+        (B.state source.old) (B.state source.new) (Holds256 digest.old) (Holds256 digest.new)) }
     ensures more { IfOk result (IsMore (B.state source.old) (B.state source.new)) }
-    ensures part { OnErr result (IsBeginning (S.given shelf.new) (with_piece (S.given shelf.old) (B.state source.old).bytes)) }
+    ensures part { OnErr result (IsBeginning (S.given shelf.new)
+        (with_piece (S.given shelf.old) (B.state source.old).bytes)) }
 {
     source.read(piece)?;
     if piece.is_empty() {
@@ -39,9 +41,12 @@ fn move_stream<S: Shelf, B: BagSource>(
     source: &mut B,
     digest: &mut Sha256,
 ) -> Result<(), BagFault>
-    ensures whole { OnOk result (S.given shelf.new ≡ with_piece (S.given shelf.old) (B.state source.old).bytes) }
-    ensures part { OnErr result (IsBeginning (S.given shelf.new) (with_piece (S.given shelf.old) (B.state source.old).bytes)) }
-    ensures digest { OnOk result (HoldsMore (Holds256 digest.old) (Holds256 digest.new) (B.state source.old).bytes) }
+    ensures whole { OnOk result (S.given shelf.new ≡ with_piece (S.given shelf.old)
+        (B.state source.old).bytes) }
+    ensures part { OnErr result (IsBeginning (S.given shelf.new)
+        (with_piece (S.given shelf.old) (B.state source.old).bytes)) }
+    ensures digest { OnOk result (HoldsMore (Holds256 digest.old) (Holds256 digest.new)
+        (B.state source.old).bytes) }
     ensures same { OnOk result (SameItems (B.state source.old) (B.state source.new)) }
 {
     let mut piece = Vec::new(alloc);
@@ -59,9 +64,13 @@ pub(crate) fn put_file<S: Shelf, B: BagSource>(
     head: &[u8],
     stream: Stream,
 ) -> Result<[u8; 32], BagFault>
-    ensures whole { OnOk result (S.given shelf.new ≡ with_whole_file (S.given shelf.old) path.now (head.now ++ stream_bytes (B.state source.old) stream)) }
-    ensures part { OnErr result (IsBeginning (S.given shelf.new) (with_whole_file (S.given shelf.old) path.now (head.now ++ stream_bytes (B.state source.old) stream))) }
-    ensures digest { IfOk result (λ digest. digest ≡ sha256 (head.now ++ stream_bytes (B.state source.old) stream)) }
+    ensures whole { OnOk result (S.given shelf.new ≡ with_whole_file (S.given shelf.old) path.now
+        (head.now ++ stream_bytes (B.state source.old) stream)) }
+    ensures part { OnErr result (IsBeginning (S.given shelf.new)
+        (with_whole_file (S.given shelf.old) path.now
+        (head.now ++ stream_bytes (B.state source.old) stream))) }
+    ensures digest { IfOk result (λ digest. digest ≡ sha256
+        (head.now ++ stream_bytes (B.state source.old) stream)) }
     ensures same { OnOk result (SameItems (B.state source.old) (B.state source.new)) }
 {
     source.open(stream)?;
@@ -78,8 +87,10 @@ pub(crate) fn put_text<S: Shelf>(
     path: &str,
     text: &str,
 ) -> Result<[u8; 32], BagFault>
-    ensures whole { OnOk result (S.given shelf.new ≡ with_whole_file (S.given shelf.old) path.now text.now) }
-    ensures part { OnErr result (IsBeginning (S.given shelf.new) (with_whole_file (S.given shelf.old) path.now text.now)) }
+    ensures whole { OnOk result (S.given shelf.new ≡ with_whole_file (S.given shelf.old) path.now
+        text.now) }
+    ensures part { OnErr result (IsBeginning (S.given shelf.new)
+        (with_whole_file (S.given shelf.old) path.now text.now)) }
     ensures digest { IfOk result (λ digest. digest ≡ sha256 text.now) }
 {
     shelf.make_file(path, None)?;

@@ -44,7 +44,8 @@ fn give_next<S: Shelf, B: BagSource>(
     source: &mut B,
     given: &mut Given,
 ) -> Result<bool, BagFault>
-    ensures given { OnOk result (HasGiven (S.given shelf.old) (S.given shelf.new) (B.state source.old) (B.state source.new)
+    ensures given { OnOk result (HasGiven (S.given shelf.old) (S.given shelf.new)
+        (B.state source.old) (B.state source.new)
         given.old.digests.items given.new.digests.items given.old.bytes given.new.bytes) }
     ensures more { IfOk result (IsMoreItems (B.state source.old) (B.state source.new)) }
     ensures part { OnErr result (IsBeginning (S.given shelf.new)
@@ -64,11 +65,14 @@ pub(crate) fn give_items<S: Shelf, B: BagSource>(
     shelf: &mut S,
     source: &mut B,
 ) -> Result<Given, BagFault>
-    ensures whole { OnOk result (S.given shelf.new ≡ S.given shelf.old ++ items_entries (B.state source.old).left) }
+    ensures whole { OnOk result (S.given shelf.new ≡ S.given shelf.old ++ items_entries
+        (B.state source.old).left) }
     ensures part { OnErr result (IsBeginning (S.given shelf.new)
         (S.given shelf.old ++ items_entries (B.state source.old).left)) }
-    ensures digests { IfOk result (λ given. given.digests.items ≡ map item_digests (B.state source.old).left) }
-    ensures bytes { IfOk result (λ given. given.bytes ≡ bytes_in (items_entries (B.state source.old).left)) }
+    ensures digests { IfOk result (λ given. given.digests.items ≡ map item_digests
+        (B.state source.old).left) }
+    ensures bytes { IfOk result (λ given. given.bytes ≡ bytes_in
+        (items_entries (B.state source.old).left)) }
     ensures all { OnOk result ((B.state source.new).all ≡ (B.state source.old).all) }
     ensures table { OnOk result ((B.state source.new).table ≡ (B.state source.old).table) }
 {

@@ -36,7 +36,8 @@ pub(crate) fn marked_path<B: BagSource>(
 
 /// The head of the AppleDouble file of an item of which this is told.
 pub(crate) fn double_head(head: &BagHead) -> [u8; 82]
-    ensures { (item : BagItem) → IsHead head.now item → result ≡ apple_double_head_bytes (double_head item) }
+    ensures { (item : BagItem) → IsHead head.now item → result ≡ apple_double_head_bytes
+        (double_head item) }
 {
     AppleDoubleHead {
         finder: head.finder,
@@ -53,9 +54,12 @@ fn give_double<S: Shelf, B: BagSource>(
     head: &BagHead,
 ) -> Result<[u8; 32], BagFault>
     requires { IsHead head.now (B.state source.old).item }
-    ensures whole { OnOk result (S.given shelf.new ≡ S.given shelf.old ++ double_entry (B.state source.old).item ∷ []) }
-    ensures part { OnErr result (IsBeginning (S.given shelf.new) (S.given shelf.old ++ double_entry (B.state source.old).item ∷ [])) }
-    ensures digest { IfOk result (λ digest. digest ≡ sha256 (double_bytes (B.state source.old).item)) }
+    ensures whole { OnOk result (S.given shelf.new ≡ S.given shelf.old ++ double_entry
+        (B.state source.old).item ∷ []) }
+    ensures part { OnErr result (IsBeginning (S.given shelf.new)
+        (S.given shelf.old ++ double_entry (B.state source.old).item ∷ [])) }
+    ensures digest { IfOk result (λ digest. digest ≡ sha256
+        (double_bytes (B.state source.old).item)) }
     ensures same { OnOk result (SameItems (B.state source.old) (B.state source.new)) }
 {
     let path = marked_path(alloc, source, DOUBLE)?;
@@ -79,9 +83,12 @@ fn give_file<S: Shelf, B: BagSource>(
     head: &BagHead,
 ) -> Result<ItemDigests, BagFault>
     requires { IsHead head.now (B.state source.old).item }
-    ensures whole { OnOk result (S.given shelf.new ≡ S.given shelf.old ++ entries_of_kind kind.File (B.state source.old).item) }
-    ensures part { OnErr result (IsBeginning (S.given shelf.new) (S.given shelf.old ++ entries_of_kind kind.File (B.state source.old).item)) }
-    ensures digests { IfOk result (λ digests. digests ≡ digests_of_kind kind.File (B.state source.old).item) }
+    ensures whole { OnOk result (S.given shelf.new ≡ S.given shelf.old ++ entries_of_kind kind.File
+        (B.state source.old).item) }
+    ensures part { OnErr result (IsBeginning (S.given shelf.new)
+        (S.given shelf.old ++ entries_of_kind kind.File (B.state source.old).item)) }
+    ensures digests { IfOk result (λ digests. digests ≡ digests_of_kind kind.File
+        (B.state source.old).item) }
     ensures same { OnOk result (SameItems (B.state source.old) (B.state source.new)) }
 {
     let path = marked_path(alloc, source, "")?;
@@ -106,9 +113,12 @@ fn give_folder<S: Shelf, B: BagSource>(
     head: &BagHead,
 ) -> Result<ItemDigests, BagFault>
     requires { IsHead head.now (B.state source.old).item }
-    ensures whole { OnOk result (S.given shelf.new ≡ S.given shelf.old ++ entries_of_kind kind.Folder (B.state source.old).item) }
-    ensures part { OnErr result (IsBeginning (S.given shelf.new) (S.given shelf.old ++ entries_of_kind kind.Folder (B.state source.old).item)) }
-    ensures digests { IfOk result (λ digests. digests ≡ digests_of_kind kind.Folder (B.state source.old).item) }
+    ensures whole { OnOk result (S.given shelf.new ≡ S.given shelf.old ++ entries_of_kind
+        kind.Folder (B.state source.old).item) }
+    ensures part { OnErr result (IsBeginning (S.given shelf.new)
+        (S.given shelf.old ++ entries_of_kind kind.Folder (B.state source.old).item)) }
+    ensures digests { IfOk result (λ digests. digests ≡ digests_of_kind kind.Folder
+        (B.state source.old).item) }
     ensures same { OnOk result (SameItems (B.state source.old) (B.state source.new)) }
 {
     let double = give_double(alloc, shelf, source, head)?;
@@ -125,8 +135,10 @@ pub(crate) fn give_item<S: Shelf, B: BagSource>(
     head: &BagHead,
 ) -> Result<ItemDigests, BagFault>
     requires { IsHead head.now (B.state source.old).item }
-    ensures whole { OnOk result (S.given shelf.new ≡ S.given shelf.old ++ item_entries (B.state source.old).item) }
-    ensures part { OnErr result (IsBeginning (S.given shelf.new) (S.given shelf.old ++ item_entries (B.state source.old).item)) }
+    ensures whole { OnOk result (S.given shelf.new ≡ S.given shelf.old ++ item_entries
+        (B.state source.old).item) }
+    ensures part { OnErr result (IsBeginning (S.given shelf.new)
+        (S.given shelf.old ++ item_entries (B.state source.old).item)) }
     ensures digests { IfOk result (λ digests. digests ≡ item_digests (B.state source.old).item) }
     ensures same { OnOk result (SameItems (B.state source.old) (B.state source.new)) }
 {

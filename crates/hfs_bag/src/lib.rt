@@ -13,6 +13,8 @@ mod manifests;
 mod source;
 mod sums;
 mod tags;
+#[cfg(test)]
+mod tests;
 
 pub use crate::bag::give_bag;
 pub use crate::facts::BagFacts;

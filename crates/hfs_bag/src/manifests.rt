@@ -41,7 +41,8 @@ fn push_data_line<B: BagSource>(
     source: &B,
     digest: &[u8; 32],
 ) -> Result<(), AllocError>
-    ensures { OnOk result (Gains text.old text.new (digest_line digest.now (item_path (B.state source.now).item))) }
+    ensures { OnOk result (Gains text.old text.new
+        (digest_line digest.now (item_path (B.state source.now).item))) }
 {
     let path = marked_path(alloc, source, "")?;
     push_digest_line(alloc, text, digest, path.as_str())
@@ -54,7 +55,8 @@ fn push_double_line<B: BagSource>(
     source: &B,
     digest: &[u8; 32],
 ) -> Result<(), AllocError>
-    ensures { OnOk result (Gains text.old text.new (digest_line digest.now (double_path (B.state source.now).item))) }
+    ensures { OnOk result (Gains text.old text.new
+        (digest_line digest.now (double_path (B.state source.now).item))) }
 {
     let path = marked_path(alloc, source, DOUBLE)?;
     push_digest_line(alloc, text, digest, path.as_str())
@@ -67,7 +69,8 @@ fn item_lines<B: BagSource>(
     told: &ItemDigests,
 ) -> Result<String, AllocError>
     requires { told.now ≡ item_digests (B.state source.now).item }
-    ensures { IfOk result (λ text. string_bytes text ≡ manifest (item_entries (B.state source.now).item)) }
+    ensures { IfOk result (λ text. string_bytes text ≡ manifest
+        (item_entries (B.state source.now).item)) }
 {
     let mut text = String::new(alloc);
     match told {
@@ -89,7 +92,8 @@ fn list_next<S: Shelf, B: BagSource>(
     told: &ItemDigests,
 ) -> Result<(), BagFault>
     requires { IsNextOf told.now (B.state source.old).left }
-    ensures listed { OnOk result (HasListed (S.given shelf.old) (S.given shelf.new) (B.state source.old) (B.state source.new) (Holds256 digest.old) (Holds256 digest.new)) }
+    ensures listed { OnOk result (HasListed (S.given shelf.old) (S.given shelf.new)
+        (B.state source.old) (B.state source.new) (Holds256 digest.old) (Holds256 digest.new)) }
     ensures part { OnErr result (IsBeginning (S.given shelf.new)
         (with_piece (S.given shelf.old) (manifest (items_entries (B.state source.old).left)))) }
 {
@@ -134,9 +138,13 @@ pub(crate) fn give_manifest<S: Shelf, B: BagSource>(
     told: &[ItemDigests],
 ) -> Result<[u8; 32], BagFault>
     requires { told.now ≡ map item_digests (B.state source.old).all }
-    ensures whole { OnOk result (S.given shelf.new ≡ with_whole_file (S.given shelf.old) (codes "manifest-sha256.txt") (manifest (items_entries (B.state source.old).all))) }
-    ensures part { OnErr result (IsBeginning (S.given shelf.new) (with_whole_file (S.given shelf.old) (codes "manifest-sha256.txt") (manifest (items_entries (B.state source.old).all)))) }
-    ensures digest { IfOk result (λ digest. digest ≡ sha256 (manifest (items_entries (B.state source.old).all))) }
+    ensures whole { OnOk result (S.given shelf.new ≡ with_whole_file (S.given shelf.old)
+        (codes "manifest-sha256.txt") (manifest (items_entries (B.state source.old).all))) }
+    ensures part { OnErr result (IsBeginning (S.given shelf.new)
+        (with_whole_file (S.given shelf.old) (codes "manifest-sha256.txt")
+        (manifest (items_entries (B.state source.old).all)))) }
+    ensures digest { IfOk result (λ digest. digest ≡ sha256
+        (manifest (items_entries (B.state source.old).all))) }
     ensures all { OnOk result ((B.state source.new).all ≡ (B.state source.old).all) }
     ensures table { OnOk result ((B.state source.new).table ≡ (B.state source.old).table) }
 {

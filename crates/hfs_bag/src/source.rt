@@ -39,11 +39,13 @@ pub trait BagSource {
 
     /// Appends the path, below the payload, of the folder that holds the item that came last, with a slash behind it.
     fn push_above(&self, text: &mut String) -> Result<(), AllocError>
-        ensures { OnOk result (string_bytes text.new ≡ string_bytes text.old ++ (state self.now).item.above) };
+        ensures { OnOk result (string_bytes text.new ≡ string_bytes text.old ++
+            (state self.now).item.above) };
 
     /// Appends how that item is called there.
     fn push_name(&self, text: &mut String) -> Result<(), AllocError>
-        ensures { OnOk result (string_bytes text.new ≡ string_bytes text.old ++ (state self.now).item.name) };
+        ensures { OnOk result (string_bytes text.new ≡ string_bytes text.old ++
+            (state self.now).item.name) };
 
     /// Makes a stream ready to be read from its first byte on.
     fn open(&mut self, stream: Stream) -> Result<(), SourceFault>

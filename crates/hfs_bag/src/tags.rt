@@ -133,7 +133,8 @@ fn give_first<S: Shelf, B: BagSource>(
         ++ first_tags (B.state source.old).all (B.state source.old).table facts.now) }
     ensures part { OnErr result (IsBeginning (S.given shelf.new) (S.given shelf.old
         ++ first_tags (B.state source.old).all (B.state source.old).table facts.now)) }
-    ensures manifest { IfOk result (λ told. told.0 ≡ sha256 (manifest (payload (B.state source.old).all))) }
+    ensures manifest { IfOk result (λ told. told.0 ≡ sha256
+        (manifest (payload (B.state source.old).all))) }
     ensures table { IfOk result (λ told. told.1 ≡ sha256 (B.state source.old).table) }
     ensures report { IfOk result (λ told. told.2 ≡ sha256 facts.now.report.now) }
 {
@@ -151,8 +152,10 @@ fn give_second<S: Shelf>(
     bytes: u64,
     files: u64,
 ) -> Result<([u8; 32], [u8; 32]), BagFault>
-    ensures whole { OnOk result (S.given shelf.new ≡ S.given shelf.old ++ second_tags facts.now bytes files) }
-    ensures part { OnErr result (IsBeginning (S.given shelf.new) (S.given shelf.old ++ second_tags facts.now bytes files)) }
+    ensures whole { OnOk result (S.given shelf.new ≡ S.given shelf.old ++ second_tags facts.now
+        bytes files) }
+    ensures part { OnErr result (IsBeginning (S.given shelf.new)
+        (S.given shelf.old ++ second_tags facts.now bytes files)) }
     ensures info { IfOk result (λ told. told.0 ≡ sha256 (info_text facts.now bytes files)) }
     ensures declaration { IfOk result (λ told. told.1 ≡ sha256 declaration_text) }
 {
@@ -168,8 +171,11 @@ fn give_second<S: Shelf>(
 
 /// Gives the manifest of the tag files.
 fn give_last<S: Shelf>(alloc: Global, shelf: &mut S, tags: &TagDigests) -> Result<(), BagFault>
-    ensures whole { OnOk result (S.given shelf.new ≡ with_whole_file (S.given shelf.old) (codes "tagmanifest-sha256.txt") (tag_lines tags.now)) }
-    ensures part { OnErr result (IsBeginning (S.given shelf.new) (with_whole_file (S.given shelf.old) (codes "tagmanifest-sha256.txt") (tag_lines tags.now))) }
+    ensures whole { OnOk result (S.given shelf.new ≡ with_whole_file (S.given shelf.old)
+        (codes "tagmanifest-sha256.txt") (tag_lines tags.now)) }
+    ensures part { OnErr result (IsBeginning (S.given shelf.new)
+        (with_whole_file (S.given shelf.old) (codes "tagmanifest-sha256.txt")
+        (tag_lines tags.now))) }
 {
     let text = tag_manifest(alloc, tags)?;
     put_text(shelf, "tagmanifest-sha256.txt", text.as_str())?;

@@ -134,8 +134,10 @@ impl<R: Files + AllocGlobal> Shelf for FileShelf<'_, R> {
 
     #[tactic(auto, using(crate::proofs::Beginnings::beginnings))]
     fn make_folder(&mut self, path: &str) -> Result<(), ShelfFault>
-        ensures whole { OnOk result (self.new.given.entries ≡ with_folder self.old.given.entries path.now) }
-        ensures part { OnErr result (IsBeginning self.new.given.entries (with_folder self.old.given.entries path.now)) }
+        ensures whole { OnOk result (self.new.given.entries ≡ with_folder self.old.given.entries
+            path.now) }
+        ensures part { OnErr result (IsBeginning self.new.given.entries
+            (with_folder self.old.given.entries path.now)) }
         ensures told { IfErr result (Tells (path_within (string_bytes self.old.folder) path.now)) }
         ensures same_folder { self.new.folder ≡ self.old.folder }
     {
@@ -154,8 +156,10 @@ impl<R: Files + AllocGlobal> Shelf for FileShelf<'_, R> {
 
     #[tactic(auto, using(crate::proofs::Beginnings::beginnings))]
     fn make_file(&mut self, path: &str, modified: Option<u32>) -> Result<(), ShelfFault>
-        ensures whole { OnOk result (self.new.given.entries ≡ with_file self.old.given.entries path.now) }
-        ensures part { OnErr result (IsBeginning self.new.given.entries (with_file self.old.given.entries path.now)) }
+        ensures whole { OnOk result (self.new.given.entries ≡ with_file self.old.given.entries
+            path.now) }
+        ensures part { OnErr result (IsBeginning self.new.given.entries
+            (with_file self.old.given.entries path.now)) }
         ensures told { IfErr result (Tells (path_within (string_bytes self.old.folder) path.now)) }
         ensures same_folder { self.new.folder ≡ self.old.folder }
     {

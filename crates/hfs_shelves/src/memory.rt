@@ -35,7 +35,8 @@ impl MemoryShelf {
 
 /// Lays a piece behind the bytes of a file; a folder has none. At a fault nothing changed.
 fn extend(stored: &mut Stored, piece: &[u8]) -> Result<(), ShelfFault>
-    ensures whole { OnOk result (stored_entry stored.new ≡ longer (stored_entry stored.old) piece.now) }
+    ensures whole { OnOk result (stored_entry stored.new ≡ longer (stored_entry stored.old)
+        piece.now) }
     ensures kept { OnErr result (stored_entry stored.new ≡ stored_entry stored.old) }
 {
     match &mut stored.bytes {
@@ -49,7 +50,8 @@ fn extend(stored: &mut Stored, piece: &[u8]) -> Result<(), ShelfFault>
 
 /// Keeps one thing more.
 fn keep(shelf: &mut MemoryShelf, path: &str, bytes: Option<Vec<u8>>) -> Result<(), ShelfFault>
-    ensures whole { OnOk result (stored_entries shelf.new.stored.items ≡ stored_entries shelf.old.stored.items ++ entry_with path.now bytes ∷ []) }
+    ensures whole { OnOk result (stored_entries shelf.new.stored.items ≡ stored_entries
+        shelf.old.stored.items ++ entry_with path.now bytes ∷ []) }
     ensures kept { OnErr result (shelf.new.stored.items ≡ shelf.old.stored.items) }
 {
     let Ok(path) = String::from_str(shelf.alloc, path) else {
