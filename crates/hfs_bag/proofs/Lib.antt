@@ -1,0 +1,7 @@
+pub mod Moves
+pub mod Files
+pub mod Growing
+pub mod GivingLemmas
+pub mod ListingLemmas
+pub mod TagLemmas
+pub mod PathLemmas

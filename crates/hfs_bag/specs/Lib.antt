@@ -1,0 +1,9 @@
+pub mod Items
+pub mod Sources
+pub mod Filling
+pub mod Bags
+pub mod Giving
+pub mod Tags
+pub mod TagParts
+pub mod Sums
+pub mod Laws

@@ -1,0 +1,67 @@
+-- The tag files of a bag, and the whole of it.
+use Rattle.std.specs.Prelude.{ℕ, List, [], ◌∷◌, ◌++◌, codes, Option, Some, None}
+use Rattle.std.specs.Borrow.{Bor}
+use Rattle.std.specs.Fmt.{decimal}
+use Rattle.hex.specs.Hex.{encode_lower}
+use Rattle.hfs_texts.specs.Lines.{line}
+use Rattle.hfs_shelves.specs.Entries.{ShelfEntry, file}
+use Rattle.hfs_bag.specs.declared.facts.BagFacts.{BagFacts}
+use Rattle.hfs_bag.specs.Items.{BagItem}
+use Rattle.hfs_bag.specs.Bags.{bytes_in, files_in, manifest, payload}
+
+-- how many bytes the files have, a point, and how many files there are
+unfoldable pub oxum_text : ℕ → ℕ → List ℕ
+oxum_text bytes files = decimal bytes ++ codes "." ++ decimal files
+
+-- the line of a volume that lies inside the image's file
+abbrev pub volume_line : Option (Bor (List ℕ)) → List ℕ
+volume_line (Some told) = line (codes "Source-Volume:") told.now
+volume_line None = []
+
+-- the line of the image's digest
+abbrev pub image_digest_line : Option (List ℕ) → List ℕ
+image_digest_line (Some digest) = line (codes "Source-SHA256:") (encode_lower digest)
+image_digest_line None = []
+
+unfoldable pub info_text : BagFacts → ℕ → ℕ → List ℕ
+info_text facts bytes files = line (codes "External-Identifier:") facts.identifier.now
+    ++ line (codes "Bag-Software-Agent:") facts.program.now
+    ++ line (codes "Source-Image:") facts.image.now
+    ++ volume_line facts.volume
+    ++ line (codes "Source-Bytes:") (decimal facts.bytes)
+    ++ image_digest_line facts.digest
+    ++ line (codes "Payload-Oxum:") (oxum_text bytes files)
+
+abbrev pub declaration_text : List ℕ
+declaration_text = codes "BagIt-Version: 1.0\nTag-File-Character-Encoding: UTF-8\n"
+
+-- ---- the tag files of these items, whose table is this text
+
+abbrev pub manifest_file : List BagItem → ShelfEntry
+manifest_file items = file (codes "manifest-sha256.txt") (manifest (payload items))
+
+abbrev pub table_file : List ℕ → ShelfEntry
+table_file table = file (codes "items.csv") table
+
+abbrev pub report_file : BagFacts → ShelfEntry
+report_file facts = file (codes "volume.txt") facts.report.now
+
+abbrev pub info_file : List BagItem → BagFacts → ShelfEntry
+info_file items facts = file (codes "bag-info.txt") (info_text facts (bytes_in (payload items)) (files_in (payload items)))
+
+abbrev pub declaration_file : ShelfEntry
+declaration_file = file (codes "bagit.txt") declaration_text
+
+-- the digests of the other tag files, in an order of their own
+abbrev pub tag_manifest_file : List BagItem → List ℕ → BagFacts → ShelfEntry
+tag_manifest_file items table facts = file (codes "tagmanifest-sha256.txt")
+    (manifest (declaration_file ∷ info_file items facts ∷ table_file table ∷ report_file facts ∷ manifest_file items ∷ []))
+
+abbrev pub tag_files : List BagItem → List ℕ → BagFacts → List ShelfEntry
+tag_files items table facts =
+    manifest_file items ∷ table_file table ∷ report_file facts ∷ info_file items facts ∷ declaration_file ∷ tag_manifest_file items table facts ∷ []
+
+-- ---- the bag
+
+abbrev pub bag_of : List BagItem → List ℕ → BagFacts → List ShelfEntry
+bag_of items table facts = payload items ++ tag_files items table facts

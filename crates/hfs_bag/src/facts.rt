@@ -1,0 +1,20 @@
+//! What a bag tells of the image that it was taken from.
+
+/// What a bag tells of the image that it was taken from, each text as it is to stand there.
+#[derive(Clone, Copy)]
+pub struct BagFacts<'a> {
+    /// The plain text of the root's name.
+    pub identifier: &'a str,
+    /// The name of the program that takes it, and its version.
+    pub program: &'a str,
+    /// The last part of the image's path.
+    pub image: &'a str,
+    /// Where the volume lies in the image's file, if it was looked for there.
+    pub volume: Option<&'a str>,
+    /// How many bytes hold the volume.
+    pub bytes: u64,
+    /// Their SHA-256 digest, where it is to be told.
+    pub digest: Option<[u8; 32]>,
+    /// What is told of the volume and of its check.
+    pub report: &'a str,
+}

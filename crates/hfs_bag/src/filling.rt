@@ -1,0 +1,99 @@
+//! Files of a bag, whose bytes come in pieces, with their digests.
+ghost use Rattle.std.specs.Prelude.{◌≡◌, ◌++◌, IfOk, OnErr, OnOk};
+ghost use Rattle.sha2.specs.Hashers.{Holds256};
+ghost use Rattle.sha2.specs.Sha256.{sha256};
+ghost use Rattle.hfs_shelves.specs.Entries.{IsBeginning, with_piece};
+ghost use Rattle.hfs_bag.specs.Sources.{SameItems, stream_bytes};
+ghost use Rattle.hfs_bag.specs.Filling.{HasMoved, HoldsMore, IsMore, with_whole_file};
+
+use crate::fault::BagFault;
+use crate::source::{BagSource, Stream};
+use hfs_shelves::Shelf;
+use sha2::{Digest, Sha256};
+use std::alloc::Global;
+
+/// Reads the next bytes of a stream, gives them to the shelf and to the digest, and answers whether there were any.
+fn move_piece<S: Shelf, B: BagSource>(
+    shelf: &mut S,
+    source: &mut B,
+    digest: &mut Sha256,
+    piece: &mut Vec<u8>,
+) -> Result<bool, BagFault>
+    ensures moved { OnOk result (HasMoved (S.given shelf.old) (S.given shelf.new)
+        (B.state source.old) (B.state source.new) (Holds256 digest.old) (Holds256 digest.new)) }
+    ensures more { IfOk result (IsMore (B.state source.old) (B.state source.new)) }
+    ensures part { OnErr result (IsBeginning (S.given shelf.new)
+        (with_piece (S.given shelf.old) (B.state source.old).bytes)) }
+{
+    source.read(piece)?;
+    if piece.is_empty() {
+        return Ok(false);
+    }
+    shelf.append(piece)?;
+    digest.update(piece.as_slice());
+    Ok(true)
+}
+
+/// Gives all bytes that are left of a stream to the shelf, behind those of the file that was made last, and to the digest.
+fn move_stream<S: Shelf, B: BagSource>(
+    alloc: Global,
+    shelf: &mut S,
+    source: &mut B,
+    digest: &mut Sha256,
+) -> Result<(), BagFault>
+    ensures whole { OnOk result (S.given shelf.new ≡ with_piece (S.given shelf.old)
+        (B.state source.old).bytes) }
+    ensures part { OnErr result (IsBeginning (S.given shelf.new)
+        (with_piece (S.given shelf.old) (B.state source.old).bytes)) }
+    ensures digest { OnOk result (HoldsMore (Holds256 digest.old) (Holds256 digest.new)
+        (B.state source.old).bytes) }
+    ensures same { OnOk result (SameItems (B.state source.old) (B.state source.new)) }
+{
+    let mut piece = Vec::new(alloc);
+    while move_piece(shelf, source, digest, &mut piece)? {}
+    Ok(())
+}
+
+/// Makes a file of these bytes and those of a stream behind them, and answers its digest.
+pub(crate) fn put_file<S: Shelf, B: BagSource>(
+    alloc: Global,
+    shelf: &mut S,
+    source: &mut B,
+    path: &str,
+    modified: Option<u32>,
+    head: &[u8],
+    stream: Stream,
+) -> Result<[u8; 32], BagFault>
+    ensures whole { OnOk result (S.given shelf.new ≡ with_whole_file (S.given shelf.old) path.now
+        (head.now ++ stream_bytes (B.state source.old) stream)) }
+    ensures part { OnErr result (IsBeginning (S.given shelf.new)
+        (with_whole_file (S.given shelf.old) path.now
+        (head.now ++ stream_bytes (B.state source.old) stream))) }
+    ensures digest { IfOk result (λ digest. digest ≡ sha256
+        (head.now ++ stream_bytes (B.state source.old) stream)) }
+    ensures same { OnOk result (SameItems (B.state source.old) (B.state source.new)) }
+{
+    source.open(stream)?;
+    shelf.make_file(path, modified)?;
+    shelf.append(head)?;
+    let mut digest = Sha256::new_with_prefix(head);
+    move_stream(alloc, shelf, source, &mut digest)?;
+    Ok(digest.finalize())
+}
+
+/// Makes a file of this text, and answers its digest.
+pub(crate) fn put_text<S: Shelf>(
+    shelf: &mut S,
+    path: &str,
+    text: &str,
+) -> Result<[u8; 32], BagFault>
+    ensures whole { OnOk result (S.given shelf.new ≡ with_whole_file (S.given shelf.old) path.now
+        text.now) }
+    ensures part { OnErr result (IsBeginning (S.given shelf.new)
+        (with_whole_file (S.given shelf.old) path.now text.now)) }
+    ensures digest { IfOk result (λ digest. digest ≡ sha256 text.now) }
+{
+    shelf.make_file(path, None)?;
+    shelf.append(text.as_bytes())?;
+    Ok(Sha256::digest(text.as_bytes()))
+}

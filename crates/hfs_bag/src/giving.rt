@@ -1,0 +1,85 @@
+//! The payload of a bag.
+ghost use Rattle.std.specs.Prelude.{◌≡◌, ◌+◌, ◌++◌, [], ◌∷◌, map, IfOk, OnErr, OnOk};
+ghost use Rattle.hfs_shelves.specs.Entries.{IsBeginning};
+ghost use Rattle.hfs_bag.specs.Items.{item_digests};
+ghost use Rattle.hfs_bag.specs.Bags.{bytes_in, items_entries};
+ghost use Rattle.hfs_bag.specs.Giving.{HasGiven, IsMoreItems};
+
+use crate::fault::BagFault;
+use crate::item::ItemDigests;
+use crate::items::give_item;
+use crate::source::{BagSource, SourceFault};
+use crate::sums::item_bytes;
+use hfs_shelves::Shelf;
+use std::alloc::Global;
+
+/// What was given of a payload.
+#[derive(Drop)]
+pub(crate) struct Given {
+    /// The digests of the items' files, in the order of the items.
+    pub(crate) digests: Vec<ItemDigests>,
+    /// The bytes of all these files.
+    pub(crate) bytes: u64,
+}
+
+/// Keeps what is told of an item that was given.
+fn keep(given: &mut Given, told: ItemDigests, bytes: u64) -> Result<(), BagFault>
+    ensures digests { OnOk result (given.new.digests.items ≡ given.old.digests.items ++ told ∷ []) }
+    ensures bytes { OnOk result (given.new.bytes ≡ given.old.bytes + bytes) }
+{
+    let Some(sum) = given.bytes.checked_add(bytes) else {
+        return Err(BagFault::TooLarge);
+    };
+    let Ok(()) = given.digests.push(told) else {
+        return Err(BagFault::Source(SourceFault::Memory));
+    };
+    given.bytes = sum;
+    Ok(())
+}
+
+/// Gives what there is of the next item, and answers whether there was one.
+fn give_next<S: Shelf, B: BagSource>(
+    alloc: Global,
+    shelf: &mut S,
+    source: &mut B,
+    given: &mut Given,
+) -> Result<bool, BagFault>
+    ensures given { OnOk result (HasGiven (S.given shelf.old) (S.given shelf.new)
+        (B.state source.old) (B.state source.new)
+        given.old.digests.items given.new.digests.items given.old.bytes given.new.bytes) }
+    ensures more { IfOk result (IsMoreItems (B.state source.old) (B.state source.new)) }
+    ensures part { OnErr result (IsBeginning (S.given shelf.new)
+        (S.given shelf.old ++ items_entries (B.state source.old).left)) }
+{
+    let Some(head) = source.next_item()? else {
+        return Ok(false);
+    };
+    let told = give_item(alloc, shelf, source, &head)?;
+    keep(given, told, item_bytes(&head))?;
+    Ok(true)
+}
+
+/// Gives what there is of all items that are to come.
+pub(crate) fn give_items<S: Shelf, B: BagSource>(
+    alloc: Global,
+    shelf: &mut S,
+    source: &mut B,
+) -> Result<Given, BagFault>
+    ensures whole { OnOk result (S.given shelf.new ≡ S.given shelf.old ++ items_entries
+        (B.state source.old).left) }
+    ensures part { OnErr result (IsBeginning (S.given shelf.new)
+        (S.given shelf.old ++ items_entries (B.state source.old).left)) }
+    ensures digests { IfOk result (λ given. given.digests.items ≡ map item_digests
+        (B.state source.old).left) }
+    ensures bytes { IfOk result (λ given. given.bytes ≡ bytes_in
+        (items_entries (B.state source.old).left)) }
+    ensures all { OnOk result ((B.state source.new).all ≡ (B.state source.old).all) }
+    ensures table { OnOk result ((B.state source.new).table ≡ (B.state source.old).table) }
+{
+    let mut given = Given {
+        digests: Vec::new(alloc),
+        bytes: 0,
+    };
+    while give_next(alloc, shelf, source, &mut given)? {}
+    Ok(given)
+}

@@ -1,0 +1,31 @@
+//! What a bag keeps of an item.
+
+/// Whether an item is a folder or a file.
+#[derive(Clone, Copy, Debug, PartialEq, Eq)]
+pub enum BagKind {
+    Folder,
+    File,
+}
+
+/// What is told of an item before its forks are read.
+#[derive(Clone, Copy, Debug)]
+pub struct BagHead {
+    pub kind: BagKind,
+    /// FInfo and FXInfo of a file, DInfo and DXInfo of a folder.
+    pub finder: [u8; 32],
+    /// How many bytes the data fork has, 0 of a folder.
+    pub data_length: u32,
+    /// How many bytes the resource fork has, 0 of a folder.
+    pub resource_length: u32,
+    /// When the item was modified, in seconds from the beginning of 1970; None where that was before.
+    pub modified: Option<u32>,
+}
+
+/// The SHA-256 digests of the files that a bag has for an item.
+#[derive(Clone, Copy, Debug, PartialEq, Eq)]
+pub enum ItemDigests {
+    /// That of a folder's AppleDouble file.
+    Folder([u8; 32]),
+    /// Those of a file's data fork and of its AppleDouble file.
+    File([u8; 32], [u8; 32]),
+}

@@ -1,0 +1,149 @@
+//! The files and the folder of an item.
+ghost use Rattle.std.specs.Prelude.{◌≡◌, ◌++◌, [], ◌∷◌, codes, IfOk, OnErr, OnOk, string_bytes};
+ghost use Rattle.sha2.specs.Sha256.{sha256};
+ghost use Rattle.hfs_encodings.specs.AppleDouble.{apple_double_head_bytes};
+ghost use Rattle.hfs_shelves.specs.Entries.{IsBeginning};
+ghost use Rattle.hfs_bag.specs.declared.item.BagKind.TheVariants as kind;
+ghost use Rattle.hfs_bag.specs.Items.{BagItem, IsHead, double_head, double_bytes, double_entry, entries_of_kind, item_digests, item_entries, digests_of_kind};
+ghost use Rattle.hfs_bag.specs.Sources.{SameItems};
+
+use crate::fault::BagFault;
+use crate::filling::put_file;
+use crate::item::{BagHead, BagKind, ItemDigests};
+use crate::source::{BagSource, Stream};
+use hfs_encodings::AppleDoubleHead;
+use hfs_shelves::Shelf;
+use std::alloc::{AllocError, Global};
+
+/// What stands before the name of an item in that of its AppleDouble file.
+pub(crate) const DOUBLE: &str = "._";
+
+/// The path of the item that came last, with this mark before its name.
+pub(crate) fn marked_path<B: BagSource>(
+    alloc: Global,
+    source: &B,
+    mark: &str,
+) -> Result<String, AllocError>
+    ensures { IfOk result (λ path. string_bytes path ≡ codes "data/"
+        ++ ((B.state source.now).item.above ++ (mark.now ++ (B.state source.now).item.name))) }
+{
+    let mut path = String::from_str(alloc, "data/")?;
+    source.push_above(&mut path)?;
+    path.push_str(mark)?;
+    source.push_name(&mut path)?;
+    Ok(path)
+}
+
+/// The head of the AppleDouble file of an item of which this is told.
+pub(crate) fn double_head(head: &BagHead) -> [u8; 82]
+    ensures { (item : BagItem) → IsHead head.now item → result ≡ apple_double_head_bytes
+        (double_head item) }
+{
+    AppleDoubleHead {
+        finder: head.finder,
+        resource_length: head.resource_length,
+    }
+    .bytes()
+}
+
+/// Gives the AppleDouble file of the item that came last, and answers its digest.
+fn give_double<S: Shelf, B: BagSource>(
+    alloc: Global,
+    shelf: &mut S,
+    source: &mut B,
+    head: &BagHead,
+) -> Result<[u8; 32], BagFault>
+    requires { IsHead head.now (B.state source.old).item }
+    ensures whole { OnOk result (S.given shelf.new ≡ S.given shelf.old ++ double_entry
+        (B.state source.old).item ∷ []) }
+    ensures part { OnErr result (IsBeginning (S.given shelf.new)
+        (S.given shelf.old ++ double_entry (B.state source.old).item ∷ [])) }
+    ensures digest { IfOk result (λ digest. digest ≡ sha256
+        (double_bytes (B.state source.old).item)) }
+    ensures same { OnOk result (SameItems (B.state source.old) (B.state source.new)) }
+{
+    let path = marked_path(alloc, source, DOUBLE)?;
+    let bytes = double_head(head);
+    put_file(
+        alloc,
+        shelf,
+        source,
+        path.as_str(),
+        None,
+        &bytes,
+        Stream::ResourceFork,
+    )
+}
+
+/// Gives the data fork of the item that came last, and then its AppleDouble file, and answers their digests.
+fn give_file<S: Shelf, B: BagSource>(
+    alloc: Global,
+    shelf: &mut S,
+    source: &mut B,
+    head: &BagHead,
+) -> Result<ItemDigests, BagFault>
+    requires { IsHead head.now (B.state source.old).item }
+    ensures whole { OnOk result (S.given shelf.new ≡ S.given shelf.old ++ entries_of_kind kind.File
+        (B.state source.old).item) }
+    ensures part { OnErr result (IsBeginning (S.given shelf.new)
+        (S.given shelf.old ++ entries_of_kind kind.File (B.state source.old).item)) }
+    ensures digests { IfOk result (λ digests. digests ≡ digests_of_kind kind.File
+        (B.state source.old).item) }
+    ensures same { OnOk result (SameItems (B.state source.old) (B.state source.new)) }
+{
+    let path = marked_path(alloc, source, "")?;
+    let data = put_file(
+        alloc,
+        shelf,
+        source,
+        path.as_str(),
+        head.modified,
+        &[],
+        Stream::DataFork,
+    )?;
+    let double = give_double(alloc, shelf, source, head)?;
+    Ok(ItemDigests::File(data, double))
+}
+
+/// Gives the AppleDouble file of the folder that came last, and then the folder, and answers the file's digest.
+fn give_folder<S: Shelf, B: BagSource>(
+    alloc: Global,
+    shelf: &mut S,
+    source: &mut B,
+    head: &BagHead,
+) -> Result<ItemDigests, BagFault>
+    requires { IsHead head.now (B.state source.old).item }
+    ensures whole { OnOk result (S.given shelf.new ≡ S.given shelf.old ++ entries_of_kind
+        kind.Folder (B.state source.old).item) }
+    ensures part { OnErr result (IsBeginning (S.given shelf.new)
+        (S.given shelf.old ++ entries_of_kind kind.Folder (B.state source.old).item)) }
+    ensures digests { IfOk result (λ digests. digests ≡ digests_of_kind kind.Folder
+        (B.state source.old).item) }
+    ensures same { OnOk result (SameItems (B.state source.old) (B.state source.new)) }
+{
+    let double = give_double(alloc, shelf, source, head)?;
+    let path = marked_path(alloc, source, "")?;
+    shelf.make_folder(path.as_str())?;
+    Ok(ItemDigests::Folder(double))
+}
+
+/// Gives what there is of the item that came last, and answers the digests of its files.
+pub(crate) fn give_item<S: Shelf, B: BagSource>(
+    alloc: Global,
+    shelf: &mut S,
+    source: &mut B,
+    head: &BagHead,
+) -> Result<ItemDigests, BagFault>
+    requires { IsHead head.now (B.state source.old).item }
+    ensures whole { OnOk result (S.given shelf.new ≡ S.given shelf.old ++ item_entries
+        (B.state source.old).item) }
+    ensures part { OnErr result (IsBeginning (S.given shelf.new)
+        (S.given shelf.old ++ item_entries (B.state source.old).item)) }
+    ensures digests { IfOk result (λ digests. digests ≡ item_digests (B.state source.old).item) }
+    ensures same { OnOk result (SameItems (B.state source.old) (B.state source.new)) }
+{
+    match head.kind {
+        BagKind::File => give_file(alloc, shelf, source, head),
+        BagKind::Folder => give_folder(alloc, shelf, source, head),
+    }
+}

@@ -1,0 +1,25 @@
+//! Bags: a volume's items as folders and files, with the digests of their bytes.
+#![tactic(auto)]
+
+mod bag;
+mod facts;
+mod fault;
+mod filling;
+mod giving;
+mod item;
+mod items;
+mod laws;
+mod manifests;
+mod source;
+mod sums;
+mod tags;
+#[cfg(test)]
+mod tests;
+
+pub use crate::bag::give_bag;
+pub use crate::facts::BagFacts;
+pub use crate::fault::BagFault;
+pub use crate::item::{BagHead, BagKind, ItemDigests};
+pub use crate::laws::bag_path_laws;
+pub use crate::source::{BagSource, SourceFault, Stream};
+pub use crate::sums::BagSums;

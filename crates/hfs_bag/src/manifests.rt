@@ -1,0 +1,156 @@
+//! Manifests: the digests of files, with their paths.
+ghost use Rattle.std.specs.Prelude.{◌≡◌, codes, map, IfOk, OnErr, OnOk, string_bytes};
+ghost use Rattle.sha2.specs.Hashers.{Holds256};
+ghost use Rattle.sha2.specs.Sha256.{sha256};
+ghost use Rattle.hfs_texts.specs.Texts.{Gains};
+ghost use Rattle.hfs_shelves.specs.Entries.{IsBeginning, with_piece};
+ghost use Rattle.hfs_bag.specs.Items.{double_path, item_digests, item_entries, item_path};
+ghost use Rattle.hfs_bag.specs.Bags.{digest_line, items_entries, manifest};
+ghost use Rattle.hfs_bag.specs.Filling.{HoldsMore, with_whole_file};
+ghost use Rattle.hfs_bag.specs.Giving.{HasListed, IsNextOf};
+
+use crate::fault::BagFault;
+use crate::item::ItemDigests;
+use crate::items::{DOUBLE, marked_path};
+use crate::source::BagSource;
+use hfs_shelves::Shelf;
+use sha2::{Digest, Sha256};
+use std::alloc::{AllocError, Global};
+
+/// Appends the line of a file with this digest.
+#[tactic(auto, unfolding(crate::specs::Bags::digest_line))]
+pub(crate) fn push_digest_line(
+    alloc: Global,
+    text: &mut String,
+    digest: &[u8; 32],
+    path: &str,
+) -> Result<(), AllocError>
+    ensures { OnOk result (Gains text.old text.new (digest_line digest.now path.now)) }
+{
+    let digits = hex::encode(alloc, digest.as_slice())?;
+    text.push_str(digits.as_str())?;
+    text.push_str("  ")?;
+    text.push_str(path)?;
+    text.push('\n')
+}
+
+/// Appends the line of the data fork of the item that came last.
+fn push_data_line<B: BagSource>(
+    alloc: Global,
+    text: &mut String,
+    source: &B,
+    digest: &[u8; 32],
+) -> Result<(), AllocError>
+    ensures { OnOk result (Gains text.old text.new
+        (digest_line digest.now (item_path (B.state source.now).item))) }
+{
+    let path = marked_path(alloc, source, "")?;
+    push_digest_line(alloc, text, digest, path.as_str())
+}
+
+/// Appends the line of the AppleDouble file of the item that came last.
+fn push_double_line<B: BagSource>(
+    alloc: Global,
+    text: &mut String,
+    source: &B,
+    digest: &[u8; 32],
+) -> Result<(), AllocError>
+    ensures { OnOk result (Gains text.old text.new
+        (digest_line digest.now (double_path (B.state source.now).item))) }
+{
+    let path = marked_path(alloc, source, DOUBLE)?;
+    push_digest_line(alloc, text, digest, path.as_str())
+}
+
+/// The lines of the item that came last, whose files have these digests.
+fn item_lines<B: BagSource>(
+    alloc: Global,
+    source: &B,
+    told: &ItemDigests,
+) -> Result<String, AllocError>
+    requires { told.now ≡ item_digests (B.state source.now).item }
+    ensures { IfOk result (λ text. string_bytes text ≡ manifest
+        (item_entries (B.state source.now).item)) }
+{
+    let mut text = String::new(alloc);
+    match told {
+        ItemDigests::File(data, double) => {
+            push_data_line(alloc, &mut text, source, data)?;
+            push_double_line(alloc, &mut text, source, double)?;
+        }
+        ItemDigests::Folder(double) => push_double_line(alloc, &mut text, source, double)?,
+    }
+    Ok(text)
+}
+
+/// Gives the lines of the next item, whose files have these digests, to the shelf and to the digest.
+fn list_next<S: Shelf, B: BagSource>(
+    alloc: Global,
+    shelf: &mut S,
+    source: &mut B,
+    digest: &mut Sha256,
+    told: &ItemDigests,
+) -> Result<(), BagFault>
+    requires { IsNextOf told.now (B.state source.old).left }
+    ensures listed { OnOk result (HasListed (S.given shelf.old) (S.given shelf.new)
+        (B.state source.old) (B.state source.new) (Holds256 digest.old) (Holds256 digest.new)) }
+    ensures part { OnErr result (IsBeginning (S.given shelf.new)
+        (with_piece (S.given shelf.old) (manifest (items_entries (B.state source.old).left)))) }
+{
+    let Some(_) = source.next_item()? else {
+        unreachable!()
+    };
+    let lines = item_lines(alloc, source, told)?;
+    shelf.append(lines.as_bytes())?;
+    digest.update(lines.as_bytes());
+    Ok(())
+}
+
+/// Gives the lines of all items that are to come to the shelf and to the digest.
+fn list_items<S: Shelf, B: BagSource>(
+    alloc: Global,
+    shelf: &mut S,
+    source: &mut B,
+    digest: &mut Sha256,
+    told: &[ItemDigests],
+) -> Result<(), BagFault>
+    requires { told.now ≡ map item_digests (B.state source.old).left }
+    ensures whole { OnOk result (S.given shelf.new
+        ≡ with_piece (S.given shelf.old) (manifest (items_entries (B.state source.old).left))) }
+    ensures digest { OnOk result (HoldsMore (Holds256 digest.old) (Holds256 digest.new)
+        (manifest (items_entries (B.state source.old).left))) }
+    ensures all { OnOk result ((B.state source.new).all ≡ (B.state source.old).all) }
+    ensures table { OnOk result ((B.state source.new).table ≡ (B.state source.old).table) }
+    ensures part { OnErr result (IsBeginning (S.given shelf.new)
+        (with_piece (S.given shelf.old) (manifest (items_entries (B.state source.old).left)))) }
+{
+    for at in 0..told.len() {
+        list_next(alloc, shelf, source, digest, &told[at])?;
+    }
+    Ok(())
+}
+
+/// Gives the manifest of all items, whose files have these digests, and answers its digest.
+pub(crate) fn give_manifest<S: Shelf, B: BagSource>(
+    alloc: Global,
+    shelf: &mut S,
+    source: &mut B,
+    told: &[ItemDigests],
+) -> Result<[u8; 32], BagFault>
+    requires { told.now ≡ map item_digests (B.state source.old).all }
+    ensures whole { OnOk result (S.given shelf.new ≡ with_whole_file (S.given shelf.old)
+        (codes "manifest-sha256.txt") (manifest (items_entries (B.state source.old).all))) }
+    ensures part { OnErr result (IsBeginning (S.given shelf.new)
+        (with_whole_file (S.given shelf.old) (codes "manifest-sha256.txt")
+        (manifest (items_entries (B.state source.old).all)))) }
+    ensures digest { IfOk result (λ digest. digest ≡ sha256
+        (manifest (items_entries (B.state source.old).all))) }
+    ensures all { OnOk result ((B.state source.new).all ≡ (B.state source.old).all) }
+    ensures table { OnOk result ((B.state source.new).table ≡ (B.state source.old).table) }
+{
+    source.restart()?;
+    shelf.make_file("manifest-sha256.txt", None)?;
+    let mut digest = Sha256::new();
+    list_items(alloc, shelf, source, &mut digest, told)?;
+    Ok(digest.finalize())
+}

@@ -1,0 +1,218 @@
+//! The tag files of a bag.
+ghost use Rattle.std.specs.Prelude.{◌≡◌, ◌++◌, codes, map, IfOk, OnErr, OnOk, string_bytes};
+ghost use Rattle.sha2.specs.Sha256.{sha256};
+ghost use Rattle.hfs_texts.specs.Texts.{Gains};
+ghost use Rattle.hfs_shelves.specs.Entries.{IsBeginning};
+ghost use Rattle.hfs_bag.specs.Items.{item_digests};
+ghost use Rattle.hfs_bag.specs.Bags.{bytes_in, files_in, manifest, payload};
+ghost use Rattle.hfs_bag.specs.Filling.{with_whole_file};
+ghost use Rattle.hfs_bag.specs.TagParts.{first_tags, second_tags, tag_lines};
+ghost use Rattle.hfs_bag.specs.Tags.{declaration_text, image_digest_line, info_text, oxum_text, tag_files, volume_line};
+
+use crate::facts::BagFacts;
+use crate::fault::BagFault;
+use crate::filling::{put_file, put_text};
+use crate::giving::Given;
+use crate::manifests::{give_manifest, push_digest_line};
+use crate::source::{BagSource, Stream};
+use hfs_shelves::Shelf;
+use hfs_texts::{Show, push_line};
+use std::alloc::{AllocError, Global};
+
+/// A text as it is.
+#[derive(Drop)]
+struct Text<'a>(&'a str);
+
+impl Show for Text<'_> {
+    ghost shown = { λ text. text.0.now };
+
+    fn push_to(&self, text: &mut String) -> Result<(), AllocError> {
+        text.push_str(self.0)
+    }
+}
+
+/// How many bytes a payload has, and how many files.
+#[derive(Drop)]
+struct Oxum {
+    bytes: u64,
+    files: u64,
+}
+
+impl Show for Oxum {
+    ghost shown = { λ oxum. oxum_text oxum.bytes oxum.files };
+
+    #[tactic(auto, unfolding(crate::specs::Tags::oxum_text))]
+    fn push_to(&self, text: &mut String) -> Result<(), AllocError> {
+        self.bytes.push_to(text)?;
+        text.push('.')?;
+        self.files.push_to(text)
+    }
+}
+
+/// Appends the line of a volume that lies inside the image's file.
+fn push_volume(text: &mut String, volume: Option<&str>) -> Result<(), AllocError>
+    ensures { OnOk result (Gains text.old text.new (volume_line volume.entry)) }
+{
+    match volume {
+        Some(told) => push_line(text, "Source-Volume:", Text(told)),
+        None => Ok(()),
+    }
+}
+
+/// Appends the line of the image's digest.
+fn push_image_digest(
+    alloc: Global,
+    text: &mut String,
+    digest: Option<[u8; 32]>,
+) -> Result<(), AllocError>
+    ensures { OnOk result (Gains text.old text.new (image_digest_line digest)) }
+{
+    match digest {
+        Some(digest) => {
+            let digits = hex::encode(alloc, digest.as_slice())?;
+            push_line(text, "Source-SHA256:", Text(digits.as_str()))
+        }
+        None => Ok(()),
+    }
+}
+
+/// The text of `bag-info.txt`, of a payload of so many bytes and files.
+#[tactic(auto, unfolding(crate::specs::Tags::info_text))]
+fn info_text(
+    alloc: Global,
+    facts: &BagFacts<'_>,
+    bytes: u64,
+    files: u64,
+) -> Result<String, AllocError>
+    ensures { IfOk result (λ text. string_bytes text ≡ info_text facts.now bytes files) }
+{
+    let mut text = String::new(alloc);
+    push_line(&mut text, "External-Identifier:", Text(facts.identifier))?;
+    push_line(&mut text, "Bag-Software-Agent:", Text(facts.program))?;
+    push_line(&mut text, "Source-Image:", Text(facts.image))?;
+    push_volume(&mut text, facts.volume)?;
+    push_line(&mut text, "Source-Bytes:", facts.bytes)?;
+    push_image_digest(alloc, &mut text, facts.digest)?;
+    push_line(&mut text, "Payload-Oxum:", Oxum { bytes, files })?;
+    Ok(text)
+}
+
+/// The digests of the tag files, which the last one has.
+#[derive(Clone, Copy)]
+struct TagDigests {
+    manifest: [u8; 32],
+    table: [u8; 32],
+    report: [u8; 32],
+    info: [u8; 32],
+    declaration: [u8; 32],
+}
+
+/// The text of `tagmanifest-sha256.txt`.
+fn tag_manifest(alloc: Global, tags: &TagDigests) -> Result<String, AllocError>
+    ensures { IfOk result (λ text. string_bytes text ≡ tag_lines tags.now) }
+{
+    let mut text = String::new(alloc);
+    push_digest_line(alloc, &mut text, &tags.declaration, "bagit.txt")?;
+    push_digest_line(alloc, &mut text, &tags.info, "bag-info.txt")?;
+    push_digest_line(alloc, &mut text, &tags.table, "items.csv")?;
+    push_digest_line(alloc, &mut text, &tags.report, "volume.txt")?;
+    push_digest_line(alloc, &mut text, &tags.manifest, "manifest-sha256.txt")?;
+    Ok(text)
+}
+
+/// Gives the manifest, the table and the report, and answers their digests.
+fn give_first<S: Shelf, B: BagSource>(
+    alloc: Global,
+    shelf: &mut S,
+    source: &mut B,
+    facts: &BagFacts<'_>,
+    given: &Given,
+) -> Result<([u8; 32], [u8; 32], [u8; 32]), BagFault>
+    requires { given.now.digests.items ≡ map item_digests (B.state source.old).all }
+    ensures whole { OnOk result (S.given shelf.new ≡ S.given shelf.old
+        ++ first_tags (B.state source.old).all (B.state source.old).table facts.now) }
+    ensures part { OnErr result (IsBeginning (S.given shelf.new) (S.given shelf.old
+        ++ first_tags (B.state source.old).all (B.state source.old).table facts.now)) }
+    ensures manifest { IfOk result (λ told. told.0 ≡ sha256
+        (manifest (payload (B.state source.old).all))) }
+    ensures table { IfOk result (λ told. told.1 ≡ sha256 (B.state source.old).table) }
+    ensures report { IfOk result (λ told. told.2 ≡ sha256 facts.now.report.now) }
+{
+    let manifest = give_manifest(alloc, shelf, source, &given.digests)?;
+    let table = put_file(alloc, shelf, source, "items.csv", None, &[], Stream::Table)?;
+    let report = put_text(shelf, "volume.txt", facts.report)?;
+    Ok((manifest, table, report))
+}
+
+/// Gives the facts and the declaration, and answers their digests.
+fn give_second<S: Shelf>(
+    alloc: Global,
+    shelf: &mut S,
+    facts: &BagFacts<'_>,
+    bytes: u64,
+    files: u64,
+) -> Result<([u8; 32], [u8; 32]), BagFault>
+    ensures whole { OnOk result (S.given shelf.new ≡ S.given shelf.old ++ second_tags facts.now
+        bytes files) }
+    ensures part { OnErr result (IsBeginning (S.given shelf.new)
+        (S.given shelf.old ++ second_tags facts.now bytes files)) }
+    ensures info { IfOk result (λ told. told.0 ≡ sha256 (info_text facts.now bytes files)) }
+    ensures declaration { IfOk result (λ told. told.1 ≡ sha256 declaration_text) }
+{
+    let text = info_text(alloc, facts, bytes, files)?;
+    let info = put_text(shelf, "bag-info.txt", text.as_str())?;
+    let declaration = put_text(
+        shelf,
+        "bagit.txt",
+        "BagIt-Version: 1.0\nTag-File-Character-Encoding: UTF-8\n",
+    )?;
+    Ok((info, declaration))
+}
+
+/// Gives the manifest of the tag files.
+fn give_last<S: Shelf>(alloc: Global, shelf: &mut S, tags: &TagDigests) -> Result<(), BagFault>
+    ensures whole { OnOk result (S.given shelf.new ≡ with_whole_file (S.given shelf.old)
+        (codes "tagmanifest-sha256.txt") (tag_lines tags.now)) }
+    ensures part { OnErr result (IsBeginning (S.given shelf.new)
+        (with_whole_file (S.given shelf.old) (codes "tagmanifest-sha256.txt")
+        (tag_lines tags.now))) }
+{
+    let text = tag_manifest(alloc, tags)?;
+    put_text(shelf, "tagmanifest-sha256.txt", text.as_str())?;
+    Ok(())
+}
+
+/// Gives the tag files of a payload that was given.
+pub(crate) fn give_tags<S: Shelf, B: BagSource>(
+    alloc: Global,
+    shelf: &mut S,
+    source: &mut B,
+    facts: &BagFacts<'_>,
+    given: &Given,
+    files: u64,
+) -> Result<(), BagFault>
+    requires told { given.now.digests.items ≡ map item_digests (B.state source.old).all }
+    requires bytes { given.now.bytes ≡ bytes_in (payload (B.state source.old).all) }
+    requires files { files ≡ files_in (payload (B.state source.old).all) }
+    ensures whole { OnOk result (S.given shelf.new ≡ S.given shelf.old
+        ++ tag_files (B.state source.old).all (B.state source.old).table facts.now) }
+    ensures part { OnErr result (IsBeginning (S.given shelf.new) (S.given shelf.old
+        ++ tag_files (B.state source.old).all (B.state source.old).table facts.now)) }
+{
+    let first = give_first(alloc, shelf, source, facts, given)?;
+    let second = give_second(alloc, shelf, facts, given.bytes, files)?;
+    let manifest = first.0;
+    let table = first.1;
+    let report = first.2;
+    let info = second.0;
+    let declaration = second.1;
+    let tags = TagDigests {
+        manifest,
+        table,
+        report,
+        info,
+        declaration,
+    };
+    give_last(alloc, shelf, &tags)?;
+    Ok(())
+}

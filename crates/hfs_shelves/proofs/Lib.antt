@@ -1,0 +1,3 @@
+mod Walks
+pub mod Beginnings
+mod StoredLemmas

@@ -1,0 +1,38 @@
+-- What a shelf was given.
+use Rattle.std.specs.Prelude.{◌≡◌, ℕ, List, [], ◌∷◌, ◌++◌, ◌⊎◌, ⊤}
+
+-- a folder by its path, or a file by its path, and its bytes as far as they came
+pub data ShelfEntry : Type 0 where
+  folder : List ℕ → ShelfEntry
+  file : List ℕ → List ℕ → ShelfEntry
+
+-- the bytes of a piece lie behind those of the last entry, where that is a file
+abbrev pub longer : ShelfEntry → List ℕ → ShelfEntry
+longer (folder path) piece = folder path
+longer (file path bytes) piece = file path (bytes ++ piece)
+
+-- what was given, and then a folder
+abbrev pub with_folder : List ShelfEntry → List ℕ → List ShelfEntry
+with_folder given path = given ++ folder path ∷ []
+
+-- what was given, and then a file without bytes
+abbrev pub with_file : List ShelfEntry → List ℕ → List ShelfEntry
+with_file given path = given ++ file path [] ∷ []
+
+-- what was given, and then a piece of the last file
+abbrev pub with_piece : List ShelfEntry → List ℕ → List ShelfEntry
+with_piece [] piece = []
+with_piece (entry ∷ []) piece = longer entry piece ∷ []
+with_piece (entry ∷ next ∷ rest) piece = entry ∷ with_piece (next ∷ rest) piece
+
+-- a file of which only the first bytes are there
+abbrev pub IsPart : ShelfEntry → ShelfEntry → Type 0
+IsPart (file path some) (file same all) = (path ≡ same) × ((rest : List ℕ) × (all ≡ some ++ rest))
+IsPart (file path some) (folder same) = ⊥
+IsPart (folder path) whole = ⊥
+
+-- the first entries of a list, each whole, but that of the last one, a file, the first bytes may be all
+abbrev pub IsBeginning : List ShelfEntry → List ShelfEntry → Type 0
+IsBeginning [] all = ⊤
+IsBeginning (entry ∷ rest) [] = ⊥
+IsBeginning (entry ∷ rest) (whole ∷ behind) = ((entry ≡ whole) × IsBeginning rest behind) ⊎ (IsPart entry whole × (rest ≡ []))

@@ -1,0 +1,15 @@
+-- Which path a fault of the shelf of files tells.
+use Rattle.std.specs.Prelude.{◌≡◌, ℕ, List, ◌⊎◌, ⊤, string_bytes}
+use Rattle.hfs_shelves.specs.ShelfPaths.{IsNewFolder}
+use Rattle.hfs_shelves.specs.declared.fault.ShelfFault.{ShelfFault}
+use Rattle.hfs_shelves.specs.declared.fault.ShelfFault.TheVariants as fault
+
+-- this path, where it tells one
+abbrev pub Tells : List ℕ → ShelfFault → Type 0
+Tells path (fault.CannotWrite told) = string_bytes told ≡ path
+Tells path fault.NoMemory = ⊤
+
+-- the path of a folder that is to be written, or of one of the hundred in which it may be written
+abbrev pub TellsNewFolder : List ℕ → ShelfFault → Type 0
+TellsNewFolder path (fault.CannotWrite told) = IsNewFolder path (string_bytes told) ⊎ (string_bytes told ≡ path)
+TellsNewFolder path fault.NoMemory = ⊤

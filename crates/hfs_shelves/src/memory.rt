@@ -1,0 +1,87 @@
+//! A shelf over memory.
+ghost use Rattle.std.specs.Prelude.{◌≡◌, [], ◌∷◌, ◌++◌, OnErr, OnOk};
+ghost use Rattle.hfs_shelves.specs.Entries.{longer};
+ghost use Rattle.hfs_shelves.specs.StoredEntries.{entry_with, stored_entries, stored_entry};
+
+use crate::fault::ShelfFault;
+use crate::shelf::Shelf;
+use std::alloc::Global;
+
+/// A folder, which has no bytes, or a file with its bytes.
+#[derive(Drop)]
+pub struct Stored {
+    pub path: String,
+    pub bytes: Option<Vec<u8>>,
+}
+
+/// A shelf that keeps all that it was given, in order. It takes no note of times.
+#[derive(Drop)]
+pub struct MemoryShelf {
+    alloc: Global,
+    pub stored: Vec<Stored>,
+}
+
+impl MemoryShelf {
+    /// An empty shelf.
+    pub fn new(alloc: Global) -> MemoryShelf
+        ensures { result.stored.items ≡ [] }
+    {
+        MemoryShelf {
+            alloc,
+            stored: Vec::new(alloc),
+        }
+    }
+}
+
+/// Lays a piece behind the bytes of a file; a folder has none. At a fault nothing changed.
+fn extend(stored: &mut Stored, piece: &[u8]) -> Result<(), ShelfFault>
+    ensures whole { OnOk result (stored_entry stored.new ≡ longer (stored_entry stored.old)
+        piece.now) }
+    ensures kept { OnErr result (stored_entry stored.new ≡ stored_entry stored.old) }
+{
+    match &mut stored.bytes {
+        Some(bytes) => match bytes.extend_from_slice(piece) {
+            Ok(()) => Ok(()),
+            Err(_) => Err(ShelfFault::NoMemory),
+        },
+        None => Err(ShelfFault::NoMemory),
+    }
+}
+
+/// Keeps one thing more.
+fn keep(shelf: &mut MemoryShelf, path: &str, bytes: Option<Vec<u8>>) -> Result<(), ShelfFault>
+    ensures whole { OnOk result (stored_entries shelf.new.stored.items ≡ stored_entries
+        shelf.old.stored.items ++ entry_with path.now bytes ∷ []) }
+    ensures kept { OnErr result (shelf.new.stored.items ≡ shelf.old.stored.items) }
+{
+    let Ok(path) = String::from_str(shelf.alloc, path) else {
+        return Err(ShelfFault::NoMemory);
+    };
+    match shelf.stored.push(Stored { path, bytes }) {
+        Ok(()) => Ok(()),
+        Err(_) => Err(ShelfFault::NoMemory),
+    }
+}
+
+impl Shelf for MemoryShelf {
+    ghost given = { λ shelf. stored_entries shelf.stored.items };
+
+    #[tactic(auto, using(crate::proofs::Beginnings::beginnings))]
+    fn make_folder(&mut self, path: &str) -> Result<(), ShelfFault> {
+        keep(self, path, None)
+    }
+
+    #[tactic(auto, using(crate::proofs::Beginnings::beginnings))]
+    fn make_file(&mut self, path: &str, _modified: Option<u32>) -> Result<(), ShelfFault> {
+        keep(self, path, Some(Vec::new(self.alloc)))
+    }
+
+    fn append(&mut self, piece: &[u8]) -> Result<(), ShelfFault> {
+        let last = self.stored.len();
+        if last == 0 {
+            return Err(ShelfFault::NoMemory);
+        }
+        extend(&mut self.stored[last - 1], piece)?;
+        Ok(())
+    }
+}

@@ -1,0 +1,31 @@
+//! The trait of shelves.
+ghost use Rattle.std.specs.Prelude.{◌≡◌, List, OnErr, OnOk};
+ghost use Rattle.hfs_shelves.specs.Entries.{ShelfEntry, IsBeginning, with_folder, with_file, with_piece};
+
+use crate::fault::ShelfFault;
+
+/// What takes folders and files: each is made by its path, and a file's bytes come in pieces, behind
+/// one another. Contracts know a shelf by the list of what it was given.
+pub trait Shelf {
+    ghost given: { Self → List ShelfEntry };
+
+    /// Makes a folder. Faults: `CannotWrite` of its path, `NoMemory`.
+    fn make_folder(&mut self, path: &str) -> Result<(), ShelfFault>
+        ensures whole { OnOk result (given self.new ≡ with_folder (given self.old) path.now) }
+        ensures part { OnErr result (IsBeginning (given self.new)
+            (with_folder (given self.old) path.now)) };
+
+    /// Makes a file without bytes, which the next pieces are for. It gets this time, in seconds from
+    /// the beginning of 1970, where one is told and the shelf can set it. Faults: as of a folder.
+    fn make_file(&mut self, path: &str, modified: Option<u32>) -> Result<(), ShelfFault>
+        ensures whole { OnOk result (given self.new ≡ with_file (given self.old) path.now) }
+        ensures part { OnErr result (IsBeginning (given self.new)
+            (with_file (given self.old) path.now)) };
+
+    /// Lays these bytes behind those of the file that was made last. Faults: `CannotWrite` of its
+    /// path, also where nothing or a folder was made last; `NoMemory`.
+    fn append(&mut self, piece: &[u8]) -> Result<(), ShelfFault>
+        ensures whole { OnOk result (given self.new ≡ with_piece (given self.old) piece.now) }
+        ensures part { OnErr result (IsBeginning (given self.new)
+            (with_piece (given self.old) piece.now)) };
+}
