@@ -1,0 +1,4 @@
+pub mod ListLemmas
+pub mod TableLemmas
+pub mod RunLemmas
+pub mod LevelLemmas

@@ -1,0 +1,5 @@
+pub mod Rows
+pub mod Told
+pub mod Infos
+pub mod Levels
+pub mod Laws

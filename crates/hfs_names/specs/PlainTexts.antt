@@ -1,0 +1,16 @@
+-- Plain text: bytes of a Macintosh as they stand in tables.
+use Rattle.std.specs.Prelude.{ℕ, Bool, ◌||◌, ◌==◌, nat_lt, if◌then◌else◌, List, ◌∷◌, flat_map}
+use Rattle.hfs_names.specs.Digits.{hex_byte}
+use Rattle.hfs_names.specs.MacRoman.{character_text}
+
+-- a byte that is no printable character
+abbrev pub is_control : ℕ → Bool
+is_control byte = nat_lt byte 0x20 || byte == 0x7F
+
+-- a byte: its character, but a backslash and two lower-case hexadecimal digits where it is no printable character or a backslash
+unfoldable pub plain_character : ℕ → List ℕ
+plain_character byte = if is_control byte || byte == 0x5C then 0x5C ∷ hex_byte byte else character_text byte
+
+-- the plain text of bytes
+unfoldable pub plain_text : List ℕ → List ℕ
+plain_text bytes = flat_map plain_character bytes

@@ -1,0 +1,59 @@
+//! Paths.
+ghost use Rattle.std.specs.Prelude.{◌≡◌, OnOk};
+ghost use Rattle.hfs_names.specs.Gains.{Gains};
+ghost use Rattle.hfs_names.specs.Paths.{host_path, mac_path, mac_path_characters};
+
+use crate::characters::push_characters;
+use crate::hosts::push_host_name;
+use crate::plain::push_plain_text;
+use hfs_fields::Name;
+use std::alloc::AllocError;
+
+/// Appends the Mac path of an item, by the names that lead to it, from the root's down: their plain texts with `:` between.
+#[tactic(auto, unfolding(crate::specs::Paths::mac_path))]
+pub fn push_mac_path(text: &mut String, names: &[Name]) -> Result<(), AllocError>
+    ensures { OnOk result (Gains text.old text.new (mac_path names.now)) }
+{
+    let [root, below @ ..] = names else {
+        return Ok(());
+    };
+    push_plain_text(text, root.bytes())?;
+    for name in below {
+        text.push(':')?;
+        push_plain_text(text, name.bytes())?;
+    }
+    Ok(())
+}
+
+/// Appends the same path with the characters themselves.
+#[tactic(auto, unfolding(crate::specs::Paths::mac_path_characters))]
+pub fn push_mac_path_characters(text: &mut String, names: &[Name]) -> Result<(), AllocError>
+    ensures { OnOk result (Gains text.old text.new (mac_path_characters names.now)) }
+{
+    let [root, below @ ..] = names else {
+        return Ok(());
+    };
+    push_characters(text, root.bytes())?;
+    for name in below {
+        text.push(':')?;
+        push_characters(text, name.bytes())?;
+    }
+    Ok(())
+}
+
+/// Appends the host path of an item, by the names that lead to it, from the one below the root down: their host names with `/`
+/// between. The root's is empty.
+#[tactic(auto, unfolding(crate::specs::Paths::host_path))]
+pub fn push_host_path(text: &mut String, names: &[Name]) -> Result<(), AllocError>
+    ensures { OnOk result (Gains text.old text.new (host_path names.now)) }
+{
+    let [first, below @ ..] = names else {
+        return Ok(());
+    };
+    push_host_name(text, first.bytes())?;
+    for name in below {
+        text.push('/')?;
+        push_host_name(text, name.bytes())?;
+    }
+    Ok(())
+}
