@@ -51,11 +51,11 @@ lies-later year month len lengths days day h d =
 lies : (year month : ℕ) (lengths : List ℕ) (days : ℕ) → days < sum lengths → LiesIn year month lengths days (day_from_month year month lengths days)
 lies year month [] days h = absurd (omega arith)
 lies year month (len ∷ lengths) days h = elim (cases_lt days len) [
-    | inl here ↦ subst (LiesIn year month (len ∷ lengths) days) (sym (first-month year month len lengths days here)) (lies-here year month len lengths days here)
-    | inr later ↦ subst (LiesIn year month (len ∷ lengths) days) (sym (later-month year month len lengths days later))
-        (lies-later year month len lengths days _ later
-          (lies year (month + 1) lengths (days - len) (omega (arith, sum_by-cons (λ (x : ℕ). x) len lengths))))
-  ]
+  | inl here ↦ subst (LiesIn year month (len ∷ lengths) days) (sym (first-month year month len lengths days here)) (lies-here year month len lengths days here)
+  | inr later ↦ subst (LiesIn year month (len ∷ lengths) days) (sym (later-month year month len lengths days later))
+      (lies-later year month len lengths days _ later
+      (lies year (month + 1) lengths (days - len) (omega (arith, sum_by-cons (λ (x : ℕ). x) len lengths))))
+]
 
 -- ---- a day of a year
 
@@ -109,7 +109,7 @@ cycle-days n whole c is =
     let y2 : year_length (1904 + (n + 1 + 1)) ≡ 365 = ap year_length (turned (n + 1) ∙ ap (λ k. k + 1) (turned n)) ∙ c.second in
     let d : days_of_years (n + 1 + 1 + 1) ≡ whole + 1096 = omega (arith, one-year (n + 1 + 1), y2) in
     let y3 : year_length (1904 + (n + 1 + 1 + 1)) ≡ 365 =
-          ap year_length (turned (n + 1 + 1) ∙ ap (λ k. k + 1) (turned (n + 1) ∙ ap (λ k. k + 1) (turned n))) ∙ c.third in
+    ap year_length (turned (n + 1 + 1) ∙ ap (λ k. k + 1) (turned (n + 1) ∙ ap (λ k. k + 1) (turned n))) ∙ c.third in
     record { leap = is; first = a; second = b; third = d; next = omega (arith, one-year (n + 1 + 1 + 1), y3) }
 
 whole-cycles : (q : ℕ) → q ≤ 34 → days_of_years (q * 4) ≡ q * 1461
@@ -162,10 +162,10 @@ found-behind : (days : ℕ) → days < 49711 → 366 ≤ days % 1461 → IsFound
 found-behind days small h =
     let n : 1904 + days / 1461 * 4 + 1 + (days % 1461 - 366) / 365 - 1904 ≡ days / 1461 * 4 + 1 + (days % 1461 - 366) / 365 = omega arith in
     let whole : days_of_years (1904 + days / 1461 * 4 + 1 + (days % 1461 - 366) / 365 - 1904) ≡ days / 1461 * 1461 + 366 + (days % 1461 - 366) / 365 * 365 =
-          ap days_of_years n ∙ behind-cycles (days / 1461) ((days % 1461 - 366) / 365) (omega arith) (omega arith) in
+    ap days_of_years n ∙ behind-cycles (days / 1461) ((days % 1461 - 366) / 365) (omega arith) (omega arith) in
     subst (IsFound days) (sym ((since-1904 days small).behind h))
     (found (1904 + days / 1461 * 4 + 1 + (days % 1461 - 366) / 365) ((days % 1461 - 366) % 365) days _ (omega arith) (omega arith) (omega arith)
-      (of-year _ _ (in-year-behind days small h)))
+    (of-year _ _ (in-year-behind days small h)))
 
 pub found-day : (days : ℕ) → days < 49711 → IsFound days (day_since_1904 days)
 found-day days small = elim (cases_lt (days % 1461) 366) [ inl a ↦ found-in-leap-year days small a | inr b ↦ found-behind days small b ]

@@ -141,14 +141,14 @@ in-cycles (suc m) year zero r y leaps within small is =
     let all : r ≡ 0 * 1461 + r = omega arith in
     subst (λ d. DaysIn y r (day_from_year (years_of_cycles (suc m)) year d)) all
     (subst (λ z. DaysIn y r (day_from_year (years_of_cycles (suc m)) z r)) (sym same)
-      (in-cycle (suc (years_of_cycles m)) y r (subst LeapCycle here (leaps 0 (omega arith))) small))
+    (in-cycle (suc (years_of_cycles m)) y r (subst LeapCycle here (leaps 0 (omega arith))) small))
 in-cycles (suc m) year (suc q) r y leaps within small is =
     let here : year + 0 * 4 ≡ year = omega arith in
     let step = behind-third (years_of_cycles m) year (suc q * 1461 + r) (subst LeapCycle here (leaps 0 (omega arith))) (omega arith) in
     let rest : suc q * 1461 + r - 366 - 365 - 365 - 365 ≡ q * 1461 + r = omega arith in
     let whole = step ∙ ap (day_from_year (years_of_cycles m) (year + 1 + 1 + 1 + 1)) rest in
     let later = in-cycles m (year + 1 + 1 + 1 + 1) q r y
-          (λ k h. subst LeapCycle (turned year k) (leaps (suc k) (omega arith))) (omega arith) small (omega arith) in
+    (λ k h. subst LeapCycle (turned year k) (leaps (suc k) (omega arith))) (omega arith) small (omega arith) in
     subst (DaysIn y r) (sym whole) later
   where
     turned : (year k : ℕ) → year + suc k * 4 ≡ year + 1 + 1 + 1 + 1 + k * 4
@@ -190,14 +190,16 @@ in-leap-year days small h = omega (arith, (leap-cycles (days / 1461) (omega arit
 
 pub lengths-behind : (year k : ℕ) → LeapCycle year → k < 3 → year_length (year + 1 + k) ≡ 365
 lengths-behind year k c h = elim (cases_lt k 1) [
-    | inl a ↦ ap year_length (one year k a) ∙ c.first
-    | inr a ↦ elim (cases_lt k 2) [ inl b ↦ ap year_length (two year k a b) ∙ c.second | inr b ↦ ap year_length (three year k b h) ∙ c.third ]
-  ]
+  | inl a ↦ ap year_length (one year k a) ∙ c.first
+  | inr a ↦ elim (cases_lt k 2) [ inl b ↦ ap year_length (two year k a b) ∙ c.second | inr b ↦ ap year_length (three year k b h) ∙ c.third ]
+]
   where
     one : (year k : ℕ) → k < 1 → year + 1 + k ≡ year + 1
     one year k a = omega arith
+
     two : (year k : ℕ) → 1 ≤ k → k < 2 → year + 1 + k ≡ year + 1 + 1
     two year k a b = omega arith
+
     three : (year k : ℕ) → 2 ≤ k → k < 3 → year + 1 + k ≡ year + 1 + 1 + 1
     three year k a b = omega arith
 

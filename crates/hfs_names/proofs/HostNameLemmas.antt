@@ -142,10 +142,13 @@ name-spells : (is_character : ℕ → Bool) (c : ℕ) (behind : List ℕ) → li
     → Spells host_character (is-letter is_character) (c ∷ behind) (host_name (c ∷ behind))
 unfolding host_name is-letter
 name-spells is_character c behind h =
-    let two = and_parts _ _ h in
-    (is_first_escaped c behind, host_rest behind, refl,
+    let two = and_parts _ _ h in (
+      is_first_escaped c behind,
+      host_rest behind,
+      refl,
       and_from _ _ two.0 (first-marks (is_reserved c) (c == 46) (is_device_name (c ∷ behind)) (length behind == 0 && is_dropped_at_end c)),
-      rest-spells is_character behind two.1)
+      rest-spells is_character behind two.1,
+    )
 
 empty-name : host_name [] ≡ 61 ∷ []
 unfolding host_name
@@ -257,7 +260,7 @@ first-byte (c ∷ behind) h e =
     let two = and_parts _ _ h in
     let f = word-facts (is_first_escaped c behind) c (first-letter c behind h) in
     let no = no-first-point (is_first_escaped c behind) (is_reserved c) (c == 46) (is_device_name (c ∷ behind)) (length behind == 0 && is_dropped_at_end c) c
-          (ltb-true c 256 two.0) refl refl refl in
+    (ltb-true c 256 two.0) refl refl refl in
     eqb-false _ _ no (sym (get_or-append (host_character (is_first_escaped c behind) c) (host_rest behind) 0 0 f.begun) ∙ e)
 
 begun : (a : List ℕ) → is_bytes a ≡ true → host_name a ≢ []

@@ -9,6 +9,8 @@ mod laws;
 mod moments;
 mod paths;
 mod plain;
+#[cfg(test)]
+mod tests;
 
 pub use calendar::Day;
 pub use characters::push_characters;

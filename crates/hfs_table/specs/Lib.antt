@@ -1,0 +1,4 @@
+pub mod Adds
+pub mod Cells
+pub mod Columns
+pub mod Lines

@@ -1,0 +1,64 @@
+-- The lines of the table in its three formats.
+use Rattle.std.specs.Prelude.{ℕ, Bool, ◌||◌, ◌==◌, if◌then◌else◌, List, [], ◌∷◌, ◌++◌, codes, flat_map}
+use Rattle.std.specs.List.{list_any, join_by}
+use Rattle.json.specs.Token as json
+use Rattle.json.specs.Print.{print}
+use Rattle.hfs_model.specs.declared.reply.Info.{Info}
+use Rattle.hfs_table.specs.Cells.{cell_text, cell_value}
+use Rattle.hfs_table.specs.Columns.{columns, column_name, cell}
+use Rattle.hfs_table.specs.declared.column.Column.{Column}
+use Rattle.hfs_table.specs.declared.format.Format.{Format}
+use Rattle.hfs_table.specs.declared.format.Format.TheVariants as format
+
+-- the text of a column's field
+abbrev pub field_text : List (List ℕ) → Info → Column → List ℕ
+field_text names info column = cell_text (cell column names info)
+
+-- the fields with tabs between, and a line feed
+unfoldable pub tab_line : List (List ℕ) → Info → List ℕ
+tab_line names info = join_by (field_text names info) (codes "\t") columns ++ codes "\n"
+
+-- ---- CSV
+
+-- a comma or a quotation mark
+unfoldable pub is_quoted_for : ℕ → Bool
+is_quoted_for c = c == 44 || c == 34
+
+-- a quotation mark twice, and any other character as it is
+unfoldable pub doubled : ℕ → List ℕ
+doubled c = if c == 34 then 34 ∷ 34 ∷ [] else c ∷ []
+
+-- a field: as it is, or where it holds a comma or a quotation mark between quotation marks, with those that it holds twice
+unfoldable pub csv_field : List ℕ → List ℕ
+csv_field text = if list_any is_quoted_for text then codes "\"" ++ flat_map doubled text ++ codes "\"" else text
+
+-- the names of the columns with commas between; a line ends with CR LF
+unfoldable pub csv_head : List ℕ
+csv_head = join_by column_name (codes ",") columns ++ codes "\r\n"
+
+unfoldable pub csv_line : List (List ℕ) → Info → List ℕ
+csv_line names info = join_by (λ column. csv_field (field_text names info column)) (codes ",") columns ++ codes "\r\n"
+
+-- ---- JSON
+
+-- a column's member: its name and its value
+abbrev pub member : List (List ℕ) → Info → Column → List json.Token
+member names info column = json.key (column_name column) ∷ cell_value (cell column names info) ∷ []
+
+-- an object with the members in the order of the columns, and a line feed
+unfoldable pub json_line : List (List ℕ) → Info → List ℕ
+json_line names info = print (json.begin_object ∷ flat_map (member names info) columns ++ json.end_object ∷ []) ++ codes "\n"
+
+-- ---- any format
+
+-- what stands before the first row
+abbrev pub head_text : Format → List ℕ
+head_text format.Tab = []
+head_text format.Csv = csv_head
+head_text format.Json = []
+
+-- the row of the item to which these names lead, from the root's down
+abbrev pub row_text : Format → List (List ℕ) → Info → List ℕ
+row_text format.Tab names info = tab_line names info
+row_text format.Csv names info = csv_line names info
+row_text format.Json names info = json_line names info
