@@ -1,1 +1,3 @@
 mod EscapeLemmas
+mod HoldingLemmas
+mod UseLemmas
