@@ -1,3 +1,5 @@
 mod EscapeLemmas
 mod HoldingLemmas
 mod UseLemmas
+mod ItemLemmas
+mod Joins

@@ -5,3 +5,5 @@ pub mod Parts
 pub mod Holdings
 pub mod Uses
 pub mod Cells
+pub mod Texts
+pub mod Items

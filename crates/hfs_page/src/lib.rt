@@ -4,9 +4,11 @@
 mod cells;
 mod escaping;
 mod holdings;
+mod items;
 mod laws;
 mod parts;
 mod pieces;
+mod texts;
 mod uses;
 
 pub use cells::{Cell, picture_cells};
