@@ -3,3 +3,4 @@ mod HoldingLemmas
 mod UseLemmas
 mod ItemLemmas
 mod Joins
+mod DiskLemmas

@@ -1,5 +1,5 @@
 -- The cells of the picture of a disk.
-use Rattle.std.specs.Prelude.{ℕ, ◌*◌, max, ◌==◌, find, List, [], ◌∷◌, length, map, take, drop, None, Option}
+use Rattle.std.specs.Prelude.{ℕ, ◌+◌, ◌-◌, ◌*◌, max, ◌==◌, find, List, [], ◌∷◌, length, map, take, drop, None, Option}
 use Rattle.std.specs.List.{range_with_len}
 use Rattle.std.specs.Int.{div_ceil}
 use Rattle.std.specs.Option.{option_or, unwrap_or}
@@ -28,7 +28,7 @@ blocks_per_cell n = max (div_ceil n 4096) 1
 -- the cell of so many of the blocks from this one on, or of as many as are left
 abbrev pub cell_at : List BlockUse → ℕ → ℕ → Cell
 cell_at uses per_cell first =
-    record { first = first; count = length (take per_cell (drop first uses)); used = shown_use (take per_cell (drop first uses)) }
+    record { first = first; last = first + length (take per_cell (drop first uses)) - 1; used = shown_use (take per_cell (drop first uses)) }
 
 -- all cells of a picture
 unfoldable pub picture_cells : List BlockUse → List Cell

@@ -7,3 +7,8 @@ pub mod Uses
 pub mod Cells
 pub mod Texts
 pub mod Items
+pub mod Facts
+pub mod Picture
+pub mod Document
+pub mod Rows
+pub mod Disk

@@ -15,8 +15,8 @@ const MOST_CELLS: usize = 4_096;
 pub struct Cell {
     /// Its first block.
     pub first: usize,
-    /// How many blocks it has.
-    pub count: usize,
+    /// Its last block.
+    pub last: usize,
     /// What its first block of the part that is shown is used for.
     pub used: BlockUse,
 }
@@ -62,7 +62,6 @@ fn shown_use(uses: &[BlockUse]) -> BlockUse
 /// The least number of blocks in a cell with which so many blocks have no more than 4,096 cells.
 #[tactic(auto, unfolding(crate::specs::Cells::blocks_per_cell))]
 fn blocks_per_cell(blocks: usize) -> usize
-    requires { blocks < 65536 }
     ensures value { result ≡ blocks_per_cell blocks }
     ensures some { 1 ≤ result }
 {
@@ -78,7 +77,7 @@ fn cell_at(uses: &[BlockUse], per_cell: usize, first: usize) -> Cell
     let shown = &behind[..per_cell.min(behind.len())];
     Cell {
         first,
-        count: shown.len(),
+        last: (first + shown.len()).saturating_sub(1),
         used: shown_use(shown),
     }
 }
@@ -87,7 +86,6 @@ fn cell_at(uses: &[BlockUse], per_cell: usize, first: usize) -> Cell
 /// than 4,096 cells. The only error is want of memory.
 #[tactic(auto, unfolding(crate::specs::Cells::picture_cells))]
 pub fn picture_cells(alloc: Global, uses: &[BlockUse]) -> Result<Vec<Cell>, AllocError>
-    requires { length uses.now < 65536 }
     ensures { IfOk result (λ cells. cells.items ≡ picture_cells uses.now) }
 {
     let per_cell = blocks_per_cell(uses.len());

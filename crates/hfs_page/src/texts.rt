@@ -87,3 +87,17 @@ pub(crate) fn push_told_number(
     push_bytes(page, label)?;
     push_number(alloc, page, number)
 }
+
+/// Appends a count or a place behind what says what it is.
+#[tactic(auto, unfolding(crate::specs::Texts::told_number))]
+pub(crate) fn push_told_count(
+    alloc: Global,
+    page: &mut Vec<u8>,
+    label: &[u8],
+    count: usize,
+) -> Result<(), AllocError>
+    ensures { OnOk result (Gains page.old page.new (told_number label.now count)) }
+{
+    push_bytes(page, label)?;
+    push_count(alloc, page, count)
+}
