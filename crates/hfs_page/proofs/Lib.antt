@@ -1,0 +1,6 @@
+mod EscapeLemmas
+mod HoldingLemmas
+mod UseLemmas
+mod ItemLemmas
+mod Joins
+mod DiskLemmas

@@ -1,0 +1,39 @@
+-- What a page says of a volume before its picture.
+use Rattle.std.specs.Prelude.{ℕ, List, ◌++◌, codes}
+use Rattle.std.specs.Fmt.{decimal}
+use Rattle.hfs_fields.specs.declared.mdb.Mdb.{Mdb}
+use Rattle.hfs_names.specs.Moments.{moment}
+
+-- ---- the table of what the volume is
+
+unfoldable pub row_head : List ℕ → List ℕ
+row_head label = codes "<tr><th scope=\"row\">" ++ label ++ codes "</th><td>"
+
+unfoldable pub date_row : List ℕ → ℕ → List ℕ
+date_row label date = row_head label ++ moment date ++ codes "</td></tr>\n"
+
+unfoldable pub count_row : List ℕ → ℕ → List ℕ
+count_row label count = row_head label ++ decimal count ++ codes "</td></tr>\n"
+
+unfoldable pub dates_text : Mdb → List ℕ
+dates_text mdb = date_row (codes "Created") mdb.created ++ date_row (codes "Modified") mdb.modified ++ date_row (codes "Backup") mdb.backup
+
+unfoldable pub sizes_text : Mdb → List ℕ
+sizes_text mdb =
+    count_row (codes "Allocation blocks") mdb.allocation_blocks ++ count_row (codes "Bytes of each") mdb.allocation_block_size
+    ++ count_row (codes "Free blocks") mdb.free_blocks
+
+unfoldable pub counts_text : Mdb → List ℕ
+counts_text mdb = count_row (codes "Files") mdb.files ++ count_row (codes "Folders") mdb.folders
+
+-- of a sound volume, since no other has more than its fault
+unfoldable pub facts_text : Mdb → List ℕ
+facts_text mdb =
+    codes "<table>\n<tr><th scope=\"row\">Check</th><td>sound</td></tr>\n" ++ dates_text mdb ++ sizes_text mdb ++ counts_text mdb ++ codes "</table>\n"
+
+-- ---- the beginning of a page, with its title in markup
+
+unfoldable pub head_text : List ℕ → List ℕ → List ℕ
+head_text style title =
+    codes "<!DOCTYPE html>\n<html lang=\"en\">\n<head>\n<meta charset=\"utf-8\">\n<meta name=\"viewport\" content=\"width=device-width\">\n<title>"
+    ++ title ++ codes "</title>\n<style>" ++ style ++ codes "</style>\n</head>\n<body>\n<main>\n<h1>" ++ title ++ codes "</h1>\n"

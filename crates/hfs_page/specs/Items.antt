@@ -1,0 +1,70 @@
+-- The items of a page, as a tree that opens and closes.
+use Rattle.std.specs.Prelude.{ℕ, zero, suc, ◌+◌, ◌-◌, ◌==◌, nat_lt, min, if◌then◌else◌, List, [], ◌∷◌, ◌++◌, length, take, drop, codes}
+use Rattle.hfs_model.specs.declared.reply.Info.{Info}
+use Rattle.hfs_model.specs.declared.reply.ItemKind.{ItemKind}
+use Rattle.hfs_model.specs.declared.reply.ItemKind.TheVariants.{Folder, File}
+use Rattle.hfs_inventory.specs.Told.{ToldRow}
+use Rattle.hfs_page.specs.Texts.{shown, told_date, told_number, told_text}
+
+-- ---- what is told of an item
+
+unfoldable pub name_tagged : Info → List ℕ
+name_tagged info = codes "<b>" ++ shown info.name ++ codes "</b>"
+
+unfoldable pub folder_text : Info → List ℕ
+folder_text info = name_tagged info ++ told_number (codes " <span>folder, items ") info.valence ++ told_date (codes ", modified ") info.modified ++ codes "</span>"
+
+-- type and creator of a file are the first 8 of the Finder bytes
+unfoldable pub type_text : Info → List ℕ
+type_text info = told_text (codes " <span>file, type ") (take 4 info.finder) ++ told_text (codes ", creator ") (take 4 (drop 4 info.finder))
+
+unfoldable pub sizes_text : Info → List ℕ
+sizes_text info = told_number (codes ", data fork ") info.data_len ++ told_number (codes " bytes, resource fork ") info.res_len ++ codes " bytes</span>"
+
+unfoldable pub file_text : Info → List ℕ
+file_text info = name_tagged info ++ type_text info ++ told_date (codes ", modified ") info.modified ++ sizes_text info
+
+-- ---- rows. The depth of an item is the number of folders in which it lies; at most 100 of them open and close
+
+-- the beginning of a folder that opens and closes; the root is open
+abbrev pub opening : ℕ → List ℕ
+opening depth = if depth == 0 then codes "<li><details open><summary>" else codes "<li><details><summary>"
+
+abbrev pub nested_text : ℕ → Info → List ℕ
+nested_text depth info = opening depth ++ folder_text info ++ codes "</summary><ul>\n"
+
+abbrev pub flat_text : Info → List ℕ
+flat_text info = codes "<li>" ++ folder_text info ++ codes "</li>\n"
+
+abbrev pub leaf_text : Info → List ℕ
+leaf_text info = codes "<li>" ++ file_text info ++ codes "</li>\n"
+
+abbrev pub item_by : ItemKind → ℕ → Info → List ℕ
+item_by Folder depth info = if nat_lt depth 100 then nested_text depth info else flat_text info
+item_by File depth info = leaf_text info
+
+-- all of a file, and of a folder what stands before its children
+unfoldable pub item_text : ℕ → Info → List ℕ
+item_text depth info = item_by info.kind depth info
+
+-- the ends of so many folders
+unfoldable pub closings : ℕ → List ℕ
+closings zero = []
+closings (suc n) = codes "</ul></details></li>\n" ++ closings n
+
+abbrev pub open_by : ItemKind → ℕ → ℕ
+open_by Folder depth = min 100 (depth + 1)
+open_by File depth = min 100 depth
+
+-- how many folders stand open behind an item
+abbrev pub open_behind : ℕ → Info → ℕ
+open_behind depth info = open_by info.kind depth
+
+-- the row of an item where so many folders stand open: the ends of those in which it doesn't lie, and the item
+unfoldable pub row_text : ℕ → ℕ → Info → List ℕ
+row_text opened depth info = closings (opened - min 100 depth) ++ item_text depth info
+
+-- the rows of a table, where so many folders stand open
+abbrev pub rows_text : ℕ → List ToldRow → List ℕ
+rows_text opened [] = closings opened
+rows_text opened (row ∷ rows) = row_text opened (length row.path - 1) row.info ++ rows_text (open_behind (length row.path - 1) row.info) rows

@@ -1,0 +1,14 @@
+pub mod Pieces
+pub mod Escapes
+pub mod Laws
+pub mod Parts
+pub mod Holdings
+pub mod Uses
+pub mod Cells
+pub mod Texts
+pub mod Items
+pub mod Facts
+pub mod Picture
+pub mod Document
+pub mod Rows
+pub mod Disk

@@ -1,0 +1,163 @@
+//! The items of a page, as a tree that opens and closes.
+ghost use Rattle.std.specs.Prelude.{◌≡◌, ◌<◌, ◌^◌, OnOk};
+ghost use Rattle.hfs_page.specs.Pieces.{Gains};
+ghost use Rattle.hfs_page.specs.Items.{closings, file_text, flat_text, folder_text, item_text, leaf_text, name_tagged, nested_text, open_behind, opening, row_text, sizes_text, type_text};
+
+use crate::pieces::push_bytes;
+use crate::texts::{push_shown, push_told_date, push_told_number, push_told_text};
+use hfs_model::{Info, ItemKind};
+use std::alloc::{AllocError, Global};
+
+/// How many folders stand open in one another; what lies deeper stands flat in the last of them.
+const MOST_OPEN: usize = 100;
+
+/// Appends an item's name.
+#[tactic(auto, unfolding(crate::specs::Items::name_tagged))]
+fn push_name(alloc: Global, page: &mut Vec<u8>, info: &Info) -> Result<(), AllocError>
+    ensures { OnOk result (Gains page.old page.new (name_tagged info.now)) }
+{
+    push_bytes(page, b"<b>")?;
+    push_shown(alloc, page, info.name.bytes())?;
+    push_bytes(page, b"</b>")
+}
+
+/// Appends what is told of a folder.
+#[tactic(auto, unfolding(crate::specs::Items::folder_text))]
+fn push_folder(alloc: Global, page: &mut Vec<u8>, info: &Info) -> Result<(), AllocError>
+    ensures { OnOk result (Gains page.old page.new (folder_text info.now)) }
+{
+    push_name(alloc, page, info)?;
+    push_told_number(alloc, page, b" <span>folder, items ", info.valence)?;
+    push_told_date(alloc, page, b", modified ", info.modified)?;
+    push_bytes(page, b"</span>")
+}
+
+/// Appends a file's type and creator.
+#[tactic(auto, unfolding(crate::specs::Items::type_text))]
+fn push_type(alloc: Global, page: &mut Vec<u8>, info: &Info) -> Result<(), AllocError>
+    ensures { OnOk result (Gains page.old page.new (type_text info.now)) }
+{
+    push_told_text(alloc, page, b" <span>file, type ", &info.finder[..4])?;
+    push_told_text(alloc, page, b", creator ", &info.finder[4..8])
+}
+
+/// Appends how many bytes the forks of a file have.
+#[tactic(auto, unfolding(crate::specs::Items::sizes_text))]
+fn push_sizes(alloc: Global, page: &mut Vec<u8>, info: &Info) -> Result<(), AllocError>
+    ensures { OnOk result (Gains page.old page.new (sizes_text info.now)) }
+{
+    push_told_number(alloc, page, b", data fork ", info.data_len)?;
+    push_told_number(alloc, page, b" bytes, resource fork ", info.res_len)?;
+    push_bytes(page, b" bytes</span>")
+}
+
+/// Appends what is told of a file.
+#[tactic(auto, unfolding(crate::specs::Items::file_text))]
+fn push_file(alloc: Global, page: &mut Vec<u8>, info: &Info) -> Result<(), AllocError>
+    ensures { OnOk result (Gains page.old page.new (file_text info.now)) }
+{
+    push_name(alloc, page, info)?;
+    push_type(alloc, page, info)?;
+    push_told_date(alloc, page, b", modified ", info.modified)?;
+    push_sizes(alloc, page, info)
+}
+
+/// Appends the ends of so many folders.
+#[tactic(auto, unfolding(crate::specs::Items::closings))]
+pub(crate) fn push_closings(page: &mut Vec<u8>, count: usize) -> Result<(), AllocError>
+    ensures { OnOk result (Gains page.old page.new (closings count)) }
+{
+    let mut left = count;
+    while left > 0 {
+        push_bytes(page, b"</ul></details></li>\n")?;
+        left -= 1;
+    }
+    Ok(())
+}
+
+/// Appends the beginning of a folder that opens and closes; the root, which lies in none, is open.
+fn push_opening(page: &mut Vec<u8>, depth: usize) -> Result<(), AllocError>
+    ensures { OnOk result (Gains page.old page.new (opening depth)) }
+{
+    if depth == 0 {
+        push_bytes(page, b"<li><details open><summary>")
+    } else {
+        push_bytes(page, b"<li><details><summary>")
+    }
+}
+
+/// Appends a folder that opens and closes, up to the place where its children stand.
+fn push_nested(
+    alloc: Global,
+    page: &mut Vec<u8>,
+    depth: usize,
+    info: &Info,
+) -> Result<(), AllocError>
+    ensures { OnOk result (Gains page.old page.new (nested_text depth info.now)) }
+{
+    push_opening(page, depth)?;
+    push_folder(alloc, page, info)?;
+    push_bytes(page, b"</summary><ul>\n")
+}
+
+/// Appends a folder that stands flat, since too many stand open above it.
+fn push_flat(alloc: Global, page: &mut Vec<u8>, info: &Info) -> Result<(), AllocError>
+    ensures { OnOk result (Gains page.old page.new (flat_text info.now)) }
+{
+    push_bytes(page, b"<li>")?;
+    push_folder(alloc, page, info)?;
+    push_bytes(page, b"</li>\n")
+}
+
+/// Appends a file.
+fn push_leaf(alloc: Global, page: &mut Vec<u8>, info: &Info) -> Result<(), AllocError>
+    ensures { OnOk result (Gains page.old page.new (leaf_text info.now)) }
+{
+    push_bytes(page, b"<li>")?;
+    push_file(alloc, page, info)?;
+    push_bytes(page, b"</li>\n")
+}
+
+/// Appends an item that lies in so many folders: all of a file, and of a folder what stands before its children.
+#[tactic(auto, unfolding(crate::specs::Items::item_text))]
+fn push_item(alloc: Global, page: &mut Vec<u8>, depth: usize, info: &Info) -> Result<(), AllocError>
+    ensures { OnOk result (Gains page.old page.new (item_text depth info.now)) }
+{
+    match info.kind {
+        ItemKind::Folder => {
+            if depth < MOST_OPEN {
+                push_nested(alloc, page, depth, info)
+            } else {
+                push_flat(alloc, page, info)
+            }
+        }
+        ItemKind::File => push_leaf(alloc, page, info),
+    }
+}
+
+/// How many folders stand open behind an item that lies in so many.
+pub(crate) fn open_behind(depth: usize, info: &Info) -> usize
+    requires { depth < 2 ^ 63 }
+    ensures { result ≡ open_behind depth info.now }
+{
+    match info.kind {
+        ItemKind::Folder => MOST_OPEN.min(depth + 1),
+        ItemKind::File => MOST_OPEN.min(depth),
+    }
+}
+
+/// Appends the row of an item that lies in so many folders, where so many stand open: the ends of those in which it doesn't lie, and then
+/// the item.
+#[tactic(auto, unfolding(crate::specs::Items::row_text))]
+pub(crate) fn push_row(
+    alloc: Global,
+    page: &mut Vec<u8>,
+    opened: usize,
+    depth: usize,
+    info: &Info,
+) -> Result<(), AllocError>
+    ensures { OnOk result (Gains page.old page.new (row_text opened depth info.now)) }
+{
+    push_closings(page, opened.saturating_sub(MOST_OPEN.min(depth)))?;
+    push_item(alloc, page, depth, info)
+}

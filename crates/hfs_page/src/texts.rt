@@ -1,0 +1,103 @@
+//! Texts and numbers of a page.
+ghost use Rattle.std.specs.Prelude.{OnOk};
+ghost use Rattle.std.specs.Fmt.{decimal};
+ghost use Rattle.hfs_names.specs.Moments.{moment};
+ghost use Rattle.hfs_page.specs.Pieces.{Gains};
+ghost use Rattle.hfs_page.specs.Texts.{shown, told_date, told_number, told_text};
+
+use crate::escaping::push_escaped;
+use crate::pieces::push_bytes;
+use hfs_names::{push_moment, push_plain_text};
+use std::alloc::{AllocError, Global};
+
+/// Appends bytes of a volume as text: plain text, escaped.
+pub(crate) fn push_shown(alloc: Global, page: &mut Vec<u8>, bytes: &[u8]) -> Result<(), AllocError>
+    ensures { OnOk result (Gains page.old page.new (shown bytes.now)) }
+{
+    let mut text = String::new(alloc);
+    push_plain_text(&mut text, bytes)?;
+    push_escaped(page, text.as_bytes())
+}
+
+/// Appends the moment of a date.
+pub(crate) fn push_date(alloc: Global, page: &mut Vec<u8>, date: u32) -> Result<(), AllocError>
+    ensures { OnOk result (Gains page.old page.new (moment date)) }
+{
+    let mut text = String::new(alloc);
+    push_moment(&mut text, date)?;
+    push_bytes(page, text.as_bytes())
+}
+
+/// Appends a number.
+pub(crate) fn push_number(alloc: Global, page: &mut Vec<u8>, number: u32) -> Result<(), AllocError>
+    ensures { OnOk result (Gains page.old page.new (decimal number)) }
+{
+    let mut text = String::new(alloc);
+    write!(text, "{number}")?;
+    push_bytes(page, text.as_bytes())
+}
+
+/// Appends a count or a place.
+pub(crate) fn push_count(alloc: Global, page: &mut Vec<u8>, count: usize) -> Result<(), AllocError>
+    ensures { OnOk result (Gains page.old page.new (decimal count)) }
+{
+    let mut text = String::new(alloc);
+    write!(text, "{count}")?;
+    push_bytes(page, text.as_bytes())
+}
+
+/// Appends a text behind what says what it is.
+#[tactic(auto, unfolding(crate::specs::Texts::told_text))]
+pub(crate) fn push_told_text(
+    alloc: Global,
+    page: &mut Vec<u8>,
+    label: &[u8],
+    bytes: &[u8],
+) -> Result<(), AllocError>
+    ensures { OnOk result (Gains page.old page.new (told_text label.now bytes.now)) }
+{
+    push_bytes(page, label)?;
+    push_shown(alloc, page, bytes)
+}
+
+/// Appends a date behind what says what it is.
+#[tactic(auto, unfolding(crate::specs::Texts::told_date))]
+pub(crate) fn push_told_date(
+    alloc: Global,
+    page: &mut Vec<u8>,
+    label: &[u8],
+    date: u32,
+) -> Result<(), AllocError>
+    ensures { OnOk result (Gains page.old page.new (told_date label.now date)) }
+{
+    push_bytes(page, label)?;
+    push_date(alloc, page, date)
+}
+
+/// Appends a number behind what says what it is.
+#[tactic(auto, unfolding(crate::specs::Texts::told_number))]
+pub(crate) fn push_told_number(
+    alloc: Global,
+    page: &mut Vec<u8>,
+    label: &[u8],
+    number: u32,
+) -> Result<(), AllocError>
+    ensures { OnOk result (Gains page.old page.new (told_number label.now number)) }
+{
+    push_bytes(page, label)?;
+    push_number(alloc, page, number)
+}
+
+/// Appends a count or a place behind what says what it is.
+#[tactic(auto, unfolding(crate::specs::Texts::told_number))]
+pub(crate) fn push_told_count(
+    alloc: Global,
+    page: &mut Vec<u8>,
+    label: &[u8],
+    count: usize,
+) -> Result<(), AllocError>
+    ensures { OnOk result (Gains page.old page.new (told_number label.now count)) }
+{
+    push_bytes(page, label)?;
+    push_count(alloc, page, count)
+}
