@@ -1,7 +1,8 @@
 #!/usr/bin/env python3
 """Runs the lists of calls of tests/volumes/lists, whose answers and bytes were written by hand. Each is made twice on its volume:
 with as few runs of the programs as it allows, and with the image saved and mounted again between calls; by hfs_tool as each
-compiler builds it, and by hfs_plain. What it prints last is how many there were, or the first that differs.
+compiler builds it, and by hfs_plain. The calls that read behind the last change are asked by a viewer too. What it prints last is
+how many there were, or the first that differs.
 
 tests/call_lists.py [--kept FOLDER] [FILE..]      runs all files, or these; what differs is kept in FOLDER
 
@@ -16,6 +17,8 @@ A line begins with a word, and an empty line says nothing:
     call WORD FIELDS             a call, as a script has it
     gives TEXT                   a line of its answer: the code and the value, or what stands in the lines behind these
     changed COUNT                so many blocks differ from the image before the calls
+    blocks NUMBER..              the blocks of these numbers differ from the image before the calls, and no others
+    check TEXT                   what `check` prints, with a bar and spaces between its lines
     bytes PLACE DIGITS           the image's bytes from that place on
     kept PLACE OLD COUNT         so many bytes are what stood at OLD before the calls
     expect BLOCK PLACE DIGITS    as lay, for the image that is wanted
@@ -29,7 +32,7 @@ from dataclasses import dataclass, field
 from pathlib import Path
 from typing import Optional
 
-from driver.calls import Call
+from driver.calls import Call, read_answers, script_of
 from driver.disk import Bench, Disk, finished, opened_bench
 from driver.image import BLOCK, MDB, changed_blocks
 from driver.keeping import ensure
@@ -37,6 +40,8 @@ from driver.programs import ROOT, Difference, found_programs
 
 VOLUMES = ROOT / 'tests' / 'volumes'
 FILE_COUNT = MDB + 84
+# The calls that a viewer answers.
+VIEWED = ('dirinfo', 'info', 'indexed', 'list', 'read')
 # The image is saved and mounted again before each of the first calls, and then before each fiftieth.
 SINGLE = 50
 
@@ -104,6 +109,7 @@ class CallList:
         ensure(again == [it.told for it in answers], 'saved and mounted again the volume answers otherwise')
         ensure(self.once.image.content == self.again.image.content, 'saved and mounted again the volume has other bytes')
         self.content = self.once.image.content
+        self.ask_viewer()
         self.waiting = []
 
     def make_again(self, calls: list[Call]) -> list[str]:
@@ -112,6 +118,17 @@ class CallList:
         self.made += len(calls)
         answers = self.again.make_in_parts(calls[:single], 1, self.now) + self.again.make_in_parts(calls[single:], SINGLE, self.now)
         return [it.told for it in answers]
+
+    def ask_viewer(self) -> None:
+        """A viewer of the saved image answers the calls that read behind the last change as they were answered."""
+        behind = max((at for at, it in enumerate(self.waiting, 1) if not it.call.is_reading), default=0)
+        asked = [it for it in self.waiting[behind:] if it.call.word in VIEWED]
+        if not asked:
+            return
+        image, script = self.bench.lay('viewed', self.content), self.bench.lay('viewing', script_of((it.call for it in asked), 'v1'))
+        for program in self.bench.programs.tools:
+            answers = read_answers(self.bench.text(program, 'run', image, script))
+            ensure([it.told for it in answers] == ['\n'.join(it.lines) for it in asked], 'a viewer is answered otherwise')
 
     def take(self, word: str, rest: str) -> None:
         """Does what a line says."""
@@ -144,6 +161,15 @@ class CallList:
         if word == 'changed':
             count = len(changed_blocks(self.before, content))
             ensure(count == int(words[0]), f'{count} blocks are changed')
+        elif word == 'blocks':
+            numbers = sorted(changed_blocks(self.before, content))
+            ensure(numbers == list(map(int, words)), f'the blocks {numbers} are changed')
+        elif word == 'check':
+            image = self.bench.lay('checked', content)
+            lines = ' '.join(words).split(' | ')
+            for program in self.bench.programs.tools:
+                text = self.bench.text(program, 'check', image)
+                ensure(text == ''.join(line + '\n' for line in lines), f'check prints {text!r}')
         elif word == 'bytes':
             wanted = bytes.fromhex(words[1])
             found = content[int(words[0]):][:len(wanted)]

@@ -205,7 +205,7 @@ fn call_and_close<K: Session, R: Wait>(
     way: Way,
     calls: &[u8],
 ) -> Result<bool>
-    requires parts { (parts.book ≡ K.book) × (parts.opening ≡ K.opening) }
+    requires parts { (parts.book ≡ K.book) × (parts.base ≡ K.base) }
     requires viewer { viewer.old.book ≡ K.book }
 {
     let shared = parts.share::<K>();

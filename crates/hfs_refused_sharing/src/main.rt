@@ -2,7 +2,7 @@
 //! them, what viewers are asked, workers in threads, and runs of scripts. Each line reads `as said` whichever allocation is refused.
 //!
 //! Each line of the input is tried by itself. It has a title, a semicolon and a word; and behind further semicolons calls as a script has
-//! them, each behind its code and a space. Where a publish lagged, since memory was refused, the title is told on standard error.
+//! them, each behind its code and a space. Where a publish lagged, since memory was refused, the title and the call's number are told on standard error.
 //!
 //! `tests/refused_memory.sh` gives it line after line, and refuses each allocation in turn.
 #![tactic(auto)]
@@ -38,7 +38,7 @@ fn main(rt: HostRuntime) -> Result<()> {
 /// What is printed of an outcome.
 fn words_of(outcome: Outcome) -> &'static str {
     match outcome {
-        Outcome::AsSaid | Outcome::Lagged => "as said",
+        Outcome::AsSaid | Outcome::Lagged(_) => "as said",
         Outcome::Otherwise => "not as said",
     }
 }
@@ -55,8 +55,8 @@ fn try_line<T: Threads + Wait + Sync>(
         bail!("no title");
     };
     let outcome = outcome_of(threads, alloc, what)?;
-    if outcome == Outcome::Lagged {
-        eprintln!(rt; "{title}: lagged")?;
+    if let Outcome::Lagged(number) = outcome {
+        eprintln!(rt; "{title}: lagged at {number}")?;
     }
     println!(rt; "{title}: {}", words_of(outcome))?;
     Ok(())

@@ -55,8 +55,8 @@ fn image_after(alloc: Global) -> Result<Vec<u8>> {
     saved(alloc, &volume)
 }
 
-/// Whether a run is whole, and left these bytes.
-fn is_whole(ran: &Ran, after: &[u8]) -> bool {
+/// Whether each call of a run was answered, and it left these bytes.
+fn is_answered(ran: &Ran, after: &[u8]) -> bool {
     let text = ran.text.as_str();
     ran.whole
         && !has_unanswered(text)
@@ -81,16 +81,17 @@ fn is_want(fault: ScriptFault) -> bool {
 /// How a run comes out.
 #[derive(Clone, Copy, Debug, PartialEq, Eq)]
 enum Run {
+    /// Each call was answered, and each change shown at once.
     Whole,
-    /// Memory was refused to it, or to some caller.
+    /// Memory was refused to it, to some caller, or to what shows a change.
     Part,
     Otherwise,
 }
 
 /// How a run came out that ended, if these are to be its bytes.
 fn run_of(ran: &Ran, after: &[u8]) -> Run {
-    if is_whole(ran, after) {
-        return Run::Whole;
+    if is_answered(ran, after) {
+        return if ran.shown { Run::Whole } else { Run::Part };
     }
     if is_part(ran) {
         return Run::Part;

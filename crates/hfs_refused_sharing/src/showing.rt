@@ -5,44 +5,58 @@ use crate::checks::{create, letters_in};
 use crate::parts::begun_on;
 use crate::trials::Outcome;
 use anyhow::{Result, bail, ensure};
-use hfs_model::{Call, Reply};
+use hfs_model::{Call, Reply, Value};
 use hfs_shared::{CallFault, Parts, Pass, Session, Shared, Told, Viewer};
 use std::alloc::Global;
 use std::marker::Brand;
 use std::sync::Wait;
 
-/// What is told of one call.
-fn told_once<K: Session>(
+/// The reply to one call, and what is told of it.
+fn answered_once<K: Session>(
     rt: &impl Wait,
     alloc: Global,
     shared: &Shared<K>,
     pass: &mut Pass,
     call: Call,
-) -> Result<Told, CallFault>
-    ensures { IfOk result (λ t. t.book ≡ K.book) }
+) -> Result<(Reply, Told), CallFault>
+    ensures { IfOk result (λ answer. answer.1.book ≡ K.book) }
 {
     match shared.call(rt, alloc, pass, call) {
-        Ok((_reply, told)) => Ok(told),
+        Ok(answer) => Ok(answer),
         Err(fault) => Err(fault),
     }
 }
 
-/// What is told of a new file in the root. Where memory is refused to the call it is made once more.
-fn told_of<K: Session>(
+/// The reply to the call that makes a file in the root, and what is told of it. Where memory is refused to the call it is made once
+/// more.
+fn answered<K: Session>(
     rt: &impl Wait,
     alloc: Global,
     shared: &Shared<K>,
     pass: &mut Pass,
     name: &[u8],
-) -> Result<Told>
-    ensures { IfOk result (λ t. t.book ≡ K.book) }
+) -> Result<(Reply, Told)>
+    ensures { IfOk result (λ answer. answer.1.book ≡ K.book) }
 {
-    if let Ok(told) = told_once(rt, alloc, shared, pass, create(alloc, name)?) {
-        return Ok(told);
+    if let Ok(answer) = answered_once(rt, alloc, shared, pass, create(alloc, name)?) {
+        return Ok(answer);
     }
-    match told_once(rt, alloc, shared, pass, create(alloc, name)?) {
-        Ok(told) => Ok(told),
+    match answered_once(rt, alloc, shared, pass, create(alloc, name)?) {
+        Ok(answer) => Ok(answer),
         Err(_fault) => bail!("a call was not made"),
+    }
+}
+
+/// Whether a reply gives the ID of the file that is made so many calls behind a new volume's beginning.
+fn is_made(reply: &Reply, number: u64) -> bool {
+    match &reply.value {
+        Value::Id(id) => reply.code == 0 && u64::from(*id) == number.saturating_add(15),
+        Value::Nothing
+        | Value::One(_)
+        | Value::Many(_)
+        | Value::Bytes(_)
+        | Value::Full { .. }
+        | Value::Place { .. } => false,
     }
 }
 
@@ -77,8 +91,10 @@ fn listed(alloc: Global, viewer: &mut Viewer) -> Result<u64>
     }
 }
 
-/// An error where another call was made than the one of that number, or the viewer lists others than are told.
-fn ensure_told(is_number: bool, is_listed: bool) -> Result<()> {
+/// An error where a call gives another ID, another call was made than the one of that number, or the viewer lists others than are
+/// told.
+fn ensure_told(is_made: bool, is_number: bool, is_listed: bool) -> Result<()> {
+    ensure!(is_made, "a call is answered otherwise");
     ensure!(is_number, "another call was made");
     ensure!(is_listed, "a viewer lists others than are told");
     Ok(())
@@ -97,22 +113,23 @@ fn shown<K: Session>(
     requires { viewer.old.book ≡ K.book }
     ensures { OnOk result (viewer.new.book ≡ K.book) }
 {
-    let told = told_of(rt, alloc, shared, pass, name)?;
+    let (reply, told) = answered(rt, alloc, shared, pass, name)?;
     viewer.learn(&told);
     let count = listed(alloc, viewer)?;
-    ensure_told(told.made() == number, told.shown() == count)?;
+    let is_made = is_made(&reply, number);
+    ensure_told(is_made, told.made() == number, told.shown() == count)?;
     Ok(count)
 }
 
 /// Whether three calls were shown as they were made, or one of them with the next.
 fn outcome_of_counts(counts: [u64; 3]) -> Outcome {
-    if counts == [1, 2, 3] {
-        return Outcome::AsSaid;
+    match counts {
+        [1, 2, 3] => Outcome::AsSaid,
+        [0, 2, 3] => Outcome::Lagged(1),
+        [1, 1, 3] => Outcome::Lagged(2),
+        [1, 2, 2] => Outcome::Lagged(3),
+        _ => Outcome::Otherwise,
     }
-    if counts == [0, 2, 3] || counts == [1, 1, 3] || counts == [1, 2, 2] {
-        return Outcome::Lagged;
-    }
-    Outcome::Otherwise
 }
 
 /// How many calls are shown behind each of three files that are made.
@@ -148,7 +165,7 @@ fn show_three<K: Session, R: Wait>(
     mut passes: Vec<Pass>,
     viewer: &mut Viewer,
 ) -> Result<Outcome>
-    requires parts { (parts.book ≡ K.book) × (parts.opening ≡ K.opening) }
+    requires parts { (parts.book ≡ K.book) × (parts.base ≡ K.base) }
     requires viewer { viewer.old.book ≡ K.book }
 {
     let shared = parts.share::<K>();

@@ -15,8 +15,8 @@ use std::thread::Threads;
 #[derive(Clone, Copy, Debug, PartialEq, Eq)]
 pub enum Outcome {
     AsSaid,
-    /// It was, and a publish lagged.
-    Lagged,
+    /// It was, and the publish behind the call of this number lagged.
+    Lagged(u32),
     Otherwise,
 }
 

@@ -146,7 +146,7 @@ fn run_all<K: Session + Send + Sync, R: Threads + Wait + Sync>(
     passes: Vec<Pass>,
     viewer: &mut Viewer,
 ) -> Result<bool>
-    requires parts { (parts.book ≡ K.book) × (parts.opening ≡ K.opening) }
+    requires parts { (parts.book ≡ K.book) × (parts.base ≡ K.base) }
     requires viewer { viewer.old.book ≡ K.book }
 {
     let shared = parts.share::<K>();

@@ -14,7 +14,7 @@ use Rattle.hfs_shared.specs.Works.{IsDone}
 -- of one worker
 told_of_done : (book : Book) (opening : Volume) (p : PassState) (calls : List Call) (d : Done)
     → IsDone book opening p calls d → All (λ (r : Reply × ToldState). r.1.book ≡ book) d.replies.items
-told_of_done book opening p calls d done k r below = ap (λ (t : ToldState). t.book) (done.work.each k (GetDirInfo 0) r below).1.told_is
+told_of_done book opening p calls d done k r below = ap (λ (t : ToldState). t.book) (done.work.each k (GetDirInfo 0) r below).1.told_is.tells
 
 -- of each worker
 pub told_of : {V : Type 0} (items : V → List Call) (book : Book) (opening : Volume) (jobs : List (PassState × V)) (dones : List Done)

@@ -247,7 +247,7 @@ fn see<K: Session + Send + Sync, R: Threads + Wait + Sync>(
     passes: Vec<Pass>,
     mut viewers: Vec<Viewer>,
 ) -> Result<Seen, Fail>
-    requires parts { (parts.book ≡ K.book) × (parts.opening ≡ K.opening) }
+    requires parts { (parts.book ≡ K.book) × (parts.base ≡ K.base) }
     requires viewers { All (λ k. k.book ≡ K.book) viewers.items }
 {
     let shared = parts.share::<K>();

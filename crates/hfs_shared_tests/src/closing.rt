@@ -97,7 +97,7 @@ fn closed_after_twenty<K: Session, R: Wait>(
     mut passes: Vec<Pass>,
     viewers: Vec<Viewer>,
 ) -> Result<Closed, Fail>
-    requires parts { (parts.book ≡ K.book) × (parts.opening ≡ K.opening) }
+    requires parts { (parts.book ≡ K.book) × (parts.base ≡ K.base) }
     requires viewers { All (λ k. k.book ≡ K.book) viewers.items }
 {
     let shared = parts.share::<K>();
@@ -126,6 +126,21 @@ fn a_journal_has_all_calls(rt: HostRuntime) -> Result<(), Fail> {
     Ok(())
 }
 
+/// Closes by the passes of all workers, as the one who alone has what lies under the lock.
+fn closed_alone<K: Session>(
+    rt: &impl Wait,
+    shared: Shared<K>,
+    passes: Vec<Pass>,
+    viewer: &mut Viewer,
+) -> Result<Closed, Fail>
+    requires { viewer.old.book ≡ K.book }
+{
+    match shared.into_locked().close(rt, passes, viewer) {
+        Ok(closed) => Ok(closed),
+        Err(_parts) => Err(Fail::from("not closed")),
+    }
+}
+
 /// The volume, which is closed without a call, if its viewer lists the ten files before.
 fn closed_untouched<K: Session, R: Wait>(
     rt: &R,
@@ -134,7 +149,7 @@ fn closed_untouched<K: Session, R: Wait>(
     passes: Vec<Pass>,
     viewers: Vec<Viewer>,
 ) -> Result<Volume, Fail>
-    requires parts { (parts.book ≡ K.book) × (parts.opening ≡ K.opening) }
+    requires parts { (parts.book ≡ K.book) × (parts.base ≡ K.base) }
     requires viewers { All (λ k. k.book ≡ K.book) viewers.items }
 {
     let shared = parts.share::<K>();
@@ -142,7 +157,7 @@ fn closed_untouched<K: Session, R: Wait>(
     if !lists(alloc, &mut viewer, b"a b c d e f g h i j ")? {
         return Err(Fail::from("another list"));
     }
-    let closed = closed(rt, shared, passes, &mut viewer)?;
+    let closed = closed_alone(rt, shared, passes, &mut viewer)?;
     Ok(closed.volume)
 }
 

@@ -45,9 +45,11 @@ fn reads(
 }
 
 /// What is read from an offset on, of so many bytes, with which code.
-const PARTS: [(u32, u32, i16, &[u8]); 3] = [
+const PARTS: [(u32, u32, i16, &[u8]); 5] = [
     (1_530, 10, 0, b"\x18\x19\x1a\x1b\x1c\x1d\x1e\x1f\x20\x21"),
     (1_995, 10, -39, b"\xee\xef\xf0\xf1\xf2"),
+    (2_000, 0, 0, b""),
+    (2_001, 0, -39, b""),
     (0, 65_537, -50, b""),
 ];
 

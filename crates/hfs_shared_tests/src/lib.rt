@@ -9,6 +9,8 @@ mod closing;
 #[cfg(test)]
 mod forks;
 #[cfg(test)]
+mod many;
+#[cfg(test)]
 mod meeting;
 #[cfg(test)]
 mod passes;

@@ -122,7 +122,7 @@ fn run_twos<K: Session + Send + Sync, R: Threads + Wait + Sync, G: Gate + Sync>(
     passes: Vec<Pass>,
     gate: &G,
 ) -> Result<(usize, usize), Fail>
-    requires { (parts.book ≡ K.book) × (parts.opening ≡ K.opening) }
+    requires { (parts.book ≡ K.book) × (parts.base ≡ K.base) }
 {
     let shared = parts.share::<K>();
     let jobs = jobs_of(alloc, passes)?;

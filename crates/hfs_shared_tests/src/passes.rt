@@ -31,7 +31,7 @@ fn used_twice<K: Session, R: Wait>(
     parts: Parts,
     mut passes: Vec<Pass>,
 ) -> Result<Pass, Fail>
-    requires { (parts.book ≡ K.book) × (parts.opening ≡ K.opening) }
+    requires { (parts.book ≡ K.book) × (parts.base ≡ K.base) }
 {
     let shared = parts.share::<K>();
     let _second = passes.pop();
@@ -69,7 +69,7 @@ fn refused<K: Session, R: Wait>(
     viewers: Vec<Viewer>,
     mut pass: Pass,
 ) -> Result<Refusal, Fail>
-    requires parts { (parts.book ≡ K.book) × (parts.opening ≡ K.opening) }
+    requires parts { (parts.book ≡ K.book) × (parts.base ≡ K.base) }
     requires viewers { All (λ k. k.book ≡ K.book) viewers.items }
 {
     let shared = parts.share::<K>();

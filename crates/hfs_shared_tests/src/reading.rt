@@ -234,7 +234,7 @@ fn follow<K: Session, R: Wait>(
     volume: &mut Volume,
     script: Script,
 ) -> Result<u32, Fail>
-    requires parts { (parts.book ≡ K.book) × (parts.opening ≡ K.opening) }
+    requires parts { (parts.book ≡ K.book) × (parts.base ≡ K.base) }
     requires viewers { All (λ k. k.book ≡ K.book) viewers.items }
 {
     let shared = parts.share::<K>();
@@ -292,9 +292,17 @@ const NAMES: &[u8] = b"1\tcreate\t2\t{\n1\tcreate\t2\t_x\n1\tcreate\t2\tB\n1\tcr
 const FULL: &[u8] = b"1\tcreate\t2\ta\n1\tcreate\t2\tb\n1\tcreate\t2\tc\n1\tcreate\t2\td\n\
 1\trename\t2\ta\tA\n1\trename\t2\tA\tz\n1\tcreate\t2\te\n1\tnewid\t2\tb\n";
 
+/// A folder for which nodes are wanting, and a file for which they suffice.
+const WANTING: &[u8] = b"1\tmkdir\t2\td\n1\tcreate\t2\tf\n";
+
 #[test]
 fn a_viewer_answers_as_the_volume(rt: HostRuntime) -> Result<(), Fail> {
-    for (nodes, lines, changes) in [(40, FOLDERS, 20), (40, NAMES, 11), (4, FULL, 8)] {
+    for (nodes, lines, changes) in [
+        (40, FOLDERS, 20),
+        (40, NAMES, 11),
+        (4, FULL, 8),
+        (6, WANTING, 2),
+    ] {
         let followed = follow_new(&rt, rt.alloc(), nodes, lines)?;
         assert!(rt; followed == changes, "a script of {changes} changes");
     }

@@ -78,7 +78,7 @@ fn closed_after_jobs<K: Session + Send + Sync, R: Threads + Wait + Sync>(
     passes: Vec<Pass>,
     viewers: Vec<Viewer>,
 ) -> Result<Closed, Fail>
-    requires parts { (parts.book ≡ K.book) × (parts.opening ≡ K.opening) }
+    requires parts { (parts.book ≡ K.book) × (parts.base ≡ K.base) }
     requires viewers { All (λ k. k.book ≡ K.book) viewers.items }
 {
     let shared = parts.share::<K>();

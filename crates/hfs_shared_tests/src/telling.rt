@@ -62,7 +62,7 @@ fn learned<K: Session, R: Wait>(
     mut passes: Vec<Pass>,
     viewers: &mut Vec<Viewer>,
 ) -> Result<(usize, u64), Fail>
-    requires parts { (parts.book ≡ K.book) × (parts.opening ≡ K.opening) }
+    requires parts { (parts.book ≡ K.book) × (parts.base ≡ K.base) }
     requires viewers { All (λ k. k.book ≡ K.book) viewers.old.items }
 {
     let shared = parts.share::<K>();
@@ -142,7 +142,7 @@ fn shown_by_publish<K: Session, R: Wait>(
     passes: Vec<Pass>,
     viewers: Vec<Viewer>,
 ) -> Result<[u64; 4], Fail>
-    requires parts { (parts.book ≡ K.book) × (parts.opening ≡ K.opening) }
+    requires parts { (parts.book ≡ K.book) × (parts.base ≡ K.base) }
     requires viewers { All (λ k. k.book ≡ K.book) viewers.items }
 {
     let shared = parts.share::<K>();

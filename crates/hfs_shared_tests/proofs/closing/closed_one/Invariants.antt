@@ -2,4 +2,4 @@ use Rattle.hfs_shared_tests.proofs.closing.closed_one.Given as goal
 
 -- the parts that were just made
 abbrev pub ghosts-closed_after_twenty : goal.ghosts-closed_after_twenty
-ghosts-closed_after_twenty g a = record { book = a.parts.book; opening = a.parts.opening }
+ghosts-closed_after_twenty g a = record { book = a.parts.book; base = a.parts.base }

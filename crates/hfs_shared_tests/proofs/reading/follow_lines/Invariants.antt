@@ -2,4 +2,4 @@ use Rattle.hfs_shared_tests.proofs.reading.follow_lines.Given as goal
 
 -- the parts that were just made
 abbrev pub ghosts-follow : goal.ghosts-follow
-ghosts-follow g a = record { book = a.parts.book; opening = a.parts.opening }
+ghosts-follow g a = record { book = a.parts.book; base = a.parts.base }

@@ -3,4 +3,4 @@ use Rattle.hfs_published.specs.Tolds.{ToldState}
 use Rattle.hfs_shared_tests.proofs.sharing.make.Goals as goal
 
 pub returns-in-Ok : goal.returns-in-Ok
-returns-in-Ok g c = ap (λ (t : ToldState). t.book) c.in-Ok.ensures.ok.1.told_is
+returns-in-Ok g c = ap (λ (t : ToldState). t.book) c.in-Ok.ensures.ok.1.told_is.tells
