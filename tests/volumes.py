@@ -1,10 +1,11 @@
 #!/usr/bin/env python3
-"""Wants of `volumes` that it finds the volumes in files of each kind, and of `--volume N` that each word answers what it answers on the bytes that are cut
-out of the file: rows by hand, real volumes wrapped in each way, headers and maps with bytes changed by chance, a file of 5 GB, and, where they are installed,
-files by parted, genisoimage and hfsutils. Each file is read by its path and out of a pipe. What lies in a file is found here once more, by none of the
-project's code.
+"""Wants of `volumes` that it finds the volumes in files of each kind, and of `--volume N` that each
+word answers what it answers on the bytes that are cut out of the file: rows by hand, real volumes
+wrapped in each way, headers and maps with bytes changed by chance, a file of 5 GB, and, where they
+are installed, files by parted, genisoimage and hfsutils. Each file is read by its path and out of a
+pipe. What lies in a file is found here once more, by none of the project's code.
 
-python3 volumes.py TOOL VOLUMES [SEED]        VOLUMES has real volumes, as *.img
+tests/volumes.py [SEED]      runs $HFS_TOOL, or the program as it is built in crates/hfs_tool/out
 """
 import hashlib
 import os
@@ -16,7 +17,9 @@ import sys
 import tempfile
 
 P6 = '8a87ab0d0aabcd89bc3175134dae1fbd9e84c136bc25c294375b54fecd06434f'
-TOOL = ''
+HERE = os.path.dirname(os.path.abspath(__file__))
+TOOL = os.environ.get('HFS_TOOL') or os.path.join(os.path.dirname(HERE), 'crates', 'hfs_tool', 'out', 'hfs_tool')
+VOLUMES = os.path.join(HERE, 'volumes')
 
 
 # ---- what lies in a file
@@ -400,9 +403,7 @@ def by_hfsutils(folder, p6):
 
 
 def main():
-    global TOOL
-    TOOL, volumes = os.path.abspath(sys.argv[1]), sys.argv[2]
-    seed = int(sys.argv[3]) if len(sys.argv) > 3 else 1
+    seed = int(sys.argv[1]) if len(sys.argv) > 1 else 1
     skipped = []
     with tempfile.TemporaryDirectory() as path:
         folder = Folder(path)
@@ -416,9 +417,9 @@ def main():
         faults(folder, p6)
         by_chance(folder, p6, seed, 300)
         large(folder, p6)
-        real = sorted(name for name in os.listdir(volumes) if name.endswith('.img'))
+        real = sorted(name for name in os.listdir(VOLUMES) if name.endswith('.img'))
         for name in real:
-            volume = open(os.path.join(volumes, name), 'rb').read()
+            volume = open(os.path.join(VOLUMES, name), 'rb').read()
             for what, wrap in WRAPPINGS:
                 data = wrap(volume)
                 folder.lists(f'{name} {what}', data)
