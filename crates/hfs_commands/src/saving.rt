@@ -1,6 +1,8 @@
 //! Files that are written in place of what they had.
-ghost use Rattle.std.specs.Prelude.{◌≡◌, None, IfErr, IfOk, string_bytes};
+ghost use Rattle.std.specs.Prelude.{◌≡◌, None, IfErr, IfOk, OnErr, OnOk, string_bytes};
+ghost use Rattle.std.specs.Io.KnownBytes.{Appends};
 ghost use Rattle.std.specs.Option.{option_map};
+ghost use Rattle.hfs_texts.specs.Writing.{AppendsFront};
 ghost use Rattle.hfs_commands.specs.Saving.{IsOpenTarget, TellsSomeFirst};
 ghost use Rattle.hfs_commands.specs.Paths.{TellsFirst};
 
@@ -94,13 +96,19 @@ fn keep_access<R: Files>(rt: &R, made: &NewFile<R::File>, old: &Metadata) -> io:
     made.file.set_permissions(old.permissions())
 }
 
-/// Writes a new file that is to be put in an old one's place, and all of it to the device.
+/// Writes a new file that is to be put in an old one's place, and all of it to the device. Then the
+/// file has got all the bytes; at an error a part of them, from the first on.
 fn fill<R: Files, C: Contents>(
     rt: &R,
     made: &mut NewFile<R::File>,
     contents: &C,
     old: Option<Metadata>,
-) -> io::Result<()> {
+) -> io::Result<()>
+    ensures ok { OnOk result (Appends (R.File.contents made.old.file)
+        (R.File.contents made.new.file) (C.bytes contents.now)) }
+    ensures err { OnErr result (AppendsFront (R.File.contents made.old.file)
+        (R.File.contents made.new.file) (C.bytes contents.now)) }
+{
     contents.write_to(&mut made.file)?;
     if let Some(old) = old {
         keep_access(rt, made, &old)?;
