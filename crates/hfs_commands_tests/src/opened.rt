@@ -88,11 +88,11 @@ fn written(
     (bytes, end)
 }
 
-/// The needed blocks are seven, each read alone, and the fork's four lie side by side.
+/// The needed blocks are seven, each read alone, and so are the fork's four, which lie apart.
 #[test]
 fn an_opened_image_writes_a_fork(rt: HostRuntime) {
     let image = image_of(&rt, SmallVolume::OneFile);
-    let (bytes, end) = written(&rt, &image, 8);
+    let (bytes, end) = written(&rt, &image, 11);
     assert!(rt; are_of_fork(&bytes) && matches!(&end, Ok(Ok(()))));
     let (none, failed) = written(&rt, &image, 7);
     assert!(rt; none.is_empty() && matches!(&failed, Err(CopyFault::ReadFailed)));
