@@ -37,7 +37,7 @@ records-none nodes n bytes e read view = ap records_of (decodes nodes n bytes (E
 pub records-some : (nodes : Store) (n : ℕ) (bytes : List ℕ) (v : Node) → bytes ≡ get_or nodes n [] → Ok v ≡ node_of bytes → records_in nodes n ≡ v.records
 records-some nodes n bytes v read view = ap records_of (decodes nodes n bytes (Ok v) read view)
 
-all-true : {X : Type 0} (p : X → Bool) (xs : List X) → Each (λ x. p x ≡ true) xs → list_all p xs ≡ true
+pub all-true : {X : Type 0} (p : X → Bool) (xs : List X) → Each (λ x. p x ≡ true) xs → list_all p xs ≡ true
 all-true p [] h = refl
 all-true p (x ∷ xs) h = and_from (p x) (list_all p xs) h.0 (all-true p xs h.1)
 

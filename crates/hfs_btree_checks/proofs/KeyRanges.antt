@@ -10,7 +10,7 @@ use Rattle.hfs_btree_checks.specs.declared.key_range.KeyRange.{KeyRange}
 use Rattle.hfs_btree.specs.Pairs.{Order, Pairs}
 use Rattle.hfs_scans.proofs.ElementLemmas.{each-append, each-left, each-right}
 use Rattle.hfs_btree.proofs.LookupLemmas.{flipped, above-below, lt-le, le-lt}
-use Rattle.hfs_btree_checks.proofs.OrderLawLemmas.{less-by}
+use Rattle.hfs_fields.proofs.OrderLemmas.{less-by}
 use Rattle.hfs_btree_checks.specs.Subtree.{is_at_most, is_above, HasRange}
 
 and-after : (a b : Bool) → (a ≡ true → b ≡ true) → a ≡ (b && a)
@@ -103,7 +103,7 @@ joined-some cmp total a b least greatest le gr ps qs h k =
 
 -- ---- the key of one record
 
-is-less : (o : Ordering) → is_lt o ≡ true → o ≡ Less
+pub is-less : (o : Ordering) → is_lt o ≡ true → o ≡ Less
 is-less Less h = refl
 is-less Equal h = cc
 is-less Greater h = cc

@@ -1,11 +1,11 @@
 -- A tree is in order, and sound, exactly where it has no fault.
-use Rattle.std.proofs.Common.{◌≡◌, ℕ, zero, suc, Bool, true, false, List, [], ◌∷◌, map, Option, Some, None, refl, ap, inl, inr}
+use Rattle.std.proofs.Common.{◌≡◌, ℕ, zero, suc, Bool, false, List, [], ◌∷◌, map, Option, Some, None, refl, ap, inl, inr}
 use Rattle.std.specs.Prelude.{◌&&◌, ◌↔◌, not}
 use Rattle.std.specs.Bool.{Decides}
 use Rattle.std.specs.List.{list_all}
 use Rattle.std.specs.Option.{option_map}
 use Rattle.std.specs.declared.cmp.Ordering.{Ordering}
-use Rattle.std.specs.declared.cmp.Ordering.TheVariants.{Less, Equal, Greater}
+use Rattle.std.specs.declared.cmp.Ordering.TheVariants.{Less}
 use Rattle.std.specs.Ordering.{is_gt, is_lt}
 use Rattle.std.proofs.lemmas.Bool.{and_parts, and_from, cases_Bool, not-true, not_from_false}
 use Rattle.hfs_btree.specs.declared.key.Key.{Ghosts}
@@ -18,11 +18,7 @@ use Rattle.hfs_btree_checks.proofs.ShapeLawLemmas.{shape-law, first-none, both-n
 use Rattle.hfs_scans.proofs.ScanLemmas.{Later, passes_from_none, none_from_passes, later_from_passes, passes_from_later, all_decides}
 use Rattle.hfs_btree.specs.Sound.{HasStructure, HasCounts, IsWithinFile, IsShaped, part_of, ArePartsInOrder, AreKeysInOrder, IsOrdered, IsSound}
 use Rattle.hfs_btree_checks.specs.Order.{first_node, is_above_all, rise_fault, leaf_order_fault, are_parts_in_order, are_keys_in_order, is_keyed, index_order_fault, order_fault, tree_fault}
-
-pub less-by : (o : Ordering) → Decides (is_lt o) (o ≡ Less)
-less-by Less = (λ _. refl, λ _. refl)
-less-by Equal = (λ (h : is_lt Equal ≡ true). cc, λ (h : Equal ≡ Less). cc)
-less-by Greater = (λ (h : is_lt Greater ≡ true). cc, λ (h : Greater ≡ Less). cc)
+use Rattle.hfs_fields.proofs.OrderLemmas.{less-by}
 
 at-most-by : (o : Ordering) → Decides (not (is_gt o)) (is_gt o ≡ false)
 at-most-by o = (λ h. not-true (is_gt o) h, λ h. not_from_false (is_gt o) h)

@@ -3,8 +3,7 @@ use Rattle.std.proofs.Common.{◌≡◌, ℕ, suc, ◌+◌, ◌<◌, Bool, true,
 use Rattle.std.specs.List.{list_all}
 use Rattle.std.specs.Option.{option_map}
 use Rattle.std.specs.Ordering.{is_lt}
-use Rattle.std.specs.declared.cmp.Ordering.{Ordering}
-use Rattle.std.specs.declared.cmp.Ordering.TheVariants.{Less, Equal, Greater}
+use Rattle.std.specs.declared.cmp.Ordering.TheVariants.{Less}
 use Rattle.std.specs.Cmp.{IsTotalOrder}
 use Rattle.std.proofs.lemmas.Bool.{cases_Bool, cond-true, cond-false, and_from}
 use Rattle.std.proofs.lemmas.List.Folds.{list_all-append}
@@ -13,11 +12,7 @@ use Rattle.hfs_scans.proofs.ElementLemmas.{each-append, each-mono}
 use Rattle.hfs_scans.specs.First.{first_failing}
 use Rattle.hfs_btree_checks.specs.Order.{is_above_all, rise_fault}
 use Rattle.hfs_btree_checks.specs.Rises.{is_past, fall_from, last_key}
-
-lt-less : (o : Ordering) → is_lt o ≡ true → o ≡ Less
-lt-less Less h = refl
-lt-less Equal h = cc
-lt-less Greater h = cc
+use Rattle.hfs_btree_checks.proofs.KeyRanges.{is-less}
 
 and-false : (b : Bool) → (b && false) ≡ false
 and-false true = refl
@@ -44,12 +39,12 @@ module _ {K : Type 0} (cmp : Order K) (total : IsTotalOrder cmp) where
   test-is (Some k) before (init, body, split, above) p =
       ap (λ (ps : Pairs K). list_all (λ e. is_lt (cmp e.0 p.0)) ps) split
       ∙ list_all-append (λ e. is_lt (cmp e.0 p.0)) init ((k, body) ∷ [])
-      ∙ and-last (list_all (λ e. is_lt (cmp e.0 p.0)) init) (is_lt (cmp k p.0)) (λ lt. below-all k p.0 init above (lt-less (cmp k p.0) lt))
+      ∙ and-last (list_all (λ e. is_lt (cmp e.0 p.0)) init) (is_lt (cmp k p.0)) (λ lt. below-all k p.0 init above (is-less (cmp k p.0) lt))
 
   top-above : (last : Option K) (before : Pairs K) → IsTop last before → (t : K) → is_past cmp last t ≡ true → IsAbove cmp t before
   top-above None before top t past = let P : Pairs K → Type 0 = λ ps. IsAbove cmp t ps in subst P (sym top) tt
   top-above (Some k) before (init, body, split, above) t past =
-      let less : cmp k t ≡ Less = lt-less (cmp k t) past in
+      let less : cmp k t ≡ Less = is-less (cmp k t) past in
       let P : Pairs K → Type 0 = λ ps. IsAbove cmp t ps in
       subst P (sym split) (each-append _ init ((k, body) ∷ []) (each-mono _ _ init (λ p h. total.trans p.0 k t h less) above) (less, tt))
 

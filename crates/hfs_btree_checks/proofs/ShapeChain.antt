@@ -1,12 +1,12 @@
 -- The chain of map nodes.
-use Rattle.std.proofs.Common.{◌≡◌, ℕ, suc, ◌<◌, ◌≤◌, Bool, true, false, List, [], ◌∷◌, ◌++◌, length, get_or, set, Option, Result, Ok, refl, sym, ap, ◌∙◌, append_assoc}
+use Rattle.std.proofs.Common.{◌≡◌, ℕ, ◌<◌, ◌≤◌, Bool, true, false, List, [], ◌∷◌, ◌++◌, length, get_or, set, Option, Result, Ok, refl, sym, ap, ◌∙◌, append_assoc}
 use Rattle.std.specs.Prelude.{◌&&◌, ◌||◌, ◌==◌, not}
 use Rattle.std.specs.List.{list_any}
-use Rattle.std.proofs.lemmas.Bool.{and_left, and_right, and_from, and_parts, cond-true, cond-false, lt-ltb, le-leb, ltb-true, ne_eqb}
+use Rattle.std.proofs.lemmas.Bool.{and_left, and_right, and_from, and_parts, cond-true, lt-ltb, le-leb, ltb-true}
 use Rattle.hfs_node.specs.declared.fault.NodeFault.{NodeFault}
 use Rattle.hfs_node.specs.declared.node.Node.{Node}
 use Rattle.hfs_btree.specs.Tree.{Store, node_in, records_of, forward_of}
-use Rattle.hfs_btree.specs.Header.{header_in, record_in, chain_from}
+use Rattle.hfs_btree.specs.Header.{header_in, record_in}
 use Rattle.hfs_btree_checks.specs.Shape.{is_within, is_map_value, is_map_result, is_map_node, first_fault}
 use Rattle.hfs_btree_checks.specs.ShapeSteps.{is_met}
 use Rattle.hfs_btree_checks.proofs.ShapeTurn.{met-more}
@@ -30,11 +30,6 @@ module _ (nodes : Store) (n : ℕ) where
 
   pub part-of : (v : Node) → node_in nodes n ≡ Ok v → get_or v.records 0 [] ≡ record_in nodes n 0
   part-of v is = sym (ap (λ (r : Result Node NodeFault). get_or (records_of r) 0 []) is)
-
--- ---- one node of the chain
-
-pub chain-step : (nodes : Store) (most next n : ℕ) → most ≡ suc next → (n ≡ 0 → ⊥) → chain_from nodes most n ≡ n ∷ chain_from nodes next (forward_of (node_in nodes n))
-chain-step nodes most next n e some = ap (λ (k : ℕ). chain_from nodes k n) e ∙ cond-false _ _ _ (ne_eqb n 0 some)
 
 swapped : (a b c : Bool) → ((a || b) || c) ≡ (b || (a || c))
 swapped true true c = refl

@@ -15,16 +15,13 @@ use Rattle.hfs_btree.specs.Tree.{Store, node_in, records_of, Spot, kind_at, read
 use Rattle.hfs_btree.specs.Header.{header_in, record_in, map_nodes, own_nodes, map_bytes, is_marked, free_nodes, depth_of, leaves, tree_content, tree_turn, tree_nodes}
 use Rattle.hfs_btree.specs.Sound.{IsOther, IsDistinct, HasHeader, IsWithin, IsMapNode, IsMarked, HasMap, IsRight, HasLevels, HasEnds, HasStructure, HasCounts, IsWithinFile, IsShaped}
 use Rattle.hfs_btree_checks.specs.Shape.{unless, ◌or_else◌, first_fault, is_header_kind, is_header_node, is_header_record, has_header, is_within, is_map_kind, is_map_result, is_map_node, chain_fault, has_map, is_kind_at, is_node_at, is_result_at, is_right, is_own, levels_fault, has_ends, has_counts, structure_fault, shape_fault}
+use Rattle.hfs_btree_checks.proofs.KeyPasses.{all-true}
 
 -- ---- tests of each element
 
 each-of-all : {X : Type 0} (p : X → Bool) (xs : List X) → list_all p xs ≡ true → Each (λ x. p x ≡ true) xs
 each-of-all p [] h = tt
 each-of-all p (x ∷ xs) h = let both = and_parts (p x) (list_all p xs) h in (both.0, each-of-all p xs both.1)
-
-all-of-each : {X : Type 0} (p : X → Bool) (xs : List X) → Each (λ x. p x ≡ true) xs → list_all p xs ≡ true
-all-of-each p [] h = refl
-all-of-each p (x ∷ xs) h = and_from _ _ h.0 (all-of-each p xs h.1)
 
 -- ---- the first fault
 
@@ -180,7 +177,7 @@ module _ (nodes : Store) where
         different = subst IsDistinct (sym (same-numbers (map_nodes nodes))) h.different;
         new = never (map (λ n. n) (map_nodes nodes));
       }) in
-      and_from _ _ (and_from _ _ (ap is_none none) (le-leb _ _ h.long)) (all-of-each (is_marked nodes) (own_nodes nodes) h.marked)
+      and_from _ _ (and_from _ _ (ap is_none none) (le-leb _ _ h.long)) (all-true (is_marked nodes) (own_nodes nodes) h.marked)
 
 -- ---- the levels
 
@@ -234,7 +231,7 @@ module _ {K : Type 0} (g : Ghosts K) (nodes : Store) where
       (ap (is_result_at g spot) h.decodes
       ∙ and_from _ _
       (and_from _ _ (and_from _ _ (and_from _ _ (and_from _ _ (ap (is_kind_at spot.above) h.kind ∙ at-kind spot.above) (eq-eqb _ _ h.height)) (le-leb _ _ h.some)) (eq-eqb _ _ h.left)) (eq-eqb _ _ h.right))
-      (all-of-each (reads_at g spot.above) h.value.records h.whole)))
+      (all-true (reads_at g spot.above) h.value.records h.whole)))
       h.marked
 
 -- two lists of different numbers, with none in both

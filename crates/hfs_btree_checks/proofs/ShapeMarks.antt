@@ -1,20 +1,10 @@
 -- The marks of the node map.
-use Rattle.std.proofs.Common.{◌≡◌, ℕ, ◌+◌, ◌<◌, ◌≤◌, true, false, List, map, arith, ◌∙◌, ap, refl}
+use Rattle.std.proofs.Common.{◌≡◌, ℕ, ◌+◌, true, false, List, map, arith, ◌∙◌, ap, refl}
 use Rattle.std.specs.List.{range_with_len, count_by}
 use Rattle.std.specs.Prelude.{not, Bool, cond}
-use Rattle.std.proofs.lemmas.List.{get_or_past}
-use Rattle.std.proofs.lemmas.List.FromFn.{get_or-map-range_with_len, length-map-range_with_len, sum_by-map-range_with_len_more}
+use Rattle.std.proofs.lemmas.List.FromFn.{sum_by-map-range_with_len_more}
 use Rattle.hfs_btree.specs.Tree.{Store}
-use Rattle.hfs_btree.specs.Header.{header_in, map_bytes, bit_of, marks, is_marked, free_nodes}
-
-pub marked-here : (nodes : Store) (n : ℕ) → n < (header_in nodes).nodes → is_marked nodes n ≡ bit_of (map_bytes nodes) n
-unfolding marks
-marked-here nodes n lt = get_or-map-range_with_len (bit_of (map_bytes nodes)) 0 (header_in nodes).nodes n n false lt (omega arith)
-
-pub marked-past : (nodes : Store) (n : ℕ) → (header_in nodes).nodes ≤ n → is_marked nodes n ≡ false
-unfolding marks
-marked-past nodes n le =
-    get_or_past (map (bit_of (map_bytes nodes)) (range_with_len 0 (header_in nodes).nodes)) n false (omega (arith, length-map-range_with_len (bit_of (map_bytes nodes)) 0 (header_in nodes).nodes))
+use Rattle.hfs_btree.specs.Header.{header_in, map_bytes, bit_of, marks, free_nodes}
 
 pub clear-more : (bytes : List ℕ) (n : ℕ) → count_by not (map (bit_of bytes) (range_with_len 0 (n + 1))) ≡ count_by not (map (bit_of bytes) (range_with_len 0 n)) + cond (not (bit_of bytes n)) 1 0
 clear-more bytes n = sum_by-map-range_with_len_more (λ (b : Bool). cond (not b) 1 0) (bit_of bytes) 0 n n (omega arith)

@@ -18,7 +18,8 @@ use Rattle.hfs_btree.specs.Header.{header_in, record_in, map_nodes, own_nodes, b
 use Rattle.hfs_btree.specs.Sound.{IsOther, IsMapNode, IsMarked, IsStray}
 use Rattle.hfs_btree_edits.specs.Stored.{IsOnward, IsReleased, bytes_in}
 use Rattle.hfs_btree_edits.specs.MapPlaces.{IsPlaced, part_in}
-use Rattle.hfs_btree_edits.proofs.MarksHereLemmas.{marked-here, marked-past}
+use Rattle.hfs_btree.proofs.MarkLemmas.{marked-here}
+use Rattle.hfs_btree.proofs.MarkLemmas.{marked-past}
 use Rattle.hfs_btree_edits.proofs.PartBitLemmas.{bits-here}
 use Rattle.hfs_btree_edits.proofs.BitPutLemmas.{map-split}
 use Rattle.hfs_btree_edits.proofs.OwnLemmas.{KeepsOwn, own-header, own-bytes, own-head}

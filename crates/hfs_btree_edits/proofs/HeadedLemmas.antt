@@ -8,7 +8,8 @@ use Rattle.hfs_btree.specs.Tree.{Store, forward_of}
 use Rattle.hfs_btree.specs.Header.{record_in, map_nodes, own_nodes, map_bytes, marks, free_nodes}
 use Rattle.hfs_btree.specs.Sound.{HasHeader, HasMap, IsDistinct, IsMapNode, IsMarked}
 use Rattle.hfs_btree_edits.specs.Stored.{IsSame, IsOnward}
-use Rattle.hfs_btree_edits.proofs.KeptLemmas.{flat_map-same, same-record, map_nodes-same, marks-same, free-same}
+use Rattle.hfs_scans.proofs.PartLemmas.{flat_map-same}
+use Rattle.hfs_btree_edits.proofs.KeptLemmas.{same-record, map_nodes-same, marks-same, free-same}
 use Rattle.hfs_btree_edits.proofs.StoredLemmas.{HasNewHeader}
 
 module _ {K : Type 0} (g : Ghosts K) (old new : Store) (h : HasNewHeader g old new) where

@@ -12,10 +12,7 @@ use Rattle.hfs_btree.specs.Header.{header_of, header_in, record_in, chain_from, 
 use Rattle.hfs_btree.specs.Sound.{HasHeader, HasMap, IsMapNode, IsMarked}
 use Rattle.hfs_btree_edits.specs.Stored.{IsSame}
 use Rattle.hfs_btree_edits.specs.Stored.{IsOnward}
-
-pub flat_map-same : {X Y : Type 0} (f h : X → List Y) (xs : List X) → Each (λ x. f x ≡ h x) xs → flat_map f xs ≡ flat_map h xs
-flat_map-same f h [] e = refl
-flat_map-same f h (x ∷ xs) e = ap (λ ys. ys ++ flat_map f xs) e.0 ∙ ap (λ ys. h x ++ ys) (flat_map-same f h xs e.1)
+use Rattle.hfs_scans.proofs.PartLemmas.{flat_map-same}
 
 module _ (old new : Store) where
   pub same-records : (n : ℕ) → IsSame old new n → records_in new n ≡ records_in old n

@@ -20,7 +20,6 @@ pub mod LevelPartLemmas
 mod MapBitLemmas
 mod MapPlaceLemmas
 mod MapWalkLemmas
-mod MarksHereLemmas
 pub mod OwnLemmas
 mod PartBitLemmas
 pub mod ReheadedLemmas

@@ -2,7 +2,7 @@
 use Rattle.std.proofs.Common.{◌≡◌, ◌≢◌, ℕ, zero, suc, ◌+◌, ◌*◌, ◌<◌, ◌⊎◌, Bool, List, [], ◌∷◌, ◌++◌, length, get_or, set, refl, sym, ap, ◌∙◌, subst, arith, inl, inr, length-append, append_assoc}
 use Rattle.std.specs.Prelude.{Ok}
 use Rattle.std.specs.List.{flat_map}
-use Rattle.std.proofs.lemmas.Bool.{cases_lt, cond-false, ne_eqb}
+use Rattle.std.proofs.lemmas.Bool.{cases_lt}
 use Rattle.std.proofs.lemmas.List.{get_or_past}
 use Rattle.std.proofs.lemmas.List.Concat.{flat_map-append}
 use Rattle.hfs_node.specs.declared.node.Node.{Node}
@@ -16,9 +16,7 @@ use Rattle.hfs_btree_edits.specs.Stored.{HasStored}
 use Rattle.hfs_btree_edits.specs.MapPlaces.{entry_of, part_in, IsPlaced, HasBitPut}
 use Rattle.hfs_btree_edits.proofs.MapPlaceLemmas.{IsPart}
 use Rattle.hfs_btree.proofs.DecodedLemmas.{decoded-within, records-within, records-read}
-
-pub chain-step : (nodes : Store) (most next n : ℕ) → most ≡ suc next → (n ≡ 0 → ⊥) → chain_from nodes most n ≡ n ∷ chain_from nodes next (forward_of (node_in nodes n))
-chain-step nodes most next n e some = ap (λ (k : ℕ). chain_from nodes k n) e ∙ cond-false _ _ _ (ne_eqb n 0 some)
+use Rattle.hfs_btree.proofs.ChainLemmas.{chain-step}
 
 pub first-part : (nodes : Store) (count : ℕ) → count ≡ (header_in nodes).nodes → IsPart nodes count 0 2 0
 unfolding map_nodes

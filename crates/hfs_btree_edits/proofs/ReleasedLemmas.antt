@@ -9,7 +9,7 @@ use Rattle.hfs_btree.specs.declared.header.Header.{Header as HeaderRecord}
 use Rattle.hfs_btree.specs.declared.key.Key.{Ghosts}
 use Rattle.hfs_btree.specs.Pairs.{Pairs, Rises}
 use Rattle.hfs_scans.specs.Each.{Each}
-use Rattle.hfs_scans.proofs.ElementLemmas.{each-left, each-right}
+use Rattle.hfs_scans.proofs.ElementLemmas.{each-left, each-right, each-unmap}
 use Rattle.hfs_btree.specs.Tree.{Store, Spot, first_of, last_of, turn, last_level, pairs}
 use Rattle.hfs_btree.specs.Header.{header_in, depth_of, root_level, map_nodes, own_nodes, marks, free_nodes, leaves, tree_content, tree_turn, tree_nodes}
 use Rattle.hfs_btree.specs.Sound.{IsOther, IsDistinct, IsRight, IsMapNode, IsMarked, IsSound, IsExact, IsStray, HasHeader, HasMap, AreKeysInOrder, AreKeysExact}
@@ -42,11 +42,7 @@ count-cleared (b ∷ bs) (suc n) h =
     let more : one + count_by not (set bs n false) ≡ (one + count_by not bs) + 1 = omega (arith, count-cleared bs n h) in
     sum_by-cons (λ (x : Bool). cond (not x) 1 0) b (set bs n false) ∙ more ∙ ap (λ (m : ℕ). m + 1) (sym (sum_by-cons (λ (x : Bool). cond (not x) 1 0) b bs))
 
-each-map : {X Y : Type 0} (P : Y → Type 0) (f : X → Y) (xs : List X) → Each P (map f xs) → Each (λ x. P (f x)) xs
-each-map P f [] h = tt
-each-map P f (x ∷ xs) h = (h.0, each-map P f xs h.1)
-
-each-both : {X : Type 0} (P Q R : X → Type 0) (xs : List X) → ((x : X) → P x → Q x → R x) → Each P xs → Each Q xs → Each R xs
+pub each-both : {X : Type 0} (P Q R : X → Type 0) (xs : List X) → ((x : X) → P x → Q x → R x) → Each P xs → Each Q xs → Each R xs
 each-both P Q R [] f a b = tt
 each-both P Q R (x ∷ xs) f a b = (f x a.0 b.0, each-both P Q R xs f a.1 b.1)
 
@@ -95,8 +91,8 @@ module _ {K : Type 0} (g : Ghosts K) (n : ℕ) (old new : Store) (d : IsReleased
       each-both (λ (s : Spot). (s.n ≢ n) × Each (IsOther s.n) (own_nodes old)) (IsRight g old) (IsUnchanged old new) (tree_turn g old)
       (λ s a h. record { same = d.rest s.n a.0 a.1; marked = mark-on s.n a.0 h.marked })
       (each-both (λ (s : Spot). s.n ≢ n) (λ (s : Spot). Each (IsOther s.n) (own_nodes old)) _ (tree_turn g old) (λ s a b. (a, b))
-      (each-map (λ m. m ≢ n) (λ (s : Spot). s.n) (tree_turn g old) (each-right (λ m. m ≢ n) (own_nodes old) (tree_nodes g old) others))
-      (each-map (λ m. Each (IsOther m) (own_nodes old)) (λ (s : Spot). s.n) (tree_turn g old) outside))
+      (each-unmap (λ m. m ≢ n) (λ (s : Spot). s.n) (tree_turn g old) (each-right (λ m. m ≢ n) (own_nodes old) (tree_nodes g old) others))
+      (each-unmap (λ m. Each (IsOther m) (own_nodes old)) (λ (s : Spot). s.n) (tree_turn g old) outside))
       sound.structure.levels.each
 
   turn-is : tree_turn g new ≡ turn g new (depth_of old) (root_level old)

@@ -33,7 +33,8 @@ use Rattle.hfs_btree.proofs.DecodedLemmas.{read-in}
 use Rattle.hfs_btree.proofs.FoundLemmas.{found-entries, found-body}
 use Rattle.hfs_btree.proofs.LevelLemmas.{each-spots, map-split, at-spot}
 use Rattle.hfs_btree.proofs.DescentLemmas.{leaf-found, leaf-node, content-about, content-none}
-use Rattle.hfs_btree_edits.proofs.KeptLemmas.{flat_map-same, header-kept, marks-kept, free-same}
+use Rattle.hfs_scans.proofs.PartLemmas.{flat_map-same}
+use Rattle.hfs_btree_edits.proofs.KeptLemmas.{header-kept, marks-kept, free-same}
 use Rattle.hfs_btree_edits.proofs.EditedLemmas.{IsEdited, at-height, height-in, head-stays, map-stays, turn-stays, leaves-stay, nodes-stay, frame-stays, structure-stays}
 use Rattle.hfs_btree_edits.proofs.EditedPairLemmas.{rises-before, rises-with, replaced-at, above-equal, swap-equal}
 use Rattle.hfs_btree_edits.proofs.EditedOrderLemmas.{StaysAt, keys-stay, turn-step}

@@ -6,7 +6,7 @@ use Rattle.hfs_scans.specs.Each.{Each}
 use Rattle.hfs_scans.proofs.ElementLemmas.{each-left, each-right}
 use Rattle.hfs_btree.specs.Tree.{Store, Spot, children, spots, turn, level_below, last_level}
 use Rattle.hfs_btree.proofs.LevelLemmas.{each-spots}
-use Rattle.hfs_btree_edits.proofs.KeptLemmas.{flat_map-same}
+use Rattle.hfs_scans.proofs.PartLemmas.{flat_map-same}
 
 module _ {K : Type 0} (g : Ghosts K) (old new : Store) where
   -- a node above the leaves has the same children

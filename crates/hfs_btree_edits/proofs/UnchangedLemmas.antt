@@ -9,7 +9,7 @@ use Rattle.hfs_btree.specs.Tree.{Store, Spot, node_in, records_in, records_of, c
 use Rattle.hfs_btree.specs.Header.{header_in}
 use Rattle.hfs_btree.specs.Sound.{IsMarked, IsRight, AreKeysInOrder, AreKeysExact, first_key}
 use Rattle.hfs_btree.proofs.LevelLemmas.{each-spots}
-use Rattle.hfs_btree_edits.proofs.KeptLemmas.{flat_map-same}
+use Rattle.hfs_scans.proofs.PartLemmas.{flat_map-same}
 use Rattle.hfs_btree_edits.proofs.TurnLemmas.{HasSameChildren, last-same}
 use Rattle.hfs_btree_edits.proofs.EditedOrderLemmas.{turn-step}
 use Rattle.hfs_btree_edits.proofs.LevelPartLemmas.{KeepsAt, KeepsRecords, turn-kept, turn-keyed}

@@ -27,7 +27,7 @@ use Rattle.hfs_btree_edits.proofs.EditedLemmas.{IsEdited, height-in}
 use Rattle.hfs_btree_edits.specs.Edits.{IsAboveFirst, KeepsTree, level_above, node_for}
 use Rattle.hfs_btree_edits.specs.KeptKeys.{EachKey, IsKeyOr}
 use Rattle.hfs_btree_edits.proofs.KeptKeyLemmas.{hold-keys_with}
-use Rattle.hfs_btree_edits.proofs.KeptLemmas.{flat_map-same}
+use Rattle.hfs_scans.proofs.PartLemmas.{flat_map-same}
 use Rattle.hfs_btree_edits.proofs.ReplacedLemmas.{each-set}
 use Rattle.hfs_btree_insertion.specs.Lowering.{HasFirstKey}
 use Rattle.hfs_btree_insertion.proofs.PartLists.{same-key}

@@ -28,10 +28,11 @@ use Rattle.hfs_btree_edits.specs.Stored.{KeepsHead}
 use Rattle.hfs_btree_edits.proofs.ApartLemmas.{apart-at, each-take, each-drop}
 use Rattle.hfs_btree_insertion.proofs.Contents.{Keyed, keyed-spots, keyed-of-spots, have-pairs, turn-parts-right, content-under}
 use Rattle.hfs_btree.proofs.DescentLemmas.{next-split, place-within, leaf-node}
-use Rattle.hfs_btree_edits.proofs.LevelPartLemmas.{KeepsRecords, KeepsUnder, same-flat, parts-kept, level-kept, level-keyed, children-kept, of-spots, at-spots, numbers-spots, flat-kept}
+use Rattle.hfs_btree_edits.proofs.LevelPartLemmas.{KeepsRecords, KeepsUnder, same-flat, parts-kept, level-kept, children-kept, numbers-spots, flat-kept}
 use Rattle.hfs_btree.proofs.LevelLemmas.{map-split, at-spot}
 use Rattle.hfs_btree_insertion.proofs.PairPut.{put-past, put-before, each-put, rises-put, length-put, put-at}
 use Rattle.hfs_btree.proofs.PartLemmas.{beside-place, first-above, rest-count, first-fits}
+use Rattle.hfs_btree_edits.proofs.DistinctLemmas.{distinct-right}
 
 -- ---- the parts of one node, of which one has a pair more
 
@@ -285,10 +286,6 @@ pub record IsPutIn {K : Type 0} (g : Ghosts K) (key : K) (body : List ℕ) (old 
   pub records : (header_in new).records ≡ (header_in old).records + 1
   pub free : (header_in new).free_nodes ≡ (header_in old).free_nodes
   pub head : KeepsHead old new
-
-pub distinct-right : (xs ys : List ℕ) → IsDistinct (xs ++ ys) → IsDistinct ys
-distinct-right [] ys h = h
-distinct-right (x ∷ xs) ys h = distinct-right xs ys h.1
 
 -- the last level stands at the end of the turn
 pub last-of-turn : {K : Type 0} (g : Ghosts K) (nodes : Store) (d : ℕ) (ns : List ℕ) → (xs : List ℕ) × (map (λ (x : Spot). x.n) (turn g nodes (suc d) ns) ≡ xs ++ level_below g nodes d ns)

@@ -13,7 +13,8 @@ use Rattle.hfs_btree.proofs.DecodedLemmas.{decoded-within}
 use Rattle.hfs_btree_edits.proofs.DistinctLemmas.{distinct-left, distinct-right}
 use Rattle.hfs_btree_edits.proofs.LevelPartLemmas.{numbers}
 use Rattle.hfs_btree_removal.proofs.Links.{last_or}
-use Rattle.hfs_btree_removal.proofs.Unlinked.{AreUnlinked, Some, numbers-with, cross-back}
+use Rattle.hfs_btree_edits.proofs.ReleasedLemmas.{apart as cross-back}
+use Rattle.hfs_btree_removal.proofs.Unlinked.{AreUnlinked, Some, numbers-with}
 
 -- a node between those before it and those behind
 pub between : (P : Spot → Type 0) (k left : ℕ) (before : List ℕ) (n : ℕ) (behind : List ℕ) → Each P (spots k left (before ++ n ∷ behind))

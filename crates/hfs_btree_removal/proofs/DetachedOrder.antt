@@ -12,9 +12,9 @@ use Rattle.hfs_scans.specs.Each.{Each}
 use Rattle.hfs_scans.proofs.ElementLemmas.{each-append, each-left, each-right, each-mono}
 use Rattle.hfs_btree.specs.Tree.{Store, Spot, node_in, records_in, records_of, children, pair_of, pairs, spots, first_of, last_of, turn, under, level_below, last_level}
 use Rattle.hfs_btree.specs.Header.{header_in, root_level, leaves, tree_content, tree_turn}
-use Rattle.hfs_btree.specs.Sound.{IsSound, IsRight, AreKeysInOrder, ArePartsInOrder, part_of, HasCounts}
+use Rattle.hfs_btree.specs.Sound.{IsSound, IsRight, AreKeysInOrder, ArePartsInOrder, part_of}
 use Rattle.hfs_btree.proofs.LevelLemmas.{each-spots, map-split, under-some}
-use Rattle.hfs_btree_edits.proofs.KeptLemmas.{flat_map-same}
+use Rattle.hfs_scans.proofs.PartLemmas.{flat_map-same}
 use Rattle.hfs_btree.proofs.DescentLemmas.{next-split}
 use Rattle.hfs_btree_edits.proofs.EditedPairLemmas.{rises-before, rises-without, above-equal, without-at}
 use Rattle.hfs_btree_edits.proofs.EditedOrderLemmas.{each-flat, Bounded, Keyed, Keyed', join, keys-level}
@@ -25,16 +25,8 @@ use Rattle.hfs_btree_removal.proofs.PartsLess.{map-remove, parts-drop}
 use Rattle.hfs_btree_removal.proofs.Chains.{Cut, with_node, without_node, fronts, backs, only_child, IsChain, cuts, bottom, level-with, KeepsBeside, level-without, turn-fronts, turn-backs}
 use Rattle.hfs_btree_edits.proofs.HeadedLemmas.{free-is}
 use Rattle.hfs_btree_removal.proofs.Detached.{IsDetached, es, c, bc, hc, cs, uppers, above-level, place, old-turn, new-turn, new-below, beside, uppers-keep, right-cuts, new-es, same-root, structure-is}
-
--- ---- lists
-
-spots-each : (P : Spot → Type 0) (Q : ℕ → Type 0) (k : ℕ) → ((left n right : ℕ) → Q n → P (record { left = left; n = n; right = right; above = k })) → (left : ℕ) (ns : List ℕ) → Each Q ns → Each P (spots k left ns)
-spots-each P Q k f left [] h = tt
-spots-each P Q k f left (n ∷ ns) h = (f left n (first_of ns) h.0, spots-each P Q k f n ns h.1)
-
-flat-each : {X Y : Type 0} (P : Y → Type 0) (f : X → List Y) (xs : List X) → Each (λ x. Each P (f x)) xs → Each P (flat_map f xs)
-flat-each P f [] h = tt
-flat-each P f (x ∷ xs) h = each-append P (f x) (flat_map f xs) h.0 (flat-each P f xs h.1)
+use Rattle.hfs_btree_removal.proofs.KeysKept.{spots-of}
+use Rattle.hfs_scans.proofs.PartLemmas.{flat-each}
 
 pub bounds-drop : {K : Type 0} (cmp : Order K) (xs ps ys : Pairs K) → KeepsBounds cmp (xs ++ (ps ++ ys)) (xs ++ ys)
 bounds-drop cmp xs ps ys = record {
@@ -156,7 +148,7 @@ module _ {K : Type 0} (g : Ghosts K) (total : IsTotalOrder g.compare) (old new :
       subst P (sym (turn-fronts g old k B C H))
       (flat-each (Keyed g total old new) fronts CS
       (each-mono KeyedAll (λ cut. Each (Keyed g total old new) (fronts cut)) CS
-      (λ cut h. spots-each (Keyed g total old new) (λ n. AreKeysInOrder g old cut.above n) cut.above (λ l n r e. e) 0 cut.front (each-left _ cut.front (cut.n ∷ cut.back) h)) keyed-cuts))
+      (λ cut h. spots-of (Keyed g total old new) (λ n. AreKeysInOrder g old cut.above n) cut.above (λ l n r e. e) 0 cut.front (each-left _ cut.front (cut.n ∷ cut.back) h)) keyed-cuts))
 
   keyed-backs : Each (Keyed g total old new) (turn g old (suc k) H)
   keyed-backs =
@@ -164,7 +156,7 @@ module _ {K : Type 0} (g : Ghosts K) (total : IsTotalOrder g.compare) (old new :
       subst P (sym (turn-backs g old k B C H))
       (flat-each (Keyed g total old new) backs CS
       (each-mono KeyedAll (λ cut. Each (Keyed g total old new) (backs cut)) CS
-      (λ cut h. spots-each (Keyed g total old new) (λ n. AreKeysInOrder g old cut.above n) cut.above (λ l n r e. e) 0 cut.back (each-right _ cut.front (cut.n ∷ cut.back) h).1) keyed-cuts))
+      (λ cut h. spots-of (Keyed g total old new) (λ n. AreKeysInOrder g old cut.above n) cut.above (λ l n r e. e) 0 cut.back (each-right _ cut.front (cut.n ∷ cut.back) h).1) keyed-cuts))
 
   -- ---- the keys of the new one, below
 
@@ -188,7 +180,7 @@ module _ {K : Type 0} (g : Ghosts K) (total : IsTotalOrder g.compare) (old new :
   join-cuts : (xs : List Cut) → Each (λ cut. Each (NewKeys cut.above) cut.front) xs → Each (λ cut. Each (NewKeys cut.above) cut.back) xs → Each (λ cut. Each (Keyed' g total old new) (without_node cut)) xs
   join-cuts [] a b = tt
   join-cuts (cut ∷ xs) a b =
-      (spots-each (Keyed' g total old new) (NewKeys cut.above) cut.above (λ l n r e. e) 0 (cut.front ++ cut.back) (each-append (NewKeys cut.above) cut.front cut.back a.0 b.0), join-cuts xs a.1 b.1)
+      (spots-of (Keyed' g total old new) (NewKeys cut.above) cut.above (λ l n r e. e) 0 (cut.front ++ cut.back) (each-append (NewKeys cut.above) cut.front cut.back a.0 b.0), join-cuts xs a.1 b.1)
 
   new-lower : Each (Keyed' g total old new) (flat_map without_node CS)
   new-lower = flat-each (Keyed' g total old new) without_node CS (join-cuts CS new-fronts new-backs)
@@ -287,7 +279,7 @@ module _ {K : Type 0} (g : Ghosts K) (total : IsTotalOrder g.compare) (old new :
       let P : List Spot → Type 0 = λ ss. Each (Keyed' g total old new) ss in
       subst P (sym (new-turn g old new i k p q d st))
       (each-append (Keyed' g total old new) U (spots (suc k) 0 L ++ flat_map without_node CS) new-uppers
-      (each-append (Keyed' g total old new) (spots (suc k) 0 L) (flat_map without_node CS) (spots-each (Keyed' g total old new) (NewKeys (suc k)) (suc k) (λ l n r e. e) 0 L level-keys) new-lower))
+      (each-append (Keyed' g total old new) (spots (suc k) 0 L) (flat_map without_node CS) (spots-of (Keyed' g total old new) (NewKeys (suc k)) (suc k) (λ l n r e. e) 0 L level-keys) new-lower))
 
   -- ---- the content
 

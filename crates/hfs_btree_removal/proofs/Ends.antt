@@ -26,7 +26,8 @@ use Rattle.hfs_btree_edits.specs.LevelParts.{lift}
 use Rattle.hfs_btree_edits.proofs.LevelPartLemmas.{upper, numbers, turn-split, of-spots}
 use Rattle.hfs_btree_removal.proofs.Links.{last_or, IsKept}
 use Rattle.hfs_btree_removal.proofs.Passed.{high}
-use Rattle.hfs_btree_removal.proofs.Unlinked.{Some, cross, numbers-with}
+use Rattle.hfs_btree.proofs.DistinctLemmas.{cross}
+use Rattle.hfs_btree_removal.proofs.Unlinked.{Some, numbers-with}
 
 -- ---- ends
 

@@ -6,15 +6,17 @@ use Rattle.std.specs.declared.cmp.Ordering.TheVariants.{Equal}
 use Rattle.hfs_btree.specs.declared.key.Key.{Ghosts}
 use Rattle.hfs_scans.specs.Each.{Each}
 use Rattle.hfs_scans.proofs.ElementLemmas.{each-mono, each-left, each-right, each-append}
-use Rattle.hfs_btree.specs.Tree.{Store, Spot, records_in, children, first_of, spots, turn}
+use Rattle.hfs_btree.specs.Tree.{Store, Spot, records_in, children, spots, turn}
 use Rattle.hfs_btree.specs.Header.{record_in, depth_of, root_level, tree_turn}
-use Rattle.hfs_btree.specs.Sound.{IsExact, IsSound, IsRight, AreKeysExact, first_key}
+use Rattle.hfs_btree.specs.Sound.{IsExact, IsSound, AreKeysExact, first_key}
 use Rattle.hfs_btree.proofs.LevelLemmas.{each-spots}
 use Rattle.hfs_btree_edits.proofs.EditedOrderLemmas.{each-flat, turn-step}
 use Rattle.hfs_btree_edits.proofs.LevelPartLemmas.{KeepsAt, KeepsRecords}
 use Rattle.hfs_btree_removal.proofs.PartsLess.{each-remove}
 use Rattle.hfs_btree_removal.proofs.Chains.{Cut, with_node, without_node, KeepsBeside}
 use Rattle.hfs_btree_removal.proofs.Detached.{IsDetached, es, cs, uppers, above-level, old-turn, new-turn, new-es, beside, uppers-keep}
+use Rattle.hfs_btree_removal.proofs.KeysKept.{spots-of}
+use Rattle.hfs_scans.proofs.PartLemmas.{flat-each}
 
 module _ {K : Type 0} (g : Ghosts K) (nodes : Store) (X : ℕ → Type 0) where
   -- each index key over a child that passes is equal in order to the child's first key
@@ -66,16 +68,6 @@ module _ {K : Type 0} (g : Ghosts K) (old new : Store) (X : ℕ → Type 0) wher
   exact-moved d ns f h =
       turn-step g new KeepsFirst (λ s. WasExact s.above s.n) (λ s. AreKeysExactFor g new X s.above s.n) SameFirst firsts (λ l n r a b. tt)
       (λ k l n r a c b. entries k (records_in new n) c b) d ns f h
-
--- ---- where a record and the nodes below it have left
-
-spots-each : (P : Spot → Type 0) (Q : ℕ → Type 0) (k : ℕ) → ((left n right : ℕ) → Q n → P (record { left = left; n = n; right = right; above = k })) → (left : ℕ) (ns : List ℕ) → Each Q ns → Each P (spots k left ns)
-spots-each P Q k f left [] h = tt
-spots-each P Q k f left (n ∷ ns) h = (f left n (first_of ns) h.0, spots-each P Q k f n ns h.1)
-
-flat-each : {X Y : Type 0} (P : Y → Type 0) (f : X → List Y) (xs : List X) → Each (λ x. Each P (f x)) xs → Each P (flat_map f xs)
-flat-each P f [] h = tt
-flat-each P f (x ∷ xs) h = each-append P (f x) (flat_map f xs) h.0 (flat-each P f xs h.1)
 
 -- the keys were exact where a node has kept its records
 was-kept : {K : Type 0} (g : Ghosts K) (old new : Store) (X : ℕ → Type 0) (k n : ℕ) → records_in new n ≡ records_in old n → AreKeysExact g old k n → WasExact g old new X k n
@@ -169,19 +161,19 @@ module _ {K : Type 0} (g : Ghosts K) (old new : Store) (i k p q : ℕ) (d : IsDe
   was-cuts : (xs : List Cut) → Each (KeepsBeside g old new) xs → Each (λ (cut : Cut). Each (λ n. AreKeysExact g old cut.above n) (cut.front ++ cut.back)) xs → Each (λ cut. Each Was (without_node cut)) xs
   was-cuts [] a h = tt
   was-cuts (cut ∷ xs) a h =
-      (spots-each Was (WasExact g old new X cut.above) cut.above (λ l n r e. e) 0 (cut.front ++ cut.back) (was-one cut.above (cut.front ++ cut.back) a.0 h.0), was-cuts xs a.1 h.1)
+      (spots-of Was (WasExact g old new X cut.above) cut.above (λ l n r e. e) 0 (cut.front ++ cut.back) (was-one cut.above (cut.front ++ cut.back) a.0 h.0), was-cuts xs a.1 h.1)
 
   first-cuts : Each (λ cut. Each First (without_node cut)) CS
   first-cuts =
       each-mono (KeepsBeside g old new) (λ cut. Each First (without_node cut)) CS
-      (λ cut h. spots-each First (KeepsRecords g old new) cut.above (λ l n r e x. ap (λ (rs : List (List ℕ)). get_or rs 0 []) e) 0 (cut.front ++ cut.back) h) (beside g old new i k p q d st)
+      (λ cut h. spots-of First (KeepsRecords g old new) cut.above (λ l n r e x. ap (λ (rs : List (List ℕ)). get_or rs 0 []) e) 0 (cut.front ++ cut.back) h) (beside g old new i k p q d st)
 
   new-was : Each Was (tree_turn g new)
   new-was =
       let P : List Spot → Type 0 = λ ss. Each Was ss in
       subst P (sym (new-turn g old new i k p q d st))
       (each-append Was U (spots (suc k) 0 L ++ flat_map without_node CS) was-uppers
-      (each-append Was (spots (suc k) 0 L) (flat_map without_node CS) (spots-each Was (WasExact g old new X (suc k)) (suc k) (λ l n r e. e) 0 L was-level)
+      (each-append Was (spots (suc k) 0 L) (flat_map without_node CS) (spots-of Was (WasExact g old new X (suc k)) (suc k) (λ l n r e. e) 0 L was-level)
       (flat-each Was without_node CS (was-cuts CS (beside g old new i k p q d st) cut-exact))))
 
   new-first : Each First (tree_turn g new)
@@ -189,7 +181,7 @@ module _ {K : Type 0} (g : Ghosts K) (old new : Store) (i k p q : ℕ) (d : IsDe
       let P : List Spot → Type 0 = λ ss. Each First ss in
       subst P (sym (new-turn g old new i k p q d st))
       (each-append First U (spots (suc k) 0 L ++ flat_map without_node CS) first-uppers
-      (each-append First (spots (suc k) 0 L) (flat_map without_node CS) (spots-each First (λ n. X n → record_in new n 0 ≡ record_in old n 0) (suc k) (λ l n r e. e) 0 L first-level)
+      (each-append First (spots (suc k) 0 L) (flat_map without_node CS) (spots-of First (λ n. X n → record_in new n 0 ≡ record_in old n 0) (suc k) (λ l n r e. e) 0 L first-level)
       (flat-each First without_node CS first-cuts)))
 
   pub detached-exact : IsExactFor g new X

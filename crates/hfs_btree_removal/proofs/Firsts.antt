@@ -2,9 +2,8 @@
 use Rattle.std.proofs.Common.{◌≡◌, ℕ, zero, suc, ◌<◌, List, [], ◌∷◌, ◌++◌, length, map, get_or, refl, sym, ap, ◌∙◌, subst, arith}
 use Rattle.std.specs.List.{flat_map}
 use Rattle.std.specs.Cmp.{IsTotalOrder}
-use Rattle.std.specs.Ordering.{is_gt, ordering_reverse}
-use Rattle.std.specs.declared.cmp.Ordering.{Ordering}
-use Rattle.std.specs.declared.cmp.Ordering.TheVariants.{Less, Equal, Greater}
+use Rattle.std.specs.Ordering.{is_gt}
+use Rattle.std.specs.declared.cmp.Ordering.TheVariants.{Equal}
 use Rattle.std.proofs.lemmas.List.Folds.{flat_map-map}
 use Rattle.hfs_btree.specs.declared.key.Key.{Ghosts}
 use Rattle.hfs_btree.specs.Pairs.{Order, Pairs, Rises, IsAtMost}
@@ -20,11 +19,7 @@ use Rattle.hfs_btree_edits.specs.LevelParts.{lift}
 use Rattle.hfs_btree_edits.proofs.LevelPartLemmas.{upper, turn-split}
 use Rattle.hfs_btree_removal.proofs.DetachedOrder.{level-lift}
 use Rattle.hfs_btree_removal.proofs.Told.{first-most}
-
-equal-own : (o : Ordering) → o ≡ ordering_reverse o → o ≡ Equal
-equal-own Less e = cc
-equal-own Equal e = refl
-equal-own Greater e = cc
+use Rattle.hfs_fields.proofs.OrderLemmas.{equal-own}
 
 pub equal-self : {K : Type 0} (cmp : Order K) (total : IsTotalOrder cmp) (x : K) → cmp x x ≡ Equal
 equal-self cmp total x = equal-own (cmp x x) (total.antisymm x x)

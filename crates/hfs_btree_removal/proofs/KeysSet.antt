@@ -8,7 +8,7 @@ use Rattle.hfs_scans.specs.Each.{Each}
 use Rattle.hfs_btree.specs.Tree.{Store, node_in, records_in, records_of}
 use Rattle.hfs_btree_removal.specs.Removal.{HasKeySet, AreSettable, AreKeysSet, IsEnded, IsPassedUp, AreBehindFirst}
 
-abbrev no-step : Step
+abbrev pub no-step : Step
 no-step = record { node = 0; place = 0; count = 0 }
 
 abbrev AreFirst : List Step → Type 0

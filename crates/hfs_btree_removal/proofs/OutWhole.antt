@@ -23,6 +23,7 @@ use Rattle.hfs_btree_removal.proofs.Passed.{high, told-none}
 use Rattle.hfs_btree_removal.proofs.ReleasedSteps.{nodes-of}
 use Rattle.hfs_btree_removal.proofs.WayLevels.{high-is, leads-level}
 use Rattle.hfs_btree_removal.proofs.WayOut.{deep-by, at}
+use Rattle.hfs_btree_removal.proofs.KeysSet.{no-step}
 
 module _ {K : Type 0} (g : Ghosts K) (total : IsTotalOrder g.compare) (old : Store) (sound : IsSound g old) (above : List Step) (p : Step) where
   pub can-unlink : (chain : List Step) → IsWayBelow g old above p chain → AreUnlinkable old chain
@@ -125,11 +126,6 @@ module _ {K : Type 0} (g : Ghosts K) (total : IsTotalOrder g.compare) (old : Sto
       let P : Store → Type 0 = λ s. HasTakenOut g (above ++ p ∷ []) old s in
       subst P given (leaf-out g total old sound above p w three changed d four a.told a.exact)
   out-whole (s ∷ bs) w three changed d four a new given = chain-out g total old sound above p s bs w three changed d four a.told a.exact new given
-
--- ---- the steps, cut at the last with several records
-
-abbrev pub no-step : Step
-no-step = record { node = 0; place = 0; count = 0 }
 
 take-front : (xs ys : List Step) → take (length xs) (xs ++ ys) ≡ xs
 take-front [] ys = refl

@@ -25,7 +25,8 @@ use Rattle.hfs_btree_edits.proofs.HeadedLemmas.{marked-on}
 use Rattle.hfs_btree_edits.specs.LevelParts.{lift}
 use Rattle.hfs_btree_edits.proofs.LevelPartLemmas.{upper, numbers, numbers-spots, turn-split, of-spots}
 use Rattle.hfs_btree_removal.proofs.Links.{IsKept}
-use Rattle.hfs_btree_removal.proofs.Unlinked.{HasGaps, Some, cross, numbers-with, gap-later}
+use Rattle.hfs_btree.proofs.DistinctLemmas.{cross}
+use Rattle.hfs_btree_removal.proofs.Unlinked.{HasGaps, Some, numbers-with, gap-later}
 
 module _ {K : Type 0} (g : Ghosts K) (old : Store) (structure : HasStructure g old) (i k : ℕ) (deep : depth_of old ≡ suc (lift i (suc k))) (before : List ℕ) (p : ℕ) (behind : List ℕ)
     (level : level_below g old i (root_level old) ≡ before ++ p ∷ behind) (q : ℕ) (within : q < length (records_in old p)) (chain : IsChain g old k (g.child (get_or (records_in old p) q []))) where

@@ -18,7 +18,7 @@ use Rattle.hfs_btree.proofs.DescentLemmas.{next-split}
 use Rattle.hfs_btree_removal.proofs.RemovalLemmas.{HasTold}
 use Rattle.hfs_btree_removal.specs.Removal.{HasKeySet, AreKeysSet, AreBehindFirst}
 use Rattle.hfs_btree_removal.specs.Ways.{IsStep, Leads}
-use Rattle.hfs_btree_edits.proofs.KeptLemmas.{flat_map-same}
+use Rattle.hfs_scans.proofs.PartLemmas.{flat_map-same}
 use Rattle.hfs_btree_edits.proofs.EditedLemmas.{IsEdited, height-in}
 use Rattle.hfs_btree_edits.specs.LevelParts.{lift}
 use Rattle.hfs_btree_edits.proofs.LevelPartLemmas.{lift-is, numbers}

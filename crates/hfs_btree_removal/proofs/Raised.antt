@@ -18,7 +18,8 @@ use Rattle.hfs_btree.specs.Tree.{Store, Spot, node_in, records_in, records_of, c
 use Rattle.hfs_btree.specs.Header.{header_in, depth_of, root_level, leaves, free_nodes, tree_content, tree_turn}
 use Rattle.hfs_btree.specs.Sound.{IsRight, IsSound, AreKeysInOrder, ArePartsInOrder, part_of, KeepsFrame}
 use Rattle.hfs_btree.proofs.LevelLemmas.{each-spots, map-split}
-use Rattle.hfs_btree_edits.proofs.KeptLemmas.{header-kept, marks-kept, free-same, flat_map-same}
+use Rattle.hfs_scans.proofs.PartLemmas.{flat_map-same}
+use Rattle.hfs_btree_edits.proofs.KeptLemmas.{header-kept, marks-kept, free-same}
 use Rattle.hfs_btree_edits.proofs.EditedLemmas.{IsEdited, height-in, head-stays, map-stays, turn-stays, leaves-stay, frame-stays, structure-stays}
 use Rattle.hfs_btree_edits.proofs.EditedOrderLemmas.{each-flat, turn-step}
 use Rattle.hfs_btree_edits.proofs.LevelPartLemmas.{KeepsUnder, same-flat}

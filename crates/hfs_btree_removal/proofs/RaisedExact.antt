@@ -11,6 +11,7 @@ use Rattle.hfs_btree.specs.Header.{record_in, depth_of, root_level, tree_turn}
 use Rattle.hfs_btree.specs.Sound.{IsRight, first_key}
 use Rattle.hfs_btree_edits.proofs.EditedLemmas.{IsEdited, height-in}
 use Rattle.hfs_btree_removal.proofs.ExactBut.{IsExactFor, IsExactBut, AreKeysExactFor, KeepsFirst, WasExact, exact-moved}
+use Rattle.hfs_btree_edits.proofs.ReleasedLemmas.{each-both}
 
 -- all but one element pass, and what stands in its place passes
 pub each-set_other : {X : Type 0} (P : X → Type 0) (xs : List X) (i : ℕ) (y : X) → Each P (take i xs) → Each P (drop (suc i) xs) → P y → Each P (set xs i y)
@@ -29,10 +30,6 @@ each-drop P [] zero h = tt
 each-drop P [] (suc i) h = tt
 each-drop P (x ∷ xs) zero h = h
 each-drop P (x ∷ xs) (suc i) h = each-drop P xs i h.1
-
-pub each-both : {X : Type 0} (P Q R : X → Type 0) (xs : List X) → ((x : X) → P x → Q x → R x) → Each P xs → Each Q xs → Each R xs
-each-both P Q R [] f a b = tt
-each-both P Q R (x ∷ xs) f a b = (f x a.0 b.0, each-both P Q R xs f a.1 b.1)
 
 module _ {K : Type 0} (g : Ghosts K) (old new : Store) (n : ℕ) (v : Node) (k place : ℕ) (made : List ℕ) (edit : IsEdited old new n v (set v.records place made)) (height : v.height ≡ suc k + 1)
     (turn-is : tree_turn g new ≡ turn g new (depth_of new) (root_level new)) (same-turn : tree_turn g new ≡ tree_turn g old) (rights : Each (IsRight g old) (tree_turn g old))

@@ -9,9 +9,7 @@ use Rattle.hfs_btree.specs.Sound.{IsSound, IsStray}
 use Rattle.hfs_btree_edits.specs.Stored.{IsReleased}
 use Rattle.hfs_btree_removal.specs.Removal.{AreReleased, AreStray}
 use Rattle.hfs_btree_edits.proofs.ReleasedLemmas.{released-sound, released-stray}
-
-abbrev no-step : Step
-no-step = record { node = 0; place = 0; count = 0 }
+use Rattle.hfs_btree_removal.proofs.KeysSet.{no-step}
 
 abbrev pub nodes-of : List Step → List ℕ
 nodes-of ss = map (λ (s : Step). s.node) ss

@@ -9,6 +9,7 @@ use Rattle.hfs_scans.specs.Each.{Each}
 use Rattle.hfs_btree.specs.Tree.{Store, node_in, forward_of}
 use Rattle.hfs_btree_edits.specs.Stored.{IsSame, bytes_in}
 use Rattle.hfs_btree_removal.specs.Removal.{HasUnlinked, IsUnlinkable, IsClear, AreUnlinkable, AreStepsUnlinked, backward_of, last_left, last_right}
+use Rattle.hfs_btree_removal.proofs.KeysSet.{no-step}
 
 abbrev AreSame : Store → Store → List Step → Type 0
 AreSame old new ss = Each (λ (s : Step). IsSame old new s.node) ss
@@ -56,9 +57,6 @@ last-right : (base : Store) (ss : List Step) (s : Step) → last_right base (ss 
 last-right base [] s = refl
 last-right base (t ∷ []) s = refl
 last-right base (t ∷ x ∷ ss) s = last-right base (x ∷ ss) s
-
-abbrev no-step : Step
-no-step = record { node = 0; place = 0; count = 0 }
 
 -- after i steps
 pub record AreDone (base : Store) (chain : List Step) (i : ℕ) (l r : ℕ) (nodes : Store) : Type 0 where

@@ -20,7 +20,8 @@ use Rattle.hfs_btree.specs.Header.{header_in, depth_of, root_level, leaves, free
 use Rattle.hfs_btree.specs.Sound.{IsDistinct, IsRight, IsSound, AreKeysInOrder, KeepsFrame}
 use Rattle.hfs_btree.proofs.LevelLemmas.{map-split}
 use Rattle.hfs_btree.proofs.DescentLemmas.{leaf-node, content-about}
-use Rattle.hfs_btree_edits.proofs.KeptLemmas.{flat_map-same, header-kept, marks-kept, free-same}
+use Rattle.hfs_scans.proofs.PartLemmas.{flat_map-same}
+use Rattle.hfs_btree_edits.proofs.KeptLemmas.{header-kept, marks-kept, free-same}
 use Rattle.hfs_btree_edits.proofs.EditedLemmas.{IsEdited, height-in, head-stays, map-stays, turn-stays, leaves-stay, frame-stays, structure-stays}
 use Rattle.hfs_btree_edits.proofs.EditedPairLemmas.{rises-before, rises-without, above-equal, without-at}
 use Rattle.hfs_btree_edits.proofs.EditedOrderLemmas.{StaysAt, keys-stay}

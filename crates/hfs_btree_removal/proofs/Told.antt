@@ -24,7 +24,8 @@ use Rattle.hfs_scans.specs.Members.{In}
 use Rattle.hfs_btree_edits.specs.LevelParts.{lift}
 use Rattle.hfs_btree_removal.proofs.Raised.{raised-sound, raised-keys, raised-content, raised-frame, raised-turn, raised-header, raised-free, raised-height}
 use Rattle.hfs_btree_removal.proofs.ExactBut.{AreKeysExactFor, IsExactFor, IsExactBut, exact-for}
-use Rattle.hfs_btree_removal.proofs.RaisedExact.{raised-exact, each-both}
+use Rattle.hfs_btree_edits.proofs.ReleasedLemmas.{each-both}
+use Rattle.hfs_btree_removal.proofs.RaisedExact.{raised-exact}
 use Rattle.hfs_btree_removal.proofs.NamedOnce.{HavePassing, turn-sons, named-once, own-before, own-behind}
 use Rattle.hfs_btree_removal.proofs.Removed.{HasTold}
 

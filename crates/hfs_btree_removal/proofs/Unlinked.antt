@@ -11,6 +11,8 @@ use Rattle.hfs_btree_edits.proofs.LevelPartLemmas.{numbers, numbers-spots}
 use Rattle.hfs_btree_removal.proofs.Chains.{Cut, with_node}
 use Rattle.hfs_btree_removal.proofs.Links.{last_or, IsKept, IsForward, IsBackward, IsFrontGap, IsBackGap}
 use Rattle.hfs_btree_removal.proofs.Detached.{HasGap}
+use Rattle.hfs_btree_edits.proofs.ReleasedLemmas.{apart as cross-back}
+use Rattle.hfs_btree.proofs.DistinctLemmas.{cross}
 pub use Rattle.hfs_btree_removal.specs.Removal.{HasUnlinked}
 
 abbrev pub Some : ℕ → Type 0
@@ -150,25 +152,9 @@ keep-all : (old new : Store) (ns ms : List ℕ) → ((m : ℕ) → m ≢ 0 → E
 keep-all old new [] ms f s o = tt
 keep-all old new (n ∷ ns) ms f s o = (f n s.0 o.0, keep-all old new ns ms f s.1 o.1)
 
-pub cross : (xs ys : List ℕ) → IsDistinct (xs ++ ys) → Each (λ x. Each (IsOther x) ys) xs
-cross [] ys h = tt
-cross (x ∷ xs) ys h = (each-right (IsOther x) xs ys h.0, cross xs ys h.1)
-
 flip-one : (y : ℕ) (xs : List ℕ) → Each (λ x. y ≢ x) xs → Each (IsOther y) xs
 flip-one y [] h = tt
 flip-one y (x ∷ xs) h = (λ e. h.0 (sym e), flip-one y xs h.1)
-
-pub cross-back : (xs ys : List ℕ) → IsDistinct (xs ++ ys) → Each (λ y. Each (IsOther y) xs) ys
-cross-back [] ys h = none ys
-  where
-    none : (zs : List ℕ) → Each (λ y. Each (IsOther y) []) zs
-    none [] = tt
-    none (z ∷ zs) = (tt, none zs)
-cross-back (x ∷ xs) ys h = both ys (each-right (IsOther x) xs ys h.0) (cross-back xs ys h.1)
-  where
-    both : (zs : List ℕ) → Each (IsOther x) zs → Each (λ y. Each (IsOther y) xs) zs → Each (λ y. Each (IsOther y) (x ∷ xs)) zs
-    both [] a b = tt
-    both (z ∷ zs) a b = ((λ e. a.0 (sym e), b.0), both zs a.1 b.1)
 
 pick : (P : ℕ → Type 0) (xs : List ℕ) (n : ℕ) (ys : List ℕ) → Each P (xs ++ n ∷ ys) → Each P (xs ++ ys)
 pick P xs n ys h = each-append P xs ys (each-left P xs (n ∷ ys) h) (each-right P xs (n ∷ ys) h).1

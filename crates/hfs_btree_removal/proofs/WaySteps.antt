@@ -18,6 +18,7 @@ use Rattle.hfs_btree_removal.specs.Ways.{IsStep, Leads, IsLastWide}
 use Rattle.hfs_btree.proofs.DecodedLemmas.{records-read}
 use Rattle.hfs_btree.proofs.DescentLemmas.{IsOnWay, way-some, place-within, index-entries}
 use Rattle.hfs_btree.proofs.FoundLemmas.{found-entries, found-body}
+use Rattle.hfs_btree_removal.proofs.KeysSet.{no-step}
 
 module _ {K : Type 0} (g : Ghosts K) (nodes : Store) where
   -- one step more
@@ -91,9 +92,6 @@ whole (suc n) (x ∷ xs) = ap (λ (ys : List Step). x ∷ ys) (whole n xs)
 
 abbrev AreOnes : List Step → Type 0
 AreOnes ss = Each (λ s. s.count ≤ 1) ss
-
-abbrev no-step : Step
-no-step = record { node = 0; place = 0; count = 0 }
 
 module _ (steps : List Step) (i : ℕ) (lt : i < length steps) (ones : AreOnes (drop (length steps - i) steps)) where
   abbrev at : ℕ

@@ -12,15 +12,9 @@ use Rattle.hfs_catalog.specs.Records.{Record}
 use Rattle.hfs_catalog.specs.Lookups.{catalog_item}
 use Rattle.hfs_call_edits.specs.Choosing.{map_ok, only_file, is_locked, unless_locked, file_part, is_locked_body, is_locked_item}
 use Rattle.hfs_queries.proofs.FolderLemmas.{folder_not_file}
-
-same_file : (f g : FileRecord) → File f ≡ File g → f ≡ g
-same_file f g e = cc
-
-pub same_ok : {A : Type 0} (x y : A) → ◌≡◌ {A = Result A ℤ} (Ok x) (Ok y) → x ≡ y
-same_ok x y e = cc
-
-pub err_ok : {A : Type 0} (code : ℤ) (x : A) → ◌≡◌ {A = Result A ℤ} (Err code) (Ok x) → ⊥
-err_ok code x e = cc
+use Rattle.hfs_queries.proofs.Files.{same_file}
+use Rattle.hfs_changes.proofs.Chosen.{same_ok}
+use Rattle.hfs_model.proofs.KeepsCalls.{err_is_ok}
 
 -- ---- what is chosen of it
 
@@ -33,7 +27,7 @@ module _ (chosen : Result Record ℤ) (item : CatalogItem) (is : Ok item ≡ map
           | true ↦ λ e'. refl
           | false ↦ λ e'. absurd (folder_not_file d _ (sym e'))
         ] (ap (λ (i : CatalogItem). i.body) (sym (same_ok item (catalog_item r) e)) ∙ body)
-    | Err code ↦ λ e. absurd (err_ok code item (sym e))
+    | Err code ↦ λ e. absurd (err_is_ok code item (sym e))
   ] is
 
   pub next_file : (f : FileRecord) → item.body ≡ File f → Ok (item.key, f) ≡ map_ok file_part (and_then chosen only_file)
@@ -45,7 +39,7 @@ module _ (chosen : Result Record ℤ) (item : CatalogItem) (is : Ok item ≡ map
           | true ↦ λ e'. absurd (folder_not_file _ f e')
           | false ↦ λ e'. λ i. Ok ((same i).key, sym (same_file _ f e') i)
         ] (ap (λ (i : CatalogItem). i.body) (sym same) ∙ body)
-    | Err code ↦ λ e. absurd (err_ok code item (sym e))
+    | Err code ↦ λ e. absurd (err_is_ok code item (sym e))
   ] is
 
   locked_is : (r : Record) → item ≡ catalog_item r → is_locked_item item ≡ is_locked r
@@ -57,7 +51,7 @@ module _ (chosen : Result Record ℤ) (item : CatalogItem) (is : Ok item ≡ map
     | Ok r ↦ λ e.
         let same = same_ok item (catalog_item r) e in
         by r same locked (sym (locked_is r same) ∙ lock)
-    | Err code ↦ λ e. absurd (err_ok code item (sym e))
+    | Err code ↦ λ e. absurd (err_is_ok code item (sym e))
   ] is
     where
       by : (r : Record) → item ≡ catalog_item r → (b : Bool) → is_locked r ≡ b → cond b (Err FILE_LOCKED) (Ok item) ≡ map_ok catalog_item (unless_locked r)

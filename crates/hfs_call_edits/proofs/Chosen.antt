@@ -36,7 +36,8 @@ use Rattle.hfs_call_edits.specs.Choosing as records
 use Rattle.hfs_call_edits.specs.Edits.{IsChosenFile, IsChosenFolder, IsChosenBody, ChoosesFile, ChoosesItem}
 use Rattle.hfs_queries.specs.Queries.{AreEntries}
 use Rattle.hfs_queries.specs.Told.{is_folder}
-use Rattle.hfs_call_edits.proofs.Choices.{same_ok, err_ok}
+use Rattle.hfs_changes.proofs.Chosen.{same_ok}
+use Rattle.hfs_model.proofs.KeepsCalls.{err_is_ok as err_ok}
 use Rattle.hfs_queries.proofs.ReplyLemmas.{folder_kind, folder_same}
 
 -- ---- the choices of a volume with these locks, whose entries the records answer for

@@ -182,7 +182,7 @@ code_or : (b : Bool) (code : ℤ) (x : Result ℕ ℤ) → int_eq code (pos 0) �
 code_or true code x other rest found e = subst (λ (c : ℤ). int_eq c (pos 0) ≡ false) (same_err code found e) other
 code_or false code x other rest found e = rest found e
 
-locked_code : (b : Bool) → int_eq (cond b HARDWARE_LOCKED SOFTWARE_LOCKED) (pos 0) ≡ false
+pub locked_code : (b : Bool) → int_eq (cond b HARDWARE_LOCKED SOFTWARE_LOCKED) (pos 0) ≡ false
 locked_code true = refl
 locked_code false = refl
 

@@ -1,6 +1,5 @@
 -- The files that calls on file IDs choose by the records of a catalog.
 use Rattle.std.proofs.Common.{◌≡◌, ℕ, ℤ, Bool, true, false, cond, refl, sym, ◌∙◌, ap, Option, Some, None, Ok, Err, Result}
-use Rattle.std.specs.Prelude.{is_some}
 use Rattle.std.specs.Option.{option_map, ok_or}
 use Rattle.std.proofs.lemmas.Bool.{true≢false}
 use Rattle.std.proofs.lemmas.Option.{none-some, same_Some}
@@ -8,29 +7,21 @@ use Rattle.hfs_fields.specs.declared.key.CatKey.{CatKey}
 use Rattle.hfs_fields.specs.declared.dir_record.DirRecord.{DirRecord}
 use Rattle.hfs_fields.specs.declared.file_record.FileRecord.{FileRecord}
 use Rattle.hfs_fields.specs.declared.mdb.Mdb.{Mdb}
-use Rattle.hfs_fields.specs.declared.thread_record.ThreadRecord.{ThreadRecord}
-use Rattle.hfs_fields.specs.Records.{is_dir, item_id, dir_record_of, file_record_of, thread_record_of}
+use Rattle.hfs_fields.specs.Records.{is_dir, item_id, dir_record_of, file_record_of}
 use Rattle.hfs_scans.proofs.MemberLemmas.{each_in}
 use Rattle.hfs_model.specs.declared.codes.TheConstants.{FILE_ID_NOT_FOUND, FILE_ID_EXISTS, NOT_A_FILE}
 use Rattle.hfs_model.specs.Choices.{and_then}
 use Rattle.hfs_catalog.specs.declared.item.ItemRecord.TheVariants.{Folder, File}
 use Rattle.hfs_catalog.specs.declared.item.CatalogItem.{CatalogItem}
-use Rattle.hfs_catalog.specs.Records.{Record, Catalog, item_with, has_thread, is_thread_of}
-use Rattle.hfs_catalog.specs.Lookups.{catalog_item, thread_of}
+use Rattle.hfs_catalog.specs.Records.{Record, Catalog, item_with, has_thread}
+use Rattle.hfs_catalog.specs.Lookups.{catalog_item}
 use Rattle.hfs_catalog.specs.Sound.{IsSoundCatalog}
 use Rattle.hfs_queries.proofs.FolderLemmas.{found_with, folder_not_file}
-use Rattle.hfs_queries.proofs.FoundLemmas.{is_some-find, is_some-option_map}
 use Rattle.hfs_call_edits.specs.Choosing.{map_ok, lock_code, unless_code, file_part}
 use Rattle.hfs_call_edits.specs.ChoosingFileIds.{unless_threaded, if_threaded, file_with_id}
-use Rattle.hfs_call_edits.proofs.Choices.{same_ok, err_ok}
-
--- whether the ID has a thread, by the look-up of it
-pub thread_known : (catalog : Catalog) (id : ℕ) (found : Option ThreadRecord) → found ≡ option_map (λ (r : Record). thread_record_of r.1) (thread_of catalog id) → has_thread catalog id ≡ is_some found
-thread_known catalog id found is =
-    sym (is_some-find (is_thread_of id) catalog) ∙ sym (is_some-option_map (λ (r : Record). thread_record_of r.1) (thread_of catalog id)) ∙ ap is_some (sym is)
-
-same_file : (f g : FileRecord) → File f ≡ File g → f ≡ g
-same_file f g e = cc
+use Rattle.hfs_changes.proofs.Chosen.{same_ok}
+use Rattle.hfs_model.proofs.KeepsCalls.{err_is_ok as err_ok}
+use Rattle.hfs_queries.proofs.Files.{same_file}
 
 -- what was chosen is a file's record
 pub record IsFileOf (chosen : Result Record ℤ) (key : CatKey) (file : FileRecord) : Type 0 where

@@ -36,9 +36,12 @@ use Rattle.hfs_call_edits.specs.Choosing as records
 use Rattle.hfs_call_edits.specs.Edits.{IsChosenFile, ChoosesFile}
 use Rattle.hfs_call_patches.specs.FileIds.{IsThreadless}
 use Rattle.hfs_call_edits.specs.ChoosingFileIds.{unless_threaded, if_threaded, file_without_id, file_with_id}
-use Rattle.hfs_call_edits.proofs.Choices.{same_ok, err_ok}
+use Rattle.hfs_changes.proofs.Chosen.{same_ok}
+use Rattle.hfs_model.proofs.KeepsCalls.{err_is_ok as err_ok}
 use Rattle.hfs_call_edits.proofs.Chosen.{child_same, child_is, chosen_file}
-use Rattle.hfs_call_patches.proofs.ChosenFileLemmas.{file_no_dir, file_id_is}
+use Rattle.hfs_changes.proofs.Made.{file-not_dir as file_no_dir}
+use Rattle.hfs_call_patches.proofs.ChosenFileLemmas.{file_id_is}
+use Rattle.hfs_call_edits.proofs.ChosenPlaces.{locked_code}
 
 -- ---- a file that has a thread, or none
 
@@ -267,15 +270,10 @@ module _ {A : Type 0} where
   refuses_then (Ok x) next e f = f x
   refuses_then (Err code) next e f = e
 
--- whichever lock it is
-lock_refuses : (b : Bool) → int_eq (cond b HARDWARE_LOCKED SOFTWARE_LOCKED) (pos 0) ≡ false
-lock_refuses true = refl
-lock_refuses false = refl
-
 child_refuses : (v : Volume) (dir : ℕ) (name : List ℕ) → Refuses (child_to_change v dir name)
 unfolding child_to_change
 child_refuses v dir name =
-    refuses_if (model.is_locked v) (model.lock_code v) _ (lock_refuses v.hardware_locked)
+    refuses_if (model.is_locked v) (model.lock_code v) _ (locked_code v.hardware_locked)
     (refuses_if (not (is_item_name name)) BAD_NAME _ refl
     (refuses_if (not (is_folder (entries_of v) dir)) NOT_A_FOLDER _ refl (refuses_or (child_named (entries_of v) dir name) NOT_FOUND refl)))
 

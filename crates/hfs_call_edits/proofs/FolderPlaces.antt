@@ -13,9 +13,9 @@ use Rattle.hfs_queries.proofs.FolderLemmas.{folder_not_file}
 use Rattle.hfs_queries.specs.Told.{only_folder, folder_with}
 use Rattle.hfs_call_patches.specs.declared.valences.FolderPlace.{FolderPlace}
 use Rattle.hfs_call_edits.specs.ChoosingMoving.{place_of, folder_place}
-use Rattle.hfs_call_edits.proofs.UpFolders.{key_is}
+use Rattle.hfs_call_edits.proofs.RenameChoice.{key_is}
 
-same_folder : (d e : DirRecord) → Folder d ≡ Folder e → d ≡ e
+pub same_folder : (d e : DirRecord) → Folder d ≡ Folder e → d ≡ e
 same_folder d e same = cc
 
 body_is : (item : CatalogItem) (r : Record) → item ≡ catalog_item r → is_dir r.1 ≡ true → item.body ≡ Folder (dir_record_of r.1)

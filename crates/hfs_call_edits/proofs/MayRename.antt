@@ -8,7 +8,7 @@ use Rattle.std.specs.Cmp.{nat_cmp_is}
 use Rattle.std.proofs.lemmas.Bool.{true≢false}
 use Rattle.hfs_fields.specs.declared.key.CatKey.{CatKey}
 use Rattle.hfs_fields.specs.Keys.{cat_cmp}
-use Rattle.hfs_fields.specs.Order.{name_cmp, name_cmp_total, same_name}
+use Rattle.hfs_fields.specs.Order.{name_cmp, same_name}
 use Rattle.hfs_btree.specs.Pairs.{lookup}
 use Rattle.hfs_model.specs.declared.call.Call.TheVariants as call
 use Rattle.hfs_model.specs.declared.reply.Value.TheVariants as value
@@ -31,18 +31,15 @@ use Rattle.hfs_changes.specs.SettingLaws.{ChoiceStands, with_name}
 use Rattle.hfs_call_patches.specs.declared.rekeying.Rekeying.{Rekeying}
 use Rattle.hfs_call_patches.specs.Rekeyings.{CanRekey}
 use Rattle.hfs_call_edits.specs.ChoosingRenaming.{IsRenaming}
-use Rattle.hfs_call_edits.proofs.Taken.{level}
 use Rattle.hfs_call_edits.proofs.StepMade.{change_refused, change_accepted}
 use Rattle.hfs_call_edits.proofs.ItemThere.{item_there}
+use Rattle.hfs_changes.proofs.FreeKeys.{same_through}
 
 -- ---- keys
 
 -- under one parent keys are as their names are
 one_parent : (n : ℕ) (o : Ordering) → ordering_then (nat_cmp n n) o ≡ o
 one_parent n o = ap (λ (q : Ordering). ordering_then q o) (sym (nat_cmp_is n n Equal refl))
-
-same_through : (x y z : List ℕ) → same_name x y ≡ true → same_name y z ≡ true → same_name x z ≡ true
-same_through x y z e f = ap is_eq (name_cmp_total.congr x y z (level (name_cmp x y) e)) ∙ f
 
 module _ (trees : TreesAreSound) (catalogs : CatalogIsSound) (stands : ChoiceStands) (free : RenameIsFree) (total : ℕ) (old : Blocks) (h : AreBlocksSound total old)
     (dir : ℕ) (name new_name : List ℕ) (item : Rekeying) (c : IsRenaming old dir name new_name item) where

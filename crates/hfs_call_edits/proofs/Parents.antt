@@ -14,9 +14,7 @@ use Rattle.hfs_queries.proofs.FolderLemmas.{folder_not_file}
 use Rattle.hfs_queries.proofs.FoundLemmas.{is_some-option_map}
 use Rattle.hfs_queries.specs.Told.{only_folder, folder_with, is_folder}
 use Rattle.hfs_call_patches.specs.Deleting.{IsParent}
-
-same_folder : (d e : DirRecord) → Folder d ≡ Folder e → d ≡ e
-same_folder d e f = cc
+use Rattle.hfs_call_edits.proofs.FolderPlaces.{same_folder}
 
 -- nothing was found
 pub no_parent : (catalog : Catalog) (dir : ℕ) → None ≡ option_map catalog_item (folder_with catalog dir) → is_folder catalog dir ≡ false

@@ -14,7 +14,8 @@ use Rattle.hfs_catalog.specs.Lookups.{catalog_item}
 use Rattle.hfs_call_patches.specs.declared.rekeying.Rekeying.{Rekeying}
 use Rattle.hfs_call_edits.specs.Choosing.{map_ok, unless_code}
 use Rattle.hfs_call_edits.specs.ChoosingRenaming.{own_body_id, own_id, is_taken, unless_taken, renaming}
-use Rattle.hfs_call_edits.proofs.Choices.{same_ok, err_ok}
+use Rattle.hfs_changes.proofs.Chosen.{same_ok}
+use Rattle.hfs_model.proofs.KeepsCalls.{err_is_ok as err_ok}
 
 -- the item of a record has its ID
 pub own_is : (item : CatalogItem) (r : Record) → item ≡ catalog_item r → own_id item ≡ item_id r.1
@@ -34,7 +35,7 @@ opened None e true is x = refl
 opened None e false is x = absurd (true≢false (sym is))
 opened (Some code) e named is x = absurd (none-some code e)
 
-key_is : (item : CatalogItem) (r : Record) → item ≡ catalog_item r → item.key ≡ r.0
+pub key_is : (item : CatalogItem) (r : Record) → item ≡ catalog_item r → item.key ≡ r.0
 unfolding catalog_item
 key_is item r same = ap (λ (x : CatalogItem). x.key) same
 

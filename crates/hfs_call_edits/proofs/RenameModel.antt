@@ -8,7 +8,7 @@ use Rattle.hfs_fields.specs.declared.mdb.Mdb.{Mdb}
 use Rattle.hfs_fields.specs.Names.{is_item_name}
 use Rattle.hfs_fields.specs.Order.{same_name}
 use Rattle.hfs_fields.specs.Records.{is_dir, is_item, is_bit_set, item_id}
-use Rattle.hfs_model.specs.declared.codes.TheConstants.{BAD_NAME, DUPLICATE, NOT_FOUND, NOT_A_FOLDER, FILE_LOCKED, HARDWARE_LOCKED, SOFTWARE_LOCKED}
+use Rattle.hfs_model.specs.declared.codes.TheConstants.{BAD_NAME, DUPLICATE, NOT_FOUND, NOT_A_FOLDER, FILE_LOCKED}
 use Rattle.hfs_model.specs.Volume.{Volume, Entry}
 use Rattle.hfs_model.specs.Children.{entries_of, is_folder, child_named}
 use Rattle.hfs_model.specs.Choices.{and_then, child_to_change, to_rename, unless_locked_file, is_locked, lock_code, to_set_cat_info}
@@ -33,9 +33,12 @@ use Rattle.hfs_call_patches.specs.declared.rekeying.Rekeying.{Rekeying}
 use Rattle.hfs_call_edits.specs.Choosing.{map_ok, unless_code, unless_locked, item_to_set}
 use Rattle.hfs_call_edits.specs.Choosing as records
 use Rattle.hfs_call_edits.specs.ChoosingRenaming.{is_taken, unless_taken, item_to_rename, renaming, IsRenaming, ChoosesRenaming}
-use Rattle.hfs_call_edits.proofs.Choices.{same_ok, err_ok}
+use Rattle.hfs_changes.proofs.Chosen.{same_ok}
+use Rattle.hfs_model.proofs.KeepsCalls.{err_is_ok as err_ok}
 use Rattle.hfs_call_edits.proofs.Chosen.{by_lock, by_test, next_same, item_same, here}
 use Rattle.hfs_call_edits.proofs.Taken.{taken_is}
+use Rattle.hfs_call_edits.proofs.ChosenPlaces.{locked_code}
+use Rattle.hfs_model.proofs.Facts.{not_not}
 
 -- ---- the same choice
 
@@ -84,10 +87,6 @@ next : (x : Result Record ℤ) (f : Record → Result Record ℤ) (r : Record) �
 next (Ok q) f r same e = ap Ok (same q e)
 next (Err code) f r same e = absurd (err_ok code r e)
 
-not_false : (b : Bool) → not b ≡ false → b ≡ true
-not_false true e = refl
-not_false false e = absurd (true≢false e)
-
 there : (o : Option Record) (r : Record) → ok_or o NOT_FOUND ≡ Ok r → o ≡ Some r
 there None r e = absurd (err_ok NOT_FOUND r e)
 there (Some q) r e = ap Some (same_ok q r e)
@@ -102,7 +101,7 @@ pub child_parts : (mdb : Mdb) (catalog : Catalog) (dir : ℕ) (name : List ℕ) 
 child_parts mdb catalog dir name r e =
     let named = unless (not (is_item_name name)) BAD_NAME _ r (unlocked (records.lock_code mdb) _ r e) in
     let folder = unless (not (told.is_folder catalog dir)) NOT_A_FOLDER _ r named.1 in
-    record { named = not_false (is_item_name name) named.0; folder = not_false (told.is_folder catalog dir) folder.0; found = there (lookups.child_named catalog dir name) r folder.1 }
+    record { named = not_not (is_item_name name) named.0; folder = not_not (told.is_folder catalog dir) folder.0; found = there (lookups.child_named catalog dir name) r folder.1 }
 
 rename_parts : (mdb : Mdb) (catalog : Catalog) (dir : ℕ) (name new_name : List ℕ) (r : Record) → item_to_rename mdb catalog dir name new_name ≡ Ok r
     → IsNamedChild catalog dir name r × (is_item_name new_name ≡ true)
@@ -110,7 +109,7 @@ rename_parts mdb catalog dir name new_name r e =
     let named = unless (not (is_item_name new_name)) BAD_NAME _ r (unlocked (records.lock_code mdb) _ r e) in
     let set = next (item_to_set mdb catalog dir name) (unless_taken catalog dir new_name) r (λ q f. same_ok q r (unless (is_taken catalog dir new_name (item_id q.1)) DUPLICATE (Ok q) r f).1) named.1 in
     let child = next (records.child_to_change mdb catalog dir name) unless_locked r (λ q f. same_ok q r (unless (records.is_locked q) FILE_LOCKED (Ok q) r f).1) set in
-    (child_parts mdb catalog dir name r child, not_false (is_item_name new_name) named.0)
+    (child_parts mdb catalog dir name r child, not_not (is_item_name new_name) named.0)
 
 -- the folder of an ID
 pub folder_found : (catalog : Catalog) (dir : ℕ) → told.is_folder catalog dir ≡ true → (q : Record) × IsFolderWith catalog dir q
@@ -141,21 +140,17 @@ coded_or : {A : Type 0} (o : Option A) → IsCoded (ok_or o NOT_FOUND)
 coded_or None = refl
 coded_or (Some x) = tt
 
-coded_lock : (b : Bool) → int_eq (cond b HARDWARE_LOCKED SOFTWARE_LOCKED) (pos 0) ≡ false
-coded_lock true = refl
-coded_lock false = refl
-
 pub child_coded : (v : Volume) (dir : ℕ) (name : List ℕ) → IsCoded (child_to_change v dir name)
 unfolding child_to_change
 child_coded v dir name =
-    coded_test (is_locked v) (lock_code v) _ (coded_lock v.hardware_locked)
+    coded_test (is_locked v) (lock_code v) _ (locked_code v.hardware_locked)
     (coded_test (not (is_item_name name)) BAD_NAME _ refl
     (coded_test (not (is_folder (entries_of v) dir)) NOT_A_FOLDER _ refl (coded_or (child_named (entries_of v) dir name))))
 
 rename_coded : (v : Volume) (dir : ℕ) (name new_name : List ℕ) → IsCoded (to_rename v dir name new_name)
 unfolding to_rename
 rename_coded v dir name new_name =
-    coded_test (is_locked v) (lock_code v) _ (coded_lock v.hardware_locked)
+    coded_test (is_locked v) (lock_code v) _ (locked_code v.hardware_locked)
     (coded_test (not (is_item_name new_name)) BAD_NAME _ refl
     (coded_then (and_then (child_to_change v dir name) unless_locked_file) _
     (coded_then (child_to_change v dir name) unless_locked_file (child_coded v dir name) (λ e. coded_test _ FILE_LOCKED (Ok e) refl tt))

@@ -1,86 +1,25 @@
 -- Whether another item of a folder has a name, in a lawful volume: by the one that a search for the name finds.
-use Rattle.std.proofs.Common.{◌≡◌, ⊎_elim, ℕ, Bool, true, false, cond, not, ◌&&◌, eqb, List, [], ◌∷◌, refl, sym, ◌∙◌, ap, Option, Some, None}
-use Rattle.std.specs.Prelude.{T, is_some}
-use Rattle.std.specs.declared.cmp.Ordering.{Ordering}
-use Rattle.std.specs.declared.cmp.Ordering.TheVariants.{Less, Equal, Greater}
-use Rattle.std.specs.FinMap.Entries.{below_all, is_sorted}
-use Rattle.std.specs.Ordering.{nat_cmp, is_eq, is_lt, ordering_reverse}
-use Rattle.std.specs.Cmp.{unsigned_ties, nat_cmp_total}
+use Rattle.std.proofs.Common.{◌≡◌, ℕ, Bool, true, false, not, eqb, List, refl, sym, ◌∙◌, ap, Option, Some, None}
+use Rattle.std.specs.Prelude.{is_some}
+use Rattle.std.specs.declared.cmp.Ordering.TheVariants.{Equal}
+use Rattle.std.specs.Ordering.{is_eq, ordering_reverse}
 use Rattle.std.specs.Option.{option_map_or}
 use Rattle.std.specs.List.{find}
 use Rattle.std.specs.FinMap as map
-use Rattle.std.proofs.lemmas.Bool.{cases_eq, eq-eqb, ne_eqb, eqb-true, true≢false, and_parts, and_from}
-use Rattle.std.proofs.lemmas.Option.{none-some, same_Some}
+use Rattle.std.proofs.lemmas.Bool.{eqb-true, and_parts, and_from}
 use Rattle.hfs_fields.specs.Order.{name_cmp, name_cmp_total, same_name}
-use Rattle.hfs_model.specs.declared.item.Item.{Item}
 use Rattle.hfs_model.specs.Volume.{Items, Entry}
 use Rattle.hfs_model.specs.Children.{child_named, is_child, is_child_named}
 use Rattle.hfs_model.specs.Choices.{is_taken, is_other_named}
-use Rattle.hfs_model.specs.Lawful.{Has, AreLawful}
-
--- ---- what a search of a map's entries finds
-
-first_half : (a b : Bool) → T (a && b) → T a
-first_half true b p = tt
-first_half false b p = p
-
-second_half : (a b : Bool) → T (a && b) → T b
-second_half true b p = p
-second_half false b p = absurd p
-
-is_less : (r : Ordering) → T (is_lt r) → r ≡ Less
-is_less Less p = refl
-is_less Equal p = absurd p
-is_less Greater p = absurd p
-
-below_found : (p : Entry → Bool) (x : ℕ) (es : List Entry) (e : Entry) → T (below_all nat_cmp x es) → find p es ≡ Some e → nat_cmp x e.0 ≡ Less
-below_found p x [] e h is = absurd (none-some e is)
-below_found p x (f ∷ fs) e h is = elim (p f) as (λ b. cond b (Some f) (find p fs) ≡ Some e → nat_cmp x e.0 ≡ Less) [
-  | true ↦ λ here. ap (λ (y : Entry). nat_cmp x y.0) (sym (same_Some f e here)) ∙ is_less _ (first_half _ _ h)
-  | false ↦ λ later. below_found p x fs e (second_half _ _ h) later
-] is
-
-search_finds : (p : Entry → Bool) (es : List Entry) (e : Entry) → T (is_sorted nat_cmp es) → find p es ≡ Some e → (map.find nat_cmp e.0 es ≡ Some e.1) × (p e ≡ true)
-search_finds p [] e h is = absurd (none-some e is)
-search_finds p (f ∷ fs) e h is = elim (p f) as (λ b. p f ≡ b → cond b (Some f) (find p fs) ≡ Some e → (map.find nat_cmp e.0 (f ∷ fs) ≡ Some e.1) × (p e ≡ true)) [
-  | true ↦ λ holds here.
-      let same = same_Some f e here in
-      (ap (λ b. cond b (Some f.1) (map.find nat_cmp e.0 fs)) (sym (unsigned_ties e.0 f.0) ∙ eq-eqb e.0 f.0 (sym (ap (λ (y : Entry). y.0) same))) ∙ ap (λ (y : Entry). Some y.1) same, ap p (sym same) ∙ holds)
-  | false ↦ λ fails later.
-      let rest = search_finds p fs e (second_half _ _ h) later in
-      let apart : nat_cmp e.0 f.0 ≡ Greater = nat_cmp_total.antisymm e.0 f.0 ∙ ap ordering_reverse (below_found p f.0 fs e (first_half _ _ h) later) in
-      (ap (λ r. cond (is_eq r) (Some f.1) (map.find nat_cmp e.0 fs)) apart ∙ rest.0, rest.1)
-] refl is
-
-found_has : (m : Items) (p : Entry → Bool) (e : Entry) → find p (map.entries m) ≡ Some e → Has m e.0 e.1 × (p e ≡ true)
-found_has m p e is = let both = search_finds p (map.entries m) e (map.entries_sorted m) is in (map.get-entries m e.0 ∙ both.0, both.1)
-
--- no entry passes a test at which the search found none
-no_entry : (p : Entry → Bool) (es : List Entry) (q : ℕ) (j : Item) → find p es ≡ None → map.find nat_cmp q es ≡ Some j → p (q, j) ≡ true → ⊥
-no_entry p [] q j none has holds = none-some j has
-no_entry p (f ∷ fs) q j none has holds = elim (p f) as (λ b. p f ≡ b → cond b (Some f) (find p fs) ≡ None → ⊥) [
-  | true ↦ λ e is. none-some f (sym is)
-  | false ↦ λ e is. ⊎_elim
-      (λ (same : q ≡ f.0).
-      let here : f.1 ≡ j = same_Some f.1 j (sym (ap (λ b. cond b (Some f.1) (map.find nat_cmp q fs)) (sym (unsigned_ties q f.0) ∙ eq-eqb q f.0 same)) ∙ has) in
-      true≢false (sym holds ∙ (λ i. p (same i, sym here i)) ∙ e))
-      (λ (other : q ≡ f.0 → ⊥).
-      no_entry p fs q j is (sym (ap (λ b. cond b (Some f.1) (map.find nat_cmp q fs)) (sym (unsigned_ties q f.0) ∙ ne_eqb q f.0 other)) ∙ has) holds)
-      (cases_eq q f.0)
-] refl none
-
--- ---- names
-
-pub level : (o : Ordering) → is_eq o ≡ true → o ≡ Equal
-level Less e = absurd (true≢false (sym e))
-level Equal e = refl
-level Greater e = absurd (true≢false (sym e))
+use Rattle.hfs_model.specs.Lawful.{AreLawful}
+use Rattle.hfs_model.proofs.Facts.{found_has, no_entry}
+use Rattle.hfs_fields.proofs.OrderLemmas.{eq_is}
 
 -- two names that are the same as a third are the same
 both_same : (x y z : List ℕ) → same_name x z ≡ true → same_name y z ≡ true → same_name x y ≡ true
 both_same x y z e f =
-    let back : name_cmp z y ≡ Equal = name_cmp_total.antisymm z y ∙ ap ordering_reverse (level (name_cmp y z) f) in
-    ap is_eq (name_cmp_total.congr x z y (level (name_cmp x z) e) ∙ back)
+    let back : name_cmp z y ≡ Equal = name_cmp_total.antisymm z y ∙ ap ordering_reverse (eq_is (name_cmp y z) f) in
+    ap is_eq (name_cmp_total.congr x z y (eq_is (name_cmp x z) e) ∙ back)
 
 module _ (m : Items) (next : ℕ) (lawful : AreLawful m next) (dir : ℕ) (name : List ℕ) (id : ℕ) where
   abbrev those : List Entry

@@ -30,7 +30,8 @@ use Rattle.hfs_call_edits.specs.Choosing.{map_ok, lock_code, unless_code, is_loc
 use Rattle.hfs_call_edits.specs.Choosing as records
 use Rattle.hfs_call_edits.specs.ChoosingDelete.{is_busy, unless_held, item_to_delete, is_busy_item, is_busy_body}
 use Rattle.hfs_call_edits.specs.Edits.{ChoosesItem}
-use Rattle.hfs_call_edits.proofs.Choices.{same_ok, err_ok}
+use Rattle.hfs_changes.proofs.Chosen.{same_ok}
+use Rattle.hfs_model.proofs.KeepsCalls.{err_is_ok as err_ok}
 use Rattle.hfs_call_edits.proofs.Chosen.{child_same, child_is, chosen_body}
 
 -- ---- what is chosen of the child

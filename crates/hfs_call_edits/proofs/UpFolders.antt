@@ -16,10 +16,7 @@ use Rattle.hfs_changes.specs.OffspringLaws.{lies_by_parents}
 use Rattle.hfs_queries.proofs.FolderLemmas.{found_with}
 use Rattle.hfs_queries.specs.Told.{only_folder, folder_with}
 use Rattle.hfs_call_edits.specs.ChoosingMoving.{up_by_folders}
-
-pub key_is : (item : CatalogItem) (r : Record) → item ≡ catalog_item r → item.key ≡ r.0
-unfolding catalog_item
-key_is item r same = ap (λ (x : CatalogItem). x.key) same
+use Rattle.hfs_call_edits.proofs.RenameChoice.{key_is}
 
 -- ---- one step
 

@@ -30,7 +30,8 @@ use Rattle.hfs_call_patches.specs.CatalogPatch.{KeepsNamed, HasCatalog}
 use Rattle.hfs_call_patches.specs.TreeFiles.{IsCatalogFile}
 use Rattle.hfs_call_patches.specs.Settings.{PutsCounts}
 use Rattle.hfs_call_patches.proofs.IndexNames.{kept_names}
-use Rattle.hfs_call_patches.proofs.Placed.{each_take, below_area, IsAt, place_of, behind_first, at_place}
+use Rattle.hfs_changes.proofs.CatalogEdits.{each_take}
+use Rattle.hfs_call_patches.proofs.Placed.{below_area, IsAt, place_of, behind_first, at_place}
 
 -- ---- the catalog's nodes through an empty patch
 

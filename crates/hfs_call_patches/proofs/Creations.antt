@@ -1,12 +1,9 @@
 -- What a new item makes of a volume.
-use Rattle.std.proofs.Common.{◌≡◌, ℕ, ◌+◌, ◌<◌, ◌≤◌, ◌^◌, true, List, length, refl, sym, ◌∙◌, ap, subst, arith, inl, inr, Some, None}
+use Rattle.std.proofs.Common.{◌≡◌, ℕ, ◌+◌, ◌<◌, ◌^◌, true, List, refl, sym, ◌∙◌, ap, subst, arith, inl, inr, Some, None}
 use Rattle.hfs_fields.specs.declared.key.CatKey.{CatKey}
 use Rattle.hfs_fields.specs.declared.mdb.Mdb.{Mdb}
-use Rattle.std.specs.Prelude.{◌&&◌, nat_le}
-use Rattle.std.specs.List.{list_all}
-use Rattle.std.proofs.lemmas.Bool.{leb-true, and_parts}
 use Rattle.hfs_fields.specs.Counts.{with_counts}
-use Rattle.hfs_fields.specs.Names.{is_item_name, is_name_character}
+use Rattle.hfs_fields.specs.Names.{is_item_name}
 use Rattle.hfs_fields.specs.Records.{dir_record_of}
 use Rattle.hfs_fields.specs.RecordForms.{IsDirRecordValue}
 use Rattle.hfs_blocks.specs.declared.run.Run.{Run}
@@ -38,6 +35,7 @@ use Rattle.hfs_call_patches.specs.CallChanges.{IsChangeOf}
 use Rattle.hfs_call_patches.specs.NewItems.{IsOwnFolder, TakesItem, TakesFolder, HasPutFile, PutsFile, HasPutFolder, PutsFolder}
 use Rattle.hfs_call_patches.specs.ReadyPlaces.{IsReady}
 use Rattle.hfs_call_patches.proofs.CreationAnswerLemmas.{file_answered, folder_answered}
+use Rattle.hfs_changes.proofs.NewItems.{named_long}
 
 -- ---- what the calls answer
 
@@ -47,9 +45,6 @@ file_in {id = id} {dir = dir} {now = now} {place = place} {middle = middle} same
 
 pub folder_in : {id dir now : ℕ} {place : NewPlace} {opened nodes middle : Store} → opened ≡ nodes → PutsFolder id dir place now opened middle → PutsFolder id dir place now nodes middle
 folder_in {id = id} {dir = dir} {now = now} {place = place} {middle = middle} same puts = subst (λ (s : Store). PutsFolder id dir place now s middle) same puts
-
-some_text : (name : List ℕ) → is_item_name name ≡ true → 1 ≤ length name
-some_text name named = leb-true 1 (length name) (and_parts (nat_le 1 (length name)) (nat_le (length name) 31) (and_parts (nat_le 1 (length name) && nat_le (length name) 31) (list_all is_name_character name) named).0).0
 
 -- ---- a volume that is ready
 
@@ -82,7 +77,7 @@ module _ (total dir : ℕ) (old : Blocks) (runs : List Run) (mdb : Mdb) (place :
   unfolding catalog_in
   takes_folder low free threadless = record {
     item = takes_item low free;
-    some_name = some_text place.name ready.chosen.named;
+    some_name = named_long place.name ready.chosen.named;
     some_id = omega (arith, ready.sound.mdb.next_id, ap (λ (m : Mdb). m.next_id) ready.directory);
     threadless = no_thread_key mdb.next_id (catalog_in old) ready.sound.records
         (subst (λ (m : Mdb). thread_of (catalog_in old) m.next_id ≡ None) (sym ready.directory) (threadless total old ready.sound));

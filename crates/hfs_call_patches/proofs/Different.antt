@@ -17,16 +17,14 @@ use Rattle.hfs_space.specs.Owners.{forks_of, catalog_fork, extents_in, bad_exten
 use Rattle.hfs_space.specs.TreeFiles.{node_count, tree_blocks}
 use Rattle.hfs_check.specs.Parts.{Blocks, mdb_in, overflow_in, catalog_extents, catalog_blocks, catalog_in, owned_in}
 use Rattle.hfs_check.specs.Sound.{AreBlocksSound}
+use Rattle.hfs_btree.proofs.DistinctLemmas.{distinct-append}
+use Rattle.hfs_changes.proofs.Frames.{each_range}
 
 -- ---- lists in which no number stands twice
 
 pub distinct-left : (xs ys : List ℕ) → IsDistinct (xs ++ ys) → IsDistinct xs
 distinct-left [] ys h = tt
 distinct-left (x ∷ xs) ys h = (each-left (IsOther x) xs ys h.0, distinct-left xs ys h.1)
-
-distinct-append : (xs ys : List ℕ) → IsDistinct xs → IsDistinct ys → Each (λ x. Each (IsOther x) ys) xs → IsDistinct (xs ++ ys)
-distinct-append [] ys h k apart = k
-distinct-append (x ∷ xs) ys h k apart = (each-append (IsOther x) xs ys h.0 apart.0, distinct-append xs ys h.1 k apart.1)
 
 each-take : (P : ℕ → Type 0) (n : ℕ) (xs : List ℕ) → Each P xs → Each P (take n xs)
 each-take P zero [] h = tt
@@ -40,18 +38,9 @@ distinct-take zero (x ∷ xs) h = tt
 distinct-take (suc n) [] h = tt
 distinct-take (suc n) (x ∷ xs) h = (each-take (IsOther x) n xs h.0, distinct-take n xs h.1)
 
--- ---- ranges
-
-each-range : (P : ℕ → Type 0) (a n : ℕ) → ((j : ℕ) → j < n → P (a + j)) → Each P (range_with_len a n)
-each-range P a zero h = tt
-each-range P a (suc n) h = (
-  subst P (let e : a + 0 ≡ a = omega arith in e) (h 0 (omega arith)),
-  each-range P (a + 1) n (λ j lt. subst P (let e : a + suc j ≡ a + 1 + j = omega arith in e) (h (suc j) (omega arith))),
-)
-
 distinct-range : (a n : ℕ) → IsDistinct (range_with_len a n)
 distinct-range a zero = tt
-distinct-range a (suc n) = (each-range (IsOther a) (a + 1) n (λ j lt same. omega (arith, same)), distinct-range (a + 1) n)
+distinct-range a (suc n) = (each_range (IsOther a) (a + 1) n (λ j lt same. omega (arith, same)), distinct-range (a + 1) n)
 
 -- ---- the logical blocks of allocation blocks
 
@@ -68,14 +57,14 @@ module _ (mdb : Mdb) where
   other-rows a j low [] h = tt
   other-rows a j low (c ∷ cs) h =
       each-append (IsOther (mdb.allocation_start + a * blocks_each mdb + j)) (row c) (flat_map row cs)
-      (each-range (IsOther (mdb.allocation_start + a * blocks_each mdb + j)) (mdb.allocation_start + c * blocks_each mdb) (blocks_each mdb) (λ k high same. h.0 (one_place c a k j high low same)))
+      (each_range (IsOther (mdb.allocation_start + a * blocks_each mdb + j)) (mdb.allocation_start + c * blocks_each mdb) (blocks_each mdb) (λ k high same. h.0 (one_place c a k j high low same)))
       (other-rows a j low cs h.1)
 
   pub distinct-rows : (cs : List ℕ) → IsDistinct cs → IsDistinct (flat_map row cs)
   distinct-rows [] h = tt
   distinct-rows (c ∷ cs) h =
       distinct-append (row c) (flat_map row cs) (distinct-range _ (blocks_each mdb)) (distinct-rows cs h.1)
-      (each-range (λ x. Each (IsOther x) (flat_map row cs)) (mdb.allocation_start + c * blocks_each mdb) (blocks_each mdb) (λ j low. other-rows c j low cs h.0))
+      (each_range (λ x. Each (IsOther x) (flat_map row cs)) (mdb.allocation_start + c * blocks_each mdb) (blocks_each mdb) (λ j low. other-rows c j low cs h.0))
 
   abbrev one : ℕ → List ℕ
   one n = n ∷ []

@@ -1,21 +1,14 @@
 -- A file's record that was put with the flag, and then a thread that came or went.
-use Rattle.std.proofs.Common.{◌≡◌, inl, inr, ⊎_elim, ℕ, ◌≤◌, Bool, true, false, ◌&&◌, ◌==◌, List, [], ◌∷◌, length, refl, sym, ap, subst, arith, Option, Some, None}
-use Rattle.std.specs.Prelude.{IsTrue, nat_le, Ok, Err, Result, OnOk}
-use Rattle.std.specs.List.{list_all}
-use Rattle.std.specs.Ordering.{nat_cmp, is_eq, ordering_then}
-use Rattle.std.specs.Cmp.{ranked}
-use Rattle.std.specs.declared.cmp.Ordering.{Ordering}
-use Rattle.std.specs.declared.cmp.Ordering.TheVariants.{Less, Equal, Greater}
-use Rattle.std.proofs.lemmas.Bool.{and_parts, leb-true, or_right, true≢false}
+use Rattle.std.proofs.Common.{◌≡◌, inl, inr, ⊎_elim, ◌≤◌, Bool, true, false, [], ◌∷◌, refl, ap, subst, arith, Option, Some, None}
+use Rattle.std.specs.Prelude.{IsTrue}
+use Rattle.std.proofs.lemmas.Bool.{or_right}
 use Rattle.hfs_fields.specs.declared.key.CatKey.{CatKey}
 use Rattle.hfs_fields.specs.declared.file_record.FileRecord.{FileRecord}
 use Rattle.hfs_fields.specs.declared.thread_record.ThreadKind.TheVariants as kind
 use Rattle.hfs_fields.specs.Keys.{cat_cmp}
-use Rattle.hfs_fields.specs.Names.{is_item_name, is_name_character}
-use Rattle.hfs_fields.specs.Order.{name_cmp}
+use Rattle.hfs_fields.specs.Names.{is_item_name}
 use Rattle.hfs_fields.specs.Records.{is_dir, is_file, new_thread}
 use Rattle.hfs_fields.specs.RecordForms.{IsFileRecordValue, file_record_bytes, IsThreadRecordValue}
-use Rattle.hfs_fields.proofs.RecordFormLemmas.{length-file_record_bytes}
 use Rattle.hfs_scans.specs.Each.{Each}
 use Rattle.hfs_scans.specs.Members.{In}
 use Rattle.hfs_scans.proofs.MemberLemmas.{found_in}
@@ -35,28 +28,9 @@ use Rattle.hfs_catalog_edits.specs.Swaps.{list_of}
 use Rattle.hfs_catalog_edits.proofs.SwapLemmas.{swapped_each}
 use Rattle.hfs_changes.specs.FileIdLaws.{with_thread_flag}
 use Rattle.hfs_call_patches.specs.FileIds.{flagged_file, file_thread, FileIdCame, FileIdWent}
-
-pub both_ok : {A E : Type 0} (r : Result A E) (P Q : Type 0) → OnOk r P → OnOk r Q → OnOk r (P × Q)
-both_ok (Ok x) P Q h k = (h, k)
-both_ok (Err e) P Q h k = h
-
-named_long : (name : List ℕ) → is_item_name name ≡ true → 1 ≤ length name
-named_long name is =
-    let parts = and_parts (nat_le 1 (length name) && nat_le (length name) 31) (list_all is_name_character name) is in
-    leb-true 1 (length name) (and_parts (nat_le 1 (length name)) (nat_le (length name) 31) parts.0).0
-
--- keys that are equal in order have one parent
-equal_parents : (x y : CatKey) → is_eq (cat_cmp x y) ≡ true → x.parent ≡ y.parent
-equal_parents x y e = elim (nat_cmp x.parent y.parent) as (λ (o : Ordering). nat_cmp x.parent y.parent ≡ o → is_eq (ordering_then o (name_cmp x.name y.name)) ≡ true → x.parent ≡ y.parent) [
-  | Less ↦ λ is h. absurd (true≢false (sym h))
-  | Equal ↦ λ is h. ranked x.parent y.parent Equal (sym is)
-  | Greater ↦ λ is h. absurd (true≢false (sym h))
-] refl e
-
--- the body of a file's record is a file's
-written_file : (f : FileRecord) → IsFileRecordValue f → is_file (file_record_bytes f) ≡ true
-unfolding file_record_bytes
-written_file f ok = ap (λ (n : ℕ). n == 102) (length-file_record_bytes f ok)
+use Rattle.hfs_changes.proofs.NewItems.{named_long}
+use Rattle.hfs_catalog_edits.proofs.ItemSteps.{equal_parents}
+use Rattle.hfs_changes.proofs.Made.{file-is}
 
 -- the file's record as the program has it, which is the one with the flag
 module _ (there : Bool) (key : CatKey) (file written : FileRecord) (same : written ≡ with_thread_flag there file) (named : IsTrue (is_item_name key.name)) (old middle : Store)
@@ -89,7 +63,7 @@ module _ (there : Bool) (key : CatKey) (file written : FileRecord) (same : writt
   records_between records =
       let bytes = file_record_bytes (with_thread_flag there file) in
       swapped_each IsRecord (record_at key (catalog_of old)) (Some (flagged_file there key file)) (catalog_of old) (catalog_of middle) set.swap records
-      (inl (or_right (is_dir bytes) (is_file bytes) (written_file (with_thread_flag there file) flagged_value), named_long key.name named), tt)
+      (inl (or_right (is_dir bytes) (is_file bytes) (file-is (with_thread_flag there file) flagged_value), named_long key.name named), tt)
 
 -- ---- the thread of a file that got one
 

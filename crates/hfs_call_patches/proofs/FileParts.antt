@@ -16,6 +16,8 @@ use Rattle.hfs_space.specs.TreeFiles.{node_count, tree_blocks}
 use Rattle.hfs_check.specs.Parts.{Blocks, mdb_in, extents_blocks, overflow_in, catalog_extents}
 use Rattle.hfs_check.specs.Sound.{AreBlocksSound}
 use Rattle.hfs_call_patches.proofs.Different.{distinct-left, distinct-take, numbers-are, distinct-rows, owned-parts, others}
+use Rattle.hfs_btree.proofs.DistinctLemmas.{cross}
+use Rattle.hfs_changes.proofs.Frames.{each_range}
 
 -- ---- numbers beside a row
 
@@ -31,27 +33,12 @@ outside_range n a (suc k) h =
     less low other (inl lt) = lt
     less low other (inr ge) = absurd (other (omega (arith, low, ge)))
 
--- ---- the logical blocks of a file are behind the first allocation block's
-
-each_range : (P : ℕ → Type 0) (a n : ℕ) → ((j : ℕ) → j < n → P (a + j)) → Each P (range_with_len a n)
-each_range P a zero h = tt
-each_range P a (suc n) h = (
-  subst P (let e : a + 0 ≡ a = omega arith in e) (h 0 (omega arith)),
-  each_range P (a + 1) n (λ j lt. subst P (let e : a + suc j ≡ a + 1 + j = omega arith in e) (h (suc j) (omega arith))),
-)
-
 pub in_area : (mdb : Mdb) (file : List Extent) → Each (λ n. mdb.allocation_start ≤ n) (block_numbers mdb file)
 in_area mdb [] = tt
 in_area mdb (e ∷ file) =
     each-append (λ n. mdb.allocation_start ≤ n) (run_of (run_in mdb e)) (block_numbers mdb file)
     (each_range (λ n. mdb.allocation_start ≤ n) (run_in mdb e).first (run_in mdb e).count (λ j lt. omega arith))
     (in_area mdb file)
-
--- ---- two files of a sound volume
-
-distinct-apart : (xs ys : List ℕ) → IsDistinct (xs ++ ys) → Each (λ x. Each (IsOther x) ys) xs
-distinct-apart [] ys h = tt
-distinct-apart (x ∷ xs) ys h = (each-right (IsOther x) xs ys h.0, distinct-apart xs ys h.1)
 
 turn_one : (x : ℕ) (ys : List ℕ) → Each (IsOther x) ys → Each (λ y. x ≡ y → ⊥) ys
 turn_one x ys h = each-mono (IsOther x) (λ y. x ≡ y → ⊥) ys (λ y other same. other (sym same)) h
@@ -90,7 +77,7 @@ module _ (total : ℕ) (old : Blocks) (h : AreBlocksSound total old) where
   pub catalog_apart : Each (λ n. Each (IsOther n) (block_numbers mdb mdb.extents_file)) (block_numbers mdb (catalog_extents old))
   catalog_apart =
       let split = numbers-append (catalog_extents old) (others total old h ++ rest) in
-      let apart = distinct-apart (block_numbers mdb (catalog_extents old)) (block_numbers mdb (others total old h ++ rest)) (subst IsDistinct split all_distinct) in
+      let apart = cross (block_numbers mdb (catalog_extents old)) (block_numbers mdb (others total old h ++ rest)) (subst IsDistinct split all_distinct) in
       each-mono _ _ (block_numbers mdb (catalog_extents old))
       (λ n other.
       each-left (IsOther n) (block_numbers mdb mdb.extents_file) (block_numbers mdb (bad_extents (overflow_in old)))

@@ -1,6 +1,5 @@
 -- Where numbers stand in a list.
-use Rattle.std.proofs.Common.{◌≡◌, ℕ, zero, suc, ◌+◌, ◌<◌, ◌≤◌, Bool, true, false, ◌||◌, List, [], ◌∷◌, length, map, take, get_or, nat_eq, refl, sym, subst, arith, true≢false, eqb-true}
-use Rattle.std.specs.List.{range_with_len}
+use Rattle.std.proofs.Common.{◌≡◌, ℕ, zero, suc, ◌<◌, ◌≤◌, Bool, true, false, ◌||◌, List, [], ◌∷◌, length, map, take, get_or, nat_eq, refl, sym, arith, true≢false, eqb-true}
 use Rattle.hfs_fields.specs.declared.mdb.Mdb.{Mdb}
 use Rattle.hfs_fields.specs.declared.extent.Extent.{Extent}
 use Rattle.hfs_blocks.specs.Blocks.{run_of}
@@ -10,19 +9,7 @@ use Rattle.hfs_scans.specs.Each.{Each}
 use Rattle.hfs_scans.proofs.ElementLemmas.{each-append}
 use Rattle.hfs_space.specs.Forks.{run_in}
 use Rattle.hfs_space.specs.ForkLaws.{block_numbers}
-
-pub each_take : {X : Type 0} (P : X → Type 0) (n : ℕ) (xs : List X) → Each P xs → Each P (take n xs)
-each_take P zero [] h = tt
-each_take P zero (x ∷ xs) h = tt
-each_take P (suc n) [] h = tt
-each_take P (suc n) (x ∷ xs) h = (h.0, each_take P n xs h.1)
-
-each_range : (P : ℕ → Type 0) (a n : ℕ) → ((j : ℕ) → j < n → P (a + j)) → Each P (range_with_len a n)
-each_range P a zero h = tt
-each_range P a (suc n) h = (
-  subst P (let e : a + 0 ≡ a = omega arith in e) (h 0 (omega arith)),
-  each_range P (a + 1) n (λ j lt. subst P (let e : a + suc j ≡ a + 1 + j = omega arith in e) (h (suc j) (omega arith))),
-)
+use Rattle.hfs_changes.proofs.Frames.{each_range}
 
 -- a block before the allocation blocks is none of a file's
 pub below_area : (mdb : Mdb) (file : List Extent) (k : ℕ) → k < mdb.allocation_start → Each (IsOther k) (block_numbers mdb file)

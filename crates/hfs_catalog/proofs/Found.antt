@@ -27,9 +27,7 @@ use Rattle.hfs_scans.specs.Members.{In}
 use Rattle.hfs_scans.proofs.MemberLemmas.{each_in, found_in}
 use Rattle.hfs_catalog.proofs.Held.{with_id}
 use Rattle.hfs_catalog.proofs.Lawful.{one_record, same_keys}
-
-some_none : {A : Type 0} (x : A) → Some x ≡ None → ⊥
-some_none x e = cc
+use Rattle.hfs_model.proofs.InOrder.{none_some}
 
 not_greater : (o : Ordering) → o ≡ Equal → is_gt o ≡ true → ⊥
 not_greater o e g = true≢false (sym g ∙ ap is_gt e)
@@ -86,20 +84,20 @@ named_first catalog dir name h =
 
 -- ---- a thread by its ID
 
-thread_is_short : (body : List ℕ) → is_thread body ≡ true → length body ≡ 46
+pub thread_is_short : (body : List ℕ) → is_thread body ≡ true → length body ≡ 46
 thread_is_short body e = ⊎_elim
     (λ (folder : is_dir_thread body ≡ true). eqb-true (length body) 46 (and_parts (eqb (type_byte body) 3) (eqb (length body) 46) folder).1)
     (λ (file : is_file_thread body ≡ true). eqb-true (length body) 46 (and_parts (eqb (type_byte body) 4) (eqb (length body) 46) file).1)
     (or_cases (is_dir_thread body) (is_file_thread body) e)
 
-item_is_long : (body : List ℕ) → is_item body ≡ true → 70 ≤ length body
+pub item_is_long : (body : List ℕ) → is_item body ≡ true → 70 ≤ length body
 item_is_long body e = ⊎_elim
     (λ (folder : is_dir body ≡ true). let len = eqb-true (length body) 70 (and_parts (eqb (type_byte body) 1) (eqb (length body) 70) folder).1 in omega arith)
     (λ (file : is_file body ≡ true). let len = eqb-true (length body) 102 (and_parts (eqb (type_byte body) 2) (eqb (length body) 102) file).1 in omega arith)
     (or_cases (is_dir body) (is_file body) e)
 
 -- the key of a thread has an empty name
-unnamed : (r : Record) → IsRecord r → is_thread r.1 ≡ true → r.0.name ≡ []
+pub unnamed : (r : Record) → IsRecord r → is_thread r.1 ≡ true → r.0.name ≡ []
 unnamed r h thread = ⊎_elim
     (λ (item : IsTrue (is_item r.1) × (1 ≤ length r.0.name)). absurd (omega (arith, thread_is_short r.1 thread, item_is_long r.1 item.0)))
     (λ (other : IsTrue (is_thread r.1) × (length r.0.name ≡ 0)). nil r.0.name other.1)
@@ -137,7 +135,7 @@ thread_first catalog id h records names =
 missed : (test : Record → Bool) (catalog : Catalog) (r : Record) → find test catalog ≡ None → In r catalog → test r ≡ true → ⊥
 missed test [] r none i e = i
 missed test (q ∷ rest) r none i e = elim (test q) as (λ (b : Bool). test q ≡ b → cond b (Some q) (find test rest) ≡ None → ⊥) [
-  | true ↦ λ passes some. some_none q some
+  | true ↦ λ passes some. none_some q some
   | false ↦ λ fails later. ⊎_elim (λ (here : q ≡ r). true≢false (sym e ∙ ap test (sym here) ∙ fails)) (λ (there : In r rest). missed test rest r later there e) i
 ] refl none
 
@@ -166,7 +164,7 @@ by_thread catalog id thread places distinct is =
 pub by_its_thread : (catalog : Catalog) (id : ℕ) (t : ThreadRecord) → ArePlacesSound catalog → IsDistinct (item_ids catalog) → option_map (λ (r : Record). thread_record_of r.1) (thread_of catalog id) ≡ Some t
     → child_named catalog t.parent t.name ≡ item_with catalog id
 by_its_thread catalog id t places distinct is = elim (thread_of catalog id) as (λ (o : Option Record). thread_of catalog id ≡ o → option_map (λ (r : Record). thread_record_of r.1) o ≡ Some t → child_named catalog t.parent t.name ≡ item_with catalog id) [
-  | None ↦ λ e none. absurd (some_none t (sym none))
+  | None ↦ λ e none. absurd (none_some t (sym none))
   | Some thread ↦ λ e some.
       let same : thread_record_of thread.1 ≡ t = ap (λ (o : Option ThreadRecord). unwrap_or o t) some in
       ap (λ (u : ThreadRecord). child_named catalog u.parent u.name) (sym same) ∙ by_thread catalog id thread places distinct e

@@ -18,7 +18,7 @@ use Rattle.hfs_btree.specs.Pairs.{Rises}
 use Rattle.hfs_btree.specs.Sound.{IsDistinct, IsOther}
 use Rattle.hfs_model.specs.declared.item.Item.{Item}
 use Rattle.hfs_model.specs.Volume.{Items, Entry}
-use Rattle.hfs_model.specs.Children.{valence, is_child, is_folder_kind}
+use Rattle.hfs_model.specs.Children.{valence, is_folder_kind}
 use Rattle.hfs_model.proofs.ChainLemmas.{leads_still}
 use Rattle.hfs_model.specs.Lawful.{Has, IsFolder, LiesIn, AreLawful, parent_of}
 use Rattle.hfs_catalog.specs.Records.{Record, Catalog, item_with, items_of, item_ids, is_folder_id, is_child_of, valence_of}
@@ -28,21 +28,14 @@ use Rattle.hfs_catalog.specs.Items.{Contents, item_of, entry_of, items_in}
 use Rattle.hfs_scans.specs.Members.{In}
 use Rattle.hfs_scans.proofs.MemberLemmas.{each_in}
 use Rattle.hfs_catalog.proofs.Held.{with_id, item_parent, item_name, item_folder, items_are_records, has_item, has_record, HasRecord}
-
--- ---- how many items a folder has
-
-abbrev one : ℕ → Entry → ℕ
-one d e = cond (is_child d e) 1 0
-
-count_cons : (d : ℕ) (e : Entry) (es : List Entry) → valence (e ∷ es) d ≡ one d e + valence es d
-count_cons d e es = sum_by-cons (one d) e es
+use Rattle.hfs_model.proofs.Counts.{one, cons}
 
 put_at_most : (es : List Entry) (k : ℕ) (x : Item) (d : ℕ) → valence (put nat_cmp k x es) d ≤ one d (k, x) + valence es d
-put_at_most [] k x d = omega (arith, count_cons d (k, x) [])
+put_at_most [] k x d = omega (arith, cons d (k, x) [])
 put_at_most (e ∷ es) k x d = elim (nat_cmp k e.0) as (λ r. valence (by_order r ((k, x) ∷ e ∷ es) ((e.0, x) ∷ es) (e ∷ put nat_cmp k x es)) d ≤ one d (k, x) + valence (e ∷ es) d) [
-  | Less ↦ omega (arith, count_cons d (k, x) (e ∷ es))
-  | Equal ↦ omega (arith, count_cons d (e.0, x) es, count_cons d e es)
-  | Greater ↦ omega (arith, count_cons d e (put nat_cmp k x es), count_cons d e es, put_at_most es k x d)
+  | Less ↦ omega (arith, cons d (k, x) (e ∷ es))
+  | Equal ↦ omega (arith, cons d (e.0, x) es, cons d e es)
+  | Greater ↦ omega (arith, cons d e (put nat_cmp k x es), cons d e es, put_at_most es k x d)
 ]
 
 no_entries : (d : ℕ) → valence (fin.entries (fin.empty {X = Item} {R = nat_cmp})) d ≡ 0
@@ -57,7 +50,7 @@ map_at_most [] d = omega (arith, no_entries d)
 map_at_most (e ∷ es) d =
     let more : valence (put nat_cmp e.0 e.1 (fin.entries (fin.from_entries {R = nat_cmp} es))) d ≤ one d e + valence (fin.entries (fin.from_entries {R = nat_cmp} es)) d = put_at_most (fin.entries (fin.from_entries {R = nat_cmp} es)) e.0 e.1 d in
     let is : valence (fin.entries (fin.insert (fin.from_entries {R = nat_cmp} es) e.0 e.1)) d ≡ valence (put nat_cmp e.0 e.1 (fin.entries (fin.from_entries {R = nat_cmp} es))) d = ap (λ (l : List Entry). valence l d) (fin.entries-insert nat_cmp_total (fin.from_entries es) e.0 e.1) in
-    omega (arith, more, is, count_cons d e es, map_at_most es d)
+    omega (arith, more, is, cons d e es, map_at_most es d)
 
 module _ (contents : Contents) (whole : Catalog) (d : ℕ) where
   child : Record → ℕ
@@ -67,7 +60,7 @@ module _ (contents : Contents) (whole : Catalog) (d : ℕ) where
   counted [] = refl
   counted (r ∷ rest) = elim (is_item r.1) as (λ (b : Bool). is_item r.1 ≡ b → valence (map (entry_of contents whole) (cond b (r ∷ items_of rest) (items_of rest))) d ≡ valence_of (r ∷ rest) d) [
     | true ↦ λ e.
-        count_cons d (entry_of contents whole r) (map (entry_of contents whole) (items_of rest))
+        cons d (entry_of contents whole r) (map (entry_of contents whole) (items_of rest))
         ∙ (λ i. cond (eqb (item_parent contents whole r i) d) 1 0 + counted rest i)
         ∙ ap (λ (b : Bool). cond (b && eqb r.0.parent d) 1 0 + valence_of rest d) (sym e)
         ∙ sym (sum_by-cons (λ (q : Record). cond (is_child_of d q) 1 0) r rest)
@@ -84,7 +77,7 @@ module _ (contents : Contents) (whole : Catalog) (d : ℕ) where
 id_cons : (k x : ℕ) (xs : List ℕ) → count_by (λ (z : ℕ). eqb z k) (x ∷ xs) ≡ cond (eqb x k) 1 0 + count_by (λ (z : ℕ). eqb z k) xs
 id_cons k x xs = sum_by-cons (λ (z : ℕ). cond (eqb z k) 1 0) x xs
 
-none_same : (k : ℕ) (xs : List ℕ) → Each (IsOther k) xs → count_by (λ (z : ℕ). eqb z k) xs ≡ 0
+pub none_same : (k : ℕ) (xs : List ℕ) → Each (IsOther k) xs → count_by (λ (z : ℕ). eqb z k) xs ≡ 0
 none_same k [] h = refl
 none_same k (x ∷ xs) h =
     let none : ◌≡◌ {A = ℕ} (cond (eqb x k) 1 0) 0 = ap (λ (b : Bool). cond b 1 0) (ne_eqb x k h.0) in
@@ -121,7 +114,7 @@ children_of_one d k (r ∷ rest) only = elim (is_item r.1) as (λ (b : Bool). is
 
 -- ---- keys that rise
 
-less_equal : (o : Ordering) → o ≡ Less → o ≡ Equal → ⊥
+pub less_equal : (o : Ordering) → o ≡ Less → o ≡ Equal → ⊥
 less_equal o e f = true≢false (ap is_eq (sym f) ∙ ap is_eq e)
 
 greater_equal : (o : Ordering) → o ≡ Equal → ordering_reverse o ≡ Less → ⊥

@@ -30,7 +30,7 @@ use Rattle.hfs_catalog.proofs.Lawful.{sound_is_lawful}
 
 -- ---- what a list holds
 
-in_from_contains : {A : Type 0} (xs : List A) (x : A) (k : ℕ) → k < length xs → get_or xs k x ≡ x → In x xs
+pub in_from_contains : {A : Type 0} (xs : List A) (x : A) (k : ℕ) → k < length xs → get_or xs k x ≡ x → In x xs
 in_from_contains [] x k lt is = absurd (omega arith)
 in_from_contains (y ∷ ys) x zero lt is = inl is
 in_from_contains (y ∷ ys) x (suc k) lt is = inr (in_from_contains ys x k (omega arith) is)

@@ -1,15 +1,10 @@
 -- What the volume's queries find among a sound catalog's items.
-use Rattle.std.proofs.Common.{◌≡◌, ⊎_elim, ℕ, ◌≤◌, Bool, true, false, cond, ◌&&◌, eqb, List, [], ◌∷◌, length, filter, refl, sym, ◌∙◌, ap, Option, Some, None}
-use Rattle.std.specs.Prelude.{T}
-use Rattle.std.specs.List.{find}
-use Rattle.std.specs.Option.{option_map, unwrap_or}
-use Rattle.std.specs.declared.cmp.Ordering.{Ordering}
-use Rattle.std.specs.declared.cmp.Ordering.TheVariants.{Less, Equal, Greater}
-use Rattle.std.specs.Ordering.{nat_cmp, is_eq, is_lt, ordering_reverse}
-use Rattle.std.specs.Cmp.{unsigned_ties, nat_cmp_total}
+use Rattle.std.proofs.Common.{◌≡◌, ⊎_elim, ℕ, ◌≤◌, Bool, true, cond, ◌&&◌, eqb, List, [], ◌∷◌, length, filter, refl, sym, ◌∙◌, ap, Option, Some, None}
+use Rattle.std.specs.Option.{option_map}
+use Rattle.std.specs.Ordering.{nat_cmp}
+use Rattle.std.specs.Cmp.{unsigned_ties}
 use Rattle.std.specs.FinMap as fin
-use Rattle.std.specs.FinMap.Entries.{below_all, is_sorted}
-use Rattle.std.proofs.lemmas.Bool.{eq-eqb, ne_eqb, cases_eq, true≢false, and_parts, and_from}
+use Rattle.std.proofs.lemmas.Bool.{eq-eqb, ne_eqb, cases_eq, and_parts, and_from}
 use Rattle.std.proofs.lemmas.List.{length-map}
 use Rattle.std.proofs.lemmas.List.Sums.{length-filter}
 use Rattle.hfs_fields.specs.Order.{same_name}
@@ -27,16 +22,11 @@ use Rattle.hfs_scans.proofs.MemberLemmas.{found_in}
 use Rattle.hfs_catalog.proofs.Held.{with_id, item_parent, item_name, items_are_records, has_item, has_record}
 use Rattle.hfs_catalog.proofs.NameOrder.{found_by_id, records_are_children}
 use Rattle.hfs_catalog.proofs.Found.{only}
-
-none_some : {A : Type 0} (x : A) → None ≡ Some x → ⊥
-none_some x e = cc
-
-same_some : {A : Type 0} (x y : A) → Some x ≡ Some y → x ≡ y
-same_some x y e = ap (λ o. unwrap_or o x) e
+use Rattle.hfs_model.proofs.Facts.{scan_finds, no_entry}
 
 -- ---- by an ID
 
-found_entry : (es : List Entry) (q : ℕ) → model.entry_at es q ≡ option_map (λ (i : Item). (q, i)) (fin.find nat_cmp q es)
+pub found_entry : (es : List Entry) (q : ℕ) → model.entry_at es q ≡ option_map (λ (i : Item). (q, i)) (fin.find nat_cmp q es)
 found_entry [] q = refl
 found_entry (f ∷ fs) q = ⊎_elim
     (λ (same : f.0 ≡ q).
@@ -57,53 +47,6 @@ entries_are_records contents catalog id =
       | None ↦ λ e. refl
       | Some r ↦ λ e. let own : item_id r.1 ≡ id = (with_id catalog id r e).2 in λ i. Some (sym own i, item_of contents catalog r)
     ] refl
-
--- ---- what a scan of a map's entries finds
-
-first_half : (a b : Bool) → T (a && b) → T a
-first_half true b p = tt
-first_half false b p = p
-
-second_half : (a b : Bool) → T (a && b) → T b
-second_half true b p = p
-second_half false b p = absurd p
-
-is_less : (r : Ordering) → T (is_lt r) → r ≡ Less
-is_less Less p = refl
-is_less Equal p = absurd p
-is_less Greater p = absurd p
-
-below_found : (p : Entry → Bool) (x : ℕ) (es : List Entry) (e : Entry) → T (below_all nat_cmp x es) → find p es ≡ Some e → nat_cmp x e.0 ≡ Less
-below_found p x [] e h is = absurd (none_some e is)
-below_found p x (f ∷ fs) e h is = elim (p f) as (λ b. cond b (Some f) (find p fs) ≡ Some e → nat_cmp x e.0 ≡ Less) [
-  | true ↦ λ here. ap (λ (y : Entry). nat_cmp x y.0) (sym (same_some f e here)) ∙ is_less _ (first_half _ _ h)
-  | false ↦ λ later. below_found p x fs e (second_half _ _ h) later
-] is
-
-scan_finds : (p : Entry → Bool) (es : List Entry) (e : Entry) → T (is_sorted nat_cmp es) → find p es ≡ Some e → (fin.find nat_cmp e.0 es ≡ Some e.1) × (p e ≡ true)
-scan_finds p [] e h is = absurd (none_some e is)
-scan_finds p (f ∷ fs) e h is = elim (p f) as (λ b. p f ≡ b → cond b (Some f) (find p fs) ≡ Some e → (fin.find nat_cmp e.0 (f ∷ fs) ≡ Some e.1) × (p e ≡ true)) [
-  | true ↦ λ holds here.
-      let same = same_some f e here in
-      (ap (λ b. cond b (Some f.1) (fin.find nat_cmp e.0 fs)) (sym (unsigned_ties e.0 f.0) ∙ eq-eqb e.0 f.0 (sym (ap (λ (y : Entry). y.0) same))) ∙ ap (λ (y : Entry). Some y.1) same, ap p (sym same) ∙ holds)
-  | false ↦ λ fails later.
-      let rest = scan_finds p fs e (second_half _ _ h) later in
-      let apart : nat_cmp e.0 f.0 ≡ Greater = nat_cmp_total.antisymm e.0 f.0 ∙ ap ordering_reverse (below_found p f.0 fs e (first_half _ _ h) later) in
-      (ap (λ r. cond (is_eq r) (Some f.1) (fin.find nat_cmp e.0 fs)) apart ∙ rest.0, rest.1)
-] refl is
-
-no_entry : (p : Entry → Bool) (es : List Entry) (q : ℕ) (j : Item) → find p es ≡ None → fin.find nat_cmp q es ≡ Some j → p (q, j) ≡ true → ⊥
-no_entry p [] q j none has holds = none_some j has
-no_entry p (f ∷ fs) q j none has holds = elim (p f) as (λ b. p f ≡ b → cond b (Some f) (find p fs) ≡ None → ⊥) [
-  | true ↦ λ e is. none_some f (sym is)
-  | false ↦ λ e is. ⊎_elim
-      (λ (same : q ≡ f.0).
-      let here : f.1 ≡ j = same_some f.1 j (sym (ap (λ b. cond b (Some f.1) (fin.find nat_cmp q fs)) (sym (unsigned_ties q f.0) ∙ eq-eqb q f.0 same)) ∙ has) in
-      true≢false (sym holds ∙ (λ i. p (same i, sym here i)) ∙ e))
-      (λ (other : q ≡ f.0 → ⊥).
-      no_entry p fs q j is (sym (ap (λ b. cond b (Some f.1) (fin.find nat_cmp q fs)) (sym (unsigned_ties q f.0) ∙ ne_eqb q f.0 other)) ∙ has) holds)
-      (cases_eq q f.0)
-] refl none
 
 -- ---- by a name
 

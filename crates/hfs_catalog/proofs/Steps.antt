@@ -17,9 +17,6 @@ use Rattle.hfs_catalog.specs.declared.item.CatalogItem.{CatalogItem}
 use Rattle.hfs_catalog.specs.Records.{Record, Catalog, has_id, item_with, is_child_of}
 use Rattle.hfs_catalog.specs.Lookups.{catalog_item, children_of, with_id_at, first_key, item_at, is_under}
 
-none_some : {A : Type 0} (x : A) → None ≡ Some x → ⊥
-none_some x e = cc
-
 -- ---- keys with an empty name come first
 
 no_less : (name : List ℕ) → is_gt (name_cmp [] name) ≡ false
@@ -41,7 +38,7 @@ from_parent dir k low = ⊎_elim
     (λ (le : dir ≤ k.parent). le)
     (cases_lt k.parent dir)
 
-parents_rise : (x y : CatKey) → cat_cmp x y ≡ Less → x.parent ≤ y.parent
+pub parents_rise : (x y : CatKey) → cat_cmp x y ≡ Less → x.parent ≤ y.parent
 parents_rise x y less = ⊎_elim
     (λ (higher : y.parent < x.parent). absurd (true≢false (ap is_lt (sym less) ∙ ap (λ (o : Ordering). is_lt (ordering_then o (name_cmp x.name y.name))) (sym (nat_cmp_is x.parent y.parent Greater higher)))))
     (λ (le : x.parent ≤ y.parent). le)

@@ -1,5 +1,5 @@
 -- The checks on one record each.
-use Rattle.std.proofs.Common.{◌≡◌, ℕ, Bool, true, false, List, [], length, refl, ap, eqb, Some, None}
+use Rattle.std.proofs.Common.{◌≡◌, ℕ, Bool, true, false, List, [], length, refl, ap, eqb, None}
 use Rattle.std.specs.Prelude.{◌↔◌}
 use Rattle.std.proofs.lemmas.Bool.{eqb-true, eq-eqb}
 use Rattle.hfs_fields.specs.declared.mdb.Mdb.{Mdb}
@@ -13,15 +13,13 @@ use Rattle.hfs_catalog_checks.specs.Faults.{unless, is_record_right, record_faul
 use Rattle.hfs_scans.proofs.TwoFaultLemmas.{neither, both_none}
 use Rattle.hfs_scans.proofs.ScanLemmas.{check, all_decides}
 use Rattle.hfs_catalog_checks.proofs.Decided.{record_decides, name_decides, index_key_decides, valence_decides}
-
-some_none : {A : Type 0} (x : A) → Some x ≡ None → ⊥
-some_none x e = cc
+use Rattle.hfs_model.proofs.InOrder.{none_some}
 
 -- ---- one fault
 
 pub holds : (b : Bool) (place : ℕ) → unless b place ≡ None → b ≡ true
 holds true place e = refl
-holds false place e = absurd (some_none place e)
+holds false place e = absurd (none_some place e)
 
 pub no_fault : (b : Bool) (place : ℕ) → b ≡ true → unless b place ≡ None
 no_fault b place e = ap (λ (t : Bool). unless t place) e

@@ -1,9 +1,9 @@
 -- What the tests on one record say.
-use Rattle.std.proofs.Common.{◌≡◌, ℕ, ◌≤◌, Bool, true, false, not, ◌&&◌, eqb, ltb, length, refl, sym, ◌∙◌, ap, Option, Some, None}
+use Rattle.std.proofs.Common.{◌≡◌, ℕ, Bool, true, false, not, ◌&&◌, eqb, ltb, length, refl, sym, ◌∙◌, ap, Option, Some, None}
 use Rattle.std.specs.Prelude.{nat_le}
 use Rattle.std.specs.Bool.{Decides, IsTrue, beq}
 use Rattle.std.specs.Option.{option_map_or}
-use Rattle.std.proofs.lemmas.Bool.{leb-true, le-leb, true≢false}
+use Rattle.std.proofs.lemmas.Bool.{true≢false}
 use Rattle.std.proofs.lemmas.Bool.Decides.{Decides-and, Decides-or, Decides-like, Decides-not, Decides-eqb, Decides-ltb}
 use Rattle.hfs_fields.specs.declared.key.CatKey.{CatKey}
 use Rattle.hfs_fields.specs.Names.{is_item_name}
@@ -12,16 +12,12 @@ use Rattle.hfs_fields.specs.Records.{is_dir, is_item, is_thread, is_dir_thread, 
 use Rattle.hfs_catalog.specs.Records.{Record, Catalog, item_with, valence_of}
 use Rattle.hfs_catalog.specs.Sound.{IsRecord, IsRoot, IsGiven, HasRightId, IsIndexKeyName, LeadsTo, HasItem, HasValence}
 use Rattle.hfs_catalog_checks.specs.Faults.{implies, is_record_right, is_id_right, is_name_right, is_index_key_name, leads_to, is_thread_right, is_valence_right}
-
-pub itself : (b : Bool) → Decides b (IsTrue b)
-itself b = (λ (e : b ≡ true). e, λ (e : b ≡ true). e)
+use Rattle.hfs_catalog.proofs.Held.{none_some}
+use Rattle.hfs_fields.proofs.DecisionLemmas.{itself, Decides-leb}
 
 pub Decides-implies : (a b : Bool) (P : Type 0) → Decides b P → Decides (implies a b) (a ≡ true → P)
 Decides-implies true b P d = (λ e t. d.0 e, λ h. d.1 (h refl))
 Decides-implies false b P d = (λ e t. absurd (true≢false (sym t)), λ h. refl)
-
-Decides-leb : (a b : ℕ) → Decides (nat_le a b) (a ≤ b)
-Decides-leb a b = (λ (e : nat_le a b ≡ true). leb-true a b e, λ (h : a ≤ b). le-leb a b h)
 
 Decides-beq : (a b : Bool) → Decides (beq a b) (a ≡ b)
 Decides-beq true true = (λ e. refl, λ e. refl)
@@ -65,9 +61,6 @@ leads_decides : (thread item : Record) → Decides (leads_to thread item) (Leads
 unfolding leads_to
 leads_decides thread item = Decides-like _ (λ h. record { kind = h.0.0; parent = h.0.1; name = h.1 }) (λ (h : LeadsTo item thread). ((h.kind, h.parent), h.name))
     (Decides-and _ _ (Decides-and _ _ (Decides-beq (is_dir_thread thread.1) (is_dir item.1)) (Decides-eqb (thread_record_of thread.1).parent item.0.parent)) (itself (same_name item.0.name (thread_record_of thread.1).name)))
-
-none_some : {A : Type 0} (x : A) → None ≡ Some x → ⊥
-none_some x e = cc
 
 pub thread_decides : (catalog : Catalog) (r : Record) → Decides (is_thread_right catalog r) (HasItem catalog r)
 unfolding is_thread_right

@@ -14,12 +14,11 @@ use Rattle.hfs_catalog.specs.Records.{Record, Catalog, has_id}
 use Rattle.hfs_catalog.specs.Sound.{HasRightId, AreIdsSound}
 use Rattle.hfs_catalog_checks.specs.Faults.{implies, is_id_right, is_id_new, is_item_id_right, id_fault}
 use Rattle.hfs_scans.proofs.ScanLemmas.{all_decides, passes_from_none, none_from_passes, both_from_passes, passes_from_both, later_from_passes, passes_from_later}
-use Rattle.hfs_catalog_checks.proofs.Decided.{itself, Decides-implies, id_decides}
+use Rattle.hfs_fields.proofs.DecisionLemmas.{itself}
+use Rattle.hfs_catalog_checks.proofs.Decided.{Decides-implies, id_decides}
 use Rattle.hfs_scans.proofs.TwoFaultLemmas.{neither, both_none}
 use Rattle.hfs_catalog_checks.proofs.Agreed.{holds, no_fault}
-
-some_none : {A : Type 0} (x : A) → Some x ≡ None → ⊥
-some_none x e = cc
+use Rattle.hfs_model.proofs.InOrder.{none_some}
 
 -- ---- an ID is new where no record before has it
 
@@ -49,7 +48,7 @@ split_id next before r = split (is_item r.1) (is_id_right next r) (is_id_new bef
 
 -- ---- a record with an ID
 
-second : (a b : Bool) → a ≡ false → (a || b) ≡ b
+pub second : (a b : Bool) → a ≡ false → (a || b) ≡ b
 second true b e = absurd (true≢false e)
 second false b e = refl
 
@@ -61,7 +60,7 @@ found {X} p (x ∷ xs) e = elim (p x) as (λ (b : Bool). p x ≡ b → (y : X) �
 ] refl
 
 pub any_from_found : {X : Type 0} (p : X → Bool) (xs : List X) (x : X) → find p xs ≡ Some x → list_any p xs ≡ true
-any_from_found p [] x is = absurd (some_none x (sym is))
+any_from_found p [] x is = absurd (none_some x (sym is))
 any_from_found p (y ∷ ys) x is = elim (p y) as (λ (b : Bool). cond b (Some y) (find p ys) ≡ Some x → (b || list_any p ys) ≡ true) [
   | true ↦ λ here. refl
   | false ↦ λ later. any_from_found p ys x later

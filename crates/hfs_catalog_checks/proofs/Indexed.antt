@@ -9,7 +9,7 @@ use Rattle.hfs_catalog_checks.specs.Indexes.{with_number, only_if, is_place}
 none_some : (x : ℕ) → None ≡ Some x → ⊥
 none_some x e = cc
 
-same_some : (x y : ℕ) → Some x ≡ Some y → x ≡ y
+pub same_some : (x y : ℕ) → Some x ≡ Some y → x ≡ y
 same_some x y e = cc
 
 or_none : (o : Option ℕ) → option_or o None ≡ o

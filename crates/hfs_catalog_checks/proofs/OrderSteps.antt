@@ -11,7 +11,8 @@ use Rattle.hfs_scans.proofs.ElementLemmas.{each-mono, each-right, each-append}
 use Rattle.hfs_scans.specs.First.{first_failing}
 use Rattle.hfs_catalog.specs.Records.{Record, Catalog}
 use Rattle.hfs_catalog_checks.specs.Faults.{is_above}
-use Rattle.hfs_catalog_checks.proofs.Places.{IsBefore, less_decides, above_decides}
+use Rattle.hfs_fields.proofs.OrderLemmas.{less-by as less_decides}
+use Rattle.hfs_catalog_checks.proofs.Places.{IsBefore, above_decides}
 
 before_last : (xs : Catalog) (q : Record) → Rises cat_cmp (xs ++ q ∷ []) → Each (λ e. IsBefore e q) xs
 before_last [] q h = tt

@@ -1,16 +1,12 @@
 -- Maps and sets in the order of their numbers: what is looked up in them by equal numbers.
-use Rattle.std.proofs.Common.{◌≡◌, ℕ, Bool, true, false, cond, ◌||◌, nat_eq, List, Option, Some, refl, sym, ◌∙◌, ap}
+use Rattle.std.proofs.Common.{◌≡◌, ℕ, Bool, true, cond, ◌||◌, nat_eq, List, Option, Some, sym, ◌∙◌, ap}
 use Rattle.std.specs.List.{list_any}
 use Rattle.std.specs.Ordering.{nat_cmp}
-use Rattle.std.specs.Cmp.{unsigned_tied}
 use Rattle.std.specs.Map.{lookup}
-use Rattle.std.specs.Prelude.{Result, Ok, Err}
-use Rattle.std.specs.Result.{OnOk}
 use Rattle.std.specs.BTreeMap.{is_at}
 use Rattle.hfs_catalog_checks.specs.Indexes.{Numbered, number_of, with_number, has_number}
-
-same_number : (id : ℕ) → is_at (nat_cmp id) ≡ nat_eq id
-same_number id = λ i k. unsigned_tied id k i
+use Rattle.hfs_fields.proofs.OrderLemmas.{same_number}
+use Rattle.hfs_fields.proofs.DecisionLemmas.{or_there}
 
 -- ---- maps
 
@@ -33,12 +29,6 @@ number_put old new id n is = λ i k. at k i
 pub id_there : (ids : List ℕ) (id : ℕ) → list_any (is_at (nat_cmp id)) ids ≡ has_number ids id
 id_there ids id = ap (λ (t : ℕ → Bool). list_any t ids) (same_number id)
 
-or_there : (here there : Bool) → cond here true there ≡ (there || here)
-or_there true true = refl
-or_there true false = refl
-or_there false true = refl
-or_there false false = refl
-
 pub id_put : (old new : List ℕ) (id : ℕ)
     → ((k : ℕ) → list_any (is_at (nat_cmp k)) new ≡ cond (is_at (nat_cmp id) k) true (list_any (is_at (nat_cmp k)) old))
     → (k : ℕ) → has_number new k ≡ (has_number old k || nat_eq id k)
@@ -47,9 +37,3 @@ id_put old new id is k =
     ∙ ap (λ (t : ℕ → Bool). cond (t k) true (list_any (is_at (nat_cmp k)) old)) (same_number id)
     ∙ ap (λ (b : Bool). cond (nat_eq id k) true b) (id_there old k)
     ∙ or_there (nat_eq id k) (has_number old k)
-
--- ---- answers
-
-pub on_ok : {X E : Type 0} (r : Result X E) (P Q : Type 0) → (P → Q) → OnOk r P → OnOk r Q
-on_ok (Ok x) P Q f h = f h
-on_ok (Err e) P Q f h = tt

@@ -1,5 +1,5 @@
 -- The steps of the check of parents.
-use Rattle.std.proofs.Common.{◌≡◌, ⊎_elim, ℕ, zero, suc, ◌+◌, ◌-◌, ◌<◌, Bool, true, false, ◌&&◌, ◌||◌, nat_eq, eqb, List, length, sym, ◌∙◌, ap, subst, arith, Option, Some, None}
+use Rattle.std.proofs.Common.{◌≡◌, ⊎_elim, ℕ, zero, suc, ◌+◌, ◌-◌, ◌<◌, Bool, true, false, ◌&&◌, ◌||◌, nat_eq, eqb, List, length, sym, ◌∙◌, ap, subst, arith, Option, Some}
 use Rattle.std.specs.Option.{option_map, option_map_or}
 use Rattle.std.proofs.lemmas.Bool.{eqb-true, eq-eqb, ne_eqb, or_left, or_cases, true≢false}
 use Rattle.hfs_fields.specs.Records.{is_item, item_id}
@@ -8,15 +8,9 @@ use Rattle.hfs_catalog.specs.Parents.{parent_in, ReachesRoot, reaches_root}
 use Rattle.hfs_catalog_checks.specs.Indexes.{has_number, only_if, AreRooted}
 use Rattle.hfs_catalog_checks.specs.Faults.{implies, is_parent_right}
 use Rattle.hfs_catalog_checks.proofs.Reach.{reach_decides}
-
-same_some : {A : Type 0} (x y : A) → Some x ≡ Some y → x ≡ y
-same_some x y e = cc
-
-none_some : {A : Type 0} (x : A) → None ≡ Some x → ⊥
-none_some x e = cc
-
-pub or_from : (a b : Bool) → a ≡ false → (a || b) ≡ b
-or_from a b e = ap (λ (c : Bool). c || b) e
+use Rattle.hfs_catalog.proofs.Held.{none_some}
+use Rattle.hfs_model.proofs.Facts.{same_some}
+use Rattle.hfs_catalog_checks.proofs.Ids.{second}
 
 pub not_root : (id : ℕ) (b : Bool) → (eqb id 2 || b) ≡ false → id ≡ 2 → ⊥
 not_root id b e is = true≢false (sym (or_left _ b (eq-eqb id 2 is)) ∙ e)
@@ -39,7 +33,7 @@ module _ (catalog : Catalog) where
 
   -- one step fewer is left from the parent on
   one_up : (k id p : ℕ) → (id ≡ 2 → ⊥) → parent_in catalog id ≡ Some p → reaches_root catalog (suc k) id ≡ reaches_root catalog k p
-  one_up k id p other up = or_from (eqb id 2) _ (ne_eqb id 2 other) ∙ ap (λ (o : Option ℕ). option_map_or (reaches_root catalog k) o false) up
+  one_up k id p other up = second (eqb id 2) _ (ne_eqb id 2 other) ∙ ap (λ (o : Option ℕ). option_map_or (reaches_root catalog k) o false) up
 
   pub step_up : (n i id p : ℕ) → i < n → (id ≡ 2 → ⊥) → parent_in catalog id ≡ Some p → reaches_root catalog (n - i) id ≡ reaches_root catalog (n - (i + 1)) p
   step_up n i id p lt other up =
@@ -76,4 +70,4 @@ module _ (catalog : Catalog) (r : Record) (id : ℕ) (is : Some id ≡ only_if (
   right_at_root e = right_is catalog r id is ∙ or_left _ _ (eq-eqb id 2 e)
 
   pub right_elsewhere : (id ≡ 2 → ⊥) → implies (is_item r.1) (is_parent_right catalog r) ≡ (is_folder_id catalog r.0.parent && reaches_root catalog (length catalog) id)
-  right_elsewhere other = right_is catalog r id is ∙ or_from _ _ (ne_eqb id 2 other)
+  right_elsewhere other = right_is catalog r id is ∙ second _ _ (ne_eqb id 2 other)

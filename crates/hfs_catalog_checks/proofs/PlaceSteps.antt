@@ -10,9 +10,6 @@ use Rattle.hfs_catalog.specs.Records.{Record, Catalog, has_thread}
 use Rattle.hfs_catalog_checks.specs.Indexes.{earlier}
 use Rattle.hfs_catalog_checks.specs.Faults.{implies, is_above, is_parent_right, is_thread_right, is_place_right}
 
-same_some : (x y : ℕ) → Some x ≡ Some y → x ≡ y
-same_some x y e = cc
-
 earlier_than : (n : ℕ) (o : Option ℕ) → ((k : ℕ) → o ≡ Some k → n ≤ k) → earlier (Some n) o ≡ Some n
 earlier_than n None least = refl
 earlier_than n (Some k) least = ap (λ (b : Bool). cond b (Some n) (Some k)) (le-leb n k (least k refl))

@@ -1,11 +1,9 @@
 -- The check of order, parents and threads.
-use Rattle.std.proofs.Common.{◌≡◌, ◌⊎◌, Bool, true, [], ◌∷◌, length, refl, sym, ap, None}
+use Rattle.std.proofs.Common.{◌≡◌, ◌⊎◌, Bool, true, [], ◌∷◌, length, None}
 use Rattle.std.specs.Prelude.{◌↔◌}
 use Rattle.std.specs.Bool.{Decides, IsTrue}
-use Rattle.std.specs.declared.cmp.Ordering.{Ordering}
-use Rattle.std.specs.declared.cmp.Ordering.TheVariants.{Less, Equal, Greater}
+use Rattle.std.specs.declared.cmp.Ordering.TheVariants.{Less}
 use Rattle.std.specs.Ordering.{is_lt}
-use Rattle.std.proofs.lemmas.Bool.{true≢false}
 use Rattle.std.proofs.lemmas.Bool.Decides.{Decides-and, Decides-or, Decides-like, Decides-eqb}
 use Rattle.hfs_fields.specs.Keys.{cat_cmp}
 use Rattle.hfs_fields.specs.Records.{is_dir, is_item, is_thread, item_id}
@@ -17,24 +15,21 @@ use Rattle.hfs_catalog.specs.Records.{Record, Catalog, is_folder_id, has_thread}
 use Rattle.hfs_catalog.specs.Sound.{HasPlace, HasItem, ArePlacesSound}
 use Rattle.hfs_catalog_checks.specs.Faults.{is_above, is_parent_right, is_place_right, place_fault}
 use Rattle.hfs_scans.proofs.ScanLemmas.{all_decides, passes_from_none, none_from_passes, both_from_passes, passes_from_both, Later, later_from_passes, passes_from_later}
-use Rattle.hfs_catalog_checks.proofs.Decided.{itself, Decides-implies, thread_decides}
+use Rattle.hfs_fields.proofs.DecisionLemmas.{itself}
+use Rattle.hfs_catalog_checks.proofs.Decided.{Decides-implies, thread_decides}
 use Rattle.hfs_scans.proofs.TwoFaultLemmas.{neither, both_none}
 use Rattle.hfs_catalog_checks.proofs.Agreed.{holds, no_fault}
 use Rattle.hfs_catalog_checks.proofs.Reach.{reach_decides}
+use Rattle.hfs_fields.proofs.OrderLemmas.{less-by}
 
 -- ---- keys
 
 abbrev pub IsBefore : Record → Record → Type 0
 IsBefore earlier r = cat_cmp earlier.0 r.0 ≡ Less
 
-pub less_decides : (o : Ordering) → Decides (is_lt o) (o ≡ Less)
-less_decides Less = (λ e. refl, λ e. refl)
-less_decides Equal = (λ e. absurd (true≢false (sym e)), λ e. ap is_lt e)
-less_decides Greater = (λ e. absurd (true≢false (sym e)), λ e. ap is_lt e)
-
 pub above_decides : (before : Catalog) (r : Record) → Decides (is_above before r) (Each (λ e. IsBefore e r) before)
 unfolding is_above
-above_decides before r = all_decides (λ e. is_lt (cat_cmp e.0 r.0)) (λ e. IsBefore e r) (λ e. less_decides (cat_cmp e.0 r.0)) before
+above_decides before r = all_decides (λ e. is_lt (cat_cmp e.0 r.0)) (λ e. IsBefore e r) (λ e. less-by (cat_cmp e.0 r.0)) before
 
 rises_from_later : (catalog : Catalog) → Later IsBefore catalog → Rises cat_cmp catalog
 rises_from_later [] h = tt

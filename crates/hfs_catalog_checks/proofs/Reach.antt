@@ -11,9 +11,7 @@ use Rattle.hfs_model.specs.Chains.{Leads}
 use Rattle.hfs_model.proofs.ChainLemmas.{Ends, no_longer}
 use Rattle.hfs_catalog.specs.Records.{Record, Catalog, item_with, items_of, item_ids}
 use Rattle.hfs_catalog.specs.Parents.{parent_in, ReachesRoot, reaches_root}
-
-none_some : {A : Type 0} (x : A) → None ≡ Some x → ⊥
-none_some x e = cc
+use Rattle.hfs_catalog.proofs.Held.{none_some}
 
 same_some : {A : Type 0} (o : Option A) (x y : A) → o ≡ Some x → o ≡ Some y → x ≡ y
 same_some o x y e f = cc

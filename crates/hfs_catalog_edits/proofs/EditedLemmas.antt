@@ -5,22 +5,17 @@ use Rattle.std.specs.declared.cmp.Ordering.{Ordering}
 use Rattle.std.specs.declared.cmp.Ordering.TheVariants.{Less, Equal}
 use Rattle.std.specs.Ordering.{is_eq, is_gt, ordering_reverse}
 use Rattle.std.specs.Cmp.{IsTotalOrder}
-use Rattle.std.specs.Option.{unwrap_or}
 use Rattle.hfs_btree.specs.Pairs.{Order, Pairs, Rises}
 use Rattle.hfs_scans.specs.Members.{In}
 use Rattle.hfs_scans.proofs.MemberLemmas.{each_in}
 use Rattle.hfs_btree_edits.specs.Edits.{with_pair, without_pair, with_replaced}
 use Rattle.hfs_catalog_edits.specs.Swaps.{Swaps}
+use Rattle.hfs_model.proofs.Facts.{same_some}
+use Rattle.hfs_model.proofs.InOrder.{none_some}
 
 -- one more element in front
 deeper : {X : Type 0} (x : X) (went come : Option X) (old new : List X) → Swaps went come old new → Swaps went come (x ∷ old) (x ∷ new)
 deeper x went come old new s = record { before = x ∷ s.before; behind = s.behind; was = ap (λ l. x ∷ l) s.was; is = ap (λ l. x ∷ l) s.is }
-
-some_none : {A : Type 0} (x : A) → Some x ≡ None → ⊥
-some_none x e = cc
-
-same_some : {A : Type 0} (x y : A) → Some x ≡ Some y → x ≡ y
-same_some x y e = ap (λ o. unwrap_or o x) e
 
 module _ {K : Type 0} (cmp : Order K) (key : K) (body : List ℕ) where
   pub with_pair-swaps : (ps : Pairs K) → Swaps None (Some (key, body)) ps (with_pair cmp key body ps)
@@ -35,14 +30,14 @@ module _ {K : Type 0} (cmp : Order K) (key : K) (body : List ℕ) where
   pair_at ps = find (λ q. is_eq (cmp key q.0)) ps
 
   pub without_pair-swaps : (ps : Pairs K) (p : K × List ℕ) → pair_at ps ≡ Some p → Swaps (Some p) None ps (without_pair cmp key ps)
-  without_pair-swaps [] p e = absurd (some_none p (sym e))
+  without_pair-swaps [] p e = absurd (none_some p (sym e))
   without_pair-swaps (q ∷ ps) p e = elim (is_eq (cmp key q.0)) as (λ (b : Bool). cond b (Some q) (pair_at ps) ≡ Some p → Swaps (Some p) None (q ∷ ps) (cond b ps (q ∷ without_pair cmp key ps))) [
     | true ↦ λ here. record { before = []; behind = ps; was = ap (λ x. x ∷ ps) (same_some q p here); is = refl }
     | false ↦ λ later. deeper q (Some p) None ps (without_pair cmp key ps) (without_pair-swaps ps p later)
   ] e
 
   pub with_replaced-swaps : (ps : Pairs K) (p : K × List ℕ) → pair_at ps ≡ Some p → Swaps (Some p) (Some (key, body)) ps (with_replaced cmp key body ps)
-  with_replaced-swaps [] p e = absurd (some_none p (sym e))
+  with_replaced-swaps [] p e = absurd (none_some p (sym e))
   with_replaced-swaps (q ∷ ps) p e = elim (is_eq (cmp key q.0)) as (λ (b : Bool). cond b (Some q) (pair_at ps) ≡ Some p → Swaps (Some p) (Some (key, body)) (q ∷ ps) (cond b ((key, body) ∷ ps) (q ∷ with_replaced cmp key body ps))) [
     | true ↦ λ here. record { before = []; behind = ps; was = ap (λ x. x ∷ ps) (same_some q p here); is = refl }
     | false ↦ λ later. deeper q (Some p) (Some (key, body)) ps (with_replaced cmp key body ps) (with_replaced-swaps ps p later)

@@ -1,5 +1,5 @@
 -- Lemmas about the definitions of specs/Finds.antt.
-use Rattle.std.proofs.Common.{◌≡◌, inl, inr, ⊎_elim, ℕ, ◌≤◌, Bool, true, false, cond, ◌&&◌, eqb, List, [], ◌∷◌, ◌++◌, length, refl, sym, ap, ◌∙◌, arith}
+use Rattle.std.proofs.Common.{◌≡◌, inl, inr, ℕ, ◌≤◌, Bool, true, false, cond, ◌&&◌, eqb, List, [], ◌∷◌, ◌++◌, length, refl, sym, ap, ◌∙◌, arith}
 use Rattle.std.specs.Prelude.{Option, Some, None}
 use Rattle.std.specs.Bool.{IsTrue}
 use Rattle.std.specs.List.{find}
@@ -8,12 +8,12 @@ use Rattle.std.specs.declared.cmp.Ordering.{Ordering}
 use Rattle.std.specs.declared.cmp.Ordering.TheVariants.{Less, Equal, Greater}
 use Rattle.std.specs.Ordering.{nat_cmp, is_eq, ordering_then}
 use Rattle.std.specs.Cmp.{tied_itself, unsigned_tied}
-use Rattle.std.proofs.lemmas.Bool.{eqb-true, eq-eqb, ne_eqb, true≢false, and_parts, or_cases}
+use Rattle.std.proofs.lemmas.Bool.{eqb-true, eq-eqb, ne_eqb, true≢false}
 use Rattle.hfs_fields.specs.declared.key.CatKey.{CatKey}
 use Rattle.hfs_fields.specs.Keys.{cat_cmp, cat_cmp_total}
 use Rattle.hfs_fields.specs.Names.{is_item_name}
 use Rattle.hfs_fields.specs.Order.{name_cmp}
-use Rattle.hfs_fields.specs.Records.{is_dir, is_file, is_item, is_thread, is_dir_thread, is_file_thread, type_byte, begins_thread, thread_record_of}
+use Rattle.hfs_fields.specs.Records.{is_item, is_thread, begins_thread, thread_record_of}
 use Rattle.hfs_scans.specs.Each.{Each}
 use Rattle.hfs_scans.specs.Members.{In}
 use Rattle.hfs_scans.proofs.ElementLemmas.{each-mono}
@@ -24,8 +24,8 @@ use Rattle.hfs_catalog.specs.Lookups.{thread_of, first_key}
 use Rattle.hfs_catalog_edits.specs.Swaps.{Swaps, list_of}
 use Rattle.hfs_catalog_edits.proofs.SwapLemmas.{passes, swapped_each}
 use Rattle.hfs_catalog_edits.proofs.EditedLemmas.{at_equal_key}
-use Rattle.hfs_catalog_edits.proofs.BodyLemmas.{dir_length, file_length}
 use Rattle.hfs_catalog_edits.specs.Finds.{has_key, record_at, AreThreadsReadable}
+use Rattle.hfs_catalog.proofs.Found.{thread_is_short, item_is_long}
 
 -- ---- the record and its body
 
@@ -80,7 +80,7 @@ module _ {X : Type 0} (p : X → Bool) where
 
 -- ---- threads, by their keys
 
-no_text : (xs : List ℕ) → length xs ≡ 0 → xs ≡ []
+pub no_text : (xs : List ℕ) → length xs ≡ 0 → xs ≡ []
 no_text [] e = refl
 no_text (x ∷ xs) e = absurd (omega arith)
 
@@ -93,7 +93,7 @@ some_text id r some = unnamed_first (nat_cmp id r.0.parent) r.0.name some
     unnamed_first Equal (c ∷ name) le = refl
     unnamed_first Greater (c ∷ name) le = refl
 
-turned_test : (x y : ℕ) → eqb x y ≡ eqb y x
+pub turned_test : (x y : ℕ) → eqb x y ≡ eqb y x
 turned_test x y = by (eqb x y) refl
   where
     by : (b : Bool) → eqb x y ≡ b → eqb x y ≡ eqb y x
@@ -109,20 +109,6 @@ no_text_first id r empty =
     by Less = refl
     by Equal = refl
     by Greater = refl
-
-pub thread_is_short : (body : List ℕ) → is_thread body ≡ true → length body ≡ 46
-thread_is_short body e =
-    ⊎_elim
-    (λ (folder : is_dir_thread body ≡ true). eqb-true (length body) 46 (and_parts (eqb (type_byte body) 3) (eqb (length body) 46) folder).1)
-    (λ (file : is_file_thread body ≡ true). eqb-true (length body) 46 (and_parts (eqb (type_byte body) 4) (eqb (length body) 46) file).1)
-    (or_cases (is_dir_thread body) (is_file_thread body) e)
-
-item_is_long : (body : List ℕ) → is_item body ≡ true → 70 ≤ length body
-item_is_long body e =
-    ⊎_elim
-    (λ (folder : is_dir body ≡ true). omega (arith, dir_length body folder))
-    (λ (file : is_file body ≡ true). omega (arith, file_length body file))
-    (or_cases (is_dir body) (is_file body) e)
 
 pub item_no_thread : (body : List ℕ) → is_item body ≡ true → is_thread body ≡ false
 item_no_thread body item = by (is_thread body) refl

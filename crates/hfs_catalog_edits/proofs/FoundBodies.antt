@@ -11,6 +11,7 @@ use Rattle.hfs_catalog_edits.specs.Bodies.{IfBody}
 use Rattle.hfs_catalog_edits.proofs.BodyLemmas.{dir_length}
 use Rattle.hfs_catalog_edits.specs.Finds.{record_at}
 use Rattle.hfs_catalog_edits.proofs.FindLemmas.{body_at}
+use Rattle.hfs_catalog.proofs.Held.{none_some}
 
 -- the body that is there has what a body there has
 pub body_has : (P : List ℕ → Type 0) (o : Option (List ℕ)) (body : List ℕ) → IfBody P o → o ≡ Some body → P body
@@ -21,11 +22,6 @@ pub is_dir-begins : (body : List ℕ) → is_dir body ≡ true → begins_dir bo
 unfolding begins_dir
 is_dir-begins body is =
     λ i. le-leb 70 (length body) (omega (arith, dir_length body is)) i && (and_parts (eqb (type_byte body) 1) (eqb (length body) 70) is).0 i
-
--- ---- the record of a body
-
-none_some : {A : Type 0} (x : A) → None ≡ Some x → ⊥
-none_some x e = cc
 
 pub record_with : (key : CatKey) (catalog : Catalog) (body : List ℕ) → lookup cat_cmp key catalog ≡ Some body → (r : Record) × (record_at key catalog ≡ Some r) × (r.1 ≡ body)
 record_with key catalog body found = by (record_at key catalog) refl

@@ -36,6 +36,7 @@ use Rattle.hfs_catalog_edits.proofs.FindLemmas.{some_text, still_none, passed_by
 use Rattle.hfs_catalog_edits.specs.RecordEdits.{RecordCame, RecordWent, RecordSet}
 use Rattle.hfs_catalog_edits.specs.ItemEdits.{folder_record, folder_thread, FolderCame, ItemWent, Rekeyed, with_key, RecordMoved, ThreadTurned, ItemRekeyed}
 use Rattle.hfs_catalog_edits.proofs.FoundBodies.{record_with}
+use Rattle.hfs_fields.proofs.OrderLemmas.{eq_is}
 
 -- ---- a folder that comes
 
@@ -94,16 +95,9 @@ module _ (key : CatKey) (old : Store) (there : IfBody (λ body. is_item body ≡
       took = record { free = omega (arith, first.took.free, second.took.free); depth = omega (arith, first.took.depth, second.took.depth) };
     }
 
--- ---- keys that are equal in order
-
-equal_of : (o : Ordering) → is_eq o ≡ true → o ≡ Equal
-equal_of Less e = absurd (true≢false (sym e))
-equal_of Equal e = refl
-equal_of Greater e = absurd (true≢false (sym e))
-
 module _ (here to : CatKey) (tie : is_eq (cat_cmp here to) ≡ true) where
   same_key : (r : Record) → has_key to r ≡ has_key here r
-  same_key r = ap is_eq (sym (cat_cmp_total.congr here to r.0 (equal_of (cat_cmp here to) tie)))
+  same_key r = ap is_eq (sym (cat_cmp_total.congr here to r.0 (eq_is (cat_cmp here to) tie)))
 
   pub equal_lookup : (catalog : Catalog) → lookup cat_cmp to catalog ≡ lookup cat_cmp here catalog
   equal_lookup [] = refl
@@ -113,7 +107,7 @@ module _ (here to : CatKey) (tie : is_eq (cat_cmp here to) ≡ true) where
   equal_record [] = refl
   equal_record (r ∷ rest) = (λ i. cond (same_key r i) (Some r) (record_at to rest)) ∙ ap (cond (has_key here r) (Some r)) (equal_record rest)
 
-equal_parents : (x y : CatKey) → is_eq (cat_cmp x y) ≡ true → x.parent ≡ y.parent
+pub equal_parents : (x y : CatKey) → is_eq (cat_cmp x y) ≡ true → x.parent ≡ y.parent
 equal_parents x y e = elim (nat_cmp x.parent y.parent) as (λ (o : Ordering). nat_cmp x.parent y.parent ≡ o → is_eq (ordering_then o (name_cmp x.name y.name)) ≡ true → x.parent ≡ y.parent) [
   | Less ↦ λ is h. absurd (true≢false (sym h))
   | Equal ↦ λ is h. ranked x.parent y.parent Equal (sym is)

@@ -11,24 +11,17 @@ use Rattle.hfs_btree_edits.specs.KeptKeys.{tree_keys, EachKey, IsKeyOr}
 use Rattle.hfs_btree_edits.proofs.KeptKeyLemmas.{own-keys, key-holds, each-key-mono}
 use Rattle.hfs_catalog.specs.Tree.{cat_keys, IsCatalogTree}
 use Rattle.hfs_catalog_edits.specs.Keeps.{KeepsCatalog}
+use Rattle.hfs_scans.proofs.PartLemmas.{in_parts}
 
 -- ---- elements of lists laid together
 
-in_left : {A : Type 0} (x : A) (xs ys : List A) → In x xs → In x (xs ++ ys)
+pub in_left : {A : Type 0} (x : A) (xs ys : List A) → In x xs → In x (xs ++ ys)
 in_left x [] ys there = absurd there
 in_left x (y ∷ xs) ys there = ⊎_elim (λ (e : y ≡ x). inl e) (λ (later : In x xs). inr (in_left x xs ys later)) there
 
-in_right : {A : Type 0} (x : A) (xs ys : List A) → In x ys → In x (xs ++ ys)
+pub in_right : {A : Type 0} (x : A) (xs ys : List A) → In x ys → In x (xs ++ ys)
 in_right x [] ys there = there
 in_right x (y ∷ xs) ys there = inr (in_right x xs ys there)
-
-in_parts : {A : Type 0} (x : A) (xs ys : List A) → In x (xs ++ ys) → In x xs ⊎ In x ys
-in_parts x [] ys there = inr there
-in_parts x (y ∷ xs) ys there =
-    ⊎_elim
-    (λ (e : y ≡ x). inl (inl e))
-    (λ (later : In x (xs ++ ys)). ⊎_elim (λ (l : In x xs). inl (inr l)) (λ (r : In x ys). inr r) (in_parts x xs ys later))
-    there
 
 three_parts : {A : Type 0} (x : A) (xs ys zs : List A) → In x (xs ++ (ys ++ zs)) → In x ((xs ++ ys) ++ zs)
 three_parts x [] ys zs there = there

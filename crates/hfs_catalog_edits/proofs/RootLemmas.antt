@@ -1,10 +1,10 @@
 -- Lemmas about the definitions of specs/Roots.antt.
-use Rattle.std.proofs.Common.{◌≡◌, ◌⊎◌, inl, inr, ⊎_elim, ℕ, ◌≤◌, ◌<◌, List, [], ◌∷◌, ◌++◌, refl, sym, ap, subst, arith, Option}
+use Rattle.std.proofs.Common.{◌≡◌, ◌⊎◌, ⊎_elim, ℕ, ◌≤◌, ◌<◌, List, [], ◌∷◌, ◌++◌, sym, ap, subst, arith, Option}
 use Rattle.std.specs.Bool.{IsTrue}
-use Rattle.std.specs.Ordering.{nat_cmp, ordering_then}
+use Rattle.std.specs.Ordering.{ordering_then}
 use Rattle.std.specs.declared.cmp.Ordering.{Ordering}
-use Rattle.std.specs.declared.cmp.Ordering.TheVariants.{Less, Equal, Greater}
-use Rattle.std.specs.Cmp.{nat_cmp_is, ranked}
+use Rattle.std.specs.declared.cmp.Ordering.TheVariants.{Less, Greater}
+use Rattle.std.specs.Cmp.{nat_cmp_is}
 use Rattle.std.proofs.lemmas.Bool.{eqb-true, and_parts}
 use Rattle.hfs_fields.specs.declared.key.CatKey.{CatKey}
 use Rattle.hfs_fields.specs.Keys.{cat_cmp}
@@ -18,6 +18,9 @@ use Rattle.hfs_catalog.specs.Records.{Record, Catalog, has_id}
 use Rattle.hfs_catalog.specs.Sound.{HasRightId, AreIdsSound, IsRoot, IsGiven}
 use Rattle.hfs_catalog_edits.specs.Swaps.{Swaps, list_of}
 use Rattle.hfs_catalog_edits.specs.Roots.{HasRoot}
+use Rattle.hfs_catalog.proofs.Steps.{parents_rise}
+use Rattle.hfs_catalog_edits.proofs.KeepLemmas.{in_left, in_right}
+use Rattle.hfs_scans.proofs.PartLemmas.{in_parts}
 
 -- a sound catalog has it
 pub sound_has_root : (next : ℕ) (catalog : Catalog) → AreIdsSound next catalog → HasRoot catalog
@@ -34,37 +37,19 @@ sound_has_root next catalog ids =
           (each_in (λ (r : Record). IsTrue (is_item r.1) → HasRightId next r) catalog ids.root.0 ids.each found.0 both.0);
     }
 
--- ---- what stands there still stands there when another one went
-
-in_append : {A : Type 0} (x : A) (xs ys : List A) → In x (xs ++ ys) → In x xs ⊎ In x ys
-in_append x [] ys there = inr there
-in_append x (y ∷ xs) ys there =
-    ⊎_elim
-    (λ (e : y ≡ x). inl (inl e))
-    (λ (later : In x (xs ++ ys)). ⊎_elim (λ (l : In x xs). inl (inr l)) (λ (r : In x ys). inr r) (in_append x xs ys later))
-    there
-
-in_first : {A : Type 0} (x : A) (xs ys : List A) → In x xs → In x (xs ++ ys)
-in_first x [] ys there = absurd there
-in_first x (y ∷ xs) ys there = ⊎_elim (λ (e : y ≡ x). inl e) (λ (later : In x xs). inr (in_first x xs ys later)) there
-
-in_second : {A : Type 0} (x : A) (xs ys : List A) → In x ys → In x (xs ++ ys)
-in_second x [] ys there = there
-in_second x (y ∷ xs) ys there = inr (in_second x xs ys there)
-
 module _ {X : Type 0} (went come : Option X) (old new : List X) (swap : Swaps went come old new) where
   -- what stood there stands there, unless it is what went
   pub swapped_in : (x : X) → (In x (list_of went) → ⊥) → In x old → In x new
   swapped_in x other there =
       subst (In x) (sym swap.is)
       (⊎_elim
-      (λ (before : In x swap.before). in_first x swap.before (list_of come ++ swap.behind) before)
+      (λ (before : In x swap.before). in_left x swap.before (list_of come ++ swap.behind) before)
       (λ (rest : In x (list_of went ++ swap.behind)).
       ⊎_elim
       (λ (is : In x (list_of went)). absurd (other is))
-      (λ (behind : In x swap.behind). in_second x swap.before (list_of come ++ swap.behind) (in_second x (list_of come) swap.behind behind))
-      (in_append x (list_of went) swap.behind rest))
-      (in_append x swap.before (list_of went ++ swap.behind) (subst (In x) swap.was there)))
+      (λ (behind : In x swap.behind). in_right x swap.before (list_of come ++ swap.behind) (in_right x (list_of come) swap.behind behind))
+      (in_parts x (list_of went) swap.behind rest))
+      (in_parts x swap.before (list_of went ++ swap.behind) (subst (In x) swap.was there)))
 
 -- the root stays, unless it is what went
 pub root_stays : (went come : Option Record) (old new : Catalog) → Swaps went come old new → ((r : Record) → In r (list_of went) → 2 ≤ r.0.parent) → HasRoot old → HasRoot new
@@ -79,13 +64,6 @@ root_stays went come old new swap other has = record {
 not_less : (o : Ordering) → ordering_then Greater o ≡ Less → ⊥
 not_less o e = cc
 
-lower_parent : (x y : CatKey) → cat_cmp x y ≡ Less → x.parent ≤ y.parent
-lower_parent x y less = elim (nat_cmp x.parent y.parent) as (λ (o : Ordering). nat_cmp x.parent y.parent ≡ o → ordering_then o (name_cmp x.name y.name) ≡ Less → x.parent ≤ y.parent) [
-  | Less ↦ λ e h. let is : x.parent < y.parent = ranked x.parent y.parent Less (sym e) in omega (arith, is)
-  | Equal ↦ λ e h. let is : x.parent ≡ y.parent = ranked x.parent y.parent Equal (sym e) in omega (arith, is)
-  | Greater ↦ λ e h. absurd (not_less (name_cmp x.name y.name) h)
-] refl less
-
 pub below_by_parent : (x y : CatKey) → x.parent < y.parent → cat_cmp x y ≡ Less
 below_by_parent x y lt = ap (λ (o : Ordering). ordering_then o (name_cmp x.name y.name)) (sym (nat_cmp_is x.parent y.parent Less lt))
 
@@ -96,5 +74,5 @@ above_root (r ∷ rest) key rises has high = below_by_parent r.0 key (omega (ari
     low : r.0.parent ≤ 1
     low = ⊎_elim
         (λ (here : r ≡ has.root). omega (arith, ap (λ (q : Record). q.0.parent) here, has.parent))
-        (λ (later : In has.root rest). let le = lower_parent r.0 has.root.0 (each_in (λ (q : Record). cat_cmp r.0 q.0 ≡ Less) rest has.root rises.0 later) in omega (arith, le, has.parent))
+        (λ (later : In has.root rest). let le = parents_rise r.0 has.root.0 (each_in (λ (q : Record). cat_cmp r.0 q.0 ≡ Less) rest has.root rises.0 later) in omega (arith, le, has.parent))
         has.there

@@ -22,7 +22,8 @@ use Rattle.hfs_catalog.specs.Sound.{IsRecord}
 use Rattle.hfs_catalog_edits.specs.Swaps.{Swaps}
 use Rattle.hfs_catalog_edits.proofs.KeepLemmas.{keeps_itself, keeps_more}
 use Rattle.hfs_catalog_edits.specs.Finds.{record_at, AreThreadsReadable}
-use Rattle.hfs_catalog_edits.proofs.FindLemmas.{thread_at_key, thread_is_short}
+use Rattle.hfs_catalog.proofs.Found.{thread_is_short}
+use Rattle.hfs_catalog_edits.proofs.FindLemmas.{thread_at_key}
 use Rattle.hfs_catalog_edits.specs.Bodies.{turned, turned_record}
 use Rattle.hfs_catalog_edits.specs.RecordEdits.{RecordWent, RecordSet}
 use Rattle.hfs_catalog_edits.specs.ItemEdits.{ThreadTurned}

@@ -1,7 +1,7 @@
 -- A new item's record, its thread's, and its folder's with one more child.
 use Rattle.std.proofs.Common.{◌≡◌, inl, inr, ⊎_elim, ℕ, ◌+◌, ◌≤◌, Bool, true, false, cond, ◌&&◌, eqb, [], ◌∷◌, count_by, refl, sym, ◌∙◌, ap, subst, arith, Option, Some, None}
 use Rattle.std.specs.Cmp.{nat_cmp_total}
-use Rattle.std.specs.Option.{option_map, option_map_or, unwrap_or}
+use Rattle.std.specs.Option.{option_map, option_map_or}
 use Rattle.std.specs.List.{sum_by}
 use Rattle.std.specs.FinMap as map
 use Rattle.std.proofs.lemmas.Bool.{eqb-true, ne_eqb, true≢false, and_parts}
@@ -27,21 +27,14 @@ use Rattle.hfs_changes.specs.Steps.{IfThere, IsThreadOf, is_there}
 use Rattle.hfs_changes.proofs.LinkLemmas.{AreLinked, AreCounted}
 use Rattle.hfs_changes.specs.Sound.{IsNearlySound}
 use Rattle.hfs_changes.specs.Changes.{KeepsContents, IsItsThread, HasAdded}
-use Rattle.hfs_changes.proofs.Items.{with_id}
+use Rattle.hfs_catalog.proofs.Held.{with_id}
 use Rattle.hfs_changes.proofs.FromLawful.{sound}
 use Rattle.hfs_changes.proofs.Linked.{sound_once, sound_linked, sound_counted, nearly_sound}
 use Rattle.hfs_changes.proofs.Relinked.{by_id, past_id, linked_edit, linked_both, linked_file}
 use Rattle.hfs_changes.proofs.Maps.{get_put, get_touched, at_moment, same_item_at, folder_item}
 use Rattle.hfs_changes.proofs.SetItems.{edit_step, edit_records, edit_names, edit_children}
-
-same_some : {A : Type 0} (x y : A) → Some x ≡ Some y → x ≡ y
-same_some x y e = ap (λ o. unwrap_or o x) e
-
-none_some : {A : Type 0} (x : A) → None ≡ Some x → ⊥
-none_some x e = cc
-
-some_none : {A : Type 0} (x : A) → Some x ≡ None → ⊥
-some_none x e = cc
+use Rattle.hfs_catalog.proofs.Held.{none_some}
+use Rattle.hfs_model.proofs.Facts.{same_some}
 
 -- ---- the next ID is nobody's
 

@@ -27,11 +27,11 @@ use Rattle.hfs_check.specs.Sound.{AreBlocksSound}
 use Rattle.hfs_check.specs.VolumeOf.{bytes_in, contents_in}
 use Rattle.hfs_changes.specs.Changes.{KeepsContents}
 use Rattle.hfs_changes.specs.OnBlocks.{EditsCatalog}
-use Rattle.hfs_changes.proofs.Items.{with_id}
+use Rattle.hfs_catalog.proofs.Held.{with_id}
 use Rattle.hfs_changes.proofs.Space.{extents_parts, record_has, owners_sum, owned_distinct}
 use Rattle.hfs_changes.proofs.Frames.{each_range, block_in, beside_file, same_bytes, same_nodes}
 
-each_take : {X : Type 0} (P : X → Type 0) (n : ℕ) (xs : List X) → Each P xs → Each P (take n xs)
+pub each_take : {X : Type 0} (P : X → Type 0) (n : ℕ) (xs : List X) → Each P xs → Each P (take n xs)
 each_take P zero [] h = tt
 each_take P zero (x ∷ xs) h = tt
 each_take P (suc n) [] h = tt

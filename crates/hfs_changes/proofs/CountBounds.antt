@@ -22,16 +22,18 @@ use Rattle.hfs_changes.specs.Changes.{IsFolderWith}
 use Rattle.hfs_changes.proofs.OnceLemmas.{counted}
 use Rattle.hfs_changes.specs.SettingLaws.{IsChoice}
 use Rattle.hfs_changes.specs.BoundLaws.{HasRoomForOne, CreationFits, CountsItem, RemovalFits, CountsMove, MoveFits}
-use Rattle.hfs_changes.proofs.Items.{with_id, item_parent}
+use Rattle.hfs_catalog.proofs.Held.{with_id}
+use Rattle.hfs_changes.proofs.Items.{item_parent}
 use Rattle.hfs_changes.proofs.Linked.{sound_counted}
-use Rattle.hfs_changes.proofs.Chosen.{MayCreate, not_false, may_create, delete_chosen, may_move}
+use Rattle.hfs_model.proofs.Facts.{not_not as not_false}
+use Rattle.hfs_changes.proofs.Chosen.{MayCreate, may_create, delete_chosen, may_move}
 use Rattle.hfs_changes.proofs.Dropped.{not_in_itself}
 use Rattle.hfs_changes.proofs.Removal.{some_child}
 use Rattle.hfs_changes.proofs.Made.{dir-not_file, other_kind}
 
 -- ---- records of two kinds
 
-ones : (p : Record → Bool) (x : Record) (xs : Catalog) → count_by p (x ∷ xs) ≡ one_if (p x) + count_by p xs
+pub ones : (p : Record → Bool) (x : Record) (xs : Catalog) → count_by p (x ∷ xs) ≡ one_if (p x) + count_by p xs
 ones p x xs = sum_by-cons (λ (y : Record). one_if (p y)) x xs
 
 at_most : (b : Bool) → one_if b ≤ 1

@@ -34,7 +34,7 @@ use Rattle.hfs_changes.specs.Changes.{KeepsContents}
 use Rattle.hfs_changes.specs.Deletion.{MakesDeletion, DeletionsAreSteps}
 use Rattle.hfs_changes.specs.Laws.{IsStepped}
 use Rattle.hfs_changes.proofs.FromLawful.{sound}
-use Rattle.hfs_changes.proofs.Items.{with_id}
+use Rattle.hfs_catalog.proofs.Held.{with_id}
 use Rattle.hfs_changes.proofs.Maps.{same_item_at}
 use Rattle.hfs_changes.proofs.Space.{owned_each, each_owned, owned_distinct, distinct_owned}
 use Rattle.hfs_changes.proofs.DroppedSpace.{stray_same}

@@ -1,5 +1,5 @@
 -- Of a sound volume from which a file goes stay the catalog's extents, the bytes of all other forks, and the bitmap but for the file's bits.
-use Rattle.std.proofs.Common.{◌≡◌, ⊎_elim, ℕ, zero, suc, ◌+◌, ◌<◌, ◌≤◌, Bool, true, cond, ◌||◌, List, [], ◌∷◌, ◌++◌, take, refl, sym, ◌∙◌, ap, arith}
+use Rattle.std.proofs.Common.{◌≡◌, ⊎_elim, ℕ, ◌+◌, ◌<◌, ◌≤◌, Bool, true, cond, ◌||◌, List, [], ◌∷◌, ◌++◌, refl, sym, ◌∙◌, ap, arith}
 use Rattle.std.specs.List.{flat_map, sum_by}
 use Rattle.std.proofs.lemmas.List.Sums.{sum_by-cons}
 use Rattle.hfs_fields.specs.declared.mdb.Mdb.{Mdb}
@@ -25,16 +25,11 @@ use Rattle.hfs_check.specs.VolumeOf.{bytes_in, contents_in}
 use Rattle.hfs_check.specs.Agree.{bitmap_blocks, node_blocks, changing_blocks}
 use Rattle.hfs_changes.specs.Changes.{KeepsContents}
 use Rattle.hfs_changes.specs.Deletion.{EditsVolume, AreOtherFiles}
-use Rattle.hfs_changes.proofs.Items.{with_id}
+use Rattle.hfs_catalog.proofs.Held.{with_id}
 use Rattle.hfs_changes.proofs.Space.{extents_parts, record_has, owners_sum, owned_distinct}
 use Rattle.hfs_changes.proofs.Frames.{each_range, block_in, beside_file, same_bytes}
 use Rattle.hfs_changes.proofs.DroppedForks.{extents_kept}
-
-each_take : {X : Type 0} (P : X → Type 0) (n : ℕ) (xs : List X) → Each P xs → Each P (take n xs)
-each_take P zero [] h = tt
-each_take P zero (x ∷ xs) h = tt
-each_take P (suc n) [] h = tt
-each_take P (suc n) (x ∷ xs) h = (h.0, each_take P n xs h.1)
+use Rattle.hfs_changes.proofs.CatalogEdits.{each_take}
 
 part_of_sum : {X : Type 0} (f : X → ℕ) (xs : List X) (x : X) → In x xs → f x ≤ sum_by f xs
 part_of_sum f [] x there = absurd there

@@ -41,7 +41,7 @@ use Rattle.hfs_changes.proofs.DroppedForks.{owners_dropped}
 use Rattle.hfs_changes.proofs.DroppedSpace.{dropped_forks}
 use Rattle.hfs_changes.proofs.DeletedFrames.{record_once, record_owns}
 use Rattle.hfs_changes.proofs.FromLawful.{each_of}
-use Rattle.hfs_changes.proofs.Items.{with_id}
+use Rattle.hfs_catalog.proofs.Held.{with_id}
 use Rattle.hfs_changes.proofs.KeptSpace.{no_file_forks, thread_no_dir, thread_no_file}
 use Rattle.hfs_changes.proofs.Linked.{with_thread}
 use Rattle.hfs_changes.proofs.Made.{file_id, file-not_dir, dir-not_file, folder_touched, touched_record}

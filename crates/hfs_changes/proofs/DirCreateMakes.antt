@@ -31,7 +31,7 @@ use Rattle.hfs_changes.proofs.OnceLemmas.{counted}
 use Rattle.hfs_changes.specs.Changes.{thread_record, HasAdded, with_children}
 use Rattle.hfs_changes.specs.CreationLaws.{with_folder, folder_record_in, DirCreateMakes}
 use Rattle.hfs_changes.specs.Laws.{MakesStep}
-use Rattle.hfs_changes.proofs.Items.{with_id}
+use Rattle.hfs_catalog.proofs.Held.{with_id}
 use Rattle.hfs_changes.proofs.Chosen.{may_create}
 use Rattle.hfs_changes.proofs.CountBounds.{short_by}
 use Rattle.hfs_changes.proofs.LedThreads.{new_thread_is}
@@ -39,7 +39,8 @@ use Rattle.hfs_changes.proofs.NewItems.{new_folder_item, has_added}
 use Rattle.hfs_changes.proofs.Added.{near, added_items, one_more_count}
 use Rattle.hfs_changes.proofs.KeptSpace.{thread_no_dir, thread_no_file, new_forks, added_forks, added_owners}
 use Rattle.hfs_changes.proofs.CatalogEdits.{keeps_contents}
-use Rattle.hfs_changes.proofs.Made.{dir-read, dir_item, dir-not_file, new_folder_is, touched_record, folder_touched}
+use Rattle.hfs_changes.proofs.Maps.{folder_item as dir_item}
+use Rattle.hfs_changes.proofs.Made.{dir-read, dir-not_file, new_folder_is, touched_record, folder_touched}
 use Rattle.hfs_changes.specs.OnBlocks.{HasTree}
 
 module _ (law : ItemsAreRecords) (catalogs : CatalogIsSound) (total now dir : ℕ) (name : List ℕ) (th r : Record) (old new : Blocks) (h : AreBlocksSound total old)

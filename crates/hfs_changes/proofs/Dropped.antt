@@ -1,7 +1,7 @@
 -- An item's record goes, and its thread's, and then comes its folder's with one child fewer.
 use Rattle.std.proofs.Common.{◌≡◌, ⊎_elim, ℕ, zero, suc, ◌+◌, ◌≤◌, Bool, true, false, cond, ◌&&◌, eqb, count_by, refl, sym, ◌∙◌, ap, subst, arith, Option, Some, None}
 use Rattle.std.specs.Cmp.{nat_cmp_total}
-use Rattle.std.specs.Option.{option_map, unwrap_or}
+use Rattle.std.specs.Option.{option_map}
 use Rattle.std.specs.List.{sum_by}
 use Rattle.std.specs.FinMap as map
 use Rattle.std.proofs.lemmas.Bool.{eqb-true, eq-eqb, ne_eqb, true≢false}
@@ -28,18 +28,14 @@ use Rattle.hfs_changes.specs.Steps.{IfThere, IsThreadOf}
 use Rattle.hfs_changes.proofs.LinkLemmas.{AreLinked, AreCounted}
 use Rattle.hfs_changes.specs.Sound.{IsNearlySound}
 use Rattle.hfs_changes.specs.Changes.{KeepsOthers, HasDropped}
-use Rattle.hfs_changes.proofs.Items.{with_id}
+use Rattle.hfs_catalog.proofs.Held.{with_id}
 use Rattle.hfs_changes.proofs.FromLawful.{sound}
 use Rattle.hfs_changes.proofs.Linked.{with_thread, sound_once, sound_linked, sound_counted, nearly_sound}
 use Rattle.hfs_changes.proofs.Relinked.{by_id, past_id, linked_edit, linked_none}
 use Rattle.hfs_changes.proofs.Maps.{get_removed, get_touched, at_moment, same_item_at, folder_item}
 use Rattle.hfs_changes.proofs.SetItems.{edit_step, edit_records, edit_names, edit_children}
-
-same_some : {A : Type 0} (x y : A) → Some x ≡ Some y → x ≡ y
-same_some x y e = ap (λ o. unwrap_or o x) e
-
-none_some : {A : Type 0} (x : A) → None ≡ Some x → ⊥
-none_some x e = cc
+use Rattle.hfs_catalog.proofs.Held.{none_some}
+use Rattle.hfs_model.proofs.Facts.{same_some}
 
 -- ---- no item stands in itself
 

@@ -18,7 +18,8 @@ use Rattle.hfs_catalog.specs.Records.{Record, Catalog}
 use Rattle.hfs_catalog_edits.specs.Swaps.{one_if}
 use Rattle.hfs_changes.proofs.FromLawful.{each_of}
 use Rattle.hfs_changes.proofs.Forks.{any_in, any_counts, counts_any}
-use Rattle.hfs_changes.proofs.NoForks.{ExtRecord, has_key, run_misses}
+use Rattle.hfs_space.proofs.RunSteps.{Record as ExtRecord}
+use Rattle.hfs_changes.proofs.NoForks.{has_key, run_misses}
 use Rattle.hfs_space_edits.specs.Overflows.{is_of_other, without_file}
 use Rattle.hfs_changes.proofs.DroppedForks.{run_kept, extents_kept}
 

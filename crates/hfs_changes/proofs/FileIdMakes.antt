@@ -44,13 +44,16 @@ use Rattle.hfs_changes.specs.OnBlocks.{at_time, HasTree}
 use Rattle.hfs_changes.specs.Laws.{MakesStep}
 use Rattle.hfs_changes.specs.FileIdLaws.{with_thread_flag, file_with_flag, CreateFileIdMakes, DeleteFileIdMakes}
 use Rattle.hfs_changes.specs.PlaceLaws.{FileIsThreadless}
-use Rattle.hfs_changes.proofs.Items.{with_id, item_kind}
+use Rattle.hfs_catalog.proofs.Held.{with_id}
+use Rattle.hfs_changes.proofs.Items.{item_kind}
 use Rattle.hfs_changes.proofs.Maps.{thread_known}
 use Rattle.hfs_changes.proofs.LedThreads.{new_thread_is}
 use Rattle.hfs_changes.proofs.StepLemmas.{item_threads}
 use Rattle.hfs_changes.proofs.Linked.{sound_once}
 use Rattle.hfs_changes.proofs.SetItems.{edit_step}
-use Rattle.hfs_changes.proofs.Chosen.{chained, unless, same_ok}
+use Rattle.hfs_model.proofs.KeepsCalls.{chained}
+use Rattle.hfs_model.proofs.Facts.{not_refused as unless}
+use Rattle.hfs_changes.proofs.Chosen.{same_ok}
 use Rattle.hfs_changes.proofs.Turned.{HasTurned, threads_after, renamed_near, rekeyed_items}
 use Rattle.hfs_changes.proofs.TurnedForks.{as_many, turned_forks, turned_owners}
 use Rattle.hfs_changes.proofs.KeptSpace.{thread_no_dir, thread_no_file}

@@ -36,11 +36,13 @@ use Rattle.hfs_changes.specs.Changes.{IsFolderWith}
 use Rattle.hfs_changes.specs.SettingLaws.{IsChoice, with_name}
 use Rattle.hfs_changes.specs.MoveLaws.{under_folder}
 use Rattle.hfs_changes.specs.PlaceLaws.{FolderIdIs, CreationIsFree, NextIsThreadless, MoveIsFree, RenameIsFree}
-use Rattle.hfs_changes.proofs.Items.{with_id, item_parent, item_name}
+use Rattle.hfs_catalog.proofs.Held.{with_id}
+use Rattle.hfs_changes.proofs.Items.{item_parent, item_name}
 use Rattle.hfs_changes.proofs.Linked.{sound_once}
 use Rattle.hfs_changes.proofs.Added.{no_thread}
 use Rattle.hfs_changes.proofs.Chosen.{may_create, may_move, may_rename}
 use Rattle.hfs_changes.proofs.NewItems.{named_long}
+use Rattle.hfs_model.proofs.Facts.{not_some}
 
 -- ---- keys that are equal in order
 
@@ -89,10 +91,6 @@ none_passes p xs x none there e = let some = counted p xs x there e in omega (ar
 none_mapped : {A B : Type 0} (f : A → B) (o : Option A) → is_some (option_map f o) ≡ false → o ≡ None
 none_mapped f None e = refl
 none_mapped f (Some x) e = absurd (true≢false e)
-
-none_some : {A : Type 0} (o : Option A) → is_some o ≡ false → o ≡ None
-none_some None e = refl
-none_some (Some x) e = absurd (true≢false e)
 
 module _ (catalogs : CatalogIsSound) (total : ℕ) (old : Blocks) (h : AreBlocksSound total old) where
   abbrev catalog : Catalog
@@ -150,7 +148,7 @@ module _ (catalogs : CatalogIsSound) (total : ℕ) (old : Blocks) (h : AreBlocks
     unfolding is_taken volume_in
     untaken x there item parent same other =
         let es = entries_of (volume_in old) in
-        let none = none_some (find (is_other_named dir new_name c.id) es) (may_rename (volume_in old) dir name new_name e c.is).free in
+        let none = not_some (find (is_other_named dir new_name c.id) es) (may_rename (volume_in old) dir name new_name e c.is).free in
         let its : Entry = entry_of (contents_in old) catalog x in
         let found : model.entry_at es (item_id x.1) ≡ Some its = entries (contents_in old) catalog (item_id x.1)
         ∙ ap (option_map (entry_of (contents_in old) catalog)) (item_found catalog x (sound_once (mdb_in old).next_id catalog sound).items there item) in

@@ -1,6 +1,6 @@
 -- A catalog is sound where its items are lawful and it is nearly sound.
 use Rattle.std.proofs.Common.{◌≡◌, ◌⊎◌, inl, inr, ⊎_elim, ℕ, true, false, List, [], ◌∷◌, refl, sym, ◌∙◌, ap, subst, arith, Option, Some, None}
-use Rattle.std.specs.Option.{option_map, option_map_or, unwrap_or}
+use Rattle.std.specs.Option.{option_map, option_map_or}
 use Rattle.hfs_fields.specs.Records.{is_dir, is_item, item_id}
 use Rattle.hfs_scans.specs.Each.{Each}
 use Rattle.hfs_scans.specs.Members.{In}
@@ -17,12 +17,7 @@ use Rattle.hfs_catalog.specs.Laws.{ItemsAreRecords}
 use Rattle.hfs_changes.proofs.OnceLemmas.{item_found, once_distinct}
 use Rattle.hfs_changes.specs.Sound.{IsNearlySound}
 use Rattle.hfs_changes.proofs.Items.{item_parent, item_kind, has_item, has_record}
-
-same_some : {A : Type 0} (x y : A) → Some x ≡ Some y → x ≡ y
-same_some x y e = ap (λ o. unwrap_or o x) e
-
-none_some : {A : Type 0} (x : A) → None ≡ Some x → ⊥
-none_some x e = cc
+use Rattle.hfs_model.proofs.Facts.{same_some}
 
 -- what holds of each that stands there
 pub each_of : {X : Type 0} (P : X → Type 0) (xs : List X) → ((x : X) → In x xs → P x) → Each P xs

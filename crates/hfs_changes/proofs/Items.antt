@@ -1,28 +1,16 @@
 -- The items of a catalog by the law that they are its records'.
-use Rattle.std.proofs.Common.{◌≡◌, ℕ, Bool, true, false, cond, eqb, refl, sym, ◌∙◌, ap, Option, Some, None}
-use Rattle.std.specs.Option.{option_map, unwrap_or}
-use Rattle.std.proofs.lemmas.Bool.{eqb-true, and_parts}
+use Rattle.std.proofs.Common.{◌≡◌, ℕ, Bool, true, false, cond, refl, sym, ◌∙◌, ap, Option, Some, None}
+use Rattle.std.specs.Option.{option_map}
 use Rattle.hfs_fields.specs.Records.{is_dir, is_item, item_id, dir_record_of, file_record_of}
 use Rattle.hfs_scans.specs.Members.{In}
-use Rattle.hfs_scans.proofs.MemberLemmas.{found_in}
 use Rattle.hfs_model.specs.declared.item.Item.{Item}
 use Rattle.hfs_model.specs.Children.{is_folder_kind}
 use Rattle.hfs_model.specs.Lawful.{Has}
-use Rattle.hfs_catalog.specs.Records.{Record, Catalog, has_id, item_with, has_thread}
+use Rattle.hfs_catalog.specs.Records.{Record, Catalog, item_with, has_thread}
 use Rattle.hfs_catalog.specs.Items.{Contents, folder_of, file_of, item_of, items_in}
 use Rattle.hfs_catalog.specs.Laws.{ItemsAreRecords}
-
-none_some : {A : Type 0} (x : A) → None ≡ Some x → ⊥
-none_some x e = cc
-
-same_some : {A : Type 0} (x y : A) → Some x ≡ Some y → x ≡ y
-same_some x y e = ap (λ o. unwrap_or o x) e
-
-pub with_id : (catalog : Catalog) (id : ℕ) (r : Record) → item_with catalog id ≡ Some r → In r catalog × (is_item r.1 ≡ true) × (item_id r.1 ≡ id)
-with_id catalog id r is =
-    let found = found_in (has_id id) catalog r is in
-    let parts = and_parts (is_item r.1) (eqb (item_id r.1) id) found.1 in
-    (found.0, parts.0, eqb-true (item_id r.1) id parts.1)
+use Rattle.hfs_catalog.proofs.Held.{none_some, with_id}
+use Rattle.hfs_model.proofs.Facts.{same_some}
 
 module _ (contents : Contents) (catalog : Catalog) (r : Record) where
   abbrev choice : Bool → Item

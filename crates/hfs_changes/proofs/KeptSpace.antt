@@ -20,12 +20,13 @@ use Rattle.hfs_changes.proofs.OnceLemmas.{item_or_thread}
 use Rattle.hfs_changes.specs.Steps.{IfThere}
 use Rattle.hfs_changes.specs.Changes.{IsItsThread, HasAdded}
 use Rattle.hfs_changes.proofs.ChangeLemmas.{HasSet}
-use Rattle.hfs_changes.proofs.Items.{with_id}
+use Rattle.hfs_catalog.proofs.Held.{with_id}
 use Rattle.hfs_changes.proofs.Space.{record_has}
 use Rattle.hfs_changes.proofs.Forks.{forks_kept, owners_kept}
 use Rattle.hfs_changes.proofs.NoForks.{no_run}
 use Rattle.hfs_changes.proofs.Made.{dir-not_file}
 use Rattle.hfs_changes.proofs.Added.{one_more_count, added_sum}
+use Rattle.hfs_model.proofs.Parents.{or_true}
 
 -- only a file has forks
 pub no_file_forks : (r : Record) → is_file r.1 ≡ false → forks_of r ≡ []
@@ -40,15 +41,11 @@ or_left : (a b : Bool) → a ≡ true → (a || b) ≡ true
 or_left true b e = refl
 or_left false b e = absurd (true≢false (sym e))
 
-or_right : (a b : Bool) → b ≡ true → (a || b) ≡ true
-or_right true b e = refl
-or_right false b e = e
-
 pub thread_no_dir : (r : Record) → is_thread r.1 ≡ true → is_dir r.1 ≡ false
 thread_no_dir r thread = no_item r thread (is_dir r.1) (or_left (is_dir r.1) (is_file r.1))
 
 pub thread_no_file : (r : Record) → is_thread r.1 ≡ true → is_file r.1 ≡ false
-thread_no_file r thread = no_item r thread (is_file r.1) (or_right (is_dir r.1) (is_file r.1))
+thread_no_file r thread = no_item r thread (is_file r.1) (or_true (is_dir r.1) (is_file r.1))
 
 -- ---- a record in place of one with the same forks
 

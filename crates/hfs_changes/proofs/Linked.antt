@@ -16,7 +16,7 @@ use Rattle.hfs_changes.proofs.OnceLemmas.{distinct_once, thread_once, item_found
 use Rattle.hfs_changes.proofs.StepLemmas.{AreOnce}
 use Rattle.hfs_changes.proofs.LinkLemmas.{AreLinked, AreCounted}
 use Rattle.hfs_changes.specs.Sound.{IsNearlySound}
-use Rattle.hfs_changes.proofs.Items.{with_id}
+use Rattle.hfs_catalog.proofs.Held.{with_id}
 use Rattle.hfs_changes.proofs.FromLawful.{each_of}
 
 any_found : {X : Type 0} (p : X → Bool) (xs : List X) → list_any p xs ≡ is_some (find p xs)
@@ -29,9 +29,6 @@ any_found {X} p (x ∷ xs) = by (p x) (any_found p xs)
 
 dir_item : (body : List ℕ) → is_dir body ≡ true → is_item body ≡ true
 dir_item body e = ap (λ (b : Bool). b || is_file body) e
-
-none_some : {A : Type 0} (x : A) → None ≡ Some x → ⊥
-none_some x e = cc
 
 pub with_thread : (catalog : Catalog) (k : ℕ) (t : Record) → thread_of catalog k ≡ Some t → In t catalog × (is_thread t.1 ≡ true) × (t.0.parent ≡ k)
 with_thread catalog k t is =

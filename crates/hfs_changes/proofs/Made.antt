@@ -138,11 +138,6 @@ with_locked has forks key f locked =
 pub dir-read : (d : DirRecord) → IsDirRecordValue d → dir_record_of (dir_record_bytes d) ≡ d
 dir-read d ok = ap dir_record_of (sym (append-nil (dir_record_bytes d))) ∙ dir_record_of-written d [] ok
 
--- the item of a folder's record
-pub dir_item : (c : Contents) (catalog : Catalog) (r : Record) → is_dir r.1 ≡ true → item_of c catalog r ≡ folder_of r.0 (dir_record_of r.1)
-unfolding item_of
-dir_item c catalog r e = ap (λ (b : Bool). cond b (folder_of r.0 (dir_record_of r.1)) (file_of (has_thread catalog (file_record_of r.1).id) (c (file_record_of r.1)) r.0 (file_record_of r.1))) e
-
 pub dir_alike : (r : Record) (d : DirRecord) → is_dir r.1 ≡ true → IsDirRecordValue d → d.id ≡ (dir_record_of r.1).id → IsAlike r (r.0, dir_record_bytes d)
 dir_alike r d folder ok id = record {
   key = refl;

@@ -25,7 +25,8 @@ use Rattle.hfs_changes.proofs.OnceLemmas.{item_or_thread}
 use Rattle.hfs_changes.specs.Changes.{led_to, IsFolderWith, HasRekeyed, HasMoved, folder_with}
 use Rattle.hfs_changes.specs.SettingLaws.{IsChoice}
 use Rattle.hfs_changes.specs.MoveLaws.{under_folder, HasMovedItem}
-use Rattle.hfs_changes.proofs.Items.{with_id, item_parent, item_kind}
+use Rattle.hfs_catalog.proofs.Held.{with_id}
+use Rattle.hfs_changes.proofs.Items.{item_parent, item_kind}
 use Rattle.hfs_changes.proofs.Chosen.{MayMove, may_move}
 use Rattle.hfs_changes.proofs.Made.{folder_alike, folder_valence}
 use Rattle.hfs_changes.proofs.Dropped.{not_in_itself}

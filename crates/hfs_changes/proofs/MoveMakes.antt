@@ -35,7 +35,7 @@ use Rattle.hfs_changes.specs.OnBlocks.{HasTree}
 use Rattle.hfs_changes.specs.Laws.{MakesStep}
 use Rattle.hfs_changes.specs.SettingLaws.{IsChoice}
 use Rattle.hfs_changes.specs.MoveLaws.{under_folder, with_moved, HasMovedItem, CatMoveMakes}
-use Rattle.hfs_changes.proofs.Items.{with_id}
+use Rattle.hfs_catalog.proofs.Held.{with_id}
 use Rattle.hfs_changes.proofs.Maps.{thread_known}
 use Rattle.hfs_changes.proofs.Move as move
 use Rattle.hfs_changes.proofs.MovedItem.{threads2, moved_near, moved_items}
@@ -45,7 +45,8 @@ use Rattle.hfs_changes.proofs.Space.{record_has, forks_have}
 use Rattle.hfs_changes.proofs.Forks.{forks_kept, owners_kept}
 use Rattle.hfs_changes.proofs.KeptSpace.{no_file_forks, thread_no_dir, thread_no_file}
 use Rattle.hfs_changes.proofs.CatalogEdits.{keeps_contents}
-use Rattle.hfs_changes.proofs.Made.{dir_item, file_item, dir-not_file, other_kind, folder_touched}
+use Rattle.hfs_changes.proofs.Maps.{folder_item as dir_item}
+use Rattle.hfs_changes.proofs.Made.{file_item, dir-not_file, other_kind, folder_touched}
 
 moved_folder : (key : CatKey) (dir : ℕ) (body : List ℕ) → folder_of (record key { parent = dir }) (dir_record_of body) ≡ record (folder_of key (dir_record_of body)) { parent = dir }
 unfolding folder_of

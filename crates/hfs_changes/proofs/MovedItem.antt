@@ -1,7 +1,7 @@
 -- An item in another folder.
 use Rattle.std.proofs.Common.{◌≡◌, ℕ, ◌+◌, ◌≤◌, Bool, true, false, cond, eqb, refl, sym, ◌∙◌, ap, subst, arith, Option, Some, None}
 use Rattle.std.specs.Cmp.{nat_cmp_total}
-use Rattle.std.specs.Option.{option_map, unwrap_or}
+use Rattle.std.specs.Option.{option_map}
 use Rattle.std.specs.FinMap as map
 use Rattle.std.proofs.lemmas.Bool.{eqb-true, ne_eqb}
 use Rattle.hfs_fields.specs.Keys.{cat_cmp}
@@ -20,15 +20,13 @@ use Rattle.hfs_changes.proofs.StepLemmas.{AreOnce, ItemStep, with_one, item_once
 use Rattle.hfs_changes.proofs.LinkLemmas.{AreLinked}
 use Rattle.hfs_changes.specs.Sound.{IsNearlySound}
 use Rattle.hfs_changes.specs.Changes.{KeepsContents, HasMoved}
-use Rattle.hfs_changes.proofs.Items.{with_id}
+use Rattle.hfs_catalog.proofs.Held.{with_id}
 use Rattle.hfs_changes.proofs.Linked.{sound_counted, nearly_sound}
 use Rattle.hfs_changes.proofs.Relinked.{by_id, past_id, linked_edit}
 use Rattle.hfs_changes.proofs.Maps.{get_put, get_touched, at_moment, same_item_at, folder_item}
 use Rattle.hfs_changes.proofs.SetItems.{edit_step, edit_records, edit_names, edit_children}
 use Rattle.hfs_changes.proofs.Rekeyed.{once_after, items_after, threads_after, records_after, names_after, linked_after, children_after}
-
-same_some : {A : Type 0} (x y : A) → Some x ≡ Some y → x ≡ y
-same_some x y e = ap (λ o. unwrap_or o x) e
+use Rattle.hfs_model.proofs.Facts.{same_some}
 
 module _ (next k from to : ℕ) (r s : Record) (thread turned : Option Record) (r1 s1 r2 s2 : Record) (old new : Catalog) (h : IsSoundCatalog next old) (moved : HasMoved k from to r s thread turned r1 s1 r2 s2 old new) where
   abbrev middle : Catalog

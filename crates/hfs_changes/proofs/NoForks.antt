@@ -1,5 +1,5 @@
 -- The forks of a new file are empty: no record of the extents tree has an ID that no file has.
-use Rattle.std.proofs.Common.{◌≡◌, inl, inr, ⊎_elim, ℕ, ◌+◌, ◌≤◌, Bool, true, false, cond, ◌||◌, eqb, List, [], ◌∷◌, refl, sym, ◌∙◌, ap, arith}
+use Rattle.std.proofs.Common.{◌≡◌, inl, inr, ⊎_elim, ℕ, ◌+◌, ◌≤◌, Bool, true, false, cond, ◌||◌, eqb, [], ◌∷◌, refl, sym, ◌∙◌, ap, arith}
 use Rattle.std.specs.Prelude.{not}
 use Rattle.std.specs.List.{list_any}
 use Rattle.std.specs.declared.cmp.Ordering.{Ordering}
@@ -20,9 +20,7 @@ use Rattle.hfs_catalog.specs.Records.{Record, Catalog}
 use Rattle.hfs_catalog.specs.Sound.{IsRoot, IsGiven, IsSoundCatalog}
 use Rattle.hfs_changes.proofs.Forks.{any_in}
 use Rattle.hfs_changes.proofs.Made.{file_id, file-not_dir}
-
-abbrev pub ExtRecord : Type 0
-ExtRecord = ExtKey × List ℕ
+use Rattle.hfs_space.proofs.RunSteps.{Record as ExtRecord}
 
 then_differs : (o p : Ordering) → is_eq o ≡ false → is_eq (ordering_then o p) ≡ false
 then_differs Less p e = refl

@@ -7,7 +7,6 @@ use Rattle.std.specs.FinMap as finite
 use Rattle.std.proofs.lemmas.Bool.{eqb-true, true≢false, or_cases, or_left, or_right}
 use Rattle.std.proofs.lemmas.Option.{none-some, same_Some}
 use Rattle.std.proofs.lemmas.List.{length-map}
-use Rattle.std.proofs.lemmas.List.Sums.{sum_by-cons}
 use Rattle.hfs_fields.specs.Records.{is_dir, is_file, is_item}
 use Rattle.hfs_model.specs.declared.item.Item.{Item}
 use Rattle.hfs_model.specs.Volume.{Items, Entry}
@@ -26,8 +25,9 @@ use Rattle.hfs_check.specs.VolumeOf.{contents_in, volume_in}
 use Rattle.hfs_catalog_edits.specs.Swaps.{one_if}
 use Rattle.hfs_changes.specs.OffspringLaws.{lies_by_parents, OffspringByParents}
 use Rattle.hfs_changes.proofs.Items.{item_parent}
-use Rattle.hfs_changes.proofs.Maps.{entry_get}
+use Rattle.hfs_check.proofs.EntryLemmas.{entry_get}
 use Rattle.hfs_changes.proofs.Move.{lies_here}
+use Rattle.hfs_changes.proofs.CountBounds.{ones}
 
 -- ---- searches of more steps
 
@@ -81,9 +81,6 @@ fewer_entries [] = omega (arith, finite.len-empty nat_cmp Item)
 fewer_entries (e ∷ es) =
     let rest = finite.from_entries {R = nat_cmp} es in
     omega (arith, finite.len-insert nat_cmp_total rest e.0 e.1, no_more (finite.contains_key rest e.0) (finite.len rest), fewer_entries es)
-
-ones : (p : Record → Bool) (x : Record) (xs : Catalog) → count_by p (x ∷ xs) ≡ one_if (p x) + count_by p xs
-ones p x xs = sum_by-cons (λ (y : Record). one_if (p y)) x xs
 
 items_counted : (xs : Catalog) → length (items_of xs) ≤ count_by (λ x. is_file x.1) xs + count_by (λ x. is_dir x.1) xs
 items_counted [] = omega arith

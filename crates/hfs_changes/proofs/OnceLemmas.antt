@@ -3,9 +3,9 @@ use Rattle.std.proofs.Common.{◌≡◌, ◌⊎◌, inl, inr, ⊎_elim, ℕ, ◌
 use Rattle.std.specs.List.{find}
 use Rattle.std.specs.declared.cmp.Ordering.{Ordering}
 use Rattle.std.specs.declared.cmp.Ordering.TheVariants.{Less, Equal}
-use Rattle.std.specs.Ordering.{nat_cmp, is_eq, ordering_then}
+use Rattle.std.specs.Ordering.{nat_cmp, ordering_then}
 use Rattle.std.specs.Cmp.{nat_cmp_is}
-use Rattle.std.proofs.lemmas.Bool.{eqb-true, eq-eqb, ne_eqb, true≢false, and_parts, and_from}
+use Rattle.std.proofs.lemmas.Bool.{eqb-true, eq-eqb, true≢false, and_parts, and_from}
 use Rattle.std.proofs.lemmas.List.Sums.{sum_by-cons}
 use Rattle.hfs_fields.specs.Order.{name_cmp}
 use Rattle.hfs_fields.specs.Keys.{cat_cmp}
@@ -19,6 +19,8 @@ use Rattle.hfs_catalog.specs.Sound.{IsRecord}
 use Rattle.hfs_catalog.specs.Lookups.{thread_of}
 use Rattle.hfs_catalog_edits.specs.Swaps.{one_if}
 use Rattle.hfs_changes.specs.Once.{IsOnce}
+use Rattle.hfs_catalog.proofs.Found.{unnamed}
+use Rattle.hfs_catalog.proofs.Lawful.{none_same, less_equal}
 
 -- ---- of any list
 
@@ -92,14 +94,10 @@ distinct_from_counts (x ∷ xs) h = (
   distinct_from_counts xs (λ k. omega (arith, h k, cons (λ (z : ℕ). eqb z k) x xs)),
 )
 
-none_other : (k : ℕ) (xs : List ℕ) → Each (IsOther k) xs → count_by (λ (z : ℕ). eqb z k) xs ≡ 0
-none_other k [] h = refl
-none_other k (x ∷ xs) h = omega (arith, cons (λ (z : ℕ). eqb z k) x xs, no (λ (z : ℕ). eqb z k) (eqb x k) (ne_eqb x k h.0), none_other k xs h.1)
-
 counts_from_distinct : (xs : List ℕ) → IsDistinct xs → (k : ℕ) → count_by (λ (z : ℕ). eqb z k) xs ≤ 1
 counts_from_distinct [] h k = omega arith
 counts_from_distinct (x ∷ xs) h k = elim (eqb x k) as (λ (b : Bool). eqb x k ≡ b → count_by (λ (z : ℕ). eqb z k) (x ∷ xs) ≤ 1) [
-  | true ↦ λ e. omega (arith, cons (λ (z : ℕ). eqb z k) x xs, one (λ (z : ℕ). eqb z k) (eqb x k) e, none_other k xs (subst (λ (y : ℕ). Each (IsOther y) xs) (eqb-true x k e) h.0))
+  | true ↦ λ e. omega (arith, cons (λ (z : ℕ). eqb z k) x xs, one (λ (z : ℕ). eqb z k) (eqb x k) e, none_same k xs (subst (λ (y : ℕ). Each (IsOther y) xs) (eqb-true x k e) h.0))
   | false ↦ λ e. omega (arith, cons (λ (z : ℕ). eqb z k) x xs, no (λ (z : ℕ). eqb z k) (eqb x k) e, counts_from_distinct xs h.1 k)
 ] refl
 
@@ -133,25 +131,15 @@ item_or_thread body item thread =
     by_or true b e f g = f refl
     by_or false b e f g = g e
 
-empty : (xs : List ℕ) → length xs ≡ 0 → xs ≡ []
-empty [] e = refl
-empty (x ∷ xs) e = absurd (omega arith)
-
-pub thread_name : (r : Record) → IsRecord r → is_thread r.1 ≡ true → r.0.name ≡ []
-thread_name r is thread = ⊎_elim (λ i. absurd (item_or_thread r.1 i.0 thread)) (λ t. empty r.0.name t.1) is
-
 tie : (r s : Record) (k : ℕ) → r.0.parent ≡ k → s.0.parent ≡ k → r.0.name ≡ [] → s.0.name ≡ [] → cat_cmp r.0 s.0 ≡ Equal
 tie r s k rp sp rn sn = (λ i. ordering_then (nat_cmp (rp i) (sp i)) (name_cmp (rn i) (sn i))) ∙ ap (λ (o : Ordering). ordering_then o (name_cmp [] [])) (sym (nat_cmp_is k k Equal refl))
-
-less_equal : (o : Ordering) → o ≡ Less → o ≡ Equal → ⊥
-less_equal o e f = true≢false (ap is_eq (sym f) ∙ ap is_eq e)
 
 none_above : (k : ℕ) (r : Record) (rest : Catalog) → r.0.parent ≡ k → r.0.name ≡ [] → Each (λ (q : Record). cat_cmp r.0 q.0 ≡ Less) rest → Each IsRecord rest → count_by (is_thread_of k) rest ≡ 0
 none_above k r [] parent name above records = refl
 none_above k r (s ∷ rest) parent name above records = elim (is_thread_of k s) as (λ (b : Bool). is_thread_of k s ≡ b → count_by (is_thread_of k) (s ∷ rest) ≡ 0) [
   | true ↦ λ e.
       let parts = and_parts (is_thread s.1) (eqb s.0.parent k) e in
-      absurd (less_equal (cat_cmp r.0 s.0) above.0 (tie r s k parent (eqb-true s.0.parent k parts.1) name (thread_name s records.0 parts.0)))
+      absurd (less_equal (cat_cmp r.0 s.0) above.0 (tie r s k parent (eqb-true s.0.parent k parts.1) name (unnamed s records.0 parts.0)))
   | false ↦ λ e. omega (arith, cons (is_thread_of k) s rest, no (is_thread_of k) (is_thread_of k s) e, none_above k r rest parent name above.1 records.1)
 ] refl
 
@@ -161,7 +149,7 @@ thread_once [] h records k = omega arith
 thread_once (r ∷ rest) h records k = elim (is_thread_of k r) as (λ (b : Bool). is_thread_of k r ≡ b → count_by (is_thread_of k) (r ∷ rest) ≤ 1) [
   | true ↦ λ e.
       let parts = and_parts (is_thread r.1) (eqb r.0.parent k) e in
-      let none = none_above k r rest (eqb-true r.0.parent k parts.1) (thread_name r records.0 parts.0) h.0 records.1 in
+      let none = none_above k r rest (eqb-true r.0.parent k parts.1) (unnamed r records.0 parts.0) h.0 records.1 in
       omega (arith, cons (is_thread_of k) r rest, one (is_thread_of k) (is_thread_of k r) e, none)
   | false ↦ λ e. omega (arith, cons (is_thread_of k) r rest, no (is_thread_of k) (is_thread_of k r) e, thread_once rest h.1 records.1 k)
 ] refl

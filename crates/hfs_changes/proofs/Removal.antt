@@ -21,7 +21,8 @@ use Rattle.hfs_changes.proofs.StepLemmas.{with_one}
 use Rattle.hfs_changes.specs.Changes.{HasDropped, folder_with}
 use Rattle.hfs_changes.specs.SettingLaws.{IsChoice}
 use Rattle.hfs_changes.specs.RemovalLaws.{HasDroppedItem, LeavesFiles}
-use Rattle.hfs_changes.proofs.Items.{with_id, item_parent}
+use Rattle.hfs_catalog.proofs.Held.{with_id}
+use Rattle.hfs_changes.proofs.Items.{item_parent}
 use Rattle.hfs_changes.proofs.Linked.{with_thread, sound_counted}
 use Rattle.hfs_changes.proofs.Relinked.{by_id}
 use Rattle.hfs_changes.proofs.Chosen.{delete_chosen}

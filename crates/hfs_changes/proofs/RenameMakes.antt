@@ -31,7 +31,7 @@ use Rattle.hfs_check.specs.Laws.{CatalogIsSound}
 use Rattle.hfs_check.specs.VolumeOf.{contents_in, volume_in}
 use Rattle.hfs_changes.specs.Steps.{IfThere, is_there}
 use Rattle.hfs_catalog_edits.specs.Swaps.{Swaps}
-use Rattle.hfs_changes.proofs.Items.{with_id}
+use Rattle.hfs_catalog.proofs.Held.{with_id}
 use Rattle.hfs_changes.specs.Changes.{KeepsContents, led_to, IsItsThread, ItemRekeyed, HasRekeyed}
 use Rattle.hfs_changes.specs.OnBlocks.{at_time, HasTree}
 use Rattle.hfs_changes.specs.Laws.{MakesStep}
@@ -44,7 +44,8 @@ use Rattle.hfs_changes.proofs.Rekeyed.{as_turned, threads_after, renamed_near, r
 use Rattle.hfs_changes.proofs.TurnedForks as forks
 use Rattle.hfs_changes.proofs.KeptSpace.{thread_no_dir, thread_no_file}
 use Rattle.hfs_changes.proofs.CatalogEdits.{keeps_contents}
-use Rattle.hfs_changes.proofs.Made.{dir_item, file_item}
+use Rattle.hfs_changes.proofs.Maps.{folder_item as dir_item}
+use Rattle.hfs_changes.proofs.Made.{file_item}
 
 -- ---- records that are counted, where an item has another key and the same body
 

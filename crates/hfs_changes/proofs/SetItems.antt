@@ -2,7 +2,7 @@
 use Rattle.std.proofs.Common.{◌≡◌, ⊎_elim, inl, ℕ, ◌≤◌, Bool, true, false, cond, ◌&&◌, ◌||◌, eqb, length, refl, sym, ◌∙◌, ap, subst, arith, Option, Some, None}
 use Rattle.std.specs.Prelude.{IsTrue}
 use Rattle.std.specs.Cmp.{nat_cmp_total}
-use Rattle.std.specs.Option.{option_map, unwrap_or}
+use Rattle.std.specs.Option.{option_map}
 use Rattle.std.specs.FinMap as map
 use Rattle.hfs_fields.specs.declared.key.CatKey.{CatKey}
 use Rattle.hfs_fields.specs.Keys.{cat_cmp}
@@ -26,14 +26,12 @@ use Rattle.hfs_changes.proofs.LinkLemmas.{AreLinked, AreCounted}
 use Rattle.hfs_changes.specs.Sound.{IsNearlySound}
 use Rattle.hfs_changes.specs.Changes.{IsAlike, KeepsContents}
 use Rattle.hfs_changes.proofs.ChangeLemmas.{HasSet}
-use Rattle.hfs_changes.proofs.Items.{with_id}
+use Rattle.hfs_catalog.proofs.Held.{with_id}
 use Rattle.hfs_changes.proofs.FromLawful.{sound}
 use Rattle.hfs_changes.proofs.Linked.{sound_once, sound_linked, sound_counted, nearly_sound}
 use Rattle.hfs_changes.proofs.Relinked.{by_id, linked_edit}
 use Rattle.hfs_changes.proofs.Maps.{get_put, same_item_at}
-
-same_some : {A : Type 0} (x y : A) → Some x ≡ Some y → x ≡ y
-same_some x y e = ap (λ o. unwrap_or o x) e
+use Rattle.hfs_model.proofs.Facts.{same_some}
 
 pub alike_item : (r s : Record) → IsAlike r s → is_item s.1 ≡ is_item r.1
 alike_item r s h = λ i. h.dir i || h.file i

@@ -10,12 +10,10 @@ use Rattle.hfs_fields.specs.Counts.{with_counts}
 use Rattle.hfs_fields.specs.Keys.{cat_cmp, cat_cmp_total}
 use Rattle.hfs_fields.specs.declared.key.CatKey.{CatKey}
 use Rattle.std.specs.List.{find}
-use Rattle.std.specs.declared.cmp.Ordering.{Ordering}
-use Rattle.std.specs.declared.cmp.Ordering.TheVariants.{Less, Equal, Greater}
-use Rattle.std.specs.Ordering.{is_eq, ordering_reverse}
+use Rattle.std.specs.Ordering.{is_eq}
 use Rattle.std.proofs.lemmas.Option.{none-some, same_Some}
 use Rattle.hfs_catalog_edits.proofs.EditedLemmas.{at_equal_key, with_replaced-swaps}
-use Rattle.hfs_changes.proofs.Items.{with_id}
+use Rattle.hfs_catalog.proofs.Held.{with_id}
 use Rattle.hfs_fields.specs.Records.{is_dir, is_file, dir_record_of, file_record_of}
 use Rattle.hfs_fields.specs.RecordForms.{IsDirRecordValue, dir_record_bytes, IsFileRecordValue, file_record_bytes}
 use Rattle.hfs_fields.proofs.RecordFormLemmas.{is_dir-written}
@@ -42,7 +40,9 @@ use Rattle.hfs_changes.specs.SettingLaws.{IsChoice, HasSetBody}
 use Rattle.hfs_changes.proofs.SetItems as setting
 use Rattle.hfs_changes.proofs.KeptSpace.{set_forks, set_owners}
 use Rattle.hfs_changes.proofs.CatalogEdits.{keeps_contents}
-use Rattle.hfs_changes.proofs.Made.{file_alike, file-is, file_item, file_set, file-not_dir, file-read, dir_alike, dir_item, dir-not_file, dir-read}
+use Rattle.hfs_changes.proofs.Maps.{folder_item as dir_item}
+use Rattle.hfs_changes.proofs.Made.{file_alike, file-is, file_item, file_set, file-not_dir, file-read, dir_alike, dir-not_file, dir-read}
+use Rattle.hfs_fields.proofs.OrderLemmas.{equal-own}
 
 -- ---- counts
 
@@ -164,13 +164,6 @@ module _ (law : ItemsAreRecords) (catalogs : CatalogIsSound) (total now i : ℕ)
         (dir_item (contents_in new) (catalog_in new) s-of (is_dir-written g ok) ∙ ap (folder_of r.0) (dir-read g ok) ∙ is
         ∙ ap told (sym (dir_item (contents_in old) (catalog_in old) r folder))) made
 
--- ---- by the record that was replaced
-
-equal_itself : (o : Ordering) → o ≡ ordering_reverse o → o ≡ Equal
-equal_itself Less e = cc
-equal_itself Equal e = refl
-equal_itself Greater e = cc
-
 lookup_found : (key : CatKey) (ps : Catalog) (p : Record) → find (λ q. is_eq (cat_cmp key q.0)) ps ≡ Some p → lookup cat_cmp key ps ≡ Some p.1
 lookup_found key [] p e = absurd (none-some p e)
 lookup_found key (q ∷ ps) p e = elim (is_eq (cat_cmp key q.0)) as (λ (b : Bool). cond b (Some q) (find (λ x. is_eq (cat_cmp key x.0)) ps) ≡ Some p → cond b (Some q.1) (lookup cat_cmp key ps) ≡ Some p.1) [
@@ -182,7 +175,7 @@ module _ (total : ℕ) (chosen : Result Entry ℤ) (r : Record) (old : Blocks) (
   pub stands : find (λ q. is_eq (cat_cmp r.0 q.0)) (catalog_in old) ≡ Some r
   stands =
       at_equal_key cat_cmp cat_cmp_total r.0 (catalog_in old) r h.places.records.rises (with_id (catalog_in old) c.id r c.was).0
-      (equal_itself (cat_cmp r.0 r.0) (cat_cmp_total.antisymm r.0 r.0))
+      (equal-own (cat_cmp r.0 r.0) (cat_cmp_total.antisymm r.0 r.0))
 
   pub choice_stands : lookup cat_cmp r.0 (catalog_in old) ≡ Some r.1
   choice_stands = lookup_found r.0 (catalog_in old) r stands

@@ -3,7 +3,7 @@ use Rattle.std.proofs.Common.{◌≡◌, ℕ, ◌+◌, ◌<◌, ◌≤◌, Bool,
 use Rattle.std.specs.List.{flat_map, sum_by, range_with_len}
 use Rattle.std.proofs.lemmas.Grind.{flat_map-append}
 use Rattle.std.proofs.lemmas.Bool.{eqb-true, eq-eqb, ne_eqb}
-use Rattle.std.proofs.lemmas.List.Sums.{sum_by-append, sum_by-cons}
+use Rattle.std.proofs.lemmas.List.Sums.{sum_by-cons}
 use Rattle.hfs_fields.specs.declared.mdb.Mdb.{Mdb}
 use Rattle.hfs_fields.specs.declared.extent.Extent.{Extent}
 use Rattle.hfs_scans.specs.Each.{Each}
@@ -14,14 +14,12 @@ use Rattle.hfs_space.specs.Bitmap.{is_used, clear_count}
 use Rattle.hfs_space.specs.Sound.{IsSpaceSound}
 use Rattle.hfs_catalog.specs.Records.{Record, Catalog}
 use Rattle.hfs_catalog_edits.specs.Swaps.{one_if}
+use Rattle.hfs_space.proofs.OwnerLemmas.{append}
 
 -- ---- numbers that stand in a list
 
 cons : (b x : ℕ) (xs : List ℕ) → owners (x ∷ xs) b ≡ one_if (eqb x b) + owners xs b
 cons b x xs = sum_by-cons (λ (o : ℕ). cond (eqb o b) 1 0) x xs
-
-append : (b : ℕ) (xs ys : List ℕ) → owners (xs ++ ys) b ≡ owners xs b + owners ys b
-append b xs ys = sum_by-append (λ (o : ℕ). cond (eqb o b) 1 0) xs ys
 
 one : (b : Bool) → b ≡ true → ◌≡◌ {A = ℕ} (one_if b) 1
 one b e = ap one_if e
@@ -29,7 +27,7 @@ one b e = ap one_if e
 no : (b : Bool) → b ≡ false → ◌≡◌ {A = ℕ} (one_if b) 0
 no b e = ap one_if e
 
-none_other : (b : ℕ) (xs : List ℕ) → Each (IsOther b) xs → owners xs b ≡ 0
+pub none_other : (b : ℕ) (xs : List ℕ) → Each (IsOther b) xs → owners xs b ≡ 0
 none_other b [] h = refl
 none_other b (x ∷ xs) h = omega (arith, cons b x xs, no (eqb x b) (ne_eqb x b h.0), none_other b xs h.1)
 

@@ -13,7 +13,8 @@ use Rattle.hfs_changes.proofs.OnceLemmas.{item_or_thread}
 use Rattle.hfs_changes.specs.Changes.{ItemRekeyed}
 use Rattle.hfs_changes.specs.MoveLaws.{under_folder}
 use Rattle.hfs_changes.specs.PlaceLaws.{StandsStill, DeleteLeavesFolder, MoveLeavesFolders}
-use Rattle.hfs_changes.proofs.Items.{with_id, item_parent}
+use Rattle.hfs_catalog.proofs.Held.{with_id}
+use Rattle.hfs_changes.proofs.Items.{item_parent}
 use Rattle.hfs_changes.proofs.Linked.{with_thread}
 use Rattle.hfs_changes.proofs.Dropped.{not_in_itself}
 use Rattle.hfs_changes.proofs.Chosen.{delete_chosen}

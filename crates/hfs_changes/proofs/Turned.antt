@@ -2,7 +2,7 @@
 use Rattle.std.proofs.Common.{◌≡◌, inl, inr, ℕ, ◌+◌, ◌≤◌, Bool, true, false, cond, ◌&&◌, ◌||◌, eqb, refl, sym, ◌∙◌, ap, subst, arith, Option, Some, None}
 use Rattle.std.specs.List.{sum_by}
 use Rattle.std.specs.Cmp.{nat_cmp_total}
-use Rattle.std.specs.Option.{option_map, unwrap_or}
+use Rattle.std.specs.Option.{option_map}
 use Rattle.std.specs.FinMap as map
 use Rattle.std.proofs.lemmas.Bool.{eq-eqb, true≢false}
 use Rattle.std.specs.Prelude.{IsTrue}
@@ -25,16 +25,11 @@ use Rattle.hfs_changes.specs.Steps.{IfThere, IsThreadOf, is_there}
 use Rattle.hfs_changes.proofs.LinkLemmas.{AreLinked}
 use Rattle.hfs_changes.specs.Sound.{IsNearlySound}
 use Rattle.hfs_changes.specs.Changes.{KeepsContents, IsItsThread, ItemRekeyed}
-use Rattle.hfs_changes.proofs.Items.{with_id}
+use Rattle.hfs_catalog.proofs.Held.{with_id}
 use Rattle.hfs_changes.proofs.Linked.{with_thread, sound_once, sound_linked, sound_counted, nearly_sound}
 use Rattle.hfs_changes.proofs.Relinked.{by_id, past_id, linked_both, linked_unthreaded}
 use Rattle.hfs_changes.proofs.Maps.{get_put, same_item_at}
-
-same_some : {A : Type 0} (x y : A) → Some x ≡ Some y → x ≡ y
-same_some x y e = ap (λ o. unwrap_or o x) e
-
-none_some : {A : Type 0} (x : A) → None ≡ Some x → ⊥
-none_some x e = cc
+use Rattle.hfs_model.proofs.Facts.{same_some}
 
 -- an item's record came under another key or in its place, and its thread's came, went or stands in its place, and leads to it; the
 -- item stays what it is, and a folder has a thread

@@ -1,8 +1,7 @@
 -- Each check finds no fault exactly where its facts hold.
-use Rattle.std.proofs.Common.{◌≡◌, ℕ, ◌+◌, ◌*◌, ◌%◌, ◌≤◌, Bool, true, List, Option, Some, None, refl}
-use Rattle.std.specs.Prelude.{nat_le, is_none}
+use Rattle.std.proofs.Common.{◌≡◌, ℕ, ◌+◌, ◌*◌, ◌%◌, Bool, true, List, Option, Some, None, refl}
+use Rattle.std.specs.Prelude.{is_none}
 use Rattle.std.specs.Bool.{Decides}
-use Rattle.std.proofs.lemmas.Bool.{leb-true, le-leb}
 use Rattle.std.proofs.lemmas.Bool.Decides.{Decides-and, Decides-or, Decides-eqb}
 use Rattle.hfs_fields.specs.declared.mdb.Mdb.{Mdb}
 use Rattle.hfs_fields.specs.declared.extent.Extent.{Extent}
@@ -28,9 +27,7 @@ use Rattle.hfs_check.specs.declared.mount_fault.MountFault.TheVariants.{TooLarge
 use Rattle.hfs_check.specs.Sound.{IsImageLength, IsMdbSound, IsForkKey, EachKey, IsExtentsSound, IsCatalogFileSound, AreCatalogNamesSound, AreCatalogPlacesSound}
 use Rattle.hfs_check.specs.Faults.{length_fault, mdb_fault, counted_shape_fault, is_fork_key, extents_fault, catalog_fault, catalog_name_fault, catalog_place_fault}
 use Rattle.hfs_check.proofs.Exact.{IsExact, alike, both, both_places, by_unless, by_test}
-
-at_most : (a b : ℕ) → Decides (nat_le a b) (a ≤ b)
-at_most a b = (λ (e : nat_le a b ≡ true). leb-true a b e, λ (h : a ≤ b). le-leb a b h)
+use Rattle.hfs_fields.proofs.DecisionLemmas.{Decides-leb}
 
 -- ---- length and master directory block
 
@@ -38,7 +35,7 @@ pub no_length_fault : (bytes : ℕ) → IsExact (length_fault bytes) (IsImageLen
 unfolding length_fault
 no_length_fault bytes =
     alike _ (λ h. record { least = h.1; most = h.0 }) (λ (h : IsImageLength bytes). (h.most, h.least))
-    (both _ _ (by_test TooLarge _ (at_most bytes 2147483648)) (by_test Short _ (at_most 1536 bytes)))
+    (both _ _ (by_test TooLarge _ (Decides-leb bytes 2147483648)) (by_test Short _ (Decides-leb 1536 bytes)))
 
 pub no_mdb_fault : (total : ℕ) (mdb : Mdb) → IsExact (mdb_fault total mdb) (IsMdbSound total mdb)
 unfolding mdb_fault
@@ -56,10 +53,10 @@ no_mdb_fault total mdb =
     })
     (λ (h : IsMdbSound total mdb). (h.signature, (h.some, ((h.least_size, h.whole_size), ((h.bitmap_behind, h.bitmap_before), (h.area, h.next_id))))))
     (both _ _ (by_test NoMacDisk _ (Decides-eqb mdb.signature 0x4244))
-    (both _ _ (by_test (BadMdb 1) _ (at_most 1 mdb.allocation_blocks))
-    (both _ _ (by_test (BadMdb 2) _ (Decides-and _ _ (at_most 512 mdb.allocation_block_size) (Decides-eqb (mdb.allocation_block_size % 512) 0)))
-    (both _ _ (by_test (BadMdb 3) _ (Decides-and _ _ (at_most 3 mdb.bitmap_start) (at_most (mdb.bitmap_start + bitmap_len mdb.allocation_blocks) mdb.allocation_start)))
-    (both _ _ (by_test (BadMdb 4) _ (at_most (mdb.allocation_start + mdb.allocation_blocks * blocks_each mdb) total)) (by_test (BadMdb 5) _ (at_most 16 mdb.next_id)))))))
+    (both _ _ (by_test (BadMdb 1) _ (Decides-leb 1 mdb.allocation_blocks))
+    (both _ _ (by_test (BadMdb 2) _ (Decides-and _ _ (Decides-leb 512 mdb.allocation_block_size) (Decides-eqb (mdb.allocation_block_size % 512) 0)))
+    (both _ _ (by_test (BadMdb 3) _ (Decides-and _ _ (Decides-leb 3 mdb.bitmap_start) (Decides-leb (mdb.bitmap_start + bitmap_len mdb.allocation_blocks) mdb.allocation_start)))
+    (both _ _ (by_test (BadMdb 4) _ (Decides-leb (mdb.allocation_start + mdb.allocation_blocks * blocks_each mdb) total)) (by_test (BadMdb 5) _ (Decides-leb 16 mdb.next_id)))))))
 
 -- ---- trees
 

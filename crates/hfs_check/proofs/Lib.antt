@@ -6,3 +6,5 @@ pub mod Stays
 pub mod Opened
 pub mod CountedReport
 pub mod Repaired
+pub mod CommonLemmas
+pub mod EntryLemmas

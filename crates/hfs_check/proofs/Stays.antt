@@ -62,7 +62,7 @@ module _ (old new : Blocks) (same : SameBesideCounts (old 2) (new 2)) where
 
 -- ---- the blocks that calls change
 
-abbrev run_by : ℕ → ℕ → Extent → Run
+abbrev pub run_by : ℕ → ℕ → Extent → Run
 run_by start size e = record { first = start + e.first * (size / 512); count = e.count * (size / 512); before = 0 }
 
 module _ (old new : Blocks) (kept : KeepsVolume old new) where

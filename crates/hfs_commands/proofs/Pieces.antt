@@ -1,5 +1,5 @@
 -- A fork that is opened, and its pieces.
-use Rattle.std.proofs.Common.{inl, inr, ◌≡◌, ◌≤◌, lit≤, subst, ℕ, ◌+◌, ◌-◌, ℤ, Bool, true, false, cond, List, [], length, take, drop, take_all, arith, refl, sym, ◌∙◌, ap, Option, Some, None, Result, Ok, Err, OnErr}
+use Rattle.std.proofs.Common.{inl, inr, ◌≡◌, ◌≤◌, lit≤, subst, ℕ, ◌+◌, ◌-◌, ℤ, Bool, true, false, cond, List, [], length, take, drop, take_all, arith, refl, sym, ◌∙◌, ap, Option, Some, None}
 use Rattle.std.specs.Prelude.{nat_lt, not, pos, min}
 use Rattle.std.specs.Option.{option_map_or}
 use Rattle.std.specs.Io.KnownBytes.{Appends}
@@ -47,11 +47,6 @@ same_fork a b e = cc
 
 same_reply : (a b : Reply) → opened.Refused a ≡ opened.Refused b → a ≡ b
 same_reply a b e = cc
-
--- at an error, whatever it is
-pub on_err : {T E : Type 0} (r : Result T E) (P : Type 0) → P → OnErr r P
-on_err (Ok x) P p = tt
-on_err (Err e) P p = p
 
 -- a part of a part
 front_of_part : (n count : ℕ) (xs : List ℕ) → (m : ℕ) × (take n (take count xs) ≡ take m xs)

@@ -7,6 +7,7 @@ use Rattle.std.proofs.lemmas.Nat.{xor_mod, xor_block, xor_comm}
 use Rattle.std.proofs.lemmas.Nat.Bits.{bit_at_xor, bit_at-lt, same_from_bits}
 use Rattle.std.proofs.lemmas.Bool.{eqb-true, cases_lt}
 use Rattle.hfs_encodings.specs.Crc.{polynomial, bits_of, crc_with_bit, crc_with_byte}
+use Rattle.hfs_fields.proofs.CommonLemmas.{each_below, at-each}
 
 -- ---- sums of bits
 
@@ -97,26 +98,10 @@ byte-is crc byte = refl
 crc_with_byte-linear : (c d x y : ℕ) → crc_with_byte (bit_xor c d) (bit_xor x y) ≡ bit_xor (crc_with_byte c x) (crc_with_byte d y)
 crc_with_byte-linear c d x y = byte-is (bit_xor c d) (bit_xor x y) ∙ after-linear 7 c d x y ∙ sym (λ i. bit_xor (byte-is c x i) (byte-is d y i))
 
--- ---- each of the 256 bytes tried
-
-unfoldable pub each_below : ℕ → (ℕ → Bool) → Bool
-each_below zero test = true
-each_below (suc n) test = each_below n test && test n
-
 both-true : (a b : Bool) → (a && b) ≡ true → (a ≡ true) × (b ≡ true)
 both-true true true e = (refl, refl)
 both-true true false e = cc
 both-true false b e = cc
-
-last-or-below : (k n : ℕ) → k < suc n → (k < n) ⊎ (k ≡ n)
-last-or-below k n h = elim (cases_lt k n) [ inl below ↦ inl below | inr above ↦ inr (omega arith) ]
-
-at-each : (n : ℕ) (test : ℕ → Bool) → each_below n test ≡ true → (k : ℕ) → k < n → test k ≡ true
-unfolding each_below
-at-each zero test e k lt = absurd (omega arith)
-at-each (suc n) test e k lt =
-    let two = both-true (each_below n test) (test n) e in
-    elim (last-or-below k n lt) [ inl below ↦ at-each n test two.0 k below | inr same ↦ ap test same ∙ two.1 ]
 
 -- a byte that meets itself leaves nothing
 met-test : ℕ → Bool

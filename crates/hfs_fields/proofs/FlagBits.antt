@@ -16,7 +16,7 @@ both-true true true e = (refl, refl)
 both-true true false e = cc
 both-true false b e = cc
 
-last-or-below : (k n : ℕ) → k < suc n → (k < n) ⊎ (k ≡ n)
+pub last-or-below : (k n : ℕ) → k < suc n → (k < n) ⊎ (k ≡ n)
 last-or-below k n h = elim (cases_lt k n) [ inl below ↦ inl below | inr above ↦ inr (omega arith) ]
 
 at-each : (n : ℕ) (test : ℕ → Bool) → each_below n test ≡ true → (k : ℕ) → k < n → test k ≡ true

@@ -12,7 +12,7 @@ use Rattle.hfs_fields.specs.declared.key.ExtKey.{ExtKey}
 use Rattle.hfs_fields.specs.Order.{name_order}
 
 -- two steps of an order are equal where both are
-both : (a b : Ordering) → ordering_then a b ≡ Equal → (a ≡ Equal) × (b ≡ Equal)
+pub both : (a b : Ordering) → ordering_then a b ≡ Equal → (a ≡ Equal) × (b ≡ Equal)
 both Less b e = cc
 both Equal b e = (refl, e)
 both Greater b e = cc
@@ -20,7 +20,7 @@ both Greater b e = cc
 joined : (a b : Ordering) → a ≡ Equal → b ≡ Equal → ordering_then a b ≡ Equal
 joined a b e f = ap (λ (o : Ordering). ordering_then o b) e ∙ f
 
-same : (x y : ℕ) → x ≡ y → nat_cmp x y ≡ Equal
+pub same : (x y : ℕ) → x ≡ y → nat_cmp x y ≡ Equal
 same x y e = ap (λ (n : ℕ). nat_cmp n y) e ∙ tied_itself nat_cmp_total y
 
 pub cat_key_order : IsCatKeyOrder cat_cmp

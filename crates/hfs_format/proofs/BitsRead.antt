@@ -77,7 +77,7 @@ is_used-bit_rows blocks start n k row =
 
 -- ---- how many are clear
 
-abbrev one_if : Bool → ℕ
+abbrev pub one_if : Bool → ℕ
 one_if b = cond b 1 0
 
 not-below : (n total : ℕ) → count_below (λ k. not (nat_lt k n)) total ≡ total - n

@@ -1,5 +1,5 @@
 -- The space of a new volume is sound: its master directory block, the files of its trees, its forks, and its bitmap.
-use Rattle.std.proofs.Common.{◌≡◌, ℕ, zero, suc, ◌+◌, ◌-◌, ◌*◌, ◌/◌, ◌<◌, ◌≤◌, true, List, [], ◌∷◌, ◌++◌, get_or, refl, sym, ap, subst, ◌∙◌, arith}
+use Rattle.std.proofs.Common.{◌≡◌, ℕ, zero, suc, ◌+◌, ◌-◌, ◌*◌, ◌/◌, ◌<◌, ◌≤◌, true, List, [], ◌++◌, get_or, refl, sym, ap, subst, ◌∙◌, arith}
 use Rattle.std.specs.Prelude.{IsTrue}
 use Rattle.std.specs.List.{flat_map, range_with_len}
 use Rattle.std.proofs.Math.Nat.{mul_left_comm}
@@ -23,6 +23,7 @@ use Rattle.hfs_format.proofs.NewBlocks.{block_at-volume_image}
 use Rattle.hfs_format.proofs.NewFiles.{image_block, root_pair, root_thread_pair, new_catalog, new_block-bitmap, files-within}
 use Rattle.hfs_format.proofs.NewCatalog.{root-no_file, thread-no_file}
 use Rattle.hfs_check.specs.Sound.{IsMdbSound}
+use Rattle.hfs_btree.proofs.DistinctLemmas.{distinct-append}
 
 -- ---- rows of numbers
 
@@ -33,10 +34,6 @@ each-range P a (suc n) h = (h a (omega arith) (omega arith), each-range P (a + 1
 distinct-range : (a n : ℕ) → IsDistinct (range_with_len a n)
 distinct-range a zero = tt
 distinct-range a (suc n) = (each-range (IsOther a) (a + 1) n (λ k low high same. omega arith), distinct-range (a + 1) n)
-
-distinct-append : (xs ys : List ℕ) → IsDistinct xs → IsDistinct ys → Each (λ x. Each (IsOther x) ys) xs → IsDistinct (xs ++ ys)
-distinct-append [] ys h k apart = k
-distinct-append (x ∷ xs) ys h k apart = (each-append (IsOther x) xs ys h.0 apart.0, distinct-append xs ys h.1 k apart.1)
 
 -- ---- a file of one run
 

@@ -2,13 +2,8 @@
 use Rattle.std.proofs.Common.{◌≡◌, ⊎_elim, ℕ, zero, suc, ◌<◌, ◌≤◌, Bool, true, false, cond, ◌&&◌, ◌||◌, eqb, ltb, [], ◌∷◌, length, drop, get_or, refl, sym, ◌∙◌, ap, arith}
 use Rattle.std.specs.List.{filter, list_any}
 use Rattle.std.specs.List.Sorted.{IsPartitionedBy, IsPartitionPoint}
-use Rattle.std.specs.declared.cmp.Ordering.{Ordering}
-use Rattle.std.specs.declared.cmp.Ordering.TheVariants.{Less, Greater}
-use Rattle.std.specs.Ordering.{is_lt, ordering_then}
-use Rattle.std.specs.Cmp.{nat_cmp_is}
+use Rattle.std.specs.declared.cmp.Ordering.TheVariants.{Less}
 use Rattle.std.proofs.lemmas.Bool.{cases_lt, eq-eqb, ne_eqb, ltb-true, ltb-false, lt-ltb, true≢false}
-use Rattle.hfs_fields.specs.declared.key.CatKey.{CatKey}
-use Rattle.hfs_fields.specs.Order.{name_cmp}
 use Rattle.hfs_fields.specs.Keys.{cat_cmp}
 use Rattle.hfs_fields.specs.Records.{is_item, is_thread}
 use Rattle.hfs_scans.specs.Each.{Each}
@@ -16,14 +11,7 @@ use Rattle.hfs_btree.specs.Pairs.{Rises}
 use Rattle.hfs_catalog.specs.Records.{Record, Catalog, has_thread}
 use Rattle.hfs_catalog.specs.Lookups.{children_of}
 use Rattle.hfs_inventory.specs.Levels.{first_under}
-
--- ---- parents rise
-
-parents_rise : (x y : CatKey) → cat_cmp x y ≡ Less → x.parent ≤ y.parent
-parents_rise x y less = ⊎_elim
-    (λ (higher : y.parent < x.parent). absurd (true≢false (ap is_lt (sym less) ∙ ap (λ (o : Ordering). is_lt (ordering_then o (name_cmp x.name y.name))) (sym (nat_cmp_is x.parent y.parent Greater higher)))))
-    (λ (le : x.parent ≤ y.parent). le)
-    (cases_lt y.parent x.parent)
+use Rattle.hfs_catalog.proofs.Steps.{parents_rise}
 
 least : (r : Record) (rest : Catalog) (j : ℕ) (d : Record) → Each (λ q. cat_cmp r.0 q.0 ≡ Less) rest → j < length rest → r.0.parent ≤ (get_or rest j d).0.parent
 least r [] j d h lt = absurd (omega arith)

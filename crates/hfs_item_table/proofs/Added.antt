@@ -10,7 +10,8 @@ use Rattle.hfs_fields.specs.Order.{same_name}
 use Rattle.hfs_model.specs.declared.item.Item.{Item}
 use Rattle.hfs_model.specs.Volume.{Items}
 use Rattle.hfs_model.specs.Lawful.{Has}
-use Rattle.hfs_item_table.proofs.FactLemmas.{none_is_some, same_some}
+use Rattle.hfs_model.proofs.Facts.{none_is_some}
+use Rattle.hfs_model.proofs.Facts.{same_some}
 use Rattle.hfs_item_table.specs.declared.place.Place.{Place}
 use Rattle.hfs_item_table.specs.Places.{place, place_cmp}
 use Rattle.hfs_item_table.proofs.PlaceLemmas.{level, names_level}

@@ -2,7 +2,7 @@
 use Rattle.std.proofs.Common.{◌≡◌, ⊎_elim, inl, inr, ℕ, ◌+◌, ◌<◌, ◌≤◌, Bool, true, false, cond, List, [], ◌∷◌, refl, sym, ◌∙◌, ap, subst, arith, eqb, Option, Some, None, Result, Ok, ℤ}
 use Rattle.std.specs.Ordering.{nat_cmp, is_eq}
 use Rattle.std.specs.Cmp.{nat_cmp_total, unsigned_ties}
-use Rattle.std.specs.Option.{option_map, option_map_or, option_and_then, is_some}
+use Rattle.std.specs.Option.{option_map, option_map_or, option_and_then}
 use Rattle.std.specs.FinMap as map
 use Rattle.std.specs.BTreeMap as tree
 use Rattle.std.proofs.lemmas.Bool.{cases_eq, eq-eqb, ne_eqb}
@@ -15,9 +15,12 @@ use Rattle.hfs_model.specs.Children.{valence, is_folder, entry_at, child_named}
 use Rattle.hfs_model.specs.Lawful.{Has, AreLawful, IsFolder}
 use Rattle.hfs_model.specs.Choices.{is_held, is_full}
 use Rattle.hfs_model.specs.Changes.{touched, new_item, add}
-use Rattle.hfs_item_table.proofs.Counts.{count_edited}
-use Rattle.hfs_item_table.proofs.FactLemmas.{true_false, none_is_some, same_some, folder_is, not_full}
-use Rattle.hfs_item_table.proofs.Members.{In, has_from_in}
+use Rattle.hfs_model.proofs.Counts.{count_edited}
+use Rattle.hfs_model.proofs.Facts.{none_is_some}
+use Rattle.hfs_model.proofs.Facts.{same_some}
+use Rattle.hfs_item_table.proofs.FactLemmas.{folder_is, not_full}
+use Rattle.hfs_model.proofs.Members.{In}
+use Rattle.hfs_model.proofs.Members.{has_from_in}
 use Rattle.hfs_item_table.specs.declared.place.Place.{Place}
 use Rattle.std.specs.Prelude.{take, ◌*◌}
 use Rattle.hfs_blocks.specs.Blocks.{block_at}
@@ -35,8 +38,10 @@ use Rattle.hfs_item_table.specs.Edits.{Writes, Leaves, HasRoom, kind_with_child,
 use Rattle.hfs_item_table.proofs.ShownLemmas.{items, get_items, put_item}
 use Rattle.hfs_item_table.proofs.Named.{entry_has, child_named_is, tied, is_level}
 use Rattle.hfs_item_table.proofs.Edited.{names_still, kind_still, picked_map}
-use Rattle.hfs_item_table.proofs.Counted.{one, count_new}
+use Rattle.hfs_model.proofs.ChildCounts.{one_child as one}
+use Rattle.hfs_item_table.proofs.Counted.{count_new}
 use Rattle.hfs_item_table.proofs.Added.{new_here, new_other, names_added}
+use Rattle.hfs_model.proofs.Facts.{not_some}
 
 -- ---- maps
 
@@ -232,12 +237,6 @@ module _ (t : Table) (is : IsTable t) (lawful : AreLawful (items_of t) t.next_id
         ∙ (λ i. record v { items = touched (map.insert (items_of t) id (shows i)) dir now })
         ∙ ap (λ (c : Result ℕ ℤ). (add (volume_of t) c (λ n m. touched (map.insert m n (new_item kind dir name now)) dir now) now).0) (sym ok);
   }
-
--- ---- what a creation has tested
-
-not_some : {A : Type 0} (o : Option A) → is_some o ≡ false → o ≡ None
-not_some None e = refl
-not_some (Some x) e = absurd (true_false true refl e)
 
 pub not_held : (es : List Entry) (dir : ℕ) (name : List ℕ) → is_held es dir name ≡ false → child_named es dir name ≡ None
 unfolding is_held

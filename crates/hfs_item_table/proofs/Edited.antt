@@ -12,8 +12,9 @@ use Rattle.hfs_model.specs.declared.item.Item.{Item}
 use Rattle.hfs_model.specs.Volume.{Items}
 use Rattle.hfs_model.specs.Children.{valence}
 use Rattle.hfs_model.specs.Lawful.{Has}
-use Rattle.hfs_item_table.proofs.Counts.{count_edited}
-use Rattle.hfs_item_table.proofs.FactLemmas.{none_is_some, same_some}
+use Rattle.hfs_model.proofs.Counts.{count_edited}
+use Rattle.hfs_model.proofs.Facts.{none_is_some}
+use Rattle.hfs_model.proofs.Facts.{same_some}
 use Rattle.hfs_item_table.specs.declared.place.Place.{Place}
 use Rattle.hfs_item_table.specs.declared.row.Row.{Row}
 use Rattle.hfs_item_table.specs.declared.row.RowKind.{RowKind}

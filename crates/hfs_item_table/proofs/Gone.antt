@@ -15,11 +15,19 @@ use Rattle.hfs_fields.specs.Order.{same_name}
 use Rattle.hfs_model.specs.Children.{valence, entry_at, entries_of}
 use Rattle.hfs_model.specs.Choices.{is_locked, lock_code, to_rename, to_delete, to_move, is_taken, is_held}
 use Rattle.hfs_model.specs.declared.codes.TheConstants.{BUSY, NOT_A_FOLDER, BAD_MOVE, DUPLICATE, FOLDER_FULL}
-use Rattle.hfs_item_table.proofs.Chosen.{IsChild, child_chosen, chained, unlocked_is, same_entry}
+use Rattle.hfs_model.proofs.KeepsCalls.{IsChild}
+use Rattle.hfs_model.proofs.KeepsCalls.{chained}
+use Rattle.hfs_model.proofs.KeepsCalls.{unlocked_is}
+use Rattle.hfs_model.proofs.KeepsCalls.{same_entry}
+use Rattle.hfs_item_table.proofs.Chosen.{child_chosen}
 use Rattle.hfs_model.specs.Lawful.{Has}
 use Rattle.hfs_model.specs.Changes.{touched, moved, change}
-use Rattle.hfs_item_table.proofs.Counts.{count_edited}
-use Rattle.hfs_item_table.proofs.FactLemmas.{none_is_some, same_some, has_entry, not_refused, not_full}
+use Rattle.hfs_model.proofs.Counts.{count_edited}
+use Rattle.hfs_model.proofs.Facts.{none_is_some}
+use Rattle.hfs_model.proofs.Facts.{same_some}
+use Rattle.hfs_model.proofs.Facts.{has_entry}
+use Rattle.hfs_model.proofs.Facts.{not_refused}
+use Rattle.hfs_item_table.proofs.FactLemmas.{not_full}
 use Rattle.hfs_item_table.specs.declared.place.Place.{Place}
 use Rattle.hfs_item_table.specs.declared.row.Row.{Row}
 use Rattle.hfs_item_table.specs.declared.row.RowKind.{RowKind}
@@ -29,8 +37,10 @@ use Rattle.hfs_item_table.specs.Places.{place, place_cmp}
 use Rattle.hfs_item_table.specs.Tables.{item_of, kind_of, items_of, volume_of, AreNames, IsTable, IsKindOf, IsForkIn}
 use Rattle.hfs_item_table.specs.Edits.{Writes, Leaves, HasRoom, Moves, kind_less_child, kind_with_child, with_child, without_child, with_name, with_parent}
 use Rattle.hfs_item_table.proofs.ShownLemmas.{items, get_items, drop_item, entries_items}
-use Rattle.hfs_item_table.proofs.Named.{entry_has, entry_at_is, tie, tied}
-use Rattle.hfs_item_table.proofs.Counted.{one, count_new}
+use Rattle.hfs_check.proofs.EntryLemmas.{entry_get as entry_at_is}
+use Rattle.hfs_item_table.proofs.Named.{entry_has, tie, tied}
+use Rattle.hfs_model.proofs.ChildCounts.{one_child as one}
+use Rattle.hfs_item_table.proofs.Counted.{count_new}
 use Rattle.hfs_item_table.proofs.Added.{new_here, new_other}
 use Rattle.hfs_item_table.proofs.Created.{edit_item, names_edited, child_shown, not_held, free_place}
 use Rattle.hfs_item_table.proofs.Moved.{names_moved, names_dropped, gone, stays}

@@ -7,7 +7,7 @@ use Rattle.hfs_model.specs.declared.item.Item.{Item}
 use Rattle.hfs_model.specs.declared.item.Kind.{Kind}
 use Rattle.hfs_model.specs.Volume.{Volume, Items, Entry}
 use Rattle.hfs_model.specs.Changes.{change, with_lock}
-use Rattle.hfs_model.specs.FileIds.{change_to_id, with_thread}
+use Rattle.hfs_model.specs.FileIds.{with_thread}
 use Rattle.hfs_item_table.specs.declared.row.Row.{Row}
 use Rattle.hfs_item_table.specs.declared.row.RowKind.{RowKind}
 use Rattle.hfs_item_table.specs.declared.row.RowKind.TheVariants.{Folder, File as FileRow}
@@ -74,8 +74,3 @@ thread_shape mdb there items q x = kinds x.kind
     kinds : (k : RowKind) → IsKindOf items mdb q k → IsKindOf items mdb q (kind_threaded there k)
     kinds (Folder kept children) h = h
     kinds (FileRow f) h = h
-
--- an answer beside the change leaves what it makes
-pub change_to_id_is : (v : Volume) (chosen : Result Entry ℤ) (make : Entry → Items → Items) (now : ℕ) → (change v chosen make now).0 ≡ (change_to_id v chosen make now).0
-change_to_id_is v (Ok e) make now = refl
-change_to_id_is v (Err code) make now = refl

@@ -1,6 +1,4 @@
 pub mod Members
-pub mod Counts
-pub mod NameOrder
 pub mod Chosen
 pub mod Named
 pub mod Cut

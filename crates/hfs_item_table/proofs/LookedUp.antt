@@ -19,7 +19,8 @@ use Rattle.hfs_model.specs.declared.codes.TheConstants.{END_OF_FILE}
 use Rattle.hfs_model.specs.declared.reply.Value.TheVariants as value
 use Rattle.hfs_model.specs.Lawful.{Has, AreLawful}
 use Rattle.hfs_model.specs.Reading.{part_of}
-use Rattle.hfs_item_table.proofs.FactLemmas.{folder_is, found_has}
+use Rattle.hfs_model.proofs.Facts.{found_has}
+use Rattle.hfs_item_table.proofs.FactLemmas.{folder_is}
 use Rattle.hfs_model.specs.Replies.{info_of}
 use Rattle.hfs_model.specs.declared.reply.Info.{Info}
 use Rattle.hfs_model.specs.declared.reply.ItemKind.TheVariants as item_kind
@@ -34,7 +35,8 @@ use Rattle.hfs_item_table.specs.declared.table.Table.{Table}
 use Rattle.hfs_item_table.specs.Places.{place, place_cmp}
 use Rattle.hfs_item_table.specs.Tables.{bytes_of, item_of, kind_of, items_of, IsForkIn, IsTable}
 use Rattle.hfs_item_table.proofs.ShownLemmas.{get_items}
-use Rattle.hfs_item_table.proofs.Named.{entry_at_is, child_named_is}
+use Rattle.hfs_check.proofs.EntryLemmas.{entry_get as entry_at_is}
+use Rattle.hfs_item_table.proofs.Named.{child_named_is}
 use Rattle.hfs_item_table.proofs.Cut.{read-take}
 
 module _ (t : Table) (is : IsTable t) where

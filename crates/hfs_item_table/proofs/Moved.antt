@@ -1,5 +1,5 @@
 -- Names where an item goes, or stands elsewhere.
-use Rattle.std.proofs.Common.{◌≡◌, ⊎_elim, ℕ, Bool, true, false, cond, not, ◌&&◌, eqb, IsTrue, List, refl, sym, ◌∙◌, ap, Option, Some, None}
+use Rattle.std.proofs.Common.{◌≡◌, ⊎_elim, ℕ, Bool, true, false, cond, not, eqb, IsTrue, List, refl, sym, ◌∙◌, ap, Option, Some, None}
 use Rattle.std.specs.declared.cmp.Ordering.TheVariants.{Equal}
 use Rattle.std.specs.Ordering.{is_eq}
 use Rattle.std.specs.Cmp.{nat_cmp_total, unsigned_ties, eq_by_cmp_equiv}
@@ -14,7 +14,12 @@ use Rattle.hfs_model.specs.Volume.{Items, Entry}
 use Rattle.hfs_model.specs.Children.{entry_at, child_named, is_child_named}
 use Rattle.hfs_model.specs.Choices.{is_taken, is_other_named}
 use Rattle.hfs_model.specs.Lawful.{Has}
-use Rattle.hfs_item_table.proofs.FactLemmas.{none_is_some, same_some, true_false, found_has, no_entry, two_tests}
+use Rattle.hfs_model.proofs.Facts.{none_is_some}
+use Rattle.hfs_model.proofs.Facts.{same_some}
+use Rattle.hfs_model.proofs.Facts.{true_false}
+use Rattle.hfs_model.proofs.Facts.{found_has}
+use Rattle.hfs_model.proofs.Facts.{no_entry}
+use Rattle.hfs_item_table.proofs.FactLemmas.{two_tests}
 use Rattle.hfs_item_table.specs.declared.place.Place.{Place}
 use Rattle.hfs_item_table.specs.Places.{place, place_cmp, place_cmp_total}
 use Rattle.hfs_item_table.proofs.PlaceLemmas.{level, names_level}
@@ -22,6 +27,7 @@ use Rattle.hfs_item_table.specs.Tables.{AreNames}
 use Rattle.hfs_item_table.specs.Edits.{Moves}
 use Rattle.hfs_item_table.proofs.Named.{tie, tied, is_level, level_parents, child_named_is, entry_has}
 use Rattle.hfs_item_table.proofs.Added.{new_here, new_other}
+use Rattle.hfs_fields.proofs.DecisionLemmas.{both_true}
 
 -- ---- the row of names
 
@@ -163,9 +169,6 @@ not_one : (b : Bool) → not b ≡ true → b ≡ false
 not_one true e = absurd (true_false false e refl)
 not_one false e = refl
 
-both_hold : (a b : Bool) → a ≡ true → b ≡ true → (a && b) ≡ true
-both_hold a b e f = ap (λ x. x && b) e ∙ f
-
 module _ (m : Items) (names : tree.BTreeMap Place ℕ) (are : AreNames m names) (dir : ℕ) (name : List ℕ) (id : ℕ) where
   abbrev those : List Entry
   those = map.entries m
@@ -189,7 +192,7 @@ module _ (m : Items) (names : tree.BTreeMap Place ℕ) (are : AreNames m names) 
           let has = found_has m (is_child_named dir name) e is in
           elim (eqb e.0 id) as (λ (b : Bool). eqb e.0 id ≡ b → false ≡ not b) [
             | true ↦ λ _. refl
-            | false ↦ λ other. absurd (no_entry (is_other_named dir name id) those e.0 e.1 none (sym (map.get-entries m e.0) ∙ has.0) (both_hold _ _ has.1 (ap not other)))
+            | false ↦ λ other. absurd (no_entry (is_other_named dir name id) those e.0 e.1 none (sym (map.get-entries m e.0) ∙ has.0) (both_true _ _ has.1 (ap not other)))
           ] refl
     ] refl
   ] refl

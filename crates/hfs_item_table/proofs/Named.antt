@@ -5,7 +5,6 @@ use Rattle.std.specs.declared.cmp.Ordering.{Ordering}
 use Rattle.std.specs.declared.cmp.Ordering.TheVariants.{Less, Equal, Greater}
 use Rattle.std.specs.declared.ops.Bound.TheVariants.{Included, Excluded}
 use Rattle.std.specs.Ordering.{nat_cmp, is_lt, is_le, is_eq, ordering_then}
-use Rattle.std.specs.Cmp.{nat_cmp_is}
 use Rattle.std.specs.List.{AllByRecursion, Contains, filter, find}
 use Rattle.std.specs.List.Sorted.{IsStrictlySortedBy}
 use Rattle.std.specs.Map.{lookup, keys_of}
@@ -20,28 +19,31 @@ use Rattle.std.proofs.lemmas.Map.Views.{All-found}
 use Rattle.hfs_fields.specs.Order.{folded, name_cmp, same_name}
 use Rattle.hfs_model.specs.declared.item.Item.{Item}
 use Rattle.hfs_model.specs.Volume.{Volume, Items, Entry}
-use Rattle.hfs_model.specs.Children.{entry_at, has_id, child_named, is_child_named, children}
+use Rattle.hfs_model.specs.Children.{entry_at, child_named, is_child_named, children}
 use Rattle.hfs_model.specs.Lawful.{Has, IsLawful}
 use Rattle.hfs_model.specs.Laws.{AreChildren, ChildrenAreOne}
 use Rattle.hfs_model.specs.Replies.{info_of, infos}
-use Rattle.hfs_item_table.proofs.FactLemmas.{true_false, none_is_some, same_some, found_has, no_entry, two_tests}
-use Rattle.hfs_item_table.proofs.Members.{In, in_from_contains, contains_from_in}
-use Rattle.hfs_item_table.proofs.NameOrder.{keyed, names_cmp, IsInNameOrder, pairs_rise}
+use Rattle.hfs_model.proofs.Facts.{true_false}
+use Rattle.hfs_model.proofs.Facts.{none_is_some}
+use Rattle.hfs_model.proofs.Facts.{same_some}
+use Rattle.hfs_model.proofs.Facts.{found_has}
+use Rattle.hfs_model.proofs.Facts.{no_entry}
+use Rattle.hfs_item_table.proofs.FactLemmas.{two_tests}
+use Rattle.hfs_model.proofs.Members.{In}
+use Rattle.hfs_model.proofs.Members.{in_from_contains}
+use Rattle.hfs_model.proofs.Members.{contains_from_in}
+use Rattle.hfs_model.proofs.InOrder.{keyed}
+use Rattle.hfs_model.proofs.InOrder.{names_cmp}
+use Rattle.hfs_model.proofs.InOrder.{IsInNameOrder}
+use Rattle.hfs_model.proofs.Folders.{pairs_rise}
 use Rattle.hfs_item_table.specs.declared.place.Place.{Place}
 use Rattle.hfs_item_table.specs.Places.{place, place_cmp, place_cmp_total}
 use Rattle.hfs_item_table.specs.Tables.{AreNames}
 use Rattle.hfs_item_table.proofs.NameLemmas.{nobody, entry_or, told_under, names_under}
-
--- ---- the range of a folder
-
-less : (x y : ℕ) → x < y → nat_cmp x y ≡ Less
-less x y h = sym (nat_cmp_is x y Less h)
-
-more : (x y : ℕ) → y < x → nat_cmp x y ≡ Greater
-more x y h = sym (nat_cmp_is x y Greater h)
-
-same : (x y : ℕ) → x ≡ y → nat_cmp x y ≡ Equal
-same x y h = sym (nat_cmp_is x y Equal h)
+use Rattle.hfs_check.proofs.EntryLemmas.{entry_get}
+use Rattle.hfs_fields.proofs.KeyOrder.{same}
+use Rattle.hfs_fields.proofs.OrderLemmas.{less, more}
+use Rattle.hfs_model.proofs.Folders.{both}
 
 -- no name is below the empty one
 least : (name : List ℕ) → is_le (name_cmp [] name) ≡ true
@@ -111,24 +113,8 @@ to_picked p f (y ∷ ys) x i is = ⊎_elim
     ])
     i
 
--- ---- by ID
-
--- the entry of an ID is the map's
-pub entry_at_is : (m : Items) (q : ℕ) → entry_at (map.entries m) q ≡ option_map (λ (i : Item). (q, i)) (map.get m q)
-entry_at_is m q = elim (find (has_id q) (map.entries m)) as (λ (o : Option Entry). find (has_id q) (map.entries m) ≡ o → o ≡ option_map (λ (i : Item). (q, i)) (map.get m q)) [
-  | Some e ↦ λ is.
-      let has = found_has m (has_id q) e is in
-      let id : e.0 ≡ q = eqb-true e.0 q has.1 in
-      let at : map.get m q ≡ Some e.1 = ap (map.get m) (sym id) ∙ has.0 in
-      (λ i. Some (id i, e.1)) ∙ ap (option_map (λ (i : Item). (q, i))) (sym at)
-  | None ↦ λ none. elim (map.get m q) as (λ (o : Option Item). map.get m q ≡ o → ◌≡◌ {A = Option Entry} None (option_map (λ (i : Item). (q, i)) o)) [
-    | None ↦ λ _. refl
-    | Some j ↦ λ has. absurd (no_entry (has_id q) (map.entries m) q j none (sym (map.get-entries m q) ∙ has) (eq-eqb q q refl))
-  ] refl
-] refl
-
 pub entry_has : (m : Items) (q : ℕ) (i : Item) → Has m q i → entry_at (map.entries m) q ≡ Some (q, i)
-entry_has m q i has = entry_at_is m q ∙ ap (option_map (λ (j : Item). (q, j))) has
+entry_has m q i has = entry_get m q ∙ ap (option_map (λ (j : Item). (q, j))) has
 
 -- ---- by name
 
@@ -183,11 +169,7 @@ level_parents p q e = nat_cmp-IsAntisymmetric p.parent q.parent (first (nat_cmp 
 level_names : (p q : Place) → p.parent ≡ q.parent → place_cmp p q ≡ Less → name_cmp p.name q.name ≡ Less
 level_names p q e h = ap (λ o. ordering_then o (name_cmp p.name q.name)) (sym (same p.parent q.parent e)) ∙ h
 
-both : (a b : Bool) → T a → T b → T (a && b)
-both true b p q = q
-both false b p q = absurd p
-
-less_is : (r : Ordering) → r ≡ Less → T (is_lt r)
+pub less_is : (r : Ordering) → r ≡ Less → T (is_lt r)
 less_is r e = subst (λ x. T (is_lt x)) (sym e) tt
 
 same_folded : (x y : List ℕ) → IsTrue (same_name x y) → folded x ≡ folded y

@@ -6,7 +6,7 @@ use Rattle.std.specs.declared.cmp.Ordering.TheVariants.{Less, Equal, Greater}
 use Rattle.std.specs.Ordering.{nat_cmp, is_eq, ordering_then}
 use Rattle.std.specs.Cmp.{tied_itself}
 use Rattle.hfs_fields.specs.Order.{name_cmp, same_name}
-use Rattle.hfs_item_table.proofs.FactLemmas.{true_false}
+use Rattle.hfs_model.proofs.Facts.{true_false}
 use Rattle.hfs_item_table.specs.declared.place.Place.{Place}
 use Rattle.hfs_item_table.specs.Places.{place_cmp, place_cmp_total}
 

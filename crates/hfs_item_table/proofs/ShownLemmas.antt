@@ -1,9 +1,8 @@
 -- Rows by their IDs, as the finite map of the items that they show.
-use Rattle.std.proofs.Common.{◌≡◌, ℕ, Bool, true, false, cond, ◌&&◌, List, [], ◌∷◌, refl, sym, ◌∙◌, ap, subst, Option, Some, None}
+use Rattle.std.proofs.Common.{◌≡◌, ℕ, Bool, true, false, cond, List, [], ◌∷◌, refl, sym, ◌∙◌, ap, Option, Some, None}
 use Rattle.std.specs.Prelude.{T}
-use Rattle.std.specs.declared.cmp.Ordering.{Ordering}
 use Rattle.std.specs.declared.cmp.Ordering.TheVariants.{Less}
-use Rattle.std.specs.Ordering.{nat_cmp, eq_by_cmp, is_lt, is_eq}
+use Rattle.std.specs.Ordering.{nat_cmp, eq_by_cmp, is_eq}
 use Rattle.std.specs.Cmp.{nat_cmp_total, eq_by_cmp_equiv}
 use Rattle.std.specs.Option.{option_map}
 use Rattle.std.specs.List.{AllByRecursion}
@@ -15,13 +14,8 @@ use Rattle.std.specs.BTreeMap as tree
 use Rattle.hfs_model.specs.declared.item.Item.{Item}
 use Rattle.hfs_model.specs.Volume.{Items}
 use Rattle.hfs_item_table.specs.Tables.{shown}
-
-both : (a b : Bool) → T a → T b → T (a && b)
-both true b p q = q
-both false b p q = p
-
-less : (r : Ordering) → r ≡ Less → T (is_lt r)
-less r e = subst (λ x. T (is_lt x)) (sym e) tt
+use Rattle.hfs_model.proofs.Folders.{both}
+use Rattle.hfs_item_table.proofs.Named.{less_is}
 
 pub option_map_cond : {A B : Type 0} (f : A → B) (b : Bool) (x : A) (o : Option A) → option_map f (cond b (Some x) o) ≡ cond b (Some (f x)) (option_map f o)
 option_map_cond f true x o = refl
@@ -30,7 +24,7 @@ option_map_cond f false x o = refl
 module _ {X : Type 0} (show : X → Item) where
   below_shown : (k : ℕ) (rows : List (ℕ × X)) → AllByRecursion (λ y. nat_cmp k y ≡ Less) (keys_of rows) → T (below_all nat_cmp k (shown show rows))
   below_shown k [] h = tt
-  below_shown k (e ∷ rows) h = both _ _ (less _ h.0) (below_shown k rows h.1)
+  below_shown k (e ∷ rows) h = both _ _ (less_is _ h.0) (below_shown k rows h.1)
 
   pub sorted_shown : (rows : List (ℕ × X)) → IsStrictlySortedBy nat_cmp (keys_of rows) → T (is_sorted nat_cmp (shown show rows))
   unfolding IsStrictlySortedBy

@@ -19,23 +19,11 @@ use Rattle.hfs_model.specs.Laws.{AreChildren}
 use Rattle.hfs_model.proofs.Facts.{none_is_some, same_some}
 use Rattle.hfs_model.proofs.Members.{In, in_from_contains, contains_from_in, other_id, has_from_in, in_from_has, from_place, in_children, from_children}
 use Rattle.hfs_model.proofs.InOrder.{keyed, names_cmp, IsInNameOrder, Distinct, children_rise, one_order}
+use Rattle.hfs_model.proofs.Counts.{first, second, is_less}
 
-first : (a b : Bool) → T (a && b) → T a
-first true b p = tt
-first false b p = p
-
-second : (a b : Bool) → T (a && b) → T b
-second true b p = p
-second false b p = absurd p
-
-both : (a b : Bool) → T a → T b → T (a && b)
+pub both : (a b : Bool) → T a → T b → T (a && b)
 both true b p q = q
 both false b p q = absurd p
-
-is_less : (r : Ordering) → T (is_lt r) → r ≡ Less
-is_less Less p = refl
-is_less Equal p = absurd p
-is_less Greater p = absurd p
 
 -- ---- in a lawful volume no two children have the same name
 
@@ -77,12 +65,12 @@ module _ (m : Items) (next : ℕ) (h : AreLawful m next) (dir : ℕ) where
 
 -- ---- strictly rising names, place by place
 
-below_at : (k : List ℕ) (es : List Entry) (j : ℕ) (d : Entry) → T (below_all names_cmp k (keyed es)) → j < length es → names_cmp k (folded (get_or es j d).1.name) ≡ Less
+pub below_at : (k : List ℕ) (es : List Entry) (j : ℕ) (d : Entry) → T (below_all names_cmp k (keyed es)) → j < length es → names_cmp k (folded (get_or es j d).1.name) ≡ Less
 below_at k [] j d h lt = absurd (omega arith)
 below_at k (e ∷ es) zero d h lt = is_less _ (first _ _ h)
 below_at k (e ∷ es) (suc j) d h lt = below_at k es j d (second _ _ h) (omega arith)
 
-pairs_rise : (es : List Entry) → IsInNameOrder es → (i j : ℕ) (d : Entry) → i < j → j < length es → name_cmp (get_or es i d).1.name (get_or es j d).1.name ≡ Less
+pub pairs_rise : (es : List Entry) → IsInNameOrder es → (i j : ℕ) (d : Entry) → i < j → j < length es → name_cmp (get_or es i d).1.name (get_or es j d).1.name ≡ Less
 pairs_rise [] h i j d lt len = absurd (omega arith)
 pairs_rise (e ∷ es) h zero zero d lt len = absurd (omega arith)
 pairs_rise (e ∷ es) h zero (suc j) d lt len = below_at (folded e.1.name) es j d (first _ _ h) (omega arith)

@@ -22,7 +22,7 @@ thread_edits : (there : Bool) → Edits (λ i. record i { kind = with_thread the
 thread_edits there = (λ i. refl, λ i. refl, λ i. same_sort there i.kind)
 
 -- what is answered is another matter
-same_change : (v : Volume) (chosen : Result Entry ℤ) (make : Entry → Items → Items) (now : ℕ) → (change v chosen make now).0 ≡ (change_to_id v chosen make now).0
+pub same_change : (v : Volume) (chosen : Result Entry ℤ) (make : Entry → Items → Items) (now : ℕ) → (change v chosen make now).0 ≡ (change_to_id v chosen make now).0
 same_change v (Ok e) make now = refl
 same_change v (Err code) make now = refl
 

@@ -106,7 +106,7 @@ not_in_file m next k d i h has file into l = chain l.0 l.1
         (λ (f : IsFolder m child.0.parent). no_folder (subst (λ (p : ℕ). IsFolder m p) child.2 f))
         (h.parents last.0 child.0 child.1)
 
-and_true : (a b : Bool) → (a && b) ≡ false → a ≡ true → b ≡ false
+pub and_true : (a b : Bool) → (a && b) ≡ false → a ≡ true → b ≡ false
 and_true true b e f = e
 and_true false b e f = absurd (true_false false f refl)
 

@@ -1,9 +1,8 @@
 -- What a list holds.
-use Rattle.std.proofs.Common.{◌≡◌, ◌⊎◌, inl, inr, ⊎_elim, ℕ, zero, suc, ◌<◌, Bool, true, false, cond, ◌&&◌, List, [], ◌∷◌, length, get_or, fold, refl, sym, ◌∙◌, ap, subst, arith, Some, None}
+use Rattle.std.proofs.Common.{◌≡◌, ◌⊎◌, inl, inr, ⊎_elim, ℕ, zero, suc, ◌<◌, Bool, true, false, cond, List, [], ◌∷◌, length, get_or, fold, refl, sym, ◌∙◌, ap, subst, arith, Some, None}
 use Rattle.std.specs.Prelude.{T}
-use Rattle.std.specs.declared.cmp.Ordering.{Ordering}
-use Rattle.std.specs.declared.cmp.Ordering.TheVariants.{Less, Equal, Greater}
-use Rattle.std.specs.Ordering.{nat_cmp, is_lt, is_eq, is_gt}
+use Rattle.std.specs.declared.cmp.Ordering.TheVariants.{Less}
+use Rattle.std.specs.Ordering.{nat_cmp, is_eq, is_gt}
 use Rattle.std.specs.Cmp.{unsigned_ties}
 use Rattle.std.specs.List.{Contains}
 use Rattle.std.specs.FinMap as map
@@ -15,6 +14,7 @@ use Rattle.hfs_model.specs.Volume.{Items, Entry}
 use Rattle.hfs_model.specs.Children.{place, place_child, is_child}
 use Rattle.hfs_model.specs.Lawful.{Has}
 use Rattle.hfs_model.proofs.Facts.{none_is_some, same_some, true_false}
+use Rattle.hfs_model.proofs.Counts.{first, second, is_less}
 
 -- x stands in the list
 abbrev pub In : {A : Type 0} → A → List A → Type 0
@@ -33,21 +33,6 @@ contains_from_in {A} (y ∷ ys) x h = ⊎_elim
     (λ (there : In x ys). let rest = contains_from_in ys x there in let here : Contains (y ∷ ys) x = (suc rest.0, omega (arith, rest.1), rest.2) in here)
     h
 
--- ---- the entries of a map
-
-first : (a b : Bool) → T (a && b) → T a
-first true b p = tt
-first false b p = p
-
-second : (a b : Bool) → T (a && b) → T b
-second true b p = p
-second false b p = absurd p
-
-is_less : (r : Ordering) → T (is_lt r) → r ≡ Less
-is_less Less p = refl
-is_less Equal p = absurd p
-is_less Greater p = absurd p
-
 pub below_in : (k : ℕ) (es : List Entry) (x : Entry) → T (below_all nat_cmp k es) → In x es → nat_cmp k x.0 ≡ Less
 below_in k [] x h i = absurd i
 below_in k (e ∷ es) x h i = ⊎_elim
@@ -61,14 +46,14 @@ other_id k es x h i same = less_equal (below_in k es x h i) same
     less_equal : nat_cmp k x.0 ≡ Less → k ≡ x.0 → ⊥
     less_equal less e = true_false (is_eq (nat_cmp k x.0)) (sym (unsigned_ties k x.0) ∙ eq-eqb k x.0 e) (ap is_eq less)
 
-found_from_in : (es : List Entry) (x : Entry) → T (is_sorted nat_cmp es) → In x es → map.find nat_cmp x.0 es ≡ Some x.1
+pub found_from_in : (es : List Entry) (x : Entry) → T (is_sorted nat_cmp es) → In x es → map.find nat_cmp x.0 es ≡ Some x.1
 found_from_in [] x h i = absurd i
 found_from_in (f ∷ fs) x h i = ⊎_elim
     (λ (here : f ≡ x). ap (λ b. cond b (Some f.1) (map.find nat_cmp x.0 fs)) (sym (unsigned_ties x.0 f.0) ∙ eq-eqb x.0 f.0 (sym (ap (λ (y : Entry). y.0) here))) ∙ ap (λ (y : Entry). Some y.1) here)
     (λ (there : In x fs). ap (λ b. cond b (Some f.1) (map.find nat_cmp x.0 fs)) (sym (unsigned_ties x.0 f.0) ∙ ne_eqb x.0 f.0 (λ (e : x.0 ≡ f.0). other_id f.0 fs x (first _ _ h) there (sym e))) ∙ found_from_in fs x (second _ _ h) there)
     i
 
-in_from_found : (es : List Entry) (q : ℕ) (j : Item) → map.find nat_cmp q es ≡ Some j → In (q, j) es
+pub in_from_found : (es : List Entry) (q : ℕ) (j : Item) → map.find nat_cmp q es ≡ Some j → In (q, j) es
 in_from_found [] q j is = absurd (none_is_some None j refl is)
 in_from_found (f ∷ fs) q j is = ⊎_elim
     (λ (e : q ≡ f.0).

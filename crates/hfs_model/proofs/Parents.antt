@@ -90,7 +90,7 @@ entry_none m q p none is =
     let has = parent_has m q p is in
     no_entry (has_id q) (fin.entries m) q has.0 none (sym (fin.get-entries m q) ∙ has.1) (eq-eqb q q refl)
 
-or_true : (a b : Bool) → b ≡ true → (a || b) ≡ true
+pub or_true : (a b : Bool) → b ≡ true → (a || b) ≡ true
 or_true true b e = refl
 or_true false b e = e
 

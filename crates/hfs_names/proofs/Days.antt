@@ -5,7 +5,8 @@ use Rattle.std.proofs.lemmas.Bool.{lt-ltb, le-ltb, cases_lt, and_parts, not-true
 use Rattle.std.proofs.lemmas.List.Sums.{sum_by-drop_more}
 use Rattle.hfs_names.specs.declared.calendar.Day.{Day}
 use Rattle.hfs_names.specs.Calendar.{is_leap_year, month_lengths, year_length, day_from_month, day_of_year, day_from_year, day_since_1904}
-use Rattle.hfs_names.proofs.EachBelow.{each_below, at-each}
+use Rattle.hfs_fields.proofs.CommonLemmas.{each_below}
+use Rattle.hfs_fields.proofs.CommonLemmas.{at-each}
 
 -- ---- months
 

@@ -12,7 +12,8 @@ use Rattle.hfs_names.specs.Digits.{upper_byte}
 use Rattle.hfs_names.specs.MacRoman.{high_characters, roman_character, character_text}
 use Rattle.hfs_names.specs.HostNames.{is_reserved, is_device_name, is_dropped_at_end, is_first_escaped, host_character, host_rest, host_name}
 use Rattle.hfs_names.specs.Laws.{is_bytes, IsSafe, AreHostNames}
-use Rattle.hfs_names.proofs.EachBelow.{each_below, at-each}
+use Rattle.hfs_fields.proofs.CommonLemmas.{each_below}
+use Rattle.hfs_fields.proofs.CommonLemmas.{at-each}
 use Rattle.hfs_names.proofs.Codes.{Spells, word_length, IsCode, spells-one, spells-pass, spells-short, spells-mapped, all-at}
 
 -- ---- what a word is of

@@ -1,4 +1,3 @@
-mod EachBelow
 mod Stems
 pub mod Days
 pub mod DayLaw

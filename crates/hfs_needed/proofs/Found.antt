@@ -1,5 +1,5 @@
 -- Where the nodes of both trees were found.
-use Rattle.std.proofs.Common.{◌≡◌, ℕ, ◌*◌, ◌≤◌, true, false, List, length, Option, Some, None, refl, sym, ap, subst, ◌∙◌, inl, inr, true≢false}
+use Rattle.std.proofs.Common.{◌≡◌, ℕ, ◌*◌, ◌≤◌, true, false, List, length, Option, Some, None, refl, sym, ap, subst, ◌∙◌, inl, inr}
 use Rattle.std.specs.Prelude.{◌%◌}
 use Rattle.std.specs.List.{flat_map}
 use Rattle.std.specs.Option.{is_none}
@@ -25,10 +25,7 @@ use Rattle.hfs_check.specs.Faults.{check_fault, extents_fault}
 use Rattle.hfs_check.specs.Laws.{NoExtentsFault}
 use Rattle.hfs_check.specs.Parts.{Blocks, mdb_in, extents_blocks, extents_nodes, overflow_in, catalog_extents, catalog_blocks}
 use Rattle.hfs_needed.specs.Needed.{has_extents_file, is_extents_tree_right, has_catalog_file}
-
-pub no-fault : {A : Type 0} (o : Option A) → is_none o ≡ true → o ≡ None
-no-fault None e = refl
-no-fault (Some x) e = absurd (true≢false (sym e))
+use Rattle.hfs_fields.proofs.CommonLemmas.{none-true}
 
 -- ---- the extents tree
 
@@ -80,7 +77,7 @@ module _ (blocks : Blocks) (mdb : Mdb) (is : mdb ≡ mdb_in blocks) where
 
       tree-sound : IsExtentsTree (extents_nodes blocks)
       tree-sound =
-          let sound = (law (mdb_in blocks) (extents_nodes blocks)).0 (no-place _ (no-fault (extents_check_fault (mdb_in blocks) blocks) right)) in
+          let sound = (law (mdb_in blocks) (extents_nodes blocks)).0 (no-place _ (none-true (extents_check_fault (mdb_in blocks) blocks) right)) in
           record { structure = sound.shape.structure; counts = sound.shape.counts; ordered = sound.ordered }
 
       pub is-extents-tree : IsExtentsTree (nodes_in blocks runs)

@@ -31,7 +31,7 @@ use Rattle.hfs_needed.specs.Marked.{where_right, needed_of_tree}
 use Rattle.hfs_needed.specs.Needed.{AgreeOn, is_mdb_right, has_extents_file, is_extents_tree_right, has_catalog_file, needed_of_extents, needed_of_catalog, needed_of_trees, needed_blocks}
 use Rattle.hfs_needed.specs.Gathered.{LieAt, HasRead}
 use Rattle.hfs_needed.specs.TreeReads.{nodes_of, block_for, HasNode, ReadsRuns, HasMarkedFrom, LieBeside}
-use Rattle.hfs_needed.proofs.Found.{no-fault}
+use Rattle.hfs_fields.proofs.CommonLemmas.{none-true as no-fault}
 use Rattle.hfs_needed.proofs.SameParts.{mdb-same, extents_blocks-same, extents-map, catalog-map, catalog_blocks-same}
 use Rattle.hfs_needed.proofs.SameFaults.{has_extents-same, needed_of_extents-same, x}
 use Rattle.hfs_needed.proofs.SameTrees.{nodes-map}

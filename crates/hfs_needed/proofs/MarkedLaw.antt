@@ -18,12 +18,8 @@ use Rattle.hfs_btree.specs.Sound.{part_of}
 use Rattle.hfs_btree_checks.specs.Shape.{unless, ◌or_else◌, first_fault, is_header_node, is_header_record, has_header, is_within, is_map_result, is_map_node, chain_fault, has_map, is_result_at, is_right, is_own, turn_fault, levels_fault, names_ends, has_ends, has_counts, structure_fault}
 use Rattle.hfs_btree_checks.specs.Order.{first_node, rise_fault, pair_leaves, leaf_order_fault, are_parts_in_order, are_keys_in_order, is_keyed, index_order_fault, has_keys, key_fault, index_keys_at, index_keys}
 use Rattle.hfs_needed.specs.Marked.{where_right, chain_of, map_chain, marked_of, needed_of_map, needed_of_tree, IsSameNode, AgreeOnMarked, HoldSameTree, TreesAnswerSame}
-
--- ---- of lists
-
-flat_map-same : {X Y : Type 0} (f h : X → List Y) (xs : List X) → Each (λ x. f x ≡ h x) xs → flat_map f xs ≡ flat_map h xs
-flat_map-same f h [] each = refl
-flat_map-same f h (x ∷ xs) each = λ i. each.0 i ++ flat_map-same f h xs each.1 i
+use Rattle.hfs_btree_checks.proofs.ShapeLawLemmas.{first-none}
+use Rattle.hfs_scans.proofs.PartLemmas.{flat_map-same}
 
 first_node-same : (p q : Spot → Bool) (ss : List Spot) → Each (λ s. p s ≡ q s) ss → first_node p ss ≡ first_node q ss
 first_node-same p q [] each = refl
@@ -36,10 +32,6 @@ unless-none false e = absurd (none-some 0 (sym e))
 pub or-same : (a b c d : Option ℕ) → b ≡ a → (a ≡ None → d ≡ c) → (b or_else d) ≡ (a or_else c)
 or-same None b c d e f = ap (λ (o : Option ℕ). o or_else d) e ∙ f refl
 or-same (Some x) b c d e f = ap (λ (o : Option ℕ). o or_else d) e
-
-pub or-parts : (a b : Option ℕ) → (a or_else b) ≡ None → (a ≡ None) × (b ≡ None)
-or-parts None b e = (refl, e)
-or-parts (Some x) b e = absurd (none-some x (sym e))
 
 -- without a fault each element passes
 module _ {X : Type 0} (test : X → Bool) (number : X → ℕ) where
@@ -448,11 +440,11 @@ module _ {K : Type 0} (g : Ghosts K) (size : ℕ) (old new : Store) (agree : Agr
   held : structure_fault g size old ≡ None → HoldSameTree g old new
   unfolding structure_fault
   held none =
-      let first = or-parts (unless (has_header g size old)) (unless (has_map old) or_else levels_fault g old or_else unless (has_ends g old)) none in
+      let first = first-none (unless (has_header g size old)) (unless (has_map old) or_else levels_fault g old or_else unless (has_ends g old)) none in
       let right = unless-none (has_header g size old) first.0 in
-      let second = or-parts (unless (has_map old)) (levels_fault g old or_else unless (has_ends g old)) first.1 in
+      let second = first-none (unless (has_map old)) (levels_fault g old or_else unless (has_ends g old)) first.1 in
       let mapped = unless-none (has_map old) second.0 in
-      let third = or-parts (levels_fault g old) (unless (has_ends g old)) second.1 in
+      let third = first-none (levels_fault g old) (unless (has_ends g old)) second.1 in
       hold-same g old new agree.header (each-same right mapped third.0) (m right mapped)
 
   module _ (numbers : List ℕ) where

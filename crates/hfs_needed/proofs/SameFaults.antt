@@ -26,6 +26,7 @@ use Rattle.hfs_needed.proofs.MarkedLaw as law
 use Rattle.hfs_needed.proofs.SameParts.{mdb-same, extents_blocks-same, catalog_extents-same, catalog_blocks-same, extents-map, catalog-map, owned-same}
 use Rattle.hfs_needed.proofs.SameTrees.{by-nodes}
 use Rattle.hfs_needed.proofs.SameSpace.{space_fault-same}
+use Rattle.hfs_check.proofs.Opened.{extents_fault-wrong, none-parts, no-place}
 
 -- ---- one fault behind the other
 
@@ -33,19 +34,10 @@ or-same : (a b c d : Option MountFault) → b ≡ a → (a ≡ None → d ≡ c)
 or-same None b c d e f = ap (λ (o : Option MountFault). o or_fault d) e ∙ f refl
 or-same (Some x) b c d e f = ap (λ (o : Option MountFault). o or_fault d) e
 
-pub none-parts : (a b : Option MountFault) → (a or_fault b) ≡ None → (a ≡ None) × (b ≡ None)
-none-parts None b e = (refl, e)
-none-parts (Some x) b e = absurd (none-some x (sym e))
-
 -- ---- a part that is right
 
 is-none : {A : Type 0} (o : Option A) → o ≡ None → is_none o ≡ true
 is-none o e = ap is_none e
-
-extents_fault-wrong : (mdb : Mdb) (counts : Bool) (nodes : Store) → is_tree_file mdb mdb.extents_file mdb.extents_file_size ≡ false
-    → extents_fault counts mdb nodes ≡ Some 0
-unfolding extents_fault
-extents_fault-wrong mdb counts nodes e = rw e refl
 
 catalog_fault-wrong : (mdb : Mdb) (extents : List Extent) (counts : Bool) (nodes : Store) → is_tree_file mdb extents mdb.catalog_file_size ≡ false
     → catalog_fault counts mdb extents nodes ≡ Some 0
@@ -130,10 +122,6 @@ module _ (mdb : Mdb) (extents : List Extent) (old new : Store) (same : TreesAnsw
   catalog-hold none =
       let behind = law.or-parts (unless (is_tree_file mdb extents mdb.catalog_file_size)) (catalog_shape old) none in
       same.held (law.or-parts (structure_fault cat_keys mdb.catalog_file_size old) (unless (has_counts cat_keys old)) behind.1).0
-
-no-place : (number : ℕ) (place : Option ℕ) → check_fault number place ≡ None → place ≡ None
-no-place number None e = refl
-no-place number (Some place) e = absurd (none-some (fault.Check number place) (sym e))
 
 -- nothing is needed behind a part that is wrong
 where-wrong : (test : Bool) (numbers : List ℕ) → test ≡ false → where_right test numbers ≡ []

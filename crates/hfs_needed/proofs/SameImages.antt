@@ -27,7 +27,8 @@ use Rattle.hfs_needed.specs.Needed.{AgreeOn, AgreeOnNeeded}
 use Rattle.hfs_needed.specs.Laws.{volume_with, blocks_of_fork, HoldSame, AnswerSame, ImagesAnswerSame}
 use Rattle.hfs_needed.proofs.SameParts.{map-same}
 use Rattle.hfs_needed.proofs.SameSpace.{clear-same, strays-same}
-use Rattle.hfs_needed.proofs.SameFaults.{none-parts, SameParts, catalog-stays, owned-stays, alternate, parts, fault-same, needed-same}
+use Rattle.hfs_check.proofs.Opened.{none-parts}
+use Rattle.hfs_needed.proofs.SameFaults.{SameParts, catalog-stays, owned-stays, alternate, parts, fault-same, needed-same}
 
 module _ (total : ℕ) (old new : Blocks) (same : SameParts old new) (copy : new (total - 2) ≡ old (total - 2)) where
   alternate-same : alternate_in total new ≡ alternate_in total old

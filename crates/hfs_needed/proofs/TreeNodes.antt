@@ -18,7 +18,8 @@ use Rattle.hfs_btree.specs.Header.{header_in, chain_from, map_nodes, map_bytes, 
 use Rattle.hfs_btree_checks.specs.Shape.{first_fault, is_header_value, is_header_record, is_header_with, own_header, has_header, is_within, is_map_result, is_map_node, has_map}
 use Rattle.hfs_btree_checks.specs.ShapeSteps.{is_met, map_part}
 use Rattle.hfs_btree_checks.proofs.ShapeTurn.{met-more}
-use Rattle.hfs_btree_checks.proofs.ShapeChain.{chain-step, chain-goes-on}
+use Rattle.hfs_btree.proofs.ChainLemmas.{chain-step}
+use Rattle.hfs_btree_checks.proofs.ShapeChain.{chain-goes-on}
 use Rattle.hfs_btree_checks.proofs.ShapeMaps.{unmet, chain-fault-is, wrong-chain, no-bits}
 use Rattle.hfs_sparse.specs.Sparse.{zero_block, sparse, HasEach, HasGrown}
 use Rattle.hfs_sparse.proofs.SparseLemmas.{each-grown, each-same, has-grown}

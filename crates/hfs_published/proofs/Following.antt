@@ -17,11 +17,12 @@ use Rattle.hfs_published.specs.declared.item.Item.{Item}
 use Rattle.hfs_published.specs.declared.item.Item.TheVariants.{Opening, Change}
 use Rattle.hfs_published.specs.Lists.{entered, shown}
 use Rattle.hfs_published.specs.Journals.{IsAnswered, IsLegal, is_accepted, changes, published}
+use Rattle.hfs_model.proofs.KeepsMove.{and_true}
 
 -- ---- lists of changes
 
 -- an accepted change comes first, and another entry is left out
-abbrev changes_of : (b : Bool) → Entry → List Entry → List Item
+abbrev pub changes_of : (b : Bool) → Entry → List Entry → List Item
 changes_of b e es = map (λ (x : Entry). Change x.call) (cond b (e ∷ filter is_accepted es) (filter is_accepted es))
 
 pub changes_accepted : (e : Entry) (es : List Entry) → is_accepted e ≡ true → changes (e ∷ es) ≡ Change e.call ∷ changes es
@@ -53,10 +54,6 @@ and_right : (a b : Bool) → (a && b) ≡ true → b ≡ true
 and_right true b h = h
 and_right false b h = absurd (cc h)
 
-and_not : (a b : Bool) → (a && b) ≡ false → a ≡ true → b ≡ false
-and_not true b h t = h
-and_not false b h t = absurd (cc t)
-
 module _ (reading : ReadingLeaves) (refusal : RefusalLeaves) where
   -- an accepted change makes what its entry makes
   accepted_makes : (u : Volume) (e : Entry) (full : Option (ℕ × ℕ)) → IsAnswered u e full → is_accepted e ≡ true → (step u e.call).0 ≡ option_map_or (λ _. u) full (step u e.call).0
@@ -74,7 +71,7 @@ module _ (reading : ReadingLeaves) (refusal : RefusalLeaves) where
   other_leaves u e None told h = elim (is_reading e.call) as (λ (b : Bool). is_reading e.call ≡ b → u ≡ (step u e.call).0) [
     | true ↦ λ reads. sym (reading u e.call reads)
     | false ↦ λ changes.
-        let code : int_eq e.code (pos 0) ≡ false = and_not (not (is_reading e.call)) (int_eq e.code (pos 0)) h (ap not changes) in
+        let code : int_eq e.code (pos 0) ≡ false = and_true (not (is_reading e.call)) (int_eq e.code (pos 0)) h (ap not changes) in
         sym (refusal u e.call (no_zero (step u e.call).1.code (ap (λ (z : ℤ). int_eq z (pos 0)) (sym told) ∙ code)))
   ] refl
 

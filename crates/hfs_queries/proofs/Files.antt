@@ -17,7 +17,7 @@ use Rattle.hfs_catalog.specs.Lookups.{catalog_item, child_named}
 use Rattle.hfs_queries.specs.Told.{is_folder, only_file, file_named}
 use Rattle.hfs_queries.proofs.FolderLemmas.{folder_not_file}
 
-same_file : (f g : FileRecord) → File f ≡ File g → f ≡ g
+pub same_file : (f g : FileRecord) → File f ≡ File g → f ≡ g
 same_file f g e = cc
 
 module _ (catalog : Catalog) (dir : ℕ) (name : List ℕ) (named : is_item_name name ≡ true) (folder : is_folder catalog dir ≡ true) where

@@ -1,4 +1,3 @@
-pub mod Finder
 pub mod FileIds
 pub mod Files
 pub mod Queries

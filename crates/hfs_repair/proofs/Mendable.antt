@@ -18,15 +18,12 @@ use Rattle.hfs_repair.specs.Fields.{PlacedNumber}
 use Rattle.hfs_repair.specs.Opened.{is_extents_right, is_catalog_right, catalog_file_of, catalog_nodes_of, catalog_in_of, are_records_right}
 use Rattle.hfs_repair.specs.Placed.{is_wrong, placed_in, wrong_in}
 use Rattle.hfs_repair.specs.Wrong.{are_blocks_mendable, wrong_in_blocks, placed_of}
-use Rattle.hfs_repair.proofs.Openings.{none-check}
+use Rattle.hfs_check.proofs.CommonLemmas.{none-mapped as none-check}
+use Rattle.hfs_repair.proofs.Openings.{none-else}
 
 fault-and : (a b : Option MountFault) → is_none (a or_fault b) ≡ (is_none a && is_none b)
 fault-and None b = refl
 fault-and (Some x) b = refl
-
-else-and : (a b : Option ℕ) → is_none (a or_else b) ≡ (is_none a && is_none b)
-else-and None b = refl
-else-and (Some n) b = refl
 
 unless-none : (b : Bool) → is_none (unless b) ≡ b
 unless-none true = refl
@@ -41,12 +38,12 @@ and-assoc true b c = refl
 and-assoc false b c = refl
 
 shape-and : (a : Option ℕ) (b : Bool) → is_none (unless b or_else (a or_else unless true)) ≡ (b && is_none a)
-shape-and a b = else-and (unless b) (a or_else unless true) ∙ (λ i. unless-none b i && (else-and a (unless true) ∙ and-true (is_none a)) i)
+shape-and a b = none-else (unless b) (a or_else unless true) ∙ (λ i. unless-none b i && (none-else a (unless true) ∙ and-true (is_none a)) i)
 
 extents-and : (a k o : Option ℕ) (b : Bool) → is_none (unless b or_else ((a or_else unless true) or_else (k or_else o))) ≡ ((b && is_none a) && (is_none k && is_none o))
 extents-and a k o b =
-    else-and (unless b) ((a or_else unless true) or_else (k or_else o))
-    ∙ (λ i. unless-none b i && (else-and (a or_else unless true) (k or_else o) ∙ (λ j. (else-and a (unless true) ∙ and-true (is_none a)) j && else-and k o j)) i)
+    none-else (unless b) ((a or_else unless true) or_else (k or_else o))
+    ∙ (λ i. unless-none b i && (none-else (a or_else unless true) (k or_else o) ∙ (λ j. (none-else a (unless true) ∙ and-true (is_none a)) j && none-else k o j)) i)
     ∙ and-assoc b (is_none a) (is_none k && is_none o)
 
 module _ (blocks : Blocks) where

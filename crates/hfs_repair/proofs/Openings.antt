@@ -24,6 +24,8 @@ use Rattle.hfs_repair.specs.declared.right_counts.RightCounts.{RightCounts}
 use Rattle.hfs_repair.specs.declared.tree_file.TreeFile.{TreeFile}
 use Rattle.hfs_repair.specs.Recounted.{with_head}
 use Rattle.hfs_repair.specs.Opened.{AreRightCounts, IsTreeIn, is_tree_right, are_extents_in_order, extents_of, is_extents_right, catalog_file_of, is_catalog_right}
+use Rattle.hfs_fields.proofs.DecisionLemmas.{both_true}
+use Rattle.hfs_check.proofs.CommonLemmas.{none-mapped}
 
 -- ---- tests of faults
 
@@ -40,16 +42,9 @@ none-both (Some x) (Some y) h = refl
 none-both None (Some y) h = absurd (some-of (Some y) y refl (h.0 refl))
 none-both (Some x) None h = absurd (some-of (Some x) x refl (h.1 refl))
 
-none-else : (a b : Option ℕ) → is_none (a or_else b) ≡ (is_none a && is_none b)
+pub none-else : (a b : Option ℕ) → is_none (a or_else b) ≡ (is_none a && is_none b)
 none-else None b = refl
 none-else (Some n) b = refl
-
-pub none-check : (number : ℕ) (place : Option ℕ) → is_none (check_fault number place) ≡ is_none place
-none-check number None = refl
-none-check number (Some n) = refl
-
-pub both-true : (a b : Bool) → a ≡ true → b ≡ true → (a && b) ≡ true
-both-true a b x y = ap (λ (c : Bool). c && b) x ∙ y
 
 pub first-false : (a b : Bool) → a ≡ false → (a && b) ≡ false
 first-false a b x = ap (λ (c : Bool). c && b) x
@@ -86,7 +81,7 @@ module _ (size : ℕ) (nodes : Store) (right : RightCounts) (h : AreRightCounts 
 
   pub in-order : is_none (check_fault 3 (extents_tree_fault size new')) ≡ are_extents_in_order nodes
   in-order =
-      none-check 3 (extents_tree_fault size new')
+      none-mapped 3 (extents_tree_fault size new')
       ∙ ap (λ (o : Option ℕ). is_none (o or_else key_fault ext_keys new' is_fork_key or_else order_fault ext_keys new')) (headed-shape ext_keys size nodes right h)
       ∙ none-else (key_fault ext_keys new' is_fork_key) (order_fault ext_keys new')
       ∙ (λ i. is_none (h.recount.keys is_fork_key i) && none-both (order_fault ext_keys new') (order_fault ext_keys nodes) h.recount.order i)
@@ -108,13 +103,13 @@ module _ (blocks : Blocks) (mdb : Mdb) where
 
   pub extents-right : is_tree_right ext_keys blocks mdb mdb.extents_file mdb.extents_file_size ≡ true → are_extents_in_order (extents_of blocks mdb) ≡ true → is_extents_right blocks mdb ≡ true
   unfolding is_extents_right
-  extents-right e f = both-true _ _ e f
+  extents-right e f = both_true _ _ e f
 
 -- ---- a tree in its file
 
 pub tree-right : {K : Type 0} (g : Ghosts K) (total : ℕ) (blocks : Blocks) (mdb : Mdb) (file : List Extent) (size : ℕ) (tree : TreeFile) → IsTreeIn g total blocks mdb file size tree
     → is_tree_right g blocks mdb file size ≡ true
-tree-right g total blocks mdb file size tree h = both-true _ _ h.lies (ap is_none h.counts.fault)
+tree-right g total blocks mdb file size tree h = both_true _ _ h.lies (ap is_none h.counts.fault)
 
 pub strengthen : {X E : Type 0} (result : Result (Option X) E) (b : Bool) (P : X → Type 0) → ((x : X) → P x → b ≡ true)
     → IfOk result (λ found. MatchOption found (b ≡ false) P) → IfOk result (λ found. MatchOption found (b ≡ false) (λ x. (b ≡ true) × P x))

@@ -35,10 +35,6 @@ pub some-block : (blocks : ℕ → List ℕ) (runs : List Run) → 0 < length (n
 unfolding nodes_in
 some-block blocks runs some = let same = length-map (flat_map run_of runs) blocks in omega arith
 
-pub block-of-node : (blocks : ℕ → List ℕ) (runs : List Run) (n : ℕ) → n < length (nodes_in blocks runs) → n < length (flat_map run_of runs)
-unfolding nodes_in
-block-of-node blocks runs n some = let same = length-map (flat_map run_of runs) blocks in omega arith
-
 pub record-start : (numbers : List ℕ) (nodes : Store) (n k block offset : ℕ) (bytes : List ℕ) → block ≡ get_or numbers n 0 → bytes ≡ get_or nodes n [] → offset ≡ number_at (510 - 2 * k) 2 bytes
     → 512 * block + offset ≡ record_start numbers nodes n k
 unfolding offset_of

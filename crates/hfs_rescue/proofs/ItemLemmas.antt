@@ -1,5 +1,5 @@
 -- The items among records, one after the other.
-use Rattle.std.proofs.Common.{◌≡◌, ℕ, Bool, true, false, cond, ◌&&◌, ◌||◌, ◌==◌, not, if◌then◌else◌, List, [], ◌∷◌, ◌++◌, Vec, Global, Option, Some, None, length, refl, sym, ap, ◌∙◌}
+use Rattle.std.proofs.Common.{◌≡◌, ℕ, Bool, true, false, cond, ◌&&◌, ◌||◌, ◌==◌, not, if◌then◌else◌, List, [], ◌∷◌, ◌++◌, Vec, Global, Some, None, length, refl, sym, ap, ◌∙◌}
 use Rattle.std.specs.List.{list_any}
 use Rattle.std.specs.Str.{bytes_eq}
 use Rattle.std.specs.Ordering.{is_eq, nat_cmp}
@@ -11,6 +11,7 @@ use Rattle.hfs_fields.specs.Keys.{is_cat_body_len}
 use Rattle.hfs_catalog_checks.specs.Indexes.{has_number, AddsNumber}
 use Rattle.hfs_rescue.specs.declared.catalog.FoundRecord.{FoundRecord}
 use Rattle.hfs_rescue.specs.Items.{is_named_item, written, is_written, has_item, is_next_item, with_next, has_row, KnowItems, AddsRow}
+use Rattle.hfs_fields.proofs.DecisionLemmas.{or_there}
 
 any-push : {X : Type 0} (p : X → Bool) (xs : List X) (x : X) → list_any p (xs ++ x ∷ []) ≡ (list_any p xs || p x)
 any-push p [] x = by (p x)
@@ -100,14 +101,6 @@ named-none r is = by (is_named_item r) is
     by true e = cc
     by false e = refl
 
--- ---- sets
-
-or-there : (here there : Bool) → cond here true there ≡ (there || here)
-or-there true true = refl
-or-there true false = refl
-or-there false true = refl
-or-there false false = refl
-
 pub row-there : (rows : List (Vec ℕ Global)) (row : Vec ℕ Global) → list_any (λ (other : Vec ℕ Global). is_eq (slice_cmp nat_cmp row.items other.items)) rows ≡ has_row rows row
 row-there rows row = λ t. list_any (λ (other : Vec ℕ Global). is_eq-slice_cmp row.items other.items t) rows
 
@@ -118,4 +111,4 @@ pub row-put : (old new : List (Vec ℕ Global)) (row : Vec ℕ Global)
 row-put old new row put other =
     sym (row-there new other) ∙ put other
     ∙ (λ t. cond (is_eq-slice_cmp row.items other.items t) true (row-there old other t))
-    ∙ or-there (bytes_eq row.items other.items) (has_row old other)
+    ∙ or_there (bytes_eq row.items other.items) (has_row old other)

@@ -1,16 +1,10 @@
 -- Ranges of numbers, and what is made of each number.
-use Rattle.std.proofs.Common.{◌≡◌, ℕ, zero, suc, ◌+◌, ◌*◌, ◌^◌, ◌<◌, ◌≤◌, List, [], ◌∷◌, ◌++◌, refl, sym, ap, ◌∙◌, arith}
+use Rattle.std.proofs.Common.{◌≡◌, ℕ, zero, suc, ◌+◌, ◌*◌, ◌^◌, ◌<◌, ◌≤◌, List, [], ◌++◌, refl, sym, ap, ◌∙◌, arith}
 use Rattle.std.specs.List.{flat_map, range_with_len}
 use Rattle.std.proofs.Math.Nat.{mul-le-mul}
 use Rattle.std.proofs.lemmas.List.{append-nil}
 use Rattle.std.proofs.lemmas.Grind.{flat_map-append}
-
-pub range-add : (a m n : ℕ) → range_with_len a (m + n) ≡ range_with_len a m ++ range_with_len (a + m) n
-range-add a zero n = (λ i. range_with_len (let e : a ≡ a + zero = omega arith in e i) (let e : zero + n ≡ n = omega arith in e i))
-range-add a (suc m) n =
-    let e : suc m + n ≡ suc (m + n) = omega arith in
-    let e' : a + 1 + m ≡ a + suc m = omega arith in
-    ap (range_with_len a) e ∙ ap (λ l. a ∷ l) (range-add (a + 1) m n ∙ ap (λ x. range_with_len (a + 1) m ++ range_with_len x n) e')
+use Rattle.hfs_space.proofs.ForkLawLemmas.{range-add}
 
 module _ {X : Type 0} (f : ℕ → List X) where
   pub flat-add : (a m n j : ℕ) → a + m ≡ j → flat_map f (range_with_len a (m + n)) ≡ flat_map f (range_with_len a m) ++ flat_map f (range_with_len j n)

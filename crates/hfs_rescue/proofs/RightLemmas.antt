@@ -1,5 +1,5 @@
 -- The checks of both trees, where nodes may be missing.
-use Rattle.std.proofs.Common.{◌≡◌, ℕ, ◌+◌, ◌/◌, ◌%◌, true, false, List, Option, Some, None, refl, arith}
+use Rattle.std.proofs.Common.{◌≡◌, ℕ, ◌+◌, ◌/◌, ◌%◌, true, false, List, refl, arith}
 use Rattle.std.specs.Prelude.{min}
 use Rattle.std.specs.Option.{is_none}
 use Rattle.hfs_fields.specs.declared.mdb.Mdb.{Mdb}
@@ -12,21 +12,14 @@ use Rattle.hfs_space.specs.TreeKeys.{ext_keys}
 use Rattle.hfs_catalog.specs.Tree.{cat_keys}
 use Rattle.hfs_fields.specs.declared.extent.Extent.{Extent}
 use Rattle.hfs_check.specs.Answers.{extents_tree_fault}
-use Rattle.hfs_check.specs.Faults.{check_fault, extents_fault, catalog_fault}
+use Rattle.hfs_check.specs.Faults.{extents_fault, catalog_fault}
 use Rattle.hfs_check.specs.Laws.{NoExtentsFault, NoCatalogFault}
 use Rattle.hfs_rescue.specs.OverflowRecords.{is_extents_tree_right}
 use Rattle.hfs_rescue.specs.CatalogRecords.{is_catalog_tree_right}
+use Rattle.hfs_fields.proofs.CommonLemmas.{none-true}
 
 pub ceiling : (size : ℕ) → size / 512 + min 1 (size % 512) ≡ node_count size
 ceiling size = omega arith
-
-pub none-mapped : (number : ℕ) (place : Option ℕ) → is_none (check_fault number place) ≡ is_none place
-none-mapped number None = refl
-none-mapped number (Some n) = refl
-
-none-true : {A : Type 0} (o : Option A) → is_none o ≡ true → o ≡ None
-none-true None h = refl
-none-true (Some x) h = cc
 
 module _ (mdb : Mdb) (nodes : Store) where
   -- the extents file is wrong

@@ -20,22 +20,17 @@ use Rattle.hfs_published.proofs.Prefixes.{prefix_trans}
 use Rattle.hfs_shared.specs.Desks.{PassState, entry_of}
 use Rattle.hfs_shared.specs.Shareds.{IsReplyOf, IsSomeCall}
 use Rattle.hfs_runs.specs.Standing.{BeginsWith, Stands, is_change}
+use Rattle.hfs_published.proofs.Following.{changes_accepted, changes_other}
 
 -- ---- changes of a journal
 
 abbrev changes_by : Bool → Entry → List Entry → List Item
 changes_by accepted e es = map (λ (x : Entry). Change x.call) (cond accepted (e ∷ filter is_accepted es) (filter is_accepted es))
 
-accepted_first : (e : Entry) (es : List Entry) → is_accepted e ≡ true → changes (e ∷ es) ≡ Change e.call ∷ changes es
-accepted_first e es is = ap (λ (b : Bool). changes_by b e es) is
-
-other_first : (e : Entry) (es : List Entry) → is_accepted e ≡ false → changes (e ∷ es) ≡ changes es
-other_first e es is = ap (λ (b : Bool). changes_by b e es) is
-
 append_step : (e : Entry) (es fs : List Entry) → changes (es ++ fs) ≡ changes es ++ changes fs → (b : Bool) → is_accepted e ≡ b → changes (e ∷ es ++ fs) ≡ changes (e ∷ es) ++ changes fs
 append_step e es fs same true is =
-    accepted_first e (es ++ fs) is ∙ ap (λ (l : List Item). Change e.call ∷ l) same ∙ ap (λ (l : List Item). l ++ changes fs) (sym (accepted_first e es is))
-append_step e es fs same false is = other_first e (es ++ fs) is ∙ same ∙ ap (λ (l : List Item). l ++ changes fs) (sym (other_first e es is))
+    changes_accepted e (es ++ fs) is ∙ ap (λ (l : List Item). Change e.call ∷ l) same ∙ ap (λ (l : List Item). l ++ changes fs) (sym (changes_accepted e es is))
+append_step e es fs same false is = changes_other e (es ++ fs) is ∙ same ∙ ap (λ (l : List Item). l ++ changes fs) (sym (changes_other e es is))
 
 changes-append : (es fs : List Entry) → changes (es ++ fs) ≡ changes es ++ changes fs
 changes-append [] fs = refl
@@ -61,7 +56,7 @@ cut_accepted e journal xs is c = record {
   before = e ∷ c.before;
   behind = c.behind;
   whole = ap (λ (l : List Entry). e ∷ l) c.whole;
-  publishes = accepted_first e c.before is ∙ ap (λ (l : List Item). Change e.call ∷ l) c.publishes;
+  publishes = changes_accepted e c.before is ∙ ap (λ (l : List Item). Change e.call ∷ l) c.publishes;
 }
 
 abbrev cut_other : (e : Entry) (journal : List Entry) (xs : List Item) → is_accepted e ≡ false → IsCut journal xs → IsCut (e ∷ journal) xs
@@ -69,17 +64,17 @@ cut_other e journal xs is c = record {
   before = e ∷ c.before;
   behind = c.behind;
   whole = ap (λ (l : List Entry). e ∷ l) c.whole;
-  publishes = other_first e c.before is ∙ c.publishes;
+  publishes = changes_other e c.before is ∙ c.publishes;
 }
 
 cut_step : (e : Entry) (journal : List Entry) (x : Item) (xs : List Item) → IsPrefix (x ∷ xs) (changes (e ∷ journal)) → (IsPrefix xs (changes journal) → IsCut journal xs)
     → (IsPrefix (x ∷ xs) (changes journal) → IsCut journal (x ∷ xs)) → (b : Bool) → is_accepted e ≡ b → IsCut (e ∷ journal) (x ∷ xs)
 cut_step e journal x xs p rest whole true is =
-    let same : x ∷ xs ++ p.0 ≡ Change e.call ∷ changes journal = p.1 ∙ accepted_first e journal is in
+    let same : x ∷ xs ++ p.0 ≡ Change e.call ∷ changes journal = p.1 ∙ changes_accepted e journal is in
     let head : Change e.call ≡ x = cc (same) in
     let tail : xs ++ p.0 ≡ changes journal = cc (same) in
     subst (λ (y : Item). IsCut (e ∷ journal) (y ∷ xs)) head (cut_accepted e journal xs is (rest (p.0, tail)))
-cut_step e journal x xs p rest whole false is = cut_other e journal (x ∷ xs) is (whole (p.0, p.1 ∙ other_first e journal is))
+cut_step e journal x xs p rest whole false is = cut_other e journal (x ∷ xs) is (whole (p.0, p.1 ∙ changes_other e journal is))
 
 cut_for : (journal : List Entry) (xs : List Item) → IsPrefix xs (changes journal) → IsCut journal xs
 cut_for [] [] p = uncut []
@@ -90,10 +85,10 @@ cut_for (e ∷ journal) (x ∷ xs) p = cut_step e journal x xs p (λ q. cut_for 
 at_first : (e : Entry) (journal : List Entry) (call : Call) → IsPrefix (Change call ∷ []) (changes (e ∷ journal)) → (IsPrefix (Change call ∷ []) (changes journal) → IsCutAt journal [] call)
     → (b : Bool) → is_accepted e ≡ b → IsCutAt (e ∷ journal) [] call
 at_first e journal call p whole true is =
-    let same : Change call ∷ p.0 ≡ Change e.call ∷ changes journal = p.1 ∙ accepted_first e journal is in
+    let same : Change call ∷ p.0 ≡ Change e.call ∷ changes journal = p.1 ∙ changes_accepted e journal is in
     record { cut = uncut (e ∷ journal); next = (e, journal, refl, cc (same), is) }
 at_first e journal call p whole false is =
-    let c = whole (p.0, p.1 ∙ other_first e journal is) in
+    let c = whole (p.0, p.1 ∙ changes_other e journal is) in
     record { cut = cut_other e journal [] is c.cut; next = c.next }
 
 at_accepted : (e : Entry) (journal : List Entry) (xs : List Item) (call : Call) → is_accepted e ≡ true → IsCutAt journal xs call → IsCutAt (e ∷ journal) (Change e.call ∷ xs) call
@@ -103,12 +98,12 @@ at_step : (e : Entry) (journal : List Entry) (x : Item) (xs : List Item) (call :
     → (IsPrefix (xs ++ Change call ∷ []) (changes journal) → IsCutAt journal xs call) → (IsPrefix (x ∷ xs ++ Change call ∷ []) (changes journal) → IsCutAt journal (x ∷ xs) call)
     → (b : Bool) → is_accepted e ≡ b → IsCutAt (e ∷ journal) (x ∷ xs) call
 at_step e journal x xs call p rest whole true is =
-    let same : x ∷ (xs ++ Change call ∷ []) ++ p.0 ≡ Change e.call ∷ changes journal = p.1 ∙ accepted_first e journal is in
+    let same : x ∷ (xs ++ Change call ∷ []) ++ p.0 ≡ Change e.call ∷ changes journal = p.1 ∙ changes_accepted e journal is in
     let head : Change e.call ≡ x = cc (same) in
     let tail : (xs ++ Change call ∷ []) ++ p.0 ≡ changes journal = cc (same) in
     subst (λ (y : Item). IsCutAt (e ∷ journal) (y ∷ xs) call) head (at_accepted e journal xs call is (rest (p.0, tail)))
 at_step e journal x xs call p rest whole false is =
-    let c = whole (p.0, p.1 ∙ other_first e journal is) in
+    let c = whole (p.0, p.1 ∙ changes_other e journal is) in
     record { cut = cut_other e journal (x ∷ xs) is c.cut; next = c.next }
 
 cut_at : (journal : List Entry) (xs : List Item) (call : Call) → IsPrefix (xs ++ Change call ∷ []) (changes journal) → IsCutAt journal xs call
@@ -148,12 +143,12 @@ module _ (law : PublishedIsAfter) (opening : Volume) where
         by_test : (b : Bool) → is_change c r ≡ b → Stands opening journal c r
         by_test true is =
             let grown : changes (before ++ entry_of p c r ∷ []) ≡ changes before ++ Change c ∷ [] =
-            changes-append before (entry_of p c r ∷ []) ∙ ap (λ (l : List Item). changes before ++ l) (accepted_first (entry_of p c r) [] is) in
+            changes-append before (entry_of p c r ∷ []) ∙ ap (λ (l : List Item). changes before ++ l) (changes_accepted (entry_of p c r) [] is) in
             let at = cut_at journal (changes before) c (subst (λ (l : List Item). IsPrefix l (changes journal)) grown begins) in
             stands_at at.cut (λ same. at.next)
         by_test false is =
             let same : changes (before ++ entry_of p c r ∷ []) ≡ changes before =
-            changes-append before (entry_of p c r ∷ []) ∙ ap (λ (l : List Item). changes before ++ l) (other_first (entry_of p c r) [] is) ∙ append-nil (changes before) in
+            changes-append before (entry_of p c r ∷ []) ∙ ap (λ (l : List Item). changes before ++ l) (changes_other (entry_of p c r) [] is) ∙ append-nil (changes before) in
             let no : is_change c r ≡ true → ⊥ = λ yes. let two : true ≡ false = sym yes ∙ is in absurd (cc two) in
             stands_at (cut_for journal (changes before) (subst (λ (l : List Item). IsPrefix l (changes journal)) same begins)) (λ yes. absurd (no yes))
 

@@ -3,3 +3,4 @@ pub mod MemberLemmas
 pub mod ScanStepLemmas
 pub mod ScanLemmas
 pub mod TwoFaultLemmas
+pub mod PartLemmas

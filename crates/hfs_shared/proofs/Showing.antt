@@ -1,12 +1,11 @@
 -- What is published of a journal that grows, and where nothing waits.
-use Rattle.std.proofs.Common.{◌≡◌, ℕ, suc, ◌+◌, ◌-◌, ◌≤◌, length-append, Bool, false, cond, List, [], ◌∷◌, ◌++◌, length, take, drop, map, refl, sym, ap, ◌∙◌, subst, arith}
-use Rattle.std.specs.Prelude.{filter, Result, Ok, Err, IfOk, OnErr}
+use Rattle.std.proofs.Common.{◌≡◌, ℕ, suc, ◌+◌, ◌-◌, ◌≤◌, length-append, Bool, false, List, [], ◌∷◌, ◌++◌, length, take, drop, refl, sym, ap, ◌∙◌, subst, arith}
+use Rattle.std.specs.Prelude.{Result, Ok, Err, IfOk, OnErr}
 use Rattle.std.proofs.lemmas.List.{append-nil, drop-drop}
 use Rattle.std.proofs.lemmas.List.Elements.{All-take, All-drop}
 use Rattle.hfs_model.specs.declared.journal.Entry.{Entry}
 use Rattle.hfs_model.specs.Volume.{Volume}
 use Rattle.hfs_published.specs.declared.item.Item.{Item}
-use Rattle.hfs_published.specs.declared.item.Item.TheVariants.{Change}
 use Rattle.hfs_published.specs.Journals.{is_accepted, changes, published, NoneAccepted}
 use Rattle.hfs_published.specs.Laws.{PublishedGrows, PublishedStays}
 use Rattle.hfs_published.specs.Pairs.{PairState, pair}
@@ -19,6 +18,7 @@ use Rattle.logbook.specs.Pages.{Book}
 use Rattle.hfs_check.specs.VolumeOf.{volume_of}
 use Rattle.hfs_shared.specs.Desks.{DeskState, PassState, entry_of, IsApplied, IsHeadline}
 use Rattle.hfs_shared.specs.Lockeds.{locked_state, IsLocked, IsUnderLock, GathersOf, ShowsOf}
+use Rattle.hfs_published.proofs.Following.{changes_of}
 
 -- what the type says of what lies under the lock
 pub under_lock : (book : Book) (base : List ℕ) (d : DeskState) (p : PairState) (added shown : ℕ) → IsLocked book base d p added shown → IsUnderLock base (locked_state d shown)
@@ -37,9 +37,6 @@ locked_more stays book base d e p added shown more i same grown headline =
       shown_is = i.shown_is ∙ sym (stays (volume_of d.base) d.journal more shown (omega (arith, i.order.0, i.order.1))) ∙ (λ k. published (volume_of (sym same k)) (sym grown k) shown);
       order = (i.order.0, omega (arith, i.order.1, length_is, length-append d.journal more));
     }
-
-abbrev changes_of : (b : Bool) → Entry → List Entry → List Item
-changes_of b e es = map (λ (x : Entry). Change x.call) (cond b (e ∷ filter is_accepted es) (filter is_accepted es))
 
 changes_none : (es : List Entry) → NoneAccepted es → changes es ≡ []
 changes_none [] none = refl

@@ -1,9 +1,8 @@
 -- What the tests on extents say.
 use Rattle.std.proofs.Common.{◌≡◌, ℕ, zero, suc, ◌+◌, ◌*◌, ◌<◌, ◌≤◌, ◌⊎◌, Bool, true, false, cond, not, List, [], ◌∷◌, refl, sym, inl, inr, arith}
-use Rattle.std.specs.Prelude.{nat_le}
-use Rattle.std.specs.Bool.{Decides, IsTrue}
+use Rattle.std.specs.Bool.{Decides}
 use Rattle.std.specs.List.{All}
-use Rattle.std.proofs.lemmas.Bool.{leb-true, le-leb, true≢false}
+use Rattle.std.proofs.lemmas.Bool.{true≢false}
 use Rattle.std.proofs.lemmas.Bool.Decides.{Decides-and, Decides-or, Decides-like, Decides-eqb, Decides-ltb}
 use Rattle.std.proofs.lemmas.List.Elements.{All-head, All-tail}
 use Rattle.hfs_fields.specs.declared.mdb.Mdb.{Mdb}
@@ -17,12 +16,7 @@ use Rattle.hfs_space.specs.Extents.{Overflow, block_total, record_extents, IsExt
 use Rattle.hfs_space.specs.Owners.{Fork, forks_of, extents_in, is_bad_blocks, goes_on_with}
 use Rattle.hfs_space.specs.Sound.{IsTreeFile, IsForkSound, IsOverflowSound}
 use Rattle.hfs_space.specs.Faults.{is_extent_within, are_extents_within, is_tree_file, is_fork_right, are_forks_right, is_overflow_right}
-
-pub itself : (b : Bool) → Decides b (IsTrue b)
-itself b = (λ (e : b ≡ true). e, λ (e : b ≡ true). e)
-
-Decides-leb : (a b : ℕ) → Decides (nat_le a b) (a ≤ b)
-Decides-leb a b = (λ (e : nat_le a b ≡ true). leb-true a b e, λ (h : a ≤ b). le-leb a b h)
+use Rattle.hfs_fields.proofs.DecisionLemmas.{itself, Decides-leb}
 
 Decides-if : (b x y : Bool) (P Q : Type 0) → Decides x P → Decides y Q → Decides (cond b x y) ((b ≡ true → P) × (not b ≡ true → Q))
 Decides-if true x y P Q p q = (λ e. (λ _. p.0 e, λ no. absurd (true≢false (sym no))), λ h. p.1 (h.0 refl))

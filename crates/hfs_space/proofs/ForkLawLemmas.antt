@@ -21,7 +21,7 @@ read_from-add bytes offset a b = take-add a b (drop offset bytes) ∙ ap (λ l. 
 abbrev pub allocation_block : (ℕ → List ℕ) → Mdb → ℕ → List (List ℕ)
 allocation_block blocks mdb b = map blocks (range_with_len (mdb.allocation_start + b * blocks_each mdb) (blocks_each mdb))
 
-range-add : (a m n : ℕ) → range_with_len a (m + n) ≡ range_with_len a m ++ range_with_len (a + m) n
+pub range-add : (a m n : ℕ) → range_with_len a (m + n) ≡ range_with_len a m ++ range_with_len (a + m) n
 range-add a zero n = (λ i. range_with_len (let e : a ≡ a + zero = omega arith in e i) (let e : zero + n ≡ n = omega arith in e i))
 range-add a (suc m) n =
     let e : suc m + n ≡ suc (m + n) = omega arith in

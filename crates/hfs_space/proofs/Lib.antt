@@ -27,3 +27,4 @@ pub mod ForkLawLemmas
 pub mod ForkLengthLemmas
 mod LookupLemmas
 pub mod TreeFileLemmas
+pub mod OwnerLemmas

@@ -1,7 +1,6 @@
 -- The extents of a fork, look-up after look-up.
 use Rattle.std.specs.Prelude.{◌≡◌, ℕ, ◌+◌, ◌<◌, Bool, true, false, ◌&&◌, ◌==◌, nat_lt, if◌then◌else◌, List, [], ◌∷◌, ◌++◌, Option, Some, None, refl}
 use Rattle.std.specs.List.{flat_map}
-use Rattle.std.specs.declared.cmp.Ordering.{Ordering}
 use Rattle.std.specs.declared.cmp.Ordering.TheVariants.{Less, Equal, Greater}
 use Rattle.std.specs.Ordering.{nat_cmp, is_eq, ordering_then}
 use Rattle.std.proofs.Common.{sym, ap, ◌∙◌, subst, arith, eqb-true, eq-eqb, true≢false}
@@ -13,6 +12,8 @@ use Rattle.hfs_fields.specs.Keys.{ext_cmp, ext_cmp_total}
 use Rattle.hfs_scans.specs.Each.{Each}
 use Rattle.hfs_btree.specs.Pairs.{Rises, lookup}
 use Rattle.hfs_space.specs.Extents.{Overflow, block_total, record_extents, goes_on, run_on, extents_from}
+use Rattle.hfs_fields.proofs.OrderLemmas.{eq_is}
+use Rattle.hfs_fields.proofs.KeyOrder.{both}
 
 -- the key of the record that goes on with a fork from this block of it on
 abbrev pub key_at : ℕ → ℕ → ℕ → ExtKey
@@ -27,23 +28,11 @@ found_extents block (Some body) = if nat_lt block 65536 then record_extents body
 abbrev pub then_on : Overflow → ℕ → ℕ → ℕ → List Extent → List Extent
 then_on overflow file fork block found = if nat_lt 0 (block_total found) then found ++ extents_from overflow file fork (block + block_total found) else []
 
--- ---- keys
-
-both_equal : (a b : Ordering) → ordering_then a b ≡ Equal → (a ≡ Equal) × (b ≡ Equal)
-both_equal Less b e = absurd (cc)
-both_equal Equal b e = (refl, e)
-both_equal Greater b e = absurd (cc)
-
 nat_equal : (x y : ℕ) → nat_cmp x y ≡ Equal → x ≡ y
 nat_equal x y e = by_ranked (x < y) (x ≡ y) (y < x) (nat_cmp x y) (ranked x y (nat_cmp x y) refl) (λ less h. absurd (let no : Less ≡ Equal = sym less ∙ e in cc)) (λ equal h. h) (λ greater h. absurd (let no : Greater ≡ Equal = sym greater ∙ e in cc))
 
 nat_less : (x y : ℕ) → nat_cmp x y ≡ Less → x < y
 nat_less x y e = by_ranked (x < y) (x ≡ y) (y < x) (nat_cmp x y) (ranked x y (nat_cmp x y) refl) (λ less h. h) (λ equal h. absurd (let no : Equal ≡ Less = sym equal ∙ e in cc)) (λ greater h. absurd (let no : Greater ≡ Less = sym greater ∙ e in cc))
-
-eq_is : (o : Ordering) → is_eq o ≡ true → o ≡ Equal
-eq_is Less e = absurd (true≢false (sym e))
-eq_is Equal e = refl
-eq_is Greater e = absurd (true≢false (sym e))
 
 -- a key of the fork at a later block is above
 later-above : (file fork block more : ℕ) → ext_cmp (key_at file fork (block + more)) (key_at file fork block) ≡ Less → ⊥
@@ -140,8 +129,8 @@ module _ (file fork block : ℕ) (r : ExtKey × List ℕ) (rs : Overflow) where
 
     head_has_key : ext_cmp key r.0 ≡ Equal → extents_from (r ∷ rs) file fork block ≡ then_on (r ∷ rs) file fork block (found_extents block (lookup ext_cmp key (r ∷ rs)))
     head_has_key tied =
-        let by_file = both_equal (nat_cmp file r.0.file) (ordering_then (nat_cmp fork r.0.fork) (nat_cmp block r.0.block)) tied in
-        let by_fork = both_equal (nat_cmp fork r.0.fork) (nat_cmp block r.0.block) by_file.1 in
+        let by_file = both (nat_cmp file r.0.file) (ordering_then (nat_cmp fork r.0.fork) (nat_cmp block r.0.block)) tied in
+        let by_fork = both (nat_cmp fork r.0.fork) (nat_cmp block r.0.block) by_file.1 in
         let is : IsKey r.0 file fork block = record { is_file = sym (nat_equal _ _ by_file.0); is_fork = sym (nat_equal _ _ by_fork.0); is_block = sym (nat_equal _ _ by_fork.1) } in
         let same = key-is r.0 file fork block is in
         let none : lookup ext_cmp key rs ≡ None = lookup-none key rs (subst (λ (k : ExtKey). Each (λ q. ext_cmp k q.0 ≡ Less) rs) same above) in

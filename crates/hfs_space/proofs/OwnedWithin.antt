@@ -14,15 +14,12 @@ use Rattle.hfs_space.specs.Sound.{IsTreeFile, IsForkSound, IsOverflowSound, AreF
 use Rattle.hfs_space.specs.Laws.{AreBlocksWithin}
 use Rattle.hfs_space.proofs.Decided.{each_from_all}
 use Rattle.hfs_space.proofs.OwnedOnce.{each-range}
-
-each-flat : {X Y : Type 0} (P : Y → Type 0) (f : X → List Y) (xs : List X) → Each (λ x. Each P (f x)) xs → Each P (flat_map f xs)
-each-flat P f [] h = tt
-each-flat P f (x ∷ xs) h = each-append P (f x) (flat_map f xs) h.0 (each-flat P f xs h.1)
+use Rattle.hfs_scans.proofs.PartLemmas.{flat-each}
 
 -- the blocks of extents in the volume are the volume's
 blocks_within : (n : ℕ) (extents : List Extent) → Each (IsExtentWithin n) extents → Each (λ b. b < n) (extent_blocks extents)
 blocks_within n extents h =
-    each-flat (λ b. b < n) (λ e. range_with_len e.first e.count) extents
+    flat-each (λ b. b < n) (λ e. range_with_len e.first e.count) extents
     (each-mono _ _ extents (λ e within. each-range (λ b. b < n) e.first e.count (λ b le lt. omega (arith, within (omega arith)))) h)
 
 module _ (mdb : Mdb) (overflow : Overflow) where
@@ -45,8 +42,8 @@ module _ (mdb : Mdb) (overflow : Overflow) where
         → AreForksSound mdb overflow catalog → AreBlocksWithin mdb (owned_blocks mdb overflow catalog)
     unfolding owned_blocks owned_extents
     owned_are_within own its sound =
-        let files = each-flat (IsForkSound mdb overflow) forks_of catalog sound.files in
-        let forks = each-flat (IsExtentWithin mdb.allocation_blocks) (extents_in overflow) (flat_map forks_of catalog) (each-mono _ _ (flat_map forks_of catalog) fork_within files) in
+        let files = flat-each (IsForkSound mdb overflow) forks_of catalog sound.files in
+        let forks = flat-each (IsExtentWithin mdb.allocation_blocks) (extents_in overflow) (flat_map forks_of catalog) (each-mono _ _ (flat_map forks_of catalog) fork_within files) in
         let all = each-append (IsExtentWithin mdb.allocation_blocks) (extents_in overflow (catalog_fork mdb)) _ (each_from_all _ (extents_in overflow (catalog_fork mdb)) its.within) forks in
         let trees = each-append (IsExtentWithin mdb.allocation_blocks) (flat_map (extents_in overflow) (all_forks mdb catalog)) mdb.extents_file all (each_from_all _ mdb.extents_file own.within) in
         blocks_within mdb.allocation_blocks _

@@ -17,9 +17,8 @@ use Rattle.hfs_btree_edits.specs.Conditions.{IsThere}
 use Rattle.hfs_btree_edits.specs.Edits.{without_pair}
 use Rattle.hfs_space.specs.Extents.{Overflow}
 use Rattle.hfs_space_edits.specs.Overflows.{is_of_other, without_file, AreOfOthers, IsKeyOf}
-
-abbrev pub Record : Type 0
-Record = ExtKey × List ℕ
+use Rattle.hfs_fields.proofs.OrderLemmas.{eq_is}
+use Rattle.hfs_space.proofs.RunSteps.{Record}
 
 -- ---- keys of a file
 
@@ -81,13 +80,8 @@ file-from file k e =
     (λ equal h. omega arith)
     (λ greater h. absurd (true≢false (sym (ap (λ o. is_gt (ordering_then o rest)) greater) ∙ e)))
 
-is_eq-equal : (o : Ordering) → is_eq o ≡ true → o ≡ Equal
-is_eq-equal Less e = absurd (true≢false (sym e))
-is_eq-equal Equal e = refl
-is_eq-equal Greater e = absurd (true≢false (sym e))
-
 equal-file : (k q : ExtKey) → is_eq (ext_cmp k q) ≡ true → k.file ≡ q.file
-equal-file k q e = first-of-equal k.file q.file (ordering_then (nat_cmp k.fork q.fork) (nat_cmp k.block q.block)) (is_eq-equal (ext_cmp k q) e)
+equal-file k q e = first-of-equal k.file q.file (ordering_then (nat_cmp k.fork q.fork) (nat_cmp k.block q.block)) (eq_is (ext_cmp k q) e)
 
 -- ---- the first record of a file
 

@@ -3,7 +3,7 @@ use Rattle.std.proofs.Common.{◌≡◌, inl, inr, ⊎_elim, ◌⊎◌, ℕ, zer
 use Rattle.std.specs.List.{range_with_len}
 use Rattle.std.proofs.lemmas.Grind.{flat_map-append}
 use Rattle.std.proofs.lemmas.Bool.{eq-eqb, ne_eqb, cases_lt}
-use Rattle.std.proofs.lemmas.List.Sums.{sum_by-append, sum_by-cons}
+use Rattle.std.proofs.lemmas.List.Sums.{sum_by-cons}
 use Rattle.std.proofs.lemmas.List.{take_more}
 use Rattle.std.proofs.lemmas.List.FromFn.{length-range_with_len}
 use Rattle.hfs_fields.specs.declared.extent.Extent.{Extent}
@@ -12,14 +12,10 @@ use Rattle.hfs_space.proofs.BitmapLawLemmas.{AreUsed, clear_count-released}
 use Rattle.hfs_space.specs.Extents.{extent_blocks}
 use Rattle.hfs_space.specs.Owners.{owners}
 use Rattle.hfs_space_edits.specs.Released.{HasReleased, AreAlone}
+use Rattle.hfs_space.proofs.OwnerLemmas.{append}
 
 one_if : Bool → ℕ
 one_if b = cond b 1 0
-
--- ---- how often a number stands in a list
-
-append : (b : ℕ) (xs ys : List ℕ) → owners (xs ++ ys) b ≡ owners xs b + owners ys b
-append b xs ys = sum_by-append (λ (o : ℕ). cond (eqb o b) 1 0) xs ys
 
 outside : (a n b : ℕ) → (b < a) ⊎ (a + n ≤ b) → owners (range_with_len a n) b ≡ 0
 outside a zero b apart = refl

@@ -1,9 +1,8 @@
 -- Entries in the order of their IDs, as the finite map that they are.
-use Rattle.std.proofs.Common.{◌≡◌, ℕ, zero, suc, ◌+◌, ◌<◌, ◌≤◌, Bool, true, false, cond, not, ◌&&◌, List, [], ◌∷◌, ◌++◌, length, get_or, set, refl, sym, ◌∙◌, ap, subst, arith, Option, Some, None}
+use Rattle.std.proofs.Common.{◌≡◌, ℕ, zero, suc, ◌+◌, ◌<◌, ◌≤◌, cond, not, List, [], ◌∷◌, ◌++◌, length, get_or, set, refl, sym, ◌∙◌, ap, subst, arith, Option, Some, None}
 use Rattle.std.specs.Prelude.{T}
-use Rattle.std.specs.declared.cmp.Ordering.TheVariants.{Less, Equal, Greater}
 use Rattle.std.specs.Ordering.{nat_cmp, is_lt, is_eq}
-use Rattle.std.specs.Cmp.{nat_cmp_total, nat_cmp_is}
+use Rattle.std.specs.Cmp.{nat_cmp_total}
 use Rattle.std.specs.List.{remove}
 use Rattle.std.specs.Option.{option_map_or}
 use Rattle.std.specs.FinMap as map
@@ -14,17 +13,9 @@ use Rattle.hfs_model.specs.Changes.{touched}
 use Rattle.hfs_model.proofs.OtherLemmas.{others, remove_is}
 use Rattle.hfs_store.specs.PlainVolume.{Rises}
 use Rattle.hfs_model.specs.declared.item.Item.{Item}
-
--- ---- the order of numbers
-
-less : (x y : ℕ) → x < y → nat_cmp x y ≡ Less
-less x y h = sym (nat_cmp_is x y Less h)
-
-more : (x y : ℕ) → y < x → nat_cmp x y ≡ Greater
-more x y h = sym (nat_cmp_is x y Greater h)
-
-same : (x y : ℕ) → x ≡ y → nat_cmp x y ≡ Equal
-same x y h = sym (nat_cmp_is x y Equal h)
+use Rattle.hfs_fields.proofs.KeyOrder.{same}
+use Rattle.hfs_fields.proofs.OrderLemmas.{less, more}
+use Rattle.hfs_model.proofs.Folders.{both}
 
 -- ---- entries that rise
 
@@ -61,12 +52,6 @@ rises_remove low high (e ∷ es) (suc i) h = (h.0, rises_remove (e.0 + 1) high e
 
 within : (low high : ℕ) → low ≤ high → (n : ℕ) → low ≡ n + 1 → n < high
 within low high h n e = omega arith
-
--- ---- they are the entries of a finite map
-
-both : (a b : Bool) → T a → T b → T (a && b)
-both true b p q = q
-both false b p q = p
 
 below : (x low high : ℕ) (es : List Entry) → x < low → Rises low high es → T (below_all nat_cmp x es)
 below x low high [] lt h = tt

@@ -12,9 +12,7 @@ use Rattle.hfs_model.specs.Changes.{touched, with_lock}
 use Rattle.hfs_model.specs.FileIds.{with_thread, set_thread}
 use Rattle.hfs_store.specs.PlainVolume.{AreEntries, Becomes}
 use Rattle.hfs_store.proofs.ById.{rises_set, rises_remove, rises_push, set_entry, add_entry, remove_entry, touched_at, touched_nowhere}
-
-abbrev one_child : ℕ → Entry → ℕ
-one_child dir e = cond (is_child dir e) 1 0
+use Rattle.hfs_model.proofs.ChildCounts.{one_child}
 
 at_most_one : (dir : ℕ) (e : Entry) → one_child dir e ≤ 1
 at_most_one dir e = elim (is_child dir e) as (λ b. cond b 1 0 ≤ 1) [ true ↦ omega arith | false ↦ omega arith ]

@@ -1,5 +1,5 @@
 -- The rows of all records of a sound image are a table of its volume.
-use Rattle.std.proofs.Common.{◌≡◌, ℕ, if◌then◌else◌, Bool, true, ◌&&◌, inl, inr, IsTrue, List, [], ◌∷◌, refl, sym, ◌∙◌, ap, subst, Option, Some, None}
+use Rattle.std.proofs.Common.{◌≡◌, ℕ, if◌then◌else◌, Bool, true, ◌&&◌, IsTrue, List, [], refl, sym, ◌∙◌, ap, subst, Option, Some, None}
 use Rattle.std.specs.Ordering.{nat_cmp}
 use Rattle.std.specs.Cmp.{nat_cmp_total}
 use Rattle.std.specs.Option.{option_map}
@@ -41,13 +41,14 @@ use Rattle.hfs_item_table.specs.Places.{place, place_cmp}
 use Rattle.hfs_item_table.specs.Tables as tables
 use Rattle.hfs_item_table.specs.Tables.{item_of, items_of, IsTable, IsKindOf, AreNames}
 use Rattle.hfs_view.specs.Opened.{IsRight, AreRowsOf, table_over}
-use Rattle.hfs_item_table.proofs.FactLemmas.{none_is_some, same_some, found_has, no_entry, two_tests}
+use Rattle.hfs_model.proofs.Facts.{none_is_some}
+use Rattle.hfs_model.proofs.Facts.{same_some}
+use Rattle.hfs_model.proofs.Facts.{found_has}
+use Rattle.hfs_model.proofs.Facts.{no_entry}
+use Rattle.hfs_item_table.proofs.FactLemmas.{two_tests}
 use Rattle.hfs_item_table.proofs.PlaceLemmas.{level, names_level}
 use Rattle.hfs_item_table.proofs.ShownLemmas.{get_items}
-
-each_of : {A : Type 0} (P : A → Type 0) (xs : List A) → ((x : A) → In x xs → P x) → Each P xs
-each_of P [] f = tt
-each_of P (x ∷ xs) f = (f x (inl refl), each_of P xs (λ y i. f y (inr i)))
+use Rattle.hfs_volume.proofs.OwnedStay.{each_of}
 
 -- ---- each record of a sound image is right
 

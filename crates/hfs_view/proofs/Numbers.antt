@@ -1,22 +1,14 @@
 -- Sets in the order of their numbers: what is looked up in them by equal numbers.
-use Rattle.std.proofs.Common.{◌≡◌, ℕ, Bool, true, false, cond, ◌||◌, nat_eq, List, refl, sym, ◌∙◌, ap}
+use Rattle.std.proofs.Common.{◌≡◌, ℕ, Bool, true, cond, ◌||◌, nat_eq, List, sym, ◌∙◌, ap}
 use Rattle.std.specs.List.{list_any}
 use Rattle.std.specs.Ordering.{nat_cmp}
-use Rattle.std.specs.Cmp.{unsigned_tied}
 use Rattle.std.specs.BTreeMap.{is_at}
 use Rattle.hfs_view.specs.Opened.{has_number}
-
-same_number : (id : ℕ) → is_at (nat_cmp id) ≡ nat_eq id
-same_number id = λ i k. unsigned_tied id k i
+use Rattle.hfs_fields.proofs.OrderLemmas.{same_number}
+use Rattle.hfs_fields.proofs.DecisionLemmas.{or_there}
 
 pub id_there : (ids : List ℕ) (id : ℕ) → list_any (is_at (nat_cmp id)) ids ≡ has_number ids id
 id_there ids id = ap (λ (t : ℕ → Bool). list_any t ids) (same_number id)
-
-or_there : (here there : Bool) → cond here true there ≡ (there || here)
-or_there true true = refl
-or_there true false = refl
-or_there false true = refl
-or_there false false = refl
 
 pub id_put : (old new : List ℕ) (id : ℕ)
     → ((k : ℕ) → list_any (is_at (nat_cmp k)) new ≡ cond (is_at (nat_cmp id) k) true (list_any (is_at (nat_cmp k)) old))

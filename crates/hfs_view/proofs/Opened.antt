@@ -1,6 +1,5 @@
 -- The rows of records, record by record.
-use Rattle.std.proofs.Common.{◌≡◌, ℕ, ◌*◌, ◌≤◌, Bool, true, false, cond, eqb, ◌&&◌, ◌||◌, List, [], ◌∷◌, ◌++◌, append_assoc, refl, sym, ◌∙◌, ap, subst, Some, Result, Ok, Err}
-use Rattle.std.specs.Prelude.{OnOk}
+use Rattle.std.proofs.Common.{◌≡◌, ℕ, ◌*◌, ◌≤◌, Bool, true, false, cond, eqb, ◌&&◌, ◌||◌, List, [], ◌∷◌, ◌++◌, append_assoc, refl, sym, ◌∙◌, ap, subst, Some}
 use Rattle.std.specs.declared.cmp.Ordering.{Ordering}
 use Rattle.std.specs.declared.cmp.Ordering.TheVariants.{Less, Equal, Greater}
 use Rattle.std.specs.Ordering.{nat_cmp, is_eq, ordering_then}
@@ -43,7 +42,7 @@ use Rattle.hfs_item_table.specs.declared.row.RowKind.TheVariants.{File as FileRo
 use Rattle.hfs_item_table.specs.Places.{place, place_cmp}
 use Rattle.hfs_item_table.specs.Tables.{bytes_of, item_of, IsForkIn, IsKindOf}
 use Rattle.hfs_view.specs.Opened.{IsRight, Enters, AreRows, AreRowsOf}
-use Rattle.hfs_item_table.proofs.FactLemmas.{same_some}
+use Rattle.hfs_model.proofs.Facts.{same_some}
 use Rattle.hfs_item_table.proofs.ShownLemmas.{option_map_cond}
 
 -- ---- a file's row
@@ -155,10 +154,6 @@ module _ (base : List ℕ) (mdb : Mdb) (items : Items) (contents : Contents) (ca
         ∙ sym (option_map_cond (λ (x : Record). item_id x.1) (is_child_named p.parent p.name r) r (child_named done p.parent p.name));
     kinds = λ q x at. kinds_now q x are at;
   }
-
-pub on_ok : {X E : Type 0} (r : Result X E) (P Q : Type 0) → (P → Q) → OnOk r P → OnOk r Q
-on_ok (Ok x) P Q f h = f h
-on_ok (Err e) P Q f h = tt
 
 module _ (base image : List ℕ) (r : Record) (key : CatKey) (body : List ℕ) (key_is : key ≡ r.0) (body_is : body ≡ r.1) (right : IsRight base image (volume_of image).items r) (row : Row) (old new : Maps) where
   abbrev items : Items

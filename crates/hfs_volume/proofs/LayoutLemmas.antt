@@ -1,17 +1,17 @@
 -- Lemmas about the definitions of specs/Layout.antt.
-use Rattle.std.proofs.Common.{◌≡◌, ℕ, ◌+◌, ◌*◌, ◌/◌, ◌<◌, ◌≤◌, List, [], ◌∷◌, map, take, sym, ◌∙◌, arith}
+use Rattle.std.proofs.Common.{◌≡◌, ℕ, ◌+◌, ◌<◌, ◌≤◌, List, [], ◌∷◌, map, take, sym, ◌∙◌, arith}
 use Rattle.std.proofs.lemmas.List.{get_or-take}
 use Rattle.hfs_fields.specs.declared.mdb.Mdb.{Mdb}
 use Rattle.hfs_fields.specs.declared.extent.Extent.{Extent}
 use Rattle.hfs_fields.specs.Numbers.{number_at}
 use Rattle.hfs_fields.proofs.PutLemmas.{number_at-same}
 use Rattle.hfs_fields.specs.Counts.{IsBesideCounts, SameBesideCounts}
-use Rattle.hfs_blocks.specs.declared.run.Run.{Run}
 use Rattle.hfs_blocks.specs.Blocks.{nodes_in}
 use Rattle.hfs_space.specs.ForkLengths.{all_bytes}
 use Rattle.hfs_space.specs.Forks.{joined}
 use Rattle.hfs_check.specs.Parts.{Blocks, mdb_in}
 use Rattle.hfs_volume.specs.Layout.{SameLayout}
+use Rattle.hfs_check.proofs.Stays.{run_by}
 
 module _ (old new : Blocks) (same : SameBesideCounts (old 2) (new 2)) where
   number : (a n : ℕ) → a + n ≤ 162 → ((k : ℕ) → a ≤ k → k < a + n → IsBesideCounts k) → number_at a n (take 162 (new 2)) ≡ number_at a n (take 162 (old 2))
@@ -29,10 +29,6 @@ module _ (old new : Blocks) (same : SameBesideCounts (old 2) (new 2)) where
     allocation_start = number 28 2 (omega arith) (λ k low high. omega arith);
     extents_file = λ i. record { first = number 134 2 (omega arith) (λ k low high. omega arith) i; count = number 136 2 (omega arith) (λ k low high. omega arith) i } ∷ record { first = number 138 2 (omega arith) (λ k low high. omega arith) i; count = number 140 2 (omega arith) (λ k low high. omega arith) i } ∷ record { first = number 142 2 (omega arith) (λ k low high. omega arith) i; count = number 144 2 (omega arith) (λ k low high. omega arith) i } ∷ [];
   }
-
--- the logical blocks of an extent, where the first allocation block begins here and each has this size
-abbrev pub run_by : ℕ → ℕ → Extent → Run
-run_by start size e = record { first = start + e.first * (size / 512); count = e.count * (size / 512); before = 0 }
 
 -- the same extents have the same blocks
 pub same_bytes : (blocks : Blocks) (old new : Mdb) (extents : List Extent) → SameLayout old new → all_bytes blocks new extents ≡ all_bytes blocks old extents

@@ -1,13 +1,11 @@
 -- The outcome of a call whose edit was made.
-use Rattle.std.proofs.Common.{◌≡◌, ⊎_elim, ℕ, ℤ, Bool, cond, true, false, ap, subst, List, refl, sym, ◌∙◌, arith}
+use Rattle.std.proofs.Common.{◌≡◌, ℕ, ℤ, Bool, cond, false, ap, subst, List, sym, ◌∙◌, arith}
 use Rattle.std.specs.Prelude.{Result, Ok, Err, IfOk, OnOk, IsTrue}
-use Rattle.std.proofs.lemmas.Bool.{or_cases}
 use Rattle.hfs_model.specs.declared.call.Call.{Call}
-use Rattle.hfs_model.specs.declared.call.Call.TheVariants as call
 use Rattle.hfs_model.specs.declared.reply.Reply.{Reply}
 use Rattle.hfs_model.specs.Laws.{EnoughIsStep, ReadingLeaves, ReadingNeedsNone}
 use Rattle.hfs_model.specs.Volume.{Volume}
-use Rattle.hfs_model.specs.Need.{need, full}
+use Rattle.hfs_model.specs.Need.{full}
 use Rattle.hfs_model.specs.Step.{step, is_reading}
 use Rattle.hfs_check.specs.VolumeOf.{volume_of}
 use Rattle.hfs_call_patches.specs.declared.change.Change.{Change}
@@ -18,10 +16,6 @@ use Rattle.hfs_call_edits.specs.declared.editing.Refusal.TheVariants as refused
 use Rattle.hfs_call_edits.specs.Edits.{wants_nodes}
 use Rattle.hfs_blocks.specs.Blocks.{block_at}
 use Rattle.hfs_model.specs.Replies.{refusal, success}
-
-pub if_ok : {A E : Type 0} (r : Result A E) (P Q : A → Type 0) → ((x : A) → P x → Q x) → IfOk r P → IfOk r Q
-if_ok (Ok x) P Q f h = f x h
-if_ok (Err e) P Q f h = h
 
 -- ---- what calls answer that read
 

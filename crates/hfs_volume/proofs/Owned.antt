@@ -1,28 +1,23 @@
 -- How many own an allocation block.
 use Rattle.std.proofs.Common.{◌≡◌, ℕ, ◌+◌, ◌<◌, ◌≤◌, Bool, true, false, cond, eqb, List, [], ◌∷◌, ◌++◌, ⊎_elim, refl, ◌∙◌, ap, subst, arith}
-use Rattle.std.specs.List.{flat_map, sum_by, range_with_len}
+use Rattle.std.specs.List.{flat_map, sum_by}
 use Rattle.std.proofs.lemmas.Grind.{flat_map-append}
-use Rattle.std.proofs.lemmas.Bool.{eqb-true, eq-eqb, ne_eqb}
-use Rattle.std.proofs.lemmas.List.Sums.{sum_by-append, sum_by-cons}
+use Rattle.std.proofs.lemmas.Bool.{eqb-true, eq-eqb}
+use Rattle.std.proofs.lemmas.List.Sums.{sum_by-cons}
 use Rattle.hfs_fields.specs.declared.mdb.Mdb.{Mdb}
-use Rattle.hfs_fields.specs.declared.extent.Extent.{Extent}
 use Rattle.hfs_scans.specs.Each.{Each}
 use Rattle.hfs_scans.specs.Members.{In}
 use Rattle.hfs_btree.specs.Sound.{IsDistinct, IsOther}
 use Rattle.hfs_space.specs.Extents.{Overflow, extent_blocks}
 use Rattle.hfs_space.specs.Owners.{Fork, forks_of, catalog_fork, all_forks, extents_in, bad_extents, owned_extents, owned_blocks, owners}
 use Rattle.hfs_catalog.specs.Records.{Record, Catalog}
-
-abbrev one_if : Bool → ℕ
-one_if b = cond b 1 0
+use Rattle.hfs_changes.proofs.Space.{none_other, extents_parts}
+use Rattle.hfs_format.proofs.BitsRead.{one_if}
 
 -- ---- numbers that stand in a list
 
 cons : (b x : ℕ) (xs : List ℕ) → owners (x ∷ xs) b ≡ one_if (eqb x b) + owners xs b
 cons b x xs = sum_by-cons (λ (o : ℕ). cond (eqb o b) 1 0) x xs
-
-pub append : (b : ℕ) (xs ys : List ℕ) → owners (xs ++ ys) b ≡ owners xs b + owners ys b
-append b xs ys = sum_by-append (λ (o : ℕ). cond (eqb o b) 1 0) xs ys
 
 one : (b : Bool) → b ≡ true → ◌≡◌ {A = ℕ} (one_if b) 1
 one b e = ap one_if e
@@ -30,21 +25,12 @@ one b e = ap one_if e
 no : (b : Bool) → b ≡ false → ◌≡◌ {A = ℕ} (one_if b) 0
 no b e = ap one_if e
 
-none_other : (b : ℕ) (xs : List ℕ) → Each (IsOther b) xs → owners xs b ≡ 0
-none_other b [] h = refl
-none_other b (x ∷ xs) h = omega (arith, cons b x xs, no (eqb x b) (ne_eqb x b h.0), none_other b xs h.1)
-
 pub owned_distinct : (xs : List ℕ) → IsDistinct xs → (b : ℕ) → owners xs b ≤ 1
 owned_distinct [] h b = omega arith
 owned_distinct (x ∷ xs) h b = elim (eqb x b) as (λ (t : Bool). eqb x b ≡ t → owners (x ∷ xs) b ≤ 1) [
   | true ↦ λ e. omega (arith, cons b x xs, one (eqb x b) e, none_other b xs (subst (λ (y : ℕ). Each (IsOther y) xs) (eqb-true x b e) h.0))
   | false ↦ λ e. omega (arith, cons b x xs, no (eqb x b) e, owned_distinct xs h.1 b)
 ] refl
-
--- ---- the blocks of forks
-
-pub extents_parts : (xs ys : List Extent) (b : ℕ) → owners (extent_blocks (xs ++ ys)) b ≡ owners (extent_blocks xs) b + owners (extent_blocks ys) b
-extents_parts xs ys b = ap (λ l. owners l b) (flat_map-append (λ (e : Extent). range_with_len e.first e.count) xs ys) ∙ append b (extent_blocks xs) (extent_blocks ys)
 
 module _ (mdb : Mdb) (overflow : Overflow) (b : ℕ) where
   -- how often a record's forks have the block

@@ -1,5 +1,5 @@
 -- No call writes a block that a file owns.
-use Rattle.std.proofs.Common.{◌≡◌, inl, inr, ⊎_elim, ℕ, zero, suc, ◌+◌, ◌*◌, ◌<◌, ◌≤◌, Bool, true, IsTrue, if◌then◌else◌, List, [], ◌∷◌, ◌++◌, length, get_or, take, refl, sym, subst, arith, ◌⊎◌}
+use Rattle.std.proofs.Common.{◌≡◌, inl, inr, ⊎_elim, ℕ, zero, suc, ◌+◌, ◌*◌, ◌<◌, ◌≤◌, Bool, true, IsTrue, if◌then◌else◌, List, [], ◌∷◌, ◌++◌, take, refl, sym, subst, arith, ◌⊎◌}
 use Rattle.std.specs.List.{range_with_len}
 use Rattle.std.proofs.lemmas.Bool.{cases_lt}
 use Rattle.std.proofs.Math.Nat.{add-mul, suc-mul, mul-le-mul_right}
@@ -26,26 +26,16 @@ use Rattle.hfs_check.specs.Sound.{IsSound}
 use Rattle.hfs_volume.specs.Mounted.{fork_record}
 use Rattle.hfs_volume.specs.Sharing.{file_extents, ForksStay, FileForksStay}
 use Rattle.hfs_volume.proofs.StayingBlocks.{same_changing}
-use Rattle.hfs_volume.proofs.Owned.{append, owned_distinct, forks_have, record_has, others_have, owners_sum, sum_in, owners_in, extents_parts}
-
--- ---- members
-
-in_left : {A : Type 0} (x : A) (xs ys : List A) → In x (xs ++ ys) → In x xs ⊎ In x ys
-in_left x [] ys i = inr i
-in_left x (y ∷ xs) ys i = ⊎_elim
-    (λ (e : y ≡ x). inl (inl e))
-    (λ (there : In x (xs ++ ys)). ⊎_elim (λ (a : In x xs). inl (inr a)) (λ (b : In x ys). inr b) (in_left x xs ys there))
-    i
+use Rattle.hfs_space.proofs.OwnerLemmas.{append}
+use Rattle.hfs_changes.proofs.Space.{extents_parts}
+use Rattle.hfs_volume.proofs.Owned.{owned_distinct, forks_have, record_has, others_have, owners_sum, sum_in, owners_in}
+use Rattle.hfs_catalog.proofs.NameOrder.{in_from_contains}
+use Rattle.hfs_scans.proofs.PartLemmas.{in_parts}
 
 in_take : {A : Type 0} (x : A) (k : ℕ) (xs : List A) → In x (take k xs) → In x xs
 in_take x zero xs i = absurd i
 in_take x (suc k) [] i = absurd i
 in_take x (suc k) (y ∷ xs) i = ⊎_elim (λ (e : y ≡ x). inl e) (λ (there : In x (take k xs)). inr (in_take x k xs there)) i
-
-in_contained : {A : Type 0} (xs : List A) (x : A) (k : ℕ) → k < length xs → get_or xs k x ≡ x → In x xs
-in_contained [] x k lt is = absurd (omega arith)
-in_contained (y ∷ ys) x zero lt is = inl is
-in_contained (y ∷ ys) x (suc k) lt is = inr (in_contained ys x k (omega arith) is)
 
 in_range : (a k n : ℕ) → In n (range_with_len a k) → (a ≤ n) × (n < a + k)
 in_range a zero n i = absurd i
@@ -122,7 +112,7 @@ located mdb (e ∷ extents) n i = ⊎_elim
     (λ (there : In n (block_numbers mdb extents)).
     let rest = located mdb extents n there in
     record { block = rest.block; lies = rest.lies; owned = omega (arith, rest.owned, parts e extents rest.block) })
-    (in_left n (run_of (run_in mdb e)) (block_numbers mdb extents) i)
+    (in_parts n (run_of (run_in mdb e)) (block_numbers mdb extents) i)
 
 -- ---- a block of a file's fork
 
@@ -191,7 +181,7 @@ module _ (image : List ℕ) (sound : IsSound image) (r : Record) (there : In r (
 
 -- ---- the law
 
-each_of : {A : Type 0} (P : A → Type 0) (xs : List A) → ((x : A) → In x xs → P x) → Each P xs
+pub each_of : {A : Type 0} (P : A → Type 0) (xs : List A) → ((x : A) → In x xs → P x) → Each P xs
 each_of P [] f = tt
 each_of P (x ∷ xs) f = (f x (inl refl), each_of P xs (λ y i. f y (inr i)))
 
@@ -199,6 +189,6 @@ pub forks_stay : FileForksStay
 forks_stay base image agrees = each_of (λ (r : Record). IsTrue (is_file r.1) → ForksStay base image (file_record_of r.1)) (catalog_in (block_at image)) (λ r i file fork.
     let extents = file_extents (block_at image) fork (file_record_of r.1) in
     fork_bytes-same (block_at base) (block_at image) (mdb_in (block_at image)) extents (fork_record fork (file_record_of r.1)).1.length (λ n c.
-    let here = in_contained (block_numbers (mdb_in (block_at image)) extents) n c.0 c.1 c.2 in
+    let here = in_from_contains (block_numbers (mdb_in (block_at image)) extents) n c.0 c.1 c.2 in
     sym (agrees.kept.others n (subst (λ (ns : List ℕ). Each (IsOther n) ns) (same_changing (block_at base) (block_at image) agrees.kept)
     (beside image agrees.sound r i file fork n here)))))

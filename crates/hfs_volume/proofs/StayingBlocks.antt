@@ -6,7 +6,8 @@ use Rattle.hfs_space.specs.Bitmap.{bitmap_len}
 use Rattle.hfs_check.specs.Parts.{Blocks, mdb_in}
 use Rattle.hfs_check.specs.Agree.{changing_blocks, KeepsVolume}
 use Rattle.hfs_volume.specs.Layout.{SameLayout}
-use Rattle.hfs_volume.proofs.LayoutLemmas.{same_layout, run_by}
+use Rattle.hfs_check.proofs.Stays.{run_by}
+use Rattle.hfs_volume.proofs.LayoutLemmas.{same_layout}
 
 module _ (old new : Blocks) (kept : KeepsVolume old new) where
   layout : SameLayout (mdb_in old) (mdb_in new)

@@ -5,7 +5,8 @@ use Rattle.std.proofs.Math.ListN.{length-set}
 use Rattle.hfs_btree.specs.Header.{record_in, chain_from}
 use Rattle.hfs_btree_checks.specs.Shape.{is_map_node, first_fault}
 use Rattle.hfs_btree_checks.specs.ShapeSteps.{is_met}
-use Rattle.hfs_btree_checks.proofs.ShapeChain.{chain-step, chain-goes-on, chain-met, map-within, pushed}
+use Rattle.hfs_btree.proofs.ChainLemmas.{chain-step}
+use Rattle.hfs_btree_checks.proofs.ShapeChain.{chain-goes-on, chain-met, map-within, pushed}
 use Rattle.hfs_btree_checks.proofs.shape_chain.read_chain.Goals as goal
 
 pub loop-most-preserved : goal.loop-most-preserved

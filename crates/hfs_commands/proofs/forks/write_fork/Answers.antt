@@ -3,7 +3,8 @@ use Rattle.std.proofs.Common.{rules, arith, ◌∙◌, sym, ap, ℕ, List, lengt
 use Rattle.std.proofs.lemmas.List.{length-drop}
 use Rattle.hfs_model.specs.Children.{entries_of}
 use Rattle.hfs_check.specs.VolumeOf.{volume_of}
-use Rattle.hfs_commands.proofs.Pieces.{refused_code, refused_last, refused_written, first_piece, next_piece, first_front, next_front, is_last, all_written, on_err}
+use Rattle.hfs_sparse.proofs.Written.{on-err as on_err}
+use Rattle.hfs_commands.proofs.Pieces.{refused_code, refused_last, refused_written, first_piece, next_piece, first_front, next_front, is_last, all_written}
 use Rattle.hfs_commands.proofs.forks.write_fork.Goals as goal
 
 pub returns-in-Refused-clause-code : goal.returns-in-Refused-clause-code

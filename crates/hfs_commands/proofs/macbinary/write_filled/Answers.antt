@@ -4,7 +4,7 @@ use Rattle.hfs_encodings.specs.MacBinary.{padding}
 use Rattle.hfs_model.specs.Children.{entries_of}
 use Rattle.hfs_check.specs.VolumeOf.{volume_of}
 use Rattle.hfs_commands.specs.Forks.{fork_named}
-use Rattle.hfs_commands.proofs.Pieces.{on_err}
+use Rattle.hfs_sparse.proofs.Written.{on-err as on_err}
 use Rattle.hfs_commands.proofs.Rows.{filled_first, filled_next, filled_whole}
 use Rattle.hfs_commands.proofs.macbinary.write_filled.Goals as goal
 

@@ -3,7 +3,7 @@ use Rattle.std.proofs.Common.{◌∙◌, ap}
 use Rattle.hfs_encodings.specs.MacBinary.{macbinary_head_bytes}
 use Rattle.hfs_model.specs.Children.{entries_of}
 use Rattle.hfs_check.specs.VolumeOf.{volume_of}
-use Rattle.hfs_commands.proofs.Pieces.{on_err}
+use Rattle.hfs_sparse.proofs.Written.{on-err as on_err}
 use Rattle.hfs_commands.proofs.Rows.{on_ok_then, on_err_then}
 use Rattle.hfs_commands.proofs.ToldFiles.{data_length-told, resource_length-told, told_first, told_second, told_third, told_whole}
 use Rattle.hfs_commands.proofs.macbinary.write_told.Goals as goal

@@ -2,7 +2,8 @@
 use Rattle.std.proofs.Common.{rules, refl}
 use Rattle.hfs_encodings.specs.Crc.{crc_with_bit, crc_with_byte}
 use Rattle.hfs_encodings.specs.declared.crc.TheConstants.{CHECK_OF_BYTE}
-use Rattle.hfs_encodings.proofs.Table.{each_below, row-test, crc_with_byte-table}
+use Rattle.hfs_fields.proofs.CommonLemmas.{each_below}
+use Rattle.hfs_encodings.proofs.Table.{row-test, crc_with_byte-table}
 use Rattle.hfs_encodings.proofs.crc.crc_of_byte.Goals as goal
 
 pub returns : goal.returns

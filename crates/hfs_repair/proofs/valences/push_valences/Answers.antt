@@ -2,7 +2,7 @@ use Rattle.std.proofs.Common.{◌≡◌, ◌<◌, ap, sym, subst, ◌∙◌, Lis
 use Rattle.std.specs.List.{flat_map}
 use Rattle.hfs_blocks.specs.declared.run.Run.{Run}
 use Rattle.hfs_blocks.specs.Blocks.{run_of, nodes_in}
-use Rattle.hfs_repair.proofs.Pushed.{block-of-node}
+use Rattle.hfs_btree_edits.proofs.WrittenLemmas.{node_within as block-of-node}
 use Rattle.hfs_repair.proofs.LeafValences.{reading-end, reading-within, reading-entries, reading-some, reading-few, reading-next}
 use Rattle.hfs_repair.proofs.valences.push_valences.Goals as goal
 

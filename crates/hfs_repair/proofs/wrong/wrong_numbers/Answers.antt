@@ -2,7 +2,8 @@ use Rattle.std.proofs.Common.{◌≡◌, true, false, List, length, subst, ◌�
 use Rattle.std.specs.Prelude.{IfOk, ◌&&◌, nat_le}
 use Rattle.std.proofs.lemmas.Bool.{le-leb, lt-leb}
 use Rattle.hfs_repair.specs.Fields.{PlacedNumber}
-use Rattle.hfs_repair.proofs.Openings.{both-true, first-false, second-false}
+use Rattle.hfs_fields.proofs.DecisionLemmas.{both_true as both-true}
+use Rattle.hfs_repair.proofs.Openings.{first-false, second-false}
 use Rattle.hfs_repair.proofs.Mendable.{image-right, image-wrong}
 use Rattle.hfs_repair.proofs.wrong.wrong_numbers.Goals.{then-image-gt2147483648-via-then-image-gt2147483648, then-image-gt2147483648-via-else-image-gt2147483648+then-image-lt1536}
 use Rattle.hfs_repair.proofs.wrong.wrong_numbers.Goals as goal

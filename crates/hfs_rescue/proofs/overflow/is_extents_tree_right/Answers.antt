@@ -7,7 +7,8 @@ use Rattle.hfs_check.specs.Faults.{check_fault}
 use Rattle.hfs_check.specs.declared.mount_fault.MountFault.{MountFault}
 use Rattle.hfs_rescue.specs.TreeFiles.{first_nodes, node_at}
 use Rattle.hfs_rescue.specs.OverflowRecords.{is_extents_tree_right, extents_nodes}
-use Rattle.hfs_rescue.proofs.RightLemmas.{none-mapped, wrong-extents-file, right-extents-file}
+use Rattle.hfs_check.proofs.CommonLemmas.{none-mapped}
+use Rattle.hfs_rescue.proofs.RightLemmas.{wrong-extents-file, right-extents-file}
 use Rattle.hfs_rescue.proofs.overflow.is_extents_tree_right.Goals as goal
 
 pub returns-then-not-is_tree_file : goal.returns-then-not-is_tree_file

@@ -1,5 +1,5 @@
 use Rattle.std.proofs.Common.{refl, arith}
-use Rattle.hfs_view.proofs.Finder.{halves}
+use Rattle.hfs_fields.proofs.PieceLemmas.{halves}
 use Rattle.hfs_view.proofs.opening.finder_bytes.Goals as goal
 
 pub returns : goal.returns

@@ -1,7 +1,8 @@
 use Rattle.std.proofs.Common.{arith, ap, sym, ◌∙◌}
 use Rattle.std.proofs.lemmas.Bool.{le-ltb}
 use Rattle.hfs_btree.specs.Header.{bit_of}
-use Rattle.hfs_btree_checks.proofs.ShapeMarks.{marked-here, marked-past}
+use Rattle.hfs_btree.proofs.MarkLemmas.{marked-here}
+use Rattle.hfs_btree.proofs.MarkLemmas.{marked-past}
 use Rattle.hfs_btree_checks.proofs.shape_map.MappedNodes.is_marked.Goals as goal
 
 pub returns-then-n-self : goal.returns-then-n-self

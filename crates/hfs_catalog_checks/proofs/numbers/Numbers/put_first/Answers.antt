@@ -1,7 +1,7 @@
 use Rattle.std.proofs.Common.{sym, ◌∙◌}
 use Rattle.hfs_catalog_checks.specs.Indexes.{number_of}
 use Rattle.hfs_catalog_checks.proofs.Indexed.{put_where_none, put_back}
-use Rattle.hfs_catalog_checks.proofs.Ordered.{on_ok}
+use Rattle.hfs_fields.proofs.OutcomeLemmas.{on_ok}
 use Rattle.hfs_catalog_checks.proofs.numbers.Numbers.put_first.Goals as goal
 
 pub returns-in-None : goal.returns-in-None

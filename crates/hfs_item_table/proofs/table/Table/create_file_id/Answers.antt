@@ -5,7 +5,8 @@ use Rattle.hfs_model.specs.FileIds as model
 use Rattle.hfs_model.specs.FileIds.{create_file_id, set_thread}
 use Rattle.hfs_item_table.specs.Edits.{Leaves, with_thread}
 use Rattle.hfs_item_table.specs.Tables.{volume_of}
-use Rattle.hfs_item_table.proofs.Left.{refused, written, thread_shown, thread_shape, change_to_id_is}
+use Rattle.hfs_model.proofs.KeepsFileIds.{same_change as change_to_id_is}
+use Rattle.hfs_item_table.proofs.Left.{refused, written, thread_shown, thread_shape}
 use Rattle.hfs_item_table.proofs.table.Table.create_file_id.Goals as goal
 
 pub returns-in-Err : goal.returns-in-Err

@@ -2,7 +2,7 @@
 use Rattle.std.proofs.Common.{◌≡◌, ℕ}
 use Rattle.std.specs.Prelude.{slice_get}
 use Rattle.std.specs.FinMap as finite
-use Rattle.hfs_item_table.proofs.Members.{In}
+use Rattle.hfs_model.proofs.Members.{In}
 use Rattle.hfs_item_table.specs.declared.place.Place.{Place}
 use Rattle.hfs_item_table.specs.Tables.{items_of}
 use Rattle.hfs_item_table.proofs.NameLemmas.{told_under}

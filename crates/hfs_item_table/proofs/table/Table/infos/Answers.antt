@@ -5,7 +5,7 @@ use Rattle.std.specs.BTreeMap.Range.{entries_between}
 use Rattle.std.specs.FinMap as finite
 use Rattle.hfs_model.specs.Children.{entry_at}
 use Rattle.hfs_model.specs.Replies.{info_of}
-use Rattle.hfs_item_table.proofs.Members.{In}
+use Rattle.hfs_model.proofs.Members.{In}
 use Rattle.hfs_item_table.specs.declared.place.Place.{Place}
 use Rattle.hfs_item_table.specs.Places.{place_cmp}
 use Rattle.hfs_item_table.specs.Tables.{items_of, volume_of}

@@ -1,6 +1,6 @@
 use Rattle.std.proofs.Common.{◌≡◌, ℕ, ◌++◌}
 use Rattle.std.specs.FinMap as finite
-use Rattle.hfs_item_table.proofs.Members.{In}
+use Rattle.hfs_model.proofs.Members.{In}
 use Rattle.hfs_item_table.specs.declared.place.Place.{Place}
 use Rattle.hfs_item_table.specs.Tables.{items_of, HasRows}
 use Rattle.hfs_item_table.proofs.NameLemmas.{told_under}

@@ -2,7 +2,8 @@ use Rattle.std.proofs.Common.{◌∙◌, sym}
 use Rattle.hfs_blocks.specs.Blocks.{block_at}
 use Rattle.hfs_check.specs.Parts.{mdb_in}
 use Rattle.hfs_check.specs.VolumeOf.{volume_of}
-use Rattle.hfs_view.proofs.Opened.{on_ok, folder_entered, file_entered}
+use Rattle.hfs_fields.proofs.OutcomeLemmas.{on_ok}
+use Rattle.hfs_view.proofs.Opened.{folder_entered, file_entered}
 use Rattle.hfs_view.proofs.opening.Maps.take.Goals as goal
 
 pub returns-then-is_folder : goal.returns-then-is_folder

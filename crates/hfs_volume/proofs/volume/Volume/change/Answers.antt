@@ -2,7 +2,7 @@
 use Rattle.std.proofs.Common.{◌∙◌, ap, subst, ℕ, List}
 use Rattle.hfs_volume.specs.Image.{ImageValue}
 use Rattle.hfs_volume.specs.Steps.{IsEditOn}
-use Rattle.hfs_volume.proofs.Outcomes.{if_ok}
+use Rattle.hfs_call_patches.proofs.Made.{if_ok}
 use Rattle.hfs_volume.proofs.volume.Volume.change.Goals as goal
 
 pub make-requires : goal.make-requires

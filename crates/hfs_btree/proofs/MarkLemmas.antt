@@ -1,10 +1,10 @@
--- The mark of a node is its bit of the node map.
-use Rattle.std.proofs.Common.{◌≡◌, ℕ, ◌<◌, ◌≤◌, false, map, arith}
-use Rattle.std.specs.List.{range_with_len}
-use Rattle.std.proofs.lemmas.List.{get_or_past}
-use Rattle.std.proofs.lemmas.List.FromFn.{get_or-map-range_with_len, length-map-range_with_len}
+-- Nodes that a map marks.
 use Rattle.hfs_btree.specs.Tree.{Store}
-use Rattle.hfs_btree.specs.Header.{header_in, map_bytes, bit_of, marks, is_marked}
+use Rattle.std.proofs.Common.{ℕ, ◌<◌, ◌≡◌, false, arith, ◌≤◌, map}
+use Rattle.hfs_btree.specs.Header.{header_in, is_marked, bit_of, map_bytes, marks}
+use Rattle.std.proofs.lemmas.List.FromFn.{get_or-map-range_with_len, length-map-range_with_len}
+use Rattle.std.proofs.lemmas.List.{get_or_past}
+use Rattle.std.specs.List.{range_with_len}
 
 pub marked-here : (nodes : Store) (n : ℕ) → n < (header_in nodes).nodes → is_marked nodes n ≡ bit_of (map_bytes nodes) n
 unfolding marks

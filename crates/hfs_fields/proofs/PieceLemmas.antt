@@ -1,7 +1,7 @@
--- Two pieces of 16 bytes, one behind the other.
-use Rattle.std.proofs.Common.{◌≡◌, ℕ, List, ◌++◌, length, drop, ap, ◌∙◌, arith, append-nil, drop_at}
-use Rattle.std.proofs.lemmas.List.{take_at, drop_all}
+-- Bytes laid into the middle of others.
+use Rattle.std.proofs.Common.{List, ℕ, ◌≡◌, length, ◌++◌, ◌∙◌, ap, drop, drop_at, arith, append-nil}
 use borrow.Rule.Slice.PartMut.{put_mid}
+use Rattle.std.proofs.lemmas.List.{take_at, drop_all}
 
 pub halves : (xs ys zeros a b : List ℕ) → xs ≡ a → ys ≡ b → length a ≡ 16 → length zeros ≡ 16 → put_mid 16 16 (xs ++ zeros) ys ≡ a ++ b
 halves xs ys zeros a b e f long zeros_long =
