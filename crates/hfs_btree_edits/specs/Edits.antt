@@ -75,11 +75,17 @@ IsFullFor nodes len n = 496 < size_of (records_in nodes n) + (len + 2)
 
 -- ---- insertion
 
--- a level of the old tree has as many nodes as before, or one more where its node on the way to the key had no room
+-- the level that stands so many levels above the leaves has got a node
+abbrev pub GetsNode : {K : Type 0} → Ghosts K → Store → Store → ℕ → Type 0
+GetsNode g old new k = length (level_above g old k) < length (level_above g new k)
+
+-- A level of the old tree has as many nodes as before, or one more where its node on the way to the key had no room for what came to
+-- it: in the leaves the pair, above them the index record of a node that the level below has got.
 pub record HasGrown {K : Type 0} (g : Ghosts K) (key : K) (body : List ℕ) (old new : Store) (k : ℕ) : Type 0 where
   pub least : length (level_above g old k) ≤ length (level_above g new k)
   pub most : length (level_above g new k) ≤ length (level_above g old k) + 1
-  pub full : length (level_above g old k) < length (level_above g new k) → IsFullFor old (entry_len g key body k) (node_for g old key k)
+  pub full : GetsNode g old new k → IsFullFor old (entry_len g key body k) (node_for g old key k)
+  pub below : (j : ℕ) → suc j ≡ k → GetsNode g old new k → GetsNode g old new j
 
 -- the tree has as many levels as before, or one more where the old root's level has got a node
 pub record HasRisen {K : Type 0} (g : Ghosts K) (old new : Store) : Type 0 where

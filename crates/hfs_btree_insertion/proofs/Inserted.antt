@@ -120,6 +120,11 @@ module _ {K : Type 0} (g : Ghosts K) (key : K) (old a : Store) (sound : IsSound 
                 let size = l.size (node_for g old key k) in
                 let same = same-len k in
                 omega (arith, big, way, size, same));
+            below = λ j next more.
+                (let one = grown.below j next (omega (arith, was, is, more)) in
+                let was' = ap (λ (ns : List ℕ). length ns) (l.levels j) in
+                let is' = ap (λ (ns : List ℕ). length ns) (p.levels j (omega (arith, lt, next, d, deep))) in
+                omega (arith, one, was', is'));
           }
 
       has-risen : HasRisen g old new

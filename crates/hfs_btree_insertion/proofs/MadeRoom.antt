@@ -42,10 +42,22 @@ module _ {K : Type 0} (g : Ghosts K) (total : IsTotalOrder g.compare) (key : K) 
     cut-level : (k : ℕ) → k < depth_of old → HasGrownFor g key len old new k
     cut-level k lt =
         elim (cases_lt k full) [
-          | inl is ↦ (let more = h.grown k (omega arith) is in record { least = omega (arith, more); most = omega (arith, more); full = λ up. f.each k is })
+          | inl is ↦
+              (let more = h.grown k (omega arith) is in
+              record {
+                least = omega (arith, more);
+                most = omega (arith, more);
+                full = λ up. f.each k is;
+                below = λ j next up. (let one = h.grown j (omega arith) (omega (arith, is, next)) in omega (arith, one));
+              })
           | inr not' ↦
               (let same = ap (λ (ns : List ℕ). length ns) (h.above k lt (omega (arith, not'))) in
-              record { least = omega (arith, same); most = omega (arith, same); full = λ up. absurd (omega (arith, same, up)) })
+              record {
+                least = omega (arith, same);
+                most = omega (arith, same);
+                full = λ up. absurd (omega (arith, same, up));
+                below = λ j next up. absurd (omega (arith, same, up));
+              })
         ]
 
     cut-room : HasRoom new len (node_for g new key 0)
@@ -113,7 +125,15 @@ module _ {K : Type 0} (g : Ghosts K) (total : IsTotalOrder g.compare) (key : K) 
           let is : k < full = omega (arith, lt, all) in
           let more = h.grown k (omega arith) is in
           let same = ap (λ (ns : List ℕ). length ns) (r.levels.levels k lt) in
-          record { least = omega (arith, more, same); most = omega (arith, more, same); full = λ up. f.each k is }
+          record {
+            least = omega (arith, more, same);
+            most = omega (arith, more, same);
+            full = λ up. f.each k is;
+            below = λ j next up.
+                (let one = h.grown j (omega arith) (omega (arith, is, next)) in
+                let same' = ap (λ (ns : List ℕ). length ns) (r.levels.levels j (omega (arith, lt, next))) in
+                omega (arith, one, same'));
+          }
 
       root-two : length (level_above g new (depth_of old - 1)) ≡ 2
       root-two =

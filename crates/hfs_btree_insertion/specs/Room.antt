@@ -1,18 +1,19 @@
 -- A tree that has room for a new record on the way to its key.
-use Rattle.std.specs.Prelude.{◌≡◌, ℕ, ◌+◌, ◌<◌, ◌≤◌, length}
+use Rattle.std.specs.Prelude.{◌≡◌, ℕ, suc, ◌+◌, ◌<◌, ◌≤◌, length}
 use Rattle.hfs_btree.specs.declared.key.Key.{Ghosts}
 use Rattle.std.specs.List.{prefix_len}
 use Rattle.hfs_btree.specs.Tree.{Store, records_in}
 use Rattle.hfs_btree.specs.Search.{is_not_above}
 use Rattle.hfs_btree.specs.Header.{depth_of, tree_content}
-use Rattle.hfs_btree_edits.specs.Edits.{KeepsTree, level_above, node_for, IsFullFor, HasRisen}
+use Rattle.hfs_btree_edits.specs.Edits.{KeepsTree, level_above, node_for, IsFullFor, GetsNode, HasRisen}
 use Rattle.hfs_btree_insertion.specs.Growth.{len_at, HasRoom, IsLow, NodesStay, KeysStay}
 
--- a level has as many nodes as before, or one more where its node on the way to the key had no room
+-- a level has as many nodes as before, or one more where its node on the way to the key had no room, and the level below has got one
 pub record HasGrownFor {K : Type 0} (g : Ghosts K) (key : K) (len : ℕ) (old new : Store) (k : ℕ) : Type 0 where
   pub least : length (level_above g old k) ≤ length (level_above g new k)
   pub most : length (level_above g new k) ≤ length (level_above g old k) + 1
-  pub full : length (level_above g old k) < length (level_above g new k) → IsFullFor old (len_at g len k) (node_for g old key k)
+  pub full : GetsNode g old new k → IsFullFor old (len_at g len k) (node_for g old key k)
+  pub below : (j : ℕ) → suc j ≡ k → GetsNode g old new k → GetsNode g old new j
 
 -- the leaf where the search for the key ends has room for a record of so many bytes; the content is the same
 pub record HasMadeRoom {K : Type 0} (g : Ghosts K) (key : K) (len : ℕ) (old new : Store) : Type 0 where

@@ -4,12 +4,11 @@ use Rattle.std.specs.List.{flat_map}
 use Rattle.std.specs.Fmt.{decimal}
 use Rattle.hfs_check.specs.declared.mount_fault.MountFault.{MountFault}
 use Rattle.hfs_check.specs.Faults.{fault_of}
-use Rattle.hfs_check.specs.Repair.{repair}
 use Rattle.hfs_repair.specs.declared.fixed.Fix.{Fix}
 use Rattle.hfs_repair.specs.declared.fixed.FixPlace.{FixPlace}
 use Rattle.hfs_repair.specs.declared.fixed.FixPlace.TheVariants.{RootFiles, FreeBlocks, RootFolders, Files, Folders, ExtentsRecords, ExtentsFree, CatalogRecords, CatalogFree, Valence}
 use Rattle.hfs_repair.specs.Fixes.{AreFixes}
-use Rattle.hfs_repair.specs.Placed.{wrong_in}
+use Rattle.hfs_repair.specs.Repair.{repair, wrong_in}
 use Rattle.hfs_commands.specs.Checks.{refused_line}
 use Rattle.hfs_texts.specs.Lines.{line}
 use Rattle.hfs_commands.specs.declared.repairing.RepairAnswer.{RepairAnswer}

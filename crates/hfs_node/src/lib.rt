@@ -2,7 +2,6 @@
 #![tactic(auto)]
 
 mod bytes;
-mod cut;
 mod decoding;
 mod encoding;
 mod fault;

@@ -1,4 +1,4 @@
-ghost use Rattle.std.specs.Prelude.{◌≡◌, ◌≤◌, [], ◌∷◌, IfOk, length, replicate};
+ghost use Rattle.std.specs.Prelude.{◌≤◌, length};
 
 use byteorder::{BigEndian, ByteOrder};
 use hfs_node::{BLANK_NODE, Node, NodeFault, NodeKind, Records, decode, encode, fits, view};
@@ -117,27 +117,6 @@ fn records_are_edited(rt: HostRuntime) -> Result<(), Fail> {
     assert_records(&rt, &node.records, &[b"x"]);
     assert_records(&rt, &second.records, &[b"b", b"y"]);
     assert!(rt; second.height == 2);
-    Ok(())
-}
-
-/// Four records of 140 bytes.
-fn four_long(alloc: Global) -> Result<Records, AllocError>
-    ensures { IfOk result (λ records.
-        records ≡ replicate 140 7 ∷ replicate 140 7 ∷ replicate 140 7 ∷ replicate 140 7 ∷ []) }
-{
-    let mut records = Records::new(alloc);
-    records.push(vec![in alloc; 7; 140]?)?;
-    records.push(vec![in alloc; 7; 140]?)?;
-    records.push(vec![in alloc; 7; 140]?)?;
-    records.push(vec![in alloc; 7; 140]?)?;
-    Ok(records)
-}
-
-#[test]
-#[tactic(auto, unfolding(hfs_node::specs::Node::size_of))]
-fn too_many_records_are_cut(rt: HostRuntime) -> Result<(), Fail> {
-    let records = four_long(rt.alloc())?;
-    assert!(rt; records.cut_place() == 2);
     Ok(())
 }
 

@@ -20,13 +20,12 @@ use Rattle.hfs_space.specs.TreeKeys.{ext_keys}
 use Rattle.hfs_catalog.specs.Records.{valence_of}
 use Rattle.hfs_catalog.specs.Tree.{cat_keys}
 use Rattle.hfs_check.specs.Parts.{Blocks}
-use Rattle.hfs_check.specs.Repair.{record_start}
 use Rattle.hfs_repair.specs.declared.fixed.FixPlace.{FixPlace}
 use Rattle.hfs_repair.specs.declared.fixed.FixPlace.TheVariants.{ExtentsRecords, ExtentsFree, CatalogRecords, CatalogFree}
 use Rattle.hfs_repair.specs.declared.tree_file.TreeFile.{TreeFile}
 use Rattle.hfs_repair.specs.Fields.{PlacedNumber}
 use Rattle.hfs_repair.specs.Opened.{IsTreeIn, extents_of, catalog_file_of, catalog_nodes_of, catalog_in_of}
-use Rattle.hfs_repair.specs.Placed.{is_wrong, four_bytes, placed_in_mdb, placed_in_header, placed_from, placed_in_leaf, placed_valences}
+use Rattle.hfs_repair.specs.Placed.{is_wrong, four_bytes, record_start, placed_in_mdb, placed_in_header, placed_from, placed_in_leaf, placed_valences}
 use Rattle.hfs_repair.specs.Wrong.{placed_of}
 use Rattle.hfs_repair.proofs.Openings.{some-node}
 use Rattle.hfs_repair.proofs.Pushed.{chained}

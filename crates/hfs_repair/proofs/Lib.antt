@@ -4,5 +4,6 @@ mod Openings
 mod Pushed
 mod LeafValences
 mod Repairs
+mod Repaired
 mod Mendable
 mod AllPlaced

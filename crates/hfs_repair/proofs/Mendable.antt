@@ -13,10 +13,10 @@ use Rattle.hfs_check.specs.declared.mount_fault.MountFault.TheVariants.{TooLarge
 use Rattle.hfs_check.specs.Answers.{listed_fault}
 use Rattle.hfs_check.specs.Faults.{◌or_fault◌, fault_unless, check_fault, length_fault, mdb_fault, extents_fault, catalog_fault, trees_fault, records_fault}
 use Rattle.hfs_check.specs.Parts.{Blocks, mdb_in, extents_nodes, overflow_in, catalog_extents, catalog_nodes, catalog_in}
-use Rattle.hfs_check.specs.Repair.{is_mendable}
 use Rattle.hfs_repair.specs.Fields.{PlacedNumber}
 use Rattle.hfs_repair.specs.Opened.{is_extents_right, is_catalog_right, catalog_file_of, catalog_nodes_of, catalog_in_of, are_records_right}
-use Rattle.hfs_repair.specs.Placed.{is_wrong, placed_in, wrong_in}
+use Rattle.hfs_repair.specs.Placed.{is_wrong, placed_in}
+use Rattle.hfs_repair.specs.Repair.{is_mendable, wrong_in}
 use Rattle.hfs_repair.specs.Wrong.{are_blocks_mendable, wrong_in_blocks, placed_of}
 use Rattle.hfs_check.proofs.CommonLemmas.{none-mapped as none-check}
 use Rattle.hfs_repair.proofs.Openings.{none-else}

@@ -16,14 +16,13 @@ use Rattle.hfs_btree.specs.Tree.{Store}
 use Rattle.hfs_space.specs.Bitmap.{clear_count}
 use Rattle.hfs_catalog.specs.Records.{Catalog}
 use Rattle.hfs_catalog.specs.Sound.{counts_of, is_file_in, is_folder_in}
-use Rattle.hfs_check.specs.Repair.{record_start}
 use Rattle.hfs_repair.proofs.PutSteps.{drop-at}
 use Rattle.hfs_repair.specs.declared.fixed.FixPlace.{FixPlace}
 use Rattle.hfs_repair.specs.declared.right_counts.RightCounts.{RightCounts}
 use Rattle.hfs_repair.specs.Fields.{PlacedNumber}
 use Rattle.hfs_repair.specs.Opened.{AreRightCounts}
 use Rattle.hfs_repair.specs.declared.fixed.FixPlace.TheVariants.{RootFiles, FreeBlocks, RootFolders, Files, Folders}
-use Rattle.hfs_repair.specs.Placed.{is_wrong, two_bytes, four_bytes, placed_in_mdb, placed_in_header, placed_valence, placed_from}
+use Rattle.hfs_repair.specs.Placed.{is_wrong, two_bytes, four_bytes, record_start, placed_in_mdb, placed_in_header, placed_valence, placed_from}
 
 pub chained : {X : Type 0} (old one two a b both : List X) → two ≡ one ++ b → one ≡ old ++ a → both ≡ a ++ b → two ≡ old ++ both
 chained old one two a b both second first joined =

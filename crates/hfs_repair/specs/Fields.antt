@@ -1,9 +1,16 @@
 -- A counted number and which one it is, by the bytes of its field.
 use Rattle.std.specs.Prelude.{ℕ}
-use Rattle.hfs_check.specs.Repair.{CountedNumber}
 use Rattle.hfs_repair.specs.declared.field_value.FieldValue.{FieldValue}
 use Rattle.hfs_repair.specs.declared.field_value.FieldValue.TheVariants.{Short, Long}
 use Rattle.hfs_repair.specs.declared.fixed.FixPlace.{FixPlace}
+
+-- a number that is counted: as the volume has it, as it is counted, the place of its first byte in the image, and how many
+-- bytes it has
+pub record CountedNumber : Type 0 where
+  pub was : ℕ
+  pub now : ℕ
+  pub at : ℕ
+  pub width : ℕ
 
 -- which number, and what is known of it
 abbrev pub PlacedNumber : Type 0

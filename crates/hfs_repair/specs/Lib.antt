@@ -1,5 +1,7 @@
 pub mod Fields
 pub mod Placed
+pub mod Repair
+pub mod RepairLaws
 pub mod Puts
 pub mod Recounted
 pub mod Opened

@@ -1,14 +1,15 @@
 -- The counted numbers of a volume, each with its place in what a repair tells.
-use Rattle.std.specs.Prelude.{◌≡◌, ℕ, suc, ◌+◌, Bool, if◌then◌else◌, List, [], ◌∷◌, ◌++◌, filter, length}
+use Rattle.std.specs.Prelude.{◌≡◌, ℕ, suc, ◌+◌, ◌*◌, ◌^◌, Bool, not, ◌&&◌, ◌==◌, nat_lt, if◌then◌else◌, List, [], ◌∷◌, ◌++◌, filter, length, slice_index, slice_index_or}
 use Rattle.std.specs.List.{flat_map}
 use Rattle.hfs_fields.specs.Keys.{cat_body_start, cat_body_of}
 use Rattle.hfs_fields.specs.Records.{is_dir, dir_record_of}
+use Rattle.hfs_fields.specs.declared.extent.Extent.{Extent}
 use Rattle.hfs_fields.specs.declared.mdb.Mdb.{Mdb}
 use Rattle.hfs_btree.specs.declared.key.Key.{Ghosts}
 use Rattle.hfs_node.specs.Node.{node_of, offset_of}
 use Rattle.hfs_btree.specs.Tree.{Store, records_of, records_in}
 use Rattle.hfs_btree.specs.Header.{header_in, free_nodes, leaves, tree_content}
-use Rattle.hfs_blocks.specs.Blocks.{block_at, run_of, nodes_in}
+use Rattle.hfs_blocks.specs.Blocks.{run_of, nodes_in}
 use Rattle.hfs_blocks.specs.declared.run.Run.{Run}
 use Rattle.hfs_space.specs.Bitmap.{clear_count}
 use Rattle.hfs_space.specs.ForkLaws.{block_numbers}
@@ -17,7 +18,6 @@ use Rattle.hfs_catalog.specs.Records.{Catalog, valence_of}
 use Rattle.hfs_catalog.specs.Sound.{counts_of}
 use Rattle.hfs_catalog.specs.Tree.{cat_keys}
 use Rattle.hfs_check.specs.Parts.{Blocks, mdb_in, extents_nodes, catalog_extents, catalog_nodes, catalog_in}
-use Rattle.hfs_check.specs.Repair.{record_start, is_mended, is_mendable}
 use Rattle.hfs_repair.specs.declared.fixed.FixPlace.{FixPlace}
 use Rattle.hfs_repair.specs.declared.fixed.FixPlace.TheVariants.{RootFiles, FreeBlocks, RootFolders, Files, Folders, ExtentsRecords, ExtentsFree, CatalogRecords, CatalogFree, Valence}
 use Rattle.hfs_repair.specs.Fields.{PlacedNumber}
@@ -31,7 +31,7 @@ four_bytes place was now at = (place, record { was = was; now = now; at = at; wi
 
 -- the number isn't as it is counted, and its field can tell the counted one
 unfoldable pub is_wrong : PlacedNumber → Bool
-is_wrong n = is_mended n.1
+is_wrong n = not (n.1.was == n.1.now) && nat_lt n.1.now (256 ^ n.1.width)
 
 -- to a row of numbers come those of these that are wrong
 abbrev pub AddsWrong : List PlacedNumber → List PlacedNumber → List PlacedNumber → Type 0
@@ -39,6 +39,7 @@ AddsWrong old new placed = new ≡ old ++ filter is_wrong placed
 
 -- ---- the master directory block of a volume with this catalog
 
+-- drNmFls, drFreeBks, drNmRtDirs, drFilCnt, drDirCnt
 unfoldable pub placed_in_mdb : Blocks → Mdb → Catalog → List PlacedNumber
 placed_in_mdb blocks mdb catalog =
     two_bytes RootFiles mdb.root_files (counts_of catalog).root_files 1036
@@ -50,6 +51,11 @@ placed_in_mdb blocks mdb catalog =
 
 -- ---- a tree's header record, where the tree's nodes lie in the blocks of these numbers
 
+-- where record k of node n begins in the image
+abbrev pub record_start : List ℕ → Store → ℕ → ℕ → ℕ
+record_start numbers nodes n k = 512 * slice_index numbers n + offset_of (slice_index_or nodes n []) k
+
+-- bthNRecs, bthFree
 unfoldable pub placed_in_header : {K : Type 0} → Ghosts K → FixPlace → FixPlace → List ℕ → Store → List PlacedNumber
 placed_in_header g records free numbers nodes =
     four_bytes records (header_in nodes).records (length (tree_content g nodes)) (record_start numbers nodes 0 0 + 6)
@@ -91,13 +97,14 @@ placed_in_runs children blocks runs = placed_valences children (flat_map run_of 
 
 -- ---- all of them
 
-unfoldable pub placed_in : Blocks → List PlacedNumber
-placed_in blocks =
-    placed_in_mdb blocks (mdb_in blocks) (catalog_in blocks)
-    ++ (placed_in_header ext_keys ExtentsRecords ExtentsFree (block_numbers (mdb_in blocks) (mdb_in blocks).extents_file) (extents_nodes blocks)
-    ++ (placed_in_header cat_keys CatalogRecords CatalogFree (block_numbers (mdb_in blocks) (catalog_extents blocks)) (catalog_nodes blocks)
-    ++ placed_valences (valence_of (catalog_in blocks)) (block_numbers (mdb_in blocks) (catalog_extents blocks)) (catalog_nodes blocks)))
+-- of a volume with this master directory block, whose extents tree has these nodes, and whose catalog has this file, these nodes and
+-- these records
+abbrev pub all_placed : Blocks → Mdb → Store → List Extent → Store → Catalog → List PlacedNumber
+all_placed blocks mdb extents file nodes catalog =
+    placed_in_mdb blocks mdb catalog
+    ++ (placed_in_header ext_keys ExtentsRecords ExtentsFree (block_numbers mdb mdb.extents_file) extents
+    ++ (placed_in_header cat_keys CatalogRecords CatalogFree (block_numbers mdb file) nodes
+    ++ placed_valences (valence_of catalog) (block_numbers mdb file) nodes))
 
--- the numbers in which an image and its repaired image differ
-unfoldable pub wrong_in : List ℕ → List PlacedNumber
-wrong_in image = if is_mendable image then filter is_wrong (placed_in (block_at image)) else []
+unfoldable pub placed_in : Blocks → List PlacedNumber
+placed_in blocks = all_placed blocks (mdb_in blocks) (extents_nodes blocks) (catalog_extents blocks) (catalog_nodes blocks) (catalog_in blocks)

@@ -2,9 +2,9 @@
 use Rattle.std.specs.Prelude.{◌≡◌, ℕ, suc, List, [], ◌∷◌, slice_set}
 use Rattle.std.specs.List.{flat_map}
 use Rattle.byteorder.specs.Endian.{big_bytes}
-use Rattle.hfs_check.specs.Repair.{CountedNumber, repair}
 use Rattle.hfs_repair.specs.declared.byte_put.BytePut.{BytePut}
-use Rattle.hfs_repair.specs.Fields.{PlacedNumber}
+use Rattle.hfs_repair.specs.Fields.{CountedNumber, PlacedNumber}
+use Rattle.hfs_repair.specs.Repair.{repair}
 
 -- bytes that stand one behind the other from a place on
 abbrev pub puts_from : ℕ → List ℕ → List BytePut

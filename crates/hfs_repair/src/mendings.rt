@@ -1,10 +1,9 @@
 //! What a repair of an image writes, and what it tells.
 
 ghost use Rattle.std.specs.Prelude.{IfOk};
-ghost use Rattle.hfs_check.specs.Repair.{repair};
 ghost use Rattle.hfs_repair.specs.Fixes.{AreFixes};
-ghost use Rattle.hfs_repair.specs.Placed.{wrong_in};
 ghost use Rattle.hfs_repair.specs.Puts.{IsMendedBy};
+ghost use Rattle.hfs_repair.specs.Repair.{wrong_in};
 
 use crate::byte_put::BytePut;
 use crate::exchanging::byte_puts;

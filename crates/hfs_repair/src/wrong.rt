@@ -3,7 +3,8 @@
 ghost use Rattle.std.specs.Prelude.{◌≡◌, ◌≤◌, IfOk, OnOk};
 ghost use Rattle.hfs_check.specs.Sound.{IsMdbSound};
 ghost use Rattle.hfs_repair.specs.Opened.{catalog_in_of, IsExtentsTree, IsCatalogTree};
-ghost use Rattle.hfs_repair.specs.Placed.{wrong_in, AddsWrong};
+ghost use Rattle.hfs_repair.specs.Placed.{AddsWrong};
+ghost use Rattle.hfs_repair.specs.Repair.{wrong_in};
 ghost use Rattle.hfs_repair.specs.Wrong as spec;
 ghost use Rattle.hfs_repair.specs.Wrong.{placed_of, wrong_behind_trees};
 

@@ -1,11 +1,10 @@
 //! Mounting of images that are right but for their counts.
 
 ghost use Rattle.std.specs.Prelude.{◌≡◌, [], IfOk, IfErr, OnOk};
-ghost use Rattle.hfs_check.specs.Repair.{repair};
 ghost use Rattle.hfs_check.specs.Sound.{IsSound};
 ghost use Rattle.hfs_repair.specs.Fixes.{AreFixes};
-ghost use Rattle.hfs_repair.specs.Placed.{wrong_in};
 ghost use Rattle.hfs_repair.specs.Puts.{put_back};
+ghost use Rattle.hfs_repair.specs.Repair.{repair, wrong_in};
 ghost use Rattle.hfs_volume.specs.Refusals.{HasFaultOf};
 
 use crate::mounting::{Refused, mount};

@@ -1,6 +1,6 @@
 use Rattle.std.proofs.Common.{◌≡◌, Some, inl, inr}
 use Rattle.hfs_check.specs.Faults.{fault_of}
-use Rattle.hfs_check.specs.Repair.{repair}
+use Rattle.hfs_repair.specs.Repair.{repair}
 use Rattle.hfs_commands.proofs.repairing.repair_answer.Goals as goal
 
 pub returns : goal.returns

@@ -1,0 +1,13 @@
+//! What holds of repaired images, each as the contract of a function that does nothing: a caller learns it by the call.
+ghost use Rattle.hfs_repair.specs.RepairLaws.{RepairKeepsOthers, RepairKeepsSoundImages};
+
+/// A repair leaves the image's length, and each byte that is in none of the numbers that are counted: drNmFls, drFreeBks,
+/// drNmRtDirs, drFilCnt, drDirCnt, both trees' bthNRecs and bthFree, and the folders' valences.
+pub fn repair_keeps_others()
+    ensures { RepairKeepsOthers }
+{}
+
+/// A sound image is its own repair.
+pub fn repair_keeps_sound_images()
+    ensures { RepairKeepsSoundImages }
+{}
