@@ -1,7 +1,7 @@
 #!/usr/bin/env python3
 """Runs the lists of calls of tests/volumes/lists, whose answers and bytes were written by hand. Each is made twice on its volume:
-with as few runs of the programs as it allows, and with the image saved and mounted again between calls; by hfs_tool as each
-compiler builds it, and by hfs_plain. The calls that read behind the last change are asked by a viewer too. What it prints last is
+with as few runs of the programs as it allows, and with the image saved, checked and mounted again behind each call; by hfs_tool as
+each compiler builds it, and by hfs_plain. The calls that read behind the last change are asked by a viewer too. What it prints last is
 how many there were, or the first that differs.
 
 tests/call_lists.py [--kept FOLDER] [FILE..]      runs all files, or these; what differs is kept in FOLDER
@@ -42,8 +42,6 @@ VOLUMES = ROOT / 'tests' / 'volumes'
 FILE_COUNT = MDB + 84
 # The calls that a viewer answers.
 VIEWED = ('dirinfo', 'info', 'indexed', 'list', 'read')
-# The image is saved and mounted again before each of the first calls, and then before each fiftieth.
-SINGLE = 50
 
 
 @dataclass
@@ -75,7 +73,6 @@ class CallList:
     def lay(self, content: bytes) -> None:
         """Takes another image as the one on which further calls are made."""
         self.content = self.before = self.wanted = content
-        self.made = 0
         self.once: Optional[Disk] = None
         self.again: Optional[Disk] = None
 
@@ -113,11 +110,8 @@ class CallList:
         self.waiting = []
 
     def make_again(self, calls: list[Call]) -> list[str]:
-        """Makes calls on the volume that is saved and mounted again in between."""
-        single = max(0, SINGLE - self.made)
-        self.made += len(calls)
-        answers = self.again.make_in_parts(calls[:single], 1, self.now) + self.again.make_in_parts(calls[single:], SINGLE, self.now)
-        return [it.told for it in answers]
+        """Makes calls on the volume that is saved, checked and mounted again behind each of them."""
+        return [it.told for it in self.again.make_in_parts(calls, 1, self.now)]
 
     def ask_viewer(self) -> None:
         """A viewer of the saved image answers the calls that read behind the last change as they were answered."""

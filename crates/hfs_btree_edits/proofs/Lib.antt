@@ -5,11 +5,13 @@ pub mod BoundLemmas
 mod ClaimedLemmas
 mod ClaimLemmas
 pub mod ConditionLemmas
+pub mod DecodesLemmas
 pub mod DistinctLemmas
 pub mod EditedLemmas
 pub mod EditedOrderLemmas
 pub mod EditedPairLemmas
 pub mod FreeAfterLemmas
+pub mod FewRecords
 mod FreedLemmas
 mod FullMapLemmas
 pub mod HeadedLemmas

@@ -12,9 +12,10 @@ use Rattle.hfs_scans.proofs.ElementLemmas.{each-mono, each-right}
 use Rattle.hfs_btree.specs.Tree.{Store, node_in, records_in, records_of, forward_of}
 use Rattle.hfs_btree.specs.Header.{header_in, record_in, chain_from, map_nodes, own_nodes, bit_of}
 use Rattle.hfs_btree.specs.Sound.{IsMapNode, HasMap}
-use Rattle.hfs_btree_edits.specs.Stored.{HasStored}
+use Rattle.hfs_btree_edits.specs.Stored.{Decodes, HasStored}
 use Rattle.hfs_btree_edits.specs.MapPlaces.{entry_of, part_in, IsPlaced, HasBitPut}
 use Rattle.hfs_btree_edits.proofs.MapPlaceLemmas.{IsPart}
+use Rattle.hfs_btree_edits.proofs.DecodesLemmas.{decodes-some}
 use Rattle.hfs_btree.proofs.DecodedLemmas.{decoded-within, records-within, records-read}
 use Rattle.hfs_btree.proofs.ChainLemmas.{chain-step}
 
@@ -91,6 +92,9 @@ bit-entry nodes at entry bit lt = some-entry (records_in nodes at) entry (omega 
 
 pub bit-within : (nodes : Store) (at entry bit : ℕ) → bit < 8 * length (record_in nodes at entry) → at < length nodes
 bit-within nodes at entry bit lt = records-within nodes at (let h = bit-entry nodes at entry bit lt in omega (arith, h))
+
+pub bit-decodes : (nodes : Store) (at entry bit : ℕ) → bit < 8 * length (record_in nodes at entry) → Decodes nodes at
+bit-decodes nodes at entry bit lt = decodes-some nodes at (let h = bit-entry nodes at entry bit lt in omega (arith, h))
 
 pub bit-some : (nodes : Store) (at entry bit : ℕ) (v : Node) → node_in nodes at ≡ Ok v → bit < 8 * length (record_in nodes at entry) → entry < length v.records
 bit-some nodes at entry bit v is lt =

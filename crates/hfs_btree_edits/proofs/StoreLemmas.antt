@@ -21,7 +21,7 @@ stored n value bytes old new lt is clear e = record {
   bytes = λ m ne. ap (λ (s : Store). get_or s m []) e ∙ get_or-set_other old n m bytes [] ne;
 }
 
-some-of : (xs : List (List ℕ)) → 30 ≤ length (get_or xs 0 []) → 0 < length xs
+pub some-of : (xs : List (List ℕ)) → 30 ≤ length (get_or xs 0 []) → 0 < length xs
 some-of [] long = absurd (omega arith)
 some-of (x ∷ xs) long = omega arith
 

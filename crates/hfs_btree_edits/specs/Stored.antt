@@ -1,5 +1,5 @@
 -- What writes of nodes make of a tree's file.
-use Rattle.std.specs.Prelude.{◌≡◌, ◌≢◌, ℕ, ◌+◌, ◌-◌, ◌≤◌, List, [], Ok, length, slice_set, slice_index_or, false, ◌↔◌}
+use Rattle.std.specs.Prelude.{◌≡◌, ◌≢◌, ℕ, ◌+◌, ◌-◌, ◌≤◌, List, [], Ok, length, slice_set, slice_index_or, false, ◌↔◌, IsOk}
 use Rattle.hfs_node.specs.Laid.{IsClear, IsZeroFrom}
 use Rattle.hfs_node.specs.declared.kind.NodeKind.TheVariants.{Header as HeaderKind}
 use Rattle.hfs_node.specs.declared.node.Node.{Node}
@@ -13,6 +13,14 @@ use Rattle.hfs_btree.specs.Sound.{IsOther, IsMapNode, IsSound, IsExact, IsStray}
 -- the bytes of node n
 abbrev pub bytes_in : Store → ℕ → List ℕ
 bytes_in nodes n = slice_index_or nodes n []
+
+-- node n decodes
+abbrev pub Decodes : Store → ℕ → Type 0
+Decodes nodes n = IsOk (node_in nodes n)
+
+-- a link names no node, as 0, or one that decodes
+abbrev pub IsLink : Store → ℕ → Type 0
+IsLink nodes n = n ≢ 0 → Decodes nodes n
 
 -- ---- one node
 

@@ -3,7 +3,7 @@
 ghost use Rattle.std.specs.Prelude.{◌≡◌, ◌<◌, Ok, IfOk, OnOk, length};
 ghost use Rattle.hfs_node.specs.Node.{Fits};
 ghost use Rattle.hfs_btree.specs.Tree.{node_in};
-ghost use Rattle.hfs_btree_edits.specs.Stored.{HasStored};
+ghost use Rattle.hfs_btree_edits.specs.Stored.{Decodes, HasStored};
 
 use crate::nodes_mut::NodesMut;
 use hfs_btree::Nodes;
@@ -36,21 +36,19 @@ pub(crate) fn copy_of(alloc: Global, node: &NodeView<'_>) -> Result<Node, AllocE
     })
 }
 
-/// A copy of node `n`, with room for one more record.
+/// A copy of node `n`, which decodes, with room for one more record. The only error is want of memory.
 pub fn load<N: Nodes>(alloc: Global, nodes: &N, n: u32) -> Result<Node, AllocError>
-    requires { n < length (N.nodes nodes.now) }
+    requires { Decodes (N.nodes nodes.now) n }
     ensures node { IfOk result (λ node. node_in (N.nodes nodes.now) n ≡ Ok node) }
     ensures fits { IfOk result Fits }
 {
     let mut bytes = [0; 512];
     nodes.read(n, &mut bytes);
-    match view(&bytes) {
-        Ok(node) => {
-            let copy = copy_of(alloc, &node)?;
-            Ok(copy)
-        }
-        Err(_) => Err(AllocError),
-    }
+    let Ok(node) = view(&bytes) else {
+        unreachable!()
+    };
+    let copy = copy_of(alloc, &node)?;
+    Ok(copy)
 }
 
 /// Writes a node that fits as node `n`.

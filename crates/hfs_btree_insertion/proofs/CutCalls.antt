@@ -14,12 +14,13 @@ use Rattle.hfs_scans.proofs.ElementLemmas.{each-at}
 use Rattle.hfs_btree.specs.Tree.{Store, node_in, records_in, records_of, reads_at, forward_of, first_of}
 use Rattle.hfs_btree.specs.Sound.{IsRight, IsSound, IsStray}
 use Rattle.hfs_btree.proofs.DescentLemmas.{IsOnWay, way-node, index-entries}
-use Rattle.hfs_btree_edits.specs.Stored.{HasStored}
+use Rattle.hfs_btree_edits.specs.Stored.{Decodes, IsLink, HasStored}
+use Rattle.hfs_btree_edits.proofs.DecodesLemmas.{decodes-as, decodes-same, decodes-stored}
 use Rattle.hfs_btree_insertion.specs.Stored.{HasRecordPut}
 use Rattle.hfs_btree_insertion.specs.Cut.{IsBranch, child_at, HasCutAt}
 use Rattle.hfs_btree_insertion.specs.Halves.{NamesHalf, HasHalved}
 use Rattle.hfs_btree_insertion.proofs.SplitWrites.{p-n}
-use Rattle.hfs_btree_insertion.proofs.Cutting.{all-short, cut, cut-done, parent-way, child-way, child-within, right-within}
+use Rattle.hfs_btree_insertion.proofs.Cutting.{all-short, cut, cut-done, parent-way, child-way, child-within, right-link}
 
 module _ {K : Type 0} (g : Ghosts K) (old : Store) (sound : IsSound g old) (k p q : ℕ) (b : IsBranch g old k p q) where
   abbrev nn : ℕ
@@ -50,6 +51,9 @@ module _ {K : Type 0} (g : Ghosts K) (old : Store) (sound : IsSound g old) (k p 
       let same = ap (λ (r : Result Node NodeFault). length (records_of r)) up-spot.1.decodes in
       let lt = b.within in
       omega (arith, few, same, lt)
+
+  pub parent-decodes : Decodes old p
+  parent-decodes = decodes-as old p up-spot.1.value up-spot.1.decodes
 
   child-reads : Each (λ e. reads_at g k e ≡ true) (records_in old nn)
   child-reads = let P : Result Node NodeFault → Type 0 = λ r. Each (λ e. reads_at g k e ≡ true) (records_of r) in subst P (sym spot.1.decodes) spot.1.whole
@@ -83,12 +87,11 @@ module _ {K : Type 0} (g : Ghosts K) (old : Store) (sound : IsSound g old) (k p 
     same-child : node_in x nn ≡ node_in old nn
     same-child = put.stored.rest nn (λ e. other-parent (sym e))
 
-    pub first-ready : (n ≢ 0) × (n < length x)
+    pub first-ready : (n ≢ 0) × Decodes x n
     first-ready =
         let low = spot.1.within.0 in
-        let len = put.stored.len in
-        let lt = child-there n is in
-        (λ e. let z : nn ≡ 0 = sym is ∙ e in absurd (omega (arith, low, z)), omega (arith, len, lt))
+        let P : ℕ → Type 0 = λ j. Decodes x j in
+        (λ e. let z : nn ≡ 0 = sym is ∙ e in absurd (omega (arith, low, z)), subst P (sym is) (decodes-same old x nn same-child (decodes-as old nn spot.1.value spot.1.decodes)))
 
     pub place-ready : c ≤ length (records_in x n)
     place-ready =
@@ -97,12 +100,11 @@ module _ {K : Type 0} (g : Ghosts K) (old : Store) (sound : IsSound g old) (k p 
         let lt = less-child in
         omega (arith, same, kept, lt)
 
-    pub right-ready : forward_of (node_in x n) < length x
+    pub right-ready : IsLink x (forward_of (node_in x n))
     right-ready =
         let same = ap (λ (j : ℕ). forward_of (node_in x j)) is ∙ ap forward_of same-child ∙ ap forward_of spot.1.decodes in
-        let lt = right-within g old sound k p q b spot.1.value spot.1.decodes in
-        let len = put.stored.len in
-        omega (arith, same, lt, len)
+        let P : ℕ → Type 0 = λ j. IsLink x j in
+        subst P (sym same) (λ some. decodes-stored p spot.1.value.forward _ old x put.stored (right-link g old sound k p q b spot.1.value spot.1.decodes some))
 
     -- the leaves are the level with none below it
     bottom : nat_eq k 0 ≡ true → k ≡ 0

@@ -14,12 +14,13 @@ use Rattle.hfs_scans.proofs.ElementLemmas.{each-at, each-right}
 use Rattle.hfs_btree.specs.Tree.{Store, Spot, node_in, records_in, records_of, reads_at, spots, first_of, turn}
 use Rattle.hfs_btree.specs.Header.{record_in, root_level}
 use Rattle.hfs_btree.specs.Sound.{IsSound, IsRight, IsStray}
-use Rattle.hfs_btree_edits.specs.Stored.{HasStored}
+use Rattle.hfs_btree_edits.specs.Stored.{IsLink, HasStored}
 use Rattle.hfs_btree_insertion.specs.Stored.{HasLinked}
 use Rattle.hfs_btree_insertion.specs.Cut.{IsCut, IsBranch, child_at, HasCutAt}
 use Rattle.hfs_btree_edits.specs.LevelParts.{entry_key}
 use Rattle.hfs_btree.proofs.DecodedLemmas.{decoded-within}
 use Rattle.hfs_btree.proofs.DescentLemmas.{IsOnWay, way-node, way-down, way-within, index-entries}
+use Rattle.hfs_btree_edits.proofs.DecodesLemmas.{decodes-as}
 use Rattle.hfs_btree_edits.proofs.LevelPartLemmas.{upper, turn-split}
 use Rattle.hfs_btree_insertion.proofs.Cuts.{hn}
 use Rattle.hfs_btree_insertion.proofs.PutWhole.{head-long, own-long}
@@ -58,6 +59,11 @@ behind-within : {K : Type 0} (g : Ghosts K) (nodes : Store) (k left : ℕ) (befo
 behind-within g nodes k left [] n [] some h = some
 behind-within g nodes k left [] n (m ∷ behind) some h = decoded-within nodes m h.1.0.value h.1.0.decodes
 behind-within g nodes k left (b ∷ before) n behind some h = behind-within g nodes k b before n behind some h.1
+
+behind-link : {K : Type 0} (g : Ghosts K) (nodes : Store) (k left : ℕ) (before : List ℕ) (n : ℕ) (behind : List ℕ) → Each (IsRight g nodes) (spots k left (before ++ n ∷ behind)) → IsLink nodes (first_of behind)
+behind-link g nodes k left [] n [] h = λ some. absurd (some refl)
+behind-link g nodes k left [] n (m ∷ behind) h = λ some. decodes-as nodes m h.1.0.value h.1.0.decodes
+behind-link g nodes k left (b ∷ before) n behind h = behind-link g nodes k b before n behind h.1
 
 abbrev ok_of : Node → Result Node NodeFault
 ok_of v = Ok v
@@ -122,11 +128,19 @@ module _ {K : Type 0} (g : Ghosts K) (old : Store) (sound : IsSound g old) (k p 
     pub node-reads : Each (λ e. reads_at g k e ≡ true) node.records
     node-reads = let P : Node → Type 0 = λ v. Each (λ e. reads_at g k e ≡ true) v.records in subst P (same-value node-spot.1.value node (sym node-spot.1.decodes ∙ was_node)) node-spot.1.whole
 
-    pub right-within : node.forward < length old
+    right-is : node.forward ≡ first_of child-way.behind
+    right-is = ap (λ (v : Node). v.forward) (same-value node node-spot.1.value (sym was_node ∙ node-spot.1.decodes)) ∙ node-spot.1.right
+
+    pub right-link : IsLink old node.forward
+    right-link =
+        let P : ℕ → Type 0 = λ x. IsLink old x in
+        subst P (sym right-is) (behind-link g old k 0 child-way.before n child-way.behind
+        (Rattle.hfs_scans.proofs.ElementLemmas.each-left (IsRight g old) (spots k 0 (child-way.before ++ n ∷ child-way.behind)) _ child-way.right))
+
+    right-within : node.forward < length old
     right-within =
-        let is : node.forward ≡ first_of child-way.behind = ap (λ (v : Node). v.forward) (same-value node node-spot.1.value (sym was_node ∙ node-spot.1.decodes)) ∙ node-spot.1.right in
         let P : ℕ → Type 0 = λ x. x < length old in
-        subst P (sym is) (behind-within g old k 0 child-way.before n child-way.behind some-nodes
+        subst P (sym right-is) (behind-within g old k 0 child-way.before n child-way.behind some-nodes
         (Rattle.hfs_scans.proofs.ElementLemmas.each-left (IsRight g old) (spots k 0 (child-way.before ++ n ∷ child-way.behind)) _ child-way.right))
 
     pub node-size : size_of node.records ≡ size_of (records_in old n)

@@ -17,7 +17,7 @@ use Rattle.hfs_btree_insertion.specs.Growth.{len_at, IsLow}
 use Rattle.hfs_btree_insertion.specs.Lowering.{HasLowered}
 use Rattle.hfs_btree_insertion.specs.Room.{HasMadeRoom}
 use Rattle.hfs_btree_insertion.specs.Stored.{HasPut}
-use Rattle.hfs_btree_insertion.proofs.FewRecords.{one-more_fits}
+use Rattle.hfs_btree_edits.proofs.FewRecords.{one-more_fits}
 use Rattle.hfs_btree_insertion.proofs.LowerSteps.{some-levels_above, turn-stay}
 use Rattle.hfs_btree_insertion.proofs.Steps.{keeps-then}
 use Rattle.hfs_btree_insertion.proofs.Taken.{free-same}

@@ -27,7 +27,6 @@ pub mod PutWhole
 pub mod Rekeyed
 pub mod FirstKeys
 pub mod LowerSteps
-pub mod FewRecords
 pub mod MadeRoom
 pub mod Inserted
 mod RoomyLeaves

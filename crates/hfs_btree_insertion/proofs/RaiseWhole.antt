@@ -17,13 +17,14 @@ use Rattle.hfs_btree_edits.proofs.KeptKeyLemmas.{hold-keys}
 use Rattle.hfs_btree.specs.Header.{header_in, record_in, depth_of, root_level, own_nodes, tree_turn, tree_nodes}
 use Rattle.hfs_btree.specs.Sound.{IsOther, IsSound, IsRight, IsStray, IsExact, AreKeysExact, first_key}
 use Rattle.hfs_btree.specs.Search.{child_for, leaf_under}
-use Rattle.hfs_btree_edits.specs.Stored.{HasStored, HasHeaderPut, HasClaimed}
+use Rattle.hfs_btree_edits.specs.Stored.{Decodes, HasStored, HasHeaderPut, HasClaimed}
 use Rattle.hfs_btree_edits.specs.LevelParts.{entry_key}
 use Rattle.hfs_btree_insertion.specs.Raise.{IsRootAbove, IsRaised, HasRootPut}
 use Rattle.hfs_btree_insertion.specs.Growth.{KeepsLevels, NodesStay, KeysStay, HasRaised}
 use Rattle.hfs_btree.proofs.DescentLemmas.{IsOnWay, root-way, way-node, way-within}
 use Rattle.hfs_btree_insertion.proofs.Exacts.{first-entry, Exact, turn-exact, keeps-first}
 use Rattle.hfs_btree_insertion.proofs.PartLists.{equal-key}
+use Rattle.hfs_btree_edits.proofs.DecodesLemmas.{decodes-as}
 use Rattle.hfs_btree_edits.proofs.HeadLemmas.{header-new, head-kept, header-kept, map-kept}
 use Rattle.hfs_btree_edits.proofs.OwnLemmas.{KeepsOwn, stored-own, own-header, own-head, own-has-header, own-has-map, head-then}
 use Rattle.hfs_btree_insertion.proofs.PutWhole.{head-long, own-long}
@@ -42,8 +43,8 @@ module _ {K : Type 0} (g : Ghosts K) (nodes : Store) (sound : IsSound g nodes) (
   root-spot : (l : ℕ) × IsRight g nodes (record { left = l; n = (header_in nodes).root; right = first_of way.behind; above = depth_of nodes - 1 })
   root-spot = way-node g nodes (depth_of nodes - 1) (header_in nodes).root way
 
-  pub root-within : h.root < length nodes
-  root-within = let P : ℕ → Type 0 = λ r. r < length nodes in subst P (sym (ap (λ (x : Header). x.root) is)) (way-within g nodes (depth_of nodes - 1) (header_in nodes).root way)
+  pub root-decodes : Decodes nodes h.root
+  root-decodes = let P : ℕ → Type 0 = λ r. Decodes nodes r in subst P (sym (ap (λ (x : Header). x.root) is)) (decodes-as nodes (header_in nodes).root root-spot.1.value root-spot.1.decodes)
 
   root-reads : Each (λ e. reads_at g (depth_of nodes - 1) e ≡ true) (records_in nodes (header_in nodes).root)
   root-reads = let P : Result Node NodeFault → Type 0 = λ r. Each (λ e. reads_at g (depth_of nodes - 1) e ≡ true) (records_of r) in subst P (sym root-spot.1.decodes) root-spot.1.whole

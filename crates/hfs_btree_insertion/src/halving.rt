@@ -3,7 +3,7 @@
 ghost use Rattle.std.specs.Prelude.{◌≡◌, ◌≢◌, ◌<◌, ◌≤◌, OnOk, length};
 ghost use Rattle.hfs_btree.specs.Header.{record_in};
 ghost use Rattle.hfs_btree.specs.Tree.{node_in, records_in, forward_of};
-ghost use Rattle.hfs_btree_edits.specs.Stored.{HasBackward};
+ghost use Rattle.hfs_btree_edits.specs.Stored.{Decodes, IsLink, HasBackward};
 ghost use Rattle.hfs_btree_edits.specs.Edits.{Edits};
 ghost use Rattle.hfs_btree_insertion.specs.Halves.{HasHalved};
 ghost use Rattle.hfs_btree_insertion.specs.Stored.{HasLinked, HasLastLeaf};
@@ -14,7 +14,7 @@ use std::alloc::{AllocError, Global};
 
 /// Sets the backward link of a node.
 fn link_back<S: NodesMut>(alloc: Global, nodes: &mut S, n: u32, left: u32) -> Result<(), AllocError>
-    requires { n < length (S.nodes nodes.old) }
+    requires { Decodes (S.nodes nodes.old) n }
     ensures linked { Edits result (HasBackward n left) S.nodes nodes.old nodes.new }
     ensures kept { OnOk result (S.kept nodes.new ≡ S.kept nodes.old) }
 {
@@ -44,7 +44,8 @@ fn link_right<S: NodesMut>(
     n: u32,
     leaves: bool,
 ) -> Result<(), AllocError>
-    requires within { right < length (S.nodes nodes.old) }
+    requires right { IsLink (S.nodes nodes.old) right }
+    requires within { 0 < length (S.nodes nodes.old) }
     requires long { 30 ≤ length (record_in (S.nodes nodes.old) 0 0) }
     ensures linked { Edits result (HasLinked right n leaves) S.nodes nodes.old nodes.new }
     ensures kept { OnOk result (S.kept nodes.new ≡ S.kept nodes.old) }
@@ -68,10 +69,10 @@ pub(crate) fn halve<S: NodesMut>(
     place: usize,
     leaves: bool,
 ) -> Result<(), AllocError>
-    requires first { (n ≢ 0) × (n < length (S.nodes nodes.old)) }
+    requires first { (n ≢ 0) × Decodes (S.nodes nodes.old) n }
     requires second { (m ≢ 0) × (m < length (S.nodes nodes.old)) }
     requires place { place ≤ length (records_in (S.nodes nodes.old) n) }
-    requires right { forward_of (node_in (S.nodes nodes.old) n) < length (S.nodes nodes.old) }
+    requires right { IsLink (S.nodes nodes.old) (forward_of (node_in (S.nodes nodes.old) n)) }
     requires long { 30 ≤ length (record_in (S.nodes nodes.old) 0 0) }
     ensures halved { Edits result (HasHalved n m place leaves) S.nodes nodes.old nodes.new }
     ensures kept { OnOk result (S.kept nodes.new ≡ S.kept nodes.old) }

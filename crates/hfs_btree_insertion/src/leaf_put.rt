@@ -7,6 +7,7 @@ ghost use Rattle.hfs_btree.specs.Pairs.{lookup};
 ghost use Rattle.hfs_btree.specs.Search.{leaf_for};
 ghost use Rattle.hfs_btree.specs.Sound.{IsSound};
 ghost use Rattle.hfs_btree_edits.specs.Edits.{Edits};
+ghost use Rattle.hfs_btree_edits.specs.Stored.{Decodes};
 ghost use Rattle.hfs_btree_insertion.specs.Stored.{HasRecordPut, CountsOneMore, HasEntryPut};
 ghost use Rattle.hfs_btree_insertion.specs.Growth.{HasLeafRoom, IsRootLow};
 ghost use Rattle.hfs_btree.specs.Tree.{records_in};
@@ -23,7 +24,7 @@ pub(crate) fn put_record<S: NodesMut>(
     place: usize,
     entry: Vec<u8>,
 ) -> Result<(), AllocError>
-    requires within { n < length (S.nodes nodes.old) }
+    requires node { Decodes (S.nodes nodes.old) n }
     requires place { place ≤ length (records_in (S.nodes nodes.old) n) }
     requires room { size_of (records_in (S.nodes nodes.old) n) + (length entry.items + 2) ≤ 496 }
     ensures put { Edits result (HasRecordPut n place entry.items) S.nodes nodes.old nodes.new }

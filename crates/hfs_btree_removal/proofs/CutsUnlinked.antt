@@ -9,7 +9,8 @@ use Rattle.hfs_btree.specs.Tree.{Store, Spot, node_in, forward_of, first_of, spo
 use Rattle.hfs_btree.specs.Sound.{IsOther, IsDistinct, IsRight}
 use Rattle.hfs_btree_removal.specs.Removal.{HasUnlinked, IsUnlinkable, IsClear, AreUnlinkable, AreStepsUnlinked, backward_of}
 use Rattle.hfs_btree_removal.proofs.Chains.{Cut, with_node}
-use Rattle.hfs_btree.proofs.DecodedLemmas.{decoded-within}
+use Rattle.hfs_btree_edits.specs.Stored.{Decodes, IsLink}
+use Rattle.hfs_btree_edits.proofs.DecodesLemmas.{decodes-as}
 use Rattle.hfs_btree_edits.proofs.DistinctLemmas.{distinct-left, distinct-right}
 use Rattle.hfs_btree_edits.proofs.LevelPartLemmas.{numbers}
 use Rattle.hfs_btree_removal.proofs.Links.{last_or}
@@ -56,22 +57,22 @@ module _ {K : Type 0} (g : Ghosts K) (base : Store) where
 
   -- ---- the steps can be unlinked
 
-  -- the nodes of a level are of the file
-  level-within : (k left : ℕ) (ns : List ℕ) → Each (IsRight g base) (spots k left ns) → Each (λ n. n < length base) ns
-  level-within k left [] h = tt
-  level-within k left (n ∷ ns) h = (decoded-within base n h.0.value h.0.decodes, level-within k n ns h.1)
+  -- the nodes of a level decode
+  level-decodes : (k left : ℕ) (ns : List ℕ) → Each (IsRight g base) (spots k left ns) → Each (Decodes base) ns
+  level-decodes k left [] h = tt
+  level-decodes k left (n ∷ ns) h = (decodes-as base n h.0.value h.0.decodes, level-decodes k n ns h.1)
 
   pub level-some : (k left : ℕ) (ns : List ℕ) → Each (IsRight g base) (spots k left ns) → Each Some ns
   level-some k left [] h = tt
   level-some k left (n ∷ ns) h = ((λ e. absurd (let some = h.0.within.0 in omega arith)), level-some k n ns h.1)
 
-  last-within : (d : ℕ) (xs : List ℕ) → d < length base → Each (λ n. n < length base) xs → last_or d xs < length base
-  last-within d [] lt h = lt
-  last-within d (x ∷ xs) lt h = last-within x xs h.0 h.1
+  last-link : (d : ℕ) (xs : List ℕ) → IsLink base d → Each (Decodes base) xs → IsLink base (last_or d xs)
+  last-link d [] link h = link
+  last-link d (x ∷ xs) link h = last-link x xs (λ some. h.0) h.1
 
-  first-within : (ys : List ℕ) → 0 < length base → Each (λ n. n < length base) ys → first_of ys < length base
-  first-within [] lt h = lt
-  first-within (y ∷ ys) lt h = h.0
+  first-link : (ys : List ℕ) → Each (Decodes base) ys → IsLink base (first_of ys)
+  first-link [] h = λ some. absurd (some refl)
+  first-link (y ∷ ys) h = λ some. h.0
 
   -- one that is other than all of a level, and than 0, is other than the last and the first
   last-ne : (m d : ℕ) (xs : List ℕ) → m ≢ d → Each (IsOther m) xs → m ≢ last_or d xs
@@ -95,27 +96,22 @@ module _ {K : Type 0} (g : Ghosts K) (base : Store) where
     abbrev ns : List ℕ
     ns = cut.front ++ cut.n ∷ cut.back
 
-    w : Each (λ n. n < length base) ns
-    w = level-within cut.above 0 ns h
-
-    w-n : cut.n < length base
-    w-n = (each-right (λ n. n < length base) cut.front (cut.n ∷ cut.back) w).0
-
-    file : 0 < length base
-    file = let lt = w-n in omega arith
+    all-decode : Each (Decodes base) ns
+    all-decode = level-decodes cut.above 0 ns h
 
     apart-by : last_or 0 cut.front ≢ 0 → last_or 0 cut.front ≢ first_of cut.back
     apart-by some = first-ne (last_or 0 cut.front) cut.back some (last-behind 0 cut.front cut.back (λ ne. absurd (ne refl)) (skip cut.front cut.n cut.back d) some)
 
-    pub can : IsUnlinkable (length base) cut.n (node_in base cut.n)
+    pub can : IsUnlinkable base (node_in base cut.n)
     can =
-        let P : ℕ → Type 0 = λ x. x < length base in
+        let P : ℕ → Type 0 = λ x. IsLink base x in
+        let behind = each-right (Decodes base) cut.front (cut.n ∷ cut.back) all-decode in
         let A : ℕ → Type 0 = λ x. x ≢ 0 → x ≢ forward_of (node_in base cut.n) in
         let B : ℕ → Type 0 = λ x. last_or 0 cut.front ≢ 0 → last_or 0 cut.front ≢ x in
         record {
-          within = w-n;
-          left = subst P (sym (left-is cut h)) (last-within 0 cut.front file (each-left P cut.front (cut.n ∷ cut.back) w));
-          right = subst P (sym (right-is cut h)) (first-within cut.back file (each-right P cut.front (cut.n ∷ cut.back) w).1);
+          node = behind.0;
+          left = subst P (sym (left-is cut h)) (last-link 0 cut.front (λ some. absurd (some refl)) (each-left (Decodes base) cut.front (cut.n ∷ cut.back) all-decode));
+          right = subst P (sym (right-is cut h)) (first-link cut.back behind.1);
           apart = subst A (sym (left-is cut h)) (subst B (sym (right-is cut h)) apart-by);
         }
 
@@ -154,7 +150,7 @@ module _ {K : Type 0} (g : Ghosts K) (base : Store) where
       let some' = each-right Some level below (subst P (numbers-with cut cs) some) in
       let d' = subst Q (numbers-with cut cs) d in
       let own = distinct-left level below d' in
-      let U : ℕ → Type 0 = λ n. IsUnlinkable (length base) n (node_in base n) in
+      let U : ℕ → Type 0 = λ n. IsUnlinkable base (node_in base n) in
       let C : ℕ → Type 0 = λ n. Each (IsClear (node_in base n)) ss in (
         subst U (sym at.0) (can cut h.0 own),
         subst C (sym at.0) (all-clear cut h.0 own ss (at-steps Some cs ss at.1 some') (at-steps (λ m. Each (IsOther m) level) cs ss at.1 (cross-back level below d'))),

@@ -15,6 +15,7 @@ use Rattle.hfs_btree.specs.Tree.{Store, Spot, node_in, records_in, records_of, c
 use Rattle.hfs_btree.specs.Header.{depth_of, root_level, own_nodes, tree_turn, tree_nodes}
 use Rattle.hfs_btree.specs.Sound.{IsRight, IsDistinct, HasStructure}
 use Rattle.hfs_btree.proofs.DecodedLemmas.{decoded-within}
+use Rattle.hfs_btree_edits.proofs.DecodesLemmas.{decodes-within}
 use Rattle.hfs_btree_removal.specs.Removal.{AreUnlinkable, AreStray}
 use Rattle.hfs_btree.specs.Sound.{IsOther, IsStray}
 use Rattle.hfs_btree_removal.specs.Ways.{IsStep, Leads}
@@ -182,7 +183,7 @@ stray-steps g old new len (cut ∷ cs) (s ∷ ss) at can strays d =
     let S : ℕ → Type 0 = λ x. IsStray g new x in
     let other = (each-right (λ x. Each (IsOther x) below) cut.front (cut.n ∷ cut.back) (cross level below d')).0 in (
       subst S (sym at.0) strays.0,
-      (let a = can.0.within in omega arith),
+      (let a = decodes-within old s.node can.0.node in omega arith),
       subst Q (sym at.0) (at-steps g old N cs ss at.1 other),
       stray-steps g old new len cs ss at.1 can.2 strays.1 (distinct-right level below d'),
     )

@@ -20,6 +20,7 @@ pub mod Unlinked
 pub mod RemovedRest
 pub mod HeadPut
 pub mod WaySteps
+mod LinkedNodes
 pub mod StepsUnlinked
 pub mod RemoveWhole
 pub mod CutsUnlinked

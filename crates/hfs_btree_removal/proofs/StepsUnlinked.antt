@@ -7,9 +7,10 @@ use Rattle.hfs_node.specs.declared.fault.NodeFault.{NodeFault}
 use Rattle.hfs_btree_removal.specs.declared.down.Step.{Step}
 use Rattle.hfs_scans.specs.Each.{Each}
 use Rattle.hfs_btree.specs.Tree.{Store, node_in, forward_of}
-use Rattle.hfs_btree_edits.specs.Stored.{IsSame, bytes_in}
+use Rattle.hfs_btree_edits.specs.Stored.{Decodes, IsSame, bytes_in}
 use Rattle.hfs_btree_removal.specs.Removal.{HasUnlinked, IsUnlinkable, IsClear, AreUnlinkable, AreStepsUnlinked, backward_of, last_left, last_right}
 use Rattle.hfs_btree_removal.proofs.KeysSet.{no-step}
+use Rattle.hfs_btree_removal.proofs.LinkedNodes.{unlinked-decodes}
 
 abbrev AreSame : Store → Store → List Step → Type 0
 AreSame old new ss = Each (λ (s : Step). IsSame old new s.node) ss
@@ -19,13 +20,13 @@ all-same nodes [] = tt
 all-same nodes (s ∷ ss) = (refl, all-same nodes ss)
 
 -- what nodes that are the same keep
-keep : (old new : Store) (ss : List Step) → length new ≡ length old → AreSame old new ss → AreUnlinkable old ss → AreUnlinkable new ss
-keep old new [] len same h = tt
-keep old new (s ∷ ss) len same h =
-    let P : ℕ → Type 0 = λ c. IsUnlinkable c s.node (node_in new s.node) in
-    let Q : Result Node NodeFault → Type 0 = λ r. IsUnlinkable (length old) s.node r in
+keep : (old new : Store) (ss : List Step) → ((x : ℕ) → Decodes old x → Decodes new x) → AreSame old new ss → AreUnlinkable old ss → AreUnlinkable new ss
+keep old new [] all same h = tt
+keep old new (s ∷ ss) all same h =
+    let Q : Result Node NodeFault → Type 0 = λ r. IsUnlinkable new r in
     let R : Result Node NodeFault → Type 0 = λ r. Each (IsClear r) ss in
-    (subst P (sym len) (subst Q (sym same.0) h.0), subst R (sym same.0) h.1, keep old new ss len same.1 h.2)
+    let can : Q (node_in old s.node) = record { node = h.0.node; left = λ some. all _ (h.0.left some); right = λ some. all _ (h.0.right some); apart = h.0.apart } in
+    (subst Q (sym same.0) can, subst R (sym same.0) h.1, keep old new ss all same.1 h.2)
 
 clear : (old new : Store) (l r : ℕ) (u : HasUnlinked old new l r) (ss : List Step) → Each (λ (t : Step). (t.node ≢ l) × (t.node ≢ r)) ss → AreSame old new ss
 clear old new l r u [] h = tt
@@ -85,7 +86,7 @@ module _ (base : Store) (chain : List Step) (i : ℕ) (l r : ℕ) (nodes : Store
   same-here : AreSame base nodes (s ∷ drop (i + 1) chain)
   same-here = let P : List Step → Type 0 = λ ss. AreSame base nodes ss in subst P parted d.same
 
-  pub next-can : IsUnlinkable (length nodes) s.node (node_in nodes s.node)
+  pub next-can : IsUnlinkable nodes (node_in nodes s.node)
   next-can = here.0
 
   pub done-more : (new : Store) (left right : ℕ) → left ≡ backward_of (node_in nodes s.node) → right ≡ forward_of (node_in nodes s.node) → HasUnlinked nodes new left right → AreDone base chain (i + 1) left right new
@@ -100,7 +101,7 @@ module _ (base : Store) (chain : List Step) (i : ℕ) (l r : ℕ) (nodes : Store
       let kept = clear nodes new (backward_of (node_in nodes s.node)) (forward_of (node_in nodes s.node)) (subst X right-is (subst W left-is u)) (drop (i + 1) chain) here.1 in
       record {
         done = subst P (sym taken) (more base (take i chain) s base nodes new d.done (subst V r-base (subst U l-base u)));
-        rest = keep nodes new (drop (i + 1) chain) u.len kept here.2;
+        rest = keep nodes new (drop (i + 1) chain) (unlinked-decodes nodes new left right u) kept here.2;
         same = then-same base nodes new (drop (i + 1) chain) same-here.1 kept;
         left = l-base ∙ sym (ap (last_left base) taken ∙ last-left base (take i chain) s);
         right = r-base ∙ sym (ap (last_right base) taken ∙ last-right base (take i chain) s);

@@ -1,5 +1,5 @@
 -- What the steps of a removal make of a tree's nodes.
-use Rattle.std.specs.Prelude.{◌≡◌, ◌≢◌, ℕ, zero, suc, ◌+◌, ◌-◌, ◌<◌, ◌≤◌, ◌==◌, if◌then◌else◌, true, List, [], ◌∷◌, ◌++◌, ⊤, Ok, Err, Result, Option, Some, None, length, map, slice_set, slice_index_or, remove}
+use Rattle.std.specs.Prelude.{◌≡◌, ◌≢◌, ℕ, zero, suc, ◌+◌, ◌-◌, ◌<◌, ◌≤◌, ◌==◌, if◌then◌else◌, true, List, [], ◌∷◌, ◌++◌, ⊤, Ok, Err, Result, Option, Some, None, IsOk, length, map, slice_set, slice_index_or, remove}
 use Rattle.hfs_node.specs.declared.fault.NodeFault.{NodeFault}
 use Rattle.hfs_node.specs.declared.node.Node.{Node}
 use Rattle.hfs_node.specs.declared.kind.NodeKind.TheVariants.{Leaf}
@@ -12,7 +12,7 @@ use Rattle.hfs_btree_edits.specs.KeptKeys.{tree_keys, EachKey}
 use Rattle.hfs_node.specs.Laid.{IsZeroFrom}
 use Rattle.hfs_scans.specs.Each.{Each}
 use Rattle.hfs_scans.specs.Members.{In}
-use Rattle.hfs_btree_edits.specs.Stored.{HasStored, HasHeaderPut, IsSame, IsReleased, bytes_in}
+use Rattle.hfs_btree_edits.specs.Stored.{HasStored, HasHeaderPut, IsLink, IsSame, IsReleased, bytes_in}
 use Rattle.hfs_btree.specs.Tree.{Store, node_in, records_in, forward_of}
 use Rattle.hfs_btree.specs.Header.{header_in, depth_of, own_nodes, free_nodes, tree_content, tree_nodes}
 use Rattle.hfs_btree.specs.Sound.{IsOther, IsStray, IsSound, IsExact, KeepsFrame}
@@ -86,11 +86,11 @@ pub record HasBackwardTo (n to : ℕ) (old new : Store) : Type 0 where
   pub rest : (m : ℕ) → m ≢ n → IsSame old new m
   pub bytes : (m : ℕ) → m ≢ n → bytes_in new m ≡ bytes_in old m
 
--- a node that stands for itself and its neighbours: they can be linked to each other
-pub record IsUnlinkable (count n : ℕ) (r : Result Node NodeFault) : Type 0 where
-  pub within : n < count
-  pub left : backward_of r < count
-  pub right : forward_of r < count
+-- what decodes, and has neighbours that do: they can be linked to each other
+pub record IsUnlinkable (nodes : Store) (r : Result Node NodeFault) : Type 0 where
+  pub node : IsOk r
+  pub left : IsLink nodes (backward_of r)
+  pub right : IsLink nodes (forward_of r)
   pub apart : backward_of r ≢ 0 → backward_of r ≢ forward_of r
 
 -- a later step's node is none of these neighbours
@@ -99,7 +99,7 @@ IsClear r t = (t.node ≢ backward_of r) × (t.node ≢ forward_of r)
 
 abbrev pub AreUnlinkable : Store → List Step → Type 0
 AreUnlinkable nodes [] = ⊤
-AreUnlinkable nodes (s ∷ ss) = IsUnlinkable (length nodes) s.node (node_in nodes s.node) × Each (IsClear (node_in nodes s.node)) ss × AreUnlinkable nodes ss
+AreUnlinkable nodes (s ∷ ss) = IsUnlinkable nodes (node_in nodes s.node) × Each (IsClear (node_in nodes s.node)) ss × AreUnlinkable nodes ss
 
 -- the neighbours of each step's node, as they were at first, were linked to each other, one step after the other
 abbrev pub AreStepsUnlinked : Store → List Step → Store → Store → Type 0

@@ -1,7 +1,8 @@
 //! A node whose neighbours are linked to each other past it.
 
-ghost use Rattle.std.specs.Prelude.{◌≡◌, ◌<◌, IfOk, OnOk, length};
+ghost use Rattle.std.specs.Prelude.{◌≡◌, IfOk, OnOk};
 ghost use Rattle.hfs_btree_edits.specs.Edits.{Edits};
+ghost use Rattle.hfs_btree_edits.specs.Stored.{Decodes, IsLink};
 ghost use Rattle.hfs_btree_removal.specs.Removal.{HasForward, HasBackwardTo, HasApartNeighbours, AreLinked, AreUnlinkable, AreUnlinked, left_of, right_of, last_left, last_right};
 
 use crate::down::Step;
@@ -22,7 +23,7 @@ fn link_forward<S: NodesMut>(
     n: u32,
     to: u32,
 ) -> Result<(), AllocError>
-    requires { n < length (S.nodes nodes.old) }
+    requires { IsLink (S.nodes nodes.old) n }
     ensures linked { Edits result (HasForward n to) S.nodes nodes.old nodes.new }
     ensures kept { OnOk result (S.kept nodes.new ≡ S.kept nodes.old) }
 {
@@ -41,7 +42,7 @@ fn link_backward<S: NodesMut>(
     n: u32,
     to: u32,
 ) -> Result<(), AllocError>
-    requires { n < length (S.nodes nodes.old) }
+    requires { IsLink (S.nodes nodes.old) n }
     ensures linked { Edits result (HasBackwardTo n to) S.nodes nodes.old nodes.new }
     ensures kept { OnOk result (S.kept nodes.new ≡ S.kept nodes.old) }
 {
@@ -59,9 +60,9 @@ pub(crate) fn unlink<S: NodesMut>(
     nodes: &mut S,
     n: u32,
 ) -> Result<Neighbours, AllocError>
-    requires within { n < length (S.nodes nodes.old) }
-    requires left { left_of (S.nodes nodes.old) n < length (S.nodes nodes.old) }
-    requires right { right_of (S.nodes nodes.old) n < length (S.nodes nodes.old) }
+    requires node { Decodes (S.nodes nodes.old) n }
+    requires left { IsLink (S.nodes nodes.old) (left_of (S.nodes nodes.old) n) }
+    requires right { IsLink (S.nodes nodes.old) (right_of (S.nodes nodes.old) n) }
     requires apart { HasApartNeighbours (S.nodes nodes.old) n }
     ensures left { IfOk result (λ beside. beside.left ≡ left_of (S.nodes nodes.old) n) }
     ensures right { IfOk result (λ beside. beside.right ≡ right_of (S.nodes nodes.old) n) }

@@ -19,5 +19,6 @@ pub mod FileParts
 pub mod FileGone
 pub mod FileDeleted
 pub mod ChosenFileLemmas
+mod ChosenItems
 pub mod CreationAnswerLemmas
 mod DeletingLemmas

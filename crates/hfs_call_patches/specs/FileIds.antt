@@ -60,6 +60,13 @@ pub record FileIdWent (key : CatKey) (file : FileRecord) (old new : Store) : Typ
   pub thread_went : Swaps (thread_of between file.id) None between (catalog_of new)
   pub value : IsFileRecordValue (with_thread_flag false file)
 
+-- ---- the file whose thread goes
+
+-- DeleteFileId of some ID chooses the file with this key and this record
+pub record IsFileToLoseId (old : Blocks) (key : CatKey) (file : FileRecord) : Type 0 where
+  pub id : ℕ
+  pub chosen : IsFileChoice old (to_delete_file_id (volume_in old) id) key file
+
 -- ---- wherever a call chooses that file, its step was made
 
 abbrev pub MakesCreateFileId : CatKey → FileRecord → ℕ → Blocks → Blocks → Type 0

@@ -11,6 +11,13 @@ use Rattle.hfs_call_patches.specs.Rekeyings.{IsRekeyChoice}
 abbrev pub IsRenameChoice : Blocks → ℕ → List ℕ → List ℕ → Rekeying → Type 0
 IsRenameChoice old dir name new_name item = IsRekeyChoice old (to_rename (volume_in old) dir name new_name) (with_name new_name) item
 
+-- Rename chooses the item in some folder, under some name, for some other one
+pub record IsItemToRename (old : Blocks) (item : Rekeying) : Type 0 where
+  pub dir : ℕ
+  pub name : List ℕ
+  pub new_name : List ℕ
+  pub chosen : IsRenameChoice old dir name new_name item
+
 -- wherever Rename chooses that item, its step was made
 abbrev pub MakesRename : Rekeying → ℕ → Blocks → Blocks → Type 0
 MakesRename item now old new =

@@ -14,7 +14,7 @@ use Rattle.hfs_btree_edits.specs.Edits.{with_replaced}
 use Rattle.hfs_catalog.specs.declared.item.ItemRecord.{ItemRecord}
 use Rattle.hfs_catalog.specs.Records.{Record, Catalog}
 use Rattle.hfs_catalog_edits.specs.Bodies.{item_bytes, IsItemValue, IfBody, IsOfKind}
-use Rattle.hfs_model.specs.Volume.{Entry}
+use Rattle.hfs_model.specs.Volume.{Entry, Volume}
 use Rattle.hfs_model.specs.declared.call.Call.{Call}
 use Rattle.hfs_check.specs.Parts.{Blocks, catalog_in}
 use Rattle.hfs_changes.specs.OnBlocks.{HasTree}
@@ -80,6 +80,18 @@ pub record IsFolderChoice (old : Blocks) (chosen : Result Entry ℤ) (key : CatK
   pub own_key : of.0 ≡ key
   pub own_folder : dir_record_of of.1 ≡ folder
   pub is : is_dir of.1 ≡ true
+
+-- in some folder, under some name, the rule of a call chooses the file with this key and this record
+pub record IsFileChosenBy (rule : Volume → ℕ → List ℕ → Result Entry ℤ) (old : Blocks) (key : CatKey) (file : FileRecord) : Type 0 where
+  pub dir : ℕ
+  pub name : List ℕ
+  pub chosen : IsFileChoice old (rule (volume_in old) dir name) key file
+
+-- the folder
+pub record IsFolderChosenBy (rule : Volume → ℕ → List ℕ → Result Entry ℤ) (old : Blocks) (key : CatKey) (folder : DirRecord) : Type 0 where
+  pub dir : ℕ
+  pub name : List ℕ
+  pub chosen : IsFolderChoice old (rule (volume_in old) dir name) key folder
 
 -- ---- wherever a call chooses that item, its step was made
 

@@ -1,27 +1,27 @@
 //! What CreateFileId and DeleteFileId make of a volume's blocks.
 
-ghost use Rattle.std.specs.Prelude.{◌≡◌, IsTrue, IfOk};
-ghost use Rattle.hfs_fields.specs.Names.{is_item_name};
+ghost use Rattle.std.specs.Prelude.{◌≡◌, IfOk};
+ghost use Rattle.hfs_model.specs.FileIds.{to_create_file_id};
 ghost use Rattle.hfs_blocks.specs.Layers.{changes, AreWithin};
 ghost use Rattle.hfs_catalog_edits.specs.Rooms.{IsInFile, HasRoom};
 ghost use Rattle.hfs_check.specs.Parts.{mdb_in, catalog_in, catalog_nodes};
 ghost use Rattle.hfs_check.specs.Sound.{AreBlocksSound};
 ghost use Rattle.hfs_changes.specs.OnBlocks.{at_time};
-ghost use Rattle.hfs_call_patches.specs.FileIds.{IsThreadless};
+ghost use Rattle.hfs_call_patches.specs.FileIds.{IsFileToLoseId, IsThreadless};
 ghost use Rattle.hfs_call_patches.specs.TreeFiles.{IsCatalogFile};
-ghost use Rattle.hfs_call_patches.specs.Settings.{IsFileUnder};
+ghost use Rattle.hfs_call_patches.specs.Settings.{IsFileChosenBy};
 ghost use Rattle.hfs_call_patches.specs.SettingPatches.{CreatesFileId, DeletesFileId};
 
 use crate::catalog_patch::{close_catalog, open_catalog};
 use crate::file_threads::{add_file_thread, drop_file_thread};
 use crate::settings::at_time;
 use hfs_blocks::{Blocks, Patch, Run};
-use hfs_changes::{create_file_id_makes, delete_file_id_makes};
+use hfs_changes::{choice_stands, create_file_id_makes, delete_file_id_makes};
 use hfs_check::trees_are_sound;
 use hfs_fields::{CatKey, FileRecord, Mdb};
 use std::alloc::{AllocError, Global};
 
-/// The patch that gives a file, of this key and this record, a thread. The only error is want of memory.
+/// The patch that gives a file that CreateFileId chooses, of this key and this record, a thread. The only error is want of memory.
 pub fn patch_create_file_id<B: Blocks>(
     alloc: Global,
     below: &B,
@@ -34,8 +34,7 @@ pub fn patch_create_file_id<B: Blocks>(
     requires sound { AreBlocksSound (B.total below.now) (B.blocks below.now) }
     requires nodes { IsCatalogFile runs.now (B.total below.now) (B.blocks below.now) }
     requires mdb { mdb.now ≡ mdb_in (B.blocks below.now) }
-    requires name { IsTrue (is_item_name key.now.name) }
-    requires there { IsFileUnder key.now (catalog_in (B.blocks below.now)) }
+    requires chosen { IsFileChosenBy to_create_file_id (B.blocks below.now) key.now file.now }
     requires threadless { IsThreadless (catalog_in (B.blocks below.now)) key.now file.now }
     requires inside { IsInFile (catalog_nodes (B.blocks below.now)) }
     requires room { HasRoom (catalog_nodes (B.blocks below.now)) }
@@ -43,13 +42,14 @@ pub fn patch_create_file_id<B: Blocks>(
     ensures within { IfOk result (λ patch. AreWithin (changes patch) (B.total below.now)) }
 {
     trees_are_sound();
+    choice_stands();
     create_file_id_makes();
     let mut nodes = open_catalog(alloc, below, runs);
     add_file_thread(alloc, &mut nodes, key, file)?;
     close_catalog(below, runs, nodes, &at_time(mdb, now))
 }
 
-/// The patch that takes a file's thread away, of this key and this record. The only error is want of memory.
+/// The patch that takes the thread of a file that DeleteFileId chooses, of this key and this record, away. The only error is want of memory.
 pub fn patch_delete_file_id<B: Blocks>(
     alloc: Global,
     below: &B,
@@ -62,12 +62,12 @@ pub fn patch_delete_file_id<B: Blocks>(
     requires sound { AreBlocksSound (B.total below.now) (B.blocks below.now) }
     requires nodes { IsCatalogFile runs.now (B.total below.now) (B.blocks below.now) }
     requires mdb { mdb.now ≡ mdb_in (B.blocks below.now) }
-    requires name { IsTrue (is_item_name key.now.name) }
-    requires there { IsFileUnder key.now (catalog_in (B.blocks below.now)) }
+    requires chosen { IsFileToLoseId (B.blocks below.now) key.now file.now }
     ensures makes { DeletesFileId result key.now file.now now (B.blocks below.now) }
     ensures within { IfOk result (λ patch. AreWithin (changes patch) (B.total below.now)) }
 {
     trees_are_sound();
+    choice_stands();
     delete_file_id_makes();
     let mut nodes = open_catalog(alloc, below, runs);
     drop_file_thread(alloc, &mut nodes, key, file)?;

@@ -5,7 +5,7 @@ ghost use Rattle.hfs_blocks.specs.Layers.{changes, AreWithin};
 ghost use Rattle.hfs_check.specs.Parts.{mdb_in, catalog_nodes};
 ghost use Rattle.hfs_check.specs.Sound.{AreBlocksSound};
 ghost use Rattle.hfs_call_patches.specs.Rekeyings.{CanRekey};
-ghost use Rattle.hfs_call_patches.specs.Renaming.{MakesRename};
+ghost use Rattle.hfs_call_patches.specs.Renaming.{IsItemToRename, MakesRename};
 ghost use Rattle.hfs_call_patches.specs.TreeFiles.{IsCatalogFile};
 ghost use Rattle.hfs_call_patches.specs.Patches.{Patches};
 
@@ -18,7 +18,7 @@ use hfs_check::catalog_is_sound;
 use hfs_fields::Mdb;
 use std::alloc::{AllocError, Global};
 
-/// The patch that puts an item under its new name. The only error is want of memory.
+/// The patch that puts an item that Rename chooses under its new name. The only error is want of memory.
 pub fn patch_rename<B: Blocks>(
     alloc: Global,
     below: &B,
@@ -30,6 +30,7 @@ pub fn patch_rename<B: Blocks>(
     requires sound { AreBlocksSound (B.total below.now) (B.blocks below.now) }
     requires file { IsCatalogFile runs.now (B.total below.now) (B.blocks below.now) }
     requires mdb { mdb.now ≡ mdb_in (B.blocks below.now) }
+    requires chosen { IsItemToRename (B.blocks below.now) item.now }
     requires can { CanRekey item.now (catalog_nodes (B.blocks below.now)) }
     ensures makes { IfOk result (Patches (B.blocks below.now) (MakesRename item.now now)) }
     ensures within { IfOk result (λ patch. AreWithin (changes patch) (B.total below.now)) }

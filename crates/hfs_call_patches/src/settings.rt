@@ -1,19 +1,19 @@
 //! The patches of the calls that set what is told of an item.
 
-ghost use Rattle.std.specs.Prelude.{◌≡◌, IsTrue, IfOk, take, drop};
-ghost use Rattle.hfs_fields.specs.Names.{is_item_name};
+ghost use Rattle.std.specs.Prelude.{◌≡◌, IfOk, take, drop};
+ghost use Rattle.hfs_model.specs.Choices.{file_to_change, to_set_f_info, to_set_cat_info};
 ghost use Rattle.hfs_blocks.specs.Layers.{changes, AreWithin};
 ghost use Rattle.hfs_changes.specs.OnBlocks.{at_time};
-ghost use Rattle.hfs_check.specs.Parts.{mdb_in, catalog_in};
+ghost use Rattle.hfs_check.specs.Parts.{mdb_in};
 ghost use Rattle.hfs_check.specs.Sound.{AreBlocksSound};
 ghost use Rattle.hfs_call_patches.specs.TreeFiles.{IsCatalogFile};
-ghost use Rattle.hfs_call_patches.specs.Settings.{IsFolderUnder, IsFileUnder};
+ghost use Rattle.hfs_call_patches.specs.Settings.{IsFileChosenBy, IsFolderChosenBy};
 ghost use Rattle.hfs_call_patches.specs.SettingPatches.{SetsFInfo, SetsFileInfo, SetsFolderInfo, SetsLock};
 
 use crate::recorded::patch_record;
 use hfs_blocks::{Blocks, Patch, Run};
 use hfs_catalog::ItemRecord;
-use hfs_changes::{set_cat_info_makes, set_f_info_makes, set_lock_makes};
+use hfs_changes::{choice_stands, set_cat_info_makes, set_f_info_makes, set_lock_makes};
 use hfs_fields::{CatKey, DirRecord, FileRecord, Mdb};
 use std::alloc::{AllocError, Global};
 
@@ -47,7 +47,8 @@ pub(crate) fn at_time(mdb: &Mdb, now: u32) -> Mdb
     }
 }
 
-/// The patch that gives a file, of this key and this record, other first Finder bytes. The only error is want of memory.
+/// The patch that gives a file that SetFInfo chooses, of this key and this record, other first Finder
+/// bytes. The only error is want of memory.
 pub fn patch_set_f_info<B: Blocks>(
     alloc: Global,
     below: &B,
@@ -61,11 +62,11 @@ pub fn patch_set_f_info<B: Blocks>(
     requires sound { AreBlocksSound (B.total below.now) (B.blocks below.now) }
     requires nodes { IsCatalogFile runs.now (B.total below.now) (B.blocks below.now) }
     requires mdb { mdb.now ≡ mdb_in (B.blocks below.now) }
-    requires name { IsTrue (is_item_name key.now.name) }
-    requires there { IsFileUnder key.now (catalog_in (B.blocks below.now)) }
+    requires chosen { IsFileChosenBy to_set_f_info (B.blocks below.now) key.now file.now }
     ensures makes { SetsFInfo result key.now file.now info.now now (B.blocks below.now) }
     ensures within { IfOk result (λ patch. AreWithin (changes patch) (B.total below.now)) }
 {
+    choice_stands();
     set_f_info_makes();
     let changed = FileRecord {
         finder_info: *info,
@@ -81,7 +82,8 @@ pub fn patch_set_f_info<B: Blocks>(
     )
 }
 
-/// The patch that gives a file, of this key and this record, other dates and Finder bytes. The only error is want of memory.
+/// The patch that gives a file that SetCatInfo chooses, of this key and this record, other dates and Finder
+/// bytes. The only error is want of memory.
 pub fn patch_set_file_info<B: Blocks>(
     alloc: Global,
     below: &B,
@@ -95,11 +97,11 @@ pub fn patch_set_file_info<B: Blocks>(
     requires sound { AreBlocksSound (B.total below.now) (B.blocks below.now) }
     requires nodes { IsCatalogFile runs.now (B.total below.now) (B.blocks below.now) }
     requires mdb { mdb.now ≡ mdb_in (B.blocks below.now) }
-    requires name { IsTrue (is_item_name key.now.name) }
-    requires there { IsFileUnder key.now (catalog_in (B.blocks below.now)) }
+    requires chosen { IsFileChosenBy to_set_cat_info (B.blocks below.now) key.now file.now }
     ensures makes { SetsFileInfo result key.now file.now settings.now now (B.blocks below.now) }
     ensures within { IfOk result (λ patch. AreWithin (changes patch) (B.total below.now)) }
 {
+    choice_stands();
     set_cat_info_makes();
     let (finder_info, extended_finder_info) = halves(&settings.info);
     let changed = FileRecord {
@@ -120,7 +122,8 @@ pub fn patch_set_file_info<B: Blocks>(
     )
 }
 
-/// The patch that gives a folder, of this key and this record, other dates and Finder bytes. The only error is want of memory.
+/// The patch that gives a folder that SetCatInfo chooses, of this key and this record, other dates and Finder
+/// bytes. The only error is want of memory.
 pub fn patch_set_folder_info<B: Blocks>(
     alloc: Global,
     below: &B,
@@ -134,11 +137,11 @@ pub fn patch_set_folder_info<B: Blocks>(
     requires sound { AreBlocksSound (B.total below.now) (B.blocks below.now) }
     requires nodes { IsCatalogFile runs.now (B.total below.now) (B.blocks below.now) }
     requires mdb { mdb.now ≡ mdb_in (B.blocks below.now) }
-    requires name { IsTrue (is_item_name key.now.name) }
-    requires there { IsFolderUnder key.now (catalog_in (B.blocks below.now)) }
+    requires chosen { IsFolderChosenBy to_set_cat_info (B.blocks below.now) key.now folder.now }
     ensures makes { SetsFolderInfo result key.now folder.now settings.now now (B.blocks below.now) }
     ensures within { IfOk result (λ patch. AreWithin (changes patch) (B.total below.now)) }
 {
+    choice_stands();
     set_cat_info_makes();
     let (finder_info, extended_finder_info) = halves(&settings.info);
     let changed = DirRecord {
@@ -159,7 +162,7 @@ pub fn patch_set_folder_info<B: Blocks>(
     )
 }
 
-/// The patch that locks a file, of this key and this record, or unlocks it. The only error is want of memory.
+/// The patch that locks a file that SetFLock chooses, of this key and this record, or unlocks it. The only error is want of memory.
 pub fn patch_set_lock<B: Blocks>(
     alloc: Global,
     below: &B,
@@ -173,11 +176,11 @@ pub fn patch_set_lock<B: Blocks>(
     requires sound { AreBlocksSound (B.total below.now) (B.blocks below.now) }
     requires nodes { IsCatalogFile runs.now (B.total below.now) (B.blocks below.now) }
     requires mdb { mdb.now ≡ mdb_in (B.blocks below.now) }
-    requires name { IsTrue (is_item_name key.now.name) }
-    requires there { IsFileUnder key.now (catalog_in (B.blocks below.now)) }
+    requires chosen { IsFileChosenBy file_to_change (B.blocks below.now) key.now file.now }
     ensures makes { SetsLock result locked key.now file.now now (B.blocks below.now) }
     ensures within { IfOk result (λ patch. AreWithin (changes patch) (B.total below.now)) }
 {
+    choice_stands();
     set_lock_makes();
     let changed = FileRecord {
         flags: file.flags.with_lock(locked),

@@ -1,8 +1,9 @@
 -- A tree whose header record was written with its two counts right.
-use Rattle.std.proofs.Common.{◌≡◌, ◌≢◌, ℕ, ◌≤◌, Bool, List, [], ◌∷◌, length, get_or, set, Option, None, refl, sym, ap, ◌∙◌, subst, arith, cond}
+use Rattle.std.proofs.Common.{◌≡◌, ◌≢◌, ℕ, ◌*◌, ◌<◌, ◌≤◌, Bool, List, [], ◌∷◌, length, get_or, set, Option, None, refl, sym, ap, ◌∙◌, subst, arith, cond}
 use Rattle.std.specs.Prelude.{Ok, Result, ◌↔◌, Some, true, false, nat_le}
 use Rattle.std.specs.List.{list_all}
 use Rattle.std.proofs.lemmas.List.{length-set, get_or-set_same, get_or-set_other}
+use Rattle.std.proofs.lemmas.Bool.{and_parts, le-leb, true≢false}
 use borrow.Author.Tests.{leb-true}
 use Rattle.hfs_node.specs.declared.node.Node.{Node}
 use Rattle.hfs_node.specs.declared.fault.NodeFault.{NodeFault}
@@ -17,9 +18,12 @@ use Rattle.hfs_btree.specs.Sound.{HasStructure, IsMapNode, IsRight, IsOrdered}
 use Rattle.hfs_btree.specs.Pairs.{Rises}
 use Rattle.hfs_btree_checks.specs.Order.{first_node, has_keys, key_fault, order_fault}
 use Rattle.hfs_btree_checks.specs.Counts.{in_field}
+use Rattle.hfs_btree_checks.specs.Shape.{is_header_node, has_header, structure_fault}
+use Rattle.hfs_btree_checks.proofs.ShapeWhole.{record-parts, headless}
 use Rattle.hfs_btree_checks.proofs.OrderLawLemmas.{order-law}
 use Rattle.hfs_btree_edits.specs.Stored.{HasHeaderPut, IsSame}
 use Rattle.hfs_btree_edits.proofs.StoredLemmas.{HasNewHeader, IsRecounted}
+use Rattle.hfs_btree_edits.proofs.FewRecords.{few-pairs}
 use Rattle.hfs_btree_edits.proofs.HeadedLemmas.{free-is, map_nodes-is}
 use Rattle.hfs_btree_edits.proofs.ReheadedLemmas.{recounted-turn, recounted-content, recounted-structure, recounted-keys}
 use Rattle.hfs_repair.specs.Recounted.{IsRecountOf}
@@ -166,3 +170,27 @@ in-field-least false n r small e = absurd (let no = e in cc)
 pub in-field-small : (n r : ℕ) → Some r ≡ in_field n → r ≤ 4294967295
 unfolding in_field
 in-field-small n r e = in-field-least (nat_le n 4294967295) n r (λ h. leb-true n 4294967295 h) e
+
+-- ---- the number of records fits its field
+
+-- the tree's nodes lie in its file
+nodes-fit : {K : Type 0} (g : Ghosts K) (size : ℕ) (nodes : Store) → structure_fault g size nodes ≡ None → 512 * (header_in nodes).nodes ≤ size
+nodes-fit g size nodes none = elim (has_header g size nodes) as (λ (b : Bool). has_header g size nodes ≡ b → 512 * (header_in nodes).nodes ≤ size) [
+  | true ↦ λ e. (record-parts g size (header_in nodes) (and_parts (is_header_node (node_in nodes 0)) _ e).1).3
+  | false ↦ λ e. absurd (let no = sym (headless g size nodes e) ∙ none in cc)
+] refl
+
+field-by : (b : Bool) (n : ℕ) → nat_le n 4294967295 ≡ b → n ≤ 4294967295 → cond b (Some n) None ≡ Some n
+field-by true n e small = refl
+field-by false n e small = absurd (true≢false (sym (le-leb n 4294967295 small) ∙ e))
+
+field-of : (n : ℕ) → n ≤ 4294967295 → in_field n ≡ Some n
+unfolding in_field
+field-of n small = field-by (nat_le n 4294967295) n refl small
+
+pub records-fit : {K : Type 0} (g : Ghosts K) (size : ℕ) (nodes : Store) → structure_fault g size nodes ≡ None → HasStructure g nodes → size < 4294967296
+    → in_field (length (tree_content g nodes)) ≡ Some (length (tree_content g nodes))
+records-fit g size nodes none structure small =
+    let few = few-pairs g nodes structure in
+    let fit = nodes-fit g size nodes none in
+    field-of (length (tree_content g nodes)) (omega (arith, few, fit, small))

@@ -78,7 +78,7 @@ pub(crate) fn right_counts<K: Key, N: Nodes>(
         Err(TreeFault::At(_)) => return Ok(None),
     };
     let Some(records) = counts.records else {
-        return Err(AllocError);
+        unreachable!()
     };
     let header = counts.header;
     let free_nodes = counts.free_nodes;

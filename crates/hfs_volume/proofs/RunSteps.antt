@@ -1,16 +1,31 @@
 -- Calls that are made one after the other.
-use Rattle.std.proofs.Common.{ℕ, ◌≤◌, List, [], ◌++◌, length, drop, refl, sym, subst, append-nil}
-use Rattle.std.proofs.lemmas.List.{drop_all}
+use Rattle.std.proofs.Common.{◌≡◌, ℕ, ◌+◌, ◌<◌, ◌≤◌, List, [], ◌∷◌, ◌++◌, length, get_or, take, refl, sym, subst, arith}
+use Rattle.std.specs.Prelude.{Result, Ok, Err, OnErr}
+use Rattle.std.proofs.lemmas.List.{take_all, take_more}
 use Rattle.hfs_model.specs.declared.call.Call.{Call}
 use Rattle.hfs_model.specs.declared.reply.Reply.{Reply}
-use Rattle.hfs_volume.specs.Steps.{AreMade}
+use Rattle.hfs_volume.specs.Steps.{AreFirstMade, AreMade, IsMade}
 
--- what the other calls make of this image follows what was made of the first one
-abbrev pub IsMadeBefore : List ℕ → List Call → List Reply → List ℕ → List Call → Type 0
-IsMadeBefore first calls replies image left = (more : List Reply) (last : List ℕ) → AreMade image left more last → AreMade first calls (replies ++ more) last
+-- one call more
+more_made : (first : List ℕ) (calls : List Call) (replies : List Reply) (image : List ℕ) (c : Call) (reply : Reply) (next : List ℕ) → AreMade first calls replies image → IsMade image c reply next
+    → AreMade first (calls ++ c ∷ []) (replies ++ reply ∷ []) next
+more_made first [] [] image c reply next made is = (next, subst (λ (i : List ℕ). IsMade i c reply next) (sym made) is, refl)
+more_made first [] (r ∷ replies) image c reply next made is = absurd made
+more_made first (d ∷ calls) [] image c reply next made is = absurd made
+more_made first (d ∷ calls) (r ∷ replies) image c reply next made is = (made.0, made.1, more_made made.0 calls replies image c reply next made.2 is)
+
+pub next_made : (first : List ℕ) (calls : List Call) (replies : List Reply) (image : List ℕ) (n : ℕ) (c : Call) (reply : Reply) (next : List ℕ) → n < length calls → get_or calls n c ≡ c
+    → AreMade first (take n calls) replies image → IsMade image c reply next → AreMade first (take (n + 1) calls) (replies ++ reply ∷ []) next
+next_made first calls replies image n c reply next lt at made is =
+    subst (λ (cs : List Call). AreMade first cs (replies ++ reply ∷ []) next) (sym (take_more calls n c lt))
+    (subst (λ (d : Call). AreMade first (take n calls ++ d ∷ []) (replies ++ reply ∷ []) next) (sym at) (more_made first (take n calls) replies image c reply next made is))
 
 -- where no calls are left, all were made
-pub none_more : (first : List ℕ) (calls : List Call) (replies : List Reply) (image : List ℕ) (n : ℕ) → length calls ≤ n → IsMadeBefore first calls replies image (drop n calls) → AreMade first calls replies image
-none_more first calls replies image n past made =
-    subst (λ (rs : List Reply). AreMade first calls rs image) (append-nil replies)
-    (made [] image (subst (λ (left : List Call). AreMade image left [] image) (sym (drop_all n calls past)) refl))
+pub none_more : (first : List ℕ) (calls : List Call) (replies : List Reply) (image : List ℕ) (n : ℕ) → length calls ≤ n → AreMade first (take n calls) replies image → AreMade first calls replies image
+none_more first calls replies image n past made = subst (λ (cs : List Call). AreMade first cs replies image) (take_all n calls past) made
+
+-- memory was wanting behind one call more
+pub first_made : {T E : Type 0} (result : Result T E) (first : List ℕ) (calls : List Call) (replies : List Reply) (next : List ℕ) (n : ℕ) → n < length calls → AreMade first (take (n + 1) calls) replies next
+    → OnErr result (AreFirstMade calls first next)
+first_made (Ok x) first calls replies next n lt made = tt
+first_made (Err e) first calls replies next n lt made = record { count = n + 1; within = omega (arith, lt); replies = replies; made = made }

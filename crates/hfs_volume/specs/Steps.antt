@@ -1,5 +1,5 @@
 -- What the edit of a call makes of an image.
-use Rattle.std.specs.Prelude.{◌≡◌, ℕ, List, [], ◌∷◌, Result, Ok}
+use Rattle.std.specs.Prelude.{◌≡◌, ℕ, ◌≤◌, List, [], ◌∷◌, length, take, Result, Ok}
 use Rattle.std.proofs.Common.{Vec, Global}
 use Rattle.hfs_blocks.specs.Blocks.{block_at, block_count}
 use Rattle.hfs_model.specs.declared.call.Call.{Call}
@@ -61,6 +61,13 @@ AreMade image [] [] last = image ≡ last
 AreMade image [] (reply ∷ replies) last = ⊥
 AreMade image (c ∷ cs) [] last = ⊥
 AreMade image (c ∷ cs) (reply ∷ replies) last = (next : List ℕ) × IsMade image c reply next × AreMade next cs replies last
+
+-- the first of the calls, so many, were made of the old image one after the other, and leave the new one
+pub record AreFirstMade (cs : List Call) (old new : List ℕ) : Type 0 where
+  pub count : ℕ
+  pub within : count ≤ length cs
+  pub replies : List Reply
+  pub made : AreMade old (take count cs) replies new
 
 -- the calls have these replies of the old image, and leave the new one
 abbrev pub AreRepliesTo : List Call → List ℕ → List ℕ → Vec Reply Global → Type 0

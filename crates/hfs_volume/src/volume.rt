@@ -17,7 +17,7 @@ ghost use Rattle.hfs_volume.specs.Image.{IsSameBeside};
 ghost use Rattle.hfs_volume.specs.Opening.{opened_fork};
 ghost use Rattle.hfs_volume.specs.Saving.{WritesAll, BreaksOff};
 ghost use Rattle.hfs_volume.specs.Serving.{AreEntriesIn, entries_in, fork_in, fork_reply};
-ghost use Rattle.hfs_volume.specs.Steps.{IsEditIn, IsEditReply, IsImageAfter, IsReplyTo, AreRepliesTo};
+ghost use Rattle.hfs_volume.specs.Steps.{IsEditIn, IsEditReply, IsImageAfter, IsReplyTo, AreRepliesTo, AreFirstMade};
 ghost use Rattle.hfs_queries.specs.Told.{IsCatalog};
 ghost use Rattle.hfs_volume.specs.Mounted.{IsMounted, AreForksIn};
 
@@ -133,10 +133,12 @@ impl Volume {
         self.change(alloc, call)
     }
 
-    /// Answers calls one after the other: the replies in order. The only error is want of memory, where the calls
-    /// before the one that it met have been made.
+    /// Answers calls one after the other: the replies in order. The only error is want of memory, where the first of the calls
+    /// have been made, and no others.
     pub fn run(&mut self, alloc: Global, calls: &[Call]) -> Result<Vec<Reply>, AllocError>
         ensures made { IfOk result (AreRepliesTo calls.now self.old.current self.new.current) }
+        ensures broken { OnErr result
+            (AreFirstMade calls.now self.old.current self.new.current) }
         ensures base { self.new.base ≡ self.old.base }
     {
         let mut replies = Vec::new(alloc);

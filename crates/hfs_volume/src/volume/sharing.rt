@@ -30,6 +30,15 @@ impl Volume {
         self.image.base()
     }
 
+    /// The bytes as they were mounted are sound, and as they are now they agree with those, and so are sound, too: whatever
+    /// calls were made. It does nothing.
+    pub fn agrees_with_base(&self)
+        ensures base { IsSound self.now.base }
+        ensures agrees { Agrees self.now.base self.now.current }
+    {
+        let _image = &self.image;
+    }
+
     /// The volume with its bytes as they are now as those that it was mounted with: no block is changed. Where memory is wanting
     /// the volume is handed back.
     pub fn mounted_anew(self, alloc: Global) -> Result<Volume, AllocFailed<Volume>>

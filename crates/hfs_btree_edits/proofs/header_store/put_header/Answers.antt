@@ -1,7 +1,13 @@
 use Rattle.std.proofs.Common.{◌≡◌, ◌≤◌, ◌∙◌, subst, ap, ℕ, List, [], length, get_or, set, set-set, sym}
-use Rattle.hfs_btree.specs.Tree.{records_of}
-use Rattle.hfs_btree_edits.proofs.StoreLemmas.{fits-set, fits-as, header-put, some-records, on-ok}
+use Rattle.hfs_btree.specs.Tree.{records_in, records_of}
+use Rattle.hfs_btree_edits.proofs.StoreLemmas.{some-of, fits-set, fits-as, header-put, some-records, on-ok}
+use Rattle.hfs_btree_edits.proofs.DecodesLemmas.{decodes-some}
 use Rattle.hfs_btree_edits.proofs.header_store.put_header.Goals as goal
+
+pub load-requires : goal.load-requires
+load-requires g c =
+    let nodes = g.S.Nodes.nodes c.args.nodes.now in
+    decodes-some nodes 0 (some-of (records_in nodes 0) c.requires.long)
 
 pub rewritten-entry-requires : goal.rewritten-entry-requires
 rewritten-entry-requires g c =

@@ -1,10 +1,10 @@
 use Rattle.std.proofs.Common.{◌∙◌, ap, ℕ, List, length}
 use Rattle.hfs_btree_edits.proofs.StoreLemmas.{fits-set, fits-as, on-ok}
-use Rattle.hfs_btree_edits.proofs.MapWalkLemmas.{bit-within, bit-some, bit-put}
+use Rattle.hfs_btree_edits.proofs.MapWalkLemmas.{bit-within, bit-decodes, bit-some, bit-put}
 use Rattle.hfs_btree_edits.proofs.map_bit.put_bit.Goals as goal
 
 pub load-requires : goal.load-requires
-load-requires g c = bit-within (g.S.Nodes.nodes c.args.nodes.now) c.args.at.node c.args.at.entry c.args.at.bit c.requires
+load-requires g c = bit-decodes (g.S.Nodes.nodes c.args.nodes.now) c.args.at.node c.args.at.entry c.args.at.bit c.requires
 
 pub store-requires-clause-within : goal.store-requires-clause-within
 store-requires-clause-within g c = bit-within (g.S.Nodes.nodes c.args.nodes.now) c.args.at.node c.args.at.entry c.args.at.bit c.requires

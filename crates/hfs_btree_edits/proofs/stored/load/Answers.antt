@@ -1,8 +1,18 @@
 use Rattle.std.proofs.Common.{sym, ap, ◌∙◌}
 use Rattle.std.specs.Prelude.{Ok}
 use Rattle.hfs_btree.proofs.DecodedLemmas.{read-in}
+use Rattle.hfs_btree_edits.proofs.DecodesLemmas.{decoded, decodes-within}
 use Rattle.hfs_btree_edits.proofs.stored.load.Goals as goal
 
-pub returns-in_ok-copy-in-Ok-clause-node : goal.returns-in_ok-copy-in-Ok-clause-node
-returns-in_ok-copy-in-Ok-clause-node g c =
-    sym (read-in (g.N.Nodes.nodes c.args.nodes.now) c.args.n _ (Ok c.in-Ok.node) c.read.ensures c.in-Ok.ensures.node) ∙ ap Ok (sym c.in_ok-copy-in-Ok.ensures)
+pub read-requires : goal.read-requires
+read-requires g c = decodes-within (g.N.Nodes.nodes c.args.nodes.now) c.args.n c.requires
+
+pub unreachable-requires : goal.unreachable-requires
+unreachable-requires g c =
+    let nodes = g.N.Nodes.nodes c.args.nodes.now in
+    let node = decoded nodes c.args.n c.requires in
+    c.in_default.not-Ok node.0 (read-in nodes c.args.n _ c.view.result c.read.ensures c.view.ensures.node ∙ node.1)
+
+pub returns-clause-node : goal.returns-clause-node
+returns-clause-node g c =
+    sym (read-in (g.N.Nodes.nodes c.args.nodes.now) c.args.n _ (Ok c.in-Ok.node) c.read.ensures c.in-Ok.ensures.node) ∙ ap Ok (sym c.in_ok-copy.ensures)

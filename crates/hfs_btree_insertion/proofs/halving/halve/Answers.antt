@@ -1,7 +1,11 @@
 use Rattle.std.proofs.Common.{ap}
 use Rattle.hfs_node.specs.declared.node.Node.{Node}
 use Rattle.hfs_btree_insertion.proofs.HalfRead.{first-fits, second-fits}
+use Rattle.hfs_btree_edits.proofs.DecodesLemmas.{decodes-within}
 use Rattle.hfs_btree_insertion.proofs.halving.halve.Goals as goal
+
+pub store-requires-clause-within : goal.store-requires-clause-within
+store-requires-clause-within g c = decodes-within (g.S.Nodes.nodes c.args.nodes.now) c.args.n c.requires.first.1
 
 pub store-requires-clause-fits : goal.store-requires-clause-fits
 store-requires-clause-fits g c =

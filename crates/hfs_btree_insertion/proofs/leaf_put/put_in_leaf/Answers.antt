@@ -1,8 +1,10 @@
 use Rattle.std.proofs.Common.{◌≤◌, ℕ, List, sym, ap, arith, length}
 use Rattle.hfs_btree.specs.Tree.{records_in}
 use Rattle.hfs_btree.proofs.DecodedLemmas.{records-read}
+use Rattle.hfs_btree.proofs.DescentLemmas.{leaf-node}
 use Rattle.hfs_btree.proofs.FoundLemmas.{found, found-entries}
 use Rattle.hfs_btree_insertion.proofs.PutWhole.{put-whole, mid-long, mid-records, from-read}
+use Rattle.hfs_btree_edits.proofs.DecodesLemmas.{decodes-as}
 use Rattle.hfs_btree_edits.proofs.StoreLemmas.{on-ok}
 use Rattle.hfs_btree_insertion.proofs.leaf_put.put_in_leaf.Goals as goal
 
@@ -10,6 +12,13 @@ pub place_in-place-requires : goal.place_in-place-requires
 place_in-place-requires g c =
     let nodes = g.S.Nodes.nodes c.args.nodes.now in
     found-entries g.K.Key g.met.K.Key.total nodes c.args.key.now c.requires.sound c.requires.some c.args.n c.requires.found c.args.bytes.now c.requires.read
+
+pub put_record-requires-clause-node : goal.put_record-requires-clause-node
+put_record-requires-clause-node g c =
+    let nodes = g.S.Nodes.nodes c.args.nodes.now in
+    let at = found g.K.Key g.met.K.Key.total nodes c.args.key.now c.requires.sound c.requires.some c.args.n c.requires.found c.args.bytes.now c.requires.read in
+    let leaf = leaf-node g.K.Key nodes c.requires.sound.structure at.before c.args.n at.behind at.split in
+    decodes-as nodes c.args.n leaf.1.value leaf.1.decodes
 
 pub put_record-requires-clause-place : goal.put_record-requires-clause-place
 put_record-requires-clause-place g c =

@@ -1,6 +1,10 @@
 use Rattle.hfs_btree_edits.proofs.StoreLemmas.{on-ok}
 use Rattle.hfs_btree_insertion.proofs.PutWhole.{record-put, fits-insert, place-as}
+use Rattle.hfs_btree_edits.proofs.DecodesLemmas.{decodes-within}
 use Rattle.hfs_btree_insertion.proofs.leaf_put.put_record.Goals as goal
+
+pub store-requires-clause-within : goal.store-requires-clause-within
+store-requires-clause-within g c = decodes-within (g.S.Nodes.nodes c.args.nodes.now) c.args.n c.requires.node
 
 pub insert-requires : goal.insert-requires
 insert-requires g c = place-as (g.S.Nodes.nodes c.args.nodes.now) c.args.n c.args.place c.in_ok-node.node c.in_ok-node.ensures.node c.requires.place

@@ -1,7 +1,7 @@
 use Rattle.std.proofs.Common.{arith}
 use Rattle.hfs_btree_edits.proofs.StoreLemmas.{on-ok}
 use Rattle.hfs_btree_insertion.proofs.Cutting.{parent-within}
-use Rattle.hfs_btree_insertion.proofs.CutCalls.{index-there, place-small, child-there, child-short, child-entry, first-ready, place-ready, right-ready, cut-by}
+use Rattle.hfs_btree_insertion.proofs.CutCalls.{index-there, parent-decodes, place-small, child-there, child-short, child-entry, first-ready, place-ready, right-ready, cut-by}
 use Rattle.hfs_btree_insertion.proofs.level_cut.cut_child.Goals as goal
 
 pub child_named-n-requires-clause-within : goal.child_named-n-requires-clause-within
@@ -33,8 +33,8 @@ overflow_add-place g c =
     let small = place-small g.K.Key (g.S.Nodes.nodes c.args.nodes.now) c.requires.sound c.args.above c.args.parent c.args.place c.requires.branch in
     omega (arith, small)
 
-pub put_record-requires-clause-within : goal.put_record-requires-clause-within
-put_record-requires-clause-within g c = parent-within g.K.Key (g.S.Nodes.nodes c.args.nodes.now) c.requires.sound c.args.above c.args.parent c.args.place c.requires.branch
+pub put_record-requires-clause-node : goal.put_record-requires-clause-node
+put_record-requires-clause-node g c = parent-decodes g.K.Key (g.S.Nodes.nodes c.args.nodes.now) c.requires.sound c.args.above c.args.parent c.args.place c.requires.branch
 
 pub halve-requires-clause-first : goal.halve-requires-clause-first
 halve-requires-clause-first g c =

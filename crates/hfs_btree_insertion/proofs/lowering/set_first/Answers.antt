@@ -3,7 +3,11 @@ use Rattle.std.specs.Prelude.{true}
 use Rattle.hfs_node.specs.Node.{size_of}
 use Rattle.hfs_node.proofs.SizeLemmas.{size_of-set}
 use Rattle.hfs_btree.specs.Tree.{records_in, records_of}
+use Rattle.hfs_btree_edits.proofs.DecodesLemmas.{decodes-some}
 use Rattle.hfs_btree_insertion.proofs.lowering.set_first.Goals as goal
+
+pub load-requires : goal.load-requires
+load-requires g c = decodes-some (g.S.Nodes.nodes c.args.nodes.now) c.args.n c.requires.some
 
 pub store-requires-clause-fits : goal.store-requires-clause-fits
 store-requires-clause-fits g c =

@@ -5,7 +5,11 @@ use Rattle.hfs_node.proofs.SizeLemmas.{size_of-remove}
 use Rattle.hfs_scans.proofs.ElementLemmas.{each-at}
 use Rattle.hfs_btree.specs.Tree.{records_in, records_of}
 use Rattle.hfs_btree_removal.proofs.PartsLess.{each-remove, length-remove'}
+use Rattle.hfs_btree_edits.proofs.DecodesLemmas.{decodes-some}
 use Rattle.hfs_btree_removal.proofs.detach.take_record.Goals as goal
+
+pub load-requires : goal.load-requires
+load-requires g c = let place = c.requires.place in decodes-some (g.S.Nodes.nodes c.args.nodes.now) c.args.step.now.node (omega (arith, place))
 
 pub store-requires-clause-fits : goal.store-requires-clause-fits
 store-requires-clause-fits g c =

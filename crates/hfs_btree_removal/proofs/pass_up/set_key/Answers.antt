@@ -3,7 +3,11 @@ use Rattle.std.specs.Prelude.{true}
 use Rattle.hfs_node.specs.Node.{size_of}
 use Rattle.hfs_node.proofs.SizeLemmas.{size_of-set}
 use Rattle.hfs_btree.specs.Tree.{records_in, records_of}
+use Rattle.hfs_btree_edits.proofs.DecodesLemmas.{decodes-some}
 use Rattle.hfs_btree_removal.proofs.pass_up.set_key.Goals as goal
+
+pub load-requires : goal.load-requires
+load-requires g c = let place = c.requires.place in decodes-some (g.S.Nodes.nodes c.args.nodes.now) c.args.step.now.node (omega (arith, place))
 
 pub store-requires-clause-fits : goal.store-requires-clause-fits
 store-requires-clause-fits g c =

@@ -5,8 +5,8 @@ use Rattle.hfs_btree_removal.proofs.unlink.unlink_all.Goals as goal
 pub loop-i-init : goal.loop-i-init
 loop-i-init g c = record { done = done-none (g.S.Nodes.nodes c.args.nodes.now) c.args.chain.now c.requires; kept = refl }
 
-pub unlink-requires-clause-within : goal.unlink-requires-clause-within
-unlink-requires-clause-within g c = (next-can (g.S.Nodes.nodes c.args.nodes.now) c.args.chain.now c.loop-i.i c.loop-i.last.left c.loop-i.last.right (g.S.Nodes.nodes c.loop-i.nodes) c.loop-i.invariant.done c.loop-i-test.true).within
+pub unlink-requires-clause-node : goal.unlink-requires-clause-node
+unlink-requires-clause-node g c = (next-can (g.S.Nodes.nodes c.args.nodes.now) c.args.chain.now c.loop-i.i c.loop-i.last.left c.loop-i.last.right (g.S.Nodes.nodes c.loop-i.nodes) c.loop-i.invariant.done c.loop-i-test.true).node
 
 pub unlink-requires-clause-left : goal.unlink-requires-clause-left
 unlink-requires-clause-left g c = (next-can (g.S.Nodes.nodes c.args.nodes.now) c.args.chain.now c.loop-i.i c.loop-i.last.left c.loop-i.last.right (g.S.Nodes.nodes c.loop-i.nodes) c.loop-i.invariant.done c.loop-i-test.true).left

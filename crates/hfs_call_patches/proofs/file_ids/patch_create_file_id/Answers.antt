@@ -5,7 +5,13 @@ use Rattle.hfs_call_patches.specs.Settings.{IsBody}
 use Rattle.hfs_call_patches.proofs.FileIdPatches.{create_made}
 use Rattle.hfs_call_patches.proofs.Opened.{tree_open, root_open, body_open, absent_open, inside_open}
 use Rattle.hfs_call_patches.proofs.Made.{if_ok}
+use Rattle.hfs_call_patches.proofs.ChosenItems.{file_named, file_under}
 use Rattle.hfs_call_patches.proofs.file_ids.patch_create_file_id.Goals as goal
+
+pub add_file_thread-requires-clause-name : goal.add_file_thread-requires-clause-name
+add_file_thread-requires-clause-name g c =
+    let below = c.args.below.now in
+    file_named (g.B.Blocks.total below) (g.B.Blocks.blocks below) c.requires.sound _ c.args.key.now c.args.file.now c.requires.chosen.chosen
 
 pub add_file_thread-requires-clause-tree : goal.add_file_thread-requires-clause-tree
 add_file_thread-requires-clause-tree g c =
@@ -21,7 +27,8 @@ add_file_thread-requires-clause-root g c =
 pub add_file_thread-requires-clause-there : goal.add_file_thread-requires-clause-there
 add_file_thread-requires-clause-there g c =
     let below = c.args.below.now in
-    body_open (g.B.Blocks.blocks below) _ c.open_catalog-nodes.ensures.nodes (IsBody is_file) c.args.key.now c.requires.there
+    body_open (g.B.Blocks.blocks below) _ c.open_catalog-nodes.ensures.nodes (IsBody is_file) c.args.key.now
+    (file_under (g.B.Blocks.total below) (g.B.Blocks.blocks below) c.requires.sound _ c.args.key.now c.args.file.now c.requires.chosen.chosen c.choice_stands.ensures)
 
 pub add_file_thread-requires-clause-absent : goal.add_file_thread-requires-clause-absent
 add_file_thread-requires-clause-absent g c =

@@ -5,7 +5,13 @@ use Rattle.hfs_call_patches.specs.Settings.{IsBody}
 use Rattle.hfs_call_patches.proofs.FileIdPatches.{delete_made}
 use Rattle.hfs_call_patches.proofs.Opened.{tree_open, records_open, body_open}
 use Rattle.hfs_call_patches.proofs.Made.{if_ok}
+use Rattle.hfs_call_patches.proofs.ChosenItems.{file_named, file_under}
 use Rattle.hfs_call_patches.proofs.file_ids.patch_delete_file_id.Goals as goal
+
+pub drop_file_thread-requires-clause-name : goal.drop_file_thread-requires-clause-name
+drop_file_thread-requires-clause-name g c =
+    let below = c.args.below.now in
+    file_named (g.B.Blocks.total below) (g.B.Blocks.blocks below) c.requires.sound _ c.args.key.now c.args.file.now c.requires.chosen.chosen
 
 pub drop_file_thread-requires-clause-tree : goal.drop_file_thread-requires-clause-tree
 drop_file_thread-requires-clause-tree g c =
@@ -21,7 +27,8 @@ drop_file_thread-requires-clause-records g c =
 pub drop_file_thread-requires-clause-there : goal.drop_file_thread-requires-clause-there
 drop_file_thread-requires-clause-there g c =
     let below = c.args.below.now in
-    body_open (g.B.Blocks.blocks below) _ c.open_catalog-nodes.ensures.nodes (IsBody is_file) c.args.key.now c.requires.there
+    body_open (g.B.Blocks.blocks below) _ c.open_catalog-nodes.ensures.nodes (IsBody is_file) c.args.key.now
+    (file_under (g.B.Blocks.total below) (g.B.Blocks.blocks below) c.requires.sound _ c.args.key.now c.args.file.now c.requires.chosen.chosen c.choice_stands.ensures)
 
 pub returns-clause-makes : goal.returns-clause-makes
 returns-clause-makes g c =

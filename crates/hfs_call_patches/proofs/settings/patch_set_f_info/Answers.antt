@@ -1,6 +1,17 @@
 use Rattle.hfs_blocks.specs.Layers.{changes, over}
 use Rattle.hfs_call_patches.proofs.Made.{if_ok, f_info_made}
+use Rattle.hfs_call_patches.proofs.ChosenItems.{file_named, file_under}
 use Rattle.hfs_call_patches.proofs.settings.patch_set_f_info.Goals as goal
+
+pub patch_record-requires-clause-name : goal.patch_record-requires-clause-name
+patch_record-requires-clause-name g c =
+    let below = c.args.below.now in
+    file_named (g.B.Blocks.total below) (g.B.Blocks.blocks below) c.requires.sound _ c.args.key.now c.args.file.now c.requires.chosen.chosen
+
+pub patch_record-requires-clause-there : goal.patch_record-requires-clause-there
+patch_record-requires-clause-there g c =
+    let below = c.args.below.now in
+    file_under (g.B.Blocks.total below) (g.B.Blocks.blocks below) c.requires.sound _ c.args.key.now c.args.file.now c.requires.chosen.chosen c.choice_stands.ensures
 
 pub returns-clause-makes : goal.returns-clause-makes
 returns-clause-makes g c =

@@ -1,12 +1,13 @@
 use Rattle.std.proofs.Common.{◌∙◌, ◌≤◌, refl, ap, ℕ, List, length, arith}
 use Rattle.hfs_btree.specs.declared.header.Header.{Header}
 use Rattle.hfs_btree.proofs.DecodedLemmas.{decoded-within}
+use Rattle.hfs_btree_edits.proofs.DecodesLemmas.{decodes-as}
 use Rattle.hfs_btree_edits.proofs.StoreLemmas.{fits-set, fits-as, header-put, some-records, stored}
 use Rattle.hfs_repair.proofs.Recounts.{is-recount}
 use Rattle.hfs_repair.proofs.right_counts.head_with.Goals as goal
 
 pub load-requires : goal.load-requires
-load-requires g c = decoded-within (g.N.Nodes.nodes c.args.nodes.now) 0 c.requires.structure.header.value c.requires.structure.header.decodes
+load-requires g c = decodes-as (g.N.Nodes.nodes c.args.nodes.now) 0 c.requires.structure.header.value c.requires.structure.header.decodes
 
 long : (m : ℕ) → 106 ≤ m → 30 ≤ m
 long m h = omega arith

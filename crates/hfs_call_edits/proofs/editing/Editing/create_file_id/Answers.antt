@@ -13,6 +13,14 @@ use Rattle.hfs_call_patches.proofs.ChosenFileLemmas.{file_id_is}
 use Rattle.hfs_call_edits.proofs.Wanting.{enough_nodes, full_edit, refused_edit}
 use Rattle.hfs_call_edits.proofs.editing.Editing.create_file_id.Goals as goal
 
+pub patch_create_file_id-requires-clause-chosen : goal.patch_create_file_id-requires-clause-chosen
+patch_create_file_id-requires-clause-chosen g c = record {
+  dir = c.args.dir;
+  name = c.args.name.now;
+  chosen = file_choice g.B.Blocks.blocks g.B.Blocks.total c.args.self.now c.self.inside.blocks.now c.self.view_is (λ v. to_create_file_id v c.args.dir c.args.name.now) c.in-Ok.chosen.0 c.in-Ok.chosen.1
+      c.in-Ok.ensures.choice.choice;
+}
+
 pub returns-in-Err : goal.returns-in-Err
 returns-in-Err g c =
     let old = g.B.Blocks.blocks c.args.self.now in

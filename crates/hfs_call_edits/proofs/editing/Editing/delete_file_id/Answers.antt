@@ -7,6 +7,13 @@ use Rattle.hfs_call_edits.proofs.Edited.{change_of, refusal_of, file_choice, edi
 use Rattle.hfs_call_edits.proofs.FileIdReplies.{delete_refused, delete_accepted}
 use Rattle.hfs_call_edits.proofs.editing.Editing.delete_file_id.Goals as goal
 
+pub patch_delete_file_id-requires-clause-chosen : goal.patch_delete_file_id-requires-clause-chosen
+patch_delete_file_id-requires-clause-chosen g c = record {
+  id = c.args.id;
+  chosen = file_choice g.B.Blocks.blocks g.B.Blocks.total c.args.self.now c.self.inside.blocks.now c.self.view_is (λ v. to_delete_file_id v c.args.id) c.in-Ok.chosen.0 c.in-Ok.chosen.1
+      c.in-Ok.ensures.choice;
+}
+
 pub returns-in-Err : goal.returns-in-Err
 returns-in-Err g c =
     let old = g.B.Blocks.blocks c.args.self.now in

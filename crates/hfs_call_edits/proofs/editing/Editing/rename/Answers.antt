@@ -14,6 +14,14 @@ use Rattle.hfs_call_edits.proofs.StepMade.{step_made}
 use Rattle.hfs_call_edits.proofs.Wanting.{enough_nodes, full_edit, refused_edit}
 use Rattle.hfs_call_edits.proofs.editing.Editing.rename.Goals as goal
 
+pub patch_rename-requires-clause-chosen : goal.patch_rename-requires-clause-chosen
+patch_rename-requires-clause-chosen g c = record {
+  dir = c.args.dir;
+  name = c.args.name.now;
+  new_name = c.args.new_name.now;
+  chosen = subst (λ b. IsRenameChoice (g.B.Blocks.blocks b) c.args.dir c.args.name.now c.args.new_name.now c.in-Ok.item) (sym c.self.view_is) c.in-Ok.ensures.choice;
+}
+
 pub returns-in-Err : goal.returns-in-Err
 returns-in-Err g c =
     let old = g.B.Blocks.blocks c.args.self.now in

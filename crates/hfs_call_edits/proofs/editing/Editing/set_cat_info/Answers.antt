@@ -7,6 +7,22 @@ use Rattle.hfs_call_edits.specs.Edits.{IsChosenBody}
 use Rattle.hfs_call_edits.proofs.Edited.{cat_info_refused, cat_info_accepted, change_of, refusal_of, file_choice, folder_choice, editing_now}
 use Rattle.hfs_call_edits.proofs.editing.Editing.set_cat_info.Goals as goal
 
+pub patch_set_folder_info-requires-clause-chosen : goal.patch_set_folder_info-requires-clause-chosen
+patch_set_folder_info-requires-clause-chosen g c = record {
+  dir = c.args.dir;
+  name = c.args.name.now;
+  chosen = folder_choice g.B.Blocks.blocks g.B.Blocks.total c.args.self.now c.self.inside.blocks.now c.self.view_is (λ v. to_set_cat_info v c.args.dir c.args.name.now) c.in-Ok.item.key c.in-Folder.folder
+      (subst (IsChosenBody (g.B.Blocks.blocks c.args.self.now) (to_set_cat_info (volume_in (g.B.Blocks.blocks c.args.self.now)) c.args.dir c.args.name.now) c.in-Ok.item.key) c.in-Folder.is c.in-Ok.ensures).choice;
+}
+
+pub patch_set_file_info-requires-clause-chosen : goal.patch_set_file_info-requires-clause-chosen
+patch_set_file_info-requires-clause-chosen g c = record {
+  dir = c.args.dir;
+  name = c.args.name.now;
+  chosen = file_choice g.B.Blocks.blocks g.B.Blocks.total c.args.self.now c.self.inside.blocks.now c.self.view_is (λ v. to_set_cat_info v c.args.dir c.args.name.now) c.in-Ok.item.key c.in-File.file
+      (subst (IsChosenBody (g.B.Blocks.blocks c.args.self.now) (to_set_cat_info (volume_in (g.B.Blocks.blocks c.args.self.now)) c.args.dir c.args.name.now) c.in-Ok.item.key) c.in-File.is c.in-Ok.ensures).choice;
+}
+
 pub returns-in-Err : goal.returns-in-Err
 returns-in-Err g c =
     let old = g.B.Blocks.blocks c.args.self.now in

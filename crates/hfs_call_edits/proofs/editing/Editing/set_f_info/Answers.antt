@@ -6,6 +6,14 @@ use Rattle.hfs_model.specs.Choices.{to_set_f_info}
 use Rattle.hfs_call_edits.proofs.Edited.{f_info_refused, f_info_accepted, change_of, refusal_of, file_choice, editing_now}
 use Rattle.hfs_call_edits.proofs.editing.Editing.set_f_info.Goals as goal
 
+pub patch_set_f_info-requires-clause-chosen : goal.patch_set_f_info-requires-clause-chosen
+patch_set_f_info-requires-clause-chosen g c = record {
+  dir = c.args.dir;
+  name = c.args.name.now;
+  chosen = file_choice g.B.Blocks.blocks g.B.Blocks.total c.args.self.now c.self.inside.blocks.now c.self.view_is (λ v. to_set_f_info v c.args.dir c.args.name.now) c.in-Ok.chosen.0 c.in-Ok.chosen.1
+      c.in-Ok.ensures.choice;
+}
+
 pub returns-in-Err : goal.returns-in-Err
 returns-in-Err g c =
     let old = g.B.Blocks.blocks c.args.self.now in

@@ -7,6 +7,14 @@ use Rattle.hfs_model.specs.Need.{need}
 use Rattle.hfs_call_edits.proofs.Edited.{lock_refused, lock_accepted, change_of, refusal_of, file_choice, editing_now}
 use Rattle.hfs_call_edits.proofs.editing.Editing.set_lock.Goals as goal
 
+pub patch_set_lock-requires-clause-chosen : goal.patch_set_lock-requires-clause-chosen
+patch_set_lock-requires-clause-chosen g c = record {
+  dir = c.args.dir;
+  name = c.args.name.now;
+  chosen = file_choice g.B.Blocks.blocks g.B.Blocks.total c.args.self.now c.self.inside.blocks.now c.self.view_is (λ v. file_to_change v c.args.dir c.args.name.now) c.in-Ok.chosen.0 c.in-Ok.chosen.1
+      c.in-Ok.ensures.choice;
+}
+
 none : (locked : Bool) (dir : ℕ) (name : List ℕ) (now depth : ℕ) → need (lock_call locked dir name now) depth ≡ 0
 none true dir name now depth = refl
 none false dir name now depth = refl

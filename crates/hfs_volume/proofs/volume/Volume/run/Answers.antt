@@ -1,6 +1,23 @@
--- All calls were made.
-use Rattle.hfs_volume.proofs.RunSteps.{none_more}
+-- The first of the calls were made, and at the end all of them.
+use Rattle.std.proofs.Common.{◌∙◌, ◌+◌, ◌++◌, List, [], ◌∷◌, sym, subst, take}
+use Rattle.hfs_model.specs.declared.reply.Reply.{Reply}
+use Rattle.hfs_volume.specs.Steps.{AreMade}
+use Rattle.hfs_volume.proofs.RunSteps.{first_made, next_made, none_more}
 use Rattle.hfs_volume.proofs.volume.Volume.run.Goals as goal
+
+pub returns-in_err-push-clause-broken : goal.returns-in_err-push-clause-broken
+returns-in_err-push-clause-broken c =
+    first_made c.from_residual-in_err-push.result c.args.self.now.current c.args.calls.now (c.loop-call.replies.items ++ c.in_ok-reply.reply ∷ []) c.call.new.self.current c.loop-call.call-index c.loop-call-test.true
+    (next_made c.args.self.now.current c.args.calls.now c.loop-call.replies.items c.loop-call.self.current c.loop-call.call-index c.call-item.result c.in_ok-reply.reply c.call.new.self.current
+    c.loop-call-test.true (sym c.call-item.is) c.loop-call.invariant.made c.in_ok-reply.ensures.outcome)
+
+pub loop-call-preserved : goal.loop-call-preserved
+loop-call-preserved c = record {
+  base = c.in_ok-reply.ensures.base ∙ c.loop-call.invariant.base;
+  made = subst (λ (rs : List Reply). AreMade c.args.self.now.current (take (c.loop-call.call-index + 1) c.args.calls.now) rs c.call.new.self.current) (sym c.in_ok-push.ensures.items)
+      (next_made c.args.self.now.current c.args.calls.now c.loop-call.replies.items c.loop-call.self.current c.loop-call.call-index c.call-item.result c.in_ok-reply.reply c.call.new.self.current
+      c.loop-call-test.true (sym c.call-item.is) c.loop-call.invariant.made c.in_ok-reply.ensures.outcome);
+}
 
 pub returns-clause-made : goal.returns-clause-made
 returns-clause-made c =

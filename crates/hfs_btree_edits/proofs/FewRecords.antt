@@ -13,7 +13,7 @@ use Rattle.hfs_scans.specs.Each.{Each}
 use Rattle.hfs_scans.proofs.ElementLemmas.{each-append, each-left, each-right}
 use Rattle.hfs_btree.specs.Tree.{Store, node_in, records_in, records_of, pair_of, pairs}
 use Rattle.hfs_btree.specs.Header.{header_in, depth_of, root_level, leaves, own_nodes, tree_nodes, tree_content}
-use Rattle.hfs_btree.specs.Sound.{IsOther, IsDistinct, IsRight, IsSound}
+use Rattle.hfs_btree.specs.Sound.{HasStructure, IsOther, IsDistinct, IsRight, IsSound}
 use Rattle.hfs_btree.proofs.LevelLemmas.{each-spots}
 use Rattle.hfs_btree.proofs.DescentLemmas.{leaves-right}
 use Rattle.hfs_btree_edits.proofs.DistinctLemmas.{distinct-right, last-distinct, other-before, other-behind}
@@ -84,7 +84,7 @@ records-few nodes n = few-of (node_of (Rattle.std.proofs.Common.get_or nodes n [
 
 -- ---- the pairs of a tree
 
-module _ {K : Type 0} (g : Ghosts K) (nodes : Store) (sound : IsSound g nodes) where
+module _ {K : Type 0} (g : Ghosts K) (nodes : Store) (structure : HasStructure g nodes) where
   leaf-few : (n : ℕ) → length (pairs g nodes n) ≤ 248
   leaf-few n = let few = records-few nodes n in omega (arith, few, length-map (records_in nodes n) (pair_of g))
 
@@ -98,20 +98,20 @@ module _ {K : Type 0} (g : Ghosts K) (nodes : Store) (sound : IsSound g nodes) w
   leaves-below : AreBelow (header_in nodes).nodes (leaves g nodes)
   leaves-below =
       each-spots (IsRight g nodes) (λ n. n < (header_in nodes).nodes) 0 (λ l n r is. is.within.1) 0 (leaves g nodes)
-      (leaves-right g nodes (depth_of nodes) (root_level nodes) sound.structure.levels.each)
+      (leaves-right g nodes (depth_of nodes) (root_level nodes) structure.levels.each)
 
   leaves-few : length (leaves g nodes) ≤ (header_in nodes).nodes
   leaves-few =
       few-below (header_in nodes).nodes (leaves g nodes)
-      (last-distinct g nodes (depth_of nodes) (root_level nodes) (distinct-right (own_nodes nodes) (tree_nodes g nodes) sound.structure.levels.different)) leaves-below
+      (last-distinct g nodes (depth_of nodes) (root_level nodes) (distinct-right (own_nodes nodes) (tree_nodes g nodes) structure.levels.different)) leaves-below
 
   pub few-pairs : length (tree_content g nodes) ≤ 248 * (header_in nodes).nodes
   few-pairs = let each = level-few (leaves g nodes) in let few = leaves-few in omega (arith, each, few)
 
-  -- the header record can count one more
-  pub one-more_fits : 512 * (header_in nodes).nodes < 4294967296 → (header_in nodes).records + 1 < 4294967296
-  one-more_fits small =
-      let few = few-pairs in
-      let count = sound.counts.records in
-      let some = sound.structure.header.some in
-      omega (arith, small, few, count, some)
+-- the header record can count one more
+pub one-more_fits : {K : Type 0} (g : Ghosts K) (nodes : Store) → IsSound g nodes → 512 * (header_in nodes).nodes < 4294967296 → (header_in nodes).records + 1 < 4294967296
+one-more_fits g nodes sound small =
+    let few = few-pairs g nodes sound.structure in
+    let count = sound.counts.records in
+    let some = sound.structure.header.some in
+    omega (arith, small, few, count, some)
