@@ -5,6 +5,5 @@ pub mod LawfulVolume
 pub mod Stays
 pub mod Opened
 pub mod CountedReport
-pub mod Repaired
 pub mod CommonLemmas
 pub mod EntryLemmas

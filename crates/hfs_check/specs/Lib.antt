@@ -7,5 +7,3 @@ pub mod Laws
 pub mod Answers
 pub mod Report
 pub mod Trees
-pub mod Repair
-pub mod RepairLaws

@@ -8,7 +8,6 @@ mod mdb_check;
 mod mount_fault;
 mod number_checks;
 mod record_checks;
-mod repair_laws;
 mod reported;
 mod reporting;
 mod tree_checks;
@@ -23,7 +22,6 @@ pub use crate::laws::{
 pub use crate::mdb_check::{mdb_fault, read_mdb};
 pub use crate::mount_fault::MountFault;
 pub use crate::record_checks::check_catalog_records;
-pub use crate::repair_laws::{repair_keeps_others, repair_keeps_sound_images};
 pub use crate::reported::{Alternate, Report};
 pub use crate::reporting::{refused_report, report, report_blocks};
 pub use crate::tree_checks::check_extents_tree;
