@@ -86,12 +86,7 @@ fn path_told<N: Nodes>(nodes: &N, names: &[Name]) -> Reply
 }
 
 /// What is told of the item that these names lead to, where these blocks were read of a volume of `count` blocks.
-pub(crate) fn told_in(
-    read: &SparseBlocks,
-    count: u32,
-    trees: &VolumeTrees,
-    names: &[Name],
-) -> Reply
+pub(crate) fn told_in(read: &SparseBlocks, count: u32, trees: &VolumeTrees, names: &[Name]) -> Reply
     requires sound { AreBlocksSound count (sparse read.now) }
     requires trees { HasTrees count (sparse read.now) trees.now }
     ensures { result ≡ spec.told_at (cat_info (catalog_in (sparse read.now)))

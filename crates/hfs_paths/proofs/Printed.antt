@@ -17,7 +17,7 @@ use Rattle.hfs_paths.specs.Laws.{ArePrintedPathsRead}
 use Rattle.hfs_paths.specs.Paths.{Read, byte_of, closed, digit_value, names_read, path_names, read_byte, unread, with_character, with_second_digit}
 
 -- in the middle of a name
-state : List (List ℕ) → List ℕ → Read
+abbrev state : List (List ℕ) → List ℕ → Read
 state names name = record { names = names; name = name; stage = Character }
 
 -- ---- a character
@@ -55,7 +55,7 @@ is-plain c h =
     let most : c ≤ 126 = leb-true c 126 third.1 in
     record {
       low = omega (arith, most);
-      control = or_from (nat_lt c 32) (c == 0x7F) (le-ltb 32 c least) (ne_eqb c 0x7F (λ e. omega (arith, most, e)));
+      control = or_from (nat_lt c 32) (c == 0x7F) (le-ltb c 32 least) (ne_eqb c 0x7F (λ e. omega (arith, most, e)));
       colon = not-true (c == 58) second.1;
     }
 
@@ -82,7 +82,7 @@ with-name names name (c ∷ more) h =
 
 -- ---- the names behind it
 
-behind : List (List ℕ) → List ℕ
+abbrev behind : List (List ℕ) → List ℕ
 behind names = flat_map (λ (name : List ℕ). codes ":" ++ plain_text name) names
 
 closes : (names : List (List ℕ)) (name : List ℕ) → length name ≤ 31 → closed (state names name) ≡ state (names ++ name ∷ []) []
@@ -90,7 +90,7 @@ unfolding closed
 closes names name short = let e : nat_le (length name) 31 ≡ true = le-leb (length name) 31 short in rw e refl
 
 colon-closes : (names : List (List ℕ)) (name : List ℕ) → read_byte (state names name) 58 ≡ closed (state names name)
-unfolding read_byte with_character
+unfolding read_byte with_character closed
 colon-closes names name = refl
 
 ends : (names : List (List ℕ)) (name : List ℕ) → length name ≤ 31 → names_read (state names name) ≡ Some (names ++ name ∷ [])
@@ -114,9 +114,9 @@ with-names names name (next ∷ more) short h =
     let parts = and_parts (is_item_name next) (list_all is_item_name more) h in
     let is = is-short next parts.0 in
     ap names_read (
-      ap (λ (r : Read). fold read_byte r (plain_text next ++ behind more)) (colon-closes names name ∙ closes names name short)
-      ∙ fold-append read_byte (state (names ++ name ∷ []) []) (plain_text next) (behind more)
-      ∙ ap (λ (r : Read). fold read_byte r (behind more)) (with-name (names ++ name ∷ []) [] next is.characters)
+    ap (λ (r : Read). fold read_byte r (plain_text next ++ behind more)) (colon-closes names name ∙ closes names name short)
+    ∙ fold-append read_byte (state (names ++ name ∷ []) []) (plain_text next) (behind more)
+    ∙ ap (λ (r : Read). fold read_byte r (behind more)) (with-name (names ++ name ∷ []) [] next is.characters)
     )
     ∙ with-names (names ++ name ∷ []) next more is.short parts.1
     ∙ ap Some (append_assoc names (name ∷ []) (next ∷ more))
@@ -151,9 +151,9 @@ printed-read name names h =
     let is = is-short name parts.0 in
     let other : bytes_eq (plain_text name ++ behind names) (codes ":") ≡ false = no-colon name (behind names) parts.0 in
     rw other (
-      ap names_read (
-        fold-append read_byte unread (plain_text name) (behind names)
-        ∙ ap (λ (r : Read). fold read_byte r (behind names)) (with-name [] [] name is.characters)
-      )
-      ∙ with-names [] name names is.short parts.1
+    ap names_read (
+    fold-append read_byte unread (plain_text name) (behind names)
+    ∙ ap (λ (r : Read). fold read_byte r (behind names)) (with-name [] [] name is.characters)
+    )
+    ∙ with-names [] name names is.short parts.1
     )

@@ -285,7 +285,10 @@ pub fn print_needed_macbinary<'a, S: BlockSource>(
 }
 
 /// Prints a file with both forks, or the code of the call that was refused.
-pub fn print_found(rt: &HostRuntime, found: Result<NeededFile, Reply>) -> Result<u8, Fault<'static>> {
+pub fn print_found(
+    rt: &HostRuntime,
+    found: Result<NeededFile, Reply>,
+) -> Result<u8, Fault<'static>> {
     match found {
         Ok(file) => print_file(rt, &file),
         Err(reply) => print_code(rt, &reply),
