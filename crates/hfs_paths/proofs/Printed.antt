@@ -1,6 +1,6 @@
 -- The paths that a table prints are read as the names that they are printed of.
-use Rattle.std.proofs.Common.{◌≡◌, ◌∙◌, sym, ap, subst, refl, ℕ, ◌<◌, ◌≤◌, Bool, true, false, not, ◌&&◌, ◌||◌, List, [], ◌∷◌, ◌++◌, length, Option, Some, arith}
-use Rattle.std.specs.Prelude.{◌==◌, nat_lt, nat_le, if◌then◌else◌, codes, encode_utf8}
+use Rattle.std.proofs.Common.{◌≡◌, ◌∙◌, sym, ap, subst, refl, ℕ, ◌<◌, ◌≤◌, Bool, true, false, not, ◌&&◌, ◌||◌, List, [], ◌∷◌, ◌++◌, length, Some, arith}
+use Rattle.std.specs.Prelude.{◌==◌, nat_lt, nat_le, codes}
 use Rattle.std.specs.List.{flat_map, fold, list_all}
 use Rattle.std.specs.Str.{bytes_eq}
 use Rattle.std.proofs.lemmas.Bool.{and_parts, or_from, not-true, leb-true, lt-ltb, le-leb, le-ltb, eqb-true, ne_eqb, false≢true}
@@ -142,6 +142,26 @@ no-colon (c ∷ name) rest h =
     ap (λ (text : List ℕ). bytes_eq text (codes ":")) (append_assoc (plain_character c) (flat_map plain_character name) rest)
     ∙ first-is c (is-plain c parts.0) (flat_map plain_character name ++ rest) (c == 92) refl
 
+-- and none is empty
+
+not-empty : (x : ℕ) (xs : List ℕ) → (length (x ∷ xs) == 0) ≡ false
+not-empty x xs = ne_eqb (length (x ∷ xs)) 0 (λ e. omega (arith, e))
+
+first-some : (c : ℕ) → IsPlain c → (rest : List ℕ) (b : Bool) → (c == 92) ≡ b → (length (plain_character c ++ rest) == 0) ≡ false
+unfolding plain_character hex_byte
+first-some c plain rest true e =
+    let is : c ≡ 92 = eqb-true c 92 e in
+    subst (λ (k : ℕ). (length (plain_character k ++ rest) == 0) ≡ false) (sym is) (not-empty 92 (53 ∷ 99 ∷ rest))
+first-some c plain rest false e = ap (λ (text : List ℕ). length (text ++ rest) == 0) (printed c plain.control e plain.low) ∙ not-empty c rest
+
+some-text : (name : List ℕ) (rest : List ℕ) → is_item_name name ≡ true → (length (plain_text name ++ rest) == 0) ≡ false
+unfolding plain_text
+some-text [] rest h = absurd (false≢true h)
+some-text (c ∷ name) rest h =
+    let parts = and_parts (is_name_character c) (list_all is_name_character name) (is-short (c ∷ name) h).characters in
+    ap (λ (text : List ℕ). length text == 0) (append_assoc (plain_character c) (flat_map plain_character name) rest)
+    ∙ first-some c (is-plain c parts.0) (flat_map plain_character name ++ rest) (c == 92) refl
+
 -- ---- all
 
 pub printed-read : ArePrintedPathsRead
@@ -149,11 +169,12 @@ unfolding path_names mac_path
 printed-read name names h =
     let parts = and_parts (is_item_name name) (list_all is_item_name names) h in
     let is = is-short name parts.0 in
+    let some : (length (plain_text name ++ behind names) == 0) ≡ false = some-text name (behind names) parts.0 in
     let other : bytes_eq (plain_text name ++ behind names) (codes ":") ≡ false = no-colon name (behind names) parts.0 in
-    rw other (
+    let read =
     ap names_read (
     fold-append read_byte unread (plain_text name) (behind names)
     ∙ ap (λ (r : Read). fold read_byte r (behind names)) (with-name [] [] name is.characters)
     )
-    ∙ with-names [] name names is.short parts.1
-    )
+    ∙ with-names [] name names is.short parts.1 in
+    rw some (rw other read)

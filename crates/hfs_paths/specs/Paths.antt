@@ -70,9 +70,12 @@ names_at Wrong r = None
 unfoldable pub names_read : Read → Option (List (List ℕ))
 names_read r = names_at (closed r).stage (closed r)
 
--- the names of a path; of `:` alone one that is empty
+-- the names of a path, of `:` alone one that is empty; no text is no path
 unfoldable pub path_names : List ℕ → Option (List (List ℕ))
-path_names text = if bytes_eq text (codes ":") then Some ([] ∷ []) else names_read (fold read_byte unread text)
+path_names text =
+    if length text == 0 then None
+    else if bytes_eq text (codes ":") then Some ([] ∷ [])
+    else names_read (fold read_byte unread text)
 
 -- ---- as the code has it
 

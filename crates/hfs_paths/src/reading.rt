@@ -163,11 +163,15 @@ fn no_names(alloc: Global) -> Result<Option<Vec<Name>>, AllocError>
 /// The names that the text of a Mac path tells, from the volume's down: `:` stands between them, a
 /// backslash and two hexadecimal digits for the byte of this value, and any other byte for itself.
 /// The first name is empty where a path begins with `:`, and the only one of the path `:`. None
-/// where a backslash has no digits, or a name more than 31 bytes. The only error is want of memory.
+/// where there is no text, a backslash has no digits, or a name more than 31 bytes. The only error is
+/// want of memory.
 #[tactic(auto, unfolding(crate::specs::Paths::path_names))]
 pub fn path_names(alloc: Global, text: &[u8]) -> Result<Option<Vec<Name>>, AllocError>
     ensures { IfOk result (λ found. option_map names_of found ≡ path_names text.now) }
 {
+    if text.is_empty() {
+        return Ok(None);
+    }
     if text == b":".as_slice() {
         return no_names(alloc);
     }
