@@ -13,6 +13,7 @@ use std::alloc::{AllocError, Global};
 /// What is told of the item that a Mac path leads to, the volume's name first, in an image that was opened: the reply to GetCatInfo of it,
 /// or to GetDirInfo of the root. A path that begins with `:` leaves the volume's name out, and `:` is the root. -43 where the text is no
 /// path, leads nowhere or begins with another name; -120 where it goes through a file. The only error is want of memory.
+#[tactic(auto, using(crate::proofs::PathReplies::by_names, crate::proofs::PathReplies::by_none))]
 pub fn path_reply<S: BlockSource + Drop>(
     alloc: Global,
     image: &OpenedImage<S>,
@@ -21,7 +22,8 @@ pub fn path_reply<S: BlockSource + Drop>(
     ensures { IfOk result (λ reply. OfKnown image.now.known image.now.len
         (IsPathReply path.now reply)) }
 {
-    match path_names(alloc, path.as_bytes())? {
+    let found = path_names(alloc, path.as_bytes())?;
+    match found {
         Some(names) => Ok(image.item_at(&names)),
         None => Ok(refusal(NOT_FOUND)),
     }
@@ -57,6 +59,7 @@ fn file_reply(reply: Reply) -> Reply
 }
 
 /// As [`path_reply`], but -43 where the path leads to a folder, which has no forks.
+#[tactic(auto, using(crate::proofs::PathReplies::of_file))]
 pub fn file_path_reply<S: BlockSource + Drop>(
     alloc: Global,
     image: &OpenedImage<S>,

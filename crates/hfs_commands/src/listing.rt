@@ -107,5 +107,8 @@ pub fn opened_list_text<S: BlockSource + Drop>(
         (HasFolderLines dir told.1)) }
 {
     let reply = image.list(alloc, dir)?;
-    children_text(alloc, &reply)
+    match children_text(alloc, &reply) {
+        Ok(told) => Ok(told),
+        Err(refused) => Err(refused),
+    }
 }

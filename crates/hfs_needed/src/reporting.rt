@@ -101,12 +101,12 @@ fn report_opened<S: BlockSource>(
     let Ok(report) = report_blocks(alloc, &read.volume(count)) else {
         return Err(NeededFault::Memory);
     };
-    if let Some(why) = report.fault {
-        return Err(NeededFault::Refused(why));
-    }
-    match sound_volume(alloc, read, count) {
-        Ok(volume) => Ok(ReportedVolume { volume, report }),
-        Err(_) => Err(NeededFault::Memory),
+    match report.fault {
+        Some(why) => Err(NeededFault::Refused(why)),
+        None => match sound_volume(alloc, read, count) {
+            Ok(volume) => Ok(ReportedVolume { volume, report }),
+            Err(_) => Err(NeededFault::Memory),
+        },
     }
 }
 
