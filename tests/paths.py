@@ -129,14 +129,17 @@ def as_by_ids(image):
     """Each item of a volume by its path, beside what is printed by its IDs and name."""
     count = 0
     for path, kind, item, parent, name in of_items(image):
-        for text in (path, swapped(path), path[path.index(':'):] if ':' in path else ':'):
-            if kind == 'folder':
-                want(told('ls', image, '--path', text), told('ls', image, item), (image.name, 'ls', text))
-                want(told('cat', image, '--path', text), (3, b'code -43\n'), (image.name, 'cat', text))
-            else:
-                want(told('ls', image, '--path', text), (3, b'code -120\n'), (image.name, 'ls', text))
-                for fork in ((), ('--resource',), ('--macbinary',)):
-                    want(told('cat', image, *fork, '--path', text), told('cat', image, *fork, parent, '--', name), (image.name, 'cat', text, *fork))
+        texts = (path, swapped(path), path[path.index(':'):] if ':' in path else ':')
+        if kind == 'folder':
+            by_id = told('ls', image, item)
+            for text in texts:
+                want(told('ls', image, '--path', text), by_id, (image.name, 'ls', text))
+            want(told('cat', image, '--path', path), (3, b'code -43\n'), (image.name, 'cat', path))
+        else:
+            for text, fork in zip(texts, ((), ('--resource',), ('--macbinary',))):
+                by_name = told('cat', image, *fork, parent, '--', name)
+                want(told('cat', image, *fork, '--path', text), by_name, (image.name, 'cat', text, *fork))
+            want(told('ls', image, '--path', path), (3, b'code -120\n'), (image.name, 'ls', path))
         count += 1
     return count
 
