@@ -6,9 +6,10 @@ _hfs_tool() {
         return
     fi
     case $first in
-        info | check | ls) options='--volume --help' ;;
+        info | check) options='--volume --help' ;;
+        ls) options='--path --volume --help' ;;
         items) options='--format --volume --help' ;;
-        cat) options='--resource --macbinary --volume --help' ;;
+        cat) options='--path --resource --macbinary --volume --help' ;;
         new) options='--now --help' ;;
         run) options='--now --out --help' ;;
         help) mapfile -t COMPREPLY < <(compgen -W 'info check ls items cat volumes new repair run' -- "$word") && return ;;

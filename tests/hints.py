@@ -28,6 +28,14 @@ CASES = [
     ({1115: b'\1', 1059: b'1'}, 'check C10 at 4', COUNTS),
     ({1059: b'1'}, 'check C12 at 58', DAMAGED),
 ]
+SOUND = 'sound\nfiles 0\nfolders 0\nfree 50\nalternate same\nunowned 0\n'
+# What `repair` prints where it mends all that is wrong.
+FIXED = {
+    '': 'sound\n',
+    'check C9 at 0': 'fixed drDirCnt 1 0\nfixed valence 2 1 0\nsound\n',
+    'check C10 at 4': 'fixed drFreeBks 49 50\nfixed drDirCnt 1 0\nsound\n',
+    'check C12 at 58': 'fixed drFreeBks 49 50\nsound\n',
+}
 
 
 def told(words):
@@ -61,7 +69,7 @@ def want(words, status, printed, hint):
 
 def main():
     with tempfile.TemporaryDirectory() as folder:
-        path, script = Path(folder) / 'case.img', Path(folder) / 'empty'
+        path, script, mended = (Path(folder) / name for name in ('case.img', 'empty', 'mended.img'))
         script.write_bytes(b'')
         subprocess.run([TOOL, 'new', str(path), 'D', '64', '6', '2'], check=True)
         sound = path.read_bytes()
@@ -74,9 +82,13 @@ def main():
             want(['ls', str(path)], status, line, said)
             want(['cat', str(path), '2', 'none'], status or 3, line or 'code -43\n', said)
             want(['run', str(path), str(script)], status, line, said)
+            want(['check', str(path)], status, f'refused {line}' if fault else SOUND, said)
+            fixed = FIXED.get(fault)
+            want(['repair', str(path), str(mended)], 0 if fixed else 2, fixed or f'refused {line}', '' if fixed else said)
         path.write_bytes(sound[:1000])
         want(['ls', str(path)], 2, 'image too short\n', '')
-    print(f'{len(CASES) + 1} images, three words each: the hints are as written')
+        want(['check', str(path)], 2, 'refused image too short\n', '')
+    print(f'{len(CASES) + 1} images, five words each: the hints are as written')
 
 
 main()

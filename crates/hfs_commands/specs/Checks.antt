@@ -47,6 +47,10 @@ check_lines report = checked_lines report.fault report
 abbrev pub check_status : Report → ℕ
 check_status report = status_number (checked_status report.fault)
 
+-- this is the fault that an image's check tells, if there is one
+abbrev pub IsCheckFault : Option MountFault → List ℕ → Type 0
+IsCheckFault fault = λ image. fault ≡ (report_of image).fault
+
 -- this is the exit status after an image's check
 abbrev pub IsCheckStatus : ℕ → List ℕ → Type 0
 IsCheckStatus number = λ image. number ≡ check_status (report_of image)

@@ -1,5 +1,5 @@
 -- What is printed of a repair.
-use Rattle.std.specs.Prelude.{◌≡◌, ℕ, List, ◌++◌, Some, codes, MatchOption, Result, IfOk, string_bytes}
+use Rattle.std.specs.Prelude.{◌≡◌, ℕ, List, ◌++◌, Option, Some, None, codes, MatchOption, Result, IfOk, string_bytes}
 use Rattle.std.specs.List.{flat_map}
 use Rattle.std.specs.Fmt.{decimal}
 use Rattle.hfs_check.specs.declared.mount_fault.MountFault.{MountFault}
@@ -41,25 +41,27 @@ fixed_lines fixes = flat_map fixed_line fixes
 unfoldable pub repaired_lines : List Fix → List ℕ
 repaired_lines fixes = fixed_lines fixes ++ codes "sound\n"
 
--- the repaired image has a fault, and these are the status and the line of the first
-pub record IsRefused (image : List ℕ) (status : ℕ) (lines : List ℕ) : Type 0 where
+-- the repaired image has a fault, and these are the first, the status and its line
+pub record IsRefused (image : List ℕ) (told : Option MountFault) (status : ℕ) (lines : List ℕ) : Type 0 where
   pub why : MountFault
   pub fault : fault_of (repair image) ≡ Some why
+  pub told_is : told ≡ Some why
   pub status_is : status ≡ 2
   pub line_is : lines ≡ refused_line why
 
 -- the repaired image is sound and is this one, and these are the status and the lines of the numbers that were wrong
-pub record IsRepaired (image : List ℕ) (current : List ℕ) (status : ℕ) (lines : List ℕ) : Type 0 where
+pub record IsRepaired (image : List ℕ) (current : List ℕ) (told : Option MountFault) (status : ℕ) (lines : List ℕ) : Type 0 where
   pub fixes : List Fix
   pub are : AreFixes (wrong_in image) fixes
   pub mended : current ≡ repair image
+  pub told_is : told ≡ None
   pub status_is : status ≡ 0
   pub lines_are : lines ≡ repaired_lines fixes
 
 -- the repaired image is refused, or it is mounted, and this is what is told of it
 abbrev pub TellsRepair : List ℕ → RepairAnswer → Type 0
-TellsRepair image answer = MatchOption answer.volume (IsRefused image answer.status (string_bytes answer.lines))
-    (λ volume. IsRepaired image volume.current answer.status (string_bytes answer.lines))
+TellsRepair image answer = MatchOption answer.volume (IsRefused image answer.fault answer.status (string_bytes answer.lines))
+    (λ volume. IsRepaired image volume.current answer.fault answer.status (string_bytes answer.lines))
 
 -- the answer tells the repair of any image that has this fault when it is repaired
 abbrev pub TellsRefusal : {E : Type 0} → MountFault → Result RepairAnswer E → Type 0

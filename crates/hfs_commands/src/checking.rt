@@ -1,7 +1,7 @@
 //! What is told of an image.
 ghost use Rattle.std.specs.Prelude.{◌≡◌, ◌++◌, IfOk, OnOk, string_bytes};
 ghost use Rattle.hfs_needed.specs.Known.{OfKnown};
-ghost use Rattle.hfs_commands.specs.Checks.{HasCheckLines, IsCheckStatus, alternate_text, check_lines, check_status, refused_line, sound_lines};
+ghost use Rattle.hfs_commands.specs.Checks.{HasCheckLines, IsCheckFault, IsCheckStatus, alternate_text, check_lines, check_status, refused_line, sound_lines};
 
 use crate::fault::Status;
 use crate::refusal::Refusal;
@@ -64,29 +64,55 @@ fn report_text(alloc: Global, report: &Report) -> Result<(u8, String), AllocErro
     }
 }
 
-/// Checks an image, and answers the exit status and the lines: 0 and the counts of a sound volume, or 2 and the first
-/// fault, in the order of docs/CHECKS.md. The only error is want of memory.
-pub fn check_text(alloc: Global, image: &[u8]) -> Result<(u8, String), AllocError>
-    ensures status { IfOk result (λ told. IsCheckStatus told.0 image.now) }
-    ensures lines { IfOk result (λ told. HasCheckLines told.1 image.now) }
-{
-    let report = report(alloc, image)?;
-    report_text(alloc, &report)
+/// What a check of an image tells.
+#[derive(Drop)]
+pub struct CheckAnswer {
+    /// The first fault, in the order of docs/CHECKS.md, if there is one.
+    pub fault: Option<MountFault>,
+    /// The exit status: 0, or 2 where there is a fault.
+    pub status: u8,
+    /// The lines: the counts of a sound volume, or `refused TEXT`.
+    pub lines: String,
 }
 
-/// Answers what [`check_text`] answers of an image of `len` bytes, of which only the blocks are read that its checks need. Errors:
+/// What a report tells.
+fn report_answer(alloc: Global, report: &Report) -> Result<CheckAnswer, AllocError>
+    ensures fault { IfOk result (λ told. told.fault ≡ report.now.fault) }
+    ensures status { IfOk result (λ told. told.status ≡ check_status report.now) }
+    ensures lines { IfOk result (λ told. string_bytes told.lines ≡ check_lines report.now) }
+{
+    let (status, lines) = report_text(alloc, report)?;
+    Ok(CheckAnswer {
+        fault: report.fault,
+        status,
+        lines,
+    })
+}
+
+/// Checks an image: what its report tells. The only error is want of memory.
+pub fn check_answer(alloc: Global, image: &[u8]) -> Result<CheckAnswer, AllocError>
+    ensures fault { IfOk result (λ told. IsCheckFault told.fault image.now) }
+    ensures status { IfOk result (λ told. IsCheckStatus told.status image.now) }
+    ensures lines { IfOk result (λ told. HasCheckLines told.lines image.now) }
+{
+    let report = report(alloc, image)?;
+    report_answer(alloc, &report)
+}
+
+/// Answers what [`check_answer`] answers of an image of `len` bytes, of which only the blocks are read that its checks need. Errors:
 /// `ReadFailed` where a read of one of these blocks failed, or the source ends before one does; `Memory` where it was refused. A fault of the
 /// image is no error: it is told of.
-pub fn needed_check_text<S: BlockSource>(
+pub fn needed_check_answer<S: BlockSource>(
     alloc: Global,
     source: &mut S,
     len: u64,
-) -> Result<(u8, String), SparseFault>
-    ensures status { IfOk result (λ told. OfKnown (S.image source.old) len (IsCheckStatus told.0)) }
-    ensures lines { IfOk result (λ told. OfKnown (S.image source.old) len (HasCheckLines told.1)) }
+) -> Result<CheckAnswer, SparseFault>
+    ensures fault { IfOk result (λ t. OfKnown (S.image source.old) len (IsCheckFault t.fault)) }
+    ensures status { IfOk result (λ t. OfKnown (S.image source.old) len (IsCheckStatus t.status)) }
+    ensures lines { IfOk result (λ t. OfKnown (S.image source.old) len (HasCheckLines t.lines)) }
 {
     let report = needed_report(alloc, source, len)?;
-    match report_text(alloc, &report) {
+    match report_answer(alloc, &report) {
         Ok(told) => Ok(told),
         Err(_) => Err(SparseFault::Memory),
     }

@@ -3,6 +3,7 @@
 #![tactic(auto)]
 
 mod beside;
+mod by_path;
 mod checking;
 mod contents;
 mod fault;
@@ -21,7 +22,8 @@ mod volume_files;
 mod volumes;
 
 pub use beside::Leftover;
-pub use checking::{check_text, needed_check_text, refused_text};
+pub use by_path::{file_path_reply, path_reply};
+pub use checking::{CheckAnswer, check_answer, needed_check_answer, refused_text};
 pub use contents::Contents;
 pub use fault::{Fault, Status};
 pub use files::{ImageFile, load_file, load_script, open_image};
@@ -36,7 +38,7 @@ pub use hfs_texts::{
 };
 pub use hint::Hint;
 pub use items::write_items;
-pub use listing::{children_text, code_text, list_text, needed_list_text};
+pub use listing::{children_text, code_text, list_text, opened_list_text};
 pub use macbinary::{put_macbinary, write_macbinary};
 pub use opened_file::OpenedFile;
 pub use paths::ShownPath;

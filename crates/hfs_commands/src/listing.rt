@@ -1,13 +1,12 @@
 //! The lines of a folder's children.
-ghost use Rattle.std.specs.Prelude.{◌≡◌, IfErr, IfOk, OnOk, string_bytes};
+ghost use Rattle.std.specs.Prelude.{◌≡◌, IfOk, OnOk, string_bytes};
 ghost use Rattle.hfs_needed.specs.Known.{OfKnown};
-ghost use Rattle.hfs_needed.specs.Opened.{IsRefusedFor};
 ghost use Rattle.hfs_commands.specs.Listing.{HasFolderLines, IsFolderStatus, child_line, child_lines, code_line, list_lines, list_status, tabbed, tabbed_sizes};
 ghost use Rattle.hfs_texts.specs.Texts.{Gains};
 
 use crate::fault::Status;
 use hfs_model::{Info, ItemKind, Reply, Value};
-use hfs_needed::{NeededFault, needed_list};
+use hfs_needed::OpenedImage;
 use hfs_sparse::BlockSource;
 use hfs_texts::{Show, push_line};
 use hfs_volume::Volume;
@@ -96,21 +95,20 @@ pub fn list_text(alloc: Global, volume: &Volume, dir: u32) -> Result<(u8, String
     children_text(alloc, &reply)
 }
 
-/// Answers what [`list_text`] answers of the volume of an image of `len` bytes, of which only the blocks are read that its checks need.
-/// Errors: a read failed, memory was refused, or the image is refused.
-pub fn needed_list_text<S: BlockSource>(
+/// Answers what [`list_text`] answers of the volume of an image that was opened. The only error is want of memory.
+pub fn opened_list_text<S: BlockSource + Drop>(
     alloc: Global,
-    source: &mut S,
-    len: u64,
+    image: &OpenedImage<S>,
     dir: u32,
-) -> Result<(u8, String), NeededFault>
-    ensures status { IfOk result (λ t. OfKnown (S.image source.old) len (IsFolderStatus dir t.0)) }
-    ensures lines { IfOk result (λ t. OfKnown (S.image source.old) len (HasFolderLines dir t.1)) }
-    ensures refused { IfErr result (λ fault. IsRefusedFor (S.image source.old) len fault) }
+) -> Result<(u8, String), AllocError>
+    ensures status { IfOk result (λ told. OfKnown image.now.known image.now.len
+        (IsFolderStatus dir told.0)) }
+    ensures lines { IfOk result (λ told. OfKnown image.now.known image.now.len
+        (HasFolderLines dir told.1)) }
 {
-    let reply = needed_list(alloc, source, len, dir)?;
+    let reply = image.list(alloc, dir)?;
     match children_text(alloc, &reply) {
         Ok(told) => Ok(told),
-        Err(_) => Err(NeededFault::Memory),
+        Err(refused) => Err(refused),
     }
 }

@@ -84,6 +84,8 @@ fn repaired_text(alloc: Global, fixes: &[Fix]) -> Result<String, AllocError>
 pub struct RepairAnswer {
     /// The volume of the repaired image. None where that is refused.
     pub volume: Option<Volume>,
+    /// The first fault of the repaired image, where it has one.
+    pub fault: Option<MountFault>,
     /// The exit status: 0, or 2 where the image is refused.
     pub status: u8,
     /// The lines: `fixed PLACE WAS NOW` for each number that was wrong and then `sound`, or `refused TEXT`.
@@ -97,6 +99,7 @@ fn refused_answer(alloc: Global, why: MountFault) -> Result<RepairAnswer, AllocE
     let (status, lines) = refused_text(alloc, why)?;
     Ok(RepairAnswer {
         volume: None,
+        fault: Some(why),
         status,
         lines,
     })
@@ -109,6 +112,7 @@ pub fn repair_answer(alloc: Global, image: Vec<u8>) -> Result<RepairAnswer, Allo
     match mount_repaired(alloc, image) {
         Ok((volume, fixes)) => Ok(RepairAnswer {
             volume: Some(volume),
+            fault: None,
             status: Status::Done.number(),
             lines: repaired_text(alloc, &fixes)?,
         }),

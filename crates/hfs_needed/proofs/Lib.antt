@@ -14,3 +14,4 @@ pub mod ForkBytes
 pub mod Named
 pub mod OpenedAt
 pub mod ToldFiles
+pub mod SoundTrees

@@ -57,3 +57,9 @@ opened-sound law enough (Some bytes) len right volume opened = λ same.
     ∙ ap (λ (n : ℕ). blocks_fault (n / 512) (block_at bytes)) same
     ∙ (enough (len / 512) bytes volume.read opened.needed opened.of).fault
     ∙ (law (len / 512) (sparse volume.read)).1 opened.sound
+
+-- what was read is refused for its first fault, and so for the image's
+pub first-refused : GatheredIsEnough → (known : Option (List ℕ)) (total : ℕ) (read : Numbered) → HasNeeded total read → IsOfKnown known read
+    → (f : MountFault) → blocks_fault total (sparse read) ≡ Some f → AreRefusedFor known total (Refused f)
+first-refused enough None total read needed of f is = λ why e. tt
+first-refused enough (Some bytes) total read needed of f is = λ why e. (enough total bytes read needed of).fault ∙ is ∙ ap Some (same-fault f why e)

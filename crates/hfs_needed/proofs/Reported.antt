@@ -10,7 +10,7 @@ use Rattle.hfs_check.specs.declared.reported.Report.{Report}
 use Rattle.hfs_check.specs.Faults.{◌or_fault◌, length_fault, blocks_fault, fault_of}
 use Rattle.hfs_check.specs.Laws.{NoBlocksFault}
 use Rattle.hfs_check.specs.Parts.{Blocks}
-use Rattle.hfs_check.specs.Report.{refused_report, report_by, report_in, report_with, report_of}
+use Rattle.hfs_check.specs.Report.{refused_report, sound_report, report_by, report_in, report_with, report_of}
 use Rattle.hfs_sparse.specs.Sparse.{sparse}
 use Rattle.hfs_needed.specs.Laws.{AnswerSame}
 use Rattle.hfs_needed.specs.Gathered.{HasNeeded, IsOfKnown, GatheredIsEnough}
@@ -82,3 +82,15 @@ pub reports-right : (known : Option (List ℕ)) (len : ℕ) → len ≤ 21474836
 reports-right None len most least report h = tt
 reports-right (Some bytes) len most least report h = λ same.
     h ∙ ap (λ (n : ℕ). report_in (n / 512) (block_at bytes)) (sym same) ∙ sym (report_of-blocks bytes (ap length_fault same ∙ length-right len most least))
+
+-- ---- the fault that a report tells
+
+report_by-fault : (total : ℕ) (blocks : Blocks) (f : Option MountFault) → (report_by total blocks f).fault ≡ f
+unfolding sound_report
+report_by-fault total blocks None = refl
+report_by-fault total blocks (Some why) = refl
+
+-- is the first of the blocks
+pub report_in-fault : (total : ℕ) (blocks : Blocks) (report : Report) → report ≡ report_in total blocks → report.fault ≡ blocks_fault total blocks
+unfolding report_in
+report_in-fault total blocks report e = ap (λ (r : Report). r.fault) e ∙ report_by-fault total blocks (blocks_fault total blocks)

@@ -10,3 +10,5 @@ pub mod Listing
 pub mod TreeReads
 pub mod OpenedValues
 pub mod WholeFiles
+pub mod Paths
+pub mod ForkRuns

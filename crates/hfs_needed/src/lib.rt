@@ -2,17 +2,21 @@
 #![tactic(auto)]
 
 mod finding;
+mod fork_runs;
 mod forks;
 mod gathering;
 mod laws;
 mod listing;
 mod opened;
 mod opening;
+mod paths;
 mod reporting;
+mod sound_trees;
 mod tree_header;
 mod tree_nodes;
 mod whole_files;
 
+pub use crate::fork_runs::ForkRuns;
 pub use crate::forks::needed_fork;
 pub use crate::gathering::gather_needed;
 pub use crate::laws::{

@@ -2,16 +2,25 @@
 ghost use Rattle.std.specs.Prelude.{◌≡◌, Err, IfOk, IfErr, OnErr};
 ghost use Rattle.hfs_texts.specs.Writing.{AppendsFront};
 ghost use Rattle.hfs_needed.specs.Forks.{FindsForkNamed, OfForkNamed, RefusesForkNamed, RefusesWriting, WritesForkNamed};
+ghost use Rattle.hfs_needed.specs.ForkRuns.{RefusesRuns, TellsRunsNamed};
 ghost use Rattle.hfs_needed.specs.Listing.{IsBriefList, HoldsCatalog, HoldsTable};
+ghost use Rattle.hfs_needed.specs.Known.{IsReportOf};
 ghost use Rattle.hfs_needed.specs.Opened.{IsRefusedFor, IsSoundOf};
 ghost use Rattle.hfs_needed.specs.OpenedValues.{opened_value};
+ghost use Rattle.hfs_needed.specs.Paths.{IsToldAt};
+ghost use Rattle.hfs_needed.specs.WholeFiles.{HoldsDataNamed, HoldsResourceNamed, RefusesFileNamed, TellsOfFile};
 
-use crate::forks::{opened_fork, write_opened};
+use crate::fork_runs::{ForkRuns, file_runs};
+use crate::forks::{find_file, opened_fork, write_opened};
 use crate::laws::gathered_is_enough;
 use crate::listing::{catalog_records, list_in_brief};
 use crate::opening::{NeededFault, NeededVolume, open_needed};
+use crate::paths::told_in;
+use crate::reporting::{ReportedVolume, open_reported};
+use crate::whole_files::{NeededFile, opened_file};
 use hfs_catalog::CatalogRecord;
-use hfs_check::no_blocks_fault;
+use hfs_check::{Report, no_blocks_fault};
+use hfs_fields::Name;
 use hfs_inventory::{Inventory, catalogs_tell_tables};
 use hfs_model::{Fork, Reply};
 use hfs_queries::catalog_answers;
@@ -60,6 +69,27 @@ impl<S: BlockSource + Drop> OpenedImage<S> {
         })
     }
 
+    /// As [`OpenedImage::open`], and gives the image's report as well, which tells of a sound volume: all checks are made once.
+    pub fn open_reported(
+        alloc: Global,
+        source: S,
+        len: u64,
+    ) -> Result<(OpenedImage<S>, Report), NeededFault>
+        ensures image { IfOk result (λ told. told.0 ≡ opened_value (S.image source) len) }
+        ensures report { IfOk result (λ told. IsReportOf (S.image source) len told.1) }
+        ensures sound { IfOk result (λ told. IsSoundOf (S.image source) len) }
+        ensures refused { IfErr result (λ fault. IsRefusedFor (S.image source) len fault) }
+    {
+        let mut source = source;
+        let ReportedVolume { volume, report } = open_reported(alloc, &mut source, len)?;
+        let image = OpenedImage {
+            source,
+            len,
+            volume,
+        };
+        Ok((image, report))
+    }
+
     /// The reply to List of a folder, with has_id false in each item. Nothing is read. Error: memory was refused.
     pub fn list(&self, alloc: Global, dir: u32) -> Result<Reply, AllocError>
         ensures { IfOk result (IsBriefList self.now.known self.now.len dir) }
@@ -69,6 +99,19 @@ impl<S: BlockSource + Drop> OpenedImage<S> {
         no_blocks_fault();
         let volume = &self.volume;
         list_in_brief(alloc, &volume.read, volume.count, &volume.sound.trees, dir)
+    }
+
+    /// What is told of the item that the names of a path lead to, from the root's down: the reply to GetCatInfo of it, or to GetDirInfo of
+    /// the root. An empty first name stands for the root's. -43 where the first name isn't the root's or a name leads nowhere, -120
+    /// where the way goes through a file. Nothing is read.
+    pub fn item_at(&self, names: &[Name]) -> Reply
+        ensures { IsToldAt self.now.known self.now.len names.now result }
+    {
+        catalog_answers();
+        gathered_is_enough();
+        no_blocks_fault();
+        let volume = &self.volume;
+        told_in(&volume.read, volume.count, &volume.sound.trees, names)
     }
 
     /// All records of the catalog, in the order of its leaves: those of the items, and of their threads. Nothing is read. Error: memory was
@@ -96,6 +139,33 @@ impl<S: BlockSource + Drop> OpenedImage<S> {
         Inventory::new(alloc, records)
     }
 
+    /// Where the bytes of a file's fork lie; or what a call that reads the fork answers where there is none: -37, -120 or -43. Nothing is
+    /// read. Error: memory was refused.
+    pub fn fork_runs(
+        &self,
+        alloc: Global,
+        dir: u32,
+        name: &[u8],
+        fork: Fork,
+    ) -> Result<Result<ForkRuns, Reply>, AllocError>
+        ensures runs { IfOk result (TellsRunsNamed self.now.known self.now.len dir name.now fork) }
+        ensures unread { IfOk result (RefusesRuns self.now.known self.now.len dir name.now fork) }
+    {
+        catalog_answers();
+        gathered_is_enough();
+        no_blocks_fault();
+        let volume = &self.volume;
+        let (read, count, sound) = (&volume.read, volume.count, &volume.sound);
+        let file = match find_file(read, count, &sound.trees, dir, name) {
+            Ok(file) => file,
+            Err(reply) => return Ok(Err(reply)),
+        };
+        match file_runs(alloc, read, count, sound, &file, fork) {
+            Ok(runs) => Ok(Ok(runs)),
+            Err(refused) => Err(refused),
+        }
+    }
+
     /// The bytes of a file's fork, whose own blocks alone are read; or what a call that reads the fork answers where there is none: -37,
     /// -120 or -43. Errors: a read failed, memory was refused.
     pub fn fork(
@@ -112,6 +182,24 @@ impl<S: BlockSource + Drop> OpenedImage<S> {
         ensures kept { self.new ≡ self.old }
     {
         opened_fork(alloc, &mut self.source, &self.volume, dir, name, fork)
+    }
+
+    /// What is told of a file, and the bytes of both its forks, whose own blocks alone are read; or what a call that reads a fork answers
+    /// where there is no such file: -37, -120 or -43. Errors: a read failed, memory was refused.
+    pub fn file(
+        &mut self,
+        alloc: Global,
+        dir: u32,
+        name: &[u8],
+    ) -> Result<Result<NeededFile, Reply>, SparseFault>
+        ensures told { IfOk result (TellsOfFile self.old.known self.old.len dir name.now) }
+        ensures data_fork { IfOk result (HoldsDataNamed self.old.known self.old.len dir name.now) }
+        ensures resource_fork { IfOk result
+            (HoldsResourceNamed self.old.known self.old.len dir name.now) }
+        ensures unread { IfOk result (RefusesFileNamed self.old.known self.old.len dir name.now) }
+        ensures kept { self.new ≡ self.old }
+    {
+        opened_file(alloc, &mut self.source, &self.volume, dir, name)
     }
 
     /// Writes the bytes of a file's fork piece by piece, as they are read, at most 65,536 at a time: memory doesn't grow with the fork. Or answers

@@ -1,12 +1,21 @@
 //! The report on an image of which only the needed blocks are read.
-ghost use Rattle.std.specs.Prelude.{◌≡◌, ◌≤◌, IfOk};
+ghost use Rattle.std.specs.Prelude.{◌≡◌, ◌≤◌, ◌/◌, IfErr, IfOk};
+ghost use Rattle.hfs_check.specs.Parts.{mdb_in};
+ghost use Rattle.hfs_check.specs.Sound.{AreBlocksSound};
+ghost use Rattle.hfs_check.specs.Trees.{HasTrees};
 ghost use Rattle.hfs_needed.specs.Known.{IsReportIn, IsReportOf};
+ghost use Rattle.hfs_needed.specs.Opened.{AreRefusedFor, IsOpenedOf, IsRefusedFor, IsSoundOf};
+ghost use Rattle.hfs_sparse.specs.Sparse.{sparse};
 
 use crate::gathering::gather_needed;
 use crate::laws::gathered_is_enough;
-use hfs_check::{MountFault, Report, no_blocks_fault, refused_report, report_blocks};
-use hfs_sparse::{BlockSource, SparseFault};
-use std::alloc::Global;
+use crate::opening::{NeededFault, NeededVolume};
+use crate::sound_trees::sound_trees;
+use hfs_check::{
+    MountFault, Report, SoundVolume, no_blocks_fault, read_mdb, refused_report, report_blocks,
+};
+use hfs_sparse::{BlockSource, SparseBlocks, SparseFault};
+use std::alloc::{AllocError, Global};
 
 /// The report on the blocks of an image of `count` blocks, whose length is right.
 fn gathered_report<S: BlockSource>(
@@ -44,4 +53,83 @@ pub fn needed_report<S: BlockSource>(
         return Ok(refused_report(MountFault::Short));
     }
     gathered_report(alloc, source, (len / 512) as u32)
+}
+
+/// A sound volume of which the needed blocks were read, and its report.
+#[derive(Drop)]
+pub(crate) struct ReportedVolume {
+    pub(crate) volume: NeededVolume,
+    pub(crate) report: Report,
+}
+
+/// What opening keeps of a sound volume of which these blocks were read.
+fn sound_volume(alloc: Global, read: SparseBlocks, count: u32) -> Result<NeededVolume, AllocError>
+    requires some { 3 ≤ count }
+    requires sound { AreBlocksSound count (sparse read) }
+    ensures read { IfOk result (λ volume. volume.read ≡ read) }
+    ensures count { IfOk result (λ volume. volume.count ≡ count) }
+    ensures directory { IfOk result (λ volume. volume.sound.mdb ≡ mdb_in (sparse read)) }
+    ensures trees { IfOk result (λ volume. HasTrees count (sparse read) volume.sound.trees) }
+{
+    let mdb = read_mdb(&read.volume(count));
+    let trees = sound_trees(alloc, &read, count, &mdb)?;
+    Ok(NeededVolume {
+        read,
+        count,
+        sound: SoundVolume { mdb, trees },
+    })
+}
+
+/// Reads the needed blocks of an image of `count` blocks, whose length is right, and reports on them.
+fn report_opened<S: BlockSource>(
+    alloc: Global,
+    source: &mut S,
+    count: u32,
+) -> Result<ReportedVolume, NeededFault>
+    requires { 3 ≤ count }
+    ensures opened { IfOk result (λ found. IsOpenedOf (S.image source.old) count found.volume) }
+    ensures report { IfOk result (λ found. IsReportIn (S.image source.old) count found.report) }
+    ensures refused { IfErr result (λ fault. AreRefusedFor (S.image source.old) count fault) }
+    ensures image { S.image source.new ≡ S.image source.old }
+{
+    gathered_is_enough();
+    no_blocks_fault();
+    let read = match gather_needed(alloc, source, count) {
+        Ok(read) => read,
+        Err(fault) => return Err(NeededFault::of_sparse(fault)),
+    };
+    let Ok(report) = report_blocks(alloc, &read.volume(count)) else {
+        return Err(NeededFault::Memory);
+    };
+    match report.fault {
+        Some(why) => Err(NeededFault::Refused(why)),
+        None => match sound_volume(alloc, read, count) {
+            Ok(volume) => Ok(ReportedVolume { volume, report }),
+            Err(_) => Err(NeededFault::Memory),
+        },
+    }
+}
+
+/// Reads the needed blocks of an image of `len` bytes, and reports on them: all checks are made once. Errors: a read failed, memory was
+/// refused, or the image is refused.
+pub(crate) fn open_reported<S: BlockSource>(
+    alloc: Global,
+    source: &mut S,
+    len: u64,
+) -> Result<ReportedVolume, NeededFault>
+    ensures opened { IfOk result (λ found. IsOpenedOf (S.image source.old) (len / 512) found.volume) }
+    ensures report { IfOk result (λ found. IsReportOf (S.image source.old) len found.report) }
+    ensures sound { IfOk result (λ found. IsSoundOf (S.image source.old) len) }
+    ensures refused { IfErr result (λ fault. IsRefusedFor (S.image source.old) len fault) }
+    ensures image { S.image source.new ≡ S.image source.old }
+{
+    gathered_is_enough();
+    no_blocks_fault();
+    if len > 2_147_483_648 {
+        return Err(NeededFault::Refused(MountFault::TooLarge));
+    }
+    if len < 1_536 {
+        return Err(NeededFault::Refused(MountFault::Short));
+    }
+    report_opened(alloc, source, (len / 512) as u32)
 }

@@ -13,6 +13,9 @@ use hfs_names::{push_hex, push_mac_path, push_moment, push_plain_text};
 use itoa::Buffer;
 use std::alloc::AllocError;
 
+/// The bytes that most rows take, so that a row's text grows once.
+pub(crate) const USUAL: usize = 512;
+
 /// What kind of item it is, in a word.
 pub(crate) fn kind_word(kind: ItemKind) -> &'static str
     ensures { result.now ≡ kind_word kind }

@@ -3,7 +3,7 @@ ghost use Rattle.std.specs.Prelude.{◌≡◌, ◌++◌, OnOk, codes, flat_map};
 ghost use Rattle.std.specs.List.{list_any};
 ghost use Rattle.hfs_table.specs.Lines.{csv_field, csv_head, csv_line, doubled, field_text, is_quoted_for};
 
-use crate::cells::push_field;
+use crate::cells::{USUAL, push_field};
 use crate::column::{BEHIND_PATH, Column};
 use hfs_fields::Name;
 use hfs_model::Info;
@@ -110,7 +110,7 @@ pub(crate) fn push_csv_line(
 ) -> Result<(), AllocError>
     ensures { OnOk result (text.new.items ≡ text.old.items ++ csv_line names.now info.now) }
 {
-    let mut field = String::new(alloc);
+    let mut field = String::with_capacity(alloc, USUAL)?;
     push_column(text, &mut field, Column::Path, names, info)?;
     push_columns(text, &mut field, &BEHIND_PATH, names, info)?;
     text.extend_from_slice(b"\r\n")

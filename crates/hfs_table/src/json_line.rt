@@ -9,7 +9,7 @@ ghost use Rattle.hfs_table.specs.Cells.{cell_value, characters, flag, number, pa
 ghost use Rattle.hfs_table.specs.Columns.{cell, moment_cell, of_file, of_folder};
 ghost use Rattle.hfs_table.specs.Lines.{json_line, member, object};
 
-use crate::cells::kind_word;
+use crate::cells::{USUAL, kind_word};
 use crate::column::{BEHIND_PATH, Column, column_name};
 use hfs_fields::Name;
 use hfs_model::{Info, ItemKind};
@@ -17,13 +17,13 @@ use hfs_names::{push_characters, push_hex, push_mac_path_characters, push_moment
 use json::Writer;
 use std::alloc::{AllocError, Global};
 
-/// The bytes that most rows take.
-const USUAL: usize = 512;
+/// The bytes that most paths and all other texts of a row take.
+const USUAL_TEXT: usize = 128;
 
 fn put_path(alloc: Global, writer: &mut Writer, names: &[Name]) -> Result<(), AllocError>
     ensures { Adds result writer.old writer.new (cell_value (path names.now) ∷ []) }
 {
-    let mut text = String::new(alloc);
+    let mut text = String::with_capacity(alloc, USUAL_TEXT)?;
     push_mac_path_characters(&mut text, names)?;
     writer.string(text.as_str())
 }
@@ -41,7 +41,7 @@ fn put_of_file(
     match kind {
         ItemKind::Folder => writer.null(),
         ItemKind::File => {
-            let mut text = String::new(alloc);
+            let mut text = String::with_capacity(alloc, USUAL_TEXT)?;
             push_characters(&mut text, bytes)?;
             writer.string(text.as_str())
         }
@@ -51,7 +51,7 @@ fn put_of_file(
 fn put_hex(alloc: Global, writer: &mut Writer, bytes: &[u8]) -> Result<(), AllocError>
     ensures { Adds result writer.old writer.new (string (hex_text bytes.now) ∷ []) }
 {
-    let mut text = String::new(alloc);
+    let mut text = String::with_capacity(alloc, USUAL_TEXT)?;
     push_hex(&mut text, bytes)?;
     writer.string(text.as_str())
 }
@@ -71,7 +71,7 @@ fn put_moment(alloc: Global, writer: &mut Writer, date: u32) -> Result<(), Alloc
     if date == 0 {
         return writer.null();
     }
-    let mut text = String::new(alloc);
+    let mut text = String::with_capacity(alloc, USUAL_TEXT)?;
     push_moment(&mut text, date)?;
     writer.string(text.as_str())
 }

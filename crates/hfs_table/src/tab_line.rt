@@ -3,7 +3,7 @@ ghost use Rattle.std.specs.Prelude.{◌≡◌, ◌++◌, OnOk, codes, flat_map};
 ghost use Rattle.hfs_names.specs.Gains.{Gains};
 ghost use Rattle.hfs_table.specs.Lines.{field_text, tab_line};
 
-use crate::cells::push_field;
+use crate::cells::{USUAL, push_field};
 use crate::column::{BEHIND_PATH, Column};
 use hfs_fields::Name;
 use hfs_model::Info;
@@ -36,7 +36,7 @@ pub(crate) fn push_tab_line(
 ) -> Result<(), AllocError>
     ensures { OnOk result (text.new.items ≡ text.old.items ++ tab_line names.now info.now) }
 {
-    let mut line = String::new(alloc);
+    let mut line = String::with_capacity(alloc, USUAL)?;
     push_field(&mut line, Column::Path, names, info)?;
     push_tabbed(&mut line, &BEHIND_PATH, names, info)?;
     line.push('\n')?;

@@ -1,5 +1,7 @@
 //! What each word does.
 
+use crate::by_path::{print_fork_at, print_list_at, print_macbinary_at};
+use crate::hints::tell_hint;
 use crate::progress::Progress;
 use crate::saving::{save, tell};
 use crate::volumes::{
@@ -9,10 +11,11 @@ use crate::volumes::{
 use crate::words::{FileWords, ForkWords, NewVolume, RunWords, Words};
 use hfs_check::MountFault;
 use hfs_commands::{
-    BlockSource, ByteSource, Fault, Format, ImageFile, NeededFile, OpenedImage, Ran, RepairAnswer,
-    Status, check_text, code_text, list_text, load_file, load_script, needed_check_text,
-    needed_file, needed_list_text, open_image, put, put_macbinary, refused_text, repair_answer,
-    run_info, run_script_at, write_fork, write_items, write_macbinary,
+    BlockSource, ByteSource, CheckAnswer, CopyFault, Fault, Format, ImageFile, NeededFile,
+    OpenedImage, Ran, RepairAnswer, Status, check_answer, code_text, list_text, load_file,
+    load_script, needed_check_answer, needed_file, open_image, opened_list_text, put,
+    put_macbinary, refused_text, repair_answer, run_info, run_script_at, write_fork, write_items,
+    write_macbinary,
 };
 use hfs_format::{FormatPlan, format};
 use hfs_model::Reply;
@@ -43,6 +46,7 @@ pub fn obey<'a, T: Threads + Wait + Sync>(
             Some(n) => print_volume_list(rt, *image, *n, *dir),
             None => print_list(rt, *image, *dir),
         },
+        Words::ListAt(place) => print_list_at(rt, place),
         Words::Items {
             image,
             volume,
@@ -59,6 +63,8 @@ pub fn obey<'a, T: Threads + Wait + Sync>(
             Some(n) => print_volume_macbinary(rt, file, n),
             None => print_macbinary(rt, file),
         },
+        Words::CatAt(words) => print_fork_at(rt, words),
+        Words::MacBinaryAt(place) => print_macbinary_at(rt, place),
         Words::Volumes { file } => print_volumes(rt, *file),
         Words::New(volume) => write_new(rt, volume),
         Words::Repair { image, file } => write_repaired(rt, *image, *file),
@@ -106,17 +112,44 @@ pub fn print_told(
     Ok(status)
 }
 
+/// Prints what a check tells, and what a refusal means.
+pub fn print_checked(rt: &HostRuntime, told: &CheckAnswer) -> Result<u8, Fault<'static>> {
+    print_lines(rt, told.lines.as_str())?;
+    if let Some(why) = told.fault {
+        tell_hint(rt, why);
+    }
+    Ok(told.status)
+}
+
+/// Prints what a check of an image tells that was read where it is needed.
+pub fn print_needed_check<'a, S: BlockSource>(
+    rt: &HostRuntime,
+    path: &'a str,
+    source: &mut S,
+    len: u64,
+) -> Result<u8, Fault<'a>> {
+    match needed_check_answer(rt.alloc(), source, len) {
+        Ok(told) => print_checked(rt, &told),
+        Err(fault) => Err(Fault::of_sparse(fault, path)),
+    }
+}
+
+/// Prints what a check of an image tells whose bytes are all there.
+fn print_whole_check(rt: &HostRuntime, image: &[u8]) -> Result<u8, Fault<'static>> {
+    match check_answer(rt.alloc(), image) {
+        Ok(told) => print_checked(rt, &told),
+        Err(_) => Err(Fault::NoMemory),
+    }
+}
+
 /// Prints what is told of an image by its path. Each fault of the image is told behind `refused`.
 fn print_check<'a>(rt: &HostRuntime, path: &'a str) -> Result<u8, Fault<'a>> {
     match open_image(rt, path) {
         Ok(ImageFile::Seekable { mut source, len }) => {
-            match needed_check_text(rt.alloc(), &mut source, len) {
-                Ok(told) => print_told(rt, Ok(told)),
-                Err(fault) => Err(Fault::of_sparse(fault, path)),
-            }
+            print_needed_check(rt, path, &mut source, len)
         }
-        Ok(ImageFile::Whole(image)) => print_told(rt, check_text(rt.alloc(), image.as_slice())),
-        Err(Fault::Refused(why)) => print_told(rt, refused_text(rt.alloc(), why)),
+        Ok(ImageFile::Whole(image)) => print_whole_check(rt, image.as_slice()),
+        Err(Fault::Refused(why)) => print_refused(rt, why),
         Err(fault) => Err(fault),
     }
 }
@@ -132,9 +165,7 @@ fn mounted(rt: &HostRuntime, image: Vec<u8>) -> Result<Volume, Fault<'static>> {
 /// Prints the children of a folder by its ID.
 fn print_list<'a>(rt: &HostRuntime, path: &'a str, dir: u32) -> Result<u8, Fault<'a>> {
     match open_image(rt, path)? {
-        ImageFile::Seekable { mut source, len } => {
-            print_needed_list(rt, path, &mut source, len, dir)
-        }
+        ImageFile::Seekable { source, len } => print_needed_list(rt, path, source, len, dir),
         ImageFile::Whole(image) => {
             let volume = mounted(rt, image)?;
             print_told(rt, list_text(rt.alloc(), &volume, dir))
@@ -143,15 +174,15 @@ fn print_list<'a>(rt: &HostRuntime, path: &'a str, dir: u32) -> Result<u8, Fault
 }
 
 /// Prints the children of a folder, of which the blocks are read that are needed.
-pub fn print_needed_list<'a, S: BlockSource>(
+pub fn print_needed_list<'a, S: BlockSource + Drop>(
     rt: &HostRuntime,
     path: &'a str,
-    source: &mut S,
+    source: S,
     len: u64,
     dir: u32,
 ) -> Result<u8, Fault<'a>> {
-    match needed_list_text(rt.alloc(), source, len, dir) {
-        Ok(told) => print_told(rt, Ok(told)),
+    match OpenedImage::open(rt.alloc(), source, len) {
+        Ok(image) => print_told(rt, opened_list_text(rt.alloc(), &image, dir)),
         Err(fault) => Err(Fault::of_needed(fault, path)),
     }
 }
@@ -254,7 +285,10 @@ pub fn print_needed_macbinary<'a, S: BlockSource>(
 }
 
 /// Prints a file with both forks, or the code of the call that was refused.
-fn print_found(rt: &HostRuntime, found: Result<NeededFile, Reply>) -> Result<u8, Fault<'static>> {
+pub fn print_found(
+    rt: &HostRuntime,
+    found: Result<NeededFile, Reply>,
+) -> Result<u8, Fault<'static>> {
     match found {
         Ok(file) => print_file(rt, &file),
         Err(reply) => print_code(rt, &reply),
@@ -315,15 +349,25 @@ pub fn print_needed_fork<'a, S: BlockSource + Drop>(
         Err(fault) => return Err(Fault::of_needed(fault, file.image)),
     };
     let (name, fork) = (file.name.as_bytes(), file.fork);
-    match image.write_fork(rt.alloc(), file.dir, name, fork, &mut rt.stdout()) {
+    let written = image.write_fork(rt.alloc(), file.dir, name, fork, &mut rt.stdout());
+    print_written(rt, file.image, written)
+}
+
+/// Prints the code of the call that refused a fork, where it was not written.
+pub fn print_written<'a>(
+    rt: &HostRuntime,
+    path: &'a str,
+    written: Result<Result<(), Reply>, CopyFault>,
+) -> Result<u8, Fault<'a>> {
+    match written {
         Ok(Ok(())) => Ok(Status::Done.number()),
         Ok(Err(reply)) => print_code(rt, &reply),
-        Err(fault) => Err(Fault::of_copy(fault, file.image)),
+        Err(fault) => Err(Fault::of_copy(fault, path)),
     }
 }
 
 /// Prints the code of a call that was refused.
-fn print_code(rt: &HostRuntime, reply: &Reply) -> Result<u8, Fault<'static>> {
+pub fn print_code(rt: &HostRuntime, reply: &Reply) -> Result<u8, Fault<'static>> {
     let Ok(line) = code_text(rt.alloc(), reply) else {
         return Err(Fault::NoMemory);
     };
@@ -379,6 +423,9 @@ fn write_answer<'a>(
     };
     print_lines(rt, answer.lines.as_str())?;
     tell(rt, &leftover);
+    if let Some(why) = answer.fault {
+        tell_hint(rt, why);
+    }
     Ok(answer.status)
 }
 
@@ -419,7 +466,9 @@ fn print_ran<'a>(rt: &HostRuntime, out: Option<&'a str>, ran: &Ran) -> Result<u8
     Ok(Status::of_run(ran.whole).number())
 }
 
-/// Prints why an image is refused.
+/// Prints why an image is refused, and what that means.
 fn print_refused<'a>(rt: &HostRuntime, why: MountFault) -> Result<u8, Fault<'a>> {
-    print_told(rt, refused_text(rt.alloc(), why))
+    let status = print_told(rt, refused_text(rt.alloc(), why))?;
+    tell_hint(rt, why);
+    Ok(status)
 }

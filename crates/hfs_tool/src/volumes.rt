@@ -1,13 +1,11 @@
 //! What the words do on volumes that lie in files.
 
 use crate::commands::{
-    print_info, print_items_of, print_lines, print_needed_fork, print_needed_list,
-    print_needed_macbinary, print_told,
+    print_info, print_items_of, print_lines, print_needed_check, print_needed_fork,
+    print_needed_list, print_needed_macbinary,
 };
 use crate::words::{FileWords, ForkWords};
-use hfs_commands::{
-    Fault, Format, ReadAt, Status, needed_check_text, open_file, open_volume, volume_lines,
-};
+use hfs_commands::{Fault, Format, ReadAt, Status, open_file, open_volume, volume_lines};
 
 /// Prints a line for each volume that lies in a file.
 pub fn print_volumes<'a>(rt: &HostRuntime, path: &'a str) -> Result<u8, Fault<'a>> {
@@ -39,10 +37,7 @@ pub fn print_volume_info<'a>(rt: &HostRuntime, path: &'a str, n: u64) -> Result<
 pub fn print_volume_check<'a>(rt: &HostRuntime, path: &'a str, n: u64) -> Result<u8, Fault<'a>> {
     let mut volume = open_volume(rt, path, n)?;
     let len = volume.len();
-    match needed_check_text(rt.alloc(), &mut volume, len) {
-        Ok(told) => print_told(rt, Ok(told)),
-        Err(fault) => Err(Fault::of_sparse(fault, path)),
-    }
+    print_needed_check(rt, path, &mut volume, len)
 }
 
 /// Prints the children of a folder of the `n`-th volume in a file.
@@ -52,9 +47,9 @@ pub fn print_volume_list<'a>(
     n: u64,
     dir: u32,
 ) -> Result<u8, Fault<'a>> {
-    let mut volume = open_volume(rt, path, n)?;
+    let volume = open_volume(rt, path, n)?;
     let len = volume.len();
-    print_needed_list(rt, path, &mut volume, len, dir)
+    print_needed_list(rt, path, volume, len, dir)
 }
 
 /// Prints the table of the items of the `n`-th volume in a file.

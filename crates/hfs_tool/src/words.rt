@@ -29,6 +29,8 @@ pub enum Words<'a> {
         volume: Option<u64>,
         dir: u32,
     },
+    /// `ls IMAGE --path PATH [--volume N]`: the same of the folder that the path leads to.
+    ListAt(PathWords<'a>),
     /// `items IMAGE [--format tab|csv|json] [--volume N]`: a line for each item of the volume.
     Items {
         image: &'a str,
@@ -37,8 +39,12 @@ pub enum Words<'a> {
     },
     /// `cat IMAGE DIR NAME [--resource] [--volume N]`: the bytes of a file's fork.
     Cat(ForkWords<'a>),
+    /// `cat IMAGE --path PATH [--resource] [--volume N]`: the same of the file that the path leads to.
+    CatAt(ForkPathWords<'a>),
     /// `cat IMAGE DIR NAME --macbinary [--volume N]`: a file with both forks.
     MacBinary(FileWords<'a>),
+    /// `cat IMAGE --path PATH --macbinary [--volume N]`: the same of the file that the path leads to.
+    MacBinaryAt(PathWords<'a>),
     /// `volumes FILE`: a line for each volume that lies in a file.
     Volumes {
         file: &'a str,
@@ -80,6 +86,25 @@ pub struct FileWords<'a> {
     pub dir: u32,
     /// The file's name.
     pub name: &'a str,
+}
+
+/// An item, by its path in an image.
+#[derive(Clone, Copy)]
+pub struct PathWords<'a> {
+    /// The path of the image.
+    pub image: &'a str,
+    /// The number of the volume in it, where one is asked for.
+    pub volume: Option<u64>,
+    /// The path of the item.
+    pub path: &'a str,
+}
+
+/// A fork of a file, by the path of the file in an image.
+#[derive(Clone, Copy)]
+pub struct ForkPathWords<'a> {
+    pub place: PathWords<'a>,
+    /// Which of its forks.
+    pub fork: Fork,
 }
 
 /// A new volume, and the file that it is written to.
@@ -130,6 +155,24 @@ fn volume<'a>(alloc: Global) -> Arg<'a> {
         .action(ArgAction::Set)
         .value_parser(value_parser!(u64))
         .help("The N-th of the volumes that volumes IMAGE lists, in place of the image's own bytes")
+}
+
+/// An item by its path, in place of the ID of a folder.
+fn path<'a>(alloc: Global) -> Result<Arg<'a>, AllocError> {
+    Arg::new(alloc, "path")
+        .long("path")
+        .value_name("PATH")
+        .action(ArgAction::Set)
+        .allow_hyphen_values(true)
+        .help(
+            "The item by its path, as items prints it (D:Folder:File); the volume's name may be left out (:Folder:File)",
+        )
+        .conflicts_with("DIR")
+}
+
+/// A file by its path, in place of the ID of a folder and a name.
+fn path_of_file<'a>(alloc: Global) -> Result<Arg<'a>, AllocError> {
+    path(alloc)?.conflicts_with("NAME")
 }
 
 /// Takes numbers from 0 to 4,294,967,295 alone.
@@ -320,7 +363,8 @@ fn list_command<'a>(alloc: Global) -> Result<Command<'a>, AllocError> {
         )
         .arg(image(alloc));
     let with_folder = with_argument(with_image, folder(alloc));
-    with_argument(with_folder, volume(alloc))
+    let with_path = with_made_argument(with_folder, path(alloc));
+    with_argument(with_path, volume(alloc))
 }
 
 /// The names of the formats of a table.
@@ -374,7 +418,8 @@ fn cat_command<'a>(alloc: Global) -> Result<Command<'a>, AllocError> {
     let dir = number(alloc, "DIR").help("The ID of the folder that holds the file");
     let with_dir = with_argument(with_image, dir);
     let with_name = with_argument(with_dir, name(alloc).help("The file's name"));
-    let with_resource = with_argument(with_name, resource(alloc));
+    let with_path = with_made_argument(with_name, path_of_file(alloc));
+    let with_resource = with_argument(with_path, resource(alloc));
     let with_macbinary = with_made_argument(with_resource, macbinary(alloc));
     with_argument(with_macbinary, volume(alloc))
 }
@@ -468,11 +513,7 @@ fn words_behind<'a>(word: &str, inner: &ArgMatches<'a>) -> Words<'a> {
             image: text_of(inner, "IMAGE"),
             volume: volume_of(inner),
         },
-        "ls" => Words::List {
-            image: text_of(inner, "IMAGE"),
-            volume: volume_of(inner),
-            dir: number_of(inner, "DIR"),
-        },
+        "ls" => list_words(inner),
         "items" => Words::Items {
             image: text_of(inner, "IMAGE"),
             volume: volume_of(inner),
@@ -481,7 +522,10 @@ fn words_behind<'a>(word: &str, inner: &ArgMatches<'a>) -> Words<'a> {
         "volumes" => Words::Volumes {
             file: text_of(inner, "FILE"),
         },
-        "cat" => cat_words(inner),
+        "cat" => match matches_path(inner) {
+            Some(place) => cat_at_words(inner, place),
+            None => cat_words(inner),
+        },
         "new" => new_words(inner),
         "repair" => Words::Repair {
             image: text_of(inner, "IMAGE"),
@@ -508,6 +552,47 @@ fn format_of(matches: &ArgMatches<'_>) -> Format {
     }
 }
 
+/// The item that a path leads to, where a path is given.
+fn matches_path<'a>(matches: &ArgMatches<'a>) -> Option<PathWords<'a>> {
+    let path = matches.get_str("path")?;
+    Some(PathWords {
+        image: text_of(matches, "IMAGE"),
+        volume: volume_of(matches),
+        path,
+    })
+}
+
+fn list_words<'a>(matches: &ArgMatches<'a>) -> Words<'a> {
+    match matches_path(matches) {
+        Some(place) => Words::ListAt(place),
+        None => Words::List {
+            image: text_of(matches, "IMAGE"),
+            volume: volume_of(matches),
+            dir: number_of(matches, "DIR"),
+        },
+    }
+}
+
+/// Which fork of a file was asked for.
+fn fork_of(matches: &ArgMatches<'_>) -> Fork {
+    if matches.get_flag("resource") {
+        Fork::ResFork
+    } else {
+        Fork::DataFork
+    }
+}
+
+fn cat_at_words<'a>(matches: &ArgMatches<'a>, place: PathWords<'a>) -> Words<'a> {
+    if matches.get_flag("macbinary") {
+        Words::MacBinaryAt(place)
+    } else {
+        Words::CatAt(ForkPathWords {
+            place,
+            fork: fork_of(matches),
+        })
+    }
+}
+
 fn cat_words<'a>(matches: &ArgMatches<'a>) -> Words<'a> {
     if matches.get_flag("macbinary") {
         Words::MacBinary(FileWords {
@@ -522,17 +607,12 @@ fn cat_words<'a>(matches: &ArgMatches<'a>) -> Words<'a> {
 }
 
 fn fork_words<'a>(matches: &ArgMatches<'a>) -> Words<'a> {
-    let fork = if matches.get_flag("resource") {
-        Fork::ResFork
-    } else {
-        Fork::DataFork
-    };
     Words::Cat(ForkWords {
         image: text_of(matches, "IMAGE"),
         volume: volume_of(matches),
         dir: number_of(matches, "DIR"),
         name: text_of(matches, "NAME"),
-        fork,
+        fork: fork_of(matches),
     })
 }
 

@@ -1,0 +1,34 @@
+-- By the image's length.
+use Rattle.std.proofs.Common.{rules}
+use Rattle.hfs_check.specs.declared.mount_fault.MountFault.TheVariants as fault
+use Rattle.hfs_needed.specs.declared.reporting.ReportedVolume.{ReportedVolume}
+use Rattle.hfs_needed.proofs.Refused.{length-refused, err-so, opened-sound}
+use Rattle.hfs_needed.proofs.Reported.{length-large, length-short, length-right, ok-so, reports-right}
+use Rattle.hfs_needed.proofs.reporting.open_reported.Goals as goal
+
+pub returns-then-len-gt2147483648-clause-refused :
+    goal.returns-then-len-gt2147483648-clause-refused
+returns-then-len-gt2147483648-clause-refused g c =
+    length-refused fault.TooLarge (g.S.BlockSource.image c.args.source.now) c.args.len (length-large c.args.len (search rules))
+
+pub returns-then-len-lt1536-clause-refused : goal.returns-then-len-lt1536-clause-refused
+returns-then-len-lt1536-clause-refused g c =
+    length-refused fault.Short (g.S.BlockSource.image c.args.source.now) c.args.len (length-short c.args.len (search rules) (search rules))
+
+pub returns-clause-refused : goal.returns-clause-refused
+returns-clause-refused g c =
+    err-so (g.S.BlockSource.image c.args.source.now) c.args.len (length-right c.args.len (search rules) (search rules)) c.report_opened.result
+    c.report_opened.ensures.refused
+
+pub returns-clause-report : goal.returns-clause-report
+returns-clause-report g c =
+    ok-so c.report_opened.result
+    (λ (found : ReportedVolume).
+    reports-right (g.S.BlockSource.image c.args.source.now) c.args.len (search rules) (search rules) found.report) c.report_opened.ensures.report
+
+pub returns-clause-sound : goal.returns-clause-sound
+returns-clause-sound g c =
+    ok-so c.report_opened.result
+    (λ (found : ReportedVolume) opened.
+    opened-sound c.no_blocks_fault.ensures c.gathered_is_enough.ensures (g.S.BlockSource.image c.args.source.now) c.args.len
+    (length-right c.args.len (search rules) (search rules)) found.volume opened) c.report_opened.ensures.opened
