@@ -22,7 +22,6 @@ use Rattle.hfs_space.specs.TreeFiles.{HaveTreeBlocks, node_count, tree_blocks}
 use Rattle.hfs_space.specs.TreeKeys.{extents_through, overflow_of}
 use Rattle.hfs_check.specs.Parts.{Blocks, extents_nodes, mdb_in, overflow_in}
 use Rattle.hfs_needed.specs.Forks.{HasWhole, AreForkRuns}
-use Rattle.hfs_needed.specs.ForkRuns.{bytes_at}
 use Rattle.hfs_fields.specs.declared.file_record.ForkRecord.{ForkRecord}
 use Rattle.hfs_blocks.specs.Layers.{Numbered}
 use Rattle.hfs_sparse.specs.Sparse.{sparse}
@@ -124,9 +123,3 @@ fork-unwritten (Some image) total bytes a = λ whole. (0, Appends-nil a)
 pub on-error : {A E : Type 0} {P Q : Type 0} (r : Result A E) → (P → Q) → OnErr r P → OnErr r Q
 on-error (Ok x) f h = tt
 on-error (Err e) f h = f h
-
--- the first bytes of runs lie in them
-pub lie-there : (known : Option (List ℕ)) (runs : List Run) (len : ℕ)
-    → IfSome known (λ image. IfSome known (λ same. take len (flat_map (block_at image) (flat_map run_of runs)) ≡ bytes_at same runs len))
-lie-there None runs len = tt
-lie-there (Some image) runs len = refl

@@ -11,4 +11,3 @@ pub mod TreeReads
 pub mod OpenedValues
 pub mod WholeFiles
 pub mod Paths
-pub mod ForkRuns

@@ -2,7 +2,6 @@
 ghost use Rattle.std.specs.Prelude.{◌≡◌, Err, IfOk, IfErr, OnErr};
 ghost use Rattle.hfs_texts.specs.Writing.{AppendsFront};
 ghost use Rattle.hfs_needed.specs.Forks.{FindsForkNamed, OfForkNamed, RefusesForkNamed, RefusesWriting, WritesForkNamed};
-ghost use Rattle.hfs_needed.specs.ForkRuns.{RefusesRuns, TellsRunsNamed};
 ghost use Rattle.hfs_needed.specs.Listing.{IsBriefList, HoldsCatalog, HoldsTable};
 ghost use Rattle.hfs_needed.specs.Known.{IsReportOf};
 ghost use Rattle.hfs_needed.specs.Opened.{IsRefusedFor, IsSoundOf};
@@ -10,8 +9,7 @@ ghost use Rattle.hfs_needed.specs.OpenedValues.{opened_value};
 ghost use Rattle.hfs_needed.specs.Paths.{IsToldAt};
 ghost use Rattle.hfs_needed.specs.WholeFiles.{HoldsDataNamed, HoldsResourceNamed, RefusesFileNamed, TellsOfFile};
 
-use crate::fork_runs::{ForkRuns, file_runs};
-use crate::forks::{find_file, opened_fork, write_opened};
+use crate::forks::{opened_fork, write_opened};
 use crate::laws::gathered_is_enough;
 use crate::listing::{catalog_records, list_in_brief};
 use crate::opening::{NeededFault, NeededVolume, open_needed};
@@ -137,33 +135,6 @@ impl<S: BlockSource + Drop> OpenedImage<S> {
         let volume = &self.volume;
         let records = catalog_records(alloc, &volume.read, volume.count, &volume.sound.trees)?;
         Inventory::new(alloc, records)
-    }
-
-    /// Where the bytes of a file's fork lie; or what a call that reads the fork answers where there is none: -37, -120 or -43. Nothing is
-    /// read. Error: memory was refused.
-    pub fn fork_runs(
-        &self,
-        alloc: Global,
-        dir: u32,
-        name: &[u8],
-        fork: Fork,
-    ) -> Result<Result<ForkRuns, Reply>, AllocError>
-        ensures runs { IfOk result (TellsRunsNamed self.now.known self.now.len dir name.now fork) }
-        ensures unread { IfOk result (RefusesRuns self.now.known self.now.len dir name.now fork) }
-    {
-        catalog_answers();
-        gathered_is_enough();
-        no_blocks_fault();
-        let volume = &self.volume;
-        let (read, count, sound) = (&volume.read, volume.count, &volume.sound);
-        let file = match find_file(read, count, &sound.trees, dir, name) {
-            Ok(file) => file,
-            Err(reply) => return Ok(Err(reply)),
-        };
-        match file_runs(alloc, read, count, sound, &file, fork) {
-            Ok(runs) => Ok(Ok(runs)),
-            Err(refused) => Err(refused),
-        }
     }
 
     /// The bytes of a file's fork, whose own blocks alone are read; or what a call that reads the fork answers where there is none: -37,
