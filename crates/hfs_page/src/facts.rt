@@ -74,7 +74,12 @@ fn push_sizes(alloc: Global, page: &mut Vec<u8>, mdb: &Mdb) -> Result<(), AllocE
     ensures { OnOk result (Gains page.old page.new (sizes_text mdb.now)) }
 {
     push_blocks_row(alloc, page, b"Allocation blocks", mdb.allocation_blocks)?;
-    push_count_row(alloc, page, b"Bytes of each", mdb.allocation_block_size)?;
+    push_count_row(
+        alloc,
+        page,
+        b"Bytes of each block",
+        mdb.allocation_block_size,
+    )?;
     push_blocks_row(alloc, page, b"Free blocks", mdb.free_blocks)
 }
 
@@ -92,7 +97,7 @@ pub(crate) fn push_facts(alloc: Global, page: &mut Vec<u8>, mdb: &Mdb) -> Result
 {
     push_bytes(
         page,
-        b"<table>\n<tr><th scope=\"row\">Check</th><td>sound</td></tr>\n",
+        b"<table aria-label=\"The volume\">\n<tr><th scope=\"row\">Check</th><td>sound</td></tr>\n",
     )?;
     push_dates(alloc, page, mdb)?;
     push_sizes(alloc, page, mdb)?;
@@ -106,7 +111,7 @@ pub(crate) fn push_head(page: &mut Vec<u8>, style: &[u8], title: &[u8]) -> Resul
 {
     push_bytes(
         page,
-        b"<!DOCTYPE html>\n<html lang=\"en\">\n<head>\n<meta charset=\"utf-8\">\n<meta name=\"viewport\" content=\"width=device-width\">\n<title>",
+        b"<!DOCTYPE html>\n<html lang=\"en\">\n<head>\n<meta charset=\"utf-8\">\n<meta name=\"viewport\" content=\"width=device-width\">\n<meta http-equiv=\"Content-Security-Policy\" content=\"default-src 'none'; style-src 'unsafe-inline'; script-src 'unsafe-inline'; img-src data:\">\n<link rel=\"icon\" href=\"data:,\">\n<title>",
     )?;
     push_bytes(page, title)?;
     push_bytes(page, b"</title>\n<style>")?;

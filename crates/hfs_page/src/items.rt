@@ -27,9 +27,14 @@ fn push_folder(alloc: Global, page: &mut Vec<u8>, info: &Info) -> Result<(), All
     ensures { OnOk result (Gains page.old page.new (folder_text info.now)) }
 {
     push_name(alloc, page, info)?;
-    push_told_number(alloc, page, b" <span>folder, items ", info.valence)?;
-    push_told_date(alloc, page, b", modified ", info.modified)?;
-    push_bytes(page, b"</span>")
+    push_told_number(
+        alloc,
+        page,
+        b" <span>folder</span> <span>items ",
+        info.valence,
+    )?;
+    push_told_date(alloc, page, b"</span> <span>modified <i>", info.modified)?;
+    push_bytes(page, b"</i></span>")
 }
 
 /// Appends a file's type and creator.
@@ -37,8 +42,13 @@ fn push_folder(alloc: Global, page: &mut Vec<u8>, info: &Info) -> Result<(), All
 fn push_type(alloc: Global, page: &mut Vec<u8>, info: &Info) -> Result<(), AllocError>
     ensures { OnOk result (Gains page.old page.new (type_text info.now)) }
 {
-    push_told_text(alloc, page, b" <span>file, type ", &info.finder[..4])?;
-    push_told_text(alloc, page, b", creator ", &info.finder[4..8])
+    push_told_text(
+        alloc,
+        page,
+        b" <span>file</span> <span>type ",
+        &info.finder[..4],
+    )?;
+    push_told_text(alloc, page, b"</span> <span>creator ", &info.finder[4..8])
 }
 
 /// Appends how many bytes the forks of a file have.
@@ -46,8 +56,13 @@ fn push_type(alloc: Global, page: &mut Vec<u8>, info: &Info) -> Result<(), Alloc
 fn push_sizes(alloc: Global, page: &mut Vec<u8>, info: &Info) -> Result<(), AllocError>
     ensures { OnOk result (Gains page.old page.new (sizes_text info.now)) }
 {
-    push_told_number(alloc, page, b", data fork ", info.data_len)?;
-    push_told_number(alloc, page, b" bytes, resource fork ", info.res_len)?;
+    push_told_number(alloc, page, b"</i></span> <span>data fork ", info.data_len)?;
+    push_told_number(
+        alloc,
+        page,
+        b" bytes</span> <span>resource fork ",
+        info.res_len,
+    )?;
     push_bytes(page, b" bytes</span>")
 }
 
@@ -58,7 +73,7 @@ fn push_file(alloc: Global, page: &mut Vec<u8>, info: &Info) -> Result<(), Alloc
 {
     push_name(alloc, page, info)?;
     push_type(alloc, page, info)?;
-    push_told_date(alloc, page, b", modified ", info.modified)?;
+    push_told_date(alloc, page, b"</span> <span>modified <i>", info.modified)?;
     push_sizes(alloc, page, info)
 }
 

@@ -1,5 +1,6 @@
 //! What each word does.
 
+use crate::pages::print_page;
 use crate::progress::Progress;
 use crate::saving::{save, tell};
 use crate::volumes::{
@@ -51,6 +52,7 @@ pub fn obey<'a, T: Threads + Wait + Sync>(
             Some(n) => print_volume_items(rt, *image, *n, *format),
             None => print_items(rt, *image, *format),
         },
+        Words::Page { image, volume } => print_page(rt, *image, *volume),
         Words::Cat(file) => match file.volume {
             Some(n) => print_volume_fork(rt, file, n),
             None => print_fork(rt, file),

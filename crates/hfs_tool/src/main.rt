@@ -6,6 +6,7 @@ ghost use Rattle.hfs_commands.specs.Faults.{status_number, status_of};
 
 mod commands;
 mod hints;
+mod pages;
 mod progress;
 mod saving;
 mod volumes;

@@ -1,0 +1,39 @@
+-- Volumes that hold the same have the same page.
+use Rattle.std.proofs.Common.{◌≡◌, ℕ, zero, suc, ◌+◌, ◌<◌, Bool, List, [], ◌∷◌, ◌++◌, map, refl, ap, ◌∙◌, arith}
+use Rattle.std.specs.List.{range_with_len}
+use Rattle.hfs_space.specs.Bitmap.{is_used}
+use Rattle.hfs_check.specs.Parts.{Blocks, catalog_in, mdb_in, overflow_in}
+use Rattle.hfs_inventory.specs.Levels.{catalog_rows}
+use Rattle.hfs_needed.specs.Laws.{HoldSame}
+use Rattle.hfs_page.specs.declared.parts.Holding.{Holding}
+use Rattle.hfs_page.specs.Cells.{picture_cells}
+use Rattle.hfs_page.specs.Disk.{cells_in, page_in}
+use Rattle.hfs_page.specs.Document.{end_text, front_text}
+use Rattle.hfs_page.specs.Holdings.{volume_holdings}
+use Rattle.hfs_page.specs.Items.{rows_text}
+use Rattle.hfs_page.specs.Uses.{block_uses, unowned, use_by}
+
+map-range : {A : Type 0} (f g : ℕ → A) (a n : ℕ) → ((k : ℕ) → k < a + n → f k ≡ g k) → map f (range_with_len a n) ≡ map g (range_with_len a n)
+map-range f g a zero h = refl
+map-range f g a (suc n) h = λ i. h a (omega arith) i ∷ map-range f g (a + 1) n (λ k lt. h k (omega (arith, lt))) i
+
+-- where the same blocks are marked
+uses-same : (holdings : List Holding) (p q : ℕ → Bool) (n : ℕ) → ((k : ℕ) → k < n → p k ≡ q k) → block_uses holdings p n ≡ block_uses holdings q n
+unfolding block_uses
+uses-same holdings p q n h =
+    map-range (λ k. use_by holdings (unowned (p k)) k) (λ k. use_by holdings (unowned (q k)) k) 0 n
+    (λ k lt. ap (λ (marked : Bool). use_by holdings (unowned marked) k) (h k (omega (arith, lt))))
+
+module _ (total : ℕ) (old new : Blocks) (same : HoldSame total old new) where
+  cells-same : cells_in new ≡ cells_in old
+  unfolding cells_in
+  cells-same =
+      (λ i. picture_cells (block_uses (volume_holdings (same.directory i) (same.overflow i) (same.catalog i))
+      (is_used new (same.directory i).bitmap_start) (same.directory i).allocation_blocks))
+      ∙ ap picture_cells (uses-same (volume_holdings (mdb_in old) (overflow_in old) (catalog_in old)) (is_used new (mdb_in old).bitmap_start)
+      (is_used old (mdb_in old).bitmap_start) (mdb_in old).allocation_blocks same.marks)
+
+  pub page-same : (style legend script : List ℕ) → page_in style legend script new ≡ page_in style legend script old
+  unfolding page_in
+  page-same style legend script =
+      λ i. front_text style legend (same.directory i) (same.catalog i) (cells-same i) ++ rows_text 0 (catalog_rows (same.catalog i)) ++ end_text script

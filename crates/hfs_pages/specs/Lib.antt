@@ -1,0 +1,2 @@
+pub mod ImagePages
+pub mod Meanings
