@@ -32,6 +32,8 @@ from hostile_images import (EXTENTS_KEY_LENGTH, FIRST_FREE, LEAF, ROOT, Plan, Tr
                             one_leaf, thread)
 from hostile_images import file as file_record
 from items import Differs, ensure, ensure_same, moment, plain, told
+from slow_volumes import Volume, cut_files
+from slow_volumes import plain as plain_volume
 from volumes import in_disk_copy, in_map
 
 VOLUMES = Path(__file__).resolve().parent / 'volumes'
@@ -386,20 +388,21 @@ def compare_deep(pages):
 
 
 def compare_many(pages, count):
-    """A volume of so many items: its page is short, beside their names."""
-    folders = max(1, count // 1_001)
-    calls = [f'mkdir\t2\tfolder {n}' for n in range(folders)]
-    for n in range(count - folders - 1):
-        calls.append(f'create\t{FIRST_FREE + n % folders}\tfile {n} & more')
-        if n % 50 == 0:
-            calls.append(f'setinfo\t{FIRST_FREE + n % folders}\tfile {n} & more\t3029529600\t4294967295\t1\t{"54455854ff262222" + "00" * 24}')
-    image = pages.changed('many', new_volume(60_000, max(2_048, count), 4), calls, 3_786_912_000)
-    page, rows = pages.want(image)
-    ensure(len(rows) == count, f'{len(rows)} items')
-    names = sum(len(path.rpartition(':')[2].replace('&', '&amp;').encode()) for path, _ in rows)
-    picture = page.index(b'<ul id="items">')
-    ensure(len(page) - names <= 400 * count + picture, f'{len(page)} bytes for {count} items, whose names have {names}')
-    return (len(page) - names - picture) / count
+    """A volume of so many items in folders, and one of files in pieces: their pages are short, beside the names."""
+    volume = Volume(10 + count // 1_000)
+    plain_volume(volume, count)
+    volume.write(pages.folder / 'many.img')
+    page, rows = pages.want(pages.folder / 'many.img')
+    ensure(len(rows) == 1 + count, f'{len(rows)} items')
+    names = sum(len(path.rpartition(':')[2]) for path, _ in rows)
+    items = len(page) - page.index(b'<ul id="items">')
+    ensure(len(page) - names <= 400 * len(rows) + page.index(b'<h2>Items'), f'{len(page)} bytes for {len(rows)} items, whose names have {names}')
+
+    volume = Volume(10)
+    cut_files(volume, min(count, 1_000))
+    volume.write(pages.folder / 'pieces.img')
+    pages.want(pages.folder / 'pieces.img')
+    return (items - names) / len(rows)
 
 
 def compare_ways(pages):

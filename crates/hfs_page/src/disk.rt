@@ -154,9 +154,10 @@ fn inventory(alloc: Global, records: Vec<CatalogRecord>) -> Result<Inventory, Pa
     }
 }
 
-/// Writes the page of a sound volume: what stands before the items, each item's row, and what stands behind them. Beside the records of the
-/// catalog and the picture no more than one row is in memory. `style` stands in the head, `legend` under the picture, `script` behind the
-/// items. Faults: memory was refused, or the writer failed, and then a part of the page may have gone out.
+/// Writes the page of a sound volume: what stands before the items, each item's row, and what
+/// stands behind them. Beside the records of the catalog and the picture no more than one row is in
+/// memory. `style` stands in the head, `legend` under the picture, `script` behind the items.
+/// Faults: memory was refused, or the writer failed, and then a part of the page may have gone out.
 #[tactic(auto, unfolding(crate::specs::Disk::page_in))]
 pub fn write_page<B: Blocks, W: Write>(
     alloc: Global,

@@ -1,7 +1,9 @@
-//! What a page wears: its style, the legend under its picture with what stands before the items, and the script of its search. A
-//! page asks for nothing from elsewhere, and does without the script.
+//! What a page wears: its style, the legend under its picture with what stands before the items,
+//! and the script of its search. A page asks for nothing from elsewhere, and does without the
+//! script.
 
-/// The style in the head, in light and in dark. A wide page has the details of its items in columns.
+/// The style in the head, in light and in dark. A wide page has the details of its items in
+/// columns.
 pub fn style() -> &'static [u8] {
     b"
 :root{color-scheme:light dark;--paper:#fbfaf7;--ink:#24221f;--faint:#67625a;--line:#ddd8ce;--mark:#2c5f8f;--p0:#b5392f;--p1:#7d5aa6;--p2:#2f6db3;--p3:#d9902f;--p4:#57a37e;--p5:#4d4942;--p6:#e8e4dc}
@@ -67,7 +69,8 @@ main{padding:2rem 2rem 6rem}
 "
 }
 
-/// What the picture shows, the legend, the heading of the items, and the field of the search, which the script shows.
+/// What the picture shows, the legend, the heading of the items, and the field of the search, which
+/// the script shows.
 pub fn legend() -> &'static [u8] {
     b"<p class=\"note\">Each square is an allocation block, or several where the disk has more than 4,096. It shows the first of these uses that
 one of its blocks has.</p>
@@ -86,8 +89,8 @@ one of its blocks has.</p>
 "
 }
 
-/// The script of the search: of the items it shows those whose names have what is typed, and the folders in which they lie, opened. It tells
-/// how many of all names have it.
+/// The script of the search: of the items it shows those whose names have what is typed, and the
+/// folders in which they lie, opened. It tells how many of all names have it.
 pub fn script() -> &'static [u8] {
     b"<script>
 \"use strict\";

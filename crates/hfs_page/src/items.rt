@@ -133,7 +133,8 @@ fn push_leaf(alloc: Global, page: &mut Vec<u8>, info: &Info) -> Result<(), Alloc
     push_bytes(page, b"</li>\n")
 }
 
-/// Appends an item that lies in so many folders: all of a file, and of a folder what stands before its children.
+/// Appends an item that lies in so many folders: all of a file, and of a folder what stands before
+/// its children.
 #[tactic(auto, unfolding(crate::specs::Items::item_text))]
 fn push_item(alloc: Global, page: &mut Vec<u8>, depth: usize, info: &Info) -> Result<(), AllocError>
     ensures { OnOk result (Gains page.old page.new (item_text depth info.now)) }
@@ -161,8 +162,8 @@ pub(crate) fn open_behind(depth: usize, info: &Info) -> usize
     }
 }
 
-/// Appends the row of an item that lies in so many folders, where so many stand open: the ends of those in which it doesn't lie, and then
-/// the item.
+/// Appends the row of an item that lies in so many folders, where so many stand open: the ends of
+/// those in which it doesn't lie, and then the item.
 #[tactic(auto, unfolding(crate::specs::Items::row_text))]
 pub(crate) fn push_row(
     alloc: Global,
