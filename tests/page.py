@@ -191,12 +191,12 @@ def items_of(image):
     status, text = told('items', image, '--format', 'csv')
     ensure(status == 0, f'items of {image.name} ends with {status}')
     for row in csv.DictReader(io.StringIO(text.decode('utf-8'), newline=''), strict=True):
-        modified = f'modified {row["modified"]}'
+        modified = [f' modified {row["modified"]}'] if row['modified'] else []
         if row['kind'] == 'folder':
-            texts = ['folder', f'items {row["items"]}', modified]
+            texts = [f' folder, items {row["items"]}', *modified]
         else:
-            texts = ['file', f'type {row["type"]}', f'creator {row["creator"]}', modified, f'data fork {row["data_bytes"]} bytes',
-                     f'resource fork {row["resource_bytes"]} bytes']
+            texts = [f' file, type {row["type"]}, creator {row["creator"]}', *modified,
+                     f' data fork {row["data_bytes"]} bytes, resource fork {row["resource_bytes"]} bytes']
         yield [row['path'], texts]
 
 
@@ -218,7 +218,7 @@ def item_in(element):
     """The name of an item and the texts beside it."""
     name, *spans = element.elements
     ensure(name.tag == 'b' and all(it.tag == 'span' for it in spans), f'an item of {[it.tag for it in element.elements]}')
-    ensure([it.strip() for it in element.parts if isinstance(it, str) and it.strip()] == [], f'text between the parts of {name.text!r}')
+    ensure(element.parts == element.elements, f'text between the parts of {name.text!r}')
     return name.text, [it.text for it in spans]
 
 

@@ -1,5 +1,5 @@
 -- What is written of a page while its rows come.
-use Rattle.std.proofs.Common.{◌≡◌, ◌∙◌, refl, sym, ap, subst, arith, ℕ, ◌+◌, ◌≤◌, ◌<◌, Some, None, List, [], ◌∷◌, ◌++◌, length, take, min, Option, append_assoc, append-nil}
+use Rattle.std.proofs.Common.{◌≡◌, ◌∙◌, refl, sym, ap, subst, arith, ℕ, ◌+◌, ◌≤◌, ◌<◌, Some, None, List, [], ◌∷◌, ◌++◌, length, take, min, Option, append_assoc, append-nil, Result, Ok, Err, OnErr}
 use Rattle.std.specs.Io.KnownBytes.{Appends}
 use Rattle.std.proofs.KnownBytes.{Appends-nil, Appends-trans}
 use Rattle.std.proofs.lemmas.List.{take-append-le, take_min, drop_at, take_at}
@@ -38,10 +38,14 @@ begins start text left none = record { out = []; written = Appends-nil start; re
 
 module _ (start : Option (List ℕ)) (whole : List ℕ) where
   -- one row more is gathered
-  pub gathered : (now : Option (List ℕ)) (text new : List ℕ) (opened behind : ℕ) (rows left : List ToldRow) → IsBegun start now text opened rows whole
-      → MovesRow opened text new rows left (Some behind) → IsBegun start now new behind left whole
-  gathered now text new opened behind rows left begun moved =
-      record { out = begun.out; written = begun.written; rest = begun.rest ∙ ap (λ (l : List ℕ). begun.out ++ l) moved.0 }
+  pub gathered : (now : Option (List ℕ)) (text new : List ℕ) (opened behind : ℕ) (rows left : List ToldRow) (moved : Option ℕ) → IsBegun start now text opened rows whole
+      → MovesRow opened text new rows left moved → moved ≡ Some behind → IsBegun start now new behind left whole
+  gathered now text new opened behind rows left moved begun moves is =
+      record {
+        out = begun.out;
+        written = begun.written;
+        rest = begun.rest ∙ ap (λ (l : List ℕ). begun.out ++ l) (subst (MovesRow opened text new rows left) is moves).0;
+      }
 
   -- the text goes out
   pub put-out : (now later : Option (List ℕ)) (text : List ℕ) (opened : ℕ) (left : List ToldRow) → IsBegun start now text opened left whole
@@ -53,28 +57,52 @@ module _ (start : Option (List ℕ)) (whole : List ℕ) where
   }
 
   -- a part of the text goes out
-  pub front : (now later : Option (List ℕ)) (text : List ℕ) (opened : ℕ) (left : List ToldRow) → IsBegun start now text opened left whole
-      → AppendsFront now later text → AppendsFront start later whole
-  front now later text opened left begun part = part-out start now later begun.out text (rows_text opened left) whole begun.written begun.rest part
+  pub front : {T E : Type 0} (r : Result T E) (now later : Option (List ℕ)) (text : List ℕ) (opened : ℕ) (left : List ToldRow)
+      → IsBegun start now text opened left whole → AppendsFront now later text → OnErr r (AppendsFront start later whole)
+  front (Ok x) now later text opened left begun part = tt
+  front (Err e) now later text opened left begun part =
+      part-out start now later begun.out text (rows_text opened left) whole begun.written begun.rest part
 
   -- nothing more goes out
-  pub stopped : (now : Option (List ℕ)) (text : List ℕ) (opened : ℕ) (left : List ToldRow) → IsBegun start now text opened left whole → AppendsFront start now whole
-  stopped now text opened left begun = front now now text opened left begun (0, Appends-nil now)
+  pub stopped : {T E : Type 0} (r : Result T E) (now : Option (List ℕ)) (text : List ℕ) (opened : ℕ) (left : List ToldRow)
+      → IsBegun start now text opened left whole → OnErr r (AppendsFront start now whole)
+  stopped r now text opened left begun = front r now now text opened left begun (0, Appends-nil now)
 
   -- no row is left, and the ends of folders are gathered: what went out and this text are all
-  ended : (now : Option (List ℕ)) (text new last : List ℕ) (opened : ℕ) (rows left : List ToldRow) (begun : IsBegun start now text opened rows whole)
-      → MovesRow opened text new rows left None → last ≡ new ++ closings opened → whole ≡ begun.out ++ last
-  ended now text new last opened rows left begun moved is =
-      begun.rest ∙ ap (λ (r : List ToldRow). begun.out ++ (text ++ rows_text opened r)) moved.0
-      ∙ ap (λ (l : List ℕ). begun.out ++ l) (ap (λ (l : List ℕ). l ++ closings opened) (sym moved.1) ∙ sym is)
+  ended : (now : Option (List ℕ)) (text new last : List ℕ) (opened : ℕ) (rows left : List ToldRow) (moved : Option ℕ) (begun : IsBegun start now text opened rows whole)
+      → MovesRow opened text new rows left moved → ((behind : ℕ) → moved ≡ Some behind → ⊥) → last ≡ new ++ closings opened → whole ≡ begun.out ++ last
+  ended now text new last opened rows left None begun moves none is =
+      begun.rest ∙ ap (λ (r : List ToldRow). begun.out ++ (text ++ rows_text opened r)) moves.0
+      ∙ ap (λ (l : List ℕ). begun.out ++ l) (ap (λ (l : List ℕ). l ++ closings opened) (sym moves.1) ∙ sym is)
+  ended now text new last opened rows left (Some behind) begun moves none is = absurd (none behind refl)
 
-  pub last-out : (now later : Option (List ℕ)) (text new last : List ℕ) (opened : ℕ) (rows left : List ToldRow) → IsBegun start now text opened rows whole
-      → MovesRow opened text new rows left None → last ≡ new ++ closings opened → Appends now later last → Appends start later whole
-  last-out now later text new last opened rows left begun moved is written =
-      subst (Appends start later) (sym (ended now text new last opened rows left begun moved is)) (Appends-trans start now later begun.out last begun.written written)
-
-  pub last-part : (now later : Option (List ℕ)) (text new last : List ℕ) (opened : ℕ) (rows left : List ToldRow) → IsBegun start now text opened rows whole
-      → MovesRow opened text new rows left None → last ≡ new ++ closings opened → AppendsFront now later last → AppendsFront start later whole
-  last-part now later text new last opened rows left begun moved is part =
+  pub last-part : {T E : Type 0} (r : Result T E) (now later : Option (List ℕ)) (text new last : List ℕ) (opened : ℕ) (rows left : List ToldRow) (moved : Option ℕ)
+      → IsBegun start now text opened rows whole → MovesRow opened text new rows left moved → ((behind : ℕ) → moved ≡ Some behind → ⊥)
+      → last ≡ new ++ closings opened → AppendsFront now later last → OnErr r (AppendsFront start later whole)
+  last-part (Ok x) now later text new last opened rows left moved begun moves none is part = tt
+  last-part (Err e) now later text new last opened rows left moved begun moves none is part =
       part-out start now later begun.out last [] whole begun.written
-      (ended now text new last opened rows left begun moved is ∙ ap (λ (l : List ℕ). begun.out ++ l) (sym (append-nil last))) part
+      (ended now text new last opened rows left moved begun moves none is ∙ ap (λ (l : List ℕ). begun.out ++ l) (sym (append-nil last))) part
+
+-- ---- a page of three parts
+
+-- of these the first goes out, then the second, then the third
+module _ (start : Option (List ℕ)) (one two three whole : List ℕ) (is : whole ≡ (one ++ two) ++ three) where
+  pub page-none : {T E : Type 0} (r : Result T E) → OnErr r (AppendsFront start start whole)
+  page-none (Ok x) = tt
+  page-none (Err e) = (0, Appends-nil start)
+
+  pub page-first : {T E : Type 0} (r : Result T E) (now : Option (List ℕ)) → AppendsFront start now one → OnErr r (AppendsFront start now whole)
+  page-first (Ok x) now part = tt
+  page-first (Err e) now part = part-out start start now [] one (two ++ three) whole (Appends-nil start) (is ∙ append_assoc one two three) part
+
+  pub page-second : {T E : Type 0} (r : Result T E) (now later : Option (List ℕ)) → Appends start now one → AppendsFront now later two → OnErr r (AppendsFront start later whole)
+  page-second (Ok x) now later first part = tt
+  page-second (Err e) now later first part = part-out start now later one two three whole first (is ∙ append_assoc one two three) part
+
+  pub page-third : {T E : Type 0} (r : Result T E) (now later last : Option (List ℕ)) → Appends start now one → Appends now later two → AppendsFront later last three
+      → OnErr r (AppendsFront start last whole)
+  page-third (Ok x) now later last first second part = tt
+  page-third (Err e) now later last first second part =
+      part-out start later last (one ++ two) three [] whole (Appends-trans start now later one two first second)
+      (is ∙ ap (λ (l : List ℕ). (one ++ two) ++ l) (sym (append-nil three))) part

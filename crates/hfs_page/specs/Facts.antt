@@ -36,9 +36,7 @@ facts_text mdb =
 -- up to the title: the page may ask for nothing, and has no icon
 unfoldable pub start_text : List ℕ
 start_text =
-    codes "<!DOCTYPE html>\n<html lang=\"en\">\n<head>\n<meta charset=\"utf-8\">\n<meta name=\"viewport\" content=\"width=device-width\">\n"
-    ++ codes "<meta http-equiv=\"Content-Security-Policy\" content=\"default-src 'none'; style-src 'unsafe-inline'; script-src 'unsafe-inline'; img-src data:\">\n"
-    ++ codes "<link rel=\"icon\" href=\"data:,\">\n<title>"
+    codes "<!DOCTYPE html>\n<html lang=\"en\">\n<head>\n<meta charset=\"utf-8\">\n<meta name=\"viewport\" content=\"width=device-width\">\n<meta http-equiv=\"Content-Security-Policy\" content=\"default-src 'none'; style-src 'unsafe-inline'; script-src 'unsafe-inline'; img-src data:\">\n<link rel=\"icon\" href=\"data:,\">\n<title>"
 
 unfoldable pub head_text : List ℕ → List ℕ → List ℕ
 head_text style title =

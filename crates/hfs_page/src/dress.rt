@@ -6,11 +6,17 @@
 /// columns.
 pub fn style() -> &'static [u8] {
     b"
-:root{color-scheme:light dark;--paper:#fbfaf7;--ink:#24221f;--faint:#67625a;--line:#ddd8ce;--mark:#2c5f8f;--p0:#b5392f;--p1:#7d5aa6;--p2:#2f6db3;--p3:#d9902f;--p4:#57a37e;--p5:#4d4942;--p6:#e8e4dc}
-@media (prefers-color-scheme:dark){:root{--paper:#191816;--ink:#ece9e3;--faint:#aaa59b;--line:#3b3834;--mark:#8dbbe6;--p0:#ec7063;--p1:#ad90d6;--p2:#69a5e6;--p3:#e8b060;--p4:#6fb894;--p5:#d3cec4;--p6:#302d2a}}
+:root{color-scheme:light dark;
+--paper:#fbfaf7;--ink:#24221f;--faint:#67625a;--line:#ddd8ce;--mark:#2c5f8f;
+--p0:#b5392f;--p1:#7d5aa6;--p2:#2f6db3;--p3:#d9902f;--p4:#57a37e;--p5:#4d4942;--p6:#e8e4dc}
+@media (prefers-color-scheme:dark){:root{
+--paper:#191816;--ink:#ece9e3;--faint:#aaa59b;--line:#3b3834;--mark:#8dbbe6;
+--p0:#ec7063;--p1:#ad90d6;--p2:#69a5e6;--p3:#e8b060;--p4:#6fb894;--p5:#d3cec4;--p6:#302d2a}}
 body{margin:0;background:var(--paper);color:var(--ink);font:1rem/1.5 system-ui,sans-serif}
-main{max-width:80rem;margin:0 auto;padding:1rem 1rem 4rem;overflow-wrap:anywhere;box-sizing:border-box}
-h1,h2{font-family:\"Iowan Old Style\",Palatino,\"Palatino Linotype\",Georgia,serif;font-weight:600;line-height:1.2}
+main{max-width:80rem;margin:0 auto;padding:1rem 1rem 4rem;
+overflow-wrap:anywhere;box-sizing:border-box}
+h1,h2{font-family:\"Iowan Old Style\",Palatino,\"Palatino Linotype\",Georgia,serif;
+font-weight:600;line-height:1.2}
 h1{font-size:2.2rem;margin:1rem 0;white-space:pre-wrap}
 h2{font-size:1.4rem;margin:2.5rem 0 1rem;padding-top:1rem;border-top:1px solid var(--line)}
 table{border-collapse:collapse;font-variant-numeric:tabular-nums}
@@ -31,9 +37,11 @@ rect:hover{stroke:var(--ink)}
 .note{font-size:.9rem;margin:1rem 0 .5rem;max-width:40rem}
 ul{list-style:none;margin:0;padding:0}
 .legend{display:flex;flex-wrap:wrap;gap:.25rem 1.5rem;font-size:.9rem}
-.legend i{display:inline-block;width:.9em;height:.9em;margin-right:.5em;vertical-align:-.1em;outline:1px solid var(--line)}
+.legend i{display:inline-block;width:.9em;height:.9em;margin-right:.5em;
+vertical-align:-.1em;outline:1px solid var(--line)}
 label{display:block}
-input{font:inherit;color:var(--ink);background:transparent;border:1px solid var(--faint);border-radius:.3rem;width:100%;max-width:24rem;box-sizing:border-box;padding:.4rem .6rem}
+input{font:inherit;color:var(--ink);background:transparent;
+border:1px solid var(--faint);border-radius:.3rem;width:100%;max-width:24rem;box-sizing:border-box;padding:.4rem .6rem}
 summary{cursor:pointer}
 summary:hover b{color:var(--mark)}
 summary:focus-visible,input:focus-visible{outline:2px solid var(--mark);outline-offset:2px}
@@ -41,29 +49,24 @@ summary:focus-visible,input:focus-visible{outline:2px solid var(--mark);outline-
 #items li[hidden]{display:none}
 #items ul{margin-left:.45rem;padding-left:1rem;border-left:1px solid var(--line)}
 #items ul ul ul ul ul ul ul ul{margin:0;padding:0}
-#items b{font-weight:600;white-space:pre-wrap}
-#items i{font-style:normal}
-#items span{display:inline-block;font-size:.875rem;font-variant-numeric:tabular-nums}
-#items span:not(:last-child)::after{content:\"\\a0\\b7\"}
-#items span:has(i:empty){display:none}
+#items b{font-weight:600;white-space:pre-wrap;margin-right:.4em}
+#items span{display:inline-block;margin-right:.75em;font-size:.875rem;
+font-variant-numeric:tabular-nums}
 @media (min-width:80rem){
 main{padding:2rem 2rem 6rem}
 #items li:not([hidden]),#items summary{display:flex;flex-wrap:wrap;gap:0 .75rem;align-items:baseline}
 #items details{flex:1;min-width:0}
-#items b{flex:1;min-width:8rem}
-#items span{flex:none;width:3rem}
-#items span:not(:last-child)::after{content:none}
-#items span+span{width:5.5rem}
-#items span+span+span{width:6.5rem}
-#items span+span+span+span{width:14.5rem}
-#items span+span+span+span+span{width:11.5rem}
-#items span+span+span+span+span+span{width:12.5rem}
-#items summary span+span{width:12.75rem}
-#items summary span+span+span{width:14.5rem;margin-right:25.5rem}
-#items span:has(i:empty){display:inline-block;visibility:hidden}
+#items b{flex:1;min-width:8rem;margin:0}
+#items span{flex:none;width:16.5rem;margin:0}
+#items span:nth-child(3){width:14.5rem}
+#items span:nth-child(4),#items li>span:nth-child(3):last-child{width:24rem}
+#items summary span:nth-child(3){margin-right:24.75rem}
+#items summary span:nth-child(2):last-child{margin-right:40rem}
+#items li>span:nth-child(2):nth-last-child(2){margin-right:15.25rem}
 #items summary{list-style:none}
 #items summary::-webkit-details-marker{display:none}
-#items summary::before{content:\"\";flex:none;align-self:center;border:.3rem solid transparent;border-left:.45rem solid var(--faint);border-right:0;margin-right:-.25rem}
+#items summary::before{content:\"\";flex:none;align-self:center;
+border:.3rem solid transparent;border-left:.45rem solid var(--faint);border-right:0;margin-right:-.25rem}
 #items details[open]>summary::before{transform:rotate(90deg)}
 }
 "
@@ -72,8 +75,8 @@ main{padding:2rem 2rem 6rem}
 /// What the picture shows, the legend, the heading of the items, and the field of the search, which
 /// the script shows.
 pub fn legend() -> &'static [u8] {
-    b"<p class=\"note\">Each square is an allocation block, or several where the disk has more than 4,096. It shows the first of these uses that
-one of its blocks has.</p>
+    b"<p class=\"note\">Each square is an allocation block, or several where the disk has more than 4,096. It
+shows the first of these uses that one of its blocks has.</p>
 <ul class=\"legend\">
 <li><i class=\"p0\"></i>bad blocks</li>
 <li><i class=\"p1\"></i>extents tree</li>
@@ -95,24 +98,32 @@ pub fn script() -> &'static [u8] {
     b"<script>
 \"use strict\";
 const field = document.getElementById(\"search\");
-const items = [...document.querySelectorAll(\"#items li\")];
-const names = items.map(item => item.querySelector(\"b\").textContent.toLowerCase());
-const above = items.map(item => item.parentElement.closest(\"li\"));
 const opened = new Set();
+let items;
+const prepare = () => {
+  items = [...document.querySelectorAll(\"#items li\")].reverse().map(row => {
+    const name = row.querySelector(\"b\").textContent.toLowerCase();
+    return { row, name, folder: row.parentElement.closest(\"li\") };
+  });
+};
 field.addEventListener(\"input\", () => {
+  if (!items) prepare();
   const wanted = field.value.toLowerCase();
   const kept = new Set();
   let count = 0;
   for (const folder of opened) folder.open = false;
   opened.clear();
-  for (let n = items.length - 1; n >= 0; n--) {
-    const own = names[n].includes(wanted);
-    const below = kept.has(items[n]);
+  for (const { row, name, folder } of items) {
+    const own = name.includes(wanted);
+    const below = kept.has(row);
     if (own) count++;
-    if (own || below) kept.add(above[n]);
-    items[n].hidden = !own && !below;
-    const folder = items[n].firstElementChild;
-    if (wanted && below && !folder.open) { folder.open = true; opened.add(folder); }
+    if (own || below) kept.add(folder);
+    row.hidden = !own && !below;
+    const details = row.firstElementChild;
+    if (wanted && below && !details.open) {
+      details.open = true;
+      opened.add(details);
+    }
   }
   document.getElementById(\"found\").textContent = wanted ? count + \" of \" + items.length : \"\";
 });

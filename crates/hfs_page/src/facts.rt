@@ -113,13 +113,8 @@ fn push_start(page: &mut Vec<u8>) -> Result<(), AllocError>
 {
     push_bytes(
         page,
-        b"<!DOCTYPE html>\n<html lang=\"en\">\n<head>\n<meta charset=\"utf-8\">\n<meta name=\"viewport\" content=\"width=device-width\">\n",
-    )?;
-    push_bytes(
-        page,
-        b"<meta http-equiv=\"Content-Security-Policy\" content=\"default-src 'none'; style-src 'unsafe-inline'; script-src 'unsafe-inline'; img-src data:\">\n",
-    )?;
-    push_bytes(page, b"<link rel=\"icon\" href=\"data:,\">\n<title>")
+        b"<!DOCTYPE html>\n<html lang=\"en\">\n<head>\n<meta charset=\"utf-8\">\n<meta name=\"viewport\" content=\"width=device-width\">\n<meta http-equiv=\"Content-Security-Policy\" content=\"default-src 'none'; style-src 'unsafe-inline'; script-src 'unsafe-inline'; img-src data:\">\n<link rel=\"icon\" href=\"data:,\">\n<title>",
+    )
 }
 
 /// Appends the beginning of a page with this title and this dress.

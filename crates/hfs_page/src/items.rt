@@ -1,7 +1,7 @@
 //! The items of a page, as a tree that opens and closes.
 ghost use Rattle.std.specs.Prelude.{◌≡◌, ◌<◌, ◌^◌, OnOk};
 ghost use Rattle.hfs_page.specs.Pieces.{Gains};
-ghost use Rattle.hfs_page.specs.Items.{closings, file_text, flat_text, folder_text, item_text, leaf_text, name_tagged, nested_text, open_behind, opening, row_text, sizes_text, type_text};
+ghost use Rattle.hfs_page.specs.Items.{closings, file_text, flat_text, folder_text, item_text, leaf_text, modified_text, name_tagged, nested_text, open_behind, opening, row_text, sizes_text, type_text};
 
 use crate::pieces::push_bytes;
 use crate::texts::{push_shown, push_told_date, push_told_number, push_told_text};
@@ -21,20 +21,25 @@ fn push_name(alloc: Global, page: &mut Vec<u8>, info: &Info) -> Result<(), Alloc
     push_bytes(page, b"</b>")
 }
 
+/// Appends when an item was modified, if it has a date.
+fn push_modified(alloc: Global, page: &mut Vec<u8>, date: u32) -> Result<(), AllocError>
+    ensures { OnOk result (Gains page.old page.new (modified_text date)) }
+{
+    if date == 0 {
+        return Ok(());
+    }
+    push_told_date(alloc, page, b"</span><span> modified ", date)
+}
+
 /// Appends what is told of a folder.
 #[tactic(auto, unfolding(crate::specs::Items::folder_text))]
 fn push_folder(alloc: Global, page: &mut Vec<u8>, info: &Info) -> Result<(), AllocError>
     ensures { OnOk result (Gains page.old page.new (folder_text info.now)) }
 {
     push_name(alloc, page, info)?;
-    push_told_number(
-        alloc,
-        page,
-        b" <span>folder</span> <span>items ",
-        info.valence,
-    )?;
-    push_told_date(alloc, page, b"</span> <span>modified <i>", info.modified)?;
-    push_bytes(page, b"</i></span>")
+    push_told_number(alloc, page, b"<span> folder, items ", info.valence)?;
+    push_modified(alloc, page, info.modified)?;
+    push_bytes(page, b"</span>")
 }
 
 /// Appends a file's type and creator.
@@ -42,13 +47,8 @@ fn push_folder(alloc: Global, page: &mut Vec<u8>, info: &Info) -> Result<(), All
 fn push_type(alloc: Global, page: &mut Vec<u8>, info: &Info) -> Result<(), AllocError>
     ensures { OnOk result (Gains page.old page.new (type_text info.now)) }
 {
-    push_told_text(
-        alloc,
-        page,
-        b" <span>file</span> <span>type ",
-        &info.finder[..4],
-    )?;
-    push_told_text(alloc, page, b"</span> <span>creator ", &info.finder[4..8])
+    push_told_text(alloc, page, b"<span> file, type ", &info.finder[..4])?;
+    push_told_text(alloc, page, b", creator ", &info.finder[4..8])
 }
 
 /// Appends how many bytes the forks of a file have.
@@ -56,13 +56,8 @@ fn push_type(alloc: Global, page: &mut Vec<u8>, info: &Info) -> Result<(), Alloc
 fn push_sizes(alloc: Global, page: &mut Vec<u8>, info: &Info) -> Result<(), AllocError>
     ensures { OnOk result (Gains page.old page.new (sizes_text info.now)) }
 {
-    push_told_number(alloc, page, b"</i></span> <span>data fork ", info.data_len)?;
-    push_told_number(
-        alloc,
-        page,
-        b" bytes</span> <span>resource fork ",
-        info.res_len,
-    )?;
+    push_told_number(alloc, page, b"</span><span> data fork ", info.data_len)?;
+    push_told_number(alloc, page, b" bytes, resource fork ", info.res_len)?;
     push_bytes(page, b" bytes</span>")
 }
 
@@ -73,7 +68,7 @@ fn push_file(alloc: Global, page: &mut Vec<u8>, info: &Info) -> Result<(), Alloc
 {
     push_name(alloc, page, info)?;
     push_type(alloc, page, info)?;
-    push_told_date(alloc, page, b"</span> <span>modified <i>", info.modified)?;
+    push_modified(alloc, page, info.modified)?;
     push_sizes(alloc, page, info)
 }
 

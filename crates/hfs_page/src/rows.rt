@@ -114,5 +114,6 @@ pub(crate) fn write_rows<W: Write>(
         }
     }
     push_ends(&mut text, opened)?;
-    put_piece(writer, &text)
+    put_piece(writer, &text)?;
+    Ok(())
 }

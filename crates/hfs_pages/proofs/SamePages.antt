@@ -1,10 +1,17 @@
 -- Volumes that hold the same have the same page.
-use Rattle.std.proofs.Common.{◌≡◌, ℕ, zero, suc, ◌+◌, ◌<◌, Bool, List, [], ◌∷◌, ◌++◌, map, refl, ap, ◌∙◌, arith}
+use Rattle.std.proofs.Common.{◌≡◌, ℕ, zero, suc, ◌+◌, ◌<◌, Bool, List, [], ◌∷◌, ◌++◌, map, Option, Some, None, refl, sym, ap, subst, ◌∙◌, ◌/◌, arith}
 use Rattle.std.specs.List.{range_with_len}
 use Rattle.hfs_space.specs.Bitmap.{is_used}
 use Rattle.hfs_check.specs.Parts.{Blocks, catalog_in, mdb_in, overflow_in}
 use Rattle.hfs_inventory.specs.Levels.{catalog_rows}
+use Rattle.hfs_check.specs.Sound.{AreBlocksSound}
+use Rattle.hfs_blocks.specs.Blocks.{block_at}
+use Rattle.hfs_blocks.specs.Layers.{Numbered}
+use Rattle.hfs_sparse.specs.Sparse.{sparse}
+use Rattle.hfs_needed.specs.Gathered.{GatheredIsEnough, HasNeeded, IsOfKnown}
+use Rattle.hfs_needed.specs.Known.{OfKnown}
 use Rattle.hfs_needed.specs.Laws.{HoldSame}
+use Rattle.hfs_pages.specs.ImagePages.{page_of}
 use Rattle.hfs_page.specs.declared.parts.Holding.{Holding}
 use Rattle.hfs_page.specs.Cells.{picture_cells}
 use Rattle.hfs_page.specs.Disk.{cells_in, page_in}
@@ -37,3 +44,11 @@ module _ (total : ℕ) (old new : Blocks) (same : HoldSame total old new) where
   unfolding page_in
   page-same style legend script =
       λ i. front_text style legend (same.directory i) (same.catalog i) (cells-same i) ++ rows_text 0 (catalog_rows (same.catalog i)) ++ end_text script
+
+-- what holds of the page of the blocks that were read holds of that of the image
+pub known-page : (P : List ℕ → Type 0) (style legend script : List ℕ) (known : Option (List ℕ)) (len : ℕ) (read : Numbered) → GatheredIsEnough
+    → HasNeeded (len / 512) read → IsOfKnown known read → AreBlocksSound (len / 512) (sparse read) → P (page_in style legend script (sparse read))
+    → OfKnown known len (λ image. P (page_of style legend script image))
+known-page P style legend script None len read enough needed of sound p = tt
+known-page P style legend script (Some bytes) len read enough needed of sound p = λ same.
+    subst P (sym (page-same (len / 512) (sparse read) (block_at bytes) ((enough (len / 512) bytes read needed of).held sound) style legend script)) p

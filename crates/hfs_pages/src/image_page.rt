@@ -1,7 +1,7 @@
 //! The page of an image that was opened.
-ghost use Rattle.std.specs.Prelude.{◌≡◌, IfErr, OnOk};
+ghost use Rattle.std.specs.Prelude.{◌≡◌, IfErr, OnErr, OnOk};
 ghost use Rattle.hfs_commands.specs.Faults.{IsUnprinted};
-ghost use Rattle.hfs_pages.specs.ImagePages.{WritesPage};
+ghost use Rattle.hfs_pages.specs.ImagePages.{WritesPage, WritesPageFront};
 
 use hfs_commands::Fault;
 use hfs_needed::{OpenedImage, gathered_is_enough};
@@ -20,9 +20,10 @@ fn fault_of_page(fault: PageFault) -> Fault<'static>
     }
 }
 
-/// Writes the page of an image that was opened: what the volume is, a picture of its blocks, and its items. No block is
-/// read for it. `style` stands in its head, `legend` under the picture, `script` behind the items. Faults: `OutputFailed`
-/// and `NoMemory`, and then a part of the page may have gone out.
+/// Writes the page of an image that was opened: what the volume is, a picture of its blocks, and
+/// its items. No block is read for it. `style` stands in its head, `legend` under the picture,
+/// `script` behind the items. Faults: `OutputFailed` and `NoMemory`, and then a part of the page
+/// may have gone out, from its beginning on.
 pub fn write_image_page<S: BlockSource + Drop, W: Write>(
     alloc: Global,
     image: &OpenedImage<S>,
@@ -32,6 +33,8 @@ pub fn write_image_page<S: BlockSource + Drop, W: Write>(
     writer: &mut W,
 ) -> Result<(), Fault<'static>>
     ensures written { OnOk result (WritesPage style.now legend.now script.now image.now
+        (W.contents writer.old) (W.contents writer.new)) }
+    ensures part { OnErr result (WritesPageFront style.now legend.now script.now image.now
         (W.contents writer.old) (W.contents writer.new)) }
     ensures faults { IfErr result IsUnprinted }
 {
