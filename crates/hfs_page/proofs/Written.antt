@@ -4,8 +4,13 @@ use Rattle.std.specs.Io.KnownBytes.{Appends}
 use Rattle.std.proofs.KnownBytes.{Appends-nil, Appends-trans}
 use Rattle.std.proofs.lemmas.List.{take-append-le, take_min, drop_at, take_at}
 use Rattle.std.proofs.Math.Seq.{take-add}
+use Rattle.hfs_catalog.specs.Records.{Catalog}
+use Rattle.hfs_check.specs.Parts.{Blocks, catalog_in, mdb_in}
+use Rattle.hfs_inventory.specs.Levels.{catalog_rows}
 use Rattle.hfs_inventory.specs.Told.{ToldRow}
 use Rattle.hfs_texts.specs.Writing.{AppendsFront}
+use Rattle.hfs_page.specs.Disk.{cells_in, page_in}
+use Rattle.hfs_page.specs.Document.{end_text, front_text}
 use Rattle.hfs_page.specs.Items.{closings, rows_text}
 use Rattle.hfs_page.specs.Rows.{MovesRow}
 
@@ -86,12 +91,19 @@ module _ (start : Option (List ℕ)) (whole : List ℕ) where
 
 -- ---- a page of three parts
 
--- of these the first goes out, then the second, then the third
-module _ (start : Option (List ℕ)) (one two three whole : List ℕ) (is : whole ≡ (one ++ two) ++ three) where
-  pub page-none : {T E : Type 0} (r : Result T E) → OnErr r (AppendsFront start start whole)
-  page-none (Ok x) = tt
-  page-none (Err e) = (0, Appends-nil start)
+pub page-is : (style legend script : List ℕ) (blocks : Blocks) (one : List ℕ) (records : Catalog) (rows : List ToldRow)
+    → one ≡ front_text style legend (mdb_in blocks) (catalog_in blocks) (cells_in blocks) → records ≡ catalog_in blocks → rows ≡ catalog_rows records
+    → page_in style legend script blocks ≡ (one ++ rows_text 0 rows) ++ end_text script
+unfolding page_in
+page-is style legend script blocks one records rows is of by =
+    λ i. (sym is i ++ rows_text 0 (sym (by ∙ ap catalog_rows of) i)) ++ end_text script
 
+pub page-none : {T E : Type 0} (r : Result T E) (start : Option (List ℕ)) (whole : List ℕ) → OnErr r (AppendsFront start start whole)
+page-none (Ok x) start whole = tt
+page-none (Err e) start whole = (0, Appends-nil start)
+
+-- the first part goes out, then the second, then the third
+module _ (start : Option (List ℕ)) (one two three whole : List ℕ) (is : whole ≡ (one ++ two) ++ three) where
   pub page-first : {T E : Type 0} (r : Result T E) (now : Option (List ℕ)) → AppendsFront start now one → OnErr r (AppendsFront start now whole)
   page-first (Ok x) now part = tt
   page-first (Err e) now part = part-out start start now [] one (two ++ three) whole (Appends-nil start) (is ∙ append_assoc one two three) part
@@ -106,3 +118,7 @@ module _ (start : Option (List ℕ)) (one two three whole : List ℕ) (is : whol
   page-third (Err e) now later last first second part =
       part-out start later last (one ++ two) three [] whole (Appends-trans start now later one two first second)
       (is ∙ ap (λ (l : List ℕ). (one ++ two) ++ l) (sym (append-nil three))) part
+
+  pub page-all : (now later last : Option (List ℕ)) → Appends start now one → Appends now later two → Appends later last three → Appends start last whole
+  page-all now later last first second third =
+      subst (Appends start last) (sym is) (Appends-trans start later last (one ++ two) three (Appends-trans start now later one two first second) third)

@@ -30,5 +30,6 @@ returns-in_err-push_ends-clause-part g c =
 
 pub returns-in_err-put_piece-clause-part : goal.returns-in_err-put_piece-clause-part
 returns-in_err-put_piece-clause-part g c =
-    last-part (g.W.Write.contents c.args.writer.now) (rows_text 0 c.args.items.now.left) _ _ _ _ _ c.push_ends.new.text.items _ _ _ c.in_ok-behind.field-0
-    c.loop-text.invariant c.in_ok-behind.ensures c.in_default.not-Some c.in_ok-push_ends.ensures c.in_err-put_piece.ensures.part
+    last-part (g.W.Write.contents c.args.writer.now) (rows_text 0 c.args.items.now.left) _ _ _ _ _ c.deref.result.now _ _ _ c.in_ok-behind.field-0
+    c.loop-text.invariant c.in_ok-behind.ensures c.in_default.not-Some (c.deref.ensures.value ∙ c.in_ok-push_ends.ensures)
+    c.in_err-put_piece.ensures.part
