@@ -1,2 +1,1 @@
 pub mod ImagePages
-pub mod Meanings

@@ -1,9 +1,7 @@
-//! The page of an image: of the volume in it, or of why the image is refused.
+//! The page of an image that was opened.
 #![tactic(auto)]
 
 mod image_page;
-mod refused;
 
-pub use hfs_page::{legend, script, style};
+pub use hfs_page::{PageFault, legend, push_refused_page, script, style};
 pub use image_page::write_image_page;
-pub use refused::refused_page;
