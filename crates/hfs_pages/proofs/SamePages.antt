@@ -1,5 +1,6 @@
 -- Volumes that hold the same have the same page.
-use Rattle.std.proofs.Common.{◌≡◌, ℕ, zero, suc, ◌+◌, ◌<◌, Bool, List, [], ◌∷◌, ◌++◌, map, Option, Some, None, refl, sym, ap, subst, ◌∙◌, ◌/◌, arith}
+use Rattle.std.proofs.Common.{◌≡◌, ℕ, zero, suc, ◌+◌, ◌<◌, Bool, List, [], ◌∷◌, ◌++◌, map, Option, Some, None, Result, Ok, Err, OnOk, OnErr, refl, sym, ap, subst, ◌∙◌, ◌/◌, arith}
+use Rattle.std.specs.Io.KnownBytes.{Appends}
 use Rattle.std.specs.List.{range_with_len}
 use Rattle.hfs_space.specs.Bitmap.{is_used}
 use Rattle.hfs_check.specs.Parts.{Blocks, catalog_in, mdb_in, overflow_in}
@@ -10,6 +11,9 @@ use Rattle.hfs_blocks.specs.Layers.{Numbered}
 use Rattle.hfs_sparse.specs.Sparse.{sparse}
 use Rattle.hfs_needed.specs.Gathered.{GatheredIsEnough, HasNeeded, IsOfKnown}
 use Rattle.hfs_needed.specs.Known.{OfKnown}
+use Rattle.hfs_needed.specs.Opened.{IsOpenedOf}
+use Rattle.hfs_needed.specs.declared.opening.NeededVolume.{NeededVolume}
+use Rattle.hfs_texts.specs.Writing.{AppendsFront}
 use Rattle.hfs_needed.specs.Laws.{HoldSame}
 use Rattle.hfs_pages.specs.ImagePages.{page_of}
 use Rattle.hfs_page.specs.declared.parts.Holding.{Holding}
@@ -52,3 +56,26 @@ pub known-page : (P : List ℕ → Type 0) (style legend script : List ℕ) (kno
 known-page P style legend script None len read enough needed of sound p = tt
 known-page P style legend script (Some bytes) len read enough needed of sound p = λ same.
     subst P (sym (page-same (len / 512) (sparse read) (block_at bytes) ((enough (len / 512) bytes read needed of).held sound) style legend script)) p
+
+-- ---- what was opened
+
+module _ (enough : GatheredIsEnough) (known : Option (List ℕ)) (len : ℕ) (volume : NeededVolume) (opened : IsOpenedOf known (len / 512) volume)
+    (style legend script : List ℕ) (now : Numbered) (is : now ≡ volume.read) where
+  page-known : (P : List ℕ → Type 0) → P (page_in style legend script (sparse now)) → OfKnown known len (λ image. P (page_of style legend script image))
+  page-known P p =
+      known-page P style legend script known len volume.read enough opened.needed opened.of opened.sound
+      (subst (λ (read : Numbered). P (page_in style legend script (sparse read))) is p)
+
+  pub written-known : {T E : Type 0} (r : Result T E) (old new : Option (List ℕ)) → OnOk r (Appends old new (page_in style legend script (sparse now)))
+      → OnOk r (OfKnown known len (λ image. Appends old new (page_of style legend script image)))
+  written-known (Ok x) old new h = page-known (λ (bytes : List ℕ). Appends old new bytes) h
+  written-known (Err e) old new h = tt
+
+  pub part-known : {T E : Type 0} (r : Result T E) (old new : Option (List ℕ)) → OnErr r (AppendsFront old new (page_in style legend script (sparse now)))
+      → OnErr r (OfKnown known len (λ image. AppendsFront old new (page_of style legend script image)))
+  part-known (Ok x) old new h = tt
+  part-known (Err e) old new h = page-known (λ (bytes : List ℕ). AppendsFront old new bytes) h
+
+-- what holds of what was opened holds of the blocks that are lent
+pub lent : (P : ℕ → Numbered → Type 0) (total count : ℕ) (read now : Numbered) → count ≡ total → now ≡ read → P total read → P count now
+lent P total count read now e f p = subst (λ (n : ℕ). P n now) (sym e) (subst (P total) (sym f) p)
