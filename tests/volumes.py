@@ -433,4 +433,5 @@ def main():
     print('volumes agree' + (f', skipped: {" ".join(skipped)}' if skipped else ''))
 
 
-main()
+if __name__ == '__main__':
+    main()

@@ -26,7 +26,7 @@ use Rattle.hfs_check.specs.VolumeOf.{bytes_in, contents_in, volume_in, volume_of
 use Rattle.hfs_needed.specs.Needed.{AgreeOn, AgreeOnNeeded}
 use Rattle.hfs_needed.specs.Laws.{volume_with, blocks_of_fork, HoldSame, AnswerSame, ImagesAnswerSame}
 use Rattle.hfs_needed.proofs.SameParts.{map-same}
-use Rattle.hfs_needed.proofs.SameSpace.{clear-same, strays-same}
+use Rattle.hfs_needed.proofs.SameSpace.{bit-same, clear-same, strays-same}
 use Rattle.hfs_check.proofs.Opened.{none-parts}
 use Rattle.hfs_needed.proofs.SameFaults.{SameParts, catalog-stays, owned-stays, alternate, parts, fault-same, needed-same}
 
@@ -80,6 +80,7 @@ module _ (total : ℕ) (old new : Blocks) (same : SameParts old new) (copy : new
     directory = same.mdb;
     overflow = same.overflow;
     catalog = catalog-stays old new same;
+    marks = bit-same old new (mdb_in old) same.bitmap;
     volume = volume-same;
     forks = fork-same;
     bytes = bytes-same;

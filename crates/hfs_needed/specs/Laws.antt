@@ -1,8 +1,9 @@
 -- What the needed blocks of a volume decide. Each statement is what a function of src/laws.rt ensures.
-use Rattle.std.specs.Prelude.{◌≡◌, ℕ, List, length}
+use Rattle.std.specs.Prelude.{◌≡◌, ◌<◌, ℕ, List, length}
 use Rattle.hfs_fields.specs.declared.file_record.ForkRecord.{ForkRecord}
 use Rattle.hfs_blocks.specs.Blocks.{block_at, block_count}
 use Rattle.hfs_model.specs.Volume.{Items, Volume}
+use Rattle.hfs_space.specs.Bitmap.{is_used}
 use Rattle.hfs_space.specs.Extents.{fork_extents, fork_byte}
 use Rattle.hfs_space.specs.ForkLaws.{block_numbers}
 use Rattle.hfs_space.specs.declared.fork_kind.ForkKind.{ForkKind}
@@ -28,13 +29,15 @@ unfoldable pub blocks_of_fork : Blocks → ℕ → ForkKind → ForkRecord → L
 blocks_of_fork blocks file kind fork =
     block_numbers (mdb_in blocks) (fork_extents (overflow_in blocks) file (fork_byte kind) fork.extents)
 
--- two sound volumes of so many blocks report the same, and hold the same but for the bytes of forks; a fork whose blocks
--- agree has the same bytes
+-- two sound volumes of so many blocks report the same, hold the same but for the bytes of forks, and mark the same
+-- allocation blocks; a fork whose blocks agree has the same bytes
 pub record HoldSame (total : ℕ) (old new : Blocks) : Type 0 where
   pub report : sound_report total new ≡ sound_report total old
   pub directory : mdb_in new ≡ mdb_in old
   pub overflow : overflow_in new ≡ overflow_in old
   pub catalog : catalog_in new ≡ catalog_in old
+  pub marks : (block : ℕ) → block < (mdb_in old).allocation_blocks
+      → is_used new (mdb_in old).bitmap_start block ≡ is_used old (mdb_in old).bitmap_start block
   pub volume : volume_in new ≡ volume_with (contents_in new) old
   pub forks : (file : ℕ) (kind : ForkKind) (fork : ForkRecord) → blocks_of_fork new file kind fork ≡ blocks_of_fork old file kind fork
   pub bytes : (file : ℕ) (kind : ForkKind) (fork : ForkRecord) → AgreeOn (blocks_of_fork old file kind fork) old new

@@ -22,6 +22,6 @@ pub use crate::laws::{
 };
 pub use crate::listing::needed_list;
 pub use crate::opened::OpenedImage;
-pub use crate::opening::NeededFault;
+pub use crate::opening::{NeededFault, NeededVolume};
 pub use crate::reporting::needed_report;
 pub use crate::whole_files::{NeededFile, needed_file};

@@ -1,10 +1,10 @@
 //! An image that is opened and checked once, and asked as often as one likes.
-ghost use Rattle.std.specs.Prelude.{◌≡◌, Err, IfOk, IfErr, OnErr};
+ghost use Rattle.std.specs.Prelude.{◌≡◌, ◌/◌, Err, IfOk, IfErr, OnErr};
 ghost use Rattle.hfs_texts.specs.Writing.{AppendsFront};
 ghost use Rattle.hfs_needed.specs.Forks.{FindsForkNamed, OfForkNamed, RefusesForkNamed, RefusesWriting, WritesForkNamed};
 ghost use Rattle.hfs_needed.specs.Listing.{IsBriefList, HoldsCatalog, HoldsTable};
 ghost use Rattle.hfs_needed.specs.Known.{IsReportOf};
-ghost use Rattle.hfs_needed.specs.Opened.{IsRefusedFor, IsSoundOf};
+ghost use Rattle.hfs_needed.specs.Opened.{IsRefusedFor, IsSoundOf, IsOpenedOf};
 ghost use Rattle.hfs_needed.specs.OpenedValues.{opened_value};
 ghost use Rattle.hfs_needed.specs.Paths.{IsToldAt};
 ghost use Rattle.hfs_needed.specs.WholeFiles.{HoldsDataNamed, HoldsResourceNamed, RefusesFileNamed, TellsOfFile};
@@ -86,6 +86,13 @@ impl<S: BlockSource + Drop> OpenedImage<S> {
             volume,
         };
         Ok((image, report))
+    }
+
+    /// What was read of the image, and what its checks found out: all that is told of it but for the bytes of forks.
+    pub fn volume(&self) -> &NeededVolume
+        ensures { IsOpenedOf self.now.known (self.now.len / 512) result.now }
+    {
+        &self.volume
     }
 
     /// The reply to List of a folder, with has_id false in each item. Nothing is read. Error: memory was refused.

@@ -34,13 +34,13 @@ impl NeededFault {
 
 /// The needed blocks of a sound volume, and what its checks found out.
 #[derive(Drop)]
-pub(crate) struct NeededVolume {
+pub struct NeededVolume {
     /// The blocks that were read.
-    pub(crate) read: SparseBlocks,
+    pub read: SparseBlocks,
     /// How many blocks the volume has.
-    pub(crate) count: u32,
+    pub count: u32,
     /// Its master directory block and where its trees lie.
-    pub(crate) sound: SoundVolume,
+    pub sound: SoundVolume,
 }
 
 /// Reads the needed blocks of an image of `count` blocks, whose length is right, and makes all checks.

@@ -4,3 +4,4 @@ mod UseLemmas
 mod ItemLemmas
 mod Joins
 mod DiskLemmas
+mod Written

@@ -20,7 +20,7 @@ dates_text mdb = date_row (codes "Created") mdb.created ++ date_row (codes "Modi
 
 unfoldable pub sizes_text : Mdb → List ℕ
 sizes_text mdb =
-    count_row (codes "Allocation blocks") mdb.allocation_blocks ++ count_row (codes "Bytes of each") mdb.allocation_block_size
+    count_row (codes "Allocation blocks") mdb.allocation_blocks ++ count_row (codes "Bytes of each block") mdb.allocation_block_size
     ++ count_row (codes "Free blocks") mdb.free_blocks
 
 unfoldable pub counts_text : Mdb → List ℕ
@@ -29,11 +29,15 @@ counts_text mdb = count_row (codes "Files") mdb.files ++ count_row (codes "Folde
 -- of a sound volume, since no other has more than its fault
 unfoldable pub facts_text : Mdb → List ℕ
 facts_text mdb =
-    codes "<table>\n<tr><th scope=\"row\">Check</th><td>sound</td></tr>\n" ++ dates_text mdb ++ sizes_text mdb ++ counts_text mdb ++ codes "</table>\n"
+    codes "<table aria-label=\"The volume\">\n<tr><th scope=\"row\">Check</th><td>sound</td></tr>\n" ++ dates_text mdb ++ sizes_text mdb ++ counts_text mdb ++ codes "</table>\n"
 
 -- ---- the beginning of a page, with its title in markup
 
+-- up to the title: the page may ask for nothing, and has no icon
+unfoldable pub start_text : List ℕ
+start_text =
+    codes "<!DOCTYPE html>\n<html lang=\"en\">\n<head>\n<meta charset=\"utf-8\">\n<meta name=\"viewport\" content=\"width=device-width\">\n<meta http-equiv=\"Content-Security-Policy\" content=\"default-src 'none'; style-src 'unsafe-inline'; script-src 'unsafe-inline'; img-src data:\">\n<link rel=\"icon\" href=\"data:,\">\n<title>"
+
 unfoldable pub head_text : List ℕ → List ℕ → List ℕ
 head_text style title =
-    codes "<!DOCTYPE html>\n<html lang=\"en\">\n<head>\n<meta charset=\"utf-8\">\n<meta name=\"viewport\" content=\"width=device-width\">\n<title>"
-    ++ title ++ codes "</title>\n<style>" ++ style ++ codes "</style>\n</head>\n<body>\n<main>\n<h1>" ++ title ++ codes "</h1>\n"
+    start_text ++ title ++ codes "</title>\n<style>" ++ style ++ codes "</style>\n</head>\n<body>\n<main>\n<h1>" ++ title ++ codes "</h1>\n"

@@ -11,18 +11,23 @@ use Rattle.hfs_page.specs.Texts.{shown, told_date, told_number, told_text}
 unfoldable pub name_tagged : Info → List ℕ
 name_tagged info = codes "<b>" ++ shown info.name ++ codes "</b>"
 
+-- nothing where there is no date
+abbrev pub modified_text : ℕ → List ℕ
+modified_text date = if date == 0 then [] else told_date (codes "</span><span> modified ") date
+
 unfoldable pub folder_text : Info → List ℕ
-folder_text info = name_tagged info ++ told_number (codes " <span>folder, items ") info.valence ++ told_date (codes ", modified ") info.modified ++ codes "</span>"
+folder_text info = name_tagged info ++ told_number (codes "<span> folder, items ") info.valence ++ modified_text info.modified ++ codes "</span>"
 
 -- type and creator of a file are the first 8 of the Finder bytes
 unfoldable pub type_text : Info → List ℕ
-type_text info = told_text (codes " <span>file, type ") (take 4 info.finder) ++ told_text (codes ", creator ") (take 4 (drop 4 info.finder))
+type_text info = told_text (codes "<span> file, type ") (take 4 info.finder) ++ told_text (codes ", creator ") (take 4 (drop 4 info.finder))
 
 unfoldable pub sizes_text : Info → List ℕ
-sizes_text info = told_number (codes ", data fork ") info.data_len ++ told_number (codes " bytes, resource fork ") info.res_len ++ codes " bytes</span>"
+sizes_text info =
+    told_number (codes "</span><span> data fork ") info.data_len ++ told_number (codes " bytes, resource fork ") info.res_len ++ codes " bytes</span>"
 
 unfoldable pub file_text : Info → List ℕ
-file_text info = name_tagged info ++ type_text info ++ told_date (codes ", modified ") info.modified ++ sizes_text info
+file_text info = name_tagged info ++ type_text info ++ modified_text info.modified ++ sizes_text info
 
 -- ---- rows. The depth of an item is the number of folders in which it lies; at most 100 of them open and close
 

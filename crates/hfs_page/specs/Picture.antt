@@ -1,5 +1,5 @@
 -- The picture of a disk.
-use Rattle.std.specs.Prelude.{ℕ, ◌+◌, ◌/◌, ◌%◌, List, [], ◌∷◌, ◌++◌, length, codes, Option, Some, None}
+use Rattle.std.specs.Prelude.{ℕ, ◌+◌, ◌/◌, ◌%◌, ◌==◌, if◌then◌else◌, List, [], ◌∷◌, ◌++◌, length, codes, Option, Some, None}
 use Rattle.std.specs.Int.{div_ceil}
 use Rattle.std.specs.List.{slice_get}
 use Rattle.hfs_catalog.specs.Records.{Catalog, Record}
@@ -45,9 +45,10 @@ use_text catalog used = part_text used.part ++ owner_text catalog used.fork
 
 -- ---- cells
 
--- the first of a cell's blocks and the last
+-- the number of a cell's block, or of the first and the last of several
 unfoldable pub blocks_text : ℕ → ℕ → List ℕ
-blocks_text first last = told_number (codes "") first ++ told_number (codes " to ") last
+blocks_text first last =
+    if first == last then told_number (codes "Block ") first else told_number (codes "Blocks ") first ++ told_number (codes " to ") last
 
 -- a cell's square: 64 stand in a row
 unfoldable pub rect_head : ℕ → Part → List ℕ

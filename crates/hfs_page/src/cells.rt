@@ -33,7 +33,8 @@ fn first_of(uses: &[BlockUse], part: Part) -> Option<BlockUse>
     None
 }
 
-/// What is shown of blocks by these parts: the first of them that one of the blocks is, and of that part the first block's use.
+/// What is shown of blocks by these parts: the first of them that one of the blocks is, and of that
+/// part the first block's use.
 fn shown_by(parts: &[Part], uses: &[BlockUse]) -> Option<BlockUse>
     ensures { result ≡ shown_by parts.now uses.now }
 {
@@ -82,8 +83,8 @@ fn cell_at(uses: &[BlockUse], per_cell: usize, first: usize) -> Cell
     }
 }
 
-/// The cells of a picture of blocks with these uses: one for each block, or for the least number of blocks with which there are no more
-/// than 4,096 cells. The only error is want of memory.
+/// The cells of a picture of blocks with these uses: one for each block, or for the least number of
+/// blocks with which there are no more than 4,096 cells. The only error is want of memory.
 #[tactic(auto, unfolding(crate::specs::Cells::picture_cells))]
 pub fn picture_cells(alloc: Global, uses: &[BlockUse]) -> Result<Vec<Cell>, AllocError>
     ensures { IfOk result (λ cells. cells.items ≡ picture_cells uses.now) }

@@ -1,5 +1,5 @@
 //! The page of a sound volume, out of its blocks.
-ghost use Rattle.std.specs.Prelude.{◌≡◌, ◌+◌, ◌≤◌, IfOk, OnOk};
+ghost use Rattle.std.specs.Prelude.{◌≡◌, ◌+◌, ◌≤◌, IfOk, OnErr, OnOk};
 ghost use Rattle.std.specs.Io.KnownBytes.{Appends};
 ghost use Rattle.hfs_check.specs.Parts.{catalog_in, mdb_in, overflow_in};
 ghost use Rattle.hfs_check.specs.Sound.{AreBlocksSound};
@@ -12,6 +12,7 @@ ghost use Rattle.hfs_page.specs.Disk.{cells_in, page_in};
 ghost use Rattle.hfs_page.specs.Document.{end_text, front_text};
 ghost use Rattle.hfs_page.specs.Holdings.{volume_holdings};
 ghost use Rattle.hfs_page.specs.Uses.{block_uses};
+ghost use Rattle.hfs_texts.specs.Writing.{AppendsFront};
 
 use crate::cells::{Cell, picture_cells};
 use crate::document::{front, push_end};
@@ -134,7 +135,10 @@ fn front_in<B: Blocks>(
 
 /// Writes all that stands behind the items.
 fn write_end<W: Write>(alloc: Global, writer: &mut W, script: &[u8]) -> Result<(), PageFault>
-    ensures { OnOk result (Appends (W.contents writer.old) (W.contents writer.new) (end_text script.now)) }
+    ensures written { OnOk result (Appends (W.contents writer.old) (W.contents writer.new)
+        (end_text script.now)) }
+    ensures part { OnErr result (AppendsFront (W.contents writer.old) (W.contents writer.new)
+        (end_text script.now)) }
 {
     let mut text = Vec::new(alloc);
     let Ok(()) = push_end(&mut text, script) else {
@@ -154,9 +158,11 @@ fn inventory(alloc: Global, records: Vec<CatalogRecord>) -> Result<Inventory, Pa
     }
 }
 
-/// Writes the page of a sound volume: what stands before the items, each item's row, and what stands behind them. Beside the records of the
-/// catalog and the picture no more than one row is in memory. `style` stands in the head, `legend` under the picture, `script` behind the
-/// items. Faults: memory was refused, or the writer failed, and then a part of the page may have gone out.
+/// Writes the page of a sound volume: what stands before the items, each item's row, and what
+/// stands behind them. Beside the records of the catalog and the picture 65,536 bytes and a row are
+/// in memory. `style` stands in the head, `legend` under the picture, `script` behind the items.
+/// Faults: memory was refused, or the writer failed; then a part of the page may have gone out,
+/// from its beginning on.
 #[tactic(auto, unfolding(crate::specs::Disk::page_in))]
 pub fn write_page<B: Blocks, W: Write>(
     alloc: Global,
@@ -170,7 +176,9 @@ pub fn write_page<B: Blocks, W: Write>(
     requires sound { AreBlocksSound (B.total blocks.now) (B.blocks blocks.now) }
     requires mdb { volume.now.mdb ≡ mdb_in (B.blocks blocks.now) }
     requires trees { HasTrees (B.total blocks.now) (B.blocks blocks.now) volume.now.trees }
-    ensures { OnOk result (Appends (W.contents writer.old) (W.contents writer.new)
+    ensures written { OnOk result (Appends (W.contents writer.old) (W.contents writer.new)
+        (page_in style.now legend.now script.now (B.blocks blocks.now))) }
+    ensures part { OnErr result (AppendsFront (W.contents writer.old) (W.contents writer.new)
         (page_in style.now legend.now script.now (B.blocks blocks.now))) }
 {
     trees_are_sound();
@@ -180,8 +188,9 @@ pub fn write_page<B: Blocks, W: Write>(
     let Ok(front) = front_in(alloc, blocks, volume, style, legend, &records) else {
         return Err(PageFault::Memory);
     };
-    put_piece(writer, &front)?;
     let mut items = inventory(alloc, records)?;
+    put_piece(writer, &front)?;
     write_rows(alloc, &mut items, writer)?;
-    write_end(alloc, writer, script)
+    write_end(alloc, writer, script)?;
+    Ok(())
 }

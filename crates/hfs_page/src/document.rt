@@ -68,7 +68,8 @@ fn push_front(
     push_bytes(page, b"<ul id=\"items\">\n")
 }
 
-/// All that stands before the items, where `records` are all records of the catalog, and `cells` those of the picture.
+/// All that stands before the items, where `records` are all records of the catalog, and `cells`
+/// those of the picture.
 pub(crate) fn front(
     alloc: Global,
     style: &[u8],

@@ -1,6 +1,6 @@
 //! What a page says of a volume before its picture.
 ghost use Rattle.std.specs.Prelude.{OnOk};
-ghost use Rattle.hfs_page.specs.Facts.{count_row, counts_text, date_row, dates_text, head_text, row_head, sizes_text, facts_text};
+ghost use Rattle.hfs_page.specs.Facts.{count_row, counts_text, date_row, dates_text, head_text, row_head, sizes_text, start_text, facts_text};
 ghost use Rattle.hfs_page.specs.Pieces.{Gains};
 
 use crate::pieces::push_bytes;
@@ -74,7 +74,12 @@ fn push_sizes(alloc: Global, page: &mut Vec<u8>, mdb: &Mdb) -> Result<(), AllocE
     ensures { OnOk result (Gains page.old page.new (sizes_text mdb.now)) }
 {
     push_blocks_row(alloc, page, b"Allocation blocks", mdb.allocation_blocks)?;
-    push_count_row(alloc, page, b"Bytes of each", mdb.allocation_block_size)?;
+    push_count_row(
+        alloc,
+        page,
+        b"Bytes of each block",
+        mdb.allocation_block_size,
+    )?;
     push_blocks_row(alloc, page, b"Free blocks", mdb.free_blocks)
 }
 
@@ -86,13 +91,14 @@ fn push_counts(alloc: Global, page: &mut Vec<u8>, mdb: &Mdb) -> Result<(), Alloc
     push_count_row(alloc, page, b"Folders", mdb.folders)
 }
 
-/// Appends the table of what the volume is. It is of a sound one, since no other has a page with more than its fault.
+/// Appends the table of what the volume is. It is of a sound one, since no other has a page with
+/// more than its fault.
 pub(crate) fn push_facts(alloc: Global, page: &mut Vec<u8>, mdb: &Mdb) -> Result<(), AllocError>
     ensures { OnOk result (Gains page.old page.new (facts_text mdb.now)) }
 {
     push_bytes(
         page,
-        b"<table>\n<tr><th scope=\"row\">Check</th><td>sound</td></tr>\n",
+        b"<table aria-label=\"The volume\">\n<tr><th scope=\"row\">Check</th><td>sound</td></tr>\n",
     )?;
     push_dates(alloc, page, mdb)?;
     push_sizes(alloc, page, mdb)?;
@@ -100,14 +106,22 @@ pub(crate) fn push_facts(alloc: Global, page: &mut Vec<u8>, mdb: &Mdb) -> Result
     push_bytes(page, b"</table>\n")
 }
 
+/// Appends what stands before a page's title. It tells a browser that the page may ask for nothing.
+#[tactic(auto, unfolding(crate::specs::Facts::start_text))]
+fn push_start(page: &mut Vec<u8>) -> Result<(), AllocError>
+    ensures { OnOk result (Gains page.old page.new start_text) }
+{
+    push_bytes(
+        page,
+        b"<!DOCTYPE html>\n<html lang=\"en\">\n<head>\n<meta charset=\"utf-8\">\n<meta name=\"viewport\" content=\"width=device-width\">\n<meta http-equiv=\"Content-Security-Policy\" content=\"default-src 'none'; style-src 'unsafe-inline'; script-src 'unsafe-inline'; img-src data:\">\n<link rel=\"icon\" href=\"data:,\">\n<title>",
+    )
+}
+
 /// Appends the beginning of a page with this title and this dress.
 pub(crate) fn push_head(page: &mut Vec<u8>, style: &[u8], title: &[u8]) -> Result<(), AllocError>
     ensures { OnOk result (Gains page.old page.new (head_text style.now title.now)) }
 {
-    push_bytes(
-        page,
-        b"<!DOCTYPE html>\n<html lang=\"en\">\n<head>\n<meta charset=\"utf-8\">\n<meta name=\"viewport\" content=\"width=device-width\">\n<title>",
-    )?;
+    push_start(page)?;
     push_bytes(page, title)?;
     push_bytes(page, b"</title>\n<style>")?;
     push_bytes(page, style)?;

@@ -147,8 +147,8 @@ fn behind<'a>(all: &'a [Extent], first: &[Extent], second: &[Extent]) -> &'a [Ex
     &all[first.len() + second.len()..]
 }
 
-/// Adds the extents of the bad blocks. They are the last of all that a volume without files owns, behind those of the catalog file and
-/// the three of the extents file.
+/// Adds the extents of the bad blocks. They are the last of all that a volume without files owns,
+/// behind those of the catalog file and the three of the extents file.
 
 fn push_bad<N: Nodes>(
     alloc: Global,
@@ -167,8 +167,9 @@ fn push_bad<N: Nodes>(
     push_held(holdings, Part::BadBlocks, bad)
 }
 
-/// All extents of a volume with what their blocks are used for, where `tree` is its extents tree, `catalog` has the extents of its catalog
-/// file, and `records` are all records of the catalog. The only error is want of memory.
+/// All extents of a volume with what their blocks are used for, where `tree` is its extents tree,
+/// `catalog` has the extents of its catalog file, and `records` are all records of the catalog. The
+/// only error is want of memory.
 #[tactic(auto, unfolding(crate::specs::Holdings::volume_holdings))]
 pub fn volume_holdings<N: Nodes>(
     alloc: Global,

@@ -1,7 +1,7 @@
 //! The items of a page, as a tree that opens and closes.
 ghost use Rattle.std.specs.Prelude.{◌≡◌, ◌<◌, ◌^◌, OnOk};
 ghost use Rattle.hfs_page.specs.Pieces.{Gains};
-ghost use Rattle.hfs_page.specs.Items.{closings, file_text, flat_text, folder_text, item_text, leaf_text, name_tagged, nested_text, open_behind, opening, row_text, sizes_text, type_text};
+ghost use Rattle.hfs_page.specs.Items.{closings, file_text, flat_text, folder_text, item_text, leaf_text, modified_text, name_tagged, nested_text, open_behind, opening, row_text, sizes_text, type_text};
 
 use crate::pieces::push_bytes;
 use crate::texts::{push_shown, push_told_date, push_told_number, push_told_text};
@@ -21,14 +21,24 @@ fn push_name(alloc: Global, page: &mut Vec<u8>, info: &Info) -> Result<(), Alloc
     push_bytes(page, b"</b>")
 }
 
+/// Appends when an item was modified, if it has a date.
+fn push_modified(alloc: Global, page: &mut Vec<u8>, date: u32) -> Result<(), AllocError>
+    ensures { OnOk result (Gains page.old page.new (modified_text date)) }
+{
+    if date == 0 {
+        return Ok(());
+    }
+    push_told_date(alloc, page, b"</span><span> modified ", date)
+}
+
 /// Appends what is told of a folder.
 #[tactic(auto, unfolding(crate::specs::Items::folder_text))]
 fn push_folder(alloc: Global, page: &mut Vec<u8>, info: &Info) -> Result<(), AllocError>
     ensures { OnOk result (Gains page.old page.new (folder_text info.now)) }
 {
     push_name(alloc, page, info)?;
-    push_told_number(alloc, page, b" <span>folder, items ", info.valence)?;
-    push_told_date(alloc, page, b", modified ", info.modified)?;
+    push_told_number(alloc, page, b"<span> folder, items ", info.valence)?;
+    push_modified(alloc, page, info.modified)?;
     push_bytes(page, b"</span>")
 }
 
@@ -37,7 +47,7 @@ fn push_folder(alloc: Global, page: &mut Vec<u8>, info: &Info) -> Result<(), All
 fn push_type(alloc: Global, page: &mut Vec<u8>, info: &Info) -> Result<(), AllocError>
     ensures { OnOk result (Gains page.old page.new (type_text info.now)) }
 {
-    push_told_text(alloc, page, b" <span>file, type ", &info.finder[..4])?;
+    push_told_text(alloc, page, b"<span> file, type ", &info.finder[..4])?;
     push_told_text(alloc, page, b", creator ", &info.finder[4..8])
 }
 
@@ -46,7 +56,7 @@ fn push_type(alloc: Global, page: &mut Vec<u8>, info: &Info) -> Result<(), Alloc
 fn push_sizes(alloc: Global, page: &mut Vec<u8>, info: &Info) -> Result<(), AllocError>
     ensures { OnOk result (Gains page.old page.new (sizes_text info.now)) }
 {
-    push_told_number(alloc, page, b", data fork ", info.data_len)?;
+    push_told_number(alloc, page, b"</span><span> data fork ", info.data_len)?;
     push_told_number(alloc, page, b" bytes, resource fork ", info.res_len)?;
     push_bytes(page, b" bytes</span>")
 }
@@ -58,7 +68,7 @@ fn push_file(alloc: Global, page: &mut Vec<u8>, info: &Info) -> Result<(), Alloc
 {
     push_name(alloc, page, info)?;
     push_type(alloc, page, info)?;
-    push_told_date(alloc, page, b", modified ", info.modified)?;
+    push_modified(alloc, page, info.modified)?;
     push_sizes(alloc, page, info)
 }
 
@@ -118,7 +128,8 @@ fn push_leaf(alloc: Global, page: &mut Vec<u8>, info: &Info) -> Result<(), Alloc
     push_bytes(page, b"</li>\n")
 }
 
-/// Appends an item that lies in so many folders: all of a file, and of a folder what stands before its children.
+/// Appends an item that lies in so many folders: all of a file, and of a folder what stands before
+/// its children.
 #[tactic(auto, unfolding(crate::specs::Items::item_text))]
 fn push_item(alloc: Global, page: &mut Vec<u8>, depth: usize, info: &Info) -> Result<(), AllocError>
     ensures { OnOk result (Gains page.old page.new (item_text depth info.now)) }
@@ -146,8 +157,8 @@ pub(crate) fn open_behind(depth: usize, info: &Info) -> usize
     }
 }
 
-/// Appends the row of an item that lies in so many folders, where so many stand open: the ends of those in which it doesn't lie, and then
-/// the item.
+/// Appends the row of an item that lies in so many folders, where so many stand open: the ends of
+/// those in which it doesn't lie, and then the item.
 #[tactic(auto, unfolding(crate::specs::Items::row_text))]
 pub(crate) fn push_row(
     alloc: Global,

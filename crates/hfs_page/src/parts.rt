@@ -5,7 +5,8 @@ ghost use Rattle.hfs_page.specs.Parts.{rank};
 use hfs_fields::Extent;
 use hfs_space::ForkKind;
 
-/// A part of a disk, in the order in which a picture shows them: of the parts that a cell's blocks are, it shows the first.
+/// A part of a disk, in the order in which a picture shows them: of the parts that a cell's blocks
+/// are, it shows the first.
 #[derive(Clone, Copy)]
 pub enum Part {
     /// The bad blocks, which file 5 has.

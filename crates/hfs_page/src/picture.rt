@@ -101,7 +101,8 @@ fn push_use(
     push_owner(alloc, page, records, used.fork)
 }
 
-/// Appends the numbers of a cell's blocks: of the first, and of the last where there is more than one.
+/// Appends the number of a cell's block, or of the first and the last of several.
+#[tactic(auto, unfolding(crate::specs::Picture::blocks_text))]
 fn push_blocks(
     alloc: Global,
     page: &mut Vec<u8>,
@@ -110,7 +111,10 @@ fn push_blocks(
 ) -> Result<(), AllocError>
     ensures { OnOk result (Gains page.old page.new (blocks_text first last)) }
 {
-    push_told_count(alloc, page, b"", first)?;
+    if first == last {
+        return push_told_count(alloc, page, b"Block ", first);
+    }
+    push_told_count(alloc, page, b"Blocks ", first)?;
     push_told_count(alloc, page, b" to ", last)
 }
 

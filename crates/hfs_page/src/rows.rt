@@ -1,14 +1,18 @@
 //! The rows of a page's items, written one after the other.
-ghost use Rattle.std.specs.Prelude.{◌≡◌, [], IfOk, OnOk};
+ghost use Rattle.std.specs.Prelude.{◌≡◌, ◌++◌, [], IfOk, OnErr, OnOk};
 ghost use Rattle.std.specs.Io.KnownBytes.{Appends};
 ghost use Rattle.hfs_page.specs.Items.{closings, rows_text};
-ghost use Rattle.hfs_page.specs.Rows.{GivesPiece};
+ghost use Rattle.hfs_page.specs.Rows.{MovesRow};
+ghost use Rattle.hfs_texts.specs.Writing.{AppendsFront};
 
 use crate::items::{open_behind, push_closings, push_row};
 use hfs_inventory::Inventory;
 use hfs_texts::put;
 use std::alloc::{AllocError, Global};
 use std::io::Write;
+
+/// How many bytes of text are gathered before they are written.
+const PIECE: usize = 65_536;
 
 /// Why a page is not written whole.
 #[derive(Clone, Copy, Debug, PartialEq, Eq)]
@@ -19,36 +23,46 @@ pub enum PageFault {
     OutputFailed,
 }
 
-/// The row of one item, and how many folders stand open behind it.
-#[derive(Drop)]
-pub(crate) struct RowPiece {
-    pub(crate) text: Vec<u8>,
-    pub(crate) opened: usize,
-}
-
-/// The row of the next item, where so many folders stand open; None behind the last one.
-fn next_piece(
+/// Appends the row of the next item, where so many folders stand open, and answers how many do
+/// behind it; None behind the last one.
+fn push_next(
     alloc: Global,
+    text: &mut Vec<u8>,
     items: &mut Inventory,
     opened: usize,
-) -> Result<Option<RowPiece>, AllocError>
-    ensures { IfOk result (GivesPiece opened items.old.left items.new.left) }
+) -> Result<Option<usize>, AllocError>
+    ensures { IfOk result (MovesRow opened text.old.items text.new.items
+        items.old.left items.new.left) }
 {
     let Some(info) = items.next()? else {
         return Ok(None);
     };
     let depth = items.path().len().saturating_sub(1);
-    let mut text = Vec::new(alloc);
-    push_row(alloc, &mut text, opened, depth, &info)?;
-    Ok(Some(RowPiece {
-        text,
-        opened: open_behind(depth, &info),
-    }))
+    push_row(alloc, text, opened, depth, &info)?;
+    Ok(Some(open_behind(depth, &info)))
 }
 
-/// Writes bytes.
+/// [`push_next`] with the fault of a page.
+fn push_next_row(
+    alloc: Global,
+    text: &mut Vec<u8>,
+    items: &mut Inventory,
+    opened: usize,
+) -> Result<Option<usize>, PageFault>
+    ensures { IfOk result (MovesRow opened text.old.items text.new.items
+        items.old.left items.new.left) }
+{
+    match push_next(alloc, text, items, opened) {
+        Ok(behind) => Ok(behind),
+        Err(_) => Err(PageFault::Memory),
+    }
+}
+
+/// Writes bytes; at a fault a part of them, from the first on.
 pub(crate) fn put_piece<W: Write>(writer: &mut W, piece: &[u8]) -> Result<(), PageFault>
-    ensures { OnOk result (Appends (W.contents writer.old) (W.contents writer.new) piece.now) }
+    ensures written { OnOk result (Appends (W.contents writer.old) (W.contents writer.new) piece.now) }
+    ensures part { OnErr result (AppendsFront (W.contents writer.old) (W.contents writer.new)
+        piece.now) }
 {
     match put(writer, piece) {
         Ok(()) => Ok(()),
@@ -56,44 +70,50 @@ pub(crate) fn put_piece<W: Write>(writer: &mut W, piece: &[u8]) -> Result<(), Pa
     }
 }
 
-/// Writes the ends of so many folders.
-fn put_closings<W: Write>(alloc: Global, writer: &mut W, count: usize) -> Result<(), PageFault>
-    ensures { OnOk result (Appends (W.contents writer.old) (W.contents writer.new) (closings count)) }
+/// Writes a text, and begins the next one.
+fn put_text<W: Write>(writer: &mut W, text: &mut Vec<u8>) -> Result<(), PageFault>
+    ensures written { OnOk result (Appends (W.contents writer.old) (W.contents writer.new)
+        text.old.items) }
+    ensures empty { OnOk result (text.new.items ≡ []) }
+    ensures part { OnErr result (AppendsFront (W.contents writer.old) (W.contents writer.new)
+        text.old.items) }
 {
-    let mut text = Vec::new(alloc);
-    let Ok(()) = push_closings(&mut text, count) else {
-        return Err(PageFault::Memory);
-    };
-    put_piece(writer, &text)
+    put_piece(writer, text)?;
+    text.clear();
+    Ok(())
 }
 
-/// The row of the next item, with the fault of a page.
-fn next_row(
-    alloc: Global,
-    items: &mut Inventory,
-    opened: usize,
-) -> Result<Option<RowPiece>, PageFault>
-    ensures { IfOk result (GivesPiece opened items.old.left items.new.left) }
+/// [`push_closings`] with the fault of a page.
+fn push_ends(text: &mut Vec<u8>, count: usize) -> Result<(), PageFault>
+    ensures { OnOk result (text.new.items ≡ text.old.items ++ closings count) }
 {
-    match next_piece(alloc, items, opened) {
-        Ok(piece) => Ok(piece),
+    match push_closings(text, count) {
+        Ok(()) => Ok(()),
         Err(_) => Err(PageFault::Memory),
     }
 }
 
-/// Writes the rows of all items that are still to come, one after the other: no more than one row is in memory.
+/// Writes the rows of all items that are still to come, one after the other, in pieces of 65,536
+/// bytes and a row. At a fault a part of them has gone out, from the first on.
 pub(crate) fn write_rows<W: Write>(
     alloc: Global,
     items: &mut Inventory,
     writer: &mut W,
 ) -> Result<(), PageFault>
-    ensures { OnOk result (Appends (W.contents writer.old) (W.contents writer.new)
+    ensures written { OnOk result (Appends (W.contents writer.old) (W.contents writer.new)
+        (rows_text 0 items.old.left)) }
+    ensures part { OnErr result (AppendsFront (W.contents writer.old) (W.contents writer.new)
         (rows_text 0 items.old.left)) }
 {
+    let mut text = Vec::new(alloc);
     let mut opened = 0;
-    while let Some(piece) = next_row(alloc, items, opened)? {
-        put_piece(writer, &piece.text)?;
-        opened = piece.opened;
+    while let Some(behind) = push_next_row(alloc, &mut text, items, opened)? {
+        opened = behind;
+        if text.len() >= PIECE {
+            put_text(writer, &mut text)?;
+        }
     }
-    put_closings(alloc, writer, opened)
+    push_ends(&mut text, opened)?;
+    put_piece(writer, &text)?;
+    Ok(())
 }

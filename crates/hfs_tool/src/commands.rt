@@ -2,6 +2,7 @@
 
 use crate::by_path::{print_fork_at, print_list_at, print_macbinary_at};
 use crate::hints::tell_hint;
+use crate::pages::print_page;
 use crate::progress::Progress;
 use crate::saving::{save, tell};
 use crate::volumes::{
@@ -55,6 +56,7 @@ pub fn obey<'a, T: Threads + Wait + Sync>(
             Some(n) => print_volume_items(rt, *image, *n, *format),
             None => print_items(rt, *image, *format),
         },
+        Words::Page { image, volume } => print_page(rt, *image, *volume),
         Words::Cat(file) => match file.volume {
             Some(n) => print_volume_fork(rt, file, n),
             None => print_fork(rt, file),

@@ -7,6 +7,7 @@ ghost use Rattle.hfs_commands.specs.Faults.{status_number, status_of};
 mod by_path;
 mod commands;
 mod hints;
+mod pages;
 mod progress;
 mod saving;
 mod volumes;

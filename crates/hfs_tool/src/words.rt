@@ -37,6 +37,11 @@ pub enum Words<'a> {
         volume: Option<u64>,
         format: Format,
     },
+    /// `page IMAGE [--volume N]`: a page of the volume, as a document of HTML.
+    Page {
+        image: &'a str,
+        volume: Option<u64>,
+    },
     /// `cat IMAGE DIR NAME [--resource] [--volume N]`: the bytes of a file's fork.
     Cat(ForkWords<'a>),
     /// `cat IMAGE --path PATH [--resource] [--volume N]`: the same of the file that the path leads to.
@@ -228,7 +233,7 @@ const VOLUMES: &str = "How a volume lies in the file:
   partition  it is a partition of type Apple_HFS in a map with blocks of 512 or 2,048 bytes
 A disk copy or a partition without a volume is listed, too, with 'no volume' at the line's end.
 
-The words info, check, ls and cat take the N-th of them by --volume N; run and repair take no --volume.
+The words info, check, ls, items, page and cat take the N-th of them by --volume N; run and repair take no --volume.
 
 Not looked for: a map within a map or within a disk copy, Disk Copy 6 and other compressed forms, images with
 sectors of 2,352 bytes, MFS, and HFS Plus without a wrapper.";
@@ -261,6 +266,11 @@ const COLUMNS: &str = "The columns:
 In tables a character below 32, DEL and the backslash are a backslash and two hexadecimal digits. In JSON path, type and creator
 hold the characters themselves, numbers are numbers, yes and no are true and false, and an empty field is null.";
 
+/// What the word `page` tells beside its arguments.
+const PAGES: &str = "The page is one document of HTML by itself: it asks for nothing from elsewhere, and may be put on a web site as it is.
+The picture has a square for each allocation block, or for several where there are more than 4,096: of what the
+blocks are used for, it shows the first that its legend names. Of a refused image the page says why.";
+
 /// What stands behind the help text.
 const AFTER_HELP: &str = "Exit statuses:
   0  done
@@ -275,6 +285,7 @@ Examples:
   hfs_tool check disk.img
   hfs_tool ls disk.img
   hfs_tool items disk.img --format csv > items.csv || rm items.csv
+  hfs_tool page disk.img > disk.html
   hfs_tool cat disk.img 19 'Read Me' > read_me.data || rm read_me.data
   hfs_tool cat disk.img 19 'Read Me' --macbinary > read_me.bin || rm read_me.bin
   hfs_tool volumes hard_disk.img
@@ -295,7 +306,8 @@ fn command<'a>(alloc: Global) -> Result<Command<'a>, AllocError> {
     let with_check = with_word(with_info, check_command(alloc));
     let with_list = with_word(with_check, list_command(alloc));
     let with_items = with_word(with_list, items_command(alloc));
-    let with_cat = with_word(with_items, cat_command(alloc));
+    let with_page = with_word(with_items, page_command(alloc));
+    let with_cat = with_word(with_page, cat_command(alloc));
     let with_volumes = with_word(with_cat, volumes_command(alloc));
     let with_new = with_word(with_volumes, new_command(alloc));
     let with_repair = with_word(with_new, repair_command(alloc));
@@ -390,6 +402,16 @@ fn items_command<'a>(alloc: Global) -> Result<Command<'a>, AllocError> {
         .arg(image(alloc));
     let with_format = with_argument(with_image, format(alloc));
     with_argument(with_format, volume(alloc))
+}
+
+fn page_command<'a>(alloc: Global) -> Result<Command<'a>, AllocError> {
+    let with_image = Command::new(alloc, "page")
+        .about(
+            "Prints a page for a browser: what the volume is, a picture of its blocks, its items",
+        )
+        .after_help(PAGES)
+        .arg(image(alloc));
+    with_argument(with_image, volume(alloc))
 }
 
 /// The choice of a file's resource fork.
@@ -518,6 +540,10 @@ fn words_behind<'a>(word: &str, inner: &ArgMatches<'a>) -> Words<'a> {
             image: text_of(inner, "IMAGE"),
             volume: volume_of(inner),
             format: format_of(inner),
+        },
+        "page" => Words::Page {
+            image: text_of(inner, "IMAGE"),
+            volume: volume_of(inner),
         },
         "volumes" => Words::Volumes {
             file: text_of(inner, "FILE"),
