@@ -10,3 +10,4 @@ pub mod Listing
 pub mod TreeReads
 pub mod OpenedValues
 pub mod WholeFiles
+pub mod ForkRuns
