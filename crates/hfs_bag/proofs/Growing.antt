@@ -1,7 +1,8 @@
 -- Lists that a shelf was given by one call behind another.
-use Rattle.std.proofs.Common.{◌≡◌, List, ◌++◌, sym, ap, ◌∙◌, subst, append_assoc, Result, Ok, Err, OnErr}
+use Rattle.std.proofs.Common.{◌≡◌, true, List, ◌++◌, sym, ap, ◌∙◌, subst, append_assoc, Result, Ok, Err, OnErr}
 use Rattle.hfs_shelves.specs.Entries.{ShelfEntry, IsBeginning}
 use Rattle.hfs_shelves.proofs.Beginnings.{begins_appended, begins_before}
+use Rattle.hfs_bag.specs.Sources.{SourceState, WhereKnown}
 
 -- nothing of what is to come was given
 pub part_none : (g0 now more : List ShelfEntry) → now ≡ g0 → IsBeginning now (g0 ++ more)
@@ -32,3 +33,8 @@ module _ (g0 g1 done : List ShelfEntry) (was : g1 ≡ g0 ++ done) where
 pub on_err : {A E : Type 0} (result : Result A E) {P : Type 0} → P → OnErr result P
 on_err (Ok x) p = tt
 on_err (Err e) p = p
+
+-- and so does what holds where a source's bytes are known
+pub where_err : {A E : Type 0} (result : Result A E) (state : SourceState) {P : Type 0} → (state.known ≡ true → P) → OnErr result (WhereKnown state P)
+where_err (Ok x) state p = tt
+where_err (Err e) state p = p

@@ -1,18 +1,18 @@
 -- Streams that go to a shelf and to a digest.
 use Rattle.std.specs.Prelude.{◌≡◌, ℕ, ◌<◌, List, [], ◌∷◌, ◌++◌, length, Bool, true, false}
 use Rattle.hfs_shelves.specs.Entries.{ShelfEntry, file, with_piece}
-use Rattle.hfs_bag.specs.Sources.{SourceState, SameItems}
+use Rattle.hfs_bag.specs.Sources.{SourceState, SameItems, WhereKnown}
 
 -- a digest that held a message holds these bytes behind it
 abbrev pub HoldsMore : (List ℕ → Type 0) → (List ℕ → Type 0) → List ℕ → Type 0
 HoldsMore Held Holds bytes = (m : List ℕ) → Held m → Holds (m ++ bytes)
 
--- some of a stream's bytes went to the shelf and to the digest: the shelf with those that are left is as the shelf before with all of them
+-- some of a stream's bytes went to the shelf and to the digest: where they are known, the shelf with those that are left is as the shelf before with all of them
 pub record HasMoved (given_old given_new : List ShelfEntry) (old new : SourceState) (Held Holds : List ℕ → Type 0) : Type 0 where
   pub same : SameItems old new
   pub moved : List ℕ
-  pub bytes : old.bytes ≡ moved ++ new.bytes
-  pub given : with_piece given_new new.bytes ≡ with_piece given_old old.bytes
+  pub bytes : WhereKnown old (old.bytes ≡ moved ++ new.bytes)
+  pub given : WhereKnown old (with_piece given_new new.bytes ≡ with_piece given_old old.bytes)
   pub digest : HoldsMore Held Holds moved
 
 -- fewer bytes are left, or none are

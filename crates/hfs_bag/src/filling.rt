@@ -3,7 +3,7 @@ ghost use Rattle.std.specs.Prelude.{◌≡◌, ◌++◌, IfOk, OnErr, OnOk};
 ghost use Rattle.sha2.specs.Hashers.{Holds256};
 ghost use Rattle.sha2.specs.Sha256.{sha256};
 ghost use Rattle.hfs_shelves.specs.Entries.{IsBeginning, with_piece};
-ghost use Rattle.hfs_bag.specs.Sources.{SameItems, stream_bytes};
+ghost use Rattle.hfs_bag.specs.Sources.{SameItems, WhereKnown, stream_bytes};
 ghost use Rattle.hfs_bag.specs.Filling.{HasMoved, HoldsMore, IsMore, with_whole_file};
 
 use crate::fault::BagFault;
@@ -22,8 +22,8 @@ fn move_piece<S: Shelf, B: BagSource>(
     ensures moved { OnOk result (HasMoved (S.given shelf.old) (S.given shelf.new)
         (B.state source.old) (B.state source.new) (Holds256 digest.old) (Holds256 digest.new)) }
     ensures more { IfOk result (IsMore (B.state source.old) (B.state source.new)) }
-    ensures part { OnErr result (IsBeginning (S.given shelf.new)
-        (with_piece (S.given shelf.old) (B.state source.old).bytes)) }
+    ensures part { OnErr result (WhereKnown (B.state source.old)
+        (IsBeginning (S.given shelf.new) (with_piece (S.given shelf.old) (B.state source.old).bytes))) }
 {
     source.read(piece)?;
     if piece.is_empty() {
@@ -41,12 +41,12 @@ fn move_stream<S: Shelf, B: BagSource>(
     source: &mut B,
     digest: &mut Sha256,
 ) -> Result<(), BagFault>
-    ensures whole { OnOk result (S.given shelf.new ≡ with_piece (S.given shelf.old)
-        (B.state source.old).bytes) }
-    ensures part { OnErr result (IsBeginning (S.given shelf.new)
-        (with_piece (S.given shelf.old) (B.state source.old).bytes)) }
-    ensures digest { OnOk result (HoldsMore (Holds256 digest.old) (Holds256 digest.new)
-        (B.state source.old).bytes) }
+    ensures whole { OnOk result (WhereKnown (B.state source.old)
+        (S.given shelf.new ≡ with_piece (S.given shelf.old) (B.state source.old).bytes)) }
+    ensures part { OnErr result (WhereKnown (B.state source.old)
+        (IsBeginning (S.given shelf.new) (with_piece (S.given shelf.old) (B.state source.old).bytes))) }
+    ensures digest { OnOk result (WhereKnown (B.state source.old)
+        (HoldsMore (Holds256 digest.old) (Holds256 digest.new) (B.state source.old).bytes)) }
     ensures same { OnOk result (SameItems (B.state source.old) (B.state source.new)) }
 {
     let mut piece = Vec::new(alloc);
@@ -64,13 +64,12 @@ pub(crate) fn put_file<S: Shelf, B: BagSource>(
     head: &[u8],
     stream: Stream,
 ) -> Result<[u8; 32], BagFault>
-    ensures whole { OnOk result (S.given shelf.new ≡ with_whole_file (S.given shelf.old) path.now
-        (head.now ++ stream_bytes (B.state source.old) stream)) }
-    ensures part { OnErr result (IsBeginning (S.given shelf.new)
-        (with_whole_file (S.given shelf.old) path.now
-        (head.now ++ stream_bytes (B.state source.old) stream))) }
-    ensures digest { IfOk result (λ digest. digest ≡ sha256
-        (head.now ++ stream_bytes (B.state source.old) stream)) }
+    ensures whole { OnOk result (WhereKnown (B.state source.old)
+        (S.given shelf.new ≡ with_whole_file (S.given shelf.old) path.now (head.now ++ stream_bytes (B.state source.old) stream))) }
+    ensures part { OnErr result (WhereKnown (B.state source.old)
+        (IsBeginning (S.given shelf.new) (with_whole_file (S.given shelf.old) path.now (head.now ++ stream_bytes (B.state source.old) stream)))) }
+    ensures digest { IfOk result (λ digest. WhereKnown (B.state source.old)
+        (digest ≡ sha256 (head.now ++ stream_bytes (B.state source.old) stream))) }
     ensures same { OnOk result (SameItems (B.state source.old) (B.state source.new)) }
 {
     source.open(stream)?;

@@ -2,6 +2,7 @@
 ghost use Rattle.std.specs.Prelude.{◌≡◌, ◌+◌, ◌++◌, [], ◌∷◌, map, IfOk, OnErr, OnOk};
 ghost use Rattle.hfs_shelves.specs.Entries.{IsBeginning};
 ghost use Rattle.hfs_bag.specs.Items.{item_digests};
+ghost use Rattle.hfs_bag.specs.Sources.{WhereKnown};
 ghost use Rattle.hfs_bag.specs.Bags.{bytes_in, items_entries};
 ghost use Rattle.hfs_bag.specs.Giving.{HasGiven, IsMoreItems};
 
@@ -48,8 +49,8 @@ fn give_next<S: Shelf, B: BagSource>(
         (B.state source.old) (B.state source.new)
         given.old.digests.items given.new.digests.items given.old.bytes given.new.bytes) }
     ensures more { IfOk result (IsMoreItems (B.state source.old) (B.state source.new)) }
-    ensures part { OnErr result (IsBeginning (S.given shelf.new)
-        (S.given shelf.old ++ items_entries (B.state source.old).left)) }
+    ensures part { OnErr result (WhereKnown (B.state source.old)
+        (IsBeginning (S.given shelf.new) (S.given shelf.old ++ items_entries (B.state source.old).left))) }
 {
     let Some(head) = source.next_item()? else {
         return Ok(false);
@@ -65,14 +66,15 @@ pub(crate) fn give_items<S: Shelf, B: BagSource>(
     shelf: &mut S,
     source: &mut B,
 ) -> Result<Given, BagFault>
-    ensures whole { OnOk result (S.given shelf.new ≡ S.given shelf.old ++ items_entries
-        (B.state source.old).left) }
-    ensures part { OnErr result (IsBeginning (S.given shelf.new)
-        (S.given shelf.old ++ items_entries (B.state source.old).left)) }
-    ensures digests { IfOk result (λ given. given.digests.items ≡ map item_digests
-        (B.state source.old).left) }
-    ensures bytes { IfOk result (λ given. given.bytes ≡ bytes_in
-        (items_entries (B.state source.old).left)) }
+    ensures whole { OnOk result (WhereKnown (B.state source.old)
+        (S.given shelf.new ≡ S.given shelf.old ++ items_entries (B.state source.old).left)) }
+    ensures part { OnErr result (WhereKnown (B.state source.old)
+        (IsBeginning (S.given shelf.new) (S.given shelf.old ++ items_entries (B.state source.old).left))) }
+    ensures digests { IfOk result (λ given. WhereKnown (B.state source.old)
+        (given.digests.items ≡ map item_digests (B.state source.old).left)) }
+    ensures bytes { IfOk result (λ given. WhereKnown (B.state source.old)
+        (given.bytes ≡ bytes_in (items_entries (B.state source.old).left))) }
+    ensures known { OnOk result ((B.state source.new).known ≡ (B.state source.old).known) }
     ensures all { OnOk result ((B.state source.new).all ≡ (B.state source.old).all) }
     ensures table { OnOk result ((B.state source.new).table ≡ (B.state source.old).table) }
 {

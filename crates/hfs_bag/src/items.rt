@@ -5,7 +5,7 @@ ghost use Rattle.hfs_encodings.specs.AppleDouble.{apple_double_head_bytes};
 ghost use Rattle.hfs_shelves.specs.Entries.{IsBeginning};
 ghost use Rattle.hfs_bag.specs.declared.item.BagKind.TheVariants as kind;
 ghost use Rattle.hfs_bag.specs.Items.{BagItem, IsHead, double_head, double_bytes, double_entry, entries_of_kind, item_digests, item_entries, digests_of_kind};
-ghost use Rattle.hfs_bag.specs.Sources.{SameItems};
+ghost use Rattle.hfs_bag.specs.Sources.{SameItems, WhereKnown};
 
 use crate::fault::BagFault;
 use crate::filling::put_file;
@@ -53,13 +53,13 @@ fn give_double<S: Shelf, B: BagSource>(
     source: &mut B,
     head: &BagHead,
 ) -> Result<[u8; 32], BagFault>
-    requires { IsHead head.now (B.state source.old).item }
-    ensures whole { OnOk result (S.given shelf.new ≡ S.given shelf.old ++ double_entry
-        (B.state source.old).item ∷ []) }
-    ensures part { OnErr result (IsBeginning (S.given shelf.new)
-        (S.given shelf.old ++ double_entry (B.state source.old).item ∷ [])) }
-    ensures digest { IfOk result (λ digest. digest ≡ sha256
-        (double_bytes (B.state source.old).item)) }
+    requires { WhereKnown (B.state source.old) (IsHead head.now (B.state source.old).item) }
+    ensures whole { OnOk result (WhereKnown (B.state source.old)
+        (S.given shelf.new ≡ S.given shelf.old ++ double_entry (B.state source.old).item ∷ [])) }
+    ensures part { OnErr result (WhereKnown (B.state source.old)
+        (IsBeginning (S.given shelf.new) (S.given shelf.old ++ double_entry (B.state source.old).item ∷ []))) }
+    ensures digest { IfOk result (λ digest. WhereKnown (B.state source.old)
+        (digest ≡ sha256 (double_bytes (B.state source.old).item))) }
     ensures same { OnOk result (SameItems (B.state source.old) (B.state source.new)) }
 {
     let path = marked_path(alloc, source, DOUBLE)?;
@@ -82,13 +82,13 @@ fn give_file<S: Shelf, B: BagSource>(
     source: &mut B,
     head: &BagHead,
 ) -> Result<ItemDigests, BagFault>
-    requires { IsHead head.now (B.state source.old).item }
-    ensures whole { OnOk result (S.given shelf.new ≡ S.given shelf.old ++ entries_of_kind kind.File
-        (B.state source.old).item) }
-    ensures part { OnErr result (IsBeginning (S.given shelf.new)
-        (S.given shelf.old ++ entries_of_kind kind.File (B.state source.old).item)) }
-    ensures digests { IfOk result (λ digests. digests ≡ digests_of_kind kind.File
-        (B.state source.old).item) }
+    requires { WhereKnown (B.state source.old) (IsHead head.now (B.state source.old).item) }
+    ensures whole { OnOk result (WhereKnown (B.state source.old)
+        (S.given shelf.new ≡ S.given shelf.old ++ entries_of_kind kind.File (B.state source.old).item)) }
+    ensures part { OnErr result (WhereKnown (B.state source.old)
+        (IsBeginning (S.given shelf.new) (S.given shelf.old ++ entries_of_kind kind.File (B.state source.old).item))) }
+    ensures digests { IfOk result (λ digests. WhereKnown (B.state source.old)
+        (digests ≡ digests_of_kind kind.File (B.state source.old).item)) }
     ensures same { OnOk result (SameItems (B.state source.old) (B.state source.new)) }
 {
     let path = marked_path(alloc, source, "")?;
@@ -112,13 +112,13 @@ fn give_folder<S: Shelf, B: BagSource>(
     source: &mut B,
     head: &BagHead,
 ) -> Result<ItemDigests, BagFault>
-    requires { IsHead head.now (B.state source.old).item }
-    ensures whole { OnOk result (S.given shelf.new ≡ S.given shelf.old ++ entries_of_kind
-        kind.Folder (B.state source.old).item) }
-    ensures part { OnErr result (IsBeginning (S.given shelf.new)
-        (S.given shelf.old ++ entries_of_kind kind.Folder (B.state source.old).item)) }
-    ensures digests { IfOk result (λ digests. digests ≡ digests_of_kind kind.Folder
-        (B.state source.old).item) }
+    requires { WhereKnown (B.state source.old) (IsHead head.now (B.state source.old).item) }
+    ensures whole { OnOk result (WhereKnown (B.state source.old)
+        (S.given shelf.new ≡ S.given shelf.old ++ entries_of_kind kind.Folder (B.state source.old).item)) }
+    ensures part { OnErr result (WhereKnown (B.state source.old)
+        (IsBeginning (S.given shelf.new) (S.given shelf.old ++ entries_of_kind kind.Folder (B.state source.old).item))) }
+    ensures digests { IfOk result (λ digests. WhereKnown (B.state source.old)
+        (digests ≡ digests_of_kind kind.Folder (B.state source.old).item)) }
     ensures same { OnOk result (SameItems (B.state source.old) (B.state source.new)) }
 {
     let double = give_double(alloc, shelf, source, head)?;
@@ -134,12 +134,13 @@ pub(crate) fn give_item<S: Shelf, B: BagSource>(
     source: &mut B,
     head: &BagHead,
 ) -> Result<ItemDigests, BagFault>
-    requires { IsHead head.now (B.state source.old).item }
-    ensures whole { OnOk result (S.given shelf.new ≡ S.given shelf.old ++ item_entries
-        (B.state source.old).item) }
-    ensures part { OnErr result (IsBeginning (S.given shelf.new)
-        (S.given shelf.old ++ item_entries (B.state source.old).item)) }
-    ensures digests { IfOk result (λ digests. digests ≡ item_digests (B.state source.old).item) }
+    requires { WhereKnown (B.state source.old) (IsHead head.now (B.state source.old).item) }
+    ensures whole { OnOk result (WhereKnown (B.state source.old)
+        (S.given shelf.new ≡ S.given shelf.old ++ item_entries (B.state source.old).item)) }
+    ensures part { OnErr result (WhereKnown (B.state source.old)
+        (IsBeginning (S.given shelf.new) (S.given shelf.old ++ item_entries (B.state source.old).item))) }
+    ensures digests { IfOk result (λ digests. WhereKnown (B.state source.old)
+        (digests ≡ item_digests (B.state source.old).item)) }
     ensures same { OnOk result (SameItems (B.state source.old) (B.state source.new)) }
 {
     match head.kind {

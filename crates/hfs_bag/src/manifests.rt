@@ -5,6 +5,7 @@ ghost use Rattle.sha2.specs.Sha256.{sha256};
 ghost use Rattle.hfs_texts.specs.Texts.{Gains};
 ghost use Rattle.hfs_shelves.specs.Entries.{IsBeginning, with_piece};
 ghost use Rattle.hfs_bag.specs.Items.{double_path, item_digests, item_entries, item_path};
+ghost use Rattle.hfs_bag.specs.Sources.{WhereKnown};
 ghost use Rattle.hfs_bag.specs.Bags.{digest_line, items_entries, manifest};
 ghost use Rattle.hfs_bag.specs.Filling.{HoldsMore, with_whole_file};
 ghost use Rattle.hfs_bag.specs.Giving.{HasListed, IsNextOf};
@@ -12,7 +13,7 @@ ghost use Rattle.hfs_bag.specs.Giving.{HasListed, IsNextOf};
 use crate::fault::BagFault;
 use crate::item::ItemDigests;
 use crate::items::{DOUBLE, marked_path};
-use crate::source::BagSource;
+use crate::source::{BagSource, SourceFault};
 use hfs_shelves::Shelf;
 use sha2::{Digest, Sha256};
 use std::alloc::{AllocError, Global};
@@ -68,9 +69,10 @@ fn item_lines<B: BagSource>(
     source: &B,
     told: &ItemDigests,
 ) -> Result<String, AllocError>
-    requires { told.now ≡ item_digests (B.state source.now).item }
-    ensures { IfOk result (λ text. string_bytes text ≡ manifest
-        (item_entries (B.state source.now).item)) }
+    requires { WhereKnown (B.state source.now)
+        (told.now ≡ item_digests (B.state source.now).item) }
+    ensures { IfOk result (λ text. WhereKnown (B.state source.now)
+        (string_bytes text ≡ manifest (item_entries (B.state source.now).item))) }
 {
     let mut text = String::new(alloc);
     match told {
@@ -83,7 +85,8 @@ fn item_lines<B: BagSource>(
     Ok(text)
 }
 
-/// Gives the lines of the next item, whose files have these digests, to the shelf and to the digest.
+/// Gives the lines of the next item, whose files have these digests, to the shelf and to the digest. A source that tells fewer items than
+/// before has failed.
 fn list_next<S: Shelf, B: BagSource>(
     alloc: Global,
     shelf: &mut S,
@@ -91,14 +94,14 @@ fn list_next<S: Shelf, B: BagSource>(
     digest: &mut Sha256,
     told: &ItemDigests,
 ) -> Result<(), BagFault>
-    requires { IsNextOf told.now (B.state source.old).left }
+    requires { WhereKnown (B.state source.old) (IsNextOf told.now (B.state source.old).left) }
     ensures listed { OnOk result (HasListed (S.given shelf.old) (S.given shelf.new)
         (B.state source.old) (B.state source.new) (Holds256 digest.old) (Holds256 digest.new)) }
-    ensures part { OnErr result (IsBeginning (S.given shelf.new)
-        (with_piece (S.given shelf.old) (manifest (items_entries (B.state source.old).left)))) }
+    ensures part { OnErr result (WhereKnown (B.state source.old)
+        (IsBeginning (S.given shelf.new) (with_piece (S.given shelf.old) (manifest (items_entries (B.state source.old).left))))) }
 {
     let Some(_) = source.next_item()? else {
-        unreachable!()
+        return Err(BagFault::Source(SourceFault::ReadFailed));
     };
     let lines = item_lines(alloc, source, told)?;
     shelf.append(lines.as_bytes())?;
@@ -114,15 +117,17 @@ fn list_items<S: Shelf, B: BagSource>(
     digest: &mut Sha256,
     told: &[ItemDigests],
 ) -> Result<(), BagFault>
-    requires { told.now ≡ map item_digests (B.state source.old).left }
-    ensures whole { OnOk result (S.given shelf.new
-        ≡ with_piece (S.given shelf.old) (manifest (items_entries (B.state source.old).left))) }
-    ensures digest { OnOk result (HoldsMore (Holds256 digest.old) (Holds256 digest.new)
-        (manifest (items_entries (B.state source.old).left))) }
+    requires { WhereKnown (B.state source.old)
+        (told.now ≡ map item_digests (B.state source.old).left) }
+    ensures whole { OnOk result (WhereKnown (B.state source.old)
+        (S.given shelf.new ≡ with_piece (S.given shelf.old) (manifest (items_entries (B.state source.old).left)))) }
+    ensures digest { OnOk result (WhereKnown (B.state source.old)
+        (HoldsMore (Holds256 digest.old) (Holds256 digest.new) (manifest (items_entries (B.state source.old).left)))) }
+    ensures known { OnOk result ((B.state source.new).known ≡ (B.state source.old).known) }
     ensures all { OnOk result ((B.state source.new).all ≡ (B.state source.old).all) }
     ensures table { OnOk result ((B.state source.new).table ≡ (B.state source.old).table) }
-    ensures part { OnErr result (IsBeginning (S.given shelf.new)
-        (with_piece (S.given shelf.old) (manifest (items_entries (B.state source.old).left)))) }
+    ensures part { OnErr result (WhereKnown (B.state source.old)
+        (IsBeginning (S.given shelf.new) (with_piece (S.given shelf.old) (manifest (items_entries (B.state source.old).left))))) }
 {
     for at in 0..told.len() {
         list_next(alloc, shelf, source, digest, &told[at])?;
@@ -137,14 +142,15 @@ pub(crate) fn give_manifest<S: Shelf, B: BagSource>(
     source: &mut B,
     told: &[ItemDigests],
 ) -> Result<[u8; 32], BagFault>
-    requires { told.now ≡ map item_digests (B.state source.old).all }
-    ensures whole { OnOk result (S.given shelf.new ≡ with_whole_file (S.given shelf.old)
-        (codes "manifest-sha256.txt") (manifest (items_entries (B.state source.old).all))) }
-    ensures part { OnErr result (IsBeginning (S.given shelf.new)
-        (with_whole_file (S.given shelf.old) (codes "manifest-sha256.txt")
-        (manifest (items_entries (B.state source.old).all)))) }
-    ensures digest { IfOk result (λ digest. digest ≡ sha256
-        (manifest (items_entries (B.state source.old).all))) }
+    requires { WhereKnown (B.state source.old)
+        (told.now ≡ map item_digests (B.state source.old).all) }
+    ensures whole { OnOk result (WhereKnown (B.state source.old)
+        (S.given shelf.new ≡ with_whole_file (S.given shelf.old) (codes "manifest-sha256.txt") (manifest (items_entries (B.state source.old).all)))) }
+    ensures part { OnErr result (WhereKnown (B.state source.old)
+        (IsBeginning (S.given shelf.new) (with_whole_file (S.given shelf.old) (codes "manifest-sha256.txt") (manifest (items_entries (B.state source.old).all))))) }
+    ensures digest { IfOk result (λ digest. WhereKnown (B.state source.old)
+        (digest ≡ sha256 (manifest (items_entries (B.state source.old).all)))) }
+    ensures known { OnOk result ((B.state source.new).known ≡ (B.state source.old).known) }
     ensures all { OnOk result ((B.state source.new).all ≡ (B.state source.old).all) }
     ensures table { OnOk result ((B.state source.new).table ≡ (B.state source.old).table) }
 {

@@ -25,7 +25,8 @@ pub enum SourceFault {
     Memory,
 }
 
-/// A volume's items below the root, one after the other, each behind the folder that holds it, with the bytes of their forks in pieces.
+/// A volume's items below the root, one after the other, each behind the folder that holds it, with the bytes of their forks in pieces. Where its
+/// bytes are known, contracts know the items by them.
 pub trait BagSource {
     ghost state: { Self → SourceState };
 

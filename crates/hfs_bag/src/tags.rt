@@ -4,6 +4,7 @@ ghost use Rattle.sha2.specs.Sha256.{sha256};
 ghost use Rattle.hfs_texts.specs.Texts.{Gains};
 ghost use Rattle.hfs_shelves.specs.Entries.{IsBeginning};
 ghost use Rattle.hfs_bag.specs.Items.{item_digests};
+ghost use Rattle.hfs_bag.specs.Sources.{WhereKnown};
 ghost use Rattle.hfs_bag.specs.Bags.{bytes_in, files_in, manifest, payload};
 ghost use Rattle.hfs_bag.specs.Filling.{with_whole_file};
 ghost use Rattle.hfs_bag.specs.TagParts.{first_tags, second_tags, tag_lines};
@@ -128,14 +129,16 @@ fn give_first<S: Shelf, B: BagSource>(
     facts: &BagFacts<'_>,
     given: &Given,
 ) -> Result<([u8; 32], [u8; 32], [u8; 32]), BagFault>
-    requires { given.now.digests.items ≡ map item_digests (B.state source.old).all }
-    ensures whole { OnOk result (S.given shelf.new ≡ S.given shelf.old
-        ++ first_tags (B.state source.old).all (B.state source.old).table facts.now) }
-    ensures part { OnErr result (IsBeginning (S.given shelf.new) (S.given shelf.old
-        ++ first_tags (B.state source.old).all (B.state source.old).table facts.now)) }
-    ensures manifest { IfOk result (λ told. told.0 ≡ sha256
-        (manifest (payload (B.state source.old).all))) }
-    ensures table { IfOk result (λ told. told.1 ≡ sha256 (B.state source.old).table) }
+    requires { WhereKnown (B.state source.old)
+        (given.now.digests.items ≡ map item_digests (B.state source.old).all) }
+    ensures whole { OnOk result (WhereKnown (B.state source.old)
+        (S.given shelf.new ≡ S.given shelf.old ++ first_tags (B.state source.old).all (B.state source.old).table facts.now)) }
+    ensures part { OnErr result (WhereKnown (B.state source.old)
+        (IsBeginning (S.given shelf.new) (S.given shelf.old ++ first_tags (B.state source.old).all (B.state source.old).table facts.now))) }
+    ensures manifest { IfOk result (λ told. WhereKnown (B.state source.old)
+        (told.0 ≡ sha256 (manifest (payload (B.state source.old).all)))) }
+    ensures table { IfOk result (λ told. WhereKnown (B.state source.old)
+        (told.1 ≡ sha256 (B.state source.old).table)) }
     ensures report { IfOk result (λ told. told.2 ≡ sha256 facts.now.report.now) }
 {
     let manifest = give_manifest(alloc, shelf, source, &given.digests)?;
@@ -191,13 +194,16 @@ pub(crate) fn give_tags<S: Shelf, B: BagSource>(
     given: &Given,
     files: u64,
 ) -> Result<(), BagFault>
-    requires told { given.now.digests.items ≡ map item_digests (B.state source.old).all }
-    requires bytes { given.now.bytes ≡ bytes_in (payload (B.state source.old).all) }
-    requires files { files ≡ files_in (payload (B.state source.old).all) }
-    ensures whole { OnOk result (S.given shelf.new ≡ S.given shelf.old
-        ++ tag_files (B.state source.old).all (B.state source.old).table facts.now) }
-    ensures part { OnErr result (IsBeginning (S.given shelf.new) (S.given shelf.old
-        ++ tag_files (B.state source.old).all (B.state source.old).table facts.now)) }
+    requires told { WhereKnown (B.state source.old)
+        (given.now.digests.items ≡ map item_digests (B.state source.old).all) }
+    requires bytes { WhereKnown (B.state source.old)
+        (given.now.bytes ≡ bytes_in (payload (B.state source.old).all)) }
+    requires files { WhereKnown (B.state source.old)
+        (files ≡ files_in (payload (B.state source.old).all)) }
+    ensures whole { OnOk result (WhereKnown (B.state source.old)
+        (S.given shelf.new ≡ S.given shelf.old ++ tag_files (B.state source.old).all (B.state source.old).table facts.now)) }
+    ensures part { OnErr result (WhereKnown (B.state source.old)
+        (IsBeginning (S.given shelf.new) (S.given shelf.old ++ tag_files (B.state source.old).all (B.state source.old).table facts.now))) }
 {
     let first = give_first(alloc, shelf, source, facts, given)?;
     let second = give_second(alloc, shelf, facts, given.bytes, files)?;

@@ -1,5 +1,5 @@
 //! The bag of a volume without items: texts by hand, and digests that `sha256sum` gave.
-ghost use Rattle.std.specs.Prelude.{[]};
+ghost use Rattle.std.specs.Prelude.{[], true};
 ghost use Rattle.hfs_bag.specs.declared.item.BagKind.TheVariants as kind;
 
 use crate::{BagFacts, BagHead, BagSource, BagSums, SourceFault, Stream, give_bag};
@@ -31,6 +31,7 @@ struct NoItems<'a> {
 
 impl BagSource for NoItems<'_> {
     ghost state = { λ source. record {
+      known = true;
       all = [];
       left = [];
       item = record { above = []; name = []; kind = kind.File; finder = []; data_fork = []; resource_fork = [] };

@@ -69,7 +69,7 @@ module _ (f : ℕ → List ℕ) where
         (runs-whole runs (λ i d lt. within (suc i) d (omega (arith, lt))))
 
   -- what is read of the runs of a fork's first blocks, cut at its length
-  fork-of-runs : (total : ℕ) → ((n : ℕ) → n < total → length (f n) ≡ 512) → (runs : List Run) → AreRunsWithin runs total → (mdb : Mdb) (extents : List Extent) (len : ℕ)
+  pub fork-of-runs : (total : ℕ) → ((n : ℕ) → n < total → length (f n) ≡ 512) → (runs : List Run) → AreRunsWithin runs total → (mdb : Mdb) (extents : List Extent) (len : ℕ)
       → flat_map run_of runs ≡ tree_blocks mdb extents len → take len (flat_map f (flat_map run_of runs)) ≡ fork_bytes f mdb extents len
   unfolding tree_blocks fork_bytes nodes_in
   fork-of-runs total whole runs within mdb extents len are =

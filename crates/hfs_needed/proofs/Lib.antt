@@ -11,6 +11,7 @@ pub mod Reported
 pub mod Listed
 pub mod Refused
 pub mod ForkBytes
+pub mod ForkPlaces
 pub mod Named
 pub mod OpenedAt
 pub mod ToldFiles

@@ -11,3 +11,4 @@ pub mod TreeReads
 pub mod OpenedValues
 pub mod WholeFiles
 pub mod Paths
+pub mod ForkRuns

@@ -2,6 +2,7 @@
 #![tactic(auto)]
 
 mod finding;
+mod fork_runs;
 mod forks;
 mod gathering;
 mod laws;
@@ -15,6 +16,7 @@ mod tree_header;
 mod tree_nodes;
 mod whole_files;
 
+pub use crate::fork_runs::{FileRuns, ForkRuns};
 pub use crate::forks::needed_fork;
 pub use crate::gathering::gather_needed;
 pub use crate::laws::{

@@ -1,6 +1,10 @@
 //! An image that is opened and checked once, and asked as often as one likes.
-ghost use Rattle.std.specs.Prelude.{◌≡◌, ◌/◌, Err, IfOk, IfErr, OnErr};
+ghost use Rattle.std.specs.Prelude.{◌≡◌, ◌/◌, Err, IfOk, IfErr, OnErr, ◌*◌, OnOk};
 ghost use Rattle.hfs_texts.specs.Writing.{AppendsFront};
+ghost use Rattle.hfs_blocks.specs.Blocks.{AreRunsWithin};
+ghost use Rattle.hfs_model.specs.declared.call.Fork.TheVariants.{DataFork, ResFork};
+ghost use Rattle.hfs_sparse.specs.Sparse.{HoldsFrom};
+ghost use Rattle.hfs_needed.specs.ForkRuns.{AreRunsNamed, RefusesForks};
 ghost use Rattle.hfs_needed.specs.Forks.{FindsForkNamed, OfForkNamed, RefusesForkNamed, RefusesWriting, WritesForkNamed};
 ghost use Rattle.hfs_needed.specs.Listing.{IsBriefList, HoldsCatalog, HoldsTable};
 ghost use Rattle.hfs_needed.specs.Known.{IsReportOf};
@@ -9,6 +13,7 @@ ghost use Rattle.hfs_needed.specs.OpenedValues.{opened_value};
 ghost use Rattle.hfs_needed.specs.Paths.{IsToldAt};
 ghost use Rattle.hfs_needed.specs.WholeFiles.{HoldsDataNamed, HoldsResourceNamed, RefusesFileNamed, TellsOfFile};
 
+use crate::fork_runs::{FileRuns, opened_runs};
 use crate::forks::{opened_fork, write_opened};
 use crate::laws::gathered_is_enough;
 use crate::listing::{catalog_records, list_in_brief};
@@ -24,6 +29,7 @@ use hfs_model::{Fork, Reply};
 use hfs_queries::catalog_answers;
 use hfs_sparse::{BlockSource, CopyFault, SparseFault};
 use std::alloc::{AllocError, Global};
+use std::io;
 use std::io::Write;
 use std::marker::Model;
 
@@ -212,5 +218,36 @@ impl<S: BlockSource + Drop> OpenedImage<S> {
             fork,
             writer,
         )
+    }
+
+    /// Where the bytes of both forks of the folder's file of that name lie; or what a call that reads a fork answers where there is no such
+    /// file: -37, -120 or -43. Nothing is read. Error: memory was refused.
+    pub fn file_runs(
+        &self,
+        alloc: Global,
+        dir: u32,
+        name: &[u8],
+    ) -> Result<Result<FileRuns, Reply>, AllocError>
+        ensures data_within { IfOk result (λ told. IfOk told
+            (λ found. AreRunsWithin found.data.runs.items 4294967296)) }
+        ensures within { IfOk result (λ told. IfOk told
+            (λ found. AreRunsWithin found.resource.runs.items 4294967296)) }
+        ensures data_fork { IfOk result (λ told. IfOk told
+            (λ found. AreRunsNamed self.now.known self.now.len dir name.now DataFork found.data)) }
+        ensures resource_fork { IfOk result (λ told. IfOk told
+            (λ found. AreRunsNamed self.now.known self.now.len dir name.now ResFork found.resource)) }
+        ensures unread { IfOk result (λ told. IfErr told
+            (RefusesForks self.now.known self.now.len dir name.now)) }
+    {
+        opened_runs(alloc, &self.volume, dir, name)
+    }
+
+    /// Reads the blocks from number `first` on, as many as there is room for in `into`, by one read. Error: the read failed, or the image ends
+    /// before the room is full.
+    pub fn read_blocks(&mut self, first: u32, into: &mut [u8]) -> io::Result<()>
+        ensures read { OnOk result (HoldsFrom self.old.known (512 * first) into.new) }
+        ensures kept { self.new ≡ self.old }
+    {
+        self.source.read_blocks(first, into)
     }
 }

@@ -1,12 +1,13 @@
-use Rattle.std.proofs.Common.{rules, ◌++◌, List, ℕ, ap, ◌∙◌, subst}
+use Rattle.std.proofs.Common.{◌++◌, List, ℕ, ap, ◌∙◌, subst}
 use Rattle.sha2.specs.Hashers.{Holds256}
 use Rattle.hfs_shelves.specs.Entries.{IsBeginning, with_piece}
 use Rattle.hfs_shelves.proofs.Beginnings.{begins_piece}
+use Rattle.hfs_bag.proofs.Growing.{on_err, where_err}
 use Rattle.hfs_bag.proofs.Moves.{moved_piece, part_piece}
 use Rattle.hfs_bag.proofs.filling.move_piece.Goals as goal
 
 pub returns-in_err-read-clause-part : goal.returns-in_err-read-clause-part
-returns-in_err-read-clause-part g c = let part = begins_piece (g.S.Shelf.given c.args.shelf.now) (g.B.BagSource.state c.args.source.now).bytes in search rules
+returns-in_err-read-clause-part g c = where_err _ (g.B.BagSource.state c.args.source.now) (λ known. begins_piece (g.S.Shelf.given c.args.shelf.now) (g.B.BagSource.state c.args.source.now).bytes)
 
 pub returns-in_err-append-clause-part : goal.returns-in_err-append-clause-part
 returns-in_err-append-clause-part g c =
@@ -14,9 +15,8 @@ returns-in_err-append-clause-part g c =
     let now = g.S.Shelf.given c.append.new.self in
     let first : IsBeginning now (with_piece before c.read.new.piece.items) =
     subst (λ (p : List ℕ). IsBeginning now (with_piece before p)) c.deref.ensures.value c.in_err-append.ensures.part in
-    let part = part_piece before now (g.B.BagSource.state c.args.source.now) (g.B.BagSource.state c.read.new.self) (Holds256 c.args.digest.now) (Holds256 c.args.digest.now)
-    c.read.new.piece.items c.in_ok-read.ensures first in
-    search rules
+    on_err _ (part_piece before now (g.B.BagSource.state c.args.source.now) (g.B.BagSource.state c.read.new.self) (Holds256 c.args.digest.now) (Holds256 c.args.digest.now)
+    c.read.new.piece.items c.in_ok-read.ensures first)
 
 pub returns-clause-moved : goal.returns-clause-moved
 returns-clause-moved g c =

@@ -1,21 +1,20 @@
-use Rattle.std.proofs.Common.{rules, List, ℕ, [], ◌∷◌, ◌∙◌, subst}
+use Rattle.std.proofs.Common.{List, ℕ, [], ◌∷◌, ◌∙◌, subst}
 use Rattle.hfs_shelves.specs.Entries.{IsBeginning}
 use Rattle.hfs_shelves.proofs.Beginnings.{begins_appended}
 use Rattle.hfs_bag.specs.declared.item.BagKind.TheVariants as kind
 use Rattle.hfs_bag.specs.Items.{data_entry, double_entry, entries_of_kind}
 use Rattle.hfs_bag.specs.Filling.{with_whole_file}
-use Rattle.hfs_bag.proofs.Growing.{part_first}
+use Rattle.hfs_bag.proofs.Growing.{part_first, where_err}
 use Rattle.hfs_bag.proofs.items.give_file.Goals as goal
 
 pub returns-in_err-path-clause-part : goal.returns-in_err-path-clause-part
 returns-in_err-path-clause-part g c =
-    let part = begins_appended (g.S.Shelf.given c.args.shelf.now) (entries_of_kind kind.File (g.B.BagSource.state c.args.source.now).item) in search rules
+    where_err _ (g.B.BagSource.state c.args.source.now) (λ known. begins_appended (g.S.Shelf.given c.args.shelf.now) (entries_of_kind kind.File (g.B.BagSource.state c.args.source.now).item))
 
 pub returns-in_err-data-clause-part : goal.returns-in_err-data-clause-part
 returns-in_err-data-clause-part g c =
     let before = g.S.Shelf.given c.args.shelf.now in
     let now = g.S.Shelf.given c.put_file.new.shelf in
     let item = (g.B.BagSource.state c.args.source.now).item in
-    let part = part_first before now (data_entry item ∷ []) (double_entry item ∷ [])
-    (subst (λ (path : List ℕ). IsBeginning now (with_whole_file before path item.data_fork)) (c.as_str.ensures.value ∙ c.in_ok-path.ensures) c.in_err-data.ensures.part) in
-    search rules
+    where_err _ (g.B.BagSource.state c.args.source.now) (λ known. part_first before now (data_entry item ∷ []) (double_entry item ∷ [])
+    (subst (λ (path : List ℕ). IsBeginning now (with_whole_file before path item.data_fork)) (c.as_str.ensures.value ∙ c.in_ok-path.ensures) (c.in_err-data.ensures.part known)))

@@ -10,10 +10,10 @@ pub loop-at-init : goal.loop-at-init
 loop-at-init g c = (listed_none _ _ _ _ _ _ refl refl (λ m held. held), c.requires)
 
 pub list_next-requires : goal.list_next-requires
-list_next-requires g c =
+list_next-requires g c known =
     let l = c.loop-at in
     let within : l.at < length c.args.told.now = omega arith in
-    is_next _ (drop (l.at + 1) c.args.told.now) (drop l.at c.args.told.now) _ l.invariant.1 (drop_more c.args.told.now l.at _ within)
+    is_next _ (drop (l.at + 1) c.args.told.now) (drop l.at c.args.told.now) _ (l.invariant.1 (sym l.invariant.0.known ∙ known)) (drop_more c.args.told.now l.at _ within)
 
 pub returns-in_err-list_next-clause-part : goal.returns-in_err-list_next-clause-part
 returns-in_err-list_next-clause-part g c =
@@ -27,19 +27,19 @@ loop-at-preserved g c =
     let within : l.at < length c.args.told.now = omega arith in
     let listed = c.in_ok-list_next.ensures.listed in (
       listed_more _ _ _ _ _ _ _ _ _ l.invariant.0 listed,
-      told_behind _ (drop (l.at + 1) c.args.told.now) (drop l.at c.args.told.now) _ _ listed.item l.invariant.1 (drop_more c.args.told.now l.at (digests.Folder []) within) listed.left,
+      λ known. told_behind _ (drop (l.at + 1) c.args.told.now) (drop l.at c.args.told.now) _ _ listed.item (l.invariant.1 known) (drop_more c.args.told.now l.at (digests.Folder []) within) listed.left,
     )
 
 pub returns-clause-whole : goal.returns-clause-whole
-returns-clause-whole g c =
+returns-clause-whole g c known =
     let l = c.loop-at in
     let end : length c.args.told.now ≤ l.at = omega arith in
-    let none : (g.B.BagSource.state l.source).left ≡ [] = told_none _ (sym (drop_all l.at c.args.told.now end) ∙ l.invariant.1) in
-    listed_whole _ _ _ _ (Holds256 c.args.digest.now) (Holds256 l.digest) l.invariant.0 none
+    let none : (g.B.BagSource.state l.source).left ≡ [] = told_none _ (sym (drop_all l.at c.args.told.now end) ∙ l.invariant.1 known) in
+    listed_whole _ _ _ _ (Holds256 c.args.digest.now) (Holds256 l.digest) l.invariant.0 none known
 
 pub returns-clause-digest : goal.returns-clause-digest
-returns-clause-digest g c =
+returns-clause-digest g c known =
     let l = c.loop-at in
     let end : length c.args.told.now ≤ l.at = omega arith in
-    let none : (g.B.BagSource.state l.source).left ≡ [] = told_none _ (sym (drop_all l.at c.args.told.now end) ∙ l.invariant.1) in
-    listed_digest _ _ _ _ (Holds256 c.args.digest.now) (Holds256 l.digest) l.invariant.0 none
+    let none : (g.B.BagSource.state l.source).left ≡ [] = told_none _ (sym (drop_all l.at c.args.told.now end) ∙ l.invariant.1 known) in
+    listed_digest _ _ _ _ (Holds256 c.args.digest.now) (Holds256 l.digest) l.invariant.0 none known

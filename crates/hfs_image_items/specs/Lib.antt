@@ -1,0 +1,5 @@
+pub mod Pieces
+pub mod Items
+pub mod Reading
+pub mod Sources
+pub mod Laws

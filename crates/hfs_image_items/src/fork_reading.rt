@@ -1,0 +1,102 @@
+//! Forks that are read piece by piece.
+ghost use Rattle.std.specs.Prelude.{◌≡◌, ◌*◌, [], length, IfOk, OnOk};
+ghost use Rattle.hfs_sparse.specs.Sparse.{HoldsFrom};
+ghost use Rattle.std.specs.List.{flat_map};
+ghost use Rattle.hfs_blocks.specs.Blocks.{AreRunsWithin, run_of};
+ghost use Rattle.hfs_needed.specs.OpenedValues.{OpenedValue};
+ghost use Rattle.hfs_image_items.specs.Items.{image_in, is_known};
+ghost use Rattle.hfs_image_items.specs.Reading.{ReadsOn, first_bytes, fork_rest};
+
+use crate::piece::Piece;
+use crate::pieces::pieces_of;
+use hfs_bag::SourceFault;
+use hfs_needed::{ForkRuns, OpenedImage};
+use hfs_sparse::BlockSource;
+use std::alloc::Global;
+
+/// Where reading a fork stands.
+#[derive(Drop)]
+pub(crate) struct ForkReading {
+    /// All pieces of its blocks.
+    pub(crate) pieces: Vec<Piece>,
+    /// The place of the piece that is read next.
+    pub(crate) next: usize,
+    /// How many bytes are left.
+    pub(crate) left: u32,
+}
+
+/// A fork without bytes.
+#[tactic(auto, using(crate::proofs::ReadLemmas::none_left))]
+pub(crate) fn empty_fork(alloc: Global) -> ForkReading
+    ensures { (opened : OpenedValue) → fork_rest opened result ≡ [] }
+{
+    ForkReading {
+        pieces: Vec::new(alloc),
+        next: 0,
+        left: 0,
+    }
+}
+
+/// Begins with a fork, whose bytes lie there.
+pub(crate) fn begin_fork(alloc: Global, found: &ForkRuns) -> Result<ForkReading, SourceFault>
+    requires { AreRunsWithin found.now.runs.items 4294967296 }
+    ensures { (opened : OpenedValue) → IfOk result (λ fork. fork_rest opened fork
+        ≡ first_bytes (is_known opened) (image_in opened) found.now.length
+        (flat_map run_of found.now.runs.items)) }
+{
+    let Ok(pieces) = pieces_of(alloc, &found.runs) else {
+        return Err(SourceFault::Memory);
+    };
+    Ok(ForkReading {
+        pieces,
+        next: 0,
+        left: found.length,
+    })
+}
+
+/// Reads so many bytes of the blocks from number `first` on in the place of a piece.
+fn fill_piece<S: BlockSource + Drop>(
+    image: &mut OpenedImage<S>,
+    first: u32,
+    len: usize,
+    piece: &mut Vec<u8>,
+) -> Result<(), SourceFault>
+    ensures read { OnOk result (HoldsFrom image.old.known (512 * first) piece.new.items) }
+    ensures len { OnOk result (length piece.new.items ≡ len) }
+    ensures image { image.new ≡ image.old }
+{
+    let Ok(()) = piece.resize(len, 0) else {
+        return Err(SourceFault::Memory);
+    };
+    match image.read_blocks(first, piece.as_mut_slice()) {
+        Ok(()) => Ok(()),
+        Err(_) => Err(SourceFault::ReadFailed),
+    }
+}
+
+/// Reads the next bytes of a fork, at most 65,536, in the place of a piece, and none where none are left.
+#[tactic(auto, using(crate::proofs::ReadLemmas::reads_none))]
+pub(crate) fn read_fork<S: BlockSource + Drop>(
+    image: &mut OpenedImage<S>,
+    fork: &mut ForkReading,
+    piece: &mut Vec<u8>,
+) -> Result<(), SourceFault>
+    ensures read { OnOk result (ReadsOn (is_known image.old) piece.new.items
+        (fork_rest image.old fork.old) (fork_rest image.old fork.new)) }
+    ensures image { image.new ≡ image.old }
+{
+    if fork.left == 0 {
+        piece.clear();
+        return Ok(());
+    }
+    let Some(next) = fork.pieces.get(fork.next) else {
+        return Err(SourceFault::ReadFailed);
+    };
+    let len = next.count as usize * 512;
+    fill_piece(image, next.first, len, piece)?;
+    let most = len.min(fork.left as usize);
+    piece.truncate(most);
+    fork.next += 1;
+    fork.left -= most as u32;
+    Ok(())
+}

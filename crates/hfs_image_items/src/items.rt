@@ -1,0 +1,306 @@
+//! The items of an opened image, for a bag.
+ghost use Rattle.std.specs.Prelude.{◌≡◌, ℕ, List, true, drop, IfOk, IfSome, string_bytes};
+ghost use Rattle.hfs_bag.specs.Items.{IsHead};
+ghost use Rattle.hfs_model.specs.declared.call.Fork.TheVariants.{DataFork, ResFork};
+ghost use Rattle.hfs_inventory.specs.Told.{told_rows};
+ghost use Rattle.hfs_needed.specs.OpenedValues.{OpenedValue};
+ghost use Rattle.hfs_names.specs.HostNames.{host_name};
+ghost use Rattle.hfs_image_items.specs.Items.{bag_kind, entries_in, fork_told, folders_text, image_in, is_known, item_at, names_between, table_text};
+ghost use Rattle.hfs_image_items.specs.Reading.{BeginsWith, LieThere, fork_rest, reading_rest, table_rest};
+ghost use Rattle.hfs_image_items.specs.Sources.{source_of, stream_told};
+
+use crate::fork_reading::{ForkReading, begin_fork, empty_fork};
+use crate::paths::folders_text;
+use crate::reading::{Reading, read_next};
+use crate::table_reading::TableReading;
+use crate::watch::Watch;
+use hfs_bag::{BagHead, BagKind, BagSource, SourceFault, Stream};
+use hfs_fields::Name;
+use hfs_inventory::Inventory;
+use hfs_model::{Info, ItemKind};
+use hfs_names::host_name;
+use hfs_needed::{FileRuns, OpenedImage};
+use hfs_sparse::BlockSource;
+use std::alloc::{AllocError, Global};
+
+/// The beginning of 1970 on a Macintosh, in seconds since midnight of 1 January 1904.
+const YEAR_1970: u32 = 2_082_844_800;
+
+/// An item that came.
+#[derive(Drop)]
+struct CameItem {
+    /// The path of the folder that holds it, with a slash behind it.
+    above: String,
+    /// Its host name.
+    name: String,
+    info: Info,
+}
+
+/// The items of an opened image below its root, one after the other, and the bytes of their forks in pieces, each block of which is read once.
+#[derive(Drop)]
+pub struct ImageItems<'a, S: BlockSource, W: Watch> {
+    alloc: Global,
+    image: OpenedImage<S>,
+    /// What is told of the root.
+    pub root: Info,
+    /// The rows of the items that are to come.
+    rows: Inventory,
+    came: CameItem,
+    reading: Reading,
+    watch: &'a W,
+    /// How many items came, and how many there are.
+    count: u64,
+    all: u64,
+}
+
+/// The rows behind the root's, and what is told of the root.
+#[tactic(auto, using(crate::proofs::SourceLemmas::rows_behind, crate::proofs::SourceLemmas::begins_with))]
+fn rows_below<S: BlockSource + Drop>(
+    alloc: Global,
+    image: &OpenedImage<S>,
+) -> Result<(Inventory, Option<Info>), SourceFault>
+    ensures root { IfOk result (λ below. is_known image.now ≡ true
+        → IfSome below.1 (λ root. BeginsWith root (told_rows (entries_in (image_in image.now))))) }
+    ensures left { IfOk result (λ below. is_known image.now ≡ true
+        → below.0.left ≡ drop 1 (told_rows (entries_in (image_in image.now)))) }
+{
+    let Ok(mut rows) = image.inventory(alloc) else {
+        return Err(SourceFault::Memory);
+    };
+    let Ok(root) = rows.next() else {
+        return Err(SourceFault::Memory);
+    };
+    Ok((rows, root))
+}
+
+/// Where both forks of a file lie. None of a folder.
+#[tactic(auto, using(crate::proofs::SourceLemmas::fork_lies, crate::proofs::SourceLemmas::fork_refused, crate::proofs::SourceLemmas::folder_empty))]
+fn runs_of<S: BlockSource + Drop>(
+    alloc: Global,
+    image: &OpenedImage<S>,
+    info: &Info,
+) -> Result<Option<FileRuns>, SourceFault>
+    ensures { IfOk result (λ runs. LieThere image.now info.now runs) }
+{
+    match info.kind {
+        ItemKind::Folder => Ok(None),
+        ItemKind::File => match image.file_runs(alloc, info.parent, info.name.bytes()) {
+            Ok(Ok(runs)) => Ok(Some(runs)),
+            Ok(Err(_)) => Ok(None),
+            Err(_) => Err(SourceFault::Memory),
+        },
+    }
+}
+
+/// When an item was modified, in seconds from the beginning of 1970; None where that was before.
+fn modified_since_1970(info: &Info) -> Option<u32> {
+    info.modified.checked_sub(YEAR_1970)
+}
+
+fn bag_kind(kind: ItemKind) -> BagKind
+    ensures { result ≡ bag_kind kind }
+{
+    match kind {
+        ItemKind::Folder => BagKind::Folder,
+        ItemKind::File => BagKind::File,
+    }
+}
+
+/// What is told of an item whose forks lie there.
+fn head_of(info: &Info, runs: &Option<FileRuns>) -> BagHead
+    ensures { (opened : OpenedValue) → LieThere opened info.now runs.now
+        → is_known opened ≡ true → (above name : List ℕ)
+        → IsHead result (item_at (entries_in (image_in opened)) above name info.now) }
+{
+    let (data_length, resource_length) = match runs {
+        Some(runs) => (runs.data.length, runs.resource.length),
+        None => (0, 0),
+    };
+    BagHead {
+        kind: bag_kind(info.kind),
+        finder: info.finder,
+        data_length,
+        resource_length,
+        modified: modified_since_1970(info),
+    }
+}
+
+/// An item with its host path.
+fn came_item(alloc: Global, path: &[Name], info: Info) -> Result<CameItem, SourceFault>
+    ensures above { IfOk result (λ came. string_bytes came.above
+        ≡ folders_text (names_between path.now)) }
+    ensures name { IfOk result (λ came. string_bytes came.name ≡ host_name info.name) }
+    ensures info { IfOk result (λ came. came.info ≡ info) }
+{
+    let Ok(above) = folders_text(alloc, path) else {
+        return Err(SourceFault::Memory);
+    };
+    let Ok(name) = host_name(alloc, info.name.bytes()) else {
+        return Err(SourceFault::Memory);
+    };
+    Ok(CameItem { above, name, info })
+}
+
+/// The data fork of an item, from its first byte on.
+#[tactic(auto, using(crate::proofs::SourceLemmas::fork_begun))]
+fn open_data<S: BlockSource + Drop>(
+    alloc: Global,
+    image: &OpenedImage<S>,
+    info: &Info,
+) -> Result<ForkReading, SourceFault>
+    ensures { IfOk result (λ fork. is_known image.now ≡ true → fork_rest image.now fork
+        ≡ fork_told (entries_in (image_in image.now)) DataFork info.now) }
+{
+    match runs_of(alloc, image, info)? {
+        Some(runs) => begin_fork(alloc, &runs.data),
+        None => Ok(empty_fork(alloc)),
+    }
+}
+
+/// The resource fork of an item, from its first byte on.
+#[tactic(auto, using(crate::proofs::SourceLemmas::fork_begun))]
+fn open_resource<S: BlockSource + Drop>(
+    alloc: Global,
+    image: &OpenedImage<S>,
+    info: &Info,
+) -> Result<ForkReading, SourceFault>
+    ensures { IfOk result (λ fork. is_known image.now ≡ true → fork_rest image.now fork
+        ≡ fork_told (entries_in (image_in image.now)) ResFork info.now) }
+{
+    match runs_of(alloc, image, info)? {
+        Some(runs) => begin_fork(alloc, &runs.resource),
+        None => Ok(empty_fork(alloc)),
+    }
+}
+
+/// The table of all items, from its head on.
+#[tactic(auto, using(crate::proofs::SourceLemmas::table_begun))]
+fn open_table<S: BlockSource + Drop>(
+    alloc: Global,
+    image: &OpenedImage<S>,
+) -> Result<TableReading, SourceFault>
+    ensures { IfOk result (λ table. is_known image.now ≡ true
+        → table_rest table.is_begun table.rows.left ≡ table_text (told_rows (entries_in (image_in image.now)))) }
+{
+    match image.inventory(alloc) {
+        Ok(rows) => Ok(TableReading {
+            rows,
+            is_begun: false,
+        }),
+        Err(_) => Err(SourceFault::Memory),
+    }
+}
+
+/// A stream of an item, from its first byte on.
+fn open_stream<S: BlockSource + Drop>(
+    alloc: Global,
+    image: &OpenedImage<S>,
+    info: &Info,
+    stream: Stream,
+) -> Result<Reading, SourceFault>
+    ensures { IfOk result (λ reading. is_known image.now ≡ true → reading_rest image.now reading
+        ≡ stream_told image.now info.now stream) }
+{
+    match stream {
+        Stream::DataFork => Ok(Reading::Fork(open_data(alloc, image, info)?)),
+        Stream::ResourceFork => Ok(Reading::Fork(open_resource(alloc, image, info)?)),
+        Stream::Table => Ok(Reading::Table(open_table(alloc, image)?)),
+    }
+}
+
+/// The items of an image, of which these rows are to come, behind that of the root.
+fn begin<'a, S: BlockSource + Drop, W: Watch>(
+    alloc: Global,
+    image: OpenedImage<S>,
+    rows: Inventory,
+    root: &Info,
+    all: u64,
+    watch: &'a W,
+) -> ImageItems<'a, S, W>
+    ensures image { result.image ≡ image }
+    ensures root { result.root ≡ root.now }
+{
+    let came = CameItem {
+        above: String::new(alloc),
+        name: String::new(alloc),
+        info: *root,
+    };
+    let reading = Reading::Fork(empty_fork(alloc));
+    ImageItems {
+        alloc,
+        image,
+        root: *root,
+        rows,
+        came,
+        reading,
+        watch,
+        count: 0,
+        all,
+    }
+}
+
+impl<'a, S: BlockSource + Drop, W: Watch> ImageItems<'a, S, W> {
+    /// The items of an image, of which there are so many. Errors: memory was refused; `ReadFailed` where there is no root, as in no sound image.
+    pub fn new(
+        alloc: Global,
+        image: OpenedImage<S>,
+        all: u64,
+        watch: &'a W,
+    ) -> Result<ImageItems<'a, S, W>, SourceFault>
+        ensures image { IfOk result (λ made. made.image ≡ image) }
+        ensures root { IfOk result (λ made. is_known image ≡ true
+            → BeginsWith made.root (told_rows (entries_in (image_in image)))) }
+    {
+        let (rows, root) = rows_below(alloc, &image)?;
+        let Some(info) = root else {
+            return Err(SourceFault::ReadFailed);
+        };
+        Ok(begin(alloc, image, rows, &info, all, watch))
+    }
+}
+
+impl<S: BlockSource + Drop, W: Watch> BagSource for ImageItems<'_, S, W> {
+    ghost state = { λ items. source_of items.image items.rows.left items.came items.reading };
+
+    #[tactic(auto, using(crate::proofs::StateLemmas::has_restarted))]
+    fn restart(&mut self) -> Result<(), SourceFault> {
+        let (rows, _root) = rows_below(self.alloc, &self.image)?;
+        self.rows = rows;
+        Ok(())
+    }
+
+    #[tactic(auto, using(crate::proofs::StateLemmas::has_item, crate::proofs::StateLemmas::has_no_item))]
+    fn next_item(&mut self) -> Result<Option<BagHead>, SourceFault> {
+        let Ok(next) = self.rows.next() else {
+            return Err(SourceFault::Memory);
+        };
+        let Some(info) = next else {
+            return Ok(None);
+        };
+        self.came = came_item(self.alloc, self.rows.path(), info)?;
+        let runs = runs_of(self.alloc, &self.image, &info)?;
+        self.count = self.count.saturating_add(1);
+        self.watch.item_came(self.count, self.all);
+        Ok(Some(head_of(&info, &runs)))
+    }
+
+    fn push_above(&self, text: &mut String) -> Result<(), AllocError> {
+        text.push_str(self.came.above.as_str())
+    }
+
+    fn push_name(&self, text: &mut String) -> Result<(), AllocError> {
+        text.push_str(self.came.name.as_str())
+    }
+
+    #[tactic(auto, using(crate::proofs::StateLemmas::has_opened))]
+    fn open(&mut self, stream: Stream) -> Result<(), SourceFault> {
+        self.reading = open_stream(self.alloc, &self.image, &self.came.info, stream)?;
+        Ok(())
+    }
+
+    #[tactic(auto, using(crate::proofs::StateLemmas::has_read))]
+    fn read(&mut self, piece: &mut Vec<u8>) -> Result<(), SourceFault> {
+        read_next(self.alloc, &mut self.image, &mut self.reading, piece)?;
+        Ok(())
+    }
+}

@@ -1,0 +1,16 @@
+//! The items of an opened image, as a bag is filled from them.
+#![tactic(auto)]
+
+mod fork_reading;
+mod items;
+mod laws;
+mod paths;
+mod piece;
+mod pieces;
+mod reading;
+mod table_reading;
+mod watch;
+
+pub use crate::items::ImageItems;
+pub use crate::laws::items_are_placed;
+pub use crate::watch::Watch;

@@ -1,0 +1,74 @@
+//! The table of all items, read in pieces.
+ghost use Rattle.std.specs.Prelude.{◌≡◌, true, [], IfOk, OnOk};
+ghost use Rattle.hfs_image_items.specs.Reading.{AddsRow, ReadsOn, table_rest};
+
+use hfs_bag::SourceFault;
+use hfs_inventory::Inventory;
+use hfs_table::{Format, push_head, push_row};
+use std::alloc::Global;
+
+/// From how many bytes of text on a piece is whole.
+const PIECE: usize = 65_536;
+
+/// Where reading the table stands.
+#[derive(Drop)]
+pub(crate) struct TableReading {
+    /// The rows that are to come.
+    pub(crate) rows: Inventory,
+    /// Whether the head was read.
+    pub(crate) is_begun: bool,
+}
+
+/// Appends the line of the next row, and answers whether there was one.
+fn push_next(alloc: Global, piece: &mut Vec<u8>, rows: &mut Inventory) -> Result<bool, SourceFault>
+    ensures { IfOk result (λ more. AddsRow more piece.old.items piece.new.items rows.old.left
+        rows.new.left) }
+{
+    let Ok(next) = rows.next() else {
+        return Err(SourceFault::Memory);
+    };
+    let Some(info) = next else {
+        return Ok(false);
+    };
+    match push_row(alloc, piece, Format::Csv, rows.path(), &info) {
+        Ok(()) => Ok(true),
+        Err(_) => Err(SourceFault::Memory),
+    }
+}
+
+/// Puts the lines of the next rows in the place of a piece, until it is whole or there are none.
+#[tactic(auto, using(crate::proofs::TableLemmas::row_more, crate::proofs::TableLemmas::rows_fewer, crate::proofs::TableLemmas::rows_done, crate::proofs::TableLemmas::rows_read))]
+fn read_rows(alloc: Global, rows: &mut Inventory, piece: &mut Vec<u8>) -> Result<(), SourceFault>
+    requires { piece.old.items ≡ [] }
+    ensures { OnOk result (ReadsOn true piece.new.items (table_rest true rows.old.left)
+        (table_rest true rows.new.left)) }
+{
+    while push_next(alloc, piece, rows)? {
+        if piece.len() >= PIECE {
+            return Ok(());
+        }
+    }
+    Ok(())
+}
+
+/// Reads the next text of the table in the place of a piece, and none where none is left.
+#[tactic(auto, using(crate::proofs::TableLemmas::head_read))]
+pub(crate) fn read_table(
+    alloc: Global,
+    table: &mut TableReading,
+    piece: &mut Vec<u8>,
+) -> Result<(), SourceFault>
+    ensures { OnOk result (ReadsOn true piece.new.items
+        (table_rest table.old.is_begun table.old.rows.left)
+        (table_rest table.new.is_begun table.new.rows.left)) }
+{
+    piece.clear();
+    if table.is_begun {
+        return read_rows(alloc, &mut table.rows, piece);
+    }
+    table.is_begun = true;
+    match push_head(piece, Format::Csv) {
+        Ok(()) => Ok(()),
+        Err(_) => Err(SourceFault::Memory),
+    }
+}
