@@ -1,0 +1,24 @@
+-- What a database was told to do.
+use Rattle.std.specs.Prelude.{◌≡◌, ℕ, ℤ, List, [], ◌∷◌, Ok}
+use Rattle.sqlite.specs.declared.types.Value.TheVariants.{Int}
+use Rattle.sqlite.specs.Held.{Held, state}
+use Rattle.sqlite.specs.declared.types.Value.{Value}
+use Rattle.sqlite.specs.State.{State, Executes, HasCleanDisk}
+use Rattle.sqlite.specs.Store.{Ghosts}
+use Rattle.hfs_database.specs.Texts.{drop_volumes_text, put_image_text}
+
+-- this text was run with these parameters, where the disk is clean still
+abbrev pub HasRun : State → State → List ℕ → List Value → Type 0
+HasRun old new text params = HasCleanDisk new → (count : ℕ) × Executes text params old new (Ok count)
+
+-- this text was run with these parameters, and put a row with this number
+pub record HasPut (old new : State) (text : List ℕ) (params : List Value) (id : ℤ) : Type 0 where
+  pub run : HasRun old new text params
+  pub id_is : id ≡ new.last_rowid
+
+-- the image's row was put, or got these values, and then the volumes of the image with this number went
+pub record HasReplaced {S : Type 0} (g : Ghosts S) (old new : Held S) (values : List Value) (id : ℤ) : Type 0 where
+  pub put : Held S
+  pub found : Held S
+  pub puts : HasRun (state g old) (state g put) put_image_text values
+  pub drops : HasRun (state g found) (state g new) drop_volumes_text (Int id ∷ [])
