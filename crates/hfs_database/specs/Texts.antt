@@ -4,6 +4,9 @@ use Rattle.std.specs.Prelude.{ℕ, List, codes}
 unfoldable pub put_image_text : List ℕ
 put_image_text = codes "INSERT INTO image (path, bytes, sha256, program) VALUES (?1, ?2, ?3, ?4) ON CONFLICT (path) DO UPDATE SET bytes = excluded.bytes, sha256 = excluded.sha256, program = excluded.program"
 
+unfoldable pub find_image_text : List ℕ
+find_image_text = codes "SELECT id FROM image WHERE path = ?1"
+
 -- the items of these volumes go with them
 unfoldable pub drop_volumes_text : List ℕ
 drop_volumes_text = codes "DELETE FROM volume WHERE image = ?1"

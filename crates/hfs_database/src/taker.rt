@@ -2,17 +2,18 @@
 ghost use Rattle.std.specs.Prelude.{◌≡◌, [], ◌∷◌, map, IfOk, OnOk};
 ghost use Rattle.sqlite.specs.declared.types.Value.TheVariants.{Int};
 ghost use Rattle.sqlite.specs.Held.{state};
+ghost use Rattle.sqlite_value.specs.Order.{column};
 ghost use Rattle.sqlite.specs.Values.{bound};
-ghost use Rattle.hfs_database.specs.Doing.{HasPut, HasReplaced, HasRun};
+ghost use Rattle.hfs_database.specs.Doing.{HasFound, HasPut, HasReplaced, HasRun};
 ghost use Rattle.hfs_database.specs.Rows.{PutsRow};
-ghost use Rattle.hfs_database.specs.Texts.{drop_volumes_text, put_image_text, put_item_text, put_volume_text};
+ghost use Rattle.hfs_database.specs.Texts.{drop_volumes_text, find_image_text, put_image_text, put_item_text, put_volume_text};
 ghost use Rattle.hfs_database.specs.Values.{sql_value};
 
 use crate::fault::taking_fault;
 use crate::values::{parameters_under, push_parameters};
 use hfs_rows::{Given, GivenRow, RowTaker, RowValue, Table, TakerFault};
 use sqlite::types::ValueRef;
-use sqlite::{Alter, Connection, params};
+use sqlite::{Alter, Connection, Row, params};
 use std::alloc::Global;
 
 /// The numbers of the rows that came last.
@@ -49,17 +50,27 @@ fn run<S: Alter>(
     }
 }
 
-/// The row of the image of this path.
+/// The number that a row begins with.
+fn number_of(row: &Row) -> Result<i64, TakerFault>
+    ensures { IfOk result (λ number. column row.now 0 ≡ Int number) }
+{
+    match row.get(0) {
+        Ok(number) => Ok(number),
+        Err(error) => Err(taking_fault(&error)),
+    }
+}
+
+/// The number of the row of the image of this path.
+#[tactic(auto, unfolding(crate::specs::Texts::find_image_text))]
 fn find_image<S: Alter>(
     conn: &mut Connection<S>,
     parameters: &[ValueRef<'_>],
-) -> Result<i64, TakerFault> {
-    let row = match conn.query_row("SELECT id FROM image WHERE path = ?1", parameters) {
-        Ok(row) => row,
-        Err(error) => return Err(taking_fault(&error)),
-    };
-    match row.get(0) {
-        Ok(id) => Ok(id),
+) -> Result<i64, TakerFault>
+    ensures { IfOk result (HasFound (state S.Store conn.old) (state S.Store conn.new)
+        find_image_text (bound parameters.now)) }
+{
+    match conn.query_row("SELECT id FROM image WHERE path = ?1", parameters) {
+        Ok(row) => number_of(&row),
         Err(error) => Err(taking_fault(&error)),
     }
 }
