@@ -1,0 +1,5 @@
+mod Pieces
+mod Going
+mod VolumeGiving
+mod VolumesGoing
+mod ImageGiving

@@ -1,0 +1,65 @@
+-- Volumes that are given one after the other.
+use Rattle.std.proofs.Common.{◌≡◌, ◌∙◌, ℕ, ◌+◌, ◌<◌, ◌≤◌, Bool, List, ◌++◌, length, drop, get_or, append-nil, append_assoc, Option, Some, None, refl, ap, sym, subst}
+use Rattle.std.proofs.lemmas.List.{drop_more, drop_all}
+use Rattle.hfs_containers.specs.declared.ranges.FoundRange.{FoundRange}
+use Rattle.hfs_containers.specs.Ranges.{bytes_in}
+use Rattle.hfs_needed.specs.Known.{OfKnown}
+use Rattle.hfs_rows.specs.Taken.{TakenRow, IsBeginning}
+use Rattle.hfs_collection.specs.Volumes.{volume_rows, volume_rows_from}
+
+-- what was given, and the rows that are still to come, make the whole
+abbrev pub VolumesLeft : Option (List ℕ) → ℕ → Bool → ℕ → List FoundRange → List TakenRow → List TakenRow → Type 0
+VolumesLeft known len taken i ranges start given =
+    OfKnown known len (λ file. given ++ volume_rows_from taken (i + 1) (drop i ranges) file ≡ start ++ volume_rows_from taken 1 ranges file)
+
+-- the rows of one volume of a file
+abbrev pub rows_of_range : Bool → ℕ → FoundRange → List ℕ → List TakenRow
+rows_of_range taken number found file = volume_rows taken number found (bytes_in found.range file)
+
+pub volumes_first : (known : Option (List ℕ)) (len : ℕ) (taken : Bool) (ranges : List FoundRange) (given : List TakenRow) → VolumesLeft known len taken 0 ranges given given
+volumes_first None len taken ranges given = tt
+volumes_first (Some file) len taken ranges given = λ whole. refl
+
+step : (taken : Bool) (i : ℕ) (ranges : List FoundRange) (d : FoundRange) (file : List ℕ) → i < length ranges
+    → volume_rows_from taken (i + 1) (drop i ranges) file ≡ rows_of_range taken (i + 1) (get_or ranges i d) file ++ volume_rows_from taken (i + 1 + 1) (drop (i + 1) ranges) file
+step taken i ranges d file lt = ap (λ (rest : List FoundRange). volume_rows_from taken (i + 1) rest file) (drop_more ranges i d lt)
+
+pub volumes_next : (known now : Option (List ℕ)) → now ≡ known → (len : ℕ) (taken : Bool) (i : ℕ) (ranges : List FoundRange) (d : FoundRange) → i < length ranges
+    → (start given new : List TakenRow) → VolumesLeft known len taken i ranges start given
+    → OfKnown now len (λ file. new ≡ given ++ rows_of_range taken (i + 1) (get_or ranges i d) file) → VolumesLeft known len taken (i + 1) ranges start new
+volumes_next None now same len taken i ranges d lt start given new left own = tt
+volumes_next (Some file) now same len taken i ranges d lt start given new left own = λ whole.
+    let one = subst (λ (k : Option (List ℕ)). OfKnown k len (λ file. new ≡ given ++ rows_of_range taken (i + 1) (get_or ranges i d) file)) same own in
+    ap (λ (front : List TakenRow). front ++ volume_rows_from taken (i + 1 + 1) (drop (i + 1) ranges) file) (one whole)
+    ∙ append_assoc given (rows_of_range taken (i + 1) (get_or ranges i d) file) (volume_rows_from taken (i + 1 + 1) (drop (i + 1) ranges) file)
+    ∙ ap (λ (rows : List TakenRow). given ++ rows) (sym (step taken i ranges d file lt)) ∙ left whole
+
+pub volumes_last : (known : Option (List ℕ)) (len : ℕ) (taken : Bool) (i : ℕ) (ranges : List FoundRange) → length ranges ≤ i → (start given : List TakenRow)
+    → VolumesLeft known len taken i ranges start given → OfKnown known len (λ file. given ≡ start ++ volume_rows_from taken 1 ranges file)
+volumes_last None len taken i ranges end start given left = tt
+volumes_last (Some file) len taken i ranges end start given left = λ whole.
+    sym (append-nil given) ∙ ap (λ (rest : List FoundRange). given ++ volume_rows_from taken (i + 1) rest file) (sym (drop_all i ranges end)) ∙ left whole
+
+-- nothing more was given
+pub volumes_part : (known : Option (List ℕ)) (len : ℕ) (taken : Bool) (i : ℕ) (ranges : List FoundRange) (start given : List TakenRow)
+    → VolumesLeft known len taken i ranges start given → OfKnown known len (λ file. IsBeginning given (start ++ volume_rows_from taken 1 ranges file))
+volumes_part None len taken i ranges start given left = tt
+volumes_part (Some file) len taken i ranges start given left = λ whole. record { rest = volume_rows_from taken (i + 1) (drop i ranges) file; all_is = left whole }
+
+longer : (some front rest all : List TakenRow) → IsBeginning some front → front ++ rest ≡ all → IsBeginning some all
+longer some front rest all begins is = record {
+  rest = begins.rest ++ rest;
+  all_is = sym (append_assoc some begins.rest rest) ∙ ap (λ (rows : List TakenRow). rows ++ rest) begins.all_is ∙ is;
+}
+
+-- a beginning of the next one was given
+pub volumes_within : (known now : Option (List ℕ)) → now ≡ known → (len : ℕ) (taken : Bool) (i : ℕ) (ranges : List FoundRange) (d : FoundRange) → i < length ranges
+    → (start given new : List TakenRow) → VolumesLeft known len taken i ranges start given
+    → OfKnown now len (λ file. IsBeginning new (given ++ rows_of_range taken (i + 1) (get_or ranges i d) file))
+    → OfKnown known len (λ file. IsBeginning new (start ++ volume_rows_from taken 1 ranges file))
+volumes_within None now same len taken i ranges d lt start given new left own = tt
+volumes_within (Some file) now same len taken i ranges d lt start given new left own = λ whole.
+    let part = subst (λ (k : Option (List ℕ)). OfKnown k len (λ file. IsBeginning new (given ++ rows_of_range taken (i + 1) (get_or ranges i d) file))) same own in
+    longer new (given ++ rows_of_range taken (i + 1) (get_or ranges i d) file) (volume_rows_from taken (i + 1 + 1) (drop (i + 1) ranges) file) (start ++ volume_rows_from taken 1 ranges file) (part whole)
+    (append_assoc given (rows_of_range taken (i + 1) (get_or ranges i d) file) (volume_rows_from taken (i + 1 + 1) (drop (i + 1) ranges) file)
+    ∙ ap (λ (rows : List TakenRow). given ++ rows) (sym (step taken i ranges d file lt)) ∙ left whole)

@@ -1,0 +1,134 @@
+//! The rows of a volume's items, one after the other.
+ghost use Rattle.std.specs.Prelude.{◌≡◌, ◌+◌, ◌++◌, IfOk, IfSome, OnErr, OnOk};
+ghost use Rattle.hfs_model.specs.Children.{entries_of};
+ghost use Rattle.hfs_check.specs.VolumeOf.{volume_of};
+ghost use Rattle.hfs_needed.specs.Known.{OfKnown};
+ghost use Rattle.hfs_rows.specs.Taken.{IsBeginning};
+ghost use Rattle.hfs_collection.specs.Items.{item_rows, item_rows_from};
+ghost use Rattle.hfs_collection.specs.Giving.{GivesItem, GivesNext, told_row};
+
+use crate::digests::fork_digests;
+use crate::fault::CollectFault;
+use crate::items::item_values;
+use hfs_fields::Name;
+use hfs_inventory::Inventory;
+use hfs_model::{Info, ItemKind};
+use hfs_needed::OpenedImage;
+use hfs_rows::{RowTaker, Table};
+use hfs_sparse::BlockSource;
+use std::alloc::Global;
+
+/// How many items were given, and how many of them are files.
+#[derive(Clone, Copy, Debug, PartialEq, Eq)]
+pub(crate) struct ItemCounts {
+    pub(crate) items: u64,
+    pub(crate) files: u64,
+}
+
+impl ItemCounts {
+    /// With an item more. None where there are 2^64.
+    fn after(self, kind: ItemKind) -> Option<ItemCounts>
+        ensures { IfSome result (λ counts. counts.items ≡ self.items + 1) }
+    {
+        let files = match kind {
+            ItemKind::Folder => 0,
+            ItemKind::File => 1,
+        };
+        Some(ItemCounts {
+            items: self.items.checked_add(1)?,
+            files: self.files.checked_add(files)?,
+        })
+    }
+}
+
+/// Gives the row of an item, to which these names lead.
+fn give_item<S: BlockSource + Drop, T: RowTaker>(
+    alloc: Global,
+    taker: &mut T,
+    image: &mut OpenedImage<S>,
+    number: u64,
+    names: &[Name],
+    info: &Info,
+    taken: bool,
+) -> Result<(), CollectFault>
+    ensures whole { OnOk result (OfKnown image.old.known image.old.len (GivesItem taken number
+        (told_row names.now info.now) (T.given taker.old) (T.given taker.new))) }
+    ensures part { OnErr result (T.given taker.new ≡ T.given taker.old) }
+    ensures kept { image.new ≡ image.old }
+{
+    let digests = fork_digests(alloc, image, info, taken)?;
+    let values = item_values(alloc, number, names, info, digests)?;
+    taker.take(Table::Item, &values)?;
+    Ok(())
+}
+
+/// Gives the row of the next item, and answers whether there was one.
+fn give_next<S: BlockSource + Drop, T: RowTaker>(
+    alloc: Global,
+    taker: &mut T,
+    image: &mut OpenedImage<S>,
+    inventory: &mut Inventory,
+    counts: &mut ItemCounts,
+    taken: bool,
+) -> Result<bool, CollectFault>
+    ensures given { IfOk result (λ more. GivesNext taken image.old.known image.old.len
+        counts.old.items counts.new.items more inventory.old.left inventory.new.left
+        (T.given taker.old) (T.given taker.new)) }
+    ensures part { OnErr result (T.given taker.new ≡ T.given taker.old) }
+    ensures kept { image.new ≡ image.old }
+{
+    let Some(info) = inventory.next()? else {
+        return Ok(false);
+    };
+    let Some(after) = counts.after(info.kind) else {
+        return Err(CollectFault::NoMemory);
+    };
+    give_item(
+        alloc,
+        taker,
+        image,
+        counts.items,
+        inventory.path(),
+        &info,
+        taken,
+    )?;
+    *counts = after;
+    Ok(true)
+}
+
+/// Gives the rows of all items that are to come, and answers how many files are among them.
+fn give_inventory<S: BlockSource + Drop, T: RowTaker>(
+    alloc: Global,
+    taker: &mut T,
+    image: &mut OpenedImage<S>,
+    inventory: &mut Inventory,
+    taken: bool,
+) -> Result<u64, CollectFault>
+    ensures whole { OnOk result (OfKnown image.old.known image.old.len (λ bytes. T.given taker.new
+        ≡ T.given taker.old ++ item_rows_from taken (entries_of (volume_of bytes)) 0 inventory.old.left)) }
+    ensures part { OnErr result (OfKnown image.old.known image.old.len (λ bytes. IsBeginning
+        (T.given taker.new)
+        (T.given taker.old ++ item_rows_from taken (entries_of (volume_of bytes)) 0 inventory.old.left))) }
+    ensures kept { image.new ≡ image.old }
+{
+    let mut counts = ItemCounts { items: 0, files: 0 };
+    while give_next(alloc, taker, image, inventory, &mut counts, taken)? {}
+    Ok(counts.files)
+}
+
+/// Gives the rows of all items of a volume, and answers how many files are among them.
+pub(crate) fn give_items<S: BlockSource + Drop, T: RowTaker>(
+    alloc: Global,
+    taker: &mut T,
+    image: &mut OpenedImage<S>,
+    taken: bool,
+) -> Result<u64, CollectFault>
+    ensures whole { OnOk result (OfKnown image.old.known image.old.len (λ bytes. T.given taker.new
+        ≡ T.given taker.old ++ item_rows taken (entries_of (volume_of bytes)))) }
+    ensures part { OnErr result (OfKnown image.old.known image.old.len (λ bytes. IsBeginning
+        (T.given taker.new) (T.given taker.old ++ item_rows taken (entries_of (volume_of bytes))))) }
+    ensures kept { image.new ≡ image.old }
+{
+    let mut inventory = image.inventory(alloc)?;
+    give_inventory(alloc, taker, image, &mut inventory, taken)
+}

@@ -1,0 +1,145 @@
+//! The rows of an image.
+ghost use Rattle.std.specs.Prelude.{◌≡◌, ◌++◌, ℕ, List, length, IfOk, OnErr, OnOk};
+ghost use Rattle.hfs_containers.specs.Reading.{IsToldOf};
+ghost use Rattle.hfs_needed.specs.Known.{OfKnown};
+ghost use Rattle.hfs_rows.specs.Taken.{IsBeginning};
+ghost use Rattle.hfs_collection.specs.Images.{image_rows, image_values};
+ghost use Rattle.hfs_collection.specs.Values.{digest_value, where_taken};
+ghost use Rattle.hfs_collection.specs.Volumes.{volume_rows_from};
+
+use crate::digests::{digest_text, file_digest};
+use crate::fault::CollectFault;
+use crate::giving_volumes::{Given, give_volume};
+use crate::source::ImageFile;
+use crate::values::{push_number, push_value, push_whole_text};
+use hfs_containers::{FoundRange, ReadAt, find_ranges};
+use hfs_rows::{RowTaker, RowValue, Table};
+use std::alloc::{AllocError, Global};
+
+/// What is told of an image beside its bytes.
+#[derive(Clone, Copy)]
+pub struct ImageFacts<'a> {
+    /// The path as it was given.
+    pub path: &'a str,
+    /// The name of the program that reads it, and its version.
+    pub program: &'a str,
+    /// Whether digests are taken.
+    pub takes_digests: bool,
+}
+
+/// How much an image holds.
+#[derive(Clone, Copy, Debug, PartialEq, Eq)]
+pub struct ImageCounts {
+    /// How many volumes have a row.
+    pub volumes: u64,
+    /// How many of them are refused.
+    pub refused: u64,
+    /// How many files the others have.
+    pub files: u64,
+}
+
+impl ImageCounts {
+    /// With a volume more. None where a number is 2^64 or more.
+    fn after(self, given: Given) -> Option<ImageCounts> {
+        let (refused, files) = match given {
+            Given::Sound(files) => (0, files),
+            Given::Refused => (1, 0),
+        };
+        Some(ImageCounts {
+            volumes: self.volumes.checked_add(1)?,
+            refused: self.refused.checked_add(refused)?,
+            files: self.files.checked_add(files)?,
+        })
+    }
+}
+
+/// The digest of an image of `len` bytes as it stands in its row, where it is to be taken.
+fn digest_of<S: ReadAt>(
+    alloc: Global,
+    source: &mut S,
+    len: u64,
+    taken: bool,
+) -> Result<RowValue, CollectFault>
+    ensures digest { IfOk result (IsToldOf (S.known source.old) len
+        (λ file. where_taken taken (digest_value file))) }
+    ensures known { S.known source.new ≡ S.known source.old }
+{
+    if !taken {
+        return Ok(RowValue::Empty);
+    }
+    let digest = file_digest(source, len)?;
+    Ok(digest_text(alloc, &digest)?)
+}
+
+/// The values of an image's row.
+#[tactic(auto, unfolding(crate::specs::Images::image_values))]
+fn image_values(
+    alloc: Global,
+    facts: &ImageFacts<'_>,
+    len: u64,
+    digest: RowValue,
+) -> Result<Vec<RowValue>, AllocError>
+    ensures { IfOk result (λ values. (file : List ℕ) → length file ≡ len
+        → digest ≡ where_taken facts.now.takes_digests (digest_value file)
+        → values.items ≡ image_values facts.now file) }
+{
+    let mut values = Vec::new(alloc);
+    push_whole_text(&mut values, String::from_str(alloc, facts.path)?)?;
+    push_number(&mut values, len)?;
+    push_value(&mut values, digest)?;
+    push_whole_text(&mut values, String::from_str(alloc, facts.program)?)?;
+    Ok(values)
+}
+
+/// Gives the rows of the volumes in these ranges of a file, with numbers from 1 on.
+fn give_volumes<S: ReadAt + Drop, F: ImageFile<S>, T: RowTaker>(
+    alloc: Global,
+    taker: &mut T,
+    file: &F,
+    len: u64,
+    ranges: &[FoundRange],
+    taken: bool,
+) -> Result<ImageCounts, CollectFault>
+    ensures whole { OnOk result (OfKnown (F.known file.now) len (λ file. T.given taker.new
+        ≡ T.given taker.old ++ volume_rows_from taken 1 ranges.now file)) }
+    ensures part { OnErr result (OfKnown (F.known file.now) len (λ file. IsBeginning
+        (T.given taker.new) (T.given taker.old
+        ++ volume_rows_from taken 1 ranges.now file))) }
+{
+    let mut counts = ImageCounts {
+        volumes: 0,
+        refused: 0,
+        files: 0,
+    };
+    for i in 0..ranges.len() {
+        let source = file.open()?;
+        let given = give_volume(alloc, taker, source, len, i as u64 + 1, &ranges[i], taken)?;
+        let Some(after) = counts.after(given) else {
+            return Err(CollectFault::NoMemory);
+        };
+        counts = after;
+    }
+    Ok(counts)
+}
+
+/// Gives a taker the rows of an image of `len` bytes: its own, and for each volume that lies in it that volume's, with those of
+/// its items where it is sound. At a fault what was given is a beginning of them. Faults: `ReadFailed`, `CannotWrite`, `NoMemory`.
+pub fn give_image<S: ReadAt + Drop, F: ImageFile<S>, T: RowTaker>(
+    alloc: Global,
+    taker: &mut T,
+    file: &F,
+    len: u64,
+    facts: &ImageFacts<'_>,
+) -> Result<ImageCounts, CollectFault>
+    ensures whole { OnOk result (OfKnown (F.known file.now) len (λ file. T.given taker.new
+        ≡ T.given taker.old ++ image_rows facts.now file)) }
+    ensures part { OnErr result (OfKnown (F.known file.now) len (λ file. IsBeginning
+        (T.given taker.new) (T.given taker.old ++ image_rows facts.now file))) }
+{
+    let mut source = file.open()?;
+    let digest = digest_of(alloc, &mut source, len, facts.takes_digests)?;
+    let ranges = find_ranges(alloc, &mut source, len)?;
+    let values = image_values(alloc, facts, len, digest)?;
+    taker.take(Table::Image, &values)?;
+    give_volumes(alloc, taker, file, len, &ranges, facts.takes_digests)
+}

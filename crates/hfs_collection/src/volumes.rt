@@ -1,0 +1,148 @@
+//! The values of a volume's row.
+ghost use Rattle.std.specs.Prelude.{◌≡◌, ◌++◌, [], ◌∷◌, IfOk, OnOk, string_bytes};
+ghost use Rattle.hfs_rows.specs.declared.value.RowValue.TheVariants.{Text};
+ghost use Rattle.hfs_commands.specs.Volumes.{container_text, name_text};
+ghost use Rattle.hfs_collection.specs.Values.{text_value};
+ghost use Rattle.hfs_collection.specs.Volumes.{block_values, directory_values, name_values, no_directory, range_values, verdict_text, volume_values};
+
+use crate::values::{
+    push_empty, push_moment_value, push_number, push_plain_value, push_whole_text,
+};
+use hfs_check::MountFault;
+use hfs_commands::Refusal;
+use hfs_containers::{Container, FoundRange};
+use hfs_fields::Mdb;
+use hfs_rows::RowValue;
+use hfs_texts::Show;
+use std::alloc::{AllocError, Global};
+
+/// How a range lies in its file, in a word.
+fn container_word(container: Container) -> &'static str
+    ensures { result.now ≡ container_text container }
+{
+    match container {
+        Container::Bare => "bare",
+        Container::MacBinary => "macbinary",
+        Container::DiskCopy { .. } => "disk copy",
+        Container::Partition => "partition",
+    }
+}
+
+/// Appends number, how it lies, first byte and bytes.
+#[tactic(auto, unfolding(crate::specs::Volumes::range_values))]
+fn push_range(
+    alloc: Global,
+    values: &mut Vec<RowValue>,
+    number: u64,
+    found: &FoundRange,
+) -> Result<(), AllocError>
+    ensures { OnOk result (values.new.items ≡ values.old.items ++ range_values number found.now) }
+{
+    push_number(values, number)?;
+    let word = String::from_str(alloc, container_word(found.container))?;
+    push_whole_text(values, word)?;
+    push_number(values, found.range.start)?;
+    push_number(values, found.range.len)
+}
+
+/// Appends the plain text of a name in its field of a length byte and characters.
+#[tactic(auto, unfolding(hfs_commands::specs::Volumes::name_text))]
+fn push_name(alloc: Global, values: &mut Vec<RowValue>, name: &[u8]) -> Result<(), AllocError>
+    ensures { OnOk result (values.new.items ≡ values.old.items
+        ++ text_value (name_text name.now) ∷ []) }
+{
+    match name {
+        [] => push_empty(values),
+        [len, characters @ ..] => {
+            let len = characters.len().min(usize::from(*len));
+            push_plain_value(alloc, values, &characters[..len])
+        }
+    }
+}
+
+/// Appends name and moments.
+#[tactic(auto, unfolding(crate::specs::Volumes::name_values))]
+fn push_names(alloc: Global, values: &mut Vec<RowValue>, mdb: &Mdb) -> Result<(), AllocError>
+    ensures { OnOk result (values.new.items ≡ values.old.items ++ name_values mdb.now) }
+{
+    push_name(alloc, values, &mdb.volume_name)?;
+    push_moment_value(alloc, values, mdb.created)?;
+    push_moment_value(alloc, values, mdb.modified)?;
+    push_moment_value(alloc, values, mdb.backup)
+}
+
+/// Appends blocks, their bytes and the free ones.
+#[tactic(auto, unfolding(crate::specs::Volumes::block_values))]
+fn push_blocks(values: &mut Vec<RowValue>, mdb: &Mdb) -> Result<(), AllocError>
+    ensures { OnOk result (values.new.items ≡ values.old.items ++ block_values mdb.now) }
+{
+    push_number(values, u64::from(mdb.allocation_blocks))?;
+    push_number(values, u64::from(mdb.allocation_block_size))?;
+    push_number(values, u64::from(mdb.free_blocks))
+}
+
+/// Appends that no directory is told.
+#[tactic(auto, unfolding(crate::specs::Volumes::no_directory))]
+fn push_no_directory(values: &mut Vec<RowValue>) -> Result<(), AllocError>
+    ensures { OnOk result (values.new.items ≡ values.old.items ++ no_directory) }
+{
+    push_empty(values)?;
+    push_empty(values)?;
+    push_empty(values)?;
+    push_empty(values)?;
+    push_empty(values)?;
+    push_empty(values)?;
+    push_empty(values)
+}
+
+/// Appends what is told of the directory.
+fn push_directory(
+    alloc: Global,
+    values: &mut Vec<RowValue>,
+    fault: Option<MountFault>,
+    mdb: &Mdb,
+) -> Result<(), AllocError>
+    ensures { OnOk result (values.new.items ≡ values.old.items
+        ++ directory_values fault mdb.now) }
+{
+    match fault {
+        None => {
+            push_names(alloc, values, mdb)?;
+            push_blocks(values, mdb)
+        }
+        Some(_) => push_no_directory(values),
+    }
+}
+
+/// The verdict.
+fn verdict_text(alloc: Global, fault: Option<MountFault>) -> Result<String, AllocError>
+    ensures { IfOk result (λ text. string_bytes text ≡ verdict_text fault) }
+{
+    match fault {
+        None => String::from_str(alloc, "sound"),
+        Some(why) => {
+            let mut text = String::new(alloc);
+            Refusal(why).push_to(&mut text)?;
+            Ok(text)
+        }
+    }
+}
+
+/// The values of the row of a volume that lies in a range, by its fault, if it has one, and its directory.
+#[tactic(auto, unfolding(crate::specs::Volumes::volume_values))]
+pub(crate) fn volume_values(
+    alloc: Global,
+    number: u64,
+    found: &FoundRange,
+    fault: Option<MountFault>,
+    mdb: &Mdb,
+) -> Result<Vec<RowValue>, AllocError>
+    ensures { IfOk result (λ values. values.items
+        ≡ volume_values number found.now fault mdb.now) }
+{
+    let mut values = Vec::new(alloc);
+    push_range(alloc, &mut values, number, found)?;
+    push_directory(alloc, &mut values, fault, mdb)?;
+    push_whole_text(&mut values, verdict_text(alloc, fault)?)?;
+    Ok(values)
+}

@@ -1,0 +1,50 @@
+//! Why a database did not do what was asked.
+
+use hfs_rows::TakerFault;
+use sqlite::{Error, ErrorCode};
+
+/// Why a database did not do what was asked.
+#[derive(Clone, Copy, Debug, PartialEq, Eq)]
+pub enum DatabaseFault {
+    /// It is no database, is damaged, is open elsewhere, or has other tables of these names.
+    CannotOpen,
+    /// A write failed, or a read of what was written.
+    CannotWrite,
+    /// Memory was refused.
+    NoMemory,
+}
+
+/// Whether memory was refused.
+fn is_memory(error: &Error) -> bool {
+    match error {
+        Error::SqliteFailure(ErrorCode::OutOfMemory) => true,
+        _ => false,
+    }
+}
+
+/// What an error means where a database is opened.
+pub(crate) fn opening_fault(error: &Error) -> DatabaseFault {
+    if is_memory(error) {
+        DatabaseFault::NoMemory
+    } else {
+        DatabaseFault::CannotOpen
+    }
+}
+
+/// What an error means where a database is written.
+pub(crate) fn writing_fault(error: &Error) -> DatabaseFault {
+    if is_memory(error) {
+        DatabaseFault::NoMemory
+    } else {
+        DatabaseFault::CannotWrite
+    }
+}
+
+/// What an error means where a row is taken.
+pub(crate) fn taking_fault(error: &Error) -> TakerFault {
+    if is_memory(error) {
+        TakerFault::NoMemory
+    } else {
+        TakerFault::CannotWrite
+    }
+}

@@ -1,0 +1,40 @@
+//! What a writer was given, for proofs alone: it takes no memory, and its methods do nothing when they
+//! run.
+ghost use Rattle.std.specs.Prelude.{◌≡◌, ◌++◌, List, ℕ, []};
+ghost use Rattle.std.specs.Borrow.{ftrue};
+
+use std::marker::Model;
+
+/// The bytes that a writer was given.
+#[derive(Drop)]
+pub struct Written {
+    pub ghost bytes: { List ℕ },
+}
+
+impl Model for Written {
+    ghost also_owns = { λ _. ftrue };
+}
+
+/// Bytes, as one call gives them.
+#[derive(Clone, Copy, Drop)]
+pub struct Piece<'a> {
+    pub bytes: &'a [u8],
+}
+
+impl Written {
+    ghost use Rattle.hfs_digests.specs.Pieces.{with_piece};
+
+    /// Nothing was given.
+    pub fn new() -> Written
+        ensures { result.bytes ≡ [] }
+    {
+        Written {}
+    }
+
+    /// What was given, and then this.
+    pub fn then(&self, _piece: &Piece<'_>) -> Written
+        ensures { result.bytes ≡ with_piece self.now.bytes _piece.now }
+    {
+        Written {}
+    }
+}

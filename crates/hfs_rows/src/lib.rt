@@ -1,0 +1,14 @@
+//! Takers of rows: where a list of rows goes, one behind the other.
+#![tactic(auto)]
+
+mod fault;
+mod given;
+mod memory;
+mod taker;
+mod value;
+
+pub use crate::fault::TakerFault;
+pub use crate::given::{Given, GivenRow};
+pub use crate::memory::{MemoryTaker, StoredRow};
+pub use crate::taker::RowTaker;
+pub use crate::value::{RowValue, Table};
