@@ -23,6 +23,7 @@ use Rattle.hfs_check.specs.Parts.{Blocks, mdb_in, extents_blocks, extents_nodes,
 use Rattle.hfs_needed.specs.Marked.{where_right, needed_of_tree, HoldSameTree, TreesAnswerSame}
 use Rattle.hfs_needed.specs.Needed.{AgreeOn, AgreeOnNeeded, is_mdb_right, has_extents_file, is_extents_tree_right, has_catalog_file, needed_of_extents, needed_of_catalog, needed_of_trees, needed_blocks}
 use Rattle.hfs_needed.proofs.MarkedLaw as law
+use Rattle.hfs_btree_checks.proofs.ShapeLawLemmas.{first-none}
 use Rattle.hfs_needed.proofs.SameParts.{mdb-same, extents_blocks-same, catalog_extents-same, catalog_blocks-same, extents-map, catalog-map, owned-same}
 use Rattle.hfs_needed.proofs.SameTrees.{by-nodes}
 use Rattle.hfs_needed.proofs.SameSpace.{space_fault-same}
@@ -94,14 +95,14 @@ module _ (mdb : Mdb) (old new : Store) (same : TreesAnswerSame ext_keys mdb.exte
       law.or-same file file (shape old or_else order old) (shape new or_else order new) refl
       (λ right.
       law.or-same (shape old) (shape new) (order old) (order new) shape-same
-      (λ none. order-same (same.held (law.or-parts (structure_fault ext_keys mdb.extents_file_size old) (unless (has_counts ext_keys old)) none).0)))
+      (λ none. order-same (same.held (first-none (structure_fault ext_keys mdb.extents_file_size old) (unless (has_counts ext_keys old)) none).0)))
 
   extents-hold : extents_fault (has_counts ext_keys old) mdb old ≡ None → HoldSameTree ext_keys old new
   unfolding extents_fault
   extents-hold none =
-      let behind = law.or-parts file (shape old or_else order old) none in
-      let shaped = law.or-parts (shape old) (order old) behind.1 in
-      same.held (law.or-parts (structure_fault ext_keys mdb.extents_file_size old) (unless (has_counts ext_keys old)) shaped.0).0
+      let behind = first-none file (shape old or_else order old) none in
+      let shaped = first-none (shape old) (order old) behind.1 in
+      same.held (first-none (structure_fault ext_keys mdb.extents_file_size old) (unless (has_counts ext_keys old)) shaped.0).0
 
 -- and the catalog tree
 module _ (mdb : Mdb) (extents : List Extent) (old new : Store) (same : TreesAnswerSame cat_keys mdb.catalog_file_size old new) where
@@ -120,8 +121,8 @@ module _ (mdb : Mdb) (extents : List Extent) (old new : Store) (same : TreesAnsw
   catalog-hold : catalog_fault (has_counts cat_keys old) mdb extents old ≡ None → HoldSameTree cat_keys old new
   unfolding catalog_fault
   catalog-hold none =
-      let behind = law.or-parts (unless (is_tree_file mdb extents mdb.catalog_file_size)) (catalog_shape old) none in
-      same.held (law.or-parts (structure_fault cat_keys mdb.catalog_file_size old) (unless (has_counts cat_keys old)) behind.1).0
+      let behind = first-none (unless (is_tree_file mdb extents mdb.catalog_file_size)) (catalog_shape old) none in
+      same.held (first-none (structure_fault cat_keys mdb.catalog_file_size old) (unless (has_counts cat_keys old)) behind.1).0
 
 -- nothing is needed behind a part that is wrong
 where-wrong : (test : Bool) (numbers : List ℕ) → test ≡ false → where_right test numbers ≡ []
