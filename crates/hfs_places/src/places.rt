@@ -1,0 +1,128 @@
+//! Where each item is put.
+ghost use Rattle.std.specs.Prelude.{◌≡◌, ◌++◌, ◌<◌, map, length, if◌then◌else◌, IfOk, string_bytes};
+ghost use Rattle.hfs_places.specs.Chains.{endless_of, ups_of};
+ghost use Rattle.hfs_places.specs.Entries.{entries_of};
+ghost use Rattle.hfs_places.specs.Things.{things_of};
+ghost use Rattle.hfs_places.specs.Paths as spec;
+
+use crate::chains::{endless_of, ups_of};
+use crate::entries::entries_of;
+use crate::paths::Frame;
+use crate::things::{Thing, Things};
+use std::alloc::{AllocError, Global};
+use std::marker::Model;
+
+/// The items that remain and the folders that only a thread names, with their places. Contracts see them as things.
+#[derive(Drop)]
+pub struct Places {
+    things: Things,
+    entries: Vec<String>,
+    endless: Vec<bool>,
+    paths: Vec<Option<String>>,
+    root: Option<usize>,
+}
+
+impl Model for Places {
+    ghost use Rattle.std.specs.Prelude.{List};
+    ghost use Rattle.hfs_places.specs.declared.things.Thing.{Thing};
+    ghost use Rattle.hfs_places.specs.Paths.{ArePlaces};
+
+    ghost Value = { List Thing };
+
+    ghost view = { λ s. s.things };
+
+    ghost invariant = { λ s. ArePlaces s.things s.entries.items s.endless.items s.paths.items
+        s.root };
+}
+
+/// The place of the root among things, None where it is lost.
+fn root_of(things: &[Thing]) -> Option<usize>
+    ensures { result ≡ spec.root_of things.now }
+{
+    things
+        .iter()
+        .position(|thing| thing.folder == Some(2) && thing.parent == 1)
+}
+
+/// The paths of all folders.
+fn folder_paths(
+    alloc: Global,
+    things: &Things,
+    entries: &[String],
+    endless: &[bool],
+) -> Result<Vec<Option<String>>, AllocError>
+    requires entries { map string_bytes entries.now ≡ entries_of things.now }
+    requires entries_all { length entries.now ≡ length things.now }
+    requires endless { endless.now ≡ endless_of (ups_of things.now) }
+    requires endless_all { length endless.now ≡ length things.now }
+    ensures all { IfOk result (λ paths. length paths.items ≡ length things.now) }
+    ensures right { IfOk result (λ paths. spec.AreRight things.now paths.items) }
+    ensures known { IfOk result (λ paths. spec.AreKnown things.now paths.items) }
+{
+    let frame = Frame {
+        things,
+        entries,
+        endless,
+    };
+    frame.folder_paths(alloc)
+}
+
+impl Places {
+    /// The places of items, and of the folders that threads name where no item is the folder of a number. The only error is want
+    /// of memory.
+    pub fn of(alloc: Global, items: &[Thing], namings: &[Thing]) -> Result<Places, AllocError>
+        ensures { IfOk result (λ places. places ≡ things_of items.now namings.now) }
+    {
+        let things = Things::of(alloc, items, namings)?;
+        let entries = entries_of(alloc, things.all())?;
+        let ups = ups_of(alloc, &things)?;
+        let endless = endless_of(alloc, &ups)?;
+        let paths = folder_paths(alloc, &things, &entries, &endless)?;
+        let root = root_of(things.all());
+        Ok(Places {
+            things,
+            entries,
+            endless,
+            paths,
+            root,
+        })
+    }
+
+    /// The items and the named folders, in their order.
+    pub fn things(&self) -> &[Thing]
+        ensures { result.now ≡ self.now }
+    {
+        self.things.all()
+    }
+
+    /// The path of a thing, without what an item lies below where its record is old.
+    fn path(&self, alloc: Global, i: usize) -> Result<String, AllocError>
+        requires { i < length self.now }
+        ensures { IfOk result (λ text. string_bytes text ≡ spec.path self.now i) }
+    {
+        let frame = Frame {
+            things: &self.things,
+            entries: &self.entries,
+            endless: &self.endless,
+        };
+        frame.path(alloc, &self.paths, i)
+    }
+
+    /// The path of an item below the payload. The only error is want of memory.
+    #[tactic(auto, unfolding(crate::specs::Paths::payload_path))]
+    pub fn payload_path(&self, alloc: Global, i: usize) -> Result<String, AllocError>
+        requires { i < length self.now }
+        ensures { IfOk result (λ text. string_bytes text ≡ spec.payload_path self.now i) }
+    {
+        if self.root == Some(i) {
+            return Ok(String::new(alloc));
+        }
+        let path = self.path(alloc, i)?;
+        let all = self.things.all();
+        if all[i].old {
+            format!(in alloc; "=old/{path}")
+        } else {
+            Ok(path)
+        }
+    }
+}
