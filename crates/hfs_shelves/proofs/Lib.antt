@@ -1,3 +1,3 @@
-mod Walks
+pub mod Walks
 pub mod Beginnings
 mod StoredLemmas

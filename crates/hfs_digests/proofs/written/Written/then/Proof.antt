@@ -25,7 +25,7 @@ use denote.Triple.Entry.{alive}
 use denote.Triple.Spec.{Meets, triple_of}
 use denote.Triple.Table.{entered}
 use denote.Triple.Walked.{says, Stays, stay_dropped, walk_of, ends_at, walk_Meets, Goes-dropped}
-use Rattle.hfs_digests.proofs.Walks.{none, none_made}
+use Rattle.hfs_shelves.proofs.Walks.{none, none_made}
 use Rattle.hfs_digests.specs.contracts.written.Written as Written
 use Rattle.hfs_digests.specs.contracts.written.Piece as Piece
 use Rattle.hfs_digests.specs.Pieces.{with_piece}
