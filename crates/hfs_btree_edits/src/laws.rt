@@ -1,4 +1,4 @@
-//! What follows of edits, each as the contract of a function that does nothing: a caller learns it by the call.
+//! What follows of edits, each as the contract of a function that does nothing.
 ghost use Rattle.hfs_btree_edits.specs.Laws.{InsertionsTakeFewNodes, EditsKeepTheRest, NewKeysPass};
 
 use hfs_btree::Key;

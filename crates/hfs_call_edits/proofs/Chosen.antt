@@ -29,7 +29,8 @@ use Rattle.hfs_check.specs.Parts.{Blocks, mdb_in, catalog_in}
 use Rattle.hfs_check.specs.Sound.{AreBlocksSound}
 use Rattle.hfs_check.specs.VolumeOf.{contents_in, volume_in}
 use Rattle.hfs_changes.proofs.OnceLemmas.{distinct_once, item_found}
-use Rattle.hfs_changes.specs.SettingLaws.{IsChoice, ChoiceStands}
+use Rattle.hfs_changes.specs.SettingLaws.{IsChoice}
+use Rattle.hfs_changes.proofs.SettingLaws.{ChoiceStands}
 use Rattle.hfs_call_patches.specs.Settings.{IsBody}
 use Rattle.hfs_call_edits.specs.Choosing.{map_ok, lock_code, unless_code, only_file, is_locked, unless_locked, file_to_set, item_to_set, file_part}
 use Rattle.hfs_call_edits.specs.Choosing as records

@@ -25,8 +25,9 @@ use Rattle.hfs_catalog.specs.Sound.{IsRoot, IsGiven, HasRightId, HasPlace}
 use Rattle.hfs_check.specs.Parts.{Blocks, mdb_in, catalog_in}
 use Rattle.hfs_check.specs.Sound.{AreBlocksSound}
 use Rattle.hfs_check.specs.VolumeOf.{contents_in, volume_in}
-use Rattle.hfs_changes.specs.PlaceLaws.{FileIsThreadless}
-use Rattle.hfs_changes.specs.SettingLaws.{IsChoice, ChoiceStands}
+use Rattle.hfs_changes.proofs.PlaceLaws.{FileIsThreadless}
+use Rattle.hfs_changes.specs.SettingLaws.{IsChoice}
+use Rattle.hfs_changes.proofs.SettingLaws.{ChoiceStands}
 use Rattle.hfs_queries.proofs.FolderLemmas.{HasId, found_with}
 use Rattle.hfs_queries.specs.Queries.{AreEntries}
 use Rattle.hfs_queries.proofs.ReplyLemmas.{folder_kind}

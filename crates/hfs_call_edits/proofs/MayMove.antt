@@ -19,14 +19,14 @@ use Rattle.hfs_catalog.specs.Tree.{catalog_of}
 use Rattle.hfs_catalog_edits.specs.Rooms.{IsInFile, HasRoom}
 use Rattle.hfs_catalog_edits.proofs.RootLemmas.{sound_has_root}
 use Rattle.hfs_catalog_edits.specs.Swaps.{one_if}
-use Rattle.hfs_check.specs.Laws.{CatalogIsSound, TreesAreSound}
+use Rattle.hfs_check.proofs.LawTypes.{CatalogIsSound, TreesAreSound}
 use Rattle.hfs_check.specs.Parts.{Blocks, mdb_in, catalog_nodes, catalog_in}
 use Rattle.hfs_check.specs.Sound.{AreBlocksSound}
 use Rattle.hfs_check.specs.VolumeOf.{contents_in, volume_in}
-use Rattle.hfs_changes.specs.BoundLaws.{CountsMove, MoveFits}
+use Rattle.hfs_changes.proofs.BoundLaws.{CountsMove, MoveFits}
 use Rattle.hfs_changes.specs.MoveLaws.{under_folder}
-use Rattle.hfs_changes.specs.PlaceLaws.{FolderIdIs, MoveIsFree}
-use Rattle.hfs_changes.specs.SettingLaws.{ChoiceStands}
+use Rattle.hfs_changes.proofs.PlaceLaws.{FolderIdIs, MoveIsFree}
+use Rattle.hfs_changes.proofs.SettingLaws.{ChoiceStands}
 use Rattle.hfs_queries.proofs.FolderLemmas.{found_with}
 use Rattle.hfs_call_patches.specs.declared.moving.Moving.{Moving}
 use Rattle.hfs_call_patches.specs.Moving.{IsMoving, FitsCounts, CanMove}

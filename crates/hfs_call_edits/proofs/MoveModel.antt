@@ -17,16 +17,16 @@ use Rattle.hfs_model.specs.Choices.{and_then, child_to_change, to_move, is_bad_m
 use Rattle.hfs_catalog.specs.declared.item.ItemRecord.TheVariants.{Folder, File}
 use Rattle.hfs_catalog.specs.Records.{Record, Catalog, is_child_of, valence_of}
 use Rattle.hfs_catalog.specs.Items.{entry_of}
-use Rattle.hfs_catalog.specs.Laws.{ValencesAreCounted}
+use Rattle.hfs_catalog.proofs.LawTypes.{ValencesAreCounted}
 use Rattle.hfs_catalog.specs.Lookups.{catalog_item, child_named}
-use Rattle.hfs_check.specs.Laws.{CatalogIsSound}
+use Rattle.hfs_check.proofs.LawTypes.{CatalogIsSound}
 use Rattle.hfs_check.specs.Parts.{Blocks, mdb_in, catalog_in}
 use Rattle.hfs_check.specs.Sound.{AreBlocksSound}
 use Rattle.hfs_check.specs.VolumeOf.{contents_in, volume_in}
 use Rattle.hfs_changes.specs.Changes.{IsFolderWith}
-use Rattle.hfs_changes.specs.OffspringLaws.{OffspringByParents}
+use Rattle.hfs_changes.proofs.OffspringLaws.{OffspringByParents}
 use Rattle.hfs_changes.proofs.OnceLemmas.{distinct_once, item_found}
-use Rattle.hfs_changes.specs.SettingLaws.{ChoiceStands}
+use Rattle.hfs_changes.proofs.SettingLaws.{ChoiceStands}
 use Rattle.hfs_queries.proofs.FolderLemmas.{found_with}
 use Rattle.hfs_queries.proofs.FoundLemmas.{is_some-option_map}
 use Rattle.hfs_queries.specs.Queries.{AreEntries}

@@ -16,16 +16,16 @@ use Rattle.hfs_model.specs.Choices as model
 use Rattle.hfs_model.specs.Lawful.{IsLawful}
 use Rattle.hfs_catalog.specs.Records.{Record, Catalog, item_with, is_child_of}
 use Rattle.hfs_catalog.specs.Items.{Contents, entry_of}
-use Rattle.hfs_catalog.specs.Laws.{SoundIsLawful}
+use Rattle.hfs_catalog.proofs.LawTypes.{SoundIsLawful}
 use Rattle.hfs_catalog.specs.Lookups as lookups
-use Rattle.hfs_check.specs.Laws.{CatalogIsSound}
+use Rattle.hfs_check.proofs.LawTypes.{CatalogIsSound}
 use Rattle.hfs_check.specs.Parts.{Blocks, mdb_in, catalog_in}
 use Rattle.hfs_check.specs.Sound.{AreBlocksSound}
 use Rattle.hfs_check.specs.VolumeOf.{contents_in, volume_in}
 use Rattle.hfs_changes.specs.Changes.{IsFolderWith}
 use Rattle.hfs_changes.proofs.OnceLemmas.{distinct_once, item_found}
-use Rattle.hfs_changes.specs.PlaceLaws.{FolderIdIs}
-use Rattle.hfs_changes.specs.SettingLaws.{ChoiceStands}
+use Rattle.hfs_changes.proofs.PlaceLaws.{FolderIdIs}
+use Rattle.hfs_changes.proofs.SettingLaws.{ChoiceStands}
 use Rattle.hfs_queries.specs.Queries.{AreEntries}
 use Rattle.hfs_queries.specs.Told.{only_folder}
 use Rattle.hfs_queries.specs.Told as told

@@ -22,7 +22,7 @@ use Rattle.hfs_catalog.specs.Lookups.{catalog_item, is_child_named, child_named}
 use Rattle.hfs_check.specs.Parts.{Blocks, mdb_in, catalog_in}
 use Rattle.hfs_check.specs.Sound.{AreBlocksSound}
 use Rattle.hfs_check.specs.VolumeOf.{contents_in, volume_in}
-use Rattle.hfs_changes.specs.SettingLaws.{ChoiceStands}
+use Rattle.hfs_changes.proofs.SettingLaws.{ChoiceStands}
 use Rattle.hfs_queries.specs.Queries.{AreEntries}
 use Rattle.hfs_queries.proofs.ReplyLemmas.{folder_kind, child_item}
 use Rattle.hfs_queries.specs.Told.{is_folder, body_info, folder_info, file_info}

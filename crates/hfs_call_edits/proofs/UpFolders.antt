@@ -12,7 +12,7 @@ use Rattle.hfs_catalog.specs.Lookups.{catalog_item}
 use Rattle.hfs_catalog.specs.Records.{Record, Catalog, item_with, is_folder_id}
 use Rattle.hfs_catalog.specs.Sound.{IsSoundCatalog, IsRoot, IsGiven, HasPlace}
 use Rattle.hfs_changes.specs.Changes.{IsFolderWith}
-use Rattle.hfs_changes.specs.OffspringLaws.{lies_by_parents}
+use Rattle.hfs_changes.proofs.OffspringLaws.{lies_by_parents}
 use Rattle.hfs_queries.proofs.FolderLemmas.{found_with}
 use Rattle.hfs_queries.specs.Told.{only_folder, folder_with}
 use Rattle.hfs_call_edits.specs.ChoosingMoving.{up_by_folders}

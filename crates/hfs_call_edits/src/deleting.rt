@@ -14,7 +14,6 @@ use crate::editing::{Editing, Refusal};
 use hfs_blocks::Blocks;
 use hfs_call_patches::{Change, patch_delete_file, patch_delete_folder, without_folder};
 use hfs_catalog::{CatalogItem, ItemRecord};
-use hfs_changes::{catalog_edits_are_steps, choice_stands};
 use hfs_fields::{CatKey, DirRecord, FileRecord};
 use hfs_model::Value;
 use hfs_queries::folder;
@@ -26,7 +25,6 @@ impl<B: Blocks> Editing<'_, B> {
         ensures choice { ChoosesItemBy (λ v. to_delete v dir name.now) (B.blocks self.now) result }
         ensures folder { IfOk result (λ item. HasFolder (B.blocks self.now) dir) }
     {
-        choice_stands();
         choosing_delete::item_to_delete(&self.nodes(), self.mdb, dir, name)
     }
 
@@ -63,7 +61,6 @@ impl<B: Blocks> Editing<'_, B> {
         ensures { Makes result (IsFolderDeletion dir key.now folder.now now)
             B.total B.blocks self.now }
     {
-        catalog_edits_are_steps();
         let patch = patch_delete_folder(
             alloc,
             self.blocks,

@@ -12,10 +12,8 @@ use hfs_blocks::{Blocks, Patch, Run};
 use hfs_btree::RunNodes;
 use hfs_call_patches::Change;
 use hfs_catalog::CatalogItem;
-use hfs_changes::choice_stands;
 use hfs_fields::{CatKey, FileRecord, Mdb};
 use hfs_model::Value;
-use hfs_queries::catalog_answers;
 use std::marker::Model;
 
 /// Why a call changes nothing.
@@ -74,7 +72,6 @@ impl<'a, B: Blocks> Editing<'a, B> {
         ensures catalog { IsCatalog (catalog_nodes (B.blocks self.now)) }
         ensures entries { RecordsAreEntriesIn (B.blocks self.now) }
     {
-        catalog_answers();
         RunNodes {
             blocks: self.blocks,
             runs: self.catalog,
@@ -85,7 +82,6 @@ impl<'a, B: Blocks> Editing<'a, B> {
     pub(crate) fn file_to_change(&self, dir: u32, name: &[u8]) -> Result<(CatKey, FileRecord), i16>
         ensures { ChoosesFileBy (λ v. file_to_change v dir name.now) (B.blocks self.now) result }
     {
-        choice_stands();
         choosing::file_to_change(&self.nodes(), self.mdb, dir, name)
     }
 
@@ -93,7 +89,6 @@ impl<'a, B: Blocks> Editing<'a, B> {
     pub(crate) fn file_to_set(&self, dir: u32, name: &[u8]) -> Result<(CatKey, FileRecord), i16>
         ensures { ChoosesFileBy (λ v. to_set_f_info v dir name.now) (B.blocks self.now) result }
     {
-        choice_stands();
         choosing::file_to_set(&self.nodes(), self.mdb, dir, name)
     }
 
@@ -101,7 +96,6 @@ impl<'a, B: Blocks> Editing<'a, B> {
     pub(crate) fn item_to_set(&self, dir: u32, name: &[u8]) -> Result<CatalogItem, i16>
         ensures { ChoosesItemBy (λ v. to_set_cat_info v dir name.now) (B.blocks self.now) result }
     {
-        choice_stands();
         choosing::item_to_set(&self.nodes(), self.mdb, dir, name)
     }
 

@@ -11,7 +11,6 @@ use crate::choosing_file_ids;
 use crate::editing::{Editing, Refusal};
 use hfs_blocks::{Blocks, Patch};
 use hfs_call_patches::{Change, patch_create_file_id, patch_delete_file_id};
-use hfs_changes::{catalog_edits_are_steps, choice_stands, file_is_threadless};
 use hfs_fields::{CatKey, FileRecord};
 use hfs_model::Value;
 use std::alloc::{AllocError, Global};
@@ -23,8 +22,6 @@ impl<B: Blocks> Editing<'_, B> {
             (B.blocks self.now) result }
         ensures threadless { IfOk result (IsThreadlessIn (B.blocks self.now)) }
     {
-        choice_stands();
-        file_is_threadless();
         choosing_file_ids::file_without_id(&self.nodes(), self.mdb, dir, name)
     }
 
@@ -32,7 +29,6 @@ impl<B: Blocks> Editing<'_, B> {
     fn file_with_id(&self, id: u32) -> Result<(CatKey, FileRecord), i16>
         ensures { ChoosesFileBy (λ v. to_delete_file_id v id) (B.blocks self.now) result }
     {
-        choice_stands();
         choosing_file_ids::file_with_id(&self.nodes(), self.mdb, id)
     }
 
@@ -57,7 +53,6 @@ impl<B: Blocks> Editing<'_, B> {
         ensures { Makes result (IsEditOf (call.CreateFileId dir name.now now))
             B.total B.blocks self.now }
     {
-        catalog_edits_are_steps();
         self.catalog_is_in_file();
         let (key, file) = match self.file_without_id(dir, name) {
             Ok(chosen) => chosen,
@@ -87,7 +82,6 @@ impl<B: Blocks> Editing<'_, B> {
     ) -> Result<Result<Change, Refusal>, AllocError>
         ensures { Makes result (IsEditOf (call.DeleteFileId id now)) B.total B.blocks self.now }
     {
-        catalog_edits_are_steps();
         let (key, file) = match self.file_with_id(id) {
             Ok(chosen) => chosen,
             Err(code) => return Ok(Err(Refusal::Code(code))),

@@ -12,12 +12,6 @@ use crate::choosing_moving;
 use crate::editing::{Editing, Refusal};
 use hfs_blocks::{Blocks, Patch};
 use hfs_call_patches::{Change, Moving, counts_moved, patch_move};
-use hfs_catalog::valences_are_counted;
-use hfs_changes::{
-    catalog_edits_are_steps, choice_stands, creation_is_free, move_fits, move_is_free,
-    offspring_by_parents,
-};
-use hfs_check::{catalog_is_sound, trees_are_sound};
 use hfs_fields::Mdb;
 use hfs_model::Value;
 use std::alloc::{AllocError, Global};
@@ -38,10 +32,6 @@ impl<B: Blocks> Editing<'_, B> {
     fn item_to_move(&self, dir: u32, name: &[u8], new_dir: u32) -> Result<Moving, i16>
         ensures { ChoosesMoving (B.blocks self.now) dir name.now new_dir result }
     {
-        choice_stands();
-        catalog_is_sound();
-        offspring_by_parents();
-        valences_are_counted();
         choosing_moving::item_to_move(&self.nodes(), self.mdb, dir, name, new_dir)
     }
 
@@ -57,13 +47,6 @@ impl<B: Blocks> Editing<'_, B> {
         ensures { Makes result (IsEditOf (call.CatMove dir name.now new_dir now))
             B.total B.blocks self.now }
     {
-        trees_are_sound();
-        catalog_is_sound();
-        choice_stands();
-        creation_is_free();
-        move_is_free();
-        move_fits();
-        catalog_edits_are_steps();
         let moving = match self.item_to_move(dir, name, new_dir) {
             Ok(moving) => moving,
             Err(code) => return Ok(Err(Refusal::Code(code))),

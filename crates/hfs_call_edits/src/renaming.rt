@@ -11,9 +11,6 @@ use crate::choosing_renaming;
 use crate::editing::{Editing, Refusal};
 use hfs_blocks::Blocks;
 use hfs_call_patches::{Change, Rekeying, patch_rename};
-use hfs_catalog::sound_is_lawful;
-use hfs_changes::{catalog_edits_are_steps, choice_stands, creation_is_free, rename_is_free};
-use hfs_check::{catalog_is_sound, trees_are_sound};
 use hfs_fields::same_name;
 use std::alloc::{AllocError, Global};
 
@@ -22,10 +19,6 @@ impl<B: Blocks> Editing<'_, B> {
     fn item_to_rename(&self, dir: u32, name: &[u8], new_name: &[u8]) -> Result<Rekeying, i16>
         ensures { ChoosesRenaming (B.blocks self.now) dir name.now new_name.now result }
     {
-        choice_stands();
-        catalog_is_sound();
-        sound_is_lawful();
-        creation_is_free();
         choosing_renaming::item_to_rename(&self.nodes(), self.mdb, dir, name, new_name)
     }
 
@@ -52,11 +45,6 @@ impl<B: Blocks> Editing<'_, B> {
         ensures { Makes result (IsEditOf (call.Rename dir name.now new_name.now now))
             B.total B.blocks self.now }
     {
-        trees_are_sound();
-        catalog_is_sound();
-        choice_stands();
-        rename_is_free();
-        catalog_edits_are_steps();
         let item = match self.item_to_rename(dir, name, new_name) {
             Ok(item) => item,
             Err(code) => return Ok(Err(Refusal::Code(code))),

@@ -13,7 +13,6 @@ use hfs_call_patches::{
     patch_set_lock,
 };
 use hfs_catalog::ItemRecord;
-use hfs_changes::catalog_edits_are_steps;
 use std::alloc::{AllocError, Global};
 
 impl<B: Blocks> Editing<'_, B> {
@@ -29,7 +28,6 @@ impl<B: Blocks> Editing<'_, B> {
         ensures { Makes result (IsEditOf (call.SetFInfo dir name.now info.now now))
             B.total B.blocks self.now }
     {
-        catalog_edits_are_steps();
         let (key, file) = match self.file_to_set(dir, name) {
             Ok(chosen) => chosen,
             Err(code) => return Ok(Err(Refusal::Code(code))),
@@ -59,7 +57,6 @@ impl<B: Blocks> Editing<'_, B> {
         ensures { Makes result (IsEditOf (set_cat_info_call dir name.now settings.now now))
             B.total B.blocks self.now }
     {
-        catalog_edits_are_steps();
         let item = match self.item_to_set(dir, name) {
             Ok(item) => item,
             Err(code) => return Ok(Err(Refusal::Code(code))),
@@ -107,7 +104,6 @@ impl<B: Blocks> Editing<'_, B> {
         ensures { Makes result (IsEditOf (lock_call locked dir name.now now))
             B.total B.blocks self.now }
     {
-        catalog_edits_are_steps();
         let (key, file) = match self.file_to_change(dir, name) {
             Ok(chosen) => chosen,
             Err(code) => return Ok(Err(Refusal::Code(code))),

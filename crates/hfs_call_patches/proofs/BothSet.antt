@@ -19,7 +19,8 @@ use Rattle.hfs_catalog_edits.specs.Keeps.{KeepsCatalog}
 use Rattle.hfs_catalog_edits.proofs.KeepLemmas.{keeps_then}
 use Rattle.hfs_catalog_edits.specs.Swaps.{Swaps}
 use Rattle.hfs_changes.specs.Changes.{with_children, folder_with}
-use Rattle.hfs_changes.specs.PlaceLaws.{BothStand, StandsStill}
+use Rattle.hfs_changes.specs.PlaceLaws.{BothStand}
+use Rattle.hfs_changes.proofs.PlaceLaws.{StandsStill}
 use Rattle.hfs_call_patches.specs.declared.valences.FolderPlace.{FolderPlace}
 use Rattle.hfs_call_patches.specs.Valences.{StandAt, ValencesSet}
 

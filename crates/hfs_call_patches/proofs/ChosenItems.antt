@@ -11,7 +11,8 @@ use Rattle.hfs_model.specs.Volume.{Entry}
 use Rattle.hfs_catalog.specs.Records.{Record}
 use Rattle.hfs_check.specs.Parts.{Blocks, catalog_in}
 use Rattle.hfs_check.specs.Sound.{AreBlocksSound}
-use Rattle.hfs_changes.specs.SettingLaws.{IsChoice, ChoiceStands}
+use Rattle.hfs_changes.specs.SettingLaws.{IsChoice}
+use Rattle.hfs_changes.proofs.SettingLaws.{ChoiceStands}
 use Rattle.hfs_queries.proofs.FolderLemmas.{found_with}
 use Rattle.hfs_call_patches.specs.Settings.{IsBody, IsFileChoice, IsFileUnder, IsFolderChoice, IsFolderUnder}
 

@@ -24,7 +24,7 @@ use Rattle.hfs_catalog.specs.Tree.{cat_keys, IsCatalogTree, catalog_of}
 use Rattle.hfs_check.specs.Parts.{Blocks, mdb_in, catalog_extents, catalog_nodes, catalog_blocks, catalog_in}
 use Rattle.hfs_check.specs.Sound.{AreBlocksSound}
 use Rattle.hfs_check.specs.Agree.{node_blocks}
-use Rattle.hfs_changes.specs.Laws.{CatalogFileStays}
+use Rattle.hfs_changes.proofs.LawTypes.{CatalogFileStays}
 use Rattle.hfs_changes.specs.OnBlocks.{EditsCatalog}
 use Rattle.hfs_call_patches.specs.CatalogPatch.{KeepsNamed, HasCatalog}
 use Rattle.hfs_call_patches.specs.TreeFiles.{IsCatalogFile}

@@ -22,12 +22,13 @@ use Rattle.hfs_model.specs.declared.reply.Value.TheVariants as answer
 use Rattle.hfs_model.specs.Replies.{success}
 use Rattle.hfs_check.specs.Parts.{Blocks, mdb_in, catalog_nodes, catalog_in}
 use Rattle.hfs_check.specs.VolumeOf.{volume_in}
-use Rattle.hfs_changes.specs.BoundLaws.{HasRoomForOne, CreationFits}
+use Rattle.hfs_changes.proofs.BoundLaws.{HasRoomForOne, CreationFits}
 use Rattle.hfs_changes.specs.Changes.{with_children, folder_with}
-use Rattle.hfs_changes.specs.CreationLaws.{with_file, with_folder, CreateMakes, DirCreateMakes}
+use Rattle.hfs_changes.specs.CreationLaws.{with_file, with_folder}
+use Rattle.hfs_changes.proofs.CreationLaws.{CreateMakes, DirCreateMakes}
 use Rattle.hfs_changes.specs.Laws.{CatalogEditsAreSteps}
 use Rattle.hfs_changes.specs.OnBlocks.{HasTree}
-use Rattle.hfs_changes.specs.PlaceLaws.{FolderIdIs, CreationIsFree, NextIsThreadless}
+use Rattle.hfs_changes.proofs.PlaceLaws.{FolderIdIs, CreationIsFree, NextIsThreadless}
 use Rattle.hfs_queries.proofs.FolderLemmas.{found_with}
 use Rattle.hfs_call_patches.specs.declared.new_items.NewPlace.{NewPlace}
 use Rattle.hfs_call_patches.specs.CatalogPatch.{KeepsNamed, HasCatalog}

@@ -26,11 +26,12 @@ use Rattle.hfs_catalog_edits.proofs.BodyLemmas.{dir_length, file_length}
 use Rattle.hfs_check.specs.Parts.{Blocks, mdb_in, extents_nodes, overflow_in, catalog_nodes, catalog_in}
 use Rattle.hfs_check.specs.Sound.{AreBlocksSound}
 use Rattle.hfs_check.specs.VolumeOf.{volume_in}
-use Rattle.hfs_changes.specs.Deletion.{EditsVolume, HasCleared, without_one_file, fork_blocks, DeleteFileMakes, DeletionsAreSteps, ForkBlocksAreAlone, ForkExtentsAreWithin}
-use Rattle.hfs_changes.specs.DropLaws.{DroppedLeaves}
-use Rattle.hfs_changes.specs.PlaceLaws.{DeleteLeavesFolder}
-use Rattle.hfs_changes.specs.RemovalLaws.{HasDroppedItem}
-use Rattle.hfs_changes.specs.SettingLaws.{ChoiceStands}
+use Rattle.hfs_changes.specs.Deletion.{EditsVolume, HasCleared, without_one_file, DeletionsAreSteps}
+use Rattle.hfs_changes.proofs.DeletionLaws.{fork_blocks, DeleteFileMakes, ForkBlocksAreAlone, ForkExtentsAreWithin}
+use Rattle.hfs_changes.proofs.DropLaws.{DroppedLeaves}
+use Rattle.hfs_changes.proofs.PlaceLaws.{DeleteLeavesFolder}
+use Rattle.hfs_changes.proofs.RemovalLaws.{HasDroppedItem}
+use Rattle.hfs_changes.proofs.SettingLaws.{ChoiceStands}
 use Rattle.hfs_queries.proofs.FolderLemmas.{found_with}
 use Rattle.hfs_call_patches.specs.Deleting.{IsParent, ItemDropped, IsFileDeleted}
 use Rattle.hfs_call_patches.proofs.DeletingLemmas.{IsFileGone}

@@ -34,7 +34,7 @@ use Rattle.hfs_check.specs.Parts.{Blocks, mdb_in, extents_nodes, extents_blocks,
 use Rattle.hfs_check.specs.Sound.{AreBlocksSound}
 use Rattle.hfs_check.specs.Agree.{IsBeside, bitmap_blocks, node_blocks, changing_blocks}
 use Rattle.hfs_changes.specs.Deletion.{EditsVolume, HasCleared}
-use Rattle.hfs_changes.specs.DropLaws.{DeletionLeavesFile}
+use Rattle.hfs_changes.proofs.DropLaws.{DeletionLeavesFile}
 use Rattle.hfs_call_patches.specs.CatalogPatch.{KeepsNamed}
 use Rattle.hfs_call_patches.proofs.DeletingLemmas.{IsFileGone}
 use Rattle.hfs_call_patches.specs.TreeFiles.{IsExtentsFile, IsCatalogFile}

@@ -16,7 +16,8 @@ use Rattle.hfs_catalog_edits.proofs.FindLemmas.{own_record}
 use Rattle.hfs_catalog_edits.specs.Swaps.{Swaps}
 use Rattle.hfs_check.specs.Parts.{Blocks, mdb_in, catalog_nodes, catalog_in}
 use Rattle.hfs_check.specs.Sound.{AreBlocksSound}
-use Rattle.hfs_changes.specs.FileIdLaws.{with_thread_flag, file_with_flag, CreateFileIdMakes, DeleteFileIdMakes}
+use Rattle.hfs_changes.specs.FileIdLaws.{with_thread_flag}
+use Rattle.hfs_changes.proofs.FileIdLaws.{file_with_flag, CreateFileIdMakes, DeleteFileIdMakes}
 use Rattle.hfs_changes.specs.OnBlocks.{at_time, HasTree}
 use Rattle.hfs_queries.proofs.FolderLemmas.{found_with}
 use Rattle.hfs_call_patches.specs.CatalogPatch.{HasCatalog}

@@ -11,9 +11,10 @@ use Rattle.hfs_check.specs.Parts.{Blocks, mdb_in, catalog_nodes, catalog_in}
 use Rattle.hfs_check.specs.Sound.{AreBlocksSound}
 use Rattle.hfs_check.specs.VolumeOf.{volume_in}
 use Rattle.hfs_changes.specs.OnBlocks.{HasTree}
-use Rattle.hfs_changes.specs.PlaceLaws.{DeleteLeavesFolder}
-use Rattle.hfs_changes.specs.RemovalLaws.{HasDroppedItem, without_folder, DeleteFolderMakes}
-use Rattle.hfs_changes.specs.SettingLaws.{ChoiceStands}
+use Rattle.hfs_changes.proofs.PlaceLaws.{DeleteLeavesFolder}
+use Rattle.hfs_changes.specs.RemovalLaws.{without_folder}
+use Rattle.hfs_changes.proofs.RemovalLaws.{HasDroppedItem, DeleteFolderMakes}
+use Rattle.hfs_changes.proofs.SettingLaws.{ChoiceStands}
 use Rattle.hfs_queries.proofs.FolderLemmas.{found_with}
 use Rattle.hfs_call_patches.specs.CatalogPatch.{HasCatalog}
 use Rattle.hfs_call_patches.specs.Deleting.{IsParent, ItemDropped, MakesFolderDeletion}

@@ -25,10 +25,11 @@ use Rattle.hfs_check.specs.Parts.{Blocks, catalog_nodes, catalog_in}
 use Rattle.hfs_check.specs.Sound.{AreBlocksSound}
 use Rattle.hfs_check.specs.VolumeOf.{volume_in}
 use Rattle.hfs_changes.specs.Changes.{IsFolderWith, folder_with}
-use Rattle.hfs_changes.specs.BoundLaws.{RemovalFits}
-use Rattle.hfs_changes.specs.PlaceLaws.{DeleteLeavesFolder}
-use Rattle.hfs_changes.specs.RemovalLaws.{HasDroppedItem}
-use Rattle.hfs_changes.specs.SettingLaws.{IsChoice, ChoiceStands}
+use Rattle.hfs_changes.proofs.BoundLaws.{RemovalFits}
+use Rattle.hfs_changes.proofs.PlaceLaws.{DeleteLeavesFolder}
+use Rattle.hfs_changes.proofs.RemovalLaws.{HasDroppedItem}
+use Rattle.hfs_changes.specs.SettingLaws.{IsChoice}
+use Rattle.hfs_changes.proofs.SettingLaws.{ChoiceStands}
 use Rattle.hfs_queries.proofs.FolderLemmas.{found_with}
 use Rattle.hfs_call_patches.specs.CatalogPatch.{KeepsNamed}
 use Rattle.hfs_call_patches.specs.Deleting.{IsParent, StaysFolder, ItemDropped}

@@ -13,7 +13,7 @@ use Rattle.hfs_catalog.specs.Records.{Record}
 use Rattle.hfs_check.specs.Parts.{Blocks, mdb_in, catalog_in}
 use Rattle.hfs_check.specs.Sound.{AreBlocksSound}
 use Rattle.hfs_changes.specs.OnBlocks.{at_time, HasTree}
-use Rattle.hfs_changes.specs.SettingLaws.{HasSetBody, HasSetFile, HasSetFolder, with_info, with_told, with_told_folder, with_lock_bit, SetFInfoMakes, SetFileInfoMakes, SetFolderInfoMakes, SetLockMakes}
+use Rattle.hfs_changes.proofs.SettingLaws.{HasSetBody, HasSetFile, HasSetFolder, with_info, with_told, with_told_folder, with_lock_bit, SetFInfoMakes, SetFileInfoMakes, SetFolderInfoMakes, SetLockMakes}
 use Rattle.hfs_call_patches.specs.declared.settings.ItemSettings.{ItemSettings}
 use Rattle.hfs_call_patches.specs.Settings.{HasSetRecord, MakesSetFInfo, MakesSetFileInfo, MakesSetFolderInfo, MakesSetLock}
 

@@ -14,14 +14,16 @@ use Rattle.hfs_catalog.specs.Sound.{IsIndexKeyName}
 use Rattle.hfs_catalog.specs.Tree.{catalog_of}
 use Rattle.hfs_catalog_edits.specs.ItemEdits as edits
 use Rattle.hfs_catalog_edits.proofs.KeepLemmas.{keeps_then}
-use Rattle.hfs_check.specs.Laws.{CatalogIsSound}
+use Rattle.hfs_check.proofs.LawTypes.{CatalogIsSound}
 use Rattle.hfs_check.specs.Parts.{Blocks, mdb_in, catalog_nodes, catalog_in}
 use Rattle.hfs_check.specs.Sound.{AreBlocksSound}
-use Rattle.hfs_changes.specs.Changes.{led_to}
+use Rattle.hfs_changes.proofs.ChangesLaws.{led_to}
 use Rattle.hfs_changes.specs.Laws.{MakesStep}
-use Rattle.hfs_changes.specs.MoveLaws.{CatMoveMakes, HasMovedItem, under_folder, with_moved}
+use Rattle.hfs_changes.specs.MoveLaws.{under_folder, with_moved}
+use Rattle.hfs_changes.proofs.MoveLaws.{CatMoveMakes, HasMovedItem}
 use Rattle.hfs_changes.specs.OnBlocks.{HasTree}
-use Rattle.hfs_changes.specs.PlaceLaws.{BothStand, MoveLeavesFolders}
+use Rattle.hfs_changes.specs.PlaceLaws.{BothStand}
+use Rattle.hfs_changes.proofs.PlaceLaws.{MoveLeavesFolders}
 use Rattle.hfs_queries.proofs.FolderLemmas.{found_with}
 use Rattle.hfs_call_patches.specs.CatalogPatch.{HasCatalog, KeepsNamed}
 use Rattle.hfs_call_patches.specs.declared.valences.FolderPlace.{FolderPlace}

@@ -17,7 +17,7 @@ use Rattle.hfs_catalog_edits.specs.ItemEdits.{Rekeyed, with_key}
 use Rattle.hfs_catalog_edits.specs.ItemEdits as edits
 use Rattle.hfs_catalog_edits.specs.Swaps.{Swaps}
 use Rattle.hfs_check.specs.Parts.{Blocks, catalog_nodes, catalog_in}
-use Rattle.hfs_changes.specs.Changes.{led_to, IsLedValue, ItemRekeyed}
+use Rattle.hfs_changes.proofs.ChangesLaws.{led_to, IsLedValue, ItemRekeyed}
 use Rattle.hfs_call_patches.specs.CatalogPatch.{KeepsNamed}
 use Rattle.hfs_call_patches.specs.declared.rekeying.Rekeying.{Rekeying}
 use Rattle.hfs_queries.proofs.FolderLemmas.{found_with}

@@ -9,7 +9,6 @@ ghost use Rattle.hfs_call_patches.specs.CatalogPatch.{LiesOver, AreCatalogNodes,
 use crate::counts::put_counts;
 use hfs_blocks::{Blocks, Patch, Run};
 use hfs_btree_edits::PatchNodes;
-use hfs_changes::catalog_file_stays;
 use hfs_fields::Mdb;
 use std::alloc::{AllocError, Global};
 
@@ -50,7 +49,6 @@ pub(crate) fn close_catalog<B: Blocks>(
         nodes.entry.runs.now nodes.entry.patch) }
     ensures within { IfOk result (λ patch. AreWithin (changes patch) (B.total below.now)) }
 {
-    catalog_file_stays();
     let mut patch = nodes.patch;
     put_counts(below, &mut patch, counts)?;
     Ok(patch)

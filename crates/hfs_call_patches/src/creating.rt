@@ -11,10 +11,6 @@ use crate::change::Change;
 use crate::new_counts::{with_file, with_folder};
 use crate::new_items::{NewPlace, put_file, put_folder};
 use hfs_blocks::{Blocks, Run};
-use hfs_changes::{
-    catalog_edits_are_steps, create_makes, creation_fits, creation_is_free, dir_create_makes,
-};
-use hfs_check::trees_are_sound;
 use hfs_fields::Mdb;
 use hfs_model::Value;
 use std::alloc::{AllocError, Global};
@@ -34,11 +30,6 @@ pub fn add_new_file<B: Blocks>(
     ensures { Makes result (IsChangeOf (call.Create dir place.now.name now))
         B.total B.blocks below.now }
 {
-    trees_are_sound();
-    creation_fits();
-    creation_is_free();
-    create_makes();
-    catalog_edits_are_steps();
     let counts = with_file(mdb, dir, now);
     let mut nodes = open_catalog(alloc, below, runs);
     put_file(alloc, &mut nodes, dir, place, mdb.next_id, now)?;
@@ -65,11 +56,6 @@ pub fn add_new_folder<B: Blocks>(
     ensures { Makes result (IsChangeOf (call.DirCreate dir place.now.name now))
         B.total B.blocks below.now }
 {
-    trees_are_sound();
-    creation_fits();
-    creation_is_free();
-    dir_create_makes();
-    catalog_edits_are_steps();
     let counts = with_folder(mdb, dir, now);
     let mut nodes = open_catalog(alloc, below, runs);
     put_folder(alloc, &mut nodes, dir, place, mdb.next_id, now)?;

@@ -18,11 +18,6 @@ use crate::dropping::drop_from_folder;
 use hfs_blocks::{Blocks, Patch, Run};
 use hfs_btree::RunNodes;
 use hfs_btree_edits::PatchNodes;
-use hfs_changes::{
-    choice_stands, delete_file_makes, deletion_leaves_file, deletions_are_steps, dropped_leaves,
-    folders_stand, fork_blocks_are_alone, fork_extents_are_within, removal_fits,
-};
-use hfs_check::trees_are_sound;
 use hfs_fields::{CatKey, Extent, FileRecord, Mdb};
 use hfs_space::Bitmap;
 use hfs_space_edits::{drop_overflow, file_extents, release_extents};
@@ -98,7 +93,6 @@ fn drop_records<B: Blocks>(
     ensures beside { IfOk result (ShowsSameBeside runs.now (B.blocks below.now) patch) }
     ensures within { IfOk result (λ new. AreWithin (changes new) (B.total below.now)) }
 {
-    trees_are_sound();
     let mut nodes = PatchNodes { below, runs, patch };
     drop_overflow(alloc, &mut nodes, file)?;
     Ok(nodes.patch)
@@ -128,7 +122,6 @@ fn drop_item_over<B: Blocks>(
     ensures beside { IfOk result (ShowsSameBeside runs.now (B.blocks below.now) patch) }
     ensures within { IfOk result (λ new. AreWithin (changes new) (B.total below.now)) }
 {
-    trees_are_sound();
     let mut nodes = PatchNodes { below, runs, patch };
     drop_from_folder(alloc, &mut nodes, key, id, folder, valence, now)?;
     Ok(nodes.patch)
@@ -158,16 +151,6 @@ pub fn patch_delete_file<B: Blocks>(
     ensures makes { Makes result (DeletesFile dir key.now file.now now) B.total B.blocks below.now }
     ensures within { IfOk result (λ made. AreWithin (changes made.0) (B.total below.now)) }
 {
-    trees_are_sound();
-    choice_stands();
-    folders_stand();
-    removal_fits();
-    fork_blocks_are_alone();
-    fork_extents_are_within();
-    dropped_leaves();
-    deletion_leaves_file();
-    delete_file_makes();
-    deletions_are_steps();
     let nodes = RunNodes {
         blocks: below,
         runs: extents,

@@ -12,8 +12,6 @@ ghost use Rattle.hfs_call_patches.specs.Patches.{GivesFolderDeletion};
 use crate::catalog_patch::{close_catalog, open_catalog};
 use crate::dropping::drop_from_folder;
 use hfs_blocks::{Blocks, Patch, Run};
-use hfs_changes::{choice_stands, delete_folder_makes, folders_stand, removal_fits};
-use hfs_check::trees_are_sound;
 use hfs_fields::{CatKey, DirRecord, Mdb};
 use std::alloc::{AllocError, Global};
 
@@ -52,11 +50,6 @@ pub fn patch_delete_folder<B: Blocks>(
     ensures makes { GivesFolderDeletion result dir key.now folder.now now (B.blocks below.now) }
     ensures within { IfOk result (λ patch. AreWithin (changes patch) (B.total below.now)) }
 {
-    trees_are_sound();
-    choice_stands();
-    folders_stand();
-    removal_fits();
-    delete_folder_makes();
     let mut nodes = open_catalog(alloc, below, runs);
     drop_from_folder(alloc, &mut nodes, key, folder.id, parent, valence - 1, now)?;
     close_catalog(below, runs, nodes, &without_folder(mdb, dir, now))

@@ -16,8 +16,6 @@ use crate::catalog_patch::{close_catalog, open_catalog};
 use crate::file_threads::{add_file_thread, drop_file_thread};
 use crate::settings::at_time;
 use hfs_blocks::{Blocks, Patch, Run};
-use hfs_changes::{choice_stands, create_file_id_makes, delete_file_id_makes};
-use hfs_check::trees_are_sound;
 use hfs_fields::{CatKey, FileRecord, Mdb};
 use std::alloc::{AllocError, Global};
 
@@ -41,9 +39,6 @@ pub fn patch_create_file_id<B: Blocks>(
     ensures makes { CreatesFileId result key.now file.now now (B.blocks below.now) }
     ensures within { IfOk result (λ patch. AreWithin (changes patch) (B.total below.now)) }
 {
-    trees_are_sound();
-    choice_stands();
-    create_file_id_makes();
     let mut nodes = open_catalog(alloc, below, runs);
     add_file_thread(alloc, &mut nodes, key, file)?;
     close_catalog(below, runs, nodes, &at_time(mdb, now))
@@ -66,9 +61,6 @@ pub fn patch_delete_file_id<B: Blocks>(
     ensures makes { DeletesFileId result key.now file.now now (B.blocks below.now) }
     ensures within { IfOk result (λ patch. AreWithin (changes patch) (B.total below.now)) }
 {
-    trees_are_sound();
-    choice_stands();
-    delete_file_id_makes();
     let mut nodes = open_catalog(alloc, below, runs);
     drop_file_thread(alloc, &mut nodes, key, file)?;
     close_catalog(below, runs, nodes, &at_time(mdb, now))

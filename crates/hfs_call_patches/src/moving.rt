@@ -13,8 +13,6 @@ use crate::catalog_patch::close_catalog;
 use crate::rekeying::{Rekeying, open_rekeyed};
 use crate::valences::{FolderPlace, set_valences};
 use hfs_blocks::{Blocks, Patch, Run};
-use hfs_changes::{cat_move_makes, folders_stand};
-use hfs_check::catalog_is_sound;
 use hfs_fields::Mdb;
 use std::alloc::{AllocError, Global};
 
@@ -67,9 +65,6 @@ pub fn patch_move<B: Blocks>(
     ensures makes { IfOk result (Patches (B.blocks below.now) (MakesMove moving.now now)) }
     ensures within { IfOk result (λ patch. AreWithin (changes patch) (B.total below.now)) }
 {
-    catalog_is_sound();
-    folders_stand();
-    cat_move_makes();
     let counts = counts_moved(mdb, moving, now);
     let mut nodes = open_rekeyed(alloc, below, runs, &moving.item)?;
     set_valences(alloc, &mut nodes, &moving.left, &moving.entered, now)?;

@@ -13,7 +13,6 @@ use crate::catalog_patch::{close_catalog, open_catalog};
 use hfs_blocks::{Blocks, Patch, Run};
 use hfs_catalog::ItemRecord;
 use hfs_catalog_edits::set_record;
-use hfs_check::trees_are_sound;
 use hfs_fields::{CatKey, Mdb};
 use std::alloc::{AllocError, Global};
 
@@ -34,7 +33,6 @@ pub(crate) fn patch_record<B: Blocks>(
     ensures set { GivesPatch result (B.blocks below.now) (HasSetItem key.now item.now counts.now) }
     ensures within { IfOk result (λ patch. AreWithin (changes patch) (B.total below.now)) }
 {
-    trees_are_sound();
     let mut nodes = open_catalog(alloc, below, runs);
     set_record(alloc, &mut nodes, key, item)?;
     close_catalog(below, runs, nodes, counts)

@@ -13,8 +13,6 @@ use crate::catalog_patch::close_catalog;
 use crate::rekeying::{Rekeying, open_rekeyed};
 use crate::settings::at_time;
 use hfs_blocks::{Blocks, Patch, Run};
-use hfs_changes::rename_makes;
-use hfs_check::catalog_is_sound;
 use hfs_fields::Mdb;
 use std::alloc::{AllocError, Global};
 
@@ -35,8 +33,6 @@ pub fn patch_rename<B: Blocks>(
     ensures makes { IfOk result (Patches (B.blocks below.now) (MakesRename item.now now)) }
     ensures within { IfOk result (λ patch. AreWithin (changes patch) (B.total below.now)) }
 {
-    catalog_is_sound();
-    rename_makes();
     let nodes = open_rekeyed(alloc, below, runs, item)?;
     close_catalog(below, runs, nodes, &at_time(mdb, now))
 }

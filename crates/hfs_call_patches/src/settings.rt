@@ -13,7 +13,6 @@ ghost use Rattle.hfs_call_patches.specs.SettingPatches.{SetsFInfo, SetsFileInfo,
 use crate::recorded::patch_record;
 use hfs_blocks::{Blocks, Patch, Run};
 use hfs_catalog::ItemRecord;
-use hfs_changes::{choice_stands, set_cat_info_makes, set_f_info_makes, set_lock_makes};
 use hfs_fields::{CatKey, DirRecord, FileRecord, Mdb};
 use std::alloc::{AllocError, Global};
 
@@ -66,8 +65,6 @@ pub fn patch_set_f_info<B: Blocks>(
     ensures makes { SetsFInfo result key.now file.now info.now now (B.blocks below.now) }
     ensures within { IfOk result (λ patch. AreWithin (changes patch) (B.total below.now)) }
 {
-    choice_stands();
-    set_f_info_makes();
     let changed = FileRecord {
         finder_info: *info,
         ..*file
@@ -101,8 +98,6 @@ pub fn patch_set_file_info<B: Blocks>(
     ensures makes { SetsFileInfo result key.now file.now settings.now now (B.blocks below.now) }
     ensures within { IfOk result (λ patch. AreWithin (changes patch) (B.total below.now)) }
 {
-    choice_stands();
-    set_cat_info_makes();
     let (finder_info, extended_finder_info) = halves(&settings.info);
     let changed = FileRecord {
         created: settings.created,
@@ -141,8 +136,6 @@ pub fn patch_set_folder_info<B: Blocks>(
     ensures makes { SetsFolderInfo result key.now folder.now settings.now now (B.blocks below.now) }
     ensures within { IfOk result (λ patch. AreWithin (changes patch) (B.total below.now)) }
 {
-    choice_stands();
-    set_cat_info_makes();
     let (finder_info, extended_finder_info) = halves(&settings.info);
     let changed = DirRecord {
         created: settings.created,
@@ -180,8 +173,6 @@ pub fn patch_set_lock<B: Blocks>(
     ensures makes { SetsLock result locked key.now file.now now (B.blocks below.now) }
     ensures within { IfOk result (λ patch. AreWithin (changes patch) (B.total below.now)) }
 {
-    choice_stands();
-    set_lock_makes();
     let changed = FileRecord {
         flags: file.flags.with_lock(locked),
         ..*file

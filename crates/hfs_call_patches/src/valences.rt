@@ -7,7 +7,6 @@ ghost use Rattle.hfs_btree_edits.specs.Edits.{Edits};
 
 use hfs_btree_edits::NodesMut;
 use hfs_catalog_edits::set_valence;
-use hfs_changes::folders_stand;
 use hfs_fields::CatKey;
 use std::alloc::{AllocError, Global};
 
@@ -33,7 +32,6 @@ pub(crate) fn set_valences<N: NodesMut>(
     ensures set { Edits result (ValencesSet left.now entered.now now) N.nodes nodes.old nodes.new }
     ensures kept { OnOk result (N.kept nodes.new ≡ N.kept nodes.old) }
 {
-    folders_stand();
     set_valence(alloc, nodes, &left.key, left.valence - 1, now)?;
     set_valence(alloc, nodes, &entered.key, entered.valence + 1, now)?;
     Ok(())

@@ -5,3 +5,6 @@ pub mod Found
 pub mod Steps
 pub mod Queries
 pub mod DistinctLemmas
+pub mod LawsProved
+pub mod ItemsLaws
+pub mod LawTypes

@@ -20,7 +20,8 @@ use Rattle.hfs_model.specs.Lawful.{Has}
 use Rattle.hfs_model.specs.Laws.{AreChildren, ChildrenAreOne}
 use Rattle.hfs_catalog.specs.Records.{Record, Catalog, has_id, item_with, is_child_of}
 use Rattle.hfs_catalog.specs.Sound.{IsSoundCatalog}
-use Rattle.hfs_catalog.specs.Items.{Contents, item_of, entry_of, items_in, children_in}
+use Rattle.hfs_catalog.specs.Items.{Contents, item_of, entry_of, items_in}
+use Rattle.hfs_catalog.proofs.ItemsLaws.{children_in}
 use Rattle.hfs_scans.proofs.ScanLemmas.{Later}
 use Rattle.hfs_catalog.proofs.DistinctLemmas.{Differs, later_from_distinct}
 use Rattle.hfs_scans.specs.Members.{In}

@@ -1,5 +1,5 @@
 -- The items that a catalog holds.
-use Rattle.std.specs.Prelude.{ℕ, false, Bool, if◌then◌else◌, List, ◌∷◌, ◌++◌, map, filter, drop, replicate}
+use Rattle.std.specs.Prelude.{ℕ, false, Bool, if◌then◌else◌, List, ◌∷◌, ◌++◌, map, drop, replicate}
 use Rattle.std.specs.FinMap as finite
 use Rattle.hfs_fields.specs.declared.key.CatKey.{CatKey}
 use Rattle.hfs_fields.specs.declared.dir_record.DirRecord.{DirRecord}
@@ -10,7 +10,7 @@ use Rattle.hfs_fields.specs.RecordForms.{dir_record_bytes, file_record_bytes}
 use Rattle.hfs_model.specs.declared.item.Item.{Item}
 use Rattle.hfs_model.specs.declared.item.Kind.TheVariants as kind
 use Rattle.hfs_model.specs.Volume.{Items, Entry}
-use Rattle.hfs_catalog.specs.Records.{Record, Catalog, items_of, has_thread, is_child_of}
+use Rattle.hfs_catalog.specs.Records.{Record, Catalog, items_of, has_thread}
 
 -- the bytes of both forks of a file: of the data fork, and of the resource fork
 abbrev pub Contents : Type 0
@@ -90,7 +90,3 @@ entry_of contents catalog r = (item_id r.1, item_of contents catalog r)
 
 unfoldable pub items_in : Contents → Catalog → Items
 items_in contents catalog = finite.from_entries (map (entry_of contents catalog) (items_of catalog))
-
--- the items under a parent, in the catalog's order
-abbrev pub children_in : Contents → Catalog → ℕ → List Entry
-children_in contents catalog dir = map (entry_of contents catalog) (filter (is_child_of dir) catalog)

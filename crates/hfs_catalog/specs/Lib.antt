@@ -4,4 +4,3 @@ pub mod Sound
 pub mod Items
 pub mod Tree
 pub mod Lookups
-pub mod Laws

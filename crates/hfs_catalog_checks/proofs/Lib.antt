@@ -11,3 +11,5 @@ pub mod ParentSteps
 pub mod PlaceSteps
 pub mod Ordered
 mod IndexeLemmas
+pub mod LawsProved
+pub mod LawTypes

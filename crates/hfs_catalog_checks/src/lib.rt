@@ -19,10 +19,7 @@ pub use checks::{
 };
 pub use id_check::id_fault;
 pub use index::IndexedCatalog;
-pub use laws::{
-    no_count_fault, no_id_fault, no_name_fault, no_place_fault, no_record_fault, no_valence_fault,
-    reaches_soon,
-};
+pub use laws::reaches_soon;
 pub use numbers::Numbers;
 pub use place_check::place_fault;
 pub use valence_check::{child_counts, valence_fault};

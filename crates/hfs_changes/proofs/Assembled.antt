@@ -12,7 +12,7 @@ use Rattle.hfs_space.specs.Bitmap.{bitmap_len, is_used}
 use Rattle.hfs_space.specs.Extents.{Overflow}
 use Rattle.hfs_space.specs.Owners.{owned_blocks, owners, is_stray_block}
 use Rattle.hfs_space.specs.Sound.{IsTreeFile, AreForksSound, IsSpaceSound}
-use Rattle.hfs_space.specs.Laws.{AreBlocksWithin, OwnedAreWithin}
+use Rattle.hfs_space.proofs.LawTypes.{AreBlocksWithin, OwnedAreWithin}
 use Rattle.hfs_space.specs.TreeKeys.{ext_keys}
 use Rattle.hfs_catalog.specs.Sound.{AreIdsSound, AreCountsSound}
 use Rattle.hfs_check.specs.Parts.{Blocks, mdb_in, extents_nodes, overflow_in, catalog_extents, catalog_nodes, catalog_in, owned_in, is_marked_in}

@@ -25,7 +25,7 @@ use Rattle.hfs_catalog.specs.Records.{Record}
 use Rattle.hfs_check.specs.Parts.{Blocks, mdb_in, extents_nodes, overflow_in, catalog_extents, catalog_in, owned_in}
 use Rattle.hfs_check.specs.Sound.{AreBlocksSound}
 use Rattle.hfs_check.specs.VolumeOf.{bytes_in, contents_in}
-use Rattle.hfs_changes.specs.Changes.{KeepsContents}
+use Rattle.hfs_changes.proofs.ChangesLaws.{KeepsContents}
 use Rattle.hfs_changes.specs.OnBlocks.{EditsCatalog}
 use Rattle.hfs_catalog.proofs.Held.{with_id}
 use Rattle.hfs_changes.proofs.Space.{extents_parts, record_has, owners_sum, owned_distinct}

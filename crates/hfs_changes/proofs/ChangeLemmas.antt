@@ -3,7 +3,7 @@ use Rattle.std.specs.Prelude.{◌≡◌, ℕ, true, Some}
 use Rattle.hfs_fields.specs.Records.{is_dir, dir_record_of}
 use Rattle.hfs_catalog.specs.Records.{Record, Catalog, item_with}
 use Rattle.hfs_catalog_edits.specs.Swaps.{Swaps}
-use Rattle.hfs_changes.specs.Changes.{IsAlike}
+use Rattle.hfs_changes.proofs.ChangesLaws.{IsAlike}
 
 -- the item's record was put in place of the one that it had, and a folder has its valence as it was
 pub record HasSet (i : ℕ) (r s : Record) (old new : Catalog) : Type 0 where

@@ -12,16 +12,16 @@ use Rattle.hfs_model.specs.Children.{valence, entries_of}
 use Rattle.hfs_model.specs.Choices.{is_full, to_create, to_move}
 use Rattle.hfs_catalog.specs.Records.{Record, Catalog, item_with, is_child_of, valence_of}
 use Rattle.hfs_catalog.specs.Sound.{IsRoot, IsGiven, is_file_in, is_folder_in, counts_of, IsSoundCatalog}
-use Rattle.hfs_catalog.specs.Laws.{ValencesAreCounted}
+use Rattle.hfs_catalog.proofs.LawTypes.{ValencesAreCounted}
 use Rattle.hfs_check.specs.Parts.{Blocks, mdb_in, catalog_nodes, catalog_in}
 use Rattle.hfs_check.specs.Sound.{AreBlocksSound}
-use Rattle.hfs_check.specs.Laws.{CatalogIsSound}
+use Rattle.hfs_check.proofs.LawTypes.{CatalogIsSound}
 use Rattle.hfs_check.specs.VolumeOf.{contents_in, volume_in}
 use Rattle.hfs_catalog_edits.specs.Swaps.{one_if}
 use Rattle.hfs_changes.specs.Changes.{IsFolderWith}
 use Rattle.hfs_changes.proofs.OnceLemmas.{counted}
 use Rattle.hfs_changes.specs.SettingLaws.{IsChoice}
-use Rattle.hfs_changes.specs.BoundLaws.{HasRoomForOne, CreationFits, CountsItem, RemovalFits, CountsMove, MoveFits}
+use Rattle.hfs_changes.proofs.BoundLaws.{HasRoomForOne, CreationFits, CountsItem, RemovalFits, CountsMove, MoveFits}
 use Rattle.hfs_catalog.proofs.Held.{with_id}
 use Rattle.hfs_changes.proofs.Items.{item_parent}
 use Rattle.hfs_changes.proofs.Linked.{sound_counted}

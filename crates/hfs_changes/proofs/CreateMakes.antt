@@ -22,14 +22,16 @@ use Rattle.hfs_catalog.specs.Records.{Record, has_thread}
 use Rattle.hfs_catalog.specs.Lookups.{thread_of}
 use Rattle.hfs_catalog.specs.Sound.{is_file_in, is_folder_in, counts_of, AreCountsSound, IsSoundCatalog}
 use Rattle.hfs_catalog.specs.Items.{file_of, item_of, items_in}
-use Rattle.hfs_catalog.specs.Laws.{ItemsAreRecords, ValencesAreCounted}
+use Rattle.hfs_catalog.proofs.LawTypes.{ItemsAreRecords, ValencesAreCounted}
 use Rattle.hfs_check.specs.Parts.{Blocks, mdb_in, overflow_in, catalog_in, owned_in}
 use Rattle.hfs_check.specs.Sound.{AreBlocksSound}
-use Rattle.hfs_check.specs.Laws.{CatalogIsSound}
+use Rattle.hfs_check.proofs.LawTypes.{CatalogIsSound}
 use Rattle.hfs_check.specs.VolumeOf.{bytes_in, contents_in, volume_in}
 use Rattle.hfs_catalog_edits.specs.Swaps.{one_if}
-use Rattle.hfs_changes.specs.Changes.{HasAdded, with_children}
-use Rattle.hfs_changes.specs.CreationLaws.{with_file, file_record_in, CreateMakes}
+use Rattle.hfs_changes.specs.Changes.{with_children}
+use Rattle.hfs_changes.proofs.ChangesLaws.{HasAdded}
+use Rattle.hfs_changes.specs.CreationLaws.{with_file, file_record_in}
+use Rattle.hfs_changes.proofs.CreationLaws.{CreateMakes}
 use Rattle.hfs_changes.specs.Laws.{MakesStep}
 use Rattle.hfs_changes.proofs.Chosen.{may_create}
 use Rattle.hfs_changes.proofs.CountBounds.{short_by}

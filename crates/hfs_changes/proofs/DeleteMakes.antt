@@ -20,18 +20,20 @@ use Rattle.hfs_catalog.specs.Records.{Record}
 use Rattle.hfs_catalog.specs.Lookups.{thread_of}
 use Rattle.hfs_catalog.specs.Sound.{is_file_in, is_folder_in, counts_of, AreCountsSound}
 use Rattle.hfs_catalog.specs.Items.{items_in}
-use Rattle.hfs_catalog.specs.Laws.{ItemsAreRecords}
+use Rattle.hfs_catalog.proofs.LawTypes.{ItemsAreRecords}
 use Rattle.hfs_check.specs.Parts.{Blocks, mdb_in, overflow_in, catalog_in, owned_in}
 use Rattle.hfs_check.specs.Sound.{AreBlocksSound}
-use Rattle.hfs_check.specs.Laws.{CatalogIsSound}
+use Rattle.hfs_check.proofs.LawTypes.{CatalogIsSound}
 use Rattle.hfs_check.specs.VolumeOf.{contents_in, volume_in}
 use Rattle.hfs_catalog_edits.specs.Swaps.{one_if}
 use Rattle.hfs_catalog_edits.proofs.SwapLemmas.{swapped_each}
-use Rattle.hfs_changes.specs.Changes.{KeepsOthers, folder_with}
+use Rattle.hfs_changes.specs.Changes.{folder_with}
+use Rattle.hfs_changes.proofs.ChangesLaws.{KeepsOthers}
 use Rattle.hfs_changes.specs.OnBlocks.{HasTree}
 use Rattle.hfs_changes.specs.Laws.{MakesStep}
 use Rattle.hfs_changes.specs.SettingLaws.{IsChoice}
-use Rattle.hfs_changes.specs.RemovalLaws.{HasDroppedItem, HoldsStep, without_folder, without_file, DeleteFolderMakes, DeleteFileHolds, DeleteLeavesFiles}
+use Rattle.hfs_changes.specs.RemovalLaws.{without_folder}
+use Rattle.hfs_changes.proofs.RemovalLaws.{HasDroppedItem, HoldsStep, without_file, DeleteFolderMakes, DeleteFileHolds, DeleteLeavesFiles}
 use Rattle.hfs_changes.proofs.Dropped.{near, dropped_items}
 use Rattle.hfs_changes.proofs.Removal.{sound, under, dropped, fewer, leaves_files}
 use Rattle.hfs_changes.proofs.Space.{record_has, forks_have}

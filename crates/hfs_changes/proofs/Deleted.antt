@@ -13,12 +13,12 @@ use Rattle.hfs_space.specs.Bitmap.{bitmap_len, is_used, clear_count}
 use Rattle.hfs_space.specs.Extents.{Overflow}
 use Rattle.hfs_space.specs.Owners.{owned_blocks, owners}
 use Rattle.hfs_space.specs.Sound.{IsTreeFile, AreForksSound, IsSpaceSound}
-use Rattle.hfs_space.specs.Laws.{AreBlocksWithin, OwnedAreWithin}
+use Rattle.hfs_space.proofs.LawTypes.{AreBlocksWithin, OwnedAreWithin}
 use Rattle.hfs_space.specs.TreeKeys.{ext_keys}
 use Rattle.hfs_space_edits.specs.Overflows.{without_file}
 use Rattle.hfs_catalog.specs.Records.{Record, Catalog, item_with}
 use Rattle.hfs_catalog.specs.Items.{Contents, item_of, items_in}
-use Rattle.hfs_catalog.specs.Laws.{ItemsAreRecords, SoundIsLawful}
+use Rattle.hfs_catalog.proofs.LawTypes.{ItemsAreRecords, SoundIsLawful}
 use Rattle.hfs_catalog.specs.Sound.{AreIdsSound, AreCountsSound, IsSoundCatalog}
 use Rattle.hfs_model.specs.declared.call.Call.{Call}
 use Rattle.hfs_model.specs.Volume.{Volume, Items}
@@ -27,10 +27,10 @@ use Rattle.hfs_model.specs.Laws.{StepKeepsLawful}
 use Rattle.hfs_model.specs.Step.{step}
 use Rattle.hfs_check.specs.Parts.{Blocks, mdb_in, extents_nodes, overflow_in, catalog_extents, catalog_nodes, catalog_in, owned_in, is_marked_in}
 use Rattle.hfs_check.specs.Sound.{IsMdbSound, IsForkKey, IsExtentsSound, IsCatalogFileSound, AreBlocksSound}
-use Rattle.hfs_check.specs.Laws.{CatalogIsSound}
+use Rattle.hfs_check.proofs.LawTypes.{CatalogIsSound}
 use Rattle.hfs_check.specs.VolumeOf.{contents_in, volume_in}
 use Rattle.hfs_check.specs.Agree.{KeepsVolume}
-use Rattle.hfs_changes.specs.Changes.{KeepsContents}
+use Rattle.hfs_changes.proofs.ChangesLaws.{KeepsContents}
 use Rattle.hfs_changes.specs.Deletion.{MakesDeletion, DeletionsAreSteps}
 use Rattle.hfs_changes.specs.Laws.{IsStepped}
 use Rattle.hfs_changes.proofs.FromLawful.{sound}

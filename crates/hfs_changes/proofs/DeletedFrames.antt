@@ -23,7 +23,7 @@ use Rattle.hfs_check.specs.Parts.{Blocks, mdb_in, extents_nodes, overflow_in, ca
 use Rattle.hfs_check.specs.Sound.{AreBlocksSound}
 use Rattle.hfs_check.specs.VolumeOf.{bytes_in, contents_in}
 use Rattle.hfs_check.specs.Agree.{bitmap_blocks, node_blocks, changing_blocks}
-use Rattle.hfs_changes.specs.Changes.{KeepsContents}
+use Rattle.hfs_changes.proofs.ChangesLaws.{KeepsContents}
 use Rattle.hfs_changes.specs.Deletion.{EditsVolume, AreOtherFiles}
 use Rattle.hfs_catalog.proofs.Held.{with_id}
 use Rattle.hfs_changes.proofs.Space.{extents_parts, record_has, owners_sum, owned_distinct}

@@ -27,14 +27,15 @@ use Rattle.hfs_catalog.specs.Records.{Record, Catalog, has_id, item_with}
 use Rattle.hfs_catalog.specs.Lookups.{thread_of}
 use Rattle.hfs_catalog.specs.Sound.{IsRoot, IsGiven, is_file_in, is_folder_in, counts_of, AreCountsSound, IsSoundCatalog}
 use Rattle.hfs_catalog.specs.Items.{items_in}
-use Rattle.hfs_catalog.specs.Laws.{ItemsAreRecords}
+use Rattle.hfs_catalog.proofs.LawTypes.{ItemsAreRecords}
 use Rattle.hfs_check.specs.Parts.{Blocks, mdb_in, overflow_in, catalog_in, owned_in}
 use Rattle.hfs_check.specs.Sound.{AreBlocksSound}
-use Rattle.hfs_check.specs.Laws.{CatalogIsSound}
+use Rattle.hfs_check.proofs.LawTypes.{CatalogIsSound}
 use Rattle.hfs_check.specs.VolumeOf.{contents_in, volume_in}
 use Rattle.hfs_catalog_edits.specs.Swaps.{Swaps, one_if, list_of}
 use Rattle.hfs_catalog_edits.proofs.SwapLemmas.{passes, number_of}
-use Rattle.hfs_changes.specs.Deletion.{AreOtherFiles, fork_blocks, without_one_file, HasDeletedFile, MakesDeletion, DeleteFileMakes, ForkBlocksAreAlone, ForkExtentsAreWithin}
+use Rattle.hfs_changes.specs.Deletion.{AreOtherFiles, without_one_file, MakesDeletion}
+use Rattle.hfs_changes.proofs.DeletionLaws.{fork_blocks, HasDeletedFile, DeleteFileMakes, ForkBlocksAreAlone, ForkExtentsAreWithin}
 use Rattle.hfs_changes.specs.SettingLaws.{IsChoice}
 use Rattle.hfs_changes.proofs.Dropped.{near, items3, dropped_items, dropped_sum, one_fewer_count, not_in_itself}
 use Rattle.hfs_changes.proofs.DroppedForks.{owners_dropped}

@@ -21,15 +21,17 @@ use Rattle.hfs_model.specs.Step.{step}
 use Rattle.hfs_catalog.specs.Records.{Record}
 use Rattle.hfs_catalog.specs.Sound.{is_file_in, is_folder_in, counts_of, AreCountsSound, IsSoundCatalog}
 use Rattle.hfs_catalog.specs.Items.{folder_of, item_of, items_in}
-use Rattle.hfs_catalog.specs.Laws.{ItemsAreRecords, ValencesAreCounted}
+use Rattle.hfs_catalog.proofs.LawTypes.{ItemsAreRecords, ValencesAreCounted}
 use Rattle.hfs_check.specs.Parts.{Blocks, mdb_in, overflow_in, catalog_in, owned_in}
 use Rattle.hfs_check.specs.Sound.{AreBlocksSound}
-use Rattle.hfs_check.specs.Laws.{CatalogIsSound}
+use Rattle.hfs_check.proofs.LawTypes.{CatalogIsSound}
 use Rattle.hfs_check.specs.VolumeOf.{contents_in, volume_in}
 use Rattle.hfs_catalog_edits.specs.Swaps.{one_if}
 use Rattle.hfs_changes.proofs.OnceLemmas.{counted}
-use Rattle.hfs_changes.specs.Changes.{thread_record, HasAdded, with_children}
-use Rattle.hfs_changes.specs.CreationLaws.{with_folder, folder_record_in, DirCreateMakes}
+use Rattle.hfs_changes.specs.Changes.{thread_record, with_children}
+use Rattle.hfs_changes.proofs.ChangesLaws.{HasAdded}
+use Rattle.hfs_changes.specs.CreationLaws.{with_folder, folder_record_in}
+use Rattle.hfs_changes.proofs.CreationLaws.{DirCreateMakes}
 use Rattle.hfs_changes.specs.Laws.{MakesStep}
 use Rattle.hfs_catalog.proofs.Held.{with_id}
 use Rattle.hfs_changes.proofs.Chosen.{may_create}

@@ -19,15 +19,15 @@ use Rattle.hfs_catalog.specs.Parents.{parent_in}
 use Rattle.hfs_catalog.specs.Sound.{IsRecord, IsRoot, IsGiven, HasRightId, HasPlace, AreNamesSound, IsSoundCatalog}
 use Rattle.hfs_catalog.specs.Items.{Contents, folder_of, item_of, items_in}
 use Rattle.hfs_catalog.specs.Lookups.{thread_of}
-use Rattle.hfs_catalog.specs.Laws.{ItemsAreRecords}
+use Rattle.hfs_catalog.proofs.LawTypes.{ItemsAreRecords}
 use Rattle.hfs_catalog_edits.proofs.SwapLemmas.{passes, swapped_count, swapped_each, number_of, swapped_sum}
 use Rattle.hfs_catalog_edits.specs.Swaps.{one_if}
 use Rattle.hfs_changes.proofs.OnceLemmas.{item_or_thread}
 use Rattle.hfs_changes.proofs.StepLemmas.{AreOnce, ItemStep, ThreadStep, with_one, item_once, item_after, item_threads, thread_once, thread_after, thread_items}
-use Rattle.hfs_changes.specs.Steps.{IfThere, IsThreadOf}
+use Rattle.hfs_changes.proofs.StepsLaws.{IfThere, IsThreadOf}
 use Rattle.hfs_changes.proofs.LinkLemmas.{AreLinked, AreCounted}
 use Rattle.hfs_changes.specs.Sound.{IsNearlySound}
-use Rattle.hfs_changes.specs.Changes.{KeepsOthers, HasDropped}
+use Rattle.hfs_changes.proofs.ChangesLaws.{KeepsOthers, HasDropped}
 use Rattle.hfs_catalog.proofs.Held.{with_id}
 use Rattle.hfs_changes.proofs.FromLawful.{sound}
 use Rattle.hfs_changes.proofs.Linked.{with_thread, sound_once, sound_linked, sound_counted, nearly_sound}

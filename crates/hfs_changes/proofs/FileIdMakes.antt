@@ -31,19 +31,21 @@ use Rattle.hfs_catalog.specs.Records.{Record, Catalog, item_with, has_thread}
 use Rattle.hfs_catalog.specs.Lookups.{thread_of}
 use Rattle.hfs_catalog.specs.Sound.{IsRecord, is_file_in, is_folder_in, counts_of, AreCountsSound, IsSoundCatalog}
 use Rattle.hfs_catalog.specs.Items.{file_kept, file_of, item_of, items_in}
-use Rattle.hfs_catalog.specs.Laws.{ItemsAreRecords}
+use Rattle.hfs_catalog.proofs.LawTypes.{ItemsAreRecords}
 use Rattle.hfs_check.specs.Parts.{Blocks, mdb_in, overflow_in, catalog_in, owned_in}
 use Rattle.hfs_check.specs.Sound.{AreBlocksSound}
-use Rattle.hfs_check.specs.Laws.{CatalogIsSound}
+use Rattle.hfs_check.proofs.LawTypes.{CatalogIsSound}
 use Rattle.hfs_check.specs.VolumeOf.{bytes_in, contents_in, volume_in}
 use Rattle.hfs_catalog_edits.specs.Swaps.{Swaps}
 use Rattle.hfs_changes.proofs.OnceLemmas.{item_or_thread}
-use Rattle.hfs_changes.specs.Steps.{IfThere, is_there}
-use Rattle.hfs_changes.specs.Changes.{KeepsContents, thread_record, IsAlike, IsItsThread}
+use Rattle.hfs_changes.proofs.StepsLaws.{IfThere, is_there}
+use Rattle.hfs_changes.specs.Changes.{thread_record}
+use Rattle.hfs_changes.proofs.ChangesLaws.{KeepsContents, IsAlike, IsItsThread}
 use Rattle.hfs_changes.specs.OnBlocks.{at_time, HasTree}
 use Rattle.hfs_changes.specs.Laws.{MakesStep}
-use Rattle.hfs_changes.specs.FileIdLaws.{with_thread_flag, file_with_flag, CreateFileIdMakes, DeleteFileIdMakes}
-use Rattle.hfs_changes.specs.PlaceLaws.{FileIsThreadless}
+use Rattle.hfs_changes.specs.FileIdLaws.{with_thread_flag}
+use Rattle.hfs_changes.proofs.FileIdLaws.{file_with_flag, CreateFileIdMakes, DeleteFileIdMakes}
+use Rattle.hfs_changes.proofs.PlaceLaws.{FileIsThreadless}
 use Rattle.hfs_catalog.proofs.Held.{with_id}
 use Rattle.hfs_changes.proofs.Items.{item_kind}
 use Rattle.hfs_changes.proofs.Maps.{thread_known}

@@ -26,16 +26,16 @@ use Rattle.hfs_catalog.specs.Records.{Record, Catalog, item_with, is_child_of}
 use Rattle.hfs_catalog.specs.Lookups.{is_child_named, child_named}
 use Rattle.hfs_catalog.specs.Sound.{IsRecord, IsRoot, IsGiven, IsSoundCatalog}
 use Rattle.hfs_catalog.specs.Items.{item_of, entry_of}
-use Rattle.hfs_catalog.specs.Laws.{EntriesAreRecords, NamedAreRecords}
+use Rattle.hfs_catalog.proofs.LawTypes.{EntriesAreRecords, NamedAreRecords}
 use Rattle.hfs_check.specs.Parts.{Blocks, mdb_in, catalog_in}
 use Rattle.hfs_check.specs.Sound.{AreBlocksSound}
-use Rattle.hfs_check.specs.Laws.{CatalogIsSound}
+use Rattle.hfs_check.proofs.LawTypes.{CatalogIsSound}
 use Rattle.hfs_check.specs.VolumeOf.{contents_in, volume_in}
 use Rattle.hfs_changes.proofs.OnceLemmas.{counted, none_counted, item_found}
 use Rattle.hfs_changes.specs.Changes.{IsFolderWith}
 use Rattle.hfs_changes.specs.SettingLaws.{IsChoice, with_name}
 use Rattle.hfs_changes.specs.MoveLaws.{under_folder}
-use Rattle.hfs_changes.specs.PlaceLaws.{FolderIdIs, CreationIsFree, NextIsThreadless, MoveIsFree, RenameIsFree}
+use Rattle.hfs_changes.proofs.PlaceLaws.{FolderIdIs, CreationIsFree, NextIsThreadless, MoveIsFree, RenameIsFree}
 use Rattle.hfs_catalog.proofs.Held.{with_id}
 use Rattle.hfs_changes.proofs.Items.{item_parent, item_name}
 use Rattle.hfs_changes.proofs.Linked.{sound_once}

@@ -13,7 +13,7 @@ use Rattle.hfs_catalog.specs.Records.{Record, Catalog, item_with, is_folder_id}
 use Rattle.hfs_catalog.specs.Parents.{parent_in, ReachesRoot}
 use Rattle.hfs_catalog.specs.Sound.{HasRightId, HasPlace, IsSoundCatalog}
 use Rattle.hfs_catalog.specs.Items.{Contents, item_of, items_in}
-use Rattle.hfs_catalog.specs.Laws.{ItemsAreRecords}
+use Rattle.hfs_catalog.proofs.LawTypes.{ItemsAreRecords}
 use Rattle.hfs_changes.proofs.OnceLemmas.{item_found, once_distinct}
 use Rattle.hfs_changes.specs.Sound.{IsNearlySound}
 use Rattle.hfs_changes.proofs.Items.{item_parent, item_kind, has_item, has_record}

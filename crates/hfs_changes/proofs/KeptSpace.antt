@@ -13,12 +13,12 @@ use Rattle.hfs_space.specs.Owners.{Fork, forks_of_file, forks_of, extents_in, ow
 use Rattle.hfs_space.specs.Sound.{IsForkSound, AreForksSound}
 use Rattle.hfs_catalog.specs.Records.{Record, Catalog}
 use Rattle.hfs_catalog.specs.Sound.{IsSoundCatalog}
-use Rattle.hfs_catalog.specs.Laws.{ItemsAreRecords}
+use Rattle.hfs_catalog.proofs.LawTypes.{ItemsAreRecords}
 use Rattle.hfs_catalog_edits.specs.Swaps.{list_of, one_if}
 use Rattle.hfs_catalog_edits.proofs.SwapLemmas.{passes, number_of, swapped_count, swapped_each, swapped_sum}
 use Rattle.hfs_changes.proofs.OnceLemmas.{item_or_thread}
-use Rattle.hfs_changes.specs.Steps.{IfThere}
-use Rattle.hfs_changes.specs.Changes.{IsItsThread, HasAdded}
+use Rattle.hfs_changes.proofs.StepsLaws.{IfThere}
+use Rattle.hfs_changes.proofs.ChangesLaws.{IsItsThread, HasAdded}
 use Rattle.hfs_changes.proofs.ChangeLemmas.{HasSet}
 use Rattle.hfs_catalog.proofs.Held.{with_id}
 use Rattle.hfs_changes.proofs.Space.{record_has}

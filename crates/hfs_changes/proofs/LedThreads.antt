@@ -11,9 +11,10 @@ use Rattle.hfs_fields.specs.RecordForms.{IsThreadRecordValue}
 use Rattle.hfs_catalog.specs.Records.{Record, Catalog, item_with}
 use Rattle.hfs_catalog.specs.Lookups.{thread_of}
 use Rattle.hfs_catalog.specs.Sound.{IsSoundCatalog}
-use Rattle.hfs_changes.specs.Steps.{IfThere, is_there}
-use Rattle.hfs_changes.specs.Changes.{IsItsThread, thread_record, thread_to, led_to, IsLedValue}
-use Rattle.hfs_changes.specs.ItemLaws.{is_folder_kind}
+use Rattle.hfs_changes.proofs.StepsLaws.{IfThere, is_there}
+use Rattle.hfs_changes.specs.Changes.{thread_record}
+use Rattle.hfs_changes.proofs.ChangesLaws.{IsItsThread, thread_to, led_to, IsLedValue}
+use Rattle.hfs_changes.proofs.ItemLaws.{is_folder_kind}
 use Rattle.hfs_changes.proofs.Linked.{with_thread, sound_linked}
 use Rattle.hfs_changes.proofs.MadeThreads.{made_thread}
 

@@ -47,3 +47,18 @@ mod LinkLemmas
 mod OnBlockLemmas
 pub mod OnceLemmas
 mod StepLemmas
+pub mod LawsProved
+pub mod BoundLaws
+pub mod ChangesLaws
+pub mod CreationLaws
+pub mod DeletionLaws
+pub mod DropLaws
+pub mod FileIdLaws
+pub mod ItemLaws
+pub mod LawTypes
+pub mod MoveLaws
+pub mod OffspringLaws
+pub mod PlaceLaws
+pub mod RemovalLaws
+pub mod SettingLaws
+pub mod StepsLaws

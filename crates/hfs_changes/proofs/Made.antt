@@ -15,7 +15,8 @@ use Rattle.hfs_model.specs.Changes.{new_item, with_lock}
 use Rattle.hfs_catalog.specs.Records.{Record, Catalog, has_thread}
 use Rattle.hfs_catalog.specs.Lookups.{thread_of}
 use Rattle.hfs_catalog.specs.Items.{Contents, folder_of, folder_kept, no_finder_info, fork_kept, file_of, file_kept, item_of}
-use Rattle.hfs_changes.specs.Changes.{IsAlike, with_children}
+use Rattle.hfs_changes.specs.Changes.{with_children}
+use Rattle.hfs_changes.proofs.ChangesLaws.{IsAlike}
 use Rattle.hfs_changes.proofs.Maps.{at_moment, thread_known}
 
 -- ---- a file's body

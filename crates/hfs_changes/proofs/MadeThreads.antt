@@ -13,8 +13,8 @@ use Rattle.hfs_fields.specs.Records.{is_dir, is_thread, is_dir_thread, is_file_t
 use Rattle.hfs_fields.specs.RecordForms.{IsThreadRecordValue, thread_type, thread_record_bytes}
 use Rattle.hfs_fields.proofs.RecordFormLemmas.{length-thread_record_bytes, thread_record_of-written, begins_thread-written}
 use Rattle.hfs_catalog.specs.Records.{Record}
-use Rattle.hfs_changes.specs.Changes.{IsItsThread}
-use Rattle.hfs_changes.specs.ItemLaws.{is_folder_kind}
+use Rattle.hfs_changes.proofs.ChangesLaws.{IsItsThread}
+use Rattle.hfs_changes.proofs.ItemLaws.{is_folder_kind}
 
 dir_thread : (kind : ThreadKind) (t : ThreadRecord) → t.kind ≡ kind → IsThreadRecordValue t → is_dir_thread (thread_record_bytes t) ≡ is_folder_kind kind
 unfolding thread_record_bytes

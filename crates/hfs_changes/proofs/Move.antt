@@ -15,16 +15,18 @@ use Rattle.hfs_catalog.specs.Records.{Record, Catalog, item_with}
 use Rattle.hfs_catalog.specs.Lookups.{thread_of}
 use Rattle.hfs_catalog.specs.Sound.{IsRecord, IsSoundCatalog}
 use Rattle.hfs_catalog.specs.Items.{item_of}
-use Rattle.hfs_catalog.specs.Laws.{ItemsAreRecords, ValencesAreCounted}
+use Rattle.hfs_catalog.proofs.LawTypes.{ItemsAreRecords, ValencesAreCounted}
 use Rattle.hfs_check.specs.Parts.{Blocks, mdb_in, catalog_in}
 use Rattle.hfs_check.specs.Sound.{AreBlocksSound}
-use Rattle.hfs_check.specs.Laws.{CatalogIsSound}
+use Rattle.hfs_check.proofs.LawTypes.{CatalogIsSound}
 use Rattle.hfs_check.specs.VolumeOf.{contents_in, volume_in}
 use Rattle.hfs_catalog_edits.proofs.SwapLemmas.{swapped_sum}
 use Rattle.hfs_changes.proofs.OnceLemmas.{item_or_thread}
-use Rattle.hfs_changes.specs.Changes.{led_to, IsFolderWith, HasRekeyed, HasMoved, folder_with}
+use Rattle.hfs_changes.specs.Changes.{IsFolderWith, folder_with}
+use Rattle.hfs_changes.proofs.ChangesLaws.{led_to, HasRekeyed, HasMoved}
 use Rattle.hfs_changes.specs.SettingLaws.{IsChoice}
-use Rattle.hfs_changes.specs.MoveLaws.{under_folder, HasMovedItem}
+use Rattle.hfs_changes.specs.MoveLaws.{under_folder}
+use Rattle.hfs_changes.proofs.MoveLaws.{HasMovedItem}
 use Rattle.hfs_catalog.proofs.Held.{with_id}
 use Rattle.hfs_changes.proofs.Items.{item_parent, item_kind}
 use Rattle.hfs_changes.proofs.Chosen.{MayMove, may_move}

@@ -23,18 +23,20 @@ use Rattle.hfs_catalog.specs.Records.{Record, has_thread}
 use Rattle.hfs_catalog.specs.Lookups.{thread_of}
 use Rattle.hfs_catalog.specs.Sound.{is_file_in, is_folder_in, counts_of, AreCountsSound}
 use Rattle.hfs_catalog.specs.Items.{file_of, folder_of, item_of, items_in}
-use Rattle.hfs_catalog.specs.Laws.{ItemsAreRecords, ValencesAreCounted}
+use Rattle.hfs_catalog.proofs.LawTypes.{ItemsAreRecords, ValencesAreCounted}
 use Rattle.hfs_check.specs.Parts.{Blocks, mdb_in, overflow_in, catalog_in, owned_in}
 use Rattle.hfs_check.specs.Sound.{AreBlocksSound}
-use Rattle.hfs_check.specs.Laws.{CatalogIsSound}
+use Rattle.hfs_check.proofs.LawTypes.{CatalogIsSound}
 use Rattle.hfs_check.specs.VolumeOf.{contents_in, volume_in}
 use Rattle.hfs_catalog_edits.specs.Swaps.{one_if}
 use Rattle.hfs_catalog_edits.proofs.SwapLemmas.{swapped_each}
-use Rattle.hfs_changes.specs.Changes.{KeepsContents, led_to, HasMoved, folder_with}
+use Rattle.hfs_changes.specs.Changes.{folder_with}
+use Rattle.hfs_changes.proofs.ChangesLaws.{KeepsContents, led_to, HasMoved}
 use Rattle.hfs_changes.specs.OnBlocks.{HasTree}
 use Rattle.hfs_changes.specs.Laws.{MakesStep}
 use Rattle.hfs_changes.specs.SettingLaws.{IsChoice}
-use Rattle.hfs_changes.specs.MoveLaws.{under_folder, with_moved, HasMovedItem, CatMoveMakes}
+use Rattle.hfs_changes.specs.MoveLaws.{under_folder, with_moved}
+use Rattle.hfs_changes.proofs.MoveLaws.{HasMovedItem, CatMoveMakes}
 use Rattle.hfs_catalog.proofs.Held.{with_id}
 use Rattle.hfs_changes.proofs.Maps.{thread_known}
 use Rattle.hfs_changes.proofs.Move as move

@@ -14,12 +14,12 @@ use Rattle.hfs_catalog.specs.Records.{Record, Catalog, item_with, valence_of}
 use Rattle.hfs_catalog.specs.Sound.{IsRecord, AreNamesSound, IsSoundCatalog}
 use Rattle.hfs_catalog.specs.Items.{Contents, folder_of, item_of, items_in}
 use Rattle.hfs_catalog.specs.Lookups.{thread_of}
-use Rattle.hfs_catalog.specs.Laws.{ItemsAreRecords}
+use Rattle.hfs_catalog.proofs.LawTypes.{ItemsAreRecords}
 use Rattle.hfs_catalog_edits.specs.Swaps.{one_if}
 use Rattle.hfs_changes.proofs.StepLemmas.{AreOnce, ItemStep, with_one, item_once, item_after, item_threads}
 use Rattle.hfs_changes.proofs.LinkLemmas.{AreLinked}
 use Rattle.hfs_changes.specs.Sound.{IsNearlySound}
-use Rattle.hfs_changes.specs.Changes.{KeepsContents, HasMoved}
+use Rattle.hfs_changes.proofs.ChangesLaws.{KeepsContents, HasMoved}
 use Rattle.hfs_catalog.proofs.Held.{with_id}
 use Rattle.hfs_changes.proofs.Linked.{sound_counted, nearly_sound}
 use Rattle.hfs_changes.proofs.Relinked.{by_id, past_id, linked_edit}

@@ -11,7 +11,8 @@ use Rattle.hfs_fields.specs.RecordForms.{IsDirRecordValue, IsFileRecordValue}
 use Rattle.hfs_fields.proofs.RecordFormLemmas.{is_dir-written}
 use Rattle.hfs_catalog.specs.Records.{Record, Catalog}
 use Rattle.hfs_catalog_edits.specs.Swaps.{Swaps}
-use Rattle.hfs_changes.specs.Changes.{IsItsThread, IsNewItem, IsFolderWith, HasAdded, with_children, folder_with}
+use Rattle.hfs_changes.specs.Changes.{IsFolderWith, with_children, folder_with}
+use Rattle.hfs_changes.proofs.ChangesLaws.{IsItsThread, IsNewItem, HasAdded}
 use Rattle.hfs_changes.specs.CreationLaws.{file_record_in, folder_record_in}
 use Rattle.hfs_changes.proofs.Made.{file-no_dir, file-is, file-read, file_id, dir-read, dir_id, folder_alike, folder_valence}
 

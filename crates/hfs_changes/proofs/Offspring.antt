@@ -13,17 +13,17 @@ use Rattle.hfs_model.specs.Volume.{Items, Entry}
 use Rattle.hfs_model.specs.Children.{entry_at, entries_of}
 use Rattle.hfs_model.specs.Choices.{lies_in}
 use Rattle.hfs_model.specs.Lawful.{LiesIn, parent_of}
-use Rattle.hfs_model.specs.Laws.{FindsAtAnyDepth}
+use Rattle.hfs_model.proofs.LawTypes.{FindsAtAnyDepth}
 use Rattle.hfs_catalog.specs.Records.{Record, Catalog, items_of, item_with}
 use Rattle.hfs_catalog.specs.Sound.{counts_of}
 use Rattle.hfs_catalog.specs.Items.{items_in, entry_of}
-use Rattle.hfs_catalog.specs.Laws.{EntriesAreRecords, SoundIsLawful}
+use Rattle.hfs_catalog.proofs.LawTypes.{EntriesAreRecords, SoundIsLawful}
 use Rattle.hfs_check.specs.Parts.{Blocks, mdb_in, catalog_in}
 use Rattle.hfs_check.specs.Sound.{AreBlocksSound}
-use Rattle.hfs_check.specs.Laws.{CatalogIsSound}
+use Rattle.hfs_check.proofs.LawTypes.{CatalogIsSound}
 use Rattle.hfs_check.specs.VolumeOf.{contents_in, volume_in}
 use Rattle.hfs_catalog_edits.specs.Swaps.{one_if}
-use Rattle.hfs_changes.specs.OffspringLaws.{lies_by_parents, OffspringByParents}
+use Rattle.hfs_changes.proofs.OffspringLaws.{lies_by_parents, OffspringByParents}
 use Rattle.hfs_changes.proofs.Items.{item_parent}
 use Rattle.hfs_check.proofs.EntryLemmas.{entry_get}
 use Rattle.hfs_changes.proofs.Move.{lies_here}

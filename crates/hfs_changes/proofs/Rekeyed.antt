@@ -8,13 +8,13 @@ use Rattle.hfs_catalog.specs.Records.{Record, Catalog, item_with, valence_of}
 use Rattle.hfs_catalog.specs.Sound.{IsRecord, AreNamesSound, IsSoundCatalog}
 use Rattle.hfs_catalog.specs.Items.{Contents, item_of, items_in}
 use Rattle.hfs_catalog.specs.Lookups.{thread_of}
-use Rattle.hfs_catalog.specs.Laws.{ItemsAreRecords}
+use Rattle.hfs_catalog.proofs.LawTypes.{ItemsAreRecords}
 use Rattle.hfs_catalog_edits.specs.Swaps.{one_if}
 use Rattle.hfs_changes.proofs.StepLemmas.{AreOnce, with_one}
-use Rattle.hfs_changes.specs.Steps.{is_there}
+use Rattle.hfs_changes.proofs.StepsLaws.{is_there}
 use Rattle.hfs_changes.proofs.LinkLemmas.{AreLinked}
 use Rattle.hfs_changes.specs.Sound.{IsNearlySound}
-use Rattle.hfs_changes.specs.Changes.{KeepsContents, HasRekeyed}
+use Rattle.hfs_changes.proofs.ChangesLaws.{KeepsContents, HasRekeyed}
 use Rattle.hfs_changes.proofs.Linked.{sound_linked}
 use Rattle.hfs_changes.proofs.Turned.{HasTurned}
 use Rattle.hfs_changes.proofs.Turned as turning

@@ -9,18 +9,19 @@ use Rattle.hfs_model.specs.Choices.{to_delete}
 use Rattle.hfs_catalog.specs.Records.{Record, Catalog, item_with, is_child_of, valence_of}
 use Rattle.hfs_catalog.specs.Lookups.{thread_of}
 use Rattle.hfs_catalog.specs.Sound.{IsSoundCatalog}
-use Rattle.hfs_catalog.specs.Laws.{ItemsAreRecords}
+use Rattle.hfs_catalog.proofs.LawTypes.{ItemsAreRecords}
 use Rattle.hfs_check.specs.Parts.{Blocks, mdb_in, catalog_in}
 use Rattle.hfs_check.specs.Sound.{AreBlocksSound}
-use Rattle.hfs_check.specs.Laws.{CatalogIsSound}
+use Rattle.hfs_check.proofs.LawTypes.{CatalogIsSound}
 use Rattle.hfs_check.specs.VolumeOf.{contents_in, volume_in}
 use Rattle.hfs_catalog_edits.proofs.SwapLemmas.{passes, number_of}
 use Rattle.hfs_catalog_edits.specs.Swaps.{one_if}
 use Rattle.hfs_changes.proofs.OnceLemmas.{counted, item_found}
 use Rattle.hfs_changes.proofs.StepLemmas.{with_one}
-use Rattle.hfs_changes.specs.Changes.{HasDropped, folder_with}
+use Rattle.hfs_changes.specs.Changes.{folder_with}
+use Rattle.hfs_changes.proofs.ChangesLaws.{HasDropped}
 use Rattle.hfs_changes.specs.SettingLaws.{IsChoice}
-use Rattle.hfs_changes.specs.RemovalLaws.{HasDroppedItem, LeavesFiles}
+use Rattle.hfs_changes.proofs.RemovalLaws.{HasDroppedItem, LeavesFiles}
 use Rattle.hfs_catalog.proofs.Held.{with_id}
 use Rattle.hfs_changes.proofs.Items.{item_parent}
 use Rattle.hfs_changes.proofs.Linked.{with_thread, sound_counted}

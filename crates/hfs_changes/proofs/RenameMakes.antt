@@ -24,18 +24,19 @@ use Rattle.hfs_catalog.specs.Records.{Record, Catalog, item_with, has_thread}
 use Rattle.hfs_catalog.specs.Lookups.{thread_of}
 use Rattle.hfs_catalog.specs.Sound.{is_file_in, is_folder_in, counts_of, AreCountsSound, IsSoundCatalog}
 use Rattle.hfs_catalog.specs.Items.{file_of, folder_of, item_of, items_in}
-use Rattle.hfs_catalog.specs.Laws.{ItemsAreRecords}
+use Rattle.hfs_catalog.proofs.LawTypes.{ItemsAreRecords}
 use Rattle.hfs_check.specs.Parts.{Blocks, mdb_in, overflow_in, catalog_in, owned_in}
 use Rattle.hfs_check.specs.Sound.{AreBlocksSound}
-use Rattle.hfs_check.specs.Laws.{CatalogIsSound}
+use Rattle.hfs_check.proofs.LawTypes.{CatalogIsSound}
 use Rattle.hfs_check.specs.VolumeOf.{contents_in, volume_in}
-use Rattle.hfs_changes.specs.Steps.{IfThere, is_there}
+use Rattle.hfs_changes.proofs.StepsLaws.{IfThere, is_there}
 use Rattle.hfs_catalog_edits.specs.Swaps.{Swaps}
 use Rattle.hfs_catalog.proofs.Held.{with_id}
-use Rattle.hfs_changes.specs.Changes.{KeepsContents, led_to, IsItsThread, ItemRekeyed, HasRekeyed}
+use Rattle.hfs_changes.proofs.ChangesLaws.{KeepsContents, led_to, IsItsThread, ItemRekeyed, HasRekeyed}
 use Rattle.hfs_changes.specs.OnBlocks.{at_time, HasTree}
 use Rattle.hfs_changes.specs.Laws.{MakesStep}
-use Rattle.hfs_changes.specs.SettingLaws.{with_name, RenameMakes}
+use Rattle.hfs_changes.specs.SettingLaws.{with_name}
+use Rattle.hfs_changes.proofs.SettingLaws.{RenameMakes}
 use Rattle.hfs_changes.proofs.Chosen.{may_rename}
 use Rattle.hfs_changes.proofs.NewItems.{named_long}
 use Rattle.hfs_changes.proofs.LedThreads.{its_led, led_there}

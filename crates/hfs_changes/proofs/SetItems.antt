@@ -17,14 +17,14 @@ use Rattle.hfs_catalog.specs.Records.{Record, Catalog, item_with, is_child_of, v
 use Rattle.hfs_catalog.specs.Sound.{IsRecord, AreNamesSound, IsSoundCatalog}
 use Rattle.hfs_catalog.specs.Items.{Contents, item_of, items_in}
 use Rattle.hfs_catalog.specs.Lookups.{thread_of}
-use Rattle.hfs_catalog.specs.Laws.{ItemsAreRecords}
+use Rattle.hfs_catalog.proofs.LawTypes.{ItemsAreRecords}
 use Rattle.hfs_catalog_edits.specs.Swaps.{Swaps, one_if}
 use Rattle.hfs_catalog_edits.proofs.SwapLemmas.{swapped_count, swapped_each}
 use Rattle.hfs_changes.proofs.OnceLemmas.{item_or_thread}
 use Rattle.hfs_changes.proofs.StepLemmas.{AreOnce, ItemStep, with_one, item_once, item_after, item_threads}
 use Rattle.hfs_changes.proofs.LinkLemmas.{AreLinked, AreCounted}
 use Rattle.hfs_changes.specs.Sound.{IsNearlySound}
-use Rattle.hfs_changes.specs.Changes.{IsAlike, KeepsContents}
+use Rattle.hfs_changes.proofs.ChangesLaws.{IsAlike, KeepsContents}
 use Rattle.hfs_changes.proofs.ChangeLemmas.{HasSet}
 use Rattle.hfs_catalog.proofs.Held.{with_id}
 use Rattle.hfs_changes.proofs.FromLawful.{sound}

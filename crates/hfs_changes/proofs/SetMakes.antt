@@ -26,17 +26,18 @@ use Rattle.hfs_model.specs.Step.{step}
 use Rattle.hfs_catalog.specs.Records.{Record, Catalog, item_with, has_thread}
 use Rattle.hfs_catalog.specs.Sound.{is_file_in, is_folder_in, counts_of, AreCountsSound}
 use Rattle.hfs_catalog.specs.Items.{file_of, folder_of, item_of, items_in}
-use Rattle.hfs_catalog.specs.Laws.{ItemsAreRecords}
+use Rattle.hfs_catalog.proofs.LawTypes.{ItemsAreRecords}
 use Rattle.hfs_check.specs.Parts.{Blocks, mdb_in, overflow_in, catalog_in, owned_in}
 use Rattle.hfs_check.specs.Sound.{AreBlocksSound}
-use Rattle.hfs_check.specs.Laws.{CatalogIsSound}
+use Rattle.hfs_check.proofs.LawTypes.{CatalogIsSound}
 use Rattle.hfs_check.specs.VolumeOf.{contents_in, volume_in}
 use Rattle.hfs_catalog_edits.specs.Swaps.{Swaps, one_if}
 use Rattle.hfs_catalog_edits.proofs.SwapLemmas.{swapped_count}
 use Rattle.hfs_changes.proofs.ChangeLemmas.{HasSet}
 use Rattle.hfs_changes.specs.OnBlocks.{at_time, HasTree}
 use Rattle.hfs_changes.specs.Laws.{MakesStep}
-use Rattle.hfs_changes.specs.SettingLaws.{IsChoice, HasSetBody}
+use Rattle.hfs_changes.specs.SettingLaws.{IsChoice}
+use Rattle.hfs_changes.proofs.SettingLaws.{HasSetBody}
 use Rattle.hfs_changes.proofs.SetItems as setting
 use Rattle.hfs_changes.proofs.KeptSpace.{set_forks, set_owners}
 use Rattle.hfs_changes.proofs.CatalogEdits.{keeps_contents}

@@ -14,11 +14,11 @@ use Rattle.hfs_model.specs.Volume.{Entry}
 use Rattle.hfs_model.specs.Changes.{change, with_lock, set_f_info, set_cat_info, set_lock}
 use Rattle.hfs_catalog.specs.Records.{has_thread}
 use Rattle.hfs_catalog.specs.Items.{file_of, folder_of}
-use Rattle.hfs_catalog.specs.Laws.{ItemsAreRecords}
+use Rattle.hfs_catalog.proofs.LawTypes.{ItemsAreRecords}
 use Rattle.hfs_check.specs.Parts.{Blocks, catalog_in}
-use Rattle.hfs_check.specs.Laws.{CatalogIsSound}
+use Rattle.hfs_check.proofs.LawTypes.{CatalogIsSound}
 use Rattle.hfs_check.specs.VolumeOf.{bytes_in, contents_in, volume_in}
-use Rattle.hfs_changes.specs.SettingLaws.{SetFInfoMakes, SetFileInfoMakes, SetFolderInfoMakes, SetLockMakes, with_info, with_told, with_told_folder, with_lock_bit}
+use Rattle.hfs_changes.proofs.SettingLaws.{SetFInfoMakes, SetFileInfoMakes, SetFolderInfoMakes, SetLockMakes, with_info, with_told, with_told_folder, with_lock_bit}
 use Rattle.hfs_changes.proofs.Made.{with_finder, with_dates, with_locked, folder_dates}
 use Rattle.hfs_changes.proofs.SetMakes.{set_swaps, file_makes, folder_makes}
 

@@ -6,13 +6,13 @@ use Rattle.hfs_scans.specs.Members.{In}
 use Rattle.hfs_catalog.specs.Records.{Record, Catalog, item_with}
 use Rattle.hfs_catalog.specs.Lookups.{thread_of}
 use Rattle.hfs_check.specs.Parts.{mdb_in, catalog_in}
-use Rattle.hfs_check.specs.Laws.{CatalogIsSound}
+use Rattle.hfs_check.proofs.LawTypes.{CatalogIsSound}
 use Rattle.hfs_check.specs.VolumeOf.{contents_in, volume_in}
 use Rattle.hfs_catalog_edits.specs.Swaps.{Swaps, list_of}
 use Rattle.hfs_changes.proofs.OnceLemmas.{item_or_thread}
-use Rattle.hfs_changes.specs.Changes.{ItemRekeyed}
+use Rattle.hfs_changes.proofs.ChangesLaws.{ItemRekeyed}
 use Rattle.hfs_changes.specs.MoveLaws.{under_folder}
-use Rattle.hfs_changes.specs.PlaceLaws.{StandsStill, DeleteLeavesFolder, MoveLeavesFolders}
+use Rattle.hfs_changes.proofs.PlaceLaws.{StandsStill, DeleteLeavesFolder, MoveLeavesFolders}
 use Rattle.hfs_catalog.proofs.Held.{with_id}
 use Rattle.hfs_changes.proofs.Items.{item_parent}
 use Rattle.hfs_changes.proofs.Linked.{with_thread}

@@ -10,7 +10,7 @@ use Rattle.hfs_catalog_edits.specs.Swaps.{Swaps, one_if}
 use Rattle.hfs_catalog_edits.proofs.SwapLemmas.{passes, only, swapped_count, swapped_find}
 use Rattle.hfs_changes.specs.Once.{IsOnce}
 use Rattle.hfs_changes.proofs.OnceLemmas.{item_or_thread, none_counted}
-use Rattle.hfs_changes.specs.Steps.{IfThere, IsThreadOf, is_there}
+use Rattle.hfs_changes.proofs.StepsLaws.{IfThere, IsThreadOf, is_there}
 
 -- no ID of an item stands twice, and no ID of a thread
 pub record AreOnce (catalog : Catalog) : Type 0 where

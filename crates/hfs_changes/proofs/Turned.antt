@@ -16,15 +16,15 @@ use Rattle.hfs_catalog.specs.Records.{Record, Catalog, item_with, is_child_of, v
 use Rattle.hfs_catalog.specs.Sound.{IsRecord, AreNamesSound, IsSoundCatalog}
 use Rattle.hfs_catalog.specs.Items.{Contents, item_of, items_in}
 use Rattle.hfs_catalog.specs.Lookups.{thread_of}
-use Rattle.hfs_catalog.specs.Laws.{ItemsAreRecords}
+use Rattle.hfs_catalog.proofs.LawTypes.{ItemsAreRecords}
 use Rattle.hfs_catalog_edits.specs.Swaps.{Swaps, list_of, one_if}
 use Rattle.hfs_catalog_edits.proofs.SwapLemmas.{number_of, swapped_each, swapped_sum}
 use Rattle.hfs_changes.proofs.OnceLemmas.{item_or_thread}
 use Rattle.hfs_changes.proofs.StepLemmas.{AreOnce, IsItemOf, ItemStep, ThreadStep, with_one, item_once, item_after, item_threads, thread_once, thread_after, thread_items}
-use Rattle.hfs_changes.specs.Steps.{IfThere, IsThreadOf, is_there}
+use Rattle.hfs_changes.proofs.StepsLaws.{IfThere, IsThreadOf, is_there}
 use Rattle.hfs_changes.proofs.LinkLemmas.{AreLinked}
 use Rattle.hfs_changes.specs.Sound.{IsNearlySound}
-use Rattle.hfs_changes.specs.Changes.{KeepsContents, IsItsThread, ItemRekeyed}
+use Rattle.hfs_changes.proofs.ChangesLaws.{KeepsContents, IsItsThread, ItemRekeyed}
 use Rattle.hfs_catalog.proofs.Held.{with_id}
 use Rattle.hfs_changes.proofs.Linked.{with_thread, sound_once, sound_linked, sound_counted, nearly_sound}
 use Rattle.hfs_changes.proofs.Relinked.{by_id, past_id, linked_both, linked_unthreaded}

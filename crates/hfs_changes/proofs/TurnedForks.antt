@@ -14,8 +14,8 @@ use Rattle.hfs_catalog.specs.Lookups.{thread_of}
 use Rattle.hfs_catalog.specs.Sound.{IsSoundCatalog}
 use Rattle.hfs_catalog_edits.specs.Swaps.{one_if, list_of}
 use Rattle.hfs_catalog_edits.proofs.SwapLemmas.{passes, number_of, swapped_count, swapped_sum, swapped_each}
-use Rattle.hfs_changes.specs.Steps.{IfThere}
-use Rattle.hfs_changes.specs.Changes.{IsItsThread}
+use Rattle.hfs_changes.proofs.StepsLaws.{IfThere}
+use Rattle.hfs_changes.proofs.ChangesLaws.{IsItsThread}
 use Rattle.hfs_catalog.proofs.Held.{with_id}
 use Rattle.hfs_changes.proofs.Linked.{with_thread}
 use Rattle.hfs_changes.proofs.Turned.{HasTurned, item_way}

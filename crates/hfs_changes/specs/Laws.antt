@@ -13,7 +13,7 @@ use Rattle.hfs_catalog.specs.Items.{items_in}
 use Rattle.hfs_model.specs.declared.call.Call.{Call}
 use Rattle.hfs_model.specs.Volume.{Items}
 use Rattle.hfs_model.specs.Step.{step}
-use Rattle.hfs_check.specs.Parts.{Blocks, mdb_in, overflow_in, catalog_extents, catalog_nodes, catalog_in, owned_in}
+use Rattle.hfs_check.specs.Parts.{Blocks, mdb_in, overflow_in, catalog_nodes, catalog_in, owned_in}
 use Rattle.hfs_check.specs.Sound.{AreBlocksSound}
 use Rattle.hfs_check.specs.VolumeOf.{contents_in, volume_in}
 use Rattle.hfs_check.specs.Agree.{KeepsVolume}
@@ -46,9 +46,3 @@ pub record IsStepped (c : Call) (total : ℕ) (old new : Blocks) : Type 0 where
 
 abbrev pub CatalogEditsAreSteps : Type 0
 CatalogEditsAreSteps = (c : Call) (counts : Mdb) (total : ℕ) (old new : Blocks) → AreBlocksSound total old → MakesStep c counts old new → IsStepped c total old new
-
--- ---- the catalog's file
-
--- edits of the catalog leave its file where it is
-abbrev pub CatalogFileStays : Type 0
-CatalogFileStays = (counts : Mdb) (total : ℕ) (old new : Blocks) → AreBlocksSound total old → EditsCatalog counts old new → catalog_extents new ≡ catalog_extents old

@@ -1,17 +1,12 @@
 pub mod Once
 pub mod Sound
-pub mod Steps
 pub mod Changes
 pub mod OnBlocks
 pub mod Laws
 pub mod SettingLaws
 pub mod CreationLaws
-pub mod ItemLaws
 pub mod RemovalLaws
 pub mod MoveLaws
 pub mod FileIdLaws
-pub mod BoundLaws
 pub mod PlaceLaws
 pub mod Deletion
-pub mod OffspringLaws
-pub mod DropLaws

@@ -19,10 +19,10 @@ use Rattle.hfs_scans.proofs.ScanLemmas.{all_decides}
 use Rattle.hfs_space.specs.Bitmap.{bitmap_len}
 use Rattle.hfs_space.specs.Forks.{blocks_each}
 use Rattle.hfs_space.specs.TreeKeys.{ext_keys}
-use Rattle.hfs_space.specs.Laws.{NoTreeFileFault}
+use Rattle.hfs_space.proofs.LawTypes.{NoTreeFileFault}
 use Rattle.hfs_catalog.specs.Records.{Catalog}
 use Rattle.hfs_catalog.specs.Tree.{cat_keys}
-use Rattle.hfs_catalog_checks.specs.Laws.{NoNameFault, NoPlaceFault}
+use Rattle.hfs_catalog_checks.proofs.LawTypes.{NoNameFault, NoPlaceFault}
 use Rattle.hfs_check.specs.declared.mount_fault.MountFault.TheVariants.{TooLarge, Short, NoMacDisk, BadMdb}
 use Rattle.hfs_check.specs.Sound.{IsImageLength, IsMdbSound, IsForkKey, EachKey, IsExtentsSound, IsCatalogFileSound, AreCatalogNamesSound, AreCatalogPlacesSound}
 use Rattle.hfs_check.specs.Faults.{length_fault, mdb_fault, counted_shape_fault, is_fork_key, extents_fault, catalog_fault, catalog_name_fault, catalog_place_fault}

@@ -7,3 +7,5 @@ pub mod Opened
 pub mod CountedReport
 pub mod CommonLemmas
 pub mod EntryLemmas
+pub mod LawsProved
+pub mod LawTypes

@@ -13,7 +13,7 @@ use Rattle.hfs_space.proofs.FileLengthLemmas.{length-tree_nodes}
 use Rattle.hfs_space.specs.Extents.{fork_extents}
 use Rattle.hfs_space.specs.Faults.{is_tree_file}
 use Rattle.hfs_space.specs.Owners.{catalog_fork, owned_blocks}
-use Rattle.hfs_space.specs.Laws.{NoTreeFileFault}
+use Rattle.hfs_space.proofs.LawTypes.{NoTreeFileFault}
 use Rattle.hfs_space.specs.TreeFiles.{tree_nodes, tree_blocks}
 use Rattle.hfs_space.specs.TreeKeys.{ext_keys, IsExtentsTree, overflow_of}
 use Rattle.hfs_btree.specs.Sound.{IsShaped}
@@ -21,7 +21,7 @@ use Rattle.hfs_catalog.specs.Tree.{cat_keys, catalog_of}
 use Rattle.hfs_check.specs.declared.mount_fault.MountFault.{MountFault}
 use Rattle.hfs_check.specs.declared.mount_fault.MountFault.TheVariants as fault
 use Rattle.hfs_check.specs.Faults.{◌or_fault◌, check_fault, extents_fault, extents_counts, catalog_fault, catalog_counts, trees_fault, records_fault, numbers_fault, length_fault, mdb_fault, blocks_fault, fault_of}
-use Rattle.hfs_check.specs.Laws.{NoExtentsFault, NoCatalogFault}
+use Rattle.hfs_check.proofs.LawTypes.{NoExtentsFault, NoCatalogFault}
 use Rattle.hfs_check.specs.Trees.{LieIn}
 use Rattle.hfs_check.specs.Parts.{Blocks, mdb_in, extents_blocks, extents_nodes, overflow_in, catalog_extents, catalog_blocks, catalog_nodes, catalog_in, owned_in}
 use Rattle.hfs_check.specs.Answers.{IsFaultOf, extents_tree_fault, contents_fault, behind_trees_fault}

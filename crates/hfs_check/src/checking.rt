@@ -10,9 +10,6 @@ ghost use Rattle.hfs_check.specs.Parts.{mdb_in};
 ghost use Rattle.hfs_check.specs.Sound.{IsMdbSound, AreBlocksSound, IsSound, HasBitmap};
 ghost use Rattle.hfs_check.specs.Trees.{GivesTrees, HasCheckedTrees, HasTrees, HasTreesOf};
 
-use crate::laws::{
-    no_blocks_fault, no_catalog_fault, no_extents_fault, no_image_fault, no_mdb_fault,
-};
 use crate::mdb_check::{mdb_fault, read_mdb};
 use crate::mount_fault::MountFault;
 use crate::number_checks::check_numbers;
@@ -60,8 +57,6 @@ fn check_behind_trees<B: Blocks>(
     ensures fault { Answers (behind_trees_fault (B.blocks blocks.now)) result }
     ensures owned { IfOk result (λ owned. AreAllOwned (B.blocks blocks.now) owned.items) }
 {
-    no_extents_fault();
-    no_catalog_fault();
     let extents = RunNodes {
         blocks,
         runs: &trees.extents,
@@ -105,8 +100,6 @@ pub(crate) fn checked_blocks<B: Blocks>(
     ensures owned { IfOk result (λ checked. AreAllOwned (B.blocks blocks.now) checked.owned.items) }
     ensures wrong { IfErr result (IsFaultIn (B.total blocks.now) (B.blocks blocks.now)) }
 {
-    no_mdb_fault();
-    no_blocks_fault();
     let mdb = read_mdb(blocks);
     if let Some(fault) = mdb_fault(&mdb, blocks.count()) {
         return Err(fault);
@@ -129,7 +122,6 @@ pub(crate) fn checked_image(alloc: Global, image: &[u8]) -> Result<CheckedVolume
     ensures owned { IfOk result (λ checked. AreAllOwned (block_at image.now) checked.owned.items) }
     ensures wrong { IfErr result (IsFaultOf (fault_of image.now)) }
 {
-    no_image_fault();
     if image.len() > 2_147_483_648 {
         return Err(MountFault::TooLarge);
     }

@@ -14,11 +14,7 @@ mod tree_checks;
 mod trees;
 
 pub use crate::checking::{SoundVolume, check_blocks, check_image};
-pub use crate::laws::{
-    agrees_on, agrees_with_itself, bytes_stay, catalog_is_sound, no_blocks_fault, no_catalog_fault,
-    no_catalog_name_fault, no_catalog_place_fault, no_extents_fault, no_image_fault,
-    no_length_fault, no_mdb_fault, sound_images_are_lawful, trees_are_sound,
-};
+pub use crate::laws::{bytes_stay, no_image_fault, sound_images_are_lawful};
 pub use crate::mdb_check::{mdb_fault, read_mdb};
 pub use crate::mount_fault::MountFault;
 pub use crate::record_checks::check_catalog_records;

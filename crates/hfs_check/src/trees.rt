@@ -7,13 +7,12 @@ ghost use Rattle.hfs_check.specs.Sound.{IsMdbSound};
 ghost use Rattle.hfs_check.specs.Answers.{Answers, IsFaultOf, extents_check_fault, catalog_check_fault, both_trees_fault};
 ghost use Rattle.hfs_check.specs.Trees.{AreCatalogExtents, GivesCatalog, GivesRuns, HasTrees, HoldExtents, LieInExtentsOf, LieInCatalogOf, LieInExtents};
 
-use crate::laws::no_extents_fault;
 use crate::mount_fault::MountFault;
 use crate::tree_checks::{check_catalog_shape, check_extents_tree};
 use hfs_blocks::{Blocks, Run};
 use hfs_btree::RunNodes;
 use hfs_fields::{Extent, Mdb};
-use hfs_space::{ForkKind, fork_extents, is_tree_file, no_tree_file_fault, tree_runs};
+use hfs_space::{ForkKind, fork_extents, is_tree_file, tree_runs};
 use std::alloc::{AllocError, Global};
 
 /// The runs of a tree's file that has these extents and this size in bytes. None where the file is wrong.
@@ -27,7 +26,6 @@ fn file_runs<B: Blocks>(
     requires { IsMdbSound (B.total blocks.now) mdb.now }
     ensures { GivesRuns (B.total blocks.now) (B.blocks blocks.now) mdb.now extents.now size result }
 {
-    no_tree_file_fault();
     if is_tree_file(mdb, extents, size) {
         let runs = tree_runs(alloc, blocks, mdb, extents, size)?;
         Ok(Some(runs))
@@ -49,7 +47,6 @@ fn check_extents<B: Blocks>(
     requires is { mdb.now ≡ mdb_in (B.blocks blocks.now) }
     ensures { Answers (extents_check_fault mdb.now (B.blocks blocks.now)) result }
 {
-    no_tree_file_fault();
     let nodes = RunNodes { blocks, runs };
     check_extents_tree(alloc, &nodes, mdb.extents_file_size)
 }
@@ -70,7 +67,6 @@ fn check_catalog<B: Blocks>(
     requires extents { extents.now ≡ catalog_extents (B.blocks blocks.now) }
     ensures { Answers (catalog_check_fault mdb.now (B.blocks blocks.now)) result }
 {
-    no_tree_file_fault();
     let nodes = RunNodes { blocks, runs };
     check_catalog_shape(alloc, &nodes, mdb.catalog_file_size)
 }
@@ -176,7 +172,6 @@ pub(crate) fn open_trees<B: Blocks>(
     ensures trees { IfOk result (HasTrees (B.total blocks.now) (B.blocks blocks.now)) }
     ensures wrong { IfErr result (IsFaultOf (both_trees_fault (B.blocks blocks.now))) }
 {
-    no_extents_fault();
     let extents = open_extents(alloc, blocks, mdb)?;
     let file = open_catalog(alloc, blocks, mdb, &extents)?;
     let CatalogTree {

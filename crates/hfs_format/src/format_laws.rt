@@ -1,5 +1,4 @@
-//! What holds of the images of new volumes, each as the contract of a function that does nothing: a caller learns it by the
-//! call.
+//! What holds of the images of new volumes, each as the contract of a function that does nothing.
 ghost use Rattle.hfs_format.specs.FormatLaws.{NewImagesAreSound, NewImagesHoldNewVolumes};
 
 /// The image of each plan that has no fault is sound.

@@ -9,7 +9,6 @@ ghost use Rattle.hfs_check.specs.VolumeOf.{volume_of};
 
 use crate::bit_row::push_bits;
 use crate::fault::FormatFault;
-use crate::format_laws::{new_images_are_sound, new_images_hold_new_volumes};
 use crate::layout::Layout;
 use crate::mdb_block::mdb_block;
 use crate::plan::FormatPlan;
@@ -86,8 +85,6 @@ pub fn format(alloc: Global, plan: FormatPlan) -> Result<Vec<u8>, FormatFault>
     ensures fault { IfErr result (IsFormatFault plan) }
 {
     let volume = Layout::of(&plan)?;
-    new_images_are_sound();
-    new_images_hold_new_volumes();
     match volume_image(alloc, &volume) {
         Ok(image) => Ok(image),
         Err(_) => Err(FormatFault::Memory),

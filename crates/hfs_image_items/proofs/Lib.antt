@@ -5,3 +5,5 @@ pub mod SourceLemmas
 pub mod PlainNames
 pub mod PlacedLemmas
 pub mod StateLemmas
+pub mod LawsProved
+pub mod LawTypes

@@ -2,4 +2,3 @@ pub mod Pieces
 pub mod Items
 pub mod Reading
 pub mod Sources
-pub mod Laws

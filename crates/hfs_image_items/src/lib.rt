@@ -3,7 +3,6 @@
 
 mod fork_reading;
 mod items;
-mod laws;
 mod paths;
 mod piece;
 mod pieces;
@@ -12,5 +11,4 @@ mod table_reading;
 mod watch;
 
 pub use crate::items::ImageItems;
-pub use crate::laws::items_are_placed;
 pub use crate::watch::Watch;

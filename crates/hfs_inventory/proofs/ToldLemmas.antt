@@ -18,16 +18,17 @@ use Rattle.hfs_model.specs.Replies.{info_of}
 use Rattle.hfs_catalog.specs.Records.{Record, Catalog, is_child_of, items_of, has_thread}
 use Rattle.hfs_catalog.specs.Items.{Contents, folder_of, file_of, item_of, entry_of, items_in}
 use Rattle.hfs_catalog.specs.Lookups.{children_of}
-use Rattle.hfs_catalog.specs.Laws.{SoundIsLawful}
-use Rattle.hfs_check.specs.Laws.{CatalogIsSound}
+use Rattle.hfs_catalog.proofs.LawTypes.{SoundIsLawful}
+use Rattle.hfs_check.proofs.LawTypes.{CatalogIsSound}
 use Rattle.hfs_check.specs.Parts.{mdb_in, catalog_in}
 use Rattle.hfs_check.specs.VolumeOf.{contents_in, volume_in}
 use Rattle.hfs_queries.specs.Told.{told}
-use Rattle.hfs_queries.specs.Queries.{AreEntries, RecordsAreEntries}
+use Rattle.hfs_queries.specs.Queries.{AreEntries}
+use Rattle.hfs_queries.proofs.QueriesLaws.{RecordsAreEntries}
 use Rattle.hfs_inventory.specs.Rows.{Row, row_below, path_below, rows_in}
 use Rattle.hfs_inventory.specs.Told.{ToldRow, told_row}
 use Rattle.hfs_inventory.specs.Levels.{told_below, rows_from}
-use Rattle.hfs_inventory.specs.Laws.{CatalogsTellTables}
+use Rattle.hfs_inventory.proofs.LawTypes.{CatalogsTellTables}
 use Rattle.hfs_inventory.proofs.TableLemmas.{rows_deep}
 
 -- ---- one record

@@ -1,14 +1,7 @@
 -- What holds of the definitions. Each statement is what a function of src/laws.rt ensures.
-use Rattle.std.specs.Prelude.{◌≡◌, ℕ, ◌≢◌, ◌↔◌, List, map, AllPairs, Contains}
+use Rattle.std.specs.Prelude.{◌≢◌, ◌↔◌, List, map, AllPairs, Contains}
 use Rattle.hfs_model.specs.Volume.{Volume, Items, Entry}
-use Rattle.hfs_model.specs.Children.{entries_of}
 use Rattle.hfs_model.specs.Lawful.{Has, IsLawful}
-use Rattle.hfs_check.specs.Parts.{Blocks, catalog_in}
-use Rattle.hfs_check.specs.Sound.{AreBlocksSound}
-use Rattle.hfs_check.specs.VolumeOf.{volume_in}
-use Rattle.hfs_queries.specs.Queries.{AreWholeBlocks}
-use Rattle.hfs_inventory.specs.Told.{told_rows}
-use Rattle.hfs_inventory.specs.Levels.{catalog_rows}
 use Rattle.hfs_inventory.specs.Rows.{Row, table_of}
 
 -- each item stands in the rows exactly once, and behind its folder
@@ -22,8 +15,3 @@ pub record IsInventory (items : Items) (rows : List Row) : Type 0 where
 
 abbrev pub TablesAreInventories : Type 0
 TablesAreInventories = (v : Volume) → IsLawful v → IsInventory v.items (table_of v)
-
--- the rows of a sound volume's catalog are those that are told of the volume
-abbrev pub CatalogsTellTables : Type 0
-CatalogsTellTables =
-    (total : ℕ) (blocks : Blocks) → AreWholeBlocks total blocks → AreBlocksSound total blocks → catalog_rows (catalog_in blocks) ≡ told_rows (entries_of (volume_in blocks))

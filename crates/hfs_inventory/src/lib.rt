@@ -9,4 +9,4 @@ mod runs;
 mod told;
 
 pub use inventory::Inventory;
-pub use laws::{catalogs_tell_tables, tables_are_inventories};
+pub use laws::tables_are_inventories;

@@ -14,7 +14,7 @@ use crate::row::{Row, RowFork, RowKind};
 use hfs_fields::{Mdb, Name};
 use hfs_model::{
     BAD_NAME, Bytes, END_OF_FILE, Fork, Info, Infos, ItemKind, NOT_A_FOLDER, NOT_FOUND, PARAMETER,
-    Reply, Value, children_are_one,
+    Reply, Value,
 };
 use hfs_volume::Base;
 use std::alloc::{AllocError, Global};
@@ -212,7 +212,6 @@ impl Table {
         requires below { dir + 1 < 2 ^ 32 }
         ensures { IfOk result (λ v. v.items ≡ infos (table_entries self.now) dir) }
     {
-        children_are_one();
         let mut infos = Vec::new(alloc);
         let mut rows = self.rows_from(dir);
         for (_place, id) in self.by_name.range(Place::first(dir)..Place::first(dir + 1)) {
@@ -246,7 +245,6 @@ impl Table {
         requires below { dir + 1 < 2 ^ 32 }
         ensures { result ≡ slice_get (infos (table_entries self.now) dir) at }
     {
-        children_are_one();
         let mut left = at;
         let names = self.by_name.range(Place::first(dir)..Place::first(dir + 1));
         for (_place, id) in names {

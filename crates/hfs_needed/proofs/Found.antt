@@ -13,7 +13,7 @@ use Rattle.hfs_btree_checks.specs.Shape.{has_counts, shape_fault}
 use Rattle.hfs_space.specs.Extents.{fork_extents}
 use Rattle.hfs_space.specs.Faults.{is_tree_file}
 use Rattle.hfs_space.proofs.FileLengthLemmas.{length-tree_nodes}
-use Rattle.hfs_space.specs.Laws.{NoTreeFileFault}
+use Rattle.hfs_space.proofs.LawTypes.{NoTreeFileFault}
 use Rattle.hfs_space.specs.Owners.{catalog_fork}
 use Rattle.hfs_space.specs.TreeFiles.{tree_nodes, tree_blocks}
 use Rattle.hfs_space.proofs.TreeFileLemmas.{nodes_in-tree_blocks}
@@ -22,7 +22,7 @@ use Rattle.hfs_check.specs.declared.mount_fault.MountFault.{MountFault}
 use Rattle.hfs_check.specs.declared.mount_fault.MountFault.TheVariants as fault
 use Rattle.hfs_check.specs.Answers.{IsFaultOf, extents_tree_fault, extents_check_fault}
 use Rattle.hfs_check.specs.Faults.{check_fault, extents_fault}
-use Rattle.hfs_check.specs.Laws.{NoExtentsFault}
+use Rattle.hfs_check.proofs.LawTypes.{NoExtentsFault}
 use Rattle.hfs_check.specs.Parts.{Blocks, mdb_in, extents_blocks, extents_nodes, overflow_in, catalog_extents, catalog_blocks}
 use Rattle.hfs_needed.specs.Needed.{has_extents_file, is_extents_tree_right, has_catalog_file}
 use Rattle.hfs_fields.proofs.CommonLemmas.{none-true}

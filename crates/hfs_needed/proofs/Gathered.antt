@@ -15,7 +15,7 @@ use Rattle.hfs_fields.specs.declared.mdb.Mdb.{Mdb}
 use Rattle.hfs_fields.specs.declared.extent.Extent.{Extent}
 use Rattle.hfs_space.specs.Faults.{is_tree_file}
 use Rattle.hfs_space.proofs.FileLengthLemmas.{length-tree_nodes}
-use Rattle.hfs_space.specs.Laws.{NoTreeFileFault}
+use Rattle.hfs_space.proofs.LawTypes.{NoTreeFileFault}
 use Rattle.hfs_space.specs.TreeFiles.{tree_nodes, tree_blocks}
 use Rattle.hfs_space.specs.TreeKeys.{ext_keys}
 use Rattle.hfs_catalog.specs.Tree.{cat_keys}

@@ -16,3 +16,5 @@ pub mod Named
 pub mod OpenedAt
 pub mod ToldFiles
 pub mod SoundTrees
+pub mod LawsProved
+pub mod GatheredLaws

@@ -6,22 +6,24 @@ use Rattle.hfs_model.specs.Children.{entries_of}
 use Rattle.hfs_model.specs.Reading.{list}
 use Rattle.hfs_model.specs.declared.reply.Reply.{Reply}
 use Rattle.hfs_catalog.specs.Records.{Catalog}
-use Rattle.hfs_check.specs.Laws.{NoBlocksFault}
+use Rattle.hfs_check.proofs.LawTypes.{NoBlocksFault}
 use Rattle.hfs_check.specs.Parts.{catalog_in}
 use Rattle.hfs_check.specs.Sound.{AreBlocksSound}
 use Rattle.hfs_check.specs.VolumeOf.{contents_in, volume_of}
 use Rattle.hfs_queries.specs.declared.reply.Detail.TheVariants as detail
 use Rattle.hfs_queries.specs.Brief.{listed_in, without_ids}
 use Rattle.hfs_queries.proofs.DetailLemmas.{listed_in-brief}
-use Rattle.hfs_queries.specs.Queries.{AreEntries, RecordsAreEntries}
+use Rattle.hfs_queries.specs.Queries.{AreEntries}
+use Rattle.hfs_queries.proofs.QueriesLaws.{RecordsAreEntries}
 use Rattle.hfs_queries.proofs.ReplyLemmas.{lists}
 use Rattle.hfs_sparse.specs.Sparse.{sparse, IsOf}
-use Rattle.hfs_inventory.specs.Laws.{CatalogsTellTables}
+use Rattle.hfs_inventory.proofs.LawTypes.{CatalogsTellTables}
 use Rattle.hfs_inventory.specs.Levels.{Going, catalog_rows}
 use Rattle.hfs_inventory.specs.Told.{told_rows}
 use Rattle.hfs_needed.specs.Laws.{AnswerSame, HoldSame}
 use Rattle.hfs_needed.specs.Listing.{HoldsTable}
-use Rattle.hfs_needed.specs.Gathered.{HasNeeded, IsOfKnown, GatheredIsEnough}
+use Rattle.hfs_needed.specs.Gathered.{HasNeeded, IsOfKnown}
+use Rattle.hfs_needed.proofs.GatheredLaws.{GatheredIsEnough}
 use Rattle.hfs_needed.specs.Known.{OfKnown}
 
 -- the needed blocks of an image, which are those of a sound volume

@@ -19,16 +19,18 @@ use Rattle.hfs_space.specs.Owners.{forks_of_file}
 use Rattle.hfs_space.specs.Sound.{IsForkSound}
 use Rattle.hfs_catalog.specs.Records.{Record, Catalog, has_thread}
 use Rattle.hfs_catalog.specs.Items.{Contents, folder_of, file_of, item_of}
-use Rattle.hfs_check.specs.Laws.{NoBlocksFault}
+use Rattle.hfs_check.proofs.LawTypes.{NoBlocksFault}
 use Rattle.hfs_check.specs.Parts.{Blocks, mdb_in, overflow_in, catalog_in}
 use Rattle.hfs_check.specs.Sound.{AreBlocksSound}
 use Rattle.hfs_check.specs.VolumeOf.{bytes_in, contents_in, volume_of}
 use Rattle.hfs_queries.proofs.NamedFileLemmas.{answer_of, answer_of-file_named, forks_in}
-use Rattle.hfs_queries.specs.Queries.{AreEntries, RecordsAreEntries}
+use Rattle.hfs_queries.specs.Queries.{AreEntries}
+use Rattle.hfs_queries.proofs.QueriesLaws.{RecordsAreEntries}
 use Rattle.hfs_queries.specs.Told.{file_named, only_file, pick}
 use Rattle.hfs_sparse.specs.Sparse.{sparse, IsOf}
 use Rattle.hfs_needed.specs.Forks.{fork_of_kind, named_fork, HasWhole, fork_by, AreForksIn, OfForkNamed}
-use Rattle.hfs_needed.specs.Gathered.{HasNeeded, IsOfKnown, GatheredIsEnough}
+use Rattle.hfs_needed.specs.Gathered.{HasNeeded, IsOfKnown}
+use Rattle.hfs_needed.proofs.GatheredLaws.{GatheredIsEnough}
 use Rattle.hfs_needed.specs.Known.{OfKnown}
 use Rattle.hfs_needed.specs.Laws.{HoldSame}
 use Rattle.hfs_needed.proofs.Listed.{held, entries-are}

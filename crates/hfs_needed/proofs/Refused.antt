@@ -10,10 +10,11 @@ use Rattle.hfs_check.specs.Faults.{◌or_fault◌, length_fault, blocks_fault, f
 use Rattle.hfs_sparse.specs.Sparse.{sparse}
 use Rattle.hfs_needed.specs.declared.opening.NeededFault.{NeededFault}
 use Rattle.hfs_needed.specs.declared.opening.NeededFault.TheVariants.{Refused}
-use Rattle.hfs_needed.specs.Gathered.{HasNeeded, IsOfKnown, GatheredIsEnough}
+use Rattle.hfs_needed.specs.Gathered.{HasNeeded, IsOfKnown}
+use Rattle.hfs_needed.proofs.GatheredLaws.{GatheredIsEnough}
 use Rattle.hfs_needed.specs.declared.opening.NeededVolume.{NeededVolume}
 use Rattle.hfs_needed.specs.Opened.{AreRefusedFor, IsOpenedOf, IsRefusedFor, IsSoundOf}
-use Rattle.hfs_check.specs.Laws.{NoBlocksFault}
+use Rattle.hfs_check.proofs.LawTypes.{NoBlocksFault}
 
 same-fault : (f why : MountFault) → ◌≡◌ {A = NeededFault} (Refused f) (Refused why) → f ≡ why
 same-fault f why e = cc

@@ -8,12 +8,13 @@ use Rattle.hfs_check.specs.declared.mount_fault.MountFault.{MountFault}
 use Rattle.hfs_check.specs.declared.mount_fault.MountFault.TheVariants as fault
 use Rattle.hfs_check.specs.declared.reported.Report.{Report}
 use Rattle.hfs_check.specs.Faults.{◌or_fault◌, length_fault, blocks_fault, fault_of}
-use Rattle.hfs_check.specs.Laws.{NoBlocksFault}
+use Rattle.hfs_check.proofs.LawTypes.{NoBlocksFault}
 use Rattle.hfs_check.specs.Parts.{Blocks}
 use Rattle.hfs_check.specs.Report.{refused_report, sound_report, report_by, report_in, report_with, report_of}
 use Rattle.hfs_sparse.specs.Sparse.{sparse}
 use Rattle.hfs_needed.specs.Laws.{AnswerSame}
-use Rattle.hfs_needed.specs.Gathered.{HasNeeded, IsOfKnown, GatheredIsEnough}
+use Rattle.hfs_needed.specs.Gathered.{HasNeeded, IsOfKnown}
+use Rattle.hfs_needed.proofs.GatheredLaws.{GatheredIsEnough}
 use Rattle.hfs_needed.specs.Known.{OfKnown}
 
 -- what follows from the answer

@@ -18,7 +18,8 @@ use Rattle.hfs_catalog.specs.Sound.{counts_of}
 use Rattle.hfs_check.specs.declared.mount_fault.MountFault.{MountFault}
 use Rattle.hfs_check.specs.Answers.{extents_check_fault, catalog_check_fault}
 use Rattle.hfs_check.specs.Faults.{◌or_fault◌, length_fault, mdb_fault, trees_fault, records_fault, numbers_fault, blocks_fault, fault_of}
-use Rattle.hfs_check.specs.Laws.{NoBlocksFault, NoImageFault}
+use Rattle.hfs_check.specs.Laws.{NoImageFault}
+use Rattle.hfs_check.proofs.LawTypes.{NoBlocksFault}
 use Rattle.hfs_check.specs.Parts.{Blocks, mdb_in, overflow_in, owned_in}
 use Rattle.hfs_check.specs.Report.{compare_mdbs, alternate_in, sound_report, report_with, report_of}
 use Rattle.hfs_check.specs.Sound.{AreBlocksSound, IsSound}

@@ -6,15 +6,16 @@ use Rattle.hfs_model.specs.Children.{entries_of}
 use Rattle.hfs_model.specs.Reading.{get_cat_info, get_dir_info}
 use Rattle.hfs_model.specs.declared.reply.Reply.{Reply}
 use Rattle.hfs_catalog.specs.Records.{Catalog}
-use Rattle.hfs_check.specs.Laws.{NoBlocksFault}
+use Rattle.hfs_check.proofs.LawTypes.{NoBlocksFault}
 use Rattle.hfs_check.specs.Parts.{catalog_in}
 use Rattle.hfs_check.specs.Sound.{AreBlocksSound}
 use Rattle.hfs_check.specs.VolumeOf.{contents_in, volume_of}
-use Rattle.hfs_queries.specs.Queries.{RecordsAreEntries}
+use Rattle.hfs_queries.proofs.QueriesLaws.{RecordsAreEntries}
 use Rattle.hfs_queries.proofs.ReplyLemmas.{cat_infos, dir_infos}
 use Rattle.hfs_queries.specs.Told.{cat_info, dir_info}
 use Rattle.hfs_sparse.specs.Sparse.{sparse, IsOf}
-use Rattle.hfs_needed.specs.Gathered.{HasNeeded, IsOfKnown, GatheredIsEnough}
+use Rattle.hfs_needed.specs.Gathered.{HasNeeded, IsOfKnown}
+use Rattle.hfs_needed.proofs.GatheredLaws.{GatheredIsEnough}
 use Rattle.hfs_needed.specs.Known.{OfKnown}
 use Rattle.hfs_needed.specs.Paths.{told_at, path_told, IsToldAt}
 use Rattle.hfs_needed.proofs.Listed.{held, entries-are}

@@ -2,10 +2,9 @@
 use Rattle.std.specs.Prelude.{◌≡◌, ℕ, List, Option, IfSome}
 use Rattle.std.specs.List.{flat_map}
 use Rattle.hfs_blocks.specs.declared.run.Run.{Run}
-use Rattle.hfs_blocks.specs.Blocks.{run_of, block_at, AreRunsWithin}
+use Rattle.hfs_blocks.specs.Blocks.{run_of, AreRunsWithin}
 use Rattle.hfs_blocks.specs.Layers.{Numbered, changes, AreWithin}
 use Rattle.hfs_sparse.specs.Sparse.{sparse, HasEach, HasGrown, IsOf, StaysOf}
-use Rattle.hfs_needed.specs.Laws.{AnswerSame}
 use Rattle.hfs_needed.specs.Needed.{needed_blocks}
 
 -- the runs lie among so many blocks, and these are the numbers of theirs
@@ -26,8 +25,3 @@ HasNeeded total read = HasEach read (needed_blocks total (sparse read))
 -- where the image's bytes are known, what was read is of it
 abbrev pub IsOfKnown : Option (List ℕ) → Numbered → Type 0
 IsOfKnown known read = IfSome known (λ bytes. IsOf bytes read)
-
--- what was read answers as the image does whose it is
-abbrev pub GatheredIsEnough : Type 0
-GatheredIsEnough =
-    (total : ℕ) (bytes : List ℕ) (read : Numbered) → HasNeeded total read → IsOf bytes read → AnswerSame total (sparse read) (block_at bytes)

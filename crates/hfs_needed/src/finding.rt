@@ -7,9 +7,9 @@ ghost use Rattle.hfs_needed.specs.Finding.{FindsTreeFile, FindsExtentsFile, Find
 
 use hfs_blocks::{Blocks, Run};
 use hfs_btree::RunNodes;
-use hfs_check::{MountFault, check_extents_tree, no_extents_fault};
+use hfs_check::{MountFault, check_extents_tree};
 use hfs_fields::{Extent, Mdb};
-use hfs_space::{ForkKind, fork_extents, is_tree_file, no_tree_file_fault, tree_runs};
+use hfs_space::{ForkKind, fork_extents, is_tree_file, tree_runs};
 use std::alloc::{AllocError, Global};
 
 /// The runs of a tree's file that has these extents and this size in bytes. None where the file is wrong.
@@ -23,7 +23,6 @@ fn file_runs<B: Blocks>(
     requires { IsMdbSound (B.total blocks.now) mdb.now }
     ensures { IfOk result (FindsTreeFile (B.total blocks.now) mdb.now extents.now size) }
 {
-    no_tree_file_fault();
     if is_tree_file(mdb, extents, size) {
         let runs = tree_runs(alloc, blocks, mdb, extents, size)?;
         Ok(Some(runs))
@@ -58,7 +57,6 @@ fn is_extents_tree_right<B: Blocks>(
     requires runs { LieAtExtents (B.total blocks.now) (B.blocks blocks.now) extents_tree.now }
     ensures { IfOk result (λ right. right ≡ spec.is_extents_tree_right (B.blocks blocks.now)) }
 {
-    no_tree_file_fault();
     let nodes = RunNodes {
         blocks,
         runs: extents_tree,
@@ -84,7 +82,6 @@ fn right_catalog_runs<B: Blocks>(
     requires right { spec.is_extents_tree_right (B.blocks blocks.now) ≡ true }
     ensures { IfOk result (FindsCatalogFile (B.total blocks.now) (B.blocks blocks.now)) }
 {
-    no_extents_fault();
     let nodes = RunNodes {
         blocks,
         runs: extents_tree,

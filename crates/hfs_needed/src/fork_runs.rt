@@ -11,13 +11,11 @@ ghost use Rattle.hfs_needed.specs.Opened.{IsOpenedOf};
 ghost use Rattle.hfs_model.specs.declared.call.Fork.TheVariants.{DataFork, ResFork};
 
 use crate::forks::{find_file, kind_runs};
-use crate::laws::gathered_is_enough;
 use crate::opening::NeededVolume;
 use hfs_blocks::Run;
-use hfs_check::{SoundVolume, no_blocks_fault};
+use hfs_check::SoundVolume;
 use hfs_fields::{FileRecord, ForkRecord};
 use hfs_model::Reply;
-use hfs_queries::catalog_answers;
 use hfs_space::ForkKind;
 use hfs_sparse::SparseBlocks;
 use std::alloc::{AllocError, Global};
@@ -111,9 +109,6 @@ pub(crate) fn opened_runs(
         → IsOpenedOf known volume.now.count volume.now
         → IfOk result (λ told. IfErr told (RefusesForks known len dir name.now)) }
 {
-    catalog_answers();
-    gathered_is_enough();
-    no_blocks_fault();
     let (read, count, sound) = (&volume.read, volume.count, &volume.sound);
     let file = match find_file(read, count, &sound.trees, dir, name) {
         Ok(file) => file,

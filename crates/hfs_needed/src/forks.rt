@@ -10,14 +10,13 @@ ghost use Rattle.hfs_sparse.specs.Sparse.{sparse};
 ghost use Rattle.hfs_needed.specs.Forks.{AreForkRuns, AreForksIn, FindsForkNamed, HoldsFork, HoldsForkOf, IsForkIn, OfFork, OfForkNamed, OfForkOf, RefusesForkNamed, RefusesWriting, WritesForkNamed};
 ghost use Rattle.hfs_needed.specs.Opened.{IsOpenedOf, IsRefusedFor, IsSoundOf};
 
-use crate::laws::gathered_is_enough;
 use crate::opening::{NeededFault, NeededVolume, open_needed};
 use hfs_blocks::Run;
 use hfs_btree::RunNodes;
-use hfs_check::{SoundVolume, VolumeTrees, no_blocks_fault, trees_are_sound};
+use hfs_check::{SoundVolume, VolumeTrees};
 use hfs_fields::{FileRecord, ForkRecord};
 use hfs_model::{Fork, Reply};
-use hfs_queries::{catalog_answers, file_named};
+use hfs_queries::file_named;
 use hfs_space::{ForkKind, fork_extents, tree_runs};
 use hfs_sparse::{BlockSource, CopyFault, SparseBlocks, SparseFault, copy_runs, read_runs};
 use std::alloc::{AllocError, Global};
@@ -40,7 +39,6 @@ pub(crate) fn kind_runs(
     requires fork { IsForkIn (sparse read.now) file kind fork.now }
     ensures { IfOk result (λ runs. AreForkRuns read.now count file kind fork.now runs.items) }
 {
-    trees_are_sound();
     let blocks = read.volume(count);
     let nodes = RunNodes {
         blocks: &blocks,
@@ -120,7 +118,6 @@ pub(crate) fn find_file(
     ensures found { result ≡ told.file_named (catalog_in (sparse read.now)) dir name.now }
     ensures forks { IfOk result (λ file. AreForksIn (sparse read.now) file) }
 {
-    catalog_answers();
     let nodes = RunNodes {
         blocks: &read.volume(count),
         runs: &trees.catalog,
@@ -145,9 +142,6 @@ pub(crate) fn opened_fork<S: BlockSource>(
         → IfOk result (RefusesForkNamed (S.image source.old) len dir name.now fork) }
     ensures image { S.image source.new ≡ S.image source.old }
 {
-    catalog_answers();
-    gathered_is_enough();
-    no_blocks_fault();
     let sound = &volume.sound;
     let file = match find_file(&volume.read, volume.count, &sound.trees, dir, name) {
         Ok(file) => file,
@@ -285,9 +279,6 @@ pub(crate) fn write_opened<S: BlockSource, W: Write>(
     ensures memory { result ≡ Err CopyFault.Memory → writer.new ≡ writer.old }
     ensures image { S.image source.new ≡ S.image source.old }
 {
-    catalog_answers();
-    gathered_is_enough();
-    no_blocks_fault();
     let (read, count, sound) = (&volume.read, volume.count, &volume.sound);
     let file = match find_file(read, count, &sound.trees, dir, name) {
         Ok(file) => file,

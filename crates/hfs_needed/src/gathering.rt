@@ -11,9 +11,8 @@ ghost use Rattle.hfs_needed.specs.Needed.{has_extents_file, needed_of_extents, n
 use crate::finding::{catalog_runs, extents_runs};
 use crate::tree_nodes::gather_tree;
 use hfs_blocks::Run;
-use hfs_check::{mdb_fault, no_mdb_fault, read_mdb};
+use hfs_check::{mdb_fault, read_mdb};
 use hfs_fields::{CatKey, ExtKey, Mdb};
-use hfs_space::no_tree_file_fault;
 use hfs_sparse::{BlockSource, SparseBlocks, SparseFault, fetch, fetch_range};
 use std::alloc::Global;
 
@@ -36,7 +35,6 @@ fn gather_catalog<S: BlockSource>(
     ensures reads { HasRead (S.image source.old) count read.old read.new }
     ensures image { S.image source.new ≡ S.image source.old }
 {
-    no_tree_file_fault();
     let Ok(found) = catalog_runs(alloc, &read.volume(count), mdb, extents_tree) else {
         return Err(SparseFault::Memory);
     };
@@ -62,7 +60,6 @@ fn gather_trees<S: BlockSource>(
     ensures reads { HasRead (S.image source.old) count read.old read.new }
     ensures image { S.image source.new ≡ S.image source.old }
 {
-    no_tree_file_fault();
     let Ok(found) = extents_runs(alloc, &read.volume(count), mdb) else {
         return Err(SparseFault::Memory);
     };
@@ -113,7 +110,6 @@ pub fn gather_needed<S: BlockSource>(
     ensures within { IfOk result (λ read. AreWithin (changes read) count) }
     ensures image { S.image source.new ≡ S.image source.old }
 {
-    no_mdb_fault();
     let mut read = SparseBlocks::new(alloc);
     fetch(source, &mut read, 2)?;
     let mdb = read_mdb(&read.volume(count));

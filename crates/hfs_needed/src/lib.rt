@@ -19,9 +19,7 @@ mod whole_files;
 pub use crate::fork_runs::{FileRuns, ForkRuns};
 pub use crate::forks::needed_fork;
 pub use crate::gathering::gather_needed;
-pub use crate::laws::{
-    gathered_is_enough, marked_nodes_decide, needed_is_enough, needed_of_images,
-};
+pub use crate::laws::{marked_nodes_decide, needed_is_enough, needed_of_images};
 pub use crate::listing::needed_list;
 pub use crate::opened::OpenedImage;
 pub use crate::opening::{NeededFault, NeededVolume};

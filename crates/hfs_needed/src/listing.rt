@@ -10,13 +10,12 @@ ghost use Rattle.hfs_sparse.specs.Sparse.{sparse};
 ghost use Rattle.hfs_needed.specs.Opened.{IsRefusedFor, IsSoundOf};
 ghost use Rattle.hfs_needed.specs.Listing.{IsBriefList};
 
-use crate::laws::gathered_is_enough;
 use crate::opening::{NeededFault, open_needed};
 use hfs_btree::RunNodes;
 use hfs_catalog::{CatalogRecord, read_records};
-use hfs_check::{VolumeTrees, no_blocks_fault};
+use hfs_check::VolumeTrees;
 use hfs_model::Reply;
-use hfs_queries::{Detail, catalog_answers, list};
+use hfs_queries::{Detail, list};
 use hfs_sparse::{BlockSource, SparseBlocks};
 use std::alloc::{AllocError, Global};
 
@@ -33,7 +32,6 @@ pub(crate) fn list_in_brief(
     requires trees { HasTrees count (sparse read.now) trees.now }
     ensures { Gives (listed_in Detail.Brief (catalog_in (sparse read.now)) dir) result }
 {
-    catalog_answers();
     let nodes = RunNodes {
         blocks: &read.volume(count),
         runs: &trees.catalog,
@@ -52,7 +50,6 @@ pub(crate) fn catalog_records(
     requires trees { HasTrees count (sparse read.now) trees.now }
     ensures { IfOk result (λ records. records.items ≡ catalog_in (sparse read.now)) }
 {
-    catalog_answers();
     let nodes = RunNodes {
         blocks: &read.volume(count),
         runs: &trees.catalog,
@@ -73,9 +70,6 @@ pub fn needed_list<S: BlockSource>(
     ensures refused { IfErr result (λ fault. IsRefusedFor (S.image source.old) len fault) }
     ensures image { S.image source.new ≡ S.image source.old }
 {
-    catalog_answers();
-    gathered_is_enough();
-    no_blocks_fault();
     let volume = open_needed(alloc, source, len)?;
     let trees = &volume.sound.trees;
     match list_in_brief(alloc, &volume.read, volume.count, trees, dir) {

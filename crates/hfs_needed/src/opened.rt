@@ -15,18 +15,16 @@ ghost use Rattle.hfs_needed.specs.WholeFiles.{HoldsDataNamed, HoldsResourceNamed
 
 use crate::fork_runs::{FileRuns, opened_runs};
 use crate::forks::{opened_fork, write_opened};
-use crate::laws::gathered_is_enough;
 use crate::listing::{catalog_records, list_in_brief};
 use crate::opening::{NeededFault, NeededVolume, open_needed};
 use crate::paths::told_in;
 use crate::reporting::{ReportedVolume, open_reported};
 use crate::whole_files::{NeededFile, opened_file};
 use hfs_catalog::CatalogRecord;
-use hfs_check::{Report, no_blocks_fault};
+use hfs_check::Report;
 use hfs_fields::Name;
-use hfs_inventory::{Inventory, catalogs_tell_tables};
+use hfs_inventory::Inventory;
 use hfs_model::{Fork, Reply};
-use hfs_queries::catalog_answers;
 use hfs_sparse::{BlockSource, CopyFault, SparseFault};
 use std::alloc::{AllocError, Global};
 use std::io;
@@ -105,9 +103,6 @@ impl<S: BlockSource + Drop> OpenedImage<S> {
     pub fn list(&self, alloc: Global, dir: u32) -> Result<Reply, AllocError>
         ensures { IfOk result (IsBriefList self.now.known self.now.len dir) }
     {
-        catalog_answers();
-        gathered_is_enough();
-        no_blocks_fault();
         let volume = &self.volume;
         list_in_brief(alloc, &volume.read, volume.count, &volume.sound.trees, dir)
     }
@@ -118,9 +113,6 @@ impl<S: BlockSource + Drop> OpenedImage<S> {
     pub fn item_at(&self, names: &[Name]) -> Reply
         ensures { IsToldAt self.now.known self.now.len names.now result }
     {
-        catalog_answers();
-        gathered_is_enough();
-        no_blocks_fault();
         let volume = &self.volume;
         told_in(&volume.read, volume.count, &volume.sound.trees, names)
     }
@@ -130,9 +122,6 @@ impl<S: BlockSource + Drop> OpenedImage<S> {
     pub fn records(&self, alloc: Global) -> Result<Vec<CatalogRecord>, AllocError>
         ensures { IfOk result (HoldsCatalog self.now.known self.now.len) }
     {
-        catalog_answers();
-        gathered_is_enough();
-        no_blocks_fault();
         let volume = &self.volume;
         catalog_records(alloc, &volume.read, volume.count, &volume.sound.trees)
     }
@@ -141,10 +130,6 @@ impl<S: BlockSource + Drop> OpenedImage<S> {
     pub fn inventory(&self, alloc: Global) -> Result<Inventory, AllocError>
         ensures { IfOk result (HoldsTable self.now.known self.now.len) }
     {
-        catalog_answers();
-        catalogs_tell_tables();
-        gathered_is_enough();
-        no_blocks_fault();
         let volume = &self.volume;
         let records = catalog_records(alloc, &volume.read, volume.count, &volume.sound.trees)?;
         Inventory::new(alloc, records)

@@ -4,8 +4,7 @@ ghost use Rattle.hfs_check.specs.declared.mount_fault.MountFault.{MountFault};
 ghost use Rattle.hfs_needed.specs.Opened.{IsOpenedOf, IsSoundOf, AreRefusedFor, IsRefusedFor};
 
 use crate::gathering::gather_needed;
-use crate::laws::gathered_is_enough;
-use hfs_check::{MountFault, SoundVolume, check_blocks, no_blocks_fault};
+use hfs_check::{MountFault, SoundVolume, check_blocks};
 use hfs_sparse::{BlockSource, SparseBlocks, SparseFault};
 use std::alloc::Global;
 
@@ -54,7 +53,6 @@ fn open_blocks<S: BlockSource>(
     ensures refused { IfErr result (λ fault. AreRefusedFor (S.image source.old) count fault) }
     ensures image { S.image source.new ≡ S.image source.old }
 {
-    gathered_is_enough();
     let read = match gather_needed(alloc, source, count) {
         Ok(read) => read,
         Err(fault) => return Err(NeededFault::of_sparse(fault)),
@@ -78,8 +76,6 @@ pub(crate) fn open_needed<S: BlockSource>(
     ensures refused { IfErr result (λ fault. IsRefusedFor (S.image source.old) len fault) }
     ensures image { S.image source.new ≡ S.image source.old }
 {
-    gathered_is_enough();
-    no_blocks_fault();
     if len > 2_147_483_648 {
         return Err(NeededFault::Refused(MountFault::TooLarge));
     }

@@ -14,7 +14,7 @@ use hfs_btree::{Nodes, RunNodes};
 use hfs_check::VolumeTrees;
 use hfs_fields::{Name, is_item_name, same_name};
 use hfs_model::{NOT_FOUND, Reply, Value};
-use hfs_queries::{catalog_answers, get_cat_info, get_dir_info, refusal};
+use hfs_queries::{get_cat_info, get_dir_info, refusal};
 use hfs_sparse::SparseBlocks;
 
 /// The ID of the root.
@@ -92,7 +92,6 @@ pub(crate) fn told_in(read: &SparseBlocks, count: u32, trees: &VolumeTrees, name
     ensures { result ≡ spec.told_at (cat_info (catalog_in (sparse read.now)))
         (dir_info (catalog_in (sparse read.now)) 2) names.now }
 {
-    catalog_answers();
     let nodes = RunNodes {
         blocks: &read.volume(count),
         runs: &trees.catalog,

@@ -8,12 +8,9 @@ ghost use Rattle.hfs_needed.specs.Opened.{AreRefusedFor, IsOpenedOf, IsRefusedFo
 ghost use Rattle.hfs_sparse.specs.Sparse.{sparse};
 
 use crate::gathering::gather_needed;
-use crate::laws::gathered_is_enough;
 use crate::opening::{NeededFault, NeededVolume};
 use crate::sound_trees::sound_trees;
-use hfs_check::{
-    MountFault, Report, SoundVolume, no_blocks_fault, read_mdb, refused_report, report_blocks,
-};
+use hfs_check::{MountFault, Report, SoundVolume, read_mdb, refused_report, report_blocks};
 use hfs_sparse::{BlockSource, SparseBlocks, SparseFault};
 use std::alloc::{AllocError, Global};
 
@@ -27,8 +24,6 @@ fn gathered_report<S: BlockSource>(
     ensures report { IfOk result (IsReportIn (S.image source.old) count) }
     ensures image { S.image source.new ≡ S.image source.old }
 {
-    gathered_is_enough();
-    no_blocks_fault();
     let read = gather_needed(alloc, source, count)?;
     match report_blocks(alloc, &read.volume(count)) {
         Ok(report) => Ok(report),
@@ -92,8 +87,6 @@ fn report_opened<S: BlockSource>(
     ensures refused { IfErr result (λ fault. AreRefusedFor (S.image source.old) count fault) }
     ensures image { S.image source.new ≡ S.image source.old }
 {
-    gathered_is_enough();
-    no_blocks_fault();
     let read = match gather_needed(alloc, source, count) {
         Ok(read) => read,
         Err(fault) => return Err(NeededFault::of_sparse(fault)),
@@ -123,8 +116,6 @@ pub(crate) fn open_reported<S: BlockSource>(
     ensures refused { IfErr result (λ fault. IsRefusedFor (S.image source.old) len fault) }
     ensures image { S.image source.new ≡ S.image source.old }
 {
-    gathered_is_enough();
-    no_blocks_fault();
     if len > 2_147_483_648 {
         return Err(NeededFault::Refused(MountFault::TooLarge));
     }

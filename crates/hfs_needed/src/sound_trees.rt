@@ -7,7 +7,7 @@ ghost use Rattle.hfs_sparse.specs.Sparse.{sparse};
 
 use hfs_blocks::Run;
 use hfs_btree::RunNodes;
-use hfs_check::{VolumeTrees, trees_are_sound};
+use hfs_check::VolumeTrees;
 use hfs_fields::{Extent, Mdb};
 use hfs_space::{ForkKind, fork_extents, tree_runs};
 use hfs_sparse::SparseBlocks;
@@ -41,7 +41,6 @@ fn catalog_file(
     requires runs { LieInExtents count (sparse read.now) extents_tree.now }
     ensures { IfOk result (λ extents. extents.items ≡ catalog_extents (sparse read.now)) }
 {
-    trees_are_sound();
     let nodes = RunNodes {
         blocks: &read.volume(count),
         runs: extents_tree,

@@ -9,12 +9,11 @@ ghost use Rattle.hfs_needed.specs.Opened.{IsOpenedOf, IsRefusedFor, IsSoundOf};
 ghost use Rattle.hfs_needed.specs.WholeFiles.{HoldsDataNamed, HoldsResourceNamed, RefusesFileNamed, TellsOfFile};
 
 use crate::forks::{find_file, read_file};
-use crate::laws::gathered_is_enough;
 use crate::opening::{NeededFault, NeededVolume, open_needed};
 use hfs_btree::RunNodes;
-use hfs_check::{VolumeTrees, no_blocks_fault};
+use hfs_check::VolumeTrees;
 use hfs_model::{Fork, Reply};
-use hfs_queries::{catalog_answers, get_cat_info};
+use hfs_queries::get_cat_info;
 use hfs_sparse::{BlockSource, SparseBlocks, SparseFault};
 use std::alloc::Global;
 
@@ -35,7 +34,6 @@ fn tell_of(read: &SparseBlocks, count: u32, trees: &VolumeTrees, dir: u32, name:
     requires trees { HasTrees count (sparse read.now) trees.now }
     ensures { result ≡ told.cat_info (catalog_in (sparse read.now)) dir name.now }
 {
-    catalog_answers();
     let nodes = RunNodes {
         blocks: &read.volume(count),
         runs: &trees.catalog,
@@ -63,9 +61,6 @@ pub(crate) fn opened_file<S: BlockSource>(
         → IfOk result (RefusesFileNamed (S.image source.old) len dir name.now) }
     ensures image { S.image source.new ≡ S.image source.old }
 {
-    catalog_answers();
-    gathered_is_enough();
-    no_blocks_fault();
     let (read, count, sound) = (&volume.read, volume.count, &volume.sound);
     let file = match find_file(read, count, &sound.trees, dir, name) {
         Ok(file) => file,

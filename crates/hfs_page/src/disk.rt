@@ -23,7 +23,7 @@ use crate::uses::block_uses;
 use hfs_blocks::Blocks;
 use hfs_btree::RunNodes;
 use hfs_catalog::{CatalogRecord, read_records};
-use hfs_check::{SoundVolume, VolumeTrees, trees_are_sound};
+use hfs_check::{SoundVolume, VolumeTrees};
 use hfs_fields::Mdb;
 use hfs_inventory::Inventory;
 use hfs_space::Bitmap;
@@ -40,7 +40,6 @@ fn catalog_records<B: Blocks>(
     requires trees { HasTrees (B.total blocks.now) (B.blocks blocks.now) trees.now }
     ensures { IfOk result (λ records. records.items ≡ catalog_in (B.blocks blocks.now)) }
 {
-    trees_are_sound();
     let nodes = RunNodes {
         blocks,
         runs: &trees.catalog,
@@ -61,7 +60,6 @@ fn held_extents<B: Blocks>(
     ensures { IfOk result (λ held. held.items ≡
         volume_holdings volume.now.mdb (overflow_in (B.blocks blocks.now)) records.now) }
 {
-    trees_are_sound();
     let nodes = RunNodes {
         blocks,
         runs: &volume.trees.extents,
@@ -181,7 +179,6 @@ pub fn write_page<B: Blocks, W: Write>(
     ensures part { OnErr result (AppendsFront (W.contents writer.old) (W.contents writer.new)
         (page_in style.now legend.now script.now (B.blocks blocks.now))) }
 {
-    trees_are_sound();
     let Ok(records) = catalog_records(alloc, blocks, &volume.trees) else {
         return Err(PageFault::Memory);
     };

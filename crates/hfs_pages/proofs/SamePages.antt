@@ -9,7 +9,8 @@ use Rattle.hfs_check.specs.Sound.{AreBlocksSound}
 use Rattle.hfs_blocks.specs.Blocks.{block_at}
 use Rattle.hfs_blocks.specs.Layers.{Numbered}
 use Rattle.hfs_sparse.specs.Sparse.{sparse}
-use Rattle.hfs_needed.specs.Gathered.{GatheredIsEnough, HasNeeded, IsOfKnown}
+use Rattle.hfs_needed.specs.Gathered.{HasNeeded, IsOfKnown}
+use Rattle.hfs_needed.proofs.GatheredLaws.{GatheredIsEnough}
 use Rattle.hfs_needed.specs.Known.{OfKnown}
 use Rattle.hfs_needed.specs.Opened.{IsOpenedOf}
 use Rattle.hfs_needed.specs.declared.opening.NeededVolume.{NeededVolume}

@@ -2,7 +2,7 @@
 ghost use Rattle.std.specs.Prelude.{OnErr, OnOk};
 ghost use Rattle.hfs_pages.specs.ImagePages.{WritesPage, WritesPageFront};
 
-use hfs_needed::{OpenedImage, gathered_is_enough};
+use hfs_needed::OpenedImage;
 use hfs_page::{PageFault, write_page};
 use hfs_sparse::BlockSource;
 use std::alloc::Global;
@@ -25,7 +25,6 @@ pub fn write_image_page<S: BlockSource + Drop, W: Write>(
     ensures part { OnErr result (WritesPageFront style.now legend.now script.now image.now
         (W.contents writer.old) (W.contents writer.new)) }
 {
-    gathered_is_enough();
     let volume = image.volume();
     let blocks = volume.read.volume(volume.count);
     write_page(alloc, &blocks, &volume.sound, style, legend, script, writer)

@@ -13,7 +13,7 @@ use Rattle.hfs_names.specs.MacRoman.{character_text, roman_character}
 use Rattle.hfs_names.specs.Paths.{mac_path}
 use Rattle.hfs_names.specs.PlainTexts.{is_control, plain_character, plain_text}
 use Rattle.hfs_paths.specs.declared.reading.Stage.TheVariants.{Character}
-use Rattle.hfs_paths.specs.Laws.{ArePrintedPathsRead}
+use Rattle.hfs_paths.proofs.LawTypes.{ArePrintedPathsRead}
 use Rattle.hfs_paths.specs.Paths.{Read, byte_of, closed, digit_value, names_read, path_names, read_byte, unread, with_character, with_second_digit}
 
 -- in the middle of a name

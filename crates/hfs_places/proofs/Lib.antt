@@ -5,3 +5,4 @@ pub mod ChainLemmas
 pub mod PathLemmas
 pub mod RowLemmas
 pub mod LawLemmas
+pub mod LawTypes

@@ -4,4 +4,3 @@ pub mod Things
 pub mod Entries
 pub mod Chains
 pub mod Paths
-pub mod Laws

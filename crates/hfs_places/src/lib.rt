@@ -3,7 +3,6 @@
 
 mod chains;
 mod entries;
-mod laws;
 mod numbers;
 mod paths;
 mod places;
@@ -11,6 +10,5 @@ mod rows;
 mod things;
 
 pub use chains::doubled;
-pub use laws::paths_are_short;
 pub use places::Places;
 pub use things::Thing;

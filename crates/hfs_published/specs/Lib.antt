@@ -1,7 +1,6 @@
 pub mod Histories
 pub mod Lists
 pub mod Journals
-pub mod Laws
 pub mod Pairs
 pub mod Tolds
 pub mod Answers

@@ -6,7 +6,6 @@ mod absorbs;
 mod crossing;
 mod front;
 mod item;
-mod laws;
 mod pair;
 mod published;
 mod rule;
@@ -14,7 +13,6 @@ mod told;
 mod viewer;
 
 pub use crossing::may_cross;
-pub use laws::{published_begins, published_grows, published_is_after, published_stays};
 pub use pair::{Pair, PairFault};
 pub use told::Told;
 pub use viewer::{ViewFault, Viewer};

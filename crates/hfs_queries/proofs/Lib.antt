@@ -8,3 +8,5 @@ pub mod FoundLemmas
 pub mod NamedFileLemmas
 pub mod ReplyLemmas
 mod ToldLemmas
+pub mod LawsProved
+pub mod QueriesLaws

@@ -23,13 +23,14 @@ use Rattle.hfs_catalog.specs.Records.{Record, Catalog, has_thread, valence_of}
 use Rattle.hfs_catalog.specs.Sound.{HasValence}
 use Rattle.hfs_catalog.specs.Items.{Contents, folder_of, file_of, item_of, entry_of, items_in}
 use Rattle.hfs_catalog.specs.Lookups.{catalog_item}
-use Rattle.hfs_catalog.specs.Laws.{EntriesAreRecords, NamedAreRecords, RecordsAreChildren, ValencesAreCounted}
-use Rattle.hfs_check.specs.Laws.{TreesAreSound, CatalogIsSound}
+use Rattle.hfs_catalog.proofs.LawTypes.{EntriesAreRecords, NamedAreRecords, RecordsAreChildren, ValencesAreCounted}
+use Rattle.hfs_check.proofs.LawTypes.{TreesAreSound, CatalogIsSound}
 use Rattle.hfs_check.specs.Parts.{Blocks, mdb_in, overflow_in, catalog_nodes, catalog_in}
 use Rattle.hfs_check.specs.Sound.{AreBlocksSound}
 use Rattle.hfs_check.specs.VolumeOf.{bytes_in, contents_in, volume_in}
 use Rattle.hfs_queries.specs.Told.{IsCatalog, folder_info, file_info, body_info, told}
-use Rattle.hfs_queries.specs.Queries.{AreEntries, RecordsAreEntries, CatalogsAreSound}
+use Rattle.hfs_queries.specs.Queries.{AreEntries}
+use Rattle.hfs_queries.proofs.QueriesLaws.{RecordsAreEntries, CatalogsAreSound}
 use Rattle.hfs_space.proofs.ForkLengthLemmas.{length-fork_bytes}
 
 -- ---- what is told of a folder

@@ -1,11 +1,9 @@
 //! What calls find in a volume's catalog: the items of an ID, of a name, of a folder, and the replies of the calls that read it.
 #![tactic(auto)]
 
-mod laws;
 mod reading;
 mod reply;
 
-pub use laws::catalog_answers;
 pub use reading::{
     file_named, folder, folder_child, get_cat_info, get_dir_info, get_indexed, list,
     resolve_file_id,

@@ -1,4 +1,4 @@
-//! What holds of repaired images, each as the contract of a function that does nothing: a caller learns it by the call.
+//! What holds of repaired images, each as the contract of a function that does nothing.
 ghost use Rattle.hfs_repair.specs.RepairLaws.{RepairKeepsOthers, RepairKeepsSoundImages};
 
 /// A repair leaves the image's length, and each byte that is in none of the numbers that are counted: drNmFls, drFreeBks,

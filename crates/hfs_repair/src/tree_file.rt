@@ -8,7 +8,7 @@ use crate::right_counts::{RightCounts, right_counts};
 use hfs_blocks::{Blocks, Run};
 use hfs_btree::{Key, RunNodes};
 use hfs_fields::{Extent, Mdb};
-use hfs_space::{is_tree_file, no_tree_file_fault, tree_runs};
+use hfs_space::{is_tree_file, tree_runs};
 use std::alloc::{AllocError, Global};
 
 /// Where a tree lies, and its two counts.
@@ -33,7 +33,6 @@ pub(crate) fn tree_file<K: Key, B: Blocks>(
     ensures { IfOk result
         (IsTreeAnswer K.Key (B.total blocks.now) (B.blocks blocks.now) mdb.now extents.now size) }
 {
-    no_tree_file_fault();
     if !is_tree_file(mdb, extents, size) {
         return Ok(None);
     }

@@ -20,7 +20,7 @@ use hfs_blocks::{Blocks, ImageBytes};
 use hfs_btree::RunNodes;
 use hfs_catalog::CatalogRecord;
 use hfs_catalog_checks::child_counts;
-use hfs_check::{mdb_fault, no_mdb_fault, read_mdb};
+use hfs_check::{mdb_fault, read_mdb};
 use hfs_fields::{CatKey, ExtKey, Mdb};
 use std::alloc::{AllocError, Global};
 
@@ -96,7 +96,6 @@ fn wrong_in_blocks<B: Blocks>(alloc: Global, blocks: &B) -> Result<Vec<WrongNumb
     ensures { IfOk result (λ wrong. wrong.items
         ≡ spec.wrong_in_blocks (B.total blocks.now) (B.blocks blocks.now)) }
 {
-    no_mdb_fault();
     let mdb = read_mdb(blocks);
     if mdb_fault(&mdb, blocks.count()).is_some() {
         return Ok(Vec::new(alloc));

@@ -13,7 +13,7 @@ use Rattle.hfs_catalog.specs.Tree.{cat_keys}
 use Rattle.hfs_fields.specs.declared.extent.Extent.{Extent}
 use Rattle.hfs_check.specs.Answers.{extents_tree_fault}
 use Rattle.hfs_check.specs.Faults.{extents_fault, catalog_fault}
-use Rattle.hfs_check.specs.Laws.{NoExtentsFault, NoCatalogFault}
+use Rattle.hfs_check.proofs.LawTypes.{NoExtentsFault, NoCatalogFault}
 use Rattle.hfs_rescue.specs.OverflowRecords.{is_extents_tree_right}
 use Rattle.hfs_rescue.specs.CatalogRecords.{is_catalog_tree_right}
 use Rattle.hfs_fields.proofs.CommonLemmas.{none-true}

@@ -8,7 +8,6 @@ use crate::strays::all_stray_records;
 use hfs_blocks::Blocks;
 use hfs_btree_checks::{TreeFault, check_shape};
 use hfs_catalog::{CatalogRecord, is_item, is_thread, read_records};
-use hfs_check::no_catalog_fault;
 use hfs_fields::{CatKey, Extent};
 use hfs_model::Bytes;
 use hfs_space::is_tree_file;
@@ -179,7 +178,6 @@ pub fn catalog_records<B: Blocks>(
         (B.total nodes.now.blocks.now) (B.blocks nodes.now.blocks.now) nodes.now.mdb.now
         extents.now nodes.now.file.now) }
 {
-    no_catalog_fault();
     if is_catalog_tree_right(alloc, nodes, extents)? {
         let count = node_count(nodes.mdb.catalog_file_size);
         let entries = read_records(alloc, &FirstNodes { nodes, count })?;

@@ -13,7 +13,7 @@ use crate::leaf_records::{LeafRecord, all_leaf_records};
 use crate::nodes::{FileNodes, FirstNodes, node_count};
 use hfs_blocks::Blocks;
 use hfs_btree::{Nodes, Walk};
-use hfs_check::{MountFault, check_extents_tree, no_extents_fault};
+use hfs_check::{MountFault, check_extents_tree};
 use hfs_fields::{ExtKey, Extent};
 use hfs_model::Bytes;
 use hfs_space::is_tree_file;
@@ -170,7 +170,6 @@ pub fn overflow_records<B: Blocks>(
     ensures { IfOk result (λ records. records.items ≡ spec.overflow_records
         (B.blocks nodes.now.blocks.now) nodes.now.mdb.now nodes.now.file.now) }
 {
-    no_extents_fault();
     if is_extents_tree_right(alloc, nodes)? {
         let count = node_count(nodes.mdb.extents_file_size);
         records_of_tree(alloc, &FirstNodes { nodes, count })

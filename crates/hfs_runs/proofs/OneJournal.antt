@@ -13,7 +13,7 @@ use Rattle.hfs_model.specs.Runs.{after}
 use Rattle.hfs_published.specs.declared.item.Item.{Item}
 use Rattle.hfs_published.specs.declared.item.Item.TheVariants.{Opening, Change}
 use Rattle.hfs_published.specs.Journals.{IsLegal, is_accepted, changes, published}
-use Rattle.hfs_published.specs.Laws.{PublishedIsAfter}
+use Rattle.hfs_published.proofs.LawTypes.{PublishedIsAfter}
 use Rattle.hfs_published.specs.Lists.{shown}
 use Rattle.hfs_published.specs.Tolds.{ToldState}
 use Rattle.hfs_published.proofs.Prefixes.{prefix_trans}

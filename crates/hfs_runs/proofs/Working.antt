@@ -14,7 +14,7 @@ use Rattle.hfs_scripts.specs.Callers.{calls_of}
 use Rattle.hfs_published.specs.Histories.{Known, known, opened}
 use Rattle.hfs_published.specs.declared.item.Item.{Item}
 use Rattle.hfs_published.specs.Journals.{made_by, IsLegal, published}
-use Rattle.hfs_published.specs.Laws.{PublishedIsAfter}
+use Rattle.hfs_published.proofs.LawTypes.{PublishedIsAfter}
 use Rattle.hfs_published.specs.Tolds.{ToldState}
 use Rattle.hfs_shared.specs.declared.done.Done.{Done}
 use Rattle.hfs_shared.specs.Closings.{AreAllPasses}

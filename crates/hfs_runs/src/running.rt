@@ -18,7 +18,6 @@ use crate::numbering::number_lines;
 use crate::telling::are_all_whole;
 use crate::viewing::{Viewing, view_all};
 use hfs_model::Call;
-use hfs_published::published_is_after;
 use hfs_scripts::{Script, read_script};
 use hfs_shared::{Done, Gate, Parts, Pass, RunFault, Session, Shared, Viewer, Why, run_workers};
 use hfs_volume::{Volume, mount};
@@ -101,7 +100,6 @@ fn run_shared<K: Session + Send + Sync, R: Threads + Wait + Sync, G: Gate + Sync
     ensures ok { IfOk result (λ ran. IsRanOf K.base script ran) }
     ensures err { IfErr result (λ fault. fault ≡ ScriptFault.Memory) }
 {
-    published_is_after();
     let shared = parts.share::<K>();
     let lines = number_lines(alloc, script.lines())?;
     let (jobs, rest) = jobs_of(alloc, passes, script)?;

@@ -7,7 +7,7 @@ use Rattle.hfs_model.specs.declared.journal.Entry.{Entry}
 use Rattle.hfs_model.specs.Volume.{Volume}
 use Rattle.hfs_published.specs.declared.item.Item.{Item}
 use Rattle.hfs_published.specs.Journals.{is_accepted, changes, published, NoneAccepted}
-use Rattle.hfs_published.specs.Laws.{PublishedGrows, PublishedStays}
+use Rattle.hfs_published.proofs.LawTypes.{PublishedGrows, PublishedStays}
 use Rattle.hfs_published.specs.Pairs.{PairState, pair}
 use Rattle.hfs_model.specs.declared.call.Call.{Call}
 use Rattle.hfs_model.specs.declared.reply.Reply.{Reply}

@@ -5,7 +5,7 @@ ghost use Rattle.hfs_shared.specs.Desks.{DeskState, desk_state, pass_state, want
 ghost use Rattle.hfs_shared.specs.Faults.{IsCallFault};
 
 use crate::pass::Pass;
-use hfs_model::{Call, DISK_FULL, Entry, Reply, Value, step_is_never_full};
+use hfs_model::{Call, DISK_FULL, Entry, Reply, Value};
 use hfs_volume::Volume;
 use std::alloc::Global;
 use std::marker::Model;
@@ -86,7 +86,6 @@ impl Desk {
         ensures err { OnErr result ((self.new ≡ self.old) × (pass.new ≡ pass.old)) }
         ensures fault { IfErr result (IsCallFault self.old pass.old) }
     {
-        step_is_never_full();
         let wanted = self.wanted(pass.worker());
         let number = pass.number();
         if number != wanted {

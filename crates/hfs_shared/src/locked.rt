@@ -11,7 +11,7 @@ use crate::desk::{CallFault, Desk};
 use crate::pass::Pass;
 use crate::session::Session;
 use hfs_model::{Call, Entry, Reply};
-use hfs_published::{Pair, Told, published_grows, published_stays};
+use hfs_published::{Pair, Told};
 use std::alloc::Global;
 use std::marker::{Model, PhantomData};
 use std::sync::Wait;
@@ -69,7 +69,6 @@ impl<K: Session> Locked<K> {
         ensures err { OnErr result ((self.new ≡ self.old) × (pass.new ≡ pass.old)) }
         ensures fault { IfErr result (IsCallFault (desk_of self.old) pass.old) }
     {
-        published_stays();
         self.desk.apply(alloc, pass, call)
     }
 
@@ -90,7 +89,6 @@ impl<K: Session> Locked<K> {
             ≡ told_of K.book (volume_of K.base) self.old.journal self.new.shown }
         ensures headline { IsUnderLock K.base self.new }
     {
-        published_grows();
         let journal = self.desk.journal();
         self.added = gather(&mut self.pair, journal, self.added);
         self.shown = show(rt, &mut self.pair, self.added, journal.len(), self.shown);
@@ -105,7 +103,6 @@ fn gather(pair: &mut Pair, journal: &[Entry], added: usize) -> usize
     ensures lists { GathersOf pair.old journal.now added pair.new result }
     ensures idle { NoneAccepted (drop added journal.now) → result ≡ length journal.now }
 {
-    published_grows();
     added + pair.add_entries(&journal[added..])
 }
 

@@ -28,3 +28,5 @@ pub mod ForkLengthLemmas
 mod LookupLemmas
 pub mod TreeFileLemmas
 pub mod OwnerLemmas
+pub mod LawsProved
+pub mod LawTypes

@@ -16,7 +16,7 @@ use Rattle.hfs_space.specs.Bitmap.{is_used, clear_count}
 use Rattle.hfs_space.specs.Owners.{owners, is_block_sound}
 use Rattle.hfs_space.specs.Sound.{IsSpaceSound}
 use Rattle.hfs_space.specs.Faults.{block_fault, free_fault, space_fault}
-use Rattle.hfs_space.specs.Laws.{AreBlocksWithin}
+use Rattle.hfs_space.proofs.LawTypes.{AreBlocksWithin}
 use Rattle.hfs_fields.proofs.DecisionLemmas.{itself}
 use Rattle.hfs_scans.proofs.TwoFaultLemmas.{neither, both_none}
 

@@ -11,7 +11,7 @@ use Rattle.hfs_scans.proofs.ElementLemmas.{each-append, each-mono}
 use Rattle.hfs_space.specs.Extents.{Overflow, record_extents, extent_blocks, IsExtentWithin}
 use Rattle.hfs_space.specs.Owners.{Fork, forks_of, all_forks, catalog_fork, extents_in, is_bad_blocks, bad_extents, owned_extents, owned_blocks}
 use Rattle.hfs_space.specs.Sound.{IsTreeFile, IsForkSound, IsOverflowSound, AreForksSound}
-use Rattle.hfs_space.specs.Laws.{AreBlocksWithin}
+use Rattle.hfs_space.proofs.LawTypes.{AreBlocksWithin}
 use Rattle.hfs_space.proofs.Decided.{each_from_all}
 use Rattle.hfs_space.proofs.OwnedOnce.{each-range}
 use Rattle.hfs_scans.proofs.PartLemmas.{flat-each}

@@ -6,7 +6,6 @@ pub mod Owners
 pub mod ForkLaws
 pub mod Sound
 pub mod Faults
-pub mod Laws
 pub mod TreeFiles
 pub mod Edges
 pub mod ForkLengths

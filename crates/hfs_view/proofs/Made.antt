@@ -23,9 +23,10 @@ use Rattle.hfs_catalog.specs.Records.{Record}
 use Rattle.hfs_catalog.specs.Items.{items_in, entry_of}
 use Rattle.hfs_catalog.specs.Lookups.{child_named}
 use Rattle.hfs_catalog.specs.Sound.{IsSoundCatalog, HasValence}
-use Rattle.hfs_catalog.specs.Laws.{ItemsAreRecords, NamedAreRecords, ValencesAreCounted}
+use Rattle.hfs_catalog.proofs.LawTypes.{ItemsAreRecords, NamedAreRecords, ValencesAreCounted}
 use Rattle.hfs_check.specs.Agree.{Agrees}
-use Rattle.hfs_check.specs.Laws.{CatalogIsSound, SoundImagesAreLawful}
+use Rattle.hfs_check.specs.Laws.{SoundImagesAreLawful}
+use Rattle.hfs_check.proofs.LawTypes.{CatalogIsSound}
 use Rattle.hfs_check.specs.Parts.{mdb_in, overflow_in, catalog_in}
 use Rattle.hfs_check.specs.Sound.{IsSound}
 use Rattle.hfs_check.specs.VolumeOf.{contents_in, volume_in, volume_of}
@@ -33,7 +34,8 @@ use Rattle.hfs_fields.specs.declared.mdb.Mdb.{Mdb}
 use Rattle.hfs_volume.specs.Layout.{SameLayout}
 use Rattle.hfs_volume.proofs.LayoutLemmas.{same_layout}
 use Rattle.hfs_volume.specs.Mounted.{AreForksIn}
-use Rattle.hfs_volume.specs.Sharing.{ForksStay, FileForksStay}
+use Rattle.hfs_volume.specs.Sharing.{ForksStay}
+use Rattle.hfs_volume.proofs.SharingLaws.{FileForksStay}
 use Rattle.hfs_view.specs.declared.opening.Maps.{Maps}
 use Rattle.hfs_item_table.specs.declared.place.Place.{Place}
 use Rattle.hfs_item_table.specs.declared.table.Table.{Table}

@@ -8,11 +8,9 @@ ghost use Rattle.hfs_item_table.specs.Tables as tables;
 
 use crate::opening::{Maps, table_over};
 use crate::threads::ThreadIds;
-use hfs_catalog::{items_are_records, named_are_records, valences_are_counted};
-use hfs_check::{catalog_is_sound, sound_images_are_lawful};
 use hfs_item_table::Table;
-use hfs_model::{Call, Reply, step_keeps_lawful};
-use hfs_volume::{Volume, file_forks_stay};
+use hfs_model::{Call, Reply};
+use hfs_volume::Volume;
 use std::alloc::{AllocError, Global};
 use std::marker::Model;
 
@@ -44,12 +42,6 @@ impl Rows {
     pub fn of(alloc: Global, volume: &Volume) -> Result<Rows, AllocError>
         ensures { IfOk result (λ rows. rows ≡ volume_of volume.now.current) }
     {
-        items_are_records();
-        named_are_records();
-        valences_are_counted();
-        catalog_is_sound();
-        sound_images_are_lawful();
-        file_forks_stay();
         let base = volume.base()?;
         let records = volume.records(alloc)?;
         let threads = ThreadIds::of(alloc, &records)?;
@@ -73,7 +65,6 @@ impl Rows {
         ensures ok { OnOk result (self.new ≡ (step self.old call.now).0) }
         ensures err { OnErr result (self.new ≡ self.old) }
     {
-        step_keeps_lawful();
         self.table.absorb(self.alloc, call)
     }
 

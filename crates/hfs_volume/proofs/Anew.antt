@@ -5,7 +5,7 @@ use Rattle.hfs_fields.specs.declared.mdb.Mdb.{Mdb}
 use Rattle.hfs_blocks.specs.declared.run.Run.{Run}
 use Rattle.hfs_blocks.specs.Blocks.{block_at, block_count, run_of, nodes_in, AreRunsWithin}
 use Rattle.hfs_check.specs.Agree.{Agrees}
-use Rattle.hfs_check.specs.Laws.{AgreesWithItself}
+use Rattle.hfs_check.proofs.LawTypes.{AgreesWithItself}
 use Rattle.hfs_check.specs.Parts.{mdb_in, extents_blocks, extents_nodes, catalog_blocks, catalog_nodes}
 use Rattle.hfs_check.specs.Sound.{IsSound}
 use Rattle.hfs_volume.specs.Image.{ImageValue}

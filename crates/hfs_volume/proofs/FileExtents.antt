@@ -27,7 +27,7 @@ use Rattle.hfs_catalog.specs.declared.item.CatalogItem.{CatalogItem}
 use Rattle.hfs_catalog.specs.declared.item.ItemRecord.TheVariants as item_record
 use Rattle.hfs_catalog.specs.Records.{Record, Catalog, has_id, has_thread, item_with}
 use Rattle.hfs_catalog.specs.Items.{Contents, folder_of, file_of, item_of}
-use Rattle.hfs_catalog.specs.Laws.{ItemsAreRecords}
+use Rattle.hfs_catalog.proofs.LawTypes.{ItemsAreRecords}
 use Rattle.hfs_catalog.specs.Lookups.{catalog_item}
 use Rattle.hfs_check.specs.Agree.{Agrees}
 use Rattle.hfs_check.specs.Parts.{mdb_in, overflow_in, catalog_in}
@@ -35,7 +35,8 @@ use Rattle.hfs_check.specs.VolumeOf.{bytes_in, contents_in, volume_in, volume_of
 use Rattle.hfs_volume.specs.Layout.{SameLayout}
 use Rattle.hfs_volume.proofs.LayoutLemmas.{same_layout, same_bytes}
 use Rattle.hfs_volume.specs.Mounted.{AreForksIn, fork_record}
-use Rattle.hfs_volume.specs.Sharing.{file_extents, ForksStay, FileForksStay, HasFile, AreExtentsOf, HaveFork, bytes_of_extents}
+use Rattle.hfs_volume.specs.Sharing.{file_extents, ForksStay, HasFile, AreExtentsOf, HaveFork, bytes_of_extents}
+use Rattle.hfs_volume.proofs.SharingLaws.{FileForksStay}
 use Rattle.hfs_queries.specs.Told.{pick}
 
 -- ---- the record of a file

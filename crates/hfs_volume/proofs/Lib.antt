@@ -18,3 +18,4 @@ pub mod Anew
 pub mod Outcomes
 pub mod RunSteps
 pub mod LayoutLemmas
+pub mod SharingLaws

@@ -3,7 +3,8 @@ use Rattle.std.proofs.Common.{◌≡◌, ℕ, ℤ, Bool, cond, false, ap, subst,
 use Rattle.std.specs.Prelude.{Result, Ok, Err, IfOk, OnOk, IsTrue}
 use Rattle.hfs_model.specs.declared.call.Call.{Call}
 use Rattle.hfs_model.specs.declared.reply.Reply.{Reply}
-use Rattle.hfs_model.specs.Laws.{EnoughIsStep, ReadingLeaves, ReadingNeedsNone}
+use Rattle.hfs_model.specs.Laws.{EnoughIsStep, ReadingLeaves}
+use Rattle.hfs_model.proofs.LawTypes.{ReadingNeedsNone}
 use Rattle.hfs_model.specs.Volume.{Volume}
 use Rattle.hfs_model.specs.Need.{full}
 use Rattle.hfs_model.specs.Step.{step, is_reading}

@@ -24,7 +24,8 @@ use Rattle.hfs_check.specs.Agree.{bitmap_blocks, node_blocks, changing_blocks, I
 use Rattle.hfs_check.specs.Parts.{Blocks, mdb_in, overflow_in, extents_nodes, catalog_extents, catalog_nodes, catalog_in, owned_in}
 use Rattle.hfs_check.specs.Sound.{IsSound}
 use Rattle.hfs_volume.specs.Mounted.{fork_record}
-use Rattle.hfs_volume.specs.Sharing.{file_extents, ForksStay, FileForksStay}
+use Rattle.hfs_volume.specs.Sharing.{file_extents, ForksStay}
+use Rattle.hfs_volume.proofs.SharingLaws.{FileForksStay}
 use Rattle.hfs_volume.proofs.StayingBlocks.{same_changing}
 use Rattle.hfs_space.proofs.OwnerLemmas.{append}
 use Rattle.hfs_changes.proofs.Space.{extents_parts}

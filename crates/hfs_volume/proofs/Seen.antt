@@ -19,7 +19,8 @@ use Rattle.hfs_volume.specs.Image.{ImageValue}
 use Rattle.hfs_volume.specs.Mounted.{IsMounted, AreForksIn}
 use Rattle.hfs_volume.specs.Opening.{opened_fork}
 use Rattle.hfs_queries.specs.Told.{IsCatalog, file_named, pick}
-use Rattle.hfs_queries.specs.Queries.{AreEntries, CatalogsAreSound, RecordsAreEntries}
+use Rattle.hfs_queries.specs.Queries.{AreEntries}
+use Rattle.hfs_queries.proofs.QueriesLaws.{CatalogsAreSound, RecordsAreEntries}
 use Rattle.hfs_queries.proofs.ReplyLemmas.{by_nodes}
 use Rattle.hfs_queries.proofs.NamedFileLemmas.{forks_in}
 use Rattle.hfs_volume.proofs.FileForks.{file_reply, file_opened, forks, opens}

@@ -5,7 +5,6 @@ use Rattle.hfs_fields.specs.declared.extent.Extent.{Extent}
 use Rattle.hfs_fields.specs.declared.file_record.FileRecord.{FileRecord}
 use Rattle.hfs_fields.specs.Records.{is_file, file_record_of}
 use Rattle.hfs_blocks.specs.Blocks.{block_at}
-use Rattle.hfs_scans.specs.Each.{Each}
 use Rattle.hfs_model.specs.declared.call.Fork.{Fork}
 use Rattle.hfs_model.specs.declared.item.File.{File}
 use Rattle.hfs_model.specs.declared.item.Item.{Item}
@@ -17,7 +16,6 @@ use Rattle.hfs_space.specs.Extents as extents
 use Rattle.hfs_space.specs.ForkLengths.{all_bytes}
 use Rattle.hfs_space.specs.Forks.{fork_bytes, read_from}
 use Rattle.hfs_catalog.specs.Records.{Record, Catalog, item_with}
-use Rattle.hfs_check.specs.Agree.{Agrees}
 use Rattle.hfs_check.specs.Parts.{Blocks, mdb_in, overflow_in, catalog_in}
 use Rattle.hfs_check.specs.VolumeOf.{volume_of}
 use Rattle.hfs_volume.specs.Image.{ImageValue}
@@ -34,11 +32,6 @@ ForksStay base image file =
     (fork : Fork)
     → fork_bytes (block_at base) (mdb_in (block_at image)) (file_extents (block_at image) fork file) (fork_record fork file).1.length
     ≡ fork_bytes (block_at image) (mdb_in (block_at image)) (file_extents (block_at image) fork file) (fork_record fork file).1.length
-
--- no call writes a block that a file owns: in an image that agrees with a base the forks of each file have the base's bytes
-abbrev pub FileForksStay : Type 0
-FileForksStay =
-    (base image : List ℕ) → Agrees base image → Each (λ r. IsTrue (is_file r.1) → ForksStay base image (file_record_of r.1)) (catalog_in (block_at image))
 
 -- the record of the file of that ID
 abbrev pub IsFileOf : Catalog → ℕ → Record → Type 0

@@ -4,7 +4,6 @@
 mod base;
 mod extent_bytes;
 mod fork;
-mod fork_laws;
 mod image;
 mod image_nodes;
 mod mounting;
@@ -15,10 +14,8 @@ mod saving;
 mod volume;
 
 pub use base::Base;
-pub use fork_laws::file_forks_stay;
 pub use hfs_check::{Alternate, MountFault, Report, report};
 pub use hfs_format::{FormatFault, FormatPlan, format};
-pub use hfs_queries::catalog_answers;
 pub use hfs_repair::{Fix, FixPlace};
 pub use image::{Image, ImageBlocks};
 pub use mounting::{Refused, mount};

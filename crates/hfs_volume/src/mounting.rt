@@ -6,7 +6,7 @@ ghost use Rattle.hfs_volume.specs.Refusals.{HasFaultOf};
 
 use crate::image::Image;
 use crate::volume::Volume;
-use hfs_check::{MountFault, SoundVolume, VolumeTrees, agrees_with_itself, check_image};
+use hfs_check::{MountFault, SoundVolume, VolumeTrees, check_image};
 use std::alloc::{AllocFailed, Global};
 
 /// Why an image was not mounted, with the image as it was given.
@@ -30,7 +30,6 @@ pub fn mount(alloc: Global, image: Vec<u8>) -> Result<Volume, Refused>
     ensures fault { IfErr result (HasFaultOf image.items) }
     ensures given { IfErr result (λ refused. refused.image ≡ image) }
 {
-    agrees_with_itself();
     let found = match check_image(alloc, &image) {
         Ok(found) => found,
         Err(fault) => return Err(Refused { fault, image }),

@@ -30,10 +30,9 @@ use crate::saving::SaveFault;
 use hfs_blocks::Run;
 use hfs_call_edits::{Editing, Refusal};
 use hfs_call_patches::{Change, with_counts};
-use hfs_check::{agrees_on, trees_are_sound};
 use hfs_fields::{FileRecord, Mdb};
-use hfs_model::{Call, Fork, PARAMETER, Reply, enough_is_step, reading_leaves, reading_needs_none};
-use hfs_queries::{self as queries, Detail, catalog_answers, refusal, success};
+use hfs_model::{Call, Fork, PARAMETER, Reply};
+use hfs_queries::{self as queries, Detail, refusal, success};
 use std::alloc::{AllocError, Global};
 use std::io::Write;
 use std::marker::Model;
@@ -124,9 +123,6 @@ impl Volume {
         ensures unchanged { OnErr result (self.new.current ≡ self.old.current) }
         ensures base { self.new.base ≡ self.old.base }
     {
-        enough_is_step();
-        reading_needs_none();
-        reading_leaves();
         if call.is_reading() {
             return self.read(alloc, call);
         }
@@ -231,7 +227,6 @@ impl Volume {
         requires { AreForksIn (block_at self.now.current) file.now }
         ensures { Gives (part_of (fork_in self.now.current fork file.now) offset count) result }
     {
-        trees_are_sound();
         let (kind, record) = fork_record(file, fork);
         read_part(
             alloc,
@@ -273,7 +268,6 @@ impl Volume {
         requires { AreForksIn (block_at self.now.current) file.now }
         ensures { IfOk result (λ source. source ≡ fork_in self.now.current fork file.now) }
     {
-        trees_are_sound();
         let (kind, record) = fork_record(file, fork);
         OpenFork::new(
             alloc,
@@ -342,7 +336,6 @@ impl Volume {
         ensures unchanged { OnErr result (self.new.current ≡ self.old.current) }
         ensures base { self.new.base ≡ self.old.base }
     {
-        agrees_on();
         let Change {
             patch,
             counts,
@@ -360,7 +353,6 @@ impl Volume {
         ensures content { catalog_of result ≡ catalog_in (block_at self.now.current) }
         ensures entries { AreEntriesIn self.now.current (catalog_of result) }
     {
-        catalog_answers();
         ImageNodes::new(self.image.blocks(), &self.catalog)
     }
 

@@ -12,9 +12,7 @@ ghost use Rattle.hfs_volume.specs.Sharing.{file_extents, IsFileId, AreForkExtent
 use super::Volume;
 use crate::base::Base;
 use crate::fork::fork_record;
-use crate::fork_laws::file_forks_stay;
-use hfs_catalog::{CatalogRecord, ItemRecord, by_id, items_are_records, read_records};
-use hfs_check::{agrees_with_itself, trees_are_sound};
+use hfs_catalog::{CatalogRecord, ItemRecord, by_id, read_records};
 use hfs_fields::{Extent, FileRecord, Mdb};
 use hfs_model::Fork;
 use hfs_space::fork_extents;
@@ -47,7 +45,6 @@ impl Volume {
         ensures changed { IfOk result (λ volume. volume.changed ≡ []) }
         ensures value_returned { IfErr result (λ failed. failed.value ≡ self) }
     {
-        agrees_with_itself();
         let Volume {
             image,
             mdb,
@@ -98,7 +95,6 @@ impl Volume {
     ) -> Result<Vec<Extent>, AllocError>
         ensures { GivesItems (file_extents (block_at self.now.current) fork file.now) result }
     {
-        trees_are_sound();
         let _image = &self.image;
         let (kind, record) = fork_record(file, fork);
         fork_extents(alloc, &self.extents_nodes(), file.id, kind, &record.extents)
@@ -113,8 +109,6 @@ impl Volume {
         ensures within { IfOk result (λ extents. AreExtentsIn self.now.base extents.items) }
         ensures bytes { IfOk result (BeginWithFork self.now id fork) }
     {
-        items_are_records();
-        file_forks_stay();
         let _image = &self.image;
         let Some(item) = by_id(&self.catalog_nodes(), id) else {
             unreachable!()

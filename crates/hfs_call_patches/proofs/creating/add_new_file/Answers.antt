@@ -3,34 +3,36 @@ use Rattle.std.proofs.Common.{sym, subst}
 use Rattle.hfs_catalog.specs.Tree.{IsCatalogTree}
 use Rattle.hfs_call_patches.specs.NewItems.{TakesItem}
 use Rattle.hfs_call_patches.proofs.Creations.{file_in, fits, short, takes_item, file_keys, file_change}
+use Rattle.hfs_changes.proofs.LawsProved.{creation_fits, creation_is_free-folder, creation_is_free-key, catalog_edits_are_steps, create_makes}
+use Rattle.hfs_check.proofs.LawsProved.{trees_are_sound}
 use Rattle.hfs_call_patches.proofs.creating.add_new_file.Goals as goal
 
 pub with_file-counts-requires-clause-next_id : goal.with_file-counts-requires-clause-next_id
 with_file-counts-requires-clause-next_id g c =
-    (fits (g.B.Blocks.total c.args.below.now) c.args.dir (g.B.Blocks.blocks c.args.below.now) c.args.runs.now c.args.mdb.now c.args.place.now c.requires.ready c.creation_fits.ensures).next_id
+    (fits (g.B.Blocks.total c.args.below.now) c.args.dir (g.B.Blocks.blocks c.args.below.now) c.args.runs.now c.args.mdb.now c.args.place.now c.requires.ready creation_fits).next_id
 
 pub with_file-counts-requires-clause-files : goal.with_file-counts-requires-clause-files
 with_file-counts-requires-clause-files g c =
-    (fits (g.B.Blocks.total c.args.below.now) c.args.dir (g.B.Blocks.blocks c.args.below.now) c.args.runs.now c.args.mdb.now c.args.place.now c.requires.ready c.creation_fits.ensures).files
+    (fits (g.B.Blocks.total c.args.below.now) c.args.dir (g.B.Blocks.blocks c.args.below.now) c.args.runs.now c.args.mdb.now c.args.place.now c.requires.ready creation_fits).files
 
 pub with_file-counts-requires-clause-root : goal.with_file-counts-requires-clause-root
 with_file-counts-requires-clause-root g c =
-    (fits (g.B.Blocks.total c.args.below.now) c.args.dir (g.B.Blocks.blocks c.args.below.now) c.args.runs.now c.args.mdb.now c.args.place.now c.requires.ready c.creation_fits.ensures).root_files
+    (fits (g.B.Blocks.total c.args.below.now) c.args.dir (g.B.Blocks.blocks c.args.below.now) c.args.runs.now c.args.mdb.now c.args.place.now c.requires.ready creation_fits).root_files
 
 pub put_file-requires-clause-tree : goal.put_file-requires-clause-tree
 put_file-requires-clause-tree g c =
     subst IsCatalogTree (sym c.open_catalog-nodes.ensures.nodes)
-    (c.trees_are_sound.ensures (g.B.Blocks.total c.args.below.now) (g.B.Blocks.blocks c.args.below.now) c.requires.ready.sound).1
+    (trees_are_sound (g.B.Blocks.total c.args.below.now) (g.B.Blocks.blocks c.args.below.now) c.requires.ready.sound).1
 
 pub put_file-requires-clause-place : goal.put_file-requires-clause-place
 put_file-requires-clause-place g c =
     subst (TakesItem c.args.dir c.args.place.now) (sym c.open_catalog-nodes.ensures.nodes)
     (takes_item (g.B.Blocks.total c.args.below.now) c.args.dir (g.B.Blocks.blocks c.args.below.now) c.args.runs.now c.args.mdb.now c.args.place.now c.requires.ready
-    c.creation_is_free.ensures.folder c.creation_is_free.ensures.key)
+    creation_is_free-folder creation_is_free-key)
 
 pub put_file-requires-clause-short : goal.put_file-requires-clause-short
 put_file-requires-clause-short g c =
-    short (g.B.Blocks.total c.args.below.now) c.args.dir (g.B.Blocks.blocks c.args.below.now) c.args.runs.now c.args.mdb.now c.args.place.now c.requires.ready c.creation_fits.ensures
+    short (g.B.Blocks.total c.args.below.now) c.args.dir (g.B.Blocks.blocks c.args.below.now) c.args.runs.now c.args.mdb.now c.args.place.now c.requires.ready creation_fits
 
 pub close_catalog-requires-clause-keeps : goal.close_catalog-requires-clause-keeps
 close_catalog-requires-clause-keeps g c =
@@ -40,6 +42,6 @@ close_catalog-requires-clause-keeps g c =
 pub returns : goal.returns
 returns g c =
     file_change (g.B.Blocks.total c.args.below.now) c.args.dir (g.B.Blocks.blocks c.args.below.now) c.args.runs.now c.args.mdb.now c.args.place.now c.requires.ready
-    c.catalog_edits_are_steps.ensures c.args.now c.with_file-counts.result _ c.in_ok-patch.patch c.in_ok-patch.ensures.within c.create_makes.ensures c.with_file-counts.ensures
+    catalog_edits_are_steps c.args.now c.with_file-counts.result _ c.in_ok-patch.patch c.in_ok-patch.ensures.within create_makes c.with_file-counts.ensures
     (file_in c.open_catalog-nodes.ensures.nodes c.in_ok-put_file.ensures.put)
     c.in_ok-patch.ensures.catalog

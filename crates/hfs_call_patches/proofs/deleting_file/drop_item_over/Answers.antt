@@ -9,6 +9,7 @@ use Rattle.hfs_call_patches.specs.Deleting.{IsItemUnder}
 use Rattle.hfs_call_patches.proofs.Different.{different}
 use Rattle.hfs_call_patches.proofs.EditedNodes.{edited_within}
 use Rattle.hfs_call_patches.proofs.FromFolder.{opened_records}
+use Rattle.hfs_check.proofs.LawsProved.{trees_are_sound}
 use Rattle.hfs_call_patches.proofs.deleting_file.drop_item_over.Goals as goal
 
 pub invariant_of-nodes : goal.invariant_of-nodes
@@ -23,7 +24,7 @@ invariant_of-nodes g c =
 pub drop_from_folder-requires-clause-tree : goal.drop_from_folder-requires-clause-tree
 drop_from_folder-requires-clause-tree g c =
     let below = c.args.below.now in
-    subst IsCatalogTree (sym c.requires.same) (c.trees_are_sound.ensures (g.B.Blocks.total below) (g.B.Blocks.blocks below) c.requires.sound).1
+    subst IsCatalogTree (sym c.requires.same) (trees_are_sound (g.B.Blocks.total below) (g.B.Blocks.blocks below) c.requires.sound).1
 
 pub drop_from_folder-requires-clause-records : goal.drop_from_folder-requires-clause-records
 drop_from_folder-requires-clause-records g c = opened_records (g.B.Blocks.total c.args.below.now) (g.B.Blocks.blocks c.args.below.now) c.requires.sound _ c.requires.same

@@ -4,19 +4,21 @@ use Rattle.hfs_catalog.specs.Tree.{IsCatalogTree}
 use Rattle.hfs_call_patches.proofs.FromFolder.{there_by, stays_by, keeps_by, some_child, opened_records}
 use Rattle.hfs_call_patches.proofs.FolderGone.{chosen_id, folder_gone}
 use Rattle.hfs_call_patches.proofs.Made.{if_ok}
+use Rattle.hfs_changes.proofs.LawsProved.{removal_fits, choice_stands, folders_stand-delete, delete_folder_makes}
+use Rattle.hfs_check.proofs.LawsProved.{trees_are_sound}
 use Rattle.hfs_call_patches.proofs.deleting_folder.patch_delete_folder.Goals as goal
 
 pub overflow_sub-valence : goal.overflow_sub-valence
 overflow_sub-valence g c =
     let below = c.args.below.now in
     let ch = c.requires.chosen.chosen in
-    let one = some_child c.removal_fits.ensures (g.B.Blocks.total below) c.args.dir c.requires.chosen.name c.args.parent.now c.args.valence ch.of (g.B.Blocks.blocks below) c.requires.sound ch.choice c.requires.parent in
+    let one = some_child removal_fits (g.B.Blocks.total below) c.args.dir c.requires.chosen.name c.args.parent.now c.args.valence ch.of (g.B.Blocks.blocks below) c.requires.sound ch.choice c.requires.parent in
     omega (arith, one)
 
 pub drop_from_folder-requires-clause-tree : goal.drop_from_folder-requires-clause-tree
 drop_from_folder-requires-clause-tree g c =
     let below = c.args.below.now in
-    subst IsCatalogTree (sym c.open_catalog-nodes.ensures.nodes) (c.trees_are_sound.ensures (g.B.Blocks.total below) (g.B.Blocks.blocks below) c.requires.sound).1
+    subst IsCatalogTree (sym c.open_catalog-nodes.ensures.nodes) (trees_are_sound (g.B.Blocks.total below) (g.B.Blocks.blocks below) c.requires.sound).1
 
 pub drop_from_folder-requires-clause-records : goal.drop_from_folder-requires-clause-records
 drop_from_folder-requires-clause-records g c =
@@ -27,7 +29,7 @@ drop_from_folder-requires-clause-there g c =
     let below = c.args.below.now in
     let old = g.B.Blocks.blocks below in
     let ch = c.requires.chosen.chosen in
-    there_by c.choice_stands.ensures c.folders_stand.ensures.delete (g.B.Blocks.total below) c.args.dir c.args.folder.now.id c.requires.chosen.name c.args.key.now c.args.parent.now c.args.valence ch.of old
+    there_by choice_stands folders_stand-delete (g.B.Blocks.total below) c.args.dir c.args.folder.now.id c.requires.chosen.name c.args.key.now c.args.parent.now c.args.valence ch.of old
     c.requires.sound ch.choice ch.own_key (chosen_id old c.args.dir c.requires.chosen.name c.args.key.now c.args.folder.now ch) c.requires.parent _ c.open_catalog-nodes.ensures.nodes
 
 pub drop_from_folder-requires-clause-stays : goal.drop_from_folder-requires-clause-stays
@@ -35,7 +37,7 @@ drop_from_folder-requires-clause-stays g c =
     let below = c.args.below.now in
     let old = g.B.Blocks.blocks below in
     let ch = c.requires.chosen.chosen in
-    stays_by c.choice_stands.ensures c.folders_stand.ensures.delete (g.B.Blocks.total below) c.args.dir c.args.folder.now.id c.requires.chosen.name c.args.key.now c.args.parent.now c.args.valence ch.of old
+    stays_by choice_stands folders_stand-delete (g.B.Blocks.total below) c.args.dir c.args.folder.now.id c.requires.chosen.name c.args.key.now c.args.parent.now c.args.valence ch.of old
     c.requires.sound ch.choice ch.own_key (chosen_id old c.args.dir c.requires.chosen.name c.args.key.now c.args.folder.now ch) c.requires.parent _ c.open_catalog-nodes.ensures.nodes
 
 pub close_catalog-requires-clause-keeps : goal.close_catalog-requires-clause-keeps
@@ -43,7 +45,7 @@ close_catalog-requires-clause-keeps g c =
     let below = c.args.below.now in
     let old = g.B.Blocks.blocks below in
     let ch = c.requires.chosen.chosen in
-    keeps_by c.choice_stands.ensures c.folders_stand.ensures.delete (g.B.Blocks.total below) c.args.dir c.args.folder.now.id c.requires.chosen.name c.args.key.now c.args.parent.now c.args.valence ch.of old
+    keeps_by choice_stands folders_stand-delete (g.B.Blocks.total below) c.args.dir c.args.folder.now.id c.requires.chosen.name c.args.key.now c.args.parent.now c.args.valence ch.of old
     c.requires.sound ch.choice ch.own_key (chosen_id old c.args.dir c.requires.chosen.name c.args.key.now c.args.folder.now ch) c.requires.parent _ c.open_catalog-nodes.ensures.nodes
     c.args.now _ c.in_ok-drop_from_folder.ensures.dropped
 
@@ -53,6 +55,6 @@ returns-clause-makes g c =
     let old = g.B.Blocks.blocks below in
     if_ok c.close_catalog.result _ _
     (λ patch made.
-    folder_gone c.delete_folder_makes.ensures c.choice_stands.ensures c.folders_stand.ensures.delete (g.B.Blocks.total below) c.args.dir c.args.now c.args.valence c.args.key.now c.args.parent.now c.args.folder.now
+    folder_gone delete_folder_makes choice_stands folders_stand-delete (g.B.Blocks.total below) c.args.dir c.args.now c.args.valence c.args.key.now c.args.parent.now c.args.folder.now
     c.args.mdb.now c.without_folder.result old _ c.requires.sound c.requires.parent _ _ c.open_catalog-nodes.ensures.nodes c.in_ok-drop_from_folder.ensures.dropped c.requires.mdb c.without_folder.ensures made)
     c.close_catalog.ensures.catalog

@@ -3,12 +3,13 @@ use Rattle.hfs_blocks.specs.Layers.{changes, over}
 use Rattle.hfs_catalog_edits.specs.Bodies.{IfBody, IsOfKind}
 use Rattle.hfs_call_patches.proofs.Made.{if_ok}
 use Rattle.hfs_call_patches.proofs.Opened.{tree_open, body_open, item_set}
+use Rattle.hfs_check.proofs.LawsProved.{trees_are_sound}
 use Rattle.hfs_call_patches.proofs.recorded.patch_record.Goals as goal
 
 pub set_record-requires-clause-tree : goal.set_record-requires-clause-tree
 set_record-requires-clause-tree g c =
     let below = c.args.below.now in
-    tree_open (g.B.Blocks.blocks below) _ c.open_catalog-nodes.ensures.nodes (c.trees_are_sound.ensures (g.B.Blocks.total below) (g.B.Blocks.blocks below) c.requires.sound).1
+    tree_open (g.B.Blocks.blocks below) _ c.open_catalog-nodes.ensures.nodes (trees_are_sound (g.B.Blocks.total below) (g.B.Blocks.blocks below) c.requires.sound).1
 
 pub set_record-requires-clause-there : goal.set_record-requires-clause-there
 set_record-requires-clause-there g c =

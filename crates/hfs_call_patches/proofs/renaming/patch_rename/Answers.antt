@@ -3,6 +3,8 @@ use Rattle.hfs_blocks.specs.Layers.{changes, over}
 use Rattle.hfs_call_patches.proofs.Made.{if_ok}
 use Rattle.hfs_call_patches.proofs.Rekeys.{rekeyed_named}
 use Rattle.hfs_call_patches.proofs.RenameMade.{rename_made}
+use Rattle.hfs_check.proofs.LawsProved.{catalog_is_sound}
+use Rattle.hfs_changes.proofs.LawsProved.{rename_makes}
 use Rattle.hfs_call_patches.proofs.renaming.patch_rename.Goals as goal
 
 pub close_catalog-requires-clause-keeps : goal.close_catalog-requires-clause-keeps
@@ -13,6 +15,6 @@ returns-clause-makes g c =
     let below = c.args.below.now in
     let old = g.B.Blocks.blocks below in
     if_ok c.close_catalog.result _ _
-    (λ patch closed. rename_made c.catalog_is_sound.ensures c.rename_makes.ensures (g.B.Blocks.total below) old (over (changes patch) old) _ c.args.mdb.now c.at_time.result c.args.item.now c.args.now
+    (λ patch closed. rename_made catalog_is_sound rename_makes (g.B.Blocks.total below) old (over (changes patch) old) _ c.args.mdb.now c.at_time.result c.args.item.now c.args.now
     c.requires.sound c.requires.mdb c.at_time.ensures c.in_ok-nodes.ensures.rekeyed closed)
     c.close_catalog.ensures.catalog

@@ -4,6 +4,7 @@ use Rattle.hfs_blocks.specs.Layers.{changes, over}
 use Rattle.hfs_call_patches.specs.Settings.{HasSetItem}
 use Rattle.hfs_call_patches.proofs.Made.{if_ok, file_info_made}
 use Rattle.hfs_call_patches.proofs.ChosenItems.{file_named, file_under}
+use Rattle.hfs_changes.proofs.LawsProved.{choice_stands, set_cat_info_makes-file}
 use Rattle.hfs_call_patches.proofs.settings.patch_set_file_info.Goals as goal
 
 pub patch_record-requires-clause-name : goal.patch_record-requires-clause-name
@@ -14,7 +15,7 @@ patch_record-requires-clause-name g c =
 pub patch_record-requires-clause-there : goal.patch_record-requires-clause-there
 patch_record-requires-clause-there g c =
     let below = c.args.below.now in
-    file_under (g.B.Blocks.total below) (g.B.Blocks.blocks below) c.requires.sound _ c.args.key.now c.args.file.now c.requires.chosen.chosen c.choice_stands.ensures
+    file_under (g.B.Blocks.total below) (g.B.Blocks.blocks below) c.requires.sound _ c.args.key.now c.args.file.now c.requires.chosen.chosen choice_stands
 
 pub returns-clause-makes : goal.returns-clause-makes
 returns-clause-makes g c =
@@ -23,7 +24,7 @@ returns-clause-makes g c =
     let told = λ (both : List ℕ × List ℕ). record c.args.file.now { created = s.created; modified = s.modified; backup = s.backup; finder_info = both.0; extended_finder_info = both.1 } in
     if_ok c.patch_record.result _ _
     (λ patch set. file_info_made (g.B.Blocks.total below) c.args.now c.args.mdb.now c.at_time.result c.args.key.now (g.B.Blocks.blocks below) (over (changes patch) (g.B.Blocks.blocks below))
-    c.requires.sound c.requires.mdb c.at_time.ensures c.set_cat_info_makes.ensures.file c.args.file.now s
+    c.requires.sound c.requires.mdb c.at_time.ensures set_cat_info_makes-file c.args.file.now s
     (subst (λ (both : List ℕ × List ℕ). HasSetItem c.args.key.now (File (told both)) c.at_time.result (g.B.Blocks.blocks below) (over (changes patch) (g.B.Blocks.blocks below))) c.halves.ensures set).value
     (subst (λ (both : List ℕ × List ℕ). HasSetItem c.args.key.now (File (told both)) c.at_time.result (g.B.Blocks.blocks below) (over (changes patch) (g.B.Blocks.blocks below))) c.halves.ensures set).set)
     c.patch_record.ensures.set

@@ -1,5 +1,6 @@
 -- The second folder's record stands as it did where the first one's was set.
 use Rattle.hfs_call_patches.proofs.BothSet.{dir_there, after_first, second_dir, both_set}
+use Rattle.hfs_changes.proofs.Standing.{stands_still}
 use Rattle.hfs_call_patches.proofs.valences.set_valences.Goals as goal
 
 pub set_valence-requires-clause-there : goal.set_valence-requires-clause-there
@@ -9,12 +10,12 @@ set_valence-requires-clause-there g c =
 
 pub set_valence-requires-2-clause-tree : goal.set_valence-requires-2-clause-tree
 set_valence-requires-2-clause-tree g c =
-    after_first c.folders_stand.ensures.still _ _ c.requires.tree c.args.left.now c.args.entered.now c.args.now c.in_ok-set_valence.ensures.set c.requires.stand
+    after_first stands_still _ _ c.requires.tree c.args.left.now c.args.entered.now c.args.now c.in_ok-set_valence.ensures.set c.requires.stand
 
 pub set_valence-requires-2-clause-there : goal.set_valence-requires-2-clause-there
 set_valence-requires-2-clause-there g c =
-    second_dir c.folders_stand.ensures.still _ _ c.requires.tree c.args.left.now c.args.entered.now c.args.now c.in_ok-set_valence.ensures.set c.requires.stand
+    second_dir stands_still _ _ c.requires.tree c.args.left.now c.args.entered.now c.args.now c.in_ok-set_valence.ensures.set c.requires.stand
 
 pub returns-clause-set : goal.returns-clause-set
 returns-clause-set g c =
-    both_set c.folders_stand.ensures.still _ _ c.requires.tree c.args.left.now c.args.entered.now c.args.now c.in_ok-set_valence.ensures.set c.requires.stand _ c.in_ok-set_valence-2.ensures.set
+    both_set stands_still _ _ c.requires.tree c.args.left.now c.args.entered.now c.args.now c.in_ok-set_valence.ensures.set c.requires.stand _ c.in_ok-set_valence-2.ensures.set

@@ -9,22 +9,23 @@ use Rattle.hfs_catalog.specs.Tree.{cat_keys}
 use Rattle.hfs_check.specs.declared.mount_fault.MountFault.{MountFault}
 use Rattle.hfs_check.specs.Answers.{IsFaultOf}
 use Rattle.hfs_check.proofs.Opened.{contents-are, owned-are, catalog_tree_shaped, extents_tree_whole}
+use Rattle.hfs_check.proofs.LawsProved.{no_extents_fault, no_catalog_fault}
 use Rattle.hfs_check.proofs.checking.check_behind_trees.Goals as goal
 
 pub check_contents-requires-clause-extents : goal.check_contents-requires-clause-extents
 check_contents-requires-clause-extents g c =
     let blocks = g.B.Blocks.blocks c.args.blocks.now in
-    subst (λ (nodes : Store). IsExtentsTree nodes) (sym (ap (nodes_in blocks) c.deref.ensures.value ∙ c.requires.trees.extents.same)) (extents_tree_whole c.no_extents_fault.ensures blocks c.requires.right)
+    subst (λ (nodes : Store). IsExtentsTree nodes) (sym (ap (nodes_in blocks) c.deref.ensures.value ∙ c.requires.trees.extents.same)) (extents_tree_whole no_extents_fault blocks c.requires.right)
 
 pub check_contents-requires-clause-structure : goal.check_contents-requires-clause-structure
 check_contents-requires-clause-structure g c =
     let blocks = g.B.Blocks.blocks c.args.blocks.now in
-    subst (λ (nodes : Store). HasStructure cat_keys nodes) (sym (ap (nodes_in blocks) c.deref-2.ensures.value ∙ c.requires.trees.catalog.same)) (catalog_tree_shaped c.no_catalog_fault.ensures blocks c.requires.right).structure
+    subst (λ (nodes : Store). HasStructure cat_keys nodes) (sym (ap (nodes_in blocks) c.deref-2.ensures.value ∙ c.requires.trees.catalog.same)) (catalog_tree_shaped no_catalog_fault blocks c.requires.right).structure
 
 pub check_contents-requires-clause-counts : goal.check_contents-requires-clause-counts
 check_contents-requires-clause-counts g c =
     let blocks = g.B.Blocks.blocks c.args.blocks.now in
-    subst (λ (nodes : Store). HasCounts cat_keys nodes) (sym (ap (nodes_in blocks) c.deref-2.ensures.value ∙ c.requires.trees.catalog.same)) (catalog_tree_shaped c.no_catalog_fault.ensures blocks c.requires.right).counts
+    subst (λ (nodes : Store). HasCounts cat_keys nodes) (sym (ap (nodes_in blocks) c.deref-2.ensures.value ∙ c.requires.trees.catalog.same)) (catalog_tree_shaped no_catalog_fault blocks c.requires.right).counts
 
 pub returns-clause-fault : goal.returns-clause-fault
 returns-clause-fault g c =

@@ -2,6 +2,7 @@ use Rattle.std.proofs.Common.{rules, ◌≡◌, ◌∙◌, sym, ap, ℕ, None}
 use Rattle.hfs_check.specs.Answers.{IsFaultOf}
 use Rattle.hfs_check.specs.Faults.{mdb_fault, blocks_fault}
 use Rattle.hfs_check.proofs.Opened.{mdb_wrong, trees_wrong, behind_wrong, all_right}
+use Rattle.hfs_check.proofs.LawsProved.{no_blocks_fault}
 use Rattle.hfs_check.proofs.checking.checked_blocks.Goals as goal
 
 pub returns-in-Some-clause-wrong : goal.returns-in-Some-clause-wrong
@@ -41,4 +42,4 @@ returns-clause-sound g c =
     let mdb = c.read_mdb-mdb.result in
     let same = c.mdb_fault.ensures ∙ ap (λ (n : ℕ). mdb_fault n mdb) c.count.ensures in
     let none : mdb_fault total mdb ≡ None = sym same ∙ c.in_default.is in
-    (c.no_blocks_fault.ensures total blocks).0 (all_right total blocks mdb c.read_mdb-mdb.ensures none c.in_ok-trees.ensures.right c.in_ok-owned.ensures.fault)
+    (no_blocks_fault total blocks).0 (all_right total blocks mdb c.read_mdb-mdb.ensures none c.in_ok-trees.ensures.right c.in_ok-owned.ensures.fault)

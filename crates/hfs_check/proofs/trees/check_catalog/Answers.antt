@@ -4,11 +4,12 @@ use Rattle.hfs_catalog.specs.Tree.{cat_keys}
 use Rattle.hfs_check.specs.Faults.{catalog_fault}
 use Rattle.hfs_check.specs.Parts.{catalog_nodes}
 use Rattle.hfs_check.proofs.Opened.{Answers, catalog_fault-right, catalog_nodes-is, has-bytes}
+use Rattle.hfs_space.proofs.LawsProved.{no_tree_file_fault}
 use Rattle.hfs_check.proofs.trees.check_catalog.Goals as goal
 
 pub check_catalog_shape-requires : goal.check_catalog_shape-requires
 check_catalog_shape-requires g c =
-    has-bytes c.no_tree_file_fault.ensures (g.B.Blocks.blocks c.args.blocks.now) c.args.mdb.now c.args.extents.now c.args.mdb.now.catalog_file_size _
+    has-bytes no_tree_file_fault (g.B.Blocks.blocks c.args.blocks.now) c.args.mdb.now c.args.extents.now c.args.mdb.now.catalog_file_size _
     c.requires.sound.whole_size c.requires.file c.requires.runs.same
 
 pub returns : goal.returns

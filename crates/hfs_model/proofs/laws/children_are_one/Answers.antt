@@ -1,4 +1,4 @@
-use Rattle.hfs_model.proofs.Folders.{children_are_one}
+use Rattle.hfs_model.proofs.LawsProved.{children_are_one}
 use Rattle.hfs_model.proofs.laws.children_are_one.Goals as goal
 
 pub returns : goal.returns

@@ -1,4 +1,4 @@
-use Rattle.hfs_model.proofs.Leaves.{enough_is_step}
+use Rattle.hfs_model.proofs.LawsProved.{enough_is_step}
 use Rattle.hfs_model.proofs.laws.enough_is_step.Goals as goal
 
 pub returns : goal.returns

@@ -1,4 +1,4 @@
-use Rattle.hfs_model.proofs.Leaves.{reading_leaves}
+use Rattle.hfs_model.proofs.LawsProved.{reading_leaves}
 use Rattle.hfs_model.proofs.laws.reading_leaves.Goals as goal
 
 pub returns : goal.returns

@@ -1,4 +1,4 @@
-use Rattle.hfs_model.proofs.Leaves.{refusal_leaves}
+use Rattle.hfs_model.proofs.LawsProved.{refusal_leaves}
 use Rattle.hfs_model.proofs.laws.refusal_leaves.Goals as goal
 
 pub returns : goal.returns

@@ -1,4 +1,4 @@
-use Rattle.hfs_model.proofs.Leaves.{step_is_never_full}
+use Rattle.hfs_model.proofs.LawsProved.{step_is_never_full}
 use Rattle.hfs_model.proofs.laws.step_is_never_full.Goals as goal
 
 pub returns : goal.returns

@@ -1,12 +1,13 @@
 use Rattle.std.proofs.Common.{◌≡◌, rules}
-use Rattle.hfs_check.specs.declared.mount_fault.MountFault.TheVariants as fault
 use Rattle.hfs_needed.proofs.Found.{has-bytes, tree-right, tree-wrong}
+use Rattle.hfs_space.proofs.LawsProved.{no_tree_file_fault}
+use Rattle.hfs_check.specs.declared.mount_fault.MountFault.TheVariants as fault
 use Rattle.hfs_needed.proofs.finding.is_extents_tree_right.Goals as goal
 
 pub check_extents_tree-requires : goal.check_extents_tree-requires
 check_extents_tree-requires g c =
     has-bytes (g.B.Blocks.blocks c.args.blocks.now) c.args.mdb.now c.requires.is c.args.extents_tree.now c.requires.runs.numbers c.requires.file
-    c.no_tree_file_fault.ensures c.requires.sound.whole_size
+    no_tree_file_fault c.requires.sound.whole_size
 
 pub returns-in-Ok : goal.returns-in-Ok
 returns-in-Ok g c =

@@ -2,12 +2,13 @@ use Rattle.std.proofs.Common.{◌≡◌, ℕ, Bool, true, false, List, subst, �
 use Rattle.std.specs.Prelude.{IfOk, MatchOption}
 use Rattle.hfs_needed.specs.Gathered.{LieAt}
 use Rattle.hfs_needed.proofs.Found.{is-extents-tree, catalog-extents-are, catalog-file-is, catalog-blocks-are}
+use Rattle.hfs_check.proofs.LawsProved.{no_extents_fault}
 use Rattle.hfs_needed.proofs.finding.right_catalog_runs.Goals as goal
 
 pub fork_extents-requires : goal.fork_extents-requires
 fork_extents-requires g c =
     is-extents-tree (g.B.Blocks.blocks c.args.blocks.now) c.args.mdb.now c.requires.is c.args.extents_tree.now c.requires.runs.numbers
-    c.no_extents_fault.ensures c.requires.right
+    no_extents_fault c.requires.right
 
 pub returns : goal.returns
 returns g c =

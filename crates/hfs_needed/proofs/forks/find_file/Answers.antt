@@ -2,15 +2,16 @@
 use Rattle.std.proofs.Common.{◌∙◌, sym, subst}
 use Rattle.hfs_blocks.specs.Blocks.{nodes_in}
 use Rattle.hfs_queries.proofs.ReplyLemmas.{by_nodes}
-use Rattle.hfs_queries.specs.Told as told
 use Rattle.hfs_sparse.specs.Sparse.{sparse}
 use Rattle.hfs_needed.proofs.Named.{forks-found}
+use Rattle.hfs_queries.proofs.LawsProved.{catalog_answers-sound}
+use Rattle.hfs_queries.specs.Told as told
 use Rattle.hfs_needed.proofs.forks.find_file.Goals as goal
 
 pub file_named-requires : goal.file_named-requires
 file_named-requires c =
     subst told.IsCatalog (sym ((λ i. nodes_in (sparse (c.volume.ensures.read i)) (c.deref.ensures.value i)) ∙ c.requires.trees.catalog.same))
-    (c.catalog_answers.ensures.sound c.args.count (sparse c.args.read.now) c.requires.sound)
+    (catalog_answers-sound c.args.count (sparse c.args.read.now) c.requires.sound)
 
 pub returns-clause-found : goal.returns-clause-found
 returns-clause-found c =

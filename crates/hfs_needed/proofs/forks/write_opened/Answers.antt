@@ -6,19 +6,22 @@ use Rattle.hfs_check.specs.Sound.{AreBlocksSound}
 use Rattle.hfs_sparse.specs.Sparse.{sparse}
 use Rattle.hfs_needed.specs.Gathered.{HasNeeded}
 use Rattle.hfs_needed.proofs.Named.{unread-known, fact-known}
+use Rattle.hfs_check.proofs.LawsProved.{no_blocks_fault}
+use Rattle.hfs_needed.proofs.LawsProved.{gathered_is_enough}
+use Rattle.hfs_queries.proofs.LawsProved.{catalog_answers-entries}
 use Rattle.hfs_needed.proofs.forks.write_opened.Goals as goal
 
 pub returns-in-Err-clause-unread : goal.returns-in-Err-clause-unread
 returns-in-Err-clause-unread g c = λ len same.
     let volume = c.args.volume.now in
-    unread-known c.no_blocks_fault.ensures c.gathered_is_enough.ensures c.catalog_answers.ensures.entries len volume.read
+    unread-known no_blocks_fault gathered_is_enough catalog_answers-entries len volume.read
     (subst (λ (n : ℕ). HasNeeded n volume.read) (sym same) c.requires.needed) (subst (λ (n : ℕ). AreBlocksSound n (sparse volume.read)) (sym same) c.requires.sound)
     c.args.dir c.args.name.now c.args.fork (g.S.BlockSource.image c.args.source.now) c.requires.of c.in-Err.reply c.in-Err.ensures.found
 
 pub returns-in-Ok-write_file-clause-written : goal.returns-in-Ok-write_file-clause-written
 returns-in-Ok-write_file-clause-written g c = λ len same.
     let volume = c.args.volume.now in
-    fact-known c.no_blocks_fault.ensures c.gathered_is_enough.ensures c.catalog_answers.ensures.entries len volume.read
+    fact-known no_blocks_fault gathered_is_enough catalog_answers-entries len volume.read
     (subst (λ (n : ℕ). HasNeeded n volume.read) (sym same) c.requires.needed) (subst (λ (n : ℕ). AreBlocksSound n (sparse volume.read)) (sym same) c.requires.sound)
     c.args.dir c.args.name.now c.args.fork (g.S.BlockSource.image c.args.source.now) _ refl c.requires.of volume.count (sym same)
     c.in-Ok.file c.in-Ok.ensures.found (Appends (g.W.Write.contents c.args.writer.now) (g.W.Write.contents c.write_file.new.writer)) c.in-Ok-write_file.ensures.written
@@ -26,7 +29,7 @@ returns-in-Ok-write_file-clause-written g c = λ len same.
 pub returns-in-Err-write_file-clause-part : goal.returns-in-Err-write_file-clause-part
 returns-in-Err-write_file-clause-part g c = λ len same.
     let volume = c.args.volume.now in
-    fact-known c.no_blocks_fault.ensures c.gathered_is_enough.ensures c.catalog_answers.ensures.entries len volume.read
+    fact-known no_blocks_fault gathered_is_enough catalog_answers-entries len volume.read
     (subst (λ (n : ℕ). HasNeeded n volume.read) (sym same) c.requires.needed) (subst (λ (n : ℕ). AreBlocksSound n (sparse volume.read)) (sym same) c.requires.sound)
     c.args.dir c.args.name.now c.args.fork (g.S.BlockSource.image c.args.source.now) _ refl c.requires.of volume.count (sym same)
     c.in-Ok.file c.in-Ok.ensures.found (AppendsFront (g.W.Write.contents c.args.writer.now) (g.W.Write.contents c.write_file.new.writer)) c.in-Err-write_file.ensures.part

@@ -9,6 +9,7 @@ use Rattle.hfs_sparse.specs.Sparse.{sparse}
 use Rattle.hfs_needed.specs.Gathered.{LieAt}
 use Rattle.hfs_needed.specs.Needed.{is_extents_tree_right, has_catalog_file}
 use Rattle.hfs_needed.proofs.Gathered.{lie-at, catalog-room, needs-no-catalog, has_catalog}
+use Rattle.hfs_space.proofs.LawsProved.{no_tree_file_fault}
 use Rattle.hfs_needed.proofs.gathering.gather_catalog.Goals as goal
 
 pub returns-in_default-found-clause-has : goal.returns-in_default-found-clause-has
@@ -25,7 +26,7 @@ gather_tree-requires-clause-within g c =
     subst (λ (r : Numbered). (is_extents_tree_right (sparse r) && has_catalog_file (sparse r)) ≡ true) c.volume.ensures.read found.0 in
     let lie = lie-at (λ (r : Numbered). catalog_blocks (sparse r)) c.args.count c.volume.result.count c.args.read.now c.volume.result.read.now
     c.in-Some.runs.items c.deref.result.now c.volume.ensures.read c.volume.ensures.count c.deref.ensures.value found.1 in
-    (catalog-room (sparse c.args.read.now) c.args.mdb.now c.requires.is c.args.count c.deref.result.now c.no_tree_file_fault.ensures c.requires.sound.whole_size
+    (catalog-room (sparse c.args.read.now) c.args.mdb.now c.requires.is c.args.count c.deref.result.now no_tree_file_fault c.requires.sound.whole_size
     (and_parts (is_extents_tree_right (sparse c.args.read.now)) (has_catalog_file (sparse c.args.read.now)) right).1 lie).1
 
 pub returns-in_err-gather_tree-clause-reads : goal.returns-in_err-gather_tree-clause-reads

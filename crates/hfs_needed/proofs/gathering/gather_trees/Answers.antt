@@ -8,6 +8,7 @@ use Rattle.hfs_sparse.proofs.SparseLemmas.{has-grown}
 use Rattle.hfs_needed.specs.Gathered.{LieAt}
 use Rattle.hfs_needed.specs.Needed.{has_extents_file}
 use Rattle.hfs_needed.proofs.Gathered.{lie-at, lie-later, reads-on, mdb-stays, extents-room, has_extents-stays, has_extents-now, has_extents-later, needs_none, needs_both}
+use Rattle.hfs_space.proofs.LawsProved.{no_tree_file_fault}
 use Rattle.hfs_needed.proofs.gathering.gather_trees.Goals as goal
 
 pub returns-in_default-found-clause-has : goal.returns-in_default-found-clause-has
@@ -23,7 +24,7 @@ gather_tree-requires-clause-within g c =
     subst (λ (r : Numbered). has_extents_file (sparse r) ≡ true) c.volume.ensures.read found.0 in
     let lie = lie-at (λ (r : Numbered). extents_blocks (sparse r)) c.args.count c.volume.result.count c.args.read.now c.volume.result.read.now
     c.in-Some.runs.items c.deref.result.now c.volume.ensures.read c.volume.ensures.count c.deref.ensures.value found.1 in
-    (extents-room (sparse c.args.read.now) c.args.mdb.now c.requires.is c.args.count c.deref.result.now c.no_tree_file_fault.ensures c.requires.sound.whole_size file lie).1
+    (extents-room (sparse c.args.read.now) c.args.mdb.now c.requires.is c.args.count c.deref.result.now no_tree_file_fault c.requires.sound.whole_size file lie).1
 
 pub returns-in_err-gather_tree-clause-reads : goal.returns-in_err-gather_tree-clause-reads
 returns-in_err-gather_tree-clause-reads g c =

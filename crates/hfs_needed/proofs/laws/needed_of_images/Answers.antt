@@ -1,5 +1,5 @@
-use Rattle.hfs_needed.proofs.SameImages.{images-same}
+use Rattle.hfs_needed.proofs.LawsProved.{needed_of_images}
 use Rattle.hfs_needed.proofs.laws.needed_of_images.Goals as goal
 
 pub returns : goal.returns
-returns c = images-same c.needed_is_enough.ensures c.no_image_fault.ensures
+returns c = needed_of_images

@@ -6,17 +6,18 @@ use Rattle.hfs_queries.proofs.ReplyLemmas.{by_nodes}
 use Rattle.hfs_queries.specs.Told.{IsCatalog}
 use Rattle.std.specs.Prelude.{IfOk}
 use Rattle.hfs_sparse.specs.Sparse.{sparse}
+use Rattle.hfs_queries.proofs.LawsProved.{catalog_answers-sound}
 use Rattle.hfs_needed.proofs.listing.catalog_records.Goals as goal
 
 pub read_records-requires-clause-structure : goal.read_records-requires-clause-structure
 read_records-requires-clause-structure c =
     (subst IsCatalog (sym ((λ i. nodes_in (sparse (c.volume.ensures.read i)) (c.deref.ensures.value i)) ∙ c.requires.trees.catalog.same))
-    (c.catalog_answers.ensures.sound c.args.count (sparse c.args.read.now) c.requires.sound)).tree.structure
+    (catalog_answers-sound c.args.count (sparse c.args.read.now) c.requires.sound)).tree.structure
 
 pub read_records-requires-clause-counts : goal.read_records-requires-clause-counts
 read_records-requires-clause-counts c =
     (subst IsCatalog (sym ((λ i. nodes_in (sparse (c.volume.ensures.read i)) (c.deref.ensures.value i)) ∙ c.requires.trees.catalog.same))
-    (c.catalog_answers.ensures.sound c.args.count (sparse c.args.read.now) c.requires.sound)).tree.counts
+    (catalog_answers-sound c.args.count (sparse c.args.read.now) c.requires.sound)).tree.counts
 
 pub returns : goal.returns
 returns c =

@@ -3,17 +3,18 @@ use Rattle.std.proofs.Common.{◌≡◌, ◌∙◌, sym, subst}
 use Rattle.std.specs.Prelude.{IfOk}
 use Rattle.hfs_blocks.specs.Blocks.{nodes_in}
 use Rattle.hfs_model.specs.declared.reply.Reply.{Reply}
-use Rattle.hfs_queries.specs.declared.reply.Detail.TheVariants as detail
 use Rattle.hfs_queries.specs.Brief.{listed_in}
 use Rattle.hfs_queries.proofs.ReplyLemmas.{by_nodes}
 use Rattle.hfs_queries.specs.Told.{IsCatalog}
 use Rattle.hfs_sparse.specs.Sparse.{sparse}
+use Rattle.hfs_queries.proofs.LawsProved.{catalog_answers-sound}
+use Rattle.hfs_queries.specs.declared.reply.Detail.TheVariants as detail
 use Rattle.hfs_needed.proofs.listing.list_in_brief.Goals as goal
 
 pub list-requires : goal.list-requires
 list-requires c =
     subst IsCatalog (sym ((λ i. nodes_in (sparse (c.volume.ensures.read i)) (c.deref.ensures.value i)) ∙ c.requires.trees.catalog.same))
-    (c.catalog_answers.ensures.sound c.args.count (sparse c.args.read.now) c.requires.sound)
+    (catalog_answers-sound c.args.count (sparse c.args.read.now) c.requires.sound)
 
 pub returns : goal.returns
 returns c =

@@ -6,12 +6,13 @@ use Rattle.hfs_queries.proofs.ReplyLemmas.{by_nodes}
 use Rattle.hfs_queries.specs.Told.{IsCatalog, cat_info, dir_info}
 use Rattle.hfs_sparse.specs.Sparse.{sparse}
 use Rattle.hfs_needed.specs.Paths.{told_at}
+use Rattle.hfs_queries.proofs.LawsProved.{catalog_answers-sound}
 use Rattle.hfs_needed.proofs.paths.told_in.Goals as goal
 
 pub path_told-requires : goal.path_told-requires
 path_told-requires c =
     subst IsCatalog (sym ((λ i. nodes_in (sparse (c.volume.ensures.read i)) (c.deref.ensures.value i)) ∙ c.requires.trees.catalog.same))
-    (c.catalog_answers.ensures.sound c.args.count (sparse c.args.read.now) c.requires.sound)
+    (catalog_answers-sound c.args.count (sparse c.args.read.now) c.requires.sound)
 
 pub returns : goal.returns
 returns c =

@@ -3,10 +3,12 @@ use Rattle.std.proofs.Common.{◌∙◌}
 use Rattle.hfs_check.specs.Report.{report_in}
 use Rattle.hfs_sparse.specs.Sparse.{sparse}
 use Rattle.hfs_needed.proofs.Reported.{gathered-reports}
+use Rattle.hfs_check.proofs.LawsProved.{no_blocks_fault}
+use Rattle.hfs_needed.proofs.LawsProved.{gathered_is_enough}
 use Rattle.hfs_needed.proofs.reporting.gathered_report.Goals as goal
 
 pub returns-in-Ok-clause-report : goal.returns-in-Ok-clause-report
 returns-in-Ok-clause-report g c =
-    gathered-reports c.no_blocks_fault.ensures c.gathered_is_enough.ensures (g.S.BlockSource.image c.args.source.now) c.args.count c.in_ok-read.read
+    gathered-reports no_blocks_fault gathered_is_enough (g.S.BlockSource.image c.args.source.now) c.args.count c.in_ok-read.read
     c.in_ok-read.ensures.needed c.in_ok-read.ensures.told c.in-Ok.report
     (c.in-Ok.ensures ∙ (λ i. report_in (c.volume.ensures.count i) (sparse (c.volume.ensures.read i))))

@@ -1,9 +1,11 @@
 -- By the image's length.
 use Rattle.std.proofs.Common.{rules}
-use Rattle.hfs_check.specs.declared.mount_fault.MountFault.TheVariants as fault
 use Rattle.hfs_needed.specs.declared.reporting.ReportedVolume.{ReportedVolume}
 use Rattle.hfs_needed.proofs.Refused.{length-refused, err-so, opened-sound}
 use Rattle.hfs_needed.proofs.Reported.{length-large, length-short, length-right, ok-so, reports-right}
+use Rattle.hfs_check.proofs.LawsProved.{no_blocks_fault}
+use Rattle.hfs_needed.proofs.LawsProved.{gathered_is_enough}
+use Rattle.hfs_check.specs.declared.mount_fault.MountFault.TheVariants as fault
 use Rattle.hfs_needed.proofs.reporting.open_reported.Goals as goal
 
 pub returns-then-len-gt2147483648-clause-refused :
@@ -30,5 +32,5 @@ pub returns-clause-sound : goal.returns-clause-sound
 returns-clause-sound g c =
     ok-so c.report_opened.result
     (λ (found : ReportedVolume) opened.
-    opened-sound c.no_blocks_fault.ensures c.gathered_is_enough.ensures (g.S.BlockSource.image c.args.source.now) c.args.len
+    opened-sound no_blocks_fault gathered_is_enough (g.S.BlockSource.image c.args.source.now) c.args.len
     (length-right c.args.len (search rules) (search rules)) found.volume opened) c.report_opened.ensures.opened

@@ -5,27 +5,29 @@ use Rattle.hfs_sparse.specs.Sparse.{sparse}
 use Rattle.hfs_needed.proofs.OpenedAt.{opened-from}
 use Rattle.hfs_needed.proofs.Refused.{first-refused}
 use Rattle.hfs_needed.proofs.Reported.{gathered-reports, report_in-fault}
+use Rattle.hfs_needed.proofs.LawsProved.{gathered_is_enough}
+use Rattle.hfs_check.proofs.LawsProved.{no_blocks_fault}
 use Rattle.hfs_needed.proofs.reporting.report_opened.Goals as goal
 
 pub returns-in-Some-clause-refused : goal.returns-in-Some-clause-refused
 returns-in-Some-clause-refused g c =
     let is : c.in-Ok-report_blocks.report ≡ report_in c.args.count (sparse c.in-Ok.read) =
     c.in-Ok-report_blocks.ensures ∙ (λ i. report_in (c.volume.ensures.count i) (sparse (c.volume.ensures.read i))) in
-    first-refused c.gathered_is_enough.ensures (g.S.BlockSource.image c.args.source.now) c.args.count c.in-Ok.read c.in-Ok.ensures.needed c.in-Ok.ensures.told
+    first-refused gathered_is_enough (g.S.BlockSource.image c.args.source.now) c.args.count c.in-Ok.read c.in-Ok.ensures.needed c.in-Ok.ensures.told
     c.in-Some.why (sym (report_in-fault c.args.count (sparse c.in-Ok.read) c.in-Ok-report_blocks.report is) ∙ c.in-Some.is)
 
 pub sound_volume-requires-clause-sound : goal.sound_volume-requires-clause-sound
 sound_volume-requires-clause-sound g c =
     let is : c.in-Ok-report_blocks.report ≡ report_in c.args.count (sparse c.in-Ok.read) =
     c.in-Ok-report_blocks.ensures ∙ (λ i. report_in (c.volume.ensures.count i) (sparse (c.volume.ensures.read i))) in
-    (c.no_blocks_fault.ensures c.args.count (sparse c.in-Ok.read)).0
+    (no_blocks_fault c.args.count (sparse c.in-Ok.read)).0
     (sym (report_in-fault c.args.count (sparse c.in-Ok.read) c.in-Ok-report_blocks.report is) ∙ c.in-None.is)
 
 pub returns-in-Ok-sound_volume-clause-opened : goal.returns-in-Ok-sound_volume-clause-opened
 returns-in-Ok-sound_volume-clause-opened g c =
     let is : c.in-Ok-report_blocks.report ≡ report_in c.args.count (sparse c.in-Ok.read) =
     c.in-Ok-report_blocks.ensures ∙ (λ i. report_in (c.volume.ensures.count i) (sparse (c.volume.ensures.read i))) in
-    let sound = (c.no_blocks_fault.ensures c.args.count (sparse c.in-Ok.read)).0
+    let sound = (no_blocks_fault c.args.count (sparse c.in-Ok.read)).0
     (sym (report_in-fault c.args.count (sparse c.in-Ok.read) c.in-Ok-report_blocks.report is) ∙ c.in-None.is) in
     opened-from (g.S.BlockSource.image c.args.source.now) c.args.count c.in-Ok.read c.in-Ok.ensures.needed c.in-Ok.ensures.told
     sound c.in-Ok-sound_volume.volume c.in-Ok-sound_volume.ensures.read c.in-Ok-sound_volume.ensures.count
@@ -33,6 +35,6 @@ returns-in-Ok-sound_volume-clause-opened g c =
 
 pub returns-in-Ok-sound_volume-clause-report : goal.returns-in-Ok-sound_volume-clause-report
 returns-in-Ok-sound_volume-clause-report g c =
-    gathered-reports c.no_blocks_fault.ensures c.gathered_is_enough.ensures (g.S.BlockSource.image c.args.source.now) c.args.count c.in-Ok.read
+    gathered-reports no_blocks_fault gathered_is_enough (g.S.BlockSource.image c.args.source.now) c.args.count c.in-Ok.read
     c.in-Ok.ensures.needed c.in-Ok.ensures.told c.in-Ok-report_blocks.report
     (c.in-Ok-report_blocks.ensures ∙ (λ i. report_in (c.volume.ensures.count i) (sparse (c.volume.ensures.read i))))

@@ -7,12 +7,13 @@ use Rattle.hfs_btree.specs.Tree.{Store}
 use Rattle.hfs_space.specs.TreeKeys.{IsExtentsTree}
 use Rattle.hfs_check.proofs.Opened.{catalog_extents-is}
 use Rattle.hfs_sparse.specs.Sparse.{sparse}
+use Rattle.hfs_check.proofs.LawsProved.{trees_are_sound}
 use Rattle.hfs_needed.proofs.sound_trees.catalog_file.Goals as goal
 
 pub fork_extents-requires : goal.fork_extents-requires
 fork_extents-requires c =
     subst (λ (nodes : Store). IsExtentsTree nodes) (sym ((λ i. nodes_in (sparse (c.volume.ensures.read i)) c.args.extents_tree.now) ∙ c.requires.runs.same))
-    (c.trees_are_sound.ensures c.args.count (sparse c.args.read.now) c.requires.sound).0
+    (trees_are_sound c.args.count (sparse c.args.read.now) c.requires.sound).0
 
 pub returns : goal.returns
 returns c =

@@ -2,14 +2,15 @@
 use Rattle.std.proofs.Common.{◌∙◌, sym, subst}
 use Rattle.hfs_blocks.specs.Blocks.{nodes_in}
 use Rattle.hfs_queries.proofs.ReplyLemmas.{by_nodes}
-use Rattle.hfs_queries.specs.Told as told
 use Rattle.hfs_sparse.specs.Sparse.{sparse}
+use Rattle.hfs_queries.proofs.LawsProved.{catalog_answers-sound}
+use Rattle.hfs_queries.specs.Told as told
 use Rattle.hfs_needed.proofs.whole_files.tell_of.Goals as goal
 
 pub get_cat_info-requires : goal.get_cat_info-requires
 get_cat_info-requires c =
     subst told.IsCatalog (sym ((λ i. nodes_in (sparse (c.volume.ensures.read i)) (c.deref.ensures.value i)) ∙ c.requires.trees.catalog.same))
-    (c.catalog_answers.ensures.sound c.args.count (sparse c.args.read.now) c.requires.sound)
+    (catalog_answers-sound c.args.count (sparse c.args.read.now) c.requires.sound)
 
 pub returns : goal.returns
 returns c =

@@ -6,12 +6,13 @@ use Rattle.hfs_space.specs.Extents.{Overflow}
 use Rattle.hfs_space.specs.TreeKeys.{IsExtentsTree}
 use Rattle.hfs_page.specs.Holdings.{volume_holdings}
 use Rattle.hfs_page.proofs.DiskLemmas.{overflow-by, catalog-file}
+use Rattle.hfs_check.proofs.LawsProved.{trees_are_sound}
 use Rattle.hfs_page.proofs.disk.held_extents.Goals as goal
 
 pub volume_holdings-requires-clause-tree : goal.volume_holdings-requires-clause-tree
 volume_holdings-requires-clause-tree g c =
     subst IsExtentsTree (sym ((λ i. nodes_in (g.B.Blocks.blocks c.args.blocks.now) (c.deref.ensures.value i)) ∙ c.requires.trees.extents.same))
-    (c.trees_are_sound.ensures (g.B.Blocks.total c.args.blocks.now) (g.B.Blocks.blocks c.args.blocks.now) c.requires.sound).0
+    (trees_are_sound (g.B.Blocks.total c.args.blocks.now) (g.B.Blocks.blocks c.args.blocks.now) c.requires.sound).0
 
 pub volume_holdings-requires-clause-catalog : goal.volume_holdings-requires-clause-catalog
 volume_holdings-requires-clause-catalog g c =

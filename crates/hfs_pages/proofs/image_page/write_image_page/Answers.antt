@@ -1,15 +1,16 @@
 -- What was read has the page of the image.
 use Rattle.hfs_pages.proofs.SamePages.{written-known, part-known}
+use Rattle.hfs_needed.proofs.LawsProved.{gathered_is_enough}
 use Rattle.hfs_pages.proofs.image_page.write_image_page.Goals as goal
 
 pub returns-clause-written : goal.returns-clause-written
 returns-clause-written g c =
-    written-known c.gathered_is_enough.ensures c.args.image.now.known c.args.image.now.len c.volume-volume.result.now c.volume-volume.ensures
+    written-known gathered_is_enough c.args.image.now.known c.args.image.now.len c.volume-volume.result.now c.volume-volume.ensures
     c.args.style.now c.args.legend.now c.args.script.now c.volume-blocks.result.read.now c.volume-blocks.ensures.read c.write_page.result _ _
     c.write_page.ensures.written
 
 pub returns-clause-part : goal.returns-clause-part
 returns-clause-part g c =
-    part-known c.gathered_is_enough.ensures c.args.image.now.known c.args.image.now.len c.volume-volume.result.now c.volume-volume.ensures
+    part-known gathered_is_enough c.args.image.now.known c.args.image.now.len c.volume-volume.result.now c.volume-volume.ensures
     c.args.style.now c.args.legend.now c.args.script.now c.volume-blocks.result.read.now c.volume-blocks.ensures.read c.write_page.result _ _
     c.write_page.ensures.part

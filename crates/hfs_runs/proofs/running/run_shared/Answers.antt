@@ -15,6 +15,7 @@ use Rattle.hfs_runs.proofs.Small.{viewers_within}
 use Rattle.hfs_runs.proofs.Working.{AreJobs, AreDone, AreViewings, AreViewed, first_book, told_of}
 use Rattle.hfs_runs.proofs.Reasons.{ok_is}
 use Rattle.hfs_runs.proofs.OneRun.{begun, ran}
+use Rattle.hfs_published.proofs.LawsProved.{published_is_after}
 use Rattle.hfs_runs.proofs.running.run_shared.Goals as goal
 
 pub viewings_of-requires : goal.viewings_of-requires
@@ -69,4 +70,4 @@ returns-clause-ok g c =
     let shown : IsWhether c.are_all_whole-shown.result (OfEach AreWhole c.in-Ok.dones.items) =
     subst (λ (ds : List Done). IsWhether c.are_all_whole-shown.result (OfEach AreWhole ds)) c.deref-2.ensures.value c.are_all_whole-shown.ensures in
     ran (λ (calls : Vec Call Global). calls.items) book g.K.Session.base script c.in_ok-volume.volume (string_bytes c.in_ok-text.text) c.in_ok-text.whole c.are_all_whole-shown.result c.in_ok-lines.lines.items c.args.passes.items
-    c.in_ok-jobs.jobs.items c.in-Ok.dones.items c.in_ok-viewings.viewings.items c.run_beside-dones.result.1.items numbered begins done views viewed text whole c.published_is_after.ensures shown c.in_ok-volume.ensures.ok
+    c.in_ok-jobs.jobs.items c.in-Ok.dones.items c.in_ok-viewings.viewings.items c.run_beside-dones.result.1.items numbered begins done views viewed text whole published_is_after shown c.in_ok-volume.ensures.ok

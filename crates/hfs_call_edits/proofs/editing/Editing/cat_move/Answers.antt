@@ -1,7 +1,5 @@
 -- The patch makes the step of CatMove, or a code refuses it, or nodes are lacking.
 use Rattle.std.proofs.Common.{rules, refl, sym, ◌∙◌, ap, subst}
-use Rattle.hfs_model.specs.declared.call.Call.TheVariants as call
-use Rattle.hfs_model.specs.declared.reply.Value.TheVariants as value
 use Rattle.hfs_model.specs.Need.{one_record}
 use Rattle.hfs_check.specs.Parts.{mdb_in}
 use Rattle.hfs_check.specs.VolumeOf.{volume_in}
@@ -10,6 +8,10 @@ use Rattle.hfs_call_edits.proofs.Edited.{editing_now}
 use Rattle.hfs_call_edits.proofs.MayMove.{fits_counts, may_move, move_refused, move_accepted}
 use Rattle.hfs_call_edits.proofs.StepMade.{step_made}
 use Rattle.hfs_call_edits.proofs.Wanting.{enough_nodes, full_edit, refused_edit}
+use Rattle.hfs_check.proofs.LawsProved.{catalog_is_sound, trees_are_sound}
+use Rattle.hfs_changes.proofs.LawsProved.{move_fits, choice_stands, creation_is_free-folder, move_is_free, catalog_edits_are_steps}
+use Rattle.hfs_model.specs.declared.call.Call.TheVariants as call
+use Rattle.hfs_model.specs.declared.reply.Value.TheVariants as value
 use Rattle.hfs_call_edits.proofs.editing.Editing.cat_move.Goals as goal
 
 pub returns-in-Err : goal.returns-in-Err
@@ -32,8 +34,8 @@ patch_move-requires-clause-can g c =
     let volume = c.args.self.now in
     let now = editing_now blocks g.B.Blocks.total volume c.self.inside.blocks.now c.self.view_is _ _ _ c.self.invariant in
     subst (λ b. CanMove (blocks b) c.in-Ok.moving) (sym c.self.view_is)
-    (may_move c.catalog_is_sound.ensures (g.B.Blocks.total volume) (blocks volume) now.sound c.args.dir c.args.name.now c.args.new_dir c.in-Ok.moving c.in-Ok.ensures c.move_fits.ensures
-    c.trees_are_sound.ensures c.choice_stands.ensures c.creation_is_free.ensures.folder c.move_is_free.ensures c.catalog_is_in_file.ensures.nodes c.in_default.ensures.room)
+    (may_move catalog_is_sound (g.B.Blocks.total volume) (blocks volume) now.sound c.args.dir c.args.name.now c.args.new_dir c.in-Ok.moving c.in-Ok.ensures move_fits
+    trees_are_sound choice_stands creation_is_free-folder move_is_free c.catalog_is_in_file.ensures.nodes c.in_default.ensures.room)
 
 pub counts_moved-counts-requires : goal.counts_moved-counts-requires
 counts_moved-counts-requires g c =
@@ -41,7 +43,7 @@ counts_moved-counts-requires g c =
     let volume = c.args.self.now in
     let now = editing_now blocks g.B.Blocks.total volume c.self.inside.blocks.now c.self.view_is _ _ _ c.self.invariant in
     subst (λ mdb. FitsCounts mdb c.in-Ok.moving) (sym now.directory)
-    (fits_counts c.catalog_is_sound.ensures (g.B.Blocks.total volume) (blocks volume) now.sound c.args.dir c.args.name.now c.args.new_dir c.in-Ok.moving c.in-Ok.ensures c.move_fits.ensures)
+    (fits_counts catalog_is_sound (g.B.Blocks.total volume) (blocks volume) now.sound c.args.dir c.args.name.now c.args.new_dir c.in-Ok.moving c.in-Ok.ensures move_fits)
 
 pub returns : goal.returns
 returns g c =
@@ -51,7 +53,7 @@ returns g c =
     let now = editing_now blocks g.B.Blocks.total volume own c.self.view_is _ _ _ c.self.invariant in
     let move = call.CatMove c.args.dir c.args.name.now c.args.new_dir c.args.now in
     let counts = c.counts_moved-counts.ensures ∙ ap (counts_moved c.in-Ok.moving c.args.now) now.directory in
-    step_made blocks g.B.Blocks.total volume own c.self.view_is c.catalog_edits_are_steps.ensures move
+    step_made blocks g.B.Blocks.total volume own c.self.view_is catalog_edits_are_steps move
     (enough_nodes move (blocks volume) one_record (λ depth. refl) c.in_default.ensures.refusal)
     c.in_ok-patch.patch (λ old. counts_moved c.in-Ok.moving c.args.now (mdb_in old)) c.change_of.result
     (c.change_of.ensures ∙ (λ i. record { patch = c.in_ok-patch.patch; counts = counts i; value = value.Nothing })) now.sound c.in_ok-patch.ensures.within

@@ -1,8 +1,6 @@
 -- The patch makes the call's step, and the call answers the file's ID.
 use Rattle.std.proofs.Common.{rules, refl, sym, ap, ◌∙◌, ℕ}
 use Rattle.hfs_check.specs.VolumeOf.{volume_in}
-use Rattle.hfs_model.specs.declared.call.Call.TheVariants as call
-use Rattle.hfs_model.specs.declared.reply.Value.TheVariants as answer
 use Rattle.hfs_model.specs.FileIds.{to_create_file_id}
 use Rattle.hfs_model.specs.Need.{one_record}
 use Rattle.hfs_model.specs.Replies.{success}
@@ -11,6 +9,9 @@ use Rattle.hfs_call_edits.proofs.FileIdReplies.{create_refused, create_accepted,
 use Rattle.hfs_call_edits.proofs.FileIdsChosen.{create_code}
 use Rattle.hfs_call_patches.proofs.ChosenFileLemmas.{file_id_is}
 use Rattle.hfs_call_edits.proofs.Wanting.{enough_nodes, full_edit, refused_edit}
+use Rattle.hfs_changes.proofs.LawsProved.{catalog_edits_are_steps}
+use Rattle.hfs_model.specs.declared.call.Call.TheVariants as call
+use Rattle.hfs_model.specs.declared.reply.Value.TheVariants as answer
 use Rattle.hfs_call_edits.proofs.editing.Editing.create_file_id.Goals as goal
 
 pub patch_create_file_id-requires-clause-chosen : goal.patch_create_file_id-requires-clause-chosen
@@ -41,7 +42,7 @@ returns g c =
     let value = c.args.self.now in
     let own = c.self.inside.blocks.now in
     let chosen = c.in-Ok.ensures.choice.choice in
-    change_to blocks g.B.Blocks.total value own c.self.view_is c.catalog_edits_are_steps.ensures (call.CreateFileId c.args.dir c.args.name.now c.args.now)
+    change_to blocks g.B.Blocks.total value own c.self.view_is catalog_edits_are_steps (call.CreateFileId c.args.dir c.args.name.now c.args.now)
     (enough_nodes (call.CreateFileId c.args.dir c.args.name.now c.args.now) (blocks value) one_record (λ depth. refl) c.in_default.ensures.refusal)
     c.in_ok-patch.patch c.args.now c.in-Ok.chosen.1.id c.change_to_id.result c.change_to_id.ensures
     (editing_now blocks g.B.Blocks.total value own c.self.view_is _ _ _ c.self.invariant).sound c.in_ok-patch.ensures.within

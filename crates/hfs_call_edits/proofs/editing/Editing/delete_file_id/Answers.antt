@@ -1,10 +1,11 @@
 -- The patch makes the call's step, and the call answers nothing.
 use Rattle.std.proofs.Common.{rules, refl}
 use Rattle.hfs_check.specs.VolumeOf.{volume_in}
-use Rattle.hfs_model.specs.declared.call.Call.TheVariants as call
 use Rattle.hfs_model.specs.FileIds.{to_delete_file_id}
 use Rattle.hfs_call_edits.proofs.Edited.{change_of, refusal_of, file_choice, editing_now}
 use Rattle.hfs_call_edits.proofs.FileIdReplies.{delete_refused, delete_accepted}
+use Rattle.hfs_changes.proofs.LawsProved.{catalog_edits_are_steps}
+use Rattle.hfs_model.specs.declared.call.Call.TheVariants as call
 use Rattle.hfs_call_edits.proofs.editing.Editing.delete_file_id.Goals as goal
 
 pub patch_delete_file_id-requires-clause-chosen : goal.patch_delete_file_id-requires-clause-chosen
@@ -26,7 +27,7 @@ returns g c =
     let value = c.args.self.now in
     let own = c.self.inside.blocks.now in
     let chosen = c.in-Ok.ensures.choice in
-    change_of blocks g.B.Blocks.total value own c.self.view_is c.catalog_edits_are_steps.ensures (call.DeleteFileId c.args.id c.args.now) (λ depth. refl)
+    change_of blocks g.B.Blocks.total value own c.self.view_is catalog_edits_are_steps (call.DeleteFileId c.args.id c.args.now) (λ depth. refl)
     c.in_ok-patch.patch c.args.now c.change.result c.change.ensures
     (editing_now blocks g.B.Blocks.total value own c.self.view_is _ _ _ c.self.invariant).sound c.in_ok-patch.ensures.within
     (c.in_ok-patch.ensures.makes c.args.id

@@ -2,12 +2,15 @@
 use Rattle.hfs_call_edits.proofs.MoveModel.{chooses_moving}
 use Rattle.hfs_call_edits.proofs.Edited.{editing_now}
 use Rattle.hfs_queries.proofs.ReplyLemmas.{by_nodes}
+use Rattle.hfs_changes.proofs.LawsProved.{choice_stands, offspring_by_parents}
+use Rattle.hfs_catalog.proofs.LawsProved.{valences_are_counted}
+use Rattle.hfs_check.proofs.LawsProved.{catalog_is_sound}
 use Rattle.hfs_call_edits.proofs.editing.Editing.item_to_move.Goals as goal
 
 pub returns : goal.returns
 returns g c =
     let volume = c.args.self.now in
     let now = editing_now g.B.Blocks.blocks g.B.Blocks.total volume c.self.inside.blocks.now c.self.view_is _ _ _ c.self.invariant in
-    chooses_moving c.choice_stands.ensures c.offspring_by_parents.ensures c.valences_are_counted.ensures c.catalog_is_sound.ensures (g.B.Blocks.total volume) (g.B.Blocks.blocks volume) now.sound
+    chooses_moving choice_stands offspring_by_parents valences_are_counted catalog_is_sound (g.B.Blocks.total volume) (g.B.Blocks.blocks volume) now.sound
     c.nodes.ensures.entries c.args.dir c.args.name.now c.args.new_dir c.self.inside.mdb.now now.directory
     _ (by_nodes (λ cat. cat) (g.B.Blocks.blocks volume) _ c.nodes.ensures.nodes) c.item_to_move.result c.item_to_move.ensures

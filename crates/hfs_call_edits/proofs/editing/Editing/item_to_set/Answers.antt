@@ -2,11 +2,12 @@
 use Rattle.hfs_call_edits.proofs.Chosen.{sets_item}
 use Rattle.hfs_call_edits.proofs.Edited.{editing_now}
 use Rattle.hfs_queries.proofs.ReplyLemmas.{by_nodes}
+use Rattle.hfs_changes.proofs.LawsProved.{choice_stands}
 use Rattle.hfs_call_edits.proofs.editing.Editing.item_to_set.Goals as goal
 
 pub returns : goal.returns
 returns g c =
     let volume = c.args.self.now in
     let now = editing_now g.B.Blocks.blocks g.B.Blocks.total volume c.self.inside.blocks.now c.self.view_is _ _ _ c.self.invariant in
-    sets_item c.choice_stands.ensures (g.B.Blocks.total volume) (g.B.Blocks.blocks volume) now.sound c.self.inside.mdb.now now.directory
+    sets_item choice_stands (g.B.Blocks.total volume) (g.B.Blocks.blocks volume) now.sound c.self.inside.mdb.now now.directory
     _ (by_nodes (λ cat. cat) (g.B.Blocks.blocks volume) _ c.nodes.ensures.nodes) c.nodes.ensures.entries c.args.dir c.args.name.now c.item_to_set.result c.item_to_set.ensures

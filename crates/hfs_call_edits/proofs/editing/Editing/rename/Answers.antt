@@ -1,7 +1,5 @@
 -- The patch makes the step of Rename, or a code refuses it, or nodes are lacking.
 use Rattle.std.proofs.Common.{rules, refl, sym, subst}
-use Rattle.hfs_model.specs.declared.call.Call.TheVariants as call
-use Rattle.hfs_model.specs.declared.reply.Value.TheVariants as value
 use Rattle.hfs_check.specs.Parts.{mdb_in, catalog_nodes}
 use Rattle.hfs_check.specs.VolumeOf.{volume_in}
 use Rattle.hfs_changes.specs.OnBlocks.{at_time}
@@ -12,6 +10,10 @@ use Rattle.hfs_call_edits.proofs.Edited.{editing_now}
 use Rattle.hfs_call_edits.proofs.MayRename.{can_rename, rename_refused, rename_accepted}
 use Rattle.hfs_call_edits.proofs.StepMade.{step_made}
 use Rattle.hfs_call_edits.proofs.Wanting.{enough_nodes, full_edit, refused_edit}
+use Rattle.hfs_check.proofs.LawsProved.{trees_are_sound, catalog_is_sound}
+use Rattle.hfs_changes.proofs.LawsProved.{choice_stands, rename_is_free, catalog_edits_are_steps}
+use Rattle.hfs_model.specs.declared.call.Call.TheVariants as call
+use Rattle.hfs_model.specs.declared.reply.Value.TheVariants as value
 use Rattle.hfs_call_edits.proofs.editing.Editing.rename.Goals as goal
 
 pub patch_rename-requires-clause-chosen : goal.patch_rename-requires-clause-chosen
@@ -42,7 +44,7 @@ patch_rename-requires-clause-can g c =
     let volume = c.args.self.now in
     let now = editing_now blocks g.B.Blocks.total volume c.self.inside.blocks.now c.self.view_is _ _ _ c.self.invariant in
     subst (λ b. CanRekey c.in-Ok.item (catalog_nodes (blocks b))) (sym c.self.view_is)
-    (can_rename c.trees_are_sound.ensures c.catalog_is_sound.ensures c.choice_stands.ensures c.rename_is_free.ensures (g.B.Blocks.total volume) (blocks volume) now.sound
+    (can_rename trees_are_sound catalog_is_sound choice_stands rename_is_free (g.B.Blocks.total volume) (blocks volume) now.sound
     c.args.dir c.args.name.now c.args.new_name.now c.in-Ok.item c.in-Ok.ensures c.catalog_is_in_file.ensures.nodes c.in_default.ensures.room)
 
 pub returns : goal.returns
@@ -52,7 +54,7 @@ returns g c =
     let own = c.self.inside.blocks.now in
     let now = editing_now blocks g.B.Blocks.total volume own c.self.view_is _ _ _ c.self.invariant in
     let rename = call.Rename c.args.dir c.args.name.now c.args.new_name.now c.args.now in
-    step_made blocks g.B.Blocks.total volume own c.self.view_is c.catalog_edits_are_steps.ensures rename
+    step_made blocks g.B.Blocks.total volume own c.self.view_is catalog_edits_are_steps rename
     (enough_nodes rename (blocks volume) (nodes_for_name c.args.name.now c.args.new_name.now) (λ depth. refl) c.in_default.ensures.refusal)
     c.in_ok-patch.patch (λ old. at_time c.args.now (mdb_in old)) c.change.result c.change.ensures now.sound c.in_ok-patch.ensures.within
     (c.in_ok-patch.ensures.makes c.args.dir c.args.name.now c.args.new_name.now

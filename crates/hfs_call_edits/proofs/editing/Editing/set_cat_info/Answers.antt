@@ -5,6 +5,7 @@ use Rattle.hfs_model.specs.Choices.{to_set_cat_info}
 use Rattle.hfs_call_patches.specs.Settings.{set_cat_info_call}
 use Rattle.hfs_call_edits.specs.Edits.{IsChosenBody}
 use Rattle.hfs_call_edits.proofs.Edited.{cat_info_refused, cat_info_accepted, change_of, refusal_of, file_choice, folder_choice, editing_now}
+use Rattle.hfs_changes.proofs.LawsProved.{catalog_edits_are_steps}
 use Rattle.hfs_call_edits.proofs.editing.Editing.set_cat_info.Goals as goal
 
 pub patch_set_folder_info-requires-clause-chosen : goal.patch_set_folder_info-requires-clause-chosen
@@ -36,7 +37,7 @@ returns-in_ok-patch-in-Folder g c =
     let value = c.args.self.now in
     let own = c.self.inside.blocks.now in
     let chosen = (subst (IsChosenBody (blocks value) (to_set_cat_info (volume_in (blocks value)) c.args.dir c.args.name.now) c.in-Ok.item.key) c.in-Folder.is c.in-Ok.ensures).choice in
-    change_of blocks g.B.Blocks.total value own c.self.view_is c.catalog_edits_are_steps.ensures (set_cat_info_call c.args.dir c.args.name.now c.args.settings.now c.args.now) (λ depth. refl)
+    change_of blocks g.B.Blocks.total value own c.self.view_is catalog_edits_are_steps (set_cat_info_call c.args.dir c.args.name.now c.args.settings.now c.args.now) (λ depth. refl)
     c.in_ok-patch-in-Folder.patch c.args.now c.change.result c.change.ensures
     (editing_now blocks g.B.Blocks.total value own c.self.view_is _ _ _ c.self.invariant).sound c.in_ok-patch-in-Folder.ensures.within
     (c.in_ok-patch-in-Folder.ensures.makes c.args.dir c.args.name.now
@@ -49,7 +50,7 @@ returns-in_ok-patch-in-File g c =
     let value = c.args.self.now in
     let own = c.self.inside.blocks.now in
     let chosen = (subst (IsChosenBody (blocks value) (to_set_cat_info (volume_in (blocks value)) c.args.dir c.args.name.now) c.in-Ok.item.key) c.in-File.is c.in-Ok.ensures).choice in
-    change_of blocks g.B.Blocks.total value own c.self.view_is c.catalog_edits_are_steps.ensures (set_cat_info_call c.args.dir c.args.name.now c.args.settings.now c.args.now) (λ depth. refl)
+    change_of blocks g.B.Blocks.total value own c.self.view_is catalog_edits_are_steps (set_cat_info_call c.args.dir c.args.name.now c.args.settings.now c.args.now) (λ depth. refl)
     c.in_ok-patch-in-File.patch c.args.now c.change-in-File.result c.change-in-File.ensures
     (editing_now blocks g.B.Blocks.total value own c.self.view_is _ _ _ c.self.invariant).sound c.in_ok-patch-in-File.ensures.within
     (c.in_ok-patch-in-File.ensures.makes c.args.dir c.args.name.now

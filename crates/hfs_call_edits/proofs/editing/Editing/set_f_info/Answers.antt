@@ -1,9 +1,10 @@
 -- The patch makes the call's step, and the call answers nothing.
 use Rattle.std.proofs.Common.{rules, refl}
 use Rattle.hfs_check.specs.VolumeOf.{volume_in}
-use Rattle.hfs_model.specs.declared.call.Call.TheVariants as call
 use Rattle.hfs_model.specs.Choices.{to_set_f_info}
 use Rattle.hfs_call_edits.proofs.Edited.{f_info_refused, f_info_accepted, change_of, refusal_of, file_choice, editing_now}
+use Rattle.hfs_changes.proofs.LawsProved.{catalog_edits_are_steps}
+use Rattle.hfs_model.specs.declared.call.Call.TheVariants as call
 use Rattle.hfs_call_edits.proofs.editing.Editing.set_f_info.Goals as goal
 
 pub patch_set_f_info-requires-clause-chosen : goal.patch_set_f_info-requires-clause-chosen
@@ -27,7 +28,7 @@ returns g c =
     let value = c.args.self.now in
     let own = c.self.inside.blocks.now in
     let chosen = c.in-Ok.ensures.choice in
-    change_of blocks g.B.Blocks.total value own c.self.view_is c.catalog_edits_are_steps.ensures (call.SetFInfo c.args.dir c.args.name.now c.args.info.now c.args.now) (λ depth. refl)
+    change_of blocks g.B.Blocks.total value own c.self.view_is catalog_edits_are_steps (call.SetFInfo c.args.dir c.args.name.now c.args.info.now c.args.now) (λ depth. refl)
     c.in_ok-patch.patch c.args.now c.change.result c.change.ensures
     (editing_now blocks g.B.Blocks.total value own c.self.view_is _ _ _ c.self.invariant).sound c.in_ok-patch.ensures.within
     (c.in_ok-patch.ensures.makes c.args.dir c.args.name.now

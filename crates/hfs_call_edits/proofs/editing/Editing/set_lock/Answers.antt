@@ -5,6 +5,7 @@ use Rattle.hfs_changes.specs.SettingLaws.{lock_call}
 use Rattle.hfs_model.specs.Choices.{file_to_change}
 use Rattle.hfs_model.specs.Need.{need}
 use Rattle.hfs_call_edits.proofs.Edited.{lock_refused, lock_accepted, change_of, refusal_of, file_choice, editing_now}
+use Rattle.hfs_changes.proofs.LawsProved.{catalog_edits_are_steps}
 use Rattle.hfs_call_edits.proofs.editing.Editing.set_lock.Goals as goal
 
 pub patch_set_lock-requires-clause-chosen : goal.patch_set_lock-requires-clause-chosen
@@ -32,7 +33,7 @@ returns g c =
     let value = c.args.self.now in
     let own = c.self.inside.blocks.now in
     let chosen = c.in-Ok.ensures.choice in
-    change_of blocks g.B.Blocks.total value own c.self.view_is c.catalog_edits_are_steps.ensures (lock_call c.args.locked c.args.dir c.args.name.now c.args.now) (none c.args.locked c.args.dir c.args.name.now c.args.now)
+    change_of blocks g.B.Blocks.total value own c.self.view_is catalog_edits_are_steps (lock_call c.args.locked c.args.dir c.args.name.now c.args.now) (none c.args.locked c.args.dir c.args.name.now c.args.now)
     c.in_ok-patch.patch c.args.now c.change.result c.change.ensures
     (editing_now blocks g.B.Blocks.total value own c.self.view_is _ _ _ c.self.invariant).sound c.in_ok-patch.ensures.within
     (c.in_ok-patch.ensures.makes c.args.dir c.args.name.now

@@ -4,7 +4,6 @@ use Rattle.std.specs.Prelude.{slice_get}
 use Rattle.std.specs.Option.{unwrap_or}
 use Rattle.std.specs.declared.ops.Bound.TheVariants.{Included, Excluded}
 use Rattle.std.specs.BTreeMap.Range.{entries_between}
-use Rattle.std.specs.FinMap as finite
 use Rattle.hfs_model.specs.Children.{entry_at}
 use Rattle.hfs_model.specs.Replies.{info_of}
 use Rattle.hfs_model.proofs.Members.{In}
@@ -14,6 +13,8 @@ use Rattle.hfs_item_table.specs.Places.{place_cmp}
 use Rattle.hfs_item_table.specs.Tables.{items_of, volume_of}
 use Rattle.hfs_item_table.proofs.NameLemmas.{nobody, told_of, told_under, names_under}
 use Rattle.hfs_item_table.proofs.Named.{between_is, in_under, has_item, listed}
+use Rattle.hfs_model.proofs.LawsProved.{children_are_one}
+use Rattle.std.specs.FinMap as finite
 use Rattle.hfs_item_table.proofs.table.Table.info_at.Goals as goal
 
 pub loop-place-init : goal.loop-place-init
@@ -60,7 +61,7 @@ returns-then-left-eq0 c =
     ∙ ap (slice_get (told_under es c.loop-place._place-iterator)) none
     ∙ c.loop-place.invariant.2
     ∙ ap (λ l. slice_get (told_under es l) c.args.at) whole
-    ∙ ap (λ l. slice_get l c.args.at) (listed (items_of c.args.self.now) c.args.self.now.by_name c.requires.table.names c.args.dir c.children_are_one.ensures (volume_of c.args.self.now) refl c.requires.lawful)
+    ∙ ap (λ l. slice_get l c.args.at) (listed (items_of c.args.self.now) c.args.self.now.by_name c.requires.table.names c.args.dir children_are_one (volume_of c.args.self.now) refl c.requires.lawful)
 
 pub returns : goal.returns
 returns c =
@@ -72,4 +73,4 @@ returns c =
     ap (λ l. slice_get (told_under es l) c.loop-place.left) (sym c.in-None.ensures.steps.0)
     ∙ c.loop-place.invariant.2
     ∙ ap (λ l. slice_get (told_under es l) c.args.at) whole
-    ∙ ap (λ l. slice_get l c.args.at) (listed (items_of c.args.self.now) c.args.self.now.by_name c.requires.table.names c.args.dir c.children_are_one.ensures (volume_of c.args.self.now) refl c.requires.lawful)
+    ∙ ap (λ l. slice_get l c.args.at) (listed (items_of c.args.self.now) c.args.self.now.by_name c.requires.table.names c.args.dir children_are_one (volume_of c.args.self.now) refl c.requires.lawful)

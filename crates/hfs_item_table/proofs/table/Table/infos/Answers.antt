@@ -2,7 +2,6 @@ use Rattle.std.proofs.Common.{◌≡◌, ℕ, List, [], ◌∷◌, ◌++◌, inl
 use Rattle.std.specs.Option.{unwrap_or}
 use Rattle.std.specs.declared.ops.Bound.TheVariants.{Included, Excluded}
 use Rattle.std.specs.BTreeMap.Range.{entries_between}
-use Rattle.std.specs.FinMap as finite
 use Rattle.hfs_model.specs.Children.{entry_at}
 use Rattle.hfs_model.specs.Replies.{info_of}
 use Rattle.hfs_model.proofs.Members.{In}
@@ -11,6 +10,8 @@ use Rattle.hfs_item_table.specs.Places.{place_cmp}
 use Rattle.hfs_item_table.specs.Tables.{items_of, volume_of}
 use Rattle.hfs_item_table.proofs.NameLemmas.{nobody, told_under, names_under}
 use Rattle.hfs_item_table.proofs.Named.{between_is, in_under, has_item, listed}
+use Rattle.hfs_model.proofs.LawsProved.{children_are_one}
+use Rattle.std.specs.FinMap as finite
 use Rattle.hfs_item_table.proofs.table.Table.infos.Goals as goal
 
 pub loop-place-init : goal.loop-place-init
@@ -57,4 +58,4 @@ returns c =
     sym (append-nil c.loop-place.infos.items)
     ∙ ap (λ l. c.loop-place.infos.items ++ told_under es l) (sym c.in-None.ensures.steps.0)
     ∙ c.loop-place.invariant.2 ∙ ap (told_under es) whole
-    ∙ listed (items_of c.args.self.now) c.args.self.now.by_name c.requires.table.names c.args.dir c.children_are_one.ensures (volume_of c.args.self.now) refl c.requires.lawful
+    ∙ listed (items_of c.args.self.now) c.args.self.now.by_name c.requires.table.names c.args.dir children_are_one (volume_of c.args.self.now) refl c.requires.lawful

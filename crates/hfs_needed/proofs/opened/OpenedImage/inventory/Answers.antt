@@ -9,6 +9,10 @@ use Rattle.hfs_needed.specs.Listing.{HoldsTable}
 use Rattle.hfs_needed.specs.OpenedValues.{OpenedValue}
 use Rattle.hfs_needed.proofs.Listed.{table-known}
 use Rattle.hfs_needed.proofs.Reported.{ok-so}
+use Rattle.hfs_check.proofs.LawsProved.{no_blocks_fault}
+use Rattle.hfs_needed.proofs.LawsProved.{gathered_is_enough}
+use Rattle.hfs_queries.proofs.LawsProved.{catalog_answers-entries}
+use Rattle.hfs_inventory.proofs.LawsProved.{catalogs_tell_tables}
 use Rattle.hfs_needed.proofs.opened.OpenedImage.inventory.Goals as goal
 
 pub new-requires : goal.new-requires
@@ -21,5 +25,5 @@ returns g c =
     subst (λ (s : OpenedValue). IfOk c.new.result (HoldsTable s.known s.len)) c.self.view_is
     (ok-so c.new.result
     (λ (inventory : Going).
-    table-known c.no_blocks_fault.ensures c.gathered_is_enough.ensures c.catalog_answers.ensures.entries c.catalogs_tell_tables.ensures (g.S.BlockSource.image opened.source) opened.len
+    table-known no_blocks_fault gathered_is_enough catalog_answers-entries catalogs_tell_tables (g.S.BlockSource.image opened.source) opened.len
     opened.volume.read is.needed is.of is.sound c.in_ok-records.records.items c.in_ok-records.ensures inventory) c.new.ensures)

@@ -8,6 +8,7 @@ use Rattle.hfs_volume.specs.Serving.{outcome_in}
 use Rattle.hfs_published.specs.Journals.{made_by}
 use Rattle.hfs_shared.specs.Desks.{DeskState, IsHeadline, IsCounted, wanted, entry_of, pass_state}
 use Rattle.hfs_shared.proofs.Headline.{headline_more, counted_more, wanted_known}
+use Rattle.hfs_model.proofs.LawsProved.{step_is_never_full}
 use Rattle.hfs_shared.proofs.desk.Desk.apply.Goals as goal
 
 -- the journal has one entry more
@@ -36,7 +37,7 @@ headline_is : (c : goal.After-raise) → IsHeadline c.call.new.self.base c.call.
 headline_is c =
     let agrees : Agrees c.self.inside.volume.base c.call.new.self.current = subst (λ (b : List ℕ). Agrees b c.call.new.self.current) c.call.ensures.base c.agrees.ensures in
     subst (λ (y : List ℕ × List Entry). IsHeadline y.0 c.call.new.self.current y.1) (λ i. (sym c.call.ensures.base i, sym (items_is c) i))
-    (headline_more c.step_is_never_full.ensures c.self.inside.volume.base c.self.inside.volume.current c.self.inside.journal.items c.args.pass.now c.args.call.now c.in-Ok-call.reply c.call.new.self.current
+    (headline_more step_is_never_full c.self.inside.volume.base c.self.inside.volume.current c.self.inside.journal.items c.args.pass.now c.args.call.now c.in-Ok-call.reply c.call.new.self.current
     c.self.invariant.0 c.in-Ok-call.ensures.outcome (number_is c) agrees)
 
 pub invariant_of-self-2 : goal.invariant_of-self-2

@@ -3,21 +3,24 @@ use Rattle.hfs_blocks.specs.Blocks.{block_at}
 use Rattle.hfs_check.specs.Parts.{mdb_in}
 use Rattle.hfs_view.specs.Opened.{table_over}
 use Rattle.hfs_view.proofs.Made.{are_right, is_table, is_volume, is_lawful}
+use Rattle.hfs_check.proofs.LawsProved.{catalog_is_sound, sound_images_are_lawful}
+use Rattle.hfs_volume.proofs.OwnedStay.{forks_stay}
+use Rattle.hfs_catalog.proofs.LawsProved.{valences_are_counted, items_are_records, named_are_records}
 use Rattle.hfs_view.proofs.rows.Rows.of.Goals as goal
 
 pub of-requires-2-clause-right : goal.of-requires-2-clause-right
 of-requires-2-clause-right c =
     let v = c.args.volume.now in
-    are_right v.current c.in_ok-base.ensures.agrees.sound c.catalog_is_sound.ensures v.base c.in_ok-base.ensures.agrees c.file_forks_stay.ensures c.valences_are_counted.ensures
+    are_right v.current c.in_ok-base.ensures.agrees.sound catalog_is_sound v.base c.in_ok-base.ensures.agrees forks_stay valences_are_counted
 
 pub invariant_of-result : goal.invariant_of-result
 invariant_of-result c =
     let v = c.args.volume.now in
     let is : c.table_over-table.result ≡ table_over v.base (mdb_in (block_at v.current)) c.in_ok-maps.maps =
     c.table_over-table.ensures ∙ (λ i. table_over (c.in_ok-base.ensures.base i) (c.directory.ensures i) c.in_ok-maps.maps) in (
-      is_table v.base v.current c.in_ok-maps.maps c.in_ok-base.ensures.sound c.in_ok-base.ensures.agrees c.catalog_is_sound.ensures c.items_are_records.ensures c.named_are_records.ensures c.sound_images_are_lawful.ensures
+      is_table v.base v.current c.in_ok-maps.maps c.in_ok-base.ensures.sound c.in_ok-base.ensures.agrees catalog_is_sound items_are_records named_are_records sound_images_are_lawful
           c.in_ok-maps.ensures c.table_over-table.result is,
-      is_lawful v.base v.current c.in_ok-maps.maps c.in_ok-base.ensures.sound c.in_ok-base.ensures.agrees c.catalog_is_sound.ensures c.items_are_records.ensures c.named_are_records.ensures c.sound_images_are_lawful.ensures
+      is_lawful v.base v.current c.in_ok-maps.maps c.in_ok-base.ensures.sound c.in_ok-base.ensures.agrees catalog_is_sound items_are_records named_are_records sound_images_are_lawful
           c.in_ok-maps.ensures c.table_over-table.result is,
     )
 
@@ -26,5 +29,5 @@ returns c =
     let v = c.args.volume.now in
     let is : c.table_over-table.result ≡ table_over v.base (mdb_in (block_at v.current)) c.in_ok-maps.maps =
     c.table_over-table.ensures ∙ (λ i. table_over (c.in_ok-base.ensures.base i) (c.directory.ensures i) c.in_ok-maps.maps) in
-    is_volume v.base v.current c.in_ok-maps.maps c.in_ok-base.ensures.sound c.in_ok-base.ensures.agrees c.catalog_is_sound.ensures c.items_are_records.ensures c.named_are_records.ensures c.sound_images_are_lawful.ensures
+    is_volume v.base v.current c.in_ok-maps.maps c.in_ok-base.ensures.sound c.in_ok-base.ensures.agrees catalog_is_sound items_are_records named_are_records sound_images_are_lawful
     c.in_ok-maps.ensures c.table_over-table.result is

@@ -1,6 +1,7 @@
 use Rattle.std.proofs.Common.{◌∙◌}
 use Rattle.hfs_blocks.specs.Blocks.{block_at, nodes_in}
 use Rattle.hfs_volume.proofs.Seen.{sound, is_catalog, same_content, are_entries}
+use Rattle.hfs_queries.proofs.LawsProved.{catalog_answers-sound, catalog_answers-entries}
 use Rattle.hfs_volume.proofs.volume.Volume.catalog_nodes.Goals as goal
 
 pub returns-clause-sound : goal.returns-clause-sound
@@ -9,7 +10,7 @@ returns-clause-sound c =
 
 pub returns-clause-catalog : goal.returns-clause-catalog
 returns-clause-catalog c =
-    is_catalog _ _ _ _ _ c.self.view_is c.self.invariant c.new.result (c.new.ensures ∙ (λ i. nodes_in (block_at (c.blocks-2.ensures i).current) (c.deref.ensures.value i))) c.catalog_answers.ensures.sound
+    is_catalog _ _ _ _ _ c.self.view_is c.self.invariant c.new.result (c.new.ensures ∙ (λ i. nodes_in (block_at (c.blocks-2.ensures i).current) (c.deref.ensures.value i))) catalog_answers-sound
 
 pub returns-clause-content : goal.returns-clause-content
 returns-clause-content c =
@@ -17,4 +18,4 @@ returns-clause-content c =
 
 pub returns-clause-entries : goal.returns-clause-entries
 returns-clause-entries c =
-    are_entries _ _ _ _ _ c.self.view_is c.self.invariant c.new.result (c.new.ensures ∙ (λ i. nodes_in (block_at (c.blocks-2.ensures i).current) (c.deref.ensures.value i))) c.catalog_answers.ensures.entries
+    are_entries _ _ _ _ _ c.self.view_is c.self.invariant c.new.result (c.new.ensures ∙ (λ i. nodes_in (block_at (c.blocks-2.ensures i).current) (c.deref.ensures.value i))) catalog_answers-entries

@@ -6,6 +6,7 @@ use Rattle.hfs_blocks.specs.Layers.{changes, AreWithin}
 use Rattle.hfs_volume.specs.Image.{ImageValue}
 use Rattle.hfs_volume.specs.Mounted.{IsMounted}
 use Rattle.hfs_volume.proofs.Stepping.{still_mounted, committed_volume, committed_mounted}
+use Rattle.hfs_check.proofs.LawsProved.{agrees_on}
 use Rattle.hfs_volume.proofs.volume.Volume.commit.Goals as goal
 
 pub commit-requires : goal.commit-requires
@@ -20,7 +21,7 @@ pub invariant_of-self-2 : goal.invariant_of-self-2
 invariant_of-self-2 c =
     subst (λ (m : Mdb). IsMounted c.commit.new.self m c.self.inside.extents.items c.self.inside.catalog.items) (sym c.with_counts-self-inside.ensures)
     (committed_mounted c.self.inside.image c.args.self.now c.commit.new.self c.self.inside.mdb c.self.inside.extents.items c.self.inside.catalog.items c.self.view_is c.self.invariant
-    c.args.change c.in_ok-commit.ensures.current c.requires.of c.requires.is c.agrees_on.ensures c.in_ok-commit.ensures.base)
+    c.args.change c.in_ok-commit.ensures.current c.requires.of c.requires.is agrees_on c.in_ok-commit.ensures.base)
 
 pub returns-clause-volume : goal.returns-clause-volume
 returns-clause-volume c = λ call is.
