@@ -14,7 +14,7 @@ no-step = record { node = 0; place = 0; count = 0 }
 abbrev AreFirst : List Step → Type 0
 AreFirst ss = Each (λ s. s.place ≡ 0) ss
 
-whole : (n : ℕ) (xs : List Step) → xs ≡ take n xs ++ drop n xs
+pub whole : (n : ℕ) (xs : List Step) → xs ≡ take n xs ++ drop n xs
 whole zero xs = refl
 whole (suc n) [] = refl
 whole (suc n) (x ∷ xs) = ap (λ (ys : List Step). x ∷ ys) (whole n xs)

@@ -18,7 +18,7 @@ use Rattle.hfs_btree_removal.specs.Ways.{IsStep, Leads, IsLastWide}
 use Rattle.hfs_btree.proofs.DecodedLemmas.{records-read}
 use Rattle.hfs_btree.proofs.DescentLemmas.{IsOnWay, way-some, place-within, index-entries}
 use Rattle.hfs_btree.proofs.FoundLemmas.{found-entries, found-body}
-use Rattle.hfs_btree_removal.proofs.KeysSet.{no-step}
+use Rattle.hfs_btree_removal.proofs.KeysSet.{no-step, whole}
 
 module _ {K : Type 0} (g : Ghosts K) (nodes : Store) where
   -- one step more
@@ -84,11 +84,6 @@ module _ {K : Type 0} (g : Ghosts K) (nodes : Store) where
     way-equal place o h = ap (λ (es : List (List ℕ)). g.compare t (g.leaf_key (get_or es place []))) (sym (records-read nodes n bytes read)) ∙ h
 
 -- ---- the last step whose node has more than one record
-
-whole : (n : ℕ) (xs : List Step) → xs ≡ take n xs ++ drop n xs
-whole zero xs = refl
-whole (suc n) [] = refl
-whole (suc n) (x ∷ xs) = ap (λ (ys : List Step). x ∷ ys) (whole n xs)
 
 abbrev AreOnes : List Step → Type 0
 AreOnes ss = Each (λ s. s.count ≤ 1) ss

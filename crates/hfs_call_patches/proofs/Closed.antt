@@ -31,7 +31,8 @@ use Rattle.hfs_call_patches.specs.TreeFiles.{IsCatalogFile}
 use Rattle.hfs_call_patches.specs.Settings.{PutsCounts}
 use Rattle.hfs_call_patches.proofs.IndexNames.{kept_names}
 use Rattle.hfs_changes.proofs.CatalogEdits.{each_take}
-use Rattle.hfs_call_patches.proofs.Placed.{below_area, IsAt, place_of, behind_first, at_place}
+use Rattle.hfs_call_patches.proofs.Placed.{IsAt, place_of, behind_first, at_place}
+use Rattle.hfs_changes.proofs.CatalogEdits.{below_area}
 
 -- ---- the catalog's nodes through an empty patch
 

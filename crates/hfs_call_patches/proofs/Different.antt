@@ -1,4 +1,5 @@
 -- The blocks of a sound volume's catalog file are all different: no allocation block is owned twice.
+use Rattle.hfs_btree_edits.proofs.DistinctLemmas.{distinct-left}
 use Rattle.std.proofs.Common.{◌≡◌, ℕ, zero, suc, ◌+◌, ◌*◌, ◌/◌, ◌<◌, List, [], ◌∷◌, ◌++◌, map, take, refl, sym, ◌∙◌, ap, subst, arith, append_assoc}
 use Rattle.std.specs.List.{flat_map, range_with_len}
 use Rattle.std.proofs.lemmas.Nat.{div-mul-add}
@@ -21,10 +22,6 @@ use Rattle.hfs_btree.proofs.DistinctLemmas.{distinct-append}
 use Rattle.hfs_changes.proofs.Frames.{each_range}
 
 -- ---- lists in which no number stands twice
-
-pub distinct-left : (xs ys : List ℕ) → IsDistinct (xs ++ ys) → IsDistinct xs
-distinct-left [] ys h = tt
-distinct-left (x ∷ xs) ys h = (each-left (IsOther x) xs ys h.0, distinct-left xs ys h.1)
 
 each-take : (P : ℕ → Type 0) (n : ℕ) (xs : List ℕ) → Each P xs → Each P (take n xs)
 each-take P zero [] h = tt

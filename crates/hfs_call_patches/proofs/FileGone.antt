@@ -43,7 +43,7 @@ use Rattle.hfs_call_patches.proofs.EditedNodes.{first_only, behind_drop, same_on
 use Rattle.hfs_call_patches.proofs.FileParts.{outside_range, in_area, catalog_apart, extents_apart}
 use Rattle.hfs_call_patches.proofs.IndexNames.{kept_names}
 use Rattle.hfs_changes.proofs.CatalogEdits.{each_take}
-use Rattle.hfs_call_patches.proofs.Placed.{below_area}
+use Rattle.hfs_changes.proofs.CatalogEdits.{below_area}
 
 module _ (total : ℕ) (old : Blocks) (h : AreBlocksSound total old) (extents catalog : List Run) (ext : IsExtentsFile extents total old) (cat : IsCatalogFile catalog total old) where
   abbrev mdb : Mdb

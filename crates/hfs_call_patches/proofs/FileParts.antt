@@ -15,7 +15,8 @@ use Rattle.hfs_space.specs.Owners.{bad_extents}
 use Rattle.hfs_space.specs.TreeFiles.{node_count, tree_blocks}
 use Rattle.hfs_check.specs.Parts.{Blocks, mdb_in, extents_blocks, overflow_in, catalog_extents}
 use Rattle.hfs_check.specs.Sound.{AreBlocksSound}
-use Rattle.hfs_call_patches.proofs.Different.{distinct-left, distinct-take, numbers-are, distinct-rows, owned-parts, others}
+use Rattle.hfs_call_patches.proofs.Different.{distinct-take, numbers-are, distinct-rows, owned-parts, others}
+use Rattle.hfs_btree_edits.proofs.DistinctLemmas.{distinct-left}
 use Rattle.hfs_btree.proofs.DistinctLemmas.{cross}
 use Rattle.hfs_changes.proofs.Frames.{each_range}
 

@@ -11,14 +11,6 @@ use Rattle.hfs_space.specs.Forks.{run_in}
 use Rattle.hfs_space.specs.ForkLaws.{block_numbers}
 use Rattle.hfs_changes.proofs.Frames.{each_range}
 
--- a block before the allocation blocks is none of a file's
-pub below_area : (mdb : Mdb) (file : List Extent) (k : ℕ) → k < mdb.allocation_start → Each (IsOther k) (block_numbers mdb file)
-below_area mdb [] k low = tt
-below_area mdb (e ∷ file) k low =
-    each-append (IsOther k) (run_of (run_in mdb e)) (block_numbers mdb file)
-    (each_range (IsOther k) (run_in mdb e).first (run_in mdb e).count (λ j lt same. omega (arith, same, low)))
-    (below_area mdb file k low)
-
 -- a number that is one of these stands at a place
 pub record IsAt (ns : List ℕ) (n : ℕ) : Type 0 where
   pub place : ℕ

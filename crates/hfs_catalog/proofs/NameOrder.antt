@@ -1,4 +1,5 @@
 -- The records under a folder are its children in name order.
+use Rattle.hfs_model.proofs.Members.{in_from_contains, contains_from_in}
 use Rattle.std.proofs.Common.{◌≡◌, inl, inr, ⊎_elim, ℕ, zero, suc, ◌<◌, ◌≤◌, Bool, true, false, cond, eqb, List, [], ◌∷◌, length, get_or, map, filter, refl, sym, ◌∙◌, ap, subst, arith, Some}
 use Rattle.std.specs.List.{Contains}
 use Rattle.std.specs.declared.cmp.Ordering.{Ordering}
@@ -30,18 +31,6 @@ use Rattle.hfs_catalog.proofs.Held.{item_parent, item_name, has_item, has_record
 use Rattle.hfs_catalog.proofs.Lawful.{sound_is_lawful}
 
 -- ---- what a list holds
-
-pub in_from_contains : {A : Type 0} (xs : List A) (x : A) (k : ℕ) → k < length xs → get_or xs k x ≡ x → In x xs
-in_from_contains [] x k lt is = absurd (omega arith)
-in_from_contains (y ∷ ys) x zero lt is = inl is
-in_from_contains (y ∷ ys) x (suc k) lt is = inr (in_from_contains ys x k (omega arith) is)
-
-contains_from_in : {A : Type 0} (xs : List A) (x : A) → In x xs → Contains xs x
-contains_from_in [] x h = absurd h
-contains_from_in {A} (y ∷ ys) x h = ⊎_elim
-    (λ (e : y ≡ x). let here : Contains (y ∷ ys) x = (0, omega arith, e) in here)
-    (λ (there : In x ys). let rest = contains_from_in ys x there in let here : Contains (y ∷ ys) x = (suc rest.0, omega (arith, rest.1), rest.2) in here)
-    h
 
 -- ---- with distinct IDs a record is found by its own
 

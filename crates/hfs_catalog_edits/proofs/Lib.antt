@@ -1,7 +1,6 @@
 pub mod Edits
 pub mod FoundBodies
 pub mod ThreadEdits
-pub mod Outcomes
 pub mod ItemSteps
 pub mod BodyLemmas
 pub mod EditedLemmas

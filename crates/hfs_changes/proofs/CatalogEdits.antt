@@ -37,14 +37,14 @@ each_take P zero (x ∷ xs) h = tt
 each_take P (suc n) [] h = tt
 each_take P (suc n) (x ∷ xs) h = (h.0, each_take P n xs h.1)
 
-part_of_sum : {X : Type 0} (f : X → ℕ) (xs : List X) (x : X) → In x xs → f x ≤ sum_by f xs
+pub part_of_sum : {X : Type 0} (f : X → ℕ) (xs : List X) (x : X) → In x xs → f x ≤ sum_by f xs
 part_of_sum f [] x there = absurd there
 part_of_sum f (y ∷ ys) x there = ⊎_elim
     (λ (here : y ≡ x). let same : f y ≡ f x = ap f here in omega (arith, same, sum_by-cons f y ys))
     (λ (later : In x ys). omega (arith, part_of_sum f ys x later, sum_by-cons f y ys))
     there
 
-below_area : (mdb : Mdb) (file : List Extent) (k : ℕ) → k < mdb.allocation_start → Each (IsOther k) (block_numbers mdb file)
+pub below_area : (mdb : Mdb) (file : List Extent) (k : ℕ) → k < mdb.allocation_start → Each (IsOther k) (block_numbers mdb file)
 below_area mdb [] k low = tt
 below_area mdb (e ∷ file) k low =
     each-append (IsOther k) (run_of (run_in mdb e)) (block_numbers mdb file)

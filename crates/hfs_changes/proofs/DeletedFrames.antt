@@ -29,14 +29,7 @@ use Rattle.hfs_catalog.proofs.Held.{with_id}
 use Rattle.hfs_changes.proofs.Space.{extents_parts, record_has, owners_sum, owned_distinct}
 use Rattle.hfs_changes.proofs.Frames.{each_range, block_in, beside_file, same_bytes}
 use Rattle.hfs_changes.proofs.DroppedForks.{extents_kept}
-use Rattle.hfs_changes.proofs.CatalogEdits.{each_take}
-
-part_of_sum : {X : Type 0} (f : X → ℕ) (xs : List X) (x : X) → In x xs → f x ≤ sum_by f xs
-part_of_sum f [] x there = absurd there
-part_of_sum f (y ∷ ys) x there = ⊎_elim
-    (λ (here : y ≡ x). let same : f y ≡ f x = ap f here in omega (arith, same, sum_by-cons f y ys))
-    (λ (later : In x ys). omega (arith, part_of_sum f ys x later, sum_by-cons f y ys))
-    there
+use Rattle.hfs_changes.proofs.CatalogEdits.{each_take, part_of_sum}
 
 -- who owns a block of a sound volume owns it alone
 module _ (total : ℕ) (old : Blocks) (h : AreBlocksSound total old) where

@@ -18,13 +18,13 @@ use Rattle.hfs_space.proofs.OwnerLemmas.{append}
 
 -- ---- numbers that stand in a list
 
-cons : (b x : ℕ) (xs : List ℕ) → owners (x ∷ xs) b ≡ one_if (eqb x b) + owners xs b
+pub cons : (b x : ℕ) (xs : List ℕ) → owners (x ∷ xs) b ≡ one_if (eqb x b) + owners xs b
 cons b x xs = sum_by-cons (λ (o : ℕ). cond (eqb o b) 1 0) x xs
 
-one : (b : Bool) → b ≡ true → ◌≡◌ {A = ℕ} (one_if b) 1
+pub one : (b : Bool) → b ≡ true → ◌≡◌ {A = ℕ} (one_if b) 1
 one b e = ap one_if e
 
-no : (b : Bool) → b ≡ false → ◌≡◌ {A = ℕ} (one_if b) 0
+pub no : (b : Bool) → b ≡ false → ◌≡◌ {A = ℕ} (one_if b) 0
 no b e = ap one_if e
 
 pub none_other : (b : ℕ) (xs : List ℕ) → Each (IsOther b) xs → owners xs b ≡ 0

@@ -9,7 +9,8 @@ use Rattle.hfs_model.specs.Choices.{child_to_change, is_locked, lock_code}
 use Rattle.hfs_model.proofs.Facts.{not_refused}
 use Rattle.hfs_model.proofs.Facts.{not_not as found_folder}
 use Rattle.hfs_model.proofs.Facts.{found_has}
-use Rattle.hfs_item_table.proofs.FactLemmas.{folder_is, two_tests}
+use Rattle.hfs_item_table.proofs.FactLemmas.{folder_is}
+use Rattle.hfs_model.proofs.Facts.{two_tests}
 use Rattle.hfs_model.proofs.KeepsCalls.{err_is_ok, IsChild, same_entry}
 
 pub child_chosen : (v : Volume) (dir : ℕ) (name : List ℕ) (e : Entry) → child_to_change v dir name ≡ Ok e → IsChild v dir name e

@@ -19,7 +19,3 @@ module _ (m : Items) where
   pub not_full : (dir : ℕ) → is_full (map.entries m) dir ≡ false → valence (map.entries m) dir < 65535
   unfolding is_full
   not_full dir fails = ltb-true _ _ (not_not _ fails)
-
-pub two_tests : (a b : Bool) → (a && b) ≡ true → (a ≡ true) × (b ≡ true)
-two_tests true b e = (refl, e)
-two_tests false b e = absurd (true_false false e refl)

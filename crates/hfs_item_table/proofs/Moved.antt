@@ -19,7 +19,7 @@ use Rattle.hfs_model.proofs.Facts.{same_some}
 use Rattle.hfs_model.proofs.Facts.{true_false}
 use Rattle.hfs_model.proofs.Facts.{found_has}
 use Rattle.hfs_model.proofs.Facts.{no_entry}
-use Rattle.hfs_item_table.proofs.FactLemmas.{two_tests}
+use Rattle.hfs_model.proofs.Facts.{two_tests}
 use Rattle.hfs_item_table.specs.declared.place.Place.{Place}
 use Rattle.hfs_item_table.specs.Places.{place, place_cmp, place_cmp_total}
 use Rattle.hfs_item_table.proofs.PlaceLemmas.{level, names_level}

@@ -28,7 +28,7 @@ use Rattle.hfs_model.proofs.Facts.{none_is_some}
 use Rattle.hfs_model.proofs.Facts.{same_some}
 use Rattle.hfs_model.proofs.Facts.{found_has}
 use Rattle.hfs_model.proofs.Facts.{no_entry}
-use Rattle.hfs_item_table.proofs.FactLemmas.{two_tests}
+use Rattle.hfs_model.proofs.Facts.{two_tests}
 use Rattle.hfs_model.proofs.Members.{In}
 use Rattle.hfs_model.proofs.Members.{in_from_contains}
 use Rattle.hfs_model.proofs.Members.{contains_from_in}

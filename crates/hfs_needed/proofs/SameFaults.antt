@@ -27,7 +27,7 @@ use Rattle.hfs_btree_checks.proofs.ShapeLawLemmas.{first-none}
 use Rattle.hfs_needed.proofs.SameParts.{mdb-same, extents_blocks-same, catalog_extents-same, catalog_blocks-same, extents-map, catalog-map, owned-same}
 use Rattle.hfs_needed.proofs.SameTrees.{by-nodes}
 use Rattle.hfs_needed.proofs.SameSpace.{space_fault-same}
-use Rattle.hfs_check.proofs.Opened.{extents_fault-wrong, none-parts, no-place}
+use Rattle.hfs_check.proofs.Opened.{extents_fault-wrong, none-parts, no-place, catalog_fault-wrong}
 
 -- ---- one fault behind the other
 
@@ -39,11 +39,6 @@ or-same (Some x) b c d e f = ap (λ (o : Option MountFault). o or_fault d) e
 
 is-none : {A : Type 0} (o : Option A) → o ≡ None → is_none o ≡ true
 is-none o e = ap is_none e
-
-catalog_fault-wrong : (mdb : Mdb) (extents : List Extent) (counts : Bool) (nodes : Store) → is_tree_file mdb extents mdb.catalog_file_size ≡ false
-    → catalog_fault counts mdb extents nodes ≡ Some 0
-unfolding catalog_fault
-catalog_fault-wrong mdb extents counts nodes e = rw e refl
 
 extents-wrong : (mdb : Mdb) (counts : Bool) (nodes : Store) → is_tree_file mdb mdb.extents_file mdb.extents_file_size ≡ false
     → check_fault 3 (extents_fault counts mdb nodes) ≡ Some (fault.Check 3 0)

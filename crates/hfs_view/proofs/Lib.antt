@@ -1,4 +1,3 @@
-pub mod Numbers
 pub mod Opened
 pub mod Made
 mod OpenedLemmas

@@ -47,7 +47,7 @@ use Rattle.hfs_model.proofs.Facts.{none_is_some}
 use Rattle.hfs_model.proofs.Facts.{same_some}
 use Rattle.hfs_model.proofs.Facts.{found_has}
 use Rattle.hfs_model.proofs.Facts.{no_entry}
-use Rattle.hfs_item_table.proofs.FactLemmas.{two_tests}
+use Rattle.hfs_model.proofs.Facts.{two_tests}
 use Rattle.hfs_item_table.proofs.PlaceLemmas.{level, names_level}
 use Rattle.hfs_item_table.proofs.ShownLemmas.{get_items}
 use Rattle.hfs_volume.proofs.OwnedStay.{each_of}

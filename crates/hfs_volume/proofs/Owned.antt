@@ -11,26 +11,10 @@ use Rattle.hfs_btree.specs.Sound.{IsDistinct, IsOther}
 use Rattle.hfs_space.specs.Extents.{Overflow, extent_blocks}
 use Rattle.hfs_space.specs.Owners.{Fork, forks_of, catalog_fork, all_forks, extents_in, bad_extents, owned_extents, owned_blocks, owners}
 use Rattle.hfs_catalog.specs.Records.{Record, Catalog}
-use Rattle.hfs_changes.proofs.Space.{none_other, extents_parts}
+use Rattle.hfs_changes.proofs.Space.{none_other, extents_parts, cons, one, no}
 use Rattle.hfs_format.proofs.BitsRead.{one_if}
 
 -- ---- numbers that stand in a list
-
-cons : (b x : ℕ) (xs : List ℕ) → owners (x ∷ xs) b ≡ one_if (eqb x b) + owners xs b
-cons b x xs = sum_by-cons (λ (o : ℕ). cond (eqb o b) 1 0) x xs
-
-one : (b : Bool) → b ≡ true → ◌≡◌ {A = ℕ} (one_if b) 1
-one b e = ap one_if e
-
-no : (b : Bool) → b ≡ false → ◌≡◌ {A = ℕ} (one_if b) 0
-no b e = ap one_if e
-
-pub owned_distinct : (xs : List ℕ) → IsDistinct xs → (b : ℕ) → owners xs b ≤ 1
-owned_distinct [] h b = omega arith
-owned_distinct (x ∷ xs) h b = elim (eqb x b) as (λ (t : Bool). eqb x b ≡ t → owners (x ∷ xs) b ≤ 1) [
-  | true ↦ λ e. omega (arith, cons b x xs, one (eqb x b) e, none_other b xs (subst (λ (y : ℕ). Each (IsOther y) xs) (eqb-true x b e) h.0))
-  | false ↦ λ e. omega (arith, cons b x xs, no (eqb x b) e, owned_distinct xs h.1 b)
-] refl
 
 module _ (mdb : Mdb) (overflow : Overflow) (b : ℕ) where
   -- how often a record's forks have the block

@@ -29,8 +29,9 @@ use Rattle.hfs_volume.proofs.SharingLaws.{FileForksStay}
 use Rattle.hfs_volume.proofs.StayingBlocks.{same_changing}
 use Rattle.hfs_space.proofs.OwnerLemmas.{append}
 use Rattle.hfs_changes.proofs.Space.{extents_parts}
-use Rattle.hfs_volume.proofs.Owned.{owned_distinct, forks_have, record_has, others_have, owners_sum, sum_in, owners_in}
-use Rattle.hfs_catalog.proofs.NameOrder.{in_from_contains}
+use Rattle.hfs_volume.proofs.Owned.{forks_have, record_has, others_have, owners_sum, sum_in, owners_in}
+use Rattle.hfs_changes.proofs.Space.{owned_distinct}
+use Rattle.hfs_model.proofs.Members.{in_from_contains}
 use Rattle.hfs_scans.proofs.PartLemmas.{in_parts}
 
 in_take : {A : Type 0} (x : A) (k : ℕ) (xs : List A) → In x (take k xs) → In x xs

@@ -1,6 +1,6 @@
 use Rattle.std.proofs.Common.{◌∙◌, ap, ℕ, ◌||◌, nat_eq, List}
 use Rattle.hfs_view.specs.Opened.{has_number}
-use Rattle.hfs_view.proofs.Numbers.{id_put}
+use Rattle.hfs_catalog_checks.proofs.Ordered.{id_put}
 use Rattle.hfs_view.proofs.threads.ThreadIds.add.Goals as goal
 
 pub returns : goal.returns

@@ -1,6 +1,6 @@
 use Rattle.std.proofs.Common.{◌∙◌, ap, ℕ, List}
 use Rattle.hfs_view.specs.Opened.{has_number}
-use Rattle.hfs_view.proofs.Numbers.{id_there}
+use Rattle.hfs_catalog_checks.proofs.Ordered.{id_there}
 use Rattle.hfs_view.proofs.threads.ThreadIds.has.Goals as goal
 
 pub returns : goal.returns
