@@ -36,11 +36,11 @@ def items_of(text):
 class Imports:
     """What the use lines of a file bring: words and prefixes, each with where it comes from."""
 
-    def __init__(self, lines):
-        self.words, self.prefixes = {}, {}
+    def __init__(self, lines, folders=("specs",)):
+        self.words, self.prefixes, self.folders = {}, {}, folders
         for line in lines:
             found = IMPORT.search(line.strip())
-            if not found or found[2] != "specs":
+            if not found or found[2] not in self.folders:
                 continue
             crate, _, module, names, alias = found.groups()
             if names is None:
@@ -72,7 +72,8 @@ def modules_of(folder):
         if module == "Lib" or module.startswith("declared"):
             continue
         text = path.read_text(encoding="utf-8")
-        found[crate, module] = items_of(text), Imports([it for it in text.split("\n") if it.startswith(("use ", "pub use "))])
+        uses = [it for it in text.split("\n") if it.startswith(("use ", "pub use "))]
+        found[crate, module] = items_of(text), Imports(uses, ("specs",) if folder == "specs" else ("specs", "proofs"))
     return found
 
 
@@ -113,15 +114,28 @@ def statement_of(name, lines):
     return " ".join(" ".join(said).split())
 
 
+# What a definition gives: a type, or one of data, by a single word.
+GIVES_DATA = re.compile(r"(?:^|→ )(?:Type 0|[^\s→≡]+)$")
+
+
 def twice(modules):
-    """The lemmas that stand in several files under one name with one statement, with those files."""
+    """The lemmas that stand in several files under one name with one statement, with those files. Each word of a statement stands for
+    where it comes from, or for its text, since two crates may give one name to two things. Beside the answers of one function, in a folder of its own,
+    stands what they alone use, and a definition is no lemma."""
     found = collections.defaultdict(set)
-    for (crate, module), (items, _) in modules.items():
+    for (crate, module), (items, imports) in modules.items():
+        if "." in module:
+            continue
         for name, lines in items.items():
             statement = statement_of(name, lines)
-            if not statement.startswith("goal."):
-                found[name, statement].add(f"{crate}/proofs/{module}")
-    return {key: sorted(files) for key, files in found.items() if len(files) > 1}
+            if GIVES_DATA.search(statement):
+                continue
+            homes = {}
+            for token in set(TOKEN.findall(statement)) - {name}:
+                home = imports.words.get(token, ("",))
+                homes[token] = home if home[0].startswith("hfs_") else tuple(items.get(token, ()))
+            found[name, statement, tuple(sorted(homes.items()))].add(f"{crate}/proofs/{module}")
+    return {key[:2]: sorted(files) for key, files in found.items() if len(files) > 1}
 
 
 def main():

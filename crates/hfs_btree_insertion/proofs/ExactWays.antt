@@ -5,7 +5,7 @@ use Rattle.std.specs.Ordering.{is_gt}
 use Rattle.std.specs.Cmp.{IsTotalOrder}
 use Rattle.std.specs.List.{flat_map, prefix_len}
 use Rattle.std.specs.declared.cmp.Ordering.TheVariants.{Equal}
-use Rattle.std.proofs.lemmas.Bool.{cases_Bool, cond-true, cond-false}
+use Rattle.std.proofs.lemmas.Bool.{not-true, cases_Bool, cond-true, cond-false}
 use Rattle.hfs_btree.specs.declared.key.Key.{Ghosts}
 use Rattle.hfs_btree.specs.Pairs.{Pairs, Rises, IsAtMost}
 use Rattle.hfs_scans.specs.Each.{Each}
@@ -42,10 +42,6 @@ last-fits p xs some = by-count p (prefix_len p xs - 1) xs (omega (arith, some))
 first-prefix : (p : List ℕ → Bool) (xs : List (List ℕ)) → 0 < length xs → p (get_or xs 0 []) ≡ true → 0 < prefix_len p xs
 first-prefix p [] some h = absurd (omega (arith, some))
 first-prefix p (x ∷ xs) some h = let count : prefix_len p (x ∷ xs) ≡ 1 + prefix_len p xs = cond-true (p x) (1 + prefix_len p xs) 0 h in omega (arith, count)
-
-not-true : (b : Bool) → not b ≡ true → b ≡ false
-not-true true h = sym h
-not-true false h = refl
 
 module _ {K : Type 0} (g : Ghosts K) (total : IsTotalOrder g.compare) (nodes : Store) (key : K) where
   abbrev pub IsNotAbove : K → Type 0

@@ -10,6 +10,7 @@ use Rattle.hfs_scans.specs.Each.{Each}
 use Rattle.hfs_scans.proofs.ElementLemmas.{each-append, each-left}
 use Rattle.hfs_blocks.specs.Blocks.{nodes_in}
 use Rattle.hfs_btree.specs.Sound.{IsOther, IsDistinct}
+use Rattle.hfs_space.proofs.OwnedOnce.{distinct-range}
 use Rattle.hfs_space.specs.Extents.{extent_blocks}
 use Rattle.hfs_space.specs.Forks.{blocks_each}
 use Rattle.hfs_space.proofs.ForkLawLemmas.{allocation_block, file_blocks-in_order}
@@ -34,10 +35,6 @@ distinct-take zero [] h = tt
 distinct-take zero (x ∷ xs) h = tt
 distinct-take (suc n) [] h = tt
 distinct-take (suc n) (x ∷ xs) h = (each-take (IsOther x) n xs h.0, distinct-take n xs h.1)
-
-distinct-range : (a n : ℕ) → IsDistinct (range_with_len a n)
-distinct-range a zero = tt
-distinct-range a (suc n) = (each_range (IsOther a) (a + 1) n (λ j lt same. omega (arith, same)), distinct-range (a + 1) n)
 
 -- ---- the logical blocks of allocation blocks
 

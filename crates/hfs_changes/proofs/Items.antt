@@ -9,7 +9,7 @@ use Rattle.hfs_model.specs.Lawful.{Has}
 use Rattle.hfs_catalog.specs.Records.{Record, Catalog, item_with, has_thread}
 use Rattle.hfs_catalog.specs.Items.{Contents, folder_of, file_of, item_of, items_in}
 use Rattle.hfs_catalog.proofs.LawTypes.{ItemsAreRecords}
-use Rattle.hfs_catalog.proofs.Held.{none_some, with_id}
+use Rattle.hfs_catalog.proofs.Held.{none_some, with_id, HasRecord}
 use Rattle.hfs_model.proofs.Facts.{same_some}
 
 module _ (contents : Contents) (catalog : Catalog) (r : Record) where
@@ -27,15 +27,6 @@ module _ (contents : Contents) (catalog : Catalog) (r : Record) where
   pub item_kind : is_folder_kind (item_of contents catalog r).kind ≡ is_dir r.1
   unfolding item_of folder_of file_of
   item_kind = elim (is_dir r.1) as (λ (b : Bool). is_folder_kind (choice b).kind ≡ b) [ true ↦ refl | false ↦ refl ]
-
--- the record of an item
-pub record HasRecord (contents : Contents) (catalog : Catalog) (id : ℕ) (i : Item) : Type 0 where
-  pub of : Record
-  pub found : item_with catalog id ≡ Some of
-  pub there : In of catalog
-  pub item : is_item of.1 ≡ true
-  pub same : item_id of.1 ≡ id
-  pub is : item_of contents catalog of ≡ i
 
 module _ (law : ItemsAreRecords) (contents : Contents) (catalog : Catalog) where
   pub has_item : (id : ℕ) (r : Record) → item_with catalog id ≡ Some r → Has (items_in contents catalog) id (item_of contents catalog r)

@@ -39,7 +39,7 @@ check_fault number place = option_map (Check number) place
 
 -- of an image of so many bytes
 unfoldable pub length_fault : ℕ → Option MountFault
-length_fault bytes = fault_unless TooLarge (nat_le bytes 2147483648) or_fault fault_unless Short (nat_le 1536 bytes)
+length_fault bytes = ◌or_fault◌ (fault_unless TooLarge (nat_le bytes 2147483648)) (fault_unless Short (nat_le 1536 bytes))
 
 -- ---- the master directory block of a volume of so many blocks
 

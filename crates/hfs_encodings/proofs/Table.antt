@@ -98,11 +98,6 @@ byte-is crc byte = refl
 crc_with_byte-linear : (c d x y : ℕ) → crc_with_byte (bit_xor c d) (bit_xor x y) ≡ bit_xor (crc_with_byte c x) (crc_with_byte d y)
 crc_with_byte-linear c d x y = byte-is (bit_xor c d) (bit_xor x y) ∙ after-linear 7 c d x y ∙ sym (λ i. bit_xor (byte-is c x i) (byte-is d y i))
 
-both-true : (a b : Bool) → (a && b) ≡ true → (a ≡ true) × (b ≡ true)
-both-true true true e = (refl, refl)
-both-true true false e = cc
-both-true false b e = cc
-
 -- a byte that meets itself leaves nothing
 met-test : ℕ → Bool
 met-test byte = crc_with_byte (byte * 256) byte == 0

@@ -1,12 +1,15 @@
 -- Facts that several crates cite.
 use Rattle.std.proofs.Common.{ℕ, Bool, zero, true, suc, ◌&&◌, ◌≡◌, ◌<◌, arith, inl, inr, ap, ◌∙◌, Option, None, refl, Some}
-use Rattle.std.proofs.lemmas.Bool.{and_parts}
-use Rattle.hfs_fields.proofs.FlagBits.{last-or-below}
+use Rattle.std.proofs.lemmas.Bool.{and_parts, cases_lt}
+use Rattle.std.specs.Prelude.{◌⊎◌}
 use Rattle.std.specs.Option.{is_none}
 
 unfoldable pub each_below : ℕ → (ℕ → Bool) → Bool
 each_below zero test = true
 each_below (suc n) test = each_below n test && test n
+
+pub last-or-below : (k n : ℕ) → k < suc n → (k < n) ⊎ (k ≡ n)
+last-or-below k n h = elim (cases_lt k n) [ inl below ↦ inl below | inr above ↦ inr (omega arith) ]
 
 pub at-each : (n : ℕ) (test : ℕ → Bool) → each_below n test ≡ true → (k : ℕ) → k < n → test k ≡ true
 unfolding each_below

@@ -1,30 +1,11 @@
 -- What the bits of a file's flags are after one is set or cleared: tried on each of the 256 bytes.
 use Rattle.std.proofs.Common.{◌≡◌, ℕ, zero, suc, ◌<◌, Bool, true, false, not, ◌&&◌, refl, sym, ap, ◌∙◌, arith}
-use Rattle.std.specs.Prelude.{◌==◌, ◌⊎◌}
-use Rattle.std.proofs.Common.{inl, inr}
+use Rattle.std.specs.Prelude.{◌==◌}
 use Rattle.std.specs.Int.RustNames.{bit_and, bit_or}
-use Rattle.std.proofs.lemmas.Bool.{eqb-true, cases_lt}
+use Rattle.std.proofs.lemmas.Bool.{eqb-true}
 use Rattle.bitflags.specs.Sets.{without}
 use Rattle.hfs_fields.specs.Records.{is_bit_set, with_bit}
-
-each_below : ℕ → (ℕ → Bool) → Bool
-each_below zero test = true
-each_below (suc n) test = each_below n test && test n
-
-both-true : (a b : Bool) → (a && b) ≡ true → (a ≡ true) × (b ≡ true)
-both-true true true e = (refl, refl)
-both-true true false e = cc
-both-true false b e = cc
-
-pub last-or-below : (k n : ℕ) → k < suc n → (k < n) ⊎ (k ≡ n)
-last-or-below k n h = elim (cases_lt k n) [ inl below ↦ inl below | inr above ↦ inr (omega arith) ]
-
-at-each : (n : ℕ) (test : ℕ → Bool) → each_below n test ≡ true → (k : ℕ) → k < n → test k ≡ true
-unfolding each_below
-at-each zero test e k lt = absurd (omega arith)
-at-each (suc n) test e k lt =
-    let two = both-true (each_below n test) (test n) e in
-    elim (last-or-below k n lt) [ inl below ↦ at-each n test two.0 k below | inr same ↦ ap test same ∙ two.1 ]
+use Rattle.hfs_fields.proofs.CommonLemmas.{each_below, at-each}
 
 same-bools : Bool → Bool → Bool
 same-bools true b = b

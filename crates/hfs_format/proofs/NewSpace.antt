@@ -9,6 +9,7 @@ use Rattle.hfs_fields.specs.declared.extent.Extent.{Extent}
 use Rattle.hfs_scans.proofs.ElementLemmas.{each-append}
 use Rattle.hfs_scans.specs.Each.{Each}
 use Rattle.hfs_btree.specs.Sound.{IsOther, IsDistinct}
+use Rattle.hfs_space.proofs.OwnedOnce.{each-range, distinct-range}
 use Rattle.hfs_space.specs.Bitmap.{is_used}
 use Rattle.hfs_space.specs.Extents.{block_total, IsExtentWithin, extent_blocks, fork_extents}
 use Rattle.hfs_space.specs.Owners.{Fork, catalog_fork, forks_of, extents_in, bad_extents, owned_extents, owned_blocks}
@@ -24,16 +25,6 @@ use Rattle.hfs_format.proofs.NewFiles.{image_block, root_pair, root_thread_pair,
 use Rattle.hfs_format.proofs.NewCatalog.{root-no_file, thread-no_file}
 use Rattle.hfs_check.specs.Sound.{IsMdbSound}
 use Rattle.hfs_btree.proofs.DistinctLemmas.{distinct-append}
-
--- ---- rows of numbers
-
-each-range : (P : ℕ → Type 0) (a n : ℕ) → ((k : ℕ) → a ≤ k → k < a + n → P k) → Each P (range_with_len a n)
-each-range P a zero h = tt
-each-range P a (suc n) h = (h a (omega arith) (omega arith), each-range P (a + 1) n (λ k low high. h k (omega arith) (omega arith)))
-
-distinct-range : (a n : ℕ) → IsDistinct (range_with_len a n)
-distinct-range a zero = tt
-distinct-range a (suc n) = (each-range (IsOther a) (a + 1) n (λ k low high same. omega arith), distinct-range (a + 1) n)
 
 -- ---- a file of one run
 

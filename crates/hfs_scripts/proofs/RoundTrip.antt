@@ -2,7 +2,7 @@
 use Rattle.std.proofs.Common.{◌≡◌, ℕ, ◌+◌, ◌∙◌, ◌<◌, ◌≤◌, ◌&&◌, Bool, true, false, not, List, [], ◌∷◌, ◌++◌, length, take, get_or, Some, Ok, refl, sym, ap, arith, nat_eq, zero, suc, add-one, append_assoc, length-take, get_or-take}
 use Rattle.std.specs.List.{All, position_or_len, list_all, flat_map, slice_split}
 use Rattle.std.specs.Fmt.{decimal}
-use Rattle.std.proofs.lemmas.Bool.{lt-ltb, le-ltb}
+use Rattle.std.proofs.lemmas.Bool.{not-true, lt-ltb, le-ltb}
 use Rattle.std.proofs.lemmas.List.{append-nil}
 use Rattle.std.proofs.lemmas.List.Elements.{All-head, All-tail}
 use Rattle.std.proofs.lemmas.List.Sums.{position_or_len_is}
@@ -28,10 +28,6 @@ use Rattle.hfs_scripts.proofs.InFields.{is_plain, is_field-decimal, is_field-wor
 -- no element is that byte
 abbrev lacks : ℕ → List ℕ → Bool
 lacks c bytes = list_all (λ byte. not (nat_eq byte c)) bytes
-
-not-true : (b : Bool) → not b ≡ true → b ≡ false
-not-true true h = cc
-not-true false h = refl
 
 split-rest : (c : ℕ) (bytes rest : List ℕ) (first : List ℕ) (more : List (List ℕ)) → lacks c bytes ≡ true → slice_split (λ byte. nat_eq byte c) rest ≡ first ∷ more
     → slice_split (λ byte. nat_eq byte c) (bytes ++ rest) ≡ (bytes ++ first) ∷ more

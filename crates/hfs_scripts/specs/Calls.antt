@@ -95,7 +95,7 @@ target_call now word.DropId item = None
 target_call now word.Resolve item = None
 
 unfoldable pub call_on_target : ℕ → Word → List (List ℕ) → Option Call
-call_on_target now word fields = target_of fields >>= target_call now word
+call_on_target now word fields = ◌>>=◌ (target_of fields) (target_call now word)
 
 -- the call of a word and its fields; a change is made at the moment `now`
 unfoldable pub call_of : ℕ → Word → List (List ℕ) → Option Call

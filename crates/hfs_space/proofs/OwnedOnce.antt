@@ -10,7 +10,7 @@ use Rattle.std.proofs.lemmas.List.FromFn.{length-range_with_len, get_or-range_wi
 use Rattle.hfs_fields.specs.declared.mdb.Mdb.{Mdb}
 use Rattle.hfs_scans.specs.Each.{Each}
 use Rattle.hfs_scans.proofs.ElementLemmas.{each-at}
-use Rattle.hfs_btree.specs.Sound.{IsDistinct}
+use Rattle.hfs_btree.specs.Sound.{IsOther, IsDistinct}
 use Rattle.hfs_scans.proofs.ScanLemmas.{check}
 use Rattle.hfs_space.specs.Bitmap.{is_used, clear_count}
 use Rattle.hfs_space.specs.Owners.{owners, is_block_sound}
@@ -25,6 +25,10 @@ use Rattle.hfs_scans.proofs.TwoFaultLemmas.{neither, both_none}
 pub each-range : (P : ℕ → Type 0) (a n : ℕ) → ((b : ℕ) → a ≤ b → b < a + n → P b) → Each P (range_with_len a n)
 each-range P a zero h = tt
 each-range P a (suc n) h = (h a (omega arith) (omega arith), each-range P (a + 1) n (λ b le lt. h b (omega arith) (omega arith)))
+
+pub distinct-range : (a n : ℕ) → IsDistinct (range_with_len a n)
+distinct-range a zero = tt
+distinct-range a (suc n) = (each-range (IsOther a) (a + 1) n (λ k low high same. omega arith), distinct-range (a + 1) n)
 
 range-each : (P : ℕ → Type 0) (n : ℕ) → Each P (range_with_len 0 n) → (b : ℕ) → b < n → P b
 range-each P n h b lt =
