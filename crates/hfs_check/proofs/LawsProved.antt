@@ -1,4 +1,11 @@
 -- Laws of this crate, each by the laws that it stands on.
+use Rattle.std.proofs.Common.{ℕ, ◌≡◌, None}
+use Rattle.hfs_fields.specs.declared.mdb.Mdb.{Mdb}
+use Rattle.hfs_check.specs.Parts.{Blocks, extents_nodes}
+use Rattle.hfs_check.specs.Sound.{IsMdbSound}
+use Rattle.hfs_space.specs.TreeKeys.{IsExtentsTree}
+use Rattle.hfs_check.specs.Faults.{mdb_fault, check_fault, extents_fault, extents_counts}
+use Rattle.hfs_check.proofs.Opened.{extents_tree_sound}
 use Rattle.hfs_check.proofs.Checked.{no_length_fault as no_length_fault-proved, no_mdb_fault as no_mdb_fault-proved, no_extents_fault as no_extents_fault-proved, no_catalog_fault as no_catalog_fault-proved, no_catalog_name_fault as no_catalog_name_fault-proved, no_catalog_place_fault as no_catalog_place_fault-proved}
 use Rattle.hfs_check.specs.Laws.{NoImageFault, SoundImagesAreLawful}
 use Rattle.hfs_check.proofs.LawTypes.{NoLengthFault, NoMdbFault, NoExtentsFault, NoCatalogFault, NoCatalogNameFault, NoCatalogPlaceFault, NoBlocksFault, TreesAreSound, CatalogIsSound, AgreesWithItself, AgreesOn}
@@ -77,3 +84,12 @@ agrees_with_itself = agrees_itself
 -- An image that agrees with one that agrees with a base agrees with the base.
 pub agrees_on : AgreesOn
 agrees_on = agrees_on-proved
+
+-- a master directory block in which the check finds nothing is sound
+pub mdb_is_sound : (total : ℕ) (mdb : Mdb) → mdb_fault total mdb ≡ None → IsMdbSound total mdb
+mdb_is_sound total mdb none = (no_mdb_fault total mdb).0 none
+
+-- an extents tree in which the check finds nothing is sound
+pub extents_tree_is_sound : (blocks : Blocks) (mdb : Mdb) → check_fault 3 (extents_fault (extents_counts blocks) mdb (extents_nodes blocks)) ≡ None
+    → IsExtentsTree (extents_nodes blocks)
+extents_tree_is_sound = extents_tree_sound no_extents_fault

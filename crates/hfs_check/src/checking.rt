@@ -87,7 +87,7 @@ pub(crate) struct CheckedVolume {
 }
 
 /// Makes all checks of a volume but that of its length, in their order, and gives what they read.
-#[tactic(auto, using(crate::proofs::Opened::all_right))]
+#[tactic(auto, using(crate::proofs::LawsProved::mdb_is_sound, crate::proofs::Opened::all_right))]
 pub(crate) fn checked_blocks<B: Blocks>(
     alloc: Global,
     blocks: &B,

@@ -160,7 +160,7 @@ pub struct VolumeTrees {
 }
 
 /// The trees of a volume, where the extents tree is sound and the catalog tree has its shape.
-#[tactic(auto, using(crate::proofs::Opened::trees_extents, crate::proofs::Opened::trees_catalog, crate::proofs::Opened::trees_none, crate::proofs::Opened::extents_tree_sound))]
+#[tactic(auto, using(crate::proofs::LawsProved::extents_tree_is_sound, crate::proofs::Opened::trees_extents, crate::proofs::Opened::trees_catalog, crate::proofs::Opened::trees_none))]
 pub(crate) fn open_trees<B: Blocks>(
     alloc: Global,
     blocks: &B,

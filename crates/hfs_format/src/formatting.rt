@@ -9,6 +9,7 @@ ghost use Rattle.hfs_check.specs.VolumeOf.{volume_of};
 
 use crate::bit_row::push_bits;
 use crate::fault::FormatFault;
+use crate::format_laws::{new_images_are_sound, new_images_hold_new_volumes};
 use crate::layout::Layout;
 use crate::mdb_block::mdb_block;
 use crate::plan::FormatPlan;
@@ -84,6 +85,8 @@ pub fn format(alloc: Global, plan: FormatPlan) -> Result<Vec<u8>, FormatFault>
     ensures volume { IfOk result (λ image. volume_of image.items ≡ planned_volume plan) }
     ensures fault { IfErr result (IsFormatFault plan) }
 {
+    new_images_hold_new_volumes();
+    new_images_are_sound();
     let volume = Layout::of(&plan)?;
     match volume_image(alloc, &volume) {
         Ok(image) => Ok(image),

@@ -14,7 +14,7 @@ use crate::place::Place;
 use crate::row::RowKind;
 use crate::table::Table;
 use hfs_fields::Name;
-use hfs_model::Call;
+use hfs_model::{Call, reading_leaves};
 use std::alloc::{AllocError, Global};
 
 impl Table {
@@ -221,6 +221,7 @@ impl Table {
         ensures ok { OnOk result (Leaves self.new (step (volume_of self.old) call.now).0) }
         ensures err { OnErr result (Leaves self.new (volume_of self.old)) }
     {
+        reading_leaves();
         match call {
             Call::Create { dir, name, now } => self.create(alloc, *dir, name.as_slice(), *now),
             Call::DirCreate { dir, name, now } => self.dir_create(*dir, name.as_slice(), *now),

@@ -99,6 +99,7 @@ fn gather_rest<S: BlockSource>(
 /// directory block, its copy, the bitmap, and of the extents tree and the catalog the header node, the map nodes and those that the
 /// map marks. Nothing behind a part that is wrong is read, and no block twice.
 /// Errors: a read failed, memory was refused.
+#[tactic(auto, using(hfs_check::proofs::LawsProved::mdb_is_sound))]
 pub fn gather_needed<S: BlockSource>(
     alloc: Global,
     source: &mut S,

@@ -1,4 +1,7 @@
 -- The two trees of a volume, read with their counts right.
+use Rattle.hfs_space.specs.Extents.{AreExtentsWithin}
+use Rattle.hfs_space.specs.Faults.{is_tree_file}
+use Rattle.hfs_space.proofs.LawsProved.{no_tree_file_fault}
 use Rattle.std.proofs.Common.{◌≡◌, ℕ, ◌<◌, Bool, true, false, List, length, Option, Some, None, refl, sym, ap, subst, ◌∙◌}
 use Rattle.std.specs.Prelude.{◌&&◌, ◌↔◌, Result, Ok, Err, IfOk, MatchOption, ◌*◌, ◌≤◌, is_some, not}
 use Rattle.std.specs.Option.{is_none}
@@ -143,3 +146,7 @@ found-wrong b P o e h = subst (λ (found : Option _). MatchOption found (b ≡ f
 
 pub found-right : {X : Type 0} (b : Bool) (P : X → Type 0) (o : Option X) (x : X) → o ≡ Some x → MatchOption o (b ≡ false) (λ y. (b ≡ true) × P y) → (b ≡ true) × P x
 found-right b P o x e h = subst (λ (found : Option _). MatchOption found (b ≡ false) (λ y. (b ≡ true) × P y)) e h
+
+-- the extents of a tree's file that is right lie in the volume
+pub extents_within : (mdb : Mdb) (extents : List Extent) (size : ℕ) → is_tree_file mdb extents size ≡ true → AreExtentsWithin mdb.allocation_blocks extents
+extents_within mdb extents size right = ((no_tree_file_fault mdb extents size).0 right).within

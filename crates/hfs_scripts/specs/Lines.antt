@@ -5,6 +5,7 @@ use Rattle.hfs_scripts.specs.declared.lines.Caller.{Caller}
 use Rattle.hfs_scripts.specs.declared.lines.Caller.TheVariants.{Worker, Viewer}
 use Rattle.hfs_scripts.specs.declared.lines.ScriptLine.{ScriptLine}
 use Rattle.hfs_scripts.specs.declared.words.Word.{Word}
+use Rattle.hfs_scripts.specs.Options.{◌>>=◌}
 use Rattle.hfs_scripts.specs.Numbers.{number_of}
 use Rattle.hfs_scripts.specs.Fields.{fields_of}
 use Rattle.hfs_scripts.specs.Words.{word_of, is_for_viewers}

@@ -9,7 +9,7 @@ ghost use Rattle.hfs_item_table.specs.Tables as tables;
 use crate::opening::{Maps, table_over};
 use crate::threads::ThreadIds;
 use hfs_item_table::Table;
-use hfs_model::{Call, Reply};
+use hfs_model::{Call, Reply, step_keeps_lawful};
 use hfs_volume::Volume;
 use std::alloc::{AllocError, Global};
 use std::marker::Model;
@@ -65,6 +65,7 @@ impl Rows {
         ensures ok { OnOk result (self.new ≡ (step self.old call.now).0) }
         ensures err { OnErr result (self.new ≡ self.old) }
     {
+        step_keeps_lawful();
         self.table.absorb(self.alloc, call)
     }
 

@@ -22,6 +22,7 @@ pub struct Refused {
 /// unless memory is wanting; else the first fault in the order of docs/CHECKS.md, with the image as it was given.
 ///
 /// Source: Inside Macintosh: Files, chapter 2, "Data Organization on Volumes".
+#[tactic(auto, using(hfs_check::proofs::LawsProved::agrees_with_itself))]
 pub fn mount(alloc: Global, image: Vec<u8>) -> Result<Volume, Refused>
     ensures sound { OnOk result (IsSound image.items) }
     ensures base { IfOk result (λ volume. volume.base ≡ image.items) }

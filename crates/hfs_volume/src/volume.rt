@@ -31,7 +31,7 @@ use hfs_blocks::Run;
 use hfs_call_edits::{Editing, Refusal};
 use hfs_call_patches::{Change, with_counts};
 use hfs_fields::{FileRecord, Mdb};
-use hfs_model::{Call, Fork, PARAMETER, Reply};
+use hfs_model::{Call, Fork, PARAMETER, Reply, enough_is_step, reading_leaves};
 use hfs_queries::{self as queries, Detail, refusal, success};
 use std::alloc::{AllocError, Global};
 use std::io::Write;
@@ -116,6 +116,7 @@ impl Volume {
     /// are.
     ///
     /// Source: Inside Macintosh: Files, chapter 2, "High-Level HFS Routines" and "Low-Level HFS Routines".
+    #[tactic(auto, using(hfs_model::proofs::LawsProved::reading_needs_none))]
     pub fn call(&mut self, alloc: Global, call: &Call) -> Result<Reply, AllocError>
         ensures outcome { IfOk result (IsReplyTo call.now self.old.current self.new.current) }
         ensures refused { IfOk result (λ reply. reply.code ≢ pos 0 → self.new ≡ self.old) }
@@ -123,6 +124,8 @@ impl Volume {
         ensures unchanged { OnErr result (self.new.current ≡ self.old.current) }
         ensures base { self.new.base ≡ self.old.base }
     {
+        reading_leaves();
+        enough_is_step();
         if call.is_reading() {
             return self.read(alloc, call);
         }
@@ -216,6 +219,7 @@ impl Volume {
     }
 
     /// A part of one of a file's forks.
+    #[tactic(auto, using(hfs_check::proofs::LawsProved::trees_are_sound))]
     fn fork_part(
         &self,
         alloc: Global,
@@ -259,6 +263,7 @@ impl Volume {
     }
 
     /// One of a file's forks.
+    #[tactic(auto, using(hfs_check::proofs::LawsProved::trees_are_sound))]
     fn open_file(
         &self,
         alloc: Global,

@@ -18,6 +18,17 @@ returns-in_default-found-clause-has g c =
     needs-no-catalog c.args.read.now
     (subst (λ (r : Numbered). (is_extents_tree_right (sparse r) && has_catalog_file (sparse r)) ≡ false) c.volume.ensures.read none)
 
+pub gather_tree-requires-clause-some : goal.gather_tree-requires-clause-some
+gather_tree-requires-clause-some g c =
+    let found : ((is_extents_tree_right (sparse c.volume.result.read.now) && has_catalog_file (sparse c.volume.result.read.now)) ≡ true)
+    × LieAt c.volume.result.count (catalog_blocks (sparse c.volume.result.read.now)) c.in-Some.runs.items = search rules in
+    let right : (is_extents_tree_right (sparse c.args.read.now) && has_catalog_file (sparse c.args.read.now)) ≡ true =
+    subst (λ (r : Numbered). (is_extents_tree_right (sparse r) && has_catalog_file (sparse r)) ≡ true) c.volume.ensures.read found.0 in
+    let lie = lie-at (λ (r : Numbered). catalog_blocks (sparse r)) c.args.count c.volume.result.count c.args.read.now c.volume.result.read.now
+    c.in-Some.runs.items c.deref.result.now c.volume.ensures.read c.volume.ensures.count c.deref.ensures.value found.1 in
+    (catalog-room (sparse c.args.read.now) c.args.mdb.now c.requires.is c.args.count c.deref.result.now no_tree_file_fault c.requires.sound.whole_size
+    (and_parts (is_extents_tree_right (sparse c.args.read.now)) (has_catalog_file (sparse c.args.read.now)) right).1 lie).0
+
 pub gather_tree-requires-clause-within : goal.gather_tree-requires-clause-within
 gather_tree-requires-clause-within g c =
     let found : ((is_extents_tree_right (sparse c.volume.result.read.now) && has_catalog_file (sparse c.volume.result.read.now)) ≡ true)
