@@ -273,7 +273,8 @@ In tables a character below 32, DEL and the backslash are a backslash and two he
 hold the characters themselves, numbers are numbers, yes and no are true and false, and an empty field is null.";
 
 /// What the word `page` tells beside its arguments.
-const PAGES: &str = "The page is one document of HTML by itself: it asks for nothing from elsewhere, and may be put on a web site as it is.
+const PAGES: &str =
+    "The page is one document of HTML by itself: it asks for nothing from elsewhere, and may be put on a web site as it is.
 The picture has a square for each allocation block, or for several where there are more than 4,096: of what the
 blocks are used for, it shows the first that its legend names. Of a refused image the page says why.";
 
