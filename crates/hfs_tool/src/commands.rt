@@ -1,5 +1,6 @@
 //! What each word does.
 
+use crate::collecting::collect;
 use crate::progress::Progress;
 use crate::saving::{save, tell};
 use crate::volumes::{
@@ -60,6 +61,7 @@ pub fn obey<'a, T: Threads + Wait + Sync>(
             None => print_macbinary(rt, file),
         },
         Words::Volumes { file } => print_volumes(rt, *file),
+        Words::Collect(words) => collect(rt, words),
         Words::New(volume) => write_new(rt, volume),
         Words::Repair { image, file } => write_repaired(rt, *image, *file),
         Words::Run(run) => print_answers(rt, threads, run),

@@ -4,6 +4,7 @@
 ghost use Rattle.std.specs.Prelude.{◌≡◌, ◌⊎◌};
 ghost use Rattle.hfs_commands.specs.Faults.{status_number, status_of};
 
+mod collecting;
 mod commands;
 mod hints;
 mod progress;
