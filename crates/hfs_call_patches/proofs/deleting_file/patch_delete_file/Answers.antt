@@ -10,7 +10,7 @@ use Rattle.hfs_changes.specs.Deletion.{without_one_file}
 use Rattle.hfs_check.specs.Parts.{catalog_nodes}
 use Rattle.hfs_call_patches.proofs.FileDeleted.{file_chosen_id, file_given, blocks_counted, freed_within, freed_alone, file_deleted}
 use Rattle.hfs_call_patches.proofs.FileGone.{extents_old, extents_first, catalog_second, file_gone, free_fits}
-use Rattle.hfs_call_patches.proofs.FromFolder.{under_by, stays_by, keeps_by, some_child}
+use Rattle.hfs_call_patches.proofs.FromFolder.{own_under_by, under_by, stays_by, keeps_by, some_child}
 use Rattle.hfs_call_patches.proofs.deleting_file.patch_delete_file.Goals as goal
 
 pub file_extents-requires : goal.file_extents-requires
@@ -56,6 +56,14 @@ drop_item_over-requires-clause-there g c =
     let old = g.B.Blocks.blocks below in
     let ch = c.requires.chosen.chosen in
     under_by c.choice_stands.ensures c.folders_stand.ensures.delete (g.B.Blocks.total below) c.args.dir c.args.file.now.id c.requires.chosen.name c.args.key.now c.args.parent.now c.args.valence ch.of old
+    c.requires.sound ch.choice ch.own_key (file_chosen_id (g.B.Blocks.total below) c.args.dir c.requires.chosen.name c.args.key.now c.args.file.now old c.requires.sound ch) c.requires.parent (catalog_nodes old) refl
+
+pub drop_item_over-requires-clause-own : goal.drop_item_over-requires-clause-own
+drop_item_over-requires-clause-own g c =
+    let below = c.args.below.now in
+    let old = g.B.Blocks.blocks below in
+    let ch = c.requires.chosen.chosen in
+    own_under_by c.choice_stands.ensures c.folders_stand.ensures.delete (g.B.Blocks.total below) c.args.dir c.args.file.now.id c.requires.chosen.name c.args.key.now c.args.parent.now c.args.valence ch.of old
     c.requires.sound ch.choice ch.own_key (file_chosen_id (g.B.Blocks.total below) c.args.dir c.requires.chosen.name c.args.key.now c.args.file.now old c.requires.sound ch) c.requires.parent (catalog_nodes old) refl
 
 pub drop_item_over-requires-clause-stays : goal.drop_item_over-requires-clause-stays
