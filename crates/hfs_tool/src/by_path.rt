@@ -1,6 +1,6 @@
 //! What the words do on items by their paths.
 
-use crate::commands::{print_code, print_found, print_told, print_written};
+use crate::commands::{print_code, print_found, print_refusal, print_told};
 use crate::words::{ForkPathWords, PathWords};
 use hfs_commands::{
     BlockSource, Fault, OpenedFile, OpenedImage, Window, file_path_reply, open_part,
@@ -53,8 +53,10 @@ pub fn print_fork_at<'a>(rt: &HostRuntime, words: &ForkPathWords<'a>) -> Result<
     match &reply.value {
         Value::One(file) => {
             let (dir, name) = (file.parent, file.name.bytes());
-            let written = image.write_fork(rt.alloc(), dir, name, words.fork, &mut rt.stdout());
-            print_written(rt, words.place.image, written)
+            match image.write_fork(rt.alloc(), dir, name, words.fork, &mut rt.stdout()) {
+                Ok(told) => print_refusal(rt, told),
+                Err(fault) => Err(Fault::of_copy(fault, words.place.image)),
+            }
         }
         _ => print_code(rt, &reply),
     }

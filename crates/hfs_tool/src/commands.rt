@@ -12,11 +12,10 @@ use crate::volumes::{
 use crate::words::{FileWords, ForkWords, NewVolume, RunWords, Words};
 use hfs_check::MountFault;
 use hfs_commands::{
-    BlockSource, ByteSource, CheckAnswer, CopyFault, Fault, Format, ImageFile, NeededFile,
-    OpenedImage, Ran, RepairAnswer, Status, check_answer, code_text, list_text, load_file,
-    load_script, needed_check_answer, needed_file, open_image, opened_list_text, put,
-    put_macbinary, refused_text, repair_answer, run_info, run_script_at, write_fork, write_items,
-    write_macbinary,
+    BlockSource, ByteSource, CheckAnswer, Fault, Format, ImageFile, NeededFile, OpenedImage, Ran,
+    RepairAnswer, Status, check_answer, code_text, list_text, load_file, load_script,
+    needed_check_answer, needed_file, open_image, opened_list_text, put, put_macbinary,
+    refused_text, repair_answer, run_info, run_script_at, write_fork, write_items, write_macbinary,
 };
 use hfs_format::{FormatPlan, format};
 use hfs_model::Reply;
@@ -351,20 +350,17 @@ pub fn print_needed_fork<'a, S: BlockSource + Drop>(
         Err(fault) => return Err(Fault::of_needed(fault, file.image)),
     };
     let (name, fork) = (file.name.as_bytes(), file.fork);
-    let written = image.write_fork(rt.alloc(), file.dir, name, fork, &mut rt.stdout());
-    print_written(rt, file.image, written)
+    match image.write_fork(rt.alloc(), file.dir, name, fork, &mut rt.stdout()) {
+        Ok(told) => print_refusal(rt, told),
+        Err(fault) => Err(Fault::of_copy(fault, file.image)),
+    }
 }
 
 /// Prints the code of the call that refused a fork, where it was not written.
-pub fn print_written<'a>(
-    rt: &HostRuntime,
-    path: &'a str,
-    written: Result<Result<(), Reply>, CopyFault>,
-) -> Result<u8, Fault<'a>> {
-    match written {
-        Ok(Ok(())) => Ok(Status::Done.number()),
-        Ok(Err(reply)) => print_code(rt, &reply),
-        Err(fault) => Err(Fault::of_copy(fault, path)),
+pub fn print_refusal(rt: &HostRuntime, told: Result<(), Reply>) -> Result<u8, Fault<'static>> {
+    match told {
+        Ok(()) => Ok(Status::Done.number()),
+        Err(reply) => print_code(rt, &reply),
     }
 }
 
