@@ -1,15 +1,13 @@
 # What the scripts beside hfsutils begin with: the program, hfsutils, and a folder that goes away at the end. Nothing is
 # installed here: hfsutils is Debian's package of that name.
-set -euo pipefail
-cd "$(dirname "$0")/.."
-tool=${HFS_TOOL:-$PWD/crates/hfs_tool/out/hfs_tool}
+. "$(dirname "$0")/common.sh"
 volumes=$PWD/tests/volumes
 
 if ! command -v hmount > /dev/null; then
     echo 'skipped: hfsutils is not installed'
     exit 0
 fi
-[ -x "$tool" ] || (cd crates/hfs_tool && rt run < stdin > /dev/null)
+tool=$(program hfs_tool)
 
 folder=$(mktemp -d)
 export HOME=$folder # hfsutils notes there what is mounted

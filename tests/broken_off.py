@@ -14,8 +14,10 @@ import sys
 import tempfile
 from pathlib import Path
 
+from driver.programs import built
+
 HERE = Path(__file__).resolve().parent
-TOOL = os.environ.get('HFS_TOOL') or str(HERE.parent / 'crates' / 'hfs_tool' / 'out' / 'hfs_tool')
+TOOL = str(built('hfs_tool'))
 IMAGE = HERE / 'volumes' / 'small' / 'one-file.img.gz'
 BLOCK, LENGTH = 512, 2000
 BLOCKS = (14, 16, 18, 20)

@@ -2,11 +2,9 @@
 # Takes files off whole: what `cat --macbinary` writes of a small volume, by its path and out of a pipe, byte for byte; what it refuses; and then,
 # each where it is installed, the same files by other programs: hfsutils writes the same and reads ours, macunpack and unar take ours apart, and
 # unar and lsar know the AppleDouble file of such a file. Prints 'encodings agree', with the programs that were skipped, or what differs, status 1.
-set -euo pipefail
-cd "$(dirname "$0")/.."
+. "$(dirname "$0")/common.sh"
 command -v python3 > /dev/null || { echo 'skipped: python3 is not installed'; exit 0; }
-tool=${HFS_TOOL:-$PWD/crates/hfs_tool/out/hfs_tool}
-[ -x "$tool" ] || (cd crates/hfs_tool && rt run < stdin > /dev/null)
+tool=$(program hfs_tool)
 make=$PWD/tests/encodings.py
 folder=$(mktemp -d)
 export HOME=$folder # hfsutils notes there what is mounted

@@ -7,12 +7,10 @@
 # tests/fuzz.sh image N SEED [FOLDER]          tries the image N of that seed alone, and leaves it as fuzzed.img in the folder where it was called
 #
 # What it prints last is how many images it tried and how many words it ran, or what stopped it and the words that repeat that.
-set -euo pipefail
 kept=$PWD/fuzzed.img
-cd "$(dirname "$0")/.."
+. "$(dirname "$0")/common.sh"
 command -v python3 > /dev/null || { echo skipped; exit 0; }
-tool=${HFS_TOOL:-$PWD/crates/hfs_tool/out/hfs_tool}
-[ -x "$tool" ] || (cd crates/hfs_tool && rt run < stdin > /dev/null)
+tool=$(program hfs_tool)
 
 folder=$(mktemp -d)
 trap 'rm -rf "$folder"' EXIT

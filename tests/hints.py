@@ -12,8 +12,10 @@ import sys
 import tempfile
 from pathlib import Path
 
+from driver.programs import built
+
 HERE = Path(__file__).resolve().parent
-TOOL = os.environ.get('HFS_TOOL') or str(HERE.parent / 'crates' / 'hfs_tool' / 'out' / 'hfs_tool')
+TOOL = str(built('hfs_tool'))
 NOT_HERE = 'no HFS volume begins here; hfs_tool volumes FILE looks for one inside'
 COUNTS = 'counts are wrong, the files may be whole; hfs_tool repair mends counts'
 NAME = 'the disk may be sound: it has a name that this program does not take'

@@ -9,15 +9,16 @@ viewers and workers read all of each volume, and are answered the same.
 tests/images.py      runs $HFS_TOOL, or the program as it is built in crates/hfs_tool/out
 """
 import gzip
-import os
 import subprocess
 import sys
 import tempfile
 from concurrent.futures import ThreadPoolExecutor
 from pathlib import Path
 
+from driver.programs import built
+
 HERE = Path(__file__).resolve().parent
-TOOL = os.environ.get('HFS_TOOL') or str(HERE.parent / 'crates' / 'hfs_tool' / 'out' / 'hfs_tool')
+TOOL = str(built('hfs_tool'))
 BLOCK = 512
 SMALL = {'OneFile': 'one-file', 'TwoFiles': 'two-files', 'TwoLevels': 'two-levels', 'FileThread': 'file-thread', 'Folder': 'folder'}
 # The fork of the file in OneFile and TwoFiles.

@@ -25,8 +25,10 @@ import tempfile
 from datetime import datetime, timedelta
 from pathlib import Path
 
+from driver.programs import built
+
 HERE = Path(__file__).resolve().parent
-TOOL = os.environ.get('HFS_TOOL') or str(HERE.parent / 'crates' / 'hfs_tool' / 'out' / 'hfs_tool')
+TOOL = str(built('hfs_tool'))
 VOLUMES = HERE / 'volumes'
 COLUMNS = ['path', 'kind', 'id', 'parent', 'type', 'creator', 'flags', 'locked', 'file_id', 'created', 'modified', 'backup', 'items', 'data_bytes',
            'resource_bytes', 'finder']

@@ -1,8 +1,7 @@
 #!/usr/bin/env bash
 # Prints the man page, made of what the program's own help says: tests/man_page.sh > docs/hfs_tool.1
-set -euo pipefail
-cd "$(dirname "$0")/.."
-tool=crates/hfs_tool/out/hfs_tool
+. "$(dirname "$0")/common.sh"
+tool=$(program hfs_tool)
 
 # Text as it stands, between lines that neither fill nor indent it anew.
 as_it_stands() {

@@ -1,8 +1,7 @@
 #!/usr/bin/env bash
 # Makes the package, lays it into a folder, and runs what was installed: the program, its man page, and the completion of its words.
 # Prints 'the package agrees', or what differs and ends with status 1. Where dpkg-deb is missing it says that it was skipped.
-set -euo pipefail
-cd "$(dirname "$0")/.."
+. "$(dirname "$0")/common.sh"
 command -v dpkg-deb > /dev/null || { echo 'the package: skipped, since dpkg-deb is missing'; exit 0; }
 folder=$(mktemp -d)
 trap 'rm -rf "$folder"' EXIT
@@ -13,7 +12,7 @@ fail() {
 }
 
 package=$(scripts/package.sh "$folder")
-version=$(crates/hfs_tool/out/hfs_tool --version | awk '{ print $2 }')
+version=$($(program hfs_tool) --version | awk '{ print $2 }')
 [ "$(dpkg-deb -f "$package" Version)" = "$version" ] || fail 'its version'
 [ "$(dpkg-deb -f "$package" Depends)" = libc6 ] || fail 'what it stands on'
 dpkg-deb -x "$package" "$folder/root"

@@ -15,7 +15,6 @@ import argparse
 import csv
 import gzip
 import io
-import os
 import re
 import subprocess
 import sys
@@ -31,7 +30,7 @@ from driver.image import DATA_FORK, MDB, RESOURCE_FORK, extents_at
 from hostile_images import (EXTENTS_KEY_LENGTH, FIRST_FREE, LEAF, ROOT, Plan, Tree, extent_bytes, extents_key, folder, many_extents, new_volume, node,
                             one_leaf, thread)
 from hostile_images import file as file_record
-from items import Differs, ensure, ensure_same, moment, plain, told
+from items import TOOL, Differs, ensure, ensure_same, moment, plain, told
 from slow_volumes import Volume, cut_files
 from slow_volumes import plain as plain_volume
 from volumes import in_disk_copy, in_map
@@ -417,8 +416,7 @@ def compare_ways(pages):
     absent = pages.folder / 'absent.img'
     ensure(told('page', absent) == (4, f'cannot read {absent}\n'.encode()), 'page of a file that is not there')
     for words in ((), (absent, '--format', 'csv'), (absent, absent)):
-        ensure(subprocess.run([os.environ.get('HFS_TOOL') or str(VOLUMES.parents[1] / 'crates' / 'hfs_tool' / 'out' / 'hfs_tool'), 'page', *words],
-                              capture_output=True, timeout=60).returncode == 1, f'page {words}')
+        ensure(subprocess.run([TOOL, 'page', *words], capture_output=True, timeout=60).returncode == 1, f'page {words}')
 
 
 def compare_refused(pages):

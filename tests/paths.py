@@ -7,15 +7,16 @@ another volume's name are refused by the codes that a hand wrote.
 tests/paths.py      runs $HFS_TOOL, or the program as it is built in crates/hfs_tool/out
 """
 import gzip
-import os
 import re
 import subprocess
 import sys
 import tempfile
 from pathlib import Path
 
+from driver.programs import built
+
 HERE = Path(__file__).resolve().parent
-TOOL = os.environ.get('HFS_TOOL') or str(HERE.parent / 'crates' / 'hfs_tool' / 'out' / 'hfs_tool')
+TOOL = str(built('hfs_tool'))
 VOLUMES = HERE / 'volumes'
 SCRIPT = b'1\tmkdir\t2\tGames\n1\tcreate\t16\tm0\n1\tmkdir\t16\tOld\n1\tcreate\t18\ta\\b\n1\tcreate\t2\t-x\n1\tcreate\t2\t A~\n'
 LISTED = b'f\t21\t0\t0\t A~\nf\t20\t0\t0\t-x\nd\t16\t2\t0\tGames\n'

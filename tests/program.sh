@@ -2,11 +2,9 @@
 # Runs the program as its users do: what the README shows; each exit status with its text; and that nothing which reads
 # changes an image. Prints 'the program agrees', or what differs and ends with status 1. What it tells of volumes of other
 # programs is compared by tests/real_volumes.py.
-set -euo pipefail
-cd "$(dirname "$0")/.."
-tool=${HFS_TOOL:-$PWD/crates/hfs_tool/out/hfs_tool}
+. "$(dirname "$0")/common.sh"
+tool=$(program hfs_tool)
 volumes=$PWD/tests/volumes
-[ -x "$tool" ] || (cd crates/hfs_tool && rt run < stdin > /dev/null)
 
 folder=$(mktemp -d)
 trap 'rm -rf "$folder"' EXIT

@@ -12,7 +12,7 @@ if ! command -v cc > /dev/null; then
     echo 'there is no C compiler: SKIP_REFUSED_MEMORY=yes leaves this out'
     exit 1
 fi
-cd "$(dirname "$0")/../crates"
+. "$(dirname "$0")/common.sh"
 programs=("$@")
 [ ${#programs[@]} -gt 0 ] || programs=(hfs_refused_memory hfs_refused_sharing)
 
@@ -65,7 +65,7 @@ refuse_each() {
     while true; do
         n=$((n + 1)) got=0
         : > "$folder/refused"
-        REFUSE=$n LD_PRELOAD=$folder/refuse.so "$1/out/$1" < "$folder/line" > "$folder/printed" 2> "$folder/errors" 3> "$folder/refused" || got=$?
+        REFUSE=$n LD_PRELOAD=$folder/refuse.so "$1" < "$folder/line" > "$folder/printed" 2> "$folder/errors" 3> "$folder/refused" || got=$?
         printed=$(< "$folder/printed") errors=$(< "$folder/errors")
         if is_laying_refused "$got" "$printed" "$errors"; then continue; fi
         if [ "$got" != 0 ] || [ "$printed" != "$3" ]; then
@@ -82,10 +82,10 @@ refuse_each() {
 
 refused=0 whole=0 lagged=0 first=''
 for program in "${programs[@]}"; do
-    [ -x "$program/out/$program" ] || (cd "$program" && rt run > /dev/null)
+    built=$(program "$program")
     while IFS= read -r line && IFS= read -r told <&4; do
-        refuse_each "$program" "$line" "$told"
-    done < "$program/stdin" 4< "$program/stdout"
+        refuse_each "$built" "$line" "$told"
+    done < "crates/$program/stdin" 4< "crates/$program/stdout"
 done
 if [[ " ${programs[*]} " == *' hfs_refused_sharing '* ]] && [ -z "$first" ]; then
     echo "no publish lagged behind the first call"

@@ -4,10 +4,8 @@
 # is told of files that such runs left; and how paths are printed. Each is tried by who runs this;
 # where that is root, by a plain user as well. Prints 'files are left as their owner left them', or
 # what differs and ends with status 1.
-set -euo pipefail
-cd "$(dirname "$0")/.."
-built=$PWD/crates/hfs_tool/out/hfs_tool
-[ -x "$built" ] || (cd crates/hfs_tool && rt run < stdin > /dev/null)
+. "$(dirname "$0")/common.sh"
+built=$(program hfs_tool)
 
 folder=$(mktemp -d)
 disk=''

@@ -16,9 +16,11 @@ import subprocess
 import sys
 import tempfile
 
+from driver.programs import built
+
 P6 = '8a87ab0d0aabcd89bc3175134dae1fbd9e84c136bc25c294375b54fecd06434f'
 HERE = os.path.dirname(os.path.abspath(__file__))
-TOOL = os.environ.get('HFS_TOOL') or os.path.join(os.path.dirname(HERE), 'crates', 'hfs_tool', 'out', 'hfs_tool')
+TOOL = str(built('hfs_tool'))
 VOLUMES = os.path.join(HERE, 'volumes')
 
 

@@ -63,21 +63,19 @@ class Programs:
 
 
 def built(crate: str) -> Path:
-    """A program as LLVM builds it, which is built and proved now where it isn't there."""
-    path = ROOT / 'crates' / crate / 'out' / crate
-    if not path.exists() and path.parents[1].is_dir():
-        subprocess.run(['rt', 'run'], cwd=path.parents[1], stdin=subprocess.DEVNULL, stdout=subprocess.DEVNULL, check=False)
-    if not path.exists():
-        raise SystemExit(f'{path} is not there, and rt run does not build it')
-    return path
+    """A program as LLVM builds it, or the one that HFS_TOOL or HFS_PLAIN names; it is proved and built first where it isn't there,
+    or a source of it is newer."""
+    found = subprocess.run(['bash', ROOT / 'tests' / 'common.sh', crate], stdin=subprocess.DEVNULL, stdout=subprocess.PIPE, text=True)
+    if found.returncode != 0:
+        raise SystemExit(f'{crate} is not built')
+    return Path(found.stdout.rstrip('\n'))
 
 
 def found_programs() -> Programs:
     """The programs of this repository, or those that HFS_TOOL, HFS_TOOL_BY_RATTLE and HFS_PLAIN name."""
-    llvm = Path(os.environ.get('HFS_TOOL') or built('hfs_tool'))
+    llvm = built('hfs_tool')
     own = Path(os.environ.get('HFS_TOOL_BY_RATTLE') or llvm.with_name(llvm.name + '.by-rattle'))
     tools = [Program('hfs_tool', llvm)]
     if own.exists():
         tools.append(Program('hfs_tool by Rattle', own))
-    plain = Path(os.environ.get('HFS_PLAIN') or built('hfs_plain'))
-    return Programs(tuple(tools), Program('hfs_plain', plain))
+    return Programs(tuple(tools), Program('hfs_plain', built('hfs_plain')))
