@@ -37,7 +37,7 @@ drop_from_folder-requires-clause-own g c =
     let below = c.args.below.now in
     let old = g.B.Blocks.blocks below in
     let ch = c.requires.chosen.chosen in
-    own_id_by c.choice_stands.ensures c.folders_stand.ensures.delete (g.B.Blocks.total below) c.args.dir c.args.folder.now.id c.requires.chosen.name c.args.key.now c.args.parent.now c.args.valence ch.of old
+    own_id_by choice_stands folders_stand-delete (g.B.Blocks.total below) c.args.dir c.args.folder.now.id c.requires.chosen.name c.args.key.now c.args.parent.now c.args.valence ch.of old
     c.requires.sound ch.choice ch.own_key (chosen_id old c.args.dir c.requires.chosen.name c.args.key.now c.args.folder.now ch) c.requires.parent _ c.open_catalog-nodes.ensures.nodes
 
 pub drop_from_folder-requires-clause-stays : goal.drop_from_folder-requires-clause-stays
