@@ -19,6 +19,10 @@ done
 cd "$root/crates/$crate"
 top=src/lib.rt
 [ -e "$top" ] || top=src/main.rt
-mkdir -p out/incremental
+# A library of statements alone is built without kept work.
+if [[ " $* " != *' --statements '* ]]; then
+    mkdir -p out/incremental
+    words+=(--incremental out/incremental)
+fi
 exec "$kit/bin/rattle" "${RATTLE_VERB:-check}" --crate-name "$crate" "$top" "${words[@]}" --antt-project "$kit/rattle/logic/antt-project.json" \
-    --logic-built "$kit/logic_built" --jobs "${RT_JOBS:-1}" --links "$crate=" --incremental out/incremental "$@"
+    --logic-built "$kit/logic_built" --jobs "${RT_JOBS:-1}" --links "$crate=" "$@"

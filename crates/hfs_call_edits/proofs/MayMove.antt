@@ -32,7 +32,7 @@ use Rattle.hfs_call_patches.specs.declared.moving.Moving.{Moving}
 use Rattle.hfs_call_patches.specs.Moving.{IsMoving, FitsCounts, CanMove}
 use Rattle.hfs_call_patches.specs.Rekeyings.{CanRekey}
 use Rattle.hfs_call_edits.proofs.StepMade.{change_refused, change_accepted}
-use Rattle.hfs_call_edits.proofs.ItemThere.{item_there}
+use Rattle.hfs_call_edits.proofs.ItemThere.{item_there, own_there}
 
 module _ (catalogs : CatalogIsSound) (total : ℕ) (old : Blocks) (h : AreBlocksSound total old) (dir : ℕ) (name : List ℕ) (new_dir : ℕ) (m : Moving) (c : IsMoving old dir name new_dir m) where
   abbrev r : Record
@@ -59,6 +59,7 @@ module _ (catalogs : CatalogIsSound) (total : ℕ) (old : Blocks) (h : AreBlocks
         names = sound.names;
         root = sound_has_root next (catalog_of (catalog_nodes old)) sound.ids;
         there = item_there old next sound r id c.choice.choice.was m.item.from m.item.to c.choice.own_key (stands total _ r old h c.choice.choice);
+        own = own_there old next sound r id c.choice.choice.was m.item.from m.item.to c.choice.own_key m.item.id c.choice.own_id (stands total _ r old h c.choice.choice);
         low = subst (λ (n : ℕ). 2 ≤ n) (sym c.from_is) (ids total dir c.first old h c.left.folder);
         high = subst (λ (n : ℕ). 2 ≤ n) (sym c.to_is) (ids total new_dir c.second old h c.entered.folder);
         named = subst (λ (k : CatKey). IsTrue (is_item_name k.name)) c.choice.new_key named;

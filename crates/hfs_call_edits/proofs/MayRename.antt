@@ -33,7 +33,7 @@ use Rattle.hfs_call_patches.specs.declared.rekeying.Rekeying.{Rekeying}
 use Rattle.hfs_call_patches.specs.Rekeyings.{CanRekey}
 use Rattle.hfs_call_edits.specs.ChoosingRenaming.{IsRenaming}
 use Rattle.hfs_call_edits.proofs.StepMade.{change_refused, change_accepted}
-use Rattle.hfs_call_edits.proofs.ItemThere.{item_there}
+use Rattle.hfs_call_edits.proofs.ItemThere.{item_there, own_there}
 use Rattle.hfs_changes.proofs.FreeKeys.{same_through}
 
 -- ---- keys
@@ -81,6 +81,7 @@ module _ (trees : TreesAreSound) (catalogs : CatalogIsSound) (stands : ChoiceSta
         names = sound.names;
         root = sound_has_root (mdb_in old).next_id (catalog_of (catalog_nodes old)) sound.ids;
         there = item_there old (mdb_in old).next_id sound r c.choice.choice.id c.choice.choice.was item.from item.to c.choice.own_key (stands total _ r old h c.choice.choice);
+        own = own_there old (mdb_in old).next_id sound r c.choice.choice.id c.choice.choice.was item.from item.to c.choice.own_key item.id c.choice.own_id (stands total _ r old h c.choice.choice);
         low = c.low;
         high = subst (λ (n : ℕ). 2 ≤ n) parents c.low;
         named = c.named;

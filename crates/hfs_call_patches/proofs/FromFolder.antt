@@ -32,7 +32,7 @@ use Rattle.hfs_changes.specs.SettingLaws.{IsChoice}
 use Rattle.hfs_changes.proofs.SettingLaws.{ChoiceStands}
 use Rattle.hfs_queries.proofs.FolderLemmas.{found_with}
 use Rattle.hfs_call_patches.specs.CatalogPatch.{KeepsNamed}
-use Rattle.hfs_call_patches.specs.Deleting.{IsParent, StaysFolder, ItemDropped}
+use Rattle.hfs_call_patches.specs.Deleting.{HasIdUnder, IsParent, StaysFolder, ItemDropped}
 
 module _ (stands : ChoiceStands) (folders : DeleteLeavesFolder) (total dir : ℕ) (name : List ℕ) (a r : Record) (old : Blocks) (h : AreBlocksSound total old)
     (c : IsChoice old (to_delete (volume_in old) dir name) a) (parent : IsFolderWith (catalog_in old) dir r) where
@@ -42,10 +42,16 @@ module _ (stands : ChoiceStands) (folders : DeleteLeavesFolder) (total dir : ℕ
   item_there : IfBody (λ body. is_item body ≡ true) (lookup cat_cmp a.0 (catalog_in old))
   item_there = subst (IfBody (λ body. is_item body ≡ true)) (sym (stands total (to_delete (volume_in old) dir name) a old h c)) (found_with (catalog_in old) c.id a c.was).item
 
+  id_there : HasIdUnder a.0 c.id (catalog_in old)
+  id_there = subst (IfBody (λ body. item_id body ≡ c.id)) (sym (stands total (to_delete (volume_in old) dir name) a old h c)) (found_with (catalog_in old) c.id a c.was).same
+
   module _ (opened : Store) (is : opened ≡ catalog_nodes old) where
     same : catalog_of opened ≡ catalog_in old
     unfolding catalog_in
     same = ap catalog_of is
+
+    own_id : HasIdUnder a.0 c.id (catalog_of opened)
+    own_id = subst (HasIdUnder a.0 c.id) (sym same) id_there
 
     pub there : IfBody (λ body. is_item body ≡ true) (lookup cat_cmp a.0 (catalog_of opened))
     there = subst (λ (k : Catalog). IfBody (λ body. is_item body ≡ true) (lookup cat_cmp a.0 k)) (sym same) item_there
@@ -100,6 +106,12 @@ module _ (stands : ChoiceStands) (folders : DeleteLeavesFolder) (total dir id : 
     (c : IsChoice old (to_delete (volume_in old) dir name) a) (own : a.0 ≡ key) (its : c.id ≡ id) (p : IsParent (catalog_in old) dir folder valence) (opened : Store) (is : opened ≡ catalog_nodes old) where
   pub there_by : IfBody (λ body. is_item body ≡ true) (lookup cat_cmp key (catalog_of opened))
   there_by = subst (λ (k : CatKey). IfBody (λ body. is_item body ≡ true) (lookup cat_cmp k (catalog_of opened))) own (there stands folders total dir name a p.of old h c p.is opened is)
+
+  pub own_id_by : HasIdUnder key id (catalog_of opened)
+  own_id_by = subst (λ (both : CatKey × ℕ). HasIdUnder both.0 both.1 (catalog_of opened)) (λ i. (own i, its i)) (own_id stands folders total dir name a p.of old h c p.is opened is)
+
+  pub own_under_by : HasIdUnder key id (catalog_in old)
+  own_under_by = subst (λ (both : CatKey × ℕ). HasIdUnder both.0 both.1 (catalog_in old)) (λ i. (own i, its i)) (id_there stands folders total dir name a p.of old h c p.is)
 
   pub under_by : IfBody (λ body. is_item body ≡ true) (lookup cat_cmp key (catalog_in old))
   under_by = subst (λ (k : CatKey). IfBody (λ body. is_item body ≡ true) (lookup cat_cmp k (catalog_in old))) own (item_there stands folders total dir name a p.of old h c p.is)

@@ -2,7 +2,7 @@
 use Rattle.std.specs.Prelude.{◌≡◌, ℕ, true, List}
 use Rattle.hfs_fields.specs.Counts.{with_counts}
 use Rattle.hfs_fields.specs.Keys.{cat_cmp}
-use Rattle.hfs_fields.specs.Records.{is_dir, is_item, dir_record_of}
+use Rattle.hfs_fields.specs.Records.{is_dir, is_item, item_id, dir_record_of}
 use Rattle.hfs_fields.specs.declared.dir_record.DirRecord.{DirRecord}
 use Rattle.hfs_fields.specs.declared.file_record.FileRecord.{FileRecord}
 use Rattle.hfs_fields.specs.declared.key.CatKey.{CatKey}
@@ -48,6 +48,10 @@ pub record ItemDropped (key : CatKey) (id : ℕ) (folder : CatKey) (n now : ℕ)
 -- the record of an item stands under the key
 abbrev pub IsItemUnder : CatKey → Catalog → Type 0
 IsItemUnder key catalog = IfBody (λ body. is_item body ≡ true) (lookup cat_cmp key catalog)
+
+-- it has this ID
+abbrev pub HasIdUnder : CatKey → ℕ → Catalog → Type 0
+HasIdUnder key id catalog = IfBody (λ body. item_id body ≡ id) (lookup cat_cmp key catalog)
 
 -- ---- a folder that is deleted
 

@@ -3,7 +3,7 @@ use Rattle.std.specs.Prelude.{◌≡◌, ℤ, ◌≤◌, true, false, IsTrue, No
 use Rattle.std.specs.Ordering.{is_eq}
 use Rattle.hfs_fields.specs.Keys.{cat_cmp}
 use Rattle.hfs_fields.specs.Names.{is_item_name}
-use Rattle.hfs_fields.specs.Records.{is_item}
+use Rattle.hfs_fields.specs.Records.{is_item, item_id}
 use Rattle.hfs_scans.specs.Each.{Each}
 use Rattle.hfs_btree.specs.Pairs.{lookup}
 use Rattle.hfs_btree.specs.Tree.{Store}
@@ -27,6 +27,7 @@ pub record CanRekey (item : Rekeying) (nodes : Store) : Type 0 where
   pub names : AreNamesSound (catalog_of nodes)
   pub root : HasRoot (catalog_of nodes)
   pub there : IfBody (λ body. is_item body ≡ true) (lookup cat_cmp item.from (catalog_of nodes))
+  pub own : IfBody (λ body. item_id body ≡ item.id) (lookup cat_cmp item.from (catalog_of nodes))
   pub low : 2 ≤ item.from.parent
   pub high : 2 ≤ item.to.parent
   pub named : IsTrue (is_item_name item.to.name)

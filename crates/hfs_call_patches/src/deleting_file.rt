@@ -8,7 +8,7 @@ ghost use Rattle.hfs_space.specs.Extents.{AreExtentsWithin, block_total};
 ghost use Rattle.hfs_changes.specs.Deletion.{without_one_file};
 ghost use Rattle.hfs_check.specs.Parts.{mdb_in, catalog_nodes, catalog_in};
 ghost use Rattle.hfs_check.specs.Sound.{AreBlocksSound};
-ghost use Rattle.hfs_call_patches.specs.Deleting.{StaysFolder, IsItemUnder, IsParent, IsFileToDelete};
+ghost use Rattle.hfs_call_patches.specs.Deleting.{StaysFolder, HasIdUnder, IsItemUnder, IsParent, IsFileToDelete};
 ghost use Rattle.hfs_call_patches.specs.TreeFiles.{IsExtentsFile, IsCatalogFile};
 ghost use Rattle.hfs_call_patches.specs.Patches.{Patches, LeavesExtents, LeavesCatalog, ShowsSameBeside, ReleasesExtents, DropsOverflow, DropsItem, DeletesFile, GivesPatch};
 ghost use Rattle.hfs_call_patches.specs.CallChanges.{Makes};
@@ -116,6 +116,7 @@ fn drop_item_over<B: Blocks>(
     requires inside { AreWithin (changes patch) (B.total below.now) }
     requires same { LeavesCatalog (B.blocks below.now) runs.now patch }
     requires there { IsItemUnder key.now (catalog_in (B.blocks below.now)) }
+    requires own { HasIdUnder key.now id (catalog_in (B.blocks below.now)) }
     requires stays { StaysFolder key.now id folder.now (catalog_nodes (B.blocks below.now)) }
     ensures dropped { GivesPatch result (B.blocks below.now)
         (DropsItem key.now id folder.now valence now runs.now) }

@@ -4,7 +4,7 @@ ghost use Rattle.std.specs.Prelude.{◌≡◌, OnOk};
 ghost use Rattle.hfs_scans.specs.Each.{Each};
 ghost use Rattle.hfs_catalog.specs.Sound.{IsRecord};
 ghost use Rattle.hfs_catalog.specs.Tree.{IsCatalogTree, catalog_of};
-ghost use Rattle.hfs_call_patches.specs.Deleting.{StaysFolder, ItemDropped, IsItemUnder};
+ghost use Rattle.hfs_call_patches.specs.Deleting.{StaysFolder, ItemDropped, HasIdUnder, IsItemUnder};
 ghost use Rattle.hfs_btree_edits.specs.Edits.{Edits};
 
 use hfs_btree_edits::NodesMut;
@@ -12,7 +12,7 @@ use hfs_catalog_edits::{drop_item, set_valence};
 use hfs_fields::CatKey;
 use std::alloc::{AllocError, Global};
 
-/// Drops the item under a key, with the thread of its ID if it has one; then its folder, under the other key, has so many
+/// Drops the item under a key, which has this ID, with its thread if it has one; then its folder, under the other key, has so many
 /// children, and `now` as the moment of its last change.
 ///
 /// At `AllocError` nothing is said of the nodes.
@@ -28,6 +28,7 @@ pub(crate) fn drop_from_folder<N: NodesMut>(
     requires tree { IsCatalogTree (N.nodes nodes.old) }
     requires records { Each IsRecord (catalog_of (N.nodes nodes.old)) }
     requires there { IsItemUnder key.now (catalog_of (N.nodes nodes.old)) }
+    requires own { HasIdUnder key.now id (catalog_of (N.nodes nodes.old)) }
     requires stays { StaysFolder key.now id folder.now (N.nodes nodes.old) }
     ensures dropped { Edits result (ItemDropped key.now id folder.now valence now)
         N.nodes nodes.old nodes.new }

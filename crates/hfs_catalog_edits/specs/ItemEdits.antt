@@ -9,7 +9,7 @@ use Rattle.hfs_fields.specs.declared.thread_record.ThreadKind.{ThreadKind}
 use Rattle.hfs_fields.specs.declared.thread_record.ThreadKind.TheVariants as kind
 use Rattle.hfs_catalog.specs.declared.item.ItemRecord.{ItemRecord}
 use Rattle.hfs_fields.specs.Keys.{cat_cmp}
-use Rattle.hfs_fields.specs.Records.{dir_record_of, is_dir, is_item, new_thread}
+use Rattle.hfs_fields.specs.Records.{dir_record_of, is_dir, is_item, item_id, new_thread}
 use Rattle.hfs_fields.specs.RecordForms.{IsDirRecordValue, dir_record_bytes, file_record_bytes, IsThreadRecordValue}
 use Rattle.hfs_btree.specs.Tree.{Store}
 use Rattle.hfs_btree.specs.Header.{depth_of, free_nodes}
@@ -112,6 +112,10 @@ pub record ItemRekeyed (id : ℕ) (here there : CatKey) (old new : Store) : Type
 -- under the key stands the record of a file or folder
 abbrev pub IsItemAt : Store → CatKey → Type 0
 IsItemAt nodes key = IfBody (λ body. is_item body ≡ true) (lookup cat_cmp key (catalog_of nodes))
+
+-- under the key stands an item's record with this ID
+abbrev pub HasIdAt : Store → CatKey → ℕ → Type 0
+HasIdAt nodes key id = IfBody (λ body. item_id body ≡ id) (lookup cat_cmp key (catalog_of nodes))
 
 -- under the key stands the record of a folder
 abbrev pub IsFolderAt : Store → CatKey → Type 0

@@ -4,7 +4,7 @@ ghost use Rattle.hfs_scans.specs.Each.{Each};
 ghost use Rattle.hfs_catalog.specs.Sound.{IsRecord};
 ghost use Rattle.hfs_catalog.specs.Tree.{IsCatalogTree, catalog_of};
 ghost use Rattle.hfs_btree_edits.specs.Edits.{Edits};
-ghost use Rattle.hfs_catalog_edits.specs.ItemEdits.{IsItemAt, ItemWent};
+ghost use Rattle.hfs_catalog_edits.specs.ItemEdits.{HasIdAt, IsItemAt, ItemWent};
 
 use crate::one_record::take;
 use crate::threads::drop_thread;
@@ -12,7 +12,7 @@ use hfs_btree_edits::NodesMut;
 use hfs_fields::CatKey;
 use std::alloc::{AllocError, Global};
 
-/// Drops the item under a key, and the thread of its ID, if it has one.
+/// Drops the item under a key, and the thread of its ID, which is given, if it has one.
 ///
 /// It takes no free nodes. At `AllocError` nothing is said of the nodes.
 pub fn drop_item<N: NodesMut>(
@@ -24,6 +24,7 @@ pub fn drop_item<N: NodesMut>(
     requires tree { IsCatalogTree (N.nodes nodes.old) }
     requires records { Each IsRecord (catalog_of (N.nodes nodes.old)) }
     requires there { IsItemAt (N.nodes nodes.old) key.now }
+    requires own { HasIdAt (N.nodes nodes.old) key.now id }
     ensures went { Edits result (ItemWent key.now id) N.nodes nodes.old nodes.new }
     ensures kept { OnOk result (N.kept nodes.new ≡ N.kept nodes.old) }
 {

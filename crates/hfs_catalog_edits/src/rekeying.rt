@@ -6,7 +6,7 @@ ghost use Rattle.hfs_scans.specs.Each.{Each};
 ghost use Rattle.hfs_catalog.specs.Sound.{IsRecord, AreNamesSound};
 ghost use Rattle.hfs_catalog.specs.Tree.{IsCatalogTree, catalog_of};
 ghost use Rattle.hfs_btree_edits.specs.Edits.{Edits};
-ghost use Rattle.hfs_catalog_edits.specs.ItemEdits.{IsItemAt, IsFreeUnlessSame, RecordMoved, ItemRekeyed};
+ghost use Rattle.hfs_catalog_edits.specs.ItemEdits.{HasIdAt, IsItemAt, IsFreeUnlessSame, RecordMoved, ItemRekeyed};
 ghost use Rattle.hfs_catalog_edits.specs.Rooms.{IsInFile, HasRoom};
 ghost use Rattle.hfs_catalog_edits.specs.Roots.{HasRoot};
 
@@ -46,7 +46,8 @@ fn move_record<N: NodesMut>(
     put(alloc, nodes, to, &body)
 }
 
-/// Puts the item under one key under another one, with its body as it was; its thread, if it has one, then leads there.
+/// Puts the item under one key, whose ID is given, under another one, with its body as it was; its thread, if it has one, then
+/// leads there.
 ///
 /// Where the keys are equal in order it takes no free nodes, else at most depth + 1. At `AllocError` nothing is said of the
 /// nodes.
@@ -62,6 +63,7 @@ pub fn rekey<N: NodesMut>(
     requires names { AreNamesSound (catalog_of (N.nodes nodes.old)) }
     requires root { HasRoot (catalog_of (N.nodes nodes.old)) }
     requires there { IsItemAt (N.nodes nodes.old) from.now }
+    requires own { HasIdAt (N.nodes nodes.old) from.now id }
     requires low { 2 ≤ from.now.parent }
     requires dir { 2 ≤ to.now.parent }
     requires named { 1 ≤ length to.now.name }

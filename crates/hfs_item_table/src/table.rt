@@ -233,6 +233,7 @@ impl Table {
         if !self.is_folder(dir) {
             return Ok(refusal(NOT_A_FOLDER));
         }
+        // A proof knows that a folder's ID isn't the greatest of 32 bits once it has seen the next one.
         let _next = self.next_id();
         let infos = self.infos(alloc, dir)?;
         Ok(success(Value::Many(Infos::new(infos))))
@@ -273,6 +274,7 @@ impl Table {
         if !self.is_folder(dir) {
             return refusal(NOT_A_FOLDER);
         }
+        // A proof knows that a folder's ID isn't the greatest of 32 bits once it has seen the next one.
         let _next = self.next_id();
         match self.info_at(dir, index - 1) {
             Some(info) => success(Value::One(info)),

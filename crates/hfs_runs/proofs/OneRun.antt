@@ -20,7 +20,7 @@ use Rattle.hfs_runs.specs.declared.numbering.Asked.{Asked}
 use Rattle.hfs_runs.specs.declared.viewing.Viewing.{Viewing}
 use Rattle.hfs_runs.specs.Answers.{answers_text, is_whole, replies_of}
 use Rattle.hfs_runs.specs.Asking.{AreNumbered}
-use Rattle.hfs_runs.specs.Runs.{IsHandedOut, IsRan, IsRun}
+use Rattle.hfs_runs.specs.Runs.{IsHandedOut, AreLinesRun, IsScriptRun}
 use Rattle.hfs_runs.specs.Tellings.{AreWhole, OfEach}
 use Rattle.hfs_runs.proofs.Working.{AreJobs, AreDone, AreViewings, AreViewed, IsEnd, worked_at, made_at, stand_at, viewed_at}
 
@@ -45,7 +45,7 @@ when_true false is h = absurd (cc is)
 pub ran : {V : Type 0} (items : V → List Call) (book : Book) (image : List ℕ) (lines : List ScriptLine) (volume : ImageValue) (text : List ℕ) (whole shown : Bool) (asked : List Asked) (passes : List PassState)
     (jobs : List (PassState × V)) (dones : List Done) (begun ended : List Viewing) → AreNumbered (map (λ (line : ScriptLine). line.caller) lines) asked → AreJobs items lines (workers lines) passes jobs
     → AreDone items book (volume_of image) jobs dones → AreViewings book (volume_of image) lines (viewers lines) begun → AreViewed begun ended → text ≡ answers_text (replies_of dones ended) asked
-    → whole ≡ is_whole (replies_of dones ended) asked → PublishedIsAfter → IsWhether shown (OfEach AreWhole dones) → IsHandedOut image volume dones → IsRan image lines volume text whole shown
+    → whole ≡ is_whole (replies_of dones ended) asked → PublishedIsAfter → IsWhether shown (OfEach AreWhole dones) → IsHandedOut image volume dones → AreLinesRun image lines volume text whole shown
 ran items book image lines volume text whole shown asked passes jobs dones begun ended numbered begins done views viewed text_is whole_is law shown_is out =
     let opening = volume_of image in
     let closed = out.closed in
@@ -71,6 +71,6 @@ ran items book image lines volume text whole shown asked passes jobs dones begun
     }
 
 pub is_run : (now : ℕ) (script image : List ℕ) (lines : List ScriptLine) (base : List ℕ) (volume : ImageValue) (text : List ℕ) (whole shown : Bool) → script_of now script ≡ Ok lines → IsSound image
-    → base ≡ image → IsRan base lines volume text whole shown → IsRun now script image volume text whole shown
+    → base ≡ image → AreLinesRun base lines volume text whole shown → IsScriptRun now script image volume text whole shown
 is_run now script image lines base volume text whole shown reads sound same ran =
-    record { lines = lines; reads = reads; sound = sound; ran = subst (λ (b : List ℕ). IsRan b lines volume text whole shown) same ran }
+    record { lines = lines; reads = reads; sound = sound; ran = subst (λ (b : List ℕ). AreLinesRun b lines volume text whole shown) same ran }

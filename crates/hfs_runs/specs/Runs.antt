@@ -83,11 +83,11 @@ pub record IsHandedOut (base : List ℕ) (volume : ImageValue) (dones : List Don
   pub closed : IsClosed base volume journal shown (map (λ (done : Done). done.pass) dones) before afterwards
   pub learned : OfEach (AllBegin before.list) dones
 
--- what a run of a script on an image made: the volume afterwards, the text of the answers, whether all lines were answered, and
+-- what a run of these lines on an image made: the volume afterwards, the text of the answers, whether all lines were answered, and
 -- whether each change was shown at once. The volume's image agrees with the given one, and its volume is the one after a legal
 -- journal, which has as many entries of each worker as it got replies. Where each change was shown at once, each reply to a
 -- worker stands in that journal.
-pub record IsRan (image : List ℕ) (lines : List ScriptLine) (volume : ImageValue) (text : List ℕ) (whole shown : Bool) : Type 0 where
+pub record AreLinesRun (image : List ℕ) (lines : List ScriptLine) (volume : ImageValue) (text : List ℕ) (whole shown : Bool) : Type 0 where
   pub book : Book
   pub journal : List Entry
   pub replies : Caller → List Reply
@@ -104,17 +104,17 @@ pub record IsRan (image : List ℕ) (lines : List ScriptLine) (volume : ImageVal
   pub viewed : (place : ℕ) → place < viewers lines → IsViewedFrom book (volume_of image) (calls_of (Viewer (place + 1)) lines) (replies (Viewer (place + 1)))
   pub stands : shown ≡ true → (place : ℕ) → place < workers lines → AllStand (volume_of image) journal (calls_of (Worker (place + 1)) lines) (replies (Worker (place + 1)))
 
--- what was made is that of a run of these lines on an image
-abbrev pub IsRanOf : List ℕ → List ScriptLine → Ran → Type 0
-IsRanOf image lines ran = IsRan image lines ran.volume (string_bytes ran.text) ran.whole ran.shown
+-- the same of what the program hands out
+abbrev pub AreLinesRunAs : List ℕ → List ScriptLine → Ran → Type 0
+AreLinesRunAs image lines ran = AreLinesRun image lines ran.volume (string_bytes ran.text) ran.whole ran.shown
 
--- a script was run on an image
-pub record IsRun (now : ℕ) (script image : List ℕ) (volume : ImageValue) (text : List ℕ) (whole shown : Bool) : Type 0 where
+-- a script reads as lines, and these were run on a sound image
+pub record IsScriptRun (now : ℕ) (script image : List ℕ) (volume : ImageValue) (text : List ℕ) (whole shown : Bool) : Type 0 where
   pub lines : List ScriptLine
   pub reads : script_of now script ≡ Ok lines
   pub sound : IsSound image
-  pub ran : IsRan image lines volume text whole shown
+  pub ran : AreLinesRun image lines volume text whole shown
 
--- what was made is that of a run of this script on this image
-abbrev pub IsRunOf : ℕ → List ℕ → List ℕ → Ran → Type 0
-IsRunOf now script image ran = IsRun now script image ran.volume (string_bytes ran.text) ran.whole ran.shown
+-- the same of what the program hands out
+abbrev pub IsScriptRunAs : ℕ → List ℕ → List ℕ → Ran → Type 0
+IsScriptRunAs now script image ran = IsScriptRun now script image ran.volume (string_bytes ran.text) ran.whole ran.shown

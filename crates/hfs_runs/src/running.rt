@@ -7,7 +7,7 @@ ghost use Rattle.hfs_scripts.specs.Callers.{workers, viewers};
 ghost use Rattle.hfs_shared.specs.Shareds.{IsStart};
 ghost use Rattle.hfs_shared.specs.Works.{AreDone};
 ghost use Rattle.hfs_runs.specs.Asking.{IsSmall};
-ghost use Rattle.hfs_runs.specs.Runs.{IsMountFault, IsRunFault, IsRunOf, IsRanOf, IsStartFault};
+ghost use Rattle.hfs_runs.specs.Runs.{IsMountFault, IsRunFault, IsScriptRunAs, AreLinesRunAs, IsStartFault};
 ghost use Rattle.hfs_runs.specs.Views.{AreViewed};
 
 use crate::answers::answers_text;
@@ -97,7 +97,7 @@ fn run_shared<K: Session + Send + Sync, R: Threads + Wait + Sync, G: Gate + Sync
     requires started { IsStart K.base (workers script) (viewers script)
         parts passes.items readers.items }
     requires small { All (λ l. IsSmall l.caller) script }
-    ensures ok { IfOk result (λ ran. IsRanOf K.base script ran) }
+    ensures ok { IfOk result (λ ran. AreLinesRunAs K.base script ran) }
     ensures err { IfErr result (λ fault. fault ≡ ScriptFault.Memory) }
 {
     let shared = parts.share::<K>();
@@ -165,7 +165,7 @@ pub fn run_script<R: Threads + Wait + Sync>(
     script: &[u8],
     now: u32,
 ) -> Result<Ran, ScriptFault>
-    ensures ok { IfOk result (λ ran. IsRunOf now script.now image.items ran) }
+    ensures ok { IfOk result (λ ran. IsScriptRunAs now script.now image.items ran) }
     ensures err { IfErr result (IsRunFault now script.now image.items) }
 {
     run_script_at(rt, alloc, &NoGate, image, script, now)
@@ -180,7 +180,7 @@ pub fn run_script_at<R: Threads + Wait + Sync, G: Gate + Sync>(
     script: &[u8],
     now: u32,
 ) -> Result<Ran, ScriptFault>
-    ensures ok { IfOk result (λ ran. IsRunOf now script.now image.items ran) }
+    ensures ok { IfOk result (λ ran. IsScriptRunAs now script.now image.items ran) }
     ensures err { IfErr result (IsRunFault now script.now image.items) }
 {
     let script = match read_script(alloc, script, now) {

@@ -1,6 +1,5 @@
 //! The volume with its journal.
 ghost use Rattle.std.specs.Prelude.{◌≡◌, ◌≤◌, ◌<◌, [], length, IfOk, OnErr, IfErr};
-ghost use Rattle.hfs_check.specs.Agree.{Agrees};
 ghost use Rattle.hfs_shared.specs.Desks.{DeskState, desk_state, pass_state, wanted, full_of, full_in, entry_of, IsHeadline, IsApplied};
 ghost use Rattle.hfs_shared.specs.Faults.{IsCallFault};
 
@@ -53,7 +52,7 @@ impl Desk {
         let Ok(next) = Vec::from_elem(alloc, 1u64, workers as usize) else {
             return Err(volume);
         };
-        agrees(&volume);
+        volume.agrees_with_base();
         Ok(Desk {
             volume,
             journal: Vec::new(alloc),
@@ -103,7 +102,7 @@ impl Desk {
         let Ok(reply) = self.volume.call(alloc, call) else {
             return Err(CallFault::Memory);
         };
-        agrees(&self.volume);
+        self.volume.agrees_with_base();
         let worker = pass.worker();
         self.journal
             .push_reserved(entry(worker, number, copy, &reply));
@@ -111,13 +110,6 @@ impl Desk {
         pass.raise();
         Ok(reply)
     }
-}
-
-// A mounted volume agrees with its base, as its type says. It does nothing.
-fn agrees(volume: &Volume)
-    ensures { Agrees volume.now.base volume.now.current }
-{
-    drop(volume.base());
 }
 
 // The journal's entry of a call.

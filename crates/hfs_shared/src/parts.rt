@@ -116,7 +116,7 @@ fn unchanged(alloc: Global, volume: Volume) -> Result<Volume, AllocFailed<Volume
     if volume.changed() > 0 {
         return volume.mounted_anew(alloc);
     }
-    drop(volume.base());
+    volume.agrees_with_base();
     Ok(volume)
 }
 

@@ -74,6 +74,7 @@ impl Rows {
         requires { IsTrue (is_reading call.now) }
         ensures { IfOk result (λ reply. reply ≡ (step self.now call.now).1) }
     {
+        // A proof knows what the rows keep to once it has seen the table.
         let _next = self.table.next_id();
         match call {
             Call::GetDirInfo { dir } => Ok(self.table.get_dir_info(*dir)),

@@ -61,6 +61,7 @@ impl Image {
         ensures once { IsDistinct nat_eq self.now.changed }
         ensures others { IsSameBeside self.now }
     {
+        // A proof knows how long the bytes can be once the blocks are counted.
         let _count = self.count();
         self.changed.len() as u32
     }
@@ -128,6 +129,7 @@ impl Image {
         ensures changed { IfOk result (λ image. image.changed ≡ []) }
         ensures value_returned { IfErr result (λ failed. failed.value ≡ self) }
     {
+        // A proof knows how long the bytes can be once the blocks are counted.
         let _count = self.count();
         let Ok(bytes) = self.copy(alloc) else {
             return Err(AllocFailed { value: self });
@@ -142,6 +144,7 @@ impl Image {
     pub fn blocks(&self) -> ImageBlocks<'_>
         ensures { result.image.now ≡ self.now }
     {
+        // A proof knows how long the bytes can be once the blocks are counted.
         let _count = self.count();
         ImageBlocks { image: self }
     }

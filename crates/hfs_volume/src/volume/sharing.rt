@@ -34,6 +34,7 @@ impl Volume {
         ensures base { IsSound self.now.base }
         ensures agrees { Agrees self.now.base self.now.current }
     {
+        // A proof knows what a volume keeps to once it has seen the image.
         let _image = &self.image;
     }
 
@@ -95,6 +96,7 @@ impl Volume {
     ) -> Result<Vec<Extent>, AllocError>
         ensures { GivesItems (file_extents (block_at self.now.current) fork file.now) result }
     {
+        // A proof knows what a volume keeps to once it has seen the image.
         let _image = &self.image;
         let (kind, record) = fork_record(file, fork);
         fork_extents(alloc, &self.extents_nodes(), file.id, kind, &record.extents)
@@ -109,6 +111,7 @@ impl Volume {
         ensures within { IfOk result (λ extents. AreExtentsIn self.now.base extents.items) }
         ensures bytes { IfOk result (BeginWithFork self.now id fork) }
     {
+        // A proof knows what a volume keeps to once it has seen the image.
         let _image = &self.image;
         let Some(item) = by_id(&self.catalog_nodes(), id) else {
             unreachable!()

@@ -5,7 +5,7 @@ use Rattle.hfs_btree.specs.Sound.{IsDistinct}
 use Rattle.hfs_catalog.specs.Records.{Catalog}
 use Rattle.hfs_catalog.specs.Tree.{IsCatalogTree}
 use Rattle.hfs_queries.proofs.ReplyLemmas.{by_nodes}
-use Rattle.hfs_call_patches.specs.Deleting.{IsItemUnder}
+use Rattle.hfs_call_patches.specs.Deleting.{HasIdUnder, IsItemUnder}
 use Rattle.hfs_call_patches.proofs.Different.{different}
 use Rattle.hfs_call_patches.proofs.EditedNodes.{edited_within}
 use Rattle.hfs_call_patches.proofs.FromFolder.{opened_records}
@@ -32,6 +32,10 @@ drop_from_folder-requires-clause-records g c = opened_records (g.B.Blocks.total 
 pub drop_from_folder-requires-clause-there : goal.drop_from_folder-requires-clause-there
 drop_from_folder-requires-clause-there g c =
     subst (IsItemUnder c.args.key.now) (sym (by_nodes (λ (k : Catalog). k) (g.B.Blocks.blocks c.args.below.now) _ c.requires.same)) c.requires.there
+
+pub drop_from_folder-requires-clause-own : goal.drop_from_folder-requires-clause-own
+drop_from_folder-requires-clause-own g c =
+    subst (HasIdUnder c.args.key.now c.args.id) (sym (by_nodes (λ (k : Catalog). k) (g.B.Blocks.blocks c.args.below.now) _ c.requires.same)) c.requires.own
 
 pub returns-clause-within : goal.returns-clause-within
 returns-clause-within g c =

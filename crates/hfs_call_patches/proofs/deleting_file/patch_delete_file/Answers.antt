@@ -10,7 +10,7 @@ use Rattle.hfs_changes.specs.Deletion.{without_one_file}
 use Rattle.hfs_check.specs.Parts.{catalog_nodes}
 use Rattle.hfs_call_patches.proofs.FileDeleted.{file_chosen_id, file_given, blocks_counted, freed_within, freed_alone, file_deleted}
 use Rattle.hfs_call_patches.proofs.FileGone.{extents_old, extents_first, catalog_second, file_gone, free_fits}
-use Rattle.hfs_call_patches.proofs.FromFolder.{under_by, stays_by, keeps_by, some_child}
+use Rattle.hfs_call_patches.proofs.FromFolder.{own_under_by, under_by, stays_by, keeps_by, some_child}
 use Rattle.hfs_check.proofs.LawsProved.{trees_are_sound}
 use Rattle.hfs_changes.proofs.DeletionMakes.{fork_extents_are_within, fork_blocks_are_alone}
 use Rattle.hfs_changes.proofs.LawsProved.{removal_fits, choice_stands, folders_stand-delete, deletion_leaves_file, dropped_leaves, delete_file_makes, deletions_are_steps}
@@ -59,6 +59,14 @@ drop_item_over-requires-clause-there g c =
     let old = g.B.Blocks.blocks below in
     let ch = c.requires.chosen.chosen in
     under_by choice_stands folders_stand-delete (g.B.Blocks.total below) c.args.dir c.args.file.now.id c.requires.chosen.name c.args.key.now c.args.parent.now c.args.valence ch.of old
+    c.requires.sound ch.choice ch.own_key (file_chosen_id (g.B.Blocks.total below) c.args.dir c.requires.chosen.name c.args.key.now c.args.file.now old c.requires.sound ch) c.requires.parent (catalog_nodes old) refl
+
+pub drop_item_over-requires-clause-own : goal.drop_item_over-requires-clause-own
+drop_item_over-requires-clause-own g c =
+    let below = c.args.below.now in
+    let old = g.B.Blocks.blocks below in
+    let ch = c.requires.chosen.chosen in
+    own_under_by choice_stands folders_stand-delete (g.B.Blocks.total below) c.args.dir c.args.file.now.id c.requires.chosen.name c.args.key.now c.args.parent.now c.args.valence ch.of old
     c.requires.sound ch.choice ch.own_key (file_chosen_id (g.B.Blocks.total below) c.args.dir c.requires.chosen.name c.args.key.now c.args.file.now old c.requires.sound ch) c.requires.parent (catalog_nodes old) refl
 
 pub drop_item_over-requires-clause-stays : goal.drop_item_over-requires-clause-stays

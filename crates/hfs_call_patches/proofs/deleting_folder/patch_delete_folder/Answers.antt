@@ -1,7 +1,7 @@
 -- The folder went from the catalog's nodes, and then the counts were put.
 use Rattle.std.proofs.Common.{sym, subst, arith}
 use Rattle.hfs_catalog.specs.Tree.{IsCatalogTree}
-use Rattle.hfs_call_patches.proofs.FromFolder.{there_by, stays_by, keeps_by, some_child, opened_records}
+use Rattle.hfs_call_patches.proofs.FromFolder.{own_id_by, there_by, stays_by, keeps_by, some_child, opened_records}
 use Rattle.hfs_call_patches.proofs.FolderGone.{chosen_id, folder_gone}
 use Rattle.hfs_call_patches.proofs.Made.{if_ok}
 use Rattle.hfs_changes.proofs.LawsProved.{removal_fits, choice_stands, folders_stand-delete, delete_folder_makes}
@@ -30,6 +30,14 @@ drop_from_folder-requires-clause-there g c =
     let old = g.B.Blocks.blocks below in
     let ch = c.requires.chosen.chosen in
     there_by choice_stands folders_stand-delete (g.B.Blocks.total below) c.args.dir c.args.folder.now.id c.requires.chosen.name c.args.key.now c.args.parent.now c.args.valence ch.of old
+    c.requires.sound ch.choice ch.own_key (chosen_id old c.args.dir c.requires.chosen.name c.args.key.now c.args.folder.now ch) c.requires.parent _ c.open_catalog-nodes.ensures.nodes
+
+pub drop_from_folder-requires-clause-own : goal.drop_from_folder-requires-clause-own
+drop_from_folder-requires-clause-own g c =
+    let below = c.args.below.now in
+    let old = g.B.Blocks.blocks below in
+    let ch = c.requires.chosen.chosen in
+    own_id_by choice_stands folders_stand-delete (g.B.Blocks.total below) c.args.dir c.args.folder.now.id c.requires.chosen.name c.args.key.now c.args.parent.now c.args.valence ch.of old
     c.requires.sound ch.choice ch.own_key (chosen_id old c.args.dir c.requires.chosen.name c.args.key.now c.args.folder.now ch) c.requires.parent _ c.open_catalog-nodes.ensures.nodes
 
 pub drop_from_folder-requires-clause-stays : goal.drop_from_folder-requires-clause-stays

@@ -35,7 +35,7 @@ number_is c = (let known = is_known c in sym c.number-number.ensures.value ∙ i
 
 headline_is : (c : goal.After-raise) → IsHeadline c.call.new.self.base c.call.new.self.current c.push_reserved.new.self.items
 headline_is c =
-    let agrees : Agrees c.self.inside.volume.base c.call.new.self.current = subst (λ (b : List ℕ). Agrees b c.call.new.self.current) c.call.ensures.base c.agrees.ensures in
+    let agrees : Agrees c.self.inside.volume.base c.call.new.self.current = subst (λ (b : List ℕ). Agrees b c.call.new.self.current) c.call.ensures.base c.agrees_with_base.ensures.agrees in
     subst (λ (y : List ℕ × List Entry). IsHeadline y.0 c.call.new.self.current y.1) (λ i. (sym c.call.ensures.base i, sym (items_is c) i))
     (headline_more step_is_never_full c.self.inside.volume.base c.self.inside.volume.current c.self.inside.journal.items c.args.pass.now c.args.call.now c.in-Ok-call.reply c.call.new.self.current
     c.self.invariant.0 c.in-Ok-call.ensures.outcome (number_is c) agrees)
