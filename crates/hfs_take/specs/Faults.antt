@@ -1,14 +1,19 @@
 -- What is printed of a disk that was taken apart, or was not.
-use Rattle.std.specs.Prelude.{ℕ, List, ◌++◌, codes, Option, string_bytes, unwrap_or}
+use Rattle.std.specs.Prelude.{◌≡◌, ℕ, List, ◌++◌, codes, Option, string_bytes, unwrap_or}
 use Rattle.std.specs.Fmt.{decimal}
 use Rattle.std.specs.Path.{path_file_name}
+use Rattle.hfs_bag.specs.declared.fault.BagFault.{BagFault}
+use Rattle.hfs_bag.specs.declared.fault.BagFault.TheVariants as bag
 use Rattle.hfs_bag.specs.declared.sums.BagSums.{BagSums}
+use Rattle.hfs_commands.specs.declared.fault.Fault.TheVariants.{NoMemory}
 use Rattle.hfs_commands.specs.declared.fault.Status.{Status}
 use Rattle.hfs_commands.specs.declared.fault.Status.TheVariants.{DeviceFailed}
 use Rattle.hfs_commands.specs.Faults.{fault_text, status_of}
 use Rattle.hfs_commands.specs.Paths.{path_text}
 use Rattle.hfs_commands.specs.Volumes.{container_text, name_field}
 use Rattle.hfs_containers.specs.declared.ranges.FoundRange.{FoundRange}
+use Rattle.hfs_shelves.specs.declared.fault.ShelfFault.{ShelfFault}
+use Rattle.hfs_shelves.specs.declared.fault.ShelfFault.TheVariants as shelf
 use Rattle.hfs_texts.specs.Lines.{line}
 use Rattle.hfs_take.specs.declared.fault.TakeFault.{TakeFault}
 use Rattle.hfs_take.specs.declared.fault.TakeFault.TheVariants as take
@@ -24,6 +29,15 @@ abbrev pub take_status : TakeFault → Status
 take_status (take.Image fault) = status_of fault
 take_status (take.IsThere path) = DeviceFailed
 take_status (take.CannotWrite path) = DeviceFailed
+
+-- what a fault of a shelf means
+abbrev pub fault_of_shelf : ShelfFault → TakeFault
+fault_of_shelf (shelf.CannotWrite path) = take.CannotWrite path
+fault_of_shelf shelf.NoMemory = take.Image NoMemory
+
+-- a bag's fault that is its shelf's means what the shelf's means
+abbrev pub KeepsShelfFault : BagFault → TakeFault → Type 0
+KeepsShelfFault filling found = (why : ShelfFault) → filling ≡ bag.Shelf why → found ≡ fault_of_shelf why
 
 -- the lines of a bag that was made
 unfoldable pub taken_text : BagSums → List ℕ

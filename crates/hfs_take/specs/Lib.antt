@@ -1,2 +1,3 @@
 pub mod Digests
 pub mod Faults
+pub mod Folders

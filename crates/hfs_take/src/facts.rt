@@ -1,14 +1,15 @@
 //! What a bag tells of the image that it was taken from.
-ghost use Rattle.std.specs.Prelude.{◌≡◌, IfOk, OnOk, string_bytes};
+ghost use Rattle.std.specs.Prelude.{◌≡◌, ◌++◌, IfOk, OnOk, string_bytes};
 ghost use Rattle.hfs_commands.specs.Volumes.{container_text, name_field, name_text};
 ghost use Rattle.hfs_names.specs.PlainTexts.{plain_text};
+ghost use Rattle.hfs_texts.specs.Reading.{info_text};
 ghost use Rattle.hfs_texts.specs.Texts.{Gains};
 ghost use Rattle.hfs_take.specs.Faults.{image_name, volume_text};
 
-use hfs_commands::{Fault, ShownPath};
+use hfs_commands::ShownPath;
 use hfs_containers::{Container, FoundRange};
 use hfs_names::push_plain_text;
-use hfs_texts::run_info;
+use hfs_texts::{InfoFault, run_info};
 use std::alloc::{AllocError, Global};
 use std::path::Path;
 
@@ -88,22 +89,29 @@ pub(crate) fn plain_name(alloc: Global, name: &[u8]) -> Result<String, AllocErro
     Ok(text)
 }
 
-/// The lines of a volume's master directory block, which stands in the first 1,536 bytes of the volume, and those of its check.
+/// The lines of the master directory block in the first 1,536 bytes of a volume.
+fn info_bytes(alloc: Global, head: &[u8; 1536]) -> Result<Vec<u8>, InfoFault>
+    ensures { IfOk result (λ lines. lines.items ≡ info_text head.now) }
+{
+    let mut lines = Vec::new(alloc);
+    run_info(alloc, &mut head.as_slice(), &mut lines)?;
+    Ok(lines)
+}
+
+/// The lines of the master directory block in the first 1,536 bytes of a volume, and those of its check.
 pub(crate) fn report_text(
     alloc: Global,
-    head: &[u8],
+    head: &[u8; 1536],
     check_lines: &str,
-) -> Result<String, Fault<'static>> {
-    let mut lines = Vec::new(alloc);
-    match run_info(alloc, &mut &*head, &mut lines) {
-        Ok(()) => {}
-        Err(fault) => return Err(Fault::of_info(fault, "")),
-    }
+) -> Result<String, InfoFault>
+    ensures { IfOk result (λ text. string_bytes text ≡ info_text head.now ++ check_lines.now) }
+{
+    let mut lines = info_bytes(alloc, head)?;
     let Ok(()) = lines.extend_from_slice(check_lines.as_bytes()) else {
-        return Err(Fault::NoMemory);
+        return Err(InfoFault::Memory);
     };
     match String::from_utf8(lines) {
         Ok(text) => Ok(text),
-        Err(_) => Err(Fault::NoMemory),
+        Err(_) => Err(InfoFault::Memory),
     }
 }

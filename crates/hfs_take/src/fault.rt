@@ -1,6 +1,6 @@
 //! Why a disk was not taken apart.
 ghost use Rattle.std.specs.Prelude.{◌≡◌, Some};
-ghost use Rattle.hfs_take.specs.Faults.{take_fault_text, take_status};
+ghost use Rattle.hfs_take.specs.Faults.{KeepsShelfFault, fault_of_shelf, take_fault_text, take_status};
 
 use hfs_bag::{BagFault, SourceFault};
 use hfs_check::MountFault;
@@ -44,7 +44,9 @@ impl TakeFault<'_> {
     }
 
     /// What a fault of a shelf means.
-    pub fn of_shelf(fault: ShelfFault) -> TakeFault<'static> {
+    pub fn of_shelf(fault: ShelfFault) -> TakeFault<'static>
+        ensures { result ≡ fault_of_shelf fault }
+    {
         match fault {
             ShelfFault::CannotWrite(path) => TakeFault::CannotWrite(path),
             ShelfFault::NoMemory => TakeFault::Image(Fault::NoMemory),
@@ -52,7 +54,15 @@ impl TakeFault<'_> {
     }
 
     /// What a fault of a bag means, which was filled from the image in this file.
-    pub fn of_bag(fault: BagFault, image: &str) -> TakeFault<'_> {
+    pub fn of_bag(fault: BagFault, image: &str) -> TakeFault<'_>
+        ensures read { fault ≡ BagFault.Source SourceFault.ReadFailed
+            → result ≡ TakeFault.Image (Fault.CannotRead image.entry) }
+        ensures memory { fault ≡ BagFault.Source SourceFault.Memory
+            → result ≡ TakeFault.Image Fault.NoMemory }
+        ensures shelf { KeepsShelfFault fault result }
+        ensures large { fault ≡ BagFault.TooLarge
+            → result ≡ TakeFault.Image (Fault.Refused MountFault.TooLarge) }
+    {
         match fault {
             BagFault::Source(fault) => TakeFault::of_source(fault, image),
             BagFault::Shelf(fault) => TakeFault::of_shelf(fault),

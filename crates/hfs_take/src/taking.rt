@@ -1,6 +1,7 @@
 //! The word that takes a disk apart.
 ghost use Rattle.std.specs.Prelude.{◌≡◌, IfOk, string_bytes};
 ghost use Rattle.hfs_take.specs.Faults.{taken_text};
+ghost use Rattle.hfs_take.specs.Folders.{IsFolderPath};
 
 use crate::digest::image_digest;
 use crate::facts::{image_name, plain_name, report_text, volume_text};
@@ -180,7 +181,10 @@ fn told_of<'a, R: Files + AllocGlobal, S: BlockSource + ReadAt>(
     if is_there(rt, words.folder) {
         return Err(TakeFault::IsThere(words.folder));
     }
-    let report = report_text(rt.alloc(), &head, lines.as_str())?;
+    let report = match report_text(rt.alloc(), &head, lines.as_str()) {
+        Ok(report) => report,
+        Err(fault) => return Err(TakeFault::Image(Fault::of_info(fault, words.image))),
+    };
     let digest = digest_of(rt.alloc(), source, len, words)?;
     Ok(Told {
         volume,
@@ -246,7 +250,9 @@ fn write_bag<'a, R: Files + AllocGlobal, S: BlockSource + Drop, W: Watch>(
 }
 
 /// A folder's path without slashes at its end; a slash alone stays.
-pub fn folder_path(path: &str) -> &str {
+pub fn folder_path(path: &str) -> &str
+    ensures { IsFolderPath path.now result.now }
+{
     let trimmed = path.trim_end_matches('/');
     if trimmed.is_empty() && !path.is_empty() {
         return "/";
@@ -262,10 +268,10 @@ pub fn take<'a, R: Files + AllocGlobal, W: Watch>(
     words: &TakeWords<'a>,
     watch: &W,
 ) -> Result<BagSums, TakeFault<'a>> {
-    let mut opened = open_source(rt, words.image, words.volume)?;
-    let len = opened.source.len();
-    let told = told_of(rt, &mut opened.source, len, opened.volume, words)?;
-    match OpenedImage::open(rt.alloc(), opened.source, len) {
+    let OpenedPart { mut source, volume } = open_source(rt, words.image, words.volume)?;
+    let len = source.len();
+    let told = told_of(rt, &mut source, len, volume, words)?;
+    match OpenedImage::open(rt.alloc(), source, len) {
         Ok(image) => write_bag(rt, image, &told, words, watch),
         Err(fault) => Err(TakeFault::Image(Fault::of_needed(fault, words.image))),
     }
