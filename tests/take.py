@@ -571,7 +571,7 @@ def compare_many(bags, items):
 
 def main():
     parser = argparse.ArgumentParser(description=__doc__, formatter_class=argparse.RawDescriptionHelpFormatter)
-    parser.add_argument('--items', type=int, default=6_000, help='how many files the large volume has')
+    parser.add_argument('--items', type=int, default=500, help='how many files the large volume has')
     parser.add_argument('--deep', type=int, default=200, help='how many folders lie in one another')
     parser.add_argument('--kept', help='a folder that keeps the large volume')
     words = parser.parse_args()
