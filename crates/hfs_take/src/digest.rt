@@ -1,0 +1,95 @@
+//! The digest of an image.
+ghost use Rattle.std.specs.Prelude.{◌≡◌, ◌≤◌, ◌<◌, ◌+◌, ◌*◌, IfOk, length};
+ghost use Rattle.sha2.specs.Hashers.{Holds256};
+ghost use Rattle.hfs_take.specs.Digests.{AddsPiece, IsDigestOf};
+
+use hfs_bag::SourceFault;
+use hfs_needed::OpenedImage;
+use hfs_sparse::BlockSource;
+use sha2::{Digest, Sha256};
+use std::alloc::{AllocError, Global};
+
+/// How many blocks are read at once.
+const BLOCKS: u32 = 128;
+
+/// How many bytes these have.
+const PIECE: usize = 65_536;
+
+/// Room for so many bytes.
+fn buffer_of(alloc: Global, len: usize) -> Result<Vec<u8>, AllocError>
+    ensures { IfOk result (λ buffer. length buffer.items ≡ len) }
+{
+    vec![in alloc; 0; len]
+}
+
+/// Gives the bytes of an image from a block on to the digest, as many of those that are left as there is room for: at least one. How many they are.
+fn add_piece<S: BlockSource + Drop>(
+    image: &mut OpenedImage<S>,
+    first: u32,
+    left: u64,
+    buffer: &mut [u8],
+    digest: &mut Sha256,
+) -> Result<u64, SourceFault>
+    requires some { 1 ≤ left }
+    requires room { length buffer.old ≡ 65536 }
+    ensures some { IfOk result (λ count. 1 ≤ count) }
+    ensures few { IfOk result (λ count. count ≤ left) }
+    ensures whole { IfOk result (λ count. count < left → count ≡ 65536) }
+    ensures added { IfOk result (λ count. AddsPiece image.old.known (512 * first) count
+        (Holds256 digest.old) (Holds256 digest.new)) }
+    ensures room { length buffer.new ≡ 65536 }
+    ensures image { image.new ≡ image.old }
+{
+    let count = left.min(buffer.len() as u64);
+    let piece = &mut buffer[..count as usize];
+    let Ok(()) = image.read_blocks(first, piece) else {
+        return Err(SourceFault::ReadFailed);
+    };
+    digest.update(&*piece);
+    Ok(count)
+}
+
+/// The number of the block behind those that were read at once. An image has fewer than 2^32 blocks.
+fn block_behind(first: u32) -> Result<u32, SourceFault>
+    ensures { IfOk result (λ next. next ≡ first + 128) }
+{
+    match first.checked_add(BLOCKS) {
+        Some(next) => Ok(next),
+        None => Err(SourceFault::ReadFailed),
+    }
+}
+
+/// Gives the `len` bytes of an image to the digest.
+fn add_all<S: BlockSource + Drop>(
+    image: &mut OpenedImage<S>,
+    len: u64,
+    buffer: &mut [u8],
+) -> Result<[u8; 32], SourceFault>
+    requires room { length buffer.old ≡ 65536 }
+    ensures digest { IfOk result (IsDigestOf image.old.known len) }
+    ensures image { image.new ≡ image.old }
+{
+    let mut digest = Sha256::new();
+    let mut place = 0;
+    let mut first: u32 = 0;
+    while place < len {
+        place += add_piece(image, first, len - place, buffer, &mut digest)?;
+        first = block_behind(first)?;
+    }
+    Ok(digest.finalize())
+}
+
+/// The SHA-256 digest of the `len` bytes of an image, which are read in pieces. Errors: a read failed, memory was refused.
+pub fn image_digest<S: BlockSource + Drop>(
+    alloc: Global,
+    image: &mut OpenedImage<S>,
+    len: u64,
+) -> Result<[u8; 32], SourceFault>
+    ensures digest { IfOk result (IsDigestOf image.old.known len) }
+    ensures image { image.new ≡ image.old }
+{
+    let Ok(mut buffer) = buffer_of(alloc, PIECE) else {
+        return Err(SourceFault::Memory);
+    };
+    add_all(image, len, &mut buffer)
+}

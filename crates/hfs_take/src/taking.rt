@@ -1,0 +1,103 @@
+//! The word that takes a disk apart.
+ghost use Rattle.std.specs.Prelude.{◌≡◌, IfErr, IfOk, string_bytes};
+ghost use Rattle.hfs_bag.specs.Sums.{IsSumOf};
+ghost use Rattle.hfs_image_items.specs.Items.{bag_items, entries_in};
+ghost use Rattle.hfs_needed.specs.Known.{OfKnown};
+ghost use Rattle.hfs_take.specs.Faults.{IsTakeFault, taken_text};
+ghost use Rattle.hfs_take.specs.Folders.{IsFolderPath};
+
+use crate::fault::TakeFault;
+use crate::giving::give_image;
+use crate::image::TakenImage;
+use crate::opening::open_image;
+use crate::words::TakeWords;
+use hfs_bag::BagSums;
+use hfs_image_items::Watch;
+use hfs_shelves::{FileShelf, is_there};
+use hfs_sparse::BlockSource;
+use hfs_texts::push_line;
+use std::alloc::{AllocError, Global};
+use std::rt::Files;
+
+/// Gives a whole bag its place.
+fn place_bag<'a, R: Files + AllocGlobal>(
+    shelf: FileShelf<'_, R>,
+    sums: BagSums,
+    words: &TakeWords<'a>,
+) -> Result<BagSums, TakeFault<'a>>
+    ensures fault { IfErr result (IsTakeFault words.now) }
+    ensures sums { IfOk result (λ told. told ≡ sums) }
+{
+    match shelf.place(words.folder) {
+        Ok(()) => Ok(sums),
+        Err(fault) => Err(TakeFault::of_shelf(fault)),
+    }
+}
+
+/// Writes the bag of an image: to a folder beside its place, which gets its place when it is whole, and is taken away at a fault.
+fn write_bag<'a, R: Files + AllocGlobal, S: BlockSource + Drop, W: Watch>(
+    rt: &R,
+    image: TakenImage<S>,
+    words: &TakeWords<'a>,
+    watch: &W,
+) -> Result<BagSums, TakeFault<'a>>
+    ensures fault { IfErr result (IsTakeFault words.now) }
+    ensures sums { IfOk result (λ sums. OfKnown image.opened.known image.opened.len
+        (λ bytes. IsSumOf sums (bag_items (entries_in bytes)))) }
+{
+    let mut shelf = match FileShelf::create(rt, words.folder) {
+        Ok(shelf) => shelf,
+        Err(fault) => return Err(TakeFault::of_shelf(fault)),
+    };
+    match give_image(rt.alloc(), &mut shelf, image, words, watch) {
+        Ok(sums) => place_bag(shelf, sums, words),
+        Err(fault) => {
+            shelf.take_away();
+            Err(TakeFault::of_bag(fault, words.image))
+        }
+    }
+}
+
+/// Takes the volume of an image apart: makes the folder a bag of all its items. Faults, the first that holds: the image can't be read; `NoVolume`;
+/// the image's own; `IsThere`; `CannotWrite` of the path that isn't written, the image can't be read in the middle, memory was refused. At a fault
+/// the folder isn't there, and what was written is taken away, as far as the system and memory allow.
+pub fn take<'a, R: Files + AllocGlobal, W: Watch>(
+    rt: &R,
+    words: &TakeWords<'a>,
+    watch: &W,
+) -> Result<BagSums, TakeFault<'a>>
+    ensures { IfErr result (IsTakeFault words.now) }
+{
+    let image = match open_image(rt, words) {
+        Ok(image) => image,
+        Err(fault) => return Err(TakeFault::Image(fault)),
+    };
+    if is_there(rt, words.folder) {
+        return Err(TakeFault::IsThere(words.folder));
+    }
+    write_bag(rt, image, words, watch)
+}
+
+/// A folder's path without slashes at its end; a slash alone stays.
+pub fn folder_path(path: &str) -> &str
+    ensures { IsFolderPath path.now result.now }
+{
+    let trimmed = path.trim_end_matches('/');
+    if trimmed.is_empty() && !path.is_empty() {
+        return "/";
+    }
+    trimmed
+}
+
+/// The lines of a bag that was made.
+#[tactic(auto, unfolding(crate::specs::Faults::taken_text))]
+pub fn taken_text(alloc: Global, sums: &BagSums) -> Result<String, AllocError>
+    ensures { IfOk result (λ text. string_bytes text ≡ taken_text sums.now) }
+{
+    let mut text = String::new(alloc);
+    text.push_str("taken\n")?;
+    push_line(&mut text, "files", sums.files as u64)?;
+    push_line(&mut text, "folders", sums.folders as u64)?;
+    push_line(&mut text, "bytes", sums.bytes)?;
+    Ok(text)
+}
