@@ -4,9 +4,9 @@ ghost use Rattle.hfs_needed.specs.Known.{OfKnown};
 ghost use Rattle.hfs_commands.specs.Checks.{HasCheckLines, IsCheckFault, IsCheckStatus, alternate_text, check_lines, check_status, refused_line, sound_lines};
 
 use crate::fault::Status;
-use crate::refusal::Refusal;
 use hfs_check::{Alternate, MountFault, Report, report};
 use hfs_needed::needed_report;
+use hfs_refusals::Refusal;
 use hfs_sparse::{BlockSource, SparseFault};
 use hfs_texts::{Show, push_line};
 use std::alloc::{AllocError, Global};
