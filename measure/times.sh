@@ -56,6 +56,16 @@ count_beside() {
     fi
 }
 
+# What `items` and `hls -laR` take of the volume that is mounted, in instructions, and what `check` and `ls` of the root take.
+count_items() {
+    if command -v valgrind > /dev/null; then
+        awk -v ours="$(instructions "$tool" items "$1")" -v theirs="$(instructions hls -laR)" -v check="$(instructions "$tool" check "$1")" \
+            -v list="$(instructions "$tool" ls "$1")" \
+            'BEGIN { printf "    items to hls -laR: %.1f to %.1f million instructions, ratio %.2f; to check: %.2f; ls to check: %.2f\n", ours, theirs,
+                ours / theirs, ours / check, list / check }'
+    fi
+}
+
 # The most memory that a command takes, in MB.
 memory() {
     python3 -c 'import resource, subprocess, sys
@@ -78,6 +88,8 @@ measure() {
     fi
     count_beside "$volume"
     report 'ls of the root to hls -la' "$(best 31 "$tool" ls "$volume")" "$(best 31 hls -la)"
+    report 'items to hls -laR' "$(best 31 "$tool" items "$volume")" "$(best 31 hls -laR)"
+    count_items "$volume"
     echo "    memory of check and of ls: $(memory "$tool" check "$volume") and $(memory "$tool" ls "$volume") MB"
     if [ "$2" -gt 1 ]; then measure_fork "$volume"; fi
     if [ -n "$with_lists" ] && [ "$1" != 200M ] && [ "$1" != 2000M ]; then measure_lists "$volume"; fi

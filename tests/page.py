@@ -240,7 +240,7 @@ def rows_in(document):
         ensure(len(line.elements) == 1, 'something beside a folder')
         summary, inside = line.elements[0].elements
         ensure(summary.tag == 'summary' and inside.tag == 'ul', f'a folder of {summary.tag} and {inside.tag}')
-        ensure(('open' in line.elements[0].attributes) == (depth == 0), f'a folder at depth {depth} is open')
+        ensure(('open' in line.elements[0].attributes) == (depth == 0 and len(inside.elements) <= 1_000), f'a folder at depth {depth} is open or closed')
         name, texts = item_in(summary)
         yield [above + name, texts]
         waiting.append((f'{above}{name}:', depth + 1, iter(inside.elements)))

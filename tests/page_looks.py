@@ -1,6 +1,7 @@
 #!/usr/bin/env python3
 """Opens pages in headless Chromium, for whoever looks at them: pictures at 390 and 1,280 pixels, in light and dark, the
-accessibility tree, the milliseconds up to DOMContentLoaded, and the requests that were made.
+accessibility tree, the milliseconds up to DOMContentLoaded, the processor time of the page's main thread, and the requests
+that were made.
 
 tests/page_looks.py FOLDER PAGE.. [--open]      writes FOLDER/NAME-WIDTH-SCHEME.png and FOLDER/NAME.tree
 
@@ -42,7 +43,7 @@ class Browser:
         self.number, self.rest, self.session, self.events = 0, b'', None, []
         target = next(it for it in self.ask('Target.getTargets')['targetInfos'] if it['type'] == 'page')
         self.session = self.ask('Target.attachToTarget', targetId=target['targetId'], flatten=True)['sessionId']
-        for part in ('Page', 'Network', 'Accessibility', 'Runtime'):
+        for part in ('Page', 'Network', 'Runtime', 'Performance'):
             self.ask(f'{part}.enable')
 
     def message(self):
@@ -81,6 +82,11 @@ class Browser:
         asked = [it['params']['request']['url'] for it in self.events if it.get('method') == 'Network.requestWillBeSent']
         return [it for it in asked if it not in (address, 'data:,')]
 
+    def busy(self):
+        """The milliseconds of processor time that the page's main thread has taken."""
+        measured = {it['name']: it['value'] for it in self.ask('Performance.getMetrics')['metrics']}
+        return round(1000 * measured.get('ThreadTime', 0))
+
     def look(self, width, scheme):
         """A picture of the page."""
         self.ask('Emulation.setDeviceMetricsOverride', width=width, height=HEIGHT, deviceScaleFactor=1, mobile=width < 500)
@@ -88,8 +94,12 @@ class Browser:
         return base64.b64decode(self.ask('Page.captureScreenshot', format='png')['data'])
 
     def tree(self):
-        """The accessibility tree: a line for each node that is not ignored, with its role and its name."""
+        """The accessibility tree: a line for each node that is not ignored, with its role and its name. It is asked for behind all that is
+        measured, since a page of 60,000 items takes longer to open while a tree is kept of it.
+        """
+        self.ask('Accessibility.enable')
         nodes = self.ask('Accessibility.getFullAXTree')['nodes']
+        self.ask('Accessibility.disable')
         by_id = {it['nodeId']: it for it in nodes}
         waiting = [(nodes[0], 0)]
         while waiting:
@@ -113,6 +123,7 @@ def look_at(browser, page, folder, is_open):
     """Looks at a page; whether it is as it is to be."""
     asked = browser.go(page)
     milliseconds = browser.value('performance.timing.domContentLoadedEventEnd - performance.timing.navigationStart')
+    busy = browser.busy()
     if is_open:
         browser.value('for (const it of document.querySelectorAll("details")) it.open = true')
     wide = []
@@ -123,7 +134,7 @@ def look_at(browser, page, folder, is_open):
             wide.append(width)
     lines = list(browser.tree()) if page.stat().st_size < 4_000_000 else []
     (folder / f'{page.stem}.tree').write_text(''.join(f'{it}\n' for it in lines), 'utf-8')
-    print(f'{page.name}: {page.stat().st_size} bytes, DOMContentLoaded after {milliseconds} ms, asked for {asked or "nothing"}, {len(lines)} nodes for readers'
+    print(f'{page.name}: {page.stat().st_size} bytes, DOMContentLoaded after {milliseconds} ms, {busy} ms of processor time when it was loaded, asked for {asked or "nothing"}, {len(lines)} nodes for readers'
           + ''.join(f', wider than {it}' for it in wide))
     return not asked and milliseconds < LIMIT and not wide
 

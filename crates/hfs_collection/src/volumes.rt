@@ -9,9 +9,9 @@ use crate::values::{
     push_empty, push_moment_value, push_number, push_plain_value, push_whole_text,
 };
 use hfs_check::MountFault;
-use hfs_commands::Refusal;
 use hfs_containers::{Container, FoundRange};
 use hfs_fields::Mdb;
+use hfs_refusals::Refusal;
 use hfs_rows::RowValue;
 use hfs_texts::Show;
 use std::alloc::{AllocError, Global};

@@ -8,6 +8,7 @@ use Rattle.hfs_runs.specs.declared.fault.ScriptFault.{ScriptFault}
 use Rattle.hfs_runs.specs.declared.fault.ScriptFault.TheVariants as run
 use Rattle.hfs_needed.specs.declared.opening.NeededFault.{NeededFault}
 use Rattle.hfs_needed.specs.declared.opening.NeededFault.TheVariants as needed
+use Rattle.hfs_refusals.specs.Refusals.{refusal_text}
 use Rattle.hfs_commands.specs.Paths.{path_text}
 use Rattle.hfs_commands.specs.declared.fault.Status.{Status}
 use Rattle.hfs_commands.specs.declared.fault.Status.TheVariants as status
@@ -46,15 +47,6 @@ status_of (fault.BrokenOff file) = status.DeviceFailed
 status_of (fault.CannotWrite file) = status.DeviceFailed
 status_of fault.OutputFailed = status.DeviceFailed
 status_of fault.NoMemory = status.NoMemory
-
--- why an image is refused, with the File Manager's own code where it has one
-unfoldable pub refusal_text : MountFault → List ℕ
-refusal_text mount.TooLarge = codes "image too large"
-refusal_text mount.Short = codes "image too short"
-refusal_text mount.NoMacDisk = codes "not an HFS volume (-57)"
-refusal_text (mount.BadMdb test) = codes "bad master directory block M" ++ decimal test ++ codes " (-60)"
-refusal_text (mount.Check number place) = codes "check C" ++ decimal number ++ codes " at " ++ decimal place
-refusal_text mount.Memory = codes "out of memory"
 
 -- why a command was not done; nothing where standard output failed
 unfoldable pub fault_text : Fault → List ℕ

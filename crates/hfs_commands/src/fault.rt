@@ -3,10 +3,10 @@ ghost use Rattle.std.specs.Prelude.{◌≡◌, ◌≢◌, MatchResult, Some};
 ghost use Rattle.hfs_commands.specs.Faults.{IsRefusal, KeepsRefusal, fault_of_run, fault_text, status_number, status_of, status_of_run};
 
 use crate::paths::ShownPath;
-use crate::refusal::Refusal;
 use hfs_check::MountFault;
 use hfs_format::FormatFault;
 use hfs_needed::NeededFault;
+use hfs_refusals::Refusal;
 use hfs_runs::ScriptFault;
 use hfs_sparse::{CopyFault, SparseFault};
 use hfs_texts::{InfoFault, LoadFault};

@@ -4,3 +4,6 @@ pub mod DayLaw
 mod Codes
 pub mod HostNameLemmas
 pub mod HostPathLemmas
+mod PlainLemmas
+mod HexLemmas
+mod AsciiLemmas

@@ -1,5 +1,5 @@
 -- Plain text: bytes of a Macintosh as they stand in tables.
-use Rattle.std.specs.Prelude.{ℕ, Bool, ◌||◌, ◌==◌, nat_lt, if◌then◌else◌, List, ◌∷◌, flat_map}
+use Rattle.std.specs.Prelude.{◌≡◌, ℕ, Bool, not, ◌&&◌, ◌||◌, ◌==◌, nat_lt, if◌then◌else◌, List, ◌∷◌, flat_map, IsAscii}
 use Rattle.hfs_names.specs.Digits.{hex_byte}
 use Rattle.hfs_names.specs.MacRoman.{character_text}
 
@@ -14,3 +14,11 @@ plain_character byte = if is_control byte || byte == 0x5C then 0x5C ∷ hex_byte
 -- the plain text of bytes
 unfoldable pub plain_text : List ℕ → List ℕ
 plain_text bytes = flat_map plain_character bytes
+
+-- a byte of ASCII that is printable, and no backslash
+unfoldable pub is_itself : ℕ → Bool
+is_itself byte = (nat_lt byte 0x80 && not (is_control byte)) && not (byte == 0x5C)
+
+-- bytes of ASCII that are their own plain text
+abbrev pub IsOwnText : List ℕ → Type 0
+IsOwnText bytes = IsAscii bytes × (plain_text bytes ≡ bytes)

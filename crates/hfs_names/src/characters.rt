@@ -1,9 +1,10 @@
 //! The characters of Mac OS Roman.
-ghost use Rattle.std.specs.Prelude.{◌≡◌, ◌<◌, ◌^◌, OnOk};
+ghost use Rattle.std.specs.Prelude.{◌≡◌, ◌<◌, ◌^◌, IsAscii, OnOk};
 ghost use Rattle.hfs_names.specs.Gains.{Gains};
 ghost use Rattle.hfs_names.specs.MacRoman.{character_text, characters_text, roman_character};
 
 use std::alloc::AllocError;
+use std::str::from_utf8_unchecked;
 
 /// The characters of the bytes from $80 on (Apple's mapping table ROMAN.TXT, with the euro sign at $DB).
 const HIGH_CHARACTERS: [char; 128] = [
@@ -26,6 +27,14 @@ fn roman_character(byte: u8) -> char
     } else {
         HIGH_CHARACTERS[usize::from(byte - 0x80)]
     }
+}
+
+/// Bytes of ASCII as text: they are UTF-8 already, which is proved and not looked at again.
+pub(crate) fn ascii_text(bytes: &[u8]) -> &str
+    requires { IsAscii bytes.now }
+    ensures { result.now ≡ bytes.now }
+{
+    unsafe { from_utf8_unchecked(bytes) }
 }
 
 /// Appends the character of a byte.

@@ -1,19 +1,20 @@
 //! Digits of numbers and bytes.
-ghost use Rattle.std.specs.Prelude.{◌≡◌, ◌<◌, OnOk};
-ghost use Rattle.hfs_names.specs.Digits.{four_digits, hex_byte, hex_text, lower_digit, two_digits, upper_byte, upper_digit};
+ghost use Rattle.std.specs.Prelude.{◌≡◌, ◌+◌, ◌/◌, ◌%◌, ◌<◌, ◌∷◌, [], OnOk};
+ghost use Rattle.hfs_names.specs.Digits.{hex_byte, hex_text, lower_digit, upper_byte, upper_digit};
 ghost use Rattle.hfs_names.specs.Gains.{Gains};
 
+use crate::characters::ascii_text;
 use std::alloc::AllocError;
 
-fn lower_digit(digit: u8) -> char
+fn lower_digit(digit: u8) -> u8
     requires { digit < 16 }
     ensures value { result ≡ lower_digit digit }
     ensures ascii { result < 128 }
 {
     if digit < 10 {
-        char::from(b'0' + digit)
+        b'0' + digit
     } else {
-        char::from(b'a' + (digit - 10))
+        b'a' + (digit - 10)
     }
 }
 
@@ -34,8 +35,8 @@ fn upper_digit(digit: u8) -> char
 pub(crate) fn push_hex_byte(text: &mut String, byte: u8) -> Result<(), AllocError>
     ensures { OnOk result (Gains text.old text.new (hex_byte byte)) }
 {
-    text.push(lower_digit(byte / 16))?;
-    text.push(lower_digit(byte % 16))
+    text.push(char::from(lower_digit(byte / 16)))?;
+    text.push(char::from(lower_digit(byte % 16)))
 }
 
 /// Appends a byte as two upper-case hexadecimal digits.
@@ -47,9 +48,26 @@ pub(crate) fn push_upper_byte(text: &mut String, byte: u8) -> Result<(), AllocEr
     text.push(upper_digit(byte % 16))
 }
 
-/// Appends bytes as lower-case hexadecimal digits, two for each.
+/// Appends four bytes as lower-case hexadecimal digits, at once.
+#[tactic(auto, unfolding(crate::specs::Digits::hex_text, crate::specs::Digits::hex_byte), using(crate::proofs::AsciiLemmas::ascii_eight))]
+fn push_hex_four(text: &mut String, a: u8, b: u8, c: u8, d: u8) -> Result<(), AllocError>
+    ensures { OnOk result (Gains text.old text.new (hex_text (a ∷ b ∷ c ∷ d ∷ []))) }
+{
+    text.push_str(ascii_text(&[
+        lower_digit(a / 16),
+        lower_digit(a % 16),
+        lower_digit(b / 16),
+        lower_digit(b % 16),
+        lower_digit(c / 16),
+        lower_digit(c % 16),
+        lower_digit(d / 16),
+        lower_digit(d % 16),
+    ]))
+}
+
+/// Appends bytes as lower-case hexadecimal digits, a byte at a time.
 #[tactic(auto, unfolding(crate::specs::Digits::hex_text))]
-pub fn push_hex(text: &mut String, bytes: &[u8]) -> Result<(), AllocError>
+fn push_hex_each(text: &mut String, bytes: &[u8]) -> Result<(), AllocError>
     ensures { OnOk result (Gains text.old text.new (hex_text bytes.now)) }
 {
     for byte in bytes {
@@ -58,22 +76,32 @@ pub fn push_hex(text: &mut String, bytes: &[u8]) -> Result<(), AllocError>
     Ok(())
 }
 
-/// Appends a number below 100 as two digits.
-#[tactic(auto, unfolding(crate::specs::Digits::two_digits))]
-pub(crate) fn push_two_digits(text: &mut String, number: u8) -> Result<(), AllocError>
-    requires { number < 100 }
-    ensures { OnOk result (Gains text.old text.new (two_digits number)) }
+/// Appends bytes as lower-case hexadecimal digits, two for each.
+pub fn push_hex(text: &mut String, bytes: &[u8]) -> Result<(), AllocError>
+    ensures { OnOk result (Gains text.old text.new (hex_text bytes.now)) }
 {
-    text.push(char::from(b'0' + number / 10))?;
-    text.push(char::from(b'0' + number % 10))
+    let mut rest = bytes;
+    while rest.len() >= 4 {
+        push_hex_four(text, rest[0], rest[1], rest[2], rest[3])?;
+        rest = &rest[4..];
+    }
+    push_hex_each(text, rest)
 }
 
-/// Appends a number below 10,000 as four digits.
-#[tactic(auto, unfolding(crate::specs::Digits::four_digits))]
-pub(crate) fn push_four_digits(text: &mut String, number: u32) -> Result<(), AllocError>
-    requires { number < 10000 }
-    ensures { OnOk result (Gains text.old text.new (four_digits number)) }
+/// The first of the two digits of a number below 100, in ASCII.
+pub(crate) fn tens(number: u8) -> u8
+    requires { number < 100 }
+    ensures value { result ≡ 48 + number / 10 }
+    ensures ascii { result < 128 }
 {
-    push_two_digits(text, (number / 100) as u8)?;
-    push_two_digits(text, (number % 100) as u8)
+    b'0' + number / 10
+}
+
+/// The second of the two digits of a number below 100, in ASCII.
+pub(crate) fn ones(number: u8) -> u8
+    requires { number < 100 }
+    ensures value { result ≡ 48 + number % 10 }
+    ensures ascii { result < 128 }
+{
+    b'0' + number % 10
 }

@@ -4,35 +4,57 @@ ghost use Rattle.hfs_names.specs.Gains.{Gains};
 ghost use Rattle.hfs_names.specs.Moments.{day_text, moment, time_text};
 
 use crate::calendar::{Day, day_since_1904};
-use crate::digits::{push_four_digits, push_two_digits};
+use crate::characters::ascii_text;
+use crate::digits::{ones, tens};
 use std::alloc::AllocError;
 
 const SECONDS_OF_DAY: u32 = 86_400;
 
-#[tactic(auto, unfolding(crate::specs::Moments::day_text))]
+/// Appends a day as YYYY-MM-DD, at once.
+#[tactic(auto, unfolding(crate::specs::Moments::day_text, crate::specs::Digits::four_digits, crate::specs::Digits::two_digits), using(crate::proofs::AsciiLemmas::ascii_ten))]
 fn push_day(text: &mut String, day: Day) -> Result<(), AllocError>
     requires year { day.year < 10000 }
     requires month { day.month < 100 }
     requires day { day.day < 100 }
     ensures { OnOk result (Gains text.old text.new (day_text day)) }
 {
-    push_four_digits(text, day.year)?;
-    text.push('-')?;
-    push_two_digits(text, day.month as u8)?;
-    text.push('-')?;
-    push_two_digits(text, day.day as u8)
+    let century = (day.year / 100) as u8;
+    let year = (day.year % 100) as u8;
+    let month = day.month as u8;
+    let day = day.day as u8;
+    text.push_str(ascii_text(&[
+        tens(century),
+        ones(century),
+        tens(year),
+        ones(year),
+        b'-',
+        tens(month),
+        ones(month),
+        b'-',
+        tens(day),
+        ones(day),
+    ]))
 }
 
-#[tactic(auto, unfolding(crate::specs::Moments::time_text))]
+/// Appends the time so many seconds behind midnight as hh:mm:ss, at once.
+#[tactic(auto, unfolding(crate::specs::Moments::time_text, crate::specs::Digits::two_digits), using(crate::proofs::AsciiLemmas::ascii_eight))]
 fn push_time(text: &mut String, seconds: u32) -> Result<(), AllocError>
     requires { seconds < 86400 }
     ensures { OnOk result (Gains text.old text.new (time_text seconds)) }
 {
-    push_two_digits(text, (seconds / 3600) as u8)?;
-    text.push(':')?;
-    push_two_digits(text, (seconds / 60 % 60) as u8)?;
-    text.push(':')?;
-    push_two_digits(text, (seconds % 60) as u8)
+    let hour = (seconds / 3600) as u8;
+    let minute = (seconds / 60 % 60) as u8;
+    let second = (seconds % 60) as u8;
+    text.push_str(ascii_text(&[
+        tens(hour),
+        ones(hour),
+        b':',
+        tens(minute),
+        ones(minute),
+        b':',
+        tens(second),
+        ones(second),
+    ]))
 }
 
 /// Appends the moment of a date, which is in seconds since midnight of 1 January 1904: nothing where it is 0, else

@@ -1,9 +1,9 @@
 //! Plain text.
-ghost use Rattle.std.specs.Prelude.{◌≡◌, OnOk};
+ghost use Rattle.std.specs.Prelude.{◌≡◌, ◌≤◌, OnOk, length, take};
 ghost use Rattle.hfs_names.specs.Gains.{Gains};
-ghost use Rattle.hfs_names.specs.PlainTexts.{is_control, plain_character, plain_text};
+ghost use Rattle.hfs_names.specs.PlainTexts.{IsOwnText, is_control, is_itself, plain_character, plain_text};
 
-use crate::characters::push_character;
+use crate::characters::{ascii_text, push_character};
 use crate::digits::push_hex_byte;
 use std::alloc::AllocError;
 
@@ -25,14 +25,43 @@ fn push_plain_character(text: &mut String, byte: u8) -> Result<(), AllocError>
     push_character(text, byte)
 }
 
-/// Appends the plain text of bytes: each character as it is, but a backslash and two lower-case hexadecimal digits for a byte
-/// below $20, $7F and the backslash.
+/// Whether a byte stands for itself in plain text: it is of ASCII, printable, and no backslash.
+#[tactic(auto, unfolding(crate::specs::PlainTexts::is_itself))]
+fn is_itself(byte: u8) -> bool
+    ensures { result ≡ is_itself byte }
+{
+    byte < 0x80 && !is_control(byte) && byte != b'\\'
+}
+
+/// How many of the first bytes stand for themselves, up to the first that doesn't.
+fn own_len(bytes: &[u8]) -> usize
+    ensures bound { result ≤ length bytes.now }
+    ensures own { IsOwnText (take result bytes.now) }
+{
+    let mut len = 0;
+    while len < bytes.len() && is_itself(bytes[len]) {
+        len += 1;
+    }
+    len
+}
+
+/// Appends the plain text of bytes, a character at a time.
 #[tactic(auto, unfolding(crate::specs::PlainTexts::plain_text))]
-pub fn push_plain_text(text: &mut String, bytes: &[u8]) -> Result<(), AllocError>
+fn push_each(text: &mut String, bytes: &[u8]) -> Result<(), AllocError>
     ensures { OnOk result (Gains text.old text.new (plain_text bytes.now)) }
 {
     for byte in bytes {
         push_plain_character(text, *byte)?;
     }
     Ok(())
+}
+
+/// Appends the plain text of bytes: each character as it is, but a backslash and two lower-case hexadecimal digits for a byte
+/// below $20, $7F and the backslash.
+pub fn push_plain_text(text: &mut String, bytes: &[u8]) -> Result<(), AllocError>
+    ensures { OnOk result (Gains text.old text.new (plain_text bytes.now)) }
+{
+    let (own, behind) = bytes.split_at(own_len(bytes));
+    text.push_str(ascii_text(own))?;
+    push_each(text, behind)
 }

@@ -1,5 +1,5 @@
 -- The items of a page, as a tree that opens and closes.
-use Rattle.std.specs.Prelude.{ℕ, zero, suc, ◌+◌, ◌-◌, ◌==◌, nat_lt, min, if◌then◌else◌, List, [], ◌∷◌, ◌++◌, length, take, drop, codes}
+use Rattle.std.specs.Prelude.{ℕ, zero, suc, ◌+◌, ◌-◌, ◌==◌, ◌&&◌, nat_le, nat_lt, min, if◌then◌else◌, List, [], ◌∷◌, ◌++◌, length, take, drop, codes}
 use Rattle.hfs_model.specs.declared.reply.Info.{Info}
 use Rattle.hfs_model.specs.declared.reply.ItemKind.{ItemKind}
 use Rattle.hfs_model.specs.declared.reply.ItemKind.TheVariants.{Folder, File}
@@ -31,12 +31,13 @@ file_text info = name_tagged info ++ type_text info ++ modified_text info.modifi
 
 -- ---- rows. The depth of an item is the number of folders in which it lies; at most 100 of them open and close
 
--- the beginning of a folder that opens and closes; the root is open
-abbrev pub opening : ℕ → List ℕ
-opening depth = if depth == 0 then codes "<li><details open><summary>" else codes "<li><details><summary>"
+-- the beginning of a folder of so many items that opens and closes; the root is open where it has at most 1,000
+abbrev pub opening : ℕ → ℕ → List ℕ
+opening depth valence =
+    if depth == 0 && nat_le valence 1000 then codes "<li><details open><summary>" else codes "<li><details><summary>"
 
 abbrev pub nested_text : ℕ → Info → List ℕ
-nested_text depth info = opening depth ++ folder_text info ++ codes "</summary><ul>\n"
+nested_text depth info = opening depth info.valence ++ folder_text info ++ codes "</summary><ul>\n"
 
 abbrev pub flat_text : Info → List ℕ
 flat_text info = codes "<li>" ++ folder_text info ++ codes "</li>\n"

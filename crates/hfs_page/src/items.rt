@@ -11,6 +11,9 @@ use std::alloc::{AllocError, Global};
 /// How many folders stand open in one another; what lies deeper stands flat in the last of them.
 const MOST_OPEN: usize = 100;
 
+/// How many items the root has at most where it is open from the first.
+const MOST_SHOWN: u32 = 1_000;
+
 /// Appends an item's name.
 #[tactic(auto, unfolding(crate::specs::Items::name_tagged))]
 fn push_name(alloc: Global, page: &mut Vec<u8>, info: &Info) -> Result<(), AllocError>
@@ -85,11 +88,12 @@ pub(crate) fn push_closings(page: &mut Vec<u8>, count: usize) -> Result<(), Allo
     Ok(())
 }
 
-/// Appends the beginning of a folder that opens and closes; the root, which lies in none, is open.
-fn push_opening(page: &mut Vec<u8>, depth: usize) -> Result<(), AllocError>
-    ensures { OnOk result (Gains page.old page.new (opening depth)) }
+/// Appends the beginning of a folder of so many items that opens and closes. The root, which lies in
+/// none, is open, but where it has so many that a browser would take seconds to lay them out.
+fn push_opening(page: &mut Vec<u8>, depth: usize, valence: u32) -> Result<(), AllocError>
+    ensures { OnOk result (Gains page.old page.new (opening depth valence)) }
 {
-    if depth == 0 {
+    if depth == 0 && valence <= MOST_SHOWN {
         push_bytes(page, b"<li><details open><summary>")
     } else {
         push_bytes(page, b"<li><details><summary>")
@@ -105,7 +109,7 @@ fn push_nested(
 ) -> Result<(), AllocError>
     ensures { OnOk result (Gains page.old page.new (nested_text depth info.now)) }
 {
-    push_opening(page, depth)?;
+    push_opening(page, depth, info.valence)?;
     push_folder(alloc, page, info)?;
     push_bytes(page, b"</summary><ul>\n")
 }

@@ -1,1 +1,2 @@
 pub mod ImagePages
+pub mod RefusedPages

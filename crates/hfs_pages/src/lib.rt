@@ -1,7 +1,9 @@
-//! The page of an image that was opened.
+//! The page of an image: of one that was opened, and of one that is refused.
 #![tactic(auto)]
 
 mod image_page;
+mod refused_page;
 
-pub use hfs_page::{PageFault, legend, push_refused_page, script, style};
+pub use hfs_page::{PageFault, legend, script, style};
 pub use image_page::write_image_page;
+pub use refused_page::write_refused_page;

@@ -125,10 +125,10 @@ pub fn print_checked(rt: &HostRuntime, told: &CheckAnswer) -> Result<u8, Fault<'
 }
 
 /// Prints what a check of an image tells that was read where it is needed.
-pub fn print_needed_check<'a, S: BlockSource>(
+pub fn print_needed_check<'a, S: BlockSource + Drop>(
     rt: &HostRuntime,
     path: &'a str,
-    source: &mut S,
+    source: S,
     len: u64,
 ) -> Result<u8, Fault<'a>> {
     match needed_check_answer(rt.alloc(), source, len) {
@@ -148,9 +148,7 @@ fn print_whole_check(rt: &HostRuntime, image: &[u8]) -> Result<u8, Fault<'static
 /// Prints what is told of an image by its path. Each fault of the image is told behind `refused`.
 fn print_check<'a>(rt: &HostRuntime, path: &'a str) -> Result<u8, Fault<'a>> {
     match open_image(rt, path) {
-        Ok(ImageFile::Seekable { mut source, len }) => {
-            print_needed_check(rt, path, &mut source, len)
-        }
+        Ok(ImageFile::Seekable { source, len }) => print_needed_check(rt, path, source, len),
         Ok(ImageFile::Whole(image)) => print_whole_check(rt, image.as_slice()),
         Err(Fault::Refused(why)) => print_refused(rt, why),
         Err(fault) => Err(fault),

@@ -1,11 +1,8 @@
 //! Pages of images.
 
 use hfs_check::MountFault;
-use hfs_commands::{
-    BlockSource, Fault, Hint, NeededFault, OpenedImage, Refusal, Status, open_part, put,
-};
-use hfs_pages::{PageFault, legend, push_refused_page, script, style, write_image_page};
-use std::alloc::{AllocError, Global};
+use hfs_commands::{BlockSource, Fault, NeededFault, OpenedImage, Status, open_part};
+use hfs_pages::{PageFault, legend, script, style, write_image_page, write_refused_page};
 
 /// Prints the page of an image, or of the volume with this number that lies in it.
 pub fn print_page<'a>(
@@ -50,33 +47,11 @@ fn print_opened_page<S: BlockSource + Drop>(
     }
 }
 
-/// What a refusal means: the hint for it, or where there is none the lengths that a volume may have.
-fn meaning(alloc: Global, why: MountFault) -> Result<String, AllocError> {
-    let mut text = String::new(alloc);
-    match Hint::of(why) {
-        Some(hint) => write!(text, "{hint}")?,
-        None => text.push_str("a volume has at least 1,536 bytes and at most 2,147,483,648")?,
-    }
-    Ok(text)
-}
-
-/// The page of an image that is refused: the fault, and what it means.
-fn refused_page(alloc: Global, why: MountFault) -> Result<Vec<u8>, AllocError> {
-    let mut refusal = String::new(alloc);
-    write!(refusal, "{}", Refusal(why))?;
-    let meaning = meaning(alloc, why)?;
-    let mut page = Vec::new(alloc);
-    push_refused_page(&mut page, style(), refusal.as_bytes(), meaning.as_bytes())?;
-    Ok(page)
-}
-
 /// Prints the page of an image that is refused.
 fn print_refused_page(rt: &HostRuntime, why: MountFault) -> Result<u8, Fault<'static>> {
-    let Ok(page) = refused_page(rt.alloc(), why) else {
-        return Err(Fault::NoMemory);
-    };
-    match put(&mut rt.stdout(), &page) {
+    match write_refused_page(rt.alloc(), why, style(), &mut rt.stdout()) {
         Ok(()) => Ok(Status::ImageRefused.number()),
-        Err(_) => Err(Fault::OutputFailed),
+        Err(PageFault::Memory) => Err(Fault::NoMemory),
+        Err(PageFault::OutputFailed) => Err(Fault::OutputFailed),
     }
 }

@@ -35,9 +35,9 @@ pub fn print_volume_info<'a>(rt: &HostRuntime, path: &'a str, n: u64) -> Result<
 
 /// Prints what is told of the `n`-th volume in a file.
 pub fn print_volume_check<'a>(rt: &HostRuntime, path: &'a str, n: u64) -> Result<u8, Fault<'a>> {
-    let mut volume = open_volume(rt, path, n)?;
+    let volume = open_volume(rt, path, n)?;
     let len = volume.len();
-    print_needed_check(rt, path, &mut volume, len)
+    print_needed_check(rt, path, volume, len)
 }
 
 /// Prints the children of a folder of the `n`-th volume in a file.

@@ -2,8 +2,8 @@
 use Rattle.std.specs.Prelude.{ℕ, List, codes, Option, None, Some, ◌==◌, ◌||◌, if◌then◌else◌}
 use Rattle.hfs_check.specs.declared.mount_fault.MountFault.{MountFault}
 use Rattle.hfs_check.specs.declared.mount_fault.MountFault.TheVariants as mount
-use Rattle.hfs_commands.specs.declared.hint.Hint.{Hint}
-use Rattle.hfs_commands.specs.declared.hint.Hint.TheVariants as hint
+use Rattle.hfs_refusals.specs.declared.hint.Hint.{Hint}
+use Rattle.hfs_refusals.specs.declared.hint.Hint.TheVariants as hint
 
 -- names are the subject of check 7, valences and counts those of 9 and 10
 unfoldable pub hint_of_check : ℕ → Hint
@@ -27,3 +27,12 @@ hint_text hint.NotHere = codes "no HFS volume begins here; hfs_tool volumes FILE
 hint_text hint.WrongCounts = codes "counts are wrong, the files may be whole; hfs_tool repair mends counts"
 hint_text hint.NameNotTaken = codes "the disk may be sound: it has a name that this program does not take"
 hint_text hint.Damaged = codes "the disk is damaged"
+
+-- the hint, or where there is none the lengths that a volume may have
+abbrev pub hint_or_lengths : Option Hint → List ℕ
+hint_or_lengths None = codes "a volume has at least 1,536 bytes and at most 2,147,483,648"
+hint_or_lengths (Some hint) = hint_text hint
+
+-- what a refusal means, for whoever has nothing else to read
+abbrev pub meaning_text : MountFault → List ℕ
+meaning_text why = hint_or_lengths (hint_of why)

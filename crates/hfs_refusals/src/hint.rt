@@ -1,8 +1,10 @@
 //! What a refusal means for the disk, and which word helps.
 ghost use Rattle.std.specs.Prelude.{◌≡◌, Some};
-ghost use Rattle.hfs_commands.specs.Hints.{hint_of, hint_of_check, hint_text};
+ghost use Rattle.hfs_refusals.specs.Hints.{hint_of, hint_of_check, hint_text};
 
 use hfs_check::MountFault;
+use hfs_texts::Show;
+use std::alloc::AllocError;
 use std::fmt;
 
 /// What a refusal means for who has the disk in hand. Its `Display` is one line for a terminal.
@@ -67,5 +69,13 @@ impl fmt::Display for Hint {
             ),
             Hint::Damaged => write!(f, "the disk is damaged"),
         }
+    }
+}
+
+impl Show for Hint {
+    ghost shown = { λ hint. hint_text hint };
+
+    fn push_to(&self, text: &mut String) -> Result<(), AllocError> {
+        write!(text, "{}", *self)
     }
 }

@@ -1,6 +1,6 @@
 //! The text of an image's fault.
 ghost use Rattle.std.specs.Prelude.{Some};
-ghost use Rattle.hfs_commands.specs.Faults.{refusal_text};
+ghost use Rattle.hfs_refusals.specs.Refusals.{refusal_text};
 
 use hfs_check::MountFault;
 use hfs_texts::Show;
@@ -14,7 +14,7 @@ pub struct Refusal(pub MountFault);
 impl fmt::Display for Refusal {
     ghost output = { λ refusal. Some (refusal_text refusal.0) };
 
-    #[tactic(auto, unfolding(crate::specs::Faults::refusal_text))]
+    #[tactic(auto, unfolding(crate::specs::Refusals::refusal_text))]
     fn fmt<W: fmt::Write>(&self, f: &mut fmt::Formatter<W>) -> fmt::Result {
         match self.0 {
             MountFault::TooLarge => write!(f, "image too large"),
