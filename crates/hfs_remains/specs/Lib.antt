@@ -1,0 +1,4 @@
+pub mod Records
+pub mod Chains
+pub mod Forks
+pub mod Verdicts
