@@ -5,6 +5,7 @@ use crate::hints::tell_hint;
 use crate::pages::print_page;
 use crate::progress::Progress;
 use crate::saving::{save, tell};
+use crate::taking::take_volume;
 use crate::volumes::{
     print_volume_check, print_volume_fork, print_volume_info, print_volume_items,
     print_volume_list, print_volume_macbinary, print_volumes,
@@ -67,6 +68,7 @@ pub fn obey<'a, T: Threads + Wait + Sync>(
         Words::CatAt(words) => print_fork_at(rt, words),
         Words::MacBinaryAt(place) => print_macbinary_at(rt, place),
         Words::Volumes { file } => print_volumes(rt, *file),
+        Words::Take(words) => take_volume(rt, words),
         Words::New(volume) => write_new(rt, volume),
         Words::Repair { image, file } => write_repaired(rt, *image, *file),
         Words::Run(run) => print_answers(rt, threads, run),

@@ -10,6 +10,7 @@ mod hints;
 mod pages;
 mod progress;
 mod saving;
+mod taking;
 mod volumes;
 mod words;
 

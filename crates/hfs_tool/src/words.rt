@@ -6,6 +6,7 @@ ghost use Rattle.clap.specs.Matches.{first_value, found_of};
 use clap::{Arg, ArgAction, ArgMatches, Command, Error, value_parser};
 use hfs_commands::Format;
 use hfs_model::Fork;
+use hfs_take::{TakeWords, folder_path};
 use std::alloc::{AllocError, Global};
 
 /// What the words ask for.
@@ -54,6 +55,8 @@ pub enum Words<'a> {
     Volumes {
         file: &'a str,
     },
+    /// `take IMAGE FOLDER [--volume N] [--no-digest]`: all items of the volume as a bag.
+    Take(TakeWords<'a>),
     /// `new FILE NAME BLOCKS NODES EXTENTS [--now N]`: a new volume.
     New(NewVolume<'a>),
     /// `repair IMAGE FILE`: the image with its counts mended.
@@ -212,6 +215,9 @@ fn moment<'a>(alloc: Global) -> Arg<'a> {
 /// The program's number, and the logic that it is proved in: kits that differ in their tools alone have the same.
 const VERSION: &str = "1.0.0 (proved with Rattle's logic dac8208d650f15bf)";
 
+/// The program, as a bag tells what it was made by.
+const PROGRAM: &str = "hfs_tool 1.0.0";
+
 /// What the numbers of checks mean.
 const CHECKS: &str = "What is printed where the volume is not sound:
   refused bad master directory block M1 (-60)   M1 to M5: that block
@@ -272,13 +278,26 @@ const PAGES: &str =
 The picture has a square for each allocation block, or for several where there are more than 4,096: of what the
 blocks are used for, it shows the first that its legend names. Of a refused image the page says why.";
 
+/// What a taken volume becomes.
+const TAKES: &str = "FOLDER becomes a bag:
+  data/NAME             a folder, or the data fork of a file; data is the volume
+  data/._NAME           an AppleDouble file: type, creator, the Finder's bytes and the resource fork
+  manifest-sha256.txt   the digest of each file below data
+  items.csv             the table of items
+  volume.txt            the lines of info and of check
+  bag-info.txt, bagit.txt, tagmanifest-sha256.txt
+
+In NAME a character that some file system doesn't take is = and two hexadecimal digits. A data fork has the file's date, in no zone,
+from 1970 on. FOLDER is written as FOLDER.0.new and renamed when it is whole. Check a bag with sha256sum -c manifest-sha256.txt
+within it, before it is copied to a Macintosh, which joins the AppleDouble files to theirs.";
+
 /// What stands behind the help text.
 const AFTER_HELP: &str = "Exit statuses:
   0  done
   1  the words are refused
   2  the image is refused, or the plan of a new volume, or a script
   3  ls or cat met a code other than 0: -37 bad name, -43 not found, -120 no folder
-  4  a file could not be read or written
+  4  a file could not be read or written, or the folder of take is there already
   5  out of memory, no place for a viewer, or a line of a script not answered
 
 Examples:
@@ -289,6 +308,7 @@ Examples:
   hfs_tool page disk.img > disk.html
   hfs_tool cat disk.img 19 'Read Me' > read_me.data || rm read_me.data
   hfs_tool cat disk.img 19 'Read Me' --macbinary > read_me.bin || rm read_me.bin
+  hfs_tool take disk.img disk
   hfs_tool volumes hard_disk.img
   hfs_tool ls hard_disk.img --volume 1
   hfs_tool new disk.img Archive 1600 40 4
@@ -310,7 +330,8 @@ fn command<'a>(alloc: Global) -> Result<Command<'a>, AllocError> {
     let with_page = with_word(with_items, page_command(alloc));
     let with_cat = with_word(with_page, cat_command(alloc));
     let with_volumes = with_word(with_cat, volumes_command(alloc));
-    let with_new = with_word(with_volumes, new_command(alloc));
+    let with_take = with_word(with_volumes, take_command(alloc));
+    let with_new = with_word(with_take, new_command(alloc));
     let with_repair = with_word(with_new, repair_command(alloc));
     with_word(with_repair, run_command(alloc))
 }
@@ -459,6 +480,29 @@ fn volumes_command<'a>(alloc: Global) -> Result<Command<'a>, AllocError> {
         .arg(file)
 }
 
+/// The choice of a bag without the image's digest.
+fn no_digest<'a>(alloc: Global) -> Arg<'a> {
+    Arg::new(alloc, "no-digest")
+        .long("no-digest")
+        .action(ArgAction::SetTrue)
+        .help("Leaves out the digest of the image, which is read whole for it")
+}
+
+fn take_command<'a>(alloc: Global) -> Result<Command<'a>, AllocError> {
+    let with_image = Command::new(alloc, "take")
+        .about(
+            "Takes all files and folders off the volume, into a new folder: a bag (RFC 8493) with AppleDouble files",
+        )
+        .after_help(TAKES)
+        .arg(image(alloc));
+    let folder = word(alloc, "FOLDER").help(
+        "The folder that is made; nothing of that name may be there",
+    );
+    let with_folder = with_argument(with_image, folder);
+    let with_volume = with_argument(with_folder, volume(alloc));
+    with_argument(with_volume, no_digest(alloc))
+}
+
 fn new_command<'a>(alloc: Global) -> Result<Command<'a>, AllocError> {
     let file = word(alloc, "FILE").help("The file that is written, in place of what it has");
     let with_file = Command::new(alloc, "new")
@@ -553,6 +597,7 @@ fn words_behind<'a>(word: &str, inner: &ArgMatches<'a>) -> Words<'a> {
             Some(place) => cat_at_words(inner, place),
             None => cat_words(inner),
         },
+        "take" => take_words(inner),
         "new" => new_words(inner),
         "repair" => Words::Repair {
             image: text_of(inner, "IMAGE"),
@@ -640,6 +685,16 @@ fn fork_words<'a>(matches: &ArgMatches<'a>) -> Words<'a> {
         dir: number_of(matches, "DIR"),
         name: text_of(matches, "NAME"),
         fork: fork_of(matches),
+    })
+}
+
+fn take_words<'a>(matches: &ArgMatches<'a>) -> Words<'a> {
+    Words::Take(TakeWords {
+        image: text_of(matches, "IMAGE"),
+        volume: volume_of(matches),
+        folder: folder_path(text_of(matches, "FOLDER")),
+        is_digested: !matches.get_flag("no-digest"),
+        program: PROGRAM,
     })
 }
 

@@ -1,0 +1,117 @@
+//! What a bag tells of the image that it was taken from.
+ghost use Rattle.std.specs.Prelude.{◌≡◌, ◌++◌, IfOk, OnOk, string_bytes};
+ghost use Rattle.hfs_commands.specs.Volumes.{container_text, name_field, name_text};
+ghost use Rattle.hfs_names.specs.PlainTexts.{plain_text};
+ghost use Rattle.hfs_texts.specs.Reading.{info_text};
+ghost use Rattle.hfs_texts.specs.Texts.{Gains};
+ghost use Rattle.hfs_take.specs.Faults.{image_name, volume_text};
+
+use hfs_commands::ShownPath;
+use hfs_containers::{Container, FoundRange};
+use hfs_names::push_plain_text;
+use hfs_texts::{InfoFault, run_info};
+use std::alloc::{AllocError, Global};
+use std::path::Path;
+
+/// The last part of a path, as paths are printed.
+pub(crate) fn image_name(alloc: Global, path: &str) -> Result<String, AllocError>
+    ensures { IfOk result (λ text. string_bytes text ≡ image_name path.now) }
+{
+    let last = Path::new(path).file_name().unwrap_or(path);
+    format!(in alloc; "{}", ShownPath(last))
+}
+
+/// Appends how a range lies in its file.
+fn push_container(text: &mut String, container: Container) -> Result<(), AllocError>
+    ensures { OnOk result (Gains text.old text.new (container_text container)) }
+{
+    match container {
+        Container::Bare => text.push_str("bare"),
+        Container::MacBinary => text.push_str("macbinary"),
+        Container::DiskCopy { .. } => text.push_str("disk copy"),
+        Container::Partition => text.push_str("partition"),
+    }
+}
+
+/// Appends the plain text of a name in its field of a length byte and characters.
+#[tactic(auto, unfolding(hfs_commands::specs::Volumes::name_text))]
+fn push_name(text: &mut String, name: &[u8]) -> Result<(), AllocError>
+    ensures { OnOk result (Gains text.old text.new (name_text name.now)) }
+{
+    match name {
+        [] => Ok(()),
+        [len, characters @ ..] => {
+            let len = characters.len().min(usize::from(*len));
+            push_plain_text(text, &characters[..len])
+        }
+    }
+}
+
+/// Appends the name of a volume, where there is one.
+fn push_name_field(text: &mut String, name: &Option<[u8; 28]>) -> Result<(), AllocError>
+    ensures { OnOk result (Gains text.old text.new (name_field name.now)) }
+{
+    match name {
+        Some(name) => push_name(text, name),
+        None => Ok(()),
+    }
+}
+
+/// The line of a volume in its file: number, how it lies, first byte, bytes, and the plain text of its name, with spaces between.
+#[tactic(auto, unfolding(crate::specs::Faults::volume_text))]
+pub(crate) fn volume_text(
+    alloc: Global,
+    number: u64,
+    found: &FoundRange,
+    name: &Option<[u8; 28]>,
+) -> Result<String, AllocError>
+    ensures { IfOk result (λ text. string_bytes text ≡ volume_text number found.now name.now) }
+{
+    let mut text = String::new(alloc);
+    write!(text, "{}", number)?;
+    text.push(' ')?;
+    push_container(&mut text, found.container)?;
+    text.push(' ')?;
+    write!(text, "{}", found.range.start)?;
+    text.push(' ')?;
+    write!(text, "{}", found.range.len)?;
+    text.push(' ')?;
+    push_name_field(&mut text, name)?;
+    Ok(text)
+}
+
+/// The plain text of a name.
+pub(crate) fn plain_name(alloc: Global, name: &[u8]) -> Result<String, AllocError>
+    ensures { IfOk result (λ text. string_bytes text ≡ plain_text name.now) }
+{
+    let mut text = String::new(alloc);
+    push_plain_text(&mut text, name)?;
+    Ok(text)
+}
+
+/// The lines of the master directory block in the first 1,536 bytes of a volume.
+fn info_bytes(alloc: Global, head: &[u8; 1536]) -> Result<Vec<u8>, InfoFault>
+    ensures { IfOk result (λ lines. lines.items ≡ info_text head.now) }
+{
+    let mut lines = Vec::new(alloc);
+    run_info(alloc, &mut head.as_slice(), &mut lines)?;
+    Ok(lines)
+}
+
+/// The lines of the master directory block in the first 1,536 bytes of a volume, and those of its check.
+pub(crate) fn report_text(
+    alloc: Global,
+    head: &[u8; 1536],
+    check_lines: &str,
+) -> Result<String, InfoFault>
+    ensures { IfOk result (λ text. string_bytes text ≡ info_text head.now ++ check_lines.now) }
+{
+    let mut lines = info_bytes(alloc, head)?;
+    let Ok(()) = lines.extend_from_slice(check_lines.as_bytes()) else {
+        return Err(InfoFault::Memory);
+    };
+    match String::from_utf8(lines) {
+        Ok(text) => Ok(text),
+        Err(_) => Err(InfoFault::Memory),
+    }
+}
