@@ -93,4 +93,5 @@ def main():
     print(f'{count} runs in which a block is refused: before the first byte and behind it as written')
 
 
-main()
+if __name__ == '__main__':
+    main()

@@ -6,8 +6,8 @@ the AppleDouble files. Host names are spelled here by the rules, by none of the 
 
 Also: folders deep in one another, names of every character that a name may have, many items,
 volumes inside other files, images out of pipes; a folder that is there already, a link, a full disk,
-a folder without leave, a file that ends in the middle, and runs that are killed: the folder is a
-whole bag, or not there.
+a folder without leave, reads that fail in the middle, output that nobody takes, and runs that are
+killed: the folder is a whole bag, or not there. And what a run tells at a terminal.
 
 tests/take.py [--items N] [--kept FOLDER]      runs $HFS_TOOL, or the program as it is built in crates/hfs_tool/out
 
@@ -20,6 +20,7 @@ import gzip
 import hashlib
 import io
 import os
+import pty
 import re
 import shutil
 import signal
@@ -30,6 +31,7 @@ import tempfile
 import time
 from pathlib import Path
 
+import broken_off
 import slow_volumes
 from bags import NoBag, read_bag
 
@@ -404,10 +406,30 @@ volume.write({str(large)!r})
             subprocess.run(['umount', disk])
     else:
         bags.skipped.append('a full disk')
-    cut = here / 'cut'
-    cut.write_bytes(large.read_bytes())
     bags.taken(large, 'large', '--no-digest')
+    with open('/dev/full', 'wb') as nobody:
+        status = subprocess.run([TOOL, 'take', full, here / 'unheard'], stdout=nobody, stderr=subprocess.DEVNULL, timeout=60).returncode
+    ensure(status == 4, f'output that nobody takes: {status}')
+    read_bag(here / 'unheard')
+    compare_unread(bags, here)
     compare_killed(bags, large, here)
+
+
+def compare_unread(bags, here):
+    """Reads that fail: of the blocks of the one file, and with the digest of any block."""
+    if not shutil.which('cc'):
+        bags.skipped.append('reads that fail')
+        return
+    source, library = bags.folder / 'refuse.c', bags.folder / 'refuse.so'
+    source.write_text(broken_off.REFUSE)
+    subprocess.run(['cc', '-shared', '-fPIC', '-O1', '-o', library, source, '-ldl'], check=True)
+    image = laid_volume(bags)
+    for block, words, status in [(2, (), 4), *((it, ('--no-digest',), 4) for it in broken_off.BLOCKS), (15, (), 4), (15, ('--no-digest',), 0)]:
+        bag = here / f'unread-{block}{len(words)}'
+        how = {**os.environ, 'LD_PRELOAD': str(library), 'REFUSED_BLOCK': str(block)}
+        run = subprocess.run([TOOL, 'take', image, bag, *words], stdin=subprocess.DEVNULL, stdout=subprocess.PIPE, env=how, text=True, timeout=60)
+        ensure(run.returncode == status and (status == 0 or run.stdout == f'cannot read {image}\n'), f'block {block} is refused: {run}')
+        ensure(bag.exists() == (status == 0) and not list(here.glob('unread-*.new')), f'block {block} is refused, and something is left')
 
 
 def compare_killed(bags, image, here):
@@ -566,12 +588,31 @@ def compare_many(bags, items):
     volume.write(str(image))
     bag = bags.taken(image, 'many', '--no-digest')
     ensure((bag / 'data/d000/f00000').read_bytes() == b'', 'the first of many files')
+    compare_progress(bags, image, items + folders)
     return image
+
+
+def compare_progress(bags, image, items):
+    """At a terminal a line behind each thousand items."""
+    terminal, line = pty.openpty()
+    run = subprocess.Popen([TOOL, 'take', image, bags.place('seen'), '--no-digest'], stdin=subprocess.DEVNULL, stdout=subprocess.PIPE, stderr=line)
+    os.close(line)
+    said = b''
+    run.stdout.read()
+    try:
+        while part := os.read(terminal, 4096):
+            said += part
+    except OSError:
+        # The program has ended, and with it the terminal's other side.
+        pass
+    os.close(terminal)
+    ensure(run.wait() == 0, 'a run at a terminal')
+    ensure_same(said.decode().splitlines(), [f'{n} of {items} items' for n in range(1000, items + 1, 1000)], 'what is told at a terminal')
 
 
 def main():
     parser = argparse.ArgumentParser(description=__doc__, formatter_class=argparse.RawDescriptionHelpFormatter)
-    parser.add_argument('--items', type=int, default=500, help='how many files the large volume has')
+    parser.add_argument('--items', type=int, default=1_200, help='how many files the large volume has')
     parser.add_argument('--deep', type=int, default=200, help='how many folders lie in one another')
     parser.add_argument('--kept', help='a folder that keeps the large volume')
     words = parser.parse_args()

@@ -1,5 +1,5 @@
 -- What is printed of a fault, and how the program ends.
-use Rattle.std.specs.Prelude.{Bool, true, false, ℕ, List, [], ◌++◌, codes, ◌≡◌, ◌⊎◌}
+use Rattle.std.specs.Prelude.{Bool, true, false, ℕ, List, [], ◌++◌, codes, Option, None, Some, ◌≡◌, ◌⊎◌}
 use Rattle.std.specs.Borrow.{Bor}
 use Rattle.std.specs.Fmt.{decimal}
 use Rattle.hfs_check.specs.declared.mount_fault.MountFault.{MountFault}
@@ -86,6 +86,15 @@ fault_of_run run.Memory = fault.NoMemory
 -- an image has too many bytes, or more than there is memory for
 abbrev pub IsTooMuch : Fault → Type 0
 IsTooMuch why = (why ≡ fault.Refused mount.TooLarge) ⊎ (why ≡ fault.NoMemory)
+
+-- there is no volume with the number that is asked for
+abbrev pub IsNoVolume : Option ℕ → Fault → Type 0
+IsNoVolume None why = ⊥
+IsNoVolume (Some n) why = why ≡ fault.NoVolume n
+
+-- a file, or the volume with this number in it, was not opened
+abbrev pub IsUnopened : Bor (List ℕ) → Option ℕ → Fault → Type 0
+IsUnopened path volume why = (why ≡ fault.CannotRead path) ⊎ (IsTooMuch why ⊎ IsNoVolume volume why)
 
 -- a script has too many bytes, or more than there is memory for
 abbrev pub IsTooMuchScript : Fault → Type 0

@@ -76,7 +76,7 @@ pub struct CheckAnswer {
 }
 
 /// What a report tells.
-fn report_answer(alloc: Global, report: &Report) -> Result<CheckAnswer, AllocError>
+pub fn report_answer(alloc: Global, report: &Report) -> Result<CheckAnswer, AllocError>
     ensures fault { IfOk result (λ told. told.fault ≡ report.now.fault) }
     ensures status { IfOk result (λ told. told.status ≡ check_status report.now) }
     ensures lines { IfOk result (λ told. string_bytes told.lines ≡ check_lines report.now) }

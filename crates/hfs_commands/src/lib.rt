@@ -23,7 +23,7 @@ mod volumes;
 
 pub use beside::Leftover;
 pub use by_path::{file_path_reply, path_reply};
-pub use checking::{CheckAnswer, check_answer, needed_check_answer, refused_text};
+pub use checking::{CheckAnswer, check_answer, needed_check_answer, refused_text, report_answer};
 pub use contents::Contents;
 pub use fault::{Fault, Status};
 pub use files::{ImageFile, load_file, load_script, open_image};

@@ -1,6 +1,6 @@
 //! A file that volumes lie in, by its path.
 ghost use Rattle.std.specs.Prelude.{◌≡◌, ◌⊎◌, IfErr};
-ghost use Rattle.hfs_commands.specs.Faults.{IsTooMuch};
+ghost use Rattle.hfs_commands.specs.Faults.{IsTooMuch, IsUnopened};
 
 use crate::fault::Fault;
 use crate::files::{load_opened, regular_len};
@@ -92,7 +92,9 @@ pub fn open_part<'a, R: Files + AllocGlobal>(
     rt: &R,
     path: &'a str,
     volume: Option<u64>,
-) -> Result<Window<OpenedFile<R::File>>, Fault<'a>> {
+) -> Result<Window<OpenedFile<R::File>>, Fault<'a>>
+    ensures { IfErr result (IsUnopened path.entry volume) }
+{
     match volume {
         Some(n) => open_volume(rt, path, n),
         None => open_image_bytes(rt, path),

@@ -1,1 +1,3 @@
 pub mod DigestLemmas
+pub mod BagLemmas
+pub mod FaultLemmas

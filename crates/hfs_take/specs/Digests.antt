@@ -1,6 +1,12 @@
 -- Digests of images, piece by piece.
-use Rattle.std.specs.Prelude.{ℕ, List, ◌++◌, take, drop, Option, IfSome}
+use Rattle.std.specs.Prelude.{◌≡◌, ℕ, List, ◌++◌, take, drop, Option, IfSome}
+use Rattle.sha2.specs.Sha256.{sha256}
+use Rattle.hfs_needed.specs.Known.{OfKnown}
 
 -- where the image's bytes are known, so many of them from a place on came behind the message that is held
 abbrev pub AddsPiece : Option (List ℕ) → ℕ → ℕ → (List ℕ → Type 0) → (List ℕ → Type 0) → Type 0
 AddsPiece known place count Held Holds = IfSome known (λ image. (m : List ℕ) → Held m → Holds (m ++ take count (drop place image)))
+
+-- where the image's bytes are known, and are so many, this is their digest
+abbrev pub IsDigestOf : Option (List ℕ) → ℕ → List ℕ → Type 0
+IsDigestOf known len digest = OfKnown known len (λ image. digest ≡ sha256 image)

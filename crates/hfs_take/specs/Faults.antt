@@ -1,22 +1,22 @@
 -- What is printed of a disk that was taken apart, or was not.
-use Rattle.std.specs.Prelude.{◌≡◌, ℕ, List, ◌++◌, codes, Option, string_bytes, unwrap_or}
+use Rattle.std.specs.Prelude.{◌≡◌, ◌⊎◌, ⊤, ℕ, List, ◌++◌, codes, string_bytes}
 use Rattle.std.specs.Fmt.{decimal}
-use Rattle.std.specs.Path.{path_file_name}
 use Rattle.hfs_bag.specs.declared.fault.BagFault.{BagFault}
 use Rattle.hfs_bag.specs.declared.fault.BagFault.TheVariants as bag
 use Rattle.hfs_bag.specs.declared.sums.BagSums.{BagSums}
-use Rattle.hfs_commands.specs.declared.fault.Fault.TheVariants.{NoMemory}
+use Rattle.hfs_commands.specs.declared.fault.Fault.{Fault}
+use Rattle.hfs_commands.specs.declared.fault.Fault.TheVariants.{NoMemory, Refused}
 use Rattle.hfs_commands.specs.declared.fault.Status.{Status}
 use Rattle.hfs_commands.specs.declared.fault.Status.TheVariants.{DeviceFailed}
-use Rattle.hfs_commands.specs.Faults.{fault_text, status_of}
+use Rattle.hfs_check.specs.declared.mount_fault.MountFault.{MountFault}
+use Rattle.hfs_commands.specs.Faults.{IsUnopened, fault_text, status_of}
 use Rattle.hfs_commands.specs.Paths.{path_text}
-use Rattle.hfs_commands.specs.Volumes.{container_text, name_field}
-use Rattle.hfs_containers.specs.declared.ranges.FoundRange.{FoundRange}
 use Rattle.hfs_shelves.specs.declared.fault.ShelfFault.{ShelfFault}
 use Rattle.hfs_shelves.specs.declared.fault.ShelfFault.TheVariants as shelf
 use Rattle.hfs_texts.specs.Lines.{line}
 use Rattle.hfs_take.specs.declared.fault.TakeFault.{TakeFault}
 use Rattle.hfs_take.specs.declared.fault.TakeFault.TheVariants as take
+use Rattle.hfs_take.specs.declared.words.TakeWords.{TakeWords}
 
 -- why it was not
 unfoldable pub take_fault_text : TakeFault → List ℕ
@@ -30,6 +30,16 @@ take_status (take.Image fault) = status_of fault
 take_status (take.IsThere path) = DeviceFailed
 take_status (take.CannotWrite path) = DeviceFailed
 
+-- what is to be taken apart was not opened, or it is refused
+abbrev pub IsImageFault : TakeWords → Fault → Type 0
+IsImageFault words why = IsUnopened words.image words.volume why ⊎ ((refusal : MountFault) × (why ≡ Refused refusal))
+
+-- a fault names the image or the folder that these words name
+abbrev pub IsTakeFault : TakeWords → TakeFault → Type 0
+IsTakeFault words (take.Image why) = IsImageFault words why
+IsTakeFault words (take.IsThere path) = path ≡ words.folder
+IsTakeFault words (take.CannotWrite path) = ⊤
+
 -- what a fault of a shelf means
 abbrev pub fault_of_shelf : ShelfFault → TakeFault
 fault_of_shelf (shelf.CannotWrite path) = take.CannotWrite path
@@ -42,15 +52,3 @@ KeepsShelfFault filling found = (why : ShelfFault) → filling ≡ bag.Shelf why
 -- the lines of a bag that was made
 unfoldable pub taken_text : BagSums → List ℕ
 taken_text sums = codes "taken\n" ++ line (codes "files") (decimal sums.files) ++ line (codes "folders") (decimal sums.folders) ++ line (codes "bytes") (decimal sums.bytes)
-
--- ---- what a bag tells of its image
-
--- the last part of the image's path, as paths are printed
-abbrev pub image_name : List ℕ → List ℕ
-image_name path = path_text (unwrap_or (path_file_name path) path)
-
--- where the volume lies: number, how it lies, first byte, bytes, name
-unfoldable pub volume_text : ℕ → FoundRange → Option (List ℕ) → List ℕ
-volume_text number found name =
-    decimal number ++ codes " " ++ container_text found.container ++ codes " " ++ decimal found.range.start ++ codes " " ++ decimal found.range.len ++ codes " "
-    ++ name_field name

@@ -1,3 +1,5 @@
 pub mod Digests
+pub mod Facts
+pub mod Bags
 pub mod Faults
 pub mod Folders

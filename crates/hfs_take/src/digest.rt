@@ -1,16 +1,18 @@
 //! The digest of an image.
-ghost use Rattle.std.specs.Prelude.{◌≡◌, ◌≤◌, IfOk, length};
+ghost use Rattle.std.specs.Prelude.{◌≡◌, ◌≤◌, ◌<◌, ◌+◌, ◌*◌, IfOk, length};
 ghost use Rattle.sha2.specs.Hashers.{Holds256};
-ghost use Rattle.sha2.specs.Sha256.{sha256};
-ghost use Rattle.hfs_containers.specs.Reading.{IsToldOf};
-ghost use Rattle.hfs_take.specs.Digests.{AddsPiece};
+ghost use Rattle.hfs_take.specs.Digests.{AddsPiece, IsDigestOf};
 
-use hfs_containers::ReadAt;
-use hfs_sparse::SparseFault;
+use hfs_bag::SourceFault;
+use hfs_needed::OpenedImage;
+use hfs_sparse::BlockSource;
 use sha2::{Digest, Sha256};
 use std::alloc::{AllocError, Global};
 
-/// How many bytes are read at once.
+/// How many blocks are read at once.
+const BLOCKS: u32 = 128;
+
+/// How many bytes these have.
 const PIECE: usize = 65_536;
 
 /// Room for so many bytes.
@@ -20,57 +22,74 @@ fn buffer_of(alloc: Global, len: usize) -> Result<Vec<u8>, AllocError>
     vec![in alloc; 0; len]
 }
 
-/// Reads the next bytes of an image of which so many are left, and gives them to the digest. How many they are, at least one.
-fn add_piece<S: ReadAt>(
-    source: &mut S,
-    place: u64,
+/// Gives the bytes of an image from a block on to the digest, as many of those that are left as there is room for: at least one. How many they are.
+fn add_piece<S: BlockSource + Drop>(
+    image: &mut OpenedImage<S>,
+    first: u32,
     left: u64,
     buffer: &mut [u8],
     digest: &mut Sha256,
-) -> Result<u64, SparseFault>
+) -> Result<u64, SourceFault>
     requires some { 1 ≤ left }
-    requires room { 1 ≤ length buffer.old }
+    requires room { length buffer.old ≡ 65536 }
     ensures some { IfOk result (λ count. 1 ≤ count) }
     ensures few { IfOk result (λ count. count ≤ left) }
-    ensures added { IfOk result (λ count. AddsPiece (S.known source.old) place count
+    ensures whole { IfOk result (λ count. count < left → count ≡ 65536) }
+    ensures added { IfOk result (λ count. AddsPiece image.old.known (512 * first) count
         (Holds256 digest.old) (Holds256 digest.new)) }
-    ensures room { length buffer.new ≡ length buffer.old }
-    ensures known { S.known source.new ≡ S.known source.old }
+    ensures room { length buffer.new ≡ 65536 }
+    ensures image { image.new ≡ image.old }
 {
     let count = left.min(buffer.len() as u64);
     let piece = &mut buffer[..count as usize];
-    let Ok(()) = source.read_at(place, piece) else {
-        return Err(SparseFault::ReadFailed);
+    let Ok(()) = image.read_blocks(first, piece) else {
+        return Err(SourceFault::ReadFailed);
     };
     digest.update(&*piece);
     Ok(count)
 }
 
-/// Gives the `len` bytes of an image to the digest, which are read in pieces as long as the buffer.
-fn add_all<S: ReadAt>(source: &mut S, len: u64, buffer: &mut [u8]) -> Result<[u8; 32], SparseFault>
-    requires room { 1 ≤ length buffer.old }
-    ensures digest { IfOk result (IsToldOf (S.known source.old) len sha256) }
-    ensures known { S.known source.new ≡ S.known source.old }
+/// The number of the block behind those that were read at once. An image has fewer than 2^32 blocks.
+fn block_behind(first: u32) -> Result<u32, SourceFault>
+    ensures { IfOk result (λ next. next ≡ first + 128) }
+{
+    match first.checked_add(BLOCKS) {
+        Some(next) => Ok(next),
+        None => Err(SourceFault::ReadFailed),
+    }
+}
+
+/// Gives the `len` bytes of an image to the digest.
+fn add_all<S: BlockSource + Drop>(
+    image: &mut OpenedImage<S>,
+    len: u64,
+    buffer: &mut [u8],
+) -> Result<[u8; 32], SourceFault>
+    requires room { length buffer.old ≡ 65536 }
+    ensures digest { IfOk result (IsDigestOf image.old.known len) }
+    ensures image { image.new ≡ image.old }
 {
     let mut digest = Sha256::new();
     let mut place = 0;
+    let mut first: u32 = 0;
     while place < len {
-        place += add_piece(source, place, len - place, buffer, &mut digest)?;
+        place += add_piece(image, first, len - place, buffer, &mut digest)?;
+        first = block_behind(first)?;
     }
     Ok(digest.finalize())
 }
 
 /// The SHA-256 digest of the `len` bytes of an image, which are read in pieces. Errors: a read failed, memory was refused.
-pub fn image_digest<S: ReadAt>(
+pub fn image_digest<S: BlockSource + Drop>(
     alloc: Global,
-    source: &mut S,
+    image: &mut OpenedImage<S>,
     len: u64,
-) -> Result<[u8; 32], SparseFault>
-    ensures digest { IfOk result (IsToldOf (S.known source.old) len sha256) }
-    ensures known { S.known source.new ≡ S.known source.old }
+) -> Result<[u8; 32], SourceFault>
+    ensures digest { IfOk result (IsDigestOf image.old.known len) }
+    ensures image { image.new ≡ image.old }
 {
     let Ok(mut buffer) = buffer_of(alloc, PIECE) else {
-        return Err(SparseFault::Memory);
+        return Err(SourceFault::Memory);
     };
-    add_all(source, len, &mut buffer)
+    add_all(image, len, &mut buffer)
 }

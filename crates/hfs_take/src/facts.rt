@@ -4,8 +4,9 @@ ghost use Rattle.hfs_commands.specs.Volumes.{container_text, name_field, name_te
 ghost use Rattle.hfs_names.specs.PlainTexts.{plain_text};
 ghost use Rattle.hfs_texts.specs.Reading.{info_text};
 ghost use Rattle.hfs_texts.specs.Texts.{Gains};
-ghost use Rattle.hfs_take.specs.Faults.{image_name, volume_text};
+ghost use Rattle.hfs_take.specs.Facts.{image_name, volume_text};
 
+use hfs_bag::SourceFault;
 use hfs_commands::ShownPath;
 use hfs_containers::{Container, FoundRange};
 use hfs_names::push_plain_text;
@@ -58,7 +59,7 @@ fn push_name_field(text: &mut String, name: &Option<[u8; 28]>) -> Result<(), All
 }
 
 /// The line of a volume in its file: number, how it lies, first byte, bytes, and the plain text of its name, with spaces between.
-#[tactic(auto, unfolding(crate::specs::Faults::volume_text))]
+#[tactic(auto, unfolding(crate::specs::Facts::volume_text))]
 pub(crate) fn volume_text(
     alloc: Global,
     number: u64,
@@ -98,20 +99,22 @@ fn info_bytes(alloc: Global, head: &[u8; 1536]) -> Result<Vec<u8>, InfoFault>
     Ok(lines)
 }
 
-/// The lines of the master directory block in the first 1,536 bytes of a volume, and those of its check.
+/// The lines of the master directory block in the first 1,536 bytes of a volume, and those of its check behind them.
 pub(crate) fn report_text(
     alloc: Global,
     head: &[u8; 1536],
     check_lines: &str,
-) -> Result<String, InfoFault>
+) -> Result<String, SourceFault>
     ensures { IfOk result (λ text. string_bytes text ≡ info_text head.now ++ check_lines.now) }
 {
-    let mut lines = info_bytes(alloc, head)?;
+    let Ok(mut lines) = info_bytes(alloc, head) else {
+        return Err(SourceFault::Memory);
+    };
     let Ok(()) = lines.extend_from_slice(check_lines.as_bytes()) else {
-        return Err(InfoFault::Memory);
+        return Err(SourceFault::Memory);
     };
     match String::from_utf8(lines) {
         Ok(text) => Ok(text),
-        Err(_) => Err(InfoFault::Memory),
+        Err(_) => Err(SourceFault::Memory),
     }
 }

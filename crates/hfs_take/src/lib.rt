@@ -4,9 +4,16 @@
 mod digest;
 mod facts;
 mod fault;
+mod giving;
+mod image;
+mod opening;
 mod taking;
+mod words;
 
 pub use crate::digest::image_digest;
 pub use crate::fault::TakeFault;
-pub use crate::taking::{TakeWords, folder_path, take, taken_text};
+pub use crate::giving::give_image;
+pub use crate::image::TakenImage;
+pub use crate::taking::{folder_path, take, taken_text};
+pub use crate::words::TakeWords;
 pub use hfs_image_items::Watch;

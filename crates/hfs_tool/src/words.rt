@@ -239,7 +239,7 @@ const VOLUMES: &str = "How a volume lies in the file:
   partition  it is a partition of type Apple_HFS in a map with blocks of 512 or 2,048 bytes
 A disk copy or a partition without a volume is listed, too, with 'no volume' at the line's end.
 
-The words info, check, ls, items, page and cat take the N-th of them by --volume N; run and repair take no --volume.
+The words info, check, ls, items, page, cat and take read the N-th of them by --volume N; run and repair know no --volume.
 
 Not looked for: a map within a map or within a disk copy, Disk Copy 6 and other compressed forms, images with
 sectors of 2,352 bytes, MFS, and HFS Plus without a wrapper.";

@@ -1,5 +1,5 @@
--- the digest holds the bytes before the place
-use Rattle.std.proofs.Common.{◌≡◌, ◌-◌, ◌≤◌, length, take}
+-- the digest holds the bytes before the place, where the next block begins if there is one
+use Rattle.std.proofs.Common.{◌≡◌, ◌*◌, ◌-◌, ◌<◌, ◌≤◌, length, take}
 use Rattle.std.specs.Prelude.{IfSome}
 use Rattle.sha2.specs.Hashers.{Holds256}
 use Rattle.hfs_take.proofs.digest.add_all.Given as goal
@@ -7,9 +7,10 @@ use Rattle.hfs_take.proofs.digest.add_all.Given as goal
 abbrev pub invariant-loop-place : goal.invariant-loop-place
 invariant-loop-place g l = record {
   few : l.place ≤ l.len;
-  holds : IfSome (g.S.ReadAt.known l.fn.source) (λ image. Holds256 l.digest (take l.place image));
-  room : 1 ≤ length l.buffer;
-  known : g.S.ReadAt.known l.source ≡ g.S.ReadAt.known l.fn.source;
+  at : l.place < l.len → 512 * l.first ≡ l.place;
+  holds : IfSome l.fn.image.known (λ image. Holds256 l.digest (take l.place image));
+  room : length l.buffer ≡ 65536;
+  image : l.image ≡ l.fn.image;
 }
 
 abbrev pub decreases-loop-place : goal.decreases-loop-place

@@ -1,0 +1,76 @@
+-- Bags of images, and what they tell.
+use Rattle.std.proofs.Common.{◌≡◌, ℕ, true, List, [], ◌∷◌, ◌++◌, length, Option, Some, None, refl, sym, ap, subst, ◌∙◌}
+use Rattle.std.specs.Prelude.{codes}
+use Rattle.std.specs.Borrow.{Bor}
+use Rattle.std.specs.Fmt.{decimal}
+use Rattle.std.proofs.lemmas.Bool.{eq-eqb}
+use Rattle.hfs_bag.specs.declared.facts.BagFacts.{BagFacts}
+use Rattle.hfs_bag.specs.Bags.{bytes_in, files_in, manifest, payload}
+use Rattle.hfs_bag.specs.Items.{BagItem}
+use Rattle.hfs_bag.specs.Tags.{bag_of, declaration_file, image_digest_line, info_text, manifest_file, oxum_text, table_file, volume_line}
+use Rattle.hfs_shelves.specs.Entries.{ShelfEntry, file}
+use Rattle.hfs_texts.specs.Lines.{line}
+use Rattle.hfs_image_items.specs.declared.items.CameItem.{CameItem}
+use Rattle.hfs_image_items.specs.declared.reading.Reading.{Reading}
+use Rattle.hfs_image_items.specs.Items.{bag_items, entries_in, is_known_so, table_text}
+use Rattle.hfs_image_items.specs.Sources.{source_of}
+use Rattle.hfs_inventory.specs.Told.{ToldRow, told_rows}
+use Rattle.hfs_needed.specs.Known.{OfKnown}
+use Rattle.hfs_needed.specs.OpenedValues.{OpenedValue, opened_value}
+use Rattle.hfs_take.specs.declared.words.TakeWords.{TakeWords}
+use Rattle.hfs_take.specs.Bags.{OfBag, TellsOf, image_bag, text_in}
+
+-- ---- what tells the same makes the same bag
+
+line_told : Option (List ℕ) → List ℕ
+line_told None = []
+line_told (Some told) = line (codes "Source-Volume:") told
+
+volume-line-is : (volume : Option (Bor (List ℕ))) → volume_line volume ≡ line_told (text_in volume)
+volume-line-is None = refl
+volume-line-is (Some told) = refl
+
+info-same : (f g : BagFacts) → f.identifier.now ≡ g.identifier.now → f.program.now ≡ g.program.now → f.image.now ≡ g.image.now → volume_line f.volume ≡ volume_line g.volume
+    → f.bytes ≡ g.bytes → f.digest ≡ g.digest → (bytes files : ℕ) → info_text f bytes files ≡ info_text g bytes files
+unfolding info_text
+info-same f g identifier program image volume len digest bytes files = λ i. line (codes "External-Identifier:") (identifier i)
+    ++ line (codes "Bag-Software-Agent:") (program i)
+    ++ line (codes "Source-Image:") (image i)
+    ++ volume i
+    ++ line (codes "Source-Bytes:") (decimal (len i))
+    ++ image_digest_line (digest i)
+    ++ line (codes "Payload-Oxum:") (oxum_text bytes files)
+
+-- a bag by the texts of its report and of its facts
+bag-with : List BagItem → List ℕ → List ℕ → List ℕ → List ShelfEntry
+bag-with items table report info = payload items ++
+    (manifest_file items ∷ table_file table ∷ file (codes "volume.txt") report ∷ file (codes "bag-info.txt") info ∷ declaration_file
+    ∷ file (codes "tagmanifest-sha256.txt")
+    (manifest (declaration_file ∷ file (codes "bag-info.txt") info ∷ table_file table ∷ file (codes "volume.txt") report ∷ manifest_file items ∷ [])) ∷ [])
+
+bag-same : (image : List ℕ) (line : Option (List ℕ)) (words : TakeWords) (f g : BagFacts) → TellsOf image line words f → TellsOf image line words g
+    → image_bag image f ≡ image_bag image g
+bag-same image told words f g a b =
+    let items = bag_items (entries_in image) in
+    let volume : volume_line f.volume ≡ volume_line g.volume = volume-line-is f.volume ∙ ap line_told (a.volume_is ∙ sym b.volume_is) ∙ sym (volume-line-is g.volume) in
+    let info = info-same f g (a.identifier_is ∙ sym b.identifier_is) (a.program_is ∙ sym b.program_is) (a.image_is ∙ sym b.image_is) volume
+    (a.bytes_are ∙ sym b.bytes_are) (a.digest_is ∙ sym b.digest_is) (bytes_in (payload items)) (files_in (payload items)) in
+    λ i. bag-with items (table_text (told_rows (entries_in image))) ((a.report_is ∙ sym b.report_is) i) (info i)
+
+-- ---- images whose bytes may be known
+
+-- what was given where they are known was given of the image's bag
+of-known : (known : Option (List ℕ)) (len : ℕ) (line : Option (List ℕ)) (words : TakeWords) (facts : BagFacts) (left : List ToldRow) (came : CameItem) (reading : Reading)
+    (P : List ShelfEntry → Type 0) → OfKnown known len (λ image. TellsOf image line words facts)
+    → (is_known_so known len ≡ true
+    → P (bag_of (source_of (opened_value known len) left came reading).all (source_of (opened_value known len) left came reading).table facts))
+    → OfBag (opened_value known len) line words P
+of-known None len line words facts left came reading P tells given = tt
+of-known (Some image) len line words facts left came reading P tells given =
+    λ same other told. subst P (bag-same image line words facts other (tells same) told) (given (eq-eqb (length image) len same))
+
+-- nothing was given yet
+none-known : (known : Option (List ℕ)) (len : ℕ) (line : Option (List ℕ)) (words : TakeWords) (P : List ShelfEntry → Type 0)
+    → ((bag : List ShelfEntry) → P bag) → OfBag (opened_value known len) line words P
+none-known None len line words P all = tt
+none-known (Some image) len line words P all = λ same facts told. all (image_bag image facts)

@@ -1,0 +1,124 @@
+//! The bag of an image, given to any shelf.
+ghost use Rattle.std.specs.Prelude.{◌≡◌, ◌++◌, IfOk, OnErr, OnOk, string_bytes};
+ghost use Rattle.std.specs.Option.{option_map};
+ghost use Rattle.hfs_bag.specs.Sums.{IsSumOf};
+ghost use Rattle.hfs_image_items.specs.Items.{bag_items, entries_in};
+ghost use Rattle.hfs_needed.specs.Known.{OfKnown};
+ghost use Rattle.hfs_shelves.specs.Entries.{IsBeginning};
+ghost use Rattle.hfs_sparse.specs.Sparse.{HoldsFrom};
+ghost use Rattle.hfs_take.specs.Bags.{IsDigestTold, IsReportText, OfBag, text_in};
+ghost use Rattle.hfs_take.specs.Facts.{image_name};
+
+use crate::digest::image_digest;
+use crate::facts::{image_name, plain_name, report_text};
+use crate::image::TakenImage;
+use crate::words::TakeWords;
+use hfs_bag::{BagFacts, BagFault, BagSums, SourceFault, give_bag};
+use hfs_check::Report;
+use hfs_commands::report_answer;
+use hfs_image_items::{ImageItems, Watch};
+use hfs_needed::OpenedImage;
+use hfs_shelves::Shelf;
+use hfs_sparse::BlockSource;
+use std::alloc::Global;
+
+/// The digest of an image's bytes, where it is to be told.
+fn digest_of<S: BlockSource + Drop>(
+    alloc: Global,
+    image: &mut OpenedImage<S>,
+    len: u64,
+    is_digested: bool,
+) -> Result<Option<[u8; 32]>, SourceFault>
+    ensures digest { IfOk result (IsDigestTold image.old.known len is_digested) }
+    ensures image { image.new ≡ image.old }
+{
+    if !is_digested {
+        return Ok(None);
+    }
+    let digest = image_digest(alloc, image, len)?;
+    Ok(Some(digest))
+}
+
+/// The first 1,536 bytes of an image.
+fn head_of<S: BlockSource + Drop>(image: &mut OpenedImage<S>) -> Result<[u8; 1536], SourceFault>
+    ensures head { IfOk result (HoldsFrom image.old.known 0) }
+    ensures image { image.new ≡ image.old }
+{
+    let mut head = [0; 1536];
+    match image.read_blocks(0, &mut head) {
+        Ok(()) => Ok(head),
+        Err(_) => Err(SourceFault::ReadFailed),
+    }
+}
+
+/// The lines of `info` and of `check` of an image with this report.
+fn report_of<S: BlockSource + Drop>(
+    alloc: Global,
+    image: &mut OpenedImage<S>,
+    len: u64,
+    report: &Report,
+) -> Result<String, SourceFault>
+    requires { IsReportOf image.old.known len report.now }
+    ensures text { IfOk result (λ text. IsReportText image.old.known len (string_bytes text)) }
+    ensures image { image.new ≡ image.old }
+{
+    let head = head_of(image)?;
+    let Ok(answer) = report_answer(alloc, report) else {
+        return Err(SourceFault::Memory);
+    };
+    report_text(alloc, &head, answer.lines.as_str())
+}
+
+/// How many items an image with this report has, without the root.
+fn item_count(report: &Report) -> u64 {
+    u64::from(report.files) + u64::from(report.folders)
+}
+
+/// A text, where there is one.
+fn text_in(text: &Option<String>) -> Option<&str>
+    ensures { text_in result ≡ option_map string_bytes text.now }
+{
+    match text {
+        Some(text) => Some(text.as_str()),
+        None => None,
+    }
+}
+
+/// Gives a shelf the bag of an image: the items of its volume, and what these words tell of it. At a fault what was given is a beginning of
+/// it. All this where the image's bytes are known; a file's are not. Faults: reading the image, the shelf's, memory was refused; `TooLarge`.
+pub fn give_image<S: BlockSource + Drop, T: Shelf, W: Watch>(
+    alloc: Global,
+    shelf: &mut T,
+    image: TakenImage<S>,
+    words: &TakeWords<'_>,
+    watch: &W,
+) -> Result<BagSums, BagFault>
+    ensures whole { OnOk result (OfBag image.opened (option_map string_bytes image.volume) words.now
+        (λ bag. T.given shelf.new ≡ T.given shelf.old ++ bag)) }
+    ensures part { OnErr result (OfBag image.opened (option_map string_bytes image.volume) words.now
+        (λ bag. IsBeginning (T.given shelf.new) (T.given shelf.old ++ bag))) }
+    ensures sums { IfOk result (λ sums. OfKnown image.opened.known image.opened.len
+        (λ bytes. IsSumOf sums (bag_items (entries_in bytes)))) }
+{
+    let TakenImage {
+        mut opened,
+        len,
+        report,
+        volume,
+    } = image;
+    let lines = report_of(alloc, &mut opened, len, &report)?;
+    let digest = digest_of(alloc, &mut opened, len, words.is_digested)?;
+    let mut items = ImageItems::new(alloc, opened, item_count(&report), watch)?;
+    let identifier = plain_name(alloc, items.root.name.bytes())?;
+    let name = image_name(alloc, words.image)?;
+    let facts = BagFacts {
+        identifier: identifier.as_str(),
+        program: words.program,
+        image: name.as_str(),
+        volume: text_in(&volume),
+        bytes: len,
+        digest,
+        report: lines.as_str(),
+    };
+    give_bag(alloc, shelf, &mut items, &facts)
+}
