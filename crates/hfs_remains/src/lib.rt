@@ -3,15 +3,16 @@
 
 mod chains;
 mod codes;
+mod findings;
 mod forks;
 mod owners;
 mod records;
+mod salvage;
 mod takes;
-mod verdicts;
 
 pub use chains::Chains;
-pub use forks::{Fork, missing_in};
-pub use owners::Owners;
-pub use records::{namings, thing_of, things_of};
-pub use takes::{Taken, takes_of};
-pub use verdicts::{Look, Verdict};
+pub use findings::FoundFork;
+pub use forks::Fork;
+pub use records::{namings, things_of};
+pub use salvage::{Salvage, Trees, usual_limit};
+pub use takes::Taken;
