@@ -1,11 +1,15 @@
 //! What is found of a fork.
-ghost use Rattle.std.specs.Prelude.{◌≡◌, ◌≤◌, length, IfOk};
+ghost use Rattle.std.specs.Prelude.{◌≡◌, ◌≤◌, length, nat_lt, if◌then◌else◌, None, Some, IfOk};
+ghost use Rattle.hfs_rescue.specs.TreeFiles.{FileBlocks};
+ghost use Rattle.hfs_verdicts.specs.declared.verdict.Verdict.TheVariants.{Taken};
+ghost use Rattle.hfs_remains.specs.Forks.{fork_length, fork_places};
 ghost use Rattle.hfs_remains.specs.Owners.{CountOwners};
 ghost use Rattle.hfs_remains.specs.Verdicts as spec;
 
 use crate::chains::Chains;
 use crate::forks::{Fork, missing_in};
 use crate::owners::has_shared;
+use crate::shares::Share;
 use hfs_fields::Mdb;
 use hfs_verdicts::{Finding, Verdict};
 use std::alloc::{AllocError, Global};
@@ -21,16 +25,14 @@ pub struct FoundFork {
     pub verdict: Verdict,
 }
 
-/// A fork that is left.
-fn left_fork(alloc: Global) -> FoundFork {
-    FoundFork {
-        length: 0,
-        places: Vec::new(alloc),
-        verdict: Verdict::Left,
-    }
+/// How long a fork is that wants more bytes; None where it has as many as it wants.
+fn cut_of(wanted: u32, length: u32) -> Option<u32>
+    ensures { result ≡ if nat_lt length wanted then Some length else None }
+{
+    if length < wanted { Some(length) } else { None }
 }
 
-/// A fork that is taken, of a volume of `total` logical blocks, by how many own each allocation block.
+/// A fork that is taken, of a volume of `total` logical blocks, by the numbers of the owners of each allocation block.
 fn taken_fork(
     alloc: Global,
     total: u32,
@@ -40,12 +42,19 @@ fn taken_fork(
     fork: &Fork,
 ) -> Result<FoundFork, AllocError>
     requires size { 512 ≤ mdb.now.allocation_block_size }
-    requires owners { length owners.now ≡ mdb.now.allocation_blocks }
+    requires all { length owners.now ≡ mdb.now.allocation_blocks }
+    ensures length { IfOk result (λ found. found.length ≡ fork_length chains.now mdb.now
+        fork.now) }
+    ensures places { IfOk result (λ found. found.places.items ≡ fork_places total chains.now mdb.now
+        fork.now) }
+    ensures verdict { (used : FileBlocks) → CountOwners used owners.now → IfOk result
+        (λ found. found.verdict ≡ Taken (spec.finding_of total chains.now mdb.now used
+        fork.now)) }
 {
     let length = fork.length(chains, mdb);
     let places = fork.places(alloc, total, chains, mdb)?;
     let finding = Finding {
-        cut: if length < fork.len { Some(length) } else { None },
+        cut: cut_of(fork.len, length),
         missing: missing_in(mdb, &places, length),
         shared: has_shared(owners, &places),
     };
@@ -56,22 +65,26 @@ fn taken_fork(
     })
 }
 
-/// What is found of a fork.
+/// What is found of a fork, of a volume of `total` logical blocks, by the numbers of the owners of each allocation block.
 pub(crate) fn find_fork(
     alloc: Global,
     total: u32,
     mdb: &Mdb,
     chains: &Chains<'_>,
     owners: &[u8],
-    fork: &Fork,
-    taken: bool,
+    share: &Share,
 ) -> Result<FoundFork, AllocError>
     requires size { 512 ≤ mdb.now.allocation_block_size }
-    requires owners { length owners.now ≡ mdb.now.allocation_blocks }
+    requires all { length owners.now ≡ mdb.now.allocation_blocks }
+    ensures { (used : FileBlocks) → CountOwners used owners.now → IfOk result (spec.IsFound total
+        chains.now mdb.now used share.now) }
 {
-    if taken {
-        taken_fork(alloc, total, mdb, chains, owners, fork)
-    } else {
-        Ok(left_fork(alloc))
+    if share.taken {
+        return taken_fork(alloc, total, mdb, chains, owners, &share.fork);
     }
+    Ok(FoundFork {
+        length: 0,
+        places: Vec::new(alloc),
+        verdict: Verdict::Left,
+    })
 }

@@ -8,11 +8,13 @@ mod forks;
 mod owners;
 mod records;
 mod salvage;
-mod takes;
+mod shares;
+mod trees;
 
 pub use chains::Chains;
 pub use findings::FoundFork;
 pub use forks::Fork;
 pub use records::{namings, things_of};
-pub use salvage::{Salvage, Trees, usual_limit};
-pub use takes::Taken;
+pub use salvage::{Salvage, usual_limit};
+pub use shares::{FileShares, Share};
+pub use trees::Trees;

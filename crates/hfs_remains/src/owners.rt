@@ -1,5 +1,5 @@
 //! How many own each allocation block, by a byte for each.
-ghost use Rattle.std.specs.Prelude.{◌≡◌, [], ◌∷◌, ◌++◌, length, IfOk, IfSome};
+ghost use Rattle.std.specs.Prelude.{◌≡◌, ◌+◌, ◌<◌, [], ◌∷◌, length, min, IfOk, IfSome};
 ghost use Rattle.std.specs.List.{list_any};
 ghost use Rattle.hfs_remains.specs.Owners as spec;
 
@@ -13,16 +13,21 @@ pub(crate) fn no_owners(alloc: Global, blocks: u16) -> Result<Vec<u8>, AllocErro
     vec![in alloc; 0u8; usize::from(blocks)]
 }
 
+/// One more, but two at most.
+fn one_more(count: u8) -> u8
+    ensures { result ≡ min 2 (count + 1) }
+{
+    if count < 2 { count + 1 } else { 2 }
+}
+
 /// One owner more of a block, where it is there.
 fn add_owner(counts: &mut [u8], place: Option<u16>)
-    requires { spec.IsWithin (length counts.old) place }
-    ensures { spec.AddsOwner place counts.old counts.new }
+    requires { IfSome place (λ b. b < length counts.old) }
+    ensures { spec.AddsOwners (place ∷ []) counts.old counts.new }
 {
     if let Some(b) = place {
-        let count = &mut counts[usize::from(b)];
-        if *count < 2 {
-            *count += 1;
-        }
+        let i = usize::from(b);
+        counts[i] = one_more(counts[i]);
     }
 }
 
@@ -38,7 +43,7 @@ pub(crate) fn add_owners(counts: &mut [u8], places: &[Option<u16>])
 
 /// Whether a block is there and has two owners or more.
 fn is_shared(counts: &[u8], place: Option<u16>) -> bool
-    requires { spec.IsWithin (length counts.now) place }
+    requires { IfSome place (λ b. b < length counts.now) }
     ensures { result ≡ spec.is_counted_shared counts.now place }
 {
     match place {

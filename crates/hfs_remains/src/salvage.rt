@@ -1,89 +1,103 @@
 //! The forks of the items of a damaged volume, what is taken of them, and what is said of each.
-ghost use Rattle.std.specs.Prelude.{◌≡◌, ◌≤◌, ◌<◌, length, IfOk};
+ghost use Rattle.std.specs.Prelude.{◌≡◌, ◌*◌, ◌≤◌, ◌<◌, length, IfOk, OnOk};
 ghost use Rattle.hfs_rescue.specs.TreeFiles.{AreThere};
+ghost use Rattle.hfs_remains.specs.Owners.{AddsOwners, CountOwners};
 ghost use Rattle.hfs_remains.specs.Verdicts as spec;
 
 use crate::chains::Chains;
 use crate::findings::{FoundFork, find_fork};
-use crate::forks::{Fork, blocks_for};
+use crate::forks::blocks_for;
 use crate::owners::{add_owners, no_owners};
-use crate::takes::{Taken, takes_of};
+use crate::shares::{FileShares, Share, shares_of};
+use crate::trees::Trees;
 use hfs_fields::Mdb;
-use hfs_rescue::{FoundRecord, OverflowRecord};
+use hfs_rescue::FoundRecord;
 use hfs_space::ForkKind;
 use hfs_verdicts::Verdict;
 use std::alloc::{AllocError, Global};
+use std::marker::Model;
 
 /// How many bytes are taken at most where nothing else is asked for: four times those of the image.
-pub fn usual_limit(image_len: u32) -> u64 {
+pub fn usual_limit(image_len: u32) -> u64
+    ensures { result ≡ 4 * image_len }
+{
     4 * u64::from(image_len)
 }
 
-/// What is found of a volume's trees.
-#[derive(Clone, Copy)]
-pub struct Trees<'a> {
-    /// How many logical blocks the image has.
-    pub total: u32,
-    /// The directory.
-    pub mdb: &'a Mdb,
-    /// The records of the extents tree.
-    pub overflow: &'a [OverflowRecord],
-    /// The allocation blocks of the extents file in order, None in the place of each that is missing.
-    pub extents_file: &'a [Option<u16>],
-    /// Those of the catalog file.
-    pub catalog_file: &'a [Option<u16>],
-    ghost size: { 512 ≤ mdb.now.allocation_block_size },
-    ghost extents_there: { AreThere total mdb.now extents_file.now },
-    ghost catalog_there: { AreThere total mdb.now catalog_file.now },
-}
-
-/// The forks of the items of a damaged volume, and what is taken of them.
-#[derive(Drop)]
-pub struct Salvage<'a> {
-    total: u32,
-    mdb: &'a Mdb,
-    chains: Chains<'a>,
-    items: &'a [FoundRecord],
-    takes: Vec<Taken>,
-    /// How many own each block, by the items that aren't old, and by all.
-    young: Vec<u8>,
-    all: Vec<u8>,
-}
-
-/// Adds the owners of a fork's blocks.
-fn own_fork(
+/// Adds the owners of a fork's blocks, where it is taken.
+fn own_share(
     alloc: Global,
-    trees: &Trees<'_>,
+    total: u32,
+    mdb: &Mdb,
     chains: &Chains<'_>,
     owners: &mut [u8],
-    fork: &Fork,
-    taken: bool,
-) -> Result<(), AllocError> {
-    if taken {
-        let places = fork.places(alloc, trees.total, chains, trees.mdb)?;
+    share: &Share,
+) -> Result<(), AllocError>
+    requires size { 512 ≤ mdb.now.allocation_block_size }
+    requires all { length owners.old ≡ mdb.now.allocation_blocks }
+    ensures { OnOk result (AddsOwners (spec.share_used total chains.now mdb.now share.now)
+        owners.old owners.new) }
+{
+    if share.taken {
+        let places = share.fork.places(alloc, total, chains, mdb)?;
         add_owners(owners, &places);
     }
     Ok(())
 }
 
-/// Adds the owners of the blocks of an item's forks.
+/// Adds the owners of the blocks of an item's forks that are taken; of an old item only where all are asked for.
 fn own_item(
     alloc: Global,
-    trees: &Trees<'_>,
+    total: u32,
+    mdb: &Mdb,
     chains: &Chains<'_>,
     owners: &mut [u8],
-    item: &FoundRecord,
-    taken: &Taken,
-) -> Result<(), AllocError> {
-    if let Some((data, resource)) = Fork::both(item.entry.body()) {
-        own_fork(alloc, trees, chains, owners, &data, taken.data)?;
-        own_fork(alloc, trees, chains, owners, &resource, taken.resource)?;
+    young: bool,
+    item: &Option<FileShares>,
+) -> Result<(), AllocError>
+    requires size { 512 ≤ mdb.now.allocation_block_size }
+    requires all { length owners.old ≡ mdb.now.allocation_blocks }
+    ensures { OnOk result (AddsOwners (spec.item_used total chains.now mdb.now young item.now)
+        owners.old owners.new) }
+{
+    let Some(file) = item else {
+        return Ok(());
+    };
+    if young && file.old {
+        return Ok(());
+    }
+    own_share(alloc, total, mdb, chains, owners, &file.data)?;
+    own_share(alloc, total, mdb, chains, owners, &file.resource)
+}
+
+/// Adds the owners of the blocks of items' forks that are taken, of old items only where all are asked for.
+fn own_items(
+    alloc: Global,
+    total: u32,
+    mdb: &Mdb,
+    chains: &Chains<'_>,
+    owners: &mut [u8],
+    young: bool,
+    shares: &[Option<FileShares>],
+) -> Result<(), AllocError>
+    requires size { 512 ≤ mdb.now.allocation_block_size }
+    requires all { length owners.old ≡ mdb.now.allocation_blocks }
+    ensures { OnOk result (AddsOwners (spec.items_used total chains.now mdb.now young shares.now)
+        owners.old owners.new) }
+{
+    for item in shares {
+        own_item(alloc, total, mdb, chains, owners, young, item)?;
     }
     Ok(())
 }
 
 /// Adds the owners of the blocks of a tree's file, as far as its size goes.
-fn own_tree(mdb: &Mdb, owners: &mut [u8], file: &[Option<u16>], size: u32) {
+fn own_tree(total: u32, mdb: &Mdb, owners: &mut [u8], file: &[Option<u16>], size: u32)
+    requires size { 512 ≤ mdb.now.allocation_block_size }
+    requires all { length owners.old ≡ mdb.now.allocation_blocks }
+    requires there { AreThere total mdb.now file.now }
+    ensures { AddsOwners (spec.tree_used mdb.now file.now size) owners.old owners.new }
+{
     let count = (blocks_for(mdb, size) as usize).min(file.len());
     add_owners(owners, &file[..count]);
 }
@@ -93,83 +107,140 @@ fn owners_of(
     alloc: Global,
     trees: &Trees<'_>,
     chains: &Chains<'_>,
-    items: &[FoundRecord],
-    takes: &[Taken],
+    shares: &[Option<FileShares>],
     young: bool,
 ) -> Result<Vec<u8>, AllocError>
-    requires { length takes.now ≡ length items.now }
+    requires { chains.now ≡ trees.now.overflow.now }
+    ensures owners { IfOk result (λ owners. CountOwners (spec.all_used trees.now young shares.now)
+        owners.items) }
+    ensures all { IfOk result (λ owners. length owners.items
+        ≡ trees.now.mdb.now.allocation_blocks) }
 {
     let mdb = trees.mdb;
     let mut owners = no_owners(alloc, mdb.allocation_blocks)?;
-    own_tree(mdb, &mut owners, trees.extents_file, mdb.extents_file_size);
-    own_tree(mdb, &mut owners, trees.catalog_file, mdb.catalog_file_size);
-    for i in 0..items.len() {
-        if !(young && items[i].old) {
-            own_item(alloc, trees, chains, &mut owners, &items[i], &takes[i])?;
-        }
-    }
+    own_tree(
+        trees.total,
+        mdb,
+        &mut owners,
+        trees.extents_file,
+        mdb.extents_file_size,
+    );
+    own_tree(
+        trees.total,
+        mdb,
+        &mut owners,
+        trees.catalog_file,
+        mdb.catalog_file_size,
+    );
+    own_items(alloc, trees.total, mdb, chains, &mut owners, young, shares)?;
     Ok(owners)
+}
+
+/// The forks of the items of a damaged volume, and what is taken of them. Contracts see the trees and what is taken.
+#[derive(Drop)]
+pub struct Salvage<'a> {
+    trees: Trees<'a>,
+    chains: Chains<'a>,
+    shares: Vec<Option<FileShares>>,
+    /// How many own each block, by the items that aren't old.
+    young: Vec<u8>,
+    /// The same by all items.
+    all: Vec<u8>,
+}
+
+impl<'a> Model for Salvage<'a> {
+    ghost use Rattle.hfs_remains.specs.Verdicts.{Salvaged, IsKept};
+
+    ghost Value = { Salvaged };
+
+    ghost view = { λ s. record { trees = s.trees; shares = s.shares.items } };
+
+    ghost invariant = { λ s. IsKept s.trees s.chains s.shares.items s.young.items s.all.items };
 }
 
 impl<'a> Salvage<'a> {
     /// The forks of items, of which so many bytes are taken at most. The only error is want of memory.
     pub fn of(
         alloc: Global,
-        trees: &Trees<'a>,
-        items: &'a [FoundRecord],
+        trees: Trees<'a>,
+        items: &[FoundRecord],
         limit: u64,
-    ) -> Result<Salvage<'a>, AllocError> {
-        let mdb = trees.mdb;
+    ) -> Result<Salvage<'a>, AllocError>
+        ensures trees { IfOk result (λ made. made.trees ≡ trees) }
+        ensures shares { IfOk result (λ made. made.shares ≡ spec.shares_of trees.overflow.now
+            trees.mdb.now limit items.now) }
+    {
         let chains = Chains::of(alloc, trees.overflow)?;
-        let takes = takes_of(alloc, &chains, mdb, limit, items)?;
-        let young = owners_of(alloc, trees, &chains, items, &takes, true)?;
-        let all = owners_of(alloc, trees, &chains, items, &takes, false)?;
+        let shares = shares_of(alloc, &chains, trees.mdb, limit, items)?;
+        let young = owners_of(alloc, &trees, &chains, &shares, true)?;
+        let all = owners_of(alloc, &trees, &chains, &shares, false)?;
         Ok(Salvage {
-            total: trees.total,
-            mdb,
+            trees,
             chains,
-            items,
-            takes,
+            shares,
             young,
             all,
         })
     }
 
-    /// A fork of item `i`, counted from 0; None where that is a folder. The only error is want of memory.
+    /// How many items there are.
+    pub fn len(&self) -> usize
+        ensures { result ≡ length self.now.shares }
+    {
+        self.shares.len()
+    }
+
+    /// What is found of a fork of a file.
+    fn found(
+        &self,
+        alloc: Global,
+        file: &FileShares,
+        kind: ForkKind,
+    ) -> Result<FoundFork, AllocError>
+        ensures { IfOk result (λ found. spec.IsForkOf self.now kind found file.now) }
+    {
+        let trees = &self.trees;
+        let share = match kind {
+            ForkKind::Data => &file.data,
+            ForkKind::Resource => &file.resource,
+        };
+        let owners = if file.old { &self.all } else { &self.young };
+        find_fork(alloc, trees.total, trees.mdb, &self.chains, owners, share)
+    }
+
+    /// A fork of item `i`, counted from 0: how many of its bytes are taken, the blocks that hold them, and what is said of it. None
+    /// where the item is a folder. The only error is want of memory.
     pub fn fork(
         &self,
         alloc: Global,
         i: usize,
         kind: ForkKind,
     ) -> Result<Option<FoundFork>, AllocError>
+        requires { i < length self.now.shares }
+        ensures { IfOk result (spec.FindsFork self.now i kind) }
     {
-        let item = &self.items[i];
-        let Some((data, resource)) = Fork::both(item.entry.body()) else {
+        let Some(file) = &self.shares[i] else {
             return Ok(None);
         };
-        let owners = if item.old { &self.all } else { &self.young };
-        let (fork, taken) = match kind {
-            ForkKind::Data => (data, self.takes[i].data),
-            ForkKind::Resource => (resource, self.takes[i].resource),
-        };
-        let (total, mdb) = (self.total, self.mdb);
-        let found = find_fork(alloc, total, mdb, &self.chains, owners, &fork, taken)?;
+        let found = self.found(alloc, file, kind)?;
         Ok(Some(found))
     }
 
-    /// What is said of the two forks of item `i`, data before resources; None where that is a folder. The only error is want of
+    /// What is said of the two forks of item `i`, data before resources; None where it is a folder. The only error is want of
     /// memory.
     pub fn verdicts(
         &self,
         alloc: Global,
         i: usize,
-    ) -> Result<Option<(Verdict, Verdict)>, AllocError> {
-        let Some(data) = self.fork(alloc, i, ForkKind::Data)? else {
+    ) -> Result<Option<(Verdict, Verdict)>, AllocError>
+        requires { i < length self.now.shares }
+        ensures { IfOk result (λ verdicts. verdicts ≡ spec.verdicts_at self.now i) }
+    {
+        let Some(file) = &self.shares[i] else {
             return Ok(None);
         };
-        let Some(resource) = self.fork(alloc, i, ForkKind::Resource)? else {
-            return Ok(None);
-        };
+        let data = self.found(alloc, file, ForkKind::Data)?;
+        let resource = self.found(alloc, file, ForkKind::Resource)?;
         Ok(Some((data.verdict, resource.verdict)))
     }
 }

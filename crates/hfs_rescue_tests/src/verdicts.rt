@@ -33,8 +33,8 @@ fn lines(alloc: Global, image: &[u8], limit: Option<u64>) -> Result<String, Fail
         Some(limit) => limit,
         None => usual_limit(image.len() as u32),
     };
-    let salvage = Salvage::of(alloc, &trees, &items, limit)?;
-    for i in 0..items.len() {
+    let salvage = Salvage::of(alloc, trees, &items, limit)?;
+    for i in 0..salvage.len() {
         push_row(alloc, &mut text, "x", i, 0, &salvage.verdicts(alloc, i)?)?;
     }
     Ok(text)
@@ -54,6 +54,13 @@ fn cut_forks(rt: HostRuntime) -> Result<(), Fail> {
     let mut image = small_image(alloc, SmallVolume::OneFile)?;
     assert!(rt; tells(alloc, &image, None, WHOLE)?);
     wipe(&mut image, 4, 7)?;
-    assert!(rt; tells(alloc, &image, None, "x\t0\t0\t-\t-\nx\t1\t0\tcut 1536\twhole\n")?);
+    assert!(rt;
+        tells(
+            alloc,
+            &image,
+            None,
+            "x\t0\t0\t-\t-\nx\t1\t0\tcut 1536\twhole\n"
+        )?
+    );
     Ok(())
 }
