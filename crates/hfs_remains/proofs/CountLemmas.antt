@@ -117,14 +117,14 @@ module _ (records : Overflow) (file fork wanted : ℕ) where
   more most before block i wants r is some =
       let own : number_at (owns_of records) i ≡ own_blocks r = own-at records i is.within ∙ ap own_blocks (sym is.stands) in
       let next : place_at (nexts_of records) i ≡ record_place records file fork (block + own_blocks r) =
-          next-at records i is.within ∙ ap (next_place records) (sym is.stands)
-          ∙ ap (λ (b : Bool). if b then None else record_place records r.0.file r.0.fork (r.0.block + own_blocks r)) (ne_eqb (own_blocks r) 0 some)
-          ∙ (λ t. record_place records (is.file_is t) (is.fork_is t) (is.block_is t + own_blocks r)) in
+      next-at records i is.within ∙ ap (next_place records) (sym is.stands)
+      ∙ ap (λ (b : Bool). if b then None else record_place records r.0.file r.0.fork (r.0.block + own_blocks r)) (ne_eqb (own_blocks r) 0 some)
+      ∙ (λ t. record_place records (is.file_is t) (is.fork_is t) (is.block_is t + own_blocks r)) in
       let sum : blocks_in (owns_of records) (nexts_of records) (suc most) i ≡ own_blocks r + summed_from most (block + own_blocks r) =
-          blocks_in-suc (owns_of records) (nexts_of records) most i ∙ (λ t. own t + option_map_or (blocks_in (owns_of records) (nexts_of records) most) (next t) 0) in
+      blocks_in-suc (owns_of records) (nexts_of records) most i ∙ (λ t. own t + option_map_or (blocks_in (owns_of records) (nexts_of records) most) (next t) 0) in
       let left : block_total (further records file fork wanted (suc most) block) ≡ own_blocks r + block_total (further records file fork wanted most (block + own_blocks r)) =
-          ap block_total (further-more records file fork wanted most block r wants is.found some)
-          ∙ sum_by-append (λ (e : Extent). e.count) (record_extents r.1) (further records file fork wanted most (block + own_blocks r)) in
+      ap block_total (further-more records file fork wanted most block r wants is.found some)
+      ∙ sum_by-append (λ (e : Extent). e.count) (record_extents r.1) (further records file fork wanted most (block + own_blocks r)) in
       ap (at_most wanted) (omega (arith, left))
       ∙ before (block + own_blocks r)
       ∙ ap (at_most wanted) (omega (arith, sum))
@@ -134,10 +134,10 @@ module _ (records : Overflow) (file fork wanted : ℕ) where
   empty most block i wants r is none =
       let own : number_at (owns_of records) i ≡ 0 = own-at records i is.within ∙ ap own_blocks (sym is.stands) ∙ none in
       let next : place_at (nexts_of records) i ≡ None =
-          next-at records i is.within ∙ ap (next_place records) (sym is.stands)
-          ∙ ap (λ (b : Bool). if b then None else record_place records r.0.file r.0.fork (r.0.block + own_blocks r)) (eq-eqb (own_blocks r) 0 none) in
+      next-at records i is.within ∙ ap (next_place records) (sym is.stands)
+      ∙ ap (λ (b : Bool). if b then None else record_place records r.0.file r.0.fork (r.0.block + own_blocks r)) (eq-eqb (own_blocks r) 0 none) in
       let sum : blocks_in (owns_of records) (nexts_of records) (suc most) i ≡ 0 =
-          blocks_in-suc (owns_of records) (nexts_of records) most i ∙ (λ t. own t + option_map_or (blocks_in (owns_of records) (nexts_of records) most) (next t) 0) in
+      blocks_in-suc (owns_of records) (nexts_of records) most i ∙ (λ t. own t + option_map_or (blocks_in (owns_of records) (nexts_of records) most) (next t) 0) in
       ap (λ (n : ℕ). at_most wanted (block + n)) (ap block_total (further-empty records file fork wanted most block r wants is.found none) ∙ sym sum)
 
   by-place : (most : ℕ) → Counted most → (block : ℕ) → block < wanted → (o : Option ℕ) → record_place records file fork block ≡ o

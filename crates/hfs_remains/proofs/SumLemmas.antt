@@ -57,8 +57,8 @@ made-at sums jumps made is all i =
           let own : number_at sums i ≡ 0 = get_or_past sums i 0 ge in
           let none : option_map_or (number_at sums) (place_at jumps i) 0 ≡ 0 = ap (λ (o : Option ℕ). option_map_or (number_at sums) o 0) (get_or_past jumps i None (omega (arith, all, ge))) in
           let past : number_at made i ≡ 0 =
-              ap (λ (l : List ℕ). number_at l i) is
-              ∙ get_or_past (map (summed sums jumps) (range_with_len 0 (length sums))) i 0 (omega (arith, ge, length-map-range_with_len (summed sums jumps) 0 (length sums))) in
+          ap (λ (l : List ℕ). number_at l i) is
+          ∙ get_or_past (map (summed sums jumps) (range_with_len 0 (length sums))) i 0 (omega (arith, ge, length-map-range_with_len (summed sums jumps) 0 (length sums))) in
           omega (arith, past, own, none)
     ]
 

@@ -93,7 +93,13 @@ fn next_place(
         return None;
     }
     let key = record.key();
-    record_place(places, records, key.file, key.fork, u32::from(key.block) + own)
+    record_place(
+        places,
+        records,
+        key.file,
+        key.fork,
+        u32::from(key.block) + own,
+    )
 }
 
 /// For each record the place of the next.
@@ -149,11 +155,7 @@ fn summed(sums: &[u64], jumps: &[Option<usize>], i: usize) -> u64
 }
 
 /// For each place its number and that at the place to which it leads together.
-fn all_summed(
-    alloc: Global,
-    sums: &[u64],
-    jumps: &[Option<usize>],
-) -> Result<Vec<u64>, AllocError>
+fn all_summed(alloc: Global, sums: &[u64], jumps: &[Option<usize>]) -> Result<Vec<u64>, AllocError>
     requires { spec.AreBelow (2 ^ 62) sums.now }
     ensures { IfOk result (λ made. made.items ≡ map (spec.summed sums.now jumps.now)
         (range_with_len 0 (length sums.now))) }
@@ -233,13 +235,7 @@ impl<'a> Chains<'a> {
     }
 
     /// How many blocks a fork has, as many as it wants at most, where its record has these first extents. No chain is walked.
-    pub fn block_count(
-        &self,
-        file: u32,
-        fork: u8,
-        wanted: u32,
-        first: &[Extent; 3],
-    ) -> u32
+    pub fn block_count(&self, file: u32, fork: u8, wanted: u32, first: &[Extent; 3]) -> u32
         ensures { result ≡ spec.at_most wanted (space.block_total
             (fork_extents self.now file fork wanted first.now)) }
     {

@@ -44,7 +44,10 @@ impl Fork {
         let Some(record) = FileRecord::read(body) else {
             unreachable!()
         };
-        Some((fork_of(record.id, 0, &record.data), fork_of(record.id, 255, &record.resource)))
+        Some((
+            fork_of(record.id, 0, &record.data),
+            fork_of(record.id, 255, &record.resource),
+        ))
     }
 
     /// How many blocks the fork has, as many as its length wants at most. No chain is walked.

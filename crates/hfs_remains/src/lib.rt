@@ -3,15 +3,18 @@
 
 mod chains;
 mod codes;
+mod findings;
 mod forks;
 mod owners;
 mod records;
-mod takes;
-mod verdicts;
+mod salvage;
+mod shares;
+mod trees;
 
 pub use chains::Chains;
-pub use forks::{Fork, missing_in};
-pub use owners::Owners;
-pub use records::{namings, thing_of, things_of};
-pub use takes::{Taken, takes_of};
-pub use verdicts::{Look, Verdict};
+pub use findings::FoundFork;
+pub use forks::Fork;
+pub use records::{namings, things_of};
+pub use salvage::{Salvage, usual_limit};
+pub use shares::{FileShares, Share};
+pub use trees::Trees;

@@ -7,3 +7,5 @@ mod directories;
 mod finding;
 #[cfg(test)]
 mod remains;
+#[cfg(test)]
+mod verdicts;
