@@ -304,11 +304,11 @@ module _ (items : List BagItem) (tables : BagTables) (facts : BagFacts) where
     (
       other_first (codes "manifest-sha256.txt") (codes "items.csv") (not_same _ _ refl),
       none_appended (codes "manifest-sha256.txt") (remains_files tables.remains) behind_tables (none_remains (codes "manifest-sha256.txt") tables.remains (not_same _ _ refl))
-      (none_behind (codes "manifest-sha256.txt") (not_same _ _ refl) (not_same _ _ refl) (not_same _ _ refl)),
+          (none_behind (codes "manifest-sha256.txt") (not_same _ _ refl) (not_same _ _ refl) (not_same _ _ refl)),
     ),
     (
       none_appended (codes "items.csv") (remains_files tables.remains) behind_tables (none_remains (codes "items.csv") tables.remains (not_same _ _ refl))
-      (none_behind (codes "items.csv") (not_same _ _ refl) (not_same _ _ refl) (not_same _ _ refl)),
+          (none_behind (codes "items.csv") (not_same _ _ refl) (not_same _ _ refl) (not_same _ _ refl)),
       remains_differ tables.remains,
     ),
   )

@@ -27,7 +27,7 @@ remains_lines None = refl
 remains_lines (Some text) = sym (append-nil (digest_line (sha256 text) (codes "rescue.tsv")))
 
 module _ (items : List BagItem) (tables : BagTables) (facts : BagFacts) (tags : TagDigests) where
-  told : List ℕ
+  abbrev told : List ℕ
   told = info_text facts (bytes_in (payload items)) (files_in (payload items))
 
   abbrev six : List ℕ → List ℕ → List ℕ → List ℕ → List ℕ → List ℕ → List ℕ
@@ -56,38 +56,29 @@ module _ (items : List BagItem) (tables : BagTables) (facts : BagFacts) (tags : 
 
 -- ---- the table of what remains
 
+abbrev IsTold : Bool → Type 0
+IsTold true = Unit {0}
+IsTold false = ⊥
+
+told-not : true ≡ false → ⊥
+told-not same = subst IsTold same tt
+
 -- there is none
 pub no_remains : (remains : Option (List ℕ)) → told_or_not remains ≡ false → remains_files remains ≡ []
 no_remains None none = refl
-no_remains (Some text) none = absurd (subst IsTold none tt)
-  where
-    abbrev IsTold : Bool → Type 0
-    IsTold true = Unit {0}
-    IsTold false = ⊥
+no_remains (Some text) none = absurd (told-not none)
 
 pub no_remains_digest : (remains : Option (List ℕ)) → told_or_not remains ≡ false → None ≡ option_map sha256 remains
 no_remains_digest None none = refl
-no_remains_digest (Some text) none = absurd (subst IsTold none tt)
-  where
-    abbrev IsTold : Bool → Type 0
-    IsTold true = Unit {0}
-    IsTold false = ⊥
+no_remains_digest (Some text) none = absurd (told-not none)
 
 -- there is one
 pub some_remains : (remains : Option (List ℕ)) → told_or_not remains ≡ true → remains_files remains ≡ file (codes "rescue.tsv") (unwrap_or remains []) ∷ []
-some_remains None some = absurd (subst IsNot some tt)
-  where
-    abbrev IsNot : Bool → Type 0
-    IsNot true = ⊥
-    IsNot false = Unit {0}
+some_remains None some = absurd (told-not (sym some))
 some_remains (Some text) some = refl
 
 pub some_remains_digest : (remains : Option (List ℕ)) → told_or_not remains ≡ true → Some (sha256 (unwrap_or remains [])) ≡ option_map sha256 remains
-some_remains_digest None some = absurd (subst IsNot some tt)
-  where
-    abbrev IsNot : Bool → Type 0
-    IsNot true = ⊥
-    IsNot false = Unit {0}
+some_remains_digest None some = absurd (told-not (sym some))
 some_remains_digest (Some text) some = refl
 
 -- ---- how many files there are

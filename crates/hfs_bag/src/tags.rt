@@ -154,7 +154,15 @@ fn give_remains<S: Shelf, B: BagSource>(
     if !source.tells_remains() {
         return Ok(None);
     }
-    let digest = put_file(alloc, shelf, source, "rescue.tsv", None, &[], Stream::Remains)?;
+    let digest = put_file(
+        alloc,
+        shelf,
+        source,
+        "rescue.tsv",
+        None,
+        &[],
+        Stream::Remains,
+    )?;
     Ok(Some(digest))
 }
 

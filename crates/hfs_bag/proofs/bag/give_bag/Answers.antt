@@ -4,7 +4,7 @@ use Rattle.hfs_bag.specs.Items.{BagItem, item_digests}
 use Rattle.hfs_bag.specs.Bags.{payload}
 use Rattle.hfs_bag.specs.Sources.{BagTables}
 use Rattle.hfs_bag.specs.Tags.{tag_files}
-use Rattle.hfs_bag.proofs.Growing.{part_done, part_first, part_next, where_err}
+use Rattle.hfs_bag.proofs.Growing.{part_done, part_first, part_last, where_err}
 use Rattle.hfs_bag.proofs.TagLemmas.{streams_are}
 use Rattle.hfs_bag.proofs.bag.give_bag.Goals as goal
 
@@ -23,7 +23,7 @@ returns-in_err-give_tags-clause-part g c =
     where_err _ (g.B.BagSource.state c.args.source.now) (λ known.
     let same_items : IsBeginning now (first ++ tag_files source.all paid.tables c.args.facts.now) =
     subst (λ (items : List BagItem). IsBeginning now (first ++ tag_files items paid.tables c.args.facts.now)) c.in_ok-given.ensures.all (c.in_err-give_tags.ensures.part (c.in_ok-given.ensures.known ∙ known)) in
-    part_next before first (payload source.all) (c.in_ok-given.ensures.whole known) now (tag_files source.all source.tables c.args.facts.now) []
+    part_last before first (payload source.all) (c.in_ok-given.ensures.whole known) now (tag_files source.all source.tables c.args.facts.now)
     (subst (λ (tables : BagTables). IsBeginning now (first ++ tag_files source.all tables c.args.facts.now)) c.in_ok-given.ensures.tables same_items))
 
 pub give_tags-requires-clause-files : goal.give_tags-requires-clause-files

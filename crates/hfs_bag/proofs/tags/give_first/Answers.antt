@@ -2,7 +2,7 @@ use Rattle.std.proofs.Common.{◌≡◌, ℕ, List, [], ◌∷◌, ◌++◌, ap,
 use Rattle.hfs_shelves.specs.Entries.{IsBeginning}
 use Rattle.hfs_bag.specs.Sources.{BagTables}
 use Rattle.hfs_bag.specs.Tags.{manifest_file, remains_files, table_file}
-use Rattle.hfs_bag.proofs.Growing.{part_first, part_next, where_err, whole_next}
+use Rattle.hfs_bag.proofs.Growing.{part_first, part_last, part_next, where_err, whole_next}
 use Rattle.hfs_bag.proofs.tags.give_first.Goals as goal
 
 pub returns-in_err-manifest-clause-part : goal.returns-in_err-manifest-clause-part
@@ -30,9 +30,9 @@ returns-in_err-remains-clause-part g c =
     where_err _ (g.B.BagSource.state c.args.source.now) (λ known.
     let tabled : second ≡ first ++ table_file source.tables.items ∷ [] =
     c.in_ok-table.ensures.whole (c.in_ok-manifest.ensures.known ∙ known) ∙ ap (λ (tables : BagTables). first ++ table_file tables.items ∷ []) c.in_ok-manifest.ensures.tables in
-    part_next before second (manifest_file source.all ∷ table_file source.tables.items ∷ [])
+    part_last before second (manifest_file source.all ∷ table_file source.tables.items ∷ [])
     (whole_next before first (manifest_file source.all ∷ []) (c.in_ok-manifest.ensures.whole known) second (table_file source.tables.items ∷ []) tabled)
-    now (remains_files source.tables.remains) []
+    now (remains_files source.tables.remains)
     (subst (λ (tables : BagTables). IsBeginning now (second ++ remains_files tables.remains)) (c.in_ok-table.ensures.same.tables ∙ c.in_ok-manifest.ensures.tables)
     (c.in_err-remains.ensures.part (c.in_ok-table.ensures.same.known ∙ c.in_ok-manifest.ensures.known ∙ known))))
 

@@ -1,19 +1,19 @@
-use Rattle.std.proofs.Common.{◌≡◌, ℕ, List, [], ◌∷◌, ◌++◌, codes, ap, ◌∙◌, subst}
+use Rattle.std.proofs.Common.{◌≡◌, ℕ, List, [], ◌∷◌, ◌++◌, codes, ap, ◌∙◌, append_assoc, subst}
 use Rattle.sha2.specs.Sha256.{sha256}
-use Rattle.hfs_shelves.specs.Entries.{IsBeginning}
+use Rattle.hfs_shelves.specs.Entries.{ShelfEntry, IsBeginning}
 use Rattle.hfs_bag.specs.declared.tags.TagDigests.{TagDigests}
 use Rattle.hfs_bag.specs.Bags.{bytes_in, payload}
 use Rattle.hfs_bag.specs.Filling.{with_whole_file}
 use Rattle.hfs_bag.specs.Tags.{declaration_file, info_file, info_text, report_file, tag_manifest_file}
 use Rattle.hfs_bag.specs.TagParts.{first_tags, second_tags}
-use Rattle.hfs_bag.proofs.Growing.{part_first, part_next, where_err, whole_next}
+use Rattle.hfs_bag.proofs.Growing.{part_first, part_last, part_next, where_err, whole_next}
 use Rattle.hfs_bag.proofs.TagLemmas.{lines_are}
 use Rattle.hfs_bag.proofs.tags.give_tags.Goals as goal
 
 pub returns-in_err-first-clause-part : goal.returns-in_err-first-clause-part
 returns-in_err-first-clause-part g c =
     let source = g.B.BagSource.state c.args.source.now in
-    where_err _ (g.B.BagSource.state c.args.source.now) (λ known. part_first (g.S.Shelf.given c.args.shelf.now) (g.S.Shelf.given c.give_first.new.shelf) (first_tags source.all source.tabless)
+    where_err _ (g.B.BagSource.state c.args.source.now) (λ known. part_first (g.S.Shelf.given c.args.shelf.now) (g.S.Shelf.given c.give_first.new.shelf) (first_tags source.all source.tables)
     (report_file c.args.facts.now ∷ info_file source.all c.args.facts.now ∷ declaration_file ∷ tag_manifest_file source.all source.tables c.args.facts.now ∷ []) (c.in_err-first.ensures.part known))
 
 pub returns-in_err-second-clause-part : goal.returns-in_err-second-clause-part
@@ -25,7 +25,7 @@ returns-in_err-second-clause-part g c =
     where_err _ (g.B.BagSource.state c.args.source.now) (λ known.
     let bytes_known : IsBeginning now (first ++ second_tags facts (bytes_in (payload source.all)) c.args.files) =
     subst (λ (n : ℕ). IsBeginning now (first ++ second_tags facts n c.args.files)) (c.requires.bytes known) c.in_err-second.ensures.part in
-    part_next (g.S.Shelf.given c.args.shelf.now) first (first_tags source.all source.tabless) (c.in_ok-first.ensures.whole known) now
+    part_next (g.S.Shelf.given c.args.shelf.now) first (first_tags source.all source.tables) (c.in_ok-first.ensures.whole known) now
     (report_file facts ∷ info_file source.all facts ∷ declaration_file ∷ []) (tag_manifest_file source.all source.tables facts ∷ [])
     (subst (λ (n : ℕ). IsBeginning now (first ++ second_tags facts (bytes_in (payload source.all)) n)) (c.requires.files known) bytes_known))
 
@@ -45,10 +45,11 @@ returns-in_err-give_last-clause-part g c =
     let seconds : second ≡ first ++ (report_file facts ∷ info_file source.all facts ∷ declaration_file ∷ []) =
     c.in_ok-second.ensures.whole ∙ ap (λ (n : ℕ). first ++ second_tags facts n c.args.files) (c.requires.bytes known)
     ∙ ap (λ (n : ℕ). first ++ second_tags facts (bytes_in (payload source.all)) n) (c.requires.files known) in
-    part_next before second (first_tags source.all source.tabless ++ (report_file facts ∷ info_file source.all facts ∷ declaration_file ∷ []))
-    (whole_next before first (first_tags source.all source.tabless) (c.in_ok-first.ensures.whole known) second (report_file facts ∷ info_file source.all facts ∷ declaration_file ∷ []) seconds)
-    now (tag_manifest_file source.all source.tables facts ∷ []) []
-    (subst (λ (text : List ℕ). IsBeginning now (with_whole_file second (codes "tagmanifest-sha256.txt") text)) lines c.in_err-give_last.ensures.part))
+    subst (λ (files : List ShelfEntry). IsBeginning now (before ++ files)) (append_assoc (first_tags source.all source.tables) (report_file facts ∷ info_file source.all facts ∷ declaration_file ∷ []) (tag_manifest_file source.all source.tables facts ∷ []))
+    (part_last before second (first_tags source.all source.tables ++ (report_file facts ∷ info_file source.all facts ∷ declaration_file ∷ []))
+    (whole_next before first (first_tags source.all source.tables) (c.in_ok-first.ensures.whole known) second (report_file facts ∷ info_file source.all facts ∷ declaration_file ∷ []) seconds)
+    now (tag_manifest_file source.all source.tables facts ∷ [])
+    (subst (λ (text : List ℕ). IsBeginning now (with_whole_file second (codes "tagmanifest-sha256.txt") text)) lines c.in_err-give_last.ensures.part)))
 
 pub returns-clause-whole : goal.returns-clause-whole
 returns-clause-whole g c known =
@@ -65,7 +66,8 @@ returns-clause-whole g c known =
     let seconds : second ≡ first ++ (report_file facts ∷ info_file source.all facts ∷ declaration_file ∷ []) =
     c.in_ok-second.ensures.whole ∙ ap (λ (n : ℕ). first ++ second_tags facts n c.args.files) (c.requires.bytes known)
     ∙ ap (λ (n : ℕ). first ++ second_tags facts (bytes_in (payload source.all)) n) (c.requires.files known) in
-    whole_next before second (first_tags source.all source.tabless ++ (report_file facts ∷ info_file source.all facts ∷ declaration_file ∷ []))
-    (whole_next before first (first_tags source.all source.tabless) (c.in_ok-first.ensures.whole known) second (report_file facts ∷ info_file source.all facts ∷ declaration_file ∷ []) seconds)
+    whole_next before second (first_tags source.all source.tables ++ (report_file facts ∷ info_file source.all facts ∷ declaration_file ∷ []))
+    (whole_next before first (first_tags source.all source.tables) (c.in_ok-first.ensures.whole known) second (report_file facts ∷ info_file source.all facts ∷ declaration_file ∷ []) seconds)
     now (tag_manifest_file source.all source.tables facts ∷ [])
     (c.in_ok-give_last.ensures.whole ∙ ap (λ (text : List ℕ). with_whole_file second (codes "tagmanifest-sha256.txt") text) lines)
+    ∙ ap (λ (files : List ShelfEntry). before ++ files) (append_assoc (first_tags source.all source.tables) (report_file facts ∷ info_file source.all facts ∷ declaration_file ∷ []) (tag_manifest_file source.all source.tables facts ∷ []))
