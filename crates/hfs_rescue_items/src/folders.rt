@@ -18,15 +18,15 @@ impl Folders {
         }
     }
 
-    /// Whether the folder at a path was made; the payload itself, whose path is empty, always was.
-    pub(crate) fn has(&self, alloc: Global, path: &str) -> Result<bool, AllocError> {
-        let row = Vec::from_slice(alloc, path.as_bytes())?;
+    /// Whether the folder at a path was made.
+    pub(crate) fn has(&self, alloc: Global, path: &[u8]) -> Result<bool, AllocError> {
+        let row = Vec::from_slice(alloc, path)?;
         Ok(self.paths.contains(&row))
     }
 
     /// Notes that the folder at a path is made, and answers whether it was not before.
-    pub(crate) fn add(&mut self, alloc: Global, path: &str) -> Result<bool, AllocError> {
-        let row = Vec::from_slice(alloc, path.as_bytes())?;
+    pub(crate) fn add(&mut self, alloc: Global, path: &[u8]) -> Result<bool, AllocError> {
+        let row = Vec::from_slice(alloc, path)?;
         if self.paths.contains(&row) {
             return Ok(false);
         }

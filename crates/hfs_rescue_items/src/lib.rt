@@ -1,15 +1,16 @@
 //! What remains of a damaged volume as the source of a bag: its items by their paths, the bytes of their forks, and its tables.
 #![tactic(auto)]
 
+mod came;
 mod folders;
 mod fork_reading;
 mod found;
 mod items;
 mod lines;
+mod plan;
 mod reading;
 mod sums;
 mod told;
-mod way;
 
 pub use found::Found;
 pub use items::RescueItems;

@@ -1,59 +1,63 @@
 //! The lines of both tables.
+ghost use Rattle.std.specs.Prelude.{◌≡◌, ◌++◌, IfOk, OnOk, string_bytes};
+ghost use Rattle.hfs_rescue_items.specs.Lines.{item_line, remains_line};
 
 use crate::found::Found;
 use crate::told::told_of;
+use hfs_rescue::FoundRecord;
 use hfs_table::push_own_csv_line;
 use hfs_verdicts::push_row;
 use std::alloc::{AllocError, Global};
 
-/// The path of an item below the payload.
-fn path_of(alloc: Global, found: &Found<'_>, i: usize) -> Result<String, AllocError> {
-    if i >= found.places.things().len() {
-        return Ok(String::new(alloc));
-    }
-    found.places.payload_path(alloc, i)
-}
-
-/// The line of item `i` in the table of what remains, or no text where there is no such item.
-fn found_line(alloc: Global, found: &Found<'_>, i: usize) -> Result<String, AllocError> {
-    let mut text = String::new(alloc);
-    if i >= found.items.len() {
-        return Ok(text);
-    }
-    let Some(info) = told_of(&found.items[i]) else {
-        return Ok(text);
+/// The line of an item with this number in the table of what remains.
+#[tactic(auto, unfolding(crate::specs::Lines::remains_line))]
+fn remains_line(
+    alloc: Global,
+    found: &Found<'_>,
+    i: usize,
+    item: &FoundRecord,
+) -> Result<String, AllocError>
+    ensures { IfOk result (λ line. string_bytes line ≡ remains_line found.now i item.now) }
+{
+    let mut line = String::new(alloc);
+    let Some(info) = told_of(item) else {
+        return Ok(line);
     };
-    let path = path_of(alloc, found, i)?;
-    let forks = found.salvage.verdicts(alloc, i)?;
-    push_row(alloc, &mut text, path.as_str(), i, info.id, &forks)?;
-    Ok(text)
+    let path = found.path(alloc, i)?;
+    let forks = found.verdicts(alloc, i)?;
+    push_row(alloc, &mut line, path.as_str(), i, info.id, &forks)?;
+    Ok(line)
 }
 
-/// Appends the line of item `i`, counted from 0, in the table of what remains: path below the payload, number, ID, what is said of
-/// both forks, with tabs between. The only error is want of memory.
-pub fn push_found_line(
+/// Appends the line of an item with this number, counted from 0, in the table of what remains: path below the payload, number, ID,
+/// what is said of both forks, with tabs between. The only error is want of memory.
+pub(crate) fn push_remains_line(
     alloc: Global,
     text: &mut Vec<u8>,
     found: &Found<'_>,
     i: usize,
-) -> Result<(), AllocError> {
-    let line = found_line(alloc, found, i)?;
+    item: &FoundRecord,
+) -> Result<(), AllocError>
+    ensures { OnOk result (text.new.items ≡ text.old.items ++ remains_line found.now i item.now) }
+{
+    let line = remains_line(alloc, found, i, item)?;
     text.extend_from_slice(line.as_bytes())
 }
 
-/// Appends the line of item `i` in the table of all items.
+/// Appends the line of an item with this number in the table of all items.
+#[tactic(auto, unfolding(crate::specs::Lines::item_line))]
 pub(crate) fn push_item_line(
     alloc: Global,
     text: &mut Vec<u8>,
     found: &Found<'_>,
     i: usize,
-) -> Result<(), AllocError> {
-    if i >= found.items.len() {
-        return Ok(());
-    }
-    let Some(info) = told_of(&found.items[i]) else {
+    item: &FoundRecord,
+) -> Result<(), AllocError>
+    ensures { OnOk result (text.new.items ≡ text.old.items ++ item_line found.now i item.now) }
+{
+    let Some(info) = told_of(item) else {
         return Ok(());
     };
-    let path = path_of(alloc, found, i)?;
+    let path = found.path(alloc, i)?;
     push_own_csv_line(alloc, text, path.as_str(), &info)
 }

@@ -50,11 +50,11 @@ fn add_item(
     found: &Found<'_>,
     i: usize,
 ) -> Result<(), AllocError> {
-    let Some(data) = found.salvage.fork(alloc, i, ForkKind::Data)? else {
+    let Some(data) = found.fork(alloc, i, ForkKind::Data)? else {
         add_folder(sums);
         return Ok(());
     };
-    if let Some(resource) = found.salvage.fork(alloc, i, ForkKind::Resource)? {
+    if let Some(resource) = found.fork(alloc, i, ForkKind::Resource)? {
         add_file(sums, &data, &resource);
     }
     Ok(())

@@ -1,4 +1,7 @@
 //! What an item's own record tells of it.
+ghost use Rattle.std.specs.Prelude.{◌≡◌, ◌++◌, false};
+ghost use Rattle.hfs_queries.specs.Told.{file_info, folder_info};
+ghost use Rattle.hfs_rescue_items.specs.Found.{info_of, told};
 
 use hfs_catalog::{CatalogItem, ItemRecord, item_of};
 use hfs_fields::{CatKey, DirRecord, FileRecord};
@@ -6,7 +9,9 @@ use hfs_model::{Info, ItemKind};
 use hfs_rescue::FoundRecord;
 
 /// The 32 Finder bytes of an item, which stand in two places of its record.
-fn finder_bytes(info: &[u8; 16], extended: &[u8; 16]) -> [u8; 32] {
+fn finder_bytes(info: &[u8; 16], extended: &[u8; 16]) -> [u8; 32]
+    ensures { result ≡ info.now ++ extended.now }
+{
     let mut all = [0; 32];
     all[..16].copy_from_slice(info);
     all[16..].copy_from_slice(extended);
@@ -14,7 +19,10 @@ fn finder_bytes(info: &[u8; 16], extended: &[u8; 16]) -> [u8; 32] {
 }
 
 /// What is told of a folder.
-fn folder_info(key: CatKey, folder: &DirRecord) -> Info {
+#[tactic(auto, unfolding(hfs_queries::specs::Told::folder_info))]
+fn folder_info(key: CatKey, folder: &DirRecord) -> Info
+    ensures { result ≡ folder_info key folder.now }
+{
     Info {
         id: folder.id,
         parent: key.parent,
@@ -33,7 +41,10 @@ fn folder_info(key: CatKey, folder: &DirRecord) -> Info {
 }
 
 /// What is told of a file, whose thread is not looked for.
-fn file_info(key: CatKey, file: &FileRecord) -> Info {
+#[tactic(auto, unfolding(hfs_queries::specs::Told::file_info))]
+fn file_info(key: CatKey, file: &FileRecord) -> Info
+    ensures { result ≡ file_info false key file.now }
+{
     Info {
         id: file.id,
         parent: key.parent,
@@ -52,7 +63,9 @@ fn file_info(key: CatKey, file: &FileRecord) -> Info {
 }
 
 /// What is told of an item of a catalog by its own record.
-fn info_of(item: &CatalogItem) -> Info {
+fn info_of(item: &CatalogItem) -> Info
+    ensures { result ≡ info_of item.now }
+{
     match &item.body {
         ItemRecord::Folder(folder) => folder_info(item.key, folder),
         ItemRecord::File(file) => file_info(item.key, file),
@@ -60,7 +73,11 @@ fn info_of(item: &CatalogItem) -> Info {
 }
 
 /// What is told of an item by its own record; None of any other record.
-pub(crate) fn told_of(found: &FoundRecord) -> Option<Info> {
-    let item = item_of(*found.entry.key(), found.entry.body())?;
-    Some(info_of(&item))
+pub(crate) fn told_of(found: &FoundRecord) -> Option<Info>
+    ensures { result ≡ told found.now }
+{
+    match item_of(*found.entry.key(), found.entry.body()) {
+        Some(item) => Some(info_of(&item)),
+        None => None,
+    }
 }

@@ -6,6 +6,7 @@ use crate::loading::{LoadedImage, load_image};
 use crate::parts::Parts;
 use crate::words::BagWords;
 use hfs_bag::{BagFacts, BagFault, SourceFault, give_bag};
+use hfs_fields::Mdb;
 use hfs_remains::Salvage;
 use hfs_rescue_items::{Found, RescueItems, sums_of};
 use hfs_shelves::{FileShelf, Shelf, is_there};
@@ -28,6 +29,13 @@ fn head_with(image: &[u8], directory: u32) -> [u8; 1536] {
     head
 }
 
+/// The characters of the volume's name, which stand behind their number.
+fn volume_name(mdb: &Mdb) -> &[u8] {
+    let [len, characters @ ..] = &mdb.volume_name;
+    let len = characters.len().min(usize::from(*len));
+    &characters[..len]
+}
+
 /// Gives a shelf the bag of what was found of an image.
 fn give_found<S: Shelf>(
     alloc: Global,
@@ -39,7 +47,7 @@ fn give_found<S: Shelf>(
 ) -> Result<(), BagFault> {
     let head = head_with(image.bytes(), image.directory);
     let report = report_text(alloc, &head, image.check.lines.as_str())?;
-    let identifier = plain_name(alloc, parts.mdb.name.bytes())?;
+    let identifier = plain_name(alloc, volume_name(&parts.mdb))?;
     let name = image_name(alloc, words.words.image)?;
     let digest = if words.is_digested {
         Some(Sha256::digest(image.bytes()))
@@ -55,7 +63,7 @@ fn give_found<S: Shelf>(
         digest,
         report: report.as_str(),
     };
-    let mut items = RescueItems::new(alloc, *found);
+    let mut items = RescueItems::new(alloc, *found)?;
     give_bag(alloc, shelf, &mut items, &facts)?;
     Ok(())
 }
@@ -68,9 +76,8 @@ fn give_remains<S: Shelf>(
     words: &BagWords<'_>,
 ) -> Result<RescueAnswer, BagFault> {
     let parts = Parts::of(alloc, image.bytes(), image.directory)?;
-    let trees = parts.trees();
     let limit = limit_of(&words.words, image);
-    let salvage = Salvage::of(alloc, &trees, &parts.items, limit)?;
+    let salvage = Salvage::of(alloc, parts.trees(), &parts.items, limit)?;
     let found = Found {
         image: image.bytes(),
         mdb: &parts.mdb,

@@ -60,8 +60,8 @@ fn write_list<'a, W: Write>(
     let Ok(parts) = Parts::of(alloc, image.bytes(), image.directory) else {
         return Err(Fault::NoMemory);
     };
-    let trees = parts.trees();
-    let Ok(salvage) = Salvage::of(alloc, &trees, &parts.items, limit_of(words, image)) else {
+    let limit = limit_of(words, image);
+    let Ok(salvage) = Salvage::of(alloc, parts.trees(), &parts.items, limit) else {
         return Err(Fault::NoMemory);
     };
     let found = Found {
