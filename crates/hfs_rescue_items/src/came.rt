@@ -1,4 +1,6 @@
 //! What comes of a plan.
+ghost use Rattle.std.specs.Prelude.{◌≡◌, ◌-◌, drop, take, IfOk, string_bytes};
+ghost use Rattle.hfs_rescue_items.specs.Sources.{above_of, name_of};
 
 use crate::found::Found;
 use crate::plan::Planned;
@@ -14,8 +16,7 @@ const YEAR_1970: u32 = 2_082_844_800;
 /// What came last.
 #[derive(Drop)]
 pub(crate) struct Came {
-    /// The number of the item; that of a named folder is behind those of the items.
-    pub(crate) place: usize,
+    pub(crate) planned: Planned,
     /// The path of the folder that holds it, with a slash behind it.
     pub(crate) above: String,
     /// Its entry.
@@ -26,7 +27,12 @@ impl Came {
     /// Nothing.
     pub(crate) fn nothing(alloc: Global) -> Came {
         Came {
-            place: 0,
+            planned: Planned {
+                place: 0,
+                from: 0,
+                to: 0,
+                kind: BagKind::FolderAlone,
+            },
             above: String::new(alloc),
             name: String::new(alloc),
         }
@@ -34,7 +40,9 @@ impl Came {
 }
 
 /// A part of a path as a text. Error: it is none, as no part of a path that is planned.
-fn text_of(alloc: Global, path: &[u8], from: usize, to: usize) -> Result<String, SourceFault> {
+fn text_of(alloc: Global, path: &[u8], from: usize, to: usize) -> Result<String, SourceFault>
+    ensures { IfOk result (λ text. string_bytes text ≡ take (to - from) (drop from path.now)) }
+{
     if from > to || to > path.len() {
         return Err(SourceFault::ReadFailed);
     }
@@ -101,7 +109,11 @@ fn head_of(alloc: Global, found: &Found<'_>, planned: Planned) -> Result<BagHead
 }
 
 /// Where it lies, and how it is called there.
-fn placed(alloc: Global, found: &Found<'_>, planned: Planned) -> Result<Came, SourceFault> {
+fn placed(alloc: Global, found: &Found<'_>, planned: Planned) -> Result<Came, SourceFault>
+    ensures above { IfOk result (λ came. string_bytes came.above ≡ above_of found.now planned) }
+    ensures name { IfOk result (λ came. string_bytes came.name ≡ name_of found.now planned) }
+    ensures planned { IfOk result (λ came. came.planned ≡ planned) }
+{
     let Ok(path) = found.path(alloc, planned.place) else {
         return Err(SourceFault::Memory);
     };
@@ -109,7 +121,7 @@ fn placed(alloc: Global, found: &Found<'_>, planned: Planned) -> Result<Came, So
     let above = text_of(alloc, bytes, 0, planned.from)?;
     let name = text_of(alloc, bytes, planned.from, planned.to)?;
     Ok(Came {
-        place: planned.place,
+        planned,
         above,
         name,
     })
@@ -120,7 +132,11 @@ pub(crate) fn came_of(
     alloc: Global,
     found: &Found<'_>,
     planned: Planned,
-) -> Result<(Came, BagHead), SourceFault> {
+) -> Result<(Came, BagHead), SourceFault>
+    ensures above { IfOk result (λ told. string_bytes told.0.above ≡ above_of found.now planned) }
+    ensures name { IfOk result (λ told. string_bytes told.0.name ≡ name_of found.now planned) }
+    ensures planned { IfOk result (λ told. told.0.planned ≡ planned) }
+{
     let came = placed(alloc, found, planned)?;
     match head_of(alloc, found, planned) {
         Ok(head) => Ok((came, head)),

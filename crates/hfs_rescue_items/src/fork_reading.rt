@@ -1,4 +1,6 @@
 //! Forks that are read piece by piece.
+ghost use Rattle.std.specs.Prelude.{◌≡◌, ◌+◌, ◌<◌, ◌≤◌, [], length, IfOk, OnOk};
+ghost use Rattle.hfs_rescue_items.specs.Reading.{Reads, fork_rest};
 
 use crate::found::Found;
 use hfs_bag::SourceFault;
@@ -14,11 +16,12 @@ const PIECE: usize = 65_536;
 pub(crate) struct ForkReading {
     /// The allocation blocks that hold it, None in the place of each that is missing.
     places: Vec<Option<u16>>,
-    /// The place of the block that is read next, and how many bytes of it were read.
+    /// The place of the block that is read next.
     next: usize,
+    /// How many bytes of it were read.
     within: u32,
     /// How many bytes are left.
-    left: u32,
+    pub(crate) left: u32,
 }
 
 /// A fork without bytes.
@@ -47,7 +50,10 @@ pub(crate) fn begin_fork(fork: FoundFork) -> ForkReading {
 }
 
 /// Appends so many zeros.
-fn push_zeros(piece: &mut Vec<u8>, count: usize) -> Result<(), AllocError> {
+fn push_zeros(piece: &mut Vec<u8>, count: usize) -> Result<(), AllocError>
+    requires { count ≤ 65536 }
+    ensures { OnOk result (length piece.new.items ≡ length piece.old.items + count) }
+{
     let len = piece.len() + count;
     piece.resize(len, 0)
 }
@@ -59,7 +65,10 @@ fn push_bytes(
     block: u16,
     within: u32,
     count: usize,
-) -> Result<(), AllocError> {
+) -> Result<(), AllocError>
+    requires { count ≤ 65536 }
+    ensures { OnOk result (length piece.new.items ≡ length piece.old.items + count) }
+{
     let total = (found.image.len() / 512) as u32;
     if !is_there(total, found.mdb, block) {
         return push_zeros(piece, count);
@@ -72,26 +81,64 @@ fn push_bytes(
     piece.extend_from_slice(&found.image[from..to])
 }
 
+/// Appends so many bytes of the block at a place of a fork, from this one on: zeros where it is missing.
+fn push_place(
+    piece: &mut Vec<u8>,
+    found: &Found<'_>,
+    place: Option<u16>,
+    within: u32,
+    count: u32,
+) -> Result<(), SourceFault>
+    requires { count ≤ 65536 }
+    ensures { OnOk result (length piece.new.items ≡ length piece.old.items + count) }
+{
+    let pushed = match place {
+        Some(block) => push_bytes(piece, found, block, within, count as usize),
+        None => push_zeros(piece, count as usize),
+    };
+    match pushed {
+        Ok(()) => Ok(()),
+        Err(_) => Err(SourceFault::Memory),
+    }
+}
+
+/// How many bytes of a fork are read next, so many at most: those that are left in one allocation block of this size. Error: there are none.
+fn next_count(size: u32, within: u32, left: u32, most: u32) -> Result<u32, SourceFault>
+    ensures some { IfOk result (λ count. 1 ≤ count) }
+    ensures in_block { IfOk result (λ count. within + count ≤ size) }
+    ensures left { IfOk result (λ count. count ≤ left) }
+    ensures most { IfOk result (λ count. count ≤ most) }
+{
+    if within >= size {
+        return Err(SourceFault::ReadFailed);
+    }
+    let count = (size - within).min(left).min(most);
+    if count == 0 {
+        return Err(SourceFault::ReadFailed);
+    }
+    Ok(count)
+}
+
 /// Appends the next bytes of a fork that lie in one allocation block, so many at most.
 fn push_next(
     piece: &mut Vec<u8>,
     found: &Found<'_>,
     fork: &mut ForkReading,
-    most: usize,
-) -> Result<(), SourceFault> {
-    let Some(place) = fork.places.get(fork.next) else {
+    most: u32,
+) -> Result<(), SourceFault>
+    requires { most ≤ 65536 }
+    ensures sum { OnOk result (length piece.new.items + fork.new.left
+        ≡ length piece.old.items + fork.old.left) }
+    ensures fewer { OnOk result (fork.new.left < fork.old.left) }
+    ensures most { OnOk result (length piece.new.items ≤ length piece.old.items + most) }
+{
+    if fork.next >= fork.places.len() {
         return Err(SourceFault::ReadFailed);
-    };
+    }
+    let place = fork.places[fork.next];
     let size = found.mdb.allocation_block_size;
-    let in_block = size.saturating_sub(fork.within);
-    let count = in_block.min(fork.left).min(most as u32);
-    let pushed = match place {
-        Some(block) => push_bytes(piece, found, *block, fork.within, count as usize),
-        None => push_zeros(piece, count as usize),
-    };
-    let Ok(()) = pushed else {
-        return Err(SourceFault::Memory);
-    };
+    let count = next_count(size, fork.within, fork.left, most)?;
+    push_place(piece, found, place, fork.within, count)?;
     fork.left -= count;
     fork.within += count;
     if fork.within >= size {
@@ -101,16 +148,22 @@ fn push_next(
     Ok(())
 }
 
-/// Reads the next bytes of a fork, at most 65,536, in the place of a piece, and none where none are left.
+/// Reads the next bytes of a fork, at most 65,536, behind a piece that is empty, and none where none are left.
+#[tactic(auto, using(crate::proofs::ForkLemmas::fork_read, crate::proofs::ForkLemmas::fork_whole))]
 pub(crate) fn read_fork(
     found: &Found<'_>,
     fork: &mut ForkReading,
     piece: &mut Vec<u8>,
-) -> Result<(), SourceFault> {
-    piece.clear();
-    while fork.left > 0 && piece.len() < PIECE {
+) -> Result<(), SourceFault>
+    requires { piece.old.items ≡ [] }
+    ensures { OnOk result (Reads piece.new.items (fork_rest fork.old) (fork_rest fork.new)) }
+{
+    while fork.left > 0 {
+        if piece.len() >= PIECE {
+            return Ok(());
+        }
         let most = PIECE - piece.len();
-        push_next(piece, found, fork, most)?;
+        push_next(piece, found, fork, most as u32)?;
     }
     Ok(())
 }

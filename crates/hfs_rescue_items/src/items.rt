@@ -1,11 +1,11 @@
 //! What remains of a volume, for a bag.
-ghost use Rattle.hfs_rescue_items.specs.Sources.{unknown};
+ghost use Rattle.hfs_rescue_items.specs.Sources.{source_of};
 
 use crate::came::{Came, came_of};
 use crate::fork_reading::{begin_fork, empty_fork};
 use crate::found::Found;
 use crate::plan::{Planned, plan_of};
-use crate::reading::{Reading, read_next};
+use crate::reading::{Lines, Reading, read_next};
 use hfs_bag::{BagHead, BagSource, SourceFault, Stream};
 use hfs_space::ForkKind;
 use std::alloc::{AllocError, Global};
@@ -21,34 +21,42 @@ pub struct RescueItems<'a> {
     /// The place in it of what comes next.
     next: usize,
     came: Came,
-    reading: Reading,
+    reading: Reading<'a>,
 }
 
 /// A fork of an item, from its first byte on.
-fn open_fork(
+fn open_fork<'a>(
     alloc: Global,
-    found: &Found<'_>,
+    found: &Found<'a>,
     i: usize,
     kind: ForkKind,
-) -> Result<Reading, AllocError> {
+) -> Result<Reading<'a>, AllocError> {
     match found.fork(alloc, i, kind)? {
         Some(fork) => Ok(Reading::Fork(begin_fork(fork))),
         None => Ok(Reading::Fork(empty_fork(alloc))),
     }
 }
 
+/// The lines of all items.
+fn all_lines<'a>(found: &Found<'a>) -> Lines<'a> {
+    Lines {
+        next: 0,
+        items: found.items,
+    }
+}
+
 /// A stream of an item, from its first byte on.
-fn open_stream(
+fn open_stream<'a>(
     alloc: Global,
-    found: &Found<'_>,
+    found: &Found<'a>,
     i: usize,
     stream: Stream,
-) -> Result<Reading, AllocError> {
+) -> Result<Reading<'a>, AllocError> {
     match stream {
         Stream::DataFork => open_fork(alloc, found, i, ForkKind::Data),
         Stream::ResourceFork => open_fork(alloc, found, i, ForkKind::Resource),
-        Stream::Table => Ok(Reading::Head),
-        Stream::Remains => Ok(Reading::Remains(0)),
+        Stream::Table => Ok(Reading::Table(all_lines(found))),
+        Stream::Remains => Ok(Reading::Remains(all_lines(found))),
     }
 }
 
@@ -68,17 +76,19 @@ impl<'a> RescueItems<'a> {
 }
 
 impl BagSource for RescueItems<'_> {
-    ghost state = { λ items. unknown };
+    ghost state = { λ items. source_of items.found items.plan.items items.next items.came items.reading };
 
     fn tells_remains(&self) -> bool {
         true
     }
 
+    #[tactic(auto, using(crate::proofs::SourceLemmas::has_restarted))]
     fn restart(&mut self) -> Result<(), SourceFault> {
         self.next = 0;
         Ok(())
     }
 
+    #[tactic(auto, using(crate::proofs::SourceLemmas::has_item, crate::proofs::SourceLemmas::has_no_item))]
     fn next_item(&mut self) -> Result<Option<BagHead>, SourceFault> {
         if self.next >= self.plan.len() {
             return Ok(None);
@@ -98,8 +108,9 @@ impl BagSource for RescueItems<'_> {
         text.push_str(self.came.name.as_str())
     }
 
+    #[tactic(auto, using(crate::proofs::SourceLemmas::has_opened))]
     fn open(&mut self, stream: Stream) -> Result<(), SourceFault> {
-        match open_stream(self.alloc, &self.found, self.came.place, stream) {
+        match open_stream(self.alloc, &self.found, self.came.planned.place, stream) {
             Ok(reading) => {
                 self.reading = reading;
                 Ok(())
@@ -108,6 +119,7 @@ impl BagSource for RescueItems<'_> {
         }
     }
 
+    #[tactic(auto, using(crate::proofs::SourceLemmas::has_read))]
     fn read(&mut self, piece: &mut Vec<u8>) -> Result<(), SourceFault> {
         read_next(self.alloc, &self.found, &mut self.reading, piece)
     }

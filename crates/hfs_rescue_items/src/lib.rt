@@ -14,5 +14,5 @@ mod told;
 
 pub use found::Found;
 pub use items::RescueItems;
-pub use lines::push_found_line;
+pub use lines::push_remains_line;
 pub use sums::{FoundSums, sums_of};

@@ -1,87 +1,117 @@
 //! What of a source is being read.
+ghost use Rattle.std.specs.Prelude.{◌≡◌, ◌++◌, [], false, true, IfOk, OnOk};
+ghost use Rattle.hfs_table.specs.Lines.{csv_head};
+ghost use Rattle.hfs_rescue_items.specs.Lines.{item_line, lines_of, remains_line};
+ghost use Rattle.hfs_rescue_items.specs.Reading.{ReadsLines, Reads, reading_rest};
 
 use crate::fork_reading::{ForkReading, read_fork};
 use crate::found::Found;
-use crate::lines::{push_found_line, push_item_line};
+use crate::lines::{push_item_line, push_remains_line};
 use hfs_bag::SourceFault;
+use hfs_rescue::FoundRecord;
 use hfs_table::{Format, push_head};
 use std::alloc::Global;
 
 /// From how many bytes of text on a piece is whole.
 const PIECE: usize = 65_536;
 
-/// The stream that is being read.
-#[derive(Drop)]
-pub(crate) enum Reading {
-    Fork(ForkReading),
-    /// The head of the table of all items, and then its lines.
-    Head,
-    /// The lines of the table of all items from this item on.
-    Items(usize),
-    /// The lines of the table of what remains from this item on.
-    Remains(usize),
+/// Where reading a table stands.
+#[derive(Clone, Copy, Drop)]
+pub(crate) struct Lines<'a> {
+    /// The number of the item whose line is next.
+    pub(crate) next: usize,
+    /// That item and those behind it.
+    pub(crate) items: &'a [FoundRecord],
 }
 
-/// Appends lines of the table of all items, and answers the item behind the last one.
+/// The stream that is being read.
+#[derive(Drop)]
+pub(crate) enum Reading<'a> {
+    Fork(ForkReading),
+    /// The table of all items, with its head.
+    Table(Lines<'a>),
+    /// Its lines that are left.
+    Items(Lines<'a>),
+    /// The lines that are left of the table of what remains.
+    Remains(Lines<'a>),
+}
+
+/// Puts lines of the table of all items behind a piece, until it is whole or there are none.
 fn push_items(
     alloc: Global,
     piece: &mut Vec<u8>,
     found: &Found<'_>,
-    first: usize,
-) -> Result<usize, SourceFault> {
-    let mut next = first;
-    while next < found.items.len() && piece.len() < PIECE {
-        let Ok(()) = push_item_line(alloc, piece, found, next) else {
+    lines: &mut Lines<'_>,
+) -> Result<(), SourceFault>
+    requires { piece.old.items ≡ [] }
+    ensures { OnOk result (ReadsLines (item_line found.now) piece.new.items lines.old lines.new) }
+{
+    while let [item, behind @ ..] = lines.items {
+        if piece.len() >= PIECE {
+            return Ok(());
+        }
+        let Ok(()) = push_item_line(alloc, piece, found, lines.next, item) else {
             return Err(SourceFault::Memory);
         };
-        next += 1;
+        lines.next += 1;
+        lines.items = behind;
     }
-    Ok(next)
+    Ok(())
 }
 
-/// Appends lines of the table of what remains, and answers the item behind the last one.
+/// Puts lines of the table of what remains behind a piece, until it is whole or there are none.
 fn push_remains(
     alloc: Global,
     piece: &mut Vec<u8>,
     found: &Found<'_>,
-    first: usize,
-) -> Result<usize, SourceFault> {
-    let mut next = first;
-    while next < found.items.len() && piece.len() < PIECE {
-        let Ok(()) = push_found_line(alloc, piece, found, next) else {
+    lines: &mut Lines<'_>,
+) -> Result<(), SourceFault>
+    requires { piece.old.items ≡ [] }
+    ensures { OnOk result (ReadsLines (remains_line found.now) piece.new.items lines.old lines.new) }
+{
+    while let [item, behind @ ..] = lines.items {
+        if piece.len() >= PIECE {
+            return Ok(());
+        }
+        let Ok(()) = push_remains_line(alloc, piece, found, lines.next, item) else {
             return Err(SourceFault::Memory);
         };
-        next += 1;
+        lines.next += 1;
+        lines.items = behind;
     }
-    Ok(next)
+    Ok(())
+}
+
+/// Puts the head of the table of all items in the place of a piece, which is empty.
+fn push_table_head(piece: &mut Vec<u8>) -> Result<(), SourceFault>
+    ensures { OnOk result (piece.new.items ≡ piece.old.items ++ csv_head) }
+{
+    match push_head(piece, Format::Csv) {
+        Ok(()) => Ok(()),
+        Err(_) => Err(SourceFault::Memory),
+    }
 }
 
 /// Reads the next bytes of a stream in the place of a piece, and none where none are left.
-pub(crate) fn read_next(
+pub(crate) fn read_next<'a>(
     alloc: Global,
-    found: &Found<'_>,
-    reading: &mut Reading,
+    found: &Found<'a>,
+    reading: &mut Reading<'a>,
     piece: &mut Vec<u8>,
-) -> Result<(), SourceFault> {
+) -> Result<(), SourceFault>
+    ensures { OnOk result (Reads piece.new.items (reading_rest found.now reading.old)
+        (reading_rest found.now reading.new)) }
+{
+    piece.clear();
     match reading {
         Reading::Fork(fork) => read_fork(found, fork, piece),
-        Reading::Head => {
-            piece.clear();
-            let Ok(()) = push_head(piece, Format::Csv) else {
-                return Err(SourceFault::Memory);
-            };
-            *reading = Reading::Items(0);
+        Reading::Table(lines) => {
+            push_table_head(piece)?;
+            let lines = *lines;
+            *reading = Reading::Items(lines);
             Ok(())
         }
-        Reading::Items(next) => {
-            piece.clear();
-            *next = push_items(alloc, piece, found, *next)?;
-            Ok(())
-        }
-        Reading::Remains(next) => {
-            piece.clear();
-            *next = push_remains(alloc, piece, found, *next)?;
-            Ok(())
-        }
+        Reading::Items(lines) => push_items(alloc, piece, found, lines),
+        Reading::Remains(lines) => push_remains(alloc, piece, found, lines),
     }
 }

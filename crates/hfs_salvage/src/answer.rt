@@ -43,7 +43,7 @@ fn lines_of(
     let mut text = String::new(alloc);
     text.push_str(first_line(image.check.lines.as_str()))?;
     text.push('\n')?;
-    push_directory(&mut text, image.directory, parts.is_unsure)?;
+    push_directory(&mut text, parts.directory, parts.is_unsure)?;
     push_line(&mut text, "files", sums.files)?;
     push_line(&mut text, "folders", sums.folders)?;
     push_line(&mut text, "bytes", sums.bytes)?;

@@ -2,7 +2,7 @@
 
 use crate::answer::RescueAnswer;
 use crate::listing::limit_of;
-use crate::loading::{LoadedImage, load_image};
+use crate::loading::{LoadedImage, find_parts, load_image};
 use crate::parts::Parts;
 use crate::words::BagWords;
 use hfs_bag::{BagFacts, BagFault, SourceFault, give_bag};
@@ -45,7 +45,7 @@ fn give_found<S: Shelf>(
     found: &Found<'_>,
     words: &BagWords<'_>,
 ) -> Result<(), BagFault> {
-    let head = head_with(image.bytes(), image.directory);
+    let head = head_with(image.bytes(), parts.directory);
     let report = report_text(alloc, &head, image.check.lines.as_str())?;
     let identifier = plain_name(alloc, volume_name(&parts.mdb))?;
     let name = image_name(alloc, words.words.image)?;
@@ -73,9 +73,9 @@ fn give_remains<S: Shelf>(
     alloc: Global,
     shelf: &mut S,
     image: &LoadedImage,
+    parts: &Parts,
     words: &BagWords<'_>,
 ) -> Result<RescueAnswer, BagFault> {
-    let parts = Parts::of(alloc, image.bytes(), image.directory)?;
     let limit = limit_of(&words.words, image);
     let salvage = Salvage::of(alloc, parts.trees(), &parts.items, limit)?;
     let found = Found {
@@ -86,21 +86,22 @@ fn give_remains<S: Shelf>(
         salvage: &salvage,
     };
     let sums = sums_of(alloc, &found)?;
-    give_found(alloc, shelf, image, &parts, &found, words)?;
-    Ok(RescueAnswer::of(alloc, image, &parts, &sums)?)
+    give_found(alloc, shelf, image, parts, &found, words)?;
+    Ok(RescueAnswer::of(alloc, image, parts, &sums)?)
 }
 
 /// Writes the bag of an image: to a folder beside its place, which gets its place when it is whole, and is taken away at a fault.
 fn write_bag<'a, R: Files + AllocGlobal>(
     rt: &R,
     image: &LoadedImage,
+    parts: &Parts,
     words: &BagWords<'a>,
 ) -> Result<RescueAnswer, TakeFault<'a>> {
     let mut shelf = match FileShelf::create(rt, words.folder) {
         Ok(shelf) => shelf,
         Err(fault) => return Err(TakeFault::of_shelf(fault)),
     };
-    match give_remains(rt.alloc(), &mut shelf, image, words) {
+    match give_remains(rt.alloc(), &mut shelf, image, parts, words) {
         Ok(answer) => match shelf.place(words.folder) {
             Ok(()) => Ok(answer),
             Err(fault) => Err(TakeFault::of_shelf(fault)),
@@ -120,8 +121,9 @@ pub fn rescue<'a, R: Files + AllocGlobal>(
     words: &BagWords<'a>,
 ) -> Result<RescueAnswer, TakeFault<'a>> {
     let image = load_image(rt, &words.words)?;
+    let parts = find_parts(rt.alloc(), &image, &words.words)?;
     if is_there(rt, words.folder) {
         return Err(TakeFault::IsThere(words.folder));
     }
-    write_bag(rt, &image, words)
+    write_bag(rt, &image, &parts, words)
 }

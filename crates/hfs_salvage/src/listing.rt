@@ -1,12 +1,12 @@
 //! The list of what remains.
 
 use crate::answer::RescueAnswer;
-use crate::loading::{LoadedImage, load_image};
+use crate::loading::{LoadedImage, find_parts, load_image};
 use crate::parts::Parts;
 use crate::words::RescueWords;
 use hfs_commands::Fault;
 use hfs_remains::{Salvage, usual_limit};
-use hfs_rescue_items::{Found, push_found_line, sums_of};
+use hfs_rescue_items::{Found, push_remains_line, sums_of};
 use hfs_texts::put;
 use std::alloc::Global;
 use std::io::Write;
@@ -40,7 +40,7 @@ fn write_lines<W: Write>(
 ) -> Result<(), Fault<'static>> {
     let mut text = Vec::new(alloc);
     for i in 0..found.items.len() {
-        let Ok(()) = push_found_line(alloc, &mut text, found, i) else {
+        let Ok(()) = push_remains_line(alloc, &mut text, found, i, &found.items[i]) else {
             return Err(Fault::NoMemory);
         };
         if text.len() >= PIECE {
@@ -55,11 +55,9 @@ fn write_list<'a, W: Write>(
     alloc: Global,
     writer: &mut W,
     image: &LoadedImage,
+    parts: &Parts,
     words: &RescueWords<'a>,
 ) -> Result<RescueAnswer, Fault<'a>> {
-    let Ok(parts) = Parts::of(alloc, image.bytes(), image.directory) else {
-        return Err(Fault::NoMemory);
-    };
     let limit = limit_of(words, image);
     let Ok(salvage) = Salvage::of(alloc, parts.trees(), &parts.items, limit) else {
         return Err(Fault::NoMemory);
@@ -75,7 +73,7 @@ fn write_list<'a, W: Write>(
         return Err(Fault::NoMemory);
     };
     write_lines(alloc, writer, &found)?;
-    match RescueAnswer::of(alloc, image, &parts, &sums) {
+    match RescueAnswer::of(alloc, image, parts, &sums) {
         Ok(answer) => Ok(answer),
         Err(_) => Err(Fault::NoMemory),
     }
@@ -90,5 +88,6 @@ pub fn list_rescue<'a, R: Files + AllocGlobal, W: Write>(
     words: &RescueWords<'a>,
 ) -> Result<RescueAnswer, Fault<'a>> {
     let image = load_image(rt, words)?;
-    write_list(rt.alloc(), writer, &image, words)
+    let parts = find_parts(rt.alloc(), &image, words)?;
+    write_list(rt.alloc(), writer, &image, &parts, words)
 }

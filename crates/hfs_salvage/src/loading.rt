@@ -1,9 +1,9 @@
 //! An image whose bytes are all there.
 
+use crate::parts::Parts;
 use crate::words::RescueWords;
 use hfs_commands::{CheckAnswer, Fault, OpenedFile, Window, needed_check_answer};
 use hfs_containers::{ByteRange, ReadAt};
-use hfs_rescue::directory_of;
 use hfs_take::{FoundPart, find_part};
 use std::alloc::Global;
 use std::io::{Read, Seek};
@@ -24,8 +24,6 @@ pub(crate) struct LoadedImage {
     pub(crate) line: Option<String>,
     /// What its check tells.
     pub(crate) check: CheckAnswer,
-    /// The number of the block that is taken for its directory.
-    pub(crate) directory: u32,
 }
 
 impl LoadedImage {
@@ -76,7 +74,8 @@ fn refusal<'a>(check: &CheckAnswer, path: &'a str) -> Fault<'a> {
     }
 }
 
-/// An image with all bytes of a part of a file. Faults: reading it; the image's own, where there is no directory in it; memory was refused.
+/// An image with all bytes of a part of a file. Faults: reading it; the image's own, where it is too short or too long for a directory; memory was
+/// refused.
 fn load_part<'a, F: Read + Seek + Drop>(
     alloc: Global,
     part: FoundPart<F>,
@@ -93,27 +92,34 @@ fn load_part<'a, F: Read + Seek + Drop>(
     }
     let Window { source, range } = bytes;
     let held = hold(alloc, source, range, path)?;
-    let mut image = LoadedImage {
+    Ok(LoadedImage {
         all: held.all,
         from: held.from,
         len: len as usize,
         line,
         check,
-        directory: 0,
-    };
-    let Some(directory) = directory_of(image.bytes()) else {
-        return Err(refusal(&image.check, path));
-    };
-    image.directory = directory;
-    Ok(image)
+    })
 }
 
-/// The image that is asked for. Faults, the first that holds: it can't be read; `NoVolume`; the image's own, where there is no directory in it;
-/// memory was refused.
+/// The image that is asked for. Faults, the first that holds: it can't be read; `NoVolume`; the image's own, where it is too short or too long for a
+/// directory; memory was refused.
 pub(crate) fn load_image<'a, R: Files + AllocGlobal>(
     rt: &R,
     words: &RescueWords<'a>,
 ) -> Result<LoadedImage, Fault<'a>> {
     let part = find_part(rt, words.image, words.volume)?;
     load_part(rt.alloc(), part, words.image)
+}
+
+/// What is found of an image. Faults: the image's own, where there is no directory in it; memory was refused.
+pub(crate) fn find_parts<'a>(
+    alloc: Global,
+    image: &LoadedImage,
+    words: &RescueWords<'a>,
+) -> Result<Parts, Fault<'a>> {
+    match Parts::of(alloc, image.bytes()) {
+        Ok(Some(parts)) => Ok(parts),
+        Ok(None) => Err(refusal(&image.check, words.image)),
+        Err(_) => Err(Fault::NoMemory),
+    }
 }
