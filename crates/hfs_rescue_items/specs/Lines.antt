@@ -1,5 +1,5 @@
 -- The lines of both tables.
-use Rattle.std.specs.Prelude.{ℕ, suc, List, [], ◌∷◌, ◌++◌, drop, Option, Some, None}
+use Rattle.std.specs.Prelude.{ℕ, suc, List, [], ◌∷◌, ◌++◌, Option, Some, None}
 use Rattle.hfs_model.specs.declared.reply.Info.{Info}
 use Rattle.hfs_remains.specs.Verdicts.{verdicts_at}
 use Rattle.hfs_rescue.specs.declared.catalog.FoundRecord.{FoundRecord}
@@ -29,10 +29,7 @@ abbrev pub lines_of : (ℕ → FoundRecord → List ℕ) → ℕ → List FoundR
 lines_of line i [] = []
 lines_of line i (item ∷ rest) = line i item ++ lines_of line (suc i) rest
 
--- those from a number on
-unfoldable pub lines_from : (ℕ → FoundRecord → List ℕ) → ℕ → List FoundRecord → List ℕ
-lines_from line i items = lines_of line i (drop i items)
-
+-- the whole texts
 abbrev pub remains_text : Found → List ℕ
 remains_text found = lines_of (remains_line found) 0 found.items.now
 

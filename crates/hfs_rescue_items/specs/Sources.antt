@@ -1,14 +1,13 @@
 -- What remains of a volume as the source of a bag.
-use Rattle.std.specs.Prelude.{ℕ, ◌-◌, false, List, [], ◌++◌, drop, map, take, Some, string_bytes}
+use Rattle.std.specs.Prelude.{ℕ, ◌-◌, false, List, [], drop, map, take, Some, string_bytes}
 use Rattle.hfs_bag.specs.Items.{BagItem}
 use Rattle.hfs_bag.specs.Sources.{SourceState}
-use Rattle.hfs_table.specs.Lines.{csv_head}
 use Rattle.hfs_rescue_items.specs.declared.came.Came.{Came}
 use Rattle.hfs_rescue_items.specs.declared.found.Found.{Found}
 use Rattle.hfs_rescue_items.specs.declared.plan.Planned.{Planned}
 use Rattle.hfs_rescue_items.specs.declared.reading.Reading.{Reading}
 use Rattle.hfs_rescue_items.specs.Found.{path_at}
-use Rattle.hfs_rescue_items.specs.Lines.{item_line, lines_of, remains_line}
+use Rattle.hfs_rescue_items.specs.Lines.{remains_text, table_text}
 use Rattle.hfs_rescue_items.specs.Reading.{reading_rest}
 
 -- the part of its path before a planned name, and the name
@@ -47,8 +46,5 @@ source_of found plan next came reading = record {
   left = map (planned_item found) (drop next plan);
   item = came_item came;
   bytes = reading_rest found reading;
-  tables = record {
-    items = csv_head ++ lines_of (item_line found) 0 found.items.now;
-    remains = Some (lines_of (remains_line found) 0 found.items.now);
-  };
+  tables = record { items = table_text found; remains = Some (remains_text found) };
 }
