@@ -1,5 +1,5 @@
 -- Words with commas between them.
-use Rattle.std.proofs.Common.{◌≡◌, ℕ, ⊥, ◌++◌, List, [], ◌∷◌, map, length, String, Global, string_bytes, refl, ap, arith}
+use Rattle.std.proofs.Common.{◌≡◌, ℕ, ◌++◌, List, [], ◌∷◌, map, length, String, Global, string_bytes, refl, ap, arith}
 use Rattle.std.specs.Prelude.{codes}
 use Rattle.std.specs.List.{join_by, flat_map}
 use Rattle.hfs_verdicts.specs.Verdicts.{text_of_words}
