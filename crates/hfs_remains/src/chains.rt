@@ -1,5 +1,5 @@
 //! The records with which forks go on, and how many blocks they have together.
-ghost use Rattle.std.specs.Prelude.{◌≡◌, ◌+◌, ◌^◌, ◌<◌, ◌≤◌, map, take, length, IfOk, OnOk};
+ghost use Rattle.std.specs.Prelude.{◌≡◌, ◌+◌, ◌++◌, ◌^◌, ◌<◌, ◌≤◌, map, length, IfOk, OnOk};
 ghost use Rattle.std.specs.List.{range_with_len};
 ghost use Rattle.hfs_places.specs.Chains.{LeadBy};
 ghost use Rattle.std.specs.Option.{option_copied};
@@ -14,13 +14,21 @@ use hfs_rescue::OverflowRecord;
 use std::alloc::{AllocError, Global};
 use std::marker::Model;
 
+/// How many blocks an extent has.
+fn block_count(extent: Extent) -> u32
+    ensures count { result ≡ extent.count }
+    ensures few { result < 2 ^ 16 }
+{
+    u32::from(extent.count)
+}
+
 /// How many blocks three extents have together.
 pub(crate) fn block_total(extents: &[Extent; 3]) -> u32
     ensures total { result ≡ space.block_total extents.now }
     ensures few { result < 2 ^ 18 }
 {
     let [first, second, third] = *extents;
-    u32::from(first.count) + u32::from(second.count) + u32::from(third.count)
+    block_count(first) + block_count(second) + block_count(third)
 }
 
 /// How many blocks a record has.

@@ -1,7 +1,7 @@
 //! The forks of files that remain: their blocks, and how many of their bytes are missing.
-ghost use Rattle.std.specs.Prelude.{◌≡◌, ℕ, ◌+◌, ◌*◌, ◌<◌, ◌≤◌, ◌^◌, ◌++◌, map, take, drop, length, min, IfOk, OnOk};
-ghost use Rattle.hfs_space.specs.Extents as space;
-ghost use Rattle.hfs_rescue.specs.OverflowRecords.{fork_extents};
+ghost use Rattle.std.specs.Prelude.{◌≡◌, ◌-◌, ◌≤◌, ◌^◌, ◌++◌, if◌then◌else◌, map, take, length, IfOk, OnOk};
+ghost use Rattle.std.specs.List.{range_with_len};
+ghost use Rattle.std.specs.Option.{is_some};
 ghost use Rattle.hfs_rescue.specs.TreeFiles.{AreThere};
 ghost use Rattle.hfs_remains.specs.Forks as spec;
 
@@ -107,11 +107,16 @@ fn fork_of(file: u32, kind: u8, record: &ForkRecord) -> Fork
 }
 
 /// Block `b`, where it is there.
+#[tactic(auto, unfolding(hfs_rescue::specs::Allocation::is_there))]
 fn there(total: u32, mdb: &Mdb, b: u32) -> Option<u16>
     ensures { result ≡ spec.there total mdb.now b }
 {
-    if b < 65_536 && is_there(total, mdb, b as u16) {
-        Some(b as u16)
+    if b >= u32::from(mdb.allocation_blocks) {
+        return None;
+    }
+    let b = b as u16;
+    if is_there(total, mdb, b) {
+        Some(b)
     } else {
         None
     }
@@ -137,17 +142,22 @@ fn push_extent(
     Ok(())
 }
 
+/// Of bytes that a block holds, those that are missing where it is.
+fn missing_of(place: Option<u16>, held: u32) -> u32
+    ensures { result ≡ if is_some place then 0 else held }
+{
+    if place.is_some() { 0 } else { held }
+}
+
 /// Of so many bytes in these blocks, how many a block is missing for.
-pub fn missing_in(mdb: &Mdb, places: &[Option<u16>], length: u32) -> u32
+pub(crate) fn missing_in(mdb: &Mdb, places: &[Option<u16>], length: u32) -> u32
     ensures { result ≡ spec.missing_in mdb.now.allocation_block_size length places.now }
 {
     let mut left = length;
     let mut missing = 0;
     for place in places {
         let held = left.min(mdb.allocation_block_size);
-        if place.is_none() {
-            missing += held;
-        }
+        missing += missing_of(*place, held);
         left -= held;
     }
     missing

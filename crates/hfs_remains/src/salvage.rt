@@ -166,9 +166,9 @@ impl<'a> Salvage<'a> {
         items: &[FoundRecord],
         limit: u64,
     ) -> Result<Salvage<'a>, AllocError>
-        ensures trees { IfOk result (λ made. made.trees ≡ trees) }
-        ensures shares { IfOk result (λ made. made.shares ≡ spec.shares_of trees.overflow.now
-            trees.mdb.now limit items.now) }
+        ensures trees { IfOk result (λ made. made.trees ≡ trees.entry) }
+        ensures shares { IfOk result (λ made. made.shares ≡ spec.shares_of
+            trees.entry.overflow.now trees.entry.mdb.now limit items.now) }
     {
         let chains = Chains::of(alloc, trees.overflow)?;
         let shares = shares_of(alloc, &chains, trees.mdb, limit, items)?;
