@@ -15,7 +15,7 @@ use Rattle.hfs_rescue.specs.TreeFiles.{FileBlocks, AreThere}
 use Rattle.hfs_rescue.specs.OverflowRecords.{fork_extents}
 use Rattle.hfs_remains.specs.declared.forks.Fork.{Fork}
 use Rattle.hfs_remains.specs.Chains.{at_most}
-use Rattle.hfs_remains.specs.Forks.{blocks_for, there, fork_blocks, fork_places, missing_in}
+use Rattle.hfs_remains.specs.Forks.{blocks_for, there, fork_blocks, missing_in}
 use Rattle.hfs_remains.proofs.CountLemmas.{at_most-full, at_most-few}
 
 -- ---- how many
@@ -107,6 +107,12 @@ step-extent f places new wanted i extents e within is added =
     map-long [] = refl
     map-long (b ∷ bs) = ap suc (map-long bs)
 
+-- before the first extent
+pub start-blocks : (f : ℕ → Option ℕ) (places : FileBlocks) (wanted : ℕ) (blocks : List ℕ) → places ≡ [] → places ++ map f (take (wanted - length places) blocks) ≡ map f (take wanted blocks)
+start-blocks f places wanted blocks none =
+    let all : wanted - 0 ≡ wanted = omega arith in
+    (λ t. none t ++ map f (take (wanted - length (none t)) blocks)) ∙ ap (λ (n : ℕ). map f (take n blocks)) all
+
 -- no extent is left
 pub all-extents : (f : ℕ → Option ℕ) (places : FileBlocks) (wanted i : ℕ) (extents : List Extent) → length extents ≤ i
     → places ++ map f (take (wanted - length places) (extent_blocks (drop i extents))) ≡ places
@@ -128,9 +134,8 @@ there-mapped total mdb (c ∷ bs) zero b e = one (is_there total mdb c) refl e
     one false is e = cc
 there-mapped total mdb (c ∷ bs) (suc i) b e = there-mapped total mdb bs i b e
 
-pub there-places : (total : ℕ) (records : Overflow) (mdb : Mdb) (fork : Fork) (places : FileBlocks) → places ≡ fork_places total records mdb fork → AreThere total mdb places
-unfolding fork_places
-there-places total records mdb fork places is i b e = there-mapped total mdb (fork_blocks records mdb fork) i b (ap (λ (l : FileBlocks). slice_index_or l i None) (sym is) ∙ e)
+pub there-listed : (total : ℕ) (mdb : Mdb) (bs : List ℕ) (places : FileBlocks) → places ≡ map (there total mdb) bs → AreThere total mdb places
+there-listed total mdb bs places is i b e = there-mapped total mdb bs i b (ap (λ (l : FileBlocks). slice_index_or l i None) (sym is) ∙ e)
 
 -- ---- missing blocks
 
