@@ -26,11 +26,22 @@ pub within-at : (o : Option ℕ) (n : ℕ) → ((b : ℕ) → o ≡ Some b → b
 within-at None n within = tt
 within-at (Some b) n within = within b refl
 
+-- the first of these
+pub taken-at : (places : FileBlocks) (n i b : ℕ) → slice_index_or (take n places) i None ≡ Some b → slice_index_or places i None ≡ Some b
+taken-at [] zero i b e = cc
+taken-at [] (suc n) i b e = cc
+taken-at (place ∷ places) zero i b e = cc
+taken-at (place ∷ places) (suc n) zero b e = e
+taken-at (place ∷ places) (suc n) (suc i) b e = taken-at places n i b e
+
 -- ---- one owner more
 
-count-more : (b : ℕ) (used : FileBlocks) (place : Option ℕ) → count_by (is_block b) (used ++ place ∷ []) ≡ count_by (is_block b) used + cond (is_block b place) 1 0
+abbrev one_if : Bool → ℕ
+one_if b = cond b 1 0
+
+count-more : (b : ℕ) (used : FileBlocks) (place : Option ℕ) → count_by (is_block b) (used ++ place ∷ []) ≡ count_by (is_block b) used + one_if (is_block b place)
 count-more b used place =
-    let own = λ (p : Option ℕ). cond (is_block b p) 1 0 in
+    let own = λ (p : Option ℕ). one_if (is_block b p) in
     sum_by-append own used (place ∷ []) ∙ omega (arith, sum_by-cons own place [])
 
 pub add-none : (counts : List ℕ) → AddsOwners (None ∷ []) counts counts
@@ -44,13 +55,13 @@ add-at : (counts new : List ℕ) (c : ℕ) → c < length counts → new ≡ set
 add-at counts new c within is used counted b lt =
     elim (cases_eq c b) [
       | inl same ↦
-          let there : cond (is_block b (Some c)) 1 0 ≡ 1 = ap (λ (t : Bool). cond t 1 0) (eq-eqb c b same) in
+          let there : one_if (is_block b (Some c)) ≡ 1 = ap one_if (eq-eqb c b same) in
           let put : count_at new c ≡ min 2 (count_at counts c + 1) = ap (λ (l : List ℕ). count_at l c) is ∙ get_or-set_same counts c (min 2 (count_at counts c + 1)) 0 within in
           let here : count_at new b ≡ count_at new c = ap (count_at new) (sym same) in
           let before : count_at counts c ≡ min 2 (count_by (is_block b) used) = ap (count_at counts) same ∙ counted b lt in
           omega (arith, count-more b used (Some c), there, put, here, before)
       | inr other ↦
-          let there : cond (is_block b (Some c)) 1 0 ≡ 0 = ap (λ (t : Bool). cond t 1 0) (ne_eqb c b other) in
+          let there : one_if (is_block b (Some c)) ≡ 0 = ap one_if (ne_eqb c b other) in
           let put : count_at new b ≡ count_at counts b = ap (λ (l : List ℕ). count_at l b) is ∙ get_or-set_other counts c b (min 2 (count_at counts c + 1)) 0 (λ e. other (sym e)) in
           omega (arith, count-more b used (Some c), there, put, counted b lt)
     ]

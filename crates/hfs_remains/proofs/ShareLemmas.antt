@@ -1,5 +1,5 @@
 -- What is taken, and who owns its blocks.
-use Rattle.std.proofs.Common.{◌≡◌, ℕ, ◌+◌, ◌<◌, Bool, List, [], ◌∷◌, ◌++◌, drop, take, length, get_or, Option, sym, ap, ◌∙◌, append_assoc}
+use Rattle.std.proofs.Common.{◌≡◌, ℕ, ◌+◌, ◌<◌, Bool, List, [], ◌∷◌, ◌++◌, drop, take, length, get_or, slice_index_or, Option, None, sym, ap, ◌∙◌, append_assoc}
 use Rattle.std.specs.List.{flat_map}
 use Rattle.std.proofs.lemmas.List.{append-nil, take_more, drop_more}
 use Rattle.std.proofs.lemmas.List.Concat.{flat_map-append}
@@ -24,12 +24,12 @@ step-shares records mdb made items room new_room i item share within is share-is
 
 -- the owners by one more item
 pub step-owners : (total : ℕ) (records : Overflow) (mdb : Mdb) (young : Bool) (shares : List (Option FileShares)) (i : ℕ) (item : Option FileShares) (old mid new : List ℕ)
-    → i < length shares → item ≡ get_or shares i item
+    → i < length shares → item ≡ slice_index_or shares i None
     → AddsOwners (items_used total records mdb young (take i shares)) old mid → AddsOwners (item_used total records mdb young item) mid new
     → AddsOwners (items_used total records mdb young (take (i + 1) shares)) old new
 step-owners total records mdb young shares i item old mid new within is before more =
     let used = item_used total records mdb young in
-    let next : take (i + 1) shares ≡ take i shares ++ item ∷ [] = take_more shares i item within ∙ ap (λ (x : Option FileShares). take i shares ++ x ∷ []) (sym is) in
+    let next : take (i + 1) shares ≡ take i shares ++ item ∷ [] = take_more shares i None within ∙ ap (λ (x : Option FileShares). take i shares ++ x ∷ []) (sym is) in
     let all : items_used total records mdb young (take i shares) ++ used item ≡ items_used total records mdb young (take (i + 1) shares) =
     sym (ap (flat_map used) next ∙ flat_map-append used (take i shares) (item ∷ []) ∙ ap (λ l. flat_map used (take i shares) ++ l) (append-nil (used item))) in
     add-same _ _ old new all (add-both (items_used total records mdb young (take i shares)) (used item) old mid new before more)

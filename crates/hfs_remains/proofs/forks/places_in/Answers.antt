@@ -9,7 +9,7 @@ loop-extent-init c = start-blocks (there c.args.total c.args.mdb.now) c.new-plac
 
 pub loop-extent-preserved : goal.loop-extent-preserved
 loop-extent-preserved c =
-    step-extent (there c.args.total c.args.mdb.now) c.loop-extent.places.items c.push_extent.new.places.items c.args.wanted c.loop-extent.extent-index c.args.extents.now _
+    step-extent (there c.args.total c.args.mdb.now) c.loop-extent.places.items c.push_extent.new.places.items c.args.wanted c.loop-extent.extent-index c.args.extents.now _ _
     c.loop-extent-test.true refl c.in_ok-push_extent.ensures
     ∙ c.loop-extent.invariant
 
