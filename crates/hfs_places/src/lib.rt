@@ -7,8 +7,6 @@ mod numbers;
 mod paths;
 mod places;
 mod rows;
-#[cfg(test)]
-mod tests;
 mod things;
 
 pub use chains::doubled;

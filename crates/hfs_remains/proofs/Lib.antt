@@ -1,3 +1,6 @@
-pub mod CodeLemmas
+mod CodeLemmas
 pub mod SumLemmas
 pub mod CountLemmas
+mod OwnerLemmas
+mod BlockLemmas
+mod ShareLemmas

@@ -3,12 +3,13 @@ use Rattle.std.proofs.Common.{◌≡◌, ℕ, zero, suc, ◌+◌, ◌*◌, ◌^�
 use Rattle.std.specs.List.{range_with_len}
 use Rattle.std.specs.Option.{option_and_then, option_map_or}
 use Rattle.std.proofs.lemmas.Bool.{cases_lt}
-use Rattle.std.proofs.lemmas.List.{get_or_past}
+use Rattle.std.proofs.lemmas.List.{get_or_past, length-map}
 use Rattle.std.proofs.lemmas.List.FromFn.{get_or-map-range_with_len, length-map-range_with_len}
 use Rattle.std.proofs.lemmas.Nat.{pow-add}
 use Rattle.hfs_places.specs.Chains.{place_at, steps, LeadBy}
 use Rattle.hfs_places.proofs.ChainLemmas.{steps-zero, steps-suc}
-use Rattle.hfs_remains.specs.Chains.{number_at, blocks_in, summed, SumBy, AreBelow}
+use Rattle.hfs_space.specs.Extents.{Overflow}
+use Rattle.hfs_remains.specs.Chains.{own_blocks, next_place, owns_of, nexts_of, number_at, blocks_in, summed, SumBy, AreBelow}
 
 pub blocks_in-zero : (owns : List ℕ) (nexts : List (Option ℕ)) (i : ℕ) → blocks_in owns nexts zero i ≡ 0
 unfolding blocks_in
@@ -97,3 +98,9 @@ below-more sums jumps made bits is all below i =
     let power : 2 ^ (bits + 18 + 1) ≡ 2 ^ (bits + 18) * 2 = pow-add 2 (bits + 18) 1 in
     let same : 2 ^ (bits + 1 + 18) ≡ 2 ^ (bits + 18 + 1) = ap (λ (n : ℕ). 2 ^ n) place in
     omega (arith, power, same, below-twice sums jumps made (2 ^ (bits + 18)) is all below i)
+
+-- ---- numbers of records
+
+pub same-length : (records : Overflow) → length (owns_of records) ≡ length (nexts_of records)
+unfolding owns_of nexts_of
+same-length records = length-map records own_blocks ∙ sym (length-map records (next_place records))

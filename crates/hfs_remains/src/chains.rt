@@ -1,5 +1,5 @@
 //! The records with which forks go on, and how many blocks they have together.
-ghost use Rattle.std.specs.Prelude.{◌≡◌, ◌+◌, ◌^◌, ◌<◌, ◌≤◌, map, take, length, IfOk, OnOk};
+ghost use Rattle.std.specs.Prelude.{◌≡◌, ◌+◌, ◌++◌, ◌^◌, ◌<◌, ◌≤◌, map, length, IfOk, OnOk};
 ghost use Rattle.std.specs.List.{range_with_len};
 ghost use Rattle.hfs_places.specs.Chains.{LeadBy};
 ghost use Rattle.std.specs.Option.{option_copied};
@@ -14,13 +14,21 @@ use hfs_rescue::OverflowRecord;
 use std::alloc::{AllocError, Global};
 use std::marker::Model;
 
+/// How many blocks an extent has.
+fn block_count(extent: Extent) -> u32
+    ensures count { result ≡ extent.count }
+    ensures few { result < 2 ^ 16 }
+{
+    u32::from(extent.count)
+}
+
 /// How many blocks three extents have together.
 pub(crate) fn block_total(extents: &[Extent; 3]) -> u32
     ensures total { result ≡ space.block_total extents.now }
     ensures few { result < 2 ^ 18 }
 {
     let [first, second, third] = *extents;
-    u32::from(first.count) + u32::from(second.count) + u32::from(third.count)
+    block_count(first) + block_count(second) + block_count(third)
 }
 
 /// How many blocks a record has.
@@ -139,6 +147,17 @@ fn number_at(numbers: &[u64], i: usize) -> u64
     if i < numbers.len() { numbers[i] } else { 0 }
 }
 
+/// So many, but no more than are wanted.
+fn at_most(wanted: u32, count: u64) -> u32
+    ensures { result ≡ spec.at_most wanted count }
+{
+    if u64::from(wanted) <= count {
+        wanted
+    } else {
+        count as u32
+    }
+}
+
 /// The number at a place and that at the place to which it leads together.
 fn summed(sums: &[u64], jumps: &[Option<usize>], i: usize) -> u64
     requires { spec.AreBelow (2 ^ 62) sums.now }
@@ -178,8 +197,8 @@ fn far_sums(
     ensures sums { IfOk result (λ sums. spec.SumBy (2 ^ 16) owns.items nexts.items sums.items) }
     ensures fit { IfOk result (λ sums. spec.AreBelow (2 ^ 34) sums.items) }
 {
-    let mut sums = Vec::from_slice(alloc, &owns)?;
-    let mut jumps = Vec::from_slice(alloc, &nexts)?;
+    let mut sums = owns;
+    let mut jumps = nexts;
     let mut bits = 0u32;
     while bits < 16 {
         sums = all_summed(alloc, &sums, &jumps)?;
@@ -244,14 +263,7 @@ impl<'a> Chains<'a> {
             return wanted;
         }
         match record_place(&self.places, self.records, file, fork, own) {
-            Some(i) => {
-                let count = u64::from(own) + number_at(&self.sums, i);
-                if u64::from(wanted) <= count {
-                    wanted
-                } else {
-                    count as u32
-                }
-            }
+            Some(i) => at_most(wanted, u64::from(own) + number_at(&self.sums, i)),
             None => own,
         }
     }

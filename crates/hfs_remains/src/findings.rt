@@ -80,7 +80,8 @@ pub(crate) fn find_fork(
         chains.now mdb.now used share.now) }
 {
     if share.taken {
-        return taken_fork(alloc, total, mdb, chains, owners, &share.fork);
+        let found = taken_fork(alloc, total, mdb, chains, owners, &share.fork)?;
+        return Ok(found);
     }
     Ok(FoundFork {
         length: 0,

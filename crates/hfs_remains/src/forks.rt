@@ -1,7 +1,8 @@
 //! The forks of files that remain: their blocks, and how many of their bytes are missing.
-ghost use Rattle.std.specs.Prelude.{◌≡◌, ℕ, ◌+◌, ◌*◌, ◌<◌, ◌≤◌, ◌^◌, ◌++◌, map, take, drop, length, min, IfOk, OnOk};
-ghost use Rattle.hfs_space.specs.Extents as space;
-ghost use Rattle.hfs_rescue.specs.OverflowRecords.{fork_extents};
+ghost use Rattle.std.specs.Prelude.{◌≡◌, ◌-◌, ◌≤◌, ◌^◌, ◌++◌, if◌then◌else◌, map, take, length, min, IfOk, OnOk};
+ghost use Rattle.std.specs.List.{range_with_len};
+ghost use Rattle.std.specs.Option.{is_some};
+ghost use Rattle.hfs_space.specs.Extents.{extent_blocks};
 ghost use Rattle.hfs_rescue.specs.TreeFiles.{AreThere};
 ghost use Rattle.hfs_remains.specs.Forks as spec;
 
@@ -33,8 +34,20 @@ pub(crate) fn blocks_for(mdb: &Mdb, len: u32) -> u32
     len.div_ceil(mdb.allocation_block_size)
 }
 
+/// The lesser of two numbers of bytes.
+fn lesser(held: u64, len: u32) -> u32
+    ensures { result ≡ min len held }
+{
+    if held < u64::from(len) {
+        held as u32
+    } else {
+        len
+    }
+}
+
 impl Fork {
     /// The two forks of a file's record, data before resources; None of any other record.
+    #[tactic(auto, unfolding(hfs_fields::specs::Records::begins_file))]
     pub fn both(body: &[u8]) -> Option<(Fork, Fork)>
         ensures { result ≡ spec.both_forks body.now }
     {
@@ -67,7 +80,7 @@ impl Fork {
     {
         let count = self.block_count(chains, mdb);
         let held = u64::from(count) * u64::from(mdb.allocation_block_size);
-        held.min(u64::from(self.len)) as u32
+        lesser(held, self.len)
     }
 
     /// The blocks of the fork in order, None in the place of each that is missing. The only error is want of memory.
@@ -86,11 +99,7 @@ impl Fork {
     {
         let wanted = blocks_for(mdb, self.len);
         let extents = extents_of(alloc, chains, self.file, self.kind, wanted, &self.first)?;
-        let mut places = Vec::new(alloc);
-        for extent in &extents {
-            push_extent(&mut places, *extent, total, mdb, wanted)?;
-        }
-        Ok(places)
+        places_in(alloc, total, mdb, wanted, &extents)
     }
 }
 
@@ -107,11 +116,16 @@ fn fork_of(file: u32, kind: u8, record: &ForkRecord) -> Fork
 }
 
 /// Block `b`, where it is there.
+#[tactic(auto, unfolding(hfs_rescue::specs::Allocation::is_there))]
 fn there(total: u32, mdb: &Mdb, b: u32) -> Option<u16>
     ensures { result ≡ spec.there total mdb.now b }
 {
-    if b < 65_536 && is_there(total, mdb, b as u16) {
-        Some(b as u16)
+    if b >= u32::from(mdb.allocation_blocks) {
+        return None;
+    }
+    let b = b as u16;
+    if is_there(total, mdb, b) {
+        Some(b)
     } else {
         None
     }
@@ -137,17 +151,41 @@ fn push_extent(
     Ok(())
 }
 
+/// The blocks of extents, as many as are wanted, None in the place of each that is missing.
+fn places_in(
+    alloc: Global,
+    total: u32,
+    mdb: &Mdb,
+    wanted: u32,
+    extents: &[Extent],
+) -> Result<Vec<Option<u16>>, AllocError>
+    ensures places { IfOk result (λ places. places.items ≡ map (spec.there total mdb.now)
+        (take wanted (extent_blocks extents.now))) }
+    ensures there { IfOk result (λ places. AreThere total mdb.now places.items) }
+{
+    let mut places = Vec::new(alloc);
+    for extent in extents {
+        push_extent(&mut places, *extent, total, mdb, wanted)?;
+    }
+    Ok(places)
+}
+
+/// Of bytes that a block holds, those that are missing where it is.
+fn missing_of(place: Option<u16>, held: u32) -> u32
+    ensures { result ≡ if is_some place then 0 else held }
+{
+    if place.is_some() { 0 } else { held }
+}
+
 /// Of so many bytes in these blocks, how many a block is missing for.
-pub fn missing_in(mdb: &Mdb, places: &[Option<u16>], length: u32) -> u32
+pub(crate) fn missing_in(mdb: &Mdb, places: &[Option<u16>], length: u32) -> u32
     ensures { result ≡ spec.missing_in mdb.now.allocation_block_size length places.now }
 {
     let mut left = length;
     let mut missing = 0;
     for place in places {
         let held = left.min(mdb.allocation_block_size);
-        if place.is_none() {
-            missing += held;
-        }
+        missing += missing_of(*place, held);
         left -= held;
     }
     missing

@@ -1,5 +1,5 @@
 //! The forks of the items of a damaged volume, what is taken of them, and what is said of each.
-ghost use Rattle.std.specs.Prelude.{◌≡◌, ◌*◌, ◌≤◌, ◌<◌, length, IfOk, OnOk};
+ghost use Rattle.std.specs.Prelude.{◌≡◌, ◌*◌, ◌≤◌, ◌<◌, ◌&&◌, not, length, IfOk, OnOk};
 ghost use Rattle.hfs_rescue.specs.TreeFiles.{AreThere};
 ghost use Rattle.hfs_remains.specs.Owners.{AddsOwners, CountOwners};
 ghost use Rattle.hfs_remains.specs.Verdicts as spec;
@@ -45,6 +45,13 @@ fn own_share(
     Ok(())
 }
 
+/// Whether an item is passed over where those alone are asked for that aren't old.
+fn is_passed(young: bool, old: bool) -> bool
+    ensures { result ≡ (young && old) }
+{
+    young && old
+}
+
 /// Adds the owners of the blocks of an item's forks that are taken; of an old item only where all are asked for.
 fn own_item(
     alloc: Global,
@@ -63,11 +70,12 @@ fn own_item(
     let Some(file) = item else {
         return Ok(());
     };
-    if young && file.old {
+    if is_passed(young, file.old) {
         return Ok(());
     }
     own_share(alloc, total, mdb, chains, owners, &file.data)?;
-    own_share(alloc, total, mdb, chains, owners, &file.resource)
+    own_share(alloc, total, mdb, chains, owners, &file.resource)?;
+    Ok(())
 }
 
 /// Adds the owners of the blocks of items' forks that are taken, of old items only where all are asked for.
@@ -102,6 +110,39 @@ fn own_tree(total: u32, mdb: &Mdb, owners: &mut [u8], file: &[Option<u16>], size
     add_owners(owners, &file[..count]);
 }
 
+/// Adds the owners of each block: the trees' files, and the forks of the items that are taken, or of those alone that aren't old.
+fn own_all(
+    alloc: Global,
+    trees: &Trees<'_>,
+    chains: &Chains<'_>,
+    owners: &mut [u8],
+    shares: &[Option<FileShares>],
+    young: bool,
+) -> Result<(), AllocError>
+    requires chains { chains.now ≡ trees.now.overflow.now }
+    requires all { length owners.old ≡ trees.now.mdb.now.allocation_blocks }
+    ensures { OnOk result (AddsOwners (spec.all_used trees.now young shares.now) owners.old
+        owners.new) }
+{
+    let mdb = trees.mdb;
+    own_tree(
+        trees.total,
+        mdb,
+        owners,
+        trees.extents_file,
+        mdb.extents_file_size,
+    );
+    own_tree(
+        trees.total,
+        mdb,
+        owners,
+        trees.catalog_file,
+        mdb.catalog_file_size,
+    );
+    own_items(alloc, trees.total, mdb, chains, owners, young, shares)?;
+    Ok(())
+}
+
 /// How many own each block: the trees' files, and the forks of the items that are taken, or of those alone that aren't old.
 fn owners_of(
     alloc: Global,
@@ -116,24 +157,19 @@ fn owners_of(
     ensures all { IfOk result (λ owners. length owners.items
         ≡ trees.now.mdb.now.allocation_blocks) }
 {
-    let mdb = trees.mdb;
-    let mut owners = no_owners(alloc, mdb.allocation_blocks)?;
-    own_tree(
-        trees.total,
-        mdb,
-        &mut owners,
-        trees.extents_file,
-        mdb.extents_file_size,
-    );
-    own_tree(
-        trees.total,
-        mdb,
-        &mut owners,
-        trees.catalog_file,
-        mdb.catalog_file_size,
-    );
-    own_items(alloc, trees.total, mdb, chains, &mut owners, young, shares)?;
+    let mut owners = no_owners(alloc, trees.mdb.allocation_blocks)?;
+    own_all(alloc, trees, chains, &mut owners, shares, young)?;
     Ok(owners)
+}
+
+/// A fork of a file.
+fn share_of(file: &FileShares, kind: ForkKind) -> &Share
+    ensures { result.now ≡ spec.fork_share kind file.now }
+{
+    match kind {
+        ForkKind::Data => &file.data,
+        ForkKind::Resource => &file.resource,
+    }
 }
 
 /// The forks of the items of a damaged volume, and what is taken of them. Contracts see the trees and what is taken.
@@ -166,9 +202,9 @@ impl<'a> Salvage<'a> {
         items: &[FoundRecord],
         limit: u64,
     ) -> Result<Salvage<'a>, AllocError>
-        ensures trees { IfOk result (λ made. made.trees ≡ trees) }
-        ensures shares { IfOk result (λ made. made.shares ≡ spec.shares_of trees.overflow.now
-            trees.mdb.now limit items.now) }
+        ensures trees { IfOk result (λ made. made.trees ≡ trees.entry) }
+        ensures shares { IfOk result (λ made. made.shares ≡ spec.shares_of
+            trees.entry.overflow.now trees.entry.mdb.now limit items.now) }
     {
         let chains = Chains::of(alloc, trees.overflow)?;
         let shares = shares_of(alloc, &chains, trees.mdb, limit, items)?;
@@ -190,6 +226,15 @@ impl<'a> Salvage<'a> {
         self.shares.len()
     }
 
+    /// The numbers of the owners of each block that count for an item that is old, or isn't.
+    fn owners_for(&self, old: bool) -> &[u8]
+        ensures owners { CountOwners (spec.all_used self.now.trees (not old) self.now.shares)
+            result.now }
+        ensures all { length result.now ≡ self.now.trees.mdb.now.allocation_blocks }
+    {
+        if old { &self.all } else { &self.young }
+    }
+
     /// What is found of a fork of a file.
     fn found(
         &self,
@@ -200,12 +245,10 @@ impl<'a> Salvage<'a> {
         ensures { IfOk result (λ found. spec.IsForkOf self.now kind found file.now) }
     {
         let trees = &self.trees;
-        let share = match kind {
-            ForkKind::Data => &file.data,
-            ForkKind::Resource => &file.resource,
-        };
-        let owners = if file.old { &self.all } else { &self.young };
-        find_fork(alloc, trees.total, trees.mdb, &self.chains, owners, share)
+        let share = share_of(file, kind);
+        let owners = self.owners_for(file.old);
+        let found = find_fork(alloc, trees.total, trees.mdb, &self.chains, owners, share)?;
+        Ok(found)
     }
 
     /// A fork of item `i`, counted from 0: how many of its bytes are taken, the blocks that hold them, and what is said of it. None

@@ -50,16 +50,17 @@ fn words_of(alloc: Global, finding: &Finding) -> Result<Vec<String>, AllocError>
     Ok(words)
 }
 
-/// Appends words with commas between them, or `whole` where there are none.
-fn push_words(alloc: Global, text: &mut String, words: &[String]) -> Result<(), AllocError>
-    ensures { OnOk result (Gains text.old text.new (spec.text_of_words (map string_bytes
-        words.now))) }
+/// Words with commas between them, or `whole` where there are none.
+fn joined(alloc: Global, words: &[String]) -> Result<String, AllocError>
+    ensures { IfOk result (λ text. string_bytes text ≡ spec.text_of_words (map string_bytes
+        words.now)) }
 {
     if words.is_empty() {
-        return text.push_str("whole");
+        let whole = String::from_str(alloc, "whole")?;
+        return Ok(whole);
     }
-    let joined = words.join(alloc, ",")?;
-    text.push_str(joined.as_str())
+    let text = words.join(alloc, ",")?;
+    Ok(text)
 }
 
 /// Appends what is said of a fork: `left`, or each of `cut N`, `missing N` and `shared` that holds, with commas between, or `whole`.
@@ -71,7 +72,8 @@ pub fn push_verdict(alloc: Global, text: &mut String, verdict: &Verdict) -> Resu
         Verdict::Left => text.push_str("left"),
         Verdict::Taken(finding) => {
             let words = words_of(alloc, finding)?;
-            push_words(alloc, text, &words)
+            let said = joined(alloc, &words)?;
+            text.push_str(said.as_str())
         }
     }
 }

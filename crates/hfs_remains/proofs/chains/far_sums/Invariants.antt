@@ -6,8 +6,8 @@ use Rattle.hfs_remains.proofs.chains.far_sums.Given as goal
 
 abbrev pub invariant-loop-bits : goal.invariant-loop-bits
 invariant-loop-bits l = record {
-  sum : SumBy (2 ^ l.bits) l.owns.items l.nexts.items l.sums.items;
-  lead : LeadBy (2 ^ l.bits) l.nexts.items l.jumps.items;
+  sum : SumBy (2 ^ l.bits) l.fn.owns.items l.fn.nexts.items l.sums.items;
+  lead : LeadBy (2 ^ l.bits) l.fn.nexts.items l.jumps.items;
   all : length l.jumps.items ≡ length l.sums.items;
   fit : AreBelow (2 ^ (l.bits + 18)) l.sums.items;
   most : l.bits ≤ 16;

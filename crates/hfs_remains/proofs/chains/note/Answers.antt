@@ -7,7 +7,7 @@ use Rattle.hfs_remains.proofs.chains.note.Goals as goal
 
 pub returns : goal.returns
 returns c =
-    let key = c.key.ensures in
+    let key = c.key-key.ensures in
     on_ok _ _ _
     (λ notes. notes-record c.args.places.now c.put_first.new.self c.args.i c.code.result c.args.record.now
     (subst (λ (k : ExtKey). k.fork < 256) key (omega arith)) (subst (λ (k : ExtKey). k.block < 65536) key (omega arith))

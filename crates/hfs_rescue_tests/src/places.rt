@@ -1,5 +1,5 @@
 //! Where items are put: paths by hand.
-use crate::{Places, Thing};
+use hfs_places::{Places, Thing};
 use hfs_fields::Name;
 use std::alloc::{AllocError, Global};
 
