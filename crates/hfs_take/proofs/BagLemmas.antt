@@ -1,4 +1,4 @@
--- Bags of images, and what they tell.
+-- Bags of images whose bytes may be known.
 use Rattle.std.proofs.Common.{◌≡◌, ℕ, true, List, [], ◌∷◌, ◌++◌, length, Option, Some, None, refl, sym, ap, subst, ◌∙◌}
 use Rattle.std.specs.Prelude.{codes}
 use Rattle.std.specs.Borrow.{Bor}
@@ -60,17 +60,17 @@ bag-same image told words f g a b =
 -- ---- images whose bytes may be known
 
 -- what was given where they are known was given of the image's bag
-of-known : (known : Option (List ℕ)) (len : ℕ) (line : Option (List ℕ)) (words : TakeWords) (facts : BagFacts) (left : List ToldRow) (came : CameItem) (reading : Reading)
+pub of-known : (known : Option (List ℕ)) (len : ℕ) (line : Option (List ℕ)) (words : TakeWords) (facts : BagFacts) (left : List ToldRow) (came : CameItem) (reading : Reading)
     (P : List ShelfEntry → Type 0) → OfKnown known len (λ image. TellsOf image line words facts)
     → (is_known_so known len ≡ true
-    → P (bag_of (source_of (opened_value known len) left came reading).all (source_of (opened_value known len) left came reading).table facts))
+    → P (bag_of (source_of (opened_value known len) left came reading).all (source_of (opened_value known len) left came reading).tables facts))
     → OfBag (opened_value known len) line words P
 of-known None len line words facts left came reading P tells given = tt
 of-known (Some image) len line words facts left came reading P tells given =
     λ same other told. subst P (bag-same image line words facts other (tells same) told) (given (eq-eqb (length image) len same))
 
 -- nothing was given yet
-none-known : (known : Option (List ℕ)) (len : ℕ) (line : Option (List ℕ)) (words : TakeWords) (P : List ShelfEntry → Type 0)
+pub none-known : (known : Option (List ℕ)) (len : ℕ) (line : Option (List ℕ)) (words : TakeWords) (P : List ShelfEntry → Type 0)
     → ((bag : List ShelfEntry) → P bag) → OfBag (opened_value known len) line words P
 none-known None len line words P all = tt
 none-known (Some image) len line words P all = λ same facts told. all (image_bag image facts)

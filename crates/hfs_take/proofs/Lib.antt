@@ -1,3 +1,4 @@
 pub mod DigestLemmas
+pub mod ToldLemmas
 pub mod BagLemmas
 pub mod FaultLemmas

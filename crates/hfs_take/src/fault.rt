@@ -6,7 +6,6 @@ use hfs_bag::{BagFault, SourceFault};
 use hfs_check::MountFault;
 use hfs_commands::{Fault, ShownPath, Status};
 use hfs_shelves::ShelfFault;
-use std::alloc::AllocError;
 use std::fmt;
 
 /// Why a disk was not taken apart. Its `Display` is the text that the program prints alone on a line.
@@ -68,18 +67,6 @@ impl TakeFault<'_> {
             BagFault::Shelf(fault) => TakeFault::of_shelf(fault),
             BagFault::TooLarge => TakeFault::Image(Fault::Refused(MountFault::TooLarge)),
         }
-    }
-}
-
-impl<'a> From<Fault<'a>> for TakeFault<'a> {
-    fn from(fault: Fault<'a>) -> TakeFault<'a> {
-        TakeFault::Image(fault)
-    }
-}
-
-impl From<AllocError> for TakeFault<'_> {
-    fn from(_: AllocError) -> Self {
-        TakeFault::Image(Fault::NoMemory)
     }
 }
 

@@ -1,4 +1,5 @@
 //! An image that is to be taken apart.
+ghost use Rattle.std.proofs.Props.{props};
 ghost use Rattle.std.specs.Prelude.{◌≡◌, IfErr, IfOk};
 ghost use Rattle.hfs_needed.specs.Known.{IsReportOf};
 ghost use Rattle.hfs_needed.specs.Opened.{IsRefusedFor, IsSoundOf};
@@ -20,7 +21,7 @@ pub struct TakenImage<S: BlockSource> {
     /// Where it lies in its file, where it was looked for there: the line that a bag has of it.
     pub volume: Option<String>,
     ghost len_is: { len ≡ opened.len },
-    ghost report_is: { IsReportOf opened.known len report },
+    ghost report_is: { IsReportOf opened.known len report } by { Prim.hlevel props },
 }
 
 impl<S: BlockSource + Drop> TakenImage<S> {

@@ -1,5 +1,8 @@
 //! The word that takes a disk apart.
 ghost use Rattle.std.specs.Prelude.{◌≡◌, IfErr, IfOk, string_bytes};
+ghost use Rattle.hfs_bag.specs.Sums.{IsSumOf};
+ghost use Rattle.hfs_image_items.specs.Items.{bag_items, entries_in};
+ghost use Rattle.hfs_needed.specs.Known.{OfKnown};
 ghost use Rattle.hfs_take.specs.Faults.{IsTakeFault, taken_text};
 ghost use Rattle.hfs_take.specs.Folders.{IsFolderPath};
 
@@ -16,6 +19,21 @@ use hfs_texts::push_line;
 use std::alloc::{AllocError, Global};
 use std::rt::Files;
 
+/// Gives a whole bag its place.
+fn place_bag<'a, R: Files + AllocGlobal>(
+    shelf: FileShelf<'_, R>,
+    sums: BagSums,
+    words: &TakeWords<'a>,
+) -> Result<BagSums, TakeFault<'a>>
+    ensures fault { IfErr result (IsTakeFault words.now) }
+    ensures sums { IfOk result (λ told. told ≡ sums) }
+{
+    match shelf.place(words.folder) {
+        Ok(()) => Ok(sums),
+        Err(fault) => Err(TakeFault::of_shelf(fault)),
+    }
+}
+
 /// Writes the bag of an image: to a folder beside its place, which gets its place when it is whole, and is taken away at a fault.
 fn write_bag<'a, R: Files + AllocGlobal, S: BlockSource + Drop, W: Watch>(
     rt: &R,
@@ -23,17 +41,16 @@ fn write_bag<'a, R: Files + AllocGlobal, S: BlockSource + Drop, W: Watch>(
     words: &TakeWords<'a>,
     watch: &W,
 ) -> Result<BagSums, TakeFault<'a>>
-    ensures { IfErr result (IsTakeFault words.now) }
+    ensures fault { IfErr result (IsTakeFault words.now) }
+    ensures sums { IfOk result (λ sums. OfKnown image.opened.known image.opened.len
+        (λ bytes. IsSumOf sums (bag_items (entries_in bytes)))) }
 {
     let mut shelf = match FileShelf::create(rt, words.folder) {
         Ok(shelf) => shelf,
         Err(fault) => return Err(TakeFault::of_shelf(fault)),
     };
     match give_image(rt.alloc(), &mut shelf, image, words, watch) {
-        Ok(sums) => match shelf.place(words.folder) {
-            Ok(()) => Ok(sums),
-            Err(fault) => Err(TakeFault::of_shelf(fault)),
-        },
+        Ok(sums) => place_bag(shelf, sums, words),
         Err(fault) => {
             shelf.take_away();
             Err(TakeFault::of_bag(fault, words.image))
@@ -51,7 +68,10 @@ pub fn take<'a, R: Files + AllocGlobal, W: Watch>(
 ) -> Result<BagSums, TakeFault<'a>>
     ensures { IfErr result (IsTakeFault words.now) }
 {
-    let image = open_image(rt, words)?;
+    let image = match open_image(rt, words) {
+        Ok(image) => image,
+        Err(fault) => return Err(TakeFault::Image(fault)),
+    };
     if is_there(rt, words.folder) {
         return Err(TakeFault::IsThere(words.folder));
     }
