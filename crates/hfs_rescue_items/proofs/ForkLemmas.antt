@@ -3,12 +3,13 @@ use Rattle.std.proofs.Common.{◌≡◌, ℕ, ◌+◌, ◌≤◌, List, [], leng
 use Rattle.std.proofs.lemmas.List.{length-replicate}
 use Rattle.hfs_rescue_items.specs.Reading.{Reads}
 
+zeros-long : (n : ℕ) → length {A = ℕ} (replicate n 0) ≡ n
+zeros-long n = length-replicate n 0
+
 -- so many bytes were read of so many
 reads_count : (piece : List ℕ) (old new : ℕ) → length piece + new ≡ old → (piece ≡ [] → new ≡ 0) → Reads piece (replicate old 0) (replicate new 0)
 reads_count piece old new sum none = record {
-  fewer = let before : length (replicate old 0) ≡ old = length-replicate old 0 in
-    let after : length (replicate new 0) ≡ new = length-replicate new 0 in
-    omega (arith, sum, before, after);
+  fewer = omega (arith, sum, zeros-long old, zeros-long new);
   none = λ e. ap (λ (n : ℕ). replicate n 0) (none e);
 }
 

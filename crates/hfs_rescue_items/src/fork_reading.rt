@@ -69,7 +69,7 @@ fn push_bytes(
     requires { count ≤ 65536 }
     ensures { OnOk result (length piece.new.items ≡ length piece.old.items + count) }
 {
-    let total = (found.image.len() / 512) as u32;
+    let total = (found.image.len() / 512).min(4_294_967_295) as u32;
     if !is_there(total, found.mdb, block) {
         return push_zeros(piece, count);
     }

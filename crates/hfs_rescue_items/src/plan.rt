@@ -21,14 +21,13 @@ pub(crate) struct Planned {
 
 /// Where the last part of a path begins.
 fn last_part(path: &[u8]) -> usize {
-    let mut at = path.len();
-    while at > 0 {
-        if path[at - 1] == b'/' {
-            return at;
+    let mut last = 0;
+    for i in 0..path.len() {
+        if path[i] == b'/' {
+            last = i + 1;
         }
-        at -= 1;
     }
-    0
+    last
 }
 
 /// Plans the folders that a path lies in and that are not made yet, from the top down.
@@ -73,7 +72,11 @@ fn plan_above(
 
 /// What is made of a folder, which is new or was made before.
 fn folder_kind(is_new: bool) -> BagKind {
-    if is_new { BagKind::Folder } else { BagKind::DoubleAlone }
+    if is_new {
+        BagKind::Folder
+    } else {
+        BagKind::DoubleAlone
+    }
 }
 
 /// What is made of a file.
@@ -100,7 +103,11 @@ fn kind_of(
 ) -> Result<Option<BagKind>, AllocError> {
     if i >= found.items.len() {
         let is_new = folders.add(alloc, path)?;
-        return Ok(if is_new { Some(BagKind::FolderAlone) } else { None });
+        return Ok(if is_new {
+            Some(BagKind::FolderAlone)
+        } else {
+            None
+        });
     }
     if is_folder(found.items[i].entry.body()) {
         let is_new = folders.add(alloc, path)?;

@@ -1,7 +1,7 @@
 //! What of a source is being read.
-ghost use Rattle.std.specs.Prelude.{◌≡◌, ◌++◌, [], false, true, IfOk, OnOk};
+ghost use Rattle.std.specs.Prelude.{◌≡◌, ◌+◌, ◌++◌, [], IfOk, OnOk};
 ghost use Rattle.hfs_table.specs.Lines.{csv_head};
-ghost use Rattle.hfs_rescue_items.specs.Lines.{item_line, lines_of, remains_line};
+ghost use Rattle.hfs_rescue_items.specs.Lines.{item_line, remains_line};
 ghost use Rattle.hfs_rescue_items.specs.Reading.{ReadsLines, Reads, reading_rest};
 
 use crate::fork_reading::{ForkReading, read_fork};
@@ -36,7 +36,18 @@ pub(crate) enum Reading<'a> {
     Remains(Lines<'a>),
 }
 
+/// The next number. An image has fewer items.
+fn number_behind(number: usize) -> Result<usize, SourceFault>
+    ensures { IfOk result (λ next. next ≡ number + 1) }
+{
+    match number.checked_add(1) {
+        Some(next) => Ok(next),
+        None => Err(SourceFault::ReadFailed),
+    }
+}
+
 /// Puts lines of the table of all items behind a piece, until it is whole or there are none.
+#[tactic(auto, using(crate::proofs::LineLemmas::line_more, crate::proofs::LineLemmas::lines_none, crate::proofs::LineLemmas::lines_whole))]
 fn push_items(
     alloc: Global,
     piece: &mut Vec<u8>,
@@ -53,13 +64,14 @@ fn push_items(
         let Ok(()) = push_item_line(alloc, piece, found, lines.next, item) else {
             return Err(SourceFault::Memory);
         };
-        lines.next += 1;
+        lines.next = number_behind(lines.next)?;
         lines.items = behind;
     }
     Ok(())
 }
 
 /// Puts lines of the table of what remains behind a piece, until it is whole or there are none.
+#[tactic(auto, using(crate::proofs::LineLemmas::line_more, crate::proofs::LineLemmas::lines_none, crate::proofs::LineLemmas::lines_whole))]
 fn push_remains(
     alloc: Global,
     piece: &mut Vec<u8>,
@@ -76,7 +88,7 @@ fn push_remains(
         let Ok(()) = push_remains_line(alloc, piece, found, lines.next, item) else {
             return Err(SourceFault::Memory);
         };
-        lines.next += 1;
+        lines.next = number_behind(lines.next)?;
         lines.items = behind;
     }
     Ok(())
@@ -93,6 +105,7 @@ fn push_table_head(piece: &mut Vec<u8>) -> Result<(), SourceFault>
 }
 
 /// Reads the next bytes of a stream in the place of a piece, and none where none are left.
+#[tactic(auto, using(crate::proofs::LineLemmas::reads_lines))]
 pub(crate) fn read_next<'a>(
     alloc: Global,
     found: &Found<'a>,

@@ -5,7 +5,7 @@ use Rattle.hfs_rescue_items.specs.Reading.{lines_rest}
 use Rattle.hfs_rescue_items.proofs.reading.push_remains.Given as goal
 
 abbrev pub invariant-loop-lines : goal.invariant-loop-lines
-invariant-loop-lines l = l.piece.items ++ lines_rest (remains_line l.fn.found.now) l.lines ≡ lines_rest (remains_line l.fn.found.now) l.fn.lines
+invariant-loop-lines l = l.piece.items ++ lines_rest (remains_line l.fn.found) l.lines ≡ lines_rest (remains_line l.fn.found) l.fn.lines
 
 abbrev pub decreases-loop-lines : goal.decreases-loop-lines
 decreases-loop-lines l = length l.lines.items.now
