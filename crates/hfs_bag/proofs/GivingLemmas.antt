@@ -25,7 +25,7 @@ module _ (g0 g : List ShelfEntry) (s0 s1 s2 : SourceState) where
   given_none ds n taken = record {
     known = taken.known;
     all = taken.all;
-    table = taken.table;
+    tables = taken.tables;
     items = [];
     left = taken.none ∙ sym taken.none_left;
     given = λ told. sym (append-nil g0);
@@ -40,7 +40,7 @@ module _ (g0 g : List ShelfEntry) (s0 s1 s2 : SourceState) where
   given_one head ds ds' d n n' b taken same given told told_is sum sum_is = record {
     known = same.known ∙ taken.known;
     all = same.all ∙ taken.all;
-    table = same.table ∙ taken.table;
+    tables = same.tables ∙ taken.tables;
     items = s1.item ∷ [];
     left = taken.left ∙ ap (λ (xs : List BagItem). s1.item ∷ xs) (sym same.left);
     given = λ known. given (taken.known ∙ known) ∙ ap (λ (xs : List ShelfEntry). g0 ++ xs) (sym (append-nil (item_entries s1.item)));
@@ -66,7 +66,7 @@ module _ (g0 g1 g2 : List ShelfEntry) (s0 s1 s2 : SourceState) (ds0 ds1 ds2 : Li
   given_next second = record {
     known = second.known ∙ first.known;
     all = second.all ∙ first.all;
-    table = second.table ∙ first.table;
+    tables = second.tables ∙ first.tables;
     items = first.items ++ second.items;
     left = first.left ∙ ap (λ (xs : List BagItem). first.items ++ xs) second.left ∙ sym (append_assoc first.items second.items s2.left);
     given = λ known. second.given (first.known ∙ known) ∙ ap (λ (xs : List ShelfEntry). xs ++ items_entries second.items) (first.given known) ∙ append_assoc g0 (items_entries first.items) (items_entries second.items)

@@ -25,6 +25,10 @@ module _ (g0 g1 done : List ShelfEntry) (was : g1 ≡ g0 ++ done) where
       subst (IsBeginning now) (ap (λ (xs : List ShelfEntry). (xs ++ next) ++ more) was ∙ append_assoc (g0 ++ done) next more ∙ append_assoc g0 done (next ++ more))
       (begins_before now (g1 ++ next) more part)
 
+  -- some were given, and a part of the last
+  pub part_last : (now last : List ShelfEntry) → IsBeginning now (g1 ++ last) → IsBeginning now (g0 ++ (done ++ last))
+  part_last now last part = subst (IsBeginning now) (ap (λ (xs : List ShelfEntry). xs ++ last) was ∙ append_assoc g0 done last) part
+
   -- some were given, and all of the next
   pub whole_next : (now next : List ShelfEntry) → now ≡ g1 ++ next → now ≡ g0 ++ (done ++ next)
   whole_next now next given = given ∙ ap (λ (xs : List ShelfEntry). xs ++ next) was ∙ append_assoc g0 done next

@@ -19,7 +19,7 @@ use Rattle.hfs_bag.proofs.GivingLemmas.{items_entries-append}
 pub record HasListedSome (given_old given_new : List ShelfEntry) (old new : SourceState) (Held Holds : List ℕ → Type 0) : Type 0 where
   pub known : new.known ≡ old.known
   pub all : new.all ≡ old.all
-  pub table : new.table ≡ old.table
+  pub tables : new.tables ≡ old.tables
   pub items : List BagItem
   pub left : old.left ≡ items ++ new.left
   pub given : WhereKnown old (given_new ≡ with_piece given_old (manifest (items_entries items)))
@@ -32,19 +32,28 @@ manifest-append xs ys = flat_map-append manifest_line xs ys
 
 abbrev first_of : ItemDigests → List ℕ
 first_of (digests.File a b) = a
-first_of (digests.Folder a) = a
+first_of (digests.Double a) = a
+first_of digests.NoFile = []
 
 abbrev second_of : ItemDigests → List ℕ
 second_of (digests.File a b) = b
-second_of (digests.Folder a) = a
+second_of (digests.Double a) = a
+second_of digests.NoFile = []
 
 abbrev IsOfFile : ItemDigests → Type 0
 IsOfFile (digests.File a b) = Unit {0}
-IsOfFile (digests.Folder a) = ⊥
+IsOfFile (digests.Double a) = ⊥
+IsOfFile digests.NoFile = ⊥
 
-abbrev IsOfFolder : ItemDigests → Type 0
-IsOfFolder (digests.File a b) = ⊥
-IsOfFolder (digests.Folder a) = Unit {0}
+abbrev IsOfDouble : ItemDigests → Type 0
+IsOfDouble (digests.File a b) = ⊥
+IsOfDouble (digests.Double a) = Unit {0}
+IsOfDouble digests.NoFile = ⊥
+
+abbrev IsOfNone : ItemDigests → Type 0
+IsOfNone (digests.File a b) = ⊥
+IsOfNone (digests.Double a) = ⊥
+IsOfNone digests.NoFile = Unit {0}
 
 file_lines_of : (k : BagKind) (item : BagItem) (a b : List ℕ) → digests.File a b ≡ digests_of_kind k item
     → digest_line a (item_path item) ++ digest_line b (double_path item) ≡ manifest (entries_of_kind k item)
@@ -52,19 +61,33 @@ file_lines_of kind.File item a b told =
     ap (λ (d : ItemDigests). digest_line (first_of d) (item_path item) ++ digest_line (second_of d) (double_path item)) told
     ∙ ap (λ (lines : List ℕ). manifest_line (data_entry item) ++ lines) (sym (append-nil (manifest_line (double_entry item))))
 file_lines_of kind.Folder item a b told = absurd (subst IsOfFile told tt)
+file_lines_of kind.FolderAlone item a b told = absurd (subst IsOfFile told tt)
+file_lines_of kind.DoubleAlone item a b told = absurd (subst IsOfFile told tt)
 
-folder_lines_of : (k : BagKind) (item : BagItem) (a : List ℕ) → digests.Folder a ≡ digests_of_kind k item
+double_lines_of : (k : BagKind) (item : BagItem) (a : List ℕ) → digests.Double a ≡ digests_of_kind k item
     → digest_line a (double_path item) ≡ manifest (entries_of_kind k item)
-folder_lines_of kind.File item a told = absurd (subst IsOfFolder told tt)
-folder_lines_of kind.Folder item a told =
+double_lines_of kind.File item a told = absurd (subst IsOfDouble told tt)
+double_lines_of kind.Folder item a told =
     ap (λ (d : ItemDigests). digest_line (first_of d) (double_path item)) told ∙ sym (append-nil (manifest_line (double_entry item)))
+double_lines_of kind.FolderAlone item a told = absurd (subst IsOfDouble told tt)
+double_lines_of kind.DoubleAlone item a told =
+    ap (λ (d : ItemDigests). digest_line (first_of d) (double_path item)) told ∙ sym (append-nil (manifest_line (double_entry item)))
+
+none_lines_of : (k : BagKind) (item : BagItem) → digests.NoFile ≡ digests_of_kind k item → [] ≡ manifest (entries_of_kind k item)
+none_lines_of kind.File item told = absurd (subst IsOfNone told tt)
+none_lines_of kind.Folder item told = absurd (subst IsOfNone told tt)
+none_lines_of kind.FolderAlone item told = refl
+none_lines_of kind.DoubleAlone item told = absurd (subst IsOfNone told tt)
 
 pub file_lines : (item : BagItem) (a b : List ℕ) → digests.File a b ≡ item_digests item
     → digest_line a (item_path item) ++ digest_line b (double_path item) ≡ manifest (item_entries item)
 file_lines item a b told = file_lines_of item.kind item a b told
 
-pub folder_lines : (item : BagItem) (a : List ℕ) → digests.Folder a ≡ item_digests item → digest_line a (double_path item) ≡ manifest (item_entries item)
-folder_lines item a told = folder_lines_of item.kind item a told
+pub double_lines : (item : BagItem) (a : List ℕ) → digests.Double a ≡ item_digests item → digest_line a (double_path item) ≡ manifest (item_entries item)
+double_lines item a told = double_lines_of item.kind item a told
+
+pub none_lines : (item : BagItem) → digests.NoFile ≡ item_digests item → [] ≡ manifest (item_entries item)
+none_lines item told = none_lines_of item.kind item told
 
 -- ---- the next item
 
@@ -110,7 +133,7 @@ module _ (g0 g : List ShelfEntry) (s0 s : SourceState) (H0 H : List ℕ → Type
   listed_one head taken given digest = record {
     known = taken.known;
     all = taken.all;
-    table = taken.table;
+    tables = taken.tables;
     item = s.item;
     left = taken.left;
     given = given;
@@ -129,7 +152,7 @@ module _ (g0 g : List ShelfEntry) (s0 s : SourceState) (H0 H : List ℕ → Type
   listed_none given state digest = record {
     known = ap (λ (x : SourceState). x.known) state;
     all = ap (λ (x : SourceState). x.all) state;
-    table = ap (λ (x : SourceState). x.table) state;
+    tables = ap (λ (x : SourceState). x.tables) state;
     items = [];
     left = ap (λ (x : SourceState). x.left) (sym state);
     given = λ known. given ∙ sym (with_piece-none g0);
@@ -149,7 +172,7 @@ module _ (g0 g1 g2 : List ShelfEntry) (s0 s1 s2 : SourceState) (H0 H1 H2 : List 
       record {
         known = one.known ∙ some.known;
         all = one.all ∙ some.all;
-        table = one.table ∙ some.table;
+        tables = one.tables ∙ some.tables;
         items = some.items ++ more;
         left = some.left ∙ ap (λ (xs : List BagItem). some.items ++ xs) one.left ∙ sym (append_assoc some.items more s2.left);
         given = λ known. one.given (some.known ∙ known) ∙ ap (λ (xs : List ShelfEntry). with_piece xs (manifest (item_entries one.item))) (some.given known)

@@ -6,7 +6,7 @@ use Rattle.hfs_bag.specs.Sources.{SourceState, SameItems, HasRead, WhereKnown}
 use Rattle.hfs_bag.specs.Filling.{HoldsMore, HasMoved}
 
 pub same_itself : (s : SourceState) → SameItems s s
-same_itself s = record { known = refl; all = refl; left = refl; item = refl; table = refl }
+same_itself s = record { known = refl; all = refl; left = refl; item = refl; tables = refl }
 
 pub same_next : (a b c : SourceState) → SameItems a b → SameItems b c → SameItems a c
 same_next a b c first second = record {
@@ -14,7 +14,7 @@ same_next a b c first second = record {
   all = second.all ∙ first.all;
   left = second.left ∙ first.left;
   item = second.item ∙ first.item;
-  table = second.table ∙ first.table;
+  tables = second.tables ∙ first.tables;
 }
 
 module _ (g0 g : List ShelfEntry) (s0 s : SourceState) (Held Holds : List ℕ → Type 0) where

@@ -1,5 +1,5 @@
 -- The paths of a bag.
-use Rattle.std.proofs.Common.{◌≡◌, ◌≢◌, ℕ, ◌≤◌, ◌-◌, Bool, true, false, not, ◌&&◌, ◌==◌, List, [], ◌∷◌, ◌++◌, codes, refl, sym, ap, ◌∙◌, subst, if◌then◌else◌, nat_le, arith}
+use Rattle.std.proofs.Common.{◌≡◌, ◌≢◌, ℕ, ◌≤◌, ◌-◌, Bool, true, false, not, ◌&&◌, ◌==◌, List, [], ◌∷◌, ◌++◌, codes, refl, sym, ap, ◌∙◌, subst, Option, Some, None, if◌then◌else◌, nat_le, arith}
 use Rattle.std.specs.Prelude.{⊤}
 use Rattle.std.proofs.lemmas.List.{map-append}
 use Rattle.std.proofs.lemmas.Bool.{and_parts, eq-eqb, leb-true}
@@ -10,8 +10,9 @@ use Rattle.hfs_bag.specs.declared.item.BagKind.{BagKind}
 use Rattle.hfs_bag.specs.declared.item.BagKind.TheVariants as kind
 use Rattle.hfs_bag.specs.Items.{BagItem, double_path, entries_of_kind, item_entries, item_path}
 use Rattle.hfs_bag.specs.Bags.{items_entries, payload}
-use Rattle.hfs_bag.specs.Tags.{bag_of, tag_files}
-use Rattle.hfs_bag.specs.Laws.{AllDiffer, AreApart, AreInside, AreParts, ArePlaced, ArePlain, HasNo, IsApart, IsInside, IsNoneOf, IsPart, IsPlaced, IsPlain, entry_path, folder_path}
+use Rattle.hfs_bag.specs.Sources.{BagTables}
+use Rattle.hfs_bag.specs.Tags.{bag_of, declaration_file, info_file, manifest_file, remains_files, report_file, table_file, tag_files, tag_manifest_file}
+use Rattle.hfs_bag.specs.Laws.{AllDiffer, AreApart, AreInside, AreParts, ArePlaced, ArePlain, DifferInPath, HasDouble, HasNo, HasOwn, IsApart, IsInside, IsNoneOf, IsPart, IsPlaced, IsPlain, entry_path, folder_path}
 
 -- ---- numbers
 
@@ -112,13 +113,13 @@ marked-none : (name : List ℕ) → HasNo 47 name → HasNo 47 (codes "._" ++ na
 marked-none name none = (λ e. absurd (omega (arith, e)), (λ e. absurd (omega (arith, e)), none))
 
 -- two data forks, or folders
-apart_items : (a b : BagItem) → IsPlaced a → IsPlaced b → AreApart a b → folded (item_path a) ≢ folded (item_path b)
+apart_items : (a b : BagItem) → IsPlaced a → IsPlaced b → DifferInPath a b → folded (item_path a) ≢ folded (item_path b)
 apart_items a b a-placed b-placed apart e =
     let parts = paths_alike a b a.name b.name a-placed b-placed a-placed.name_is.part.no_slash b-placed.name_is.part.no_slash e in
     apart (map-append fold_letter a.above a.name ∙ ap (λ (xs : List ℕ). xs ++ folded a.name) parts.0 ∙ ap (λ (xs : List ℕ). folded b.above ++ xs) parts.1 ∙ sym (map-append fold_letter b.above b.name))
 
 -- two AppleDouble files
-apart_doubles : (a b : BagItem) → IsPlaced a → IsPlaced b → AreApart a b → folded (double_path a) ≢ folded (double_path b)
+apart_doubles : (a b : BagItem) → IsPlaced a → IsPlaced b → DifferInPath a b → folded (double_path a) ≢ folded (double_path b)
 apart_doubles a b a-placed b-placed apart e =
     let parts = paths_alike a b (codes "._" ++ a.name) (codes "._" ++ b.name) a-placed b-placed
     (marked-none a.name a-placed.name_is.part.no_slash) (marked-none b.name b-placed.name_is.part.no_slash) e in
@@ -153,37 +154,44 @@ inside_appended : (xs ys : List ShelfEntry) → AreInside xs → AreInside ys �
 inside_appended [] ys first second = second
 inside_appended (x ∷ xs) ys first second = (first.0, inside_appended xs ys first.1 second)
 
-none_of_kind : (k : BagKind) (path : List ℕ) (other : BagItem) → folded path ≢ folded (item_path other) → folded path ≢ folded (double_path other) → IsNoneOf path (entries_of_kind k other)
-none_of_kind kind.File path other first second = (first, (second, tt))
-none_of_kind kind.Folder path other first second = (second, (first, tt))
+none_of_kind : (k : BagKind) (path : List ℕ) (other : BagItem) → (HasOwn k → folded path ≢ folded (item_path other)) → (HasDouble k → folded path ≢ folded (double_path other))
+    → IsNoneOf path (entries_of_kind k other)
+none_of_kind kind.File path other first second = (first tt, (second tt, tt))
+none_of_kind kind.Folder path other first second = (second tt, (first tt, tt))
+none_of_kind kind.FolderAlone path other first second = (first tt, tt)
+none_of_kind kind.DoubleAlone path other first second = (second tt, tt)
 
-item_none : (item : BagItem) (rest : List BagItem) → IsPlaced item → IsApart item rest → ArePlaced rest → IsNoneOf (item_path item) (items_entries rest)
-item_none item [] placed apart others = tt
-item_none item (other ∷ rest) placed apart others =
+item_none : (item : BagItem) (rest : List BagItem) → HasOwn item.kind → IsPlaced item → IsApart item rest → ArePlaced rest → IsNoneOf (item_path item) (items_entries rest)
+item_none item [] own placed apart others = tt
+item_none item (other ∷ rest) own placed apart others =
     none_appended (item_path item) (item_entries other) (items_entries rest)
-    (none_of_kind other.kind (item_path item) other (apart_items item other placed others.0 apart.0) (apart_double item other placed others.0))
-    (item_none item rest placed apart.1 others.2)
+    (none_of_kind other.kind (item_path item) other (λ other_own. apart_items item other placed others.0 (apart.0.own own other_own)) (λ double. apart_double item other placed others.0))
+    (item_none item rest own placed apart.1 others.2)
 
-double_none : (item : BagItem) (rest : List BagItem) → IsPlaced item → IsApart item rest → ArePlaced rest → IsNoneOf (double_path item) (items_entries rest)
-double_none item [] placed apart others = tt
-double_none item (other ∷ rest) placed apart others =
+double_none : (item : BagItem) (rest : List BagItem) → HasDouble item.kind → IsPlaced item → IsApart item rest → ArePlaced rest → IsNoneOf (double_path item) (items_entries rest)
+double_none item [] double placed apart others = tt
+double_none item (other ∷ rest) double placed apart others =
     none_appended (double_path item) (item_entries other) (items_entries rest)
-    (none_of_kind other.kind (double_path item) other (λ e. apart_double other item others.0 placed (sym e)) (apart_doubles item other placed others.0 apart.0))
-    (double_none item rest placed apart.1 others.2)
+    (none_of_kind other.kind (double_path item) other (λ own e. apart_double other item others.0 placed (sym e)) (λ other_double. apart_doubles item other placed others.0 (apart.0.doubles double other_double)))
+    (double_none item rest double placed apart.1 others.2)
 
 differ_of_kind : (k : BagKind) (item : BagItem) → IsPlaced item → AllDiffer (entries_of_kind k item)
 differ_of_kind kind.File item placed = ((apart_double item item placed placed, tt), (tt, tt))
 differ_of_kind kind.Folder item placed = ((λ e. apart_double item item placed placed (sym e), tt), (tt, tt))
+differ_of_kind kind.FolderAlone item placed = (tt, tt)
+differ_of_kind kind.DoubleAlone item placed = (tt, tt)
 
-apart_of_kind : (k : BagKind) (item : BagItem) (ys : List ShelfEntry) → IsNoneOf (item_path item) ys → IsNoneOf (double_path item) ys → AreNoneOf (entries_of_kind k item) ys
-apart_of_kind kind.File item ys first second = (first, (second, tt))
-apart_of_kind kind.Folder item ys first second = (second, (first, tt))
+apart_of_kind : (k : BagKind) (item : BagItem) (ys : List ShelfEntry) → (HasOwn k → IsNoneOf (item_path item) ys) → (HasDouble k → IsNoneOf (double_path item) ys) → AreNoneOf (entries_of_kind k item) ys
+apart_of_kind kind.File item ys first second = (first tt, (second tt, tt))
+apart_of_kind kind.Folder item ys first second = (second tt, (first tt, tt))
+apart_of_kind kind.FolderAlone item ys first second = (first tt, tt)
+apart_of_kind kind.DoubleAlone item ys first second = (second tt, tt)
 
 items_differ : (items : List BagItem) → ArePlaced items → AllDiffer (items_entries items)
 items_differ [] placed = tt
 items_differ (item ∷ rest) placed =
     differ_appended (item_entries item) (items_entries rest) (differ_of_kind item.kind item placed.0) (items_differ rest placed.2)
-    (apart_of_kind item.kind item (items_entries rest) (item_none item rest placed.0 placed.1 placed.2) (double_none item rest placed.0 placed.1 placed.2))
+    (apart_of_kind item.kind item (items_entries rest) (λ own. item_none item rest own placed.0 placed.1 placed.2) (λ double. double_none item rest double placed.0 placed.1 placed.2))
 
 -- ---- the payload's folder
 
@@ -198,7 +206,7 @@ folder_none : (items : List BagItem) → IsNoneOf (codes "data") (items_entries 
 folder_none [] = tt
 folder_none (item ∷ rest) =
     none_appended (codes "data") (item_entries item) (items_entries rest)
-    (none_of_kind item.kind (codes "data") item (folder_not (item.above ++ item.name)) (folder_not (item.above ++ (codes "._" ++ item.name))))
+    (none_of_kind item.kind (codes "data") item (λ own. folder_not (item.above ++ item.name)) (λ double. folder_not (item.above ++ (codes "._" ++ item.name))))
     (folder_none rest)
 
 payload_differ : (items : List BagItem) → ArePlaced items → AllDiffer (payload items)
@@ -209,14 +217,22 @@ payload_differ items placed = (folder_none items, items_differ items placed)
 other_first : (a b : List ℕ) → first_of (folded a) ≢ first_of (folded b) → folded a ≢ folded b
 other_first a b other e = other (ap first_of e)
 
-module _ (items : List BagItem) (table : List ℕ) (facts : BagFacts) where
+module _ (items : List BagItem) (tables : BagTables) (facts : BagFacts) where
+  -- the tag files behind the tables
+  abbrev behind_tables : List ShelfEntry
+  behind_tables = report_file facts ∷ info_file items facts ∷ declaration_file ∷ tag_manifest_file items tables facts ∷ []
+
+  below_remains : (text : List ℕ) (remains : Option (List ℕ)) → IsNoneOf (codes "data" ++ text) (remains_files remains)
+  below_remains text None = tt
+  below_remains text (Some told) = (other_first (codes "data" ++ text) (codes "rescue.tsv") (not_same _ _ refl), tt)
+
   -- what begins as the payload's folder does is none of them
-  below_none : (text : List ℕ) → IsNoneOf (codes "data" ++ text) (tag_files items table facts)
+  below_none : (text : List ℕ) → IsNoneOf (codes "data" ++ text) (tag_files items tables facts)
   below_none text = (
     other_first (codes "data" ++ text) (codes "manifest-sha256.txt") (not_same _ _ refl),
     (
       other_first (codes "data" ++ text) (codes "items.csv") (not_same _ _ refl),
-      (
+      none_appended (codes "data" ++ text) (remains_files tables.remains) behind_tables (below_remains text tables.remains) (
         other_first (codes "data" ++ text) (codes "volume.txt") (not_same _ _ refl),
         (
           other_first (codes "data" ++ text) (codes "bag-info.txt") (not_same _ _ refl),
@@ -229,17 +245,17 @@ module _ (items : List BagItem) (table : List ℕ) (facts : BagFacts) where
     ),
   )
 
-  items_none : (rest : List BagItem) → AreNoneOf (items_entries rest) (tag_files items table facts)
+  items_none : (rest : List BagItem) → AreNoneOf (items_entries rest) (tag_files items tables facts)
   items_none [] = tt
   items_none (item ∷ rest) = none_both (item_entries item) (items_entries rest)
-      (apart_of_kind item.kind item (tag_files items table facts) (below_none (codes "/" ++ (item.above ++ item.name))) (below_none (codes "/" ++ (item.above ++ (codes "._" ++ item.name)))))
+      (apart_of_kind item.kind item (tag_files items tables facts) (λ own. below_none (codes "/" ++ (item.above ++ item.name))) (λ double. below_none (codes "/" ++ (item.above ++ (codes "._" ++ item.name)))))
       (items_none rest)
     where
-      none_both : (xs ys : List ShelfEntry) → AreNoneOf xs (tag_files items table facts) → AreNoneOf ys (tag_files items table facts) → AreNoneOf (xs ++ ys) (tag_files items table facts)
+      none_both : (xs ys : List ShelfEntry) → AreNoneOf xs (tag_files items tables facts) → AreNoneOf ys (tag_files items tables facts) → AreNoneOf (xs ++ ys) (tag_files items tables facts)
       none_both [] ys first second = second
       none_both (x ∷ xs) ys first second = (first.0, none_both xs ys first.1 second)
 
-  payload_none : AreNoneOf (payload items) (tag_files items table facts)
+  payload_none : AreNoneOf (payload items) (tag_files items tables facts)
   payload_none = (below_none [], items_none items)
 
   abbrev fourth : List ℕ → ℕ
@@ -248,54 +264,57 @@ module _ (items : List BagItem) (table : List ℕ) (facts : BagFacts) where
   info_declared : folded (codes "bag-info.txt") ≢ folded (codes "bagit.txt")
   info_declared e = not_same (fourth (folded (codes "bag-info.txt"))) (fourth (folded (codes "bagit.txt"))) refl (ap fourth e)
 
-  tags_differ : AllDiffer (tag_files items table facts)
-  tags_differ =
-      let from : (a b : List ℕ) → first_of (folded a) ≢ first_of (folded b) → folded a ≢ folded b = other_first in (
-        (
-          from (codes "manifest-sha256.txt") (codes "items.csv") (not_same _ _ refl),
-          (
-            from (codes "manifest-sha256.txt") (codes "volume.txt") (not_same _ _ refl),
-            (
-              from (codes "manifest-sha256.txt") (codes "bag-info.txt") (not_same _ _ refl),
-              (
-                from (codes "manifest-sha256.txt") (codes "bagit.txt") (not_same _ _ refl),
-                (from (codes "manifest-sha256.txt") (codes "tagmanifest-sha256.txt") (not_same _ _ refl), tt),
-              ),
-            ),
-          ),
-        ),
-        (
-          (
-            from (codes "items.csv") (codes "volume.txt") (not_same _ _ refl),
-            (
-              from (codes "items.csv") (codes "bag-info.txt") (not_same _ _ refl),
-              (
-                from (codes "items.csv") (codes "bagit.txt") (not_same _ _ refl),
-                (from (codes "items.csv") (codes "tagmanifest-sha256.txt") (not_same _ _ refl), tt),
-              ),
-            ),
-          ),
-          (
-            (
-              from (codes "volume.txt") (codes "bag-info.txt") (not_same _ _ refl),
-              (
-                from (codes "volume.txt") (codes "bagit.txt") (not_same _ _ refl),
-                (from (codes "volume.txt") (codes "tagmanifest-sha256.txt") (not_same _ _ refl), tt),
-              ),
-            ),
-            (
-              (info_declared, (from (codes "bag-info.txt") (codes "tagmanifest-sha256.txt") (not_same _ _ refl), tt)),
-              (
-                (from (codes "bagit.txt") (codes "tagmanifest-sha256.txt") (not_same _ _ refl), tt),
-                (tt, tt),
-              ),
-            ),
-          ),
-        ),
-      )
+  -- a path that begins otherwise than those of the tag files behind the tables
+  none_behind : (path : List ℕ) → first_of (folded path) ≢ first_of (folded (codes "volume.txt")) → first_of (folded path) ≢ first_of (folded (codes "bag-info.txt"))
+      → first_of (folded path) ≢ first_of (folded (codes "tagmanifest-sha256.txt")) → IsNoneOf path behind_tables
+  none_behind path report info last = (
+    other_first path (codes "volume.txt") report,
+    (other_first path (codes "bag-info.txt") info, (other_first path (codes "bagit.txt") info, (other_first path (codes "tagmanifest-sha256.txt") last, tt))),
+  )
 
-  pub bag_differ : ArePlaced items → AllDiffer (bag_of items table facts)
-  bag_differ placed = differ_appended (payload items) (tag_files items table facts) (payload_differ items placed) tags_differ payload_none
+  behind_differ : AllDiffer behind_tables
+  behind_differ = (
+    (
+      other_first (codes "volume.txt") (codes "bag-info.txt") (not_same _ _ refl),
+      (
+        other_first (codes "volume.txt") (codes "bagit.txt") (not_same _ _ refl),
+        (other_first (codes "volume.txt") (codes "tagmanifest-sha256.txt") (not_same _ _ refl), tt),
+      ),
+    ),
+    (
+      (info_declared, (other_first (codes "bag-info.txt") (codes "tagmanifest-sha256.txt") (not_same _ _ refl), tt)),
+      (
+        (other_first (codes "bagit.txt") (codes "tagmanifest-sha256.txt") (not_same _ _ refl), tt),
+        (tt, tt),
+      ),
+    ),
+  )
+
+  remains_differ : (remains : Option (List ℕ)) → AllDiffer (remains_files remains ++ behind_tables)
+  remains_differ None = behind_differ
+  remains_differ (Some told) = (none_behind (codes "rescue.tsv") (not_same _ _ refl) (not_same _ _ refl) (not_same _ _ refl), behind_differ)
+
+  -- a path that begins otherwise than that of the table of what remains
+  none_remains : (path : List ℕ) (remains : Option (List ℕ)) → first_of (folded path) ≢ first_of (folded (codes "rescue.tsv")) → IsNoneOf path (remains_files remains)
+  none_remains path None other = tt
+  none_remains path (Some told) other = (other_first path (codes "rescue.tsv") other, tt)
+
+  tags_differ : AllDiffer (tag_files items tables facts)
+  tags_differ = (
+    (
+      other_first (codes "manifest-sha256.txt") (codes "items.csv") (not_same _ _ refl),
+      none_appended (codes "manifest-sha256.txt") (remains_files tables.remains) behind_tables (none_remains (codes "manifest-sha256.txt") tables.remains (not_same _ _ refl))
+          (none_behind (codes "manifest-sha256.txt") (not_same _ _ refl) (not_same _ _ refl) (not_same _ _ refl)),
+    ),
+    (
+      none_appended (codes "items.csv") (remains_files tables.remains) behind_tables (none_remains (codes "items.csv") tables.remains (not_same _ _ refl))
+          (none_behind (codes "items.csv") (not_same _ _ refl) (not_same _ _ refl) (not_same _ _ refl)),
+      remains_differ tables.remains,
+    ),
+  )
+
+  pub bag_differ : ArePlaced items → AllDiffer (bag_of items tables facts)
+  bag_differ placed = differ_appended (payload items) (tag_files items tables facts) (payload_differ items placed) tags_differ payload_none
 
 -- ---- inside
 
@@ -352,18 +371,24 @@ inside_of_kind kind.File item placed =
     (inside_item item item.name placed placed.name_is.part, (inside_item item (codes "._" ++ item.name) placed (double_part item.name placed.name_is), tt))
 inside_of_kind kind.Folder item placed =
     (inside_item item (codes "._" ++ item.name) placed (double_part item.name placed.name_is), (inside_item item item.name placed placed.name_is.part, tt))
+inside_of_kind kind.FolderAlone item placed = (inside_item item item.name placed placed.name_is.part, tt)
+inside_of_kind kind.DoubleAlone item placed = (inside_item item (codes "._" ++ item.name) placed (double_part item.name placed.name_is), tt)
 
 items_inside : (items : List BagItem) → ArePlaced items → AreInside (items_entries items)
 items_inside [] placed = tt
 items_inside (item ∷ rest) placed = inside_appended (item_entries item) (items_entries rest) (inside_of_kind item.kind item placed.0) (items_inside rest placed.2)
 
-module _ (items : List BagItem) (table : List ℕ) (facts : BagFacts) where
-  tags_inside : AreInside (tag_files items table facts)
+module _ (items : List BagItem) (tables : BagTables) (facts : BagFacts) where
+  inside_remains : (remains : Option (List ℕ)) → AreInside (remains_files remains)
+  inside_remains None = tt
+  inside_remains (Some told) = (inside_top (codes "rescue.tsv") (part_long 114 101 115 (codes "cue.tsv") (has_no 47 (codes "rescue.tsv") refl) (has_no 0 (codes "rescue.tsv") refl)), tt)
+
+  tags_inside : AreInside (tag_files items tables facts)
   tags_inside = (
     inside_top (codes "manifest-sha256.txt") (part_long 109 97 110 (codes "ifest-sha256.txt") (has_no 47 (codes "manifest-sha256.txt") refl) (has_no 0 (codes "manifest-sha256.txt") refl)),
     (
       inside_top (codes "items.csv") (part_long 105 116 101 (codes "ms.csv") (has_no 47 (codes "items.csv") refl) (has_no 0 (codes "items.csv") refl)),
-      (
+      inside_appended (remains_files tables.remains) (report_file facts ∷ info_file items facts ∷ declaration_file ∷ tag_manifest_file items tables facts ∷ []) (inside_remains tables.remains) (
         inside_top (codes "volume.txt") (part_long 118 111 108 (codes "ume.txt") (has_no 47 (codes "volume.txt") refl) (has_no 0 (codes "volume.txt") refl)),
         (
           inside_top (codes "bag-info.txt") (part_long 98 97 103 (codes "-info.txt") (has_no 47 (codes "bag-info.txt") refl) (has_no 0 (codes "bag-info.txt") refl)),
@@ -376,8 +401,8 @@ module _ (items : List BagItem) (table : List ℕ) (facts : BagFacts) where
     ),
   )
 
-  pub bag_inside : ArePlaced items → AreInside (bag_of items table facts)
-  bag_inside placed = inside_appended (payload items) (tag_files items table facts) (inside_top (codes "data") data_part, items_inside items placed) tags_inside
+  pub bag_inside : ArePlaced items → AreInside (bag_of items tables facts)
+  bag_inside placed = inside_appended (payload items) (tag_files items tables facts) (inside_top (codes "data") data_part, items_inside items placed) tags_inside
 
-pub bag_paths : (items : List BagItem) (table : List ℕ) (facts : BagFacts) → ArePlaced items → AreInside (bag_of items table facts) × AllDiffer (bag_of items table facts)
-bag_paths items table facts placed = (bag_inside items table facts placed, bag_differ items table facts placed)
+pub bag_paths : (items : List BagItem) (tables : BagTables) (facts : BagFacts) → ArePlaced items → AreInside (bag_of items tables facts) × AllDiffer (bag_of items tables facts)
+bag_paths items tables facts placed = (bag_inside items tables facts placed, bag_differ items tables facts placed)

@@ -43,16 +43,28 @@ files_in [] = 0
 files_in (file path bytes ∷ rest) = suc (files_in rest)
 files_in (folder path ∷ rest) = files_in rest
 
--- 1 for the digests of a file
+-- 1 where there is a file with a data fork
 abbrev pub file_number : ItemDigests → ℕ
 file_number (digests.File data_fork double) = 1
-file_number (digests.Folder double) = 0
+file_number (digests.Double double) = 0
+file_number digests.NoFile = 0
 
--- the number of items whose digests are those of files
+-- 1 where there is an AppleDouble file
+abbrev pub double_number : ItemDigests → ℕ
+double_number (digests.File data_fork double) = 1
+double_number (digests.Double double) = 1
+double_number digests.NoFile = 0
+
+-- the number of items with an AppleDouble file
+abbrev pub doubles_told : List ItemDigests → ℕ
+doubles_told [] = 0
+doubles_told (told ∷ rest) = double_number told + doubles_told rest
+
+-- the number of items with a file of their data fork
 abbrev pub files_told : List ItemDigests → ℕ
 files_told [] = 0
 files_told (told ∷ rest) = file_number told + files_told rest
 
--- the number of items that are files
+-- the number of items that have a file with their data fork
 abbrev pub file_items : List BagItem → ℕ
 file_items items = files_told (map item_digests items)

@@ -16,7 +16,7 @@ IsMoreItems old new false = new.left ≡ []
 pub record HasGiven (given_old given_new : List ShelfEntry) (old new : SourceState) (digests_old digests_new : List ItemDigests) (bytes_old bytes_new : ℕ) : Type 0 where
   pub known : new.known ≡ old.known
   pub all : new.all ≡ old.all
-  pub table : new.table ≡ old.table
+  pub tables : new.tables ≡ old.tables
   pub items : List BagItem
   pub left : old.left ≡ items ++ new.left
   pub given : WhereKnown old (given_new ≡ given_old ++ items_entries items)
@@ -34,7 +34,7 @@ pub record IsNextOf (told : ItemDigests) (left : List BagItem) : Type 0 where
 pub record HasListed (given_old given_new : List ShelfEntry) (old new : SourceState) (Held Holds : List ℕ → Type 0) : Type 0 where
   pub known : new.known ≡ old.known
   pub all : new.all ≡ old.all
-  pub table : new.table ≡ old.table
+  pub tables : new.tables ≡ old.tables
   pub item : BagItem
   pub left : old.left ≡ item ∷ new.left
   pub given : WhereKnown old (given_new ≡ with_piece given_old (manifest (item_entries item)))

@@ -10,7 +10,7 @@ use Rattle.hfs_bag.specs.declared.item.BagHead.{BagHead}
 use Rattle.hfs_bag.specs.declared.item.ItemDigests.{ItemDigests}
 use Rattle.hfs_bag.specs.declared.item.ItemDigests.TheVariants as digests
 
--- an item below the root. `above` is the path below the payload of the folder that holds it, with a slash behind it, and no text where that is the payload itself; a folder has no bytes in its forks
+-- an item below the root, or a part of one. `above` is the path below the payload of the folder that holds it, with a slash behind it, and no text where that is the payload itself; a folder has no bytes in its forks
 pub record BagItem : Type 0 where
   pub above : List ℕ
   pub name : List ℕ
@@ -36,13 +36,18 @@ double_bytes item = apple_double_head_bytes (double_head item) ++ item.resource_
 abbrev pub double_entry : BagItem → ShelfEntry
 double_entry item = file (double_path item) (double_bytes item)
 
+abbrev pub folder_entry : BagItem → ShelfEntry
+folder_entry item = folder (item_path item)
+
 abbrev pub data_entry : BagItem → ShelfEntry
 data_entry item = file (item_path item) item.data_fork
 
--- a file's data fork and then its AppleDouble file; a folder's AppleDouble file and then the folder
+-- a file's data fork and then its AppleDouble file; a folder's AppleDouble file and then the folder; or one of them alone
 abbrev pub entries_of_kind : BagKind → BagItem → List ShelfEntry
 entries_of_kind kind.File item = data_entry item ∷ double_entry item ∷ []
-entries_of_kind kind.Folder item = double_entry item ∷ folder (item_path item) ∷ []
+entries_of_kind kind.Folder item = double_entry item ∷ folder_entry item ∷ []
+entries_of_kind kind.FolderAlone item = folder_entry item ∷ []
+entries_of_kind kind.DoubleAlone item = double_entry item ∷ []
 
 abbrev pub item_entries : BagItem → List ShelfEntry
 item_entries item = entries_of_kind item.kind item
@@ -50,7 +55,9 @@ item_entries item = entries_of_kind item.kind item
 -- what is kept of the digests of an item's files
 abbrev pub digests_of_kind : BagKind → BagItem → ItemDigests
 digests_of_kind kind.File item = digests.File (sha256 item.data_fork) (sha256 (double_bytes item))
-digests_of_kind kind.Folder item = digests.Folder (sha256 (double_bytes item))
+digests_of_kind kind.Folder item = digests.Double (sha256 (double_bytes item))
+digests_of_kind kind.FolderAlone item = digests.NoFile
+digests_of_kind kind.DoubleAlone item = digests.Double (sha256 (double_bytes item))
 
 abbrev pub item_digests : BagItem → ItemDigests
 item_digests item = digests_of_kind item.kind item

@@ -4,7 +4,10 @@ use Rattle.std.specs.List.{flat_map}
 use Rattle.hfs_fields.specs.Order.{folded}
 use Rattle.hfs_shelves.specs.Entries.{ShelfEntry, folder, file}
 use Rattle.hfs_bag.specs.declared.facts.BagFacts.{BagFacts}
+use Rattle.hfs_bag.specs.declared.item.BagKind.{BagKind}
+use Rattle.hfs_bag.specs.declared.item.BagKind.TheVariants as kind
 use Rattle.hfs_bag.specs.Items.{BagItem}
+use Rattle.hfs_bag.specs.Sources.{BagTables}
 use Rattle.hfs_bag.specs.Tags.{bag_of}
 
 abbrev pub entry_path : ShelfEntry → List ℕ
@@ -64,9 +67,27 @@ pub record IsPlaced (item : BagItem) : Type 0 where
   pub folders_are : ArePlain folders
   pub name_is : IsPlain item.name
 
--- two items have other paths, also without regard to case
-abbrev pub AreApart : BagItem → BagItem → Type 0
-AreApart a b = folded (a.above ++ a.name) ≢ folded (b.above ++ b.name)
+-- what lies at the item's own path: a folder, or a file with its data fork
+abbrev pub HasOwn : BagKind → Type 0
+HasOwn kind.File = ⊤
+HasOwn kind.Folder = ⊤
+HasOwn kind.FolderAlone = ⊤
+HasOwn kind.DoubleAlone = ⊥
+
+-- an AppleDouble file lies beside it
+abbrev pub HasDouble : BagKind → Type 0
+HasDouble kind.File = ⊤
+HasDouble kind.Folder = ⊤
+HasDouble kind.FolderAlone = ⊥
+HasDouble kind.DoubleAlone = ⊤
+
+abbrev pub DifferInPath : BagItem → BagItem → Type 0
+DifferInPath a b = folded (a.above ++ a.name) ≢ folded (b.above ++ b.name)
+
+-- two items have other paths, also without regard to case, but for a folder alone and an AppleDouble file alone, which may be of one item
+pub record AreApart (a b : BagItem) : Type 0 where
+  pub own : HasOwn a.kind → HasOwn b.kind → DifferInPath a b
+  pub doubles : HasDouble a.kind → HasDouble b.kind → DifferInPath a b
 
 abbrev pub IsApart : BagItem → List BagItem → Type 0
 IsApart item [] = ⊤
@@ -93,4 +114,4 @@ AllDiffer (entry ∷ rest) = IsNoneOf (entry_path entry) rest × AllDiffer rest
 
 -- the law of paths: where the items have plain names and paths of their own, no path leads out of the bag, and all differ, those of the tag files too, also without regard to case
 abbrev pub BagPathsAreLawful : Type 0
-BagPathsAreLawful = (items : List BagItem) (table : List ℕ) (facts : BagFacts) → ArePlaced items → AreInside (bag_of items table facts) × AllDiffer (bag_of items table facts)
+BagPathsAreLawful = (items : List BagItem) (tables : BagTables) (facts : BagFacts) → ArePlaced items → AreInside (bag_of items tables facts) × AllDiffer (bag_of items tables facts)

@@ -1,18 +1,30 @@
 -- What a bag is filled from.
-use Rattle.std.specs.Prelude.{◌≡◌, ℕ, ◌+◌, Bool, true, List, [], ◌∷◌, ◌++◌, length, Option, Some, None}
+use Rattle.std.specs.Prelude.{◌≡◌, ℕ, ◌+◌, Bool, true, false, List, [], ◌∷◌, ◌++◌, length, Option, Some, None, unwrap_or}
 use Rattle.hfs_bag.specs.declared.item.BagHead.{BagHead}
 use Rattle.hfs_bag.specs.declared.source.Stream.{Stream}
 use Rattle.hfs_bag.specs.declared.source.Stream.TheVariants as stream
 use Rattle.hfs_bag.specs.Items.{BagItem, IsHead}
 
--- whether its bytes are known (those of a file are not, before they are read), all items in their order, those still to come, the item that came last, the bytes of a stream that are still to be read, and the text of the table
+-- the texts of the table of all items and of that of what remains of them, where there is one
+pub record BagTables : Type 0 where
+  pub items : List ℕ
+  pub remains : Option (List ℕ)
+
+abbrev pub told_or_not : Option (List ℕ) → Bool
+told_or_not (Some text) = true
+told_or_not None = false
+
+abbrev pub has_remains : BagTables → Bool
+has_remains tables = told_or_not tables.remains
+
+-- whether its bytes are known (those of a file are not, before they are read), all items in their order, those still to come, the item that came last, the bytes of a stream that are still to be read, and the tables
 pub record SourceState : Type 0 where
   pub known : Bool
   pub all : List BagItem
   pub left : List BagItem
   pub item : BagItem
   pub bytes : List ℕ
-  pub table : List ℕ
+  pub tables : BagTables
 
 -- where its bytes are known, this holds
 abbrev pub WhereKnown : SourceState → Type 0 → Type 0
@@ -21,7 +33,8 @@ WhereKnown state Fact = state.known ≡ true → Fact
 abbrev pub stream_bytes : SourceState → Stream → List ℕ
 stream_bytes state stream.DataFork = state.item.data_fork
 stream_bytes state stream.ResourceFork = state.item.resource_fork
-stream_bytes state stream.Table = state.table
+stream_bytes state stream.Table = state.tables.items
+stream_bytes state stream.Remains = unwrap_or state.tables.remains []
 
 -- all is as it was but for the bytes that are read
 pub record SameItems (old new : SourceState) : Type 0 where
@@ -29,7 +42,7 @@ pub record SameItems (old new : SourceState) : Type 0 where
   pub all : new.all ≡ old.all
   pub left : new.left ≡ old.left
   pub item : new.item ≡ old.item
-  pub table : new.table ≡ old.table
+  pub tables : new.tables ≡ old.tables
 
 -- a stream's bytes are still to be read
 pub record HasOpened (stream : Stream) (old new : SourceState) : Type 0 where
@@ -47,14 +60,14 @@ pub record HasRead (piece : List ℕ) (old new : SourceState) : Type 0 where
 pub record HasItem (head : BagHead) (old new : SourceState) : Type 0 where
   pub known : new.known ≡ old.known
   pub all : new.all ≡ old.all
-  pub table : new.table ≡ old.table
+  pub tables : new.tables ≡ old.tables
   pub left : old.left ≡ new.item ∷ new.left
   pub told : WhereKnown old (IsHead head new.item)
 
 pub record HasNoItem (old new : SourceState) : Type 0 where
   pub known : new.known ≡ old.known
   pub all : new.all ≡ old.all
-  pub table : new.table ≡ old.table
+  pub tables : new.tables ≡ old.tables
   pub none : old.left ≡ []
   pub none_left : new.left ≡ []
 
@@ -67,4 +80,4 @@ pub record HasRestarted (old new : SourceState) : Type 0 where
   pub known : new.known ≡ old.known
   pub all : new.all ≡ old.all
   pub left : WhereKnown old (new.left ≡ old.all)
-  pub table : new.table ≡ old.table
+  pub tables : new.tables ≡ old.tables

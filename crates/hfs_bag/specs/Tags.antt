@@ -8,6 +8,7 @@ use Rattle.hfs_shelves.specs.Entries.{ShelfEntry, file}
 use Rattle.hfs_bag.specs.declared.facts.BagFacts.{BagFacts}
 use Rattle.hfs_bag.specs.Items.{BagItem}
 use Rattle.hfs_bag.specs.Bags.{bytes_in, files_in, manifest, payload}
+use Rattle.hfs_bag.specs.Sources.{BagTables}
 
 -- how many bytes the files have, a point, and how many files there are
 unfoldable pub oxum_text : ℕ → ℕ → List ℕ
@@ -35,13 +36,18 @@ info_text facts bytes files = line (codes "External-Identifier:") facts.identifi
 abbrev pub declaration_text : List ℕ
 declaration_text = codes "BagIt-Version: 1.0\nTag-File-Character-Encoding: UTF-8\n"
 
--- ---- the tag files of these items, whose table is this text
+-- ---- the tag files of these items, whose tables are these texts
 
 abbrev pub manifest_file : List BagItem → ShelfEntry
 manifest_file items = file (codes "manifest-sha256.txt") (manifest (payload items))
 
 abbrev pub table_file : List ℕ → ShelfEntry
 table_file table = file (codes "items.csv") table
+
+-- the table of what remains, where there is one
+abbrev pub remains_files : Option (List ℕ) → List ShelfEntry
+remains_files (Some text) = file (codes "rescue.tsv") text ∷ []
+remains_files None = []
 
 abbrev pub report_file : BagFacts → ShelfEntry
 report_file facts = file (codes "volume.txt") facts.report.now
@@ -53,15 +59,16 @@ abbrev pub declaration_file : ShelfEntry
 declaration_file = file (codes "bagit.txt") declaration_text
 
 -- the digests of the other tag files, in an order of their own
-abbrev pub tag_manifest_file : List BagItem → List ℕ → BagFacts → ShelfEntry
-tag_manifest_file items table facts = file (codes "tagmanifest-sha256.txt")
-    (manifest (declaration_file ∷ info_file items facts ∷ table_file table ∷ report_file facts ∷ manifest_file items ∷ []))
+abbrev pub tag_manifest_file : List BagItem → BagTables → BagFacts → ShelfEntry
+tag_manifest_file items tables facts = file (codes "tagmanifest-sha256.txt")
+    (manifest (declaration_file ∷ info_file items facts ∷ table_file tables.items ∷ (remains_files tables.remains ++ (report_file facts ∷ manifest_file items ∷ []))))
 
-abbrev pub tag_files : List BagItem → List ℕ → BagFacts → List ShelfEntry
-tag_files items table facts =
-    manifest_file items ∷ table_file table ∷ report_file facts ∷ info_file items facts ∷ declaration_file ∷ tag_manifest_file items table facts ∷ []
+abbrev pub tag_files : List BagItem → BagTables → BagFacts → List ShelfEntry
+tag_files items tables facts =
+    manifest_file items ∷ table_file tables.items ∷ (remains_files tables.remains
+    ++ (report_file facts ∷ info_file items facts ∷ declaration_file ∷ tag_manifest_file items tables facts ∷ []))
 
 -- ---- the bag
 
-abbrev pub bag_of : List BagItem → List ℕ → BagFacts → List ShelfEntry
-bag_of items table facts = payload items ++ tag_files items table facts
+abbrev pub bag_of : List BagItem → BagTables → BagFacts → List ShelfEntry
+bag_of items tables facts = payload items ++ tag_files items tables facts

@@ -32,7 +32,7 @@ fn give_payload<S: Shelf, B: BagSource>(
         (given.bytes ≡ bytes_in (payload (B.state source.old).all))) }
     ensures known { OnOk result ((B.state source.new).known ≡ (B.state source.old).known) }
     ensures all { OnOk result ((B.state source.new).all ≡ (B.state source.old).all) }
-    ensures table { OnOk result ((B.state source.new).table ≡ (B.state source.old).table) }
+    ensures tables { OnOk result ((B.state source.new).tables ≡ (B.state source.old).tables) }
 {
     source.restart()?;
     shelf.make_folder("data")?;
@@ -48,9 +48,9 @@ pub fn give_bag<S: Shelf, B: BagSource>(
     facts: &BagFacts<'_>,
 ) -> Result<BagSums, BagFault>
     ensures whole { OnOk result (WhereKnown (B.state source.old)
-        (S.given shelf.new ≡ S.given shelf.old ++ bag_of (B.state source.old).all (B.state source.old).table facts.now)) }
+        (S.given shelf.new ≡ S.given shelf.old ++ bag_of (B.state source.old).all (B.state source.old).tables facts.now)) }
     ensures part { OnErr result (WhereKnown (B.state source.old)
-        (IsBeginning (S.given shelf.new) (S.given shelf.old ++ bag_of (B.state source.old).all (B.state source.old).table facts.now))) }
+        (IsBeginning (S.given shelf.new) (S.given shelf.old ++ bag_of (B.state source.old).all (B.state source.old).tables facts.now))) }
     ensures sums { IfOk result (λ sums. WhereKnown (B.state source.old)
         (IsSumOf sums (B.state source.old).all)) }
 {

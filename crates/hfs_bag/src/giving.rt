@@ -76,7 +76,7 @@ pub(crate) fn give_items<S: Shelf, B: BagSource>(
         (given.bytes ≡ bytes_in (items_entries (B.state source.old).left))) }
     ensures known { OnOk result ((B.state source.new).known ≡ (B.state source.old).known) }
     ensures all { OnOk result ((B.state source.new).all ≡ (B.state source.old).all) }
-    ensures table { OnOk result ((B.state source.new).table ≡ (B.state source.old).table) }
+    ensures tables { OnOk result ((B.state source.new).tables ≡ (B.state source.old).tables) }
 {
     let mut given = Given {
         digests: Vec::new(alloc),

@@ -1,10 +1,16 @@
 //! What a bag keeps of an item.
 
-/// Whether an item is a folder or a file.
+/// What a bag has of an item.
 #[derive(Clone, Copy, Debug, PartialEq, Eq)]
 pub enum BagKind {
+    /// An AppleDouble file, and then the folder.
     Folder,
+    /// A file with the data fork, and then an AppleDouble file.
     File,
+    /// The folder alone, as where it is wanted before its item comes.
+    FolderAlone,
+    /// The AppleDouble file alone, as of a folder that was made before.
+    DoubleAlone,
 }
 
 /// What is told of an item before its forks are read.
@@ -24,8 +30,10 @@ pub struct BagHead {
 /// The SHA-256 digests of the files that a bag has for an item.
 #[derive(Clone, Copy, Debug, PartialEq, Eq)]
 pub enum ItemDigests {
-    /// That of a folder's AppleDouble file.
-    Folder([u8; 32]),
     /// Those of a file's data fork and of its AppleDouble file.
     File([u8; 32], [u8; 32]),
+    /// That of an AppleDouble file.
+    Double([u8; 32]),
+    /// It has no files.
+    NoFile,
 }

@@ -4,7 +4,7 @@ ghost use Rattle.sha2.specs.Sha256.{sha256};
 ghost use Rattle.hfs_encodings.specs.AppleDouble.{apple_double_head_bytes};
 ghost use Rattle.hfs_shelves.specs.Entries.{IsBeginning};
 ghost use Rattle.hfs_bag.specs.declared.item.BagKind.TheVariants as kind;
-ghost use Rattle.hfs_bag.specs.Items.{BagItem, IsHead, double_head, double_bytes, double_entry, entries_of_kind, item_digests, item_entries, digests_of_kind};
+ghost use Rattle.hfs_bag.specs.Items.{BagItem, IsHead, folder_entry, double_head, double_bytes, double_entry, entries_of_kind, item_digests, item_entries, digests_of_kind};
 ghost use Rattle.hfs_bag.specs.Sources.{SameItems, WhereKnown};
 
 use crate::fault::BagFault;
@@ -124,7 +124,45 @@ fn give_folder<S: Shelf, B: BagSource>(
     let double = give_double(alloc, shelf, source, head)?;
     let path = marked_path(alloc, source, "")?;
     shelf.make_folder(path.as_str())?;
-    Ok(ItemDigests::Folder(double))
+    Ok(ItemDigests::Double(double))
+}
+
+/// Gives the folder of the item that came last, and nothing else.
+fn give_folder_alone<S: Shelf, B: BagSource>(
+    alloc: Global,
+    shelf: &mut S,
+    source: &B,
+) -> Result<ItemDigests, BagFault>
+    ensures whole { OnOk result (S.given shelf.new ≡ S.given shelf.old
+        ++ folder_entry (B.state source.now).item ∷ []) }
+    ensures part { OnErr result (IsBeginning (S.given shelf.new)
+        (S.given shelf.old ++ folder_entry (B.state source.now).item ∷ [])) }
+    ensures digests { IfOk result (λ digests. digests ≡ digests_of_kind kind.FolderAlone
+        (B.state source.now).item) }
+{
+    let path = marked_path(alloc, source, "")?;
+    shelf.make_folder(path.as_str())?;
+    Ok(ItemDigests::NoFile)
+}
+
+/// Gives the AppleDouble file of the item that came last, and nothing else, and answers its digest.
+fn give_double_alone<S: Shelf, B: BagSource>(
+    alloc: Global,
+    shelf: &mut S,
+    source: &mut B,
+    head: &BagHead,
+) -> Result<ItemDigests, BagFault>
+    requires { WhereKnown (B.state source.old) (IsHead head.now (B.state source.old).item) }
+    ensures whole { OnOk result (WhereKnown (B.state source.old)
+        (S.given shelf.new ≡ S.given shelf.old ++ entries_of_kind kind.DoubleAlone (B.state source.old).item)) }
+    ensures part { OnErr result (WhereKnown (B.state source.old)
+        (IsBeginning (S.given shelf.new) (S.given shelf.old ++ entries_of_kind kind.DoubleAlone (B.state source.old).item))) }
+    ensures digests { IfOk result (λ digests. WhereKnown (B.state source.old)
+        (digests ≡ digests_of_kind kind.DoubleAlone (B.state source.old).item)) }
+    ensures same { OnOk result (SameItems (B.state source.old) (B.state source.new)) }
+{
+    let double = give_double(alloc, shelf, source, head)?;
+    Ok(ItemDigests::Double(double))
 }
 
 /// Gives what there is of the item that came last, and answers the digests of its files.
@@ -146,5 +184,7 @@ pub(crate) fn give_item<S: Shelf, B: BagSource>(
     match head.kind {
         BagKind::File => give_file(alloc, shelf, source, head),
         BagKind::Folder => give_folder(alloc, shelf, source, head),
+        BagKind::FolderAlone => give_folder_alone(alloc, shelf, source),
+        BagKind::DoubleAlone => give_double_alone(alloc, shelf, source, head),
     }
 }

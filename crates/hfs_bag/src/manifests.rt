@@ -80,7 +80,8 @@ fn item_lines<B: BagSource>(
             push_data_line(alloc, &mut text, source, data)?;
             push_double_line(alloc, &mut text, source, double)?;
         }
-        ItemDigests::Folder(double) => push_double_line(alloc, &mut text, source, double)?,
+        ItemDigests::Double(double) => push_double_line(alloc, &mut text, source, double)?,
+        ItemDigests::NoFile => {}
     }
     Ok(text)
 }
@@ -125,7 +126,7 @@ fn list_items<S: Shelf, B: BagSource>(
         (HoldsMore (Holds256 digest.old) (Holds256 digest.new) (manifest (items_entries (B.state source.old).left)))) }
     ensures known { OnOk result ((B.state source.new).known ≡ (B.state source.old).known) }
     ensures all { OnOk result ((B.state source.new).all ≡ (B.state source.old).all) }
-    ensures table { OnOk result ((B.state source.new).table ≡ (B.state source.old).table) }
+    ensures tables { OnOk result ((B.state source.new).tables ≡ (B.state source.old).tables) }
     ensures part { OnErr result (WhereKnown (B.state source.old)
         (IsBeginning (S.given shelf.new) (with_piece (S.given shelf.old) (manifest (items_entries (B.state source.old).left))))) }
 {
@@ -152,7 +153,7 @@ pub(crate) fn give_manifest<S: Shelf, B: BagSource>(
         (digest ≡ sha256 (manifest (items_entries (B.state source.old).all)))) }
     ensures known { OnOk result ((B.state source.new).known ≡ (B.state source.old).known) }
     ensures all { OnOk result ((B.state source.new).all ≡ (B.state source.old).all) }
-    ensures table { OnOk result ((B.state source.new).table ≡ (B.state source.old).table) }
+    ensures tables { OnOk result ((B.state source.new).tables ≡ (B.state source.old).tables) }
 {
     source.restart()?;
     shelf.make_file("manifest-sha256.txt", None)?;

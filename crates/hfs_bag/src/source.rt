@@ -1,6 +1,6 @@
 //! What a bag is filled from.
 ghost use Rattle.std.specs.Prelude.{◌≡◌, ◌++◌, IfOk, OnOk, string_bytes};
-ghost use Rattle.hfs_bag.specs.Sources.{HasOpened, HasRead, HasRestarted, SourceState, TakesItem};
+ghost use Rattle.hfs_bag.specs.Sources.{HasOpened, HasRead, HasRestarted, SourceState, TakesItem, has_remains};
 
 use crate::item::BagHead;
 use std::alloc::AllocError;
@@ -14,6 +14,8 @@ pub enum Stream {
     ResourceFork,
     /// The table of all items, as CSV.
     Table,
+    /// The table of what remains of each item, where the source tells it.
+    Remains,
 }
 
 /// Why a source did not give what was asked for.
@@ -29,6 +31,10 @@ pub enum SourceFault {
 /// bytes are known, contracts know the items by them.
 pub trait BagSource {
     ghost state: { Self → SourceState };
+
+    /// Whether there is a table of what remains of each item.
+    fn tells_remains(&self) -> bool
+        ensures { result ≡ has_remains (state self.now).tables };
 
     /// Begins with the items anew.
     fn restart(&mut self) -> Result<(), SourceFault>

@@ -1,7 +1,7 @@
 //! How much a bag holds.
 ghost use Rattle.std.specs.Prelude.{◌≡◌, ◌+◌, ◌≤◌, length, IfSome};
 ghost use Rattle.hfs_bag.specs.Items.{BagItem, IsHead, item_entries};
-ghost use Rattle.hfs_bag.specs.Bags.{bytes_in, file_number, files_told};
+ghost use Rattle.hfs_bag.specs.Bags.{bytes_in, double_number, doubles_told, file_number, files_told};
 
 use crate::item::{BagHead, BagKind, ItemDigests};
 use crate::items::double_head;
@@ -9,9 +9,9 @@ use crate::items::double_head;
 /// How much a bag holds.
 #[derive(Clone, Copy, Debug, PartialEq, Eq)]
 pub struct BagSums {
-    /// How many items are files.
+    /// How many items have a file with their data fork.
     pub files: usize,
-    /// How many are folders, without the root.
+    /// How many have none, as the folders of a volume without its root.
     pub folders: usize,
     /// The bytes of all files of the payload.
     pub bytes: u64,
@@ -24,22 +24,34 @@ pub(crate) fn item_bytes(head: &BagHead) -> u64
     let double = double_head(head).len() as u64 + u64::from(head.resource_length);
     match head.kind {
         BagKind::File => u64::from(head.data_length) + double,
-        BagKind::Folder => double,
+        BagKind::Folder | BagKind::DoubleAlone => double,
+        BagKind::FolderAlone => 0,
     }
 }
 
-/// 1 for a file, and 0 for a folder.
+/// 1 where there is a file with a data fork, else 0.
 fn file_number(told: &ItemDigests) -> usize
     ensures number { result ≡ file_number told.now }
     ensures few { result ≤ 1 }
 {
     match told {
         ItemDigests::File(_, _) => 1,
-        ItemDigests::Folder(_) => 0,
+        ItemDigests::Double(_) | ItemDigests::NoFile => 0,
     }
 }
 
-/// How many of these items are files.
+/// 1 where there is an AppleDouble file, else 0.
+fn double_number(told: &ItemDigests) -> usize
+    ensures number { result ≡ double_number told.now }
+    ensures few { result ≤ 1 }
+{
+    match told {
+        ItemDigests::File(_, _) | ItemDigests::Double(_) => 1,
+        ItemDigests::NoFile => 0,
+    }
+}
+
+/// How many of these items have a file with their data fork.
 pub(crate) fn count_files(digests: &[ItemDigests]) -> usize
     ensures count { result ≡ files_told digests.now }
     ensures few { result ≤ length digests.now }
@@ -53,10 +65,23 @@ pub(crate) fn count_files(digests: &[ItemDigests]) -> usize
     files
 }
 
-/// How many files these items have in the payload: an AppleDouble file each, and a file its data fork. None where there are 2^64 or more.
-pub(crate) fn count_streams(digests: &[ItemDigests]) -> Option<u64>
-    ensures { IfSome result (λ streams. streams ≡ length digests.now + files_told digests.now) }
+/// How many of these items have an AppleDouble file.
+fn count_doubles(digests: &[ItemDigests]) -> usize
+    ensures { result ≡ doubles_told digests.now }
 {
-    let streams = digests.len().checked_add(count_files(digests))?;
+    let mut doubles = 0;
+    let mut rest = digests;
+    while let [told, behind @ ..] = rest {
+        doubles += double_number(told);
+        rest = behind;
+    }
+    doubles
+}
+
+/// How many files these items have in the payload. None where there are 2^64 or more.
+pub(crate) fn count_streams(digests: &[ItemDigests]) -> Option<u64>
+    ensures { IfSome result (λ streams. streams ≡ doubles_told digests.now + files_told digests.now) }
+{
+    let streams = count_doubles(digests).checked_add(count_files(digests))?;
     Some(streams as u64)
 }

@@ -1,14 +1,14 @@
 //! The tag files of a bag.
-ghost use Rattle.std.specs.Prelude.{◌≡◌, ◌++◌, codes, map, IfOk, OnErr, OnOk, string_bytes};
+ghost use Rattle.std.specs.Prelude.{◌≡◌, ◌++◌, codes, map, option_map, IfOk, OnErr, OnOk, string_bytes};
 ghost use Rattle.sha2.specs.Sha256.{sha256};
 ghost use Rattle.hfs_texts.specs.Texts.{Gains};
 ghost use Rattle.hfs_shelves.specs.Entries.{IsBeginning};
 ghost use Rattle.hfs_bag.specs.Items.{item_digests};
-ghost use Rattle.hfs_bag.specs.Sources.{WhereKnown};
+ghost use Rattle.hfs_bag.specs.Sources.{SameItems, WhereKnown};
 ghost use Rattle.hfs_bag.specs.Bags.{bytes_in, files_in, manifest, payload};
 ghost use Rattle.hfs_bag.specs.Filling.{with_whole_file};
-ghost use Rattle.hfs_bag.specs.TagParts.{first_tags, second_tags, tag_lines};
-ghost use Rattle.hfs_bag.specs.Tags.{declaration_text, image_digest_line, info_text, oxum_text, tag_files, volume_line};
+ghost use Rattle.hfs_bag.specs.TagParts.{first_tags, remains_line, second_tags, tag_lines};
+ghost use Rattle.hfs_bag.specs.Tags.{declaration_text, image_digest_line, info_text, oxum_text, remains_files, tag_files, volume_line};
 
 use crate::facts::BagFacts;
 use crate::fault::BagFault;
@@ -103,9 +103,25 @@ fn info_text(
 struct TagDigests {
     manifest: [u8; 32],
     table: [u8; 32],
+    /// That of the table of what remains, where there is one.
+    remains: Option<[u8; 32]>,
     report: [u8; 32],
     info: [u8; 32],
     declaration: [u8; 32],
+}
+
+/// Appends the line of the table of what remains, where there is one.
+fn push_remains_line(
+    alloc: Global,
+    text: &mut String,
+    digest: &Option<[u8; 32]>,
+) -> Result<(), AllocError>
+    ensures { OnOk result (Gains text.old text.new (remains_line digest.now)) }
+{
+    match digest {
+        Some(digest) => push_digest_line(alloc, text, digest, "rescue.tsv"),
+        None => Ok(()),
+    }
 }
 
 /// The text of `tagmanifest-sha256.txt`.
@@ -116,52 +132,83 @@ fn tag_manifest(alloc: Global, tags: &TagDigests) -> Result<String, AllocError>
     push_digest_line(alloc, &mut text, &tags.declaration, "bagit.txt")?;
     push_digest_line(alloc, &mut text, &tags.info, "bag-info.txt")?;
     push_digest_line(alloc, &mut text, &tags.table, "items.csv")?;
+    push_remains_line(alloc, &mut text, &tags.remains)?;
     push_digest_line(alloc, &mut text, &tags.report, "volume.txt")?;
     push_digest_line(alloc, &mut text, &tags.manifest, "manifest-sha256.txt")?;
     Ok(text)
 }
 
-/// Gives the manifest, the table and the report, and answers their digests.
+/// Gives the table of what remains, where there is one, and answers its digest.
+fn give_remains<S: Shelf, B: BagSource>(
+    alloc: Global,
+    shelf: &mut S,
+    source: &mut B,
+) -> Result<Option<[u8; 32]>, BagFault>
+    ensures whole { OnOk result (WhereKnown (B.state source.old)
+        (S.given shelf.new ≡ S.given shelf.old ++ remains_files (B.state source.old).tables.remains)) }
+    ensures part { OnErr result (WhereKnown (B.state source.old)
+        (IsBeginning (S.given shelf.new) (S.given shelf.old ++ remains_files (B.state source.old).tables.remains))) }
+    ensures digest { IfOk result (λ digest. WhereKnown (B.state source.old)
+        (digest ≡ option_map sha256 (B.state source.old).tables.remains)) }
+{
+    if !source.tells_remains() {
+        return Ok(None);
+    }
+    let digest = put_file(
+        alloc,
+        shelf,
+        source,
+        "rescue.tsv",
+        None,
+        &[],
+        Stream::Remains,
+    )?;
+    Ok(Some(digest))
+}
+
+/// Gives the manifest and the tables, and answers their digests.
 fn give_first<S: Shelf, B: BagSource>(
     alloc: Global,
     shelf: &mut S,
     source: &mut B,
-    facts: &BagFacts<'_>,
     given: &Given,
-) -> Result<([u8; 32], [u8; 32], [u8; 32]), BagFault>
+) -> Result<([u8; 32], [u8; 32], Option<[u8; 32]>), BagFault>
     requires { WhereKnown (B.state source.old)
         (given.now.digests.items ≡ map item_digests (B.state source.old).all) }
     ensures whole { OnOk result (WhereKnown (B.state source.old)
-        (S.given shelf.new ≡ S.given shelf.old ++ first_tags (B.state source.old).all (B.state source.old).table facts.now)) }
+        (S.given shelf.new ≡ S.given shelf.old ++ first_tags (B.state source.old).all (B.state source.old).tables)) }
     ensures part { OnErr result (WhereKnown (B.state source.old)
-        (IsBeginning (S.given shelf.new) (S.given shelf.old ++ first_tags (B.state source.old).all (B.state source.old).table facts.now))) }
+        (IsBeginning (S.given shelf.new) (S.given shelf.old ++ first_tags (B.state source.old).all (B.state source.old).tables))) }
     ensures manifest { IfOk result (λ told. WhereKnown (B.state source.old)
         (told.0 ≡ sha256 (manifest (payload (B.state source.old).all)))) }
     ensures table { IfOk result (λ told. WhereKnown (B.state source.old)
-        (told.1 ≡ sha256 (B.state source.old).table)) }
-    ensures report { IfOk result (λ told. told.2 ≡ sha256 facts.now.report.now) }
+        (told.1 ≡ sha256 (B.state source.old).tables.items)) }
+    ensures remains { IfOk result (λ told. WhereKnown (B.state source.old)
+        (told.2 ≡ option_map sha256 (B.state source.old).tables.remains)) }
 {
     let manifest = give_manifest(alloc, shelf, source, &given.digests)?;
     let table = put_file(alloc, shelf, source, "items.csv", None, &[], Stream::Table)?;
-    let report = put_text(shelf, "volume.txt", facts.report)?;
-    Ok((manifest, table, report))
+    let remains = give_remains(alloc, shelf, source)?;
+    Ok((manifest, table, remains))
 }
 
-/// Gives the facts and the declaration, and answers their digests.
+/// Gives the report, the facts and the declaration, and answers their digests.
 fn give_second<S: Shelf>(
     alloc: Global,
     shelf: &mut S,
     facts: &BagFacts<'_>,
     bytes: u64,
     files: u64,
-) -> Result<([u8; 32], [u8; 32]), BagFault>
+) -> Result<([u8; 32], [u8; 32], [u8; 32]), BagFault>
     ensures whole { OnOk result (S.given shelf.new ≡ S.given shelf.old ++ second_tags facts.now
         bytes files) }
     ensures part { OnErr result (IsBeginning (S.given shelf.new)
         (S.given shelf.old ++ second_tags facts.now bytes files)) }
-    ensures info { IfOk result (λ told. told.0 ≡ sha256 (info_text facts.now bytes files)) }
-    ensures declaration { IfOk result (λ told. told.1 ≡ sha256 declaration_text) }
+    ensures report { IfOk result (λ told. told.0 ≡ sha256 facts.now.report.now) }
+    ensures info { IfOk result (λ told. told.1 ≡ sha256 (info_text facts.now bytes files)) }
+    ensures declaration { IfOk result (λ told. told.2 ≡ sha256 declaration_text) }
 {
+    let report = put_text(shelf, "volume.txt", facts.report)?;
     let text = info_text(alloc, facts, bytes, files)?;
     let info = put_text(shelf, "bag-info.txt", text.as_str())?;
     let declaration = put_text(
@@ -169,7 +216,7 @@ fn give_second<S: Shelf>(
         "bagit.txt",
         "BagIt-Version: 1.0\nTag-File-Character-Encoding: UTF-8\n",
     )?;
-    Ok((info, declaration))
+    Ok((report, info, declaration))
 }
 
 /// Gives the manifest of the tag files.
@@ -201,20 +248,22 @@ pub(crate) fn give_tags<S: Shelf, B: BagSource>(
     requires files { WhereKnown (B.state source.old)
         (files ≡ files_in (payload (B.state source.old).all)) }
     ensures whole { OnOk result (WhereKnown (B.state source.old)
-        (S.given shelf.new ≡ S.given shelf.old ++ tag_files (B.state source.old).all (B.state source.old).table facts.now)) }
+        (S.given shelf.new ≡ S.given shelf.old ++ tag_files (B.state source.old).all (B.state source.old).tables facts.now)) }
     ensures part { OnErr result (WhereKnown (B.state source.old)
-        (IsBeginning (S.given shelf.new) (S.given shelf.old ++ tag_files (B.state source.old).all (B.state source.old).table facts.now))) }
+        (IsBeginning (S.given shelf.new) (S.given shelf.old ++ tag_files (B.state source.old).all (B.state source.old).tables facts.now))) }
 {
-    let first = give_first(alloc, shelf, source, facts, given)?;
+    let first = give_first(alloc, shelf, source, given)?;
     let second = give_second(alloc, shelf, facts, given.bytes, files)?;
     let manifest = first.0;
     let table = first.1;
-    let report = first.2;
-    let info = second.0;
-    let declaration = second.1;
+    let remains = first.2;
+    let report = second.0;
+    let info = second.1;
+    let declaration = second.2;
     let tags = TagDigests {
         manifest,
         table,
+        remains,
         report,
         info,
         declaration,

@@ -1,5 +1,5 @@
 //! The bag of a volume without items: texts by hand, and digests that `sha256sum` gave.
-ghost use Rattle.std.specs.Prelude.{[], true};
+ghost use Rattle.std.specs.Prelude.{[], true, None};
 ghost use Rattle.hfs_bag.specs.declared.item.BagKind.TheVariants as kind;
 
 use crate::{BagFacts, BagHead, BagSource, BagSums, SourceFault, Stream, give_bag};
@@ -36,8 +36,12 @@ impl BagSource for NoItems<'_> {
       left = [];
       item = record { above = []; name = []; kind = kind.File; finder = []; data_fork = []; resource_fork = [] };
       bytes = source.rest.now;
-      table = source.table.now;
+      tables = record { items = source.table.now; remains = None };
     } };
+
+    fn tells_remains(&self) -> bool {
+        false
+    }
 
     fn restart(&mut self) -> Result<(), SourceFault> {
         Ok(())
@@ -60,6 +64,7 @@ impl BagSource for NoItems<'_> {
             Stream::DataFork => &[],
             Stream::ResourceFork => &[],
             Stream::Table => self.table,
+            Stream::Remains => &[],
         };
         Ok(())
     }

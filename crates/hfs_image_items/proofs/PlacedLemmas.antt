@@ -8,7 +8,7 @@ use Rattle.std.proofs.lemmas.Bool.{and_from, and_parts}
 use Rattle.std.proofs.lemmas.List.{length-map, map-append, take_at}
 use Rattle.hfs_fields.specs.Order.{folded, name_cmp, name_order}
 use Rattle.hfs_bag.specs.Items.{BagItem}
-use Rattle.hfs_bag.specs.Laws.{AreApart, ArePlaced, IsApart, IsPlaced, IsPlain}
+use Rattle.hfs_bag.specs.Laws.{AreApart, ArePlaced, DifferInPath, IsApart, IsPlaced, IsPlain}
 use Rattle.hfs_model.specs.declared.item.Item.{Item}
 use Rattle.hfs_model.specs.Volume.{Volume, Items, Entry}
 use Rattle.hfs_model.specs.Children.{children, entries_of}
@@ -214,11 +214,14 @@ module _ (v : Volume) (h : IsLawful v) (named : (id : ℕ) (i : Item) → Has v.
       name_is = subst (λ (n : List ℕ). IsPlain (host_name n)) (sym (name-is r)) (plain-name r.entry.1.name (last-bytes b.between r.entry.1.name b.bytes));
     }
 
-    are-apart : (a b : Row) → BelowRoot root a → BelowRoot root b → PathsDiffer a b → AreApart (item_of a) (item_of b)
-    are-apart a b p q differ same =
+    paths-differ : (a b : Row) → BelowRoot root a → BelowRoot root b → PathsDiffer a b → DifferInPath (item_of a) (item_of b)
+    paths-differ a b p q differ same =
         let names = host-paths.one_in_case (p.between ++ a.entry.1.name ∷ []) (q.between ++ b.entry.1.name ∷ []) p.bytes q.bytes
         (sym (ap folded (text-is a p)) ∙ same ∙ ap folded (text-is b q)) in
         differ (ap (map folded) p.path_is ∙ ap (λ (ns : List (List ℕ)). folded root ∷ ns) names ∙ sym (ap (map folded) q.path_is))
+
+    are-apart : (a b : Row) → BelowRoot root a → BelowRoot root b → PathsDiffer a b → AreApart (item_of a) (item_of b)
+    are-apart a b p q differ = record { own = λ x y. paths-differ a b p q differ; doubles = λ x y. paths-differ a b p q differ }
 
     apart-from : (a : Row) (rows : List Row) → BelowRoot root a → ((b : Row) → In b rows → BelowRoot root b) → ((b : Row) → In b rows → PathsDiffer a b)
         → IsApart (item_of a) (map (bag_item es) (map (told_row es) rows))

@@ -22,7 +22,7 @@ pub has_read : (opened opened' : OpenedValue) (left : List ToldRow) (came : Came
     → HasRead piece (source_of opened left came reading) (source_of opened' left came reading')
 has_read opened opened' left came reading reading' piece same reads =
     subst (λ (o : OpenedValue). HasRead piece (source_of opened left came reading) (source_of o left came reading')) (sym same) (record {
-      same = record { known = refl; all = refl; left = refl; item = refl; table = refl };
+      same = record { known = refl; all = refl; left = refl; item = refl; tables = refl };
       bytes = reads.bytes;
       fewer = reads.fewer;
       none = reads.none;
@@ -33,12 +33,13 @@ stream-is : (opened : OpenedValue) (left : List ToldRow) (came : CameItem) (read
 stream-is opened left came reading stream.DataFork = refl
 stream-is opened left came reading stream.ResourceFork = refl
 stream-is opened left came reading stream.Table = refl
+stream-is opened left came reading stream.Remains = refl
 
 pub has_opened : (opened : OpenedValue) (left : List ToldRow) (came : CameItem) (reading reading' : Reading) (s : Stream)
     → (is_known opened ≡ true → reading_rest opened reading' ≡ stream_told opened came.info s)
     → HasOpened s (source_of opened left came reading) (source_of opened left came reading')
 has_opened opened left came reading reading' s told = record {
-  same = record { known = refl; all = refl; left = refl; item = refl; table = refl };
+  same = record { known = refl; all = refl; left = refl; item = refl; tables = refl };
   bytes = λ known. told known ∙ stream-is opened left came reading s;
 }
 
@@ -49,7 +50,7 @@ has_restarted opened left left' came reading rows = record {
   known = refl;
   all = refl;
   left = λ known. ap (map (bag_item (entries_in (image_in opened)))) (rows known);
-  table = refl;
+  tables = refl;
 }
 
 pub has_item : (opened : OpenedValue) (old new : Going) (came came' : CameItem) (reading : Reading) (head : BagHead) (info : Info) → GivesRow old new (Some info)
@@ -61,7 +62,7 @@ has_item opened old new came came' reading head info gives above name info_is he
     record {
       known = refl;
       all = refl;
-      table = refl;
+      tables = refl;
       left = ap (map (bag_item es)) gives ∙ (λ i. item_at es (sym above i) (sym name i) (sym info_is i) ∷ map (bag_item es) new.left);
       told = λ known.
           subst (λ (x : Info). IsHead head (item_at es (string_bytes came'.above) (string_bytes came'.name) x)) (sym info_is)
@@ -73,7 +74,7 @@ pub has_no_item : (opened : OpenedValue) (old new : Going) (came : CameItem) (re
 has_no_item opened old new came reading gives = record {
   known = refl;
   all = refl;
-  table = refl;
+  tables = refl;
   none = ap (map (bag_item (entries_in (image_in opened)))) gives.0;
   none_left = ap (map (bag_item (entries_in (image_in opened)))) gives.1;
 }

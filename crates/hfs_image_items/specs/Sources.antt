@@ -1,5 +1,5 @@
 -- An opened image as the source of a bag.
-use Rattle.std.specs.Prelude.{ℕ, List, map, string_bytes}
+use Rattle.std.specs.Prelude.{ℕ, List, [], None, map, string_bytes}
 use Rattle.hfs_bag.specs.Sources.{SourceState}
 use Rattle.hfs_bag.specs.declared.source.Stream.{Stream}
 use Rattle.hfs_bag.specs.declared.source.Stream.TheVariants as stream
@@ -20,7 +20,7 @@ source_of opened left came reading = record {
   left = map (bag_item (entries_in (image_in opened))) left;
   item = item_at (entries_in (image_in opened)) (string_bytes came.above) (string_bytes came.name) came.info;
   bytes = reading_rest opened reading;
-  table = table_text (told_rows (entries_in (image_in opened)));
+  tables = record { items = table_text (told_rows (entries_in (image_in opened))); remains = None };
 }
 
 -- a stream of an item of its volume
@@ -28,3 +28,4 @@ abbrev pub stream_told : OpenedValue → Info → Stream → List ℕ
 stream_told opened info stream.DataFork = fork_told (entries_in (image_in opened)) DataFork info
 stream_told opened info stream.ResourceFork = fork_told (entries_in (image_in opened)) ResFork info
 stream_told opened info stream.Table = table_text (told_rows (entries_in (image_in opened)))
+stream_told opened info stream.Remains = []

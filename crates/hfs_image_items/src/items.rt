@@ -205,6 +205,7 @@ fn open_stream<S: BlockSource + Drop>(
         Stream::DataFork => Ok(Reading::Fork(open_data(alloc, image, info)?)),
         Stream::ResourceFork => Ok(Reading::Fork(open_resource(alloc, image, info)?)),
         Stream::Table => Ok(Reading::Table(open_table(alloc, image)?)),
+        Stream::Remains => Ok(Reading::Fork(empty_fork(alloc))),
     }
 }
 
@@ -261,6 +262,10 @@ impl<'a, S: BlockSource + Drop, W: Watch> ImageItems<'a, S, W> {
 
 impl<S: BlockSource + Drop, W: Watch> BagSource for ImageItems<'_, S, W> {
     ghost state = { λ items. source_of items.image items.rows.left items.came items.reading };
+
+    fn tells_remains(&self) -> bool {
+        false
+    }
 
     #[tactic(auto, using(crate::proofs::StateLemmas::has_restarted))]
     fn restart(&mut self) -> Result<(), SourceFault> {

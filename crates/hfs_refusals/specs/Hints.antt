@@ -25,8 +25,8 @@ hint_of mount.Memory = None
 unfoldable pub hint_text : Hint → List ℕ
 hint_text hint.NotHere = codes "no HFS volume begins here; hfs_tool volumes FILE looks for one inside"
 hint_text hint.WrongCounts = codes "counts are wrong, the files may be whole; hfs_tool repair mends counts"
-hint_text hint.NameNotTaken = codes "the disk may be sound: it has a name that this program does not take"
-hint_text hint.Damaged = codes "the disk is damaged"
+hint_text hint.NameNotTaken = codes "the disk may be sound: it has a name that this program does not take; hfs_tool rescue takes its files off"
+hint_text hint.Damaged = codes "the disk is damaged; hfs_tool rescue takes off what is there"
 
 -- the hint, or where there is none the lengths that a volume may have
 abbrev pub hint_or_lengths : Option Hint → List ℕ

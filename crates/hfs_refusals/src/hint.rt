@@ -65,9 +65,12 @@ impl fmt::Display for Hint {
             ),
             Hint::NameNotTaken => write!(
                 f,
-                "the disk may be sound: it has a name that this program does not take"
+                "the disk may be sound: it has a name that this program does not take; hfs_tool rescue takes its files off"
             ),
-            Hint::Damaged => write!(f, "the disk is damaged"),
+            Hint::Damaged => write!(
+                f,
+                "the disk is damaged; hfs_tool rescue takes off what is there"
+            ),
         }
     }
 }

@@ -11,6 +11,7 @@ use Rattle.hfs_btree.specs.Tree.{Store, pair_of}
 use Rattle.hfs_btree_checks.specs.Shape.{has_counts}
 use Rattle.hfs_catalog.specs.Records.{Record, Catalog}
 use Rattle.hfs_catalog.specs.Tree.{cat_keys, catalog_of}
+use Rattle.hfs_catalog_checks.specs.Faults.{record_fault}
 use Rattle.hfs_space.specs.Forks.{blocks_each}
 use Rattle.hfs_space.specs.TreeFiles.{node_count}
 use Rattle.hfs_check.specs.Parts.{Blocks}
@@ -98,6 +99,10 @@ is_catalog_tree_right mdb extents nodes = is_none (catalog_fault (has_counts cat
 -- the nodes of the catalog file as far as its size goes, which are all that its check looks at
 abbrev pub catalog_nodes : Blocks → Mdb → FileBlocks → Store
 catalog_nodes blocks mdb file = first_nodes blocks mdb file (node_count mdb.catalog_file_size)
+
+-- and each record is a folder's or a file's under a name, or a thread's under an empty one
+unfoldable pub is_catalog_right : Mdb → List Extent → Store → Bool
+is_catalog_right mdb extents nodes = is_catalog_tree_right mdb extents nodes && is_none (record_fault (catalog_of nodes))
 
 -- where the catalog passes its check its records in order, else those of all leaves
 unfoldable pub catalog_records : ℕ → Blocks → Mdb → List Extent → FileBlocks → List FoundRecord

@@ -8,6 +8,7 @@ use crate::strays::all_stray_records;
 use hfs_blocks::Blocks;
 use hfs_btree_checks::{TreeFault, check_shape};
 use hfs_catalog::{CatalogRecord, is_item, is_thread, read_records};
+use hfs_catalog_checks::record_fault;
 use hfs_fields::{CatKey, Extent};
 use hfs_model::Bytes;
 use hfs_space::is_tree_file;
@@ -161,6 +162,26 @@ fn scattered_records<B: Blocks>(
         push_of_leaves(alloc, &strays, &mut records)?;
     }
     Ok(records)
+}
+
+/// Whether a catalog has its shape, whose file has these extents and these nodes, and in each record a folder's or a file's under a
+/// name, or a thread's under an empty one. The only error is want of memory.
+#[tactic(auto, unfolding(crate::specs::CatalogRecords::is_catalog_right))]
+pub fn is_catalog_right<B: Blocks>(
+    alloc: Global,
+    nodes: &FileNodes<'_, B>,
+    extents: &[Extent],
+) -> Result<bool, AllocError>
+    ensures { IfOk result (λ right. right ≡ spec.is_catalog_right nodes.now.mdb.now extents.now
+        (spec.catalog_nodes (B.blocks nodes.now.blocks.now) nodes.now.mdb.now nodes.now.file.now)) }
+{
+    if is_catalog_tree_right(alloc, nodes, extents)? {
+        let count = node_count(nodes.mdb.catalog_file_size);
+        let entries = read_records(alloc, &FirstNodes { nodes, count })?;
+        Ok(record_fault(&entries).is_none())
+    } else {
+        Ok(false)
+    }
 }
 
 /// The records of a catalog whose file has these extents and these nodes: where it passes its check those of its last level, in

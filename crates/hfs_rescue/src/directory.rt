@@ -65,7 +65,7 @@ fn first_extent(extents: &[Extent]) -> Option<Extent>
 }
 
 /// Whether a tree begins whose file has these extents.
-fn tree_begins<B: Blocks>(blocks: &B, mdb: &Mdb, extents: &[Extent]) -> bool
+pub fn tree_begins<B: Blocks>(blocks: &B, mdb: &Mdb, extents: &[Extent]) -> bool
     requires { 512 ≤ mdb.now.allocation_block_size }
     ensures { result ≡ spec.tree_begins
         (B.total blocks.now) (B.blocks blocks.now) mdb.now extents.now }

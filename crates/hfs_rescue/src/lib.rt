@@ -16,8 +16,8 @@ mod strays;
 mod tree_file;
 
 pub use allocation::{is_there, start_of};
-pub use catalog::{FoundRecord, catalog_records, is_catalog_tree_right};
-pub use directory::{Beginning, directory_in, directory_of, read_mdb_at};
+pub use catalog::{FoundRecord, catalog_records, is_catalog_right, is_catalog_tree_right};
+pub use directory::{Beginning, directory_in, directory_of, read_mdb_at, tree_begins};
 pub use fork_extents::catalog_extents;
 pub use in_use::NodesInUse;
 pub use items::items_of;

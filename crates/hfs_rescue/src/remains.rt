@@ -66,7 +66,13 @@ fn found_of<B: Blocks>(
 /// the blocks of the catalog file, and the records of the catalog. The only error is want of memory.
 pub fn find_remains<B: Blocks>(alloc: Global, blocks: &B, mdb: &Mdb) -> Result<Remains, AllocError>
     requires { 512 ≤ mdb.now.allocation_block_size }
-    ensures { IfOk result (spec.AreRemains (B.total blocks.now) (B.blocks blocks.now) mdb.now) }
+    ensures remains { IfOk result (spec.AreRemains (B.total blocks.now) (B.blocks blocks.now)
+        mdb.now) }
+    ensures extents_there { IfOk result (λ remains. files.AreThere (B.total blocks.now) mdb.now
+        remains.extents_file.items) }
+    ensures catalog_there { IfOk result (λ remains. files.AreThere (B.total blocks.now) mdb.now
+        remains.catalog_file.items) }
+    ensures few { IfOk result (λ remains. length remains.catalog_file.items < 2 ^ 40) }
 {
     let total = blocks.count();
     let extents_file = file_blocks(alloc, total, mdb, &mdb.extents_file)?;

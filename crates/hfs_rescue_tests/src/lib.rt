@@ -6,4 +6,8 @@ mod directories;
 #[cfg(test)]
 mod finding;
 #[cfg(test)]
+mod places;
+#[cfg(test)]
 mod remains;
+#[cfg(test)]
+mod verdicts;

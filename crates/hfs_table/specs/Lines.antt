@@ -7,6 +7,7 @@ use Rattle.hfs_model.specs.declared.reply.Info.{Info}
 use Rattle.hfs_table.specs.Cells.{cell_text, cell_value}
 use Rattle.hfs_table.specs.Columns.{columns, column_name, cell}
 use Rattle.hfs_table.specs.declared.column.Column.{Column}
+use Rattle.hfs_table.specs.declared.column.Column.TheVariants as variant
 use Rattle.hfs_table.specs.declared.format.Format.{Format}
 use Rattle.hfs_table.specs.declared.format.Format.TheVariants as format
 
@@ -38,6 +39,21 @@ csv_head = join_by column_name (codes ",") columns ++ codes "\r\n"
 
 unfoldable pub csv_line : List (List ℕ) → Info → List ℕ
 csv_line names info = join_by (λ column. csv_field (field_text names info column)) (codes ",") columns ++ codes "\r\n"
+
+-- the fields of columns, each behind a comma
+abbrev fields_behind : List Column → Info → List ℕ
+fields_behind columns info = flat_map (λ column. codes "," ++ csv_field (field_text [] info column)) columns
+
+-- the line of an item by its own record alone, with this path: its thread and the items in it are not known
+unfoldable pub own_csv_line : List ℕ → Info → List ℕ
+own_csv_line path info =
+    csv_field path
+    ++ fields_behind (variant.Kind ∷ variant.Id ∷ variant.Parent ∷ variant.Type ∷ variant.Creator ∷ variant.Flags ∷ variant.Locked ∷ []) info
+    ++ codes ","
+    ++ fields_behind (variant.Created ∷ variant.Modified ∷ variant.Backup ∷ []) info
+    ++ codes ","
+    ++ fields_behind (variant.DataBytes ∷ variant.ResourceBytes ∷ variant.Finder ∷ []) info
+    ++ codes "\r\n"
 
 -- ---- JSON
 

@@ -42,6 +42,23 @@ pub(crate) const BEHIND_PATH: [Column; 15] = [
     Column::Finder,
 ];
 
+/// Of these the columns before that of a file's ID, those between it and that of the number of a folder's items, and those
+/// behind it.
+pub(crate) const BEFORE_FILE_ID: [Column; 7] = [
+    Column::Kind,
+    Column::Id,
+    Column::Parent,
+    Column::Type,
+    Column::Creator,
+    Column::Flags,
+    Column::Locked,
+];
+
+pub(crate) const DATES: [Column; 3] = [Column::Created, Column::Modified, Column::Backup];
+
+pub(crate) const BEHIND_ITEMS: [Column; 3] =
+    [Column::DataBytes, Column::ResourceBytes, Column::Finder];
+
 /// The name of a column.
 pub(crate) fn column_name(column: Column) -> &'static str
     ensures { result.now ≡ column_name column }

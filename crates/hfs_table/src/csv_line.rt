@@ -1,10 +1,10 @@
 //! A row in CSV (RFC 4180).
 ghost use Rattle.std.specs.Prelude.{◌≡◌, ◌++◌, OnOk, codes, flat_map};
 ghost use Rattle.std.specs.List.{list_any};
-ghost use Rattle.hfs_table.specs.Lines.{csv_field, csv_head, csv_line, doubled, field_text, is_quoted_for};
+ghost use Rattle.hfs_table.specs.Lines.{csv_field, csv_head, csv_line, doubled, field_text, is_quoted_for, own_csv_line};
 
 use crate::cells::{USUAL, push_field};
-use crate::column::{BEHIND_PATH, Column};
+use crate::column::{BEFORE_FILE_ID, BEHIND_ITEMS, BEHIND_PATH, Column, DATES};
 use hfs_fields::Name;
 use hfs_model::Info;
 use std::alloc::{AllocError, Global};
@@ -113,5 +113,26 @@ pub(crate) fn push_csv_line(
     let mut field = String::with_capacity(alloc, USUAL)?;
     push_column(text, &mut field, Column::Path, names, info)?;
     push_columns(text, &mut field, &BEHIND_PATH, names, info)?;
+    text.extend_from_slice(b"\r\n")
+}
+
+/// Appends the row of an item of which only its own record is known, with this path: whether it has a thread, and how many items
+/// lie in it, stay empty. At an error a part of it may have come.
+#[tactic(auto, unfolding(crate::specs::Lines::own_csv_line))]
+pub fn push_own_csv_line(
+    alloc: Global,
+    text: &mut Vec<u8>,
+    path: &str,
+    info: &Info,
+) -> Result<(), AllocError>
+    ensures { OnOk result (text.new.items ≡ text.old.items ++ own_csv_line path.now info.now) }
+{
+    let mut field = String::with_capacity(alloc, USUAL)?;
+    push_csv_field(text, path.as_bytes())?;
+    push_columns(text, &mut field, &BEFORE_FILE_ID, &[], info)?;
+    text.extend_from_slice(b",")?;
+    push_columns(text, &mut field, &DATES, &[], info)?;
+    text.extend_from_slice(b",")?;
+    push_columns(text, &mut field, &BEHIND_ITEMS, &[], info)?;
     text.extend_from_slice(b"\r\n")
 }

@@ -10,4 +10,5 @@ mod tab_line;
 #[cfg(test)]
 mod tests;
 
+pub use csv_line::push_own_csv_line;
 pub use format::{Format, push_head, push_row};

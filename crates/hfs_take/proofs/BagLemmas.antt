@@ -65,7 +65,7 @@ bag-same image told words f g a b =
 pub of-known : (known : Option (List ℕ)) (len : ℕ) (line : Option (List ℕ)) (words : TakeWords) (facts : BagFacts) (left : List ToldRow) (came : CameItem) (reading : Reading)
     (P : List ShelfEntry → Type 0) → OfKnown known len (λ image. TellsOf image line words facts)
     → (is_known_so known len ≡ true
-    → P (bag_of (source_of (opened_value known len) left came reading).all (source_of (opened_value known len) left came reading).table facts))
+    → P (bag_of (source_of (opened_value known len) left came reading).all (source_of (opened_value known len) left came reading).tables facts))
     → OfBag (opened_value known len) line words P
 of-known None len line words facts left came reading P tells given = tt
 of-known (Some image) len line words facts left came reading P tells given =

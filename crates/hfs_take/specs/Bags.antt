@@ -47,7 +47,7 @@ pub record TellsOf (image : List ℕ) (line : Option (List ℕ)) (words : TakeWo
 
 -- the bag of its volume's items, which tells this of it
 abbrev pub image_bag : List ℕ → BagFacts → List ShelfEntry
-image_bag image facts = bag_of (bag_items (entries_in image)) (table_text (told_rows (entries_in image))) facts
+image_bag image facts = bag_of (bag_items (entries_in image)) (record { items = table_text (told_rows (entries_in image)); remains = None }) facts
 
 -- where the image's bytes are known, this holds of its bag
 abbrev pub OfBag : OpenedValue → Option (List ℕ) → TakeWords → (List ShelfEntry → Type 0) → Type 0

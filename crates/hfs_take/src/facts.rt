@@ -15,7 +15,7 @@ use std::alloc::{AllocError, Global};
 use std::path::Path;
 
 /// The last part of a path, as paths are printed.
-pub(crate) fn image_name(alloc: Global, path: &str) -> Result<String, AllocError>
+pub fn image_name(alloc: Global, path: &str) -> Result<String, AllocError>
     ensures { IfOk result (λ text. string_bytes text ≡ image_name path.now) }
 {
     let last = Path::new(path).file_name().unwrap_or(path);
@@ -82,7 +82,7 @@ pub(crate) fn volume_text(
 }
 
 /// The plain text of a name.
-pub(crate) fn plain_name(alloc: Global, name: &[u8]) -> Result<String, AllocError>
+pub fn plain_name(alloc: Global, name: &[u8]) -> Result<String, AllocError>
     ensures { IfOk result (λ text. string_bytes text ≡ plain_text name.now) }
 {
     let mut text = String::new(alloc);
@@ -100,7 +100,7 @@ fn info_bytes(alloc: Global, head: &[u8; 1536]) -> Result<Vec<u8>, InfoFault>
 }
 
 /// The lines of the master directory block in the first 1,536 bytes of a volume, and those of its check behind them.
-pub(crate) fn report_text(
+pub fn report_text(
     alloc: Global,
     head: &[u8; 1536],
     check_lines: &str,

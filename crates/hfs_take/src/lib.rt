@@ -11,9 +11,11 @@ mod taking;
 mod words;
 
 pub use crate::digest::image_digest;
+pub use crate::facts::{image_name, plain_name, report_text};
 pub use crate::fault::TakeFault;
 pub use crate::giving::give_image;
 pub use crate::image::TakenImage;
+pub use crate::opening::{FoundPart, find_part};
 pub use crate::taking::{folder_path, take, taken_text};
 pub use crate::words::TakeWords;
 pub use hfs_image_items::Watch;

@@ -14,9 +14,9 @@ use std::rt::Files;
 
 /// Bytes that may hold a volume, and the line of where they lie in their file, where they were looked for there.
 #[derive(Drop)]
-struct FoundPart<F: Read + Seek> {
-    bytes: Window<OpenedFile<F>>,
-    line: Option<String>,
+pub struct FoundPart<F: Read + Seek> {
+    pub bytes: Window<OpenedFile<F>>,
+    pub line: Option<String>,
 }
 
 /// The range with this number that lies in a file, with its line. Faults: `NoVolume`; a read failed, memory was refused.
@@ -51,7 +51,7 @@ fn numbered_part<'a, F: Read + Seek + Drop>(
 }
 
 /// An image as it is, or the volume with this number that lies in it. Faults: as [`open_part`] has them.
-fn find_part<'a, R: Files + AllocGlobal>(
+pub fn find_part<'a, R: Files + AllocGlobal>(
     rt: &R,
     path: &'a str,
     volume: Option<u64>,

@@ -4,6 +4,7 @@ use crate::by_path::{print_fork_at, print_list_at, print_macbinary_at};
 use crate::hints::tell_hint;
 use crate::pages::print_page;
 use crate::progress::Progress;
+use crate::rescuing::{list_remains, rescue_volume};
 use crate::saving::{save, tell};
 use crate::taking::take_volume;
 use crate::volumes::{
@@ -69,6 +70,8 @@ pub fn obey<'a, T: Threads + Wait + Sync>(
         Words::MacBinaryAt(place) => print_macbinary_at(rt, place),
         Words::Volumes { file } => print_volumes(rt, *file),
         Words::Take(words) => take_volume(rt, words),
+        Words::Rescue(words) => rescue_volume(rt, words),
+        Words::RescueList(words) => list_remains(rt, words),
         Words::New(volume) => write_new(rt, volume),
         Words::Repair { image, file } => write_repaired(rt, *image, *file),
         Words::Run(run) => print_answers(rt, threads, run),

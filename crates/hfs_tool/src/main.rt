@@ -9,6 +9,7 @@ mod commands;
 mod hints;
 mod pages;
 mod progress;
+mod rescuing;
 mod saving;
 mod taking;
 mod volumes;

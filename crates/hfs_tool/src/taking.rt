@@ -39,11 +39,11 @@ pub fn take_volume<'a>(rt: &HostRuntime, words: &TakeWords<'a>) -> Result<u8, Fa
             Ok(Status::Done.number())
         }
         Err(TakeFault::Image(fault)) => Err(fault),
-        Err(fault) => print_fault(rt, &fault),
+        Err(fault) => print_take_fault(rt, &fault),
     }
 }
 
 /// Prints why a folder was not made, and answers the exit status.
-fn print_fault(rt: &HostRuntime, fault: &TakeFault<'_>) -> Result<u8, Fault<'static>> {
+pub fn print_take_fault(rt: &HostRuntime, fault: &TakeFault<'_>) -> Result<u8, Fault<'static>> {
     Ok(fault.status().after(println!(rt; "{fault}")))
 }

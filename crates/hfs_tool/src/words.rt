@@ -6,6 +6,7 @@ ghost use Rattle.clap.specs.Matches.{first_value, found_of};
 use clap::{Arg, ArgAction, ArgMatches, Command, Error, value_parser};
 use hfs_commands::Format;
 use hfs_model::Fork;
+use hfs_salvage::{BagWords, RescueWords};
 use hfs_take::{TakeWords, folder_path};
 use std::alloc::{AllocError, Global};
 
@@ -57,6 +58,10 @@ pub enum Words<'a> {
     },
     /// `take IMAGE FOLDER [--volume N] [--no-digest]`: all items of the volume as a bag.
     Take(TakeWords<'a>),
+    /// `rescue IMAGE FOLDER [--volume N] [--limit BYTES] [--no-digest]`: what remains of a damaged volume as a bag.
+    Rescue(BagWords<'a>),
+    /// `rescue IMAGE --list [--volume N] [--limit BYTES]`: a line for each item that remains.
+    RescueList(RescueWords<'a>),
     /// `new FILE NAME BLOCKS NODES EXTENTS [--now N]`: a new volume.
     New(NewVolume<'a>),
     /// `repair IMAGE FILE`: the image with its counts mended.
@@ -291,13 +296,28 @@ In NAME a character that some file system doesn't take is = and two hexadecimal 
 from 1970 on. FOLDER is written as FOLDER.0.new and renamed when it is whole. Check a bag with sha256sum -c manifest-sha256.txt
 within it, before it is copied to a Macintosh, which joins the AppleDouble files to theirs.";
 
+/// What remains of a damaged volume.
+const RESCUES: &str = "FOLDER becomes a bag as that of take, with what can still be found, whatever is wrong with the volume:
+  data/=lost/N/NAME     what lay in folder N, of which nothing is left
+  data/=old/NAME        what a part of the catalog tells that is no longer used: deleted, mostly, or moved since
+  rescue.tsv            a line for each item: path, number, ID, what is said of the data fork and of the resource fork
+
+whole speaks of a fork's blocks, and not of what they hold: HFS keeps no sums of its data. What else is said:
+  cut N        there are blocks for N bytes only
+  missing N    N of the bytes are zeros, since their blocks are not there
+  shared       a block is another fork's as well, so one of both has bytes that are not its own
+  left         the fork is not written, for --limit
+
+The lines: the image's fault as check tells it, the block of its directory (unsure where it is a guess), files, folders, the
+bytes of all, how many files are whole, and how many are damaged. The status is 3 where one is damaged or the catalog is.";
+
 /// What stands behind the help text.
 const AFTER_HELP: &str = "Exit statuses:
   0  done
   1  the words are refused
   2  the image is refused, or the plan of a new volume, or a script
-  3  ls or cat met a code other than 0: -37 bad name, -43 not found, -120 no folder
-  4  a file could not be read or written, or the folder of take is there already
+  3  ls or cat met a code other than 0: -37 bad name, -43 not found, -120 no folder; rescue found something damaged
+  4  a file could not be read or written, or the folder of take or rescue is there already
   5  out of memory, no place for a viewer, or a line of a script not answered
 
 Examples:
@@ -309,6 +329,7 @@ Examples:
   hfs_tool cat disk.img 19 'Read Me' > read_me.data || rm read_me.data
   hfs_tool cat disk.img 19 'Read Me' --macbinary > read_me.bin || rm read_me.bin
   hfs_tool take disk.img disk
+  hfs_tool rescue damaged.img disk
   hfs_tool volumes hard_disk.img
   hfs_tool ls hard_disk.img --volume 1
   hfs_tool new disk.img Archive 1600 40 4
@@ -331,7 +352,8 @@ fn command<'a>(alloc: Global) -> Result<Command<'a>, AllocError> {
     let with_cat = with_word(with_page, cat_command(alloc));
     let with_volumes = with_word(with_cat, volumes_command(alloc));
     let with_take = with_word(with_volumes, take_command(alloc));
-    let with_new = with_word(with_take, new_command(alloc));
+    let with_rescue = with_word(with_take, rescue_command(alloc));
+    let with_new = with_word(with_rescue, new_command(alloc));
     let with_repair = with_word(with_new, repair_command(alloc));
     with_word(with_repair, run_command(alloc))
 }
@@ -503,6 +525,43 @@ fn take_command<'a>(alloc: Global) -> Result<Command<'a>, AllocError> {
     with_argument(with_volume, no_digest(alloc))
 }
 
+/// The choice of a list in place of a folder.
+fn list<'a>(alloc: Global) -> Result<Arg<'a>, AllocError> {
+    Arg::new(alloc, "list")
+        .long("list")
+        .action(ArgAction::SetTrue)
+        .help("Prints the lines of rescue.tsv, and writes nothing")
+        .conflicts_with("FOLDER")?
+        .conflicts_with("no-digest")
+}
+
+/// The most bytes that are taken of forks.
+fn limit<'a>(alloc: Global) -> Arg<'a> {
+    Arg::new(alloc, "limit")
+        .long("limit")
+        .value_name("BYTES")
+        .action(ArgAction::Set)
+        .value_parser(value_parser!(u64))
+        .help("How many bytes of forks are taken at most, in place of four times those of the image")
+}
+
+fn rescue_command<'a>(alloc: Global) -> Result<Command<'a>, AllocError> {
+    let with_image = Command::new(alloc, "rescue")
+        .about(
+            "Takes what remains off a damaged volume, into a new folder: a bag (RFC 8493), or lists it",
+        )
+        .after_help(RESCUES)
+        .arg(image(alloc));
+    let folder = word(alloc, "FOLDER").help(
+        "The folder that is made; nothing of that name may be there",
+    );
+    let with_folder = with_argument(with_image, folder);
+    let with_list = with_made_argument(with_folder, list(alloc));
+    let with_limit = with_argument(with_list, limit(alloc));
+    let with_volume = with_argument(with_limit, volume(alloc));
+    with_argument(with_volume, no_digest(alloc))
+}
+
 fn new_command<'a>(alloc: Global) -> Result<Command<'a>, AllocError> {
     let file = word(alloc, "FILE").help("The file that is written, in place of what it has");
     let with_file = Command::new(alloc, "new")
@@ -598,6 +657,7 @@ fn words_behind<'a>(word: &str, inner: &ArgMatches<'a>) -> Words<'a> {
             None => cat_words(inner),
         },
         "take" => take_words(inner),
+        "rescue" => rescue_words(inner),
         "new" => new_words(inner),
         "repair" => Words::Repair {
             image: text_of(inner, "IMAGE"),
@@ -692,6 +752,23 @@ fn take_words<'a>(matches: &ArgMatches<'a>) -> Words<'a> {
     Words::Take(TakeWords {
         image: text_of(matches, "IMAGE"),
         volume: volume_of(matches),
+        folder: folder_path(text_of(matches, "FOLDER")),
+        is_digested: !matches.get_flag("no-digest"),
+        program: PROGRAM,
+    })
+}
+
+fn rescue_words<'a>(matches: &ArgMatches<'a>) -> Words<'a> {
+    let words = RescueWords {
+        image: text_of(matches, "IMAGE"),
+        volume: volume_of(matches),
+        limit: matches.get_one::<u64>("limit"),
+    };
+    if matches.get_flag("list") {
+        return Words::RescueList(words);
+    }
+    Words::Rescue(BagWords {
+        words,
         folder: folder_path(text_of(matches, "FOLDER")),
         is_digested: !matches.get_flag("no-digest"),
         program: PROGRAM,

@@ -1,16 +1,17 @@
-use Rattle.std.proofs.Common.{ℕ, List, [], ◌++◌, ap, map, refl, sym, ◌∙◌, subst}
+use Rattle.std.proofs.Common.{List, [], ◌++◌, ap, map, refl, sym, ◌∙◌, subst}
 use Rattle.hfs_shelves.specs.Entries.{IsBeginning}
 use Rattle.hfs_bag.specs.Items.{BagItem, item_digests}
 use Rattle.hfs_bag.specs.Bags.{payload}
+use Rattle.hfs_bag.specs.Sources.{BagTables}
 use Rattle.hfs_bag.specs.Tags.{tag_files}
-use Rattle.hfs_bag.proofs.Growing.{part_done, part_first, part_next, where_err}
+use Rattle.hfs_bag.proofs.Growing.{part_done, part_first, part_last, where_err}
 use Rattle.hfs_bag.proofs.TagLemmas.{streams_are}
 use Rattle.hfs_bag.proofs.bag.give_bag.Goals as goal
 
 pub returns-in_err-given-clause-part : goal.returns-in_err-given-clause-part
 returns-in_err-given-clause-part g c =
     let source = g.B.BagSource.state c.args.source.now in
-    where_err _ (g.B.BagSource.state c.args.source.now) (λ known. part_first (g.S.Shelf.given c.args.shelf.now) (g.S.Shelf.given c.give_payload.new.shelf) (payload source.all) (tag_files source.all source.table c.args.facts.now) (c.in_err-given.ensures.part known))
+    where_err _ (g.B.BagSource.state c.args.source.now) (λ known. part_first (g.S.Shelf.given c.args.shelf.now) (g.S.Shelf.given c.give_payload.new.shelf) (payload source.all) (tag_files source.all source.tables c.args.facts.now) (c.in_err-given.ensures.part known))
 
 pub returns-in_err-give_tags-clause-part : goal.returns-in_err-give_tags-clause-part
 returns-in_err-give_tags-clause-part g c =
@@ -20,10 +21,10 @@ returns-in_err-give_tags-clause-part g c =
     let first = g.S.Shelf.given c.give_payload.new.shelf in
     let now = g.S.Shelf.given c.give_tags.new.shelf in
     where_err _ (g.B.BagSource.state c.args.source.now) (λ known.
-    let same_items : IsBeginning now (first ++ tag_files source.all paid.table c.args.facts.now) =
-    subst (λ (items : List BagItem). IsBeginning now (first ++ tag_files items paid.table c.args.facts.now)) c.in_ok-given.ensures.all (c.in_err-give_tags.ensures.part (c.in_ok-given.ensures.known ∙ known)) in
-    part_next before first (payload source.all) (c.in_ok-given.ensures.whole known) now (tag_files source.all source.table c.args.facts.now) []
-    (subst (λ (table : List ℕ). IsBeginning now (first ++ tag_files source.all table c.args.facts.now)) c.in_ok-given.ensures.table same_items))
+    let same_items : IsBeginning now (first ++ tag_files source.all paid.tables c.args.facts.now) =
+    subst (λ (items : List BagItem). IsBeginning now (first ++ tag_files items paid.tables c.args.facts.now)) c.in_ok-given.ensures.all (c.in_err-give_tags.ensures.part (c.in_ok-given.ensures.known ∙ known)) in
+    part_last before first (payload source.all) (c.in_ok-given.ensures.whole known) now (tag_files source.all source.tables c.args.facts.now)
+    (subst (λ (tables : BagTables). IsBeginning now (first ++ tag_files source.all tables c.args.facts.now)) c.in_ok-given.ensures.tables same_items))
 
 pub give_tags-requires-clause-files : goal.give_tags-requires-clause-files
 give_tags-requires-clause-files g c known =
@@ -34,4 +35,4 @@ pub returns-in_default-clause-part : goal.returns-in_default-clause-part
 returns-in_default-clause-part g c known =
     let source = g.B.BagSource.state c.args.source.now in
     let now = g.S.Shelf.given c.give_payload.new.shelf in
-    part_done (g.S.Shelf.given c.args.shelf.now) now (payload source.all) (c.in_ok-given.ensures.whole known) now (tag_files source.all source.table c.args.facts.now) refl
+    part_done (g.S.Shelf.given c.args.shelf.now) now (payload source.all) (c.in_ok-given.ensures.whole known) now (tag_files source.all source.tables c.args.facts.now) refl

@@ -27,7 +27,7 @@ loop-at-preserved g c =
     let within : l.at < length c.args.told.now = omega arith in
     let listed = c.in_ok-list_next.ensures.listed in (
       listed_more _ _ _ _ _ _ _ _ _ l.invariant.0 listed,
-      λ known. told_behind _ (drop (l.at + 1) c.args.told.now) (drop l.at c.args.told.now) _ _ listed.item (l.invariant.1 known) (drop_more c.args.told.now l.at (digests.Folder []) within) listed.left,
+      λ known. told_behind _ (drop (l.at + 1) c.args.told.now) (drop l.at c.args.told.now) _ _ listed.item (l.invariant.1 known) (drop_more c.args.told.now l.at digests.NoFile within) listed.left,
     )
 
 pub returns-clause-whole : goal.returns-clause-whole

@@ -1,0 +1,6 @@
+mod CodeLemmas
+pub mod SumLemmas
+pub mod CountLemmas
+mod OwnerLemmas
+mod BlockLemmas
+mod ShareLemmas

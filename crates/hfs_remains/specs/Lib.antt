@@ -1,0 +1,5 @@
+pub mod Records
+pub mod Chains
+pub mod Forks
+pub mod Owners
+pub mod Verdicts

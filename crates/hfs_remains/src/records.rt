@@ -1,0 +1,94 @@
+//! Records of the catalog as things that have a place.
+ghost use Rattle.std.specs.Prelude.{◌≡◌, ◌++◌, map, IfOk, OnOk};
+ghost use Rattle.std.specs.Option.{option_to_list};
+ghost use Rattle.hfs_remains.specs.Records as spec;
+
+use hfs_catalog::{is_folder, item_id};
+use hfs_fields::{ThreadKind, ThreadRecord};
+use hfs_places::Thing;
+use hfs_rescue::FoundRecord;
+use std::alloc::{AllocError, Global};
+
+/// The number of a folder's record, None of any other.
+fn folder_number(body: &[u8]) -> Option<u32>
+    ensures { result ≡ spec.folder_number body.now }
+{
+    if !is_folder(body) {
+        return None;
+    }
+    item_id(body)
+}
+
+/// An item as a thing.
+pub fn thing_of(item: &FoundRecord) -> Thing
+    ensures { result ≡ spec.thing_of item.now }
+{
+    let key = item.entry.key();
+    Thing {
+        parent: key.parent,
+        name: key.name,
+        folder: folder_number(item.entry.body()),
+        old: item.old,
+        named: false,
+    }
+}
+
+/// The folder that a record names, where it is a folder's thread with an empty name in its key and a name in its body.
+#[tactic(auto, unfolding(hfs_fields::specs::Records::begins_thread))]
+fn naming(found: &FoundRecord) -> Option<Thing>
+    ensures { result ≡ spec.naming found.now }
+{
+    let body = found.entry.body();
+    if !found.entry.key().name.bytes().is_empty() || body.len() != ThreadRecord::LENGTH {
+        return None;
+    }
+    let Some(thread) = ThreadRecord::read(body) else {
+        return None;
+    };
+    if thread.kind != ThreadKind::Folder || thread.name.bytes().is_empty() {
+        return None;
+    }
+    Some(Thing {
+        parent: thread.parent,
+        name: thread.name,
+        folder: Some(found.entry.key().parent),
+        old: false,
+        named: true,
+    })
+}
+
+/// Puts the folder that a record names behind others, where it names one.
+fn push_naming(found: &FoundRecord, things: &mut Vec<Thing>) -> Result<(), AllocError>
+    ensures { OnOk result (things.new.items ≡ things.old.items ++ option_to_list (spec.naming
+        found.now)) }
+{
+    match naming(found) {
+        Some(thing) => {
+            things.push(thing)?;
+            Ok(())
+        }
+        None => Ok(()),
+    }
+}
+
+/// The folders that records name, in the order of the records. The only error is want of memory.
+pub fn namings(alloc: Global, records: &[FoundRecord]) -> Result<Vec<Thing>, AllocError>
+    ensures { IfOk result (λ things. things.items ≡ spec.namings_of records.now) }
+{
+    let mut things = Vec::new(alloc);
+    for found in records {
+        push_naming(found, &mut things)?;
+    }
+    Ok(things)
+}
+
+/// Items as things, in order. The only error is want of memory.
+pub fn things_of(alloc: Global, items: &[FoundRecord]) -> Result<Vec<Thing>, AllocError>
+    ensures { IfOk result (λ things. things.items ≡ map spec.thing_of items.now) }
+{
+    let mut things = Vec::new(alloc);
+    for item in items {
+        things.push(thing_of(item))?;
+    }
+    Ok(things)
+}

@@ -1,0 +1,3 @@
+pub mod ForkLemmas
+pub mod LineLemmas
+pub mod SourceLemmas

@@ -1,0 +1,45 @@
+-- Pieces of tables that are read.
+use Rattle.std.proofs.Common.{◌≡◌, ℕ, suc, ◌+◌, ◌≤◌, List, [], ◌∷◌, ◌++◌, length, refl, sym, ap, ◌∙◌, append_assoc, append-nil, length-append, arith}
+use Rattle.hfs_rescue.specs.declared.catalog.FoundRecord.{FoundRecord}
+use Rattle.hfs_table.specs.Columns.{column_name, columns}
+use Rattle.hfs_table.specs.Lines.{csv_head}
+use Rattle.std.specs.Prelude.{codes}
+use Rattle.std.specs.List.{join_by}
+use Rattle.hfs_rescue_items.specs.Lines.{lines_of}
+use Rattle.hfs_rescue_items.specs.declared.reading.Lines.{Lines}
+use Rattle.hfs_rescue_items.specs.Reading.{Reads, ReadsLines, lines_rest}
+
+-- a line more came
+pub line_more : (line : ℕ → FoundRecord → List ℕ) (whole piece piece' : List ℕ) (i i' : ℕ) (item : FoundRecord) (items behind : List FoundRecord)
+    → piece ++ lines_of line i items ≡ whole → items ≡ item ∷ behind → piece' ≡ piece ++ line i item → i' ≡ i + 1 → piece' ++ lines_of line i' behind ≡ whole
+line_more line whole piece piece' i i' item items behind so first pushed next =
+    ap (λ (xs : List ℕ). xs ++ lines_of line i' behind) pushed
+    ∙ append_assoc piece (line i item) (lines_of line i' behind)
+    ∙ ap (λ (n : ℕ). piece ++ (line i item ++ lines_of line n behind)) (omega (arith, next))
+    ∙ ap (λ (xs : List FoundRecord). piece ++ lines_of line i xs) (sym first) ∙ so
+
+-- what was read of a text, and what is left
+pub reads_text : (piece old new : List ℕ) → old ≡ piece ++ new → (piece ≡ [] → new ≡ []) → Reads piece old new
+reads_text piece old new is none = record { fewer = omega (arith, ap length is, length-append piece new); none = none }
+
+pub reads_lines : (line : ℕ → FoundRecord → List ℕ) (piece : List ℕ) (old new : Lines) → ReadsLines line piece old new → Reads piece (lines_rest line old) (lines_rest line new)
+reads_lines line piece old new reads = reads_text piece (lines_rest line old) (lines_rest line new) reads.lines reads.none
+
+-- no line is left
+pub lines_none : (line : ℕ → FoundRecord → List ℕ) (piece : List ℕ) (old new : Lines) → piece ++ lines_rest line new ≡ lines_rest line old → new.items.now ≡ [] → ReadsLines line piece old new
+lines_none line piece old new so none = record { lines = sym so; none = λ e. ap (lines_of line new.next) none }
+
+-- the piece is whole
+pub lines_whole : (line : ℕ → FoundRecord → List ℕ) (piece : List ℕ) (old new : Lines) → piece ++ lines_rest line new ≡ lines_rest line old → 65536 ≤ length piece → ReadsLines line piece old new
+lines_whole line piece old new so long = record { lines = sym so; none = λ e. absurd (omega (arith, ap length e, long)) }
+
+-- the head ends with a line's end
+head-some : csv_head ≡ [] → ⊥
+unfolding csv_head
+head-some e =
+    let two : length (codes "\r\n") ≡ 2 = refl in
+    absurd (omega (arith, two, ap length e, length-append (join_by column_name (codes ",") columns) (codes "\r\n")))
+
+-- the head was read
+pub head_read : (piece rest : List ℕ) → piece ≡ [] ++ csv_head → Reads piece (csv_head ++ rest) rest
+head_read piece rest is = reads_text piece (csv_head ++ rest) rest (ap (λ (xs : List ℕ). xs ++ rest) (sym is)) (λ e. absurd (head-some (sym is ∙ e)))

@@ -1,0 +1,4 @@
+pub mod Found
+pub mod Lines
+pub mod Reading
+pub mod Sources

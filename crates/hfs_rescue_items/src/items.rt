@@ -1,0 +1,126 @@
+//! What remains of a volume, for a bag.
+ghost use Rattle.hfs_rescue_items.specs.Sources.{source_of};
+
+use crate::came::{Came, came_of};
+use crate::fork_reading::{begin_fork, empty_fork};
+use crate::found::Found;
+use crate::plan::{Planned, plan_of};
+use crate::reading::{Lines, Reading, read_next};
+use hfs_bag::{BagHead, BagSource, SourceFault, Stream};
+use hfs_space::ForkKind;
+use std::alloc::{AllocError, Global};
+
+/// The items of a damaged volume below its root, one after the other, each folder where it is first wanted, and the bytes of their forks
+/// in pieces.
+#[derive(Drop)]
+pub struct RescueItems<'a> {
+    alloc: Global,
+    found: Found<'a>,
+    /// What is made of them.
+    plan: Vec<Planned>,
+    /// The place in it of what comes next.
+    next: usize,
+    came: Came,
+    reading: Reading<'a>,
+}
+
+/// A fork of an item, from its first byte on.
+fn open_fork<'a>(
+    alloc: Global,
+    found: &Found<'a>,
+    i: usize,
+    kind: ForkKind,
+) -> Result<Reading<'a>, AllocError> {
+    match found.fork(alloc, i, kind)? {
+        Some(fork) => Ok(Reading::Fork(begin_fork(fork))),
+        None => Ok(Reading::Fork(empty_fork(alloc))),
+    }
+}
+
+/// The lines of all items.
+fn all_lines<'a>(found: &Found<'a>) -> Lines<'a> {
+    Lines {
+        next: 0,
+        items: found.items,
+    }
+}
+
+/// A stream of an item, from its first byte on.
+fn open_stream<'a>(
+    alloc: Global,
+    found: &Found<'a>,
+    i: usize,
+    stream: Stream,
+) -> Result<Reading<'a>, AllocError> {
+    match stream {
+        Stream::DataFork => open_fork(alloc, found, i, ForkKind::Data),
+        Stream::ResourceFork => open_fork(alloc, found, i, ForkKind::Resource),
+        Stream::Table => Ok(Reading::Table(all_lines(found))),
+        Stream::Remains => Ok(Reading::Remains(all_lines(found))),
+    }
+}
+
+impl<'a> RescueItems<'a> {
+    /// What was found of an image, from its first item on. The only error is want of memory.
+    pub fn new(alloc: Global, found: Found<'a>) -> Result<RescueItems<'a>, AllocError> {
+        let plan = plan_of(alloc, &found)?;
+        Ok(RescueItems {
+            alloc,
+            found,
+            plan,
+            next: 0,
+            came: Came::nothing(alloc),
+            reading: Reading::Fork(empty_fork(alloc)),
+        })
+    }
+}
+
+impl BagSource for RescueItems<'_> {
+    ghost state = { λ items. source_of items.found items.plan.items items.next items.came items.reading };
+
+    fn tells_remains(&self) -> bool {
+        true
+    }
+
+    #[tactic(auto, using(crate::proofs::SourceLemmas::has_restarted))]
+    fn restart(&mut self) -> Result<(), SourceFault> {
+        self.next = 0;
+        Ok(())
+    }
+
+    #[tactic(auto, using(crate::proofs::SourceLemmas::has_item, crate::proofs::SourceLemmas::has_no_item))]
+    fn next_item(&mut self) -> Result<Option<BagHead>, SourceFault> {
+        if self.next >= self.plan.len() {
+            return Ok(None);
+        }
+        let planned = self.plan[self.next];
+        let (came, head) = came_of(self.alloc, &self.found, planned)?;
+        self.came = came;
+        self.next += 1;
+        Ok(Some(head))
+    }
+
+    fn push_above(&self, text: &mut String) -> Result<(), AllocError> {
+        text.push_str(self.came.above.as_str())
+    }
+
+    fn push_name(&self, text: &mut String) -> Result<(), AllocError> {
+        text.push_str(self.came.name.as_str())
+    }
+
+    #[tactic(auto, using(crate::proofs::SourceLemmas::has_opened))]
+    fn open(&mut self, stream: Stream) -> Result<(), SourceFault> {
+        match open_stream(self.alloc, &self.found, self.came.planned.place, stream) {
+            Ok(reading) => {
+                self.reading = reading;
+                Ok(())
+            }
+            Err(_) => Err(SourceFault::Memory),
+        }
+    }
+
+    #[tactic(auto, using(crate::proofs::SourceLemmas::has_read))]
+    fn read(&mut self, piece: &mut Vec<u8>) -> Result<(), SourceFault> {
+        read_next(self.alloc, &self.found, &mut self.reading, piece)
+    }
+}

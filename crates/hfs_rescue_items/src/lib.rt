@@ -1,0 +1,18 @@
+//! What remains of a damaged volume as the source of a bag: its items by their paths, the bytes of their forks, and its tables.
+#![tactic(auto)]
+
+mod came;
+mod folders;
+mod fork_reading;
+mod found;
+mod items;
+mod lines;
+mod plan;
+mod reading;
+mod sums;
+mod told;
+
+pub use found::Found;
+pub use items::RescueItems;
+pub use lines::push_remains_line;
+pub use sums::{FoundSums, sums_of};

@@ -1,0 +1,130 @@
+//! What of a source is being read.
+ghost use Rattle.std.specs.Prelude.{◌≡◌, ◌+◌, ◌++◌, [], IfOk, OnOk};
+ghost use Rattle.hfs_table.specs.Lines.{csv_head};
+ghost use Rattle.hfs_rescue_items.specs.Lines.{item_line, remains_line};
+ghost use Rattle.hfs_rescue_items.specs.Reading.{ReadsLines, Reads, reading_rest};
+
+use crate::fork_reading::{ForkReading, read_fork};
+use crate::found::Found;
+use crate::lines::{push_item_line, push_remains_line};
+use hfs_bag::SourceFault;
+use hfs_rescue::FoundRecord;
+use hfs_table::{Format, push_head};
+use std::alloc::Global;
+
+/// From how many bytes of text on a piece is whole.
+const PIECE: usize = 65_536;
+
+/// Where reading a table stands.
+#[derive(Clone, Copy, Drop)]
+pub(crate) struct Lines<'a> {
+    /// The number of the item whose line is next.
+    pub(crate) next: usize,
+    /// That item and those behind it.
+    pub(crate) items: &'a [FoundRecord],
+}
+
+/// The stream that is being read.
+#[derive(Drop)]
+pub(crate) enum Reading<'a> {
+    Fork(ForkReading),
+    /// The table of all items, with its head.
+    Table(Lines<'a>),
+    /// Its lines that are left.
+    Items(Lines<'a>),
+    /// The lines that are left of the table of what remains.
+    Remains(Lines<'a>),
+}
+
+/// The next number. An image has fewer items.
+fn number_behind(number: usize) -> Result<usize, SourceFault>
+    ensures { IfOk result (λ next. next ≡ number + 1) }
+{
+    match number.checked_add(1) {
+        Some(next) => Ok(next),
+        None => Err(SourceFault::ReadFailed),
+    }
+}
+
+/// Puts lines of the table of all items behind a piece, until it is whole or there are none.
+#[tactic(auto, using(crate::proofs::LineLemmas::line_more, crate::proofs::LineLemmas::lines_none, crate::proofs::LineLemmas::lines_whole))]
+fn push_items(
+    alloc: Global,
+    piece: &mut Vec<u8>,
+    found: &Found<'_>,
+    lines: &mut Lines<'_>,
+) -> Result<(), SourceFault>
+    requires { piece.old.items ≡ [] }
+    ensures { OnOk result (ReadsLines (item_line found.now) piece.new.items lines.old lines.new) }
+{
+    while let [item, behind @ ..] = lines.items {
+        if piece.len() >= PIECE {
+            return Ok(());
+        }
+        let Ok(()) = push_item_line(alloc, piece, found, lines.next, item) else {
+            return Err(SourceFault::Memory);
+        };
+        lines.next = number_behind(lines.next)?;
+        lines.items = behind;
+    }
+    Ok(())
+}
+
+/// Puts lines of the table of what remains behind a piece, until it is whole or there are none.
+#[tactic(auto, using(crate::proofs::LineLemmas::line_more, crate::proofs::LineLemmas::lines_none, crate::proofs::LineLemmas::lines_whole))]
+fn push_remains(
+    alloc: Global,
+    piece: &mut Vec<u8>,
+    found: &Found<'_>,
+    lines: &mut Lines<'_>,
+) -> Result<(), SourceFault>
+    requires { piece.old.items ≡ [] }
+    ensures { OnOk result (ReadsLines (remains_line found.now) piece.new.items lines.old lines.new) }
+{
+    while let [item, behind @ ..] = lines.items {
+        if piece.len() >= PIECE {
+            return Ok(());
+        }
+        let Ok(()) = push_remains_line(alloc, piece, found, lines.next, item) else {
+            return Err(SourceFault::Memory);
+        };
+        lines.next = number_behind(lines.next)?;
+        lines.items = behind;
+    }
+    Ok(())
+}
+
+/// Puts the head of the table of all items in the place of a piece, which is empty.
+fn push_table_head(piece: &mut Vec<u8>) -> Result<(), SourceFault>
+    ensures { OnOk result (piece.new.items ≡ piece.old.items ++ csv_head) }
+{
+    match push_head(piece, Format::Csv) {
+        Ok(()) => Ok(()),
+        Err(_) => Err(SourceFault::Memory),
+    }
+}
+
+/// Reads the next bytes of a stream in the place of a piece, and none where none are left.
+#[tactic(auto, using(crate::proofs::LineLemmas::reads_lines))]
+pub(crate) fn read_next<'a>(
+    alloc: Global,
+    found: &Found<'a>,
+    reading: &mut Reading<'a>,
+    piece: &mut Vec<u8>,
+) -> Result<(), SourceFault>
+    ensures { OnOk result (Reads piece.new.items (reading_rest found.now reading.old)
+        (reading_rest found.now reading.new)) }
+{
+    piece.clear();
+    match reading {
+        Reading::Fork(fork) => read_fork(found, fork, piece),
+        Reading::Table(lines) => {
+            push_table_head(piece)?;
+            let lines = *lines;
+            *reading = Reading::Items(lines);
+            Ok(())
+        }
+        Reading::Items(lines) => push_items(alloc, piece, found, lines),
+        Reading::Remains(lines) => push_remains(alloc, piece, found, lines),
+    }
+}

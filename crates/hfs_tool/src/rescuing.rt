@@ -1,0 +1,28 @@
+//! What remains of a damaged volume, as it is shown.
+
+use crate::commands::print_lines;
+use crate::taking::print_take_fault;
+use hfs_commands::Fault;
+use hfs_salvage::{BagWords, RescueAnswer, RescueWords, list_rescue, rescue};
+use hfs_take::TakeFault;
+
+/// Prints what is told of an image of which something remains, and answers the exit status.
+fn print_answer(rt: &HostRuntime, answer: &RescueAnswer) -> Result<u8, Fault<'static>> {
+    print_lines(rt, answer.lines.as_str())?;
+    Ok(answer.status)
+}
+
+/// Takes what remains off a volume, and prints what is told of it.
+pub fn rescue_volume<'a>(rt: &HostRuntime, words: &BagWords<'a>) -> Result<u8, Fault<'a>> {
+    match rescue(rt, words) {
+        Ok(answer) => print_answer(rt, &answer),
+        Err(TakeFault::Image(fault)) => Err(fault),
+        Err(fault) => print_take_fault(rt, &fault),
+    }
+}
+
+/// Prints a line for each item that remains of a volume, and what is told of it.
+pub fn list_remains<'a>(rt: &HostRuntime, words: &RescueWords<'a>) -> Result<u8, Fault<'a>> {
+    let answer = list_rescue(rt, &mut rt.stdout(), words)?;
+    print_answer(rt, &answer)
+}

@@ -1,0 +1,12 @@
+//! What is said of the forks of a damaged volume, and the table that tells it.
+#![tactic(auto)]
+
+mod rows;
+#[cfg(test)]
+mod tests;
+mod verdict;
+mod words;
+
+pub use rows::push_row;
+pub use verdict::{Finding, Verdict};
+pub use words::push_verdict;
