@@ -2,8 +2,9 @@
 
 use crate::parts::Parts;
 use crate::words::RescueWords;
-use hfs_commands::{CheckAnswer, Fault, OpenedFile, Window, needed_check_answer};
+use hfs_commands::{CheckAnswer, Fault, OpenedFile, Window, report_answer};
 use hfs_containers::{ByteRange, ReadAt};
+use hfs_needed::needed_report;
 use hfs_take::{FoundPart, find_part};
 use std::alloc::Global;
 use std::io::{Read, Seek};
@@ -83,9 +84,12 @@ fn load_part<'a, F: Read + Seek + Drop>(
 ) -> Result<LoadedImage, Fault<'a>> {
     let FoundPart { mut bytes, line } = part;
     let len = bytes.len();
-    let check = match needed_check_answer(alloc, &mut bytes, len) {
-        Ok(check) => check,
+    let report = match needed_report(alloc, &mut bytes, len) {
+        Ok(report) => report,
         Err(fault) => return Err(Fault::of_sparse(fault, path)),
+    };
+    let Ok(check) = report_answer(alloc, &report) else {
+        return Err(Fault::NoMemory);
     };
     if len < SHORTEST || len > LONGEST {
         return Err(refusal(&check, path));
