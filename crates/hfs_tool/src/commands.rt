@@ -3,6 +3,7 @@
 use crate::by_path::{print_fork_at, print_list_at, print_macbinary_at};
 use crate::hints::tell_hint;
 use crate::pages::print_page;
+use crate::collecting::collect;
 use crate::progress::Progress;
 use crate::saving::{save, tell};
 use crate::volumes::{
@@ -67,6 +68,7 @@ pub fn obey<'a, T: Threads + Wait + Sync>(
         Words::CatAt(words) => print_fork_at(rt, words),
         Words::MacBinaryAt(place) => print_macbinary_at(rt, place),
         Words::Volumes { file } => print_volumes(rt, *file),
+        Words::Collect(words) => collect(rt, words),
         Words::New(volume) => write_new(rt, volume),
         Words::Repair { image, file } => write_repaired(rt, *image, *file),
         Words::Run(run) => print_answers(rt, threads, run),

@@ -54,6 +54,8 @@ pub enum Words<'a> {
     Volumes {
         file: &'a str,
     },
+    /// `collect DATABASE IMAGE.. [--no-digest]`, `collect DATABASE --compare [IMAGE..]`: many images in one database.
+    Collect(CollectWords<'a>),
     /// `new FILE NAME BLOCKS NODES EXTENTS [--now N]`: a new volume.
     New(NewVolume<'a>),
     /// `repair IMAGE FILE`: the image with its counts mended.
@@ -110,6 +112,19 @@ pub struct ForkPathWords<'a> {
     pub place: PathWords<'a>,
     /// Which of its forks.
     pub fork: Fork,
+}
+
+/// Images, and the database that they are collected in.
+#[derive(Drop)]
+pub struct CollectWords<'a> {
+    /// The path of the database.
+    pub database: &'a str,
+    /// The paths of the images.
+    pub images: Vec<&'a str>,
+    /// Whether digests are taken.
+    pub takes_digests: bool,
+    /// Whether the images are only compared with what the database has of them.
+    pub compares: bool,
 }
 
 /// A new volume, and the file that it is written to.
@@ -238,6 +253,18 @@ The words info, check, ls, items, page and cat take the N-th of them by --volume
 Not looked for: a map within a map or within a disk copy, Disk Copy 6 and other compressed forms, images with
 sectors of 2,352 bytes, MFS, and HFS Plus without a wrapper.";
 
+/// What the word `collect` tells beside its arguments.
+const COLLECTIONS: &str =
+    "For each image a line is printed: its path, how many volumes it has, how many of these are refused, how many
+files there are, and how many of them are damaged. An image that was collected before, under the same path, is read anew. Of a
+volume that is refused the database has its verdict, and no items.
+
+The tables are image, volume and item; docs/MANUAL.md has questions that they answer. An image that can't be sought in, such as a
+pipe, can't be read.
+
+With --compare a line for each image: missing, new, changed, same, or 'same length' where the database has no digest of it. The
+status is 3 where one is missing or changed.";
+
 /// What the word `run` tells beside its arguments.
 const RUNS: &str =
     "Each line of the script is answered by a line: who called, the number of the call among the caller's own, the code, and a
@@ -291,6 +318,7 @@ Examples:
   hfs_tool cat disk.img 19 'Read Me' --macbinary > read_me.bin || rm read_me.bin
   hfs_tool volumes hard_disk.img
   hfs_tool ls hard_disk.img --volume 1
+  hfs_tool collect disks.db disk.img hard_disk.img
   hfs_tool new disk.img Archive 1600 40 4
   hfs_tool repair disk.img mended.img
   hfs_tool run disk.img calls.txt --now 3000000000 --out disk.img
@@ -310,7 +338,8 @@ fn command<'a>(alloc: Global) -> Result<Command<'a>, AllocError> {
     let with_page = with_word(with_items, page_command(alloc));
     let with_cat = with_word(with_page, cat_command(alloc));
     let with_volumes = with_word(with_cat, volumes_command(alloc));
-    let with_new = with_word(with_volumes, new_command(alloc));
+    let with_collect = with_word(with_volumes, collect_command(alloc));
+    let with_new = with_word(with_collect, new_command(alloc));
     let with_repair = with_word(with_new, repair_command(alloc));
     with_word(with_repair, run_command(alloc))
 }
@@ -459,6 +488,47 @@ fn volumes_command<'a>(alloc: Global) -> Result<Command<'a>, AllocError> {
         .arg(file)
 }
 
+/// The images that are collected, which only a comparison does without.
+fn images<'a>(alloc: Global) -> Result<Arg<'a>, AllocError> {
+    Arg::new(alloc, "IMAGE")
+        .action(ArgAction::Append)
+        .num_args(1..)
+        .help("The images, by their paths; with --compare all of the database where none is given")
+        .required_unless_present("compare")
+}
+
+/// The choice of no digests.
+fn no_digest<'a>(alloc: Global) -> Arg<'a> {
+    Arg::new(alloc, "no_digest")
+        .long("no-digest")
+        .action(ArgAction::SetTrue)
+        .help("No SHA-256 digests of the images and of the forks")
+}
+
+/// The choice of a comparison.
+fn compare<'a>(alloc: Global) -> Result<Arg<'a>, AllocError> {
+    Arg::new(alloc, "compare")
+        .long("compare")
+        .action(ArgAction::SetTrue)
+        .help("Only tells which images are missing, new, changed or the same; changes no row")
+        .conflicts_with("no_digest")
+}
+
+fn collect_command<'a>(alloc: Global) -> Result<Command<'a>, AllocError> {
+    let database = word(alloc, "DATABASE").help(
+        "The file of SQLite; it is made where nothing is there",
+    );
+    let with_database = Command::new(alloc, "collect")
+        .about(
+            "Collects images, their volumes and all items in one database of SQLite, or compares them with it",
+        )
+        .after_help(COLLECTIONS)
+        .arg(database);
+    let with_images = with_made_argument(with_database, images(alloc));
+    let with_digest = with_argument(with_images, no_digest(alloc));
+    with_made_argument(with_digest, compare(alloc))
+}
+
 fn new_command<'a>(alloc: Global) -> Result<Command<'a>, AllocError> {
     let file = word(alloc, "FILE").help("The file that is written, in place of what it has");
     let with_file = Command::new(alloc, "new")
@@ -513,7 +583,7 @@ fn run_command<'a>(alloc: Global) -> Result<Command<'a>, AllocError> {
 /// words, or want of memory, told apart by its kind.
 pub fn read_words<'a>(alloc: Global, words: &'a [String]) -> Result<Words<'a>, Error> {
     let matches = matches_of(alloc, words)?;
-    Ok(words_of(&matches))
+    Ok(words_of(alloc, &matches)?)
 }
 
 /// What the program's command finds in the words.
@@ -522,11 +592,25 @@ fn matches_of<'a>(alloc: Global, words: &'a [String]) -> Result<ArgMatches<'a>, 
 }
 
 /// What the words ask for, by what was found in them.
-fn words_of<'a>(matches: &ArgMatches<'a>) -> Words<'a> {
+fn words_of<'a>(alloc: Global, matches: &ArgMatches<'a>) -> Result<Words<'a>, AllocError> {
     match matches.subcommand() {
-        Some((word, inner)) => words_behind(word, inner),
-        None => Words::StandardInput,
+        Some(("collect", inner)) => collect_words(alloc, inner),
+        Some((word, inner)) => Ok(words_behind(word, inner)),
+        None => Ok(Words::StandardInput),
     }
+}
+
+fn collect_words<'a>(alloc: Global, matches: &ArgMatches<'a>) -> Result<Words<'a>, AllocError> {
+    let mut images = Vec::new(alloc);
+    if let Some(paths) = matches.get_strs("IMAGE") {
+        images.extend_from_slice(paths)?;
+    }
+    Ok(Words::Collect(CollectWords {
+        database: text_of(matches, "DATABASE"),
+        images,
+        takes_digests: !matches.get_flag("no_digest"),
+        compares: matches.get_flag("compare"),
+    }))
 }
 
 /// What the words ask for behind the first of them.
