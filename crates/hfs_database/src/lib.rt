@@ -12,3 +12,6 @@ pub use crate::collection::Collection;
 pub use crate::comparing::{KnownImage, known_image, next_path};
 pub use crate::fault::DatabaseFault;
 pub use crate::taker::DatabaseTaker;
+
+#[cfg(test)]
+mod tests;
