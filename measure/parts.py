@@ -1,5 +1,6 @@
 #!/usr/bin/env python3
-"""Runs `rt ci --anew` in a repository and tells how much processor time each part of it took (measure/gate.sh says more).
+"""Runs `rt ci` from nothing in a repository and tells how much processor time each part of it took (measure/gate.sh says more).
+Kits whose `rt ci` keeps what it passed are told `--anew`; the others know no such word, and begin from nothing each time.
 
 Each command that rt starts is one task: which part it belongs to is read off its words and its folder, and its time, with that of
 all that it starts, off /proc, four times a second; so of a command's last quarter of a second some may be missing, and the line
@@ -129,6 +130,11 @@ class Parts:
         return sums
 
 
+def words_of_a_run_from_nothing():
+    told = subprocess.run(["rt", "help"], stdout=subprocess.PIPE, stderr=subprocess.STDOUT, text=True)
+    return ["rt", "ci", *(["--anew"] if "--anew" in told.stdout else [])]
+
+
 def row(seconds, unit):
     return f"{seconds / 60:8.1f}" + (f"{seconds / unit:8.2f}" if unit else "")
 
@@ -136,7 +142,7 @@ def row(seconds, unit):
 def main(root, log, unit):
     parts, unit, start = Parts(root), float(unit), time.time()
     with open(log, "w", encoding="utf-8") as said:
-        ran = subprocess.Popen(["rt", "ci", "--anew"], cwd=root, stdin=subprocess.DEVNULL, stdout=said, stderr=subprocess.STDOUT)
+        ran = subprocess.Popen(words_of_a_run_from_nothing(), cwd=root, stdin=subprocess.DEVNULL, stdout=said, stderr=subprocess.STDOUT)
         while ran.poll() is None:
             parts.look(ran.pid)
             time.sleep(PAUSE)

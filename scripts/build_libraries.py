@@ -66,7 +66,8 @@ def main(*words):
     root = os.path.realpath(os.path.join(os.path.dirname(__file__), ".."))
     os.chdir(root)
     rt = load_rt()
-    rt.share_work(True)
+    if hasattr(rt, "share_work"):
+        rt.share_work(True)
     rt.rtlib.Crate.stamp = functools.lru_cache(None)(rt.rtlib.Crate.stamp)
     crates = {it.name: it for it in rt.rtlib.crates_below(root)}
     lacking = [it for it in names if it not in crates]
