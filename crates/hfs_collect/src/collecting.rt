@@ -3,10 +3,8 @@
 use crate::fault::RunFault;
 use crate::files::FileByPath;
 use hfs_collection::{CollectFault, ImageCounts, ImageFacts, ImageFile, give_image};
-use hfs_commands::ShownPath;
 use hfs_database::Collection;
 use sqlite::Alter;
-use std::alloc::{AllocError, Global};
 use std::rt::Files;
 
 /// Gives the rows of an image, and answers how much it holds.
@@ -50,15 +48,4 @@ pub fn collect_image<S: Alter + Drop, R: Files + AllocGlobal>(
             }
         }
     }
-}
-
-/// The line of an image that was collected.
-pub fn image_line(alloc: Global, path: &str, counts: &ImageCounts) -> Result<String, AllocError> {
-    let ImageCounts {
-        volumes,
-        refused,
-        files,
-    } = *counts;
-    let shown = ShownPath(path);
-    format!(in alloc; "{shown}\tvolumes {volumes}\trefused {refused}\tfiles {files}\tdamaged 0\n")
 }

@@ -5,12 +5,12 @@ mod collecting;
 mod comparing;
 mod fault;
 mod files;
-mod same_files;
+mod lines;
 
-pub use crate::collecting::{collect_image, image_line};
-pub use crate::comparing::{Comparison, compare_image};
+pub use crate::collecting::collect_image;
+pub use crate::comparing::{compare_image, compare_known};
 pub use crate::fault::RunFault;
 pub use crate::files::FileByPath;
-pub use crate::same_files::DatabaseFiles;
+pub use crate::lines::{comparison_line, image_line};
 pub use hfs_collection::ImageCounts;
-pub use hfs_database::{Collection, next_path};
+pub use hfs_database::{Collection, Comparison, DatabaseFiles, FileCollection, next_path};

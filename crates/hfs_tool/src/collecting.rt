@@ -3,20 +3,15 @@
 use crate::commands::print_lines;
 use crate::words::CollectWords;
 use hfs_collect::{
-    Collection, Comparison, DatabaseFiles, RunFault, collect_image, compare_image, image_line,
-    next_path,
+    Collection, Comparison, DatabaseFiles, FileCollection, RunFault, collect_image, compare_image,
+    comparison_line, image_line, next_path,
 };
 use hfs_collection::ImageFacts;
 use hfs_commands::{Fault, ShownPath, Status};
-use sqlite::{File, FileStore};
-use std::fs;
 use std::io::IsTerminal;
 
 /// What the database tells of the program that read an image.
 const PROGRAM: &str = "hfs_tool 1.0.0";
-
-/// A database that is open, as this word uses it.
-type Database = Collection<FileStore<File>>;
 
 /// Puts images into a database, or compares them with what it has of them.
 pub fn collect<'a>(rt: &HostRuntime, words: &CollectWords<'a>) -> Result<u8, Fault<'a>> {
@@ -74,18 +69,22 @@ fn files_of(rt: &HostRuntime, words: &CollectWords<'_>) -> Result<DatabaseFiles,
 /// Opens the database, or makes it.
 fn open_database(
     rt: &HostRuntime,
-    words: &CollectWords<'_>,
+    files: &DatabaseFiles,
     makes_tables: bool,
-) -> Result<Database, RunFault> {
-    match Collection::open(rt, words.database, makes_tables) {
+) -> Result<FileCollection, RunFault> {
+    match Collection::open(rt, files, makes_tables) {
         Ok(database) => Ok(database),
         Err(fault) => Err(RunFault::from(fault)),
     }
 }
 
 /// Closes the database.
-fn close_database(database: Database) -> Result<(), RunFault> {
-    match database.close() {
+fn close_database(
+    rt: &HostRuntime,
+    files: &DatabaseFiles,
+    database: FileCollection,
+) -> Result<(), RunFault> {
+    match database.close(rt, files) {
         Ok(()) => Ok(()),
         Err(fault) => Err(RunFault::from(fault)),
     }
@@ -93,10 +92,10 @@ fn close_database(database: Database) -> Result<(), RunFault> {
 
 /// Puts the images into the database, and answers the exit status.
 fn run_collection(rt: &HostRuntime, words: &CollectWords<'_>) -> Result<u8, Stopped> {
-    let mut database = open_database(rt, words, true)?;
     let files = files_of(rt, words)?;
+    let mut database = open_database(rt, &files, true)?;
     let ran = collect_images(rt, &mut database, &files, words);
-    let closed = close_database(database);
+    let closed = close_database(rt, &files, database);
     let status = ran?;
     closed?;
     Ok(status)
@@ -105,7 +104,7 @@ fn run_collection(rt: &HostRuntime, words: &CollectWords<'_>) -> Result<u8, Stop
 /// Puts one image after the other into the database.
 fn collect_images(
     rt: &HostRuntime,
-    database: &mut Database,
+    database: &mut FileCollection,
     files: &DatabaseFiles,
     words: &CollectWords<'_>,
 ) -> Result<u8, Stopped> {
@@ -126,7 +125,7 @@ fn collect_images(
 /// Puts an image into the database and prints its line, and answers whether it could be read.
 fn collect_one(
     rt: &HostRuntime,
-    database: &mut Database,
+    database: &mut FileCollection,
     files: &DatabaseFiles,
     words: &CollectWords<'_>,
     path: &str,
@@ -163,27 +162,19 @@ fn print_unread(rt: &HostRuntime, path: &str) -> Result<(), Fault<'static>> {
     print_lines(rt, line.as_str())
 }
 
-/// Whether there is a database at this path.
-fn is_there(rt: &HostRuntime, path: &str) -> bool {
-    match fs::metadata(rt, path) {
-        Ok(metadata) => metadata.is_file() && metadata.len() > 0,
-        Err(_) => false,
-    }
-}
-
 /// Compares the images with what the database has of them, and answers the exit status.
 fn run_comparison(rt: &HostRuntime, words: &CollectWords<'_>) -> Result<u8, Stopped> {
-    if !is_there(rt, words.database) {
+    let files = files_of(rt, words)?;
+    if !files.are_there(rt) {
         return Err(Stopped::Running(RunFault::CannotOpen));
     }
-    let mut database = open_database(rt, words, false)?;
-    let files = files_of(rt, words)?;
+    let mut database = open_database(rt, &files, false)?;
     let ran = if words.images.is_empty() {
         compare_all(rt, &mut database, &files)
     } else {
         compare_images(rt, &mut database, &files, words)
     };
-    let closed = close_database(database);
+    let closed = close_database(rt, &files, database);
     let is_worse = ran?;
     closed?;
     let status = if is_worse {
@@ -197,7 +188,7 @@ fn run_comparison(rt: &HostRuntime, words: &CollectWords<'_>) -> Result<u8, Stop
 /// Compares one image after the other, and answers whether one isn't as the database has it.
 fn compare_images(
     rt: &HostRuntime,
-    database: &mut Database,
+    database: &mut FileCollection,
     files: &DatabaseFiles,
     words: &CollectWords<'_>,
 ) -> Result<bool, Stopped> {
@@ -213,7 +204,7 @@ fn compare_images(
 /// Compares all images of the database, in the order of their paths' bytes, and answers whether one isn't as the database has it.
 fn compare_all(
     rt: &HostRuntime,
-    database: &mut Database,
+    database: &mut FileCollection,
     files: &DatabaseFiles,
 ) -> Result<bool, Stopped> {
     let mut is_worse = false;
@@ -236,7 +227,7 @@ fn compare_all(
 /// Compares an image and prints its line, and answers whether it isn't as the database has it.
 fn compare_one(
     rt: &HostRuntime,
-    database: &mut Database,
+    database: &mut FileCollection,
     files: &DatabaseFiles,
     path: &str,
 ) -> Result<bool, Stopped> {
@@ -245,7 +236,7 @@ fn compare_one(
     } else {
         compare_image(rt, database, path)?
     };
-    let Ok(line) = format!(in rt.alloc(); "{}\t{}\n", found.word(), ShownPath(path)) else {
+    let Ok(line) = comparison_line(rt.alloc(), path, found) else {
         return Err(Stopped::Running(RunFault::NoMemory));
     };
     print_lines(rt, line.as_str())?;

@@ -1,9 +1,9 @@
 //! What each word does.
 
 use crate::by_path::{print_fork_at, print_list_at, print_macbinary_at};
+use crate::collecting::collect;
 use crate::hints::tell_hint;
 use crate::pages::print_page;
-use crate::collecting::collect;
 use crate::progress::Progress;
 use crate::saving::{save, tell};
 use crate::volumes::{
