@@ -594,7 +594,8 @@ def damaged_databases(place):
     content = (place.folder / 'good.db').read_bytes()
     size = int.from_bytes(content[16:18], 'big')
     pages = len(content) // size
-    cases = {'text': b'no database\n' * 500, 'one byte': b'x', 'another beginning': b'T' + content[1:], 'a page cut': content[:-size], 'half of it': content[:len(content) // 2 // size * size],
+    cases = {'text': b'no database\n' * 500, 'one byte': b'S', 'a zero': b'\0', 'a few bytes': b'SQLite format 3\0', 'a text with S': b'SQL is no database\n' * 500,
+             'another beginning': b'T' + content[1:], 'a page cut': content[:-size], 'half of it': content[:len(content) // 2 // size * size],
              'half a page': content[:-size // 2], 'an image': (place.folder / image).read_bytes(), 'zeros': bytes(8192),
              'another format': content[:18] + b'\3\3' + content[20:], 'another page size': content[:16] + b'\2\1' + content[18:]}
     for page in range(pages):
@@ -677,15 +678,8 @@ def read_only(place):
     os.chmod(place.folder, 0o755)
 
 
-def file_names(place, count):
-    return [f'{n:04}.img' for n in range(count)]
-
-
 def full_device(place, folder, how, what):
     """Images on the way into a database on a device that has no more room: those before the fault stay, and the next run goes on."""
-    content = (VOLUMES / 'hfsutils-800k.img').read_bytes()
-    many = [f'image {n:03}' for n in range(60)]
-    names = ['f']
     named_volume(place, 'big.img', 'Big', [f'create\t2\t{"n" * 20}{n:04}' for n in range(300)], blocks=400, nodes=120)
     big = (place.folder / 'big.img').read_bytes()
     names = []
@@ -749,14 +743,12 @@ def unread_images(place):
     place.done('collect', 'c.db', 'gone.img', 'p6.img')
     kept = image_rows(place, 'gone.img')
     (place.folder / 'gone.img').unlink()
-    os.mkfifo(place.folder / 'pipe')
     (place.folder / 'folder').mkdir()
     rows = image_rows(place, 'p6.img')
     for name in ('gone.img', 'none.img', 'folder', '/dev/stdin', 'none/none', ''):
         how = {'stdin': subprocess.PIPE} if name == '/dev/stdin' else {}
         place.wants(4, f'cannot read {name}\n' + line_of(rows), 'collect', 'c.db', name, 'p6.img', **how)
         place.wants(4, line_of(rows) + f'cannot read {name}\n', 'collect', 'c.db', 'p6.img', name, **how)
-    (place.folder / 'pipe').unlink()
     holds(place, [kept, rows])
     # The database itself, by each of its names.
     (place.folder / 'link').symlink_to('c.db')

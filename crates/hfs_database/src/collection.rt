@@ -116,6 +116,9 @@ impl Collection<FileStore<File>> {
         makes_tables: bool,
     ) -> Result<FileCollection, DatabaseFault> {
         let before = files.before(rt);
+        if before.is_no_database() {
+            return Err(DatabaseFault::CannotOpen);
+        }
         match open_files(rt, files.database.as_str(), makes_tables) {
             Ok(collection) => Ok(collection),
             Err((fault, locked)) => {

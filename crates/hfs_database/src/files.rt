@@ -22,15 +22,27 @@ pub(crate) enum Place {
     Free,
     /// A file of no bytes.
     Empty,
+    /// A file with bytes, and fewer than any database has.
+    Short,
     /// Anything else.
     Taken,
 }
+
+/// How many bytes a database has at least.
+const LEAST_BYTES: u64 = 512;
 
 /// What was there of a database before it was opened.
 #[derive(Clone, Copy)]
 pub(crate) struct Before {
     database: Place,
     has_log: bool,
+}
+
+impl Before {
+    /// Whether there is a file that is no database, nor one that a run began to make, whose log stands beside it.
+    pub(crate) fn is_no_database(self) -> bool {
+        self.database == Place::Short && !self.has_log
+    }
 }
 
 /// The path of a file beside another.
@@ -50,6 +62,7 @@ fn real_path<R: Files + AllocGlobal>(rt: &R, path: &str) -> Result<String, Alloc
 fn place_of<R: Files>(rt: &R, path: &str) -> Place {
     match fs::symlink_metadata(rt, path) {
         Ok(found) if found.is_file() && found.len() == 0 => Place::Empty,
+        Ok(found) if found.is_file() && found.len() < LEAST_BYTES => Place::Short,
         Ok(_) => Place::Taken,
         Err(error) if error.kind() == io::ErrorKind::NotFound => Place::Free,
         Err(_) => Place::Taken,
@@ -82,7 +95,10 @@ impl DatabaseFiles {
 
     /// Whether a database can be at this path: there is a file with bytes, or a link to one.
     pub fn are_there<R: Files>(&self, rt: &R) -> bool {
-        place_of(rt, self.database.as_str()) == Place::Taken
+        match place_of(rt, self.database.as_str()) {
+            Place::Free | Place::Empty => false,
+            Place::Short | Place::Taken => true,
+        }
     }
 
     /// What is there of them.
@@ -112,7 +128,7 @@ impl DatabaseFiles {
                     .truncate(true)
                     .open(rt, self.database.as_str());
             }
-            Place::Taken => {}
+            Place::Short | Place::Taken => {}
         }
         if !before.has_log {
             let _log = fs::remove_file(rt, self.log.as_str());
