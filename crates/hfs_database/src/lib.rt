@@ -16,6 +16,3 @@ pub use crate::comparing::{Comparison, KnownImage};
 pub use crate::fault::DatabaseFault;
 pub use crate::files::DatabaseFiles;
 pub use crate::taker::DatabaseTaker;
-
-#[cfg(test)]
-mod tests;
