@@ -30,6 +30,7 @@ import tempfile
 import time
 from datetime import datetime, timedelta
 from pathlib import Path
+from urllib.parse import quote
 
 from volumes import in_disk_copy, in_map, in_macbinary
 
@@ -283,7 +284,8 @@ def volume_rows(place, image, has_digests):
 def image_rows(place, image, has_digests=True):
     """All that a database is to have of an image: its own row and those of its volumes."""
     content = (place.folder / image).read_bytes()
-    return (str(image), len(content), sha256(content) if has_digests else None, PROGRAM), volume_rows(place, image, has_digests)
+    where = place.folder / image
+    return (str(image), len(content), sha256(content) if has_digests else None, PROGRAM), volume_rows(place, where, has_digests)
 
 
 def line_of(rows):
@@ -297,8 +299,8 @@ def line_of(rows):
 # ---- what a database has
 
 def opened(path):
-    """A database by sqlite3, which changes nothing."""
-    return sqlite3.connect(f'file:{path}?mode=ro'.replace('#', '%23'), uri=True)
+    """A database by sqlite3, which makes no file beside it."""
+    return sqlite3.connect(f'file:{quote(str(path))}?mode=ro&immutable=1', uri=True)
 
 
 def held(place, name='c.db', is_sound=True):
