@@ -2,7 +2,7 @@
 ghost use Rattle.std.specs.Prelude.{◌≡◌, string_bytes, IfOk};
 ghost use Rattle.sqlite.specs.declared.types.Value.TheVariants.{Text};
 ghost use Rattle.sqlite.specs.Held.{state};
-ghost use Rattle.sqlite.specs.Values.{bound};
+ghost use Rattle.sqlite.specs.Values.{bound, bound_value};
 ghost use Rattle.sqlite_value.specs.Order.{column};
 ghost use Rattle.sqlite_value.specs.Value.{owned};
 ghost use Rattle.hfs_database.specs.Asking.{IsAnswered, IsKnown, IsNext, TellsImage, text_or_null};
@@ -62,7 +62,7 @@ fn path_in(row: &Row) -> Result<String, DatabaseFault>
 
 /// A text as a parameter, where there is one.
 fn parameter(text: &Option<String>) -> ValueRef<'_>
-    ensures { owned result ≡ text_or_null text.now }
+    ensures { bound_value (owned result) ≡ text_or_null text.now }
 {
     match text {
         Some(text) => ValueRef::Text(text.as_bytes()),
