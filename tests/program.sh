@@ -98,6 +98,14 @@ END
     cat "$volumes/hfsutils-800k.img"
 } > "$readme/floppy.bin"
 
+# What the manual asks of a database is asked of Python's SQLite where the program sqlite3 isn't installed.
+if ! command -v sqlite3 > /dev/null; then
+    sqlite3() {
+        python3 -c 'import sqlite3, sys
+for row in sqlite3.connect(sys.argv[1]).execute(sys.argv[2]): print(*("" if it is None else it for it in row), sep="|")' "$@"
+    }
+fi
+
 # Runs a command of the page, and wants of it what stands below.
 shown() {
     [ -n "$command" ] || return 0

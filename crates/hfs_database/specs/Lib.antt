@@ -2,3 +2,5 @@ pub mod Values
 pub mod Texts
 pub mod Doing
 pub mod Rows
+pub mod Comparing
+pub mod Asking

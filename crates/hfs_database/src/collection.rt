@@ -4,10 +4,14 @@ ghost use Rattle.sqlite.specs.Held.{state};
 ghost use Rattle.hfs_database.specs.Doing.{HasRun};
 
 use crate::fault::{DatabaseFault, opening_fault, writing_fault};
+use crate::files::DatabaseFiles;
 use crate::tables::{Found, find_tables, make_tables};
 use crate::taker::DatabaseTaker;
-use sqlite::{Alter, Connection, Error, File, FileStore};
+use sqlite::{Alter, Connection, Error, File, FileStore, Files as OpenedFiles, Unknown};
 use std::alloc::Global;
+
+/// A collection in a file.
+pub type FileCollection = Collection<FileStore<File>>;
 
 /// A collection that is open.
 #[derive(Drop)]
@@ -16,22 +20,33 @@ pub struct Collection<S: Alter> {
     pub(crate) conn: Connection<S>,
 }
 
+/// Wants the tables of a collection, or makes them where there is none of them and this is asked for. Faults: as of
+/// [`Collection::over`].
+fn want_tables<S: Alter>(
+    conn: &mut Connection<S>,
+    makes_tables: bool,
+) -> Result<(), DatabaseFault> {
+    match find_tables(conn)? {
+        Found::All => Ok(()),
+        Found::Nothing if makes_tables => make_tables(conn),
+        _ => Err(DatabaseFault::CannotOpen),
+    }
+}
+
 impl<S: Alter + Drop> Collection<S> {
     /// The collection in a database. Where it has none of the tables of a collection, they are made, if this is asked for.
-    /// Faults: `CannotOpen` where it has others of their names, or some and not all, or none and they are not to be made;
-    /// `CannotWrite`, `NoMemory`.
+    /// Faults, with the database: `CannotOpen` where it has others of their names, or some and not all, or none and they are
+    /// not to be made; `CannotWrite`, `NoMemory`.
     pub fn over(
         alloc: Global,
         conn: Connection<S>,
         makes_tables: bool,
-    ) -> Result<Collection<S>, DatabaseFault> {
+    ) -> Result<Collection<S>, (DatabaseFault, Connection<S>)> {
         let mut conn = conn;
-        match find_tables(&mut conn)? {
-            Found::All => {}
-            Found::Nothing if makes_tables => make_tables(&mut conn)?,
-            _ => return Err(DatabaseFault::CannotOpen),
+        match want_tables(&mut conn, makes_tables) {
+            Ok(()) => Ok(Collection { alloc, conn }),
+            Err(fault) => Err((fault, conn)),
         }
-        Ok(Collection { alloc, conn })
     }
 
     /// Begins a transaction: what a taker is given comes with its commit, or doesn't. Faults: `CannotWrite`, `NoMemory`.
@@ -77,26 +92,54 @@ fn done(answer: Result<usize, Error>) -> Result<(), DatabaseFault>
     }
 }
 
+/// What is locked of a database that was refused.
+type Refused = (DatabaseFault, Option<OpenedFiles<File>>);
+
+/// Opens the collection in a file. A fault comes with the files, where they were opened.
+fn open_files(rt: &HostRuntime, path: &str, makes_tables: bool) -> Result<FileCollection, Refused> {
+    match Connection::open_from(rt, path, false, Unknown) {
+        Ok(conn) => match Collection::over(rt.alloc(), conn, makes_tables) {
+            Ok(collection) => Ok(collection),
+            Err((fault, conn)) => Err((fault, Some(conn.into_store().close()))),
+        },
+        Err((error, Some(left))) => Err((opening_fault(&error), Some(left.into_files()))),
+        Err((error, None)) => Err((opening_fault(&error), None)),
+    }
+}
+
 impl Collection<FileStore<File>> {
     /// Opens the collection in a file. Faults: as of [`Collection::over`], and `CannotOpen` where the file is no database, is
-    /// damaged, or is open in another program.
+    /// damaged, or is open in another program. At a fault no log is left beside it, and no file where none was.
     pub fn open(
         rt: &HostRuntime,
-        path: &str,
+        files: &DatabaseFiles,
         makes_tables: bool,
-    ) -> Result<Collection<FileStore<File>>, DatabaseFault> {
-        match Connection::open(rt, path) {
-            Ok(conn) => Collection::over(rt.alloc(), conn, makes_tables),
-            Err(error) => Err(opening_fault(&error)),
+    ) -> Result<FileCollection, DatabaseFault> {
+        let before = files.before(rt);
+        if before.is_no_database() {
+            return Err(DatabaseFault::CannotOpen);
+        }
+        match open_files(rt, files.database.as_str(), makes_tables) {
+            Ok(collection) => Ok(collection),
+            Err((fault, locked)) => {
+                if locked.is_some() {
+                    files.restore(rt, before);
+                }
+                Err(fault)
+            }
         }
     }
 
-    /// Closes the file, which alone then holds all. Faults: `CannotWrite`, `NoMemory`.
-    pub fn close(self) -> Result<(), DatabaseFault> {
+    /// Closes the files, of which the database alone then holds all: no log is left beside it. Faults: `CannotWrite`,
+    /// `NoMemory`.
+    pub fn close(self, rt: &HostRuntime, files: &DatabaseFiles) -> Result<(), DatabaseFault> {
         let Collection { conn, .. } = self;
-        match conn.close() {
-            Ok(()) => Ok(()),
-            Err(error) => Err(writing_fault(&error)),
+        match conn.close_files() {
+            Ok(_locked) => {
+                files.remove_log(rt);
+                Ok(())
+            }
+            Err((error, _store)) => Err(writing_fault(&error)),
         }
     }
 }

@@ -1,10 +1,49 @@
-//! What a collection tells of images.
+//! Images beside what a collection has of them.
+ghost use Rattle.std.specs.Prelude.{◌≡◌};
+ghost use Rattle.hfs_database.specs.Comparing.{by_digest, comparison, comparison_word, is_worse, needs_digest};
 
-use crate::collection::Collection;
-use crate::fault::{DatabaseFault, writing_fault};
-use sqlite::{Alter, Error, Row, params};
+/// How an image stands to what the collection has of it.
+#[derive(Clone, Copy, Debug, PartialEq, Eq)]
+pub enum Comparison {
+    /// It can't be read.
+    Missing,
+    /// The collection doesn't have it.
+    New,
+    /// Its length or its digest is another.
+    Changed,
+    /// Its length and its digest are the same.
+    Same,
+    /// Its length is the same, and the collection has no digest.
+    SameLength,
+}
 
-/// What is told of an image.
+impl Comparison {
+    /// What is printed of it.
+    #[tactic(auto, unfolding(crate::specs::Comparing::comparison_word))]
+    pub fn word(self) -> &'static str
+        ensures { result.now ≡ comparison_word self }
+    {
+        match self {
+            Comparison::Missing => "missing",
+            Comparison::New => "new",
+            Comparison::Changed => "changed",
+            Comparison::Same => "same",
+            Comparison::SameLength => "same length",
+        }
+    }
+
+    /// Whether it isn't as the collection has it.
+    pub fn is_worse(self) -> bool
+        ensures { result ≡ is_worse self }
+    {
+        match self {
+            Comparison::Missing | Comparison::Changed => true,
+            Comparison::New | Comparison::Same | Comparison::SameLength => false,
+        }
+    }
+}
+
+/// What a collection has of an image.
 #[derive(Drop)]
 pub struct KnownImage {
     /// How many bytes it has.
@@ -13,41 +52,34 @@ pub struct KnownImage {
     pub digest: Option<String>,
 }
 
-/// What a row tells of an image.
-fn image_of(row: &Row) -> Result<KnownImage, DatabaseFault> {
-    match (row.get(0), row.get(1)) {
-        (Ok(bytes), Ok(digest)) => Ok(KnownImage { bytes, digest }),
-        (Err(error), _) | (_, Err(error)) => Err(writing_fault(&error)),
+impl KnownImage {
+    /// Whether a file of `len` bytes is compared by its digest.
+    pub fn needs_digest(&self, len: u64) -> bool
+        ensures { result ≡ needs_digest self.now len }
+    {
+        self.bytes == len && self.digest.is_some()
     }
-}
 
-/// What the collection tells of the image of this path, if it has it. Faults: `CannotWrite` where its row can't be read, `NoMemory`.
-pub fn known_image<S: Alter>(
-    collection: &mut Collection<S>,
-    path: &str,
-) -> Result<Option<KnownImage>, DatabaseFault> {
-    let query = "SELECT bytes, sha256 FROM image WHERE path = ?1";
-    match collection.conn.query_row(query, params![path]) {
-        Ok(row) => Ok(Some(image_of(&row)?)),
-        Err(Error::QueryReturnedNoRows) => Ok(None),
-        Err(error) => Err(writing_fault(&error)),
+    /// How a file of as many bytes stands to this image, by the hexadecimal digits of its SHA-256 digest.
+    fn by_digest(&self, digits: &str) -> Comparison
+        ensures { result ≡ by_digest self.now.digest digits.now }
+    {
+        match &self.digest {
+            Some(known) if known.as_str() == digits => Comparison::Same,
+            Some(_) => Comparison::Changed,
+            None => Comparison::SameLength,
+        }
     }
-}
 
-/// The first path of the collection that comes behind this one in the order of their bytes, or the first of all. None where
-/// there is none. Faults: as of [`known_image`].
-pub fn next_path<S: Alter>(
-    collection: &mut Collection<S>,
-    last: &Option<String>,
-) -> Result<Option<String>, DatabaseFault> {
-    let query = "SELECT path FROM image WHERE ?1 IS NULL OR path > ?1 ORDER BY path LIMIT 1";
-    let row = match collection.conn.query_row(query, params![last]) {
-        Ok(row) => row,
-        Err(Error::QueryReturnedNoRows) => return Ok(None),
-        Err(error) => return Err(writing_fault(&error)),
-    };
-    match row.get(0) {
-        Ok(path) => Ok(Some(path)),
-        Err(error) => Err(writing_fault(&error)),
+    /// How a file of `len` bytes stands to this image, by the hexadecimal digits of its SHA-256 digest. Where the digest isn't
+    /// needed, any digits do.
+    pub fn compared(&self, len: u64, digits: &str) -> Comparison
+        ensures { result ≡ comparison self.now len digits.now }
+    {
+        if self.bytes == len {
+            self.by_digest(digits)
+        } else {
+            Comparison::Changed
+        }
     }
 }

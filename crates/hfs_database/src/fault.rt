@@ -22,12 +22,12 @@ fn is_memory(error: &Error) -> bool {
     }
 }
 
-/// What an error means where a database is opened.
+/// What an error means where a database is opened. Where there is no room to make it, it can't be written.
 pub(crate) fn opening_fault(error: &Error) -> DatabaseFault {
-    if is_memory(error) {
-        DatabaseFault::NoMemory
-    } else {
-        DatabaseFault::CannotOpen
+    match error {
+        Error::SqliteFailure(ErrorCode::OutOfMemory) => DatabaseFault::NoMemory,
+        Error::SqliteFailure(ErrorCode::DiskFull) => DatabaseFault::CannotWrite,
+        _ => DatabaseFault::CannotOpen,
     }
 }
 

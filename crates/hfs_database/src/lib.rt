@@ -1,14 +1,18 @@
 //! A collection of images in a database of SQLite.
 #![tactic(auto)]
 
+mod asking;
 mod collection;
 mod comparing;
 mod fault;
+mod files;
 mod tables;
 mod taker;
 mod values;
 
-pub use crate::collection::Collection;
-pub use crate::comparing::{KnownImage, known_image, next_path};
+pub use crate::asking::{known_image, next_path};
+pub use crate::collection::{Collection, FileCollection};
+pub use crate::comparing::{Comparison, KnownImage};
 pub use crate::fault::DatabaseFault;
+pub use crate::files::DatabaseFiles;
 pub use crate::taker::DatabaseTaker;

@@ -1,9 +1,10 @@
 //! The taker that is a database.
-ghost use Rattle.std.specs.Prelude.{◌≡◌, [], ◌∷◌, map, IfOk, OnOk};
+ghost use Rattle.std.specs.Prelude.{◌≡◌, [], ◌∷◌, map, IfOk, OnErr, OnOk};
 ghost use Rattle.sqlite.specs.declared.types.Value.TheVariants.{Int};
 ghost use Rattle.sqlite.specs.Held.{state};
 ghost use Rattle.sqlite_value.specs.Order.{column};
 ghost use Rattle.sqlite.specs.Values.{bound};
+ghost use Rattle.hfs_rows.specs.Taken.{with_row};
 ghost use Rattle.hfs_database.specs.Doing.{HasFound, HasPut, HasReplaced, HasRun};
 ghost use Rattle.hfs_database.specs.Rows.{PutsRow};
 ghost use Rattle.hfs_database.specs.Texts.{drop_volumes_text, find_image_text, put_image_text, put_item_text, put_volume_text};
@@ -180,7 +181,13 @@ impl<'a, S: Alter> DatabaseTaker<'a, S> {
 impl<S: Alter> RowTaker for DatabaseTaker<'_, S> {
     ghost given = { λ taker. taker.given.rows };
 
-    fn take(&mut self, table: Table, values: &[RowValue]) -> Result<(), TakerFault> {
+    fn take(&mut self, table: Table, values: &[RowValue]) -> Result<(), TakerFault>
+        ensures whole { OnOk result (self.new.given.rows
+            ≡ with_row self.old.given.rows table values.now) }
+        ensures kept { OnErr result (self.new.given.rows ≡ self.old.given.rows) }
+        ensures put { OnOk result (PutsRow S.Store table (map sql_value values.now)
+            self.old.conn.now self.new.conn.now self.old.last self.new.last) }
+    {
         if self.conn.is_autocommit() {
             return Err(TakerFault::CannotWrite);
         }

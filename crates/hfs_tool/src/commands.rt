@@ -1,6 +1,7 @@
 //! What each word does.
 
 use crate::by_path::{print_fork_at, print_list_at, print_macbinary_at};
+use crate::collecting::collect;
 use crate::hints::tell_hint;
 use crate::pages::print_page;
 use crate::progress::Progress;
@@ -72,6 +73,7 @@ pub fn obey<'a, T: Threads + Wait + Sync>(
         Words::Take(words) => take_volume(rt, words),
         Words::Rescue(words) => rescue_volume(rt, words),
         Words::RescueList(words) => list_remains(rt, words),
+        Words::Collect(words) => collect(rt, words),
         Words::New(volume) => write_new(rt, volume),
         Words::Repair { image, file } => write_repaired(rt, *image, *file),
         Words::Run(run) => print_answers(rt, threads, run),

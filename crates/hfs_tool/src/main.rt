@@ -5,6 +5,7 @@ ghost use Rattle.std.specs.Prelude.{◌≡◌, ◌⊎◌};
 ghost use Rattle.hfs_commands.specs.Faults.{status_number, status_of};
 
 mod by_path;
+mod collecting;
 mod commands;
 mod hints;
 mod pages;

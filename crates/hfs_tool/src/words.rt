@@ -62,6 +62,8 @@ pub enum Words<'a> {
     Rescue(BagWords<'a>),
     /// `rescue IMAGE --list [--volume N] [--limit BYTES]`: a line for each item that remains.
     RescueList(RescueWords<'a>),
+    /// `collect DATABASE IMAGE.. [--no-digest]`, `collect DATABASE --compare [IMAGE..]`: many images in one database.
+    Collect(CollectWords<'a>),
     /// `new FILE NAME BLOCKS NODES EXTENTS [--now N]`: a new volume.
     New(NewVolume<'a>),
     /// `repair IMAGE FILE`: the image with its counts mended.
@@ -118,6 +120,19 @@ pub struct ForkPathWords<'a> {
     pub place: PathWords<'a>,
     /// Which of its forks.
     pub fork: Fork,
+}
+
+/// Images, and the database that they are collected in.
+#[derive(Drop)]
+pub struct CollectWords<'a> {
+    /// The path of the database.
+    pub database: &'a str,
+    /// The paths of the images.
+    pub images: Vec<&'a str>,
+    /// Whether digests are taken.
+    pub takes_digests: bool,
+    /// Whether the images are only compared with what the database has of them.
+    pub compares: bool,
 }
 
 /// A new volume, and the file that it is written to.
@@ -249,6 +264,18 @@ The words info, check, ls, items, page, cat and take read the N-th of them by --
 Not looked for: a map within a map or within a disk copy, Disk Copy 6 and other compressed forms, images with
 sectors of 2,352 bytes, MFS, and HFS Plus without a wrapper.";
 
+/// What the word `collect` tells beside its arguments.
+const COLLECTIONS: &str =
+    "For each image a line is printed: its path, how many volumes it has, how many of these are refused, how many
+files there are, and how many of them are damaged. An image that was collected before, under the same path, is read anew. Of a
+volume that is refused the database has its verdict, and no items.
+
+The tables are image, volume and item; docs/MANUAL.md has questions that they answer. An image that can't be sought in, such as a
+pipe, can't be read.
+
+With --compare a line for each image: missing, new, changed, same, or 'same length' where the database has no digest of it. The
+status is 3 where one is missing or changed.";
+
 /// What the word `run` tells beside its arguments.
 const RUNS: &str =
     "Each line of the script is answered by a line: who called, the number of the call among the caller's own, the code, and a
@@ -297,7 +324,8 @@ from 1970 on. FOLDER is written as FOLDER.0.new and renamed when it is whole. Ch
 within it, before it is copied to a Macintosh, which joins the AppleDouble files to theirs.";
 
 /// What remains of a damaged volume.
-const RESCUES: &str = "FOLDER becomes a bag as that of take, with what can still be found, whatever is wrong with the volume:
+const RESCUES: &str =
+    "FOLDER becomes a bag as that of take, with what can still be found, whatever is wrong with the volume:
   data/=lost/N/NAME     what lay in folder N, of which nothing is left
   data/=old/NAME        what a part of the catalog tells that is no longer used: deleted, mostly, or moved since
   rescue.tsv            a line for each item: path, number, ID, what is said of the data fork and of the resource fork
@@ -332,6 +360,7 @@ Examples:
   hfs_tool rescue damaged.img disk
   hfs_tool volumes hard_disk.img
   hfs_tool ls hard_disk.img --volume 1
+  hfs_tool collect disks.db disk.img hard_disk.img
   hfs_tool new disk.img Archive 1600 40 4
   hfs_tool repair disk.img mended.img
   hfs_tool run disk.img calls.txt --now 3000000000 --out disk.img
@@ -353,7 +382,8 @@ fn command<'a>(alloc: Global) -> Result<Command<'a>, AllocError> {
     let with_volumes = with_word(with_cat, volumes_command(alloc));
     let with_take = with_word(with_volumes, take_command(alloc));
     let with_rescue = with_word(with_take, rescue_command(alloc));
-    let with_new = with_word(with_rescue, new_command(alloc));
+    let with_collect = with_word(with_rescue, collect_command(alloc));
+    let with_new = with_word(with_collect, new_command(alloc));
     let with_repair = with_word(with_new, repair_command(alloc));
     with_word(with_repair, run_command(alloc))
 }
@@ -542,7 +572,9 @@ fn limit<'a>(alloc: Global) -> Arg<'a> {
         .value_name("BYTES")
         .action(ArgAction::Set)
         .value_parser(value_parser!(u64))
-        .help("How many bytes of forks are taken at most, in place of four times those of the image")
+        .help(
+            "How many bytes of forks are taken at most, in place of four times those of the image",
+        )
 }
 
 fn rescue_command<'a>(alloc: Global) -> Result<Command<'a>, AllocError> {
@@ -560,6 +592,47 @@ fn rescue_command<'a>(alloc: Global) -> Result<Command<'a>, AllocError> {
     let with_limit = with_argument(with_list, limit(alloc));
     let with_volume = with_argument(with_limit, volume(alloc));
     with_argument(with_volume, no_digest(alloc))
+}
+
+/// The images that are collected, which only a comparison does without.
+fn images<'a>(alloc: Global) -> Result<Arg<'a>, AllocError> {
+    Arg::new(alloc, "IMAGE")
+        .action(ArgAction::Append)
+        .num_args(1..)
+        .help("The images, by their paths; with --compare all of the database where none is given")
+        .required_unless_present("compare")
+}
+
+/// The choice of no digests.
+fn no_digests<'a>(alloc: Global) -> Arg<'a> {
+    Arg::new(alloc, "no_digest")
+        .long("no-digest")
+        .action(ArgAction::SetTrue)
+        .help("No SHA-256 digests of the images and of the forks")
+}
+
+/// The choice of a comparison.
+fn compare<'a>(alloc: Global) -> Result<Arg<'a>, AllocError> {
+    Arg::new(alloc, "compare")
+        .long("compare")
+        .action(ArgAction::SetTrue)
+        .help("Only tells which images are missing, new, changed or the same; changes no row")
+        .conflicts_with("no_digest")
+}
+
+fn collect_command<'a>(alloc: Global) -> Result<Command<'a>, AllocError> {
+    let database = word(alloc, "DATABASE").help(
+        "The file of SQLite; it is made where nothing is there",
+    );
+    let with_database = Command::new(alloc, "collect")
+        .about(
+            "Collects images, their volumes and all items in one database of SQLite, or compares them with it",
+        )
+        .after_help(COLLECTIONS)
+        .arg(database);
+    let with_images = with_made_argument(with_database, images(alloc));
+    let with_digest = with_argument(with_images, no_digests(alloc));
+    with_made_argument(with_digest, compare(alloc))
 }
 
 fn new_command<'a>(alloc: Global) -> Result<Command<'a>, AllocError> {
@@ -616,7 +689,7 @@ fn run_command<'a>(alloc: Global) -> Result<Command<'a>, AllocError> {
 /// words, or want of memory, told apart by its kind.
 pub fn read_words<'a>(alloc: Global, words: &'a [String]) -> Result<Words<'a>, Error> {
     let matches = matches_of(alloc, words)?;
-    Ok(words_of(&matches))
+    Ok(words_of(alloc, &matches)?)
 }
 
 /// What the program's command finds in the words.
@@ -625,11 +698,25 @@ fn matches_of<'a>(alloc: Global, words: &'a [String]) -> Result<ArgMatches<'a>, 
 }
 
 /// What the words ask for, by what was found in them.
-fn words_of<'a>(matches: &ArgMatches<'a>) -> Words<'a> {
+fn words_of<'a>(alloc: Global, matches: &ArgMatches<'a>) -> Result<Words<'a>, AllocError> {
     match matches.subcommand() {
-        Some((word, inner)) => words_behind(word, inner),
-        None => Words::StandardInput,
+        Some(("collect", inner)) => collect_words(alloc, inner),
+        Some((word, inner)) => Ok(words_behind(word, inner)),
+        None => Ok(Words::StandardInput),
     }
+}
+
+fn collect_words<'a>(alloc: Global, matches: &ArgMatches<'a>) -> Result<Words<'a>, AllocError> {
+    let mut images = Vec::new(alloc);
+    if let Some(paths) = matches.get_strs("IMAGE") {
+        images.extend_from_slice(paths)?;
+    }
+    Ok(Words::Collect(CollectWords {
+        database: text_of(matches, "DATABASE"),
+        images,
+        takes_digests: !matches.get_flag("no_digest"),
+        compares: matches.get_flag("compare"),
+    }))
 }
 
 /// What the words ask for behind the first of them.

@@ -1,0 +1,37 @@
+//! Why a run ended early.
+ghost use Rattle.std.specs.Prelude.{◌≡◌};
+
+use hfs_collection::CollectFault;
+use hfs_database::DatabaseFault;
+
+/// Why a run ended early.
+#[derive(Clone, Copy, Debug, PartialEq, Eq)]
+pub enum RunFault {
+    /// The database can't be opened.
+    CannotOpen,
+    /// The database can't be written.
+    CannotWrite,
+    /// Memory was refused.
+    NoMemory,
+}
+
+impl From<DatabaseFault> for RunFault {
+    fn from(fault: DatabaseFault) -> RunFault {
+        match fault {
+            DatabaseFault::CannotOpen => RunFault::CannotOpen,
+            DatabaseFault::CannotWrite => RunFault::CannotWrite,
+            DatabaseFault::NoMemory => RunFault::NoMemory,
+        }
+    }
+}
+
+impl RunFault {
+    /// What a fault of giving an image's rows means for the run. None where only the image can't be read, and the next one comes.
+    pub fn of_image(fault: CollectFault) -> Option<RunFault> {
+        match fault {
+            CollectFault::ReadFailed => None,
+            CollectFault::CannotWrite => Some(RunFault::CannotWrite),
+            CollectFault::NoMemory => Some(RunFault::NoMemory),
+        }
+    }
+}

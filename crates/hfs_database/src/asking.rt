@@ -1,0 +1,106 @@
+//! What a collection is asked of images.
+ghost use Rattle.std.specs.Prelude.{◌≡◌, string_bytes, IfOk};
+ghost use Rattle.sqlite.specs.declared.types.Value.TheVariants.{Text};
+ghost use Rattle.sqlite.specs.Held.{state};
+ghost use Rattle.sqlite.specs.Values.{bound, bound_value};
+ghost use Rattle.sqlite_value.specs.Order.{column};
+ghost use Rattle.sqlite_value.specs.Value.{owned};
+ghost use Rattle.hfs_database.specs.Asking.{IsAnswered, IsKnown, IsNext, TellsImage, text_or_null};
+
+use crate::collection::Collection;
+use crate::comparing::KnownImage;
+use crate::fault::{DatabaseFault, writing_fault};
+use sqlite::types::ValueRef;
+use sqlite::{Alter, Connection, Error, Row};
+
+/// The first row of the answer to a question, where it has one. Faults: `CannotWrite` where the database can't be read, `NoMemory`.
+fn first_row<S: Alter>(
+    conn: &mut Connection<S>,
+    text: &str,
+    parameters: &[ValueRef<'_>],
+) -> Result<Option<Row>, DatabaseFault>
+    ensures { IfOk result (IsAnswered (state S.Store conn.old) (state S.Store conn.new)
+        text.now (bound parameters.now)) }
+{
+    match conn.query_row(text, parameters) {
+        Ok(row) => Ok(Some(row)),
+        Err(Error::QueryReturnedNoRows) => Ok(None),
+        Err(error) => Err(writing_fault(&error)),
+    }
+}
+
+/// The digest that a row has behind the number of bytes, where it has one.
+fn digest_in(row: &Row) -> Result<Option<String>, DatabaseFault>
+    ensures { IfOk result (λ digest. column row.now 1 ≡ text_or_null digest) }
+{
+    match row.get(1) {
+        Ok(digest) => Ok(digest),
+        Err(error) => Err(writing_fault(&error)),
+    }
+}
+
+/// What a row tells of an image.
+fn image_of(row: &Row) -> Result<KnownImage, DatabaseFault>
+    ensures { IfOk result (TellsImage row.now) }
+{
+    let digest = digest_in(row)?;
+    match row.get(0) {
+        Ok(bytes) => Ok(KnownImage { bytes, digest }),
+        Err(error) => Err(writing_fault(&error)),
+    }
+}
+
+/// The path that a row begins with.
+fn path_in(row: &Row) -> Result<String, DatabaseFault>
+    ensures { IfOk result (λ path. column row.now 0 ≡ Text (string_bytes path)) }
+{
+    match row.get(0) {
+        Ok(path) => Ok(path),
+        Err(error) => Err(writing_fault(&error)),
+    }
+}
+
+/// A text as a parameter, where there is one.
+fn parameter(text: &Option<String>) -> ValueRef<'_>
+    ensures { bound_value (owned result) ≡ text_or_null text.now }
+{
+    match text {
+        Some(text) => ValueRef::Text(text.as_bytes()),
+        None => ValueRef::Null,
+    }
+}
+
+/// What the collection tells of the image of this path, if it has it. Faults: `CannotWrite` where its row can't be read, `NoMemory`.
+#[tactic(auto, unfolding(crate::specs::Asking::known_image_text))]
+pub fn known_image<S: Alter>(
+    collection: &mut Collection<S>,
+    path: &str,
+) -> Result<Option<KnownImage>, DatabaseFault>
+    ensures { IfOk result (IsKnown (state S.Store collection.old.conn)
+        (state S.Store collection.new.conn) path.now) }
+{
+    let parameters = [ValueRef::Text(path.as_bytes())];
+    let text = "SELECT bytes, sha256 FROM image WHERE path = ?1";
+    match first_row(&mut collection.conn, text, &parameters)? {
+        Some(row) => Ok(Some(image_of(&row)?)),
+        None => Ok(None),
+    }
+}
+
+/// The first path of the collection that comes behind this one in the order of their bytes, or the first of all. None where
+/// there is none. Faults: as of [`known_image`].
+#[tactic(auto, unfolding(crate::specs::Asking::next_path_text))]
+pub fn next_path<S: Alter>(
+    collection: &mut Collection<S>,
+    last: &Option<String>,
+) -> Result<Option<String>, DatabaseFault>
+    ensures { IfOk result (IsNext (state S.Store collection.old.conn)
+        (state S.Store collection.new.conn) last.now) }
+{
+    let parameters = [parameter(last)];
+    let text = "SELECT path FROM image WHERE ?1 IS NULL OR path > ?1 ORDER BY path LIMIT 1";
+    match first_row(&mut collection.conn, text, &parameters)? {
+        Some(row) => Ok(Some(path_in(&row)?)),
+        None => Ok(None),
+    }
+}

@@ -1,0 +1,244 @@
+//! What the word `collect` does.
+
+use crate::commands::print_lines;
+use crate::words::CollectWords;
+use hfs_collect::{
+    Collection, Comparison, DatabaseFiles, FileCollection, RunFault, collect_image, compare_image,
+    comparison_line, image_line, next_path,
+};
+use hfs_collection::ImageFacts;
+use hfs_commands::{Fault, ShownPath, Status};
+use std::io::IsTerminal;
+
+/// What the database tells of the program that read an image.
+const PROGRAM: &str = "hfs_tool 1.0.0";
+
+/// Puts images into a database, or compares them with what it has of them.
+pub fn collect<'a>(rt: &HostRuntime, words: &CollectWords<'a>) -> Result<u8, Fault<'a>> {
+    let ran = if words.compares {
+        run_comparison(rt, words)
+    } else {
+        run_collection(rt, words)
+    };
+    match ran {
+        Ok(status) => Ok(status),
+        Err(Stopped::Printing(fault)) => Err(fault),
+        Err(Stopped::Running(RunFault::CannotOpen)) => refuse(rt, words.database),
+        Err(Stopped::Running(RunFault::CannotWrite)) => Err(Fault::CannotWrite(words.database)),
+        Err(Stopped::Running(RunFault::NoMemory)) => Err(Fault::NoMemory),
+    }
+}
+
+/// Why a run of this word ended early.
+enum Stopped {
+    /// A line was not printed.
+    Printing(Fault<'static>),
+    /// The database was not read or written.
+    Running(RunFault),
+}
+
+impl From<Fault<'static>> for Stopped {
+    fn from(fault: Fault<'static>) -> Stopped {
+        Stopped::Printing(fault)
+    }
+}
+
+impl From<RunFault> for Stopped {
+    fn from(fault: RunFault) -> Stopped {
+        Stopped::Running(fault)
+    }
+}
+
+/// Prints that a database can't be opened.
+fn refuse(rt: &HostRuntime, path: &str) -> Result<u8, Fault<'static>> {
+    let Ok(line) = format!(in rt.alloc(); "cannot open {}\n", ShownPath(path)) else {
+        return Err(Fault::NoMemory);
+    };
+    print_lines(rt, line.as_str())?;
+    Ok(Status::DeviceFailed.number())
+}
+
+/// The files of the words' database.
+fn files_of(rt: &HostRuntime, words: &CollectWords<'_>) -> Result<DatabaseFiles, RunFault> {
+    match DatabaseFiles::of(rt, words.database) {
+        Ok(files) => Ok(files),
+        Err(_) => Err(RunFault::NoMemory),
+    }
+}
+
+/// Opens the database, or makes it.
+fn open_database(
+    rt: &HostRuntime,
+    files: &DatabaseFiles,
+    makes_tables: bool,
+) -> Result<FileCollection, RunFault> {
+    match Collection::open(rt, files, makes_tables) {
+        Ok(database) => Ok(database),
+        Err(fault) => Err(RunFault::from(fault)),
+    }
+}
+
+/// Closes the database.
+fn close_database(
+    rt: &HostRuntime,
+    files: &DatabaseFiles,
+    database: FileCollection,
+) -> Result<(), RunFault> {
+    match database.close(rt, files) {
+        Ok(()) => Ok(()),
+        Err(fault) => Err(RunFault::from(fault)),
+    }
+}
+
+/// Puts the images into the database, and answers the exit status.
+fn run_collection(rt: &HostRuntime, words: &CollectWords<'_>) -> Result<u8, Stopped> {
+    let files = files_of(rt, words)?;
+    let mut database = open_database(rt, &files, true)?;
+    let ran = collect_images(rt, &mut database, &files, words);
+    let closed = close_database(rt, &files, database);
+    let status = ran?;
+    closed?;
+    Ok(status)
+}
+
+/// Puts one image after the other into the database.
+fn collect_images(
+    rt: &HostRuntime,
+    database: &mut FileCollection,
+    files: &DatabaseFiles,
+    words: &CollectWords<'_>,
+) -> Result<u8, Stopped> {
+    let is_shown = rt.stderr().is_terminal();
+    let mut status = Status::Done;
+    for i in 0..words.images.len() {
+        if !collect_one(rt, database, files, words, words.images[i])? {
+            status = Status::DeviceFailed;
+        }
+        if is_shown {
+            // Where the terminal takes nothing more, the run goes on.
+            let _printed = eprintln!(rt; "{} of {} images", i + 1, words.images.len());
+        }
+    }
+    Ok(status.number())
+}
+
+/// Puts an image into the database and prints its line, and answers whether it could be read.
+fn collect_one(
+    rt: &HostRuntime,
+    database: &mut FileCollection,
+    files: &DatabaseFiles,
+    words: &CollectWords<'_>,
+    path: &str,
+) -> Result<bool, Stopped> {
+    if files.contain(rt, path) {
+        print_unread(rt, path)?;
+        return Ok(false);
+    }
+    let facts = ImageFacts {
+        path,
+        program: PROGRAM,
+        takes_digests: words.takes_digests,
+    };
+    match collect_image(rt, database, &facts)? {
+        Some(counts) => {
+            let Ok(line) = image_line(rt.alloc(), path, &counts) else {
+                return Err(Stopped::Running(RunFault::NoMemory));
+            };
+            print_lines(rt, line.as_str())?;
+            Ok(true)
+        }
+        None => {
+            print_unread(rt, path)?;
+            Ok(false)
+        }
+    }
+}
+
+/// Prints that an image can't be read.
+fn print_unread(rt: &HostRuntime, path: &str) -> Result<(), Fault<'static>> {
+    let Ok(line) = format!(in rt.alloc(); "cannot read {}\n", ShownPath(path)) else {
+        return Err(Fault::NoMemory);
+    };
+    print_lines(rt, line.as_str())
+}
+
+/// Compares the images with what the database has of them, and answers the exit status.
+fn run_comparison(rt: &HostRuntime, words: &CollectWords<'_>) -> Result<u8, Stopped> {
+    let files = files_of(rt, words)?;
+    if !files.are_there(rt) {
+        return Err(Stopped::Running(RunFault::CannotOpen));
+    }
+    let mut database = open_database(rt, &files, false)?;
+    let ran = if words.images.is_empty() {
+        compare_all(rt, &mut database, &files)
+    } else {
+        compare_images(rt, &mut database, &files, words)
+    };
+    let closed = close_database(rt, &files, database);
+    let is_worse = ran?;
+    closed?;
+    let status = if is_worse {
+        Status::CallRefused
+    } else {
+        Status::Done
+    };
+    Ok(status.number())
+}
+
+/// Compares one image after the other, and answers whether one isn't as the database has it.
+fn compare_images(
+    rt: &HostRuntime,
+    database: &mut FileCollection,
+    files: &DatabaseFiles,
+    words: &CollectWords<'_>,
+) -> Result<bool, Stopped> {
+    let mut is_worse = false;
+    for i in 0..words.images.len() {
+        if compare_one(rt, database, files, words.images[i])? {
+            is_worse = true;
+        }
+    }
+    Ok(is_worse)
+}
+
+/// Compares all images of the database, in the order of their paths' bytes, and answers whether one isn't as the database has it.
+fn compare_all(
+    rt: &HostRuntime,
+    database: &mut FileCollection,
+    files: &DatabaseFiles,
+) -> Result<bool, Stopped> {
+    let mut is_worse = false;
+    let mut last = None;
+    for _ in 0..u64::MAX {
+        match next_path(database, &last) {
+            Ok(Some(path)) => {
+                if compare_one(rt, database, files, path.as_str())? {
+                    is_worse = true;
+                }
+                last = Some(path);
+            }
+            Ok(None) => return Ok(is_worse),
+            Err(fault) => return Err(Stopped::Running(RunFault::from(fault))),
+        }
+    }
+    Ok(is_worse)
+}
+
+/// Compares an image and prints its line, and answers whether it isn't as the database has it.
+fn compare_one(
+    rt: &HostRuntime,
+    database: &mut FileCollection,
+    files: &DatabaseFiles,
+    path: &str,
+) -> Result<bool, Stopped> {
+    let found = if files.contain(rt, path) {
+        Comparison::Missing
+    } else {
+        compare_image(rt, database, path)?
+    };
+    let Ok(line) = comparison_line(rt.alloc(), path, found) else {
+        return Err(Stopped::Running(RunFault::NoMemory));
+    };
+    print_lines(rt, line.as_str())?;
+    Ok(found.is_worse())
+}
