@@ -3,6 +3,7 @@ import hashlib
 import struct
 from dataclasses import dataclass, field
 from datetime import datetime, timedelta
+from functools import cached_property
 from typing import Optional
 
 from remains.blocks import Directory, directory_of, number
@@ -20,11 +21,10 @@ NOT_WHOLE = 3
 
 @dataclass(frozen=True)
 class Source:
-    """How the image is called in the bag, and what the keeper asks for. `checked` is what `check` prints of it."""
+    """How the image is called in the bag, and what else the bag tells of it. `checked` is what `check` prints of it."""
     checked: str
     name: str = 'image'
     volume: Optional[str] = None
-    limit: Optional[int] = None
     has_digest: bool = True
 
 
@@ -101,8 +101,8 @@ def info_lines(content: bytes) -> str:
     return ''.join(f'{label} {value}\n' for label, value in told)
 
 
-class Bag:
-    """The list of what is written, in order: each folder where it is first wanted."""
+class Payload:
+    """The list of what is written of the items, in order: each folder where it is first wanted."""
 
     def __init__(self):
         self.written = [Written('data')]
@@ -128,20 +128,20 @@ class Bag:
         self.file(f'{folder}{slash}._{entry}', DOUBLE + struct.pack('>I', len(resource)) + finder + resource)
 
     @property
-    def payload(self) -> list[Written]:
-        return [it for it in self.written if it.content is not None and it.path.startswith('data/')]
+    def files(self) -> list[Written]:
+        return [it for it in self.written if it.content is not None]
 
     @property
     def bytes(self) -> int:
-        return sum(len(it.content) for it in self.payload)
+        return sum(len(it.content) for it in self.files)
 
 
 def manifest(files: list[Written]) -> bytes:
     return ''.join(f'{hashlib.sha256(it.content).hexdigest()}  {it.path}\n' for it in files).encode()
 
 
-def payload_of(items: list[Item], places: Places, forks: dict[int, tuple[Fork, Fork]]) -> Bag:
-    bag = Bag()
+def payload_of(items: list[Item], places: Places, forks: dict[int, tuple[Fork, Fork]]) -> Payload:
+    bag = Payload()
     for it in items:
         if it.is_root:
             continue
@@ -158,40 +158,61 @@ def payload_of(items: list[Item], places: Places, forks: dict[int, tuple[Fork, F
     return bag
 
 
-def add_tags(bag: Bag, directory: Directory, items: list[Item], lines: str, source: Source) -> None:
-    """The tag files behind a payload."""
-    digest = [f'Source-SHA256: {hashlib.sha256(directory.image).hexdigest()}'] if source.has_digest else []
-    volume = [] if source.volume is None else [f'Source-Volume: {source.volume}']
-    about = [f'External-Identifier: {plain(directory.name)}', f'Bag-Software-Agent: {PROGRAM}', f'Source-Image: {source.name}', *volume,
-             f'Source-Bytes: {len(directory.image)}', *digest, f'Payload-Oxum: {bag.bytes}.{len(bag.payload)}']
-    table = ','.join(COLUMNS) + '\r\n' + ''.join(map(row_of, items))
-    tags = {'manifest-sha256.txt': manifest(bag.payload), 'items.csv': table.encode(), 'rescue.tsv': lines.encode(),
-            'volume.txt': (info_lines(directory.content) + source.checked).encode(), 'bag-info.txt': ''.join(f'{it}\n' for it in about).encode(),
-            'bagit.txt': b'BagIt-Version: 1.0\nTag-File-Character-Encoding: UTF-8\n'}
-    order = ['bagit.txt', 'bag-info.txt', 'items.csv', 'rescue.tsv', 'volume.txt', 'manifest-sha256.txt']
-    tags['tagmanifest-sha256.txt'] = manifest([Written(it, tags[it]) for it in order])
-    bag.written += [Written(path, content) for path, content in tags.items()]
+class Remains:
+    """What remains of an image, with at most so many bytes of forks; four times its length where nothing is said."""
 
+    def __init__(self, image: bytes, limit: Optional[int] = None):
+        self.image = image
+        self.directory = directory_of(image)
+        if self.directory is None:
+            return
+        self.trees = Trees(self.directory)
+        self.items = items_of(self.trees.records)
+        self.places = Places(self.items, named_folders(self.trees.records, self.items))
+        self.forks = Forks(self.trees, self.items, 4 * len(image) if limit is None else limit).found
+        self.payload = payload_of(self.items, self.places, self.forks)
 
-def rescued(image: bytes, source: Source) -> Rescued:
-    """What remains of an image."""
-    directory = directory_of(image)
-    fault = source.checked.splitlines()[0]
-    if directory is None:
-        return Rescued(2, fault.removeprefix('refused ') + '\n')
-    trees = Trees(directory)
-    items = items_of(trees.records)
-    places = Places(items, named_folders(trees.records, items))
-    forks = Forks(trees, items, 4 * len(image) if source.limit is None else source.limit).found
-    bag = payload_of(items, places, forks)
+    @cached_property
+    def sums(self) -> bytes:
+        return manifest(self.payload.files)
 
-    verdicts = {it.number: [fork.verdict for fork in forks[it.number]] if it.number in forks else ['-', '-'] for it in items}
-    lines = ''.join('\t'.join([it.path, str(it.number), str(it.id), *verdicts[it.number]]) + '\n' for it in items)
-    add_tags(bag, directory, items, lines, source)
-    folders = sum(it.is_folder and not it.is_root for it in items)
-    whole = sum(verdicts[it] == ['whole', 'whole'] for it in forks)
-    unsure = '' if directory.catalog_begins or directory.extents_begin else ' unsure'
-    told = [fault, f'directory {directory.block}{unsure}', f'files {len(forks)}', f'folders {folders}', f'bytes {bag.bytes}', f'whole {whole}',
-            f'damaged {len(forks) - whole}']
-    status = 0 if whole == len(forks) and trees.catalog_passes else NOT_WHOLE
-    return Rescued(status, ''.join(f'{it}\n' for it in told), lines, bag.written)
+    @cached_property
+    def digest(self) -> str:
+        return hashlib.sha256(self.image).hexdigest()
+
+    def verdicts(self, item: Item) -> list[str]:
+        """Those on the forks of an item."""
+        return [it.verdict for it in self.forks[item.number]] if item.number in self.forks else ['-', '-']
+
+    @cached_property
+    def lines(self) -> str:
+        """A line for each item."""
+        return ''.join('\t'.join([it.path, str(it.number), str(it.id), *self.verdicts(it)]) + '\n' for it in self.items)
+
+    def tags(self, source: Source) -> list[Written]:
+        """The tag files behind the payload."""
+        digest = [f'Source-SHA256: {self.digest}'] if source.has_digest else []
+        volume = [] if source.volume is None else [f'Source-Volume: {source.volume}']
+        about = [f'External-Identifier: {plain(self.directory.name)}', f'Bag-Software-Agent: {PROGRAM}', f'Source-Image: {source.name}', *volume,
+                 f'Source-Bytes: {len(self.image)}', *digest, f'Payload-Oxum: {self.payload.bytes}.{len(self.payload.files)}']
+        table = ','.join(COLUMNS) + '\r\n' + ''.join(map(row_of, self.items))
+        tags = {'manifest-sha256.txt': self.sums, 'items.csv': table.encode(), 'rescue.tsv': self.lines.encode(),
+                'volume.txt': (info_lines(self.directory.content) + source.checked).encode(), 'bag-info.txt': ''.join(f'{it}\n' for it in about).encode(),
+                'bagit.txt': b'BagIt-Version: 1.0\nTag-File-Character-Encoding: UTF-8\n'}
+        order = ['bagit.txt', 'bag-info.txt', 'items.csv', 'rescue.tsv', 'volume.txt', 'manifest-sha256.txt']
+        tags['tagmanifest-sha256.txt'] = manifest([Written(it, tags[it]) for it in order])
+        return [Written(path, content) for path, content in tags.items()]
+
+    def rescued(self, source: Source) -> Rescued:
+        """How a run on the image ends, which is called so."""
+        fault = source.checked.splitlines()[0]
+        if self.directory is None:
+            return Rescued(2, fault.removeprefix('refused ') + '\n')
+        folders = sum(it.is_folder and not it.is_root for it in self.items)
+        files = [it for it in self.items if not it.is_folder]
+        whole = sum(self.verdicts(it) == ['whole', 'whole'] for it in files)
+        unsure = '' if self.directory.catalog_begins or self.directory.extents_begin else ' unsure'
+        told = [fault, f'directory {self.directory.block}{unsure}', f'files {len(files)}', f'folders {folders}', f'bytes {self.payload.bytes}',
+                f'whole {whole}', f'damaged {len(files) - whole}']
+        status = 0 if whole == len(files) and self.trees.catalog_passes else NOT_WHOLE
+        return Rescued(status, ''.join(f'{it}\n' for it in told), self.lines, self.payload.written + self.tags(source))
