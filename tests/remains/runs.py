@@ -1,5 +1,6 @@
 """Runs of the program on an image, each beside what the model tells of the same bytes."""
 import os
+import shutil
 import subprocess
 from dataclasses import dataclass, field, replace
 from pathlib import Path
@@ -84,12 +85,15 @@ class Counts:
     bytes: int = 0
     damaged: int = 0
     refused: int = 0
+    sound: int = 0
+    changed: int = 0
     skipped: list[str] = field(default_factory=list)
 
     def __str__(self) -> str:
         left_out = f'; left out: {", ".join(self.skipped)}' if self.skipped else ''
         return (f'{self.images} images ({self.refused} without a directory), {self.runs} runs, {self.bags} bags of {self.files} files, {self.folders} folders '
-                f'and {self.bytes} bytes, {self.damaged} files told damaged{left_out}')
+                f'and {self.bytes} bytes, {self.damaged} files told damaged; {self.sound} sound images as take has them, {self.changed} images changed by chance'
+                f'{left_out}')
 
 
 class Bench:
@@ -136,6 +140,13 @@ class Bench:
     def source(image: Path, content: bytes, way: str) -> tuple:
         """The word for an image, and what is given to the run."""
         return (image, None) if way == 'f' else (PIPE, content)
+
+    def keep(self, folder: Path) -> None:
+        """Keeps the image that was tried last."""
+        image = self.folder / f'image-{self.number}'
+        if image.exists():
+            folder.mkdir(exist_ok=True)
+            shutil.copy(image, folder)
 
     def want_list(self, source: tuple, words: list, wanted: Rescued, what: str) -> None:
         found = self.told('rescue', source[0], '--list', *words, given=source[1])
