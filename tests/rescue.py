@@ -8,7 +8,7 @@ of tests/damaged.sh, of tests/volumes/images.txt, of tests/hostile_images.py; th
 is that of `take`) and inside other files; images that claim much more than they hold, within bounds of time and text; and images
 changed by chance. Also: folders that are there already, or can't be written, or have no room, and words that are refused.
 
-tests/rescue.py [--seconds N] [--seed N] [--large] [--only WORD]      runs $HFS_TOOL, or the program as it is built in crates/hfs_tool/out
+tests/rescue.py [--seconds N] [--seed N] [--large] [--all] [--only WORD]      runs $HFS_TOOL, or the program as it is built in crates/hfs_tool/out
 
 Images are changed by chance for N seconds. With --large the images that claim much are as large as they were made for, else
 small ones. It prints what it counted; at a difference it says which, leaves the image in rescue.kept, and ends with status 1.
@@ -269,6 +269,10 @@ def try_words(bench: Bench) -> None:
     want(4, '/ is there already\n', 'P', '///')
     want(2, 'not an HFS volume (-57)\n', 'none', '--list')
     want(2, 'no volume 2\n', 'P', '--list', '--volume', 2)
+    with open(here / 'large', 'wb') as file:
+        file.truncate(2 ** 31 + 1)
+    want(2, 'image too large\n', 'large', '--list')
+    (here / 'large').unlink()
     want(4, 'cannot read absent\n', 'absent', 'out')
     want(4, 'cannot read absent\n', 'absent', '--list')
     want(4, 'cannot write lacking/out.0.new\n', 'P', 'lacking/out')
@@ -299,7 +303,7 @@ def try_full(bench: Bench, here: Path) -> None:
     disk.mkdir()
     content = (VOLUMES / 'hfsutils-1440k-names.img').read_bytes()
     image.write_bytes(content)
-    paths = {f'cannot write {disk}/bag.0.new/{it.path}\n' for it in Remains(content).payload.written}
+    paths = {f'cannot write {disk}/bag.0.new/{it.path}\n' for it in Remains(content).rescued(Source('sound')).written}
     for size in ('64k', '400k', '1200k'):
         if subprocess.run(['mount', '-t', 'tmpfs', '-o', f'size={size}', 'tmpfs', disk], capture_output=True).returncode:
             bench.counts.skipped.append('a full device')
@@ -361,6 +365,7 @@ def main() -> int:
     parser.add_argument('--seed', type=int, default=1, help='from which number chance is drawn (1)')
     parser.add_argument('--large', action='store_true', help='images that claim much are large')
     parser.add_argument('--only', choices=PARTS, action='append', help='this part alone')
+    parser.add_argument('--all', action='store_true', help='goes on behind an image that differs')
     parser.add_argument('--kept', type=Path, default=Path('rescue.kept'), help='the folder in which the image of a difference is left')
     words = parser.parse_args()
     if not Path(TOOL).is_file():
@@ -368,7 +373,7 @@ def main() -> int:
         return 1
     begin = time.monotonic()
     with tempfile.TemporaryDirectory() as folder:
-        bench = Bench(Path(folder))
+        bench = Bench(Path(folder), words.kept if words.all else None)
         doing = {'worked': lambda: try_worked(bench), 'cases': lambda: try_cases(bench), 'damages': lambda: try_damages(bench), 'listed': lambda: try_listed(bench),
                  'sound': lambda: try_sound(bench), 'volumes': lambda: try_volumes(bench), 'words': lambda: try_words(bench),
                  'bombs': lambda: try_bombs(bench, words.large), 'chance': lambda: try_chance(bench, words.seed, words.seconds)}
@@ -379,8 +384,9 @@ def main() -> int:
                 print(f'what remains differs, {part}: {differs}')
                 bench.keep(words.kept)
                 return 1
-    print(f'{bench.counts} in {time.monotonic() - begin:.0f} s')
-    return 0
+    memory = resource.getrusage(resource.RUSAGE_CHILDREN).ru_maxrss // 1_024
+    print(f'{bench.counts} in {time.monotonic() - begin:.0f} s, with at most {memory} MB{f"; {bench.differences} differ" * (bench.differences > 0)}')
+    return 1 if bench.differences else 0
 
 
 if __name__ == '__main__':

@@ -23,10 +23,10 @@ from collections import Counter
 from dataclasses import dataclass
 from pathlib import Path
 
-from catalog_records import Catalog
+from catalog_records import FILE, Catalog
 from driver.image import Extent
 from remains.bag import Remains, Source
-from remains.blocks import BLOCK, number
+from remains.blocks import BLOCK, decode, number
 from remains.places import host_name
 from remains.runs import TOOL, found_in, remove
 
@@ -133,14 +133,12 @@ class Damages:
 
     def name_place(self) -> int:
         """The first character of a name, that of the file in the middle of the catalog."""
-        files = self.catalog.files
-        name = files[len(files) // 2]
-        key = name.parent.to_bytes(4, 'big') + bytes([len(name.name)]) + name.name
-        for leaf in self.leaves:
-            at = self.image.find(key, self.nodes.blocks[leaf] * BLOCK, (self.nodes.blocks[leaf] + 1) * BLOCK)
-            if at >= 0:
-                return at + 5
-        raise ValueError('no such name')
+        middle = self.catalog.files[len(self.catalog.files) // 2]
+        key = bytes([6 + len(middle.name), 0]) + middle.parent.to_bytes(4, 'big') + bytes([len(middle.name)]) + middle.name
+        blocks = [self.nodes.blocks[it] for it in self.leaves]
+        records = [record for block in blocks for record in decode(self.image[block * BLOCK:(block + 1) * BLOCK]).records]
+        record = next(it for it in records if it[1:len(key)] == key[1:] and it[-102] == FILE)
+        return self.image.index(record) + 7
 
 
 # ---- what comes off

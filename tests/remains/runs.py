@@ -99,9 +99,11 @@ class Counts:
 class Bench:
     """A folder in which images are tried, one at a time."""
 
-    def __init__(self, folder: Path, counts: Optional[Counts] = None):
-        self.folder, self.counts = folder, counts or Counts()
+    def __init__(self, folder: Path, kept: Optional[Path] = None):
+        self.folder, self.counts = folder, Counts()
         self.number = 0
+        # Where an image that differs is kept, if the next ones are to be tried then.
+        self.kept, self.differences = kept, 0
 
     def told(self, *words, **how) -> tuple[int, bytes]:
         self.counts.runs += 1
@@ -118,23 +120,34 @@ class Bench:
         self.number += 1
         image = self.folder / f'image-{self.number}'
         image.write_bytes(content)
-        before = image.stat()
         source, remains = Source(self.checked(image), image.name, None, has_digest), Remains(content, limit)
         wanted = remains.rescued(source)
         self.ensure_bounds(content, wanted, what)
-        words = [] if limit is None else ['--limit', limit]
+        try:
+            self.compare(image, content, remains, source, bags, lists, [] if limit is None else ['--limit', limit], what)
+        except Differs as differs:
+            if self.kept is None:
+                raise
+            self.differences += 1
+            print(f'{what}: {differs}', flush=True)
+            self.kept.mkdir(exist_ok=True)
+            shutil.copy(image, self.kept)
+            remove(self.folder / f'bag-{self.number}')
+        image.unlink()
+        self.counts.images += 1
+        self.counts.refused += wanted.status == 2
+        return wanted
+
+    def compare(self, image: Path, content: bytes, remains: Remains, source: Source, bags: str, lists: str, words: list, what: str) -> None:
+        before, wanted = image.stat(), remains.rescued(source)
         for way in lists:
             self.want_list(self.source(image, content, way), words, wanted, what)
-        words += [] if has_digest else ['--no-digest']
+        words = words + ([] if source.has_digest else ['--no-digest'])
         for way in bags:
             bag = self.folder / f'bag-{self.number}'
             self.want_bag(self.source(image, content, way), bag, words, wanted if way == 'f' else remains.rescued(replace(source, name='stdin')), what)
         after = image.stat()
         ensure(image.read_bytes() == content and (before.st_mtime_ns, before.st_ino) == (after.st_mtime_ns, after.st_ino), f'{what}: the image is changed')
-        image.unlink()
-        self.counts.images += 1
-        self.counts.refused += wanted.status == 2
-        return wanted
 
     @staticmethod
     def source(image: Path, content: bytes, way: str) -> tuple:
