@@ -5,9 +5,10 @@ genisoimage made, three of tests/volumes and two that are made here.
 tests/rescue_counts.py [--model] [--each]      runs $HFS_TOOL, or the program as it is built in crates/hfs_tool/out
 
 For each damage a row: the files of the sound volumes; of those that `rescue` brings how many are right at their own paths (both
-forks, byte for byte), right elsewhere, told damaged, told whole with wrong bytes, and how many are gone; then how many hcopy copies
-right, how many with wrong bytes and status 0, how many not, and how often it runs on (more than two seconds), is ended by a signal,
-or refuses the whole volume. A block of the data that other bytes lie in can't be told by any program, since HFS has no sums of it.
+forks, byte for byte), right elsewhere, told damaged, told whole with wrong bytes, and how many are gone; `others` are old files
+that were deleted. Then how many hcopy copies right, how many with wrong bytes and status 0, how many not, and how often it runs on
+(more than two seconds), is ended by a signal, or refuses the whole volume. A block of the data that other bytes lie in can't be
+told by any program, since HFS has no sums of it.
 With --model the model in tests/remains stands in the program's place; with --each there is a row for each volume too. It wants
 hfsutils and genisoimage, takes minutes, and belongs to no gate.
 """
@@ -35,7 +36,7 @@ DOUBLE_HEAD = 82
 HCOPY_SECONDS = 2
 # After so many runs of hcopy that ran on, no more files of an image are asked for.
 MOST_HANGS = 3
-COLUMNS = ['files', 'right', 'elsewhere', 'told damaged', 'whole, but wrong', 'gone', 'hcopy right', 'wrong', 'not', 'runs on', 'signals', 'refused']
+COLUMNS = ['files', 'right', 'elsewhere', 'told damaged', 'whole, but wrong', 'gone', 'others', 'hcopy right', 'wrong', 'not', 'runs on', 'signals', 'refused']
 
 
 @dataclass(frozen=True)
@@ -163,6 +164,7 @@ def count_rescued(counts: Counter, files: list[File], lines: list[list[str]], wr
     for line in lines:
         if line[3] != '-':
             by_id.setdefault(int(line[2]), []).append(line)
+    counts['others'] += sum(map(len, by_id.values())) - sum(len(by_id.get(file.id, [])) for file in files)
     for file in files:
         found = set()
         for path, _, _, data, resource in by_id.get(file.id, []):
