@@ -31,7 +31,8 @@ from images import SMALL, edited
 from remains import bombs, cases, chance
 from remains.bag import Remains, Source
 from remains.runs import PIPE, TOOL, Bench, Differs, ensure, ensure_info, found_in, remove, same_text
-from volumes import WRAPPINGS, entry, found as volumes_in
+from volumes import WRAPPINGS, entry, in_disk_copy
+from volumes import found as volumes_in
 
 HERE = Path(__file__).resolve().parent
 VOLUMES = HERE / 'volumes'
@@ -217,25 +218,29 @@ def try_volumes(bench: Bench) -> None:
     """A volume inside another file is read as the bytes that are cut out; one that holds no volume, too."""
     laid = small_volume('OneFile')
     lost = with_bytes(laid, (2 * BLOCK, bytes(BLOCK)))
-    copies = [wrap(laid) for _, wrap in WRAPPINGS]
-    copies.append(bytes(BLOCK) + entry(1, 2, 64, b'Apple_HFS') + lost)
-    for n, content in enumerate(copies):
-        path, bag = bench.folder / f'file {n}', bench.folder / 'bag'
+    for n, content in enumerate([*(wrap(laid) for _, wrap in WRAPPINGS), in_disk_copy(lost), bytes(BLOCK) + entry(1, 2, 64, b'Apple_HFS') + lost]):
+        path = bench.folder / f'file {n}'
         path.write_bytes(content)
-        for k, (_, start, size, _) in enumerate(volumes_in(content), 1):
-            told = bench.told('volumes', path)[1].decode().splitlines()[k - 1].split('\t')
-            line = ' '.join(it for it in told if not it.startswith('sum '))
-            remains = Remains(content[start:start + size])
-            for source, given in ((path, None), (PIPE, content)):
-                wanted = remains.rescued(Source(bench.told('check', path, '--volume', k)[1].decode(), Path(source).name, line))
-                same_text(bench.told('rescue', source, '--list', '--volume', k, given=given), (wanted.status, wanted.listed.encode()), f'volume {k} of file {n}')
-                same_text(bench.told('rescue', source, bag, '--volume', k, given=given), (wanted.status, wanted.printed.encode()), f'volume {k} of file {n}')
-                if wanted.status != 2:
-                    bench.compare_bag(bag, wanted, f'volume {k} of file {n}')
-                    remove(bag)
+        for number, (_, start, size, _) in enumerate(volumes_in(content), 1):
+            with bench.watching(path):
+                try_volume(bench, path, number, content, content[start:start + size])
             bench.counts.images += 1
-        same_text(bench.told('rescue', path, bag, '--volume', 9), (2, b'no volume 9\n'), 'a volume that there is not')
+        same_text(bench.told('rescue', path, bench.folder / 'bag', '--volume', 9), (2, b'no volume 9\n'), 'a volume that there is not')
         path.unlink()
+
+
+def try_volume(bench: Bench, path: Path, number: int, content: bytes, volume: bytes) -> None:
+    """The volume of that number in a file."""
+    bag, remains, what = bench.folder / 'bag', Remains(volume), f'volume {number} of {path.name}'
+    remove(bag)
+    fields = bench.told('volumes', path)[1].decode().splitlines()[number - 1].split('\t')
+    line, checked = ' '.join(it for it in fields if not it.startswith('sum ')), bench.told('check', path, '--volume', number)[1].decode()
+    for source, given in ((path, None), (PIPE, content)):
+        wanted = remains.rescued(Source(checked, Path(source).name, line))
+        same_text(bench.told('rescue', source, '--list', '--volume', number, given=given), (wanted.status, wanted.listed.encode()), what)
+        same_text(bench.told('rescue', source, bag, '--volume', number, given=given), (wanted.status, wanted.printed.encode()), what)
+        bench.compare_bag(bag, wanted, what)
+        remove(bag)
 
 
 def is_refused(*words) -> None:
@@ -325,22 +330,27 @@ def processor_time() -> float:
 def try_bombs(bench: Bench, is_large: bool) -> None:
     """Images that claim much are done in the time of what they are, and of what is written."""
     for what, image in bombs.all_bombs(is_large):
-        path, bag = bench.folder / 'image', bench.folder / 'bag'
+        path = bench.folder / 'image'
         path.write_bytes(image)
-        wanted = Remains(image).rescued(Source(bench.checked(path), path.name))
-        bench.ensure_bounds(image, wanted, what)
-        size = (len(image) + len(wanted.lines.encode()) + sum(BLOCK + len(it.content or b'') for it in wanted.written)) / (1 << 20)
-        allowed = SLOWNESS * (SECONDS_FOR_ALL + SECONDS_FOR_MEGABYTE * size)
-        for words, given, text in (((path, '--list'), None, wanted.listed), ((PIPE, '--list'), image, wanted.listed), ((path, bag), None, wanted.printed)):
-            begin = processor_time()
-            found = bench.told('rescue', *words, given=given)
-            used = processor_time() - begin
-            same_text(found, (wanted.status, text.encode()), what)
-            ensure(used <= allowed, f'{what}: {used:.1f} s of processor time, where {allowed:.1f} s are enough for {size:.1f} MB')
-        bench.compare_bag(bag, wanted, what)
-        remove(bag)
-        path.unlink()
+        with bench.watching(path):
+            try_bomb(bench, path, image, what)
         bench.counts.images += 1
+
+
+def try_bomb(bench: Bench, path: Path, image: bytes, what: str) -> None:
+    bag, wanted = bench.folder / 'bag', Remains(image).rescued(Source(bench.checked(path), path.name))
+    remove(bag)
+    bench.ensure_bounds(image, wanted, what)
+    size = (len(image) + len(wanted.lines.encode()) + sum(BLOCK + len(it.content or b'') for it in wanted.written)) / (1 << 20)
+    allowed = SLOWNESS * (SECONDS_FOR_ALL + SECONDS_FOR_MEGABYTE * size)
+    for words, given, text in (((path, '--list'), None, wanted.listed), ((PIPE, '--list'), image, wanted.listed), ((path, bag), None, wanted.printed)):
+        begin = processor_time()
+        found = bench.told('rescue', *words, given=given)
+        used = processor_time() - begin
+        same_text(found, (wanted.status, text.encode()), what)
+        ensure(used <= allowed, f'{what}: {used:.1f} s of processor time, where {allowed:.1f} s are enough for {size:.1f} MB')
+        bench.counts.slowest = max(bench.counts.slowest, (used / allowed, f'{what}: {used:.2f} s for {size:.1f} MB'))
+    bench.compare_bag(bag, wanted, what)
 
 
 def try_chance(bench: Bench, seed: int, seconds: float) -> None:

@@ -2,6 +2,7 @@
 import os
 import shutil
 import subprocess
+from contextlib import contextmanager
 from dataclasses import dataclass, field, replace
 from pathlib import Path
 from typing import Optional
@@ -87,13 +88,16 @@ class Counts:
     refused: int = 0
     sound: int = 0
     changed: int = 0
+    # Of the images that claim much the one that took most of the time that it may take.
+    slowest: tuple[float, str] = (0, '')
     skipped: list[str] = field(default_factory=list)
 
     def __str__(self) -> str:
         left_out = f'; left out: {", ".join(self.skipped)}' if self.skipped else ''
+        slowest = f'; of those that claim much the slowest is {self.slowest[1]}' if self.slowest[1] else ''
         return (f'{self.images} images ({self.refused} without a directory), {self.runs} runs, {self.bags} bags of {self.files} files, {self.folders} folders '
                 f'and {self.bytes} bytes, {self.damaged} files told damaged; {self.sound} sound images as take has them, {self.changed} images changed by chance'
-                f'{left_out}')
+                f'{slowest}{left_out}')
 
 
 class Bench:
@@ -123,20 +127,26 @@ class Bench:
         source, remains = Source(self.checked(image), image.name, None, has_digest), Remains(content, limit)
         wanted = remains.rescued(source)
         self.ensure_bounds(content, wanted, what)
-        try:
+        with self.watching(image):
             self.compare(image, content, remains, source, bags, lists, [] if limit is None else ['--limit', limit], what)
-        except Differs as differs:
-            if self.kept is None:
-                raise
-            self.differences += 1
-            print(f'{what}: {differs}', flush=True)
-            self.kept.mkdir(exist_ok=True)
-            shutil.copy(image, self.kept)
-            remove(self.folder / f'bag-{self.number}')
+        remove(self.folder / f'bag-{self.number}')
         image.unlink()
         self.counts.images += 1
         self.counts.refused += wanted.status == 2
         return wanted
+
+    @contextmanager
+    def watching(self, image: Path):
+        """Tells of a difference and keeps the image, where the next ones are to be tried all the same."""
+        try:
+            yield
+        except Differs as differs:
+            if self.kept is None:
+                raise
+            self.differences += 1
+            print(differs, flush=True)
+            self.kept.mkdir(exist_ok=True)
+            shutil.copy(image, self.kept)
 
     def compare(self, image: Path, content: bytes, remains: Remains, source: Source, bags: str, lists: str, words: list, what: str) -> None:
         before, wanted = image.stat(), remains.rescued(source)
