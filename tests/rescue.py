@@ -138,10 +138,15 @@ def try_worked(bench: Bench) -> None:
         bench.attempt(image, what, bags='f', lists='', limit=limit, has_digest=False)
 
 
+def ways(number: int) -> tuple[str, str]:
+    """How the bag of an image is made, and how it is listed: by its path and out of a pipe by turns."""
+    return ('f', 'p') if number % 2 else ('p', 'f')
+
+
 def try_cases(bench: Bench) -> None:
     """An image for each rule, with rows by hand."""
-    for it in cases.all_cases():
-        wanted = bench.attempt(it.image, it.name, limit=it.limit, bags='f' if bench.counts.images % 4 else 'fp')
+    for number, it in enumerate(cases.all_cases()):
+        wanted = bench.attempt(it.image, it.name, *ways(number), limit=it.limit)
         paths = {written.path for written in wanted.written}
         lines = ''.join(row.replace('|', '\t') + '\n' for row in it.rows)
         ensure(wanted.lines == lines, f'{it.name}: the model tells {wanted.lines!r}')
@@ -188,7 +193,7 @@ def try_listed(bench: Bench) -> None:
             bases[name] = edited(bases[base], edits)
             continue
         about, edits, _ = (part.strip(' ') for part in line.split(';', 2))
-        bench.attempt(edited(bases[about.split(' ')[-1]], edits), f'images.txt, line {number}', bags='f' if number % 4 else 'p', lists='p' if number % 4 else 'f')
+        bench.attempt(edited(bases[about.split(' ')[-1]], edits), f'images.txt, line {number}', *ways(number))
 
 
 # ---- laws and words
@@ -361,8 +366,7 @@ def try_chance(bench: Bench, seed: int, seconds: float) -> None:
     while time.monotonic() < end:
         number += 1
         image, limit = chance.changed(bases, seed, number)
-        way = 'fp'[number % 2]
-        bench.attempt(image, f'seed {seed}, image {number}', bags=way, lists='pf'[number % 2], limit=limit, has_digest=number % 5 > 0)
+        bench.attempt(image, f'seed {seed}, image {number}', *ways(number), limit=limit, has_digest=number % 5 > 0)
     bench.counts.changed = number
 
 
