@@ -76,7 +76,7 @@ def which_of_both():
     both, catalog, extents, none = (True, True), (False, True), (True, False), (False, False)
     for two, alternate, number in ((both, both, 2), (catalog, both, 62), (extents, both, 62), (catalog, catalog, 2), (extents, catalog, 62), (none, both, 62)):
         yield Case(f'block 2 has {two}, the other {alternate}', laid(two, alternate), rows, f'directory {number}')
-    old = ['|0|2|-|-', '=old/f|1|16|whole|whole']
+    old = [ROOTS_ROW, '=old/f|1|16|whole|whole']
     yield Case('the extents tree alone begins, in block 2', laid(extents, extents), old, 'directory 2')
     yield Case('the extents tree alone begins, in the other', laid(none, extents), old, 'directory 2 unsure')
     yield Case('an extent of no blocks is none', skipped_extent(), rows)
@@ -84,6 +84,30 @@ def which_of_both():
         image = bytearray(Laid().catalog(file(2, b'f', 16)).image())
         image[2 * BLOCK + at:2 * BLOCK + at + len(value)] = value
         yield Case(f'block 2 with {value.hex()} at {at} will not do', bytes(image), rows, 'directory 62')
+
+
+@case
+def small_images():
+    """Images of three blocks and a few more: the block before the last may be block 1 or block 2."""
+    def laid(blocks, at, more=0):
+        image = Laid(blocks=64)
+        return bytes(at * BLOCK) + image.directory() + bytes((blocks - at - 1) * BLOCK + more)
+
+    for blocks, at, more in ((3, 0, 0), (3, 1, 0), (3, 2, 0), (3, 2, 511), (4, 2, 0), (4, 3, 0), (5, 0, 0), (5, 4, 1)):
+        yield Case(f'{blocks} blocks and {more} bytes, the directory in block {at}', laid(blocks, at, more), [], f'directory {at} unsure', status=3)
+    both = bytearray(laid(3, 1))
+    both[2 * BLOCK:] = both[BLOCK:2 * BLOCK]
+    yield Case('three blocks with two directories', bytes(both), [], 'directory 2 unsure')
+    tail = Laid().catalog(file(2, b'f', 16))
+    yield Case('a directory before the last whole block', tail.image(at=[62]) + bytes(511), [ROOTS_ROW, 'f|1|16|whole|whole'], 'directory 62')
+    yield Case('a directory before a whole block more', tail.image(at=[62]) + bytes(512), [ROOTS_ROW, 'f|1|16|whole|whole'], 'directory 62')
+    moved = Laid().catalog(file(2, b'f', 16, (5, [(0, 1)])))
+    moved.fields[28] = (2, 0)
+    # the catalog's six blocks are those from the directory on, of which the last is its leaf
+    yield Case('allocation blocks from the first block on', moved.image(), [ROOTS_ROW, 'f|1|16|shared|whole'], 'directory 2 unsure', status=3)
+    far = Laid().catalog(file(2, b'f', 16, (5, [(0, 1)])))
+    far.fields[28] = (2, 65_535)
+    yield Case('allocation blocks behind the image', far.image(), [ROOTS_ROW, '=old/f|1|16|missing 5|whole'], 'directory 2 unsure', status=3)
 
 
 def skipped_extent():
@@ -341,6 +365,44 @@ def below_old():
                [ROOTS_ROW, 'in|1|20|-|-', 'was/f|2|16|whole|whole', 'was/sub|3|31|-|-', 'was/sub/g|4|17|whole|whole', '=old/was|5|30|-|-',
                 '=old/in/h|6|18|whole|whole', '=old/in/IN|7|21|-|-', '=old/in/IN/i|8|19|whole|whole', '=old/=lost/77/j|9|22|whole|whole'],
                folders=['was', '=old/was', '=old/in'], absent=['._was', '=old/._in'])
+
+
+@case
+def texts_of_tables():
+    """What stands in the table and in bag-info.txt: dates, types, names with commas, and the name of the volume."""
+    files = [file(2, b'a,b', 16, finder=b'a,"b\r\x8e\\\x7f' + bytes(range(24)), flags=0x81, modified=2_082_844_799),
+             file(2, b'c', 17, finder=b'TEXTttxt', modified=2_082_844_800, flags=0x80), file(2, b'd', 18, modified=4_294_967_295), file(2, b'e', 19, modified=1),
+             folder(2, b'f,g', 20, finder=b'\xff' * 32, modified=5_097_600)]
+    rows = [ROOTS_ROW, 'a,b|1|16|whole|whole', 'c|2|17|whole|whole', 'd|3|18|whole|whole', 'e|4|19|whole|whole', 'f,g|5|20|-|-']
+    for name, length in ((b'A\\ b\x8e\r', None), (b'', None), (b'x' * 27, None), (b'y' * 27, 255), (b'z', 0)):
+        image = Laid(catalog_nodes=8).catalog(*files)
+        image.name = name
+        content = bytearray(image.image())
+        if length is not None:
+            content[2 * BLOCK + 36] = length
+        yield Case(f'a volume of the name {name!r} with the length {length}', bytes(content), rows)
+
+
+@case
+def records_at_odd_places():
+    image = Laid().catalog(file(2, b'f', 16)).damaged()
+    image.node(37, 1, leaf([b'\1\2\3', folder(1, b'D', ROOT), b'', b'\xff', file(2, b'f', 16), thread(30, 2, b'T')]))
+    yield Case('records that begin at odd places', image.image(), [ROOTS_ROW, 'f|1|16|whole|whole'], folders=['T'])
+
+
+@case
+def folders_by_old_threads():
+    """Threads of old leaves name folders, too; what an old folder holds lies where it would lie without `=old`."""
+    image = Laid(catalog_nodes=8).catalog(file(30, b'f', 16), thread(31, 2, b'same'), thread(32, 2, b'SAME')).damaged()
+    image.node(37, 5, leaf([folder(2, b'was', 40), thread(30, 40, b'T'), thread(31, 2, b'again'), thread(33, 30, b'U')]))
+    yield Case('folders that old threads name', image.image(), [ROOTS_ROW, 'was/T/f|1|16|whole|whole', '=old/was|2|40|-|-'],
+               folders=['was/T', 'was/T/U', 'same', 'SAME=t32'], absent=['again', '=old/was/T', '._was'])
+    deep = [thread(100 + n, 101 + n, b'%031d' % n) for n in range(30)] + [thread(130, 2, b'%031d' % 30)]
+    image = Laid(blocks=128, catalog_nodes=60).catalog(*deep, file(100, b'f', 16))
+    paths = '/'.join(f'{n:031}' for n in range(30, 5, -1))
+    rest = '/'.join(f'{n:031}' for n in range(5, -1, -1))
+    yield Case('folders that threads name, too deep in one another', image.image(), [ROOTS_ROW, f'=lost/106/{rest}/f|1|16|whole|whole'],
+               folders=[paths, f'=lost/106/{rest}'])
 
 
 # ---- forks
