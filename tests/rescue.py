@@ -6,7 +6,8 @@ pipe, beside `--list`.
 The images: worked examples whose lines stand here as a hand wrote them; images for one rule each, with rows by hand; the damages
 of tests/damaged.sh, of tests/volumes/images.txt, of tests/hostile_images.py; the volumes in tests/volumes, sound (where the payload
 is that of `take`) and inside other files; images that claim much more than they hold, within bounds of time and text; and images
-changed by chance. Also: folders that are there already, or can't be written, or have no room, and words that are refused.
+changed by chance. Also: folders that are there already, or can't be written, or have no room, words that are refused, and each step of
+writing and each reading that fails, which strace does.
 
 tests/rescue.py [--seconds N] [--seed N] [--large] [--all] [--only WORD]      runs $HFS_TOOL, or the program as it is built in crates/hfs_tool/out
 
@@ -25,6 +26,7 @@ import sys
 import tempfile
 import time
 from pathlib import Path
+from typing import Optional
 
 import hostile_images
 from images import SMALL, edited
@@ -200,9 +202,6 @@ def try_listed(bench: Bench) -> None:
 
 def try_sound(bench: Bench) -> None:
     """Of sound images the payload is that of `take`."""
-    if bench.told('take', bench.folder / 'none', bench.folder / 'bag')[0] != 4:
-        bench.counts.skipped.append('take')
-        return
     images = {name: small_volume(name) for name in SMALL} | {it.name: it.read_bytes() for it in VOLUMES.glob('*.img') if not it.name.startswith('refused')}
     images['items'] = made(bench, 40, 'mkdir\t2\ta/b;create\t16\t.x;create\t2\tA,"b\\;create\t2\tcon.c;newid\t2\tA,"b\\;setinfo\t2\tcon.c\t1\t3029529600\t4294967295\t'
                            + '0123456789abcdef' * 4)
@@ -325,6 +324,56 @@ def try_full(bench: Bench, here: Path) -> None:
             subprocess.run(['umount', disk], check=True)
 
 
+def try_failing(bench: Bench) -> None:
+    """Each step of writing and each reading of an image fails once: its path is told, and nothing is left."""
+    if not shutil.which('strace') or subprocess.run(['strace', '-o', '/dev/null', 'true'], capture_output=True).returncode:
+        bench.counts.skipped.append('steps that fail')
+        return
+    deep = made(bench, 40, 'mkdir\t2\tx;mkdir\t16\ty;create\t17\tf;create\t2\tg')
+    for content in (small_volume('OneFile'), with_bytes(deep, (place_of(deep, key(16, b'y')) + 8, b'\x09'))):
+        Failing(bench, content).try_all()
+
+
+class Failing:
+    """Runs on an image in which calls of the system fail, which strace makes them do."""
+
+    def __init__(self, bench: Bench, content: bytes):
+        self.bench, self.here = bench, bench.folder / 'failing'
+        self.here.mkdir(exist_ok=True)
+        self.image, self.bag = self.here / 'image', self.here / 'bag'
+        self.image.write_bytes(content)
+        self.whole = Remains(content).rescued(Source(bench.checked(self.image), 'image'))
+
+    def run(self, calls: str, how: str, path: Optional[Path] = None) -> tuple[int, str]:
+        words = ['strace', '-f', '-qq', '-o', self.here / 'calls', *(('-P', path) if path else ()), '-e', f'trace={calls}', '-e', f'inject={calls}:{how}']
+        ran = subprocess.run([*words, TOOL, 'rescue', self.image, self.bag], capture_output=True, text=True, timeout=600)
+        left = sorted(it.name for it in self.here.iterdir() if it.name not in ('image', 'calls'))
+        ensure(left == ['bag'] * (ran.returncode in (0, 3)), f'{calls} of {path} fail: {left} is left')
+        remove(self.bag)
+        return ran.returncode, ran.stdout
+
+    def want(self, wanted: tuple[int, str], calls: str, how: str, path: Optional[Path] = None) -> None:
+        found = self.run(calls, how, path)
+        ensure(found == wanted, f'{calls} of {path} fail: {found} in place of {wanted}')
+        self.bench.counts.failed += 1
+
+    def try_all(self) -> None:
+        wanted = self.whole.status, self.whole.printed
+        self.want(wanted, '?utimensat,?futimesat,?utime,?utimes', 'error=EPERM')
+        steps = [(Path(f'{self.bag}.0.new'), None), *((Path(f'{self.bag}.0.new') / it.path, it.content) for it in self.whole.written)]
+        for path, content in steps:
+            self.want((4, f'cannot write {path}\n'), '?mkdir,?mkdirat' if content is None else '?open,?openat,?creat', 'error=ENOSPC', path)
+            if content:
+                self.want((4, f'cannot write {path}\n'), '?write,?writev,?pwrite64', 'error=ENOSPC', path)
+        self.want((4, f'cannot write {self.bag}\n'), '?rename,?renameat,?renameat2', 'error=EIO')
+        number = 1
+        while (found := self.run('?read,?pread64,?readv,?preadv', f'error=EIO:when={number}', self.image)) != wanted:
+            ensure(found == (4, f'cannot read {self.image}\n'), f'reading {number} of the image fails: {found}')
+            self.bench.counts.failed += 1
+            number += 1
+        ensure(number > 1, 'no reading of the image fails')
+
+
 # ---- bounds and chance
 
 def processor_time() -> float:
@@ -370,7 +419,7 @@ def try_chance(bench: Bench, seed: int, seconds: float) -> None:
     bench.counts.changed = number
 
 
-PARTS = ('worked', 'cases', 'damages', 'listed', 'sound', 'volumes', 'words', 'bombs', 'chance')
+PARTS = ('worked', 'cases', 'damages', 'listed', 'sound', 'volumes', 'words', 'failing', 'bombs', 'chance')
 
 
 def main() -> int:
@@ -389,7 +438,7 @@ def main() -> int:
     with tempfile.TemporaryDirectory() as folder:
         bench = Bench(Path(folder), words.kept if words.all else None)
         doing = {'worked': lambda: try_worked(bench), 'cases': lambda: try_cases(bench), 'damages': lambda: try_damages(bench), 'listed': lambda: try_listed(bench),
-                 'sound': lambda: try_sound(bench), 'volumes': lambda: try_volumes(bench), 'words': lambda: try_words(bench),
+                 'sound': lambda: try_sound(bench), 'volumes': lambda: try_volumes(bench), 'words': lambda: try_words(bench), 'failing': lambda: try_failing(bench),
                  'bombs': lambda: try_bombs(bench, words.large), 'chance': lambda: try_chance(bench, words.seed, words.seconds)}
         for part in words.only or PARTS:
             try:

@@ -88,6 +88,7 @@ class Counts:
     refused: int = 0
     sound: int = 0
     changed: int = 0
+    failed: int = 0
     # Of the images that claim much the one that took most of the time that it may take.
     slowest: tuple[float, str] = (0, '')
     skipped: list[str] = field(default_factory=list)
@@ -96,7 +97,7 @@ class Counts:
         left_out = f'; left out: {", ".join(self.skipped)}' if self.skipped else ''
         slowest = f'; of those that claim much the slowest is {self.slowest[1]}' if self.slowest[1] else ''
         return (f'{self.images} images ({self.refused} without a directory), {self.runs} runs, {self.bags} bags of {self.files} files, {self.folders} folders '
-                f'and {self.bytes} bytes, {self.damaged} files told damaged; {self.sound} sound images as take has them, {self.changed} images changed by chance'
+                f'and {self.bytes} bytes, {self.damaged} files told damaged; {self.sound} sound images as take has them, {self.changed} images changed by chance, {self.failed} steps that failed'
                 f'{slowest}{left_out}')
 
 
