@@ -284,6 +284,8 @@ def try_words(bench: Bench) -> None:
     (here / 'large').unlink()
     want(4, 'cannot read absent\n', 'absent', 'out')
     want(4, 'cannot read absent\n', 'absent', '--list')
+    want(4, 'cannot read folder\n', 'folder', 'out')
+    want(2, 'image too short\n', '/dev/null', 'out')
     want(4, 'cannot write lacking/out.0.new\n', 'P', 'lacking/out')
     for length in (0, 1, 1_535):
         (here / 'none').write_bytes(bytes(length))
