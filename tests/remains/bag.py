@@ -6,7 +6,7 @@ from datetime import datetime, timedelta
 from functools import cached_property
 from typing import Optional
 
-from remains.blocks import Directory, directory_of, number
+from remains.blocks import directory_of, number
 from remains.forks import Fork, Forks
 from remains.places import Item, Places, items_of, named_folders
 from remains.trees import Trees

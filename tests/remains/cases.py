@@ -4,7 +4,6 @@ paths below the payload that have to be there, `absent` such as mustn't."""
 from dataclasses import dataclass, field
 from typing import Callable, Iterator, Optional
 
-from hostile_images import Tree
 from remains.blocks import BLOCK
 from remains.laid import ROOT, Laid, bits, file, folder, header_node, leaf, map_node, overflow, thread, three
 

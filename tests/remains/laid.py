@@ -51,10 +51,6 @@ def leaf(records: list[bytes], forward: int = 0, backward: int = 0, height: int 
     return node(LEAF, height, records, forward, backward)
 
 
-def sized(content: bytes, blocks: int) -> bytes:
-    return bytes(n % 251 for n in range(blocks * BLOCK)) if content is None else content
-
-
 class Laid:
     """A volume of so many blocks of 512 bytes, with allocation blocks of so many of them. The extents tree has its first
     allocation blocks, the catalog those behind them, but where extents are named."""
