@@ -64,3 +64,44 @@ fn cut_forks(rt: HostRuntime) -> Result<(), Fail> {
     );
     Ok(())
 }
+
+/// The last block of the file lies behind the end of the image.
+#[test]
+fn missing_blocks(rt: HostRuntime) -> Result<(), Fail> {
+    let alloc = rt.alloc();
+    let image = small_image(alloc, SmallVolume::OneFile)?;
+    if image.len() != 32_768 {
+        return Err(Fail::new("another length"));
+    }
+    let wanted = "x\t0\t0\t-\t-\nx\t1\t0\tmissing 464\twhole\n";
+    assert!(rt; tells(alloc, &image[..10_240], None, wanted)?);
+    Ok(())
+}
+
+/// The overflow record names a block that the file has already.
+#[test]
+fn shared_blocks(rt: HostRuntime) -> Result<(), Fail> {
+    let alloc = rt.alloc();
+    let mut image = small_image(alloc, SmallVolume::OneFile)?;
+    lay(&mut image, 5, 22, &[0, 14])?;
+    assert!(rt;
+        tells(
+            alloc,
+            &image,
+            None,
+            "x\t0\t0\t-\t-\nx\t1\t0\tshared\twhole\n"
+        )?
+    );
+    Ok(())
+}
+
+/// A fork that would bring the bytes above the limit is left.
+#[test]
+fn forks_above_the_limit(rt: HostRuntime) -> Result<(), Fail> {
+    let alloc = rt.alloc();
+    let image = small_image(alloc, SmallVolume::OneFile)?;
+    let wanted = "x\t0\t0\t-\t-\nx\t1\t0\tleft\twhole\n";
+    assert!(rt; tells(alloc, &image, Some(1999), wanted)?);
+    assert!(rt; tells(alloc, &image, Some(2000), WHOLE)?);
+    Ok(())
+}
