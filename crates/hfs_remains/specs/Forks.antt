@@ -7,11 +7,8 @@ use Rattle.hfs_fields.specs.declared.extent.Extent.{Extent}
 use Rattle.hfs_fields.specs.declared.file_record.ForkRecord.{ForkRecord}
 use Rattle.hfs_fields.specs.Records.{is_file, file_record_of}
 use Rattle.hfs_space.specs.Extents.{Overflow, extent_blocks}
-use Rattle.hfs_space.specs.Forks.{joined}
-use Rattle.hfs_space.specs.TreeFiles.{node_count}
-use Rattle.hfs_check.specs.Parts.{Blocks}
 use Rattle.hfs_rescue.specs.Allocation.{is_there}
-use Rattle.hfs_rescue.specs.TreeFiles.{FileBlocks, first_nodes}
+use Rattle.hfs_rescue.specs.TreeFiles.{FileBlocks}
 use Rattle.hfs_rescue.specs.OverflowRecords.{fork_extents}
 use Rattle.hfs_remains.specs.declared.forks.Fork.{Fork}
 
@@ -49,11 +46,6 @@ fork_places total records mdb fork = map (there total mdb) (fork_blocks records 
 -- how many bytes a fork has: its length, or as many as its blocks hold
 unfoldable pub fork_length : Overflow → Mdb → Fork → ℕ
 fork_length records mdb fork = min fork.len (length (fork_blocks records mdb fork) * mdb.allocation_block_size)
-
--- its bytes: a missing block gives zeros
-unfoldable pub fork_bytes : ℕ → Blocks → Overflow → Mdb → Fork → List ℕ
-fork_bytes total blocks records mdb fork =
-    take (fork_length records mdb fork) (joined (first_nodes blocks mdb (fork_places total records mdb fork) (node_count (fork_length records mdb fork))))
 
 -- of so many bytes in these blocks, those for which a block is missing
 abbrev pub missing_in : ℕ → ℕ → FileBlocks → ℕ
