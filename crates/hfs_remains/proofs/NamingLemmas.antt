@@ -4,7 +4,7 @@ use Rattle.std.specs.Prelude.{nat_le}
 use Rattle.std.specs.Option.{SomeIff}
 use Rattle.std.proofs.lemmas.Bool.{and_parts, eqb-true, le-leb}
 use Rattle.hfs_fields.specs.declared.thread_record.ThreadRecord.{ThreadRecord}
-use Rattle.hfs_fields.specs.Records.{begins_thread, has_short_name, is_dir_thread, thread_record_of, type_byte}
+use Rattle.hfs_fields.specs.Records.{begins_thread, has_short_name, is_dir_thread, type_byte}
 
 pub begins-short : (body : List ℕ) → is_dir_thread body ≡ true → begins_thread body ≡ has_short_name body
 unfolding begins_thread

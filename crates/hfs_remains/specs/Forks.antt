@@ -1,9 +1,8 @@
 -- The forks of files that remain: their blocks, and their bytes.
-use Rattle.std.specs.Prelude.{ℕ, ◌+◌, ◌-◌, ◌*◌, Bool, if◌then◌else◌, List, [], ◌∷◌, map, take, length, Option, Some, None, min}
+use Rattle.std.specs.Prelude.{ℕ, ◌+◌, ◌-◌, ◌*◌, if◌then◌else◌, List, [], ◌∷◌, map, take, length, Option, Some, None, min}
 use Rattle.std.specs.Int.{div_ceil}
 use Rattle.std.specs.Option.{is_some}
 use Rattle.hfs_fields.specs.declared.mdb.Mdb.{Mdb}
-use Rattle.hfs_fields.specs.declared.extent.Extent.{Extent}
 use Rattle.hfs_fields.specs.declared.file_record.ForkRecord.{ForkRecord}
 use Rattle.hfs_fields.specs.Records.{is_file, file_record_of}
 use Rattle.hfs_space.specs.Extents.{Overflow, extent_blocks}
