@@ -16,4 +16,5 @@ pub use crate::giving::give_image;
 pub use crate::image::TakenImage;
 pub use crate::taking::{folder_path, take, taken_text};
 pub use crate::words::TakeWords;
+pub use hfs_bag::BagSums;
 pub use hfs_image_items::Watch;
