@@ -1,5 +1,5 @@
 -- Bags of images whose bytes may be known.
-use Rattle.std.proofs.Common.{◌≡◌, ℕ, true, List, [], ◌∷◌, ◌++◌, length, Option, Some, None, refl, sym, ap, subst, ◌∙◌}
+use Rattle.std.proofs.Common.{◌≡◌, ℕ, true, List, [], ◌∷◌, ◌++◌, length, Option, Some, None, Result, Ok, Err, OnOk, OnErr, refl, sym, ap, subst, ◌∙◌}
 use Rattle.std.specs.Prelude.{codes}
 use Rattle.std.specs.Borrow.{Bor}
 use Rattle.std.specs.Fmt.{decimal}
@@ -7,8 +7,10 @@ use Rattle.std.proofs.lemmas.Bool.{eq-eqb}
 use Rattle.hfs_bag.specs.declared.facts.BagFacts.{BagFacts}
 use Rattle.hfs_bag.specs.Bags.{bytes_in, files_in, manifest, payload}
 use Rattle.hfs_bag.specs.Items.{BagItem}
+use Rattle.hfs_bag.specs.Sources.{WhereKnown}
 use Rattle.hfs_bag.specs.Tags.{bag_of, declaration_file, image_digest_line, info_text, manifest_file, oxum_text, table_file, volume_line}
-use Rattle.hfs_shelves.specs.Entries.{ShelfEntry, file}
+use Rattle.hfs_shelves.specs.Entries.{IsBeginning, ShelfEntry, file}
+use Rattle.hfs_shelves.proofs.Beginnings.{begins_appended}
 use Rattle.hfs_texts.specs.Lines.{line}
 use Rattle.hfs_image_items.specs.declared.items.CameItem.{CameItem}
 use Rattle.hfs_image_items.specs.declared.reading.Reading.{Reading}
@@ -22,7 +24,7 @@ use Rattle.hfs_take.specs.Bags.{OfBag, TellsOf, image_bag, text_in}
 
 -- ---- what tells the same makes the same bag
 
-line_told : Option (List ℕ) → List ℕ
+abbrev line_told : Option (List ℕ) → List ℕ
 line_told None = []
 line_told (Some told) = line (codes "Source-Volume:") told
 
@@ -42,7 +44,7 @@ info-same f g identifier program image volume len digest bytes files = λ i. lin
     ++ line (codes "Payload-Oxum:") (oxum_text bytes files)
 
 -- a bag by the texts of its report and of its facts
-bag-with : List BagItem → List ℕ → List ℕ → List ℕ → List ShelfEntry
+abbrev bag-with : List BagItem → List ℕ → List ℕ → List ℕ → List ShelfEntry
 bag-with items table report info = payload items ++
     (manifest_file items ∷ table_file table ∷ file (codes "volume.txt") report ∷ file (codes "bag-info.txt") info ∷ declaration_file
     ∷ file (codes "tagmanifest-sha256.txt")
@@ -74,3 +76,26 @@ pub none-known : (known : Option (List ℕ)) (len : ℕ) (line : Option (List �
     → ((bag : List ShelfEntry) → P bag) → OfBag (opened_value known len) line words P
 none-known None len line words P all = tt
 none-known (Some image) len line words P all = λ same facts told. all (image_bag image facts)
+
+-- what a call did with a bag of the source's state
+pub given-ok : {A E : Type 0} (r : Result A E) (opened : OpenedValue) (line : Option (List ℕ)) (words : TakeWords) (facts : BagFacts) (left : List ToldRow) (came : CameItem)
+    (reading : Reading) (P : List ShelfEntry → Type 0) → OfKnown opened.known opened.len (λ image. TellsOf image line words facts)
+    → OnOk r (WhereKnown (source_of opened left came reading) (P (bag_of (source_of opened left came reading).all (source_of opened left came reading).tables facts)))
+    → OnOk r (OfBag opened line words P)
+given-ok (Ok x) opened line words facts left came reading P tells given = of-known opened.known opened.len line words facts left came reading P tells given
+given-ok (Err e) opened line words facts left came reading P tells given = tt
+
+pub given-err : {A E : Type 0} (r : Result A E) (opened : OpenedValue) (line : Option (List ℕ)) (words : TakeWords) (facts : BagFacts) (left : List ToldRow) (came : CameItem)
+    (reading : Reading) (P : List ShelfEntry → Type 0) → OfKnown opened.known opened.len (λ image. TellsOf image line words facts)
+    → OnErr r (WhereKnown (source_of opened left came reading) (P (bag_of (source_of opened left came reading).all (source_of opened left came reading).tables facts)))
+    → OnErr r (OfBag opened line words P)
+given-err (Ok x) opened line words facts left came reading P tells given = tt
+given-err (Err e) opened line words facts left came reading P tells given = of-known opened.known opened.len line words facts left came reading P tells given
+
+-- nothing of a bag was given
+pub nothing-given : (opened : OpenedValue) (line : Option (List ℕ)) (words : TakeWords) (given : List ShelfEntry) → OfBag opened line words (λ bag. IsBeginning given (given ++ bag))
+nothing-given opened line words given = none-known opened.known opened.len line words (λ bag. IsBeginning given (given ++ bag)) (λ bag. begins_appended given bag)
+
+-- what holds of an image and a line holds of the same ones
+pub carry : (F : OpenedValue → Option (List ℕ) → Type 0) (o o' : OpenedValue) → o ≡ o' → (l l' : Option (List ℕ)) → l ≡ l' → F o l → F o' l'
+carry F o o' same l l' is h = subst (λ (now : OpenedValue). F now l') same (subst (F o) is h)

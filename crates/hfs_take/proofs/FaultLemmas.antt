@@ -3,13 +3,9 @@ use Rattle.std.proofs.Common.{◌≡◌, refl, sym, subst, inl, inr}
 use Rattle.hfs_bag.specs.declared.fault.BagFault.{BagFault}
 use Rattle.hfs_bag.specs.declared.fault.BagFault.TheVariants as bag
 use Rattle.hfs_bag.specs.declared.source.SourceFault.TheVariants as source
-use Rattle.hfs_check.specs.declared.mount_fault.MountFault.{MountFault}
 use Rattle.hfs_check.specs.declared.mount_fault.MountFault.TheVariants as mount
 use Rattle.hfs_commands.specs.declared.fault.Fault.{Fault}
 use Rattle.hfs_commands.specs.declared.fault.Fault.TheVariants.{CannotRead, NoMemory, Refused}
-use Rattle.hfs_commands.specs.Faults.{KeepsRefusal}
-use Rattle.hfs_needed.specs.declared.opening.NeededFault.{NeededFault}
-use Rattle.hfs_needed.specs.declared.opening.NeededFault.TheVariants as needed
 use Rattle.hfs_shelves.specs.declared.fault.ShelfFault.{ShelfFault}
 use Rattle.hfs_shelves.specs.declared.fault.ShelfFault.TheVariants as shelf
 use Rattle.hfs_take.specs.declared.fault.TakeFault.{TakeFault}
@@ -23,17 +19,11 @@ unread words found is = inl (inl is)
 unstored : (words : TakeWords) (found : Fault) → found ≡ NoMemory → IsImageFault words found
 unstored words found is = inl (inr (inl (inr is)))
 
-pub of_needed : (words : TakeWords) (fault : NeededFault) (found : Fault) → (fault ≡ needed.ReadFailed → found ≡ CannotRead words.image)
-    → (fault ≡ needed.Memory → found ≡ NoMemory) → KeepsRefusal fault found → IsImageFault words found
-of_needed words needed.ReadFailed found read memory refused = unread words found (read refl)
-of_needed words needed.Memory found read memory refused = unstored words found (memory refl)
-of_needed words (needed.Refused why) found read memory refused = inr (why, refused why refl)
-
 -- a fault that is known is one of those of these words
 known : (words : TakeWords) (found is : TakeFault) → found ≡ is → IsTakeFault words is → IsTakeFault words found
 known words found is same holds = subst (IsTakeFault words) (sym same) holds
 
-pub of_shelf : (words : TakeWords) (why : ShelfFault) (found : TakeFault) → found ≡ fault_of_shelf why → IsTakeFault words found
+of_shelf : (words : TakeWords) (why : ShelfFault) (found : TakeFault) → found ≡ fault_of_shelf why → IsTakeFault words found
 of_shelf words (shelf.CannotWrite path) found same = known words found _ same tt
 of_shelf words shelf.NoMemory found same = known words found _ same (unstored words NoMemory refl)
 

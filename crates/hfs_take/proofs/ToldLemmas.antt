@@ -1,6 +1,6 @@
 -- What is told of an image whose bytes may be known.
-use Rattle.std.proofs.Common.{◌≡◌, ℕ, true, List, [], ◌∷◌, ◌++◌, length, take, drop, Option, Some, None, sym, ap, ◌∙◌, arith}
-use Rattle.std.specs.Prelude.{unwrap_or}
+use Rattle.std.proofs.Common.{◌≡◌, ℕ, true, List, [], ◌∷◌, ◌++◌, length, take, drop, Option, Some, None, sym, ap, subst, ◌∙◌, arith}
+use Rattle.std.specs.Prelude.{string_bytes, unwrap_or}
 use Rattle.std.proofs.lemmas.Bool.{eq-eqb}
 use Rattle.std.proofs.lemmas.List.{drop-take, take-take}
 use Rattle.hfs_bag.specs.declared.facts.BagFacts.{BagFacts}
@@ -12,13 +12,16 @@ use Rattle.hfs_sparse.specs.Sparse.{HoldsFrom}
 use Rattle.hfs_texts.specs.Info.{info_lines}
 use Rattle.hfs_texts.specs.Reading.{info_text}
 use Rattle.hfs_model.specs.declared.reply.Info.{Info}
-use Rattle.hfs_image_items.specs.Items.{entries_in, is_known_so}
+use Rattle.hfs_image_items.specs.Items.{entries_in, image_in, is_known, is_known_so}
 use Rattle.hfs_image_items.specs.Reading.{BeginsWith}
 use Rattle.hfs_inventory.specs.Told.{ToldRow, told_rows}
 use Rattle.hfs_needed.specs.Known.{IsReportOf, OfKnown}
+use Rattle.hfs_needed.specs.OpenedValues.{OpenedValue}
+use Rattle.hfs_take.specs.declared.giving.Told.{Told}
 use Rattle.hfs_take.specs.declared.words.TakeWords.{TakeWords}
 use Rattle.hfs_take.specs.Bags.{IsDigestTold, IsReportText, TellsOf, root_name, text_in}
 use Rattle.hfs_take.specs.Facts.{image_name}
+use Rattle.hfs_take.specs.Told.{IsToldOf}
 
 root-named : (root : Info) (rows : List ToldRow) → BeginsWith root rows → root.name ≡ root_name rows
 root-named root [] begins = absurd begins
@@ -53,3 +56,15 @@ tells-known (Some image) len line words facts root begins identifier program nam
   digest_is = digest same;
   report_is = report same;
 }
+
+-- what is told before the items are read, and the name of the root
+pub tells-items : (opened : OpenedValue) (len : ℕ) (line : Option (List ℕ)) (words : TakeWords) (told : Told) (facts : BagFacts) (root : Info) → len ≡ opened.len
+    → (is_known opened ≡ true → BeginsWith root (told_rows (entries_in (image_in opened)))) → IsToldOf opened.known len words told
+    → facts.identifier.now ≡ plain_text root.name → facts.program.now ≡ words.program.now → facts.image.now ≡ string_bytes told.name → text_in facts.volume ≡ line
+    → facts.bytes ≡ len → facts.digest ≡ told.digest → facts.report.now ≡ string_bytes told.report
+    → OfKnown opened.known opened.len (λ image. TellsOf image line words facts)
+tells-items opened len line words told facts root at begins is identifier program name volume bytes digest report =
+    subst (λ (n : ℕ). OfKnown opened.known n (λ image. TellsOf image line words facts)) at
+    (tells-known opened.known len line words facts root (λ known. begins (ap (λ (n : ℕ). is_known_so opened.known n) (sym at) ∙ known)) identifier program
+    (name ∙ is.name_is) volume bytes (subst (IsDigestTold opened.known len words.is_digested) (sym digest) is.digest_is)
+    (subst (IsReportText opened.known len) (sym report) is.report_is))

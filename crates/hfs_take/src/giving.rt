@@ -1,13 +1,15 @@
 //! The bag of an image, given to any shelf.
-ghost use Rattle.std.specs.Prelude.{◌≡◌, ◌++◌, IfOk, OnErr, OnOk, string_bytes};
+ghost use Rattle.std.specs.Prelude.{◌≡◌, ◌++◌, true, IfOk, OnErr, OnOk, string_bytes};
 ghost use Rattle.std.specs.Option.{option_map};
 ghost use Rattle.hfs_bag.specs.Sums.{IsSumOf};
-ghost use Rattle.hfs_image_items.specs.Items.{bag_items, entries_in};
-ghost use Rattle.hfs_needed.specs.Known.{OfKnown};
+ghost use Rattle.hfs_image_items.specs.Items.{bag_items, entries_in, image_in, is_known};
+ghost use Rattle.hfs_image_items.specs.Reading.{BeginsWith};
+ghost use Rattle.hfs_inventory.specs.Told.{told_rows};
+ghost use Rattle.hfs_needed.specs.Known.{IsReportOf, OfKnown};
 ghost use Rattle.hfs_shelves.specs.Entries.{IsBeginning};
 ghost use Rattle.hfs_sparse.specs.Sparse.{HoldsFrom};
 ghost use Rattle.hfs_take.specs.Bags.{IsDigestTold, IsReportText, OfBag, text_in};
-ghost use Rattle.hfs_take.specs.Facts.{image_name};
+ghost use Rattle.hfs_take.specs.Told.{IsToldOf};
 
 use crate::digest::image_digest;
 use crate::facts::{image_name, plain_name, report_text};
@@ -74,6 +76,75 @@ fn item_count(report: &Report) -> u64 {
     u64::from(report.files) + u64::from(report.folders)
 }
 
+/// What a bag tells of an image before its items are read.
+#[derive(Drop)]
+struct Told {
+    /// The last part of its path.
+    name: String,
+    /// Its digest, where it is to be told.
+    digest: Option<[u8; 32]>,
+    /// The lines of `info` and of `check`.
+    report: String,
+}
+
+/// What a bag tells of an image with this report before its items are read.
+fn told_of<S: BlockSource + Drop>(
+    alloc: Global,
+    image: &mut OpenedImage<S>,
+    len: u64,
+    report: &Report,
+    words: &TakeWords<'_>,
+) -> Result<Told, SourceFault>
+    requires { IsReportOf image.old.known len report.now }
+    ensures told { IfOk result (λ told. IsToldOf image.old.known len words.now told) }
+    ensures image { image.new ≡ image.old }
+{
+    let Ok(name) = image_name(alloc, words.image) else {
+        return Err(SourceFault::Memory);
+    };
+    let lines = report_of(alloc, image, len, report)?;
+    let digest = digest_of(alloc, image, len, words.is_digested)?;
+    Ok(Told {
+        name,
+        digest,
+        report: lines,
+    })
+}
+
+/// Gives a shelf the bag of these items of an image, of which this is told.
+fn give_items<S: BlockSource + Drop, T: Shelf, W: Watch>(
+    alloc: Global,
+    shelf: &mut T,
+    items: &mut ImageItems<'_, S, W>,
+    told: &Told,
+    line: Option<&str>,
+    words: &TakeWords<'_>,
+    len: u64,
+) -> Result<BagSums, BagFault>
+    requires len { len ≡ items.old.image.len }
+    requires root { is_known items.old.image ≡ true
+        → BeginsWith items.old.root (told_rows (entries_in (image_in items.old.image))) }
+    requires told { IsToldOf items.old.image.known len words.now told.now }
+    ensures whole { OnOk result (OfBag items.old.image (text_in line.entry) words.now
+        (λ bag. T.given shelf.new ≡ T.given shelf.old ++ bag)) }
+    ensures part { OnErr result (OfBag items.old.image (text_in line.entry) words.now
+        (λ bag. IsBeginning (T.given shelf.new) (T.given shelf.old ++ bag))) }
+    ensures sums { IfOk result (λ sums. OfKnown items.old.image.known items.old.image.len
+        (λ bytes. IsSumOf sums (bag_items (entries_in bytes)))) }
+{
+    let identifier = plain_name(alloc, items.root.name.bytes())?;
+    let facts = BagFacts {
+        identifier: identifier.as_str(),
+        program: words.program,
+        image: told.name.as_str(),
+        volume: line,
+        bytes: len,
+        digest: told.digest,
+        report: told.report.as_str(),
+    };
+    give_bag(alloc, shelf, items, &facts)
+}
+
 /// A text, where there is one.
 fn text_in(text: &Option<String>) -> Option<&str>
     ensures { text_in result ≡ option_map string_bytes text.now }
@@ -106,19 +177,8 @@ pub fn give_image<S: BlockSource + Drop, T: Shelf, W: Watch>(
         report,
         volume,
     } = image;
-    let lines = report_of(alloc, &mut opened, len, &report)?;
-    let digest = digest_of(alloc, &mut opened, len, words.is_digested)?;
+    let told = told_of(alloc, &mut opened, len, &report, words)?;
     let mut items = ImageItems::new(alloc, opened, item_count(&report), watch)?;
-    let identifier = plain_name(alloc, items.root.name.bytes())?;
-    let name = image_name(alloc, words.image)?;
-    let facts = BagFacts {
-        identifier: identifier.as_str(),
-        program: words.program,
-        image: name.as_str(),
-        volume: text_in(&volume),
-        bytes: len,
-        digest,
-        report: lines.as_str(),
-    };
-    give_bag(alloc, shelf, &mut items, &facts)
+    let line = text_in(&volume);
+    give_items(alloc, shelf, &mut items, &told, line, words, len)
 }
