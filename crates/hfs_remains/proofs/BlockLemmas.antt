@@ -1,6 +1,6 @@
 -- The blocks of a fork.
-use Rattle.std.proofs.Common.{◌≡◌, ℕ, suc, zero, ◌+◌, ◌-◌, ◌<◌, ◌≤◌, Bool, true, false, ◌&&◌, if◌then◌else◌, List, [], ◌∷◌, ◌++◌, map, take, drop, length, length-append, length-take, Option, Some, None, slice_index_or, get_or, refl, sym, ap, ◌∙◌, arith, append_assoc, inl, inr}
-use Rattle.std.specs.Prelude.{min, nat_le}
+use Rattle.std.proofs.Common.{◌≡◌, ℕ, suc, zero, ◌+◌, ◌-◌, ◌<◌, ◌≤◌, Bool, true, false, if◌then◌else◌, List, [], ◌∷◌, ◌++◌, map, take, drop, length, length-append, length-take, Option, Some, None, slice_index_or, get_or, refl, sym, ap, ◌∙◌, arith, append_assoc, inl, inr}
+use Rattle.std.specs.Prelude.{min}
 use Rattle.std.specs.List.{range_with_len}
 use Rattle.std.specs.Option.{is_some}
 use Rattle.std.proofs.lemmas.Bool.{cases_lt}
@@ -78,14 +78,6 @@ all-blocks f places wanted first n none =
 
 -- ---- the blocks of extents
 
-take-both : (n : ℕ) (xs ys : List ℕ) → take n (xs ++ ys) ≡ take n xs ++ take (n - length xs) ys
-take-both zero [] ys = refl
-take-both zero (x ∷ xs) ys = let none : 0 ≡ 0 - length (x ∷ xs) = omega arith in ap (λ (k : ℕ). take k ys) none
-take-both (suc n) [] ys = let all : suc n ≡ suc n - length {A = ℕ} [] = omega arith in ap (λ (k : ℕ). take k ys) all
-take-both (suc n) (x ∷ xs) ys =
-    let less : n - length xs ≡ suc n - length (x ∷ xs) = omega arith in
-    ap (λ (l : List ℕ). x ∷ l) (take-both n xs ys) ∙ ap (λ (k : ℕ). x ∷ (take n xs ++ take k ys)) less
-
 -- the blocks of one more extent
 pub step-extent : (f : ℕ → Option ℕ) (places new : FileBlocks) (wanted i : ℕ) (extents : List Extent) (e d : Extent) → i < length extents → e ≡ get_or extents i d
     → new ≡ places ++ map f (take (wanted - length places) (range_with_len e.first e.count))
@@ -103,6 +95,14 @@ step-extent f places new wanted i extents e d within is added =
     ∙ ap (λ (l : List ℕ). places ++ map f l) (sym (take-both n own rest))
     ∙ ap (λ (l : List Extent). places ++ map f (take n (extent_blocks l))) (ap (λ (x : Extent). x ∷ drop (i + 1) extents) is ∙ sym (drop_more extents i d within))
   where
+    take-both : (n : ℕ) (xs ys : List ℕ) → take n (xs ++ ys) ≡ take n xs ++ take (n - length xs) ys
+    take-both zero [] ys = refl
+    take-both zero (x ∷ xs) ys = let none : 0 ≡ 0 - length (x ∷ xs) = omega arith in ap (λ (k : ℕ). take k ys) none
+    take-both (suc n) [] ys = let all : suc n ≡ suc n - length {A = ℕ} [] = omega arith in ap (λ (k : ℕ). take k ys) all
+    take-both (suc n) (x ∷ xs) ys =
+        let less : n - length xs ≡ suc n - length (x ∷ xs) = omega arith in
+        ap (λ (l : List ℕ). x ∷ l) (take-both n xs ys) ∙ ap (λ (k : ℕ). x ∷ (take n xs ++ take k ys)) less
+
     map-long : (bs : List ℕ) → length (map f bs) ≡ length bs
     map-long [] = refl
     map-long (b ∷ bs) = ap suc (map-long bs)

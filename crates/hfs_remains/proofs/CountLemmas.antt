@@ -1,9 +1,9 @@
 -- How many blocks a fork has, by the sums of its chain.
-use Rattle.std.proofs.Common.{◌≡◌, ◌≢◌, ℕ, zero, suc, ◌+◌, ◌<◌, ◌≤◌, Bool, true, false, ◌&&◌, ◌==◌, nat_lt, nat_le, if◌then◌else◌, Bor, ltb, List, [], ◌∷◌, ◌++◌, length, map, get_or, Option, Some, None, refl, sym, ap, ◌∙◌, arith, inl, inr}
+use Rattle.std.proofs.Common.{◌≡◌, ◌≢◌, ℕ, zero, suc, ◌+◌, ◌<◌, ◌≤◌, Bool, true, false, ◌&&◌, ◌==◌, nat_lt, if◌then◌else◌, Bor, ltb, List, [], length, get_or, Option, Some, None, refl, sym, ap, ◌∙◌, arith, inl, inr}
 use Rattle.std.specs.Prelude.{find}
-use Rattle.std.specs.List.{position_from, sum_by}
+use Rattle.std.specs.List.{position_from}
 use Rattle.std.specs.Option.{option_map_or, option_copied, is_some, IfSome}
-use Rattle.std.proofs.lemmas.Bool.{cases_lt, cases_eq, and_parts, eqb-true, eq-eqb, ne_eqb, lt-ltb, le-ltb, le-leb, lt-leb}
+use Rattle.std.proofs.lemmas.Bool.{cases_lt, cases_eq, eqb-true, eq-eqb, ne_eqb, le-leb, lt-leb}
 use Rattle.std.proofs.lemmas.List.{get_or-map, get_or_default}
 use Rattle.std.proofs.lemmas.List.Sums.{sum_by-append}
 use Rattle.hfs_fields.specs.declared.extent.Extent.{Extent}
@@ -11,7 +11,7 @@ use Rattle.hfs_fields.specs.declared.key.ExtKey.{ExtKey}
 use Rattle.hfs_catalog_checks.proofs.Indexed.{found_get, found_is, found_none}
 use Rattle.hfs_space.specs.Extents.{Overflow, block_total, record_extents}
 use Rattle.hfs_rescue.specs.OverflowRecords.{has_key, record_at, further, fork_extents}
-use Rattle.hfs_rescue.proofs.ForkLemmas.{further-full, further-none, further-ended, further-empty, further-more}
+use Rattle.hfs_rescue.proofs.ForkLemmas.{further-none, further-ended, further-empty, further-more}
 use Rattle.hfs_places.specs.Chains.{place_at}
 use Rattle.hfs_places.proofs.FolderLemmas.{position-holds}
 use Rattle.hfs_remains.specs.Chains.{own_blocks, record_place, next_place, owns_of, nexts_of, number_at, blocks_in, at_most}

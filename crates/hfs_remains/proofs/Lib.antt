@@ -4,3 +4,4 @@ pub mod CountLemmas
 mod OwnerLemmas
 mod BlockLemmas
 mod ShareLemmas
+mod NamingLemmas

@@ -1,6 +1,6 @@
 -- The records with which forks go on, and how many blocks they have together.
-use Rattle.std.specs.Prelude.{◌≡◌, ℕ, zero, suc, ◌+◌, ◌*◌, ◌^◌, ◌<◌, ◌≤◌, Bool, ◌==◌, nat_lt, nat_le, if◌then◌else◌, List, map, length, Option, Some, None, slice_index_or}
-use Rattle.std.specs.List.{position_from, range_with_len}
+use Rattle.std.specs.Prelude.{◌≡◌, ℕ, zero, suc, ◌+◌, ◌*◌, ◌^◌, ◌<◌, ◌≤◌, ◌==◌, nat_lt, nat_le, if◌then◌else◌, List, map, Option, None, slice_index_or}
+use Rattle.std.specs.List.{position_from}
 use Rattle.std.specs.Option.{option_map_or, option_or}
 use Rattle.hfs_fields.specs.declared.key.ExtKey.{ExtKey}
 use Rattle.hfs_space.specs.Extents.{Overflow, block_total, record_extents}

@@ -1,17 +1,13 @@
 -- The forks of files that remain: their blocks, and their bytes.
-use Rattle.std.specs.Prelude.{ℕ, ◌+◌, ◌-◌, ◌*◌, Bool, if◌then◌else◌, List, [], ◌∷◌, map, take, length, Option, Some, None, min}
+use Rattle.std.specs.Prelude.{ℕ, ◌+◌, ◌-◌, ◌*◌, if◌then◌else◌, List, [], ◌∷◌, map, take, length, Option, Some, None, min}
 use Rattle.std.specs.Int.{div_ceil}
 use Rattle.std.specs.Option.{is_some}
 use Rattle.hfs_fields.specs.declared.mdb.Mdb.{Mdb}
-use Rattle.hfs_fields.specs.declared.extent.Extent.{Extent}
 use Rattle.hfs_fields.specs.declared.file_record.ForkRecord.{ForkRecord}
 use Rattle.hfs_fields.specs.Records.{is_file, file_record_of}
 use Rattle.hfs_space.specs.Extents.{Overflow, extent_blocks}
-use Rattle.hfs_space.specs.Forks.{joined}
-use Rattle.hfs_space.specs.TreeFiles.{node_count}
-use Rattle.hfs_check.specs.Parts.{Blocks}
 use Rattle.hfs_rescue.specs.Allocation.{is_there}
-use Rattle.hfs_rescue.specs.TreeFiles.{FileBlocks, first_nodes}
+use Rattle.hfs_rescue.specs.TreeFiles.{FileBlocks}
 use Rattle.hfs_rescue.specs.OverflowRecords.{fork_extents}
 use Rattle.hfs_remains.specs.declared.forks.Fork.{Fork}
 
@@ -49,11 +45,6 @@ fork_places total records mdb fork = map (there total mdb) (fork_blocks records 
 -- how many bytes a fork has: its length, or as many as its blocks hold
 unfoldable pub fork_length : Overflow → Mdb → Fork → ℕ
 fork_length records mdb fork = min fork.len (length (fork_blocks records mdb fork) * mdb.allocation_block_size)
-
--- its bytes: a missing block gives zeros
-unfoldable pub fork_bytes : ℕ → Blocks → Overflow → Mdb → Fork → List ℕ
-fork_bytes total blocks records mdb fork =
-    take (fork_length records mdb fork) (joined (first_nodes blocks mdb (fork_places total records mdb fork) (node_count (fork_length records mdb fork))))
 
 -- of so many bytes in these blocks, those for which a block is missing
 abbrev pub missing_in : ℕ → ℕ → FileBlocks → ℕ

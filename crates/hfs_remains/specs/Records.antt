@@ -1,5 +1,5 @@
 -- Records of the catalog as things that have a place: items, and folders that only a thread names.
-use Rattle.std.specs.Prelude.{ℕ, Bool, true, false, ◌&&◌, ◌==◌, not, if◌then◌else◌, List, map, length, Option, Some, None}
+use Rattle.std.specs.Prelude.{ℕ, Bool, true, false, ◌&&◌, ◌==◌, not, if◌then◌else◌, List, length, Option, Some, None}
 use Rattle.std.specs.List.{flat_map}
 use Rattle.std.specs.Option.{option_to_list}
 use Rattle.hfs_fields.specs.Records.{is_dir, is_dir_thread, has_short_name, item_id, thread_record_of}

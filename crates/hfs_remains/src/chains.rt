@@ -1,7 +1,6 @@
 //! The records with which forks go on, and how many blocks they have together.
 ghost use Rattle.std.specs.Prelude.{◌≡◌, ◌+◌, ◌++◌, ◌^◌, ◌<◌, ◌≤◌, map, length, IfOk, OnOk};
 ghost use Rattle.std.specs.List.{range_with_len};
-ghost use Rattle.hfs_places.specs.Chains.{LeadBy};
 ghost use Rattle.std.specs.Option.{option_copied};
 ghost use Rattle.hfs_rescue.specs.OverflowRecords.{fork_extents, record_at};
 ghost use Rattle.hfs_space.specs.Extents as space;

@@ -1,10 +1,11 @@
 //! Records of the catalog as things that have a place.
-ghost use Rattle.std.specs.Prelude.{◌≡◌, ◌++◌, map, IfOk, OnOk};
+ghost use Rattle.std.specs.Prelude.{◌≡◌, ◌++◌, if◌then◌else◌, true, None, Some, map, IfOk, OnOk};
 ghost use Rattle.std.specs.Option.{option_to_list};
+ghost use Rattle.hfs_fields.specs.Records.{has_short_name, is_dir_thread, thread_record_of};
 ghost use Rattle.hfs_remains.specs.Records as spec;
 
 use hfs_catalog::{is_folder, item_id};
-use hfs_fields::{ThreadKind, ThreadRecord};
+use hfs_fields::ThreadRecord;
 use hfs_places::Thing;
 use hfs_rescue::FoundRecord;
 use std::alloc::{AllocError, Global};
@@ -33,25 +34,45 @@ pub fn thing_of(item: &FoundRecord) -> Thing
     }
 }
 
+/// Whether a body is a folder's thread.
+fn is_folder_thread(body: &[u8]) -> bool
+    ensures { result ≡ is_dir_thread body.now }
+{
+    body.len() == ThreadRecord::LENGTH && body[0] == 3
+}
+
+/// The record of a folder's thread, where its name is short enough.
+fn read_thread(body: &[u8]) -> Option<ThreadRecord>
+    requires { is_dir_thread body.now ≡ true }
+    ensures { result ≡ if has_short_name body.now then Some (thread_record_of body.now) else None }
+{
+    match ThreadRecord::read(body) {
+        Some(thread) => Some(thread),
+        None => None,
+    }
+}
+
 /// The folder that a record names, where it is a folder's thread with an empty name in its key and a name in its body.
-#[tactic(auto, unfolding(hfs_fields::specs::Records::begins_thread))]
 fn naming(found: &FoundRecord) -> Option<Thing>
     ensures { result ≡ spec.naming found.now }
 {
-    let body = found.entry.body();
-    if !found.entry.key().name.bytes().is_empty() || body.len() != ThreadRecord::LENGTH {
+    let key = found.entry.key();
+    if !key.name.bytes().is_empty() {
         return None;
     }
-    let Some(thread) = ThreadRecord::read(body) else {
+    if !is_folder_thread(found.entry.body()) {
+        return None;
+    }
+    let Some(thread) = read_thread(found.entry.body()) else {
         return None;
     };
-    if thread.kind != ThreadKind::Folder || thread.name.bytes().is_empty() {
+    if thread.name.bytes().is_empty() {
         return None;
     }
     Some(Thing {
         parent: thread.parent,
         name: thread.name,
-        folder: Some(found.entry.key().parent),
+        folder: Some(key.parent),
         old: false,
         named: true,
     })

@@ -1,6 +1,6 @@
 //! Where items are put: paths by hand.
-use hfs_places::{Places, Thing};
 use hfs_fields::Name;
+use hfs_places::{Places, Thing};
 use std::alloc::{AllocError, Global};
 
 /// An item of the folder `parent`, with its own number where it is a folder.

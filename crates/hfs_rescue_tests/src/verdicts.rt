@@ -64,3 +64,73 @@ fn cut_forks(rt: HostRuntime) -> Result<(), Fail> {
     );
     Ok(())
 }
+
+/// The last block of the file lies behind the end of the image.
+#[test]
+fn missing_blocks(rt: HostRuntime) -> Result<(), Fail> {
+    let alloc = rt.alloc();
+    let image = small_image(alloc, SmallVolume::OneFile)?;
+    if image.len() != 32_768 {
+        return Err(Fail::new("another length"));
+    }
+    let wanted = "x\t0\t0\t-\t-\nx\t1\t0\tmissing 464\twhole\n";
+    assert!(rt; tells(alloc, &image[..10_240], None, wanted)?);
+    Ok(())
+}
+
+/// The overflow record names a block that the file has already.
+#[test]
+fn shared_blocks(rt: HostRuntime) -> Result<(), Fail> {
+    let alloc = rt.alloc();
+    let mut image = small_image(alloc, SmallVolume::OneFile)?;
+    lay(&mut image, 5, 22, &[0, 14])?;
+    assert!(rt;
+        tells(
+            alloc,
+            &image,
+            None,
+            "x\t0\t0\t-\t-\nx\t1\t0\tshared\twhole\n"
+        )?
+    );
+    Ok(())
+}
+
+/// A fork that would bring the bytes above the limit is left.
+#[test]
+fn forks_above_the_limit(rt: HostRuntime) -> Result<(), Fail> {
+    let alloc = rt.alloc();
+    let image = small_image(alloc, SmallVolume::OneFile)?;
+    let wanted = "x\t0\t0\t-\t-\nx\t1\t0\tleft\twhole\n";
+    assert!(rt; tells(alloc, &image, Some(1999), wanted)?);
+    assert!(rt; tells(alloc, &image, Some(2000), WHOLE)?);
+    Ok(())
+}
+
+/// A leaf of height 1 with one record: the file `h` of the root, ID 30, of 100 bytes in allocation block 10.
+fn old_leaf() -> [u8; 512] {
+    let mut leaf = [0; 512];
+    leaf[8] = 0xff;
+    leaf[9] = 1;
+    leaf[11] = 1;
+    leaf[14..22].copy_from_slice(&[7, 0, 0, 0, 0, 2, 1, b'h']);
+    leaf[22] = 2;
+    leaf[45] = 30;
+    leaf[51] = 100;
+    leaf[97] = 10;
+    leaf[99] = 1;
+    leaf[509] = 124;
+    leaf[511] = 14;
+    leaf
+}
+
+/// An old file shares a block with one that isn't old, which is whole all the same.
+#[test]
+fn old_forks(rt: HostRuntime) -> Result<(), Fail> {
+    let alloc = rt.alloc();
+    let mut image = small_image(alloc, SmallVolume::OneFile)?;
+    lay(&mut image, 8, 0, &old_leaf())?;
+    lay(&mut image, 6, 20, &[0, 0, 0, 4])?;
+    let wanted = "x\t0\t0\t-\t-\nx\t1\t0\twhole\twhole\nx\t2\t0\tshared\twhole\n";
+    assert!(rt; tells(alloc, &image, None, wanted)?);
+    Ok(())
+}

@@ -80,14 +80,14 @@ none-known (Some image) len line words P all = λ same facts told. all (image_ba
 -- what a call did with a bag of the source's state
 pub given-ok : {A E : Type 0} (r : Result A E) (opened : OpenedValue) (line : Option (List ℕ)) (words : TakeWords) (facts : BagFacts) (left : List ToldRow) (came : CameItem)
     (reading : Reading) (P : List ShelfEntry → Type 0) → OfKnown opened.known opened.len (λ image. TellsOf image line words facts)
-    → OnOk r (WhereKnown (source_of opened left came reading) (P (bag_of (source_of opened left came reading).all (source_of opened left came reading).table facts)))
+    → OnOk r (WhereKnown (source_of opened left came reading) (P (bag_of (source_of opened left came reading).all (source_of opened left came reading).tables facts)))
     → OnOk r (OfBag opened line words P)
 given-ok (Ok x) opened line words facts left came reading P tells given = of-known opened.known opened.len line words facts left came reading P tells given
 given-ok (Err e) opened line words facts left came reading P tells given = tt
 
 pub given-err : {A E : Type 0} (r : Result A E) (opened : OpenedValue) (line : Option (List ℕ)) (words : TakeWords) (facts : BagFacts) (left : List ToldRow) (came : CameItem)
     (reading : Reading) (P : List ShelfEntry → Type 0) → OfKnown opened.known opened.len (λ image. TellsOf image line words facts)
-    → OnErr r (WhereKnown (source_of opened left came reading) (P (bag_of (source_of opened left came reading).all (source_of opened left came reading).table facts)))
+    → OnErr r (WhereKnown (source_of opened left came reading) (P (bag_of (source_of opened left came reading).all (source_of opened left came reading).tables facts)))
     → OnErr r (OfBag opened line words P)
 given-err (Ok x) opened line words facts left came reading P tells given = tt
 given-err (Err e) opened line words facts left came reading P tells given = of-known opened.known opened.len line words facts left came reading P tells given

@@ -1,7 +1,7 @@
 //! What remains of a damaged volume, as it is shown.
 
 use crate::commands::print_lines;
-use crate::taking::print_take_fault;
+use crate::taking::print_fault;
 use hfs_commands::Fault;
 use hfs_salvage::{BagWords, RescueAnswer, RescueWords, list_rescue, rescue};
 use hfs_take::TakeFault;
@@ -12,13 +12,21 @@ fn print_answer(rt: &HostRuntime, answer: &RescueAnswer) -> Result<u8, Fault<'st
     Ok(answer.status)
 }
 
+/// Prints what the folder has, or why it was not made. Faults: those of the image, which aren't printed here.
+fn print_rescued<'a>(
+    rt: &HostRuntime,
+    rescued: Result<RescueAnswer, TakeFault<'a>>,
+) -> Result<u8, Fault<'a>> {
+    match rescued {
+        Ok(answer) => print_answer(rt, &answer),
+        Err(fault) => print_fault(rt, fault),
+    }
+}
+
 /// Takes what remains off a volume, and prints what is told of it.
 pub fn rescue_volume<'a>(rt: &HostRuntime, words: &BagWords<'a>) -> Result<u8, Fault<'a>> {
-    match rescue(rt, words) {
-        Ok(answer) => print_answer(rt, &answer),
-        Err(TakeFault::Image(fault)) => Err(fault),
-        Err(fault) => print_take_fault(rt, &fault),
-    }
+    let rescued = rescue(rt, words);
+    print_rescued(rt, rescued)
 }
 
 /// Prints a line for each item that remains of a volume, and what is told of it.

@@ -2,7 +2,7 @@
 
 use crate::commands::print_lines;
 use hfs_commands::{Fault, Status};
-use hfs_take::{TakeFault, TakeWords, Watch, take, taken_text};
+use hfs_take::{BagSums, TakeFault, TakeWords, Watch, take, taken_text};
 use std::io::IsTerminal;
 
 /// After how many items a line is printed.
@@ -30,20 +30,34 @@ pub fn take_volume<'a>(rt: &HostRuntime, words: &TakeWords<'a>) -> Result<u8, Fa
         rt,
         is_shown: rt.stderr().is_terminal(),
     };
-    match take(rt, words, &progress) {
-        Ok(sums) => {
-            let Ok(text) = taken_text(rt.alloc(), &sums) else {
-                return Err(Fault::NoMemory);
-            };
-            print_lines(rt, text.as_str())?;
-            Ok(Status::Done.number())
-        }
-        Err(TakeFault::Image(fault)) => Err(fault),
-        Err(fault) => print_take_fault(rt, &fault),
+    let taken = take(rt, words, &progress);
+    print_taken(rt, taken)
+}
+
+/// Prints what the folder has, or why it was not made. Faults: those of the image, which aren't printed here.
+fn print_taken<'a>(
+    rt: &HostRuntime,
+    taken: Result<BagSums, TakeFault<'a>>,
+) -> Result<u8, Fault<'a>> {
+    match taken {
+        Ok(sums) => print_sums(rt, &sums),
+        Err(fault) => print_fault(rt, fault),
     }
 }
 
-/// Prints why a folder was not made, and answers the exit status.
-pub fn print_take_fault(rt: &HostRuntime, fault: &TakeFault<'_>) -> Result<u8, Fault<'static>> {
-    Ok(fault.status().after(println!(rt; "{fault}")))
+/// Prints how much a bag has.
+fn print_sums(rt: &HostRuntime, sums: &BagSums) -> Result<u8, Fault<'static>> {
+    let Ok(text) = taken_text(rt.alloc(), sums) else {
+        return Err(Fault::NoMemory);
+    };
+    print_lines(rt, text.as_str())?;
+    Ok(Status::Done.number())
+}
+
+/// Prints why a folder was not made, and answers the exit status. A fault of the image is handed on.
+pub fn print_fault<'a>(rt: &HostRuntime, fault: TakeFault<'a>) -> Result<u8, Fault<'a>> {
+    match fault {
+        TakeFault::Image(why) => Err(why),
+        other => Ok(other.status().after(println!(rt; "{other}"))),
+    }
 }

@@ -1,4 +1,4 @@
-use Rattle.std.proofs.Common.{◌≡◌, ◌+◌, ◌++◌, Some, None, sym, ap, ◌∙◌, arith}
+use Rattle.std.proofs.Common.{◌≡◌, Some, None, sym, ap, ◌∙◌, arith}
 use Rattle.std.specs.Option.{option_copied}
 use Rattle.hfs_rescue.specs.OverflowRecords.{record_at}
 use Rattle.hfs_rescue.proofs.ForkLemmas.{further-full, further-none, further-ended, step, stop-empty, all-made}

@@ -1,4 +1,4 @@
-use Rattle.std.proofs.Common.{◌≡◌, refl, sym, ◌∙◌, map, take, arith}
+use Rattle.std.proofs.Common.{refl, sym, ◌∙◌, take, arith}
 use Rattle.hfs_space.specs.Extents.{extent_blocks}
 use Rattle.hfs_remains.specs.Forks.{there}
 use Rattle.hfs_remains.proofs.BlockLemmas.{start-blocks, step-extent, all-extents, there-listed}

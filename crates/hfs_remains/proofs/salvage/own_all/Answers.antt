@@ -1,4 +1,4 @@
-use Rattle.std.proofs.Common.{◌++◌, sym, ap}
+use Rattle.std.proofs.Common.{◌++◌, ap}
 use Rattle.hfs_space.specs.Extents.{Overflow}
 use Rattle.hfs_remains.specs.Verdicts.{tree_used, items_used, all_used}
 use Rattle.hfs_remains.proofs.OwnerLemmas.{add-both, add-same}

@@ -1,4 +1,4 @@
-use Rattle.std.proofs.Common.{◌≡◌, ℕ, ◌+◌, ◌^◌, List, Option, None, Some, sym, ap, ◌∙◌, arith}
+use Rattle.std.proofs.Common.{◌≡◌, ℕ, ◌+◌, List, None, Some, sym, ap, ◌∙◌, arith}
 use Rattle.hfs_space.specs.Extents.{Overflow, block_total}
 use Rattle.hfs_remains.specs.Chains.{at_most, number_at, blocks_in, owns_of, nexts_of, record_place}
 use Rattle.hfs_remains.proofs.CountLemmas.{count-full, count-none, count-some}
