@@ -120,8 +120,14 @@ pub fn rescue<'a, R: Files + AllocGlobal>(
     rt: &R,
     words: &BagWords<'a>,
 ) -> Result<RescueAnswer, TakeFault<'a>> {
-    let image = load_image(rt, &words.words)?;
-    let parts = find_parts(rt.alloc(), &image, &words.words)?;
+    let image = match load_image(rt, &words.words) {
+        Ok(image) => image,
+        Err(fault) => return Err(TakeFault::Image(fault)),
+    };
+    let parts = match find_parts(rt.alloc(), &image, &words.words) {
+        Ok(parts) => parts,
+        Err(fault) => return Err(TakeFault::Image(fault)),
+    };
     if is_there(rt, words.folder) {
         return Err(TakeFault::IsThere(words.folder));
     }
