@@ -40,25 +40,24 @@ const PATHS: [&'static str; 8] = [
     "=lost/99/lost",
 ];
 
-/// How many items are put where they belong.
-fn right_paths(alloc: Global, items: &[Option<Thing>]) -> Result<usize, AllocError> {
+/// Whether all items are put where they belong.
+fn has_right_paths(alloc: Global, items: &[Option<Thing>]) -> Result<bool, AllocError> {
     let mut things = Vec::new(alloc);
     for thing in items.iter().copied().flatten() {
         things.push(thing)?;
     }
     let places = Places::of(alloc, &things, &[])?;
-    let mut right = 0;
     for (i, wanted) in PATHS.iter().enumerate() {
-        if i < places.things().len() && places.payload_path(alloc, i)?.as_str() == *wanted {
-            right += 1;
+        if i >= places.things().len() || places.payload_path(alloc, i)?.as_str() != *wanted {
+            return Ok(false);
         }
     }
-    Ok(right)
+    Ok(true)
 }
 
 #[test]
 fn items_of_a_ring_and_of_lost_folders(rt: HostRuntime) {
-    assert!(rt; right_paths(rt.alloc(), &ring()) == Ok(8));
+    assert!(rt; has_right_paths(rt.alloc(), &ring()) == Ok(true));
 }
 
 /// A folder that only a thread names, an old file in it, and a file in the payload that is called as another but for case.

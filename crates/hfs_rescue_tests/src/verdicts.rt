@@ -69,12 +69,10 @@ fn cut_forks(rt: HostRuntime) -> Result<(), Fail> {
 #[test]
 fn missing_blocks(rt: HostRuntime) -> Result<(), Fail> {
     let alloc = rt.alloc();
-    let image = small_image(alloc, SmallVolume::OneFile)?;
-    if image.len() != 32_768 {
-        return Err(Fail::new("another length"));
-    }
+    let mut image = small_image(alloc, SmallVolume::OneFile)?;
+    image.truncate(10_240);
     let wanted = "x\t0\t0\t-\t-\nx\t1\t0\tmissing 464\twhole\n";
-    assert!(rt; tells(alloc, &image[..10_240], None, wanted)?);
+    assert!(rt; tells(alloc, &image, None, wanted)?);
     Ok(())
 }
 
