@@ -150,11 +150,18 @@ fn print_whole_check(rt: &HostRuntime, image: &[u8]) -> Result<u8, Fault<'static
     }
 }
 
+/// Prints what a check of an image tells that can be read.
+fn print_read_check<'a>(rt: &HostRuntime, path: &'a str) -> Result<u8, Fault<'a>> {
+    match open_image(rt, path)? {
+        ImageFile::Seekable { source, len } => print_needed_check(rt, path, source, len),
+        ImageFile::Whole(image) => print_whole_check(rt, image.as_slice()),
+    }
+}
+
 /// Prints what is told of an image by its path. Each fault of the image is told behind `refused`.
 fn print_check<'a>(rt: &HostRuntime, path: &'a str) -> Result<u8, Fault<'a>> {
-    match open_image(rt, path) {
-        Ok(ImageFile::Seekable { source, len }) => print_needed_check(rt, path, source, len),
-        Ok(ImageFile::Whole(image)) => print_whole_check(rt, image.as_slice()),
+    match print_read_check(rt, path) {
+        Ok(status) => Ok(status),
         Err(Fault::Refused(why)) => print_refused(rt, why),
         Err(fault) => Err(fault),
     }
