@@ -18,7 +18,10 @@ pub fn image_line(alloc: Global, path: &str, counts: &ImageCounts) -> Result<Str
         files,
     } = *counts;
     let path = ShownPath(path);
-    format!(in alloc; "{path}\tvolumes {volumes}\trefused {refused}\tfiles {files}\tdamaged 0\n")
+    let line = format!(in alloc;
+        "{path}\tvolumes {volumes}\trefused {refused}\tfiles {files}\tdamaged 0\n"
+    )?;
+    Ok(line)
 }
 
 /// The line of an image that was compared. The only error is want of memory.
@@ -27,5 +30,6 @@ pub fn comparison_line(alloc: Global, path: &str, found: Comparison) -> Result<S
     ensures { IfOk result (λ line. string_bytes line ≡ comparison_line path.now found) }
 {
     let (word, path) = (found.word(), ShownPath(path));
-    format!(in alloc; "{word}\t{path}\n")
+    let line = format!(in alloc; "{word}\t{path}\n")?;
+    Ok(line)
 }
