@@ -61,7 +61,11 @@ impl RescueAnswer {
         sums: &FoundSums,
     ) -> Result<RescueAnswer, AllocError> {
         let is_whole = sums.whole == sums.files && parts.is_catalog_right;
-        let status = if is_whole { Status::Done } else { Status::CallRefused };
+        let status = if is_whole {
+            Status::Done
+        } else {
+            Status::CallRefused
+        };
         Ok(RescueAnswer {
             status: status.number(),
             lines: lines_of(alloc, image, parts, sums)?,

@@ -45,11 +45,7 @@ fn is_unsure<B: Blocks>(blocks: &B, mdb: &Mdb) -> bool
 }
 
 /// The places of items, and of the folders that only these threads name.
-fn places_of(
-    alloc: Global,
-    items: &[FoundRecord],
-    named: &[Thing],
-) -> Result<Places, AllocError> {
+fn places_of(alloc: Global, items: &[FoundRecord], named: &[Thing]) -> Result<Places, AllocError> {
     let things = things_of(alloc, items)?;
     Places::of(alloc, &things, named)
 }

@@ -297,7 +297,8 @@ from 1970 on. FOLDER is written as FOLDER.0.new and renamed when it is whole. Ch
 within it, before it is copied to a Macintosh, which joins the AppleDouble files to theirs.";
 
 /// What remains of a damaged volume.
-const RESCUES: &str = "FOLDER becomes a bag as that of take, with what can still be found, whatever is wrong with the volume:
+const RESCUES: &str =
+    "FOLDER becomes a bag as that of take, with what can still be found, whatever is wrong with the volume:
   data/=lost/N/NAME     what lay in folder N, of which nothing is left
   data/=old/NAME        what a part of the catalog tells that is no longer used: deleted, mostly, or moved since
   rescue.tsv            a line for each item: path, number, ID, what is said of the data fork and of the resource fork
@@ -542,7 +543,9 @@ fn limit<'a>(alloc: Global) -> Arg<'a> {
         .value_name("BYTES")
         .action(ArgAction::Set)
         .value_parser(value_parser!(u64))
-        .help("How many bytes of forks are taken at most, in place of four times those of the image")
+        .help(
+            "How many bytes of forks are taken at most, in place of four times those of the image",
+        )
 }
 
 fn rescue_command<'a>(alloc: Global) -> Result<Command<'a>, AllocError> {
