@@ -56,8 +56,11 @@ pub(crate) const BEFORE_FILE_ID: [Column; 7] = [
 
 pub(crate) const DATES: [Column; 3] = [Column::Created, Column::Modified, Column::Backup];
 
-pub(crate) const BEHIND_ITEMS: [Column; 3] =
-    [Column::DataBytes, Column::ResourceBytes, Column::Finder];
+pub(crate) const BEHIND_ITEMS: [Column; 3] = [
+    Column::DataBytes,
+    Column::ResourceBytes,
+    Column::Finder,
+];
 
 /// The name of a column.
 pub(crate) fn column_name(column: Column) -> &'static str
