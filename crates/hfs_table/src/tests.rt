@@ -1,5 +1,5 @@
 //! Rows by hand.
-use crate::{Format, push_head, push_own_csv_line, push_row};
+use crate::{Format, push_head, push_row};
 use hfs_fields::Name;
 use hfs_model::{Info, ItemKind};
 use std::alloc::{AllocError, Global};
@@ -178,34 +178,5 @@ fn row_of_a_full_file(rt: HostRuntime) -> Result<(), AllocError> {
             "D:f\tfile\t16\t2\tTEXT\tttxt\t4101\tyes\tno\t2000-01-01T00:00:00\t2040-02-06T06:28:15\t1904-01-01T00:00:01\t\t2000\t3\t54455854747478744101010203040506101112131415161718191a1b1c1d1e1f\n"
         )
     );
-    Ok(())
-}
-
-/// The row of an item with this path, by its own record alone.
-fn own_row(alloc: Global, path: &str, info: &Option<Info>) -> Result<Vec<u8>, AllocError> {
-    let mut text = Vec::new(alloc);
-    if let Some(info) = info {
-        push_own_csv_line(alloc, &mut text, path, info)?;
-    }
-    Ok(text)
-}
-
-/// A thread and a number of items aren't told of, though there are some.
-#[test]
-fn rows_of_records(rt: HostRuntime) -> Result<(), AllocError> {
-    let text = own_row(rt.alloc(), "=old/a,b", &quoted())?;
-    assert!(rt;
-        is_row(
-            &text,
-            "\"=old/a,b\",file,18,2,\\00\\00\\00\\00,\\00\\00\\00\\00,0000,no,,,,,,0,0,",
-            "\r\n"
-        )
-    );
-    let mut info = item(16, 2, ItemKind::Folder);
-    if let Some(folder) = &mut info {
-        folder.valence = 1;
-    }
-    let text = own_row(rt.alloc(), "x", &info)?;
-    assert!(rt; is_row(&text, "x,folder,16,2,,,0000,,,,,,,,,", "\r\n"));
     Ok(())
 }
