@@ -6,7 +6,6 @@ use crate::loading::{LoadedImage, find_parts, load_image};
 use crate::parts::Parts;
 use crate::words::BagWords;
 use hfs_bag::{BagFacts, BagFault, SourceFault, give_bag};
-use hfs_fields::Mdb;
 use hfs_remains::Salvage;
 use hfs_rescue_items::{Found, RescueItems, sums_of};
 use hfs_shelves::{FileShelf, Shelf, is_there};
@@ -29,11 +28,15 @@ fn head_with(image: &[u8], directory: u32) -> [u8; 1536] {
     head
 }
 
-/// The characters of the volume's name, which stand behind their number.
-fn volume_name(mdb: &Mdb) -> &[u8] {
-    let [len, characters @ ..] = &mdb.volume_name;
-    let len = characters.len().min(usize::from(*len));
-    &characters[..len]
+/// The characters of a volume's name, in a field where they stand behind their number.
+fn volume_name(field: &[u8]) -> &[u8] {
+    match field {
+        [] => field,
+        [len, characters @ ..] => {
+            let len = characters.len().min(usize::from(*len));
+            &characters[..len]
+        }
+    }
 }
 
 /// Gives a shelf the bag of what was found of an image.
@@ -47,7 +50,7 @@ fn give_found<S: Shelf>(
 ) -> Result<(), BagFault> {
     let head = head_with(image.bytes(), parts.directory);
     let report = report_text(alloc, &head, image.check.lines.as_str())?;
-    let identifier = plain_name(alloc, volume_name(&parts.mdb))?;
+    let identifier = plain_name(alloc, volume_name(&parts.mdb.volume_name))?;
     let name = image_name(alloc, words.words.image)?;
     let digest = if words.is_digested {
         Some(Sha256::digest(image.bytes()))

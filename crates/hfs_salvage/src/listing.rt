@@ -19,7 +19,7 @@ const PIECE: usize = 65_536;
 pub(crate) fn limit_of(words: &RescueWords<'_>, image: &LoadedImage) -> u64 {
     match words.limit {
         Some(limit) => limit,
-        None => usual_limit(image.bytes().len() as u32),
+        None => usual_limit(image.bytes().len().min(u32::MAX as usize) as u32),
     }
 }
 

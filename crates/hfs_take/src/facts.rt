@@ -1,10 +1,10 @@
 //! What a bag tells of the image that it was taken from.
 ghost use Rattle.std.specs.Prelude.{◌≡◌, ◌++◌, IfOk, OnOk, string_bytes};
-ghost use Rattle.hfs_commands.specs.Volumes.{container_text, name_field, name_text};
+ghost use Rattle.hfs_commands.specs.Volumes.{container_text, name_text};
 ghost use Rattle.hfs_names.specs.PlainTexts.{plain_text};
 ghost use Rattle.hfs_texts.specs.Reading.{info_text};
 ghost use Rattle.hfs_texts.specs.Texts.{Gains};
-ghost use Rattle.hfs_take.specs.Facts.{image_name, volume_text};
+ghost use Rattle.hfs_take.specs.Facts.{image_name, told_name, volume_text};
 
 use hfs_bag::SourceFault;
 use hfs_commands::ShownPath;
@@ -48,13 +48,13 @@ fn push_name(text: &mut String, name: &[u8]) -> Result<(), AllocError>
     }
 }
 
-/// Appends the name of a volume, where there is one.
-fn push_name_field(text: &mut String, name: &Option<[u8; 28]>) -> Result<(), AllocError>
-    ensures { OnOk result (Gains text.old text.new (name_field name.now)) }
+/// Appends the name of a volume, or that there is none.
+fn push_told_name(text: &mut String, name: &Option<[u8; 28]>) -> Result<(), AllocError>
+    ensures { OnOk result (Gains text.old text.new (told_name name.now)) }
 {
     match name {
         Some(name) => push_name(text, name),
-        None => Ok(()),
+        None => text.push_str(" no volume"),
     }
 }
 
@@ -77,7 +77,7 @@ pub(crate) fn volume_text(
     text.push(' ')?;
     write!(text, "{}", found.range.len)?;
     text.push(' ')?;
-    push_name_field(&mut text, name)?;
+    push_told_name(&mut text, name)?;
     Ok(text)
 }
 
