@@ -7,6 +7,7 @@ ghost use Rattle.hfs_commands.specs.Faults.{status_number, status_of};
 mod by_path;
 mod collecting;
 mod commands;
+mod help;
 mod hints;
 mod pages;
 mod progress;
