@@ -15,7 +15,7 @@ pub invariant_of-trees : goal.invariant_of-trees
 invariant_of-trees c =
     let mdb = c.read_mdb_at-mdb.result in
     let remains = c.in_ok-remains.remains in
-    let made = c.in_ok-remains.ensures in
+    let made = c.in_ok-remains.ensures.remains in
     record {
       size = search rules;
       extents_there = λ i b e.
