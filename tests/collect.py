@@ -32,10 +32,11 @@ from datetime import datetime, timedelta
 from pathlib import Path
 from urllib.parse import quote
 
+from driver.programs import built
 from volumes import in_disk_copy, in_map, in_macbinary
 
 HERE = Path(__file__).resolve().parent
-TOOL = os.environ.get('HFS_TOOL') or str(HERE.parent / 'crates' / 'hfs_tool' / 'out' / 'hfs_tool')
+TOOL = str(built('hfs_tool'))
 VOLUMES = HERE / 'volumes'
 P6 = '8a87ab0d0aabcd89bc3175134dae1fbd9e84c136bc25c294375b54fecd06434f'
 PROGRAM = 'hfs_tool 1.0.0'

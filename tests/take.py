@@ -34,9 +34,10 @@ from pathlib import Path
 import broken_off
 import slow_volumes
 from bags import NoBag, read_bag
+from driver.programs import built
 
 HERE = Path(__file__).resolve().parent
-TOOL = os.environ.get('HFS_TOOL') or str(HERE.parent / 'crates' / 'hfs_tool' / 'out' / 'hfs_tool')
+TOOL = str(built('hfs_tool'))
 VOLUMES = HERE / 'volumes'
 BLOCK = 512
 # Seconds from the clock of the Macintosh to that of Unix.

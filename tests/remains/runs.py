@@ -7,10 +7,11 @@ from dataclasses import dataclass, field, replace
 from pathlib import Path
 from typing import Optional
 
+from driver.programs import built
 from remains.bag import Remains, Rescued, Source, info_lines
 
 HERE = Path(__file__).resolve().parents[1]
-TOOL = os.environ.get('HFS_TOOL') or str(HERE.parent / 'crates' / 'hfs_tool' / 'out' / 'hfs_tool')
+TOOL = str(built('hfs_tool'))
 # Seconds from the clock of the Macintosh to that of Unix.
 UNIX = 2_082_844_800
 # How many seconds a run may take: far more than any does.
