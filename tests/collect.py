@@ -556,6 +556,7 @@ def made_by_sqlite(place):
     ensure(schema_of(place.folder / 'notes.db') == [notes[3], *TABLES], 'tables beside others')
     # sqlite3 writes between two runs.
     database = sqlite3.connect(place.folder / 'notes.db')
+    database.execute('PRAGMA foreign_keys = ON')
     database.execute("INSERT INTO shelf (name) VALUES ('more')")
     database.execute('DELETE FROM image')
     database.commit()
@@ -683,7 +684,7 @@ def read_only(place):
 
 def full_device(place, folder, how, what):
     """Images on the way into a database on a device that has no more room: those before the fault stay, and the next run goes on."""
-    named_volume(place, 'big.img', 'Big', [f'create\t2\t{"n" * 20}{n:04}' for n in range(300)], blocks=400, nodes=120)
+    named_volume(place, 'big.img', 'Big', [f'create\t2\t{"n" * 20}{n:04}' for n in range(300)], blocks=600, nodes=260)
     big = (place.folder / 'big.img').read_bytes()
     names = []
     for n in range(12):
@@ -719,14 +720,13 @@ def full_devices(place, left_out):
                 return
             try:
                 full_device(place, folder, {}, 'a full device')
-                # No room at all.
-                for path in Path(folder).iterdir():
-                    path.unlink()
-                with open(Path(folder) / 'fill', 'wb') as fill:
+                # No room at all, on a device of its own.
+                subprocess.run(['umount', folder], check=True)
+                subprocess.run(['mount', '-t', 'tmpfs', '-o', 'size=64k', 'tmpfs', folder], check=True)
+                with open(Path(folder) / 'fill', 'wb', buffering=0) as fill:
                     try:
                         for _ in range(10_000):
                             fill.write(bytes(4096))
-                            fill.flush()
                     except OSError:
                         pass
                 database = Path(folder) / 'c.db'
@@ -803,10 +803,11 @@ def refused_memory(place, library, step):
             holds(place, rows)
             whole += 1
         else:
-            ensure(found in ((5, 'out of memory\n'), (5, told[1] + 'out of memory\n')), f'call {call} for memory refused: {found}')
+            # Where the words themselves can't be taken in, they are told to be no text.
+            ensure(found in ((5, 'out of memory\n'), (5, told[1] + 'out of memory\n'), (1, 'the words are not text\n')), f'call {call} for memory refused: {found}')
             whole = 0
             has = list(held(place))
-            ensure(has == ['p6.img'] or found[1] != 'out of memory\n' and has == ['p6.img', image], f'call {call} for memory refused: the database has {has}')
+            ensure(has == ['p6.img'] or found[0] == 5 and found[1] != 'out of memory\n' and has == ['p6.img', image], f'call {call} for memory refused: the database has {has}')
             refused += 1
             log = place.folder / 'c.db-wal'
             if log.exists():
@@ -875,7 +876,7 @@ def many_images(place, count):
     place.wants(0, ''.join(f'same\t{name}\n' for name in names), 'collect', 'c.db', '--compare')
     began = time.time()
     ensure(place.done('collect', 'c.db', *names) == text, 'many images a second time')
-    ensure(place.names() == ['c.db', *names], 'what many images leave')
+    ensure(place.names() == [*names, 'c.db', 'p6.img'], 'what many images leave')
     return first, time.time() - began
 
 

@@ -39,7 +39,7 @@ offered() {
     bash -c '. "$1"; shift; COMP_WORDS=(hfs_tool "$@"); COMP_CWORD=$#; _hfs_tool; printf "%s\n" "${COMPREPLY[@]}" | sort | tr "\n" " "' _ \
         "$share/bash-completion/completions/hfs_tool" "$@"
 }
-[ "$(offered re)" = 'repair ' ] || fail 'the completion of a word'
+[ "$(offered re)" = 'repair rescue ' ] || fail 'the completion of a word'
 [ "$(offered run --)" = '--help --now --out ' ] || fail 'the completion of an option'
 [ -n "$(offered check tests/vol)" ] || fail 'the completion of a path'
 echo 'the package agrees'
