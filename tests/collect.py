@@ -231,7 +231,7 @@ def sha256(content):
 def fork_of(place, image, number, path, *words):
     """The bytes of a fork."""
     ran = subprocess.run([TOOL, 'cat', str(image), '--path', path, *words, '--volume', str(number)], stdin=subprocess.DEVNULL, capture_output=True,
-                         cwd=place.folder, timeout=60)
+                         cwd=place.folder, timeout=600)
     ensure(ran.returncode == 0 and not ran.stderr, f'cat of {path} in {image} ends with {ran.returncode}')
     return ran.stdout
 
@@ -884,7 +884,7 @@ def full_output(place):
     """A device for what is printed that is full: what was collected stays."""
     small_volume(place)
     with open('/dev/full', 'wb') as full:
-        ran = subprocess.run([TOOL, 'collect', 'c.db', 'p6.img'], stdout=full, stderr=subprocess.PIPE, cwd=place.folder, timeout=60)
+        ran = subprocess.run([TOOL, 'collect', 'c.db', 'p6.img'], stdout=full, stderr=subprocess.PIPE, cwd=place.folder, timeout=600)
     ensure((ran.returncode, ran.stderr) == (4, b''), f'collect on a full device ends with {ran.returncode}')
     holds(place, [image_rows(place, 'p6.img')])
 
@@ -895,7 +895,7 @@ def terminal(place):
     place.file('more.img', (place.folder / 'p6.img').read_bytes())
     ours, theirs = os.openpty()
     ran = subprocess.run([TOOL, 'collect', 'c.db', 'p6.img', 'more.img', 'none.img'], stdin=subprocess.DEVNULL, stdout=subprocess.PIPE, stderr=theirs, cwd=place.folder,
-                         timeout=60)
+                         timeout=600)
     os.close(theirs)
     told = b''
     try:
