@@ -18,7 +18,7 @@ from pathlib import Path
 
 ROOT = Path(__file__).resolve().parent.parent
 BEGINNING = re.compile(r'^( *)(?:pub(?:\([a-z]+\))? )?(?:unsafe )?fn (\w+)', re.M)
-HEAD = re.compile(r"^impl(?:<[^>]*>)? (?:[\w:<>', ]+ for )?(\w+)", re.M)
+HEAD = re.compile(r"^impl(?:<[^>]*>)? (?:(?:\w+::)*(\w+)(?:<[\w:<>', ]*>)? for )?(\w+)", re.M)
 SAID = re.compile(r'not proved|error|no proof')
 
 
@@ -30,7 +30,8 @@ def function_around(crate, module, text, place):
         return None
     indent, name = begun[-1].groups()
     if indent:
-        name = f'{list(HEAD.finditer(before[:begun[-1].start()]))[-1][1]}::{name}'
+        trait, kind = list(HEAD.finditer(before[:begun[-1].start()]))[-1].groups()
+        name = f'{kind}{trait or ""}::{name}'
     return '::'.join([crate, *module, name])
 
 
@@ -76,7 +77,8 @@ def is_refused(crate, path, place, only):
         check = [place.parent.parent / 'scripts' / 'check_one.sh', crate, *words]
         run = subprocess.run(check, stdout=subprocess.PIPE, stderr=subprocess.STDOUT, text=True)
         said = [it for it in run.stdout.split('\n') if SAID.search(it)]
-        return run.returncode != 0 and bool(said), '\n    '.join([' '.join(map(str, words)), *(it[:300] for it in said[:2])])
+        is_tried = 'has no function' not in run.stdout
+        return is_tried and run.returncode != 0 and bool(said), '\n    '.join([' '.join(map(str, words)), *(it[:300] for it in said[:2])])
     finally:
         for file, text in whole.items():
             (place / file).write_text(text, 'utf-8')

@@ -1,7 +1,9 @@
 #!/usr/bin/env python3
 """Collections in one database, as `collect` makes them, against other programs: sqlite3 reads each
 database (its own check of the file, keys, the tables' text), and each row stands beside what
-`items`, `volumes`, `info`, `ls` and `cat` tell of the image and hashlib sums of it. Then databases
+`items`, `volumes`, `info`, `ls` and `cat` tell of the image and hashlib sums of it; of a refused
+volume beside what `rescue` lists and the bag that it writes, for each damage of tests/damaged.sh and
+tests/volumes/images.txt, and beside rows by hand. Then databases
 that sqlite3 made, with the same tables, other tables and more tables; databases that are damaged,
 locked, read-only or no databases; devices that are full; images that can't be read, also in the
 middle, that are the database itself, that have two paths or odd names; memory that is refused; runs
@@ -33,6 +35,10 @@ from pathlib import Path
 from urllib.parse import quote
 
 from driver.programs import built
+from images import SMALL, edited
+from remains.cases import all_cases
+from remains.runs import Bench
+from rescue import shell_damages, small_volume as small_file, with_bytes, worked
 from volumes import in_disk_copy, in_map, in_macbinary
 
 HERE = Path(__file__).resolve().parent
@@ -265,20 +271,66 @@ def item_rows(place, image, number, has_digests):
     return rows
 
 
+def resources_in(content):
+    """The resource fork in an AppleDouble file."""
+    return content[82:82 + int.from_bytes(content[46:50], 'big')]
+
+
+def remaining_row(bag, fields, line, has_digests):
+    """The row of an item that remains, by its line of the bag's table, and that of what remains of it."""
+    path, number, cnid, *verdicts = line.split('\t')
+    ensure((path, cnid) == (fields['path'], fields['id']), f'{path} stands beside {fields["path"]} in a bag')
+    told = {column: int(fields[column]) if column in NUMBERS and fields[column] else fields[column] or None for column in SHARED_COLUMNS}
+    is_file = told['kind'] == 'file'
+    told.update(number=int(number), path=None, bag_path=path, cnid=int(cnid), locked={'yes': 1, 'no': 0, '': None}[fields['locked']])
+    above, name = os.path.split(path)
+    for column, verdict in zip(('data', 'resource'), verdicts):
+        told[f'{column}_verdict'] = verdict if is_file else None
+        told[f'{column}_sha256'] = None
+        if is_file and has_digests and verdict != 'left':
+            content = (bag / 'data' / path).read_bytes() if column == 'data' else resources_in((bag / 'data' / above / f'._{name}').read_bytes())
+            told[f'{column}_sha256'] = sha256(content)
+    ensure(told['items'] is None and told['file_id'] is None, f'{path} has items or a file ID')
+    return tuple(told[column] for column in ITEM_COLUMNS)
+
+
+def remains_of(place, image, words, has_digests):
+    """The directory that `rescue` finds in an image, and the rows of what remains of its items, by its list and by the bag that it writes; None where it finds none."""
+    status, listed = place.run('rescue', image, '--list', *words)
+    if status == 2:
+        return None
+    with tempfile.TemporaryDirectory() as folder:
+        bag = Path(folder) / 'bag'
+        ensure(place.run('rescue', image, bag, *words, '--no-digest')[0] == status, f'a bag of {image}')
+        lines = (bag / 'rescue.tsv').read_text('utf-8')
+        ensure(listed.startswith(lines), f'the list and the bag of {image}')
+        with open(bag / 'items.csv', newline='', encoding='utf-8') as table:
+            fields = list(csv.DictReader(table, strict=True))
+        ensure(lines.count('\n') == len(fields), f'both tables of {image}')
+        rows = [remaining_row(bag, *it, has_digests) for it in zip(fields, lines.splitlines())]
+        facts = dict(line.split(' ', 1) for line in (bag / 'volume.txt').read_text('utf-8').splitlines()[:30])
+        name = re.search('^External-Identifier: (.*)$', (bag / 'bag-info.txt').read_text('utf-8'), re.M)[1]
+    return (name or None, *(moment(facts[it]) for it in ('drCrDate', 'drLsMod', 'drVolBkUp')), *(int(facts[it]) for it in ('drNmAlBlks', 'drAlBlkSiz', 'drFreeBks'))), rows
+
+
 def volume_rows(place, image, has_digests):
-    """The rows of the volumes of an image, each with those of its items."""
+    """The rows of the volumes of an image, or of the one that is lost in it, each with those of its items."""
     status, text = place.run('volumes', image)
     rows = []
     for line in text.splitlines() if status == 0 else []:
-        number, how, first, length = line.split('\t')[:4]
+        number, how, first, length, name = line.split('\t')[:5]
         status, told = place.run('ls', image, '--volume', number)
         if status == 0:
             facts = facts_of(place, image, number)
-            name = place.done('items', image, '--volume', number).split('\t', 1)[0]
             head = [name or None, *(moment(facts[it]) for it in ('drCrDate', 'drLsMod', 'drVolBkUp')), *(int(facts[it]) for it in ('drNmAlBlks', 'drAlBlkSiz', 'drFreeBks'))]
             rows.append(((int(number), how, int(first), int(length), *head, 'sound'), item_rows(place, image, number, has_digests)))
         else:
-            rows.append(((int(number), how, int(first), int(length), *[None] * 7, told.splitlines()[0]), []))
+            head, items = remains_of(place, image, ['--volume', number], has_digests) or ([None] * 7, [])
+            rows.append(((int(number), how, int(first), int(length), *head, told.splitlines()[0]), items))
+    remains = None if rows else remains_of(place, image, [], has_digests)
+    if remains:
+        fault = place.run('ls', image)[1].splitlines()[0]
+        rows.append(((0, 'lost', 0, os.path.getsize(image), *remains[0], fault), remains[1]))
     return rows
 
 
@@ -293,8 +345,9 @@ def line_of(rows):
     """The line that is printed of an image with these rows."""
     (path, *_), volumes = rows
     refused = sum(row[-1] != 'sound' for row, _ in volumes)
-    files = sum(item[ITEM_COLUMNS.index('kind')] == 'file' for _, items in volumes for item in items)
-    return f'{shown(path)}\tvolumes {len(volumes)}\trefused {refused}\tfiles {files}\tdamaged 0\n'
+    files = [item for _, items in volumes for item in items if item[ITEM_COLUMNS.index('kind')] == 'file']
+    damaged = sum(item[-2:] != (WHOLE, WHOLE) for item in files)
+    return f'{shown(path)}\tvolumes {len(volumes)}\trefused {refused}\tfiles {len(files)}\tdamaged {damaged}\n'
 
 
 # ---- what a database has
@@ -401,7 +454,8 @@ def worked_example(place):
     place.refuses('a changed image', 3, 'changed\tp6.img\n', 'collect', 'c.db', '--compare')
     place.wants(0, 'p6.img\tvolumes 1\trefused 1\tfiles 0\tdamaged 0\n', 'collect', 'c.db', 'p6.img')
     ensure(table_lines(place.folder / 'c.db', 'image')[0].startswith('1|p6.img|32768|'), 'the row of the changed image')
-    ensure(table_lines(place.folder / 'c.db', 'volume') == ['1|1|1|bare|0|32768||||||||check C10 at 3'], 'the row of the refused volume')
+    ensure(table_lines(place.folder / 'c.db', 'volume') == ['1|1|1|bare|0|32768|D||||58|512|50|check C10 at 3'], 'the row of the refused volume')
+    ensure(table_lines(place.folder / 'c.db', 'item') == [f'1|1|0|||folder|2|1|||0000|||||||||{zeros}||||'], 'the row of its root')
     holds(place, [image_rows(place, 'p6.img')])
 
 
@@ -437,6 +491,71 @@ def rows_beside_words(place):
     rows = [image_rows(place, name, name not in names[:3]) for name in names]
     place.wants(0, ''.join(map(line_of, rows[:3])), 'collect', 'c.db', *names[:3], '--no-digest')
     holds(place, rows)
+
+
+def listed_images(bases):
+    """The images of tests/volumes/images.txt."""
+    for number, line in enumerate((VOLUMES / 'images.txt').read_text('ascii').splitlines(), 1):
+        word, _, behind = line.partition(' ')
+        if word == 'volume':
+            about, edits = behind.split(';')
+            name, base = about.split(' ')
+            bases[name] = edited(bases[base], edits)
+        elif line and not line.startswith('#') and word != 'test':
+            about, edits, _ = (part.strip(' ') for part in line.split(';', 2))
+            yield f'line {number}', edited(bases[about.split(' ')[-1]], edits)
+
+
+def damaged_disks(place):
+    """Rows of refused volumes: those that a hand wrote, and each damage of tests/damaged.sh and tests/volumes/images.txt, beside what `rescue` lists and writes."""
+    bench = Bench(place.folder / 'bench')
+    bench.folder.mkdir(exist_ok=True)
+    images, by_hand = {}, {}
+    for what, image, limit, _, printed, lines in worked(bench):
+        if limit is None:
+            images[what], by_hand[what] = image, lines
+    for it in all_cases():
+        if it.limit is None:
+            images[f'case: {it.name}'], by_hand[f'case: {it.name}'] = it.image, ''.join(row.replace('|', '\t') + '\n' for row in it.rows)
+    floppy = (VOLUMES / 'hfsutils-800k.img').read_bytes()
+    for what, at, content in shell_damages():
+        images[f'damaged.sh: {what}'] = with_bytes(floppy, (at, content))
+    images.update(listed_images({name: small_file(name) for name in SMALL} | {'New': small_volume(place, 'new.img'), 'Nothing': b''}))
+    lost = with_bytes(small_file('OneFile'), (1024, bytes(512)))
+    images.update({'lost': lost, 'lost in a map': in_map(lost, 512), 'lost in a copy': in_disk_copy(lost), 'cut in a map': in_map(floppy[:300_000], 512),
+                   'two in a map': b'ER' + in_map(with_bytes(floppy, (1024 + 87, b'\xff')), 512)[2:], 'lost behind text': b'no disk\n' * 64 + lost})
+    names = {}
+    for n, (what, content) in enumerate(images.items()):
+        names[f'{n:04}.img'] = what
+        place.file(f'{n:04}.img', content)
+    shutil.rmtree(bench.folder)
+    for database, words in (('c.db', []), ('n.db', ['--no-digest'])):
+        rows = [image_rows(place, name, not words) for name in names]
+        found = place.done('collect', database, *names, *words)
+        for name, row, line in zip(names, rows, found.splitlines(keepends=True)):
+            ensure(line == line_of(row), f'{names[name]}: {line!r} in place of {line_of(row)!r}')
+        holds(place, rows, database)
+    held_rows = held(place)
+    for name, what in names.items():
+        if what in by_hand and [row[-1] for row, _ in held_rows[name][1]] != ['sound']:
+            items = [dict(zip(ITEM_COLUMNS, item)) for _, items in held_rows[name][1] for item in items]
+            told = ''.join(f'{it["bag_path"]}\t{it["number"]}\t{it["cnid"]}\t{it["data_verdict"] or "-"}\t{it["resource_verdict"] or "-"}\n' for it in items)
+            ensure(told == by_hand[what], f'{what}: the rows are {told!r}')
+    # Of the volume that is lost one row, of a map's as it lies there.
+    for what, wanted in {'lost': [(0, 'lost', 0, len(lost))], 'lost in a map': [(1, 'partition', 32768, len(lost))], 'lost in a copy': [(1, 'disk copy', 84, len(lost))]}.items():
+        name = next(name for name in names if names[name] == what)
+        volumes = held_rows[name][1]
+        ensure([row[:4] for row, _ in volumes] == wanted and volumes[0][0][-1] == 'not an HFS volume (-57)', f'{what}: the volumes are {volumes}')
+        item = dict(zip(ITEM_COLUMNS, volumes[0][1][-1]))
+        ensure(item['bag_path'] == 'f' and item['data_sha256'] == sha256(bytes(k % 251 for k in range(2000))) and item['resource_sha256'] == sha256(b''), f'{what}: {item}')
+    place.wants(0, ''.join(f'same\t{name}\n' for name in names), 'collect', 'c.db', '--compare')
+    # Mended, or damaged, the old rows go.
+    place.file('0000.img', floppy)
+    place.file('0001.img', b'no disk\n' * 900)
+    changed = [image_rows(place, name) for name in ('0000.img', '0001.img')]
+    place.wants(0, ''.join(map(line_of, changed)), 'collect', 'c.db', '0000.img', '0001.img')
+    found = held(place)
+    ensure([found[name] for name in ('0000.img', '0001.img')] == changed and all(found[name] == held_rows[name] for name in list(names)[2:]), 'rows of images that changed')
 
 
 def odd_paths(place):
@@ -779,16 +898,28 @@ def broken_reads(place, library):
         place.wants(4, f'cannot read {name}\n' + line_of(rows[1]), 'collect', 'c.db', name, 'p6.img', **how)
         place.wants(3, f'missing\t{name}\nsame\tp6.img\n', 'collect', 'c.db', '--compare', **how)
         holds(place, rows)
+    # A volume that is refused is read whole, without digests too.
+    place.file('lost.img', with_bytes(content, (1024, bytes(512))))
+    place.done('collect', 'c.db', 'lost.img')
+    rows.append(image_rows(place, 'lost.img'))
+    inode, other = os.stat(place.folder / 'lost.img').st_ino, inode
+    for block in (0, 2, 14, 40):
+        how = {'env': {**os.environ, 'LD_PRELOAD': str(library), 'REFUSED_FILE': str(inode), 'REFUSED_BLOCK': str(block)}}
+        place.wants(4, f'cannot read lost.img\n' + line_of(rows[1]), 'collect', 'c.db', 'lost.img', 'p6.img', *(['--no-digest'] if block == 40 else []), **how)
+        rows[1] = image_rows(place, 'p6.img', block != 40)
+        holds(place, rows)
+    inode = other
     # Without digests a block that nothing lies in isn't read; one of the catalog is.
     how = {'env': {**os.environ, 'LD_PRELOAD': str(library), 'REFUSED_FILE': str(inode), 'REFUSED_BLOCK': '2'}}
     place.wants(4, f'cannot read {name}\n', 'collect', 'c.db', name, '--no-digest', **how)
     holds(place, rows)
 
 
-def refused_memory(place, library, step):
+def refused_memory(place, library, step, edits=()):
     """Each so many-th call that asks for memory is refused: the image is as before, or whole."""
     image = 'hfsutils-800k.img'
-    shutil.copyfile(VOLUMES / image, place.folder / image)
+    place.file(image, with_bytes((VOLUMES / image).read_bytes(), *edits))
+    (place.folder / 'c.db').unlink(missing_ok=True)
     small_volume(place)
     place.done('collect', 'c.db', 'p6.img')
     before = (place.folder / 'c.db').read_bytes()
@@ -931,13 +1062,14 @@ def main():
             subprocess.run(['cc', '-shared', '-fPIC', '-O1', '-o', library, Path(top) / 'refuse.c', '-ldl'], check=True)
         else:
             left_out.append('reads and memory that are refused, for want of a C compiler')
-        parts = [worked_example, rows_beside_words, odd_paths, comparisons, refused_words, made_by_sqlite, other_tables, damaged_databases, other_programs, read_only,
+        parts = [worked_example, rows_beside_words, damaged_disks, odd_paths, comparisons, refused_words, made_by_sqlite, other_tables, damaged_databases, other_programs, read_only,
                  unread_images, full_output, terminal]
         parts = [(part.__name__, part) for part in parts]
         parts.append(('full_devices', lambda place: full_devices(place, left_out)))
         if library:
             parts.append(('broken_reads', lambda place: broken_reads(place, library)))
-            parts.append(('refused_memory', lambda place: told.append(f'{refused_memory(place, library, words.memory_step)} calls for memory refused')))
+            parts.append(('refused_memory', lambda place: told.append('{} calls for memory refused'.format(
+                refused_memory(place, library, words.memory_step) + refused_memory(place, library, words.memory_step, [(1024 + 87, b'\xff')])))))
         parts.append(('killed', lambda place: told.append('killed: {before} images as before, {whole} whole'.format(**killed(place, words.kills, words.seed)))))
         parts.append(('many_images', lambda place: told.append('{} images: {:.1f} s, again {:.1f} s'.format(words.images, *many_images(place, words.images)))))
         for name, part in parts:

@@ -56,7 +56,7 @@ ln -s "$PWD/crates" "$PWD/scripts" "$PWD/tests" "$readme"
 cp "$volumes/hfsutils-800k.img" "$readme/images/m0.img"
 cp "$volumes/genisoimage-locked.img" "$readme/images/old disk.img"
 cp "$volumes/refused-icon.img" "$readme/images/icon.img"
-head -c 300000 "$volumes/hfsutils-800k.img" > "$readme/images/cut.img"
+head -c 50000 "$volumes/hfsutils-800k.img" > "$readme/images/cut.img"
 
 # Four bytes, the greatest first.
 number() {

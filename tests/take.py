@@ -47,6 +47,43 @@ BASIS, PRIME = 0x14650FB0739D0383, 0x100000001B3
 HEAD = bytes.fromhex('00051607' + '00020000' + '00' * 16 + '0002' + '00000009' + '00000032' + '00000020' + '00000002' + '00000052')
 TAGS = ['manifest-sha256.txt', 'items.csv', 'volume.txt', 'bag-info.txt', 'bagit.txt', 'tagmanifest-sha256.txt']
 DEVICES = {'CON', 'PRN', 'AUX', 'NUL', *(f'{it}{n}' for it in ('COM', 'LPT') for n in range(1, 10))}
+# When a folder is made, an image is cut; behind its first opening a path gets another file; no thread is begun.
+CHANGE = r'''
+#define _GNU_SOURCE
+#include <dlfcn.h>
+#include <errno.h>
+#include <fcntl.h>
+#include <pthread.h>
+#include <stdarg.h>
+#include <stdio.h>
+#include <stdlib.h>
+#include <string.h>
+#include <sys/stat.h>
+#include <unistd.h>
+
+int mkdir(const char *path, mode_t mode) {
+    int (*next)(const char *, mode_t) = dlsym(RTLD_NEXT, "mkdir");
+    const char *image = getenv("CUT_IMAGE");
+    if (image && truncate(image, atoll(getenv("CUT_BYTES"))) != 0) abort();
+    return next(path, mode);
+}
+
+int open(const char *path, int how, ...) {
+    int (*next)(const char *, int, ...) = dlsym(RTLD_NEXT, "open");
+    const char *replaced = getenv("REPLACED");
+    va_list rest;
+    va_start(rest, how);
+    int file = next(path, how, how & O_CREAT ? va_arg(rest, int) : 0);
+    va_end(rest);
+    if (replaced && !strcmp(path, replaced)) rename(getenv("OTHER"), replaced);
+    return file;
+}
+
+int pthread_create(pthread_t *made, const pthread_attr_t *how, void *(*begin)(void *), void *given) {
+    int (*next)(pthread_t *, const pthread_attr_t *, void *(*)(void *), void *) = dlsym(RTLD_NEXT, "pthread_create");
+    return getenv("NO_THREADS") ? EAGAIN : next(made, how, begin, given);
+}
+'''
 
 
 class Differs(Exception):
@@ -413,6 +450,7 @@ volume.write({str(large)!r})
     ensure(status == 4, f'output that nobody takes: {status}')
     read_bag(here / 'unheard')
     compare_unread(bags, here)
+    compare_changed(bags, here)
     compare_killed(bags, large, here)
 
 
@@ -431,6 +469,39 @@ def compare_unread(bags, here):
         run = subprocess.run([TOOL, 'take', image, bag, *words], stdin=subprocess.DEVNULL, stdout=subprocess.PIPE, env=how, text=True, timeout=60)
         ensure(run.returncode == status and (status == 0 or run.stdout == f'cannot read {image}\n'), f'block {block} is refused: {run}')
         ensure(bag.exists() == (status == 0) and not list(here.glob('unread-*.new')), f'block {block} is refused, and something is left')
+
+
+def compare_changed(bags, here):
+    """The image's digest, which is made beside the payload: of an image that is cut meanwhile behind the last block of a fork, of one whose path
+    another file gets as soon as it is opened, and where no thread can be begun."""
+    if not shutil.which('cc'):
+        bags.skipped.append('images that change')
+        return
+    source, library = bags.folder / 'change.c', bags.folder / 'change.so'
+    source.write_text(CHANGE)
+    subprocess.run(['cc', '-shared', '-fPIC', '-O1', '-o', library, source, '-ldl'], check=True)
+    image, other = here / 'changed.img', here / 'other.img'
+    content = laid_volume(bags).read_bytes()
+    digest = f'Source-SHA256: {hashlib.sha256(content).hexdigest()}\n'
+
+    def taken(name, *words, **how):
+        bag = here / f'changed-{name}'
+        image.write_bytes(content)
+        other.write_bytes(bytes(len(content)))
+        run = subprocess.run([TOOL, 'take', image, bag, *words], stdin=subprocess.DEVNULL, stdout=subprocess.PIPE, text=True, timeout=60,
+                             env={**os.environ, 'LD_PRELOAD': str(library), **how})
+        return bag, run
+
+    cut = {'CUT_IMAGE': str(image), 'CUT_BYTES': str(24 * BLOCK)}
+    bag, run = taken('cut', **cut)
+    ensure((run.returncode, run.stdout) == (4, f'cannot read {image}\n') and not list(here.glob('changed-*')), f'an image that is cut: {run}')
+    bag, run = taken('cut', '--no-digest', **cut)
+    ensure(run.returncode == 0 and image.stat().st_size == 24 * BLOCK, f'an image that is cut, without its digest: {run}')
+    bag, run = taken('replaced', REPLACED=str(image), OTHER=str(other))
+    ensure(run.returncode == 0 and not other.exists() and digest in (bag / 'bag-info.txt').read_text(), f'an image whose path another file gets: {run}')
+    bag, run = taken('alone', NO_THREADS='1')
+    ensure(run.returncode == 0 and digest in (bag / 'bag-info.txt').read_text(), f'no thread can be begun: {run}')
+    read_bag(bag)
 
 
 def compare_killed(bags, image, here):

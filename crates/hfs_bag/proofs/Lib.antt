@@ -4,4 +4,5 @@ pub mod Growing
 pub mod GivingLemmas
 pub mod ListingLemmas
 pub mod TagLemmas
+pub mod HalfLemmas
 pub mod PathLemmas

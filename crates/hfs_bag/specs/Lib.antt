@@ -3,6 +3,7 @@ pub mod Sources
 pub mod Filling
 pub mod Bags
 pub mod Giving
+pub mod Payloads
 pub mod Tags
 pub mod TagParts
 pub mod Sums

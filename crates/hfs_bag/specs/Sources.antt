@@ -81,3 +81,9 @@ pub record HasRestarted (old new : SourceState) : Type 0 where
   pub all : new.all ≡ old.all
   pub left : WhereKnown old (new.left ≡ old.all)
   pub tables : new.tables ≡ old.tables
+
+-- the items and the tables are the same; others may be to come
+pub record KeepsItems (old new : SourceState) : Type 0 where
+  pub known : new.known ≡ old.known
+  pub all : new.all ≡ old.all
+  pub tables : new.tables ≡ old.tables

@@ -14,9 +14,9 @@ use crate::sums::item_bytes;
 use hfs_shelves::Shelf;
 use std::alloc::Global;
 
-/// What was given of a payload.
+/// What is kept of a payload that was given, until its tag files are.
 #[derive(Drop)]
-pub(crate) struct Given {
+pub struct GivenPayload {
     /// The digests of the items' files, in the order of the items.
     pub(crate) digests: Vec<ItemDigests>,
     /// The bytes of all these files.
@@ -24,7 +24,7 @@ pub(crate) struct Given {
 }
 
 /// Keeps what is told of an item that was given.
-fn keep(given: &mut Given, told: ItemDigests, bytes: u64) -> Result<(), BagFault>
+fn keep(given: &mut GivenPayload, told: ItemDigests, bytes: u64) -> Result<(), BagFault>
     ensures digests { OnOk result (given.new.digests.items ≡ given.old.digests.items ++ told ∷ []) }
     ensures bytes { OnOk result (given.new.bytes ≡ given.old.bytes + bytes) }
 {
@@ -43,7 +43,7 @@ fn give_next<S: Shelf, B: BagSource>(
     alloc: Global,
     shelf: &mut S,
     source: &mut B,
-    given: &mut Given,
+    given: &mut GivenPayload,
 ) -> Result<bool, BagFault>
     ensures given { OnOk result (HasGiven (S.given shelf.old) (S.given shelf.new)
         (B.state source.old) (B.state source.new)
@@ -65,7 +65,7 @@ pub(crate) fn give_items<S: Shelf, B: BagSource>(
     alloc: Global,
     shelf: &mut S,
     source: &mut B,
-) -> Result<Given, BagFault>
+) -> Result<GivenPayload, BagFault>
     ensures whole { OnOk result (WhereKnown (B.state source.old)
         (S.given shelf.new ≡ S.given shelf.old ++ items_entries (B.state source.old).left)) }
     ensures part { OnErr result (WhereKnown (B.state source.old)
@@ -78,7 +78,7 @@ pub(crate) fn give_items<S: Shelf, B: BagSource>(
     ensures all { OnOk result ((B.state source.new).all ≡ (B.state source.old).all) }
     ensures tables { OnOk result ((B.state source.new).tables ≡ (B.state source.old).tables) }
 {
-    let mut given = Given {
+    let mut given = GivenPayload {
         digests: Vec::new(alloc),
         bytes: 0,
     };

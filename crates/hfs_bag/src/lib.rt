@@ -16,9 +16,10 @@ mod tags;
 #[cfg(test)]
 mod tests;
 
-pub use crate::bag::give_bag;
+pub use crate::bag::{give_bag, give_payload, give_tag_files};
 pub use crate::facts::BagFacts;
 pub use crate::fault::BagFault;
+pub use crate::giving::GivenPayload;
 pub use crate::item::{BagHead, BagKind, ItemDigests};
 pub use crate::laws::bag_path_laws;
 pub use crate::source::{BagSource, SourceFault, Stream};

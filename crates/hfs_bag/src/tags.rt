@@ -13,7 +13,7 @@ ghost use Rattle.hfs_bag.specs.Tags.{declaration_text, image_digest_line, info_t
 use crate::facts::BagFacts;
 use crate::fault::BagFault;
 use crate::filling::{put_file, put_text};
-use crate::giving::Given;
+use crate::giving::GivenPayload;
 use crate::manifests::{give_manifest, push_digest_line};
 use crate::source::{BagSource, Stream};
 use hfs_shelves::Shelf;
@@ -171,7 +171,7 @@ fn give_first<S: Shelf, B: BagSource>(
     alloc: Global,
     shelf: &mut S,
     source: &mut B,
-    given: &Given,
+    given: &GivenPayload,
 ) -> Result<([u8; 32], [u8; 32], Option<[u8; 32]>), BagFault>
     requires { WhereKnown (B.state source.old)
         (given.now.digests.items ≡ map item_digests (B.state source.old).all) }
@@ -238,7 +238,7 @@ pub(crate) fn give_tags<S: Shelf, B: BagSource>(
     shelf: &mut S,
     source: &mut B,
     facts: &BagFacts<'_>,
-    given: &Given,
+    given: &GivenPayload,
     files: u64,
 ) -> Result<(), BagFault>
     requires told { WhereKnown (B.state source.old)

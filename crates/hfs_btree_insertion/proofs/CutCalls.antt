@@ -1,11 +1,10 @@
 -- A cut, from the calls that do it.
-use Rattle.std.proofs.Common.{◌≡◌, ◌≢◌, ℕ, suc, ◌+◌, ◌<◌, ◌≤◌, List, [], length, get_or, take, drop, nat_eq, sym, ap, ◌∙◌, subst, arith, eqb-true}
+use Rattle.std.proofs.Common.{◌≡◌, ◌≢◌, ℕ, suc, ◌+◌, ◌<◌, ◌≤◌, List, [], length, get_or, nat_eq, sym, ap, ◌∙◌, subst, arith, eqb-true}
 use Rattle.std.specs.Prelude.{true, false, All, Ok, Result, insert}
 use Rattle.std.specs.Cmp.{IsTotalOrder}
 use Rattle.std.proofs.lemmas.Bool.{eq-eqb}
 use Rattle.hfs_node.specs.declared.node.Node.{Node}
 use Rattle.hfs_node.specs.declared.fault.NodeFault.{NodeFault}
-use Rattle.hfs_node.specs.Node.{size_of}
 use Rattle.hfs_node.proofs.DecodingLemmas.{node_of-fits}
 use Rattle.hfs_node.proofs.ReadBackLemmas.{few-records}
 use Rattle.hfs_btree.specs.declared.key.Key.{Ghosts}
@@ -17,7 +16,7 @@ use Rattle.hfs_btree.proofs.DescentLemmas.{IsOnWay, way-node, index-entries}
 use Rattle.hfs_btree_edits.specs.Stored.{Decodes, IsLink, HasStored}
 use Rattle.hfs_btree_edits.proofs.DecodesLemmas.{decodes-as, decodes-same, decodes-stored}
 use Rattle.hfs_btree_insertion.specs.Stored.{HasRecordPut}
-use Rattle.hfs_btree_insertion.specs.Cut.{IsBranch, child_at, HasCutAt}
+use Rattle.hfs_btree_insertion.specs.Cut.{IsBranch, child_at, IsRoomyCut, HasCutAt}
 use Rattle.hfs_btree_insertion.specs.Halves.{NamesHalf, HasHalved}
 use Rattle.hfs_btree_insertion.proofs.SplitWrites.{p-n}
 use Rattle.hfs_btree_insertion.proofs.Cutting.{all-short, cut, cut-done, parent-way, child-way, child-within, right-link}
@@ -67,6 +66,9 @@ module _ {K : Type 0} (g : Ghosts K) (old : Store) (sound : IsSound g old) (k p 
         let P : ℕ → Type 0 = λ x. All (λ e. length e ≤ 140) (records_in old x) in
         subst P (sym is) (all-short g leaf index k (records_in old nn) child-reads)
 
+    pub child-each : Each (λ e. reads_at g k e ≡ true) (records_in old n)
+    child-each = let P : ℕ → Type 0 = λ x. Each (λ e. reads_at g k e ≡ true) (records_in old x) in subst P (sym is) child-reads
+
     pub child-entry : (c : ℕ) → c < length (records_in old n) → reads_at g k (get_or (records_in old n) c []) ≡ true
     child-entry c lt =
         let P : ℕ → Type 0 = λ x. c < length (records_in old x) → reads_at g k (get_or (records_in old x) c []) ≡ true in
@@ -74,15 +76,9 @@ module _ {K : Type 0} (g : Ghosts K) (old : Store) (sound : IsSound g old) (k p 
 
   -- ---- the writes
 
-  module _ (n : ℕ) (is : n ≡ nn) (m : ℕ) (stray : IsStray g old m) (c : ℕ) (some : 0 < c) (less : c < length (records_in old n)) (entry : List ℕ) (x : Store) (put : HasRecordPut p (q + 1) entry old x) where
-    less-child : c < length (records_in old nn)
-    less-child = let P : ℕ → Type 0 = λ j. c < length (records_in old j) in subst P is less
-
-    less-value : c < length spot.1.value.records
-    less-value = let P : Result Node NodeFault → Type 0 = λ r. c < length (records_of r) in subst P spot.1.decodes less-child
-
+  module _ (n : ℕ) (is : n ≡ nn) (m : ℕ) (stray : IsStray g old m) (entry : List ℕ) (x : Store) (put : HasRecordPut p (q + 1) entry old x) where
     other-parent : p ≢ nn
-    other-parent = p-n g old b.i k p nn m q c (cut g old sound k p q b put.node spot.1.value put.was spot.1.decodes c m some less-value stray) sound.structure
+    other-parent = p-n g old b.i k p nn m q (cut g old sound k p q b put.node spot.1.value put.was spot.1.decodes m stray) sound.structure
 
     same-child : node_in x nn ≡ node_in old nn
     same-child = put.stored.rest nn (λ e. other-parent (sym e))
@@ -92,13 +88,6 @@ module _ {K : Type 0} (g : Ghosts K) (old : Store) (sound : IsSound g old) (k p 
         let low = spot.1.within.0 in
         let P : ℕ → Type 0 = λ j. Decodes x j in
         (λ e. let z : nn ≡ 0 = sym is ∙ e in absurd (omega (arith, low, z)), subst P (sym is) (decodes-same old x nn same-child (decodes-as old nn spot.1.value spot.1.decodes)))
-
-    pub place-ready : c ≤ length (records_in x n)
-    place-ready =
-        let same = ap (λ (j : ℕ). length (records_in x j)) is in
-        let kept = ap (λ (r : Result Node NodeFault). length (records_of r)) same-child in
-        let lt = less-child in
-        omega (arith, same, kept, lt)
 
     pub right-ready : IsLink x (forward_of (node_in x n))
     right-ready =
@@ -113,18 +102,25 @@ module _ {K : Type 0} (g : Ghosts K) (old : Store) (sound : IsSound g old) (k p 
     upper : nat_eq k 0 ≡ false → k ≢ 0
     upper e z = let yes : nat_eq k 0 ≡ true = eq-eqb k 0 z in let both : true ≡ false = sym yes ∙ e in cc
 
-    pub cut-by : (w : Store) → IsTotalOrder g.compare → NamesHalf g old n c k m entry → HasHalved n m c (nat_eq k 0) x w → size_of (take c (records_in old n)) ≤ 319
-        → size_of (drop c (records_in old n)) ≤ 319 → HasCutAt g old w k p q m
-    cut-by w total names' halved first' second' =
-        let names = subst (λ j. NamesHalf g old j c k m entry) is names' in
-        let h = subst (λ j. HasHalved j m c (nat_eq k 0) x w) is halved in
-        let first = subst (λ j. size_of (take c (records_in old j)) ≤ 319) is first' in
-        let second = subst (λ j. size_of (drop c (records_in old j)) ≤ 319) is second' in
-        let was : node_in old nn ≡ Ok h.node = sym same-child ∙ h.was in
-        let one : q + 1 ≡ suc q = omega arith in
-        let S : ℕ → Type 0 = λ j. HasStored p (record put.node { records = insert put.node.records j entry }) old x in
-        let R : Result Node NodeFault → Type 0 = λ r. c < length (records_of r) in
-        let F : Result Node NodeFault → Type 0 = λ r. size_of (take c (records_of r)) ≤ 319 in
-        let T : Result Node NodeFault → Type 0 = λ r. size_of (drop c (records_of r)) ≤ 319 in
-        cut-done g old sound k p q b put.node h.node put.was was c m some (subst R was less-child) stray entry (record { index = names.index; names = names.names; keyed = names.keyed }) x h.cut h.both
-        (subst S one put.stored) h.first h.second w (nat_eq k 0) total bottom upper h.linked (subst F was first) (subst T was second)
+    module _ (c : ℕ) (some : 0 < c) (less : c < length (records_in old n)) where
+      less-child : c < length (records_in old nn)
+      less-child = let P : ℕ → Type 0 = λ j. c < length (records_in old j) in subst P is less
+
+      pub place-ready : c ≤ length (records_in x n)
+      place-ready =
+          let same = ap (λ (j : ℕ). length (records_in x j)) is in
+          let kept = ap (λ (r : Result Node NodeFault). length (records_of r)) same-child in
+          let lt = less-child in
+          omega (arith, same, kept, lt)
+
+      pub cut-by : (w : Store) (key : K) (len : ℕ) → IsTotalOrder g.compare → NamesHalf g old n c k m entry → HasHalved n m c (nat_eq k 0) x w → IsRoomyCut g old key k n c len
+          → HasCutAt g key len old w k p q m
+      cut-by w key len total names' halved room' =
+          let names = subst (λ j. NamesHalf g old j c k m entry) is names' in
+          let h = subst (λ j. HasHalved j m c (nat_eq k 0) x w) is halved in
+          let room = subst (λ j. IsRoomyCut g old key k j c len) is room' in
+          let was : node_in old nn ≡ Ok h.node = sym same-child ∙ h.was in
+          let one : q + 1 ≡ suc q = omega arith in
+          let S : ℕ → Type 0 = λ j. HasStored p (record put.node { records = insert put.node.records j entry }) old x in
+          cut-done g old sound k p q b put.node h.node put.was was m stray c some less-child entry (record { index = names.index; names = names.names }) names.keyed x h.cut h.both (subst S one put.stored) h.first h.second w
+          (nat_eq k 0) key len total bottom upper h.linked room

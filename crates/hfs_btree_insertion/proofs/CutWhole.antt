@@ -1,5 +1,5 @@
 -- A level of a tree with one node more: the node on the way to a key was cut in two.
-use Rattle.std.proofs.Common.{◌≡◌, ◌≢◌, ℕ, suc, ◌+◌, ◌-◌, ◌<◌, ◌≤◌, List, [], ◌∷◌, ◌++◌, length, get_or, refl, sym, ap, ◌∙◌, subst, arith, inl, inr}
+use Rattle.std.proofs.Common.{◌≡◌, ◌≢◌, ℕ, suc, ◌+◌, ◌-◌, ◌<◌, ◌≤◌, List, [], length, get_or, refl, sym, ap, ◌∙◌, subst, arith, inl, inr}
 use Rattle.std.specs.Prelude.{Ok, Result}
 use Rattle.std.specs.Cmp.{IsTotalOrder}
 use Rattle.std.specs.List.{flat_map, prefix_len}
@@ -7,24 +7,22 @@ use Rattle.std.proofs.lemmas.Bool.{cases_eq, cases_lt}
 use Rattle.hfs_node.specs.Node.{size_of}
 use Rattle.hfs_btree.specs.declared.key.Key.{Ghosts}
 use Rattle.hfs_btree.specs.Tree.{Store, records_in, level_below, first_of}
-use Rattle.hfs_btree.specs.Header.{header_in, depth_of, root_level, own_nodes, tree_nodes}
-use Rattle.hfs_btree.specs.Sound.{IsOther, IsSound}
+use Rattle.hfs_btree.specs.Header.{header_in, depth_of, root_level}
+use Rattle.hfs_btree.specs.Sound.{IsSound}
 use Rattle.hfs_btree.specs.Search.{is_not_above, child_for, leaf_under}
-use Rattle.hfs_btree_edits.specs.Stored.{HasClaimed, bytes_in}
+use Rattle.hfs_btree_edits.specs.Stored.{HasClaimed}
 use Rattle.hfs_btree_insertion.specs.Cut.{IsSplit, IsBranch, child_at, HasCutAt}
 use Rattle.hfs_btree_edits.specs.LevelParts.{lift}
 use Rattle.hfs_btree_edits.specs.Edits.{level_above, node_for}
-use Rattle.hfs_btree_insertion.specs.Growth.{IsLow, HasCutLevel}
+use Rattle.hfs_btree_insertion.specs.Growth.{HasRoom, IsLow, HasCutLevel}
 use Rattle.hfs_btree.proofs.DescentLemmas.{place-within, way-some}
 use Rattle.hfs_btree_edits.proofs.LevelPartLemmas.{lift-is}
 use Rattle.hfs_btree_insertion.proofs.LevelWays.{some-of, standing}
 use Rattle.hfs_btree.proofs.DecodedLemmas.{records-read}
 use Rattle.hfs_btree_insertion.proofs.WayTo.{IsAt, at-level, leaf-next, read-index}
 use Rattle.hfs_scans.specs.Each.{Each}
-use Rattle.hfs_scans.proofs.ElementLemmas.{each-left, each-right, each-append}
-use Rattle.hfs_btree_edits.proofs.LevelPartLemmas.{numbers}
-use Rattle.hfs_btree_insertion.proofs.Splits.{uppers, lowers, above-level, old-level, new-level, bn, hn, all-is, forward-is, new-nodes, new-exact, stray-gone, stray-same, one-more, levels-above, level-grown, levels-below}
-use Rattle.hfs_btree_insertion.proofs.SplitWays.{way-above, way-below, way-node, records-uppers, records-below, low-above, low-half, half-size, new-at, one-down}
+use Rattle.hfs_btree_insertion.proofs.Splits.{new-exact, stray-gone, stray-same, one-more, bytes-same, levels-above, level-grown, levels-below}
+use Rattle.hfs_btree_insertion.proofs.SplitWays.{way-above, way-below, way-node, records-uppers, records-below, low-above, low-half, half-room, new-at, one-down}
 use Rattle.hfs_btree_insertion.proofs.CutKeys.{claimed-stay, claimed-keys, split-stay, split-keys, stay-then, keys-then}
 use Rattle.hfs_btree_insertion.proofs.Taken.{HasTaken, taken-keeps, taken-free, taken-content, claimed-levels, claimed-depth, claimed-root}
 
@@ -61,8 +59,8 @@ module _ {K : Type 0} (g : Ghosts K) (nodes : Store) (key : K) (a : ℕ) (sound 
 
 -- ---- what it makes of the levels
 
-module _ {K : Type 0} (g : Ghosts K) (total : IsTotalOrder g.compare) (key : K) (a m : ℕ) (old new : Store) (sound : IsSound g old) (deep : a + 1 < depth_of old) (low : IsLow g old key)
-    (h : HasCutAt g old new a (node_for g old key (a + 1)) (prefix_len (is_not_above g key) (records_in old (node_for g old key (a + 1))) - 1) m) where
+module _ {K : Type 0} (g : Ghosts K) (total : IsTotalOrder g.compare) (key : K) (len a m : ℕ) (old new : Store) (sound : IsSound g old) (deep : a + 1 < depth_of old) (low : IsLow g old key)
+    (h : HasCutAt g key len old new a (node_for g old key (a + 1)) (prefix_len (is_not_above g key) (records_in old (node_for g old key (a + 1))) - 1) m) where
   abbrev pp : ℕ
   pp = node_for g old key (a + 1)
 
@@ -79,7 +77,7 @@ module _ {K : Type 0} (g : Ghosts K) (total : IsTotalOrder g.compare) (key : K) 
   root = (header_in old).root
 
   height : depth_of old ≡ h.i + 1 + 1 + a
-  height = let d = s.cut.deep in let e = lift-is h.i (suc a) in omega (arith, d, e)
+  height = let d = s.parts.cut.deep in let e = lift-is h.i (suc a) in omega (arith, d, e)
 
   way : leaf_under g old key h.i root ≡ pp
   way = let d = height in let e : h.i ≡ depth_of old - 1 - (a + 1) = omega (arith, d) in ap (λ (j : ℕ). leaf_under g old key j root) e
@@ -93,43 +91,14 @@ module _ {K : Type 0} (g : Ghosts K) (total : IsTotalOrder g.compare) (key : K) 
 
   -- ---- stray nodes and numbers
 
-  -- bytes of other nodes
-  first-other : (x : ℕ) (h : List ℕ) → x ≢ 0 → Each (IsOther x) h → x ≢ first_of h
-  first-other x [] some each = some
-  first-other x (y ∷ h) some each = λ e. each.0 (sym e)
-
-  cut-rest : (x : ℕ) → Each (IsOther x) (own_nodes old ++ (tree_nodes g old ++ tree_nodes g new)) → bytes_in new x ≡ bytes_in old x
-  cut-rest x other =
-      let P : List ℕ → Type 0 = λ xs. Each (IsOther x) xs in
-      let st = sound.structure in
-      let up = numbers (uppers g old new h.i a pp nn m qq h.c s st) in
-      let ab = above-level g old new h.i a pp nn m qq h.c s st in
-      let lv = old-level g old new h.i a pp nn m qq h.c s st in
-      let nl = new-level g old new h.i a pp nn m qq h.c s st in
-      let lw = numbers (lowers g old new h.i a pp nn m qq h.c s st) in
-      let bn' = bn g old new h.i a pp nn m qq h.c s st in
-      let hn' = hn g old new h.i a pp nn m qq h.c s st in
-      let own = each-left (IsOther x) (own_nodes old) (tree_nodes g old ++ tree_nodes g new) other in
-      let trees = each-right (IsOther x) (own_nodes old) (tree_nodes g old ++ tree_nodes g new) other in
-      let was = subst P (all-is g old new h.i a pp nn m qq h.c s st) (each-append (IsOther x) (own_nodes old) (tree_nodes g old) own (each-left (IsOther x) (tree_nodes g old) (tree_nodes g new) trees)) in
-      let two = each-right (IsOther x) up (ab ++ (lv ++ lw)) (each-right (IsOther x) (own_nodes old) (up ++ (ab ++ (lv ++ lw))) was) in
-      let at-p = (each-right (IsOther x) s.cut.before (pp ∷ s.cut.behind) (each-left (IsOther x) ab (lv ++ lw) two)).0 in
-      let level = each-right (IsOther x) bn' (nn ∷ hn') (each-left (IsOther x) lv lw (each-right (IsOther x) ab (lv ++ lw) two)) in
-      let now = subst P (new-nodes g old new h.i a pp nn m qq h.c s st) (each-right (IsOther x) (tree_nodes g old) (tree_nodes g new) trees) in
-      let at-m = (each-right (IsOther x) bn' (nn ∷ m ∷ hn') (each-left (IsOther x) nl lw (each-right (IsOther x) ab (nl ++ lw) (each-right (IsOther x) up (ab ++ (nl ++ lw)) now)))).1.0 in
-      let zero' : x ≢ 0 = λ e. own.0 (sym e) in
-      let forth = forward-is g old new h.i a pp nn m qq h.c s st in
-      s.bytes x zero' (λ e. at-p (sym e)) (λ e. level.0 (sym e)) (λ e. at-m (sym e)) (λ e. first-other x hn' zero' level.1 (e ∙ forth))
-
   pub cut-taken : HasTaken g m old new
   cut-taken = record {
     sound = h.sound;
     exact = λ exact. new-exact g old new h.i a pp nn m qq h.c s sound.structure total exact;
-    content = h.content;
-    head = s.head;
+    head = s.parts.head;
     gone = stray-gone g old new h.i a pp nn m qq h.c s sound.structure;
     same = λ x ne. stray-same g old new h.i a pp nn m qq h.c s sound.structure x ne;
-    rest = cut-rest;
+    rest = bytes-same g old new h.i a pp nn m qq h.c s sound.structure;
     more = one-more g old new h.i a pp nn m qq h.c s sound.structure;
   }
 
@@ -158,11 +127,11 @@ module _ {K : Type 0} (g : Ghosts K) (total : IsTotalOrder g.compare) (key : K) 
             ∙ sym (ap (λ (j : ℕ). level_below g old j (root_level old)) at))
         | inr more ↦ levels-above g old new h.i a pp nn m qq h.c s sound.structure (depth_of old - 1 - k) (omega (arith, d, more, ne, lt))
       ] in
-      ap (λ (x : ℕ). level_below g new (x - 1 - k) (root_level new)) s.depth ∙ rest
+      ap (λ (x : ℕ). level_below g new (x - 1 - k) (root_level new)) s.parts.depth ∙ rest
 
   pub cut-grown : length (level_above g new a) ≡ length (level_above g old a) + 1
   cut-grown =
-      ap (λ (x : ℕ). length (level_below g new (x - 1 - a) (root_level new))) s.depth
+      ap (λ (x : ℕ). length (level_below g new (x - 1 - a) (root_level new))) s.parts.depth
       ∙ ap (λ (j : ℕ). length (level_below g new j (root_level new))) place-here
       ∙ level-grown g old new h.i a pp nn m qq h.c s sound.structure
       ∙ sym (ap (λ (j : ℕ). length (level_below g old j (root_level old)) + 1) place-here)
@@ -172,22 +141,22 @@ module _ {K : Type 0} (g : Ghosts K) (total : IsTotalOrder g.compare) (key : K) 
   pub cut-way : (k : ℕ) → k < a → node_for g new key k ≡ node_for g old key k
   cut-way k lt =
       let at = place-below k lt in
-      ap (λ (x : ℕ). leaf_under g new key (x - 1 - k) (header_in new).root) s.depth
+      ap (λ (x : ℕ). leaf_under g new key (x - 1 - k) (header_in new).root) s.parts.depth
       ∙ ap (λ (j : ℕ). leaf_under g new key j (header_in new).root) at
       ∙ way-below g total old new h.i a pp nn m qq h.c s sound.structure sound.ordered key way some-low (a - 1) (a-up k lt) (a - 1 - k) (omega (arith, lt))
       ∙ sym (ap (λ (j : ℕ). leaf_under g old key j root) at)
 
-  pub cut-size : (k : ℕ) → k < a → size_of (records_in new (node_for g old key k)) ≡ size_of (records_in old (node_for g old key k))
-  cut-size k lt =
+  pub cut-records : (k : ℕ) → k < a → records_in new (node_for g old key k) ≡ records_in old (node_for g old key k)
+  cut-records k lt =
       let at = place-below k lt in
-      let P : ℕ → Type 0 = λ j. size_of (records_in new (leaf_under g old key j root)) ≡ size_of (records_in old (leaf_under g old key j root)) in
-      subst P (sym at) (ap size_of (records-below g total old new h.i a pp nn m qq h.c s sound.structure sound.ordered key way some-low (a - 1) (a-up k lt) (a - 1 - k) (omega (arith, lt))))
+      let P : ℕ → Type 0 = λ j. records_in new (leaf_under g old key j root) ≡ records_in old (leaf_under g old key j root) in
+      subst P (sym at) (records-below g total old new h.i a pp nn m qq h.c s sound.structure sound.ordered key way some-low (a - 1) (a-up k lt) (a - 1 - k) (omega (arith, lt)))
 
-  pub cut-room : size_of (records_in new (node_for g new key a)) ≤ 319
+  pub cut-room : HasRoom new len (node_for g new key a)
   cut-room =
-      let at = ap (λ (x : ℕ). leaf_under g new key (x - 1 - a) (header_in new).root) s.depth ∙ ap (λ (j : ℕ). leaf_under g new key j (header_in new).root) place-here in
-      let P : ℕ → Type 0 = λ x. size_of (records_in new x) ≤ 319 in
-      subst P (sym at) (half-size g total old new h.i a pp nn m qq h.c s sound.structure sound.ordered key way some-low 319 h.first h.second)
+      let at = ap (λ (x : ℕ). leaf_under g new key (x - 1 - a) (header_in new).root) s.parts.depth ∙ ap (λ (j : ℕ). leaf_under g new key j (header_in new).root) place-here in
+      let P : ℕ → Type 0 = λ x. HasRoom new len x in
+      subst P (sym at) (half-room g total old new h.i a pp nn m qq h.c s sound.structure sound.ordered key way some-low len h.room)
 
   -- ---- keys on the way
 
@@ -228,7 +197,7 @@ module _ {K : Type 0} (g : Ghosts K) (total : IsTotalOrder g.compare) (key : K) 
   pub cut-low : IsLow g new key
   cut-low j less =
       let d = height in
-      let nd = s.depth in
+      let nd = s.parts.depth in
       let P : ℕ → Type 0 = λ i. 0 < prefix_len (is_not_above g key) (records_in new (leaf_under g new key i (header_in new).root)) in
       elim (cases_lt j h.i) [
         | inl lt ↦ low-upper j lt
@@ -250,29 +219,29 @@ module _ {K : Type 0} (g : Ghosts K) (total : IsTotalOrder g.compare) (key : K) 
 
 -- ---- with the claim
 
-pub cut-whole : {K : Type 0} (g : Ghosts K) (total : IsTotalOrder g.compare) (key : K) (a m : ℕ) (old mid new : Store) → IsSound g old → a + 1 < depth_of mid → HasClaimed g m old mid → IsLow g mid key
-    → HasCutAt g mid new a (node_for g mid key (a + 1)) (prefix_len (is_not_above g key) (records_in mid (node_for g mid key (a + 1))) - 1) m → HasCutLevel g key a old new
-cut-whole g total key a m old mid new sound deep c low h =
-    let t = cut-taken g total key a m mid new c.sound deep low h in
+pub cut-whole : {K : Type 0} (g : Ghosts K) (total : IsTotalOrder g.compare) (key : K) (len a m : ℕ) (old mid new : Store) → IsSound g old → a + 1 < depth_of mid → HasClaimed g m old mid → IsLow g mid key
+    → HasCutAt g key len mid new a (node_for g mid key (a + 1)) (prefix_len (is_not_above g key) (records_in mid (node_for g mid key (a + 1))) - 1) m → HasCutLevel g key len a old new
+cut-whole g total key len a m old mid new sound deep c low h =
+    let t = cut-taken g total key len a m mid new c.sound deep low h in
     let kept = claimed-levels g m old mid new c sound in
     let same = claimed-depth g m old mid new c in
     record {
       keeps = taken-keeps g m old mid new c t;
       others = stay-then g old mid new (claimed-stay g m old mid c) (split-stay g mid new h.i a _ _ m _ h.c h.split c.sound.structure);
       keys = keys-then g old mid new (claimed-keys g m old mid c) (split-keys g mid new h.i a _ _ m _ h.c h.split c.sound.structure);
-      content = taken-content g m old mid new c t;
-      depth = h.split.depth ∙ same;
+      content = taken-content g m old mid new c t h.content;
+      depth = h.split.parts.depth ∙ same;
       free = taken-free g m old mid new c t;
-      levels = λ k lt ne. cut-levels g total key a m mid new c.sound deep low h k (omega (arith, lt, same)) ne ∙ kept.levels k lt;
-      grown = cut-grown g total key a m mid new c.sound deep low h ∙ ap (λ (ns : List ℕ). length ns + 1) (kept.levels a (omega (arith, deep, same)));
-      way = λ k lt. cut-way g total key a m mid new c.sound deep low h k lt ∙ kept.way key k (omega (arith, lt, deep, same));
-      size = λ k lt.
-          ap (λ (n : ℕ). size_of (records_in new n)) (sym (kept.way key k (omega (arith, lt, deep, same))))
-          ∙ cut-size g total key a m mid new c.sound deep low h k lt
-          ∙ ap (λ (n : ℕ). size_of (records_in mid n)) (kept.way key k (omega (arith, lt, deep, same)))
-          ∙ kept.size key k (omega (arith, lt, deep, same));
-      room = cut-room g total key a m mid new c.sound deep low h;
-      low = cut-low g total key a m mid new c.sound deep low h;
+      levels = λ k lt ne. cut-levels g total key len a m mid new c.sound deep low h k (omega (arith, lt, same)) ne ∙ kept.levels k lt;
+      grown = cut-grown g total key len a m mid new c.sound deep low h ∙ ap (λ (ns : List ℕ). length ns + 1) (kept.levels a (omega (arith, deep, same)));
+      way = λ k lt. cut-way g total key len a m mid new c.sound deep low h k lt ∙ kept.way key k (omega (arith, lt, deep, same));
+      records = λ k lt.
+          ap (records_in new) (sym (kept.way key k (omega (arith, lt, deep, same))))
+          ∙ cut-records g total key len a m mid new c.sound deep low h k lt
+          ∙ ap (records_in mid) (kept.way key k (omega (arith, lt, deep, same)))
+          ∙ kept.records key k (omega (arith, lt, deep, same));
+      room = cut-room g total key len a m mid new c.sound deep low h;
+      low = cut-low g total key len a m mid new c.sound deep low h;
     }
 
 -- the node on the way is still low where a node was claimed
@@ -308,7 +277,7 @@ module _ {K : Type 0} (g : Ghosts K) (key : K) (a m : ℕ) (old mid : Store) (so
         let Y : ℕ → Type 0 = λ y. F (node_for g mid key (a + 1)) y in
         subst X (sym at) (subst Y (sym place-is) h)
 
-    as-found : (F : ℕ → ℕ → Type 0) → F p q → F (node_for g mid key (a + 1)) (prefix_len (is_not_above g key) (records_in mid (node_for g mid key (a + 1))) - 1)
+    pub as-found : (F : ℕ → ℕ → Type 0) → F p q → F (node_for g mid key (a + 1)) (prefix_len (is_not_above g key) (records_in mid (node_for g mid key (a + 1))) - 1)
     as-found F h =
         let X : ℕ → Type 0 = λ x. F x q in
         let Y : ℕ → Type 0 = λ y. F (node_for g mid key (a + 1)) y in
@@ -333,6 +302,6 @@ module _ {K : Type 0} (g : Ghosts K) (key : K) (a m : ℕ) (old mid : Store) (so
         let way = ap (λ (n : ℕ). size_of (records_in mid n)) (kept.way key (a + 1) deep) in
         as-read (λ x y. size_of (records_in mid x) + (len + 2) ≤ 496) (omega (arith, room, size, way))
 
-    pub cut-read : (new : Store) → IsTotalOrder g.compare → IsLow g old key → HasCutAt g mid new a p q m → HasCutLevel g key a old new
-    cut-read new total low h =
-        cut-whole g total key a m old mid new sound mid-deep c (claimed-low g key m old mid sound c low) (as-found (λ x y. HasCutAt g mid new a x y m) h)
+    pub cut-read : (len : ℕ) (new : Store) → IsTotalOrder g.compare → IsLow g old key → HasCutAt g key len mid new a p q m → HasCutLevel g key len a old new
+    cut-read len new total low h =
+        cut-whole g total key len a m old mid new sound mid-deep c (claimed-low g key m old mid sound c low) (as-found (λ x y. HasCutAt g key len mid new a x y m) h)

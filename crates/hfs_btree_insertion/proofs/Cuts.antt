@@ -17,7 +17,7 @@ use Rattle.hfs_btree.proofs.DescentLemmas.{next-split}
 use Rattle.hfs_btree_edits.proofs.LevelPartLemmas.{upper, numbers, numbers-spots, turn-split}
 use Rattle.hfs_btree_edits.proofs.ApartLemmas.{apart-at, in-second, in-third, right-others}
 
-module _ {K : Type 0} (g : Ghosts K) (old : Store) (i k p n m q c : ℕ) (a : IsCut g old i k p n m q c) (structure : HasStructure g old) where
+module _ {K : Type 0} (g : Ghosts K) (old : Store) (i k p n m q : ℕ) (a : IsCut g old i k p n m q) (structure : HasStructure g old) where
   abbrev pub es : List (List ℕ)
   es = records_in old p
 

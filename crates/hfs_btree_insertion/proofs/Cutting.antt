@@ -12,19 +12,19 @@ use Rattle.hfs_btree.specs.declared.key.Key.{Ghosts}
 use Rattle.hfs_scans.specs.Each.{Each}
 use Rattle.hfs_scans.proofs.ElementLemmas.{each-at, each-right}
 use Rattle.hfs_btree.specs.Tree.{Store, Spot, node_in, records_in, records_of, reads_at, spots, first_of, turn}
-use Rattle.hfs_btree.specs.Header.{record_in, root_level}
+use Rattle.hfs_btree.specs.Header.{root_level}
 use Rattle.hfs_btree.specs.Sound.{IsSound, IsRight, IsStray}
 use Rattle.hfs_btree_edits.specs.Stored.{IsLink, HasStored}
 use Rattle.hfs_btree_insertion.specs.Stored.{HasLinked}
-use Rattle.hfs_btree_insertion.specs.Cut.{IsCut, IsBranch, child_at, HasCutAt}
+use Rattle.hfs_btree_insertion.specs.Cut.{IsCut, IsBranch, child_at, IsRoomyCut, HasCutAt}
 use Rattle.hfs_btree_edits.specs.LevelParts.{entry_key}
 use Rattle.hfs_btree.proofs.DecodedLemmas.{decoded-within}
 use Rattle.hfs_btree.proofs.DescentLemmas.{IsOnWay, way-node, way-down, way-within, index-entries}
 use Rattle.hfs_btree_edits.proofs.DecodesLemmas.{decodes-as}
 use Rattle.hfs_btree_edits.proofs.LevelPartLemmas.{upper, turn-split}
 use Rattle.hfs_btree_insertion.proofs.Cuts.{hn}
-use Rattle.hfs_btree_insertion.proofs.PutWhole.{head-long, own-long}
-use Rattle.hfs_btree_insertion.proofs.SplitWrites.{IsEntry, z-own, split-writes, split-sound}
+use Rattle.hfs_btree_insertion.proofs.PutWhole.{head-long}
+use Rattle.hfs_btree_insertion.proofs.SplitWrites.{IsEntry, split-writes, split-sound}
 
 -- ---- a record of a level
 
@@ -159,64 +159,43 @@ module _ {K : Type 0} (g : Ghosts K) (old : Store) (sound : IsSound g old) (k p 
 
   -- ---- the cut
 
-  module _ (above node : Node) (was_above : node_in old p ≡ Ok above) (was_node : node_in old n ≡ Ok node) (c m : ℕ) (some : 0 < c) (less : c < length node.records) (stray : IsStray g old m) where
-    abbrev pub cut : IsCut g old b.i k p n m q c
-    cut =
-        let P : List (List ℕ) → Type 0 = λ xs. c < length xs in
-        record {
-          deep = b.deep;
-          before = b.before;
-          behind = b.behind;
-          level = b.level;
-          within = b.within;
-          child = refl;
-          some = some;
-          less = subst P (node-records node was_node) less;
-          stray = stray;
-          above = above;
-          node = node;
-          was_above = was_above;
-          was_node = was_node;
-        }
+  module _ (above node : Node) (was_above : node_in old p ≡ Ok above) (was_node : node_in old n ≡ Ok node) (m : ℕ) (stray : IsStray g old m) where
+    abbrev pub cut : IsCut g old b.i k p n m q
+    cut = record {
+      deep = b.deep;
+      before = b.before;
+      behind = b.behind;
+      level = b.level;
+      within = b.within;
+      child = refl;
+      stray = stray;
+      above = above;
+      node = node;
+      was_above = was_above;
+      was_node = was_node;
+    }
 
-    -- the record that names the new node, from what the call answers
-    pub entry-as : (entry first : List ℕ) (seconds : List (List ℕ)) (key : K) → g.is_index entry ≡ true → g.child entry ≡ m → g.index_key entry ≡ key → key ≡ entry_key g k first → first ≡ get_or seconds 0 []
-        → seconds ≡ drop c node.records → IsEntry g old b.i k p n m q c cut sound.structure entry
-    entry-as entry first seconds key index names keyed is at second =
-        let same : c + 0 ≡ c = omega arith in
-        record {
-          index = index;
-          names = names;
-          keyed =
-              keyed ∙ is
-              ∙ ap (entry_key g k) (at ∙ ap (λ (ys : List (List ℕ)). get_or ys 0 []) second ∙ get_or-drop c node.records 0 [] ∙ ap (λ (j : ℕ). get_or node.records j []) same ∙ ap (λ (xs : List (List ℕ)). get_or xs c []) (node-records node was_node));
-        }
-
-    module _ (entry : List ℕ) (is : IsEntry g old b.i k p n m q c cut sound.structure entry) (x y z : Store)
+    module _ (c : ℕ) (some : 0 < c) (less : c < length (records_in old n)) (entry : List ℕ) (is : IsEntry g old b.i k p n m q cut sound.structure entry)
+        (keyed : g.index_key entry ≡ entry_key g k (get_or (records_in old n) c [])) (x y z : Store)
         (sp : HasStored p (record above { records = insert above.records (suc q) entry }) old x)
         (sn : HasStored n (record node { forward = m; records = take c node.records }) x y)
         (sm : HasStored m (record node { backward = n; records = drop c node.records }) y z) where
-      pub cut-long : (0 < length z) × (30 ≤ length (record_in z 0 0))
-      cut-long = own-long old z (z-own g old b.i k p n m q c cut sound.structure entry is x y z sp sn sm) (head-long g old sound.structure.header)
-
-      pub cut-right : node.forward < length z
-      cut-right = let lp = sp.len in let ln = sn.len in let lm = sm.len in let lt = right-within node was_node in omega (arith, lp, ln, lm, lt)
-
-      pub cut-done : (w : Store) (leaves : Bool) → IsTotalOrder g.compare → (leaves ≡ true → k ≡ 0) → (leaves ≡ false → k ≢ 0) → HasLinked node.forward m leaves z w
-          → size_of (take c node.records) ≤ 319 → size_of (drop c node.records) ≤ 319 → HasCutAt g old w k p q m
-      cut-done w leaves total bottom upper' linked first second =
-          let forth = Rattle.hfs_btree_insertion.proofs.Cuts.forward-is g old b.i k p n m q c cut sound.structure in
+      pub cut-done : (w : Store) (leaves : Bool) (key : K) (len : ℕ) → IsTotalOrder g.compare → (leaves ≡ true → k ≡ 0) → (leaves ≡ false → k ≢ 0) → HasLinked node.forward m leaves z w
+          → IsRoomyCut g old key k n c len → HasCutAt g key len old w k p q m
+      cut-done w leaves key len total bottom upper' linked room =
+          let forth = Rattle.hfs_btree_insertion.proofs.Cuts.forward-is g old b.i k p n m q cut sound.structure in
           let L : ℕ → Type 0 = λ r. HasLinked r m leaves z w in
+          let F : List (List ℕ) → Type 0 = λ xs. HasStored n (record node { forward = m; records = take c xs }) x y in
+          let S : List (List ℕ) → Type 0 = λ xs. HasStored m (record node { backward = n; records = drop c xs }) y z in
+          let first = subst F (node-records node was_node) sn in
+          let second = subst S (node-records node was_node) sm in
           let link = subst L forth linked in
-          let whole = split-sound g old b.i k p n m q c cut sound.structure entry is x y z sp sn sm w leaves total sound bottom upper' link in
-          let F : List (List ℕ) → Type 0 = λ xs. size_of (take c xs) ≤ 319 in
-          let S : List (List ℕ) → Type 0 = λ xs. size_of (drop c xs) ≤ 319 in
+          let whole = split-sound g old b.i k p n m q c cut sound.structure some less entry is keyed x y z sp first second w leaves bottom upper' link total sound in
           record {
             i = b.i;
             c = c;
-            split = split-writes g old b.i k p n m q c cut sound.structure entry is x y z sp sn sm w leaves bottom upper' link;
+            split = split-writes g old b.i k p n m q c cut sound.structure some less entry is keyed x y z sp first second w leaves bottom upper' link;
             sound = whole.0;
             content = whole.1;
-            first = subst F (node-records node was_node) first;
-            second = subst S (node-records node was_node) second;
+            room = room;
           }

@@ -4,6 +4,7 @@ pub mod Prefixes
 pub mod PairPut
 pub mod Exacts
 pub mod Cuts
+pub mod Parted
 pub mod Splits
 pub mod SplitWrites
 pub mod WayTo
@@ -12,9 +13,13 @@ pub mod SplitWays
 pub mod Taken
 pub mod HalfRead
 pub mod Cutting
+pub mod PlaceBehind
 pub mod CutKeys
 pub mod CutWhole
 pub mod CutCalls
+pub mod Begins
+pub mod BegunWrites
+pub mod BegunWhole
 pub mod Steps
 pub mod Raises
 pub mod RaiseWhole
@@ -30,3 +35,4 @@ pub mod LowerSteps
 pub mod MadeRoom
 pub mod Inserted
 mod RoomyLeaves
+pub mod IndexSearch

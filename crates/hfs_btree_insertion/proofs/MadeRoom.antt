@@ -7,17 +7,18 @@ use Rattle.std.proofs.lemmas.Bool.{cases_lt}
 use Rattle.hfs_btree.specs.declared.header.Header.{Header}
 use Rattle.hfs_btree.specs.declared.key.Key.{Ghosts}
 use Rattle.hfs_btree.specs.Pairs.{Pairs}
+use Rattle.hfs_node.specs.Node.{size_of}
 use Rattle.hfs_btree.specs.Tree.{Store, records_in, level_below}
 use Rattle.hfs_btree.specs.Header.{header_in, depth_of, root_level, free_nodes, tree_content}
 use Rattle.hfs_btree.specs.Sound.{IsSound}
 use Rattle.hfs_btree.specs.Search.{is_not_above, child_for, leaf_under, IsLowWay}
 use Rattle.hfs_btree.proofs.DescentLemmas.{root-way, way-some}
-use Rattle.hfs_btree_edits.specs.Edits.{IsAboveFirst, level_above, node_for}
+use Rattle.hfs_btree_edits.specs.Edits.{IsAboveFirst, level_above, node_for, IsFullFor}
 use Rattle.hfs_btree_insertion.specs.Growth.{len_at, HasRoom, AreFull, IsLow, HasRaised}
 use Rattle.hfs_btree_insertion.specs.Steps.{AreCuttable, HasCutDown}
 use Rattle.hfs_btree_insertion.specs.Room.{HasGrownFor, HasMadeRoom}
 use Rattle.hfs_btree_insertion.proofs.CutKeys.{stay-then, keys-then}
-use Rattle.hfs_btree_insertion.proofs.Steps.{keeps-then, cuttable-full, cuttable-raised}
+use Rattle.hfs_btree_insertion.proofs.Steps.{keeps-then, room-index, cuttable-full, cuttable-raised}
 use Rattle.hfs_btree_insertion.proofs.ExactWays.{root-low}
 use Rattle.hfs_btree_insertion.proofs.FirstKeys.{first-low}
 use Rattle.hfs_btree_insertion.proofs.LowerSteps.{some-levels_above}
@@ -38,17 +39,17 @@ module _ {K : Type 0} (g : Ghosts K) (total : IsTotalOrder g.compare) (key : K) 
 
   -- ---- where the root isn't cut
 
-  module _ (less : full < depth_of old) (new : Store) (h : HasCutDown g key 0 full old new) where
-    cut-level : (k : ℕ) → k < depth_of old → HasGrownFor g key len old new k
-    cut-level k lt =
+  module _ (less : full < depth_of old) (a : ℕ) (least : a ≤ full) (new : Store) (h : HasCutDown g key len a full old new) where
+    cut-level : (k : ℕ) → a ≤ k → k < depth_of old → HasGrownFor g key len a old new k
+    cut-level k le lt =
         elim (cases_lt k full) [
           | inl is ↦
-              (let more = h.grown k (omega arith) is in
+              (let more = h.grown k le is in
               record {
                 least = omega (arith, more);
                 most = omega (arith, more);
                 full = λ up. f.each k is;
-                below = λ j next up. (let one = h.grown j (omega arith) (omega (arith, is, next)) in omega (arith, one));
+                below = λ j from next up. (let one = h.grown j from (omega (arith, is, next)) in omega (arith, one));
               })
           | inr not' ↦
               (let same = ap (λ (ns : List ℕ). length ns) (h.above k lt (omega (arith, not'))) in
@@ -56,22 +57,22 @@ module _ {K : Type 0} (g : Ghosts K) (total : IsTotalOrder g.compare) (key : K) 
                 least = omega (arith, same);
                 most = omega (arith, same);
                 full = λ up. absurd (omega (arith, same, up));
-                below = λ j next up. absurd (omega (arith, same, up));
+                below = λ j from next up. absurd (omega (arith, same, up));
               })
         ]
 
-    cut-room : HasRoom new len (node_for g new key 0)
+    cut-room : HasRoom new (len_at g len a) (node_for g new key a)
     cut-room =
-        elim (cases_lt 0 full) [
-          | inl any ↦ (let room = h.room any in omega (arith, room, short))
+        elim (cases_lt a full) [
+          | inl any ↦ h.room any
           | inr none ↦
-              (let zero' : full ≡ 0 = omega (arith, none) in
+              (let is : full ≡ a = omega (arith, none, least) in
               let F : ℕ → Type 0 = λ j. HasRoom old (len_at g len j) (node_for g old key j) in
-              let S : Store → Type 0 = λ s. HasRoom s len (node_for g s key 0) in
-              subst S (sym (h.none (omega (arith, none)))) (subst F zero' (f.room less)))
+              let S : Store → Type 0 = λ s. HasRoom s (len_at g len a) (node_for g s key a) in
+              subst S (sym (h.none (omega (arith, none)))) (subst F is (f.room less)))
         ]
 
-    pub made-cut : HasMadeRoom g key len old new
+    pub made-cut : HasMadeRoom g key len a old new
     made-cut =
         let d = h.depth in
         record {
@@ -80,9 +81,15 @@ module _ {K : Type 0} (g : Ghosts K) (total : IsTotalOrder g.compare) (key : K) 
           keys = h.keys;
           content = h.content;
           levels = cut-level;
-          depth = record { least = omega (arith, d); most = omega (arith, d); split = λ up. absurd (omega (arith, d, up)) };
+          below = λ k lt in'. h.below k lt;
+          least = omega (arith, d);
+          most = omega (arith, d);
+          split = λ some' up. absurd (omega (arith, d, up));
+          deep = omega (arith, d, less, least);
+          free = λ enough. (let left = h.free in omega (arith, left, enough, less));
           low = h.low;
           room = cut-room;
+          records = λ k lt in'. ap (records_in new) (h.way k lt) ∙ h.records k lt;
         }
 
   -- ---- where it is
@@ -119,49 +126,81 @@ module _ {K : Type 0} (g : Ghosts K) (total : IsTotalOrder g.compare) (key : K) 
     pub raised-file : (header_in old).nodes ≤ length old → (header_in mid).nodes ≤ length mid
     raised-file file = let nodes = r.keeps.frame.nodes in let len' = r.keeps.frame.file in omega (arith, file, nodes, len')
 
-    module _ (new : Store) (h : HasCutDown g key 0 full mid new) where
-      raised-level : (k : ℕ) → k < depth_of old → HasGrownFor g key len old new k
-      raised-level k lt =
+    module _ (a : ℕ) (least : a ≤ full) (new : Store) (h : HasCutDown g key len a full mid new) where
+      raised-level : (k : ℕ) → a ≤ k → k < depth_of old → HasGrownFor g key len a old new k
+      raised-level k le lt =
           let is : k < full = omega (arith, lt, all) in
-          let more = h.grown k (omega arith) is in
+          let more = h.grown k le is in
           let same = ap (λ (ns : List ℕ). length ns) (r.levels.levels k lt) in
           record {
             least = omega (arith, more, same);
             most = omega (arith, more, same);
             full = λ up. f.each k is;
-            below = λ j next up.
-                (let one = h.grown j (omega arith) (omega (arith, is, next)) in
+            below = λ j from next up.
+                (let one = h.grown j from (omega (arith, is, next)) in
                 let same' = ap (λ (ns : List ℕ). length ns) (r.levels.levels j (omega (arith, lt, next))) in
                 omega (arith, one, same'));
           }
 
-      root-two : length (level_above g new (depth_of old - 1)) ≡ 2
-      root-two =
+      root-two : a < depth_of old → length (level_above g new (depth_of old - 1)) ≡ 2
+      root-two deep =
           let k = depth_of old - 1 in
           let lt : depth_of old - 1 < depth_of old = omega (arith, some) in
-          let more = h.grown k (omega arith) (omega (arith, some, all)) in
+          let more = h.grown k (omega (arith, deep)) (omega (arith, some, all)) in
           let same = ap (λ (ns : List ℕ). length ns) (r.levels.levels k lt) in
           let top : depth_of old - 1 - (depth_of old - 1) ≡ 0 = omega arith in
           let one : length (level_above g old (depth_of old - 1)) ≡ 1 = ap (λ (j : ℕ). length (level_below g old j (root_level old))) top in
           omega (arith, more, same, one)
 
-      pub made-raised : HasMadeRoom g key len old new
-      made-raised =
+      -- where no node was cut, the new root has room
+      raised-room : AreCuttable g mid key full → HasRoom new (len_at g len a) (node_for g new key a)
+      raised-room can =
+          elim (cases_lt a full) [
+            | inl any ↦ h.room any
+            | inr none ↦
+                (let is : full ≡ a = omega (arith, none, least) in
+                let up : 0 < full = omega (arith, all, some) in
+                let F : ℕ → Type 0 = λ j. HasRoom mid (len_at g len j) (node_for g mid key j) in
+                let S : Store → Type 0 = λ s. HasRoom s (len_at g len a) (node_for g s key a) in
+                subst S (sym (h.none (omega (arith, none)))) (subst F is (room-index g len full (size_of (records_in mid (node_for g mid key full))) up (can.room up))))
+          ]
+
+      pub made-raised : AreCuttable g mid key full → HasMadeRoom g key len a old new
+      made-raised can =
           let d = h.depth in
           let up = r.depth in
-          let room = h.room (omega (arith, some, all)) in
           record {
             keeps = keeps-then g old mid new r.keeps h.keeps h.others;
             others = stay-then g old mid new r.others h.others;
             keys = keys-then g old mid new r.keys h.keys;
             content = h.content ∙ r.content;
             levels = raised-level;
-            depth = record { least = omega (arith, d, up); most = omega (arith, d, up); split = λ more. root-two };
+            below = λ k lt in'. h.below k lt ∙ r.levels.levels k in';
+            least = omega (arith, d, up);
+            most = omega (arith, d, up);
+            split = λ deep more. root-two deep;
+            deep = omega (arith, d, up, all, least);
+            free = λ enough. (let left = h.free in let taken = r.free in omega (arith, left, taken, enough, all));
             low = h.low;
-            room = omega (arith, room, short);
+            room = raised-room can;
+            records = λ k lt in'.
+                ap (records_in new) (h.way k lt) ∙ h.records k lt ∙ ap (records_in mid) (r.levels.way key k in') ∙ r.levels.records key k in';
           }
 
 -- ---- what the calls ask for
+
+-- a full leaf is counted
+pub least-full : {K : Type 0} (g : Ghosts K) (key : K) (len : ℕ) (old : Store) (full least : ℕ) → AreFull g old key len full → 0 < depth_of old → least ≤ 1 → (0 < least → IsFullFor old len (node_for g old key 0)) → least ≤ full
+least-full g key len old full least f some most over =
+    elim (cases_lt full least) [
+      | inr ge ↦ omega (arith, ge)
+      | inl lt ↦
+          (let zero' : full ≡ 0 = omega (arith, lt, most) in
+          let R : ℕ → Type 0 = λ j. HasRoom old (len_at g len j) (node_for g old key j) in
+          let room : HasRoom old len (node_for g old key 0) = subst R zero' (f.room (omega (arith, lt, most, some))) in
+          let big = over (omega (arith, lt)) in
+          absurd (omega (arith, room, big)))
+    ]
 
 module _ {K : Type 0} (g : Ghosts K) (key : K) (len : ℕ) (old : Store) (sound : IsSound g old) (index_len : (e : List ℕ) → g.is_index e ≡ true → length e ≡ g.INDEX_KEY_LEN + 5)
     (index_small : (e : List ℕ) → g.is_index e ≡ true → length e ≤ 42) (short : len ≤ 140) (full : ℕ) (f : AreFull g old key len full) (h : Header) (is : h ≡ header_in old) where

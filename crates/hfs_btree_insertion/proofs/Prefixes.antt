@@ -14,10 +14,10 @@ use Rattle.hfs_btree.proofs.LookupLemmas.{le-lt, lt-le}
 use Rattle.hfs_btree_insertion.proofs.PartLists.{above-front}
 
 module _ (p : List ℕ → Bool) where
-  one-more : (x : List ℕ) (xs : List (List ℕ)) → p x ≡ true → prefix_len p (x ∷ xs) ≡ 1 + prefix_len p xs
+  pub one-more : (x : List ℕ) (xs : List (List ℕ)) → p x ≡ true → prefix_len p (x ∷ xs) ≡ 1 + prefix_len p xs
   one-more x xs good = cond-true (p x) (1 + prefix_len p xs) 0 good
 
-  none-more : (x : List ℕ) (xs : List (List ℕ)) → p x ≡ false → prefix_len p (x ∷ xs) ≡ 0
+  pub none-more : (x : List ℕ) (xs : List (List ℕ)) → p x ≡ false → prefix_len p (x ∷ xs) ≡ 0
   none-more x xs bad = cond-false (p x) (1 + prefix_len p xs) 0 bad
 
   first-of : (x : List ℕ) (xs : List (List ℕ)) (n : ℕ) → prefix_len p (x ∷ xs) ≡ suc n → (p x ≡ true) × (prefix_len p xs ≡ n)

@@ -60,48 +60,17 @@ module _ {K : Type 0} (cmp : Order K) (total : IsTotalOrder cmp) (key : K) (body
 
 -- ---- the nodes on the way
 
-module _ {K : Type 0} (g : Ghosts K) (total : IsTotalOrder g.compare) (old new : Store) (key : K) (body : List ℕ) (n : ℕ)
-    (kind : (v : Node) → node_in old n ≡ Ok v → v.kind ≡ Leaf) (same : (x : Spot) → IsRight g old x → x.n ≢ n → records_in new x.n ≡ records_in old x.n)
-    (here : pairs g new n ≡ with_pair g.compare key body (pairs g old n)) where
-  abbrev pub Fact : Spot → Type 0
-  Fact x = IsRight g old x × AreKeysInOrder g old x.above x.n
+-- a node of the levels is right, and its keys are in order
+abbrev pub Fact : {K : Type 0} → Ghosts K → Store → Spot → Type 0
+Fact g nodes x = IsRight g nodes x × AreKeysInOrder g nodes x.above x.n
 
+module _ {K : Type 0} (g : Ghosts K) (total : IsTotalOrder g.compare) (old new : Store) (key : K) (body : List ℕ) where
   abbrev put : Pairs K → Pairs K
   put ps = with_pair g.compare key body ps
 
-  leaf-or-index : Leaf ≡ Index → ⊥
-  leaf-or-index e = cc
-
-  -- index nodes are others than the leaf
-  index-other : (x : Spot) (k : ℕ) → x.above ≡ suc k → IsRight g old x → x.n ≢ n
-  index-other x k up is e =
-      let V : ℕ → Type 0 = λ y. node_in old y ≡ Ok is.value in
-      let K' : ℕ → Type 0 = λ a. is.value.kind ≡ Rattle.hfs_btree.specs.Tree.kind_at a in
-      leaf-or-index (sym (kind is.value (subst V e is.decodes)) ∙ subst K' up is.kind)
-
-  index-keep : (k left : ℕ) (xs : List ℕ) → Each Fact (spots (suc k) left xs) → Each (KeepsRecords g old new) xs
-  index-keep k left [] h = tt
-  index-keep k left (x ∷ xs) h = (same _ h.0.0 (index-other _ k refl h.0.0), index-keep k x xs h.1)
-
-  leaf-keep : (left : ℕ) (before after : List ℕ) (ns : List ℕ) → Each Fact (spots 0 left ns) → Each (IsOther n) ns → Each (KeepsRecords g old new) ns
-  leaf-keep left before after [] h other = tt
-  leaf-keep left before after (x ∷ ns) h other = (same _ h.0.0 other.0, leaf-keep x before after ns h.1 other.1)
-
-  leaves-keep : (ns : List ℕ) → Each (KeepsRecords g old new) ns → Each (KeepsUnder g old new 0) ns
-  leaves-keep [] h = tt
-  leaves-keep (x ∷ ns) h = (ap (map (pair_of g)) h.0, leaves-keep ns h.1)
-
-  fact-parts : (k left : ℕ) (xs ys : List ℕ) → Each Fact (spots k left (xs ++ ys)) → (l : ℕ) × (Each Fact (spots k l ys))
-  fact-parts k left [] ys h = (left, h)
-  fact-parts k left (x ∷ xs) ys h = fact-parts k x xs ys h.1
-
-  leaves-keyed : (ns : List ℕ) → Each (AreKeysInOrder g new 0) ns
+  pub leaves-keyed : (ns : List ℕ) → Each (AreKeysInOrder g new 0) ns
   leaves-keyed [] = tt
   leaves-keyed (x ∷ ns) = (tt, leaves-keyed ns)
-
-  keep-front : (left : ℕ) (xs ys : List ℕ) → Each Fact (spots 0 left (xs ++ ys)) → Each (IsOther n) xs → Each (KeepsRecords g old new) xs
-  keep-front left [] ys h other = tt
-  keep-front left (x ∷ xs) ys h other = (same _ h.0.0 other.0, keep-front x xs ys h.1 other.1)
 
   -- what has become of a node on the way, of those beside it, and of all levels from there on
   pub record IsDone (k x : ℕ) (before behind : List ℕ) : Type 0 where
@@ -110,23 +79,8 @@ module _ {K : Type 0} (g : Ghosts K) (total : IsTotalOrder g.compare) (old new :
     pub right : Each (KeepsUnder g old new k) behind
     pub keyed : Each (Keyed g new) (turn g old (suc k) (before ++ x ∷ behind))
 
-  -- at the leaf
-  leaf-done : (x : ℕ) (before behind : List ℕ) → x ≡ n → Each Fact (turn g old 1 (before ++ x ∷ behind)) → IsDistinct (before ++ x ∷ behind) → IsDone 0 x before behind
-  leaf-done x before behind is fine distinct =
-      let P : ℕ → Type 0 = λ y. pairs g new y ≡ put (pairs g old y) in
-      let O : ℕ → Type 0 = λ y. Each (IsOther y) before × Each (IsOther y) behind in
-      let others = subst O is (apart-at before behind x distinct) in
-      let level = each-left Fact (spots 0 0 (before ++ x ∷ behind)) [] fine in
-      let rest = fact-parts 0 0 before (x ∷ behind) level in
-      record {
-        at = subst P (sym is) here;
-        left = leaves-keep before (keep-front 0 before (x ∷ behind) level others.0);
-        right = leaves-keep behind (leaf-keep x [] [] behind rest.1.1 others.1);
-        keyed = each-append (Keyed g new) (spots 0 0 (before ++ x ∷ behind)) [] (keyed-spots g new 0 0 (before ++ x ∷ behind) (leaves-keyed (before ++ x ∷ behind))) tt;
-      }
-
   -- above it
-  module _ (k x : ℕ) (before behind : List ℕ) (some : 0 < prefix_len (is_not_above g key) (records_in old x)) (fine : Each Fact (turn g old (suc (suc k)) (before ++ x ∷ behind))) where
+  module _ (k x : ℕ) (before behind : List ℕ) (some : 0 < prefix_len (is_not_above g key) (records_in old x)) (fine : Each (Fact g old) (turn g old (suc (suc k)) (before ++ x ∷ behind))) where
     abbrev es : List (List ℕ)
     es = records_in old x
 
@@ -145,29 +99,26 @@ module _ {K : Type 0} (g : Ghosts K) (total : IsTotalOrder g.compare) (old new :
     abbrev right-below : List ℕ
     right-below = map g.child (drop (suc q) es) ++ flat_map (children g old) behind
 
-    level-facts : Each Fact (spots (suc k) 0 level)
-    level-facts = each-left Fact (spots (suc k) 0 level) (turn g old (suc k) (flat_map (children g old) level)) fine
+    pub level-facts : Each (Fact g old) (spots (suc k) 0 level)
+    level-facts = each-left (Fact g old) (spots (suc k) 0 level) (turn g old (suc k) (flat_map (children g old) level)) fine
 
-    below-facts : Each Fact (turn g old (suc k) (flat_map (children g old) level))
-    below-facts = each-right Fact (spots (suc k) 0 level) (turn g old (suc k) (flat_map (children g old) level)) fine
+    pub below-facts : Each (Fact g old) (turn g old (suc k) (flat_map (children g old) level))
+    below-facts = each-right (Fact g old) (spots (suc k) 0 level) (turn g old (suc k) (flat_map (children g old) level)) fine
 
-    level-keep : Each (KeepsRecords g old new) level
-    level-keep = index-keep k 0 level level-facts
-
-    x-fact : (l : ℕ) × Fact (record { left = l; n = x; right = first_of behind; above = suc k })
-    x-fact = at-spot Fact (suc k) 0 before x behind level-facts
+    x-fact : (l : ℕ) × (Fact g old) (record { left = l; n = x; right = first_of behind; above = suc k })
+    x-fact = at-spot (Fact g old) (suc k) 0 before x behind level-facts
 
     entries : 0 < length es
-    entries = Rattle.hfs_btree.proofs.LevelLemmas.records-some g old Fact (λ spot h. h.0) _ x-fact.1.0
+    entries = Rattle.hfs_btree.proofs.LevelLemmas.records-some g old (Fact g old) (λ spot h. h.0) _ x-fact.1.0
 
     q-within : q < length es
     q-within = place-within g key es entries
 
-    cut : flat_map (children g old) level ≡ left-below ++ child ∷ right-below
+    pub cut : flat_map (children g old) level ≡ left-below ++ child ∷ right-below
     cut = next-split g old before x behind q q-within
 
     below-right : Each (IsRight g old) (turn g old (suc k) (flat_map (children g old) level))
-    below-right = each-mono Fact (IsRight g old) (turn g old (suc k) (flat_map (children g old) level)) (λ y h. h.0) below-facts
+    below-right = each-mono (Fact g old) (IsRight g old) (turn g old (suc k) (flat_map (children g old) level)) (λ y h. h.0) below-facts
 
     some-pairs : Each (λ e. 0 < length (under g old k (g.child e))) es
     some-pairs = have-pairs g old (suc k) es (turn-parts-right g old (suc k) before x behind below-right)
@@ -178,7 +129,7 @@ module _ {K : Type 0} (g : Ghosts K) (total : IsTotalOrder g.compare) (old new :
     beside : IsAbove g.compare key (flat_map own (take q es)) × IsBelow g.compare key (flat_map own (drop (suc q) es))
     beside = beside-place g.compare total key g.index_key own es x-fact.1.1 some-pairs
 
-    module _ (done : IsDone k child left-below right-below) where
+    module _ (level-keep : Each (KeepsRecords g old new) level) (done : IsDone k child left-below right-below) where
       front-under : Each (KeepsUnder g old new k) (map g.child (take q es))
       front-under = each-right (KeepsUnder g old new k) (flat_map (children g old) before) (map g.child (take q es)) done.left
 
@@ -230,13 +181,13 @@ module _ {K : Type 0} (g : Ghosts K) (total : IsTotalOrder g.compare) (old new :
       behind-parts = children-kept g old new k behind (each-right (KeepsUnder g old new k) (map g.child (drop (suc q) es)) (flat_map (children g old) behind) done.right)
 
       level-old : Each (AreKeysInOrder g old (suc k)) level
-      level-old = keyed-of-spots g old (suc k) 0 level (each-mono Fact (Keyed g old) (spots (suc k) 0 level) (λ y h. h.1) level-facts)
+      level-old = keyed-of-spots g old (suc k) 0 level (each-mono (Fact g old) (Keyed g old) (spots (suc k) 0 level) (λ y h. h.1) level-facts)
 
       beside-keyed : (xs : List ℕ) → Each (KeepsRecords g old new) xs → Each (λ y. Each (KeepsUnder g old new k) (children g old y)) xs → Each (AreKeysInOrder g old (suc k)) xs → Each (AreKeysInOrder g new (suc k)) xs
       beside-keyed [] keep parts keys = tt
       beside-keyed (y ∷ xs) keep parts keys = (Rattle.hfs_btree_edits.proofs.LevelPartLemmas.keys-kept g old new k y keep.0 parts.0 keys.0, beside-keyed xs keep.1 parts.1 keys.1)
 
-      index-done : IsDone (suc k) x before behind
+      pub index-done : IsDone (suc k) x before behind
       index-done =
           let before-keep = each-left (KeepsRecords g old new) before (x ∷ behind) level-keep in
           let behind-keep = (each-right (KeepsRecords g old new) before (x ∷ behind) level-keep).1 in
@@ -252,16 +203,66 @@ module _ {K : Type 0} (g : Ghosts K) (total : IsTotalOrder g.compare) (old new :
                 (subst P (sym cut) done.keyed);
           }
 
+-- the leaf is one of them
+
+module _ {K : Type 0} (g : Ghosts K) (total : IsTotalOrder g.compare) (old new : Store) (key : K) (body : List ℕ) (n : ℕ)
+    (kind : (v : Node) → node_in old n ≡ Ok v → v.kind ≡ Leaf) (same : (x : Spot) → IsRight g old x → x.n ≢ n → records_in new x.n ≡ records_in old x.n)
+    (here : pairs g new n ≡ with_pair g.compare key body (pairs g old n)) where
+  leaf-or-index : Leaf ≡ Index → ⊥
+  leaf-or-index e = cc
+
+  -- index nodes are others than the leaf
+  index-other : (x : Spot) (k : ℕ) → x.above ≡ suc k → IsRight g old x → x.n ≢ n
+  index-other x k up is e =
+      let V : ℕ → Type 0 = λ y. node_in old y ≡ Ok is.value in
+      let K' : ℕ → Type 0 = λ a. is.value.kind ≡ Rattle.hfs_btree.specs.Tree.kind_at a in
+      leaf-or-index (sym (kind is.value (subst V e is.decodes)) ∙ subst K' up is.kind)
+
+  index-keep : (k left : ℕ) (xs : List ℕ) → Each (Fact g old) (spots (suc k) left xs) → Each (KeepsRecords g old new) xs
+  index-keep k left [] h = tt
+  index-keep k left (x ∷ xs) h = (same _ h.0.0 (index-other _ k refl h.0.0), index-keep k x xs h.1)
+
+  leaf-keep : (left : ℕ) (before after : List ℕ) (ns : List ℕ) → Each (Fact g old) (spots 0 left ns) → Each (IsOther n) ns → Each (KeepsRecords g old new) ns
+  leaf-keep left before after [] h other = tt
+  leaf-keep left before after (x ∷ ns) h other = (same _ h.0.0 other.0, leaf-keep x before after ns h.1 other.1)
+
+  leaves-keep : (ns : List ℕ) → Each (KeepsRecords g old new) ns → Each (KeepsUnder g old new 0) ns
+  leaves-keep [] h = tt
+  leaves-keep (x ∷ ns) h = (ap (map (pair_of g)) h.0, leaves-keep ns h.1)
+
+  fact-parts : (k left : ℕ) (xs ys : List ℕ) → Each (Fact g old) (spots k left (xs ++ ys)) → (l : ℕ) × (Each (Fact g old) (spots k l ys))
+  fact-parts k left [] ys h = (left, h)
+  fact-parts k left (x ∷ xs) ys h = fact-parts k x xs ys h.1
+
+  keep-front : (left : ℕ) (xs ys : List ℕ) → Each (Fact g old) (spots 0 left (xs ++ ys)) → Each (IsOther n) xs → Each (KeepsRecords g old new) xs
+  keep-front left [] ys h other = tt
+  keep-front left (x ∷ xs) ys h other = (same _ h.0.0 other.0, keep-front x xs ys h.1 other.1)
+
+  -- at the leaf
+  leaf-done : (x : ℕ) (before behind : List ℕ) → x ≡ n → Each (Fact g old) (turn g old 1 (before ++ x ∷ behind)) → IsDistinct (before ++ x ∷ behind) → IsDone g total old new key body 0 x before behind
+  leaf-done x before behind is fine distinct =
+      let P : ℕ → Type 0 = λ y. pairs g new y ≡ with_pair g.compare key body (pairs g old y) in
+      let O : ℕ → Type 0 = λ y. Each (IsOther y) before × Each (IsOther y) behind in
+      let others = subst O is (apart-at before behind x distinct) in
+      let level = each-left (Fact g old) (spots 0 0 (before ++ x ∷ behind)) [] fine in
+      let rest = fact-parts 0 0 before (x ∷ behind) level in
+      record {
+        at = subst P (sym is) here;
+        left = leaves-keep before (keep-front 0 before (x ∷ behind) level others.0);
+        right = leaves-keep behind (leaf-keep x [] [] behind rest.1.1 others.1);
+        keyed = each-append (Keyed g new) (spots 0 0 (before ++ x ∷ behind)) [] (keyed-spots g new 0 0 (before ++ x ∷ behind) (leaves-keyed g total old new key body (before ++ x ∷ behind))) tt;
+      }
+
   -- the whole way
-  pub done : (k x : ℕ) (before behind : List ℕ) → leaf_under g old key k x ≡ n → IsLowWay g old key k x → Each Fact (turn g old (suc k) (before ++ x ∷ behind))
-      → IsDistinct (level_below g old k (before ++ x ∷ behind)) → IsDone k x before behind
+  pub done : (k x : ℕ) (before behind : List ℕ) → leaf_under g old key k x ≡ n → IsLowWay g old key k x → Each (Fact g old) (turn g old (suc k) (before ++ x ∷ behind))
+      → IsDistinct (level_below g old k (before ++ x ∷ behind)) → IsDone g total old new key body k x before behind
   done zero x before behind ends low fine distinct = leaf-done x before behind ends fine distinct
   done (suc k) x before behind ends low fine distinct =
-      let split = cut k x before behind low.0 fine in
-      let F : List ℕ → Type 0 = λ ns. Each Fact (turn g old (suc k) ns) in
+      let split = cut g total old new key body k x before behind low.0 fine in
+      let F : List ℕ → Type 0 = λ ns. Each (Fact g old) (turn g old (suc k) ns) in
       let D : List ℕ → Type 0 = λ ns. IsDistinct (level_below g old k ns) in
-      index-done k x before behind low.0 fine
-      (done k (child_for g key (records_in old x)) _ _ ends low.1 (subst F split (below-facts k x before behind low.0 fine)) (subst D split distinct))
+      index-done g total old new key body k x before behind low.0 fine (index-keep k 0 (before ++ x ∷ behind) (level-facts g total old new key body k x before behind low.0 fine))
+      (done k (child_for g key (records_in old x)) _ _ ends low.1 (subst F split (below-facts g total old new key body k x before behind low.0 fine)) (subst D split distinct))
 
 -- ---- the whole tree
 
@@ -381,9 +382,9 @@ module _ {K : Type 0} (g : Ghosts K) (total : IsTotalOrder g.compare) (key : K) 
 
   -- the pairs
 
-  facts : Each (Fact g total old new key body n kind-is keeps leaf-put) (turn g old (suc d) (root_level old))
+  facts : Each (Fact g old) (turn g old (suc d) (root_level old))
   facts =
-      let F : Spot → Type 0 = Fact g total old new key body n kind-is keeps leaf-put in
+      let F : Spot → Type 0 = Fact g old in
       let P : ℕ → Type 0 = λ j. Each F (turn g old j (root_level old)) in
       subst P s.deep (each-both (IsRight g old) (λ x. AreKeysInOrder g old x.above x.n) (tree_turn g old) sound.structure.levels.each sound.ordered.keys)
 
@@ -397,7 +398,7 @@ module _ {K : Type 0} (g : Ghosts K) (total : IsTotalOrder g.compare) (key : K) 
   one-less : depth_of old - 1 ≡ d
   one-less = let deep = s.deep in omega arith
 
-  way : IsDone g total old new key body n kind-is keeps leaf-put d root [] []
+  way : IsDone g total old new key body d root [] []
   way =
       let at : leaf_under g old key d root ≡ n = ap (λ (j : ℕ). leaf_under g old key j root) (sym one-less) ∙ s.at in
       done g total old new key body n kind-is keeps leaf-put d root [] [] at s.low facts leaves-distinct

@@ -21,7 +21,7 @@ use Rattle.hfs_btree_edits.specs.Stored.{Decodes, HasStored, HasHeaderPut, HasCl
 use Rattle.hfs_btree_edits.specs.LevelParts.{entry_key}
 use Rattle.hfs_btree_insertion.specs.Raise.{IsRootAbove, IsRaised, HasRootPut}
 use Rattle.hfs_btree_insertion.specs.Growth.{KeepsLevels, NodesStay, KeysStay, HasRaised}
-use Rattle.hfs_btree.proofs.DescentLemmas.{IsOnWay, root-way, way-node, way-within}
+use Rattle.hfs_btree.proofs.DescentLemmas.{IsOnWay, root-way, way-node}
 use Rattle.hfs_btree_insertion.proofs.Exacts.{first-entry, Exact, turn-exact, keeps-first}
 use Rattle.hfs_btree_insertion.proofs.PartLists.{equal-key}
 use Rattle.hfs_btree_edits.proofs.DecodesLemmas.{decodes-as}
@@ -196,7 +196,6 @@ module _ {K : Type 0} (g : Ghosts K) (total : IsTotalOrder g.compare) (old new :
       record {
         sound = p.sound;
         exact = put-exact;
-        content = raise-content g total old new p.d m s sound;
         head = s.head;
         gone = λ stray. (each-right (IsOther m) (own_nodes old) (m ∷ tree_nodes g old) (subst (O m) all-is stray.other)).0 refl;
         same = λ x ne. (
@@ -286,7 +285,7 @@ raise-whole g total old mid new m sound c p index_len =
       keeps = taken-keeps g m old mid new c t;
       others = stay-then g old mid new (claimed-stay g m old mid c) (root-others g total mid new m c.sound p);
       keys = keys-then g old mid new (claimed-keys g m old mid c) (root-keys_stay g total mid new m c.sound p);
-      content = taken-content g m old mid new c t;
+      content = taken-content g m old mid new c t (raise-content g total mid new p.d m p.raised c.sound);
       levels = levels-then g old mid new (omega (arith, same)) (claimed-levels g m old mid new c sound) (root-levels g total mid new m c.sound p);
       depth = new-deep g total mid new m c.sound p ∙ ap suc same;
       free = taken-free g m old mid new c t;

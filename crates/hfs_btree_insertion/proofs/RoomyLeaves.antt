@@ -77,6 +77,6 @@ module _ {K : Type 0} (g : Ghosts K) (nodes : Store) (t : K) where
           record { most = omega arith; each = λ k lt. absurd (omega (arith, lt)); room = λ lt. subst R r.at r.room }
 
       -- and no node was cut
-      pub roomy-made : IsTotalOrder g.compare → len ≤ 140 → HasMadeRoom g t len nodes nodes
+      pub roomy-made : IsTotalOrder g.compare → len ≤ 140 → HasMadeRoom g t len 0 nodes nodes
       roomy-made total short =
-          made-cut g total t len nodes sound first short roomy-low 0 none-full (some-levels_above g t nodes first) nodes (down-init g t 0 nodes sound roomy-low)
+          made-cut g total t len nodes sound first short roomy-low 0 none-full (some-levels_above g t nodes first) 0 (omega arith) nodes (down-init g t len 0 nodes sound roomy-low)

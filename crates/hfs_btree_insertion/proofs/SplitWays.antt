@@ -1,7 +1,8 @@
 -- The way to a key, where a node on it was cut in two.
-use Rattle.hfs_btree_insertion.specs.Cut.{IsSplit}
+use Rattle.hfs_btree_insertion.specs.Cut.{IsSplit, IsRoomyCut}
+use Rattle.hfs_btree_insertion.specs.Growth.{HasRoom}
 use Rattle.hfs_btree_edits.specs.LevelParts.{lift, entry_key}
-use Rattle.std.proofs.Common.{◌≡◌, ℕ, zero, suc, ◌+◌, ◌-◌, ◌<◌, ◌≤◌, ◌⊎◌, Bool, true, false, List, [], ◌∷◌, ◌++◌, length, get_or, take, drop, refl, sym, ap, ◌∙◌, subst, arith, inl, inr}
+use Rattle.std.proofs.Common.{◌≡◌, ℕ, zero, suc, ◌+◌, ◌-◌, ◌<◌, ◌≤◌, Bool, true, false, List, [], ◌∷◌, ◌++◌, length, get_or, take, drop, refl, sym, ap, ◌∙◌, subst, arith, inl, inr}
 use Rattle.std.specs.Prelude.{insert, not}
 use Rattle.std.specs.Ordering.{is_gt}
 use Rattle.std.specs.Cmp.{IsTotalOrder}
@@ -87,46 +88,40 @@ module _ {K : Type 0} (g : Ghosts K) (total : IsTotalOrder g.compare) (old new :
   -- down to the node above it
   pub way-above : (j : ℕ) → j ≤ i → leaf_under g new key j (header_in new).root ≡ leaf_under g old key j root
   way-above j le =
-      ap (leaf_under g new key j) s.root
+      ap (leaf_under g new key j) s.parts.root
       ∙ upper-way g old new key i (suc k) j (root_level old) [] root [] refl le (uppers-keep g old new i k p n m q c s structure) (some-of _ (right-uppers g old new i k p n m q c s structure))
 
   place : prefix_len (is_not_above g key) (records_in old p) - 1 ≡ q
   place = omega arith
 
   pub old-child : child_for g key (records_in old p) ≡ n
-  old-child = ap (λ (j : ℕ). g.child (get_or (records_in old p) j [])) place ∙ sym s.cut.child
+  old-child = ap (λ (j : ℕ). g.child (get_or (records_in old p) j [])) place ∙ sym s.parts.cut.child
 
-  new-records : records_in new p ≡ insert (records_in old p) (suc q) s.entry
+  new-records : records_in new p ≡ insert (records_in old p) (suc q) s.parts.entry
   new-records = records-above g old new i k p n m q c s structure
 
   -- where the new record's key is above the key it goes on to the first half, else to the second
-  child-first : fits s.entry ≡ false → child_for g key (records_in new p) ≡ n
+  child-first : fits s.parts.entry ≡ false → child_for g key (records_in new p) ≡ n
   child-first other =
-      let at : prefix_len (is_not_above g key) (insert (records_in old p) (suc q) s.entry) - 1 ≡ q = omega (arith, insert-other (is_not_above g key) q (records_in old p) s.entry low other) in
+      let at : prefix_len (is_not_above g key) (insert (records_in old p) (suc q) s.parts.entry) - 1 ≡ q = omega (arith, insert-other (is_not_above g key) q (records_in old p) s.parts.entry low other) in
       ap (child_for g key) new-records
-      ∙ ap (λ (j : ℕ). g.child (get_or (insert (records_in old p) (suc q) s.entry) j [])) at
-      ∙ ap g.child (insert-before q (records_in old p) s.entry s.cut.within)
-      ∙ sym s.cut.child
+      ∙ ap (λ (j : ℕ). g.child (get_or (insert (records_in old p) (suc q) s.parts.entry) j [])) at
+      ∙ ap g.child (insert-before q (records_in old p) s.parts.entry s.parts.cut.within)
+      ∙ sym s.parts.cut.child
 
-  child-second : fits s.entry ≡ true → child_for g key (records_in new p) ≡ m
+  child-second : fits s.parts.entry ≡ true → child_for g key (records_in new p) ≡ m
   child-second good =
-      let at : prefix_len (is_not_above g key) (insert (records_in old p) (suc q) s.entry) - 1 ≡ suc q = omega (arith, insert-one (is_not_above g key) q (records_in old p) s.entry low good) in
+      let at : prefix_len (is_not_above g key) (insert (records_in old p) (suc q) s.parts.entry) - 1 ≡ suc q = omega (arith, insert-one (is_not_above g key) q (records_in old p) s.parts.entry low good) in
       ap (child_for g key) new-records
-      ∙ ap (λ (j : ℕ). g.child (get_or (insert (records_in old p) (suc q) s.entry) j [])) at
-      ∙ ap g.child (insert-here q (records_in old p) s.entry s.cut.within)
-      ∙ s.names
+      ∙ ap (λ (j : ℕ). g.child (get_or (insert (records_in old p) (suc q) s.parts.entry) j [])) at
+      ∙ ap g.child (insert-here q (records_in old p) s.parts.entry s.parts.cut.within)
+      ∙ s.parts.names
 
   pub new-at : leaf_under g new key i (header_in new).root ≡ p
   new-at = way-above i (omega arith) ∙ way
 
   pub one-down : (nodes : Store) (r : ℕ) → leaf_under g nodes key (lift i 1) r ≡ child_for g key (records_in nodes (leaf_under g nodes key i r))
   one-down nodes r = leaf-lift g nodes key i 1 r
-
-  -- one of the halves
-  pub way-half : (leaf_under g new key (lift i 1) (header_in new).root ≡ n) ⊎ (leaf_under g new key (lift i 1) (header_in new).root ≡ m)
-  way-half =
-      let to = one-down new (header_in new).root ∙ ap (λ (x : ℕ). child_for g key (records_in new x)) new-at in
-      elim (cases_Bool (is_not_above g key s.entry)) [ inl good ↦ inr (to ∙ child-second good) | inr other ↦ inl (to ∙ child-first other) ]
 
   pub way-node : leaf_under g old key (lift i 1) root ≡ n
   way-node = one-down old root ∙ ap (λ (x : ℕ). child_for g key (records_in old x)) way ∙ old-child
@@ -136,9 +131,9 @@ module _ {K : Type 0} (g : Ghosts K) (total : IsTotalOrder g.compare) (old new :
   low-above =
       let Q : List (List ℕ) → Type 0 = λ xs. 0 < prefix_len (is_not_above g key) xs in
       subst Q (sym new-records)
-      (elim (cases_Bool (is_not_above g key s.entry)) [
-        | inl good ↦ (let more = insert-one (is_not_above g key) q (records_in old p) s.entry low good in omega (arith, more))
-        | inr other ↦ (let same = insert-other (is_not_above g key) q (records_in old p) s.entry low other in omega (arith, same))
+      (elim (cases_Bool (is_not_above g key s.parts.entry)) [
+        | inl good ↦ (let more = insert-one (is_not_above g key) q (records_in old p) s.parts.entry low good in omega (arith, more))
+        | inr other ↦ (let same = insert-other (is_not_above g key) q (records_in old p) s.parts.entry low other in omega (arith, same))
       ])
 
   -- the nodes above it on the way have kept their records
@@ -146,14 +141,22 @@ module _ {K : Type 0} (g : Ghosts K) (total : IsTotalOrder g.compare) (old new :
   records-uppers j lt =
       at-upper g old key (KeepsRecords g old new) i (suc k) j (root_level old) [] root [] refl lt (uppers-keep g old new i k p n m q c s structure) (some-of _ (right-uppers g old new i k p n m q c s structure))
 
-  -- the half on the way, by its size
-  pub half-size : (most : ℕ) → size_of (take c (records_in old n)) ≤ most → size_of (drop c (records_in old n)) ≤ most → size_of (records_in new (leaf_under g new key (lift i 1) (header_in new).root)) ≤ most
-  half-size most first second =
-      let P : ℕ → Type 0 = λ x. size_of (records_in new x) ≤ most in
-      let Q : List (List ℕ) → Type 0 = λ xs. size_of xs ≤ most in
-      elim way-half [
-        | inl is ↦ subst P (sym is) (subst Q (sym (records-first g old new i k p n m q c s structure)) first)
-        | inr is ↦ subst P (sym is) (subst Q (sym (records-second g old new i k p n m q c s structure)) second)
+  unfit : (b : Bool) → not b ≡ false → b ≡ true
+  unfit true e = refl
+  unfit false e = cc
+
+  -- the part on the way has room
+  pub half-room : (len : ℕ) → IsRoomyCut g old key k n c len → HasRoom new len (leaf_under g new key (lift i 1) (header_in new).root)
+  half-room len room =
+      let P : ℕ → Type 0 = λ x. HasRoom new len x in
+      let Q : List (List ℕ) → Type 0 = λ xs. size_of xs + (len + 2) ≤ 496 in
+      let to = one-down new (header_in new).root ∙ ap (λ (x : ℕ). child_for g key (records_in new x)) new-at in
+      elim (cases_Bool (is_not_above g key s.parts.entry)) [
+        | inl good ↦ subst P (sym (to ∙ child-second good)) (subst Q (sym (records-second g old new i k p n m q c s structure)) room.second)
+        | inr other ↦
+            (let above : is_gt (g.compare (entry_key g k (get_or (records_in old n) c [])) key) ≡ true =
+            ap (λ (x : K). is_gt (g.compare x key)) (sym s.keyed) ∙ unfit (is_gt (g.compare (g.index_key s.parts.entry) key)) other in
+            subst P (sym (to ∙ child-first other)) (subst Q (sym (records-first g old new i k p n m q c s structure)) (room.first above)))
       ]
 
   -- below the halves it is the same way
@@ -164,18 +167,18 @@ module _ {K : Type 0} (g : Ghosts K) (total : IsTotalOrder g.compare) (old new :
     abbrev old-records : List (List ℕ)
     old-records = records_in old n
 
-    entry-fits : fits s.entry ≡ fits (get_or old-records c [])
+    entry-fits : fits s.parts.entry ≡ fits (get_or old-records c [])
     entry-fits = ap (λ (x : K). not (is_gt (g.compare x key))) (s.keyed ∙ ap (λ (j : ℕ). entry_key g j (get_or old-records c [])) up)
 
     P : ℕ
     P = prefix_len (is_not_above g key) old-records
 
-    from-first : fits s.entry ≡ false → child_for g key (records_in new n) ≡ child_for g key old-records
+    from-first : fits s.parts.entry ≡ false → child_for g key (records_in new n) ≡ child_for g key old-records
     from-first other =
-        let same = take-prefix (is_not_above g key) c old-records s.cut.less (sym entry-fits ∙ other) in
+        let same = take-prefix (is_not_above g key) c old-records s.less (sym entry-fits ∙ other) in
         let few = prefix_len-le-length (is_not_above g key) (take c old-records) in
         let short = length-take c old-records in
-        let some = s.cut.some in
+        let some = s.some in
         let within : prefix_len (is_not_above g key) old-records - 1 < c = omega arith in
         ap (child_for g key) (records-first g old new i k p n m q c s structure)
         ∙ ap (λ (j : ℕ). g.child (get_or (take c old-records) (j - 1) [])) same
@@ -187,13 +190,13 @@ module _ {K : Type 0} (g : Ghosts K) (total : IsTotalOrder g.compare) (old new :
     some-pairs : HavePairs g old (suc k') old-records
     some-pairs = let Q : ℕ → Type 0 = λ j. HavePairs g old j old-records in subst Q up (node-some g old new i k p n m q c s structure total ordered)
 
-    from-second : fits s.entry ≡ true → child_for g key (records_in new m) ≡ child_for g key old-records
+    from-second : fits s.parts.entry ≡ true → child_for g key (records_in new m) ≡ child_for g key old-records
     from-second good =
-        let less = s.cut.less in
+        let less = s.less in
         let here = sym entry-fits ∙ good in
-        let all = earlier-fit g.compare total key g.index_key own [] c old-records s.cut.less keyed some-pairs here in
+        let all = earlier-fit g.compare total key g.index_key own [] c old-records s.less keyed some-pairs here in
         let count = drop-prefix (is_not_above g key) c old-records (omega arith) all in
-        let one = drop-some (is_not_above g key) c old-records s.cut.less here in
+        let one = drop-some (is_not_above g key) c old-records s.less here in
         let place' : c + (prefix_len (is_not_above g key) (drop c old-records) - 1) ≡ prefix_len (is_not_above g key) old-records - 1 = omega arith in
         ap (child_for g key) (records-second g old new i k p n m q c s structure)
         ∙ ap g.child (get_or-drop c old-records (prefix_len (is_not_above g key) (drop c old-records) - 1) [])
@@ -201,13 +204,13 @@ module _ {K : Type 0} (g : Ghosts K) (total : IsTotalOrder g.compare) (old new :
 
     half-child : child_for g key (records_in new (child_for g key (records_in new p))) ≡ child_for g key old-records
     half-child =
-        elim (cases_Bool (is_not_above g key s.entry)) [
+        elim (cases_Bool (is_not_above g key s.parts.entry)) [
           | inl good ↦ ap (λ (x : ℕ). child_for g key (records_in new x)) (child-second good) ∙ from-second good
           | inr other ↦ ap (λ (x : ℕ). child_for g key (records_in new x)) (child-first other) ∙ from-first other
         ]
 
     n-some : 0 < length old-records
-    n-some = let less = s.cut.less in omega arith
+    n-some = let less = s.less in omega arith
 
     abbrev below : List ℕ
     below = flat_map (children g old) (old-level g old new i k p n m q c s structure)
@@ -252,11 +255,11 @@ module _ {K : Type 0} (g : Ghosts K) (total : IsTotalOrder g.compare) (old new :
     low-half few =
         let P : ℕ → Type 0 = λ x. 0 < prefix_len (is_not_above g key) (records_in new x) in
         let Q : List (List ℕ) → Type 0 = λ xs. 0 < prefix_len (is_not_above g key) xs in
-        elim (cases_Bool (is_not_above g key s.entry)) [
+        elim (cases_Bool (is_not_above g key s.parts.entry)) [
           | inl good ↦
-              (let one = drop-some (is_not_above g key) c old-records s.cut.less (sym entry-fits ∙ good) in
+              (let one = drop-some (is_not_above g key) c old-records s.less (sym entry-fits ∙ good) in
               subst P (sym (child-second good)) (subst Q (sym (records-second g old new i k p n m q c s structure)) (omega (arith, one))))
           | inr other ↦
-              (let same = take-prefix (is_not_above g key) c old-records s.cut.less (sym entry-fits ∙ other) in
+              (let same = take-prefix (is_not_above g key) c old-records s.less (sym entry-fits ∙ other) in
               subst P (sym (child-first other)) (subst Q (sym (records-first g old new i k p n m q c s structure)) (omega (arith, same, few))))
         ]

@@ -63,9 +63,18 @@ module _ {K : Type 0} (g : Ghosts K) (old : Store) where
 
 -- ---- the loop over the levels
 
-module _ {K : Type 0} (g : Ghosts K) (key : K) (full : ℕ) (old : Store) where
+pub room-index : {K : Type 0} (g : Ghosts K) (len k size : ℕ) → 0 < k → size + (g.INDEX_KEY_LEN + 5 + 2) ≤ 496 → size + (len_at g len k + 2) ≤ 496
+room-index g len zero size some room = absurd (omega (arith, some))
+room-index g len (suc k) size some room = room
+
+-- above the leaves an index record comes
+pub index-room : {K : Type 0} (g : Ghosts K) (len k size : ℕ) → 0 < k → size + (len_at g len k + 2) ≤ 496 → size + (g.INDEX_KEY_LEN + 5 + 2) ≤ 496
+index-room g len zero size some room = absurd (omega (arith, some))
+index-room g len (suc k) size some room = room
+
+module _ {K : Type 0} (g : Ghosts K) (key : K) (len full : ℕ) (old : Store) where
   -- before the first cut
-  pub down-init : IsSound g old → IsLow g old key → HasCutDown g key full full old old
+  pub down-init : IsSound g old → IsLow g old key → HasCutDown g key len full full old old
   down-init sound low = record {
     keeps = keeps-same g old sound;
     others = λ x other. other;
@@ -77,13 +86,13 @@ module _ {K : Type 0} (g : Ghosts K) (key : K) (full : ℕ) (old : Store) where
     below = λ k lt. refl;
     grown = λ k le lt. absurd (omega (arith, le, lt));
     way = λ k lt. refl;
-    size = λ k lt. refl;
+    records = λ k lt. refl;
     room = λ lt. absurd (omega (arith, lt));
     none = λ le. refl;
     low = low;
   }
 
-  module _ (c : AreCuttable g old key full) (a b : ℕ) (mid : Store) (some : 0 < a) (most : a ≤ full) (next : b ≡ a - 1) (h : HasCutDown g key a full old mid) where
+  module _ (c : AreCuttable g old key full) (a b : ℕ) (mid : Store) (some : 0 < a) (most : a ≤ full) (next : b ≡ a - 1) (h : HasCutDown g key len a full old mid) where
     -- what the next cut asks for
     pub next-deep : b + 1 < depth_of mid
     next-deep = let d = h.depth in let w = c.within in omega (arith, d, w, some, most, next)
@@ -91,18 +100,18 @@ module _ {K : Type 0} (g : Ghosts K) (key : K) (full : ℕ) (old : Store) where
     pub next-over : 354 < size_of (records_in mid (node_for g mid key b))
     next-over =
         let over = c.over b (omega (arith, some, most, next)) in
-        let size = h.size b (omega (arith, some, next)) in
+        let size = ap size_of (h.records b (omega (arith, some, next))) in
         let same = ap (λ (x : ℕ). size_of (records_in mid x)) (h.way b (omega (arith, some, next))) in
         omega (arith, over, size, same)
 
     -- where the node above was cut just before, it has room for one record more
-    pub next-room : g.INDEX_KEY_LEN ≤ 37 → HasRoom mid (g.INDEX_KEY_LEN + 5) (node_for g mid key (b + 1))
-    next-room short =
+    pub next-room : HasRoom mid (g.INDEX_KEY_LEN + 5) (node_for g mid key (b + 1))
+    next-room =
         let at : b + 1 ≡ a = omega (arith, some, next) in
         let P : ℕ → Type 0 = λ j. HasRoom mid (g.INDEX_KEY_LEN + 5) (node_for g mid key j) in
         subst P (sym at)
         (elim (cases_lt a full) [
-          | inl less ↦ (let room = h.room less in omega (arith, room, short))
+          | inl less ↦ index-room g len a (size_of (records_in mid (node_for g mid key a))) some (h.room less)
           | inr same ↦
               (let is : full ≡ a = omega (arith, same, most) in
               let F : ℕ → Type 0 = λ j. HasRoom old (g.INDEX_KEY_LEN + 5) (node_for g old key j) in
@@ -117,7 +126,7 @@ module _ {K : Type 0} (g : Ghosts K) (key : K) (full : ℕ) (old : Store) where
     next-file file = let n = h.keeps.frame.nodes in let l = h.keeps.frame.file in omega (arith, n, l, file)
 
     -- and what it makes
-    pub down-next : (new : Store) → HasCutLevel g key b mid new → HasCutDown g key b full old new
+    pub down-next : (new : Store) → HasCutLevel g key (len_at g len b) b mid new → HasCutDown g key len b full old new
     down-next new cut =
         let w = c.within in
         let d = h.depth in
@@ -141,9 +150,9 @@ module _ {K : Type 0} (g : Ghosts K) (key : K) (full : ℕ) (old : Store) where
                 ap (λ (ns : List ℕ). length ns) (cut.levels k (omega (arith, lt, w, d)) other) ∙ h.grown k more lt)
           ];
           way = λ k lt. cut.way k lt ∙ h.way k (omega (arith, lt, next));
-          size = λ k lt.
+          records = λ k lt.
               (let up : k < a = omega (arith, lt, next) in
-              ap (λ (x : ℕ). size_of (records_in new x)) (sym (h.way k up)) ∙ cut.size k lt ∙ ap (λ (x : ℕ). size_of (records_in mid x)) (h.way k up) ∙ h.size k up);
+              ap (records_in new) (sym (h.way k up)) ∙ cut.records k lt ∙ ap (records_in mid) (h.way k up) ∙ h.records k up);
           room = λ lt. cut.room;
           none = λ le. absurd (omega (arith, le, some, most, next));
           low = cut.low;
@@ -164,20 +173,21 @@ module _ {K : Type 0} (g : Ghosts K) (key : K) (len full : ℕ) (index_len : (e 
       let small = index_small (get_or (records_in nodes n) 0 []) is in
       omega (arith, long, small)
 
+  -- what comes to a level is short
+  pub len-short : (k : ℕ) → len ≤ 140 → (0 < k → g.INDEX_KEY_LEN ≤ 37) → len_at g len k ≤ 140
+  len-short zero short small = short
+  len-short (suc k) short small = let i = small (omega arith) in omega (arith, i)
+
   over-at : (k size : ℕ) → len ≤ 140 → (0 < k → g.INDEX_KEY_LEN ≤ 37) → 496 < size + (len_at g len k + 2) → 354 < size
   over-at zero size short small big = omega (arith, short, big)
   over-at (suc k) size short small big = let i = small (omega arith) in omega (arith, i, big)
-
-  room-at : (k size : ℕ) → 0 < k → size + (len_at g len k + 2) ≤ 496 → size + (g.INDEX_KEY_LEN + 5 + 2) ≤ 496
-  room-at zero size some room = absurd (omega (arith, some))
-  room-at (suc k) size some room = room
 
   -- the full nodes on the way, where the root isn't one of them
   pub cuttable-full : (nodes : Store) → IsSound g nodes → AreFull g nodes key len full → full < depth_of nodes → len ≤ 140 → AreCuttable g nodes key full
   cuttable-full nodes sound f less short = record {
     within = less;
     over = λ k lt. over-at k (size_of (records_in nodes (node_for g nodes key k))) short (λ some. keys-short nodes sound (omega (arith, less, lt, some))) (f.each k lt);
-    room = λ some. room-at full (size_of (records_in nodes (node_for g nodes key full))) some (f.room less);
+    room = λ some. index-room g len full (size_of (records_in nodes (node_for g nodes key full))) some (f.room less);
   }
 
   -- all of them, where a new root stands above

@@ -21,7 +21,6 @@ use Rattle.hfs_btree_insertion.proofs.LevelWays.{same-tree}
 pub record HasTaken {K : Type 0} (g : Ghosts K) (m : ℕ) (old new : Store) : Type 0 where
   pub sound : IsSound g new
   pub exact : IsExact g old → IsExact g new
-  pub content : tree_content g new ≡ tree_content g old
   pub head : KeepsHead old new
   pub gone : IsStray g new m → ⊥
   pub same : (x : ℕ) → x ≢ m → IsStray g new x ↔ IsStray g old x
@@ -93,5 +92,5 @@ module _ {K : Type 0} (g : Ghosts K) (m : ℕ) (old mid new : Store) (c : HasCla
               t.rest x (subst P same other) ∙ c.bytes x (each-left (IsOther x) (own_nodes old) (tree_nodes g old ++ tree_nodes g new) other));
         }
 
-    pub taken-content : tree_content g new ≡ tree_content g old
-    taken-content = t.content ∙ c.content
+    pub taken-content : tree_content g new ≡ tree_content g mid → tree_content g new ≡ tree_content g old
+    taken-content same = same ∙ c.content

@@ -64,9 +64,9 @@ pub record HasRaised {K : Type 0} (g : Ghosts K) (old new : Store) : Type 0 wher
   pub free : free_nodes new + 1 ≡ free_nodes old
   pub root : size_of (records_in new (header_in new).root) ≡ g.INDEX_KEY_LEN + 7
 
--- On one level, counted from the leaves, the node on the way to the key was cut in two; the others are the same. Both parts
--- have room for one more record.
-pub record HasCutLevel {K : Type 0} (g : Ghosts K) (key : K) (a : ℕ) (old new : Store) : Type 0 where
+-- On one level, counted from the leaves, the node on the way to the key was cut in two; the others are the same. The part on the
+-- way has room for one more record of so many bytes.
+pub record HasCutLevel {K : Type 0} (g : Ghosts K) (key : K) (len a : ℕ) (old new : Store) : Type 0 where
   pub keeps : KeepsTree g old new
   pub others : NodesStay g old new
   pub keys : KeysStay g old new
@@ -76,8 +76,8 @@ pub record HasCutLevel {K : Type 0} (g : Ghosts K) (key : K) (a : ℕ) (old new 
   pub levels : (k : ℕ) → k < depth_of old → k ≢ a → level_above g new k ≡ level_above g old k
   pub grown : length (level_above g new a) ≡ length (level_above g old a) + 1
   pub way : (k : ℕ) → k < a → node_for g new key k ≡ node_for g old key k
-  pub size : (k : ℕ) → k < a → size_of (records_in new (node_for g old key k)) ≡ size_of (records_in old (node_for g old key k))
-  pub room : size_of (records_in new (node_for g new key a)) ≤ 319
+  pub records : (k : ℕ) → k < a → records_in new (node_for g old key k) ≡ records_in old (node_for g old key k)
+  pub room : HasRoom new len (node_for g new key a)
   pub low : IsLow g new key
 
 -- ---- words of the steps' contracts
@@ -85,6 +85,10 @@ pub record HasCutLevel {K : Type 0} (g : Ghosts K) (key : K) (a : ℕ) (old new 
 -- the leaf for the key has room for one more record of so many bytes
 abbrev pub HasLeafRoom : {K : Type 0} → Ghosts K → Store → K → ℕ → Type 0
 HasLeafRoom g nodes key len = size_of (records_in nodes (leaf_for g nodes key)) + (len + 2) ≤ 496
+
+-- the leaf for the key has no room for one more record of so many bytes
+abbrev pub IsLeafFull : {K : Type 0} → Ghosts K → Store → K → ℕ → Type 0
+IsLeafFull g nodes key len = IsFullFor nodes len (node_for g nodes key 0)
 
 -- on the way from the root down to the key no index node has all of its keys above the key
 abbrev pub IsRootLow : {K : Type 0} → Ghosts K → Store → K → Type 0

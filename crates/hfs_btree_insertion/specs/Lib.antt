@@ -6,3 +6,4 @@ pub mod Stored
 pub mod Steps
 pub mod Lowering
 pub mod Room
+pub mod Begun

@@ -1,30 +1,38 @@
 -- A tree that has room for a new record on the way to its key.
-use Rattle.std.specs.Prelude.{◌≡◌, ℕ, suc, ◌+◌, ◌<◌, ◌≤◌, length}
+use Rattle.std.specs.Prelude.{◌≡◌, ℕ, suc, ◌+◌, ◌-◌, ◌<◌, ◌≤◌, true, List, [], length, slice_index_or}
 use Rattle.hfs_btree.specs.declared.key.Key.{Ghosts}
 use Rattle.std.specs.List.{prefix_len}
 use Rattle.hfs_btree.specs.Tree.{Store, records_in}
 use Rattle.hfs_btree.specs.Search.{is_not_above}
-use Rattle.hfs_btree.specs.Header.{depth_of, tree_content}
-use Rattle.hfs_btree_edits.specs.Edits.{KeepsTree, level_above, node_for, IsFullFor, GetsNode, HasRisen}
+use Rattle.hfs_btree.specs.Header.{depth_of, free_nodes, tree_content}
+use Rattle.hfs_btree_edits.specs.Edits.{KeepsTree, level_above, node_for, IsFullFor, GetsNode}
 use Rattle.hfs_btree_insertion.specs.Growth.{len_at, HasRoom, IsLow, NodesStay, KeysStay}
 
--- a level has as many nodes as before, or one more where its node on the way to the key had no room, and the level below has got one
-pub record HasGrownFor {K : Type 0} (g : Ghosts K) (key : K) (len : ℕ) (old new : Store) (k : ℕ) : Type 0 where
+-- a level has as many nodes as before, or one more where its node on the way to the key had no room, and where it is above level a, the
+-- level below has got one
+pub record HasGrownFor {K : Type 0} (g : Ghosts K) (key : K) (len a : ℕ) (old new : Store) (k : ℕ) : Type 0 where
   pub least : length (level_above g old k) ≤ length (level_above g new k)
   pub most : length (level_above g new k) ≤ length (level_above g old k) + 1
   pub full : GetsNode g old new k → IsFullFor old (len_at g len k) (node_for g old key k)
-  pub below : (j : ℕ) → suc j ≡ k → GetsNode g old new k → GetsNode g old new j
+  pub below : (j : ℕ) → a ≤ j → suc j ≡ k → GetsNode g old new k → GetsNode g old new j
 
--- the leaf where the search for the key ends has room for a record of so many bytes; the content is the same
-pub record HasMadeRoom {K : Type 0} (g : Ghosts K) (key : K) (len : ℕ) (old new : Store) : Type 0 where
+-- The node on the way to the key that stands a levels above the leaves has room for what comes to it, where a record of so many bytes
+-- comes to the leaf; the levels below it, and the content, are the same.
+pub record HasMadeRoom {K : Type 0} (g : Ghosts K) (key : K) (len a : ℕ) (old new : Store) : Type 0 where
   pub keeps : KeepsTree g old new
   pub others : NodesStay g old new
   pub keys : KeysStay g old new
   pub content : tree_content g new ≡ tree_content g old
-  pub levels : (k : ℕ) → k < depth_of old → HasGrownFor g key len old new k
-  pub depth : HasRisen g old new
+  pub levels : (k : ℕ) → a ≤ k → k < depth_of old → HasGrownFor g key len a old new k
+  pub below : (k : ℕ) → k < a → k < depth_of old → level_above g new k ≡ level_above g old k
+  pub least : depth_of old ≤ depth_of new
+  pub most : depth_of new ≤ depth_of old + 1
+  pub split : a < depth_of old → depth_of old < depth_of new → length (level_above g new (depth_of old - 1)) ≡ 2
+  pub deep : a < depth_of new
+  pub free : depth_of old + 1 ≤ free_nodes old → a ≤ free_nodes new
   pub low : IsLow g new key
-  pub room : HasRoom new len (node_for g new key 0)
+  pub room : HasRoom new (len_at g len a) (node_for g new key a)
+  pub records : (k : ℕ) → k < a → k < depth_of old → records_in new (node_for g new key k) ≡ records_in old (node_for g old key k)
 
 -- no index node on the way to the key that stands higher above the leaves than so many levels has all of its keys above the key
 abbrev pub IsLowAbove : {K : Type 0} → Ghosts K → Store → K → ℕ → Type 0
@@ -35,3 +43,8 @@ pub record IsRoomyLeaf {K : Type 0} (g : Ghosts K) (nodes : Store) (key : K) (le
   pub at : n ≡ node_for g nodes key 0
   pub low : IsLowAbove g nodes key 0
   pub room : HasRoom nodes len n
+
+-- where a record's key isn't above the key, neither are those of the records before it
+abbrev pub IsRisingFor : {K : Type 0} → Ghosts K → K → List (List ℕ) → Type 0
+IsRisingFor g key records =
+    (i j : ℕ) → i ≤ j → j < length records → is_not_above g key (slice_index_or records j []) ≡ true → is_not_above g key (slice_index_or records i []) ≡ true

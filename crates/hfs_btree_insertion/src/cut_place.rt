@@ -1,53 +1,143 @@
-//! Where a node is cut, and the index record that names its second half.
+//! Where a node is cut, and the index record that names its second part.
 
-ghost use Rattle.std.specs.Prelude.{◌≡◌, ◌<◌, ◌≤◌, All, IfOk, true, length, take, drop};
-ghost use Rattle.hfs_node.specs.Node.{Fits, size_of};
+ghost use Rattle.std.specs.Prelude.{◌≡◌, ℕ, ◌+◌, ◌*◌, ◌<◌, ◌≤◌, true, false, All, IfOk, List, [], length, take, drop, slice_index_or};
+ghost use Rattle.hfs_node.specs.Node.{Fits, node_of, size_of};
+ghost use Rattle.hfs_scans.specs.Each.{Each};
 ghost use Rattle.hfs_btree.specs.Header.{record_in};
-ghost use Rattle.hfs_btree.specs.Tree.{records_in, reads_at};
-ghost use Rattle.hfs_btree_insertion.specs.Cut.{child_at};
-ghost use Rattle.hfs_btree_insertion.specs.Halves.{NamesHalf};
+ghost use Rattle.hfs_btree.specs.Tree.{records_in, records_of, reads_at};
+ghost use Rattle.hfs_btree_insertion.specs.Cut.{LeaveRoom, IsRoomyCut, child_at};
+ghost use Rattle.hfs_btree_insertion.specs.Halves.{NamesHalf, IsPlaceBehind};
 
 use crate::record_key::key_at;
-use hfs_btree::{Key, Nodes, child_of};
+use crate::way::size_in;
+use hfs_btree::{Key, Nodes, child_of, place_in};
+use hfs_btree_edits::place_above;
 use hfs_node::{NodeView, view};
 use std::alloc::{AllocError, Global};
 
-/// The place at which the records of a node are cut: the first with at least 177 bytes before it. A record takes at most
-/// 142 bytes with its offset, so each part has room for one more.
+/// So many bytes, or none where they don't count.
+fn bytes_if(counts: bool, bytes: usize) -> usize
+    ensures { result ≤ bytes }
+{
+    if counts { bytes } else { 0 }
+}
+
+/// Whether a node with `size` bytes of records, to which one of `len` bytes comes, is cut behind the first `before` of them: the
+/// rest leaves room for the new one, and a cut behind the next record, of `here` bytes, would leave none, or parts that differ
+/// more. `come` is what the new one adds to the first part in both cuts. Where the parts differ as much in both, the cut is
+/// behind the next record if the new one comes behind that.
+fn is_middle(before: usize, here: usize, come: usize, size: usize, len: usize) -> bool
+    requires before { before ≤ size }
+    requires here { here ≤ 142 }
+    requires come { come ≤ 284 }
+    requires over { 354 < size }
+    requires fits { size ≤ 496 }
+    requires len { len ≤ 140 }
+    ensures some { result ≡ true → 0 < before }
+    ensures room { result ≡ true → size + (len + 2) ≤ 496 + before }
+    ensures few { result ≡ false → before + here + (len + 2) ≤ 496 }
+    ensures even { result ≡ false → 2 * (before + here) ≤ size + (len + 144) }
+{
+    let all = size + len + 2;
+    if before == 0 {
+        return false;
+    }
+    if all > 496 + before {
+        return false;
+    }
+    if before + here + len + 2 > 496 {
+        return true;
+    }
+    if 2 * before + here + come < all + bytes_if(come == 0, 1) {
+        return false;
+    }
+    true
+}
+
+/// The place at which the records of a node are cut, of `size` bytes, where one more of `len` bytes comes in front of record
+/// `at`: as near to the middle of all as each part still has room for the new one.
 #[tactic(auto, using(hfs_node::proofs::SizeLemmas::sizes))]
-fn half_place(node: &NodeView<'_>) -> usize
-    requires over { 354 < size_of node.now.records }
+fn half_place(node: &NodeView<'_>, size: usize, at: usize, len: usize) -> usize
+    requires size { size ≡ size_of node.now.records }
+    requires over { 354 < size }
     requires fits { Fits node.now }
     requires short { All (λ r. length r ≤ 140) node.now.records }
+    requires len { len ≤ 140 }
     ensures some { 0 < result }
     ensures within { result < length node.now.records }
-    ensures first { size_of (take result node.now.records) ≤ 319 }
-    ensures second { size_of (drop result node.now.records) ≤ 319 }
+    ensures first { LeaveRoom (take result node.now.records) len }
+    ensures second { LeaveRoom (drop result node.now.records) len }
 {
-    let mut size = 0;
+    let mut before = 0;
     for i in 0..node.len() {
-        if size >= 177 {
+        let here = node.record(i).len() + 2;
+        let come = bytes_if(at <= i, len + 2) + bytes_if(at <= i + 1, len + 2);
+        if is_middle(before, here, come, size, len) {
             return i;
         }
-        size += node.record(i).len() + 2;
+        before += here;
     }
     unreachable!()
 }
 
-/// The place at which node `n` is cut, which has more than 354 bytes of records.
-pub(crate) fn cut_place<N: Nodes>(nodes: &N, n: u32) -> usize
+/// The same, but that the last record of the level's last node goes to the new node alone where the new one comes behind it:
+/// so nodes are full where keys rise.
+fn part_place(node: &NodeView<'_>, size: usize, at: usize, len: usize) -> usize
+    requires size { size ≡ size_of node.now.records }
+    requires over { 354 < size }
+    requires fits { Fits node.now }
+    requires short { All (λ r. length r ≤ 140) node.now.records }
+    requires len { len ≤ 140 }
+    ensures some { 0 < result }
+    ensures within { result < length node.now.records }
+    ensures first { at ≤ result → LeaveRoom (take result node.now.records) len }
+    ensures second { LeaveRoom (drop result node.now.records) len }
+{
+    if at == node.len() && at > 1 && node.forward() == 0 {
+        at - 1
+    } else {
+        half_place(node, size, at, len)
+    }
+}
+
+/// The place in a node, so many levels above the leaves, in front of which a record with this key comes.
+fn new_place<K: Key>(bytes: &[u8; 512], key: &K, above: u16) -> usize
+    requires { Each (λ e. reads_at K.Key above e ≡ true) (records_of (node_of bytes.now)) }
+    ensures { IsPlaceBehind K.Key key.now above (records_of (node_of bytes.now)) result }
+{
+    if above == 0 {
+        return place_in(bytes, key);
+    }
+    match view(bytes) {
+        Ok(node) => place_above(&node, key),
+        Err(_) => 0,
+    }
+}
+
+/// The place at which node `n` is cut, which has more than 354 bytes of records and stands so many levels above the leaves,
+/// where one of `len` bytes comes on the way to a key.
+pub(crate) fn cut_place<K: Key, N: Nodes>(
+    nodes: &N,
+    n: u32,
+    key: &K,
+    above: u16,
+    len: usize,
+) -> usize
     requires within { n < length (N.nodes nodes.now) }
+    requires reads { Each (λ e. reads_at K.Key above e ≡ true) (records_in (N.nodes nodes.now) n) }
     requires over { 354 < size_of (records_in (N.nodes nodes.now) n) }
     requires short { All (λ r. length r ≤ 140) (records_in (N.nodes nodes.now) n) }
+    requires len { len ≤ 140 }
     ensures some { 0 < result }
     ensures less { result < length (records_in (N.nodes nodes.now) n) }
-    ensures first { size_of (take result (records_in (N.nodes nodes.now) n)) ≤ 319 }
-    ensures second { size_of (drop result (records_in (N.nodes nodes.now) n)) ≤ 319 }
+    ensures room { IsRoomyCut K.Key (N.nodes nodes.now) key.now above n result len }
 {
     let mut bytes = [0; 512];
     nodes.read(n, &mut bytes);
+    let at = new_place(&bytes, key, above);
+    let size = size_in(&bytes);
     match view(&bytes) {
-        Ok(node) => half_place(&node),
+        Ok(node) => part_place(&node, size, at, len),
         Err(_) => unreachable!(),
     }
 }

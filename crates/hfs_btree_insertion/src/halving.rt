@@ -1,6 +1,7 @@
-//! A node whose second half goes to another.
+//! A node that comes to stand behind another, with records of its own or some of the other's.
 
 ghost use Rattle.std.specs.Prelude.{◌≡◌, ◌≢◌, ◌<◌, ◌≤◌, OnOk, length};
+ghost use Rattle.hfs_btree_insertion.specs.Begun.{HasBehind};
 ghost use Rattle.hfs_btree.specs.Header.{record_in};
 ghost use Rattle.hfs_btree.specs.Tree.{node_in, records_in, forward_of};
 ghost use Rattle.hfs_btree_edits.specs.Stored.{Decodes, IsLink, HasBackward};
@@ -10,6 +11,7 @@ ghost use Rattle.hfs_btree_insertion.specs.Stored.{HasLinked, HasLastLeaf};
 
 use hfs_btree::read_header;
 use hfs_btree_edits::{NodesMut, load, put_header, store};
+use hfs_node::{Node, Records};
 use std::alloc::{AllocError, Global};
 
 /// Sets the backward link of a node.
@@ -85,4 +87,38 @@ pub(crate) fn halve<S: NodesMut>(
     store(nodes, n, &first)?;
     store(nodes, m, &second)?;
     link_right(alloc, nodes, right, m, leaves)
+}
+
+/// Puts a record into node `m`, which then stands behind leaf `n`: links are set on both sides, and the header record's last
+/// leaf where `n` was the last.
+pub(crate) fn put_behind<S: NodesMut>(
+    alloc: Global,
+    nodes: &mut S,
+    n: u32,
+    m: u32,
+    entry: Vec<u8>,
+) -> Result<(), AllocError>
+    requires first { (n ≢ 0) × Decodes (S.nodes nodes.old) n }
+    requires second { (m ≢ 0) × (m < length (S.nodes nodes.old)) }
+    requires short { length entry.items ≤ 140 }
+    requires right { IsLink (S.nodes nodes.old) (forward_of (node_in (S.nodes nodes.old) n)) }
+    requires long { 30 ≤ length (record_in (S.nodes nodes.old) 0 0) }
+    ensures behind { Edits result (HasBehind n m entry.items) S.nodes nodes.old nodes.new }
+    ensures kept { OnOk result (S.kept nodes.new ≡ S.kept nodes.old) }
+{
+    let mut first = load(alloc, nodes, n)?;
+    let right = first.forward;
+    let mut records = Records::new(alloc);
+    records.push(entry)?;
+    let second = Node {
+        forward: right,
+        backward: n,
+        kind: first.kind,
+        height: first.height,
+        records,
+    };
+    first.forward = m;
+    store(nodes, n, &first)?;
+    store(nodes, m, &second)?;
+    link_right(alloc, nodes, right, m, true)
 }

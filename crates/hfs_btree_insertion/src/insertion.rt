@@ -5,10 +5,11 @@ ghost use Rattle.hfs_btree.specs.Header.{header_in, depth_of, free_nodes, tree_c
 ghost use Rattle.hfs_btree.specs.Pairs.{lookup};
 ghost use Rattle.hfs_btree.specs.Sound.{IsSound};
 ghost use Rattle.hfs_btree_edits.specs.Edits.{Edits, IsAboveFirst};
-ghost use Rattle.hfs_btree_insertion.specs.Growth.{IsLow};
+ghost use Rattle.hfs_btree_insertion.specs.Growth.{IsLow, IsLeafFull};
 ghost use Rattle.hfs_btree_insertion.specs.Room.{HasMadeRoom};
 ghost use Rattle.hfs_btree_insertion.specs.Stored.{Inserts};
 
+use crate::leaf_begin::{begin_leaf, comes_last};
 use crate::leaf_put::{put_entry, put_in_leaf};
 use crate::level_cut::cut_levels;
 use crate::lowering::lower_keys;
@@ -19,37 +20,41 @@ use hfs_btree::{Key, read_header};
 use hfs_btree_edits::NodesMut;
 use std::alloc::{AllocError, Global};
 
-/// Makes room on the way to a key for a leaf's record of `len` bytes: a node that has none is cut in two, and a root that
-/// is cut gets a new root above it.
+/// Makes room on the way to a key for what comes to the level `least`, of the leaves or of the nodes above them, where a record
+/// of `len` bytes comes to the leaf: a node that has none is cut in two, and a root that is cut gets a new root above it.
 fn make_room<K: Key, S: NodesMut>(
     alloc: Global,
     nodes: &mut S,
     key: &K,
     len: usize,
+    least: u16,
 ) -> Result<(), AllocError>
     requires sound { IsSound K.Key (S.nodes nodes.old) }
     requires above { IsAboveFirst K.compare key.now (tree_content K.Key (S.nodes nodes.old)) }
     requires low { IsLow K.Key (S.nodes nodes.old) key.now }
     requires short { len ≤ 140 }
+    requires least { least ≤ 1 }
+    requires over { 0 < least → IsLeafFull K.Key (S.nodes nodes.old) key.now len }
     requires shallow { depth_of (S.nodes nodes.old) ≤ 15 }
     requires free { depth_of (S.nodes nodes.old) + 1 ≤ free_nodes (S.nodes nodes.old) }
     requires file { (header_in (S.nodes nodes.old)).nodes ≤ length (S.nodes nodes.old) }
-    ensures room { Edits result (HasMadeRoom K.Key key.now len) S.nodes nodes.old nodes.new }
+    ensures room { Edits result (HasMadeRoom K.Key key.now len least) S.nodes nodes.old nodes.new }
     ensures kept { OnOk result (S.kept nodes.new ≡ S.kept nodes.old) }
 {
     let header = read_header(nodes);
     let full = full_levels(nodes, &header, key, len);
     if full < header.depth {
-        return cut_levels(alloc, nodes, key, full);
+        return cut_levels(alloc, nodes, key, full, least, len);
     }
     raise::<K, S>(alloc, nodes)?;
-    cut_levels(alloc, nodes, key, full)
+    cut_levels(alloc, nodes, key, full, least, len)
 }
 
 /// Puts the pair into the tree, none of whose keys is equal to its own in the order, and one of which is below it.
 ///
-/// A node that has no room is cut in two, and a root that is cut gets a new root above it. It takes nodes that are free:
-/// at most one for each level, and one for a new root. Where the leaf has room and no index key is to be lowered, which is
+/// A node that has no room is cut in two, and a root that is cut gets a new root above it; but where the record comes behind
+/// all others, the leaves stay, and it begins a new one. It takes nodes that are free: at most one for each level, and one for
+/// a new root. Where the leaf has room and no index key is to be lowered, which is
 /// the rule, it goes down the tree once.
 ///
 /// Errors: `AllocError` where memory was refused. Then nothing is known of the nodes, which are to be thrown away.
@@ -80,6 +85,10 @@ pub fn insert<K: Key, S: NodesMut>(
         return put_in_leaf(alloc, nodes, key, n, &bytes, entry);
     }
     lower_keys(alloc, nodes, key)?;
-    make_room(alloc, nodes, key, len)?;
+    if comes_last(nodes, key, len) {
+        make_room(alloc, nodes, key, len, 1)?;
+        return begin_leaf(alloc, nodes, key, entry);
+    }
+    make_room(alloc, nodes, key, len, 0)?;
     put_entry(alloc, nodes, key, entry)
 }

@@ -36,7 +36,7 @@ pub(crate) fn put_record<S: NodesMut>(
 }
 
 /// Counts one more record in the header record.
-fn count_record<S: NodesMut>(alloc: Global, nodes: &mut S) -> Result<(), AllocError>
+pub(crate) fn count_record<S: NodesMut>(alloc: Global, nodes: &mut S) -> Result<(), AllocError>
     requires within { 0 < length (S.nodes nodes.old) }
     requires long { 30 ≤ length (record_in (S.nodes nodes.old) 0 0) }
     requires few { (header_in (S.nodes nodes.old)).records + 1 < 2 ^ 32 }

@@ -5,7 +5,7 @@ ghost use Rattle.hfs_btree.specs.Header.{header_in, depth_of, free_nodes};
 ghost use Rattle.hfs_btree.specs.Sound.{IsSound, IsStray};
 ghost use Rattle.hfs_btree_edits.specs.Edits.{Edits};
 ghost use Rattle.hfs_btree_insertion.specs.Cut.{IsBranch, IsChildCut};
-ghost use Rattle.hfs_btree_insertion.specs.Growth.{HasRoom, HasRoomOnWay, IsChildCuttable, IsCuttableOnWay, IsLow, HasCutLevel};
+ghost use Rattle.hfs_btree_insertion.specs.Growth.{len_at, HasRoom, HasRoomOnWay, IsChildCuttable, IsCuttableOnWay, IsLow, HasCutLevel};
 ghost use Rattle.hfs_btree_insertion.specs.Steps.{AreCuttable, HasCutDown};
 
 use crate::cut_place::{child_named, cut_place, half_entry};
@@ -16,11 +16,25 @@ use hfs_btree::{Key, place_in_index, read_header};
 use hfs_btree_edits::{NodesMut, claim_node};
 use std::alloc::{AllocError, Global};
 
-/// Cuts the child that a record of index node `parent` names, which stands so many levels above the leaves: its second half
-/// goes to node `m`, a stray one, and a record behind that one names it.
+/// How many bytes the record has that comes to a level: in a leaf `len`, above the leaves an index record's.
+fn level_len<K: Key>(len: usize, above: u16) -> usize
+    ensures { result ≡ len_at K.Key len above }
+{
+    if above == 0 {
+        len
+    } else {
+        K::INDEX_KEY_LEN as usize + 5
+    }
+}
+
+/// Cuts the child that a record of index node `parent` names, which stands so many levels above the leaves: its second part
+/// goes to node `m`, a stray one, and a record behind that one names it. The part on the way to the key has room for a record
+/// of `len` bytes.
 fn cut_child<K: Key, S: NodesMut>(
     alloc: Global,
     nodes: &mut S,
+    key: &K,
+    len: usize,
     parent: u32,
     place: usize,
     above: u16,
@@ -32,32 +46,36 @@ fn cut_child<K: Key, S: NodesMut>(
     requires within { m < length (S.nodes nodes.old) }
     requires over { IsChildCuttable K.Key (S.nodes nodes.old) parent place }
     requires room { HasRoom (S.nodes nodes.old) (K.INDEX_KEY_LEN + 5) parent }
-    ensures cut { Edits result (IsChildCut K.Key above parent place m) S.nodes nodes.old nodes.new }
+    requires short { len ≤ 140 }
+    ensures cut { Edits result (IsChildCut K.Key key.now len above parent place m)
+        S.nodes nodes.old nodes.new }
     ensures kept { OnOk result (S.kept nodes.new ≡ S.kept nodes.old) }
 {
     let n = child_named::<K, S>(nodes, parent, place);
-    let half = cut_place(nodes, n);
+    let half = cut_place(nodes, n, key, above, len);
     let entry = half_entry::<K, S>(alloc, nodes, n, half, above, m)?;
     put_record(alloc, nodes, parent, place + 1, entry)?;
     halve(alloc, nodes, n, m, half, above == 0)
 }
 
 /// Cuts the node on the way to a key that stands so many levels above the leaves; the node above it has room for an index
-/// record. It takes one free node.
+/// record. The part on the way has room for a record of `len` bytes then. It takes one free node.
 pub(crate) fn cut_level<K: Key, S: NodesMut>(
     alloc: Global,
     nodes: &mut S,
     key: &K,
     above: u16,
+    len: usize,
 ) -> Result<(), AllocError>
     requires sound { IsSound K.Key (S.nodes nodes.old) }
     requires low { IsLow K.Key (S.nodes nodes.old) key.now }
+    requires short { len ≤ 140 }
     requires deep { above + 1 < depth_of (S.nodes nodes.old) }
     requires over { IsCuttableOnWay K.Key (S.nodes nodes.old) key.now above }
     requires room { HasRoomOnWay K.Key (S.nodes nodes.old) key.now (above + 1) }
     requires free { 0 < free_nodes (S.nodes nodes.old) }
     requires file { (header_in (S.nodes nodes.old)).nodes ≤ length (S.nodes nodes.old) }
-    ensures cut { Edits result (HasCutLevel K.Key key.now above) S.nodes nodes.old nodes.new }
+    ensures cut { Edits result (HasCutLevel K.Key key.now len above) S.nodes nodes.old nodes.new }
     ensures kept { OnOk result (S.kept nodes.new ≡ S.kept nodes.old) }
 {
     let m = claim_node::<K, S>(alloc, nodes)?;
@@ -65,29 +83,34 @@ pub(crate) fn cut_level<K: Key, S: NodesMut>(
     let mut bytes = [0; 512];
     let parent = node_at(nodes, &header, key, above + 1, &mut bytes);
     let place = place_in_index(&bytes, key);
-    cut_child::<K, S>(alloc, nodes, parent, place, above, m)
+    cut_child(alloc, nodes, key, len, parent, place, above, m)
 }
 
-/// Cuts the nodes on the way to a key on so many levels from the leaves on, from the top down. It takes one free node for
-/// each.
+/// Cuts the nodes on the way to a key that stand below level `full` and not below level `least`, counted from the leaves, from
+/// the top down. The last has room then for what comes to it, where a record of `len` bytes comes to the leaf. It takes one
+/// free node for each.
 pub(crate) fn cut_levels<K: Key, S: NodesMut>(
     alloc: Global,
     nodes: &mut S,
     key: &K,
     full: u16,
+    least: u16,
+    len: usize,
 ) -> Result<(), AllocError>
     requires sound { IsSound K.Key (S.nodes nodes.old) }
     requires full { AreCuttable K.Key (S.nodes nodes.old) key.now full }
+    requires least { least ≤ full }
+    requires short { len ≤ 140 }
     requires low { IsLow K.Key (S.nodes nodes.old) key.now }
     requires free { full ≤ free_nodes (S.nodes nodes.old) }
     requires file { (header_in (S.nodes nodes.old)).nodes ≤ length (S.nodes nodes.old) }
-    ensures cut { Edits result (HasCutDown K.Key key.now 0 full) S.nodes nodes.old nodes.new }
+    ensures cut { Edits result (HasCutDown K.Key key.now len least full) S.nodes nodes.old nodes.new }
     ensures kept { OnOk result (S.kept nodes.new ≡ S.kept nodes.old) }
 {
     let mut above = full;
-    while above > 0 {
+    while above > least {
         above -= 1;
-        cut_level(alloc, nodes, key, above)?;
+        cut_level(alloc, nodes, key, above, level_len::<K>(len, above))?;
     }
     Ok(())
 }

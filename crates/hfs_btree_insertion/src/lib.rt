@@ -3,7 +3,9 @@
 
 mod cut_place;
 mod halving;
+mod index_search;
 mod insertion;
+mod leaf_begin;
 mod leaf_put;
 mod level_cut;
 mod lowering;

@@ -7,23 +7,24 @@ ghost use Rattle.hfs_btree.specs.Header.{header_in, depth_of};
 ghost use Rattle.hfs_btree.specs.Sound.{IsSound};
 ghost use Rattle.hfs_btree.specs.Tree.{records_of};
 ghost use Rattle.hfs_btree_insertion.specs.Growth.{HasLowKey, IsChildFor};
-ghost use Rattle.hfs_btree_insertion.specs.Room.{IsRoomyLeaf};
+ghost use Rattle.hfs_btree_insertion.specs.Room.{IsRisingFor, IsRoomyLeaf};
 
+use crate::index_search::first_above;
 use crate::way::size_in;
 use hfs_btree::{Header, Key, Nodes, child_of};
-use hfs_btree_edits::place_above;
 use hfs_node::view;
 
 /// The child where the search for a key goes on from an index node; none where all of the node's keys are above the key.
 fn low_child<K: Key>(bytes: &[u8; 512], key: &K) -> Option<u32>
-    requires { Each (λ entry. K.is_index entry ≡ true) (records_of (node_of bytes.now)) }
+    requires index { Each (λ entry. K.is_index entry ≡ true) (records_of (node_of bytes.now)) }
+    requires rising { IsRisingFor K.Key key.now (records_of (node_of bytes.now)) }
     ensures child { IfSome result (IsChildFor K.Key key.now bytes.now) }
     ensures low { IfSome result (λ child. HasLowKey K.Key key.now bytes.now) }
 {
     let Ok(node) = view(bytes) else {
         return None;
     };
-    let place = place_above(&node, key);
+    let place = first_above(&node, key);
     if place == 0 {
         return None;
     }

@@ -111,6 +111,7 @@ impl<B: Blocks> Editing<'_, B> {
         ensures nodes { IsInFile (catalog_nodes (B.blocks self.now)) }
         ensures records { (header_in (catalog_nodes (B.blocks self.now))).records < 2 ^ 32 }
     {
+        // A proof knows that both are below 2^32 once it has seen the file's size and the header's count.
         let _size = catalog_size(self.mdb);
         let _records = record_count(&self.nodes());
     }

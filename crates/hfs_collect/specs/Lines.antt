@@ -3,15 +3,16 @@ use Rattle.std.specs.Prelude.{ℕ, List, [], ◌∷◌, codes}
 use Rattle.std.specs.Fmt.{decimal}
 use Rattle.std.specs.List.{concat}
 use Rattle.hfs_commands.specs.Paths.{path_text}
-use Rattle.hfs_collection.specs.declared.image.ImageCounts.{ImageCounts}
+use Rattle.hfs_collection.specs.declared.counts.ImageCounts.{ImageCounts}
 use Rattle.hfs_database.specs.declared.comparing.Comparison.{Comparison}
 use Rattle.hfs_database.specs.Comparing.{comparison_word}
 
--- of an image that was collected: how many volumes and files it has
+-- of an image that was collected: how many volumes it has, and how many of them are refused; how many files, and how many of them are damaged
 unfoldable pub image_line : List ℕ → ImageCounts → List ℕ
 image_line path counts =
     concat
-    (path_text path ∷ codes "\tvolumes " ∷ decimal counts.volumes ∷ codes "\trefused " ∷ decimal counts.refused ∷ codes "\tfiles " ∷ decimal counts.files ∷ codes "\tdamaged 0\n" ∷ [])
+    (path_text path ∷ codes "\tvolumes " ∷ decimal counts.volumes ∷ codes "\trefused " ∷ decimal counts.refused ∷ codes "\tfiles " ∷ decimal counts.files
+    ∷ codes "\tdamaged " ∷ decimal counts.damaged ∷ codes "\n" ∷ [])
 
 -- of an image that was compared
 unfoldable pub comparison_line : List ℕ → Comparison → List ℕ

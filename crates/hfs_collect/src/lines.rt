@@ -16,10 +16,11 @@ pub fn image_line(alloc: Global, path: &str, counts: &ImageCounts) -> Result<Str
         volumes,
         refused,
         files,
+        damaged,
     } = *counts;
     let path = ShownPath(path);
     let line = format!(in alloc;
-        "{path}\tvolumes {volumes}\trefused {refused}\tfiles {files}\tdamaged 0\n"
+        "{path}\tvolumes {volumes}\trefused {refused}\tfiles {files}\tdamaged {damaged}\n"
     )?;
     Ok(line)
 }

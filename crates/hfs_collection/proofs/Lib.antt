@@ -3,3 +3,8 @@ mod Going
 mod VolumeGiving
 mod VolumesGoing
 mod ImageGiving
+mod RemainsGoing
+mod ForkTelling
+mod Counting
+mod VolumeCounting
+mod HeldGiving

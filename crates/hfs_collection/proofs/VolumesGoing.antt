@@ -1,11 +1,12 @@
 -- Volumes that are given one after the other.
-use Rattle.std.proofs.Common.{◌≡◌, ◌∙◌, ℕ, ◌+◌, ◌<◌, ◌≤◌, Bool, List, ◌++◌, length, drop, get_or, append-nil, append_assoc, Option, Some, None, refl, ap, sym, subst}
+use Rattle.std.proofs.Common.{◌≡◌, ◌∙◌, ℕ, ◌+◌, ◌<◌, ◌≤◌, Bool, List, [], ◌∷◌, ◌++◌, length, drop, get_or, append-nil, append_assoc, Option, Some, None, refl, ap, sym, subst}
 use Rattle.std.proofs.lemmas.List.{drop_more, drop_all}
 use Rattle.hfs_containers.specs.declared.ranges.FoundRange.{FoundRange}
 use Rattle.hfs_containers.specs.Ranges.{bytes_in}
 use Rattle.hfs_needed.specs.Known.{OfKnown}
 use Rattle.hfs_rows.specs.Taken.{TakenRow, IsBeginning}
-use Rattle.hfs_collection.specs.Volumes.{volume_rows, volume_rows_from}
+use Rattle.hfs_check.specs.Faults.{fault_of}
+use Rattle.hfs_collection.specs.Volumes.{all_volume_rows, lost_place, lost_rows, place_of, volume_rows, volume_rows_from}
 
 -- what was given, and the rows that are still to come, make the whole
 abbrev pub VolumesLeft : Option (List ℕ) → ℕ → Bool → ℕ → List FoundRange → List TakenRow → List TakenRow → Type 0
@@ -14,7 +15,7 @@ VolumesLeft known len taken i ranges start given =
 
 -- the rows of one volume of a file
 abbrev pub rows_of_range : Bool → ℕ → FoundRange → List ℕ → List TakenRow
-rows_of_range taken number found file = volume_rows taken number found (bytes_in found.range file)
+rows_of_range taken number found file = volume_rows taken (place_of number found) (bytes_in found.range file)
 
 pub volumes_first : (known : Option (List ℕ)) (len : ℕ) (taken : Bool) (ranges : List FoundRange) (given : List TakenRow) → VolumesLeft known len taken 0 ranges given given
 volumes_first None len taken ranges given = tt
@@ -63,3 +64,19 @@ volumes_within (Some file) now same len taken i ranges d lt start given new left
     longer new (given ++ rows_of_range taken (i + 1) (get_or ranges i d) file) (volume_rows_from taken (i + 1 + 1) (drop (i + 1) ranges) file) (start ++ volume_rows_from taken 1 ranges file) (part whole)
     (append_assoc given (rows_of_range taken (i + 1) (get_or ranges i d) file) (volume_rows_from taken (i + 1 + 1) (drop (i + 1) ranges) file)
     ∙ ap (λ (rows : List TakenRow). given ++ rows) (sym (step taken i ranges d file lt)) ∙ left whole)
+
+-- ---- all volumes
+
+-- in a file in which none was found
+pub lost_all : (known : Option (List ℕ)) (len : ℕ) (taken : Bool) (ranges : List FoundRange) (Fact : List TakenRow → Type 0) → ranges ≡ []
+    → OfKnown known len (λ file. Fact (lost_rows taken (lost_place len) (fault_of file) file)) → OfKnown known len (λ file. Fact (all_volume_rows taken ranges file))
+lost_all None len taken ranges Fact none given = tt
+lost_all (Some file) len taken ranges Fact none given = λ whole.
+    subst Fact (ap (λ (n : ℕ). lost_rows taken (lost_place n) (fault_of file) file) (sym whole) ∙ ap (λ (rs : List FoundRange). all_volume_rows taken rs file) (sym none)) (given whole)
+
+-- in a file in which some were found
+pub found_all : (known : Option (List ℕ)) (len : ℕ) (taken : Bool) (ranges rest : List FoundRange) (first : FoundRange) (Fact : List TakenRow → Type 0) → ranges ≡ first ∷ rest
+    → OfKnown known len (λ file. Fact (volume_rows_from taken 1 ranges file)) → OfKnown known len (λ file. Fact (all_volume_rows taken ranges file))
+found_all None len taken ranges rest first Fact some given = tt
+found_all (Some file) len taken ranges rest first Fact some given = λ whole.
+    subst Fact (ap (λ (rs : List FoundRange). volume_rows_from taken 1 rs file) some ∙ ap (λ (rs : List FoundRange). all_volume_rows taken rs file) (sym some)) (given whole)

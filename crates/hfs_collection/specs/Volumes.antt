@@ -1,28 +1,49 @@
 -- The rows of the volumes in a file.
-use Rattle.std.specs.Prelude.{ℕ, ◌+◌, Bool, List, [], ◌∷◌, ◌++◌, codes, Option, Some, None}
+use Rattle.std.specs.Prelude.{ℕ, ◌+◌, Bool, List, [], ◌∷◌, ◌++◌, codes, length, Option, Some, None}
 use Rattle.hfs_fields.specs.declared.mdb.Mdb.{Mdb}
 use Rattle.hfs_blocks.specs.Blocks.{block_at}
 use Rattle.hfs_check.specs.declared.mount_fault.MountFault.{MountFault}
 use Rattle.hfs_check.specs.Faults.{fault_of}
 use Rattle.hfs_check.specs.Parts.{mdb_in}
 use Rattle.hfs_containers.specs.declared.ranges.FoundRange.{FoundRange}
-use Rattle.hfs_containers.specs.Ranges.{bytes_in}
+use Rattle.hfs_containers.specs.Ranges.{bytes_in, range_of}
 use Rattle.hfs_table.specs.Columns.{moment_cell}
 use Rattle.hfs_model.specs.Children.{entries_of}
 use Rattle.hfs_check.specs.VolumeOf.{volume_of}
 use Rattle.hfs_refusals.specs.Refusals.{refusal_text}
 use Rattle.hfs_commands.specs.Volumes.{container_text, name_text}
+use Rattle.hfs_finds.specs.Finds.{found_directory}
 use Rattle.hfs_rows.specs.declared.value.RowValue.{RowValue}
 use Rattle.hfs_rows.specs.declared.value.RowValue.TheVariants.{Empty, Number, Text}
 use Rattle.hfs_rows.specs.declared.value.Table.TheVariants.{Volume}
 use Rattle.hfs_rows.specs.Taken.{TakenRow, row_of}
+use Rattle.hfs_collection.specs.declared.places.Way.{Way}
+use Rattle.hfs_collection.specs.declared.places.Way.TheVariants.{Found, Lost}
+use Rattle.hfs_collection.specs.declared.places.VolumePlace.{VolumePlace}
 use Rattle.hfs_collection.specs.Values.{cell_value, text_value}
 use Rattle.hfs_collection.specs.Items.{item_rows}
+use Rattle.hfs_collection.specs.Remains.{remains_rows}
+
+-- ---- places
+
+-- a volume that was found, with this number
+abbrev pub place_of : ℕ → FoundRange → VolumePlace
+place_of number found = record { number = number; way = Found found.container; range = found.range }
+
+-- the whole file of so many bytes, where its volume is lost
+abbrev pub lost_place : ℕ → VolumePlace
+lost_place len = record { number = 0; way = Lost; range = range_of 0 len }
+
+-- how a volume lies in its file
+abbrev pub way_text : Way → List ℕ
+way_text (Found container) = container_text container
+way_text Lost = codes "lost"
+
+-- ---- the values of a row
 
 -- number, how it lies, first byte, bytes
-unfoldable pub range_values : ℕ → FoundRange → List RowValue
-range_values number found =
-    Number number ∷ [] ++ Text (container_text found.container) ∷ [] ++ Number found.range.start ∷ [] ++ Number found.range.len ∷ []
+unfoldable pub range_values : VolumePlace → List RowValue
+range_values place = Number place.number ∷ [] ++ Text (way_text place.way) ∷ [] ++ Number place.range.start ∷ [] ++ Number place.range.len ∷ []
 
 -- name, created, modified, backup
 unfoldable pub name_values : Mdb → List RowValue
@@ -34,34 +55,60 @@ name_values mdb =
 unfoldable pub block_values : Mdb → List RowValue
 block_values mdb = Number mdb.allocation_blocks ∷ [] ++ Number mdb.allocation_block_size ∷ [] ++ Number mdb.free_blocks ∷ []
 
--- of a refused volume no directory is told
+-- where there is no directory nothing of one is told
 unfoldable pub no_directory : List RowValue
 no_directory = Empty ∷ [] ++ Empty ∷ [] ++ Empty ∷ [] ++ Empty ∷ [] ++ Empty ∷ [] ++ Empty ∷ [] ++ Empty ∷ []
 
-abbrev pub directory_values : Option MountFault → Mdb → List RowValue
-directory_values None mdb = name_values mdb ++ block_values mdb
-directory_values (Some why) mdb = no_directory
+abbrev pub directory_values : Option Mdb → List RowValue
+directory_values (Some mdb) = name_values mdb ++ block_values mdb
+directory_values None = no_directory
 
 -- sound, or the fault
 abbrev pub verdict_text : Option MountFault → List ℕ
 verdict_text None = codes "sound"
 verdict_text (Some why) = refusal_text why
 
-unfoldable pub volume_values : ℕ → FoundRange → Option MountFault → Mdb → List RowValue
-volume_values number found fault mdb = range_values number found ++ directory_values fault mdb ++ Text (verdict_text fault) ∷ []
+unfoldable pub volume_values : VolumePlace → Option MountFault → Option Mdb → List RowValue
+volume_values place fault directory = range_values place ++ directory_values directory ++ Text (verdict_text fault) ∷ []
 
--- the items of a sound volume alone are told
-abbrev pub rows_where_sound : Option MountFault → List TakenRow → List TakenRow
-rows_where_sound None rows = rows
-rows_where_sound (Some why) rows = []
+-- ---- the rows of a volume
 
--- the row of a volume with these bytes, and those of its items
-unfoldable pub volume_rows : Bool → ℕ → FoundRange → List ℕ → List TakenRow
-volume_rows taken number found bytes =
-    row_of Volume (volume_values number found (fault_of bytes) (mdb_in (block_at bytes))) ∷ rows_where_sound (fault_of bytes) (item_rows taken (entries_of (volume_of bytes)))
+-- its directory: of a sound one the block in which it belongs, of a refused one that which is found
+abbrev pub told_directory : Option MountFault → List ℕ → Option Mdb
+told_directory None bytes = Some (mdb_in (block_at bytes))
+told_directory (Some why) bytes = found_directory bytes
 
--- the rows of the volumes in these ranges of a file, with numbers from this one on
+-- its items: of a sound one all, of a refused one what remains
+abbrev pub told_items : Bool → Option MountFault → List ℕ → List TakenRow
+told_items taken None bytes = item_rows taken (entries_of (volume_of bytes))
+told_items taken (Some why) bytes = remains_rows taken bytes
+
+-- the row of a volume with these bytes and this fault, if it has one, and those of its items
+unfoldable pub fault_rows : Bool → VolumePlace → Option MountFault → List ℕ → List TakenRow
+fault_rows taken place fault bytes = row_of Volume (volume_values place fault (told_directory fault bytes)) ∷ told_items taken fault bytes
+
+unfoldable pub volume_rows : Bool → VolumePlace → List ℕ → List TakenRow
+volume_rows taken place bytes = fault_rows taken place (fault_of bytes) bytes
+
+-- ---- the rows of a file
+
+-- those of the volumes in these ranges of a file, with numbers from this one on
 abbrev pub volume_rows_from : Bool → ℕ → List FoundRange → List ℕ → List TakenRow
 volume_rows_from taken number [] file = []
 volume_rows_from taken number (found ∷ ranges) file =
-    volume_rows taken number found (bytes_in found.range file) ++ volume_rows_from taken (number + 1) ranges file
+    volume_rows taken (place_of number found) (bytes_in found.range file) ++ volume_rows_from taken (number + 1) ranges file
+
+-- those of a refused file in which a directory is found: none where there is none
+unfoldable pub rows_by_directory : Bool → VolumePlace → MountFault → Option Mdb → List ℕ → List TakenRow
+rows_by_directory taken place why None bytes = []
+rows_by_directory taken place why (Some mdb) bytes = row_of Volume (volume_values place (Some why) (Some mdb)) ∷ remains_rows taken bytes
+
+-- those of the volume that is lost in a file: none where the file is sound, since it is found then
+abbrev pub lost_rows : Bool → VolumePlace → Option MountFault → List ℕ → List TakenRow
+lost_rows taken place None file = []
+lost_rows taken place (Some why) file = rows_by_directory taken place why (found_directory file) file
+
+-- those of all volumes of a file in which these ranges are found
+abbrev pub all_volume_rows : Bool → List FoundRange → List ℕ → List TakenRow
+all_volume_rows taken [] file = lost_rows taken (lost_place (length file)) (fault_of file) file
+all_volume_rows taken (found ∷ ranges) file = volume_rows_from taken 1 (found ∷ ranges) file

@@ -1,10 +1,12 @@
 //! The rows of a volume's items, one after the other.
-ghost use Rattle.std.specs.Prelude.{◌≡◌, ◌+◌, ◌++◌, IfOk, IfSome, OnErr, OnOk};
+ghost use Rattle.std.specs.Prelude.{◌≡◌, ◌+◌, ◌++◌, [], false, IfOk, IfSome, OnErr, OnOk};
 ghost use Rattle.hfs_model.specs.Children.{entries_of};
 ghost use Rattle.hfs_check.specs.VolumeOf.{volume_of};
 ghost use Rattle.hfs_needed.specs.Known.{OfKnown};
 ghost use Rattle.hfs_rows.specs.Taken.{IsBeginning};
 ghost use Rattle.hfs_collection.specs.Items.{item_rows, item_rows_from};
+ghost use Rattle.hfs_inventory.specs.Told.{told_rows};
+ghost use Rattle.hfs_collection.specs.Counts.{file_number, file_total};
 ghost use Rattle.hfs_collection.specs.Giving.{GivesItem, GivesNext, told_row};
 
 use crate::digests::fork_digests;
@@ -25,18 +27,25 @@ pub(crate) struct ItemCounts {
     pub(crate) files: u64,
 }
 
+/// How many files an item is.
+fn file_number(kind: ItemKind) -> u64
+    ensures { result ≡ file_number kind }
+{
+    match kind {
+        ItemKind::Folder => 0,
+        ItemKind::File => 1,
+    }
+}
+
 impl ItemCounts {
     /// With an item more. None where there are 2^64.
     fn after(self, kind: ItemKind) -> Option<ItemCounts>
-        ensures { IfSome result (λ counts. counts.items ≡ self.items + 1) }
+        ensures items { IfSome result (λ counts. counts.items ≡ self.items + 1) }
+        ensures files { IfSome result (λ counts. counts.files ≡ self.files + file_number kind) }
     {
-        let files = match kind {
-            ItemKind::Folder => 0,
-            ItemKind::File => 1,
-        };
         Some(ItemCounts {
             items: self.items.checked_add(1)?,
-            files: self.files.checked_add(files)?,
+            files: self.files.checked_add(file_number(kind))?,
         })
     }
 }
@@ -63,6 +72,7 @@ fn give_item<S: BlockSource + Drop, T: RowTaker>(
 }
 
 /// Gives the row of the next item, and answers whether there was one.
+#[tactic(auto, using(crate::proofs::Counting::files_more, crate::proofs::Counting::files_none))]
 fn give_next<S: BlockSource + Drop, T: RowTaker>(
     alloc: Global,
     taker: &mut T,
@@ -74,6 +84,9 @@ fn give_next<S: BlockSource + Drop, T: RowTaker>(
     ensures given { IfOk result (λ more. GivesNext taken image.old.known image.old.len
         counts.old.items counts.new.items more inventory.old.left inventory.new.left
         (T.given taker.old) (T.given taker.new)) }
+    ensures counted { OnOk result (counts.new.files + file_total inventory.new.left
+        ≡ counts.old.files + file_total inventory.old.left) }
+    ensures ended { IfOk result (λ more. more ≡ false → inventory.new.left ≡ []) }
     ensures part { OnErr result (T.given taker.new ≡ T.given taker.old) }
     ensures kept { image.new ≡ image.old }
 {
@@ -97,6 +110,7 @@ fn give_next<S: BlockSource + Drop, T: RowTaker>(
 }
 
 /// Gives the rows of all items that are to come, and answers how many files are among them.
+#[tactic(auto, using(crate::proofs::Counting::files_all))]
 fn give_inventory<S: BlockSource + Drop, T: RowTaker>(
     alloc: Global,
     taker: &mut T,
@@ -109,6 +123,7 @@ fn give_inventory<S: BlockSource + Drop, T: RowTaker>(
     ensures part { OnErr result (OfKnown image.old.known image.old.len (λ bytes. IsBeginning
         (T.given taker.new)
         (T.given taker.old ++ item_rows_from taken (entries_of (volume_of bytes)) 0 inventory.old.left))) }
+    ensures counted { IfOk result (λ files. files ≡ file_total inventory.old.left) }
     ensures kept { image.new ≡ image.old }
 {
     let mut counts = ItemCounts { items: 0, files: 0 };
@@ -117,6 +132,7 @@ fn give_inventory<S: BlockSource + Drop, T: RowTaker>(
 }
 
 /// Gives the rows of all items of a volume, and answers how many files are among them.
+#[tactic(auto, using(crate::proofs::Counting::files_of))]
 pub(crate) fn give_items<S: BlockSource + Drop, T: RowTaker>(
     alloc: Global,
     taker: &mut T,
@@ -127,6 +143,8 @@ pub(crate) fn give_items<S: BlockSource + Drop, T: RowTaker>(
         ≡ T.given taker.old ++ item_rows taken (entries_of (volume_of bytes)))) }
     ensures part { OnErr result (OfKnown image.old.known image.old.len (λ bytes. IsBeginning
         (T.given taker.new) (T.given taker.old ++ item_rows taken (entries_of (volume_of bytes))))) }
+    ensures counted { IfOk result (λ files. OfKnown image.old.known image.old.len (λ bytes.
+        files ≡ file_total (told_rows (entries_of (volume_of bytes))))) }
     ensures kept { image.new ≡ image.old }
 {
     let mut inventory = image.inventory(alloc)?;

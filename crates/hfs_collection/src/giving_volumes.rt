@@ -1,8 +1,10 @@
 //! The row of a volume, and those of its items.
-ghost use Rattle.std.specs.Prelude.{◌≡◌, ◌++◌, ℕ, List, [], ◌∷◌, length, None, IsTrue, IfOk, OnErr, OnOk};
+ghost use Rattle.std.specs.Prelude.{◌≡◌, ◌++◌, ℕ, List, ◌∷◌, length, None, Some, IsTrue, IfOk, OnErr, OnOk};
+ghost use Rattle.std.specs.Option.{option_map};
 ghost use Rattle.hfs_model.specs.Children.{entries_of};
 ghost use Rattle.hfs_check.specs.VolumeOf.{volume_of};
 ghost use Rattle.hfs_blocks.specs.Blocks.{block_at};
+ghost use Rattle.hfs_check.specs.Faults.{fault_of};
 ghost use Rattle.hfs_check.specs.Parts.{mdb_in};
 ghost use Rattle.hfs_containers.specs.Ranges.{bytes_in};
 ghost use Rattle.hfs_containers.specs.Reading.{IsTold};
@@ -10,57 +12,45 @@ ghost use Rattle.hfs_needed.specs.Known.{OfKnown};
 ghost use Rattle.hfs_rows.specs.declared.value.Table.TheVariants as table;
 ghost use Rattle.hfs_rows.specs.Taken.{IsBeginning, row_of};
 ghost use Rattle.hfs_collection.specs.Items.{item_rows};
-ghost use Rattle.hfs_collection.specs.Volumes.{volume_rows, volume_values};
+ghost use Rattle.hfs_collection.specs.Volumes.{lost_place, lost_rows, volume_rows, volume_values};
+ghost use Rattle.hfs_inventory.specs.Told.{told_rows};
+ghost use Rattle.hfs_collection.specs.Counts.{file_total, lost_counts, volume_counts};
 ghost use Rattle.hfs_collection.specs.Giving.{IsDirectory};
 
+use crate::counts::ImageCounts;
 use crate::fault::CollectFault;
 use crate::giving::give_items;
-use crate::volumes::volume_values;
-use hfs_check::MountFault;
-use hfs_containers::{ByteRange, FoundRange, ReadAt, Window};
+use crate::giving_remains::{give_refused, give_volume_row, give_where_found};
+use crate::places::VolumePlace;
+use crate::source::ImageFile;
+use hfs_containers::{ByteRange, ReadAt, Window};
 use hfs_fields::Mdb;
 use hfs_needed::{NeededFault, OpenedImage};
-use hfs_rows::{RowTaker, Table};
+use hfs_rows::RowTaker;
 use hfs_sparse::BlockSource;
 use std::alloc::Global;
-
-/// Gives the row of a volume.
-fn give_volume_row<T: RowTaker>(
-    alloc: Global,
-    taker: &mut T,
-    number: u64,
-    found: &FoundRange,
-    fault: Option<MountFault>,
-    mdb: &Mdb,
-) -> Result<(), CollectFault>
-    ensures whole { OnOk result (T.given taker.new ≡ T.given taker.old
-        ++ row_of table.Volume (volume_values number found.now fault mdb.now) ∷ []) }
-    ensures part { OnErr result (T.given taker.new ≡ T.given taker.old) }
-{
-    let values = volume_values(alloc, number, found, fault, mdb)?;
-    taker.take(Table::Volume, &values)?;
-    Ok(())
-}
 
 /// Gives the row of a sound volume and those of its items, and answers how many files are among them.
 fn give_sound<S: BlockSource + Drop, T: RowTaker>(
     alloc: Global,
     taker: &mut T,
     image: &mut OpenedImage<S>,
-    number: u64,
-    found: &FoundRange,
+    place: &VolumePlace,
     mdb: &Mdb,
     taken: bool,
 ) -> Result<u64, CollectFault>
     ensures whole { OnOk result (OfKnown image.old.known image.old.len (λ bytes. T.given taker.new
-        ≡ T.given taker.old ++ row_of table.Volume (volume_values number found.now None mdb.now)
+        ≡ T.given taker.old ++ row_of table.Volume (volume_values place.now None (Some mdb.now))
         ∷ item_rows taken (entries_of (volume_of bytes)))) }
     ensures part { OnErr result (OfKnown image.old.known image.old.len (λ bytes. IsBeginning
         (T.given taker.new) (T.given taker.old
-        ++ row_of table.Volume (volume_values number found.now None mdb.now)
+        ++ row_of table.Volume (volume_values place.now None (Some mdb.now))
         ∷ item_rows taken (entries_of (volume_of bytes))))) }
+    ensures counted { IfOk result (λ files. OfKnown image.old.known image.old.len (λ bytes.
+        files ≡ file_total (told_rows (entries_of (volume_of bytes))))) }
 {
-    give_volume_row(alloc, taker, number, found, None, mdb)?;
+    let directory = Some(*mdb);
+    give_volume_row(alloc, taker, place, None, &directory)?;
     give_items(alloc, taker, image, taken)
 }
 
@@ -96,48 +86,79 @@ fn lies_within(len: u64, range: ByteRange) -> bool
     range.len <= len - range.start.min(len)
 }
 
-/// What is told of a volume besides its rows.
-#[derive(Clone, Copy, Debug, PartialEq, Eq)]
-pub(crate) enum Given {
-    /// It is sound, and has so many files.
-    Sound(u64),
-    /// It is refused.
-    Refused,
+/// Opens a range of a file.
+fn open_window<S: ReadAt, F: ImageFile<S>>(
+    file: &F,
+    range: ByteRange,
+) -> Result<Window<S>, CollectFault>
+    ensures { IfOk result (λ window. option_map (bytes_in window.range) (S.known window.source)
+        ≡ option_map (bytes_in range) (F.known file.now)) }
+{
+    let source = file.open()?;
+    Ok(Window { source, range })
 }
 
-/// Gives the row of the volume that lies in a range of a file of `len` bytes, and those of its items where it is sound.
-pub(crate) fn give_volume<S: ReadAt + Drop, T: RowTaker>(
+/// Gives the row of the volume that lies in a range of a file of `len` bytes, and those of its items, or of what remains of them where it
+/// is refused. Answers how much that is.
+pub(crate) fn give_volume<S: ReadAt + Drop, F: ImageFile<S>, T: RowTaker>(
     alloc: Global,
     taker: &mut T,
-    source: S,
+    file: &F,
     len: u64,
-    number: u64,
-    found: &FoundRange,
+    place: &VolumePlace,
     taken: bool,
-) -> Result<Given, CollectFault>
-    ensures whole { OnOk result (OfKnown (S.known source) len (λ file. T.given taker.new
-        ≡ T.given taker.old ++ volume_rows taken number found.now
-        (bytes_in found.now.range file))) }
-    ensures part { OnErr result (OfKnown (S.known source) len (λ file. IsBeginning
+) -> Result<ImageCounts, CollectFault>
+    ensures whole { OnOk result (OfKnown (F.known file.now) len (λ file. T.given taker.new
+        ≡ T.given taker.old ++ volume_rows taken place.now (bytes_in place.now.range file))) }
+    ensures part { OnErr result (OfKnown (F.known file.now) len (λ file. IsBeginning
         (T.given taker.new) (T.given taker.old
-        ++ volume_rows taken number found.now (bytes_in found.now.range file)))) }
+        ++ volume_rows taken place.now (bytes_in place.now.range file)))) }
+    ensures counted { IfOk result (λ counts. OfKnown (F.known file.now) len (λ file.
+        counts ≡ volume_counts (bytes_in place.now.range file))) }
 {
-    if !lies_within(len, found.range) {
+    if !lies_within(len, place.range) {
         return Err(CollectFault::ReadFailed);
     }
-    let mut window = Window {
-        source,
-        range: found.range,
-    };
-    let mdb = directory(&mut window, found.range.len)?;
-    match OpenedImage::open(alloc, window, found.range.len) {
+    let mut window = open_window(file, place.range)?;
+    let mdb = directory(&mut window, place.range.len)?;
+    match OpenedImage::open(alloc, window, place.range.len) {
         Ok(mut image) => {
-            let files = give_sound(alloc, taker, &mut image, number, found, &mdb, taken)?;
-            Ok(Given::Sound(files))
+            let files = give_sound(alloc, taker, &mut image, place, &mdb, taken)?;
+            Ok(ImageCounts::sound(files))
         }
         Err(NeededFault::Refused(why)) => {
-            give_volume_row(alloc, taker, number, found, Some(why), &mdb)?;
-            Ok(Given::Refused)
+            let mut window = open_window(file, place.range)?;
+            give_refused(alloc, taker, &mut window, place, why, taken)
+        }
+        Err(NeededFault::ReadFailed) => Err(CollectFault::ReadFailed),
+        Err(NeededFault::Memory) => Err(CollectFault::NoMemory),
+    }
+}
+
+/// Gives the row of the volume that is lost in a file of `len` bytes, and those of what remains of it, where a directory is found in the
+/// file; else no row. Answers how much that is.
+pub(crate) fn give_lost<S: ReadAt + Drop, F: ImageFile<S>, T: RowTaker>(
+    alloc: Global,
+    taker: &mut T,
+    file: &F,
+    len: u64,
+    taken: bool,
+) -> Result<ImageCounts, CollectFault>
+    ensures whole { OnOk result (OfKnown (F.known file.now) len (λ file. T.given taker.new
+        ≡ T.given taker.old ++ lost_rows taken (lost_place len) (fault_of file) file)) }
+    ensures part { OnErr result (OfKnown (F.known file.now) len (λ file. IsBeginning
+        (T.given taker.new) (T.given taker.old
+        ++ lost_rows taken (lost_place len) (fault_of file) file))) }
+    ensures counted { IfOk result (λ counts. OfKnown (F.known file.now) len (λ file.
+        counts ≡ lost_counts (fault_of file) file)) }
+{
+    let place = VolumePlace::lost(len);
+    let window = open_window(file, place.range)?;
+    match OpenedImage::open(alloc, window, len) {
+        Ok(_image) => Ok(ImageCounts::none()),
+        Err(NeededFault::Refused(why)) => {
+            let mut window = open_window(file, place.range)?;
+            give_where_found(alloc, taker, &mut window, &place, why, taken)
         }
         Err(NeededFault::ReadFailed) => Err(CollectFault::ReadFailed),
         Err(NeededFault::Memory) => Err(CollectFault::NoMemory),

@@ -3,13 +3,16 @@ ghost use Rattle.std.specs.Prelude.{◌≡◌, ◌++◌, ℕ, List, length, IfOk
 ghost use Rattle.hfs_containers.specs.Reading.{IsToldOf};
 ghost use Rattle.hfs_needed.specs.Known.{OfKnown};
 ghost use Rattle.hfs_rows.specs.Taken.{IsBeginning};
+ghost use Rattle.hfs_collection.specs.Counts.{all_volume_counts, image_counts, volume_counts_from};
 ghost use Rattle.hfs_collection.specs.Images.{image_rows, image_values};
 ghost use Rattle.hfs_collection.specs.Values.{digest_value, where_taken};
-ghost use Rattle.hfs_collection.specs.Volumes.{volume_rows_from};
+ghost use Rattle.hfs_collection.specs.Volumes.{all_volume_rows, volume_rows_from};
 
+use crate::counts::ImageCounts;
 use crate::digests::{digest_text, file_digest};
 use crate::fault::CollectFault;
-use crate::giving_volumes::{Given, give_volume};
+use crate::giving_volumes::{give_lost, give_volume};
+use crate::places::VolumePlace;
 use crate::source::ImageFile;
 use crate::values::{push_number, push_value, push_whole_text};
 use hfs_containers::{FoundRange, ReadAt, find_ranges};
@@ -25,32 +28,6 @@ pub struct ImageFacts<'a> {
     pub program: &'a str,
     /// Whether digests are taken.
     pub takes_digests: bool,
-}
-
-/// How much an image holds.
-#[derive(Clone, Copy, Debug, PartialEq, Eq)]
-pub struct ImageCounts {
-    /// How many volumes have a row.
-    pub volumes: u64,
-    /// How many of them are refused.
-    pub refused: u64,
-    /// How many files the others have.
-    pub files: u64,
-}
-
-impl ImageCounts {
-    /// With a volume more. None where a number is 2^64 or more.
-    fn after(self, given: Given) -> Option<ImageCounts> {
-        let (refused, files) = match given {
-            Given::Sound(files) => (0, files),
-            Given::Refused => (1, 0),
-        };
-        Some(ImageCounts {
-            volumes: self.volumes.checked_add(1)?,
-            refused: self.refused.checked_add(refused)?,
-            files: self.files.checked_add(files)?,
-        })
-    }
 }
 
 /// The digest of an image of `len` bytes as it stands in its row, where it is to be taken.
@@ -105,25 +82,46 @@ fn give_volumes<S: ReadAt + Drop, F: ImageFile<S>, T: RowTaker>(
     ensures part { OnErr result (OfKnown (F.known file.now) len (λ file. IsBeginning
         (T.given taker.new) (T.given taker.old
         ++ volume_rows_from taken 1 ranges.now file))) }
+    ensures counted { IfOk result (λ counts. OfKnown (F.known file.now) len (λ file.
+        counts ≡ volume_counts_from ranges.now file)) }
 {
-    let mut counts = ImageCounts {
-        volumes: 0,
-        refused: 0,
-        files: 0,
-    };
+    let mut counts = ImageCounts::none();
     for i in 0..ranges.len() {
-        let source = file.open()?;
-        let given = give_volume(alloc, taker, source, len, i as u64 + 1, &ranges[i], taken)?;
-        let Some(after) = counts.after(given) else {
+        let place = VolumePlace::of(i as u64 + 1, &ranges[i]);
+        let more = give_volume(alloc, taker, file, len, &place, taken)?;
+        let Some(sum) = counts.with(more) else {
             return Err(CollectFault::NoMemory);
         };
-        counts = after;
+        counts = sum;
     }
     Ok(counts)
 }
 
+/// Gives the rows of the volumes in these ranges of a file, or of the one that is lost there where there are none.
+fn give_all<S: ReadAt + Drop, F: ImageFile<S>, T: RowTaker>(
+    alloc: Global,
+    taker: &mut T,
+    file: &F,
+    len: u64,
+    ranges: &[FoundRange],
+    taken: bool,
+) -> Result<ImageCounts, CollectFault>
+    ensures whole { OnOk result (OfKnown (F.known file.now) len (λ file. T.given taker.new
+        ≡ T.given taker.old ++ all_volume_rows taken ranges.now file)) }
+    ensures part { OnErr result (OfKnown (F.known file.now) len (λ file. IsBeginning
+        (T.given taker.new) (T.given taker.old ++ all_volume_rows taken ranges.now file))) }
+    ensures counted { IfOk result (λ counts. OfKnown (F.known file.now) len (λ file.
+        counts ≡ all_volume_counts ranges.now file)) }
+{
+    match ranges {
+        [] => give_lost(alloc, taker, file, len, taken),
+        [_, ..] => give_volumes(alloc, taker, file, len, ranges, taken),
+    }
+}
+
 /// Gives a taker the rows of an image of `len` bytes: its own, and for each volume that lies in it that volume's, with those of
-/// its items where it is sound. At a fault what was given is a beginning of them. Faults: `ReadFailed`, `CannotWrite`, `NoMemory`.
+/// its items, or of what remains of them where it is refused; where no volume lies in it, those of the one that is lost. At a fault what
+/// was given is a beginning of them. Faults: `ReadFailed`, `CannotWrite`, `NoMemory`.
 pub fn give_image<S: ReadAt + Drop, F: ImageFile<S>, T: RowTaker>(
     alloc: Global,
     taker: &mut T,
@@ -135,11 +133,13 @@ pub fn give_image<S: ReadAt + Drop, F: ImageFile<S>, T: RowTaker>(
         ≡ T.given taker.old ++ image_rows facts.now file)) }
     ensures part { OnErr result (OfKnown (F.known file.now) len (λ file. IsBeginning
         (T.given taker.new) (T.given taker.old ++ image_rows facts.now file))) }
+    ensures counted { IfOk result (λ counts. OfKnown (F.known file.now) len (λ file.
+        counts ≡ image_counts file)) }
 {
     let mut source = file.open()?;
     let digest = digest_of(alloc, &mut source, len, facts.takes_digests)?;
     let ranges = find_ranges(alloc, &mut source, len)?;
     let values = image_values(alloc, facts, len, digest)?;
     taker.take(Table::Image, &values)?;
-    give_volumes(alloc, taker, file, len, &ranges, facts.takes_digests)
+    give_all(alloc, taker, file, len, &ranges, facts.takes_digests)
 }

@@ -51,7 +51,11 @@ fn push_bag_path(
 }
 
 /// Appends the word for the kind of an item.
-fn push_kind(alloc: Global, values: &mut Vec<RowValue>, kind: ItemKind) -> Result<(), AllocError>
+pub(crate) fn push_kind(
+    alloc: Global,
+    values: &mut Vec<RowValue>,
+    kind: ItemKind,
+) -> Result<(), AllocError>
     ensures { OnOk result (values.new.items ≡ values.old.items
         ++ cell_value (word (kind_word kind)) ∷ []) }
 {
@@ -83,7 +87,7 @@ fn push_place(
 }
 
 /// Appends characters, of a file alone.
-fn push_of_file(
+pub(crate) fn push_of_file(
     alloc: Global,
     values: &mut Vec<RowValue>,
     kind: ItemKind,
@@ -99,7 +103,11 @@ fn push_of_file(
 }
 
 /// Appends a flag, of a file alone.
-fn push_flag(values: &mut Vec<RowValue>, kind: ItemKind, is_set: bool) -> Result<(), AllocError>
+pub(crate) fn push_flag(
+    values: &mut Vec<RowValue>,
+    kind: ItemKind,
+    is_set: bool,
+) -> Result<(), AllocError>
     ensures { OnOk result (values.new.items ≡ values.old.items
         ++ cell_value (of_file kind (flag is_set)) ∷ []) }
 {
@@ -110,7 +118,11 @@ fn push_flag(values: &mut Vec<RowValue>, kind: ItemKind, is_set: bool) -> Result
 }
 
 /// Appends a number, of a file alone.
-fn push_length(values: &mut Vec<RowValue>, kind: ItemKind, length: u32) -> Result<(), AllocError>
+pub(crate) fn push_length(
+    values: &mut Vec<RowValue>,
+    kind: ItemKind,
+    length: u32,
+) -> Result<(), AllocError>
     ensures { OnOk result (values.new.items ≡ values.old.items
         ++ cell_value (of_file kind (number length)) ∷ []) }
 {
@@ -145,7 +157,11 @@ fn push_marks(alloc: Global, values: &mut Vec<RowValue>, info: &Info) -> Result<
 
 /// Appends the moments.
 #[tactic(auto, unfolding(crate::specs::Items::date_values))]
-fn push_dates(alloc: Global, values: &mut Vec<RowValue>, info: &Info) -> Result<(), AllocError>
+pub(crate) fn push_dates(
+    alloc: Global,
+    values: &mut Vec<RowValue>,
+    info: &Info,
+) -> Result<(), AllocError>
     ensures { OnOk result (values.new.items ≡ values.old.items ++ date_values info.now) }
 {
     push_moment_value(alloc, values, info.created)?;

@@ -2,17 +2,26 @@
 //! items, with the digests of their forks.
 #![tactic(auto)]
 
+mod counts;
 mod digests;
 mod fault;
 mod giving;
+mod giving_remains;
 mod giving_volumes;
+mod held;
+mod holding;
 mod image;
 mod items;
+mod places;
+mod remaining;
+mod remains;
 mod source;
+mod telling;
 mod values;
 mod volumes;
 
+pub use crate::counts::ImageCounts;
 pub use crate::digests::file_digest;
 pub use crate::fault::CollectFault;
-pub use crate::image::{ImageCounts, ImageFacts, give_image};
+pub use crate::image::{ImageFacts, give_image};
 pub use crate::source::ImageFile;

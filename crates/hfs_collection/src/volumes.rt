@@ -3,13 +3,14 @@ ghost use Rattle.std.specs.Prelude.{◌≡◌, ◌++◌, [], ◌∷◌, IfOk, On
 ghost use Rattle.hfs_rows.specs.declared.value.RowValue.TheVariants.{Text};
 ghost use Rattle.hfs_commands.specs.Volumes.{container_text, name_text};
 ghost use Rattle.hfs_collection.specs.Values.{text_value};
-ghost use Rattle.hfs_collection.specs.Volumes.{block_values, directory_values, name_values, no_directory, range_values, verdict_text, volume_values};
+ghost use Rattle.hfs_collection.specs.Volumes.{block_values, directory_values, name_values, no_directory, range_values, verdict_text, volume_values, way_text};
 
+use crate::places::{VolumePlace, Way};
 use crate::values::{
     push_empty, push_moment_value, push_number, push_plain_value, push_whole_text,
 };
 use hfs_check::MountFault;
-use hfs_containers::{Container, FoundRange};
+use hfs_containers::Container;
 use hfs_fields::Mdb;
 use hfs_refusals::Refusal;
 use hfs_rows::RowValue;
@@ -28,21 +29,30 @@ fn container_word(container: Container) -> &'static str
     }
 }
 
+/// How a volume lies in its file, in a word.
+fn way_word(way: Way) -> &'static str
+    ensures { result.now ≡ way_text way }
+{
+    match way {
+        Way::Found(container) => container_word(container),
+        Way::Lost => "lost",
+    }
+}
+
 /// Appends number, how it lies, first byte and bytes.
 #[tactic(auto, unfolding(crate::specs::Volumes::range_values))]
 fn push_range(
     alloc: Global,
     values: &mut Vec<RowValue>,
-    number: u64,
-    found: &FoundRange,
+    place: &VolumePlace,
 ) -> Result<(), AllocError>
-    ensures { OnOk result (values.new.items ≡ values.old.items ++ range_values number found.now) }
+    ensures { OnOk result (values.new.items ≡ values.old.items ++ range_values place.now) }
 {
-    push_number(values, number)?;
-    let word = String::from_str(alloc, container_word(found.container))?;
+    push_number(values, place.number)?;
+    let word = String::from_str(alloc, way_word(place.way))?;
     push_whole_text(values, word)?;
-    push_number(values, found.range.start)?;
-    push_number(values, found.range.len)
+    push_number(values, place.range.start)?;
+    push_number(values, place.range.len)
 }
 
 /// Appends the plain text of a name in its field of a length byte and characters.
@@ -99,18 +109,17 @@ fn push_no_directory(values: &mut Vec<RowValue>) -> Result<(), AllocError>
 fn push_directory(
     alloc: Global,
     values: &mut Vec<RowValue>,
-    fault: Option<MountFault>,
-    mdb: &Mdb,
+    directory: &Option<Mdb>,
 ) -> Result<(), AllocError>
     ensures { OnOk result (values.new.items ≡ values.old.items
-        ++ directory_values fault mdb.now) }
+        ++ directory_values directory.now) }
 {
-    match fault {
-        None => {
+    match directory {
+        Some(mdb) => {
             push_names(alloc, values, mdb)?;
             push_blocks(values, mdb)
         }
-        Some(_) => push_no_directory(values),
+        None => push_no_directory(values),
     }
 }
 
@@ -128,21 +137,20 @@ fn verdict_text(alloc: Global, fault: Option<MountFault>) -> Result<String, Allo
     }
 }
 
-/// The values of the row of a volume that lies in a range, by its fault, if it has one, and its directory.
+/// The values of the row of a volume, by its fault and its directory, if it has them.
 #[tactic(auto, unfolding(crate::specs::Volumes::volume_values))]
 pub(crate) fn volume_values(
     alloc: Global,
-    number: u64,
-    found: &FoundRange,
+    place: &VolumePlace,
     fault: Option<MountFault>,
-    mdb: &Mdb,
+    directory: &Option<Mdb>,
 ) -> Result<Vec<RowValue>, AllocError>
     ensures { IfOk result (λ values. values.items
-        ≡ volume_values number found.now fault mdb.now) }
+        ≡ volume_values place.now fault directory.now) }
 {
     let mut values = Vec::new(alloc);
-    push_range(alloc, &mut values, number, found)?;
-    push_directory(alloc, &mut values, fault, mdb)?;
+    push_range(alloc, &mut values, place)?;
+    push_directory(alloc, &mut values, directory)?;
     push_whole_text(&mut values, verdict_text(alloc, fault)?)?;
     Ok(values)
 }

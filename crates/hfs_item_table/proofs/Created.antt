@@ -299,12 +299,12 @@ rows_besides t lawful dir folder rows k w next put = put.2 dir (sym (unsigned_ti
 
 -- ---- new kinds
 
-pub no_extents : (mdb : Mdb) (f : RowFork) → f.extents.items ≡ [] → f.size ≡ 0 → IsForkIn mdb f
+pub no_extents : (mdb : Mdb) (f : RowFork) → f.extents ≡ [] → f.size ≡ 0 → IsForkIn mdb f
 no_extents mdb f none zero_size = record {
   within = subst (λ (l : List Extent). AreExtentsWithin mdb.allocation_blocks l) (sym none) (λ k d lt. absurd (omega arith));
-  room = subst (λ (n : ℕ). n ≤ block_total f.extents.items * mdb.allocation_block_size) (sym zero_size) (omega arith);
+  room = subst (λ (n : ℕ). n ≤ block_total f.extents * mdb.allocation_block_size) (sym zero_size) (omega arith);
 }
 
 pub no_bytes : (base : List ℕ) (mdb : Mdb) (f : RowFork) → f.size ≡ 0 → bytes_of base mdb f ≡ []
 unfolding bytes_of fork_bytes
-no_bytes base mdb f zero_size = ap (λ (n : ℕ). take n (joined (file_blocks (block_at base) mdb f.extents.items))) zero_size
+no_bytes base mdb f zero_size = ap (λ (n : ℕ). take n (joined (file_blocks (block_at base) mdb f.extents))) zero_size

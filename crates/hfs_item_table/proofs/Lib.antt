@@ -15,3 +15,4 @@ pub mod FactLemmas
 mod NameLemmas
 pub mod PlaceLemmas
 pub mod ShownLemmas
+mod Copied

@@ -89,7 +89,7 @@ module _ (t : Table) (is : IsTable t) where
 
   pub size_is : (fork : RowFork) → IsForkIn t.mdb fork → length (bytes_of t.base t.mdb fork) ≡ fork.size
   unfolding bytes_of
-  size_is fork in_ = length-fork_bytes (block_at t.base) _ (length-block_at t.base) t.mdb area fork.extents.items fork.size even in_.within in_.room
+  size_is fork in_ = length-fork_bytes (block_at t.base) _ (length-block_at t.base) t.mdb area fork.extents fork.size even in_.within in_.room
 
   pub told_file : (id : ℕ) (r : Row) (f : RowFile) → r.kind ≡ FileRow f → IsForkIn t.mdb f.«data» × IsForkIn t.mdb f.resource
       → record { id = id; parent = r.parent; name = r.name; kind = item_kind.File; created = r.created; modified = r.modified; backup = r.backup; finder = r.finder; locked = f.locked; has_id = f.has_thread; valence = 0; data_len = f.«data».size; res_len = f.resource.size }
@@ -101,11 +101,11 @@ module _ (t : Table) (is : IsTable t) where
 
   -- ---- forks
 
-  pub within_base : (fork : RowFork) (read : List Extent) → IsForkIn t.mdb fork → read ≡ fork.extents.items → AreExtentsWithin (mdb_in (block_at t.base)).allocation_blocks read
+  pub within_base : (fork : RowFork) (read : List Extent) → IsForkIn t.mdb fork → read ≡ fork.extents → AreExtentsWithin (mdb_in (block_at t.base)).allocation_blocks read
   within_base fork read in_ same = subst (λ (n : ℕ). AreExtentsWithin n read) is.over.layout.allocation_blocks (subst (AreExtentsWithin t.mdb.allocation_blocks) (sym same) in_.within)
 
   -- a fork has as many bytes as its length says, and what is read of it stops there
-  pub part_is : (fork : RowFork) (read : List Extent) (offset count few : ℕ) (bytes : List ℕ) → IsForkIn t.mdb fork → read ≡ fork.extents.items → few ≡ min count (fork.size - offset)
+  pub part_is : (fork : RowFork) (read : List Extent) (offset count few : ℕ) (bytes : List ℕ) → IsForkIn t.mdb fork → read ≡ fork.extents → few ≡ min count (fork.size - offset)
       → bytes ≡ read_from (bytes_of_extents t.base read) offset few
       → record { code = cond (nat_lt fork.size (offset + count)) END_OF_FILE (pos 0); value = value.Bytes bytes } ≡ part_of (bytes_of t.base t.mdb fork) offset count
   unfolding bytes_of fork_bytes
@@ -118,8 +118,8 @@ module _ (t : Table) (is : IsTable t) where
       whole =
           is_read
           ∙ (λ i. read_from (bytes_of_extents t.base (same i)) offset (few_is i))
-          ∙ ap (λ (l : List ℕ). read_from l offset (min count (fork.size - offset))) (sym (same_bytes (block_at t.base) (mdb_in (block_at t.base)) t.mdb fork.extents.items is.over.layout))
-          ∙ sym (read-take count offset fork.size (all_bytes (block_at t.base) t.mdb fork.extents.items))
+          ∙ ap (λ (l : List ℕ). read_from l offset (min count (fork.size - offset))) (sym (same_bytes (block_at t.base) (mdb_in (block_at t.base)) t.mdb fork.extents is.over.layout))
+          ∙ sym (read-take count offset fork.size (all_bytes (block_at t.base) t.mdb fork.extents))
 
 module _ (m : Items) where
   -- the ID behind a folder's is a number of 32 bits

@@ -34,7 +34,7 @@ use Rattle.hfs_item_table.specs.Places.{place_cmp, place}
 
 -- the bytes of a fork in the base
 unfoldable pub bytes_of : List ℕ → Mdb → RowFork → List ℕ
-bytes_of base mdb fork = fork_bytes (block_at base) mdb fork.extents.items fork.size
+bytes_of base mdb fork = fork_bytes (block_at base) mdb fork.extents fork.size
 
 abbrev pub file_of : List ℕ → Mdb → RowFile → File
 file_of base mdb f = record { kept = f.kept; locked = f.locked; has_thread = f.has_thread; «data» = bytes_of base mdb f.«data»; resource = bytes_of base mdb f.resource }
@@ -85,8 +85,8 @@ volume_of t = record { items = items_of t; next_id = t.next_id; changed = t.chan
 
 -- the fork's extents lie in the volume, and have room for its bytes
 pub record IsForkIn (mdb : Mdb) (fork : RowFork) : Type 0 where
-  pub within : AreExtentsWithin mdb.allocation_blocks fork.extents.items
-  pub room : fork.size ≤ block_total fork.extents.items * mdb.allocation_block_size
+  pub within : AreExtentsWithin mdb.allocation_blocks fork.extents
+  pub room : fork.size ≤ block_total fork.extents * mdb.allocation_block_size
 
 -- a folder's row has the number of its children, and a file's forks lie in the volume
 abbrev pub IsKindOf : Items → Mdb → ℕ → RowKind → Type 0

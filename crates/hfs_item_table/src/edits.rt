@@ -10,6 +10,7 @@ ghost use Rattle.hfs_model.specs.Changes.{new_file, new_folder};
 ghost use Rattle.hfs_model.specs.FileIds.{with_thread_bit};
 ghost use Rattle.hfs_item_table.specs.Tables.{kind_of, IsForkIn};
 
+use crate::extents::Extents;
 use crate::place::Place;
 use crate::row::{Row, RowFile, RowFork, RowKind};
 use hfs_fields::{FileFlags, Name};
@@ -159,7 +160,7 @@ fn no_fork(alloc: Global) -> RowFork
     ensures within { (mdb : Mdb) → IsForkIn mdb result }
     ensures size { result.size ≡ 0 }
 {
-    let extents = Vec::new(alloc);
+    let extents = Extents::new(Vec::new(alloc));
     RowFork { extents, size: 0 }
 }
 

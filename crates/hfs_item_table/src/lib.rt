@@ -4,12 +4,14 @@
 mod changes;
 mod choices;
 mod edits;
+mod extents;
 mod following;
 mod moving;
 mod place;
 mod row;
 mod table;
 
+pub use extents::Extents;
 pub use place::Place;
 pub use row::{Row, RowFile, RowFork, RowKind};
 pub use table::{Found, Table};

@@ -2,8 +2,10 @@
 ghost use Rattle.std.specs.Prelude.{◌≡◌};
 ghost use Rattle.hfs_item_table.specs.Places.{place};
 
+use crate::extents::Extents;
 use crate::place::Place;
-use hfs_fields::{Extent, Name};
+use hfs_fields::Name;
+use std::alloc::AllocError;
 
 /// A folder or a file, without its ID. Its bytes stand in the base.
 #[derive(Drop)]
@@ -30,8 +32,19 @@ impl Row {
     }
 }
 
+impl Clone for Row {
+    ghost is_clone = { λ x y. y ≡ x };
+
+    fn clone(&self) -> Result<Row, AllocError> {
+        Ok(Row {
+            kind: self.kind.clone()?,
+            ..*self
+        })
+    }
+}
+
 /// Whether it is a folder or a file, and what only such an item has.
-#[derive(Drop)]
+#[derive(Clone, Drop)]
 pub enum RowKind {
     Folder {
         kept: [u8; 70],
@@ -42,7 +55,7 @@ pub enum RowKind {
 }
 
 /// What only a file has.
-#[derive(Drop)]
+#[derive(Clone, Drop)]
 pub struct RowFile {
     pub kept: [u8; 102],
     pub locked: bool,
@@ -53,8 +66,8 @@ pub struct RowFile {
 }
 
 /// Where a fork's bytes stand, and how many there are.
-#[derive(Drop)]
+#[derive(Clone, Drop)]
 pub struct RowFork {
-    pub extents: Vec<Extent>,
+    pub extents: Extents,
     pub size: u32,
 }

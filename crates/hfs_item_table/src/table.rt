@@ -73,6 +73,23 @@ fn part_reply(bytes: Vec<u8>, size: u32, offset: u32, count: u32) -> Reply
 }
 
 impl Table {
+    /// A copy over the same base, of which no byte is copied. The only error is want of memory.
+    pub fn copied(&self) -> Result<Table, AllocError>
+        requires { IsTable self.now }
+        ensures table { IfOk result IsTable }
+        ensures volume { IfOk result (λ t. volume_of t ≡ volume_of self.now) }
+    {
+        let base = self.base.share()?;
+        let by_id = self.by_id.clone()?;
+        let by_name = self.by_name.clone()?;
+        Ok(Table {
+            base,
+            by_id,
+            by_name,
+            ..*self
+        })
+    }
+
     /// The ID that the next new item gets.
     pub fn next_id(&self) -> u32
         ensures next { result ≡ self.now.next_id }
@@ -297,7 +314,7 @@ impl Table {
         let rest = fork.size.saturating_sub(offset);
         let bytes = self
             .base
-            .read(alloc, &fork.extents, offset, count.min(rest))?;
+            .read(alloc, fork.extents.as_slice(), offset, count.min(rest))?;
         Ok(part_reply(bytes, fork.size, offset, count))
     }
 

@@ -11,7 +11,7 @@ use Rattle.hfs_places.specs.declared.things.Thing.{Thing}
 use Rattle.hfs_places.specs.Folders.{thing_at}
 use Rattle.hfs_places.specs.Entries.{suffix, entry_row, has_entry_row, entry_behind, entries_behind, entries_of}
 use Rattle.hfs_places.specs.Chains.{place_at, ups_of, is_endless}
-use Rattle.hfs_places.specs.Paths.{entry_at, is_folder_at, lost, lost_at, within, is_cut, path_in, path_by, path}
+use Rattle.hfs_places.specs.Paths.{entry_at, is_folder_at, lost, lost_at, within, is_cut, path_by, path}
 use Rattle.hfs_places.proofs.LawTypes.{IsThing, AreThings, ArePathsShort, PathsAreShort}
 use Rattle.hfs_places.proofs.PathLemmas.{path-is, up-is}
 
@@ -35,7 +35,7 @@ entry-short before thing few is = by (has_entry_row before (entry_row thing))
     by true = omega (arith, length-append (host_name thing.name) (suffix (length before) thing), host, suffix-short (length before) thing few is.number)
     by false = omega (arith, host)
 
-behind-at : (before things : List Thing) (i : ℕ) → i < length things → slice_index_or (entries_behind before things) i [] ≡ entry_behind (before ++ take i things) (thing_at things i)
+pub behind-at : (before things : List Thing) (i : ℕ) → i < length things → slice_index_or (entries_behind before things) i [] ≡ entry_behind (before ++ take i things) (thing_at things i)
 behind-at before [] i within = absurd (omega (arith, within))
 behind-at before (t ∷ ts) zero within = ap (λ (l : List Thing). entry_behind l t) (sym (append-nil before))
 behind-at before (t ∷ ts) (suc i) within =
@@ -47,6 +47,10 @@ length-front [] zero = omega arith
 length-front [] (suc i) = omega arith
 length-front (t ∷ ts) zero = omega arith
 length-front (t ∷ ts) (suc i) = omega (arith, length-front ts i)
+
+pub length-within : (above entry : List ℕ) → length (within above entry) ≡ length above + 1 + length entry
+unfolding within
+length-within above entry = omega (arith, length-append above (codes "/" ++ entry), length-append (codes "/") entry)
 
 module _ (things : List Thing) (are : AreThings things) where
   entry-at-short : (i : ℕ) → i < length things → length (entry_at things i) ≤ 115
@@ -68,10 +72,6 @@ module _ (things : List Thing) (are : AreThings things) where
         length-append (decimal parent) (codes "/" ++ entry_at things i),
         length-append (codes "/") (entry_at things i),
       )
-
-  length-within : (above entry : List ℕ) → length (within above entry) ≡ length above + 1 + length entry
-  unfolding within
-  length-within above entry = omega (arith, length-append above (codes "/" ++ entry), length-append (codes "/") entry)
 
   -- without a folder above
   top-short : (i : ℕ) → i < length things → (b : Bool) → length (if b then entry_at things i else lost_at things i) ≤ 132

@@ -1,10 +1,15 @@
 -- What holds of paths.
-use Rattle.std.specs.Prelude.{◌≡◌, ℕ, true, ◌^◌, ◌<◌, ◌≤◌, List, length, IsTrue}
+use Rattle.std.specs.Prelude.{◌≡◌, ◌≢◌, ℕ, true, false, ◌^◌, ◌<◌, ◌≤◌, List, [], ◌∷◌, ◌++◌, codes, flat_map, length, reverse, slice_index_or, take, Some, IsTrue}
 use Rattle.std.specs.Option.{unwrap_or}
-use Rattle.hfs_names.specs.Laws.{is_bytes}
+use Rattle.hfs_fields.specs.Order.{folded}
+use Rattle.hfs_names.specs.Laws.{is_bytes, IsSafe}
+use Rattle.hfs_names.specs.Paths.{host_path}
 use Rattle.hfs_places.specs.declared.things.Thing.{Thing}
 use Rattle.hfs_places.specs.Folders.{thing_at}
-use Rattle.hfs_places.specs.Paths.{is_folder_at, path}
+use Rattle.hfs_places.specs.Things.{things_of}
+use Rattle.hfs_places.specs.Entries.{entry_row, has_entry_row}
+use Rattle.hfs_places.specs.Chains.{place_at, ups_of}
+use Rattle.hfs_places.specs.Paths.{is_folder_at, path, payload_path}
 
 -- names of at most 31 bytes, and numbers of 32 bits
 pub record IsThing (thing : Thing) : Type 0 where
@@ -24,3 +29,76 @@ pub record ArePathsShort (things : List Thing) : Type 0 where
 
 abbrev pub PathsAreShort : Type 0
 PathsAreShort = (things : List Thing) → AreThings things → ArePathsShort things
+
+-- ---- no two things at one place
+
+-- things that have records of their own
+abbrev pub AreItems : List Thing → Type 0
+AreItems items = (i : ℕ) → i < length items → (thing_at items i).named ≡ false
+
+-- two things with one path below the payload, in whatever case its letters are, are one thing
+abbrev pub HaveOwnPlaces : List Thing → Type 0
+HaveOwnPlaces things = (i j : ℕ) → i < length things → j < length things → folded (payload_path things i) ≡ folded (payload_path things j) → i ≡ j
+
+-- a thing whose path stands before another's is a folder
+abbrev pub LieInFolders : List Thing → Type 0
+LieInFolders things =
+    (i j : ℕ) (below : List ℕ) → i < length things → j < length things → folded (payload_path things i) ≡ folded (payload_path things j ++ (codes "/" ++ below)) → is_folder_at things j ≡ true
+
+-- a path leads down: its parts are texts as file systems take them, none of which begins with a point
+pub record LeadsDown (path : List ℕ) : Type 0 where
+  pub above : List (List ℕ)
+  pub last : List ℕ
+  pub path_is : path ≡ flat_map (λ (part : List ℕ). part ++ codes "/") above ++ last
+  pub above_are : (k : ℕ) → k < length above → IsSafe (slice_index_or above k [])
+  pub last_is : IsSafe last
+
+-- that of the root alone is empty
+abbrev pub LeadDown : List Thing → Type 0
+LeadDown things = (i : ℕ) → i < length things → payload_path things i ≢ [] → LeadsDown (payload_path things i)
+
+-- where the AppleDouble file lies of what has this path
+abbrev pub double_of : {path : List ℕ} → LeadsDown path → List ℕ
+double_of down = flat_map (λ (part : List ℕ). part ++ codes "/") down.above ++ (codes "._" ++ down.last)
+
+-- it is at no thing's path, and is no other thing's
+pub record IsOwnDouble (i j : ℕ) (double other path : List ℕ) : Type 0 where
+  pub apart : folded double ≢ folded path
+  pub one : folded double ≡ folded other → i ≡ j
+
+abbrev pub HaveOwnDoubles : List Thing → Type 0
+HaveOwnDoubles things =
+    (i j : ℕ) (a : LeadsDown (payload_path things i)) (b : LeadsDown (payload_path things j)) → i < length things → j < length things
+    → IsOwnDouble i j (double_of a) (double_of b) (payload_path things j)
+
+-- the law of places
+pub record ArePlacedApart (things : List Thing) : Type 0 where
+  pub own : HaveOwnPlaces things
+  pub in_folders : LieInFolders things
+  pub down : LeadDown things
+  pub doubles : HaveOwnDoubles things
+
+abbrev pub PlacesDiffer : Type 0
+PlacesDiffer = (items namings : List Thing) → AreItems items → AreThings (things_of items namings) → ArePlacedApart (things_of items namings)
+
+-- ---- where nothing is lost
+
+-- the thing has the first of these names, and the others lead on from its folder up to the payload
+abbrev pub HasWay : List Thing → List (List ℕ) → ℕ → Type 0
+HasWay things [] i = ⊥
+HasWay things (n ∷ []) i = ((thing_at things i).name ≡ n) × ((thing_at things i).parent ≡ 2)
+HasWay things (n ∷ m ∷ names) i = ((thing_at things i).name ≡ n) × (p : ℕ) × (place_at (ups_of things) i ≡ Some p) × HasWay things (m ∷ names) p
+
+-- no thing is called as one before it in its folder
+abbrev pub HaveOwnNames : List Thing → Type 0
+HaveOwnNames things = (i : ℕ) → i < length things → has_entry_row (take i things) (entry_row (thing_at things i)) ≡ false
+
+-- the host paths of folders take at most 800 bytes
+abbrev pub AreWaysShort : List Thing → Type 0
+AreWaysShort things = (i : ℕ) (names : List (List ℕ)) → i < length things → is_folder_at things i ≡ true → HasWay things names i → length (host_path (reverse names)) ≤ 800
+
+-- a thing's path is the host path of the names that lead to it
+abbrev pub PathsAreHostPaths : Type 0
+PathsAreHostPaths =
+    (things : List Thing) → AreThings things → HaveOwnNames things → AreWaysShort things
+    → (i : ℕ) (names : List (List ℕ)) → i < length things → HasWay things names i → path things i ≡ host_path (reverse names)

@@ -4,5 +4,17 @@ pub mod EntryLemmas
 pub mod ChainLemmas
 pub mod PathLemmas
 pub mod RowLemmas
-pub mod LawLemmas
 pub mod LawTypes
+pub mod LawLemmas
+mod CaseLemmas
+mod SlashLemmas
+mod MarkLemmas
+mod NamedLemmas
+mod ApartLemmas
+mod PlaceLemmas
+mod BelowLemmas
+pub mod RowPartLemmas
+mod DownLemmas
+mod DoubleLemmas
+mod WayLemmas
+pub mod LawsProved

@@ -1,5 +1,5 @@
 -- Paths by the paths of the folders above.
-use Rattle.std.proofs.Common.{◌≡◌, ℕ, zero, suc, ◌+◌, ◌-◌, ◌^◌, ◌<◌, ◌≤◌, Bool, true, false, ◌&&◌, ◌||◌, ◌==◌, if◌then◌else◌, nat_lt, List, [], ◌++◌, length, map, Option, Some, None, slice_index_or, String, Global, refl, sym, ap, subst, ◌∙◌, arith, inl, inr}
+use Rattle.std.proofs.Common.{◌≡◌, ℕ, zero, suc, ◌+◌, ◌^◌, ◌<◌, Bool, true, false, ◌&&◌, ◌||◌, ◌==◌, if◌then◌else◌, nat_lt, List, [], length, map, Option, Some, None, slice_index_or, String, Global, refl, sym, ap, ◌∙◌, arith, inl, inr}
 use Rattle.std.specs.Prelude.{string_bytes, IfSome}
 use Rattle.std.specs.Option.{option_and_then, option_map_or, is_some}
 use Rattle.std.proofs.lemmas.Bool.{cases_lt, eq-eqb, eqb-true, true≢false}
@@ -39,17 +39,25 @@ pub record IsFolderAbove (things : List Thing) (p : ℕ) : Type 0 where
   pub below : p < length things
   pub folder : is_folder_at things p ≡ true
 
--- it is the folder of its number
-pub above-is : (things : List Thing) (number p : ℕ) → folder_of things number ≡ Some p → IsFolderAbove things p
-above-is things number p is =
+-- its number is that one
+pub above-number : (things : List Thing) (number p : ℕ) → folder_of things number ≡ Some p → (thing_at things p).folder ≡ Some number
+above-number things number p is =
     let two = found-two things number p is in
     let at = position-holds (is_folder_of number) 0 things p two.1 in
     let same : at.m ≡ p = omega (arith, at.place) in
     let holds : is_folder_of number (thing_at things p) ≡ true = ap (λ (j : ℕ). is_folder_of number (thing_at things j)) (sym same) ∙ at.holds nothing in
-    let folder : (thing_at things p).folder ≡ Some number = number-is (thing_at things p).folder number holds in
+    number-is (thing_at things p).folder number holds
+
+-- it is the folder of its number
+pub above-is : (things : List Thing) (number p : ℕ) → folder_of things number ≡ Some p → IsFolderAbove things p
+above-is things number p is =
+    let at = position-holds (is_folder_of number) 0 things p (found-two things number p is).1 in
     record {
-      below = omega (arith, at.within, same);
-      folder = ap (λ (o : Option ℕ). option_map_or (λ n. is_place (folder_of things n) p) o false) folder ∙ ap (λ (o : Option ℕ). is_place o p) is ∙ eq-eqb p p refl;
+      below = omega (arith, at.within, at.place);
+      folder =
+          ap (λ (o : Option ℕ). option_map_or (λ n. is_place (folder_of things n) p) o false) (above-number things number p is)
+          ∙ ap (λ (o : Option ℕ). is_place o p) is
+          ∙ eq-eqb p p refl;
     }
 
 pub up-is : (things : List Thing) (i p : ℕ) → place_at (ups_of things) i ≡ Some p → IsFolderAbove things p

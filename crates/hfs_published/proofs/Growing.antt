@@ -1,6 +1,6 @@
 -- Adding to the pair, and publishing it.
-use Rattle.std.proofs.Common.{◌≡◌, ℕ, List, [], ◌∷◌, ◌++◌, Option, None, refl, sym, ap, ◌∙◌, subst}
-use Rattle.std.specs.Prelude.{fold, Result, Ok, Err, MatchResult}
+use Rattle.std.proofs.Common.{◌≡◌, ℕ, Bool, true, false, List, [], ◌∷◌, ◌++◌, Option, None, refl, sym, ap, ◌∙◌, subst}
+use Rattle.std.specs.Prelude.{fold, Result, Ok, Err, MatchResult, MatchBool}
 use Rattle.std.proofs.lemmas.List.{append-nil}
 use Rattle.std.proofs.lemmas.List.Sums.{fold-append}
 use mathlib.Core.List.{IsPrefix}
@@ -13,9 +13,10 @@ use Rattle.hfs_published.specs.declared.item.Item.{Item}
 use Rattle.hfs_published.specs.declared.item.Item.TheVariants.{Change}
 use Rattle.hfs_published.specs.declared.published.Published.{Published}
 use Rattle.hfs_published.specs.declared.published.Change as op
-use Rattle.hfs_published.specs.Histories.{Known, known}
+use Rattle.hfs_published.specs.Answers.{IsAllOrNothing}
+use Rattle.hfs_published.specs.Histories.{Known, known, with_change}
 use Rattle.hfs_published.specs.Lists.{entered, shown, absorb, IsGood, Keeps, Shown}
-use Rattle.hfs_published.specs.Pairs.{whole, owed_list, IsPair}
+use Rattle.hfs_published.specs.Pairs.{whole, owed_list, pair, with_call, IsPair, IsUnread}
 use Rattle.hfs_published.proofs.Prefixes.{prefix_self, prefix_trans}
 use Rattle.hfs_published.proofs.Seeing.{turns}
 
@@ -105,3 +106,23 @@ pub pair_after : {A E : Type 0} (f : Known) (head : Book) (x next : Published) (
     → MatchResult r (λ _. (next ≡ fold absorb x pending) × (after ≡ [])) (λ _. (next ≡ x) × (after ≡ pending)) → IsPair f head next after o
 pair_after f head x next pending after o (Ok u) i ready h = pair_shown f head x next pending after o i ready h.0 h.1
 pair_after f head x next pending after o (Err e) i ready h = pair_same f head x next pending after o i h.0 h.1
+
+-- ---- a list that nobody reads
+
+-- one change more, or none
+pub unread_more : (f g : Known) (head : Book) (s : Known) (c : Call) (b : Bool) → IsUnread f head s → MatchBool b (g ≡ with_change f c) (g ≡ f) → IsUnread g head s
+unread_more f g head s c true i is = subst (λ (k : Known). IsUnread k head s) (sym is) record {
+  head_is = i.head_is;
+  book_is = i.book_is;
+  begins = prefix_trans s.list f.list (f.list ++ Change c ∷ []) i.begins (Change c ∷ [], refl);
+}
+unread_more f g head s c false i is = subst (λ (k : Known). IsUnread k head s) (sym is) i
+
+pub unread_added : (f g s : Known) (c : Call) (b : Bool) → MatchBool b (g ≡ with_change f c) (g ≡ f)
+    → IsAllOrNothing b (with_call (pair f.book f.list s.list) c) (pair f.book f.list s.list) (pair g.book g.list s.list)
+unread_added f g s c true is = ap (λ (k : Known). pair k.book k.list s.list) is
+unread_added f g s c false is = ap (λ (k : Known). pair k.book k.list s.list) is
+
+-- all of it is published
+pub unread_shown : (f : Known) (head : Book) (s t : Known) → IsUnread f head s → t ≡ f → IsUnread f head t
+unread_shown f head s t i is = subst (λ (k : Known). IsUnread f head k) (sym is) record { head_is = i.head_is; book_is = refl; begins = prefix_self f.list }

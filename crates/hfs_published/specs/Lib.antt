@@ -5,3 +5,4 @@ pub mod Pairs
 pub mod Tolds
 pub mod Answers
 pub mod Writers
+pub mod Kinds

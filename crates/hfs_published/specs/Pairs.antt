@@ -76,6 +76,12 @@ pub record IsPair (f : Known) (head : Book) (x : Published) (pending : List op.C
   pub begins : IsPrefix x.front.list f.list
   pub makes : fold absorb x (pending ++ owed_list owed) ≡ whole f
 
+-- of a list that nobody reads: what is published begins it
+pub record IsUnread (f : Known) (head : Book) (s : Known) : Type 0 where
+  pub head_is : head ≡ f.book
+  pub book_is : s.book ≡ f.book
+  pub begins : IsPrefix s.list f.list
+
 -- the opening is published
 pub record Opens (f : Known) (x : Published) (pending : List op.Change) (v : Option Known) : Type 0 where
   pub shows : x ≡ whole f

@@ -1,23 +1,18 @@
-//! The writer's side of the pair of copies.
-ghost use Rattle.std.specs.Prelude.{◌≡◌, ◌≢◌, ◌<◌, ◌≤◌, ◌++◌, ◌∷◌, [], true, drop, None, IfOk, MatchBool};
+//! The writer's side of what is published.
+ghost use Rattle.std.specs.Prelude.{◌≡◌, ◌≢◌, ◌<◌, ◌≤◌, true, IfOk, MatchBool};
 ghost use mathlib.Core.List.{IsPrefix};
-ghost use Rattle.left_right.specs.Sides.{view as seat_view};
+ghost use Rattle.hfs_check.specs.VolumeOf.{volume_of};
 ghost use Rattle.hfs_published.specs.Answers.{IsAllOrNothing};
 ghost use Rattle.hfs_published.specs.Histories.{known, opened};
-ghost use Rattle.hfs_published.specs.Lists.{Sits};
-ghost use Rattle.hfs_published.specs.Pairs.{PairState, with_all_shown, whole, IsOpened, IsPair, HaveSeen, with_call, SawOpeningOf};
+ghost use Rattle.hfs_published.specs.Pairs.{with_all_shown, IsOpened, with_call, SawOpeningOf};
 ghost use Rattle.hfs_published.specs.Tolds.{told};
-ghost use Rattle.hfs_published.specs.Writers.{pending_in, waiting_in, KeepsLog, KeepsPending, HasOpened, IsPairIn, ShowsAllOrSame};
-ghost use Rattle.hfs_check.specs.VolumeOf.{volume_of};
 
-use crate::front::{Front, History};
-use crate::published::{Change, Published};
-use crate::rule::{PairWriter, Sees, Tells};
+use crate::copies::Copies;
+use crate::front::Front;
 use crate::told::Told;
+use crate::unread::Unread;
 use crate::viewer::Viewer;
-use core::mem::{ManuallyDrop, replace_with};
 use hfs_model::Call;
-use hfs_view::Rows;
 use hfs_volume::Volume;
 use std::alloc::Global;
 use std::marker::Model;
@@ -34,18 +29,23 @@ pub enum PairFault {
     NoPlace,
 }
 
-/// Two copies of a volume's rows, of which viewers read one, and the changes that wait. Contracts see the history's name, the
-/// list with all changes that were added, and the list that is published, which begins it.
+/// Whether viewers read, and what is kept for them.
+#[derive(Drop)]
+pub enum Kind {
+    Read(Copies),
+    Unread(Unread),
+}
+
+/// A published list, with two copies of a volume's rows where viewers read, and the changes that wait. Contracts see the history's
+/// name, the list with all changes that were added, and the list that is published, which begins it.
+#[derive(Drop)]
 pub struct Pair {
-    writer: PairWriter,
-    front: Front,
-    history: History,
-    // A change of the list for which the writer had no memory.
-    owed: Option<Change>,
+    kind: Kind,
 }
 
 impl Model for Pair {
-    ghost use Rattle.hfs_published.specs.Pairs.{PairState, pair_state, IsPair};
+    ghost use Rattle.hfs_published.specs.Pairs.{PairState};
+    ghost use Rattle.hfs_published.specs.Kinds.{pair_of};
 
     ghost Value = { PairState };
 
@@ -54,67 +54,64 @@ impl Model for Pair {
 
     ghost coded = { Prim.hlevel (codes, item.the_row.coded) };
 
-    ghost view = { λ p. pair_state p.front p.writer.desk.shown.value };
-
-    ghost use Rattle.std.specs.Prelude.{drop};
-
-    ghost invariant = { λ p. IsPair p.front p.history.head.book p.writer.desk.shown.value (drop p.writer.behind p.writer.log.items) p.owed };
+    ghost view = { λ p. pair_of p.kind };
 }
 
 impl Pair {
+    // The list that is published.
+    fn published(&self) -> &Front
+        ensures { result.now ≡ known self.now.book self.now.shown }
+    {
+        match &self.kind {
+            Kind::Read(copies) => copies.published(),
+            Kind::Unread(unread) => unread.published(),
+        }
+    }
+
     /// What is published, as a told list: it covers `shown` of a journal's `made` entries. Takes no memory.
     pub fn told(&self, shown: u64, made: u64) -> Told
         ensures { result ≡ told (known self.now.book self.now.shown) shown made }
     {
-        Told::new(self.writer.published().front.again(), shown, made)
+        Told::new(self.published().again(), shown, made)
     }
 
     /// Whether all that was added is published. Takes no memory.
     pub fn is_shown(&self) -> bool
         ensures { MatchBool result (self.now.all ≡ self.now.shown) (self.now.all ≢ self.now.shown) }
     {
-        self.front.changes() == self.writer.published().front.changes()
+        match &self.kind {
+            Kind::Read(copies) => copies.is_shown(),
+            Kind::Unread(unread) => unread.is_shown(),
+        }
     }
 
     /// Adds a change after all that were added, where it waits to be published. It answers whether it did: not where memory is
     /// wanting.
-    pub fn add(&mut self, call: Call) -> bool
-        ensures { IsAllOrNothing result (with_call self.old call) self.old self.new }
+    pub fn add(&mut self, call: &Call) -> bool
+        ensures { IsAllOrNothing result (with_call self.old call.now) self.old self.new }
     {
-        if !settle(&mut self.writer, &mut self.owed) {
-            return false;
+        match &mut self.kind {
+            Kind::Read(copies) => match call.copied() {
+                Ok(call) => copies.add(call),
+                Err(_) => false,
+            },
+            Kind::Unread(unread) => unread.add(call),
         }
-        let mut front = self.front.again();
-        if !front.add(&self.history, &call) {
-            return false;
-        }
-        let change = Change {
-            call,
-            front: front.again(),
-        };
-        self.owed = hand_over(&mut self.writer, change);
-        self.front = front;
-        true
     }
 
     /// Shows viewers all that waits, in one step, and answers whether nothing waits any more. Where memory is wanting, nothing
-    /// of it is shown, and all of it waits on.
+    /// of it is shown, and all of it waits on. Of a pair that nobody reads all is then published.
     pub fn publish<R: Wait>(&mut self, rt: &R) -> bool
         ensures published { IsAllOrNothing result (with_all_shown self.old) self.old self.new }
         ensures idle { self.old.all ≡ self.old.shown → result ≡ true }
     {
-        if self.is_shown() {
-            return true;
+        match &mut self.kind {
+            Kind::Read(copies) => copies.publish(rt),
+            Kind::Unread(unread) => {
+                unread.publish();
+                true
+            }
         }
-        if !settle(&mut self.writer, &mut self.owed) {
-            return false;
-        }
-        let parts = (&self.front, &self.history, &self.owed, rt);
-        replace_with(
-            &mut self.writer,
-            parts,
-            |writer, (front, history, owed, rt)| { show_all(writer, front, history, owed, rt) },
-        )
     }
 
     /// The viewer learns all that is published. It waits where the viewer knows of more, which no viewer of this pair does.
@@ -124,7 +121,7 @@ impl Pair {
         ensures saw { IsPrefix viewer.old.list viewer.new.list }
         ensures book { viewer.new.book ≡ viewer.old.book }
     {
-        let front = self.writer.published().front.again();
+        let front = self.published().again();
         if front.changes() < viewer.changes() {
             for _ in rt.forever() {}
             unreachable!()
@@ -134,13 +131,11 @@ impl Pair {
 
     /// Gives up the copies, for which it waits for the readers. From then on viewers are `Gone`.
     pub fn end<R: Wait>(self, rt: &R) {
-        let Pair {
-            writer,
-            front: _,
-            history: _,
-            owed: _,
-        } = self;
-        drop(writer.take(rt));
+        let Pair { kind } = self;
+        match kind {
+            Kind::Read(copies) => copies.end(rt),
+            Kind::Unread(_unread) => {}
+        }
     }
 
     /// A pair over the volume, and so many viewers, each of which has seen the opening alone. `NoPlace` where a reader got no
@@ -155,169 +150,20 @@ impl Pair {
         ensures pair { IfOk result (λ r. IsOpened (volume_of volume.now.current) r.0) }
         ensures viewers { IfOk result (λ r. SawOpeningOf viewers r.0.book volume.now r.1.items) }
     {
+        let (copies, viewers) = Copies::start(rt, alloc, volume, viewers)?;
+        let kind = Kind::Read(copies);
+        Ok((Pair { kind }, viewers))
+    }
+
+    /// A pair over the volume that nobody reads: no rows are made. Its one viewer has seen the opening alone; it learns told lists,
+    /// and any read of it is `Gone`. Takes no memory.
+    pub fn start_unread(volume: &Volume) -> (Pair, Viewer)
+        ensures pair { IsOpened (volume_of volume.now.current) result.0 }
+        ensures viewer { result.1 ≡ known result.0.book (opened (volume_of volume.now.current)) }
+    {
         let (front, history) = Front::open(volume);
-        let writer = open_writer(rt, alloc, volume, &front, viewers)?;
-        let (writer, viewers) = seat_all(alloc, writer, &front, viewers);
-        match viewers {
-            Ok(viewers) => {
-                let pair = Pair {
-                    writer,
-                    front,
-                    history,
-                    owed: None,
-                };
-                Ok((pair, viewers))
-            }
-            Err(fault) => {
-                drop(writer.take(rt));
-                Err(fault)
-            }
-        }
+        let viewer = Viewer::unseated(front.again());
+        let kind = Kind::Unread(Unread::new(front, history));
+        (Pair { kind }, viewer)
     }
-}
-
-// A pair that is dropped leaks its copies, since the writer would have to wait for readers. `end` gives them up.
-impl Drop for Pair {
-    fn drop(self) {
-        let Self {
-            writer,
-            front: _,
-            history: _,
-            owed: _,
-        } = self;
-        let _leaked = unsafe { ManuallyDrop::new_unchecked(writer) };
-    }
-}
-
-// Appends the change. It comes back where there is no memory.
-fn hand_over(writer: &mut PairWriter, change: Change) -> Option<Change>
-    ensures desk { writer.new.desk ≡ writer.old.desk }
-    ensures pending { waiting_in writer.new result ≡ pending_in writer.old ++ change ∷ [] }
-{
-    match writer.append(change) {
-        Ok(()) => None,
-        Err(change) => Some(change),
-    }
-}
-
-// Appends the change that is owed, if there is one, and answers whether none is owed any more.
-fn settle(writer: &mut PairWriter, owed: &mut Option<Change>) -> bool
-    ensures desk { writer.new.desk ≡ writer.old.desk }
-    ensures pending { waiting_in writer.new owed.new ≡ waiting_in writer.old owed.old }
-    ensures none { MatchBool result (owed.new ≡ None) (owed.new ≢ None) }
-{
-    let Some(change) = owed.take() else {
-        return true;
-    };
-    *owed = hand_over(writer, change);
-    owed.is_none()
-}
-
-// The writer of two copies of the volume's rows, which are published.
-fn open_writer<R: Wait>(
-    rt: &R,
-    alloc: Global,
-    volume: &Volume,
-    front: &Front,
-    viewers: u32,
-) -> Result<PairWriter, PairFault>
-    requires room { (0 < viewers) × (viewers ≤ 8) }
-    requires front { front.now.list ≡ opened (volume_of volume.now.current) }
-    ensures { IfOk result (λ w. HasOpened front.now w) }
-{
-    let first = copy_of(alloc, volume, front)?;
-    let second = copy_of(alloc, volume, front)?;
-    let Ok(writer) = PairWriter::new(alloc, first, second, viewers as usize) else {
-        return Err(PairFault::Memory);
-    };
-    let (writer, shown) = writer.publish_as::<Sees, R>(rt);
-    if shown.is_err() {
-        drop(writer.take(rt));
-        return Err(PairFault::Memory);
-    }
-    Ok(writer)
-}
-
-// A copy of the volume's rows.
-fn copy_of(alloc: Global, volume: &Volume, front: &Front) -> Result<Published, PairFault>
-    requires { front.now.list ≡ opened (volume_of volume.now.current) }
-    ensures { IfOk result (λ x. x ≡ whole front.now) }
-{
-    let Ok(rows) = Rows::of(alloc, volume) else {
-        return Err(PairFault::Memory);
-    };
-    Ok(Published {
-        rows,
-        front: front.again(),
-    })
-}
-
-// Makes the viewers. The writer tells each the name of the history.
-fn seat_all(
-    alloc: Global,
-    mut writer: PairWriter,
-    front: &Front,
-    count: u32,
-) -> (PairWriter, Result<Vec<Viewer>, PairFault>)
-    requires { Sits front.now (seat_view writer.desk.place) }
-    ensures writer { KeepsPending writer result.0 }
-    ensures viewers { IfOk result.1 (λ v. HaveSeen count front.now v.items) }
-{
-    let mut viewers = Vec::new(alloc);
-    for _i in 0..count {
-        if let Err(fault) = seat_one(&mut writer, front, &mut viewers) {
-            return (writer, Err(fault));
-        }
-    }
-    (writer, Ok(viewers))
-}
-
-// One viewer more.
-fn seat_one(
-    writer: &mut PairWriter,
-    front: &Front,
-    viewers: &mut Vec<Viewer>,
-) -> Result<(), PairFault>
-    requires { Sits front.now (seat_view writer.old.desk.place) }
-    ensures viewer { IfOk result (λ _. viewers.new.items ≡ viewers.old.items ++ front.now ∷ []) }
-    ensures view { seat_view writer.new.desk.place ≡ seat_view writer.old.desk.place }
-    ensures same { KeepsLog writer.old writer.new }
-{
-    let viewer = seat(writer, front)?;
-    match viewers.push(viewer) {
-        Ok(()) => Ok(()),
-        Err(_) => Err(PairFault::Memory),
-    }
-}
-
-// A viewer over a new reader.
-fn seat(writer: &mut PairWriter, front: &Front) -> Result<Viewer, PairFault>
-    requires { Sits front.now (seat_view writer.old.desk.place) }
-    ensures viewer { IfOk result (λ v. v ≡ front.now) }
-    ensures view { seat_view writer.new.desk.place ≡ seat_view writer.old.desk.place }
-    ensures same { KeepsLog writer.old writer.new }
-{
-    let mut reader = match writer.factory().reader() {
-        Ok(reader) => reader,
-        Err(_) => return Err(PairFault::NoPlace),
-    };
-    reader.learn::<Tells>(writer.tell::<Tells>());
-    Ok(Viewer::new(reader, front.again()))
-}
-
-// Shows readers all that is pending, where nothing is owed.
-fn show_all<R: Wait>(
-    writer: PairWriter,
-    front: &Front,
-    history: &History,
-    owed: &Option<Change>,
-    rt: &R,
-) -> (PairWriter, bool)
-    requires pair { IsPairIn front.now history.now.head.book writer owed.now }
-    requires none { owed.now ≡ None }
-    ensures pair { IsPairIn front.now history.now.head.book result.0 owed.now }
-    ensures shown { ShowsAllOrSame result.1 front.now writer result.0 }
-{
-    let (writer, shown) = writer.publish_as::<Sees, R>(rt);
-    (writer, shown.is_ok())
 }

@@ -1,17 +1,15 @@
-//! A viewer: a reader of the pair, the list that it read last, and the longest list that it saw or was told of.
-ghost use Rattle.std.specs.Prelude.{◌≡◌, ◌⊎◌, ◌+◌, length, IfOk, IfErr, OnErr, IfSome, IsNone, IsTrue};
+//! A viewer: its seat, and the longest list that it saw or was told of.
+ghost use Rattle.std.specs.Prelude.{◌≡◌, ◌⊎◌, ◌+◌, length, OnErr, IsTrue};
 ghost use mathlib.Core.List.{IsPrefix};
-ghost use Rattle.left_right.specs.Sides.{view as seat_view};
-ghost use Rattle.hfs_published.specs.Lists.{Sits, GivesReply, HasTaken, AreShorter};
+ghost use Rattle.hfs_published.specs.Lists.{GivesReply};
 ghost use Rattle.hfs_model.specs.Step.{is_reading};
 ghost use Rattle.hfs_model.specs.declared.call.Call.TheVariants.{GetDirInfo, GetCatInfo, GetIndexed, List, ReadFork};
 
 use crate::front::Front;
-use crate::rule::{PairReader, Sees};
+use crate::seat::Seat;
 use crate::told::Told;
-use core::mem::replace_with;
 use hfs_model::{Bytes, Call, Fork, Reply};
-use std::alloc::{AllocError, Global};
+use std::alloc::Global;
 use std::marker::Model;
 
 /// Why a viewer gives no reply.
@@ -27,17 +25,14 @@ pub enum ViewFault {
 /// that it read or was told of.
 #[derive(Drop)]
 pub struct Viewer {
-    reader: PairReader,
-    // What the reader took last.
-    met: Front,
+    // None where no rows are made: then it only learns.
+    seat: Option<Seat>,
     front: Front,
 }
 
 impl Model for Viewer {
-    ghost use Rattle.left_right.specs.Sides.{view as seat_view};
+    ghost use Rattle.std.specs.Prelude.{◌≡◌, IfSome};
     ghost use Rattle.hfs_published.specs.Histories.{Known};
-    ghost use Rattle.hfs_published.specs.Lists.{Sits};
-    ghost use Rattle.std.specs.Prelude.{◌≡◌};
 
     ghost Value = { Known };
 
@@ -48,20 +43,26 @@ impl Model for Viewer {
 
     ghost view = { λ v. v.front };
 
-    ghost invariant = { λ v. Sits v.met (seat_view v.reader.place) × (v.met.book ≡ v.front.book) };
+    ghost invariant = { λ v. IfSome v.seat (λ met. met.book ≡ v.front.book) };
 }
 
 impl Viewer {
-    /// The viewer over a reader that was told of this list.
-    pub(crate) fn new(reader: PairReader, front: Front) -> Viewer
-        requires { Sits front (seat_view reader.place) }
-        ensures { result ≡ front }
+    /// The viewer of a seat, which has seen the list that was taken there.
+    pub(crate) fn new(seat: Seat) -> Viewer
+        ensures { result ≡ seat }
     {
+        let front = seat.met().again();
         Viewer {
-            reader,
-            met: front.again(),
+            seat: Some(seat),
             front,
         }
+    }
+
+    /// A viewer that has seen this list, and has no copy to read.
+    pub(crate) fn unseated(front: Front) -> Viewer
+        ensures { result ≡ front }
+    {
+        Viewer { seat: None, front }
     }
 
     /// Answers a call that reads, on the volume of the list that is published now, which begins with all that this viewer saw
@@ -71,22 +72,11 @@ impl Viewer {
         ensures ok { GivesReply call.now self.old self.new result }
         ensures err { OnErr result (self.new ≡ self.old) }
     {
-        let parts = (&self.met, &self.front, alloc, call);
-        let found = replace_with(
-            &mut self.reader,
-            parts,
-            |reader, (met, front, alloc, call)| { read(reader, met, front, alloc, call) },
-        );
-        let Ok((reply, met)) = found else {
+        let Some(seat) = &mut self.seat else {
             return Err(ViewFault::Gone);
         };
-        self.met = met;
-        let reply = match reply {
-            Some(Ok(reply)) => reply,
-            Some(Err(_)) => return Err(ViewFault::Memory),
-            None => return Err(ViewFault::Gone),
-        };
-        self.front = self.met.again();
+        let reply = seat.read(&self.front, alloc, call)?;
+        self.front = seat.met().again();
         Ok(reply)
     }
 
@@ -163,38 +153,4 @@ impl Viewer {
     {
         self.front.changes()
     }
-}
-
-// One read, with the list that was taken. The copy is refused only where it has less than what was seen or told of, so never
-// where nothing was told since the last read.
-fn read(
-    reader: PairReader,
-    met: &Front,
-    front: &Front,
-    alloc: Global,
-    call: &Call,
-) -> (
-    PairReader,
-    Result<(Option<Result<Reply, AllocError>>, Front), ()>,
-)
-    requires sits { Sits met.now (seat_view reader.place) }
-    requires book { met.now.book ≡ front.now.book }
-    requires reading { IsTrue (is_reading call.now) }
-    ensures none { IfErr result.1 (λ _. Sits met.now (seat_view result.0.place)) }
-    ensures met { IfOk result.1 (λ r. HasTaken r.1 (seat_view result.0.place) met.now) }
-    ensures reads { IfOk result.1 (λ r. IfSome r.0 (λ x. GivesReply call.now front.now r.1 x)) }
-    ensures stale { IfOk result.1 (λ r. IsNone r.0 → AreShorter r.1 met.now front.now) }
-{
-    let reading = match reader.enter_as::<Sees>() {
-        Ok(reading) => reading,
-        Err(reader) => return (reader, Err(())),
-    };
-    let now = reading.get();
-    let met = now.front.again();
-    let reply = if front.begins(&met) {
-        Some(now.rows.read(alloc, call))
-    } else {
-        None
-    };
-    (reading.leave(), Ok((reply, met)))
 }

@@ -20,7 +20,7 @@ use Rattle.hfs_remains.proofs.CountLemmas.{at_most-full, at_most-few}
 
 -- ---- how many
 
-blocks-counted : (es : List Extent) → block_total es ≡ length (extent_blocks es)
+pub blocks-counted : (es : List Extent) → block_total es ≡ length (extent_blocks es)
 blocks-counted [] = refl
 blocks-counted (e ∷ es) =
     let own = λ (x : Extent). range_with_len x.first x.count in

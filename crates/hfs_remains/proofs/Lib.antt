@@ -5,3 +5,11 @@ mod OwnerLemmas
 mod BlockLemmas
 mod ShareLemmas
 mod NamingLemmas
+pub mod LawTypes
+mod SameLemmas
+mod FrontLemmas
+mod WholeForkLemmas
+mod SoundThingLemmas
+mod SoundWayLemmas
+mod SoundPathLemmas
+pub mod LawsProved

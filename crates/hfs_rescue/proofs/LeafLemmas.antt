@@ -24,7 +24,7 @@ if-none false l e = e
 none-at : (nodes : Store) (old : Bool) (n : ℕ) (fault : NodeFault) → node_in nodes n ≡ Err fault → records_at nodes old n ≡ []
 none-at nodes old n fault is = if-none (beq old (is_in_use nodes n)) (with_age old (leaf_records (node_in nodes n))) (ap (λ r. with_age old (leaf_records r)) is)
 
-place-of : (each place k : ℕ) → k < each → (place * each + k) / each ≡ place
+pub place-of : (each place k : ℕ) → k < each → (place * each + k) / each ≡ place
 place-of each place k lt = div-eq_of_lt-le {k = place} each (omega arith) (omega (arith, add-mul place 1 each))
 
 -- a missing block has no records

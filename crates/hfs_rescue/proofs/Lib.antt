@@ -7,3 +7,12 @@ pub mod StepLemmas
 pub mod ForkLemmas
 pub mod RightLemmas
 pub mod ItemLemmas
+pub mod LawTypes
+mod FewLemmas
+mod SumLemmas
+pub mod WholeLemmas
+pub mod OnwardLemmas
+pub mod SoundLemmas
+mod SoundItemLemmas
+mod DirectoryLemmas
+pub mod LawsProved

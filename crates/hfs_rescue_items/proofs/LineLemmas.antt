@@ -18,20 +18,13 @@ line_more line whole piece piece' i i' item items behind so first pushed next =
     ∙ ap (λ (n : ℕ). piece ++ (line i item ++ lines_of line n behind)) (omega (arith, next))
     ∙ ap (λ (xs : List FoundRecord). piece ++ lines_of line i xs) (sym first) ∙ so
 
--- what was read of a text, and what is left
-pub reads_text : (piece old new : List ℕ) → old ≡ piece ++ new → (piece ≡ [] → new ≡ []) → Reads piece old new
-reads_text piece old new is none = record { fewer = omega (arith, ap length is, length-append piece new); none = none }
-
-pub reads_lines : (line : ℕ → FoundRecord → List ℕ) (piece : List ℕ) (old new : Lines) → ReadsLines line piece old new → Reads piece (lines_rest line old) (lines_rest line new)
-reads_lines line piece old new reads = reads_text piece (lines_rest line old) (lines_rest line new) reads.lines reads.none
-
 -- no line is left
 pub lines_none : (line : ℕ → FoundRecord → List ℕ) (piece : List ℕ) (old new : Lines) → piece ++ lines_rest line new ≡ lines_rest line old → new.items.now ≡ [] → ReadsLines line piece old new
-lines_none line piece old new so none = record { lines = sym so; none = λ e. ap (lines_of line new.next) none }
+lines_none line piece old new so none = record { bytes = sym so; none = λ e. ap (lines_of line new.next) none }
 
 -- the piece is whole
 pub lines_whole : (line : ℕ → FoundRecord → List ℕ) (piece : List ℕ) (old new : Lines) → piece ++ lines_rest line new ≡ lines_rest line old → 65536 ≤ length piece → ReadsLines line piece old new
-lines_whole line piece old new so long = record { lines = sym so; none = λ e. absurd (omega (arith, ap length e, long)) }
+lines_whole line piece old new so long = record { bytes = sym so; none = λ e. absurd (omega (arith, ap length e, long)) }
 
 -- the head ends with a line's end
 head-some : csv_head ≡ [] → ⊥
@@ -42,4 +35,4 @@ head-some e =
 
 -- the head was read
 pub head_read : (piece rest : List ℕ) → piece ≡ [] ++ csv_head → Reads piece (csv_head ++ rest) rest
-head_read piece rest is = reads_text piece (csv_head ++ rest) rest (ap (λ (xs : List ℕ). xs ++ rest) (sym is)) (λ e. absurd (head-some (sym is ∙ e)))
+head_read piece rest is = record { bytes = ap (λ (xs : List ℕ). xs ++ rest) (sym is); none = λ e. absurd (head-some (sym is ∙ e)) }

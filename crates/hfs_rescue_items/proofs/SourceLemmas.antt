@@ -1,40 +1,65 @@
 -- What the calls of a source make of its state.
-use Rattle.std.proofs.Common.{◌≡◌, ◌≤◌, ◌<◌, ◌+◌, ℕ, Bool, true, false, List, [], ◌∷◌, drop, length, map, slice_index_or, refl, sym, ap, subst, ◌∙◌}
+use Rattle.std.proofs.Common.{◌≡◌, ◌≤◌, ◌<◌, ◌+◌, ℕ, List, [], ◌∷◌, ◌++◌, drop, length, map, slice_index_or, take, refl, sym, ap, ◌∙◌, length-append}
 use Rattle.std.specs.Prelude.{string_bytes}
 use Rattle.std.proofs.lemmas.List.{drop_all, drop_more}
 use Rattle.hfs_bag.specs.declared.item.BagHead.{BagHead}
 use Rattle.hfs_bag.specs.declared.source.Stream.{Stream}
-use Rattle.hfs_bag.specs.Sources.{HasItem, HasNoItem, HasOpened, HasRead, HasRestarted}
+use Rattle.hfs_bag.specs.declared.source.Stream.TheVariants as stream
+use Rattle.hfs_bag.specs.Items.{IsHead}
+use Rattle.hfs_bag.specs.Sources.{HasItem, HasNoItem, HasOpened, HasRead, HasRestarted, stream_bytes}
+use Rattle.hfs_remains.specs.declared.findings.FoundFork.{FoundFork}
+use Rattle.hfs_space.specs.declared.fork_kind.ForkKind.TheVariants.{Data, Resource}
+use Rattle.hfs_table.specs.Lines.{csv_head}
 use Rattle.hfs_rescue_items.specs.declared.came.Came.{Came}
 use Rattle.hfs_rescue_items.specs.declared.found.Found.{Found}
 use Rattle.hfs_rescue_items.specs.declared.plan.Planned.{Planned}
+use Rattle.hfs_rescue_items.specs.declared.reading.Lines.{Lines}
 use Rattle.hfs_rescue_items.specs.declared.reading.Reading.{Reading}
-use Rattle.hfs_rescue_items.specs.Reading.{Reads, reading_rest}
-use Rattle.hfs_rescue_items.specs.Sources.{above_of, name_of, planned_item, source_of}
+use Rattle.hfs_rescue_items.specs.Bytes.{HasBytes, blocks_bytes}
+use Rattle.hfs_rescue_items.specs.Lines.{item_line, lines_of, remains_line, remains_text, table_text}
+use Rattle.hfs_rescue_items.specs.Reading.{Reads, lines_rest, reading_rest}
+use Rattle.hfs_rescue_items.specs.Sources.{above_of, came_item, finder_told, item_with, name_of, part_bytes, part_stream, part_told, planned_item, source_of}
 
-abbrev IsTold : Bool → Type 0
-IsTold true = Unit {0}
-IsTold false = ⊥
+module _ (found : Found) where
+  -- a fork that was found and begun
+  pub fork_begun : (bytes rest : List ℕ) (fork : FoundFork) → HasBytes found bytes fork → rest ≡ take fork.length (blocks_bytes found.image.now found.mdb.now fork.places.items)
+      → rest ≡ bytes
+  fork_begun bytes rest fork has begun = begun ∙ has.bytes_are
 
-not-known : {P : Type 0} → false ≡ true → P
-not-known same = absurd (subst IsTold (sym same) tt)
+  -- none was found, since there are no bytes
+  pub none_begun : (bytes rest : List ℕ) → bytes ≡ [] → rest ≡ [] → rest ≡ bytes
+  none_begun bytes rest none begun = begun ∙ sym none
+
+  -- a table that was begun
+  pub table_begun : (lines : Lines) → lines.next ≡ 0 → lines.items.now ≡ found.items.now → csv_head ++ lines_rest (item_line found) lines ≡ table_text found
+  table_begun lines next items = λ i. csv_head ++ lines_of (item_line found) (next i) (items i)
+
+  pub remains_begun : (lines : Lines) → lines.next ≡ 0 → lines.items.now ≡ found.items.now → lines_rest (remains_line found) lines ≡ remains_text found
+  remains_begun lines next items = λ i. lines_of (remains_line found) (next i) (items i)
 
 module _ (found : Found) (plan : List Planned) where
   pub has_restarted : (next : ℕ) (came : Came) (reading : Reading) → HasRestarted (source_of found plan next came reading) (source_of found plan 0 came reading)
-  has_restarted next came reading = record { known = refl; all = refl; left = not-known; tables = refl }
+  has_restarted next came reading = record { known = refl; all = refl; left = λ known. refl; tables = refl }
 
-  pub has_opened : (next : ℕ) (came : Came) (reading reading' : Reading) (s : Stream) → HasOpened s (source_of found plan next came reading) (source_of found plan next came reading')
-  has_opened next came reading reading' s = record {
+  stream-is : (next : ℕ) (came : Came) (reading : Reading) (s : Stream) → part_stream found came.planned s ≡ stream_bytes (source_of found plan next came reading) s
+  stream-is next came reading stream.DataFork = refl
+  stream-is next came reading stream.ResourceFork = refl
+  stream-is next came reading stream.Table = refl
+  stream-is next came reading stream.Remains = refl
+
+  pub has_opened : (next : ℕ) (came : Came) (reading reading' : Reading) (s : Stream) → reading_rest found reading' ≡ part_stream found came.planned s
+      → HasOpened s (source_of found plan next came reading) (source_of found plan next came reading')
+  has_opened next came reading reading' s opened = record {
     same = record { known = refl; all = refl; left = refl; item = refl; tables = refl };
-    bytes = not-known;
+    bytes = λ known. opened ∙ stream-is next came reading s;
   }
 
   pub has_read : (next : ℕ) (came : Came) (reading reading' : Reading) (piece : List ℕ) → Reads piece (reading_rest found reading) (reading_rest found reading')
       → HasRead piece (source_of found plan next came reading) (source_of found plan next came reading')
   has_read next came reading reading' piece reads = record {
     same = record { known = refl; all = refl; left = refl; item = refl; tables = refl };
-    bytes = not-known;
-    fewer = reads.fewer;
+    bytes = λ known. reads.bytes;
+    fewer = ap length reads.bytes ∙ length-append piece (reading_rest found reading');
     none = reads.none;
   }
 
@@ -47,22 +72,24 @@ module _ (found : Found) (plan : List Planned) where
     none_left = ap (map (planned_item found)) (drop_all next plan end);
   }
 
+  head-of : (head : BagHead) (came : Came) (planned : Planned) → came.planned ≡ planned → IsHead head (planned_item found planned) → IsHead head (came_item found came)
+  head-of head came planned same told = record {
+    kind_is = told.kind_is ∙ ap (λ (p : Planned). p.kind) (sym same);
+    finder_is = told.finder_is ∙ ap (λ (p : Planned). finder_told (part_told found p)) (sym same);
+    data_is = told.data_is ∙ ap (λ (p : Planned). length (part_bytes found Data p)) (sym same);
+    resource_is = told.resource_is ∙ ap (λ (p : Planned). length (part_bytes found Resource p)) (sym same);
+  }
+
   pub has_item : (next : ℕ) (came came' : Came) (reading : Reading) (head : BagHead) (planned : Planned) → next < length plan → planned ≡ slice_index_or plan next planned
       → string_bytes came'.above ≡ above_of found planned → string_bytes came'.name ≡ name_of found planned → came'.planned ≡ planned
+      → IsHead head (planned_item found planned)
       → HasItem head (source_of found plan next came reading) (source_of found plan (next + 1) came' reading)
-  has_item next came came' reading head planned within is above name planned_is = record {
+  has_item next came came' reading head planned within is above name planned_is told = record {
     known = refl;
     all = refl;
     tables = refl;
     left = ap (map (planned_item found)) (drop_more plan next planned within)
         ∙ ap (λ (p : Planned). planned_item found p ∷ map (planned_item found) (drop (next + 1) plan)) (sym is)
-        ∙ (λ i. record {
-          above = sym above i;
-          name = sym name i;
-          kind = (sym planned_is i).kind;
-          finder = [];
-          data_fork = [];
-          resource_fork = [];
-        } ∷ map (planned_item found) (drop (next + 1) plan));
-    told = not-known;
+        ∙ (λ i. item_with found (sym above i) (sym name i) (sym planned_is i) ∷ map (planned_item found) (drop (next + 1) plan));
+    told = λ known. head-of head came' planned planned_is told;
   }

@@ -1,5 +1,6 @@
 -- What was found of an image: paths, and what an item's own record tells.
-use Rattle.std.specs.Prelude.{ℕ, false, nat_lt, if◌then◌else◌, List, [], length, Option, Some, None}
+use Rattle.std.specs.Prelude.{ℕ, false, nat_lt, if◌then◌else◌, List, [], length, slice_get, Option, Some, None}
+use Rattle.std.specs.Option.{option_and_then}
 use Rattle.hfs_catalog.specs.declared.item.CatalogItem.{CatalogItem}
 use Rattle.hfs_catalog.specs.declared.item.ItemRecord.{ItemRecord}
 use Rattle.hfs_catalog.specs.declared.item.ItemRecord.TheVariants.{Folder, File}
@@ -27,3 +28,7 @@ info_of item = record_info item.key item.body
 -- what an item's own record tells of it
 abbrev pub told : FoundRecord → Option Info
 told found = if is_item found.entry.1 then Some (info_of (catalog_item found.entry)) else None
+
+-- what item i tells; nothing where there is no such item
+abbrev pub told_at : List FoundRecord → ℕ → Option Info
+told_at items i = option_and_then told (slice_get items i)

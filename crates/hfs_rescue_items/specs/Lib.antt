@@ -1,4 +1,7 @@
+pub mod Bytes
 pub mod Found
 pub mod Lines
+pub mod Plan
 pub mod Reading
 pub mod Sources
+pub mod Sums

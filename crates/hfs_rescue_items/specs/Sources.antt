@@ -1,14 +1,24 @@
 -- What remains of a volume as the source of a bag.
-use Rattle.std.specs.Prelude.{ℕ, ◌-◌, false, List, [], drop, map, take, Some, string_bytes}
+use Rattle.std.specs.Prelude.{ℕ, ◌-◌, Bool, true, false, if◌then◌else◌, List, [], drop, map, replicate, take, Option, None, Some, string_bytes}
+use Rattle.hfs_bag.specs.declared.item.BagKind.{BagKind}
+use Rattle.hfs_bag.specs.declared.item.BagKind.TheVariants as bag
+use Rattle.hfs_bag.specs.declared.source.Stream.{Stream}
+use Rattle.hfs_bag.specs.declared.source.Stream.TheVariants as stream
 use Rattle.hfs_bag.specs.Items.{BagItem}
-use Rattle.hfs_bag.specs.Sources.{SourceState}
+use Rattle.hfs_bag.specs.Sources.{BagTables, SourceState}
+use Rattle.hfs_model.specs.declared.reply.Info.{Info}
+use Rattle.hfs_space.specs.declared.fork_kind.ForkKind.{ForkKind}
+use Rattle.hfs_space.specs.declared.fork_kind.ForkKind.TheVariants.{Data, Resource}
 use Rattle.hfs_rescue_items.specs.declared.came.Came.{Came}
 use Rattle.hfs_rescue_items.specs.declared.found.Found.{Found}
 use Rattle.hfs_rescue_items.specs.declared.plan.Planned.{Planned}
 use Rattle.hfs_rescue_items.specs.declared.reading.Reading.{Reading}
-use Rattle.hfs_rescue_items.specs.Found.{path_at}
+use Rattle.hfs_rescue_items.specs.Bytes.{taken_bytes}
+use Rattle.hfs_rescue_items.specs.Found.{path_at, told_at}
 use Rattle.hfs_rescue_items.specs.Lines.{remains_text, table_text}
 use Rattle.hfs_rescue_items.specs.Reading.{reading_rest}
+
+-- ---- parts of a plan
 
 -- the part of its path before a planned name, and the name
 abbrev pub above_of : Found → Planned → List ℕ
@@ -17,34 +27,63 @@ above_of found planned = take planned.from (path_at found.places.now planned.pla
 abbrev pub name_of : Found → Planned → List ℕ
 name_of found planned = take (planned.to - planned.from) (drop planned.from (path_at found.places.now planned.place))
 
--- what is planned, without the bytes of its files, which are not told
-abbrev pub planned_item : Found → Planned → BagItem
-planned_item found planned = record {
-  above = above_of found planned;
-  name = name_of found planned;
+-- nothing but its path is told of a folder alone
+abbrev pub is_alone : BagKind → Bool
+is_alone bag.Folder = false
+is_alone bag.File = false
+is_alone bag.FolderAlone = true
+is_alone bag.DoubleAlone = false
+
+-- what its item tells of itself
+abbrev pub part_told : Found → Planned → Option Info
+part_told found planned = if is_alone planned.kind then None else told_at found.items.now planned.place
+
+-- zeros where nothing is told
+abbrev pub finder_told : Option Info → List ℕ
+finder_told None = replicate 32 0
+finder_told (Some info) = info.finder
+
+-- the bytes that are taken of its item's fork
+abbrev pub part_bytes : Found → ForkKind → Planned → List ℕ
+part_bytes found kind planned = if is_alone planned.kind then [] else taken_bytes found kind planned.place
+
+-- ---- items
+
+-- what comes of a part of a plan, with a path above it and a name
+abbrev pub item_with : Found → List ℕ → List ℕ → Planned → BagItem
+item_with found above name planned = record {
+  above = above;
+  name = name;
   kind = planned.kind;
-  finder = [];
-  data_fork = [];
-  resource_fork = [];
+  finder = finder_told (part_told found planned);
+  data_fork = part_bytes found Data planned;
+  resource_fork = part_bytes found Resource planned;
 }
 
-abbrev pub came_item : Came → BagItem
-came_item came = record {
-  above = string_bytes came.above;
-  name = string_bytes came.name;
-  kind = came.planned.kind;
-  finder = [];
-  data_fork = [];
-  resource_fork = [];
-}
+abbrev pub planned_item : Found → Planned → BagItem
+planned_item found planned = item_with found (above_of found planned) (name_of found planned) planned
 
--- the plan, of which the part from a place on is to come, this came, and this is still to be read; of the forks only the lengths are told
+abbrev pub came_item : Found → Came → BagItem
+came_item found came = item_with found (string_bytes came.above) (string_bytes came.name) came.planned
+
+-- a stream of it
+abbrev pub part_stream : Found → Planned → Stream → List ℕ
+part_stream found planned stream.DataFork = part_bytes found Data planned
+part_stream found planned stream.ResourceFork = part_bytes found Resource planned
+part_stream found planned stream.Table = table_text found
+part_stream found planned stream.Remains = remains_text found
+
+-- both tables
+abbrev pub rescued_tables : Found → BagTables
+rescued_tables found = record { items = table_text found; remains = Some (remains_text found) }
+
+-- the plan, of which the part from a place on is to come, this came, and this is still to be read
 abbrev pub source_of : Found → List Planned → ℕ → Came → Reading → SourceState
 source_of found plan next came reading = record {
-  known = false;
+  known = true;
   all = map (planned_item found) plan;
   left = map (planned_item found) (drop next plan);
-  item = came_item came;
+  item = came_item found came;
   bytes = reading_rest found reading;
-  tables = record { items = table_text found; remains = Some (remains_text found) };
+  tables = rescued_tables found;
 }

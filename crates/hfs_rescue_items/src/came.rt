@@ -1,12 +1,14 @@
 //! What comes of a plan.
-ghost use Rattle.std.specs.Prelude.{◌≡◌, ◌-◌, drop, take, IfOk, string_bytes};
-ghost use Rattle.hfs_rescue_items.specs.Sources.{above_of, name_of};
+ghost use Rattle.std.specs.Prelude.{◌≡◌, ◌-◌, drop, length, take, IfOk, string_bytes};
+ghost use Rattle.hfs_bag.specs.Items.{IsHead};
+ghost use Rattle.hfs_rescue_items.specs.Bytes.{GivesBytes};
+ghost use Rattle.hfs_rescue_items.specs.Sources.{above_of, finder_told, is_alone, name_of, part_bytes, part_told, planned_item};
 
 use crate::found::Found;
 use crate::plan::Planned;
-use crate::told::told_of;
 use hfs_bag::{BagHead, BagKind, SourceFault};
 use hfs_model::Info;
+use hfs_remains::FoundFork;
 use hfs_space::ForkKind;
 use std::alloc::{AllocError, Global};
 
@@ -55,57 +57,90 @@ fn text_of(alloc: Global, path: &[u8], from: usize, to: usize) -> Result<String,
     }
 }
 
-/// How many bytes are taken of a fork of an item.
+/// Whether nothing but its path is told of what is made.
+fn is_alone(kind: BagKind) -> bool
+    ensures { result ≡ is_alone kind }
+{
+    match kind {
+        BagKind::FolderAlone => true,
+        BagKind::Folder | BagKind::File | BagKind::DoubleAlone => false,
+    }
+}
+
+/// A fork of the item that a part of a plan is of; None where that has no bytes.
+pub(crate) fn part_fork(
+    alloc: Global,
+    found: &Found<'_>,
+    planned: Planned,
+    kind: ForkKind,
+) -> Result<Option<FoundFork>, AllocError>
+    ensures { IfOk result (GivesBytes found.now (part_bytes found.now kind planned)) }
+{
+    if is_alone(planned.kind) {
+        return Ok(None);
+    }
+    let fork = found.fork(alloc, planned.place, kind)?;
+    Ok(fork)
+}
+
+/// How many bytes come of a fork of the item that a part of a plan is of.
 fn length_of(
     alloc: Global,
     found: &Found<'_>,
-    i: usize,
+    planned: Planned,
     kind: ForkKind,
-) -> Result<u32, AllocError> {
-    match found.fork(alloc, i, kind)? {
+) -> Result<u32, AllocError>
+    ensures { IfOk result (λ count. count ≡ length (part_bytes found.now kind planned)) }
+{
+    match part_fork(alloc, found, planned, kind)? {
         Some(fork) => Ok(fork.length),
         None => Ok(0),
     }
 }
 
-/// What is told of a folder that comes without an AppleDouble file.
-fn folder_alone() -> BagHead {
-    BagHead {
-        kind: BagKind::FolderAlone,
-        finder: [0; 32],
-        data_length: 0,
-        resource_length: 0,
-        modified: None,
+/// What the item that a part of a plan is of tells of itself; None of a folder alone.
+fn part_told(found: &Found<'_>, planned: Planned) -> Option<Info>
+    ensures { result ≡ part_told found.now planned }
+{
+    if is_alone(planned.kind) {
+        None
+    } else {
+        found.told(planned.place)
     }
 }
 
-/// What is told of an item of which this is made.
-fn item_head(
-    alloc: Global,
-    found: &Found<'_>,
-    planned: Planned,
-    info: &Info,
-) -> Result<BagHead, AllocError> {
-    let data_length = length_of(alloc, found, planned.place, ForkKind::Data)?;
-    let resource_length = length_of(alloc, found, planned.place, ForkKind::Resource)?;
-    Ok(BagHead {
-        kind: planned.kind,
-        finder: info.finder,
-        data_length,
-        resource_length,
-        modified: info.modified.checked_sub(YEAR_1970),
-    })
+/// The Finder bytes of an item that tells this; zeros where nothing is told.
+fn finder_of(told: &Option<Info>) -> [u8; 32]
+    ensures { result ≡ finder_told told.now }
+{
+    match told {
+        Some(info) => info.finder,
+        None => [0; 32],
+    }
+}
+
+/// When it was modified, in seconds from the beginning of 1970; None where that was before, or nothing is told.
+fn modified_of(told: &Option<Info>) -> Option<u32> {
+    match told {
+        Some(info) => info.modified.checked_sub(YEAR_1970),
+        None => None,
+    }
 }
 
 /// What is told of what comes of a part of a plan.
-fn head_of(alloc: Global, found: &Found<'_>, planned: Planned) -> Result<BagHead, AllocError> {
-    if planned.kind == BagKind::FolderAlone || planned.place >= found.items.len() {
-        return Ok(folder_alone());
-    }
-    match told_of(&found.items[planned.place]) {
-        Some(info) => item_head(alloc, found, planned, &info),
-        None => Ok(folder_alone()),
-    }
+fn head_of(alloc: Global, found: &Found<'_>, planned: Planned) -> Result<BagHead, AllocError>
+    ensures { IfOk result (λ head. IsHead head (planned_item found.now planned)) }
+{
+    let data_length = length_of(alloc, found, planned, ForkKind::Data)?;
+    let resource_length = length_of(alloc, found, planned, ForkKind::Resource)?;
+    let told = part_told(found, planned);
+    Ok(BagHead {
+        kind: planned.kind,
+        finder: finder_of(&told),
+        data_length,
+        resource_length,
+        modified: modified_of(&told),
+    })
 }
 
 /// Where it lies, and how it is called there.
@@ -136,6 +171,7 @@ pub(crate) fn came_of(
     ensures above { IfOk result (λ told. string_bytes told.0.above ≡ above_of found.now planned) }
     ensures name { IfOk result (λ told. string_bytes told.0.name ≡ name_of found.now planned) }
     ensures planned { IfOk result (λ told. told.0.planned ≡ planned) }
+    ensures head { IfOk result (λ told. IsHead told.1 (planned_item found.now planned)) }
 {
     let came = placed(alloc, found, planned)?;
     match head_of(alloc, found, planned) {

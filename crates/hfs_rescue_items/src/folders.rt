@@ -1,36 +1,73 @@
-//! The folders that were made.
+//! The folders that are made.
+ghost use Rattle.std.specs.Prelude.{◌≡◌, [], OnOk};
+ghost use Rattle.hfs_rescue.specs.Items.{AddsRow, has_row};
+ghost use Rattle.hfs_rescue_items.specs.Plan.{NotesRow, makes_folder};
 
+use hfs_bag::BagKind;
 use std::alloc::{AllocError, Global};
 use std::collections::BTreeSet;
+use std::marker::Model;
 
-/// The paths of the folders that were made below the payload. They are kept in their order and not by hashes, since an image chooses
-/// them.
+/// The paths below the payload of the folders that are made. They are kept in their order and not by hashes, since an image chooses
+/// them. Contracts see their list.
 #[derive(Drop)]
 pub(crate) struct Folders {
     paths: BTreeSet<Vec<u8>>,
 }
 
+impl Model for Folders {
+    ghost use Rattle.std.specs.Prelude.{ℕ, List};
+    ghost use Rattle.std.proofs.Common.{Vec, Global};
+
+    ghost Value = { List (Vec ℕ Global) };
+
+    ghost view = { λ s. s.paths.keys };
+}
+
+/// Whether a folder is made by what is of this kind.
+pub(crate) fn makes_folder(kind: BagKind) -> bool
+    ensures { result ≡ makes_folder kind }
+{
+    match kind {
+        BagKind::Folder | BagKind::FolderAlone => true,
+        BagKind::File | BagKind::DoubleAlone => false,
+    }
+}
+
 impl Folders {
     /// No folder. Takes no memory.
-    pub(crate) fn new(alloc: Global) -> Folders {
+    pub(crate) fn new(alloc: Global) -> Folders
+        ensures { result ≡ [] }
+    {
         Folders {
             paths: BTreeSet::new(alloc),
         }
     }
 
-    /// Whether the folder at a path was made.
-    pub(crate) fn has(&self, alloc: Global, path: &[u8]) -> Result<bool, AllocError> {
-        let row = Vec::from_slice(alloc, path)?;
-        Ok(self.paths.contains(&row))
+    /// Whether the folder at a path is made.
+    pub(crate) fn has(&self, path: &Vec<u8>) -> bool
+        ensures { result ≡ has_row self.now path.now }
+    {
+        self.paths.contains(path)
     }
 
-    /// Notes that the folder at a path is made, and answers whether it was not before.
-    pub(crate) fn add(&mut self, alloc: Global, path: &[u8]) -> Result<bool, AllocError> {
-        let row = Vec::from_slice(alloc, path)?;
-        if self.paths.contains(&row) {
-            return Ok(false);
+    /// Notes that the folder at a path is made.
+    fn add(&mut self, path: Vec<u8>) -> Result<(), AllocError>
+        ensures { OnOk result (AddsRow path self.old self.new) }
+    {
+        self.paths.insert(path)?;
+        Ok(())
+    }
+
+    /// Notes what is made at a path, where it is a folder.
+    #[tactic(auto, using(crate::proofs::PlanLemmas::notes_none, crate::proofs::PlanLemmas::notes_row))]
+    pub(crate) fn note(&mut self, path: Vec<u8>, kind: BagKind) -> Result<(), AllocError>
+        ensures { OnOk result (NotesRow kind path self.old self.new) }
+    {
+        if !makes_folder(kind) {
+            return Ok(());
         }
-        self.paths.insert(row)?;
-        Ok(true)
+        self.add(path)?;
+        Ok(())
     }
 }

@@ -1,7 +1,10 @@
 //! What remains of a volume, for a bag.
-ghost use Rattle.hfs_rescue_items.specs.Sources.{source_of};
+ghost use Rattle.std.specs.Prelude.{◌≡◌, IfOk};
+ghost use Rattle.hfs_rescue_items.specs.Plan.{whole_plan};
+ghost use Rattle.hfs_rescue_items.specs.Reading.{reading_rest};
+ghost use Rattle.hfs_rescue_items.specs.Sources.{part_bytes, part_stream, source_of};
 
-use crate::came::{Came, came_of};
+use crate::came::{Came, came_of, part_fork};
 use crate::fork_reading::{begin_fork, empty_fork};
 use crate::found::Found;
 use crate::plan::{Planned, plan_of};
@@ -24,37 +27,48 @@ pub struct RescueItems<'a> {
     reading: Reading<'a>,
 }
 
-/// A fork of an item, from its first byte on.
+/// A fork of the item that a part of a plan is of, from its first byte on.
+#[tactic(auto, using(crate::proofs::SourceLemmas::fork_begun, crate::proofs::SourceLemmas::none_begun))]
 fn open_fork<'a>(
     alloc: Global,
     found: &Found<'a>,
-    i: usize,
+    planned: Planned,
     kind: ForkKind,
-) -> Result<Reading<'a>, AllocError> {
-    match found.fork(alloc, i, kind)? {
+) -> Result<Reading<'a>, AllocError>
+    ensures { IfOk result (λ reading. reading_rest found.now reading
+        ≡ part_bytes found.now kind planned) }
+{
+    match part_fork(alloc, found, planned, kind)? {
         Some(fork) => Ok(Reading::Fork(begin_fork(fork))),
         None => Ok(Reading::Fork(empty_fork(alloc))),
     }
 }
 
 /// The lines of all items.
-fn all_lines<'a>(found: &Found<'a>) -> Lines<'a> {
+fn all_lines<'a>(found: &Found<'a>) -> Lines<'a>
+    ensures next { result.next ≡ 0 }
+    ensures items { result.items.now ≡ found.now.items.now }
+{
     Lines {
         next: 0,
         items: found.items,
     }
 }
 
-/// A stream of an item, from its first byte on.
+/// A stream of what comes of a part of a plan, from its first byte on.
+#[tactic(auto, using(crate::proofs::SourceLemmas::table_begun, crate::proofs::SourceLemmas::remains_begun))]
 fn open_stream<'a>(
     alloc: Global,
     found: &Found<'a>,
-    i: usize,
+    planned: Planned,
     stream: Stream,
-) -> Result<Reading<'a>, AllocError> {
+) -> Result<Reading<'a>, AllocError>
+    ensures { IfOk result (λ reading. reading_rest found.now reading
+        ≡ part_stream found.now planned stream) }
+{
     match stream {
-        Stream::DataFork => open_fork(alloc, found, i, ForkKind::Data),
-        Stream::ResourceFork => open_fork(alloc, found, i, ForkKind::Resource),
+        Stream::DataFork => open_fork(alloc, found, planned, ForkKind::Data),
+        Stream::ResourceFork => open_fork(alloc, found, planned, ForkKind::Resource),
         Stream::Table => Ok(Reading::Table(all_lines(found))),
         Stream::Remains => Ok(Reading::Remains(all_lines(found))),
     }
@@ -62,7 +76,10 @@ fn open_stream<'a>(
 
 impl<'a> RescueItems<'a> {
     /// What was found of an image, from its first item on. The only error is want of memory.
-    pub fn new(alloc: Global, found: Found<'a>) -> Result<RescueItems<'a>, AllocError> {
+    pub fn new(alloc: Global, found: Found<'a>) -> Result<RescueItems<'a>, AllocError>
+        ensures found { IfOk result (λ made. made.found ≡ found.entry) }
+        ensures plan { IfOk result (λ made. made.plan.items ≡ whole_plan found.entry) }
+    {
         let plan = plan_of(alloc, &found)?;
         Ok(RescueItems {
             alloc,
@@ -110,7 +127,7 @@ impl BagSource for RescueItems<'_> {
 
     #[tactic(auto, using(crate::proofs::SourceLemmas::has_opened))]
     fn open(&mut self, stream: Stream) -> Result<(), SourceFault> {
-        match open_stream(self.alloc, &self.found, self.came.planned.place, stream) {
+        match open_stream(self.alloc, &self.found, self.came.planned, stream) {
             Ok(reading) => {
                 self.reading = reading;
                 Ok(())

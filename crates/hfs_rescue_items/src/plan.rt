@@ -1,9 +1,15 @@
 //! Which folders and files are made of what was found, in their order.
+ghost use Rattle.std.specs.Prelude.{◌≡◌, ◌+◌, ◌<◌, ◌^◌, if◌then◌else◌, ◌==◌, None, Some, IfOk, OnOk};
+ghost use Rattle.std.specs.List.{fold};
+ghost use Rattle.hfs_remains.specs.Verdicts.{shares_at};
+ghost use Rattle.hfs_rescue_items.specs.Found.{path_at};
+ghost use Rattle.hfs_rescue_items.specs.Plan as spec;
 
 use crate::folders::Folders;
 use crate::found::Found;
 use hfs_bag::BagKind;
 use hfs_catalog::is_folder;
+use hfs_rescue::FoundRecord;
 use hfs_space::ForkKind;
 use hfs_verdicts::Verdict;
 use std::alloc::{AllocError, Global};
@@ -19,136 +25,328 @@ pub(crate) struct Planned {
     pub(crate) kind: BagKind,
 }
 
-/// Where the last part of a path begins.
-fn last_part(path: &[u8]) -> usize {
-    let mut last = 0;
-    for i in 0..path.len() {
-        if path[i] == b'/' {
-            last = i + 1;
-        }
+/// What is planned so far, and the folders that it makes.
+#[derive(Drop)]
+struct Plan {
+    parts: Vec<Planned>,
+    folders: Folders,
+}
+
+/// The part before the first byte of a thing's path: a folder whose name is to come.
+fn first_part(place: usize) -> Planned
+    ensures { result ≡ spec.first_part place }
+{
+    Planned {
+        place,
+        from: 0,
+        to: 0,
+        kind: BagKind::FolderAlone,
     }
-    last
+}
+
+/// Where the name begins that goes on behind a byte: there, where this is a slash.
+fn from_behind(byte: u8, from: usize, to: usize) -> usize
+    ensures { result ≡ if byte == 47 then to else from }
+{
+    if byte == b'/' { to } else { from }
+}
+
+/// A part and one more byte of the path: behind a slash another name begins.
+#[tactic(auto, unfolding(crate::specs::Plan::part_behind))]
+fn part_behind(part: Planned, byte: u8) -> Planned
+    requires { part.to < 2 ^ 63 }
+    ensures { result ≡ spec.part_behind part byte }
+{
+    let to = part.to + 1;
+    Planned {
+        place: part.place,
+        from: from_behind(byte, part.from, to),
+        to,
+        kind: part.kind,
+    }
+}
+
+/// The part with the last name of a path.
+#[tactic(auto, using(crate::proofs::PlanLemmas::last_more))]
+fn last_part(place: usize, path: &[u8]) -> Planned
+    ensures { result ≡ spec.last_part place path.now }
+{
+    let mut part = first_part(place);
+    let mut rest = path;
+    while let [byte, behind @ ..] = rest {
+        part = part_behind(part, *byte);
+        rest = behind;
+    }
+    part
+}
+
+/// The path of what is planned.
+fn path_of(alloc: Global, found: &Found<'_>, part: Planned) -> Result<Vec<u8>, AllocError>
+    ensures { IfOk result (λ path. path.items ≡ spec.path_of found.now part) }
+{
+    let mut path = found.path(alloc, part.place)?.into_bytes();
+    path.truncate(part.to);
+    Ok(path)
+}
+
+/// Plans a folder, where it isn't made yet.
+#[tactic(auto, using(crate::proofs::PlanLemmas::folder_there, crate::proofs::PlanLemmas::folder_put, crate::proofs::PlanLemmas::knows_more))]
+fn plan_folder(
+    alloc: Global,
+    found: &Found<'_>,
+    plan: &mut Plan,
+    part: Planned,
+) -> Result<(), AllocError>
+    requires { spec.KnowsFolders found.now plan.old.parts.items plan.old.folders }
+    ensures parts { OnOk result (plan.new.parts.items
+        ≡ spec.with_folder found.now plan.old.parts.items part) }
+    ensures knows { OnOk result (spec.KnowsFolders found.now plan.new.parts.items
+        plan.new.folders) }
+{
+    let path = path_of(alloc, found, part)?;
+    if plan.folders.has(&path) {
+        return Ok(());
+    }
+    plan.folders.note(path, part.kind)?;
+    plan.parts.push(part)?;
+    Ok(())
+}
+
+/// Plans the folder that ends before a byte of a path, where this is a slash and the folder isn't made yet.
+#[tactic(auto, unfolding(crate::specs::Plan::folder_before))]
+fn plan_before(
+    alloc: Global,
+    found: &Found<'_>,
+    plan: &mut Plan,
+    part: Planned,
+    byte: u8,
+) -> Result<(), AllocError>
+    requires { spec.KnowsFolders found.now plan.old.parts.items plan.old.folders }
+    ensures parts { OnOk result (plan.new.parts.items
+        ≡ fold (spec.with_folder found.now) plan.old.parts.items (spec.folder_before part byte)) }
+    ensures knows { OnOk result (spec.KnowsFolders found.now plan.new.parts.items
+        plan.new.folders) }
+{
+    if byte != b'/' {
+        return Ok(());
+    }
+    plan_folder(alloc, found, plan, part)?;
+    Ok(())
 }
 
 /// Plans the folders that a path lies in and that are not made yet, from the top down.
+#[tactic(auto, using(crate::proofs::PlanLemmas::folders_more))]
 fn plan_folders(
     alloc: Global,
-    plan: &mut Vec<Planned>,
-    folders: &mut Folders,
+    found: &Found<'_>,
+    plan: &mut Plan,
     place: usize,
     path: &[u8],
-) -> Result<(), AllocError> {
-    let mut from = 0;
-    for to in 0..path.len() {
-        if path[to] == b'/' {
-            if folders.add(alloc, &path[..to])? {
-                plan.push(Planned {
-                    place,
-                    from,
-                    to,
-                    kind: BagKind::FolderAlone,
-                })?;
-            }
-            from = to + 1;
-        }
+) -> Result<(), AllocError>
+    requires { spec.KnowsFolders found.now plan.old.parts.items plan.old.folders }
+    ensures parts { OnOk result (plan.new.parts.items ≡ fold (spec.with_folder found.now)
+        plan.old.parts.items (spec.folders_above (spec.first_part place) path.now)) }
+    ensures knows { OnOk result (spec.KnowsFolders found.now plan.new.parts.items
+        plan.new.folders) }
+{
+    let mut part = first_part(place);
+    let mut rest = path;
+    while let [byte, behind @ ..] = rest {
+        plan_before(alloc, found, plan, part, *byte)?;
+        part = part_behind(part, *byte);
+        rest = behind;
     }
     Ok(())
 }
 
-/// Plans the folders that the last part of a path lies in, which begins there, where they are not made yet.
-fn plan_above(
+/// Whether the folder is made that a part lies in directly. The payload is.
+fn is_above_made(
     alloc: Global,
-    plan: &mut Vec<Planned>,
-    folders: &mut Folders,
-    place: usize,
-    path: &[u8],
-    last: usize,
-) -> Result<(), AllocError> {
-    if last == 0 || last > path.len() || folders.has(alloc, &path[..last - 1])? {
-        return Ok(());
+    found: &Found<'_>,
+    plan: &Plan,
+    part: Planned,
+) -> Result<bool, AllocError>
+    requires { spec.KnowsFolders found.now plan.now.parts.items plan.now.folders }
+    ensures { IfOk result (λ made. made ≡ spec.is_above_made found.now plan.now.parts.items part) }
+{
+    if part.from == 0 {
+        return Ok(true);
     }
-    plan_folders(alloc, plan, folders, place, path)
+    let above = Planned {
+        to: part.from - 1,
+        ..part
+    };
+    let path = path_of(alloc, found, above)?;
+    Ok(plan.folders.has(&path))
 }
 
-/// What is made of a folder, which is new or was made before.
-fn folder_kind(is_new: bool) -> BagKind {
-    if is_new {
-        BagKind::Folder
-    } else {
+/// Plans the folders that the path of a thing lies in, the last part of which this is, where they are not made yet. Where the last is,
+/// so are all.
+#[tactic(auto, using(crate::proofs::AboveLemmas::all_made))]
+fn plan_above(
+    alloc: Global,
+    found: &Found<'_>,
+    plan: &mut Plan,
+    part: Planned,
+    i: usize,
+    path: &[u8],
+) -> Result<(), AllocError>
+    requires path { path.now ≡ path_at found.now.places.now i }
+    requires part { part ≡ spec.last_part i path.now }
+    requires knows { spec.KnowsFolders found.now plan.old.parts.items plan.old.folders }
+    requires all { spec.AreAllMade found.now plan.old.parts.items }
+    ensures parts { OnOk result (plan.new.parts.items ≡ fold (spec.with_folder found.now)
+        plan.old.parts.items (spec.folders_above (spec.first_part i) path.now)) }
+    ensures knows { OnOk result (spec.KnowsFolders found.now plan.new.parts.items
+        plan.new.folders) }
+{
+    if is_above_made(alloc, found, plan, part)? {
+        return Ok(());
+    }
+    plan_folders(alloc, found, plan, i, path)?;
+    Ok(())
+}
+
+/// What is made of a folder, which was made before or not.
+fn folder_kind(is_made: bool) -> BagKind
+    ensures { result ≡ if is_made then BagKind.DoubleAlone else BagKind.Folder }
+{
+    if is_made {
         BagKind::DoubleAlone
+    } else {
+        BagKind::Folder
+    }
+}
+
+/// What is made of a file, of whose data fork this is said.
+fn kind_by(verdict: &Verdict) -> BagKind
+    ensures { result ≡ spec.kind_by verdict.now }
+{
+    match verdict {
+        Verdict::Left => BagKind::DoubleAlone,
+        Verdict::Taken(_) => BagKind::File,
     }
 }
 
 /// What is made of a file.
-fn file_kind(alloc: Global, found: &Found<'_>, i: usize) -> Result<BagKind, AllocError> {
+#[tactic(auto, using(crate::proofs::PlanLemmas::file_kinds, crate::proofs::PlanLemmas::no_file_kind))]
+fn file_kind(alloc: Global, found: &Found<'_>, i: usize) -> Result<BagKind, AllocError>
+    ensures { IfOk result (λ kind. kind ≡ spec.file_kind (shares_at found.now.salvage.now i)) }
+{
     match found.fork(alloc, i, ForkKind::Data)? {
-        Some(fork) => {
-            if fork.verdict == Verdict::Left {
-                Ok(BagKind::DoubleAlone)
-            } else {
-                Ok(BagKind::File)
-            }
-        }
+        Some(fork) => Ok(kind_by(&fork.verdict)),
         None => Ok(BagKind::DoubleAlone),
     }
 }
 
-/// What is made of a thing with this path; None where it was made before.
-fn kind_of(
+/// What is made of an item, which is a folder that was made before or not, or a file.
+fn item_kind(
     alloc: Global,
     found: &Found<'_>,
-    folders: &mut Folders,
     i: usize,
-    path: &[u8],
-) -> Result<Option<BagKind>, AllocError> {
+    item: &FoundRecord,
+    is_made: bool,
+) -> Result<BagKind, AllocError>
+    ensures { IfOk result (λ kind. Some kind
+        ≡ spec.thing_kind found.now i is_made (Some item.now)) }
+{
+    if is_folder(item.entry.body()) {
+        return Ok(folder_kind(is_made));
+    }
+    let kind = file_kind(alloc, found, i)?;
+    Ok(kind)
+}
+
+/// What is made of a named folder, which was made before or not.
+fn named_kind(is_made: bool) -> Option<BagKind>
+    ensures { result ≡ if is_made then None else Some BagKind.FolderAlone }
+{
+    if is_made {
+        None
+    } else {
+        Some(BagKind::FolderAlone)
+    }
+}
+
+/// What is made of a thing at its own path, where a folder was made before or not; None of a named folder that was.
+#[tactic(auto, using(crate::proofs::PlanLemmas::named_own, crate::proofs::PlanLemmas::item_own))]
+fn own_kind(
+    alloc: Global,
+    found: &Found<'_>,
+    i: usize,
+    is_made: bool,
+) -> Result<Option<BagKind>, AllocError>
+    ensures { IfOk result (λ kind. kind ≡ spec.own_kind found.now i is_made) }
+{
     if i >= found.items.len() {
-        let is_new = folders.add(alloc, path)?;
-        return Ok(if is_new {
-            Some(BagKind::FolderAlone)
-        } else {
-            None
-        });
+        return Ok(named_kind(is_made));
     }
-    if is_folder(found.items[i].entry.body()) {
-        let is_new = folders.add(alloc, path)?;
-        return Ok(Some(folder_kind(is_new)));
-    }
-    Ok(Some(file_kind(alloc, found, i)?))
+    let item = &found.items[i];
+    let kind = item_kind(alloc, found, i, item, is_made)?;
+    Ok(Some(kind))
+}
+
+/// Plans what is made of a thing at its own path, of which this is the last part.
+#[tactic(auto, using(crate::proofs::PlanLemmas::own_nothing, crate::proofs::PlanLemmas::own_put, crate::proofs::PlanLemmas::knows_more))]
+fn plan_own(
+    alloc: Global,
+    found: &Found<'_>,
+    plan: &mut Plan,
+    part: Planned,
+) -> Result<(), AllocError>
+    requires { spec.KnowsFolders found.now plan.old.parts.items plan.old.folders }
+    ensures parts { OnOk result (plan.new.parts.items
+        ≡ spec.with_own found.now plan.old.parts.items part) }
+    ensures knows { OnOk result (spec.KnowsFolders found.now plan.new.parts.items
+        plan.new.folders) }
+{
+    let path = path_of(alloc, found, part)?;
+    let is_made = plan.folders.has(&path);
+    let Some(kind) = own_kind(alloc, found, part.place, is_made)? else {
+        return Ok(());
+    };
+    plan.folders.note(path, kind)?;
+    plan.parts.push(Planned { kind, ..part })?;
+    Ok(())
 }
 
 /// Plans what is made of a thing; nothing of the root, whose path is empty.
-fn plan_thing(
-    alloc: Global,
-    found: &Found<'_>,
-    plan: &mut Vec<Planned>,
-    folders: &mut Folders,
-    i: usize,
-) -> Result<(), AllocError> {
+#[tactic(auto, using(crate::proofs::PlanLemmas::root_planned, crate::proofs::PlanLemmas::thing_planned))]
+fn plan_thing(alloc: Global, found: &Found<'_>, plan: &mut Plan, i: usize) -> Result<(), AllocError>
+    requires knows { spec.KnowsFolders found.now plan.old.parts.items plan.old.folders }
+    requires all { spec.AreAllMade found.now plan.old.parts.items }
+    ensures parts { OnOk result (plan.new.parts.items
+        ≡ spec.with_thing found.now plan.old.parts.items i) }
+    ensures knows { OnOk result (spec.KnowsFolders found.now plan.new.parts.items
+        plan.new.folders) }
+{
     let path = found.path(alloc, i)?;
     let bytes = path.as_bytes();
     if bytes.is_empty() {
         return Ok(());
     }
-    let last = last_part(bytes);
-    plan_above(alloc, plan, folders, i, bytes, last)?;
-    if let Some(kind) = kind_of(alloc, found, folders, i, bytes)? {
-        plan.push(Planned {
-            place: i,
-            from: last,
-            to: bytes.len(),
-            kind,
-        })?;
-    }
+    let part = last_part(i, bytes);
+    plan_above(alloc, found, plan, part, i, bytes)?;
+    plan_own(alloc, found, plan, part)?;
     Ok(())
 }
 
 /// What is made of all that was found: of each item in order what it is, each folder where it is first wanted, and the named folders
 /// behind them. The only error is want of memory.
-pub(crate) fn plan_of(alloc: Global, found: &Found<'_>) -> Result<Vec<Planned>, AllocError> {
-    let mut plan = Vec::new(alloc);
-    let mut folders = Folders::new(alloc);
+#[tactic(auto, using(crate::proofs::PlanLemmas::plan_begun, crate::proofs::PlanLemmas::thing_more, crate::proofs::PlanLemmas::plan_ends, crate::proofs::PlanLemmas::knows_none, crate::proofs::PlanLemmas::all_none))]
+pub(crate) fn plan_of(alloc: Global, found: &Found<'_>) -> Result<Vec<Planned>, AllocError>
+    ensures { IfOk result (λ plan. plan.items ≡ spec.whole_plan found.now) }
+{
+    let mut plan = Plan {
+        parts: Vec::new(alloc),
+        folders: Folders::new(alloc),
+    };
     for i in 0..found.places.things().len() {
-        plan_thing(alloc, found, &mut plan, &mut folders, i)?;
+        plan_thing(alloc, found, &mut plan, i)?;
     }
-    Ok(plan)
+    let Plan {
+        parts,
+        folders: _folders,
+    } = plan;
+    Ok(parts)
 }

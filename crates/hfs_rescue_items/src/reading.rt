@@ -105,7 +105,6 @@ fn push_table_head(piece: &mut Vec<u8>) -> Result<(), SourceFault>
 }
 
 /// Reads the next bytes of a stream in the place of a piece, and none where none are left.
-#[tactic(auto, using(crate::proofs::LineLemmas::reads_lines))]
 pub(crate) fn read_next<'a>(
     alloc: Global,
     found: &Found<'a>,

@@ -73,7 +73,7 @@ fn info_of(item: &CatalogItem) -> Info
 }
 
 /// What is told of an item by its own record; None of any other record.
-pub(crate) fn told_of(found: &FoundRecord) -> Option<Info>
+pub fn told_of(found: &FoundRecord) -> Option<Info>
     ensures { result ≡ told found.now }
 {
     match item_of(*found.entry.key(), found.entry.body()) {

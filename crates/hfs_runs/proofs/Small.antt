@@ -1,5 +1,5 @@
 -- The callers of a script have numbers of at most 8, so there are from one to eight workers, and as many viewers.
-use Rattle.std.proofs.Common.{◌≡◌, ℕ, ◌==◌, ◌≤◌, ◌<◌, ◌&&◌, nat_le, nat_lt, Bool, true, false, List, [], ◌∷◌, map, length, Option, Some, None, Result, Ok, Err, refl, subst, arith, if◌then◌else◌}
+use Rattle.std.proofs.Common.{◌≡◌, ℕ, ◌==◌, ◌≤◌, ◌<◌, ◌&&◌, ◌||◌, ◌∙◌, nat_le, nat_lt, Bool, true, false, List, [], ◌∷◌, map, length, Option, Some, None, Result, Ok, Err, refl, subst, arith, if◌then◌else◌}
 use Rattle.std.specs.Prelude.{max}
 use Rattle.std.specs.List.{All, AllByRecursion, fold}
 use Rattle.std.proofs.lemmas.List.Elements.{All-from_recursion, recursion_from_All}
@@ -19,6 +19,7 @@ use Rattle.hfs_scripts.specs.Lines.{member_of, caller_of, may_ask, line_of_field
 use Rattle.hfs_scripts.specs.Callers.{worker_number, viewer_number, workers, viewers}
 use Rattle.hfs_scripts.specs.Scripts.{lines_of, lines_read, all_read, before_lines, fault_at, script_of}
 use Rattle.hfs_runs.specs.Asking.{IsSmall}
+use Rattle.hfs_runs.specs.Jobs.{is_viewer, has_viewer}
 
 -- both steps gave something
 bound : {A B : Type 0} (o : Option A) (f : A → Option B) (b : B) → (o >>= f) ≡ Some b → (a : A) × (o ≡ Some a) × (f a ≡ Some b)
@@ -128,3 +129,25 @@ workers_within lines all = fold_within worker_number worker_at_most lines 1 (rec
 pub viewers_within : (lines : List ScriptLine) → All small_line lines → (0 < viewers lines) × (viewers lines ≤ 8)
 unfolding viewers
 viewers_within lines all = fold_within viewer_number viewer_at_most lines 1 (recursion_from_All small_line lines all) (omega arith) (omega arith)
+
+-- ---- no viewer
+
+or_both : (a b : Bool) → (a || b) ≡ false → (a ≡ false) × (b ≡ false)
+or_both true b h = absurd (cc h)
+or_both false b h = (refl, h)
+
+no_more : (most : ℕ) (c : Caller) → is_viewer c ≡ false → max most (viewer_number c) ≡ most
+no_more most (Worker n) h = omega arith
+no_more most (Viewer n) h = absurd (cc h)
+
+fold_none : (lines : List ScriptLine) (most : ℕ) → has_viewer lines ≡ false
+    → fold (λ m line. max m (viewer_number line.caller)) most lines ≡ most
+fold_none [] most h = refl
+fold_none (line ∷ lines) most h =
+    let both = or_both (is_viewer line.caller) (has_viewer lines) h in
+    fold_none lines (max most (viewer_number line.caller)) both.1 ∙ no_more most line.caller both.0
+
+-- there is one viewer where no line is a viewer's
+pub viewers-none : (lines : List ScriptLine) → has_viewer lines ≡ false → viewers lines ≡ 1
+unfolding viewers
+viewers-none lines h = fold_none lines 1 h

@@ -1,8 +1,9 @@
 -- Each caller of a script with its own calls.
-use Rattle.std.specs.Prelude.{◌≡◌, ℕ, ◌+◌, ◌<◌, List, length, get_or}
+use Rattle.std.specs.Prelude.{◌≡◌, ℕ, ◌+◌, ◌<◌, Bool, true, false, List, length, get_or}
+use Rattle.std.specs.List.{list_any}
 use Rattle.hfs_model.specs.declared.call.Call.{Call}
 use Rattle.hfs_scripts.specs.declared.lines.Caller.{Caller}
-use Rattle.hfs_scripts.specs.declared.lines.Caller.TheVariants.{Viewer}
+use Rattle.hfs_scripts.specs.declared.lines.Caller.TheVariants.{Worker, Viewer}
 use Rattle.hfs_scripts.specs.declared.lines.ScriptLine.{ScriptLine}
 use Rattle.hfs_scripts.specs.Callers.{calls_of}
 
@@ -17,3 +18,12 @@ HaveCalls {B} part caller count script made = (i : ℕ) (b : B) → i < count �
 -- the second script has the viewers' calls of the first
 abbrev pub HasViewersOf : List ScriptLine → List ScriptLine → Type 0
 HasViewersOf first second = (n : ℕ) → calls_of (Viewer n) second ≡ calls_of (Viewer n) first
+
+-- whether the caller is a viewer
+abbrev pub is_viewer : Caller → Bool
+is_viewer (Worker number) = false
+is_viewer (Viewer number) = true
+
+-- whether a line is a viewer's
+abbrev pub has_viewer : List ScriptLine → Bool
+has_viewer lines = list_any (λ (line : ScriptLine). is_viewer line.caller) lines

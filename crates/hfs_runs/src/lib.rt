@@ -8,6 +8,7 @@ mod fault;
 mod jobs;
 mod numbering;
 mod running;
+mod starting;
 mod telling;
 mod viewing;
 

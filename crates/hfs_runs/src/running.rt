@@ -1,13 +1,12 @@
 //! A script that is run on an image.
-ghost use Rattle.std.specs.Prelude.{◌≡◌, ◌<◌, ◌≤◌, All, IfOk, IfErr, OnOk, length};
+ghost use Rattle.std.specs.Prelude.{◌≡◌, All, IfOk, IfErr, length};
 ghost use Rattle.std.specs.Thread.{IsSync};
-ghost use Rattle.hfs_check.specs.Sound.{IsSound};
 ghost use Rattle.hfs_check.specs.VolumeOf.{volume_of};
 ghost use Rattle.hfs_scripts.specs.Callers.{workers, viewers};
 ghost use Rattle.hfs_shared.specs.Shareds.{IsStart};
 ghost use Rattle.hfs_shared.specs.Works.{AreDone};
 ghost use Rattle.hfs_runs.specs.Asking.{IsSmall};
-ghost use Rattle.hfs_runs.specs.Runs.{IsMountFault, IsRunFault, IsScriptRunAs, AreLinesRunAs, IsStartFault};
+ghost use Rattle.hfs_runs.specs.Runs.{IsRunFault, IsScriptRunAs, AreLinesRunAs};
 ghost use Rattle.hfs_runs.specs.Views.{AreViewed};
 
 use crate::answers::answers_text;
@@ -15,12 +14,13 @@ use crate::closing::close;
 use crate::fault::ScriptFault;
 use crate::jobs::{jobs_of, viewings_of};
 use crate::numbering::number_lines;
+use crate::starting::{mounted, start};
 use crate::telling::are_all_whole;
 use crate::viewing::{Viewing, view_all};
 use hfs_model::Call;
 use hfs_scripts::{Script, read_script};
-use hfs_shared::{Done, Gate, Parts, Pass, RunFault, Session, Shared, Viewer, Why, run_workers};
-use hfs_volume::{Volume, mount};
+use hfs_shared::{Done, Gate, Parts, Pass, RunFault, Session, Shared, Viewer, run_workers};
+use hfs_volume::Volume;
 use std::alloc::Global;
 use std::marker::Brand;
 use std::sync::Wait;
@@ -119,41 +119,6 @@ fn run_shared<K: Session + Send + Sync, R: Threads + Wait + Sync, G: Gate + Sync
     })
 }
 
-// The volume of an image.
-fn mounted(alloc: Global, image: Vec<u8>) -> Result<Volume, ScriptFault>
-    ensures sound { OnOk result (IsSound image.items) }
-    ensures current { IfOk result (λ volume. volume.current ≡ image.items) }
-    ensures err { IfErr result (IsMountFault image.items) }
-{
-    match mount(alloc, image) {
-        Ok(volume) => Ok(volume),
-        Err(refused) => Err(ScriptFault::of_mount(refused.fault)),
-    }
-}
-
-// The parts of a volume for the callers of a script, with passes and viewers.
-fn start<R: Wait>(
-    rt: &R,
-    alloc: Global,
-    volume: Volume,
-    workers: u32,
-    viewers: u32,
-) -> Result<(Parts, Vec<Pass>, Vec<Viewer>), ScriptFault>
-    requires workers { (0 < workers) × (workers ≤ 8) }
-    requires viewers { (0 < viewers) × (viewers ≤ 8) }
-    ensures ok { IfOk result (λ r.
-        IsStart volume.current workers viewers r.0 r.1.items r.2.items) }
-    ensures err { IfErr result IsStartFault }
-{
-    match Parts::start(rt, alloc, volume, workers, viewers) {
-        Ok(started) => Ok(started),
-        Err(failed) => match failed.why {
-            Why::Memory => Err(ScriptFault::Memory),
-            Why::NoPlace => Err(ScriptFault::NoPlace),
-        },
-    }
-}
-
 /// Runs a script on the volume of an image: each worker makes its calls in order in a thread of its own, and viewers read beside
 /// them. The lines of the answers come in the script's order; a line that was not answered, since memory was refused
 /// to its caller, has the code `none`, and then the run is not whole. Faults in order: `TooLarge` and `Line` of the script,
@@ -188,6 +153,6 @@ pub fn run_script_at<R: Threads + Wait + Sync, G: Gate + Sync>(
         Err(fault) => return Err(ScriptFault::of_script(fault)),
     };
     let volume = mounted(alloc, image)?;
-    let (parts, passes, viewers) = start(rt, alloc, volume, script.workers(), script.viewers())?;
+    let (parts, passes, viewers) = start(rt, alloc, volume, &script)?;
     run_shared::<Brand, _, _>(rt, alloc, gate, parts, passes, viewers, script)
 }

@@ -1,5 +1,5 @@
 //! What is found of an image by its directory.
-ghost use Rattle.std.specs.Prelude.{◌<◌, ◌≤◌, ◌^◌, length};
+ghost use Rattle.std.specs.Prelude.{◌≡◌, ◌<◌, ◌≤◌, ◌^◌, length};
 ghost use Rattle.hfs_rescue.specs.TreeFiles.{AreThere};
 
 use hfs_blocks::{Blocks, ImageBytes};
@@ -136,7 +136,9 @@ impl Parts {
     }
 
     /// What is found of the trees.
-    pub(crate) fn trees(&self) -> Trees<'_> {
+    pub(crate) fn trees(&self) -> Trees<'_>
+        ensures { result.mdb.now ≡ self.now.mdb }
+    {
         Trees {
             total: self.total,
             mdb: &self.mdb,

@@ -3,3 +3,4 @@ pub mod Showing
 pub mod Unchanged
 pub mod Calling
 pub mod Working
+mod Begun

@@ -1,5 +1,5 @@
 //! The parts of a shared volume, before a session names them.
-ghost use Rattle.std.specs.Prelude.{◌≡◌, ◌<◌, ◌≤◌, [], IfOk, IfErr, IfSome};
+ghost use Rattle.std.specs.Prelude.{◌≡◌, ◌<◌, ◌≤◌, [], ◌∷◌, IfOk, IfErr, IfSome};
 ghost use Rattle.hfs_shared.specs.Desks.{desk_state, IsHeadline};
 ghost use Rattle.hfs_shared.specs.Shareds.{AreFirstPasses, IsStartOf};
 
@@ -65,18 +65,29 @@ impl Parts {
         ensures ok { IfOk result (λ r. IsStartOf volume workers viewers r.0 r.1.items r.2.items) }
         ensures err { IfErr result (λ f. f.volume.current ≡ volume.current) }
     {
-        let Some(passes) = first_passes(alloc, workers) else {
-            return Err(fault(Why::Memory, volume));
-        };
-        let desk = match new_desk(alloc, volume, workers) {
-            Ok(desk) => desk,
-            Err(volume) => return Err(fault(Why::Memory, volume)),
-        };
+        let (desk, passes) = begin(alloc, volume, workers)?;
         match Pair::start(rt, alloc, desk.volume(), viewers) {
             Ok((pair, viewers)) => Ok((Parts { desk, pair }, passes, viewers)),
             Err(PairFault::Memory) => Err(fault(Why::Memory, desk.into_volume())),
             Err(PairFault::NoPlace) => Err(fault(Why::NoPlace, desk.into_volume())),
         }
+    }
+
+    /// The parts of a volume that no viewer reads, for so many workers, with their passes as of [`Parts::start`]. Nothing is kept for
+    /// viewers. The one viewer has seen the volume as it is now: it learns told lists and serves to close, but
+    /// any read of it is `Gone`. At a fault, which is `Memory`, the volume is handed back.
+    pub fn start_unread(
+        alloc: Global,
+        volume: Volume,
+        workers: u32,
+    ) -> Result<(Parts, Vec<Pass>, Viewer), StartFault>
+        requires { (0 < workers) × (workers ≤ 8) }
+        ensures ok { IfOk result (λ r. IsStartOf volume workers 1 r.0 r.1.items (r.2 ∷ [])) }
+        ensures err { IfErr result (λ f. f.volume.current ≡ volume.current) }
+    {
+        let (desk, passes) = begin(alloc, volume, workers)?;
+        let (pair, viewer) = Pair::start_unread(desk.volume());
+        Ok((Parts { desk, pair }, passes, viewer))
     }
 
     /// Shares the volume in a session, which names its history and its image. Takes no memory.
@@ -85,6 +96,23 @@ impl Parts {
     {
         let Parts { desk, pair } = self;
         Shared::new(Locked::new(desk, pair))
+    }
+}
+
+// A desk of the volume, and the first passes.
+fn begin(alloc: Global, volume: Volume, workers: u32) -> Result<(Desk, Vec<Pass>), StartFault>
+    requires { workers ≤ 8 }
+    ensures desk { IfOk result (λ r. r.0 ≡ desk_state volume.current volume.current [] workers) }
+    ensures headline { IfOk result (λ r. IsHeadline r.0.base r.0.current r.0.journal) }
+    ensures passes { IfOk result (λ r. AreFirstPasses workers r.1.items) }
+    ensures err { IfErr result (λ f. f.volume.current ≡ volume.current) }
+{
+    let Some(passes) = first_passes(alloc, workers) else {
+        return Err(fault(Why::Memory, volume));
+    };
+    match new_desk(alloc, volume, workers) {
+        Ok(desk) => Ok((desk, passes)),
+        Err(volume) => Err(fault(Why::Memory, volume)),
     }
 }
 

@@ -43,18 +43,18 @@ module _ (test : ℕ → Bool) where
   pub all_pass : (n : ℕ) → ((j : ℕ) → j < n → test j ≡ true) → scan [] (range_with_len 0 n) ≡ None
   all_pass n h = passes_from 0 n [] (λ j le below. h j (omega arith))
 
--- ---- a block by the count of its owners, as it is read
+-- ---- a block by its mark and the count of its owners, as both are read
 
-pub count-read : (f : ℕ → ℕ) (n block i : ℕ) (counts : List ℕ) (read : ℕ) → block < n → i ≡ block → counts ≡ map f (range_with_len 0 n) → read ≡ get_or counts i read → read ≡ f block
+pub count-read : {A : Type 0} (f : ℕ → A) (n block i : ℕ) (counts : List A) (read : A) → block < n → i ≡ block → counts ≡ map f (range_with_len 0 n) → read ≡ get_or counts i read → read ≡ f block
 count-read f n block i counts read lt same is at = at ∙ (λ k. get_or (is k) (same k) read) ∙ get_or-map-range_with_len f 0 n block block read lt (omega arith)
 
 module _ (blocks : ℕ → List ℕ) (mdb : Mdb) (owned : List ℕ) (block : ℕ) where
   abbrev used : Bool
   used = is_used blocks mdb.bitmap_start block
 
-  pub sound-as : (count : ℕ) → count ≡ owners owned block → is_block_sound blocks mdb owned block ≡ (eqb count 0 || (eqb count 1 && used))
+  pub sound-as : (count : ℕ) (mark : Bool) → count ≡ owners owned block → mark ≡ used → is_block_sound blocks mdb owned block ≡ (eqb count 0 || (eqb count 1 && mark))
   unfolding is_block_sound
-  sound-as count is = ap (λ n. eqb n 0 || (eqb n 1 && used)) (sym is)
+  sound-as count mark is same = λ i. eqb (sym is i) 0 || (eqb (sym is i) 1 && sym same i)
 
 -- ---- the fault
 
@@ -86,10 +86,10 @@ module _ (blocks : ℕ → List ℕ) (mdb : Mdb) (owned : List ℕ) where
 
   -- ---- stray blocks
 
-  pub stray-more : (block count : ℕ) (stray : Bool) → count ≡ owners owned block → stray ≡ (eqb count 0 && is_used blocks mdb.bitmap_start block)
+  pub stray-more : (block count : ℕ) (mark stray : Bool) → count ≡ owners owned block → mark ≡ is_used blocks mdb.bitmap_start block → stray ≡ (eqb count 0 && mark)
       → count_below (is_stray_block blocks mdb owned) (block + 1) ≡ count_below (is_stray_block blocks mdb owned) block + cond stray 1 0
   unfolding is_stray_block
-  stray-more block count stray is so =
+  stray-more block count mark stray is same so =
       let next : block + 1 ≡ suc block = omega arith in
       ap (count_below (is_stray_block blocks mdb owned)) next ∙ count_below-suc (is_stray_block blocks mdb owned) block
-      ∙ ap (λ (t : Bool). count_below (is_stray_block blocks mdb owned) block + cond t 1 0) (sym (so ∙ ap (λ n. eqb n 0 && is_used blocks mdb.bitmap_start block) is))
+      ∙ ap (λ (t : Bool). count_below (is_stray_block blocks mdb owned) block + cond t 1 0) (sym (so ∙ (λ i. eqb (is i) 0 && same i)))

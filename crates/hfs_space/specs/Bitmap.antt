@@ -1,6 +1,6 @@
 -- The volume bitmap: one bit for each allocation block, which is set where the block is in use. Block numbers are logical
 -- blocks of 512 bytes, counted from 0, or allocation blocks, counted from 0, as it is said.
-use Rattle.std.specs.Prelude.{◌≡◌, ℕ, ◌+◌, ◌-◌, ◌/◌, ◌%◌, ◌<◌, ◌≤◌, ◌⊎◌, Bool, false, not, ◌==◌, List, slice_index, count_by, ◌||◌, ◌&&◌}
+use Rattle.std.specs.Prelude.{◌≡◌, ℕ, ◌+◌, ◌-◌, ◌/◌, ◌%◌, ◌<◌, ◌≤◌, ◌⊎◌, Bool, false, not, ◌==◌, List, map, slice_index, count_by, ◌||◌, ◌&&◌}
 use Rattle.std.specs.List.{range_with_len}
 use Rattle.std.specs.Int.{bit_at}
 use Rattle.hfs_blocks.specs.Layers.{Numbered, changes, over}
@@ -43,13 +43,17 @@ AreClearIn patch below start first count = AreClear (over (changes patch) below)
 abbrev pub KeepsOthersIn : Numbered → Numbered → (ℕ → List ℕ) → ℕ → ℕ → ℕ → Type 0
 KeepsOthersIn old new below start first count = KeepsOthers (over (changes old) below) (over (changes new) below) start first count
 
+-- for each of the first n allocation blocks whether it is marked
+abbrev pub marks : (ℕ → List ℕ) → ℕ → ℕ → List Bool
+marks blocks start n = map (is_used blocks start) (range_with_len 0 n)
+
 -- a block may have so many owners: none, or one where it is marked
-abbrev pub is_allowed : (ℕ → List ℕ) → ℕ → ℕ → ℕ → Bool
-is_allowed blocks start block owners = (owners == 0) || ((owners == 1) && is_used blocks start block)
+abbrev pub is_allowed : Bool → ℕ → Bool
+is_allowed used owners = (owners == 0) || ((owners == 1) && used)
 
 -- a block with so many owners is stray: it has none, and is marked
-abbrev pub is_stray : (ℕ → List ℕ) → ℕ → ℕ → ℕ → Bool
-is_stray blocks start block owners = (owners == 0) && is_used blocks start block
+abbrev pub is_stray : Bool → ℕ → Bool
+is_stray used owners = (owners == 0) && used
 
 -- how many of the first n bits of the bytes are clear
 abbrev pub clear_below : List ℕ → ℕ → ℕ

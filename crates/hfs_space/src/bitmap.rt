@@ -1,12 +1,13 @@
 //! The volume bitmap.
 
-ghost use Rattle.std.specs.Prelude.{◌≡◌, ℕ, ◌+◌, ◌<◌, ◌≤◌, ◌^◌, length, OnOk};
+ghost use Rattle.std.specs.Prelude.{◌≡◌, ◌≢◌, ℕ, ◌+◌, ◌/◌, ◌%◌, ◌<◌, ◌≤◌, ◌^◌, length, OnOk};
 ghost use Rattle.hfs_blocks.specs.Layers.{KeepsWithin};
 ghost use Rattle.hfs_space.specs.Bitmap as spec;
+ghost use Rattle.hfs_space.specs.Results.{GivesItems};
 
 use crate::bits::{clear_bits, clear_in, is_marked};
 use hfs_blocks::{Blocks, Patch};
-use std::alloc::AllocError;
+use std::alloc::{AllocError, Global};
 
 /// How many bits a block of the bitmap has.
 const BITS: u32 = 4096;
@@ -37,6 +38,34 @@ impl<B: Blocks> Bitmap<'_, B> {
         self.blocks
             .block(u32::from(self.start) + block / BITS, &mut bytes);
         is_marked(&bytes, (block % BITS) as usize)
+    }
+
+    /// Sees that these are the bytes in which an allocation block's bit stands. They are read where it is the first bit of a block.
+    fn turn_to(&self, block: u16, bytes: &mut [u8; 512])
+        requires within { block < self.now.count }
+        requires before { block % 4096 ≢ 0
+            → bytes.old ≡ B.blocks self.now.blocks.now (self.now.start + block / 4096) }
+        ensures { bytes.new ≡ B.blocks self.now.blocks.now (self.now.start + block / 4096) }
+    {
+        let block = u32::from(block);
+        if block % BITS == 0 {
+            self.blocks
+                .block(u32::from(self.start) + block / BITS, bytes);
+        }
+    }
+
+    /// For each allocation block whether it is marked as in use. Each block of the bitmap is read once. The only error is want of memory.
+    pub fn marks(&self, alloc: Global) -> Result<Vec<bool>, AllocError>
+        ensures { GivesItems (spec.marks (B.blocks self.now.blocks.now) self.now.start self.now.count)
+            result }
+    {
+        let mut marks = Vec::with_capacity(alloc, usize::from(self.count))?;
+        let mut bytes = [0; 512];
+        for block in 0..self.count {
+            self.turn_to(block, &mut bytes);
+            marks.push(is_marked(&bytes, usize::from(block) % 4096))?;
+        }
+        Ok(marks)
     }
 
     /// How many allocation blocks are not marked as in use. Takes no memory.

@@ -11,20 +11,18 @@ use hfs_blocks::Blocks;
 use hfs_fields::{Extent, Mdb};
 use std::alloc::{AllocError, Global};
 
-/// Whether a block with so many owners is sound: it has none, or one and is marked.
-fn is_sound<B: Blocks>(bitmap: &Bitmap<'_, B>, block: u16, owners: usize) -> bool
-    requires { block < bitmap.now.count }
-    ensures { result ≡ is_allowed (B.blocks bitmap.now.blocks.now) bitmap.now.start block owners }
+/// Whether a block that is marked or not, with so many owners, is sound: it has none, or one and is marked.
+fn is_sound(marked: bool, owners: usize) -> bool
+    ensures { result ≡ is_allowed marked owners }
 {
-    owners == 0 || (owners == 1 && bitmap.is_used(block))
+    owners == 0 || (owners == 1 && marked)
 }
 
-/// Whether a block with so many owners is marked and has none.
-fn is_stray<B: Blocks>(bitmap: &Bitmap<'_, B>, block: u16, owners: usize) -> bool
-    requires { block < bitmap.now.count }
-    ensures { result ≡ is_stray (B.blocks bitmap.now.blocks.now) bitmap.now.start block owners }
+/// Whether a block that is marked or not, with so many owners, is marked and has none.
+fn is_stray(marked: bool, owners: usize) -> bool
+    ensures { result ≡ is_stray marked owners }
 {
-    owners == 0 && bitmap.is_used(block)
+    owners == 0 && marked
 }
 
 /// The first fault of a volume's space, where `owned` is all extents that somebody owns: those of the files' forks, of the
@@ -48,9 +46,11 @@ pub fn space_fault<B: Blocks>(
         start: mdb.bitmap_start,
         count: mdb.allocation_blocks,
     };
+    let marks = bitmap.marks(alloc)?;
     let counts = owner_counts(alloc, mdb.allocation_blocks, owned)?;
     for block in 0..mdb.allocation_blocks {
-        let sound = is_sound(&bitmap, block, counts[usize::from(block)]);
+        let place = usize::from(block);
+        let sound = is_sound(marks[place], counts[place]);
         if !sound {
             return Ok(Some(u32::from(block)));
         }
@@ -78,10 +78,12 @@ pub fn stray_count<B: Blocks>(
         start: mdb.bitmap_start,
         count: mdb.allocation_blocks,
     };
+    let marks = bitmap.marks(alloc)?;
     let counts = owner_counts(alloc, mdb.allocation_blocks, owned)?;
     let mut strays = 0;
     for block in 0..mdb.allocation_blocks {
-        let stray = is_stray(&bitmap, block, counts[usize::from(block)]);
+        let place = usize::from(block);
+        let stray = is_stray(marks[place], counts[place]);
         if stray {
             strays += 1;
         }

@@ -70,6 +70,7 @@ impl SparseBlocks {
         ensures read { result.read.now ≡ self.now }
         ensures count { result.count ≡ count }
     {
+        // A proof knows that the blocks have 512 bytes once it has seen them.
         let _held = &self.held;
         SparseVolume { read: self, count }
     }

@@ -1,14 +1,14 @@
 -- Bags of images whose bytes may be known.
-use Rattle.std.proofs.Common.{◌≡◌, ℕ, true, List, [], ◌∷◌, ◌++◌, length, Option, Some, None, Result, Ok, Err, OnOk, OnErr, refl, sym, ap, subst, ◌∙◌}
-use Rattle.std.specs.Prelude.{codes}
+use Rattle.std.proofs.Common.{◌≡◌, ℕ, true, List, [], ◌∷◌, ◌++◌, length, Option, Some, None, refl, sym, ap, subst, ◌∙◌}
+use Rattle.std.specs.Prelude.{codes, unwrap_or}
 use Rattle.std.specs.Borrow.{Bor}
 use Rattle.std.specs.Fmt.{decimal}
 use Rattle.std.proofs.lemmas.Bool.{eq-eqb}
 use Rattle.hfs_bag.specs.declared.facts.BagFacts.{BagFacts}
 use Rattle.hfs_bag.specs.Bags.{bytes_in, files_in, manifest, payload}
 use Rattle.hfs_bag.specs.Items.{BagItem}
-use Rattle.hfs_bag.specs.Sources.{WhereKnown}
-use Rattle.hfs_bag.specs.Tags.{bag_of, declaration_file, image_digest_line, info_text, manifest_file, oxum_text, table_file, volume_line}
+use Rattle.hfs_bag.specs.Tags.{bag_of, declaration_file, image_digest_line, info_text, manifest_file, oxum_text, table_file, tag_files, volume_line}
+use Rattle.hfs_bag.proofs.Growing.{part_first}
 use Rattle.hfs_shelves.specs.Entries.{IsBeginning, ShelfEntry, file}
 use Rattle.hfs_shelves.proofs.Beginnings.{begins_appended}
 use Rattle.hfs_texts.specs.Lines.{line}
@@ -77,20 +77,20 @@ pub none-known : (known : Option (List ℕ)) (len : ℕ) (line : Option (List �
 none-known None len line words P all = tt
 none-known (Some image) len line words P all = λ same facts told. all (image_bag image facts)
 
--- what a call did with a bag of the source's state
-pub given-ok : {A E : Type 0} (r : Result A E) (opened : OpenedValue) (line : Option (List ℕ)) (words : TakeWords) (facts : BagFacts) (left : List ToldRow) (came : CameItem)
-    (reading : Reading) (P : List ShelfEntry → Type 0) → OfKnown opened.known opened.len (λ image. TellsOf image line words facts)
-    → OnOk r (WhereKnown (source_of opened left came reading) (P (bag_of (source_of opened left came reading).all (source_of opened left came reading).tables facts)))
-    → OnOk r (OfBag opened line words P)
-given-ok (Ok x) opened line words facts left came reading P tells given = of-known opened.known opened.len line words facts left came reading P tells given
-given-ok (Err e) opened line words facts left came reading P tells given = tt
+-- a part of the payload was given, of an image whose bytes may be known
+pub payload-part : (known : Option (List ℕ)) (len : ℕ) (line : Option (List ℕ)) (words : TakeWords) (given now : List ShelfEntry)
+    → (is_known_so known len ≡ true → IsBeginning now (given ++ payload (bag_items (entries_in (unwrap_or known [])))))
+    → OfBag (opened_value known len) line words (λ bag. IsBeginning now (given ++ bag))
+payload-part None len line words given now part = tt
+payload-part (Some image) len line words given now part = λ same facts told.
+    let items = bag_items (entries_in image) in
+    part_first given now (payload items) (tag_files items (record { items = table_text (told_rows (entries_in image)); remains = None }) facts) (part (eq-eqb (length image) len same))
 
-pub given-err : {A E : Type 0} (r : Result A E) (opened : OpenedValue) (line : Option (List ℕ)) (words : TakeWords) (facts : BagFacts) (left : List ToldRow) (came : CameItem)
-    (reading : Reading) (P : List ShelfEntry → Type 0) → OfKnown opened.known opened.len (λ image. TellsOf image line words facts)
-    → OnErr r (WhereKnown (source_of opened left came reading) (P (bag_of (source_of opened left came reading).all (source_of opened left came reading).tables facts)))
-    → OnErr r (OfBag opened line words P)
-given-err (Ok x) opened line words facts left came reading P tells given = tt
-given-err (Err e) opened line words facts left came reading P tells given = of-known opened.known opened.len line words facts left came reading P tells given
+-- what holds of the items where they are known
+pub items-known : (known : Option (List ℕ)) (len : ℕ) (Fact : List BagItem → Type 0)
+    → (is_known_so known len ≡ true → Fact (bag_items (entries_in (unwrap_or known [])))) → OfKnown known len (λ image. Fact (bag_items (entries_in image)))
+items-known None len Fact holds = tt
+items-known (Some image) len Fact holds = λ same. holds (eq-eqb (length image) len same)
 
 -- nothing of a bag was given
 pub nothing-given : (opened : OpenedValue) (line : Option (List ℕ)) (words : TakeWords) (given : List ShelfEntry) → OfBag opened line words (λ bag. IsBeginning given (given ++ bag))

@@ -17,11 +17,9 @@ use Rattle.hfs_image_items.specs.Reading.{BeginsWith}
 use Rattle.hfs_inventory.specs.Told.{ToldRow, told_rows}
 use Rattle.hfs_needed.specs.Known.{IsReportOf, OfKnown}
 use Rattle.hfs_needed.specs.OpenedValues.{OpenedValue}
-use Rattle.hfs_take.specs.declared.giving.Told.{Told}
 use Rattle.hfs_take.specs.declared.words.TakeWords.{TakeWords}
 use Rattle.hfs_take.specs.Bags.{IsDigestTold, IsReportText, TellsOf, root_name, text_in}
 use Rattle.hfs_take.specs.Facts.{image_name}
-use Rattle.hfs_take.specs.Told.{IsToldOf}
 
 root-named : (root : Info) (rows : List ToldRow) → BeginsWith root rows → root.name ≡ root_name rows
 root-named root [] begins = absurd begins
@@ -57,14 +55,13 @@ tells-known (Some image) len line words facts root begins identifier program nam
   report_is = report same;
 }
 
--- what is told before the items are read, and the name of the root
-pub tells-items : (opened : OpenedValue) (len : ℕ) (line : Option (List ℕ)) (words : TakeWords) (told : Told) (facts : BagFacts) (root : Info) → len ≡ opened.len
-    → (is_known opened ≡ true → BeginsWith root (told_rows (entries_in (image_in opened)))) → IsToldOf opened.known len words told
-    → facts.identifier.now ≡ plain_text root.name → facts.program.now ≡ words.program.now → facts.image.now ≡ string_bytes told.name → text_in facts.volume ≡ line
-    → facts.bytes ≡ len → facts.digest ≡ told.digest → facts.report.now ≡ string_bytes told.report
+-- of an opened image, with the name of its root
+pub tells-items : (opened : OpenedValue) (len : ℕ) (line : Option (List ℕ)) (words : TakeWords) (facts : BagFacts) (root : Info) → len ≡ opened.len
+    → (is_known opened ≡ true → BeginsWith root (told_rows (entries_in (image_in opened))))
+    → facts.identifier.now ≡ plain_text root.name → facts.program.now ≡ words.program.now → facts.image.now ≡ image_name words.image.now → text_in facts.volume ≡ line
+    → facts.bytes ≡ len → IsDigestTold opened.known len words.is_digested facts.digest → IsReportText opened.known len facts.report.now
     → OfKnown opened.known opened.len (λ image. TellsOf image line words facts)
-tells-items opened len line words told facts root at begins is identifier program name volume bytes digest report =
+tells-items opened len line words facts root at begins identifier program name volume bytes digest report =
     subst (λ (n : ℕ). OfKnown opened.known n (λ image. TellsOf image line words facts)) at
-    (tells-known opened.known len line words facts root (λ known. begins (ap (λ (n : ℕ). is_known_so opened.known n) (sym at) ∙ known)) identifier program
-    (name ∙ is.name_is) volume bytes (subst (IsDigestTold opened.known len words.is_digested) (sym digest) is.digest_is)
-    (subst (IsReportText opened.known len) (sym report) is.report_is))
+    (tells-known opened.known len line words facts root (λ known. begins (ap (λ (n : ℕ). is_known_so opened.known n) (sym at) ∙ known)) identifier program name volume bytes digest
+    report)

@@ -10,3 +10,7 @@ AddsPiece known place count Held Holds = IfSome known (λ image. (m : List ℕ) 
 -- where the image's bytes are known, and are so many, this is their digest
 abbrev pub IsDigestOf : Option (List ℕ) → ℕ → List ℕ → Type 0
 IsDigestOf known len digest = OfKnown known len (λ image. digest ≡ sha256 image)
+
+-- a source that is there beside the image tells the same bytes
+abbrev pub TellsSame : {S : Type 0} → (S → Option (List ℕ)) → Option S → Option (List ℕ) → Type 0
+TellsSame image beside known = IfSome beside (λ source. image source ≡ known)

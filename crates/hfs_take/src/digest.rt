@@ -3,9 +3,8 @@ ghost use Rattle.std.specs.Prelude.{◌≡◌, ◌≤◌, ◌<◌, ◌+◌, ◌*
 ghost use Rattle.sha2.specs.Hashers.{Holds256};
 ghost use Rattle.hfs_take.specs.Digests.{AddsPiece, IsDigestOf};
 
+use crate::blocks::ImageBlocks;
 use hfs_bag::SourceFault;
-use hfs_needed::OpenedImage;
-use hfs_sparse::BlockSource;
 use sha2::{Digest, Sha256};
 use std::alloc::{AllocError, Global};
 
@@ -23,8 +22,8 @@ fn buffer_of(alloc: Global, len: usize) -> Result<Vec<u8>, AllocError>
 }
 
 /// Gives the bytes of an image from a block on to the digest, as many of those that are left as there is room for: at least one. How many they are.
-fn add_piece<S: BlockSource + Drop>(
-    image: &mut OpenedImage<S>,
+fn add_piece<B: ImageBlocks>(
+    image: &mut B,
     first: u32,
     left: u64,
     buffer: &mut [u8],
@@ -35,14 +34,14 @@ fn add_piece<S: BlockSource + Drop>(
     ensures some { IfOk result (λ count. 1 ≤ count) }
     ensures few { IfOk result (λ count. count ≤ left) }
     ensures whole { IfOk result (λ count. count < left → count ≡ 65536) }
-    ensures added { IfOk result (λ count. AddsPiece image.old.known (512 * first) count
+    ensures added { IfOk result (λ count. AddsPiece (B.bytes image.old) (512 * first) count
         (Holds256 digest.old) (Holds256 digest.new)) }
     ensures room { length buffer.new ≡ 65536 }
     ensures image { image.new ≡ image.old }
 {
     let count = left.min(buffer.len() as u64);
     let piece = &mut buffer[..count as usize];
-    let Ok(()) = image.read_blocks(first, piece) else {
+    let Ok(()) = image.read_from(first, piece) else {
         return Err(SourceFault::ReadFailed);
     };
     digest.update(&*piece);
@@ -60,13 +59,13 @@ fn block_behind(first: u32) -> Result<u32, SourceFault>
 }
 
 /// Gives the `len` bytes of an image to the digest.
-fn add_all<S: BlockSource + Drop>(
-    image: &mut OpenedImage<S>,
+fn add_all<B: ImageBlocks>(
+    image: &mut B,
     len: u64,
     buffer: &mut [u8],
 ) -> Result<[u8; 32], SourceFault>
     requires room { length buffer.old ≡ 65536 }
-    ensures digest { IfOk result (IsDigestOf image.old.known len) }
+    ensures digest { IfOk result (IsDigestOf (B.bytes image.old) len) }
     ensures image { image.new ≡ image.old }
 {
     let mut digest = Sha256::new();
@@ -80,12 +79,12 @@ fn add_all<S: BlockSource + Drop>(
 }
 
 /// The SHA-256 digest of the `len` bytes of an image, which are read in pieces. Errors: a read failed, memory was refused.
-pub fn image_digest<S: BlockSource + Drop>(
+pub fn image_digest<B: ImageBlocks>(
     alloc: Global,
-    image: &mut OpenedImage<S>,
+    image: &mut B,
     len: u64,
 ) -> Result<[u8; 32], SourceFault>
-    ensures digest { IfOk result (IsDigestOf image.old.known len) }
+    ensures digest { IfOk result (IsDigestOf (B.bytes image.old) len) }
     ensures image { image.new ≡ image.old }
 {
     let Ok(mut buffer) = buffer_of(alloc, PIECE) else {

@@ -8,14 +8,15 @@ ghost use Rattle.hfs_inventory.specs.Told.{told_rows};
 ghost use Rattle.hfs_needed.specs.Known.{IsReportOf, OfKnown};
 ghost use Rattle.hfs_shelves.specs.Entries.{IsBeginning};
 ghost use Rattle.hfs_sparse.specs.Sparse.{HoldsFrom};
-ghost use Rattle.hfs_take.specs.Bags.{IsDigestTold, IsReportText, OfBag, text_in};
+ghost use Rattle.hfs_take.specs.Bags.{IsReportText, OfBag, text_in};
+ghost use Rattle.hfs_take.specs.Digests.{TellsSame};
 ghost use Rattle.hfs_take.specs.Told.{IsToldOf};
 
-use crate::digest::image_digest;
+use crate::beside::{ImageDigest, give_first, plan_digest};
 use crate::facts::{image_name, plain_name, report_text};
 use crate::image::TakenImage;
 use crate::words::TakeWords;
-use hfs_bag::{BagFacts, BagFault, BagSums, SourceFault, give_bag};
+use hfs_bag::{BagFacts, BagFault, BagSums, SourceFault, give_tag_files};
 use hfs_check::Report;
 use hfs_commands::report_answer;
 use hfs_image_items::{ImageItems, Watch};
@@ -23,23 +24,7 @@ use hfs_needed::OpenedImage;
 use hfs_shelves::Shelf;
 use hfs_sparse::BlockSource;
 use std::alloc::Global;
-
-/// The digest of an image's bytes, where it is to be told.
-fn digest_of<S: BlockSource + Drop>(
-    alloc: Global,
-    image: &mut OpenedImage<S>,
-    len: u64,
-    is_digested: bool,
-) -> Result<Option<[u8; 32]>, SourceFault>
-    ensures digest { IfOk result (IsDigestTold image.old.known len is_digested) }
-    ensures image { image.new ≡ image.old }
-{
-    if !is_digested {
-        return Ok(None);
-    }
-    let digest = image_digest(alloc, image, len)?;
-    Ok(Some(digest))
-}
+use std::thread::Threads;
 
 /// The first 1,536 bytes of an image.
 fn head_of<S: BlockSource + Drop>(image: &mut OpenedImage<S>) -> Result<[u8; 1536], SourceFault>
@@ -78,45 +63,48 @@ fn item_count(report: &Report) -> u64 {
 
 /// What a bag tells of an image before its items are read.
 #[derive(Drop)]
-struct Told {
+struct Told<S: BlockSource> {
     /// The last part of its path.
     name: String,
-    /// Its digest, where it is to be told.
-    digest: Option<[u8; 32]>,
     /// The lines of `info` and of `check`.
     report: String,
+    /// Its digest, or where it comes from.
+    digest: ImageDigest<S>,
 }
 
 /// What a bag tells of an image with this report before its items are read.
 fn told_of<S: BlockSource + Drop>(
     alloc: Global,
     image: &mut OpenedImage<S>,
+    beside: Option<S>,
     len: u64,
     report: &Report,
     words: &TakeWords<'_>,
-) -> Result<Told, SourceFault>
-    requires { IsReportOf image.old.known len report.now }
-    ensures told { IfOk result (λ told. IsToldOf image.old.known len words.now told) }
+) -> Result<Told<S>, SourceFault>
+    requires report { IsReportOf image.old.known len report.now }
+    requires same { TellsSame S.image beside image.old.known }
+    ensures told { IfOk result (λ told. IsToldOf S.image image.old.known len words.now told) }
     ensures image { image.new ≡ image.old }
 {
     let Ok(name) = image_name(alloc, words.image) else {
         return Err(SourceFault::Memory);
     };
     let lines = report_of(alloc, image, len, report)?;
-    let digest = digest_of(alloc, image, len, words.is_digested)?;
+    let digest = plan_digest(alloc, image, beside, len, words.is_digested)?;
     Ok(Told {
         name,
-        digest,
         report: lines,
+        digest,
     })
 }
 
 /// Gives a shelf the bag of these items of an image, of which this is told.
-fn give_items<S: BlockSource + Drop, T: Shelf, W: Watch>(
+fn give_items<R: Threads, S: BlockSource + Drop + Send, T: Shelf, W: Watch>(
+    threads: &R,
     alloc: Global,
     shelf: &mut T,
     items: &mut ImageItems<'_, S, W>,
-    told: &Told,
+    told: Told<S>,
     line: Option<&str>,
     words: &TakeWords<'_>,
     len: u64,
@@ -124,7 +112,7 @@ fn give_items<S: BlockSource + Drop, T: Shelf, W: Watch>(
     requires len { len ≡ items.old.image.len }
     requires root { is_known items.old.image ≡ true
         → BeginsWith items.old.root (told_rows (entries_in (image_in items.old.image))) }
-    requires told { IsToldOf items.old.image.known len words.now told.now }
+    requires told { IsToldOf S.image items.old.image.known len words.now told }
     ensures whole { OnOk result (OfBag items.old.image (text_in line.entry) words.now
         (λ bag. T.given shelf.new ≡ T.given shelf.old ++ bag)) }
     ensures part { OnErr result (OfBag items.old.image (text_in line.entry) words.now
@@ -133,16 +121,23 @@ fn give_items<S: BlockSource + Drop, T: Shelf, W: Watch>(
         (λ bytes. IsSumOf sums (bag_items (entries_in bytes)))) }
 {
     let identifier = plain_name(alloc, items.root.name.bytes())?;
+    let Told {
+        name,
+        report,
+        digest,
+    } = told;
+    let first = give_first(threads, alloc, shelf, items, digest, len)?;
     let facts = BagFacts {
         identifier: identifier.as_str(),
         program: words.program,
-        image: told.name.as_str(),
+        image: name.as_str(),
         volume: line,
         bytes: len,
-        digest: told.digest,
-        report: told.report.as_str(),
+        digest: first.1,
+        report: report.as_str(),
     };
-    give_bag(alloc, shelf, items, &facts)
+    let sums = give_tag_files(alloc, shelf, items, &facts, &first.0)?;
+    Ok(sums)
 }
 
 /// A text, where there is one.
@@ -155,9 +150,11 @@ fn text_in(text: &Option<String>) -> Option<&str>
     }
 }
 
-/// Gives a shelf the bag of an image: the items of its volume, and what these words tell of it. At a fault what was given is a beginning of
-/// it. All this where the image's bytes are known; a file's are not. Faults: reading the image, the shelf's, memory was refused; `TooLarge`.
-pub fn give_image<S: BlockSource + Drop, T: Shelf, W: Watch>(
+/// Gives a shelf the bag of an image: the items of its volume, and what these words tell of it. The digest is made in a thread of its own where
+/// the image has a source beside it. At a fault what was given is a beginning of the bag. All this where the image's bytes are known; a file's are
+/// not. Faults: reading the image, the shelf's, memory was refused; `TooLarge`.
+pub fn give_image<R: Threads, S: BlockSource + Drop + Send, T: Shelf, W: Watch>(
+    threads: &R,
     alloc: Global,
     shelf: &mut T,
     image: TakenImage<S>,
@@ -173,12 +170,13 @@ pub fn give_image<S: BlockSource + Drop, T: Shelf, W: Watch>(
 {
     let TakenImage {
         mut opened,
+        beside,
         len,
         report,
         volume,
     } = image;
-    let told = told_of(alloc, &mut opened, len, &report, words)?;
+    let told = told_of(alloc, &mut opened, beside, len, &report, words)?;
     let mut items = ImageItems::new(alloc, opened, item_count(&report), watch)?;
     let line = text_in(&volume);
-    give_items(alloc, shelf, &mut items, &told, line, words, len)
+    give_items(threads, alloc, shelf, &mut items, told, line, words, len)
 }

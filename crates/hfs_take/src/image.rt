@@ -4,6 +4,7 @@ ghost use Rattle.std.specs.Prelude.{◌≡◌, IfErr, IfOk};
 ghost use Rattle.hfs_needed.specs.Known.{IsReportOf};
 ghost use Rattle.hfs_needed.specs.Opened.{IsRefusedFor, IsSoundOf};
 ghost use Rattle.hfs_needed.specs.OpenedValues.{opened_value};
+ghost use Rattle.hfs_take.specs.Digests.{TellsSame};
 
 use hfs_check::Report;
 use hfs_needed::{NeededFault, OpenedImage};
@@ -14,6 +15,8 @@ use std::alloc::Global;
 #[derive(Drop)]
 pub struct TakenImage<S: BlockSource> {
     pub opened: OpenedImage<S>,
+    /// A source of the same bytes, where there is one, to be read beside the image.
+    pub beside: Option<S>,
     /// How many bytes it has.
     pub len: u64,
     /// What its check tells.
@@ -22,6 +25,7 @@ pub struct TakenImage<S: BlockSource> {
     pub volume: Option<String>,
     ghost len_is: { len ≡ opened.len },
     ghost report_is: { IsReportOf opened.known len report } by { Prim.hlevel props },
+    ghost same_bytes: { TellsSame S.image beside opened.known } by { Prim.hlevel props },
 }
 
 impl<S: BlockSource + Drop> TakenImage<S> {
@@ -29,9 +33,11 @@ impl<S: BlockSource + Drop> TakenImage<S> {
     pub fn open(
         alloc: Global,
         source: S,
+        beside: Option<S>,
         len: u64,
         volume: Option<String>,
     ) -> Result<TakenImage<S>, NeededFault>
+        requires { TellsSame S.image beside (S.image source) }
         ensures opened { IfOk result (λ image. image.opened ≡ opened_value (S.image source) len) }
         ensures volume { IfOk result (λ image. image.volume ≡ volume) }
         ensures sound { IfOk result (λ image. IsSoundOf (S.image source) len) }
@@ -40,6 +46,7 @@ impl<S: BlockSource + Drop> TakenImage<S> {
         let (opened, report) = OpenedImage::open_reported(alloc, source, len)?;
         Ok(TakenImage {
             opened,
+            beside,
             len,
             report,
             volume,

@@ -1,6 +1,8 @@
 //! The word `take`: all items of an image's volume as a bag of folders and files.
 #![tactic(auto)]
 
+mod beside;
+mod blocks;
 mod digest;
 mod facts;
 mod fault;
@@ -10,6 +12,7 @@ mod opening;
 mod taking;
 mod words;
 
+pub use crate::blocks::{ImageBlocks, SourceBlocks};
 pub use crate::digest::image_digest;
 pub use crate::facts::{image_name, plain_name, report_text};
 pub use crate::fault::TakeFault;

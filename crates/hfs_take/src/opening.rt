@@ -1,16 +1,22 @@
 //! What is taken apart, by its path.
-ghost use Rattle.std.specs.Prelude.{IfErr, Some};
+ghost use Rattle.std.specs.Prelude.{◌≡◌, IfErr, IfSome, None, Some};
 ghost use Rattle.hfs_commands.specs.Faults.{IsUnopened};
+ghost use Rattle.hfs_take.specs.Digests.{TellsSame};
 ghost use Rattle.hfs_take.specs.Faults.{IsImageFault};
+ghost use Rattle.hfs_take.specs.Opening.{known_in};
 
 use crate::facts::volume_text;
 use crate::image::TakenImage;
 use crate::words::TakeWords;
 use hfs_commands::{Fault, OpenedFile, Window, open_file, open_part};
-use hfs_containers::{nth_range, volume_name};
+use hfs_containers::{ByteRange, PlacedFile, nth_range, volume_name};
+use hfs_sparse::FileReader;
 use std::alloc::Global;
+use std::fs::{File, Metadata, OpenFile};
 use std::io::{Read, Seek};
+use std::os::unix::fs::MetadataExt;
 use std::rt::Files;
+use std::{fs, io};
 
 /// Bytes that may hold a volume, and the line of where they lie in their file, where they were looked for there.
 #[derive(Drop)]
@@ -70,16 +76,73 @@ pub fn find_part<'a, R: Files + AllocGlobal>(
     }
 }
 
-/// Opens what is to be taken apart, and makes all checks. Faults, the first that holds: the image can't be read; `NoVolume`; the image's own; memory was refused.
+/// Whether both are one file of the system.
+fn is_same(one: &Metadata, other: &Metadata) -> bool {
+    one.dev() == other.dev() && one.ino() == other.ino()
+}
+
+/// A range of the file at this path, which is opened anew. None where it can't be opened, or is another file than it was.
+fn open_again<R: Files>(
+    rt: &R,
+    path: &str,
+    was: &Metadata,
+    range: ByteRange,
+) -> Option<Window<OpenedFile<R::File>>>
+    ensures known { IfSome result (λ bytes. known_in bytes ≡ None) }
+    ensures range { IfSome result (λ bytes. bytes.range ≡ range) }
+{
+    let Ok(file) = File::open(rt, path) else {
+        return None;
+    };
+    let Ok(found) = file.metadata() else {
+        return None;
+    };
+    if !is_same(was, &found) {
+        return None;
+    }
+    Some(Window {
+        source: OpenedFile::Seekable(PlacedFile::new(FileReader(file))),
+        range,
+    })
+}
+
+/// The same bytes once more, to be read beside what was found at this path. None where that is no file that can be opened once more: its bytes are held,
+/// as a pipe's, or another file has its path.
+fn open_beside<R: Files>(
+    rt: &R,
+    path: &str,
+    was: io::Result<Metadata>,
+    found: &Window<OpenedFile<R::File>>,
+) -> Option<Window<OpenedFile<R::File>>>
+    ensures known { TellsSame known_in result (known_in found.now) }
+    ensures range { IfSome result (λ bytes. bytes.range ≡ found.now.range) }
+{
+    let Ok(was) = was else {
+        return None;
+    };
+    match &found.source {
+        OpenedFile::Whole(_) => None,
+        OpenedFile::Seekable(_) => open_again(rt, path, &was, found.range),
+    }
+}
+
+/// Opens what is to be taken apart, once more where its digest is to be made beside it, and makes all checks. Faults, the first that holds: the image can't be
+/// read; `NoVolume`; the image's own; memory was refused.
 pub(crate) fn open_image<'a, R: Files + AllocGlobal>(
     rt: &R,
     words: &TakeWords<'a>,
 ) -> Result<TakenImage<Window<OpenedFile<R::File>>>, Fault<'a>>
     ensures { IfErr result (IsImageFault words.now) }
 {
+    let was = fs::metadata(rt, words.image);
     let FoundPart { bytes, line } = find_part(rt, words.image, words.volume)?;
+    let beside = if words.is_digested {
+        open_beside(rt, words.image, was, &bytes)
+    } else {
+        None
+    };
     let len = bytes.len();
-    match TakenImage::open(rt.alloc(), bytes, len, line) {
+    match TakenImage::open(rt.alloc(), bytes, beside, len, line) {
         Ok(image) => Ok(image),
         Err(fault) => Err(Fault::of_needed(fault, words.image)),
     }

@@ -18,6 +18,7 @@ use hfs_sparse::BlockSource;
 use hfs_texts::push_line;
 use std::alloc::{AllocError, Global};
 use std::rt::Files;
+use std::thread::Threads;
 
 /// Gives a whole bag its place.
 fn place_bag<'a, R: Files + AllocGlobal>(
@@ -35,8 +36,9 @@ fn place_bag<'a, R: Files + AllocGlobal>(
 }
 
 /// Writes the bag of an image: to a folder beside its place, which gets its place when it is whole, and is taken away at a fault.
-fn write_bag<'a, R: Files + AllocGlobal, S: BlockSource + Drop, W: Watch>(
+fn write_bag<'a, R: Files + AllocGlobal, H: Threads, S: BlockSource + Drop + Send, W: Watch>(
     rt: &R,
+    threads: &H,
     image: TakenImage<S>,
     words: &TakeWords<'a>,
     watch: &W,
@@ -49,7 +51,7 @@ fn write_bag<'a, R: Files + AllocGlobal, S: BlockSource + Drop, W: Watch>(
         Ok(shelf) => shelf,
         Err(fault) => return Err(TakeFault::of_shelf(fault)),
     };
-    match give_image(rt.alloc(), &mut shelf, image, words, watch) {
+    match give_image(threads, rt.alloc(), &mut shelf, image, words, watch) {
         Ok(sums) => place_bag(shelf, sums, words),
         Err(fault) => {
             shelf.take_away();
@@ -61,11 +63,14 @@ fn write_bag<'a, R: Files + AllocGlobal, S: BlockSource + Drop, W: Watch>(
 /// Takes the volume of an image apart: makes the folder a bag of all its items. Faults, the first that holds: the image can't be read; `NoVolume`;
 /// the image's own; `IsThere`; `CannotWrite` of the path that isn't written, the image can't be read in the middle, memory was refused. At a fault
 /// the folder isn't there, and what was written is taken away, as far as the system and memory allow.
-pub fn take<'a, R: Files + AllocGlobal, W: Watch>(
+pub fn take<'a, R: Files + AllocGlobal, H: Threads, W: Watch>(
     rt: &R,
+    threads: &H,
     words: &TakeWords<'a>,
     watch: &W,
 ) -> Result<BagSums, TakeFault<'a>>
+where
+    R::File: Send,
     ensures { IfErr result (IsTakeFault words.now) }
 {
     let image = match open_image(rt, words) {
@@ -75,7 +80,7 @@ pub fn take<'a, R: Files + AllocGlobal, W: Watch>(
     if is_there(rt, words.folder) {
         return Err(TakeFault::IsThere(words.folder));
     }
-    write_bag(rt, image, words, watch)
+    write_bag(rt, threads, image, words, watch)
 }
 
 /// A folder's path without slashes at its end; a slash alone stays.

@@ -1,6 +1,7 @@
 //! What each word does.
 
 use crate::by_path::{print_fork_at, print_list_at, print_macbinary_at};
+use crate::by_volume::{tell_check, tell_fork, tell_info, tell_items, tell_list, tell_macbinary};
 use crate::collecting::collect;
 use crate::hints::tell_hint;
 use crate::pages::print_page;
@@ -8,10 +9,7 @@ use crate::progress::Progress;
 use crate::rescuing::{list_remains, rescue_volume};
 use crate::saving::{save, tell};
 use crate::taking::take_volume;
-use crate::volumes::{
-    print_volume_check, print_volume_fork, print_volume_info, print_volume_items,
-    print_volume_list, print_volume_macbinary, print_volumes,
-};
+use crate::volumes::print_volumes;
 use crate::words::{FileWords, ForkWords, NewVolume, RunWords, Words};
 use hfs_check::MountFault;
 use hfs_commands::{
@@ -37,40 +35,22 @@ pub fn obey<'a, T: Threads + Wait + Sync>(
 ) -> Result<u8, Fault<'a>> {
     match words {
         Words::StandardInput => print_info(rt, &mut rt.stdin(), "stdin"),
-        Words::Info { image, volume } => match volume {
-            Some(n) => print_volume_info(rt, *image, *n),
-            None => print_info_of(rt, *image),
-        },
-        Words::Check { image, volume } => match volume {
-            Some(n) => print_volume_check(rt, *image, *n),
-            None => print_check(rt, *image),
-        },
-        Words::List { image, volume, dir } => match volume {
-            Some(n) => print_volume_list(rt, *image, *n, *dir),
-            None => print_list(rt, *image, *dir),
-        },
+        Words::Info { image, volume } => tell_info(rt, *image, *volume),
+        Words::Check { image, volume } => tell_check(rt, *image, *volume),
+        Words::List { image, volume, dir } => tell_list(rt, *image, *volume, *dir),
         Words::ListAt(place) => print_list_at(rt, place),
         Words::Items {
             image,
             volume,
             format,
-        } => match volume {
-            Some(n) => print_volume_items(rt, *image, *n, *format),
-            None => print_items(rt, *image, *format),
-        },
+        } => tell_items(rt, *image, *volume, *format),
         Words::Page { image, volume } => print_page(rt, *image, *volume),
-        Words::Cat(file) => match file.volume {
-            Some(n) => print_volume_fork(rt, file, n),
-            None => print_fork(rt, file),
-        },
-        Words::MacBinary(file) => match file.volume {
-            Some(n) => print_volume_macbinary(rt, file, n),
-            None => print_macbinary(rt, file),
-        },
+        Words::Cat(file) => tell_fork(rt, file),
+        Words::MacBinary(file) => tell_macbinary(rt, file),
         Words::CatAt(words) => print_fork_at(rt, words),
         Words::MacBinaryAt(place) => print_macbinary_at(rt, place),
         Words::Volumes { file } => print_volumes(rt, *file),
-        Words::Take(words) => take_volume(rt, words),
+        Words::Take(words) => take_volume(rt, threads, words),
         Words::Rescue(words) => rescue_volume(rt, words),
         Words::RescueList(words) => list_remains(rt, words),
         Words::Collect(words) => collect(rt, words),
@@ -81,7 +61,7 @@ pub fn obey<'a, T: Threads + Wait + Sync>(
 }
 
 /// Prints the master directory block of an image by its path.
-fn print_info_of<'a>(rt: &HostRuntime, image: &'a str) -> Result<u8, Fault<'a>> {
+pub fn print_info_of<'a>(rt: &HostRuntime, image: &'a str) -> Result<u8, Fault<'a>> {
     match File::open(rt, image) {
         Ok(mut file) => print_info(rt, &mut file, image),
         Err(_) => Err(Fault::CannotRead(image)),
@@ -159,7 +139,7 @@ fn print_read_check<'a>(rt: &HostRuntime, path: &'a str) -> Result<u8, Fault<'a>
 }
 
 /// Prints what is told of an image by its path. Each fault of the image is told behind `refused`.
-fn print_check<'a>(rt: &HostRuntime, path: &'a str) -> Result<u8, Fault<'a>> {
+pub fn print_check<'a>(rt: &HostRuntime, path: &'a str) -> Result<u8, Fault<'a>> {
     match print_read_check(rt, path) {
         Ok(status) => Ok(status),
         Err(Fault::Refused(why)) => print_refused(rt, why),
@@ -176,7 +156,7 @@ fn mounted(rt: &HostRuntime, image: Vec<u8>) -> Result<Volume, Fault<'static>> {
 }
 
 /// Prints the children of a folder by its ID.
-fn print_list<'a>(rt: &HostRuntime, path: &'a str, dir: u32) -> Result<u8, Fault<'a>> {
+pub fn print_list<'a>(rt: &HostRuntime, path: &'a str, dir: u32) -> Result<u8, Fault<'a>> {
     match open_image(rt, path)? {
         ImageFile::Seekable { source, len } => print_needed_list(rt, path, source, len, dir),
         ImageFile::Whole(image) => {
@@ -201,7 +181,7 @@ pub fn print_needed_list<'a, S: BlockSource + Drop>(
 }
 
 /// Prints the table of an image's items.
-fn print_items<'a>(rt: &HostRuntime, path: &'a str, format: Format) -> Result<u8, Fault<'a>> {
+pub fn print_items<'a>(rt: &HostRuntime, path: &'a str, format: Format) -> Result<u8, Fault<'a>> {
     match open_image(rt, path)? {
         ImageFile::Seekable { source, len } => print_items_of(rt, path, source, len, format),
         ImageFile::Whole(image) => print_whole_items(rt, path, &image, format),
@@ -244,7 +224,7 @@ fn print_table<S: BlockSource + Drop>(
 }
 
 /// Prints the bytes of a file's fork, or the code of the call that was refused.
-fn print_fork<'a>(rt: &HostRuntime, file: &ForkWords<'a>) -> Result<u8, Fault<'a>> {
+pub fn print_fork<'a>(rt: &HostRuntime, file: &ForkWords<'a>) -> Result<u8, Fault<'a>> {
     match open_image(rt, file.image)? {
         ImageFile::Seekable { source, len } => print_needed_fork(rt, file, source, len),
         ImageFile::Whole(image) => print_whole_fork(rt, file, image),
@@ -275,7 +255,7 @@ fn print_fork_of<'a>(
 }
 
 /// Prints a file with both forks as one MacBinary file, or the code of the call that was refused.
-fn print_macbinary<'a>(rt: &HostRuntime, file: &FileWords<'a>) -> Result<u8, Fault<'a>> {
+pub fn print_macbinary<'a>(rt: &HostRuntime, file: &FileWords<'a>) -> Result<u8, Fault<'a>> {
     match open_image(rt, file.image)? {
         ImageFile::Seekable { mut source, len } => {
             print_needed_macbinary(rt, file, &mut source, len)

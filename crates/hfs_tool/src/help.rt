@@ -36,7 +36,7 @@ sectors of 2,352 bytes, MFS, and HFS Plus without a wrapper.";
 pub(crate) const COLLECTIONS: &str =
     "For each image a line is printed: its path, how many volumes it has, how many of these are refused, how many
 files there are, and how many of them are damaged. An image that was collected before, under the same path, is read anew. Of a
-volume that is refused the database has its verdict, and no items.
+volume that is refused the database has what rescue finds of it, with a verdict on each fork.
 
 The tables are image, volume and item; docs/MANUAL.md has questions that they answer. An image that can't be sought in, such as a
 pipe, can't be read.

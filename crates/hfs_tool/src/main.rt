@@ -5,12 +5,14 @@ ghost use Rattle.std.specs.Prelude.{◌≡◌, ◌⊎◌};
 ghost use Rattle.hfs_commands.specs.Faults.{status_number, status_of};
 
 mod by_path;
+mod by_volume;
 mod collecting;
 mod commands;
 mod help;
 mod hints;
 mod pages;
 mod progress;
+mod reading;
 mod rescuing;
 mod saving;
 mod taking;
@@ -19,7 +21,8 @@ mod words;
 
 use crate::commands::obey;
 use crate::hints::tell_hint;
-use crate::words::read_words;
+use crate::reading::{WordsFault, read_words};
+use clap::Error;
 use clap::error::ErrorKind;
 use hfs_commands::{Fault, Status};
 use std::process::ExitCode;
@@ -44,13 +47,19 @@ fn answer<T: Threads + Wait + Sync>(rt: &HostRuntime, threads: &T) -> u8 {
             Ok(status) => status,
             Err(fault) => refused(rt, &fault),
         },
-        Err(error) => match error.kind() {
-            ErrorKind::OutOfMemory => refused(rt, &Fault::NoMemory),
-            ErrorKind::DisplayHelp | ErrorKind::DisplayVersion => {
-                Status::Done.after(rt.print(&error))
-            }
-            _ => Status::WordsRefused.after(rt.print(&error)),
-        },
+        Err(WordsFault::Clap(error)) => told_by_clap(rt, &error),
+        Err(WordsFault::NoValue(name)) => {
+            Status::WordsRefused.after(println!(rt; "no value for {name}"))
+        }
+    }
+}
+
+/// Prints the help that was asked for, or why words are refused, and answers the exit status.
+fn told_by_clap(rt: &HostRuntime, error: &Error) -> u8 {
+    match error.kind() {
+        ErrorKind::OutOfMemory => refused(rt, &Fault::NoMemory),
+        ErrorKind::DisplayHelp | ErrorKind::DisplayVersion => Status::Done.after(rt.print(error)),
+        _ => Status::WordsRefused.after(rt.print(error)),
     }
 }
 

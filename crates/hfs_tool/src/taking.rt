@@ -4,6 +4,7 @@ use crate::commands::print_lines;
 use hfs_commands::{Fault, Status};
 use hfs_take::{BagSums, TakeFault, TakeWords, Watch, take, taken_text};
 use std::io::IsTerminal;
+use std::thread::Threads;
 
 /// After how many items a line is printed.
 const ITEMS_SHOWN: u64 = 1_000;
@@ -25,12 +26,16 @@ impl Watch for ItemProgress<'_> {
 }
 
 /// Takes a volume apart, and prints what the folder has then.
-pub fn take_volume<'a>(rt: &HostRuntime, words: &TakeWords<'a>) -> Result<u8, Fault<'a>> {
+pub fn take_volume<'a, T: Threads>(
+    rt: &HostRuntime,
+    threads: &T,
+    words: &TakeWords<'a>,
+) -> Result<u8, Fault<'a>> {
     let progress = ItemProgress {
         rt,
         is_shown: rt.stderr().is_terminal(),
     };
-    let taken = take(rt, words, &progress);
+    let taken = take(rt, threads, words, &progress);
     print_taken(rt, taken)
 }
 

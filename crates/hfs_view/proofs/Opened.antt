@@ -58,26 +58,26 @@ module _ (base image : List ℕ) (f : FileRecord) where
   sound fork h = elim fork as (λ (k : Fork). IsForkSound mdb (overflow_in (block_at image))
       (record { file = f.id; fork = fork_byte (fork_record k f).0; len = (fork_record k f).1.length; first = (fork_record k f).1.extents })) [ DataFork ↦ h.0 | ResFork ↦ h.1.0 ]
 
-  pub fork_in : (fork : Fork) (row : RowFork) → AreForksIn (block_at image) f → row.extents.items ≡ file_extents (block_at image) fork f
+  pub fork_in : (fork : Fork) (row : RowFork) → AreForksIn (block_at image) f → row.extents ≡ file_extents (block_at image) fork f
       → row.size ≡ (fork_record fork f).1.length → IsForkIn mdb row
   unfolding file_extents
   fork_in fork row h are size =
       let whole = sound fork h in
       record {
         within = subst (AreExtentsWithin mdb.allocation_blocks) (sym are) whole.within;
-        room = subst (λ (n : ℕ). n ≤ block_total row.extents.items * mdb.allocation_block_size) (sym size)
+        room = subst (λ (n : ℕ). n ≤ block_total row.extents * mdb.allocation_block_size) (sym size)
             (subst (λ (es : List _). (fork_record fork f).1.length ≤ block_total es * mdb.allocation_block_size) (sym are) whole.room);
       }
 
-  fork_shown : (fork : Fork) (row : RowFork) → ForksStay base image f → row.extents.items ≡ file_extents (block_at image) fork f
+  fork_shown : (fork : Fork) (row : RowFork) → ForksStay base image f → row.extents ≡ file_extents (block_at image) fork f
       → row.size ≡ (fork_record fork f).1.length → bytes_of base mdb row ≡ bytes_in (block_at image) f.id (fork_record fork f).0 (fork_record fork f).1
   unfolding bytes_of bytes_in file_extents
   fork_shown fork row stay are size = (λ i. fork_bytes (block_at base) mdb (are i) (size i)) ∙ stay fork
 
   pub file_shown : (key : CatKey) (has_thread : Bool) (finder kept : List ℕ) (locked : Bool) (d r : RowFork) → ForksStay base image f
       → finder ≡ f.finder_info ++ f.extended_finder_info → kept ≡ file_kept f → locked ≡ is_bit_set 0 f.flags.0
-      → d.extents.items ≡ file_extents (block_at image) DataFork f → d.size ≡ f.«data».length
-      → r.extents.items ≡ file_extents (block_at image) ResFork f → r.size ≡ f.resource.length
+      → d.extents ≡ file_extents (block_at image) DataFork f → d.size ≡ f.«data».length
+      → r.extents ≡ file_extents (block_at image) ResFork f → r.size ≡ f.resource.length
       → item_of base mdb (record {
         parent = key.parent;
         name = key.name;

@@ -74,7 +74,7 @@ HasChildrenOf folder row = (items : Items) (mdb : Mdb) (id : ℕ) → folder.val
 
 -- it has all extents of the file's fork in the image
 abbrev pub HasExtents : List ℕ → Fork → FileRecord → RowFork → Type 0
-HasExtents image fork file row = row.extents.items ≡ file_extents (block_at image) fork file
+HasExtents image fork file row = row.extents ≡ file_extents (block_at image) fork file
 
 -- the row shows the file of this record, with a thread or without one
 abbrev pub ShowsFile : ImageValue → Bool → CatKey → FileRecord → Row → Type 0

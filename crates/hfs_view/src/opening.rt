@@ -11,7 +11,7 @@ use crate::locks::{is_hardware_locked, is_software_locked};
 use crate::threads::ThreadIds;
 use hfs_catalog::{CatalogRecord, is_file, is_folder};
 use hfs_fields::{CatKey, DirRecord, FileRecord, Mdb};
-use hfs_item_table::{Place, Row, RowFile, RowFork, RowKind, Table};
+use hfs_item_table::{Extents, Place, Row, RowFile, RowFork, RowKind, Table};
 use hfs_model::Fork;
 use hfs_volume::{Base, Volume};
 use std::alloc::{AllocError, Global};
@@ -69,7 +69,10 @@ fn fork_row(
         Fork::DataFork => file.data.length,
         Fork::ResFork => file.resource.length,
     };
-    Ok(RowFork { extents, size })
+    Ok(RowFork {
+        extents: Extents::new(extents),
+        size,
+    })
 }
 
 /// The row of a file's record. The only error is want of memory.

@@ -37,6 +37,17 @@ impl Model for Rows {
     ghost invariant = { λ r. IsTable r.table × IsLawful (tables.volume_of r.table) };
 }
 
+impl Clone for Rows {
+    ghost is_clone = { λ x y. y ≡ x };
+
+    fn clone(&self) -> Result<Rows, AllocError> {
+        Ok(Rows {
+            alloc: self.alloc,
+            table: self.table.copied()?,
+        })
+    }
+}
+
 impl Rows {
     /// The rows of a volume as it is now, over the bytes as they were mounted. The only error is want of memory.
     pub fn of(alloc: Global, volume: &Volume) -> Result<Rows, AllocError>

@@ -31,10 +31,7 @@ impl Pair {
         if !is_accepted(entry) {
             return true;
         }
-        match entry.call.copied() {
-            Ok(call) => self.add(call),
-            Err(_) => false,
-        }
+        self.add(&entry.call)
     }
 }
 

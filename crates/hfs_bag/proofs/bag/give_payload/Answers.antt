@@ -1,8 +1,9 @@
-use Rattle.std.proofs.Common.{[], ◌∷◌, codes}
-use Rattle.hfs_shelves.specs.Entries.{folder}
+use Rattle.std.proofs.Common.{List, [], ◌∷◌, ◌++◌, codes, ap, map, ◌∙◌, subst}
+use Rattle.hfs_shelves.specs.Entries.{IsBeginning, folder}
 use Rattle.hfs_shelves.proofs.Beginnings.{begins_appended}
-use Rattle.hfs_bag.specs.Bags.{items_entries, payload}
-use Rattle.hfs_bag.proofs.Growing.{part_first, where_err}
+use Rattle.hfs_bag.specs.Items.{BagItem, item_digests}
+use Rattle.hfs_bag.specs.Bags.{bytes_in, items_entries, payload}
+use Rattle.hfs_bag.proofs.Growing.{part_first, part_last, where_err}
 use Rattle.hfs_bag.proofs.bag.give_payload.Goals as goal
 
 pub returns-in_err-restart-clause-part : goal.returns-in_err-restart-clause-part
@@ -12,3 +13,24 @@ pub returns-in_err-make_folder-clause-part : goal.returns-in_err-make_folder-cla
 returns-in_err-make_folder-clause-part g c =
     where_err _ (g.B.BagSource.state c.args.source.now) (λ known. part_first (g.S.Shelf.given c.args.shelf.now) (g.S.Shelf.given c.make_folder.new.self) (folder (codes "data") ∷ []) (items_entries (g.B.BagSource.state c.args.source.now).all)
     c.in_err-make_folder.ensures.part)
+
+pub returns-in_err-given-clause-part : goal.returns-in_err-given-clause-part
+returns-in_err-given-clause-part g c =
+    let first = g.S.Shelf.given c.make_folder.new.self in
+    let now = g.S.Shelf.given c.give_items.new.shelf in
+    where_err _ (g.B.BagSource.state c.args.source.now) (λ known. part_last (g.S.Shelf.given c.args.shelf.now) first (folder (codes "data") ∷ []) c.in_ok-make_folder.ensures.whole
+    now (items_entries (g.B.BagSource.state c.args.source.now).all)
+    (subst (λ (left : List BagItem). IsBeginning now (first ++ items_entries left)) (c.in_ok-restart.ensures.left known) (c.in_err-given.ensures.part (c.in_ok-restart.ensures.known ∙ known))))
+
+pub returns-clause-told : goal.returns-clause-told
+returns-clause-told g c known = record {
+  digests_are = c.in_ok-given.ensures.digests (c.in_ok-restart.ensures.known ∙ known) ∙ ap (map item_digests) (c.in_ok-restart.ensures.left known);
+  bytes_are = c.in_ok-given.ensures.bytes (c.in_ok-restart.ensures.known ∙ known) ∙ ap (λ (items : List BagItem). bytes_in (items_entries items)) (c.in_ok-restart.ensures.left known);
+}
+
+pub returns-clause-kept : goal.returns-clause-kept
+returns-clause-kept g c = record {
+  known = c.in_ok-given.ensures.known ∙ c.in_ok-restart.ensures.known;
+  all = c.in_ok-given.ensures.all ∙ c.in_ok-restart.ensures.all;
+  tables = c.in_ok-given.ensures.tables ∙ c.in_ok-restart.ensures.tables;
+}

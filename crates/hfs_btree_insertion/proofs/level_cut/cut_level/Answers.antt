@@ -33,5 +33,5 @@ pub returns-clause-cut : goal.returns-clause-cut
 returns-clause-cut g c =
     on-ok _ _ c.cut_child.result
     (λ cut. cut-read g.K.Key c.args.key.now c.args.above c.in_ok-m.m (g.S.Nodes.nodes c.args.nodes.now) (g.S.Nodes.nodes c.claim_node.new.nodes) c.requires.sound c.in_ok-m.ensures.claimed c.requires.deep
-    c.node_at-parent.result c.place_in_index-place.result c.node_at-parent.new.bytes c.node_at-parent.ensures.node c.node_at-parent.ensures.bytes c.place_in_index-place.ensures _ g.met.K.Key.total c.requires.low cut)
+    c.node_at-parent.result c.place_in_index-place.result c.node_at-parent.new.bytes c.node_at-parent.ensures.node c.node_at-parent.ensures.bytes c.place_in_index-place.ensures c.args.len _ g.met.K.Key.total c.requires.low cut)
     c.cut_child.ensures.cut

@@ -5,7 +5,8 @@ use Rattle.hfs_btree_insertion.proofs.level_cut.cut_levels.Given as goal
 abbrev pub invariant-loop-above : goal.invariant-loop-above
 invariant-loop-above g l = record {
   most : l.above ≤ l.full;
-  down : HasCutDown g.K.Key l.key l.above l.full (g.S.Nodes.nodes l.fn.nodes) (g.S.Nodes.nodes l.nodes);
+  low : l.least ≤ l.above;
+  down : HasCutDown g.K.Key l.key l.len l.above l.full (g.S.Nodes.nodes l.fn.nodes) (g.S.Nodes.nodes l.nodes);
   kept : g.S.NodesMut.kept l.nodes ≡ g.S.NodesMut.kept l.fn.nodes;
 }
 

@@ -1,6 +1,7 @@
 use Rattle.std.proofs.Common.{◌-◌, sym, subst, arith, ap}
 use Rattle.hfs_btree.specs.declared.header.Header.{Header}
 use Rattle.hfs_btree_insertion.proofs.RoomyLeaves.{low-none, low-next, roomy}
+use Rattle.hfs_btree_insertion.proofs.IndexSearch.{rising-read}
 use Rattle.hfs_btree_insertion.proofs.WayTo.{IsAt, at-root, at-within, read-index, read-next}
 use Rattle.hfs_btree_insertion.proofs.roomy_leaf.roomy_leaf.Goals as goal
 
@@ -20,8 +21,8 @@ loop-here-init g c =
       bytes = c.read.ensures;
     }
 
-pub low_child-requires : goal.low_child-requires
-low_child-requires g c =
+pub low_child-requires-clause-index : goal.low_child-requires-clause-index
+low_child-requires-clause-index g c =
     read-index g.K.Key (g.N.Nodes.nodes c.args.nodes.now) c.args.key.now _ _ _ c.loop-here-test.true c.loop-here.invariant.at c.loop-here.invariant.bytes
 
 pub read-requires-in-loop-here : goal.read-requires-in-loop-here
@@ -47,3 +48,7 @@ returns-clause-roomy g c =
     let room = c.if-size_in-len-gt496.false in
     let size = c.size_in.ensures.size in
     roomy g.K.Key nodes c.args.key.now c.args.len c.loop-here.here c.loop-here.n c.loop-here.bytes (omega (arith, done)) i.at i.bytes i.low (omega (arith, room, size))
+
+pub low_child-requires-clause-rising : goal.low_child-requires-clause-rising
+low_child-requires-clause-rising g c =
+    rising-read g.K.Key (g.N.Nodes.nodes c.args.nodes.now) c.args.key.now c.requires.sound g.met.K.Key.total _ _ _ c.loop-here-test.true c.loop-here.invariant.at c.loop-here.invariant.bytes

@@ -8,5 +8,5 @@ use Rattle.hfs_collect.proofs.lines.image_line.Goals as goal
 pub returns : goal.returns
 unfolding image_line
 returns c =
-    let whole : string_bytes c.in_ok-line.line ≡ path_text c.args.path.now ++ (codes "\tvolumes " ++ (decimal c.args.counts.now.volumes ++ (codes "\trefused " ++ (decimal c.args.counts.now.refused ++ (codes "\tfiles " ++ (decimal c.args.counts.now.files ++ codes "\tdamaged 0\n")))))) = c.in_ok-line.ensures.ok in
+    let whole : string_bytes c.in_ok-line.line ≡ path_text c.args.path.now ++ (codes "\tvolumes " ++ (decimal c.args.counts.now.volumes ++ (codes "\trefused " ++ (decimal c.args.counts.now.refused ++ (codes "\tfiles " ++ (decimal c.args.counts.now.files ++ (codes "\tdamaged " ++ (decimal c.args.counts.now.damaged ++ codes "\n")))))))) = c.in_ok-line.ensures.ok in
     whole

@@ -1,16 +1,59 @@
 -- A beginning of the next volume's rows, or all of them.
-use Rattle.std.proofs.Common.{◌+◌}
+use Rattle.std.proofs.Common.{◌≡◌, ◌+◌, ◌++◌, refl, sym, subst, arith}
 use Rattle.hfs_sparse.proofs.Written.{on-err as on_err}
-use Rattle.hfs_collection.proofs.VolumesGoing.{volumes_next, volumes_part, volumes_within}
+use Rattle.hfs_containers.specs.Ranges.{bytes_in}
+use Rattle.hfs_needed.specs.Known.{OfKnown}
+use Rattle.hfs_rows.specs.Taken.{IsBeginning}
+use Rattle.hfs_collection.specs.declared.places.VolumePlace.{VolumePlace}
+use Rattle.hfs_collection.specs.Counts.{volume_counts}
+use Rattle.hfs_collection.specs.Volumes.{volume_rows}
+use Rattle.hfs_collection.proofs.Counting.{VolumesToCount, volumes_counted_first, volumes_counted_last, volumes_counted_next}
+use Rattle.hfs_collection.proofs.VolumesGoing.{volumes_first, volumes_last, volumes_next, volumes_part, volumes_within}
 use Rattle.hfs_collection.proofs.image.give_volumes.Goals as goal
 
-pub returns-in_err-given-clause-part : goal.returns-in_err-given-clause-part
-returns-in_err-given-clause-part g c =
-    on_err _ _ (volumes_within (g.F.ImageFile.known c.args.file.now) (g.S.ReadAt.known c.in_ok-source.source) c.in_ok-source.ensures c.args.len c.args.taken c.loop-i.i c.args.ranges.now _ c.loop-i-test.true
-    (g.T.RowTaker.given c.args.taker.now) (g.T.RowTaker.given c.loop-i.taker) (g.T.RowTaker.given c.give_volume.new.taker) c.loop-i.invariant c.in_err-given.ensures.part)
+pub returns-in_err-more-clause-part : goal.returns-in_err-more-clause-part
+returns-in_err-more-clause-part g c =
+    let known = g.F.ImageFile.known c.args.file.now in
+    let given = g.T.RowTaker.given c.loop-i.taker in
+    let new = g.T.RowTaker.given c.give_volume.new.taker in
+    on_err _ _ (volumes_within known known refl c.args.len c.args.taken c.loop-i.i c.args.ranges.now _ c.loop-i-test.true (g.T.RowTaker.given c.args.taker.now) given new c.loop-i.invariant.rows
+    (subst (λ (place : VolumePlace). OfKnown known c.args.len (λ file. IsBeginning new (given ++ volume_rows c.args.taken place (bytes_in place.range file)))) c.of-place.ensures c.in_err-more.ensures.part))
 
 pub returns-in_default-clause-part : goal.returns-in_default-clause-part
 returns-in_default-clause-part g c =
-    volumes_part (g.F.ImageFile.known c.args.file.now) c.args.len c.args.taken (c.loop-i.i + 1) c.args.ranges.now (g.T.RowTaker.given c.args.taker.now) (g.T.RowTaker.given c.give_volume.new.taker)
-    (volumes_next (g.F.ImageFile.known c.args.file.now) (g.S.ReadAt.known c.in_ok-source.source) c.in_ok-source.ensures c.args.len c.args.taken c.loop-i.i c.args.ranges.now _ c.loop-i-test.true
-    (g.T.RowTaker.given c.args.taker.now) (g.T.RowTaker.given c.loop-i.taker) (g.T.RowTaker.given c.give_volume.new.taker) c.loop-i.invariant c.in_ok-given.ensures.whole)
+    let known = g.F.ImageFile.known c.args.file.now in
+    let given = g.T.RowTaker.given c.loop-i.taker in
+    let new = g.T.RowTaker.given c.give_volume.new.taker in
+    volumes_part known c.args.len c.args.taken (c.loop-i.i + 1) c.args.ranges.now (g.T.RowTaker.given c.args.taker.now) new
+    (volumes_next known known refl c.args.len c.args.taken c.loop-i.i c.args.ranges.now _ c.loop-i-test.true (g.T.RowTaker.given c.args.taker.now) given new c.loop-i.invariant.rows
+    (subst (λ (place : VolumePlace). OfKnown known c.args.len (λ file. new ≡ given ++ volume_rows c.args.taken place (bytes_in place.range file))) c.of-place.ensures c.in_ok-more.ensures.whole))
+
+pub loop-i-preserved : goal.loop-i-preserved
+loop-i-preserved g c =
+    let known = g.F.ImageFile.known c.args.file.now in
+    let given = g.T.RowTaker.given c.loop-i.taker in
+    let new = g.T.RowTaker.given c.give_volume.new.taker in
+    record {
+      rows = volumes_next known known refl c.args.len c.args.taken c.loop-i.i c.args.ranges.now _ c.loop-i-test.true (g.T.RowTaker.given c.args.taker.now) given new c.loop-i.invariant.rows
+          (subst (λ (place : VolumePlace). OfKnown known c.args.len (λ file. new ≡ given ++ volume_rows c.args.taken place (bytes_in place.range file))) c.of-place.ensures c.in_ok-more.ensures.whole);
+      counted = volumes_counted_next known c.args.len c.loop-i.i c.args.ranges.now _ c.loop-i.counts c.in_ok-more.more c.in-Some.sum c.loop-i-test.true c.loop-i.invariant.counted
+          (subst (λ (place : VolumePlace). OfKnown known c.args.len (λ file. c.in_ok-more.more ≡ volume_counts (bytes_in place.range file))) c.of-place.ensures c.in_ok-more.ensures.counted)
+          c.in-Some.ensures;
+    }
+
+pub loop-i-init : goal.loop-i-init
+loop-i-init g c =
+    let known = g.F.ImageFile.known c.args.file.now in
+    record {
+      rows = volumes_first known c.args.len c.args.taken c.args.ranges.now (g.T.RowTaker.given c.args.taker.now);
+      counted = subst (VolumesToCount known c.args.len 0 c.args.ranges.now) (sym c.none-counts.ensures) (volumes_counted_first known c.args.len c.args.ranges.now);
+    }
+
+pub returns-clause-whole : goal.returns-clause-whole
+returns-clause-whole g c =
+    volumes_last (g.F.ImageFile.known c.args.file.now) c.args.len c.args.taken c.loop-i.i c.args.ranges.now (omega (arith, c.loop-i-test.false)) (g.T.RowTaker.given c.args.taker.now) (g.T.RowTaker.given c.loop-i.taker)
+    c.loop-i.invariant.rows
+
+pub returns-clause-counted : goal.returns-clause-counted
+returns-clause-counted g c =
+    volumes_counted_last (g.F.ImageFile.known c.args.file.now) c.args.len c.loop-i.i c.args.ranges.now c.loop-i.counts (omega (arith, c.loop-i-test.false)) c.loop-i.invariant.counted

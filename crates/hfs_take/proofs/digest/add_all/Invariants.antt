@@ -8,7 +8,7 @@ abbrev pub invariant-loop-place : goal.invariant-loop-place
 invariant-loop-place g l = record {
   few : l.place ≤ l.len;
   at : l.place < l.len → 512 * l.first ≡ l.place;
-  holds : IfSome l.fn.image.known (λ image. Holds256 l.digest (take l.place image));
+  holds : IfSome (g.B.ImageBlocks.bytes l.fn.image) (λ image. Holds256 l.digest (take l.place image));
   room : length l.buffer ≡ 65536;
   image : l.image ≡ l.fn.image;
 }

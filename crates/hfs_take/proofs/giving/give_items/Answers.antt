@@ -1,47 +1,88 @@
 -- What is given is the bag of the image.
-use Rattle.std.proofs.Common.{◌≡◌, List, ◌++◌, ap, refl, ◌∙◌}
+use Rattle.std.proofs.Common.{◌≡◌, List, ◌++◌, Option, ap, refl, sym, subst, ◌∙◌}
 use Rattle.hfs_bag.proofs.Growing.{on_err}
+use Rattle.hfs_bag.proofs.HalfLemmas.{bag_part, bag_whole}
 use Rattle.hfs_bag.specs.declared.facts.BagFacts.{BagFacts}
+use Rattle.hfs_bag.specs.Items.{BagItem}
+use Rattle.hfs_bag.specs.Payloads.{IsPayloadOf}
+use Rattle.hfs_bag.specs.Sums.{IsSumOf}
+use Rattle.hfs_image_items.specs.Sources.{source_of}
 use Rattle.hfs_names.specs.PlainTexts.{plain_text}
 use Rattle.hfs_shelves.specs.Entries.{IsBeginning, ShelfEntry}
-use Rattle.hfs_take.specs.Bags.{text_in}
-use Rattle.hfs_take.proofs.BagLemmas.{given-err, given-ok, nothing-given}
+use Rattle.hfs_take.specs.Bags.{IsReportText, text_in}
+use Rattle.hfs_take.proofs.BagLemmas.{items-known, nothing-given, of-known, payload-part}
+use Rattle.hfs_take.proofs.DigestLemmas.{made-told}
 use Rattle.hfs_take.proofs.ToldLemmas.{tells-items}
 use Rattle.hfs_take.proofs.giving.give_items.Goals as goal
 
 pub returns-in_err-identifier-clause-part : goal.returns-in_err-identifier-clause-part
 returns-in_err-identifier-clause-part g c = on_err _ (nothing-given c.args.items.now.image (text_in c.args.line) c.args.words.now (g.T.Shelf.given c.args.shelf.now))
 
+pub returns-in_err-first-clause-part : goal.returns-in_err-first-clause-part
+returns-in_err-first-clause-part g c =
+    let items = c.args.items.now in
+    on_err _ (payload-part items.image.known items.image.len (text_in c.args.line) c.args.words.now (g.T.Shelf.given c.args.shelf.now) (g.T.Shelf.given c.give_first.new.shelf)
+    c.in_err-first.ensures.part)
+
+pub give_tag_files-requires : goal.give_tag_files-requires
+give_tag_files-requires g c known =
+    subst (λ (all : List BagItem). IsPayloadOf c.in_ok-first.first.0 all) (sym c.in_ok-first.ensures.kept.all)
+    (c.in_ok-first.ensures.told (sym c.in_ok-first.ensures.kept.known ∙ known))
+
+pub returns-in_err-sums-clause-part : goal.returns-in_err-sums-clause-part
+returns-in_err-sums-clause-part g c =
+    let items = c.args.items.now in
+    let told = c.args.told in
+    let after = c.give_first.new.items in
+    let before = g.T.Shelf.given c.args.shelf.now in
+    let first = g.T.Shelf.given c.give_first.new.shelf in
+    let now = g.T.Shelf.given c.give_tag_files.new.shelf in
+    let facts : BagFacts = record {
+      identifier = c.as_str.result;
+      program = c.args.words.now.program;
+      image = c.as_str-2.result;
+      volume = c.args.line;
+      bytes = c.args.len;
+      digest = c.in_ok-first.first.1;
+      report = c.as_str-3.result;
+    } in
+    let tells = tells-items items.image c.args.len (text_in c.args.line) c.args.words.now facts items.root c.requires.len c.requires.root
+    (c.as_str.ensures.value ∙ c.in_ok-identifier.ensures ∙ ap plain_text c.bytes.ensures.bytes) refl (c.as_str-2.ensures.value ∙ c.requires.told.name_is) refl refl
+    (made-told g.S.BlockSource.image items.image.known c.args.len c.args.words.now.is_digested told.digest c.in_ok-first.first.1 c.requires.told.digest_is c.in_ok-first.ensures.digest)
+    (subst (IsReportText items.image.known c.args.len) (sym c.as_str-3.ensures.value) c.requires.told.report_is) in
+    on_err _ (of-known items.image.known items.image.len (text_in c.args.line) c.args.words.now facts items.rows.left items.came items.reading
+    (λ (bag : List ShelfEntry). IsBeginning now (before ++ bag)) tells
+    (bag_part before first now (source_of items.image items.rows.left items.came items.reading) (source_of after.image after.rows.left after.came after.reading) facts
+    c.in_ok-first.ensures.kept c.in_ok-first.ensures.whole c.in_err-sums.ensures.part))
+
 pub returns-clause-whole : goal.returns-clause-whole
 returns-clause-whole g c =
     let items = c.args.items.now in
+    let told = c.args.told in
+    let after = c.give_first.new.items in
+    let before = g.T.Shelf.given c.args.shelf.now in
+    let first = g.T.Shelf.given c.give_first.new.shelf in
+    let now = g.T.Shelf.given c.give_tag_files.new.shelf in
     let facts : BagFacts = record {
       identifier = c.as_str.result;
       program = c.args.words.now.program;
       image = c.as_str-2.result;
       volume = c.args.line;
       bytes = c.args.len;
-      digest = c.args.told.now.digest;
+      digest = c.in_ok-first.first.1;
       report = c.as_str-3.result;
     } in
-    let tells = tells-items items.image c.args.len (text_in c.args.line) c.args.words.now c.args.told.now facts items.root c.requires.len c.requires.root c.requires.told
-    (c.as_str.ensures.value ∙ c.in_ok-identifier.ensures ∙ ap plain_text c.bytes.ensures.bytes) refl c.as_str-2.ensures.value refl refl refl c.as_str-3.ensures.value in
-    given-ok c.give_bag.result items.image (text_in c.args.line) c.args.words.now facts items.rows.left items.came items.reading
-    (λ (bag : List ShelfEntry). g.T.Shelf.given c.give_bag.new.shelf ≡ g.T.Shelf.given c.args.shelf.now ++ bag) tells c.give_bag.ensures.whole
+    let tells = tells-items items.image c.args.len (text_in c.args.line) c.args.words.now facts items.root c.requires.len c.requires.root
+    (c.as_str.ensures.value ∙ c.in_ok-identifier.ensures ∙ ap plain_text c.bytes.ensures.bytes) refl (c.as_str-2.ensures.value ∙ c.requires.told.name_is) refl refl
+    (made-told g.S.BlockSource.image items.image.known c.args.len c.args.words.now.is_digested told.digest c.in_ok-first.first.1 c.requires.told.digest_is c.in_ok-first.ensures.digest)
+    (subst (IsReportText items.image.known c.args.len) (sym c.as_str-3.ensures.value) c.requires.told.report_is) in
+    of-known items.image.known items.image.len (text_in c.args.line) c.args.words.now facts items.rows.left items.came items.reading
+    (λ (bag : List ShelfEntry). now ≡ before ++ bag) tells
+    (bag_whole before first now (source_of items.image items.rows.left items.came items.reading) (source_of after.image after.rows.left after.came after.reading) facts
+    c.in_ok-first.ensures.kept c.in_ok-first.ensures.whole c.in_ok-sums.ensures.whole)
 
-pub returns-clause-part : goal.returns-clause-part
-returns-clause-part g c =
+pub returns-clause-sums : goal.returns-clause-sums
+returns-clause-sums g c =
     let items = c.args.items.now in
-    let facts : BagFacts = record {
-      identifier = c.as_str.result;
-      program = c.args.words.now.program;
-      image = c.as_str-2.result;
-      volume = c.args.line;
-      bytes = c.args.len;
-      digest = c.args.told.now.digest;
-      report = c.as_str-3.result;
-    } in
-    let tells = tells-items items.image c.args.len (text_in c.args.line) c.args.words.now c.args.told.now facts items.root c.requires.len c.requires.root c.requires.told
-    (c.as_str.ensures.value ∙ c.in_ok-identifier.ensures ∙ ap plain_text c.bytes.ensures.bytes) refl c.as_str-2.ensures.value refl refl refl c.as_str-3.ensures.value in
-    given-err c.give_bag.result items.image (text_in c.args.line) c.args.words.now facts items.rows.left items.came items.reading
-    (λ (bag : List ShelfEntry). IsBeginning (g.T.Shelf.given c.give_bag.new.shelf) (g.T.Shelf.given c.args.shelf.now ++ bag)) tells c.give_bag.ensures.part
+    items-known items.image.known items.image.len (IsSumOf c.in_ok-sums.sums) (λ known.
+    subst (IsSumOf c.in_ok-sums.sums) c.in_ok-first.ensures.kept.all (c.in_ok-sums.ensures.sums (c.in_ok-first.ensures.kept.known ∙ known)))

@@ -1,7 +1,5 @@
 use Rattle.std.proofs.Common.{◌≤◌, length, ap, ◌∙◌, arith}
-use Rattle.hfs_published.specs.declared.published.Published.{Published}
 use Rattle.hfs_published.specs.Histories.{Known}
-use Rattle.hfs_published.specs.Pairs.{PairState}
 use Rattle.hfs_published.specs.Tolds.{ToldState}
 use Rattle.hfs_published.proofs.Prefixes.{told_whole}
 use Rattle.hfs_published.proofs.pair.Pair.teach.Goals as goal
@@ -13,5 +11,4 @@ returns-clause-list g c =
     told_whole c.args.viewer.now.list c.new.result.list c.learn-2.new.self.list c.learn-2.ensures.longer c.learn-2.ensures.told le
     ∙ new_is
     ∙ ap (λ (k : Known). k.list) c.again-front.ensures
-    ∙ ap (λ (x : Published). x.front.list) c.published.ensures
-    ∙ ap (λ (p : PairState). p.shown) c.self.view_is
+    ∙ ap (λ (k : Known). k.list) c.published.ensures

@@ -1,0 +1,153 @@
+-- What calls change, which no byte of a fork decides.
+use Rattle.std.proofs.Common.{◌≡◌, ℕ, ◌+◌, Bool, true, false, List, ◌++◌, drop, Option, Some, None, Result, Ok, Err, refl, sym, ap, ◌∙◌}
+use Rattle.std.specs.Prelude.{ℤ}
+use Rattle.std.specs.FinMap as fin
+use Rattle.std.specs.Option.{option_map, option_map_or}
+use Rattle.hfs_model.specs.declared.item.Kind.{Kind}
+use Rattle.hfs_model.specs.declared.item.Kind.TheVariants.{Folder, File}
+use Rattle.hfs_model.specs.declared.reply.Value.TheVariants as value
+use Rattle.hfs_model.specs.Changes.{Outcome, touched, moved, with_lock, new_folder, new_file, new_item, changed_to, change, add, create, delete, rename, cat_move, set_f_info, set_cat_info, set_lock}
+use Rattle.hfs_model.specs.Children.{entry_at}
+use Rattle.hfs_model.specs.Choices.{to_create, to_delete, to_rename, to_move, to_set_f_info, to_set_cat_info, file_to_change}
+use Rattle.hfs_model.specs.FileIds.{with_thread, set_thread, to_create_file_id, to_delete_file_id, change_to_id, create_file_id, delete_file_id}
+use Rattle.hfs_model.specs.Replies.{success}
+use Rattle.hfs_model.specs.Volume.{Entry, Items, Volume}
+use Rattle.hfs_alike.specs.Alike.{bare_kind, bare_item, bare, bare_items, bare_volume}
+use Rattle.hfs_alike.proofs.BareEntries.{entry_at-bare, entries-bare, insert-bare, remove-bare}
+use Rattle.hfs_alike.proofs.BareChoices.{bare_choice, to_create-bare, to_delete-bare, to_rename-bare, to_move-bare, to_set_f_info-bare, to_set_cat_info-bare, file_to_change-bare, to_create_file_id-bare, to_delete_file_id-bare}
+
+-- an outcome with zeros in its volume's forks
+abbrev pub bare_outcome : (ℕ → Bool) → Outcome → Outcome
+bare_outcome keep o = (bare_volume keep o.0, o.1)
+
+pub file-plain : (kept : Bool) → bare_kind kept new_file ≡ new_file
+file-plain true = refl
+file-plain false = refl
+
+pub folder-plain : (kept : Bool) → bare_kind kept new_folder ≡ new_folder
+folder-plain true = refl
+folder-plain false = refl
+
+module _ (keep : ℕ → Bool) where
+  -- ---- changes of the items
+
+  touched-bare : (m : Items) (dir now : ℕ) → touched (bare_items keep m) dir now ≡ bare_items keep (touched m dir now)
+  touched-bare m dir now =
+      ap (λ (o : Option Entry). option_map_or (λ (e : Entry). fin.insert (bare_items keep m) e.0 (record e.1 { modified = now })) o (bare_items keep m))
+      (ap (λ (l : List Entry). entry_at l dir) (entries-bare keep m) ∙ entry_at-bare keep (fin.entries m) dir)
+      ∙ by (entry_at (fin.entries m) dir)
+    where
+      by : (o : Option Entry) → option_map_or (λ (e : Entry). fin.insert (bare_items keep m) e.0 (record e.1 { modified = now })) (option_map (bare keep) o) (bare_items keep m)
+          ≡ bare_items keep (option_map_or (λ (e : Entry). fin.insert m e.0 (record e.1 { modified = now })) o m)
+      by None = refl
+      by (Some e) = insert-bare keep m e.0 (record e.1 { modified = now })
+
+  lock-bare : (kept locked : Bool) (k : Kind) → with_lock locked (bare_kind kept k) ≡ bare_kind kept (with_lock locked k)
+  lock-bare true locked k = refl
+  lock-bare false locked (Folder kept) = refl
+  lock-bare false locked (File file) = refl
+
+  with_thread-bare : (kept there : Bool) (k : Kind) → with_thread there (bare_kind kept k) ≡ bare_kind kept (with_thread there k)
+  with_thread-bare true there k = refl
+  with_thread-bare false there (Folder kept) = refl
+  with_thread-bare false there (File file) = refl
+
+  entry_thread-bare : (there : Bool) (e : Entry) (m : Items) → set_thread there (bare keep e) (bare_items keep m) ≡ bare_items keep (set_thread there e m)
+  entry_thread-bare there e m =
+      ap (λ (k : Kind). fin.insert (bare_items keep m) e.0 (record (bare_item (keep e.0) e.1) { kind = k })) (with_thread-bare (keep e.0) there e.1.kind)
+      ∙ insert-bare keep m e.0 (record e.1 { kind = with_thread there e.1.kind })
+
+  -- ---- the outcome of a choice
+
+  module _ (v : Volume) (now : ℕ) where
+    change-bare : (s r : Result Entry ℤ) (make : Entry → Items → Items) → s ≡ bare_choice keep r
+        → ((e : Entry) → make (bare keep e) (bare_items keep v.items) ≡ bare_items keep (make e v.items)) → change (bare_volume keep v) s make now ≡ bare_outcome keep (change v r make now)
+    change-bare s r make chosen same = ap (λ (t : Result Entry ℤ). change (bare_volume keep v) t make now) chosen ∙ by r
+      where
+        by : (r : Result Entry ℤ) → change (bare_volume keep v) (bare_choice keep r) make now ≡ bare_outcome keep (change v r make now)
+        by (Ok e) = ap (λ (items : Items). (changed_to (bare_volume keep v) items now, success value.Nothing)) (same e)
+        by (Err code) = refl
+
+    id-bare : (s r : Result Entry ℤ) (make : Entry → Items → Items) → s ≡ bare_choice keep r
+        → ((e : Entry) → make (bare keep e) (bare_items keep v.items) ≡ bare_items keep (make e v.items))
+        → change_to_id (bare_volume keep v) s make now ≡ bare_outcome keep (change_to_id v r make now)
+    id-bare s r make chosen same = ap (λ (t : Result Entry ℤ). change_to_id (bare_volume keep v) t make now) chosen ∙ by r
+      where
+        by : (r : Result Entry ℤ) → change_to_id (bare_volume keep v) (bare_choice keep r) make now ≡ bare_outcome keep (change_to_id v r make now)
+        by (Ok e) = ap (λ (items : Items). (changed_to (bare_volume keep v) items now, success (value.Id e.0))) (same e)
+        by (Err code) = refl
+
+    add-bare : (s r : Result ℕ ℤ) (make : ℕ → Items → Items) → s ≡ r → ((id : ℕ) → make id (bare_items keep v.items) ≡ bare_items keep (make id v.items))
+        → add (bare_volume keep v) s make now ≡ bare_outcome keep (add v r make now)
+    add-bare s r make chosen same = ap (λ (t : Result ℕ ℤ). add (bare_volume keep v) t make now) chosen ∙ by r
+      where
+        by : (r : Result ℕ ℤ) → add (bare_volume keep v) r make now ≡ bare_outcome keep (add v r make now)
+        by (Ok id) = ap (λ (items : Items). (record (changed_to (bare_volume keep v) items now) { next_id = v.next_id + 1 }, success (value.Id id))) (same id)
+        by (Err code) = refl
+
+    -- ---- the calls
+
+    pub create-bare : (kind : Kind) → ((kept : Bool) → bare_kind kept kind ≡ kind) → (dir : ℕ) (name : List ℕ)
+        → create kind (bare_volume keep v) dir name now ≡ bare_outcome keep (create kind v dir name now)
+    unfolding create
+    create-bare kind plain dir name =
+        let x = new_item kind dir name now in
+        add-bare (to_create (bare_volume keep v) dir name) (to_create v dir name) (λ id m. touched (fin.insert m id x) dir now) (to_create-bare keep v dir name)
+        (λ id. ap (λ (k : Kind). touched (fin.insert (bare_items keep v.items) id (new_item k dir name now)) dir now) (sym (plain (keep id)))
+        ∙ ap (λ (m : Items). touched m dir now) (insert-bare keep v.items id x) ∙ touched-bare (fin.insert v.items id x) dir now)
+
+    pub delete-bare : (dir : ℕ) (name : List ℕ) → delete (bare_volume keep v) dir name now ≡ bare_outcome keep (delete v dir name now)
+    unfolding delete
+    delete-bare dir name =
+        change-bare (to_delete (bare_volume keep v) dir name) (to_delete v dir name) (λ e m. touched (fin.remove m e.0) dir now) (to_delete-bare keep v dir name)
+        (λ e. ap (λ (m : Items). touched m dir now) (remove-bare keep v.items e.0) ∙ touched-bare (fin.remove v.items e.0) dir now)
+
+    pub rename-bare : (dir : ℕ) (name new_name : List ℕ) → rename (bare_volume keep v) dir name new_name now ≡ bare_outcome keep (rename v dir name new_name now)
+    unfolding rename
+    rename-bare dir name new_name =
+        change-bare (to_rename (bare_volume keep v) dir name new_name) (to_rename v dir name new_name) (λ e m. fin.insert m e.0 (record e.1 { name = new_name }))
+        (to_rename-bare keep v dir name new_name) (λ e. insert-bare keep v.items e.0 (record e.1 { name = new_name }))
+
+    pub cat_move-bare : (dir : ℕ) (name : List ℕ) (new_dir : ℕ) → cat_move (bare_volume keep v) dir name new_dir now ≡ bare_outcome keep (cat_move v dir name new_dir now)
+    unfolding cat_move
+    cat_move-bare dir name new_dir =
+        change-bare (to_move (bare_volume keep v) dir name new_dir) (to_move v dir name new_dir) (λ e m. moved m e dir new_dir now) (to_move-bare keep v dir name new_dir)
+        (λ e.
+        let there = fin.insert v.items e.0 (record e.1 { parent = new_dir }) in
+        ap (λ (m : Items). touched (touched m dir now) new_dir now) (insert-bare keep v.items e.0 (record e.1 { parent = new_dir }))
+        ∙ ap (λ (m : Items). touched m new_dir now) (touched-bare there dir now) ∙ touched-bare (touched there dir now) new_dir now)
+
+    pub set_f_info-bare : (dir : ℕ) (name info : List ℕ) → set_f_info (bare_volume keep v) dir name info now ≡ bare_outcome keep (set_f_info v dir name info now)
+    unfolding set_f_info
+    set_f_info-bare dir name info =
+        change-bare (to_set_f_info (bare_volume keep v) dir name) (to_set_f_info v dir name)
+        (λ e m. fin.insert m e.0 (record e.1 { finder = info ++ drop 16 e.1.finder })) (to_set_f_info-bare keep v dir name)
+        (λ e. insert-bare keep v.items e.0 (record e.1 { finder = info ++ drop 16 e.1.finder }))
+
+    pub set_cat_info-bare : (dir : ℕ) (name : List ℕ) (created modified backup : ℕ) (info : List ℕ)
+        → set_cat_info (bare_volume keep v) dir name created modified backup info now ≡ bare_outcome keep (set_cat_info v dir name created modified backup info now)
+    unfolding set_cat_info
+    set_cat_info-bare dir name created modified backup info =
+        change-bare (to_set_cat_info (bare_volume keep v) dir name) (to_set_cat_info v dir name)
+        (λ e m. fin.insert m e.0 (record e.1 { created = created; modified = modified; backup = backup; finder = info })) (to_set_cat_info-bare keep v dir name)
+        (λ e. insert-bare keep v.items e.0 (record e.1 { created = created; modified = modified; backup = backup; finder = info }))
+
+    pub set_lock-bare : (locked : Bool) (dir : ℕ) (name : List ℕ) → set_lock locked (bare_volume keep v) dir name now ≡ bare_outcome keep (set_lock locked v dir name now)
+    unfolding set_lock
+    set_lock-bare locked dir name =
+        change-bare (file_to_change (bare_volume keep v) dir name) (file_to_change v dir name)
+        (λ e m. fin.insert m e.0 (record e.1 { kind = with_lock locked e.1.kind })) (file_to_change-bare keep v dir name)
+        (λ e. ap (λ (k : Kind). fin.insert (bare_items keep v.items) e.0 (record (bare_item (keep e.0) e.1) { kind = k })) (lock-bare (keep e.0) locked e.1.kind)
+        ∙ insert-bare keep v.items e.0 (record e.1 { kind = with_lock locked e.1.kind }))
+
+    pub create_file_id-bare : (dir : ℕ) (name : List ℕ) → create_file_id (bare_volume keep v) dir name now ≡ bare_outcome keep (create_file_id v dir name now)
+    unfolding create_file_id
+    create_file_id-bare dir name =
+        id-bare (to_create_file_id (bare_volume keep v) dir name) (to_create_file_id v dir name) (set_thread true) (to_create_file_id-bare keep v dir name)
+        (λ e. entry_thread-bare true e v.items)
+
+    pub delete_file_id-bare : (id : ℕ) → delete_file_id (bare_volume keep v) id now ≡ bare_outcome keep (delete_file_id v id now)
+    unfolding delete_file_id
+    delete_file_id-bare id =
+        change-bare (to_delete_file_id (bare_volume keep v) id) (to_delete_file_id v id) (set_thread false) (to_delete_file_id-bare keep v id)
+        (λ e. entry_thread-bare false e v.items)

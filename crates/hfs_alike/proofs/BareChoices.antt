@@ -1,0 +1,220 @@
+-- What calls choose, which no byte of a fork decides.
+use Rattle.std.proofs.Common.{◌≡◌, ℕ, zero, suc, Bool, true, false, cond, List, length, map, Option, Some, None, is_some, Result, Ok, Err, refl, ap, ◌∙◌}
+use Rattle.std.specs.Prelude.{ℤ, not, ◌&&◌, ◌||◌, ◌==◌, nat_lt, if◌then◌else◌, find}
+use Rattle.std.specs.Option.{option_map, option_map_or, ok_or}
+use Rattle.std.proofs.lemmas.List.{length-map}
+use Rattle.hfs_fields.specs.Names.{is_item_name}
+use Rattle.hfs_model.specs.declared.codes.TheConstants.{FOLDER_FULL, BAD_NAME, NOT_FOUND, FILE_LOCKED, BUSY, DUPLICATE, NOT_A_FOLDER, BAD_MOVE, FILE_ID_NOT_FOUND, FILE_ID_EXISTS, NOT_A_FILE}
+use Rattle.hfs_model.specs.Children.{is_folder, is_folder_kind, child_named, valence, entries_of, entry_at}
+use Rattle.hfs_model.specs.Choices.{and_then, is_locked, lock_code, is_busy, is_full, is_held, is_other_named, is_taken, lies_in, is_bad_move, child_to_change, file_to_change, unless_locked_file, to_create, to_delete, to_rename, to_move, to_set_f_info, to_set_cat_info}
+use Rattle.hfs_model.specs.FileIds.{unless_has_thread, if_has_thread, file_of_id, to_create_file_id, to_delete_file_id, place_reply}
+use Rattle.hfs_model.specs.Replies.{is_locked_file, has_thread}
+use Rattle.hfs_model.specs.Volume.{Entry, Volume}
+use Rattle.hfs_alike.specs.Alike.{bare, bare_volume}
+use Rattle.hfs_alike.proofs.BareEntries.{folder-bare, locked-bare, thread-bare, find-bare, or-bare, some-bare, entry_at-bare, child_named-bare, is_folder-bare, valence-bare, entries-bare}
+
+-- the chosen entry with zeros in its forks
+abbrev pub bare_choice : (ℕ → Bool) → Result Entry ℤ → Result Entry ℤ
+bare_choice keep (Ok e) = Ok (bare keep e)
+bare_choice keep (Err code) = Err code
+
+module _ (keep : ℕ → Bool) where
+  -- ---- choices one behind the other
+
+  err-or : (b : Bool) (code : ℤ) (r s : Result Entry ℤ) → r ≡ bare_choice keep s → cond b (Err code) r ≡ bare_choice keep (cond b (Err code) s)
+  err-or true code r s same = refl
+  err-or false code r s same = same
+
+  ok-bare : (o : Option Entry) (code : ℤ) → ok_or (option_map (bare keep) o) code ≡ bare_choice keep (ok_or o code)
+  ok-bare None code = refl
+  ok-bare (Some e) code = refl
+
+  then-bare : (r : Result Entry ℤ) (f g : Entry → Result Entry ℤ) → ((e : Entry) → f (bare keep e) ≡ bare_choice keep (g e)) → and_then (bare_choice keep r) f ≡ bare_choice keep (and_then r g)
+  then-bare (Ok e) f g same = same e
+  then-bare (Err code) f g same = refl
+
+  -- ---- tests of one entry
+
+  unless_locked-bare : (e : Entry) → unless_locked_file (bare keep e) ≡ bare_choice keep (unless_locked_file e)
+  unless_locked-bare e =
+      ap (λ (b : Bool). cond b (Err FILE_LOCKED) (Ok (bare keep e))) (locked-bare (keep e.0) e.1.kind) ∙ err-or (is_locked_file e.1.kind) FILE_LOCKED (Ok (bare keep e)) (Ok e) refl
+
+  unless_folder-bare : (code : ℤ) (e : Entry) (r s : Result Entry ℤ) → r ≡ bare_choice keep s
+      → cond (is_folder_kind (bare keep e).1.kind) (Err code) r ≡ bare_choice keep (cond (is_folder_kind e.1.kind) (Err code) s)
+  unless_folder-bare code e r s same =
+      ap (λ (b : Bool). cond b (Err code) r) (folder-bare (keep e.0) e.1.kind) ∙ err-or (is_folder_kind e.1.kind) code r s same
+
+  unless_thread-bare : (e : Entry) → unless_has_thread (bare keep e) ≡ bare_choice keep (unless_has_thread e)
+  unless_thread-bare e = unless_folder-bare NOT_A_FILE e (cond (has_thread (bare keep e).1.kind) (Err FILE_ID_EXISTS) (Ok (bare keep e)))
+      (cond (has_thread e.1.kind) (Err FILE_ID_EXISTS) (Ok e))
+      (ap (λ (b : Bool). cond b (Err FILE_ID_EXISTS) (Ok (bare keep e))) (thread-bare (keep e.0) e.1.kind) ∙ err-or (has_thread e.1.kind) FILE_ID_EXISTS (Ok (bare keep e)) (Ok e) refl)
+
+  or-err : (b : Bool) (code : ℤ) (r s : Result Entry ℤ) → r ≡ bare_choice keep s → cond b r (Err code) ≡ bare_choice keep (cond b s (Err code))
+  or-err true code r s same = same
+  or-err false code r s same = refl
+
+  if_thread-bare : (e : Entry) → if_has_thread (bare keep e) ≡ bare_choice keep (if_has_thread e)
+  if_thread-bare e = unless_folder-bare NOT_A_FILE e (cond (has_thread (bare keep e).1.kind) (Ok (bare keep e)) (Err FILE_ID_NOT_FOUND))
+      (cond (has_thread e.1.kind) (Ok e) (Err FILE_ID_NOT_FOUND))
+      (ap (λ (b : Bool). cond b (Ok (bare keep e)) (Err FILE_ID_NOT_FOUND)) (thread-bare (keep e.0) e.1.kind) ∙ or-err (has_thread e.1.kind) FILE_ID_NOT_FOUND (Ok (bare keep e)) (Ok e) refl)
+
+  pub file_of_id-bare : (es : List Entry) (id : ℕ) → file_of_id (map (bare keep) es) id ≡ bare_choice keep (file_of_id es id)
+  unfolding file_of_id
+  file_of_id-bare es id =
+      ap (λ (o : Option Entry). and_then (ok_or o FILE_ID_NOT_FOUND) if_has_thread) (entry_at-bare keep es id)
+      ∙ ap (λ (r : Result Entry ℤ). and_then r if_has_thread) (ok-bare (entry_at es id) FILE_ID_NOT_FOUND)
+      ∙ then-bare (ok_or (entry_at es id) FILE_ID_NOT_FOUND) if_has_thread if_has_thread if_thread-bare
+
+  pub place-reply-bare : (r : Result Entry ℤ) → place_reply (bare_choice keep r) ≡ place_reply r
+  place-reply-bare (Ok e) = refl
+  place-reply-bare (Err code) = refl
+
+  -- ---- tests of a volume
+
+  lies_in-bare : (es : List Entry) (n id up : ℕ) → lies_in (map (bare keep) es) n id up ≡ lies_in es n id up
+  unfolding lies_in
+  lies_in-bare es zero id up = refl
+  lies_in-bare es (suc n) id up =
+      ap (λ (b : Bool). (id == up) || b)
+      (ap (λ (o : Option Entry). option_map_or (λ (e : Entry). lies_in (map (bare keep) es) n e.1.parent up) o false) (entry_at-bare keep es id)
+      ∙ or-bare keep (λ (e : Entry). lies_in (map (bare keep) es) n e.1.parent up) (λ (e : Entry). lies_in es n e.1.parent up) (λ e. lies_in-bare es n e.1.parent up)
+      (entry_at es id) false)
+
+  module _ (v : Volume) where
+    abbrev es : List Entry
+    es = entries_of v
+
+    pub are : entries_of (bare_volume keep v) ≡ map (bare keep) es
+    are = entries-bare keep v.items
+
+    folder-is : (dir : ℕ) → is_folder (entries_of (bare_volume keep v)) dir ≡ is_folder es dir
+    folder-is dir = ap (λ (l : List Entry). is_folder l dir) are ∙ is_folder-bare keep es dir
+
+    valence-is : (dir : ℕ) → valence (entries_of (bare_volume keep v)) dir ≡ valence es dir
+    valence-is dir = ap (λ (l : List Entry). valence l dir) are ∙ valence-bare keep es dir
+
+    held-is : (dir : ℕ) (name : List ℕ) → is_held (entries_of (bare_volume keep v)) dir name ≡ is_held es dir name
+    unfolding is_held
+    held-is dir name =
+        ap (λ (l : List Entry). is_some (child_named l dir name)) are ∙ ap (λ (o : Option Entry). is_some o) (child_named-bare keep es dir name)
+        ∙ some-bare keep (child_named es dir name)
+
+    taken-is : (dir : ℕ) (name : List ℕ) (id : ℕ) → is_taken (entries_of (bare_volume keep v)) dir name id ≡ is_taken es dir name id
+    unfolding is_taken
+    taken-is dir name id =
+        ap (λ (l : List Entry). is_some (find (is_other_named dir name id) l)) are
+        ∙ ap (λ (o : Option Entry). is_some o) (find-bare keep (is_other_named dir name id) (λ e. refl) es) ∙ some-bare keep (find (is_other_named dir name id) es)
+
+    full-is : (dir : ℕ) → is_full (entries_of (bare_volume keep v)) dir ≡ is_full es dir
+    unfolding is_full
+    full-is dir = ap (λ (n : ℕ). not (nat_lt n 65535)) (valence-is dir)
+
+    busy-is : (e : Entry) → is_busy (entries_of (bare_volume keep v)) (bare keep e) ≡ is_busy es e
+    unfolding is_busy
+    busy-is e = λ i. folder-bare (keep e.0) e.1.kind i && nat_lt 0 (valence-is e.0 i)
+
+    bad-is : (e : Entry) (dir : ℕ) → is_bad_move (entries_of (bare_volume keep v)) (bare keep e) dir ≡ is_bad_move es e dir
+    unfolding is_bad_move
+    bad-is e dir =
+        let lies = (λ i. lies_in (are i) (length (are i)) dir e.0) ∙ ap (λ (n : ℕ). lies_in (map (bare keep) es) n dir e.0) (length-map es (bare keep)) ∙ lies_in-bare es (length es) dir e.0 in
+        λ i. folder-bare (keep e.0) e.1.kind i && lies i
+
+    -- ---- the choices
+
+    pub child_to_change-bare : (dir : ℕ) (name : List ℕ) → child_to_change (bare_volume keep v) dir name ≡ bare_choice keep (child_to_change v dir name)
+    unfolding child_to_change
+    child_to_change-bare dir name =
+        let found = ok_or (child_named (entries_of (bare_volume keep v)) dir name) NOT_FOUND in
+        let here = ok_or (child_named es dir name) NOT_FOUND in
+        let same : found ≡ bare_choice keep here =
+        ap (λ (l : List Entry). ok_or (child_named l dir name) NOT_FOUND) are ∙ ap (λ (o : Option Entry). ok_or o NOT_FOUND) (child_named-bare keep es dir name)
+        ∙ ok-bare (child_named es dir name) NOT_FOUND in
+        let behind : cond (not (is_folder (entries_of (bare_volume keep v)) dir)) (Err NOT_A_FOLDER) found
+        ≡ bare_choice keep (cond (not (is_folder es dir)) (Err NOT_A_FOLDER) here) =
+        ap (λ (b : Bool). cond (not b) (Err NOT_A_FOLDER) found) (folder-is dir) ∙ err-or (not (is_folder es dir)) NOT_A_FOLDER found here same in
+        err-or (is_locked v) (lock_code v) (cond (not (is_item_name name)) (Err BAD_NAME) (cond (not (is_folder (entries_of (bare_volume keep v)) dir)) (Err NOT_A_FOLDER) found))
+        (cond (not (is_item_name name)) (Err BAD_NAME) (cond (not (is_folder es dir)) (Err NOT_A_FOLDER) here))
+        (err-or (not (is_item_name name)) BAD_NAME (cond (not (is_folder (entries_of (bare_volume keep v)) dir)) (Err NOT_A_FOLDER) found)
+        (cond (not (is_folder es dir)) (Err NOT_A_FOLDER) here) behind)
+
+    -- a choice behind that one
+    behind-child : (dir : ℕ) (name : List ℕ) (f g : Entry → Result Entry ℤ) → ((e : Entry) → f (bare keep e) ≡ bare_choice keep (g e))
+        → and_then (child_to_change (bare_volume keep v) dir name) f ≡ bare_choice keep (and_then (child_to_change v dir name) g)
+    behind-child dir name f g same =
+        ap (λ (r : Result Entry ℤ). and_then r f) (child_to_change-bare dir name) ∙ then-bare (child_to_change v dir name) f g same
+
+    pub file_to_change-bare : (dir : ℕ) (name : List ℕ) → file_to_change (bare_volume keep v) dir name ≡ bare_choice keep (file_to_change v dir name)
+    unfolding file_to_change
+    file_to_change-bare dir name =
+        behind-child dir name (λ e. if is_folder_kind e.1.kind then Err NOT_FOUND else Ok e) (λ e. if is_folder_kind e.1.kind then Err NOT_FOUND else Ok e)
+        (λ e. unless_folder-bare NOT_FOUND e (Ok (bare keep e)) (Ok e) refl)
+
+    pub to_create-bare : (dir : ℕ) (name : List ℕ) → to_create (bare_volume keep v) dir name ≡ to_create v dir name
+    unfolding to_create
+    to_create-bare dir name = λ i.
+        if is_locked v then Err (lock_code v)
+        else if not (is_item_name name) then Err BAD_NAME
+        else if not (folder-is dir i) then Err NOT_A_FOLDER
+        else if held-is dir name i then Err DUPLICATE
+        else if full-is dir i || (v.next_id == 4294967295) then Err FOLDER_FULL
+        else Ok v.next_id
+
+    pub to_delete-bare : (dir : ℕ) (name : List ℕ) → to_delete (bare_volume keep v) dir name ≡ bare_choice keep (to_delete v dir name)
+    unfolding to_delete
+    to_delete-bare dir name =
+        behind-child dir name (λ e. if is_busy (entries_of (bare_volume keep v)) e then Err BUSY else unless_locked_file e)
+        (λ e. if is_busy es e then Err BUSY else unless_locked_file e)
+        (λ e. ap (λ (b : Bool). cond b (Err BUSY) (unless_locked_file (bare keep e))) (busy-is e)
+        ∙ err-or (is_busy es e) BUSY (unless_locked_file (bare keep e)) (unless_locked_file e) (unless_locked-bare e))
+
+    pub to_rename-bare : (dir : ℕ) (name new_name : List ℕ) → to_rename (bare_volume keep v) dir name new_name ≡ bare_choice keep (to_rename v dir name new_name)
+    unfolding to_rename
+    to_rename-bare dir name new_name =
+        let free = λ (l : List Entry) (e : Entry). cond (is_taken l dir new_name e.0) (Err DUPLICATE) (Ok e) in
+        let here = and_then (child_to_change v dir name) unless_locked_file in
+        let there = and_then (child_to_change (bare_volume keep v) dir name) unless_locked_file in
+        let same : there ≡ bare_choice keep here = behind-child dir name unless_locked_file unless_locked_file unless_locked-bare in
+        let last : and_then there (free (entries_of (bare_volume keep v))) ≡ bare_choice keep (and_then here (free es)) =
+        ap (λ (r : Result Entry ℤ). and_then r (free (entries_of (bare_volume keep v)))) same
+        ∙ then-bare here (free (entries_of (bare_volume keep v))) (free es) (λ e. ap (λ (b : Bool). cond b (Err DUPLICATE) (Ok (bare keep e))) (taken-is dir new_name e.0)
+        ∙ err-or (is_taken es dir new_name e.0) DUPLICATE (Ok (bare keep e)) (Ok e) refl) in
+        err-or (is_locked v) (lock_code v) (cond (not (is_item_name new_name)) (Err BAD_NAME) (and_then there (free (entries_of (bare_volume keep v)))))
+        (cond (not (is_item_name new_name)) (Err BAD_NAME) (and_then here (free es)))
+        (err-or (not (is_item_name new_name)) BAD_NAME (and_then there (free (entries_of (bare_volume keep v)))) (and_then here (free es)) last)
+
+    pub to_move-bare : (dir : ℕ) (name : List ℕ) (new_dir : ℕ) → to_move (bare_volume keep v) dir name new_dir ≡ bare_choice keep (to_move v dir name new_dir)
+    unfolding to_move
+    to_move-bare dir name new_dir =
+        let place = λ (folder bad held full : Bool) (e : Entry).
+        cond (not folder) (Err NOT_A_FOLDER) (cond bad (Err BAD_MOVE) (cond held (Err DUPLICATE) (cond full (Err FOLDER_FULL) (Ok e)))) in
+        let placed = λ (l : List Entry) (e : Entry). place (is_folder l new_dir) (is_bad_move l e new_dir) (is_held l new_dir name) (is_full l new_dir) e in
+        behind-child dir name (placed (entries_of (bare_volume keep v))) (placed es)
+        (λ e.
+        let bad = is_bad_move es e new_dir in
+        let held = is_held es new_dir name in
+        let full = is_full es new_dir in
+        (λ i. place (folder-is new_dir i) (bad-is e new_dir i) (held-is new_dir name i) (full-is new_dir i) (bare keep e))
+        ∙ err-or (not (is_folder es new_dir)) NOT_A_FOLDER (cond bad (Err BAD_MOVE) (cond held (Err DUPLICATE) (cond full (Err FOLDER_FULL) (Ok (bare keep e)))))
+        (cond bad (Err BAD_MOVE) (cond held (Err DUPLICATE) (cond full (Err FOLDER_FULL) (Ok e))))
+        (err-or bad BAD_MOVE (cond held (Err DUPLICATE) (cond full (Err FOLDER_FULL) (Ok (bare keep e)))) (cond held (Err DUPLICATE) (cond full (Err FOLDER_FULL) (Ok e)))
+        (err-or held DUPLICATE (cond full (Err FOLDER_FULL) (Ok (bare keep e))) (cond full (Err FOLDER_FULL) (Ok e))
+        (err-or full FOLDER_FULL (Ok (bare keep e)) (Ok e) refl))))
+
+    pub to_set_f_info-bare : (dir : ℕ) (name : List ℕ) → to_set_f_info (bare_volume keep v) dir name ≡ bare_choice keep (to_set_f_info v dir name)
+    unfolding to_set_f_info
+    to_set_f_info-bare dir name =
+        ap (λ (r : Result Entry ℤ). and_then r unless_locked_file) (file_to_change-bare dir name)
+        ∙ then-bare (file_to_change v dir name) unless_locked_file unless_locked_file unless_locked-bare
+
+    pub to_set_cat_info-bare : (dir : ℕ) (name : List ℕ) → to_set_cat_info (bare_volume keep v) dir name ≡ bare_choice keep (to_set_cat_info v dir name)
+    unfolding to_set_cat_info
+    to_set_cat_info-bare dir name = behind-child dir name unless_locked_file unless_locked_file unless_locked-bare
+
+    pub to_create_file_id-bare : (dir : ℕ) (name : List ℕ) → to_create_file_id (bare_volume keep v) dir name ≡ bare_choice keep (to_create_file_id v dir name)
+    unfolding to_create_file_id
+    to_create_file_id-bare dir name = behind-child dir name unless_has_thread unless_has_thread unless_thread-bare
+
+    pub to_delete_file_id-bare : (id : ℕ) → to_delete_file_id (bare_volume keep v) id ≡ bare_choice keep (to_delete_file_id v id)
+    unfolding to_delete_file_id
+    to_delete_file_id-bare id = err-or (is_locked v) (lock_code v) (file_of_id (entries_of (bare_volume keep v)) id) (file_of_id es id)
+        (ap (λ (l : List Entry). file_of_id l id) are ∙ file_of_id-bare es id)

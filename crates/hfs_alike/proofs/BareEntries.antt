@@ -1,0 +1,190 @@
+-- Entries with zeros in their forks: what is found among them is what is found among the entries themselves.
+use Rattle.std.proofs.Common.{◌≡◌, ℕ, ◌+◌, Bool, true, false, cond, List, [], ◌∷◌, length, map, Option, Some, None, is_some, refl, sym, ap, subst, ◌∙◌}
+use Rattle.std.specs.Prelude.{T, find, fold, ◌&&◌}
+use Rattle.std.specs.declared.cmp.Ordering.{Ordering}
+use Rattle.std.specs.declared.cmp.Ordering.TheVariants.{Less, Equal, Greater}
+use Rattle.std.specs.Cmp.{nat_cmp_total}
+use Rattle.std.specs.FinMap as fin
+use Rattle.std.specs.FinMap.{nat_cmp-IsAntisymmetric}
+use Rattle.std.specs.FinMap.Entries as entries
+use Rattle.std.specs.Option.{option_map, option_map_or}
+use Rattle.std.specs.Ordering.{nat_cmp, is_eq, is_lt, is_gt, eq_by_cmp}
+use Rattle.std.proofs.lemmas.List.{length-replicate}
+use Rattle.std.proofs.lemmas.List.Sums.{sum_by-cons}
+use Rattle.hfs_fields.specs.Order.{name_cmp}
+use Rattle.hfs_model.specs.declared.item.Item.{Item}
+use Rattle.hfs_model.specs.declared.item.Kind.{Kind}
+use Rattle.hfs_model.specs.declared.item.Kind.TheVariants.{Folder, File}
+use Rattle.hfs_model.specs.Children.{is_folder_kind, has_id, entry_at, is_folder, is_child, is_child_named, child_named, valence, place, place_child, children}
+use Rattle.hfs_model.specs.Replies.{data_of, resource_of, has_thread, is_locked_file, item_kind_of}
+use Rattle.hfs_model.specs.Volume.{Entry, Items}
+use Rattle.hfs_alike.specs.Alike.{bare_kind, bare_item, bare, bare_items}
+
+-- ---- what a kind tells
+
+-- ---- what a kind tells
+
+pub folder-bare : (kept : Bool) (k : Kind) → is_folder_kind (bare_kind kept k) ≡ is_folder_kind k
+folder-bare true k = refl
+folder-bare false (Folder kept) = refl
+folder-bare false (File file) = refl
+
+pub kind-bare : (kept : Bool) (k : Kind) → item_kind_of (bare_kind kept k) ≡ item_kind_of k
+kind-bare true k = refl
+kind-bare false (Folder kept) = refl
+kind-bare false (File file) = refl
+
+pub locked-bare : (kept : Bool) (k : Kind) → is_locked_file (bare_kind kept k) ≡ is_locked_file k
+locked-bare true k = refl
+locked-bare false (Folder kept) = refl
+locked-bare false (File file) = refl
+
+pub thread-bare : (kept : Bool) (k : Kind) → has_thread (bare_kind kept k) ≡ has_thread k
+thread-bare true k = refl
+thread-bare false (Folder kept) = refl
+thread-bare false (File file) = refl
+
+pub data-bare : (kept : Bool) (k : Kind) → length (data_of (bare_kind kept k)) ≡ length (data_of k)
+data-bare true k = refl
+data-bare false (Folder kept) = refl
+data-bare false (File file) = length-replicate {A = ℕ} (length file.«data») 0
+
+pub resource-bare : (kept : Bool) (k : Kind) → length (resource_of (bare_kind kept k)) ≡ length (resource_of k)
+resource-bare true k = refl
+resource-bare false (Folder kept) = refl
+resource-bare false (File file) = length-replicate {A = ℕ} (length file.resource) 0
+
+module _ (keep : ℕ → Bool) where
+  -- ---- what is found
+
+  pub find-bare : (p : Entry → Bool) → ((e : Entry) → p (bare keep e) ≡ p e) → (es : List Entry) → find p (map (bare keep) es) ≡ option_map (bare keep) (find p es)
+  find-bare p same [] = refl
+  find-bare p same (e ∷ es) =
+      ap (λ (b : Bool). cond b (Some (bare keep e)) (find p (map (bare keep) es))) (same e)
+      ∙ elim (p e) as (λ (b : Bool). cond b (Some (bare keep e)) (find p (map (bare keep) es)) ≡ option_map (bare keep) (cond b (Some e) (find p es))) [
+        | true ↦ refl
+        | false ↦ find-bare p same es
+      ]
+
+  pub or-bare : {B : Type 0} (f g : Entry → B) → ((e : Entry) → f (bare keep e) ≡ g e) → (o : Option Entry) (d : B) → option_map_or f (option_map (bare keep) o) d ≡ option_map_or g o d
+  or-bare f g same None d = refl
+  or-bare f g same (Some e) d = same e
+
+  pub some-bare : (o : Option Entry) → is_some (option_map (bare keep) o) ≡ is_some o
+  some-bare None = refl
+  some-bare (Some e) = refl
+
+  pub entry_at-bare : (es : List Entry) (id : ℕ) → entry_at (map (bare keep) es) id ≡ option_map (bare keep) (entry_at es id)
+  entry_at-bare es id = find-bare (has_id id) (λ e. refl) es
+
+  pub child_named-bare : (es : List Entry) (dir : ℕ) (name : List ℕ) → child_named (map (bare keep) es) dir name ≡ option_map (bare keep) (child_named es dir name)
+  child_named-bare es dir name = find-bare (is_child_named dir name) (λ e. refl) es
+
+  pub is_folder-bare : (es : List Entry) (id : ℕ) → is_folder (map (bare keep) es) id ≡ is_folder es id
+  is_folder-bare es id =
+      ap (λ (o : Option Entry). option_map_or (λ (e : Entry). is_folder_kind e.1.kind) o false) (entry_at-bare es id)
+      ∙ or-bare (λ (e : Entry). is_folder_kind e.1.kind) (λ (e : Entry). is_folder_kind e.1.kind) (λ e. folder-bare (keep e.0) e.1.kind) (entry_at es id) false
+
+  pub valence-bare : (es : List Entry) (dir : ℕ) → valence (map (bare keep) es) dir ≡ valence es dir
+  valence-bare [] dir = refl
+  valence-bare (e ∷ es) dir =
+      sum_by-cons (λ (x : Entry). cond (is_child dir x) 1 0) (bare keep e) (map (bare keep) es) ∙ ap (λ (n : ℕ). cond (is_child dir e) 1 0 + n) (valence-bare es dir)
+      ∙ sym (sum_by-cons (λ (x : Entry). cond (is_child dir x) 1 0) e es)
+
+  -- ---- children in name order
+
+  place-bare : (e : Entry) (cs : List Entry) → place (bare keep e) (map (bare keep) cs) ≡ map (bare keep) (place e cs)
+  place-bare e [] = refl
+  place-bare e (c ∷ cs) =
+      elim (is_gt (name_cmp c.1.name e.1.name))
+      as (λ (b : Bool). cond b (bare keep e ∷ bare keep c ∷ map (bare keep) cs) (bare keep c ∷ place (bare keep e) (map (bare keep) cs)) ≡ map (bare keep) (cond b (e ∷ c ∷ cs) (c ∷ place e cs))) [
+        | true ↦ refl
+        | false ↦ ap (λ (l : List Entry). bare keep c ∷ l) (place-bare e cs)
+      ]
+
+  place_child-bare : (dir : ℕ) (placed : List Entry) (e : Entry) → place_child dir (map (bare keep) placed) (bare keep e) ≡ map (bare keep) (place_child dir placed e)
+  place_child-bare dir placed e =
+      elim (is_child dir e) as (λ (b : Bool). cond b (place (bare keep e) (map (bare keep) placed)) (map (bare keep) placed) ≡ map (bare keep) (cond b (place e placed) placed)) [
+        | true ↦ place-bare e placed
+        | false ↦ refl
+      ]
+
+  fold-bare : (dir : ℕ) (es placed : List Entry) → fold (place_child dir) (map (bare keep) placed) (map (bare keep) es) ≡ map (bare keep) (fold (place_child dir) placed es)
+  fold-bare dir [] placed = refl
+  fold-bare dir (e ∷ es) placed =
+      ap (λ (l : List Entry). fold (place_child dir) l (map (bare keep) es)) (place_child-bare dir placed e) ∙ fold-bare dir es (place_child dir placed e)
+
+  pub children-bare : (es : List Entry) (dir : ℕ) → children (map (bare keep) es) dir ≡ map (bare keep) (children es dir)
+  children-bare es dir = fold-bare dir es []
+
+  pub map-bare : {B : Type 0} (f g : Entry → B) → ((e : Entry) → f (bare keep e) ≡ g e) → (es : List Entry) → map f (map (bare keep) es) ≡ map g es
+  map-bare f g same [] = refl
+  map-bare f g same (e ∷ es) = λ i. same e i ∷ map-bare f g same es i
+
+  -- ---- the map of items
+
+  below-bare : (x : ℕ) (es : List Entry) → entries.below_all nat_cmp x (map (bare keep) es) ≡ entries.below_all nat_cmp x es
+  below-bare x [] = refl
+  below-bare x (e ∷ es) = ap (λ (b : Bool). is_lt (nat_cmp x e.0) && b) (below-bare x es)
+
+  sorted-bare : (es : List Entry) → entries.is_sorted nat_cmp (map (bare keep) es) ≡ entries.is_sorted nat_cmp es
+  sorted-bare [] = refl
+  sorted-bare (e ∷ es) = λ i. below-bare e.0 es i && sorted-bare es i
+
+  pub entries-bare : (items : Items) → fin.entries (bare_items keep items) ≡ map (bare keep) (fin.entries items)
+  entries-bare items =
+      fin.entries-from_sorted nat_cmp (map (bare keep) (fin.entries items)) (subst T (sym (sorted-bare (fin.entries items))) (fin.entries_sorted items))
+
+  -- at a key
+  lookup-bare : (q : ℕ) (es : List Entry) → entries.find nat_cmp q (map (bare keep) es) ≡ option_map (bare_item (keep q)) (entries.find nat_cmp q es)
+  lookup-bare q [] = refl
+  lookup-bare q (e ∷ es) =
+      elim (nat_cmp q e.0)
+      as (λ (r : Ordering). nat_cmp q e.0 ≡ r → cond (is_eq r) (Some (bare_item (keep e.0) e.1)) (entries.find nat_cmp q (map (bare keep) es))
+      ≡ option_map (bare_item (keep q)) (cond (is_eq r) (Some e.1) (entries.find nat_cmp q es))) [
+        | Less ↦ λ t. lookup-bare q es
+        | Equal ↦ λ t. ap (λ (k : ℕ). Some (bare_item (keep k) e.1)) (sym (nat_cmp-IsAntisymmetric q e.0 t))
+        | Greater ↦ λ t. lookup-bare q es
+      ] refl
+
+  get-bare : (m : Items) (q : ℕ) → fin.get (bare_items keep m) q ≡ option_map (bare_item (keep q)) (fin.get m q)
+  get-bare m q =
+      fin.get-entries (bare_items keep m) q ∙ ap (entries.find nat_cmp q) (entries-bare m) ∙ lookup-bare q (fin.entries m)
+      ∙ ap (option_map (bare_item (keep q))) (sym (fin.get-entries m q))
+
+  same-key : (q k : ℕ) (x : Item) (o : Option Item) → option_map (bare_item (keep q)) (cond (eq_by_cmp nat_cmp q k) (Some x) o)
+      ≡ cond (eq_by_cmp nat_cmp q k) (Some (bare_item (keep k) x)) (option_map (bare_item (keep q)) o)
+  same-key q k x o =
+      elim (nat_cmp q k)
+      as (λ (r : Ordering). nat_cmp q k ≡ r → option_map (bare_item (keep q)) (cond (is_eq r) (Some x) o)
+      ≡ cond (is_eq r) (Some (bare_item (keep k) x)) (option_map (bare_item (keep q)) o)) [
+        | Less ↦ λ t. refl
+        | Equal ↦ λ t. ap (λ (n : ℕ). Some (bare_item (keep n) x)) (nat_cmp-IsAntisymmetric q k t)
+        | Greater ↦ λ t. refl
+      ] refl
+
+  removed : (q : ℕ) (b : Bool) (o : Option Item) → option_map (bare_item (keep q)) (cond b None o) ≡ cond b None (option_map (bare_item (keep q)) o)
+  removed q true o = refl
+  removed q false o = refl
+
+  pub insert-bare : (m : Items) (k : ℕ) (x : Item) → fin.insert (bare_items keep m) k (bare_item (keep k) x) ≡ bare_items keep (fin.insert m k x)
+  insert-bare m k x =
+      fin.same_map nat_cmp_total nat_cmp-IsAntisymmetric (fin.insert (bare_items keep m) k (bare_item (keep k) x)) (bare_items keep (fin.insert m k x)) (λ q.
+      fin.get-insert nat_cmp_total (bare_items keep m) k (bare_item (keep k) x) q
+      ∙ ap (λ (o : Option Item). cond (eq_by_cmp nat_cmp q k) (Some (bare_item (keep k) x)) o) (get-bare m q)
+      ∙ sym (same-key q k x (fin.get m q))
+      ∙ ap (option_map (bare_item (keep q))) (sym (fin.get-insert nat_cmp_total m k x q)) ∙ sym (get-bare (fin.insert m k x) q))
+
+  pub remove-bare : (m : Items) (k : ℕ) → fin.remove (bare_items keep m) k ≡ bare_items keep (fin.remove m k)
+  remove-bare m k =
+      fin.same_map nat_cmp_total nat_cmp-IsAntisymmetric (fin.remove (bare_items keep m) k) (bare_items keep (fin.remove m k)) (λ q.
+      fin.get-remove nat_cmp_total (bare_items keep m) k q
+      ∙ ap (λ (o : Option Item). cond (eq_by_cmp nat_cmp q k) None o) (get-bare m q)
+      ∙ sym (removed q (eq_by_cmp nat_cmp q k) (fin.get m q))
+      ∙ ap (option_map (bare_item (keep q))) (sym (fin.get-remove nat_cmp_total m k q)) ∙ sym (get-bare (fin.remove m k) q))
+
+  -- of a list of entries
+  pub from_entries-bare : (es : List Entry) → bare_items keep (fin.from_entries es) ≡ fin.from_entries (map (bare keep) es)
+  from_entries-bare [] = fin.same_map nat_cmp_total nat_cmp-IsAntisymmetric (bare_items keep (fin.from_entries [])) (fin.from_entries []) (λ q.
+      get-bare (fin.from_entries []) q ∙ ap (option_map (bare_item (keep q))) (fin.get-empty nat_cmp q) ∙ sym (fin.get-empty nat_cmp q))
+  from_entries-bare (e ∷ es) = sym (insert-bare (fin.from_entries es) e.0 e.1) ∙ ap (λ (m : Items). fin.insert m e.0 (bare_item (keep e.0) e.1)) (from_entries-bare es)

@@ -1,0 +1,5 @@
+pub mod BareEntries
+pub mod BareReplies
+pub mod BareChoices
+pub mod BareChanges
+pub mod LawsProved

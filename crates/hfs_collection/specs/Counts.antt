@@ -1,0 +1,113 @@
+-- How much an image holds.
+use Rattle.std.specs.Prelude.{ℕ, ◌+◌, Bool, ◌&&◌, true, if◌then◌else◌, List, [], ◌∷◌, length, slice_index_or, Option, Some, None}
+use Rattle.hfs_fields.specs.declared.mdb.Mdb.{Mdb}
+use Rattle.hfs_model.specs.declared.reply.Info.{Info}
+use Rattle.hfs_model.specs.declared.reply.ItemKind.{ItemKind}
+use Rattle.hfs_model.specs.declared.reply.ItemKind.TheVariants.{Folder, File}
+use Rattle.hfs_model.specs.Children.{entries_of}
+use Rattle.hfs_check.specs.declared.mount_fault.MountFault.{MountFault}
+use Rattle.hfs_check.specs.Faults.{fault_of}
+use Rattle.hfs_check.specs.VolumeOf.{volume_of}
+use Rattle.hfs_containers.specs.declared.ranges.FoundRange.{FoundRange}
+use Rattle.hfs_containers.specs.Found.{found_in}
+use Rattle.hfs_containers.specs.Ranges.{bytes_in}
+use Rattle.hfs_inventory.specs.Told.{ToldRow, told_rows}
+use Rattle.hfs_remains.specs.declared.shares.FileShares.{FileShares}
+use Rattle.hfs_remains.specs.Verdicts.{fork_share}
+use Rattle.hfs_space.specs.declared.fork_kind.ForkKind.{ForkKind}
+use Rattle.hfs_space.specs.declared.fork_kind.ForkKind.TheVariants.{Data, Resource}
+use Rattle.hfs_rescue.specs.declared.catalog.FoundRecord.{FoundRecord}
+use Rattle.hfs_rescue_items.specs.Found.{told}
+use Rattle.hfs_verdicts.specs.Verdicts.{is_whole}
+use Rattle.hfs_finds.specs.Finds.{found_directory, found_items}
+use Rattle.hfs_finds.specs.Images.{FoundImage, found_image, said_of}
+use Rattle.hfs_collection.specs.declared.counts.FileCounts.{FileCounts}
+use Rattle.hfs_collection.specs.declared.counts.ImageCounts.{ImageCounts}
+
+-- ---- sums
+
+abbrev pub no_files : FileCounts
+no_files = record { files = 0; damaged = 0 }
+
+abbrev pub item_files : ItemKind → Bool → FileCounts
+item_files Folder whole = no_files
+item_files File whole = record { files = 1; damaged = if whole then 0 else 1 }
+
+abbrev pub both_files : FileCounts → FileCounts → FileCounts
+both_files a b = record { files = a.files + b.files; damaged = a.damaged + b.damaged }
+
+abbrev pub no_volumes : ImageCounts
+no_volumes = record { volumes = 0; refused = 0; files = 0; damaged = 0 }
+
+abbrev pub sound_volume : ℕ → ImageCounts
+sound_volume files = record { volumes = 1; refused = 0; files = files; damaged = 0 }
+
+abbrev pub refused_volume : FileCounts → ImageCounts
+refused_volume counts = record { volumes = 1; refused = 1; files = counts.files; damaged = counts.damaged }
+
+abbrev pub both_volumes : ImageCounts → ImageCounts → ImageCounts
+both_volumes a b = record { volumes = a.volumes + b.volumes; refused = a.refused + b.refused; files = a.files + b.files; damaged = a.damaged + b.damaged }
+
+-- ---- the files of a volume
+
+-- those of a sound one, by the rows of its items
+abbrev pub file_number : ItemKind → ℕ
+file_number Folder = 0
+file_number File = 1
+
+abbrev pub file_total : List ToldRow → ℕ
+file_total [] = 0
+file_total (row ∷ rest) = file_number row.info.kind + file_total rest
+
+-- a fork of an item is whole; a folder has none that isn't
+abbrev pub is_fork_whole : FoundImage → ForkKind → Option FileShares → Bool
+is_fork_whole f kind None = true
+is_fork_whole f kind (Some file) = is_whole (said_of f file (fork_share kind file))
+
+-- item i, of which its record tells this
+abbrev pub remains_files : FoundImage → ℕ → Option Info → FileCounts
+remains_files f i None = no_files
+remains_files f i (Some info) =
+    item_files info.kind (is_fork_whole f Data (slice_index_or f.shares i None) && is_fork_whole f Resource (slice_index_or f.shares i None))
+
+-- those of what remains of a refused one
+abbrev pub remains_files_from : FoundImage → ℕ → List FoundRecord → FileCounts
+remains_files_from f i [] = no_files
+remains_files_from f i (item ∷ rest) = both_files (remains_files f i (told item)) (remains_files_from f (i + 1) rest)
+
+abbrev pub files_by : List ℕ → Option Mdb → FileCounts
+files_by bytes None = no_files
+files_by bytes (Some mdb) = remains_files_from (found_image bytes mdb) 0 (found_items bytes mdb)
+
+-- ---- the volumes of a file
+
+-- a volume with these bytes and this fault, if it has one
+abbrev pub fault_counts : Option MountFault → List ℕ → ImageCounts
+fault_counts None bytes = sound_volume (file_total (told_rows (entries_of (volume_of bytes))))
+fault_counts (Some why) bytes = refused_volume (files_by bytes (found_directory bytes))
+
+unfoldable pub volume_counts : List ℕ → ImageCounts
+volume_counts bytes = fault_counts (fault_of bytes) bytes
+
+-- the volumes in these ranges of a file
+abbrev pub volume_counts_from : List FoundRange → List ℕ → ImageCounts
+volume_counts_from [] file = no_volumes
+volume_counts_from (found ∷ ranges) file = both_volumes (volume_counts (bytes_in found.range file)) (volume_counts_from ranges file)
+
+-- the volume that is lost in a file, where there is a directory
+abbrev pub counts_by_directory : Option Mdb → List ℕ → ImageCounts
+counts_by_directory None bytes = no_volumes
+counts_by_directory (Some mdb) bytes = refused_volume (files_by bytes (Some mdb))
+
+abbrev pub lost_counts : Option MountFault → List ℕ → ImageCounts
+lost_counts None file = no_volumes
+lost_counts (Some why) file = counts_by_directory (found_directory file) file
+
+-- all volumes of a file in which these ranges are found
+abbrev pub all_volume_counts : List FoundRange → List ℕ → ImageCounts
+all_volume_counts [] file = lost_counts (fault_of file) file
+all_volume_counts (found ∷ ranges) file = volume_counts_from (found ∷ ranges) file
+
+-- of an image with these bytes
+unfoldable pub image_counts : List ℕ → ImageCounts
+image_counts file = all_volume_counts (found_in file) file

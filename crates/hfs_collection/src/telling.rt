@@ -1,0 +1,158 @@
+//! What the rows of items tell of what remains of a refused volume.
+ghost use Rattle.std.specs.Prelude.{◌≡◌, ◌&&◌, Some, IfOk, string_bytes};
+ghost use Rattle.hfs_remains.specs.Verdicts.{FindsFork, shares_at};
+ghost use Rattle.hfs_rescue_items.specs.Found.{path_at};
+ghost use Rattle.hfs_rows.specs.declared.value.RowValue.TheVariants.{Text};
+ghost use Rattle.hfs_verdicts.specs.Verdicts.{verdict_text};
+ghost use Rattle.hfs_finds.specs.Images.{fork_bytes};
+ghost use Rattle.hfs_collection.specs.Values.{digest_value, where_taken};
+ghost use Rattle.hfs_collection.specs.Remains.{said_digest, told_by, told_fork, told_values};
+ghost use Rattle.hfs_collection.specs.Counts.{remains_files};
+ghost use Rattle.hfs_collection.specs.Held.{image_of};
+
+use crate::counts::FileCounts;
+use crate::digests::digest_text;
+use crate::fault::CollectFault;
+use crate::remaining::Remaining;
+use crate::remains::{ForkTold, remains_values};
+use hfs_finds::fork_digest;
+use hfs_model::{Bytes, Info};
+use hfs_remains::FoundFork;
+use hfs_rows::RowValue;
+use hfs_space::ForkKind;
+use hfs_verdicts::{Verdict, push_verdict};
+use std::alloc::{AllocError, Global};
+
+/// What is told of an item that remains.
+#[derive(Drop)]
+pub(crate) struct ToldItem {
+    /// The values of its row.
+    pub(crate) values: Vec<RowValue>,
+    /// Whether it is a file, and whole.
+    pub(crate) counts: FileCounts,
+}
+
+/// Whether both forks of an item are whole.
+fn are_whole(data_fork: &ForkTold, resource_fork: &ForkTold) -> bool
+    ensures { result ≡ (data_fork.now.is_whole && resource_fork.now.is_whole) }
+{
+    data_fork.is_whole && resource_fork.is_whole
+}
+
+impl Remaining<'_> {
+    /// The path below the payload of an item; no text where there is none.
+    fn path(&self, alloc: Global, i: usize) -> Result<String, AllocError>
+        ensures { IfOk result (λ path. string_bytes path ≡ path_at self.now.finds.now.places i) }
+    {
+        if i >= self.finds.places.things().len() {
+            return Ok(String::new(alloc));
+        }
+        self.finds.places.payload_path(alloc, i)
+    }
+
+    /// A fork of an item; None of a folder, and where there is no such item.
+    fn fork(&self, alloc: Global, i: usize, kind: ForkKind) -> Result<Option<FoundFork>, AllocError>
+        ensures { IfOk result (FindsFork self.now.salvage.now i kind) }
+    {
+        if i >= self.salvage.len() {
+            return Ok(None);
+        }
+        self.salvage.fork(alloc, i, kind)
+    }
+
+    /// The digest of the bytes of a fork, where it is to be taken.
+    fn taken_digest(
+        &self,
+        alloc: Global,
+        fork: &FoundFork,
+        taken: bool,
+    ) -> Result<RowValue, CollectFault>
+        ensures { IfOk result (λ value. value ≡ where_taken taken (digest_value (fork_bytes
+            self.now.image.now self.now.finds.now.mdb fork.now.length fork.now.places.items))) }
+    {
+        if !taken {
+            return Ok(RowValue::Empty);
+        }
+        match fork_digest(self.image, self.finds.total, &self.finds.mdb, fork) {
+            Ok(digest) => Ok(digest_text(alloc, &digest)?),
+            Err(_) => Err(CollectFault::ReadFailed),
+        }
+    }
+
+    /// The digest of the bytes of a fork, where it is to be taken and the fork isn't left.
+    fn digest(&self, alloc: Global, fork: &FoundFork, taken: bool) -> Result<RowValue, CollectFault>
+        ensures { IfOk result (λ value. value ≡ said_digest taken fork.now.verdict (fork_bytes
+            self.now.image.now self.now.finds.now.mdb fork.now.length fork.now.places.items)) }
+    {
+        match &fork.verdict {
+            Verdict::Left => Ok(RowValue::Empty),
+            Verdict::Taken(_) => self.taken_digest(alloc, fork, taken),
+        }
+    }
+
+    /// What a row tells of a fork that was found.
+    fn told(&self, alloc: Global, fork: &FoundFork, taken: bool) -> Result<ForkTold, CollectFault>
+        ensures { IfOk result (λ told. told ≡ told_by taken fork.now.verdict (fork_bytes
+            self.now.image.now self.now.finds.now.mdb fork.now.length fork.now.places.items)) }
+    {
+        let digest = self.digest(alloc, fork, taken)?;
+        let verdict = verdict_value(alloc, &fork.verdict)?;
+        Ok(ForkTold {
+            digest,
+            verdict,
+            is_whole: fork.verdict.is_whole(),
+        })
+    }
+
+    /// What a row tells of a fork of an item: nothing of a folder.
+    fn told_fork(
+        &self,
+        alloc: Global,
+        i: usize,
+        kind: ForkKind,
+        taken: bool,
+    ) -> Result<ForkTold, CollectFault>
+        ensures { IfOk result (λ told. told ≡ told_fork taken (image_of self.now) kind (shares_at
+            self.now.salvage.now i)) }
+    {
+        match self.fork(alloc, i, kind)? {
+            Some(fork) => self.told(alloc, &fork, taken),
+            None => Ok(ForkTold {
+                digest: RowValue::Empty,
+                verdict: RowValue::Empty,
+                is_whole: true,
+            }),
+        }
+    }
+
+    /// What is told of an item, of which its record tells this.
+    #[tactic(auto, using(crate::proofs::RemainsGoing::values_told, crate::proofs::Counting::item_counted))]
+    pub(crate) fn told_item(
+        &self,
+        alloc: Global,
+        i: usize,
+        info: &Info,
+        taken: bool,
+    ) -> Result<ToldItem, CollectFault>
+        ensures values { IfOk result (λ item. item.values.items
+            ≡ told_values taken (image_of self.now) i info.now) }
+        ensures counts { IfOk result (λ item. item.counts
+            ≡ remains_files (image_of self.now) i (Some info.now)) }
+    {
+        let path = self.path(alloc, i)?;
+        let data_fork = self.told_fork(alloc, i, ForkKind::Data, taken)?;
+        let resource_fork = self.told_fork(alloc, i, ForkKind::Resource, taken)?;
+        let counts = FileCounts::of(info.kind, are_whole(&data_fork, &resource_fork));
+        let values = remains_values(alloc, i as u64, path, info, data_fork, resource_fork)?;
+        Ok(ToldItem { values, counts })
+    }
+}
+
+/// What is said of a fork, as a value.
+fn verdict_value(alloc: Global, verdict: &Verdict) -> Result<RowValue, AllocError>
+    ensures { IfOk result (λ value. value ≡ Text (verdict_text verdict.now)) }
+{
+    let mut text = String::new(alloc);
+    push_verdict(alloc, &mut text, verdict)?;
+    Ok(RowValue::Text(Bytes::new(text.into_bytes())))
+}

@@ -1,0 +1,57 @@
+-- What is found of an image by its directory.
+use Rattle.std.specs.Prelude.{◌≡◌, ℕ, List, map, Option, Some, None}
+use Rattle.std.specs.Option.{option_map}
+use Rattle.hfs_fields.specs.declared.mdb.Mdb.{Mdb}
+use Rattle.hfs_blocks.specs.Blocks.{block_at, block_count}
+use Rattle.hfs_space.specs.Extents.{Overflow}
+use Rattle.hfs_places.specs.declared.things.Thing.{Thing}
+use Rattle.hfs_places.specs.Things.{things_of}
+use Rattle.hfs_remains.specs.Records.{namings_of, thing_of}
+use Rattle.hfs_rescue.specs.declared.catalog.FoundRecord.{FoundRecord}
+use Rattle.hfs_rescue.specs.Directory.{directory_of, mdb_at}
+use Rattle.hfs_rescue.specs.Items.{items_of}
+use Rattle.hfs_rescue.specs.Remains.{catalog_file_blocks, extents_file_blocks, remaining_overflow, remaining_records}
+use Rattle.hfs_rescue.specs.TreeFiles.{FileBlocks}
+use Rattle.hfs_finds.specs.declared.finds.Finds.{Finds}
+
+-- the directory: the fields of the block that is taken for it
+abbrev pub found_directory : List ℕ → Option Mdb
+found_directory image = option_map (mdb_at (block_at image)) (directory_of image)
+
+-- ---- by this directory
+
+-- the records of the extents tree
+abbrev pub found_overflow : List ℕ → Mdb → Overflow
+found_overflow image mdb = remaining_overflow (block_count image) (block_at image) mdb
+
+-- the blocks of both trees' files
+abbrev pub found_extents_file : List ℕ → Mdb → FileBlocks
+found_extents_file image mdb = extents_file_blocks (block_count image) mdb
+
+abbrev pub found_catalog_file : List ℕ → Mdb → FileBlocks
+found_catalog_file image mdb = catalog_file_blocks (block_count image) (block_at image) mdb
+
+-- the records of the catalog, and the items among them
+abbrev pub found_records : List ℕ → Mdb → List FoundRecord
+found_records image mdb = remaining_records (block_count image) (block_at image) mdb
+
+abbrev pub found_items : List ℕ → Mdb → List FoundRecord
+found_items image mdb = items_of (found_records image mdb)
+
+-- the items and the named folders, as they are put in their places
+abbrev pub found_things : List ℕ → Mdb → List Thing
+found_things image mdb = things_of (map thing_of (found_items image mdb)) (namings_of (found_records image mdb))
+
+-- all of these
+pub record AreFinds (image : List ℕ) (finds : Finds) : Type 0 where
+  pub total_is : finds.total ≡ block_count image
+  pub overflow_is : finds.overflow.items ≡ found_overflow image finds.mdb
+  pub extents_file_is : finds.extents_file.items ≡ found_extents_file image finds.mdb
+  pub catalog_file_is : finds.catalog_file.items ≡ found_catalog_file image finds.mdb
+  pub items_are : finds.items.items ≡ found_items image finds.mdb
+  pub places_are : finds.places ≡ found_things image finds.mdb
+
+-- what is found of an image, by its directory; nothing where it has none
+abbrev pub IsFoundIn : List ℕ → Option Finds → Type 0
+IsFoundIn image None = found_directory image ≡ None
+IsFoundIn image (Some finds) = (found_directory image ≡ Some finds.mdb) × AreFinds image finds

@@ -1,0 +1,29 @@
+//! What is found of an image by its directory.
+ghost use Rattle.std.specs.Prelude.{◌≤◌};
+ghost use Rattle.hfs_rescue.specs.TreeFiles.{AreThere};
+
+use hfs_fields::Mdb;
+use hfs_places::Places;
+use hfs_rescue::{FoundRecord, OverflowRecord};
+
+/// What is found of an image by its directory.
+#[derive(Drop)]
+pub struct Finds {
+    /// The directory.
+    pub mdb: Mdb,
+    /// How many logical blocks the image has.
+    pub total: u32,
+    /// The records of the extents tree.
+    pub overflow: Vec<OverflowRecord>,
+    /// The allocation blocks of the extents file in order, None in the place of each that is missing.
+    pub extents_file: Vec<Option<u16>>,
+    /// Those of the catalog file.
+    pub catalog_file: Vec<Option<u16>>,
+    /// The items, in their order.
+    pub items: Vec<FoundRecord>,
+    /// Where they lie, and behind them the folders that only threads name.
+    pub places: Places,
+    ghost size: { 512 ≤ mdb.allocation_block_size },
+    ghost extents_there: { AreThere total mdb extents_file.items },
+    ghost catalog_there: { AreThere total mdb catalog_file.items },
+}

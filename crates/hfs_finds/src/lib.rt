@@ -1,0 +1,12 @@
+//! What is found of a damaged image: by its directory its items with their places, and the bytes of their forks.
+#![tactic(auto)]
+
+mod finding;
+mod finds;
+mod forks;
+mod salvage;
+
+pub use finding::find_in;
+pub use finds::Finds;
+pub use forks::{Outside, fork_digest};
+pub use salvage::salvage_of;

@@ -1,0 +1,3 @@
+pub mod FlatBlocks
+pub mod Pieces
+pub mod Written

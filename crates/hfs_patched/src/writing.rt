@@ -1,0 +1,118 @@
+//! Writing an image as it is read, with changed blocks in place of its own.
+ghost use Rattle.std.specs.Prelude.{◌≡◌, ◌≢◌, ◌+◌, ◌/◌, ◌≤◌, Err, IfOk, OnErr, OnOk, length};
+ghost use Rattle.std.specs.Io.KnownBytes.{Appends};
+ghost use Rattle.hfs_texts.specs.Writing.{AppendsFront};
+ghost use Rattle.hfs_blocks.specs.Layers.{changes, AreWithin};
+ghost use Rattle.hfs_patched.specs.Patched.{OfPatched, OfPiece};
+
+use crate::laying::lay_piece;
+use hfs_blocks::Patch;
+use hfs_sparse::BlockSource;
+use hfs_texts::put;
+use std::alloc::{AllocError, Global};
+use std::io::Write;
+
+/// Why an image was not written.
+#[derive(Clone, Copy, Debug, PartialEq, Eq)]
+pub enum PatchedFault {
+    /// Memory was refused, and nothing was written.
+    Memory,
+    /// A read failed.
+    ReadFailed,
+    /// The writer failed.
+    WriteFailed,
+}
+
+/// The most bytes that are read at once.
+const MOST_AT_ONCE: u64 = 1_048_576;
+
+/// Writes `count` bytes from block `first` on, with the changed blocks in place of their own.
+fn write_piece<S: BlockSource, W: Write>(
+    source: &mut S,
+    first: u32,
+    count: usize,
+    patch: &Patch,
+    buffer: &mut [u8],
+    writer: &mut W,
+) -> Result<(), PatchedFault>
+    requires room { count ≤ length buffer.old }
+    requires numbers { first + count / 512 ≤ 4294967295 }
+    ensures written { OnOk result (OfPiece (S.image source.old) patch.now first count
+        (Appends (W.contents writer.old) (W.contents writer.new))) }
+    ensures part { OnErr result (OfPiece (S.image source.old) patch.now first count
+        (AppendsFront (W.contents writer.old) (W.contents writer.new))) }
+    ensures memory { result ≢ Err PatchedFault.Memory }
+    ensures room { length buffer.new ≡ length buffer.old }
+    ensures image { S.image source.new ≡ S.image source.old }
+{
+    let piece = &mut buffer[..count];
+    let Ok(()) = source.read_blocks(first, piece) else {
+        return Err(PatchedFault::ReadFailed);
+    };
+    lay_piece(patch, first, piece);
+    let Ok(()) = put(writer, piece) else {
+        return Err(PatchedFault::WriteFailed);
+    };
+    Ok(())
+}
+
+/// Writes the `len` bytes of an image piece by piece, each of as many bytes as there is room for at once.
+fn write_pieces<S: BlockSource, W: Write>(
+    source: &mut S,
+    len: u64,
+    patch: &Patch,
+    buffer: &mut [u8],
+    writer: &mut W,
+) -> Result<(), PatchedFault>
+    requires small { len ≤ 2147483648 }
+    requires room { 1048576 ≤ length buffer.old }
+    requires within { AreWithin (changes patch.now) (len / 512) }
+    ensures written { OnOk result (OfPatched (S.image source.old) len patch.now
+        (Appends (W.contents writer.old) (W.contents writer.new))) }
+    ensures part { OnErr result (OfPatched (S.image source.old) len patch.now
+        (AppendsFront (W.contents writer.old) (W.contents writer.new))) }
+    ensures memory { result ≢ Err PatchedFault.Memory }
+    ensures image { S.image source.new ≡ S.image source.old }
+{
+    let mut done = 0;
+    while done < len {
+        let count = (len - done).min(MOST_AT_ONCE);
+        let first = (done / 512) as u32;
+        write_piece(source, first, count as usize, patch, buffer, writer)?;
+        done += count;
+    }
+    Ok(())
+}
+
+/// Room for so many bytes.
+fn buffer_of(alloc: Global, count: usize) -> Result<Vec<u8>, AllocError>
+    ensures { IfOk result (λ buffer. length buffer.items ≡ count) }
+{
+    vec![in alloc; 0; count]
+}
+
+/// Writes the `len` bytes of an image with the changed blocks in place of its own, at most 1,048,576 at a time, as they are read. Errors:
+/// memory was refused, and nothing was written; a read failed, the image ends before that many bytes, or the writer failed, where a part
+/// may have gone out, from the first byte on, and nothing else.
+pub fn write_patched<S: BlockSource, W: Write>(
+    alloc: Global,
+    source: &mut S,
+    len: u64,
+    patch: &Patch,
+    writer: &mut W,
+) -> Result<(), PatchedFault>
+    requires small { len ≤ 2147483648 }
+    requires within { AreWithin (changes patch.now) (len / 512) }
+    ensures written { OnOk result (OfPatched (S.image source.old) len patch.now
+        (Appends (W.contents writer.old) (W.contents writer.new))) }
+    ensures part { OnErr result (OfPatched (S.image source.old) len patch.now
+        (AppendsFront (W.contents writer.old) (W.contents writer.new))) }
+    ensures memory { result ≡ Err PatchedFault.Memory → writer.new ≡ writer.old }
+    ensures image { S.image source.new ≡ S.image source.old }
+{
+    let Ok(mut buffer) = buffer_of(alloc, MOST_AT_ONCE as usize) else {
+        return Err(PatchedFault::Memory);
+    };
+    write_pieces(source, len, patch, &mut buffer, writer)?;
+    Ok(())
+}

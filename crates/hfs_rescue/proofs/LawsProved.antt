@@ -1,0 +1,31 @@
+-- Laws of this crate, each by the laws that it stands on.
+use Rattle.hfs_rescue.proofs.LawTypes.{BlocksHaveFewItems, ItemsAreFew, SoundDirectoryIsFound, SoundOverflowIsFound, SoundCatalogIsFound, SoundItemsAreFound}
+use Rattle.hfs_rescue.proofs.FewLemmas.{blocks-few}
+use Rattle.hfs_rescue.proofs.SumLemmas.{scattered-few}
+use Rattle.hfs_rescue.proofs.DirectoryLemmas.{directory-is}
+use Rattle.hfs_rescue.proofs.SoundItemLemmas.{items-are}
+use Rattle.hfs_rescue.proofs.SoundLemmas.{overflow-is, records-are}
+
+-- 512 bytes have at most six items.
+pub blocks_have_few_items : BlocksHaveFewItems
+blocks_have_few_items = blocks-few
+
+-- A catalog that does not pass its check gives at most six items for each of its nodes that is there, and for each other block.
+pub items_are_few : ItemsAreFew
+items_are_few = scattered-few
+
+-- The directory of a sound image is found in block 2, where the catalog file has a block in the directory's own extents of it.
+pub sound_directory_is_found : SoundDirectoryIsFound
+sound_directory_is_found = directory-is
+
+-- Of a sound volume the records of the extents tree are its own.
+pub sound_overflow_is_found : SoundOverflowIsFound
+sound_overflow_is_found = overflow-is
+
+-- Of a sound volume the records that are found are those of its catalog, in order, and none is old.
+pub sound_catalog_is_found : SoundCatalogIsFound
+sound_catalog_is_found = records-are
+
+-- Of a sound volume the items are the folders and files of its catalog, in order.
+pub sound_items_are_found : SoundItemsAreFound
+sound_items_are_found = items-are

@@ -1,0 +1,14 @@
+-- What the item at a place tells.
+use Rattle.std.proofs.Common.{◌≡◌, ℕ, ◌<◌, ◌≤◌, List, length, slice_index_or, Option, None, refl, sym, ap, ◌∙◌}
+use Rattle.std.specs.Option.{option_and_then}
+use Rattle.std.proofs.lemmas.Option.{slice_get_past, slice_get_read}
+use Rattle.hfs_model.specs.declared.reply.Info.{Info}
+use Rattle.hfs_rescue.specs.declared.catalog.FoundRecord.{FoundRecord}
+use Rattle.hfs_rescue_items.specs.Found.{told, told_at}
+
+pub told_past : (items : List FoundRecord) (i : ℕ) → length items ≤ i → None ≡ told_at items i
+told_past items i past = ap (option_and_then told) (sym (slice_get_past items i past))
+
+pub told_there : (items : List FoundRecord) (i : ℕ) (item : FoundRecord) (result : Option Info) → i < length items → item ≡ slice_index_or items i item → result ≡ told item
+    → result ≡ told_at items i
+told_there items i item result within is told_is = told_is ∙ ap (option_and_then told) (sym (slice_get_read items (length items) i item refl within is))

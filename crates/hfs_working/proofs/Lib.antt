@@ -1,0 +1,7 @@
+pub mod SameWork
+pub mod AlikeVolumes
+pub mod Carried
+pub mod Copies
+pub mod ReadWork
+pub mod Kept
+pub mod LawsProved

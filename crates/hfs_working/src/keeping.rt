@@ -1,0 +1,44 @@
+//! The changed blocks whose bytes were read before they were changed.
+ghost use Rattle.std.specs.Prelude.{IfOk, OnOk};
+ghost use Rattle.hfs_blocks.specs.Layers.{changes, AreWithin};
+ghost use Rattle.hfs_working.specs.Working.{AreKeptTo, PutsKept};
+
+use hfs_blocks::Patch;
+use hfs_sparse::SparseBlocks;
+use std::alloc::{AllocError, Global};
+
+/// Puts in block `n`, where it was changed and was read.
+fn keep_block(
+    kept: &mut Patch,
+    changed: &Patch,
+    read: &SparseBlocks,
+    n: u32,
+) -> Result<(), AllocError>
+    ensures { OnOk result (PutsKept read.now changed.now n kept.old kept.new) }
+{
+    if !read.has(n) {
+        return Ok(());
+    }
+    match changed.get(n) {
+        Some(block) => kept.put(n, block),
+        None => Ok(()),
+    }
+}
+
+/// Those changed blocks of a volume of `count` blocks that were read. A block that was not read is none that calls change: where a patch
+/// has one, it has it as it was in the copy, and the image has other bytes there. The only error is want of memory.
+pub fn kept_to(
+    alloc: Global,
+    changed: &Patch,
+    read: &SparseBlocks,
+    count: u32,
+) -> Result<Patch, AllocError>
+    requires { AreWithin (changes changed.now) count }
+    ensures { IfOk result (AreKeptTo read.now changed.now) }
+{
+    let mut kept = Patch::new(alloc);
+    for n in 0..count {
+        keep_block(&mut kept, changed, read, n)?;
+    }
+    Ok(kept)
+}

@@ -1,0 +1,12 @@
+//! The blocks that calls read and write, and what follows of an image where these alone were read.
+#![tactic(auto)]
+
+mod keeping;
+mod laws;
+mod opening;
+
+pub use crate::keeping::kept_to;
+pub use crate::laws::{
+    changes_carry_over, copies_answer, kept_changes_carry_over, kept_forks_are_alike,
+};
+pub use crate::opening::{WorkingVolume, open_working};
