@@ -176,11 +176,12 @@ def try_ring(bench: Bench) -> None:
 
 def try_lowered(bench: Bench, files: int = 200) -> None:
     """In a catalog of four levels or more with lowered index keys files go; and files come between
-    the others, and then all go. Each tenth time the image is saved and mounted again."""
+    the others, and then all go. Each tenth time the image is saved and mounted again. The files are
+    made with names that fall, which leaves nodes half full."""
     nodes = 600
     disk = Disk(bench, bench.new_volume(1_024, nodes))
     names = [f'{it:04}' for it in range(2 * files)]
-    disk.make([Call.of('create', ROOT, it) for it in names[::2]], NOW)
+    disk.make([Call.of('create', ROOT, it) for it in reversed(names[::2])], NOW)
     content = bytearray(disk.image.content)
     height = hostile_images.lower_index_keys(content, nodes)
     ensure(height > 3, f'{height} levels')
