@@ -174,7 +174,7 @@ def try_ring(bench: Bench) -> None:
     ensure_refused(bench, bytes(hostile_images.ring()), 'check C8 at 3', 'a ring of folders')
 
 
-def try_lowered(bench: Bench, files: int = 200) -> None:
+def try_lowered(bench: Bench, files: int = 300) -> None:
     """In a catalog of four levels or more with lowered index keys files go; and files come between
     the others, and then all go. Each tenth time the image is saved and mounted again. The files are
     made with names that fall, which leaves nodes half full."""
