@@ -35,23 +35,23 @@ rise-more bytes i least is le =
       begun = λ e. absurd (omega (arith, e));
       last = λ k e. (let same : i ≡ k = omega (arith, e) in ap (offset_of bytes) same);
       low = λ k lt.
-        elim (cases_eq k i) [
-          | inl e ↦ (let P : ℕ → Type 0 = λ n. 14 ≤ offset_of bytes n in subst P (sym e) (omega (arith, own, le)))
-          | inr d ↦ is.low k (omega (arith, lt, d))
-        ];
+          elim (cases_eq k i) [
+            | inl e ↦ (let P : ℕ → Type 0 = λ n. 14 ≤ offset_of bytes n in subst P (sym e) (omega (arith, own, le)))
+            | inr d ↦ is.low k (omega (arith, lt, d))
+          ];
       most = λ k lt.
-        elim (cases_eq k i) [
-          | inl e ↦ (let P : ℕ → Type 0 = λ n. offset_of bytes n ≤ offset_of bytes i in subst P (sym e) (omega arith))
-          | inr d ↦ (let before = is.most k (omega (arith, lt, d)) in omega (arith, before, le))
-        ];
+          elim (cases_eq k i) [
+            | inl e ↦ (let P : ℕ → Type 0 = λ n. offset_of bytes n ≤ offset_of bytes i in subst P (sym e) (omega arith))
+            | inr d ↦ (let before = is.most k (omega (arith, lt, d)) in omega (arith, before, le))
+          ];
       rises = λ k lt.
-        elim (cases_eq (k + 1) i) [
-          | inl e ↦ (
-            let before = is.most k (omega (arith, e)) in
-            let P : ℕ → Type 0 = λ n. offset_of bytes k ≤ offset_of bytes n in
-            subst P (sym e) (omega (arith, before, le)))
-          | inr d ↦ is.rises k (omega (arith, lt, d))
-        ];
+          elim (cases_eq (k + 1) i) [
+            | inl e ↦ (
+                let before = is.most k (omega (arith, e)) in
+                let P : ℕ → Type 0 = λ n. offset_of bytes k ≤ offset_of bytes n in
+                subst P (sym e) (omega (arith, before, le)))
+            | inr d ↦ is.rises k (omega (arith, lt, d))
+          ];
       least_low = omega (arith, own, le);
     }
 
@@ -62,7 +62,7 @@ unfolding are_rising
 risen-in_order bytes i least few e is room =
     let end : i ≡ suc (count_of bytes) = omega (arith, e) in
     let inside = each_below-from (lies_inside bytes) i (λ k lt.
-          (let high = is.most k lt in and_from _ _ (le-leb _ _ (is.low k lt)) (le-leb _ _ (omega (arith, high, room))))) in
+    (let high = is.most k lt in and_from _ _ (le-leb _ _ (is.low k lt)) (le-leb _ _ (omega (arith, high, room))))) in
     let rising = each_below-from (rises_at bytes) (count_of bytes) (λ k lt. le-leb _ _ (is.rises k (omega (arith, lt, e)))) in
     and_from _ _ (all-inside bytes i few end inside) rising
 
@@ -95,11 +95,11 @@ end-in_order bytes n i least count few e is =
     let end : i ≡ count_of bytes + 1 = omega (arith, e, count) in
     elim (cases_Bool (nat_le least (510 - 2 * n))) [
       | inl t ↦ (
-        let room = leb-true least (510 - 2 * n) t in
-        t ∙ sym (risen-in_order bytes i least (omega (arith, few, count)) end is (omega (arith, room, count))))
+          let room = leb-true least (510 - 2 * n) t in
+          t ∙ sym (risen-in_order bytes i least (omega (arith, few, count)) end is (omega (arith, room, count))))
       | inr f ↦ (
-        let high = leb-false least (510 - 2 * n) f in
-        f ∙ sym (high-in_order bytes i least end is (omega (arith, high, count))))
+          let high = leb-false least (510 - 2 * n) f in
+          f ∙ sym (high-in_order bytes i least end is (omega (arith, high, count))))
     ]
 
 -- bytes of a kind whose offsets are in order are a node
