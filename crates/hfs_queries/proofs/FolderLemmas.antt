@@ -31,10 +31,6 @@ found_with catalog id r is =
     let parts = and_parts (is_item r.1) (eqb (item_id r.1) id) found.1 in
     record { there = found.0; item = parts.0; same = eqb-true (item_id r.1) id parts.1 }
 
-pub not_some : {A : Type 0} {test : Bool} (o : Option A) → test ≡ true → is_some o ≡ not test → o ≡ None
-not_some None e f = refl
-not_some (Some x) e f = absurd (true≢false (f ∙ ap not e))
-
 -- what has no thread is no folder
 pub unthreaded : (next : ℕ) (catalog : Catalog) (id : ℕ) → IsSoundCatalog next catalog → option_map (λ (r : Record). thread_record_of r.1) (thread_of catalog id) ≡ None → folder_with catalog id ≡ None
 unthreaded next catalog id sound none = elim (item_with catalog id) as (λ (o : Option Record). item_with catalog id ≡ o → option_and_then only_folder o ≡ None) [
