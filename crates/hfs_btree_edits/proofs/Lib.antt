@@ -13,6 +13,7 @@ pub mod EditedPairLemmas
 pub mod FreeAfterLemmas
 pub mod FewRecords
 mod FreedLemmas
+mod FullByteLemmas
 mod FullMapLemmas
 pub mod HeadedLemmas
 pub mod HeadLemmas

@@ -41,13 +41,28 @@ fn part_of(bytes: &[u8; 512], entry: usize) -> &[u8]
     }
 }
 
+/// How many bytes at the beginning have all of their bits set.
+fn full_bytes(bytes: &[u8]) -> usize
+    requires { length bytes.now ≤ 494 }
+    ensures within { result ≤ length bytes.now }
+    ensures full { AreAllSet (8 * result) bytes.now }
+{
+    for i in 0..bytes.len() {
+        if bytes[i] != 255 {
+            return i;
+        }
+    }
+    bytes.len()
+}
+
 /// The first clear bit among the first `count` of these bytes, or of as many as there are.
 fn first_clear(bytes: &[u8], count: usize) -> Option<usize>
     requires { length bytes.now ≤ 494 }
     ensures { MatchOption result (AreAllSet count bytes.now)
         (λ i. (i < count) × (i < 8 * length bytes.now) × (bit_of bytes.now i ≡ false)) }
 {
-    for i in 0..count.min(8 * bytes.len()) {
+    let full = 8 * full_bytes(bytes);
+    for i in full..count.min(8 * bytes.len()) {
         if !bit_at(bytes, i) {
             return Some(i);
         }

@@ -6,7 +6,7 @@ ghost use Rattle.hfs_fields.specs.KeyForms.{IsCatKeyValue, cat_leaf_bytes, cat_i
 ghost use Rattle.hfs_fields.specs.Laid.{with_front};
 
 use crate::field_row::FieldRow;
-use crate::name::Name;
+use crate::name::{Name, cmp_bytes};
 use crate::numbers::{u16_at, u32_at};
 use std::cmp::Ordering;
 
@@ -30,19 +30,28 @@ pub struct ExtKey {
     pub block: u16,
 }
 
+/// The characters of the name at `at`, which are at most 31.
+fn characters_at(bytes: &[u8], at: usize) -> &[u8]
+    requires length { at < length bytes.now }
+    requires short { name_len at bytes.now ≤ 31 }
+    requires characters { HoldsName at bytes.now }
+    ensures { result.now ≡ name_at at bytes.now }
+{
+    let start = at + 1;
+    let end = start + bytes[at] as usize;
+    &bytes[start..end]
+}
+
 /// The name at `at`: a length byte, and so many characters. None exactly where the length is above 31.
 pub(crate) fn name_at(bytes: &[u8], at: usize) -> Option<Name>
     requires length { at < length bytes.now }
     requires characters { HoldsName at bytes.now }
     ensures { SomeIff result (name_len at bytes.now ≤ 31) (name_at at bytes.now) }
 {
-    let length = bytes[at] as usize;
-    if length > 31 {
+    if bytes[at] > 31 {
         return None;
     }
-    let start = at + 1;
-    let end = start + length;
-    Name::of_bytes(&bytes[start..end])
+    Name::of_bytes(characters_at(bytes, at))
 }
 
 #[tactic(auto, unfolding(crate::specs::Keys::is_cat_key))]
@@ -177,10 +186,7 @@ impl CatKey {
         ensures { result ≡ cat_cmp self.now (cat_key_of bytes.now) }
     {
         match self.parent.cmp(&u32_at(bytes, 2)) {
-            Ordering::Equal => match name_at(bytes, 6) {
-                Some(name) => self.name.cmp_folded(&name),
-                None => unreachable!(),
-            },
+            Ordering::Equal => cmp_bytes(self.name.bytes(), characters_at(bytes, 6)),
             unlike => unlike,
         }
     }

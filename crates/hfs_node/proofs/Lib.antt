@@ -5,3 +5,4 @@ pub mod DecodingLemmas
 pub mod KindLemmas
 pub mod ReadBackLemmas
 pub mod SizeLemmas
+mod InOrderLemmas

@@ -1,5 +1,5 @@
 //! A node that is read in its bytes.
-ghost use Rattle.std.specs.Prelude.{◌≡◌, ◌+◌, ◌<◌, ◌≤◌, ◌==◌, [], ◌≢◌, IfOk, IfErr, length, slice_index_or, true};
+ghost use Rattle.std.specs.Prelude.{◌≡◌, ◌+◌, ◌<◌, ◌≤◌, ◌==◌, ◌&&◌, [], ◌≢◌, IfOk, IfErr, length, slice_index_or, true};
 ghost use Rattle.hfs_node.specs.Node.{node_of, offset_of, count_of, are_inside, are_rising, record_of, Fits};
 
 use crate::bytes::{count_at, offset_at};
@@ -45,17 +45,23 @@ fn is_inside(bytes: &[u8; 512]) -> bool
     true
 }
 
-#[tactic(auto, unfolding(crate::specs::Node::are_rising))]
-fn is_rising(bytes: &[u8; 512]) -> bool
-    requires { count_of bytes.now ≤ 248 }
-    ensures { result ≡ are_rising bytes.now }
+/// Whether the offsets of the records and of the free space rise, and lie between the descriptor and the row of offsets.
+fn is_in_order(bytes: &[u8; 512]) -> bool
+    ensures { result ≡ (are_inside bytes.now && are_rising bytes.now) }
 {
-    for i in 0..count_at(bytes) {
-        if offset_at(bytes, i) > offset_at(bytes, i + 1) {
+    let count = count_at(bytes);
+    if count > 248 {
+        return false;
+    }
+    let mut least = 14;
+    for i in 0..count + 1 {
+        let offset = offset_at(bytes, i);
+        if offset < least {
             return false;
         }
+        least = offset;
     }
-    true
+    least <= 510 - 2 * count
 }
 
 /// Record `i` of a node.
@@ -83,13 +89,13 @@ pub fn view(bytes: &[u8; 512]) -> Result<NodeView<'_>, NodeFault>
     let Some(kind) = kind_from(bytes[8]) else {
         return Err(NodeFault::Kind);
     };
+    if is_in_order(bytes) {
+        return Ok(NodeView { bytes, kind });
+    }
     if !is_inside(bytes) {
         return Err(NodeFault::Outside);
     }
-    if !is_rising(bytes) {
-        return Err(NodeFault::NotRising);
-    }
-    Ok(NodeView { bytes, kind })
+    Err(NodeFault::NotRising)
 }
 
 impl<'a> NodeView<'a> {

@@ -10,8 +10,10 @@ use Rattle.hfs_fields.specs.declared.dir_record.DirRecord.{DirRecord}
 use Rattle.hfs_fields.specs.declared.file_record.FileRecord.{FileRecord}
 use Rattle.hfs_catalog.specs.Records.{Record, Catalog, has_id, item_with, has_thread, is_thread_of}
 use Rattle.hfs_catalog.specs.Sound.{IsSoundCatalog}
-use Rattle.hfs_catalog.specs.Lookups.{catalog_item, thread_of}
+use Rattle.hfs_catalog.specs.Lookups.{catalog_item, thread_of, item_named}
 use Rattle.hfs_queries.specs.Told.{only_folder, folder_with, is_folder}
+use Rattle.hfs_fields.specs.declared.thread_record.ThreadRecord.{ThreadRecord}
+use Rattle.hfs_catalog.proofs.Found.{by_its_thread}
 use Rattle.hfs_scans.specs.Members.{In}
 use Rattle.hfs_scans.proofs.MemberLemmas.{each_in, found_in}
 use Rattle.std.proofs.lemmas.Option.{none-some, same_Some}
@@ -28,10 +30,6 @@ found_with catalog id r is =
     let found = found_in (has_id id) catalog r is in
     let parts = and_parts (is_item r.1) (eqb (item_id r.1) id) found.1 in
     record { there = found.0; item = parts.0; same = eqb-true (item_id r.1) id parts.1 }
-
-pub not_some : {A : Type 0} {test : Bool} (o : Option A) → test ≡ true → is_some o ≡ not test → o ≡ None
-not_some None e f = refl
-not_some (Some x) e f = absurd (true≢false (f ∙ ap not e))
 
 -- what has no thread is no folder
 pub unthreaded : (next : ℕ) (catalog : Catalog) (id : ℕ) → IsSoundCatalog next catalog → option_map (λ (r : Record). thread_record_of r.1) (thread_of catalog id) ≡ None → folder_with catalog id ≡ None
@@ -79,3 +77,18 @@ item_is_file catalog id item f is body = elim (item_with catalog id) as (λ (o :
 -- the folder of an ID was looked up, and it isn't so that there is none
 pub folder_there : (catalog : Catalog) (id : ℕ) (found : Option CatalogItem) (none : Bool) → found ≡ option_map catalog_item (folder_with catalog id) → is_some found ≡ not none → none ≡ false → is_folder catalog id ≡ true
 folder_there catalog id found none is some there = sym (is_some-option_map catalog_item (folder_with catalog id)) ∙ ap is_some (sym is) ∙ some ∙ ap not there
+
+-- what was found by the thread of an ID is its item
+pub item_by_thread : (next : ℕ) (catalog : Catalog) (id : ℕ) (t : ThreadRecord) (found : Option CatalogItem) → IsSoundCatalog next catalog
+    → option_map (λ (r : Record). thread_record_of r.1) (thread_of catalog id) ≡ Some t → found ≡ item_named catalog t.parent t.name
+    → found ≡ option_map catalog_item (item_with catalog id)
+item_by_thread next catalog id t found sound is named =
+    named ∙ ap (option_map catalog_item) (by_its_thread catalog id t sound.places sound.ids.distinct is)
+
+-- there is no folder of an ID that has no item
+pub no_item : (catalog : Catalog) (id : ℕ) (found : Option CatalogItem) → found ≡ None → found ≡ option_map catalog_item (item_with catalog id)
+    → None ≡ option_map catalog_item (folder_with catalog id)
+no_item catalog id found none is = elim (item_with catalog id) as (λ (o : Option Record). option_map catalog_item o ≡ None → None ≡ option_map catalog_item (option_and_then only_folder o)) [
+  | None ↦ λ e. refl
+  | Some r ↦ λ e. absurd (none-some (catalog_item r) (sym e))
+] (sym is ∙ none)

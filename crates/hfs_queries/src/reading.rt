@@ -20,15 +20,15 @@ use hfs_model::{
 };
 use std::alloc::{AllocError, Global};
 
-/// The folder of that ID. Each folder has a thread, so for an ID without one not all records are read.
+/// The folder of that ID, found by its thread, which each folder has: two look-ups.
 pub fn folder<N: Nodes>(nodes: &N, dir: u32) -> Option<CatalogItem>
     requires { IsCatalog (N.nodes nodes.now) }
     ensures { result ≡ option_map catalog_item (folder_with (catalog_of (N.nodes nodes.now)) dir) }
 {
-    if thread(nodes, dir).is_none() {
+    let Some(thread) = thread(nodes, dir) else {
         return None;
-    }
-    let item = by_id(nodes, dir)?;
+    };
+    let item = lookup(nodes, thread.parent, &thread.name)?;
     match item.body {
         ItemRecord::Folder(_) => Some(item),
         ItemRecord::File(_) => None,
