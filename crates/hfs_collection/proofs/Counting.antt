@@ -1,5 +1,5 @@
 -- Files and volumes that are counted one after the other.
-use Rattle.std.proofs.Common.{◌≡◌, ◌∙◌, ℕ, ◌+◌, ◌<◌, ◌≤◌, Bool, ◌&&◌, List, [], ◌∷◌, length, drop, get_or, slice_index_or, Option, Some, None, refl, ap, sym, subst, arith}
+use Rattle.std.proofs.Common.{◌≡◌, ◌∙◌, ℕ, ◌+◌, ◌<◌, ◌≤◌, Bool, ◌&&◌, List, [], ◌∷◌, length, drop, get_or, slice_index_or, Option, Some, None, refl, ap, sym, arith}
 use Rattle.std.proofs.lemmas.List.{drop_all, drop_more}
 use Rattle.hfs_containers.specs.declared.ranges.FoundRange.{FoundRange}
 use Rattle.hfs_containers.specs.Ranges.{bytes_in}

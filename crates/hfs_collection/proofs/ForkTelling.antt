@@ -1,12 +1,10 @@
 -- What is told of a fork that was found.
-use Rattle.std.proofs.Common.{◌≡◌, ◌∙◌, ℕ, Bool, List, Option, Some, None, refl, ap, sym}
+use Rattle.std.proofs.Common.{◌≡◌, ◌∙◌, ℕ, Bool, List, Option, Some, None, ap, sym}
 use Rattle.std.specs.Option.{IsSomeAnd}
-use Rattle.hfs_fields.specs.declared.mdb.Mdb.{Mdb}
 use Rattle.hfs_space.specs.declared.fork_kind.ForkKind.{ForkKind}
 use Rattle.hfs_remains.specs.declared.findings.FoundFork.{FoundFork}
 use Rattle.hfs_remains.specs.declared.shares.FileShares.{FileShares}
 use Rattle.hfs_remains.specs.Verdicts.{Salvaged, IsForkOf, all_used, fork_share}
-use Rattle.hfs_verdicts.specs.declared.verdict.Verdict.{Verdict}
 use Rattle.hfs_finds.specs.declared.finds.Finds.{Finds}
 use Rattle.hfs_finds.specs.Images.{fork_bytes, kept_image, said_of}
 use Rattle.hfs_collection.specs.declared.remains.ForkTold.{ForkTold}

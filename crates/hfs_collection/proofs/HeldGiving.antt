@@ -1,5 +1,5 @@
 -- What remains of a volume that is held, as its bytes tell it.
-use Rattle.std.proofs.Common.{◌≡◌, ℕ, ◌*◌, Bool, List, length, Some, sym, subst}
+use Rattle.std.proofs.Common.{◌≡◌, ℕ, ◌*◌, Bool, List, length, Some, subst}
 use Rattle.hfs_finds.specs.declared.finds.Finds.{Finds}
 use Rattle.hfs_finds.specs.Finds.{AreFinds}
 use Rattle.hfs_finds.specs.Images.{IsSalvageOf, kept_image}

@@ -1,5 +1,5 @@
 -- How much a volume holds, by what its image was found to be.
-use Rattle.std.proofs.Common.{◌≡◌, ◌∙◌, ℕ, Bool, List, [], ◌∷◌, length, take, Option, Some, None, refl, ap, sym, subst, arith}
+use Rattle.std.proofs.Common.{◌≡◌, ◌∙◌, ℕ, List, [], ◌∷◌, length, Option, Some, None, ap, sym, subst}
 use Rattle.hfs_check.specs.declared.mount_fault.MountFault.{MountFault}
 use Rattle.hfs_check.specs.Faults.{fault_of}
 use Rattle.hfs_check.specs.VolumeOf.{volume_of}

@@ -1,7 +1,6 @@
 -- A refused volume whose bytes are held.
 use Rattle.std.specs.Prelude.{◌≡◌, ℕ, Bool, List, ◌∷◌, Option, Some, None}
 use Rattle.hfs_check.specs.declared.mount_fault.MountFault.{MountFault}
-use Rattle.hfs_fields.specs.declared.mdb.Mdb.{Mdb}
 use Rattle.hfs_finds.specs.Finds.{found_directory}
 use Rattle.hfs_finds.specs.Images.{FoundImage, kept_image}
 use Rattle.hfs_rows.specs.declared.value.Table.TheVariants.{Volume}

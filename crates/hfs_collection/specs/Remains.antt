@@ -6,7 +6,6 @@ use Rattle.hfs_space.specs.declared.fork_kind.ForkKind.{ForkKind}
 use Rattle.hfs_space.specs.declared.fork_kind.ForkKind.TheVariants.{Data, Resource}
 use Rattle.hfs_rescue.specs.declared.catalog.FoundRecord.{FoundRecord}
 use Rattle.hfs_remains.specs.declared.shares.FileShares.{FileShares}
-use Rattle.hfs_remains.specs.declared.findings.FoundFork.{FoundFork}
 use Rattle.hfs_remains.specs.Verdicts.{fork_share}
 use Rattle.hfs_verdicts.specs.declared.verdict.Verdict.{Verdict}
 use Rattle.hfs_verdicts.specs.declared.verdict.Verdict.TheVariants.{Left, Taken}
@@ -14,7 +13,7 @@ use Rattle.hfs_verdicts.specs.Verdicts.{is_whole, verdict_text}
 use Rattle.hfs_table.specs.declared.column.Column.TheVariants as column
 use Rattle.hfs_rescue_items.specs.Found.{path_at, told}
 use Rattle.hfs_finds.specs.Finds.{found_directory, found_items}
-use Rattle.hfs_finds.specs.Images.{FoundImage, fork_bytes, found_image, said_of, taken_bytes}
+use Rattle.hfs_finds.specs.Images.{FoundImage, found_image, said_of, taken_bytes}
 use Rattle.hfs_rows.specs.declared.value.RowValue.{RowValue}
 use Rattle.hfs_rows.specs.declared.value.RowValue.TheVariants.{Empty, Number, Text}
 use Rattle.hfs_rows.specs.declared.value.Table.TheVariants.{Item}

@@ -1,5 +1,5 @@
 -- By what was held of the volume.
-use Rattle.std.proofs.Common.{◌≡◌, ◌++◌, None, Some, refl, subst}
+use Rattle.std.proofs.Common.{◌≡◌, ◌++◌, subst}
 use Rattle.hfs_sparse.proofs.Written.{on-err as on_err}
 use Rattle.hfs_needed.specs.Known.{OfKnown}
 use Rattle.hfs_rows.specs.Taken.{IsBeginning}

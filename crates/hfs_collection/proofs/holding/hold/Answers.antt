@@ -1,5 +1,5 @@
 -- All bytes, with what is found by their directory.
-use Rattle.std.proofs.Common.{◌≡◌, ◌<◌, ◌≤◌, ◌∙◌, ℕ, List, length, Some, ap, sym, subst, rules}
+use Rattle.std.proofs.Common.{◌<◌, ◌≤◌, ◌∙◌, ℕ, List, length, Some, ap, sym, subst, rules}
 use Rattle.hfs_finds.specs.Finds.{AreFinds, IsFoundIn, found_directory}
 use Rattle.hfs_collection.proofs.VolumeGiving.{held_is, too_long}
 use Rattle.hfs_collection.proofs.holding.hold.Goals as goal
