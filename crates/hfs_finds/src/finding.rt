@@ -67,6 +67,7 @@ fn finds_by(
 ) -> Result<Finds, AllocError>
     requires size { 512 ≤ mdb.allocation_block_size }
     requires directory { directory_of blocks.now.bytes.now ≡ Some directory }
+    requires within { directory < block_count blocks.now.bytes.now }
     ensures mdb { IfOk result (λ finds. finds.mdb ≡ mdb) }
     ensures finds { IfOk result (AreFinds blocks.now.bytes.now) }
 {

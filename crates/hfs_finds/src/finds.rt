@@ -1,5 +1,5 @@
 //! What is found of an image by its directory.
-ghost use Rattle.std.specs.Prelude.{◌≤◌};
+ghost use Rattle.std.specs.Prelude.{◌<◌, ◌≤◌};
 ghost use Rattle.hfs_rescue.specs.TreeFiles.{AreThere};
 
 use hfs_fields::Mdb;
@@ -29,6 +29,7 @@ pub struct Finds {
     pub items: Vec<FoundRecord>,
     /// Where they lie, and behind them the folders that only threads name.
     pub places: Places,
+    ghost within: { directory < total },
     ghost size: { 512 ≤ mdb.allocation_block_size },
     ghost extents_there: { AreThere total mdb extents_file.items },
     ghost catalog_there: { AreThere total mdb catalog_file.items },
