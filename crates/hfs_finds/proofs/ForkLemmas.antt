@@ -1,5 +1,5 @@
 -- Bytes of forks that are added one block after the other.
-use Rattle.std.proofs.Common.{◌≡◌, ◌∙◌, ℕ, ◌+◌, ◌-◌, ◌≤◌, ◌<◌, List, [], ◌∷◌, ◌++◌, length, drop, take, get_or, replicate, append_assoc, append-nil, Option, refl, ap, sym, arith}
+use Rattle.std.proofs.Common.{◌≡◌, ◌∙◌, ℕ, ◌+◌, ◌-◌, ◌≤◌, ◌<◌, List, ◌∷◌, ◌++◌, length, drop, get_or, replicate, append_assoc, append-nil, Option, ap, sym, arith}
 use Rattle.std.specs.Prelude.{min}
 use Rattle.std.proofs.lemmas.List.{drop_all, drop_more, replicate-append-replicate}
 use Rattle.hfs_fields.specs.declared.mdb.Mdb.{Mdb}

@@ -10,7 +10,7 @@ use Rattle.hfs_rescue.specs.Directory.{directory_in, directory_of}
 use Rattle.hfs_remains.specs.Verdicts.{Salvaged, all_used, shares_of}
 use Rattle.hfs_finds.specs.declared.finds.Finds.{Finds}
 use Rattle.hfs_finds.specs.Finds.{AreFinds, found_items, found_overflow}
-use Rattle.hfs_finds.specs.Images.{FoundImage, IsSalvageOf, found_image, kept_image, owned}
+use Rattle.hfs_finds.specs.Images.{IsSalvageOf, found_image, kept_image, owned}
 
 -- what is kept of an image is what is found of it
 pub kept_found : (image : List ℕ) (finds : Finds) (salvage : Salvaged) → AreFinds image finds → IsSalvageOf finds (4 * length image) salvage

@@ -1,5 +1,5 @@
 -- What is found of an image by its directory.
-use Rattle.std.specs.Prelude.{◌≡◌, ℕ, List, map, Option, Some, None}
+use Rattle.std.specs.Prelude.{◌≡◌, ℕ, Bool, ◌&&◌, not, List, map, Option, Some, None}
 use Rattle.std.specs.Option.{option_map}
 use Rattle.hfs_fields.specs.declared.mdb.Mdb.{Mdb}
 use Rattle.hfs_blocks.specs.Blocks.{block_at, block_count}
@@ -8,9 +8,10 @@ use Rattle.hfs_places.specs.declared.things.Thing.{Thing}
 use Rattle.hfs_places.specs.Things.{things_of}
 use Rattle.hfs_remains.specs.Records.{namings_of, thing_of}
 use Rattle.hfs_rescue.specs.declared.catalog.FoundRecord.{FoundRecord}
-use Rattle.hfs_rescue.specs.Directory.{directory_of, mdb_at}
+use Rattle.hfs_rescue.specs.CatalogRecords.{catalog_nodes, is_catalog_right}
+use Rattle.hfs_rescue.specs.Directory.{directory_of, mdb_at, tree_begins}
 use Rattle.hfs_rescue.specs.Items.{items_of}
-use Rattle.hfs_rescue.specs.Remains.{catalog_file_blocks, extents_file_blocks, remaining_overflow, remaining_records}
+use Rattle.hfs_rescue.specs.Remains.{catalog_file_blocks, catalog_file_extents, extents_file_blocks, remaining_overflow, remaining_records}
 use Rattle.hfs_rescue.specs.TreeFiles.{FileBlocks}
 use Rattle.hfs_finds.specs.declared.finds.Finds.{Finds}
 
@@ -19,6 +20,11 @@ abbrev pub found_directory : List ℕ → Option Mdb
 found_directory image = option_map (mdb_at (block_at image)) (directory_of image)
 
 -- ---- by this directory
+
+-- neither tree begins where it says
+abbrev pub is_unsure : List ℕ → Mdb → Bool
+is_unsure image mdb =
+    not (tree_begins (block_count image) (block_at image) mdb mdb.extents_file) && not (tree_begins (block_count image) (block_at image) mdb mdb.catalog_file)
 
 -- the records of the extents tree
 abbrev pub found_overflow : List ℕ → Mdb → Overflow
@@ -30,6 +36,11 @@ found_extents_file image mdb = extents_file_blocks (block_count image) mdb
 
 abbrev pub found_catalog_file : List ℕ → Mdb → FileBlocks
 found_catalog_file image mdb = catalog_file_blocks (block_count image) (block_at image) mdb
+
+-- the catalog has its shape, and in each record one of the four kinds
+abbrev pub is_found_right : List ℕ → Mdb → Bool
+is_found_right image mdb =
+    is_catalog_right mdb (catalog_file_extents (block_count image) (block_at image) mdb) (catalog_nodes (block_at image) mdb (found_catalog_file image mdb))
 
 -- the records of the catalog, and the items among them
 abbrev pub found_records : List ℕ → Mdb → List FoundRecord
@@ -44,10 +55,13 @@ found_things image mdb = things_of (map thing_of (found_items image mdb)) (namin
 
 -- all of these
 pub record AreFinds (image : List ℕ) (finds : Finds) : Type 0 where
+  pub directory_is : directory_of image ≡ Some finds.directory
+  pub unsure_is : finds.is_unsure ≡ is_unsure image finds.mdb
   pub total_is : finds.total ≡ block_count image
   pub overflow_is : finds.overflow.items ≡ found_overflow image finds.mdb
   pub extents_file_is : finds.extents_file.items ≡ found_extents_file image finds.mdb
   pub catalog_file_is : finds.catalog_file.items ≡ found_catalog_file image finds.mdb
+  pub right_is : finds.is_catalog_right ≡ is_found_right image finds.mdb
   pub items_are : finds.items.items ≡ found_items image finds.mdb
   pub places_are : finds.places ≡ found_things image finds.mdb
 

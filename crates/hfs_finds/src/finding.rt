@@ -1,15 +1,23 @@
 //! Finding what there is of an image.
-ghost use Rattle.std.specs.Prelude.{◌≡◌, ◌≤◌, map, IfOk};
+ghost use Rattle.std.specs.Prelude.{◌≡◌, ◌≤◌, ◌<◌, ◌^◌, length, map, Some, IfOk};
+ghost use Rattle.hfs_blocks.specs.Blocks.{block_at, block_count};
 ghost use Rattle.hfs_places.specs.Things.{things_of};
 ghost use Rattle.hfs_remains.specs.Records.{thing_of};
-ghost use Rattle.hfs_finds.specs.Finds.{AreFinds, IsFoundIn};
+ghost use Rattle.hfs_rescue.specs.CatalogRecords.{catalog_nodes, is_catalog_right};
+ghost use Rattle.hfs_rescue.specs.Directory.{directory_of};
+ghost use Rattle.hfs_rescue.specs.OverflowRecords.{catalog_extents};
+ghost use Rattle.hfs_rescue.specs.TreeFiles.{AreThere};
+ghost use Rattle.hfs_finds.specs.Finds.{AreFinds, IsFoundIn, is_unsure};
 
 use crate::finds::Finds;
 use hfs_blocks::{Blocks, ImageBytes};
 use hfs_fields::Mdb;
 use hfs_places::{Places, Thing};
 use hfs_remains::{namings, things_of};
-use hfs_rescue::{FoundRecord, Remains, directory_of, find_remains, items_of, read_mdb_at};
+use hfs_rescue::{
+    FileNodes, FoundRecord, OverflowRecord, Remains, catalog_extents, directory_of, find_remains,
+    is_catalog_right, items_of, read_mdb_at, tree_begins,
+};
 use std::alloc::{AllocError, Global};
 
 /// The places of items, and of the folders that only these threads name.
@@ -21,9 +29,45 @@ fn places_of(alloc: Global, items: &[FoundRecord], named: &[Thing]) -> Result<Pl
     Ok(places)
 }
 
-/// What is found of an image by this directory.
-fn finds_by(alloc: Global, blocks: &ImageBytes<'_>, mdb: Mdb) -> Result<Finds, AllocError>
-    requires { 512 ≤ mdb.allocation_block_size }
+/// Whether neither tree begins where the directory says.
+fn is_unsure(blocks: &ImageBytes<'_>, mdb: &Mdb) -> bool
+    requires { 512 ≤ mdb.now.allocation_block_size }
+    ensures { result ≡ is_unsure blocks.now.bytes.now mdb.now }
+{
+    !tree_begins(blocks, mdb, &mdb.extents_file) && !tree_begins(blocks, mdb, &mdb.catalog_file)
+}
+
+/// Whether the catalog is right, whose file has these blocks, where these are the records of the extents tree.
+fn is_right(
+    alloc: Global,
+    blocks: &ImageBytes<'_>,
+    mdb: &Mdb,
+    overflow: &[OverflowRecord],
+    file: &[Option<u16>],
+) -> Result<bool, AllocError>
+    requires size { 512 ≤ mdb.now.allocation_block_size }
+    requires there { AreThere (block_count blocks.now.bytes.now) mdb.now file.now }
+    requires few { length file.now < 2 ^ 40 }
+    ensures { IfOk result (λ right. right ≡ is_catalog_right mdb.now
+        (catalog_extents overflow.now mdb.now)
+        (catalog_nodes (block_at blocks.now.bytes.now) mdb.now file.now)) }
+{
+    let extents = catalog_extents(alloc, overflow, mdb)?;
+    let nodes = FileNodes { blocks, mdb, file };
+    let right = is_catalog_right(alloc, &nodes, &extents)?;
+    Ok(right)
+}
+
+/// What is found of an image by the directory in this block.
+fn finds_by(
+    alloc: Global,
+    blocks: &ImageBytes<'_>,
+    directory: u32,
+    mdb: Mdb,
+) -> Result<Finds, AllocError>
+    requires size { 512 ≤ mdb.allocation_block_size }
+    requires directory { directory_of blocks.now.bytes.now ≡ Some directory }
+    requires within { directory < block_count blocks.now.bytes.now }
     ensures mdb { IfOk result (λ finds. finds.mdb ≡ mdb) }
     ensures finds { IfOk result (AreFinds blocks.now.bytes.now) }
 {
@@ -34,15 +78,19 @@ fn finds_by(alloc: Global, blocks: &ImageBytes<'_>, mdb: Mdb) -> Result<Finds, A
         catalog_file,
         found,
     } = find_remains(alloc, blocks, &mdb)?;
+    let is_catalog_right = is_right(alloc, blocks, &mdb, &overflow, &catalog_file)?;
     let named = namings(alloc, &found)?;
     let items = items_of(alloc, found)?;
     let places = places_of(alloc, &items, &named)?;
     Ok(Finds {
+        directory,
+        is_unsure: is_unsure(blocks, &mdb),
         mdb,
         total,
         overflow,
         extents_file,
         catalog_file,
+        is_catalog_right,
         items,
         places,
     })
@@ -58,6 +106,6 @@ pub fn find_in(alloc: Global, image: &[u8]) -> Result<Option<Finds>, AllocError>
     };
     let blocks = ImageBytes { bytes: image };
     let mdb = read_mdb_at(&blocks, directory);
-    let finds = finds_by(alloc, &blocks, mdb)?;
+    let finds = finds_by(alloc, &blocks, directory, mdb)?;
     Ok(Some(finds))
 }

@@ -1,5 +1,5 @@
 //! What is found of an image by its directory.
-ghost use Rattle.std.specs.Prelude.{◌≤◌};
+ghost use Rattle.std.specs.Prelude.{◌<◌, ◌≤◌};
 ghost use Rattle.hfs_rescue.specs.TreeFiles.{AreThere};
 
 use hfs_fields::Mdb;
@@ -9,8 +9,12 @@ use hfs_rescue::{FoundRecord, OverflowRecord};
 /// What is found of an image by its directory.
 #[derive(Drop)]
 pub struct Finds {
+    /// The number of the block that is taken for the directory.
+    pub directory: u32,
     /// The directory.
     pub mdb: Mdb,
+    /// Whether neither tree begins where it says.
+    pub is_unsure: bool,
     /// How many logical blocks the image has.
     pub total: u32,
     /// The records of the extents tree.
@@ -19,10 +23,13 @@ pub struct Finds {
     pub extents_file: Vec<Option<u16>>,
     /// Those of the catalog file.
     pub catalog_file: Vec<Option<u16>>,
+    /// Whether the catalog has its shape, and in each record one of the four kinds.
+    pub is_catalog_right: bool,
     /// The items, in their order.
     pub items: Vec<FoundRecord>,
     /// Where they lie, and behind them the folders that only threads name.
     pub places: Places,
+    ghost within: { directory < total },
     ghost size: { 512 ≤ mdb.allocation_block_size },
     ghost extents_there: { AreThere total mdb extents_file.items },
     ghost catalog_there: { AreThere total mdb catalog_file.items },

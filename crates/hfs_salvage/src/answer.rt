@@ -1,9 +1,13 @@
 //! What is told of an image of which something remains.
+ghost use Rattle.std.specs.Prelude.{◌≡◌, ◌++◌, Some, IfOk, OnOk, string_bytes};
+ghost use Rattle.hfs_rescue_items.specs.Sums.{AreSums};
+ghost use Rattle.hfs_texts.specs.Texts.{Gains};
+ghost use Rattle.hfs_salvage.specs.Answers.{IsAnswerBy, answer_status, answer_text, check_line, directory_line, found_sums, sums_lines};
 
-use crate::loading::LoadedImage;
-use crate::parts::Parts;
-use hfs_commands::Status;
-use hfs_rescue_items::FoundSums;
+use crate::image::HeldImage;
+use hfs_check::MountFault;
+use hfs_commands::{Refusal, Status};
+use hfs_rescue_items::{Found, FoundSums, sums_of};
 use hfs_texts::push_line;
 use std::alloc::{AllocError, Global};
 
@@ -16,59 +20,80 @@ pub struct RescueAnswer {
     pub lines: String,
 }
 
-/// The first line of a text, without its line feed.
-fn first_line(text: &str) -> &str {
-    match text.split_once('\n') {
-        Some((first, _)) => first,
-        None => text,
+/// Appends the first line of an image's check.
+fn push_check(text: &mut String, fault: &Option<MountFault>) -> Result<(), AllocError>
+    ensures { OnOk result (Gains text.old text.new (check_line fault.now)) }
+{
+    match fault {
+        None => text.push_str("sound\n"),
+        Some(why) => push_line(text, "refused", Refusal(*why)),
     }
 }
 
 /// Appends the line of the directory.
-fn push_directory(text: &mut String, directory: u32, is_unsure: bool) -> Result<(), AllocError> {
+fn push_directory(text: &mut String, directory: u32, is_unsure: bool) -> Result<(), AllocError>
+    ensures { OnOk result (Gains text.old text.new (directory_line (Some directory) is_unsure)) }
+{
+    text.push_str("directory ")?;
+    write!(text, "{}", directory)?;
     if is_unsure {
-        write!(text, "directory {directory} unsure\n")
+        text.push_str(" unsure\n")
     } else {
-        write!(text, "directory {directory}\n")
+        text.push_str("\n")
     }
 }
 
-/// The lines of an image.
-fn lines_of(
-    alloc: Global,
-    image: &LoadedImage,
-    parts: &Parts,
-    sums: &FoundSums,
-) -> Result<String, AllocError> {
+/// Appends how much remains.
+#[tactic(auto, unfolding(crate::specs::Answers::sums_lines))]
+fn push_sums(text: &mut String, sums: &FoundSums) -> Result<(), AllocError>
+    ensures { OnOk result (Gains text.old text.new (sums_lines sums.now)) }
+{
+    push_line(text, "files", sums.files)?;
+    push_line(text, "folders", sums.folders)?;
+    push_line(text, "bytes", sums.bytes)?;
+    push_line(text, "whole", sums.whole)?;
+    push_line(text, "damaged", sums.files.saturating_sub(sums.whole))
+}
+
+/// The lines of an image of which so much remains.
+#[tactic(auto, unfolding(crate::specs::Answers::answer_text))]
+fn lines_of(alloc: Global, image: &HeldImage, sums: &FoundSums) -> Result<String, AllocError>
+    ensures { IfOk result (λ text. string_bytes text ≡ answer_text image.now.check.fault
+        (Some image.now.finds.directory) image.now.finds.is_unsure sums.now) }
+{
     let mut text = String::new(alloc);
-    text.push_str(first_line(image.check.lines.as_str()))?;
-    text.push('\n')?;
-    push_directory(&mut text, parts.directory, parts.is_unsure)?;
-    push_line(&mut text, "files", sums.files)?;
-    push_line(&mut text, "folders", sums.folders)?;
-    push_line(&mut text, "bytes", sums.bytes)?;
-    push_line(&mut text, "whole", sums.whole)?;
-    push_line(&mut text, "damaged", sums.files.saturating_sub(sums.whole))?;
+    push_check(&mut text, &image.check.fault)?;
+    push_directory(&mut text, image.finds.directory, image.finds.is_unsure)?;
+    push_sums(&mut text, sums)?;
     Ok(text)
 }
 
+/// The exit status where so much remains, and the catalog is right or not.
+fn status_of(sums: &FoundSums, is_right: bool) -> u8
+    ensures { result ≡ answer_status is_right sums.now }
+{
+    if sums.whole == sums.files && is_right {
+        Status::Done.number()
+    } else {
+        Status::CallRefused.number()
+    }
+}
+
 impl RescueAnswer {
-    /// What is told of an image of which so much remains. The only error is want of memory.
+    /// What is told of an image of which this was found. The only error is want of memory.
     pub(crate) fn of(
         alloc: Global,
-        image: &LoadedImage,
-        parts: &Parts,
-        sums: &FoundSums,
-    ) -> Result<RescueAnswer, AllocError> {
-        let is_whole = sums.whole == sums.files && parts.is_catalog_right;
-        let status = if is_whole {
-            Status::Done
-        } else {
-            Status::CallRefused
-        };
+        image: &HeldImage,
+        found: &Found<'_>,
+    ) -> Result<RescueAnswer, AllocError>
+        requires { found.now.mdb.now ≡ image.now.finds.mdb }
+        ensures { IfOk result (λ answer. IsAnswerBy image.now.bytes answer found.now) }
+    {
+        let sums = sums_of(alloc, found)?;
+        let lines = lines_of(alloc, image, &sums)?;
         Ok(RescueAnswer {
-            status: status.number(),
-            lines: lines_of(alloc, image, parts, sums)?,
+            status: status_of(&sums, image.finds.is_catalog_right),
+            lines,
         })
     }
 }

@@ -2,13 +2,19 @@
 #![tactic(auto)]
 
 mod answer;
+mod facts;
 mod filling;
+mod found;
+mod held;
+mod image;
 mod listing;
 mod loading;
-mod parts;
+mod watched;
 mod words;
 
 pub use crate::answer::RescueAnswer;
-pub use crate::filling::rescue;
-pub use crate::listing::list_rescue;
+pub use crate::filling::{give_remains, rescue};
+pub use crate::held::HeldBytes;
+pub use crate::image::{HeldImage, HoldFault};
+pub use crate::listing::{list_rescue, write_remains};
 pub use crate::words::{BagWords, RescueWords};

@@ -1,12 +1,23 @@
 //! The list of what remains.
+ghost use Rattle.std.specs.Prelude.{◌≡◌, ◌++◌, ◌<◌, ◌⊎◌, [], length, slice_index, IfErr, IfOk, OnErr, OnOk};
+ghost use Rattle.std.specs.Io.KnownBytes.{Appends};
+ghost use Rattle.hfs_commands.specs.Faults.{IsUnprinted};
+ghost use Rattle.hfs_rescue_items.specs.Lines.{remains_line, remains_text};
+ghost use Rattle.hfs_texts.specs.Writing.{AppendsFront};
+ghost use Rattle.hfs_salvage.specs.Answers.{IsAnswerOf};
+ghost use Rattle.hfs_salvage.specs.Faults.{IsUnlisted};
+ghost use Rattle.hfs_salvage.specs.Lists.{Gathers, TellsRemains, TellsRemainsFront};
+ghost use Rattle.hfs_salvage.specs.Words.{limit_of};
 
 use crate::answer::RescueAnswer;
-use crate::loading::{LoadedImage, find_parts, load_image};
-use crate::parts::Parts;
+use crate::found::found_in;
+use crate::image::HeldImage;
+use crate::loading::load_image;
 use crate::words::RescueWords;
 use hfs_commands::Fault;
-use hfs_remains::{Salvage, usual_limit};
-use hfs_rescue_items::{Found, push_remains_line, sums_of};
+use hfs_finds::salvage_of;
+use hfs_rescue::FoundRecord;
+use hfs_rescue_items::{Found, push_remains_line};
 use hfs_texts::put;
 use std::alloc::Global;
 use std::io::Write;
@@ -15,16 +26,14 @@ use std::rt::Files;
 /// How many bytes of text are gathered before they are written.
 const PIECE: usize = 65_536;
 
-/// How many bytes of forks are taken at most.
-pub(crate) fn limit_of(words: &RescueWords<'_>, image: &LoadedImage) -> u64 {
-    match words.limit {
-        Some(limit) => limit,
-        None => usual_limit(image.bytes().len().min(u32::MAX as usize) as u32),
-    }
-}
-
 /// Writes a text, and begins the next one.
-fn put_piece<W: Write>(writer: &mut W, text: &mut Vec<u8>) -> Result<(), Fault<'static>> {
+fn put_piece<W: Write>(writer: &mut W, text: &mut Vec<u8>) -> Result<(), Fault<'static>>
+    ensures written { OnOk result (Appends (W.contents writer.old) (W.contents writer.new) text.old.items) }
+    ensures empty { OnOk result (text.new.items ≡ []) }
+    ensures part { OnErr result (AppendsFront (W.contents writer.old) (W.contents writer.new)
+        text.old.items) }
+    ensures faults { IfErr result IsUnprinted }
+{
     let Ok(()) = put(writer, text) else {
         return Err(Fault::OutputFailed);
     };
@@ -32,51 +41,76 @@ fn put_piece<W: Write>(writer: &mut W, text: &mut Vec<u8>) -> Result<(), Fault<'
     Ok(())
 }
 
-/// Writes the lines of all items, in pieces.
+/// Gathers the line of an item with this number behind a text, and writes that where it has become long.
+fn gather_line<W: Write>(
+    alloc: Global,
+    writer: &mut W,
+    text: &mut Vec<u8>,
+    found: &Found<'_>,
+    i: usize,
+    item: &FoundRecord,
+) -> Result<(), Fault<'static>>
+    ensures gathered { OnOk result (Gathers (remains_line found.now i item.now) text.old.items text.new.items
+        (W.contents writer.old) (W.contents writer.new)) }
+    ensures part { OnErr result (AppendsFront (W.contents writer.old) (W.contents writer.new)
+        (text.old.items ++ remains_line found.now i item.now)) }
+    ensures faults { IfErr result IsUnprinted }
+{
+    let Ok(()) = push_remains_line(alloc, text, found, i, item) else {
+        return Err(Fault::NoMemory);
+    };
+    if text.len() < PIECE {
+        return Ok(());
+    }
+    put_piece(writer, text)
+}
+
+/// Writes the lines of all items, in pieces of 65,536 bytes and a line.
 fn write_lines<W: Write>(
     alloc: Global,
     writer: &mut W,
     found: &Found<'_>,
-) -> Result<(), Fault<'static>> {
+) -> Result<(), Fault<'static>>
+    ensures written { OnOk result (Appends (W.contents writer.old) (W.contents writer.new)
+        (remains_text found.now)) }
+    ensures part { OnErr result (AppendsFront (W.contents writer.old) (W.contents writer.new)
+        (remains_text found.now)) }
+    ensures faults { IfErr result IsUnprinted }
+{
     let mut text = Vec::new(alloc);
     for i in 0..found.items.len() {
-        let Ok(()) = push_remains_line(alloc, &mut text, found, i, &found.items[i]) else {
-            return Err(Fault::NoMemory);
-        };
-        if text.len() >= PIECE {
-            put_piece(writer, &mut text)?;
-        }
+        gather_line(alloc, writer, &mut text, found, i, &found.items[i])?;
     }
     put_piece(writer, &mut text)
 }
 
-/// Writes the list of what was found, and answers what is told of it.
-fn write_list<'a, W: Write>(
+/// Writes the list of what was found of an image.
+///
+/// A line for each item that remains, in their order; and answers what is told of the image. Faults: memory was refused; `OutputFailed`, and
+/// then a part of the lines may have gone out, from the first on.
+pub fn write_remains<W: Write>(
     alloc: Global,
     writer: &mut W,
-    image: &LoadedImage,
-    parts: &Parts,
-    words: &RescueWords<'a>,
-) -> Result<RescueAnswer, Fault<'a>> {
-    let limit = limit_of(words, image);
-    let Ok(salvage) = Salvage::of(alloc, parts.trees(), &parts.items, limit) else {
+    image: &HeldImage,
+    words: &RescueWords<'_>,
+) -> Result<RescueAnswer, Fault<'static>>
+    ensures written { OnOk result (TellsRemains image.now.bytes (limit_of words.now image.now.bytes)
+        (W.contents writer.old) (W.contents writer.new)) }
+    ensures part { OnErr result (TellsRemainsFront image.now.bytes (limit_of words.now image.now.bytes)
+        (W.contents writer.old) (W.contents writer.new)) }
+    ensures answer { IfOk result (IsAnswerOf image.now.bytes (limit_of words.now image.now.bytes)) }
+    ensures faults { IfErr result IsUnprinted }
+{
+    let limit = words.limit_for(image.bytes.bytes().len());
+    let Ok(salvage) = salvage_of(alloc, &image.finds, limit) else {
         return Err(Fault::NoMemory);
     };
-    let found = Found {
-        image: image.bytes(),
-        mdb: &parts.mdb,
-        items: &parts.items,
-        places: &parts.places,
-        salvage: &salvage,
-    };
-    let Ok(sums) = sums_of(alloc, &found) else {
+    let found = found_in(image, &salvage);
+    let Ok(answer) = RescueAnswer::of(alloc, image, &found) else {
         return Err(Fault::NoMemory);
     };
     write_lines(alloc, writer, &found)?;
-    match RescueAnswer::of(alloc, image, parts, &sums) {
-        Ok(answer) => Ok(answer),
-        Err(_) => Err(Fault::NoMemory),
-    }
+    Ok(answer)
 }
 
 /// Writes a line for each item that remains of an image, and answers what is told of it behind these. Faults, the first that holds: the image can't
@@ -86,8 +120,9 @@ pub fn list_rescue<'a, R: Files + AllocGlobal, W: Write>(
     rt: &R,
     writer: &mut W,
     words: &RescueWords<'a>,
-) -> Result<RescueAnswer, Fault<'a>> {
+) -> Result<RescueAnswer, Fault<'a>>
+    ensures { IfErr result (IsUnlisted words.now) }
+{
     let image = load_image(rt, words)?;
-    let parts = find_parts(rt.alloc(), &image, words)?;
-    write_list(rt.alloc(), writer, &image, &parts, words)
+    write_remains(rt.alloc(), writer, &image, words)
 }

@@ -1,129 +1,102 @@
-//! An image whose bytes are all there.
+//! Loading an image whole.
+ghost use Rattle.std.specs.Prelude.{◌≡◌, None, IfErr, IfOk, IfSome};
+ghost use Rattle.hfs_commands.specs.Faults.{IsUnopened};
+ghost use Rattle.hfs_containers.specs.Ranges.{bytes_in};
+ghost use Rattle.hfs_take.specs.Opening.{known_in};
+ghost use Rattle.hfs_salvage.specs.Faults.{IsUnread};
 
-use crate::parts::Parts;
+use crate::held::HeldBytes;
+use crate::image::{HeldImage, HoldFault};
 use crate::words::RescueWords;
-use hfs_commands::{CheckAnswer, Fault, OpenedFile, Window, report_answer};
+use hfs_check::MountFault;
+use hfs_commands::{Fault, OpenedFile, Window};
 use hfs_containers::{ByteRange, ReadAt};
-use hfs_needed::needed_report;
 use hfs_take::{FoundPart, find_part};
 use std::alloc::Global;
 use std::io::{Read, Seek};
 use std::rt::Files;
 
-/// The fewest and the most bytes of an image in which a directory is looked for.
-const SHORTEST: u64 = 1_536;
-
+/// The most bytes of an image in which a directory is looked for.
 const LONGEST: u64 = 2_147_483_648;
 
-/// All bytes of an image, which lie from a place on among others, and what is told of it.
-#[derive(Drop)]
-pub(crate) struct LoadedImage {
-    all: Vec<u8>,
-    from: usize,
-    len: usize,
-    /// The line of where the volume lies in its file, where it was looked for there.
-    pub(crate) line: Option<String>,
-    /// What its check tells.
-    pub(crate) check: CheckAnswer,
-}
-
-impl LoadedImage {
-    /// The bytes.
-    pub(crate) fn bytes(&self) -> &[u8] {
-        let end = self.from.saturating_add(self.len).min(self.all.len());
-        let from = self.from.min(end);
-        &self.all[from..end]
-    }
-}
-
-/// Bytes of a file.
-#[derive(Drop)]
-struct Held {
-    all: Vec<u8>,
-    from: usize,
-}
-
-/// All bytes of a range of a file. What is held as a whole already stays so.
-fn hold<'a, F: Read + Seek + Drop>(
+/// All bytes of a range of a file, which are read at once.
+fn read_range<'a, S: ReadAt>(
     alloc: Global,
-    source: OpenedFile<F>,
+    file: &mut S,
     range: ByteRange,
     path: &'a str,
-) -> Result<Held, Fault<'a>> {
-    match source {
-        OpenedFile::Whole(all) => Ok(Held {
-            all,
-            from: range.start as usize,
-        }),
-        OpenedFile::Seekable(mut file) => {
-            let Ok(mut all) = vec![in alloc; 0u8; range.len as usize] else {
-                return Err(Fault::NoMemory);
-            };
-            match file.read_at(range.start, &mut all) {
-                Ok(()) => Ok(Held { all, from: 0 }),
-                Err(_) => Err(Fault::CannotRead(path)),
-            }
-        }
-    }
-}
-
-/// Why an image is refused in which no directory is found.
-fn refusal<'a>(check: &CheckAnswer, path: &'a str) -> Fault<'a> {
-    match check.fault {
-        Some(why) => Fault::of_mount(why),
-        None => Fault::CannotRead(path),
-    }
-}
-
-/// An image with all bytes of a part of a file. Faults: reading it; the image's own, where it is too short or too long for a directory; memory was
-/// refused.
-fn load_part<'a, F: Read + Seek + Drop>(
-    alloc: Global,
-    part: FoundPart<F>,
-    path: &'a str,
-) -> Result<LoadedImage, Fault<'a>> {
-    let FoundPart { mut bytes, line } = part;
-    let len = bytes.len();
-    let report = match needed_report(alloc, &mut bytes, len) {
-        Ok(report) => report,
-        Err(fault) => return Err(Fault::of_sparse(fault, path)),
-    };
-    let Ok(check) = report_answer(alloc, &report) else {
+) -> Result<HeldBytes, Fault<'a>>
+    ensures { IfErr result (IsUnopened path.entry None) }
+{
+    let Ok(mut all) = vec![in alloc; 0u8; range.len as usize] else {
         return Err(Fault::NoMemory);
     };
-    if len < SHORTEST || len > LONGEST {
-        return Err(refusal(&check, path));
+    let Ok(()) = file.read_at(range.start, &mut all) else {
+        return Err(Fault::CannotRead(path));
+    };
+    let whole = ByteRange {
+        start: 0,
+        len: range.len,
+    };
+    match HeldBytes::of(all, whole) {
+        Some(held) => Ok(held),
+        None => Err(Fault::CannotRead(path)),
     }
-    let Window { source, range } = bytes;
-    let held = hold(alloc, source, range, path)?;
-    Ok(LoadedImage {
-        all: held.all,
-        from: held.from,
-        len: len as usize,
-        line,
-        check,
-    })
 }
 
-/// The image that is asked for. Faults, the first that holds: it can't be read; `NoVolume`; the image's own, where it is too short or too long for a
-/// directory; memory was refused.
+/// All bytes of a range of what is held as a whole already. Error: it doesn't lie there.
+fn hold_range<'a>(all: Vec<u8>, range: ByteRange, path: &'a str) -> Result<HeldBytes, Fault<'a>>
+    ensures held { IfOk result (λ held. held ≡ bytes_in range all.items) }
+    ensures fault { IfErr result (IsUnopened path.entry None) }
+{
+    match HeldBytes::of(all, range) {
+        Some(held) => Ok(held),
+        None => Err(Fault::CannotRead(path)),
+    }
+}
+
+/// All bytes of a range of a file. Those of a file that is held as a whole aren't copied.
+fn hold<'a, F: Read + Seek + Drop>(
+    alloc: Global,
+    bytes: Window<OpenedFile<F>>,
+    path: &'a str,
+) -> Result<HeldBytes, Fault<'a>>
+    ensures held { IfOk result (λ held. IfSome (known_in bytes) (λ all. held ≡ all)) }
+    ensures fault { IfErr result (IsUnopened path.entry None) }
+{
+    let Window { source, range } = bytes;
+    match source {
+        OpenedFile::Whole(all) => hold_range(all, range, path),
+        OpenedFile::Seekable(mut file) => read_range(alloc, &mut file, range, path),
+    }
+}
+
+/// What it means for an image's file that the image isn't held.
+fn fault_of<'a>(fault: HoldFault, words: &RescueWords<'a>) -> Fault<'a>
+    ensures { IsUnread words.now result }
+{
+    match fault {
+        HoldFault::NoDirectory(Some(why)) => Fault::Refused(why),
+        HoldFault::NoDirectory(None) => Fault::CannotRead(words.image),
+        HoldFault::NoMemory => Fault::NoMemory,
+    }
+}
+
+/// The image that is asked for, with all its bytes, and what is found of it. Faults, the first that holds: it can't be read; `NoVolume`; the
+/// image's own, where there is no directory in it; memory was refused.
 pub(crate) fn load_image<'a, R: Files + AllocGlobal>(
     rt: &R,
     words: &RescueWords<'a>,
-) -> Result<LoadedImage, Fault<'a>> {
-    let part = find_part(rt, words.image, words.volume)?;
-    load_part(rt.alloc(), part, words.image)
-}
-
-/// What is found of an image. Faults: the image's own, where there is no directory in it; memory was refused.
-pub(crate) fn find_parts<'a>(
-    alloc: Global,
-    image: &LoadedImage,
-    words: &RescueWords<'a>,
-) -> Result<Parts, Fault<'a>> {
-    match Parts::of(alloc, image.bytes()) {
-        Ok(Some(parts)) => Ok(parts),
-        Ok(None) => Err(refusal(&image.check, words.image)),
-        Err(_) => Err(Fault::NoMemory),
+) -> Result<HeldImage, Fault<'a>>
+    ensures { IfErr result (IsUnread words.now) }
+{
+    let FoundPart { bytes, line } = find_part(rt, words.image, words.volume)?;
+    if bytes.len() > LONGEST {
+        return Err(Fault::Refused(MountFault::TooLarge));
+    }
+    let held = hold(rt.alloc(), bytes, words.image)?;
+    match HeldImage::of(rt.alloc(), held, line) {
+        Ok(image) => Ok(image),
+        Err(fault) => Err(fault_of(fault, words)),
     }
 }

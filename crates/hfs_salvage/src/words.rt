@@ -1,4 +1,8 @@
 //! What is asked for.
+ghost use Rattle.std.specs.Prelude.{◌≡◌, ◌≤◌};
+ghost use Rattle.hfs_salvage.specs.Words.{limit_or_usual};
+
+use hfs_remains::usual_limit;
 
 /// What is to be looked for in an image, and how much of it is taken.
 #[derive(Clone, Copy)]
@@ -21,4 +25,17 @@ pub struct BagWords<'a> {
     pub is_digested: bool,
     /// The name of the program, and its version.
     pub program: &'a str,
+}
+
+impl RescueWords<'_> {
+    /// How many bytes of forks are taken at most of an image of `len` bytes.
+    pub(crate) fn limit_for(&self, len: usize) -> u64
+        requires { len ≤ 2147483648 }
+        ensures { result ≡ limit_or_usual self.now.limit len }
+    {
+        match self.limit {
+            Some(limit) => limit,
+            None => usual_limit(len as u32),
+        }
+    }
 }

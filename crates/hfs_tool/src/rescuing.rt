@@ -1,6 +1,7 @@
 //! What remains of a damaged volume, as it is shown.
 
 use crate::commands::print_lines;
+use crate::progress::ItemProgress;
 use crate::taking::print_fault;
 use hfs_commands::Fault;
 use hfs_salvage::{BagWords, RescueAnswer, RescueWords, list_rescue, rescue};
@@ -25,7 +26,8 @@ fn print_rescued<'a>(
 
 /// Takes what remains off a volume, and prints what is told of it.
 pub fn rescue_volume<'a>(rt: &HostRuntime, words: &BagWords<'a>) -> Result<u8, Fault<'a>> {
-    let rescued = rescue(rt, words);
+    let progress = ItemProgress::on(rt);
+    let rescued = rescue(rt, words, &progress);
     print_rescued(rt, rescued)
 }
 

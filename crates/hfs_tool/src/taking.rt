@@ -1,29 +1,10 @@
 //! What a volume that is taken apart shows.
 
 use crate::commands::print_lines;
+use crate::progress::ItemProgress;
 use hfs_commands::{Fault, Status};
-use hfs_take::{BagSums, TakeFault, TakeWords, Watch, take, taken_text};
-use std::io::IsTerminal;
+use hfs_take::{BagSums, TakeFault, TakeWords, take, taken_text};
 use std::thread::Threads;
-
-/// After how many items a line is printed.
-const ITEMS_SHOWN: u64 = 1_000;
-
-/// A line on standard error after each 1,000 items, where standard error is a terminal.
-#[derive(Drop)]
-struct ItemProgress<'a> {
-    rt: &'a HostRuntime,
-    is_shown: bool,
-}
-
-impl Watch for ItemProgress<'_> {
-    fn item_came(&self, number: u64, all: u64) {
-        if self.is_shown && number <= all && number % ITEMS_SHOWN == 0 {
-            // Where the terminal takes nothing more, the work goes on.
-            let _printed = eprintln!(self.rt; "{number} of {all} items");
-        }
-    }
-}
 
 /// Takes a volume apart, and prints what the folder has then.
 pub fn take_volume<'a, T: Threads>(
@@ -31,10 +12,7 @@ pub fn take_volume<'a, T: Threads>(
     threads: &T,
     words: &TakeWords<'a>,
 ) -> Result<u8, Fault<'a>> {
-    let progress = ItemProgress {
-        rt,
-        is_shown: rt.stderr().is_terminal(),
-    };
+    let progress = ItemProgress::on(rt);
     let taken = take(rt, threads, words, &progress);
     print_taken(rt, taken)
 }

@@ -1,5 +1,5 @@
 -- An image with a directory isn't too long.
-use Rattle.std.proofs.Common.{◌≡◌, ◌≤◌, length, sym, arith}
+use Rattle.std.proofs.Common.{◌≤◌, length, sym, arith}
 use Rattle.hfs_finds.proofs.ImageLemmas.{few_bytes}
 use Rattle.hfs_finds.proofs.finding.find_in.Goals as goal
 

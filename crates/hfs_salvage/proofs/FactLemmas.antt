@@ -1,0 +1,84 @@
+-- Facts that tell the same make the same bag.
+use Rattle.std.proofs.Common.{◌≡◌, ◌∙◌, ℕ, List, [], ◌∷◌, ◌++◌, drop, replicate, take, Option, Some, None, refl, sym, ap}
+use Rattle.std.proofs.lemmas.List.{drop_at, length-replicate}
+use Rattle.std.specs.Option.{option_map}
+use Rattle.std.specs.Prelude.{codes}
+use Rattle.std.specs.Borrow.{Bor}
+use Rattle.std.specs.Fmt.{decimal}
+use Rattle.hfs_bag.specs.declared.facts.BagFacts.{BagFacts}
+use Rattle.hfs_bag.specs.Bags.{bytes_in, files_in, manifest, payload}
+use Rattle.hfs_bag.specs.Items.{BagItem}
+use Rattle.hfs_bag.specs.Sources.{BagTables}
+use Rattle.hfs_bag.specs.Tags.{bag_of, declaration_file, image_digest_line, info_text, manifest_file, oxum_text, remains_files, table_file, volume_line}
+use Rattle.hfs_blocks.specs.Blocks.{block_at}
+use Rattle.hfs_check.specs.Report.{report_of}
+use Rattle.hfs_commands.specs.Checks.{check_lines}
+use Rattle.hfs_fields.specs.declared.mdb.Mdb.{Mdb}
+use Rattle.hfs_fields.specs.Mdb.{mdb_in_block, mdb_of}
+use Rattle.hfs_finds.specs.Finds.{found_directory}
+use Rattle.hfs_names.specs.PlainTexts.{plain_text}
+use Rattle.hfs_rescue.specs.Directory.{directory_of}
+use Rattle.hfs_shelves.specs.Entries.{ShelfEntry, file}
+use Rattle.hfs_take.specs.Bags.{text_in}
+use Rattle.hfs_texts.specs.Info.{info_lines}
+use Rattle.hfs_texts.specs.Lines.{line}
+use Rattle.hfs_texts.specs.Reading.{info_text as head_lines}
+use Rattle.hfs_salvage.specs.declared.words.BagWords.{BagWords}
+use Rattle.hfs_salvage.specs.Bags.{TellsOf, field_name, report_text}
+
+abbrev line-told : Option (List ℕ) → List ℕ
+line-told None = []
+line-told (Some told) = line (codes "Source-Volume:") told
+
+volume-line-is : (volume : Option (Bor (List ℕ))) → volume_line volume ≡ line-told (text_in volume)
+volume-line-is None = refl
+volume-line-is (Some told) = refl
+
+info-same : (f g : BagFacts) → f.identifier.now ≡ g.identifier.now → f.program.now ≡ g.program.now → f.image.now ≡ g.image.now → volume_line f.volume ≡ volume_line g.volume
+    → f.bytes ≡ g.bytes → f.digest ≡ g.digest → (bytes files : ℕ) → info_text f bytes files ≡ info_text g bytes files
+unfolding info_text
+info-same f g identifier program image volume len digest bytes files = λ i. line (codes "External-Identifier:") (identifier i)
+    ++ line (codes "Bag-Software-Agent:") (program i)
+    ++ line (codes "Source-Image:") (image i)
+    ++ volume i
+    ++ line (codes "Source-Bytes:") (decimal (len i))
+    ++ image_digest_line (digest i)
+    ++ line (codes "Payload-Oxum:") (oxum_text bytes files)
+
+-- a bag by the texts of its report and of its facts
+abbrev bag-with : List BagItem → BagTables → List ℕ → List ℕ → List ShelfEntry
+bag-with items tables report info = payload items ++
+    (manifest_file items ∷ table_file tables.items ∷ (remains_files tables.remains ++ (file (codes "volume.txt") report ∷ file (codes "bag-info.txt") info ∷ declaration_file
+    ∷ file (codes "tagmanifest-sha256.txt")
+    (manifest (declaration_file ∷ file (codes "bag-info.txt") info ∷ table_file tables.items ∷ (remains_files tables.remains ++ (file (codes "volume.txt") report ∷ manifest_file items ∷ [])))) ∷ [])))
+
+pub facts_same : (image : List ℕ) (mdb other : Mdb) (told : Option (List ℕ)) (words : BagWords) (f g : BagFacts) → mdb ≡ other → TellsOf image mdb told words f → TellsOf image other told words g
+    → (items : List BagItem) (tables : BagTables) → bag_of items tables f ≡ bag_of items tables g
+facts_same image mdb other told words f g same a b items tables =
+    let identifier = a.identifier_is ∙ ap (λ (m : Mdb). plain_text (field_name m.volume_name)) same ∙ sym b.identifier_is in
+    let report = a.report_is ∙ ap (report_text image) same ∙ sym b.report_is in
+    let volume : volume_line f.volume ≡ volume_line g.volume = volume-line-is f.volume ∙ ap line-told (a.volume_is ∙ sym b.volume_is) ∙ sym (volume-line-is g.volume) in
+    let info = info-same f g identifier (a.program_is ∙ sym b.program_is) (a.image_is ∙ sym b.image_is) volume
+    (a.bytes_are ∙ sym b.bytes_are) (a.digest_is ∙ sym b.digest_is) (bytes_in (payload items)) (files_in (payload items)) in
+    λ i. bag-with items tables (report i) (info i)
+
+-- ---- the lines of the directory
+
+some-same : (a b : Mdb) → Some a ≡ Some b → a ≡ b
+some-same a b e = cc
+
+-- the lines of a head that has the block of the directory in its place are those of the directory
+pub report_is : (image all : List ℕ) (n : ℕ) (mdb : Mdb) (block head lines text : List ℕ) → found_directory image ≡ Some mdb → directory_of image ≡ Some n → all ≡ image
+    → block ≡ block_at all n → head ≡ replicate 1024 0 ++ block → lines ≡ check_lines (report_of image) → text ≡ head_lines head ++ lines → text ≡ report_text image mdb
+unfolding head_lines
+report_is image all n mdb block head lines text found directory same block_is head_is lines_are is =
+    is ∙ (λ i. info_lines (fields i) ++ lines_are i)
+  where
+    own : mdb_in_block (block_at image n) ≡ mdb
+    own = some-same (mdb_in_block (block_at image n)) mdb (ap (option_map (λ (k : ℕ). mdb_in_block (block_at image k))) (sym directory) ∙ found)
+
+    behind : drop 1024 head ≡ block_at image n
+    behind = ap (drop 1024) head_is ∙ drop_at (replicate 1024 0) block 1024 (length-replicate {A = ℕ} 1024 0) ∙ block_is ∙ ap (λ (bytes : List ℕ). block_at bytes n) same
+
+    fields : mdb_of (take 162 (drop 1024 head)) ≡ mdb
+    fields = ap (λ (bytes : List ℕ). mdb_of (take 162 bytes)) behind ∙ own

@@ -1,0 +1,4 @@
+pub mod FactLemmas
+pub mod SameLemmas
+pub mod BagLemmas
+pub mod ListLemmas

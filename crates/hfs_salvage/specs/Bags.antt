@@ -1,0 +1,62 @@
+-- The bag of what remains of an image.
+use Rattle.std.specs.Prelude.{◌≡◌, ℕ, List, [], ◌∷◌, ◌++◌, length, map, take, Option, string_bytes}
+use Rattle.hfs_bag.specs.declared.facts.BagFacts.{BagFacts}
+use Rattle.hfs_bag.specs.Items.{BagItem}
+use Rattle.hfs_bag.specs.Tags.{bag_of}
+use Rattle.hfs_check.specs.Report.{report_of}
+use Rattle.hfs_commands.specs.Checks.{check_lines}
+use Rattle.hfs_fields.specs.declared.mdb.Mdb.{Mdb}
+use Rattle.hfs_names.specs.PlainTexts.{plain_text}
+use Rattle.hfs_rescue_items.specs.declared.found.Found.{Found}
+use Rattle.hfs_rescue_items.specs.Plan.{whole_plan}
+use Rattle.hfs_rescue_items.specs.Sources.{planned_item, rescued_tables}
+use Rattle.hfs_shelves.specs.Entries.{ShelfEntry}
+use Rattle.hfs_take.specs.Bags.{digest_told, text_in}
+use Rattle.hfs_take.specs.Facts.{image_name}
+use Rattle.hfs_texts.specs.Info.{info_lines}
+use Rattle.hfs_salvage.specs.declared.facts.Told.{Told}
+use Rattle.hfs_salvage.specs.declared.image.HeldImage.{HeldImage}
+use Rattle.hfs_salvage.specs.declared.words.BagWords.{BagWords}
+use Rattle.hfs_salvage.specs.Found.{OfFound}
+use Rattle.hfs_salvage.specs.Words.{limit_of}
+
+-- the characters of a name, in a field where they stand behind their number
+abbrev pub field_name : List ℕ → List ℕ
+field_name [] = []
+field_name (len ∷ characters) = take len characters
+
+-- the lines of the directory, and those of the image's check
+abbrev pub report_text : List ℕ → Mdb → List ℕ
+report_text image mdb = info_lines mdb ++ check_lines (report_of image)
+
+-- a bag tells this of an image with these bytes and this directory, for these words; `line` is where the volume lies in its file, where it was looked for there
+pub record TellsOf (image : List ℕ) (mdb : Mdb) (line : Option (List ℕ)) (words : BagWords) (facts : BagFacts) : Type 0 where
+  pub identifier_is : facts.identifier.now ≡ plain_text (field_name mdb.volume_name)
+  pub program_is : facts.program.now ≡ words.program.now
+  pub image_is : facts.image.now ≡ image_name words.words.image.now
+  pub volume_is : text_in facts.volume ≡ line
+  pub bytes_are : facts.bytes ≡ length image
+  pub digest_is : facts.digest ≡ digest_told words.is_digested image
+  pub report_is : facts.report.now ≡ report_text image mdb
+
+-- what is made of what was found, in its order
+abbrev pub rescued_items : Found → List BagItem
+rescued_items found = map (planned_item found) (whole_plan found)
+
+-- the bag of it, which tells this
+abbrev pub rescued_bag : Found → BagFacts → List ShelfEntry
+rescued_bag found facts = bag_of (rescued_items found) (rescued_tables found) facts
+
+-- a fact about the bag of what remains of an image
+abbrev pub OfBag : List ℕ → Option (List ℕ) → BagWords → (List ShelfEntry → Type 0) → Type 0
+OfBag image line words Fact =
+    OfFound image (limit_of words.words image) (λ found. (facts : BagFacts) → TellsOf image found.mdb.now line words facts → Fact (rescued_bag found facts))
+
+-- ---- before the items are read
+
+-- this is told of an image
+pub record IsToldOf (image : HeldImage) (words : BagWords) (told : Told) : Type 0 where
+  pub identifier_is : string_bytes told.identifier ≡ plain_text (field_name image.finds.mdb.volume_name)
+  pub name_is : string_bytes told.name ≡ image_name words.words.image.now
+  pub digest_is : told.digest ≡ digest_told words.is_digested image.bytes
+  pub report_is : string_bytes told.report ≡ report_text image.bytes image.finds.mdb

@@ -1,0 +1,49 @@
+//! Bytes that are held as a whole.
+ghost use Rattle.std.specs.Prelude.{◌≡◌, IfSome};
+ghost use Rattle.hfs_containers.specs.Ranges.{bytes_in};
+
+use hfs_containers::ByteRange;
+use std::marker::Model;
+
+/// All bytes of a range, which may lie among others that are held as well. Contracts see them.
+#[derive(Drop)]
+pub struct HeldBytes {
+    all: Vec<u8>,
+    from: usize,
+    len: usize,
+}
+
+impl Model for HeldBytes {
+    ghost use Rattle.std.specs.Prelude.{ℕ, ◌+◌, ◌≤◌, List, length};
+    ghost use Rattle.hfs_fields.specs.Mdb.{bytes_at};
+
+    ghost Value = { List ℕ };
+
+    ghost view = { λ s. bytes_at s.from s.len s.all.items };
+
+    ghost invariant = { λ s. s.from + s.len ≤ length s.all.items };
+}
+
+impl HeldBytes {
+    /// The bytes of a range of these; None where it doesn't lie in them.
+    pub fn of(all: Vec<u8>, range: ByteRange) -> Option<HeldBytes>
+        ensures { IfSome result (λ held. held ≡ bytes_in range all.items) }
+    {
+        let len = all.len() as u64;
+        if len < range.start || len - range.start < range.len {
+            return None;
+        }
+        Some(HeldBytes {
+            all,
+            from: range.start as usize,
+            len: range.len as usize,
+        })
+    }
+
+    /// The bytes.
+    pub fn bytes(&self) -> &[u8]
+        ensures { result.now ≡ self.now }
+    {
+        &self.all[self.from..self.from + self.len]
+    }
+}

@@ -1,0 +1,80 @@
+//! A source of a bag that is watched.
+ghost use Rattle.std.specs.Prelude.{◌≡◌};
+
+use hfs_bag::{BagHead, BagKind, BagSource, SourceFault, Stream};
+use hfs_take::Watch;
+use std::alloc::AllocError;
+
+/// A source of a bag, of whose items each is told to a watch when it comes.
+#[derive(Drop)]
+pub(crate) struct Watched<'w, B: BagSource, W: Watch> {
+    items: B,
+    watch: &'w W,
+    /// How many items came, and how many there are.
+    count: u64,
+    all: u64,
+}
+
+/// Whether this is told of an item, and not of a folder alone, which may be one that an item lies in.
+fn is_item(head: &Option<BagHead>) -> bool {
+    match head {
+        Some(head) => head.kind != BagKind::FolderAlone,
+        None => false,
+    }
+}
+
+/// Tells a watch of an item more.
+fn tell<W: Watch>(watch: &W, count: &mut u64, all: u64) {
+    *count = count.saturating_add(1);
+    watch.item_came(*count, all);
+}
+
+impl<'w, B: BagSource, W: Watch> Watched<'w, B, W> {
+    /// A source of so many items.
+    pub(crate) fn new(items: B, watch: &'w W, all: u64) -> Watched<'w, B, W>
+        ensures { result.items ≡ items }
+    {
+        Watched {
+            items,
+            watch,
+            count: 0,
+            all,
+        }
+    }
+}
+
+impl<B: BagSource, W: Watch> BagSource for Watched<'_, B, W> {
+    ghost state = { λ watched. B.state watched.items };
+
+    fn tells_remains(&self) -> bool {
+        self.items.tells_remains()
+    }
+
+    fn restart(&mut self) -> Result<(), SourceFault> {
+        self.items.restart()
+    }
+
+    fn next_item(&mut self) -> Result<Option<BagHead>, SourceFault> {
+        let head = self.items.next_item()?;
+        if is_item(&head) {
+            tell(self.watch, &mut self.count, self.all);
+        }
+        Ok(head)
+    }
+
+    fn push_above(&self, text: &mut String) -> Result<(), AllocError> {
+        self.items.push_above(text)
+    }
+
+    fn push_name(&self, text: &mut String) -> Result<(), AllocError> {
+        self.items.push_name(text)
+    }
+
+    fn open(&mut self, stream: Stream) -> Result<(), SourceFault> {
+        self.items.open(stream)
+    }
+
+    fn read(&mut self, piece: &mut Vec<u8>) -> Result<(), SourceFault> {
+        self.items.read(piece)
+    }
+}
