@@ -1,15 +1,13 @@
 -- Facts that tell the same make the same bag.
-use Rattle.std.proofs.Common.{◌≡◌, ◌∙◌, ℕ, List, [], ◌∷◌, ◌++◌, drop, replicate, take, Option, Some, None, refl, sym, ap}
+use Rattle.std.proofs.Common.{◌≡◌, ◌∙◌, ℕ, List, [], ◌∷◌, ◌++◌, drop, replicate, take, Option, Some, sym, ap}
 use Rattle.std.proofs.lemmas.List.{drop_at, length-replicate}
 use Rattle.std.specs.Option.{option_map}
 use Rattle.std.specs.Prelude.{codes}
-use Rattle.std.specs.Borrow.{Bor}
-use Rattle.std.specs.Fmt.{decimal}
 use Rattle.hfs_bag.specs.declared.facts.BagFacts.{BagFacts}
 use Rattle.hfs_bag.specs.Bags.{bytes_in, files_in, manifest, payload}
 use Rattle.hfs_bag.specs.Items.{BagItem}
 use Rattle.hfs_bag.specs.Sources.{BagTables}
-use Rattle.hfs_bag.specs.Tags.{bag_of, declaration_file, image_digest_line, info_text, manifest_file, oxum_text, remains_files, table_file, volume_line}
+use Rattle.hfs_bag.specs.Tags.{bag_of, declaration_file, manifest_file, remains_files, table_file, volume_line}
 use Rattle.hfs_blocks.specs.Blocks.{block_at}
 use Rattle.hfs_check.specs.Report.{report_of}
 use Rattle.hfs_commands.specs.Checks.{check_lines}
@@ -19,31 +17,11 @@ use Rattle.hfs_finds.specs.Finds.{found_directory}
 use Rattle.hfs_names.specs.PlainTexts.{plain_text}
 use Rattle.hfs_rescue.specs.Directory.{directory_of}
 use Rattle.hfs_shelves.specs.Entries.{ShelfEntry, file}
-use Rattle.hfs_take.specs.Bags.{text_in}
+use Rattle.hfs_take.proofs.BagLemmas.{info_same, line_told, volume_line_is}
 use Rattle.hfs_texts.specs.Info.{info_lines}
-use Rattle.hfs_texts.specs.Lines.{line}
 use Rattle.hfs_texts.specs.Reading.{info_text as head_lines}
 use Rattle.hfs_salvage.specs.declared.words.BagWords.{BagWords}
 use Rattle.hfs_salvage.specs.Bags.{TellsOf, field_name, report_text}
-
-abbrev line-told : Option (List ℕ) → List ℕ
-line-told None = []
-line-told (Some told) = line (codes "Source-Volume:") told
-
-volume-line-is : (volume : Option (Bor (List ℕ))) → volume_line volume ≡ line-told (text_in volume)
-volume-line-is None = refl
-volume-line-is (Some told) = refl
-
-info-same : (f g : BagFacts) → f.identifier.now ≡ g.identifier.now → f.program.now ≡ g.program.now → f.image.now ≡ g.image.now → volume_line f.volume ≡ volume_line g.volume
-    → f.bytes ≡ g.bytes → f.digest ≡ g.digest → (bytes files : ℕ) → info_text f bytes files ≡ info_text g bytes files
-unfolding info_text
-info-same f g identifier program image volume len digest bytes files = λ i. line (codes "External-Identifier:") (identifier i)
-    ++ line (codes "Bag-Software-Agent:") (program i)
-    ++ line (codes "Source-Image:") (image i)
-    ++ volume i
-    ++ line (codes "Source-Bytes:") (decimal (len i))
-    ++ image_digest_line (digest i)
-    ++ line (codes "Payload-Oxum:") (oxum_text bytes files)
 
 -- a bag by the texts of its report and of its facts
 abbrev bag-with : List BagItem → BagTables → List ℕ → List ℕ → List ShelfEntry
@@ -57,8 +35,8 @@ pub facts_same : (image : List ℕ) (mdb other : Mdb) (told : Option (List ℕ))
 facts_same image mdb other told words f g same a b items tables =
     let identifier = a.identifier_is ∙ ap (λ (m : Mdb). plain_text (field_name m.volume_name)) same ∙ sym b.identifier_is in
     let report = a.report_is ∙ ap (report_text image) same ∙ sym b.report_is in
-    let volume : volume_line f.volume ≡ volume_line g.volume = volume-line-is f.volume ∙ ap line-told (a.volume_is ∙ sym b.volume_is) ∙ sym (volume-line-is g.volume) in
-    let info = info-same f g identifier (a.program_is ∙ sym b.program_is) (a.image_is ∙ sym b.image_is) volume
+    let volume : volume_line f.volume ≡ volume_line g.volume = volume_line_is f.volume ∙ ap line_told (a.volume_is ∙ sym b.volume_is) ∙ sym (volume_line_is g.volume) in
+    let info = info_same f g identifier (a.program_is ∙ sym b.program_is) (a.image_is ∙ sym b.image_is) volume
     (a.bytes_are ∙ sym b.bytes_are) (a.digest_is ∙ sym b.digest_is) (bytes_in (payload items)) (files_in (payload items)) in
     λ i. bag-with items tables (report i) (info i)
 

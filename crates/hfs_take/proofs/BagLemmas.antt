@@ -24,18 +24,18 @@ use Rattle.hfs_take.specs.Bags.{OfBag, TellsOf, image_bag, text_in}
 
 -- ---- what tells the same makes the same bag
 
-abbrev line_told : Option (List ℕ) → List ℕ
+abbrev pub line_told : Option (List ℕ) → List ℕ
 line_told None = []
 line_told (Some told) = line (codes "Source-Volume:") told
 
-volume-line-is : (volume : Option (Bor (List ℕ))) → volume_line volume ≡ line_told (text_in volume)
-volume-line-is None = refl
-volume-line-is (Some told) = refl
+pub volume_line_is : (volume : Option (Bor (List ℕ))) → volume_line volume ≡ line_told (text_in volume)
+volume_line_is None = refl
+volume_line_is (Some told) = refl
 
-info-same : (f g : BagFacts) → f.identifier.now ≡ g.identifier.now → f.program.now ≡ g.program.now → f.image.now ≡ g.image.now → volume_line f.volume ≡ volume_line g.volume
+pub info_same : (f g : BagFacts) → f.identifier.now ≡ g.identifier.now → f.program.now ≡ g.program.now → f.image.now ≡ g.image.now → volume_line f.volume ≡ volume_line g.volume
     → f.bytes ≡ g.bytes → f.digest ≡ g.digest → (bytes files : ℕ) → info_text f bytes files ≡ info_text g bytes files
 unfolding info_text
-info-same f g identifier program image volume len digest bytes files = λ i. line (codes "External-Identifier:") (identifier i)
+info_same f g identifier program image volume len digest bytes files = λ i. line (codes "External-Identifier:") (identifier i)
     ++ line (codes "Bag-Software-Agent:") (program i)
     ++ line (codes "Source-Image:") (image i)
     ++ volume i
@@ -54,8 +54,8 @@ bag-same : (image : List ℕ) (line : Option (List ℕ)) (words : TakeWords) (f 
     → image_bag image f ≡ image_bag image g
 bag-same image told words f g a b =
     let items = bag_items (entries_in image) in
-    let volume : volume_line f.volume ≡ volume_line g.volume = volume-line-is f.volume ∙ ap line_told (a.volume_is ∙ sym b.volume_is) ∙ sym (volume-line-is g.volume) in
-    let info = info-same f g (a.identifier_is ∙ sym b.identifier_is) (a.program_is ∙ sym b.program_is) (a.image_is ∙ sym b.image_is) volume
+    let volume : volume_line f.volume ≡ volume_line g.volume = volume_line_is f.volume ∙ ap line_told (a.volume_is ∙ sym b.volume_is) ∙ sym (volume_line_is g.volume) in
+    let info = info_same f g (a.identifier_is ∙ sym b.identifier_is) (a.program_is ∙ sym b.program_is) (a.image_is ∙ sym b.image_is) volume
     (a.bytes_are ∙ sym b.bytes_are) (a.digest_is ∙ sym b.digest_is) (bytes_in (payload items)) (files_in (payload items)) in
     λ i. bag-with items (table_text (told_rows (entries_in image))) ((a.report_is ∙ sym b.report_is) i) (info i)
 
