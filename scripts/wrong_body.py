@@ -22,9 +22,22 @@ HEAD = re.compile(r"^impl(?:<[^>]*>)? (?:(?:\w+::)*(\w+)(?:<[\w:<>', ]*>)? for )
 SAID = re.compile(r'not proved|error|no proof')
 
 
-def function_around(crate, module, text, place):
+def module_of(file):
+    """The path of the module that a source file of a crate is."""
+    return [it for it in Path(file).with_suffix('').parts[1:] if it not in ('lib', 'main', 'mod')]
+
+
+def home_of(kind, module, folder):
+    """The module in which a type stands: by it the prover calls the type's own methods, whichever module their impl stands in."""
+    begun = re.compile(rf'^ *(?:pub(?:\([a-z]+\))? )?(?:struct|enum) {kind}\b', re.M)
+    files = [it for it in sorted((folder / 'src').rglob('*.rt')) if begun.search(it.read_text('utf-8'))]
+    homes = [module_of(it.relative_to(folder)) for it in files]
+    return module if module in homes or not homes else homes[0]
+
+
+def function_around(crate, file, text, place, folder):
     """The path of the function that a place of a source file is in, if it is in one."""
-    before = text[:place]
+    module, before = module_of(file), text[:place]
     begun = list(BEGINNING.finditer(before))
     if not begun or re.search(rf'^{begun[-1][1]}}}', before[begun[-1].end():], re.M):
         return None
@@ -32,6 +45,7 @@ def function_around(crate, module, text, place):
     if indent:
         trait, kind = list(HEAD.finditer(before[:begun[-1].start()]))[-1].groups()
         name = f'{kind}{trait or ""}::{name}'
+        module = module if trait else home_of(kind, module, folder)
     return '::'.join([crate, *module, name])
 
 
@@ -69,9 +83,8 @@ def is_refused(crate, path, place, only):
             whole.setdefault(file, text)
             if text.count(old) != 1:
                 return False, f'the text is there {text.count(old)} times: {old}'
-            module = [it for it in Path(file).with_suffix('').parts[1:] if it not in ('lib', 'main', 'mod')]
             if not only:
-                functions.append(function_around(crate, module, text, text.index(old)))
+                functions.append(function_around(crate, file, text, text.index(old), place))
             (place / file).write_text(text.replace(old, new), 'utf-8')
         words = [it for name in functions if name for it in ('--only', name)]
         check = [place.parent.parent / 'scripts' / 'check_one.sh', crate, *words]
