@@ -1,1 +1,1 @@
-pub mod Collecting
+pub mod Transaction

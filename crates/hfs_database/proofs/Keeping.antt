@@ -1,5 +1,5 @@
 -- Rows that are put one behind the other, and what keeps the file.
-use Rattle.std.proofs.Common.{◌≡◌, refl, sym, subst, Bool, true, false, List, [], ◌∷◌, ◌++◌, map, arith, inl, true≢false, Option, Some}
+use Rattle.std.proofs.Common.{◌≡◌, refl, subst, true, false, List, [], ◌∷◌, ◌++◌, map, arith, inl, true≢false, Option, Some}
 use Rattle.sqlite.specs.Held.{Held, state}
 use Rattle.sqlite.specs.Store.{Ghosts}
 use Rattle.sqlite.specs.State.{HasCleanDisk, IsRolledBack, Survives}
@@ -11,14 +11,16 @@ use Rattle.hfs_database.specs.Transactions.{HasPutSince, IsUndone, KeepsFile, Ke
 use Rattle.hfs_database.specs.Values.{sql_value}
 
 pub keeps_itself : {S : Type 0} (g : Ghosts S) (held : Held S) → KeepsFile g held held
-keeps_itself g held = record { survives = record {
-  clean = omega arith;
-  shield = λ h. h;
-  counts = omega arith;
-  limit = refl;
-  closes = λ clean still. inl still;
-  crash = λ clean db h. inl h;
-} }
+keeps_itself g held = record {
+  survives = record {
+    clean = omega arith;
+    shield = λ h. h;
+    counts = omega arith;
+    limit = refl;
+    closes = λ clean still. inl still;
+    crash = λ clean db h. inl h;
+  };
+}
 
 pub keeps_then : {S : Type 0} (g : Ghosts S) (old mid new : Held S) → KeepsFile g old mid → KeepsFile g mid new → KeepsFile g old new
 keeps_then g old mid new one two = record { survives = survives_then (state g old) (state g mid) (state g new) (λ _. ⊥) (λ _. ⊥) (λ _. ⊥) (λ clean db h. h) (λ clean db h. h) one.survives two.survives }
@@ -26,9 +28,13 @@ keeps_then g old mid new one two = record { survives = survives_then (state g ol
 -- a row more
 pub puts_one_more : {S : Type 0} (g : Ghosts S) (rows : List TakenRow) (row : TakenRow) (old mid new : Held S) (first before after : LastRows)
     → PutsRows g rows old mid first before → PutsRow g row.table (map sql_value row.values) mid new before after → PutsRows g (rows ++ row ∷ []) old new first after
-puts_one_more g [] row old mid new first before after puts one =
-    (new, after, subst (λ (held : Held _). PutsRow g row.table (map sql_value row.values) held new first after) puts.0
-        (subst (λ (last : LastRows). PutsRow g row.table (map sql_value row.values) mid new last after) puts.1 one), (refl, refl))
+puts_one_more g [] row old mid new first before after puts one = (
+  new,
+  after,
+  subst (λ (held : Held _). PutsRow g row.table (map sql_value row.values) held new first after) puts.0
+      (subst (λ (last : LastRows). PutsRow g row.table (map sql_value row.values) mid new last after) puts.1 one),
+  (refl, refl),
+)
 puts_one_more g (r ∷ rows) row old mid new first before after puts one =
     (puts.0, puts.1, puts.2, puts_one_more g rows row puts.0 mid new puts.1 before after puts.3 one)
 

@@ -155,4 +155,3 @@ pub(crate) fn put_row<S: Alter>(
     }
     Ok(())
 }
-

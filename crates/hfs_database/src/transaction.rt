@@ -1,5 +1,5 @@
 //! The taker that is a database.
-ghost use Rattle.std.specs.Prelude.{◌≡◌, false, List, [], map, Option, None, Some, OnErr, OnOk, pos};
+ghost use Rattle.std.specs.Prelude.{◌≡◌, false, [], map, Option, None, Some, OnErr, OnOk};
 ghost use Rattle.std.specs.Borrow.{GName};
 ghost use Rattle.sqlite.specs.Held.{Held, state};
 ghost use Rattle.sqlite.specs.State.{Survives};
