@@ -14,8 +14,8 @@ AreRowsOf known len facts rows = OfKnown known len (λ file. rows ≡ image_rows
 
 -- a transaction began with the database like this, the rows of the image were put in it, one behind the other, and it was committed
 abbrev pub IsCollected : {S : Type 0} → Ghosts S → Option (List ℕ) → ℕ → ImageFacts → Option (Held S) → Held S → Type 0
-IsCollected g known len facts start new = ∥ (rows : List TakenRow) × AreRowsOf known len facts rows × HasPutInOne g start rows new ∥₁
+IsCollected g known len facts start new = ∥ ((rows : List TakenRow) × AreRowsOf known len facts rows × HasPutInOne g start rows new) ∥₁
 
 -- a crash leaves the file as it was, or with all rows of the image, put in one transaction
 abbrev pub LeavesImageOrNone : {S : Type 0} → Ghosts S → Option (List ℕ) → ℕ → ImageFacts → Option (Held S) → Held S → Type 0
-LeavesImageOrNone g known len facts start new = ∥ (rows : List TakenRow) × AreRowsOf known len facts rows × LeavesAllOrNone g start rows new ∥₁
+LeavesImageOrNone g known len facts start new = ∥ ((rows : List TakenRow) × AreRowsOf known len facts rows × LeavesAllOrNone g start rows new) ∥₁

@@ -9,45 +9,10 @@ use crate::fault::RunFault;
 use crate::files::FileByPath;
 use hfs_collection::{CollectFault, ImageCounts, ImageFacts, ImageFile, give_image};
 use hfs_containers::ReadAt;
-use hfs_database::{Begun, Collection, DatabaseTaker, commit};
-use sqlite::{Alter, Transaction};
+use hfs_database::{Collection, DatabaseTaker, commit};
+use sqlite::Alter;
 use std::alloc::Global;
-use std::marker::Brand;
 use std::rt::Files;
-
-/// Gives the rows of an image of `len` bytes to a transaction that just began, and commits it. At a fault none of them is there.
-fn put_begun<K: Begun<S>, S: Alter, T: ReadAt + Drop, F: ImageFile<T>>(
-    alloc: Global,
-    tx: Transaction<'_, S>,
-    file: &F,
-    len: u64,
-    facts: &ImageFacts<'_>,
-) -> Result<ImageCounts, CollectFault>
-    requires name { tx.conn.ghost_name ≡ K.name }
-    requires start { K.start ≡ Some tx.conn.now }
-    ensures collected { OnOk result (IsCollected S.Store (F.known file.now) len facts.now K.start
-        tx.exit.0.now) }
-    ensures counted { IfOk result (λ counts. OfKnown (F.known file.now) len (λ file.
-        counts ≡ image_counts file)) }
-    ensures all_or_none { LeavesImageOrNone S.Store (F.known file.now) len facts.now K.start
-        tx.exit.0.now }
-{
-    let mut taker = DatabaseTaker::<S, K>::over(alloc, tx);
-    match give_image(alloc, &mut taker, file, len, facts) {
-        Ok(counts) if !taker.has_failed() => {
-            commit(taker.tx)?;
-            Ok(counts)
-        }
-        Ok(_) => {
-            taker.tx.rollback();
-            Err(CollectFault::CannotWrite)
-        }
-        Err(fault) => {
-            taker.tx.rollback();
-            Err(fault)
-        }
-    }
-}
 
 /// Puts the rows of an image of `len` bytes into the database, in one transaction, in the place of those that it had of the same path,
 /// and answers how much the image holds. At a fault the database is as it was. Faults: `ReadFailed`, `CannotWrite`, `NoMemory`.
@@ -68,8 +33,21 @@ pub fn put_image<S: Alter, T: ReadAt + Drop, F: ImageFile<T>>(
     if !collection.conn.is_autocommit() {
         return Err(CollectFault::CannotWrite);
     }
-    let tx = collection.conn.transaction();
-    put_begun::<Brand, S, T, F>(alloc, tx, file, len, facts)
+    let mut taker = DatabaseTaker::begin(alloc, &mut collection.conn);
+    match give_image(alloc, &mut taker, file, len, facts) {
+        Ok(counts) if !taker.has_failed() => {
+            commit(taker.tx)?;
+            Ok(counts)
+        }
+        Ok(_) => {
+            taker.tx.rollback();
+            Err(CollectFault::CannotWrite)
+        }
+        Err(fault) => {
+            taker.tx.rollback();
+            Err(fault)
+        }
+    }
 }
 
 /// Puts the rows of the image of a path into the database. Faults: as of [`put_image`]; `ReadFailed` where the path can't be opened.

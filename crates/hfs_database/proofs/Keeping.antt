@@ -1,5 +1,5 @@
 -- Rows that are put one behind the other, and what keeps the file.
-use Rattle.std.proofs.Common.{◌≡◌, refl, subst, true, false, List, [], ◌∷◌, ◌++◌, map, arith, inl, true≢false, Option, Some}
+use Rattle.std.proofs.Common.{◌≡◌, refl, sym, subst, true, false, List, [], ◌∷◌, ◌++◌, map, arith, inl, true≢false, Option, Some}
 use Rattle.sqlite.specs.Held.{Held, state}
 use Rattle.sqlite.specs.Store.{Ghosts}
 use Rattle.sqlite.specs.State.{HasCleanDisk, IsRolledBack, Survives}
@@ -7,7 +7,7 @@ use Rattle.sqlite.proofs.StateLemmas.{survives_then, survives_weaker}
 use Rattle.hfs_rows.specs.Taken.{TakenRow, row_of}
 use Rattle.hfs_database.specs.declared.last_rows.LastRows.{LastRows}
 use Rattle.hfs_database.specs.Rows.{PutsRow}
-use Rattle.hfs_database.specs.Transactions.{HasPutSince, IsUndone, KeepsFile, KeepsFileSince, LeavesAllOrNone, PutsRows, begun}
+use Rattle.hfs_database.specs.Transactions.{HasPutSince, IsUndone, KeepsFile, KeepsFileSince, LeavesAllOrNone, PutsRows, begun, no_rows}
 use Rattle.hfs_database.specs.Values.{sql_value}
 
 pub keeps_itself : {S : Type 0} (g : Ghosts S) (held : Held S) → KeepsFile g held held
@@ -83,3 +83,10 @@ unchanged g rows held = record {
     crash = λ clean db h. inl h;
   };
 }
+
+-- a transaction that just began
+pub keeps_begun : {S : Type 0} (g : Ghosts S) (start now : Held S) → now ≡ begun start → KeepsFile g (begun start) now
+keeps_begun g start now is = subst (KeepsFile g (begun start)) (sym is) (keeps_itself g (begun start))
+
+pub puts_none : {S : Type 0} (g : Ghosts S) (start now : Held S) (rows : List TakenRow) → now ≡ begun start → rows ≡ [] → PutsRows g rows (begun start) now no_rows no_rows
+puts_none g start now rows is none = subst (λ (rows : List TakenRow). PutsRows g rows (begun start) now no_rows no_rows) (sym none) (is, refl)

@@ -1,5 +1,6 @@
 -- Rows that are put in one transaction.
 use Rattle.std.specs.Prelude.{◌≡◌, pos, true, false, List, [], ◌∷◌, map, Option, Some}
+use Rattle.std.specs.Borrow.{GName}
 use Rattle.sqlite.specs.Held.{Held, state}
 use Rattle.sqlite.specs.State.{HasCleanDisk, IsRolledBack, Shows, Survives}
 use Rattle.sqlite.specs.Store.{Ghosts}
@@ -11,6 +12,10 @@ use Rattle.hfs_database.specs.Values.{sql_value}
 -- the database as a transaction begins
 abbrev pub begun : {S : Type 0} → Held S → Held S
 begun held = record held { in_transaction = true }
+
+-- where rows go: the reference to the database, and how it was before the transaction
+abbrev pub placed : {S : Type 0} → GName → Held S → GName × Held S
+placed name start = (name, start)
 
 -- before the first row none came
 abbrev pub no_rows : LastRows

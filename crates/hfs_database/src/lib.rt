@@ -17,4 +17,4 @@ pub use crate::collection::{Collection, FileCollection};
 pub use crate::comparing::{Comparison, KnownImage};
 pub use crate::fault::DatabaseFault;
 pub use crate::files::DatabaseFiles;
-pub use crate::transaction::{Begun, DatabaseTaker, commit};
+pub use crate::transaction::{DatabaseTaker, commit};

@@ -1,59 +1,48 @@
 //! The taker that is a database.
-ghost use Rattle.std.specs.Prelude.{◌≡◌, false, [], map, Option, None, Some, OnErr, OnOk};
+ghost use Rattle.std.specs.Prelude.{◌≡◌, false, [], map, Some, OnErr, OnOk};
 ghost use Rattle.std.specs.Borrow.{GName};
 ghost use Rattle.sqlite.specs.Held.{Held, state};
 ghost use Rattle.sqlite.specs.State.{Survives};
 ghost use Rattle.hfs_rows.specs.Taken.{with_row};
 ghost use Rattle.hfs_database.specs.Rows.{PutsRow};
-ghost use Rattle.hfs_database.specs.Transactions.{HasPutSince, IsCommitted, KeepsFileSince};
+ghost use Rattle.hfs_database.specs.Transactions.{HasPutSince, IsCommitted, KeepsFileSince, begun, placed};
 ghost use Rattle.hfs_database.specs.Values.{sql_value};
 
 use crate::fault::taking_fault;
 use crate::last_rows::LastRows;
 use crate::taker::put_row;
 use hfs_rows::{Given, GivenRow, RowTaker, RowValue, Table, TakerFault};
-use sqlite::{Alter, Transaction};
+use sqlite::{Alter, Connection, Transaction};
 use std::alloc::Global;
-use std::marker::{Brand, PhantomData};
-
-/// The transaction of a taker, for proofs alone: its reference to the database, and the database as it began.
-pub trait Begun<S: Alter> {
-    ghost name: { GName };
-
-    ghost start: { Option (Held S) };
-}
-
-impl<S: Alter> Begun<S> for Brand {
-    ghost name = { 0 };
-
-    ghost start = { None };
-}
+use std::snapshot::Snapshot;
 
 /// The rows of images on their way into a database, within a transaction: what was there of an image of the same path goes. After a
 /// fault it takes no more. Nothing of all this is there until the transaction is committed.
 #[derive(Drop)]
-pub struct DatabaseTaker<'a, S: Alter, K: Begun<S>> {
+pub struct DatabaseTaker<'a, S: Alter> {
     /// The transaction.
     pub tx: Transaction<'a, S>,
     alloc: Global,
     last: LastRows,
     has_failed: bool,
-    begun: PhantomData<K>,
+    /// The database as the transaction began, for proofs alone.
+    pub start: Snapshot<Connection<S>>,
     /// What it was given.
     pub given: Given,
-    ghost same_reference: { tx.conn.ghost_name ≡ K.name },
-    ghost keeps: { ∥ KeepsFileSince S.Store K.start tx.conn.now ∥₁ },
-    ghost put: { ∥ (has_failed ≡ false → HasPutSince S.Store K.start given.rows tx.conn.now last) ∥₁ },
+    ghost keeps: { ∥ KeepsFileSince S.Store (Some (begun start.value)) tx.conn.now ∥₁ },
+    ghost put: { ∥ (has_failed ≡ false → HasPutSince S.Store (Some (begun start.value)) given.rows tx.conn.now last) ∥₁ },
 }
 
-impl<'a, S: Alter, K: Begun<S>> DatabaseTaker<'a, S, K> {
-    /// A taker that was given nothing, within a transaction that just began.
-    pub fn over(alloc: Global, tx: Transaction<'a, S>) -> DatabaseTaker<'a, S, K>
-        requires name { tx.conn.ghost_name ≡ K.name }
-        requires start { K.start ≡ Some tx.conn.now }
-        ensures same_reference { result.tx.conn.ghost_name ≡ tx.entry.conn.ghost_name }
+impl<'a, S: Alter> DatabaseTaker<'a, S> {
+    /// Begins a transaction, and answers a taker that was given nothing.
+    pub fn begin(alloc: Global, conn: &'a mut Connection<S>) -> DatabaseTaker<'a, S>
+        requires { conn.old.in_transaction ≡ false }
+        ensures same_reference { result.tx.conn.ghost_name ≡ conn.entry.ghost_name }
+        ensures start { result.start.value ≡ conn.old }
         ensures nothing { result.given.rows ≡ [] }
     {
+        let start = Snapshot::of(conn);
+        let tx = conn.transaction();
         DatabaseTaker {
             tx,
             alloc,
@@ -62,7 +51,7 @@ impl<'a, S: Alter, K: Begun<S>> DatabaseTaker<'a, S, K> {
                 volume: 0,
             },
             has_failed: false,
-            begun: PhantomData,
+            start,
             given: Given::new(),
         }
     }
@@ -87,7 +76,11 @@ pub fn commit<S: Alter>(tx: Transaction<'_, S>) -> Result<(), TakerFault>
     }
 }
 
-impl<S: Alter, K: Begun<S>> RowTaker for DatabaseTaker<'_, S, K> {
+impl<S: Alter> RowTaker for DatabaseTaker<'_, S> {
+    ghost Place = { GName × Held S };
+
+    ghost place = { λ taker. placed taker.tx.conn.ghost_name taker.start.value };
+
     ghost given = { λ taker. taker.given.rows };
 
     fn take(&mut self, table: Table, values: &[RowValue]) -> Result<(), TakerFault>
@@ -96,6 +89,8 @@ impl<S: Alter, K: Begun<S>> RowTaker for DatabaseTaker<'_, S, K> {
         ensures kept { OnErr result (self.new.given.rows ≡ self.old.given.rows) }
         ensures put { OnOk result (PutsRow S.Store table (map sql_value values.now)
             self.old.tx.conn.now self.new.tx.conn.now self.old.last self.new.last) }
+        ensures place { placed self.new.tx.conn.ghost_name self.new.start.value
+            ≡ placed self.old.tx.conn.ghost_name self.old.start.value }
     {
         if self.has_failed {
             return Err(TakerFault::CannotWrite);

@@ -1,5 +1,5 @@
 -- A row more, or a fault, after which no more is said.
-use Rattle.std.proofs.Common.{◌∙◌, sym, subst, List}
+use Rattle.std.proofs.Common.{sym, subst, List}
 use Rattle.std.proofs.Math.Logic.{∥∥₁_map}
 use Rattle.hfs_rows.specs.Taken.{TakenRow, row_of}
 use Rattle.hfs_database.specs.Transactions.{PutsRows, no_rows}
@@ -8,14 +8,12 @@ use Rattle.hfs_database.proofs.transaction.DatabaseTakerRowTaker.take.Goals as g
 
 pub invariant_of-self : goal.invariant_of-self
 invariant_of-self g c = record {
-  same_reference = c.put_row.ensures.same_reference ∙ c.args.self.now.same_reference;
   keeps = ∥∥₁_map c.args.self.now.keeps (λ k. (k.0, k.1, keeps_then g.S.Store k.0 c.args.self.now.tx.conn.now c.put_row.new.tx.conn.now k.2 c.put_row.ensures.keeps));
   put = ∣ (λ wrong. has_not wrong) ∣₁;
 }
 
 pub invariant_of-self-2 : goal.invariant_of-self-2
 invariant_of-self-2 g c = record {
-  same_reference = c.put_row.ensures.same_reference ∙ c.args.self.now.same_reference;
   keeps = ∥∥₁_map c.args.self.now.keeps (λ k. (k.0, k.1, keeps_then g.S.Store k.0 c.args.self.now.tx.conn.now c.put_row.new.tx.conn.now k.2 c.put_row.ensures.keeps));
   put = ∥∥₁_map c.args.self.now.put (λ was fine.
       let w = was c.if-self.false in (
