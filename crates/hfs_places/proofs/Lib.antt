@@ -13,6 +13,7 @@ mod NamedLemmas
 mod ApartLemmas
 mod PlaceLemmas
 mod BelowLemmas
+mod FolderTextLemmas
 pub mod RowPartLemmas
 mod DownLemmas
 mod DoubleLemmas
