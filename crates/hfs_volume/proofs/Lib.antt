@@ -6,6 +6,7 @@ pub mod Seen
 pub mod SeenForks
 pub mod Openings
 pub mod SavedPieces
+pub mod CopyLemmas
 pub mod Kept
 pub mod Shared
 pub mod ExtentBytes

@@ -1,12 +1,15 @@
 -- The pieces of an image, one behind the other.
-use Rattle.std.proofs.Common.{◌≡◌, ℕ, ◌+◌, ◌-◌, ◌*◌, ◌<◌, ◌≤◌, List, ◌++◌, length, take, drop, Option, Some, None, is_some, false, unwrap_or, refl, ap, sym, ◌∙◌, subst, arith, length-take, length-drop, true≢false}
+use Rattle.std.proofs.Common.{◌≡◌, ℕ, ◌+◌, ◌-◌, ◌*◌, ◌/◌, ◌%◌, ◌<◌, ◌≤◌, List, ◌++◌, length, take, drop, replicate, Result, Ok, Err, OnOk, IfErr, IsErrAnd, Option, Some, None, is_some, false, unwrap_or, refl, ap, sym, ◌∙◌, subst, arith, length-take, length-drop, true≢false}
 use Rattle.std.proofs.Math.Seq.{take-add}
-use Rattle.std.proofs.lemmas.List.{drop-drop, take_at, take-append-drop}
+use Rattle.std.proofs.lemmas.List.{drop-drop, take_at, take-append-drop, take-replicate}
 use Rattle.std.specs.Io.KnownBytes.{Appends}
 use Rattle.std.proofs.KnownBytes.{Appends-trans}
 use lib.Seq.{take-append-le}
 use Rattle.hfs_blocks.specs.Blocks.{block_at, block_count}
+use Rattle.hfs_volume.specs.BaseBytes.{EndsInZeros}
 use Rattle.hfs_volume.specs.Laid.{laid_from, laid_over}
+use Rattle.hfs_volume.specs.declared.saving.SaveFault.{SaveFault}
+use Rattle.hfs_volume.specs.Saving.{HasWritten}
 use Rattle.hfs_volume.proofs.Laid.{laid_from-run, laid_from-zero, drop-laid, length-laid, AreBlocks-within, block_at-laid_over}
 use Rattle.hfs_blocks.specs.Layers.{AreWithin, over}
 
@@ -57,9 +60,19 @@ module _ (g : ℕ → Option (List ℕ)) (base : List ℕ) (within : AreWithin g
       drop-laid (over g (block_at base)) (block_count base) base (AreBlocks-within g base within) (omega arith)
       ∙ laid_from-zero _ (block_count base - block_count base) _ _ (omega arith)
 
-module _ (g : ℕ → Option (List ℕ)) (base : List ℕ) (within : AreWithin g (block_count base)) where
+  pub tail_piece : (count : ℕ) → count ≡ block_count base → drop (count * 512) base ≡ drop (512 * count) (laid_over g base)
+  tail_piece count is =
+      ap (λ x. drop x base) (let z : count * 512 ≡ 512 * block_count base = omega (arith, is) in z) ∙ sym tail_bytes
+      ∙ ap (λ x. drop x (laid_over g base)) (let z : 512 * block_count base ≡ 512 * count = omega (arith, is) in z)
+
   pub length-laid_over : length (laid_over g base) ≡ length base
   length-laid_over = length-laid _ base (AreBlocks-within g base within)
+
+  -- zeros behind the last block stay
+  pub ends-laid : EndsInZeros base → EndsInZeros (laid_over g base)
+  ends-laid ends =
+      ap (λ (k : ℕ). drop (512 * (k / 512)) (laid_over g base)) length-laid_over ∙ tail_bytes ∙ ends
+      ∙ ap (λ (k : ℕ). replicate (k % 512) 0) (sym length-laid_over)
 
 module _ (a b c : Option (List ℕ)) (current bytes : List ℕ) (n : ℕ) (before : Appends a b (take (512 * n) current)) where
   -- a whole piece more
@@ -85,3 +98,42 @@ module _ (a b c : Option (List ℕ)) (current bytes : List ℕ) (n : ℕ) (befor
   part_rest k is out =
       let z : 512 * n + k ≡ n * 512 + k = omega arith in
       subst (Appends a c) (ap (λ l. take (512 * n) current ++ take k l) is ∙ sym (take-add (512 * n) k current) ∙ ap (λ x. take x current) z) (Appends-trans a b c _ (take k bytes) before out)
+
+  -- what broke off behind n blocks
+  pub broken_off : (m w : ℕ) → 512 * n ≤ length current → bytes ≡ take m (drop (512 * n) current) → (512 * n ≤ w) × HasWritten b c (w - 512 * n) bytes
+      → HasWritten a c w current
+  broken_off m w inside is out =
+      let k = w - 512 * n in
+      let same : n * 512 + k ≡ w = omega (arith, out.0) in (
+        omega (arith, out.0, out.1.0, ap length is, length-take m (drop (512 * n) current), length-drop (512 * n) current, inside),
+        subst (Appends a c) (ap (λ x. take x current) same) (part_piece m k is out.1.0 out.1.1),
+      )
+
+  pub broken_rest : (w : ℕ) → 512 * n ≤ length current → bytes ≡ drop (512 * n) current → (512 * n ≤ w) × HasWritten b c (w - 512 * n) bytes → HasWritten a c w current
+  broken_rest w inside is out =
+      let k = w - 512 * n in
+      let same : n * 512 + k ≡ w = omega (arith, out.0) in (
+        omega (arith, out.0, out.1.0, ap length is, length-drop (512 * n) current, inside),
+        subst (Appends a c) (ap (λ x. take x current) same) (part_rest k is out.1.1),
+      )
+
+-- as many of 512 zeros as follow the last of the blocks
+pub zeros_behind : (current : List ℕ) (count len : ℕ) → count ≡ block_count current → len ≡ length current → EndsInZeros current
+    → take (len % 512) (replicate 512 0) ≡ drop (512 * count) current
+zeros_behind current count len blocks long ends =
+    take-replicate (len % 512) 512 0 (omega arith) ∙ ap (λ (k : ℕ). replicate (k % 512) 0) long ∙ sym ends
+    ∙ ap (λ (k : ℕ). drop (512 * k) current) (sym blocks)
+
+-- ---- answers that are handed on
+
+pub passed_on : {T : Type 0} (r : Result T SaveFault) (fault : SaveFault) (P : SaveFault → Type 0) → IsErrAnd r (λ x. x ≡ fault) → P fault → IfErr r P
+passed_on (Ok a) fault P is p = tt
+passed_on (Err x) fault P is p = subst P (sym is) p
+
+pub ok_so : {T E A B : Type 0} (r : Result T E) → (A → B) → OnOk r A → OnOk r B
+ok_so (Ok a) f h = f h
+ok_so (Err x) f h = tt
+
+pub err_so : {T : Type 0} (r : Result T SaveFault) (P Q : SaveFault → Type 0) → ((fault : SaveFault) → P fault → Q fault) → IfErr r P → IfErr r Q
+err_so (Ok a) P Q f h = tt
+err_so (Err x) P Q f h = f x h

@@ -1,5 +1,5 @@
 -- What contracts see of an image and of a mounted volume.
-use Rattle.std.specs.Prelude.{◌≡◌, ℕ, ◌≤◌, Bool, false, List, length, ◌||◌, is_some, nat_eq}
+use Rattle.std.specs.Prelude.{◌≡◌, ℕ, ◌≤◌, Bool, false, List, length, ◌||◌, is_some, nat_eq, replicate}
 use Rattle.std.specs.List.{list_any}
 use Rattle.hfs_blocks.specs.Blocks.{block_at, block_count}
 use Rattle.hfs_blocks.specs.Layers.{Numbered, Changes, AreWithin, changes, numbers}
@@ -14,6 +14,10 @@ pub record ImageValue : Type 0 where
 -- the bytes, with the changed blocks in place of their own
 abbrev pub patched : Numbered → List ℕ → List ℕ
 patched changed bytes = laid_over (changes changed) bytes
+
+-- the blocks that were read in their places in so many bytes, which are zeros elsewhere
+abbrev pub copy_of : Numbered → ℕ → List ℕ
+copy_of read len = patched read (replicate len 0)
 
 -- an image with these blocks changed
 abbrev pub image_of : List ℕ → Numbered → ImageValue

@@ -1,5 +1,6 @@
 pub mod Laid
 pub mod Image
+pub mod BaseBytes
 pub mod Mounted
 pub mod LeftBytes
 pub mod Opening

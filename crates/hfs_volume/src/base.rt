@@ -1,33 +1,48 @@
-//! Bytes that never change, shared by those who read them.
+//! Bytes that never change, shared by those who read them: all that an image has, or the blocks that were read of it.
 
-ghost use Rattle.std.specs.Prelude.{◌≡◌, ◌≤◌, length, IfOk, IfErr};
+ghost use Rattle.std.specs.Prelude.{◌≡◌, ◌/◌, ◌<◌, ◌≤◌, ◌^◌, length, IfOk, IfErr, IfSome, IfNone};
+ghost use Rattle.hfs_blocks.specs.Blocks.{block_at, block_count, length-block_at, few-block_count};
+ghost use Rattle.hfs_blocks.specs.Layers.{changes, AreWithin};
 ghost use Rattle.hfs_space.specs.Results.{GivesItems};
 ghost use Rattle.hfs_check.specs.Sound.{IsSound};
+ghost use Rattle.hfs_volume.specs.BaseBytes.{EndsInZeros};
+ghost use Rattle.hfs_volume.specs.Image.{copy_of};
 ghost use Rattle.hfs_volume.specs.Sharing.{part_of_extents, AreExtentsIn};
 
 use crate::extent_bytes::read_extents;
-use hfs_blocks::ImageBytes;
+use hfs_blocks::Blocks;
 use hfs_check::read_mdb;
 use hfs_fields::Extent;
+use hfs_sparse::SparseBlocks;
 use std::alloc::{AllocError, AllocFailed, Global};
 use std::marker::Model;
 use std::sync::Arc;
 
-/// The bytes of an image as it was opened, at most 2,147,483,648 of them. Contracts see the list.
+/// What a base has of its bytes.
+#[derive(Drop)]
+pub(crate) enum BaseKind {
+    /// All of them.
+    Whole(Arc<Vec<u8>>),
+    /// The blocks that were read of so many bytes; the others are zeros.
+    Read(Arc<SparseBlocks>, u64),
+}
+
+/// The bytes of an image as it was opened, at most 2,147,483,648 of them: all that it has, or zeros but for the blocks that were
+/// read of it. Contracts see the list.
 #[derive(Drop)]
 pub struct Base {
-    bytes: Arc<Vec<u8>>,
+    kind: BaseKind,
 }
 
 impl Model for Base {
-    ghost use Rattle.std.specs.Prelude.{◌≤◌, ℕ, List, length};
-    ghost use Rattle.std.specs.Arc.{arc_value};
+    ghost use Rattle.std.specs.Prelude.{ℕ, List};
+    ghost use Rattle.hfs_volume.specs.BaseBytes.{base_bytes, IsBase};
 
     ghost Value = { List ℕ };
 
-    ghost view = { λ b. (arc_value b.bytes).items };
+    ghost view = { λ b. base_bytes b.kind };
 
-    ghost invariant = { λ b. length (arc_value b.bytes).items ≤ 2147483648 };
+    ghost invariant = { λ b. IsBase b.kind };
 }
 
 impl Base {
@@ -38,15 +53,70 @@ impl Base {
         ensures value_returned { IfErr result (λ failed. failed.value ≡ bytes) }
     {
         let bytes = Arc::new(alloc, bytes)?;
-        Ok(Base { bytes })
+        Ok(Base {
+            kind: BaseKind::Whole(bytes),
+        })
     }
 
-    /// The bytes.
-    pub fn bytes(&self) -> &[u8]
-        ensures bytes { result.now ≡ self.now }
+    /// The base of the blocks that were read of an image of `len` bytes, with zeros in place of the others. Where memory is wanting
+    /// the blocks are handed back.
+    pub fn of_read(
+        alloc: Global,
+        read: SparseBlocks,
+        len: u64,
+    ) -> Result<Base, AllocFailed<SparseBlocks>>
+        requires small { len ≤ 2147483648 }
+        requires within { AreWithin (changes read) (len / 512) }
+        ensures bytes { IfOk result (λ base. base ≡ copy_of read len) }
+        ensures value_returned { IfErr result (λ failed. failed.value ≡ read) }
+    {
+        let read = Arc::new(alloc, read)?;
+        Ok(Base {
+            kind: BaseKind::Read(read, len),
+        })
+    }
+
+    /// All bytes, where they lie in memory: not of a base of blocks that were read, in which zeros follow the last whole block.
+    pub fn bytes(&self) -> Option<&[u8]>
+        ensures bytes { IfSome result (λ bytes. bytes.now ≡ self.now) }
+        ensures zeros { IfNone result (EndsInZeros self.now) }
         ensures small { length self.now ≤ 2147483648 }
     {
-        &self.bytes
+        match &self.kind {
+            BaseKind::Whole(bytes) => Some(bytes.as_slice()),
+            BaseKind::Read(_read, _len) => None,
+        }
+    }
+
+    /// How many bytes there are.
+    pub fn len(&self) -> u64
+        ensures len { result ≡ length self.now }
+        ensures small { length self.now ≤ 2147483648 }
+    {
+        match &self.kind {
+            BaseKind::Whole(bytes) => bytes.len() as u64,
+            BaseKind::Read(_read, len) => *len,
+        }
+    }
+
+    /// The whole blocks.
+    pub fn blocks(&self) -> BaseBlocks<'_>
+        ensures { result.base.now ≡ self.now }
+    {
+        // A proof knows how long the bytes can be once they are counted.
+        let _len = self.len();
+        BaseBlocks { base: self }
+    }
+
+    /// Copies block `n` into 512 bytes.
+    fn copy_block(&self, n: u32, into: &mut [u8; 512])
+        requires { n < block_count self.now }
+        ensures { into.new ≡ block_at self.now n }
+    {
+        match &self.kind {
+            BaseKind::Whole(bytes) => copy_of_bytes(bytes.as_slice(), n, into),
+            BaseKind::Read(read, _len) => read.copy_block(n, into),
+        }
     }
 
     /// Bytes of the allocation blocks of these extents, which lie one extent behind the other: those from `offset` on, `count` of
@@ -63,9 +133,7 @@ impl Base {
         requires extents { AreExtentsIn self.now extents.now }
         ensures { GivesItems (part_of_extents self.now extents.now offset count) result }
     {
-        let blocks = ImageBytes {
-            bytes: self.bytes(),
-        };
+        let blocks = self.blocks();
         let mdb = read_mdb(&blocks);
         read_extents(alloc, &blocks, &mdb, extents, offset, count)
     }
@@ -74,7 +142,54 @@ impl Base {
     pub fn share(&self) -> Result<Base, AllocError>
         ensures { IfOk result (λ base. base ≡ self.now) }
     {
-        let bytes = self.bytes.clone()?;
-        Ok(Base { bytes })
+        match &self.kind {
+            BaseKind::Whole(bytes) => {
+                let bytes = bytes.clone()?;
+                Ok(Base {
+                    kind: BaseKind::Whole(bytes),
+                })
+            }
+            BaseKind::Read(read, len) => {
+                let read = read.clone()?;
+                Ok(Base {
+                    kind: BaseKind::Read(read, *len),
+                })
+            }
+        }
     }
+}
+
+/// Copies block `n` of some bytes into 512 bytes.
+fn copy_of_bytes(bytes: &[u8], n: u32, into: &mut [u8; 512])
+    requires { n < block_count bytes.now }
+    ensures { into.new ≡ block_at bytes.now n }
+{
+    let from = n as usize * 512;
+    into.copy_from_slice(&bytes[from..from + 512]);
+}
+
+/// The whole blocks of a base.
+#[derive(Drop)]
+pub struct BaseBlocks<'a> {
+    /// The base.
+    pub base: &'a Base,
+    ghost limit: { length base.now ≤ 2 ^ 32 },
+}
+
+impl Blocks for BaseBlocks<'_> {
+    ghost blocks = { λ s. block_at s.base.now };
+
+    ghost total = { λ s. block_count s.base.now };
+
+    fn count(&self) -> u32 {
+        (self.base.len() / 512) as u32
+    }
+
+    fn block(&self, n: u32, into: &mut [u8; 512]) {
+        self.base.copy_block(n, into);
+    }
+
+    ghost few = { λ s. few-block_count s.base.now s.limit };
+
+    ghost whole = { λ s n within. length-block_at s.base.now n within };
 }

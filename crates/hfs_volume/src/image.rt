@@ -4,12 +4,13 @@ ghost use Rattle.std.specs.Prelude.{◌≡◌, [], ◌<◌, ◌≤◌, ◌^◌, 
 ghost use Rattle.std.specs.List.{IsDistinct};
 ghost use Rattle.hfs_blocks.specs.Blocks.{block_at, block_count, length-block_at, few-block_count};
 ghost use Rattle.hfs_blocks.specs.Layers.{changes, AreWithin};
-ghost use Rattle.hfs_volume.specs.Image.{HasKept, IsSameBeside, patched};
+ghost use Rattle.hfs_volume.specs.BaseBytes.{EndsInZeros};
+ghost use Rattle.hfs_volume.specs.Image.{HasKept, IsSameBeside, image_of, patched};
 ghost use Rattle.hfs_volume.specs.Saving.{WritesAll, BreaksOff};
 
 use crate::base::Base;
-use crate::saving::{SaveFault, save_laid};
-use hfs_blocks::{Blocks, ImageBytes, Patch};
+use crate::saving::{SaveFault, save_laid, write_at};
+use hfs_blocks::{Blocks, Patch};
 use std::alloc::{AllocError, AllocFailed, Global};
 use std::io::Write;
 use std::marker::Model;
@@ -42,10 +43,28 @@ impl Image {
         ensures value_returned { IfErr result (λ failed. failed.value ≡ bytes) }
     {
         let base = Base::new(alloc, bytes)?;
-        Ok(Image {
+        Ok(Image::over(alloc, base))
+    }
+
+    /// An image of these bytes with nothing changed. Takes no memory.
+    pub fn over(alloc: Global, base: Base) -> Image
+        ensures base { result.base ≡ base }
+        ensures current { result.current ≡ base }
+        ensures changed { result.changed ≡ [] }
+    {
+        // A proof knows how long the bytes can be once they are counted.
+        let _len = base.len();
+        Image {
             base,
             changed: Patch::new(alloc),
-        })
+        }
+    }
+
+    /// The changed blocks, which lie over the bytes as they were opened.
+    pub fn changes(&self) -> &Patch
+        ensures { self.now ≡ image_of self.now.base result.now }
+    {
+        &self.changed
     }
 
     /// The bytes as they were opened, without a copy of them. The only error is want of memory.
@@ -71,7 +90,7 @@ impl Image {
         ensures count { result ≡ block_count self.now.current }
         ensures small { length self.now.current ≤ 2147483648 }
     {
-        (self.base.bytes().len() / 512) as u32
+        (self.base.len() / 512) as u32
     }
 
     /// Copies block `n` as it is now into 512 bytes.
@@ -79,9 +98,7 @@ impl Image {
         requires { n < block_count self.now.current }
         ensures { into.new ≡ block_at self.now.current n }
     {
-        let base = ImageBytes {
-            bytes: self.base.bytes(),
-        };
+        let base = self.base.blocks();
         self.changed.over(&base).block(n, into);
     }
 
@@ -93,9 +110,7 @@ impl Image {
         ensures unchanged { OnErr result (self.new.current ≡ self.old.current) }
         ensures base { self.new.base ≡ self.old.base }
     {
-        let base = ImageBytes {
-            bytes: self.base.bytes(),
-        };
+        let base = self.base.blocks();
         self.changed.lay(&base, patch)?;
         Ok(())
     }
@@ -105,16 +120,34 @@ impl Image {
         ensures ok { WritesAll result W.contents writer.old writer.new self.now.current }
         ensures err { BreaksOff result W.contents writer.old writer.new self.now.current }
     {
-        let base = self.base.bytes();
-        let count = (base.len() / 512) as u32;
-        save_laid(&self.changed, base, count, writer)
+        match self.base.bytes() {
+            Some(base) => save_laid(&self.changed, base, (base.len() / 512) as u32, writer),
+            None => self.save_blocks(writer),
+        }
+    }
+
+    /// Writes block after block, and last the zeros that follow the last whole one.
+    fn save_blocks<W: Write>(&self, writer: &mut W) -> Result<(), SaveFault>
+        requires { EndsInZeros self.now.current }
+        ensures ok { WritesAll result W.contents writer.old writer.new self.now.current }
+        ensures err { BreaksOff result W.contents writer.old writer.new self.now.current }
+    {
+        let mut block = [0; 512];
+        let count = self.count();
+        for n in 0..count {
+            self.block(n, &mut block);
+            write_at(writer, n, &block)?;
+        }
+        block = [0; 512];
+        let rest = (self.base.len() % 512) as usize;
+        write_at(writer, count, &block[..rest])
     }
 
     /// A copy of the bytes as they are now. The only error is want of memory.
     pub fn copy(&self, alloc: Global) -> Result<Vec<u8>, AllocError>
         ensures { IfOk result (λ bytes. bytes.items ≡ self.now.current) }
     {
-        let mut bytes = Vec::with_capacity(alloc, self.base.bytes().len())?;
+        let mut bytes = Vec::with_capacity(alloc, self.base.len() as usize)?;
         match self.save(&mut bytes) {
             Ok(()) => Ok(bytes),
             Err(_fault) => Err(AllocError),

@@ -13,12 +13,12 @@ mod replies;
 mod saving;
 mod volume;
 
-pub use base::Base;
+pub use base::{Base, BaseBlocks};
 pub use hfs_check::{Alternate, MountFault, Report, report};
 pub use hfs_format::{FormatFault, FormatPlan, format};
 pub use hfs_repair::{Fix, FixPlace};
 pub use image::{Image, ImageBlocks};
-pub use mounting::{Refused, mount};
+pub use mounting::{Refused, mount, mount_sound};
 pub use open_fork::{OpenFork, Opened};
 pub use repairing::mount_repaired;
 pub use saving::SaveFault;

@@ -1,9 +1,13 @@
 //! Mounting.
 
 ghost use Rattle.std.specs.Prelude.{◌≡◌, [], IfOk, IfErr, OnOk};
+ghost use Rattle.hfs_blocks.specs.Blocks.{block_at};
+ghost use Rattle.hfs_check.specs.Parts.{mdb_in};
 ghost use Rattle.hfs_check.specs.Sound.{IsSound};
+ghost use Rattle.hfs_check.specs.Trees.{HasTreesOf};
 ghost use Rattle.hfs_volume.specs.Refusals.{HasFaultOf};
 
+use crate::base::Base;
 use crate::image::Image;
 use crate::volume::Volume;
 use hfs_check::{MountFault, SoundVolume, VolumeTrees, check_image};
@@ -22,7 +26,6 @@ pub struct Refused {
 /// unless memory is wanting; else the first fault in the order of docs/CHECKS.md, with the image as it was given.
 ///
 /// Source: Inside Macintosh: Files, chapter 2, "Data Organization on Volumes".
-#[tactic(auto, using(hfs_check::proofs::LawsProved::agrees_with_itself))]
 pub fn mount(alloc: Global, image: Vec<u8>) -> Result<Volume, Refused>
     ensures sound { OnOk result (IsSound image.items) }
     ensures base { IfOk result (λ volume. volume.base ≡ image.items) }
@@ -35,16 +38,8 @@ pub fn mount(alloc: Global, image: Vec<u8>) -> Result<Volume, Refused>
         Ok(found) => found,
         Err(fault) => return Err(Refused { fault, image }),
     };
-    match Image::new(alloc, image) {
-        Ok(image) => {
-            let SoundVolume { mdb, trees } = found;
-            let VolumeTrees {
-                extents,
-                catalog,
-                ..
-            } = trees;
-            Ok(Volume::new(image, mdb, extents, catalog))
-        }
+    match Base::new(alloc, image) {
+        Ok(base) => Ok(mount_sound(alloc, base, found)),
         Err(failed) => {
             let AllocFailed { value } = failed;
             Err(Refused {
@@ -53,4 +48,23 @@ pub fn mount(alloc: Global, image: Vec<u8>) -> Result<Volume, Refused>
             })
         }
     }
+}
+
+/// Mounts the volume of a base whose checks were made: its master directory block, and where its trees lie. Takes no memory.
+#[tactic(auto, using(hfs_check::proofs::LawsProved::agrees_with_itself))]
+pub fn mount_sound(alloc: Global, base: Base, found: SoundVolume) -> Volume
+    requires sound { IsSound base }
+    requires directory { found.mdb ≡ mdb_in (block_at base) }
+    requires trees { HasTreesOf base found.trees }
+    ensures base { result.base ≡ base }
+    ensures current { result.current ≡ base }
+    ensures changed { result.changed ≡ [] }
+{
+    let SoundVolume { mdb, trees } = found;
+    let VolumeTrees {
+        extents,
+        catalog,
+        ..
+    } = trees;
+    Volume::new(Image::over(alloc, base), mdb, extents, catalog)
 }

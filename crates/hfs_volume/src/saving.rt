@@ -4,7 +4,7 @@ ghost use Rattle.std.specs.Prelude.{◌≡◌, ℕ, ◌-◌, ◌*◌, ◌<◌, �
 ghost use Rattle.hfs_blocks.specs.Blocks.{block_count};
 ghost use Rattle.hfs_blocks.specs.Layers.{changes, AreWithin};
 ghost use Rattle.hfs_volume.specs.Image.{patched};
-ghost use Rattle.hfs_volume.specs.Saving.{WritesAll, WritesFirst, BreaksOff, bytes_between};
+ghost use Rattle.hfs_volume.specs.Saving.{WritesAll, WritesFirst, BreaksOff, BreaksOffBehind, bytes_between};
 
 use hfs_blocks::Patch;
 use std::io::{ErrorKind, Write};
@@ -39,6 +39,19 @@ fn write_counted<W: Write>(writer: &mut W, bytes: &[u8]) -> Result<(), usize>
         }
     }
     Err(done)
+}
+
+/// Writes the bytes of an image from block `n` on, where those before it went out. The fault counts these, too.
+pub(crate) fn write_at<W: Write>(writer: &mut W, n: u32, bytes: &[u8]) -> Result<(), SaveFault>
+    ensures ok { WritesAll result W.contents writer.old writer.new bytes.now }
+    ensures err { BreaksOffBehind n result W.contents writer.old writer.new bytes.now }
+{
+    match write_counted(writer, bytes) {
+        Ok(()) => Ok(()),
+        Err(more) => Err(SaveFault {
+            written: u64::from(n) * 512 + more as u64,
+        }),
+    }
 }
 
 /// The first changed block from `n` on, or `count`.
@@ -94,18 +107,8 @@ pub(crate) fn save_laid<W: Write>(
     let mut n = 0;
     while n < count {
         let (bytes, next) = piece(changed, base, n, count);
-        if let Err(more) = write_counted(writer, bytes) {
-            return Err(SaveFault {
-                written: (n as usize * 512 + more) as u64,
-            });
-        }
+        write_at(writer, n, bytes)?;
         n = next;
     }
-    let from = count as usize * 512;
-    match write_counted(writer, &base[from..]) {
-        Ok(()) => Ok(()),
-        Err(more) => Err(SaveFault {
-            written: (from + more) as u64,
-        }),
-    }
+    write_at(writer, count, &base[count as usize * 512..])
 }

@@ -1,6 +1,6 @@
 //! Small images with bytes laid over them, and what a volume is saved as.
 use hfs_fixtures::{FixtureFault, SmallVolume, lay, small_image};
-use hfs_volume::Volume;
+use hfs_volume::{Base, Volume};
 use hfs_volume_fixtures::FrontWriter;
 use std::alloc::{AllocError, Global};
 
@@ -20,7 +20,15 @@ pub fn laid(
 /// Whether a volume was opened with these bytes, and is saved as them.
 pub fn is_unchanged(volume: &Volume, bytes: &[u8]) -> Result<bool, AllocError> {
     let base = volume.base()?;
-    Ok(volume.changed() == 0 && base.bytes() == bytes && is_saved_as(volume, bytes))
+    Ok(volume.changed() == 0 && is_whole(&base, bytes) && is_saved_as(volume, bytes))
+}
+
+/// Whether a base has all of these bytes in memory, and no others.
+pub fn is_whole(base: &Base, bytes: &[u8]) -> bool {
+    match base.bytes() {
+        Some(all) => all == bytes,
+        None => false,
+    }
 }
 
 /// Whether a volume is saved as these bytes.

@@ -1,4 +1,5 @@
 //! Images, and the bytes that they were opened with.
+use crate::fixture::is_whole;
 use hfs_volume::{Base, Image};
 use std::alloc::{AllocError, Global};
 use std::test::Fail;
@@ -14,7 +15,7 @@ fn five_bytes(alloc: Global) -> Result<Image, Fail> {
 /// Whether these bytes are handed out by a base and by another that shares it.
 fn is_shared(base: &Base, bytes: &[u8]) -> Result<bool, AllocError> {
     let other = base.share()?;
-    Ok(base.bytes() == bytes && other.bytes() == bytes)
+    Ok(is_whole(base, bytes) && is_whole(&other, bytes))
 }
 
 /// Whether an image without a whole block was opened with these bytes.

@@ -17,6 +17,8 @@ mod images;
 #[cfg(test)]
 mod mounting;
 #[cfg(test)]
+mod read_blocks;
+#[cfg(test)]
 mod reading;
 #[cfg(test)]
 mod rows;

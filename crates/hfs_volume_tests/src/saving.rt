@@ -14,7 +14,7 @@ use std::process::Abort;
 use std::test::Fail;
 
 /// Bytes whose blocks all differ: byte `k` is `k` mod 251.
-fn pattern(alloc: Global, len: usize) -> Result<Vec<u8>, AllocError> {
+pub fn pattern(alloc: Global, len: usize) -> Result<Vec<u8>, AllocError> {
     let mut bytes = Vec::new(alloc);
     for k in 0..len {
         bytes.push((k % 251) as u8)?;
@@ -77,7 +77,7 @@ fn saved(alloc: Global, image: &Image, left: usize) -> (Vec<u8>, Result<(), Save
 }
 
 /// Whether a writer that takes so many bytes gets these.
-fn is_saved(alloc: Global, image: &Image, left: usize, whole: &[u8]) -> bool {
+pub fn is_saved(alloc: Global, image: &Image, left: usize, whole: &[u8]) -> bool {
     let (bytes, end) = saved(alloc, image, left);
     end.is_ok() && bytes.as_slice() == whole
 }
@@ -98,7 +98,7 @@ fn is_changed(
 fn has_pattern(alloc: Global, image: &Image, len: usize) -> Result<bool, AllocError> {
     let bytes = pattern(alloc, len)?;
     let base = image.base()?;
-    Ok(base.bytes() == bytes.as_slice())
+    Ok(fixture::is_whole(&base, bytes.as_slice()))
 }
 
 /// Whether an image has five blocks and no change.
@@ -136,7 +136,7 @@ fn a_later_commit_writes_over_an_earlier_one(rt: HostRuntime) -> Result<(), Fail
 }
 
 /// Whether a writer that fails after so many bytes has the first of these and no others.
-fn is_front(alloc: Global, image: &Image, whole: &[u8], left: usize) -> bool {
+pub fn is_front(alloc: Global, image: &Image, whole: &[u8], left: usize) -> bool {
     let (bytes, end) = saved(alloc, image, left);
     match end {
         Ok(()) => false,

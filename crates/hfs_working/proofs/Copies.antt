@@ -1,38 +1,34 @@
 -- What was read, with zeros elsewhere, as a copy of the image.
-use Rattle.std.proofs.Common.{◌≡◌, ℕ, ◌/◌, List, [], ◌∷◌, length, Option, Some, None, IsSome, unwrap_or, refl, sym, ap, subst, ◌∙◌, true≢false}
-use Rattle.std.specs.Prelude.{replicate}
-use Rattle.std.proofs.lemmas.List.{length-replicate}
+use Rattle.std.proofs.Common.{◌≡◌, ℕ, ◌/◌, ◌<◌, List, [], ◌∷◌, length, Option, Some, None, IsSome, refl, sym, ap, subst, ◌∙◌, true≢false}
 use Rattle.hfs_blocks.specs.Blocks.{block_at, block_count}
 use Rattle.hfs_blocks.specs.Layers.{Numbered, changes, AreWithin}
+use Rattle.hfs_check.specs.declared.trees.VolumeTrees.{VolumeTrees}
+use Rattle.hfs_check.specs.Parts.{mdb_in}
 use Rattle.hfs_check.specs.Sound.{IsImageLength, AreBlocksSound, IsSound}
+use Rattle.hfs_check.specs.Trees.{HasTrees, HasTreesOf}
 use Rattle.hfs_needed.specs.Needed.{AgreeOn}
-use Rattle.hfs_sparse.specs.Sparse.{zero_block, sparse, HasEach, IsOf}
+use Rattle.hfs_sparse.specs.Sparse.{sparse, HasEach, IsOf}
 use Rattle.hfs_sparse.proofs.SparseLemmas.{each-of}
-use Rattle.hfs_volume.proofs.Laid.{block_at-laid_over}
-use Rattle.hfs_volume.proofs.SavedPieces.{length-laid_over}
-use Rattle.hfs_working.specs.Working.{working_blocks, IsWorkingCopy, copy_of, HasWorking}
+use Rattle.hfs_volume.specs.Image.{copy_of}
+use Rattle.hfs_volume.proofs.CopyLemmas.{length-copy, block-copy}
+use Rattle.hfs_working.specs.Working.{working_blocks, IsWorkingCopy, HasWorking}
 use Rattle.hfs_working.proofs.SameWork as work
+use Rattle.hfs_working.proofs.SameTrees.{trees-same}
 
 module _ (read : Numbered) (len : ℕ) (within : AreWithin (changes read) (len / 512)) where
-  abbrev zeros : List ℕ
-  zeros = replicate len 0
-
   abbrev copy : List ℕ
   copy = copy_of read len
 
-  inside : AreWithin (changes read) (block_count zeros)
-  inside = subst (λ (n : ℕ). AreWithin (changes read) (n / 512)) (sym (length-replicate {A = ℕ} len 0)) within
-
-  pub length-copy : length copy ≡ len
-  length-copy = length-laid_over (changes read) zeros inside ∙ length-replicate {A = ℕ} len 0
+  long : length copy ≡ len
+  long = length-copy read len within
 
   -- a block that was read
   read-block : (n : ℕ) → IsSome (changes read n) → block_at copy n ≡ sparse read n
-  read-block n some = ap (λ (f : ℕ → List ℕ). f n) (block_at-laid_over (changes read) zeros inside) ∙ by (changes read n) some
+  read-block n some = block-copy read len within n (by (changes read n) refl some)
     where
-      by : (o : Option (List ℕ)) → IsSome o → unwrap_or o (block_at zeros n) ≡ unwrap_or o zero_block
-      by None some = absurd (true≢false (sym some))
-      by (Some b) some = refl
+      by : (o : Option (List ℕ)) → changes read n ≡ o → IsSome o → n < len / 512
+      by None e some = absurd (true≢false (sym some))
+      by (Some b) e some = (within n b e).0
 
   each-copy : (numbers : List ℕ) → HasEach read numbers → AgreeOn numbers (sparse read) (block_at copy)
   each-copy [] h = tt
@@ -48,19 +44,28 @@ module _ (read : Numbered) (len : ℕ) (within : AreWithin (changes read) (len /
 
     pub copy-sound : IsSound copy
     copy-sound = record {
-      len = subst IsImageLength (sym length-copy) right;
-      blocks = subst (λ (n : ℕ). AreBlocksSound (n / 512) (block_at copy)) (sym length-copy)
+      len = subst IsImageLength (sym long) right;
+      blocks = subst (λ (n : ℕ). AreBlocksSound (n / 512) (block_at copy)) (sym long)
           (work.sound-is (len / 512) (sparse read) (block_at copy) agree sound);
     }
 
     pub places : working_blocks (block_count copy) (block_at copy) ≡ working_blocks (len / 512) (sparse read)
     places =
-        ap (λ (n : ℕ). working_blocks (n / 512) (block_at copy)) length-copy ∙ work.working-is (len / 512) (sparse read) (block_at copy) agree
+        ap (λ (n : ℕ). working_blocks (n / 512) (block_at copy)) long ∙ work.working-is (len / 512) (sparse read) (block_at copy) agree
+
+    -- the trees lie where they were found
+    pub directory-copy : mdb_in (block_at copy) ≡ mdb_in (sparse read)
+    directory-copy = work.mdb-is (len / 512) (sparse read) (block_at copy) agree
+
+    pub trees-copy : (trees : VolumeTrees) → HasTrees (len / 512) (sparse read) trees → HasTreesOf copy trees
+    trees-copy trees are =
+        subst (λ (n : ℕ). HasTrees (n / 512) (block_at copy) trees) (sym long)
+        (trees-same (len / 512) (sparse read) (block_at copy) trees directory-copy (work.file-is (len / 512) (sparse read) (block_at copy) agree) are)
 
     pub is-copy : (image : List ℕ) → length image ≡ len → IsOf image read → IsWorkingCopy copy image
-    is-copy image long of = record {
+    is-copy image whole of = record {
       sound = copy-sound;
-      len = long ∙ sym length-copy;
+      len = whole ∙ sym long;
       same = subst (λ (numbers : List ℕ). AgreeOn numbers (block_at copy) (block_at image)) (sym places)
           (each-image image of (working_blocks (len / 512) (sparse read)) has);
     }

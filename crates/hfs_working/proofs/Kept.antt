@@ -14,12 +14,13 @@ use Rattle.hfs_check.specs.Agree.{Agrees, bitmap_blocks, node_blocks, changing_b
 use Rattle.hfs_check.specs.Parts.{Blocks, mdb_in, extents_blocks, extents_nodes, catalog_extents, catalog_blocks, catalog_nodes}
 use Rattle.hfs_check.specs.Sound.{AreBlocksSound}
 use Rattle.hfs_sparse.specs.Sparse.{HasEach}
-use Rattle.hfs_volume.specs.Image.{patched}
+use Rattle.hfs_volume.specs.Image.{patched, copy_of}
 use Rattle.hfs_volume.specs.Laid.{laid}
 use Rattle.hfs_volume.proofs.Laid.{block_at-laid_over}
-use Rattle.hfs_working.specs.Working.{working_blocks, IsWorkingCopy, AreChangesOf, CarriesOver, copy_of, kept_block, AreKeptTo, PutsKept, AreWorkingOf}
+use Rattle.hfs_volume.proofs.CopyLemmas.{length-copy}
+use Rattle.hfs_working.specs.Working.{working_blocks, IsWorkingCopy, AreChangesOf, CarriesOver, kept_block, AreKeptTo, PutsKept, AreWorkingOf}
 use Rattle.hfs_working.proofs.Carried.{carries-over}
-use Rattle.hfs_working.proofs.Copies.{length-copy, is-copy, each-image, places}
+use Rattle.hfs_working.proofs.Copies.{is-copy, each-image, places}
 
 -- ---- one block more
 

@@ -1,4 +1,5 @@
 pub mod SameWork
+pub mod SameTrees
 pub mod AlikeVolumes
 pub mod Carried
 pub mod Copies

@@ -5,7 +5,7 @@ use Rattle.std.specs.List.{flat_map}
 use Rattle.std.specs.Option.{is_none}
 use Rattle.hfs_fields.specs.declared.mdb.Mdb.{Mdb}
 use Rattle.hfs_scans.proofs.ElementLemmas.{each-left, each-append}
-use Rattle.hfs_blocks.specs.Blocks.{run_of, nodes_in}
+use Rattle.hfs_blocks.specs.Blocks.{run_of}
 use Rattle.hfs_blocks.specs.Layers.{Numbered, changes, AreWithin}
 use Rattle.hfs_check.specs.declared.trees.VolumeTrees.{VolumeTrees}
 use Rattle.hfs_check.specs.Agree.{bitmap_blocks}
@@ -19,13 +19,15 @@ use Rattle.hfs_needed.specs.Marked.{where_right}
 use Rattle.hfs_needed.specs.Needed.{is_mdb_right, needed_of_trees, needed_blocks}
 use Rattle.hfs_needed.proofs.LawsProved.{needed_is_enough}
 use Rattle.hfs_needed.proofs.Gathered.{within-all}
-use Rattle.hfs_needed.proofs.SameParts.{extents_blocks-same, catalog_extents-same, catalog_blocks-same, extents-map, catalog-map}
+use Rattle.hfs_needed.proofs.SameParts.{extents_blocks-same, catalog_extents-same, catalog_blocks-same}
 use Rattle.hfs_sparse.specs.Sparse.{sparse, HasEach, HasGrown, StaysOf}
 use Rattle.hfs_sparse.proofs.SparseLemmas.{has-grown, each-grown, each-same}
 use Rattle.hfs_working.specs.declared.opening.WorkingVolume.{WorkingVolume}
 use Rattle.hfs_working.specs.Opened.{LieWithin, IsWorking, IsWorkingOf, IsCopyOf}
-use Rattle.hfs_working.specs.Working.{working_blocks, HasWorking, copy_of}
-use Rattle.hfs_working.proofs.Copies.{copy-sound, is-copy}
+use Rattle.hfs_volume.specs.Image.{copy_of}
+use Rattle.hfs_working.specs.Working.{working_blocks, HasWorking}
+use Rattle.hfs_working.proofs.Copies.{copy-sound, is-copy, directory-copy, trees-copy}
+use Rattle.hfs_working.proofs.SameTrees.{trees-same}
 
 -- trees that were found lie among the volume's blocks
 pub lie-within : (total : ℕ) (blocks : Blocks) (trees : VolumeTrees) → HasTrees total blocks trees → LieWithin total trees
@@ -92,20 +94,7 @@ module _ (total : ℕ) (old new : Numbered) (grown : HasGrown old new) (needed :
     )
 
     pub trees-later : HasTrees total (sparse new) trees
-    unfolding nodes_in
-    trees-later = record {
-      extents = record {
-        within = are.extents.within;
-        numbers = are.extents.numbers ∙ sym extents-stay;
-        same = ap (map (sparse new)) are.extents.numbers ∙ sym (extents-map (sparse old) (sparse new) directory-stays);
-      };
-      catalog_file = are.catalog_file ∙ sym file-stays;
-      catalog = record {
-        within = are.catalog.within;
-        numbers = are.catalog.numbers ∙ sym catalog-stay;
-        same = ap (map (sparse new)) are.catalog.numbers ∙ sym (catalog-map (sparse old) (sparse new) directory-stays file-stays);
-      };
-    }
+    trees-later = trees-same total (sparse old) (sparse new) trees directory-stays file-stays are
 
 pub of-later : (known : Option (List ℕ)) (old new : Numbered) → IsOfKnown known old → StaysOf known old new → IsOfKnown known new
 of-later None old new of stays = tt
@@ -145,3 +134,16 @@ module _ (known : Option (List ℕ)) (len : ℕ) (right : IsImageLength len) whe
       by : (o : Option (List ℕ)) → IsOfKnown o volume.read → IsCopyOf o len volume
       by None of = tt
       by (Some image) of = λ long. is-copy volume.read len is.within is.working is.sound right image long of
+
+-- ---- what is known where the image's bytes are not
+
+pub known-or-not : (known : Option (List ℕ)) (total : ℕ) (volume : WorkingVolume) → IsWorkingOf known total volume → IsWorkingOf None total volume
+known-or-not known total volume is = record {
+  whole = is.whole;
+  working = is.working;
+  within = is.within;
+  of = tt;
+  sound = is.sound;
+  directory = is.directory;
+  trees = is.trees;
+}

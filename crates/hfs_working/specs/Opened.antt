@@ -11,7 +11,8 @@ use Rattle.hfs_needed.specs.Gathered.{IsOfKnown}
 use Rattle.hfs_needed.specs.Known.{OfKnown}
 use Rattle.hfs_sparse.specs.Sparse.{sparse}
 use Rattle.hfs_working.specs.declared.opening.WorkingVolume.{WorkingVolume}
-use Rattle.hfs_working.specs.Working.{HasWorking, IsWorkingCopy, copy_of}
+use Rattle.hfs_volume.specs.Image.{copy_of}
+use Rattle.hfs_working.specs.Working.{HasWorking, IsWorkingCopy}
 
 -- both trees lie among so many blocks
 pub record LieWithin (total : ℕ) (trees : VolumeTrees) : Type 0 where

@@ -1,6 +1,6 @@
 -- The blocks of a volume that calls read and write, but for the bytes of forks, and what follows where these alone were read of an image.
 -- Each law is what a function of src/laws.rt ensures.
-use Rattle.std.specs.Prelude.{◌≡◌, ◌≢◌, ℕ, ◌-◌, if◌then◌else◌, Bool, true, List, ◌∷◌, ◌++◌, length, replicate, Option, None, IsSome, is_some}
+use Rattle.std.specs.Prelude.{◌≡◌, ◌≢◌, ℕ, ◌-◌, if◌then◌else◌, Bool, true, List, ◌∷◌, ◌++◌, length, Option, None, IsSome, is_some}
 use Rattle.hfs_alike.specs.Alike.{AreAlike, no_file}
 use Rattle.hfs_fields.specs.declared.file_record.FileRecord.{FileRecord}
 use Rattle.hfs_fields.specs.Records.{is_file, item_id, file_record_of}
@@ -16,7 +16,7 @@ use Rattle.hfs_check.specs.VolumeOf.{contents_in, volume_of}
 use Rattle.hfs_needed.specs.Laws.{volume_with, blocks_of_fork}
 use Rattle.hfs_needed.specs.Needed.{AgreeOn}
 use Rattle.hfs_sparse.specs.Sparse.{sparse, HasEach, IsOf}
-use Rattle.hfs_volume.specs.Image.{patched}
+use Rattle.hfs_volume.specs.Image.{patched, copy_of}
 
 -- of a volume of so many blocks: the master directory block, its copy, the bitmap, and the files of both trees, free nodes and all
 unfoldable pub working_blocks : ℕ → Blocks → List ℕ
@@ -60,10 +60,6 @@ abbrev pub HasForksOf : (ℕ → Bool) → Blocks → Blocks → Record → Type
 HasForksOf keep old new r = is_file r.1 ≡ true → keep (item_id r.1) ≡ true → SameForks old new (file_record_of r.1)
 
 -- ---- what was read
-
--- the blocks that were read in their places in so many bytes, which are zeros elsewhere
-abbrev pub copy_of : Numbered → ℕ → List ℕ
-copy_of read len = patched read (replicate len 0)
 
 -- the working blocks were read of a volume of so many blocks
 abbrev pub HasWorking : ℕ → Numbered → Type 0

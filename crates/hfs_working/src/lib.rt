@@ -3,10 +3,12 @@
 
 mod keeping;
 mod laws;
+mod mounting;
 mod opening;
 
 pub use crate::keeping::kept_to;
 pub use crate::laws::{
     changes_carry_over, copies_answer, kept_changes_carry_over, kept_forks_are_alike,
 };
+pub use crate::mounting::mount_read;
 pub use crate::opening::{WorkingVolume, open_working};

@@ -1,5 +1,5 @@
 //! Volumes of which the working blocks are read.
-ghost use Rattle.std.specs.Prelude.{◌≡◌, ◌≢◌, ◌/◌, ◌≤◌, ℕ, IfErr, IfOk, OnOk};
+ghost use Rattle.std.specs.Prelude.{◌≡◌, ◌≢◌, ◌/◌, ◌≤◌, ℕ, None, IfErr, IfOk, OnOk};
 ghost use Rattle.std.specs.List.{flat_map};
 ghost use Rattle.hfs_blocks.specs.Blocks.{run_of};
 ghost use Rattle.hfs_blocks.specs.Layers.{KeepsWithin};
@@ -7,8 +7,8 @@ ghost use Rattle.hfs_check.specs.declared.mount_fault.MountFault.{MountFault};
 ghost use Rattle.hfs_check.specs.Sound.{IsSound};
 ghost use Rattle.hfs_needed.specs.Opened.{AreRefusedFor, IsRefusedFor};
 ghost use Rattle.hfs_sparse.specs.Sparse.{HasEach, HasGrown, StaysOf};
+ghost use Rattle.hfs_volume.specs.Image.{copy_of};
 ghost use Rattle.hfs_working.specs.Opened.{IsCopyOf, IsWorkingOf, LieWithin};
-ghost use Rattle.hfs_working.specs.Working.{copy_of};
 
 use hfs_check::{MountFault, SoundVolume, VolumeTrees, check_blocks};
 use hfs_needed::{NeededFault, gather_needed};
@@ -91,6 +91,7 @@ pub fn open_working<S: BlockSource>(
     len: u64,
 ) -> Result<WorkingVolume, NeededFault>
     ensures opened { IfOk result (IsWorkingOf (S.image source.old) (len / 512)) }
+    ensures mountable { IfOk result (IsWorkingOf None (len / 512)) }
     ensures sound { IfOk result (λ volume. IsSound (copy_of volume.read len)) }
     ensures copy { IfOk result (IsCopyOf (S.image source.old) len) }
     ensures refused { IfErr result (λ fault. IsRefusedFor (S.image source.old) len fault) }

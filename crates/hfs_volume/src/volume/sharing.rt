@@ -7,11 +7,13 @@ ghost use Rattle.hfs_check.specs.Parts.{mdb_in, catalog_in};
 ghost use Rattle.hfs_check.specs.Sound.{IsSound};
 ghost use Rattle.hfs_check.specs.VolumeOf.{volume_of};
 ghost use Rattle.hfs_space.specs.Results.{GivesItems};
+ghost use Rattle.hfs_volume.specs.Image.{image_of};
 ghost use Rattle.hfs_volume.specs.Sharing.{file_extents, IsFileId, AreForkExtents, BeginWithFork, AreExtentsIn};
 
 use super::Volume;
 use crate::base::Base;
 use crate::fork::fork_record;
+use hfs_blocks::Patch;
 use hfs_catalog::{CatalogRecord, ItemRecord, by_id, read_records};
 use hfs_fields::{Extent, FileRecord, Mdb};
 use hfs_model::Fork;
@@ -36,6 +38,14 @@ impl Volume {
     {
         // A proof knows what a volume keeps to once it has seen the image.
         let _image = &self.image;
+    }
+
+    /// The blocks that were changed since the volume was mounted, by their numbers: laid over the bytes as they were mounted they make
+    /// those that they are now. There may be some that are as they were.
+    pub fn changes(&self) -> &Patch
+        ensures { self.now ≡ image_of self.now.base result.now }
+    {
+        self.image.changes()
     }
 
     /// The volume with its bytes as they are now as those that it was mounted with: no block is changed. Where memory is wanting

@@ -1,12 +1,12 @@
 -- By the image's length.
-use Rattle.std.proofs.Common.{rules}
+use Rattle.std.proofs.Common.{◌/◌, rules}
 use Rattle.hfs_check.specs.Sound.{IsImageLength}
 use Rattle.hfs_check.proofs.LawsProved.{no_length_fault}
 use Rattle.hfs_needed.proofs.Refused.{length-refused, err-so}
 use Rattle.hfs_needed.proofs.Reported.{length-large, length-short, length-right, ok-so}
 use Rattle.hfs_check.specs.declared.mount_fault.MountFault.TheVariants as fault
 use Rattle.hfs_working.specs.declared.opening.WorkingVolume.{WorkingVolume}
-use Rattle.hfs_working.proofs.ReadWork.{opened-sound, opened-copy}
+use Rattle.hfs_working.proofs.ReadWork.{opened-sound, opened-copy, known-or-not}
 use Rattle.hfs_working.proofs.opening.open_working.Goals as goal
 
 pub returns-then-len-gt2147483648-clause-refused :
@@ -22,6 +22,11 @@ pub returns-clause-refused : goal.returns-clause-refused
 returns-clause-refused g c =
     err-so (g.S.BlockSource.image c.args.source.now) c.args.len (length-right c.args.len (search rules) (search rules)) c.open_blocks.result
     c.open_blocks.ensures.refused
+
+pub returns-clause-mountable : goal.returns-clause-mountable
+returns-clause-mountable g c =
+    ok-so c.open_blocks.result (λ (volume : WorkingVolume) is. known-or-not (g.S.BlockSource.image c.args.source.now) (c.args.len / 512) volume is)
+    c.open_blocks.ensures.opened
 
 pub returns-clause-sound : goal.returns-clause-sound
 returns-clause-sound g c =

@@ -14,33 +14,33 @@ on_err (Err e) a = a
 
 pub lay-requires : goal.lay-requires
 lay-requires c =
-    let e : block_count c.args.self.now.current ≡ block_count c.bytes.result.now =
-    sym (ap block_count c.bytes.ensures.bytes ∙ same_count (changes c.self.inside.changed) c.self.inside.base c.args.self.now.current c.self.invariant.within (ap (λ v. v.current) c.self.view_is)) in
+    let e : block_count c.args.self.now.current ≡ block_count c.blocks-base.result.base.now =
+    sym (ap block_count c.blocks-base.ensures ∙ same_count (changes c.self.inside.changed) c.self.inside.base c.args.self.now.current c.self.invariant.within (ap (λ v. v.current) c.self.view_is)) in
     subst (AreWithin (changes c.args.patch.now)) e c.requires
 
 pub invariant_of-self : goal.invariant_of-self
 invariant_of-self c = record {
   small = c.self.invariant.small;
-  within = subst (λ (b : List ℕ). AreWithin (changes c.lay.new.self) (block_count b)) c.bytes.ensures.bytes
-      (c.in_err-lay.ensures.within (subst (λ (b : List ℕ). AreWithin (changes c.self.inside.changed) (block_count b)) (sym c.bytes.ensures.bytes) c.self.invariant.within));
+  within = subst (λ (b : List ℕ). AreWithin (changes c.lay.new.self) (block_count b)) c.blocks-base.ensures
+      (c.in_err-lay.ensures.within (subst (λ (b : List ℕ). AreWithin (changes c.self.inside.changed) (block_count b)) (sym c.blocks-base.ensures) c.self.invariant.within));
 }
 
 pub invariant_of-self-2 : goal.invariant_of-self-2
 invariant_of-self-2 c = record {
   small = c.self.invariant.small;
-  within = subst (λ (b : List ℕ). AreWithin (changes c.lay.new.self) (block_count b)) c.bytes.ensures.bytes
-      (c.in_ok-lay.ensures.within (subst (λ (b : List ℕ). AreWithin (changes c.self.inside.changed) (block_count b)) (sym c.bytes.ensures.bytes) c.self.invariant.within));
+  within = subst (λ (b : List ℕ). AreWithin (changes c.lay.new.self) (block_count b)) c.blocks-base.ensures
+      (c.in_ok-lay.ensures.within (subst (λ (b : List ℕ). AreWithin (changes c.self.inside.changed) (block_count b)) (sym c.blocks-base.ensures) c.self.invariant.within));
 }
 
 pub returns-clause-current : goal.returns-clause-current
 returns-clause-current c =
     committed (changes c.self.inside.changed) c.self.inside.base c.args.self.now.current c.self.invariant.within (ap (λ v. v.current) c.self.view_is) (changes c.args.patch.now) (changes c.lay.new.self)
-    (λ k. subst (λ (b : List ℕ). over (changes c.lay.new.self) (block_at b) k ≡ over (changes c.args.patch.now) (over (changes c.self.inside.changed) (block_at b)) k) c.bytes.ensures.bytes (c.in_ok-lay.ensures.laid k))
+    (λ k. subst (λ (b : List ℕ). over (changes c.lay.new.self) (block_at b) k ≡ over (changes c.args.patch.now) (over (changes c.self.inside.changed) (block_at b)) k) c.blocks-base.ensures (c.in_ok-lay.ensures.laid k))
 
 pub returns-in_err-lay-clause-unchanged : goal.returns-in_err-lay-clause-unchanged
 returns-in_err-lay-clause-unchanged c = on_err c.from_residual.result
     (uncommitted (changes c.self.inside.changed) c.self.inside.base c.args.self.now.current c.self.invariant.within (ap (λ v. v.current) c.self.view_is) (changes c.lay.new.self)
-    (λ k. subst (λ (b : List ℕ). over (changes c.lay.new.self) (block_at b) k ≡ over (changes c.self.inside.changed) (block_at b) k) c.bytes.ensures.bytes (c.in_err-lay.ensures.kept k)))
+    (λ k. subst (λ (b : List ℕ). over (changes c.lay.new.self) (block_at b) k ≡ over (changes c.self.inside.changed) (block_at b) k) c.blocks-base.ensures (c.in_err-lay.ensures.kept k)))
 
 pub returns-clause-changed : goal.returns-clause-changed
 returns-clause-changed c = subst (λ v. HasKept v (changes c.args.patch.now) (image_of c.self.inside.base c.lay.new.self)) c.self.view_is
