@@ -30,7 +30,7 @@ returns-clause-ok g c =
     let base = c.args.base.now in
     let current = laid_over (changes c.args.changed.now) base in
     let here : c.loop-n.n ≡ count = omega (arith, c.loop-n.invariant.0, c.loop-n-test.false) in
-    let before = subst (λ k. Appends _ _ (take (512 * k) current)) here c.loop-n.invariant.1 in
+    let before = subst (λ k. Appends (g.W.Write.contents c.args.writer.now) (g.W.Write.contents c.loop-n.writer) (take (512 * k) current)) here c.loop-n.invariant.1 in
     ok_so c.write_at-2.result
     (λ out. rest_piece _ _ _ current _ count before (take_rest base (count * 512) ∙ tail_piece (changes c.args.changed.now) base c.requires.within count c.requires.count) out)
     c.write_at-2.ensures.ok
@@ -41,7 +41,7 @@ returns-clause-err g c =
     let base = c.args.base.now in
     let current = laid_over (changes c.args.changed.now) base in
     let here : c.loop-n.n ≡ count = omega (arith, c.loop-n.invariant.0, c.loop-n-test.false) in
-    let before = subst (λ k. Appends _ _ (take (512 * k) current)) here c.loop-n.invariant.1 in
+    let before = subst (λ k. Appends (g.W.Write.contents c.args.writer.now) (g.W.Write.contents c.loop-n.writer) (take (512 * k) current)) here c.loop-n.invariant.1 in
     let long = length-laid_over (changes c.args.changed.now) base c.requires.within in
     err_so c.write_at-2.result _
     (λ (fault : SaveFault). HasWritten (g.W.Write.contents c.args.writer.now) (g.W.Write.contents c.write_at-2.new.writer) fault.written current)

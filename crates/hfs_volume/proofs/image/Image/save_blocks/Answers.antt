@@ -29,7 +29,7 @@ returns-clause-ok g c =
     let count = c.count-count.result in
     let current = c.args.self.now.current in
     let here : c.loop-n.n ≡ count = omega (arith, c.loop-n.auto.n-end, c.loop-n-test.false) in
-    let before = subst (λ k. Appends _ _ (take (512 * k) current)) here c.loop-n.invariant in
+    let before = subst (λ k. Appends (g.W.Write.contents c.args.writer.now) (g.W.Write.contents c.loop-n.writer) (take (512 * k) current)) here c.loop-n.invariant in
     let long : c.len.result ≡ length current =
     c.len.ensures.len ∙ same_length (changes c.self.inside.changed) c.self.inside.base current c.self.invariant.within (ap (λ v. v.current) c.self.view_is) in
     ok_so c.write_at-2.result (λ out. rest_piece _ _ _ current _ count before (zeros_behind current count c.len.result c.count-count.ensures.count long c.requires) out)
@@ -40,7 +40,7 @@ returns-clause-err g c =
     let count = c.count-count.result in
     let current = c.args.self.now.current in
     let here : c.loop-n.n ≡ count = omega (arith, c.loop-n.auto.n-end, c.loop-n-test.false) in
-    let before = subst (λ k. Appends _ _ (take (512 * k) current)) here c.loop-n.invariant in
+    let before = subst (λ k. Appends (g.W.Write.contents c.args.writer.now) (g.W.Write.contents c.loop-n.writer) (take (512 * k) current)) here c.loop-n.invariant in
     let long : c.len.result ≡ length current =
     c.len.ensures.len ∙ same_length (changes c.self.inside.changed) c.self.inside.base current c.self.invariant.within (ap (λ v. v.current) c.self.view_is) in
     err_so c.write_at-2.result _
