@@ -1,5 +1,5 @@
 -- A copy of an image: the blocks that were read of it, with zeros elsewhere.
-use Rattle.std.proofs.Common.{◌≡◌, ℕ, ◌*◌, ◌/◌, ◌%◌, ◌<◌, ◌≤◌, List, length, take, drop, replicate, Option, Some, None, unwrap_or, refl, sym, ap, subst, ◌∙◌, arith}
+use Rattle.std.proofs.Common.{◌≡◌, ℕ, ◌*◌, ◌/◌, ◌%◌, ◌<◌, List, length, take, replicate, unwrap_or, sym, ap, subst, ◌∙◌, arith}
 use Rattle.std.specs.Prelude.{◌-◌}
 use Rattle.std.proofs.lemmas.List.{length-replicate, take-replicate, drop-replicate}
 use Rattle.hfs_blocks.specs.Blocks.{block_at, block_count}
@@ -7,7 +7,6 @@ use Rattle.hfs_blocks.specs.Layers.{Numbered, changes, AreWithin}
 use Rattle.hfs_sparse.specs.Sparse.{zero_block, sparse}
 use Rattle.hfs_volume.specs.BaseBytes.{EndsInZeros}
 use Rattle.hfs_volume.specs.Image.{copy_of}
-use Rattle.hfs_volume.specs.Laid.{laid_over}
 use Rattle.hfs_volume.proofs.Laid.{block_at-laid_over}
 use Rattle.hfs_volume.proofs.SavedPieces.{length-laid_over, ends-laid}
 
