@@ -110,7 +110,6 @@ decides-no-extents (Some image) total changed read mdb of two sound is wrong =
     (right-directory total (laid_over_read changed read) mdb sound is)
     (ap (λ (m : Mdb). is_tree_file m m.extents_file m.extents_file_size) (sym is) ∙ wrong)
 
-
 pub decides-no-catalog : (known : Option (List ℕ)) (total : ℕ) (changed read : Numbered) (mdb : Mdb) → IsOfKnown known read → IsSome (changes read 2)
     → HasEach read (extents_blocks (laid_over_read changed read)) → IsMdbSound total mdb → mdb ≡ mdb_in (laid_over_read changed read)
     → has_catalog (laid_over_read changed read) mdb ≡ false → DecidesFor known total changed read

@@ -147,7 +147,7 @@ module _ (total : ℕ) (old new : Blocks) (m : mdb_in new ≡ mdb_in old) where
     -- the extents tree is wrong in both, by this fault
     no-extents : is_extents_right old (mdb_in old) ≡ false → is_extents_right new (mdb_in new) ≡ false
         → check_fault 3 (extents_fault (has_counts ext_keys (extents_nodes new)) (mdb_in new) (extents_nodes new))
-            ≡ check_fault 3 (extents_fault (has_counts ext_keys (extents_nodes old)) (mdb_in old) (extents_nodes old)) → Alike
+        ≡ check_fault 3 (extents_fault (has_counts ext_keys (extents_nodes old)) (mdb_in old) (extents_nodes old)) → Alike
     unfolding blocks_fault trees_fault
     no-extents e f same =
         let some : is_none (check_fault 3 (extents_fault (has_counts ext_keys (extents_nodes old)) (mdb_in old) (extents_nodes old))) ≡ false =
