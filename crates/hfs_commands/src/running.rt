@@ -106,7 +106,7 @@ impl<S: BlockSource + Watched + Drop> RunImage<S> {
             OfKnown (S.image source) len (λ bytes. fault_of bytes ≡ Some why))) }
         ensures fault { IfErr result (λ why. (why ≡ Fault.CannotRead path.entry) ⊎ IsTooMuch why) }
     {
-        if len > IMAGE_LIMIT {
+        if len > IMAGE_LIMIT as u64 {
             return Err(Fault::Refused(MountFault::TooLarge));
         }
         let mut source = source;

@@ -1,0 +1,3 @@
+pub mod ForkPlaces
+pub mod KeptBlocks
+pub mod MoreRead
