@@ -1,14 +1,15 @@
 -- Where the forks of files lie, as more of them come.
-use Rattle.std.proofs.Common.{◌≡◌, ◌⊎◌, inl, inr, ⊎_elim, ℕ, Bool, true, false, cond, List, [], ◌∷◌, ◌++◌, Option, Some, None, IsSome, is_some, Result, Ok, Err, IfOk, OnOk, refl, sym, ap, subst, ◌∙◌, true≢false, Vec, Global, length, arith}
+use Rattle.std.proofs.Common.{◌≡◌, ◌⊎◌, inl, inr, ⊎_elim, ℕ, Bool, true, false, cond, List, [], ◌∷◌, ◌++◌, Option, Some, None, IsSome, is_some, Result, Ok, Err, IfOk, OnOk, refl, sym, ap, subst, ◌∙◌, true≢false, Vec, Global, length, arith, eqb, take, get_or, suc, ◌+◌, ◌<◌}
 use Rattle.std.specs.Prelude.{nat_eq, ◌||◌}
 use Rattle.std.specs.List.{flat_map}
 use Rattle.std.specs.Map.{lookup}
 use Rattle.std.proofs.lemmas.Bool.{and_parts, eqb-true}
 use Rattle.std.proofs.lemmas.List.Concat.{flat_map-cons}
 use Rattle.std.proofs.lemmas.Grind.{flat_map-append}
+use Rattle.std.proofs.Math.Seq.{take-suc}
 use Rattle.hfs_fields.specs.declared.file_record.FileRecord.{FileRecord}
 use Rattle.hfs_fields.specs.declared.file_record.ForkRecord.{ForkRecord}
-use Rattle.hfs_fields.specs.Records.{is_dir, is_file, is_item, item_id, dir_record_of, file_record_of}
+use Rattle.hfs_fields.specs.Records.{is_dir, is_file, is_item, item_id, type_byte, dir_record_of, file_record_of}
 use Rattle.hfs_scans.specs.Each.{Each}
 use Rattle.hfs_scans.specs.Members.{In}
 use Rattle.hfs_scans.proofs.ElementLemmas.{each-append, each-mono}
@@ -110,7 +111,7 @@ names-one catalog P call dir name is h other_dir other_name other =
     same-some x y e = cc
 
 pub file-is : (catalog : Catalog) (dir : ℕ) (name : List ℕ) (found : Result FileRecord Reply) → found ≡ file_named catalog dir name → IfOk found (IsFileOf catalog)
-file-is catalog dir name (Ok file) is = let f = found_file catalog dir name file (sym is) in record { of = f.of; there = f.there; file = f.file; is = f.is }
+file-is catalog dir name (Ok file) is = let f = found_file catalog dir name file (sym is) in record { of = f.of; there = f.there; kind = f.file; is = f.is }
 file-is catalog dir name (Err reply) is = tt
 
 -- ---- with distinct IDs
@@ -118,8 +119,8 @@ file-is catalog dir name (Err reply) is = tt
 not-dir : (body : List ℕ) → is_file body ≡ true → is_dir body ≡ false
 not-dir body file = elim (is_dir body) as (λ (b : Bool). is_dir body ≡ b → b ≡ false) [
   | true ↦ λ e.
-      let one = eqb-true (length body) 70 (and_parts _ _ e).1 in
-      let two = eqb-true (length body) 102 (and_parts _ _ file).1 in
+      let one : length body ≡ 70 = eqb-true (length body) 70 (and_parts (eqb (type_byte body) 1) (eqb (length body) 70) e).1 in
+      let two : length body ≡ 102 = eqb-true (length body) 102 (and_parts (eqb (type_byte body) 2) (eqb (length body) 102) file).1 in
       absurd (omega (arith, one, two))
   | false ↦ λ e. refl
 ] refl
@@ -139,10 +140,10 @@ pub same-file : (total : ℕ) (blocks : Blocks) → AreBlocksSound total blocks 
 same-file total blocks sound f g is-f is-g same =
     let catalog = catalog_in blocks in
     let later = later_from_distinct catalog sound.ids.distinct in
-    let first : item_with catalog (item_id is-f.of.1) ≡ Some is-f.of = found_by_id catalog is-f.of later is-f.there (item-is is-f.of.1 is-f.file) in
-    let second : item_with catalog (item_id is-g.of.1) ≡ Some is-g.of = found_by_id catalog is-g.of later is-g.there (item-is is-g.of.1 is-g.file) in
+    let first : item_with catalog (item_id is-f.of.1) ≡ Some is-f.of = found_by_id catalog is-f.of later is-f.there (item-is is-f.of.1 is-f.kind) in
+    let second : item_with catalog (item_id is-g.of.1) ≡ Some is-g.of = found_by_id catalog is-g.of later is-g.there (item-is is-g.of.1 is-g.kind) in
     let ids : item_id is-f.of.1 ≡ item_id is-g.of.1 =
-    item-id is-f.of.1 is-f.file ∙ ap (λ (r : FileRecord). r.id) is-f.is ∙ same ∙ sym (item-id is-g.of.1 is-g.file ∙ ap (λ (r : FileRecord). r.id) is-g.is) in
+    item-id is-f.of.1 is-f.kind ∙ ap (λ (r : FileRecord). r.id) is-f.is ∙ same ∙ sym (item-id is-g.of.1 is-g.kind ∙ ap (λ (r : FileRecord). r.id) is-g.is) in
     let records : is-f.of ≡ is-g.of = same-some is-f.of is-g.of (sym first ∙ ap (item_with catalog) ids ∙ second) in
     sym is-f.is ∙ ap (λ (r : Record). file_record_of r.1) records ∙ is-g.is
 
@@ -189,3 +190,24 @@ pushed-gained old first second = gained-on old (old ++ first ∷ []) ((old ++ fi
 
 pub lie-more : (count : ℕ) (old : List (Vec Run Global)) (runs : Vec Run Global) → AreRunsWithin runs.items count → LieAmong count old → LieAmong count (old ++ runs ∷ [])
 lie-more count old runs within h = each-append (λ (r : Vec Run Global). AreRunsWithin r.items count) old (runs ∷ []) h (within, tt)
+
+-- an entry that was put in
+pub met-by : {A : Type 0} (old new : List (ℕ × A)) (id : ℕ) (x : A) → ((q : ℕ) → lookup (nat_eq q) new ≡ cond (nat_eq id q) (Some x) (lookup (nat_eq q) old))
+    → (other : ℕ) → HasMet new other → (other ≡ id) ⊎ HasMet old other
+met-by old new id x updates other met = elim (nat_eq id other) as (λ (b : Bool). nat_eq id other ≡ b → (other ≡ id) ⊎ HasMet old other) [
+  | true ↦ λ e. inl (sym (eqb-true id other e))
+  | false ↦ λ e. inr (sym (ap is_some (updates other ∙ ap (λ (b : Bool). cond b (Some x) (lookup (nat_eq other) old)) e)) ∙ met)
+] refl
+
+-- one line more
+pub named-next : (blocks : Blocks) (lines : List ScriptLine) (i : ℕ) (line : ScriptLine) (old new : List (Vec Run Global)) → i < length lines → GainForks old new
+    → HaveNamedForks blocks (take i lines) (blocks_of_runs old)
+    → OfNamed (catalog_in blocks) (λ (file : FileRecord). AreAmong (file_blocks blocks file) (blocks_of_runs new)) (get_or lines i line).call
+    → HaveNamedForks blocks (take (i + 1) lines) (blocks_of_runs new)
+named-next blocks lines i line old new within gained before here =
+    subst (λ (ls : List ScriptLine). HaveNamedForks blocks ls (blocks_of_runs new)) (sym (take-suc lines i line within) ∙ ap (λ (n : ℕ). take n lines) (one-more i))
+    (each-append (λ (l : ScriptLine). OfNamed (catalog_in blocks) (λ (file : FileRecord). AreAmong (file_blocks blocks file) (blocks_of_runs new)) l.call)
+    (take i lines) (get_or lines i line ∷ []) (named-gained blocks (take i lines) old new gained before) (here, tt))
+  where
+    one-more : (n : ℕ) → suc n ≡ n + 1
+    one-more n = omega arith

@@ -1,6 +1,9 @@
 -- Those of the changed blocks that are among some blocks.
-use Rattle.std.proofs.Common.{◌≡◌, ◌⊎◌, inl, inr, ⊎_elim, ℕ, zero, suc, ◌+◌, ◌<◌, ◌≤◌, Bool, true, false, cond, List, [], ◌∷◌, ◌++◌, length, Option, Some, None, IsSome, is_some, Result, Ok, Err, OnOk, refl, sym, ap, subst, ◌∙◌, arith, true≢false}
+use Rattle.std.proofs.Common.{◌≡◌, ◌⊎◌, inl, inr, ⊎_elim, ℕ, zero, suc, ◌+◌, ◌<◌, ◌≤◌, Bool, true, false, cond, List, [], ◌∷◌, ◌++◌, length, Option, Some, None, IsSome, is_some, Result, Ok, Err, OnOk, refl, sym, ap, subst, ◌∙◌, arith, true≢false, take, get_or}
 use Rattle.std.specs.Prelude.{◌≢◌, nat_eq}
+use Rattle.std.proofs.lemmas.Grind.{flat_map-append}
+use Rattle.std.proofs.lemmas.List.Concat.{flat_map-cons}
+use Rattle.std.proofs.Math.Seq.{take-suc}
 use Rattle.std.specs.List.{flat_map, range_with_len}
 use Rattle.std.proofs.lemmas.Bool.{cases_eq, eq-eqb, ne_eqb}
 use Rattle.hfs_scans.specs.Each.{Each}
@@ -85,21 +88,24 @@ gained-more numbers more changed old middle new first second = record {
       (second.only n);
 }
 
-range-end : (a k : ℕ) → range_with_len a (k + 1) ≡ range_with_len a k ++ (a + k) ∷ []
-range-end a zero = λ i. (omega-zero i) ∷ []
+range-end : (a k : ℕ) → range_with_len a (suc k) ≡ range_with_len a k ++ (a + k) ∷ []
+range-end a zero = ap (λ (m : ℕ). m ∷ []) (omega-zero a)
   where
-    omega-zero : a ≡ a + 0
-    omega-zero = omega arith
-range-end a (suc k) = ap (λ (l : List ℕ). a ∷ l) (range-end (a + 1) k ∙ ap (λ (m : ℕ). range_with_len (a + 1) k ++ m ∷ []) moved)
+    omega-zero : (n : ℕ) → n ≡ n + 0
+    omega-zero n = omega arith
+range-end a (suc k) = ap (λ (l : List ℕ). a ∷ l) (range-end (a + 1) k ∙ ap (λ (m : ℕ). range_with_len (a + 1) k ++ m ∷ []) (moved a k))
   where
-    moved : a + 1 + k ≡ a + suc k
-    moved = omega arith
+    moved : (n m : ℕ) → n + 1 + m ≡ n + suc m
+    moved n m = omega arith
 
 pub gained-next : (first k : ℕ) (changed old middle new : Numbered) → GainsChanged (range_with_len first k) changed old middle
     → GainsChanged ((first + k) ∷ []) changed middle new → GainsChanged (range_with_len first (k + 1)) changed old new
 gained-next first k changed old middle new h g =
-    subst (λ (ns : List ℕ). GainsChanged ns changed old new) (sym (range-end first k))
+    subst (λ (ns : List ℕ). GainsChanged ns changed old new) (sym (range-end first k) ∙ ap (λ (m : ℕ). range_with_len first m) (one-more k))
     (gained-more (range_with_len first k) ((first + k) ∷ []) changed old middle new h g)
+  where
+    one-more : (n : ℕ) → suc n ≡ n + 1
+    one-more n = omega arith
 
 -- ---- all that was kept
 
@@ -126,3 +132,23 @@ kept-more numbers more changed old new h g = record {
       (λ (came : In n more × (changes new n ≡ changes changed n)). in-right n numbers more came.0)
       (g.only n);
 }
+
+-- one run more
+pub kept-next : (runs : List Run) (i : ℕ) (run : Run) → i < length runs → (changed old new : Numbered) → AreChangedIn (2 ∷ flat_map run_of (take i runs)) changed old
+    → GainsChanged (run_of (get_or runs i run)) changed old new → AreChangedIn (2 ∷ flat_map run_of (take (i + 1) runs)) changed new
+kept-next runs i run within changed old new h g =
+    subst (λ (ns : List ℕ). AreChangedIn (2 ∷ ns) changed new)
+    (ap (λ (ns : List ℕ). flat_map run_of (take i runs) ++ ns) (sym (one-run (get_or runs i run)))
+    ∙ sym (flat_map-append run_of (take i runs) (get_or runs i run ∷ []))
+    ∙ ap (flat_map run_of) (sym (take-suc runs i run within) ∙ ap (λ (n : ℕ). take n runs) (one-more i)))
+    (kept-more (2 ∷ flat_map run_of (take i runs)) (run_of (get_or runs i run)) changed old new h g)
+  where
+    one-more : (n : ℕ) → suc n ≡ n + 1
+    one-more n = omega arith
+
+    append-nil : (xs : List ℕ) → xs ++ [] ≡ xs
+    append-nil [] = refl
+    append-nil (x ∷ xs) = ap (λ (l : List ℕ). x ∷ l) (append-nil xs)
+
+    one-run : (r : Run) → flat_map run_of (r ∷ []) ≡ run_of r
+    one-run r = flat_map-cons run_of r [] ∙ append-nil (run_of r)

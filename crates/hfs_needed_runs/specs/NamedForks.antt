@@ -67,7 +67,7 @@ LieAmong total forks = Each (λ (runs : Vec Run Global). AreRunsWithin runs.item
 pub record IsFileOf (catalog : Catalog) (file : FileRecord) : Type 0 where
   pub of : Record
   pub there : In of catalog
-  pub file : is_file of.1 ≡ true
+  pub kind : is_file of.1 ≡ true
   pub is : file_record_of of.1 ≡ file
 
 -- the ID is one of those that were met

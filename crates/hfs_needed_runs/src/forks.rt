@@ -51,6 +51,7 @@ fn fork_runs(
 }
 
 /// Appends where both forks of a file lie.
+#[tactic(auto, using(hfs_needed::proofs::Named::data_sound, hfs_needed::proofs::Named::resource_sound))]
 fn push_file(
     alloc: Global,
     forks: &mut Vec<Vec<Run>>,

@@ -164,7 +164,7 @@ pub fn run_volume_at<R: Threads + Wait + Sync, G: Gate + Sync>(
     volume: Volume,
     script: Script,
 ) -> Result<Ran, ScriptFault>
-    requires { All (λ l. IsSmall l.caller) script }
+    requires small { All (λ l. IsSmall l.caller) script }
     ensures ok { IfOk result (λ ran. AreLinesRunAs volume.current script ran) }
     ensures err { IfErr result IsStartFault }
 {

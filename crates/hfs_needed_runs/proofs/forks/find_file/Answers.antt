@@ -6,6 +6,8 @@ use Rattle.hfs_sparse.specs.Sparse.{sparse}
 use Rattle.hfs_needed.proofs.Named.{forks-found}
 use Rattle.hfs_queries.proofs.LawsProved.{catalog_answers-sound}
 use Rattle.hfs_queries.specs.Told as told
+use Rattle.hfs_check.specs.Parts.{catalog_in}
+use Rattle.hfs_needed_runs.proofs.ForkPlaces.{file-is}
 use Rattle.hfs_needed_runs.proofs.forks.find_file.Goals as goal
 
 pub file_named-requires : goal.file_named-requires
@@ -22,3 +24,6 @@ returns-clause-found c =
 pub returns-clause-forks : goal.returns-clause-forks
 returns-clause-forks c =
     forks-found c.args.count (sparse c.args.read.now) c.requires.sound c.args.dir c.args.name.now c.file_named.result (returns-clause-found c)
+
+pub returns-clause-file : goal.returns-clause-file
+returns-clause-file c = file-is (catalog_in (sparse c.args.read.now)) c.args.dir c.args.name.now c.file_named.result (returns-clause-found c)
