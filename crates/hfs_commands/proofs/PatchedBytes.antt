@@ -1,6 +1,6 @@
 -- An image with changed blocks laid over it, as what a file is to hold.
-use Rattle.std.proofs.Common.{◌≡◌, ℕ, Bool, true, false, List, length, Option, Some, None, refl, sym, ap, subst, ◌∙◌, cond}
-use Rattle.std.specs.Prelude.{IfSome, nat_eq, MatchOption}
+use Rattle.std.proofs.Common.{◌≡◌, ℕ, Bool, true, false, List, length, Option, Some, None, refl, sym, ap, ◌∙◌, cond}
+use Rattle.std.specs.Prelude.{IfSome, nat_eq}
 use Rattle.std.proofs.lemmas.Bool.{eq-eqb, eqb-true}
 use Rattle.std.specs.Io.KnownBytes.{Appends}
 use Rattle.hfs_blocks.specs.Layers.{Numbered}

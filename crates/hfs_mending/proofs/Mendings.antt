@@ -1,5 +1,5 @@
 -- What was made of the blocks that were read is what a repair makes of the image.
-use Rattle.std.proofs.Common.{◌≡◌, ◌≢◌, ℕ, ◌/◌, ◌<◌, ◌≤◌, Bool, true, false, List, [], length, Option, Some, None, refl, sym, ap, subst, ◌∙◌, arith}
+use Rattle.std.proofs.Common.{◌≡◌, ℕ, ◌/◌, ◌<◌, ◌≤◌, false, List, [], length, Option, Some, None, refl, sym, ap, subst, ◌∙◌, arith}
 use Rattle.std.specs.Prelude.{IfOk, IfSome, Result, Ok, Err, nat_le, ◌&&◌}
 use Rattle.std.proofs.lemmas.Bool.{le-leb, lt-leb}
 use Rattle.hfs_fields.proofs.DecisionLemmas.{both_true}
@@ -23,7 +23,7 @@ use Rattle.hfs_volume.specs.Image.{patched}
 use Rattle.hfs_volume.proofs.Laid.{block_at-laid_over, laid_over-nothing}
 use Rattle.hfs_volume.proofs.SavedPieces.{length-laid_over}
 use Rattle.hfs_mending.specs.declared.mending.Mended.{Mended}
-use Rattle.hfs_mending.specs.Mended.{DecideAlike, DecidesFor, PutsBytes, laid_over_read, laid_over_image, IsMendedBy, IsMendedOf, MendsBlocks, MendsBlocksOf, IsFaultOver}
+use Rattle.hfs_mending.specs.Mended.{DecidesFor, PutsBytes, laid_over_read, laid_over_image, IsMendedBy, IsMendedOf, MendsBlocks, MendsBlocksOf, IsFaultOver}
 
 -- ---- an image of a wrong length stays
 

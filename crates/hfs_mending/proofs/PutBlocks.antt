@@ -1,6 +1,6 @@
 -- A byte that is put into its block, and the image over which that is laid.
 use Rattle.std.proofs.Common.{◌≡◌, ◌≢◌, ℕ, suc, ◌+◌, ◌-◌, ◌*◌, ◌/◌, ◌<◌, ◌≤◌, Bool, cond, List, [], ◌∷◌, ◌++◌, length, drop, set, Option, Some, None, IsSome, unwrap_or, refl, sym, ap, subst, ◌∙◌, arith, append_assoc, ⊎_elim}
-use Rattle.std.specs.Prelude.{◌%◌, IfSome}
+use Rattle.std.specs.Prelude.{◌%◌}
 use Rattle.std.proofs.lemmas.Bool.{cases_eq, eq-eqb, ne_eqb}
 use Rattle.std.proofs.lemmas.List.{set-append_left, set-append_right}
 use Rattle.hfs_blocks.specs.Blocks.{block_at, block_count}
@@ -9,7 +9,6 @@ use Rattle.hfs_needed.specs.Gathered.{IsOfKnown}
 use Rattle.hfs_patched.proofs.FlatBlocks.{blocks_from, flat-laid, length-blocks_from, blocks_from-add, blocks_from-same}
 use Rattle.hfs_repair.specs.declared.byte_put.BytePut.{BytePut}
 use Rattle.hfs_repair.specs.Puts.{put_all}
-use Rattle.hfs_sparse.specs.Sparse.{sparse, IsOf}
 use Rattle.hfs_sparse.proofs.SparseLemmas.{each-of}
 use Rattle.hfs_volume.specs.Image.{patched}
 use Rattle.hfs_volume.specs.Laid.{laid}

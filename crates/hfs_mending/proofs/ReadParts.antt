@@ -1,21 +1,18 @@
 -- What was read of an image, with changed blocks laid over both, decides what the image decides.
-use Rattle.std.proofs.Common.{◌≡◌, ℕ, ◌+◌, ◌<◌, ◌≤◌, Bool, true, false, List, [], ◌∷◌, Option, Some, None, IsSome, refl, sym, ap, subst, ◌∙◌}
-use Rattle.std.specs.Prelude.{◌&&◌, is_some, unwrap_or, IfSome}
+use Rattle.std.proofs.Common.{◌≡◌, ℕ, Bool, true, false, List, [], ◌∷◌, Option, Some, None, IsSome, refl, sym, ap, subst, ◌∙◌}
+use Rattle.std.specs.Prelude.{◌&&◌, is_some, unwrap_or}
 use Rattle.std.specs.List.{flat_map}
 use Rattle.std.specs.Option.{is_none}
-use Rattle.std.proofs.lemmas.Bool.{and_parts}
 use Rattle.hfs_fields.specs.declared.mdb.Mdb.{Mdb}
 use Rattle.hfs_fields.specs.declared.extent.Extent.{Extent}
-use Rattle.hfs_scans.specs.Each.{Each}
 use Rattle.hfs_blocks.specs.declared.run.Run.{Run}
 use Rattle.hfs_blocks.specs.Blocks.{block_at, run_of, AreRunsWithin}
 use Rattle.hfs_blocks.specs.Layers.{Numbered, Changes, changes, over, AreWithin}
 use Rattle.hfs_space.specs.Faults.{is_tree_file}
 use Rattle.hfs_space.specs.TreeFiles.{tree_blocks}
-use Rattle.hfs_check.specs.declared.mount_fault.MountFault.{MountFault}
 use Rattle.hfs_check.specs.Agree.{bitmap_blocks}
 use Rattle.hfs_check.specs.Faults.{mdb_fault}
-use Rattle.hfs_check.specs.Parts.{Blocks, mdb_in, extents_blocks, extents_nodes, catalog_extents, catalog_blocks, catalog_nodes}
+use Rattle.hfs_check.specs.Parts.{Blocks, mdb_in, extents_blocks, extents_nodes, catalog_extents, catalog_blocks}
 use Rattle.hfs_check.specs.Sound.{IsMdbSound}
 use Rattle.hfs_check.proofs.LawsProved.{no_mdb_fault}
 use Rattle.hfs_needed.specs.Gathered.{HasRead, IsOfKnown}

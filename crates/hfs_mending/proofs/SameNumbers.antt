@@ -9,7 +9,6 @@ use Rattle.hfs_btree.specs.Tree.{Store}
 use Rattle.hfs_btree_checks.specs.Order.{key_fault, order_fault}
 use Rattle.hfs_btree_checks.specs.Shape.{unless, ◌or_else◌, has_counts, structure_fault}
 use Rattle.hfs_space.specs.Bitmap.{clear_count}
-use Rattle.hfs_space.specs.Extents.{fork_extents}
 use Rattle.hfs_space.specs.Faults.{is_tree_file, fork_fault, space_fault}
 use Rattle.hfs_space.specs.ForkLaws.{block_numbers}
 use Rattle.hfs_space.specs.Owners.{catalog_fork}
@@ -20,7 +19,6 @@ use Rattle.hfs_catalog.specs.Sound.{counts_of}
 use Rattle.hfs_catalog.specs.Tree.{cat_keys, catalog_of}
 use Rattle.hfs_catalog_checks.specs.Faults.{record_fault, id_fault, valence_fault, count_fault}
 use Rattle.hfs_check.specs.declared.mount_fault.MountFault.{MountFault}
-use Rattle.hfs_check.specs.declared.mount_fault.MountFault.TheVariants as fault
 use Rattle.hfs_check.specs.Agree.{bitmap_blocks}
 use Rattle.hfs_check.specs.Faults.{◌or_fault◌, check_fault, mdb_fault, is_fork_key, extents_fault, catalog_fault, trees_fault, catalog_name_fault, catalog_place_fault, records_fault, numbers_fault, blocks_fault}
 use Rattle.hfs_check.specs.Parts.{Blocks, mdb_in, extents_blocks, extents_nodes, overflow_in, catalog_extents, catalog_blocks, catalog_nodes, catalog_in, owned_in}

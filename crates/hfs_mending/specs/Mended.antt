@@ -12,7 +12,7 @@ use Rattle.hfs_repair.specs.Fixes.{AreFixes}
 use Rattle.hfs_repair.specs.Puts.{put_all, puts_of}
 use Rattle.hfs_repair.specs.Repair.{repair, wrong_in}
 use Rattle.hfs_repair.specs.Wrong.{wrong_in_blocks}
-use Rattle.hfs_sparse.specs.Sparse.{sparse, IsOf}
+use Rattle.hfs_sparse.specs.Sparse.{sparse}
 use Rattle.hfs_volume.specs.Image.{patched}
 use Rattle.hfs_mending.specs.declared.mending.Mended.{Mended}
 

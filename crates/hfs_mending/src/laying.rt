@@ -1,7 +1,8 @@
 //! Bytes that are put into blocks, each block as it was read or as it was changed before.
-ghost use Rattle.std.specs.Prelude.{◌≡◌, ◌∷◌, [], OnOk, IfOk};
+ghost use Rattle.std.specs.Prelude.{◌≡◌, ◌*◌, ◌<◌, ◌∷◌, [], OnOk, IfOk};
 ghost use Rattle.hfs_blocks.specs.Layers.{changes, AreWithin, KeepsWithin};
 ghost use Rattle.hfs_needed.specs.Gathered.{HasRead, IsOfKnown};
+ghost use Rattle.hfs_repair.specs.Puts.{AreInBlocks};
 ghost use Rattle.hfs_mending.specs.Mended.{PutsBytes};
 
 use hfs_blocks::{Blocks, Patch};
@@ -9,7 +10,7 @@ use hfs_repair::BytePut;
 use hfs_sparse::{BlockSource, SparseBlocks, SparseFault, fetch};
 use std::alloc::Global;
 
-/// Puts one byte into its block of an image of `count` blocks. Errors: the byte lies in none of them, a read failed, memory was refused.
+/// Puts one byte into its block of an image of `count` blocks. Errors: a read failed, memory was refused.
 fn lay_put<S: BlockSource>(
     source: &mut S,
     read: &mut SparseBlocks,
@@ -17,16 +18,14 @@ fn lay_put<S: BlockSource>(
     count: u32,
     put: &BytePut,
 ) -> Result<(), SparseFault>
-    requires { IsOfKnown (S.image source.old) read.old }
+    requires of { IsOfKnown (S.image source.old) read.old }
+    requires within { put.now.at < 512 * count }
     ensures put { OnOk result
         (PutsBytes (S.image source.old) count (put.now ∷ []) patch.old patch.new) }
     ensures within { KeepsWithin patch.old patch.new count }
     ensures reads { HasRead (S.image source.old) count read.old read.new }
     ensures image { S.image source.new ≡ S.image source.old }
 {
-    if put.at / 512 >= count as usize {
-        return Err(SparseFault::ReadFailed);
-    }
     let n = (put.at / 512) as u32;
     fetch(source, read, n)?;
     let mut block = [0; 512];
@@ -46,7 +45,8 @@ pub(crate) fn lay_puts<S: BlockSource>(
     count: u32,
     puts: &[BytePut],
 ) -> Result<Patch, SparseFault>
-    requires { IsOfKnown (S.image source.old) read.old }
+    requires of { IsOfKnown (S.image source.old) read.old }
+    requires within { AreInBlocks count puts.now }
     ensures puts { IfOk result (λ patch. PutsBytes (S.image source.old) count puts.now [] patch) }
     ensures within { IfOk result (λ patch. AreWithin (changes patch) count) }
     ensures reads { HasRead (S.image source.old) count read.old read.new }

@@ -7,3 +7,4 @@ pub mod Repairs
 mod Repaired
 pub mod Mendable
 mod AllPlaced
+pub mod PlacedInBlocks

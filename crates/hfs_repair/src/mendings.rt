@@ -2,7 +2,7 @@
 
 ghost use Rattle.std.specs.Prelude.{◌≡◌, ◌≤◌, IfOk};
 ghost use Rattle.hfs_repair.specs.Fixes.{AreFixes};
-ghost use Rattle.hfs_repair.specs.Puts.{IsMendedBy, puts_of};
+ghost use Rattle.hfs_repair.specs.Puts.{AreInBlocks, IsMendedBy, puts_of};
 ghost use Rattle.hfs_repair.specs.Repair.{wrong_in};
 ghost use Rattle.hfs_repair.specs.Wrong as spec;
 
@@ -44,6 +44,8 @@ impl Mending {
         requires { 3 ≤ B.total blocks.now }
         ensures written { IfOk result (λ mending. mending.puts.items
             ≡ puts_of (spec.wrong_in_blocks (B.total blocks.now) (B.blocks blocks.now))) }
+        ensures within { IfOk result (λ mending. AreInBlocks (B.total blocks.now)
+            mending.puts.items) }
         ensures told { IfOk result (λ mending. AreFixes
             (spec.wrong_in_blocks (B.total blocks.now) (B.blocks blocks.now))
             mending.fixes.items) }

@@ -1,9 +1,8 @@
 -- The wrong numbers of what was read, and with their blocks the fault that is left.
 use Rattle.std.proofs.Common.{◌≡◌, ℕ, [], List, Option, ap, sym, subst, ◌∙◌}
-use Rattle.hfs_blocks.specs.Layers.{Numbered, changes, over}
+use Rattle.hfs_blocks.specs.Layers.{changes, over}
 use Rattle.hfs_sparse.specs.declared.volume.SparseVolume.{SparseVolume}
 use Rattle.hfs_sparse.specs.Sparse.{sparse}
-use Rattle.hfs_check.specs.Parts.{Blocks}
 use Rattle.hfs_needed.specs.Gathered.{IsOfKnown}
 use Rattle.hfs_needed.proofs.Gathered.{reads-start}
 use Rattle.hfs_repair.specs.Fields.{PlacedNumber}
