@@ -1,5 +1,6 @@
 -- Runs of scripts on images of which only what they need is read.
-use Rattle.std.specs.Prelude.{◌≡◌, ℕ, ◌≤◌, ◌/◌, ◌⊎◌, Bool, true, List, Option, string_bytes}
+use Rattle.std.specs.Prelude.{◌≡◌, ℕ, ◌≤◌, ◌/◌, ◌⊎◌, Bool, true, List, Option}
+use Rattle.std.specs.Borrow.{Bor}
 use Rattle.hfs_blocks.specs.Layers.{Numbered}
 use Rattle.hfs_check.specs.Sound.{IsSound}
 use Rattle.hfs_needed.specs.Known.{OfKnown}
@@ -17,7 +18,6 @@ use Rattle.hfs_working.specs.Opened.{IsWorkingOf}
 use Rattle.hfs_working.specs.Working.{IsWorkingCopy, CarriesOver}
 use Rattle.hfs_commands.specs.declared.fault.Fault.{Fault}
 use Rattle.hfs_commands.specs.declared.fault.Fault.TheVariants as fault
-use Rattle.hfs_commands.specs.declared.running.RanImage.{RanImage}
 use Rattle.hfs_commands.specs.Faults.{fault_of_run}
 
 -- what contracts see of an image on which a script is to be run: its bytes, where they are known, and how many they are
@@ -30,7 +30,7 @@ run_value known len = record { known = known; len = len }
 
 -- its working blocks were read
 pub record IsRunnable (known : Option (List ℕ)) (len : ℕ) (working : WorkingVolume) : Type 0 where
-  pub working : IsWorkingOf known (len / 512) working
+  pub is : IsWorkingOf known (len / 512) working
   pub sound : IsSound (copy_of working.read len)
   pub small : len ≤ 2147483648
 
@@ -48,10 +48,6 @@ pub record IsNeededRunOf (known : Option (List ℕ)) (len : ℕ) (lines : List S
   pub copy : OfKnown known len (IsWorkingCopy (copy_of read len))
   pub carried : OfKnown known len (CarriesOver patch (copy_of read len))
 
--- the same of what the program hands out
-abbrev pub IsNeededRun : {S : Type 0} → Option (List ℕ) → ℕ → List ScriptLine → RanImage S → Type 0
-IsNeededRun known len lines ran = IsNeededRunOf known len lines ran.image.patch (string_bytes ran.text) ran.whole
-
 -- why a script was not run: the image was not read, a viewer had no place, or memory was refused
-abbrev pub IsNeededFault : List ℕ → Fault → Type 0
+abbrev pub IsNeededFault : Bor (List ℕ) → Fault → Type 0
 IsNeededFault path why = (why ≡ fault.CannotRead path) ⊎ (why ≡ fault.NoPlace) ⊎ (why ≡ fault.NoMemory)

@@ -1,12 +1,13 @@
 //! Scripts that are run on images of which only what they need is read.
-ghost use Rattle.std.specs.Prelude.{◌≡◌, ◌≤◌, ◌⊎◌, ◌/◌, All, IfErr, IfOk, Ok, Some};
+ghost use Rattle.std.specs.Prelude.{◌≡◌, ◌≤◌, ◌⊎◌, ◌/◌, All, IfErr, IfOk, Ok, Some, string_bytes};
 ghost use Rattle.hfs_blocks.specs.Layers.{changes, AreWithin};
 ghost use Rattle.hfs_check.specs.Faults.{fault_of};
 ghost use Rattle.hfs_needed.specs.Known.{OfKnown};
 ghost use Rattle.hfs_runs.specs.Asking.{IsSmall};
+ghost use Rattle.hfs_runs.specs.Runs.{IsStartFault};
 ghost use Rattle.hfs_scripts.specs.Scripts.{script_of};
 ghost use Rattle.hfs_commands.specs.Faults.{IsTooMuch};
-ghost use Rattle.hfs_commands.specs.Running.{IsNeededFault, IsNeededRun, IsScriptFault, run_value};
+ghost use Rattle.hfs_commands.specs.Running.{IsNeededFault, IsNeededRunOf, IsScriptFault, run_value};
 
 use crate::fault::Fault;
 use crate::patched_image::PatchedImage;
@@ -16,7 +17,7 @@ use hfs_needed::NeededFault;
 use hfs_needed_runs::{NeededRan, fetch_named_forks, run_needed_at};
 use hfs_runs::{Gate, ScriptFault};
 use hfs_scripts::{Script, read_script};
-use hfs_sparse::BlockSource;
+use hfs_sparse::{BlockSource, SparseFault};
 use hfs_texts::IMAGE_LIMIT;
 use hfs_working::{WorkingVolume, open_working};
 use std::alloc::Global;
@@ -90,6 +91,14 @@ pub fn script_lines(alloc: Global, bytes: &[u8], now: u32) -> Result<Script, Fau
     }
 }
 
+/// What it means for the program that a volume was not shared for a run.
+fn start_fault(fault: ScriptFault) -> Fault<'static>
+    requires { IsStartFault fault }
+    ensures { (result ≡ Fault.NoPlace) ⊎ (result ≡ Fault.NoMemory) }
+{
+    Fault::of_run(fault)
+}
+
 impl<S: BlockSource + Watched + Drop> RunImage<S> {
     /// Reads the blocks that calls read and write of an image of `len` bytes, which was opened by this path, and makes all checks. Or tells why the
     /// image is refused, which is a fault once the script was read. Faults: `CannotRead` where a read fails, `Refused(TooLarge)`,
@@ -133,7 +142,8 @@ impl<S: BlockSource + Watched + Drop> RunImage<S> {
         path: &'a str,
     ) -> Result<RanImage<S>, Fault<'a>>
         requires { All (λ line. IsSmall line.caller) script }
-        ensures ran { IfOk result (IsNeededRun self.known self.len script) }
+        ensures ran { IfOk result (λ ran. IsNeededRunOf self.known self.len script
+            ran.image.patch (string_bytes ran.text) ran.whole) }
         ensures fault { IfErr result (IsNeededFault path.entry) }
     {
         let RunImage {
@@ -143,15 +153,17 @@ impl<S: BlockSource + Watched + Drop> RunImage<S> {
         } = self;
         let mut source = source;
         let mut working = working;
-        if let Err(fault) = fetch_named_forks(alloc, &mut source, &mut working, &script) {
-            return Err(Fault::of_sparse(fault, path));
+        match fetch_named_forks(alloc, &mut source, &mut working, &script) {
+            Ok(()) => {}
+            Err(SparseFault::ReadFailed) => return Err(Fault::CannotRead(path)),
+            Err(SparseFault::Memory) => return Err(Fault::NoMemory),
         }
         if source.look_again().is_err() {
             return Err(Fault::CannotRead(path));
         }
         match run_needed_at(rt, alloc, gate, working, len, script) {
             Ok(ran) => Ok(ran_image(alloc, source, len, ran)),
-            Err(fault) => Err(Fault::of_run(fault)),
+            Err(fault) => Err(start_fault(fault)),
         }
     }
 }

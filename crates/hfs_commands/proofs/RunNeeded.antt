@@ -1,0 +1,64 @@
+-- What was read of an image for a run, and what the run made of it.
+use Rattle.std.proofs.Common.{◌≡◌, ◌⊎◌, inl, inr, ⊎_elim, ℕ, ◌/◌, Bool, true, List, length, Option, Some, None, refl, sym, ap, subst, ◌∙◌, string_bytes}
+use Rattle.hfs_blocks.specs.Layers.{Numbered}
+use Rattle.hfs_check.specs.Sound.{IsSound, IsImageLength}
+use Rattle.hfs_needed.specs.Gathered.{IsOfKnown}
+use Rattle.hfs_needed.specs.Known.{OfKnown}
+use Rattle.hfs_needed_runs.specs.declared.running.NeededRan.{NeededRan}
+use Rattle.hfs_needed_runs.specs.NamedForks.{HasNamedForks}
+use Rattle.hfs_needed_runs.specs.Naming.{read_forks}
+use Rattle.hfs_needed_runs.specs.NeededRuns.{AreLinesRunOver, AreLinesRunOverAs}
+use Rattle.hfs_runs.specs.declared.fault.ScriptFault.{ScriptFault}
+use Rattle.hfs_runs.specs.declared.fault.ScriptFault.TheVariants as run
+use Rattle.hfs_runs.specs.Runs.{IsStartFault}
+use Rattle.hfs_scripts.specs.declared.lines.ScriptLine.{ScriptLine}
+use Rattle.hfs_sparse.specs.Sparse.{sparse, IsOf}
+use Rattle.hfs_volume.specs.Image.{copy_of}
+use Rattle.hfs_volume.proofs.CopyLemmas.{length-copy}
+use Rattle.hfs_working.specs.declared.opening.WorkingVolume.{WorkingVolume}
+use Rattle.hfs_working.specs.Opened.{IsWorkingOf}
+use Rattle.hfs_working.specs.Working.{IsWorkingCopy, CarriesOver}
+use Rattle.hfs_working.proofs.ReadWork.{opened-sound, opened-copy, known-or-not}
+use Rattle.hfs_commands.specs.declared.fault.Fault.{Fault}
+use Rattle.hfs_commands.specs.declared.fault.Fault.TheVariants as fault
+use Rattle.hfs_commands.specs.Faults.{fault_of_run}
+use Rattle.hfs_commands.specs.Running.{IsNeededRunOf, IsRunnable}
+
+pub started : (why : ScriptFault) (told : Fault) → told ≡ fault_of_run why → IsStartFault why → (told ≡ fault.NoPlace) ⊎ (told ≡ fault.NoMemory)
+started why told is start = ⊎_elim
+    (λ (no_place : why ≡ run.NoPlace). inl (is ∙ ap fault_of_run no_place))
+    (λ (memory : why ≡ run.Memory). inr (is ∙ ap fault_of_run memory))
+    start
+
+module _ (known : Option (List ℕ)) (len : ℕ) (old new : WorkingVolume) (is : IsRunnable known len old) where
+  pub mountable-old : IsWorkingOf None old.count old
+  mountable-old = subst (λ (n : ℕ). IsWorkingOf None n old) (sym is.is.whole) (known-or-not known (len / 512) old is.is)
+
+  right : IsImageLength len
+  right = subst IsImageLength (length-copy old.read len is.is.within) is.sound.len
+
+  module _ (is-new : IsWorkingOf known (len / 512) new) where
+    pub mountable-new : IsWorkingOf None (len / 512) new
+    mountable-new = known-or-not known (len / 512) new is-new
+
+    pub sound-new : IsSound (copy_of new.read len)
+    sound-new = opened-sound known len right new is-new
+
+    pub needed-run : (lines : List ScriptLine) (patch : Numbered) (text : List ℕ) (all : Bool) (ran : NeededRan) → patch ≡ ran.patch → text ≡ string_bytes ran.text
+        → all ≡ ran.whole → AreLinesRunOverAs (copy_of new.read len) lines ran → (read_forks lines ≡ true → HasNamedForks (sparse new.read) lines new.read)
+        → ((image : List ℕ) → length image ≡ len → IsOf image new.read → CarriesOver ran.patch (copy_of new.read len) image)
+        → IsNeededRunOf known len lines patch text all
+    needed-run lines patch text all ran same-patch same-text same-all over forks carried = record {
+      read = new.read;
+      shown = ran.shown;
+      ran = subst (λ (b : Bool). AreLinesRunOver (copy_of new.read len) lines patch text b ran.shown) (sym same-all)
+          (subst (λ (t : List ℕ). AreLinesRunOver (copy_of new.read len) lines patch t ran.whole ran.shown) (sym same-text)
+          (subst (λ (p : Numbered). AreLinesRunOver (copy_of new.read len) lines p (string_bytes ran.text) ran.whole ran.shown) (sym same-patch) over));
+      forks = forks;
+      copy = opened-copy known len right new is-new;
+      carried = by known is-new.of;
+    }
+      where
+        by : (o : Option (List ℕ)) → IsOfKnown o new.read → OfKnown o len (CarriesOver patch (copy_of new.read len))
+        by None of = tt
+        by (Some image) of = λ long. subst (λ (p : Numbered). CarriesOver p (copy_of new.read len) image) (sym same-patch) (carried image long of)
