@@ -12,13 +12,12 @@ use hfs_commands::{
 use hfs_fixtures::SmallVolume;
 use hfs_sparse::{BlockSource, ByteSource};
 use std::alloc::{AllocError, Global};
-use std::fs;
 use std::fs::remove_file;
-use std::io;
 use std::io::ErrorKind;
 use std::process::Abort;
 use std::rt::Files;
 use std::test::Fail;
+use std::{fs, io};
 
 /// Bytes that may be told to have changed.
 #[derive(Drop)]
