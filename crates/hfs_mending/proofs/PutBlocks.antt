@@ -4,7 +4,7 @@ use Rattle.std.specs.Prelude.{◌%◌}
 use Rattle.std.proofs.lemmas.Bool.{cases_eq, eq-eqb, ne_eqb}
 use Rattle.std.proofs.lemmas.List.{set-append_left, set-append_right}
 use Rattle.hfs_blocks.specs.Blocks.{block_at, block_count}
-use Rattle.hfs_blocks.specs.Layers.{Numbered, Changes, changes, AreWithin, with_change, over}
+use Rattle.hfs_blocks.specs.Layers.{Numbered, Changes, changes, AreWithin, with_change}
 use Rattle.hfs_needed.specs.Gathered.{IsOfKnown}
 use Rattle.hfs_patched.proofs.FlatBlocks.{blocks_from, flat-laid, length-blocks_from, blocks_from-add, blocks_from-same}
 use Rattle.hfs_repair.specs.declared.byte_put.BytePut.{BytePut}

@@ -1,5 +1,5 @@
 -- A byte is put into a block that was read.
-use Rattle.std.proofs.Common.{◌≡◌, ℕ, ◌/◌, ◌<◌, List, ap, refl, ◌∙◌, arith}
+use Rattle.std.proofs.Common.{ℕ, ◌/◌, ◌<◌, List, ap, refl, ◌∙◌, arith}
 use Rattle.std.specs.Prelude.{◌%◌, slice_set}
 use Rattle.std.proofs.lemmas.List.{length-set}
 use Rattle.hfs_sparse.specs.declared.volume.SparseVolume.{SparseVolume}
