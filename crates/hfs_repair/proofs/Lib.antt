@@ -1,9 +1,10 @@
 mod PutSteps
 mod Recounts
-mod Openings
+pub mod Openings
 mod Pushed
 mod LeafValences
-mod Repairs
+pub mod Repairs
 mod Repaired
-mod Mendable
+pub mod Mendable
 mod AllPlaced
+pub mod PlacedInBlocks

@@ -1,6 +1,7 @@
 -- A tree that is right but for the two numbers of its header record, and where it lies.
 use Rattle.std.specs.Prelude.{◌≡◌, ℕ, ◌*◌, ◌≤◌, Bool, true, false, ◌&&◌, List, Option, None, MatchOption, length}
 use Rattle.std.specs.Option.{is_none}
+use Rattle.std.proofs.Common.{Vec, Global}
 use Rattle.hfs_fields.specs.declared.mdb.Mdb.{Mdb}
 use Rattle.hfs_fields.specs.declared.extent.Extent.{Extent}
 use Rattle.hfs_btree.specs.declared.key.Key.{Ghosts}
@@ -98,6 +99,11 @@ catalog_extents_in nodes mdb = fork_extents (overflow_of nodes) 4 0 mdb.catalog_
 -- the extents of the catalog file
 unfoldable pub catalog_file_of : Blocks → Mdb → List Extent
 catalog_file_of blocks mdb = fork_extents (overflow_of (extents_of blocks mdb)) 4 0 mdb.catalog_file
+
+-- what is told of the catalog file: these are its extents, behind an extents tree that is right but for its two counts, or none
+abbrev pub FindsCatalogFile : Blocks → Mdb → Option (Vec Extent Global) → Type 0
+FindsCatalogFile blocks mdb found =
+    MatchOption found (is_extents_right blocks mdb ≡ false) (λ file. (is_extents_right blocks mdb ≡ true) × (file.items ≡ catalog_file_of blocks mdb))
 
 -- the catalog tree has its shape but for its two counts
 unfoldable pub is_catalog_right : Blocks → Mdb → Bool

@@ -1,7 +1,8 @@
 -- Bytes that are written into an image one after the other.
-use Rattle.std.specs.Prelude.{◌≡◌, ℕ, suc, List, [], ◌∷◌, slice_set}
+use Rattle.std.specs.Prelude.{◌≡◌, ℕ, suc, ◌*◌, ◌<◌, List, [], ◌∷◌, slice_set}
 use Rattle.std.specs.List.{flat_map}
 use Rattle.byteorder.specs.Endian.{big_bytes}
+use Rattle.hfs_scans.specs.Each.{Each}
 use Rattle.hfs_repair.specs.declared.byte_put.BytePut.{BytePut}
 use Rattle.hfs_repair.specs.Fields.{CountedNumber, PlacedNumber}
 use Rattle.hfs_repair.specs.Repair.{repair}
@@ -17,6 +18,10 @@ number_puts n = puts_from n.at (big_bytes n.width n.now)
 
 unfoldable pub puts_of : List PlacedNumber → List BytePut
 puts_of numbers = flat_map (λ n. number_puts n.1) numbers
+
+-- each of these bytes stands in one of so many blocks
+abbrev pub AreInBlocks : ℕ → List BytePut → Type 0
+AreInBlocks total puts = Each (λ put. put.at < 512 * total) puts
 
 -- an image with these bytes, the first of them written first
 abbrev pub put_all : List BytePut → List ℕ → List ℕ

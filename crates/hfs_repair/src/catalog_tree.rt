@@ -7,9 +7,9 @@ ghost use Rattle.hfs_space.specs.TreeKeys.{ext_keys};
 ghost use Rattle.hfs_catalog.specs.Tree.{cat_keys, catalog_of};
 ghost use Rattle.hfs_check.specs.Answers.{listed_fault};
 ghost use Rattle.hfs_check.specs.Sound.{IsMdbSound};
-ghost use Rattle.hfs_repair.specs.Opened.{is_extents_right, IsRight, AreCountsOf, IsExtentsTree, catalog_extents_in, IsCatalogAnswer};
+ghost use Rattle.hfs_repair.specs.Opened.{is_extents_right, IsRight, AreCountsOf, IsExtentsTree, catalog_extents_in, FindsCatalogFile, IsCatalogAnswer};
 
-use crate::extents_tree::is_right;
+use crate::extents_tree::{extents_tree, is_right};
 use crate::headed_nodes::HeadedNodes;
 use crate::right_counts::RightCounts;
 use crate::tree_file::{TreeFile, tree_file};
@@ -38,6 +38,27 @@ fn catalog_extents<N: Nodes>(
         head: counts.head,
     };
     fork_extents(alloc, &headed, 4, ForkKind::Data, &mdb.catalog_file)
+}
+
+/// The extents of the catalog file, with those that go on in the extents tree, where that tree is right but for its two counts.
+/// None exactly where it isn't. The only error is want of memory.
+pub fn mendable_catalog_file<B: Blocks>(
+    alloc: Global,
+    blocks: &B,
+    mdb: &Mdb,
+) -> Result<Option<Vec<Extent>>, AllocError>
+    requires { IsMdbSound (B.total blocks.now) mdb.now }
+    ensures { IfOk result (FindsCatalogFile (B.blocks blocks.now) mdb.now) }
+{
+    let Some(extents) = extents_tree(alloc, blocks, mdb)? else {
+        return Ok(None);
+    };
+    let nodes = RunNodes {
+        blocks,
+        runs: &extents.runs,
+    };
+    let file = catalog_extents(alloc, mdb, &nodes, &extents.counts)?;
+    Ok(Some(file))
 }
 
 /// The catalog tree, where its file lies in the volume, and it has its shape but for its two counts. None exactly where it

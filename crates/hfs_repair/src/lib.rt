@@ -21,6 +21,7 @@ mod wrong;
 mod wrong_number;
 
 pub use byte_put::BytePut;
+pub use catalog_tree::mendable_catalog_file;
 pub use exchanging::{exchange, exchange_back};
 pub use fixed::{Fix, FixPlace};
 pub use mendings::Mending;

@@ -1,15 +1,17 @@
 //! What a repair of an image writes, and what it tells.
 
-ghost use Rattle.std.specs.Prelude.{IfOk};
+ghost use Rattle.std.specs.Prelude.{◌≡◌, ◌≤◌, IfOk};
 ghost use Rattle.hfs_repair.specs.Fixes.{AreFixes};
-ghost use Rattle.hfs_repair.specs.Puts.{IsMendedBy};
+ghost use Rattle.hfs_repair.specs.Puts.{AreInBlocks, IsMendedBy, puts_of};
 ghost use Rattle.hfs_repair.specs.Repair.{wrong_in};
+ghost use Rattle.hfs_repair.specs.Wrong as spec;
 
 use crate::byte_put::BytePut;
 use crate::exchanging::byte_puts;
 use crate::fix_list::fixes;
 use crate::fixed::Fix;
-use crate::wrong::wrong_numbers;
+use crate::wrong::{wrong_in_blocks, wrong_numbers};
+use hfs_blocks::Blocks;
 use std::alloc::{AllocError, Global};
 
 /// What a repair of an image writes, and what it tells.
@@ -32,6 +34,23 @@ impl Mending {
         ensures told { IfOk result (λ mending. AreFixes (wrong_in image.now) mending.fixes.items) }
     {
         let wrong = wrong_numbers(alloc, image)?;
+        let puts = byte_puts(alloc, &wrong)?;
+        let fixes = fixes(alloc, &wrong)?;
+        Ok(Mending { puts, fixes })
+    }
+
+    /// As [`Mending::of`], of the blocks of an image whose length is right.
+    pub fn of_blocks<B: Blocks>(alloc: Global, blocks: &B) -> Result<Mending, AllocError>
+        requires { 3 ≤ B.total blocks.now }
+        ensures written { IfOk result (λ mending. mending.puts.items
+            ≡ puts_of (spec.wrong_in_blocks (B.total blocks.now) (B.blocks blocks.now))) }
+        ensures within { IfOk result (λ mending. AreInBlocks (B.total blocks.now)
+            mending.puts.items) }
+        ensures told { IfOk result (λ mending. AreFixes
+            (spec.wrong_in_blocks (B.total blocks.now) (B.blocks blocks.now))
+            mending.fixes.items) }
+    {
+        let wrong = wrong_in_blocks(alloc, blocks)?;
         let puts = byte_puts(alloc, &wrong)?;
         let fixes = fixes(alloc, &wrong)?;
         Ok(Mending { puts, fixes })

@@ -92,7 +92,10 @@ fn numbers_behind_trees<B: Blocks>(
 
 /// The wrong numbers of the blocks of a volume; none where anything before them is wrong.
 #[tactic(auto, using(hfs_check::proofs::LawsProved::mdb_is_sound))]
-fn wrong_in_blocks<B: Blocks>(alloc: Global, blocks: &B) -> Result<Vec<WrongNumber>, AllocError>
+pub(crate) fn wrong_in_blocks<B: Blocks>(
+    alloc: Global,
+    blocks: &B,
+) -> Result<Vec<WrongNumber>, AllocError>
     requires { 3 ≤ B.total blocks.now }
     ensures { IfOk result (λ wrong. wrong.items
         ≡ spec.wrong_in_blocks (B.total blocks.now) (B.blocks blocks.now)) }
