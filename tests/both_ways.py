@@ -1,6 +1,6 @@
 #!/usr/bin/env python3
-"""Wants of `check`, `ls` and `cat` that they tell the same of an image by its path, of which they read what they need, and out of a pipe, which they
-load whole: of real volumes and of volumes with a cut catalog, as they are, cut, made longer, with numbers that lead beyond their ends, and with damaged
+"""Wants of `check`, `ls`, `cat` and `repair` that they tell, and write, the same of an image by its path, of which they read what they need, and out of a
+pipe, which they load whole: of real volumes and of volumes with a cut catalog, as they are, cut, made longer, with numbers that lead beyond their ends, and with damaged
 node maps. Where only nodes that no map marks hold other bytes, it wants that nothing else is told.
 
 python3 both_ways.py TOOL VOLUMES        VOLUMES has real volumes, as *.img
@@ -161,6 +161,31 @@ def compare(tool, path, words, image):
     return (redirected.returncode, redirected.stdout, redirected.stderr) == wanted
 
 
+def counts(image):
+    """The image with numbers that are counted told wrong, each alone and all together: in the master directory block and in both trees' header records."""
+    places = [(f'{name} wrong', at, width) for name, at, width in (('drNmFls', 12, 2), ('drFreeBks', 34, 2), ('drNmRtDirs', 82, 2), ('drFilCnt', 84, 4), ('drDirCnt', 88, 4))]
+    for tree, name in zip(trees(image), ('extents', 'catalog')):
+        places += [(f'{name} bthNRecs wrong', tree.record + 6 - MDB, 4), (f'{name} bthFree wrong', tree.record + 26 - MDB, 4)]
+    changes = [(MDB + at, b'\7' * width) for _, at, width in places if at >= 0 and MDB + at + width <= len(image)]
+    for (what, _, _), change in zip(places, changes):
+        yield f'with {what}', put(image, change)
+    yield 'with all counts wrong', put(image, *changes)
+    yield 'with all counts wrong, and bytes behind its last block', put(image, *changes) + b'\1' * 300
+
+
+def repaired(tool, path, image):
+    """Whether a repair tells and writes the same of an image by its path and out of a pipe. A fault that names the file names the other path there."""
+    out = path + '.out'
+    told_of = []
+    for words, given in ((['repair', path, out], None), (['repair', '/dev/stdin', out], image)):
+        if os.path.exists(out):
+            os.remove(out)
+        run = told(tool, words, given)
+        written = open(out, 'rb').read() if os.path.exists(out) else None
+        told_of.append((run[0], run[1].replace(path.encode(), b'/dev/stdin'), run[2], written))
+    return told_of[0] == told_of[1]
+
+
 def volumes_to_try(volumes, path):
     """The volumes of this folder, and volumes with a cut catalog, each by its name."""
     for name in sorted(os.listdir(volumes)):
@@ -192,10 +217,12 @@ def tried(tool, name, base):
         fault = fault_of_free_nodes(tool, path, base)
         if fault:
             return images, runs, f'{name} {fault}'
-        for how, image in [('as it is', base), *lengths(base), *numbers(base), *overflow(base), *maps(base), *unmarked(base)]:
+        for how, image in [('as it is', base), *lengths(base), *numbers(base), *overflow(base), *maps(base), *unmarked(base), *counts(base)]:
             with open(path, 'wb') as file:
                 file.write(image)
             images += 1
+            if not repaired(tool, path, image):
+                return images, runs, f'{name} {how}: repair tells or writes another thing by a path'
             for words in words_on(tool, path):
                 runs += 1
                 if not compare(tool, path, words, image):

@@ -19,11 +19,37 @@ fail() {
 wants() {
     local status=$1 text=$2 got=0
     shift 2
+    case $1 in repair) repair_piped "$status" "$@" ;; esac
     "$tool" "$@" > "$folder/printed" 2> "$folder/errors" || got=$?
     [ "$got" = "$status" ] || fail "'$*' ends with $got"
     printf "$text" | cmp -s - "$folder/printed" || fail "'$*' prints $(cat "$folder/printed")"
     [ ! -s "$folder/errors" ] || fail "'$*' writes to standard error"
-    case $1 in check | ls | cat) wants_piped "$status" "$@" ;; esac
+    case $1 in
+        check | ls | cat) wants_piped "$status" "$@" ;;
+        repair) wants_repaired "$status" "$@" ;;
+    esac
+}
+
+# Repairs an image out of a pipe, before it is repaired by its path: FILE may be the image itself.
+repair_piped() {
+    local status=$1 image=$3 got=0
+    rm -f "$folder/piped.img"
+    if [ -f "$image" ] && [ "$status" != 4 ]; then
+        "$tool" repair /dev/stdin "$folder/piped.img" < <(cat "$image") > "$folder/piped" 2> "$folder/errors" || got=$?
+        [ "$got" = "$status" ] || fail "'${*:2}' ends with $got out of a pipe"
+        [ ! -s "$folder/errors" ] || fail "'${*:2}' writes to standard error out of a pipe"
+    fi
+}
+
+# Wants that by its path the same is told and written of an image as out of a pipe, which is loaded whole.
+wants_repaired() {
+    local status=$1 image=$3 file=$4
+    if [ -f "$image" ] && [ "$status" != 4 ]; then
+        cmp -s "$folder/printed" "$folder/piped" || fail "'${*:2}' prints another thing out of a pipe"
+        if [ "$status" = 0 ]; then cmp -s "$file" "$folder/piped.img" || fail "'${*:2}' writes another thing out of a pipe"; fi
+        [ "$status" = 0 ] || [ ! -e "$folder/piped.img" ] || fail "'${*:2}' writes a refused image out of a pipe"
+        rm -f "$folder/piped.img"
+    fi
 }
 
 # Wants the same status and bytes of these words, with the first of them that is a file out of a pipe.
@@ -464,9 +490,27 @@ for words in repair "repair $disk" "repair $disk $folder/none.img x" "repair $di
 done
 truncate -s 200M "$folder/sparse.img"
 got=0
-(ulimit -v 100000 && "$tool" repair "$folder/sparse.img" "$folder/none.img") > "$folder/printed" || got=$?
+(ulimit -v 100000 && "$tool" repair /dev/stdin "$folder/none.img" < <(cat "$folder/sparse.img")) > "$folder/printed" || got=$?
 [ "$got" = 5 ] && [ "$(cat "$folder/printed")" = 'out of memory' ] || fail "a repair with too little memory ends with $got"
 [ ! -e "$folder/none.img" ] || fail 'a repair that failed made a file'
+
+# A sparse image, which is longer than its volume, in as little memory: it is never whole there, and stays sparse, but for what is written of it.
+change "$small" $((2 * 512 + 84)) '\000\000\000\001'
+truncate -s 2000000000 "$folder/changed.img"
+printf 'behind all' | dd of="$folder/changed.img" bs=1 seek=1999999990 conv=notrunc 2> /dev/null
+printf 'between' | dd of="$folder/changed.img" bs=1 seek=1000000000 conv=notrunc 2> /dev/null
+(ulimit -v 100000 && "$tool" repair "$folder/changed.img" "$folder/mended.img") > "$folder/printed" || fail 'the repair of a sparse image'
+[ "$(cat "$folder/printed")" = "$(printf 'fixed drFilCnt 1 0\nsound')" ] || fail 'what the repair of a sparse image prints'
+[ "$(du -k "$folder/mended.img" | cut -f 1)" -lt 1000 ] || fail 'the repair of a sparse image fills its holes'
+printf '\000\000\000\000' | dd of="$folder/changed.img" bs=1 seek=$((2 * 512 + 84)) conv=notrunc 2> /dev/null
+cmp "$folder/changed.img" "$folder/mended.img" || fail 'the repaired sparse image'
+
+# Zeros at the end of an image stay: its length is what it was.
+change "$small" $((2 * 512 + 84)) '\000\000\000\001'
+truncate -s 300000 "$folder/changed.img"
+wants 0 'fixed drFilCnt 1 0\nsound\n' repair "$folder/changed.img" "$folder/mended.img"
+[ "$(stat -c %s "$folder/mended.img")" = 300000 ] || fail 'a repaired image with zeros at its end has another length'
+rm "$folder/mended.img"
 
 # The words, and files that are not there: the statuses 1 and 4.
 for words in sing ls cat "cat $small" "ls $small two" "ls $small 4294967296" "new $folder/none.img D 64 6"; do

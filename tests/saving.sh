@@ -344,10 +344,55 @@ END
     done
 }
 
+# Runs over an image of 2,000,000,000 bytes, most of them holes, that another program changes, cuts, makes longer or replaces while it is read.
+# The new file stands beside FILE from before the pass over the image on.
+changed_while_read() {
+    lay 640
+    python3 - "$folder/wrong.img" "$here/image.img" "$here/file.img" "${as[@]}" "$tool" << 'END' || fail 'an image that changes while it is read'
+import os, shutil, subprocess, sys
+small, path, file, words = sys.argv[1], sys.argv[2], sys.argv[3], sys.argv[4:]
+old = open(file, "rb").read()
+def touch_byte():
+    with open(path, "r+b") as image:
+        image.seek(1_000_000_000)
+        image.write(b"x")
+def replace():
+    shutil.copy(small, path + ".other")
+    os.rename(path + ".other", path)
+for name, change in [("changed", touch_byte), ("cut", lambda: os.truncate(path, 5_000)), ("made longer", lambda: os.truncate(path, 2_100_000_000)),
+                     ("replaced", replace)]:
+    for _ in range(20):
+        shutil.copy(small, path)
+        os.truncate(path, 2_000_000_000)
+        os.chmod(path, 0o644)
+        run = subprocess.Popen([*words, "repair", path, file], stdout=subprocess.PIPE, stderr=subprocess.PIPE)
+        while run.poll() is None and not os.path.exists(file + ".0.new"):
+            pass
+        change()
+        printed, errors = run.communicate()
+        if run.returncode == 0:
+            # it was done before: once more
+            with open(file, "wb") as again:
+                again.write(old)
+            continue
+        if (run.returncode, printed, errors) != (4, f"cannot read {path}\n".encode(), b""):
+            sys.exit(f"{name}: ends with {run.returncode} and prints {printed} and {errors}")
+        if open(file, "rb").read() != old or os.path.exists(file + ".0.new"):
+            sys.exit(f"{name}: the file is not as it was, or one is left beside it")
+        break
+    else:
+        sys.exit(f"{name}: never in time")
+os.remove(path)
+END
+    rm -f "$here/file.img"
+}
+
 "$tool" new "$folder/large.new.img" D 8192 40 4
 cp "$folder/large.new.img" "$folder/large.small.img"
 cp "$folder/large.new.img" "$folder/large.repair.img"
-cp "$folder/large.new.img" "$folder/large.wrong.img"
+# Zeros are left out of what repair writes, so that this image has none in its free blocks.
+head -c 3900000 /dev/zero | tr '\000' '\245' | dd of="$folder/large.repair.img" bs=65536 seek=200000 oflag=seek_bytes conv=notrunc 2> "$folder/words"
+cp "$folder/large.repair.img" "$folder/large.wrong.img"
 printf '\000\000\000\001' | dd of="$folder/large.wrong.img" bs=1 seek=$((2 * 512 + 84)) conv=notrunc 2> "$folder/words"
 "$tool" run "$folder/large.small.img" "$folder/script" --out "$folder/large.run.img" > "$folder/printed"
 
@@ -366,6 +411,7 @@ by() {
     links
     leftovers
     paths
+    changed_while_read
     killed
     rm -rf "$here"
     disk=$folder/disk

@@ -1,5 +1,6 @@
 -- What is printed of a repair.
 use Rattle.std.specs.Prelude.{◌≡◌, ℕ, List, ◌++◌, Option, Some, None, codes, MatchOption, Result, IfOk, string_bytes}
+use Rattle.std.proofs.Common.{String, Global}
 use Rattle.std.specs.List.{flat_map}
 use Rattle.std.specs.Fmt.{decimal}
 use Rattle.hfs_check.specs.declared.mount_fault.MountFault.{MountFault}
@@ -66,3 +67,13 @@ TellsRepair image answer = MatchOption answer.volume (IsRefused image answer.fau
 -- the answer tells the repair of any image that has this fault when it is repaired
 abbrev pub TellsRefusal : {E : Type 0} → MountFault → Result RepairAnswer E → Type 0
 TellsRefusal why result = (image : List ℕ) → fault_of (repair image) ≡ Some why → IfOk result (TellsRepair image)
+
+-- the repaired image is sound, and these are the bytes that are to be written, where they are known, the status and the lines
+pub record IsRepairedAs (image : List ℕ) (written : Option (List ℕ)) (told : Option MountFault) (status : ℕ) (lines : List ℕ) : Type 0 where
+  pub bytes : written ≡ Some (repair image)
+  pub is : IsRepaired image (repair image) told status lines
+
+-- the status and the lines of a mended image that has this first fault, or none
+abbrev pub IsMendedText : List Fix → Option MountFault → ℕ × String Global → Type 0
+IsMendedText fixes None told = (told.0 ≡ 0) × (string_bytes told.1 ≡ repaired_lines fixes)
+IsMendedText fixes (Some why) told = (told.0 ≡ 2) × (string_bytes told.1 ≡ refused_line why)

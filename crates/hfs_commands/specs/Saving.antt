@@ -1,8 +1,11 @@
 -- What is written over, and what is told of it.
-use Rattle.std.specs.Prelude.{◌≢◌, ℕ, List, Option, bit_and, ⊤}
+use Rattle.std.specs.Prelude.{◌≡◌, ◌≢◌, ◌⊎◌, ℕ, List, Option, bit_and, ⊤}
+use Rattle.std.specs.Borrow.{Bor}
 use Rattle.std.specs.Fs.{IsFile, file_type, metadata_mode}
 use Rattle.hfs_commands.specs.declared.saving.Target.{Target}
 use Rattle.hfs_commands.specs.declared.saving.Target.TheVariants as target
+use Rattle.hfs_commands.specs.declared.fault.Fault.{Fault}
+use Rattle.hfs_commands.specs.declared.fault.Fault.TheVariants.{CannotRead, CannotWrite, NoMemory}
 use Rattle.hfs_commands.specs.Paths.{TellsFirst}
 
 -- what is written over is a regular file that somebody may write, where it is a file
@@ -14,3 +17,7 @@ IsOpenTarget target.Other = ⊤
 -- nothing is told, or the first name beside some path
 abbrev pub TellsSomeFirst : Option (List ℕ) → Type 0
 TellsSomeFirst told = (path : List ℕ) × TellsFirst path told
+
+-- contents that were read from a file were not written to another for one of these
+abbrev pub IsUnsaved : Bor (List ℕ) → Bor (List ℕ) → Fault → Type 0
+IsUnsaved source path fault = (fault ≡ CannotRead source) ⊎ ((fault ≡ CannotWrite path) ⊎ (fault ≡ NoMemory))

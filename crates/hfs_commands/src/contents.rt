@@ -1,12 +1,14 @@
 //! What a file is to hold.
-ghost use Rattle.std.specs.Prelude.{ℕ, List, OnErr, OnOk};
+ghost use Rattle.std.specs.Prelude.{◌≡◌, ℕ, List, Option, IfSome, OnErr, OnOk};
 ghost use Rattle.std.specs.Io.KnownBytes.{Appends};
 ghost use Rattle.hfs_texts.specs.Writing.{AppendsFront};
 
+use hfs_patched::PatchedFault;
 use hfs_texts::put;
 use hfs_volume::Volume;
+use std::fs::OpenFile;
 use std::io;
-use std::io::{ErrorKind, Write};
+use std::io::{ErrorKind, Seek, Write};
 
 /// What a file is to hold.
 pub trait Contents {
@@ -40,5 +42,88 @@ impl Contents for Volume {
             Ok(()) => Ok(()),
             Err(_) => Err(io::Error::from(ErrorKind::WriteZero)),
         }
+    }
+}
+
+/// Why contents were not written.
+#[derive(Clone, Copy, Debug, PartialEq, Eq)]
+pub enum UnwrittenFault {
+    /// Memory was refused.
+    Memory,
+    /// What they are read from was not read, or it changed while it was.
+    ReadFailed,
+    /// The writer failed.
+    WriteFailed,
+}
+
+impl From<io::Error> for UnwrittenFault {
+    fn from(_: io::Error) -> UnwrittenFault {
+        UnwrittenFault::WriteFailed
+    }
+}
+
+impl From<PatchedFault> for UnwrittenFault {
+    fn from(fault: PatchedFault) -> UnwrittenFault {
+        match fault {
+            PatchedFault::Memory => UnwrittenFault::Memory,
+            PatchedFault::ReadFailed => UnwrittenFault::ReadFailed,
+            PatchedFault::WriteFailed => UnwrittenFault::WriteFailed,
+        }
+    }
+}
+
+/// What a file is to hold, where it is read as it is written, so that a read may fail.
+pub trait ReadContents {
+    /// Its bytes, where they are known.
+    ghost known: { Self → Option (List ℕ) };
+
+    /// Those that are known of a new file that was filled with it.
+    ghost filled: { Self → Option (List ℕ) };
+
+    /// What it is read from is as it was when it was opened, as far as was looked.
+    ghost settled: { Self → Type 0 };
+
+    /// Writes all its bytes. At an error a part of them may have gone out, from the first on, and
+    /// nothing else. Errors: memory was refused, a read or a write failed, or what it is read from
+    /// has changed since it was opened.
+    fn write_to<W: Write>(&mut self, writer: &mut W) -> Result<(), UnwrittenFault>
+        ensures ok { OnOk result (IfSome (known self.old)
+            (Appends (W.contents writer.old) (W.contents writer.new))) }
+        ensures err { OnErr result (IfSome (known self.old)
+            (AppendsFront (W.contents writer.old) (W.contents writer.new))) }
+        ensures settled { OnOk result (settled self.new) };
+
+    /// Writes all its bytes to a new file, as [`ReadContents::write_to`] does. Zeros may be left out
+    /// as holes.
+    fn fill<F: Write + Seek + OpenFile>(&mut self, file: &mut F) -> Result<(), UnwrittenFault>
+        ensures ok { OnOk result (IfSome (filled self.old)
+            (Appends (F.contents file.old) (F.contents file.new))) }
+        ensures err { OnErr result (IfSome (filled self.old)
+            (AppendsFront (F.contents file.old) (F.contents file.new))) }
+        ensures settled { OnOk result (settled self.new) };
+}
+
+/// Contents whose bytes are all there.
+#[derive(Drop)]
+pub struct Whole<'a, C>(pub &'a C);
+
+impl<C: Contents> ReadContents for Whole<'_, C> {
+    ghost use Rattle.std.specs.Prelude.{Some, ⊤};
+
+    ghost known = { λ whole. Some (C.bytes whole.0.now) };
+
+    ghost filled = { λ whole. Some (C.bytes whole.0.now) };
+
+    ghost settled = { λ _. ⊤ };
+
+    fn write_to<W: Write>(&mut self, writer: &mut W) -> Result<(), UnwrittenFault> {
+        match self.0.write_to(writer) {
+            Ok(()) => Ok(()),
+            Err(_) => Err(UnwrittenFault::WriteFailed),
+        }
+    }
+
+    fn fill<F: Write + Seek + OpenFile>(&mut self, file: &mut F) -> Result<(), UnwrittenFault> {
+        self.write_to(file)
     }
 }

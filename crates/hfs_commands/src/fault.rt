@@ -1,7 +1,9 @@
 //! Why a command was not done, and how the program ends.
 ghost use Rattle.std.specs.Prelude.{◌≡◌, ◌≢◌, MatchResult, Some};
 ghost use Rattle.hfs_commands.specs.Faults.{IsRefusal, KeepsRefusal, fault_of_run, fault_text, status_number, status_of, status_of_run};
+ghost use Rattle.hfs_commands.specs.Saving.{IsUnsaved};
 
+use crate::contents::UnwrittenFault;
 use crate::paths::ShownPath;
 use hfs_check::MountFault;
 use hfs_format::FormatFault;
@@ -176,6 +178,20 @@ impl Fault<'_> {
             CopyFault::ReadFailed => Fault::CannotRead(file),
             CopyFault::BrokenOff => Fault::BrokenOff(file),
             CopyFault::WriteFailed => Fault::OutputFailed,
+        }
+    }
+
+    /// What it means for a file that contents were not written to it which are read from `source`.
+    pub fn of_unwritten<'a>(fault: UnwrittenFault, source: &'a str, file: &'a str) -> Fault<'a>
+        ensures read { fault ≡ UnwrittenFault.ReadFailed → result ≡ Fault.CannotRead source.entry }
+        ensures write { fault ≡ UnwrittenFault.WriteFailed → result ≡ Fault.CannotWrite file.entry }
+        ensures memory { fault ≡ UnwrittenFault.Memory → result ≡ Fault.NoMemory }
+        ensures some { IsUnsaved source.entry file.entry result }
+    {
+        match fault {
+            UnwrittenFault::Memory => Fault::NoMemory,
+            UnwrittenFault::ReadFailed => Fault::CannotRead(source),
+            UnwrittenFault::WriteFailed => Fault::CannotWrite(file),
         }
     }
 

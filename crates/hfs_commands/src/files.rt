@@ -3,6 +3,7 @@ ghost use Rattle.std.specs.Prelude.{◌≡◌, ◌≤◌, ◌⊎◌, IfErr, IfOk
 ghost use Rattle.hfs_commands.specs.Faults.{IsTooMuch, IsUnreadScript};
 
 use crate::fault::Fault;
+use crate::watched::WatchedFile;
 use hfs_check::MountFault;
 use hfs_sparse::{FileReader, SeekSource};
 use hfs_texts::{IMAGE_LIMIT, LoadFault, load, load_within};
@@ -81,6 +82,36 @@ pub fn open_image<'a, R: Files + AllocGlobal>(
         source: SeekSource::new(FileReader(file)),
         len,
     })
+}
+
+/// An image that was opened to be changed.
+#[derive(Drop)]
+pub enum WatchedImage<F: Read + Seek> {
+    /// A regular file, to be read where it is needed.
+    InFile(WatchedFile<F>),
+    /// All bytes of anything else, such as a pipe.
+    Whole(Vec<u8>),
+}
+
+/// Opens an image by its path, to write it anew with changes: a regular file is left to be read where it is needed, and of anything else all
+/// bytes are read. Faults: as [`load_file`] has them, but that of a file's length, which its checks tell.
+pub fn open_watched<'a, R: Files + AllocGlobal>(
+    rt: &R,
+    path: &'a str,
+) -> Result<WatchedImage<R::File>, Fault<'a>>
+    ensures { IfErr result (λ why. (why ≡ Fault.CannotRead path.entry) ⊎ IsTooMuch why) }
+{
+    let Ok(mut file) = File::open(rt, path) else {
+        return Err(Fault::CannotRead(path));
+    };
+    if regular_len(&file).is_none() {
+        let bytes = load_opened(rt.alloc(), &mut file, path)?;
+        return Ok(WatchedImage::Whole(bytes));
+    }
+    match WatchedFile::new(file) {
+        Ok(watched) => Ok(WatchedImage::InFile(watched)),
+        Err(_) => Err(Fault::CannotRead(path)),
+    }
 }
 
 /// The most bytes of a script.

@@ -1,11 +1,16 @@
 //! What is told of a repair.
-ghost use Rattle.std.specs.Prelude.{◌≡◌, IfOk, OnOk, string_bytes};
+ghost use Rattle.std.specs.Prelude.{◌≡◌, IfOk, MatchOption, OnOk, string_bytes};
+ghost use Rattle.hfs_needed.specs.Known.{OfKnown};
 ghost use Rattle.hfs_texts.specs.Texts.{Gains};
-ghost use Rattle.hfs_commands.specs.Repairs.{place_text, fix_text, fixed_line, fixed_lines, repaired_lines, TellsRefusal, TellsRepair};
+ghost use Rattle.hfs_commands.specs.Repairs.{place_text, fix_text, fixed_line, fixed_lines, repaired_lines, IsMendedText, IsRefused, IsRepairedAs, TellsRefusal, TellsRepair};
+ghost use Rattle.hfs_commands.specs.Images.{patched_bytes};
 
 use crate::checking::refused_text;
 use crate::fault::Status;
+use crate::patched_image::PatchedImage;
 use hfs_check::MountFault;
+use hfs_mending::{Mended, mend_needed};
+use hfs_sparse::{BlockSource, SparseFault};
 use hfs_texts::{Show, push_line};
 use hfs_volume::{Fix, FixPlace, Volume, mount_repaired};
 use std::alloc::{AllocError, Global};
@@ -120,5 +125,79 @@ pub fn repair_answer(alloc: Global, image: Vec<u8>) -> Result<RepairAnswer, Allo
             MountFault::Memory => Err(AllocError),
             why => refused_answer(alloc, why),
         },
+    }
+}
+
+/// What a repair makes of an image that is read where it is needed, and what is told of it.
+#[derive(Drop)]
+pub struct NeededRepair<S: BlockSource> {
+    /// The repaired image, as what a file is to hold. None where that is refused.
+    pub image: Option<PatchedImage<S>>,
+    /// The first fault of the repaired image, where it has one.
+    pub fault: Option<MountFault>,
+    /// The exit status: 0, or 2 where the image is refused.
+    pub status: u8,
+    /// The lines: `fixed PLACE WAS NOW` for each number that was wrong and then `sound`, or `refused TEXT`.
+    pub lines: String,
+}
+
+/// The status and the lines of a mended image: those of its numbers, or of its fault.
+fn mended_text(
+    alloc: Global,
+    fixes: &[Fix],
+    fault: Option<MountFault>,
+) -> Result<(u8, String), AllocError>
+    ensures { IfOk result (IsMendedText fixes.now fault) }
+{
+    match fault {
+        None => Ok((Status::Done.number(), repaired_text(alloc, fixes)?)),
+        Some(why) => refused_text(alloc, why),
+    }
+}
+
+/// Answers what [`repair_answer`] answers of an image of `len` bytes, of which only the blocks are read that decide it. Its bytes are read once more when the
+/// repaired image is written. Errors: `ReadFailed` where a read of one of these blocks failed, or the source ends before one does; `Memory`
+/// where it was refused. A fault of the image is no error: it is told of.
+pub fn needed_repair_answer<S: BlockSource + Drop>(
+    alloc: Global,
+    source: S,
+    len: u64,
+) -> Result<NeededRepair<S>, SparseFault>
+    ensures { IfOk result (λ answer. OfKnown (S.image source) len (λ image. MatchOption answer.image
+        (IsRefused image answer.fault answer.status (string_bytes answer.lines))
+        (λ contents. IsRepairedAs image
+        (patched_bytes (S.image contents.source) contents.len contents.patch)
+        answer.fault answer.status (string_bytes answer.lines)))) }
+{
+    let mut source = source;
+    let Mended {
+        patch,
+        fixes,
+        fault,
+    } = mend_needed(alloc, &mut source, len)?;
+    let Ok((status, lines)) = mended_text(alloc, &fixes, fault) else {
+        return Err(SparseFault::Memory);
+    };
+    match fault {
+        None => {
+            let image = PatchedImage {
+                alloc,
+                source,
+                len,
+                patch,
+            };
+            Ok(NeededRepair {
+                image: Some(image),
+                fault: None,
+                status,
+                lines,
+            })
+        }
+        Some(why) => Ok(NeededRepair {
+            image: None,
+            fault: Some(why),
+            status,
+            lines,
+        }),
     }
 }

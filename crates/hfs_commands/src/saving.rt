@@ -1,13 +1,13 @@
 //! Files that are written in place of what they had.
-ghost use Rattle.std.specs.Prelude.{◌≡◌, None, IfErr, IfOk, OnErr, OnOk, string_bytes};
+ghost use Rattle.std.specs.Prelude.{◌≡◌, None, IfErr, IfOk, IfSome, OnErr, OnOk, string_bytes};
 ghost use Rattle.std.specs.Io.KnownBytes.{Appends};
 ghost use Rattle.std.specs.Option.{option_map};
 ghost use Rattle.hfs_texts.specs.Writing.{AppendsFront};
-ghost use Rattle.hfs_commands.specs.Saving.{IsOpenTarget, TellsSomeFirst};
+ghost use Rattle.hfs_commands.specs.Saving.{IsOpenTarget, IsUnsaved, TellsSomeFirst};
 ghost use Rattle.hfs_commands.specs.Paths.{TellsFirst};
 
 use crate::beside::{Leftover, NewFile, create_beside};
-use crate::contents::Contents;
+use crate::contents::{Contents, ReadContents, UnwrittenFault, Whole};
 use crate::fault::Fault;
 use std::fs::{File, Metadata, OpenFile, OpenOptions};
 use std::io::ErrorKind;
@@ -98,41 +98,45 @@ fn keep_access<R: Files>(rt: &R, made: &NewFile<R::File>, old: &Metadata) -> io:
 
 /// Writes a new file that is to be put in an old one's place, and all of it to the device. Then the
 /// file has got all the bytes; at an error a part of them, from the first on.
-fn fill<R: Files, C: Contents>(
+fn fill<R: Files, C: ReadContents>(
     rt: &R,
     made: &mut NewFile<R::File>,
-    contents: &C,
+    contents: &mut C,
     old: Option<Metadata>,
-) -> io::Result<()>
-    ensures ok { OnOk result (Appends (R.File.contents made.old.file)
-        (R.File.contents made.new.file) (C.bytes contents.now)) }
-    ensures err { OnErr result (AppendsFront (R.File.contents made.old.file)
-        (R.File.contents made.new.file) (C.bytes contents.now)) }
+) -> Result<(), UnwrittenFault>
+    ensures ok { OnOk result (IfSome (C.filled contents.old) (Appends
+        (R.File.contents made.old.file) (R.File.contents made.new.file))) }
+    ensures err { OnErr result (IfSome (C.filled contents.old) (AppendsFront
+        (R.File.contents made.old.file) (R.File.contents made.new.file))) }
+    ensures settled { OnOk result (C.settled contents.new) }
 {
-    contents.write_to(&mut made.file)?;
+    contents.fill(&mut made.file)?;
     if let Some(old) = old {
         keep_access(rt, made, &old)?;
     }
-    made.file.sync_all()
+    made.file.sync_all()?;
+    Ok(())
 }
 
 /// Writes to a file beside this path, and renames that over it. At an error the path is as it was,
 /// and the file beside it is gone, if it can be removed. Where a name was taken, the first is told.
-fn replace<R: Files + AllocGlobal, C: Contents>(
+fn replace<R: Files + AllocGlobal, C: ReadContents>(
     rt: &R,
     path: &str,
-    contents: &C,
+    contents: &mut C,
     old: Option<Metadata>,
     leftover: &mut Option<Leftover>,
-) -> io::Result<()>
+) -> Result<(), UnwrittenFault>
     requires { leftover.old ≡ None }
-    ensures { TellsFirst path.now (option_map (λ told. string_bytes told.path) leftover.new) }
+    ensures told { TellsFirst path.now
+        (option_map (λ told. string_bytes told.path) leftover.new) }
+    ensures settled { OnOk result (C.settled contents.new) }
 {
     let mode = if old.is_some() { FOR_OWNER } else { FOR_ALL };
     let mut made = create_beside(rt, path, mode, leftover)?;
     let placed = match fill(rt, &mut made, contents, old) {
-        Ok(()) => fs::rename(rt, made.path.as_str(), path),
-        Err(error) => Err(error),
+        Ok(()) => place(rt, &made, path),
+        Err(fault) => Err(fault),
     };
     if placed.is_err() {
         let _removed = fs::remove_file(rt, made.path.as_str());
@@ -140,16 +144,23 @@ fn replace<R: Files + AllocGlobal, C: Contents>(
     placed
 }
 
+/// Renames a file that is whole over a path.
+fn place<R: Files>(rt: &R, made: &NewFile<R::File>, path: &str) -> Result<(), UnwrittenFault> {
+    fs::rename(rt, made.path.as_str(), path)?;
+    Ok(())
+}
+
 /// Writes to a path: where a link leads to; straight where no regular file is there. Where a name
 /// beside it was taken, the first is told.
-fn save_at<R: Files + AllocGlobal, C: Contents>(
+fn save_at<R: Files + AllocGlobal, C: ReadContents>(
     rt: &R,
     path: &str,
-    contents: &C,
+    contents: &mut C,
     leftover: &mut Option<Leftover>,
-) -> io::Result<()>
+) -> Result<(), UnwrittenFault>
     requires { leftover.old ≡ None }
-    ensures { TellsSomeFirst (option_map (λ told. string_bytes told.path) leftover.new) }
+    ensures told { TellsSomeFirst (option_map (λ told. string_bytes told.path) leftover.new) }
+    ensures settled { OnOk result (C.settled contents.new) }
 {
     match target_of(rt, path)? {
         Target::Nothing => replace(rt, path, contents, None, leftover),
@@ -187,9 +198,31 @@ pub fn save_file<'a, R: Files + AllocGlobal, C: Contents>(
     ensures told { TellsSomeFirst (option_map (λ told. string_bytes told.path) result.leftover) }
 {
     let mut leftover = None;
-    let written = match save_at(rt, path, contents, &mut leftover) {
+    let mut whole = Whole(contents);
+    let written = match save_at(rt, path, &mut whole, &mut leftover) {
         Ok(()) => Ok(()),
         Err(_) => Err(Fault::CannotWrite(path)),
+    };
+    Saved { leftover, written }
+}
+
+/// Writes a file as [`save_file`] does, of contents that are read from a file `source` as they are
+/// written. Faults: `CannotRead` of that file where a read fails, or where it has changed since it
+/// was opened; `CannotWrite` as [`save_file`] has it; `NoMemory`. Then nothing is renamed.
+pub fn save_read<'a, R: Files + AllocGlobal, C: ReadContents>(
+    rt: &R,
+    path: &'a str,
+    source: &'a str,
+    contents: &mut C,
+) -> Saved<'a>
+    ensures fault { IfErr result.written (IsUnsaved source.entry path.entry) }
+    ensures told { TellsSomeFirst (option_map (λ told. string_bytes told.path) result.leftover) }
+    ensures settled { OnOk result.written (C.settled contents.new) }
+{
+    let mut leftover = None;
+    let written = match save_at(rt, path, contents, &mut leftover) {
+        Ok(()) => Ok(()),
+        Err(fault) => Err(Fault::of_unwritten(fault, source, path)),
     };
     Saved { leftover, written }
 }

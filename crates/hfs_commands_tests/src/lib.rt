@@ -14,6 +14,8 @@ mod info;
 #[cfg(test)]
 mod loading;
 #[cfg(test)]
+mod mended;
+#[cfg(test)]
 mod needed;
 #[cfg(test)]
 mod opened;

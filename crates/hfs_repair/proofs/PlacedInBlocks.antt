@@ -168,9 +168,10 @@ module _ (total : ℕ) (some : 0 < total) (numbers : List ℕ) (lie : Each (IsBl
   leaves-lie : (children : ℕ → ℕ) → HasStructure cat_keys nodes → (done rest : List ℕ) → leaves cat_keys nodes ≡ done ++ rest
       → Each (λ n. Each (LiesIn total) (placed_in_leaf children numbers nodes n)) rest
   leaves-lie children structure done [] split = tt
-  leaves-lie children structure done (n ∷ rest) split =
-      (leaf-of children structure done n rest split,
-      leaves-lie children structure (done ++ n ∷ []) rest (split ∙ sym (append_assoc done (n ∷ []) rest)))
+  leaves-lie children structure done (n ∷ rest) split = (
+    leaf-of children structure done n rest split,
+    leaves-lie children structure (done ++ n ∷ []) rest (split ∙ sym (append_assoc done (n ∷ []) rest)),
+  )
 
   valences-lie : (children : ℕ → ℕ) → HasStructure cat_keys nodes → Each (LiesIn total) (placed_valences children numbers nodes)
   unfolding placed_valences
@@ -186,9 +187,10 @@ module _ (total : ℕ) (blocks : Blocks) (some : 3 ≤ total) (sound : IsMdbSoun
   tree-file : {K : Type 0} (g : Ghosts K) (file : List Extent) (size : ℕ) → is_tree_right g blocks mdb file size ≡ true
       → Each (IsBlock total) (block_numbers mdb file) × HasStructure g (tree_nodes blocks mdb file size)
   tree-file g file size right =
-      let both = and_parts (is_tree_file mdb file size) (is_none (structure_fault g size (tree_nodes blocks mdb file size))) right in
-      (file-lies mdb total sound.area file (extents_within mdb file size both.0),
-      ((structure-law g size (tree_nodes blocks mdb file size)).0 (none-of _ both.1)).0)
+      let both = and_parts (is_tree_file mdb file size) (is_none (structure_fault g size (tree_nodes blocks mdb file size))) right in (
+        file-lies mdb total sound.area file (extents_within mdb file size both.0),
+        ((structure-law g size (tree_nodes blocks mdb file size)).0 (none-of _ both.1)).0,
+      )
 
   mdb-lies : Each (LiesIn total) (placed_in_mdb blocks mdb (catalog_in_of blocks mdb))
   unfolding placed_in_mdb

@@ -7,16 +7,17 @@ use crate::hints::tell_hint;
 use crate::pages::print_page;
 use crate::progress::Progress;
 use crate::rescuing::{list_remains, rescue_volume};
-use crate::saving::{save, tell};
+use crate::saving::{save, save_as_read, tell};
 use crate::taking::take_volume;
 use crate::volumes::print_volumes;
 use crate::words::{FileWords, ForkWords, NewVolume, RunWords, Words};
 use hfs_check::MountFault;
 use hfs_commands::{
-    BlockSource, ByteSource, CheckAnswer, Fault, Format, ImageFile, NeededFile, OpenedImage, Ran,
-    RepairAnswer, Status, check_answer, code_text, list_text, load_file, load_script,
-    needed_check_answer, needed_file, open_image, opened_list_text, put, put_macbinary,
-    refused_text, repair_answer, run_info, run_script_at, write_fork, write_items, write_macbinary,
+    BlockSource, ByteSource, CheckAnswer, Fault, Format, ImageFile, NeededFile, NeededRepair,
+    OpenedImage, Ran, RepairAnswer, Status, WatchedFile, WatchedImage, check_answer, code_text,
+    list_text, load_file, load_script, needed_check_answer, needed_file, needed_repair_answer,
+    open_image, open_watched, opened_list_text, put, put_macbinary, refused_text, repair_answer,
+    run_info, run_script_at, write_fork, write_items, write_macbinary,
 };
 use hfs_format::{FormatPlan, format};
 use hfs_model::Reply;
@@ -390,15 +391,59 @@ fn write_new<'a>(rt: &HostRuntime, volume: &NewVolume<'a>) -> Result<u8, Fault<'
 /// Writes an image with its counts mended to a file, and prints what was mended. An image that is refused is told of, and nothing is
 /// written; where the write fails nothing else is printed.
 fn write_repaired<'a>(rt: &HostRuntime, path: &'a str, file: &'a str) -> Result<u8, Fault<'a>> {
-    let image = match load_file(rt, path) {
-        Ok(image) => image,
-        Err(Fault::Refused(why)) => return print_refused(rt, why),
-        Err(fault) => return Err(fault),
-    };
+    match open_watched(rt, path) {
+        Ok(WatchedImage::InFile(source)) => write_needed(rt, path, file, source),
+        Ok(WatchedImage::Whole(image)) => write_whole(rt, file, image),
+        Err(Fault::Refused(why)) => print_refused(rt, why),
+        Err(fault) => Err(fault),
+    }
+}
+
+/// Mends an image of which all bytes are there, and writes it to a file.
+fn write_whole<'a>(rt: &HostRuntime, file: &'a str, image: Vec<u8>) -> Result<u8, Fault<'a>> {
     match repair_answer(rt.alloc(), image) {
         Ok(answer) => write_answer(rt, file, &answer),
         Err(_refused) => Err(Fault::NoMemory),
     }
+}
+
+/// Mends the image in the file of this path, which is read where it is needed, and writes it to a file.
+fn write_needed<'a>(
+    rt: &HostRuntime,
+    path: &'a str,
+    file: &'a str,
+    source: WatchedFile<File>,
+) -> Result<u8, Fault<'a>> {
+    let len = source.len();
+    match needed_repair_answer(rt.alloc(), source, len) {
+        Ok(answer) => write_needed_answer(rt, path, file, answer),
+        Err(fault) => Err(Fault::of_sparse(fault, path)),
+    }
+}
+
+/// Writes a mended image to a file as it is read, and prints what was mended.
+fn write_needed_answer<'a>(
+    rt: &HostRuntime,
+    path: &'a str,
+    file: &'a str,
+    answer: NeededRepair<WatchedFile<File>>,
+) -> Result<u8, Fault<'a>> {
+    let NeededRepair {
+        image,
+        fault,
+        status,
+        lines,
+    } = answer;
+    let leftover = match image {
+        Some(mut image) => save_as_read(rt, file, path, &mut image)?,
+        None => None,
+    };
+    print_lines(rt, lines.as_str())?;
+    tell(rt, &leftover);
+    if let Some(why) = fault {
+        tell_hint(rt, why);
+    }
+    Ok(status)
 }
 
 /// Writes a mended volume to a file, and prints what was mended.

@@ -1,6 +1,6 @@
 //! Files that are written, and what is told of those beside them.
 
-use hfs_commands::{Contents, Fault, Leftover, save_file};
+use hfs_commands::{Contents, Fault, Leftover, ReadContents, Saved, save_file, save_read};
 
 /// Writes a file, and answers which file beside it was left by a run that was stopped, if any was
 /// there. Where the write fails, that one is told before the fault.
@@ -9,7 +9,22 @@ pub fn save<'a, C: Contents>(
     file: &'a str,
     contents: &C,
 ) -> Result<Option<Leftover>, Fault<'a>> {
-    let saved = save_file(rt, file, contents);
+    written(rt, save_file(rt, file, contents))
+}
+
+/// Writes a file as [`save`] does, of contents that are read from the file `source` as they are
+/// written.
+pub fn save_as_read<'a, C: ReadContents>(
+    rt: &HostRuntime,
+    file: &'a str,
+    source: &'a str,
+    contents: &mut C,
+) -> Result<Option<Leftover>, Fault<'a>> {
+    written(rt, save_read(rt, file, source, contents))
+}
+
+/// What is told of how a file was written.
+fn written<'a>(rt: &HostRuntime, saved: Saved<'a>) -> Result<Option<Leftover>, Fault<'a>> {
     match saved.written {
         Ok(()) => Ok(saved.leftover),
         Err(fault) => {

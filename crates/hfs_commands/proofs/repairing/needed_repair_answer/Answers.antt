@@ -1,0 +1,11 @@
+use Rattle.std.proofs.Common.{Option, string_bytes, subst}
+use Rattle.hfs_check.specs.declared.mount_fault.MountFault.{MountFault}
+use Rattle.hfs_commands.specs.Repairs.{IsMendedText}
+use Rattle.hfs_commands.proofs.PatchedBytes.{refused_told}
+use Rattle.hfs_commands.proofs.repairing.needed_repair_answer.Goals as goal
+
+pub returns-in-Some : goal.returns-in-Some
+returns-in-Some g c =
+    let told = subst (λ (f : Option MountFault). IsMendedText c.deref.result.now f (c.in-Ok.status, c.in-Ok.lines)) c.in-Some.is c.in-Ok.ensures in
+    refused_told (g.S.BlockSource.image c.args.source) c.args.len c.in_ok-patch.field-0.patch c.in_ok-patch.field-0.fixes.items c.in_ok-patch.field-0.fault c.in-Some.why c.in-Ok.status
+    (string_bytes c.in-Ok.lines) c.in-Some.is c.in_ok-patch.ensures.mended told.0 told.1

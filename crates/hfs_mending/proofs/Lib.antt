@@ -1,0 +1,4 @@
+pub mod SameNumbers
+pub mod ReadParts
+pub mod PutBlocks
+pub mod Mendings

@@ -1,0 +1,60 @@
+//! Bytes that are put into blocks, each block as it was read or as it was changed before.
+ghost use Rattle.std.specs.Prelude.{◌≡◌, ◌*◌, ◌<◌, ◌∷◌, [], OnOk, IfOk};
+ghost use Rattle.hfs_blocks.specs.Layers.{changes, AreWithin, KeepsWithin};
+ghost use Rattle.hfs_needed.specs.Gathered.{HasRead, IsOfKnown};
+ghost use Rattle.hfs_repair.specs.Puts.{AreInBlocks};
+ghost use Rattle.hfs_mending.specs.Mended.{PutsBytes};
+
+use hfs_blocks::{Blocks, Patch};
+use hfs_repair::BytePut;
+use hfs_sparse::{BlockSource, SparseBlocks, SparseFault, fetch};
+use std::alloc::Global;
+
+/// Puts one byte into its block of an image of `count` blocks. Errors: a read failed, memory was refused.
+fn lay_put<S: BlockSource>(
+    source: &mut S,
+    read: &mut SparseBlocks,
+    patch: &mut Patch,
+    count: u32,
+    put: &BytePut,
+) -> Result<(), SparseFault>
+    requires of { IsOfKnown (S.image source.old) read.old }
+    requires within { put.now.at < 512 * count }
+    ensures put { OnOk result
+        (PutsBytes (S.image source.old) count (put.now ∷ []) patch.old patch.new) }
+    ensures within { KeepsWithin patch.old patch.new count }
+    ensures reads { HasRead (S.image source.old) count read.old read.new }
+    ensures image { S.image source.new ≡ S.image source.old }
+{
+    let n = (put.at / 512) as u32;
+    fetch(source, read, n)?;
+    let mut block = [0; 512];
+    patch.over(&read.volume(count)).block(n, &mut block);
+    block[put.at % 512] = put.byte;
+    match patch.put(n, &block) {
+        Ok(()) => Ok(()),
+        Err(_) => Err(SparseFault::Memory),
+    }
+}
+
+/// The blocks of an image of `count` blocks with these bytes put into them, one after the other. Errors: as the first that fails has them.
+pub(crate) fn lay_puts<S: BlockSource>(
+    alloc: Global,
+    source: &mut S,
+    read: &mut SparseBlocks,
+    count: u32,
+    puts: &[BytePut],
+) -> Result<Patch, SparseFault>
+    requires of { IsOfKnown (S.image source.old) read.old }
+    requires within { AreInBlocks count puts.now }
+    ensures puts { IfOk result (λ patch. PutsBytes (S.image source.old) count puts.now [] patch) }
+    ensures within { IfOk result (λ patch. AreWithin (changes patch) count) }
+    ensures reads { HasRead (S.image source.old) count read.old read.new }
+    ensures image { S.image source.new ≡ S.image source.old }
+{
+    let mut patch = Patch::new(alloc);
+    for put in puts {
+        lay_put(source, read, &mut patch, count, put)?;
+    }
+    Ok(patch)
+}

@@ -1,0 +1,9 @@
+//! The counted numbers of an image that is read where it is needed: what a repair changes of it, what it tells, and what is then refused.
+#![tactic(auto)]
+
+mod finding;
+mod gathering;
+mod laying;
+mod mending;
+
+pub use crate::mending::{Mended, mend_needed};

@@ -1,0 +1,106 @@
+//! What a repair of an image changes, tells and leaves, by the blocks that it needs.
+ghost use Rattle.std.specs.Prelude.{◌≡◌, ◌/◌, ◌≤◌, [], Some, None, IfOk};
+ghost use Rattle.hfs_blocks.specs.Layers.{changes, AreWithin};
+ghost use Rattle.hfs_needed.specs.Gathered.{IsOfKnown};
+ghost use Rattle.hfs_mending.specs.Mended.{IsFaultOver, IsMendedOf, MendsBlocksOf};
+
+use crate::gathering::gather_mending;
+use crate::laying::lay_puts;
+use hfs_blocks::Patch;
+use hfs_check::{MountFault, check_blocks};
+use hfs_repair::{Fix, Mending};
+use hfs_sparse::{BlockSource, SparseBlocks, SparseFault};
+use std::alloc::Global;
+
+/// What a repair of an image changes and tells, and what is then wrong with it.
+#[derive(Drop)]
+pub struct Mended {
+    /// The blocks that the repair changes, as they are then.
+    pub patch: Patch,
+    /// The numbers that were wrong, each once, in the order of `FixPlace`.
+    pub fixes: Vec<Fix>,
+    /// The first fault of the repaired image, where it has one.
+    pub fault: Option<MountFault>,
+}
+
+/// What is told of an image whose length is wrong: it is left as it is.
+fn unmended(alloc: Global, fault: MountFault) -> Mended
+    ensures patch { result.patch ≡ [] }
+    ensures fixes { result.fixes.items ≡ [] }
+    ensures fault { result.fault ≡ Some fault }
+{
+    Mended {
+        patch: Patch::new(alloc),
+        fixes: Vec::new(alloc),
+        fault: Some(fault),
+    }
+}
+
+/// The first fault of an image of `count` blocks with these changed ones.
+fn fault_over<S: BlockSource>(
+    alloc: Global,
+    source: &mut S,
+    read: &mut SparseBlocks,
+    patch: &Patch,
+    count: u32,
+) -> Result<Option<MountFault>, SparseFault>
+    requires some { 3 ≤ count }
+    requires of { IsOfKnown (S.image source.old) read.old }
+    ensures fault { IfOk result (IsFaultOver (S.image source.old) count patch.now) }
+    ensures image { S.image source.new ≡ S.image source.old }
+{
+    gather_mending(alloc, source, read, patch, count)?;
+    match check_blocks(alloc, &patch.over(&read.volume(count))) {
+        Ok(_sound) => Ok(None),
+        Err(MountFault::Memory) => Err(SparseFault::Memory),
+        Err(fault) => Ok(Some(fault)),
+    }
+}
+
+/// What a repair of an image of `count` blocks changes, tells and leaves.
+fn mend_blocks<S: BlockSource>(
+    alloc: Global,
+    source: &mut S,
+    count: u32,
+) -> Result<Mended, SparseFault>
+    requires { 3 ≤ count }
+    ensures mended { IfOk result (MendsBlocksOf (S.image source.old) count) }
+    ensures within { IfOk result (λ mended. AreWithin (changes mended.patch) count) }
+    ensures image { S.image source.new ≡ S.image source.old }
+{
+    let mut read = SparseBlocks::new(alloc);
+    let none = Patch::new(alloc);
+    gather_mending(alloc, source, &mut read, &none, count)?;
+    let Ok(mending) = Mending::of_blocks(alloc, &none.over(&read.volume(count))) else {
+        return Err(SparseFault::Memory);
+    };
+    let patch = lay_puts(alloc, source, &mut read, count, &mending.puts)?;
+    let fault = fault_over(alloc, source, &mut read, &patch, count)?;
+    Ok(Mended {
+        patch,
+        fixes: mending.fixes,
+        fault,
+    })
+}
+
+/// What a repair of an image of `len` bytes changes, tells and leaves, of which only the blocks are read that decide it: the master directory block, the bitmap,
+/// and all nodes of both trees. Errors: a read failed, or the image ends before that many bytes; memory was refused. A fault of the image is
+/// no error: it is told of.
+pub fn mend_needed<S: BlockSource>(
+    alloc: Global,
+    source: &mut S,
+    len: u64,
+) -> Result<Mended, SparseFault>
+    ensures mended { IfOk result (IsMendedOf (S.image source.old) len) }
+    ensures within { IfOk result (λ mended. AreWithin (changes mended.patch) (len / 512)) }
+    ensures small { IfOk result (λ mended. mended.fault ≡ None → len ≤ 2147483648) }
+    ensures image { S.image source.new ≡ S.image source.old }
+{
+    if len > 2_147_483_648 {
+        return Ok(unmended(alloc, MountFault::TooLarge));
+    }
+    if len < 1_536 {
+        return Ok(unmended(alloc, MountFault::Short));
+    }
+    mend_blocks(alloc, source, (len / 512) as u32)
+}
