@@ -1,17 +1,22 @@
 -- Faults of what is taken apart name what its words name.
-use Rattle.std.proofs.Common.{◌≡◌, refl, sym, subst, inl, inr}
+use Rattle.std.proofs.Common.{◌≡◌, ◌⊎◌, ℕ, List, refl, sym, subst, inl, inr}
+use Rattle.std.specs.Prelude.{⊤, string_bytes}
 use Rattle.hfs_bag.specs.declared.fault.BagFault.{BagFault}
 use Rattle.hfs_bag.specs.declared.fault.BagFault.TheVariants as bag
+use Rattle.hfs_bag.specs.declared.source.SourceFault.{SourceFault}
 use Rattle.hfs_bag.specs.declared.source.SourceFault.TheVariants as source
+use Rattle.hfs_bag.specs.Faults.{IsBagFault}
 use Rattle.hfs_check.specs.declared.mount_fault.MountFault.TheVariants as mount
 use Rattle.hfs_commands.specs.declared.fault.Fault.{Fault}
 use Rattle.hfs_commands.specs.declared.fault.Fault.TheVariants.{CannotRead, NoMemory, Refused}
 use Rattle.hfs_shelves.specs.declared.fault.ShelfFault.{ShelfFault}
 use Rattle.hfs_shelves.specs.declared.fault.ShelfFault.TheVariants as shelf
+use Rattle.hfs_shelves.specs.ShelfPaths.{IsNewFolder}
+use Rattle.hfs_shelves.specs.Told.{Tells, TellsNewFolder, TellsWithin}
 use Rattle.hfs_take.specs.declared.fault.TakeFault.{TakeFault}
 use Rattle.hfs_take.specs.declared.fault.TakeFault.TheVariants as take
 use Rattle.hfs_take.specs.declared.words.TakeWords.{TakeWords}
-use Rattle.hfs_take.specs.Faults.{IsImageFault, IsTakeFault, KeepsShelfFault, fault_of_shelf}
+use Rattle.hfs_take.specs.Faults.{IsImageFault, IsTakeFault, IsUnwritten, KeepsShelfFault, fault_of_shelf}
 
 unread : (words : TakeWords) (found : Fault) → found ≡ CannotRead words.image → IsImageFault words found
 unread words found is = inl (inl is)
@@ -23,14 +28,33 @@ unstored words found is = inl (inr (inl (inr is)))
 known : (words : TakeWords) (found is : TakeFault) → found ≡ is → IsTakeFault words is → IsTakeFault words found
 known words found is same holds = subst (IsTakeFault words) (sym same) holds
 
-of_shelf : (words : TakeWords) (why : ShelfFault) (found : TakeFault) → found ≡ fault_of_shelf why → IsTakeFault words found
-of_shelf words (shelf.CannotWrite path) found same = known words found _ same tt
-of_shelf words shelf.NoMemory found same = known words found _ same (unstored words NoMemory refl)
+-- a shelf's fault tells a path of these words' folder, where it tells one
+abbrev pub IsUnwrittenFor : List ℕ → ShelfFault → Type 0
+IsUnwrittenFor folder (shelf.CannotWrite path) = IsUnwritten folder (string_bytes path)
+IsUnwrittenFor folder shelf.NoMemory = ⊤
 
-pub of_bag : (words : TakeWords) (fault : BagFault) (found : TakeFault) → (fault ≡ bag.Source source.ReadFailed → found ≡ take.Image (CannotRead words.image))
+pub uncreated : (folder : List ℕ) (why : ShelfFault) → TellsNewFolder folder why → IsUnwrittenFor folder why
+uncreated folder (shelf.CannotWrite path) (inl new) = inr (string_bytes path, new, inl refl)
+uncreated folder (shelf.CannotWrite path) (inr same) = inl same
+uncreated folder shelf.NoMemory tells = tt
+
+pub unplaced : (folder : List ℕ) (why : ShelfFault) → Tells folder why → IsUnwrittenFor folder why
+unplaced folder (shelf.CannotWrite path) same = inl same
+unplaced folder shelf.NoMemory tells = tt
+
+pub unfilled : (folder new : List ℕ) (why : ShelfFault) → IsNewFolder folder new → TellsWithin new why → IsUnwrittenFor folder why
+unfilled folder new (shelf.CannotWrite path) is within = inr (new, is, within)
+unfilled folder new shelf.NoMemory is within = tt
+
+pub of_shelf : (words : TakeWords) (why : ShelfFault) (found : TakeFault) → found ≡ fault_of_shelf why → IsUnwrittenFor words.folder.now why → IsTakeFault words found
+of_shelf words (shelf.CannotWrite path) found same tells = known words found _ same tells
+of_shelf words shelf.NoMemory found same tells = known words found _ same (unstored words NoMemory refl)
+
+pub of_bag : (words : TakeWords) (fault : BagFault) (found : TakeFault) (new : List ℕ) {Gave : SourceFault → Type 0} {IsLarge : Type 0} → IsNewFolder words.folder.now new
+    → IsBagFault Gave (TellsWithin new) IsLarge fault → (fault ≡ bag.Source source.ReadFailed → found ≡ take.Image (CannotRead words.image))
     → (fault ≡ bag.Source source.Memory → found ≡ take.Image NoMemory) → KeepsShelfFault fault found
     → (fault ≡ bag.TooLarge → found ≡ take.Image (Refused mount.TooLarge)) → IsTakeFault words found
-of_bag words (bag.Source source.ReadFailed) found read memory shelved large = known words found _ (read refl) (unread words _ refl)
-of_bag words (bag.Source source.Memory) found read memory shelved large = known words found _ (memory refl) (unstored words _ refl)
-of_bag words (bag.Shelf why) found read memory shelved large = of_shelf words why found (shelved why refl)
-of_bag words bag.TooLarge found read memory shelved large = known words found _ (large refl) (inr (mount.TooLarge, refl))
+of_bag words (bag.Source source.ReadFailed) found new is came read memory shelved large = known words found _ (read refl) (unread words _ refl)
+of_bag words (bag.Source source.Memory) found new is came read memory shelved large = known words found _ (memory refl) (unstored words _ refl)
+of_bag words (bag.Shelf why) found new is came read memory shelved large = of_shelf words why found (shelved why refl) (unfilled words.folder.now new why is came)
+of_bag words bag.TooLarge found new is came read memory shelved large = known words found _ (large refl) (inr (mount.TooLarge, refl))
