@@ -1,16 +1,18 @@
 -- Faults that are passed on.
-use Rattle.std.proofs.Common.{◌≡◌, ◌≤◌, ◌+◌, ◌^◌, ℕ, true, List, ◌++◌, ap, subst, sym, ◌∙◌, inl, inr, arith}
+use Rattle.std.proofs.Common.{◌≡◌, ◌+◌, ℕ, Bool, true, false, List, [], refl, ap, ◌∙◌, inl, inr, arith}
+use Rattle.std.specs.Prelude.{⊤}
 use Rattle.hfs_shelves.specs.declared.fault.ShelfFault.{ShelfFault}
 use Rattle.hfs_shelves.specs.Entries.{ShelfEntry}
 use Rattle.hfs_bag.specs.declared.fault.BagFault.{BagFault}
 use Rattle.hfs_bag.specs.declared.fault.BagFault.TheVariants as bag
+use Rattle.hfs_bag.specs.declared.item.BagHead.{BagHead}
 use Rattle.hfs_bag.specs.declared.item.ItemDigests.{ItemDigests}
 use Rattle.hfs_bag.specs.declared.source.SourceFault.{SourceFault}
 use Rattle.hfs_bag.specs.Items.{BagItem, item_entries}
 use Rattle.hfs_bag.specs.Sources.{SourceState, HasItem, WhereKnown}
 use Rattle.hfs_bag.specs.Bags.{bytes_in, items_entries}
 use Rattle.hfs_bag.specs.Giving.{HasGiven}
-use Rattle.hfs_bag.specs.Faults.{AreTooMany, IsBagFault, IsOfShelf, IsPassedOn}
+use Rattle.hfs_bag.specs.Faults.{AreTooMany, HasFailed, IsBagFault}
 use Rattle.hfs_bag.proofs.GivingLemmas.{bytes_in-append, items_entries-append}
 
 module _ (Gave : SourceFault → Type 0) (Shelf : ShelfFault → Type 0) where
@@ -19,14 +21,17 @@ module _ (Gave : SourceFault → Type 0) (Shelf : ShelfFault → Type 0) where
   larger (bag.Shelf why) more is = is
   larger bag.TooLarge more is = more is
 
-  pub passed-on : {A : Type 0} (fault : BagFault) → IsPassedOn Gave Shelf fault → IsBagFault Gave Shelf A fault
-  passed-on fault is = larger fault (λ never. absurd never) is
+  pub source-failed : (A : Type 0) (known : Bool) (fault : BagFault) → IsBagFault Gave Shelf A fault → IsBagFault (HasFailed Gave known) Shelf A fault
+  source-failed A known (bag.Source why) (inl gave) = inl (inl gave)
+  source-failed A known (bag.Source why) (inr memory) = inr memory
+  source-failed A known (bag.Shelf why) is = is
+  source-failed A known bag.TooLarge is = is
 
-  pub of-shelf : (fault : BagFault) → IsOfShelf Shelf fault → IsPassedOn Gave Shelf fault
-  of-shelf (bag.Source why) (inl never) = absurd never
-  of-shelf (bag.Source why) (inr memory) = inr memory
-  of-shelf (bag.Shelf why) is = is
-  of-shelf bag.TooLarge never = absurd never
+  -- whatever the source may give
+  pub any-source : (A : Type 0) (fault : BagFault) → IsBagFault Gave Shelf A fault → IsBagFault (λ _. ⊤) Shelf A fault
+  any-source A (bag.Source why) is = inl tt
+  any-source A (bag.Shelf why) is = is
+  any-source A bag.TooLarge is = is
 
   pub of-keeping : {A B : Type 0} (fault : BagFault) → (A → B) → IsBagFault (λ _. ⊥) (λ _. ⊥) A fault → IsBagFault Gave Shelf B fault
   of-keeping (bag.Source why) more (inl never) = absurd never
@@ -35,7 +40,7 @@ module _ (Gave : SourceFault → Type 0) (Shelf : ShelfFault → Type 0) where
   of-keeping bag.TooLarge more is = more is
 
 -- the next item is too large, so all that are to come are
-pub item-large : (s0 s1 : SourceState) (head : Rattle.hfs_bag.specs.declared.item.BagHead.BagHead) (n b : ℕ) → HasItem head s0 s1 → WhereKnown s0 (b ≡ bytes_in (item_entries s1.item)) → AreTooMany (n + b)
+pub item-large : (s0 s1 : SourceState) (head : BagHead) (n b : ℕ) → HasItem head s0 s1 → WhereKnown s0 (b ≡ bytes_in (item_entries s1.item)) → AreTooMany (n + b)
     → WhereKnown s0 (AreTooMany (n + bytes_in (items_entries s0.left)))
 item-large s0 s1 head n b taken is many known =
     let entries = item_entries s1.item in
@@ -45,10 +50,15 @@ item-large s0 s1 head n b taken is many known =
     omega (arith, sum, is known, many)
 
 -- those to come behind others are too large, so all are
-pub rest-large : (g0 g1 : List ShelfEntry) (s0 s1 : SourceState) (ds0 ds1 : List ItemDigests) (n0 n1 : ℕ) → HasGiven g0 g1 s0 s1 ds0 ds1 n0 n1
-    → WhereKnown s1 (AreTooMany (n1 + bytes_in (items_entries s1.left))) → WhereKnown s0 (AreTooMany (n0 + bytes_in (items_entries s0.left)))
-rest-large g0 g1 s0 s1 ds0 ds1 n0 n1 given many known =
+pub rest-large : (g0 g1 : List ShelfEntry) (s0 s1 : SourceState) (ds : List ItemDigests) (n : ℕ) → HasGiven g0 g1 s0 s1 [] ds 0 n
+    → WhereKnown s1 (AreTooMany (n + bytes_in (items_entries s1.left))) → WhereKnown s0 (AreTooMany (bytes_in (items_entries s0.left)))
+rest-large g0 g1 s0 s1 ds n given many known =
     let sum : bytes_in (items_entries s0.left) ≡ bytes_in (items_entries given.items) + bytes_in (items_entries s1.left) =
     ap (λ (items : List BagItem). bytes_in (items_entries items)) given.left ∙ ap bytes_in (items_entries-append given.items s1.left)
     ∙ bytes_in-append (items_entries given.items) (items_entries s1.left) in
     omega (arith, sum, given.bytes known, many (given.known ∙ known))
+
+-- what cannot be known is not
+pub not-known : (known : Bool) → (known ≡ true → ⊥) → known ≡ false
+not-known true never = absurd (never refl)
+not-known false never = refl

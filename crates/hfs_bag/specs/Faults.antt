@@ -1,5 +1,5 @@
 -- Why a bag was not filled.
-use Rattle.std.specs.Prelude.{◌≡◌, ◌^◌, ◌≤◌, ◌⊎◌, ℕ}
+use Rattle.std.specs.Prelude.{◌≡◌, ◌^◌, ◌≤◌, ◌⊎◌, ℕ, Bool, false}
 use Rattle.hfs_shelves.specs.declared.fault.ShelfFault.{ShelfFault}
 use Rattle.hfs_bag.specs.declared.fault.BagFault.{BagFault}
 use Rattle.hfs_bag.specs.declared.fault.BagFault.TheVariants as bag
@@ -14,6 +14,10 @@ IsBagFault SourceGave ShelfGave IsLarge (bag.Source fault) = SourceGave fault �
 IsBagFault SourceGave ShelfGave IsLarge (bag.Shelf fault) = ShelfGave fault
 IsBagFault SourceGave ShelfGave IsLarge bag.TooLarge = IsLarge
 
+-- a fault that the source gave; or it told fewer items than before, as one whose bytes aren't known may
+abbrev pub HasFailed : (SourceFault → Type 0) → Bool → SourceFault → Type 0
+HasFailed SourceGave known fault = SourceGave fault ⊎ ((fault ≡ source.ReadFailed) × (known ≡ false))
+
 -- the source's, the shelf's, or want of memory
 abbrev pub IsPassedOn : (SourceFault → Type 0) → (ShelfFault → Type 0) → BagFault → Type 0
 IsPassedOn SourceGave ShelfGave = IsBagFault SourceGave ShelfGave ⊥
@@ -26,6 +30,10 @@ IsOfShelf ShelfGave = IsBagFault (λ _. ⊥) ShelfGave ⊥
 abbrev pub AreTooMany : ℕ → Type 0
 AreTooMany bytes = 2 ^ 64 ≤ bytes
 
--- one of these, or the payload of a source's items is too large
+-- the source's, the shelf's, want of memory, or the payload of a source's items is too large
 abbrev pub IsPayloadFault : (SourceFault → Type 0) → (ShelfFault → Type 0) → SourceState → BagFault → Type 0
 IsPayloadFault SourceGave ShelfGave state = IsBagFault SourceGave ShelfGave (WhereKnown state (AreTooMany (bytes_in (payload state.all))))
+
+-- one of these, while the bag of its items is given
+abbrev pub IsFillFault : (SourceFault → Type 0) → (ShelfFault → Type 0) → SourceState → BagFault → Type 0
+IsFillFault SourceGave ShelfGave state = IsPayloadFault (HasFailed SourceGave state.known) ShelfGave state

@@ -3,7 +3,7 @@ ghost use Rattle.std.specs.Prelude.{◌≡◌, ◌++◌, IfErr, IfOk, OnErr, OnO
 ghost use Rattle.hfs_shelves.specs.Entries.{IsBeginning};
 ghost use Rattle.hfs_bag.specs.Sources.{KeepsItems, WhereKnown};
 ghost use Rattle.hfs_bag.specs.Bags.{payload};
-ghost use Rattle.hfs_bag.specs.Faults.{IsPassedOn, IsPayloadFault};
+ghost use Rattle.hfs_bag.specs.Faults.{HasFailed, IsFillFault, IsPassedOn, IsPayloadFault};
 ghost use Rattle.hfs_bag.specs.Payloads.{IsPayloadOf};
 ghost use Rattle.hfs_bag.specs.Sums.{IsSumOf};
 ghost use Rattle.hfs_bag.specs.Tags.{bag_of, tag_files};
@@ -57,7 +57,8 @@ pub fn give_tag_files<S: Shelf, B: BagSource>(
         (IsBeginning (S.given shelf.new) (S.given shelf.old ++ tag_files (B.state source.old).all (B.state source.old).tables facts.now))) }
     ensures sums { IfOk result (λ sums. WhereKnown (B.state source.old)
         (IsSumOf sums (B.state source.old).all)) }
-    ensures fault { IfErr result (IsPassedOn B.Fails (S.Fails (S.place shelf.old))) }
+    ensures fault { IfErr result (IsPassedOn (HasFailed B.Fails (B.state source.old).known)
+        (S.Fails (S.place shelf.old))) }
     ensures place { S.place shelf.new ≡ S.place shelf.old }
 {
     let streams = count_streams(&given.digests);
@@ -85,7 +86,7 @@ pub fn give_bag<S: Shelf, B: BagSource>(
         (IsBeginning (S.given shelf.new) (S.given shelf.old ++ bag_of (B.state source.old).all (B.state source.old).tables facts.now))) }
     ensures sums { IfOk result (λ sums. WhereKnown (B.state source.old)
         (IsSumOf sums (B.state source.old).all)) }
-    ensures fault { IfErr result (IsPayloadFault B.Fails (S.Fails (S.place shelf.old))
+    ensures fault { IfErr result (IsFillFault B.Fails (S.Fails (S.place shelf.old))
         (B.state source.old)) }
     ensures place { S.place shelf.new ≡ S.place shelf.old }
 {

@@ -7,7 +7,7 @@ ghost use Rattle.hfs_shelves.specs.Entries.{IsBeginning, with_piece};
 ghost use Rattle.hfs_bag.specs.Items.{double_path, item_digests, item_entries, item_path};
 ghost use Rattle.hfs_bag.specs.Sources.{WhereKnown};
 ghost use Rattle.hfs_bag.specs.Bags.{digest_line, items_entries, manifest};
-ghost use Rattle.hfs_bag.specs.Faults.{IsPassedOn};
+ghost use Rattle.hfs_bag.specs.Faults.{HasFailed, IsPassedOn};
 ghost use Rattle.hfs_bag.specs.Filling.{HoldsMore, with_whole_file};
 ghost use Rattle.hfs_bag.specs.Giving.{HasListed, IsNextOf};
 
@@ -101,7 +101,8 @@ fn list_next<S: Shelf, B: BagSource>(
         (B.state source.old) (B.state source.new) (Holds256 digest.old) (Holds256 digest.new)) }
     ensures part { OnErr result (WhereKnown (B.state source.old)
         (IsBeginning (S.given shelf.new) (with_piece (S.given shelf.old) (manifest (items_entries (B.state source.old).left))))) }
-    ensures fault { IfErr result (IsPassedOn B.Fails (S.Fails (S.place shelf.old))) }
+    ensures fault { IfErr result (IsPassedOn (HasFailed B.Fails (B.state source.old).known)
+        (S.Fails (S.place shelf.old))) }
     ensures place { S.place shelf.new ≡ S.place shelf.old }
 {
     let Some(_) = source.next_item()? else {
@@ -132,7 +133,8 @@ fn list_items<S: Shelf, B: BagSource>(
     ensures tables { OnOk result ((B.state source.new).tables ≡ (B.state source.old).tables) }
     ensures part { OnErr result (WhereKnown (B.state source.old)
         (IsBeginning (S.given shelf.new) (with_piece (S.given shelf.old) (manifest (items_entries (B.state source.old).left))))) }
-    ensures fault { IfErr result (IsPassedOn B.Fails (S.Fails (S.place shelf.old))) }
+    ensures fault { IfErr result (IsPassedOn (HasFailed B.Fails (B.state source.old).known)
+        (S.Fails (S.place shelf.old))) }
     ensures place { S.place shelf.new ≡ S.place shelf.old }
 {
     for at in 0..told.len() {
@@ -159,7 +161,8 @@ pub(crate) fn give_manifest<S: Shelf, B: BagSource>(
     ensures known { OnOk result ((B.state source.new).known ≡ (B.state source.old).known) }
     ensures all { OnOk result ((B.state source.new).all ≡ (B.state source.old).all) }
     ensures tables { OnOk result ((B.state source.new).tables ≡ (B.state source.old).tables) }
-    ensures fault { IfErr result (IsPassedOn B.Fails (S.Fails (S.place shelf.old))) }
+    ensures fault { IfErr result (IsPassedOn (HasFailed B.Fails (B.state source.old).known)
+        (S.Fails (S.place shelf.old))) }
     ensures place { S.place shelf.new ≡ S.place shelf.old }
 {
     source.restart()?;

@@ -6,7 +6,7 @@ ghost use Rattle.hfs_shelves.specs.Entries.{IsBeginning};
 ghost use Rattle.hfs_bag.specs.Items.{item_digests};
 ghost use Rattle.hfs_bag.specs.Sources.{SameItems, WhereKnown};
 ghost use Rattle.hfs_bag.specs.Bags.{bytes_in, files_in, manifest, payload};
-ghost use Rattle.hfs_bag.specs.Faults.{IsOfShelf, IsPassedOn};
+ghost use Rattle.hfs_bag.specs.Faults.{HasFailed, IsOfShelf, IsPassedOn};
 ghost use Rattle.hfs_bag.specs.Filling.{with_whole_file};
 ghost use Rattle.hfs_bag.specs.TagParts.{first_tags, remains_line, second_tags, tag_lines};
 ghost use Rattle.hfs_bag.specs.Tags.{declaration_text, image_digest_line, info_text, oxum_text, remains_files, tag_files, volume_line};
@@ -188,7 +188,8 @@ fn give_first<S: Shelf, B: BagSource>(
         (told.1 ≡ sha256 (B.state source.old).tables.items)) }
     ensures remains { IfOk result (λ told. WhereKnown (B.state source.old)
         (told.2 ≡ option_map sha256 (B.state source.old).tables.remains)) }
-    ensures fault { IfErr result (IsPassedOn B.Fails (S.Fails (S.place shelf.old))) }
+    ensures fault { IfErr result (IsPassedOn (HasFailed B.Fails (B.state source.old).known)
+        (S.Fails (S.place shelf.old))) }
     ensures place { S.place shelf.new ≡ S.place shelf.old }
 {
     let manifest = give_manifest(alloc, shelf, source, &given.digests)?;
@@ -260,7 +261,8 @@ pub(crate) fn give_tags<S: Shelf, B: BagSource>(
         (S.given shelf.new ≡ S.given shelf.old ++ tag_files (B.state source.old).all (B.state source.old).tables facts.now)) }
     ensures part { OnErr result (WhereKnown (B.state source.old)
         (IsBeginning (S.given shelf.new) (S.given shelf.old ++ tag_files (B.state source.old).all (B.state source.old).tables facts.now))) }
-    ensures fault { IfErr result (IsPassedOn B.Fails (S.Fails (S.place shelf.old))) }
+    ensures fault { IfErr result (IsPassedOn (HasFailed B.Fails (B.state source.old).known)
+        (S.Fails (S.place shelf.old))) }
     ensures place { S.place shelf.new ≡ S.place shelf.old }
 {
     let first = give_first(alloc, shelf, source, given)?;

@@ -4,4 +4,4 @@ use Rattle.hfs_take.proofs.taking.write_bag.Goals as goal
 
 pub returns-in-Err-give_image-clause-fault : goal.returns-in-Err-give_image-clause-fault
 returns-in-Err-give_image-clause-fault g c =
-    of_bag c.args.words.now c.in-Err-give_image.fault c.of_bag.result c.of_bag.ensures.read c.of_bag.ensures.memory c.of_bag.ensures.shelf c.of_bag.ensures.large
+    of_bag c.args.words.now c.in-Err-give_image.fault c.of_bag.result ? ? ? c.of_bag.ensures.read c.of_bag.ensures.memory c.of_bag.ensures.shelf c.of_bag.ensures.large
