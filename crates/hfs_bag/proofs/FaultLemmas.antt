@@ -3,15 +3,17 @@ use Rattle.std.proofs.Common.{◌≡◌, ◌+◌, ℕ, Bool, true, false, List, 
 use Rattle.std.specs.Prelude.{⊤}
 use Rattle.hfs_shelves.specs.declared.fault.ShelfFault.{ShelfFault}
 use Rattle.hfs_shelves.specs.Entries.{ShelfEntry}
+use Rattle.hfs_bag.specs.declared.facts.BagFacts.{BagFacts}
 use Rattle.hfs_bag.specs.declared.fault.BagFault.{BagFault}
 use Rattle.hfs_bag.specs.declared.fault.BagFault.TheVariants as bag
 use Rattle.hfs_bag.specs.declared.item.BagHead.{BagHead}
 use Rattle.hfs_bag.specs.declared.item.ItemDigests.{ItemDigests}
 use Rattle.hfs_bag.specs.declared.source.SourceFault.{SourceFault}
 use Rattle.hfs_bag.specs.Items.{BagItem, item_entries}
-use Rattle.hfs_bag.specs.Sources.{SourceState, HasItem, WhereKnown}
-use Rattle.hfs_bag.specs.Bags.{bytes_in, items_entries}
+use Rattle.hfs_bag.specs.Sources.{BagTables, SourceState, HasItem, WhereKnown}
+use Rattle.hfs_bag.specs.Bags.{bytes_in, items_entries, payload}
 use Rattle.hfs_bag.specs.Giving.{HasGiven}
+use Rattle.hfs_bag.specs.Tags.{bag_of, tag_files}
 use Rattle.hfs_bag.specs.Faults.{AreTooMany, HasFailed, IsBagFault}
 use Rattle.hfs_bag.proofs.GivingLemmas.{bytes_in-append, items_entries-append}
 
@@ -57,6 +59,10 @@ rest-large g0 g1 s0 s1 ds n given many known =
     ap (λ (items : List BagItem). bytes_in (items_entries items)) given.left ∙ ap bytes_in (items_entries-append given.items s1.left)
     ∙ bytes_in-append (items_entries given.items) (items_entries s1.left) in
     omega (arith, sum, given.bytes known, many (given.known ∙ known))
+
+-- a bag is too large where its payload is
+pub bag-large : (items : List BagItem) (tables : BagTables) (facts : BagFacts) → AreTooMany (bytes_in (payload items)) → AreTooMany (bytes_in (bag_of items tables facts))
+bag-large items tables facts many = omega (arith, bytes_in-append (payload items) (tag_files items tables facts), many)
 
 -- what cannot be known is not
 pub not-known : (known : Bool) → (known ≡ true → ⊥) → known ≡ false
