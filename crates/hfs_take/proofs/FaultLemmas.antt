@@ -3,7 +3,6 @@ use Rattle.std.proofs.Common.{◌≡◌, ◌⊎◌, ℕ, true, List, [], Option,
 use Rattle.std.specs.Prelude.{⊤, string_bytes, unwrap_or}
 use Rattle.hfs_bag.specs.declared.fault.BagFault.{BagFault}
 use Rattle.hfs_bag.specs.declared.fault.BagFault.TheVariants as bag
-use Rattle.hfs_bag.specs.declared.source.SourceFault.{SourceFault}
 use Rattle.hfs_bag.specs.declared.source.SourceFault.TheVariants as source
 use Rattle.hfs_bag.specs.Bags.{bytes_in, payload}
 use Rattle.hfs_bag.specs.Faults.{AreTooMany, IsBagFault}
@@ -55,14 +54,15 @@ pub of_shelf : (words : TakeWords) (why : ShelfFault) (found : TakeFault) → fo
 of_shelf words (shelf.CannotWrite path) found same tells = known words found _ same tells
 of_shelf words shelf.NoMemory found same tells = known words found _ same (unstored words NoMemory refl)
 
-pub of_bag : (words : TakeWords) (fault : BagFault) (found : TakeFault) (new : List ℕ) {Gave : SourceFault → Type 0} {IsLarge : Type 0} → IsNewFolder words.folder.now new
-    → IsBagFault Gave (TellsWithin new) IsLarge fault → (fault ≡ bag.Source source.ReadFailed → found ≡ take.Image (CannotRead words.image))
+-- a bag's fault tells what its shelf's does, which writes that folder
+pub of_bag : (words : TakeWords) (fault : BagFault) (found : TakeFault) (new : List ℕ) → IsNewFolder words.folder.now new
+    → ((why : ShelfFault) → fault ≡ bag.Shelf why → TellsWithin new why) → (fault ≡ bag.Source source.ReadFailed → found ≡ take.Image (CannotRead words.image))
     → (fault ≡ bag.Source source.Memory → found ≡ take.Image NoMemory) → KeepsShelfFault fault found
     → (fault ≡ bag.TooLarge → found ≡ take.Image (Refused mount.TooLarge)) → IsTakeFault words found
-of_bag words (bag.Source source.ReadFailed) found new is came read memory shelved large = known words found _ (read refl) (unread words _ refl)
-of_bag words (bag.Source source.Memory) found new is came read memory shelved large = known words found _ (memory refl) (unstored words _ refl)
-of_bag words (bag.Shelf why) found new is came read memory shelved large = of_shelf words why found (shelved why refl) (unfilled words.folder.now new why is came)
-of_bag words bag.TooLarge found new is came read memory shelved large = known words found _ (large refl) (inr (mount.TooLarge, refl))
+of_bag words (bag.Source source.ReadFailed) found new is told read memory shelved large = known words found _ (read refl) (unread words _ refl)
+of_bag words (bag.Source source.Memory) found new is told read memory shelved large = known words found _ (memory refl) (unstored words _ refl)
+of_bag words (bag.Shelf why) found new is told read memory shelved large = of_shelf words why found (shelved why refl) (unfilled words.folder.now new why is (told why refl))
+of_bag words bag.TooLarge found new is told read memory shelved large = known words found _ (large refl) (inr (mount.TooLarge, refl))
 
 -- what is too large where an image's bytes are known is the payload of its items
 pub fill-fault : (ShelfGave : ShelfFault → Type 0) (image : Option (List ℕ)) (len : ℕ) (fault : BagFault)
