@@ -1,5 +1,5 @@
 -- What is given is the bag of the image.
-use Rattle.std.proofs.Common.{◌≡◌, List, ◌++◌, Option, ap, refl, sym, subst, rules, ◌∙◌}
+use Rattle.std.proofs.Common.{◌≡◌, List, ◌++◌, ap, refl, sym, subst, rules, ◌∙◌}
 use Rattle.std.specs.Prelude.{⊤}
 use Rattle.hfs_bag.proofs.FaultLemmas.{any-source, larger}
 use Rattle.hfs_bag.proofs.Growing.{on_err}
