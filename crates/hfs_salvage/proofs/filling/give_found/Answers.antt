@@ -1,5 +1,5 @@
 -- What is given of what was found is given of the image.
-use Rattle.std.proofs.Common.{◌≡◌, ◌∙◌, ℕ, List, ◌++◌, length, Global, ap, refl, sym, subst, rules}
+use Rattle.std.proofs.Common.{◌≡◌, ◌∙◌, ℕ, List, ◌++◌, length, Global, map, ap, refl, sym, subst, rules}
 use Rattle.std.specs.Prelude.{⊤, string_bytes}
 use Rattle.std.specs.Option.{option_map}
 use Rattle.hfs_bag.proofs.FaultLemmas.{any-source, bag-large, larger}
@@ -10,7 +10,7 @@ use Rattle.hfs_bag.specs.declared.facts.BagFacts.{BagFacts}
 use Rattle.hfs_fields.specs.declared.mdb.Mdb.{Mdb}
 use Rattle.hfs_rescue_items.specs.declared.items.RescueItems.{RescueItems}
 use Rattle.hfs_rescue_items.specs.Plan.{whole_plan}
-use Rattle.hfs_rescue_items.specs.Sources.{planned_item}
+use Rattle.hfs_rescue_items.specs.Sources.{planned_item, rescued_tables}
 use Rattle.hfs_shelves.specs.Entries.{IsBeginning, ShelfEntry}
 use Rattle.hfs_salvage.specs.Bags.{IsUnfilled, TellsOf}
 use Rattle.hfs_salvage.proofs.BagLemmas.{nothing_given, of_bag, source_bag}
@@ -108,6 +108,6 @@ returns-in_err-give_bag-clause-fault g c =
     let Shelf = g.S.Shelf.Fails (g.S.Shelf.place c.args.shelf.now) in
     let fault : IsUnfilled Shelf image line c.args.words.now c.in_err-give_bag.field-0.0 = larger (λ _. ⊤) Shelf c.in_err-give_bag.field-0.0
     (λ many. of_bag image line c.args.words.now c.args.found.now facts (λ (bag : List ShelfEntry). AreTooMany (bytes_in bag)) c.requires.found tells
-    (subst (λ (bag : List ShelfEntry). AreTooMany (bytes_in bag)) same (bag-large _ _ facts (many refl))))
+    (subst (λ (bag : List ShelfEntry). AreTooMany (bytes_in bag)) same (bag-large (map (planned_item made.found) made.plan.items) (rescued_tables made.found) facts (many refl))))
     (any-source _ Shelf _ c.in_err-give_bag.field-0.0 c.in_err-give_bag.ensures.fault) in
     search rules
