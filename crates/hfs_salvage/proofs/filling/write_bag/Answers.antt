@@ -3,7 +3,7 @@ use Rattle.std.proofs.Common.{Global, subst}
 use Rattle.std.specs.Prelude.{string_bytes}
 use Rattle.std.specs.Option.{option_map}
 use Rattle.hfs_shelves.specs.Told.{TellsWithin}
-use Rattle.hfs_take.proofs.FaultLemmas.{of_bag, of_shelf, uncreated, unplaced}
+use Rattle.hfs_take.proofs.FaultLemmas.{of_bag, of_shelf, uncreated}
 use Rattle.hfs_salvage.specs.Bags.{IsUnfilled}
 use Rattle.hfs_salvage.specs.Words.{as_take_words}
 use Rattle.hfs_salvage.proofs.filling.write_bag.Goals as goal
