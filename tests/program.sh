@@ -19,7 +19,10 @@ fail() {
 wants() {
     local status=$1 text=$2 got=0
     shift 2
-    case $1 in repair) repair_piped "$status" "$@" ;; esac
+    case $1 in
+        repair) repair_piped "$status" "$@" ;;
+        run) run_piped "$status" "$@" ;;
+    esac
     "$tool" "$@" > "$folder/printed" 2> "$folder/errors" || got=$?
     [ "$got" = "$status" ] || fail "'$*' ends with $got"
     printf "$text" | cmp -s - "$folder/printed" || fail "'$*' prints $(cat "$folder/printed")"
@@ -27,6 +30,7 @@ wants() {
     case $1 in
         check | ls | cat) wants_piped "$status" "$@" ;;
         repair) wants_repaired "$status" "$@" ;;
+        run) wants_run "$status" "$@" ;;
     esac
 }
 
@@ -50,6 +54,35 @@ wants_repaired() {
         [ "$status" = 0 ] || [ ! -e "$folder/piped.img" ] || fail "'${*:2}' writes a refused image out of a pipe"
         rm -f "$folder/piped.img"
     fi
+}
+
+# Runs a script on an image out of a pipe, before it is run on the image by its path: FILE may be the image itself.
+run_piped() {
+    local status=$1 image=$3 got=0 words=(run /dev/stdin "${@:4}") at
+    rm -f "$folder/piped.img"
+    [ -f "$image" ] && [ "$status" != 4 ] || return 0
+    for at in "${!words[@]}"; do
+        if [ "${words[at]}" = --out ]; then words[at + 1]=$folder/piped.img; fi
+    done
+    "$tool" "${words[@]}" < <(cat "$image") > "$folder/piped" 2> "$folder/errors" || got=$?
+    [ "$got" = "$status" ] || fail "'${*:2}' ends with $got out of a pipe"
+    [ ! -s "$folder/errors" ] || fail "'${*:2}' writes to standard error out of a pipe"
+}
+
+# Wants that by its path the same is told and written of an image as out of a pipe, which is loaded whole.
+wants_run() {
+    local status=$1 image=$3 file=$folder/piped.img
+    [ -f "$image" ] && [ "$status" != 4 ] || return 0
+    cmp -s "$folder/printed" "$folder/piped" || fail "'${*:2}' prints another thing out of a pipe"
+    while [ $# -gt 1 ]; do
+        if [ "$1" = --out ]; then file=$2; fi
+        shift
+    done
+    if [ "$status" = 0 ] && [ "$file" != "$folder/piped.img" ]; then
+        cmp -s "$file" "$folder/piped.img" || fail "run writes another thing to $file out of a pipe"
+    fi
+    [ "$status" = 0 ] || [ ! -e "$folder/piped.img" ] || fail "run writes a refused image out of a pipe"
+    rm -f "$folder/piped.img"
 }
 
 # Wants the same status and bytes of these words, with the first of them that is a file out of a pipe.

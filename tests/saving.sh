@@ -347,8 +347,21 @@ END
 # Runs over an image of 2,000,000,000 bytes, most of them holes, that another program changes, cuts, makes longer or replaces while it is read.
 # The new file stands beside FILE from before the pass over the image on.
 changed_while_read() {
-    lay 640
-    python3 - "$folder/wrong.img" "$here/image.img" "$here/file.img" "${as[@]}" "$tool" << 'END' || fail 'an image that changes while it is read'
+    local name words=()
+    for name in repair run; do
+        lay 640
+        case $name in
+            repair) words=(repair "$here/image.img" "$here/file.img") ;;
+            run) words=(run "$here/image.img" "$folder/script" --out "$here/file.img") ;;
+        esac
+        changed_by "$name" "${as[@]}" "$tool" "${words[@]}"
+    done
+}
+
+changed_by() {
+    local name=$1
+    shift
+    python3 - "$folder/$([ "$name" = run ] && echo small || echo wrong).img" "$here/image.img" "$here/file.img" "$@" << 'END' || fail "$name of an image that changes while it is read"
 import os, shutil, subprocess, sys
 small, path, file, words = sys.argv[1], sys.argv[2], sys.argv[3], sys.argv[4:]
 old = open(file, "rb").read()
@@ -365,7 +378,7 @@ for name, change in [("changed", touch_byte), ("cut", lambda: os.truncate(path, 
         shutil.copy(small, path)
         os.truncate(path, 2_000_000_000)
         os.chmod(path, 0o644)
-        run = subprocess.Popen([*words, "repair", path, file], stdout=subprocess.PIPE, stderr=subprocess.PIPE)
+        run = subprocess.Popen(words, stdout=subprocess.PIPE, stderr=subprocess.PIPE)
         while run.poll() is None and not os.path.exists(file + ".0.new"):
             pass
         change()
@@ -388,10 +401,10 @@ END
 }
 
 "$tool" new "$folder/large.new.img" D 8192 40 4
-cp "$folder/large.new.img" "$folder/large.small.img"
 cp "$folder/large.new.img" "$folder/large.repair.img"
-# Zeros are left out of what repair writes, so that this image has none in its free blocks.
+# Zeros are left out of what repair and run write, so that this image has none in its free blocks.
 head -c 3900000 /dev/zero | tr '\000' '\245' | dd of="$folder/large.repair.img" bs=65536 seek=200000 oflag=seek_bytes conv=notrunc 2> "$folder/words"
+cp "$folder/large.repair.img" "$folder/large.small.img"
 cp "$folder/large.repair.img" "$folder/large.wrong.img"
 printf '\000\000\000\001' | dd of="$folder/large.wrong.img" bs=1 seek=$((2 * 512 + 84)) conv=notrunc 2> "$folder/words"
 "$tool" run "$folder/large.small.img" "$folder/script" --out "$folder/large.run.img" > "$folder/printed"

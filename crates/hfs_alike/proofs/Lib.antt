@@ -3,3 +3,4 @@ pub mod BareReplies
 pub mod BareChoices
 pub mod BareChanges
 pub mod LawsProved
+pub mod NamedItems

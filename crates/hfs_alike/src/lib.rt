@@ -2,7 +2,9 @@
 #![tactic(auto)]
 
 mod laws;
+mod named;
 
 pub use crate::laws::{
     alike_after, alike_volumes_answer_alike, alike_within, kept_forks_read_alike,
 };
+pub use crate::named::{asked_answer_alike, named_stay_kept};

@@ -1,8 +1,9 @@
 //! The whole of a bag, and its halves: the payload, and the tag files behind it.
-ghost use Rattle.std.specs.Prelude.{◌≡◌, ◌++◌, IfOk, OnErr, OnOk};
+ghost use Rattle.std.specs.Prelude.{◌≡◌, ◌++◌, IfErr, IfOk, OnErr, OnOk};
 ghost use Rattle.hfs_shelves.specs.Entries.{IsBeginning};
 ghost use Rattle.hfs_bag.specs.Sources.{KeepsItems, WhereKnown};
 ghost use Rattle.hfs_bag.specs.Bags.{payload};
+ghost use Rattle.hfs_bag.specs.Faults.{HasFailed, IsFillFault, IsPassedOn, IsPayloadFault};
 ghost use Rattle.hfs_bag.specs.Payloads.{IsPayloadOf};
 ghost use Rattle.hfs_bag.specs.Sums.{IsSumOf};
 ghost use Rattle.hfs_bag.specs.Tags.{bag_of, tag_files};
@@ -30,6 +31,9 @@ pub fn give_payload<S: Shelf, B: BagSource>(
     ensures told { IfOk result (λ given. WhereKnown (B.state source.old)
         (IsPayloadOf given (B.state source.old).all)) }
     ensures kept { OnOk result (KeepsItems (B.state source.old) (B.state source.new)) }
+    ensures fault { IfErr result (IsPayloadFault B.Fails (S.Fails (S.place shelf.old))
+        (B.state source.old)) }
+    ensures place { S.place shelf.new ≡ S.place shelf.old }
 {
     source.restart()?;
     shelf.make_folder("data")?;
@@ -53,10 +57,11 @@ pub fn give_tag_files<S: Shelf, B: BagSource>(
         (IsBeginning (S.given shelf.new) (S.given shelf.old ++ tag_files (B.state source.old).all (B.state source.old).tables facts.now))) }
     ensures sums { IfOk result (λ sums. WhereKnown (B.state source.old)
         (IsSumOf sums (B.state source.old).all)) }
+    ensures fault { IfErr result (IsPassedOn (HasFailed B.Fails (B.state source.old).known)
+        (S.Fails (S.place shelf.old))) }
+    ensures place { S.place shelf.new ≡ S.place shelf.old }
 {
-    let Some(streams) = count_streams(&given.digests) else {
-        return Err(BagFault::TooLarge);
-    };
+    let streams = count_streams(&given.digests);
     give_tags(alloc, shelf, source, facts, given, streams)?;
     let items = given.digests.len();
     let files = count_files(&given.digests);
@@ -81,6 +86,9 @@ pub fn give_bag<S: Shelf, B: BagSource>(
         (IsBeginning (S.given shelf.new) (S.given shelf.old ++ bag_of (B.state source.old).all (B.state source.old).tables facts.now))) }
     ensures sums { IfOk result (λ sums. WhereKnown (B.state source.old)
         (IsSumOf sums (B.state source.old).all)) }
+    ensures fault { IfErr result (IsFillFault B.Fails (S.Fails (S.place shelf.old))
+        (B.state source.old)) }
+    ensures place { S.place shelf.new ≡ S.place shelf.old }
 {
     let given = give_payload(alloc, shelf, source)?;
     let sums = give_tag_files(alloc, shelf, source, facts, &given)?;

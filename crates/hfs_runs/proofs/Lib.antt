@@ -1,6 +1,6 @@
 mod Reading
 mod Parts
-mod Small
+pub mod Small
 mod Texts
 mod OneJournal
 mod Learning

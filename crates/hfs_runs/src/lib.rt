@@ -14,4 +14,4 @@ mod viewing;
 
 pub use fault::ScriptFault;
 pub use hfs_shared::Gate;
-pub use running::{Ran, run_script, run_script_at};
+pub use running::{Ran, run_script, run_script_at, run_volume_at};

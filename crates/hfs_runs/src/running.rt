@@ -6,7 +6,7 @@ ghost use Rattle.hfs_scripts.specs.Callers.{workers, viewers};
 ghost use Rattle.hfs_shared.specs.Shareds.{IsStart};
 ghost use Rattle.hfs_shared.specs.Works.{AreDone};
 ghost use Rattle.hfs_runs.specs.Asking.{IsSmall};
-ghost use Rattle.hfs_runs.specs.Runs.{IsRunFault, IsScriptRunAs, AreLinesRunAs};
+ghost use Rattle.hfs_runs.specs.Runs.{IsRunFault, IsScriptRunAs, IsStartFault, AreLinesRunAs};
 ghost use Rattle.hfs_runs.specs.Views.{AreViewed};
 
 use crate::answers::answers_text;
@@ -153,6 +153,21 @@ pub fn run_script_at<R: Threads + Wait + Sync, G: Gate + Sync>(
         Err(fault) => return Err(ScriptFault::of_script(fault)),
     };
     let volume = mounted(alloc, image)?;
+    run_volume_at(rt, alloc, gate, volume, script)
+}
+
+/// As `run_script_at`, on a volume that is mounted already, with a script that was read. Faults in order: `NoPlace`; and `Memory`.
+pub fn run_volume_at<R: Threads + Wait + Sync, G: Gate + Sync>(
+    rt: &R,
+    alloc: Global,
+    gate: &G,
+    volume: Volume,
+    script: Script,
+) -> Result<Ran, ScriptFault>
+    requires small { All (λ l. IsSmall l.caller) script }
+    ensures ok { IfOk result (λ ran. AreLinesRunAs volume.current script ran) }
+    ensures err { IfErr result IsStartFault }
+{
     let (parts, passes, viewers) = start(rt, alloc, volume, &script)?;
     run_shared::<Brand, _, _>(rt, alloc, gate, parts, passes, viewers, script)
 }

@@ -5,26 +5,26 @@ use crate::by_volume::{tell_check, tell_fork, tell_info, tell_items, tell_list, 
 use crate::collecting::collect;
 use crate::hints::tell_hint;
 use crate::pages::print_page;
-use crate::progress::Progress;
 use crate::rescuing::{list_remains, rescue_volume};
+use crate::running::run_script_of;
 use crate::saving::{save, save_as_read, tell};
 use crate::taking::take_volume;
 use crate::volumes::print_volumes;
-use crate::words::{FileWords, ForkWords, NewVolume, RunWords, Words};
+use crate::words::{FileWords, ForkWords, NewVolume, Words};
 use hfs_check::MountFault;
 use hfs_commands::{
     BlockSource, ByteSource, CheckAnswer, Fault, Format, ImageFile, NeededFile, NeededRepair,
-    OpenedImage, Ran, RepairAnswer, Status, WatchedFile, WatchedImage, check_answer, code_text,
-    list_text, load_file, load_script, needed_check_answer, needed_file, needed_repair_answer,
-    open_image, open_watched, opened_list_text, put, put_macbinary, refused_text, repair_answer,
-    run_info, run_script_at, write_fork, write_items, write_macbinary,
+    OpenedImage, RepairAnswer, Status, WatchedFile, WatchedImage, check_answer, code_text,
+    list_text, needed_check_answer, needed_file, needed_repair_answer, open_image, open_watched,
+    opened_list_text, put, put_macbinary, refused_text, repair_answer, run_info, write_fork,
+    write_items, write_macbinary,
 };
 use hfs_format::{FormatPlan, format};
 use hfs_model::Reply;
 use hfs_volume::{Volume, mount};
 use std::alloc::AllocError;
 use std::fs::File;
-use std::io::{IsTerminal, Read, Write};
+use std::io::{Read, Write};
 use std::sync::Wait;
 use std::thread::Threads;
 
@@ -57,7 +57,7 @@ pub fn obey<'a, T: Threads + Wait + Sync>(
         Words::Collect(words) => collect(rt, words),
         Words::New(volume) => write_new(rt, volume),
         Words::Repair { image, file } => write_repaired(rt, *image, *file),
-        Words::Run(run) => print_answers(rt, threads, run),
+        Words::Run(run) => run_script_of(rt, threads, run),
     }
 }
 
@@ -462,43 +462,6 @@ fn write_answer<'a>(
         tell_hint(rt, why);
     }
     Ok(answer.status)
-}
-
-/// Runs a script on an image, and prints the answers. The changed image is written before the first line is printed; where
-/// that fails, only the fault is printed.
-fn print_answers<'a, T: Threads + Wait + Sync>(
-    rt: &HostRuntime,
-    threads: &T,
-    run: &RunWords<'a>,
-) -> Result<u8, Fault<'a>> {
-    let image = load_file(rt, run.image)?;
-    let script = load_script(rt, run.script)?;
-    let progress = Progress {
-        rt,
-        is_shown: rt.stderr().is_terminal(),
-    };
-    match run_script_at(
-        threads,
-        rt.alloc(),
-        &progress,
-        image,
-        script.as_slice(),
-        run.now,
-    ) {
-        Ok(ran) => print_ran(rt, run.out, &ran),
-        Err(fault) => Err(Fault::of_run(fault)),
-    }
-}
-
-/// Writes the changed image to its file, where one is given, and prints the answers.
-fn print_ran<'a>(rt: &HostRuntime, out: Option<&'a str>, ran: &Ran) -> Result<u8, Fault<'a>> {
-    let leftover = match out {
-        Some(file) => save(rt, file, &ran.volume)?,
-        None => None,
-    };
-    print_lines(rt, ran.text.as_str())?;
-    tell(rt, &leftover);
-    Ok(Status::of_run(ran.whole).number())
 }
 
 /// Prints why an image is refused, and what that means.

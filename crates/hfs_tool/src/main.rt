@@ -14,6 +14,7 @@ mod pages;
 mod progress;
 mod reading;
 mod rescuing;
+mod running;
 mod saving;
 mod taking;
 mod volumes;

@@ -1,0 +1,157 @@
+//! Scripts that are run on images of which only what they need is read.
+ghost use Rattle.std.specs.Prelude.{◌≡◌, ◌≤◌, ◌⊎◌, ◌/◌, All, IfErr, IfOk, Ok, Some};
+ghost use Rattle.hfs_blocks.specs.Layers.{changes, AreWithin};
+ghost use Rattle.hfs_check.specs.Faults.{fault_of};
+ghost use Rattle.hfs_needed.specs.Known.{OfKnown};
+ghost use Rattle.hfs_runs.specs.Asking.{IsSmall};
+ghost use Rattle.hfs_scripts.specs.Scripts.{script_of};
+ghost use Rattle.hfs_commands.specs.Faults.{IsTooMuch};
+ghost use Rattle.hfs_commands.specs.Running.{IsNeededFault, IsNeededRun, IsScriptFault, run_value};
+
+use crate::fault::Fault;
+use crate::patched_image::PatchedImage;
+use crate::watched::Watched;
+use hfs_check::MountFault;
+use hfs_needed::NeededFault;
+use hfs_needed_runs::{NeededRan, fetch_named_forks, run_needed_at};
+use hfs_runs::{Gate, ScriptFault};
+use hfs_scripts::{Script, read_script};
+use hfs_sparse::BlockSource;
+use hfs_texts::IMAGE_LIMIT;
+use hfs_working::{WorkingVolume, open_working};
+use std::alloc::Global;
+use std::marker::Model;
+use std::sync::Wait;
+use std::thread::Threads;
+
+/// An image on which a script is to be run, of which the blocks were read that calls read and write.
+#[derive(Drop)]
+pub struct RunImage<S: BlockSource> {
+    /// Where the forks are read from that a script may read.
+    source: S,
+    /// How many bytes the image has.
+    len: u64,
+    working: WorkingVolume,
+}
+
+impl<S: BlockSource> Model for RunImage<S> {
+    ghost use Rattle.hfs_commands.specs.Running.{RunValue, run_value, IsRunnable};
+
+    ghost Value = { RunValue };
+
+    ghost view = { λ image. run_value (S.image image.source) image.len };
+
+    ghost invariant = { λ image. IsRunnable (S.image image.source) image.len image.working };
+}
+
+/// What a run of a script made of an image.
+#[derive(Drop)]
+pub struct RanImage<S: BlockSource> {
+    /// The image with what was changed laid over it, as what a file is to hold.
+    pub image: PatchedImage<S>,
+    /// The lines of the answers.
+    pub text: String,
+    /// Whether each line was answered.
+    pub whole: bool,
+}
+
+/// What a run made, with the image that it was made of.
+fn ran_image<S: BlockSource>(alloc: Global, source: S, len: u64, ran: NeededRan) -> RanImage<S>
+    requires small { len ≤ 2147483648 }
+    requires within { AreWithin (changes ran.patch) (len / 512) }
+    ensures patch { result.image.patch ≡ ran.patch }
+    ensures text { result.text ≡ ran.text }
+    ensures whole { result.whole ≡ ran.whole }
+{
+    let NeededRan {
+        patch,
+        text,
+        whole,
+        shown: _,
+    } = ran;
+    let image = PatchedImage {
+        alloc,
+        source,
+        len,
+        patch,
+    };
+    RanImage { image, text, whole }
+}
+
+/// The script that bytes are, whose changes are made at the moment `now`. Faults: `ScriptTooLarge`, `ScriptLine`, `NoMemory`.
+pub fn script_lines(alloc: Global, bytes: &[u8], now: u32) -> Result<Script, Fault<'static>>
+    ensures read { IfOk result (λ script. script_of now bytes.now ≡ Ok script) }
+    ensures small { IfOk result (λ script. All (λ line. IsSmall line.caller) script) }
+    ensures fault { IfErr result (IsScriptFault now bytes.now) }
+{
+    match read_script(alloc, bytes, now) {
+        Ok(script) => Ok(script),
+        Err(fault) => Err(Fault::of_run(ScriptFault::of_script(fault))),
+    }
+}
+
+impl<S: BlockSource + Watched + Drop> RunImage<S> {
+    /// Reads the blocks that calls read and write of an image of `len` bytes, which was opened by this path, and makes all checks. Or tells why the
+    /// image is refused, which is a fault once the script was read. Faults: `CannotRead` where a read fails, `Refused(TooLarge)`,
+    /// `NoMemory`.
+    pub fn open<'a>(
+        alloc: Global,
+        source: S,
+        len: u64,
+        path: &'a str,
+    ) -> Result<Result<RunImage<S>, MountFault>, Fault<'a>>
+        ensures image { IfOk result (λ opened. IfOk opened (λ image.
+            image ≡ run_value (S.image source) len)) }
+        ensures refused { IfOk result (λ opened. IfErr opened (λ why.
+            OfKnown (S.image source) len (λ bytes. fault_of bytes ≡ Some why))) }
+        ensures fault { IfErr result (λ why. (why ≡ Fault.CannotRead path.entry) ⊎ IsTooMuch why) }
+    {
+        if len > IMAGE_LIMIT as u64 {
+            return Err(Fault::Refused(MountFault::TooLarge));
+        }
+        let mut source = source;
+        match open_working(alloc, &mut source, len) {
+            Ok(working) => Ok(Ok(RunImage {
+                source,
+                len,
+                working,
+            })),
+            Err(NeededFault::Refused(why)) => Ok(Err(why)),
+            Err(NeededFault::ReadFailed) => Err(Fault::CannotRead(path)),
+            Err(NeededFault::Memory) => Err(Fault::NoMemory),
+        }
+    }
+
+    /// Reads the forks that a script may read, and runs the script, with a gate that is called around each call of a worker. Faults: `CannotRead`
+    /// of this path where a read fails, or where the image has changed since it was opened; `NoPlace`; `NoMemory`.
+    pub fn run_at<'a, R: Threads + Wait + Sync, G: Gate + Sync>(
+        self,
+        rt: &R,
+        alloc: Global,
+        gate: &G,
+        script: Script,
+        path: &'a str,
+    ) -> Result<RanImage<S>, Fault<'a>>
+        requires { All (λ line. IsSmall line.caller) script }
+        ensures ran { IfOk result (IsNeededRun self.known self.len script) }
+        ensures fault { IfErr result (IsNeededFault path.entry) }
+    {
+        let RunImage {
+            source,
+            len,
+            working,
+        } = self;
+        let mut source = source;
+        let mut working = working;
+        if let Err(fault) = fetch_named_forks(alloc, &mut source, &mut working, &script) {
+            return Err(Fault::of_sparse(fault, path));
+        }
+        if source.look_again().is_err() {
+            return Err(Fault::CannotRead(path));
+        }
+        match run_needed_at(rt, alloc, gate, working, len, script) {
+            Ok(ran) => Ok(ran_image(alloc, source, len, ran)),
+            Err(fault) => Err(Fault::of_run(fault)),
+        }
+    }
+}

@@ -1,0 +1,5 @@
+pub mod ForkPlaces
+pub mod KeptBlocks
+pub mod MoreRead
+pub mod WorkingRuns
+pub mod KeptWorking

@@ -1,0 +1,4 @@
+pub mod Naming
+pub mod NamedForks
+pub mod Keeping
+pub mod NeededRuns

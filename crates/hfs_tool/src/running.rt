@@ -1,0 +1,112 @@
+//! What the word `run` does.
+
+use crate::commands::print_lines;
+use crate::progress::Progress;
+use crate::saving::{save, save_as_read, tell};
+use crate::words::RunWords;
+use hfs_commands::{
+    Fault, Leftover, Ran, RanImage, RunImage, Status, WatchedFile, WatchedImage, load_script,
+    open_watched, run_script_at, script_lines,
+};
+use std::fs::File;
+use std::io::IsTerminal;
+use std::sync::Wait;
+use std::thread::Threads;
+
+/// Runs a script on an image, and prints the answers. The changed image is written before the first line is printed; where
+/// that fails, only the fault is printed.
+pub fn run_script_of<'a, T: Threads + Wait + Sync>(
+    rt: &HostRuntime,
+    threads: &T,
+    run: &RunWords<'a>,
+) -> Result<u8, Fault<'a>> {
+    match open_watched(rt, run.image)? {
+        WatchedImage::InFile(source) => run_in_file(rt, threads, run, source),
+        WatchedImage::Whole(image) => run_whole(rt, threads, run, image),
+    }
+}
+
+/// The progress of a run that standard error shows.
+fn progress(rt: &HostRuntime) -> Progress<'_> {
+    Progress {
+        rt,
+        is_shown: rt.stderr().is_terminal(),
+    }
+}
+
+/// Runs a script on an image of which all bytes are there.
+fn run_whole<'a, T: Threads + Wait + Sync>(
+    rt: &HostRuntime,
+    threads: &T,
+    run: &RunWords<'a>,
+    image: Vec<u8>,
+) -> Result<u8, Fault<'a>> {
+    let script = load_script(rt, run.script)?;
+    match run_script_at(
+        threads,
+        rt.alloc(),
+        &progress(rt),
+        image,
+        script.as_slice(),
+        run.now,
+    ) {
+        Ok(ran) => print_ran(rt, run.out, &ran),
+        Err(fault) => Err(Fault::of_run(fault)),
+    }
+}
+
+/// Writes the changed image to its file, where one is given, and prints the answers.
+fn print_ran<'a>(rt: &HostRuntime, out: Option<&'a str>, ran: &Ran) -> Result<u8, Fault<'a>> {
+    let leftover = match out {
+        Some(file) => save(rt, file, &ran.volume)?,
+        None => None,
+    };
+    print_answers(rt, ran.text.as_str(), ran.whole, &leftover)
+}
+
+/// Runs a script on an image in a file, of which only what the script needs is read. A refused image is a fault once the script was read.
+fn run_in_file<'a, T: Threads + Wait + Sync>(
+    rt: &HostRuntime,
+    threads: &T,
+    run: &RunWords<'a>,
+    source: WatchedFile<File>,
+) -> Result<u8, Fault<'a>> {
+    let len = source.len();
+    let opened = RunImage::open(rt.alloc(), source, len, run.image)?;
+    let bytes = load_script(rt, run.script)?;
+    let script = script_lines(rt.alloc(), bytes.as_slice(), run.now)?;
+    match opened {
+        Ok(image) => {
+            let ran = image.run_at(threads, rt.alloc(), &progress(rt), script, run.image)?;
+            print_ran_image(rt, run, ran)
+        }
+        Err(why) => Err(Fault::Refused(why)),
+    }
+}
+
+/// Writes the changed image to its file as it is read, where one is given, and prints the answers.
+fn print_ran_image<'a>(
+    rt: &HostRuntime,
+    run: &RunWords<'a>,
+    ran: RanImage<WatchedFile<File>>,
+) -> Result<u8, Fault<'a>> {
+    let RanImage { image, text, whole } = ran;
+    let mut image = image;
+    let leftover = match run.out {
+        Some(file) => save_as_read(rt, file, run.image, &mut image)?,
+        None => None,
+    };
+    print_answers(rt, text.as_str(), whole, &leftover)
+}
+
+/// Prints the answers to a script, and tells of a file beside the written one that was there already.
+fn print_answers(
+    rt: &HostRuntime,
+    text: &str,
+    whole: bool,
+    leftover: &Option<Leftover>,
+) -> Result<u8, Fault<'static>> {
+    print_lines(rt, text)?;
+    tell(rt, leftover);
+    Ok(Status::of_run(whole).number())
+}
