@@ -18,7 +18,8 @@ use hfs_shelves::Shelf;
 use std::alloc::Global;
 
 /// Gives a shelf the payload of a bag, in the order of the source's items, and answers what is kept of it for the tag files, which
-/// [`give_tag_files`] gives behind it. At a fault what was given is a beginning of the payload.
+/// [`give_tag_files`] gives behind it. At a fault what was given is a beginning of the payload. Faults: the source's, the shelf's, memory was
+/// refused; `TooLarge`.
 pub fn give_payload<S: Shelf, B: BagSource>(
     alloc: Global,
     shelf: &mut S,
@@ -42,7 +43,7 @@ pub fn give_payload<S: Shelf, B: BagSource>(
 }
 
 /// Gives a shelf the tag files of a bag, whose payload was given, and answers how much the bag holds. At a fault what was given is a beginning of
-/// them.
+/// them. Faults: the source's, the shelf's, memory was refused; `ReadFailed` also where a source whose bytes aren't known tells fewer items.
 pub fn give_tag_files<S: Shelf, B: BagSource>(
     alloc: Global,
     shelf: &mut S,
@@ -73,7 +74,8 @@ pub fn give_tag_files<S: Shelf, B: BagSource>(
 }
 
 /// Gives a shelf the bag of all items of a source, and answers how much it holds: the payload, in the order of the items, and then the tag
-/// files. At a fault what was given is a beginning of the bag. All this where the source's bytes are known; a file's are not.
+/// files. At a fault what was given is a beginning of the bag. All this where the source's bytes are known; a file's are not. Faults: as both
+/// halves have them.
 pub fn give_bag<S: Shelf, B: BagSource>(
     alloc: Global,
     shelf: &mut S,
