@@ -18,7 +18,7 @@ from pathlib import Path
 
 ROOT = Path(__file__).resolve().parent.parent
 BEGINNING = re.compile(r'^( *)(?:pub(?:\([a-z]+\))? )?(?:unsafe )?fn (\w+)', re.M)
-HEAD = re.compile(r"^impl(?:<[^>]*>)? (?:(?:\w+::)*(\w+)(?:<[\w:<>', ]*>)? for )?(\w+)", re.M)
+HEAD = re.compile(r"^impl(?:<[^>]*>)? (?:(?:\w+::)*(\w+)(?:<(?:(?:\w+::)*([A-Z]\w*))?[\w:<>', ]*>)? for )?(\w+)", re.M)
 SAID = re.compile(r'not proved|error|no proof')
 
 
@@ -43,8 +43,8 @@ def function_around(crate, file, text, place, folder):
         return None
     indent, name = begun[-1].groups()
     if indent:
-        trait, kind = list(HEAD.finditer(before[:begun[-1].start()]))[-1].groups()
-        name = f'{kind}{trait or ""}::{name}'
+        trait, argument, kind = list(HEAD.finditer(before[:begun[-1].start()]))[-1].groups()
+        name = f'{kind}{trait or ""}{argument or ""}::{name}'
         module = module if trait else home_of(kind, module, folder)
     return '::'.join([crate, *module, name])
 

@@ -5,4 +5,5 @@ pub mod GivingLemmas
 pub mod ListingLemmas
 pub mod TagLemmas
 pub mod HalfLemmas
+pub mod FaultLemmas
 pub mod PathLemmas

@@ -1,5 +1,5 @@
 -- Lines of manifests that go to a shelf one behind another.
-use Rattle.std.proofs.Common.{◌≡◌, true, ℕ, List, [], ◌∷◌, ◌++◌, map, refl, sym, ap, ◌∙◌, subst, append_assoc, append-nil}
+use Rattle.std.proofs.Common.{◌≡◌, ℕ, List, [], ◌∷◌, ◌++◌, map, refl, sym, ap, ◌∙◌, subst, append_assoc, append-nil}
 use Rattle.std.proofs.lemmas.List.Concat.{flat_map-append}
 use Rattle.hfs_shelves.specs.Entries.{ShelfEntry, with_piece, IsBeginning}
 use Rattle.hfs_shelves.proofs.Beginnings.{with_piece-none, with_piece-twice, begins_longer_piece}

@@ -1,5 +1,5 @@
 -- Pieces of a stream that go to a shelf and to a digest.
-use Rattle.std.proofs.Common.{◌≡◌, true, ℕ, List, [], ◌++◌, refl, sym, ap, ◌∙◌, subst, append_assoc, append-nil}
+use Rattle.std.proofs.Common.{◌≡◌, ℕ, List, [], ◌++◌, refl, sym, ap, ◌∙◌, subst, append_assoc, append-nil}
 use Rattle.hfs_shelves.specs.Entries.{ShelfEntry, with_piece, IsBeginning}
 use Rattle.hfs_shelves.proofs.Beginnings.{with_piece-none, with_piece-twice, begins_longer_piece}
 use Rattle.hfs_bag.specs.Sources.{SourceState, SameItems, HasRead, WhereKnown}

@@ -11,8 +11,8 @@ use Rattle.hfs_bag.specs.declared.item.BagKind.TheVariants as kind
 use Rattle.hfs_bag.specs.Items.{BagItem, double_path, entries_of_kind, item_entries, item_path}
 use Rattle.hfs_bag.specs.Bags.{items_entries, payload}
 use Rattle.hfs_bag.specs.Sources.{BagTables}
-use Rattle.hfs_bag.specs.Tags.{bag_of, declaration_file, info_file, manifest_file, remains_files, report_file, table_file, tag_files, tag_manifest_file}
-use Rattle.hfs_bag.specs.Laws.{AllDiffer, AreApart, AreInside, AreParts, ArePlaced, ArePlain, DifferInPath, HasDouble, HasNo, HasOwn, IsApart, IsInside, IsNoneOf, IsPart, IsPlaced, IsPlain, entry_path, folder_path}
+use Rattle.hfs_bag.specs.Tags.{bag_of, declaration_file, info_file, remains_files, report_file, tag_files, tag_manifest_file}
+use Rattle.hfs_bag.specs.Laws.{AllDiffer, AreInside, AreParts, ArePlaced, ArePlain, DifferInPath, HasDouble, HasNo, HasOwn, IsApart, IsInside, IsNoneOf, IsPart, IsPlaced, IsPlain, entry_path, folder_path}
 
 -- ---- numbers
 

@@ -4,6 +4,7 @@ pub mod Filling
 pub mod Bags
 pub mod Giving
 pub mod Payloads
+pub mod Faults
 pub mod Tags
 pub mod TagParts
 pub mod Sums

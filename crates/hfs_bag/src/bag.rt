@@ -1,8 +1,9 @@
 //! The whole of a bag, and its halves: the payload, and the tag files behind it.
-ghost use Rattle.std.specs.Prelude.{◌≡◌, ◌++◌, IfOk, OnErr, OnOk};
+ghost use Rattle.std.specs.Prelude.{◌≡◌, ◌++◌, IfErr, IfOk, OnErr, OnOk};
 ghost use Rattle.hfs_shelves.specs.Entries.{IsBeginning};
 ghost use Rattle.hfs_bag.specs.Sources.{KeepsItems, WhereKnown};
 ghost use Rattle.hfs_bag.specs.Bags.{payload};
+ghost use Rattle.hfs_bag.specs.Faults.{HasFailed, IsFillFault, IsPassedOn, IsPayloadFault};
 ghost use Rattle.hfs_bag.specs.Payloads.{IsPayloadOf};
 ghost use Rattle.hfs_bag.specs.Sums.{IsSumOf};
 ghost use Rattle.hfs_bag.specs.Tags.{bag_of, tag_files};
@@ -17,7 +18,8 @@ use hfs_shelves::Shelf;
 use std::alloc::Global;
 
 /// Gives a shelf the payload of a bag, in the order of the source's items, and answers what is kept of it for the tag files, which
-/// [`give_tag_files`] gives behind it. At a fault what was given is a beginning of the payload.
+/// [`give_tag_files`] gives behind it. At a fault what was given is a beginning of the payload. Faults: the source's, the shelf's, memory was
+/// refused; `TooLarge`.
 pub fn give_payload<S: Shelf, B: BagSource>(
     alloc: Global,
     shelf: &mut S,
@@ -30,6 +32,9 @@ pub fn give_payload<S: Shelf, B: BagSource>(
     ensures told { IfOk result (λ given. WhereKnown (B.state source.old)
         (IsPayloadOf given (B.state source.old).all)) }
     ensures kept { OnOk result (KeepsItems (B.state source.old) (B.state source.new)) }
+    ensures fault { IfErr result (IsPayloadFault B.Fails (S.Fails (S.place shelf.old))
+        (B.state source.old)) }
+    ensures place { S.place shelf.new ≡ S.place shelf.old }
 {
     source.restart()?;
     shelf.make_folder("data")?;
@@ -38,7 +43,7 @@ pub fn give_payload<S: Shelf, B: BagSource>(
 }
 
 /// Gives a shelf the tag files of a bag, whose payload was given, and answers how much the bag holds. At a fault what was given is a beginning of
-/// them.
+/// them. Faults: the source's, the shelf's, memory was refused; `ReadFailed` also where a source whose bytes aren't known tells fewer items.
 pub fn give_tag_files<S: Shelf, B: BagSource>(
     alloc: Global,
     shelf: &mut S,
@@ -53,10 +58,11 @@ pub fn give_tag_files<S: Shelf, B: BagSource>(
         (IsBeginning (S.given shelf.new) (S.given shelf.old ++ tag_files (B.state source.old).all (B.state source.old).tables facts.now))) }
     ensures sums { IfOk result (λ sums. WhereKnown (B.state source.old)
         (IsSumOf sums (B.state source.old).all)) }
+    ensures fault { IfErr result (IsPassedOn (HasFailed B.Fails (B.state source.old).known)
+        (S.Fails (S.place shelf.old))) }
+    ensures place { S.place shelf.new ≡ S.place shelf.old }
 {
-    let Some(streams) = count_streams(&given.digests) else {
-        return Err(BagFault::TooLarge);
-    };
+    let streams = count_streams(&given.digests);
     give_tags(alloc, shelf, source, facts, given, streams)?;
     let items = given.digests.len();
     let files = count_files(&given.digests);
@@ -68,7 +74,8 @@ pub fn give_tag_files<S: Shelf, B: BagSource>(
 }
 
 /// Gives a shelf the bag of all items of a source, and answers how much it holds: the payload, in the order of the items, and then the tag
-/// files. At a fault what was given is a beginning of the bag. All this where the source's bytes are known; a file's are not.
+/// files. At a fault what was given is a beginning of the bag. All this where the source's bytes are known; a file's are not. Faults: as both
+/// halves have them.
 pub fn give_bag<S: Shelf, B: BagSource>(
     alloc: Global,
     shelf: &mut S,
@@ -81,6 +88,9 @@ pub fn give_bag<S: Shelf, B: BagSource>(
         (IsBeginning (S.given shelf.new) (S.given shelf.old ++ bag_of (B.state source.old).all (B.state source.old).tables facts.now))) }
     ensures sums { IfOk result (λ sums. WhereKnown (B.state source.old)
         (IsSumOf sums (B.state source.old).all)) }
+    ensures fault { IfErr result (IsFillFault B.Fails (S.Fails (S.place shelf.old))
+        (B.state source.old)) }
+    ensures place { S.place shelf.new ≡ S.place shelf.old }
 {
     let given = give_payload(alloc, shelf, source)?;
     let sums = give_tag_files(alloc, shelf, source, facts, &given)?;

@@ -1,4 +1,5 @@
 //! Why a bag was not filled.
+ghost use Rattle.std.specs.Prelude.{◌≡◌};
 
 use crate::source::SourceFault;
 use hfs_shelves::ShelfFault;
@@ -16,18 +17,31 @@ pub enum BagFault {
 }
 
 impl From<SourceFault> for BagFault {
+    ghost use Rattle.hfs_bag.specs.declared.fault.BagFault.TheVariants as bag;
+
+    ghost from_gives = { λ why fault. fault ≡ bag.Source why };
+
     fn from(fault: SourceFault) -> BagFault {
         BagFault::Source(fault)
     }
 }
 
 impl From<ShelfFault> for BagFault {
+    ghost use Rattle.hfs_bag.specs.declared.fault.BagFault.TheVariants as bag;
+
+    ghost from_gives = { λ why fault. fault ≡ bag.Shelf why };
+
     fn from(fault: ShelfFault) -> BagFault {
         BagFault::Shelf(fault)
     }
 }
 
 impl From<AllocError> for BagFault {
+    ghost use Rattle.hfs_bag.specs.declared.fault.BagFault.TheVariants as bag;
+    ghost use Rattle.hfs_bag.specs.declared.source.SourceFault.TheVariants as source;
+
+    ghost from_gives = { λ _ fault. fault ≡ bag.Source source.Memory };
+
     fn from(_: AllocError) -> BagFault {
         BagFault::Source(SourceFault::Memory)
     }

@@ -1,9 +1,10 @@
 //! Files of a bag, whose bytes come in pieces, with their digests.
-ghost use Rattle.std.specs.Prelude.{◌≡◌, ◌++◌, IfOk, OnErr, OnOk};
+ghost use Rattle.std.specs.Prelude.{◌≡◌, ◌++◌, IfErr, IfOk, OnErr, OnOk};
 ghost use Rattle.sha2.specs.Hashers.{Holds256};
 ghost use Rattle.sha2.specs.Sha256.{sha256};
 ghost use Rattle.hfs_shelves.specs.Entries.{IsBeginning, with_piece};
 ghost use Rattle.hfs_bag.specs.Sources.{SameItems, WhereKnown, stream_bytes};
+ghost use Rattle.hfs_bag.specs.Faults.{IsOfShelf, IsPassedOn};
 ghost use Rattle.hfs_bag.specs.Filling.{HasMoved, HoldsMore, IsMore, with_whole_file};
 
 use crate::fault::BagFault;
@@ -24,6 +25,8 @@ fn move_piece<S: Shelf, B: BagSource>(
     ensures more { IfOk result (IsMore (B.state source.old) (B.state source.new)) }
     ensures part { OnErr result (WhereKnown (B.state source.old)
         (IsBeginning (S.given shelf.new) (with_piece (S.given shelf.old) (B.state source.old).bytes))) }
+    ensures fault { IfErr result (IsPassedOn B.Fails (S.Fails (S.place shelf.old))) }
+    ensures place { S.place shelf.new ≡ S.place shelf.old }
 {
     source.read(piece)?;
     if piece.is_empty() {
@@ -48,6 +51,8 @@ fn move_stream<S: Shelf, B: BagSource>(
     ensures digest { OnOk result (WhereKnown (B.state source.old)
         (HoldsMore (Holds256 digest.old) (Holds256 digest.new) (B.state source.old).bytes)) }
     ensures same { OnOk result (SameItems (B.state source.old) (B.state source.new)) }
+    ensures fault { IfErr result (IsPassedOn B.Fails (S.Fails (S.place shelf.old))) }
+    ensures place { S.place shelf.new ≡ S.place shelf.old }
 {
     let mut piece = Vec::new(alloc);
     while move_piece(shelf, source, digest, &mut piece)? {}
@@ -71,6 +76,8 @@ pub(crate) fn put_file<S: Shelf, B: BagSource>(
     ensures digest { IfOk result (λ digest. WhereKnown (B.state source.old)
         (digest ≡ sha256 (head.now ++ stream_bytes (B.state source.old) stream))) }
     ensures same { OnOk result (SameItems (B.state source.old) (B.state source.new)) }
+    ensures fault { IfErr result (IsPassedOn B.Fails (S.Fails (S.place shelf.old))) }
+    ensures place { S.place shelf.new ≡ S.place shelf.old }
 {
     source.open(stream)?;
     shelf.make_file(path, modified)?;
@@ -91,6 +98,8 @@ pub(crate) fn put_text<S: Shelf>(
     ensures part { OnErr result (IsBeginning (S.given shelf.new)
         (with_whole_file (S.given shelf.old) path.now text.now)) }
     ensures digest { IfOk result (λ digest. digest ≡ sha256 text.now) }
+    ensures fault { IfErr result (IsOfShelf (S.Fails (S.place shelf.old))) }
+    ensures place { S.place shelf.new ≡ S.place shelf.old }
 {
     shelf.make_file(path, None)?;
     shelf.append(text.as_bytes())?;

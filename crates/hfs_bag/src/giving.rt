@@ -1,9 +1,10 @@
 //! The payload of a bag.
-ghost use Rattle.std.specs.Prelude.{◌≡◌, ◌+◌, ◌++◌, [], ◌∷◌, map, IfOk, OnErr, OnOk};
+ghost use Rattle.std.specs.Prelude.{◌≡◌, ◌+◌, ◌++◌, [], ◌∷◌, map, IfErr, IfOk, OnErr, OnOk};
 ghost use Rattle.hfs_shelves.specs.Entries.{IsBeginning};
 ghost use Rattle.hfs_bag.specs.Items.{item_digests};
 ghost use Rattle.hfs_bag.specs.Sources.{WhereKnown};
 ghost use Rattle.hfs_bag.specs.Bags.{bytes_in, items_entries};
+ghost use Rattle.hfs_bag.specs.Faults.{AreTooMany, IsBagFault};
 ghost use Rattle.hfs_bag.specs.Giving.{HasGiven, IsMoreItems};
 
 use crate::fault::BagFault;
@@ -27,6 +28,7 @@ pub struct GivenPayload {
 fn keep(given: &mut GivenPayload, told: ItemDigests, bytes: u64) -> Result<(), BagFault>
     ensures digests { OnOk result (given.new.digests.items ≡ given.old.digests.items ++ told ∷ []) }
     ensures bytes { OnOk result (given.new.bytes ≡ given.old.bytes + bytes) }
+    ensures fault { IfErr result (IsBagFault (λ _. ⊥) (λ _. ⊥) (AreTooMany (given.old.bytes + bytes))) }
 {
     let Some(sum) = given.bytes.checked_add(bytes) else {
         return Err(BagFault::TooLarge);
@@ -51,6 +53,9 @@ fn give_next<S: Shelf, B: BagSource>(
     ensures more { IfOk result (IsMoreItems (B.state source.old) (B.state source.new)) }
     ensures part { OnErr result (WhereKnown (B.state source.old)
         (IsBeginning (S.given shelf.new) (S.given shelf.old ++ items_entries (B.state source.old).left))) }
+    ensures fault { IfErr result (IsBagFault B.Fails (S.Fails (S.place shelf.old))
+        (WhereKnown (B.state source.old) (AreTooMany (given.old.bytes + bytes_in (items_entries (B.state source.old).left))))) }
+    ensures place { S.place shelf.new ≡ S.place shelf.old }
 {
     let Some(head) = source.next_item()? else {
         return Ok(false);
@@ -77,6 +82,9 @@ pub(crate) fn give_items<S: Shelf, B: BagSource>(
     ensures known { OnOk result ((B.state source.new).known ≡ (B.state source.old).known) }
     ensures all { OnOk result ((B.state source.new).all ≡ (B.state source.old).all) }
     ensures tables { OnOk result ((B.state source.new).tables ≡ (B.state source.old).tables) }
+    ensures fault { IfErr result (IsBagFault B.Fails (S.Fails (S.place shelf.old))
+        (WhereKnown (B.state source.old) (AreTooMany (bytes_in (items_entries (B.state source.old).left))))) }
+    ensures place { S.place shelf.new ≡ S.place shelf.old }
 {
     let mut given = GivenPayload {
         digests: Vec::new(alloc),

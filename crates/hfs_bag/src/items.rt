@@ -1,9 +1,10 @@
 //! The files and the folder of an item.
-ghost use Rattle.std.specs.Prelude.{◌≡◌, ◌++◌, [], ◌∷◌, codes, IfOk, OnErr, OnOk, string_bytes};
+ghost use Rattle.std.specs.Prelude.{◌≡◌, ◌++◌, [], ◌∷◌, codes, IfErr, IfOk, OnErr, OnOk, string_bytes};
 ghost use Rattle.sha2.specs.Sha256.{sha256};
 ghost use Rattle.hfs_encodings.specs.AppleDouble.{apple_double_head_bytes};
 ghost use Rattle.hfs_shelves.specs.Entries.{IsBeginning};
 ghost use Rattle.hfs_bag.specs.declared.item.BagKind.TheVariants as kind;
+ghost use Rattle.hfs_bag.specs.Faults.{IsOfShelf, IsPassedOn};
 ghost use Rattle.hfs_bag.specs.Items.{BagItem, IsHead, folder_entry, double_head, double_bytes, double_entry, entries_of_kind, item_digests, item_entries, digests_of_kind};
 ghost use Rattle.hfs_bag.specs.Sources.{SameItems, WhereKnown};
 
@@ -61,6 +62,8 @@ fn give_double<S: Shelf, B: BagSource>(
     ensures digest { IfOk result (λ digest. WhereKnown (B.state source.old)
         (digest ≡ sha256 (double_bytes (B.state source.old).item))) }
     ensures same { OnOk result (SameItems (B.state source.old) (B.state source.new)) }
+    ensures fault { IfErr result (IsPassedOn B.Fails (S.Fails (S.place shelf.old))) }
+    ensures place { S.place shelf.new ≡ S.place shelf.old }
 {
     let path = marked_path(alloc, source, DOUBLE)?;
     let bytes = double_head(head);
@@ -90,6 +93,8 @@ fn give_file<S: Shelf, B: BagSource>(
     ensures digests { IfOk result (λ digests. WhereKnown (B.state source.old)
         (digests ≡ digests_of_kind kind.File (B.state source.old).item)) }
     ensures same { OnOk result (SameItems (B.state source.old) (B.state source.new)) }
+    ensures fault { IfErr result (IsPassedOn B.Fails (S.Fails (S.place shelf.old))) }
+    ensures place { S.place shelf.new ≡ S.place shelf.old }
 {
     let path = marked_path(alloc, source, "")?;
     let data = put_file(
@@ -120,6 +125,8 @@ fn give_folder<S: Shelf, B: BagSource>(
     ensures digests { IfOk result (λ digests. WhereKnown (B.state source.old)
         (digests ≡ digests_of_kind kind.Folder (B.state source.old).item)) }
     ensures same { OnOk result (SameItems (B.state source.old) (B.state source.new)) }
+    ensures fault { IfErr result (IsPassedOn B.Fails (S.Fails (S.place shelf.old))) }
+    ensures place { S.place shelf.new ≡ S.place shelf.old }
 {
     let double = give_double(alloc, shelf, source, head)?;
     let path = marked_path(alloc, source, "")?;
@@ -139,6 +146,8 @@ fn give_folder_alone<S: Shelf, B: BagSource>(
         (S.given shelf.old ++ folder_entry (B.state source.now).item ∷ [])) }
     ensures digests { IfOk result (λ digests. digests ≡ digests_of_kind kind.FolderAlone
         (B.state source.now).item) }
+    ensures fault { IfErr result (IsOfShelf (S.Fails (S.place shelf.old))) }
+    ensures place { S.place shelf.new ≡ S.place shelf.old }
 {
     let path = marked_path(alloc, source, "")?;
     shelf.make_folder(path.as_str())?;
@@ -160,6 +169,8 @@ fn give_double_alone<S: Shelf, B: BagSource>(
     ensures digests { IfOk result (λ digests. WhereKnown (B.state source.old)
         (digests ≡ digests_of_kind kind.DoubleAlone (B.state source.old).item)) }
     ensures same { OnOk result (SameItems (B.state source.old) (B.state source.new)) }
+    ensures fault { IfErr result (IsPassedOn B.Fails (S.Fails (S.place shelf.old))) }
+    ensures place { S.place shelf.new ≡ S.place shelf.old }
 {
     let double = give_double(alloc, shelf, source, head)?;
     Ok(ItemDigests::Double(double))
@@ -180,6 +191,8 @@ pub(crate) fn give_item<S: Shelf, B: BagSource>(
     ensures digests { IfOk result (λ digests. WhereKnown (B.state source.old)
         (digests ≡ item_digests (B.state source.old).item)) }
     ensures same { OnOk result (SameItems (B.state source.old) (B.state source.new)) }
+    ensures fault { IfErr result (IsPassedOn B.Fails (S.Fails (S.place shelf.old))) }
+    ensures place { S.place shelf.new ≡ S.place shelf.old }
 {
     match head.kind {
         BagKind::File => give_file(alloc, shelf, source, head),

@@ -1,5 +1,5 @@
 //! Manifests: the digests of files, with their paths.
-ghost use Rattle.std.specs.Prelude.{◌≡◌, codes, map, IfOk, OnErr, OnOk, string_bytes};
+ghost use Rattle.std.specs.Prelude.{◌≡◌, codes, map, IfErr, IfOk, OnErr, OnOk, string_bytes};
 ghost use Rattle.sha2.specs.Hashers.{Holds256};
 ghost use Rattle.sha2.specs.Sha256.{sha256};
 ghost use Rattle.hfs_texts.specs.Texts.{Gains};
@@ -7,6 +7,7 @@ ghost use Rattle.hfs_shelves.specs.Entries.{IsBeginning, with_piece};
 ghost use Rattle.hfs_bag.specs.Items.{double_path, item_digests, item_entries, item_path};
 ghost use Rattle.hfs_bag.specs.Sources.{WhereKnown};
 ghost use Rattle.hfs_bag.specs.Bags.{digest_line, items_entries, manifest};
+ghost use Rattle.hfs_bag.specs.Faults.{HasFailed, IsPassedOn};
 ghost use Rattle.hfs_bag.specs.Filling.{HoldsMore, with_whole_file};
 ghost use Rattle.hfs_bag.specs.Giving.{HasListed, IsNextOf};
 
@@ -100,6 +101,9 @@ fn list_next<S: Shelf, B: BagSource>(
         (B.state source.old) (B.state source.new) (Holds256 digest.old) (Holds256 digest.new)) }
     ensures part { OnErr result (WhereKnown (B.state source.old)
         (IsBeginning (S.given shelf.new) (with_piece (S.given shelf.old) (manifest (items_entries (B.state source.old).left))))) }
+    ensures fault { IfErr result (IsPassedOn (HasFailed B.Fails (B.state source.old).known)
+        (S.Fails (S.place shelf.old))) }
+    ensures place { S.place shelf.new ≡ S.place shelf.old }
 {
     let Some(_) = source.next_item()? else {
         return Err(BagFault::Source(SourceFault::ReadFailed));
@@ -129,6 +133,9 @@ fn list_items<S: Shelf, B: BagSource>(
     ensures tables { OnOk result ((B.state source.new).tables ≡ (B.state source.old).tables) }
     ensures part { OnErr result (WhereKnown (B.state source.old)
         (IsBeginning (S.given shelf.new) (with_piece (S.given shelf.old) (manifest (items_entries (B.state source.old).left))))) }
+    ensures fault { IfErr result (IsPassedOn (HasFailed B.Fails (B.state source.old).known)
+        (S.Fails (S.place shelf.old))) }
+    ensures place { S.place shelf.new ≡ S.place shelf.old }
 {
     for at in 0..told.len() {
         list_next(alloc, shelf, source, digest, &told[at])?;
@@ -154,6 +161,9 @@ pub(crate) fn give_manifest<S: Shelf, B: BagSource>(
     ensures known { OnOk result ((B.state source.new).known ≡ (B.state source.old).known) }
     ensures all { OnOk result ((B.state source.new).all ≡ (B.state source.old).all) }
     ensures tables { OnOk result ((B.state source.new).tables ≡ (B.state source.old).tables) }
+    ensures fault { IfErr result (IsPassedOn (HasFailed B.Fails (B.state source.old).known)
+        (S.Fails (S.place shelf.old))) }
+    ensures place { S.place shelf.new ≡ S.place shelf.old }
 {
     source.restart()?;
     shelf.make_file("manifest-sha256.txt", None)?;

@@ -1,5 +1,6 @@
 //! What a bag is filled from.
-ghost use Rattle.std.specs.Prelude.{◌≡◌, ◌++◌, IfOk, OnOk, string_bytes};
+ghost use Rattle.std.specs.Prelude.{◌≡◌, ◌++◌, MatchResult, OnOk, string_bytes};
+ghost use Rattle.hfs_bag.specs.declared.source.SourceFault.{SourceFault};
 ghost use Rattle.hfs_bag.specs.Sources.{HasOpened, HasRead, HasRestarted, SourceState, TakesItem, has_remains};
 
 use crate::item::BagHead;
@@ -28,9 +29,11 @@ pub enum SourceFault {
 }
 
 /// A volume's items below the root, one after the other, each behind the folder that holds it, with the bytes of their forks in pieces. Where its
-/// bytes are known, contracts know the items by them.
+/// bytes are known, contracts know the items by them; and they know which faults a source of this kind may answer.
 pub trait BagSource {
     ghost state: { Self → SourceState };
+
+    ghost Fails: { SourceFault → Type 0 };
 
     /// Whether there is a table of what remains of each item.
     fn tells_remains(&self) -> bool
@@ -38,11 +41,11 @@ pub trait BagSource {
 
     /// Begins with the items anew.
     fn restart(&mut self) -> Result<(), SourceFault>
-        ensures { OnOk result (HasRestarted (state self.old) (state self.new)) };
+        ensures { MatchResult result (λ _. HasRestarted (state self.old) (state self.new)) Fails };
 
     /// What is told of the next item, or None behind the last one.
     fn next_item(&mut self) -> Result<Option<BagHead>, SourceFault>
-        ensures { IfOk result (TakesItem (state self.old) (state self.new)) };
+        ensures { MatchResult result (TakesItem (state self.old) (state self.new)) Fails };
 
     /// Appends the path, below the payload, of the folder that holds the item that came last, with a slash behind it.
     fn push_above(&self, text: &mut String) -> Result<(), AllocError>
@@ -56,9 +59,9 @@ pub trait BagSource {
 
     /// Makes a stream ready to be read from its first byte on.
     fn open(&mut self, stream: Stream) -> Result<(), SourceFault>
-        ensures { OnOk result (HasOpened stream (state self.old) (state self.new)) };
+        ensures { MatchResult result (λ _. HasOpened stream (state self.old) (state self.new)) Fails };
 
     /// Puts the next bytes of the stream in the place of the piece, and none where none are left.
     fn read(&mut self, piece: &mut Vec<u8>) -> Result<(), SourceFault>
-        ensures { OnOk result (HasRead piece.new.items (state self.old) (state self.new)) };
+        ensures { MatchResult result (λ _. HasRead piece.new.items (state self.old) (state self.new)) Fails };
 }

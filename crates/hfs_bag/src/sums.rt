@@ -1,5 +1,5 @@
 //! How much a bag holds.
-ghost use Rattle.std.specs.Prelude.{◌≡◌, ◌+◌, ◌≤◌, length, IfSome};
+ghost use Rattle.std.specs.Prelude.{◌≡◌, ◌+◌, ◌≤◌, length};
 ghost use Rattle.hfs_bag.specs.Items.{BagItem, IsHead, item_entries};
 ghost use Rattle.hfs_bag.specs.Bags.{bytes_in, double_number, doubles_told, file_number, files_told};
 
@@ -67,7 +67,8 @@ pub(crate) fn count_files(digests: &[ItemDigests]) -> usize
 
 /// How many of these items have an AppleDouble file.
 fn count_doubles(digests: &[ItemDigests]) -> usize
-    ensures { result ≡ doubles_told digests.now }
+    ensures count { result ≡ doubles_told digests.now }
+    ensures few { result ≤ length digests.now }
 {
     let mut doubles = 0;
     let mut rest = digests;
@@ -78,10 +79,9 @@ fn count_doubles(digests: &[ItemDigests]) -> usize
     doubles
 }
 
-/// How many files these items have in the payload. None where there are 2^64 or more.
-pub(crate) fn count_streams(digests: &[ItemDigests]) -> Option<u64>
-    ensures { IfSome result (λ streams. streams ≡ doubles_told digests.now + files_told digests.now) }
+/// How many files these items have in the payload.
+pub(crate) fn count_streams(digests: &[ItemDigests]) -> u64
+    ensures { result ≡ doubles_told digests.now + files_told digests.now }
 {
-    let streams = count_doubles(digests).checked_add(count_files(digests))?;
-    Some(streams as u64)
+    (count_doubles(digests) + count_files(digests)) as u64
 }

@@ -1,11 +1,12 @@
 //! The tag files of a bag.
-ghost use Rattle.std.specs.Prelude.{◌≡◌, ◌++◌, codes, map, option_map, IfOk, OnErr, OnOk, string_bytes};
+ghost use Rattle.std.specs.Prelude.{◌≡◌, ◌++◌, codes, map, option_map, IfErr, IfOk, OnErr, OnOk, string_bytes};
 ghost use Rattle.sha2.specs.Sha256.{sha256};
 ghost use Rattle.hfs_texts.specs.Texts.{Gains};
 ghost use Rattle.hfs_shelves.specs.Entries.{IsBeginning};
 ghost use Rattle.hfs_bag.specs.Items.{item_digests};
 ghost use Rattle.hfs_bag.specs.Sources.{SameItems, WhereKnown};
 ghost use Rattle.hfs_bag.specs.Bags.{bytes_in, files_in, manifest, payload};
+ghost use Rattle.hfs_bag.specs.Faults.{HasFailed, IsOfShelf, IsPassedOn};
 ghost use Rattle.hfs_bag.specs.Filling.{with_whole_file};
 ghost use Rattle.hfs_bag.specs.TagParts.{first_tags, remains_line, second_tags, tag_lines};
 ghost use Rattle.hfs_bag.specs.Tags.{declaration_text, image_digest_line, info_text, oxum_text, remains_files, tag_files, volume_line};
@@ -150,6 +151,8 @@ fn give_remains<S: Shelf, B: BagSource>(
         (IsBeginning (S.given shelf.new) (S.given shelf.old ++ remains_files (B.state source.old).tables.remains))) }
     ensures digest { IfOk result (λ digest. WhereKnown (B.state source.old)
         (digest ≡ option_map sha256 (B.state source.old).tables.remains)) }
+    ensures fault { IfErr result (IsPassedOn B.Fails (S.Fails (S.place shelf.old))) }
+    ensures place { S.place shelf.new ≡ S.place shelf.old }
 {
     if !source.tells_remains() {
         return Ok(None);
@@ -185,6 +188,9 @@ fn give_first<S: Shelf, B: BagSource>(
         (told.1 ≡ sha256 (B.state source.old).tables.items)) }
     ensures remains { IfOk result (λ told. WhereKnown (B.state source.old)
         (told.2 ≡ option_map sha256 (B.state source.old).tables.remains)) }
+    ensures fault { IfErr result (IsPassedOn (HasFailed B.Fails (B.state source.old).known)
+        (S.Fails (S.place shelf.old))) }
+    ensures place { S.place shelf.new ≡ S.place shelf.old }
 {
     let manifest = give_manifest(alloc, shelf, source, &given.digests)?;
     let table = put_file(alloc, shelf, source, "items.csv", None, &[], Stream::Table)?;
@@ -207,6 +213,8 @@ fn give_second<S: Shelf>(
     ensures report { IfOk result (λ told. told.0 ≡ sha256 facts.now.report.now) }
     ensures info { IfOk result (λ told. told.1 ≡ sha256 (info_text facts.now bytes files)) }
     ensures declaration { IfOk result (λ told. told.2 ≡ sha256 declaration_text) }
+    ensures fault { IfErr result (IsOfShelf (S.Fails (S.place shelf.old))) }
+    ensures place { S.place shelf.new ≡ S.place shelf.old }
 {
     let report = put_text(shelf, "volume.txt", facts.report)?;
     let text = info_text(alloc, facts, bytes, files)?;
@@ -226,6 +234,8 @@ fn give_last<S: Shelf>(alloc: Global, shelf: &mut S, tags: &TagDigests) -> Resul
     ensures part { OnErr result (IsBeginning (S.given shelf.new)
         (with_whole_file (S.given shelf.old) (codes "tagmanifest-sha256.txt")
         (tag_lines tags.now))) }
+    ensures fault { IfErr result (IsOfShelf (S.Fails (S.place shelf.old))) }
+    ensures place { S.place shelf.new ≡ S.place shelf.old }
 {
     let text = tag_manifest(alloc, tags)?;
     put_text(shelf, "tagmanifest-sha256.txt", text.as_str())?;
@@ -251,6 +261,9 @@ pub(crate) fn give_tags<S: Shelf, B: BagSource>(
         (S.given shelf.new ≡ S.given shelf.old ++ tag_files (B.state source.old).all (B.state source.old).tables facts.now)) }
     ensures part { OnErr result (WhereKnown (B.state source.old)
         (IsBeginning (S.given shelf.new) (S.given shelf.old ++ tag_files (B.state source.old).all (B.state source.old).tables facts.now))) }
+    ensures fault { IfErr result (IsPassedOn (HasFailed B.Fails (B.state source.old).known)
+        (S.Fails (S.place shelf.old))) }
+    ensures place { S.place shelf.new ≡ S.place shelf.old }
 {
     let first = give_first(alloc, shelf, source, given)?;
     let second = give_second(alloc, shelf, facts, given.bytes, files)?;

@@ -1,6 +1,7 @@
 //! The bag of a volume without items: texts by hand, and digests that `sha256sum` gave.
-ghost use Rattle.std.specs.Prelude.{[], true, None};
+ghost use Rattle.std.specs.Prelude.{◌≡◌, [], true, None};
 ghost use Rattle.hfs_bag.specs.declared.item.BagKind.TheVariants as kind;
+ghost use Rattle.hfs_bag.specs.declared.source.SourceFault.TheVariants as fault;
 
 use crate::{BagFacts, BagHead, BagSource, BagSums, SourceFault, Stream, give_bag};
 use hfs_shelves::{MemoryShelf, Stored};
@@ -38,6 +39,8 @@ impl BagSource for NoItems<'_> {
       bytes = source.rest.now;
       tables = record { items = source.table.now; remains = None };
     } };
+
+    ghost Fails = { λ why. why ≡ fault.Memory };
 
     fn tells_remains(&self) -> bool {
         false

@@ -1,11 +1,13 @@
 -- Records of a node that edits look at.
-use Rattle.std.specs.Prelude.{◌≡◌, ℕ, List, [], Some, drop, slice_index_or}
+use Rattle.std.specs.Prelude.{◌≡◌, ℕ, ◌<◌, true, List, [], Some, length, drop, slice_index_or}
 use Rattle.std.specs.declared.cmp.Ordering.TheVariants.{Equal}
 use Rattle.hfs_node.specs.declared.node.Node.{Node}
 use Rattle.hfs_node.specs.Node.{node_of}
 use Rattle.hfs_btree.specs.declared.key.Key.{Ghosts}
 use Rattle.hfs_btree.specs.Pairs.{lookup}
-use Rattle.hfs_btree.specs.Tree.{records_of, pairs_of}
+use Rattle.hfs_btree.specs.Header.{body_at}
+use Rattle.hfs_btree.specs.Search.{leaf_for}
+use Rattle.hfs_btree.specs.Tree.{Store, records_of, pairs_of}
 
 -- the first record of a node
 abbrev pub first_record : Node → List ℕ
@@ -23,3 +25,13 @@ HasKeyAt g key bytes place = g.compare key (g.leaf_key (record_at bytes place)) 
 abbrev pub HasBodyAt : {K : Type 0} → Ghosts K → K → List ℕ → ℕ → Type 0
 HasBodyAt g key bytes place =
     let entry = record_at bytes place in lookup g.compare key (pairs_of g bytes) ≡ Some (drop (g.body_start entry) entry)
+
+-- the record with the key is the one at this place of this node, which has these bytes
+pub record IsPlaceOf {K : Type 0} (g : Ghosts K) (nodes : Store) (key : K) (bytes : List ℕ) (n place : ℕ) : Type 0 where
+  pub leaf : n ≡ leaf_for g nodes key
+  pub read : bytes ≡ slice_index_or nodes n []
+  pub within : place < length (records_of (node_of bytes))
+  pub equal : HasKeyAt g key bytes place
+  pub body : HasBodyAt g key bytes place
+  pub is_leaf : g.is_leaf (record_at bytes place) ≡ true
+  pub found : body_at g nodes key ≡ Some (drop (g.body_start (record_at bytes place)) (record_at bytes place))

@@ -21,5 +21,5 @@ pub use laws::{edits_keep_the_rest, insertions_take_few_nodes, new_keys_pass};
 pub use nodes_mut::NodesMut;
 pub use patch_nodes::PatchNodes;
 pub use releasing::release;
-pub use replacing::{place_of, replace};
+pub use replacing::{find_place, place_of, replace, replace_at};
 pub use stored::{load, store};

@@ -8,6 +8,7 @@ pub mod Parted
 pub mod Splits
 pub mod SplitWrites
 pub mod WayTo
+mod LowLeaves
 pub mod LevelWays
 pub mod SplitWays
 pub mod Taken
@@ -34,5 +35,4 @@ pub mod FirstKeys
 pub mod LowerSteps
 pub mod MadeRoom
 pub mod Inserted
-mod RoomyLeaves
 pub mod IndexSearch

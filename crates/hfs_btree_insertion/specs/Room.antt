@@ -38,11 +38,10 @@ pub record HasMadeRoom {K : Type 0} (g : Ghosts K) (key : K) (len a : ℕ) (old 
 abbrev pub IsLowAbove : {K : Type 0} → Ghosts K → Store → K → ℕ → Type 0
 IsLowAbove g nodes key above = (k : ℕ) → above < k → k < depth_of nodes → 0 < prefix_len (is_not_above g key) (records_in nodes (node_for g nodes key k))
 
--- the search for the key ends in leaf n, which has room for a record of so many bytes, and no index key on the way is to be lowered
-pub record IsRoomyLeaf {K : Type 0} (g : Ghosts K) (nodes : Store) (key : K) (len n : ℕ) : Type 0 where
+-- the search for the key ends in leaf n, and no index key on the way is to be lowered
+pub record IsLowLeaf {K : Type 0} (g : Ghosts K) (nodes : Store) (key : K) (n : ℕ) : Type 0 where
   pub at : n ≡ node_for g nodes key 0
   pub low : IsLowAbove g nodes key 0
-  pub room : HasRoom nodes len n
 
 -- where a record's key isn't above the key, neither are those of the records before it
 abbrev pub IsRisingFor : {K : Type 0} → Ghosts K → K → List (List ℕ) → Type 0

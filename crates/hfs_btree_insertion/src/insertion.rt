@@ -1,21 +1,23 @@
 //! A pair that is put into a tree.
 
-ghost use Rattle.std.specs.Prelude.{◌≡◌, ◌+◌, ◌*◌, ◌^◌, ◌<◌, ◌≤◌, None, IsTrue, OnOk, length};
+ghost use Rattle.std.specs.Prelude.{◌≡◌, ◌+◌, ◌*◌, ◌^◌, ◌<◌, ◌≤◌, true, [], None, IsTrue, IfOk, IfSome, OnOk, length, slice_index_or};
 ghost use Rattle.hfs_btree.specs.Header.{header_in, depth_of, free_nodes, tree_content};
 ghost use Rattle.hfs_btree.specs.Pairs.{lookup};
 ghost use Rattle.hfs_btree.specs.Sound.{IsSound};
 ghost use Rattle.hfs_btree_edits.specs.Edits.{Edits, IsAboveFirst};
 ghost use Rattle.hfs_btree_insertion.specs.Growth.{IsLow, IsLeafFull};
-ghost use Rattle.hfs_btree_insertion.specs.Room.{HasMadeRoom};
+ghost use Rattle.hfs_btree_insertion.specs.Begun.{IsBehindLeaf};
+ghost use Rattle.hfs_btree_insertion.specs.Lowering.{HasLowered};
+ghost use Rattle.hfs_btree_insertion.specs.Room.{HasMadeRoom, IsLowLeaf};
 ghost use Rattle.hfs_btree_insertion.specs.Stored.{Inserts};
 
-use crate::leaf_begin::{begin_leaf, comes_last};
+use crate::leaf_begin::{begin_leaf, comes_last, is_below};
 use crate::leaf_put::{put_entry, put_in_leaf};
 use crate::level_cut::cut_levels;
+use crate::low_leaf::low_leaf;
 use crate::lowering::lower_keys;
 use crate::new_root::raise;
-use crate::roomy_leaf::roomy_leaf;
-use crate::way::full_levels;
+use crate::way::{full_levels, size_in};
 use hfs_btree::{Key, read_header};
 use hfs_btree_edits::NodesMut;
 use std::alloc::{AllocError, Global};
@@ -50,6 +52,35 @@ fn make_room<K: Key, S: NodesMut>(
     cut_levels(alloc, nodes, key, full, least, len)
 }
 
+/// Lowers index keys on the way to a key where some are to be lowered, and answers whether a record of `len` bytes with this key
+/// comes behind all others, and the last leaf has no room for it. Where none is, `low` is the leaf for the key, which was read
+/// into `bytes`.
+fn lower_way<K: Key, S: NodesMut>(
+    alloc: Global,
+    nodes: &mut S,
+    key: &K,
+    len: usize,
+    low: Option<u32>,
+    bytes: &[u8; 512],
+) -> Result<bool, AllocError>
+    requires sound { IsSound K.Key (S.nodes nodes.old) }
+    requires above { IsAboveFirst K.compare key.now (tree_content K.Key (S.nodes nodes.old)) }
+    requires some { 0 < depth_of (S.nodes nodes.old) }
+    requires short { len ≤ 140 }
+    requires low { IfSome low (IsLowLeaf K.Key (S.nodes nodes.old) key.now) }
+    requires read { IfSome low (λ n. bytes.now ≡ slice_index_or (S.nodes nodes.old) n []) }
+    ensures lowered { Edits result (HasLowered K.Key key.now 0) S.nodes nodes.old nodes.new }
+    ensures last { IfOk result (λ last. last ≡ true
+        → IsBehindLeaf K.Key (S.nodes nodes.new) key.now len) }
+    ensures kept { OnOk result (S.kept nodes.new ≡ S.kept nodes.old) }
+{
+    let Some(_leaf) = low else {
+        lower_keys(alloc, nodes, key)?;
+        return Ok(comes_last(nodes, key, len));
+    };
+    Ok(is_below(bytes, key, len))
+}
+
 /// Puts the pair into the tree, none of whose keys is equal to its own in the order, and one of which is below it.
 ///
 /// A node that has no room is cut in two, and a root that is cut gets a new root above it; but where the record comes behind
@@ -81,11 +112,14 @@ pub fn insert<K: Key, S: NodesMut>(
     let len = entry.len();
     let header = read_header(nodes);
     let mut bytes = [0; 512];
-    if let Some(n) = roomy_leaf(nodes, &header, key, len, &mut bytes) {
-        return put_in_leaf(alloc, nodes, key, n, &bytes, entry);
+    let low = low_leaf(nodes, &header, key, &mut bytes);
+    if let Some(n) = low {
+        if size_in(&bytes) + len + 2 <= 496 {
+            return put_in_leaf(alloc, nodes, key, n, &bytes, entry);
+        }
     }
-    lower_keys(alloc, nodes, key)?;
-    if comes_last(nodes, key, len) {
+    let last = lower_way(alloc, nodes, key, len, low, &bytes)?;
+    if last {
         make_room(alloc, nodes, key, len, 1)?;
         return begin_leaf(alloc, nodes, key, entry);
     }

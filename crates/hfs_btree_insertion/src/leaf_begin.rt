@@ -21,7 +21,7 @@ use hfs_btree_edits::{NodesMut, claim_node};
 use std::alloc::{AllocError, Global};
 
 /// Whether a leaf is the last, has no room for a record of `len` bytes, and has only keys below this one.
-fn is_below<K: Key>(bytes: &[u8; 512], key: &K, len: usize) -> bool
+pub(crate) fn is_below<K: Key>(bytes: &[u8; 512], key: &K, len: usize) -> bool
     requires leaf { Each (λ e. K.is_leaf e ≡ true) (records_of (node_of bytes.now)) }
     requires short { len ≤ 140 }
     ensures above { result ≡ true → IsAbove K.compare key.now (pairs_of K.Key bytes.now) }

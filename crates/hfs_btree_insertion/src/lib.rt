@@ -8,10 +8,10 @@ mod insertion;
 mod leaf_begin;
 mod leaf_put;
 mod level_cut;
+mod low_leaf;
 mod lowering;
 mod new_root;
 mod record_key;
-mod roomy_leaf;
 mod way;
 
 pub use insertion::insert;

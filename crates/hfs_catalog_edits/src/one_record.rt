@@ -3,14 +3,15 @@ ghost use Rattle.std.specs.Prelude.{◌≡◌, ◌≤◌, None, OnOk, IsTrue, le
 ghost use Rattle.hfs_fields.specs.Keys.{cat_cmp, is_cat_body_len};
 ghost use Rattle.hfs_btree.specs.Pairs.{lookup};
 ghost use Rattle.hfs_btree_edits.specs.Conditions.{IsNoLonger, IsThere};
-ghost use Rattle.hfs_catalog.specs.Tree.{IsCatalogTree, catalog_of};
+ghost use Rattle.hfs_btree_edits.specs.Entries.{IsPlaceOf};
+ghost use Rattle.hfs_catalog.specs.Tree.{IsCatalogTree, cat_keys, catalog_of};
 ghost use Rattle.hfs_btree_edits.specs.Edits.{Edits};
 ghost use Rattle.hfs_catalog_edits.specs.ItemEdits.{RecordAtWent};
 ghost use Rattle.hfs_catalog_edits.specs.RecordEdits.{RecordCame, RecordSet};
 ghost use Rattle.hfs_catalog_edits.specs.Rooms.{IsInFile, HasRoom};
 ghost use Rattle.hfs_catalog_edits.specs.Roots.{HasRoot};
 
-use hfs_btree_edits::{NodesMut, replace};
+use hfs_btree_edits::{NodesMut, replace, replace_at};
 use hfs_btree_insertion::insert;
 use hfs_btree_removal::remove;
 use hfs_fields::CatKey;
@@ -64,4 +65,24 @@ pub(crate) fn set<N: NodesMut>(
     ensures kept { OnOk result (N.kept nodes.new ≡ N.kept nodes.old) }
 {
     replace(alloc, nodes, key, body)
+}
+
+/// Puts a record in the place of the one under its key, which was found: record `place` of node `n`, which was read into `bytes`.
+pub(crate) fn set_at<N: NodesMut>(
+    alloc: Global,
+    nodes: &mut N,
+    key: &CatKey,
+    body: &[u8],
+    n: u32,
+    bytes: &[u8; 512],
+    place: usize,
+) -> Result<(), AllocError>
+    requires tree { IsCatalogTree (N.nodes nodes.old) }
+    requires allowed { IsTrue (is_cat_body_len (length body.now)) }
+    requires there { IsNoLonger body.now (lookup cat_cmp key.now (catalog_of (N.nodes nodes.old))) }
+    requires place { IsPlaceOf cat_keys (N.nodes nodes.old) key.now bytes.now n place }
+    ensures set { Edits result (RecordSet (key.now, body.now)) N.nodes nodes.old nodes.new }
+    ensures kept { OnOk result (N.kept nodes.new ≡ N.kept nodes.old) }
+{
+    replace_at(alloc, nodes, key, body, n, bytes, place)
 }

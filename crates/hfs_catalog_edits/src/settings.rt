@@ -6,9 +6,9 @@ ghost use Rattle.hfs_catalog_edits.specs.Bodies.{IsItemValue};
 ghost use Rattle.hfs_catalog_edits.specs.ItemEdits.{IsFolderAt, IsSameKindAt, ItemSet, HasValenceSet};
 
 use crate::bodies::{file_body, folder_body};
-use crate::one_record::set;
-use hfs_btree::find;
-use hfs_btree_edits::NodesMut;
+use crate::one_record::{set, set_at};
+use hfs_btree::{body_of, entry_in};
+use hfs_btree_edits::{NodesMut, find_place};
 use hfs_catalog::ItemRecord;
 use hfs_fields::{CatKey, DirRecord};
 use std::alloc::{AllocError, Global};
@@ -49,10 +49,12 @@ pub fn set_valence<N: NodesMut>(
     ensures set { Edits result (HasValenceSet key.now valence now) N.nodes nodes.old nodes.new }
     ensures kept { OnOk result (N.kept nodes.new ≡ N.kept nodes.old) }
 {
-    let Some(body) = find(alloc, nodes, key)? else {
+    let mut bytes = [0; 512];
+    let (n, place) = find_place(nodes, key, &mut bytes);
+    let Some(entry) = entry_in(&bytes, place) else {
         unreachable!()
     };
-    let Some(folder) = DirRecord::read(&body) else {
+    let Some(folder) = DirRecord::read(body_of::<CatKey>(entry)) else {
         unreachable!()
     };
     let changed = DirRecord {
@@ -60,5 +62,5 @@ pub fn set_valence<N: NodesMut>(
         modified: now,
         ..folder
     };
-    set(alloc, nodes, key, &folder_body(&changed))
+    set_at(alloc, nodes, key, &folder_body(&changed), n, &bytes, place)
 }

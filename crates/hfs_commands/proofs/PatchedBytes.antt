@@ -10,7 +10,6 @@ use Rattle.hfs_needed.specs.Known.{OfKnown}
 use Rattle.hfs_patched.specs.Patched.{OfPatched}
 use Rattle.hfs_volume.specs.Image.{patched}
 use Rattle.hfs_repair.specs.declared.fixed.Fix.{Fix}
-use Rattle.hfs_repair.specs.Repair.{repair}
 use Rattle.hfs_mending.specs.Mended.{IsMendedBy}
 use Rattle.hfs_commands.specs.Checks.{refused_line}
 use Rattle.hfs_commands.specs.Images.{patched_bytes}

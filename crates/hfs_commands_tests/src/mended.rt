@@ -5,19 +5,19 @@ use crate::gathered::image_of;
 use crate::sources::FailingSource;
 use hfs_check::MountFault;
 use hfs_commands::{
-    Fault, HoleWriter, HoledFile, ReadContents, SparseFault, UnwrittenFault, Watched, WatchedImage,
-    load_file, needed_repair_answer, open_watched, put, save_read,
+    Fault, HoleWriter, HoledFile, NeededRepair, PatchedImage, ReadContents, SparseFault,
+    UnwrittenFault, Watched, WatchedImage, load_file, needed_repair_answer, open_watched, put,
+    save_read,
 };
 use hfs_fixtures::SmallVolume;
 use hfs_sparse::{BlockSource, ByteSource};
 use std::alloc::{AllocError, Global};
-use std::fs;
 use std::fs::remove_file;
-use std::io;
 use std::io::ErrorKind;
 use std::process::Abort;
 use std::rt::Files;
 use std::test::Fail;
+use std::{fs, io};
 
 /// Bytes that may be told to have changed.
 #[derive(Drop)]
@@ -61,7 +61,21 @@ fn wrong_image(rt: &(impl Abort + AllocGlobal)) -> Vec<u8> {
     image
 }
 
-/// What is written of a repaired image, with its count in place of the one that was wrong; what is told is its first fault where none is.
+/// The repaired image of an answer, which is not refused.
+fn image_in<S: BlockSource + Drop>(rt: &impl Abort, answer: NeededRepair<S>) -> PatchedImage<S> {
+    let NeededRepair {
+        image,
+        fault: _fault,
+        status: _status,
+        lines: _lines,
+    } = answer;
+    match image {
+        Some(contents) => contents,
+        None => panic!(rt; "the image is refused"),
+    }
+}
+
+/// What is written of a repaired image, and how that ended.
 fn written(
     rt: &(impl Abort + AllocGlobal),
     image: &[u8],
@@ -74,9 +88,7 @@ fn written(
     let Ok(answer) = needed_repair_answer(rt.alloc(), source, image.len() as u64) else {
         panic!(rt; "the image is not read");
     };
-    let Some(mut contents) = answer.image else {
-        panic!(rt; "the image is refused");
-    };
+    let mut contents = image_in(rt, answer);
     let mut bytes = Vec::new(rt.alloc());
     let end = contents.write_to(&mut bytes);
     (bytes, end)
@@ -232,9 +244,7 @@ fn repaired(
     let Ok(answer) = needed_repair_answer(rt.alloc(), source, len) else {
         panic!(rt; "the image is not read");
     };
-    let Some(mut contents) = answer.image else {
-        panic!(rt; "the image is refused");
-    };
+    let mut contents = image_in(rt, answer);
     if let Some(bytes) = bytes {
         if fs::write(rt, "wrong.img", bytes).is_err() {
             panic!(rt; "the image is not written anew");

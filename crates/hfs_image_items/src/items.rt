@@ -1,5 +1,5 @@
 //! The items of an opened image, for a bag.
-ghost use Rattle.std.specs.Prelude.{◌≡◌, ℕ, List, true, drop, IfOk, IfSome, string_bytes};
+ghost use Rattle.std.specs.Prelude.{◌≡◌, ⊤, ℕ, List, true, drop, IfOk, IfSome, string_bytes};
 ghost use Rattle.hfs_bag.specs.Items.{IsHead};
 ghost use Rattle.hfs_model.specs.declared.call.Fork.TheVariants.{DataFork, ResFork};
 ghost use Rattle.hfs_inventory.specs.Told.{told_rows};
@@ -262,6 +262,8 @@ impl<'a, S: BlockSource + Drop, W: Watch> ImageItems<'a, S, W> {
 
 impl<S: BlockSource + Drop, W: Watch> BagSource for ImageItems<'_, S, W> {
     ghost state = { λ items. source_of items.image items.rows.left items.came items.reading };
+
+    ghost Fails = { λ _. ⊤ };
 
     fn tells_remains(&self) -> bool {
         false

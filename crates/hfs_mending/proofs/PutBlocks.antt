@@ -4,11 +4,12 @@ use Rattle.std.specs.Prelude.{◌%◌}
 use Rattle.std.proofs.lemmas.Bool.{cases_eq, eq-eqb, ne_eqb}
 use Rattle.std.proofs.lemmas.List.{set-append_left, set-append_right}
 use Rattle.hfs_blocks.specs.Blocks.{block_at, block_count}
-use Rattle.hfs_blocks.specs.Layers.{Numbered, Changes, changes, AreWithin, with_change, over}
+use Rattle.hfs_blocks.specs.Layers.{Numbered, Changes, changes, AreWithin, with_change}
 use Rattle.hfs_needed.specs.Gathered.{IsOfKnown}
 use Rattle.hfs_patched.proofs.FlatBlocks.{blocks_from, flat-laid, length-blocks_from, blocks_from-add, blocks_from-same}
 use Rattle.hfs_repair.specs.declared.byte_put.BytePut.{BytePut}
 use Rattle.hfs_repair.specs.Puts.{put_all}
+use Rattle.hfs_repair.proofs.Repairs.{put-append}
 use Rattle.hfs_sparse.proofs.SparseLemmas.{each-of}
 use Rattle.hfs_volume.specs.Image.{patched}
 use Rattle.hfs_volume.specs.Laid.{laid}
@@ -89,10 +90,6 @@ puts-byte (Some image) total old new read n put block of has is lt changed byte 
     (byte ∙ ap (λ b. set b (put.at % 512) put.byte) same)
 
 -- ---- one behind the other
-
-put-append : (ps qs : List BytePut) (image : List ℕ) → put_all (ps ++ qs) image ≡ put_all qs (put_all ps image)
-put-append [] qs image = refl
-put-append (p ∷ ps) qs image = put-append ps qs (set image p.at p.byte)
 
 pub puts-more : (known later : Option (List ℕ)) (total : ℕ) (ps qs : List BytePut) (old middle new : Numbered) → later ≡ known
     → (AreWithin (changes old) total → AreWithin (changes middle) total) → PutsBytes known total ps old middle → PutsBytes later total qs middle new

@@ -17,6 +17,7 @@ use Rattle.hfs_check.specs.Sound.{IsMdbSound}
 use Rattle.hfs_check.proofs.LawsProved.{no_mdb_fault}
 use Rattle.hfs_needed.specs.Gathered.{HasRead, IsOfKnown}
 use Rattle.hfs_needed.specs.Needed.{AgreeOn}
+use Rattle.hfs_needed.proofs.Gathered.{of-later}
 use Rattle.hfs_needed.proofs.SameParts.{mdb-same, extents_blocks-same, catalog_blocks-same}
 use Rattle.hfs_repair.specs.Opened.{is_extents_right, catalog_file_of}
 use Rattle.hfs_repair.proofs.Openings.{is-some-none}
@@ -33,10 +34,6 @@ agree-over g old new [] h = tt
 agree-over g old new (n ∷ ns) h = (ap (unwrap_or (g n)) h.0, agree-over g old new ns h.1)
 
 -- ---- more was read
-
-pub of-later : (known : Option (List ℕ)) (old new : Numbered) → IsOfKnown known old → StaysOf known old new → IsOfKnown known new
-of-later None old new of stays = tt
-of-later (Some bytes) old new of stays = stays of
 
 pub of-source : (known later : Option (List ℕ)) (total : ℕ) (old new : Numbered) → later ≡ known → IsOfKnown known old → HasRead known total old new → IsOfKnown later new
 of-source known later total old new e of read = subst (λ (o : Option (List ℕ)). IsOfKnown o new) (sym e) (of-later known old new of read.stays)

@@ -29,7 +29,7 @@ use Rattle.hfs_sparse.proofs.Fetched.{range-at}
 use Rattle.hfs_sparse.proofs.SparseLemmas.{grown-itself, grown-on, has-grown, each-grown, each-same, stays-on}
 use Rattle.hfs_needed.specs.Marked.{where_right, needed_of_tree}
 use Rattle.hfs_needed.specs.Needed.{AgreeOn, is_mdb_right, has_extents_file, is_extents_tree_right, has_catalog_file, needed_of_extents, needed_of_catalog, needed_of_trees, needed_blocks}
-use Rattle.hfs_needed.specs.Gathered.{LieAt, HasRead}
+use Rattle.hfs_needed.specs.Gathered.{LieAt, HasRead, IsOfKnown}
 use Rattle.hfs_needed.specs.TreeReads.{nodes_of, block_for, HasNode, ReadsRuns, HasMarkedFrom, LieBeside}
 use Rattle.hfs_fields.proofs.CommonLemmas.{none-true as no-fault}
 use Rattle.hfs_needed.proofs.SameParts.{mdb-same, extents_blocks-same, extents-map, catalog-map, catalog_blocks-same}
@@ -38,6 +38,10 @@ use Rattle.hfs_needed.proofs.SameTrees.{nodes-map}
 use Rattle.hfs_needed.proofs.TreeNodes.{has-where}
 
 -- ---- reading more and more
+
+pub of-later : (known : Option (List ℕ)) (old new : Numbered) → IsOfKnown known old → StaysOf known old new → IsOfKnown known new
+of-later None old new of stays = tt
+of-later (Some bytes) old new of stays = stays of
 
 pub reads-itself : (known : Option (List ℕ)) (total : ℕ) (read : Numbered) → HasRead known total read read
 reads-itself known total read = record { grown = grown-itself read; stays = same known; within = λ h. h }

@@ -35,11 +35,11 @@ use Rattle.hfs_needed_runs.specs.NamedForks.{AreAmong, GainForks, HasMet, HaveMe
 
 -- ---- members
 
-in-left : (x : ℕ) (xs ys : List ℕ) → In x xs → In x (xs ++ ys)
+pub in-left : (x : ℕ) (xs ys : List ℕ) → In x xs → In x (xs ++ ys)
 in-left x [] ys i = absurd i
 in-left x (y ∷ xs) ys i = ⊎_elim (λ (here : y ≡ x). inl here) (λ (there : In x xs). inr (in-left x xs ys there)) i
 
-in-right : (x : ℕ) (xs ys : List ℕ) → In x ys → In x (xs ++ ys)
+pub in-right : (x : ℕ) (xs ys : List ℕ) → In x ys → In x (xs ++ ys)
 in-right x [] ys i = i
 in-right x (y ∷ xs) ys i = inr (in-right x xs ys i)
 

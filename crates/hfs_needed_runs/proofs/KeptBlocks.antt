@@ -13,10 +13,7 @@ use Rattle.hfs_blocks.specs.declared.run.Run.{Run}
 use Rattle.hfs_blocks.specs.Blocks.{run_of}
 use Rattle.hfs_blocks.specs.Layers.{Numbered, Changes, changes, with_change}
 use Rattle.hfs_needed_runs.specs.Keeping.{AreChangedIn, ArePartOf, GainsChanged}
-
-pub on-ok : {T E : Type 0} (r : Result T E) (P Q : Type 0) → (P → Q) → OnOk r P → OnOk r Q
-on-ok (Ok x) P Q f p = f p
-on-ok (Err e) P Q f p = tt
+use Rattle.hfs_needed_runs.proofs.ForkPlaces.{in-left, in-right}
 
 none-is : (b : List ℕ) → None ≡ Some b → ⊥
 none-is b e = cc
@@ -61,14 +58,6 @@ kept-gained : (numbers more : List ℕ) (changed old middle new : Numbered) → 
 kept-gained numbers more changed old middle new h all =
     each-mono (λ n. changes middle n ≡ changes changed n) (λ n. changes new n ≡ changes changed n) numbers
     (λ n e. ⊎_elim (λ (same : changes new n ≡ changes middle n). same ∙ e) (λ (came : In n more × (changes new n ≡ changes changed n)). came.1) (h.only n)) all
-
-in-left : (x : ℕ) (xs ys : List ℕ) → In x xs → In x (xs ++ ys)
-in-left x [] ys i = absurd i
-in-left x (y ∷ xs) ys i = ⊎_elim (λ (here : y ≡ x). inl here) (λ (there : In x xs). inr (in-left x xs ys there)) i
-
-in-right : (x : ℕ) (xs ys : List ℕ) → In x ys → In x (xs ++ ys)
-in-right x [] ys i = i
-in-right x (y ∷ xs) ys i = inr (in-right x xs ys i)
 
 pub gained-none : (changed old : Numbered) → GainsChanged [] changed old old
 gained-none changed old = record { all = λ part. tt; only = λ n. inl refl }

@@ -26,6 +26,7 @@ use Rattle.hfs_working.specs.Opened.{IsWorking}
 use Rattle.hfs_working.specs.Working.{working_blocks, IsWorkingCopy, AreChangesOf, CarriesOver}
 use Rattle.hfs_working.proofs.Carried.{carries-over}
 use Rattle.hfs_working.proofs.Copies.{is-copy, each-image, places}
+use Rattle.hfs_working.proofs.Kept.{each-take}
 use Rattle.hfs_scripts.specs.declared.lines.ScriptLine.{ScriptLine}
 use Rattle.hfs_runs.specs.Runs.{AreLinesRun}
 use Rattle.hfs_needed_runs.specs.Keeping.{AreChangedIn}
@@ -45,12 +46,6 @@ unfolding laid
 laid-same f g bytes same = laid_from-same f g (block_count bytes) 0 bytes (λ k above below. same k (omega (arith, below)))
 
 -- ---- which blocks calls change
-
-each-take : (P : ℕ → Type 0) (a b : ℕ) (xs : List ℕ) → a ≤ b → Each P (take b xs) → Each P (take a xs)
-each-take P zero b xs le h = tt
-each-take P (suc a) zero xs le h = absurd (omega (arith, le))
-each-take P (suc a) (suc b) [] le h = tt
-each-take P (suc a) (suc b) (x ∷ xs) le h = (h.0, each-take P a b xs (omega (arith, le)) h.1)
 
 -- what holds of each working block holds of each block that calls change
 changing-each : (P : ℕ → Type 0) (total : ℕ) (blocks : Blocks) → AreBlocksSound total blocks → Each P (working_blocks total blocks) → Each P (changing_blocks blocks)

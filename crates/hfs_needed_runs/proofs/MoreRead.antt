@@ -32,7 +32,7 @@ use Rattle.hfs_working.specs.Opened.{IsWorking}
 use Rattle.hfs_working.specs.Working.{working_blocks, HasWorking}
 use Rattle.hfs_working.proofs.SameWork as work
 use Rattle.hfs_working.proofs.SameTrees.{trees-same}
-use Rattle.hfs_working.proofs.ReadWork.{of-later}
+use Rattle.hfs_needed.proofs.Gathered.{of-later}
 
 module _ (known later : Option (List ℕ)) (total count : ℕ) (old new : Numbered) (mdb : Mdb) (trees : VolumeTrees) (is : IsWorking known total old count mdb trees)
     (grown : HasGrown old new) where

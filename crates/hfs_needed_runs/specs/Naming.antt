@@ -1,13 +1,8 @@
 -- The items that the lines of a script name.
-use Rattle.std.specs.Prelude.{Bool, List, map}
+use Rattle.std.specs.Prelude.{Bool, List}
 use Rattle.std.specs.List.{list_any}
-use Rattle.hfs_model.specs.declared.call.Call.{Call}
 use Rattle.hfs_scripts.specs.declared.lines.ScriptLine.{ScriptLine}
 use Rattle.hfs_alike.specs.Alike.{reads_fork}
-
--- the calls of a script's lines, in order
-abbrev pub calls_in : List ScriptLine → List Call
-calls_in lines = map (λ (line : ScriptLine). line.call) lines
 
 -- whether one of these lines reads bytes of a fork
 abbrev pub read_forks : List ScriptLine → Bool

@@ -4,7 +4,9 @@ use hfs_check::MountFault;
 use hfs_fixtures::{SmallVolume, small_image};
 use hfs_needed::NeededFault;
 use hfs_sparse::ByteSource;
-use hfs_working::{WorkingVolume, kept_to, open_working};
+use hfs_volume::Volume;
+use hfs_working::{WorkingVolume, kept_to, mount_read, open_working};
+use std::alloc::Global;
 use std::process::Abort;
 
 /// The image of the volume with the file `f`.
@@ -46,4 +48,32 @@ fn reads_the_free_nodes_too(rt: HostRuntime) {
 fn refuses_what_the_checks_refuse(rt: HostRuntime) {
     let short = opened(&rt, [0; 1_024].as_slice());
     assert!(rt; matches!(short, Err(NeededFault::Refused(MountFault::Short))));
+}
+
+/// The volume of an image, mounted over its working blocks.
+fn mounted(alloc: Global, image: &[u8]) -> Option<Volume> {
+    let mut source = ByteSource { bytes: image };
+    let len = image.len() as u64;
+    let Ok(working) = open_working(alloc, &mut source, len) else {
+        return None;
+    };
+    match mount_read(alloc, working, len) {
+        Ok(volume) => Some(volume),
+        Err(_failed) => None,
+    }
+}
+
+/// Whether a volume has the file `f` in its root, and no changed block.
+fn has_f(volume: &Volume) -> bool {
+    volume.get_cat_info(2, b"f").code == 0 && volume.changed() == 0
+}
+
+/// The catalog is read of the image, so its file is found.
+#[test]
+fn mounts_over_the_working_blocks(rt: HostRuntime) {
+    let image = image_of(&rt);
+    match mounted(rt.alloc(), &image) {
+        Some(volume) => assert!(rt; has_f(&volume)),
+        None => panic!(rt; "the image is refused"),
+    }
 }

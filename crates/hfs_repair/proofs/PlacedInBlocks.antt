@@ -51,6 +51,7 @@ use Rattle.hfs_repair.specs.Puts.{puts_from, number_puts, puts_of, AreInBlocks}
 use Rattle.hfs_repair.specs.Wrong.{wrong_in_blocks, placed_of}
 use Rattle.hfs_repair.proofs.Mendable.{mdb-wrong, extents-wrong, catalog-wrong, trees-right}
 use Rattle.hfs_repair.proofs.Openings.{none-of, extents_within}
+use Rattle.hfs_repair.proofs.Repaired.{filtered, filtered-by}
 
 -- a number's bytes lie in so many blocks
 abbrev pub LiesIn : ℕ → PlacedNumber → Type 0
@@ -110,10 +111,6 @@ leaf-least entry h = omega (arith, body-least (length (cat_body_of entry)) (cat_
 
 -- ---- the numbers in one block
 
-kept-by : {X : Type 0} (P : X → Type 0) (b : Bool) (x : X) (xs : List X) → P x → Each P xs → Each P (cond b (x ∷ xs) xs)
-kept-by P true x xs h rest = (h, rest)
-kept-by P false x xs h rest = rest
-
 module _ (total b : ℕ) (lies : b < total) (bytes : List ℕ) (children : ℕ → ℕ) where
   -- each of these records, of which the first is record k, ends in the node
   abbrev End : ℕ → List (List ℕ) → Type 0
@@ -133,7 +130,7 @@ module _ (total b : ℕ) (lies : b < total) (bytes : List ℕ) (children : ℕ �
   leaf-lies k [] ends leaf = tt
   leaf-lies k (entry ∷ entries) ends leaf =
       let same : k + 0 ≡ k = omega arith in
-      kept-by (LiesIn total) (is_dir (cat_body_of entry)) (placed_valence children (512 * b + offset_of bytes k) entry)
+      filtered-by (LiesIn total) (is_dir (cat_body_of entry)) (placed_valence children (512 * b + offset_of bytes k) entry)
       (placed_from children (λ j. 512 * b + offset_of bytes j) (suc k) entries)
       (valence-lies k entry leaf.0 (subst (λ (j : ℕ). offset_of bytes j + length entry ≤ 512) same (ends 0 (omega arith))))
       (leaf-lies (suc k) entries (next-end k entry entries ends) leaf.1)
@@ -168,9 +165,10 @@ module _ (total : ℕ) (some : 0 < total) (numbers : List ℕ) (lie : Each (IsBl
   leaves-lie : (children : ℕ → ℕ) → HasStructure cat_keys nodes → (done rest : List ℕ) → leaves cat_keys nodes ≡ done ++ rest
       → Each (λ n. Each (LiesIn total) (placed_in_leaf children numbers nodes n)) rest
   leaves-lie children structure done [] split = tt
-  leaves-lie children structure done (n ∷ rest) split =
-      (leaf-of children structure done n rest split,
-      leaves-lie children structure (done ++ n ∷ []) rest (split ∙ sym (append_assoc done (n ∷ []) rest)))
+  leaves-lie children structure done (n ∷ rest) split = (
+    leaf-of children structure done n rest split,
+    leaves-lie children structure (done ++ n ∷ []) rest (split ∙ sym (append_assoc done (n ∷ []) rest)),
+  )
 
   valences-lie : (children : ℕ → ℕ) → HasStructure cat_keys nodes → Each (LiesIn total) (placed_valences children numbers nodes)
   unfolding placed_valences
@@ -186,9 +184,10 @@ module _ (total : ℕ) (blocks : Blocks) (some : 3 ≤ total) (sound : IsMdbSoun
   tree-file : {K : Type 0} (g : Ghosts K) (file : List Extent) (size : ℕ) → is_tree_right g blocks mdb file size ≡ true
       → Each (IsBlock total) (block_numbers mdb file) × HasStructure g (tree_nodes blocks mdb file size)
   tree-file g file size right =
-      let both = and_parts (is_tree_file mdb file size) (is_none (structure_fault g size (tree_nodes blocks mdb file size))) right in
-      (file-lies mdb total sound.area file (extents_within mdb file size both.0),
-      ((structure-law g size (tree_nodes blocks mdb file size)).0 (none-of _ both.1)).0)
+      let both = and_parts (is_tree_file mdb file size) (is_none (structure_fault g size (tree_nodes blocks mdb file size))) right in (
+        file-lies mdb total sound.area file (extents_within mdb file size both.0),
+        ((structure-law g size (tree_nodes blocks mdb file size)).0 (none-of _ both.1)).0,
+      )
 
   mdb-lies : Each (LiesIn total) (placed_in_mdb blocks mdb (catalog_in_of blocks mdb))
   unfolding placed_in_mdb
@@ -221,10 +220,6 @@ module _ (total : ℕ) (blocks : Blocks) (some : 3 ≤ total) (sound : IsMdbSoun
       each-append (LiesIn total) (placed_in_mdb blocks mdb (catalog_in_of blocks mdb)) _ mdb-lies
       (each-append (LiesIn total) (placed_in_header ext_keys ExtentsRecords ExtentsFree (block_numbers mdb mdb.extents_file) (extents_of blocks mdb)) _
       (extents-lie extents) (catalog-lies catalog))
-
-filtered : {X : Type 0} (P : X → Type 0) (test : X → Bool) (xs : List X) → Each P xs → Each P (filter test xs)
-filtered P test [] h = tt
-filtered P test (x ∷ xs) h = kept-by P (test x) x (filter test xs) h.0 (filtered P test xs h.1)
 
 chosen : {X : Type 0} (P : X → Type 0) (b : Bool) (xs : List X) → Each P xs → Each P (cond b xs [])
 chosen P true xs h = h

@@ -56,11 +56,11 @@ with-beside (n ∷ ns) image k none =
     with-beside ns (laid_over image n.1.at (big_bytes n.1.width n.1.now)) k none.1
     ∙ laid-beside image n.1.at (big_bytes n.1.width n.1.now) k (subst W (sym (length-bytes_high_first n.1.width n.1.now)) none.0)
 
-filtered-by : {X : Type 0} (P : X → Type 0) (b : Bool) (x : X) (xs : List X) → P x → Each P xs → Each P (cond b (x ∷ xs) xs)
+pub filtered-by : {X : Type 0} (P : X → Type 0) (b : Bool) (x : X) (xs : List X) → P x → Each P xs → Each P (cond b (x ∷ xs) xs)
 filtered-by P true x xs h rest = (h, rest)
 filtered-by P false x xs h rest = rest
 
-filtered : {X : Type 0} (P : X → Type 0) (test : X → Bool) (xs : List X) → Each P xs → Each P (filter test xs)
+pub filtered : {X : Type 0} (P : X → Type 0) (test : X → Bool) (xs : List X) → Each P xs → Each P (filter test xs)
 filtered P test [] h = tt
 filtered P test (x ∷ xs) h = filtered-by P (test x) x (filter test xs) h.0 (filtered P test xs h.1)
 

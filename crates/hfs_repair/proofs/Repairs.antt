@@ -21,7 +21,7 @@ laid (b ∷ image) zero [] = refl
 laid (b ∷ image) zero (x ∷ bytes) = shifted 0 bytes x image ∙ ap (λ (ys : List ℕ). x ∷ ys) (laid image zero bytes)
 laid (b ∷ image) (suc at) bytes = shifted at bytes b image ∙ ap (λ (ys : List ℕ). b ∷ ys) (laid image at bytes)
 
-put-append : (ps qs : List BytePut) (image : List ℕ) → put_all (ps ++ qs) image ≡ put_all qs (put_all ps image)
+pub put-append : (ps qs : List BytePut) (image : List ℕ) → put_all (ps ++ qs) image ≡ put_all qs (put_all ps image)
 put-append [] qs image = refl
 put-append (p ∷ ps) qs image = put-append ps qs (set image p.at p.byte)
 

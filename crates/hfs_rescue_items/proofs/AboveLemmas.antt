@@ -1,5 +1,5 @@
 -- Where a folder is made, so are all that it lies in.
-use Rattle.std.proofs.Common.{◌≡◌, ℕ, ◌+◌, ◌-◌, ◌<◌, ◌≤◌, Bool, true, false, ◌&&◌, ◌||◌, ◌==◌, if◌then◌else◌, List, [], ◌∷◌, ◌++◌, length, take, drop, slice_index_or, Option, Some, None, inl, inr, refl, sym, ap, subst, ◌∙◌, arith, length-take, length-drop}
+use Rattle.std.proofs.Common.{◌≡◌, ℕ, ◌+◌, ◌-◌, ◌<◌, ◌≤◌, Bool, true, false, ◌||◌, ◌==◌, if◌then◌else◌, List, [], ◌∷◌, ◌++◌, length, take, drop, slice_index_or, Option, Some, None, inl, inr, refl, sym, ap, subst, ◌∙◌, arith, length-take, length-drop}
 use Rattle.std.specs.List.{fold, list_any}
 use Rattle.std.specs.Str.{bytes_eq}
 use Rattle.std.proofs.Math.Bool.{or-true}
@@ -13,7 +13,7 @@ use Rattle.hfs_bag.specs.declared.item.BagKind.TheVariants as bag
 use Rattle.hfs_rescue_items.specs.declared.found.Found.{Found}
 use Rattle.hfs_rescue_items.specs.declared.plan.Planned.{Planned}
 use Rattle.hfs_rescue_items.specs.Found.{path_at}
-use Rattle.hfs_rescue_items.specs.Plan.{AreAllMade, first_part, folder_before, folders_above, is_above_made, is_made, last_part, makes, makes_folder, of_kind, own_kind, part_behind, path_of, with_folder, with_kind, with_own, with_path, with_thing}
+use Rattle.hfs_rescue_items.specs.Plan.{AreAllMade, first_part, folder_before, folders_above, is_above_made, is_made, last_part, makes, makes_folder, of_kind, own_kind, part_behind, path_of, with_folder, with_kind, with_path, with_thing}
 use Rattle.hfs_rescue_items.proofs.PlanLemmas.{made-push}
 
 module _ (found : Found) where

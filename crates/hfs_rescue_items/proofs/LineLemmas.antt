@@ -1,5 +1,5 @@
 -- Pieces of tables that are read.
-use Rattle.std.proofs.Common.{◌≡◌, ℕ, suc, ◌+◌, ◌≤◌, List, [], ◌∷◌, ◌++◌, length, refl, sym, ap, ◌∙◌, append_assoc, append-nil, length-append, arith}
+use Rattle.std.proofs.Common.{◌≡◌, ℕ, ◌+◌, ◌≤◌, List, [], ◌∷◌, ◌++◌, length, refl, sym, ap, ◌∙◌, append_assoc, length-append, arith}
 use Rattle.hfs_rescue.specs.declared.catalog.FoundRecord.{FoundRecord}
 use Rattle.hfs_table.specs.Columns.{column_name, columns}
 use Rattle.hfs_table.specs.Lines.{csv_head}

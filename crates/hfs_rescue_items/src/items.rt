@@ -1,5 +1,5 @@
 //! What remains of a volume, for a bag.
-ghost use Rattle.std.specs.Prelude.{◌≡◌, IfOk};
+ghost use Rattle.std.specs.Prelude.{◌≡◌, ⊤, IfOk};
 ghost use Rattle.hfs_rescue_items.specs.Plan.{whole_plan};
 ghost use Rattle.hfs_rescue_items.specs.Reading.{reading_rest};
 ghost use Rattle.hfs_rescue_items.specs.Sources.{part_bytes, part_stream, source_of};
@@ -94,6 +94,8 @@ impl<'a> RescueItems<'a> {
 
 impl BagSource for RescueItems<'_> {
     ghost state = { λ items. source_of items.found items.plan.items items.next items.came items.reading };
+
+    ghost Fails = { λ _. ⊤ };
 
     fn tells_remains(&self) -> bool {
         true

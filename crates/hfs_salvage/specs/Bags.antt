@@ -1,6 +1,9 @@
 -- The bag of what remains of an image.
-use Rattle.std.specs.Prelude.{◌≡◌, ℕ, List, [], ◌∷◌, ◌++◌, length, map, take, Option, string_bytes}
+use Rattle.std.specs.Prelude.{◌≡◌, ⊤, ℕ, List, [], ◌∷◌, ◌++◌, length, map, take, Option, string_bytes}
 use Rattle.hfs_bag.specs.declared.facts.BagFacts.{BagFacts}
+use Rattle.hfs_bag.specs.declared.fault.BagFault.{BagFault}
+use Rattle.hfs_bag.specs.Bags.{bytes_in}
+use Rattle.hfs_bag.specs.Faults.{AreTooMany, IsBagFault}
 use Rattle.hfs_bag.specs.Items.{BagItem}
 use Rattle.hfs_bag.specs.Tags.{bag_of}
 use Rattle.hfs_check.specs.Report.{report_of}
@@ -10,6 +13,7 @@ use Rattle.hfs_names.specs.PlainTexts.{plain_text}
 use Rattle.hfs_rescue_items.specs.declared.found.Found.{Found}
 use Rattle.hfs_rescue_items.specs.Plan.{whole_plan}
 use Rattle.hfs_rescue_items.specs.Sources.{planned_item, rescued_tables}
+use Rattle.hfs_shelves.specs.declared.fault.ShelfFault.{ShelfFault}
 use Rattle.hfs_shelves.specs.Entries.{ShelfEntry}
 use Rattle.hfs_take.specs.Bags.{digest_told, text_in}
 use Rattle.hfs_take.specs.Facts.{image_name}
@@ -51,6 +55,10 @@ rescued_bag found facts = bag_of (rescued_items found) (rescued_tables found) fa
 abbrev pub OfBag : List ℕ → Option (List ℕ) → BagWords → (List ShelfEntry → Type 0) → Type 0
 OfBag image line words Fact =
     OfFound image (limit_of words.words image) (λ found. (facts : BagFacts) → TellsOf image found.mdb.now line words facts → Fact (rescued_bag found facts))
+
+-- a fault of a shelf, or want of memory; or the bag of what remains has too many bytes
+abbrev pub IsUnfilled : (ShelfFault → Type 0) → List ℕ → Option (List ℕ) → BagWords → BagFault → Type 0
+IsUnfilled ShelfGave image line words = IsBagFault (λ _. ⊤) ShelfGave (OfBag image line words (λ bag. AreTooMany (bytes_in bag)))
 
 -- ---- before the items are read
 

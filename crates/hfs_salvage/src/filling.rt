@@ -5,7 +5,7 @@ ghost use Rattle.hfs_shelves.specs.Entries.{IsBeginning};
 ghost use Rattle.hfs_take.specs.Bags.{text_in};
 ghost use Rattle.hfs_take.specs.Faults.{IsTakeFault};
 ghost use Rattle.hfs_salvage.specs.Answers.{IsAnswerOf};
-ghost use Rattle.hfs_salvage.specs.Bags.{IsToldOf, OfBag};
+ghost use Rattle.hfs_salvage.specs.Bags.{IsToldOf, IsUnfilled, OfBag};
 ghost use Rattle.hfs_salvage.specs.Found.{IsFoundOf};
 ghost use Rattle.hfs_salvage.specs.Words.{as_take_words, limit_of};
 
@@ -51,6 +51,9 @@ fn give_found<S: Shelf, W: Watch>(
         (λ bag. S.given shelf.new ≡ S.given shelf.old ++ bag)) }
     ensures part { OnErr result (OfBag image.now.bytes (option_map string_bytes image.now.line) words.now
         (λ bag. IsBeginning (S.given shelf.new) (S.given shelf.old ++ bag))) }
+    ensures fault { IfErr result (IsUnfilled (S.Fails (S.place shelf.old)) image.now.bytes
+        (option_map string_bytes image.now.line) words.now) }
+    ensures place { S.place shelf.new ≡ S.place shelf.old }
 {
     let line = text_in(&image.line);
     let facts = BagFacts {
@@ -83,6 +86,9 @@ pub fn give_remains<S: Shelf, W: Watch>(
         (λ bag. IsBeginning (S.given shelf.new) (S.given shelf.old ++ bag))) }
     ensures answer { IfOk result (IsAnswerOf image.now.bytes
         (limit_of words.now.words image.now.bytes)) }
+    ensures fault { IfErr result (IsUnfilled (S.Fails (S.place shelf.old)) image.now.bytes
+        (option_map string_bytes image.now.line) words.now) }
+    ensures place { S.place shelf.new ≡ S.place shelf.old }
 {
     let limit = words.words.limit_for(image.bytes.bytes().len());
     let salvage = salvage_of(alloc, &image.finds, limit)?;

@@ -46,6 +46,8 @@ impl<'w, B: BagSource, W: Watch> Watched<'w, B, W> {
 impl<B: BagSource, W: Watch> BagSource for Watched<'_, B, W> {
     ghost state = { λ watched. B.state watched.items };
 
+    ghost Fails = { B.Fails };
+
     fn tells_remains(&self) -> bool {
         self.items.tells_remains()
     }

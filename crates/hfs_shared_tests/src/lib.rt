@@ -23,4 +23,6 @@ mod sharing;
 #[cfg(test)]
 mod telling;
 #[cfg(test)]
+mod unread;
+#[cfg(test)]
 mod waiting;

@@ -1,6 +1,6 @@
 -- Which path a fault of the shelf of files tells.
 use Rattle.std.specs.Prelude.{◌≡◌, ℕ, List, ◌⊎◌, ⊤, string_bytes}
-use Rattle.hfs_shelves.specs.ShelfPaths.{IsNewFolder}
+use Rattle.hfs_shelves.specs.ShelfPaths.{IsNewFolder, path_within}
 use Rattle.hfs_shelves.specs.declared.fault.ShelfFault.{ShelfFault}
 use Rattle.hfs_shelves.specs.declared.fault.ShelfFault.TheVariants as fault
 
@@ -13,3 +13,12 @@ Tells path fault.NoMemory = ⊤
 abbrev pub TellsNewFolder : List ℕ → ShelfFault → Type 0
 TellsNewFolder path (fault.CannotWrite told) = IsNewFolder path (string_bytes told) ⊎ (string_bytes told ≡ path)
 TellsNewFolder path fault.NoMemory = ⊤
+
+-- the path of a folder, or of what lies in it
+abbrev pub IsFolderOrIn : List ℕ → List ℕ → Type 0
+IsFolderOrIn folder told = (told ≡ folder) ⊎ ((path : List ℕ) × (told ≡ path_within folder path))
+
+-- one of these, where it tells a path
+abbrev pub TellsWithin : List ℕ → ShelfFault → Type 0
+TellsWithin folder (fault.CannotWrite told) = IsFolderOrIn folder (string_bytes told)
+TellsWithin folder fault.NoMemory = ⊤

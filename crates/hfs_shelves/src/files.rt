@@ -1,7 +1,7 @@
 //! The shelf of files: a folder of the system's own files.
 ghost use Rattle.std.specs.Prelude.{◌≡◌, [], List, IfErr, IfOk, OnErr, OnOk, string_bytes};
 ghost use Rattle.hfs_shelves.specs.ShelfPaths.{IsNewFolder, path_within};
-ghost use Rattle.hfs_shelves.specs.Told.{Tells, TellsNewFolder};
+ghost use Rattle.hfs_shelves.specs.Told.{Tells, TellsNewFolder, TellsWithin};
 ghost use Rattle.hfs_shelves.specs.Entries.{IsBeginning, with_folder, with_file, with_piece};
 
 use crate::fault::ShelfFault;
@@ -17,7 +17,7 @@ use std::{fs, io};
 /// How many names are tried for the folder in which a folder is written.
 const NAMES: u32 = 100;
 
-/// The file that was made last.
+/// The file that was made last, and its path within the folder.
 #[derive(Drop)]
 struct MadeFile<F> {
     file: F,
@@ -124,6 +124,16 @@ fn cannot_write<R: AllocGlobal>(rt: &R, path: &str) -> ShelfFault
     }
 }
 
+/// The fault of a path within a folder that can't be written.
+fn cannot_write_within<R: AllocGlobal>(rt: &R, folder: &str, path: &str) -> ShelfFault
+    ensures { TellsWithin folder.now result }
+{
+    match path_within(rt.alloc(), folder, path) {
+        Ok(whole) => ShelfFault::CannotWrite(whole),
+        Err(_) => ShelfFault::NoMemory,
+    }
+}
+
 /// Whether anything has this name, a link that leads nowhere too.
 pub fn is_there<R: Files>(rt: &R, path: &str) -> bool {
     rt.symlink_metadata(path).is_ok()
@@ -132,6 +142,10 @@ pub fn is_there<R: Files>(rt: &R, path: &str) -> bool {
 impl<R: Files + AllocGlobal> Shelf for FileShelf<'_, R> {
     ghost given = { λ shelf. shelf.given.entries };
 
+    ghost place = { λ shelf. string_bytes shelf.folder };
+
+    ghost Fails = { TellsWithin };
+
     #[tactic(auto, using(crate::proofs::Beginnings::beginnings))]
     fn make_folder(&mut self, path: &str) -> Result<(), ShelfFault>
         ensures whole { OnOk result (self.new.given.entries ≡ with_folder self.old.given.entries
@@ -139,6 +153,8 @@ impl<R: Files + AllocGlobal> Shelf for FileShelf<'_, R> {
         ensures part { OnErr result (IsBeginning self.new.given.entries
             (with_folder self.old.given.entries path.now)) }
         ensures told { IfErr result (Tells (path_within (string_bytes self.old.folder) path.now)) }
+        ensures fault { IfErr result (TellsWithin (string_bytes self.old.folder)) }
+        ensures place { string_bytes self.new.folder ≡ string_bytes self.old.folder }
         ensures same_folder { self.new.folder ≡ self.old.folder }
     {
         self.close();
@@ -161,17 +177,22 @@ impl<R: Files + AllocGlobal> Shelf for FileShelf<'_, R> {
         ensures part { OnErr result (IsBeginning self.new.given.entries
             (with_file self.old.given.entries path.now)) }
         ensures told { IfErr result (Tells (path_within (string_bytes self.old.folder) path.now)) }
+        ensures fault { IfErr result (TellsWithin (string_bytes self.old.folder)) }
+        ensures place { string_bytes self.new.folder ≡ string_bytes self.old.folder }
         ensures same_folder { self.new.folder ≡ self.old.folder }
     {
         self.close();
         let Ok(whole) = path_within(self.rt.alloc(), self.folder.as_str(), path) else {
             return Err(ShelfFault::NoMemory);
         };
+        let Ok(path_made) = String::from_str(self.rt.alloc(), path) else {
+            return Err(ShelfFault::NoMemory);
+        };
         match File::create_new(self.rt, whole.as_str()) {
             Ok(file) => {
                 self.made = Some(MadeFile {
                     file,
-                    path: whole,
+                    path: path_made,
                     modified,
                 });
                 self.given = self.given.then(&Step::File(path));
@@ -189,7 +210,11 @@ impl<R: Files + AllocGlobal> Shelf for FileShelf<'_, R> {
                     self.given = self.given.then(&Step::Piece(piece));
                     Ok(())
                 }
-                Err(_) => Err(cannot_write(self.rt, made.path.as_str())),
+                Err(_) => Err(cannot_write_within(
+                    self.rt,
+                    self.folder.as_str(),
+                    made.path.as_str(),
+                )),
             },
             None => Err(cannot_write(self.rt, self.folder.as_str())),
         }

@@ -1,6 +1,7 @@
 //! A shelf over memory.
-ghost use Rattle.std.specs.Prelude.{◌≡◌, [], ◌∷◌, ◌++◌, OnErr, OnOk};
+ghost use Rattle.std.specs.Prelude.{◌≡◌, [], ◌∷◌, ◌++◌, IfErr, OnErr, OnOk};
 ghost use Rattle.hfs_shelves.specs.Entries.{longer};
+ghost use Rattle.hfs_shelves.specs.declared.fault.ShelfFault.TheVariants as fault;
 ghost use Rattle.hfs_shelves.specs.StoredEntries.{entry_with, stored_entries, stored_entry};
 
 use crate::fault::ShelfFault;
@@ -14,7 +15,8 @@ pub struct Stored {
     pub bytes: Option<Vec<u8>>,
 }
 
-/// A shelf that keeps all that it was given, in order. It takes no note of times.
+/// A shelf that keeps all that it was given, in order. It takes no note of times. Its only fault is
+/// want of memory.
 #[derive(Drop)]
 pub struct MemoryShelf {
     alloc: Global,
@@ -38,6 +40,7 @@ fn extend(stored: &mut Stored, piece: &[u8]) -> Result<(), ShelfFault>
     ensures whole { OnOk result (stored_entry stored.new ≡ longer (stored_entry stored.old)
         piece.now) }
     ensures kept { OnErr result (stored_entry stored.new ≡ stored_entry stored.old) }
+    ensures fault { IfErr result (λ why. why ≡ fault.NoMemory) }
 {
     match &mut stored.bytes {
         Some(bytes) => match bytes.extend_from_slice(piece) {
@@ -53,6 +56,7 @@ fn keep(shelf: &mut MemoryShelf, path: &str, bytes: Option<Vec<u8>>) -> Result<(
     ensures whole { OnOk result (stored_entries shelf.new.stored.items ≡ stored_entries
         shelf.old.stored.items ++ entry_with path.now bytes ∷ []) }
     ensures kept { OnErr result (shelf.new.stored.items ≡ shelf.old.stored.items) }
+    ensures fault { IfErr result (λ why. why ≡ fault.NoMemory) }
 {
     let Ok(path) = String::from_str(shelf.alloc, path) else {
         return Err(ShelfFault::NoMemory);
@@ -65,6 +69,10 @@ fn keep(shelf: &mut MemoryShelf, path: &str, bytes: Option<Vec<u8>>) -> Result<(
 
 impl Shelf for MemoryShelf {
     ghost given = { λ shelf. stored_entries shelf.stored.items };
+
+    ghost place = { λ _. [] };
+
+    ghost Fails = { λ _ why. why ≡ fault.NoMemory };
 
     #[tactic(auto, using(crate::proofs::Beginnings::beginnings))]
     fn make_folder(&mut self, path: &str) -> Result<(), ShelfFault> {

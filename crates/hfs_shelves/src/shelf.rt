@@ -1,31 +1,43 @@
 //! The trait of shelves.
-ghost use Rattle.std.specs.Prelude.{◌≡◌, List, OnErr, OnOk};
+ghost use Rattle.std.specs.Prelude.{◌≡◌, ℕ, List, IfErr, OnErr, OnOk};
+ghost use Rattle.hfs_shelves.specs.declared.fault.ShelfFault.{ShelfFault};
 ghost use Rattle.hfs_shelves.specs.Entries.{ShelfEntry, IsBeginning, with_folder, with_file, with_piece};
 
 use crate::fault::ShelfFault;
 
 /// What takes folders and files: each is made by its path, and a file's bytes come in pieces, behind
-/// one another. Contracts know a shelf by the list of what it was given.
+/// one another. Contracts know a shelf by the list of what it was given, by the path of the folder that
+/// it writes, and by the faults that a shelf of its kind may answer there.
 pub trait Shelf {
     ghost given: { Self → List ShelfEntry };
+
+    ghost place: { Self → List ℕ };
+
+    ghost Fails: { List ℕ → ShelfFault → Type 0 };
 
     /// Makes a folder. Faults: `CannotWrite` of its path, `NoMemory`.
     fn make_folder(&mut self, path: &str) -> Result<(), ShelfFault>
         ensures whole { OnOk result (given self.new ≡ with_folder (given self.old) path.now) }
         ensures part { OnErr result (IsBeginning (given self.new)
-            (with_folder (given self.old) path.now)) };
+            (with_folder (given self.old) path.now)) }
+        ensures fault { IfErr result (Fails (place self.old)) }
+        ensures place { place self.new ≡ place self.old };
 
     /// Makes a file without bytes, which the next pieces are for. It gets this time, in seconds from
     /// the beginning of 1970, where one is told and the shelf can set it. Faults: as of a folder.
     fn make_file(&mut self, path: &str, modified: Option<u32>) -> Result<(), ShelfFault>
         ensures whole { OnOk result (given self.new ≡ with_file (given self.old) path.now) }
         ensures part { OnErr result (IsBeginning (given self.new)
-            (with_file (given self.old) path.now)) };
+            (with_file (given self.old) path.now)) }
+        ensures fault { IfErr result (Fails (place self.old)) }
+        ensures place { place self.new ≡ place self.old };
 
     /// Lays these bytes behind those of the file that was made last. Faults: `CannotWrite` of its
     /// path, also where nothing or a folder was made last; `NoMemory`.
     fn append(&mut self, piece: &[u8]) -> Result<(), ShelfFault>
         ensures whole { OnOk result (given self.new ≡ with_piece (given self.old) piece.now) }
         ensures part { OnErr result (IsBeginning (given self.new)
-            (with_piece (given self.old) piece.now)) };
+            (with_piece (given self.old) piece.now)) }
+        ensures fault { IfErr result (Fails (place self.old)) }
+        ensures place { place self.new ≡ place self.old };
 }

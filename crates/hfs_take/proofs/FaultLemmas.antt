@@ -1,17 +1,26 @@
 -- Faults of what is taken apart name what its words name.
-use Rattle.std.proofs.Common.{◌≡◌, refl, sym, subst, inl, inr}
+use Rattle.std.proofs.Common.{◌≡◌, ℕ, true, List, [], Option, refl, sym, subst, inl, inr}
+use Rattle.std.specs.Prelude.{⊤, string_bytes, unwrap_or}
 use Rattle.hfs_bag.specs.declared.fault.BagFault.{BagFault}
 use Rattle.hfs_bag.specs.declared.fault.BagFault.TheVariants as bag
 use Rattle.hfs_bag.specs.declared.source.SourceFault.TheVariants as source
+use Rattle.hfs_bag.specs.Bags.{bytes_in, payload}
+use Rattle.hfs_bag.specs.Faults.{AreTooMany, IsBagFault}
+use Rattle.hfs_bag.specs.Items.{BagItem}
+use Rattle.hfs_bag.proofs.FaultLemmas.{larger}
+use Rattle.hfs_image_items.specs.Items.{bag_items, entries_in, is_known_so}
 use Rattle.hfs_check.specs.declared.mount_fault.MountFault.TheVariants as mount
 use Rattle.hfs_commands.specs.declared.fault.Fault.{Fault}
 use Rattle.hfs_commands.specs.declared.fault.Fault.TheVariants.{CannotRead, NoMemory, Refused}
 use Rattle.hfs_shelves.specs.declared.fault.ShelfFault.{ShelfFault}
 use Rattle.hfs_shelves.specs.declared.fault.ShelfFault.TheVariants as shelf
+use Rattle.hfs_shelves.specs.ShelfPaths.{IsNewFolder}
+use Rattle.hfs_shelves.specs.Told.{Tells, TellsNewFolder, TellsWithin}
 use Rattle.hfs_take.specs.declared.fault.TakeFault.{TakeFault}
 use Rattle.hfs_take.specs.declared.fault.TakeFault.TheVariants as take
 use Rattle.hfs_take.specs.declared.words.TakeWords.{TakeWords}
-use Rattle.hfs_take.specs.Faults.{IsImageFault, IsTakeFault, KeepsShelfFault, fault_of_shelf}
+use Rattle.hfs_take.proofs.BagLemmas.{items-known}
+use Rattle.hfs_take.specs.Faults.{IsFillFault, IsImageFault, IsTakeFault, IsUnwritten, KeepsShelfFault, fault_of_shelf}
 
 unread : (words : TakeWords) (found : Fault) → found ≡ CannotRead words.image → IsImageFault words found
 unread words found is = inl (inl is)
@@ -23,14 +32,41 @@ unstored words found is = inl (inr (inl (inr is)))
 known : (words : TakeWords) (found is : TakeFault) → found ≡ is → IsTakeFault words is → IsTakeFault words found
 known words found is same holds = subst (IsTakeFault words) (sym same) holds
 
-of_shelf : (words : TakeWords) (why : ShelfFault) (found : TakeFault) → found ≡ fault_of_shelf why → IsTakeFault words found
-of_shelf words (shelf.CannotWrite path) found same = known words found _ same tt
-of_shelf words shelf.NoMemory found same = known words found _ same (unstored words NoMemory refl)
+-- a shelf's fault tells a path of these words' folder, where it tells one
+abbrev pub IsUnwrittenFor : List ℕ → ShelfFault → Type 0
+IsUnwrittenFor folder (shelf.CannotWrite path) = IsUnwritten folder (string_bytes path)
+IsUnwrittenFor folder shelf.NoMemory = ⊤
 
-pub of_bag : (words : TakeWords) (fault : BagFault) (found : TakeFault) → (fault ≡ bag.Source source.ReadFailed → found ≡ take.Image (CannotRead words.image))
+pub uncreated : (folder : List ℕ) (why : ShelfFault) → TellsNewFolder folder why → IsUnwrittenFor folder why
+uncreated folder (shelf.CannotWrite path) (inl new) = inr (string_bytes path, new, inl refl)
+uncreated folder (shelf.CannotWrite path) (inr same) = inl same
+uncreated folder shelf.NoMemory tells = tt
+
+pub unplaced : (folder : List ℕ) (why : ShelfFault) → Tells folder why → IsUnwrittenFor folder why
+unplaced folder (shelf.CannotWrite path) same = inl same
+unplaced folder shelf.NoMemory tells = tt
+
+pub unfilled : (folder new : List ℕ) (why : ShelfFault) → IsNewFolder folder new → TellsWithin new why → IsUnwrittenFor folder why
+unfilled folder new (shelf.CannotWrite path) is within = inr (new, is, within)
+unfilled folder new shelf.NoMemory is within = tt
+
+pub of_shelf : (words : TakeWords) (why : ShelfFault) (found : TakeFault) → found ≡ fault_of_shelf why → IsUnwrittenFor words.folder.now why → IsTakeFault words found
+of_shelf words (shelf.CannotWrite path) found same tells = known words found _ same tells
+of_shelf words shelf.NoMemory found same tells = known words found _ same (unstored words NoMemory refl)
+
+-- a bag's fault tells what its shelf's does, which writes that folder
+pub of_bag : (words : TakeWords) (fault : BagFault) (found : TakeFault) (new : List ℕ) → IsNewFolder words.folder.now new
+    → ((why : ShelfFault) → fault ≡ bag.Shelf why → TellsWithin new why) → (fault ≡ bag.Source source.ReadFailed → found ≡ take.Image (CannotRead words.image))
     → (fault ≡ bag.Source source.Memory → found ≡ take.Image NoMemory) → KeepsShelfFault fault found
     → (fault ≡ bag.TooLarge → found ≡ take.Image (Refused mount.TooLarge)) → IsTakeFault words found
-of_bag words (bag.Source source.ReadFailed) found read memory shelved large = known words found _ (read refl) (unread words _ refl)
-of_bag words (bag.Source source.Memory) found read memory shelved large = known words found _ (memory refl) (unstored words _ refl)
-of_bag words (bag.Shelf why) found read memory shelved large = of_shelf words why found (shelved why refl)
-of_bag words bag.TooLarge found read memory shelved large = known words found _ (large refl) (inr (mount.TooLarge, refl))
+of_bag words (bag.Source source.ReadFailed) found new is told read memory shelved large = known words found _ (read refl) (unread words _ refl)
+of_bag words (bag.Source source.Memory) found new is told read memory shelved large = known words found _ (memory refl) (unstored words _ refl)
+of_bag words (bag.Shelf why) found new is told read memory shelved large = of_shelf words why found (shelved why refl) (unfilled words.folder.now new why is (told why refl))
+of_bag words bag.TooLarge found new is told read memory shelved large = known words found _ (large refl) (inr (mount.TooLarge, refl))
+
+-- what is too large where an image's bytes are known is the payload of its items
+pub fill-fault : (ShelfGave : ShelfFault → Type 0) (image : Option (List ℕ)) (len : ℕ) (fault : BagFault)
+    → IsBagFault (λ _. ⊤) ShelfGave (is_known_so image len ≡ true → AreTooMany (bytes_in (payload (bag_items (entries_in (unwrap_or image [])))))) fault
+    → IsFillFault ShelfGave image len fault
+fill-fault ShelfGave image len fault is =
+    larger (λ _. ⊤) ShelfGave fault (items-known image len (λ (items : List BagItem). AreTooMany (bytes_in (payload items)))) is

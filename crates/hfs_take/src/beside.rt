@@ -1,6 +1,7 @@
 //! The digest of an image, which is made beside the payload where the image was opened a second time.
-ghost use Rattle.std.specs.Prelude.{◌≡◌, ◌++◌, IfOk, OnErr, OnOk};
+ghost use Rattle.std.specs.Prelude.{◌≡◌, ◌++◌, ⊤, IfErr, IfOk, OnErr, OnOk};
 ghost use Rattle.hfs_bag.specs.Bags.{payload};
+ghost use Rattle.hfs_bag.specs.Faults.{IsPayloadFault};
 ghost use Rattle.hfs_bag.specs.Payloads.{IsPayloadOf};
 ghost use Rattle.hfs_bag.specs.Sources.{KeepsItems, WhereKnown};
 ghost use Rattle.hfs_shelves.specs.Entries.{IsBeginning};
@@ -68,6 +69,9 @@ fn give_beside<R: Threads, S: BlockSource + Drop + Send, T: Shelf, B: BagSource>
         (IsPayloadOf made.0 (B.state items.old).all)) }
     ensures kept { OnOk result (KeepsItems (B.state items.old) (B.state items.new)) }
     ensures digest { IfOk result (λ made. IsDigestOf (S.image image) len made.1) }
+    ensures fault { IfErr result (IsPayloadFault (λ _. ⊤) (T.Fails (T.place shelf.old))
+        (B.state items.old)) }
+    ensures place { T.place shelf.new ≡ T.place shelf.old }
 {
     let mut blocks = SourceBlocks::new(image);
     let (digest, given) = join_mut(
@@ -97,6 +101,9 @@ pub(crate) fn give_first<R: Threads, S: BlockSource + Drop + Send, T: Shelf, B: 
         (IsPayloadOf made.0 (B.state items.old).all)) }
     ensures kept { OnOk result (KeepsItems (B.state items.old) (B.state items.new)) }
     ensures digest { IfOk result (λ made. CameOf S.image len digest made.1) }
+    ensures fault { IfErr result (IsPayloadFault (λ _. ⊤) (T.Fails (T.place shelf.old))
+        (B.state items.old)) }
+    ensures place { T.place shelf.new ≡ T.place shelf.old }
 {
     match digest {
         ImageDigest::Made(told) => {

@@ -1,5 +1,5 @@
 //! The bag of an image, given to any shelf.
-ghost use Rattle.std.specs.Prelude.{◌≡◌, ◌++◌, true, IfOk, OnErr, OnOk, string_bytes};
+ghost use Rattle.std.specs.Prelude.{◌≡◌, ◌++◌, true, IfErr, IfOk, OnErr, OnOk, string_bytes};
 ghost use Rattle.std.specs.Option.{option_map};
 ghost use Rattle.hfs_bag.specs.Sums.{IsSumOf};
 ghost use Rattle.hfs_image_items.specs.Items.{bag_items, entries_in, image_in, is_known};
@@ -10,6 +10,7 @@ ghost use Rattle.hfs_shelves.specs.Entries.{IsBeginning};
 ghost use Rattle.hfs_sparse.specs.Sparse.{HoldsFrom};
 ghost use Rattle.hfs_take.specs.Bags.{IsReportText, OfBag, text_in};
 ghost use Rattle.hfs_take.specs.Digests.{TellsSame};
+ghost use Rattle.hfs_take.specs.Faults.{IsFillFault};
 ghost use Rattle.hfs_take.specs.Told.{IsToldOf};
 
 use crate::beside::{ImageDigest, give_first, plan_digest};
@@ -119,6 +120,9 @@ fn give_items<R: Threads, S: BlockSource + Drop + Send, T: Shelf, W: Watch>(
         (λ bag. IsBeginning (T.given shelf.new) (T.given shelf.old ++ bag))) }
     ensures sums { IfOk result (λ sums. OfKnown items.old.image.known items.old.image.len
         (λ bytes. IsSumOf sums (bag_items (entries_in bytes)))) }
+    ensures fault { IfErr result (IsFillFault (T.Fails (T.place shelf.old))
+        items.old.image.known items.old.image.len) }
+    ensures place { T.place shelf.new ≡ T.place shelf.old }
 {
     let identifier = plain_name(alloc, items.root.name.bytes())?;
     let Told {
@@ -167,6 +171,9 @@ pub fn give_image<R: Threads, S: BlockSource + Drop + Send, T: Shelf, W: Watch>(
         (λ bag. IsBeginning (T.given shelf.new) (T.given shelf.old ++ bag))) }
     ensures sums { IfOk result (λ sums. OfKnown image.opened.known image.opened.len
         (λ bytes. IsSumOf sums (bag_items (entries_in bytes)))) }
+    ensures fault { IfErr result (IsFillFault (T.Fails (T.place shelf.old))
+        image.opened.known image.opened.len) }
+    ensures place { T.place shelf.new ≡ T.place shelf.old }
 {
     let TakenImage {
         mut opened,

@@ -39,6 +39,7 @@ impl<S: BlockSource + Drop> TakenImage<S> {
     ) -> Result<TakenImage<S>, NeededFault>
         requires { TellsSame S.image beside (S.image source) }
         ensures opened { IfOk result (λ image. image.opened ≡ opened_value (S.image source) len) }
+        ensures len { IfOk result (λ image. image.len ≡ len) }
         ensures volume { IfOk result (λ image. image.volume ≡ volume) }
         ensures sound { IfOk result (λ image. IsSoundOf (S.image source) len) }
         ensures refused { IfErr result (λ fault. IsRefusedFor (S.image source) len fault) }

@@ -1,9 +1,10 @@
 //! What is taken apart, by its path.
-ghost use Rattle.std.specs.Prelude.{◌≡◌, IfErr, IfSome, None, Some};
+ghost use Rattle.std.specs.Prelude.{◌≡◌, IfErr, IfOk, IfSome, None, Some, string_bytes};
+ghost use Rattle.std.specs.Option.{option_map};
 ghost use Rattle.hfs_commands.specs.Faults.{IsUnopened};
 ghost use Rattle.hfs_take.specs.Digests.{TellsSame};
 ghost use Rattle.hfs_take.specs.Faults.{IsImageFault};
-ghost use Rattle.hfs_take.specs.Opening.{known_in};
+ghost use Rattle.hfs_take.specs.Opening.{IsLineOf, IsNumbered, TellsVolume, known_in};
 
 use crate::facts::volume_text;
 use crate::image::TakenImage;
@@ -32,7 +33,9 @@ fn numbered_part<'a, F: Read + Seek + Drop>(
     path: &'a str,
     n: u64,
 ) -> Result<FoundPart<F>, Fault<'a>>
-    ensures { IfErr result (IsUnopened path.entry (Some n)) }
+    ensures line { IfOk result (λ part. IsNumbered (known_in file) file.range.len n part.bytes.range
+        (option_map string_bytes part.line)) }
+    ensures fault { IfErr result (IsUnopened path.entry (Some n)) }
 {
     let len = file.len();
     let found = match nth_range(alloc, &mut file, len, n) {
@@ -62,7 +65,9 @@ pub fn find_part<'a, R: Files + AllocGlobal>(
     path: &'a str,
     volume: Option<u64>,
 ) -> Result<FoundPart<R::File>, Fault<'a>>
-    ensures { IfErr result (IsUnopened path.entry volume) }
+    ensures line { IfOk result (λ part. IsLineOf volume part.bytes.range
+        (option_map string_bytes part.line)) }
+    ensures fault { IfErr result (IsUnopened path.entry volume) }
 {
     match volume {
         Some(n) => {
@@ -132,7 +137,9 @@ pub(crate) fn open_image<'a, R: Files + AllocGlobal>(
     rt: &R,
     words: &TakeWords<'a>,
 ) -> Result<TakenImage<Window<OpenedFile<R::File>>>, Fault<'a>>
-    ensures { IfErr result (IsImageFault words.now) }
+    ensures line { IfOk result (λ image. TellsVolume words.now.volume image.len
+        (option_map string_bytes image.volume)) }
+    ensures fault { IfErr result (IsImageFault words.now) }
 {
     let was = fs::metadata(rt, words.image);
     let FoundPart { bytes, line } = find_part(rt, words.image, words.volume)?;

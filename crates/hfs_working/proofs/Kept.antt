@@ -91,7 +91,7 @@ kept-all read changed kept count k within all h n = ⊎_elim
 
 -- ---- what they make of the copy and of the image
 
-each-take : (P : ℕ → Type 0) (a b : ℕ) (xs : List ℕ) → a ≤ b → Each P (take b xs) → Each P (take a xs)
+pub each-take : (P : ℕ → Type 0) (a b : ℕ) (xs : List ℕ) → a ≤ b → Each P (take b xs) → Each P (take a xs)
 each-take P zero b xs le h = tt
 each-take P (suc a) zero xs le h = absurd (omega (arith, le))
 each-take P (suc a) (suc b) [] le h = tt

@@ -18,7 +18,7 @@ use Rattle.hfs_needed.specs.Laws.{AnswerSame, HoldSame}
 use Rattle.hfs_needed.specs.Marked.{where_right}
 use Rattle.hfs_needed.specs.Needed.{is_mdb_right, needed_of_trees, needed_blocks}
 use Rattle.hfs_needed.proofs.LawsProved.{needed_is_enough}
-use Rattle.hfs_needed.proofs.Gathered.{within-all}
+use Rattle.hfs_needed.proofs.Gathered.{of-later, within-all}
 use Rattle.hfs_needed.proofs.SameParts.{extents_blocks-same, catalog_extents-same, catalog_blocks-same}
 use Rattle.hfs_sparse.specs.Sparse.{sparse, HasEach, HasGrown, StaysOf}
 use Rattle.hfs_sparse.proofs.SparseLemmas.{has-grown, each-grown, each-same}
@@ -95,10 +95,6 @@ module _ (total : ℕ) (old new : Numbered) (grown : HasGrown old new) (needed :
 
     pub trees-later : HasTrees total (sparse new) trees
     trees-later = trees-same total (sparse old) (sparse new) trees directory-stays file-stays are
-
-pub of-later : (known : Option (List ℕ)) (old new : Numbered) → IsOfKnown known old → StaysOf known old new → IsOfKnown known new
-of-later None old new of stays = tt
-of-later (Some bytes) old new of stays = stays of
 
 -- what was read behind the checks of a volume of so many blocks
 pub working-opened : (known later : Option (List ℕ)) (total many : ℕ) (old seen new : Numbered) (mdb : Mdb) (trees : VolumeTrees) → later ≡ known → many ≡ total

@@ -1,8 +1,10 @@
-use Rattle.std.proofs.Common.{List, [], ◌∷◌, ◌++◌, codes, ap, map, ◌∙◌, subst}
+use Rattle.std.proofs.Common.{List, [], ◌∷◌, ◌++◌, codes, ap, map, ◌∙◌, subst, rules}
 use Rattle.hfs_shelves.specs.Entries.{IsBeginning, folder}
 use Rattle.hfs_shelves.proofs.Beginnings.{begins_appended}
 use Rattle.hfs_bag.specs.Items.{BagItem, item_digests}
 use Rattle.hfs_bag.specs.Bags.{bytes_in, items_entries, payload}
+use Rattle.hfs_bag.specs.Faults.{AreTooMany, IsPayloadFault}
+use Rattle.hfs_bag.proofs.FaultLemmas.{larger}
 use Rattle.hfs_bag.proofs.Growing.{part_first, part_last, where_err}
 use Rattle.hfs_bag.proofs.bag.give_payload.Goals as goal
 
@@ -34,3 +36,12 @@ returns-clause-kept g c = record {
   all = c.in_ok-given.ensures.all ∙ c.in_ok-restart.ensures.all;
   tables = c.in_ok-given.ensures.tables ∙ c.in_ok-restart.ensures.tables;
 }
+
+pub returns-in_err-given-clause-fault : goal.returns-in_err-given-clause-fault
+returns-in_err-given-clause-fault g c =
+    let state = g.B.BagSource.state c.args.source.now in
+    let Shelf = g.S.Shelf.Fails (g.S.Shelf.place c.make_folder.new.self) in
+    let fault : IsPayloadFault g.B.BagSource.Fails Shelf state c.in_err-given.field-0.0 = larger g.B.BagSource.Fails Shelf c.in_err-given.field-0.0
+    (λ many known. subst (λ (items : List BagItem). AreTooMany (bytes_in (items_entries items))) (c.in_ok-restart.ensures.left known) (many (c.in_ok-restart.ensures.known ∙ known)))
+    c.in_err-given.ensures.fault in
+    search rules

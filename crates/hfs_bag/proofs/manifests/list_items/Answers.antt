@@ -7,7 +7,7 @@ use Rattle.hfs_bag.proofs.ListingLemmas.{is_next, listed_digest, listed_more, li
 use Rattle.hfs_bag.proofs.manifests.list_items.Goals as goal
 
 pub loop-at-init : goal.loop-at-init
-loop-at-init g c = (listed_none _ _ _ _ _ _ refl refl (λ m held. held), c.requires)
+loop-at-init g c = (listed_none _ _ _ _ _ _ refl refl (λ m held. held), c.requires, refl)
 
 pub list_next-requires : goal.list_next-requires
 list_next-requires g c known =
@@ -28,6 +28,7 @@ loop-at-preserved g c =
     let listed = c.in_ok-list_next.ensures.listed in (
       listed_more _ _ _ _ _ _ _ _ _ l.invariant.0 listed,
       λ known. told_behind _ (drop (l.at + 1) c.args.told.now) (drop l.at c.args.told.now) _ _ listed.item (l.invariant.1 known) (drop_more c.args.told.now l.at digests.NoFile within) listed.left,
+      c.in_ok-list_next.ensures.place ∙ l.invariant.2,
     )
 
 pub returns-clause-whole : goal.returns-clause-whole

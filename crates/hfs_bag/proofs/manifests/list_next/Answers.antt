@@ -1,15 +1,23 @@
-use Rattle.std.proofs.Common.{List, ℕ, ◌∙◌, subst}
+use Rattle.std.proofs.Common.{◌≡◌, List, [], ℕ, ◌∙◌, inl, inr, refl, subst, rules}
 use Rattle.sha2.specs.Hashers.{Holds256}
 use Rattle.hfs_shelves.specs.Entries.{IsBeginning, with_piece}
 use Rattle.hfs_shelves.proofs.Beginnings.{begins_piece}
 use Rattle.hfs_bag.specs.Bags.{items_entries, manifest}
 use Rattle.hfs_bag.specs.Sources.{TakesItem}
 use Rattle.hfs_bag.proofs.Growing.{on_err, where_err}
-use Rattle.hfs_bag.proofs.ListingLemmas.{part_lines}
+use Rattle.hfs_bag.proofs.FaultLemmas.{not-known}
+use Rattle.hfs_bag.proofs.ListingLemmas.{next_none, part_lines}
 use Rattle.hfs_bag.proofs.manifests.list_next.Goals as goal
 
 pub returns-in_err-next_item-clause-part : goal.returns-in_err-next_item-clause-part
 returns-in_err-next_item-clause-part g c = where_err _ (g.B.BagSource.state c.args.source.now) (λ known. begins_piece (g.S.Shelf.given c.args.shelf.now) (manifest (items_entries (g.B.BagSource.state c.args.source.now).left)))
+
+-- a source whose bytes are known tells the same items again
+pub returns-in_default-clause-fault : goal.returns-in_default-clause-fault
+returns-in_default-clause-fault g c =
+    let state = g.B.BagSource.state c.args.source.now in
+    let none : (g.B.BagSource.state c.args.source.now).left ≡ [] = search rules in
+    inl (inr (refl, not-known state.known (λ known. next_none c.args.told.now state.left (c.requires known) none)))
 
 pub returns-in_err-lines-clause-part : goal.returns-in_err-lines-clause-part
 returns-in_err-lines-clause-part g c = where_err _ (g.B.BagSource.state c.args.source.now) (λ known. begins_piece (g.S.Shelf.given c.args.shelf.now) (manifest (items_entries (g.B.BagSource.state c.args.source.now).left)))

@@ -1,4 +1,4 @@
-use Rattle.std.proofs.Common.{◌≡◌, ℕ, List, [], ◌∷◌, ◌++◌, ap, ◌∙◌, subst}
+use Rattle.std.proofs.Common.{◌≡◌, [], ◌∷◌, ◌++◌, ap, ◌∙◌, subst}
 use Rattle.hfs_shelves.specs.Entries.{IsBeginning}
 use Rattle.hfs_bag.specs.Sources.{BagTables}
 use Rattle.hfs_bag.specs.Tags.{manifest_file, remains_files, table_file}

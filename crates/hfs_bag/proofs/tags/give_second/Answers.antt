@@ -1,9 +1,7 @@
 use Rattle.std.proofs.Common.{◌≡◌, ℕ, List, [], ◌∷◌, codes, ap, ◌∙◌, refl, subst}
 use Rattle.hfs_shelves.specs.Entries.{IsBeginning, file}
-use Rattle.hfs_shelves.proofs.Beginnings.{begins_appended}
 use Rattle.hfs_bag.specs.Filling.{with_whole_file}
 use Rattle.hfs_bag.specs.Tags.{declaration_file, info_text, report_file}
-use Rattle.hfs_bag.specs.TagParts.{second_tags}
 use Rattle.hfs_bag.proofs.Growing.{on_err, part_done, part_first, part_next, whole_next}
 use Rattle.hfs_bag.proofs.tags.give_second.Goals as goal
 

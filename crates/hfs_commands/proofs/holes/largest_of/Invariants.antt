@@ -1,5 +1,5 @@
 -- Where the largest byte so far is zero, the bytes so far are zeros.
-use Rattle.std.proofs.Common.{◌≡◌, take, length}
+use Rattle.std.proofs.Common.{◌≡◌, take}
 use Rattle.std.specs.Prelude.{replicate}
 use Rattle.hfs_commands.proofs.holes.largest_of.Given as goal
 

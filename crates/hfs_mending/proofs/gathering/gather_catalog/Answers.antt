@@ -1,5 +1,5 @@
 -- The catalog, where it is found by what was read.
-use Rattle.std.proofs.Common.{◌≡◌, Bool, true, false, ap, sym, ◌∙◌, rules}
+use Rattle.std.proofs.Common.{◌≡◌, true, false, ap, sym, ◌∙◌, rules}
 use Rattle.std.specs.List.{flat_map}
 use Rattle.hfs_blocks.specs.Blocks.{run_of}
 use Rattle.hfs_blocks.specs.Layers.{changes, over}
@@ -10,7 +10,8 @@ use Rattle.hfs_check.specs.Parts.{Blocks}
 use Rattle.hfs_needed.specs.Gathered.{LieAt}
 use Rattle.hfs_repair.specs.Opened.{catalog_file_of}
 use Rattle.hfs_mending.specs.Found.{has_catalog}
-use Rattle.hfs_mending.proofs.ReadParts.{of-later, decides-no-catalog, decides-all, reads-runs, seen-is}
+use Rattle.hfs_needed.proofs.Gathered.{of-later}
+use Rattle.hfs_mending.proofs.ReadParts.{decides-no-catalog, decides-all, reads-runs, seen-is}
 use Rattle.hfs_mending.proofs.gathering.gather_catalog.Goals as goal
 
 pub returns-in_default-found-clause-decides : goal.returns-in_default-found-clause-decides

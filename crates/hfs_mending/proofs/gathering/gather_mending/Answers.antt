@@ -7,7 +7,8 @@ use Rattle.hfs_sparse.specs.Sparse.{sparse}
 use Rattle.hfs_check.specs.Faults as faults
 use Rattle.hfs_check.specs.Parts.{Blocks, mdb_in}
 use Rattle.hfs_needed.proofs.Gathered.{reads-block, reads-on}
-use Rattle.hfs_mending.proofs.ReadParts.{of-later, decides-directory, seen-is}
+use Rattle.hfs_needed.proofs.Gathered.{of-later}
+use Rattle.hfs_mending.proofs.ReadParts.{decides-directory, seen-is}
 use Rattle.hfs_mending.proofs.gathering.gather_mending.Goals as goal
 
 pub returns-in_err-fetch-clause-reads : goal.returns-in_err-fetch-clause-reads

@@ -1,5 +1,5 @@
 -- The bitmap, and both trees behind it.
-use Rattle.std.proofs.Common.{◌≡◌, ◌+◌, ◌≤◌, arith}
+use Rattle.std.proofs.Common.{◌+◌, ◌≤◌, arith}
 use Rattle.hfs_needed.proofs.Gathered.{reads-range, reads-on}
 use Rattle.hfs_mending.proofs.ReadParts.{is-later}
 use Rattle.hfs_mending.proofs.gathering.gather_rest.Goals as goal

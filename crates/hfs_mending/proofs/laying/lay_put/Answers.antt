@@ -1,10 +1,11 @@
 -- A byte is put into a block that was read.
-use Rattle.std.proofs.Common.{◌≡◌, ℕ, ◌/◌, ◌<◌, List, ap, refl, ◌∙◌, arith}
+use Rattle.std.proofs.Common.{ℕ, ◌/◌, ◌<◌, List, ap, refl, ◌∙◌, arith}
 use Rattle.std.specs.Prelude.{◌%◌, slice_set}
 use Rattle.std.proofs.lemmas.List.{length-set}
 use Rattle.hfs_sparse.specs.declared.volume.SparseVolume.{SparseVolume}
 use Rattle.hfs_needed.proofs.Gathered.{reads-block}
-use Rattle.hfs_mending.proofs.ReadParts.{of-later, seen-is}
+use Rattle.hfs_needed.proofs.Gathered.{of-later}
+use Rattle.hfs_mending.proofs.ReadParts.{seen-is}
 use Rattle.hfs_mending.proofs.PutBlocks.{puts-byte, within-put, within-same}
 use Rattle.hfs_mending.proofs.laying.lay_put.Goals as goal
 

@@ -5,7 +5,7 @@ use Rattle.hfs_blocks.specs.Layers.{KeepsWithin}
 use Rattle.hfs_scripts.specs.declared.lines.ScriptLine.{ScriptLine}
 use Rattle.hfs_sparse.specs.Sparse.{sparse, HasEach}
 use Rattle.hfs_needed_runs.specs.NamedForks.{HaveNamedForks, HasNamedForks, blocks_of_runs}
-use Rattle.hfs_needed_runs.proofs.KeptBlocks.{on-ok}
+use Rattle.hfs_working.proofs.Kept.{on-ok}
 use Rattle.hfs_needed_runs.proofs.MoreRead.{working-later, named-read}
 use Rattle.hfs_needed_runs.proofs.forks.fetch_named_forks.Goals as goal
 

@@ -1,5 +1,6 @@
 -- The block, where it was changed.
-use Rattle.hfs_needed_runs.proofs.KeptBlocks.{on-ok, put-one}
+use Rattle.hfs_working.proofs.Kept.{on-ok}
+use Rattle.hfs_needed_runs.proofs.KeptBlocks.{put-one}
 use Rattle.hfs_needed_runs.proofs.keeping.keep_block.Goals as goal
 
 pub returns-in-Some-clause-kept : goal.returns-in-Some-clause-kept

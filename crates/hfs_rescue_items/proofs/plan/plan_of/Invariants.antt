@@ -1,5 +1,5 @@
 -- what was planned and the things that are left make the plan
-use Rattle.std.proofs.Common.{◌≡◌, ◌-◌, [], length}
+use Rattle.std.proofs.Common.{◌≡◌, ◌-◌, length}
 use Rattle.std.specs.List.{fold, range_with_len}
 use Rattle.hfs_rescue_items.specs.Plan.{AreAllMade, KnowsFolders, whole_plan, with_thing}
 use Rattle.hfs_rescue_items.proofs.plan.plan_of.Given as goal

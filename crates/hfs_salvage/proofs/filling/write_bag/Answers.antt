@@ -1,8 +1,23 @@
--- A fault of the bag names what the words name.
-use Rattle.hfs_take.proofs.FaultLemmas.{of_bag}
+-- A fault of the bag names what the words name, or a path in the folder that is written.
+use Rattle.std.proofs.Common.{Global, subst}
+use Rattle.std.specs.Prelude.{string_bytes}
+use Rattle.std.specs.Option.{option_map}
+use Rattle.hfs_shelves.specs.Told.{TellsWithin}
+use Rattle.hfs_take.proofs.FaultLemmas.{of_bag, of_shelf, uncreated}
+use Rattle.hfs_salvage.specs.Bags.{IsUnfilled}
 use Rattle.hfs_salvage.specs.Words.{as_take_words}
 use Rattle.hfs_salvage.proofs.filling.write_bag.Goals as goal
 
+pub returns-in-Err-clause-fault : goal.returns-in-Err-clause-fault
+returns-in-Err-clause-fault g c =
+    let words = as_take_words c.args.words.now in
+    of_shelf words c.in-Err.fault c.of_shelf.result c.of_shelf.ensures (uncreated words.folder.now c.in-Err.fault c.in-Err.ensures.told)
+
 pub returns-in-Err-give_remains-clause-fault : goal.returns-in-Err-give_remains-clause-fault
 returns-in-Err-give_remains-clause-fault g c =
-    of_bag (as_take_words c.args.words.now) c.in-Err-give_remains.fault c.of_bag.result c.of_bag.ensures.read c.of_bag.ensures.memory c.of_bag.ensures.shelf c.of_bag.ensures.large
+    let image = c.args.image.now in
+    let line = option_map (string_bytes {Z = Global}) image.line in
+    let new = string_bytes {Z = Global} c.in-Ok.shelf.folder in
+    of_bag (as_take_words c.args.words.now) c.in-Err-give_remains.fault c.of_bag.result new c.in-Ok.ensures.beside
+    (λ why same. subst (IsUnfilled (TellsWithin new) image.bytes line c.args.words.now) same c.in-Err-give_remains.ensures.fault) c.of_bag.ensures.read c.of_bag.ensures.memory
+    c.of_bag.ensures.shelf c.of_bag.ensures.large

@@ -1,5 +1,5 @@
 -- What is given of the items is given of the image.
-use Rattle.std.proofs.Common.{◌≡◌, ℕ, List, ◌++◌, Option, OnErr, OnOk, IfOk, Global, ◌∙◌}
+use Rattle.std.proofs.Common.{◌≡◌, ℕ, List, ◌++◌, Option, OnErr, OnOk, IfErr, IfOk, Global, ◌∙◌}
 use Rattle.std.specs.Prelude.{string_bytes}
 use Rattle.std.specs.Option.{option_map}
 use Rattle.hfs_bag.proofs.Growing.{on_err}
@@ -10,6 +10,7 @@ use Rattle.hfs_needed.specs.Known.{OfKnown}
 use Rattle.hfs_needed.specs.OpenedValues.{OpenedValue}
 use Rattle.hfs_shelves.specs.Entries.{IsBeginning, ShelfEntry}
 use Rattle.hfs_take.specs.Bags.{OfBag}
+use Rattle.hfs_take.specs.Faults.{IsFillFault}
 use Rattle.hfs_take.proofs.BagLemmas.{carry, nothing-given}
 use Rattle.hfs_take.proofs.giving.give_image.Goals as goal
 
@@ -38,3 +39,8 @@ returns-clause-sums g c =
     carry (λ (o : OpenedValue) (l : Option (List ℕ)). IfOk c.give_items.result (λ (sums : BagSums). OfKnown o.known o.len (λ (bytes : List ℕ).
     IsSumOf sums (bag_items (entries_in bytes)))))
     _ _ (c.in_ok-items.ensures.image ∙ c.in_ok-told.ensures.image) _ _ c.text_in-line.ensures c.give_items.ensures.sums
+
+pub returns-clause-fault : goal.returns-clause-fault
+returns-clause-fault g c =
+    carry (λ (o : OpenedValue) (l : Option (List ℕ)). IfErr c.give_items.result (IsFillFault (g.T.Shelf.Fails (g.T.Shelf.place c.args.shelf.now)) o.known o.len))
+    _ _ (c.in_ok-items.ensures.image ∙ c.in_ok-told.ensures.image) _ _ c.text_in-line.ensures c.give_items.ensures.fault

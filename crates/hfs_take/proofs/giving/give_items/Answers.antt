@@ -1,5 +1,7 @@
 -- What is given is the bag of the image.
-use Rattle.std.proofs.Common.{◌≡◌, List, ◌++◌, Option, ap, refl, sym, subst, ◌∙◌}
+use Rattle.std.proofs.Common.{◌≡◌, List, ◌++◌, ap, refl, sym, subst, rules, ◌∙◌}
+use Rattle.std.specs.Prelude.{⊤}
+use Rattle.hfs_bag.proofs.FaultLemmas.{any-source, larger}
 use Rattle.hfs_bag.proofs.Growing.{on_err}
 use Rattle.hfs_bag.proofs.HalfLemmas.{bag_part, bag_whole}
 use Rattle.hfs_bag.specs.declared.facts.BagFacts.{BagFacts}
@@ -12,6 +14,8 @@ use Rattle.hfs_shelves.specs.Entries.{IsBeginning, ShelfEntry}
 use Rattle.hfs_take.specs.Bags.{IsReportText, text_in}
 use Rattle.hfs_take.proofs.BagLemmas.{items-known, nothing-given, of-known, payload-part}
 use Rattle.hfs_take.proofs.DigestLemmas.{made-told}
+use Rattle.hfs_take.proofs.FaultLemmas.{fill-fault}
+use Rattle.hfs_take.specs.Faults.{IsFillFault}
 use Rattle.hfs_take.proofs.ToldLemmas.{tells-items}
 use Rattle.hfs_take.proofs.giving.give_items.Goals as goal
 
@@ -86,3 +90,18 @@ returns-clause-sums g c =
     let items = c.args.items.now in
     items-known items.image.known items.image.len (IsSumOf c.in_ok-sums.sums) (λ known.
     subst (IsSumOf c.in_ok-sums.sums) c.in_ok-first.ensures.kept.all (c.in_ok-sums.ensures.sums (c.in_ok-first.ensures.kept.known ∙ known)))
+
+pub returns-in_err-first-clause-fault : goal.returns-in_err-first-clause-fault
+returns-in_err-first-clause-fault g c =
+    let image = c.args.items.now.image in
+    let Shelf = g.T.Shelf.Fails (g.T.Shelf.place c.args.shelf.now) in
+    let fault : IsFillFault Shelf image.known image.len c.in_err-first.field-0.0 = fill-fault Shelf image.known image.len c.in_err-first.field-0.0 c.in_err-first.ensures.fault in
+    search rules
+
+pub returns-in_err-sums-clause-fault : goal.returns-in_err-sums-clause-fault
+returns-in_err-sums-clause-fault g c =
+    let image = c.args.items.now.image in
+    let Shelf = g.T.Shelf.Fails (g.T.Shelf.place c.give_first.new.shelf) in
+    let passed = any-source _ Shelf ⊥ c.in_err-sums.field-0.0 c.in_err-sums.ensures.fault in
+    let fault : IsFillFault Shelf image.known image.len c.in_err-sums.field-0.0 = larger (λ _. ⊤) Shelf c.in_err-sums.field-0.0 (λ never. absurd never) passed in
+    search rules

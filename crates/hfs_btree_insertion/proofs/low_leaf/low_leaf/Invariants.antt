@@ -1,7 +1,7 @@
 use Rattle.std.proofs.Common.{◌≡◌, get_or, []}
 use Rattle.hfs_btree_insertion.specs.Room.{IsLowAbove}
 use Rattle.hfs_btree_insertion.proofs.WayTo.{IsAt}
-use Rattle.hfs_btree_insertion.proofs.roomy_leaf.roomy_leaf.Given as goal
+use Rattle.hfs_btree_insertion.proofs.low_leaf.low_leaf.Given as goal
 
 abbrev pub invariant-loop-here : goal.invariant-loop-here
 invariant-loop-here g l = record {

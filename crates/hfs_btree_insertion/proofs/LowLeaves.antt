@@ -1,4 +1,4 @@
--- A leaf with room on a way on which no index key is to be lowered: an insertion that lowers no key and cuts no node.
+-- A leaf on a way on which no index key is to be lowered: an insertion that lowers no key, and where the leaf has room cuts no node.
 use Rattle.std.proofs.Common.{◌≡◌, ℕ, ◌+◌, ◌-◌, ◌<◌, ◌≤◌, List, [], get_or, ap, ◌∙◌, subst, arith, inl, inr, refl}
 use Rattle.std.proofs.lemmas.Bool.{cases_lt}
 use Rattle.std.specs.Cmp.{IsTotalOrder}
@@ -8,12 +8,12 @@ use Rattle.hfs_btree.specs.declared.key.Key.{Ghosts}
 use Rattle.hfs_btree.specs.Tree.{Store, records_in, records_of}
 use Rattle.hfs_btree.specs.Header.{header_in, depth_of, tree_content}
 use Rattle.hfs_btree.specs.Sound.{IsSound}
-use Rattle.hfs_btree.specs.Search.{is_not_above, IsLowWay}
+use Rattle.hfs_btree.specs.Search.{is_not_above, leaf_for, leaf_under, IsLowWay}
 use Rattle.hfs_btree.proofs.DecodedLemmas.{records-read}
 use Rattle.hfs_btree_edits.specs.Edits.{IsAboveFirst, node_for}
 use Rattle.hfs_btree_insertion.specs.Growth.{HasRoom, AreFull, IsLow}
 use Rattle.hfs_btree_insertion.specs.Lowering.{HasLowered}
-use Rattle.hfs_btree_insertion.specs.Room.{HasMadeRoom, IsLowAbove, IsRoomyLeaf}
+use Rattle.hfs_btree_insertion.specs.Room.{HasMadeRoom, IsLowAbove, IsLowLeaf}
 use Rattle.hfs_btree_insertion.proofs.Inserted.{lower-low}
 use Rattle.hfs_btree_insertion.proofs.LowerSteps.{lowered-none, some-levels_above}
 use Rattle.hfs_btree_insertion.proofs.MadeRoom.{low-whole, made-cut}
@@ -37,20 +37,28 @@ module _ {K : Type 0} (g : Ghosts K) (nodes : Store) (t : K) where
         | inr no-more ↦ (let is : here ≡ k = omega (arith, lt, no-more) in subst R is (subst Q at.is (subst P (records-read nodes n bytes read) some)))
       ]
 
-  pub roomy : (len here n : ℕ) (bytes : List ℕ) → here ≤ 0 → IsAt g nodes t here n → bytes ≡ get_or nodes n [] → IsLowAbove g nodes t here → size_of (records_of (node_of bytes)) + (len + 2) ≤ 496
-      → IsRoomyLeaf g nodes t len n
-  roomy len here n bytes none at read low room =
+  pub low-at : (here n : ℕ) → here ≤ 0 → IsAt g nodes t here n → IsLowAbove g nodes t here → IsLowLeaf g nodes t n
+  low-at here n none at low =
       let z : here ≡ 0 = omega (arith, none) in
       let L : ℕ → Type 0 = λ x. IsLowAbove g nodes t x in
+      record { at = at.is ∙ ap (node_for g nodes t) z; low = subst L z low }
+
+  pub room-read : (len n : ℕ) (bytes : List ℕ) → bytes ≡ get_or nodes n [] → size_of (records_of (node_of bytes)) + (len + 2) ≤ 496 → HasRoom nodes len n
+  room-read len n bytes read room =
       let size : size_of (records_of (node_of bytes)) ≡ size_of (records_in nodes n) = ap size_of (records-read nodes n bytes read) in
-      record { at = at.is ∙ ap (node_for g nodes t) z; low = subst L z low; room = omega (arith, room, size) }
+      omega (arith, room, size)
+
+  pub leaf-found : (n : ℕ) → IsLowLeaf g nodes t n → n ≡ leaf_for g nodes t
+  leaf-found n r =
+      let none : depth_of nodes - 1 - 0 ≡ depth_of nodes - 1 = omega arith in
+      r.at ∙ ap (λ (j : ℕ). leaf_under g nodes t j (header_in nodes).root) none
 
   -- ---- what an insertion asks for
 
-  module _ (sound : IsSound g nodes) (len n : ℕ) (r : IsRoomyLeaf g nodes t len n) where
+  module _ (sound : IsSound g nodes) (n : ℕ) (r : IsLowLeaf g nodes t n) where
     -- no key was lowered
-    pub roomy-lowered : HasLowered g t 0 nodes nodes
-    roomy-lowered =
+    pub low-lowered : HasLowered g t 0 nodes nodes
+    low-lowered =
         let none = lowered-none g t nodes (depth_of nodes) sound (omega arith) in
         record {
           keeps = none.keeps;
@@ -65,18 +73,18 @@ module _ {K : Type 0} (g : Ghosts K) (nodes : Store) (t : K) where
         }
 
     module _ (first : IsAboveFirst g.compare t (tree_content g nodes)) where
-      pub roomy-low : IsLow g nodes t
-      roomy-low = lower-low g t nodes nodes sound first roomy-lowered
+      pub low-is_low : IsLow g nodes t
+      low-is_low = lower-low g t nodes nodes sound first low-lowered
 
-      pub roomy-way : IsLowWay g nodes t (depth_of nodes - 1) (header_in nodes).root
-      roomy-way = low-whole g nodes t roomy-low
+      pub low-way : IsLowWay g nodes t (depth_of nodes - 1) (header_in nodes).root
+      low-way = low-whole g nodes t low-is_low
 
-      none-full : AreFull g nodes t len 0
-      none-full =
+      none-full : (len : ℕ) → HasRoom nodes len n → AreFull g nodes t len 0
+      none-full len has_room =
           let R : ℕ → Type 0 = λ x. HasRoom nodes len x in
-          record { most = omega arith; each = λ k lt. absurd (omega (arith, lt)); room = λ lt. subst R r.at r.room }
+          record { most = omega arith; each = λ k lt. absurd (omega (arith, lt)); room = λ lt. subst R r.at has_room }
 
       -- and no node was cut
-      pub roomy-made : IsTotalOrder g.compare → len ≤ 140 → HasMadeRoom g t len 0 nodes nodes
-      roomy-made total short =
-          made-cut g total t len nodes sound first short roomy-low 0 none-full (some-levels_above g t nodes first) 0 (omega arith) nodes (down-init g t len 0 nodes sound roomy-low)
+      pub roomy-made : (len : ℕ) → HasRoom nodes len n → IsTotalOrder g.compare → len ≤ 140 → HasMadeRoom g t len 0 nodes nodes
+      roomy-made len has_room total short =
+          made-cut g total t len nodes sound first short low-is_low 0 (none-full len has_room) (some-levels_above g t nodes first) 0 (omega arith) nodes (down-init g t len 0 nodes sound low-is_low)

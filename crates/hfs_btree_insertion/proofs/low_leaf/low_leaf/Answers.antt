@@ -1,9 +1,9 @@
 use Rattle.std.proofs.Common.{◌-◌, sym, subst, arith, ap}
 use Rattle.hfs_btree.specs.declared.header.Header.{Header}
-use Rattle.hfs_btree_insertion.proofs.RoomyLeaves.{low-none, low-next, roomy}
+use Rattle.hfs_btree_insertion.proofs.LowLeaves.{low-none, low-next, low-at}
 use Rattle.hfs_btree_insertion.proofs.IndexSearch.{rising-read}
 use Rattle.hfs_btree_insertion.proofs.WayTo.{IsAt, at-root, at-within, read-index, read-next}
-use Rattle.hfs_btree_insertion.proofs.roomy_leaf.roomy_leaf.Goals as goal
+use Rattle.hfs_btree_insertion.proofs.low_leaf.low_leaf.Goals as goal
 
 pub read-requires : goal.read-requires
 read-requires g c =
@@ -40,14 +40,10 @@ loop-here-preserved g c =
       bytes = c.read-in-loop-here.ensures;
     }
 
-pub returns-clause-roomy : goal.returns-clause-roomy
-returns-clause-roomy g c =
-    let nodes = g.N.Nodes.nodes c.args.nodes.now in
-    let i = c.loop-here.invariant in
+pub returns-clause-low : goal.returns-clause-low
+returns-clause-low g c =
     let done = c.loop-here-test.false in
-    let room = c.if-size_in-len-gt496.false in
-    let size = c.size_in.ensures.size in
-    roomy g.K.Key nodes c.args.key.now c.args.len c.loop-here.here c.loop-here.n c.loop-here.bytes (omega (arith, done)) i.at i.bytes i.low (omega (arith, room, size))
+    low-at g.K.Key (g.N.Nodes.nodes c.args.nodes.now) c.args.key.now c.loop-here.here c.loop-here.n (omega (arith, done)) c.loop-here.invariant.at c.loop-here.invariant.low
 
 pub low_child-requires-clause-rising : goal.low_child-requires-clause-rising
 low_child-requires-clause-rising g c =

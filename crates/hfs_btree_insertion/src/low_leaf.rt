@@ -1,4 +1,4 @@
-//! The leaf that a new record goes to, where it has room and no index key is to be lowered for it.
+//! The leaf that a new record goes to, where no index key is to be lowered for it.
 
 ghost use Rattle.std.specs.Prelude.{◌≡◌, ◌<◌, ◌≤◌, true, [], IfSome, length, slice_index_or};
 ghost use Rattle.hfs_node.specs.Node.{node_of};
@@ -7,10 +7,9 @@ ghost use Rattle.hfs_btree.specs.Header.{header_in, depth_of};
 ghost use Rattle.hfs_btree.specs.Sound.{IsSound};
 ghost use Rattle.hfs_btree.specs.Tree.{records_of};
 ghost use Rattle.hfs_btree_insertion.specs.Growth.{HasLowKey, IsChildFor};
-ghost use Rattle.hfs_btree_insertion.specs.Room.{IsRisingFor, IsRoomyLeaf};
+ghost use Rattle.hfs_btree_insertion.specs.Room.{IsRisingFor, IsLowLeaf};
 
 use crate::index_search::first_above;
-use crate::way::size_in;
 use hfs_btree::{Header, Key, Nodes, child_of};
 use hfs_node::view;
 
@@ -31,20 +30,18 @@ fn low_child<K: Key>(bytes: &[u8; 512], key: &K) -> Option<u32>
     Some(child_of::<K>(node.record(place - 1)))
 }
 
-/// The leaf where the search for a key ends, with its bytes, if it has room for a record of `len` bytes and no index node
-/// on the way has all of its keys above the key. It reads one node of each level.
-pub(crate) fn roomy_leaf<K: Key, N: Nodes>(
+/// The leaf where the search for a key ends, with its bytes, if no index node on the way has all of its keys above the key. It
+/// reads one node of each level.
+pub(crate) fn low_leaf<K: Key, N: Nodes>(
     nodes: &N,
     header: &Header,
     key: &K,
-    len: usize,
     bytes: &mut [u8; 512],
 ) -> Option<u32>
     requires sound { IsSound K.Key (N.nodes nodes.now) }
     requires header { header.now ≡ header_in (N.nodes nodes.now) }
     requires some { 0 < depth_of (N.nodes nodes.now) }
-    requires short { len ≤ 140 }
-    ensures roomy { IfSome result (λ n. IsRoomyLeaf K.Key (N.nodes nodes.now) key.now len n) }
+    ensures low { IfSome result (IsLowLeaf K.Key (N.nodes nodes.now) key.now) }
     ensures bytes { IfSome result (λ n. bytes.new ≡ slice_index_or (N.nodes nodes.now) n []) }
 {
     let mut n = header.root;
@@ -57,9 +54,6 @@ pub(crate) fn roomy_leaf<K: Key, N: Nodes>(
         n = child;
         here -= 1;
         nodes.read(n, bytes);
-    }
-    if size_in(bytes) + len + 2 > 496 {
-        return None;
     }
     Some(n)
 }

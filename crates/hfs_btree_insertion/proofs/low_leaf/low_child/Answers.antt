@@ -6,7 +6,7 @@ use Rattle.hfs_scans.proofs.ElementLemmas.{each-at}
 use Rattle.hfs_btree.specs.Tree.{records_of}
 use Rattle.hfs_btree.specs.Search.{is_not_above}
 use Rattle.hfs_btree_insertion.specs.Room.{IsRisingFor}
-use Rattle.hfs_btree_insertion.proofs.roomy_leaf.low_child.Goals as goal
+use Rattle.hfs_btree_insertion.proofs.low_leaf.low_child.Goals as goal
 
 pub record-requires : goal.record-requires
 record-requires g c =
