@@ -199,6 +199,14 @@ def tried(tool, name, base):
             fault = same(tool, path, base, script, work) or over_itself(tool, path, base, script, work)
             if fault:
                 return count, f'{name}, {what}: {fault}'
+        longer = base + bytes(range(256)) + b'behind the last block'
+        with open(path, 'wb') as file:
+            file.write(longer)
+        fault = same(tool, path, longer, dict(scripts_on(items, random.Random(7)))['renames and moves'], work)
+        if fault:
+            return count, f'{name} with bytes behind its last block: {fault}'
+        with open(path, 'wb') as file:
+            file.write(base)
         for how in (beside_a_deletion(tool, path, items, work), is_sparse(tool, path, base, work)):
             if how:
                 return count, f'{name}: {how}'
