@@ -9,15 +9,17 @@ fetch_named_forks-requires g c =
     mountable-old (g.S.BlockSource.image c.self.inside.source) c.self.inside.len c.self.inside.working c.self.inside.working c.self.invariant
 
 pub run_needed_at-requires-clause-sound : goal.run_needed_at-requires-clause-sound
-run_needed_at-requires-clause-sound g c lifetimes lives =
+run_needed_at-requires-clause-sound g c = λ κs live.
     sound-new (g.S.BlockSource.image c.self.inside.source) c.self.inside.len c.self.inside.working c.fetch_named_forks.new.working c.self.invariant
     (c.fetch_named_forks.ensures.working (g.S.BlockSource.image c.self.inside.source) (c.self.inside.len / 512) refl c.self.invariant.is)
 
 pub returns-in-Ok-run_needed_at-clause-ran : goal.returns-in-Ok-run_needed_at-clause-ran
 returns-in-Ok-run_needed_at-clause-ran g c =
-    subst (λ (s : RunValue). IsNeededRunOf s.known s.len c.args.script c.ran_image.result.image.patch (string_bytes c.ran_image.result.text) c.ran_image.result.whole)
+    let known = g.S.BlockSource.image c.self.inside.source in
+    let made = c.ran_image.result in
+    subst (λ (s : RunValue). IsNeededRunOf s.known s.len c.args.script made.image.patch (string_bytes made.text) made.whole)
     c.self.view_is
-    (needed-run (g.S.BlockSource.image c.self.inside.source) c.self.inside.len c.self.inside.working c.fetch_named_forks.new.working c.self.invariant
-    (c.fetch_named_forks.ensures.working (g.S.BlockSource.image c.self.inside.source) (c.self.inside.len / 512) refl c.self.invariant.is)
-    c.args.script c.ran_image.result.image.patch (string_bytes c.ran_image.result.text) c.ran_image.result.whole c.in-Ok-run_needed_at.ran c.ran_image.ensures.patch
+    (needed-run known c.self.inside.len c.self.inside.working c.fetch_named_forks.new.working c.self.invariant
+    (c.fetch_named_forks.ensures.working known (c.self.inside.len / 512) refl c.self.invariant.is)
+    c.args.script made.image.patch (string_bytes made.text) made.whole c.in-Ok-run_needed_at.ran c.ran_image.ensures.patch
     (ap (λ (s : _). string_bytes s) c.ran_image.ensures.text) c.ran_image.ensures.whole c.in-Ok-run_needed_at.ensures.ran c.in-Ok.ensures.forks c.in-Ok-run_needed_at.ensures.carried)
