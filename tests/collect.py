@@ -838,7 +838,15 @@ def full_devices(place, left_out):
                 left_out.append('a full device')
                 return
             try:
-                full_device(place, folder, {}, 'a full device')
+                database, names, wanted = full_device(place, folder, {}, 'a full device')
+                ensure(sorted(os.listdir(folder)) in (['c.db'], ['c.db', 'c.db-wal']), f'a full device has {os.listdir(folder)}')
+                # Once there is room, the next run goes on: the commit that failed left nothing under way.
+                subprocess.run(['mount', '-o', 'remount,size=40m', folder], check=True)
+                text = place.done('collect', database, *names)
+                ensure(text.count('\n') == len(names), 'a run behind one that met a full device')
+                found = held(Place(folder), 'c.db')
+                ensure(list(found) == names and all(row[1] == found[names[0]][1] for row in found.values()), 'all images behind a full device')
+                ensure(sorted(os.listdir(folder)) == ['c.db'], f'a run with room again leaves {os.listdir(folder)}')
                 # No room at all, on a device of its own.
                 subprocess.run(['umount', folder], check=True)
                 subprocess.run(['mount', '-t', 'tmpfs', '-o', 'size=64k', 'tmpfs', folder], check=True)

@@ -4,3 +4,5 @@ pub mod Doing
 pub mod Rows
 pub mod Comparing
 pub mod Asking
+pub mod Transactions
+pub mod Tables

@@ -1,7 +1,8 @@
 //! A collection that is open.
-ghost use Rattle.std.specs.Prelude.{◌≡◌, ℕ, [], Ok, codes, OnOk};
+ghost use Rattle.std.specs.Prelude.{◌≡◌, ℕ, [], Ok, codes, IfOk, OnOk};
 ghost use Rattle.sqlite.specs.Held.{state};
 ghost use Rattle.hfs_database.specs.Doing.{HasRun};
+ghost use Rattle.hfs_database.specs.Tables.{HasTables};
 
 use crate::fault::{DatabaseFault, opening_fault, writing_fault};
 use crate::files::DatabaseFiles;
@@ -22,14 +23,13 @@ pub struct Collection<S: Alter> {
 
 /// Wants the tables of a collection, or makes them where there is none of them and this is asked for. Faults: as of
 /// [`Collection::over`].
-fn want_tables<S: Alter>(
-    conn: &mut Connection<S>,
-    makes_tables: bool,
-) -> Result<(), DatabaseFault> {
+fn want_tables<S: Alter>(conn: &mut Connection<S>, makes_tables: bool) -> Result<(), DatabaseFault>
+    ensures { OnOk result (HasTables S.Store makes_tables conn.old conn.new) }
+{
     match find_tables(conn)? {
         Found::All => Ok(()),
         Found::Nothing if makes_tables => make_tables(conn),
-        _ => Err(DatabaseFault::CannotOpen),
+        Found::Nothing | Found::Other => Err(DatabaseFault::CannotOpen),
     }
 }
 
@@ -41,7 +41,9 @@ impl<S: Alter + Drop> Collection<S> {
         alloc: Global,
         conn: Connection<S>,
         makes_tables: bool,
-    ) -> Result<Collection<S>, (DatabaseFault, Connection<S>)> {
+    ) -> Result<Collection<S>, (DatabaseFault, Connection<S>)>
+        ensures { IfOk result (λ collection. HasTables S.Store makes_tables conn collection.conn) }
+    {
         let mut conn = conn;
         match want_tables(&mut conn, makes_tables) {
             Ok(()) => Ok(Collection { alloc, conn }),
