@@ -13,8 +13,11 @@ mod NamedLemmas
 mod ApartLemmas
 mod PlaceLemmas
 mod BelowLemmas
+mod FolderTextLemmas
 pub mod RowPartLemmas
 mod DownLemmas
 mod DoubleLemmas
+pub mod OverLemmas
+pub mod ThingLemmas
 mod WayLemmas
 pub mod LawsProved
