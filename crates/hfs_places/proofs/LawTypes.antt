@@ -116,3 +116,18 @@ abbrev pub PathsAreHostPaths : Type 0
 PathsAreHostPaths =
     (things : List Thing) → AreThings things → HaveOwnNames things → AreWaysShort things
     → (i : ℕ) (names : List (List ℕ)) → i < length things → HasWay things names i → path things i ≡ host_path (reverse names)
+
+-- a folder at this path, from which names lead up
+pub record IsFolderOnWay (things : List Thing) (text : List ℕ) : Type 0 where
+  pub place : ℕ
+  pub below : place < length things
+  pub folder : is_folder_at things place ≡ true
+  pub path_is : path things place ≡ text
+  pub names : List (List ℕ)
+  pub way : HasWay things names place
+
+-- what such a path lies in is a folder's
+abbrev pub FoldersAreThings : Type 0
+FoldersAreThings =
+    (things : List Thing) → AreThings things → HaveOwnNames things → AreWaysShort things
+    → (i : ℕ) (names : List (List ℕ)) → i < length things → HasWay things names i → (text rest : List ℕ) → path things i ≡ text ++ (codes "/" ++ rest) → IsFolderOnWay things text

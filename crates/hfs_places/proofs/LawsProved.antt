@@ -1,12 +1,13 @@
 -- Laws of this crate, each by the laws that it stands on.
 use Rattle.hfs_places.proofs.LawLemmas.{paths-short}
-use Rattle.hfs_places.proofs.LawTypes.{PathsAreHostPaths, PathsAreShort, PlacesDiffer}
+use Rattle.hfs_places.proofs.LawTypes.{FoldersAreThings, PathsAreHostPaths, PathsAreShort, PlacesDiffer}
 use Rattle.hfs_places.proofs.NamedLemmas.{named-once}
 use Rattle.hfs_places.proofs.PlaceLemmas.{own-places}
 use Rattle.hfs_places.proofs.BelowLemmas.{in-folders}
 use Rattle.hfs_places.proofs.FolderTextLemmas.{own-folders}
 use Rattle.hfs_places.proofs.DownLemmas.{lead-down}
 use Rattle.hfs_places.proofs.DoubleLemmas.{own-doubles}
+use Rattle.hfs_places.proofs.WayFolderLemmas.{folders-things}
 use Rattle.hfs_places.proofs.WayLemmas.{host-paths-are}
 use Rattle.hfs_places.specs.Things.{things_of}
 
@@ -30,3 +31,7 @@ places_differ items namings are things = record {
 -- which names lead up to the payload is their host path.
 pub paths_are_host_paths : PathsAreHostPaths
 paths_are_host_paths = host-paths-are
+
+-- And what that path lies in is the path of a folder from which names lead up.
+pub folders_are_things : FoldersAreThings
+folders_are_things = folders-things

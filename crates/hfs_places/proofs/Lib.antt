@@ -20,4 +20,5 @@ mod DoubleLemmas
 pub mod OverLemmas
 pub mod ThingLemmas
 mod WayLemmas
+mod WayFolderLemmas
 pub mod LawsProved
