@@ -61,6 +61,11 @@ module _ (found : Found) where
     pub item_is : slice_get found.items.now i ≡ Some item
     pub file : is_dir item.entry.1 ≡ false
 
+  -- this is made of a thing at its own path, where a folder was made there before or not
+  pub record HasKind (i : ℕ) (kind : BagKind) : Type 0 where
+    pub made : Bool
+    pub kind_is : own_kind found i made ≡ Some kind
+
   -- a part of a thing's path: its name is the last of what ends there, and nothing stands behind that, or a slash
   pub record IsPart (part : Planned) : Type 0 where
     pub place : part.place < length found.places.now
@@ -69,6 +74,7 @@ module _ (found : Found) where
     pub ends : EndsThere (drop part.to (own_path part))
     pub from : part.from ≡ (last_part part.place (path_of found part)).from
     pub alone : part.to < length (own_path part) → part.kind ≡ bag.FolderAlone
+    pub own : length (own_path part) ≤ part.to → HasKind part.place part.kind
     pub file : part.kind ≡ bag.File → IsFileAt part.place
 
   -- of two parts not both make one folder, and not both are one thing at its own path
@@ -157,14 +163,15 @@ module _ (found : Found) where
     path = path_at found.places.now k
 
     part-of : (part : Planned) → part.place ≡ k → part.to ≤ length path → EndsThere (drop part.to path) → part.from ≡ (last_part k (take part.to path)).from
-        → (part.to < length path → part.kind ≡ bag.FolderAlone) → (part.kind ≡ bag.File → IsFileAt k) → IsPart part
-    part-of part place within ends from alone file = record {
+        → (part.to < length path → part.kind ≡ bag.FolderAlone) → (length path ≤ part.to → HasKind k part.kind) → (part.kind ≡ bag.File → IsFileAt k) → IsPart part
+    part-of part place within ends from alone own file = record {
       place = at (λ n. n < length found.places.now) inside;
       some = at (λ n. 0 < length (path_at found.places.now n)) some;
       within = at (λ n. part.to ≤ length (path_at found.places.now n)) within;
       ends = at (λ n. EndsThere (drop part.to (path_at found.places.now n))) ends;
       from = at (λ n. part.from ≡ (last_part n (take part.to (path_at found.places.now n))).from) from;
       alone = at (λ n. part.to < length (path_at found.places.now n) → part.kind ≡ bag.FolderAlone) alone;
+      own = at (λ n. length (path_at found.places.now n) ≤ part.to → HasKind n part.kind) own;
       file = at (λ n. part.kind ≡ bag.File → IsFileAt n) file;
     }
       where
@@ -183,7 +190,7 @@ module _ (found : Found) where
         let no-file : part.kind ≡ bag.File → ⊥ = λ file. true≢false (sym (ap (λ (b : BagKind). tells_file (Some b)) (sym kind ∙ file))) in
         pushed k parts part are
         (part-of part place (omega (arith, below)) (subst EndsThere (sym (drop_more path part.to 0 below)) slash) (ap (λ (p : Planned). p.from) is) (λ short. kind)
-        (λ file. absurd (no-file file)))
+        (λ whole. absurd (omega (arith, whole, below))) (λ file. absurd (no-file file)))
         (each-mono (λ other. ⊤ → makes_folder other.kind ≡ true → path_of found other ≢ path_of found part) (λ other. AreTwo other part) parts
         (λ other apart. record { folders = λ first second. apart tt first; things = λ first second. absurd (omega (arith, second, below, long)) })
         (not-made parts (path_of found part) ⊤ (λ so. none)))
@@ -228,10 +235,12 @@ module _ (found : Found) where
     own-part part made kind is own =
         let place : part.place ≡ k = ap (λ (p : Planned). p.place) is ∙ place-of found k path refl path (first_part k) in
         let to : part.to ≡ length path = ap (λ (p : Planned). p.to) is ∙ last_to k path in
+        let here : own_kind found k made ≡ Some kind = ap (λ (n : ℕ). own_kind found n made) (sym place) ∙ own in
         part-of (of_kind kind part) place (omega (arith, to)) (subst (λ (n : ℕ). EndsThere (drop n path)) (sym to) (subst EndsThere (sym (drop-length path)) tt))
         (ap (λ (p : Planned). p.from) is ∙ ap (λ (text : List ℕ). (last_part k text).from) (sym (take-length path)) ∙ ap (λ (n : ℕ). (last_part k (take n path)).from) (sym to))
         (λ short. absurd (omega (arith, short, to)))
-        (λ file. own-file k made (ap (λ (n : ℕ). own_kind found n made) (sym place) ∙ own ∙ ap (λ (b : BagKind). Some b) file))
+        (λ whole. record { made = made; kind_is = here })
+        (λ file. own-file k made (here ∙ ap (λ (b : BagKind). Some b) file))
 
     kind-planned : (parts : List Planned) (part : Planned) → part ≡ last_part k path → ArePlanned k parts
         → (kind : Option BagKind) → own_kind found part.place (is_made found parts (path_of found part)) ≡ kind → ArePlanned (k + 1) (with_kind parts part kind)

@@ -73,7 +73,7 @@ module _ (found : Found) (records : List FoundRecord) (places : found.places.now
   apart : ArePlacedApart found.places.now
   apart = subst ArePlacedApart (sym places) (records_have_own_places found.items.now records (subst AreThings places are))
 
-  own-is : (i : ℕ) → i < length found.places.now → path_at found.places.now i ≡ payload_path found.places.now i
+  pub own-is : (i : ℕ) → i < length found.places.now → path_at found.places.now i ≡ payload_path found.places.now i
   own-is i inside = ap (λ (b : Bool). if b then payload_path found.places.now i else []) (lt-ltb i (length found.places.now) inside)
 
   -- ---- the path of a part
@@ -115,7 +115,7 @@ module _ (found : Found) (records : List FoundRecord) (places : found.places.now
         ∙ ap (λ (n : ℕ). drop n (folder_path leads.above ++ leads.last)) from-is
         ∙ drop-append_seam (folder_path leads.above) leads.last
 
-    text-is : above_of found part ++ name_of found part ≡ path_of found part
+    pub text-is : above_of found part ++ name_of found part ≡ path_of found part
     text-is = (λ i. above-is i ++ name-is i) ∙ sym leads.path_is
 
     placed : IsPlaced (planned_item found part)
