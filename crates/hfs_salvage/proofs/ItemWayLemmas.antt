@@ -78,7 +78,7 @@ find-none p (y ∷ xs) x none there holds = by (p y) refl none there (λ rest be
 -- ---- ways
 
 -- the folder of an item, at its place among the items
-record IsUp (catalog : Catalog) (p number : ℕ) : Type 0 where
+pub record IsUp (catalog : Catalog) (p number : ℕ) : Type 0 where
   pub item : Record
   pub at : slice_get (items_in catalog) p ≡ Some item
   pub id : item_id item.1 ≡ number
@@ -102,8 +102,8 @@ module _ (catalog : Catalog) (next : ℕ) (ids : AreIdsSound next catalog) where
       by None none = absurd (find-none (has_id (item_id r.1)) catalog r none two.0 (and_from (is_item r.1) (item_id r.1 == item_id r.1) two.1 (eq-eqb (item_id r.1) (item_id r.1) refl)))
       by (Some q) so =
           let has = with_id catalog (item_id r.1) q so in
-          let at = place-in catalog q has.0 has.1.0 in
-          let same : at.0 ≡ i = one-place (items_in catalog) ids.distinct at.0 i q r at.1 is has.1.1 in
+          let at = place-in catalog q has.0 has.1 in
+          let same : at.0 ≡ i = one-place (items_in catalog) ids.distinct at.0 i q r at.1 is has.2 in
           sym at.1 ∙ ap (slice_get (items_in catalog)) same ∙ is
 
   length-things : length things ≡ length (items_in catalog)
@@ -139,7 +139,7 @@ module _ (catalog : Catalog) (next : ℕ) (ids : AreIdsSound next catalog) where
       record { item = q; at = there; id = number.0; dir = number.1; inner = none-two r.0.parent p folder }
 
   -- no folder has the number 1
-  not-one : (i : ℕ) (r : Record) → slice_get (items_in catalog) i ≡ Some r → item_id r.1 ≢ 1
+  pub not-one : (i : ℕ) (r : Record) → slice_get (items_in catalog) i ≡ Some r → item_id r.1 ≢ 1
   not-one i r is one = by (right-id i r is)
     where
       by : IsRoot r ⊎ IsGiven next r → ⊥
@@ -147,7 +147,7 @@ module _ (catalog : Catalog) (next : ℕ) (ids : AreIdsSound next catalog) where
       by (inr given) = absurd (omega (arith, given.least, one))
 
   -- the root lies under 1
-  root-parent : (i : ℕ) (r : Record) → slice_get (items_in catalog) i ≡ Some r → item_id r.1 ≡ 2 → r.0.parent ≡ 1
+  pub root-parent : (i : ℕ) (r : Record) → slice_get (items_in catalog) i ≡ Some r → item_id r.1 ≡ 2 → r.0.parent ≡ 1
   root-parent i r is two = by (right-id i r is)
     where
       by : IsRoot r ⊎ IsGiven next r → r.0.parent ≡ 1
@@ -155,7 +155,7 @@ module _ (catalog : Catalog) (next : ℕ) (ids : AreIdsSound next catalog) where
       by (inr given) = absurd (omega (arith, given.least, two))
 
   -- what lies under 1 is the root
-  under-one : (i : ℕ) (r : Record) → slice_get (items_in catalog) i ≡ Some r → r.0.parent ≡ 1 → item_id r.1 ≡ 2
+  pub under-one : (i : ℕ) (r : Record) → slice_get (items_in catalog) i ≡ Some r → r.0.parent ≡ 1 → item_id r.1 ≡ 2
   under-one i r is one = by (right-id i r is)
     where
       by : IsRoot r ⊎ IsGiven next r → item_id r.1 ≡ 2

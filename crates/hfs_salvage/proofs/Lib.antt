@@ -3,4 +3,7 @@ pub mod SameLemmas
 pub mod BagLemmas
 pub mod ListLemmas
 pub mod LawTypes
+mod ItemWayLemmas
+mod RowWayLemmas
+mod Reach
 pub mod LawsProved

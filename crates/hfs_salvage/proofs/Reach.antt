@@ -1,0 +1,5 @@
+use Rattle.hfs_salvage.proofs.RowWayLemmas.{row-there}
+use Rattle.hfs_salvage.proofs.LawsProved.{rescued_paths_are_lawful}
+use Rattle.std.specs.Prelude.{ℕ}
+pub reached : ℕ → ℕ
+reached n = n
