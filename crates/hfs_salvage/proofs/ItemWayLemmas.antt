@@ -106,7 +106,7 @@ module _ (catalog : Catalog) (next : ℕ) (ids : AreIdsSound next catalog) where
           let same : at.0 ≡ i = one-place (items_in catalog) ids.distinct at.0 i q r at.1 is has.2 in
           sym at.1 ∙ ap (slice_get (items_in catalog)) same ∙ is
 
-  length-things : length things ≡ length (items_in catalog)
+  pub length-things : length things ≡ length (items_in catalog)
   length-things = length-map (map (found false) (items_in catalog)) thing_of ∙ length-map (items_in catalog) (found false)
 
   pub inside : (i : ℕ) (r : Record) → slice_get (items_in catalog) i ≡ Some r → i < length things
@@ -118,7 +118,7 @@ module _ (catalog : Catalog) (next : ℕ) (ids : AreIdsSound next catalog) where
   pub record-at : (i : ℕ) → i < length things → (d : Record) → slice_get (items_in catalog) i ≡ Some (get_or (items_in catalog) i d)
   record-at i below d = slice_get-get_or (items_in catalog) i d (omega (arith, below, length-things))
 
-  folder-is : (body : List ℕ) (n : ℕ) → folder_number body ≡ Some n → (item_id body ≡ n) × (is_dir body ≡ true)
+  pub folder-is : (body : List ℕ) (n : ℕ) → folder_number body ≡ Some n → (item_id body ≡ n) × (is_dir body ≡ true)
   folder-is body n is = by (is_dir body) refl is
     where
       by : (b : Bool) → is_dir body ≡ b → (if b then Some (item_id body) else None) ≡ Some n → (item_id body ≡ n) × (is_dir body ≡ true)

@@ -5,5 +5,7 @@ pub mod ListLemmas
 pub mod LawTypes
 mod ItemWayLemmas
 mod RowWayLemmas
+mod ForkTakenLemmas
+mod SoundFoundLemmas
 mod Reach
 pub mod LawsProved

@@ -1,3 +1,5 @@
+use Rattle.hfs_salvage.proofs.SoundFoundLemmas.{dir-no-file}
+use Rattle.hfs_salvage.proofs.ForkTakenLemmas.{fork-same}
 use Rattle.hfs_salvage.proofs.RowWayLemmas.{row-there}
 use Rattle.hfs_salvage.proofs.LawsProved.{rescued_paths_are_lawful}
 use Rattle.std.specs.Prelude.{ℕ}
