@@ -153,7 +153,7 @@ module _ (total : ℕ) (blocks : Blocks) (whole : AreWholeBlocks total blocks) (
       unfolding contents_in bytes_in forks_of_file
       resource-taken = (sound_forks_are_whole total blocks h (fork_of (file_record_of r.1).id 255 (file_record_of r.1).resource) forks-sound.1.0).bytes whole
 
-      file-there : is_file r.1 ≡ true
+      pub file-there : is_file r.1 ≡ true
       file-there = ⊎_elim
           (λ (dir : is_dir r.1 ≡ true). absurd (true≢false (sym dir ∙ file)))
           (λ (so : is_file r.1 ≡ true). so)

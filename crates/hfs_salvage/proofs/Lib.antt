@@ -7,5 +7,6 @@ mod ItemWayLemmas
 mod RowWayLemmas
 mod ForkTakenLemmas
 mod SoundFoundLemmas
+mod JoinLemmas
 mod Reach
 pub mod LawsProved

@@ -115,9 +115,6 @@ data IsAbove (catalog : Catalog) (root : List ℕ) (above : List (List ℕ)) (di
   at-item : (p : ℕ) (q : Record) (names : List (List ℕ)) → slice_get (items_in catalog) p ≡ Some q → item_id q.1 ≡ dir → HasWay (things_in catalog) names p
       → above ≡ root ∷ reverse names → IsAbove catalog root above dir
 
-turned : (name : List ℕ) (names : List (List ℕ)) → reverse (name ∷ names) ≡ reverse names ++ name ∷ []
-turned name names = reverse-append (name ∷ []) names
-
 -- the names that lead to a child
 record ChildWay (catalog : Catalog) (root : List ℕ) (above : List (List ℕ)) (i : ℕ) (r : Record) : Type 0 where
   pub rest : List (List ℕ)
@@ -180,7 +177,7 @@ module _ (catalog : Catalog) (next : ℕ) (ids : AreIdsSound next catalog)
       (λ (behind : In row (rows_from catalog n (above ++ r.0.name ∷ []) (children_of catalog (item_id r.1)))).
       further (above ++ r.0.name ∷ []) (item_id r.1)
       (at-item at.0 r (r.0.name ∷ lead.rest) at.1 refl lead.way
-      (ap (λ (path : List (List ℕ)). path ++ r.0.name ∷ []) lead.above_is ∙ ap (λ (path : List (List ℕ)). root ∷ path) (sym (turned r.0.name lead.rest))))
+      (ap (λ (path : List (List ℕ)). path ++ r.0.name ∷ []) lead.above_is ∙ ap (λ (path : List (List ℕ)). root ∷ path) (sym (reverse-append (r.0.name ∷ []) lead.rest))))
       row behind)
       there
 

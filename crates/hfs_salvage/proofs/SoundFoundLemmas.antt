@@ -192,7 +192,7 @@ module _ (image : List ℕ) (limit : ℕ) (found : Found) (sound : IsSound image
     pub inside-found : i < length found.places.now
     inside-found = subst (λ (things : List Thing). i < length things) (sym things-found) (inside catalog next h.ids i r at)
 
-    path-found : path_at found.places.now i ≡ payload_path found.places.now i
+    pub path-found : path_at found.places.now i ≡ payload_path found.places.now i
     path-found = ap (λ (b : Bool). if b then payload_path found.places.now i else []) (lt-ltb i (length found.places.now) inside-found)
 
     -- nothing is made of the root
