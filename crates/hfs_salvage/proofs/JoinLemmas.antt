@@ -450,8 +450,8 @@ module _ (image : List ℕ) (limit : ℕ) (found : Found) (sound : IsSound image
   is-dir-at j r at so = by (is_dir r.1) refl (sym (ap (λ (t : Thing). option_map_or (λ number. is_place (folder_of things number) j) t.folder false) (thing-is cat n sound.blocks.ids j r at)) ∙ so)
     where
       by : (b : Bool) → is_dir r.1 ≡ b → option_map_or (λ number. is_place (folder_of things number) j) (if b then Some (item_id r.1) else None) false ≡ true → is_dir r.1 ≡ true
-      by true dir folder = dir
-      by false dir folder = absurd (true≢false (sym folder))
+      by true dir so = dir
+      by false dir so = absurd (true≢false (sym so))
 
   -- the folder of a path that ends before a slash
   folder-taken : (text : List ℕ) → IsFolderOnWay things text → In (folder (codes "data/" ++ text)) (items_entries (bag_items es))

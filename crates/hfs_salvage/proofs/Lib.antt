@@ -8,5 +8,4 @@ mod RowWayLemmas
 mod ForkTakenLemmas
 mod SoundFoundLemmas
 mod JoinLemmas
-mod Reach
 pub mod LawsProved

@@ -261,12 +261,11 @@ module _ (total : ℕ) (blocks : Blocks) (whole : AreWholeBlocks total blocks) (
       let has : Has volume.items e.0 e.1 = has_item (contents_in blocks) catalog (item_id r.1) r (item-with catalog (mdb_in blocks).next_id h.ids i r is) in
       let stands = ((tables_are_inventories volume lawful).each e).1 has in
       let at = in_map (λ (row : Row). row.entry) (rows_of (entries_of volume)) e (in_from_contains (map (λ (row : Row). row.entry) (rows_of (entries_of volume))) e stands.0 stands.1 stands.2) in
-      let are : AreEntries (contents_in blocks) catalog (entries_of volume) = catalog_answers-entries total blocks whole h in
-      (
+      let are : AreEntries (contents_in blocks) catalog (entries_of volume) = catalog_answers-entries total blocks whole h in (
         told_row (entries_of volume) at.0,
         map_in (told_row (entries_of volume)) (rows_of (entries_of volume)) at.0 at.1,
         ap (info_of (entries_of volume)) at.2
-        ∙ each_in (λ (q : Record). is_item q.1 ≡ true → info_of (entries_of volume) (entry_of (contents_in blocks) catalog q) ≡ told catalog q) catalog r are.told two.0 two.1,
+            ∙ each_in (λ (q : Record). is_item q.1 ≡ true → info_of (entries_of volume) (entry_of (contents_in blocks) catalog q) ≡ told catalog q) catalog r are.told two.0 two.1,
       )
 
   -- below the root, with the names that lead to it

@@ -1,6 +1,5 @@
 //! The word `rescue`: what remains of a damaged volume, as a list and as a bag of folders and files.
 #![tactic(auto)]
-ghost use Rattle.std.specs.Prelude.{◌≡◌};
 
 mod answer;
 mod facts;
@@ -19,10 +18,3 @@ pub use crate::held::HeldBytes;
 pub use crate::image::{HeldImage, HoldFault};
 pub use crate::listing::{list_rescue, write_remains};
 pub use crate::words::{BagWords, RescueWords};
-
-#[tactic(auto, using(crate::proofs::Reach::reached))]
-fn probe(n: u8) -> u8
-    ensures { result ≡ n }
-{
-    n
-}
