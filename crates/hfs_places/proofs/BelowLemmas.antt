@@ -19,7 +19,7 @@ use Rattle.hfs_places.proofs.PlaceLemmas.{Lies, top, alone, inner, lies, by-path
 
 module _ (things : List Thing) (are : AreThings things) (once : AreNamedOnce things) where
   -- what stands before the last slash, where more stands behind a path
-  split-last : (path part above below : List ℕ) → has-slash part ≡ false → above ++ 47 ∷ part ≡ path ++ 47 ∷ below
+  pub split-last : (path part above below : List ℕ) → has-slash part ≡ false → above ++ 47 ∷ part ≡ path ++ 47 ∷ below
       → (b : Bool) → has-slash below ≡ b → above ≡ (if b then path ++ 47 ∷ before-last below else path)
   split-last path part above below none same true more = sym (before-joined above part none) ∙ ap before-last same ∙ before-more path below more
   split-last path part above below none same false last = sym (before-joined above part none) ∙ ap before-last same ∙ before-joined path below last

@@ -22,7 +22,7 @@ folds-back c low small same =
       | inr other ↦ sym (stays c other) ∙ same
     ]
 
-no-slash-by : (text : List ℕ) → ((k : ℕ) → k < length text → slice_index text k ≢ 47) → has-slash (folded text) ≡ false
+pub no-slash-by : (text : List ℕ) → ((k : ℕ) → k < length text → slice_index text k ≢ 47) → has-slash (folded text) ≡ false
 no-slash-by [] none = refl
 no-slash-by (c ∷ text) none =
     let first : (fold_letter c == 47) ≡ false = ne_eqb (fold_letter c) 47 (λ e. none 0 (omega arith) (folds-back c 47 (omega arith) e)) in
@@ -30,7 +30,7 @@ no-slash-by (c ∷ text) none =
 
 -- ---- what stands before a last part
 
-abbrev slashed : List ℕ → List ℕ
+abbrev pub slashed : List ℕ → List ℕ
 slashed part = part ++ codes "/"
 
 -- nothing, or a text with a slash behind it

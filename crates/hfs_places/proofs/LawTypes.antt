@@ -1,5 +1,5 @@
 -- What holds of paths.
-use Rattle.std.specs.Prelude.{◌≡◌, ◌≢◌, ℕ, true, false, ◌^◌, ◌<◌, ◌≤◌, List, [], ◌∷◌, ◌++◌, codes, flat_map, length, reverse, slice_index_or, take, Some, IsTrue}
+use Rattle.std.specs.Prelude.{◌≡◌, ◌≢◌, ⊤, ℕ, true, false, ◌^◌, ◌<◌, ◌≤◌, List, [], ◌∷◌, ◌++◌, codes, flat_map, length, reverse, slice_index_or, take, Some, IsTrue}
 use Rattle.std.specs.Option.{unwrap_or}
 use Rattle.hfs_fields.specs.Order.{folded}
 use Rattle.hfs_names.specs.Laws.{is_bytes, IsSafe}
@@ -71,9 +71,23 @@ HaveOwnDoubles things =
     (i j : ℕ) (a : LeadsDown (payload_path things i)) (b : LeadsDown (payload_path things j)) → i < length things → j < length things
     → IsOwnDouble i j (double_of a) (double_of b) (payload_path things j)
 
+-- a text ends where a part of a path does: nothing is behind it, or a slash
+abbrev pub EndsThere : List ℕ → Type 0
+EndsThere [] = ⊤
+EndsThere (byte ∷ rest) = byte ≡ 47
+
+-- the path of a thing, or of what it lies in
+abbrev pub IsOver : List Thing → List ℕ → Type 0
+IsOver things text = (i : ℕ) × (i < length things) × (below : List ℕ) × (payload_path things i ≡ text ++ below) × EndsThere below
+
+-- what things lie in has one path, in whatever case its letters are
+abbrev pub HaveOwnFolders : List Thing → Type 0
+HaveOwnFolders things = (a b : List ℕ) → IsOver things a → IsOver things b → folded a ≡ folded b → a ≡ b
+
 -- the law of places
 pub record ArePlacedApart (things : List Thing) : Type 0 where
   pub own : HaveOwnPlaces things
+  pub own_folders : HaveOwnFolders things
   pub in_folders : LieInFolders things
   pub down : LeadDown things
   pub doubles : HaveOwnDoubles things
@@ -102,3 +116,18 @@ abbrev pub PathsAreHostPaths : Type 0
 PathsAreHostPaths =
     (things : List Thing) → AreThings things → HaveOwnNames things → AreWaysShort things
     → (i : ℕ) (names : List (List ℕ)) → i < length things → HasWay things names i → path things i ≡ host_path (reverse names)
+
+-- a folder at this path, from which names lead up
+pub record IsFolderOnWay (things : List Thing) (text : List ℕ) : Type 0 where
+  pub place : ℕ
+  pub below : place < length things
+  pub folder : is_folder_at things place ≡ true
+  pub path_is : path things place ≡ text
+  pub names : List (List ℕ)
+  pub way : HasWay things names place
+
+-- what such a path lies in is a folder's
+abbrev pub FoldersAreThings : Type 0
+FoldersAreThings =
+    (things : List Thing) → AreThings things → HaveOwnNames things → AreWaysShort things
+    → (i : ℕ) (names : List (List ℕ)) → i < length things → HasWay things names i → (text rest : List ℕ) → path things i ≡ text ++ (codes "/" ++ rest) → IsFolderOnWay things text

@@ -1,11 +1,13 @@
 -- Laws of this crate, each by the laws that it stands on.
 use Rattle.hfs_places.proofs.LawLemmas.{paths-short}
-use Rattle.hfs_places.proofs.LawTypes.{PathsAreHostPaths, PathsAreShort, PlacesDiffer}
+use Rattle.hfs_places.proofs.LawTypes.{FoldersAreThings, PathsAreHostPaths, PathsAreShort, PlacesDiffer}
 use Rattle.hfs_places.proofs.NamedLemmas.{named-once}
 use Rattle.hfs_places.proofs.PlaceLemmas.{own-places}
 use Rattle.hfs_places.proofs.BelowLemmas.{in-folders}
+use Rattle.hfs_places.proofs.FolderTextLemmas.{own-folders}
 use Rattle.hfs_places.proofs.DownLemmas.{lead-down}
 use Rattle.hfs_places.proofs.DoubleLemmas.{own-doubles}
+use Rattle.hfs_places.proofs.WayFolderLemmas.{folders-things}
 use Rattle.hfs_places.proofs.WayLemmas.{host-paths-are}
 use Rattle.hfs_places.specs.Things.{things_of}
 
@@ -14,11 +16,12 @@ pub paths_are_short : PathsAreShort
 paths_are_short = paths-short
 
 -- The law of places: no two items, nor an item and a folder that only a thread names, lie at one path below the payload, in whatever case the
--- letters are; what has a path that stands before another's is a folder; and each path leads down from the payload, by parts as file systems
+-- letters are; so it is of what they lie in; what has a path that stands before another's is a folder; and each path leads down from the payload, by parts as file systems
 -- take them, none of which begins with a point; so AppleDouble files lie at paths of their own.
 pub places_differ : PlacesDiffer
 places_differ items namings are things = record {
   own = own-places (things_of items namings) things (named-once items namings are);
+  own_folders = own-folders (things_of items namings) things (named-once items namings are);
   in_folders = in-folders (things_of items namings) things (named-once items namings are);
   down = lead-down (things_of items namings) things;
   doubles = own-doubles (things_of items namings) (own-places (things_of items namings) things (named-once items namings are));
@@ -28,3 +31,7 @@ places_differ items namings are things = record {
 -- which names lead up to the payload is their host path.
 pub paths_are_host_paths : PathsAreHostPaths
 paths_are_host_paths = host-paths-are
+
+-- And what that path lies in is the path of a folder from which names lead up.
+pub folders_are_things : FoldersAreThings
+folders_are_things = folders-things

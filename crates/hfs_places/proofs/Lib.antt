@@ -13,8 +13,12 @@ mod NamedLemmas
 mod ApartLemmas
 mod PlaceLemmas
 mod BelowLemmas
+mod FolderTextLemmas
 pub mod RowPartLemmas
 mod DownLemmas
 mod DoubleLemmas
+pub mod OverLemmas
+pub mod ThingLemmas
 mod WayLemmas
+mod WayFolderLemmas
 pub mod LawsProved

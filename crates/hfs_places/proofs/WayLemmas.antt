@@ -24,19 +24,19 @@ use Rattle.hfs_places.proofs.ApartLemmas.{entry-forms, some-text}
 abbrev behind-slash : List ℕ → List ℕ
 behind-slash name = codes "/" ++ host_name name
 
-one-name : (name : List ℕ) → host_path (name ∷ []) ≡ host_name name
+pub one-name : (name : List ℕ) → host_path (name ∷ []) ≡ host_name name
 unfolding host_path
 one-name name = append-nil (host_name name)
 
 -- one name more
-more-names : (names : List (List ℕ)) (name : List ℕ) → 0 < length names → host_path (names ++ name ∷ []) ≡ within (host_path names) (host_name name)
+pub more-names : (names : List (List ℕ)) (name : List ℕ) → 0 < length names → host_path (names ++ name ∷ []) ≡ within (host_path names) (host_name name)
 unfolding host_path within
 more-names [] name some = absurd (omega (arith, some))
 more-names (first ∷ names) name some =
     ap (λ (l : List ℕ). host_name first ++ l) (flat_map-append behind-slash names (name ∷ []) ∙ ap (λ (l : List ℕ). flat_map behind-slash names ++ l) (append-nil (behind-slash name)))
     ∙ sym (append_assoc (host_name first) (flat_map behind-slash names) (behind-slash name))
 
-turned : (name : List ℕ) (names : List (List ℕ)) → reverse (name ∷ names) ≡ reverse names ++ name ∷ []
+pub turned : (name : List ℕ) (names : List (List ℕ)) → reverse (name ∷ names) ≡ reverse names ++ name ∷ []
 turned name names = reverse-append (name ∷ []) names
 
 -- ---- ways
@@ -96,7 +96,7 @@ module _ (things : List Thing) (are : AreThings things) (own : HaveOwnNames thin
         (le-ltb 800 (above + 1 + length (entry_at things i)) (omega (arith, few, whole)))
     not-cut names i above inside way whole false folder = refl
 
-    way-path : (names : List (List ℕ)) (i : ℕ) → i < length things → HasWay things names i → path things i ≡ host_path (reverse names)
+    pub way-path : (names : List (List ℕ)) (i : ℕ) → i < length things → HasWay things names i → path things i ≡ host_path (reverse names)
     way-path [] i inside way = absurd way
     way-path (n ∷ []) i inside way =
         path-top things i (top-up i inside way.1)

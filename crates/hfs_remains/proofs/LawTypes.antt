@@ -1,5 +1,5 @@
 -- What is said of a fork, and its bytes, are a function of the fork's length, its extents, its blocks, and of where blocks lie.
-use Rattle.std.specs.Prelude.{◌≡◌, ◌≢◌, ℕ, ◌<◌, false, List, map, take, length, replicate, reverse, Option, Some, None, slice_index_or}
+use Rattle.std.specs.Prelude.{◌≡◌, ◌≢◌, ℕ, ◌*◌, ◌<◌, ◌≤◌, Bool, true, false, List, map, take, length, replicate, reverse, Option, Some, None, slice_index_or}
 use Rattle.std.specs.List.{flat_map}
 use Rattle.hfs_fields.specs.declared.mdb.Mdb.{Mdb}
 use Rattle.hfs_fields.specs.Records.{item_id}
@@ -23,9 +23,10 @@ use Rattle.hfs_places.specs.Things.{things_of}
 use Rattle.hfs_places.specs.Paths.{payload_path}
 use Rattle.hfs_places.proofs.LawTypes.{AreThings, ArePlacedApart, AreWaysShort, HasWay, HaveOwnNames}
 use Rattle.hfs_remains.specs.declared.forks.Fork.{Fork}
+use Rattle.hfs_remains.specs.declared.shares.FileShares.{FileShares}
 use Rattle.hfs_remains.specs.Records.{thing_of, namings_of}
-use Rattle.hfs_remains.specs.Forks.{blocks_for, fork_length, fork_places}
-use Rattle.hfs_remains.specs.Verdicts.{finding_of}
+use Rattle.hfs_remains.specs.Forks.{blocks_for, both_forks, fork_length, fork_places}
+use Rattle.hfs_remains.specs.Verdicts.{finding_of, shares_of}
 
 -- ---- what two images agree on
 
@@ -95,6 +96,18 @@ abbrev pub SoundForksAreWhole : Type 0
 SoundForksAreWhole =
     (total : ℕ) (blocks : Blocks) → AreBlocksSound total blocks → (fork : Fork) → IsForkSound (mdb_in blocks) (overflow_in blocks) (checked fork)
     → IsWholeFork total blocks (overflow_in blocks) (mdb_in blocks) fork
+
+-- both forks of a file are taken; a folder has none
+abbrev pub whole_shares : Bool → Option (Fork × Fork) → Option FileShares
+whole_shares old None = None
+whole_shares old (Some forks) = Some (record { old = old; «data» = record { fork = forks.0; taken = true }; resource = record { fork = forks.1; taken = true } })
+
+-- where as many bytes may be taken as the volume has, no fork of it is left
+abbrev pub SoundForksAreTaken : Type 0
+SoundForksAreTaken =
+    (total : ℕ) (blocks : Blocks) → AreBlocksSound total blocks → (limit : ℕ) → 512 * total ≤ limit
+    → shares_of (overflow_in blocks) (mdb_in blocks) limit (map (found false) (items_in (catalog_in blocks)))
+    ≡ map (λ (item : FoundRecord). whole_shares item.old (both_forks item.entry.1)) (map (found false) (items_in (catalog_in blocks)))
 
 -- ---- places
 

@@ -2,10 +2,11 @@
 use Rattle.std.proofs.Common.{map}
 use Rattle.hfs_places.proofs.LawsProved.{places_differ}
 use Rattle.hfs_remains.specs.Records.{thing_of, namings_of}
-use Rattle.hfs_remains.proofs.LawTypes.{ForksAreTheirBlocks, RecordsHaveOwnPlaces, SoundForksAreWhole, SoundItemsHaveWays, SoundNamesAreOwn, SoundPathsAreHostPaths, SoundThingsAreItems}
+use Rattle.hfs_remains.proofs.LawTypes.{ForksAreTheirBlocks, RecordsHaveOwnPlaces, SoundForksAreTaken, SoundForksAreWhole, SoundItemsHaveWays, SoundNamesAreOwn, SoundPathsAreHostPaths, SoundThingsAreItems}
 use Rattle.hfs_remains.proofs.SoundPathLemmas.{sound-paths}
 use Rattle.hfs_remains.proofs.SoundWayLemmas.{ways-are}
 use Rattle.hfs_remains.proofs.SoundThingLemmas.{things-are, names-own}
+use Rattle.hfs_remains.proofs.TakenLemmas.{forks-taken}
 use Rattle.hfs_remains.proofs.WholeForkLemmas.{forks-whole}
 use Rattle.hfs_remains.proofs.SameLemmas.{forks-same, are-items}
 
@@ -21,6 +22,10 @@ records_have_own_places items records things = places_differ (map thing_of items
 -- Each sound fork of a sound volume is taken whole: its blocks are there, nothing of it is cut or missing, and its bytes are those that the volume has.
 pub sound_forks_are_whole : SoundForksAreWhole
 sound_forks_are_whole = forks-whole
+
+-- No fork of a sound volume is left, where as many bytes may be taken as the volume has: no two own a block.
+pub sound_forks_are_taken : SoundForksAreTaken
+sound_forks_are_taken = forks-taken
 
 -- Of a sound volume the items alone are things: no folder is named by a thread alone.
 pub sound_things_are_items : SoundThingsAreItems

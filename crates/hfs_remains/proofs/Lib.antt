@@ -9,6 +9,7 @@ pub mod LawTypes
 mod SameLemmas
 mod FrontLemmas
 mod WholeForkLemmas
+mod TakenLemmas
 mod SoundThingLemmas
 mod SoundWayLemmas
 mod SoundPathLemmas

@@ -120,13 +120,13 @@ module _ (found : Found) where
 
     -- ---- bytes that are left
 
-    within-of : (at byte : ℕ) (behind : List ℕ) → byte ∷ behind ≡ drop at path → at < length path
+    pub within-of : (at byte : ℕ) (behind : List ℕ) → byte ∷ behind ≡ drop at path → at < length path
     within-of at byte behind left = omega (arith, ap length left, length-drop at path)
 
-    first-of : (at byte : ℕ) (behind : List ℕ) → byte ∷ behind ≡ drop at path → byte ≡ slice_index_or path at 0
+    pub first-of : (at byte : ℕ) (behind : List ℕ) → byte ∷ behind ≡ drop at path → byte ≡ slice_index_or path at 0
     first-of at byte behind left = ap (λ (l : List ℕ). slice_index_or l 0 0) (left ∙ drop_more path at 0 (within-of at byte behind left))
 
-    behind-of : (at byte : ℕ) (behind : List ℕ) → byte ∷ behind ≡ drop at path → behind ≡ drop (at + 1) path
+    pub behind-of : (at byte : ℕ) (behind : List ℕ) → byte ∷ behind ≡ drop at path → behind ≡ drop (at + 1) path
     behind-of at byte behind left = ap (drop 1) (left ∙ drop_more path at 0 (within-of at byte behind left))
 
     end-of : (at : ℕ) → [] ≡ drop at path → length path ≤ at
@@ -150,7 +150,7 @@ module _ (found : Found) where
     all-folders : (parts : List Planned) → AreAllMade found parts → HasMade (fold (with_folder found) parts (folders_above (first_part i) path)) (length path)
     all-folders parts all = folders-step path parts (first_part i) refl refl refl (record { all = all; before = λ t none within here. absurd (omega (arith, none)) })
 
-    place-of : (rest : List ℕ) (part : Planned) → (fold part_behind part rest).place ≡ part.place
+    pub place-of : (rest : List ℕ) (part : Planned) → (fold part_behind part rest).place ≡ part.place
     unfolding part_behind
     place-of [] part = refl
     place-of (byte ∷ rest) part = place-of rest (part_behind part byte)

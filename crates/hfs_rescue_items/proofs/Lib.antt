@@ -1,7 +1,13 @@
 pub mod AboveLemmas
 pub mod ByteLemmas
 pub mod ForkLemmas
+mod HoldLemmas
+pub mod LastLemmas
+pub mod LawTypes
+pub mod LawsProved
 pub mod LineLemmas
+pub mod PartLemmas
+pub mod PlacedLemmas
 pub mod PlanLemmas
 pub mod SourceLemmas
 pub mod SumLemmas

@@ -25,7 +25,7 @@ returns g c =
     let nodes = g.N.Nodes.nodes c.args.nodes.now in
     let short = there-no_longer (body_at g.K.Key nodes c.args.key.now) c.requires.there in
     let entries = replaced-entries g.K.Key g.met.K.Key.total nodes c.requires.sound c.args.key.now [] short
-        c.descend-n.result c.descend-n.ensures.leaf c.descend-n.new.bytes c.descend-n.ensures.bytes in
+    c.descend-n.result c.descend-n.ensures.leaf c.descend-n.new.bytes c.descend-n.ensures.bytes in
     record {
       leaf = c.descend-n.ensures.leaf;
       read = c.descend-n.ensures.bytes;
@@ -34,7 +34,7 @@ returns g c =
       body = c.place_of-place.ensures.body;
       is_leaf = each-at (λ e. g.K.Key.is_leaf e ≡ true) (records_of (node_of c.descend-n.new.bytes)) c.place_of-place.result [] entries c.place_of-place.ensures.within;
       found =
-        sym (found-body g.K.Key g.met.K.Key.total nodes c.args.key.now c.requires.sound (none-there g.K.Key nodes c.args.key.now [] short)
-        c.descend-n.result c.descend-n.ensures.leaf c.descend-n.new.bytes c.descend-n.ensures.bytes)
-        ∙ c.place_of-place.ensures.body;
+          sym (found-body g.K.Key g.met.K.Key.total nodes c.args.key.now c.requires.sound (none-there g.K.Key nodes c.args.key.now [] short)
+          c.descend-n.result c.descend-n.ensures.leaf c.descend-n.new.bytes c.descend-n.ensures.bytes)
+          ∙ c.place_of-place.ensures.body;
     }
