@@ -1,5 +1,5 @@
 -- Where the forks of files lie, as more of them come.
-use Rattle.std.proofs.Common.{◌≡◌, ◌⊎◌, inl, inr, ⊎_elim, ℕ, Bool, true, false, cond, List, [], ◌∷◌, ◌++◌, Option, Some, None, IsSome, is_some, Result, Ok, Err, IfOk, OnOk, refl, sym, ap, subst, ◌∙◌, true≢false, Vec, Global, length, arith, eqb, take, get_or, suc, ◌+◌, ◌<◌}
+use Rattle.std.proofs.Common.{◌≡◌, ◌⊎◌, inl, inr, ⊎_elim, ℕ, Bool, true, false, cond, List, [], ◌∷◌, ◌++◌, Some, None, is_some, Result, Ok, Err, IfOk, refl, sym, ap, subst, ◌∙◌, true≢false, Vec, Global, length, arith, eqb, take, get_or, suc, ◌+◌, ◌<◌}
 use Rattle.std.specs.Prelude.{nat_eq, ◌||◌}
 use Rattle.std.specs.List.{flat_map}
 use Rattle.std.specs.Map.{lookup}
@@ -8,9 +8,7 @@ use Rattle.std.proofs.lemmas.List.Concat.{flat_map-cons}
 use Rattle.std.proofs.lemmas.Grind.{flat_map-append}
 use Rattle.std.proofs.Math.Seq.{take-suc}
 use Rattle.hfs_fields.specs.declared.file_record.FileRecord.{FileRecord}
-use Rattle.hfs_fields.specs.declared.file_record.ForkRecord.{ForkRecord}
 use Rattle.hfs_fields.specs.Records.{is_dir, is_file, is_item, item_id, type_byte, dir_record_of, file_record_of}
-use Rattle.hfs_scans.specs.Each.{Each}
 use Rattle.hfs_scans.specs.Members.{In}
 use Rattle.hfs_scans.proofs.ElementLemmas.{each-append, each-mono}
 use Rattle.hfs_model.specs.declared.call.Call.{Call}
@@ -18,7 +16,6 @@ use Rattle.hfs_model.specs.declared.reply.Reply.{Reply}
 use Rattle.hfs_blocks.specs.declared.run.Run.{Run}
 use Rattle.hfs_blocks.specs.Blocks.{run_of, AreRunsWithin}
 use Rattle.hfs_blocks.specs.Layers.{Numbered}
-use Rattle.hfs_space.specs.declared.fork_kind.ForkKind.{ForkKind}
 use Rattle.hfs_space.specs.declared.fork_kind.ForkKind.TheVariants.{Data, Resource}
 use Rattle.hfs_catalog.specs.Records.{Record, Catalog, item_with}
 use Rattle.hfs_catalog.proofs.DistinctLemmas.{later_from_distinct}

@@ -1,6 +1,5 @@
 -- Those of the changed blocks that are working blocks are all that calls have changed.
-use Rattle.std.proofs.Common.{◌≡◌, ◌⊎◌, inl, inr, ⊎_elim, ℕ, zero, suc, ◌+◌, ◌/◌, ◌<◌, ◌≤◌, Bool, true, false, List, [], ◌∷◌, ◌++◌, take, drop, length, Option, Some, None, IsSome, is_some, unwrap_or, refl, sym, ap, subst, ◌∙◌, arith, true≢false}
-use Rattle.std.specs.Prelude.{◌-◌}
+use Rattle.std.proofs.Common.{◌≡◌, ◌⊎◌, inl, inr, ⊎_elim, ℕ, zero, suc, ◌+◌, ◌/◌, ◌<◌, ◌≤◌, Bool, List, [], ◌∷◌, ◌++◌, take, drop, length, Option, Some, None, IsSome, is_some, unwrap_or, refl, sym, ap, subst, ◌∙◌, arith, true≢false}
 use Rattle.std.proofs.lemmas.Bool.{cases_eq}
 use Rattle.hfs_fields.specs.declared.mdb.Mdb.{Mdb}
 use Rattle.hfs_scans.specs.Each.{Each}
@@ -8,7 +7,7 @@ use Rattle.hfs_scans.specs.Members.{In}
 use Rattle.hfs_scans.proofs.ElementLemmas.{each-left, each-right, each-append}
 use Rattle.hfs_scans.proofs.MemberLemmas.{each_in}
 use Rattle.hfs_blocks.specs.Blocks.{block_at, block_count, length-block_at}
-use Rattle.hfs_blocks.specs.Layers.{Numbered, Changes, changes, AreWhole, AreWithin, over}
+use Rattle.hfs_blocks.specs.Layers.{Numbered, changes, AreWhole, AreWithin, over}
 use Rattle.hfs_btree.specs.Header.{header_in}
 use Rattle.hfs_btree.specs.Sound.{IsOther}
 use Rattle.hfs_space.specs.ForkLaws.{block_numbers}
@@ -17,13 +16,13 @@ use Rattle.hfs_check.specs.declared.trees.VolumeTrees.{VolumeTrees}
 use Rattle.hfs_check.specs.Agree.{Agrees, bitmap_blocks, node_blocks, changing_blocks}
 use Rattle.hfs_check.specs.Parts.{Blocks, mdb_in, extents_blocks, extents_nodes, catalog_extents, catalog_blocks, catalog_nodes}
 use Rattle.hfs_check.specs.Sound.{AreBlocksSound, IsSound, IsImageLength}
-use Rattle.hfs_sparse.specs.Sparse.{sparse, HasEach, IsOf}
+use Rattle.hfs_sparse.specs.Sparse.{sparse, IsOf}
 use Rattle.hfs_volume.specs.Image.{ImageValue, image_of, patched, copy_of}
 use Rattle.hfs_volume.specs.Laid.{laid, laid_from}
 use Rattle.hfs_volume.proofs.Laid.{AreBlocks-over, block_at-laid}
 use Rattle.hfs_volume.proofs.CopyLemmas.{length-copy}
 use Rattle.hfs_working.specs.Opened.{IsWorking}
-use Rattle.hfs_working.specs.Working.{working_blocks, IsWorkingCopy, AreChangesOf, CarriesOver}
+use Rattle.hfs_working.specs.Working.{working_blocks, IsWorkingCopy, CarriesOver}
 use Rattle.hfs_working.proofs.Carried.{carries-over}
 use Rattle.hfs_working.proofs.Copies.{is-copy, each-image, places}
 use Rattle.hfs_working.proofs.Kept.{each-take}

@@ -1,5 +1,5 @@
 -- More blocks of a volume that were read leave its working blocks as they are.
-use Rattle.std.proofs.Common.{◌≡◌, ◌⊎◌, ⊎_elim, ℕ, zero, suc, ◌+◌, ◌<◌, List, [], ◌∷◌, ◌++◌, length, get_or, Option, Some, None, IsSome, Result, Ok, Err, IfOk, Vec, Global, refl, sym, ap, subst, ◌∙◌, arith}
+use Rattle.std.proofs.Common.{◌≡◌, ⊎_elim, ℕ, zero, suc, ◌+◌, ◌<◌, List, [], ◌∷◌, ◌++◌, length, get_or, Option, IsSome, Vec, Global, refl, sym, ap, subst, ◌∙◌, arith}
 use Rattle.std.specs.List.{flat_map}
 use Rattle.std.proofs.lemmas.Bool.{cases_eq}
 use Rattle.std.proofs.lemmas.List.Concat.{flat_map-cons}
@@ -10,7 +10,6 @@ use Rattle.hfs_scans.proofs.ElementLemmas.{each-append, each-mono}
 use Rattle.hfs_scans.proofs.MemberLemmas.{each_in}
 use Rattle.hfs_blocks.specs.declared.run.Run.{Run}
 use Rattle.hfs_blocks.specs.Blocks.{run_of}
-use Rattle.hfs_btree.specs.Pairs.{Pairs}
 use Rattle.hfs_space.specs.declared.fork_kind.ForkKind.TheVariants.{Data, Resource}
 use Rattle.hfs_space.specs.Extents.{Overflow}
 use Rattle.hfs_space.specs.Extents.{fork_extents, fork_byte}
@@ -24,12 +23,11 @@ use Rattle.hfs_needed_runs.proofs.ForkPlaces.{of-named}
 use Rattle.hfs_blocks.specs.Layers.{Numbered, changes, AreWithin}
 use Rattle.hfs_fields.specs.declared.mdb.Mdb.{Mdb}
 use Rattle.hfs_check.specs.declared.trees.VolumeTrees.{VolumeTrees}
-use Rattle.hfs_needed.specs.Gathered.{IsOfKnown}
 use Rattle.hfs_sparse.specs.Sparse.{sparse, HasEach, HasGrown, StaysOf}
 use Rattle.hfs_sparse.proofs.SparseLemmas.{each-grown, each-same}
 use Rattle.hfs_needed.specs.Needed.{AgreeOn}
 use Rattle.hfs_working.specs.Opened.{IsWorking}
-use Rattle.hfs_working.specs.Working.{working_blocks, HasWorking}
+use Rattle.hfs_working.specs.Working.{working_blocks}
 use Rattle.hfs_working.proofs.SameWork as work
 use Rattle.hfs_working.proofs.SameTrees.{trees-same}
 use Rattle.hfs_needed.proofs.Gathered.{of-later}

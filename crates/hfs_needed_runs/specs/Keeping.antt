@@ -1,6 +1,5 @@
 -- Those of a volume's changed blocks that are among some blocks.
 use Rattle.std.specs.Prelude.{◌≡◌, ℕ, ◌+◌, ◌≤◌, ◌⊎◌, List, Some, IsSome}
-use Rattle.std.specs.List.{All, range_with_len}
 use Rattle.hfs_scans.specs.Each.{Each}
 use Rattle.hfs_scans.specs.Members.{In}
 use Rattle.hfs_blocks.specs.declared.run.Run.{Run}

@@ -1,5 +1,5 @@
 -- Fork by fork.
-use Rattle.std.proofs.Common.{◌∙◌, ◌≡◌, List, Vec, Global, IsSome, sym, ap, subst, arith, refl}
+use Rattle.std.proofs.Common.{◌∙◌, List, Vec, Global, IsSome, sym, ap, subst, arith}
 use Rattle.hfs_scans.proofs.ElementLemmas.{each-at}
 use Rattle.hfs_blocks.specs.declared.run.Run.{Run}
 use Rattle.hfs_blocks.specs.Blocks.{AreRunsWithin}

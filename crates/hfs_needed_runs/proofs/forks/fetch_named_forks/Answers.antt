@@ -1,10 +1,10 @@
 -- More was read of a volume whose working blocks were read.
-use Rattle.std.proofs.Common.{ℕ, refl, sym, subst, ap, ◌∙◌, List, None, Vec, Global}
+use Rattle.std.proofs.Common.{ℕ, refl, sym, subst, List, None, Vec, Global}
 use Rattle.hfs_blocks.specs.declared.run.Run.{Run}
 use Rattle.hfs_blocks.specs.Layers.{KeepsWithin}
 use Rattle.hfs_scripts.specs.declared.lines.ScriptLine.{ScriptLine}
 use Rattle.hfs_sparse.specs.Sparse.{sparse, HasEach}
-use Rattle.hfs_needed_runs.specs.NamedForks.{HaveNamedForks, HasNamedForks, blocks_of_runs}
+use Rattle.hfs_needed_runs.specs.NamedForks.{HaveNamedForks, blocks_of_runs}
 use Rattle.hfs_working.proofs.Kept.{on-ok}
 use Rattle.hfs_needed_runs.proofs.MoreRead.{working-later, named-read}
 use Rattle.hfs_needed_runs.proofs.forks.fetch_named_forks.Goals as goal

@@ -4,7 +4,6 @@ use Rattle.std.specs.List.{flat_map}
 use Rattle.hfs_blocks.specs.declared.run.Run.{Run}
 use Rattle.hfs_blocks.specs.Blocks.{run_of}
 use Rattle.hfs_sparse.specs.Sparse.{sparse}
-use Rattle.hfs_working.specs.Working.{working_blocks}
 use Rattle.hfs_needed_runs.specs.Keeping.{AreNumbered}
 use Rattle.hfs_needed_runs.proofs.WorkingRuns.{numbers-are, numbered-are}
 use Rattle.hfs_needed_runs.proofs.places.working_runs.Goals as goal
