@@ -1,14 +1,57 @@
 //! An image's rows in the database.
+ghost use Rattle.std.specs.Prelude.{◌≡◌, Some, IfOk, OnOk};
+ghost use Rattle.hfs_needed.specs.Known.{OfKnown};
+ghost use Rattle.hfs_database.specs.Transactions.{begun};
+ghost use Rattle.hfs_collection.specs.Counts.{image_counts};
+ghost use Rattle.hfs_collect.specs.Collecting.{IsCollected, LeavesImageOrNone};
 
 use crate::fault::RunFault;
 use crate::files::FileByPath;
 use hfs_collection::{CollectFault, ImageCounts, ImageFacts, ImageFile, give_image};
-use hfs_database::Collection;
+use hfs_containers::ReadAt;
+use hfs_database::{Collection, DatabaseTaker, commit};
 use sqlite::Alter;
+use std::alloc::Global;
 use std::rt::Files;
 
-/// Gives the rows of an image, and answers how much it holds.
-fn give<S: Alter + Drop, R: Files + AllocGlobal>(
+/// Puts the rows of an image of `len` bytes into the database, in one transaction, in the place of those that it had of the same path,
+/// and answers how much the image holds. At a fault the database is as it was. Faults: `ReadFailed`, `CannotWrite`, `NoMemory`.
+pub fn put_image<S: Alter, T: ReadAt + Drop, F: ImageFile<T>>(
+    alloc: Global,
+    collection: &mut Collection<S>,
+    file: &F,
+    len: u64,
+    facts: &ImageFacts<'_>,
+) -> Result<ImageCounts, CollectFault>
+    ensures collected { OnOk result (IsCollected S.Store (F.known file.now) len facts.now
+        (Some (begun collection.old.conn)) collection.new.conn) }
+    ensures counted { IfOk result (λ counts. OfKnown (F.known file.now) len (λ file.
+        counts ≡ image_counts file)) }
+    ensures all_or_none { LeavesImageOrNone S.Store (F.known file.now) len facts.now
+        (Some (begun collection.old.conn)) collection.new.conn }
+{
+    if !collection.conn.is_autocommit() {
+        return Err(CollectFault::CannotWrite);
+    }
+    let mut taker = DatabaseTaker::begin(alloc, &mut collection.conn);
+    match give_image(alloc, &mut taker, file, len, facts) {
+        Ok(counts) if !taker.has_failed() => {
+            commit(taker.tx)?;
+            Ok(counts)
+        }
+        Ok(_) => {
+            taker.tx.rollback();
+            Err(CollectFault::CannotWrite)
+        }
+        Err(fault) => {
+            taker.tx.rollback();
+            Err(fault)
+        }
+    }
+}
+
+/// Puts the rows of the image of a path into the database. Faults: as of [`put_image`]; `ReadFailed` where the path can't be opened.
+fn put_path<S: Alter + Drop, R: Files + AllocGlobal>(
     rt: &R,
     collection: &mut Collection<S>,
     facts: &ImageFacts<'_>,
@@ -20,8 +63,7 @@ fn give<S: Alter + Drop, R: Files + AllocGlobal>(
     let source = file.open()?;
     let len = source.len();
     drop(source);
-    let mut taker = collection.taker();
-    give_image(rt.alloc(), &mut taker, &file, len, facts)
+    put_image(rt.alloc(), collection, &file, len, facts)
 }
 
 /// Puts the rows of an image into the database, in the place of those that it had of the same path, and answers how much the image
@@ -31,21 +73,11 @@ pub fn collect_image<S: Alter + Drop, R: Files + AllocGlobal>(
     collection: &mut Collection<S>,
     facts: &ImageFacts<'_>,
 ) -> Result<Option<ImageCounts>, RunFault> {
-    collection.begin()?;
-    match give(rt, collection, facts) {
-        Ok(counts) => {
-            collection.commit()?;
-            Ok(Some(counts))
-        }
-        Err(fault) => {
-            let undone = collection.undo();
-            match RunFault::of_image(fault) {
-                Some(fault) => Err(fault),
-                None => {
-                    undone?;
-                    Ok(None)
-                }
-            }
-        }
+    match put_path(rt, collection, facts) {
+        Ok(counts) => Ok(Some(counts)),
+        Err(fault) => match RunFault::of_image(fault) {
+            Some(fault) => Err(fault),
+            None => Ok(None),
+        },
     }
 }

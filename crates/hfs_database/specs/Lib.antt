@@ -2,5 +2,6 @@ pub mod Values
 pub mod Texts
 pub mod Doing
 pub mod Rows
+pub mod Transactions
 pub mod Comparing
 pub mod Asking

@@ -6,7 +6,7 @@ use Rattle.sqlite.specs.Held.{Held, state}
 use Rattle.sqlite.specs.Store.{Ghosts}
 use Rattle.hfs_rows.specs.declared.value.Table.{Table}
 use Rattle.hfs_rows.specs.declared.value.Table.TheVariants as table
-use Rattle.hfs_database.specs.declared.taker.LastRows.{LastRows}
+use Rattle.hfs_database.specs.declared.last_rows.LastRows.{LastRows}
 use Rattle.hfs_database.specs.Doing.{HasPut, HasReplaced, HasRun}
 use Rattle.hfs_database.specs.Texts.{put_item_text, put_volume_text}
 

@@ -1,14 +1,9 @@
 //! A collection that is open.
-ghost use Rattle.std.specs.Prelude.{◌≡◌, ℕ, [], Ok, codes, OnOk};
-ghost use Rattle.sqlite.specs.Held.{state};
-ghost use Rattle.hfs_database.specs.Doing.{HasRun};
 
 use crate::fault::{DatabaseFault, opening_fault, writing_fault};
 use crate::files::DatabaseFiles;
 use crate::tables::{Found, find_tables, make_tables};
-use crate::taker::DatabaseTaker;
-use sqlite::{Alter, Connection, Error, File, FileStore, Files as OpenedFiles, Unknown};
-use std::alloc::Global;
+use sqlite::{Alter, Connection, File, FileStore, Files as OpenedFiles, Unknown};
 
 /// A collection in a file.
 pub type FileCollection = Collection<FileStore<File>>;
@@ -16,8 +11,8 @@ pub type FileCollection = Collection<FileStore<File>>;
 /// A collection that is open.
 #[derive(Drop)]
 pub struct Collection<S: Alter> {
-    alloc: Global,
-    pub(crate) conn: Connection<S>,
+    /// The database.
+    pub conn: Connection<S>,
 }
 
 /// Wants the tables of a collection, or makes them where there is none of them and this is asked for. Faults: as of
@@ -38,57 +33,14 @@ impl<S: Alter + Drop> Collection<S> {
     /// Faults, with the database: `CannotOpen` where it has others of their names, or some and not all, or none and they are
     /// not to be made; `CannotWrite`, `NoMemory`.
     pub fn over(
-        alloc: Global,
         conn: Connection<S>,
         makes_tables: bool,
     ) -> Result<Collection<S>, (DatabaseFault, Connection<S>)> {
         let mut conn = conn;
         match want_tables(&mut conn, makes_tables) {
-            Ok(()) => Ok(Collection { alloc, conn }),
+            Ok(()) => Ok(Collection { conn }),
             Err(fault) => Err((fault, conn)),
         }
-    }
-
-    /// Begins a transaction: what a taker is given comes with its commit, or doesn't. Faults: `CannotWrite`, `NoMemory`.
-    pub fn begin(&mut self) -> Result<(), DatabaseFault>
-        ensures { OnOk result (HasRun (state S.Store self.old.conn) (state S.Store self.new.conn)
-            (codes "BEGIN") []) }
-    {
-        done(self.conn.execute("BEGIN", &[]))
-    }
-
-    /// Keeps what was given since the transaction began. Faults: `CannotWrite`, `NoMemory`, and then nothing is kept.
-    pub fn commit(&mut self) -> Result<(), DatabaseFault>
-        ensures { OnOk result (HasRun (state S.Store self.old.conn) (state S.Store self.new.conn)
-            (codes "COMMIT") []) }
-    {
-        done(self.conn.execute("COMMIT", &[]))
-    }
-
-    /// Forgets what was given since the transaction began. Faults: `CannotWrite` where none is under way, `NoMemory`.
-    pub fn undo(&mut self) -> Result<(), DatabaseFault>
-        ensures { OnOk result (HasRun (state S.Store self.old.conn) (state S.Store self.new.conn)
-            (codes "ROLLBACK") []) }
-    {
-        done(self.conn.execute("ROLLBACK", &[]))
-    }
-
-    /// A taker that was given nothing.
-    pub fn taker(&mut self) -> DatabaseTaker<'_, S>
-        ensures { result.given.rows ≡ [] }
-    {
-        let alloc = self.alloc;
-        DatabaseTaker::new(alloc, &mut self.conn)
-    }
-}
-
-/// Whether a statement was run.
-fn done(answer: Result<usize, Error>) -> Result<(), DatabaseFault>
-    ensures { OnOk result ((count : ℕ) × (answer ≡ Ok count)) }
-{
-    match answer {
-        Ok(_) => Ok(()),
-        Err(error) => Err(writing_fault(&error)),
     }
 }
 
@@ -98,7 +50,7 @@ type Refused = (DatabaseFault, Option<OpenedFiles<File>>);
 /// Opens the collection in a file. A fault comes with the files, where they were opened.
 fn open_files(rt: &HostRuntime, path: &str, makes_tables: bool) -> Result<FileCollection, Refused> {
     match Connection::open_from(rt, path, false, Unknown) {
-        Ok(conn) => match Collection::over(rt.alloc(), conn, makes_tables) {
+        Ok(conn) => match Collection::over(conn, makes_tables) {
             Ok(collection) => Ok(collection),
             Err((fault, conn)) => Err((fault, Some(conn.into_store().close()))),
         },
@@ -133,7 +85,7 @@ impl Collection<FileStore<File>> {
     /// Closes the files, of which the database alone then holds all: no log is left beside it. Faults: `CannotWrite`,
     /// `NoMemory`.
     pub fn close(self, rt: &HostRuntime, files: &DatabaseFiles) -> Result<(), DatabaseFault> {
-        let Collection { conn, .. } = self;
+        let Collection { conn } = self;
         match conn.close_files() {
             Ok(_locked) => {
                 files.remove_log(rt);

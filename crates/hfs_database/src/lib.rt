@@ -6,8 +6,10 @@ mod collection;
 mod comparing;
 mod fault;
 mod files;
+mod last_rows;
 mod tables;
 mod taker;
+mod transaction;
 mod values;
 
 pub use crate::asking::{known_image, next_path};
@@ -15,4 +17,4 @@ pub use crate::collection::{Collection, FileCollection};
 pub use crate::comparing::{Comparison, KnownImage};
 pub use crate::fault::DatabaseFault;
 pub use crate::files::DatabaseFiles;
-pub use crate::taker::DatabaseTaker;
+pub use crate::transaction::{DatabaseTaker, commit};

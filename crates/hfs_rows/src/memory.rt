@@ -57,6 +57,10 @@ fn all_copied(alloc: Global, values: &[RowValue]) -> Result<Vec<RowValue>, Alloc
 }
 
 impl RowTaker for MemoryTaker {
+    ghost Place = { Unit {0} };
+
+    ghost place = { λ _. tt };
+
     ghost given = { λ taker. stored_rows taker.rows.items };
 
     fn take(&mut self, table: Table, values: &[RowValue]) -> Result<(), TakerFault> {
