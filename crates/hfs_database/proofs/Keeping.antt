@@ -1,13 +1,13 @@
 -- Rows that are put one behind the other, and what keeps the file.
-use Rattle.std.proofs.Common.{◌≡◌, refl, sym, subst, true, false, List, [], ◌∷◌, ◌++◌, map, arith, inl, true≢false, Option, Some}
+use Rattle.std.proofs.Common.{◌≡◌, refl, sym, subst, true, false, List, [], ◌∷◌, ◌++◌, map, arith, inl, true≢false}
 use Rattle.sqlite.specs.Held.{Held, state}
 use Rattle.sqlite.specs.Store.{Ghosts}
-use Rattle.sqlite.specs.State.{HasCleanDisk, IsRolledBack, Survives}
+use Rattle.sqlite.specs.State.{HasCleanDisk, Survives}
 use Rattle.sqlite.proofs.StateLemmas.{survives_then, survives_weaker}
 use Rattle.hfs_rows.specs.Taken.{TakenRow, row_of}
 use Rattle.hfs_database.specs.declared.last_rows.LastRows.{LastRows}
 use Rattle.hfs_database.specs.Rows.{PutsRow}
-use Rattle.hfs_database.specs.Transactions.{HasPutSince, IsUndone, KeepsFile, KeepsFileSince, LeavesAllOrNone, PutsRows, begun, no_rows}
+use Rattle.hfs_database.specs.Transactions.{HasPutSince, HoldsAll, KeepsFile, LeavesAllOrNone, PutsRows, begun, no_rows}
 use Rattle.hfs_database.specs.Values.{sql_value}
 
 pub keeps_itself : {S : Type 0} (g : Ghosts S) (held : Held S) → KeepsFile g held held
@@ -41,52 +41,41 @@ puts_one_more g (r ∷ rows) row old mid new first before after puts one =
 pub has_not : {X : Type 0} → true ≡ false → X
 has_not is = absurd (true≢false is)
 
--- a commit, whether it fails or not
-pub leaves_all : {S : Type 0} (g : Ghosts S) (start : Option (Held S)) (rows : List TakenRow) (last : LastRows) (now new : Held S)
-    → KeepsFileSince g start now → HasPutSince g start rows now last → Survives (state g now) (state g new) (λ db. db ≡ (state g now).now.trees) → LeavesAllOrNone g start rows new
-leaves_all g start rows last now new keeps put survives = record {
-  old = keeps.0;
-  is = keeps.1;
-  leaves = survives_then (state g keeps.0) (state g now) (state g new) (λ _. ⊥) (λ db. db ≡ (state g now).now.trees)
-      (λ db. (given : Held _) × (least : LastRows) × HasPutSince g start rows given least × (db ≡ (state g given).now.trees))
-      (λ clean db never. absurd never) (λ clean db is. (now, last, put, is)) keeps.2.survives survives;
-}
-
-pub leaves_none : {S : Type 0} (g : Ghosts S) (start : Option (Held S)) (rows : List TakenRow) (new : Held S) → IsUndone g start new → LeavesAllOrNone g start rows new
-leaves_none g start rows new undone = record {
-  old = undone.keeps.0;
-  is = undone.keeps.1;
-  leaves = survives_weaker (state g undone.keeps.0) (state g new) (λ _. ⊥)
-      (λ db. (given : Held _) × (least : LastRows) × HasPutSince g start rows given least × (db ≡ (state g given).now.trees))
-      (λ clean db never. absurd never) undone.keeps.2.survives;
-}
-
-pub is_undone : {S : Type 0} (g : Ghosts S) (start : Option (Held S)) (now new : Held S)
-    → KeepsFileSince g start now → Survives (state g now) (state g new) (λ _. ⊥) → (HasCleanDisk (state g new) → IsRolledBack (state g now) (state g new)) → IsUndone g start new
-is_undone g start now new keeps survives undone = record {
-  reached = now;
-  keeps = (keeps.0, keeps.1, keeps_then g keeps.0 now new keeps.2 (record { survives = survives }));
-  undone = undone;
-}
-
--- where nothing was begun
-pub unchanged : {S : Type 0} (g : Ghosts S) (rows : List TakenRow) (held : Held S) → LeavesAllOrNone g (Some (begun held)) rows held
-unchanged g rows held = record {
-  old = begun held;
-  is = refl;
-  leaves = record {
-    clean = omega arith;
-    shield = λ h. h;
-    counts = omega arith;
-    limit = refl;
-    closes = λ clean still. inl still;
-    crash = λ clean db h. inl h;
+-- a transaction begins, and commits nothing by that
+pub keeps_begun : {S : Type 0} (g : Ghosts S) (start new : Held S) → KeepsFile g (begun start) new → KeepsFile g start new
+keeps_begun g start new keeps = record {
+  survives = record {
+    clean = keeps.survives.clean;
+    shield = keeps.survives.shield;
+    counts = keeps.survives.counts;
+    limit = keeps.survives.limit;
+    closes = keeps.survives.closes;
+    crash = keeps.survives.crash;
   };
 }
 
--- a transaction that just began
-pub keeps_begun : {S : Type 0} (g : Ghosts S) (start now : Held S) → now ≡ begun start → KeepsFile g (begun start) now
-keeps_begun g start now is = subst (KeepsFile g (begun start)) (sym is) (keeps_itself g (begun start))
+-- a commit, whether it fails or not
+pub leaves_all : {S : Type 0} (g : Ghosts S) (start : Held S) (rows : List TakenRow) (last : LastRows) (now new : Held S)
+    → KeepsFile g (begun start) now → HasPutSince g (begun start) rows now last → Survives (state g now) (state g new) (λ db. db ≡ (state g now).now.trees) → LeavesAllOrNone g start rows new
+leaves_all g start rows last now new keeps put survives = record {
+  leaves = survives_then (state g start) (state g now) (state g new) (λ _. ⊥) (λ db. db ≡ (state g now).now.trees) (HoldsAll g start rows)
+      (λ clean db never. absurd never) (λ clean db is. (now, last, put, is)) (keeps_begun g start now keeps).survives survives;
+}
 
-pub puts_none : {S : Type 0} (g : Ghosts S) (start now : Held S) (rows : List TakenRow) → now ≡ begun start → rows ≡ [] → PutsRows g rows (begun start) now no_rows no_rows
-puts_none g start now rows is none = subst (λ (rows : List TakenRow). PutsRows g rows (begun start) now no_rows no_rows) (sym none) (is, refl)
+-- a rollback
+pub leaves_none : {S : Type 0} (g : Ghosts S) (start : Held S) (rows : List TakenRow) (now new : Held S)
+    → KeepsFile g (begun start) now → Survives (state g now) (state g new) (λ _. ⊥) → LeavesAllOrNone g start rows new
+leaves_none g start rows now new keeps survives = record {
+  leaves = survives_then (state g start) (state g now) (state g new) (λ _. ⊥) (λ _. ⊥) (HoldsAll g start rows)
+      (λ clean db never. absurd never) (λ clean db never. absurd never) (keeps_begun g start now keeps).survives survives;
+}
+
+-- where nothing was begun
+pub leaves_same : {S : Type 0} (g : Ghosts S) (rows : List TakenRow) (held : Held S) → LeavesAllOrNone g held rows held
+leaves_same g rows held = record {
+  leaves = survives_weaker (state g held) (state g held) (λ _. ⊥) (HoldsAll g held rows) (λ clean db never. absurd never) (keeps_itself g held).survives;
+}
+
+-- before the first row
+pub puts_none : {S : Type 0} (g : Ghosts S) (start : Held S) (rows : List TakenRow) → rows ≡ [] → HasPutSince g start rows start no_rows
+puts_none g start rows none = subst (λ (rows : List TakenRow). HasPutSince g start rows start no_rows) (sym none) (refl, refl)

@@ -5,3 +5,4 @@ pub mod Rows
 pub mod Transactions
 pub mod Comparing
 pub mod Asking
+pub mod Tables

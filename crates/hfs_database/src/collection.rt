@@ -1,4 +1,6 @@
 //! A collection that is open.
+ghost use Rattle.std.specs.Prelude.{IfOk, OnOk};
+ghost use Rattle.hfs_database.specs.Tables.{HasTables};
 
 use crate::fault::{DatabaseFault, opening_fault, writing_fault};
 use crate::files::DatabaseFiles;
@@ -20,11 +22,13 @@ pub struct Collection<S: Alter> {
 fn want_tables<S: Alter>(
     conn: &mut Connection<S>,
     makes_tables: bool,
-) -> Result<(), DatabaseFault> {
+) -> Result<(), DatabaseFault>
+    ensures { OnOk result (HasTables S.Store makes_tables conn.old conn.new) }
+{
     match find_tables(conn)? {
         Found::All => Ok(()),
         Found::Nothing if makes_tables => make_tables(conn),
-        _ => Err(DatabaseFault::CannotOpen),
+        Found::Nothing | Found::Other => Err(DatabaseFault::CannotOpen),
     }
 }
 
@@ -35,7 +39,9 @@ impl<S: Alter + Drop> Collection<S> {
     pub fn over(
         conn: Connection<S>,
         makes_tables: bool,
-    ) -> Result<Collection<S>, (DatabaseFault, Connection<S>)> {
+    ) -> Result<Collection<S>, (DatabaseFault, Connection<S>)>
+        ensures { IfOk result (λ collection. HasTables S.Store makes_tables conn collection.conn) }
+    {
         let mut conn = conn;
         match want_tables(&mut conn, makes_tables) {
             Ok(()) => Ok(Collection { conn }),

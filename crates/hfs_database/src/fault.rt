@@ -14,6 +14,15 @@ pub enum DatabaseFault {
     NoMemory,
 }
 
+impl From<TakerFault> for DatabaseFault {
+    fn from(fault: TakerFault) -> DatabaseFault {
+        match fault {
+            TakerFault::CannotWrite => DatabaseFault::CannotWrite,
+            TakerFault::NoMemory => DatabaseFault::NoMemory,
+        }
+    }
+}
+
 /// Whether memory was refused.
 fn is_memory(error: &Error) -> bool {
     match error {

@@ -1,20 +1,55 @@
 //! The tables of a collection.
+ghost use Rattle.std.specs.Prelude.{◌≡◌, [], ◌∷◌, IfOk, OnOk};
+ghost use Rattle.sqlite.specs.Held.{state};
+ghost use Rattle.hfs_database.specs.Tables.{FindsPart, FindsParts, HasMadeAll, LeavesTablesOrNone, MakesParts, Tells, all_parts, part_of};
+ghost use Rattle.hfs_database.specs.Tables as spec;
+ghost use Rattle.hfs_database.specs.Transactions.{KeepsFile};
 
 use crate::fault::{DatabaseFault, opening_fault, writing_fault};
-use sqlite::{Alter, Connection, params};
+use crate::taker::run;
+use hfs_rows::TakerFault;
+use sqlite::types::ValueRef;
+use sqlite::{Alter, Connection, Row, Transaction};
 
-const IMAGE: &str =
-    "CREATE TABLE image (id INTEGER PRIMARY KEY, path TEXT NOT NULL UNIQUE, bytes INTEGER NOT NULL, sha256 TEXT, program TEXT NOT NULL)";
+/// The text of the table of images.
+#[tactic(auto, unfolding(crate::specs::Tables::image_table))]
+fn image_table() -> &'static str
+    ensures { result.now ≡ spec.image_table }
+{
+    "CREATE TABLE image (id INTEGER PRIMARY KEY, path TEXT NOT NULL UNIQUE, bytes INTEGER NOT NULL, sha256 TEXT, program TEXT NOT NULL)"
+}
 
-const VOLUME: &str =
-    "CREATE TABLE volume (id INTEGER PRIMARY KEY, image INTEGER NOT NULL REFERENCES image (id) ON DELETE CASCADE, number INTEGER NOT NULL, how TEXT NOT NULL, first_byte INTEGER NOT NULL, bytes INTEGER NOT NULL, name TEXT, created TEXT, modified TEXT, backup TEXT, blocks INTEGER, block_bytes INTEGER, free_blocks INTEGER, verdict TEXT NOT NULL, UNIQUE (image, number))";
+/// The text of the table of volumes.
+#[tactic(auto, unfolding(crate::specs::Tables::volume_table))]
+fn volume_table() -> &'static str
+    ensures { result.now ≡ spec.volume_table }
+{
+    "CREATE TABLE volume (id INTEGER PRIMARY KEY, image INTEGER NOT NULL REFERENCES image (id) ON DELETE CASCADE, number INTEGER NOT NULL, how TEXT NOT NULL, first_byte INTEGER NOT NULL, bytes INTEGER NOT NULL, name TEXT, created TEXT, modified TEXT, backup TEXT, blocks INTEGER, block_bytes INTEGER, free_blocks INTEGER, verdict TEXT NOT NULL, UNIQUE (image, number))"
+}
 
-const ITEM: &str =
-    "CREATE TABLE item (id INTEGER PRIMARY KEY, volume INTEGER NOT NULL REFERENCES volume (id) ON DELETE CASCADE, number INTEGER NOT NULL, path TEXT, bag_path TEXT NOT NULL, kind TEXT NOT NULL, cnid INTEGER NOT NULL, parent INTEGER NOT NULL, type TEXT, creator TEXT, flags TEXT NOT NULL, locked INTEGER, file_id INTEGER, created TEXT, modified TEXT, backup TEXT, items INTEGER, data_bytes INTEGER, resource_bytes INTEGER, finder TEXT NOT NULL, data_sha256 TEXT, resource_sha256 TEXT, data_verdict TEXT, resource_verdict TEXT, UNIQUE (volume, number))";
+/// The text of the table of items.
+#[tactic(auto, unfolding(crate::specs::Tables::item_table))]
+fn item_table() -> &'static str
+    ensures { result.now ≡ spec.item_table }
+{
+    "CREATE TABLE item (id INTEGER PRIMARY KEY, volume INTEGER NOT NULL REFERENCES volume (id) ON DELETE CASCADE, number INTEGER NOT NULL, path TEXT, bag_path TEXT NOT NULL, kind TEXT NOT NULL, cnid INTEGER NOT NULL, parent INTEGER NOT NULL, type TEXT, creator TEXT, flags TEXT NOT NULL, locked INTEGER, file_id INTEGER, created TEXT, modified TEXT, backup TEXT, items INTEGER, data_bytes INTEGER, resource_bytes INTEGER, finder TEXT NOT NULL, data_sha256 TEXT, resource_sha256 TEXT, data_verdict TEXT, resource_verdict TEXT, UNIQUE (volume, number))"
+}
 
-const DATA_INDEX: &str = "CREATE INDEX item_data ON item (data_sha256)";
+/// The text of the index of data forks.
+#[tactic(auto, unfolding(crate::specs::Tables::data_index))]
+fn data_index() -> &'static str
+    ensures { result.now ≡ spec.data_index }
+{
+    "CREATE INDEX item_data ON item (data_sha256)"
+}
 
-const RESOURCE_INDEX: &str = "CREATE INDEX item_resource ON item (resource_sha256)";
+/// The text of the index of resource forks.
+#[tactic(auto, unfolding(crate::specs::Tables::resource_index))]
+fn resource_index() -> &'static str
+    ensures { result.now ≡ spec.resource_index }
+{
+    "CREATE INDEX item_resource ON item (resource_sha256)"
+}
 
 /// What there is of the tables and indexes of a collection.
 #[derive(Clone, Copy, Debug, PartialEq, Eq)]
@@ -29,53 +64,108 @@ pub(crate) enum Found {
 
 impl Found {
     /// What there is of both.
-    fn and(self, other: Found) -> Found {
-        if self == other { self } else { Found::Other }
+    fn and(self, other: Found) -> Found
+        ensures { result ≡ spec.both self other }
+    {
+        match self {
+            Found::Nothing => match other {
+                Found::Nothing => Found::Nothing,
+                Found::All => Found::Other,
+                Found::Other => Found::Other,
+            },
+            Found::All => match other {
+                Found::Nothing => Found::Other,
+                Found::All => Found::All,
+                Found::Other => Found::Other,
+            },
+            Found::Other => Found::Other,
+        }
+    }
+}
+
+/// What a row tells of a table or an index that was looked for.
+fn told_in(row: &Row) -> Result<Found, DatabaseFault>
+    ensures { IfOk result (Tells row.now) }
+{
+    let Ok(there) = row.get::<i64>(0) else {
+        return Err(DatabaseFault::CannotOpen);
+    };
+    if there == 0 {
+        return Ok(Found::Nothing);
+    }
+    if there != 1 {
+        return Ok(Found::Other);
+    }
+    match row.get::<i64>(1) {
+        Ok(1) => Ok(Found::All),
+        Ok(_) => Ok(Found::Other),
+        Err(_) => Err(DatabaseFault::CannotOpen),
     }
 }
 
 /// What there is of this name, in any case, beside this text.
+#[tactic(auto, unfolding(crate::specs::Tables::find_part_text))]
 fn find<S: Alter>(
     conn: &mut Connection<S>,
     name: &str,
     text: &str,
-) -> Result<Found, DatabaseFault> {
-    let query = "SELECT count(*), sum(sql = ?2) FROM sqlite_schema WHERE name = ?1 COLLATE NOCASE";
-    let row = match conn.query_row(query, params![name, text]) {
-        Ok(row) => row,
-        Err(error) => return Err(opening_fault(&error)),
-    };
-    let (Ok(there), Ok(right)) = (row.get::<i64>(0), row.get::<Option<i64>>(1)) else {
-        return Err(DatabaseFault::CannotOpen);
-    };
-    match (there, right) {
-        (0, _) => Ok(Found::Nothing),
-        (1, Some(1)) => Ok(Found::All),
-        _ => Ok(Found::Other),
+) -> Result<Found, DatabaseFault>
+    ensures { IfOk result (FindsPart (state S.Store conn.old) (state S.Store conn.new)
+        (part_of name.now text.now)) }
+{
+    let parameters = [ValueRef::Text(name.as_bytes()), ValueRef::Text(text.as_bytes())];
+    match conn.query_row(
+        "SELECT count(*), sum(sql = ?2) FROM sqlite_schema WHERE name = ?1 COLLATE NOCASE",
+        &parameters,
+    ) {
+        Ok(row) => told_in(&row),
+        Err(error) => Err(opening_fault(&error)),
     }
 }
 
 /// What there is of the tables and indexes of a collection.
-pub(crate) fn find_tables<S: Alter>(conn: &mut Connection<S>) -> Result<Found, DatabaseFault> {
-    let found = find(conn, "image", IMAGE)?.and(find(conn, "volume", VOLUME)?);
-    let found = found.and(find(conn, "item", ITEM)?);
-    let found = found.and(find(conn, "item_data", DATA_INDEX)?);
-    Ok(found.and(find(conn, "item_resource", RESOURCE_INDEX)?))
+pub(crate) fn find_tables<S: Alter>(conn: &mut Connection<S>) -> Result<Found, DatabaseFault>
+    ensures { IfOk result (λ found. FindsParts S.Store all_parts found conn.old conn.new) }
+{
+    let image = find(conn, "image", image_table())?;
+    let volume = find(conn, "volume", volume_table())?;
+    let item = find(conn, "item", item_table())?;
+    let data = find(conn, "item_data", data_index())?;
+    let resource = find(conn, "item_resource", resource_index())?;
+    Ok(image.and(volume).and(item).and(data).and(resource))
+}
+
+/// Runs the texts of all tables and indexes of a collection.
+#[tactic(auto, using(crate::proofs::Keeping::keeps_itself, crate::proofs::Keeping::keeps_then))]
+fn make_parts<S: Alter>(tx: &mut Transaction<'_, S>) -> Result<(), TakerFault>
+    ensures done { OnOk result (MakesParts S.Store all_parts tx.old.conn.now tx.new.conn.now) }
+    ensures same_reference { tx.new.conn.ghost_name ≡ tx.old.conn.ghost_name }
+    ensures keeps { KeepsFile S.Store tx.old.conn.now tx.new.conn.now }
+{
+    run(tx, image_table(), &[])?;
+    run(tx, volume_table(), &[])?;
+    run(tx, item_table(), &[])?;
+    run(tx, data_index(), &[])?;
+    run(tx, resource_index(), &[])
 }
 
 /// Makes all tables and indexes of a collection, or none.
-pub(crate) fn make_tables<S: Alter>(conn: &mut Connection<S>) -> Result<(), DatabaseFault> {
+pub(crate) fn make_tables<S: Alter>(conn: &mut Connection<S>) -> Result<(), DatabaseFault>
+    ensures made { OnOk result (HasMadeAll S.Store conn.old conn.new) }
+    ensures all_or_none { LeavesTablesOrNone S.Store conn.old conn.new }
+{
     if !conn.is_autocommit() {
         return Err(DatabaseFault::CannotWrite);
     }
     let mut tx = conn.transaction();
-    for text in [IMAGE, VOLUME, ITEM, DATA_INDEX, RESOURCE_INDEX] {
-        if let Err(error) = tx.execute(text, &[]) {
-            return Err(writing_fault(&error));
+    match make_parts(&mut tx) {
+        Ok(()) => match tx.commit() {
+            Ok(()) => Ok(()),
+            Err(error) => Err(writing_fault(&error)),
+        },
+        Err(fault) => {
+            tx.rollback();
+            Err(DatabaseFault::from(fault))
         }
-    }
-    match tx.commit() {
-        Ok(()) => Ok(()),
-        Err(error) => Err(writing_fault(&error)),
     }
 }

@@ -19,7 +19,7 @@ use sqlite::{Alter, Row, Transaction, params};
 use std::alloc::Global;
 
 /// Runs a statement with these parameters.
-fn run<S: Alter>(
+pub(crate) fn run<S: Alter>(
     tx: &mut Transaction<'_, S>,
     text: &str,
     parameters: &[ValueRef<'_>],

@@ -1,0 +1,102 @@
+-- The tables and indexes of a collection.
+use Rattle.std.specs.Prelude.{◌≡◌, ◌⊎◌, pos, ℕ, Bool, IsTrue, List, [], ◌∷◌, codes, Ok}
+use Rattle.sqlite.specs.declared.types.Value.{Value}
+use Rattle.sqlite.specs.declared.types.Value.TheVariants.{Int, Text}
+use Rattle.sqlite.specs.Held.{Held, state}
+use Rattle.sqlite.specs.State.{HasCleanDisk, QueriesRow, State, Survives}
+use Rattle.sqlite.specs.Store.{Ghosts}
+use Rattle.sqlite_value.specs.Order.{column}
+use Rattle.hfs_database.specs.declared.tables.Found.{Found}
+use Rattle.hfs_database.specs.declared.tables.Found.TheVariants as found
+use Rattle.hfs_database.specs.Doing.{HasRun}
+use Rattle.hfs_database.specs.Transactions.{IsCommitted, begun}
+
+-- ---- their texts
+
+unfoldable pub image_table : List ℕ
+image_table = codes "CREATE TABLE image (id INTEGER PRIMARY KEY, path TEXT NOT NULL UNIQUE, bytes INTEGER NOT NULL, sha256 TEXT, program TEXT NOT NULL)"
+
+unfoldable pub volume_table : List ℕ
+volume_table = codes "CREATE TABLE volume (id INTEGER PRIMARY KEY, image INTEGER NOT NULL REFERENCES image (id) ON DELETE CASCADE, number INTEGER NOT NULL, how TEXT NOT NULL, first_byte INTEGER NOT NULL, bytes INTEGER NOT NULL, name TEXT, created TEXT, modified TEXT, backup TEXT, blocks INTEGER, block_bytes INTEGER, free_blocks INTEGER, verdict TEXT NOT NULL, UNIQUE (image, number))"
+
+unfoldable pub item_table : List ℕ
+item_table = codes "CREATE TABLE item (id INTEGER PRIMARY KEY, volume INTEGER NOT NULL REFERENCES volume (id) ON DELETE CASCADE, number INTEGER NOT NULL, path TEXT, bag_path TEXT NOT NULL, kind TEXT NOT NULL, cnid INTEGER NOT NULL, parent INTEGER NOT NULL, type TEXT, creator TEXT, flags TEXT NOT NULL, locked INTEGER, file_id INTEGER, created TEXT, modified TEXT, backup TEXT, items INTEGER, data_bytes INTEGER, resource_bytes INTEGER, finder TEXT NOT NULL, data_sha256 TEXT, resource_sha256 TEXT, data_verdict TEXT, resource_verdict TEXT, UNIQUE (volume, number))"
+
+unfoldable pub data_index : List ℕ
+data_index = codes "CREATE INDEX item_data ON item (data_sha256)"
+
+unfoldable pub resource_index : List ℕ
+resource_index = codes "CREATE INDEX item_resource ON item (resource_sha256)"
+
+-- a table or an index: its name, and the text that makes it
+pub record Part : Type 0 where
+  pub name : List ℕ
+  pub text : List ℕ
+
+abbrev pub part_of : List ℕ → List ℕ → Part
+part_of name text = record { name = name; text = text }
+
+abbrev pub all_parts : List Part
+all_parts =
+    part_of (codes "image") image_table ∷ part_of (codes "volume") volume_table ∷ part_of (codes "item") item_table
+    ∷ part_of (codes "item_data") data_index ∷ part_of (codes "item_resource") resource_index ∷ []
+
+-- ---- what there is of them
+
+-- how many tables and indexes have a name, in any case, and how many of them a text
+unfoldable pub find_part_text : List ℕ
+find_part_text = codes "SELECT count(*), sum(sql = ?2) FROM sqlite_schema WHERE name = ?1 COLLATE NOCASE"
+
+-- by the answer's row there is one of the name, and it has the text; there is none; or there is another
+abbrev pub Tells : List Value → Found → Type 0
+Tells row found.All = (column row 0 ≡ Int (pos 1)) × (column row 1 ≡ Int (pos 1))
+Tells row found.Nothing = column row 0 ≡ Int (pos 0)
+Tells row found.Other = Unit {0}
+
+-- what there is of two
+abbrev pub both : Found → Found → Found
+both found.Nothing found.Nothing = found.Nothing
+both found.Nothing found.All = found.Other
+both found.Nothing found.Other = found.Other
+both found.All found.Nothing = found.Other
+both found.All found.All = found.All
+both found.All found.Other = found.Other
+both found.Other _ = found.Other
+
+-- it was asked for this part, where the disk is clean still, and this is what there is of it
+abbrev pub FindsPart : State → State → Part → Found → Type 0
+FindsPart old new part found = HasCleanDisk new → (row : List Value) × QueriesRow find_part_text (Text part.name ∷ Text part.text ∷ []) old new (Ok row) × Tells row found
+
+-- it was asked for each of these, one behind the other, and this is what there is of all of them
+abbrev pub FindsParts : {S : Type 0} → Ghosts S → List Part → Found → Held S → Held S → Type 0
+FindsParts g [] found old new = new ≡ old
+FindsParts {S} g (part ∷ parts) found old new = (next : Held S) × FindsPart (state g old) (state g next) part found × FindsParts g parts found next new
+
+-- ---- how they are made
+
+-- their texts were run, one behind the other
+abbrev pub MakesParts : {S : Type 0} → Ghosts S → List Part → Held S → Held S → Type 0
+MakesParts g [] old new = new ≡ old
+MakesParts {S} g (part ∷ parts) old new = (next : Held S) × HasRun (state g old) (state g next) part.text [] × MakesParts g parts next new
+
+-- all were made in one transaction, and it was committed
+pub record HasMadeAll {S : Type 0} (g : Ghosts S) (old new : Held S) : Type 0 where
+  pub made : Held S
+  pub makes : MakesParts g all_parts (begun old) made
+  pub committed : IsCommitted g made new
+
+-- a crash leaves the file as it was, or with all of them
+pub record LeavesTablesOrNone {S : Type 0} (g : Ghosts S) (old new : Held S) : Type 0 where
+  pub leaves : Survives (state g old) (state g new) (λ db. (made : Held S) × MakesParts g all_parts (begun old) made × (db ≡ (state g made).now.trees))
+
+-- ---- a collection that is opened
+
+-- there was none of them, and they were made
+pub record HasMadeTables {S : Type 0} (g : Ghosts S) (old new : Held S) : Type 0 where
+  pub asked : Held S
+  pub finds : FindsParts g all_parts found.Nothing old asked
+  pub makes : HasMadeAll g asked new
+
+-- all of them were there, or none, and they were made since it was asked for
+abbrev pub HasTables : {S : Type 0} → Ghosts S → Bool → Held S → Held S → Type 0
+HasTables g makes old new = FindsParts g all_parts found.All old new ⊎ (IsTrue makes × HasMadeTables g old new)
