@@ -158,14 +158,9 @@ pub(crate) fn make_tables<S: Alter>(conn: &mut Connection<S>) -> Result<(), Data
         return Err(DatabaseFault::CannotWrite);
     }
     let mut tx = conn.transaction();
-    match make_parts(&mut tx) {
-        Ok(()) => match tx.commit() {
-            Ok(()) => Ok(()),
-            Err(error) => Err(writing_fault(&error)),
-        },
-        Err(fault) => {
-            tx.rollback();
-            Err(DatabaseFault::from(fault))
-        }
+    make_parts(&mut tx)?;
+    match tx.commit() {
+        Ok(()) => Ok(()),
+        Err(error) => Err(writing_fault(&error)),
     }
 }
