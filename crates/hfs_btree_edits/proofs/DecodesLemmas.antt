@@ -1,5 +1,5 @@
 -- Nodes that decode, whatever they decode to.
-use Rattle.std.proofs.Common.{◌≡◌, ℕ, ◌<◌, List, [], length, refl, sym, subst, arith, inl, inr}
+use Rattle.std.proofs.Common.{◌≡◌, ℕ, ◌<◌, length, refl, sym, subst, arith, inl, inr}
 use Rattle.std.specs.Prelude.{Ok, Err, Result, IsOk}
 use Rattle.std.proofs.lemmas.Bool.{cases_eq, true≢false}
 use Rattle.hfs_node.specs.declared.node.Node.{Node}

@@ -1,5 +1,5 @@
 -- Lemmas about the definitions of specs/MapPlaces.antt.
-use Rattle.std.specs.Prelude.{◌≡◌, ℕ, ◌+◌, List, ◌∷◌, ◌++◌}
+use Rattle.std.specs.Prelude.{◌≡◌, ℕ, List, ◌∷◌, ◌++◌}
 use Rattle.hfs_btree.specs.Tree.{Store, node_in, forward_of}
 use Rattle.hfs_btree.specs.Header.{chain_from, own_nodes}
 use Rattle.hfs_btree_edits.specs.MapPlaces.{entry_of, bits_of}

@@ -1,22 +1,23 @@
 //! The header record of a tree, written.
 
-ghost use Rattle.std.specs.Prelude.{◌≡◌, ◌<◌, ◌≤◌, OnOk, length};
+ghost use Rattle.std.specs.Prelude.{◌≡◌, ◌<◌, ◌≤◌, IfOk, OnOk, length};
 ghost use Rattle.hfs_btree.specs.Header.{header_of, record_in};
 ghost use Rattle.hfs_btree_edits.specs.Stored.{HasHeaderPut};
 
 use crate::nodes_mut::NodesMut;
-use crate::stored::{load, store};
+use crate::stored::{store_replaced, viewed};
 use hfs_btree::Header;
 use std::alloc::{AllocError, Global};
 
-/// A header record with these fields, and behind them the bytes that it had.
-fn rewritten(header: &Header, mut entry: Vec<u8>) -> Vec<u8>
-    requires { 30 ≤ length entry.items }
-    ensures fields { header_of result.items ≡ header.now }
-    ensures length { length result.items ≡ length entry.items }
+/// A header record with these fields, and behind them the bytes of the old one.
+fn rewritten(alloc: Global, header: &Header, old: &[u8]) -> Result<Vec<u8>, AllocError>
+    requires { 30 ≤ length old.now }
+    ensures fields { IfOk result (λ made. header_of made.items ≡ header.now) }
+    ensures length { IfOk result (λ made. length made.items ≡ length old.now) }
 {
+    let mut entry = Vec::from_slice(alloc, old)?;
     header.write(entry.as_mut_slice());
-    entry
+    Ok(entry)
 }
 
 /// Writes the fields of the header record; the bytes behind them stay as they are.
@@ -30,9 +31,9 @@ pub fn put_header<S: NodesMut>(
     ensures put { OnOk result (HasHeaderPut header.now (S.nodes nodes.old) (S.nodes nodes.new)) }
     ensures kept { OnOk result (S.kept nodes.new ≡ S.kept nodes.old) }
 {
-    let mut head = load(alloc, nodes, 0)?;
-    let old = head.records.replace(0, Vec::new(alloc));
-    let entry = rewritten(header, old);
-    let _none = head.records.replace(0, entry);
-    store(nodes, 0, &head)
+    let mut bytes = [0; 512];
+    nodes.read(0, &mut bytes);
+    let head = viewed(nodes, 0, &bytes);
+    let entry = rewritten(alloc, header, head.record(0))?;
+    store_replaced(nodes, 0, &head, 0, entry)
 }

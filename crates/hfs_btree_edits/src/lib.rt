@@ -22,4 +22,4 @@ pub use nodes_mut::NodesMut;
 pub use patch_nodes::PatchNodes;
 pub use releasing::release;
 pub use replacing::{find_place, place_of, replace, replace_at};
-pub use stored::{load, store};
+pub use stored::{load, store, store_inserted, store_replaced, store_row, viewed};

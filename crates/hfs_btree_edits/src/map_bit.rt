@@ -8,7 +8,7 @@ ghost use Rattle.hfs_btree.specs.Sound.{HasMap};
 ghost use Rattle.hfs_btree_edits.specs.MapPlaces.{IsPlaceOfNode, IsClearAt, HasWrittenAt, KeepsBitsBut, AreAllSet};
 
 use crate::nodes_mut::NodesMut;
-use crate::stored::{load, store};
+use crate::stored::{store_replaced, viewed};
 use hfs_btree::{Nodes, bit_at, forward_in};
 use hfs_node::view;
 use std::alloc::{AllocError, Global};
@@ -181,8 +181,9 @@ pub(crate) fn put_bit<S: NodesMut>(
     ensures put { OnOk result (HasWrittenAt at value (S.nodes nodes.old) (S.nodes nodes.new)) }
     ensures kept { OnOk result (S.kept nodes.new ≡ S.kept nodes.old) }
 {
-    let mut node = load(alloc, nodes, at.node)?;
-    let part = rewritten(alloc, node.records.record(at.entry), at.bit, value)?;
-    let _old = node.records.replace(at.entry, part);
-    store(nodes, at.node, &node)
+    let mut bytes = [0; 512];
+    nodes.read(at.node, &mut bytes);
+    let node = viewed(nodes, at.node, &bytes);
+    let part = rewritten(alloc, node.record(at.entry), at.bit, value)?;
+    store_replaced(nodes, at.node, &node, at.entry, part)
 }

@@ -1,7 +1,7 @@
 //! Putting a pair in the place of another one.
 
-ghost use Rattle.std.specs.Prelude.{◌≡◌, ◌<◌, true, Ok, OnOk, IfOk, IsTrue, length};
-ghost use Rattle.hfs_node.specs.Node.{node_of, Fits};
+ghost use Rattle.std.specs.Prelude.{◌≡◌, ◌<◌, true, OnOk, IsTrue, length};
+ghost use Rattle.hfs_node.specs.Node.{node_of};
 ghost use Rattle.hfs_scans.specs.Each.{Each};
 ghost use Rattle.hfs_btree.specs.Pairs.{lookup};
 ghost use Rattle.hfs_btree.specs.Tree.{records_of, pairs_of};
@@ -12,9 +12,9 @@ ghost use Rattle.hfs_btree_edits.specs.Entries.{HasBodyAt, HasKeyAt, IsPlaceOf};
 ghost use Rattle.hfs_btree_edits.specs.Conditions.{IsNoLonger, IsThere};
 
 use crate::nodes_mut::NodesMut;
-use crate::stored::{copy_of, store};
+use crate::stored::{store_replaced, viewed};
 use hfs_btree::{Key, Nodes, descend, read_header};
-use hfs_node::{Node, view};
+use hfs_node::view;
 use std::alloc::{AllocError, Global};
 
 /// The place of the record with this key, in a leaf that has one.
@@ -35,18 +35,6 @@ pub fn place_of<K: Key>(bytes: &[u8; 512], key: &K) -> usize
         }
     }
     unreachable!()
-}
-
-/// A copy of a node that has a record.
-pub(crate) fn copied(alloc: Global, bytes: &[u8; 512]) -> Result<Node, AllocError>
-    requires { 0 < length (records_of (node_of bytes.now)) }
-    ensures node { IfOk result (λ node. node_of bytes.now ≡ Ok node) }
-    ensures fits { IfOk result Fits }
-{
-    match view(bytes) {
-        Ok(node) => copy_of(alloc, &node),
-        Err(_) => unreachable!(),
-    }
 }
 
 /// The place of the record with this key in a tree that has one: the number of its leaf, which is read into `bytes`, and which of the
@@ -85,10 +73,9 @@ pub fn replace_at<K: Key, N: NodesMut>(
         (HasReplaced K.Key key.now body.now) N.nodes nodes.old nodes.new }
     ensures kept { OnOk result (N.kept nodes.new ≡ N.kept nodes.old) }
 {
-    let mut leaf = copied(alloc, bytes)?;
+    let leaf = viewed(nodes, n, bytes);
     let made = key.leaf_record(alloc, body)?;
-    let _old = leaf.records.replace(place, made);
-    store(nodes, n, &leaf)
+    store_replaced(nodes, n, &leaf, place, made)
 }
 
 /// Puts the pair in the place of the one whose key is equal to this one in the order. The key is spelled as it is given.

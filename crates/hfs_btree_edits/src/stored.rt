@@ -1,13 +1,16 @@
 //! Nodes that are read into memory and written back.
 
-ghost use Rattle.std.specs.Prelude.{◌≡◌, ◌<◌, Ok, IfOk, OnOk, length};
-ghost use Rattle.hfs_node.specs.Node.{Fits};
+ghost use Rattle.std.specs.Prelude.{◌≡◌, ◌<◌, ◌≤◌, [], Ok, IfOk, OnOk, insert, length, slice_index_or, slice_set};
+ghost use Rattle.hfs_node.specs.Node.{Fits, node_from, node_of, size_of};
 ghost use Rattle.hfs_btree.specs.Tree.{node_in};
 ghost use Rattle.hfs_btree_edits.specs.Stored.{Decodes, HasStored};
 
 use crate::nodes_mut::NodesMut;
 use hfs_btree::Nodes;
-use hfs_node::{BLANK_NODE, Node, NodeView, Records, encode, view};
+use hfs_node::{
+    BLANK_NODE, Descriptor, InsertedRow, Node, NodeView, RecordRow, Records, ReplacedRow, encode,
+    encode_row, view,
+};
 use std::alloc::{AllocError, Global};
 
 /// A copy of a node's records, with room for one more.
@@ -51,6 +54,38 @@ pub fn load<N: Nodes>(alloc: Global, nodes: &N, n: u32) -> Result<Node, AllocErr
     Ok(copy)
 }
 
+/// Node `n`, which decodes, in the bytes that were read of it.
+pub fn viewed<'a, N: Nodes>(nodes: &N, n: u32, bytes: &'a [u8; 512]) -> NodeView<'a>
+    requires decodes { Decodes (N.nodes nodes.now) n }
+    requires read { bytes.now ≡ slice_index_or (N.nodes nodes.now) n [] }
+    ensures node { node_in (N.nodes nodes.now) n ≡ Ok result }
+    ensures bytes { node_of bytes.now ≡ Ok result }
+    ensures fits { Fits result }
+{
+    let Ok(node) = view(bytes) else {
+        unreachable!()
+    };
+    node
+}
+
+/// Writes a node with this descriptor and a row of records, which fit, as node `n`.
+pub fn store_row<S: NodesMut, R: RecordRow>(
+    nodes: &mut S,
+    n: u32,
+    head: &Descriptor,
+    row: &R,
+) -> Result<(), AllocError>
+    requires within { n < length (S.nodes nodes.old) }
+    requires fits { size_of (R.records row.now) ≤ 496 }
+    ensures stored { OnOk result (HasStored n (node_from head.now (R.records row.now))
+        (S.nodes nodes.old) (S.nodes nodes.new)) }
+    ensures kept { OnOk result (S.kept nodes.new ≡ S.kept nodes.old) }
+{
+    let mut bytes = BLANK_NODE;
+    encode_row(head, row, &mut bytes);
+    nodes.write(n, &bytes)
+}
+
 /// Writes a node that fits as node `n`.
 pub fn store<S: NodesMut>(nodes: &mut S, n: u32, node: &Node) -> Result<(), AllocError>
     requires within { n < length (S.nodes nodes.old) }
@@ -61,4 +96,56 @@ pub fn store<S: NodesMut>(nodes: &mut S, n: u32, node: &Node) -> Result<(), Allo
     let mut bytes = BLANK_NODE;
     encode(node, &mut bytes);
     nodes.write(n, &bytes)
+}
+
+/// Writes node `n` as this one with another record in the place of one.
+pub fn store_replaced<S: NodesMut>(
+    nodes: &mut S,
+    n: u32,
+    node: &NodeView<'_>,
+    place: usize,
+    entry: Vec<u8>,
+) -> Result<(), AllocError>
+    requires within { n < length (S.nodes nodes.old) }
+    requires place { place < length node.now.records }
+    requires fits { size_of (slice_set node.now.records place entry.items) ≤ 496 }
+    ensures stored { OnOk result (HasStored n
+        (record node.now { records = slice_set node.now.records place entry.items })
+        (S.nodes nodes.old) (S.nodes nodes.new)) }
+    ensures kept { OnOk result (S.kept nodes.new ≡ S.kept nodes.old) }
+{
+    let head = node.descriptor();
+    let bytes = entry.as_slice();
+    let row = ReplacedRow {
+        node,
+        place,
+        entry: bytes,
+    };
+    store_row(nodes, n, &head, &row)
+}
+
+/// Writes node `n` as this one with one record more, in front of the one at a place or behind the last.
+pub fn store_inserted<S: NodesMut>(
+    nodes: &mut S,
+    n: u32,
+    node: &NodeView<'_>,
+    place: usize,
+    entry: Vec<u8>,
+) -> Result<(), AllocError>
+    requires within { n < length (S.nodes nodes.old) }
+    requires place { place ≤ length node.now.records }
+    requires fits { size_of (insert node.now.records place entry.items) ≤ 496 }
+    ensures stored { OnOk result (HasStored n
+        (record node.now { records = insert node.now.records place entry.items })
+        (S.nodes nodes.old) (S.nodes nodes.new)) }
+    ensures kept { OnOk result (S.kept nodes.new ≡ S.kept nodes.old) }
+{
+    let head = node.descriptor();
+    let bytes = entry.as_slice();
+    let row = InsertedRow {
+        node,
+        place,
+        entry: bytes,
+    };
+    store_row(nodes, n, &head, &row)
 }

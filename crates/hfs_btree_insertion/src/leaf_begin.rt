@@ -76,7 +76,7 @@ fn begin_child<K: Key, S: NodesMut>(
 {
     let n = child_named::<K, S>(nodes, parent, place);
     let above = key.index_record(alloc, m)?;
-    put_record(alloc, nodes, parent, place + 1, above)?;
+    put_record(nodes, parent, place + 1, above)?;
     put_behind(alloc, nodes, n, m, entry)?;
     count_record(alloc, nodes)
 }

@@ -13,12 +13,30 @@ ghost use Rattle.hfs_btree_insertion.specs.Growth.{HasLeafRoom, IsRootLow};
 ghost use Rattle.hfs_btree.specs.Tree.{records_in};
 
 use hfs_btree::{Key, descend, place_in, read_header};
-use hfs_btree_edits::{NodesMut, load, put_header, store};
+use hfs_btree_edits::{NodesMut, put_header, store_inserted, viewed};
 use std::alloc::{AllocError, Global};
+
+/// Puts a record into node `n`, which was read into `bytes`, in front of the one at a place.
+fn put_in_read<S: NodesMut>(
+    nodes: &mut S,
+    n: u32,
+    bytes: &[u8; 512],
+    place: usize,
+    entry: Vec<u8>,
+) -> Result<(), AllocError>
+    requires node { Decodes (S.nodes nodes.old) n }
+    requires read { bytes.now ≡ slice_index_or (S.nodes nodes.old) n [] }
+    requires place { place ≤ length (records_in (S.nodes nodes.old) n) }
+    requires room { size_of (records_in (S.nodes nodes.old) n) + (length entry.items + 2) ≤ 496 }
+    ensures put { Edits result (HasRecordPut n place entry.items) S.nodes nodes.old nodes.new }
+    ensures kept { OnOk result (S.kept nodes.new ≡ S.kept nodes.old) }
+{
+    let node = viewed(nodes, n, bytes);
+    store_inserted(nodes, n, &node, place, entry)
+}
 
 /// Puts a record into node `n`, in front of the one at a place.
 pub(crate) fn put_record<S: NodesMut>(
-    alloc: Global,
     nodes: &mut S,
     n: u32,
     place: usize,
@@ -30,9 +48,9 @@ pub(crate) fn put_record<S: NodesMut>(
     ensures put { Edits result (HasRecordPut n place entry.items) S.nodes nodes.old nodes.new }
     ensures kept { OnOk result (S.kept nodes.new ≡ S.kept nodes.old) }
 {
-    let mut node = load(alloc, nodes, n)?;
-    node.records.insert(place, entry)?;
-    store(nodes, n, &node)
+    let mut bytes = [0; 512];
+    nodes.read(n, &mut bytes);
+    put_in_read(nodes, n, &bytes, place, entry)
 }
 
 /// Counts one more record in the header record.
@@ -72,7 +90,7 @@ pub(crate) fn put_in_leaf<K: Key, S: NodesMut>(
     ensures kept { OnOk result (S.kept nodes.new ≡ S.kept nodes.old) }
 {
     let place = place_in(bytes, key);
-    put_record(alloc, nodes, n, place, entry)?;
+    put_in_read(nodes, n, bytes, place, entry)?;
     count_record(alloc, nodes)
 }
 

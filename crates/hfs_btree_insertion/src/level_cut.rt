@@ -54,7 +54,7 @@ fn cut_child<K: Key, S: NodesMut>(
     let n = child_named::<K, S>(nodes, parent, place);
     let half = cut_place(nodes, n, key, above, len);
     let entry = half_entry::<K, S>(alloc, nodes, n, half, above, m)?;
-    put_record(alloc, nodes, parent, place + 1, entry)?;
+    put_record(nodes, parent, place + 1, entry)?;
     halve(alloc, nodes, n, m, half, above == 0)
 }
 

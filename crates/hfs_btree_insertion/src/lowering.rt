@@ -8,7 +8,7 @@ ghost use Rattle.hfs_btree_edits.specs.Edits.{Edits, IsAboveFirst};
 ghost use Rattle.hfs_btree_insertion.specs.Lowering.{HasFirstKey, HasLowFirst, HasLowered};
 
 use hfs_btree::{Key, child_in, child_of, entry_in, is_above, read_header};
-use hfs_btree_edits::{NodesMut, load, store};
+use hfs_btree_edits::{NodesMut, store_replaced, viewed};
 use std::alloc::{AllocError, Global};
 
 /// Gives an index node's first record this key.
@@ -24,11 +24,12 @@ fn set_first<K: Key, S: NodesMut>(
     ensures set { Edits result (HasFirstKey K.Key n key.now) S.nodes nodes.old nodes.new }
     ensures kept { OnOk result (S.kept nodes.new ≡ S.kept nodes.old) }
 {
-    let mut node = load(alloc, nodes, n)?;
-    let child = child_of::<K>(node.records.record(0));
+    let mut bytes = [0; 512];
+    nodes.read(n, &mut bytes);
+    let node = viewed(nodes, n, &bytes);
+    let child = child_of::<K>(node.record(0));
     let made = key.index_record(alloc, child)?;
-    let _old = node.records.replace(0, made);
-    store(nodes, n, &node)
+    store_replaced(nodes, n, &node, 0, made)
 }
 
 /// Gives an index node's first record this key where its own is above it. The node was read into `bytes`.

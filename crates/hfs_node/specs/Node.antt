@@ -7,6 +7,7 @@ use Rattle.hfs_node.specs.declared.kind.NodeKind.{NodeKind}
 use Rattle.hfs_node.specs.declared.fault.NodeFault.{NodeFault}
 use Rattle.hfs_node.specs.declared.fault.NodeFault.TheVariants.{Kind, Outside, NotRising, Memory}
 use Rattle.hfs_node.specs.declared.node.Node.{Node}
+use Rattle.hfs_node.specs.declared.node.Descriptor.{Descriptor}
 
 -- how many records the descriptor tells
 unfoldable pub count_of : List ℕ → ℕ
@@ -60,6 +61,14 @@ pub record IsNode (kind : NodeKind) (bytes : List ℕ) : Type 0 where
   pub kind_is : kind_of (slice_index bytes 8) ≡ Some kind
   pub inside : are_inside bytes ≡ true
   pub rising : are_rising bytes ≡ true
+
+-- a node's descriptor
+abbrev pub descriptor_of : Node → Descriptor
+descriptor_of n = record { forward = n.forward; backward = n.backward; kind = n.kind; height = n.height }
+
+-- the node with this descriptor and these records
+abbrev pub node_from : Descriptor → List (List ℕ) → Node
+node_from d records = record { forward = d.forward; backward = d.backward; kind = d.kind; height = d.height; records = records }
 
 -- the bytes that records and their offsets take
 unfoldable pub size_of : List (List ℕ) → ℕ

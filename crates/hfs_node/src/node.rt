@@ -9,6 +9,19 @@ use std::alloc::AllocError;
 /// The bytes of a node that was freed: zeros. They are no node.
 pub const BLANK_NODE: [u8; 512] = [0; 512];
 
+/// A node's descriptor, but for the number of its records.
+#[derive(Debug, Clone, Copy, PartialEq, Eq)]
+pub struct Descriptor {
+    /// ndFLink: the next node of the level, 0 at its end.
+    pub forward: u32,
+    /// ndBLink: the node before it in the level, 0 at its beginning.
+    pub backward: u32,
+    /// ndType: what the node is for.
+    pub kind: NodeKind,
+    /// ndNHeight: 1 for a leaf, one more for each index level.
+    pub height: u8,
+}
+
 /// A node: its descriptor's fields and its records.
 #[derive(Debug, Drop)]
 pub struct Node {

@@ -1,10 +1,11 @@
 //! A node that is read in its bytes.
 ghost use Rattle.std.specs.Prelude.{◌≡◌, ◌+◌, ◌<◌, ◌≤◌, ◌==◌, ◌&&◌, [], ◌≢◌, IfOk, IfErr, length, slice_index_or, true};
-ghost use Rattle.hfs_node.specs.Node.{node_of, offset_of, count_of, are_inside, are_rising, record_of, Fits};
+ghost use Rattle.hfs_node.specs.Node.{node_of, offset_of, count_of, are_inside, are_rising, record_of, descriptor_of, Fits};
 
 use crate::bytes::{count_at, offset_at};
 use crate::fault::NodeFault;
 use crate::kind::{NodeKind, kind_from};
+use crate::node::Descriptor;
 use hfs_fields::u32_at;
 use std::marker::Model;
 
@@ -121,6 +122,18 @@ impl<'a> NodeView<'a> {
         ensures short { length result.now ≤ 494 }
     {
         record_at(self.bytes, i)
+    }
+
+    /// The node's descriptor.
+    pub fn descriptor(&self) -> Descriptor
+        ensures { result ≡ descriptor_of self.now }
+    {
+        Descriptor {
+            forward: self.forward(),
+            backward: self.backward(),
+            kind: self.kind(),
+            height: self.height(),
+        }
     }
 
     /// The next node of the level, 0 at its end (ndFLink).

@@ -1,3 +1,4 @@
 pub mod Opened
 pub mod Made
 mod OpenedLemmas
+mod Packed

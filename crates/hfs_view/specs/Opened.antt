@@ -5,6 +5,8 @@ use Rattle.std.specs.Ordering.{nat_cmp}
 use Rattle.std.specs.Option.{option_map}
 use Rattle.std.specs.FinMap as finite
 use Rattle.std.specs.BTreeMap as tree
+use Rattle.std.specs.BTreeMap.{BTreeMap}
+use Rattle.std.specs.declared.cmp.Ordering.{Ordering}
 use Rattle.hfs_blocks.specs.Blocks.{block_at}
 use Rattle.hfs_fields.specs.declared.dir_record.DirRecord.{DirRecord}
 use Rattle.hfs_fields.specs.declared.file_record.FileRecord.{FileRecord}
@@ -116,6 +118,16 @@ TakesRecord image r old new = TakesIn image.base image.current r old new
 -- these are the rows of all records of an image, over its base
 abbrev pub AreAllRows : ImageValue → Maps → Type 0
 AreAllRows image maps = AreRowsOf image.base image.current (image_catalog image.current) maps
+
+-- a map in which each key finds what it finds in the other one
+pub record HasSameEntries {K X : Type 0} (cmp : K → K → Ordering) (old new : BTreeMap K X) : Type 0 where
+  pub ordered : tree.IsOrdered cmp new
+  pub found : (q : K) → tree.get cmp new q ≡ tree.get cmp old q
+
+-- maps of the same rows
+pub record HasSameRows (old new : Maps) : Type 0 where
+  pub ids : HasSameEntries nat_cmp old.by_id new.by_id
+  pub names : HasSameEntries place_cmp old.by_name new.by_name
 
 -- the table of these rows, in a volume whose master directory block this is
 abbrev pub table_over : List ℕ → Mdb → Maps → Table

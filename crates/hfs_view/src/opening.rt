@@ -4,7 +4,7 @@ ghost use Rattle.hfs_blocks.specs.Blocks.{block_at};
 ghost use Rattle.hfs_check.specs.Parts.{catalog_in};
 ghost use Rattle.hfs_volume.specs.Mounted.{fork_record, AreForksIn};
 ghost use Rattle.hfs_volume.specs.Sharing.{ForksStay};
-ghost use Rattle.hfs_view.specs.Opened.{AreAllRows, AreRight, AreThreadsOf, Enters, HasChildrenOf, HasExtents, HasForksIn, IsRightIn, ShowsFile, ShowsFolder, TakesRecord, image_catalog, table_over};
+ghost use Rattle.hfs_view.specs.Opened.{AreAllRows, AreRight, AreThreadsOf, Enters, HasChildrenOf, HasExtents, HasForksIn, HasSameEntries, HasSameRows, IsRightIn, ShowsFile, ShowsFolder, TakesRecord, image_catalog, table_over};
 
 use crate::kept::{file_kept, folder_kept};
 use crate::locks::{is_hardware_locked, is_software_locked};
@@ -107,6 +107,17 @@ fn file_row(
     })
 }
 
+/// A map with the same entries, whose nodes are full: where keys come in order, a map's nodes are half empty. The only error is want of
+/// memory, of which it takes that of the entries once more.
+fn packed<K: Ord + Drop, V: Drop>(
+    map: BTreeMap<K, V>,
+    alloc: Global,
+) -> Result<BTreeMap<K, V>, AllocError>
+    ensures { IfOk result (HasSameEntries K.cmp map) }
+{
+    map.into_iter().collect(alloc)
+}
+
 impl Maps {
     /// Puts a row under its ID and at its place. The only error is want of memory.
     fn enter(&mut self, id: u32, row: Row) -> Result<(), AllocError>
@@ -148,8 +159,8 @@ impl Maps {
         Ok(())
     }
 
-    /// The rows of a volume's catalog, whose records these are. The only error is want of memory.
-    pub fn of(
+    /// The rows of a volume's catalog, whose records these are, as they came. The only error is want of memory.
+    fn gathered(
         alloc: Global,
         volume: &Volume,
         threads: &ThreadIds,
@@ -169,6 +180,32 @@ impl Maps {
             maps.take(alloc, volume, threads, &record)?;
         }
         Ok(maps)
+    }
+
+    /// The same rows in maps whose nodes are full. The only error is want of memory.
+    fn packed(self, alloc: Global) -> Result<Maps, AllocError>
+        ensures { IfOk result (HasSameRows self) }
+    {
+        let Maps { by_id, by_name } = self;
+        let by_id = packed(by_id, alloc)?;
+        let by_name = packed(by_name, alloc)?;
+        Ok(Maps { by_id, by_name })
+    }
+
+    /// The rows of a volume's catalog, whose records these are. The only error is want of memory.
+    pub fn of(
+        alloc: Global,
+        volume: &Volume,
+        threads: &ThreadIds,
+        records: Vec<CatalogRecord>,
+    ) -> Result<Maps, AllocError>
+        requires records { records.items ≡ catalog_in (block_at volume.now.current) }
+        requires right { AreRight volume.now }
+        requires threads { AreThreadsOf (image_catalog volume.now.current) threads.now }
+        ensures { IfOk result (AreAllRows volume.now) }
+    {
+        let maps = Maps::gathered(alloc, volume, threads, records)?;
+        maps.packed(alloc)
     }
 }
 

@@ -3,7 +3,7 @@ use Rattle.hfs_blocks.specs.Blocks.{block_at}
 use Rattle.hfs_catalog.specs.Records.{Catalog}
 use Rattle.hfs_check.specs.Parts.{catalog_in}
 use Rattle.hfs_view.specs.Opened.{AreRowsOf}
-use Rattle.hfs_view.proofs.opening.Maps.of.Given as goal
+use Rattle.hfs_view.proofs.opening.Maps.gathered.Given as goal
 
 abbrev pub invariant-loop-record : goal.invariant-loop-record
 invariant-loop-record l =
