@@ -1,9 +1,8 @@
 -- The table of an opened image, whose bytes are known, has its root.
-use Rattle.std.proofs.Common.{◌≡◌, ◌≢◌, ℕ, ◌/◌, Bool, true, false, List, [], ◌∷◌, length, map, Option, Some, None, refl, sym, ap, subst, arith}
+use Rattle.std.proofs.Common.{◌≡◌, ◌≢◌, ℕ, ◌/◌, true, false, List, [], ◌∷◌, length, map, Option, Some, None, refl, ap, subst, ◌∙◌, arith}
 use Rattle.std.specs.List.{Contains}
 use Rattle.std.specs.Prelude.{unwrap_or}
-use Rattle.std.proofs.lemmas.Bool.{eqb-true}
-use Rattle.hfs_blocks.specs.Blocks.{block_at, block_count, length-block_at}
+use Rattle.hfs_blocks.specs.Blocks.{block_at}
 use Rattle.hfs_catalog.proofs.LawsProved.{sound_is_lawful}
 use Rattle.hfs_check.proofs.LawfulVolume.{sound_catalog}
 use Rattle.hfs_check.proofs.LawsProved.{no_blocks_fault}
@@ -19,14 +18,13 @@ use Rattle.hfs_model.specs.Lawful.{IsLawful}
 use Rattle.hfs_model.specs.Volume.{Entry, Volume}
 use Rattle.hfs_model.specs.declared.reply.Info.{Info}
 use Rattle.hfs_model.proofs.Facts.{true_false}
-use Rattle.hfs_model.proofs.Members.{In, in_from_contains}
+use Rattle.hfs_model.proofs.Members.{in_from_contains}
 use Rattle.hfs_needed.proofs.LawsProved.{gathered_is_enough}
-use Rattle.hfs_needed.specs.Gathered.{HasNeeded}
 use Rattle.hfs_needed.specs.Listing.{HoldsTable}
 use Rattle.hfs_needed.specs.Opened.{IsOpenedOf}
 use Rattle.hfs_needed.specs.OpenedValues.{OpenedValue}
 use Rattle.hfs_needed.specs.declared.opening.NeededVolume.{NeededVolume}
-use Rattle.hfs_sparse.specs.Sparse.{IsOf, sparse}
+use Rattle.hfs_sparse.specs.Sparse.{sparse}
 use Rattle.hfs_image_items.specs.Items.{entries_in, image_in, is_known, is_known_so}
 use Rattle.hfs_image_items.specs.Reading.{AreBegunBy}
 use Rattle.hfs_image_items.proofs.SourceLemmas.{begins_with}
@@ -65,8 +63,3 @@ pub begun_by_root : (opened : OpenedValue) (volume : NeededVolume) (old new : Go
     → HoldsTable opened.known opened.len old → GivesRow old new row → is_known opened ≡ true → AreBegunBy row (told_rows (entries_in (image_in opened)))
 begun_by_root opened volume old new row is holds gives known =
     begins_with opened old new row (some-rows opened.known opened.len volume is known) holds gives known
-
--- what isn't so when a test holds, is so where it doesn't
-pub fails_unless : (b : Bool) → (b ≡ true → ⊥) → b ≡ false
-fails_unless true not = absurd (not refl)
-fails_unless false not = refl

@@ -1,5 +1,5 @@
 -- Which faults an opened image gives as the source of a bag.
-use Rattle.std.specs.Prelude.{◌≡◌, ℕ, ◌≤◌}
+use Rattle.std.specs.Prelude.{◌≡◌, ◌≤◌}
 use Rattle.hfs_bag.specs.declared.source.SourceFault.{SourceFault}
 use Rattle.hfs_bag.specs.declared.source.SourceFault.TheVariants.{Memory}
 use Rattle.hfs_image_items.specs.declared.reading.Reading.{Reading}
