@@ -1,10 +1,10 @@
 -- How many items remain in blocks of bytes.
-use Rattle.std.proofs.Common.{◌≡◌, ℕ, zero, suc, ◌+◌, ◌-◌, ◌*◌, ◌/◌, ◌^◌, ◌<◌, ◌≤◌, Bool, true, false, cond, ◌&&◌, ◌==◌, not, if◌then◌else◌, List, [], ◌∷◌, ◌++◌, take, length, length-append, Option, Some, None, slice_index_or, refl, sym, ap, subst, ◌∙◌, arith, inl, inr}
+use Rattle.std.proofs.Common.{◌≡◌, ℕ, zero, suc, ◌+◌, ◌-◌, ◌*◌, ◌^◌, ◌<◌, ◌≤◌, Bool, true, false, cond, ◌&&◌, ◌==◌, not, if◌then◌else◌, List, [], ◌∷◌, take, length, length-append, Option, Some, None, slice_index_or, refl, ap, ◌∙◌, arith, inl, inr}
 use Rattle.std.specs.Prelude.{count_by, find, nat_le, nat_lt}
-use Rattle.std.specs.List.{flat_map, range_with_len}
+use Rattle.std.specs.List.{range_with_len}
 use Rattle.std.specs.Option.{is_none, is_some, option_or}
 use Rattle.std.proofs.Math.Nat.{mul-le-mul_right}
-use Rattle.std.proofs.lemmas.Bool.{and_parts, cases_eq, eq-eqb, leb-true, ltb-true, ne_eqb}
+use Rattle.std.proofs.lemmas.Bool.{and_parts, cases_eq, eq-eqb, leb-true, ltb-true}
 use Rattle.std.proofs.lemmas.List.FromFn.{length-range_with_len}
 use Rattle.std.proofs.lemmas.List.Sums.{count_by-le-length, sum_by-cons}
 use Rattle.hfs_fields.specs.declared.mdb.Mdb.{Mdb}
@@ -13,10 +13,10 @@ use Rattle.hfs_fields.proofs.CommonLemmas.{none-true}
 use Rattle.hfs_scans.specs.Each.{Each}
 use Rattle.hfs_scans.proofs.MemberLemmas.{found_in}
 use Rattle.hfs_blocks.specs.Blocks.{block_at, block_count, few-block_count}
-use Rattle.hfs_btree.specs.Header.{header_in, header_of, record_in}
+use Rattle.hfs_btree.specs.Header.{header_of, record_in}
 use Rattle.hfs_btree.specs.Sound.{HasCounts}
 use Rattle.hfs_btree.specs.Tree.{Store, records_in}
-use Rattle.hfs_catalog.specs.Records.{Record, Catalog}
+use Rattle.hfs_catalog.specs.Records.{Catalog}
 use Rattle.hfs_catalog.specs.Tree.{cat_keys, catalog_of}
 use Rattle.hfs_space.specs.Extents.{extent_blocks}
 use Rattle.hfs_space.specs.Forks.{blocks_each}
@@ -29,11 +29,10 @@ use Rattle.hfs_rescue.specs.Directory.{all_places, directory_in, directory_of, h
 use Rattle.hfs_rescue.specs.declared.directory.Beginning.{Beginning}
 use Rattle.hfs_rescue.specs.declared.directory.Beginning.TheVariants.{Both, Catalog as CatalogAlone, Neither}
 use Rattle.hfs_rescue.specs.TreeFiles.{FileBlocks, file_blocks, first_there}
-use Rattle.hfs_rescue.specs.CatalogRecords.{catalog_nodes, catalog_records, found, found_in_tree, found_of, is_catalog_body, is_catalog_tree_right, is_node_block, nodes_there, scattered_records}
-use Rattle.hfs_rescue.specs.Remains.{catalog_file_blocks, catalog_file_extents, remaining_records}
+use Rattle.hfs_rescue.specs.CatalogRecords.{catalog_nodes, catalog_records, found, found_in_tree, found_of, is_catalog_body, is_catalog_tree_right, is_node_block, scattered_records}
+use Rattle.hfs_rescue.specs.Remains.{catalog_file_extents}
 use Rattle.hfs_rescue.specs.Items.{is_named_item, items_of}
-use Rattle.hfs_rescue.specs.declared.catalog.FoundRecord.{FoundRecord}
-use Rattle.hfs_rescue.proofs.LawTypes.{AreBytes, DirectoriesAreRead, IsReadDirectory, ItemsAreCounted, items_among, others}
+use Rattle.hfs_rescue.proofs.LawTypes.{AreBytes, DirectoriesAreRead, IsReadDirectory, ItemsAreCounted, others}
 use Rattle.hfs_rescue.proofs.ByteLemmas.{block-bytes, no-bytes, number-small, take-bytes}
 use Rattle.hfs_rescue.proofs.FewLemmas.{items-few}
 use Rattle.hfs_rescue.proofs.ReadLemmas.{nodes-bytes, store-bytes}

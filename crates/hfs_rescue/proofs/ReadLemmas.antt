@@ -1,5 +1,5 @@
 -- The records that are found in blocks of bytes.
-use Rattle.std.proofs.Common.{◌≡◌, ℕ, zero, suc, ◌-◌, ◌/◌, ◌%◌, Bool, true, false, if◌then◌else◌, List, [], ◌∷◌, ◌++◌, length, map, Option, Some, None, slice_index_or, refl, sym, subst}
+use Rattle.std.proofs.Common.{◌≡◌, ℕ, zero, suc, ◌-◌, ◌/◌, ◌%◌, Bool, true, false, if◌then◌else◌, List, [], ◌∷◌, ◌++◌, length, map, Option, Some, None, slice_index_or, refl}
 use Rattle.std.specs.Bool.{beq}
 use Rattle.std.specs.List.{flat_map, list_all, range_with_len}
 use Rattle.std.proofs.lemmas.Bool.{and_parts}
@@ -12,7 +12,7 @@ use Rattle.hfs_scans.proofs.PartLemmas.{flat-each}
 use Rattle.hfs_node.specs.Node.{node_of}
 use Rattle.hfs_btree.specs.Header.{depth_of, leaves, root_level}
 use Rattle.hfs_btree.specs.Sound.{HasStructure, IsRight}
-use Rattle.hfs_btree.specs.Tree.{Spot, Store, first_of, node_in, pair_of, pairs, records_in, spots}
+use Rattle.hfs_btree.specs.Tree.{Store, first_of, node_in, pair_of, pairs, records_in, spots}
 use Rattle.hfs_btree.proofs.DescentLemmas.{leaf-entries, leaves-right}
 use Rattle.hfs_catalog.specs.Records.{Record, Catalog}
 use Rattle.hfs_catalog.specs.Tree.{cat_keys, catalog_of}
@@ -23,8 +23,8 @@ use Rattle.hfs_rescue.specs.InUse.{is_in_use}
 use Rattle.hfs_rescue.specs.TreeFiles.{FileBlocks, first_nodes, node_at, nodes_of, piece_of}
 use Rattle.hfs_rescue.specs.LeafRecords.{all_leaf_records, leaf_records, records_at, records_of_age, with_age}
 use Rattle.hfs_rescue.specs.CatalogRecords.{all_stray_records, catalog_nodes, catalog_records, found, found_in, found_in_leaves, found_in_tree, found_of, is_catalog_body, is_catalog_record, is_catalog_tree_right, is_lacking, is_node_block, scattered_records, stray_records, stray_records_at}
-use Rattle.hfs_rescue.specs.Remains.{catalog_file_blocks, catalog_file_extents, remaining_records}
-use Rattle.hfs_rescue.specs.Items.{is_next_item, items_behind, items_of, with_next}
+use Rattle.hfs_rescue.specs.Remains.{catalog_file_blocks, catalog_file_extents}
+use Rattle.hfs_rescue.specs.Items.{is_next_item, items_behind, with_next}
 use Rattle.hfs_rescue.specs.declared.catalog.FoundRecord.{FoundRecord}
 use Rattle.hfs_rescue.specs.declared.leaf_records.LeafRecord.{LeafRecord}
 use Rattle.hfs_rescue.proofs.LawTypes.{AreBytes, IsReadRecord, RecordsAreRead}
