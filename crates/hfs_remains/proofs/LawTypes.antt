@@ -1,22 +1,27 @@
 -- What is said of a fork, and its bytes, are a function of the fork's length, its extents, its blocks, and of where blocks lie.
-use Rattle.std.specs.Prelude.{◌≡◌, ◌≢◌, ℕ, ◌*◌, ◌<◌, ◌≤◌, Bool, true, false, List, map, take, length, replicate, reverse, Option, Some, None, slice_index_or}
+use Rattle.std.specs.Prelude.{◌≡◌, ◌≢◌, ℕ, ◌*◌, ◌<◌, ◌≤◌, Bool, true, false, List, map, take, length, replicate, reverse, Option, Some, None, IsTrue, slice_index_or}
 use Rattle.std.specs.List.{flat_map}
 use Rattle.hfs_fields.specs.declared.mdb.Mdb.{Mdb}
 use Rattle.hfs_fields.specs.Records.{item_id}
+use Rattle.hfs_names.specs.Laws.{is_bytes}
 use Rattle.hfs_names.specs.Paths.{host_path}
 use Rattle.hfs_fields.specs.declared.extent.Extent.{Extent}
+use Rattle.hfs_blocks.specs.Blocks.{block_at, block_count}
 use Rattle.hfs_space.specs.Extents.{Overflow, extent_blocks, fork_extents as whole_extents}
 use Rattle.hfs_space.specs.Forks.{blocks_each, run_bytes, fork_bytes}
 use Rattle.hfs_space.specs.Owners.{Fork as CheckedFork}
 use Rattle.hfs_space.specs.Sound.{IsForkSound}
 use Rattle.hfs_catalog.specs.Records.{Record, Catalog, items_of as items_in}
 use Rattle.hfs_check.specs.Parts.{Blocks, mdb_in, overflow_in, catalog_in}
-use Rattle.hfs_check.specs.Sound.{AreBlocksSound}
+use Rattle.hfs_check.specs.Sound.{AreBlocksSound, IsSound}
 use Rattle.hfs_rescue.specs.Allocation.{start_of}
 use Rattle.hfs_rescue.specs.TreeFiles.{FileBlocks}
 use Rattle.hfs_rescue.specs.OverflowRecords.{fork_extents}
 use Rattle.hfs_rescue.specs.declared.catalog.FoundRecord.{FoundRecord}
 use Rattle.hfs_rescue.specs.CatalogRecords.{found}
+use Rattle.hfs_rescue.specs.Directory.{directory_of, mdb_at}
+use Rattle.hfs_rescue.specs.Items.{items_of}
+use Rattle.hfs_rescue.specs.Remains.{remaining_records}
 use Rattle.hfs_places.specs.declared.things.Thing.{Thing}
 use Rattle.hfs_places.specs.Folders.{thing_at}
 use Rattle.hfs_places.specs.Things.{things_of}
@@ -116,6 +121,10 @@ abbrev pub RecordsHaveOwnPlaces : Type 0
 RecordsHaveOwnPlaces =
     (items records : List FoundRecord) → AreThings (things_of (map thing_of items) (namings_of records)) → ArePlacedApart (things_of (map thing_of items) (namings_of records))
 
+-- the records of the catalog that block n as the directory of an image leads to
+abbrev pub records_found : List ℕ → ℕ → List FoundRecord
+records_found image n = remaining_records (block_count image) (block_at image) (mdb_at (block_at image) n)
+
 -- the things of a catalog's items
 abbrev pub things_in : Catalog → List Thing
 things_in catalog = map thing_of (map (found false) (items_in catalog))
@@ -125,9 +134,19 @@ abbrev pub SoundThingsAreItems : Type 0
 SoundThingsAreItems =
     (total : ℕ) (blocks : Blocks) → AreBlocksSound total blocks → things_of (things_in (catalog_in blocks)) (namings_of (map (found false) (catalog_in blocks))) ≡ things_in (catalog_in blocks)
 
--- and no two items of a folder are called the same
+-- what is found in an image of bytes by its directory are things: names have at most 31 bytes, numbers 32 bits
+abbrev pub FoundAreThings : Type 0
+FoundAreThings =
+    (image : List ℕ) (n : ℕ) → IsTrue (is_bytes image) → directory_of image ≡ Some n
+    → AreThings (things_of (map thing_of (items_of (records_found image n))) (namings_of (records_found image n)))
+
+-- and so are those of a sound image
+abbrev pub SoundAreThings : Type 0
+SoundAreThings = (image : List ℕ) → IsSound image → IsTrue (is_bytes image) → AreThings (things_in (catalog_in (block_at image)))
+
+-- no two items of a folder of it are called the same
 abbrev pub SoundNamesAreOwn : Type 0
-SoundNamesAreOwn = (total : ℕ) (blocks : Blocks) → AreBlocksSound total blocks → AreThings (things_in (catalog_in blocks)) → HaveOwnNames (things_in (catalog_in blocks))
+SoundNamesAreOwn = (image : List ℕ) → IsSound image → IsTrue (is_bytes image) → HaveOwnNames (things_in (catalog_in (block_at image)))
 
 -- names lead from a thing up to the payload
 pub record HasSomeWay (things : List Thing) (i : ℕ) : Type 0 where
@@ -143,6 +162,7 @@ SoundItemsHaveWays =
 -- where the host paths of folders take at most 800 bytes, an item but the root is put at the host path of the names that lead to it
 abbrev pub SoundPathsAreHostPaths : Type 0
 SoundPathsAreHostPaths =
-    (total : ℕ) (blocks : Blocks) → AreBlocksSound total blocks → AreThings (things_in (catalog_in blocks)) → AreWaysShort (things_in (catalog_in blocks))
-    → (i : ℕ) (names : List (List ℕ)) → i < length (things_in (catalog_in blocks)) → (thing_at (things_in (catalog_in blocks)) i).folder ≢ Some 2 → HasWay (things_in (catalog_in blocks)) names i
-    → payload_path (things_of (things_in (catalog_in blocks)) (namings_of (map (found false) (catalog_in blocks)))) i ≡ host_path (reverse names)
+    (image : List ℕ) → IsSound image → IsTrue (is_bytes image) → AreWaysShort (things_in (catalog_in (block_at image)))
+    → (i : ℕ) (names : List (List ℕ)) → i < length (things_in (catalog_in (block_at image))) → (thing_at (things_in (catalog_in (block_at image))) i).folder ≢ Some 2
+    → HasWay (things_in (catalog_in (block_at image))) names i
+    → payload_path (things_of (things_in (catalog_in (block_at image))) (namings_of (map (found false) (catalog_in (block_at image))))) i ≡ host_path (reverse names)

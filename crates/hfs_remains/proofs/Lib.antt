@@ -12,5 +12,6 @@ mod WholeForkLemmas
 mod TakenLemmas
 mod SoundThingLemmas
 mod SoundWayLemmas
+mod ReadThingLemmas
 mod SoundPathLemmas
 pub mod LawsProved
