@@ -1,13 +1,14 @@
 -- Bytes of blocks that come behind others.
 use Rattle.std.proofs.Common.{◌≡◌, ℕ, ◌+◌, ◌-◌, ◌*◌, ◌<◌, ◌≤◌, List, [], ◌∷◌, ◌++◌, length, take, drop, min, replicate, slice_index_or, Option, Some, None, inl, inr, refl, sym, ap, ◌∙◌, arith, append_assoc, length-append, length-take, length-drop}
 use Rattle.std.specs.List.{AllClonesOf, AppendsClonesOf}
-use Rattle.std.proofs.Math.Nat.{suc-mul, zero-mul}
-use Rattle.std.proofs.lemmas.List.{drop-append-le, drop-drop, drop-replicate, drop_at, drop_min, drop_more, length-replicate, take-append-le, take-replicate, take_all}
+use Rattle.std.proofs.lemmas.List.{drop-append-le, drop-drop, drop-replicate, drop_at, drop_min, drop_more, take-append-le, take-replicate, take_all}
 use Rattle.hfs_fields.specs.declared.mdb.Mdb.{Mdb}
 use Rattle.hfs_rescue.specs.Allocation.{start_of}
 use Rattle.hfs_rescue.specs.TreeFiles.{FileBlocks}
-use Rattle.hfs_space.proofs.Pieces.{read-append, read-more, read-take, take_past}
-use Rattle.hfs_rescue_items.specs.Bytes.{block_bytes, block_part, blocks_bytes, bytes_from, filled}
+use Rattle.hfs_space.proofs.Pieces.{read-more, take_past}
+use Rattle.hfs_remains.specs.ForkBytes.{filled, place_bytes, places_bytes}
+use Rattle.hfs_remains.proofs.ForkByteLemmas.{length-place, read-filled}
+use Rattle.hfs_rescue_items.specs.Bytes.{block_part, bytes_from}
 use Rattle.hfs_rescue_items.specs.Reading.{Reads}
 
 -- ---- zeros
@@ -29,31 +30,10 @@ zeros_put old new len count is appended long =
 
 -- ---- bytes that are filled with zeros
 
-length-filled : (n : ℕ) (bytes : List ℕ) → length (filled n bytes) ≡ n
-unfolding filled
-length-filled n bytes = omega (arith, length-take n (bytes ++ replicate n 0), length-append bytes (replicate n 0), length-replicate {A = ℕ} n 0)
-
 laid : (count held : ℕ) (bytes : List ℕ) → held ≡ min count (length bytes) → take held bytes ++ replicate (count - held) 0 ≡ filled count bytes
 unfolding filled
 laid count held bytes e =
     ap (λ (l : List ℕ). take held bytes ++ l) (sym (take-replicate (count - held) count 0 (omega arith))) ∙ sym (take_past count held bytes (replicate count 0) e)
-
-read-at : (c w n p k : ℕ) (bytes : List ℕ) → p ≡ min w (length bytes) → k ≡ min c (length bytes - p) → w + c ≤ n → take c (drop w (filled n bytes)) ≡ filled c (drop w bytes)
-unfolding filled
-read-at c w n p k bytes is_p is_k fits =
-    let same : min c (n - w) ≡ c = omega (arith, fits) in
-    let zeros : take (c - k) (drop (w - p) (replicate n 0)) ≡ take (c - k) (replicate c 0) =
-    ap (take (c - k)) (drop-replicate (w - p) n 0) ∙ take-replicate (c - k) (n - (w - p)) 0 (omega (arith, fits, is_p)) ∙ sym (take-replicate (c - k) c 0 (omega arith)) in
-    let front : drop p bytes ≡ drop w bytes = ap (λ (m : ℕ). drop m bytes) is_p ∙ drop_min w bytes in
-    read-take c w n (bytes ++ replicate n 0)
-    ∙ ap (λ (m : ℕ). take m (drop w (bytes ++ replicate n 0))) same
-    ∙ read-append c w p k bytes (replicate n 0) is_p is_k
-    ∙ (λ i. take k (front i) ++ zeros i)
-    ∙ sym (take_past c k (drop w bytes) (replicate c 0) (omega (arith, is_p, is_k, length-drop w bytes)))
-
--- a part of them
-read-filled : (c w n : ℕ) (bytes : List ℕ) → w + c ≤ n → take c (drop w (filled n bytes)) ≡ filled c (drop w bytes)
-read-filled c w n bytes fits = read-at c w n (min w (length bytes)) (min c (length bytes - min w (length bytes))) bytes refl refl fits
 
 -- bytes of an image, and zeros behind them
 pub image_put : (old mid new image behind : List ℕ) (place start count held : ℕ) → start ≡ min place (length image) → behind ≡ drop start image
@@ -67,7 +47,7 @@ image_put old mid new image behind place start count held begins is least first 
 
 pub block_put : (old new image : List ℕ) (mdb : Mdb) (block within count place : ℕ) → place ≡ 512 * start_of mdb block + within → within + count ≤ mdb.allocation_block_size
     → new ≡ old ++ filled count (drop place image) → new ≡ old ++ block_part image mdb (Some block) within count
-unfolding block_bytes
+unfolding place_bytes
 block_put old new image mdb block within count place at fits put =
     let bytes = drop (512 * start_of mdb block) image in
     put
@@ -76,24 +56,11 @@ block_put old new image mdb block within count place at fits put =
 
 pub missing_put : (old new image : List ℕ) (mdb : Mdb) (within count : ℕ) → within + count ≤ mdb.allocation_block_size → new ≡ old ++ replicate count 0
     → new ≡ old ++ block_part image mdb None within count
-unfolding block_bytes
+unfolding place_bytes
 missing_put old new image mdb within count fits put =
     let size = mdb.allocation_block_size in
     put
     ∙ ap (λ (l : List ℕ). old ++ l) (sym (ap (take count) (drop-replicate within size 0) ∙ take-replicate count (size - within) 0 (omega (arith, fits))))
-
-length-block : (image : List ℕ) (mdb : Mdb) (place : Option ℕ) → length (block_bytes image mdb place) ≡ mdb.allocation_block_size
-unfolding block_bytes
-length-block image mdb None = length-replicate mdb.allocation_block_size 0
-length-block image mdb (Some b) = length-filled mdb.allocation_block_size (drop (512 * start_of mdb b) image)
-
-pub length-blocks : (image : List ℕ) (mdb : Mdb) (places : FileBlocks) → length (blocks_bytes image mdb places) ≡ length places * mdb.allocation_block_size
-length-blocks image mdb [] = sym (zero-mul mdb.allocation_block_size)
-length-blocks image mdb (place ∷ places) =
-    let size = mdb.allocation_block_size in
-    length-append (block_bytes image mdb place) (blocks_bytes image mdb places)
-    ∙ (λ i. length-block image mdb place i + length-blocks image mdb places i)
-    ∙ omega (arith, suc-mul (length places) size)
 
 -- ---- what is left of blocks
 
@@ -103,42 +70,42 @@ module _ (image : List ℕ) (mdb : Mdb) (places : FileBlocks) (next within left 
   place = slice_index_or places next None
 
   abbrev behind : List ℕ
-  behind = blocks_bytes image mdb (drop (next + 1) places)
+  behind = places_bytes image mdb (drop (next + 1) places)
 
-  split : blocks_bytes image mdb (drop next places) ≡ block_bytes image mdb place ++ behind
-  split = ap (blocks_bytes image mdb) (drop_more places next None there)
+  split : places_bytes image mdb (drop next places) ≡ place_bytes image mdb place ++ behind
+  split = ap (places_bytes image mdb) (drop_more places next None there)
 
-  first : take count (drop within (blocks_bytes image mdb (drop next places))) ≡ block_part image mdb place within count
+  first : take count (drop within (places_bytes image mdb (drop next places))) ≡ block_part image mdb place within count
   first =
-      let long : length (block_bytes image mdb place) ≡ mdb.allocation_block_size = length-block image mdb place in
+      let long : length (place_bytes image mdb place) ≡ mdb.allocation_block_size = length-place image mdb place in
       ap (λ (l : List ℕ). take count (drop within l)) split
-      ∙ ap (take count) (drop-append-le within (block_bytes image mdb place) behind (omega (arith, long, fits)))
-      ∙ take-append-le count (drop within (block_bytes image mdb place)) behind (omega (arith, long, fits, length-drop within (block_bytes image mdb place)))
+      ∙ ap (take count) (drop-append-le within (place_bytes image mdb place) behind (omega (arith, long, fits)))
+      ∙ take-append-le count (drop within (place_bytes image mdb place)) behind (omega (arith, long, fits, length-drop within (place_bytes image mdb place)))
 
-  parted : take left (drop within (blocks_bytes image mdb (drop next places)))
-      ≡ block_part image mdb place within count ++ take left' (drop (within + count) (blocks_bytes image mdb (drop next places)))
+  parted : take left (drop within (places_bytes image mdb (drop next places)))
+      ≡ block_part image mdb place within count ++ take left' (drop (within + count) (places_bytes image mdb (drop next places)))
   parted =
       let all : left ≡ count + left' = omega (arith, enough, fewer) in
-      ap (λ (n : ℕ). take n (drop within (blocks_bytes image mdb (drop next places)))) all
-      ∙ read-more count left' within (within + count) (blocks_bytes image mdb (drop next places)) refl
-      ∙ ap (λ (l : List ℕ). l ++ take left' (drop (within + count) (blocks_bytes image mdb (drop next places)))) first
+      ap (λ (n : ℕ). take n (drop within (places_bytes image mdb (drop next places)))) all
+      ∙ read-more count left' within (within + count) (places_bytes image mdb (drop next places)) refl
+      ∙ ap (λ (l : List ℕ). l ++ take left' (drop (within + count) (places_bytes image mdb (drop next places)))) first
 
   -- the block has more bytes
   pub goes_on_within : (within' : ℕ) → within' ≡ within + count
       → bytes_from image mdb places next within left ≡ block_part image mdb place within count ++ bytes_from image mdb places next within' left'
   unfolding bytes_from
   goes_on_within within' at =
-      parted ∙ ap (λ (n : ℕ). block_part image mdb place within count ++ take left' (drop n (blocks_bytes image mdb (drop next places)))) (sym at)
+      parted ∙ ap (λ (n : ℕ). block_part image mdb place within count ++ take left' (drop n (places_bytes image mdb (drop next places)))) (sym at)
 
   -- it has none
   pub goes_on_behind : (next' : ℕ) → next' ≡ next + 1 → mdb.allocation_block_size ≤ within + count
       → bytes_from image mdb places next within left ≡ block_part image mdb place within count ++ bytes_from image mdb places next' 0 left'
   unfolding bytes_from
   goes_on_behind next' at end =
-      let long : length (block_bytes image mdb place) ≡ within + count = omega (arith, length-block image mdb place, fits, end) in
+      let long : length (place_bytes image mdb place) ≡ within + count = omega (arith, length-place image mdb place, fits, end) in
       parted
       ∙ ap (λ (l : List ℕ). block_part image mdb place within count ++ take left' l)
-      (ap (drop (within + count)) split ∙ drop_at (block_bytes image mdb place) behind (within + count) long ∙ ap (λ (n : ℕ). blocks_bytes image mdb (drop n places)) (sym at))
+      (ap (drop (within + count)) split ∙ drop_at (place_bytes image mdb place) behind (within + count) long ∙ ap (λ (n : ℕ). places_bytes image mdb (drop n places)) (sym at))
 
 -- a part of the block that is read next was put behind others
 pub part_put : (image : List ℕ) (mdb : Mdb) (block next : Option ℕ) (within count : ℕ) (old new rest rest' : List ℕ) → block ≡ next
@@ -151,7 +118,7 @@ part_put image mdb block next within count old new rest rest' is put left =
 pub part_most : (image : List ℕ) (mdb : Mdb) (place : Option ℕ) (within count most : ℕ) (old new : List ℕ) → new ≡ old ++ block_part image mdb place within count → count ≤ most
     → length new ≤ length old + most
 part_most image mdb place within count most old new put few =
-    omega (arith, ap length put, length-append old (block_part image mdb place within count), length-take count (drop within (block_bytes image mdb place)), few)
+    omega (arith, ap length put, length-append old (block_part image mdb place within count), length-take count (drop within (place_bytes image mdb place)), few)
 
 -- ---- pieces of forks
 
@@ -161,7 +128,7 @@ pub fork_read : (piece old image : List ℕ) (mdb : Mdb) (places : FileBlocks) (
 unfolding bytes_from
 fork_read piece old image mdb places next within left so none = record {
   bytes = sym so;
-  none = λ e. ap (λ (n : ℕ). take n (drop within (blocks_bytes image mdb (drop next places)))) none;
+  none = λ e. ap (λ (n : ℕ). take n (drop within (places_bytes image mdb (drop next places)))) none;
 }
 
 -- the piece is whole

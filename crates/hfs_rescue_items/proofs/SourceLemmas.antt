@@ -8,6 +8,7 @@ use Rattle.hfs_bag.specs.declared.source.Stream.TheVariants as stream
 use Rattle.hfs_bag.specs.Items.{IsHead}
 use Rattle.hfs_bag.specs.Sources.{HasItem, HasNoItem, HasOpened, HasRead, HasRestarted, stream_bytes}
 use Rattle.hfs_remains.specs.declared.findings.FoundFork.{FoundFork}
+use Rattle.hfs_remains.specs.ForkBytes.{fork_bytes}
 use Rattle.hfs_space.specs.declared.fork_kind.ForkKind.TheVariants.{Data, Resource}
 use Rattle.hfs_table.specs.Lines.{csv_head}
 use Rattle.hfs_rescue_items.specs.declared.came.Came.{Came}
@@ -15,14 +16,14 @@ use Rattle.hfs_rescue_items.specs.declared.found.Found.{Found}
 use Rattle.hfs_rescue_items.specs.declared.plan.Planned.{Planned}
 use Rattle.hfs_rescue_items.specs.declared.reading.Lines.{Lines}
 use Rattle.hfs_rescue_items.specs.declared.reading.Reading.{Reading}
-use Rattle.hfs_rescue_items.specs.Bytes.{HasBytes, blocks_bytes}
+use Rattle.hfs_rescue_items.specs.Bytes.{HasBytes}
 use Rattle.hfs_rescue_items.specs.Lines.{item_line, lines_of, remains_line, remains_text, table_text}
 use Rattle.hfs_rescue_items.specs.Reading.{Reads, lines_rest, reading_rest}
 use Rattle.hfs_rescue_items.specs.Sources.{above_of, came_item, finder_told, item_with, name_of, part_bytes, part_stream, part_told, planned_item, source_of}
 
 module _ (found : Found) where
   -- a fork that was found and begun
-  pub fork_begun : (bytes rest : List ℕ) (fork : FoundFork) → HasBytes found bytes fork → rest ≡ take fork.length (blocks_bytes found.image.now found.mdb.now fork.places.items)
+  pub fork_begun : (bytes rest : List ℕ) (fork : FoundFork) → HasBytes found bytes fork → rest ≡ fork_bytes found.image.now found.mdb.now fork.length fork.places.items
       → rest ≡ bytes
   fork_begun bytes rest fork has begun = begun ∙ has.bytes_are
 

@@ -1,7 +1,8 @@
 //! Forks that are read piece by piece.
 ghost use Rattle.std.specs.Prelude.{◌≡◌, ◌+◌, ◌*◌, ◌<◌, ◌≤◌, ◌++◌, [], drop, length, replicate, take, None, Some, IfOk, OnOk};
 ghost use Rattle.hfs_rescue.specs.Allocation.{start_of};
-ghost use Rattle.hfs_rescue_items.specs.Bytes.{block_bytes, blocks_bytes, block_part, filled};
+ghost use Rattle.hfs_remains.specs.ForkBytes.{filled, fork_bytes};
+ghost use Rattle.hfs_rescue_items.specs.Bytes.{block_part};
 ghost use Rattle.hfs_rescue_items.specs.declared.found.Found.{Found};
 ghost use Rattle.hfs_rescue_items.specs.Reading.{Reads, fork_rest, next_bytes, next_place};
 
@@ -44,7 +45,7 @@ pub(crate) fn empty_fork(alloc: Global) -> ForkReading
 #[tactic(auto, unfolding(crate::specs::Bytes::bytes_from))]
 pub(crate) fn begin_fork(fork: FoundFork) -> ForkReading
     ensures { (found : Found) → fork_rest found result
-        ≡ take fork.length (blocks_bytes found.image.now found.mdb.now fork.places.items) }
+        ≡ fork_bytes found.image.now found.mdb.now fork.length fork.places.items }
 {
     let FoundFork {
         length,

@@ -47,16 +47,16 @@ use Rattle.hfs_places.specs.Things.{folder_of, things_of}
 use Rattle.hfs_places.proofs.LawTypes.{AreThings, AreWaysShort, EndsThere, HasWay, IsFolderOnWay}
 use Rattle.hfs_places.proofs.LawsProved.{folders_are_things, paths_are_host_paths}
 use Rattle.hfs_remains.specs.declared.shares.FileShares.{FileShares}
-use Rattle.hfs_remains.specs.Forks.{both_forks, fork_length, fork_of, fork_places}
+use Rattle.hfs_remains.specs.Forks.{both_forks, fork_of}
 use Rattle.hfs_remains.specs.Records.{namings_of, thing_of}
 use Rattle.hfs_remains.specs.Verdicts.{fork_share, shares_at}
-use Rattle.hfs_remains.proofs.LawTypes.{taken_bytes as fork_taken, things_in, whole_shares}
+use Rattle.hfs_remains.proofs.LawTypes.{HasBlocks, taken_bytes as fork_taken, things_in, whole_shares}
 use Rattle.hfs_remains.proofs.LawsProved.{sound_names_are_own}
 use Rattle.hfs_rescue.specs.declared.catalog.FoundRecord.{FoundRecord}
 use Rattle.hfs_rescue.specs.CatalogRecords.{found as young}
 use Rattle.hfs_rescue_items.specs.declared.found.Found.{Found}
 use Rattle.hfs_rescue_items.specs.declared.plan.Planned.{Planned}
-use Rattle.hfs_rescue_items.specs.Bytes.{blocks_bytes, share_bytes, taken_bytes}
+use Rattle.hfs_rescue_items.specs.Bytes.{bytes_by, taken_bytes}
 use Rattle.hfs_rescue_items.specs.Found.{path_at, told_at}
 use Rattle.hfs_rescue_items.specs.Plan.{file_kind, first_part, last_part, makes_folder, of_kind, own_kind, path_of, thing_kind, whole_plan}
 use Rattle.hfs_rescue_items.specs.Sources.{above_of, finder_told, is_alone, name_of, planned_item}
@@ -68,7 +68,7 @@ use Rattle.hfs_rescue_items.proofs.PartLemmas.{IsPart, own_path, plan_is}
 use Rattle.hfs_rescue_items.proofs.PlacedLemmas.{text-is}
 use Rattle.hfs_salvage.specs.Bags.{rescued_items}
 use Rattle.hfs_salvage.specs.Found.{IsFoundOf}
-use Rattle.hfs_salvage.proofs.ForkTakenLemmas.{data-taken, file-there, fork-is, fork-same, resource-taken}
+use Rattle.hfs_salvage.proofs.ForkTakenLemmas.{data-taken, file-there, fork-is, resource-taken}
 use Rattle.hfs_salvage.proofs.ItemWayLemmas.{inside, not-root, record-at, thing-is}
 use Rattle.hfs_salvage.proofs.RowWayLemmas.{row-there, rows, ways-are}
 use Rattle.hfs_salvage.proofs.SoundFoundLemmas.{dir-no-file, finder-is, inside-found, item-found, items-found, path-found, path-parts, payload-is, root-path, shares-is, things-found, things-named, told-kind, told-name, told-parent, trees-directory, trees-overflow, whole}
@@ -242,32 +242,31 @@ module _ (image : List ℕ) (limit : ℕ) (found : Found) (sound : IsSound image
     told-none fork dir =
         ap (λ (k : ItemKind). of_file k (bytes_or_none (named_fork es (told cat r).parent (told cat r).name fork))) (told-kind cat r ∙ ap (λ (b : Bool). if b then item.Folder else item.File) dir)
 
-    share-is : (fork : FoundFork) → share_bytes found.image.now found.salvage.now.trees (record { fork = fork; taken = true })
-        ≡ fork_taken (block_count image) (block_at image) (overflow_in (block_at image)) (mdb_in (block_at image)) fork
-    share-is fork =
-        (λ k. take (fork_length (trees-overflow image limit found sound begins enough is k) (trees-directory image limit found sound begins enough is k) fork)
-        (blocks_bytes (is.image_is k) (trees-directory image limit found sound begins enough is k)
-        (fork_places (is.total_is k) (trees-overflow image limit found sound begins enough is k) (trees-directory image limit found sound begins enough is k) fork)))
-        ∙ fork-same image (mdb_in (block_at image)) sound.blocks.mdb.whole_size (overflow_in (block_at image)) fork
+    share-is : (fork : FoundFork) → bytes_by found.image.now found.salvage.now.trees (record { fork = fork; taken = true })
+        ≡ fork_taken (block_count image) image (overflow_in (block_at image)) (mdb_in (block_at image)) fork
+    share-is fork = λ k. fork_taken (is.total_is k) (is.image_is k) (trees-overflow image limit found sound begins enough is k) (trees-directory image limit found sound begins enough is k) fork
+
+    own-blocks : HasBlocks image (block_count image) (block_at image)
+    own-blocks = record { enough = omega arith; same = λ n within. refl }
 
     data-by : (b : Bool) → is_dir r.1 ≡ b → taken_bytes found Data i ≡ fork_told es DataFork (told cat r)
     unfolding taken_bytes
     data-by true dir =
-        ap (λ (o : Option FileShares). option_map_or (λ file. share_bytes found.image.now found.salvage.now.trees (fork_share Data file)) o []) (dir-shares dir) ∙ sym (told-none DataFork dir)
+        ap (λ (o : Option FileShares). option_map_or (λ file. bytes_by found.image.now found.salvage.now.trees (fork_share Data file)) o []) (dir-shares dir) ∙ sym (told-none DataFork dir)
     data-by false file =
-        ap (λ (o : Option FileShares). option_map_or (λ file. share_bytes found.image.now found.salvage.now.trees (fork_share Data file)) o []) (file-shares file)
+        ap (λ (o : Option FileShares). option_map_or (λ file. bytes_by found.image.now found.salvage.now.trees (fork_share Data file)) o []) (file-shares file)
         ∙ share-is (fork_of (file_record_of r.1).id 0 (file_record_of r.1).«data»)
-        ∙ data-taken (block_count image) (block_at image) full sound.blocks i r it.at (other i r rest it) file
+        ∙ data-taken (block_count image) (block_at image) full sound.blocks i r it.at (other i r rest it) file image own-blocks
         ∙ sym (told-fork DataFork file)
 
     resource-by : (b : Bool) → is_dir r.1 ≡ b → taken_bytes found Resource i ≡ fork_told es ResFork (told cat r)
     unfolding taken_bytes
     resource-by true dir =
-        ap (λ (o : Option FileShares). option_map_or (λ file. share_bytes found.image.now found.salvage.now.trees (fork_share Resource file)) o []) (dir-shares dir) ∙ sym (told-none ResFork dir)
+        ap (λ (o : Option FileShares). option_map_or (λ file. bytes_by found.image.now found.salvage.now.trees (fork_share Resource file)) o []) (dir-shares dir) ∙ sym (told-none ResFork dir)
     resource-by false file =
-        ap (λ (o : Option FileShares). option_map_or (λ file. share_bytes found.image.now found.salvage.now.trees (fork_share Resource file)) o []) (file-shares file)
+        ap (λ (o : Option FileShares). option_map_or (λ file. bytes_by found.image.now found.salvage.now.trees (fork_share Resource file)) o []) (file-shares file)
         ∙ share-is (fork_of (file_record_of r.1).id 255 (file_record_of r.1).resource)
-        ∙ resource-taken (block_count image) (block_at image) full sound.blocks i r it.at (other i r rest it) file
+        ∙ resource-taken (block_count image) (block_at image) full sound.blocks i r it.at (other i r rest it) file image own-blocks
         ∙ sym (told-fork ResFork file)
 
     -- what is made of it

@@ -1,6 +1,6 @@
 -- Block by block.
 use Rattle.std.proofs.Common.{◌≡◌, ◌-◌, ◌++◌, min, refl, arith, rules}
-use Rattle.hfs_finds.specs.Images.{fork_bytes}
+use Rattle.hfs_remains.specs.ForkBytes.{fork_bytes}
 use Rattle.hfs_finds.proofs.ForkLemmas.{fork_more, fork_whole}
 use Rattle.hfs_finds.proofs.forks.add_fork.Goals as goal
 
