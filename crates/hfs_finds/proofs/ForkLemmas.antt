@@ -1,12 +1,10 @@
 -- Bytes of forks that are added one block after the other.
-use Rattle.std.proofs.Common.{◌≡◌, ◌∙◌, ℕ, ◌+◌, ◌-◌, ◌*◌, ◌≤◌, ◌<◌, List, [], ◌∷◌, ◌++◌, length, length-drop, drop, take, get_or, replicate, append_assoc, append-nil, Option, Some, None, ap, sym, arith}
-use Rattle.std.specs.Prelude.{min}
-use Rattle.std.proofs.Math.Seq.{take-nil}
-use Rattle.std.proofs.lemmas.List.{drop_all, drop_more, replicate-append-replicate, take-append-le}
+use Rattle.std.proofs.Common.{◌≡◌, ◌∙◌, ℕ, ◌+◌, ◌-◌, ◌*◌, ◌≤◌, List, ◌++◌, length, length-drop, drop, take, replicate, append_assoc, append-nil, Some, None, ap, sym, arith}
+use Rattle.std.proofs.lemmas.List.{replicate-append-replicate, take-append-le}
 use Rattle.hfs_fields.specs.declared.mdb.Mdb.{Mdb}
 use Rattle.hfs_rescue.specs.Allocation.{start_of}
-use Rattle.hfs_remains.specs.ForkBytes.{filled, fork_bytes, place_bytes}
-use Rattle.hfs_remains.proofs.ForkByteLemmas.{block_first, fork_parted, missing_first}
+use Rattle.hfs_remains.specs.ForkBytes.{filled, place_bytes}
+use Rattle.hfs_remains.proofs.ForkByteLemmas.{block_first, missing_first}
 
 -- ---- zeros
 
@@ -39,27 +37,3 @@ module _ (image : List ℕ) (mdb : Mdb) (old new : List ℕ) (count : ℕ) (fits
   -- zeros came in the place of one that is missing
   pub missing_added : new ≡ old ++ replicate count 0 → new ≡ old ++ take count (place_bytes image mdb None)
   missing_added added = added ∙ ap (λ (bytes : List ℕ). old ++ bytes) (sym (missing_first image mdb count fits))
-
-module _ (image : List ℕ) (mdb : Mdb) (all : List ℕ) (places : List (Option ℕ)) where
-  -- those of a block more came
-  pub fork_more : (old new : List ℕ) (left count rest i : ℕ) (place d : Option ℕ) → i < length places → place ≡ get_or places i d
-      → old ++ fork_bytes image mdb left (drop i places) ≡ all → count ≡ min left mdb.allocation_block_size → new ≡ old ++ take count (place_bytes image mdb place)
-      → rest ≡ left - count → new ++ fork_bytes image mdb rest (drop (i + 1) places) ≡ all
-  fork_more old new left count rest i place d within is so first added left_is =
-      let behind : rest ≡ left - mdb.allocation_block_size = omega (arith, left_is, first) in
-      let own : List ℕ = take count (place_bytes image mdb place) in
-      let others : List ℕ = fork_bytes image mdb (left - mdb.allocation_block_size) (drop (i + 1) places) in
-      ap (λ (n : ℕ). new ++ fork_bytes image mdb n (drop (i + 1) places)) behind
-      ∙ ap (λ (bytes : List ℕ). bytes ++ others) added
-      ∙ append_assoc old own others
-      ∙ ap (λ (bytes : List ℕ). old ++ bytes) (sym (fork_parted image mdb left count place (drop (i + 1) places) first))
-      ∙ ap (λ (p : Option ℕ). old ++ fork_bytes image mdb left (p ∷ drop (i + 1) places)) is
-      ∙ ap (λ (xs : List (Option ℕ)). old ++ fork_bytes image mdb left xs) (sym (drop_more places i d within))
-      ∙ so
-
-  -- those of the last one came
-  pub fork_whole : (bytes : List ℕ) (left i : ℕ) → length places ≤ i → bytes ++ fork_bytes image mdb left (drop i places) ≡ all → bytes ≡ all
-  fork_whole bytes left i end so =
-      sym (append-nil bytes)
-      ∙ ap (λ (xs : List ℕ). bytes ++ xs) (sym (take-nil left) ∙ ap (λ (xs : List (Option ℕ)). fork_bytes image mdb left xs) (sym (drop_all i places end)))
-      ∙ so

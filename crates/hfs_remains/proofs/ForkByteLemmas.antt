@@ -1,7 +1,8 @@
 -- How many bytes blocks and forks have, and parts of them.
-use Rattle.std.proofs.Common.{◌≡◌, ℕ, ◌+◌, ◌-◌, ◌*◌, ◌≤◌, Bool, true, false, if◌then◌else◌, List, [], ◌∷◌, ◌++◌, length, take, drop, map, min, replicate, Option, Some, None, refl, sym, ap, ◌∙◌, arith, length-append, length-take, length-drop}
+use Rattle.std.proofs.Common.{◌≡◌, ℕ, ◌+◌, ◌-◌, ◌*◌, ◌<◌, ◌≤◌, Bool, true, false, if◌then◌else◌, List, [], ◌∷◌, ◌++◌, length, get_or, take, drop, map, min, replicate, Option, Some, None, refl, sym, ap, ◌∙◌, arith, append-nil, append_assoc, length-append, length-take, length-drop}
 use Rattle.std.proofs.Math.Nat.{suc-mul, zero-mul}
-use Rattle.std.proofs.lemmas.List.{drop-replicate, drop_min, length-map, length-replicate, length-take-le, take-replicate}
+use Rattle.std.proofs.Math.Seq.{take-nil}
+use Rattle.std.proofs.lemmas.List.{drop-replicate, drop_all, drop_min, drop_more, length-map, length-replicate, length-take-le, take-replicate}
 use Rattle.hfs_fields.specs.declared.mdb.Mdb.{Mdb}
 use Rattle.hfs_space.specs.Extents.{Overflow}
 use Rattle.hfs_space.proofs.Pieces.{read-append, read-take, take_past}
@@ -69,6 +70,30 @@ fork_parted image mdb left count place places first =
     let behind : left - count ≡ left - mdb.allocation_block_size = omega (arith, first) in
     take_past left count (place_bytes image mdb place) (places_bytes image mdb places) (omega (arith, first, long))
     ∙ ap (λ (n : ℕ). take count (place_bytes image mdb place) ++ take n (places_bytes image mdb places)) behind
+
+module _ (image : List ℕ) (mdb : Mdb) (all : List ℕ) (places : FileBlocks) where
+  -- those of a block more came
+  pub fork_more : (old new : List ℕ) (left count rest i : ℕ) (place d : Option ℕ) → i < length places → place ≡ get_or places i d
+      → old ++ fork_bytes image mdb left (drop i places) ≡ all → count ≡ min left mdb.allocation_block_size → new ≡ old ++ take count (place_bytes image mdb place)
+      → rest ≡ left - count → new ++ fork_bytes image mdb rest (drop (i + 1) places) ≡ all
+  fork_more old new left count rest i place d within is so first added left_is =
+      let behind : rest ≡ left - mdb.allocation_block_size = omega (arith, left_is, first) in
+      let own : List ℕ = take count (place_bytes image mdb place) in
+      let others : List ℕ = fork_bytes image mdb (left - mdb.allocation_block_size) (drop (i + 1) places) in
+      ap (λ (n : ℕ). new ++ fork_bytes image mdb n (drop (i + 1) places)) behind
+      ∙ ap (λ (bytes : List ℕ). bytes ++ others) added
+      ∙ append_assoc old own others
+      ∙ ap (λ (bytes : List ℕ). old ++ bytes) (sym (fork_parted image mdb left count place (drop (i + 1) places) first))
+      ∙ ap (λ (p : Option ℕ). old ++ fork_bytes image mdb left (p ∷ drop (i + 1) places)) is
+      ∙ ap (λ (xs : FileBlocks). old ++ fork_bytes image mdb left xs) (sym (drop_more places i d within))
+      ∙ so
+
+  -- those of the last one came
+  pub fork_whole : (bytes : List ℕ) (left i : ℕ) → length places ≤ i → bytes ++ fork_bytes image mdb left (drop i places) ≡ all → bytes ≡ all
+  fork_whole bytes left i end so =
+      sym (append-nil bytes)
+      ∙ ap (λ (xs : List ℕ). bytes ++ xs) (sym (take-nil left) ∙ ap (λ (xs : FileBlocks). fork_bytes image mdb left xs) (sym (drop_all i places end)))
+      ∙ so
 
 -- a fork is no longer than its blocks
 fork-fits : (image : List ℕ) (total : ℕ) (records : Overflow) (mdb : Mdb) (fork : Fork) → fork_length records mdb fork ≤ length (places_bytes image mdb (fork_places total records mdb fork))

@@ -14,31 +14,31 @@ use Rattle.hfs_remains.specs.Verdicts.{FindsFork, IsForkOf, IsFound, fork_share,
 use Rattle.hfs_rescue_items.specs.declared.found.Found.{Found}
 use Rattle.hfs_rescue_items.specs.Bytes.{GivesBytes, HasBytes, bytes_by, taken_bytes}
 
-module _ (found : Found) (kind : ForkKind) (i : ℕ) where
+module _ (image : List ℕ) (found : Found) (kind : ForkKind) (i : ℕ) where
   abbrev trees : Trees
   trees = found.salvage.now.trees
 
   share-has : found.mdb.now ≡ trees.mdb.now → (fork : FoundFork) (share : Share) (used : FileBlocks) → IsFound trees.total trees.overflow.now trees.mdb.now used share fork
-      → HasBytes found (bytes_by found.image.now trees share) fork
+      → HasBytes image found (bytes_by image trees share) fork
   share-has same fork share used is = record {
-    bytes_are = λ j. fork_bytes found.image.now (same j) (is.length_is j) (is.places_are j);
-    length_is = is.length_is ∙ sym (length-share_bytes found.image.now trees.total trees.overflow.now trees.mdb.now share);
+    bytes_are = λ j. fork_bytes image (same j) (is.length_is j) (is.places_are j);
+    length_is = is.length_is ∙ sym (length-share_bytes image trees.total trees.overflow.now trees.mdb.now share);
   }
 
   fork-has : found.mdb.now ≡ trees.mdb.now → (fork : FoundFork) (o : Option FileShares) → IsSomeAnd o (IsForkOf found.salvage.now kind fork)
-      → HasBytes found (option_map_or (λ (file : FileShares). bytes_by found.image.now trees (fork_share kind file)) o []) fork
+      → HasBytes image found (option_map_or (λ (file : FileShares). bytes_by image trees (fork_share kind file)) o []) fork
   fork-has same fork None is = absurd is
   fork-has same fork (Some file) is = share-has same fork (fork_share kind file) (used_for found.salvage.now file) is
 
-  gives_bytes-none : shares_at found.salvage.now i ≡ None → taken_bytes found kind i ≡ []
+  gives_bytes-none : shares_at found.salvage.now i ≡ None → taken_bytes image found kind i ≡ []
   unfolding taken_bytes
-  gives_bytes-none none = ap (λ (o : Option FileShares). option_map_or (λ (file : FileShares). bytes_by found.image.now trees (fork_share kind file)) o []) none
+  gives_bytes-none none = ap (λ (o : Option FileShares). option_map_or (λ (file : FileShares). bytes_by image trees (fork_share kind file)) o []) none
 
   -- what is found of a fork has its bytes
-  pub gives_bytes : found.mdb.now ≡ trees.mdb.now → (r : Option FoundFork) → FindsFork found.salvage.now i kind r → GivesBytes found (taken_bytes found kind i) r
+  pub gives_bytes : found.mdb.now ≡ trees.mdb.now → (r : Option FoundFork) → FindsFork found.salvage.now i kind r → GivesBytes image found (taken_bytes image found kind i) r
   unfolding taken_bytes
   gives_bytes same None none = gives_bytes-none none
   gives_bytes same (Some fork) finds = fork-has same fork (shares_at found.salvage.now i) finds
 
-  pub past_bytes : length found.salvage.now.shares ≤ i → taken_bytes found kind i ≡ []
+  pub past_bytes : length found.salvage.now.shares ≤ i → taken_bytes image found kind i ≡ []
   past_bytes past = gives_bytes-none (get_or_past found.salvage.now.shares i None past)

@@ -1,15 +1,19 @@
 -- The bytes that are taken of forks.
-use Rattle.std.specs.Prelude.{◌≡◌, ℕ, List, [], drop, length, take, Option, Some, None}
+use Rattle.std.specs.Prelude.{◌≡◌, ℕ, ◌*◌, List, [], drop, length, replicate, Option, Some, None, unwrap_or}
+use Rattle.std.specs.List.{flat_map}
 use Rattle.std.specs.Option.{option_map_or}
-use Rattle.hfs_fields.specs.declared.mdb.Mdb.{Mdb}
 use Rattle.hfs_space.specs.declared.fork_kind.ForkKind.{ForkKind}
-use Rattle.hfs_rescue.specs.TreeFiles.{FileBlocks}
 use Rattle.hfs_remains.specs.declared.findings.FoundFork.{FoundFork}
 use Rattle.hfs_remains.specs.declared.shares.Share.{Share}
 use Rattle.hfs_remains.specs.declared.trees.Trees.{Trees}
-use Rattle.hfs_remains.specs.ForkBytes.{fork_bytes, place_bytes, places_bytes, share_bytes}
+use Rattle.hfs_remains.specs.ForkBytes.{filled, fork_bytes, share_bytes}
 use Rattle.hfs_remains.specs.Verdicts.{fork_share, shares_at}
 use Rattle.hfs_rescue_items.specs.declared.found.Found.{Found}
+use Rattle.hfs_rescue_items.specs.declared.piece.Piece.{Piece}
+
+-- an image's bytes, where they are known
+abbrev pub image_in : Option (List ℕ) → List ℕ
+image_in known = unwrap_or known []
 
 -- ---- forks
 
@@ -18,26 +22,30 @@ abbrev pub bytes_by : List ℕ → Trees → Share → List ℕ
 bytes_by image t share = share_bytes image t.total t.overflow.now t.mdb.now share
 
 -- those of a fork of item i; a folder has none
-unfoldable pub taken_bytes : Found → ForkKind → ℕ → List ℕ
-taken_bytes found kind i =
-    option_map_or (λ file. bytes_by found.image.now found.salvage.now.trees (fork_share kind file)) (shares_at found.salvage.now i) []
-
--- ---- what is found, and what is read of it
+unfoldable pub taken_bytes : List ℕ → Found → ForkKind → ℕ → List ℕ
+taken_bytes image found kind i =
+    option_map_or (λ file. bytes_by image found.salvage.now.trees (fork_share kind file)) (shares_at found.salvage.now i) []
 
 -- the bytes of a fork that is found are these
-pub record HasBytes (found : Found) (bytes : List ℕ) (fork : FoundFork) : Type 0 where
-  pub bytes_are : fork_bytes found.image.now found.mdb.now fork.length fork.places.items ≡ bytes
+pub record HasBytes (image : List ℕ) (found : Found) (bytes : List ℕ) (fork : FoundFork) : Type 0 where
+  pub bytes_are : fork_bytes image found.mdb.now fork.length fork.places.items ≡ bytes
   pub length_is : fork.length ≡ length bytes
 
 -- a fork with these bytes is found, or none since there are no bytes
-abbrev pub GivesBytes : Found → List ℕ → Option FoundFork → Type 0
-GivesBytes found bytes None = bytes ≡ []
-GivesBytes found bytes (Some fork) = HasBytes found bytes fork
+abbrev pub GivesBytes : List ℕ → Found → List ℕ → Option FoundFork → Type 0
+GivesBytes image found bytes None = bytes ≡ []
+GivesBytes image found bytes (Some fork) = HasBytes image found bytes fork
 
--- so many bytes of these blocks, from a byte of the block at a place on
-unfoldable pub bytes_from : List ℕ → Mdb → FileBlocks → ℕ → ℕ → ℕ → List ℕ
-bytes_from image mdb places next within left = take left (drop within (places_bytes image mdb (drop next places)))
+-- ---- pieces
 
--- so many bytes of one block, from one of them on
-abbrev pub block_part : List ℕ → Mdb → Option ℕ → ℕ → ℕ → List ℕ
-block_part image mdb place within count = take count (drop within (place_bytes image mdb place))
+-- so many bytes of an image from a logical block on; zeros where it is missing
+abbrev pub first_bytes : List ℕ → Option ℕ → ℕ → List ℕ
+first_bytes image None count = replicate count 0
+first_bytes image (Some n) count = filled count (drop (512 * n) image)
+
+abbrev pub piece_bytes : List ℕ → Piece → List ℕ
+piece_bytes image piece = first_bytes image piece.first piece.len
+
+-- those of pieces, one after the other
+abbrev pub pieces_bytes : List ℕ → List Piece → List ℕ
+pieces_bytes image pieces = flat_map (piece_bytes image) pieces
