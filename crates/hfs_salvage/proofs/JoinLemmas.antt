@@ -242,29 +242,29 @@ module _ (image : List ℕ) (limit : ℕ) (found : Found) (sound : IsSound image
     told-none fork dir =
         ap (λ (k : ItemKind). of_file k (bytes_or_none (named_fork es (told cat r).parent (told cat r).name fork))) (told-kind cat r ∙ ap (λ (b : Bool). if b then item.Folder else item.File) dir)
 
-    share-is : (fork : FoundFork) → bytes_by found.image.now found.salvage.now.trees (record { fork = fork; taken = true })
+    share-is : (fork : FoundFork) → bytes_by image found.salvage.now.trees (record { fork = fork; taken = true })
         ≡ fork_taken (block_count image) image (overflow_in (block_at image)) (mdb_in (block_at image)) fork
-    share-is fork = λ k. fork_taken (is.total_is k) (is.image_is k) (trees-overflow image limit found sound begins enough is k) (trees-directory image limit found sound begins enough is k) fork
+    share-is fork = λ k. fork_taken (is.total_is k) image (trees-overflow image limit found sound begins enough is k) (trees-directory image limit found sound begins enough is k) fork
 
     own-blocks : HasBlocks image (block_count image) (block_at image)
     own-blocks = record { enough = omega arith; same = λ n within. refl }
 
-    data-by : (b : Bool) → is_dir r.1 ≡ b → taken_bytes found Data i ≡ fork_told es DataFork (told cat r)
+    data-by : (b : Bool) → is_dir r.1 ≡ b → taken_bytes image found Data i ≡ fork_told es DataFork (told cat r)
     unfolding taken_bytes
     data-by true dir =
-        ap (λ (o : Option FileShares). option_map_or (λ file. bytes_by found.image.now found.salvage.now.trees (fork_share Data file)) o []) (dir-shares dir) ∙ sym (told-none DataFork dir)
+        ap (λ (o : Option FileShares). option_map_or (λ file. bytes_by image found.salvage.now.trees (fork_share Data file)) o []) (dir-shares dir) ∙ sym (told-none DataFork dir)
     data-by false file =
-        ap (λ (o : Option FileShares). option_map_or (λ file. bytes_by found.image.now found.salvage.now.trees (fork_share Data file)) o []) (file-shares file)
+        ap (λ (o : Option FileShares). option_map_or (λ file. bytes_by image found.salvage.now.trees (fork_share Data file)) o []) (file-shares file)
         ∙ share-is (fork_of (file_record_of r.1).id 0 (file_record_of r.1).«data»)
         ∙ data-taken (block_count image) (block_at image) full sound.blocks i r it.at (other i r rest it) file image own-blocks
         ∙ sym (told-fork DataFork file)
 
-    resource-by : (b : Bool) → is_dir r.1 ≡ b → taken_bytes found Resource i ≡ fork_told es ResFork (told cat r)
+    resource-by : (b : Bool) → is_dir r.1 ≡ b → taken_bytes image found Resource i ≡ fork_told es ResFork (told cat r)
     unfolding taken_bytes
     resource-by true dir =
-        ap (λ (o : Option FileShares). option_map_or (λ file. bytes_by found.image.now found.salvage.now.trees (fork_share Resource file)) o []) (dir-shares dir) ∙ sym (told-none ResFork dir)
+        ap (λ (o : Option FileShares). option_map_or (λ file. bytes_by image found.salvage.now.trees (fork_share Resource file)) o []) (dir-shares dir) ∙ sym (told-none ResFork dir)
     resource-by false file =
-        ap (λ (o : Option FileShares). option_map_or (λ file. bytes_by found.image.now found.salvage.now.trees (fork_share Resource file)) o []) (file-shares file)
+        ap (λ (o : Option FileShares). option_map_or (λ file. bytes_by image found.salvage.now.trees (fork_share Resource file)) o []) (file-shares file)
         ∙ share-is (fork_of (file_record_of r.1).id 255 (file_record_of r.1).resource)
         ∙ resource-taken (block_count image) (block_at image) full sound.blocks i r it.at (other i r rest it) file image own-blocks
         ∙ sym (told-fork ResFork file)
@@ -311,18 +311,18 @@ module _ (image : List ℕ) (limit : ℕ) (found : Found) (sound : IsSound image
         ∙ ap (take (p.to - p.from)) (drop-append_seam front last)
         ∙ take_all (p.to - p.from) last (omega (arith, from, all, ap length parts, length-append front last))
 
-    planned-is : is_alone p.kind ≡ false → planned_item found p ≡ with-kind p.kind (taken-item r rest)
+    planned-is : is_alone p.kind ≡ false → planned_item image found p ≡ with-kind p.kind (taken-item r rest)
     planned-is alone =
         let finder : finder_told (if is_alone p.kind then None else told_at found.items.now p.place) ≡ (told cat r).finder =
         ap (λ (b : Bool). finder_told (if b then None else told_at found.items.now p.place)) alone ∙ finder-is image limit found sound begins enough is p.place r it.at in
-        let first : (if is_alone p.kind then [] else taken_bytes found Data p.place) ≡ fork_told es DataFork (told cat r) =
-        ap (λ (b : Bool). if b then [] else taken_bytes found Data p.place) alone ∙ data-by p.place r rest it (is_dir r.1) refl in
-        let second : (if is_alone p.kind then [] else taken_bytes found Resource p.place) ≡ fork_told es ResFork (told cat r) =
-        ap (λ (b : Bool). if b then [] else taken_bytes found Resource p.place) alone ∙ resource-by p.place r rest it (is_dir r.1) refl in
+        let first : (if is_alone p.kind then [] else taken_bytes image found Data p.place) ≡ fork_told es DataFork (told cat r) =
+        ap (λ (b : Bool). if b then [] else taken_bytes image found Data p.place) alone ∙ data-by p.place r rest it (is_dir r.1) refl in
+        let second : (if is_alone p.kind then [] else taken_bytes image found Resource p.place) ≡ fork_told es ResFork (told cat r) =
+        ap (λ (b : Bool). if b then [] else taken_bytes image found Resource p.place) alone ∙ resource-by p.place r rest it (is_dir r.1) refl in
         λ k. record { above = above k; name = name k; kind = p.kind; finder = finder k; data_fork = first k; resource_fork = second k }
 
     -- its files and folders are those of its item, of this kind
-    entries-are : (kind : BagKind) → p.kind ≡ kind → is_alone kind ≡ false → item_entries (planned_item found p) ≡ entries_of_kind kind (taken-item r rest)
+    entries-are : (kind : BagKind) → p.kind ≡ kind → is_alone kind ≡ false → item_entries (planned_item image found p) ≡ entries_of_kind kind (taken-item r rest)
     entries-are kind same alone =
         ap item_entries (planned-is (ap is_alone same ∙ alone)) ∙ (λ k. entries_of_kind (same k) (with-kind (same k) (taken-item r rest))) ∙ of-kind kind (taken-item r rest)
       where
@@ -348,16 +348,16 @@ module _ (image : List ℕ) (limit : ℕ) (found : Found) (sound : IsSound image
   part-of : (p : Planned) → scans.In p plan → IsPart found p
   part-of p there = each_in (IsPart found) plan p (plan_is found).each there
 
-  given : (p : Planned) → scans.In p plan → (e : ShelfEntry) → In e (item_entries (planned_item found p)) → In e (items_entries (rescued_items found))
+  given : (p : Planned) → scans.In p plan → (e : ShelfEntry) → In e (item_entries (planned_item image found p)) → In e (items_entries (rescued_items image found))
   given p there e inner-entry =
-      flat_map_in item_entries (map (planned_item found) plan) (planned_item found p) e (map_in (planned_item found) plan p (to-model p plan there)) inner-entry
+      flat_map_in item_entries (map (planned_item image found) plan) (planned_item image found p) e (map_in (planned_item image found) plan p (to-model p plan there)) inner-entry
 
   module _ (i : ℕ) (r : Record) (rest : List (List ℕ)) (it : IsItem i r rest) where
     made-of : IsMadeOf found plan i
     made-of = plans_hold_things found i (inner i r it.at) (some-path i r rest it)
 
     own-given : (kind : BagKind) → own_kind found i made-of.made ≡ Some kind → is_alone kind ≡ false → (e : ShelfEntry) → In e (entries_of_kind kind (taken-item r rest))
-        → In e (items_entries (rescued_items found))
+        → In e (items_entries (rescued_items image found))
     own-given kind own alone e here =
         let p : Planned = of_kind kind (last_part i (path_at found.places.now i)) in
         let there = made-of.own kind own in
@@ -366,16 +366,16 @@ module _ (image : List ℕ) (limit : ℕ) (found : Found) (sound : IsSound image
         let end : length (own_path found p) ≤ p.to = omega (arith, last_to i (path_at found.places.now i), ap (λ (k : ℕ). length (path_at found.places.now k)) place) in
         given p there e (subst (In e) (sym (entries-are p (part-of p there) r rest own-it end kind refl alone)) here)
 
-    folder-given : made-of.made ≡ true → In (folder_entry (taken-item r rest)) (items_entries (rescued_items found))
+    folder-given : made-of.made ≡ true → In (folder_entry (taken-item r rest)) (items_entries (rescued_items image found))
     folder-given made =
         let q = made-of.there made in
-        let same : folder_entry (planned_item found q.part) ≡ folder_entry (taken-item r rest) =
+        let same : folder_entry (planned_item image found q.part) ≡ folder_entry (taken-item r rest) =
         ap (λ (t : List ℕ). folder (codes "data/" ++ t))
         (text-is found (map (young false) cat) places-named are-found q.part (part-of q.part q.there) ∙ q.path_is ∙ parts-are i r rest it) in
         given q.part q.there (folder_entry (taken-item r rest))
-        (subst (λ (e : ShelfEntry). In e (item_entries (planned_item found q.part))) same (folder-in q.part.kind (planned_item found q.part) q.folder))
+        (subst (λ (e : ShelfEntry). In e (item_entries (planned_item image found q.part))) same (folder-in q.part.kind (planned_item image found q.part) q.folder))
 
-    taken-given : (e : ShelfEntry) → In e (item_entries (taken-item r rest)) → In e (items_entries (rescued_items found))
+    taken-given : (e : ShelfEntry) → In e (item_entries (taken-item r rest)) → In e (items_entries (rescued_items image found))
     taken-given e here =
         let kinds : In e (entries_of_kind (whole-kind (is_dir r.1)) (taken-item r rest)) =
         subst (λ (k : ItemKind). In e (entries_of_kind (bag_kind k) (taken-item r rest))) (told-kind cat r) here in
@@ -383,10 +383,10 @@ module _ (image : List ℕ) (limit : ℕ) (found : Found) (sound : IsSound image
         (λ (own : In e (entries_of_kind (own-kind (is_dir r.1) made-of.made) (taken-item r rest))).
         own-given (own-kind (is_dir r.1) made-of.made) (own-of i r rest it made-of.made) (not-alone (is_dir r.1) made-of.made) e own)
         (λ (before : (made-of.made ≡ true) × (folder_entry (taken-item r rest) ≡ e)).
-        subst (λ (x : ShelfEntry). In x (items_entries (rescued_items found))) before.1 (folder-given before.0))
+        subst (λ (x : ShelfEntry). In x (items_entries (rescued_items image found))) before.1 (folder-given before.0))
         (from-whole (is_dir r.1) made-of.made (taken-item r rest) e kinds)
 
-  take-given : (e : ShelfEntry) → In e (items_entries (bag_items es)) → In e (items_entries (rescued_items found))
+  take-given : (e : ShelfEntry) → In e (items_entries (bag_items es)) → In e (items_entries (rescued_items image found))
   take-given e there =
       let at = in_flat_map item_entries (bag_items es) e there in
       let of = of-take at.0 at.1 in
@@ -428,7 +428,7 @@ module _ (image : List ℕ) (limit : ℕ) (found : Found) (sound : IsSound image
   none : Record
   none = (record { parent = 0; name = [] }, [])
 
-  whole-taken : (p : Planned) (part : IsPart found p) → length (own_path found p) ≤ p.to → (e : ShelfEntry) → In e (item_entries (planned_item found p)) → In e (items_entries (bag_items es))
+  whole-taken : (p : Planned) (part : IsPart found p) → length (own_path found p) ≤ p.to → (e : ShelfEntry) → In e (item_entries (planned_item image found p)) → In e (items_entries (bag_items es))
   whole-taken p part all e here =
       let l = led p.place none part.place part.some in
       let own = part.own all in
@@ -478,24 +478,24 @@ module _ (image : List ℕ) (limit : ℕ) (found : Found) (sound : IsSound image
       (inside cat n sound.blocks.ids p.place l.of l.is-item.at) l.is-item.way (path_of found p) rest
       (sym (path-same p.place l.of l.rest l.is-item) ∙ whole)
 
-  above-taken : (p : Planned) (part : IsPart found p) → p.to < length (own_path found p) → (e : ShelfEntry) → In e (item_entries (planned_item found p)) → In e (items_entries (bag_items es))
+  above-taken : (p : Planned) (part : IsPart found p) → p.to < length (own_path found p) → (e : ShelfEntry) → In e (item_entries (planned_item image found p)) → In e (items_entries (bag_items es))
   above-taken p part below e here =
-      let alone : In e (entries_of_kind bag.FolderAlone (planned_item found p)) = subst (λ (k : BagKind). In e (entries_of_kind k (planned_item found p))) (part.alone below) here in
-      let text : folder (codes "data/" ++ path_of found p) ≡ folder_entry (planned_item found p) =
+      let alone : In e (entries_of_kind bag.FolderAlone (planned_item image found p)) = subst (λ (k : BagKind). In e (entries_of_kind k (planned_item image found p))) (part.alone below) here in
+      let text : folder (codes "data/" ++ path_of found p) ≡ folder_entry (planned_item image found p) =
       ap (λ (t : List ℕ). folder (codes "data/" ++ t)) (sym (text-is found (map (young false) cat) places-named are-found p part)) in
       ⊎_elim
-      (λ (same : folder_entry (planned_item found p) ≡ e).
+      (λ (same : folder_entry (planned_item image found p) ≡ e).
       subst (λ (x : ShelfEntry). In x (items_entries (bag_items es))) (text ∙ same) (folder-taken (path_of found p) (folder-text p part below)))
       (λ (nothing : ⊥). absurd nothing)
       alone
 
-  rescue-given : (e : ShelfEntry) → In e (items_entries (rescued_items found)) → In e (items_entries (bag_items es))
+  rescue-given : (e : ShelfEntry) → In e (items_entries (rescued_items image found)) → In e (items_entries (bag_items es))
   rescue-given e there =
-      let at = in_flat_map item_entries (map (planned_item found) plan) e there in
-      let of = in_map (planned_item found) plan at.0 at.1 in
+      let at = in_flat_map item_entries (map (planned_item image found) plan) e there in
+      let of = in_map (planned_item image found) plan at.0 at.1 in
       let p : Planned = of.0 in
       let part = part-of p (to-scans p plan of.1) in
-      let here : In e (item_entries (planned_item found p)) = subst (λ (x : BagItem). In e (item_entries x)) (sym of.2) at.2 in
+      let here : In e (item_entries (planned_item image found p)) = subst (λ (x : BagItem). In e (item_entries x)) (sym of.2) at.2 in
       elim (cases_lt p.to (length (own_path found p))) [
         | inl below ↦ above-taken p part below e here
         | inr all ↦ whole-taken p part all e here
@@ -507,9 +507,9 @@ module _ (image : List ℕ) (limit : ℕ) (found : Found) (sound : IsSound image
   same-first x xs ys over e (inl same) = inl same
   same-first x xs ys over e (inr there) = inr (to-scans e ys (over e (to-model e xs there)))
 
-  pub payloads-same : (e : ShelfEntry) → scans.In e (payload (rescued_items found)) ↔ scans.In e (payload (bag_items (entries_in image)))
+  pub payloads-same : (e : ShelfEntry) → scans.In e (payload (rescued_items image found)) ↔ scans.In e (payload (bag_items (entries_in image)))
   unfolding volume_of
   payloads-same e = (
-    same-first (folder (codes "data")) (items_entries (rescued_items found)) (items_entries (bag_items es)) rescue-given e,
-    same-first (folder (codes "data")) (items_entries (bag_items es)) (items_entries (rescued_items found)) take-given e,
+    same-first (folder (codes "data")) (items_entries (rescued_items image found)) (items_entries (bag_items es)) rescue-given e,
+    same-first (folder (codes "data")) (items_entries (bag_items es)) (items_entries (rescued_items image found)) take-given e,
   )

@@ -16,8 +16,8 @@ use Rattle.hfs_salvage.proofs.LawTypes.{RescuedPathsAreLawful, SoundPayloadsAreV
 -- those of the tag files too.
 pub rescued_paths_are_lawful : RescuedPathsAreLawful
 rescued_paths_are_lawful image limit found facts is are =
-    bag_paths (rescued_items found) (rescued_tables found) facts
-    (plans_are_placed found (found_records image found.mdb.now)
+    bag_paths (rescued_items image found) (rescued_tables found) facts
+    (plans_are_placed image found (found_records image found.mdb.now)
     (is.places_are ∙ ap (λ (items : List FoundRecord). things_of (map thing_of items) (namings_of (found_records image found.mdb.now))) (sym is.items_are))
     (subst AreThings (sym is.places_are) are))
 
