@@ -1,5 +1,5 @@
 -- The bytes of a fork in pieces.
-use Rattle.std.proofs.Common.{◌≡◌, ◌⊎◌, inl, inr, ℕ, ◌+◌, ◌-◌, ◌*◌, ◌≤◌, List, [], ◌∷◌, ◌++◌, length, take, drop, get_or, min, replicate, Option, Some, None, refl, sym, ap, ◌∙◌, arith, append-nil, append_assoc, length-drop}
+use Rattle.std.proofs.Common.{◌≡◌, ◌⊎◌, inl, inr, ℕ, zero, suc, ◌+◌, ◌-◌, ◌*◌, ◌≤◌, List, [], ◌∷◌, ◌++◌, length, take, drop, get_or, min, replicate, Option, Some, None, refl, sym, ap, ◌∙◌, arith, append-nil, append_assoc, length-drop}
 use Rattle.std.specs.Option.{option_map}
 use Rattle.std.specs.List.{flat_map}
 use Rattle.std.proofs.lemmas.List.{drop-drop, replicate-append-replicate, take-append-drop, take_all}
@@ -10,7 +10,7 @@ use Rattle.hfs_rescue.specs.TreeFiles.{FileBlocks}
 use Rattle.hfs_remains.specs.ForkBytes.{filled, fork_bytes, place_bytes}
 use Rattle.hfs_remains.proofs.ForkByteLemmas.{block_first, length-filled, missing_first, read-filled}
 use Rattle.hfs_rescue_items.specs.declared.piece.Piece.{Piece}
-use Rattle.hfs_rescue_items.specs.Bytes.{first_bytes, piece_bytes, pieces_bytes}
+use Rattle.hfs_rescue_items.specs.Bytes.{GoesOn, first_bytes, piece_bytes, pieces_bytes}
 
 -- ---- bytes that go on
 
@@ -21,26 +21,19 @@ filled-parted a b bytes =
     sym (take_all b (drop a all) (omega (arith, length-drop a all, length-filled (a + b) bytes))) ∙ read-filled b a (a + b) bytes (omega arith) in
     sym (take-append-drop a all) ∙ (λ i. read-filled a 0 (a + b) bytes (omega arith) i ++ behind i)
 
-pub missing_on : (image : List ℕ) (a b : ℕ) → first_bytes image None (a + b) ≡ first_bytes image None a ++ first_bytes image None b
-missing_on image a b = sym (replicate-append-replicate a b 0)
+pub missing_goes_on : (count : ℕ) → GoesOn None count None
+missing_goes_on count image more = sym (replicate-append-replicate count more 0)
 
 -- those of the block behind so many come behind them
-pub block_on : (image : List ℕ) (n m a b : ℕ) → 512 * m ≡ 512 * n + a → first_bytes image (Some n) (a + b) ≡ first_bytes image (Some n) a ++ first_bytes image (Some m) b
-block_on image n m a b behind =
-    filled-parted a b (drop (512 * n) image)
-    ∙ ap (λ (bytes : List ℕ). filled a (drop (512 * n) image) ++ filled b bytes) (drop-drop a (512 * n) image ∙ ap (λ (k : ℕ). drop k image) (sym behind))
+pub block_goes_on : (n m count : ℕ) → 512 * m ≡ 512 * n + count → GoesOn (Some n) count (Some m)
+block_goes_on n m count behind image more =
+    filled-parted count more (drop (512 * n) image)
+    ∙ ap (λ (bytes : List ℕ). filled count (drop (512 * n) image) ++ filled more bytes) (drop-drop count (512 * n) image ∙ ap (λ (k : ℕ). drop k image) (sym behind))
 
 no-bytes : (image : List ℕ) (first : Option ℕ) → first_bytes image first 0 ≡ []
 unfolding filled
 no-bytes image None = refl
 no-bytes image (Some n) = refl
-
--- none are left
-pub none_on : (image : List ℕ) (first next : Option ℕ) (a b : ℕ) → b ≡ 0 → first_bytes image first (a + b) ≡ first_bytes image first a ++ first_bytes image next b
-none_on image first next a b none =
-    ap (first_bytes image first) (let e : a + b ≡ a = omega (arith, none) in e)
-    ∙ sym (append-nil (first_bytes image first a))
-    ∙ ap (λ (bytes : List ℕ). first_bytes image first a ++ bytes) (sym (no-bytes image next) ∙ ap (first_bytes image next) (sym none))
 
 -- ---- pieces that are put behind others
 
@@ -68,14 +61,38 @@ last_kept image old front mid new last part was back pushed = first_pushed image
 
 -- ---- parts of a run
 
--- a part of what is left came
+-- a part of what is left came: all of it, or so many bytes behind which it goes on
 pub part_more : (image all old new : List ℕ) (first next : Option ℕ) (left len rest : ℕ) → old ++ first_bytes image first left ≡ all → new ≡ old ++ first_bytes image first len
-    → len + rest ≡ left → first_bytes image first (len + rest) ≡ first_bytes image first len ++ first_bytes image next rest → new ++ first_bytes image next rest ≡ all
-part_more image all old new first next left len rest so came sum parted =
-    ap (λ (l : List ℕ). l ++ first_bytes image next rest) came
-    ∙ append_assoc old (first_bytes image first len) (first_bytes image next rest)
-    ∙ ap (λ (l : List ℕ). old ++ l) (sym parted ∙ ap (first_bytes image first) sum)
-    ∙ so
+    → len ≡ min left 65536 → rest ≡ left - len → (len ≡ 65536 → GoesOn first len next) → new ++ first_bytes image next rest ≡ all
+part_more image all old new first next left len rest so came few less goes_on = elim (by-len (left - 65536) refl) [
+  | inl end ↦ whole end
+  | inr more ↦ going more
+]
+  where
+    by-len : (n : ℕ) → left - 65536 ≡ n → (rest ≡ 0) ⊎ (len ≡ 65536)
+    by-len zero none = inl (omega (arith, few, less, none))
+    by-len (suc n) some = inr (omega (arith, few, some))
+
+    sum : len + rest ≡ left
+    sum = omega (arith, few, less)
+
+    behind : first_bytes image first (len + rest) ≡ first_bytes image first len ++ first_bytes image next rest → new ++ first_bytes image next rest ≡ all
+    behind parted =
+        ap (λ (l : List ℕ). l ++ first_bytes image next rest) came
+        ∙ append_assoc old (first_bytes image first len) (first_bytes image next rest)
+        ∙ ap (λ (l : List ℕ). old ++ l) (sym parted ∙ ap (first_bytes image first) sum)
+        ∙ so
+
+    going : len ≡ 65536 → new ++ first_bytes image next rest ≡ all
+    going is = behind (goes_on is image rest)
+
+    whole : rest ≡ 0 → new ++ first_bytes image next rest ≡ all
+    whole none =
+        ap (λ (l : List ℕ). new ++ l) (ap (first_bytes image next) none ∙ no-bytes image next)
+        ∙ append-nil new
+        ∙ came
+        ∙ ap (λ (n : ℕ). old ++ first_bytes image first n) (let e : len ≡ left = omega (arith, few, less, none) in e)
+        ∙ so
 
 -- none is left
 pub parts_whole : (image all bytes : List ℕ) (first : Option ℕ) (left : ℕ) → bytes ++ first_bytes image first left ≡ all → left ≡ 0 → bytes ≡ all

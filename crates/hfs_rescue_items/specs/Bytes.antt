@@ -1,5 +1,5 @@
 -- The bytes that are taken of forks.
-use Rattle.std.specs.Prelude.{◌≡◌, ℕ, ◌*◌, List, [], drop, length, replicate, Option, Some, None, unwrap_or}
+use Rattle.std.specs.Prelude.{◌≡◌, ℕ, ◌+◌, ◌*◌, List, [], ◌++◌, drop, length, replicate, Option, Some, None, unwrap_or}
 use Rattle.std.specs.List.{flat_map}
 use Rattle.std.specs.Option.{option_map_or}
 use Rattle.hfs_space.specs.declared.fork_kind.ForkKind.{ForkKind}
@@ -42,6 +42,10 @@ GivesBytes image found bytes (Some fork) = HasBytes image found bytes fork
 abbrev pub first_bytes : List ℕ → Option ℕ → ℕ → List ℕ
 first_bytes image None count = replicate count 0
 first_bytes image (Some n) count = filled count (drop (512 * n) image)
+
+-- bytes that begin in a block, or are missing, go on behind so many of them in another block, or are missing as well
+abbrev pub GoesOn : Option ℕ → ℕ → Option ℕ → Type 0
+GoesOn first count next = (image : List ℕ) (more : ℕ) → first_bytes image first (count + more) ≡ first_bytes image first count ++ first_bytes image next more
 
 abbrev pub piece_bytes : List ℕ → Piece → List ℕ
 piece_bytes image piece = first_bytes image piece.first piece.len

@@ -104,7 +104,8 @@ pub(crate) fn read_fork<S: BlockSource>(
     piece: &mut Vec<u8>,
 ) -> Result<(), SourceFault>
     ensures read { OnOk result (Reads (is_some (S.image source.old)) piece.new.items
-        (fork_rest (image_in (S.image source.old)) fork.old) (fork_rest (image_in (S.image source.old)) fork.new)) }
+        (fork_rest (image_in (S.image source.old)) fork.old)
+        (fork_rest (image_in (S.image source.old)) fork.new)) }
     ensures image { S.image source.new ≡ S.image source.old }
 {
     if fork.next >= fork.pieces.len() {

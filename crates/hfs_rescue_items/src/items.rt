@@ -83,11 +83,7 @@ fn open_stream<'a>(
 
 impl<'a, S: BlockSource> RescueItems<'a, S> {
     /// What was found of an image, from its first item on; the bytes of forks are read from this source. The only error is want of memory.
-    pub fn new(
-        alloc: Global,
-        found: Found<'a>,
-        source: S,
-    ) -> Result<RescueItems<'a, S>, AllocError>
+    pub fn new(alloc: Global, found: Found<'a>, source: S) -> Result<RescueItems<'a, S>, AllocError>
         ensures found { IfOk result (λ made. made.found ≡ found.entry) }
         ensures source { IfOk result (λ made. S.image made.source ≡ S.image source) }
         ensures plan { IfOk result (λ made. made.plan.items ≡ whole_plan found.entry) }
@@ -148,6 +144,12 @@ impl<S: BlockSource> BagSource for RescueItems<'_, S> {
 
     #[tactic(auto, using(crate::proofs::SourceLemmas::has_read))]
     fn read(&mut self, piece: &mut Vec<u8>) -> Result<(), SourceFault> {
-        read_next(self.alloc, &mut self.source, &self.found, &mut self.reading, piece)
+        read_next(
+            self.alloc,
+            &mut self.source,
+            &self.found,
+            &mut self.reading,
+            piece,
+        )
     }
 }

@@ -44,7 +44,8 @@ impl Found<'_> {
         kind: ForkKind,
     ) -> Result<Option<FoundFork>, AllocError>
         ensures found { IfOk result (FindsFork self.now.salvage.now i kind) }
-        ensures bytes { (image : List ℕ) → IfOk result (GivesBytes image self.now (taken_bytes image self.now kind i)) }
+        ensures bytes { (image : List ℕ) → IfOk result (GivesBytes image self.now
+            (taken_bytes image self.now kind i)) }
     {
         if i >= self.salvage.len() {
             return Ok(None);

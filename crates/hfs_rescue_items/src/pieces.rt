@@ -1,9 +1,9 @@
 //! The bytes of a fork in pieces, each of which is read at once.
-ghost use Rattle.std.specs.Prelude.{◌≡◌, ◌+◌, ◌*◌, ◌≤◌, ◌++◌, ◌⊎◌, ℕ, List, take, true, IfOk, IfSome, OnOk};
+ghost use Rattle.std.specs.Prelude.{◌≡◌, ◌+◌, ◌*◌, ◌≤◌, ◌++◌, ℕ, List, take, true, IfOk, IfSome, OnOk};
 ghost use Rattle.std.specs.Option.{option_map};
 ghost use Rattle.hfs_rescue.specs.Allocation.{start_of};
 ghost use Rattle.hfs_remains.specs.ForkBytes.{fork_bytes, place_bytes};
-ghost use Rattle.hfs_rescue_items.specs.Bytes.{first_bytes, piece_bytes, pieces_bytes};
+ghost use Rattle.hfs_rescue_items.specs.Bytes.{GoesOn, first_bytes, piece_bytes, pieces_bytes};
 
 use crate::piece::Piece;
 use hfs_bag::SourceFault;
@@ -24,10 +24,9 @@ fn block_behind(first: u32, len: u32) -> Option<u32>
 }
 
 /// Whether what begins in this logical block, or is missing, goes on where a piece ends.
-#[tactic(auto, using(crate::proofs::PieceLemmas::missing_on, crate::proofs::PieceLemmas::block_on))]
+#[tactic(auto, using(crate::proofs::PieceLemmas::missing_goes_on, crate::proofs::PieceLemmas::block_goes_on))]
 fn goes_on(piece: &Piece, first: Option<u32>) -> bool
-    ensures { result ≡ true → (image : List ℕ) (more : ℕ) → first_bytes image piece.now.first (piece.now.len + more)
-        ≡ piece_bytes image piece.now ++ first_bytes image first more }
+    ensures { result ≡ true → GoesOn piece.now.first piece.now.len first }
 {
     match (piece.first, first) {
         (None, None) => true,
@@ -72,11 +71,11 @@ fn push_part(pieces: &mut Vec<Piece>, first: Option<u32>, len: u32) -> Result<()
     Ok(())
 }
 
-/// Where bytes go on of which so many were taken, which begin in this logical block, or are missing. Error: there is no such block.
+/// The logical block behind 65,536 bytes that begin in this one; None where they are missing. Error: there is no such block.
+#[tactic(auto, using(crate::proofs::PieceLemmas::missing_goes_on, crate::proofs::PieceLemmas::block_goes_on))]
 fn first_behind(first: Option<u32>, len: u32) -> Result<Option<u32>, SourceFault>
     requires { len ≤ 65536 }
-    ensures { IfOk result (λ next. (image : List ℕ) (more : ℕ) → (more ≡ 0) ⊎ (len ≡ 65536) → first_bytes image first (len + more)
-        ≡ first_bytes image first len ++ first_bytes image next more) }
+    ensures { len ≡ 65536 → IfOk result (GoesOn first len) }
 {
     let Some(block) = first else {
         return Ok(None);

@@ -95,7 +95,8 @@ impl RescueAnswer {
         found: &Found<'_>,
     ) -> Result<RescueAnswer, AllocError>
         requires { found.now.mdb.now ≡ finds.now.mdb }
-        ensures { (image : List ℕ) → IsCheckFault check.now.fault image → IsFoundIn image (Some finds.now)
+        ensures { (image : List ℕ) → IsCheckFault check.now.fault image
+            → IsFoundIn image (Some finds.now)
             → IfOk result (λ answer. IsAnswerBy image answer found.now) }
     {
         let sums = sums_of(alloc, found)?;

@@ -51,10 +51,7 @@ fn field_name(field: &[u8]) -> &[u8]
 }
 
 /// The block of an image that is taken for its directory.
-fn directory_block<S: BlockSource>(
-    source: &mut S,
-    directory: u32,
-) -> Result<[u8; 512], SourceFault>
+fn directory_block<S: BlockSource>(source: &mut S, directory: u32) -> Result<[u8; 512], SourceFault>
     ensures block { IfOk result (HoldsFrom (S.image source.old) (512 * directory)) }
     ensures image { S.image source.new ≡ S.image source.old }
 {

@@ -84,10 +84,12 @@ pub fn give_remains<S: BlockSource + Drop, T: Shelf, W: Watch>(
     words: &BagWords<'_>,
     watch: &W,
 ) -> Result<RescueAnswer, BagFault>
-    ensures whole { OnOk result (OfKnownBag (S.image image.source) image.len (option_map string_bytes image.line)
-        words.now (λ bag. T.given shelf.new ≡ T.given shelf.old ++ bag)) }
-    ensures part { OnErr result (OfKnownBag (S.image image.source) image.len (option_map string_bytes image.line)
-        words.now (λ bag. IsBeginning (T.given shelf.new) (T.given shelf.old ++ bag))) }
+    ensures whole { OnOk result (OfKnownBag (S.image image.source) image.len
+        (option_map string_bytes image.line) words.now
+        (λ bag. T.given shelf.new ≡ T.given shelf.old ++ bag)) }
+    ensures part { OnErr result (OfKnownBag (S.image image.source) image.len
+        (option_map string_bytes image.line) words.now
+        (λ bag. IsBeginning (T.given shelf.new) (T.given shelf.old ++ bag))) }
     ensures answer { IfOk result (IsKnownAnswer (S.image image.source) image.len words.now.words) }
     ensures fault { IfErr result (IsUnfilled (T.Fails (T.place shelf.old)) (S.image image.source) image.len
         (option_map string_bytes image.line) words.now) }
