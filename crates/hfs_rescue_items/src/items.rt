@@ -81,7 +81,7 @@ fn open_stream<'a>(
     }
 }
 
-impl<'a, S: BlockSource> RescueItems<'a, S> {
+impl<'a, S: BlockSource + Drop> RescueItems<'a, S> {
     /// What was found of an image, from its first item on; the bytes of forks are read from this source. The only error is want of memory.
     pub fn new(alloc: Global, found: Found<'a>, source: S) -> Result<RescueItems<'a, S>, AllocError>
         ensures found { IfOk result (λ made. made.found ≡ found.entry) }
