@@ -54,7 +54,7 @@ length-places image mdb (place ∷ places) =
 -- the first bytes of a block that is there, and of one that is missing
 pub block_first : (image : List ℕ) (mdb : Mdb) (b count : ℕ) → count ≤ mdb.allocation_block_size → take count (place_bytes image mdb (Some b)) ≡ filled count (drop (512 * start_of mdb b) image)
 unfolding place_bytes
-block_first image mdb b count fits = read-filled count 0 mdb.allocation_block_size (drop (512 * start_of mdb b) image) fits
+block_first image mdb b count fits = read-filled count 0 mdb.allocation_block_size (drop (512 * start_of mdb b) image) (omega (arith, fits))
 
 pub missing_first : (image : List ℕ) (mdb : Mdb) (count : ℕ) → count ≤ mdb.allocation_block_size → take count (place_bytes image mdb None) ≡ replicate count 0
 unfolding place_bytes

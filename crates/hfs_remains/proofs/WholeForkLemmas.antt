@@ -10,7 +10,7 @@ use Rattle.std.proofs.lemmas.List.Concat.{flat_map-append}
 use Rattle.hfs_fields.specs.declared.mdb.Mdb.{Mdb}
 use Rattle.hfs_fields.specs.declared.extent.Extent.{Extent}
 use Rattle.hfs_fields.specs.Keys.{ext_cmp}
-use Rattle.hfs_blocks.specs.Blocks.{block_at, block_count, length-block_at}
+use Rattle.hfs_blocks.specs.Blocks.{block_at, length-block_at}
 use Rattle.hfs_sparse.proofs.Copied.{flat-range}
 use Rattle.hfs_scans.specs.Each.{Each}
 use Rattle.hfs_scans.proofs.ElementLemmas.{each-append, each-left}
