@@ -8,5 +8,5 @@ pub returns : goal.returns
 returns c =
     let within : c.args.from ≤ length c.args.image.now = search rules in
     let fits : c.args.count ≤ length c.args.image.now - c.args.from = search rules in
-    bytes_added c.args.digest.now c.add.new.digest c.args.image.now c.args.from c.args.count within fits
+    bytes_added c.args.digest.now c.add.new.self c.args.image.now c.args.from c.args.count within fits
     (c.add.ensures ∙ ap (λ (n : ℕ). c.args.digest.now ++ take n (drop c.args.from c.args.image.now)) (add-sub_cancel_left c.args.from c.args.count))
