@@ -1,6 +1,5 @@
 -- What is said of a fork, and its bytes, are a function of the fork's length, its extents, its blocks, and of where blocks lie.
-use Rattle.std.specs.Prelude.{◌≡◌, ◌≢◌, ℕ, ◌*◌, ◌<◌, ◌≤◌, Bool, true, false, List, map, take, length, replicate, reverse, Option, Some, None, IsTrue, slice_index_or}
-use Rattle.std.specs.List.{flat_map}
+use Rattle.std.specs.Prelude.{◌≡◌, ◌≢◌, ℕ, ◌*◌, ◌<◌, ◌≤◌, Bool, true, false, List, map, take, length, reverse, Option, Some, None, IsTrue, slice_index_or}
 use Rattle.hfs_fields.specs.declared.mdb.Mdb.{Mdb}
 use Rattle.hfs_fields.specs.Records.{item_id}
 use Rattle.hfs_names.specs.Laws.{is_bytes}
@@ -8,13 +7,12 @@ use Rattle.hfs_names.specs.Paths.{host_path}
 use Rattle.hfs_fields.specs.declared.extent.Extent.{Extent}
 use Rattle.hfs_blocks.specs.Blocks.{block_at, block_count}
 use Rattle.hfs_space.specs.Extents.{Overflow, extent_blocks, fork_extents as whole_extents}
-use Rattle.hfs_space.specs.Forks.{blocks_each, run_bytes, fork_bytes}
+use Rattle.hfs_space.specs.Forks.{fork_bytes as whole_bytes}
 use Rattle.hfs_space.specs.Owners.{Fork as CheckedFork}
 use Rattle.hfs_space.specs.Sound.{IsForkSound}
 use Rattle.hfs_catalog.specs.Records.{Record, Catalog, items_of as items_in}
 use Rattle.hfs_check.specs.Parts.{Blocks, mdb_in, overflow_in, catalog_in}
 use Rattle.hfs_check.specs.Sound.{AreBlocksSound, IsSound}
-use Rattle.hfs_rescue.specs.Allocation.{start_of}
 use Rattle.hfs_rescue.specs.TreeFiles.{FileBlocks}
 use Rattle.hfs_rescue.specs.OverflowRecords.{fork_extents}
 use Rattle.hfs_rescue.specs.declared.catalog.FoundRecord.{FoundRecord}
@@ -32,6 +30,7 @@ use Rattle.hfs_remains.specs.declared.shares.FileShares.{FileShares}
 use Rattle.hfs_remains.specs.Records.{thing_of, namings_of}
 use Rattle.hfs_remains.specs.Forks.{blocks_for, both_forks, fork_length, fork_places}
 use Rattle.hfs_remains.specs.Verdicts.{finding_of, shares_of}
+use Rattle.hfs_remains.specs.ForkBytes.{fork_bytes, place_bytes}
 
 -- ---- what two images agree on
 
@@ -52,18 +51,18 @@ pub record AgreeOnFork (records others : Overflow) (one other : Mdb) (fork secon
 
 -- ---- a fork's bytes
 
--- of a block; of a missing one zeros
-abbrev pub place_bytes : Blocks → Mdb → Option ℕ → List ℕ
-place_bytes blocks mdb None = replicate mdb.allocation_block_size 0
-place_bytes blocks mdb (Some b) = run_bytes blocks (start_of mdb b) (blocks_each mdb)
-
--- those of its blocks, as far as its length goes
-abbrev pub taken_bytes : ℕ → Blocks → Overflow → Mdb → Fork → List ℕ
-taken_bytes total blocks records mdb fork = take (fork_length records mdb fork) (flat_map (place_bytes blocks mdb) (fork_places total records mdb fork))
+-- those of a fork of an image of `total` logical blocks, as far as its length goes
+abbrev pub taken_bytes : ℕ → List ℕ → Overflow → Mdb → Fork → List ℕ
+taken_bytes total image records mdb fork = fork_bytes image mdb (fork_length records mdb fork) (fork_places total records mdb fork)
 
 -- two images have the same bytes in these blocks
-abbrev pub AgreeOnBytes : Blocks → Blocks → Mdb → Mdb → FileBlocks → Type 0
+abbrev pub AgreeOnBytes : List ℕ → List ℕ → Mdb → Mdb → FileBlocks → Type 0
 AgreeOnBytes first second one other places = (i b : ℕ) → slice_index_or places i None ≡ Some b → place_bytes first one (Some b) ≡ place_bytes second other (Some b)
+
+-- an image has these blocks, so many
+pub record HasBlocks (image : List ℕ) (total : ℕ) (blocks : Blocks) : Type 0 where
+  pub enough : total ≤ block_count image
+  pub same : (n : ℕ) → n < total → block_at image n ≡ blocks n
 
 -- ---- the law of forks
 
@@ -73,7 +72,7 @@ pub record IsSameFork (total : ℕ) (records others : Overflow) (one other : Mdb
   pub len : fork_length records one fork ≡ fork_length others other second
   pub cut : (used later : FileBlocks) → (finding_of total records one used fork).cut ≡ (finding_of total others other later second).cut
   pub missing : (used later : FileBlocks) → (finding_of total records one used fork).missing ≡ (finding_of total others other later second).missing
-  pub bytes : (first later : Blocks) → AgreeOnBytes first later one other (fork_places total records one fork)
+  pub bytes : (first later : List ℕ) → AgreeOnBytes first later one other (fork_places total records one fork)
       → taken_bytes total first records one fork ≡ taken_bytes total later others other second
 
 abbrev pub ForksAreTheirBlocks : Type 0
@@ -89,8 +88,8 @@ pub record IsWholeFork (total : ℕ) (blocks : Blocks) (records : Overflow) (mdb
   pub len : fork_length records mdb fork ≡ fork.len
   pub cut : (used : FileBlocks) → (finding_of total records mdb used fork).cut ≡ None
   pub missing : (used : FileBlocks) → (finding_of total records mdb used fork).missing ≡ 0
-  pub bytes : ((n : ℕ) → n < total → length (blocks n) ≡ 512)
-      → taken_bytes total blocks records mdb fork ≡ fork_bytes blocks mdb (whole_extents records fork.file fork.kind fork.first) fork.len
+  pub bytes : (image : List ℕ) → HasBlocks image total blocks
+      → taken_bytes total image records mdb fork ≡ whole_bytes blocks mdb (whole_extents records fork.file fork.kind fork.first) fork.len
 
 -- a fork as the checks of a volume have it
 abbrev pub checked : Fork → CheckedFork

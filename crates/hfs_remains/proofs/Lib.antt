@@ -4,6 +4,7 @@ pub mod CountLemmas
 mod OwnerLemmas
 mod BlockLemmas
 mod ShareLemmas
+pub mod ForkByteLemmas
 mod NamingLemmas
 pub mod LawTypes
 mod SameLemmas

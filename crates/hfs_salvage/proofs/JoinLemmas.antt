@@ -25,9 +25,9 @@ module _ (image : List ℕ) (limit : ℕ) (found : Found) (find : IsSoundFind im
   abbrev es : List Entry
   es = entries_of (volume_in (block_at image))
 
-  pub payloads-same : (e : ShelfEntry) → scans.In e (payload (rescued_items found)) ↔ scans.In e (payload (bag_items (entries_in image)))
+  pub payloads-same : (e : ShelfEntry) → scans.In e (payload (rescued_items image found)) ↔ scans.In e (payload (bag_items (entries_in image)))
   unfolding volume_of
   payloads-same e = (
-    same-first (folder (codes "data")) (items_entries (rescued_items found)) (items_entries (bag_items es)) (rescue-given image limit found find) e,
-    same-first (folder (codes "data")) (items_entries (bag_items es)) (items_entries (rescued_items found)) (take-given image limit found find) e,
+    same-first (folder (codes "data")) (items_entries (rescued_items image found)) (items_entries (bag_items es)) (rescue-given image limit found find) e,
+    same-first (folder (codes "data")) (items_entries (bag_items es)) (items_entries (rescued_items image found)) (take-given image limit found find) e,
   )

@@ -21,7 +21,7 @@ use Rattle.hfs_salvage.specs.Found.{IsFoundOf}
 abbrev pub RescuedPathsAreLawful : Type 0
 RescuedPathsAreLawful =
     (image : List ℕ) (limit : ℕ) (found : Found) (facts : BagFacts) → IsTrue (is_bytes image) → IsFoundOf image limit found
-    → AreInside (rescued_bag found facts) × AllDiffer (rescued_bag found facts)
+    → AreInside (rescued_bag image found facts) × AllDiffer (rescued_bag image found facts)
 
 -- of a sound image of bytes whose folders' host paths take at most 800 bytes, and whose catalog file has a block in the directory's own extents of it, the
 -- payload has the same folders and files, with the same paths and bytes, as that of its volume, where as many bytes of forks may be taken as it has
@@ -29,4 +29,4 @@ abbrev pub SoundPayloadsAreVolumes : Type 0
 SoundPayloadsAreVolumes =
     (image : List ℕ) (limit : ℕ) (found : Found) → IsTrue (is_bytes image) → IsSound image → 0 < block_total (mdb_in (block_at image)).catalog_file → length image ≤ limit
     → IsFoundOf image limit found → AreWaysShort (things_in (catalog_in (block_at image)))
-    → (entry : ShelfEntry) → In entry (payload (rescued_items found)) ↔ In entry (payload (bag_items (entries_in image)))
+    → (entry : ShelfEntry) → In entry (payload (rescued_items image found)) ↔ In entry (payload (bag_items (entries_in image)))

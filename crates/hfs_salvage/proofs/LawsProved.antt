@@ -32,8 +32,8 @@ are-things image mdb bytes (Some n) there is =
 -- those of the tag files too.
 pub rescued_paths_are_lawful : RescuedPathsAreLawful
 rescued_paths_are_lawful image limit found facts bytes is =
-    bag_paths (rescued_items found) (rescued_tables found) facts
-    (plans_are_placed found (found_records image found.mdb.now)
+    bag_paths (rescued_items image found) (rescued_tables found) facts
+    (plans_are_placed image found (found_records image found.mdb.now)
     (is.places_are ∙ ap (λ (items : List FoundRecord). things_of (map thing_of items) (namings_of (found_records image found.mdb.now))) (sym is.items_are))
     (subst AreThings (sym is.places_are) (are-things image found.mdb.now bytes (directory_of image) refl is.directory_is)))
 

@@ -80,18 +80,18 @@ module _ (image : List ℕ) (limit : ℕ) (found : Found) (find : IsSoundFind im
         ∙ ap (take (p.to - p.from)) (drop-append_seam front last)
         ∙ take_all (p.to - p.from) last (omega (arith, from, all, ap length parts, length-append front last))
 
-    planned-is : is_alone p.kind ≡ false → planned_item found p ≡ with-kind p.kind (taken-item image r rest)
+    planned-is : is_alone p.kind ≡ false → planned_item image found p ≡ with-kind p.kind (taken-item image r rest)
     planned-is alone =
         let finder : finder_told (if is_alone p.kind then None else told_at found.items.now p.place) ≡ (told cat r).finder =
         ap (λ (b : Bool). finder_told (if b then None else told_at found.items.now p.place)) alone ∙ finder-is image limit found find.sound find.begins find.enough find.is p.place r it.at in
-        let first : (if is_alone p.kind then [] else taken_bytes found Data p.place) ≡ fork_told es DataFork (told cat r) =
-        ap (λ (b : Bool). if b then [] else taken_bytes found Data p.place) alone ∙ data-by image limit found find p.place r rest it (is_dir r.1) refl in
-        let second : (if is_alone p.kind then [] else taken_bytes found Resource p.place) ≡ fork_told es ResFork (told cat r) =
-        ap (λ (b : Bool). if b then [] else taken_bytes found Resource p.place) alone ∙ resource-by image limit found find p.place r rest it (is_dir r.1) refl in
+        let first : (if is_alone p.kind then [] else taken_bytes image found Data p.place) ≡ fork_told es DataFork (told cat r) =
+        ap (λ (b : Bool). if b then [] else taken_bytes image found Data p.place) alone ∙ data-by image limit found find p.place r rest it (is_dir r.1) refl in
+        let second : (if is_alone p.kind then [] else taken_bytes image found Resource p.place) ≡ fork_told es ResFork (told cat r) =
+        ap (λ (b : Bool). if b then [] else taken_bytes image found Resource p.place) alone ∙ resource-by image limit found find p.place r rest it (is_dir r.1) refl in
         λ k. record { above = above k; name = name k; kind = p.kind; finder = finder k; data_fork = first k; resource_fork = second k }
 
     -- its files and folders are those of its item, of this kind
-    pub entries-are : (kind : BagKind) → p.kind ≡ kind → is_alone kind ≡ false → item_entries (planned_item found p) ≡ entries_of_kind kind (taken-item image r rest)
+    pub entries-are : (kind : BagKind) → p.kind ≡ kind → is_alone kind ≡ false → item_entries (planned_item image found p) ≡ entries_of_kind kind (taken-item image r rest)
     entries-are kind same alone =
         ap item_entries (planned-is (ap is_alone same ∙ alone)) ∙ (λ k. entries_of_kind (same k) (with-kind (same k) (taken-item image r rest))) ∙ of-kind kind (taken-item image r rest)
       where

@@ -97,7 +97,7 @@ module _ (image : List ℕ) (limit : ℕ) (found : Found) (find : IsSoundFind im
   none : Record
   none = (record { parent = 0; name = [] }, [])
 
-  whole-taken : (p : Planned) (part : IsPart found p) → length (own_path found p) ≤ p.to → (e : ShelfEntry) → In e (item_entries (planned_item found p)) → In e (items_entries (bag_items es))
+  whole-taken : (p : Planned) (part : IsPart found p) → length (own_path found p) ≤ p.to → (e : ShelfEntry) → In e (item_entries (planned_item image found p)) → In e (items_entries (bag_items es))
   whole-taken p part all e here =
       let l = led p.place none part.place part.some in
       let own = part.own all in
@@ -147,24 +147,24 @@ module _ (image : List ℕ) (limit : ℕ) (found : Found) (find : IsSoundFind im
       (inside cat n find.sound.blocks.ids p.place l.of l.is-item.at) l.is-item.way (path_of found p) rest
       (sym (path-same p.place l.of l.rest l.is-item) ∙ whole)
 
-  above-taken : (p : Planned) (part : IsPart found p) → p.to < length (own_path found p) → (e : ShelfEntry) → In e (item_entries (planned_item found p)) → In e (items_entries (bag_items es))
+  above-taken : (p : Planned) (part : IsPart found p) → p.to < length (own_path found p) → (e : ShelfEntry) → In e (item_entries (planned_item image found p)) → In e (items_entries (bag_items es))
   above-taken p part below e here =
-      let alone : In e (entries_of_kind bag.FolderAlone (planned_item found p)) = subst (λ (k : BagKind). In e (entries_of_kind k (planned_item found p))) (part.alone below) here in
-      let text : folder (codes "data/" ++ path_of found p) ≡ folder_entry (planned_item found p) =
+      let alone : In e (entries_of_kind bag.FolderAlone (planned_item image found p)) = subst (λ (k : BagKind). In e (entries_of_kind k (planned_item image found p))) (part.alone below) here in
+      let text : folder (codes "data/" ++ path_of found p) ≡ folder_entry (planned_item image found p) =
       ap (λ (t : List ℕ). folder (codes "data/" ++ t)) (sym (text-is found (map (young false) cat) (places-named image limit found find) (are-found image limit found find) p part)) in
       ⊎_elim
-      (λ (same : folder_entry (planned_item found p) ≡ e).
+      (λ (same : folder_entry (planned_item image found p) ≡ e).
       subst (λ (x : ShelfEntry). In x (items_entries (bag_items es))) (text ∙ same) (folder-taken (path_of found p) (folder-text p part below)))
       (λ (nothing : ⊥). absurd nothing)
       alone
 
-  pub rescue-given : (e : ShelfEntry) → In e (items_entries (rescued_items found)) → In e (items_entries (bag_items es))
+  pub rescue-given : (e : ShelfEntry) → In e (items_entries (rescued_items image found)) → In e (items_entries (bag_items es))
   rescue-given e there =
-      let at = in_flat_map item_entries (map (planned_item found) plan) e there in
-      let of = in_map (planned_item found) plan at.0 at.1 in
+      let at = in_flat_map item_entries (map (planned_item image found) plan) e there in
+      let of = in_map (planned_item image found) plan at.0 at.1 in
       let p : Planned = of.0 in
       let part = part-of found p (to-scans p plan of.1) in
-      let here : In e (item_entries (planned_item found p)) = subst (λ (x : BagItem). In e (item_entries x)) (sym of.2) at.2 in
+      let here : In e (item_entries (planned_item image found p)) = subst (λ (x : BagItem). In e (item_entries x)) (sym of.2) at.2 in
       elim (cases_lt p.to (length (own_path found p))) [
         | inl below ↦ above-taken p part below e here
         | inr all ↦ whole-taken p part all e here

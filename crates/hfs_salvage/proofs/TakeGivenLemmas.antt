@@ -46,16 +46,16 @@ module _ (image : List ℕ) (limit : ℕ) (found : Found) (find : IsSoundFind im
   abbrev plan : List Planned
   plan = whole_plan found
 
-  given : (p : Planned) → scans.In p plan → (e : ShelfEntry) → In e (item_entries (planned_item found p)) → In e (items_entries (rescued_items found))
+  given : (p : Planned) → scans.In p plan → (e : ShelfEntry) → In e (item_entries (planned_item image found p)) → In e (items_entries (rescued_items image found))
   given p there e inner-entry =
-      flat_map_in item_entries (map (planned_item found) plan) (planned_item found p) e (map_in (planned_item found) plan p (to-model p plan there)) inner-entry
+      flat_map_in item_entries (map (planned_item image found) plan) (planned_item image found p) e (map_in (planned_item image found) plan p (to-model p plan there)) inner-entry
 
   module _ (i : ℕ) (r : Record) (rest : List (List ℕ)) (it : IsItem cat i r rest) where
     made-of : IsMadeOf found plan i
     made-of = plans_hold_things found i (inner image limit found find i r it.at) (some-path image limit found find i r rest it)
 
     own-given : (kind : BagKind) → own_kind found i made-of.made ≡ Some kind → is_alone kind ≡ false → (e : ShelfEntry) → In e (entries_of_kind kind (taken-item image r rest))
-        → In e (items_entries (rescued_items found))
+        → In e (items_entries (rescued_items image found))
     own-given kind own alone e here =
         let p : Planned = of_kind kind (last_part i (path_at found.places.now i)) in
         let there = made-of.own kind own in
@@ -64,16 +64,16 @@ module _ (image : List ℕ) (limit : ℕ) (found : Found) (find : IsSoundFind im
         let end : length (own_path found p) ≤ p.to = omega (arith, last_to i (path_at found.places.now i), ap (λ (k : ℕ). length (path_at found.places.now k)) place) in
         given p there e (subst (In e) (sym (entries-are image limit found find p (part-of found p there) r rest own-it end kind refl alone)) here)
 
-    folder-given : made-of.made ≡ true → In (folder_entry (taken-item image r rest)) (items_entries (rescued_items found))
+    folder-given : made-of.made ≡ true → In (folder_entry (taken-item image r rest)) (items_entries (rescued_items image found))
     folder-given made =
         let q = made-of.there made in
-        let same : folder_entry (planned_item found q.part) ≡ folder_entry (taken-item image r rest) =
+        let same : folder_entry (planned_item image found q.part) ≡ folder_entry (taken-item image r rest) =
         ap (λ (t : List ℕ). folder (codes "data/" ++ t))
         (text-is found (map (young false) cat) (places-named image limit found find) (are-found image limit found find) q.part (part-of found q.part q.there) ∙ q.path_is ∙ parts-are image limit found find i r rest it) in
         given q.part q.there (folder_entry (taken-item image r rest))
-        (subst (λ (e : ShelfEntry). In e (item_entries (planned_item found q.part))) same (folder-in q.part.kind (planned_item found q.part) q.folder))
+        (subst (λ (e : ShelfEntry). In e (item_entries (planned_item image found q.part))) same (folder-in q.part.kind (planned_item image found q.part) q.folder))
 
-    taken-given : (e : ShelfEntry) → In e (item_entries (taken-item image r rest)) → In e (items_entries (rescued_items found))
+    taken-given : (e : ShelfEntry) → In e (item_entries (taken-item image r rest)) → In e (items_entries (rescued_items image found))
     taken-given e here =
         let kinds : In e (entries_of_kind (whole-kind (is_dir r.1)) (taken-item image r rest)) =
         subst (λ (k : ItemKind). In e (entries_of_kind (bag_kind k) (taken-item image r rest))) (told-kind cat r) here in
@@ -81,10 +81,10 @@ module _ (image : List ℕ) (limit : ℕ) (found : Found) (find : IsSoundFind im
         (λ (own : In e (entries_of_kind (own-kind (is_dir r.1) made-of.made) (taken-item image r rest))).
         own-given (own-kind (is_dir r.1) made-of.made) (own-of image limit found find i r rest it made-of.made) (not-alone (is_dir r.1) made-of.made) e own)
         (λ (before : (made-of.made ≡ true) × (folder_entry (taken-item image r rest) ≡ e)).
-        subst (λ (x : ShelfEntry). In x (items_entries (rescued_items found))) before.1 (folder-given before.0))
+        subst (λ (x : ShelfEntry). In x (items_entries (rescued_items image found))) before.1 (folder-given before.0))
         (from-whole (is_dir r.1) made-of.made (taken-item image r rest) e kinds)
 
-  pub take-given : (e : ShelfEntry) → In e (items_entries (bag_items es)) → In e (items_entries (rescued_items found))
+  pub take-given : (e : ShelfEntry) → In e (items_entries (bag_items es)) → In e (items_entries (rescued_items image found))
   take-given e there =
       let at = in_flat_map item_entries (bag_items es) e there in
       let of = of-take image limit found find at.0 at.1 in

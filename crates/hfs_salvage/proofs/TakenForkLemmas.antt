@@ -1,5 +1,5 @@
 -- The bytes of an item's forks are those that `take` gives, and so is the kind of what is made of it.
-use Rattle.std.proofs.Common.{◌≡◌, ℕ, ◌-◌, Bool, true, false, if◌then◌else◌, List, [], take, Option, Some, None, refl, sym, ap, ◌∙◌}
+use Rattle.std.proofs.Common.{◌≡◌, ℕ, ◌-◌, Bool, true, false, if◌then◌else◌, List, [], take, Option, Some, None, refl, sym, ap, ◌∙◌, arith}
 use Rattle.std.specs.Option.{option_map_or}
 use Rattle.hfs_bag.specs.declared.item.BagKind.TheVariants as bag
 use Rattle.hfs_fields.specs.Records.{is_dir, file_record_of}
@@ -19,13 +19,13 @@ use Rattle.hfs_model.specs.declared.call.Fork.{Fork}
 use Rattle.hfs_remains.specs.declared.forks.Fork.{Fork as FoundFork}
 use Rattle.hfs_space.specs.declared.fork_kind.ForkKind.TheVariants.{Data, Resource}
 use Rattle.hfs_remains.specs.declared.shares.FileShares.{FileShares}
-use Rattle.hfs_remains.specs.Forks.{both_forks, fork_length, fork_of, fork_places}
+use Rattle.hfs_remains.specs.Forks.{both_forks, fork_of}
 use Rattle.hfs_remains.specs.Verdicts.{fork_share, shares_at}
-use Rattle.hfs_remains.proofs.LawTypes.{taken_bytes as fork_taken, whole_shares}
+use Rattle.hfs_remains.proofs.LawTypes.{HasBlocks, taken_bytes as fork_taken, whole_shares}
 use Rattle.hfs_rescue_items.specs.declared.found.Found.{Found}
-use Rattle.hfs_rescue_items.specs.Bytes.{blocks_bytes, share_bytes, taken_bytes}
+use Rattle.hfs_rescue_items.specs.Bytes.{bytes_by, taken_bytes}
 use Rattle.hfs_rescue_items.specs.Plan.{file_kind, own_kind, thing_kind}
-use Rattle.hfs_salvage.proofs.ForkTakenLemmas.{data-taken, file-there, fork-is, fork-same, resource-taken}
+use Rattle.hfs_salvage.proofs.ForkTakenLemmas.{data-taken, file-there, fork-is, resource-taken}
 use Rattle.hfs_salvage.proofs.SoundFoundLemmas.{dir-no-file, item-found, shares-is, told-kind, told-name, told-parent, trees-directory, trees-overflow}
 use Rattle.hfs_salvage.proofs.KindLemmas.{own-kind}
 use Rattle.hfs_salvage.proofs.TakenItemLemmas.{IsSoundFind, IsItem, full, other}
@@ -64,32 +64,33 @@ module _ (image : List ℕ) (limit : ℕ) (found : Found) (find : IsSoundFind im
     told-none fork dir =
         ap (λ (k : ItemKind). of_file k (bytes_or_none (named_fork es (told cat r).parent (told cat r).name fork))) (told-kind cat r ∙ ap (λ (b : Bool). if b then item.Folder else item.File) dir)
 
-    share-is : (fork : FoundFork) → share_bytes found.image.now found.salvage.now.trees (record { fork = fork; taken = true })
-        ≡ fork_taken (block_count image) (block_at image) (overflow_in (block_at image)) (mdb_in (block_at image)) fork
+    share-is : (fork : FoundFork) → bytes_by image found.salvage.now.trees (record { fork = fork; taken = true })
+        ≡ fork_taken (block_count image) image (overflow_in (block_at image)) (mdb_in (block_at image)) fork
     share-is fork =
-        (λ k. take (fork_length (trees-overflow image limit found find.sound find.begins find.enough find.is k) (trees-directory image limit found find.sound find.begins find.enough find.is k) fork)
-        (blocks_bytes (find.is.image_is k) (trees-directory image limit found find.sound find.begins find.enough find.is k)
-        (fork_places (find.is.total_is k) (trees-overflow image limit found find.sound find.begins find.enough find.is k) (trees-directory image limit found find.sound find.begins find.enough find.is k) fork)))
-        ∙ fork-same image (mdb_in (block_at image)) find.sound.blocks.mdb.whole_size (overflow_in (block_at image)) fork
+        λ k. fork_taken (find.is.total_is k) image (trees-overflow image limit found find.sound find.begins find.enough find.is k)
+        (trees-directory image limit found find.sound find.begins find.enough find.is k) fork
 
-    pub data-by : (b : Bool) → is_dir r.1 ≡ b → taken_bytes found Data i ≡ fork_told es DataFork (told cat r)
+    own-blocks : HasBlocks image (block_count image) (block_at image)
+    own-blocks = record { enough = omega arith; same = λ n within. refl }
+
+    pub data-by : (b : Bool) → is_dir r.1 ≡ b → taken_bytes image found Data i ≡ fork_told es DataFork (told cat r)
     unfolding taken_bytes
     data-by true dir =
-        ap (λ (o : Option FileShares). option_map_or (λ file. share_bytes found.image.now found.salvage.now.trees (fork_share Data file)) o []) (dir-shares dir) ∙ sym (told-none DataFork dir)
+        ap (λ (o : Option FileShares). option_map_or (λ file. bytes_by image found.salvage.now.trees (fork_share Data file)) o []) (dir-shares dir) ∙ sym (told-none DataFork dir)
     data-by false file =
-        ap (λ (o : Option FileShares). option_map_or (λ file. share_bytes found.image.now found.salvage.now.trees (fork_share Data file)) o []) (file-shares file)
+        ap (λ (o : Option FileShares). option_map_or (λ file. bytes_by image found.salvage.now.trees (fork_share Data file)) o []) (file-shares file)
         ∙ share-is (fork_of (file_record_of r.1).id 0 (file_record_of r.1).«data»)
-        ∙ data-taken (block_count image) (block_at image) (full image limit found find) find.sound.blocks i r it.at (other image limit found find i r rest it) file
+        ∙ data-taken (block_count image) (block_at image) (full image limit found find) find.sound.blocks i r it.at (other image limit found find i r rest it) file image own-blocks
         ∙ sym (told-fork DataFork file)
 
-    pub resource-by : (b : Bool) → is_dir r.1 ≡ b → taken_bytes found Resource i ≡ fork_told es ResFork (told cat r)
+    pub resource-by : (b : Bool) → is_dir r.1 ≡ b → taken_bytes image found Resource i ≡ fork_told es ResFork (told cat r)
     unfolding taken_bytes
     resource-by true dir =
-        ap (λ (o : Option FileShares). option_map_or (λ file. share_bytes found.image.now found.salvage.now.trees (fork_share Resource file)) o []) (dir-shares dir) ∙ sym (told-none ResFork dir)
+        ap (λ (o : Option FileShares). option_map_or (λ file. bytes_by image found.salvage.now.trees (fork_share Resource file)) o []) (dir-shares dir) ∙ sym (told-none ResFork dir)
     resource-by false file =
-        ap (λ (o : Option FileShares). option_map_or (λ file. share_bytes found.image.now found.salvage.now.trees (fork_share Resource file)) o []) (file-shares file)
+        ap (λ (o : Option FileShares). option_map_or (λ file. bytes_by image found.salvage.now.trees (fork_share Resource file)) o []) (file-shares file)
         ∙ share-is (fork_of (file_record_of r.1).id 255 (file_record_of r.1).resource)
-        ∙ resource-taken (block_count image) (block_at image) (full image limit found find) find.sound.blocks i r it.at (other image limit found find i r rest it) file
+        ∙ resource-taken (block_count image) (block_at image) (full image limit found find) find.sound.blocks i r it.at (other image limit found find i r rest it) file image own-blocks
         ∙ sym (told-fork ResFork file)
 
     -- what is made of it

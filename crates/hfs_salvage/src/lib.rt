@@ -9,12 +9,13 @@ mod held;
 mod image;
 mod listing;
 mod loading;
+mod looking;
 mod watched;
 mod words;
 
 pub use crate::answer::RescueAnswer;
 pub use crate::filling::{give_remains, rescue};
 pub use crate::held::HeldBytes;
-pub use crate::image::{HeldImage, HoldFault};
+pub use crate::image::{HoldFault, RescuedImage};
 pub use crate::listing::{list_rescue, write_remains};
 pub use crate::words::{BagWords, RescueWords};

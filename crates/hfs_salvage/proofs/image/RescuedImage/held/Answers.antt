@@ -3,16 +3,15 @@ use Rattle.std.proofs.Common.{List, ℕ, Some, subst}
 use Rattle.hfs_commands.specs.Checks.{HasCheckLines, IsCheckFault}
 use Rattle.hfs_finds.specs.Finds.{IsFoundIn}
 use Rattle.hfs_finds.proofs.ImageLemmas.{few_bytes}
-use Rattle.hfs_salvage.proofs.image.HeldImage.of.Goals as goal
+use Rattle.hfs_salvage.proofs.image.RescuedImage.held.Goals as goal
 
 pub invariant_of-result : goal.invariant_of-result
 invariant_of-result c =
     let there : IsFoundIn c.bytes-3.result.now (Some c.in-Some.finds) = subst (IsFoundIn c.bytes-3.result.now) c.in-Some.is c.in-Ok-find_in.ensures in
     let found : IsFoundIn c.args.bytes (Some c.in-Some.finds) = subst (λ (image : List ℕ). IsFoundIn image (Some c.in-Some.finds)) c.bytes-3.ensures there in
     record {
-      fault_is = subst (IsCheckFault c.in-Ok.check.fault) c.bytes-2.ensures c.in-Ok.ensures.fault;
-      lines_are = subst (HasCheckLines c.in-Ok.check.lines) c.bytes-2.ensures c.in-Ok.ensures.lines;
-      directory_is = found.0;
-      finds_are = found.1;
+      fault_is = λ _. subst (IsCheckFault c.in-Ok.check.fault) c.bytes-2.ensures c.in-Ok.ensures.fault;
+      lines_are = λ _. subst (HasCheckLines c.in-Ok.check.lines) c.bytes-2.ensures c.in-Ok.ensures.lines;
+      finds_are = λ _. found;
       few = few_bytes c.args.bytes c.in-Some.finds.directory found.1.directory_is;
     }
