@@ -1,5 +1,5 @@
 -- The blocks of an image that are needed to find what there is of it, where no others are looked at.
-use Rattle.std.specs.Prelude.{◌≡◌, ℕ, ◌-◌, Bool, true, false, List, [], ◌∷◌, ◌++◌, Option, Some, None, MatchOption}
+use Rattle.std.specs.Prelude.{◌≡◌, ℕ, ◌-◌, Bool, true, false, List, [], ◌∷◌, ◌++◌, Option, Some, None}
 use Rattle.std.specs.List.{flat_map, range_with_len}
 use Rattle.std.specs.Option.{option_map, option_map_or}
 use Rattle.hfs_fields.specs.declared.mdb.Mdb.{Mdb}
@@ -71,7 +71,7 @@ wants_all total blocks = is_elsewhere_by total blocks (usual_directory total blo
 -- what is found by the directory, with its fields
 pub record AreFound (total : ℕ) (blocks : Blocks) (finds : Finds) : Type 0 where
   pub mdb : option_map (mdb_at blocks) (directory_in total blocks) ≡ Some finds.mdb
-  pub finds : AreFindsBy (directory_in total blocks) total blocks finds
+  pub are : AreFindsBy (directory_in total blocks) total blocks finds
 
 -- both want other blocks or none does, and then the same is found in both
 pub record FindSame (total : ℕ) (old new : Blocks) : Type 0 where
