@@ -1,15 +1,18 @@
 -- What is found by the needed blocks of an image is what is found of the image, where its bytes are known.
-use Rattle.std.proofs.Common.{◌≡◌, ℕ, ◌/◌, ◌≤◌, ◌<◌, Bool, true, false, if◌then◌else◌, List, length, Option, Some, None, refl, sym, ap, subst, ◌∙◌}
+use Rattle.std.proofs.Common.{◌≡◌, ⊎_elim, ℕ, ◌/◌, ◌≤◌, ◌<◌, Bool, true, false, if◌then◌else◌, List, length, Option, Some, None, refl, sym, ap, subst, ◌∙◌}
 use Rattle.std.specs.Option.{is_none, option_map, option_or}
 use Rattle.hfs_fields.specs.declared.mdb.Mdb.{Mdb}
 use Rattle.hfs_blocks.specs.Blocks.{block_at, block_count}
 use Rattle.hfs_blocks.specs.Layers.{Numbered}
+use Rattle.std.proofs.lemmas.Bool.{cases_lt}
 use Rattle.hfs_check.specs.declared.mount_fault.MountFault.{MountFault}
+use Rattle.hfs_check.specs.declared.mount_fault.MountFault.TheVariants as fault
 use Rattle.hfs_check.specs.Faults.{length_fault}
 use Rattle.hfs_check.specs.Parts.{Blocks}
 use Rattle.hfs_needed.specs.Gathered.{IsOfKnown}
 use Rattle.hfs_needed.specs.Known.{OfKnown}
 use Rattle.hfs_needed.specs.Needed.{AgreeOn}
+use Rattle.hfs_needed.proofs.Reported.{length-large, length-short}
 use Rattle.hfs_sparse.specs.Sparse.{HasEach, IsOf, sparse}
 use Rattle.hfs_sparse.proofs.SparseLemmas.{each-of}
 use Rattle.hfs_rescue.specs.Directory.{directory_in, directory_of, mdb_at, usual_directory}
@@ -32,9 +35,19 @@ unfolding directory_of
 directory-wrong image why wrong = ap (λ (f : Option MountFault). if is_none f then directory_in (block_count image) (block_at image) else None) wrong
 
 -- nothing is found of an image that has not the length of a volume
-pub nothing-found : (known : Option (List ℕ)) (len : ℕ) (why : MountFault) → length_fault len ≡ Some why → OfKnown known len (λ image. IsFoundIn image None)
+nothing-found : (known : Option (List ℕ)) (len : ℕ) (why : MountFault) → length_fault len ≡ Some why → OfKnown known len (λ image. IsFoundIn image None)
 nothing-found None len why wrong = tt
 nothing-found (Some image) len why wrong = λ same. ap (option_map (mdb_at (block_at image))) (directory-wrong image why (ap length_fault same ∙ wrong))
+
+pub outside-found : (known : Option (List ℕ)) (len : ℕ) → (1536 ≤ len → len ≤ 2147483648 → ⊥) → OfKnown known len (λ image. IsFoundIn image None)
+outside-found known len outside =
+    ⊎_elim
+    (λ (large : 2147483648 < len). nothing-found known len fault.TooLarge (length-large len large))
+    (λ (few : len ≤ 2147483648). ⊎_elim
+    (λ (short : len < 1536). nothing-found known len fault.Short (length-short len few short))
+    (λ (enough : 1536 ≤ len). absurd (outside enough few))
+    (cases_lt len 1536))
+    (cases_lt 2147483648 len)
 
 -- ---- what was gathered
 
@@ -82,11 +95,10 @@ needed-found (Some image) len right gathered is n mdb finds e fields own are = �
     (same-needed image total gathered is).found (found-alone (Some image) total gathered is n e) finds (found-read (Some image) total gathered is n mdb finds e fields own are) in
     let count : block_count image ≡ total = ap (λ (k : ℕ). k / 512) same in
     let directory : directory_of image ≡ directory_in total (block_at image) =
-    directory-right image (ap length_fault same ∙ right) ∙ ap (λ (k : ℕ). directory_in k (block_at image)) count in
-    (
+    directory-right image (ap length_fault same ∙ right) ∙ ap (λ (k : ℕ). directory_in k (block_at image)) count in (
       ap (option_map (mdb_at (block_at image))) directory ∙ found.mdb,
       subst (λ (o : Option ℕ). AreFindsBy o (block_count image) (block_at image) finds) (sym directory)
-      (subst (λ (k : ℕ). AreFindsBy (directory_in total (block_at image)) k (block_at image) finds) (sym count) found.are),
+          (subst (λ (k : ℕ). AreFindsBy (directory_in total (block_at image)) k (block_at image) finds) (sym count) found.are),
     )
 
 -- where there is no directory, other blocks of the image are wanted
@@ -100,6 +112,7 @@ needed-whole (Some image) len gathered is none = λ same.
   where
     some-there : (n : ℕ) → Some n ≡ None → ⊥
     some-there n e = cc
+
     wanted : (total : ℕ) (blocks : Blocks) → (if wants_all total blocks then None else usual_directory total blocks) ≡ None → wants_all total blocks ≡ true
     wanted total blocks e = by (wants_all total blocks) refl (usual_directory total blocks) refl e
       where

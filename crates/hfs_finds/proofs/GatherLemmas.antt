@@ -88,6 +88,23 @@ beside-places read mdb file i b step beside has = λ k least lt.
     subst (λ (n : ℕ). IsSome (changes read n)) number
     (range-at (λ n. IsSome (changes read n)) (start_of mdb b) (step * each) has (j * each + r) (omega (arith, upper, more, below)))))
 
+pub some-number : (a b : ℕ) → Some a ≡ Some b → a ≡ b
+some-number a b e = cc
+
+-- so many blocks in a row were read
+pub row-read : (read : Numbered) (mdb : Mdb) (file : FileBlocks) (i b step start behind : ℕ) → 1 ≤ step → LieBeside file i b step → start ≡ start_of mdb b
+    → behind ≡ start_of mdb (b + (step - 1)) + blocks_each mdb → HasEach read (range_with_len start (behind - start)) → HasPlaces read mdb file i (i + step)
+row-read read mdb file i b step start behind some beside begins ends has =
+    let whole : behind ≡ start + step * blocks_each mdb = ends ∙ span mdb b step some ∙ ap (λ (n : ℕ). n + step * blocks_each mdb) (sym begins) in
+    let count : behind - start ≡ step * blocks_each mdb = omega (arith, whole) in
+    beside-places read mdb file i b step beside (subst (λ (r : ℕ × ℕ). HasEach read (range_with_len r.0 r.1)) (λ t. (begins t, count t)) has)
+
+-- the row doesn't end before it begins
+pub row-ends : (mdb : Mdb) (b step start behind : ℕ) → 1 ≤ step → start ≡ start_of mdb b → behind ≡ start_of mdb (b + (step - 1)) + blocks_each mdb → start ≤ behind
+row-ends mdb b step start behind some begins ends =
+    let whole : behind ≡ start + step * blocks_each mdb = ends ∙ span mdb b step some ∙ ap (λ (n : ℕ). n + step * blocks_each mdb) (sym begins) in
+    omega (arith, whole)
+
 -- some more places
 pub places-more : (old new : Numbered) → HasGrown old new → (mdb : Mdb) (file : FileBlocks) (i step : ℕ) → HasPlaces new mdb file i (i + step)
     → HasPlaces old mdb file 0 i → HasPlaces new mdb file 0 (i + step)
@@ -111,24 +128,24 @@ file-read read mdb file n all has = each-of-places (λ k. IsSome (changes read k
 
 module _ (total : ℕ) (old new : Numbered) (grown : HasGrown old new) (mdb : Mdb) (some : 1 ≤ blocks_each mdb) (has : HasEach old (needed_of_file mdb (extents_file_blocks total mdb)))
   where
-  agree : AgreeOn (needed_of_file mdb (extents_file_blocks total mdb)) (sparse old) (sparse new)
-  agree = each-same old new grown (needed_of_file mdb (extents_file_blocks total mdb)) has
+    agree : AgreeOn (needed_of_file mdb (extents_file_blocks total mdb)) (sparse old) (sparse new)
+    agree = each-same old new grown (needed_of_file mdb (extents_file_blocks total mdb)) has
 
-  module _ (extents : List Extent) (file : FileBlocks) (all : extents ≡ catalog_file_extents total (sparse old) mdb) (is : file ≡ file_blocks total mdb extents) where
-    extents-now : extents ≡ catalog_file_extents total (sparse new) mdb
-    extents-now = all ∙ sym (file-extents-same total (sparse old) (sparse new) mdb some agree)
+    module _ (extents : List Extent) (file : FileBlocks) (all : extents ≡ catalog_file_extents total (sparse old) mdb) (is : file ≡ file_blocks total mdb extents) where
+      extents-now : extents ≡ catalog_file_extents total (sparse new) mdb
+      extents-now = all ∙ sym (file-extents-same total (sparse old) (sparse new) mdb some agree)
 
-    file-now : file ≡ catalog_file_blocks total (sparse new) mdb
-    file-now = is ∙ ap (file_blocks total mdb) extents-now
+      file-now : file ≡ catalog_file_blocks total (sparse new) mdb
+      file-now = is ∙ ap (file_blocks total mdb) extents-now
 
-    pub files-read : HasEach new (needed_of_file mdb file) → HasEach new (needed_of_files total (sparse new) mdb)
-    files-read catalog =
-        each-append (λ k. IsSome (changes new k)) (needed_of_file mdb (extents_file_blocks total mdb)) (needed_of_file mdb (catalog_file_blocks total (sparse new) mdb))
-        (each-grown old new grown (needed_of_file mdb (extents_file_blocks total mdb)) has)
-        (subst (λ (bs : FileBlocks). HasEach new (needed_of_file mdb bs)) file-now catalog)
+      pub files-read : HasEach new (needed_of_file mdb file) → HasEach new (needed_of_files total (sparse new) mdb)
+      files-read catalog =
+          each-append (λ k. IsSome (changes new k)) (needed_of_file mdb (extents_file_blocks total mdb)) (needed_of_file mdb (catalog_file_blocks total (sparse new) mdb))
+          (each-grown old new grown (needed_of_file mdb (extents_file_blocks total mdb)) has)
+          (subst (λ (bs : FileBlocks). HasEach new (needed_of_file mdb bs)) file-now catalog)
 
-    pub elsewhere-read : looks_elsewhere (sparse new) mdb extents file ≡ is_elsewhere total (sparse new) mdb
-    elsewhere-read = λ i. looks_elsewhere (sparse new) mdb (extents-now i) (file-now i)
+      pub elsewhere-read : looks_elsewhere (sparse new) mdb extents file ≡ is_elsewhere total (sparse new) mdb
+      elsewhere-read = λ i. looks_elsewhere (sparse new) mdb (extents-now i) (file-now i)
 
 -- ---- all of them
 

@@ -1,5 +1,5 @@
 -- What is found of an image is the same where the needed blocks agree.
-use Rattle.std.proofs.Common.{◌≡◌, ℕ, ◌-◌, ◌≤◌, Bool, true, false, not, ◌&&◌, ◌==◌, cond, if◌then◌else◌, List, [], ◌∷◌, ◌++◌, map, Option, Some, None, refl, sym, ap, subst, ◌∙◌, arith}
+use Rattle.std.proofs.Common.{◌≡◌, ℕ, ◌-◌, ◌<◌, ◌≤◌, ⊎_elim, Bool, true, false, not, ◌&&◌, ◌==◌, cond, if◌then◌else◌, List, [], ◌∷◌, ◌++◌, map, Option, Some, None, refl, sym, ap, subst, ◌∙◌, arith}
 use Rattle.std.specs.Prelude.{find, nat_le}
 use Rattle.std.specs.Option.{option_map, option_map_or, option_or}
 use Rattle.std.proofs.lemmas.Bool.{and_parts, leb-true}
@@ -9,6 +9,7 @@ use Rattle.hfs_fields.specs.declared.extent.Extent.{Extent}
 use Rattle.hfs_node.specs.Node.{node_of}
 use Rattle.hfs_scans.specs.Each.{Each}
 use Rattle.hfs_scans.proofs.ElementLemmas.{each-left, each-right}
+use Rattle.hfs_scans.specs.Members.{In}
 use Rattle.hfs_scans.proofs.MemberLemmas.{found_in}
 use Rattle.hfs_space.specs.Forks.{blocks_each}
 use Rattle.hfs_check.specs.Faults.{is_block_size}
@@ -101,9 +102,11 @@ module _ (total : ℕ) (old new : Blocks) where
       where
         some-same : (a b : ℕ) → Some a ≡ Some b → a ≡ b
         some-same a b e = cc
+
         at-last : (s : Bool) → cond s (Some (total - 2)) None ≡ Some n → AgreeOn (needed_at total old n) old new
         at-last true e = subst (λ (k : ℕ). AgreeOn (needed_at total old k) old new) (some-same (total - 2) n e) last-agree
         at-last false e = cc
+
         by : (s : Bool) → serves total old Both 2 ≡ s → cond s (Some 2) (cond (serves total old Both (total - 2)) (Some (total - 2)) None) ≡ Some n → AgreeOn (needed_at total old n) old new
         by true first e = subst (λ (k : ℕ). AgreeOn (needed_at total old k) old new) (some-same 2 n e) first-agree
         by false first e = at-last (serves total old Both (total - 2)) e
@@ -115,6 +118,18 @@ will-do total blocks n is = (and_parts (will_do (mdb_at blocks n)) (has_beginnin
 
 pub size-some : (total : ℕ) (blocks : Blocks) (n : ℕ) → usual_directory total blocks ≡ Some n → 1 ≤ blocks_each (mdb_at blocks n)
 size-some total blocks n is = let size = size-right (mdb_at blocks n) (will-do total blocks n is) in omega (arith, size)
+
+-- its fields tell what an allocation block is, also where they were read elsewhere
+pub usual-size : (total : ℕ) (blocks : Blocks) (n : ℕ) (mdb : Mdb) → usual_directory total blocks ≡ Some n → mdb ≡ mdb_at blocks n → 512 ≤ mdb.allocation_block_size
+usual-size total blocks n mdb is fields = subst (λ (m : Mdb). 512 ≤ m.allocation_block_size) (sym fields) (size-right (mdb_at blocks n) (will-do total blocks n is))
+
+-- and it is one of the blocks
+pub usual-within : (total : ℕ) (blocks : Blocks) (n : ℕ) → 3 ≤ total → usual_directory total blocks ≡ Some n → n < total
+usual-within total blocks n some is =
+    ⊎_elim
+    (λ (first : 2 ≡ n). omega (arith, first, some))
+    (λ (rest : In n ((total - 2) ∷ [])). ⊎_elim (λ (last : total - 2 ≡ n). omega (arith, last, some)) (λ (none : ⊥). absurd none) rest)
+    (found_in (serves total blocks Both) (usual_places total) n is).0
 
 -- and is the directory
 pub directory-usual : (total : ℕ) (blocks : Blocks) (n : ℕ) → usual_directory total blocks ≡ Some n → directory_in total blocks ≡ Some n

@@ -1,6 +1,5 @@
 //! Reading the blocks of an image that are needed to find what there is of it.
-ghost use Rattle.std.specs.Prelude.{◌≡◌, ℕ, ◌+◌, ◌<◌, ◌≤◌, ◌^◌, Some, None, IfOk, OnOk, length, slice_index_or};
-ghost use Rattle.hfs_blocks.specs.Layers.{changes};
+ghost use Rattle.std.specs.Prelude.{◌≡◌, ◌+◌, ◌<◌, ◌≤◌, ◌^◌, true, if◌then◌else◌, Some, None, IfOk, OnOk, length, slice_index_or};
 ghost use Rattle.hfs_needed.specs.Gathered.{HasRead};
 ghost use Rattle.hfs_rescue.specs.Directory.{beginning_of};
 ghost use Rattle.hfs_rescue.specs.CatalogRecords.{looks_elsewhere};
@@ -260,6 +259,13 @@ fn fetch_files<S: BlockSource>(
     }
 }
 
+/// The directory, where no other blocks are looked at.
+fn unless(elsewhere: bool, directory: u32) -> Option<u32>
+    ensures { result ≡ (if elsewhere then None else Some directory) }
+{
+    if elsewhere { None } else { Some(directory) }
+}
+
 /// Reads the blocks of an image of `count` blocks that are needed to find what there is of it: those that tell which of the two blocks
 /// serves in which a directory belongs, and by that one those of both trees' files. Errors: a read failed, memory was refused.
 pub(crate) fn gather<S: BlockSource>(
@@ -281,6 +287,6 @@ pub(crate) fn gather<S: BlockSource>(
     };
     let mdb = read_mdb_at(&read.volume(count), n);
     let elsewhere = fetch_files(alloc, source, &mut read, count, &mdb)?;
-    let directory = if elsewhere { None } else { Some(n) };
+    let directory = unless(elsewhere, n);
     Ok(Gathered { read, directory })
 }
