@@ -26,7 +26,3 @@ pub first-viewer : (P : Known → Type 0) (viewings : List Viewing) (readers : L
     → ((v : Viewing) → P (get_or viewings 0 v).viewer) → P (get_or readers 0 d)
 first-viewer P [] readers d is some h = absurd (omega (arith, some))
 first-viewer P (v ∷ vs) readers d is some h = subst (λ (l : List Known). P (get_or l 0 d)) (sym is) (h v)
-
-pub some-viewer : (viewings : List Viewing) (readers : List Known) → readers ≡ map (λ (one : Viewing). one.viewer) viewings → 0 < length viewings → 0 < length readers
-some-viewer [] readers is some = absurd (omega (arith, some))
-some-viewer (v ∷ vs) readers is some = subst (λ (l : List Known). 0 < length l) (sym is) (omega arith)
