@@ -91,18 +91,18 @@ met_otherwise() {
 # What the word printed and wrote is what it does where no memory is refused.
 is_all_done() { [ "$got" = 0 ] && cmp -s "$folder/printed" "$folder/wanted" && cmp -s "$folder/file" "$folder/written"; }
 
-# It told want of memory, also for its words and for the name of a file beside FILE, printed nothing else, and left FILE.
+# It told want of memory, also for its words and for the name of a file beside FILE, and nothing else, and left FILE.
 is_told() {
-    case "$got $(< "$folder/errors")" in
+    case "$got $(< "$folder/printed")" in
         '5 out of memory' | '4 cannot write '* | '1 the words are not text') ;;
         *) return 1 ;;
     esac
-    [ ! -s "$folder/printed" ] && cmp -s "$folder/file" "$folder/old"
+    [ ! -s "$folder/errors" ] && [ "$(wc -l < "$folder/printed")" = 1 ] && cmp -s "$folder/file" "$folder/old"
 }
 
 # Some lines were not answered, all others as they are where no memory is refused, and what was written is a sound image.
 is_partly_answered() {
-    [ "$got" = 5 ] && [ ! -s "$folder/errors" ] && grep -q 'none' "$folder/printed" && [ "$("$tool" check "$folder/file")" = sound ] \
+    [ "$got" = 5 ] && [ ! -s "$folder/errors" ] && grep -q 'none' "$folder/printed" && [[ $("$tool" check "$folder/file") == sound* ]] \
         && ! grep -v $'\tnone\t-$' "$folder/printed" | grep -qvxFf "$folder/wanted"
 }
 
@@ -134,7 +134,7 @@ refuse_each_of_words() {
     echo old > "$folder/old"
     cp "$folder/old" "$folder/file"
     refuse_each_of_word repair "$folder/image" "$folder/file"
-    printf '1\tcreate\t2\tNew\n1\tread\t17\ts4\tdata\t0\t6000\n1\trename\t17\ts4\tOther\n1\tread\t17\tOther\tdata\t5\t6000\nv1\tread\t19\tm2\tdata\t0\t30000\n' > "$folder/script"
+    printf '1\tcreate\t2\tNew\n1\tread\t17\ts3\tdata\t0\t1500\n1\trename\t17\ts3\tOther\n1\tread\t17\tOther\tdata\t5\t1500\nv1\tread\t19\tm2\tdata\t0\t30000\n' > "$folder/script"
     refuse_each_of_word run tests/volumes/hfsutils-800k.img "$folder/script" --out "$folder/file"
 }
 
