@@ -1,4 +1,4 @@
-use Rattle.hfs_runs.proofs.running.run_volume_at.Given as goal
+use Rattle.hfs_runs.proofs.running.run_lines.Given as goal
 
 -- the parts that were just made
 abbrev pub ghosts-run_shared : goal.ghosts-run_shared
