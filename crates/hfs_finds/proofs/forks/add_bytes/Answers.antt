@@ -1,5 +1,5 @@
 -- The bytes between both ends.
-use Rattle.std.proofs.Common.{◌∙◌, ◌+◌, ◌-◌, ℕ, ◌++◌, ap, take, drop}
+use Rattle.std.proofs.Common.{◌∙◌, ℕ, ◌++◌, ap, take, drop}
 use Rattle.std.proofs.Math.Nat.{add-sub_cancel_left}
 use Rattle.hfs_finds.proofs.forks.add_bytes.Goals as goal
 
