@@ -1,24 +1,21 @@
 -- What is found by the needed blocks of an image is what is found of the image, where its bytes are known.
 use Rattle.std.proofs.Common.{◌≡◌, ⊎_elim, ℕ, ◌/◌, ◌≤◌, ◌<◌, Bool, true, false, if◌then◌else◌, List, length, Option, Some, None, refl, sym, ap, subst, ◌∙◌}
-use Rattle.std.specs.Option.{is_none, option_map, option_or}
+use Rattle.std.specs.Option.{is_none, option_map}
 use Rattle.hfs_fields.specs.declared.mdb.Mdb.{Mdb}
 use Rattle.hfs_blocks.specs.Blocks.{block_at, block_count}
-use Rattle.hfs_blocks.specs.Layers.{Numbered}
 use Rattle.std.proofs.lemmas.Bool.{cases_lt}
 use Rattle.hfs_check.specs.declared.mount_fault.MountFault.{MountFault}
 use Rattle.hfs_check.specs.declared.mount_fault.MountFault.TheVariants as fault
 use Rattle.hfs_check.specs.Faults.{length_fault}
 use Rattle.hfs_check.specs.Parts.{Blocks}
-use Rattle.hfs_needed.specs.Gathered.{IsOfKnown}
 use Rattle.hfs_needed.specs.Known.{OfKnown}
-use Rattle.hfs_needed.specs.Needed.{AgreeOn}
 use Rattle.hfs_needed.proofs.Reported.{length-large, length-short}
-use Rattle.hfs_sparse.specs.Sparse.{HasEach, IsOf, sparse}
+use Rattle.hfs_sparse.specs.Sparse.{sparse}
 use Rattle.hfs_sparse.proofs.SparseLemmas.{each-of}
 use Rattle.hfs_rescue.specs.Directory.{directory_in, directory_of, mdb_at, usual_directory}
 use Rattle.hfs_finds.specs.declared.finds.Finds.{Finds}
 use Rattle.hfs_finds.specs.declared.gathering.Gathered.{Gathered}
-use Rattle.hfs_finds.specs.Finds.{AreFinds, AreFindsBy, IsFoundIn}
+use Rattle.hfs_finds.specs.Finds.{AreFindsBy, IsFoundIn}
 use Rattle.hfs_finds.specs.Needed.{AreFound, FindSame, needed_of_finds, wants_all}
 use Rattle.hfs_finds.specs.NeededFinds.{IsGathered}
 use Rattle.hfs_finds.proofs.GatherLemmas.{none-wants}

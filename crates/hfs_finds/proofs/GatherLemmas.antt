@@ -1,5 +1,5 @@
 -- What was read of an image are its needed blocks, found by those that were read before.
-use Rattle.std.proofs.Common.{◌≡◌, ℕ, zero, suc, ◌+◌, ◌-◌, ◌*◌, ◌<◌, ◌≤◌, Bool, true, List, [], ◌∷◌, ◌++◌, length, Option, Some, None, IsSome, slice_index_or, refl, sym, ap, subst, ◌∙◌, arith, ⊎_elim}
+use Rattle.std.proofs.Common.{◌≡◌, ℕ, zero, suc, ◌+◌, ◌-◌, ◌*◌, ◌<◌, ◌≤◌, Bool, true, List, [], ◌∷◌, length, Option, Some, None, IsSome, slice_index_or, sym, ap, subst, ◌∙◌, arith, ⊎_elim}
 use Rattle.std.specs.List.{range_with_len}
 use Rattle.std.proofs.Math.Nat.{suc-mul, add-mul, mul-le-mul_right}
 use Rattle.std.proofs.lemmas.Bool.{cases_lt}
@@ -22,8 +22,8 @@ use Rattle.hfs_rescue.specs.Remains.{catalog_file_blocks, catalog_file_extents, 
 use Rattle.hfs_rescue.specs.TreeFiles.{FileBlocks, file_blocks}
 use Rattle.hfs_finds.specs.FileReads.{HasPlaces, LieBeside}
 use Rattle.hfs_finds.specs.Needed.{blocks_of_place, is_elsewhere, is_elsewhere_by, listed, needed_at, needed_by, needed_of_file, needed_of_files, needed_of_finds, needed_of_places, needed_of_trees, wants_all}
-use Rattle.hfs_finds.proofs.SameFiles.{file-extents-same, file-same}
-use Rattle.hfs_finds.proofs.SameFinds.{fields-same, needed_at-same, place-agree, places-same, size-some, usual-same}
+use Rattle.hfs_finds.proofs.SameFiles.{file-extents-same}
+use Rattle.hfs_finds.proofs.SameFinds.{fields-same, needed_at-same, place-agree, places-same, usual-same}
 
 -- ---- a directory
 

@@ -1,13 +1,12 @@
 -- What is found of an image is the same where the needed blocks agree.
 use Rattle.std.proofs.Common.{◌≡◌, ℕ, ◌-◌, ◌<◌, ◌≤◌, ⊎_elim, Bool, true, false, not, ◌&&◌, ◌==◌, cond, if◌then◌else◌, List, [], ◌∷◌, ◌++◌, map, Option, Some, None, refl, sym, ap, subst, ◌∙◌, arith}
 use Rattle.std.specs.Prelude.{find, nat_le}
-use Rattle.std.specs.Option.{option_map, option_map_or, option_or}
+use Rattle.std.specs.Option.{option_map, option_or}
 use Rattle.std.proofs.lemmas.Bool.{and_parts, leb-true}
 use Rattle.hfs_fields.specs.Mdb.{mdb_in_block}
 use Rattle.hfs_fields.specs.declared.mdb.Mdb.{Mdb}
 use Rattle.hfs_fields.specs.declared.extent.Extent.{Extent}
 use Rattle.hfs_node.specs.Node.{node_of}
-use Rattle.hfs_scans.specs.Each.{Each}
 use Rattle.hfs_scans.proofs.ElementLemmas.{each-left, each-right}
 use Rattle.hfs_scans.specs.Members.{In}
 use Rattle.hfs_scans.proofs.MemberLemmas.{found_in}
@@ -23,8 +22,8 @@ use Rattle.hfs_rescue.specs.Items.{items_of}
 use Rattle.hfs_rescue.specs.declared.directory.Beginning.TheVariants.{Both, Catalog, Neither}
 use Rattle.hfs_finds.specs.declared.finds.Finds.{Finds}
 use Rattle.hfs_finds.specs.Finds.{AreFindsBy, is_unsure_by}
-use Rattle.hfs_finds.specs.Needed.{AreFound, FindSame, NeededFindSame, is_elsewhere, is_elsewhere_by, listed, needed_at, needed_by, needed_of_files, needed_of_finds, needed_of_places, needed_of_trees, wants_all}
-use Rattle.hfs_finds.proofs.SameFiles.{extents-agree, file-same, files-same, is_elsewhere-same, is_right-same, remaining-same, remains-same}
+use Rattle.hfs_finds.specs.Needed.{AreFound, FindSame, is_elsewhere, is_elsewhere_by, listed, needed_at, needed_by, needed_of_files, needed_of_finds, needed_of_places, needed_of_trees, wants_all}
+use Rattle.hfs_finds.proofs.SameFiles.{extents-agree, file-same, is_elsewhere-same, is_right-same, remaining-same, remains-same}
 
 -- ---- a directory
 

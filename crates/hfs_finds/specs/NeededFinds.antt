@@ -1,7 +1,6 @@
 -- What is found of an image by the blocks that are needed.
-use Rattle.std.specs.Prelude.{◌≡◌, ℕ, Bool, true, false, if◌then◌else◌, List, Option, None}
+use Rattle.std.specs.Prelude.{◌≡◌, ℕ, true, if◌then◌else◌, List, Option, None}
 use Rattle.hfs_blocks.specs.Blocks.{block_at, block_count}
-use Rattle.hfs_blocks.specs.Layers.{Numbered}
 use Rattle.hfs_needed.specs.Gathered.{IsOfKnown}
 use Rattle.hfs_needed.specs.Known.{OfKnown}
 use Rattle.hfs_rescue.specs.Directory.{usual_directory}

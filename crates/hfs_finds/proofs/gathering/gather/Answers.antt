@@ -1,10 +1,8 @@
 -- By the directory that was read in its place.
-use Rattle.std.proofs.Common.{◌≡◌, ℕ, Bool, true, if◌then◌else◌, Option, None, Some, sym, ap, ◌∙◌, rules}
-use Rattle.hfs_blocks.specs.Layers.{Numbered}
+use Rattle.std.proofs.Common.{◌≡◌, Bool, if◌then◌else◌, None, Some, sym, ap, ◌∙◌, rules}
 use Rattle.hfs_rescue.specs.Directory.{mdb_at, usual_directory}
 use Rattle.hfs_sparse.specs.Sparse.{sparse}
 use Rattle.hfs_needed.proofs.Gathered.{reads-on, reads-start}
-use Rattle.hfs_finds.specs.Needed.{wants_all}
 use Rattle.hfs_finds.proofs.GatherLemmas.{all-read, none-read, none-wants, usual-read, wants-read}
 use Rattle.hfs_finds.proofs.gathering.gather.Goals as goal
 
