@@ -1,5 +1,5 @@
 -- Things that are read from bytes.
-use Rattle.std.proofs.Common.{◌≡◌, ◌⊎◌, ℕ, zero, suc, ◌+◌, ◌^◌, ◌<◌, ◌≤◌, Bool, true, false, cond, ◌&&◌, ◌||◌, ◌==◌, not, if◌then◌else◌, List, [], ◌∷◌, ◌++◌, map, take, length, length-append, Option, Some, None, refl, sym, ap, subst, ◌∙◌, arith, inl, inr}
+use Rattle.std.proofs.Common.{◌≡◌, ◌⊎◌, ℕ, zero, suc, ◌+◌, ◌^◌, ◌<◌, ◌≤◌, Bool, true, false, ◌&&◌, ◌||◌, ◌==◌, not, if◌then◌else◌, List, [], ◌∷◌, ◌++◌, map, take, length, length-append, Option, Some, None, refl, sym, ap, subst, ◌∙◌, arith, inl, inr}
 use Rattle.std.specs.Prelude.{count_by, nat_lt}
 use Rattle.std.specs.List.{range_with_len}
 use Rattle.std.specs.Option.{is_some, option_map_or, option_or, option_to_list, unwrap_or}
@@ -25,7 +25,7 @@ use Rattle.hfs_rescue.proofs.LawTypes.{AreBytes, IsReadDirectory, IsReadRecord}
 use Rattle.hfs_rescue.proofs.LawsProved.{directories_are_read, items_are_counted, records_are_read, sound_catalog_is_found, sound_items_are_found}
 use Rattle.hfs_rescue.proofs.ReadLemmas.{items-each}
 use Rattle.hfs_places.specs.declared.things.Thing.{Thing}
-use Rattle.hfs_places.specs.Folders.{is_folder_of, nothing, place_of, thing_at}
+use Rattle.hfs_places.specs.Folders.{is_folder_of, nothing, place_of}
 use Rattle.hfs_places.specs.Things.{is_taken, named_behind, things_of, with_named, with_numbered}
 use Rattle.hfs_places.proofs.FolderLemmas.{place_of-push}
 use Rattle.hfs_places.proofs.LawTypes.{AreThings, IsThing}

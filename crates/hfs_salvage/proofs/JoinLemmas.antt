@@ -1,5 +1,5 @@
 -- The payload of what remains of a sound image is the payload of its volume.
-use Rattle.std.proofs.Common.{inl, inr, ℕ, ◌-◌, List, ◌∷◌, codes}
+use Rattle.std.proofs.Common.{inl, inr, ℕ, List, ◌∷◌, codes}
 use Rattle.std.specs.Prelude.{◌↔◌}
 use Rattle.hfs_bag.specs.Bags.{items_entries, payload}
 use Rattle.hfs_scans.specs.Members as scans

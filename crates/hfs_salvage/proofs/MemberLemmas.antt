@@ -1,5 +1,5 @@
 -- One list's members by both words for them.
-use Rattle.std.proofs.Common.{inl, inr, ◌-◌, List, [], ◌∷◌}
+use Rattle.std.proofs.Common.{inl, inr, List, [], ◌∷◌}
 use Rattle.hfs_scans.specs.Members as scans
 use Rattle.hfs_model.proofs.Members.{In}
 

@@ -1,5 +1,5 @@
 -- What `take` gives, `rescue` gives.
-use Rattle.std.proofs.Common.{◌≡◌, ◌⊎◌, ⊎_elim, ℕ, ◌+◌, ◌-◌, ◌≤◌, true, false, List, ◌++◌, map, length, codes, Some, refl, sym, ap, subst, ◌∙◌, arith}
+use Rattle.std.proofs.Common.{◌≡◌, ⊎_elim, ℕ, ◌≤◌, true, false, List, ◌++◌, map, length, codes, Some, refl, sym, ap, subst, ◌∙◌, arith}
 use Rattle.hfs_bag.specs.declared.item.BagKind.{BagKind}
 use Rattle.hfs_bag.specs.Bags.{items_entries}
 use Rattle.hfs_bag.specs.Items.{BagItem, entries_of_kind, folder_entry, item_entries}

@@ -1,5 +1,5 @@
 -- those that came and those of the blocks that are left are all
-use Rattle.std.proofs.Common.{◌≡◌, ◌+◌, ◌++◌, drop}
+use Rattle.std.proofs.Common.{◌≡◌, ◌++◌, drop}
 use Rattle.hfs_remains.specs.ForkBytes.{fork_bytes}
 use Rattle.hfs_finds.proofs.forks.add_fork.Given as goal
 
