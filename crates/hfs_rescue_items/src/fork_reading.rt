@@ -58,6 +58,7 @@ fn fill_zeros(piece: &mut Vec<u8>, len: usize) -> Result<(), SourceFault>
 }
 
 /// Reads so many bytes from the beginning of a logical block on in the place of a piece. Their blocks are read whole.
+#[tactic(auto, using(crate::proofs::ReadLemmas::blocks_read))]
 fn fill_blocks<S: BlockSource>(
     source: &mut S,
     first: u32,
@@ -97,7 +98,7 @@ fn fill_piece<S: BlockSource>(
 }
 
 /// Reads the next bytes of a fork, at most 65,536, in the place of a piece, and none where none are left.
-#[tactic(auto, using(crate::proofs::ReadLemmas::reads_none, crate::proofs::ReadLemmas::reads_piece))]
+#[tactic(auto, using(crate::proofs::ReadLemmas::reads_none))]
 pub(crate) fn read_fork<S: BlockSource>(
     source: &mut S,
     fork: &mut ForkReading,
@@ -112,8 +113,10 @@ pub(crate) fn read_fork<S: BlockSource>(
         piece.clear();
         return Ok(());
     }
-    let next = fork.pieces[fork.next];
-    fill_piece(source, next, piece)?;
+    let Some(next) = fork.pieces.get(fork.next) else {
+        return Err(SourceFault::ReadFailed);
+    };
+    fill_piece(source, *next, piece)?;
     fork.next += 1;
     Ok(())
 }

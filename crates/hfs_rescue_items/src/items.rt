@@ -44,11 +44,13 @@ fn open_fork<'a>(
     let Ok(part) = part_fork(alloc, found, planned, kind) else {
         return Err(SourceFault::Memory);
     };
-    let Some(fork) = part else {
-        return Ok(Reading::Fork(empty_fork(alloc)));
-    };
-    let reading = begin_fork(alloc, found.mdb, &fork)?;
-    Ok(Reading::Fork(reading))
+    match part {
+        Some(fork) => {
+            let reading = begin_fork(alloc, found.mdb, &fork)?;
+            Ok(Reading::Fork(reading))
+        }
+        None => Ok(Reading::Fork(empty_fork(alloc))),
+    }
 }
 
 /// The lines of all items.
