@@ -58,7 +58,6 @@ fn fill_zeros(piece: &mut Vec<u8>, len: usize) -> Result<(), SourceFault>
 }
 
 /// Reads so many bytes from the beginning of a logical block on in the place of a piece. Their blocks are read whole.
-#[tactic(auto, using(crate::proofs::ReadLemmas::blocks_read))]
 fn fill_blocks<S: BlockSource>(
     source: &mut S,
     first: u32,

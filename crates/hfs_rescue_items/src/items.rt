@@ -118,7 +118,7 @@ impl<S: BlockSource> BagSource for RescueItems<'_, S> {
         Ok(())
     }
 
-    #[tactic(auto, using(crate::proofs::SourceLemmas::has_item, crate::proofs::SourceLemmas::has_no_item))]
+    #[tactic(auto, using(crate::proofs::SourceLemmas::has_no_item))]
     fn next_item(&mut self) -> Result<Option<BagHead>, SourceFault> {
         if self.next >= self.plan.len() {
             return Ok(None);

@@ -87,7 +87,6 @@ fn first_behind(first: Option<u32>, len: u32) -> Result<Option<u32>, SourceFault
 }
 
 /// Appends so many bytes that begin in this logical block, or are missing.
-#[tactic(auto, using(crate::proofs::PieceLemmas::parts_whole))]
 fn push_run(pieces: &mut Vec<Piece>, first: Option<u32>, count: u32) -> Result<(), SourceFault>
     ensures { (image : List ℕ) → OnOk result (pieces_bytes image pieces.new.items
         ≡ pieces_bytes image pieces.old.items ++ first_bytes image first count) }

@@ -5,8 +5,8 @@ use Rattle.hfs_rescue_items.specs.Sources.{part_bytes}
 use Rattle.hfs_rescue_items.proofs.SourceLemmas.{fork_begun, none_begun}
 use Rattle.hfs_rescue_items.proofs.items.open_fork.Goals as goal
 
-pub returns-in-Some : goal.returns-in-Some
-returns-in-Some c image =
+pub returns-in_ok-reading-in-Some : goal.returns-in_ok-reading-in-Some
+returns-in_ok-reading-in-Some c image =
     let bytes = part_bytes image c.args.found.now c.args.kind c.args.planned in
     fork_begun image c.args.found.now bytes _ c.in-Some.fork (subst (GivesBytes image c.args.found.now bytes) c.in-Some.is (c.in-Ok.ensures image)) (c.in_ok-reading.ensures image)
 
