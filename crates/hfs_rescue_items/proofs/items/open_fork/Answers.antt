@@ -8,7 +8,7 @@ use Rattle.hfs_rescue_items.proofs.items.open_fork.Goals as goal
 pub returns-in_ok-reading-in-Some : goal.returns-in_ok-reading-in-Some
 returns-in_ok-reading-in-Some c image =
     let bytes = part_bytes image c.args.found.now c.args.kind c.args.planned in
-    fork_begun image c.args.found.now bytes _ c.in-Some.fork (subst (GivesBytes image c.args.found.now bytes) c.in-Some.is (c.in-Ok.ensures image)) (c.in_ok-reading.ensures image)
+    fork_begun image c.args.found.now bytes _ c.in-Some.fork (subst (GivesBytes image c.args.found.now bytes) c.in-Some.is (c.in-Ok.ensures image)) (c.in_ok-reading-in-Some.ensures image)
 
 pub returns-in-None : goal.returns-in-None
 returns-in-None c image =
