@@ -1,7 +1,7 @@
 -- What the calls of a source make of its state.
-use Rattle.std.proofs.Common.{◌≡◌, ◌≤◌, ◌<◌, ◌+◌, ℕ, List, [], ◌∷◌, ◌++◌, drop, length, map, slice_index_or, take, Option, refl, sym, ap, subst, ◌∙◌}
+use Rattle.std.proofs.Common.{◌≡◌, ◌≤◌, ◌<◌, ◌+◌, ℕ, Bool, true, false, if◌then◌else◌, Some, None, List, [], ◌∷◌, ◌++◌, drop, length, map, slice_index_or, take, Option, refl, sym, ap, subst, ◌∙◌}
 use Rattle.std.specs.Prelude.{string_bytes}
-use Rattle.std.specs.Option.{is_some}
+use Rattle.std.specs.Option.{is_some, option_map_or}
 use Rattle.std.proofs.lemmas.List.{drop_all, drop_more}
 use Rattle.hfs_bag.specs.declared.item.BagHead.{BagHead}
 use Rattle.hfs_bag.specs.declared.source.Stream.{Stream}
@@ -9,7 +9,11 @@ use Rattle.hfs_bag.specs.declared.source.Stream.TheVariants as stream
 use Rattle.hfs_bag.specs.Items.{IsHead}
 use Rattle.hfs_bag.specs.Sources.{HasItem, HasNoItem, HasOpened, HasRead, HasRestarted, stream_bytes}
 use Rattle.hfs_remains.specs.declared.findings.FoundFork.{FoundFork}
+use Rattle.hfs_remains.specs.declared.shares.FileShares.{FileShares}
 use Rattle.hfs_remains.specs.ForkBytes.{fork_bytes}
+use Rattle.hfs_remains.specs.Verdicts.{fork_share, shares_at}
+use Rattle.hfs_remains.proofs.ForkByteLemmas.{length-share_bytes}
+use Rattle.hfs_space.specs.declared.fork_kind.ForkKind.{ForkKind}
 use Rattle.hfs_space.specs.declared.fork_kind.ForkKind.TheVariants.{Data, Resource}
 use Rattle.hfs_table.specs.Lines.{csv_head}
 use Rattle.hfs_rescue_items.specs.declared.came.Came.{Came}
@@ -17,10 +21,32 @@ use Rattle.hfs_rescue_items.specs.declared.found.Found.{Found}
 use Rattle.hfs_rescue_items.specs.declared.plan.Planned.{Planned}
 use Rattle.hfs_rescue_items.specs.declared.reading.Lines.{Lines}
 use Rattle.hfs_rescue_items.specs.declared.reading.Reading.{Reading}
-use Rattle.hfs_rescue_items.specs.Bytes.{HasBytes, image_in}
+use Rattle.hfs_rescue_items.specs.Bytes.{HasBytes, bytes_by, image_in, taken_bytes}
 use Rattle.hfs_rescue_items.specs.Lines.{item_line, lines_of, remains_line, remains_text, table_text}
 use Rattle.hfs_rescue_items.specs.Reading.{Reads, lines_rest, reading_rest}
-use Rattle.hfs_rescue_items.specs.Sources.{above_of, came_item, finder_told, item_with, name_of, part_bytes, part_stream, part_told, planned_item, source_of}
+use Rattle.hfs_rescue_items.specs.Sources.{above_of, came_item, finder_told, is_alone, item_with, name_of, part_bytes, part_stream, part_told, planned_item, source_of}
+
+-- ---- lengths
+
+length-taken : (image other : List ℕ) (found : Found) (kind : ForkKind) (i : ℕ) → length (taken_bytes image found kind i) ≡ length (taken_bytes other found kind i)
+unfolding taken_bytes
+length-taken image other found kind i = by (shares_at found.salvage.now i)
+  where
+    by : (o : Option FileShares) → length (option_map_or (λ (file : FileShares). bytes_by image found.salvage.now.trees (fork_share kind file)) o [])
+        ≡ length (option_map_or (λ (file : FileShares). bytes_by other found.salvage.now.trees (fork_share kind file)) o [])
+    by None = refl
+    by (Some file) =
+        length-share_bytes image found.salvage.now.trees.total found.salvage.now.trees.overflow.now found.salvage.now.trees.mdb.now (fork_share kind file)
+        ∙ sym (length-share_bytes other found.salvage.now.trees.total found.salvage.now.trees.overflow.now found.salvage.now.trees.mdb.now (fork_share kind file))
+
+length-part : (image other : List ℕ) (found : Found) (kind : ForkKind) (planned : Planned) → length (part_bytes image found kind planned) ≡ length (part_bytes other found kind planned)
+length-part image other found kind planned = by (is_alone planned.kind)
+  where
+    by : (b : Bool) → length (if b then [] else taken_bytes image found kind planned.place) ≡ length (if b then [] else taken_bytes other found kind planned.place)
+    by true = refl
+    by false = length-taken image other found kind planned.place
+
+-- ---- streams that are begun
 
 module _ (image : List ℕ) (found : Found) where
   -- a fork that was found and begun
@@ -90,17 +116,18 @@ module _ (known : Option (List ℕ)) (found : Found) (plan : List Planned) where
   abbrev image : List ℕ
   image = image_in known
 
-  head-of : (head : BagHead) (came : Came) (planned : Planned) → came.planned ≡ planned → IsHead head (planned_item image found planned) → IsHead head (came_item image found came)
+  -- how many bytes a fork has no image decides
+  head-of : (head : BagHead) (came : Came) (planned : Planned) → came.planned ≡ planned → IsHead head (planned_item [] found planned) → IsHead head (came_item image found came)
   head-of head came planned same told = record {
     kind_is = told.kind_is ∙ ap (λ (p : Planned). p.kind) (sym same);
     finder_is = told.finder_is ∙ ap (λ (p : Planned). finder_told (part_told found p)) (sym same);
-    data_is = told.data_is ∙ ap (λ (p : Planned). length (part_bytes image found Data p)) (sym same);
-    resource_is = told.resource_is ∙ ap (λ (p : Planned). length (part_bytes image found Resource p)) (sym same);
+    data_is = told.data_is ∙ length-part [] image found Data planned ∙ ap (λ (p : Planned). length (part_bytes image found Data p)) (sym same);
+    resource_is = told.resource_is ∙ length-part [] image found Resource planned ∙ ap (λ (p : Planned). length (part_bytes image found Resource p)) (sym same);
   }
 
   pub has_item : (next : ℕ) (came came' : Came) (reading : Reading) (head : BagHead) (planned : Planned) → next < length plan → planned ≡ slice_index_or plan next planned
       → string_bytes came'.above ≡ above_of found planned → string_bytes came'.name ≡ name_of found planned → came'.planned ≡ planned
-      → ((image : List ℕ) → IsHead head (planned_item image found planned))
+      → IsHead head (planned_item [] found planned)
       → HasItem head (source_of known found plan next came reading) (source_of known found plan (next + 1) came' reading)
   has_item next came came' reading head planned within is above name planned_is told = record {
     known = refl;
@@ -109,5 +136,5 @@ module _ (known : Option (List ℕ)) (found : Found) (plan : List Planned) where
     left = ap (map (planned_item image found)) (drop_more plan next planned within)
         ∙ ap (λ (p : Planned). planned_item image found p ∷ map (planned_item image found) (drop (next + 1) plan)) (sym is)
         ∙ (λ i. item_with image found (sym above i) (sym name i) (sym planned_is i) ∷ map (planned_item image found) (drop (next + 1) plan));
-    told = λ is. head-of head came' planned planned_is (told image);
+    told = λ is. head-of head came' planned planned_is told;
   }

@@ -2,6 +2,7 @@
 ghost use Rattle.std.specs.Prelude.{◌≡◌, ◌*◌, ◌≤◌, ℕ, List, [], drop, length, replicate, IfOk, IfSome, OnOk};
 ghost use Rattle.std.specs.Option.{is_some};
 ghost use Rattle.hfs_remains.specs.ForkBytes.{filled, fork_bytes};
+ghost use Rattle.hfs_sparse.specs.Sparse.{HoldsFrom};
 ghost use Rattle.hfs_rescue_items.specs.Bytes.{image_in, piece_bytes};
 ghost use Rattle.hfs_rescue_items.specs.Reading.{Reads, fork_rest};
 
@@ -57,6 +58,26 @@ fn fill_zeros(piece: &mut Vec<u8>, len: usize) -> Result<(), SourceFault>
     }
 }
 
+/// Reads so many bytes of the blocks from number `first` on in the place of a piece.
+fn fill_whole<S: BlockSource>(
+    source: &mut S,
+    first: u32,
+    len: usize,
+    piece: &mut Vec<u8>,
+) -> Result<(), SourceFault>
+    ensures read { OnOk result (HoldsFrom (S.image source.old) (512 * first) piece.new.items) }
+    ensures len { OnOk result (length piece.new.items ≡ len) }
+    ensures image { S.image source.new ≡ S.image source.old }
+{
+    let Ok(()) = piece.resize(len, 0) else {
+        return Err(SourceFault::Memory);
+    };
+    match source.read_blocks(first, piece.as_mut_slice()) {
+        Ok(()) => Ok(()),
+        Err(_) => Err(SourceFault::ReadFailed),
+    }
+}
+
 /// Reads so many bytes from the beginning of a logical block on in the place of a piece. Their blocks are read whole.
 fn fill_blocks<S: BlockSource>(
     source: &mut S,
@@ -71,10 +92,7 @@ fn fill_blocks<S: BlockSource>(
     ensures image { S.image source.new ≡ S.image source.old }
 {
     let blocks = len.div_ceil(512) as usize;
-    fill_zeros(piece, blocks * 512)?;
-    let Ok(()) = source.read_blocks(first, piece.as_mut_slice()) else {
-        return Err(SourceFault::ReadFailed);
-    };
+    fill_whole(source, first, blocks * 512, piece)?;
     piece.truncate(len as usize);
     Ok(())
 }
@@ -97,7 +115,7 @@ fn fill_piece<S: BlockSource>(
 }
 
 /// Reads the next bytes of a fork, at most 65,536, in the place of a piece, and none where none are left.
-#[tactic(auto, using(crate::proofs::ReadLemmas::reads_none, crate::proofs::ReadLemmas::reads_piece))]
+#[tactic(auto, using(crate::proofs::ReadLemmas::reads_none))]
 pub(crate) fn read_fork<S: BlockSource>(
     source: &mut S,
     fork: &mut ForkReading,
@@ -112,8 +130,10 @@ pub(crate) fn read_fork<S: BlockSource>(
         piece.clear();
         return Ok(());
     }
-    let next = fork.pieces[fork.next];
-    fill_piece(source, next, piece)?;
+    let Some(next) = fork.pieces.get(fork.next) else {
+        return Err(SourceFault::ReadFailed);
+    };
+    fill_piece(source, *next, piece)?;
     fork.next += 1;
     Ok(())
 }

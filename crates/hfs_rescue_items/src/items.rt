@@ -44,11 +44,13 @@ fn open_fork<'a>(
     let Ok(part) = part_fork(alloc, found, planned, kind) else {
         return Err(SourceFault::Memory);
     };
-    let Some(fork) = part else {
-        return Ok(Reading::Fork(empty_fork(alloc)));
-    };
-    let reading = begin_fork(alloc, found.mdb, &fork)?;
-    Ok(Reading::Fork(reading))
+    match part {
+        Some(fork) => {
+            let reading = begin_fork(alloc, found.mdb, &fork)?;
+            Ok(Reading::Fork(reading))
+        }
+        None => Ok(Reading::Fork(empty_fork(alloc))),
+    }
 }
 
 /// The lines of all items.
@@ -116,7 +118,7 @@ impl<S: BlockSource> BagSource for RescueItems<'_, S> {
         Ok(())
     }
 
-    #[tactic(auto, using(crate::proofs::SourceLemmas::has_item, crate::proofs::SourceLemmas::has_no_item))]
+    #[tactic(auto, using(crate::proofs::SourceLemmas::has_no_item))]
     fn next_item(&mut self) -> Result<Option<BagHead>, SourceFault> {
         if self.next >= self.plan.len() {
             return Ok(None);

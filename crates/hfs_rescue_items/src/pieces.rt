@@ -87,7 +87,6 @@ fn first_behind(first: Option<u32>, len: u32) -> Result<Option<u32>, SourceFault
 }
 
 /// Appends so many bytes that begin in this logical block, or are missing.
-#[tactic(auto, using(crate::proofs::PieceLemmas::part_more, crate::proofs::PieceLemmas::parts_whole))]
 fn push_run(pieces: &mut Vec<Piece>, first: Option<u32>, count: u32) -> Result<(), SourceFault>
     ensures { (image : List ℕ) → OnOk result (pieces_bytes image pieces.new.items
         ≡ pieces_bytes image pieces.old.items ++ first_bytes image first count) }
@@ -99,7 +98,8 @@ fn push_run(pieces: &mut Vec<Piece>, first: Option<u32>, count: u32) -> Result<(
         let Ok(()) = push_part(pieces, next, len) else {
             return Err(SourceFault::Memory);
         };
-        next = first_behind(next, len)?;
+        let behind = first_behind(next, len)?;
+        next = behind;
         left -= len;
     }
     Ok(())
@@ -121,7 +121,6 @@ fn first_of(mdb: &Mdb, place: Option<u16>) -> Result<Option<u32>, SourceFault>
 }
 
 /// Appends the first bytes of the block at a place of a fork, so many.
-#[tactic(auto, using(crate::proofs::PieceLemmas::place_first))]
 fn push_place(
     pieces: &mut Vec<Piece>,
     mdb: &Mdb,
@@ -137,7 +136,7 @@ fn push_place(
 }
 
 /// So many bytes of a fork in these blocks, in pieces. Errors: memory was refused; a block lies behind all that can be read.
-#[tactic(auto, using(hfs_remains::proofs::ForkByteLemmas::fork_more, hfs_remains::proofs::ForkByteLemmas::fork_whole))]
+#[tactic(auto, using(hfs_remains::proofs::ForkByteLemmas::fork_whole))]
 pub(crate) fn pieces_of(
     alloc: Global,
     mdb: &Mdb,

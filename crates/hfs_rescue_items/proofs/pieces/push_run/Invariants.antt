@@ -5,7 +5,7 @@ use Rattle.hfs_rescue_items.proofs.pieces.push_run.Given as goal
 
 abbrev pub invariant-loop-left : goal.invariant-loop-left
 invariant-loop-left l = (image : List ℕ)
-    → pieces_bytes image l.pieces.items ++ first_bytes image l.next l.left ≡ pieces_bytes image l.fn.pieces.items ++ first_bytes image l.first l.count
+    → pieces_bytes image l.pieces.items ++ first_bytes image l.next l.left ≡ pieces_bytes image l.fn.pieces.items ++ first_bytes image l.fn.first l.count
 
 abbrev pub decreases-loop-left : goal.decreases-loop-left
 decreases-loop-left l = l.left

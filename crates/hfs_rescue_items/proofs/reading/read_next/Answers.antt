@@ -9,8 +9,8 @@ use Rattle.hfs_rescue_items.specs.Reading.{Reads, lines_rest, reading_rest}
 use Rattle.hfs_rescue_items.proofs.LineLemmas.{head_read}
 use Rattle.hfs_rescue_items.proofs.reading.read_next.Goals as goal
 
-pub returns-in_ok-push_table_head-in-Table : goal.returns-in_ok-push_table_head-in-Table
-returns-in_ok-push_table_head-in-Table g c =
+pub returns-in_ok-push_table_head-in-Table-clause-read : goal.returns-in_ok-push_table_head-in-Table-clause-read
+returns-in_ok-push_table_head-in-Table-clause-read g c =
     let found = c.args.found.now in
     let known = g.S.BlockSource.image c.args.source.now in
     let rest = lines_rest (item_line found) c.in-Table.lines in
