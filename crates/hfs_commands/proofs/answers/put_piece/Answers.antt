@@ -1,5 +1,5 @@
 -- A piece's text, and its digits behind it.
-use Rattle.std.proofs.Common.{List, ℕ, string_bytes, subst, sym, ap}
+use Rattle.std.proofs.Common.{List, ℕ, string_bytes, subst}
 use Rattle.std.specs.Io.KnownBytes.{Appends}
 use Rattle.hfs_texts.specs.Lines.{hex_text}
 use Rattle.hfs_texts.specs.Writing.{AppendsFront}

@@ -1,5 +1,5 @@
 -- The pieces one behind the other, and the text behind them.
-use Rattle.std.proofs.Common.{rules, ◌≡◌, ◌<◌, ◌≤◌, List, ℕ, length, get_or, take_all, string_bytes, subst, arith}
+use Rattle.std.proofs.Common.{rules, ◌≡◌, ◌<◌, ◌≤◌, List, length, get_or, take_all, string_bytes, subst}
 use Rattle.std.specs.List.{flat_map}
 use Rattle.std.specs.Io.KnownBytes.{Appends}
 use Rattle.hfs_texts.specs.Writing.{AppendsFront}
