@@ -19,6 +19,7 @@ use std::marker::PhantomData;
 use std::rt::Files;
 
 /// An image of `len` bytes, as a source of its rows.
+#[derive(Drop)]
 struct ImageRows<'a, S, F> {
     alloc: Global,
     file: &'a F,

@@ -14,7 +14,7 @@ use crate::fault::taking_fault;
 use crate::values::{parameters_under, push_parameters};
 use hfs_rows::{RowValue, Table, TakerFault};
 use sqlite::types::ValueRef;
-use sqlite::{Alter, Connection, Row, params};
+use sqlite::{Alter, Connection, Row};
 use std::alloc::Global;
 
 /// The numbers of the rows that came last.
@@ -27,7 +27,7 @@ pub(crate) struct LastRows {
 }
 
 /// Runs a statement within the transaction, and answers the first row that it shows.
-#[tactic(auto, using(crate::proofs::Keeping::keeps_itself, crate::proofs::Keeping::keeps_inside))]
+#[tactic(auto, using(crate::proofs::Keeping::keeps_itself))]
 fn shown_row<S: Alter>(
     conn: &mut Connection<S>,
     text: &str,
@@ -47,7 +47,7 @@ fn shown_row<S: Alter>(
 }
 
 /// Runs a statement within the transaction, whatever it shows.
-#[tactic(auto, using(crate::proofs::Keeping::keeps_itself, crate::proofs::Keeping::keeps_inside))]
+#[tactic(auto, using(crate::proofs::Keeping::keeps_itself))]
 fn run<S: Alter>(
     conn: &mut Connection<S>,
     text: &str,
@@ -98,7 +98,12 @@ fn drop_volumes<S: Alter>(conn: &mut Connection<S>, image: i64) -> Result<(), Ta
         drop_volumes_text (Int image ∷ [])) }
     ensures keeps { KeepsFile S.Store conn.old conn.new }
 {
-    run(conn, "DELETE FROM volume WHERE image = ?1 RETURNING id", params![image])
+    let parameters = [ValueRef::Int(image)];
+    run(
+        conn,
+        "DELETE FROM volume WHERE image = ?1 RETURNING id",
+        &parameters,
+    )
 }
 
 /// Puts the row of an image, or new values into the row that has its path; its volumes go. Answers the row's number.
