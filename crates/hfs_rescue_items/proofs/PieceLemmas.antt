@@ -1,13 +1,11 @@
 -- The bytes of a fork in pieces.
-use Rattle.std.proofs.Common.{◌≡◌, ◌⊎◌, inl, inr, ℕ, zero, suc, ◌+◌, ◌-◌, ◌*◌, ◌≤◌, List, [], ◌∷◌, ◌++◌, length, take, drop, get_or, min, replicate, Option, Some, None, refl, sym, ap, ◌∙◌, arith, append-nil, append_assoc, length-drop}
+use Rattle.std.proofs.Common.{◌≡◌, ◌⊎◌, inl, inr, ℕ, zero, suc, ◌+◌, ◌-◌, ◌*◌, ◌≤◌, List, [], ◌∷◌, ◌++◌, take, drop, min, Option, Some, None, refl, sym, ap, ◌∙◌, arith, append-nil, append_assoc, length-drop}
 use Rattle.std.specs.Option.{option_map}
-use Rattle.std.specs.List.{flat_map}
 use Rattle.std.proofs.lemmas.List.{drop-drop, replicate-append-replicate, take-append-drop, take_all}
 use Rattle.std.proofs.lemmas.List.Concat.{flat_map-append}
 use Rattle.hfs_fields.specs.declared.mdb.Mdb.{Mdb}
 use Rattle.hfs_rescue.specs.Allocation.{start_of}
-use Rattle.hfs_rescue.specs.TreeFiles.{FileBlocks}
-use Rattle.hfs_remains.specs.ForkBytes.{filled, fork_bytes, place_bytes}
+use Rattle.hfs_remains.specs.ForkBytes.{filled, place_bytes}
 use Rattle.hfs_remains.proofs.ForkByteLemmas.{block_first, length-filled, missing_first, read-filled}
 use Rattle.hfs_rescue_items.specs.declared.piece.Piece.{Piece}
 use Rattle.hfs_rescue_items.specs.Bytes.{GoesOn, first_bytes, piece_bytes, pieces_bytes}

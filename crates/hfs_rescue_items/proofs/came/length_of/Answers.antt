@@ -1,5 +1,5 @@
 -- A fork has as many bytes as are told of it.
-use Rattle.std.proofs.Common.{◌≡◌, Some, List, ℕ, [], length, sym, ap, subst}
+use Rattle.std.proofs.Common.{◌≡◌, Some, ℕ, [], length, sym, ap, subst}
 use Rattle.hfs_rescue_items.specs.Bytes.{GivesBytes}
 use Rattle.hfs_rescue_items.specs.Sources.{part_bytes}
 use Rattle.hfs_rescue_items.proofs.came.length_of.Goals as goal
