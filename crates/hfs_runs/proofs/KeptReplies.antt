@@ -1,5 +1,5 @@
 -- What callers were answered, as it is kept behind a run.
-use Rattle.std.proofs.Common.{◌≡◌, ◌∙◌, ℕ, ◌-◌, ◌<◌, List, [], ◌∷◌, map, length, get_or, Vec, Global, refl, sym, ap, subst, arith}
+use Rattle.std.proofs.Common.{◌≡◌, ◌∙◌, ◌-◌, ◌<◌, List, [], ◌∷◌, map, length, get_or, Vec, Global, sym, ap, subst, arith}
 use mathlib.Core.List.{map-map}
 use Rattle.hfs_model.specs.declared.reply.Reply.{Reply}
 use Rattle.hfs_scripts.specs.declared.lines.Caller.{Caller}

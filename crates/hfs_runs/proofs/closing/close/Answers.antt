@@ -1,5 +1,4 @@
 use Rattle.std.proofs.Common.{◌≡◌, ◌∙◌, ap, get_or, rules}
-use Rattle.logbook.specs.Pages.{Book}
 use Rattle.hfs_published.specs.Histories.{Known}
 use Rattle.hfs_runs.proofs.KeptReplies.{first-viewer, same-kept}
 use Rattle.hfs_runs.proofs.closing.close.Goals as goal

@@ -1,4 +1,4 @@
-use Rattle.std.proofs.Common.{rules, ◌∙◌, ◌<◌, length, string_bytes, sym, subst, arith, ℕ}
+use Rattle.std.proofs.Common.{rules, ◌∙◌, ◌<◌, length, string_bytes, arith}
 use Rattle.hfs_runs.proofs.PieceLemmas.{long-answer}
 use Rattle.hfs_runs.proofs.pieces.long_head.Goals as goal
 
