@@ -30,6 +30,7 @@ struct ImageRows<'a, S, F> {
 
 impl<S: ReadAt + Drop, F: ImageFile<S>> RowSource for ImageRows<'_, S, F> {
     type Told = ImageCounts;
+
     type Fault = CollectFault;
 
     ghost Gives = { λ image before after. OfKnown (F.known image.file.now) image.len

@@ -26,6 +26,6 @@ invariant_of-self-2 g c =
       put = ∥∥₁_map self.put (λ was fine.
           subst (λ (held : Held _). HasPutSince g.S.Store held c.note.new.self.given.rows c.put_row.new.conn c.put_row.new.last) start
           (subst (λ (rows : List TakenRow). HasPutSince g.S.Store self.history.now.start.value rows c.put_row.new.conn c.put_row.new.last) (sym c.note.ensures.given)
-              (puts_one_more g.S.Store self.history.now.given.rows (row_of c.args.table c.args.values.now) self.history.now.start.value self.conn.now
-              c.put_row.new.conn no_rows self.last c.put_row.new.last (was c.if-self.false) c.in_ok-put_row.ensures.done)));
+          (puts_one_more g.S.Store self.history.now.given.rows (row_of c.args.table c.args.values.now) self.history.now.start.value self.conn.now
+          c.put_row.new.conn no_rows self.last c.put_row.new.last (was c.if-self.false) c.in_ok-put_row.ensures.done)));
     }
