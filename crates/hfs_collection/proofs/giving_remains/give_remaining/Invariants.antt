@@ -1,5 +1,5 @@
 -- what was given and the items that are still to come make the whole
-use Rattle.std.proofs.Common.{◌++◌}
+use Rattle.std.proofs.Common.{◌≡◌, ◌++◌}
 use Rattle.hfs_collection.specs.Held.{image_of}
 use Rattle.hfs_collection.specs.Remains.{remains_rows_from}
 use Rattle.hfs_collection.proofs.Counting.{FilesLeft}
