@@ -42,10 +42,10 @@ returns-in_err-give_bag-clause-part g c =
     let tells = tells_known known c.args.len found.mdb.now (text_in c.args.line) words c.args.told.now facts c.requires.told c.as_str.ensures.value refl c.as_str-2.ensures.value refl refl refl
     c.as_str-3.ensures.value in
     let source_is : source ≡ known =
-    ap (λ (items : RescueItems g.S). g.S.BlockSource.image items.source) c.new-watched.ensures ∙ c.in_ok-items.ensures.source in
+    ap (λ (items : RescueItems g.row.S.Denot). g.S.BlockSource.image items.source) c.new-watched.ensures ∙ c.in_ok-items.ensures.source in
     let same = λ (image : List ℕ) (is : known ≡ Some image). source_bag planned_item whole_plan source image made.found found made.plan.items facts (source_is ∙ is)
-    (ap (λ (items : RescueItems g.S). items.found) c.new-watched.ensures ∙ c.in_ok-items.ensures.found)
-    (ap (λ (items : RescueItems g.S). items.plan.items) c.new-watched.ensures ∙ c.in_ok-items.ensures.plan) in
+    (ap (λ (items : RescueItems g.row.S.Denot). items.found) c.new-watched.ensures ∙ c.in_ok-items.ensures.found)
+    (ap (λ (items : RescueItems g.row.S.Denot). items.plan.items) c.new-watched.ensures ∙ c.in_ok-items.ensures.plan) in
     let all_known = λ (image : List ℕ) (is : known ≡ Some image). ap is_some (source_is ∙ is) in
     on_err _ (of_known_bag known c.args.len (text_in c.args.line) words found facts (λ (bag : List ShelfEntry). IsBeginning now (before ++ bag)) c.requires.found tells
     (λ image is. subst (λ (bag : List ShelfEntry). IsBeginning now (before ++ bag)) (same image is) (c.in_err-give_bag.ensures.part (all_known image is))))
@@ -71,10 +71,10 @@ returns-clause-whole g c =
     let tells = tells_known known c.args.len found.mdb.now (text_in c.args.line) words c.args.told.now facts c.requires.told c.as_str.ensures.value refl c.as_str-2.ensures.value refl refl refl
     c.as_str-3.ensures.value in
     let source_is : source ≡ known =
-    ap (λ (items : RescueItems g.S). g.S.BlockSource.image items.source) c.new-watched.ensures ∙ c.in_ok-items.ensures.source in
+    ap (λ (items : RescueItems g.row.S.Denot). g.S.BlockSource.image items.source) c.new-watched.ensures ∙ c.in_ok-items.ensures.source in
     let same = λ (image : List ℕ) (is : known ≡ Some image). source_bag planned_item whole_plan source image made.found found made.plan.items facts (source_is ∙ is)
-    (ap (λ (items : RescueItems g.S). items.found) c.new-watched.ensures ∙ c.in_ok-items.ensures.found)
-    (ap (λ (items : RescueItems g.S). items.plan.items) c.new-watched.ensures ∙ c.in_ok-items.ensures.plan) in
+    (ap (λ (items : RescueItems g.row.S.Denot). items.found) c.new-watched.ensures ∙ c.in_ok-items.ensures.found)
+    (ap (λ (items : RescueItems g.row.S.Denot). items.plan.items) c.new-watched.ensures ∙ c.in_ok-items.ensures.plan) in
     let all_known = λ (image : List ℕ) (is : known ≡ Some image). ap is_some (source_is ∙ is) in
     of_known_bag known c.args.len (text_in c.args.line) words found facts (λ (bag : List ShelfEntry). now ≡ before ++ bag) c.requires.found tells
     (λ image is. subst (λ (bag : List ShelfEntry). now ≡ before ++ bag) (same image is) (c.in_ok-give_bag.ensures.whole (all_known image is)))
@@ -98,10 +98,10 @@ returns-in_err-give_bag-clause-fault g c =
     let tells = tells_known known c.args.len found.mdb.now (text_in c.args.line) words c.args.told.now facts c.requires.told c.as_str.ensures.value refl c.as_str-2.ensures.value refl refl refl
     c.as_str-3.ensures.value in
     let source_is : source ≡ known =
-    ap (λ (items : RescueItems g.S). g.S.BlockSource.image items.source) c.new-watched.ensures ∙ c.in_ok-items.ensures.source in
+    ap (λ (items : RescueItems g.row.S.Denot). g.S.BlockSource.image items.source) c.new-watched.ensures ∙ c.in_ok-items.ensures.source in
     let same = λ (image : List ℕ) (is : known ≡ Some image). source_bag planned_item whole_plan source image made.found found made.plan.items facts (source_is ∙ is)
-    (ap (λ (items : RescueItems g.S). items.found) c.new-watched.ensures ∙ c.in_ok-items.ensures.found)
-    (ap (λ (items : RescueItems g.S). items.plan.items) c.new-watched.ensures ∙ c.in_ok-items.ensures.plan) in
+    (ap (λ (items : RescueItems g.row.S.Denot). items.found) c.new-watched.ensures ∙ c.in_ok-items.ensures.found)
+    (ap (λ (items : RescueItems g.row.S.Denot). items.plan.items) c.new-watched.ensures ∙ c.in_ok-items.ensures.plan) in
     let all_known = λ (image : List ℕ) (is : known ≡ Some image). ap is_some (source_is ∙ is) in
     let Shelf = g.T.Shelf.Fails (g.T.Shelf.place c.args.shelf.now) in
     let fault : IsUnfilled Shelf known c.args.len (text_in c.args.line) words c.in_err-give_bag.field-0.0 = larger (λ _. ⊤) Shelf c.in_err-give_bag.field-0.0
