@@ -9,7 +9,6 @@ mod held;
 mod image;
 mod listing;
 mod loading;
-mod looking;
 mod watched;
 mod words;
 

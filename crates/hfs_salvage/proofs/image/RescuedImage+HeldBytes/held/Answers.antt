@@ -3,7 +3,7 @@ use Rattle.std.proofs.Common.{List, ℕ, Some, subst}
 use Rattle.hfs_commands.specs.Checks.{HasCheckLines, IsCheckFault}
 use Rattle.hfs_finds.specs.Finds.{IsFoundIn}
 use Rattle.hfs_finds.proofs.ImageLemmas.{few_bytes}
-use Rattle.hfs_salvage.proofs.image.«RescuedImage+HeldBytes».held.Goals as goal
+use Rattle.hfs_salvage.proofs.image.RescuedImage+HeldBytes.held.Goals as goal
 
 pub invariant_of-result : goal.invariant_of-result
 invariant_of-result c =
