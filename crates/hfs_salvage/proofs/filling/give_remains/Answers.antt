@@ -21,16 +21,16 @@ returns-in_err-answer-clause-part g c =
     on_err _ (nothing_given (g.S.BlockSource.image c.args.image.source) c.args.image.len (option_map (string_bytes {Z = Global}) c.args.image.line) c.args.words.now
     (g.T.Shelf.given c.args.shelf.now))
 
-pub returns-in_err-told_of-clause-part : goal.returns-in_err-told_of-clause-part
-returns-in_err-told_of-clause-part g c =
+pub returns-in_err-told-clause-part : goal.returns-in_err-told-clause-part
+returns-in_err-told-clause-part g c =
     on_err _ (nothing_given (g.S.BlockSource.image c.args.image.source) c.args.image.len (option_map (string_bytes {Z = Global}) c.args.image.line) c.args.words.now
     (g.T.Shelf.given c.args.shelf.now))
 
-pub give_found-requires-found : goal.give_found-requires-found
-give_found-requires-found g c =
+pub give_found-requires-clause-found : goal.give_found-requires-clause-found
+give_found-requires-clause-found g c =
     let image = c.args.image in
     let words = c.args.words.now.words in
-    subst (λ (known : Option (List ℕ)). OfKnown known image.len (λ (bytes : List ℕ). IsFoundOf bytes (limit_of words bytes) c.found_in-found.result)) (sym c.in_ok-told_of.ensures.source)
+    subst (λ (known : Option (List ℕ)). OfKnown known image.len (λ (bytes : List ℕ). IsFoundOf bytes (limit_of words bytes) c.found_in-found.result)) (sym c.in_ok-told.ensures.source)
     (found_known (g.S.BlockSource.image image.source) image.len words c.limit_for-limit.result image.finds c.found_in-found.result c.limit_for-limit.ensures image.finds_are
     (λ bytes found. c.found_in-found.ensures.found bytes c.limit_for-limit.result found c.in_ok-salvage.ensures))
 
@@ -39,21 +39,21 @@ returns-clause-whole g c =
     let before = g.T.Shelf.given c.args.shelf.now in
     let now = g.T.Shelf.given c.give_found.new.shelf in
     carry (λ (known : Option (List ℕ)) (line : Option (List ℕ)). OfKnownBag known c.args.image.len line c.args.words.now (λ (bag : List ShelfEntry). now ≡ before ++ bag))
-    _ _ c.in_ok-told_of.ensures.source _ _ c.text_in-line.ensures c.in_ok-give_found.ensures.whole
+    _ _ c.in_ok-told.ensures.source _ _ c.text_in-line.ensures c.in_ok-give_found.ensures.whole
 
 pub returns-in_err-give_found-clause-part : goal.returns-in_err-give_found-clause-part
 returns-in_err-give_found-clause-part g c =
     let before = g.T.Shelf.given c.args.shelf.now in
     let now = g.T.Shelf.given c.give_found.new.shelf in
     on_err _ (carry (λ (known : Option (List ℕ)) (line : Option (List ℕ)). OfKnownBag known c.args.image.len line c.args.words.now (λ (bag : List ShelfEntry). IsBeginning now (before ++ bag)))
-    _ _ c.in_ok-told_of.ensures.source _ _ c.text_in-line.ensures c.in_err-give_found.ensures.part)
+    _ _ c.in_ok-told.ensures.source _ _ c.text_in-line.ensures c.in_err-give_found.ensures.part)
 
 pub returns-in_err-give_found-clause-fault : goal.returns-in_err-give_found-clause-fault
 returns-in_err-give_found-clause-fault g c =
     let Shelf = g.T.Shelf.Fails (g.T.Shelf.place c.args.shelf.now) in
     let fault : IsUnfilled Shelf (g.S.BlockSource.image c.args.image.source) c.args.image.len (option_map (string_bytes {Z = Global}) c.args.image.line) c.args.words.now c.in_err-give_found.field-0.0 =
     carry (λ (known : Option (List ℕ)) (line : Option (List ℕ)). IsUnfilled Shelf known c.args.image.len line c.args.words.now c.in_err-give_found.field-0.0)
-    _ _ c.in_ok-told_of.ensures.source _ _ c.text_in-line.ensures c.in_err-give_found.ensures.fault in
+    _ _ c.in_ok-told.ensures.source _ _ c.text_in-line.ensures c.in_err-give_found.ensures.fault in
     search rules
 
 pub returns-clause-answer : goal.returns-clause-answer

@@ -30,7 +30,7 @@ returns-clause-answer g c =
     answer_known known image.len c.args.words.now image.check.fault image.finds c.found_in-found.result c.in-Ok-of.answer is image.fault_is image.finds_are c.in-Ok-of.ensures
 
 pub returns-in_default-clause-part : goal.returns-in_default-clause-part
-returns-in_default-clause-part g c = on_err _ (nothing_told (g.S.BlockSource.image c.args.image.now.source) c.args.image.now.len c.args.words.now (g.W.Write.contents c.args.writer.now))
+returns-in_default-clause-part g c = nothing_told (g.S.BlockSource.image c.args.image.now.source) c.args.image.now.len c.args.words.now (g.W.Write.contents c.args.writer.now)
 
 pub returns-in_default-of-clause-part : goal.returns-in_default-of-clause-part
-returns-in_default-of-clause-part g c = on_err _ (nothing_told (g.S.BlockSource.image c.args.image.now.source) c.args.image.now.len c.args.words.now (g.W.Write.contents c.args.writer.now))
+returns-in_default-of-clause-part g c = nothing_told (g.S.BlockSource.image c.args.image.now.source) c.args.image.now.len c.args.words.now (g.W.Write.contents c.args.writer.now)
