@@ -7,7 +7,7 @@ mod fault;
 mod files;
 mod lines;
 
-pub use crate::collecting::collect_image;
+pub use crate::collecting::{collect_image, put_image};
 pub use crate::comparing::{compare_image, compare_known};
 pub use crate::fault::RunFault;
 pub use crate::files::FileByPath;

@@ -4,9 +4,10 @@ use Rattle.std.specs.Option.{IsSomeAnd}
 use Rattle.hfs_space.specs.declared.fork_kind.ForkKind.{ForkKind}
 use Rattle.hfs_remains.specs.declared.findings.FoundFork.{FoundFork}
 use Rattle.hfs_remains.specs.declared.shares.FileShares.{FileShares}
+use Rattle.hfs_remains.specs.ForkBytes.{fork_bytes}
 use Rattle.hfs_remains.specs.Verdicts.{Salvaged, IsForkOf, all_used, fork_share}
 use Rattle.hfs_finds.specs.declared.finds.Finds.{Finds}
-use Rattle.hfs_finds.specs.Images.{fork_bytes, kept_image, said_of}
+use Rattle.hfs_finds.specs.Images.{kept_image, said_of}
 use Rattle.hfs_collection.specs.declared.remains.ForkTold.{ForkTold}
 use Rattle.hfs_collection.specs.Remains.{told_by, told_fork}
 

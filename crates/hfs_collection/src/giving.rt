@@ -64,6 +64,8 @@ fn give_item<S: BlockSource + Drop, T: RowTaker>(
         (told_row names.now info.now) (T.given taker.old) (T.given taker.new))) }
     ensures part { OnErr result (T.given taker.new ≡ T.given taker.old) }
     ensures kept { image.new ≡ image.old }
+    ensures reference { T.reference taker.new ≡ T.reference taker.old }
+    ensures place { T.place taker.new ≡ T.place taker.old }
 {
     let digests = fork_digests(alloc, image, info, taken)?;
     let values = item_values(alloc, number, names, info, digests)?;
@@ -89,6 +91,8 @@ fn give_next<S: BlockSource + Drop, T: RowTaker>(
     ensures ended { IfOk result (λ more. more ≡ false → inventory.new.left ≡ []) }
     ensures part { OnErr result (T.given taker.new ≡ T.given taker.old) }
     ensures kept { image.new ≡ image.old }
+    ensures reference { T.reference taker.new ≡ T.reference taker.old }
+    ensures place { T.place taker.new ≡ T.place taker.old }
 {
     let Some(info) = inventory.next()? else {
         return Ok(false);
@@ -125,6 +129,8 @@ fn give_inventory<S: BlockSource + Drop, T: RowTaker>(
         (T.given taker.old ++ item_rows_from taken (entries_of (volume_of bytes)) 0 inventory.old.left))) }
     ensures counted { IfOk result (λ files. files ≡ file_total inventory.old.left) }
     ensures kept { image.new ≡ image.old }
+    ensures reference { T.reference taker.new ≡ T.reference taker.old }
+    ensures place { T.place taker.new ≡ T.place taker.old }
 {
     let mut counts = ItemCounts { items: 0, files: 0 };
     while give_next(alloc, taker, image, inventory, &mut counts, taken)? {}
@@ -146,6 +152,8 @@ pub(crate) fn give_items<S: BlockSource + Drop, T: RowTaker>(
     ensures counted { IfOk result (λ files. OfKnown image.old.known image.old.len (λ bytes.
         files ≡ file_total (told_rows (entries_of (volume_of bytes))))) }
     ensures kept { image.new ≡ image.old }
+    ensures reference { T.reference taker.new ≡ T.reference taker.old }
+    ensures place { T.place taker.new ≡ T.place taker.old }
 {
     let mut inventory = image.inventory(alloc)?;
     give_inventory(alloc, taker, image, &mut inventory, taken)

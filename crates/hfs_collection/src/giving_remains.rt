@@ -38,6 +38,8 @@ pub(crate) fn give_volume_row<T: RowTaker>(
     ensures whole { OnOk result (T.given taker.new ≡ T.given taker.old
         ++ row_of table.Volume (volume_values place.now fault directory.now) ∷ []) }
     ensures part { OnErr result (T.given taker.new ≡ T.given taker.old) }
+    ensures reference { T.reference taker.new ≡ T.reference taker.old }
+    ensures place { T.place taker.new ≡ T.place taker.old }
 {
     let values = volume_values(alloc, place, fault, directory)?;
     taker.take(Table::Volume, &values)?;
@@ -59,6 +61,8 @@ fn give_remaining_item<T: RowTaker>(
     ensures counted { IfOk result (λ more. more
         ≡ remains_files (image_of found.now) i (told item.now)) }
     ensures part { OnErr result (T.given taker.new ≡ T.given taker.old) }
+    ensures reference { T.reference taker.new ≡ T.reference taker.old }
+    ensures place { T.place taker.new ≡ T.place taker.old }
 {
     let Some(info) = told_of(item) else {
         return Ok(FileCounts::none());
@@ -82,6 +86,8 @@ fn give_remaining<T: RowTaker>(
         ++ remains_rows_from taken (image_of found.now) 0 items.now)) }
     ensures counted { IfOk result (λ counts. counts
         ≡ remains_files_from (image_of found.now) 0 items.now) }
+    ensures reference { T.reference taker.new ≡ T.reference taker.old }
+    ensures place { T.place taker.new ≡ T.place taker.old }
 {
     let mut counts = FileCounts::none();
     for i in 0..items.len() {
@@ -107,6 +113,8 @@ fn give_remains<T: RowTaker>(
         ++ remains_rows_by taken held.now.bytes.items (Some held.now.finds.mdb))) }
     ensures counted { IfOk result (λ counts. counts
         ≡ files_by held.now.bytes.items (Some held.now.finds.mdb)) }
+    ensures reference { T.reference taker.new ≡ T.reference taker.old }
+    ensures place { T.place taker.new ≡ T.place taker.old }
 {
     let limit = usual_limit(held.bytes.len() as u32);
     let salvage = salvage_of(alloc, &held.finds, limit)?;
@@ -133,6 +141,8 @@ fn give_held<T: RowTaker>(
         ++ held_rows taken place.now why held.now)) }
     ensures counted { IfOk result (λ counts. counts
         ≡ files_by held.now.bytes.items (Some held.now.finds.mdb)) }
+    ensures reference { T.reference taker.new ≡ T.reference taker.old }
+    ensures place { T.place taker.new ≡ T.place taker.old }
 {
     let directory = Some(held.finds.mdb);
     give_volume_row(alloc, taker, place, Some(why), &directory)?;
@@ -155,6 +165,8 @@ pub(crate) fn give_refused<S: ReadAt, T: RowTaker>(
         ++ fault_rows taken place.now (Some why) bytes))) }
     ensures counted { IfOk result (λ counts. OfKnown (S.known source.old) place.now.range.len
         (λ bytes. counts ≡ fault_counts (Some why) bytes)) }
+    ensures reference { T.reference taker.new ≡ T.reference taker.old }
+    ensures place { T.place taker.new ≡ T.place taker.old }
 {
     match hold(alloc, source, place.range.len)? {
         Some(held) => {
@@ -186,6 +198,8 @@ pub(crate) fn give_where_found<S: ReadAt, T: RowTaker>(
         ++ rows_by_directory taken place.now why (found_directory bytes) bytes))) }
     ensures counted { IfOk result (λ counts. OfKnown (S.known source.old) place.now.range.len
         (λ bytes. counts ≡ counts_by_directory (found_directory bytes) bytes)) }
+    ensures reference { T.reference taker.new ≡ T.reference taker.old }
+    ensures place { T.place taker.new ≡ T.place taker.old }
 {
     match hold(alloc, source, place.range.len)? {
         Some(held) => {

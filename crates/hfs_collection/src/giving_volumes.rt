@@ -48,6 +48,8 @@ fn give_sound<S: BlockSource + Drop, T: RowTaker>(
         ∷ item_rows taken (entries_of (volume_of bytes))))) }
     ensures counted { IfOk result (λ files. OfKnown image.old.known image.old.len (λ bytes.
         files ≡ file_total (told_rows (entries_of (volume_of bytes))))) }
+    ensures reference { T.reference taker.new ≡ T.reference taker.old }
+    ensures place { T.place taker.new ≡ T.place taker.old }
 {
     let directory = Some(*mdb);
     give_volume_row(alloc, taker, place, None, &directory)?;
@@ -115,6 +117,8 @@ pub(crate) fn give_volume<S: ReadAt + Drop, F: ImageFile<S>, T: RowTaker>(
         ++ volume_rows taken place.now (bytes_in place.now.range file)))) }
     ensures counted { IfOk result (λ counts. OfKnown (F.known file.now) len (λ file.
         counts ≡ volume_counts (bytes_in place.now.range file))) }
+    ensures reference { T.reference taker.new ≡ T.reference taker.old }
+    ensures place { T.place taker.new ≡ T.place taker.old }
 {
     if !lies_within(len, place.range) {
         return Err(CollectFault::ReadFailed);
@@ -151,6 +155,8 @@ pub(crate) fn give_lost<S: ReadAt + Drop, F: ImageFile<S>, T: RowTaker>(
         ++ lost_rows taken (lost_place len) (fault_of file) file))) }
     ensures counted { IfOk result (λ counts. OfKnown (F.known file.now) len (λ file.
         counts ≡ lost_counts (fault_of file) file)) }
+    ensures reference { T.reference taker.new ≡ T.reference taker.old }
+    ensures place { T.place taker.new ≡ T.place taker.old }
 {
     let place = VolumePlace::lost(len);
     let window = open_window(file, place.range)?;

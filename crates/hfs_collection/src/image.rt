@@ -84,6 +84,8 @@ fn give_volumes<S: ReadAt + Drop, F: ImageFile<S>, T: RowTaker>(
         ++ volume_rows_from taken 1 ranges.now file))) }
     ensures counted { IfOk result (λ counts. OfKnown (F.known file.now) len (λ file.
         counts ≡ volume_counts_from ranges.now file)) }
+    ensures reference { T.reference taker.new ≡ T.reference taker.old }
+    ensures place { T.place taker.new ≡ T.place taker.old }
 {
     let mut counts = ImageCounts::none();
     for i in 0..ranges.len() {
@@ -112,6 +114,8 @@ fn give_all<S: ReadAt + Drop, F: ImageFile<S>, T: RowTaker>(
         (T.given taker.new) (T.given taker.old ++ all_volume_rows taken ranges.now file))) }
     ensures counted { IfOk result (λ counts. OfKnown (F.known file.now) len (λ file.
         counts ≡ all_volume_counts ranges.now file)) }
+    ensures reference { T.reference taker.new ≡ T.reference taker.old }
+    ensures place { T.place taker.new ≡ T.place taker.old }
 {
     match ranges {
         [] => give_lost(alloc, taker, file, len, taken),
@@ -135,6 +139,8 @@ pub fn give_image<S: ReadAt + Drop, F: ImageFile<S>, T: RowTaker>(
         (T.given taker.new) (T.given taker.old ++ image_rows facts.now file))) }
     ensures counted { IfOk result (λ counts. OfKnown (F.known file.now) len (λ file.
         counts ≡ image_counts file)) }
+    ensures reference { T.reference taker.new ≡ T.reference taker.old }
+    ensures place { T.place taker.new ≡ T.place taker.old }
 {
     let mut source = file.open()?;
     let digest = digest_of(alloc, &mut source, len, facts.takes_digests)?;

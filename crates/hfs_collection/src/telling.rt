@@ -4,7 +4,7 @@ ghost use Rattle.hfs_remains.specs.Verdicts.{FindsFork, shares_at};
 ghost use Rattle.hfs_rescue_items.specs.Found.{path_at};
 ghost use Rattle.hfs_rows.specs.declared.value.RowValue.TheVariants.{Text};
 ghost use Rattle.hfs_verdicts.specs.Verdicts.{verdict_text};
-ghost use Rattle.hfs_finds.specs.Images.{fork_bytes};
+ghost use Rattle.hfs_remains.specs.ForkBytes.{fork_bytes};
 ghost use Rattle.hfs_collection.specs.Values.{digest_value, where_taken};
 ghost use Rattle.hfs_collection.specs.Remains.{said_digest, told_by, told_fork, told_values};
 ghost use Rattle.hfs_collection.specs.Counts.{remains_files};

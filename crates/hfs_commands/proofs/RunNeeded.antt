@@ -1,5 +1,5 @@
 -- What was read of an image for a run, and what the run made of it.
-use Rattle.std.proofs.Common.{◌≡◌, ◌⊎◌, inl, inr, ⊎_elim, ℕ, ◌/◌, Bool, true, List, length, Option, Some, None, refl, sym, ap, subst, ◌∙◌, string_bytes}
+use Rattle.std.proofs.Common.{◌≡◌, ◌⊎◌, inl, inr, ⊎_elim, ℕ, ◌/◌, Bool, true, List, length, Option, Some, None, refl, sym, ap, subst, ◌∙◌}
 use Rattle.hfs_blocks.specs.Layers.{Numbered}
 use Rattle.hfs_check.specs.Sound.{IsSound, IsImageLength}
 use Rattle.hfs_needed.specs.Gathered.{IsOfKnown}
@@ -10,6 +10,7 @@ use Rattle.hfs_needed_runs.specs.Naming.{read_forks}
 use Rattle.hfs_needed_runs.specs.NeededRuns.{AreLinesRunOver, AreLinesRunOverAs}
 use Rattle.hfs_runs.specs.declared.fault.ScriptFault.{ScriptFault}
 use Rattle.hfs_runs.specs.declared.fault.ScriptFault.TheVariants as run
+use Rattle.hfs_runs.specs.Pieces.{text_of_pieces}
 use Rattle.hfs_runs.specs.Runs.{IsStartFault}
 use Rattle.hfs_scripts.specs.declared.lines.ScriptLine.{ScriptLine}
 use Rattle.hfs_sparse.specs.Sparse.{sparse, IsOf}
@@ -44,7 +45,7 @@ module _ (known : Option (List ℕ)) (len : ℕ) (old new : WorkingVolume) (is :
     pub sound-new : IsSound (copy_of new.read len)
     sound-new = opened-sound known len right new is-new
 
-    pub needed-run : (lines : List ScriptLine) (patch : Numbered) (text : List ℕ) (all : Bool) (ran : NeededRan) → patch ≡ ran.patch → text ≡ string_bytes ran.text
+    pub needed-run : (lines : List ScriptLine) (patch : Numbered) (text : List ℕ) (all : Bool) (ran : NeededRan) → patch ≡ ran.patch → text ≡ text_of_pieces ran.answers
         → all ≡ ran.whole → AreLinesRunOverAs (copy_of new.read len) lines ran → (read_forks lines ≡ true → HasNamedForks (sparse new.read) lines new.read)
         → ((image : List ℕ) → length image ≡ len → IsOf image new.read → CarriesOver ran.patch (copy_of new.read len) image)
         → IsNeededRunOf known len lines patch text all
@@ -53,7 +54,7 @@ module _ (known : Option (List ℕ)) (len : ℕ) (old new : WorkingVolume) (is :
       shown = ran.shown;
       ran = subst (λ (b : Bool). AreLinesRunOver (copy_of new.read len) lines patch text b ran.shown) (sym same-all)
           (subst (λ (t : List ℕ). AreLinesRunOver (copy_of new.read len) lines patch t ran.whole ran.shown) (sym same-text)
-          (subst (λ (p : Numbered). AreLinesRunOver (copy_of new.read len) lines p (string_bytes ran.text) ran.whole ran.shown) (sym same-patch) over));
+          (subst (λ (p : Numbered). AreLinesRunOver (copy_of new.read len) lines p (text_of_pieces ran.answers) ran.whole ran.shown) (sym same-patch) over));
       forks = forks;
       copy = opened-copy known len right new is-new;
       carried = by known is-new.of;

@@ -2,6 +2,7 @@
 //! are written. The words themselves, and standard input and output, are in `hfs_tool`.
 #![tactic(auto)]
 
+mod answers;
 mod beside;
 mod by_path;
 mod checking;
@@ -23,6 +24,7 @@ mod volume_files;
 mod volumes;
 mod watched;
 
+pub use answers::write_answers;
 pub use beside::Leftover;
 pub use by_path::{file_path_reply, path_reply};
 pub use checking::{CheckAnswer, check_answer, needed_check_answer, refused_text, report_answer};
@@ -33,7 +35,7 @@ pub use forks::write_fork;
 pub use hfs_containers::{ByteRange, ReadAt, Window};
 pub use hfs_needed::{NeededFault, NeededFile, OpenedImage, needed_file};
 pub use hfs_refusals::{Hint, Refusal};
-pub use hfs_runs::{Gate, Ran, ScriptFault, run_script, run_script_at};
+pub use hfs_runs::{Answers, Gate, Ran, ScriptFault, run_script, run_script_at};
 pub use hfs_sparse::{BlockSource, ByteSource, CopyFault, SparseFault};
 pub use hfs_table::Format;
 pub use hfs_texts::{

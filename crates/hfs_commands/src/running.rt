@@ -1,9 +1,10 @@
 //! Scripts that are run on images of which only what they need is read.
-ghost use Rattle.std.specs.Prelude.{◌≡◌, ◌≤◌, ◌⊎◌, ◌/◌, All, IfErr, IfOk, Ok, Some, string_bytes};
+ghost use Rattle.std.specs.Prelude.{◌≡◌, ◌≤◌, ◌⊎◌, ◌/◌, All, IfErr, IfOk, Ok, Some};
 ghost use Rattle.hfs_blocks.specs.Layers.{changes, AreWithin};
 ghost use Rattle.hfs_check.specs.Faults.{fault_of};
 ghost use Rattle.hfs_needed.specs.Known.{OfKnown};
 ghost use Rattle.hfs_runs.specs.Asking.{IsSmall};
+ghost use Rattle.hfs_runs.specs.Pieces.{text_of_pieces};
 ghost use Rattle.hfs_runs.specs.Runs.{IsStartFault};
 ghost use Rattle.hfs_scripts.specs.Scripts.{script_of};
 ghost use Rattle.hfs_commands.specs.Faults.{IsTooMuch};
@@ -15,7 +16,7 @@ use crate::watched::Watched;
 use hfs_check::MountFault;
 use hfs_needed::NeededFault;
 use hfs_needed_runs::{NeededRan, fetch_named_forks, run_needed_at};
-use hfs_runs::{Gate, ScriptFault};
+use hfs_runs::{Answers, Gate, ScriptFault};
 use hfs_scripts::{Script, read_script};
 use hfs_sparse::{BlockSource, SparseFault};
 use hfs_texts::IMAGE_LIMIT;
@@ -50,8 +51,8 @@ impl<S: BlockSource> Model for RunImage<S> {
 pub struct RanImage<S: BlockSource> {
     /// The image with what was changed laid over it, as what a file is to hold.
     pub image: PatchedImage<S>,
-    /// The lines of the answers.
-    pub text: String,
+    /// The answers, of which long bytes have no digits yet.
+    pub answers: Answers,
     /// Whether each line was answered.
     pub whole: bool,
 }
@@ -61,12 +62,12 @@ fn ran_image<S: BlockSource>(alloc: Global, source: S, len: u64, ran: NeededRan)
     requires small { len ≤ 2147483648 }
     requires within { AreWithin (changes ran.patch) (len / 512) }
     ensures patch { result.image.patch ≡ ran.patch }
-    ensures text { result.text ≡ ran.text }
+    ensures answers { result.answers ≡ ran.answers }
     ensures whole { result.whole ≡ ran.whole }
 {
     let NeededRan {
         patch,
-        text,
+        answers,
         whole,
         shown: _,
     } = ran;
@@ -76,7 +77,11 @@ fn ran_image<S: BlockSource>(alloc: Global, source: S, len: u64, ran: NeededRan)
         len,
         patch,
     };
-    RanImage { image, text, whole }
+    RanImage {
+        image,
+        answers,
+        whole,
+    }
 }
 
 /// The script that bytes are, whose changes are made at the moment `now`. Faults: `ScriptTooLarge`, `ScriptLine`, `NoMemory`.
@@ -143,7 +148,7 @@ impl<S: BlockSource + Watched + Drop> RunImage<S> {
     ) -> Result<RanImage<S>, Fault<'a>>
         requires { All (λ line. IsSmall line.caller) script }
         ensures ran { IfOk result (λ ran. IsNeededRunOf self.known self.len script
-            ran.image.patch (string_bytes ran.text) ran.whole) }
+            ran.image.patch (text_of_pieces ran.answers) ran.whole) }
         ensures fault { IfErr result (IsNeededFault path.entry) }
     {
         let RunImage {

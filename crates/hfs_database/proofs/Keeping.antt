@@ -1,8 +1,10 @@
 -- What keeps the file.
-use Rattle.std.proofs.Common.{refl, arith, inl}
+use Rattle.std.proofs.Common.{◌≡◌, ◌∙◌, refl, sym, ℕ, Bool, true, false, not, List, arith, inl, true≢false}
 use Rattle.sqlite.specs.Held.{Held, state}
+use Rattle.sqlite.specs.State.{CommitsShowing, Survives}
+use Rattle.sqlite.specs.declared.types.Value.{Value}
 use Rattle.sqlite.specs.Store.{Ghosts}
-use Rattle.sqlite.proofs.StateLemmas.{survives_then}
+use Rattle.sqlite.proofs.StateLemmas.{survives_then, survives_weaker}
 use Rattle.hfs_database.specs.Transactions.{KeepsFile, begun}
 
 pub keeps_itself : {S : Type 0} (g : Ghosts S) (held : Held S) → KeepsFile g held held
@@ -31,4 +33,18 @@ keeps_begun g start new keeps = record {
     closes = keeps.survives.closes;
     crash = keeps.survives.crash;
   };
+}
+
+-- what is within a transaction isn't outside one
+pub not_outside : {X : Type 0} (inside : Bool) → not inside ≡ false → inside ≡ false → X
+not_outside true within outside = absurd (true≢false outside)
+not_outside false within outside = absurd (true≢false within)
+
+-- a statement that only shows rows commits nothing in a transaction
+pub keeps_inside : {S : Type 0} (g : Ghosts S) (old new : Held S) (autocommit : Bool) (sql : List ℕ) (params : List Value)
+    → autocommit ≡ not old.in_transaction → autocommit ≡ false → Survives (state g old) (state g new) (CommitsShowing sql params (state g old)) → KeepsFile g old new
+unfolding CommitsShowing
+keeps_inside g old new autocommit sql params is within survives = record {
+  survives = survives_weaker (state g old) (state g new) (CommitsShowing sql params (state g old)) (λ _. ⊥)
+      (λ clean db commits. not_outside old.in_transaction (sym is ∙ within) commits.3.0) survives;
 }

@@ -1,2 +1,4 @@
 pub mod Keeping
 pub mod TableLemmas
+pub mod Ending
+pub mod RowLemmas

@@ -6,19 +6,19 @@ use Rattle.sqlite.specs.Held.{Held, state}
 use Rattle.sqlite.specs.Store.{Ghosts}
 use Rattle.hfs_rows.specs.declared.value.Table.{Table}
 use Rattle.hfs_rows.specs.declared.value.Table.TheVariants as table
-use Rattle.hfs_database.specs.declared.taker.LastRows.{LastRows}
-use Rattle.hfs_database.specs.Doing.{HasPut, HasReplaced, HasRun}
+use Rattle.hfs_database.specs.declared.statements.LastRows.{LastRows}
+use Rattle.hfs_database.specs.Doing.{HasFound, HasReplaced, HasRunAll}
 use Rattle.hfs_database.specs.Texts.{put_item_text, put_volume_text}
 
 -- a volume was put under the image that came last
 pub record PutsVolume {S : Type 0} (g : Ghosts S) (values : List Value) (old new : Held S) (before after : LastRows) : Type 0 where
   pub same_image : after.image ≡ before.image
-  pub put : HasPut (state g old) (state g new) put_volume_text (Int before.image ∷ values) after.volume
+  pub put : HasFound (state g old) (state g new) put_volume_text (Int before.image ∷ values) after.volume
 
 -- an item was put under the volume that came last
 pub record PutsItem {S : Type 0} (g : Ghosts S) (values : List Value) (old new : Held S) (before after : LastRows) : Type 0 where
   pub same : after ≡ before
-  pub put : HasRun (state g old) (state g new) put_item_text (Int before.volume ∷ values)
+  pub put : HasRunAll (state g old) (state g new) put_item_text (Int before.volume ∷ values)
 
 -- a row of this table, with these values, was put behind the rows that came last
 abbrev pub PutsRow : {S : Type 0} → Ghosts S → Table → List Value → Held S → Held S → LastRows → LastRows → Type 0

@@ -1,8 +1,13 @@
 -- What is done in one transaction.
-use Rattle.std.specs.Prelude.{true, false}
+use Rattle.std.specs.Prelude.{◌≡◌, pos, true, false, List, [], ◌∷◌, map}
 use Rattle.sqlite.specs.Held.{Held, state}
 use Rattle.sqlite.specs.State.{HasCleanDisk, Shows, Survives}
 use Rattle.sqlite.specs.Store.{Ghosts}
+use Rattle.sqlite.specs.Tree.{Trees}
+use Rattle.hfs_rows.specs.Taken.{TakenRow}
+use Rattle.hfs_database.specs.declared.statements.LastRows.{LastRows}
+use Rattle.hfs_database.specs.Rows.{PutsRow}
+use Rattle.hfs_database.specs.Values.{sql_value}
 
 -- the database as a transaction begins
 abbrev pub begun : {S : Type 0} → Held S → Held S
@@ -12,6 +17,57 @@ begun held = record held { in_transaction = true }
 pub record KeepsFile {S : Type 0} (g : Ghosts S) (old new : Held S) : Type 0 where
   pub survives : Survives (state g old) (state g new) (λ _. ⊥)
 
+-- a transaction began with the database as it was
+abbrev pub IsBegun : {S : Type 0} → Ghosts S → Held S → Held S → Type 0
+IsBegun g start new = HasCleanDisk (state g new) → Shows (state g start) (state g new) (state g start).now (state g start).committed true
+
 -- what the transaction did is there, and the transaction at its end
 abbrev pub IsCommitted : {S : Type 0} → Ghosts S → Held S → Held S → Type 0
 IsCommitted g given new = HasCleanDisk (state g new) → Shows (state g given) (state g new) (state g given).now (state g given).now false
+
+-- ---- rows that are put in one
+
+-- before the first row none came
+abbrev pub no_rows : LastRows
+no_rows = record { image = pos 0; volume = pos 0 }
+
+-- these rows were put, one behind the other, behind the rows that came last
+abbrev pub PutsRows : {S : Type 0} → Ghosts S → List TakenRow → Held S → Held S → LastRows → LastRows → Type 0
+PutsRows g [] old new before after = (new ≡ old) × (after ≡ before)
+PutsRows {S} g (row ∷ rows) old new before after =
+    (next : Held S) × (last : LastRows) × PutsRow g row.table (map sql_value row.values) old next before last × PutsRows g rows next new last after
+
+-- since the database was like this these rows were put, of which these came last
+abbrev pub HasPutSince : {S : Type 0} → Ghosts S → Held S → List TakenRow → Held S → LastRows → Type 0
+HasPutSince g start rows now last = PutsRows g rows start now no_rows last
+
+-- all rows of a source were put, one behind the other, and no others
+abbrev pub PutsAll : {S : Type 0} → Ghosts S → (List TakenRow → Type 0) → Held S → Held S → Type 0
+PutsAll g AreRows old new = ∥ ((rows : List TakenRow) × AreRows rows × (last : LastRows) × HasPutSince g old rows new last) ∥₁
+
+-- these rows were put in one transaction, from its beginning on, and it was committed
+pub record HasPutInOne {S : Type 0} (g : Ghosts S) (start : Held S) (rows : List TakenRow) (new : Held S) : Type 0 where
+  pub first : Held S
+  pub given : Held S
+  pub last : LastRows
+  pub begins : IsBegun g start first
+  pub put : HasPutSince g first rows given last
+  pub committed : IsCommitted g given new
+
+-- all rows of a source were put in one transaction, and it was committed
+abbrev pub PutsAllInOne : {S : Type 0} → Ghosts S → (List TakenRow → Type 0) → Held S → Held S → Type 0
+PutsAllInOne g AreRows start new = ∥ ((rows : List TakenRow) × AreRows rows × HasPutInOne g start rows new) ∥₁
+
+-- the file of a transaction that began with the database like this, and put all rows of a source
+abbrev pub HoldsAll : {S : Type 0} → Ghosts S → (List TakenRow → Type 0) → Held S → Trees → Type 0
+HoldsAll {S} g AreRows start db =
+    ∥ ((rows : List TakenRow) × AreRows rows × (first : Held S) × (given : Held S) × (last : LastRows) × IsBegun g start first × HasPutSince g first rows given last
+    × (db ≡ (state g given).now.trees)) ∥₁
+
+-- whatever happens, a crash leaves the file as it was, or with all rows of a source, put in one transaction
+abbrev pub LeavesAllOrNone : {S : Type 0} → Ghosts S → (List TakenRow → Type 0) → Held S → Held S → Type 0
+LeavesAllOrNone g AreRows start new = ∥ Survives (state g start) (state g new) (HoldsAll g AreRows start) ∥₁
+
+-- a crash leaves nothing but what it left before
+abbrev pub LeavesFile : {S : Type 0} → Ghosts S → Held S → Held S → Type 0
+LeavesFile g start new = ∥ KeepsFile g start new ∥₁

@@ -1,14 +1,14 @@
 //! A collection that is open.
-ghost use Rattle.std.specs.Prelude.{◌≡◌, ℕ, [], Ok, codes, IfOk, OnOk};
-ghost use Rattle.sqlite.specs.Held.{state};
-ghost use Rattle.hfs_database.specs.Doing.{HasRun};
+ghost use Rattle.std.specs.Prelude.{[], IfOk, OnOk};
 ghost use Rattle.hfs_database.specs.Tables.{HasTables};
+ghost use Rattle.hfs_database.specs.Transactions.{LeavesAllOrNone, PutsAllInOne};
 
-use crate::fault::{DatabaseFault, opening_fault, writing_fault};
+use crate::fault::{DatabaseFault, PutFault, opening_fault, writing_fault};
 use crate::files::DatabaseFiles;
+use crate::putting::put_all;
 use crate::tables::{Found, find_tables, make_tables};
-use crate::taker::DatabaseTaker;
-use sqlite::{Alter, Connection, Error, File, FileStore, Files as OpenedFiles, Unknown};
+use hfs_rows::RowSource;
+use sqlite::{Alter, Connection, File, FileStore, Files as OpenedFiles, Unknown};
 use std::alloc::Global;
 
 /// A collection in a file.
@@ -51,46 +51,15 @@ impl<S: Alter + Drop> Collection<S> {
         }
     }
 
-    /// Begins a transaction: what a taker is given comes with its commit, or doesn't. Faults: `CannotWrite`, `NoMemory`.
-    pub fn begin(&mut self) -> Result<(), DatabaseFault>
-        ensures { OnOk result (HasRun (state S.Store self.old.conn) (state S.Store self.new.conn)
-            (codes "BEGIN") []) }
+    /// Puts all rows of a source into the collection, in one transaction: an image's row comes in the place of the one that has its
+    /// path, whose volumes go with their items. At a fault nothing changed. Faults: the source's, and `CannotWrite` or `NoMemory` of
+    /// the database.
+    pub fn put<R: RowSource>(&mut self, source: &R) -> Result<R::Told, PutFault<R::Fault>>
+        ensures put { OnOk result (PutsAllInOne S.Store (R.Gives source.now []) self.old.conn self.new.conn) }
+        ensures told { IfOk result (R.Tells source.now) }
+        ensures all_or_none { LeavesAllOrNone S.Store (R.Gives source.now []) self.old.conn self.new.conn }
     {
-        done(self.conn.execute("BEGIN", &[]))
-    }
-
-    /// Keeps what was given since the transaction began. Faults: `CannotWrite`, `NoMemory`, and then nothing is kept.
-    pub fn commit(&mut self) -> Result<(), DatabaseFault>
-        ensures { OnOk result (HasRun (state S.Store self.old.conn) (state S.Store self.new.conn)
-            (codes "COMMIT") []) }
-    {
-        done(self.conn.execute("COMMIT", &[]))
-    }
-
-    /// Forgets what was given since the transaction began. Faults: `CannotWrite` where none is under way, `NoMemory`.
-    pub fn undo(&mut self) -> Result<(), DatabaseFault>
-        ensures { OnOk result (HasRun (state S.Store self.old.conn) (state S.Store self.new.conn)
-            (codes "ROLLBACK") []) }
-    {
-        done(self.conn.execute("ROLLBACK", &[]))
-    }
-
-    /// A taker that was given nothing.
-    pub fn taker(&mut self) -> DatabaseTaker<'_, S>
-        ensures { result.given.rows ≡ [] }
-    {
-        let alloc = self.alloc;
-        DatabaseTaker::new(alloc, &mut self.conn)
-    }
-}
-
-/// Whether a statement was run.
-fn done(answer: Result<usize, Error>) -> Result<(), DatabaseFault>
-    ensures { OnOk result ((count : ℕ) × (answer ≡ Ok count)) }
-{
-    match answer {
-        Ok(_) => Ok(()),
-        Err(error) => Err(writing_fault(&error)),
+        put_all(self.alloc, &mut self.conn, source)
     }
 }
 

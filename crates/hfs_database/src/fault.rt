@@ -14,6 +14,15 @@ pub enum DatabaseFault {
     NoMemory,
 }
 
+/// Why the rows of a source were not put.
+#[derive(Clone, Copy, Debug, PartialEq, Eq)]
+pub enum PutFault<F> {
+    /// The source did not give all of them.
+    Source(F),
+    /// The database did not take them.
+    Database(DatabaseFault),
+}
+
 /// Whether memory was refused.
 fn is_memory(error: &Error) -> bool {
     match error {

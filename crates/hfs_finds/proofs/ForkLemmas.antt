@@ -1,9 +1,10 @@
 -- Bytes of forks that are added one block after the other.
-use Rattle.std.proofs.Common.{◌≡◌, ◌∙◌, ℕ, ◌+◌, ◌-◌, ◌≤◌, ◌<◌, List, ◌∷◌, ◌++◌, length, drop, get_or, replicate, append_assoc, append-nil, Option, ap, sym, arith}
-use Rattle.std.specs.Prelude.{min}
-use Rattle.std.proofs.lemmas.List.{drop_all, drop_more, replicate-append-replicate}
+use Rattle.std.proofs.Common.{◌≡◌, ◌∙◌, ℕ, ◌+◌, ◌-◌, ◌*◌, ◌≤◌, List, ◌++◌, length, length-drop, drop, take, replicate, append_assoc, append-nil, Some, None, ap, sym, arith}
+use Rattle.std.proofs.lemmas.List.{replicate-append-replicate, take-append-le}
 use Rattle.hfs_fields.specs.declared.mdb.Mdb.{Mdb}
-use Rattle.hfs_finds.specs.Images.{fork_bytes, place_bytes}
+use Rattle.hfs_rescue.specs.Allocation.{start_of}
+use Rattle.hfs_remains.specs.ForkBytes.{filled, place_bytes}
+use Rattle.hfs_remains.proofs.ForkByteLemmas.{block_first, missing_first}
 
 -- ---- zeros
 
@@ -21,22 +22,18 @@ zeros_none all bytes left so none = sym (append-nil bytes) ∙ ap (λ (n : ℕ).
 
 -- ---- forks
 
-module _ (image : List ℕ) (mdb : Mdb) (all : List ℕ) (places : List (Option ℕ)) where
-  -- those of a block more came
-  pub fork_more : (old new : List ℕ) (left count rest i : ℕ) (place d : Option ℕ) → i < length places → place ≡ get_or places i d
-      → old ++ fork_bytes image mdb left (drop i places) ≡ all → count ≡ min left mdb.allocation_block_size → new ≡ old ++ place_bytes image mdb place count
-      → rest ≡ left - count → new ++ fork_bytes image mdb rest (drop (i + 1) places) ≡ all
-  fork_more old new left count rest i place d within is so first added left_is =
-      let behind : rest ≡ left - mdb.allocation_block_size = omega (arith, left_is, first) in
-      let own : List ℕ = place_bytes image mdb place (min left mdb.allocation_block_size) in
-      ap (λ (n : ℕ). new ++ fork_bytes image mdb n (drop (i + 1) places)) behind
-      ∙ ap (λ (bytes : List ℕ). bytes ++ fork_bytes image mdb (left - mdb.allocation_block_size) (drop (i + 1) places)) (added ∙ ap (λ (n : ℕ). old ++ place_bytes image mdb place n) first)
-      ∙ append_assoc old own (fork_bytes image mdb (left - mdb.allocation_block_size) (drop (i + 1) places))
-      ∙ ap (λ (p : Option ℕ). old ++ fork_bytes image mdb left (p ∷ drop (i + 1) places)) is
-      ∙ ap (λ (xs : List (Option ℕ)). old ++ fork_bytes image mdb left xs) (sym (drop_more places i d within))
-      ∙ so
+-- so many bytes of an image that has them came
+pub bytes_added : (old new image : List ℕ) (from count : ℕ) → from ≤ length image → count ≤ length image - from → new ≡ old ++ take count (drop from image) → new ≡ old ++ filled count (drop from image)
+unfolding filled
+bytes_added old new image from count within fits added =
+    added ∙ ap (λ (bytes : List ℕ). old ++ bytes) (sym (take-append-le count (drop from image) (replicate count 0) (omega (arith, fits, length-drop from image))))
 
-  -- those of the last one came
-  pub fork_whole : (bytes : List ℕ) (left i : ℕ) → length places ≤ i → bytes ++ fork_bytes image mdb left (drop i places) ≡ all → bytes ≡ all
-  fork_whole bytes left i end so =
-      sym (append-nil bytes) ∙ ap (λ (xs : List (Option ℕ)). bytes ++ fork_bytes image mdb left xs) (sym (drop_all i places end)) ∙ so
+module _ (image : List ℕ) (mdb : Mdb) (old new : List ℕ) (count : ℕ) (fits : count ≤ mdb.allocation_block_size) where
+  -- the first of a block came
+  pub block_added : (b place : ℕ) → place ≡ 512 * start_of mdb b → new ≡ old ++ filled count (drop place image) → new ≡ old ++ take count (place_bytes image mdb (Some b))
+  block_added b place at added =
+      added ∙ ap (λ (n : ℕ). old ++ filled count (drop n image)) at ∙ ap (λ (bytes : List ℕ). old ++ bytes) (sym (block_first image mdb b count fits))
+
+  -- zeros came in the place of one that is missing
+  pub missing_added : new ≡ old ++ replicate count 0 → new ≡ old ++ take count (place_bytes image mdb None)
+  missing_added added = added ∙ ap (λ (bytes : List ℕ). old ++ bytes) (sym (missing_first image mdb count fits))

@@ -1,2 +1,7 @@
 pub mod ForkLemmas
 pub mod ImageLemmas
+mod SameFiles
+pub mod SameFinds
+mod GatherLemmas
+mod FoundLemmas
+pub mod LawsProved

@@ -4,6 +4,7 @@ use Rattle.std.specs.Option.{option_map}
 use Rattle.hfs_fields.specs.declared.mdb.Mdb.{Mdb}
 use Rattle.hfs_blocks.specs.Blocks.{block_at, block_count}
 use Rattle.hfs_space.specs.Extents.{Overflow}
+use Rattle.hfs_check.specs.Parts.{Blocks}
 use Rattle.hfs_places.specs.declared.things.Thing.{Thing}
 use Rattle.hfs_places.specs.Things.{things_of}
 use Rattle.hfs_remains.specs.Records.{namings_of, thing_of}
@@ -19,12 +20,42 @@ use Rattle.hfs_finds.specs.declared.finds.Finds.{Finds}
 abbrev pub found_directory : List ℕ → Option Mdb
 found_directory image = option_map (mdb_at (block_at image)) (directory_of image)
 
--- ---- by this directory
+-- ---- of so many blocks, by a directory
+
+-- neither tree begins where it says
+abbrev pub is_unsure_by : ℕ → Blocks → Mdb → Bool
+is_unsure_by total blocks mdb = not (tree_begins total blocks mdb mdb.extents_file) && not (tree_begins total blocks mdb mdb.catalog_file)
+
+-- the catalog has its shape, and in each record one of the four kinds
+abbrev pub is_right_by : ℕ → Blocks → Mdb → Bool
+is_right_by total blocks mdb =
+    is_catalog_right mdb (catalog_file_extents total blocks mdb) (catalog_nodes blocks mdb (catalog_file_blocks total blocks mdb))
+
+-- the items among the records of the catalog
+abbrev pub items_by : ℕ → Blocks → Mdb → List FoundRecord
+items_by total blocks mdb = items_of (remaining_records total blocks mdb)
+
+-- the items and the named folders, as they are put in their places
+abbrev pub things_by : ℕ → Blocks → Mdb → List Thing
+things_by total blocks mdb = things_of (map thing_of (items_by total blocks mdb)) (namings_of (remaining_records total blocks mdb))
+
+-- all of these
+pub record AreFindsBy (directory : Option ℕ) (total : ℕ) (blocks : Blocks) (finds : Finds) : Type 0 where
+  pub directory_is : directory ≡ Some finds.directory
+  pub unsure_is : finds.is_unsure ≡ is_unsure_by total blocks finds.mdb
+  pub total_is : finds.total ≡ total
+  pub overflow_is : finds.overflow.items ≡ remaining_overflow total blocks finds.mdb
+  pub extents_file_is : finds.extents_file.items ≡ extents_file_blocks total finds.mdb
+  pub catalog_file_is : finds.catalog_file.items ≡ catalog_file_blocks total blocks finds.mdb
+  pub right_is : finds.is_catalog_right ≡ is_right_by total blocks finds.mdb
+  pub items_are : finds.items.items ≡ items_by total blocks finds.mdb
+  pub places_are : finds.places ≡ things_by total blocks finds.mdb
+
+-- ---- of an image, by a directory
 
 -- neither tree begins where it says
 abbrev pub is_unsure : List ℕ → Mdb → Bool
-is_unsure image mdb =
-    not (tree_begins (block_count image) (block_at image) mdb mdb.extents_file) && not (tree_begins (block_count image) (block_at image) mdb mdb.catalog_file)
+is_unsure image mdb = is_unsure_by (block_count image) (block_at image) mdb
 
 -- the records of the extents tree
 abbrev pub found_overflow : List ℕ → Mdb → Overflow
@@ -39,8 +70,7 @@ found_catalog_file image mdb = catalog_file_blocks (block_count image) (block_at
 
 -- the catalog has its shape, and in each record one of the four kinds
 abbrev pub is_found_right : List ℕ → Mdb → Bool
-is_found_right image mdb =
-    is_catalog_right mdb (catalog_file_extents (block_count image) (block_at image) mdb) (catalog_nodes (block_at image) mdb (found_catalog_file image mdb))
+is_found_right image mdb = is_right_by (block_count image) (block_at image) mdb
 
 -- the records of the catalog, and the items among them
 abbrev pub found_records : List ℕ → Mdb → List FoundRecord
@@ -51,19 +81,11 @@ found_items image mdb = items_of (found_records image mdb)
 
 -- the items and the named folders, as they are put in their places
 abbrev pub found_things : List ℕ → Mdb → List Thing
-found_things image mdb = things_of (map thing_of (found_items image mdb)) (namings_of (found_records image mdb))
+found_things image mdb = things_by (block_count image) (block_at image) mdb
 
 -- all of these
-pub record AreFinds (image : List ℕ) (finds : Finds) : Type 0 where
-  pub directory_is : directory_of image ≡ Some finds.directory
-  pub unsure_is : finds.is_unsure ≡ is_unsure image finds.mdb
-  pub total_is : finds.total ≡ block_count image
-  pub overflow_is : finds.overflow.items ≡ found_overflow image finds.mdb
-  pub extents_file_is : finds.extents_file.items ≡ found_extents_file image finds.mdb
-  pub catalog_file_is : finds.catalog_file.items ≡ found_catalog_file image finds.mdb
-  pub right_is : finds.is_catalog_right ≡ is_found_right image finds.mdb
-  pub items_are : finds.items.items ≡ found_items image finds.mdb
-  pub places_are : finds.places ≡ found_things image finds.mdb
+abbrev pub AreFinds : List ℕ → Finds → Type 0
+AreFinds image finds = AreFindsBy (directory_of image) (block_count image) (block_at image) finds
 
 -- what is found of an image, by its directory; nothing where it has none
 abbrev pub IsFoundIn : List ℕ → Option Finds → Type 0

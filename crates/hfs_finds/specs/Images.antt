@@ -1,32 +1,17 @@
 -- What is found of an image, with what is taken of the forks of its items, and their bytes.
-use Rattle.std.specs.Prelude.{◌≡◌, ℕ, ◌-◌, ◌*◌, Bool, ◌++◌, not, if◌then◌else◌, List, [], ◌∷◌, length, min, replicate, Option, Some, None}
+use Rattle.std.specs.Prelude.{◌≡◌, ℕ, ◌*◌, Bool, ◌++◌, not, List, length, Option}
 use Rattle.hfs_fields.specs.declared.mdb.Mdb.{Mdb}
-use Rattle.hfs_fields.specs.Mdb.{bytes_at}
 use Rattle.hfs_blocks.specs.Blocks.{block_count}
 use Rattle.hfs_space.specs.Extents.{Overflow}
 use Rattle.hfs_places.specs.declared.things.Thing.{Thing}
-use Rattle.hfs_rescue.specs.Allocation.{start_of}
 use Rattle.hfs_rescue.specs.TreeFiles.{FileBlocks}
 use Rattle.hfs_remains.specs.declared.shares.FileShares.{FileShares}
 use Rattle.hfs_remains.specs.declared.shares.Share.{Share}
-use Rattle.hfs_remains.specs.Forks.{fork_length}
-use Rattle.hfs_remains.specs.Verdicts.{Salvaged, items_used, share_used, shares_of, tree_used, verdict_of}
+use Rattle.hfs_remains.specs.ForkBytes.{share_bytes}
+use Rattle.hfs_remains.specs.Verdicts.{Salvaged, items_used, shares_of, tree_used, verdict_of}
 use Rattle.hfs_verdicts.specs.declared.verdict.Verdict.{Verdict}
 use Rattle.hfs_finds.specs.declared.finds.Finds.{Finds}
 use Rattle.hfs_finds.specs.Finds.{found_catalog_file, found_extents_file, found_items, found_overflow, found_things}
-
--- ---- the bytes of a fork
-
--- the first bytes of an allocation block, so many; zeros of one that is missing
-abbrev pub place_bytes : List ℕ → Mdb → Option ℕ → ℕ → List ℕ
-place_bytes image mdb None count = replicate count 0
-place_bytes image mdb (Some b) count = bytes_at (start_of mdb b * 512) count image
-
--- so many bytes of a fork in these blocks
-abbrev pub fork_bytes : List ℕ → Mdb → ℕ → FileBlocks → List ℕ
-fork_bytes image mdb left [] = []
-fork_bytes image mdb left (place ∷ rest) =
-    place_bytes image mdb place (min left mdb.allocation_block_size) ++ fork_bytes image mdb (left - mdb.allocation_block_size) rest
 
 -- ---- all forks
 
@@ -62,8 +47,7 @@ owned f young =
 
 -- the bytes that are taken of a fork, and what is said of it
 abbrev pub taken_bytes : FoundImage → Share → List ℕ
-taken_bytes f share =
-    fork_bytes f.image f.mdb (if share.taken then fork_length f.overflow f.mdb share.fork else 0) (share_used f.total f.overflow f.mdb share)
+taken_bytes f share = share_bytes f.image f.total f.overflow f.mdb share
 
 abbrev pub said_of : FoundImage → FileShares → Share → Verdict
 said_of f file share = verdict_of f.total f.overflow f.mdb (owned f (not file.old)) share

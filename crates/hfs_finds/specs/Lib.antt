@@ -1,2 +1,5 @@
 pub mod Finds
 pub mod Images
+pub mod Needed
+pub mod FileReads
+pub mod NeededFinds

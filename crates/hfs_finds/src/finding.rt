@@ -1,13 +1,11 @@
 //! Finding what there is of an image.
 ghost use Rattle.std.specs.Prelude.{◌≡◌, ◌≤◌, ◌<◌, ◌^◌, length, map, Some, IfOk};
-ghost use Rattle.hfs_blocks.specs.Blocks.{block_at, block_count};
 ghost use Rattle.hfs_places.specs.Things.{things_of};
 ghost use Rattle.hfs_remains.specs.Records.{thing_of};
 ghost use Rattle.hfs_rescue.specs.CatalogRecords.{catalog_nodes, is_catalog_right};
-ghost use Rattle.hfs_rescue.specs.Directory.{directory_of};
 ghost use Rattle.hfs_rescue.specs.OverflowRecords.{catalog_extents};
 ghost use Rattle.hfs_rescue.specs.TreeFiles.{AreThere};
-ghost use Rattle.hfs_finds.specs.Finds.{AreFinds, IsFoundIn, is_unsure};
+ghost use Rattle.hfs_finds.specs.Finds.{AreFindsBy, IsFoundIn, is_unsure_by};
 
 use crate::finds::Finds;
 use hfs_blocks::{Blocks, ImageBytes};
@@ -30,27 +28,27 @@ fn places_of(alloc: Global, items: &[FoundRecord], named: &[Thing]) -> Result<Pl
 }
 
 /// Whether neither tree begins where the directory says.
-fn is_unsure(blocks: &ImageBytes<'_>, mdb: &Mdb) -> bool
+fn is_unsure<B: Blocks>(blocks: &B, mdb: &Mdb) -> bool
     requires { 512 ≤ mdb.now.allocation_block_size }
-    ensures { result ≡ is_unsure blocks.now.bytes.now mdb.now }
+    ensures { result ≡ is_unsure_by (B.total blocks.now) (B.blocks blocks.now) mdb.now }
 {
     !tree_begins(blocks, mdb, &mdb.extents_file) && !tree_begins(blocks, mdb, &mdb.catalog_file)
 }
 
 /// Whether the catalog is right, whose file has these blocks, where these are the records of the extents tree.
-fn is_right(
+fn is_right<B: Blocks>(
     alloc: Global,
-    blocks: &ImageBytes<'_>,
+    blocks: &B,
     mdb: &Mdb,
     overflow: &[OverflowRecord],
     file: &[Option<u16>],
 ) -> Result<bool, AllocError>
     requires size { 512 ≤ mdb.now.allocation_block_size }
-    requires there { AreThere (block_count blocks.now.bytes.now) mdb.now file.now }
+    requires there { AreThere (B.total blocks.now) mdb.now file.now }
     requires few { length file.now < 2 ^ 40 }
     ensures { IfOk result (λ right. right ≡ is_catalog_right mdb.now
         (catalog_extents overflow.now mdb.now)
-        (catalog_nodes (block_at blocks.now.bytes.now) mdb.now file.now)) }
+        (catalog_nodes (B.blocks blocks.now) mdb.now file.now)) }
 {
     let extents = catalog_extents(alloc, overflow, mdb)?;
     let nodes = FileNodes { blocks, mdb, file };
@@ -59,17 +57,17 @@ fn is_right(
 }
 
 /// What is found of an image by the directory in this block.
-fn finds_by(
+pub(crate) fn finds_by<B: Blocks>(
     alloc: Global,
-    blocks: &ImageBytes<'_>,
+    blocks: &B,
     directory: u32,
     mdb: Mdb,
 ) -> Result<Finds, AllocError>
     requires size { 512 ≤ mdb.allocation_block_size }
-    requires directory { directory_of blocks.now.bytes.now ≡ Some directory }
-    requires within { directory < block_count blocks.now.bytes.now }
+    requires within { directory < B.total blocks.now }
     ensures mdb { IfOk result (λ finds. finds.mdb ≡ mdb) }
-    ensures finds { IfOk result (AreFinds blocks.now.bytes.now) }
+    ensures finds { IfOk result (AreFindsBy (Some directory) (B.total blocks.now)
+        (B.blocks blocks.now)) }
 {
     let total = blocks.count();
     let Remains {

@@ -1,8 +1,7 @@
 //! The digests of forks.
-ghost use Rattle.std.specs.Prelude.{◌≡◌, ◌≤◌, ◌++◌, replicate, Some, IfOk, OnOk};
+ghost use Rattle.std.specs.Prelude.{◌≡◌, ◌≤◌, ◌++◌, drop, replicate, take, Some, IfOk, OnOk};
 ghost use Rattle.sha2.specs.Sha256.{sha256};
-ghost use Rattle.hfs_fields.specs.Mdb.{bytes_at};
-ghost use Rattle.hfs_finds.specs.Images.{fork_bytes, place_bytes};
+ghost use Rattle.hfs_remains.specs.ForkBytes.{filled, fork_bytes, place_bytes};
 
 use hfs_digests::DigestWriter;
 use hfs_fields::Mdb;
@@ -44,7 +43,7 @@ fn add_bytes(
     from: usize,
     count: usize,
 ) -> Result<(), Outside>
-    ensures { OnOk result (digest.new ≡ digest.old ++ bytes_at from count image.now) }
+    ensures { OnOk result (digest.new ≡ digest.old ++ filled count (drop from image.now)) }
 {
     if from > image.len() || count > image.len() - from {
         return Err(Outside);
@@ -54,6 +53,7 @@ fn add_bytes(
 }
 
 /// Adds the first bytes of an allocation block of an image of `total` logical blocks, so many.
+#[tactic(auto, using(crate::proofs::ForkLemmas::block_added))]
 fn add_block(
     digest: &mut DigestWriter,
     image: &[u8],
@@ -62,8 +62,9 @@ fn add_block(
     block: u16,
     count: u32,
 ) -> Result<(), Outside>
-    ensures { OnOk result (digest.new ≡ digest.old ++ place_bytes image.now mdb.now (Some block)
-        count) }
+    requires { count ≤ mdb.now.allocation_block_size }
+    ensures { OnOk result (digest.new ≡ digest.old
+        ++ take count (place_bytes image.now mdb.now (Some block))) }
 {
     if !is_there(total, mdb, block) {
         return Err(Outside);
@@ -73,6 +74,7 @@ fn add_block(
 }
 
 /// Adds the first bytes of the block at a place of a fork, so many: zeros where it is missing.
+#[tactic(auto, using(crate::proofs::ForkLemmas::missing_added))]
 fn add_place(
     digest: &mut DigestWriter,
     image: &[u8],
@@ -81,7 +83,9 @@ fn add_place(
     place: Option<u16>,
     count: u32,
 ) -> Result<(), Outside>
-    ensures { OnOk result (digest.new ≡ digest.old ++ place_bytes image.now mdb.now place count) }
+    requires { count ≤ mdb.now.allocation_block_size }
+    ensures { OnOk result (digest.new ≡ digest.old
+        ++ take count (place_bytes image.now mdb.now place)) }
 {
     match place {
         Some(block) => add_block(digest, image, total, mdb, block, count),

@@ -4,9 +4,14 @@
 mod finding;
 mod finds;
 mod forks;
+mod gathering;
+mod laws;
+mod needed;
 mod salvage;
 
 pub use finding::find_in;
 pub use finds::Finds;
 pub use forks::{Outside, fork_digest};
+pub use laws::needed_find_same;
+pub use needed::{NeededFinds, needed_finds};
 pub use salvage::salvage_of;

@@ -1,7 +1,6 @@
 -- The items of a volume have plain host names, and host paths of their own.
-use Rattle.std.proofs.Common.{◌≡◌, ◌≢◌, ◌⊎◌, inl, inr, ⊎_elim, ℕ, zero, suc, ◌+◌, ◌-◌, ◌<◌, Bool, true, List, [], ◌∷◌, ◌++◌, length, map, take, drop, refl, sym, ap, subst, ◌∙◌, arith, append_assoc, append-nil, length-append, Option, Some}
+use Rattle.std.proofs.Common.{◌≡◌, ◌≢◌, inl, inr, ⊎_elim, ℕ, zero, suc, ◌+◌, ◌-◌, true, List, [], ◌∷◌, ◌++◌, length, map, take, drop, refl, sym, ap, subst, ◌∙◌, arith, append_assoc, append-nil, length-append, Option, Some}
 use Rattle.std.specs.List.{flat_map, list_all}
-use Rattle.std.specs.FinMap as fin
 use Rattle.std.specs.declared.cmp.Ordering.TheVariants.{Less, Equal}
 use Rattle.std.specs.Ordering.{is_eq}
 use Rattle.std.proofs.lemmas.Bool.{and_from, and_parts}
@@ -10,7 +9,7 @@ use Rattle.hfs_fields.specs.Order.{folded, name_cmp, name_order}
 use Rattle.hfs_bag.specs.Items.{BagItem}
 use Rattle.hfs_bag.specs.Laws.{AreApart, ArePlaced, DifferInPath, IsApart, IsPlaced, IsPlain}
 use Rattle.hfs_model.specs.declared.item.Item.{Item}
-use Rattle.hfs_model.specs.Volume.{Volume, Items, Entry}
+use Rattle.hfs_model.specs.Volume.{Volume, Entry}
 use Rattle.hfs_model.specs.Children.{children, entries_of}
 use Rattle.hfs_model.specs.Lawful.{Has, IsLawful}
 use Rattle.hfs_model.specs.Replies.{info_of}
@@ -19,7 +18,7 @@ use Rattle.hfs_model.proofs.Members.{In}
 use Rattle.hfs_model.proofs.Folders.{child_from_in, children_are}
 use Rattle.hfs_model.proofs.Parents.{no_item}
 use Rattle.hfs_inventory.specs.Rows.{Row, path_below, row_below, rows_in, rows_of}
-use Rattle.hfs_inventory.specs.Told.{ToldRow, told_row, told_rows}
+use Rattle.hfs_inventory.specs.Told.{ToldRow, told_row}
 use Rattle.hfs_inventory.proofs.ListLemmas.{in_flat_map, Pairs, pairs_all, pairs-flat_map}
 use Rattle.hfs_names.specs.HostNames.{host_name}
 use Rattle.hfs_names.specs.Paths.{host_path}

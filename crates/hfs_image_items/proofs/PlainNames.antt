@@ -1,12 +1,12 @@
 -- Host names are plain names of a bag, and host paths tell items apart.
-use Rattle.std.proofs.Common.{◌≡◌, ◌≢◌, ℕ, zero, suc, ◌<◌, true, List, [], ◌∷◌, ◌++◌, length, map, get_or, refl, sym, ap, subst, ◌∙◌, arith, append_assoc, append-nil}
-use Rattle.std.specs.Prelude.{codes, flat_map, slice_index, IsTrue, ⊤}
+use Rattle.std.proofs.Common.{◌≡◌, ◌≢◌, ℕ, suc, ◌<◌, true, List, [], ◌∷◌, ◌++◌, length, map, refl, sym, ap, ◌∙◌, arith, append_assoc, append-nil}
+use Rattle.std.specs.Prelude.{codes, flat_map, slice_index}
 use Rattle.std.specs.List.{list_all}
 use Rattle.std.proofs.lemmas.Bool.{and_parts}
-use Rattle.hfs_bag.specs.Laws.{ArePlain, HasNo, IsPart, IsPlain, begins_with, folder_path}
+use Rattle.hfs_bag.specs.Laws.{ArePlain, HasNo, IsPlain, begins_with, folder_path}
 use Rattle.hfs_names.specs.HostNames.{host_name}
 use Rattle.hfs_names.specs.Paths.{host_path}
-use Rattle.hfs_names.specs.Laws.{IsSafe, is_bytes}
+use Rattle.hfs_names.specs.Laws.{is_bytes}
 use Rattle.hfs_names.proofs.HostNameLemmas.{host-names}
 use Rattle.hfs_image_items.specs.Items.{folders_text}
 

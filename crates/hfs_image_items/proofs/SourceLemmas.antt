@@ -1,29 +1,24 @@
 -- The items of an opened image, whose bytes may be known.
-use Rattle.std.proofs.Common.{◌≡◌, ℕ, Bool, true, false, List, [], ◌∷◌, length, map, take, drop, Option, Some, None, Result, Ok, Err, refl, sym, ap, subst, ◌∙◌, arith}
-use Rattle.std.specs.Prelude.{◌==◌, unwrap_or, IfSome}
+use Rattle.std.proofs.Common.{◌≡◌, ◌≢◌, ℕ, Bool, true, false, List, [], ◌∷◌, length, drop, Option, Some, None, Result, Ok, Err, refl, sym, ap, ◌∙◌, arith}
+use Rattle.std.specs.Prelude.{unwrap_or}
 use Rattle.std.specs.List.{flat_map}
 use Rattle.std.proofs.lemmas.Bool.{eqb-true}
-use Rattle.hfs_bag.specs.declared.item.BagHead.{BagHead}
-use Rattle.hfs_bag.specs.Items.{BagItem, IsHead}
 use Rattle.hfs_blocks.specs.Blocks.{AreRunsWithin, run_of}
 use Rattle.hfs_inventory.specs.Levels.{GivesRow, Going}
 use Rattle.hfs_inventory.specs.Told.{ToldRow, told_rows}
 use Rattle.hfs_model.specs.declared.call.Fork.{Fork}
-use Rattle.hfs_model.specs.declared.call.Fork.TheVariants.{DataFork, ResFork}
 use Rattle.hfs_model.specs.declared.reply.Info.{Info}
 use Rattle.hfs_model.specs.declared.reply.ItemKind.{ItemKind}
 use Rattle.hfs_model.specs.declared.reply.ItemKind.TheVariants as kind
 use Rattle.hfs_model.specs.declared.reply.Reply.{Reply}
-use Rattle.hfs_model.specs.Volume.{Entry}
 use Rattle.hfs_model.proofs.Facts.{true_false}
-use Rattle.hfs_needed.specs.declared.fork_runs.FileRuns.{FileRuns}
 use Rattle.hfs_needed.specs.declared.fork_runs.ForkRuns.{ForkRuns}
 use Rattle.hfs_needed.specs.ForkRuns.{AreRunsNamed, IsForkBytes, run_bytes}
 use Rattle.hfs_needed.specs.Forks.{IsForkNamed, named_fork}
 use Rattle.hfs_needed.specs.Listing.{HoldsTable}
 use Rattle.hfs_needed.specs.OpenedValues.{OpenedValue}
-use Rattle.hfs_image_items.specs.Items.{bytes_or_none, entries_in, fork_told, image_in, is_known, is_known_so, item_at, of_file, table_text}
-use Rattle.hfs_image_items.specs.Reading.{BeginsWith, IsEmptyFork, LiesThere, first_bytes}
+use Rattle.hfs_image_items.specs.Items.{bytes_or_none, entries_in, fork_told, image_in, is_known, is_known_so, of_file, table_text}
+use Rattle.hfs_image_items.specs.Reading.{AreBegunBy, BeginsWith, IsEmptyFork, LiesThere, first_bytes}
 
 -- ---- forks
 
@@ -104,11 +99,11 @@ first-row info old new (row ∷ rows) gives is = same-info row (record { path = 
     same-info : (x y : ToldRow) (xs ys : List ToldRow) → x ∷ xs ≡ y ∷ ys → x.info ≡ y.info
     same-info x y xs ys e = cc
 
--- the first row is that of the root
-pub begins_with : (opened : OpenedValue) (old new : Going) (row : Option Info) → HoldsTable opened.known opened.len old → GivesRow old new row → is_known opened ≡ true
-    → IfSome row (λ info. BeginsWith info (told_rows (entries_in (image_in opened))))
-begins_with opened old new None holds gives known = tt
-begins_with opened old new (Some info) holds gives known = first-row info old new (told_rows (entries_in (image_in opened))) gives (left-known opened.known opened.len old holds known)
+-- the first row is that of the root, where there are rows
+pub begins_with : (opened : OpenedValue) (old new : Going) (row : Option Info) → told_rows (entries_in (image_in opened)) ≢ [] → HoldsTable opened.known opened.len old
+    → GivesRow old new row → is_known opened ≡ true → AreBegunBy row (told_rows (entries_in (image_in opened)))
+begins_with opened old new None some holds gives known = some (sym (left-known opened.known opened.len old holds known) ∙ gives.0)
+begins_with opened old new (Some info) some holds gives known = first-row info old new (told_rows (entries_in (image_in opened))) gives (left-known opened.known opened.len old holds known)
 
 -- the table that is begun has all its text to come
 pub table_begun : (opened : OpenedValue) (going : Going) → HoldsTable opened.known opened.len going → is_known opened ≡ true → table_text going.left ≡ table_text (told_rows (entries_in (image_in opened)))

@@ -1,5 +1,5 @@
 -- Pieces of the table that are read.
-use Rattle.std.proofs.Common.{◌≡◌, ℕ, suc, ◌+◌, ◌≤◌, Bool, true, false, List, [], ◌++◌, length, refl, sym, ap, subst, ◌∙◌, arith, append-nil, length-append}
+use Rattle.std.proofs.Common.{◌≡◌, ℕ, suc, ◌≤◌, Bool, true, false, List, [], ◌++◌, length, refl, sym, ap, ◌∙◌, arith, length-append}
 use Rattle.hfs_inventory.specs.Told.{ToldRow}
 use Rattle.std.specs.Prelude.{codes}
 use Rattle.std.specs.List.{join_by}

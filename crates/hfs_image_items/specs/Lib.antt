@@ -2,3 +2,4 @@ pub mod Pieces
 pub mod Items
 pub mod Reading
 pub mod Sources
+pub mod Faults

@@ -50,6 +50,11 @@ abbrev pub BeginsWith : Info → List ToldRow → Type 0
 BeginsWith info [] = ⊥
 BeginsWith info (row ∷ rows) = row.info ≡ info
 
+-- there is an item of which this is told, and it is that of the first of the rows
+abbrev pub AreBegunBy : Option Info → List ToldRow → Type 0
+AreBegunBy None rows = ⊥
+AreBegunBy (Some info) rows = BeginsWith info rows
+
 -- ---- where forks lie
 
 -- a fork of an item lies there

@@ -1,5 +1,5 @@
 //! Forks that are read piece by piece.
-ghost use Rattle.std.specs.Prelude.{◌≡◌, ◌*◌, [], length, IfOk, OnOk};
+ghost use Rattle.std.specs.Prelude.{◌≡◌, ◌≤◌, ◌*◌, [], length, IfErr, IfOk, OnOk};
 ghost use Rattle.hfs_sparse.specs.Sparse.{HoldsFrom};
 ghost use Rattle.std.specs.List.{flat_map};
 ghost use Rattle.hfs_blocks.specs.Blocks.{AreRunsWithin, run_of};
@@ -12,7 +12,7 @@ use crate::pieces::pieces_of;
 use hfs_bag::SourceFault;
 use hfs_needed::{ForkRuns, OpenedImage};
 use hfs_sparse::BlockSource;
-use std::alloc::Global;
+use std::alloc::{AllocError, Global};
 
 /// Where reading a fork stands.
 #[derive(Drop)]
@@ -37,16 +37,14 @@ pub(crate) fn empty_fork(alloc: Global) -> ForkReading
     }
 }
 
-/// Begins with a fork, whose bytes lie there.
-pub(crate) fn begin_fork(alloc: Global, found: &ForkRuns) -> Result<ForkReading, SourceFault>
+/// Begins with a fork, whose bytes lie there. Error: memory was refused.
+pub(crate) fn begin_fork(alloc: Global, found: &ForkRuns) -> Result<ForkReading, AllocError>
     requires { AreRunsWithin found.now.runs.items 4294967296 }
     ensures { (opened : OpenedValue) → IfOk result (λ fork. fork_rest opened fork
         ≡ first_bytes (is_known opened) (image_in opened) found.now.length
         (flat_map run_of found.now.runs.items)) }
 {
-    let Ok(pieces) = pieces_of(alloc, &found.runs) else {
-        return Err(SourceFault::Memory);
-    };
+    let pieces = pieces_of(alloc, &found.runs)?;
     Ok(ForkReading {
         pieces,
         next: 0,
@@ -84,6 +82,7 @@ pub(crate) fn read_fork<S: BlockSource + Drop>(
     ensures read { OnOk result (ReadsOn (is_known image.old) piece.new.items
         (fork_rest image.old fork.old) (fork_rest image.old fork.new)) }
     ensures image { image.new ≡ image.old }
+    ensures fault { IfErr result (λ _. 1 ≤ fork.old.left) }
 {
     if fork.left == 0 {
         piece.clear();

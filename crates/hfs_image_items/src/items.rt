@@ -1,12 +1,15 @@
 //! The items of an opened image, for a bag.
-ghost use Rattle.std.specs.Prelude.{◌≡◌, ⊤, ℕ, List, true, drop, IfOk, IfSome, string_bytes};
+ghost use Rattle.std.specs.Prelude.{◌≡◌, ⊤, ℕ, List, true, drop, IfErr, IfOk, MatchResult, string_bytes};
+ghost use Rattle.hfs_bag.specs.Faults.{HasFailed};
 ghost use Rattle.hfs_bag.specs.Items.{IsHead};
+ghost use Rattle.hfs_bag.specs.Sources.{HasOpened, HasRead, HasRestarted, TakesItem};
 ghost use Rattle.hfs_model.specs.declared.call.Fork.TheVariants.{DataFork, ResFork};
 ghost use Rattle.hfs_inventory.specs.Told.{told_rows};
 ghost use Rattle.hfs_needed.specs.OpenedValues.{OpenedValue};
 ghost use Rattle.hfs_names.specs.HostNames.{host_name};
 ghost use Rattle.hfs_image_items.specs.Items.{bag_kind, entries_in, fork_told, folders_text, image_in, is_known, item_at, names_between, table_text};
-ghost use Rattle.hfs_image_items.specs.Reading.{BeginsWith, LieThere, fork_rest, reading_rest, table_rest};
+ghost use Rattle.hfs_image_items.specs.Faults.{FailsToRead, WantsMemory};
+ghost use Rattle.hfs_image_items.specs.Reading.{AreBegunBy, BeginsWith, LieThere, fork_rest, reading_rest, table_rest};
 ghost use Rattle.hfs_image_items.specs.Sources.{source_of, stream_told};
 
 use crate::fork_reading::{ForkReading, begin_fork, empty_fork};
@@ -53,41 +56,37 @@ pub struct ImageItems<'a, S: BlockSource, W: Watch> {
     all: u64,
 }
 
-/// The rows behind the root's, and what is told of the root.
-#[tactic(auto, using(crate::proofs::SourceLemmas::rows_behind, crate::proofs::SourceLemmas::begins_with))]
+/// The rows behind the root's, and what is told of the root. Error: memory was refused.
+#[tactic(auto, using(crate::proofs::SourceLemmas::rows_behind, crate::proofs::RootLemmas::begun_by_root))]
 fn rows_below<S: BlockSource + Drop>(
     alloc: Global,
     image: &OpenedImage<S>,
-) -> Result<(Inventory, Option<Info>), SourceFault>
+) -> Result<(Inventory, Option<Info>), AllocError>
     ensures root { IfOk result (λ below. is_known image.now ≡ true
-        → IfSome below.1 (λ root. BeginsWith root (told_rows (entries_in (image_in image.now))))) }
+        → AreBegunBy below.1 (told_rows (entries_in (image_in image.now)))) }
     ensures left { IfOk result (λ below. is_known image.now ≡ true
         → below.0.left ≡ drop 1 (told_rows (entries_in (image_in image.now)))) }
 {
-    let Ok(mut rows) = image.inventory(alloc) else {
-        return Err(SourceFault::Memory);
-    };
-    let Ok(root) = rows.next() else {
-        return Err(SourceFault::Memory);
-    };
+    let _sound = image.volume();
+    let mut rows = image.inventory(alloc)?;
+    let root = rows.next()?;
     Ok((rows, root))
 }
 
-/// Where both forks of a file lie. None of a folder.
+/// Where both forks of a file lie. None of a folder. Error: memory was refused.
 #[tactic(auto, using(crate::proofs::SourceLemmas::fork_lies, crate::proofs::SourceLemmas::fork_refused, crate::proofs::SourceLemmas::folder_empty))]
 fn runs_of<S: BlockSource + Drop>(
     alloc: Global,
     image: &OpenedImage<S>,
     info: &Info,
-) -> Result<Option<FileRuns>, SourceFault>
+) -> Result<Option<FileRuns>, AllocError>
     ensures { IfOk result (λ runs. LieThere image.now info.now runs) }
 {
     match info.kind {
         ItemKind::Folder => Ok(None),
-        ItemKind::File => match image.file_runs(alloc, info.parent, info.name.bytes()) {
-            Ok(Ok(runs)) => Ok(Some(runs)),
-            Ok(Err(_)) => Ok(None),
-            Err(_) => Err(SourceFault::Memory),
+        ItemKind::File => match image.file_runs(alloc, info.parent, info.name.bytes())? {
+            Ok(runs) => Ok(Some(runs)),
+            Err(_) => Ok(None),
         },
     }
 }
@@ -125,29 +124,25 @@ fn head_of(info: &Info, runs: &Option<FileRuns>) -> BagHead
     }
 }
 
-/// An item with its host path.
-fn came_item(alloc: Global, path: &[Name], info: Info) -> Result<CameItem, SourceFault>
+/// An item with its host path. Error: memory was refused.
+fn came_item(alloc: Global, path: &[Name], info: Info) -> Result<CameItem, AllocError>
     ensures above { IfOk result (λ came. string_bytes came.above
         ≡ folders_text (names_between path.now)) }
     ensures name { IfOk result (λ came. string_bytes came.name ≡ host_name info.name) }
     ensures info { IfOk result (λ came. came.info ≡ info) }
 {
-    let Ok(above) = folders_text(alloc, path) else {
-        return Err(SourceFault::Memory);
-    };
-    let Ok(name) = host_name(alloc, info.name.bytes()) else {
-        return Err(SourceFault::Memory);
-    };
+    let above = folders_text(alloc, path)?;
+    let name = host_name(alloc, info.name.bytes())?;
     Ok(CameItem { above, name, info })
 }
 
-/// The data fork of an item, from its first byte on.
+/// The data fork of an item, from its first byte on. Error: memory was refused.
 #[tactic(auto, using(crate::proofs::SourceLemmas::fork_begun))]
 fn open_data<S: BlockSource + Drop>(
     alloc: Global,
     image: &OpenedImage<S>,
     info: &Info,
-) -> Result<ForkReading, SourceFault>
+) -> Result<ForkReading, AllocError>
     ensures { IfOk result (λ fork. is_known image.now ≡ true → fork_rest image.now fork
         ≡ fork_told (entries_in (image_in image.now)) DataFork info.now) }
 {
@@ -157,13 +152,13 @@ fn open_data<S: BlockSource + Drop>(
     }
 }
 
-/// The resource fork of an item, from its first byte on.
+/// The resource fork of an item, from its first byte on. Error: memory was refused.
 #[tactic(auto, using(crate::proofs::SourceLemmas::fork_begun))]
 fn open_resource<S: BlockSource + Drop>(
     alloc: Global,
     image: &OpenedImage<S>,
     info: &Info,
-) -> Result<ForkReading, SourceFault>
+) -> Result<ForkReading, AllocError>
     ensures { IfOk result (λ fork. is_known image.now ≡ true → fork_rest image.now fork
         ≡ fork_told (entries_in (image_in image.now)) ResFork info.now) }
 {
@@ -173,31 +168,29 @@ fn open_resource<S: BlockSource + Drop>(
     }
 }
 
-/// The table of all items, from its head on.
+/// The table of all items, from its head on. Error: memory was refused.
 #[tactic(auto, using(crate::proofs::SourceLemmas::table_begun))]
 fn open_table<S: BlockSource + Drop>(
     alloc: Global,
     image: &OpenedImage<S>,
-) -> Result<TableReading, SourceFault>
+) -> Result<TableReading, AllocError>
     ensures { IfOk result (λ table. is_known image.now ≡ true
         → table_rest table.is_begun table.rows.left ≡ table_text (told_rows (entries_in (image_in image.now)))) }
 {
-    match image.inventory(alloc) {
-        Ok(rows) => Ok(TableReading {
-            rows,
-            is_begun: false,
-        }),
-        Err(_) => Err(SourceFault::Memory),
-    }
+    let rows = image.inventory(alloc)?;
+    Ok(TableReading {
+        rows,
+        is_begun: false,
+    })
 }
 
-/// A stream of an item, from its first byte on.
+/// A stream of an item, from its first byte on. Error: memory was refused.
 fn open_stream<S: BlockSource + Drop>(
     alloc: Global,
     image: &OpenedImage<S>,
     info: &Info,
     stream: Stream,
-) -> Result<Reading, SourceFault>
+) -> Result<Reading, AllocError>
     ensures { IfOk result (λ reading. is_known image.now ≡ true → reading_rest image.now reading
         ≡ stream_told image.now info.now stream) }
 {
@@ -241,7 +234,8 @@ fn begin<'a, S: BlockSource + Drop, W: Watch>(
 }
 
 impl<'a, S: BlockSource + Drop, W: Watch> ImageItems<'a, S, W> {
-    /// The items of an image, of which there are so many. Errors: memory was refused; `ReadFailed` where there is no root, as in no sound image.
+    /// The items of an image, of which there are so many. Errors: memory was refused; `ReadFailed` where there is no root, as in no image whose bytes
+    /// are known.
     pub fn new(
         alloc: Global,
         image: OpenedImage<S>,
@@ -251,8 +245,11 @@ impl<'a, S: BlockSource + Drop, W: Watch> ImageItems<'a, S, W> {
         ensures image { IfOk result (λ made. made.image ≡ image) }
         ensures root { IfOk result (λ made. is_known image ≡ true
             → BeginsWith made.root (told_rows (entries_in (image_in image)))) }
+        ensures fault { IfErr result (HasFailed WantsMemory (is_known image)) }
     {
-        let (rows, root) = rows_below(alloc, &image)?;
+        let Ok((rows, root)) = rows_below(alloc, &image) else {
+            return Err(SourceFault::Memory);
+        };
         let Some(info) = root else {
             return Err(SourceFault::ReadFailed);
         };
@@ -270,22 +267,39 @@ impl<S: BlockSource + Drop, W: Watch> BagSource for ImageItems<'_, S, W> {
     }
 
     #[tactic(auto, using(crate::proofs::StateLemmas::has_restarted))]
-    fn restart(&mut self) -> Result<(), SourceFault> {
-        let (rows, _root) = rows_below(self.alloc, &self.image)?;
+    fn restart(&mut self) -> Result<(), SourceFault>
+        ensures restarted { MatchResult result (λ _. HasRestarted
+            (source_of self.old.image self.old.rows.left self.old.came self.old.reading)
+            (source_of self.new.image self.new.rows.left self.new.came self.new.reading)) (λ _. ⊤) }
+        ensures fault { IfErr result WantsMemory }
+    {
+        let Ok((rows, _root)) = rows_below(self.alloc, &self.image) else {
+            return Err(SourceFault::Memory);
+        };
         self.rows = rows;
         Ok(())
     }
 
     #[tactic(auto, using(crate::proofs::StateLemmas::has_item, crate::proofs::StateLemmas::has_no_item))]
-    fn next_item(&mut self) -> Result<Option<BagHead>, SourceFault> {
+    fn next_item(&mut self) -> Result<Option<BagHead>, SourceFault>
+        ensures taken { MatchResult result (TakesItem
+            (source_of self.old.image self.old.rows.left self.old.came self.old.reading)
+            (source_of self.new.image self.new.rows.left self.new.came self.new.reading)) (λ _. ⊤) }
+        ensures fault { IfErr result WantsMemory }
+    {
         let Ok(next) = self.rows.next() else {
             return Err(SourceFault::Memory);
         };
         let Some(info) = next else {
             return Ok(None);
         };
-        self.came = came_item(self.alloc, self.rows.path(), info)?;
-        let runs = runs_of(self.alloc, &self.image, &info)?;
+        let Ok(came) = came_item(self.alloc, self.rows.path(), info) else {
+            return Err(SourceFault::Memory);
+        };
+        self.came = came;
+        let Ok(runs) = runs_of(self.alloc, &self.image, &info) else {
+            return Err(SourceFault::Memory);
+        };
         self.count = self.count.saturating_add(1);
         self.watch.item_came(self.count, self.all);
         Ok(Some(head_of(&info, &runs)))
@@ -300,13 +314,28 @@ impl<S: BlockSource + Drop, W: Watch> BagSource for ImageItems<'_, S, W> {
     }
 
     #[tactic(auto, using(crate::proofs::StateLemmas::has_opened))]
-    fn open(&mut self, stream: Stream) -> Result<(), SourceFault> {
-        self.reading = open_stream(self.alloc, &self.image, &self.came.info, stream)?;
-        Ok(())
+    fn open(&mut self, stream: Stream) -> Result<(), SourceFault>
+        ensures opened { MatchResult result (λ _. HasOpened stream
+            (source_of self.old.image self.old.rows.left self.old.came self.old.reading)
+            (source_of self.new.image self.new.rows.left self.new.came self.new.reading)) (λ _. ⊤) }
+        ensures fault { IfErr result WantsMemory }
+    {
+        match open_stream(self.alloc, &self.image, &self.came.info, stream) {
+            Ok(reading) => {
+                self.reading = reading;
+                Ok(())
+            }
+            Err(_) => Err(SourceFault::Memory),
+        }
     }
 
     #[tactic(auto, using(crate::proofs::StateLemmas::has_read))]
-    fn read(&mut self, piece: &mut Vec<u8>) -> Result<(), SourceFault> {
+    fn read(&mut self, piece: &mut Vec<u8>) -> Result<(), SourceFault>
+        ensures read { MatchResult result (λ _. HasRead piece.new.items
+            (source_of self.old.image self.old.rows.left self.old.came self.old.reading)
+            (source_of self.new.image self.new.rows.left self.new.came self.new.reading)) (λ _. ⊤) }
+        ensures fault { IfErr result (FailsToRead self.old.reading) }
+    {
         read_next(self.alloc, &mut self.image, &mut self.reading, piece)?;
         Ok(())
     }

@@ -1,5 +1,6 @@
 //! What of a source is being read.
-ghost use Rattle.std.specs.Prelude.{◌≡◌, OnOk};
+ghost use Rattle.std.specs.Prelude.{◌≡◌, IfErr, OnOk};
+ghost use Rattle.hfs_image_items.specs.Faults.{FailsToRead};
 ghost use Rattle.hfs_image_items.specs.Items.{is_known};
 ghost use Rattle.hfs_image_items.specs.Reading.{ReadsOn, reading_rest};
 
@@ -27,9 +28,13 @@ pub(crate) fn read_next<S: BlockSource + Drop>(
     ensures read { OnOk result (ReadsOn (is_known image.old) piece.new.items
         (reading_rest image.old reading.old) (reading_rest image.old reading.new)) }
     ensures image { image.new ≡ image.old }
+    ensures fault { IfErr result (FailsToRead reading.old) }
 {
     match reading {
         Reading::Fork(fork) => read_fork(image, fork, piece),
-        Reading::Table(table) => read_table(alloc, table, piece),
+        Reading::Table(table) => match read_table(alloc, table, piece) {
+            Ok(()) => Ok(()),
+            Err(_) => Err(SourceFault::Memory),
+        },
     }
 }

@@ -2,10 +2,9 @@
 ghost use Rattle.std.specs.Prelude.{◌≡◌, true, [], IfOk, OnOk};
 ghost use Rattle.hfs_image_items.specs.Reading.{AddsRow, ReadsOn, table_rest};
 
-use hfs_bag::SourceFault;
 use hfs_inventory::Inventory;
 use hfs_table::{Format, push_head, push_row};
-use std::alloc::Global;
+use std::alloc::{AllocError, Global};
 
 /// From how many bytes of text on a piece is whole.
 const PIECE: usize = 65_536;
@@ -20,25 +19,20 @@ pub(crate) struct TableReading {
 }
 
 /// Appends the line of the next row, and answers whether there was one.
-fn push_next(alloc: Global, piece: &mut Vec<u8>, rows: &mut Inventory) -> Result<bool, SourceFault>
+fn push_next(alloc: Global, piece: &mut Vec<u8>, rows: &mut Inventory) -> Result<bool, AllocError>
     ensures { IfOk result (λ more. AddsRow more piece.old.items piece.new.items rows.old.left
         rows.new.left) }
 {
-    let Ok(next) = rows.next() else {
-        return Err(SourceFault::Memory);
-    };
-    let Some(info) = next else {
+    let Some(info) = rows.next()? else {
         return Ok(false);
     };
-    match push_row(alloc, piece, Format::Csv, rows.path(), &info) {
-        Ok(()) => Ok(true),
-        Err(_) => Err(SourceFault::Memory),
-    }
+    push_row(alloc, piece, Format::Csv, rows.path(), &info)?;
+    Ok(true)
 }
 
 /// Puts the lines of the next rows in the place of a piece, until it is whole or there are none.
 #[tactic(auto, using(crate::proofs::TableLemmas::row_more, crate::proofs::TableLemmas::rows_fewer, crate::proofs::TableLemmas::rows_done, crate::proofs::TableLemmas::rows_read))]
-fn read_rows(alloc: Global, rows: &mut Inventory, piece: &mut Vec<u8>) -> Result<(), SourceFault>
+fn read_rows(alloc: Global, rows: &mut Inventory, piece: &mut Vec<u8>) -> Result<(), AllocError>
     requires { piece.old.items ≡ [] }
     ensures { OnOk result (ReadsOn true piece.new.items (table_rest true rows.old.left)
         (table_rest true rows.new.left)) }
@@ -51,13 +45,13 @@ fn read_rows(alloc: Global, rows: &mut Inventory, piece: &mut Vec<u8>) -> Result
     Ok(())
 }
 
-/// Reads the next text of the table in the place of a piece, and none where none is left.
+/// Reads the next text of the table in the place of a piece, and none where none is left. Error: memory was refused.
 #[tactic(auto, using(crate::proofs::TableLemmas::head_read))]
 pub(crate) fn read_table(
     alloc: Global,
     table: &mut TableReading,
     piece: &mut Vec<u8>,
-) -> Result<(), SourceFault>
+) -> Result<(), AllocError>
     ensures { OnOk result (ReadsOn true piece.new.items
         (table_rest table.old.is_begun table.old.rows.left)
         (table_rest table.new.is_begun table.new.rows.left)) }
@@ -67,8 +61,6 @@ pub(crate) fn read_table(
         return read_rows(alloc, &mut table.rows, piece);
     }
     table.is_begun = true;
-    match push_head(piece, Format::Csv) {
-        Ok(()) => Ok(()),
-        Err(_) => Err(SourceFault::Memory),
-    }
+    push_head(piece, Format::Csv)?;
+    Ok(())
 }

@@ -13,7 +13,7 @@ ghost use Rattle.hfs_needed_runs.specs.NeededRuns.{AreLinesRunOverAs};
 use crate::keeping::kept_in;
 use crate::places::working_runs;
 use hfs_blocks::Patch;
-use hfs_runs::{Gate, Ran, ScriptFault, run_volume_at};
+use hfs_runs::{Answers, Gate, RanInPieces, ScriptFault, run_volume_in_pieces};
 use hfs_scripts::Script;
 use hfs_working::{WorkingVolume, mount_read};
 use std::alloc::Global;
@@ -25,15 +25,15 @@ use std::thread::Threads;
 pub struct NeededRan {
     /// The changed blocks, which are to be laid over the image.
     pub patch: Patch,
-    /// The lines of the answers.
-    pub text: String,
+    /// The answers, of which long bytes have no digits yet.
+    pub answers: Answers,
     /// Whether each line was answered.
     pub whole: bool,
     /// Whether viewers were shown each change at once, and none later for want of memory.
     pub shown: bool,
 }
 
-/// Runs a script, as `run_volume_at` does, on a volume of an image of `len` bytes of which the working blocks were read, and the forks that the script
+/// Runs a script, as `run_volume_in_pieces` does, on a volume of an image of `len` bytes of which the working blocks were read, and the forks that the script
 /// may read. What it changed, laid over the image, agrees with the image, and holds what it made of the copy, but for the bytes of
 /// forks, which are the image's. Faults in order: `NoPlace`; and `Memory`.
 pub fn run_needed_at<R: Threads + Wait + Sync, G: Gate + Sync>(
@@ -57,16 +57,16 @@ pub fn run_needed_at<R: Threads + Wait + Sync, G: Gate + Sync>(
     let Ok(volume) = mount_read(alloc, working, len) else {
         return Err(ScriptFault::Memory);
     };
-    let Ran {
+    let RanInPieces {
         volume,
-        text,
+        answers,
         whole,
         shown,
-    } = run_volume_at(rt, alloc, gate, volume, script)?;
+    } = run_volume_in_pieces(rt, alloc, gate, volume, script)?;
     let patch = kept_in(alloc, volume.changes(), &places)?;
     Ok(NeededRan {
         patch,
-        text,
+        answers,
         whole,
         shown,
     })

@@ -1,22 +1,25 @@
 -- What is said of a fork, and its bytes, are a function of the fork's length, its extents, its blocks, and of where blocks lie.
-use Rattle.std.specs.Prelude.{◌≡◌, ◌≢◌, ℕ, ◌*◌, ◌<◌, ◌≤◌, Bool, true, false, List, map, take, length, replicate, reverse, Option, Some, None, slice_index_or}
-use Rattle.std.specs.List.{flat_map}
+use Rattle.std.specs.Prelude.{◌≡◌, ◌≢◌, ℕ, ◌*◌, ◌<◌, ◌≤◌, Bool, true, false, List, map, take, length, reverse, Option, Some, None, IsTrue, slice_index_or}
 use Rattle.hfs_fields.specs.declared.mdb.Mdb.{Mdb}
 use Rattle.hfs_fields.specs.Records.{item_id}
+use Rattle.hfs_names.specs.Laws.{is_bytes}
 use Rattle.hfs_names.specs.Paths.{host_path}
 use Rattle.hfs_fields.specs.declared.extent.Extent.{Extent}
+use Rattle.hfs_blocks.specs.Blocks.{block_at, block_count}
 use Rattle.hfs_space.specs.Extents.{Overflow, extent_blocks, fork_extents as whole_extents}
-use Rattle.hfs_space.specs.Forks.{blocks_each, run_bytes, fork_bytes}
+use Rattle.hfs_space.specs.Forks.{fork_bytes as whole_bytes}
 use Rattle.hfs_space.specs.Owners.{Fork as CheckedFork}
 use Rattle.hfs_space.specs.Sound.{IsForkSound}
 use Rattle.hfs_catalog.specs.Records.{Record, Catalog, items_of as items_in}
 use Rattle.hfs_check.specs.Parts.{Blocks, mdb_in, overflow_in, catalog_in}
-use Rattle.hfs_check.specs.Sound.{AreBlocksSound}
-use Rattle.hfs_rescue.specs.Allocation.{start_of}
+use Rattle.hfs_check.specs.Sound.{AreBlocksSound, IsSound}
 use Rattle.hfs_rescue.specs.TreeFiles.{FileBlocks}
 use Rattle.hfs_rescue.specs.OverflowRecords.{fork_extents}
 use Rattle.hfs_rescue.specs.declared.catalog.FoundRecord.{FoundRecord}
 use Rattle.hfs_rescue.specs.CatalogRecords.{found}
+use Rattle.hfs_rescue.specs.Directory.{directory_of, mdb_at}
+use Rattle.hfs_rescue.specs.Items.{items_of}
+use Rattle.hfs_rescue.specs.Remains.{remaining_records}
 use Rattle.hfs_places.specs.declared.things.Thing.{Thing}
 use Rattle.hfs_places.specs.Folders.{thing_at}
 use Rattle.hfs_places.specs.Things.{things_of}
@@ -27,6 +30,7 @@ use Rattle.hfs_remains.specs.declared.shares.FileShares.{FileShares}
 use Rattle.hfs_remains.specs.Records.{thing_of, namings_of}
 use Rattle.hfs_remains.specs.Forks.{blocks_for, both_forks, fork_length, fork_places}
 use Rattle.hfs_remains.specs.Verdicts.{finding_of, shares_of}
+use Rattle.hfs_remains.specs.ForkBytes.{fork_bytes, place_bytes}
 
 -- ---- what two images agree on
 
@@ -47,18 +51,18 @@ pub record AgreeOnFork (records others : Overflow) (one other : Mdb) (fork secon
 
 -- ---- a fork's bytes
 
--- of a block; of a missing one zeros
-abbrev pub place_bytes : Blocks → Mdb → Option ℕ → List ℕ
-place_bytes blocks mdb None = replicate mdb.allocation_block_size 0
-place_bytes blocks mdb (Some b) = run_bytes blocks (start_of mdb b) (blocks_each mdb)
-
--- those of its blocks, as far as its length goes
-abbrev pub taken_bytes : ℕ → Blocks → Overflow → Mdb → Fork → List ℕ
-taken_bytes total blocks records mdb fork = take (fork_length records mdb fork) (flat_map (place_bytes blocks mdb) (fork_places total records mdb fork))
+-- those of a fork of an image of `total` logical blocks, as far as its length goes
+abbrev pub taken_bytes : ℕ → List ℕ → Overflow → Mdb → Fork → List ℕ
+taken_bytes total image records mdb fork = fork_bytes image mdb (fork_length records mdb fork) (fork_places total records mdb fork)
 
 -- two images have the same bytes in these blocks
-abbrev pub AgreeOnBytes : Blocks → Blocks → Mdb → Mdb → FileBlocks → Type 0
+abbrev pub AgreeOnBytes : List ℕ → List ℕ → Mdb → Mdb → FileBlocks → Type 0
 AgreeOnBytes first second one other places = (i b : ℕ) → slice_index_or places i None ≡ Some b → place_bytes first one (Some b) ≡ place_bytes second other (Some b)
+
+-- an image has these blocks, so many
+pub record HasBlocks (image : List ℕ) (total : ℕ) (blocks : Blocks) : Type 0 where
+  pub enough : total ≤ block_count image
+  pub same : (n : ℕ) → n < total → block_at image n ≡ blocks n
 
 -- ---- the law of forks
 
@@ -68,7 +72,7 @@ pub record IsSameFork (total : ℕ) (records others : Overflow) (one other : Mdb
   pub len : fork_length records one fork ≡ fork_length others other second
   pub cut : (used later : FileBlocks) → (finding_of total records one used fork).cut ≡ (finding_of total others other later second).cut
   pub missing : (used later : FileBlocks) → (finding_of total records one used fork).missing ≡ (finding_of total others other later second).missing
-  pub bytes : (first later : Blocks) → AgreeOnBytes first later one other (fork_places total records one fork)
+  pub bytes : (first later : List ℕ) → AgreeOnBytes first later one other (fork_places total records one fork)
       → taken_bytes total first records one fork ≡ taken_bytes total later others other second
 
 abbrev pub ForksAreTheirBlocks : Type 0
@@ -84,8 +88,8 @@ pub record IsWholeFork (total : ℕ) (blocks : Blocks) (records : Overflow) (mdb
   pub len : fork_length records mdb fork ≡ fork.len
   pub cut : (used : FileBlocks) → (finding_of total records mdb used fork).cut ≡ None
   pub missing : (used : FileBlocks) → (finding_of total records mdb used fork).missing ≡ 0
-  pub bytes : ((n : ℕ) → n < total → length (blocks n) ≡ 512)
-      → taken_bytes total blocks records mdb fork ≡ fork_bytes blocks mdb (whole_extents records fork.file fork.kind fork.first) fork.len
+  pub bytes : (image : List ℕ) → HasBlocks image total blocks
+      → taken_bytes total image records mdb fork ≡ whole_bytes blocks mdb (whole_extents records fork.file fork.kind fork.first) fork.len
 
 -- a fork as the checks of a volume have it
 abbrev pub checked : Fork → CheckedFork
@@ -116,6 +120,10 @@ abbrev pub RecordsHaveOwnPlaces : Type 0
 RecordsHaveOwnPlaces =
     (items records : List FoundRecord) → AreThings (things_of (map thing_of items) (namings_of records)) → ArePlacedApart (things_of (map thing_of items) (namings_of records))
 
+-- the records of the catalog that block n as the directory of an image leads to
+abbrev pub records_found : List ℕ → ℕ → List FoundRecord
+records_found image n = remaining_records (block_count image) (block_at image) (mdb_at (block_at image) n)
+
 -- the things of a catalog's items
 abbrev pub things_in : Catalog → List Thing
 things_in catalog = map thing_of (map (found false) (items_in catalog))
@@ -125,9 +133,19 @@ abbrev pub SoundThingsAreItems : Type 0
 SoundThingsAreItems =
     (total : ℕ) (blocks : Blocks) → AreBlocksSound total blocks → things_of (things_in (catalog_in blocks)) (namings_of (map (found false) (catalog_in blocks))) ≡ things_in (catalog_in blocks)
 
--- and no two items of a folder are called the same
+-- what is found in an image of bytes by its directory are things: names have at most 31 bytes, numbers 32 bits
+abbrev pub FoundAreThings : Type 0
+FoundAreThings =
+    (image : List ℕ) (n : ℕ) → IsTrue (is_bytes image) → directory_of image ≡ Some n
+    → AreThings (things_of (map thing_of (items_of (records_found image n))) (namings_of (records_found image n)))
+
+-- and so are those of a sound image
+abbrev pub SoundAreThings : Type 0
+SoundAreThings = (image : List ℕ) → IsSound image → IsTrue (is_bytes image) → AreThings (things_in (catalog_in (block_at image)))
+
+-- no two items of a folder of it are called the same
 abbrev pub SoundNamesAreOwn : Type 0
-SoundNamesAreOwn = (total : ℕ) (blocks : Blocks) → AreBlocksSound total blocks → AreThings (things_in (catalog_in blocks)) → HaveOwnNames (things_in (catalog_in blocks))
+SoundNamesAreOwn = (image : List ℕ) → IsSound image → IsTrue (is_bytes image) → HaveOwnNames (things_in (catalog_in (block_at image)))
 
 -- names lead from a thing up to the payload
 pub record HasSomeWay (things : List Thing) (i : ℕ) : Type 0 where
@@ -143,6 +161,7 @@ SoundItemsHaveWays =
 -- where the host paths of folders take at most 800 bytes, an item but the root is put at the host path of the names that lead to it
 abbrev pub SoundPathsAreHostPaths : Type 0
 SoundPathsAreHostPaths =
-    (total : ℕ) (blocks : Blocks) → AreBlocksSound total blocks → AreThings (things_in (catalog_in blocks)) → AreWaysShort (things_in (catalog_in blocks))
-    → (i : ℕ) (names : List (List ℕ)) → i < length (things_in (catalog_in blocks)) → (thing_at (things_in (catalog_in blocks)) i).folder ≢ Some 2 → HasWay (things_in (catalog_in blocks)) names i
-    → payload_path (things_of (things_in (catalog_in blocks)) (namings_of (map (found false) (catalog_in blocks)))) i ≡ host_path (reverse names)
+    (image : List ℕ) → IsSound image → IsTrue (is_bytes image) → AreWaysShort (things_in (catalog_in (block_at image)))
+    → (i : ℕ) (names : List (List ℕ)) → i < length (things_in (catalog_in (block_at image))) → (thing_at (things_in (catalog_in (block_at image))) i).folder ≢ Some 2
+    → HasWay (things_in (catalog_in (block_at image))) names i
+    → payload_path (things_of (things_in (catalog_in (block_at image))) (namings_of (map (found false) (catalog_in (block_at image))))) i ≡ host_path (reverse names)

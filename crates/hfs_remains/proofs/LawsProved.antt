@@ -1,8 +1,10 @@
 -- Laws of this crate, each by the laws that it stands on.
 use Rattle.std.proofs.Common.{map}
+use Rattle.hfs_blocks.specs.Blocks.{block_at, block_count}
 use Rattle.hfs_places.proofs.LawsProved.{places_differ}
 use Rattle.hfs_remains.specs.Records.{thing_of, namings_of}
-use Rattle.hfs_remains.proofs.LawTypes.{ForksAreTheirBlocks, RecordsHaveOwnPlaces, SoundForksAreTaken, SoundForksAreWhole, SoundItemsHaveWays, SoundNamesAreOwn, SoundPathsAreHostPaths, SoundThingsAreItems}
+use Rattle.hfs_remains.proofs.LawTypes.{ForksAreTheirBlocks, FoundAreThings, RecordsHaveOwnPlaces, SoundAreThings, SoundForksAreTaken, SoundForksAreWhole, SoundItemsHaveWays, SoundNamesAreOwn, SoundPathsAreHostPaths, SoundThingsAreItems}
+use Rattle.hfs_remains.proofs.ReadThingLemmas.{found-are-things, sound-are-things}
 use Rattle.hfs_remains.proofs.SoundPathLemmas.{sound-paths}
 use Rattle.hfs_remains.proofs.SoundWayLemmas.{ways-are}
 use Rattle.hfs_remains.proofs.SoundThingLemmas.{things-are, names-own}
@@ -31,9 +33,17 @@ sound_forks_are_taken = forks-taken
 pub sound_things_are_items : SoundThingsAreItems
 sound_things_are_items = things-are
 
+-- What is found in an image of bytes has names of at most 31 bytes and numbers of 32 bits, and there are fewer than 2^64 things.
+pub found_are_things : FoundAreThings
+found_are_things = found-are-things
+
+-- So it is of a sound image's.
+pub sound_are_things : SoundAreThings
+sound_are_things = sound-are-things
+
 -- Of a sound volume no two items of a folder are called the same, not even but for case.
 pub sound_names_are_own : SoundNamesAreOwn
-sound_names_are_own = names-own
+sound_names_are_own image sound bytes = names-own (block_count image) (block_at image) sound.blocks (sound_are_things image sound bytes)
 
 -- Of a sound volume names lead from each item but the root up to the payload.
 pub sound_items_have_ways : SoundItemsHaveWays

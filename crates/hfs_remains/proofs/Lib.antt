@@ -4,6 +4,7 @@ pub mod CountLemmas
 mod OwnerLemmas
 mod BlockLemmas
 mod ShareLemmas
+pub mod ForkByteLemmas
 mod NamingLemmas
 pub mod LawTypes
 mod SameLemmas
@@ -12,5 +13,6 @@ mod WholeForkLemmas
 mod TakenLemmas
 mod SoundThingLemmas
 mod SoundWayLemmas
+mod ReadThingLemmas
 mod SoundPathLemmas
 pub mod LawsProved

@@ -5,7 +5,6 @@ use Rattle.std.specs.Int.{div_ceil}
 use Rattle.std.specs.List.{flat_map}
 use Rattle.hfs_fields.specs.declared.mdb.Mdb.{Mdb}
 use Rattle.hfs_space.specs.Extents.{Overflow, extent_blocks}
-use Rattle.hfs_check.specs.Parts.{Blocks}
 use Rattle.hfs_rescue.specs.Allocation.{is_there}
 use Rattle.hfs_rescue.specs.TreeFiles.{FileBlocks}
 use Rattle.hfs_rescue.specs.declared.catalog.FoundRecord.{FoundRecord}
@@ -13,16 +12,18 @@ use Rattle.hfs_places.proofs.LawTypes.{AreItems}
 use Rattle.hfs_remains.specs.declared.forks.Fork.{Fork}
 use Rattle.hfs_remains.specs.Records.{thing_of}
 use Rattle.hfs_remains.specs.Forks.{blocks_for, fork_blocks, there, fork_places, fork_length, missing_in}
-use Rattle.hfs_remains.proofs.LawTypes.{AgreeOnBlocks, AgreeOnFork, AgreeOnBytes, IsSameFork, ForksAreTheirBlocks, place_bytes, taken_bytes}
+use Rattle.hfs_remains.specs.ForkBytes.{place_bytes}
+use Rattle.hfs_remains.proofs.LawTypes.{AgreeOnBlocks, AgreeOnFork, AgreeOnBytes, IsSameFork, ForksAreTheirBlocks, taken_bytes}
 
 module _ (total : ℕ) (one other : Mdb) (blocks : AgreeOnBlocks one other) where
   there-same : (b : ℕ) → there total one b ≡ there total other b
   unfolding is_there
   there-same b = λ i. if nat_lt b (blocks.count i) && nat_le (blocks.start i + (b + 1) * (blocks.size i / 512)) total then Some b else None
 
-  module _ (first second : Blocks) where
+  module _ (first second : List ℕ) where
     -- the bytes of the same blocks
     bytes-same : (places : FileBlocks) → AgreeOnBytes first second one other places → flat_map (place_bytes first one) places ≡ flat_map (place_bytes second other) places
+    unfolding place_bytes
     bytes-same [] same = refl
     bytes-same (None ∷ places) same =
         let rest = bytes-same places (λ i b at. same (suc i) b at) in
@@ -48,7 +49,7 @@ module _ (total : ℕ) (one other : Mdb) (blocks : AgreeOnBlocks one other) wher
     unfolding fork_length
     length-same = λ i. min (same.len i) (length (blocks-same i) * blocks.size i)
 
-    taken-same : (first later : Blocks) → AgreeOnBytes first later one other (fork_places total records one fork)
+    taken-same : (first later : List ℕ) → AgreeOnBytes first later one other (fork_places total records one fork)
         → taken_bytes total first records one fork ≡ taken_bytes total later others other second
     taken-same first later bytes =
         ap (take (fork_length records one fork)) (bytes-same first later (fork_places total records one fork) bytes)

@@ -4,6 +4,7 @@ use Rattle.std.specs.Option.{option_map_or}
 use Rattle.std.proofs.lemmas.Bool.{and_parts, eqb-true, false_from_ne_true}
 use Rattle.hfs_catalog_checks.specs.Indexes.{is_place}
 use Rattle.hfs_catalog.specs.Records.{Catalog, items_of as items_in}
+use Rattle.hfs_blocks.specs.Blocks.{block_at, block_count}
 use Rattle.hfs_check.specs.Parts.{catalog_in}
 use Rattle.hfs_rescue.specs.CatalogRecords.{found}
 use Rattle.hfs_places.specs.declared.things.Thing.{Thing}
@@ -13,6 +14,7 @@ use Rattle.hfs_places.proofs.FolderLemmas.{position-holds}
 use Rattle.hfs_places.proofs.LawsProved.{paths_are_host_paths}
 use Rattle.hfs_remains.specs.Records.{thing_of}
 use Rattle.hfs_remains.proofs.LawTypes.{things_in, SoundPathsAreHostPaths}
+use Rattle.hfs_remains.proofs.ReadThingLemmas.{sound-are-things}
 use Rattle.hfs_remains.proofs.SoundThingLemmas.{things-are, names-own}
 
 -- the root is the folder 2
@@ -39,9 +41,12 @@ never-old (r ∷ items) (suc i) = never-old items i
 
 pub sound-paths : SoundPathsAreHostPaths
 unfolding payload_path
-sound-paths total blocks h are short i names within other way =
+sound-paths image sound bytes short i names within other way =
+    let blocks = block_at image in
+    let total = block_count image in
+    let are = sound-are-things image sound bytes in
     let things = things_in (catalog_in blocks) in
     let root : is_place (root_of things) i ≡ false = false_from_ne_true (is_place (root_of things) i) (λ so. other (root-folder things i so)) in
-    ap (λ (l : List Thing). payload_path l i) (things-are total blocks h)
+    ap (λ (l : List Thing). payload_path l i) (things-are total blocks sound.blocks)
     ∙ (λ t. if root t then [] else (if never-old (items_in (catalog_in blocks)) i t then codes "=old/" else []) ++ path things i)
-    ∙ paths_are_host_paths things are (names-own total blocks h are) short i names within way
+    ∙ paths_are_host_paths things are (names-own total blocks sound.blocks are) short i names within way

@@ -22,16 +22,17 @@ use Rattle.hfs_btree.specs.Pairs.{Rises}
 use Rattle.hfs_names.proofs.HostNameLemmas.{host-names}
 use Rattle.hfs_catalog.specs.Records.{Record, Catalog, has_id, items_of as items_in}
 use Rattle.hfs_catalog.specs.Sound.{HasItem, EachThread}
-use Rattle.hfs_check.specs.Parts.{catalog_in}
+use Rattle.hfs_check.specs.Parts.{Blocks, catalog_in}
+use Rattle.hfs_check.specs.Sound.{AreBlocksSound}
 use Rattle.hfs_rescue.specs.CatalogRecords.{found}
 use Rattle.hfs_places.specs.declared.things.Thing.{Thing}
 use Rattle.hfs_places.specs.Folders.{thing_at, is_folder_of, place_of}
 use Rattle.hfs_places.specs.Things.{is_taken, named_behind}
 use Rattle.hfs_places.specs.Entries.{entry_row, has_entry_row}
-use Rattle.hfs_places.proofs.LawTypes.{IsThing}
+use Rattle.hfs_places.proofs.LawTypes.{AreThings, HaveOwnNames, IsThing}
 use Rattle.hfs_places.proofs.RowPartLemmas.{rows-part}
 use Rattle.hfs_remains.specs.Records.{folder_number, thing_of, names_folder, named_by, namings_of}
-use Rattle.hfs_remains.proofs.LawTypes.{SoundThingsAreItems, SoundNamesAreOwn}
+use Rattle.hfs_remains.proofs.LawTypes.{SoundThingsAreItems, things_in}
 
 -- ---- each folder that a thread names has an item
 
@@ -154,7 +155,7 @@ own-names (r ∷ items) rises are (suc i) within =
     let rest = own-names items rises.1 (λ k lt. are (suc k) (omega (arith, lt))) i inside in
     λ t. other t || rest t
 
-pub names-own : SoundNamesAreOwn
+pub names-own : (total : ℕ) (blocks : Blocks) → AreBlocksSound total blocks → AreThings (things_in (catalog_in blocks)) → HaveOwnNames (things_in (catalog_in blocks))
 names-own total blocks h are i within =
     let items = items_in (catalog_in blocks) in
     let all : length (map thing_of (map (found false) items)) ≡ length items = length-map (map (found false) items) thing_of ∙ length-map items (found false) in

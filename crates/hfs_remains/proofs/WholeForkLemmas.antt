@@ -1,5 +1,5 @@
 -- The forks of a sound volume are whole.
-use Rattle.std.proofs.Common.{◌≡◌, ℕ, suc, ◌+◌, ◌-◌, ◌*◌, ◌%◌, ◌<◌, ◌≤◌, Bool, if◌then◌else◌, List, [], ◌∷◌, ◌++◌, map, take, drop, length, length-append, Some, None, refl, sym, ap, subst, ◌∙◌, arith, inl, inr}
+use Rattle.std.proofs.Common.{◌≡◌, ℕ, zero, suc, ◌+◌, ◌-◌, ◌*◌, ◌%◌, ◌<◌, ◌≤◌, Bool, if◌then◌else◌, List, [], ◌∷◌, ◌++◌, map, take, drop, length, length-append, length-drop, replicate, Some, None, refl, sym, ap, subst, ◌∙◌, arith, inl, inr}
 use Rattle.std.specs.Prelude.{nat_lt, min}
 use Rattle.std.specs.List.{flat_map, range_with_len}
 use Rattle.std.proofs.Math.Nat.{add-mul, mul-le-mul_right, suc-mul}
@@ -7,10 +7,11 @@ use Rattle.std.proofs.lemmas.Bool.{cases_lt, le-ltb}
 use Rattle.std.proofs.lemmas.Grind.{div_ceil_times}
 use Rattle.std.proofs.lemmas.List.{length-take-le, take-append-drop, take-append-le}
 use Rattle.std.proofs.lemmas.List.Concat.{flat_map-append}
-use Rattle.std.proofs.lemmas.List.Folds.{flat_map-map}
 use Rattle.hfs_fields.specs.declared.mdb.Mdb.{Mdb}
 use Rattle.hfs_fields.specs.declared.extent.Extent.{Extent}
 use Rattle.hfs_fields.specs.Keys.{ext_cmp}
+use Rattle.hfs_blocks.specs.Blocks.{block_at, length-block_at}
+use Rattle.hfs_sparse.proofs.Copied.{flat-range}
 use Rattle.hfs_scans.specs.Each.{Each}
 use Rattle.hfs_scans.proofs.ElementLemmas.{each-append, each-left}
 use Rattle.hfs_btree.specs.Pairs.{Rises}
@@ -28,7 +29,8 @@ use Rattle.hfs_remains.specs.declared.forks.Fork.{Fork}
 use Rattle.hfs_remains.specs.Forks.{blocks_for, fork_blocks, there, fork_places, fork_length, missing_in}
 use Rattle.hfs_remains.proofs.BlockLemmas.{blocks-counted}
 use Rattle.hfs_remains.proofs.FrontLemmas.{front-same}
-use Rattle.hfs_remains.proofs.LawTypes.{IsWholeFork, SoundForksAreWhole, place_bytes, taken_bytes}
+use Rattle.hfs_remains.specs.ForkBytes.{filled, place_bytes}
+use Rattle.hfs_remains.proofs.LawTypes.{HasBlocks, IsWholeFork, SoundForksAreWhole, taken_bytes}
 
 -- ---- blocks that are all there
 
@@ -54,6 +56,37 @@ none-missing size left [] = refl
 none-missing size left (b ∷ bs) = omega (arith, none-missing size (left - size) bs)
 
 -- ---- bytes
+
+-- a block that lies whole in an image has the bytes of its logical blocks
+module _ (image : List ℕ) (mdb : Mdb) (total : ℕ) (blocks : Blocks) (area : HasArea mdb total) (whole : mdb.allocation_block_size % 512 ≡ 0) (has : HasBlocks image total blocks) where
+  run-same : (n k : ℕ) → n + k ≤ total → flat_map (block_at image) (range_with_len n k) ≡ run_bytes blocks n k
+  run-same n zero within = refl
+  run-same n (suc k) within =
+      let here = has.same n (omega (arith, within)) in
+      let rest = run-same (n + 1) k (omega (arith, within)) in
+      λ i. here i ++ rest i
+
+  place-whole : (b : ℕ) → b < mdb.allocation_blocks → place_bytes image mdb (Some b) ≡ run_bytes blocks (start_of mdb b) (blocks_each mdb)
+  unfolding place_bytes filled
+  place-whole b below =
+      let size : ℕ = mdb.allocation_block_size in
+      let bytes : List ℕ = drop (512 * start_of mdb b) image in
+      let each : blocks_each mdb * 512 ≡ size = omega (arith, whole) in
+      let inside : (b + 1) * blocks_each mdb ≤ mdb.allocation_blocks * blocks_each mdb = mul-le-mul_right (blocks_each mdb) (omega (arith, below)) in
+      let end : start_of mdb b + blocks_each mdb ≤ total = omega (arith, area, inside, add-mul b 1 (blocks_each mdb)) in
+      let fits : size ≤ length bytes = omega (arith, each, end, has.enough, length-drop (512 * start_of mdb b) image) in
+      take-append-le size bytes (replicate size 0) fits
+      ∙ ap (λ (n : ℕ). take n bytes) (sym each)
+      ∙ sym (flat-range image (start_of mdb b) (blocks_each mdb))
+      ∙ run-same (start_of mdb b) (blocks_each mdb) end
+
+  places-whole : (bs : List ℕ) → Each (λ b. b < mdb.allocation_blocks) bs
+      → flat_map (place_bytes image mdb) (map Some bs) ≡ flat_map (λ b. run_bytes blocks (start_of mdb b) (blocks_each mdb)) bs
+  places-whole [] below = refl
+  places-whole (b ∷ bs) below =
+      let here = place-whole b below.0 in
+      let rest = places-whole bs below.1 in
+      λ i. here i ++ rest i
 
 joined-flat : (blocks : Blocks) (mdb : Mdb) (bs : List ℕ) → joined (flat_map (allocation_block blocks mdb) bs) ≡ flat_map (λ b. run_bytes blocks (start_of mdb b) (blocks_each mdb)) bs
 joined-flat blocks mdb [] = refl
@@ -123,9 +156,9 @@ module _ (total : ℕ) (blocks : Blocks) (mdb : Mdb) (area : HasArea mdb total) 
             long bs below.1,
           )
 
-      bytes-are : taken_bytes total blocks records mdb fork ≡ fork_bytes blocks mdb extents fork.len
+      bytes-are : (image : List ℕ) → HasBlocks image total blocks → taken_bytes total image records mdb fork ≡ fork_bytes blocks mdb extents fork.len
       unfolding fork_bytes
-      bytes-are =
+      bytes-are image has =
           let f : ℕ → List ℕ = λ b. run_bytes blocks (start_of mdb b) (blocks_each mdb) in
           let bs = extent_blocks extents in
           let front = flat_map f (take wanted bs) in
@@ -135,8 +168,8 @@ module _ (total : ℕ) (blocks : Blocks) (mdb : Mdb) (area : HasArea mdb total) 
           let bytes : wanted * size ≡ 512 * (wanted * blocks_each mdb) = byte_total mdb wanted whole in
           let same : length (take wanted bs) * blocks_each mdb ≡ wanted * blocks_each mdb = ap (λ (k : ℕ). k * blocks_each mdb) len in
           let fits : fork.len ≤ length front = omega (arith, own, bytes, same, ceiling.0) in
-          (λ t. take (length-is t) (flat_map (place_bytes blocks mdb) (places-are t)))
-          ∙ ap (take fork.len) (flat_map-map (place_bytes blocks mdb) Some (take wanted bs))
+          (λ t. take (length-is t) (flat_map (place_bytes image mdb) (places-are t)))
+          ∙ ap (take fork.len) (places-whole image mdb total blocks area whole has (take wanted bs) below-front)
           ∙ sym (take-append-le fork.len front behind fits)
           ∙ ap (take fork.len) (sym (flat_map-append f (take wanted bs) (drop wanted bs)) ∙ ap (flat_map f) (take-append-drop wanted bs))
           ∙ ap (take fork.len) (sym (joined-flat blocks mdb bs) ∙ sym (ap joined (file_blocks-in_order blocks mdb extents)))
@@ -147,7 +180,7 @@ module _ (total : ℕ) (blocks : Blocks) (mdb : Mdb) (area : HasArea mdb total) 
       len = length-is;
       cut = λ used. ap (λ (k : ℕ). if nat_lt k fork.len then Some k else None) length-is ∙ ap (λ (b : Bool). if b then Some fork.len else None) (le-ltb fork.len fork.len (omega arith));
       missing = λ used. ap (λ (l : FileBlocks). missing_in size (fork_length records mdb fork) l) places-are ∙ none-missing size (fork_length records mdb fork) (take wanted (extent_blocks extents));
-      bytes = λ full. bytes-are full;
+      bytes = λ image has. bytes-are (λ n lt. ap length (sym (has.same n lt)) ∙ length-block_at image n (omega (arith, lt, has.enough))) image has;
     }
 
 rises-of : (total : ℕ) (blocks : Blocks) → AreBlocksSound total blocks → Rises ext_cmp (overflow_in blocks)

@@ -3,3 +3,4 @@ pub mod Chains
 pub mod Forks
 pub mod Owners
 pub mod Verdicts
+pub mod ForkBytes

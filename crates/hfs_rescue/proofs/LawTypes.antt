@@ -1,15 +1,16 @@
 -- What holds of what remains, whatever an image says.
-use Rattle.std.specs.Prelude.{◌≡◌, ℕ, ◌+◌, ◌-◌, ◌*◌, ◌<◌, ◌≤◌, Bool, false, not, List, count_by, map, length, Some}
+use Rattle.std.specs.Prelude.{◌≡◌, ℕ, ◌+◌, ◌-◌, ◌*◌, ◌^◌, ◌<◌, ◌≤◌, Bool, false, not, List, count_by, map, length, slice_index, Some}
 use Rattle.std.specs.List.{range_with_len}
 use Rattle.hfs_fields.specs.declared.mdb.Mdb.{Mdb}
+use Rattle.hfs_scans.specs.Each.{Each}
 use Rattle.hfs_node.specs.Node.{node_of}
-use Rattle.hfs_blocks.specs.Blocks.{block_at}
+use Rattle.hfs_blocks.specs.Blocks.{block_at, block_count}
 use Rattle.hfs_catalog.specs.Records.{items_of as items_in}
 use Rattle.hfs_check.specs.Parts.{Blocks, mdb_in, overflow_in, catalog_in}
 use Rattle.hfs_check.specs.Sound.{AreBlocksSound, IsSound}
 use Rattle.hfs_space.specs.Extents.{block_total}
 use Rattle.hfs_space.specs.Forks.{blocks_each}
-use Rattle.hfs_rescue.specs.Directory.{directory_of}
+use Rattle.hfs_rescue.specs.Directory.{directory_of, mdb_at}
 use Rattle.hfs_rescue.specs.TreeFiles.{FileBlocks}
 use Rattle.hfs_rescue.specs.LeafRecords.{leaf_records, with_age}
 use Rattle.hfs_rescue.specs.CatalogRecords.{found, found_in_leaves, is_node_block, nodes_there, scattered_records}
@@ -34,6 +35,38 @@ abbrev pub ItemsAreFew : Type 0
 ItemsAreFew =
     (total : ℕ) (blocks : Blocks) (mdb : Mdb) (file : FileBlocks) → 1 ≤ blocks_each mdb
     → length (items_of (scattered_records total blocks mdb file)) ≤ 6 * (nodes_there mdb file + others total mdb file)
+
+-- ---- what is read from bytes
+
+-- each element is a byte
+abbrev pub AreBytes : List ℕ → Type 0
+AreBytes xs = (k : ℕ) → slice_index xs k < 256
+
+-- a record with a name of at most 31 bytes, a number of 32 bits, and a body of bytes
+pub record IsReadRecord (r : FoundRecord) : Type 0 where
+  pub name : AreBytes r.entry.0.name
+  pub short : length r.entry.0.name ≤ 31
+  pub parent : r.entry.0.parent < 2 ^ 32
+  pub body : AreBytes r.entry.1
+
+-- all records that remain in blocks of bytes are of this kind
+abbrev pub RecordsAreRead : Type 0
+RecordsAreRead = (total : ℕ) (blocks : Blocks) (mdb : Mdb) → ((n : ℕ) → AreBytes (blocks n)) → Each IsReadRecord (remaining_records total blocks mdb)
+
+-- a directory of an image has fewer blocks than 2 ^ 16, of a size of 32 bits
+pub record IsReadDirectory (mdb : Mdb) : Type 0 where
+  pub few : mdb.allocation_blocks < 2 ^ 16
+  pub size : mdb.allocation_block_size < 2 ^ 32
+  pub some : 1 ≤ blocks_each mdb
+
+-- by such a directory fewer than 2 ^ 48 items remain in blocks of bytes
+abbrev pub ItemsAreCounted : Type 0
+ItemsAreCounted =
+    (total : ℕ) (blocks : Blocks) (mdb : Mdb) → ((n : ℕ) → AreBytes (blocks n)) → total < 2 ^ 32 → IsReadDirectory mdb → length (items_of (remaining_records total blocks mdb)) < 2 ^ 48
+
+-- and each directory that is found in an image of bytes is of this kind
+abbrev pub DirectoriesAreRead : Type 0
+DirectoriesAreRead = (image : List ℕ) (n : ℕ) → AreBytes image → directory_of image ≡ Some n → IsReadDirectory (mdb_at (block_at image) n) × (block_count image < 2 ^ 32)
 
 -- ---- a sound volume
 

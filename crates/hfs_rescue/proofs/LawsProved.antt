@@ -1,7 +1,9 @@
 -- Laws of this crate, each by the laws that it stands on.
-use Rattle.hfs_rescue.proofs.LawTypes.{BlocksHaveFewItems, ItemsAreFew, SoundDirectoryIsFound, SoundOverflowIsFound, SoundCatalogIsFound, SoundItemsAreFound}
+use Rattle.hfs_rescue.proofs.LawTypes.{BlocksHaveFewItems, DirectoriesAreRead, ItemsAreCounted, ItemsAreFew, RecordsAreRead, SoundDirectoryIsFound, SoundOverflowIsFound, SoundCatalogIsFound, SoundItemsAreFound}
 use Rattle.hfs_rescue.proofs.FewLemmas.{blocks-few}
 use Rattle.hfs_rescue.proofs.SumLemmas.{scattered-few}
+use Rattle.hfs_rescue.proofs.CountLemmas.{directories-read, items-counted}
+use Rattle.hfs_rescue.proofs.ReadLemmas.{records-read}
 use Rattle.hfs_rescue.proofs.DirectoryLemmas.{directory-is}
 use Rattle.hfs_rescue.proofs.SoundItemLemmas.{items-are}
 use Rattle.hfs_rescue.proofs.SoundLemmas.{overflow-is, records-are}
@@ -13,6 +15,18 @@ blocks_have_few_items = blocks-few
 -- A catalog that does not pass its check gives at most six items for each of its nodes that is there, and for each other block.
 pub items_are_few : ItemsAreFew
 items_are_few = scattered-few
+
+-- The records that remain in blocks of bytes have names of at most 31 bytes and numbers of 32 bits.
+pub records_are_read : RecordsAreRead
+records_are_read = records-read
+
+-- By a directory of such an image fewer than 2^48 items remain,
+pub items_are_counted : ItemsAreCounted
+items_are_counted = items-counted
+
+-- and each directory that is found in an image of bytes is one of these.
+pub directories_are_read : DirectoriesAreRead
+directories_are_read = directories-read
 
 -- The directory of a sound image is found in block 2, where the catalog file has a block in the directory's own extents of it.
 pub sound_directory_is_found : SoundDirectoryIsFound

@@ -8,7 +8,10 @@ pub mod ForkLemmas
 pub mod RightLemmas
 pub mod ItemLemmas
 pub mod LawTypes
+pub mod ByteLemmas
+pub mod ReadLemmas
 mod FewLemmas
+pub mod CountLemmas
 mod SumLemmas
 pub mod WholeLemmas
 pub mod OnwardLemmas

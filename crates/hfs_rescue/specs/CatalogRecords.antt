@@ -1,5 +1,5 @@
 -- The records of a catalog, wherever they are found.
-use Rattle.std.specs.Prelude.{ℕ, ◌-◌, ◌*◌, ◌/◌, Bool, true, false, ◌&&◌, ◌||◌, ◌==◌, nat_lt, nat_le, if◌then◌else◌, List, [], ◌∷◌, ◌++◌, length, count_by, Option}
+use Rattle.std.specs.Prelude.{ℕ, ◌-◌, ◌*◌, ◌/◌, Bool, true, false, not, ◌&&◌, ◌||◌, ◌==◌, nat_lt, nat_le, if◌then◌else◌, List, [], ◌∷◌, ◌++◌, length, count_by, Option}
 use Rattle.std.specs.List.{flat_map, list_all, list_any, range_with_len}
 use Rattle.std.specs.Option.{is_none, is_some, option_map_or}
 use Rattle.hfs_fields.specs.declared.mdb.Mdb.{Mdb}
@@ -88,9 +88,13 @@ is_lacking mdb file own = nat_lt (512 * nodes_there mdb file) mdb.catalog_file_s
 abbrev pub with_strays : ℕ → Blocks → Mdb → FileBlocks → List FoundRecord → List FoundRecord
 with_strays total blocks mdb file own = if is_lacking mdb file own then own ++ found_in_leaves (all_stray_records total blocks mdb file) else own
 
+-- of the file's own leaves
+abbrev pub own_records : Blocks → Mdb → FileBlocks → List FoundRecord
+own_records blocks mdb file = found_in_leaves (all_leaf_records (nodes_of blocks mdb file))
+
 -- of a catalog that does not pass its check
 unfoldable pub scattered_records : ℕ → Blocks → Mdb → FileBlocks → List FoundRecord
-scattered_records total blocks mdb file = with_strays total blocks mdb file (found_in_leaves (all_leaf_records (nodes_of blocks mdb file)))
+scattered_records total blocks mdb file = with_strays total blocks mdb file (own_records blocks mdb file)
 
 -- the check of the catalog tree finds no fault, where its file has these extents and these are its nodes
 unfoldable pub is_catalog_tree_right : Mdb → List Extent → Store → Bool
@@ -109,3 +113,8 @@ unfoldable pub catalog_records : ℕ → Blocks → Mdb → List Extent → File
 catalog_records total blocks mdb extents file =
     if is_catalog_tree_right mdb extents (catalog_nodes blocks mdb file) then found_of (catalog_of (catalog_nodes blocks mdb file))
     else scattered_records total blocks mdb file
+
+-- other blocks than the file's are looked at: it does not pass its check, and is lacking
+unfoldable pub looks_elsewhere : Blocks → Mdb → List Extent → FileBlocks → Bool
+looks_elsewhere blocks mdb extents file =
+    not (is_catalog_tree_right mdb extents (catalog_nodes blocks mdb file)) && is_lacking mdb file (own_records blocks mdb file)

@@ -38,6 +38,15 @@ abbrev pub begins_with : ℕ → Blocks → Mdb → Option Extent → Bool
 begins_with total blocks mdb None = false
 begins_with total blocks mdb (Some e) = is_there total mdb e.first && is_header (node_of (blocks (start_of mdb e.first)))
 
+-- the block in which this extent begins, where that is there
+abbrev pub beginning_in : ℕ → Mdb → Option Extent → Option ℕ
+beginning_in total mdb None = None
+beginning_in total mdb (Some e) = if is_there total mdb e.first then Some (start_of mdb e.first) else None
+
+-- the block that tells whether a tree begins whose file has these extents, where the fields will do
+abbrev pub beginning_of : ℕ → Mdb → List Extent → Option ℕ
+beginning_of total mdb extents = if will_do mdb then beginning_in total mdb (first_extent extents) else None
+
 -- a tree whose file has these three extents begins
 abbrev pub tree_begins : ℕ → Blocks → Mdb → List Extent → Bool
 tree_begins total blocks mdb extents = begins_with total blocks mdb (first_extent extents)
@@ -63,6 +72,10 @@ downward (suc n) = n ∷ downward n
 abbrev pub usual_places : ℕ → List ℕ
 usual_places total = 2 ∷ (total - 2) ∷ []
 
+-- the first of them with both trees
+abbrev pub usual_directory : ℕ → Blocks → Option ℕ
+usual_directory total blocks = find (serves total blocks Both) (usual_places total)
+
 -- these, and then all others, from the last to the first
 abbrev pub all_places : ℕ → List ℕ
 all_places total = usual_places total ++ downward total
@@ -70,7 +83,7 @@ all_places total = usual_places total ++ downward total
 -- the first of the usual places with both trees, or else the first of all with a catalog, or else the first that will do
 unfoldable pub directory_in : ℕ → Blocks → Option ℕ
 directory_in total blocks =
-    option_or (find (serves total blocks Both) (usual_places total))
+    option_or (usual_directory total blocks)
     (option_or (find (serves total blocks Catalog) (all_places total)) (find (serves total blocks Neither) (all_places total)))
 
 -- of an image: none where its length is not that of a volume

@@ -144,6 +144,20 @@ fn is_lacking<B: Blocks>(nodes: &FileNodes<'_, B>, own: &[FoundRecord]) -> bool
     nodes_there(nodes) < u64::from(wanted) || own.is_empty()
 }
 
+/// The records of the file's own leaves, whatever else is wrong with it.
+fn own_records<B: Blocks>(
+    alloc: Global,
+    nodes: &FileNodes<'_, B>,
+) -> Result<Vec<FoundRecord>, AllocError>
+    ensures { IfOk result (λ records. records.items ≡ spec.own_records
+        (B.blocks nodes.now.blocks.now) nodes.now.mdb.now nodes.now.file.now) }
+{
+    let mut records = Vec::new(alloc);
+    let leaves = all_leaf_records(alloc, nodes)?;
+    push_of_leaves(alloc, &leaves, &mut records)?;
+    Ok(records)
+}
+
 /// The records of a catalog that does not pass its check.
 #[tactic(auto, unfolding(crate::specs::CatalogRecords::scattered_records))]
 fn scattered_records<B: Blocks>(
@@ -154,9 +168,7 @@ fn scattered_records<B: Blocks>(
         (B.total nodes.now.blocks.now) (B.blocks nodes.now.blocks.now) nodes.now.mdb.now
         nodes.now.file.now) }
 {
-    let mut records = Vec::new(alloc);
-    let leaves = all_leaf_records(alloc, nodes)?;
-    push_of_leaves(alloc, &leaves, &mut records)?;
+    let mut records = own_records(alloc, nodes)?;
     if is_lacking(nodes, &records) {
         let strays = all_stray_records(alloc, nodes)?;
         push_of_leaves(alloc, &strays, &mut records)?;
@@ -206,4 +218,22 @@ pub fn catalog_records<B: Blocks>(
     } else {
         scattered_records(alloc, nodes)
     }
+}
+
+/// Whether `catalog_records` looks at other blocks than the file's, whose extents and nodes these are: where the catalog does not pass
+/// its check, and its nodes that are there are lacking or have no record. The only error is want of memory.
+#[tactic(auto, unfolding(crate::specs::CatalogRecords::looks_elsewhere))]
+pub fn looks_elsewhere<B: Blocks>(
+    alloc: Global,
+    nodes: &FileNodes<'_, B>,
+    extents: &[Extent],
+) -> Result<bool, AllocError>
+    ensures { IfOk result (λ elsewhere. elsewhere ≡ spec.looks_elsewhere
+        (B.blocks nodes.now.blocks.now) nodes.now.mdb.now extents.now nodes.now.file.now) }
+{
+    if is_catalog_tree_right(alloc, nodes, extents)? {
+        return Ok(false);
+    }
+    let own = own_records(alloc, nodes)?;
+    Ok(is_lacking(nodes, &own))
 }

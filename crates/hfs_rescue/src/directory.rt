@@ -64,6 +64,24 @@ fn first_extent(extents: &[Extent]) -> Option<Extent>
     extents.iter().copied().find(|e| e.count > 0)
 }
 
+/// The block that tells whether a tree begins whose file has these extents, in an image of `total` logical blocks; None where it isn't
+/// there, or the fields don't tell what an allocation block is.
+pub fn beginning_of(total: u32, mdb: &Mdb, extents: &[Extent]) -> Option<u32>
+    ensures block { result ≡ spec.beginning_of total mdb.now extents.now }
+    ensures within { IfSome result (λ n. n < total) }
+{
+    if !will_do(mdb) {
+        return None;
+    }
+    let Some(extent) = first_extent(extents) else {
+        return None;
+    };
+    if !is_there(total, mdb, extent.first) {
+        return None;
+    }
+    Some(start_of(total, mdb, extent.first))
+}
+
 /// Whether a tree begins whose file has these extents.
 pub fn tree_begins<B: Blocks>(blocks: &B, mdb: &Mdb, extents: &[Extent]) -> bool
     requires { 512 ≤ mdb.now.allocation_block_size }
@@ -127,6 +145,15 @@ fn in_usual_places<B: Blocks>(blocks: &B, beginning: Beginning) -> Option<u32>
     None
 }
 
+/// The first of the two blocks in which a directory belongs that will do, and where both trees begin.
+pub fn usual_directory<B: Blocks>(blocks: &B) -> Option<u32>
+    requires { 3 ≤ B.total blocks.now }
+    ensures first { result ≡ spec.usual_directory (B.total blocks.now) (B.blocks blocks.now) }
+    ensures is { IfSome result (spec.IsDirectory (B.total blocks.now) (B.blocks blocks.now)) }
+{
+    in_usual_places(blocks, Beginning::Both)
+}
+
 /// The last block that serves.
 fn last_serving<B: Blocks>(blocks: &B, beginning: Beginning) -> Option<u32>
     ensures first { result ≡ find (spec.serves (B.total blocks.now) (B.blocks blocks.now) beginning)
@@ -168,7 +195,7 @@ pub fn directory_in<B: Blocks>(blocks: &B) -> Option<u32>
     ensures first { result ≡ spec.directory_in (B.total blocks.now) (B.blocks blocks.now) }
     ensures is { IfSome result (spec.IsDirectory (B.total blocks.now) (B.blocks blocks.now)) }
 {
-    if let Some(n) = in_usual_places(blocks, Beginning::Both) {
+    if let Some(n) = usual_directory(blocks) {
         return Some(n);
     }
     if let Some(n) = in_all_places(blocks, Beginning::Catalog) {

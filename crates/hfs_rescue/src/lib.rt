@@ -16,8 +16,12 @@ mod strays;
 mod tree_file;
 
 pub use allocation::{is_there, start_of};
-pub use catalog::{FoundRecord, catalog_records, is_catalog_right, is_catalog_tree_right};
-pub use directory::{Beginning, directory_in, directory_of, read_mdb_at, tree_begins};
+pub use catalog::{
+    FoundRecord, catalog_records, is_catalog_right, is_catalog_tree_right, looks_elsewhere,
+};
+pub use directory::{
+    Beginning, beginning_of, directory_in, directory_of, read_mdb_at, tree_begins, usual_directory,
+};
 pub use fork_extents::catalog_extents;
 pub use in_use::NodesInUse;
 pub use items::items_of;

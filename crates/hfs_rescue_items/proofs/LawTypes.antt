@@ -16,8 +16,8 @@ use Rattle.hfs_rescue_items.specs.Sources.{planned_item}
 -- what a plan makes has plain names and paths of its own, also without regard to case
 abbrev pub PlansArePlaced : Type 0
 PlansArePlaced =
-    (found : Found) (records : List FoundRecord) → found.places.now ≡ things_of (map thing_of found.items.now) (namings_of records) → AreThings found.places.now
-    → ArePlaced (map (planned_item found) (whole_plan found))
+    (image : List ℕ) (found : Found) (records : List FoundRecord) → found.places.now ≡ things_of (map thing_of found.items.now) (namings_of records) → AreThings found.places.now
+    → ArePlaced (map (planned_item image found) (whole_plan found))
 
 -- one of the parts makes the folder at this path
 pub record MakesFolder (found : Found) (parts : List Planned) (path : List ℕ) : Type 0 where

@@ -12,7 +12,7 @@ use Rattle.hfs_rescue_items.proofs.PlacedLemmas.{plan_placed}
 -- The law of plans: what a plan makes of the items among records, and of the folders that records name, has plain names and paths of its own,
 -- also without regard to case.
 pub plans_are_placed : PlansArePlaced
-plans_are_placed = plan_placed
+plans_are_placed image found records places are = plan_placed found records places are image
 
 -- And it makes all of them but the root, each at its own path.
 pub plans_hold_things : PlansHoldThings

@@ -1,5 +1,6 @@
 pub mod AboveLemmas
-pub mod ByteLemmas
+mod PieceLemmas
+mod ReadLemmas
 pub mod ForkLemmas
 mod HoldLemmas
 pub mod LastLemmas

@@ -118,8 +118,8 @@ module _ (found : Found) (records : List FoundRecord) (places : found.places.now
     pub text-is : above_of found part ++ name_of found part ≡ path_of found part
     text-is = (λ i. above-is i ++ name-is i) ∙ sym leads.path_is
 
-    placed : IsPlaced (planned_item found part)
-    placed = record {
+    placed : (image : List ℕ) → IsPlaced (planned_item image found part)
+    placed image = record {
       folders = leads.above;
       above_is = above-is;
       folders_are = safe-parts leads.above leads.above_are;
@@ -207,26 +207,27 @@ module _ (found : Found) (records : List FoundRecord) (places : found.places.now
   own-differ a b x y two (inr file) second = file-folder a b x y file two.things
   own-differ a b x y two (inl first) (inr file) = λ same. file-folder b a y x file (λ second whole e. two.things whole second (sym e)) (sym same)
 
-  in-path : (a b : Planned) (x : IsPart found a) (y : IsPart found b) → folded (path_of found a) ≢ folded (path_of found b) → DifferInPath (planned_item found a) (planned_item found b)
-  in-path a b x y differ same = differ (sym (ap folded (text-is a x)) ∙ same ∙ ap folded (text-is b y))
+  module _ (image : List ℕ) where
+    in-path : (a b : Planned) (x : IsPart found a) (y : IsPart found b) → folded (path_of found a) ≢ folded (path_of found b) → DifferInPath (planned_item image found a) (planned_item image found b)
+    in-path a b x y differ same = differ (sym (ap folded (text-is a x)) ∙ same ∙ ap folded (text-is b y))
 
-  are-apart : (a b : Planned) → IsPart found a → IsPart found b → AreTwo found a b → AreApart (planned_item found a) (planned_item found b)
-  are-apart a b x y two = record {
-    own = λ first second. in-path a b x y (own-differ a b x y two (own-sort a.kind first) (own-sort b.kind second));
-    doubles = λ first second.
-        in-path a b x y
-        (whole-differ a b x y (whole-double a x first) (whole-double b y second) (two.things (whole-double a x first) (whole-double b y second)));
-  }
+    are-apart : (a b : Planned) → IsPart found a → IsPart found b → AreTwo found a b → AreApart (planned_item image found a) (planned_item image found b)
+    are-apart a b x y two = record {
+      own = λ first second. in-path a b x y (own-differ a b x y two (own-sort a.kind first) (own-sort b.kind second));
+      doubles = λ first second.
+          in-path a b x y
+          (whole-differ a b x y (whole-double a x first) (whole-double b y second) (two.things (whole-double a x first) (whole-double b y second)));
+    }
 
-  -- ---- all parts
+    -- ---- all parts
 
-  is-apart : (a : Planned) (parts : List Planned) → IsPart found a → Each (IsPart found) parts → Each (AreTwo found a) parts → IsApart (planned_item found a) (map (planned_item found) parts)
-  is-apart a [] x each two = tt
-  is-apart a (b ∷ parts) x each two = (are-apart a b x each.0 two.0, is-apart a parts x each.1 two.1)
+    is-apart : (a : Planned) (parts : List Planned) → IsPart found a → Each (IsPart found) parts → Each (AreTwo found a) parts → IsApart (planned_item image found a) (map (planned_item image found) parts)
+    is-apart a [] x each two = tt
+    is-apart a (b ∷ parts) x each two = (are-apart a b x each.0 two.0, is-apart a parts x each.1 two.1)
 
-  parts-placed : (parts : List Planned) → Each (IsPart found) parts → Later (AreTwo found) parts → ArePlaced (map (planned_item found) parts)
-  parts-placed [] each two = tt
-  parts-placed (a ∷ parts) each two = (placed a each.0, is-apart a parts each.0 each.1 two.0, parts-placed parts each.1 two.1)
+    parts-placed : (parts : List Planned) → Each (IsPart found) parts → Later (AreTwo found) parts → ArePlaced (map (planned_item image found) parts)
+    parts-placed [] each two = tt
+    parts-placed (a ∷ parts) each two = (placed a each.0 image, is-apart a parts each.0 each.1 two.0, parts-placed parts each.1 two.1)
 
-  pub plan_placed : ArePlaced (map (planned_item found) (whole_plan found))
-  plan_placed = let plan = plan_is found in parts-placed (whole_plan found) plan.each plan.two
+    pub plan_placed : ArePlaced (map (planned_item image found) (whole_plan found))
+    plan_placed = let plan = plan_is found in parts-placed (whole_plan found) plan.each plan.two

@@ -1,5 +1,6 @@
 -- What remains of a volume as the source of a bag.
 use Rattle.std.specs.Prelude.{ℕ, ◌-◌, Bool, true, false, if◌then◌else◌, List, [], drop, map, replicate, take, Option, None, Some, string_bytes}
+use Rattle.std.specs.Option.{is_some}
 use Rattle.hfs_bag.specs.declared.item.BagKind.{BagKind}
 use Rattle.hfs_bag.specs.declared.item.BagKind.TheVariants as bag
 use Rattle.hfs_bag.specs.declared.source.Stream.{Stream}
@@ -13,7 +14,7 @@ use Rattle.hfs_rescue_items.specs.declared.came.Came.{Came}
 use Rattle.hfs_rescue_items.specs.declared.found.Found.{Found}
 use Rattle.hfs_rescue_items.specs.declared.plan.Planned.{Planned}
 use Rattle.hfs_rescue_items.specs.declared.reading.Reading.{Reading}
-use Rattle.hfs_rescue_items.specs.Bytes.{taken_bytes}
+use Rattle.hfs_rescue_items.specs.Bytes.{image_in, taken_bytes}
 use Rattle.hfs_rescue_items.specs.Found.{path_at, told_at}
 use Rattle.hfs_rescue_items.specs.Lines.{remains_text, table_text}
 use Rattle.hfs_rescue_items.specs.Reading.{reading_rest}
@@ -44,46 +45,46 @@ finder_told None = replicate 32 0
 finder_told (Some info) = info.finder
 
 -- the bytes that are taken of its item's fork
-abbrev pub part_bytes : Found → ForkKind → Planned → List ℕ
-part_bytes found kind planned = if is_alone planned.kind then [] else taken_bytes found kind planned.place
+abbrev pub part_bytes : List ℕ → Found → ForkKind → Planned → List ℕ
+part_bytes image found kind planned = if is_alone planned.kind then [] else taken_bytes image found kind planned.place
 
 -- ---- items
 
 -- what comes of a part of a plan, with a path above it and a name
-abbrev pub item_with : Found → List ℕ → List ℕ → Planned → BagItem
-item_with found above name planned = record {
+abbrev pub item_with : List ℕ → Found → List ℕ → List ℕ → Planned → BagItem
+item_with image found above name planned = record {
   above = above;
   name = name;
   kind = planned.kind;
   finder = finder_told (part_told found planned);
-  data_fork = part_bytes found Data planned;
-  resource_fork = part_bytes found Resource planned;
+  data_fork = part_bytes image found Data planned;
+  resource_fork = part_bytes image found Resource planned;
 }
 
-abbrev pub planned_item : Found → Planned → BagItem
-planned_item found planned = item_with found (above_of found planned) (name_of found planned) planned
+abbrev pub planned_item : List ℕ → Found → Planned → BagItem
+planned_item image found planned = item_with image found (above_of found planned) (name_of found planned) planned
 
-abbrev pub came_item : Found → Came → BagItem
-came_item found came = item_with found (string_bytes came.above) (string_bytes came.name) came.planned
+abbrev pub came_item : List ℕ → Found → Came → BagItem
+came_item image found came = item_with image found (string_bytes came.above) (string_bytes came.name) came.planned
 
 -- a stream of it
-abbrev pub part_stream : Found → Planned → Stream → List ℕ
-part_stream found planned stream.DataFork = part_bytes found Data planned
-part_stream found planned stream.ResourceFork = part_bytes found Resource planned
-part_stream found planned stream.Table = table_text found
-part_stream found planned stream.Remains = remains_text found
+abbrev pub part_stream : List ℕ → Found → Planned → Stream → List ℕ
+part_stream image found planned stream.DataFork = part_bytes image found Data planned
+part_stream image found planned stream.ResourceFork = part_bytes image found Resource planned
+part_stream image found planned stream.Table = table_text found
+part_stream image found planned stream.Remains = remains_text found
 
 -- both tables
 abbrev pub rescued_tables : Found → BagTables
 rescued_tables found = record { items = table_text found; remains = Some (remains_text found) }
 
--- the plan, of which the part from a place on is to come, this came, and this is still to be read
-abbrev pub source_of : Found → List Planned → ℕ → Came → Reading → SourceState
-source_of found plan next came reading = record {
-  known = true;
-  all = map (planned_item found) plan;
-  left = map (planned_item found) (drop next plan);
-  item = came_item found came;
-  bytes = reading_rest found reading;
+-- the plan, of which the part from a place on is to come, this came, and this is still to be read, of an image whose bytes may be known
+abbrev pub source_of : Option (List ℕ) → Found → List Planned → ℕ → Came → Reading → SourceState
+source_of known found plan next came reading = record {
+  known = is_some known;
+  all = map (planned_item (image_in known) found) plan;
+  left = map (planned_item (image_in known) found) (drop next plan);
+  item = came_item (image_in known) found came;
+  bytes = reading_rest (image_in known) found reading;
   tables = rescued_tables found;
 }

@@ -1,5 +1,5 @@
 //! What comes of a plan.
-ghost use Rattle.std.specs.Prelude.{◌≡◌, ◌-◌, drop, length, take, IfOk, string_bytes};
+ghost use Rattle.std.specs.Prelude.{◌≡◌, ◌-◌, ℕ, List, [], drop, length, take, IfOk, string_bytes};
 ghost use Rattle.hfs_bag.specs.Items.{IsHead};
 ghost use Rattle.hfs_rescue_items.specs.Bytes.{GivesBytes};
 ghost use Rattle.hfs_rescue_items.specs.Sources.{above_of, finder_told, is_alone, name_of, part_bytes, part_told, planned_item};
@@ -74,7 +74,8 @@ pub(crate) fn part_fork(
     planned: Planned,
     kind: ForkKind,
 ) -> Result<Option<FoundFork>, AllocError>
-    ensures { IfOk result (GivesBytes found.now (part_bytes found.now kind planned)) }
+    ensures { (image : List ℕ) → IfOk result (GivesBytes image found.now
+        (part_bytes image found.now kind planned)) }
 {
     if is_alone(planned.kind) {
         return Ok(None);
@@ -83,16 +84,17 @@ pub(crate) fn part_fork(
     Ok(fork)
 }
 
-/// How many bytes come of a fork of the item that a part of a plan is of.
+/// How many bytes come of a fork of the item that a part of a plan is of, of whatever image.
 fn length_of(
     alloc: Global,
     found: &Found<'_>,
     planned: Planned,
     kind: ForkKind,
 ) -> Result<u32, AllocError>
-    ensures { IfOk result (λ count. count ≡ length (part_bytes found.now kind planned)) }
+    ensures { IfOk result (λ count. count ≡ length (part_bytes [] found.now kind planned)) }
 {
-    match part_fork(alloc, found, planned, kind)? {
+    let part = part_fork(alloc, found, planned, kind)?;
+    match part {
         Some(fork) => Ok(fork.length),
         None => Ok(0),
     }
@@ -129,7 +131,7 @@ fn modified_of(told: &Option<Info>) -> Option<u32> {
 
 /// What is told of what comes of a part of a plan.
 fn head_of(alloc: Global, found: &Found<'_>, planned: Planned) -> Result<BagHead, AllocError>
-    ensures { IfOk result (λ head. IsHead head (planned_item found.now planned)) }
+    ensures { IfOk result (λ head. IsHead head (planned_item [] found.now planned)) }
 {
     let data_length = length_of(alloc, found, planned, ForkKind::Data)?;
     let resource_length = length_of(alloc, found, planned, ForkKind::Resource)?;
@@ -171,7 +173,7 @@ pub(crate) fn came_of(
     ensures above { IfOk result (λ told. string_bytes told.0.above ≡ above_of found.now planned) }
     ensures name { IfOk result (λ told. string_bytes told.0.name ≡ name_of found.now planned) }
     ensures planned { IfOk result (λ told. told.0.planned ≡ planned) }
-    ensures head { IfOk result (λ told. IsHead told.1 (planned_item found.now planned)) }
+    ensures head { IfOk result (λ told. IsHead told.1 (planned_item [] found.now planned)) }
 {
     let came = placed(alloc, found, planned)?;
     match head_of(alloc, found, planned) {

@@ -9,8 +9,6 @@ use hfs_rescue::FoundRecord;
 /// What was found of an image: by its directory its items, in their order, with the place of each and what remains of their forks.
 #[derive(Clone, Copy, Drop)]
 pub struct Found<'a> {
-    /// All bytes of the image.
-    pub image: &'a [u8],
     /// The directory.
     pub mdb: &'a Mdb,
     pub items: &'a [FoundRecord],

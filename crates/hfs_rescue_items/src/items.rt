@@ -1,5 +1,5 @@
 //! What remains of a volume, for a bag.
-ghost use Rattle.std.specs.Prelude.{◌≡◌, ⊤, IfOk};
+ghost use Rattle.std.specs.Prelude.{◌≡◌, ⊤, ℕ, List, IfOk};
 ghost use Rattle.hfs_rescue_items.specs.Plan.{whole_plan};
 ghost use Rattle.hfs_rescue_items.specs.Reading.{reading_rest};
 ghost use Rattle.hfs_rescue_items.specs.Sources.{part_bytes, part_stream, source_of};
@@ -11,14 +11,17 @@ use crate::plan::{Planned, plan_of};
 use crate::reading::{Lines, Reading, read_next};
 use hfs_bag::{BagHead, BagSource, SourceFault, Stream};
 use hfs_space::ForkKind;
+use hfs_sparse::BlockSource;
 use std::alloc::{AllocError, Global};
 
 /// The items of a damaged volume below its root, one after the other, each folder where it is first wanted, and the bytes of their forks
 /// in pieces.
 #[derive(Drop)]
-pub struct RescueItems<'a> {
+pub struct RescueItems<'a, S: BlockSource> {
     alloc: Global,
     found: Found<'a>,
+    /// Where the image's blocks are read from.
+    source: S,
     /// What is made of them.
     plan: Vec<Planned>,
     /// The place in it of what comes next.
@@ -34,12 +37,18 @@ fn open_fork<'a>(
     found: &Found<'a>,
     planned: Planned,
     kind: ForkKind,
-) -> Result<Reading<'a>, AllocError>
-    ensures { IfOk result (λ reading. reading_rest found.now reading
-        ≡ part_bytes found.now kind planned) }
+) -> Result<Reading<'a>, SourceFault>
+    ensures { (image : List ℕ) → IfOk result (λ reading. reading_rest image found.now reading
+        ≡ part_bytes image found.now kind planned) }
 {
-    match part_fork(alloc, found, planned, kind)? {
-        Some(fork) => Ok(Reading::Fork(begin_fork(fork))),
+    let Ok(part) = part_fork(alloc, found, planned, kind) else {
+        return Err(SourceFault::Memory);
+    };
+    match part {
+        Some(fork) => {
+            let reading = begin_fork(alloc, found.mdb, &fork)?;
+            Ok(Reading::Fork(reading))
+        }
         None => Ok(Reading::Fork(empty_fork(alloc))),
     }
 }
@@ -62,9 +71,9 @@ fn open_stream<'a>(
     found: &Found<'a>,
     planned: Planned,
     stream: Stream,
-) -> Result<Reading<'a>, AllocError>
-    ensures { IfOk result (λ reading. reading_rest found.now reading
-        ≡ part_stream found.now planned stream) }
+) -> Result<Reading<'a>, SourceFault>
+    ensures { (image : List ℕ) → IfOk result (λ reading. reading_rest image found.now reading
+        ≡ part_stream image found.now planned stream) }
 {
     match stream {
         Stream::DataFork => open_fork(alloc, found, planned, ForkKind::Data),
@@ -74,16 +83,18 @@ fn open_stream<'a>(
     }
 }
 
-impl<'a> RescueItems<'a> {
-    /// What was found of an image, from its first item on. The only error is want of memory.
-    pub fn new(alloc: Global, found: Found<'a>) -> Result<RescueItems<'a>, AllocError>
+impl<'a, S: BlockSource + Drop> RescueItems<'a, S> {
+    /// What was found of an image, from its first item on; the bytes of forks are read from this source. The only error is want of memory.
+    pub fn new(alloc: Global, found: Found<'a>, source: S) -> Result<RescueItems<'a, S>, AllocError>
         ensures found { IfOk result (λ made. made.found ≡ found.entry) }
+        ensures source { IfOk result (λ made. S.image made.source ≡ S.image source) }
         ensures plan { IfOk result (λ made. made.plan.items ≡ whole_plan found.entry) }
     {
         let plan = plan_of(alloc, &found)?;
         Ok(RescueItems {
             alloc,
             found,
+            source,
             plan,
             next: 0,
             came: Came::nothing(alloc),
@@ -92,8 +103,8 @@ impl<'a> RescueItems<'a> {
     }
 }
 
-impl BagSource for RescueItems<'_> {
-    ghost state = { λ items. source_of items.found items.plan.items items.next items.came items.reading };
+impl<S: BlockSource> BagSource for RescueItems<'_, S> {
+    ghost state = { λ items. source_of (S.image items.source) items.found items.plan.items items.next items.came items.reading };
 
     ghost Fails = { λ _. ⊤ };
 
@@ -107,7 +118,7 @@ impl BagSource for RescueItems<'_> {
         Ok(())
     }
 
-    #[tactic(auto, using(crate::proofs::SourceLemmas::has_item, crate::proofs::SourceLemmas::has_no_item))]
+    #[tactic(auto, using(crate::proofs::SourceLemmas::has_no_item))]
     fn next_item(&mut self) -> Result<Option<BagHead>, SourceFault> {
         if self.next >= self.plan.len() {
             return Ok(None);
@@ -129,17 +140,18 @@ impl BagSource for RescueItems<'_> {
 
     #[tactic(auto, using(crate::proofs::SourceLemmas::has_opened))]
     fn open(&mut self, stream: Stream) -> Result<(), SourceFault> {
-        match open_stream(self.alloc, &self.found, self.came.planned, stream) {
-            Ok(reading) => {
-                self.reading = reading;
-                Ok(())
-            }
-            Err(_) => Err(SourceFault::Memory),
-        }
+        self.reading = open_stream(self.alloc, &self.found, self.came.planned, stream)?;
+        Ok(())
     }
 
     #[tactic(auto, using(crate::proofs::SourceLemmas::has_read))]
     fn read(&mut self, piece: &mut Vec<u8>) -> Result<(), SourceFault> {
-        read_next(self.alloc, &self.found, &mut self.reading, piece)
+        read_next(
+            self.alloc,
+            &mut self.source,
+            &self.found,
+            &mut self.reading,
+            piece,
+        )
     }
 }

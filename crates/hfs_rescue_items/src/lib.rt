@@ -8,6 +8,8 @@ mod found;
 mod items;
 mod lines;
 mod looking;
+mod piece;
+mod pieces;
 mod plan;
 mod reading;
 mod sums;

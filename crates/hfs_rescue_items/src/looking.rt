@@ -1,5 +1,5 @@
 //! What is looked up in what was found of an image.
-ghost use Rattle.std.specs.Prelude.{◌≡◌, IfOk, string_bytes};
+ghost use Rattle.std.specs.Prelude.{◌≡◌, ℕ, List, IfOk, string_bytes};
 ghost use Rattle.hfs_remains.specs.Verdicts.{FindsFork, verdicts_at};
 ghost use Rattle.hfs_rescue_items.specs.Bytes.{GivesBytes, taken_bytes};
 ghost use Rattle.hfs_rescue_items.specs.Found.{path_at, told_at};
@@ -44,7 +44,8 @@ impl Found<'_> {
         kind: ForkKind,
     ) -> Result<Option<FoundFork>, AllocError>
         ensures found { IfOk result (FindsFork self.now.salvage.now i kind) }
-        ensures bytes { IfOk result (GivesBytes self.now (taken_bytes self.now kind i)) }
+        ensures bytes { (image : List ℕ) → IfOk result (GivesBytes image self.now
+            (taken_bytes image self.now kind i)) }
     {
         if i >= self.salvage.len() {
             return Ok(None);

@@ -1,6 +1,8 @@
 //! What of a source is being read.
 ghost use Rattle.std.specs.Prelude.{◌≡◌, ◌+◌, ◌++◌, [], IfOk, OnOk};
+ghost use Rattle.std.specs.Option.{is_some};
 ghost use Rattle.hfs_table.specs.Lines.{csv_head};
+ghost use Rattle.hfs_rescue_items.specs.Bytes.{image_in};
 ghost use Rattle.hfs_rescue_items.specs.Lines.{item_line, remains_line};
 ghost use Rattle.hfs_rescue_items.specs.Reading.{ReadsLines, Reads, reading_rest};
 
@@ -9,6 +11,7 @@ use crate::found::Found;
 use crate::lines::{push_item_line, push_remains_line};
 use hfs_bag::SourceFault;
 use hfs_rescue::FoundRecord;
+use hfs_sparse::BlockSource;
 use hfs_table::{Format, push_head};
 use std::alloc::Global;
 
@@ -105,18 +108,22 @@ fn push_table_head(piece: &mut Vec<u8>) -> Result<(), SourceFault>
 }
 
 /// Reads the next bytes of a stream in the place of a piece, and none where none are left.
-pub(crate) fn read_next<'a>(
+#[tactic(auto, using(crate::proofs::LineLemmas::lines_read))]
+pub(crate) fn read_next<'a, S: BlockSource>(
     alloc: Global,
+    source: &mut S,
     found: &Found<'a>,
     reading: &mut Reading<'a>,
     piece: &mut Vec<u8>,
 ) -> Result<(), SourceFault>
-    ensures { OnOk result (Reads piece.new.items (reading_rest found.now reading.old)
-        (reading_rest found.now reading.new)) }
+    ensures read { OnOk result (Reads (is_some (S.image source.old)) piece.new.items
+        (reading_rest (image_in (S.image source.old)) found.now reading.old)
+        (reading_rest (image_in (S.image source.old)) found.now reading.new)) }
+    ensures image { S.image source.new ≡ S.image source.old }
 {
     piece.clear();
     match reading {
-        Reading::Fork(fork) => read_fork(found, fork, piece),
+        Reading::Fork(fork) => read_fork(source, fork, piece),
         Reading::Table(lines) => {
             push_table_head(piece)?;
             let lines = *lines;

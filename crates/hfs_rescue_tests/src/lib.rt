@@ -6,6 +6,8 @@ mod directories;
 #[cfg(test)]
 mod finding;
 #[cfg(test)]
+mod needed;
+#[cfg(test)]
 mod places;
 #[cfg(test)]
 mod remains;

@@ -59,6 +59,12 @@ fn all_copied(alloc: Global, values: &[RowValue]) -> Result<Vec<RowValue>, Alloc
 impl RowTaker for MemoryTaker {
     ghost given = { λ taker. stored_rows taker.rows.items };
 
+    ghost reference = { λ _. 0 };
+
+    ghost Place = { Unit {0} };
+
+    ghost place = { λ _. tt };
+
     fn take(&mut self, table: Table, values: &[RowValue]) -> Result<(), TakerFault> {
         let Ok(values) = all_copied(self.alloc, values) else {
             return Err(TakerFault::NoMemory);

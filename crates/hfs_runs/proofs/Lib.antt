@@ -7,4 +7,6 @@ mod Learning
 mod Working
 mod Counting
 mod OneRun
+mod KeptReplies
+mod PieceLemmas
 mod Reasons

@@ -1,5 +1,5 @@
 -- A run, out of what each of its steps gave.
-use Rattle.std.proofs.Common.{◌≡◌, ◌∙◌, ℕ, ◌+◌, ◌<◌, Bool, true, false, List, [], map, length, get_or, subst, arith, Ok}
+use Rattle.std.proofs.Common.{◌≡◌, ◌∙◌, ℕ, ◌+◌, ◌<◌, Bool, true, false, List, [], map, length, get_or, sym, subst, arith, Ok}
 use Rattle.std.specs.List.{All}
 use Rattle.logbook.specs.Pages.{Book}
 use Rattle.hfs_model.specs.declared.call.Call.{Call}
@@ -69,6 +69,12 @@ ran items book image lines volume text whole shown asked passes jobs dones begun
       stands = λ yes place below.
           stand_at items book opening lines (workers lines) passes jobs dones begins done law out.journal out.shown out.before.list out.afterwards.list end (when_true shown yes shown_is) place below;
     }
+
+-- the same run, by a text and a test that are the same
+pub retold : (image : List ℕ) (lines : List ScriptLine) (volume : ImageValue) (text told : List ℕ) (whole all shown : Bool) → told ≡ text → all ≡ whole
+    → AreLinesRun image lines volume text whole shown → AreLinesRun image lines volume told all shown
+retold image lines volume text told whole all shown same same_all run =
+    subst (λ (p : List ℕ × Bool). AreLinesRun image lines volume p.0 p.1 shown) (λ i. (sym same i, sym same_all i)) run
 
 pub is_run : (now : ℕ) (script image : List ℕ) (lines : List ScriptLine) (base : List ℕ) (volume : ImageValue) (text : List ℕ) (whole shown : Bool) → script_of now script ≡ Ok lines → IsSound image
     → base ≡ image → AreLinesRun base lines volume text whole shown → IsScriptRun now script image volume text whole shown

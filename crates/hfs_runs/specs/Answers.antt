@@ -1,5 +1,6 @@
 -- The text of the answers to a script.
 use Rattle.std.specs.Prelude.{ℕ, ◌-◌, Bool, List, [], ◌++◌, map, get_or, slice_get, codes, Option, Some, None}
+use Rattle.std.proofs.Common.{Vec, Global}
 use Rattle.std.specs.Option.{is_some}
 use Rattle.std.specs.List.{flat_map, list_all}
 use Rattle.std.specs.Fmt.{decimal}
@@ -8,7 +9,9 @@ use Rattle.hfs_scripts.specs.declared.lines.Caller.{Caller}
 use Rattle.hfs_scripts.specs.declared.lines.Caller.TheVariants.{Worker, Viewer}
 use Rattle.hfs_scripts.specs.Texts.{caller_text}
 use Rattle.hfs_texts.specs.Answers.{reply_text}
+use Rattle.hfs_published.specs.Tolds.{ToldState}
 use Rattle.hfs_shared.specs.declared.done.Done.{Done}
+use Rattle.hfs_runs.specs.declared.replies.Replies.{Replies}
 use Rattle.hfs_runs.specs.declared.viewing.Viewing.{Viewing}
 use Rattle.hfs_runs.specs.declared.numbering.Asked.{Asked}
 
@@ -29,6 +32,11 @@ viewer_replies viewings number = get_or (map (λ (viewing : Viewing). viewing.re
 abbrev pub replies_of : List Done → List Viewing → Caller → List Reply
 replies_of dones viewings (Worker number) = worker_replies dones number
 replies_of dones viewings (Viewer number) = viewer_replies viewings number
+
+-- the same of replies that were kept
+abbrev pub kept_replies : Replies → Caller → List Reply
+kept_replies replies (Worker number) = get_or (map (λ (got : Vec (Reply × ToldState) Global). map (λ reply. reply.0) got.items) replies.workers.items) (number - 1) []
+kept_replies replies (Viewer number) = get_or (map (λ (got : Vec Reply Global). got.items) replies.viewers.items) (number - 1) []
 
 -- the reply to a call, where its caller got so many
 abbrev pub reply_to : (Caller → List Reply) → Asked → Option Reply

@@ -4,5 +4,6 @@ pub mod Views
 pub mod Tellings
 pub mod Standing
 pub mod Answers
+pub mod Pieces
 pub mod Runs
 pub mod Jobs

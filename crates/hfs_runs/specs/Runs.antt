@@ -27,9 +27,12 @@ use Rattle.hfs_shared.specs.Works.{IsWork}
 use Rattle.hfs_runs.specs.declared.fault.ScriptFault.{ScriptFault}
 use Rattle.hfs_runs.specs.declared.fault.ScriptFault.TheVariants as run
 use Rattle.hfs_runs.specs.declared.numbering.Asked.{Asked}
+use Rattle.hfs_runs.specs.declared.running.Made.{Made}
 use Rattle.hfs_runs.specs.declared.running.Ran.{Ran}
-use Rattle.hfs_runs.specs.Answers.{answers_text, is_whole}
+use Rattle.hfs_runs.specs.declared.running.RanInPieces.{RanInPieces}
+use Rattle.hfs_runs.specs.Answers.{answers_text, is_whole, kept_replies}
 use Rattle.hfs_runs.specs.Asking.{AreNumbered}
+use Rattle.hfs_runs.specs.Pieces.{text_of_pieces}
 use Rattle.hfs_runs.specs.Standing.{AllStand}
 use Rattle.hfs_runs.specs.Tellings.{AllBegin, OfEach}
 use Rattle.hfs_runs.specs.Views.{AreReads}
@@ -107,6 +110,15 @@ pub record AreLinesRun (image : List ℕ) (lines : List ScriptLine) (volume : Im
 -- the same of what the program hands out
 abbrev pub AreLinesRunAs : List ℕ → List ScriptLine → Ran → Type 0
 AreLinesRunAs image lines ran = AreLinesRun image lines ran.volume (string_bytes ran.text) ran.whole ran.shown
+
+-- the same, where the answers stand in pieces
+abbrev pub AreLinesRunInPieces : List ℕ → List ScriptLine → RanInPieces → Type 0
+AreLinesRunInPieces image lines ran = AreLinesRun image lines ran.volume (text_of_pieces ran.answers) ran.whole ran.shown
+
+-- the same of what was made, before the answers have their text
+abbrev pub AreLinesMade : List ℕ → List ScriptLine → Made → Type 0
+AreLinesMade image lines made =
+    AreLinesRun image lines made.volume (answers_text (kept_replies made.replies) made.lines.items) (is_whole (kept_replies made.replies) made.lines.items) made.shown
 
 -- a script reads as lines, and these were run on a sound image
 pub record IsScriptRun (now : ℕ) (script image : List ℕ) (volume : ImageValue) (text : List ℕ) (whole shown : Bool) : Type 0 where

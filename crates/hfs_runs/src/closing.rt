@@ -1,63 +1,105 @@
 //! The end of a run: its volume, out of what was shared.
 ghost use Rattle.std.specs.Prelude.{◌≡◌, ◌<◌, IfOk, IfErr, get_or, length, map};
+ghost use Rattle.hfs_scripts.specs.declared.lines.Caller.{Caller};
+ghost use Rattle.hfs_runs.specs.Answers.{kept_replies, replies_of};
 ghost use Rattle.hfs_runs.specs.Runs.{IsHandedOut};
 ghost use Rattle.hfs_runs.specs.Tellings.{AreOf, OfEach};
 
 use crate::fault::ScriptFault;
+use crate::replies::Replies;
 use crate::telling::learn_all;
 use crate::viewing::Viewing;
-use hfs_shared::{Done, Pass, Session, Shared, Viewer};
+use hfs_model::Reply;
+use hfs_shared::{Done, Pass, Session, Shared, Told, Viewer};
 use hfs_volume::Volume;
 use std::alloc::{AllocError, Global};
 use std::sync::Wait;
 
-// The passes of workers that have ended.
-fn passes_of(alloc: Global, dones: Vec<Done>) -> Result<Vec<Pass>, AllocError>
-    ensures { IfOk result (λ v. v.items ≡ map (λ done. done.pass) dones.items) }
+// The passes of workers that have ended, and what they were answered.
+fn part_dones(
+    alloc: Global,
+    dones: Vec<Done>,
+) -> Result<(Vec<Pass>, Vec<Vec<(Reply, Told)>>), AllocError>
+    ensures passes { IfOk result (λ r. r.0.items ≡ map (λ done. done.pass) dones.items) }
+    ensures replies { IfOk result (λ r. r.1.items ≡ map (λ done. done.replies) dones.items) }
 {
     let mut passes = Vec::new(alloc);
+    let mut replies = Vec::new(alloc);
     for done in dones {
-        let Done { pass, .. } = done;
+        let Done {
+            pass,
+            replies: got,
+            ..
+        } = done;
         passes.push(pass)?;
+        replies.push(got)?;
     }
-    Ok(passes)
+    Ok((passes, replies))
 }
 
-// Closes the shared volume by a viewer, which learns all that the workers were told.
+// The viewers that have read, and what they were answered.
+fn part_viewings(
+    alloc: Global,
+    viewings: Vec<Viewing>,
+) -> Result<(Vec<Viewer>, Vec<Vec<Reply>>), AllocError>
+    ensures viewers { IfOk result (λ r. r.0.items ≡ map (λ one. one.viewer) viewings.items) }
+    ensures replies { IfOk result (λ r. r.1.items ≡ map (λ one. one.replies) viewings.items) }
+{
+    let mut viewers = Vec::new(alloc);
+    let mut replies = Vec::new(alloc);
+    for viewing in viewings {
+        let Viewing {
+            viewer,
+            replies: got,
+            ..
+        } = viewing;
+        viewers.push(viewer)?;
+        replies.push(got)?;
+    }
+    Ok((viewers, replies))
+}
+
+// Closes the shared volume by a viewer, which learns all that the workers were told; with it what they were answered.
 fn close_by<K: Session, R: Wait>(
     rt: &R,
     alloc: Global,
     shared: Shared<K>,
     dones: Vec<Done>,
     viewer: &mut Viewer,
-) -> Result<Volume, ScriptFault>
+) -> Result<(Volume, Vec<Vec<(Reply, Told)>>), ScriptFault>
     requires book { viewer.old.book ≡ K.book }
     requires told { OfEach (AreOf K.book) dones.items }
-    ensures ok { IfOk result (λ volume. IsHandedOut K.base volume dones.items) }
+    ensures ok { IfOk result (λ r. IsHandedOut K.base r.0 dones.items) }
+    ensures replies { IfOk result (λ r. r.1.items ≡ map (λ done. done.replies) dones.items) }
     ensures err { IfErr result (λ fault. fault ≡ ScriptFault.Memory) }
 {
     learn_all(viewer, &dones);
-    let passes = passes_of(alloc, dones)?;
+    let (passes, replies) = part_dones(alloc, dones)?;
     match shared.close(rt, passes, viewer) {
-        Ok(closed) => Ok(closed.volume),
+        Ok(closed) => Ok((closed.volume, replies)),
         Err(_refused) => Err(ScriptFault::Memory),
     }
 }
 
-/// Closes the shared volume by the first viewer, which learns all that the workers were told. The only error is want of memory.
+/// Closes the shared volume by the first viewer, which learns all that the workers were told; with it what all were answered. The only
+/// error is want of memory.
 pub fn close<K: Session, R: Wait>(
     rt: &R,
     alloc: Global,
     shared: Shared<K>,
     dones: Vec<Done>,
     viewings: Vec<Viewing>,
-) -> Result<Volume, ScriptFault>
+) -> Result<(Volume, Replies), ScriptFault>
     requires some { 0 < length viewings.items }
     requires book { (v : _) → (get_or viewings.items 0 v).viewer.book ≡ K.book }
     requires told { OfEach (AreOf K.book) dones.items }
-    ensures ok { IfOk result (λ volume. IsHandedOut K.base volume dones.items) }
+    ensures ok { IfOk result (λ r. IsHandedOut K.base r.0 dones.items) }
+    ensures replies { IfOk result (λ r. (caller : Caller)
+        → kept_replies r.1 caller ≡ replies_of dones.items viewings.items caller) }
     ensures err { IfErr result (λ fault. fault ≡ ScriptFault.Memory) }
 {
-    let mut viewings = viewings;
-    close_by(rt, alloc, shared, dones, &mut viewings[0].viewer)
+    let (readers, viewers) = part_viewings(alloc, viewings)?;
+    let mut readers = readers;
+    let (volume, workers) = close_by(rt, alloc, shared, dones, &mut readers[0])?;
+    Ok((volume, Replies { workers, viewers }))
 }

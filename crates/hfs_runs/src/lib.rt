@@ -7,6 +7,8 @@ mod closing;
 mod fault;
 mod jobs;
 mod numbering;
+mod pieces;
+mod replies;
 mod running;
 mod starting;
 mod telling;
@@ -14,4 +16,9 @@ mod viewing;
 
 pub use fault::ScriptFault;
 pub use hfs_shared::Gate;
-pub use running::{Ran, run_script, run_script_at, run_volume_at};
+pub use numbering::Asked;
+pub use pieces::{Answers, Piece};
+pub use replies::Replies;
+pub use running::{
+    Ran, RanInPieces, run_script, run_script_at, run_volume_at, run_volume_in_pieces,
+};

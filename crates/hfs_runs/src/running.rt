@@ -6,14 +6,16 @@ ghost use Rattle.hfs_scripts.specs.Callers.{workers, viewers};
 ghost use Rattle.hfs_shared.specs.Shareds.{IsStart};
 ghost use Rattle.hfs_shared.specs.Works.{AreDone};
 ghost use Rattle.hfs_runs.specs.Asking.{IsSmall};
-ghost use Rattle.hfs_runs.specs.Runs.{IsRunFault, IsScriptRunAs, IsStartFault, AreLinesRunAs};
+ghost use Rattle.hfs_runs.specs.Runs.{IsRunFault, IsScriptRunAs, IsStartFault, AreLinesMade, AreLinesRunAs, AreLinesRunInPieces};
 ghost use Rattle.hfs_runs.specs.Views.{AreViewed};
 
 use crate::answers::answers_text;
 use crate::closing::close;
 use crate::fault::ScriptFault;
 use crate::jobs::{jobs_of, viewings_of};
-use crate::numbering::number_lines;
+use crate::numbering::{Asked, number_lines};
+use crate::pieces::{Answers, answers_in_pieces};
+use crate::replies::Replies;
 use crate::starting::{mounted, start};
 use crate::telling::are_all_whole;
 use crate::viewing::{Viewing, view_all};
@@ -37,6 +39,29 @@ pub struct Ran {
     /// Whether each line was answered.
     pub whole: bool,
     /// Whether viewers were shown each change at once, and none later for want of memory.
+    pub shown: bool,
+}
+
+/// What a run of a script made, with answers in pieces.
+#[derive(Drop)]
+pub struct RanInPieces {
+    /// The volume after it.
+    pub volume: Volume,
+    /// The answers.
+    pub answers: Answers,
+    /// Whether each line was answered.
+    pub whole: bool,
+    /// Whether viewers were shown each change at once, and none later for want of memory.
+    pub shown: bool,
+}
+
+/// What a run of a script made, before its answers have a text.
+#[derive(Drop)]
+pub struct Made {
+    pub volume: Volume,
+    /// The calls of the lines.
+    pub lines: Vec<Asked>,
+    pub replies: Replies,
     pub shown: bool,
 }
 
@@ -92,12 +117,12 @@ fn run_shared<K: Session + Send + Sync, R: Threads + Wait + Sync, G: Gate + Sync
     passes: Vec<Pass>,
     readers: Vec<Viewer>,
     script: Script,
-) -> Result<Ran, ScriptFault>
+) -> Result<Made, ScriptFault>
     requires parts { (parts.book ≡ K.book) × (parts.base ≡ K.base) }
     requires started { IsStart K.base (workers script) (viewers script)
         parts passes.items readers.items }
     requires small { All (λ l. IsSmall l.caller) script }
-    ensures ok { IfOk result (λ ran. AreLinesRunAs K.base script ran) }
+    ensures ok { IfOk result (AreLinesMade K.base script) }
     ensures err { IfErr result (λ fault. fault ≡ ScriptFault.Memory) }
 {
     let shared = parts.share::<K>();
@@ -108,15 +133,30 @@ fn run_shared<K: Session + Send + Sync, R: Threads + Wait + Sync, G: Gate + Sync
     let Ok(dones) = dones else {
         return Err(ScriptFault::Memory);
     };
-    let (text, whole) = answers_text(alloc, &lines, &dones, &viewings)?;
     let shown = are_all_whole(&dones);
-    let volume = close(rt, alloc, shared, dones, viewings)?;
-    Ok(Ran {
+    let (volume, replies) = close(rt, alloc, shared, dones, viewings)?;
+    Ok(Made {
         volume,
-        text,
-        whole,
+        lines,
+        replies,
         shown,
     })
+}
+
+// Runs the lines of a script on a volume.
+fn run_lines<R: Threads + Wait + Sync, G: Gate + Sync>(
+    rt: &R,
+    alloc: Global,
+    gate: &G,
+    volume: Volume,
+    script: Script,
+) -> Result<Made, ScriptFault>
+    requires small { All (λ l. IsSmall l.caller) script }
+    ensures ok { IfOk result (AreLinesMade volume.current script) }
+    ensures err { IfErr result IsStartFault }
+{
+    let (parts, passes, viewers) = start(rt, alloc, volume, &script)?;
+    run_shared::<Brand, _, _>(rt, alloc, gate, parts, passes, viewers, script)
 }
 
 /// Runs a script on the volume of an image: each worker makes its calls in order in a thread of its own, and viewers read beside
@@ -168,6 +208,45 @@ pub fn run_volume_at<R: Threads + Wait + Sync, G: Gate + Sync>(
     ensures ok { IfOk result (λ ran. AreLinesRunAs volume.current script ran) }
     ensures err { IfErr result IsStartFault }
 {
-    let (parts, passes, viewers) = start(rt, alloc, volume, &script)?;
-    run_shared::<Brand, _, _>(rt, alloc, gate, parts, passes, viewers, script)
+    let Made {
+        volume,
+        lines,
+        replies,
+        shown,
+    } = run_lines(rt, alloc, gate, volume, script)?;
+    let (text, whole) = answers_text(alloc, &lines, &replies)?;
+    Ok(Ran {
+        volume,
+        text,
+        whole,
+        shown,
+    })
+}
+
+/// As `run_volume_at`, with answers of which long bytes have no digits yet, so that their text need not be in memory at once. Faults in order:
+/// `NoPlace`; and `Memory`.
+pub fn run_volume_in_pieces<R: Threads + Wait + Sync, G: Gate + Sync>(
+    rt: &R,
+    alloc: Global,
+    gate: &G,
+    volume: Volume,
+    script: Script,
+) -> Result<RanInPieces, ScriptFault>
+    requires small { All (λ l. IsSmall l.caller) script }
+    ensures ok { IfOk result (AreLinesRunInPieces volume.current script) }
+    ensures err { IfErr result IsStartFault }
+{
+    let Made {
+        volume,
+        lines,
+        replies,
+        shown,
+    } = run_lines(rt, alloc, gate, volume, script)?;
+    let (answers, whole) = answers_in_pieces(alloc, &lines, replies)?;
+    Ok(RanInPieces {
+        volume,
+        answers,
+        whole,
+        shown,
+    })
 }

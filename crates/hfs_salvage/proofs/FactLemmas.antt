@@ -1,5 +1,5 @@
 -- Facts that tell the same make the same bag.
-use Rattle.std.proofs.Common.{◌≡◌, ◌∙◌, ℕ, List, [], ◌∷◌, ◌++◌, drop, replicate, take, Option, Some, sym, ap}
+use Rattle.std.proofs.Common.{◌≡◌, ◌∙◌, ℕ, ◌*◌, List, [], ◌∷◌, ◌++◌, drop, length, replicate, take, Option, None, Some, sym, ap}
 use Rattle.std.proofs.lemmas.List.{drop_at, length-replicate}
 use Rattle.std.specs.Option.{option_map}
 use Rattle.std.specs.Prelude.{codes}
@@ -13,15 +13,18 @@ use Rattle.hfs_check.specs.Report.{report_of}
 use Rattle.hfs_commands.specs.Checks.{check_lines}
 use Rattle.hfs_fields.specs.declared.mdb.Mdb.{Mdb}
 use Rattle.hfs_fields.specs.Mdb.{mdb_in_block, mdb_of}
-use Rattle.hfs_finds.specs.Finds.{found_directory}
+use Rattle.hfs_finds.specs.declared.finds.Finds.{Finds}
+use Rattle.hfs_finds.specs.Finds.{IsFoundIn, found_directory}
 use Rattle.hfs_names.specs.PlainTexts.{plain_text}
+use Rattle.hfs_needed.specs.Known.{OfKnown}
 use Rattle.hfs_rescue.specs.Directory.{directory_of}
 use Rattle.hfs_shelves.specs.Entries.{ShelfEntry, file}
+use Rattle.hfs_sparse.specs.Sparse.{HoldsFrom}
 use Rattle.hfs_take.proofs.BagLemmas.{info_same, line_told, volume_line_is}
 use Rattle.hfs_texts.specs.Info.{info_lines}
 use Rattle.hfs_texts.specs.Reading.{info_text as head_lines}
 use Rattle.hfs_salvage.specs.declared.words.BagWords.{BagWords}
-use Rattle.hfs_salvage.specs.Bags.{TellsOf, field_name, report_text}
+use Rattle.hfs_salvage.specs.Bags.{IsReportTold, TellsOf, field_name, report_text}
 
 -- a bag by the texts of its report and of its facts
 abbrev bag-with : List BagItem → BagTables → List ℕ → List ℕ → List ShelfEntry
@@ -46,17 +49,26 @@ some-same : (a b : Mdb) → Some a ≡ Some b → a ≡ b
 some-same a b e = cc
 
 -- the lines of a head that has the block of the directory in its place are those of the directory
-pub report_is : (image all : List ℕ) (n : ℕ) (mdb : Mdb) (block head lines text : List ℕ) → found_directory image ≡ Some mdb → directory_of image ≡ Some n → all ≡ image
-    → block ≡ block_at all n → head ≡ replicate 1024 0 ++ block → lines ≡ check_lines (report_of image) → text ≡ head_lines head ++ lines → text ≡ report_text image mdb
+report-is : (image : List ℕ) (n : ℕ) (mdb : Mdb) (block head lines text : List ℕ) → found_directory image ≡ Some mdb → directory_of image ≡ Some n
+    → block ≡ block_at image n → head ≡ replicate 1024 0 ++ block → lines ≡ check_lines (report_of image) → text ≡ head_lines head ++ lines → text ≡ report_text image mdb
 unfolding head_lines
-report_is image all n mdb block head lines text found directory same block_is head_is lines_are is =
+report-is image n mdb block head lines text found directory block_is head_is lines_are is =
     is ∙ (λ i. info_lines (fields i) ++ lines_are i)
   where
     own : mdb_in_block (block_at image n) ≡ mdb
     own = some-same (mdb_in_block (block_at image n)) mdb (ap (option_map (λ (k : ℕ). mdb_in_block (block_at image k))) (sym directory) ∙ found)
 
     behind : drop 1024 head ≡ block_at image n
-    behind = ap (drop 1024) head_is ∙ drop_at (replicate 1024 0) block 1024 (length-replicate {A = ℕ} 1024 0) ∙ block_is ∙ ap (λ (bytes : List ℕ). block_at bytes n) same
+    behind = ap (drop 1024) head_is ∙ drop_at (replicate 1024 0) block 1024 (length-replicate {A = ℕ} 1024 0) ∙ block_is
 
     fields : mdb_of (take 162 (drop 1024 head)) ≡ mdb
     fields = ap (λ (bytes : List ℕ). mdb_of (take 162 bytes)) behind ∙ own
+
+-- where the image's bytes are known
+pub report_known : (known : Option (List ℕ)) (len : ℕ) (finds : Finds) (block head lines told text : List ℕ) → length block ≡ 512 → HoldsFrom known (512 * finds.directory) block
+    → head ≡ replicate 1024 0 ++ block → lines ≡ told → OfKnown known len (λ image. told ≡ check_lines (report_of image)) → OfKnown known len (λ image. IsFoundIn image (Some finds))
+    → text ≡ head_lines head ++ lines → IsReportTold known len finds.mdb text
+report_known None len finds block head lines told text long held head_is lines_are check found is = tt
+report_known (Some image) len finds block head lines told text long held head_is lines_are check found is = λ same.
+    report-is image finds.directory finds.mdb block head lines text (found same).0 (found same).1.directory_is
+    (held ∙ ap (λ (n : ℕ). take n (drop (512 * finds.directory) image)) long) head_is (lines_are ∙ check same) is

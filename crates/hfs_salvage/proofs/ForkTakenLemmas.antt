@@ -1,21 +1,14 @@
 -- The bytes that are taken of a sound volume's forks are those that the volume has.
-use Rattle.std.proofs.Common.{◌≡◌, ◌≢◌, ◌⊎◌, inl, inr, ⊎_elim, ℕ, ◌+◌, ◌-◌, ◌*◌, ◌%◌, ◌≤◌, Bool, true, false, not, cond, ◌&&◌, ◌==◌, if◌then◌else◌, List, [], ◌∷◌, ◌++◌, map, take, drop, length, length-drop, Option, Some, None, Result, Ok, Err, refl, sym, ap, ◌∙◌, arith}
-use Rattle.std.specs.Prelude.{nat_le, nat_lt, replicate, slice_get}
-use Rattle.std.specs.List.{flat_map, range_with_len}
+use Rattle.std.proofs.Common.{◌≡◌, ◌≢◌, ◌⊎◌, inl, inr, ⊎_elim, ℕ, Bool, true, false, not, cond, ◌&&◌, ◌==◌, if◌then◌else◌, List, Option, Some, None, Result, Ok, Err, refl, sym, ap, ◌∙◌}
+use Rattle.std.specs.Prelude.{slice_get}
 use Rattle.std.specs.Option.{option_and_then, option_map_or, is_some}
 use Rattle.std.specs.Ordering.{is_eq}
-use Rattle.std.proofs.Math.Nat.{add-mul}
-use Rattle.std.proofs.lemmas.Bool.{and_from, and_parts, eq-eqb, leb-true, or_cases, true≢false}
-use Rattle.std.proofs.lemmas.List.{take-append-le}
-use Rattle.std.proofs.lemmas.List.Folds.{flat_map-map}
-use Rattle.hfs_fields.specs.declared.mdb.Mdb.{Mdb}
+use Rattle.std.proofs.lemmas.Bool.{and_from, eq-eqb, or_cases, true≢false}
 use Rattle.hfs_fields.specs.Names.{is_item_name}
 use Rattle.hfs_fields.specs.Order.{name_order, same_name}
 use Rattle.hfs_fields.specs.Records.{is_dir, is_file, is_item, item_id, dir_record_of, file_record_of}
-use Rattle.hfs_blocks.specs.Blocks.{block_at, block_count}
 use Rattle.hfs_scans.specs.Each.{Each}
 use Rattle.hfs_scans.proofs.MemberLemmas.{each_in}
-use Rattle.hfs_sparse.proofs.Copied.{flat-range}
 use Rattle.hfs_model.specs.Children.{entries_of}
 use Rattle.hfs_model.specs.Children as model
 use Rattle.hfs_model.specs.Volume.{Entry}
@@ -29,8 +22,6 @@ use Rattle.hfs_catalog.specs.Lookups.{child_named}
 use Rattle.hfs_catalog.specs.Records.{Record, Catalog, has_thread, item_with, items_of as items_in}
 use Rattle.hfs_catalog.specs.Sound.{HasPlace}
 use Rattle.hfs_catalog.proofs.Found.{only}
-use Rattle.hfs_space.specs.Forks.{blocks_each}
-use Rattle.hfs_space.specs.Extents.{Overflow}
 use Rattle.hfs_space.specs.Owners.{forks_of_file}
 use Rattle.hfs_space.specs.Sound.{IsForkSound}
 use Rattle.hfs_check.specs.Parts.{Blocks, catalog_in, mdb_in, overflow_in}
@@ -42,43 +33,10 @@ use Rattle.hfs_queries.proofs.LawsProved.{catalog_answers-entries}
 use Rattle.hfs_queries.proofs.NamedFileLemmas.{answer_of, answer_of-file_named, forks_in}
 use Rattle.hfs_queries.proofs.QueriesLaws.{AreWholeBlocks}
 use Rattle.hfs_needed.specs.Forks.{fork_of_kind, named_fork}
-use Rattle.hfs_rescue.specs.Allocation.{is_there, start_of}
-use Rattle.hfs_remains.specs.declared.forks.Fork.{Fork as FoundFork}
-use Rattle.hfs_remains.specs.Forks.{fork_length, fork_of, fork_places, fork_blocks, there}
-use Rattle.hfs_remains.proofs.LawTypes.{place_bytes, taken_bytes as fork_taken}
+use Rattle.hfs_remains.specs.Forks.{fork_of}
+use Rattle.hfs_remains.proofs.LawTypes.{HasBlocks, taken_bytes as fork_taken}
 use Rattle.hfs_remains.proofs.LawsProved.{sound_forks_are_whole}
-use Rattle.hfs_rescue_items.specs.Bytes.{block_bytes, blocks_bytes, filled}
 use Rattle.hfs_salvage.proofs.ItemWayLemmas.{item-of}
-
--- ---- blocks
-
-module _ (image : List ℕ) (mdb : Mdb) (whole : mdb.allocation_block_size % 512 ≡ 0) where
-  block-same : (b : ℕ) → is_there (block_count image) mdb b ≡ true → block_bytes image mdb (Some b) ≡ place_bytes (block_at image) mdb (Some b)
-  unfolding block_bytes filled is_there
-  block-same b is =
-      let size : ℕ = mdb.allocation_block_size in
-      let bytes : List ℕ = drop (512 * start_of mdb b) image in
-      let each : blocks_each mdb * 512 ≡ size = omega (arith, whole) in
-      let end : start_of mdb (b + 1) ≤ block_count image = leb-true (start_of mdb (b + 1)) (block_count image) (and_parts (nat_lt b mdb.allocation_blocks) (nat_le (start_of mdb (b + 1)) (block_count image)) is).1 in
-      let fits : size ≤ length bytes = omega (arith, each, end, add-mul b 1 (blocks_each mdb), length-drop (512 * start_of mdb b) image) in
-      take-append-le size bytes (replicate size 0) fits
-      ∙ ap (λ (n : ℕ). take n bytes) (sym each)
-      ∙ sym (flat-range image (start_of mdb b) (blocks_each mdb))
-      ∙ sym (flat_map-map (λ (block : List ℕ). block) (block_at image) (range_with_len (start_of mdb b) (blocks_each mdb)))
-
-  place-same : (b : ℕ) (t : Bool) → is_there (block_count image) mdb b ≡ t → block_bytes image mdb (if t then Some b else None) ≡ place_bytes (block_at image) mdb (if t then Some b else None)
-  unfolding block_bytes
-  place-same b true is = block-same b is
-  place-same b false is = refl
-
-  places-same : (bs : List ℕ) → blocks_bytes image mdb (map (there (block_count image) mdb) bs) ≡ flat_map (place_bytes (block_at image) mdb) (map (there (block_count image) mdb) bs)
-  places-same [] = refl
-  places-same (b ∷ bs) = λ i. place-same b (is_there (block_count image) mdb b) refl i ++ places-same bs i
-
-  pub fork-same : (overflow : Overflow) (fork : FoundFork)
-      → take (fork_length overflow mdb fork) (blocks_bytes image mdb (fork_places (block_count image) overflow mdb fork)) ≡ fork_taken (block_count image) (block_at image) overflow mdb fork
-  unfolding fork_places
-  fork-same overflow fork = ap (take (fork_length overflow mdb fork)) (places-same (fork_blocks overflow mdb fork))
 
 -- ---- forks by name
 
@@ -145,13 +103,13 @@ module _ (total : ℕ) (blocks : Blocks) (whole : AreWholeBlocks total blocks) (
       forks-sound = forks_in total blocks h r.0.parent r.0.name (file_record_of r.1) file-is
 
       -- what is taken is what the volume has
-      pub data-taken : fork_taken total blocks (overflow_in blocks) (mdb_in blocks) (fork_of (file_record_of r.1).id 0 (file_record_of r.1).«data») ≡ pick DataFork (contents_in blocks (file_record_of r.1))
+      pub data-taken : (image : List ℕ) → HasBlocks image total blocks → fork_taken total image (overflow_in blocks) (mdb_in blocks) (fork_of (file_record_of r.1).id 0 (file_record_of r.1).«data») ≡ pick DataFork (contents_in blocks (file_record_of r.1))
       unfolding contents_in bytes_in forks_of_file
-      data-taken = (sound_forks_are_whole total blocks h (fork_of (file_record_of r.1).id 0 (file_record_of r.1).«data») forks-sound.0).bytes whole
+      data-taken = (sound_forks_are_whole total blocks h (fork_of (file_record_of r.1).id 0 (file_record_of r.1).«data») forks-sound.0).bytes
 
-      pub resource-taken : fork_taken total blocks (overflow_in blocks) (mdb_in blocks) (fork_of (file_record_of r.1).id 255 (file_record_of r.1).resource) ≡ pick ResFork (contents_in blocks (file_record_of r.1))
+      pub resource-taken : (image : List ℕ) → HasBlocks image total blocks → fork_taken total image (overflow_in blocks) (mdb_in blocks) (fork_of (file_record_of r.1).id 255 (file_record_of r.1).resource) ≡ pick ResFork (contents_in blocks (file_record_of r.1))
       unfolding contents_in bytes_in forks_of_file
-      resource-taken = (sound_forks_are_whole total blocks h (fork_of (file_record_of r.1).id 255 (file_record_of r.1).resource) forks-sound.1.0).bytes whole
+      resource-taken = (sound_forks_are_whole total blocks h (fork_of (file_record_of r.1).id 255 (file_record_of r.1).resource) forks-sound.1.0).bytes
 
       pub file-there : is_file r.1 ≡ true
       file-there = ⊎_elim

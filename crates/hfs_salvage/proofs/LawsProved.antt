@@ -1,10 +1,17 @@
 -- Laws of this crate, each by the laws that it stands on.
-use Rattle.std.proofs.Common.{List, map, sym, ap, subst, ◌∙◌}
+use Rattle.std.proofs.Common.{◌≡◌, ℕ, List, map, Option, Some, None, refl, sym, ap, subst, ◌∙◌}
+use Rattle.std.specs.Option.{option_map}
+use Rattle.std.specs.Prelude.{IsTrue}
 use Rattle.hfs_bag.proofs.PathLemmas.{bag_paths}
-use Rattle.hfs_finds.specs.Finds.{found_records}
+use Rattle.hfs_blocks.specs.Blocks.{block_at}
+use Rattle.hfs_fields.specs.declared.mdb.Mdb.{Mdb}
+use Rattle.hfs_finds.specs.Finds.{found_records, found_things}
+use Rattle.hfs_names.specs.Laws.{is_bytes}
 use Rattle.hfs_places.specs.Things.{things_of}
 use Rattle.hfs_places.proofs.LawTypes.{AreThings}
 use Rattle.hfs_remains.specs.Records.{namings_of, thing_of}
+use Rattle.hfs_remains.proofs.LawsProved.{found_are_things}
+use Rattle.hfs_rescue.specs.Directory.{directory_of, mdb_at}
 use Rattle.hfs_rescue.specs.declared.catalog.FoundRecord.{FoundRecord}
 use Rattle.hfs_rescue_items.specs.Sources.{rescued_tables}
 use Rattle.hfs_rescue_items.proofs.LawsProved.{plans_are_placed}
@@ -12,16 +19,26 @@ use Rattle.hfs_salvage.specs.Bags.{rescued_items}
 use Rattle.hfs_salvage.proofs.JoinLemmas.{payloads-same}
 use Rattle.hfs_salvage.proofs.LawTypes.{RescuedPathsAreLawful, SoundPayloadsAreVolumes}
 
--- The law of paths: whatever image it is, no path of the bag of what remains of it leads out of it, and all differ, also without regard to case,
+same-directory : (x y : Mdb) → Some x ≡ Some y → x ≡ y
+same-directory x y same = cc
+
+-- what is found of an image of bytes by its directory are things
+are-things : (image : List ℕ) (mdb : Mdb) → IsTrue (is_bytes image) → (place : Option ℕ) → directory_of image ≡ place → option_map (mdb_at (block_at image)) place ≡ Some mdb → AreThings (found_things image mdb)
+are-things image mdb bytes None there is = cc
+are-things image mdb bytes (Some n) there is =
+    subst (λ (m : Mdb). AreThings (found_things image m)) (same-directory (mdb_at (block_at image) n) mdb is) (found_are_things image n bytes there)
+
+-- The law of paths: whatever bytes an image has, no path of the bag of what remains of it leads out of it, and all differ, also without regard to case,
 -- those of the tag files too.
 pub rescued_paths_are_lawful : RescuedPathsAreLawful
-rescued_paths_are_lawful image limit found facts is are =
-    bag_paths (rescued_items found) (rescued_tables found) facts
-    (plans_are_placed found (found_records image found.mdb.now)
+rescued_paths_are_lawful image limit found facts bytes is =
+    bag_paths (rescued_items image found) (rescued_tables found) facts
+    (plans_are_placed image found (found_records image found.mdb.now)
     (is.places_are ∙ ap (λ (items : List FoundRecord). things_of (map thing_of items) (namings_of (found_records image found.mdb.now))) (sym is.items_are))
-    (subst AreThings (sym is.places_are) are))
+    (subst AreThings (sym is.places_are) (are-things image found.mdb.now bytes (directory_of image) refl is.directory_is)))
 
 -- The law of sound images: the payload of what remains of one is the payload that `take` makes of its volume: the same folders and files, with the
 -- same paths and the same bytes.
 pub sound_payloads_are_volumes : SoundPayloadsAreVolumes
-sound_payloads_are_volumes image limit found sound begins enough is are short entry = payloads-same image limit found sound begins enough is are short entry
+sound_payloads_are_volumes image limit found bytes sound begins enough is short entry =
+    payloads-same image limit found (record { sound = sound; begins = begins; enough = enough; is = is; bytes = bytes; short = short }) entry

@@ -7,5 +7,12 @@ mod ItemWayLemmas
 mod RowWayLemmas
 mod ForkTakenLemmas
 mod SoundFoundLemmas
+mod MemberLemmas
+mod KindLemmas
+mod TakenItemLemmas
+mod TakenForkLemmas
+mod PlannedItemLemmas
+mod TakeGivenLemmas
+mod RescueGivenLemmas
 mod JoinLemmas
 pub mod LawsProved

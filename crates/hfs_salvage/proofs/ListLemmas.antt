@@ -1,15 +1,18 @@
 -- What is written of a list while its lines come.
-use Rattle.std.proofs.Common.{◌≡◌, ◌∙◌, ℕ, suc, ◌+◌, ◌<◌, ◌≤◌, List, [], ◌∷◌, ◌++◌, length, drop, get_or, Option, append_assoc, append-nil, Some, refl, sym, ap, subst, arith}
+use Rattle.std.proofs.Common.{◌≡◌, ◌∙◌, ℕ, suc, ◌+◌, ◌<◌, ◌≤◌, List, [], ◌∷◌, ◌++◌, length, drop, get_or, Option, append_assoc, append-nil, None, Some, refl, sym, ap, subst, arith}
 use Rattle.std.proofs.lemmas.List.{drop_all, drop_more}
 use Rattle.std.proofs.KnownBytes.{Appends-nil}
 use Rattle.std.specs.Io.KnownBytes.{Appends}
 use Rattle.hfs_commands.proofs.Rows.{front_first, front_next, whole_next}
+use Rattle.hfs_needed.specs.Known.{OfKnown}
 use Rattle.hfs_rescue.specs.declared.catalog.FoundRecord.{FoundRecord}
 use Rattle.hfs_rescue_items.specs.declared.found.Found.{Found}
 use Rattle.hfs_rescue_items.specs.Lines.{lines_of, remains_text}
 use Rattle.hfs_texts.specs.Writing.{AppendsFront}
-use Rattle.hfs_salvage.specs.Found.{IsFoundOf}
+use Rattle.hfs_salvage.specs.declared.words.RescueWords.{RescueWords}
+use Rattle.hfs_salvage.specs.Found.{IsFoundOf, OfFound}
 use Rattle.hfs_salvage.specs.Lists.{Gathers, TellsRemains, TellsRemainsFront}
+use Rattle.hfs_salvage.specs.Words.{limit_of}
 use Rattle.hfs_salvage.proofs.SameLemmas.{Seen, same_seen}
 
 -- ---- a line is gathered
@@ -86,12 +89,24 @@ module _ (image : List ℕ) (limit : ℕ) (found : Found) (is : IsFoundOf image 
   same-text : (other : Found) → IsFoundOf image limit other → remains_text found ≡ remains_text other
   same-text other others = some-same (remains_text found) (remains_text other) (ap (λ (s : Seen). s.tables.remains) (same_seen image limit found other is others))
 
-  pub tells : Appends old new (remains_text found) → TellsRemains image limit old new
-  tells written other others = subst (Appends old new) (same-text other others) written
+  tells-so : Appends old new (remains_text found) → OfFound image limit (λ other. Appends old new (remains_text other))
+  tells-so written other others = subst (Appends old new) (same-text other others) written
 
-  pub tells_front : AppendsFront old new (remains_text found) → TellsRemainsFront image limit old new
-  tells_front part other others = subst (AppendsFront old new) (same-text other others) part
+  front-so : AppendsFront old new (remains_text found) → OfFound image limit (λ other. AppendsFront old new (remains_text other))
+  front-so part other others = subst (AppendsFront old new) (same-text other others) part
+
+-- where the image's bytes are known, this was found of it
+pub tells : (known : Option (List ℕ)) (len : ℕ) (words : RescueWords) (found : Found) (old new : Option (List ℕ)) → OfKnown known len (λ image. IsFoundOf image (limit_of words image) found)
+    → Appends old new (remains_text found) → TellsRemains known len words old new
+tells None len words found old new is written = tt
+tells (Some image) len words found old new is written = λ same. tells-so image (limit_of words image) found (is same) old new written
+
+pub tells_front : (known : Option (List ℕ)) (len : ℕ) (words : RescueWords) (found : Found) (old new : Option (List ℕ))
+    → OfKnown known len (λ image. IsFoundOf image (limit_of words image) found) → AppendsFront old new (remains_text found) → TellsRemainsFront known len words old new
+tells_front None len words found old new is part = tt
+tells_front (Some image) len words found old new is part = λ same. front-so image (limit_of words image) found (is same) old new part
 
 -- nothing was written yet
-pub nothing_told : (image : List ℕ) (limit : ℕ) (now : Option (List ℕ)) → TellsRemainsFront image limit now now
-nothing_told image limit now found is = (0, Appends-nil now)
+pub nothing_told : (known : Option (List ℕ)) (len : ℕ) (words : RescueWords) (now : Option (List ℕ)) → TellsRemainsFront known len words now now
+nothing_told None len words now = tt
+nothing_told (Some image) len words now = λ same found is. (0, Appends-nil now)

@@ -23,7 +23,6 @@ use Rattle.hfs_salvage.specs.Found.{IsFoundOf}
 -- ---- the values
 
 record Values : Type 0 where
-  image : List ℕ
   mdb : Mdb
   trees_mdb : Mdb
   total : ℕ
@@ -43,7 +42,6 @@ record Fits (v : Values) : Type 0 where
 
 abbrev values : Found → Values
 values found = record {
-  image = found.image.now;
   mdb = found.mdb.now;
   trees_mdb = found.salvage.now.trees.mdb.now;
   total = found.salvage.now.trees.total;
@@ -66,7 +64,6 @@ fits found = record {
 -- what was found with these values in the places of its own
 abbrev holding : Found → (v : Values) → Fits v → Found
 holding found v p = record found {
-  image = record found.image { now = v.image };
   mdb = record found.mdb { now = v.mdb };
   items = record found.items { now = v.items };
   places = record found.places { now = v.things };
@@ -95,15 +92,15 @@ pub record Seen : Type 0 where
   pub tables : BagTables
   pub sums : FoundSums
 
-abbrev pub seen : Found → Seen
-seen found = record { items = rescued_items found; tables = rescued_tables found; sums = found_sums found }
+abbrev pub seen : List ℕ → Found → Seen
+seen image found = record { items = rescued_items image found; tables = rescued_tables found; sums = found_sums found }
 
-seen-holding : (f g : Found) (v : Values) (p q : Fits v) → seen (holding f v p) ≡ seen (holding g v q)
+seen-holding : (image : List ℕ) (f g : Found) (v : Values) (p q : Fits v) → seen image (holding f v p) ≡ seen image (holding g v q)
 unfolding all_used taken_bytes item_line remains_line is_made own_kind with_folder with_thing
-seen-holding f g v p q = refl
+seen-holding image f g v p q = refl
 
-seen-by : (f g : Found) (v : Values) → values f ≡ v → (q : Fits v) → seen f ≡ seen (holding g v q)
-seen-by f g v same = subst (λ (w : Values). (q : Fits w) → seen f ≡ seen (holding g w q)) same (λ q. seen-holding f g (values f) (fits f) q)
+seen-by : (image : List ℕ) (f g : Found) (v : Values) → values f ≡ v → (q : Fits v) → seen image f ≡ seen image (holding g v q)
+seen-by image f g v same = subst (λ (w : Values). (q : Fits w) → seen image f ≡ seen image (holding g w q)) same (λ q. seen-holding image f g (values f) (fits f) q)
 
 -- ---- of one image
 
@@ -116,7 +113,6 @@ module _ (image : List ℕ) (limit : ℕ) (f g : Found) (a : IsFoundOf image lim
 
   same-values : values f ≡ values g
   same-values = λ i. record {
-    image = (a.image_is ∙ sym b.image_is) i;
     mdb = same_mdb i;
     trees_mdb = (sym f.mdb_is ∙ same_mdb ∙ g.mdb_is) i;
     total = (a.total_is ∙ sym b.total_is) i;
@@ -128,5 +124,5 @@ module _ (image : List ℕ) (limit : ℕ) (f g : Found) (a : IsFoundOf image lim
     shares = (a.shares_are ∙ ap (λ (m : Mdb). shares_of (found_overflow image m) m limit (found_items image m)) same_mdb ∙ sym b.shares_are) i;
   }
 
-  pub same_seen : seen f ≡ seen g
-  same_seen = seen-by f g (values g) same-values (fits g)
+  pub same_seen : seen image f ≡ seen image g
+  same_seen = seen-by image f g (values g) same-values (fits g)

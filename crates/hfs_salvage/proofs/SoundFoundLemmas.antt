@@ -1,6 +1,6 @@
 -- What is found of a sound image: its own directory, items, things and forks.
 use Rattle.std.proofs.Common.{◌≡◌, ◌≢◌, ◌⊎◌, inl, inr, ℕ, zero, suc, ◌+◌, ◌<◌, ◌≤◌, Bool, true, false, cond, ◌&&◌, ◌==◌, if◌then◌else◌, List, [], ◌∷◌, ◌++◌, map, length, get_or, slice_index_or, Option, Some, None, refl, sym, ap, subst, ◌∙◌, arith}
-use Rattle.std.specs.Prelude.{reverse, slice_get}
+use Rattle.std.specs.Prelude.{IsTrue, reverse, slice_get}
 use Rattle.std.specs.List.{position_from}
 use Rattle.std.specs.Option.{is_some, option_and_then, option_map, option_map_or}
 use Rattle.std.proofs.lemmas.Bool.{and_from, and_parts, eq-eqb, eqb-true, lt-ltb, ne_eqb, true≢false}
@@ -24,13 +24,14 @@ use Rattle.hfs_finds.specs.Finds.{found_items, found_overflow, found_things}
 use Rattle.hfs_image_items.specs.Items.{folders_text}
 use Rattle.hfs_image_items.proofs.PlainNames.{path-is}
 use Rattle.hfs_names.specs.HostNames.{host_name}
+use Rattle.hfs_names.specs.Laws.{is_bytes}
 use Rattle.hfs_names.specs.Paths.{host_path}
 use Rattle.hfs_places.specs.declared.things.Thing.{Thing}
 use Rattle.hfs_places.specs.Folders.{is_folder_of, nothing, thing_at}
 use Rattle.hfs_places.specs.Paths.{front_of, is_root, path, payload_path, root_of}
 use Rattle.hfs_places.specs.Things.{things_of}
 use Rattle.hfs_places.proofs.FolderLemmas.{position-holds}
-use Rattle.hfs_places.proofs.LawTypes.{AreThings, AreWaysShort, HasWay}
+use Rattle.hfs_places.proofs.LawTypes.{AreWaysShort, HasWay}
 use Rattle.hfs_queries.specs.Told.{body_info, file_info, folder_info, told}
 use Rattle.hfs_queries.proofs.QueriesLaws.{AreWholeBlocks}
 use Rattle.hfs_remains.specs.declared.shares.FileShares.{FileShares}
@@ -234,11 +235,11 @@ module _ (image : List ℕ) (limit : ℕ) (found : Found) (sound : IsSound image
                 folder-two true q e = eqb-true (item_id q.1) 2 e
                 folder-two false q e = absurd (true≢false (sym e))
 
-    module _ (are : AreThings (things_in catalog)) (short : AreWaysShort (things_in catalog)) (rest : List (List ℕ)) (way : HasWay (things_in catalog) (r.0.name ∷ rest) i) where
+    module _ (bytes : IsTrue (is_bytes image)) (short : AreWaysShort (things_in catalog)) (rest : List (List ℕ)) (way : HasWay (things_in catalog) (r.0.name ∷ rest) i) where
       pub payload-is : payload_path found.places.now i ≡ host_path (reverse (r.0.name ∷ rest))
       payload-is =
           ap (λ (things : List Thing). payload_path things i) things-named
-          ∙ sound_paths_are_host_paths total blocks h are short i (r.0.name ∷ rest) (inside catalog next h.ids i r at)
+          ∙ sound_paths_are_host_paths image sound bytes short i (r.0.name ∷ rest) (inside catalog next h.ids i r at)
           (λ two. not-root catalog next h.ids i r (r.0.name ∷ rest) at way
           (folder-is catalog next h.ids r.1 2 (ap (λ (t : Thing). t.folder) (sym (thing-is catalog next h.ids i r at)) ∙ two)).0)
           way

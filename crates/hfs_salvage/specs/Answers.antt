@@ -6,6 +6,7 @@ use Rattle.hfs_check.specs.Report.{report_of}
 use Rattle.hfs_commands.specs.declared.fault.Status.TheVariants.{CallRefused, Done}
 use Rattle.hfs_commands.specs.Faults.{status_number}
 use Rattle.hfs_finds.specs.Finds.{is_found_right, is_unsure}
+use Rattle.hfs_needed.specs.Known.{OfKnown}
 use Rattle.hfs_refusals.specs.Refusals.{refusal_text}
 use Rattle.hfs_rescue.specs.Directory.{directory_of}
 use Rattle.hfs_rescue_items.specs.declared.found.Found.{Found}
@@ -13,7 +14,9 @@ use Rattle.hfs_rescue_items.specs.declared.sums.FoundSums.{FoundSums}
 use Rattle.hfs_rescue_items.specs.Sums.{bytes_at, files_at, folders_at, of_all, whole_at}
 use Rattle.hfs_texts.specs.Lines.{line}
 use Rattle.hfs_salvage.specs.declared.answer.RescueAnswer.{RescueAnswer}
+use Rattle.hfs_salvage.specs.declared.words.RescueWords.{RescueWords}
 use Rattle.hfs_salvage.specs.Found.{OfFound}
+use Rattle.hfs_salvage.specs.Words.{limit_of}
 
 -- ---- the lines
 
@@ -64,3 +67,7 @@ pub record IsAnswerBy (image : List ℕ) (answer : RescueAnswer) (found : Found)
 -- this is told of an image, where forks of so many bytes are taken at most
 abbrev pub IsAnswerOf : List ℕ → ℕ → RescueAnswer → Type 0
 IsAnswerOf image limit answer = OfFound image limit (IsAnswerBy image answer)
+
+-- where the image's bytes are known, and are so many, this is told of it, as these words ask for it
+abbrev pub IsKnownAnswer : Option (List ℕ) → ℕ → RescueWords → RescueAnswer → Type 0
+IsKnownAnswer known len words answer = OfKnown known len (λ image. IsAnswerOf image (limit_of words image) answer)

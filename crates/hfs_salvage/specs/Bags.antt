@@ -10,16 +10,16 @@ use Rattle.hfs_check.specs.Report.{report_of}
 use Rattle.hfs_commands.specs.Checks.{check_lines}
 use Rattle.hfs_fields.specs.declared.mdb.Mdb.{Mdb}
 use Rattle.hfs_names.specs.PlainTexts.{plain_text}
+use Rattle.hfs_needed.specs.Known.{OfKnown}
 use Rattle.hfs_rescue_items.specs.declared.found.Found.{Found}
 use Rattle.hfs_rescue_items.specs.Plan.{whole_plan}
 use Rattle.hfs_rescue_items.specs.Sources.{planned_item, rescued_tables}
 use Rattle.hfs_shelves.specs.declared.fault.ShelfFault.{ShelfFault}
 use Rattle.hfs_shelves.specs.Entries.{ShelfEntry}
-use Rattle.hfs_take.specs.Bags.{digest_told, text_in}
+use Rattle.hfs_take.specs.Bags.{IsDigestTold, digest_told, text_in}
 use Rattle.hfs_take.specs.Facts.{image_name}
 use Rattle.hfs_texts.specs.Info.{info_lines}
 use Rattle.hfs_salvage.specs.declared.facts.Told.{Told}
-use Rattle.hfs_salvage.specs.declared.image.HeldImage.{HeldImage}
 use Rattle.hfs_salvage.specs.declared.words.BagWords.{BagWords}
 use Rattle.hfs_salvage.specs.Found.{OfFound}
 use Rattle.hfs_salvage.specs.Words.{limit_of}
@@ -44,27 +44,35 @@ pub record TellsOf (image : List ℕ) (mdb : Mdb) (line : Option (List ℕ)) (wo
   pub report_is : facts.report.now ≡ report_text image mdb
 
 -- what is made of what was found, in its order
-abbrev pub rescued_items : Found → List BagItem
-rescued_items found = map (planned_item found) (whole_plan found)
+abbrev pub rescued_items : List ℕ → Found → List BagItem
+rescued_items image found = map (planned_item image found) (whole_plan found)
 
 -- the bag of it, which tells this
-abbrev pub rescued_bag : Found → BagFacts → List ShelfEntry
-rescued_bag found facts = bag_of (rescued_items found) (rescued_tables found) facts
+abbrev pub rescued_bag : List ℕ → Found → BagFacts → List ShelfEntry
+rescued_bag image found facts = bag_of (rescued_items image found) (rescued_tables found) facts
 
 -- a fact about the bag of what remains of an image
 abbrev pub OfBag : List ℕ → Option (List ℕ) → BagWords → (List ShelfEntry → Type 0) → Type 0
 OfBag image line words Fact =
-    OfFound image (limit_of words.words image) (λ found. (facts : BagFacts) → TellsOf image found.mdb.now line words facts → Fact (rescued_bag found facts))
+    OfFound image (limit_of words.words image) (λ found. (facts : BagFacts) → TellsOf image found.mdb.now line words facts → Fact (rescued_bag image found facts))
 
--- a fault of a shelf, or want of memory; or the bag of what remains has too many bytes
-abbrev pub IsUnfilled : (ShelfFault → Type 0) → List ℕ → Option (List ℕ) → BagWords → BagFault → Type 0
-IsUnfilled ShelfGave image line words = IsBagFault (λ _. ⊤) ShelfGave (OfBag image line words (λ bag. AreTooMany (bytes_in bag)))
+-- where the image's bytes are known, and are so many, this holds of its bag
+abbrev pub OfKnownBag : Option (List ℕ) → ℕ → Option (List ℕ) → BagWords → (List ShelfEntry → Type 0) → Type 0
+OfKnownBag known len line words Fact = OfKnown known len (λ image. OfBag image line words Fact)
+
+-- a fault of a shelf, want of memory, or a read that failed; or the bag of what remains has too many bytes, where the image's bytes are known
+abbrev pub IsUnfilled : (ShelfFault → Type 0) → Option (List ℕ) → ℕ → Option (List ℕ) → BagWords → BagFault → Type 0
+IsUnfilled ShelfGave known len line words = IsBagFault (λ _. ⊤) ShelfGave (OfKnownBag known len line words (λ bag. AreTooMany (bytes_in bag)))
 
 -- ---- before the items are read
 
--- this is told of an image
-pub record IsToldOf (image : HeldImage) (words : BagWords) (told : Told) : Type 0 where
-  pub identifier_is : string_bytes told.identifier ≡ plain_text (field_name image.finds.mdb.volume_name)
+-- where the image's bytes are known, and are so many, these are the lines of this directory, and those of its check
+abbrev pub IsReportTold : Option (List ℕ) → ℕ → Mdb → List ℕ → Type 0
+IsReportTold known len mdb text = OfKnown known len (λ image. text ≡ report_text image mdb)
+
+-- this is told of an image with this directory
+pub record IsToldOf (known : Option (List ℕ)) (len : ℕ) (mdb : Mdb) (words : BagWords) (told : Told) : Type 0 where
+  pub identifier_is : string_bytes told.identifier ≡ plain_text (field_name mdb.volume_name)
   pub name_is : string_bytes told.name ≡ image_name words.words.image.now
-  pub digest_is : told.digest ≡ digest_told words.is_digested image.bytes
-  pub report_is : string_bytes told.report ≡ report_text image.bytes image.finds.mdb
+  pub digest_is : IsDigestTold known len words.is_digested told.digest
+  pub report_is : IsReportTold known len mdb (string_bytes told.report)

@@ -7,7 +7,6 @@ use Rattle.hfs_rescue_items.specs.declared.found.Found.{Found}
 
 -- this was found of an image by its directory, where forks of so many bytes are taken at most
 pub record IsFoundOf (image : List ℕ) (limit : ℕ) (found : Found) : Type 0 where
-  pub image_is : found.image.now ≡ image
   pub directory_is : found_directory image ≡ Some found.mdb.now
   pub total_is : found.salvage.now.trees.total ≡ block_count image
   pub overflow_is : found.salvage.now.trees.overflow.now ≡ found_overflow image found.mdb.now

@@ -1,12 +1,14 @@
 //! What is told of an image of which something remains.
-ghost use Rattle.std.specs.Prelude.{◌≡◌, ◌++◌, Some, IfOk, OnOk, string_bytes};
+ghost use Rattle.std.specs.Prelude.{◌≡◌, ◌++◌, ℕ, List, Some, IfOk, OnOk, string_bytes};
+ghost use Rattle.hfs_commands.specs.Checks.{IsCheckFault};
+ghost use Rattle.hfs_finds.specs.Finds.{IsFoundIn};
 ghost use Rattle.hfs_rescue_items.specs.Sums.{AreSums};
 ghost use Rattle.hfs_texts.specs.Texts.{Gains};
 ghost use Rattle.hfs_salvage.specs.Answers.{IsAnswerBy, answer_status, answer_text, check_line, directory_line, found_sums, sums_lines};
 
-use crate::image::HeldImage;
 use hfs_check::MountFault;
-use hfs_commands::{Refusal, Status};
+use hfs_commands::{CheckAnswer, Refusal, Status};
+use hfs_finds::Finds;
 use hfs_rescue_items::{Found, FoundSums, sums_of};
 use hfs_texts::push_line;
 use std::alloc::{AllocError, Global};
@@ -57,13 +59,18 @@ fn push_sums(text: &mut String, sums: &FoundSums) -> Result<(), AllocError>
 
 /// The lines of an image of which so much remains.
 #[tactic(auto, unfolding(crate::specs::Answers::answer_text))]
-fn lines_of(alloc: Global, image: &HeldImage, sums: &FoundSums) -> Result<String, AllocError>
-    ensures { IfOk result (λ text. string_bytes text ≡ answer_text image.now.check.fault
-        (Some image.now.finds.directory) image.now.finds.is_unsure sums.now) }
+fn lines_of(
+    alloc: Global,
+    check: &CheckAnswer,
+    finds: &Finds,
+    sums: &FoundSums,
+) -> Result<String, AllocError>
+    ensures { IfOk result (λ text. string_bytes text ≡ answer_text check.now.fault
+        (Some finds.now.directory) finds.now.is_unsure sums.now) }
 {
     let mut text = String::new(alloc);
-    push_check(&mut text, &image.check.fault)?;
-    push_directory(&mut text, image.finds.directory, image.finds.is_unsure)?;
+    push_check(&mut text, &check.fault)?;
+    push_directory(&mut text, finds.directory, finds.is_unsure)?;
     push_sums(&mut text, sums)?;
     Ok(text)
 }
@@ -83,16 +90,19 @@ impl RescueAnswer {
     /// What is told of an image of which this was found. The only error is want of memory.
     pub(crate) fn of(
         alloc: Global,
-        image: &HeldImage,
+        check: &CheckAnswer,
+        finds: &Finds,
         found: &Found<'_>,
     ) -> Result<RescueAnswer, AllocError>
-        requires { found.now.mdb.now ≡ image.now.finds.mdb }
-        ensures { IfOk result (λ answer. IsAnswerBy image.now.bytes answer found.now) }
+        requires { found.now.mdb.now ≡ finds.now.mdb }
+        ensures { (image : List ℕ) → IsCheckFault check.now.fault image
+            → IsFoundIn image (Some finds.now)
+            → IfOk result (λ answer. IsAnswerBy image answer found.now) }
     {
         let sums = sums_of(alloc, found)?;
-        let lines = lines_of(alloc, image, &sums)?;
+        let lines = lines_of(alloc, check, finds, &sums)?;
         Ok(RescueAnswer {
-            status: status_of(&sums, image.finds.is_catalog_right),
+            status: status_of(&sums, finds.is_catalog_right),
             lines,
         })
     }

@@ -1,15 +1,18 @@
 //! What a bag tells of the image from which it was rescued.
-ghost use Rattle.std.specs.Prelude.{◌≡◌, ◌++◌, ◌<◌, ◌≤◌, length, replicate, IfOk, string_bytes};
-ghost use Rattle.hfs_blocks.specs.Blocks.{block_at, block_count};
-ghost use Rattle.hfs_take.specs.Bags.{digest_told};
-ghost use Rattle.hfs_salvage.specs.Bags.{IsToldOf, field_name, report_text};
+ghost use Rattle.std.specs.Prelude.{◌≡◌, ◌*◌, ◌++◌, Some, replicate, IfOk, string_bytes};
+ghost use Rattle.hfs_commands.specs.Checks.{HasCheckLines};
+ghost use Rattle.hfs_finds.specs.Finds.{IsFoundIn};
+ghost use Rattle.hfs_needed.specs.Known.{OfKnown};
+ghost use Rattle.hfs_sparse.specs.Sparse.{HoldsFrom};
+ghost use Rattle.hfs_take.specs.Bags.{IsDigestTold};
+ghost use Rattle.hfs_salvage.specs.Bags.{IsReportTold, IsToldOf, field_name};
 
-use crate::image::HeldImage;
 use crate::words::BagWords;
 use hfs_bag::SourceFault;
-use hfs_blocks::{Blocks, ImageBytes};
-use hfs_take::{image_name, plain_name, report_text};
-use sha2::{Digest, Sha256};
+use hfs_commands::CheckAnswer;
+use hfs_finds::Finds;
+use hfs_sparse::BlockSource;
+use hfs_take::{SourceBlocks, image_digest, image_name, plain_name, report_text};
 use std::alloc::Global;
 
 /// What a bag tells of an image before its items are read.
@@ -48,58 +51,83 @@ fn field_name(field: &[u8]) -> &[u8]
 }
 
 /// The block of an image that is taken for its directory.
-fn directory_block(image: &[u8], directory: u32) -> [u8; 512]
-    requires few { length image.now ≤ 2147483648 }
-    requires within { directory < block_count image.now }
-    ensures { result ≡ block_at image.now directory }
+fn directory_block<S: BlockSource>(source: &mut S, directory: u32) -> Result<[u8; 512], SourceFault>
+    ensures block { IfOk result (HoldsFrom (S.image source.old) (512 * directory)) }
+    ensures image { S.image source.new ≡ S.image source.old }
 {
     let mut block = [0; 512];
-    let blocks = ImageBytes { bytes: image };
-    blocks.block(directory, &mut block);
-    block
-}
-
-/// The lines of an image's directory, and those of its check.
-fn report_of(alloc: Global, image: &HeldImage) -> Result<String, SourceFault>
-    ensures { IfOk result (λ text. string_bytes text
-        ≡ report_text image.now.bytes image.now.finds.mdb) }
-{
-    let block = directory_block(image.bytes.bytes(), image.finds.directory);
-    let head = head_with(&block);
-    let text = report_text(alloc, &head, image.check.lines.as_str())?;
-    Ok(text)
-}
-
-/// The digest of an image, where it is to be told.
-fn digest_of(image: &[u8], is_digested: bool) -> Option<[u8; 32]>
-    ensures { result ≡ digest_told is_digested image.now }
-{
-    if is_digested {
-        Some(Sha256::digest(image))
-    } else {
-        None
+    match source.read_blocks(directory, &mut block) {
+        Ok(()) => Ok(block),
+        Err(_) => Err(SourceFault::ReadFailed),
     }
 }
 
-/// What a bag tells of an image before its items are read.
-pub(crate) fn told_of(
+/// The lines of an image's directory, and those of its check.
+fn report_of<S: BlockSource>(
     alloc: Global,
-    image: &HeldImage,
-    words: &BagWords<'_>,
-) -> Result<Told, SourceFault>
-    ensures { IfOk result (IsToldOf image.now words.now) }
+    source: &mut S,
+    len: u64,
+    check: &CheckAnswer,
+    finds: &Finds,
+) -> Result<String, SourceFault>
+    requires lines { OfKnown (S.image source.old) len (HasCheckLines check.now.lines) }
+    requires finds { OfKnown (S.image source.old) len (λ image. IsFoundIn image (Some finds.now)) }
+    ensures text { IfOk result (λ text. IsReportTold (S.image source.old) len finds.now.mdb
+        (string_bytes text)) }
+    ensures image { S.image source.new ≡ S.image source.old }
 {
-    let report = report_of(alloc, image)?;
-    let Ok(identifier) = plain_name(alloc, field_name(&image.finds.mdb.volume_name)) else {
+    let block = directory_block(source, finds.directory)?;
+    let head = head_with(&block);
+    let text = report_text(alloc, &head, check.lines.as_str())?;
+    Ok(text)
+}
+
+/// The digest of an image, where it is to be told, and the source of its blocks back.
+fn digest_of<S: BlockSource + Drop>(
+    alloc: Global,
+    source: S,
+    len: u64,
+    is_digested: bool,
+) -> Result<(Option<[u8; 32]>, S), SourceFault>
+    ensures digest { IfOk result (λ made. IsDigestTold (S.image source) len is_digested made.0) }
+    ensures source { IfOk result (λ made. S.image made.1 ≡ S.image source) }
+{
+    if !is_digested {
+        return Ok((None, source));
+    }
+    let mut blocks = SourceBlocks::new(source);
+    let digest = image_digest(alloc, &mut blocks, len)?;
+    Ok((Some(digest), blocks.into_source()))
+}
+
+/// What a bag tells of an image before its items are read, and the source of its blocks back.
+pub(crate) fn told_of<S: BlockSource + Drop>(
+    alloc: Global,
+    source: S,
+    len: u64,
+    check: &CheckAnswer,
+    finds: &Finds,
+    words: &BagWords<'_>,
+) -> Result<(Told, S), SourceFault>
+    requires lines { OfKnown (S.image source) len (HasCheckLines check.now.lines) }
+    requires finds { OfKnown (S.image source) len (λ image. IsFoundIn image (Some finds.now)) }
+    ensures told { IfOk result (λ made. IsToldOf (S.image source) len finds.now.mdb words.now made.0) }
+    ensures source { IfOk result (λ made. S.image made.1 ≡ S.image source) }
+{
+    let mut source = source;
+    let report = report_of(alloc, &mut source, len, check, finds)?;
+    let Ok(identifier) = plain_name(alloc, field_name(&finds.mdb.volume_name)) else {
         return Err(SourceFault::Memory);
     };
     let Ok(name) = image_name(alloc, words.words.image) else {
         return Err(SourceFault::Memory);
     };
-    Ok(Told {
+    let (digest, source) = digest_of(alloc, source, len, words.is_digested)?;
+    let told = Told {
         identifier,
         name,
-        digest: digest_of(image.bytes.bytes(), words.is_digested),
+        digest,
         report,
-    })
+    };
+    Ok((told, source))
 }

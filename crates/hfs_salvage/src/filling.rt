@@ -1,18 +1,19 @@
 //! The bag of what remains.
 ghost use Rattle.std.specs.Prelude.{◌≡◌, ◌++◌, IfErr, IfOk, OnErr, OnOk, string_bytes};
 ghost use Rattle.std.specs.Option.{option_map};
+ghost use Rattle.hfs_needed.specs.Known.{OfKnown};
 ghost use Rattle.hfs_shelves.specs.Entries.{IsBeginning};
 ghost use Rattle.hfs_take.specs.Bags.{text_in};
 ghost use Rattle.hfs_take.specs.Faults.{IsTakeFault};
-ghost use Rattle.hfs_salvage.specs.Answers.{IsAnswerOf};
-ghost use Rattle.hfs_salvage.specs.Bags.{IsToldOf, IsUnfilled, OfBag};
+ghost use Rattle.hfs_salvage.specs.Answers.{IsKnownAnswer};
+ghost use Rattle.hfs_salvage.specs.Bags.{IsToldOf, IsUnfilled, OfKnownBag};
 ghost use Rattle.hfs_salvage.specs.Found.{IsFoundOf};
 ghost use Rattle.hfs_salvage.specs.Words.{as_take_words, limit_of};
 
 use crate::answer::RescueAnswer;
 use crate::facts::{Told, told_of};
 use crate::found::found_in;
-use crate::image::HeldImage;
+use crate::image::RescuedImage;
 use crate::loading::load_image;
 use crate::watched::Watched;
 use crate::words::BagWords;
@@ -20,6 +21,7 @@ use hfs_bag::{BagFacts, BagFault, give_bag};
 use hfs_finds::salvage_of;
 use hfs_rescue_items::{Found, RescueItems};
 use hfs_shelves::{FileShelf, Shelf, is_there};
+use hfs_sparse::BlockSource;
 use hfs_take::{TakeFault, Watch};
 use std::alloc::Global;
 use std::rt::Files;
@@ -34,81 +36,91 @@ fn text_in(text: &Option<String>) -> Option<&str>
     }
 }
 
-/// Gives a shelf the bag of what was found of an image, of which this is told.
-fn give_found<S: Shelf, W: Watch>(
+/// Gives a shelf the bag of what was found of an image of `len` bytes, of which this is told.
+fn give_found<S: BlockSource + Drop, T: Shelf, W: Watch>(
     alloc: Global,
-    shelf: &mut S,
-    image: &HeldImage,
+    shelf: &mut T,
+    source: S,
+    len: u64,
+    line: Option<&str>,
     found: &Found<'_>,
     told: &Told,
     words: &BagWords<'_>,
     watch: &W,
 ) -> Result<(), BagFault>
-    requires found { IsFoundOf image.now.bytes (limit_of words.now.words image.now.bytes) found.now }
-    requires mdb { found.now.mdb.now ≡ image.now.finds.mdb }
-    requires told { IsToldOf image.now words.now told.now }
-    ensures whole { OnOk result (OfBag image.now.bytes (option_map string_bytes image.now.line) words.now
-        (λ bag. S.given shelf.new ≡ S.given shelf.old ++ bag)) }
-    ensures part { OnErr result (OfBag image.now.bytes (option_map string_bytes image.now.line) words.now
-        (λ bag. IsBeginning (S.given shelf.new) (S.given shelf.old ++ bag))) }
-    ensures fault { IfErr result (IsUnfilled (S.Fails (S.place shelf.old)) image.now.bytes
-        (option_map string_bytes image.now.line) words.now) }
-    ensures place { S.place shelf.new ≡ S.place shelf.old }
+    requires found { OfKnown (S.image source) len
+        (λ image. IsFoundOf image (limit_of words.now.words image) found.now) }
+    requires told { IsToldOf (S.image source) len found.now.mdb.now words.now told.now }
+    ensures whole { OnOk result (OfKnownBag (S.image source) len (text_in line.entry) words.now
+        (λ bag. T.given shelf.new ≡ T.given shelf.old ++ bag)) }
+    ensures part { OnErr result (OfKnownBag (S.image source) len (text_in line.entry) words.now
+        (λ bag. IsBeginning (T.given shelf.new) (T.given shelf.old ++ bag))) }
+    ensures fault { IfErr result (IsUnfilled (T.Fails (T.place shelf.old)) (S.image source) len
+        (text_in line.entry) words.now) }
+    ensures place { T.place shelf.new ≡ T.place shelf.old }
 {
-    let line = text_in(&image.line);
     let facts = BagFacts {
         identifier: told.identifier.as_str(),
         program: words.program,
         image: told.name.as_str(),
         volume: line,
-        bytes: image.bytes.bytes().len() as u64,
+        bytes: len,
         digest: told.digest,
         report: told.report.as_str(),
     };
-    let items = RescueItems::new(alloc, *found)?;
+    let items = RescueItems::new(alloc, *found, source)?;
     let mut watched = Watched::new(items, watch, found.items.len() as u64);
     give_bag(alloc, shelf, &mut watched, &facts)?;
     Ok(())
 }
 
 /// Gives a shelf the bag of what remains of an image, as these words ask for it, and answers what is told of the image. At a fault what was given
-/// is a beginning of the bag. Faults: the shelf's, memory was refused; `TooLarge`.
-pub fn give_remains<S: Shelf, W: Watch>(
+/// is a beginning of the bag. All this where the image's bytes are known; a file's are not. Faults: reading the image, the shelf's, memory was
+/// refused; `TooLarge`.
+pub fn give_remains<S: BlockSource + Drop, T: Shelf, W: Watch>(
     alloc: Global,
-    shelf: &mut S,
-    image: &HeldImage,
+    shelf: &mut T,
+    image: RescuedImage<S>,
     words: &BagWords<'_>,
     watch: &W,
 ) -> Result<RescueAnswer, BagFault>
-    ensures whole { OnOk result (OfBag image.now.bytes (option_map string_bytes image.now.line) words.now
-        (λ bag. S.given shelf.new ≡ S.given shelf.old ++ bag)) }
-    ensures part { OnErr result (OfBag image.now.bytes (option_map string_bytes image.now.line) words.now
-        (λ bag. IsBeginning (S.given shelf.new) (S.given shelf.old ++ bag))) }
-    ensures answer { IfOk result (IsAnswerOf image.now.bytes
-        (limit_of words.now.words image.now.bytes)) }
-    ensures fault { IfErr result (IsUnfilled (S.Fails (S.place shelf.old)) image.now.bytes
-        (option_map string_bytes image.now.line) words.now) }
-    ensures place { S.place shelf.new ≡ S.place shelf.old }
+    ensures whole { OnOk result (OfKnownBag (S.image image.source) image.len
+        (option_map string_bytes image.line) words.now
+        (λ bag. T.given shelf.new ≡ T.given shelf.old ++ bag)) }
+    ensures part { OnErr result (OfKnownBag (S.image image.source) image.len
+        (option_map string_bytes image.line) words.now
+        (λ bag. IsBeginning (T.given shelf.new) (T.given shelf.old ++ bag))) }
+    ensures answer { IfOk result (IsKnownAnswer (S.image image.source) image.len words.now.words) }
+    ensures fault { IfErr result (IsUnfilled (T.Fails (T.place shelf.old)) (S.image image.source) image.len
+        (option_map string_bytes image.line) words.now) }
+    ensures place { T.place shelf.new ≡ T.place shelf.old }
 {
-    let limit = words.words.limit_for(image.bytes.bytes().len());
-    let salvage = salvage_of(alloc, &image.finds, limit)?;
-    let found = found_in(image, &salvage);
-    let answer = RescueAnswer::of(alloc, image, &found)?;
-    let told = told_of(alloc, image, words)?;
-    give_found(alloc, shelf, image, &found, &told, words, watch)?;
+    let RescuedImage {
+        source,
+        len,
+        line,
+        check,
+        finds,
+    } = image;
+    let limit = words.words.limit_for(len);
+    let salvage = salvage_of(alloc, &finds, limit)?;
+    let found = found_in(&finds, &salvage);
+    let answer = RescueAnswer::of(alloc, &check, &finds, &found)?;
+    let (told, source) = told_of(alloc, source, len, &check, &finds, words)?;
+    let line = text_in(&line);
+    give_found(alloc, shelf, source, len, line, &found, &told, words, watch)?;
     Ok(answer)
 }
 
 /// Writes the bag of an image: to a folder beside its place, which gets its place when it is whole, and is taken away at a fault.
-fn write_bag<'a, R: Files + AllocGlobal, W: Watch>(
+fn write_bag<'a, R: Files + AllocGlobal, S: BlockSource + Drop, W: Watch>(
     rt: &R,
-    image: &HeldImage,
+    image: RescuedImage<S>,
     words: &BagWords<'a>,
     watch: &W,
 ) -> Result<RescueAnswer, TakeFault<'a>>
     ensures fault { IfErr result (IsTakeFault (as_take_words words.now)) }
-    ensures answer { IfOk result (IsAnswerOf image.now.bytes
-        (limit_of words.now.words image.now.bytes)) }
+    ensures answer { IfOk result (IsKnownAnswer (S.image image.source) image.len words.now.words) }
 {
     let mut shelf = match FileShelf::create(rt, words.folder) {
         Ok(shelf) => shelf,
@@ -127,8 +139,8 @@ fn write_bag<'a, R: Files + AllocGlobal, W: Watch>(
 }
 
 /// Makes a folder the bag of what remains of an image, and answers what is told of it. Faults, the first that holds: the image can't be read;
-/// `NoVolume`; the image's own, where there is no directory in it; `IsThere`; `CannotWrite` of the path that isn't written, memory was refused. At a
-/// fault the folder isn't there, and what was written is taken away, as far as the system and memory allow.
+/// `NoVolume`; the image's own, where there is no directory in it; `IsThere`; `CannotWrite` of the path that isn't written, the image can't be read in
+/// the middle, memory was refused. At a fault the folder isn't there, and what was written is taken away, as far as the system and memory allow.
 pub fn rescue<'a, R: Files + AllocGlobal, W: Watch>(
     rt: &R,
     words: &BagWords<'a>,
@@ -143,5 +155,5 @@ pub fn rescue<'a, R: Files + AllocGlobal, W: Watch>(
     if is_there(rt, words.folder) {
         return Err(TakeFault::IsThere(words.folder));
     }
-    write_bag(rt, &image, words, watch)
+    write_bag(rt, image, words, watch)
 }

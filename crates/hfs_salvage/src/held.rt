@@ -1,8 +1,10 @@
 //! Bytes that are held as a whole.
-ghost use Rattle.std.specs.Prelude.{◌≡◌, IfSome};
+ghost use Rattle.std.specs.Prelude.{◌≡◌, IfSome, Some};
 ghost use Rattle.hfs_containers.specs.Ranges.{bytes_in};
 
 use hfs_containers::ByteRange;
+use hfs_sparse::{BlockSource, ByteSource};
+use std::io;
 use std::marker::Model;
 
 /// All bytes of a range, which may lie among others that are held as well. Contracts see them.
@@ -45,5 +47,16 @@ impl HeldBytes {
         ensures { result.now ≡ self.now }
     {
         &self.all[self.from..self.from + self.len]
+    }
+}
+
+impl BlockSource for HeldBytes {
+    ghost image = { λ held. Some held };
+
+    fn read_blocks(&mut self, first: u32, into: &mut [u8]) -> io::Result<()> {
+        let mut blocks = ByteSource {
+            bytes: self.bytes(),
+        };
+        blocks.read_blocks(first, into)
     }
 }

@@ -1,17 +1,19 @@
-//! An image whose bytes are all held, and what is found of it.
+//! An image of which something remains.
 ghost use Rattle.std.proofs.Props.{props};
-ghost use Rattle.std.specs.Prelude.{◌≡◌, ◌≤◌, length, Some, IfErr, IfOk};
+ghost use Rattle.std.specs.Prelude.{◌≡◌, ◌≤◌, Some, IfErr, IfOk, length};
 ghost use Rattle.hfs_commands.specs.Checks.{HasCheckLines, IsCheckFault};
-ghost use Rattle.hfs_finds.specs.Finds.{AreFinds, found_directory};
+ghost use Rattle.hfs_finds.specs.Finds.{IsFoundIn};
+ghost use Rattle.hfs_needed.specs.Known.{OfKnown};
 ghost use Rattle.hfs_salvage.specs.Faults.{IsUnheld};
 
 use crate::held::HeldBytes;
 use hfs_check::MountFault;
 use hfs_commands::{CheckAnswer, check_answer};
 use hfs_finds::{Finds, find_in};
+use hfs_sparse::BlockSource;
 use std::alloc::Global;
 
-/// Why an image isn't held.
+/// Why nothing is found of an image.
 #[derive(Drop)]
 pub enum HoldFault {
     /// No directory is found in it; this is the fault that its check tells.
@@ -20,27 +22,33 @@ pub enum HoldFault {
     NoMemory,
 }
 
-/// An image whose bytes are all held, what its check tells, and what is found of it by its directory.
+/// An image in which a directory is found: where its blocks are read from, what its check tells, and what is found of it by its directory.
 #[derive(Drop)]
-pub struct HeldImage {
-    pub(crate) bytes: HeldBytes,
+pub struct RescuedImage<S: BlockSource> {
+    pub(crate) source: S,
+    /// How many bytes it has.
+    pub(crate) len: u64,
     /// Where the volume lies in its file, where it was looked for there: the line that a bag has of it.
     pub(crate) line: Option<String>,
     pub(crate) check: CheckAnswer,
     pub(crate) finds: Finds,
-    ghost fault_is: { IsCheckFault check.fault bytes } by { Prim.hlevel props },
-    ghost lines_are: { HasCheckLines check.lines bytes },
-    ghost directory_is: { found_directory bytes ≡ Some finds.mdb } by { Prim.hlevel props },
-    ghost finds_are: { AreFinds bytes finds } by { Prim.hlevel props },
-    ghost few: { length bytes ≤ 2147483648 },
+    ghost fault_is: { OfKnown (S.image source) len (IsCheckFault check.fault) } by { Prim.hlevel props },
+    ghost lines_are: { OfKnown (S.image source) len (HasCheckLines check.lines) } by { Prim.hlevel props },
+    ghost finds_are: { OfKnown (S.image source) len (λ image. IsFoundIn image (Some finds)) } by { Prim.hlevel props },
+    ghost few: { len ≤ 2147483648 },
 }
 
-impl HeldImage {
-    /// Checks an image, and finds what there is of it. Faults: there is no directory in it, memory was refused.
-    pub fn of(alloc: Global, bytes: HeldBytes, line: Option<String>) -> Result<HeldImage, HoldFault>
-        ensures bytes { IfOk result (λ image. image.bytes ≡ bytes) }
+impl RescuedImage<HeldBytes> {
+    /// Checks an image whose bytes are all held, and finds what there is of it. Faults: there is no directory in it, memory was refused.
+    pub fn held(
+        alloc: Global,
+        bytes: HeldBytes,
+        line: Option<String>,
+    ) -> Result<RescuedImage<HeldBytes>, HoldFault>
+        ensures source { IfOk result (λ image. image.source ≡ bytes) }
+        ensures len { IfOk result (λ image. image.len ≡ length bytes) }
         ensures line { IfOk result (λ image. image.line ≡ line) }
-        ensures none { IfErr result (IsUnheld bytes) }
+        ensures none { IfErr result (IsUnheld (Some bytes) (length bytes)) }
     {
         let Ok(check) = check_answer(alloc, bytes.bytes()) else {
             return Err(HoldFault::NoMemory);
@@ -48,9 +56,11 @@ impl HeldImage {
         let Ok(found) = find_in(alloc, bytes.bytes()) else {
             return Err(HoldFault::NoMemory);
         };
+        let len = bytes.bytes().len() as u64;
         match found {
-            Some(finds) => Ok(HeldImage {
-                bytes,
+            Some(finds) => Ok(RescuedImage {
+                source: bytes,
+                len,
                 line,
                 check,
                 finds,

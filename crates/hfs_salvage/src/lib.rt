@@ -15,6 +15,6 @@ mod words;
 pub use crate::answer::RescueAnswer;
 pub use crate::filling::{give_remains, rescue};
 pub use crate::held::HeldBytes;
-pub use crate::image::{HeldImage, HoldFault};
+pub use crate::image::{HoldFault, RescuedImage};
 pub use crate::listing::{list_rescue, write_remains};
 pub use crate::words::{BagWords, RescueWords};

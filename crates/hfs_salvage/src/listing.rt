@@ -4,20 +4,20 @@ ghost use Rattle.std.specs.Io.KnownBytes.{Appends};
 ghost use Rattle.hfs_commands.specs.Faults.{IsUnprinted};
 ghost use Rattle.hfs_rescue_items.specs.Lines.{remains_line, remains_text};
 ghost use Rattle.hfs_texts.specs.Writing.{AppendsFront};
-ghost use Rattle.hfs_salvage.specs.Answers.{IsAnswerOf};
+ghost use Rattle.hfs_salvage.specs.Answers.{IsKnownAnswer};
 ghost use Rattle.hfs_salvage.specs.Faults.{IsUnlisted};
 ghost use Rattle.hfs_salvage.specs.Lists.{Gathers, TellsRemains, TellsRemainsFront};
-ghost use Rattle.hfs_salvage.specs.Words.{limit_of};
 
 use crate::answer::RescueAnswer;
 use crate::found::found_in;
-use crate::image::HeldImage;
+use crate::image::RescuedImage;
 use crate::loading::load_image;
 use crate::words::RescueWords;
 use hfs_commands::Fault;
 use hfs_finds::salvage_of;
 use hfs_rescue::FoundRecord;
 use hfs_rescue_items::{Found, push_remains_line};
+use hfs_sparse::BlockSource;
 use hfs_texts::put;
 use std::alloc::Global;
 use std::io::Write;
@@ -86,27 +86,27 @@ fn write_lines<W: Write>(
 
 /// Writes the list of what was found of an image.
 ///
-/// A line for each item that remains, in their order; and answers what is told of the image. Faults: memory was refused; `OutputFailed`, and
-/// then a part of the lines may have gone out, from the first on.
-pub fn write_remains<W: Write>(
+/// A line for each item that remains, in their order; and answers what is told of the image. All this where the image's bytes are known; a file's
+/// are not. Faults: memory was refused; `OutputFailed`, and then a part of the lines may have gone out, from the first on.
+pub fn write_remains<S: BlockSource, W: Write>(
     alloc: Global,
     writer: &mut W,
-    image: &HeldImage,
+    image: &RescuedImage<S>,
     words: &RescueWords<'_>,
 ) -> Result<RescueAnswer, Fault<'static>>
-    ensures written { OnOk result (TellsRemains image.now.bytes (limit_of words.now image.now.bytes)
+    ensures written { OnOk result (TellsRemains (S.image image.now.source) image.now.len words.now
         (W.contents writer.old) (W.contents writer.new)) }
-    ensures part { OnErr result (TellsRemainsFront image.now.bytes (limit_of words.now image.now.bytes)
+    ensures part { OnErr result (TellsRemainsFront (S.image image.now.source) image.now.len words.now
         (W.contents writer.old) (W.contents writer.new)) }
-    ensures answer { IfOk result (IsAnswerOf image.now.bytes (limit_of words.now image.now.bytes)) }
+    ensures answer { IfOk result (IsKnownAnswer (S.image image.now.source) image.now.len words.now) }
     ensures faults { IfErr result IsUnprinted }
 {
-    let limit = words.limit_for(image.bytes.bytes().len());
+    let limit = words.limit_for(image.len);
     let Ok(salvage) = salvage_of(alloc, &image.finds, limit) else {
         return Err(Fault::NoMemory);
     };
-    let found = found_in(image, &salvage);
-    let Ok(answer) = RescueAnswer::of(alloc, image, &found) else {
+    let found = found_in(&image.finds, &salvage);
+    let Ok(answer) = RescueAnswer::of(alloc, &image.check, &image.finds, &found) else {
         return Err(Fault::NoMemory);
     };
     write_lines(alloc, writer, &found)?;

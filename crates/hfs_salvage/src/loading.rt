@@ -6,7 +6,7 @@ ghost use Rattle.hfs_take.specs.Opening.{known_in};
 ghost use Rattle.hfs_salvage.specs.Faults.{IsUnread};
 
 use crate::held::HeldBytes;
-use crate::image::{HeldImage, HoldFault};
+use crate::image::{HoldFault, RescuedImage};
 use crate::words::RescueWords;
 use hfs_check::MountFault;
 use hfs_commands::{Fault, OpenedFile, Window};
@@ -71,7 +71,7 @@ fn hold<'a, F: Read + Seek + Drop>(
     }
 }
 
-/// What it means for an image's file that the image isn't held.
+/// What it means for an image's file that nothing is found of it.
 fn fault_of<'a>(fault: HoldFault, words: &RescueWords<'a>) -> Fault<'a>
     ensures { IsUnread words.now result }
 {
@@ -87,7 +87,7 @@ fn fault_of<'a>(fault: HoldFault, words: &RescueWords<'a>) -> Fault<'a>
 pub(crate) fn load_image<'a, R: Files + AllocGlobal>(
     rt: &R,
     words: &RescueWords<'a>,
-) -> Result<HeldImage, Fault<'a>>
+) -> Result<RescuedImage<HeldBytes>, Fault<'a>>
     ensures { IfErr result (IsUnread words.now) }
 {
     let FoundPart { bytes, line } = find_part(rt, words.image, words.volume)?;
@@ -95,7 +95,7 @@ pub(crate) fn load_image<'a, R: Files + AllocGlobal>(
         return Err(Fault::Refused(MountFault::TooLarge));
     }
     let held = hold(rt.alloc(), bytes, words.image)?;
-    match HeldImage::of(rt.alloc(), held, line) {
+    match RescuedImage::held(rt.alloc(), held, line) {
         Ok(image) => Ok(image),
         Err(fault) => Err(fault_of(fault, words)),
     }

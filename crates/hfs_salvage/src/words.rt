@@ -29,7 +29,7 @@ pub struct BagWords<'a> {
 
 impl RescueWords<'_> {
     /// How many bytes of forks are taken at most of an image of `len` bytes.
-    pub(crate) fn limit_for(&self, len: usize) -> u64
+    pub(crate) fn limit_for(&self, len: u64) -> u64
         requires { len ≤ 2147483648 }
         ensures { result ≡ limit_or_usual self.now.limit len }
     {

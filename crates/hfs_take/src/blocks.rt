@@ -48,6 +48,14 @@ impl<S: BlockSource> SourceBlocks<S> {
     {
         SourceBlocks { source }
     }
+
+    /// Their source back.
+    pub fn into_source(self) -> S
+        ensures { S.image result ≡ self }
+    {
+        let SourceBlocks { source } = self;
+        source
+    }
 }
 
 impl<S: BlockSource> ImageBlocks for SourceBlocks<S> {

@@ -1,6 +1,7 @@
 //! What a bag tells of the image that it was taken from.
-ghost use Rattle.std.specs.Prelude.{◌≡◌, ◌++◌, IfOk, OnOk, string_bytes};
+ghost use Rattle.std.specs.Prelude.{◌≡◌, ◌++◌, IfOk, MatchResult, OnOk, string_bytes};
 ghost use Rattle.hfs_commands.specs.Volumes.{container_text, name_text};
+ghost use Rattle.hfs_image_items.specs.Faults.{WantsMemory};
 ghost use Rattle.hfs_names.specs.PlainTexts.{plain_text};
 ghost use Rattle.hfs_texts.specs.Reading.{info_text};
 ghost use Rattle.hfs_texts.specs.Texts.{Gains};
@@ -99,13 +100,14 @@ fn info_bytes(alloc: Global, head: &[u8; 1536]) -> Result<Vec<u8>, InfoFault>
     Ok(lines)
 }
 
-/// The lines of the master directory block in the first 1,536 bytes of a volume, and those of its check behind them.
+/// The lines of the master directory block in the first 1,536 bytes of a volume, and those of its check behind them. The only fault is want of memory.
 pub fn report_text(
     alloc: Global,
     head: &[u8; 1536],
     check_lines: &str,
 ) -> Result<String, SourceFault>
-    ensures { IfOk result (λ text. string_bytes text ≡ info_text head.now ++ check_lines.now) }
+    ensures { MatchResult result (λ text. string_bytes text ≡ info_text head.now ++ check_lines.now)
+        WantsMemory }
 {
     let Ok(mut lines) = info_bytes(alloc, head) else {
         return Err(SourceFault::Memory);

@@ -54,7 +54,8 @@ fn report_of<S: BlockSource + Drop>(
     let Ok(answer) = report_answer(alloc, report) else {
         return Err(SourceFault::Memory);
     };
-    report_text(alloc, &head, answer.lines.as_str())
+    let text = report_text(alloc, &head, answer.lines.as_str())?;
+    Ok(text)
 }
 
 /// How many items an image with this report has, without the root.

@@ -6,7 +6,7 @@ use crate::saving::{save, save_as_read, tell};
 use crate::words::RunWords;
 use hfs_commands::{
     Fault, Leftover, Ran, RanImage, RunImage, Status, WatchedFile, WatchedImage, load_script,
-    open_watched, run_script_at, script_lines,
+    open_watched, run_script_at, script_lines, write_answers,
 };
 use std::fs::File;
 use std::io::IsTerminal;
@@ -90,13 +90,18 @@ fn print_ran_image<'a>(
     run: &RunWords<'a>,
     ran: RanImage<WatchedFile<File>>,
 ) -> Result<u8, Fault<'a>> {
-    let RanImage { image, text, whole } = ran;
+    let RanImage {
+        image,
+        answers,
+        whole,
+    } = ran;
     let mut image = image;
     let leftover = match run.out {
         Some(file) => save_as_read(rt, file, run.image, &mut image)?,
         None => None,
     };
-    print_answers(rt, text.as_str(), whole, &leftover)
+    write_answers(&mut rt.stdout(), &answers)?;
+    Ok(end(rt, whole, &leftover))
 }
 
 /// Prints the answers to a script, and tells of a file beside the written one that was there already.
@@ -107,6 +112,11 @@ fn print_answers(
     leftover: &Option<Leftover>,
 ) -> Result<u8, Fault<'static>> {
     print_lines(rt, text)?;
+    Ok(end(rt, whole, leftover))
+}
+
+/// Tells of a file beside the written one that was there already, and answers the exit status of a run.
+fn end(rt: &HostRuntime, whole: bool, leftover: &Option<Leftover>) -> u8 {
     tell(rt, leftover);
-    Ok(Status::of_run(whole).number())
+    Status::of_run(whole).number()
 }

@@ -1,5 +1,5 @@
 -- Item by item.
-use Rattle.std.proofs.Common.{◌≡◌, ◌+◌, ◌++◌, get_or, refl, sym, subst, arith, rules}
+use Rattle.std.proofs.Common.{◌≡◌, ◌∙◌, ◌+◌, ◌++◌, get_or, refl, sym, subst, arith, rules}
 use Rattle.hfs_sparse.proofs.Written.{on-err as on_err}
 use Rattle.hfs_collection.specs.Held.{image_of}
 use Rattle.hfs_collection.specs.Remains.{remains_rows_from}
@@ -10,6 +10,8 @@ use Rattle.hfs_collection.proofs.giving_remains.give_remaining.Goals as goal
 pub loop-i-init : goal.loop-i-init
 loop-i-init g c = record {
   rows = refl;
+  reference = refl;
+  place = refl;
   counted = subst (FilesLeft (image_of c.args.found.now) c.args.items.now 0) (sym c.none-counts.ensures) (counts_first (image_of c.args.found.now) c.args.items.now);
 }
 
@@ -22,6 +24,8 @@ loop-i-preserved g c =
     let own : item ≡ get_or items c.loop-i.i item = search rules in
     record {
       rows = remains_next c.args.taken image items all c.loop-i.i item (g.T.RowTaker.given c.loop-i.taker) (g.T.RowTaker.given c.give_remaining_item.new.taker) c.loop-i-test.true own c.loop-i.invariant.rows c.in_ok-more.ensures.whole;
+      reference = c.give_remaining_item.ensures.reference ∙ c.loop-i.invariant.reference;
+      place = c.give_remaining_item.ensures.place ∙ c.loop-i.invariant.place;
       counted = counts_next image items c.loop-i.i item c.loop-i.counts c.in_ok-more.more c.in-Some.sum c.loop-i-test.true own c.loop-i.invariant.counted c.in_ok-more.ensures.counted c.in-Some.ensures;
     }
 

@@ -1,5 +1,5 @@
 -- A beginning of the next volume's rows, or all of them.
-use Rattle.std.proofs.Common.{◌≡◌, ◌+◌, ◌++◌, refl, sym, subst, arith}
+use Rattle.std.proofs.Common.{◌≡◌, ◌∙◌, ◌+◌, ◌++◌, refl, sym, subst, arith}
 use Rattle.hfs_sparse.proofs.Written.{on-err as on_err}
 use Rattle.hfs_containers.specs.Ranges.{bytes_in}
 use Rattle.hfs_needed.specs.Known.{OfKnown}
@@ -36,6 +36,8 @@ loop-i-preserved g c =
     record {
       rows = volumes_next known known refl c.args.len c.args.taken c.loop-i.i c.args.ranges.now _ c.loop-i-test.true (g.T.RowTaker.given c.args.taker.now) given new c.loop-i.invariant.rows
           (subst (λ (place : VolumePlace). OfKnown known c.args.len (λ file. new ≡ given ++ volume_rows c.args.taken place (bytes_in place.range file))) c.of-place.ensures c.in_ok-more.ensures.whole);
+      reference = c.give_volume.ensures.reference ∙ c.loop-i.invariant.reference;
+      place = c.give_volume.ensures.place ∙ c.loop-i.invariant.place;
       counted = volumes_counted_next known c.args.len c.loop-i.i c.args.ranges.now _ c.loop-i.counts c.in_ok-more.more c.in-Some.sum c.loop-i-test.true c.loop-i.invariant.counted
           (subst (λ (place : VolumePlace). OfKnown known c.args.len (λ file. c.in_ok-more.more ≡ volume_counts (bytes_in place.range file))) c.of-place.ensures c.in_ok-more.ensures.counted)
           c.in-Some.ensures;
@@ -46,6 +48,8 @@ loop-i-init g c =
     let known = g.F.ImageFile.known c.args.file.now in
     record {
       rows = volumes_first known c.args.len c.args.taken c.args.ranges.now (g.T.RowTaker.given c.args.taker.now);
+      reference = refl;
+      place = refl;
       counted = subst (VolumesToCount known c.args.len 0 c.args.ranges.now) (sym c.none-counts.ensures) (volumes_counted_first known c.args.len c.args.ranges.now);
     }
 

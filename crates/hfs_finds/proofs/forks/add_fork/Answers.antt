@@ -1,7 +1,7 @@
 -- Block by block.
 use Rattle.std.proofs.Common.{◌≡◌, ◌-◌, ◌++◌, min, refl, arith, rules}
-use Rattle.hfs_finds.specs.Images.{fork_bytes}
-use Rattle.hfs_finds.proofs.ForkLemmas.{fork_more, fork_whole}
+use Rattle.hfs_remains.specs.ForkBytes.{fork_bytes}
+use Rattle.hfs_remains.proofs.ForkByteLemmas.{fork_more, fork_whole}
 use Rattle.hfs_finds.proofs.forks.add_fork.Goals as goal
 
 pub loop-place-preserved : goal.loop-place-preserved

@@ -1,6 +1,6 @@
 -- those that came and those of the blocks that are left are all
-use Rattle.std.proofs.Common.{◌≡◌, ◌+◌, ◌++◌, drop}
-use Rattle.hfs_finds.specs.Images.{fork_bytes}
+use Rattle.std.proofs.Common.{◌≡◌, ◌++◌, drop}
+use Rattle.hfs_remains.specs.ForkBytes.{fork_bytes}
 use Rattle.hfs_finds.proofs.forks.add_fork.Given as goal
 
 abbrev pub invariant-loop-place : goal.invariant-loop-place

@@ -1,5 +1,5 @@
 -- A few at a time.
-use Rattle.std.proofs.Common.{◌≡◌, ◌+◌, ◌-◌, ◌++◌, min, replicate, arith, rules}
+use Rattle.std.proofs.Common.{◌≡◌, ◌-◌, ◌++◌, min, replicate, arith, rules}
 use Rattle.hfs_finds.proofs.ForkLemmas.{zeros_more, zeros_none}
 use Rattle.hfs_finds.proofs.forks.add_zeros.Goals as goal
 

@@ -1,6 +1,5 @@
 -- What was read are the next bytes of the fork.
-use Rattle.std.proofs.Common.{rules, ◌≡◌, ◌*◌, ◌-◌, ◌<◌, get_or, length, min, refl, arith, ap, ◌∙◌, subst, ℕ, List}
-use Rattle.hfs_image_items.specs.declared.piece.Piece.{Piece}
+use Rattle.std.proofs.Common.{rules, ◌≡◌, ◌*◌, ◌-◌, ◌<◌, get_or, length, min, refl, arith}
 use Rattle.hfs_image_items.proofs.ReadLemmas.{reads_piece, split_at}
 use Rattle.hfs_image_items.proofs.fork_reading.read_fork.Goals as goal
 

@@ -21,6 +21,6 @@ returns-in-Ok-clause-ok g c =
       shown = closed.shown;
       before = before;
       afterwards = afterwards;
-      closed = subst (λ (ps : List PassState). IsClosed g.K.Session.base closed.volume closed.journal.items closed.shown ps before afterwards) c.in_ok-passes.ensures c.in-Ok.ensures.ok;
+      closed = subst (λ (ps : List PassState). IsClosed g.K.Session.base closed.volume closed.journal.items closed.shown ps before afterwards) c.in_ok-passes.ensures.passes c.in-Ok.ensures.ok;
       learned = subst (λ (ds : List Done). OfEach (AllBegin before.list) ds) c.deref.ensures.value c.learn_all.ensures.told;
     }

@@ -1,14 +1,16 @@
-use Rattle.std.proofs.Common.{◌≡◌, ◌∙◌, ◌+◌, List, map, ap, subst, arith, string_bytes, Vec, Global}
+use Rattle.std.proofs.Common.{◌≡◌, ◌∙◌, ◌+◌, List, map, ap, subst, arith, Vec, Global}
 use Rattle.std.specs.List.{All}
 use Rattle.logbook.specs.Pages.{Book}
 use Rattle.hfs_model.specs.declared.call.Call.{Call}
+use Rattle.hfs_model.specs.declared.reply.Reply.{Reply}
+use Rattle.hfs_scripts.specs.declared.lines.Caller.{Caller}
 use Rattle.hfs_scripts.specs.Callers.{workers, viewers}
 use Rattle.hfs_scripts.specs.declared.lines.ScriptLine.{ScriptLine}
 use Rattle.hfs_published.specs.Histories.{Known, known, opened}
 use Rattle.hfs_check.specs.VolumeOf.{volume_of}
 use Rattle.hfs_shared.specs.Closings.{IsWhether}
 use Rattle.hfs_shared.specs.declared.done.Done.{Done}
-use Rattle.hfs_runs.specs.Answers.{answers_text, is_whole, replies_of}
+use Rattle.hfs_runs.specs.Answers.{answers_text, is_whole, kept_replies, replies_of}
 use Rattle.hfs_runs.specs.Asking.{AreNumbered}
 use Rattle.hfs_runs.specs.Tellings.{AreWhole, OfEach}
 use Rattle.hfs_runs.proofs.Small.{viewers_within}
@@ -64,10 +66,11 @@ returns-clause-ok g c =
     } in
     let numbered : AreNumbered (map (λ (line : ScriptLine). line.caller) script) c.in_ok-lines.lines.items =
     subst (λ (l : List ScriptLine). AreNumbered (map (λ (line : ScriptLine). line.caller) l) c.in_ok-lines.lines.items) c.lines.ensures c.in_ok-lines.ensures in
-    let replies = replies_of c.in-Ok.dones.items c.run_beside-dones.result.1.items in
-    let text : string_bytes c.in_ok-text.text ≡ answers_text replies c.in_ok-lines.lines.items = c.in_ok-text.ensures.text ∙ ap (answers_text replies) c.deref.ensures.value in
-    let whole : c.in_ok-text.whole ≡ is_whole replies c.in_ok-lines.lines.items = c.in_ok-text.ensures.whole ∙ ap (is_whole replies) c.deref.ensures.value in
+    let kept = c.in_ok-volume.replies in
+    let asked = c.in_ok-lines.lines.items in
+    let same : kept_replies kept ≡ replies_of c.in-Ok.dones.items c.run_beside-dones.result.1.items = λ i caller. c.in_ok-volume.ensures.replies caller i in
     let shown : IsWhether c.are_all_whole-shown.result (OfEach AreWhole c.in-Ok.dones.items) =
-    subst (λ (ds : List Done). IsWhether c.are_all_whole-shown.result (OfEach AreWhole ds)) c.deref-2.ensures.value c.are_all_whole-shown.ensures in
-    ran (λ (calls : Vec Call Global). calls.items) book g.K.Session.base script c.in_ok-volume.volume (string_bytes c.in_ok-text.text) c.in_ok-text.whole c.are_all_whole-shown.result c.in_ok-lines.lines.items c.args.passes.items
-    c.in_ok-jobs.jobs.items c.in-Ok.dones.items c.in_ok-viewings.viewings.items c.run_beside-dones.result.1.items numbered begins done views viewed text whole published_is_after shown c.in_ok-volume.ensures.ok
+    subst (λ (ds : List Done). IsWhether c.are_all_whole-shown.result (OfEach AreWhole ds)) c.deref.ensures.value c.are_all_whole-shown.ensures in
+    ran (λ (calls : Vec Call Global). calls.items) book g.K.Session.base script c.in_ok-volume.volume (answers_text (kept_replies kept) asked) (is_whole (kept_replies kept) asked) c.are_all_whole-shown.result asked c.args.passes.items
+    c.in_ok-jobs.jobs.items c.in-Ok.dones.items c.in_ok-viewings.viewings.items c.run_beside-dones.result.1.items numbered begins done views viewed
+    (ap (λ (replies : Caller → List Reply). answers_text replies asked) same) (ap (λ (replies : Caller → List Reply). is_whole replies asked) same) published_is_after shown c.in_ok-volume.ensures.ok

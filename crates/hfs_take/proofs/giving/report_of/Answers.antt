@@ -1,11 +1,10 @@
 -- The lines of the head, and those of the report.
-use Rattle.std.proofs.Common.{◌∙◌, rules, String, Global}
+use Rattle.std.proofs.Common.{◌∙◌, rules}
 use Rattle.std.specs.Prelude.{string_bytes}
-use Rattle.hfs_needed.proofs.Reported.{ok-so}
 use Rattle.hfs_take.proofs.ToldLemmas.{report-known}
 use Rattle.hfs_take.proofs.giving.report_of.Goals as goal
 
 pub returns-clause-text : goal.returns-clause-text
 returns-clause-text g c =
-    ok-so c.report_text.result (λ (text : String Global) is. report-known c.args.image.now.known c.args.len c.in_ok-head.head c.as_str.result.now (string_bytes text)
-    c.args.report.now c.in_ok-head.ensures.head (search rules) c.requires (c.as_str.ensures.value ∙ c.in-Ok.ensures.lines) is) c.report_text.ensures
+    report-known c.args.image.now.known c.args.len c.in_ok-head.head c.as_str.result.now (string_bytes c.in_ok-text.text)
+    c.args.report.now c.in_ok-head.ensures.head (search rules) c.requires (c.as_str.ensures.value ∙ c.in-Ok.ensures.lines) c.in_ok-text.ensures

@@ -1,5 +1,6 @@
 -- What was read, and what the run made of it.
-use Rattle.std.proofs.Common.{◌/◌, refl, ap, subst, string_bytes, String, Global}
+use Rattle.std.proofs.Common.{◌/◌, refl, ap, subst}
+use Rattle.hfs_runs.specs.Pieces.{text_of_pieces}
 use Rattle.hfs_commands.specs.Running.{IsNeededRunOf, RunValue}
 use Rattle.hfs_commands.proofs.RunNeeded.{mountable-old, mountable-new, sound-new, needed-run}
 use Rattle.hfs_commands.proofs.running.RunImage.run_at.Goals as goal
@@ -17,9 +18,9 @@ pub returns-in-Ok-run_needed_at-clause-ran : goal.returns-in-Ok-run_needed_at-cl
 returns-in-Ok-run_needed_at-clause-ran g c =
     let known = g.S.BlockSource.image c.self.inside.source in
     let made = c.ran_image.result in
-    subst (λ (s : RunValue). IsNeededRunOf s.known s.len c.args.script made.image.patch (string_bytes made.text) made.whole)
+    subst (λ (s : RunValue). IsNeededRunOf s.known s.len c.args.script made.image.patch (text_of_pieces made.answers) made.whole)
     c.self.view_is
     (needed-run known c.self.inside.len c.self.inside.working c.fetch_named_forks.new.working c.self.invariant
     (c.fetch_named_forks.ensures.working known (c.self.inside.len / 512) refl c.self.invariant.is)
-    c.args.script made.image.patch (string_bytes made.text) made.whole c.in-Ok-run_needed_at.ran c.ran_image.ensures.patch
-    (ap (λ (s : _). string_bytes s) c.ran_image.ensures.text) c.ran_image.ensures.whole c.in-Ok-run_needed_at.ensures.ran c.in-Ok.ensures.forks c.in-Ok-run_needed_at.ensures.carried)
+    c.args.script made.image.patch (text_of_pieces made.answers) made.whole c.in-Ok-run_needed_at.ran c.ran_image.ensures.patch
+    (ap text_of_pieces c.ran_image.ensures.answers) c.ran_image.ensures.whole c.in-Ok-run_needed_at.ensures.ran c.in-Ok.ensures.forks c.in-Ok-run_needed_at.ensures.carried)

@@ -5,10 +5,10 @@ use Rattle.hfs_image_items.specs.Items.{folders_text, names_between}
 use Rattle.hfs_image_items.proofs.StateLemmas.{has_item}
 use Rattle.hfs_image_items.proofs.items.ImageItemsBagSource.next_item.Goals as goal
 
-pub returns : goal.returns
-returns g c =
+pub returns-clause-taken : goal.returns-clause-taken
+returns-clause-taken g c =
     let before = c.args.self.now in
-    has_item before.image before.rows c.next.new.self before.came c.in_ok-self.field-0 before.reading c.head_of.result c.in-Some.info
+    has_item before.image before.rows c.next.new.self before.came c.in-Ok-came_item.came before.reading c.head_of.result c.in-Some.info
     (subst (GivesRow before.rows c.next.new.self) c.in-Some.is c.in-Ok.ensures)
-    (c.in_ok-self.ensures.above ∙ ap (λ (path : List (List ℕ)). folders_text (names_between path)) c.path.ensures)
-    c.in_ok-self.ensures.name c.in_ok-self.ensures.info (c.head_of.ensures before.image c.in_ok-runs.ensures)
+    (c.in-Ok-came_item.ensures.above ∙ ap (λ (path : List (List ℕ)). folders_text (names_between path)) c.path.ensures)
+    c.in-Ok-came_item.ensures.name c.in-Ok-came_item.ensures.info (c.head_of.ensures before.image c.in-Ok-runs_of.ensures)

@@ -1,0 +1,67 @@
+-- Rows that are put one behind the other, in one transaction.
+use Rattle.std.proofs.Common.{◌≡◌, refl, sym, subst, true, false, Bool, List, [], ◌∷◌, ◌++◌, map, true≢false}
+use Rattle.std.proofs.Math.Logic.{∥∥₁_map}
+use Rattle.sqlite.specs.Held.{Held, state}
+use Rattle.sqlite.specs.State.{Survives}
+use Rattle.sqlite.specs.Store.{Ghosts}
+use Rattle.sqlite.proofs.StateLemmas.{survives_then, survives_weaker}
+use Rattle.hfs_rows.specs.Taken.{TakenRow, row_of}
+use Rattle.hfs_database.specs.declared.statements.LastRows.{LastRows}
+use Rattle.hfs_database.specs.Rows.{PutsRow}
+use Rattle.hfs_database.specs.Transactions.{HasPutSince, HoldsAll, IsBegun, IsCommitted, KeepsFile, LeavesAllOrNone, LeavesFile, PutsAll, PutsAllInOne, PutsRows, no_rows}
+use Rattle.hfs_database.specs.Values.{sql_value}
+use Rattle.hfs_database.proofs.Keeping.{keeps_then}
+
+-- ---- row by row
+
+-- a row more
+pub puts_one_more : {S : Type 0} (g : Ghosts S) (rows : List TakenRow) (row : TakenRow) (old mid new : Held S) (first before after : LastRows)
+    → PutsRows g rows old mid first before → PutsRow g row.table (map sql_value row.values) mid new before after → PutsRows g (rows ++ row ∷ []) old new first after
+puts_one_more g [] row old mid new first before after puts one = (
+  new,
+  after,
+  subst (λ (held : Held _). PutsRow g row.table (map sql_value row.values) held new first after) puts.0
+      (subst (λ (last : LastRows). PutsRow g row.table (map sql_value row.values) mid new last after) puts.1 one),
+  (refl, refl),
+)
+puts_one_more g (r ∷ rows) row old mid new first before after puts one =
+    (puts.0, puts.1, puts.2, puts_one_more g rows row puts.0 mid new puts.1 before after puts.3 one)
+
+-- before the first row
+pub puts_none : {S : Type 0} (g : Ghosts S) (start : Held S) (rows : List TakenRow) → rows ≡ [] → HasPutSince g start rows start no_rows
+puts_none g start rows none = subst (λ (rows : List TakenRow). HasPutSince g start rows start no_rows) (sym none) (refl, refl)
+
+pub has_not : {X : Type 0} → true ≡ false → X
+has_not is = absurd (true≢false is)
+
+-- the taker was given all rows, and none before them
+pub puts_all : {S : Type 0} (g : Ghosts S) (Gives : List TakenRow → List TakenRow → Type 0) (start begun now : Held S) (before rows : List TakenRow) (last : LastRows) (failed : Bool)
+    → before ≡ [] → begun ≡ start → Gives before rows → failed ≡ false → ∥ (failed ≡ false → HasPutSince g begun rows now last) ∥₁ → PutsAll g (Gives []) start now
+puts_all g Gives start begun now before rows last failed none is gives fine put =
+    ∥∥₁_map put (λ was. (rows, subst (λ (first : List TakenRow). Gives first rows) none gives, last, subst (λ (held : Held _). HasPutSince g held rows now last) is (was fine)))
+
+-- ---- in one transaction
+
+module _ {S : Type 0} (g : Ghosts S) (AreRows : List TakenRow → Type 0) (start first given new : Held S) where
+  -- it was committed
+  pub put_in_one : IsBegun g start first → PutsAll g AreRows first given → IsCommitted g given new → PutsAllInOne g AreRows start new
+  put_in_one begins puts committed =
+      ∥∥₁_map puts (λ p. (p.0, p.1, record { first = first; given = given; last = p.2; begins = begins; put = p.3; committed = committed }))
+
+  -- it was to be committed
+  pub left_by_commit : IsBegun g start first → KeepsFile g start first → LeavesFile g first given → PutsAll g AreRows first given
+      → Survives (state g given) (state g new) (λ db. db ≡ (state g given).now.trees) → LeavesAllOrNone g AreRows start new
+  left_by_commit begins begun kept puts survives =
+      ∥∥₁_map kept (λ keeps. survives_then (state g start) (state g given) (state g new) (λ _. ⊥) (λ db. db ≡ (state g given).now.trees) (HoldsAll g AreRows start)
+      (λ clean db never. absurd never) (λ clean db is. ∥∥₁_map puts (λ p. (p.0, p.1, first, given, p.2, begins, p.3, is)))
+      (keeps_then g start first given begun keeps).survives survives)
+
+  -- it was undone
+  pub left_by_undo : KeepsFile g start first → LeavesFile g first given → KeepsFile g given new → LeavesAllOrNone g AreRows start new
+  left_by_undo begun kept undone =
+      ∥∥₁_map kept (λ keeps. survives_weaker (state g start) (state g new) (λ _. ⊥) (HoldsAll g AreRows start) (λ clean db never. absurd never)
+      (keeps_then g start given new (keeps_then g start first given begun keeps) undone).survives)
+
+-- it was not begun
+pub left_alone : {S : Type 0} (g : Ghosts S) (AreRows : List TakenRow → Type 0) (start new : Held S) → KeepsFile g start new → LeavesAllOrNone g AreRows start new
+left_alone g AreRows start new keeps = ∣ survives_weaker (state g start) (state g new) (λ _. ⊥) (HoldsAll g AreRows start) (λ clean db never. absurd never) keeps.survives ∣₁

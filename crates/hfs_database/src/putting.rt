@@ -1,0 +1,84 @@
+//! The rows of a source in one transaction.
+ghost use Rattle.std.specs.Prelude.{◌≡◌, [], IfOk, OnErr, OnOk};
+ghost use Rattle.sqlite.specs.Held.{state};
+ghost use Rattle.sqlite.specs.State.{Survives};
+ghost use Rattle.hfs_database.specs.Transactions.{IsBegun, IsCommitted, KeepsFile, LeavesAllOrNone, PutsAllInOne};
+
+use crate::fault::{DatabaseFault, PutFault, writing_fault};
+use crate::taker::put_rows;
+use hfs_rows::RowSource;
+use sqlite::{Alter, Connection};
+use std::alloc::Global;
+
+/// Begins a transaction. Faults: `CannotWrite`, also where one is under way; `NoMemory`.
+#[tactic(auto, using(crate::proofs::Keeping::keeps_itself, crate::proofs::Ending::keeps_begin, crate::proofs::Ending::begins))]
+fn begin<S: Alter>(conn: &mut Connection<S>) -> Result<(), DatabaseFault>
+    ensures begun { OnOk result (IsBegun S.Store conn.old conn.new) }
+    ensures keeps { KeepsFile S.Store conn.old conn.new }
+{
+    if !conn.is_autocommit() {
+        return Err(DatabaseFault::CannotWrite);
+    }
+    match conn.execute("BEGIN", &[]) {
+        Ok(_) => Ok(()),
+        Err(error) => Err(writing_fault(&error)),
+    }
+}
+
+/// Commits the transaction. Faults: `CannotWrite`, also where none is under way; `NoMemory`.
+#[tactic(auto, using(crate::proofs::Ending::leaves_itself, crate::proofs::Ending::leaves_commit, crate::proofs::Ending::commits))]
+fn commit<S: Alter>(conn: &mut Connection<S>) -> Result<(), DatabaseFault>
+    ensures committed { OnOk result (IsCommitted S.Store conn.old conn.new) }
+    ensures leaves { Survives (state S.Store conn.old) (state S.Store conn.new)
+        (λ db. db ≡ (state S.Store conn.old).now.trees) }
+{
+    if conn.is_autocommit() {
+        return Err(DatabaseFault::CannotWrite);
+    }
+    match conn.execute("COMMIT", &[]) {
+        Ok(_) => Ok(()),
+        Err(error) => Err(writing_fault(&error)),
+    }
+}
+
+/// Forgets what was given since the transaction began, where a fault has not done so already. Faults: `CannotWrite`, `NoMemory`.
+#[tactic(auto, using(crate::proofs::Keeping::keeps_itself, crate::proofs::Ending::keeps_undo))]
+fn undo<S: Alter>(conn: &mut Connection<S>) -> Result<(), DatabaseFault>
+    ensures keeps { KeepsFile S.Store conn.old conn.new }
+{
+    if conn.is_autocommit() {
+        return Ok(());
+    }
+    match conn.execute("ROLLBACK", &[]) {
+        Ok(_) => Ok(()),
+        Err(error) => Err(writing_fault(&error)),
+    }
+}
+
+/// Puts all rows of a source in one transaction. At a fault nothing changed. Faults: as of `put_rows`, and where the database
+/// can't be written.
+#[tactic(auto, using(crate::proofs::RowLemmas::put_in_one, crate::proofs::RowLemmas::left_by_commit, crate::proofs::RowLemmas::left_by_undo, crate::proofs::RowLemmas::left_alone))]
+pub(crate) fn put_all<S: Alter, R: RowSource>(
+    alloc: Global,
+    conn: &mut Connection<S>,
+    source: &R,
+) -> Result<R::Told, PutFault<R::Fault>>
+    ensures put { OnOk result (PutsAllInOne S.Store (R.Gives source.now []) conn.old conn.new) }
+    ensures told { IfOk result (R.Tells source.now) }
+    ensures all_or_none { LeavesAllOrNone S.Store (R.Gives source.now []) conn.old conn.new }
+{
+    match begin(conn) {
+        Ok(()) => {}
+        Err(fault) => return Err(PutFault::Database(fault)),
+    }
+    match put_rows(alloc, conn, source) {
+        Ok(told) => match commit(conn) {
+            Ok(()) => Ok(told),
+            Err(fault) => Err(PutFault::Database(fault)),
+        },
+        Err(fault) => match undo(conn) {
+            Ok(()) => Err(fault),
+            Err(fault) => Err(PutFault::Database(fault)),
+        },
+    }
+}

@@ -1,0 +1,14 @@
+-- The block, and then those that it names.
+use Rattle.std.proofs.Common.{◌∙◌}
+use Rattle.hfs_needed.proofs.Gathered.{reads-block, reads-on}
+use Rattle.hfs_finds.proofs.gathering.fetch_place.Goals as goal
+
+pub returns-clause-reads : goal.returns-clause-reads
+returns-clause-reads g c =
+    let image = g.S.BlockSource.image c.args.source.now in
+    reads-on image (g.S.BlockSource.image c.fetch_beginning.new.source) c.args.count c.args.read.now c.fetch_beginning.new.read c.fetch_beginning-2.new.read
+    (c.in_ok-fetch_beginning.ensures.image ∙ c.in_ok-fetch.ensures.image)
+    (reads-on image (g.S.BlockSource.image c.fetch.new.source) c.args.count c.args.read.now c.fetch.new.read c.fetch_beginning.new.read c.in_ok-fetch.ensures.image
+    (reads-block image c.args.count c.args.read.now c.fetch.new.read c.args.n c.requires c.in_ok-fetch.ensures.grown c.in_ok-fetch.ensures.stays c.in_ok-fetch.ensures.within)
+    c.in_ok-fetch_beginning.ensures.reads)
+    c.in_ok-fetch_beginning-2.ensures.reads

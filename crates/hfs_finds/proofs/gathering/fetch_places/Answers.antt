@@ -1,0 +1,14 @@
+-- One place, and then the other.
+use Rattle.hfs_needed.proofs.Gathered.{reads-on}
+use Rattle.hfs_finds.proofs.GatherLemmas.{places-read}
+use Rattle.hfs_finds.proofs.gathering.fetch_places.Goals as goal
+
+pub returns-clause-has : goal.returns-clause-has
+returns-clause-has g c =
+    places-read c.args.count c.fetch_place.new.read c.fetch_place-2.new.read c.in_ok-fetch_place-2.ensures.reads.grown c.in_ok-fetch_place.ensures.has
+    c.in_ok-fetch_place-2.ensures.has
+
+pub returns-clause-reads : goal.returns-clause-reads
+returns-clause-reads g c =
+    reads-on (g.S.BlockSource.image c.args.source.now) (g.S.BlockSource.image c.fetch_place.new.source) c.args.count c.args.read.now c.fetch_place.new.read
+    c.fetch_place-2.new.read c.in_ok-fetch_place.ensures.image c.in_ok-fetch_place.ensures.reads c.in_ok-fetch_place-2.ensures.reads

@@ -1,0 +1,47 @@
+//! Finding what there is of an image, of which only the blocks are read that are needed.
+ghost use Rattle.std.specs.Prelude.{◌≡◌, IfOk};
+ghost use Rattle.hfs_finds.specs.NeededFinds.{IsNeededOf};
+
+use crate::finding::finds_by;
+use crate::finds::Finds;
+use crate::gathering::{Gathered, gather};
+use hfs_rescue::read_mdb_at;
+use hfs_sparse::{BlockSource, SparseFault};
+use std::alloc::Global;
+
+/// What is found of an image by the blocks that are needed for it.
+#[derive(Drop)]
+pub enum NeededFinds {
+    /// What `find_in` answers of the whole image.
+    Found(Option<Finds>),
+    /// Other blocks are wanted: no directory is found in its place, or the catalog does not pass its check and is lacking.
+    Whole,
+}
+
+/// What is found of an image of `len` bytes by the block that is taken for its directory, where that is found in one of the two blocks in which
+/// a directory belongs, and the catalog passes its check, or is whole as far as its size says and has a record: then only the blocks
+/// are read that tell which of the two serves, and those of both trees' files, in runs of up to 64 KB. Anywhere else other blocks of the
+/// image are looked at, and all of them are to be read. Errors: a read failed, memory was refused.
+pub fn needed_finds<S: BlockSource>(
+    alloc: Global,
+    source: &mut S,
+    len: u64,
+) -> Result<NeededFinds, SparseFault>
+    ensures needed { IfOk result (IsNeededOf (S.image source.old) len) }
+    ensures image { S.image source.new ≡ S.image source.old }
+{
+    if len < 1_536 || len > 2_147_483_648 {
+        return Ok(NeededFinds::Found(None));
+    }
+    let count = (len / 512) as u32;
+    let Gathered { read, directory } = gather(alloc, source, count)?;
+    let Some(n) = directory else {
+        return Ok(NeededFinds::Whole);
+    };
+    let blocks = read.volume(count);
+    let mdb = read_mdb_at(&blocks, n);
+    match finds_by(alloc, &blocks, n, mdb) {
+        Ok(finds) => Ok(NeededFinds::Found(Some(finds))),
+        Err(_) => Err(SparseFault::Memory),
+    }
+}

@@ -1,0 +1,157 @@
+//! The bytes of a fork in pieces, each of which is read at once.
+ghost use Rattle.std.specs.Prelude.{◌≡◌, ◌+◌, ◌*◌, ◌≤◌, ◌++◌, ℕ, List, take, true, IfOk, IfSome, OnOk};
+ghost use Rattle.std.specs.Option.{option_map};
+ghost use Rattle.hfs_rescue.specs.Allocation.{start_of};
+ghost use Rattle.hfs_remains.specs.ForkBytes.{fork_bytes, place_bytes};
+ghost use Rattle.hfs_rescue_items.specs.Bytes.{GoesOn, first_bytes, piece_bytes, pieces_bytes};
+
+use crate::piece::Piece;
+use hfs_bag::SourceFault;
+use hfs_fields::Mdb;
+use std::alloc::{AllocError, Global};
+
+/// The most bytes that are read at once.
+const MOST_AT_ONCE: u32 = 65_536;
+
+/// The number of the logical block behind so many bytes from a block on; None where they end within one.
+fn block_behind(first: u32, len: u32) -> Option<u32>
+    ensures { IfSome result (λ next. 512 * next ≡ 512 * first + len) }
+{
+    if len % 512 != 0 {
+        return None;
+    }
+    first.checked_add(len / 512)
+}
+
+/// Whether what begins in this logical block, or is missing, goes on where a piece ends.
+#[tactic(auto, using(crate::proofs::PieceLemmas::missing_goes_on, crate::proofs::PieceLemmas::block_goes_on))]
+fn goes_on(piece: &Piece, first: Option<u32>) -> bool
+    ensures { result ≡ true → GoesOn piece.now.first piece.now.len first }
+{
+    match (piece.first, first) {
+        (None, None) => true,
+        (Some(one), Some(other)) => block_behind(one, piece.len) == Some(other),
+        (None, Some(_)) | (Some(_), None) => false,
+    }
+}
+
+/// A piece and so many bytes that begin in this logical block, or are missing, as one piece; None where they aren't side by side, or are too many.
+fn joined(piece: Piece, first: Option<u32>, len: u32) -> Option<Piece>
+    ensures { IfSome result (λ both. (image : List ℕ) → piece_bytes image both
+        ≡ piece_bytes image piece ++ first_bytes image first len) }
+{
+    if !goes_on(&piece, first) || MOST_AT_ONCE - piece.len < len {
+        return None;
+    }
+    Some(Piece {
+        first: piece.first,
+        len: piece.len + len,
+    })
+}
+
+/// Appends so many bytes that begin in this logical block, or are missing: to the last piece where they go on there, or as a piece of their own.
+#[tactic(auto, using(crate::proofs::PieceLemmas::first_pushed, crate::proofs::PieceLemmas::last_joined, crate::proofs::PieceLemmas::last_kept))]
+fn push_part(pieces: &mut Vec<Piece>, first: Option<u32>, len: u32) -> Result<(), AllocError>
+    requires some { 1 ≤ len }
+    requires few { len ≤ 65536 }
+    ensures { (image : List ℕ) → OnOk result (pieces_bytes image pieces.new.items
+        ≡ pieces_bytes image pieces.old.items ++ first_bytes image first len) }
+{
+    let part = Piece { first, len };
+    let Some(last) = pieces.pop() else {
+        pieces.push(part)?;
+        return Ok(());
+    };
+    if let Some(both) = joined(last, first, len) {
+        pieces.push(both)?;
+        return Ok(());
+    }
+    pieces.push(last)?;
+    pieces.push(part)?;
+    Ok(())
+}
+
+/// The logical block behind 65,536 bytes that begin in this one; None where they are missing. Error: there is no such block.
+#[tactic(auto, using(crate::proofs::PieceLemmas::missing_goes_on, crate::proofs::PieceLemmas::block_goes_on))]
+fn first_behind(first: Option<u32>, len: u32) -> Result<Option<u32>, SourceFault>
+    requires { len ≤ 65536 }
+    ensures { len ≡ 65536 → IfOk result (GoesOn first len) }
+{
+    let Some(block) = first else {
+        return Ok(None);
+    };
+    match block.checked_add(len / 512) {
+        Some(next) => Ok(Some(next)),
+        None => Err(SourceFault::ReadFailed),
+    }
+}
+
+/// Appends so many bytes that begin in this logical block, or are missing.
+fn push_run(pieces: &mut Vec<Piece>, first: Option<u32>, count: u32) -> Result<(), SourceFault>
+    ensures { (image : List ℕ) → OnOk result (pieces_bytes image pieces.new.items
+        ≡ pieces_bytes image pieces.old.items ++ first_bytes image first count) }
+{
+    let mut next = first;
+    let mut left = count;
+    while left > 0 {
+        let len = left.min(MOST_AT_ONCE);
+        let Ok(()) = push_part(pieces, next, len) else {
+            return Err(SourceFault::Memory);
+        };
+        let behind = first_behind(next, len)?;
+        next = behind;
+        left -= len;
+    }
+    Ok(())
+}
+
+/// The logical block in which an allocation block begins; None where it is missing. Error: there is no such block.
+fn first_of(mdb: &Mdb, place: Option<u16>) -> Result<Option<u32>, SourceFault>
+    ensures { IfOk result (λ first. first ≡ option_map (start_of mdb.now) place) }
+{
+    let Some(block) = place else {
+        return Ok(None);
+    };
+    let each = u64::from(mdb.allocation_block_size / 512);
+    let start = u64::from(mdb.allocation_start) + u64::from(block) * each;
+    match u32::try_from(start) {
+        Ok(first) => Ok(Some(first)),
+        Err(_) => Err(SourceFault::ReadFailed),
+    }
+}
+
+/// Appends the first bytes of the block at a place of a fork, so many.
+fn push_place(
+    pieces: &mut Vec<Piece>,
+    mdb: &Mdb,
+    place: Option<u16>,
+    count: u32,
+) -> Result<(), SourceFault>
+    requires { count ≤ mdb.now.allocation_block_size }
+    ensures { (image : List ℕ) → OnOk result (pieces_bytes image pieces.new.items
+        ≡ pieces_bytes image pieces.old.items ++ take count (place_bytes image mdb.now place)) }
+{
+    let first = first_of(mdb, place)?;
+    push_run(pieces, first, count)
+}
+
+/// So many bytes of a fork in these blocks, in pieces. Errors: memory was refused; a block lies behind all that can be read.
+#[tactic(auto, using(hfs_remains::proofs::ForkByteLemmas::fork_whole))]
+pub(crate) fn pieces_of(
+    alloc: Global,
+    mdb: &Mdb,
+    places: &[Option<u16>],
+    length: u32,
+) -> Result<Vec<Piece>, SourceFault>
+    ensures { (image : List ℕ) → IfOk result (λ pieces. pieces_bytes image pieces.items
+        ≡ fork_bytes image mdb.now length places.now) }
+{
+    let mut pieces = Vec::new(alloc);
+    let mut left = length;
+    for place in places {
+        let count = left.min(mdb.allocation_block_size);
+        push_place(&mut pieces, mdb, *place, count)?;
+        left -= count;
+    }
+    Ok(pieces)
+}
