@@ -48,6 +48,17 @@ HEAD = bytes.fromhex('00051607' + '00020000' + '00' * 16 + '0002' + '00000009' +
 TAGS = ['manifest-sha256.txt', 'items.csv', 'volume.txt', 'bag-info.txt', 'bagit.txt', 'tagmanifest-sha256.txt']
 DEVICES = {'CON', 'PRN', 'AUX', 'NUL', *(f'{it}{n}' for it in ('COM', 'LPT') for n in range(1, 10))}
 # When a folder is made, an image is cut; behind its first opening a path gets another file; no thread is begun.
+TIMELESS = r'''
+#include <errno.h>
+#include <time.h>
+
+/* No file's times can be set. */
+int futimens(int file, const struct timespec times[2]) {
+    (void)file, (void)times;
+    errno = EPERM;
+    return -1;
+}
+'''
 CHANGE = r'''
 #define _GNU_SOURCE
 #include <dlfcn.h>
@@ -451,6 +462,7 @@ volume.write({str(large)!r})
     read_bag(here / 'unheard')
     compare_unread(bags, here)
     compare_changed(bags, here)
+    compare_timeless(bags, here)
     compare_killed(bags, large, here)
 
 
@@ -502,6 +514,25 @@ def compare_changed(bags, here):
     bag, run = taken('alone', NO_THREADS='1')
     ensure(run.returncode == 0 and digest in (bag / 'bag-info.txt').read_text(), f'no thread can be begun: {run}')
     read_bag(bag)
+
+
+def compare_timeless(bags, here):
+    """A file system that keeps no times: the bag is whole all the same, and its files have the times at which they were written."""
+    if not shutil.which('cc'):
+        bags.skipped.append('a file system without times')
+        return
+    source, library = bags.folder / 'timeless.c', bags.folder / 'timeless.so'
+    source.write_text(TIMELESS)
+    subprocess.run(['cc', '-shared', '-fPIC', '-O1', '-o', library, source], check=True)
+    image, began, found = VOLUMES / 'hfsutils-800k.img', int(time.time()), []
+    for name, how in ('timed', {}), ('timeless', {'LD_PRELOAD': str(library)}):
+        bag = here / name
+        run = subprocess.run([TOOL, 'take', image, bag], stdin=subprocess.DEVNULL, stdout=subprocess.PIPE, env={**os.environ, **how}, text=True, timeout=60)
+        ensure(run.returncode == 0, f'{name}: {run}')
+        found.append((run.stdout, read_bag(bag)[:2], int((bag / 'data' / 'Games' / 'm0').stat().st_mtime)))
+    (timed, payload, set_at), (timeless, kept, written_at) = found
+    ensure((timed, payload) == (timeless, kept), f'where no times can be set: {timeless}')
+    ensure(set_at < began <= written_at, f'where no times can be set: {set_at}, {written_at}')
 
 
 def compare_killed(bags, image, here):
