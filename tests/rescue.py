@@ -7,7 +7,7 @@ The images: worked examples whose lines stand here as a hand wrote them; images 
 of tests/damaged.sh, of tests/volumes/images.txt, of tests/hostile_images.py; the volumes in tests/volumes, sound (where the payload
 is that of `take`) and inside other files; images that claim much more than they hold, within bounds of time and text; and images
 changed by chance. Also: folders that are there already, or can't be written, or have no room, words that are refused, and each step of
-writing and each reading that fails, which strace does.
+writing and each reading that fails, which strace does. And the memory that large images take, by their paths.
 
 tests/rescue.py [--seconds N] [--seed N] [--large] [--all] [--only WORD]      runs $HFS_TOOL, or the program as it is built in crates/hfs_tool/out
 
@@ -39,6 +39,8 @@ from volumes import found as volumes_in
 HERE = Path(__file__).resolve().parent
 VOLUMES = HERE / 'volumes'
 BLOCK = 512
+# The bytes of a large image.
+LARGE = 200 << 20
 # How many times slower than usual the program may be: one that was built without optimizing is.
 SLOWNESS = float(os.environ.get('RESCUE_SLOWNESS') or 1)
 # The processor time that an image which claims much may take, for each megabyte of it and of what is written.
@@ -141,8 +143,9 @@ def try_worked(bench: Bench) -> None:
 
 
 def ways(number: int) -> tuple[str, str]:
-    """How the bag of an image is made, and how it is listed: by its path and out of a pipe by turns."""
-    return ('f', 'p') if number % 2 else ('p', 'f')
+    """How the bag of an image is made, by its path, of which is read what is needed, and out of a pipe, which is held; and how it is listed: by
+    turns."""
+    return ('fp', 'f' if number % 2 else 'p')
 
 
 def try_cases(bench: Bench) -> None:
@@ -376,6 +379,70 @@ class Failing:
         ensure(number > 1, 'no reading of the image fails')
 
 
+# ---- memory
+
+# Runs words, and tells the most memory that they took: in a process of its own, since what a process has before it runs them counts as theirs.
+LAUNCHED = 'import resource, subprocess, sys; ran = subprocess.run(sys.argv[1:]); print(resource.getrusage(resource.RUSAGE_CHILDREN).ru_maxrss, file=sys.stderr); sys.exit(ran.returncode)'
+
+
+def measured(*words) -> tuple[int, str, int]:
+    """The status of a run, what it prints, and the most memory that it takes, in MB."""
+    run = subprocess.run([sys.executable, '-c', LAUNCHED, TOOL, *map(str, words)], stdin=subprocess.DEVNULL, capture_output=True, text=True, timeout=600)
+    return run.returncode, run.stdout, int(run.stderr) // 1_024
+
+
+def try_memory(bench: Bench) -> None:
+    """Of a large image in a file what is needed is read: of a sound one, of one that is refused for a name alone, of one whose catalog doesn't pass
+    its check but has its records, and where the copy of the directory serves; without a header of the catalog it is loaded whole. Each bag is that of
+    the image out of a pipe."""
+    image, script = bench.folder / 'large', bench.folder / 'calls'
+    same_text(bench.told('new', image, 'D', LARGE // BLOCK, 64, 8), (0, b''), 'a large volume')
+    script.write_text('1\tcreate\t2\tsome\n1\tmkdir\t2\tmore\n1\tcreate\t17\tother\n', 'ascii')
+    status, text = bench.told('run', image, script, '--out', image)
+    ensure(status == 0 and all(line.split(b'\t')[2] == b'0' for line in text.splitlines()), f'the calls of a large volume: {text!r}')
+    with image.open('rb') as file:
+        front = file.read(16 << 20)
+    name = place_of(front, key(2, b'some')) + 7
+    trees = [it for it in range(0, len(front), BLOCK) if front[it + 8:it + 12] == b'\1\0\0\3']
+    ensure(len(trees) == 2, 'the header nodes of a large volume')
+    few, many = 40, LARGE >> 19
+    for what, place, value, fault, most in (('a large image', 0, front[:1], 'sound\n', few), ('a name', name, b'\r', 'refused check C7 at ', few),
+                                            ('a count of records', trees[1] + 0x23, b'\x63', 'refused check ', few),
+                                            ('no directory', 1_024, b'\0', 'refused not an HFS volume', few),
+                                            ('no header', trees[1], bytes(BLOCK), 'refused check C4 at 0\n', many)):
+        before = front[place:place + len(value)]
+        lay(image, place, value)
+        try_large(bench, image, what, fault, most)
+        lay(image, place, before)
+        bench.counts.images += 1
+    image.unlink()
+
+
+def lay(image: Path, place: int, value: bytes) -> None:
+    """Writes bytes into an image."""
+    with image.open('r+b') as file:
+        file.seek(place)
+        file.write(value)
+
+
+def try_large(bench: Bench, image: Path, what: str, fault: str, most: int) -> None:
+    """A large image by its path, within so many MB, and out of a pipe."""
+    bag = bench.folder / 'bag'
+    status, text, memory = measured('rescue', image, bag, '--no-digest')
+    ensure(text.startswith(fault) and status in (0, 3), f'{what}: {status} {text!r}')
+    ensure(memory <= most, f'{what}: {memory} MB of memory, where {most} are enough')
+    found = found_in(bag)
+    remove(bag)
+    with image.open('rb') as file:
+        same_text(bench.told('rescue', PIPE, bag, '--no-digest', given=file.read()), (status, text.encode()), f'{what} out of a pipe')
+    piped = found_in(bag)
+    remove(bag)
+    for it in (found, piped):
+        for tag in ('bag-info.txt', 'tagmanifest-sha256.txt'):
+            del it[tag]
+    ensure(found == piped and len(found) > 8, f'{what}: another bag out of a pipe')
+
+
 # ---- bounds and chance
 
 def processor_time() -> float:
@@ -421,7 +488,7 @@ def try_chance(bench: Bench, seed: int, seconds: float) -> None:
     bench.counts.changed = number
 
 
-PARTS = ('worked', 'cases', 'damages', 'listed', 'sound', 'volumes', 'words', 'failing', 'bombs', 'chance')
+PARTS = ('worked', 'cases', 'damages', 'listed', 'sound', 'volumes', 'words', 'failing', 'memory', 'bombs', 'chance')
 
 
 def main() -> int:
@@ -441,7 +508,7 @@ def main() -> int:
         bench = Bench(Path(folder), words.kept if words.all else None)
         doing = {'worked': lambda: try_worked(bench), 'cases': lambda: try_cases(bench), 'damages': lambda: try_damages(bench), 'listed': lambda: try_listed(bench),
                  'sound': lambda: try_sound(bench), 'volumes': lambda: try_volumes(bench), 'words': lambda: try_words(bench), 'failing': lambda: try_failing(bench),
-                 'bombs': lambda: try_bombs(bench, words.large), 'chance': lambda: try_chance(bench, words.seed, words.seconds)}
+                 'memory': lambda: try_memory(bench), 'bombs': lambda: try_bombs(bench, words.large), 'chance': lambda: try_chance(bench, words.seed, words.seconds)}
         for part in words.only or PARTS:
             try:
                 doing[part]()

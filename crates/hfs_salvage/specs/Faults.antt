@@ -11,9 +11,10 @@ use Rattle.hfs_salvage.specs.declared.image.HoldFault.{HoldFault}
 use Rattle.hfs_salvage.specs.declared.image.HoldFault.TheVariants as hold
 use Rattle.hfs_salvage.specs.declared.words.RescueWords.{RescueWords}
 
--- where the image's bytes are known, and are so many, there is no directory in it, and its check tells this fault; or memory was refused
+-- where the image's bytes are known, and are so many, there is no directory in it, and its check tells this fault; or a read failed, or memory was refused
 abbrev pub IsUnheld : Option (List ℕ) → ℕ → HoldFault → Type 0
 IsUnheld known len (hold.NoDirectory fault) = OfKnown known len (λ image. (found_directory image ≡ None) × (fault ≡ (report_of image).fault))
+IsUnheld known len hold.ReadFailed = ⊤
 IsUnheld known len hold.NoMemory = ⊤
 
 -- what is asked for was not opened, or it is refused

@@ -14,7 +14,7 @@ use crate::answer::RescueAnswer;
 use crate::facts::{Told, told_of};
 use crate::found::found_in;
 use crate::image::RescuedImage;
-use crate::loading::load_image;
+use crate::loading::{Loaded, load_image};
 use crate::watched::Watched;
 use crate::words::BagWords;
 use hfs_bag::{BagFacts, BagFault, give_bag};
@@ -155,5 +155,8 @@ pub fn rescue<'a, R: Files + AllocGlobal, W: Watch>(
     if is_there(rt, words.folder) {
         return Err(TakeFault::IsThere(words.folder));
     }
-    write_bag(rt, image, words, watch)
+    match image {
+        Loaded::Held(image) => write_bag(rt, image, words, watch),
+        Loaded::Opened(image) => write_bag(rt, image, words, watch),
+    }
 }

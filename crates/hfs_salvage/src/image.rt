@@ -18,6 +18,8 @@ use std::alloc::Global;
 pub enum HoldFault {
     /// No directory is found in it; this is the fault that its check tells.
     NoDirectory(Option<MountFault>),
+    /// A read failed.
+    ReadFailed,
     /// Memory was refused.
     NoMemory,
 }

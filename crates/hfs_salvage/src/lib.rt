@@ -9,6 +9,7 @@ mod held;
 mod image;
 mod listing;
 mod loading;
+mod looking;
 mod watched;
 mod words;
 

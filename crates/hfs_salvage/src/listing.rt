@@ -11,7 +11,7 @@ ghost use Rattle.hfs_salvage.specs.Lists.{Gathers, TellsRemains, TellsRemainsFro
 use crate::answer::RescueAnswer;
 use crate::found::found_in;
 use crate::image::RescuedImage;
-use crate::loading::load_image;
+use crate::loading::{Loaded, load_image};
 use crate::words::RescueWords;
 use hfs_commands::Fault;
 use hfs_finds::salvage_of;
@@ -123,6 +123,8 @@ pub fn list_rescue<'a, R: Files + AllocGlobal, W: Write>(
 ) -> Result<RescueAnswer, Fault<'a>>
     ensures { IfErr result (IsUnlisted words.now) }
 {
-    let image = load_image(rt, words)?;
-    write_remains(rt.alloc(), writer, &image, words)
+    match load_image(rt, words)? {
+        Loaded::Held(image) => write_remains(rt.alloc(), writer, &image, words),
+        Loaded::Opened(image) => write_remains(rt.alloc(), writer, &image, words),
+    }
 }

@@ -1,5 +1,5 @@
-//! Loading an image whole.
-ghost use Rattle.std.specs.Prelude.{◌≡◌, None, IfErr, IfOk, IfSome};
+//! An image that is asked for, held or opened.
+ghost use Rattle.std.specs.Prelude.{◌≡◌, ◌≤◌, None, IfErr, IfOk, IfSome};
 ghost use Rattle.hfs_commands.specs.Faults.{IsUnopened};
 ghost use Rattle.hfs_containers.specs.Ranges.{bytes_in};
 ghost use Rattle.hfs_take.specs.Opening.{known_in};
@@ -7,10 +7,12 @@ ghost use Rattle.hfs_salvage.specs.Faults.{IsUnread};
 
 use crate::held::HeldBytes;
 use crate::image::{HoldFault, RescuedImage};
+use crate::looking::{Look, look_at};
 use crate::words::RescueWords;
 use hfs_check::MountFault;
 use hfs_commands::{Fault, OpenedFile, Window};
 use hfs_containers::{ByteRange, ReadAt};
+use hfs_sparse::BlockSource;
 use hfs_take::{FoundPart, find_part};
 use std::alloc::Global;
 use std::io::{Read, Seek};
@@ -18,6 +20,15 @@ use std::rt::Files;
 
 /// The most bytes of an image in which a directory is looked for.
 const LONGEST: u64 = 2_147_483_648;
+
+/// An image of which something remains.
+#[derive(Drop)]
+pub(crate) enum Loaded<S: BlockSource> {
+    /// All its bytes are held.
+    Held(RescuedImage<HeldBytes>),
+    /// It is read where it is needed.
+    Opened(RescuedImage<S>),
+}
 
 /// All bytes of a range of a file, which are read at once.
 fn read_range<'a, S: ReadAt>(
@@ -77,26 +88,75 @@ fn fault_of<'a>(fault: HoldFault, words: &RescueWords<'a>) -> Fault<'a>
 {
     match fault {
         HoldFault::NoDirectory(Some(why)) => Fault::Refused(why),
-        HoldFault::NoDirectory(None) => Fault::CannotRead(words.image),
+        HoldFault::NoDirectory(None) | HoldFault::ReadFailed => Fault::CannotRead(words.image),
         HoldFault::NoMemory => Fault::NoMemory,
     }
 }
 
-/// The image that is asked for, with all its bytes, and what is found of it. Faults, the first that holds: it can't be read; `NoVolume`; the
-/// image's own, where there is no directory in it; memory was refused.
+/// An image all of whose bytes are held.
+fn hold_image<'a, F: Read + Seek + Drop>(
+    alloc: Global,
+    bytes: Window<OpenedFile<F>>,
+    line: Option<String>,
+    words: &RescueWords<'a>,
+) -> Result<Loaded<Window<OpenedFile<F>>>, Fault<'a>>
+    ensures { IfErr result (IsUnread words.now) }
+{
+    let held = hold(alloc, bytes, words.image)?;
+    match RescuedImage::held(alloc, held, line) {
+        Ok(image) => Ok(Loaded::Held(image)),
+        Err(fault) => Err(fault_of(fault, words)),
+    }
+}
+
+/// An image that is read where it is needed, or held, where all its blocks must be looked at.
+fn open_image<'a, F: Read + Seek + Drop>(
+    alloc: Global,
+    bytes: Window<OpenedFile<F>>,
+    line: Option<String>,
+    words: &RescueWords<'a>,
+) -> Result<Loaded<Window<OpenedFile<F>>>, Fault<'a>>
+    requires { bytes.range.len ≤ 2147483648 }
+    ensures { IfErr result (IsUnread words.now) }
+{
+    let mut source = bytes;
+    let len = source.len();
+    match look_at(alloc, &mut source, len) {
+        Ok(Look::Found(check, finds)) => Ok(Loaded::Opened(RescuedImage {
+            source,
+            len,
+            line,
+            check,
+            finds,
+        })),
+        Ok(Look::Whole) => hold_image(alloc, source, line, words),
+        Err(fault) => Err(fault_of(fault, words)),
+    }
+}
+
+/// Whether all bytes of a file are held already.
+fn is_held<F: Read + Seek>(bytes: &Window<OpenedFile<F>>) -> bool {
+    match &bytes.source {
+        OpenedFile::Whole(_) => true,
+        OpenedFile::Seekable(_) => false,
+    }
+}
+
+/// The image that is asked for, and what is found of it: by the blocks that are needed, or by all of them where its bytes are held already, and where all
+/// must be looked at. Faults, the first that holds: it can't be read; `NoVolume`; the image's own, where there is no directory in it; memory was
+/// refused.
 pub(crate) fn load_image<'a, R: Files + AllocGlobal>(
     rt: &R,
     words: &RescueWords<'a>,
-) -> Result<RescuedImage<HeldBytes>, Fault<'a>>
+) -> Result<Loaded<Window<OpenedFile<R::File>>>, Fault<'a>>
     ensures { IfErr result (IsUnread words.now) }
 {
     let FoundPart { bytes, line } = find_part(rt, words.image, words.volume)?;
     if bytes.len() > LONGEST {
         return Err(Fault::Refused(MountFault::TooLarge));
     }
-    let held = hold(rt.alloc(), bytes, words.image)?;
-    match RescuedImage::held(rt.alloc(), held, line) {
-        Ok(image) => Ok(image),
-        Err(fault) => Err(fault_of(fault, words)),
+    if is_held(&bytes) {
+        return hold_image(rt.alloc(), bytes, line, words);
     }
+    open_image(rt.alloc(), bytes, line, words)
 }

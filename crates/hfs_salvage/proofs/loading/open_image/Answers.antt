@@ -1,0 +1,16 @@
+-- What was found by a look at an image is found of the source that it leaves.
+use Rattle.std.proofs.Common.{ℕ, List, Option, sym, subst, arith}
+use Rattle.hfs_take.specs.Opening.{known_in}
+use Rattle.hfs_salvage.specs.declared.looking.Look.TheVariants as look
+use Rattle.hfs_salvage.specs.Looks.{IsLookAt}
+use Rattle.hfs_salvage.proofs.loading.open_image.Goals as goal
+
+pub invariant_of-result : goal.invariant_of-result
+invariant_of-result g c =
+    let check = c.in-Ok-Found.check in
+    let finds = c.in-Ok-Found.finds in
+    let before : IsLookAt (known_in c.args.bytes) c.len-len.result (look.Found check finds) =
+    subst (IsLookAt (known_in c.args.bytes) c.len-len.result) c.in-Ok-Found.field-0-is c.in-Ok-Found.ensures.found in
+    let here : IsLookAt (known_in c.look_at.new.source) c.len-len.result (look.Found check finds) =
+    subst (λ (known : Option (List ℕ)). IsLookAt known c.len-len.result (look.Found check finds)) (sym c.look_at.ensures.image) before in
+    record { fault_is = here.0; lines_are = here.1; finds_are = here.2; few = omega (arith, c.len-len.ensures.len, c.requires) }
