@@ -45,7 +45,8 @@ impl<S: ReadAt + Drop, F: ImageFile<S>> RowSource for ImageRows<'_, S, F> {
 }
 
 /// Puts the rows of an image of `len` bytes into the database, in the place of those that it had of the same path, and answers
-/// how much the image holds. At a fault nothing changed. Faults: the image's, and `CannotWrite` or `NoMemory` of the database.
+/// how much the image holds. At a fault all is there, or nothing has changed. Faults: the image's, and `CannotWrite` or
+/// `NoMemory` of the database.
 pub fn put_image<D: Alter + Drop, S: ReadAt + Drop, F: ImageFile<S>>(
     alloc: Global,
     collection: &mut Collection<D>,
@@ -85,7 +86,7 @@ fn answered(
 }
 
 /// Puts the rows of an image into the database, in the place of those that it had of the same path, and answers how much the image
-/// holds. None where the image can't be read, and its rows stay. At a fault nothing changed.
+/// holds. None where the image can't be read, and its rows stay. At a fault all is there, or nothing has changed.
 pub fn collect_image<D: Alter + Drop, R: Files + AllocGlobal>(
     rt: &R,
     collection: &mut Collection<D>,

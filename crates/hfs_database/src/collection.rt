@@ -52,8 +52,8 @@ impl<S: Alter + Drop> Collection<S> {
     }
 
     /// Puts all rows of a source into the collection, in one transaction: an image's row comes in the place of the one that has its
-    /// path, whose volumes go with their items. At a fault nothing changed. Faults: the source's, and `CannotWrite` or `NoMemory` of
-    /// the database.
+    /// path, whose volumes go with their items. At a fault all is there, or nothing has changed. Faults: the source's, and
+    /// `CannotWrite` or `NoMemory` of the database.
     pub fn put<R: RowSource>(&mut self, source: &R) -> Result<R::Told, PutFault<R::Fault>>
         ensures put { OnOk result (PutsAllInOne S.Store (R.Gives source.now []) self.old.conn self.new.conn) }
         ensures told { IfOk result (R.Tells source.now) }

@@ -55,7 +55,7 @@ fn undo<S: Alter>(conn: &mut Connection<S>) -> Result<(), DatabaseFault>
     }
 }
 
-/// Puts all rows of a source in one transaction. At a fault nothing changed. Faults: as of `put_rows`, and where the database
+/// Puts all rows of a source in one transaction. At a fault all is there, or nothing has changed. Faults: as of `put_rows`, and where the database
 /// can't be written.
 #[tactic(auto, using(crate::proofs::RowLemmas::put_in_one, crate::proofs::RowLemmas::left_by_commit, crate::proofs::RowLemmas::left_by_undo, crate::proofs::RowLemmas::left_alone))]
 pub(crate) fn put_all<S: Alter, R: RowSource>(
