@@ -35,6 +35,10 @@ next-split g nodes before n behind q lt =
     ∙ ap (λ (ns : List ℕ). flat_map (children g nodes) before ++ (ns ++ flat_map (children g nodes) behind)) (map-split g.child (records_in nodes n) q [] lt)
     ∙ regroup (flat_map (children g nodes) before) (map g.child (take q (records_in nodes n))) (flat_map (children g nodes) behind) (g.child (get_or (records_in nodes n) q [])) (map g.child (drop (suc q) (records_in nodes n)))
 
+-- a node that is right where it stands, and whose keys are in order
+abbrev pub IsRightInOrder : {K : Type 0} → Ghosts K → Store → Spot → Type 0
+IsRightInOrder g nodes spot = IsRight g nodes spot × AreKeysInOrder g nodes spot.above spot.n
+
 -- a node of a level that is so many levels above the leaves, where all nodes from this level on are right
 pub record IsOnWay {K : Type 0} (g : Ghosts K) (nodes : Store) (k n : ℕ) : Type 0 where
   pub before : List ℕ
@@ -65,9 +69,6 @@ module _ {K : Type 0} (g : Ghosts K) (nodes : Store) where
 -- ---- where the way to a key ends
 
 module _ {K : Type 0} (g : Ghosts K) (total : IsTotalOrder g.compare) (nodes : Store) (t : K) where
-  abbrev Fact : Spot → Type 0
-  Fact spot = IsRight g nodes spot × AreKeysInOrder g nodes spot.above spot.n
-
   record Ends (k n : ℕ) (ns : List ℕ) : Type 0 where
     before : List ℕ
     behind : List ℕ
@@ -75,7 +76,7 @@ module _ {K : Type 0} (g : Ghosts K) (total : IsTotalOrder g.compare) (nodes : S
     below : IsAbove g.compare t (flat_map (pairs g nodes) before)
     above : IsBelow g.compare t (flat_map (pairs g nodes) behind)
 
-  module _ (k n : ℕ) (before behind : List ℕ) (fine : Each Fact (turn g nodes (suc (suc k)) (before ++ n ∷ behind))) where
+  module _ (k n : ℕ) (before behind : List ℕ) (fine : Each (IsRightInOrder g nodes) (turn g nodes (suc (suc k)) (before ++ n ∷ behind))) where
     abbrev es : List (List ℕ)
     es = records_in nodes n
 
@@ -85,29 +86,29 @@ module _ {K : Type 0} (g : Ghosts K) (total : IsTotalOrder g.compare) (nodes : S
     abbrev q : ℕ
     q = prefix_len (is_not_above g t) es - 1
 
-    fact : (l : ℕ) × Fact (record { left = l; n = n; right = first_of behind; above = suc k })
-    fact = at-spot Fact (suc k) 0 before n behind (each-left Fact (spots (suc k) 0 (before ++ n ∷ behind)) _ fine)
+    pub fact : (l : ℕ) × IsRightInOrder g nodes (record { left = l; n = n; right = first_of behind; above = suc k })
+    fact = at-spot (IsRightInOrder g nodes) (suc k) 0 before n behind (each-left (IsRightInOrder g nodes) (spots (suc k) 0 (before ++ n ∷ behind)) _ fine)
 
     entries : 0 < length es
-    entries = records-some g nodes Fact (λ spot h. h.0) _ fact.1.0
+    entries = records-some g nodes (IsRightInOrder g nodes) (λ spot h. h.0) _ fact.1.0
 
     split : flat_map (children g nodes) (before ++ n ∷ behind)
         ≡ (flat_map (children g nodes) before ++ map g.child (take q es)) ++ g.child (get_or es q []) ∷ (map g.child (drop (suc q) es) ++ flat_map (children g nodes) behind)
     split = next-split g nodes before n behind q (place-within g t es entries)
 
-    below : Each Fact (turn g nodes (suc k) (flat_map (children g nodes) (before ++ n ∷ behind)))
-    below = each-right Fact (spots (suc k) 0 (before ++ n ∷ behind)) (turn g nodes (suc k) (flat_map (children g nodes) (before ++ n ∷ behind))) fine
+    below : Each (IsRightInOrder g nodes) (turn g nodes (suc k) (flat_map (children g nodes) (before ++ n ∷ behind)))
+    below = each-right (IsRightInOrder g nodes) (spots (suc k) 0 (before ++ n ∷ behind)) (turn g nodes (suc k) (flat_map (children g nodes) (before ++ n ∷ behind))) fine
 
-    some : Each (λ e. 0 < length (own e)) es
-    some =
+    pub parts-some : Each (λ e. 0 < length (own e)) es
+    parts-some =
         let Q : ℕ → Type 0 = λ m. 0 < length (under g nodes k m) in
-        let all : Each Q (flat_map (children g nodes) (before ++ n ∷ behind)) = under-some g nodes Fact (λ spot h. h.0) k (flat_map (children g nodes) (before ++ n ∷ behind)) below in
+        let all : Each Q (flat_map (children g nodes) (before ++ n ∷ behind)) = under-some g nodes (IsRightInOrder g nodes) (λ spot h. h.0) k (flat_map (children g nodes) (before ++ n ∷ behind)) below in
         let R : List ℕ → Type 0 = λ ns. Each Q ns in
         let parted = subst R (flat_map-append (children g nodes) before (n ∷ behind)) all in
         each-unmap Q g.child es (each-left Q (map g.child es) (flat_map (children g nodes) behind) (each-right Q (flat_map (children g nodes) before) (children g nodes n ++ flat_map (children g nodes) behind) parted))
 
     beside : IsAbove g.compare t (flat_map own (take q es)) × IsBelow g.compare t (flat_map own (drop (suc q) es))
-    beside = beside-place g.compare total t g.index_key own es fact.1.1 some
+    beside = beside-place g.compare total t g.index_key own es fact.1.1 parts-some
 
     spread : (xs : List (List ℕ)) → flat_map (under g nodes k) (map g.child xs) ≡ flat_map own xs
     spread xs = flat_map-map (under g nodes k) g.child xs
@@ -126,11 +127,11 @@ module _ {K : Type 0} (g : Ghosts K) (total : IsTotalOrder g.compare) (nodes : S
         (each-append _ (flat_map (under g nodes k) (map g.child (drop (suc q) es))) (flat_map (under g nodes k) (flat_map (children g nodes) behind))
         (subst P (sym (spread (drop (suc q) es))) beside.1) (subst P (sym (flat_map-flat_map (under g nodes k) (children g nodes) behind)) h))
 
-  ends : (k n : ℕ) (before behind : List ℕ) → Each Fact (turn g nodes (suc k) (before ++ n ∷ behind)) → IsAbove g.compare t (flat_map (under g nodes k) before)
+  ends : (k n : ℕ) (before behind : List ℕ) → Each (IsRightInOrder g nodes) (turn g nodes (suc k) (before ++ n ∷ behind)) → IsAbove g.compare t (flat_map (under g nodes k) before)
       → IsBelow g.compare t (flat_map (under g nodes k) behind) → Ends k n (before ++ n ∷ behind)
   ends zero n before behind fine below above = record { before = before; behind = behind; split = refl; below = below; above = above }
   ends (suc k) n before behind fine below' above' =
-      let P : List ℕ → Type 0 = λ ns. Each Fact (turn g nodes (suc k) ns) in
+      let P : List ℕ → Type 0 = λ ns. Each (IsRightInOrder g nodes) (turn g nodes (suc k) ns) in
       let cut = split k n before behind fine in
       let rest = ends k (child_for g t (records_in nodes n)) _ _ (subst P cut (below k n before behind fine)) (down-below k n before behind fine below') (down-above k n before behind fine above') in
       record {
@@ -151,7 +152,7 @@ module _ {K : Type 0} (g : Ghosts K) (nodes : Store) (k : ℕ) (deep : depth_of 
 
   pub leaf-for : IsSound g nodes → IsTotalOrder g.compare → (t : K) → IsLeafFor g nodes t (leaf_for g nodes t)
   leaf-for sound total t =
-      let Q : Spot → Type 0 = Fact g total nodes t in
+      let Q : Spot → Type 0 = IsRightInOrder g nodes in
       let P : ℕ → Type 0 = λ d. Each Q (turn g nodes d (root_level nodes)) in
       let all = subst P deep (each-both (IsRight g nodes) (λ spot. AreKeysInOrder g nodes spot.above spot.n) (tree_turn g nodes) sound.structure.levels.each sound.ordered.keys) in
       let ended = ends g total nodes t k (header_in nodes).root [] [] all tt tt in

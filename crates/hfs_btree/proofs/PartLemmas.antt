@@ -1,17 +1,17 @@
 -- The parts under an index node: the pairs under each of its children.
-use Rattle.std.proofs.Common.{◌≡◌, ℕ, zero, suc, ◌+◌, ◌-◌, ◌<◌, Bool, false, List, [], ◌∷◌, length, map, take, drop, refl, sym, ap, ◌∙◌, subst, arith, inl, inr}
+use Rattle.std.proofs.Common.{◌≡◌, ℕ, zero, suc, ◌+◌, ◌-◌, ◌<◌, ◌≤◌, Bool, true, false, List, [], ◌∷◌, length, map, get_or, take, drop, refl, sym, ap, ◌∙◌, subst, arith, inl, inr}
 use Rattle.std.specs.Prelude.{not}
 use Rattle.std.specs.Ordering.{is_gt}
 use Rattle.std.specs.declared.cmp.Ordering.TheVariants.{Less}
 use Rattle.std.specs.Cmp.{IsTotalOrder}
 use Rattle.std.specs.List.{flat_map, prefix_len}
 use Rattle.std.proofs.lemmas.Bool.{cases_Bool, cond-true, cond-false}
-use Rattle.hfs_btree.specs.Pairs.{Order, Pairs, IsAbove}
+use Rattle.hfs_btree.specs.Pairs.{Order, Pairs, IsAbove, IsAtMost}
 use Rattle.hfs_btree.proofs.PairLemmas.{IsBelow}
 use Rattle.hfs_scans.specs.Each.{Each}
 use Rattle.hfs_btree.specs.Sound.{ArePartsInOrder}
 use Rattle.hfs_scans.proofs.ElementLemmas.{each-mono, each-append, each-right}
-use Rattle.hfs_btree.proofs.LookupLemmas.{above-below, lt-le, flipped}
+use Rattle.hfs_btree.proofs.LookupLemmas.{above-below, lt-le, le-lt, flipped}
 
 module _ {K : Type 0} (cmp : Order K) (total : IsTotalOrder cmp) (t : K) (key : List ℕ → K) (own : List ℕ → Pairs K) where
   abbrev fits : List ℕ → Bool
@@ -99,3 +99,24 @@ module _ {K : Type 0} (cmp : Order K) (total : IsTotalOrder cmp) (t : K) (key : 
   pub beside-place : (es : List (List ℕ)) → keyed [] es → some es
       → IsAbove cmp t (flat_map own (take (place es) es)) × IsBelow cmp t (flat_map own (drop (suc (place es)) es))
   beside-place es h nonempty = by_count (prefix_len fits es) es refl h nonempty
+
+  -- ---- the parts before one whose key fits
+
+  not-above : (b : Bool) → not b ≡ true → b ≡ false
+  not-above true e = cc
+  not-above false e = refl
+
+  fits-too : (e f : List ℕ) (ps : Pairs K) → 0 < length ps → IsAtMost cmp (key e) ps → IsAbove cmp (key f) ps → fits f ≡ true → fits e ≡ true
+  fits-too e f [] more most above good = absurd (omega arith)
+  fits-too e f (p ∷ ps) more most above good =
+      let less : cmp (key e) (key f) ≡ Less = le-lt cmp total (key e) p.0 (key f) most.0 above.0 in
+      ap not (ap is_gt (lt-le cmp total (key e) (key f) t less (not-above (is_gt (cmp (key f) t)) good)))
+
+  pub earlier-fit : (before : Pairs K) (c : ℕ) (es : List (List ℕ)) → c < length es → keyed before es → some es → fits (get_or es c []) ≡ true → (j : ℕ) → j ≤ c → fits (get_or es j []) ≡ true
+  earlier-fit before c [] lt h nonempty good j le = absurd (omega (arith, lt))
+  earlier-fit before zero (e ∷ es) lt h nonempty good zero le = good
+  earlier-fit before zero (e ∷ es) lt h nonempty good (suc j) le = absurd (omega (arith, le))
+  earlier-fit before (suc c) (e ∷ []) lt h nonempty good j le = absurd (omega (arith, lt))
+  earlier-fit before (suc c) (e ∷ f ∷ es) lt h nonempty good zero le =
+      fits-too e f (own e) nonempty.0 h.1 h.2.0 (earlier-fit (own e) c (f ∷ es) (omega (arith, lt)) h.2 nonempty.1 good zero (omega arith))
+  earlier-fit before (suc c) (e ∷ f ∷ es) lt h nonempty good (suc j) le = earlier-fit (own e) c (f ∷ es) (omega (arith, lt)) h.2 nonempty.1 good j (omega (arith, le))

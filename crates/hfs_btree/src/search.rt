@@ -12,6 +12,7 @@ ghost use Rattle.hfs_btree.specs.Sound.{IsSound};
 
 use crate::entry::{body_of, child_of, is_above, key_of};
 use crate::header::Header;
+use crate::index_search::child_by_halves;
 use crate::key::Key;
 use crate::leaf::forward_in;
 use crate::nodes::Nodes;
@@ -31,8 +32,8 @@ pub fn read_header<N: Nodes>(nodes: &N) -> Header
     }
 }
 
-/// How many index records come before the first whose key is above.
-fn place_for<K: Key>(node: &NodeView<'_>, key: &K) -> usize
+/// The place of an index node's first record whose key is above this one, or behind the last, whatever the order of its keys.
+pub fn place_above<K: Key>(node: &NodeView<'_>, key: &K) -> usize
     requires { Each (λ entry. K.is_index entry ≡ true) node.now.records }
     ensures { result ≡ prefix_len (is_not_above K.Key key.now) node.now.records }
 {
@@ -51,7 +52,7 @@ pub fn place_in_index<K: Key>(bytes: &[u8; 512], key: &K) -> usize
     ensures { result ≡ branch_place K.Key key.now bytes.now }
 {
     match view(bytes) {
-        Ok(node) => place_for(&node, key).saturating_sub(1),
+        Ok(node) => place_above(&node, key).saturating_sub(1),
         Err(_) => 0,
     }
 }
@@ -64,7 +65,7 @@ pub fn child_in<K: Key>(bytes: &[u8; 512], key: &K) -> u32
 {
     match view(bytes) {
         Ok(node) => {
-            let place = place_for(&node, key);
+            let place = place_above(&node, key);
             child_of::<K>(node.record(place.saturating_sub(1)))
         }
         Err(_) => unreachable!(),
@@ -83,7 +84,7 @@ pub fn descend<K: Key, N: Nodes>(nodes: &N, header: &Header, key: &K, bytes: &mu
     let mut below = header.depth - 1;
     nodes.read(n, bytes);
     while below > 0 {
-        n = child_in(bytes, key);
+        n = child_by_halves(bytes, key);
         below -= 1;
         nodes.read(n, bytes);
     }

@@ -4,7 +4,6 @@
 mod claim;
 mod first_key;
 mod header_store;
-mod index_place;
 mod laws;
 mod map_bit;
 mod nodes_mut;
@@ -16,7 +15,6 @@ mod stored;
 pub use claim::claim_node;
 pub use first_key::first_key_of;
 pub use header_store::put_header;
-pub use index_place::place_above;
 pub use laws::{edits_keep_the_rest, insertions_take_few_nodes, new_keys_pass};
 pub use nodes_mut::NodesMut;
 pub use patch_nodes::PatchNodes;

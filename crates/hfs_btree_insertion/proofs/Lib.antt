@@ -35,4 +35,3 @@ pub mod FirstKeys
 pub mod LowerSteps
 pub mod MadeRoom
 pub mod Inserted
-pub mod IndexSearch

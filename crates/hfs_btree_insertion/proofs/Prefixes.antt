@@ -1,17 +1,8 @@
 -- How many records fit from the first on, where one is put in behind them, and where they are cut.
-use Rattle.std.proofs.Common.{◌≡◌, ℕ, zero, suc, ◌+◌, ◌<◌, ◌≤◌, Bool, true, false, List, [], ◌∷◌, ◌++◌, length, map, get_or, take, drop, refl, sym, ap, ◌∙◌, subst, arith, inl, inr}
-use Rattle.std.specs.Prelude.{insert, not}
-use Rattle.std.specs.Ordering.{is_gt}
-use Rattle.std.specs.declared.cmp.Ordering.TheVariants.{Less}
-use Rattle.std.specs.Cmp.{IsTotalOrder}
-use Rattle.std.specs.List.{flat_map, prefix_len}
+use Rattle.std.proofs.Common.{◌≡◌, ℕ, zero, suc, ◌+◌, ◌<◌, ◌≤◌, Bool, true, false, List, [], ◌∷◌, length, get_or, take, drop, refl, sym, ap, ◌∙◌, arith, inl, inr}
+use Rattle.std.specs.Prelude.{insert}
+use Rattle.std.specs.List.{prefix_len}
 use Rattle.std.proofs.lemmas.Bool.{cases_Bool, cond-true, cond-false}
-use Rattle.hfs_btree.specs.Pairs.{Order, Pairs, IsAbove, IsAtMost}
-use Rattle.hfs_scans.specs.Each.{Each}
-use Rattle.hfs_btree.specs.Sound.{ArePartsInOrder}
-use Rattle.hfs_scans.proofs.ElementLemmas.{each-left}
-use Rattle.hfs_btree.proofs.LookupLemmas.{le-lt, lt-le}
-use Rattle.hfs_btree_insertion.proofs.PartLists.{above-front}
 
 module _ (p : List ℕ → Bool) where
   pub one-more : (x : List ℕ) (xs : List (List ℕ)) → p x ≡ true → prefix_len p (x ∷ xs) ≡ 1 + prefix_len p xs
@@ -79,37 +70,3 @@ pub insert-here : (q : ℕ) (xs : List (List ℕ)) (y : List ℕ) → q < length
 insert-here q [] y lt = absurd (omega arith)
 insert-here zero (x ∷ xs) y lt = refl
 insert-here (suc q) (x ∷ xs) y lt = insert-here q xs y (omega arith)
-
--- ---- where keys rise, the records before one that fits fit
-
-module _ {K : Type 0} (cmp : Order K) (total : IsTotalOrder cmp) (t : K) (key : List ℕ → K) (own : List ℕ → Pairs K) where
-  abbrev fits : List ℕ → Bool
-  fits e = not (is_gt (cmp (key e) t))
-
-  cut-at : (c : ℕ) (xs : List (List ℕ)) → c < length xs → xs ≡ take c xs ++ get_or xs c [] ∷ drop (suc c) xs
-  cut-at c [] lt = absurd (omega arith)
-  cut-at zero (x ∷ xs) lt = refl
-  cut-at (suc c) (x ∷ xs) lt = ap (λ (ys : List (List ℕ)). x ∷ ys) (cut-at c xs (omega arith))
-
-  not-fits : (b : Bool) → not b ≡ true → b ≡ false
-  not-fits true e = cc
-  not-fits false e = refl
-
-  lower : (e f : List ℕ) (ps : Pairs K) → 0 < length ps → IsAtMost cmp (key e) ps → IsAbove cmp (key f) ps → fits f ≡ true → fits e ≡ true
-  lower e f [] some most above good = absurd (omega arith)
-  lower e f (p ∷ ps) some most above good =
-      let less : cmp (key e) (key f) ≡ Less = le-lt cmp total (key e) p.0 (key f) most.0 above.0 in
-      ap not (ap is_gt (lt-le cmp total (key e) (key f) t less (not-fits (is_gt (cmp (key f) t)) good)))
-
-  pub earlier-fit : (before : Pairs K) (c : ℕ) (xs : List (List ℕ)) → c < length xs → ArePartsInOrder cmp before (map (λ e. (key e, own e)) xs) → Each (λ e. 0 < length (own e)) xs
-      → fits (get_or xs c []) ≡ true → (j : ℕ) → j < c → fits (get_or xs j []) ≡ true
-  earlier-fit before c [] lt keyed some good j less = absurd (omega arith)
-  earlier-fit before zero (x ∷ xs) lt keyed some good j less = absurd (omega arith)
-  earlier-fit before (suc c) (x ∷ xs) lt keyed some good zero less =
-      let cut = cut-at c xs (omega arith) in
-      let P : List (List ℕ) → Type 0 = λ ys. ArePartsInOrder cmp before (map (λ e. (key e, own e)) (x ∷ ys)) in
-      let S : List (List ℕ) → Type 0 = λ ys. Each (λ e. 0 < length (own e)) ys in
-      let front = each-left (λ e. 0 < length (own e)) (take c xs) (get_or xs c [] ∷ drop (suc c) xs) (subst S cut some.1) in
-      let above = above-front cmp total key own before (x ∷ take c xs) (get_or xs c []) (drop (suc c) xs) (subst P cut keyed) (some.0, front) in
-      lower x (get_or xs c []) (own x) some.0 keyed.1 (each-left (λ p. cmp p.0 (key (get_or xs c [])) ≡ Less) (own x) (flat_map own (take c xs)) above) good
-  earlier-fit before (suc c) (x ∷ xs) lt keyed some good (suc j) less = earlier-fit (own x) c xs (omega arith) keyed.2 some.1 good j (omega arith)

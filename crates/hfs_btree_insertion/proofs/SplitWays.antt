@@ -22,9 +22,10 @@ use Rattle.hfs_btree_insertion.proofs.Contents.{AreRecordsInOrder, HavePairs}
 use Rattle.hfs_btree.proofs.DescentLemmas.{next-split, place-within}
 use Rattle.hfs_btree_edits.proofs.LevelPartLemmas.{upper, of-spots, KeepsRecords, KeepsAt}
 use Rattle.hfs_btree.proofs.LevelLemmas.{records-some}
+use Rattle.hfs_btree.proofs.PartLemmas.{earlier-fit}
 use Rattle.hfs_node.specs.Node.{size_of}
 use Rattle.hfs_btree_insertion.proofs.LevelWays.{at-way, at-upper}
-use Rattle.hfs_btree_insertion.proofs.Prefixes.{insert-other, insert-one, insert-before, insert-here, take-prefix, drop-prefix, drop-some, earlier-fit}
+use Rattle.hfs_btree_insertion.proofs.Prefixes.{insert-other, insert-one, insert-before, insert-here, take-prefix, drop-prefix, drop-some}
 use Rattle.hfs_btree_insertion.proofs.Splits.{es, rs, old-level, uppers, lowers, uppers-keep, lowers-keep, records-above, records-first, records-second, right-uppers, right-lowers, node-keys, node-some}
 
 -- ---- any way
@@ -195,7 +196,7 @@ module _ {K : Type 0} (g : Ghosts K) (total : IsTotalOrder g.compare) (old new :
         let less = s.less in
         let here = sym entry-fits ∙ good in
         let all = earlier-fit g.compare total key g.index_key own [] c old-records s.less keyed some-pairs here in
-        let count = drop-prefix (is_not_above g key) c old-records (omega arith) all in
+        let count = drop-prefix (is_not_above g key) c old-records (omega arith) (λ j lt. all j (omega (arith, lt))) in
         let one = drop-some (is_not_above g key) c old-records s.less here in
         let place' : c + (prefix_len (is_not_above g key) (drop c old-records) - 1) ≡ prefix_len (is_not_above g key) old-records - 1 = omega arith in
         ap (child_for g key) (records-second g old new i k p n m q c s structure)

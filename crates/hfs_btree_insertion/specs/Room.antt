@@ -1,5 +1,5 @@
 -- A tree that has room for a new record on the way to its key.
-use Rattle.std.specs.Prelude.{◌≡◌, ℕ, suc, ◌+◌, ◌-◌, ◌<◌, ◌≤◌, true, List, [], length, slice_index_or}
+use Rattle.std.specs.Prelude.{◌≡◌, ℕ, suc, ◌+◌, ◌-◌, ◌<◌, ◌≤◌, length}
 use Rattle.hfs_btree.specs.declared.key.Key.{Ghosts}
 use Rattle.std.specs.List.{prefix_len}
 use Rattle.hfs_btree.specs.Tree.{Store, records_in}
@@ -42,8 +42,3 @@ IsLowAbove g nodes key above = (k : ℕ) → above < k → k < depth_of nodes �
 pub record IsLowLeaf {K : Type 0} (g : Ghosts K) (nodes : Store) (key : K) (n : ℕ) : Type 0 where
   pub at : n ≡ node_for g nodes key 0
   pub low : IsLowAbove g nodes key 0
-
--- where a record's key isn't above the key, neither are those of the records before it
-abbrev pub IsRisingFor : {K : Type 0} → Ghosts K → K → List (List ℕ) → Type 0
-IsRisingFor g key records =
-    (i j : ℕ) → i ≤ j → j < length records → is_not_above g key (slice_index_or records j []) ≡ true → is_not_above g key (slice_index_or records i []) ≡ true

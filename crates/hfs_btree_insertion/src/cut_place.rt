@@ -10,8 +10,7 @@ ghost use Rattle.hfs_btree_insertion.specs.Halves.{NamesHalf, IsPlaceBehind};
 
 use crate::record_key::key_at;
 use crate::way::size_in;
-use hfs_btree::{Key, Nodes, child_of, place_in};
-use hfs_btree_edits::place_above;
+use hfs_btree::{Key, Nodes, child_of, place_above, place_in};
 use hfs_node::{NodeView, view};
 use std::alloc::{AllocError, Global};
 

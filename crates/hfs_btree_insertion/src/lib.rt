@@ -3,7 +3,6 @@
 
 mod cut_place;
 mod halving;
-mod index_search;
 mod insertion;
 mod leaf_begin;
 mod leaf_put;

@@ -4,13 +4,13 @@ ghost use Rattle.std.specs.Prelude.{◌≡◌, ◌<◌, ◌≤◌, true, [], IfS
 ghost use Rattle.hfs_node.specs.Node.{node_of};
 ghost use Rattle.hfs_scans.specs.Each.{Each};
 ghost use Rattle.hfs_btree.specs.Header.{header_in, depth_of};
+ghost use Rattle.hfs_btree.specs.Search.{IsRisingFor};
 ghost use Rattle.hfs_btree.specs.Sound.{IsSound};
 ghost use Rattle.hfs_btree.specs.Tree.{records_of};
 ghost use Rattle.hfs_btree_insertion.specs.Growth.{HasLowKey, IsChildFor};
-ghost use Rattle.hfs_btree_insertion.specs.Room.{IsRisingFor, IsLowLeaf};
+ghost use Rattle.hfs_btree_insertion.specs.Room.{IsLowLeaf};
 
-use crate::index_search::first_above;
-use hfs_btree::{Header, Key, Nodes, child_of};
+use hfs_btree::{Header, Key, Nodes, child_of, first_above};
 use hfs_node::view;
 
 /// The child where the search for a key goes on from an index node; none where all of the node's keys are above the key.

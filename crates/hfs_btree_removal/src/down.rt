@@ -11,8 +11,8 @@ ghost use Rattle.hfs_btree.specs.Tree.{records_of};
 ghost use Rattle.hfs_btree_removal.specs.Ways.{IsWayTo, IsLastWide, AreNarrow, child_in};
 ghost use Rattle.hfs_node.specs.Node.{node_of};
 
-use hfs_btree::{Header, Key, Nodes, child_of, count_in, entry_in};
-use hfs_btree_edits::{place_above, place_of};
+use hfs_btree::{Header, Key, Nodes, child_of, count_in, entry_in, place_above};
+use hfs_btree_edits::place_of;
 use hfs_node::view;
 use std::alloc::{AllocError, Global};
 

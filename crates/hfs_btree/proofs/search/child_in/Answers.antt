@@ -9,4 +9,4 @@ record-requires g c =
     let same = ap (λ r. length (records_of r)) c.in-Ok.ensures.node in
     let most = prefix_len-le-length (is_not_above g.K.Key c.args.key.now) c.in-Ok.node.records in
     let some = c.requires.some in
-    omega (arith, c.place_for-place.ensures, c.saturating_sub.ensures)
+    omega (arith, c.place_above-place.ensures, c.saturating_sub.ensures)

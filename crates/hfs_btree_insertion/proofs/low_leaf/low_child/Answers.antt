@@ -4,8 +4,7 @@ use Rattle.std.proofs.lemmas.List.Sums.{prefix_len-le-length}
 use Rattle.hfs_scans.specs.Each.{Each}
 use Rattle.hfs_scans.proofs.ElementLemmas.{each-at}
 use Rattle.hfs_btree.specs.Tree.{records_of}
-use Rattle.hfs_btree.specs.Search.{is_not_above}
-use Rattle.hfs_btree_insertion.specs.Room.{IsRisingFor}
+use Rattle.hfs_btree.specs.Search.{is_not_above, IsRisingFor}
 use Rattle.hfs_btree_insertion.proofs.low_leaf.low_child.Goals as goal
 
 pub record-requires : goal.record-requires

@@ -1,4 +1,5 @@
 use Rattle.std.proofs.Common.{◌≡◌, get_or, []}
+use Rattle.hfs_btree.proofs.RisingWays.{IsOnRisingWay}
 use Rattle.hfs_btree_insertion.specs.Room.{IsLowAbove}
 use Rattle.hfs_btree_insertion.proofs.WayTo.{IsAt}
 use Rattle.hfs_btree_insertion.proofs.low_leaf.low_leaf.Given as goal
@@ -6,6 +7,7 @@ use Rattle.hfs_btree_insertion.proofs.low_leaf.low_leaf.Given as goal
 abbrev pub invariant-loop-here : goal.invariant-loop-here
 invariant-loop-here g l = record {
   at : IsAt g.K.Key (g.N.Nodes.nodes l.nodes) l.key l.here l.n;
+  rising : IsOnRisingWay g.K.Key (g.N.Nodes.nodes l.nodes) l.here l.n;
   low : IsLowAbove g.K.Key (g.N.Nodes.nodes l.nodes) l.key l.here;
   bytes : l.bytes ≡ get_or (g.N.Nodes.nodes l.nodes) l.n [];
 }

@@ -1,7 +1,7 @@
 use Rattle.std.proofs.Common.{◌≡◌, ◌≤◌, ◌<◌, ◌-◌, ℕ, [], length, get_or}
 use Rattle.std.specs.Prelude.{true, false}
 use Rattle.hfs_btree.specs.Search.{is_not_above}
-use Rattle.hfs_btree_insertion.proofs.index_search.first_above.Given as goal
+use Rattle.hfs_btree.proofs.index_search.first_above.Given as goal
 
 abbrev pub invariant-loop-from : goal.invariant-loop-from
 invariant-loop-from g l = record {
