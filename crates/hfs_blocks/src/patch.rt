@@ -72,7 +72,8 @@ impl Patch {
             (changes self.new ≡ with_change (changes self.old) n block.now) }
         ensures kept { OnErr result (self.new ≡ self.old) }
     {
-        self.blocks.insert(n, *block)?;
+        let slot = self.blocks.entry(n)?.or_insert([0; 512]);
+        *slot = *block;
         Ok(())
     }
 
