@@ -11,8 +11,8 @@ ghost use Rattle.hfs_call_edits.specs.Room.{lacking};
 
 use crate::editing::{Editing, Refusal};
 use hfs_blocks::Blocks;
-use hfs_btree::{Nodes, depth, free_nodes, read_header};
-use hfs_fields::{CatKey, Mdb};
+use hfs_btree::{Nodes, read_header};
+use hfs_fields::Mdb;
 
 /// The free nodes that one more record needs in a tree of so many levels.
 fn one_record(depth: u16) -> u64
@@ -49,11 +49,11 @@ pub(crate) fn lacks_one<N: Nodes>(nodes: &N) -> Option<Refusal>
     requires { IsCatalogTree (N.nodes nodes.now) }
     ensures refusal { result ≡ lacking one_record (N.nodes nodes.now) }
     ensures room { IfNone result (HasRoom (N.nodes nodes.now)) }
+    ensures records { (header_in (N.nodes nodes.now)).records < 2 ^ 32 }
 {
-    let free = free_nodes::<CatKey, N>(nodes);
-    let depth = depth::<CatKey, N>(nodes);
-    if u64::from(free) < one_record(depth) {
-        return Some(full(free, depth));
+    let header = read_header(nodes);
+    if u64::from(header.free_nodes) < one_record(header.depth) {
+        return Some(full(header.free_nodes, header.depth));
     }
     None
 }
@@ -63,11 +63,11 @@ pub(crate) fn lacks_two<N: Nodes>(nodes: &N) -> Option<Refusal>
     requires { IsCatalogTree (N.nodes nodes.now) }
     ensures refusal { result ≡ lacking two_records (N.nodes nodes.now) }
     ensures room { IfNone result (HasRoomForTwo (N.nodes nodes.now)) }
+    ensures records { (header_in (N.nodes nodes.now)).records < 2 ^ 32 }
 {
-    let free = free_nodes::<CatKey, N>(nodes);
-    let depth = depth::<CatKey, N>(nodes);
-    if u64::from(free) < two_records(depth) {
-        return Some(full(free, depth));
+    let header = read_header(nodes);
+    if u64::from(header.free_nodes) < two_records(header.depth) {
+        return Some(full(header.free_nodes, header.depth));
     }
     None
 }
@@ -80,20 +80,12 @@ fn catalog_size(mdb: &Mdb) -> u32
     mdb.catalog_file_size
 }
 
-/// How many records the leaves of a catalog have.
-fn record_count<N: Nodes>(nodes: &N) -> u32
-    requires { IsCatalogTree (N.nodes nodes.now) }
-    ensures count { result ≡ (header_in (N.nodes nodes.now)).records }
-    ensures small { (header_in (N.nodes nodes.now)).records < 2 ^ 32 }
-{
-    read_header(nodes).records
-}
-
 impl<B: Blocks> Editing<'_, B> {
     /// What refuses a call that needs room for one more record.
     pub(crate) fn lacks_one(&self) -> Option<Refusal>
         ensures refusal { result ≡ lacking one_record (catalog_nodes (B.blocks self.now)) }
         ensures room { IfNone result (HasRoom (catalog_nodes (B.blocks self.now))) }
+        ensures records { (header_in (catalog_nodes (B.blocks self.now))).records < 2 ^ 32 }
     {
         lacks_one(&self.nodes())
     }
@@ -102,17 +94,16 @@ impl<B: Blocks> Editing<'_, B> {
     pub(crate) fn lacks_two(&self) -> Option<Refusal>
         ensures refusal { result ≡ lacking two_records (catalog_nodes (B.blocks self.now)) }
         ensures room { IfNone result (HasRoomForTwo (catalog_nodes (B.blocks self.now))) }
+        ensures records { (header_in (catalog_nodes (B.blocks self.now))).records < 2 ^ 32 }
     {
         lacks_two(&self.nodes())
     }
 
-    /// The catalog's tree lies in its file, whose bytes are counted by a number of 32 bits, and so are its records.
+    /// The catalog's tree lies in its file, whose bytes are counted by a number of 32 bits.
     pub(crate) fn catalog_is_in_file(&self)
-        ensures nodes { IsInFile (catalog_nodes (B.blocks self.now)) }
-        ensures records { (header_in (catalog_nodes (B.blocks self.now))).records < 2 ^ 32 }
+        ensures { IsInFile (catalog_nodes (B.blocks self.now)) }
     {
-        // A proof knows that both are below 2^32 once it has seen the file's size and the header's count.
+        // A proof knows that the size is below 2^32 once it has seen it.
         let _size = catalog_size(self.mdb);
-        let _records = record_count(&self.nodes());
     }
 }

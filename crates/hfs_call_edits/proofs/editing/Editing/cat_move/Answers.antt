@@ -35,7 +35,7 @@ patch_move-requires-clause-can g c =
     let now = editing_now blocks g.B.Blocks.total volume c.self.inside.blocks.now c.self.view_is _ _ _ c.self.invariant in
     subst (λ b. CanMove (blocks b) c.in-Ok.moving) (sym c.self.view_is)
     (may_move catalog_is_sound (g.B.Blocks.total volume) (blocks volume) now.sound c.args.dir c.args.name.now c.args.new_dir c.in-Ok.moving c.in-Ok.ensures move_fits
-    trees_are_sound choice_stands creation_is_free-folder move_is_free c.catalog_is_in_file.ensures.nodes c.in_default.ensures.room)
+    trees_are_sound choice_stands creation_is_free-folder move_is_free c.catalog_is_in_file.ensures c.in_default.ensures.room)
 
 pub counts_moved-counts-requires : goal.counts_moved-counts-requires
 counts_moved-counts-requires g c =

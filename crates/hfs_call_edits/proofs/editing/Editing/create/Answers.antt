@@ -27,7 +27,7 @@ returns-in-Some g c =
 pub add_new_file-requires-clause-ready : goal.add_new_file-requires-clause-ready
 add_new_file-requires-clause-ready g c =
     ready_for g.B.Blocks.blocks g.B.Blocks.total c.args.self.now c.self.inside.blocks.now c.self.view_is c.self.inside.mdb.now c.self.inside.extents.now c.self.inside.catalog.now
-    c.args.dir c.args.name.now c.in-Ok.place c.self.invariant c.in-Ok.ensures c.catalog_is_in_file.ensures.nodes c.catalog_is_in_file.ensures.records
+    c.args.dir c.args.name.now c.in-Ok.place c.self.invariant c.in-Ok.ensures c.catalog_is_in_file.ensures c.in_default.ensures.records
 
 pub returns : goal.returns
 returns g c =

@@ -45,7 +45,7 @@ patch_rename-requires-clause-can g c =
     let now = editing_now blocks g.B.Blocks.total volume c.self.inside.blocks.now c.self.view_is _ _ _ c.self.invariant in
     subst (λ b. CanRekey c.in-Ok.item (catalog_nodes (blocks b))) (sym c.self.view_is)
     (can_rename trees_are_sound catalog_is_sound choice_stands rename_is_free (g.B.Blocks.total volume) (blocks volume) now.sound
-    c.args.dir c.args.name.now c.args.new_name.now c.in-Ok.item c.in-Ok.ensures c.catalog_is_in_file.ensures.nodes c.in_default.ensures.room)
+    c.args.dir c.args.name.now c.args.new_name.now c.in-Ok.item c.in-Ok.ensures c.catalog_is_in_file.ensures c.in_default.ensures.room)
 
 pub returns : goal.returns
 returns g c =
