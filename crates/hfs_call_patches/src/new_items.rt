@@ -36,9 +36,9 @@ pub(crate) fn put_file<N: NodesMut>(
     ensures put { Edits result (PutsFile id dir place.now now) N.nodes nodes.old nodes.new }
     ensures kept { OnOk result (N.kept nodes.new ≡ N.kept nodes.old) }
 {
+    set_valence(alloc, nodes, &place.folder, place.children + 1, now)?;
     let file = FileRecord::new(id, now);
     add_file(alloc, nodes, dir, &place.name, &file)?;
-    set_valence(alloc, nodes, &place.folder, place.children + 1, now)?;
     Ok(())
 }
 
@@ -59,8 +59,8 @@ pub(crate) fn put_folder<N: NodesMut>(
     ensures put { Edits result (PutsFolder id dir place.now now) N.nodes nodes.old nodes.new }
     ensures kept { OnOk result (N.kept nodes.new ≡ N.kept nodes.old) }
 {
+    set_valence(alloc, nodes, &place.folder, place.children + 1, now)?;
     let folder = DirRecord::new(id, now);
     add_dir(alloc, nodes, dir, &place.name, &folder)?;
-    set_valence(alloc, nodes, &place.folder, place.children + 1, now)?;
     Ok(())
 }

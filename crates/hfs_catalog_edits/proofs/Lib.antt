@@ -6,6 +6,6 @@ pub mod BodyLemmas
 pub mod EditedLemmas
 pub mod FindLemmas
 pub mod KeepLemmas
-mod RoomLemmas
+pub mod RoomLemmas
 pub mod RootLemmas
 pub mod SwapLemmas
