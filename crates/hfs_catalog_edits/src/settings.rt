@@ -57,6 +57,38 @@ pub fn set_record<N: NodesMut>(
     set_record_at(alloc, nodes, key, item, &place)
 }
 
+/// Gives the folder under a key, the place of whose record was found, this valence, and `now` as the moment of its last change. All
+/// else of its record stays.
+///
+/// At `AllocError` nothing is said of the nodes.
+pub fn set_valence_at<N: NodesMut>(
+    alloc: Global,
+    nodes: &mut N,
+    key: &CatKey,
+    valence: u16,
+    now: u32,
+    place: &RecordPlace,
+) -> Result<(), AllocError>
+    requires tree { IsCatalogTree (N.nodes nodes.old) }
+    requires there { IsFolderAt (N.nodes nodes.old) key.now }
+    requires place { IsPlaceOf cat_keys (N.nodes nodes.old) key.now place.now }
+    ensures set { Edits result (HasValenceSet key.now valence now) N.nodes nodes.old nodes.new }
+    ensures kept { OnOk result (N.kept nodes.new ≡ N.kept nodes.old) }
+{
+    let Some(entry) = entry_in(&place.bytes, place.at) else {
+        unreachable!()
+    };
+    let Some(folder) = DirRecord::read(body_of::<CatKey>(entry)) else {
+        unreachable!()
+    };
+    let changed = DirRecord {
+        valence,
+        modified: now,
+        ..folder
+    };
+    set_at(alloc, nodes, key, &folder_body(&changed), place)
+}
+
 /// Gives the folder under a key this valence, and `now` as the moment of its last change. All else of its record stays.
 ///
 /// At `AllocError` nothing is said of the nodes.
@@ -73,16 +105,5 @@ pub fn set_valence<N: NodesMut>(
     ensures kept { OnOk result (N.kept nodes.new ≡ N.kept nodes.old) }
 {
     let place = find_place(nodes, key);
-    let Some(entry) = entry_in(&place.bytes, place.at) else {
-        unreachable!()
-    };
-    let Some(folder) = DirRecord::read(body_of::<CatKey>(entry)) else {
-        unreachable!()
-    };
-    let changed = DirRecord {
-        valence,
-        modified: now,
-        ..folder
-    };
-    set_at(alloc, nodes, key, &folder_body(&changed), &place)
+    set_valence_at(alloc, nodes, key, valence, now, &place)
 }
