@@ -1,16 +1,17 @@
 //! Items of the catalog, with the places of their records.
 
 ghost use Rattle.std.specs.Prelude.{◌≡◌, true, Some, IfOk, IfSome};
+ghost use Rattle.std.specs.Option.{option_map};
 ghost use Rattle.hfs_fields.specs.Keys.{is_cat_leaf};
 ghost use Rattle.hfs_btree.specs.Tree.{pair_of};
-ghost use Rattle.hfs_catalog.specs.Lookups.{item_at, item_named};
+ghost use Rattle.hfs_catalog.specs.Lookups.{catalog_item, item_at, item_named};
 ghost use Rattle.hfs_catalog.specs.Tree.{IsCatalogTree, cat_keys, catalog_of};
-ghost use Rattle.hfs_queries.specs.Told.{IsCatalog, folder_child};
+ghost use Rattle.hfs_queries.specs.Told.{IsCatalog, folder_child, folder_with};
 ghost use Rattle.hfs_call_edits.specs.Placed.{item_part, item_chosen, IsItemPlaced};
 
 use hfs_btree::{Key, Nodes, entry_in};
 use hfs_btree_edits::{RecordPlace, seek};
-use hfs_catalog::{CatalogItem, item_of};
+use hfs_catalog::{CatalogItem, ItemRecord, item_of, thread};
 use hfs_fields::{CatKey, FileRecord, Name};
 use hfs_model::{NOT_A_FOLDER, NOT_FOUND};
 use hfs_queries::folder;
@@ -57,6 +58,29 @@ fn seek_item<N: Nodes>(nodes: &N, key: &CatKey) -> Option<PlacedItem>
     match item_in(entry) {
         Some(item) => Some(PlacedItem { item, place }),
         None => None,
+    }
+}
+
+/// The folder of that ID, found by its thread, which each folder has: two look-ups.
+pub(crate) fn placed_folder<N: Nodes>(nodes: &N, dir: u32) -> Option<PlacedItem>
+    requires { IsCatalog (N.nodes nodes.now) }
+    ensures folder { item_part result
+        ≡ option_map catalog_item (folder_with (catalog_of (N.nodes nodes.now)) dir) }
+    ensures place { IfSome result (IsItemPlaced (N.nodes nodes.now)) }
+{
+    let Some(thread) = thread(nodes, dir) else {
+        return None;
+    };
+    let key = CatKey {
+        parent: thread.parent,
+        name: thread.name,
+    };
+    let Some(placed) = seek_item(nodes, &key) else {
+        return None;
+    };
+    match placed.item.body {
+        ItemRecord::Folder(_) => Some(placed),
+        ItemRecord::File(_) => None,
     }
 }
 
