@@ -25,6 +25,7 @@ mod MapPlaceLemmas
 mod MapWalkLemmas
 pub mod OwnLemmas
 mod PartBitLemmas
+pub mod PlaceLemmas
 pub mod ReheadedLemmas
 pub mod ReleasedLemmas
 mod RemarkedLemmas

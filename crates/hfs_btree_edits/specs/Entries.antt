@@ -8,6 +8,7 @@ use Rattle.hfs_btree.specs.Pairs.{lookup}
 use Rattle.hfs_btree.specs.Header.{body_at}
 use Rattle.hfs_btree.specs.Search.{leaf_for}
 use Rattle.hfs_btree.specs.Tree.{Store, records_of, pairs_of}
+use Rattle.hfs_btree_edits.specs.declared.seeking.RecordPlace.{RecordPlace}
 
 -- the first record of a node
 abbrev pub first_record : Node → List ℕ
@@ -26,12 +27,12 @@ abbrev pub HasBodyAt : {K : Type 0} → Ghosts K → K → List ℕ → ℕ → 
 HasBodyAt g key bytes place =
     let entry = record_at bytes place in lookup g.compare key (pairs_of g bytes) ≡ Some (drop (g.body_start entry) entry)
 
--- the record with the key is the one at this place of this node, which has these bytes
-pub record IsPlaceOf {K : Type 0} (g : Ghosts K) (nodes : Store) (key : K) (bytes : List ℕ) (n place : ℕ) : Type 0 where
-  pub leaf : n ≡ leaf_for g nodes key
-  pub read : bytes ≡ slice_index_or nodes n []
-  pub within : place < length (records_of (node_of bytes))
-  pub equal : HasKeyAt g key bytes place
-  pub body : HasBodyAt g key bytes place
-  pub is_leaf : g.is_leaf (record_at bytes place) ≡ true
-  pub found : body_at g nodes key ≡ Some (drop (g.body_start (record_at bytes place)) (record_at bytes place))
+-- the record with the key is the one at this place
+pub record IsPlaceOf {K : Type 0} (g : Ghosts K) (nodes : Store) (key : K) (place : RecordPlace) : Type 0 where
+  pub leaf : place.leaf ≡ leaf_for g nodes key
+  pub read : place.bytes ≡ slice_index_or nodes place.leaf []
+  pub within : place.at < length (records_of (node_of place.bytes))
+  pub equal : HasKeyAt g key place.bytes place.at
+  pub body : HasBodyAt g key place.bytes place.at
+  pub is_leaf : g.is_leaf (record_at place.bytes place.at) ≡ true
+  pub found : body_at g nodes key ≡ Some (drop (g.body_start (record_at place.bytes place.at)) (record_at place.bytes place.at))

@@ -10,6 +10,7 @@ mod nodes_mut;
 mod patch_nodes;
 mod releasing;
 mod replacing;
+mod seeking;
 mod stored;
 
 pub use claim::claim_node;
@@ -19,5 +20,6 @@ pub use laws::{edits_keep_the_rest, insertions_take_few_nodes, new_keys_pass};
 pub use nodes_mut::NodesMut;
 pub use patch_nodes::PatchNodes;
 pub use releasing::release;
-pub use replacing::{find_place, place_of, replace, replace_at};
+pub use replacing::{replace, replace_at};
+pub use seeking::{RecordPlace, find_place, place_of, seek};
 pub use stored::{load, store, store_inserted, store_replaced, store_row, viewed};

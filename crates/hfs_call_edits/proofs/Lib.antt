@@ -20,3 +20,4 @@ pub mod MayMove
 pub mod ToDelete
 pub mod DeletedChange
 pub mod Parents
+pub mod PlacedLemmas

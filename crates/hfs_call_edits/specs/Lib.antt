@@ -1,4 +1,5 @@
 pub mod Choosing
+pub mod Placed
 pub mod ChoosingFileIds
 pub mod Room
 pub mod NewPlaces

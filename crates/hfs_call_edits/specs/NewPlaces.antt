@@ -12,7 +12,11 @@ use Rattle.hfs_catalog.specs.Records.{Record, Catalog}
 use Rattle.hfs_catalog.specs.Lookups.{catalog_item, child_named}
 use Rattle.hfs_check.specs.Parts.{Blocks}
 use Rattle.hfs_queries.specs.Told.{folder_with}
-use Rattle.hfs_call_edits.specs.Choosing.{lock_code, unless_code}
+use Rattle.hfs_btree.specs.Tree.{Store}
+use Rattle.hfs_btree_edits.specs.Entries.{IsPlaceOf}
+use Rattle.hfs_catalog.specs.Tree.{cat_keys}
+use Rattle.hfs_call_edits.specs.Choosing.{lock_code, unless_code, map_ok}
+use Rattle.hfs_call_edits.specs.declared.new_places.FoundPlace.{FoundPlace}
 use Rattle.hfs_call_patches.specs.declared.new_items.NewPlace.{NewPlace}
 use Rattle.hfs_call_patches.specs.ReadyPlaces.{IsPlace}
 use Rattle.hfs_model.specs.Choices.{to_create}
@@ -42,6 +46,16 @@ abbrev pub new_place : Mdb → Catalog → ℕ → List ℕ → Result NewPlace 
 new_place mdb catalog dir name = unless_code (lock_code mdb) (
     if not (is_item_name name) then Err BAD_NAME
     else option_map_or (place_in mdb catalog dir name) (folder_with catalog dir) (Err NOT_A_FOLDER))
+
+-- ---- and where the record of its folder stands
+
+-- without it
+abbrev pub place_found : Result FoundPlace ℤ → Result NewPlace ℤ
+place_found found = map_ok (λ f. f.place) found
+
+-- it is there in these nodes of a catalog
+abbrev pub IsFolderFound : Store → FoundPlace → Type 0
+IsFolderFound nodes f = IsPlaceOf cat_keys nodes f.place.folder f.folder_at
 
 -- ---- on the blocks of a volume
 

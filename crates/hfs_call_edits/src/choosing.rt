@@ -1,16 +1,17 @@
 //! What calls that change items choose in the catalog. In each the first code that holds is the reply's.
 
-ghost use Rattle.std.specs.Prelude.{◌≡◌};
+ghost use Rattle.std.specs.Prelude.{◌≡◌, IfOk};
 ghost use Rattle.hfs_catalog.specs.Tree.{catalog_of};
 ghost use Rattle.hfs_call_edits.specs.Choosing.{lock_code, child_to_change, file_to_change, file_to_set, item_to_set, is_locked_item, as_item, as_file, chosen_child, chosen_file};
+ghost use Rattle.hfs_call_edits.specs.Placed.{item_chosen, file_chosen, IsItemPlaced, IsFilePlaced};
 ghost use Rattle.hfs_queries.specs.Told.{IsCatalog};
 
+use crate::placed::{PlacedFile, PlacedItem, placed_child};
 use bitflags::Flags;
 use hfs_btree::Nodes;
 use hfs_catalog::{CatalogItem, ItemRecord};
-use hfs_fields::{CatKey, FileRecord, Mdb, Name};
+use hfs_fields::{Mdb, Name};
 use hfs_model::{BAD_NAME, FILE_LOCKED, HARDWARE_LOCKED, NOT_FOUND, SOFTWARE_LOCKED};
-use hfs_queries::folder_child;
 
 /// The code that refuses each change of a locked volume.
 pub(crate) fn lock_code(mdb: &Mdb) -> Option<i16>
@@ -26,6 +27,26 @@ pub(crate) fn lock_code(mdb: &Mdb) -> Option<i16>
     None
 }
 
+/// The folder's item of that name, with the place of its record, or the code that refuses to change it.
+fn placed_to_change<N: Nodes>(
+    nodes: &N,
+    mdb: &Mdb,
+    dir: u32,
+    name: &[u8],
+) -> Result<PlacedItem, i16>
+    requires { IsCatalog (N.nodes nodes.now) }
+    ensures chosen { item_chosen result ≡ chosen_child mdb.now (N.nodes nodes.now) dir name.now }
+    ensures place { IfOk result (IsItemPlaced (N.nodes nodes.now)) }
+{
+    if let Some(code) = lock_code(mdb) {
+        return Err(code);
+    }
+    let Some(name) = Name::new(name) else {
+        return Err(BAD_NAME);
+    };
+    placed_child(nodes, dir, &name)
+}
+
 /// The folder's item of that name, or the code that refuses to change it.
 pub(crate) fn child_to_change<N: Nodes>(
     nodes: &N,
@@ -36,52 +57,54 @@ pub(crate) fn child_to_change<N: Nodes>(
     requires { IsCatalog (N.nodes nodes.now) }
     ensures { result ≡ chosen_child mdb.now (N.nodes nodes.now) dir name.now }
 {
-    if let Some(code) = lock_code(mdb) {
-        return Err(code);
+    match placed_to_change(nodes, mdb, dir, name) {
+        Ok(placed) => Ok(placed.item),
+        Err(code) => Err(code),
     }
-    let Some(name) = Name::new(name) else {
-        return Err(BAD_NAME);
-    };
-    folder_child(nodes, dir, &name)
 }
 
-/// The folder's file of that name, with its key, or the code that refuses to change it.
+/// The folder's file of that name, with the place of its record, or the code that refuses to change it.
 pub(crate) fn file_to_change<N: Nodes>(
     nodes: &N,
     mdb: &Mdb,
     dir: u32,
     name: &[u8],
-) -> Result<(CatKey, FileRecord), i16>
+) -> Result<PlacedFile, i16>
     requires { IsCatalog (N.nodes nodes.now) }
-    ensures { result ≡ chosen_file mdb.now (N.nodes nodes.now) dir name.now }
+    ensures chosen { file_chosen result ≡ chosen_file mdb.now (N.nodes nodes.now) dir name.now }
+    ensures place { IfOk result (IsFilePlaced (N.nodes nodes.now)) }
 {
-    let item = match child_to_change(nodes, mdb, dir, name) {
-        Ok(item) => item,
+    let placed = match placed_to_change(nodes, mdb, dir, name) {
+        Ok(placed) => placed,
         Err(code) => return Err(code),
     };
+    let place = placed.place;
+    let item = placed.item;
     let key = item.key;
     match item.body {
         ItemRecord::Folder(_) => Err(NOT_FOUND),
-        ItemRecord::File(file) => Ok((key, file)),
+        ItemRecord::File(file) => Ok(PlacedFile { key, file, place }),
     }
 }
 
-/// The folder's file of that name, with its key, or the code that refuses to set what is told of it.
+/// The folder's file of that name, with the place of its record, or the code that refuses to set what is told of it.
 pub(crate) fn file_to_set<N: Nodes>(
     nodes: &N,
     mdb: &Mdb,
     dir: u32,
     name: &[u8],
-) -> Result<(CatKey, FileRecord), i16>
+) -> Result<PlacedFile, i16>
     requires { IsCatalog (N.nodes nodes.now) }
-    ensures { result ≡ as_file (file_to_set mdb.now (catalog_of (N.nodes nodes.now)) dir name.now) }
+    ensures chosen { file_chosen result
+        ≡ as_file (file_to_set mdb.now (catalog_of (N.nodes nodes.now)) dir name.now) }
+    ensures place { IfOk result (IsFilePlaced (N.nodes nodes.now)) }
 {
     match file_to_change(nodes, mdb, dir, name) {
-        Ok((key, file)) => {
-            if file.flags.is_locked() {
+        Ok(placed) => {
+            if placed.file.flags.is_locked() {
                 return Err(FILE_LOCKED);
             }
-            Ok((key, file))
+            Ok(placed)
         }
         Err(code) => Err(code),
     }
@@ -97,22 +120,24 @@ pub(crate) fn is_locked(item: &CatalogItem) -> bool
     }
 }
 
-/// The folder's item of that name, or the code that refuses to set what is told of it.
+/// The folder's item of that name, with the place of its record, or the code that refuses to set what is told of it.
 pub(crate) fn item_to_set<N: Nodes>(
     nodes: &N,
     mdb: &Mdb,
     dir: u32,
     name: &[u8],
-) -> Result<CatalogItem, i16>
+) -> Result<PlacedItem, i16>
     requires { IsCatalog (N.nodes nodes.now) }
-    ensures { result ≡ as_item (item_to_set mdb.now (catalog_of (N.nodes nodes.now)) dir name.now) }
+    ensures chosen { item_chosen result
+        ≡ as_item (item_to_set mdb.now (catalog_of (N.nodes nodes.now)) dir name.now) }
+    ensures place { IfOk result (IsItemPlaced (N.nodes nodes.now)) }
 {
-    match child_to_change(nodes, mdb, dir, name) {
-        Ok(item) => {
-            if is_locked(&item) {
+    match placed_to_change(nodes, mdb, dir, name) {
+        Ok(placed) => {
+            if is_locked(&placed.item) {
                 return Err(FILE_LOCKED);
             }
-            Ok(item)
+            Ok(placed)
         }
         Err(code) => Err(code),
     }

@@ -51,7 +51,7 @@ pub(crate) fn item_to_rename<N: Nodes>(
         return Err(BAD_NAME);
     };
     let item = match item_to_set(nodes, mdb, dir, name) {
-        Ok(item) => item,
+        Ok(placed) => placed.item,
         Err(code) => return Err(code),
     };
     let id = own_id(&item);

@@ -20,15 +20,24 @@ impl<B: Blocks> Editing<'_, B> {
     ) -> Result<Result<Change, Refusal>, AllocError>
         ensures { Makes result (IsEditOf (call.Create dir name.now now)) B.total B.blocks self.now }
     {
-        let place = match self.new_place(dir, name) {
-            Ok(place) => place,
+        let found = match self.new_place(dir, name) {
+            Ok(found) => found,
             Err(code) => return Ok(Err(Refusal::Code(code))),
         };
         if let Some(refusal) = self.lacks_one() {
             return Ok(Err(refusal));
         }
         self.catalog_is_in_file();
-        let change = add_new_file(alloc, self.blocks, self.catalog, self.mdb, dir, &place, now)?;
+        let change = add_new_file(
+            alloc,
+            self.blocks,
+            self.catalog,
+            self.mdb,
+            dir,
+            &found.place,
+            &found.folder_at,
+            now,
+        )?;
         Ok(Ok(change))
     }
 
@@ -43,15 +52,24 @@ impl<B: Blocks> Editing<'_, B> {
         ensures { Makes result (IsEditOf (call.DirCreate dir name.now now))
             B.total B.blocks self.now }
     {
-        let place = match self.new_place(dir, name) {
-            Ok(place) => place,
+        let found = match self.new_place(dir, name) {
+            Ok(found) => found,
             Err(code) => return Ok(Err(Refusal::Code(code))),
         };
         if let Some(refusal) = self.lacks_two() {
             return Ok(Err(refusal));
         }
         self.catalog_is_in_file();
-        let change = add_new_folder(alloc, self.blocks, self.catalog, self.mdb, dir, &place, now)?;
+        let change = add_new_folder(
+            alloc,
+            self.blocks,
+            self.catalog,
+            self.mdb,
+            dir,
+            &found.place,
+            &found.folder_at,
+            now,
+        )?;
         Ok(Ok(change))
     }
 }

@@ -1,18 +1,19 @@
 //! What calls that change a volume make of its blocks.
 
-ghost use Rattle.std.specs.Prelude.{◌≡◌};
+ghost use Rattle.std.specs.Prelude.{◌≡◌, IfOk};
 ghost use Rattle.hfs_check.specs.Parts.{catalog_nodes};
 ghost use Rattle.hfs_model.specs.declared.reply.Value.TheVariants as value;
 ghost use Rattle.hfs_model.specs.Choices.{file_to_change, to_set_f_info, to_set_cat_info};
 ghost use Rattle.hfs_call_edits.specs.Edits.{IsEditing, ChoosesFileBy, ChoosesItemBy, RecordsAreEntriesIn, change_at, IsEditingIn, HoldCatalog};
+ghost use Rattle.hfs_call_edits.specs.Placed.{item_chosen, file_chosen, IsItemPlaced, IsFilePlaced};
 ghost use Rattle.hfs_queries.specs.Told.{IsCatalog};
 
 use crate::choosing;
+use crate::placed::{PlacedFile, PlacedItem};
 use hfs_blocks::{Blocks, Patch, Run};
 use hfs_btree::RunNodes;
 use hfs_call_patches::Change;
-use hfs_catalog::CatalogItem;
-use hfs_fields::{CatKey, FileRecord, Mdb};
+use hfs_fields::Mdb;
 use hfs_model::Value;
 use std::marker::Model;
 
@@ -78,23 +79,29 @@ impl<'a, B: Blocks> Editing<'a, B> {
         }
     }
 
-    /// The folder's file of that name, with its key, or the code that refuses to change it.
-    pub(crate) fn file_to_change(&self, dir: u32, name: &[u8]) -> Result<(CatKey, FileRecord), i16>
-        ensures { ChoosesFileBy (λ v. file_to_change v dir name.now) (B.blocks self.now) result }
+    /// The folder's file of that name, with the place of its record, or the code that refuses to change it.
+    pub(crate) fn file_to_change(&self, dir: u32, name: &[u8]) -> Result<PlacedFile, i16>
+        ensures chosen { ChoosesFileBy (λ v. file_to_change v dir name.now)
+            (B.blocks self.now) (file_chosen result) }
+        ensures place { IfOk result (IsFilePlaced (catalog_nodes (B.blocks self.now))) }
     {
         choosing::file_to_change(&self.nodes(), self.mdb, dir, name)
     }
 
-    /// The folder's file of that name, with its key, or the code that refuses to set its first Finder bytes.
-    pub(crate) fn file_to_set(&self, dir: u32, name: &[u8]) -> Result<(CatKey, FileRecord), i16>
-        ensures { ChoosesFileBy (λ v. to_set_f_info v dir name.now) (B.blocks self.now) result }
+    /// The folder's file of that name, with the place of its record, or the code that refuses to set its first Finder bytes.
+    pub(crate) fn file_to_set(&self, dir: u32, name: &[u8]) -> Result<PlacedFile, i16>
+        ensures chosen { ChoosesFileBy (λ v. to_set_f_info v dir name.now)
+            (B.blocks self.now) (file_chosen result) }
+        ensures place { IfOk result (IsFilePlaced (catalog_nodes (B.blocks self.now))) }
     {
         choosing::file_to_set(&self.nodes(), self.mdb, dir, name)
     }
 
-    /// The folder's item of that name, or the code that refuses to set its dates and Finder bytes.
-    pub(crate) fn item_to_set(&self, dir: u32, name: &[u8]) -> Result<CatalogItem, i16>
-        ensures { ChoosesItemBy (λ v. to_set_cat_info v dir name.now) (B.blocks self.now) result }
+    /// The folder's item of that name, with the place of its record, or the code that refuses to set its dates and Finder bytes.
+    pub(crate) fn item_to_set(&self, dir: u32, name: &[u8]) -> Result<PlacedItem, i16>
+        ensures chosen { ChoosesItemBy (λ v. to_set_cat_info v dir name.now)
+            (B.blocks self.now) (item_chosen result) }
+        ensures place { IfOk result (IsItemPlaced (catalog_nodes (B.blocks self.now))) }
     {
         choosing::item_to_set(&self.nodes(), self.mdb, dir, name)
     }

@@ -13,6 +13,7 @@ mod editing;
 mod file_ids;
 mod moving;
 mod new_places;
+mod placed;
 mod renaming;
 mod room;
 mod setting;

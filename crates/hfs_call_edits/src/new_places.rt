@@ -1,19 +1,28 @@
 //! Where a new item comes: the folder that Create and DirCreate choose, or the first code that refuses them.
 
-ghost use Rattle.std.specs.Prelude.{◌≡◌};
+ghost use Rattle.std.specs.Prelude.{◌≡◌, IfOk};
 ghost use Rattle.hfs_catalog.specs.Tree.{catalog_of};
 ghost use Rattle.hfs_queries.specs.Told.{IsCatalog};
-ghost use Rattle.hfs_call_edits.specs.NewPlaces.{children_in, new_place, ChoosesNewPlace};
+ghost use Rattle.hfs_check.specs.Parts.{catalog_nodes};
+ghost use Rattle.hfs_call_edits.specs.NewPlaces.{children_in, new_place, place_found, IsFolderFound, ChoosesNewPlace};
 
 use crate::choosing::lock_code;
 use crate::editing::Editing;
+use crate::placed::placed_folder;
 use hfs_blocks::Blocks;
 use hfs_btree::Nodes;
+use hfs_btree_edits::RecordPlace;
 use hfs_call_patches::NewPlace;
 use hfs_catalog::{CatalogItem, ItemRecord, lookup};
 use hfs_fields::{Mdb, Name};
 use hfs_model::{BAD_NAME, DUPLICATE, FOLDER_FULL, NOT_A_FOLDER};
-use hfs_queries::folder;
+
+/// Where a new item comes, and where the record of its folder stands.
+#[derive(Clone, Copy)]
+pub(crate) struct FoundPlace {
+    pub place: NewPlace,
+    pub folder_at: RecordPlace,
+}
 
 /// The most children that a folder has.
 const MOST_CHILDREN: u16 = 65_535;
@@ -32,9 +41,11 @@ fn child_count(item: &CatalogItem) -> u16
 }
 
 /// Where a new item of that name comes in the folder, or the code that refuses it.
-fn new_place<N: Nodes>(nodes: &N, mdb: &Mdb, dir: u32, name: &[u8]) -> Result<NewPlace, i16>
+fn new_place<N: Nodes>(nodes: &N, mdb: &Mdb, dir: u32, name: &[u8]) -> Result<FoundPlace, i16>
     requires { IsCatalog (N.nodes nodes.now) }
-    ensures { result ≡ new_place mdb.now (catalog_of (N.nodes nodes.now)) dir name.now }
+    ensures chosen { place_found result
+        ≡ new_place mdb.now (catalog_of (N.nodes nodes.now)) dir name.now }
+    ensures folder { IfOk result (IsFolderFound (N.nodes nodes.now)) }
 {
     if let Some(code) = lock_code(mdb) {
         return Err(code);
@@ -42,27 +53,31 @@ fn new_place<N: Nodes>(nodes: &N, mdb: &Mdb, dir: u32, name: &[u8]) -> Result<Ne
     let Some(name) = Name::new(name) else {
         return Err(BAD_NAME);
     };
-    let Some(item) = folder(nodes, dir) else {
+    let Some(folder) = placed_folder(nodes, dir) else {
         return Err(NOT_A_FOLDER);
     };
     if lookup(nodes, dir, &name).is_some() {
         return Err(DUPLICATE);
     }
-    let children = child_count(&item);
+    let children = child_count(&folder.item);
     if children >= MOST_CHILDREN || mdb.next_id == LAST_ID {
         return Err(FOLDER_FULL);
     }
-    Ok(NewPlace {
-        name,
-        folder: item.key,
-        children,
+    Ok(FoundPlace {
+        place: NewPlace {
+            name,
+            folder: folder.item.key,
+            children,
+        },
+        folder_at: folder.place,
     })
 }
 
 impl<B: Blocks> Editing<'_, B> {
     /// Where a new item of that name comes in the folder, or the code that refuses it.
-    pub(crate) fn new_place(&self, dir: u32, name: &[u8]) -> Result<NewPlace, i16>
-        ensures { ChoosesNewPlace (B.blocks self.now) dir name.now result }
+    pub(crate) fn new_place(&self, dir: u32, name: &[u8]) -> Result<FoundPlace, i16>
+        ensures chosen { ChoosesNewPlace (B.blocks self.now) dir name.now (place_found result) }
+        ensures folder { IfOk result (IsFolderFound (catalog_nodes (B.blocks self.now))) }
     {
         new_place(&self.nodes(), self.mdb, dir, name)
     }

@@ -28,8 +28,8 @@ impl<B: Blocks> Editing<'_, B> {
         ensures { Makes result (IsEditOf (call.SetFInfo dir name.now info.now now))
             B.total B.blocks self.now }
     {
-        let (key, file) = match self.file_to_set(dir, name) {
-            Ok(chosen) => chosen,
+        let placed = match self.file_to_set(dir, name) {
+            Ok(placed) => placed,
             Err(code) => return Ok(Err(Refusal::Code(code))),
         };
         let patch = patch_set_f_info(
@@ -37,8 +37,9 @@ impl<B: Blocks> Editing<'_, B> {
             self.blocks,
             self.catalog,
             self.mdb,
-            &key,
-            &file,
+            &placed.key,
+            &placed.file,
+            &placed.place,
             info,
             now,
         )?;
@@ -57,10 +58,12 @@ impl<B: Blocks> Editing<'_, B> {
         ensures { Makes result (IsEditOf (set_cat_info_call dir name.now settings.now now))
             B.total B.blocks self.now }
     {
-        let item = match self.item_to_set(dir, name) {
-            Ok(item) => item,
+        let placed = match self.item_to_set(dir, name) {
+            Ok(placed) => placed,
             Err(code) => return Ok(Err(Refusal::Code(code))),
         };
+        let place = placed.place;
+        let item = placed.item;
         let key = item.key;
         match item.body {
             ItemRecord::Folder(folder) => {
@@ -71,6 +74,7 @@ impl<B: Blocks> Editing<'_, B> {
                     self.mdb,
                     &key,
                     &folder,
+                    &place,
                     settings,
                     now,
                 )?;
@@ -84,6 +88,7 @@ impl<B: Blocks> Editing<'_, B> {
                     self.mdb,
                     &key,
                     &file,
+                    &place,
                     settings,
                     now,
                 )?;
@@ -104,8 +109,8 @@ impl<B: Blocks> Editing<'_, B> {
         ensures { Makes result (IsEditOf (lock_call locked dir name.now now))
             B.total B.blocks self.now }
     {
-        let (key, file) = match self.file_to_change(dir, name) {
-            Ok(chosen) => chosen,
+        let placed = match self.file_to_change(dir, name) {
+            Ok(placed) => placed,
             Err(code) => return Ok(Err(Refusal::Code(code))),
         };
         let patch = patch_set_lock(
@@ -113,8 +118,9 @@ impl<B: Blocks> Editing<'_, B> {
             self.blocks,
             self.catalog,
             self.mdb,
-            &key,
-            &file,
+            &placed.key,
+            &placed.file,
+            &placed.place,
             locked,
             now,
         )?;

@@ -6,12 +6,14 @@ use Rattle.hfs_fields.specs.Keys.{cat_cmp}
 use Rattle.hfs_scans.specs.Each.{Each}
 use Rattle.hfs_btree.specs.Pairs.{lookup}
 use Rattle.hfs_btree.specs.Tree.{Store}
+use Rattle.hfs_btree_edits.specs.declared.seeking.RecordPlace.{RecordPlace}
 use Rattle.hfs_btree_edits.specs.Edits.{with_replaced}
+use Rattle.hfs_btree_edits.specs.Entries.{IsPlaceOf}
 use Rattle.hfs_catalog.specs.declared.item.ItemRecord.{ItemRecord}
 use Rattle.hfs_catalog.specs.Records.{Catalog}
 use Rattle.hfs_catalog.specs.Lookups.{first_key, thread_of}
 use Rattle.hfs_catalog.specs.Sound.{IsRecord}
-use Rattle.hfs_catalog.specs.Tree.{IsCatalogTree, catalog_of}
+use Rattle.hfs_catalog.specs.Tree.{IsCatalogTree, cat_keys, catalog_of}
 use Rattle.hfs_catalog_edits.specs.Bodies.{item_bytes, IsItemValue}
 use Rattle.hfs_catalog_edits.proofs.FindLemmas.{no_thread_key}
 use Rattle.hfs_catalog_edits.specs.RecordEdits.{RecordSet}
@@ -26,6 +28,9 @@ use Rattle.hfs_call_patches.specs.Settings.{HasSetItem}
 module _ (old : Blocks) (s : Store) (opened : s ≡ catalog_nodes old) where
   pub tree_open : IsCatalogTree (catalog_nodes old) → IsCatalogTree s
   tree_open tree = subst IsCatalogTree (sym opened) tree
+
+  pub place_open : (key : CatKey) (place : RecordPlace) → IsPlaceOf cat_keys (catalog_nodes old) key place → IsPlaceOf cat_keys s key place
+  place_open key place is = subst (λ (nodes : Store). IsPlaceOf cat_keys nodes key place) (sym opened) is
 
   pub inside_open : IsInFile (catalog_nodes old) → IsInFile s
   inside_open inside = subst IsInFile (sym opened) inside

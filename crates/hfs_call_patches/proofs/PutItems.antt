@@ -1,5 +1,5 @@
--- A new item's record that came into a catalog, and then its folder's with one more child.
-use Rattle.std.proofs.Common.{◌≡◌, ℕ, ◌+◌, true, sym, ◌∙◌, ap, subst, Option, Some, None}
+-- A folder's record with one more child, and then a new item's that came into the catalog.
+use Rattle.std.proofs.Common.{◌≡◌, ℕ, ◌+◌, true, [], ◌∷◌, refl, sym, ◌∙◌, ap, subst, Option, Some, None}
 use Rattle.std.specs.Option.{option_map}
 use Rattle.hfs_fields.specs.declared.key.CatKey.{CatKey}
 use Rattle.hfs_fields.specs.declared.dir_record.DirRecord.{DirRecord}
@@ -10,16 +10,20 @@ use Rattle.hfs_fields.specs.RecordForms.{IsFileRecordValue}
 use Rattle.hfs_btree.specs.Pairs.{lookup}
 use Rattle.hfs_btree.specs.Tree.{Store}
 use Rattle.hfs_scans.specs.Members.{In}
-use Rattle.hfs_catalog.specs.Records.{Record, Catalog}
+use Rattle.hfs_catalog.specs.Records.{Record}
 use Rattle.hfs_catalog.specs.Tree.{IsCatalogTree, catalog_of}
 use Rattle.hfs_catalog_edits.specs.Bodies.{IfBody}
 use Rattle.hfs_catalog_edits.specs.Finds.{record_at}
-use Rattle.hfs_catalog_edits.proofs.FindLemmas.{body_at, own_record}
-use Rattle.hfs_catalog_edits.specs.ItemEdits.{HasValenceSet, file_record, FolderCame}
-use Rattle.hfs_catalog_edits.proofs.KeepLemmas.{keeps_then}
+use Rattle.hfs_catalog_edits.proofs.FindLemmas.{body_at, own_record, still_none, other_key}
+use Rattle.hfs_catalog_edits.specs.ItemEdits.{HasValenceSet, ValenceSet, file_record, folder_record, folder_thread, FolderCame}
+use Rattle.hfs_catalog_edits.proofs.KeepLemmas.{keeps_then, keeps_turned}
 use Rattle.hfs_catalog_edits.specs.RecordEdits.{RecordCame}
-use Rattle.hfs_catalog_edits.proofs.RootLemmas.{swapped_in}
+use Rattle.hfs_catalog_edits.specs.Roots.{HasRoot}
+use Rattle.hfs_catalog_edits.proofs.RootLemmas.{root_set}
+use Rattle.hfs_catalog_edits.specs.Rooms.{IsInFile, HasRoom, HasRoomForTwo}
+use Rattle.hfs_catalog_edits.proofs.RoomLemmas.{still_in_file, room_after, room_for_two_after, set_takes_none}
 use Rattle.hfs_catalog_edits.specs.Swaps.{Swaps}
+use Rattle.hfs_catalog_edits.proofs.SwapLemmas.{set_then_came}
 use Rattle.hfs_changes.specs.Changes.{folder_with}
 use Rattle.hfs_call_patches.specs.declared.new_items.NewPlace.{NewPlace}
 use Rattle.hfs_call_patches.specs.NewItems.{IsOwnFolder, HasPutFile, HasPutFolder}
@@ -36,64 +40,75 @@ module _ (nodes : Store) (tree : IsCatalogTree nodes) (key : CatKey) (r : Record
   pub folder_there : is_dir r.1 ≡ true → IfBody (λ body. is_dir body ≡ true) (lookup cat_cmp key (catalog_of nodes))
   folder_there folder = subst (IfBody (λ body. is_dir body ≡ true)) (sym body_of) folder
 
--- what stood there still stands where one came
-pub still_there : (come r : Record) (old new : Catalog) → Swaps None (Some come) old new → In r old → In r new
-still_there come r old new swap there = swapped_in None (Some come) old new swap r (λ none. none) there
-
 -- ---- the folder's record, with one more child
 
-module _ (place : NewPlace) (now : ℕ) (middle new : Store) (r : Record) (tree : IsCatalogTree middle) (own : IsOwnFolder place (catalog_of middle) r)
-    (set : HasValenceSet place.folder (place.children + 1) now middle new) where
-  abbrev valence_set : Type 0
-  valence_set = Swaps (Some r) (Some (folder_with (place.children + 1) now r)) (catalog_of middle) (catalog_of new)
+module _ (place : NewPlace) (now : ℕ) (old middle : Store) (r : Record) (tree : IsCatalogTree old) (own : IsOwnFolder place (catalog_of old) r)
+    (set : HasValenceSet place.folder (place.children + 1) now old middle) where
+  pub valence_done : ValenceSet place.folder (place.children + 1) now r.1 old middle
+  valence_done = set r.1 (body_of old tree place.folder r own.there own.own_key)
 
-  pub folder_swap : valence_set
+  pub folder_swap : Swaps (Some r) (Some (folder_with (place.children + 1) now r)) (catalog_of old) (catalog_of middle)
   folder_swap =
-      let done = set r.1 (body_of middle tree place.folder r own.there own.own_key) in
-      subst (λ (key : CatKey). Swaps (Some r) (Some (key, (folder_with (place.children + 1) now r).1)) (catalog_of middle) (catalog_of new)) (sym own.own_key)
-      (subst (λ (o : Option Record). Swaps o (Some (place.folder, (folder_with (place.children + 1) now r).1)) (catalog_of middle) (catalog_of new))
-      (stands_at middle tree place.folder r own.there own.own_key) done.set.swap)
+      subst (λ (key : CatKey). Swaps (Some r) (Some (key, (folder_with (place.children + 1) now r).1)) (catalog_of old) (catalog_of middle)) (sym own.own_key)
+      (subst (λ (o : Option Record). Swaps o (Some (place.folder, (folder_with (place.children + 1) now r).1)) (catalog_of old) (catalog_of middle))
+      (stands_at old tree place.folder r own.there own.own_key) valence_done.set.swap)
 
--- ---- a file
+  -- the root stands where it stood, and maybe is that folder
+  pub root_then : HasRoot (catalog_of old) → HasRoot (catalog_of middle)
+  root_then has = root_set r (folder_with (place.children + 1) now r) (catalog_of old) (catalog_of middle) folder_swap refl has
 
-pub own_after : (place : NewPlace) (come r : Record) (old new : Catalog) → Swaps None (Some come) old new → IsOwnFolder place old r → IsOwnFolder place new r
-own_after place come r old new swap own = record { there = still_there come r old new swap own.there; own_key = own.own_key; folder = own.folder }
+  -- what no record had for a key none has
+  pub absent_then : (key : CatKey) → lookup cat_cmp key (catalog_of old) ≡ None → lookup cat_cmp key (catalog_of middle) ≡ None
+  absent_then key none =
+      still_none key (Some r) (Some (folder_with (place.children + 1) now r)) (catalog_of old) (catalog_of middle) folder_swap (other_key key (catalog_of old) r none own.there, tt) none
 
-pub file_put : (id dir : ℕ) (place : NewPlace) (now : ℕ) (file : FileRecord) (old middle new : Store) (r : Record) → file ≡ new_file id now → RecordCame (file_record dir place.name file) old middle → IsFileRecordValue file
-    → HasValenceSet place.folder (place.children + 1) now middle new → IsOwnFolder place (catalog_of old) r → HasPutFile id dir place now r old new
-file_put id dir place now file old middle new r is came value set own =
-    let came_here : RecordCame (file_record dir place.name (new_file id now)) old middle = subst (λ (f : FileRecord). RecordCame (file_record dir place.name f) old middle) is came in
-    let mine = own_after place _ r (catalog_of old) (catalog_of middle) came_here.swap own in
-    let done = set r.1 (body_of middle came.keeps.sound place.folder r mine.there mine.own_key) in
-    record {
-      keeps = keeps_then _ _ old middle new came_here.keeps done.set.keeps;
-      first = catalog_of middle;
-      file_came = came_here.swap;
-      folder_set = folder_swap place now middle new r came.keeps.sound mine set;
-      file_value = subst IsFileRecordValue is value;
-      folder_value = done.value;
-    }
+  pub in_file_then : IsInFile old → IsInFile middle
+  in_file_then inside = still_in_file (place.folder ∷ []) old middle valence_done.set.keeps inside
 
--- ---- a folder
+  pub room_then : HasRoom old → HasRoom middle
+  room_then room = room_after old middle room (set_takes_none _ old middle valence_done.set)
 
-pub folder_put : (id dir : ℕ) (place : NewPlace) (now : ℕ) (folder : DirRecord) (old middle new : Store) (r : Record) → folder ≡ new_dir id now → FolderCame dir place.name folder old middle
-    → HasValenceSet place.folder (place.children + 1) now middle new → IsOwnFolder place (catalog_of old) r → HasPutFolder id dir place now r old new
-unfolding new_dir
-folder_put id dir place now folder old middle new r is came set own =
-    let came_here : FolderCame dir place.name (new_dir id now) old middle = subst (λ (d : DirRecord). FolderCame dir place.name d old middle) is came in
-    let mine = own_after place _ r came_here.between (catalog_of middle) came_here.thread_came (own_after place _ r (catalog_of old) came_here.between came_here.item_came own) in
-    let done = set r.1 (body_of middle came.keeps.sound place.folder r mine.there mine.own_key) in
-    record {
-      keeps = keeps_then _ _ old middle new came_here.keeps done.set.keeps;
-      first = came_here.between;
-      second = catalog_of middle;
-      folder_came = came_here.item_came;
-      thread_came = came_here.thread_came;
-      folder_set = folder_swap place now middle new r came.keeps.sound mine set;
-      new_value = came_here.value;
-      thread_value = came_here.thread_value;
-      folder_value = done.value;
-    }
+  pub room_for_two_then : HasRoomForTwo old → HasRoomForTwo middle
+  room_for_two_then room = room_for_two_after old middle room (set_takes_none _ old middle valence_done.set)
+
+  -- ---- a file
+
+  pub file_put : (id dir : ℕ) (file : FileRecord) (new : Store) → file ≡ new_file id now → RecordCame (file_record dir place.name file) middle new → IsFileRecordValue file
+      → HasPutFile id dir place now r old new
+  file_put id dir file new is came value =
+      let came_here : RecordCame (file_record dir place.name (new_file id now)) middle new = subst (λ (f : FileRecord). RecordCame (file_record dir place.name f) middle new) is came in
+      let turned = set_then_came r (folder_with (place.children + 1) now r) (file_record dir place.name (new_file id now)) (catalog_of old) (catalog_of middle) (catalog_of new) folder_swap came_here.swap in
+      record {
+        keeps = keeps_turned ((file_record dir place.name (new_file id now)).0 ∷ []) (place.folder ∷ []) old new (keeps_then _ _ old middle new valence_done.set.keeps came_here.keeps);
+        first = turned.0;
+        file_came = turned.1;
+        folder_set = turned.2;
+        file_value = subst IsFileRecordValue is value;
+        folder_value = valence_done.value;
+      }
+
+  -- ---- a folder
+
+  pub folder_put : (id dir : ℕ) (folder : DirRecord) (new : Store) → folder ≡ new_dir id now → FolderCame dir place.name folder middle new
+      → HasPutFolder id dir place now r old new
+  unfolding new_dir
+  folder_put id dir folder new is came =
+      let came_here : FolderCame dir place.name (new_dir id now) middle new = subst (λ (d : DirRecord). FolderCame dir place.name d middle new) is came in
+      let record_turned = set_then_came r (folder_with (place.children + 1) now r) (folder_record dir place.name (new_dir id now)) (catalog_of old) (catalog_of middle) came_here.between folder_swap came_here.item_came in
+      let thread_turned = set_then_came r (folder_with (place.children + 1) now r) (folder_thread dir place.name (new_dir id now)) record_turned.0 came_here.between (catalog_of new) record_turned.2 came_here.thread_came in
+      record {
+        keeps =
+            keeps_turned ((folder_thread dir place.name (new_dir id now)).0 ∷ (folder_record dir place.name (new_dir id now)).0 ∷ []) (place.folder ∷ []) old new
+            (keeps_then _ _ old middle new valence_done.set.keeps came_here.keeps);
+        first = record_turned.0;
+        second = thread_turned.0;
+        folder_came = record_turned.1;
+        thread_came = thread_turned.1;
+        folder_set = thread_turned.2;
+        new_value = came_here.value;
+        thread_value = came_here.thread_value;
+        folder_value = valence_done.value;
+      }
 
 -- the new record has the ID
 pub own_id : (id now : ℕ) (folder : DirRecord) → folder ≡ new_dir id now → folder.id ≡ id

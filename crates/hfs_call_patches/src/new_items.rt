@@ -1,13 +1,14 @@
 //! New items: their records and their folder's, put into a catalog.
 
 ghost use Rattle.std.specs.Prelude.{◌≡◌, ◌+◌, ◌<◌, ◌^◌, OnOk};
-ghost use Rattle.hfs_catalog.specs.Tree.{IsCatalogTree};
+ghost use Rattle.hfs_catalog.specs.Tree.{IsCatalogTree, cat_keys};
 ghost use Rattle.hfs_catalog_edits.specs.Rooms.{HasRoom, HasRoomForTwo};
 ghost use Rattle.hfs_call_patches.specs.NewItems.{TakesItem, TakesFolder, PutsFile, PutsFolder};
 ghost use Rattle.hfs_btree_edits.specs.Edits.{Edits};
+ghost use Rattle.hfs_btree_edits.specs.Entries.{IsPlaceOf};
 
-use hfs_btree_edits::NodesMut;
-use hfs_catalog_edits::{add_dir, add_file, set_valence};
+use hfs_btree_edits::{NodesMut, RecordPlace};
+use hfs_catalog_edits::{add_dir, add_file, set_valence_at};
 use hfs_fields::{CatKey, DirRecord, FileRecord, Name};
 use std::alloc::{AllocError, Global};
 
@@ -19,48 +20,66 @@ pub struct NewPlace {
     pub children: u16,
 }
 
-/// Puts the record of a new file of this ID into the catalog, and its folder's with one more child. At `AllocError` nothing is said
-/// of the nodes.
+/// Gives the folder, whose record stands at `folder_at`, one more child, and puts the record of a new file of this ID into the
+/// catalog: in this order, for a record that comes may move others. At `AllocError` nothing is said of the nodes.
 pub(crate) fn put_file<N: NodesMut>(
     alloc: Global,
     nodes: &mut N,
     dir: u32,
     place: &NewPlace,
+    folder_at: &RecordPlace,
     id: u32,
     now: u32,
 ) -> Result<(), AllocError>
     requires tree { IsCatalogTree (N.nodes nodes.old) }
     requires place { TakesItem dir place.now (N.nodes nodes.old) }
+    requires at { IsPlaceOf cat_keys (N.nodes nodes.old) place.now.folder folder_at.now }
     requires room { HasRoom (N.nodes nodes.old) }
     requires short { place.now.children + 1 < 2 ^ 16 }
     ensures put { Edits result (PutsFile id dir place.now now) N.nodes nodes.old nodes.new }
     ensures kept { OnOk result (N.kept nodes.new ≡ N.kept nodes.old) }
 {
+    set_valence_at(
+        alloc,
+        nodes,
+        &place.folder,
+        place.children + 1,
+        now,
+        folder_at,
+    )?;
     let file = FileRecord::new(id, now);
     add_file(alloc, nodes, dir, &place.name, &file)?;
-    set_valence(alloc, nodes, &place.folder, place.children + 1, now)?;
     Ok(())
 }
 
-/// Puts the record of a new folder of this ID and its thread's into the catalog, and its folder's with one more child. At
-/// `AllocError` nothing is said of the nodes.
+/// Gives the folder, whose record stands at `folder_at`, one more child, and puts the record of a new folder of this ID and its
+/// thread's into the catalog: in this order, for a record that comes may move others. At `AllocError` nothing is said of the nodes.
 pub(crate) fn put_folder<N: NodesMut>(
     alloc: Global,
     nodes: &mut N,
     dir: u32,
     place: &NewPlace,
+    folder_at: &RecordPlace,
     id: u32,
     now: u32,
 ) -> Result<(), AllocError>
     requires tree { IsCatalogTree (N.nodes nodes.old) }
     requires place { TakesFolder id dir place.now (N.nodes nodes.old) }
+    requires at { IsPlaceOf cat_keys (N.nodes nodes.old) place.now.folder folder_at.now }
     requires room { HasRoomForTwo (N.nodes nodes.old) }
     requires short { place.now.children + 1 < 2 ^ 16 }
     ensures put { Edits result (PutsFolder id dir place.now now) N.nodes nodes.old nodes.new }
     ensures kept { OnOk result (N.kept nodes.new ≡ N.kept nodes.old) }
 {
+    set_valence_at(
+        alloc,
+        nodes,
+        &place.folder,
+        place.children + 1,
+        now,
+        folder_at,
+    )?;
     let folder = DirRecord::new(id, now);
     add_dir(alloc, nodes, dir, &place.name, &folder)?;
-    set_valence(alloc, nodes, &place.folder, place.children + 1, now)?;
     Ok(())
 }

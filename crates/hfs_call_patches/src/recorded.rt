@@ -3,7 +3,9 @@
 ghost use Rattle.std.specs.Prelude.{IsTrue, IfOk};
 ghost use Rattle.hfs_fields.specs.Names.{is_item_name};
 ghost use Rattle.hfs_blocks.specs.Layers.{changes, AreWithin};
-ghost use Rattle.hfs_check.specs.Parts.{catalog_in};
+ghost use Rattle.hfs_catalog.specs.Tree.{cat_keys};
+ghost use Rattle.hfs_btree_edits.specs.Entries.{IsPlaceOf};
+ghost use Rattle.hfs_check.specs.Parts.{catalog_in, catalog_nodes};
 ghost use Rattle.hfs_check.specs.Sound.{AreBlocksSound};
 ghost use Rattle.hfs_call_patches.specs.TreeFiles.{IsCatalogFile};
 ghost use Rattle.hfs_call_patches.specs.Settings.{HasSetItem, IsOfKindUnder};
@@ -11,29 +13,32 @@ ghost use Rattle.hfs_call_patches.specs.Patches.{GivesPatch};
 
 use crate::catalog_patch::{close_catalog, open_catalog};
 use hfs_blocks::{Blocks, Patch, Run};
+use hfs_btree_edits::RecordPlace;
 use hfs_catalog::ItemRecord;
-use hfs_catalog_edits::set_record;
+use hfs_catalog_edits::set_record_at;
 use hfs_fields::{CatKey, Mdb};
 use std::alloc::{AllocError, Global};
 
-/// The patch that puts an item's record in the place of the one under this key, which is of its kind, and these counts into
-/// the master directory block. It has that block and one node. The only error is want of memory.
+/// The patch that puts an item's record in the place of the one under this key, which is of its kind and stands at this
+/// place, and these counts into the master directory block. It has that block and one node. The only error is want of memory.
 pub(crate) fn patch_record<B: Blocks>(
     alloc: Global,
     below: &B,
     runs: &[Run],
     key: &CatKey,
+    place: &RecordPlace,
     item: &ItemRecord,
     counts: &Mdb,
 ) -> Result<Patch, AllocError>
     requires sound { AreBlocksSound (B.total below.now) (B.blocks below.now) }
     requires nodes { IsCatalogFile runs.now (B.total below.now) (B.blocks below.now) }
     requires name { IsTrue (is_item_name key.now.name) }
+    requires place { IsPlaceOf cat_keys (catalog_nodes (B.blocks below.now)) key.now place.now }
     requires there { IsOfKindUnder key.now item.now (catalog_in (B.blocks below.now)) }
     ensures set { GivesPatch result (B.blocks below.now) (HasSetItem key.now item.now counts.now) }
     ensures within { IfOk result (λ patch. AreWithin (changes patch) (B.total below.now)) }
 {
     let mut nodes = open_catalog(alloc, below, runs);
-    set_record(alloc, &mut nodes, key, item)?;
+    set_record_at(alloc, &mut nodes, key, item, place)?;
     close_catalog(below, runs, nodes, counts)
 }

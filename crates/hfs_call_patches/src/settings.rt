@@ -4,7 +4,9 @@ ghost use Rattle.std.specs.Prelude.{◌≡◌, IfOk, take, drop};
 ghost use Rattle.hfs_model.specs.Choices.{file_to_change, to_set_f_info, to_set_cat_info};
 ghost use Rattle.hfs_blocks.specs.Layers.{changes, AreWithin};
 ghost use Rattle.hfs_changes.specs.OnBlocks.{at_time};
-ghost use Rattle.hfs_check.specs.Parts.{mdb_in};
+ghost use Rattle.hfs_check.specs.Parts.{mdb_in, catalog_nodes};
+ghost use Rattle.hfs_catalog.specs.Tree.{cat_keys};
+ghost use Rattle.hfs_btree_edits.specs.Entries.{IsPlaceOf};
 ghost use Rattle.hfs_check.specs.Sound.{AreBlocksSound};
 ghost use Rattle.hfs_call_patches.specs.TreeFiles.{IsCatalogFile};
 ghost use Rattle.hfs_call_patches.specs.Settings.{IsFileChosenBy, IsFolderChosenBy};
@@ -12,6 +14,7 @@ ghost use Rattle.hfs_call_patches.specs.SettingPatches.{SetsFInfo, SetsFileInfo,
 
 use crate::recorded::patch_record;
 use hfs_blocks::{Blocks, Patch, Run};
+use hfs_btree_edits::RecordPlace;
 use hfs_catalog::ItemRecord;
 use hfs_fields::{CatKey, DirRecord, FileRecord, Mdb};
 use std::alloc::{AllocError, Global};
@@ -46,8 +49,8 @@ pub(crate) fn at_time(mdb: &Mdb, now: u32) -> Mdb
     }
 }
 
-/// The patch that gives a file that SetFInfo chooses, of this key and this record, other first Finder
-/// bytes. The only error is want of memory.
+/// The patch that gives a file that SetFInfo chooses, of this key and this record, which stands at this
+/// place, other first Finder bytes. The only error is want of memory.
 pub fn patch_set_f_info<B: Blocks>(
     alloc: Global,
     below: &B,
@@ -55,6 +58,7 @@ pub fn patch_set_f_info<B: Blocks>(
     mdb: &Mdb,
     key: &CatKey,
     file: &FileRecord,
+    place: &RecordPlace,
     info: &[u8; 16],
     now: u32,
 ) -> Result<Patch, AllocError>
@@ -62,6 +66,7 @@ pub fn patch_set_f_info<B: Blocks>(
     requires nodes { IsCatalogFile runs.now (B.total below.now) (B.blocks below.now) }
     requires mdb { mdb.now ≡ mdb_in (B.blocks below.now) }
     requires chosen { IsFileChosenBy to_set_f_info (B.blocks below.now) key.now file.now }
+    requires place { IsPlaceOf cat_keys (catalog_nodes (B.blocks below.now)) key.now place.now }
     ensures makes { SetsFInfo result key.now file.now info.now now (B.blocks below.now) }
     ensures within { IfOk result (λ patch. AreWithin (changes patch) (B.total below.now)) }
 {
@@ -74,13 +79,14 @@ pub fn patch_set_f_info<B: Blocks>(
         below,
         runs,
         key,
+        place,
         &ItemRecord::File(changed),
         &at_time(mdb, now),
     )
 }
 
-/// The patch that gives a file that SetCatInfo chooses, of this key and this record, other dates and Finder
-/// bytes. The only error is want of memory.
+/// The patch that gives a file that SetCatInfo chooses, of this key and this record, which stands at this
+/// place, other dates and Finder bytes. The only error is want of memory.
 pub fn patch_set_file_info<B: Blocks>(
     alloc: Global,
     below: &B,
@@ -88,6 +94,7 @@ pub fn patch_set_file_info<B: Blocks>(
     mdb: &Mdb,
     key: &CatKey,
     file: &FileRecord,
+    place: &RecordPlace,
     settings: &ItemSettings,
     now: u32,
 ) -> Result<Patch, AllocError>
@@ -95,6 +102,7 @@ pub fn patch_set_file_info<B: Blocks>(
     requires nodes { IsCatalogFile runs.now (B.total below.now) (B.blocks below.now) }
     requires mdb { mdb.now ≡ mdb_in (B.blocks below.now) }
     requires chosen { IsFileChosenBy to_set_cat_info (B.blocks below.now) key.now file.now }
+    requires place { IsPlaceOf cat_keys (catalog_nodes (B.blocks below.now)) key.now place.now }
     ensures makes { SetsFileInfo result key.now file.now settings.now now (B.blocks below.now) }
     ensures within { IfOk result (λ patch. AreWithin (changes patch) (B.total below.now)) }
 {
@@ -112,13 +120,14 @@ pub fn patch_set_file_info<B: Blocks>(
         below,
         runs,
         key,
+        place,
         &ItemRecord::File(changed),
         &at_time(mdb, now),
     )
 }
 
-/// The patch that gives a folder that SetCatInfo chooses, of this key and this record, other dates and Finder
-/// bytes. The only error is want of memory.
+/// The patch that gives a folder that SetCatInfo chooses, of this key and this record, which stands at this
+/// place, other dates and Finder bytes. The only error is want of memory.
 pub fn patch_set_folder_info<B: Blocks>(
     alloc: Global,
     below: &B,
@@ -126,6 +135,7 @@ pub fn patch_set_folder_info<B: Blocks>(
     mdb: &Mdb,
     key: &CatKey,
     folder: &DirRecord,
+    place: &RecordPlace,
     settings: &ItemSettings,
     now: u32,
 ) -> Result<Patch, AllocError>
@@ -133,6 +143,7 @@ pub fn patch_set_folder_info<B: Blocks>(
     requires nodes { IsCatalogFile runs.now (B.total below.now) (B.blocks below.now) }
     requires mdb { mdb.now ≡ mdb_in (B.blocks below.now) }
     requires chosen { IsFolderChosenBy to_set_cat_info (B.blocks below.now) key.now folder.now }
+    requires place { IsPlaceOf cat_keys (catalog_nodes (B.blocks below.now)) key.now place.now }
     ensures makes { SetsFolderInfo result key.now folder.now settings.now now (B.blocks below.now) }
     ensures within { IfOk result (λ patch. AreWithin (changes patch) (B.total below.now)) }
 {
@@ -150,12 +161,14 @@ pub fn patch_set_folder_info<B: Blocks>(
         below,
         runs,
         key,
+        place,
         &ItemRecord::Folder(changed),
         &at_time(mdb, now),
     )
 }
 
-/// The patch that locks a file that SetFLock chooses, of this key and this record, or unlocks it. The only error is want of memory.
+/// The patch that locks a file that SetFLock chooses, of this key and this record, which stands at this
+/// place, or unlocks it. The only error is want of memory.
 pub fn patch_set_lock<B: Blocks>(
     alloc: Global,
     below: &B,
@@ -163,6 +176,7 @@ pub fn patch_set_lock<B: Blocks>(
     mdb: &Mdb,
     key: &CatKey,
     file: &FileRecord,
+    place: &RecordPlace,
     locked: bool,
     now: u32,
 ) -> Result<Patch, AllocError>
@@ -170,6 +184,7 @@ pub fn patch_set_lock<B: Blocks>(
     requires nodes { IsCatalogFile runs.now (B.total below.now) (B.blocks below.now) }
     requires mdb { mdb.now ≡ mdb_in (B.blocks below.now) }
     requires chosen { IsFileChosenBy file_to_change (B.blocks below.now) key.now file.now }
+    requires place { IsPlaceOf cat_keys (catalog_nodes (B.blocks below.now)) key.now place.now }
     ensures makes { SetsLock result locked key.now file.now now (B.blocks below.now) }
     ensures within { IfOk result (λ patch. AreWithin (changes patch) (B.total below.now)) }
 {
@@ -182,6 +197,7 @@ pub fn patch_set_lock<B: Blocks>(
         below,
         runs,
         key,
+        place,
         &ItemRecord::File(changed),
         &at_time(mdb, now),
     )

@@ -10,12 +10,9 @@ use Rattle.hfs_scans.specs.Members.{In}
 use Rattle.hfs_scans.proofs.MemberLemmas.{each_in}
 use Rattle.hfs_btree_edits.specs.Edits.{with_pair, without_pair, with_replaced}
 use Rattle.hfs_catalog_edits.specs.Swaps.{Swaps}
+use Rattle.hfs_catalog_edits.proofs.SwapLemmas.{deeper}
 use Rattle.hfs_model.proofs.Facts.{same_some}
 use Rattle.hfs_model.proofs.InOrder.{none_some}
-
--- one more element in front
-deeper : {X : Type 0} (x : X) (went come : Option X) (old new : List X) → Swaps went come old new → Swaps went come (x ∷ old) (x ∷ new)
-deeper x went come old new s = record { before = x ∷ s.before; behind = s.behind; was = ap (λ l. x ∷ l) s.was; is = ap (λ l. x ∷ l) s.is }
 
 module _ {K : Type 0} (cmp : Order K) (key : K) (body : List ℕ) where
   pub with_pair-swaps : (ps : Pairs K) → Swaps None (Some (key, body)) ps (with_pair cmp key body ps)

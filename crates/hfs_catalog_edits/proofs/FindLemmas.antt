@@ -16,6 +16,7 @@ use Rattle.hfs_fields.specs.Order.{name_cmp}
 use Rattle.hfs_fields.specs.Records.{is_item, is_thread, begins_thread, thread_record_of}
 use Rattle.hfs_scans.specs.Each.{Each}
 use Rattle.hfs_scans.specs.Members.{In}
+use Rattle.hfs_scans.proofs.MemberLemmas.{each_in}
 use Rattle.hfs_scans.proofs.ElementLemmas.{each-mono}
 use Rattle.hfs_btree.specs.Pairs.{Rises, lookup}
 use Rattle.hfs_catalog.specs.Records.{Record, Catalog, is_thread_of}
@@ -52,6 +53,10 @@ none_each key (r ∷ rest) none = elim (has_key key r) as (λ (b : Bool). has_ke
   where
     some_none : (x : List ℕ) → Some x ≡ None → ⊥
     some_none x e = cc
+
+-- a record that stands there doesn't have a key under which none is found
+pub other_key : (key : CatKey) (catalog : Catalog) (r : Record) → lookup cat_cmp key catalog ≡ None → In r catalog → has_key key r ≡ false
+other_key key catalog r none there = each_in (λ (q : Record). has_key key q ≡ false) catalog r (none_each key catalog none) there
 
 each_none : (key : CatKey) (catalog : Catalog) → Each (λ r. has_key key r ≡ false) catalog → lookup cat_cmp key catalog ≡ None
 each_none key [] h = refl

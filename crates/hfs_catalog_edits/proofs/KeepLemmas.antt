@@ -1,5 +1,5 @@
 -- Lemmas about the definitions of specs/Keeps.antt.
-use Rattle.std.proofs.Common.{◌≡◌, ◌⊎◌, inl, inr, ⊎_elim, ◌+◌, List, [], ◌∷◌, ◌++◌, refl, sym, ◌∙◌, arith}
+use Rattle.std.proofs.Common.{◌≡◌, ◌⊎◌, inl, inr, ⊎_elim, List, [], ◌∷◌, ◌++◌, refl, sym, ◌∙◌, arith}
 use Rattle.hfs_fields.specs.declared.key.CatKey.{CatKey}
 use Rattle.hfs_scans.specs.Each.{Each}
 use Rattle.hfs_scans.specs.Members.{In}
@@ -107,3 +107,23 @@ keeps_more more given old new h = record {
       each-key-mono cat_keys old new (λ k. In k (given ++ tree_keys cat_keys old)) (λ k. In k ((more ++ given) ++ tree_keys cat_keys old))
       (λ k there. three_parts k more given (tree_keys cat_keys old) (in_right k more (given ++ tree_keys cat_keys old) there)) h.keys;
 }
+
+-- the keys that came may be named in another turn
+pub keeps_turned : (first second : List CatKey) (old new : Store) → KeepsCatalog (first ++ second) old new → KeepsCatalog (second ++ first) old new
+keeps_turned first second old new h = record {
+  sound = h.sound;
+  exact = h.exact;
+  frame = h.frame;
+  free = h.free;
+  behind = h.behind;
+  keys = each-key-mono cat_keys old new (λ k. In k ((first ++ second) ++ tree_keys cat_keys old)) (λ k. In k ((second ++ first) ++ tree_keys cat_keys old)) by h.keys;
+}
+  where
+    by : (k : CatKey) → In k ((first ++ second) ++ tree_keys cat_keys old) → In k ((second ++ first) ++ tree_keys cat_keys old)
+    by k there =
+        ⊎_elim
+        (λ (came : In k (first ++ second)).
+        in_left k (second ++ first) (tree_keys cat_keys old)
+        (⊎_elim (λ (here : In k first). in_right k second first here) (λ (here : In k second). in_left k second first here) (in_parts k first second came)))
+        (λ (was : In k (tree_keys cat_keys old)). in_right k (second ++ first) (tree_keys cat_keys old) was)
+        (in_parts k (first ++ second) (tree_keys cat_keys old) there)

@@ -6,6 +6,7 @@ pub mod BodyLemmas
 pub mod EditedLemmas
 pub mod FindLemmas
 pub mod KeepLemmas
-mod RoomLemmas
+pub mod NamedLemmas
+pub mod RoomLemmas
 pub mod RootLemmas
 pub mod SwapLemmas

@@ -2,7 +2,9 @@
 use Rattle.std.proofs.Common.{List, arith}
 use Rattle.hfs_btree.specs.Tree.{Store}
 use Rattle.hfs_fields.specs.declared.key.CatKey.{CatKey}
+use Rattle.hfs_catalog.specs.Records.{Record}
 use Rattle.hfs_catalog_edits.specs.Keeps.{KeepsCatalog}
+use Rattle.hfs_catalog_edits.specs.RecordEdits.{RecordSet}
 use Rattle.hfs_catalog_edits.specs.Rooms.{IsInFile, HasRoom, HasRoomForTwo, TakesFewNodes, TakesNoNodes}
 
 pub still_in_file : (given : List CatKey) (old new : Store) → KeepsCatalog given old new → IsInFile old → IsInFile new
@@ -19,3 +21,11 @@ room_for_second old new room took = record { shallow = omega (arith, room.shallo
 -- where a record went, there is as much room as before
 pub room_after : (old new : Store) → HasRoom old → TakesNoNodes old new → HasRoom new
 room_after old new room took = record { shallow = omega (arith, room.shallow, took.depth); free = omega (arith, room.free, took.free, took.depth) }
+
+-- for two as well
+pub room_for_two_after : (old new : Store) → HasRoomForTwo old → TakesNoNodes old new → HasRoomForTwo new
+room_for_two_after old new room took = record { shallow = omega (arith, room.shallow, took.depth); free = omega (arith, room.free, took.free, took.depth) }
+
+-- a record that is set takes none
+pub set_takes_none : (r : Record) (old new : Store) → RecordSet r old new → TakesNoNodes old new
+set_takes_none r old new set = record { free = omega (arith, set.free); depth = omega (arith, set.depth) }

@@ -1,5 +1,5 @@
 -- Lemmas about the definitions of specs/Roots.antt.
-use Rattle.std.proofs.Common.{◌≡◌, ◌⊎◌, ⊎_elim, ℕ, ◌≤◌, ◌<◌, List, [], ◌∷◌, ◌++◌, sym, ap, subst, arith, Option}
+use Rattle.std.proofs.Common.{◌≡◌, inl, inr, ⊎_elim, ℕ, ◌≤◌, ◌<◌, List, [], ◌∷◌, ◌++◌, refl, sym, ap, ◌∙◌, subst, arith, Option, Some}
 use Rattle.std.specs.Bool.{IsTrue}
 use Rattle.std.specs.Ordering.{ordering_then}
 use Rattle.std.specs.declared.cmp.Ordering.{Ordering}
@@ -58,6 +58,21 @@ root_stays went come old new swap other has = record {
   there = swapped_in went come old new swap has.root (λ is. let high = other has.root is in omega (arith, high, has.parent)) has.there;
   parent = has.parent;
 }
+
+-- the root stays, also where a record of the same parent stands in its place
+pub root_set : (r s : Record) (old new : Catalog) → Swaps (Some r) (Some s) old new → s.0.parent ≡ r.0.parent → HasRoot old → HasRoot new
+root_set r s old new swap same has =
+    ⊎_elim
+    (λ (before : In has.root swap.before). kept (in_left has.root swap.before (s ∷ swap.behind) before))
+    (λ (rest : In has.root (r ∷ swap.behind)).
+    ⊎_elim
+    (λ (is : r ≡ has.root). record { root = s; there = subst (In s) (sym swap.is) (in_right s swap.before (s ∷ swap.behind) (inl refl)); parent = same ∙ ap (λ (q : Record). q.0.parent) is ∙ has.parent })
+    (λ (behind : In has.root swap.behind). kept (in_right has.root swap.before (s ∷ swap.behind) (inr behind)))
+    rest)
+    (in_parts has.root swap.before (r ∷ swap.behind) (subst (In has.root) swap.was has.there))
+  where
+    kept : In has.root (swap.before ++ (s ∷ swap.behind)) → HasRoot new
+    kept there = record { root = has.root; there = subst (In has.root) (sym swap.is) there; parent = has.parent }
 
 -- ---- keys that are above the first
 

@@ -130,3 +130,41 @@ module _ {X : Type 0} (P : X → Type 0) where
       let parts : Each P (s.before ++ (list_of went ++ s.behind)) = subst (Each P) s.was each in
       let back : Each P s.behind = each-right P (list_of went) s.behind (each-right P s.before (list_of went ++ s.behind) parts) in
       subst (Each P) (sym s.is) (each-append P s.before (list_of come ++ s.behind) (each-left P s.before (list_of went ++ s.behind) parts) (each-append P (list_of come) s.behind here back))
+
+-- one more element in front
+pub deeper : {X : Type 0} (x : X) (went come : Option X) (old new : List X) → Swaps went come old new → Swaps went come (x ∷ old) (x ∷ new)
+deeper x went come old new s = record { before = x ∷ s.before; behind = s.behind; was = ap (λ l. x ∷ l) s.was; is = ap (λ l. x ∷ l) s.is }
+
+-- ---- one that is set, and then another that comes
+
+first_of : {X : Type 0} (x y : X) (xs ys : List X) → x ∷ xs ≡ y ∷ ys → x ≡ y
+first_of x y xs ys e = cc
+
+rest_of : {X : Type 0} (x y : X) (xs ys : List X) → x ∷ xs ≡ y ∷ ys → xs ≡ ys
+rest_of x y xs ys e = cc
+
+module _ {X : Type 0} (r s f : X) where
+  -- one came, and then another one stands in the place of a third
+  abbrev came_then_set : List X → List X → Type 0
+  came_then_set old new = (middle : List X) × Swaps None (Some f) old middle × Swaps (Some r) (Some s) middle new
+
+  by_places : (a b c d : List X) → a ++ (s ∷ b) ≡ c ++ d → came_then_set (a ++ (r ∷ b)) (c ++ (f ∷ d))
+  by_places a b [] d e = (f ∷ (a ++ (r ∷ b)), record { before = []; behind = a ++ (r ∷ b); was = refl; is = refl }, record { before = f ∷ a; behind = b; was = refl; is = ap (λ l. f ∷ l) (sym e) })
+  by_places [] b (x ∷ c) d e = (
+    r ∷ (c ++ (f ∷ d)),
+    record { before = r ∷ c; behind = d; was = ap (λ l. r ∷ l) (rest_of s x b (c ++ d) e); is = refl },
+    record { before = []; behind = c ++ (f ∷ d); was = refl; is = ap (λ y. y ∷ (c ++ (f ∷ d))) (sym (first_of s x b (c ++ d) e)) },
+  )
+  by_places (y ∷ a) b (x ∷ c) d e =
+      let rest = by_places a b c d (rest_of y x (a ++ (s ∷ b)) (c ++ d) e) in (
+        y ∷ rest.0,
+        deeper y None (Some f) (a ++ (r ∷ b)) rest.0 rest.1,
+        subst (λ (z : X). Swaps (Some r) (Some s) (y ∷ rest.0) (z ∷ (c ++ (f ∷ d)))) (first_of y x (a ++ (s ∷ b)) (c ++ d) e) (deeper y (Some r) (Some s) rest.0 (c ++ (f ∷ d)) rest.2),
+      )
+
+  -- where one was set before another came, the other may as well have come first
+  pub set_then_came : (old first new : List X) → Swaps (Some r) (Some s) old first → Swaps None (Some f) first new → (middle : List X) × Swaps None (Some f) old middle × Swaps (Some r) (Some s) middle new
+  set_then_came old first new set came =
+      subst (λ (p : List X × List X). (middle : List X) × Swaps None (Some f) p.0 middle × Swaps (Some r) (Some s) middle p.1)
+      (λ i. (sym set.was i, sym came.is i))
+      (by_places set.before set.behind came.before came.behind (sym set.is ∙ came.was))

@@ -1,5 +1,5 @@
 -- One element that goes out of a list, comes into it, or stands in place of another.
-use Rattle.std.proofs.Common.{◌≡◌, ℕ, ◌+◌, Bool, cond, List, [], ◌∷◌, ◌++◌, Option, Some, None}
+use Rattle.std.proofs.Common.{◌≡◌, ℕ, Bool, cond, List, [], ◌∷◌, ◌++◌, Option, Some, None}
 
 -- an element, or none
 abbrev pub list_of : {X : Type 0} → Option X → List X

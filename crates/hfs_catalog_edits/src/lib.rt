@@ -14,5 +14,5 @@ pub use dropping::drop_item;
 pub use keys::thread_key;
 pub use new_items::{add_dir, add_file};
 pub use rekeying::rekey;
-pub use settings::{set_record, set_valence};
+pub use settings::{set_record, set_record_at, set_valence, set_valence_at};
 pub use threads::{add_thread, drop_thread};

@@ -11,7 +11,7 @@ ghost use Rattle.hfs_catalog_edits.specs.RecordEdits.{RecordCame, RecordSet};
 ghost use Rattle.hfs_catalog_edits.specs.Rooms.{IsInFile, HasRoom};
 ghost use Rattle.hfs_catalog_edits.specs.Roots.{HasRoot};
 
-use hfs_btree_edits::{NodesMut, replace, replace_at};
+use hfs_btree_edits::{NodesMut, RecordPlace, replace, replace_at};
 use hfs_btree_insertion::insert;
 use hfs_btree_removal::remove;
 use hfs_fields::CatKey;
@@ -67,22 +67,21 @@ pub(crate) fn set<N: NodesMut>(
     replace(alloc, nodes, key, body)
 }
 
-/// Puts a record in the place of the one under its key, which was found: record `place` of node `n`, which was read into `bytes`.
+/// Puts a record in the place of the one under its key, whose body is no shorter, and whose place was found. The key is spelled as it
+/// is given.
 pub(crate) fn set_at<N: NodesMut>(
     alloc: Global,
     nodes: &mut N,
     key: &CatKey,
     body: &[u8],
-    n: u32,
-    bytes: &[u8; 512],
-    place: usize,
+    place: &RecordPlace,
 ) -> Result<(), AllocError>
     requires tree { IsCatalogTree (N.nodes nodes.old) }
     requires allowed { IsTrue (is_cat_body_len (length body.now)) }
     requires there { IsNoLonger body.now (lookup cat_cmp key.now (catalog_of (N.nodes nodes.old))) }
-    requires place { IsPlaceOf cat_keys (N.nodes nodes.old) key.now bytes.now n place }
+    requires place { IsPlaceOf cat_keys (N.nodes nodes.old) key.now place.now }
     ensures set { Edits result (RecordSet (key.now, body.now)) N.nodes nodes.old nodes.new }
     ensures kept { OnOk result (N.kept nodes.new ≡ N.kept nodes.old) }
 {
-    replace_at(alloc, nodes, key, body, n, bytes, place)
+    replace_at(alloc, nodes, key, body, place)
 }

@@ -1,17 +1,42 @@
 //! Records of items that are written anew in their place.
 ghost use Rattle.std.specs.Prelude.{◌≡◌, OnOk};
-ghost use Rattle.hfs_catalog.specs.Tree.{IsCatalogTree};
+ghost use Rattle.hfs_catalog.specs.Tree.{IsCatalogTree, cat_keys};
 ghost use Rattle.hfs_btree_edits.specs.Edits.{Edits};
+ghost use Rattle.hfs_btree_edits.specs.Entries.{IsPlaceOf};
 ghost use Rattle.hfs_catalog_edits.specs.Bodies.{IsItemValue};
 ghost use Rattle.hfs_catalog_edits.specs.ItemEdits.{IsFolderAt, IsSameKindAt, ItemSet, HasValenceSet};
 
 use crate::bodies::{file_body, folder_body};
-use crate::one_record::{set, set_at};
+use crate::one_record::set_at;
 use hfs_btree::{body_of, entry_in};
-use hfs_btree_edits::{NodesMut, find_place};
+use hfs_btree_edits::{NodesMut, RecordPlace, find_place};
 use hfs_catalog::ItemRecord;
 use hfs_fields::{CatKey, DirRecord};
 use std::alloc::{AllocError, Global};
+
+/// Writes a folder's or a file's record under its key, where there is one of the same kind, whose place was found. No node comes or
+/// goes.
+///
+/// At `AllocError` nothing is said of the nodes.
+pub fn set_record_at<N: NodesMut>(
+    alloc: Global,
+    nodes: &mut N,
+    key: &CatKey,
+    item: &ItemRecord,
+    place: &RecordPlace,
+) -> Result<(), AllocError>
+    requires tree { IsCatalogTree (N.nodes nodes.old) }
+    requires there { IsSameKindAt (N.nodes nodes.old) key.now item.now }
+    requires place { IsPlaceOf cat_keys (N.nodes nodes.old) key.now place.now }
+    ensures set { Edits result (ItemSet key.now item.now) N.nodes nodes.old nodes.new }
+    ensures value { OnOk result (IsItemValue item.now) }
+    ensures kept { OnOk result (N.kept nodes.new ≡ N.kept nodes.old) }
+{
+    match item {
+        ItemRecord::Folder(folder) => set_at(alloc, nodes, key, &folder_body(folder), place),
+        ItemRecord::File(file) => set_at(alloc, nodes, key, &file_body(file), place),
+    }
+}
 
 /// Writes a folder's or a file's record under its key, where there is one of the same kind. No node comes or goes.
 ///
@@ -28,10 +53,40 @@ pub fn set_record<N: NodesMut>(
     ensures value { OnOk result (IsItemValue item.now) }
     ensures kept { OnOk result (N.kept nodes.new ≡ N.kept nodes.old) }
 {
-    match item {
-        ItemRecord::Folder(folder) => set(alloc, nodes, key, &folder_body(folder)),
-        ItemRecord::File(file) => set(alloc, nodes, key, &file_body(file)),
-    }
+    let place = find_place(nodes, key);
+    set_record_at(alloc, nodes, key, item, &place)
+}
+
+/// Gives the folder under a key, the place of whose record was found, this valence, and `now` as the moment of its last change. All
+/// else of its record stays.
+///
+/// At `AllocError` nothing is said of the nodes.
+pub fn set_valence_at<N: NodesMut>(
+    alloc: Global,
+    nodes: &mut N,
+    key: &CatKey,
+    valence: u16,
+    now: u32,
+    place: &RecordPlace,
+) -> Result<(), AllocError>
+    requires tree { IsCatalogTree (N.nodes nodes.old) }
+    requires there { IsFolderAt (N.nodes nodes.old) key.now }
+    requires place { IsPlaceOf cat_keys (N.nodes nodes.old) key.now place.now }
+    ensures set { Edits result (HasValenceSet key.now valence now) N.nodes nodes.old nodes.new }
+    ensures kept { OnOk result (N.kept nodes.new ≡ N.kept nodes.old) }
+{
+    let Some(entry) = entry_in(&place.bytes, place.at) else {
+        unreachable!()
+    };
+    let Some(folder) = DirRecord::read(body_of::<CatKey>(entry)) else {
+        unreachable!()
+    };
+    let changed = DirRecord {
+        valence,
+        modified: now,
+        ..folder
+    };
+    set_at(alloc, nodes, key, &folder_body(&changed), place)
 }
 
 /// Gives the folder under a key this valence, and `now` as the moment of its last change. All else of its record stays.
@@ -49,18 +104,6 @@ pub fn set_valence<N: NodesMut>(
     ensures set { Edits result (HasValenceSet key.now valence now) N.nodes nodes.old nodes.new }
     ensures kept { OnOk result (N.kept nodes.new ≡ N.kept nodes.old) }
 {
-    let mut bytes = [0; 512];
-    let (n, place) = find_place(nodes, key, &mut bytes);
-    let Some(entry) = entry_in(&bytes, place) else {
-        unreachable!()
-    };
-    let Some(folder) = DirRecord::read(body_of::<CatKey>(entry)) else {
-        unreachable!()
-    };
-    let changed = DirRecord {
-        valence,
-        modified: now,
-        ..folder
-    };
-    set_at(alloc, nodes, key, &folder_body(&changed), n, &bytes, place)
+    let place = find_place(nodes, key);
+    set_valence_at(alloc, nodes, key, valence, now, &place)
 }

@@ -1,6 +1,8 @@
 -- The catalog is opened, takes the file, and is closed with the counts.
 use Rattle.std.proofs.Common.{sym, subst}
-use Rattle.hfs_catalog.specs.Tree.{IsCatalogTree}
+use Rattle.hfs_btree.specs.Tree.{Store}
+use Rattle.hfs_btree_edits.specs.Entries.{IsPlaceOf}
+use Rattle.hfs_catalog.specs.Tree.{IsCatalogTree, cat_keys}
 use Rattle.hfs_call_patches.specs.NewItems.{TakesItem}
 use Rattle.hfs_call_patches.proofs.Creations.{file_in, fits, short, takes_item, file_keys, file_change}
 use Rattle.hfs_changes.proofs.LawsProved.{creation_fits, creation_is_free-folder, creation_is_free-key, catalog_edits_are_steps, create_makes}
@@ -29,6 +31,10 @@ put_file-requires-clause-place g c =
     subst (TakesItem c.args.dir c.args.place.now) (sym c.open_catalog-nodes.ensures.nodes)
     (takes_item (g.B.Blocks.total c.args.below.now) c.args.dir (g.B.Blocks.blocks c.args.below.now) c.args.runs.now c.args.mdb.now c.args.place.now c.requires.ready
     creation_is_free-folder creation_is_free-key)
+
+pub put_file-requires-clause-at : goal.put_file-requires-clause-at
+put_file-requires-clause-at g c =
+    subst (λ (nodes : Store). IsPlaceOf cat_keys nodes c.args.place.now.folder c.args.folder_at.now) (sym c.open_catalog-nodes.ensures.nodes) c.requires.at
 
 pub put_file-requires-clause-short : goal.put_file-requires-clause-short
 put_file-requires-clause-short g c =

@@ -15,23 +15,23 @@ pub returns-in-Err : goal.returns-in-Err
 returns-in-Err g c =
     let v = volume_in (g.B.Blocks.blocks c.args.self.now) in
     let refused = refused_edit (call.DirCreate c.args.dir c.args.name.now c.args.now) (g.B.Blocks.blocks c.args.self.now) c.in-Err.code
-    (creation_code v c.args.dir c.args.name.now c.in-Err.code c.in-Err.ensures) (folder_refused v c.args.dir c.args.now c.args.name.now c.in-Err.code c.in-Err.ensures) in
+    (creation_code v c.args.dir c.args.name.now c.in-Err.code c.in-Err.ensures.chosen) (folder_refused v c.args.dir c.args.now c.args.name.now c.in-Err.code c.in-Err.ensures.chosen) in
     search rules
 
 pub returns-in-Some : goal.returns-in-Some
 returns-in-Some g c =
     let old = g.B.Blocks.blocks c.args.self.now in
     full_edit (call.DirCreate c.args.dir c.args.name.now c.args.now) old two_records (λ depth. refl) (g.B.Blocks.total c.args.self.now) c.in-Some.refusal (answer.Id (mdb_in old).next_id)
-    c.in-Some.ensures.refusal (folder_answered (volume_in old) c.args.dir c.args.now c.args.name.now _ c.in-Ok.ensures.is)
+    c.in-Some.ensures.refusal (folder_answered (volume_in old) c.args.dir c.args.now c.args.name.now _ c.in-Ok.ensures.chosen.is)
 
 pub add_new_folder-requires-clause-ready : goal.add_new_folder-requires-clause-ready
 add_new_folder-requires-clause-ready g c =
     ready_for g.B.Blocks.blocks g.B.Blocks.total c.args.self.now c.self.inside.blocks.now c.self.view_is c.self.inside.mdb.now c.self.inside.extents.now c.self.inside.catalog.now
-    c.args.dir c.args.name.now c.in-Ok.place c.self.invariant c.in-Ok.ensures c.catalog_is_in_file.ensures c.in_default.ensures.records
+    c.args.dir c.args.name.now c.in-Ok.found.place c.self.invariant c.in-Ok.ensures.chosen c.catalog_is_in_file.ensures c.in_default.ensures.records
 
 pub returns : goal.returns
 returns g c =
     let old = g.B.Blocks.blocks c.args.self.now in
-    change_seen g.B.Blocks.blocks g.B.Blocks.total c.args.self.now c.self.inside.blocks.now c.self.view_is (λ name. call.DirCreate c.args.dir name c.args.now) c.in-Ok.place.name c.args.name.now c.in_ok-change.change
-    c.in-Ok.ensures.own_name c.in_ok-change.ensures
+    change_seen g.B.Blocks.blocks g.B.Blocks.total c.args.self.now c.self.inside.blocks.now c.self.view_is (λ name. call.DirCreate c.args.dir name c.args.now) c.in-Ok.found.place.name c.args.name.now c.in_ok-change.change
+    c.in-Ok.ensures.chosen.own_name c.in_ok-change.ensures
     (enough_nodes (call.DirCreate c.args.dir c.args.name.now c.args.now) old two_records (λ depth. refl) c.in_default.ensures.refusal)

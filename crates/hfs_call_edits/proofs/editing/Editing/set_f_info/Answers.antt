@@ -11,15 +11,15 @@ pub patch_set_f_info-requires-clause-chosen : goal.patch_set_f_info-requires-cla
 patch_set_f_info-requires-clause-chosen g c = record {
   dir = c.args.dir;
   name = c.args.name.now;
-  chosen = file_choice g.B.Blocks.blocks g.B.Blocks.total c.args.self.now c.self.inside.blocks.now c.self.view_is (λ v. to_set_f_info v c.args.dir c.args.name.now) c.in-Ok.chosen.0 c.in-Ok.chosen.1
-      c.in-Ok.ensures.choice;
+  chosen = file_choice g.B.Blocks.blocks g.B.Blocks.total c.args.self.now c.self.inside.blocks.now c.self.view_is (λ v. to_set_f_info v c.args.dir c.args.name.now) c.in-Ok.placed.key c.in-Ok.placed.file
+      c.in-Ok.ensures.chosen.choice;
 }
 
 pub returns-in-Err : goal.returns-in-Err
 returns-in-Err g c =
     let old = g.B.Blocks.blocks c.args.self.now in
     let refused = refusal_of (call.SetFInfo c.args.dir c.args.name.now c.args.info.now c.args.now) old (λ depth. refl) c.in-Err.code
-    (f_info_refused (volume_in old) c.args.dir c.args.now c.args.name.now c.args.info.now c.in-Err.code c.in-Err.ensures) in
+    (f_info_refused (volume_in old) c.args.dir c.args.now c.args.name.now c.args.info.now c.in-Err.code c.in-Err.ensures.chosen) in
     search rules
 
 pub returns : goal.returns
@@ -27,10 +27,10 @@ returns g c =
     let blocks = g.B.Blocks.blocks in
     let value = c.args.self.now in
     let own = c.self.inside.blocks.now in
-    let chosen = c.in-Ok.ensures.choice in
+    let chosen = c.in-Ok.ensures.chosen.choice in
     change_of blocks g.B.Blocks.total value own c.self.view_is catalog_edits_are_steps (call.SetFInfo c.args.dir c.args.name.now c.args.info.now c.args.now) (λ depth. refl)
     c.in_ok-patch.patch c.args.now c.change.result c.change.ensures
     (editing_now blocks g.B.Blocks.total value own c.self.view_is _ _ _ c.self.invariant).sound c.in_ok-patch.ensures.within
     (c.in_ok-patch.ensures.makes c.args.dir c.args.name.now
-    (file_choice blocks g.B.Blocks.total value own c.self.view_is (λ v. to_set_f_info v c.args.dir c.args.name.now) c.in-Ok.chosen.0 c.in-Ok.chosen.1 chosen))
+    (file_choice blocks g.B.Blocks.total value own c.self.view_is (λ v. to_set_f_info v c.args.dir c.args.name.now) c.in-Ok.placed.key c.in-Ok.placed.file chosen))
     (f_info_accepted (volume_in (blocks value)) c.args.dir c.args.now c.args.name.now c.args.info.now _ chosen.choice.is)
