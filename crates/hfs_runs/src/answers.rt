@@ -1,40 +1,65 @@
 //! The text of the answers to a script.
-ghost use Rattle.std.specs.Prelude.{◌≡◌, IfOk, option_copied, string_bytes};
+ghost use Rattle.std.specs.Prelude.{◌≡◌, ◌++◌, None, IfOk, OnOk, codes, option_copied, string_bytes};
+ghost use Rattle.std.specs.Fmt.{decimal};
 ghost use Rattle.hfs_scripts.specs.Texts.{caller_text};
+ghost use Rattle.hfs_texts.specs.Texts.{Gains};
 ghost use Rattle.hfs_runs.specs.Answers.{answer_text, answers_text, is_whole, kept_replies};
 
 use crate::numbering::Asked;
 use crate::replies::Replies;
 use hfs_model::Reply;
 use hfs_scripts::Caller;
-use hfs_texts::reply_text;
+use hfs_texts::{Show, push_reply};
 use std::alloc::{AllocError, Global};
 
-// A caller's text: a worker's number, or `v` and a viewer's.
-#[tactic(auto, using(crate::proofs::Texts::worker_text, crate::proofs::Texts::viewer_text))]
-pub(crate) fn who(alloc: Global, caller: Caller) -> Result<String, AllocError>
-    ensures { IfOk result (λ text. string_bytes text ≡ caller_text caller) }
+// Appends a viewer: `v` and its number.
+fn push_viewer(text: &mut String, number: u32) -> Result<(), AllocError>
+    ensures { OnOk result (Gains text.old text.new (codes "v" ++ decimal number)) }
 {
-    match caller {
-        Caller::Worker(number) => format!(in alloc; "{number}"),
-        Caller::Viewer(number) => format!(in alloc; "v{number}"),
+    text.push('v')?;
+    number.push_to(text)
+}
+
+/// A caller, by its text: a worker's number, or `v` and a viewer's.
+#[derive(Drop)]
+pub(crate) struct ShownCaller(pub(crate) Caller);
+
+impl Show for ShownCaller {
+    ghost shown = { λ caller. caller_text caller.0 };
+
+    #[tactic(auto, using(crate::proofs::Texts::worker_text, crate::proofs::Texts::viewer_text))]
+    fn push_to(&self, text: &mut String) -> Result<(), AllocError> {
+        match self.0 {
+            Caller::Worker(number) => number.push_to(text),
+            Caller::Viewer(number) => push_viewer(text, number),
+        }
     }
 }
 
-// The lines of the answer to one call; where there is no reply, a line with the code `none`.
+// Appends the line of a call without a reply, which has the code `none`.
 #[tactic(auto, unfolding(crate::specs::Answers::answer_text))]
-pub(crate) fn answer_text(
-    alloc: Global,
+fn push_unanswered(text: &mut String, asked: Asked) -> Result<(), AllocError>
+    ensures { OnOk result (Gains text.old text.new (answer_text asked None)) }
+{
+    ShownCaller(asked.caller).push_to(text)?;
+    text.push('\t')?;
+    asked.number.push_to(text)?;
+    text.push_str("\tnone\t-\n")
+}
+
+// Appends the lines of the answer to one call.
+#[tactic(auto, unfolding(crate::specs::Answers::answer_text))]
+pub(crate) fn push_answer_text(
+    text: &mut String,
     asked: Asked,
     reply: Option<&Reply>,
-) -> Result<String, AllocError>
-    ensures { IfOk result (λ text.
-        string_bytes text ≡ answer_text asked (option_copied reply.entry)) }
+) -> Result<(), AllocError>
+    ensures { OnOk result (Gains text.old text.new
+        (answer_text asked (option_copied reply.entry))) }
 {
-    let who = who(alloc, asked.caller)?;
     match reply {
-        Some(reply) => reply_text(alloc, who.as_str(), asked.number, reply),
-        None => format!(in alloc; "{}\t{}\tnone\t-\n", who.as_str(), asked.number),
+        Some(reply) => push_reply(text, ShownCaller(asked.caller), asked.number, reply),
+        None => push_unanswered(text, asked),
     }
 }
 
@@ -54,7 +79,7 @@ pub fn answers_text(
     for asked in lines {
         let reply = replies.reply_to(*asked);
         whole = whole && reply.is_some();
-        text.push_str(answer_text(alloc, *asked, reply)?.as_str())?;
+        push_answer_text(&mut text, *asked, reply)?;
     }
     Ok((text, whole))
 }

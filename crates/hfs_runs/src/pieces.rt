@@ -1,10 +1,11 @@
 //! The answers to a script in pieces, in which long bytes have no digits yet.
 ghost use Rattle.std.specs.Prelude.{◌≡◌, ◌++◌, codes, Some, IfOk, OnOk, IfSome, string_bytes};
+ghost use Rattle.hfs_scripts.specs.Texts.{caller_text};
 ghost use Rattle.hfs_texts.specs.Lines.{hex_text};
 ghost use Rattle.hfs_runs.specs.Answers.{answer_text, answers_text, is_whole, kept_replies, reply_to};
 ghost use Rattle.hfs_runs.specs.Pieces.{HasPieceMore, digits_head, pieces_text, text_of_pieces, value_bytes};
 
-use crate::answers::{answer_text, who};
+use crate::answers::{ShownCaller, push_answer_text};
 use crate::numbering::Asked;
 use crate::replies::Replies;
 use hfs_model::{Reply, Value};
@@ -32,13 +33,14 @@ pub struct Answers {
 
 /// What stands before the digits in the lines of a reply with bytes.
 #[tactic(auto, unfolding(crate::specs::Pieces::digits_head))]
-fn digits_head(alloc: Global, who: &str, number: u64, reply: &Reply) -> Result<String, AllocError>
-    ensures { IfOk result (λ text. string_bytes text ≡ digits_head who.now number reply.now.code) }
+fn digits_head(alloc: Global, asked: Asked, reply: &Reply) -> Result<String, AllocError>
+    ensures { IfOk result (λ text. string_bytes text
+        ≡ digits_head (caller_text asked.caller) asked.number reply.now.code) }
 {
     let mut text = String::new(alloc);
-    text.push_str(who)?;
+    ShownCaller(asked.caller).push_to(&mut text)?;
     text.push('\t')?;
-    number.push_to(&mut text)?;
+    asked.number.push_to(&mut text)?;
     text.push('\t')?;
     reply.code.push_to(&mut text)?;
     text.push_str("\tbytes ")?;
@@ -55,8 +57,7 @@ fn long_head(alloc: Global, asked: Asked, reply: &Reply) -> Result<Option<String
             if bytes.as_slice().len() < LONG {
                 return Ok(None);
             }
-            let who = who(alloc, asked.caller)?;
-            let head = digits_head(alloc, who.as_str(), asked.number, reply)?;
+            let head = digits_head(alloc, asked, reply)?;
             Ok(Some(head))
         }
         Value::Nothing | Value::Id(_) | Value::One(_) | Value::Many(_) => Ok(None),
@@ -101,7 +102,7 @@ fn push_answer(
         }
     }
     let mut text = text;
-    text.push_str(answer_text(alloc, asked, reply)?.as_str())?;
+    push_answer_text(&mut text, asked, reply)?;
     Ok(text)
 }
 

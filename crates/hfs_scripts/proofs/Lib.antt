@@ -1,6 +1,7 @@
 mod Digits
 mod Written
 mod FirstNine
+mod LineFeed
 mod FirstLine
 mod Steps
 mod Parting

@@ -2,13 +2,14 @@
 ghost use Rattle.std.specs.Prelude.{◌≡◌, IfOk, take};
 ghost use Rattle.hfs_scripts.specs.Fields.{fields_of, bytes_of, fork_of, texts_of};
 
+use arrayvec::ArrayVec;
 use hex::FromHex;
 use hfs_model::Fork;
 use std::alloc::{AllocError, Global};
 
-/// The fields of a line; of more than nine the first nine, since no line that reads has as many.
+/// The fields of a line; of more than nine the first nine, since no line that reads has as many. They take no memory.
 #[tactic(auto, unfolding(crate::specs::Fields::fields_of))]
-pub(crate) fn split_fields(alloc: Global, line: &[u8]) -> Result<Vec<&[u8]>, AllocError>
+pub(crate) fn split_fields(alloc: Global, line: &[u8]) -> Result<ArrayVec<&[u8], 9>, AllocError>
     ensures { IfOk result (λ fields. texts_of fields.items ≡ take 9 (fields_of line.now)) }
 {
     line.split(|byte| *byte == b'\t').take(9).collect(alloc)

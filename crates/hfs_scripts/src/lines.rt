@@ -92,5 +92,5 @@ pub(crate) fn read_line(
     ensures { IfOk result (λ line. line ≡ line_of now bytes.now) }
 {
     let fields = split_fields(alloc, bytes)?;
-    read_fields(alloc, &fields, now)
+    read_fields(alloc, fields.as_slice(), now)
 }

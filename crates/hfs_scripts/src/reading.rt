@@ -5,6 +5,7 @@ ghost use Rattle.hfs_scripts.specs.Scripts.{lines_of, lines_read, script_of, Giv
 use crate::fault::ScriptFault;
 use crate::lines::{ScriptLine, read_line};
 use crate::script::Script;
+use memchr::memchr;
 use std::alloc::Global;
 
 /// The most bytes that a script may have.
@@ -14,7 +15,7 @@ pub(crate) const MAX_BYTES: usize = 16_777_216;
 fn line_feed(bytes: &[u8]) -> Option<usize>
     ensures { result ≡ position (λ byte. byte == 10) bytes.now }
 {
-    bytes.iter().position(|byte| *byte == b'\n')
+    memchr(b'\n', bytes)
 }
 
 /// The first line of bytes, and what stands behind it and its line feed.

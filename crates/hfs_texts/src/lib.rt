@@ -11,5 +11,5 @@ mod text;
 pub use info::{InfoFault, run_info};
 pub use input::{IMAGE_LIMIT, LoadFault, load, load_within};
 pub use output::put;
-pub use reply::reply_text;
+pub use reply::{push_reply, reply_text};
 pub use text::{Show, push_line};

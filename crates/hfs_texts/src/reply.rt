@@ -194,9 +194,40 @@ fn push_value(text: &mut String, value: &Value) -> Result<(), AllocError>
     }
 }
 
+/// A text as it stands.
+#[derive(Drop)]
+struct Plain<'a>(&'a str);
+
+impl Show for Plain<'_> {
+    ghost shown = { λ plain. plain.0.now };
+
+    fn push_to(&self, text: &mut String) -> Result<(), AllocError> {
+        text.push_str(self.0)
+    }
+}
+
+/// Appends the lines of an answer, as `reply_text` has them. Who called is any value with a printed form.
+#[tactic(auto, unfolding(crate::specs::Answers::reply_text))]
+pub fn push_reply<S: Show + Drop>(
+    text: &mut String,
+    who: S,
+    number: u64,
+    reply: &Reply,
+) -> Result<(), AllocError>
+    ensures { OnOk result (Gains text.old text.new (reply_text (S.shown who) number reply.now)) }
+{
+    who.push_to(text)?;
+    text.push('\t')?;
+    number.push_to(text)?;
+    text.push('\t')?;
+    reply.code.push_to(text)?;
+    text.push('\t')?;
+    push_value(text, &reply.value)?;
+    text.push('\n')
+}
+
 /// The lines of an answer: the worker (or `v` and the viewer), the number of the call among its own, the code and the
 /// value, with tabs between; behind a list a line for each item. Each line ends with a line feed.
-#[tactic(auto, unfolding(crate::specs::Answers::reply_text))]
 pub fn reply_text(
     alloc: Global,
     who: &str,
@@ -206,13 +237,6 @@ pub fn reply_text(
     ensures { IfOk result (λ text. string_bytes text ≡ reply_text who.now number reply.now) }
 {
     let mut text = String::new(alloc);
-    text.push_str(who)?;
-    text.push('\t')?;
-    number.push_to(&mut text)?;
-    text.push('\t')?;
-    reply.code.push_to(&mut text)?;
-    text.push('\t')?;
-    push_value(&mut text, &reply.value)?;
-    text.push('\n')?;
+    push_reply(&mut text, Plain(who), number, reply)?;
     Ok(text)
 }

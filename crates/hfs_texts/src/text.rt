@@ -5,6 +5,7 @@ ghost use Rattle.hfs_texts.specs.Lines.{hex_digit, hex_byte, hex_text, shown_cha
 ghost use Rattle.hfs_texts.specs.Texts.{Gains};
 
 use hfs_fields::Extent;
+use itoa::{Buffer, Integer};
 use std::alloc::AllocError;
 
 /// What has a printed form.
@@ -17,11 +18,18 @@ pub trait Show {
         ensures { OnOk result (Gains text.old text.new (shown self.now)) };
 }
 
+fn push_number<I: Integer>(text: &mut String, number: I) -> Result<(), AllocError>
+    ensures { OnOk result (Gains text.old text.new (I.text number)) }
+{
+    let mut buffer = Buffer::new();
+    text.push_str(buffer.format(number))
+}
+
 impl Show for u16 {
     ghost shown = { λ number. decimal number };
 
     fn push_to(&self, text: &mut String) -> Result<(), AllocError> {
-        write!(text, "{}", *self)
+        push_number(text, *self)
     }
 }
 
@@ -29,7 +37,7 @@ impl Show for u32 {
     ghost shown = { λ number. decimal number };
 
     fn push_to(&self, text: &mut String) -> Result<(), AllocError> {
-        write!(text, "{}", *self)
+        push_number(text, *self)
     }
 }
 
@@ -37,7 +45,7 @@ impl Show for u64 {
     ghost shown = { λ number. decimal number };
 
     fn push_to(&self, text: &mut String) -> Result<(), AllocError> {
-        write!(text, "{}", *self)
+        push_number(text, *self)
     }
 }
 
@@ -45,7 +53,7 @@ impl Show for i16 {
     ghost shown = { λ number. signed_decimal number };
 
     fn push_to(&self, text: &mut String) -> Result<(), AllocError> {
-        write!(text, "{}", *self)
+        push_number(text, *self)
     }
 }
 

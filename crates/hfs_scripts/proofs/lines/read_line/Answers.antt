@@ -9,5 +9,5 @@ use Rattle.hfs_scripts.proofs.lines.read_line.Goals as goal
 pub returns : goal.returns
 unfolding line_of
 returns c =
-    let same = ap (line_of_fields c.args.now) (rw c.deref.ensures.value c.in_ok-fields.ensures) ∙ line_of_fields-first_nine c.args.now (fields_of c.args.bytes.now) in
+    let same = ap (line_of_fields c.args.now) (rw c.as_slice.ensures.value c.in_ok-fields.ensures) ∙ line_of_fields-first_nine c.args.now (fields_of c.args.bytes.now) in
     subst (λ (made : Option ScriptLine). IfOk c.read_fields.result (λ line. line ≡ made)) same c.read_fields.ensures
