@@ -5,15 +5,13 @@
 #[cfg(test)]
 mod counts;
 #[cfg(test)]
-mod deep;
-#[cfg(test)]
 mod edits;
 #[cfg(test)]
 mod key_records;
 #[cfg(test)]
 mod keys;
 #[cfg(test)]
-mod laid;
+mod look_ups;
 #[cfg(test)]
 mod order;
 #[cfg(test)]

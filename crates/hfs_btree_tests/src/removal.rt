@@ -1,6 +1,7 @@
 //! Pairs taken out of small trees of extents records.
-use crate::deep;
-use crate::trees::{chain_tree, deep_tree, empty_tree, header_node, leaf_node, narrow_tree};
+use crate::trees::{
+    chain_tree, deep_tree, empty_tree, header_node, inexact_tree, leaf_node, narrow_tree,
+};
 use hfs_btree::{Nodes, depth, find, free_nodes};
 use hfs_btree_checks::check_tree;
 use hfs_btree_removal::remove;
@@ -18,13 +19,13 @@ pub fn table(alloc: Global, nodes: &[[u8; 512]]) -> Result<NodeTable, Fail> {
     Ok(made)
 }
 
-/// Takes out the pair of a file and a block of its data fork. Whether the tree had it and has it no more, and is sound
+/// Takes out the pair of a file's data fork. Whether the tree had it and has it no more, and is sound
 /// before and after.
-fn take(alloc: Global, nodes: &mut NodeTable, file: u32, block: u16) -> Result<bool, AllocError> {
+fn take(alloc: Global, nodes: &mut NodeTable, file: u32) -> Result<bool, AllocError> {
     let key = ExtKey {
         fork: 0,
         file,
-        block,
+        block: 3,
     };
     let Ok(_) = check_tree::<ExtKey, NodeTable>(alloc, nodes, nodes.size()) else {
         return Ok(false);
@@ -41,7 +42,7 @@ fn take(alloc: Global, nodes: &mut NodeTable, file: u32, block: u16) -> Result<b
 }
 
 /// The depth of a tree and the number of its free nodes, where it is sound.
-fn counts(alloc: Global, nodes: &NodeTable) -> Option<(u16, u32)> {
+pub fn counts(alloc: Global, nodes: &NodeTable) -> Option<(u16, u32)> {
     let Ok(_) = check_tree::<ExtKey, NodeTable>(alloc, nodes, nodes.size()) else {
         return None;
     };
@@ -76,7 +77,7 @@ fn assert_steps(
     steps: &[(u32, u16, u32)],
 ) -> Result<(), Fail> {
     for (file, levels, free) in steps {
-        assert!(rt; take(rt.alloc(), nodes, *file, 3)?, "file {file}");
+        assert!(rt; take(rt.alloc(), nodes, *file)?, "file {file}");
         assert!(rt;
             counts(rt.alloc(), nodes) == Some((*levels, *free)),
             "after file {file}"
@@ -161,15 +162,15 @@ fn an_index_root_with_one_record(rt: HostRuntime) -> Result<(), Fail> {
 #[test]
 fn an_inexact_tree(rt: HostRuntime) -> Result<(), Fail> {
     // the root's second key is 30, and its child's first record is of file 40: where that record stays, so does the key
-    let mut nodes = table(rt.alloc(), &deep::deep_tree())?;
+    let mut nodes = table(rt.alloc(), &inexact_tree())?;
     assert!(rt; !is_exact::<ExtKey>(&nodes));
-    assert!(rt; take(rt.alloc(), &mut nodes, 50, 0)?);
+    assert!(rt; take(rt.alloc(), &mut nodes, 50)?);
     assert!(rt; node(&rt, &nodes, 1)[31] == 30);
     // and where another one is the first, its key is told
-    let mut nodes = table(rt.alloc(), &deep::deep_tree())?;
-    assert!(rt; take(rt.alloc(), &mut nodes, 40, 0)?);
+    let mut nodes = table(rt.alloc(), &inexact_tree())?;
+    assert!(rt; take(rt.alloc(), &mut nodes, 40)?);
     assert!(rt; node(&rt, &nodes, 1)[31] == 50);
-    assert!(rt; take(rt.alloc(), &mut nodes, 10, 0)?);
+    assert!(rt; take(rt.alloc(), &mut nodes, 10)?);
     assert!(rt; is_exact::<ExtKey>(&nodes));
     Ok(())
 }

@@ -85,6 +85,31 @@ pub fn narrow_tree() -> [[u8; 512]; 4] {
     ]
 }
 
+/// A tree of depth 1, whose leaf has one record.
+pub fn leaf_tree() -> [[u8; 512]; 2] {
+    let record = [
+        0, 1, 0, 0, 0, 1, 0, 0, 0, 1, 0, 0, 0, 1, 0, 0, 0, 1, 2, 0, 0, 7, 0, 0, 0, 2, 0, 0, 0, 0,
+    ];
+    [header_node(0, &record, 192), leaf_node(0, 0, 16)]
+}
+
+/// A tree of depth 3, whose leaves 4 to 7 have the files 10, 20, 40 and 50, and whose root's second key is file 30.
+pub fn inexact_tree() -> [[u8; 512]; 8] {
+    let record = [
+        0, 3, 0, 0, 0, 1, 0, 0, 0, 4, 0, 0, 0, 4, 0, 0, 0, 7, 2, 0, 0, 7, 0, 0, 0, 8, 0, 0, 0, 0,
+    ];
+    [
+        header_node(0, &record, 255),
+        index_node(0, 0, 3, [10, 30], [2, 3]),
+        index_node(0, 3, 2, [10, 20], [4, 5]),
+        index_node(2, 0, 2, [40, 50], [6, 7]),
+        leaf_node(0, 5, 10),
+        leaf_node(4, 6, 20),
+        leaf_node(5, 7, 40),
+        leaf_node(6, 0, 50),
+    ]
+}
+
 /// A leaf with two records, before this neighbour.
 fn wide_leaf(right: u8) -> [u8; 512] {
     let mut bytes = [0; 512];

@@ -7,8 +7,6 @@ mod beside;
 #[cfg(test)]
 mod closing;
 #[cfg(test)]
-mod forks;
-#[cfg(test)]
 mod many;
 #[cfg(test)]
 mod meeting;

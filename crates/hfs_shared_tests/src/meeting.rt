@@ -1,10 +1,10 @@
 //! Workers that run side by side.
 ghost use Rattle.std.specs.Prelude.{◌≡◌, ◌<◌, ◌≤◌};
 
-use crate::sharing::{begun, create, new_volume, run};
+use crate::sharing::{begun_new, create};
 use crate::waiting::waits_for;
 use hfs_model::Call;
-use hfs_shared::{Done, Gate, Parts, Pass, Session};
+use hfs_shared::{Done, Gate, Parts, Pass, Session, Shared, Viewer, run_workers};
 use std::alloc::{AllocError, Global};
 use std::marker::Brand;
 use std::sync::Wait;
@@ -12,55 +12,32 @@ use std::sync::atomic::{AtomicU64, Ordering};
 use std::test::Fail;
 use std::thread::Threads;
 
-/// Workers that all stand before their first calls at once: so many are to come, so many are here, and so many waited in vain.
+/// Eight workers that all stand before their first calls at once, and one of which stands there until all calls of the others are
+/// answered. So many are here, so many of these calls are answered, and so many waited in vain.
 #[derive(Drop)]
 struct Meeting<'a> {
     clock: &'a HostRuntime,
-    wanted: u64,
-    here: AtomicU64,
-    late: AtomicU64,
-}
-
-impl Meeting<'_> {
-    /// How many are here, and how many waited in vain.
-    fn loaded(&self) -> (u64, u64) {
-        let here = self.here.load(Ordering::SeqCst);
-        (here, self.late.load(Ordering::SeqCst))
-    }
-}
-
-impl Gate for Meeting<'_> {
-    fn before(&self, _worker: u32, stamp: u64) {
-        if stamp == 1 {
-            self.here.fetch_add(1, Ordering::SeqCst);
-            if !waits_for(self.clock, &self.here, self.wanted) {
-                self.late.fetch_add(1, Ordering::SeqCst);
-            }
-        }
-    }
-
-    fn inside(&self, _worker: u32, _stamp: u64) {}
-
-    fn after(&self, _worker: u32, _stamp: u64) {}
-}
-
-/// One worker that stands before its first call until so many calls of others are answered.
-#[derive(Drop)]
-struct Holding<'a> {
-    clock: &'a HostRuntime,
     held: u32,
-    wanted: u64,
+    here: AtomicU64,
     answered: AtomicU64,
     late: AtomicU64,
 }
 
-impl Gate for Holding<'_> {
+impl Meeting<'_> {
+    /// Waits for what a worker is to wait for, and answers whether it came.
+    fn meets(&self, worker: u32) -> bool {
+        waits_for(self.clock, &self.here, 8)
+            && (worker != self.held || waits_for(self.clock, &self.answered, 14))
+    }
+}
+
+impl Gate for Meeting<'_> {
     fn before(&self, worker: u32, stamp: u64) {
-        if worker == self.held
-            && stamp == 1
-            && !waits_for(self.clock, &self.answered, self.wanted)
-        {
-            self.late.fetch_add(1, Ordering::SeqCst);
+        if stamp == 1 {
+            self.here.fetch_add(1, Ordering::SeqCst);
+            if !self.meets(worker) {
+                self.late.fetch_add(1, Ordering::SeqCst);
+            }
         }
     }
 
@@ -114,74 +91,81 @@ fn counted(dones: &Vec<Done>) -> (usize, usize) {
     (replies, faults)
 }
 
-/// Runs two calls of each worker: how many replies there are, and how many faults.
-fn run_twos<K: Session + Send + Sync, R: Threads + Wait + Sync, G: Gate + Sync>(
+/// Runs jobs: how many replies there are, and how many faults.
+pub fn run<K: Session + Send + Sync, R: Threads + Wait + Sync, G: Gate + Sync>(
+    shared: &Shared<K>,
     rt: &R,
     alloc: Global,
-    parts: Parts,
-    passes: Vec<Pass>,
     gate: &G,
-) -> Result<(usize, usize), Fail>
-    requires { (parts.book ≡ K.book) × (parts.base ≡ K.base) }
-{
-    let shared = parts.share::<K>();
-    let jobs = jobs_of(alloc, passes)?;
-    match run(&shared, rt, alloc, gate, jobs) {
-        Some(dones) => Ok(counted(&dones)),
-        None => Err(Fail::from("not run")),
+    jobs: Vec<(Pass, Vec<Call>)>,
+) -> (usize, usize) {
+    match run_workers(shared, rt, alloc, gate, jobs) {
+        Ok(dones) => counted(&dones),
+        Err(_fault) => (0, 0),
     }
 }
 
-/// The same of a new volume with so many workers.
+/// The parts of a new volume, a job of two calls for each of so many workers, and a viewer.
+pub fn begun_jobs(
+    rt: &impl Wait,
+    alloc: Global,
+    workers: u32,
+) -> Result<(Parts, Vec<(Pass, Vec<Call>)>, Viewer), Fail>
+    requires { (0 < workers) × (workers ≤ 8) }
+{
+    let (parts, passes, viewer) = begun_new(rt, alloc, workers)?;
+    let jobs = jobs_of(alloc, passes)?;
+    Ok((parts, jobs, viewer))
+}
+
+/// Runs jobs on the parts of a volume.
+fn run_parts<K: Session + Send + Sync, R: Threads + Wait + Sync, G: Gate + Sync>(
+    rt: &R,
+    alloc: Global,
+    parts: Parts,
+    jobs: Vec<(Pass, Vec<Call>)>,
+    gate: &G,
+) -> (usize, usize)
+    requires { (parts.book ≡ K.book) × (parts.base ≡ K.base) }
+{
+    let shared = parts.share::<K>();
+    run(&shared, rt, alloc, gate, jobs)
+}
+
+/// Runs two calls of each of eight workers on a new volume.
 fn run_new<R: Threads + Wait + Sync, G: Gate + Sync>(
     rt: &R,
     alloc: Global,
-    workers: u32,
     gate: &G,
-) -> Result<(usize, usize), Fail>
-    requires { (0 < workers) × (workers ≤ 8) }
-{
-    let (parts, passes, _viewers) = begun(rt, alloc, new_volume(alloc)?, workers, 1)?;
-    run_twos::<Brand, _, _>(rt, alloc, parts, passes, gate)
+) -> Result<(usize, usize), Fail> {
+    let (parts, jobs, _viewer) = begun_jobs(rt, alloc, 8)?;
+    let counts = run_parts::<Brand, _, _>(rt, alloc, parts, jobs, gate);
+    Ok(counts)
 }
 
-#[test]
-fn eight_workers_meet(rt: HostRuntime) -> Result<(), Fail> {
-    let gate = Meeting {
-        clock: &rt,
-        wanted: 8,
-        here: AtomicU64::new(0),
-        late: AtomicU64::new(0),
-    };
-    let counts = run_new(&rt, rt.alloc(), 8, &gate)?;
-    let (here, late) = gate.loaded();
-    assert!(rt; counts == (16, 0) && here == 8 && late == 0);
-    Ok(())
-}
-
-/// Two workers, one of which is held: how many replies there are, how many faults, and how many waited in vain.
+/// Eight workers, one of which is held: how many replies there are, how many faults, and how many waited in vain.
 fn run_held<R: Threads + Wait + Sync>(
     rt: &R,
     clock: &HostRuntime,
     alloc: Global,
     held: u32,
 ) -> Result<(usize, usize, u64), Fail> {
-    let gate = Holding {
+    let gate = Meeting {
         clock,
         held,
-        wanted: 2,
+        here: AtomicU64::new(0),
         answered: AtomicU64::new(0),
         late: AtomicU64::new(0),
     };
-    let (replies, faults) = run_new(rt, alloc, 2, &gate)?;
+    let (replies, faults) = run_new(rt, alloc, &gate)?;
     Ok((replies, faults, gate.late.load(Ordering::SeqCst)))
 }
 
 #[test]
-fn either_worker_is_held(rt: HostRuntime) -> Result<(), Fail> {
-    for held in [1, 2] {
+fn eight_workers_meet_and_one_is_held(rt: HostRuntime) -> Result<(), Fail> {
+    for held in [1, 2, 8] {
         let counts = run_held(&rt, &rt, rt.alloc(), held)?;
-        assert!(rt; counts == (4, 0, 0), "worker {held}");
+        assert!(rt; counts == (16, 0, 0), "worker {held}");
     }
     Ok(())
 }

@@ -1,7 +1,7 @@
 //! A viewer beside a volume on which the same changes are made: when it learned of a change, it answers as the volume does.
-ghost use Rattle.std.specs.Prelude.{◌≡◌, All, OnOk};
+ghost use Rattle.std.specs.Prelude.{◌≡◌, OnOk};
 
-use crate::sharing::{begun, last_pass, make, only};
+use crate::sharing::{begun_one, make};
 use hfs_fixtures::{SmallVolume, new_image, small_image};
 use hfs_model::{Bytes, Call, Fork, Reply};
 use hfs_scripts::{Script, read_script};
@@ -14,40 +14,55 @@ use std::marker::Brand;
 use std::sync::Wait;
 use std::test::Fail;
 
-/// The call that asks for a part of a file's data fork.
-fn reading(alloc: Global, dir: u32, name: &[u8]) -> Result<Call, AllocError> {
+/// The call that asks for a part of a file's fork.
+fn reading(alloc: Global, dir: u32, name: &[u8], fork: Fork) -> Result<Call, AllocError> {
     let name = Bytes::from_slice(alloc, name)?;
     Ok(Call::ReadFork {
         dir,
         name,
-        fork: Fork::DataFork,
+        fork,
         offset: 1_530,
         count: 500,
     })
 }
 
-/// The 2 calls that ask for a file.
-fn push_named(
-    alloc: Global,
-    calls: &mut Vec<Call>,
-    dir: u32,
-    letter: u8,
-) -> Result<(), AllocError> {
-    let name = Bytes::from_slice(alloc, &[letter])?;
-    calls.push(Call::GetCatInfo { dir, name })?;
-    calls.push(reading(alloc, dir, &[letter])?)?;
-    Ok(())
+/// The call that asks for an item.
+fn asking_info(alloc: Global, dir: u32, name: &[u8]) -> Result<Call, AllocError> {
+    let name = Bytes::from_slice(alloc, name)?;
+    Ok(Call::GetCatInfo { dir, name })
 }
 
-/// The 25 calls that ask for a folder and what it may hold.
+/// Names that folders may have.
+const ASKED: [&[u8]; 13] = [
+    b"a",
+    b"b",
+    b"d",
+    b"f",
+    b"g",
+    b"x",
+    b"y",
+    b"z",
+    b"A",
+    b"{",
+    b"one",
+    b"two",
+    b"a longer name than before",
+];
+
+/// The 25 calls that ask for an ID, and for what a folder may hold.
 fn push_asking(alloc: Global, calls: &mut Vec<Call>, dir: u32) -> Result<(), AllocError> {
     calls.push(Call::GetDirInfo { dir })?;
     calls.push(Call::List { dir })?;
+    calls.push(Call::ResolveFileId { id: dir })?;
     for index in 0..5 {
         calls.push(Call::GetIndexed { dir, index })?;
     }
-    for letter in *b"abfgxyzA{" {
-        push_named(alloc, calls, dir, letter)?;
+    for name in ASKED {
+        calls.push(asking_info(alloc, dir, name)?)?;
+    }
+    for name in [b"f", b"g"] {
+        calls.push(reading(alloc, dir, name, Fork::DataFork)?)?;
+        calls.push(reading(alloc, dir, name, Fork::ResFork)?)?;
     }
     Ok(())
 }
@@ -87,7 +102,7 @@ fn ask_fork(
     }
 }
 
-/// The viewer's reply to one of the five calls that it offers. `Gone` to each other call.
+/// The viewer's reply to a call that reads. `Gone` to each other call.
 fn ask(alloc: Global, viewer: &mut Viewer, call: &Call) -> Result<Reply, ViewFault>
     ensures { OnOk result (viewer.new.book ≡ viewer.old.book) }
 {
@@ -103,6 +118,7 @@ fn ask(alloc: Global, viewer: &mut Viewer, call: &Call) -> Result<Reply, ViewFau
             offset,
             count,
         } => ask_fork(alloc, viewer, *dir, name, *fork, *offset, *count),
+        Call::ResolveFileId { .. } => viewer.read(alloc, call),
         Call::Create { .. }
         | Call::DirCreate { .. }
         | Call::Delete { .. }
@@ -113,8 +129,7 @@ fn ask(alloc: Global, viewer: &mut Viewer, call: &Call) -> Result<Reply, ViewFau
         | Call::SetFLock { .. }
         | Call::RstFLock { .. }
         | Call::CreateFileId { .. }
-        | Call::DeleteFileId { .. }
-        | Call::ResolveFileId { .. } => Err(ViewFault::Gone),
+        | Call::DeleteFileId { .. } => Err(ViewFault::Gone),
     }
 }
 
@@ -178,10 +193,11 @@ fn change<K: Session>(
     ensures { OnOk result (viewer.new.book ≡ K.book) }
 {
     let wanted = reply_to(volume, alloc, &call)?;
-    let (found, told) = make(rt, alloc, shared, pass, call)?;
-    compare(alloc, &found, &wanted)?;
+    let Some((found, told)) = make(rt, alloc, shared, pass, call) else {
+        return Err(Fail::from("not answered"));
+    };
     viewer.learn(&told);
-    Ok(())
+    compare(alloc, &found, &wanted)
 }
 
 /// After a change the viewer answers each of these calls as the other volume.
@@ -204,21 +220,21 @@ fn follow_one<K: Session>(
 }
 
 /// After each change of a script the viewer answers as the other volume. It answers how many changes there are.
-fn follow_all<K: Session, R: Wait>(
-    rt: &R,
+fn follow_all<K: Session>(
+    rt: &impl Wait,
     alloc: Global,
     shared: &Shared<K>,
     pass: &mut Pass,
     viewer: &mut Viewer,
     volume: &mut Volume,
     script: Script,
+    calls: &Vec<Call>,
 ) -> Result<u32, Fail>
     requires { viewer.old.book ≡ K.book }
 {
-    let calls = asking(alloc)?;
     let mut changes = 0_u32;
     for line in script.into_lines() {
-        follow_one(rt, alloc, shared, pass, viewer, volume, &calls, line.call)?;
+        follow_one(rt, alloc, shared, pass, viewer, volume, calls, line.call)?;
         changes = changes.saturating_add(1);
     }
     Ok(changes)
@@ -229,18 +245,26 @@ fn follow<K: Session, R: Wait>(
     rt: &R,
     alloc: Global,
     parts: Parts,
-    passes: Vec<Pass>,
-    viewers: Vec<Viewer>,
+    mut pass: Pass,
+    mut viewer: Viewer,
     volume: &mut Volume,
     script: Script,
+    calls: &Vec<Call>,
 ) -> Result<u32, Fail>
     requires parts { (parts.book ≡ K.book) × (parts.base ≡ K.base) }
-    requires viewers { All (λ k. k.book ≡ K.book) viewers.items }
+    requires viewer { viewer.book ≡ K.book }
 {
     let shared = parts.share::<K>();
-    let mut viewer = only::<K>(viewers)?;
-    let mut pass = last_pass(passes)?;
-    follow_all(rt, alloc, &shared, &mut pass, &mut viewer, volume, script)
+    follow_all(
+        rt,
+        alloc,
+        &shared,
+        &mut pass,
+        &mut viewer,
+        volume,
+        script,
+        calls,
+    )
 }
 
 /// The script of these lines, at the moment 9.
@@ -258,21 +282,29 @@ fn follow_lines(
     shared: Volume,
     volume: &mut Volume,
     lines: &[u8],
+    calls: &Vec<Call>,
 ) -> Result<u32, Fail> {
-    let (parts, passes, viewers) = begun(rt, alloc, shared, 1, 1)?;
     let script = script_of(alloc, lines)?;
-    follow::<Brand, _>(rt, alloc, parts, passes, viewers, volume, script)
+    let (parts, pass, viewer) = begun_one(rt, alloc, shared)?;
+    follow::<Brand, _>(rt, alloc, parts, pass, viewer, volume, script, calls)
 }
 
 /// The same of the volume of an image.
-fn follow_image(rt: &impl Wait, alloc: Global, image: Vec<u8>, lines: &[u8]) -> Result<u32, Fail> {
+pub fn follow_image(
+    rt: &impl Wait,
+    alloc: Global,
+    image: Vec<u8>,
+    lines: &[u8],
+    calls: &Vec<Call>,
+) -> Result<u32, Fail> {
     let mut volume = mounted(alloc, image.clone()?)?;
-    follow_lines(rt, alloc, mounted(alloc, image)?, &mut volume, lines)
+    follow_lines(rt, alloc, mounted(alloc, image)?, &mut volume, lines, calls)
 }
 
-/// The same of a new volume with so many nodes of the catalog.
-fn follow_new(rt: &impl Wait, alloc: Global, nodes: u32, lines: &[u8]) -> Result<u32, Fail> {
-    follow_image(rt, alloc, new_image(alloc, nodes)?, lines)
+/// The same of an image, and of those 125 calls.
+fn follow_small(rt: &impl Wait, alloc: Global, image: Vec<u8>, lines: &[u8]) -> Result<u32, Fail> {
+    let calls = asking(alloc)?;
+    follow_image(rt, alloc, image, lines, &calls)
 }
 
 /// Folders in one another, a file that is locked, set, found by its ID, renamed, moved and deleted.
@@ -288,6 +320,28 @@ const NAMES: &[u8] = b"1\tcreate\t2\t{\n1\tcreate\t2\t_x\n1\tcreate\t2\tB\n1\tcr
 1\tcreate\t2\tnnnnnnnnnnnnnnnnnnnnnnnnnnnnnnn\n1\tcreate\t2\tnnnnnnnnnnnnnnnnnnnnnnnnnnnnnnnn\n\
 1\tsetinfo\t2\ta\t1\t2\t3\t000102030405060708090a0b0c0d0e0f101112131415161718191a1b1c1d1e1f\n";
 
+/// Items that come and go: names that are there, folders that hold something or are gone, a name that is none.
+const GOING: &[u8] = b"1\tcreate\t2\tb\n1\tmkdir\t2\tA\n1\tcreate\t2\ta\n1\tcreate\t17\tb\n\
+1\tdelete\t2\ta\n1\tdelete\t17\tB\n1\tdelete\t2\ta\n1\tdelete\t2\ta\n1\tcreate\t2\tx:y\n\
+1\tcreate\t17\tc\n";
+
+/// Items that move and are named: in the other case, as they are, into their own offspring, and as others are.
+const MOVING: &[u8] = b"1\tmkdir\t2\tone\n1\tmkdir\t16\ttwo\n1\tcreate\t17\tf\n\
+1\trename\t17\tF\tG\n1\trename\t17\tg\tg\n1\tmove\t17\tg\t2\n1\tmove\t2\tone\t17\n\
+1\tmove\t16\ttwo\t2\n1\tmove\t2\tone\t17\n1\trename\t2\tg\tTWO\n1\tmove\t2\tg\t16\n\
+1\trename\t16\tG\ta longer name than before\n";
+
+/// Items that are set, locked, and found by their IDs, each also where it can't be.
+const SETTING: &[u8] = b"1\tcreate\t2\tf\n1\tmkdir\t2\td\n\
+1\tsetfinfo\t2\tf\t07070707070707070707070707070707\n\
+1\tsetfinfo\t2\td\t07070707070707070707070707070707\n\
+1\tsetinfo\t2\td\t1\t2\t3\t0707070707070707070707070707070707070707070707070707070707070707\n\
+1\tlock\t2\tf\n\
+1\tsetinfo\t2\tf\t1\t2\t3\t0707070707070707070707070707070707070707070707070707070707070707\n\
+1\tunlock\t2\tf\n\
+1\tsetinfo\t2\tf\t1\t2\t3\t0707070707070707070707070707070707070707070707070707070707070707\n\
+1\tnewid\t2\tf\n1\tnewid\t2\tf\n1\tnewid\t2\td\n1\tdropid\t16\n1\tdropid\t16\n1\tdropid\t17\n";
+
 /// A catalog that is full behind the fourth file.
 const FULL: &[u8] = b"1\tcreate\t2\ta\n1\tcreate\t2\tb\n1\tcreate\t2\tc\n1\tcreate\t2\td\n\
 1\trename\t2\ta\tA\n1\trename\t2\tA\tz\n1\tcreate\t2\te\n1\tnewid\t2\tb\n";
@@ -300,10 +354,13 @@ fn a_viewer_answers_as_the_volume(rt: HostRuntime) -> Result<(), Fail> {
     for (nodes, lines, changes) in [
         (40, FOLDERS, 20),
         (40, NAMES, 11),
+        (40, GOING, 10),
+        (40, MOVING, 12),
+        (40, SETTING, 15),
         (4, FULL, 8),
         (6, WANTING, 2),
     ] {
-        let followed = follow_new(&rt, rt.alloc(), nodes, lines)?;
+        let followed = follow_small(&rt, rt.alloc(), new_image(rt.alloc(), nodes)?, lines)?;
         assert!(rt; followed == changes, "a script of {changes} changes");
     }
     Ok(())
@@ -315,6 +372,6 @@ const ONE_FILE: &[u8] = b"1\tlock\t2\tf\n1\tunlock\t2\tf\n1\trename\t2\tf\tg\n1\
 #[test]
 fn a_viewer_answers_as_a_volume_with_a_file(rt: HostRuntime) -> Result<(), Fail> {
     let image = small_image(rt.alloc(), SmallVolume::OneFile)?;
-    assert!(rt; follow_image(&rt, rt.alloc(), image, ONE_FILE)? == 4);
+    assert!(rt; follow_small(&rt, rt.alloc(), image, ONE_FILE)? == 4);
     Ok(())
 }

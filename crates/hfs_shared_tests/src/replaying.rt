@@ -1,13 +1,13 @@
 //! Eight workers that run side by side, and the plain program, which makes the calls of the journal
 //! in their order: it answers each the same code, and ends with the same folder tree.
-ghost use Rattle.std.specs.Prelude.{◌≡◌, All};
+ghost use Rattle.std.specs.Prelude.{◌≡◌, IfOk};
 
 use crate::reading::{compare, script_of};
-use crate::sharing::{begun, closed, new_volume, only, run};
+use crate::sharing::{begun_new, closed};
 use hfs_fields::Name;
 use hfs_model::{Call, Entry};
 use hfs_scripts::Script;
-use hfs_shared::{Closed, Done, Gate, Parts, Pass, Session, Viewer};
+use hfs_shared::{Closed, Done, Gate, Parts, Pass, Session, Shared, Viewer, run_workers};
 use hfs_store::PlainVolume;
 use hfs_volume::Volume;
 use hfs_volume_fixtures::{mounted_again, reply_to};
@@ -61,6 +61,18 @@ fn jobs_of(alloc: Global, passes: Vec<Pass>) -> Result<Vec<(Pass, Vec<Call>)>, F
     Ok(jobs)
 }
 
+/// The parts of a new volume, a job of these lines for each of eight workers, and a viewer.
+fn begun_jobs(
+    rt: &impl Wait,
+    alloc: Global,
+) -> Result<(Parts, Vec<(Pass, Vec<Call>)>, Viewer), Fail>
+    ensures { IfOk result (λ r. r.2.book ≡ r.0.book) }
+{
+    let (parts, passes, viewer) = begun_new(rt, alloc, 8)?;
+    let jobs = jobs_of(alloc, passes)?;
+    Ok((parts, jobs, viewer))
+}
+
 /// The passes of workers that have done their jobs.
 fn passes_of(alloc: Global, dones: Vec<Done>) -> Result<Vec<Pass>, AllocError> {
     let mut passes = Vec::new(alloc);
@@ -70,31 +82,43 @@ fn passes_of(alloc: Global, dones: Vec<Done>) -> Result<Vec<Pass>, AllocError> {
     Ok(passes)
 }
 
-/// The volume, closed when each worker has done its job.
+/// Runs jobs, and answers the passes of their workers as they are then; where memory is refused, none.
+fn passes_after<K: Session + Send + Sync, R: Threads + Wait + Sync>(
+    shared: &Shared<K>,
+    rt: &R,
+    alloc: Global,
+    jobs: Vec<(Pass, Vec<Call>)>,
+) -> Vec<Pass> {
+    match run_workers(shared, rt, alloc, &Unheld, jobs) {
+        Ok(dones) => match passes_of(alloc, dones) {
+            Ok(passes) => passes,
+            Err(_refused) => Vec::new(alloc),
+        },
+        Err(_fault) => Vec::new(alloc),
+    }
+}
+
+/// What closing gives when each worker has done its job.
 fn closed_after_jobs<K: Session + Send + Sync, R: Threads + Wait + Sync>(
     rt: &R,
     alloc: Global,
     parts: Parts,
-    passes: Vec<Pass>,
-    viewers: Vec<Viewer>,
-) -> Result<Closed, Fail>
+    jobs: Vec<(Pass, Vec<Call>)>,
+    mut viewer: Viewer,
+) -> Option<Closed>
     requires parts { (parts.book ≡ K.book) × (parts.base ≡ K.base) }
-    requires viewers { All (λ k. k.book ≡ K.book) viewers.items }
+    requires viewer { viewer.book ≡ K.book }
 {
     let shared = parts.share::<K>();
-    let mut viewer = only::<K>(viewers)?;
-    let jobs = jobs_of(alloc, passes)?;
-    let Some(dones) = run(&shared, rt, alloc, &Unheld, jobs) else {
-        return Err(Fail::from("not run"));
-    };
-    let passes = passes_of(alloc, dones)?;
+    let passes = passes_after(&shared, rt, alloc, jobs);
     closed(rt, shared, passes, &mut viewer)
 }
 
 /// A new volume, closed when eight workers have done their jobs.
-fn closed_new<R: Threads + Wait + Sync>(rt: &R, alloc: Global) -> Result<Closed, Fail> {
-    let (parts, passes, viewers) = begun(rt, alloc, new_volume(alloc)?, 8, 1)?;
-    closed_after_jobs::<Brand, _>(rt, alloc, parts, passes, viewers)
+fn closed_new<R: Threads + Wait + Sync>(rt: &R, alloc: Global) -> Result<Option<Closed>, Fail> {
+    let (parts, jobs, viewer) = begun_jobs(rt, alloc)?;
+    let closed = closed_after_jobs::<Brand, _>(rt, alloc, parts, jobs, viewer);
+    Ok(closed)
 }
 
 /// A new plain volume named `D`.
@@ -171,17 +195,30 @@ fn compare_saved(alloc: Global, volume: &Volume, plain: &mut PlainVolume) -> Res
 
 /// Whether the plain volume answers each call of the journal its code. Then its folder tree is that
 /// of the volume.
+fn replays(alloc: Global, plain: &mut PlainVolume, closed: &Closed) -> Result<bool, Fail> {
+    let are_alike = are_remade(plain, closed.journal.as_slice())?;
+    compare_saved(alloc, &closed.volume, plain)?;
+    Ok(are_alike)
+}
+
+/// Whether a new plain volume does.
 fn is_replayed(alloc: Global, closed: &Closed) -> Result<bool, Fail> {
     let mut plain = new_plain(alloc)?;
-    let are_alike = are_remade(&mut plain, closed.journal.as_slice())?;
-    compare_saved(alloc, &closed.volume, &mut plain)?;
-    Ok(are_alike)
+    replays(alloc, &mut plain, closed)
+}
+
+/// Whether a volume is closed with a journal of 192 calls, which the plain program makes.
+fn is_whole(alloc: Global, closed: &Option<Closed>) -> Result<bool, Fail> {
+    match closed {
+        Some(closed) => Ok(closed.journal.len() == 192 && is_replayed(alloc, closed)?),
+        None => Ok(false),
+    }
 }
 
 /// Whether the plain program makes the journal of eight workers, which has their 192 calls.
 fn is_new_replayed<R: Threads + Wait + Sync>(rt: &R, alloc: Global) -> Result<bool, Fail> {
     let closed = closed_new(rt, alloc)?;
-    Ok(is_replayed(alloc, &closed)? && closed.journal.len() == 192)
+    is_whole(alloc, &closed)
 }
 
 #[test]

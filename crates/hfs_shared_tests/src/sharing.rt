@@ -1,65 +1,80 @@
 //! A small volume that is shared, the calls on it in short, and what viewers are asked.
-ghost use Rattle.std.specs.Prelude.{◌≡◌, ◌<◌, ◌≤◌, All, IfOk, IfSome, OnOk};
+ghost use Rattle.std.specs.Prelude.{◌≡◌, ◌<◌, ◌≤◌, All, IfOk, IfSome};
 
 use hfs_fixtures::{FixtureFault, new_image};
 use hfs_model::{Bytes, Call, Info, Reply, Value};
 use hfs_shared::{
-    CallFault, Closed, Done, Gate, Guard, Parts, Pass, Session, Shared, Told, ViewFault, Viewer,
-    run_workers,
+    CallFault, Closed, Guard, Parts, Pass, Session, Shared, StartFault, Told, Viewer,
 };
 use hfs_volume::Volume;
 use hfs_volume_fixtures::mounted;
 use std::alloc::{AllocError, Global};
 use std::sync::Wait;
 use std::test::Fail;
-use std::thread::Threads;
 
 /// A new volume with 40 nodes of the catalog.
 pub fn new_volume(alloc: Global) -> Result<Volume, FixtureFault> {
     mounted(alloc, new_image(alloc, 40)?)
 }
 
-/// The parts of a volume, passes and viewers.
+/// The parts of a volume, passes and one viewer, as a list.
+fn started(
+    rt: &impl Wait,
+    alloc: Global,
+    volume: Volume,
+    workers: u32,
+) -> Result<(Parts, Vec<Pass>, Vec<Viewer>), StartFault>
+    requires { (0 < workers) × (workers ≤ 8) }
+    ensures { IfOk result (λ r. All (λ k. k.book ≡ r.0.book) r.2.items) }
+{
+    match Parts::start(rt, alloc, volume, workers, 1) {
+        Ok(started) => Ok(started),
+        Err(fault) => Err(fault),
+    }
+}
+
+/// The parts of a volume, passes and a viewer.
 pub fn begun(
     rt: &impl Wait,
     alloc: Global,
     volume: Volume,
     workers: u32,
-    viewers: u32,
-) -> Result<(Parts, Vec<Pass>, Vec<Viewer>), Fail>
-    requires { (0 < workers) × (workers ≤ 8) × (0 < viewers) × (viewers ≤ 8) }
-    ensures { IfOk result (λ r. All (λ k. k.book ≡ r.0.book) r.2.items) }
+) -> Result<(Parts, Vec<Pass>, Viewer), Fail>
+    requires { (0 < workers) × (workers ≤ 8) }
+    ensures { IfOk result (λ r. r.2.book ≡ r.0.book) }
 {
-    match Parts::start(rt, alloc, volume, workers, viewers) {
-        Ok(parts) => Ok(parts),
-        Err(_fault) => Err(Fail::from("not shared")),
-    }
-}
-
-/// The last of the viewers.
-pub fn last<K: Session>(viewers: &mut Vec<Viewer>) -> Result<Viewer, Fail>
-    requires { All (λ k. k.book ≡ K.book) viewers.old.items }
-    ensures viewer { IfOk result (λ v. v.book ≡ K.book) }
-    ensures others { All (λ k. k.book ≡ K.book) viewers.new.items }
-{
+    let Ok((parts, passes, mut viewers)) = started(rt, alloc, volume, workers) else {
+        return Err(Fail::from("not shared"));
+    };
     match viewers.pop() {
-        Some(viewer) => Ok(viewer),
+        Some(viewer) => Ok((parts, passes, viewer)),
         None => Err(Fail::from("no viewer")),
     }
 }
 
-/// The one viewer of these.
-pub fn only<K: Session>(mut viewers: Vec<Viewer>) -> Result<Viewer, Fail>
-    requires { All (λ k. k.book ≡ K.book) viewers.items }
-    ensures { IfOk result (λ v. v.book ≡ K.book) }
+/// The same of a new volume.
+pub fn begun_new(
+    rt: &impl Wait,
+    alloc: Global,
+    workers: u32,
+) -> Result<(Parts, Vec<Pass>, Viewer), Fail>
+    requires { (0 < workers) × (workers ≤ 8) }
+    ensures { IfOk result (λ r. r.2.book ≡ r.0.book) }
 {
-    last::<K>(&mut viewers)
+    begun(rt, alloc, new_volume(alloc)?, workers)
 }
 
-/// The last of the passes, where the others are left aside.
-pub fn last_pass(mut passes: Vec<Pass>) -> Result<Pass, Fail> {
+/// The parts of a volume, the pass of one worker, and a viewer.
+pub fn begun_one(
+    rt: &impl Wait,
+    alloc: Global,
+    volume: Volume,
+) -> Result<(Parts, Pass, Viewer), Fail>
+    ensures { IfOk result (λ r. r.2.book ≡ r.0.book) }
+{
+    let (parts, mut passes, viewer) = begun(rt, alloc, volume, 1)?;
     match passes.pop() {
-        Some(pass) => Ok(pass),
+        Some(pass) => Ok((parts, pass, viewer)),
         None => Err(Fail::from("no pass")),
     }
 }
@@ -73,86 +88,65 @@ pub fn create(alloc: Global, name: &[u8]) -> Result<Call, AllocError> {
     })
 }
 
-/// Makes a call: its reply, and what is told.
+/// Makes a call: its reply, and what is told; none where it is not answered.
 pub fn make<K: Session>(
     rt: &impl Wait,
     alloc: Global,
     shared: &Shared<K>,
     pass: &mut Pass,
     call: Call,
-) -> Result<(Reply, Told), Fail>
-    ensures { IfOk result (λ r. r.1.book ≡ K.book) }
+) -> Option<(Reply, Told)>
+    ensures { IfSome result (λ r. r.1.book ≡ K.book) }
 {
     match shared.call(rt, alloc, pass, call) {
-        Ok(answer) => Ok(answer),
-        Err(_fault) => Err(Fail::from("not answered")),
+        Ok(answer) => Some(answer),
+        Err(_fault) => None,
     }
 }
 
-/// Makes a file in the root: what is told.
+/// Makes a file in the root: what is told; none where the call is not answered.
 pub fn make_file<K: Session>(
     rt: &impl Wait,
     alloc: Global,
     shared: &Shared<K>,
     pass: &mut Pass,
     name: &[u8],
-) -> Result<Told, Fail>
-    ensures { IfOk result (λ t. t.book ≡ K.book) }
+) -> Option<Told>
+    ensures { IfSome result (λ t. t.book ≡ K.book) }
 {
-    let (_reply, told) = make(rt, alloc, shared, pass, create(alloc, name)?)?;
-    Ok(told)
+    let call = create(alloc, name).ok()?;
+    let (_reply, told) = make(rt, alloc, shared, pass, call)?;
+    Some(told)
 }
 
-/// Makes a file in the root under the lock: why it was refused, if it was.
+/// Makes a file in the root under the lock: whether it is answered, and if not, why.
 pub fn applied<K: Session>(
     alloc: Global,
     guard: &mut Guard<'_, K>,
     pass: &mut Pass,
     name: &[u8],
-) -> Result<Option<CallFault>, AllocError> {
-    let call = create(alloc, name)?;
+) -> Result<(), CallFault> {
+    let Ok(call) = create(alloc, name) else {
+        return Err(CallFault::Memory);
+    };
     match guard.apply(alloc, pass, &call) {
-        Ok(_reply) => Ok(None),
-        Err(fault) => Ok(Some(fault)),
+        Ok(_reply) => Ok(()),
+        Err(fault) => Err(fault),
     }
 }
 
-/// The two numbers of a stamp that was refused.
-pub fn stamp_of(fault: CallFault) -> Option<(u64, u64)> {
-    match fault {
-        CallFault::Stamp { wanted, given } => Some((wanted, given)),
-        CallFault::Memory => None,
-    }
-}
-
-/// What is done of the jobs of workers that run side by side.
-pub fn run<K: Session + Send + Sync, R: Threads + Wait + Sync, G: Gate + Sync>(
-    shared: &Shared<K>,
-    rt: &R,
-    alloc: Global,
-    gate: &G,
-    jobs: Vec<(Pass, Vec<Call>)>,
-) -> Option<Vec<Done>>
-    ensures { IfSome result (λ v. All (λ d. All (λ r. r.1.book ≡ K.book) d.replies.items) v.items) }
-{
-    match run_workers(shared, rt, alloc, gate, jobs) {
-        Ok(dones) => Some(dones),
-        Err(_fault) => None,
-    }
-}
-
-/// Closes by the passes of all workers.
+/// What closing by the passes of all workers gives; none where it is refused.
 pub fn closed<K: Session>(
     rt: &impl Wait,
     shared: Shared<K>,
     passes: Vec<Pass>,
     viewer: &mut Viewer,
-) -> Result<Closed, Fail>
+) -> Option<Closed>
     requires { viewer.old.book ≡ K.book }
 {
     match shared.close(rt, passes, viewer) {
-        Ok(closed) => Ok(closed),
-        Err(_parts) => Err(Fail::from("not closed")),
+        Ok(closed) => Some(closed),
+        Err(_parts) => None,
     }
 }
 
@@ -172,35 +166,33 @@ fn names_of(alloc: Global, infos: &[Info]) -> Result<Vec<u8>, AllocError> {
     Ok(text)
 }
 
+/// Whether these are the names of items, each with a space behind it.
+fn are_names(alloc: Global, infos: &[Info], wanted: &[u8]) -> bool {
+    match names_of(alloc, infos) {
+        Ok(names) => *names.as_slice() == *wanted,
+        Err(_refused) => false,
+    }
+}
+
 /// Whether a reply tells these names, each with a space behind it.
-pub fn tells(alloc: Global, reply: &Reply, wanted: &[u8]) -> Result<bool, AllocError> {
+pub fn tells(alloc: Global, reply: &Reply, wanted: &[u8]) -> bool {
     match &reply.value {
-        Value::Many(infos) => Ok(*names_of(alloc, infos.as_slice())?.as_slice() == *wanted),
+        Value::Many(infos) => are_names(alloc, infos.as_slice(), wanted),
         Value::Nothing
         | Value::Id(_)
         | Value::One(_)
         | Value::Bytes(_)
         | Value::Place { .. }
-        | Value::Full { .. } => Ok(wanted.is_empty()),
+        | Value::Full { .. } => wanted.is_empty(),
     }
 }
 
-/// What a viewer lists of the root.
-pub fn list_of(alloc: Global, viewer: &mut Viewer) -> Result<Reply, ViewFault>
-    ensures { OnOk result (viewer.new.book ≡ viewer.old.book) }
+/// Whether these are the names of the root's children as a viewer lists them, each with a space behind it.
+pub fn lists(alloc: Global, viewer: &mut Viewer, wanted: &[u8]) -> bool
+    ensures { viewer.new.book ≡ viewer.old.book }
 {
     match viewer.list(alloc, 2) {
-        Ok(reply) => Ok(reply),
-        Err(fault) => Err(fault),
-    }
-}
-
-/// Whether these are the names of the root's children, each with a space behind it.
-pub fn lists(alloc: Global, viewer: &mut Viewer, wanted: &[u8]) -> Result<bool, Fail>
-    ensures { OnOk result (viewer.new.book ≡ viewer.old.book) }
-{
-    match list_of(alloc, viewer) {
-        Ok(reply) => Ok(tells(alloc, &reply, wanted)?),
-        Err(_fault) => Err(Fail::from("no list")),
+        Ok(reply) => tells(alloc, &reply, wanted),
+        Err(_fault) => false,
     }
 }

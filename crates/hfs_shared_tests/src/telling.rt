@@ -1,102 +1,84 @@
-//! What viewers see of what they are told.
-ghost use Rattle.std.specs.Prelude.{◌≡◌, All, OnOk};
+//! What a viewer sees of what it is told.
+ghost use Rattle.std.specs.Prelude.{◌≡◌};
 
-use crate::sharing::{
-    applied, begun, closed, last, last_pass, list_of, lists, make_file, new_volume, only, tells,
-};
-use hfs_shared::{Guard, Parts, Pass, Session, Shared, ViewFault, Viewer};
+use crate::closing::counts_of;
+use crate::sharing::{applied, begun_new, begun_one, closed, lists, make_file, new_volume};
+use hfs_shared::{Closed, Guard, Parts, Pass, Session, Shared, Viewer};
 use std::alloc::Global;
 use std::marker::Brand;
 use std::sync::Wait;
 use std::test::Fail;
-
-/// Whether the viewer lists these names, or is gone.
-fn lists_or_is_gone(alloc: Global, viewer: &mut Viewer, wanted: &[u8]) -> Result<bool, Fail> {
-    match list_of(alloc, viewer) {
-        Ok(reply) => Ok(tells(alloc, &reply, wanted)?),
-        Err(ViewFault::Gone) => Ok(true),
-        Err(ViewFault::Memory) => Ok(false),
-    }
-}
 
 /// Whether a viewer that learns what is told of the file `b`, and then of the file `a` that was made before it, lists both.
 fn learns_both<K: Session>(
     rt: &impl Wait,
     alloc: Global,
     shared: &Shared<K>,
-    passes: &mut Vec<Pass>,
+    pass: &mut Pass,
     viewer: &mut Viewer,
-) -> Result<bool, Fail>
+) -> bool
     requires { viewer.old.book ≡ K.book }
-    ensures { OnOk result (viewer.new.book ≡ K.book) }
+    ensures { viewer.new.book ≡ K.book }
 {
-    let Some(pass) = passes.first_mut() else {
-        return Err(Fail::from("a pass"));
+    let Some(first) = make_file(rt, alloc, shared, pass, b"a") else {
+        return false;
     };
-    let first = make_file(rt, alloc, shared, pass, b"a")?;
-    let second = make_file(rt, alloc, shared, pass, b"b")?;
+    let Some(second) = make_file(rt, alloc, shared, pass, b"b") else {
+        return false;
+    };
     viewer.learn(&second);
     viewer.learn(&first);
     lists(alloc, viewer, b"a b ")
 }
 
-/// Closes: the entries, and what is shown.
-fn counts_closed<K: Session>(
+/// The same by the first of these passes.
+fn learns_by_first<K: Session>(
     rt: &impl Wait,
-    shared: Shared<K>,
-    passes: Vec<Pass>,
+    alloc: Global,
+    shared: &Shared<K>,
+    passes: &mut Vec<Pass>,
     viewer: &mut Viewer,
-) -> Result<(usize, u64), Fail>
+) -> bool
     requires { viewer.old.book ≡ K.book }
+    ensures { viewer.new.book ≡ K.book }
 {
-    let closed = closed(rt, shared, passes, viewer)?;
-    Ok((closed.journal.len(), closed.shown))
+    match passes.first_mut() {
+        Some(pass) => learns_both(rt, alloc, shared, pass, viewer),
+        None => false,
+    }
 }
 
-/// The entries and what is shown of a volume with two files, if a viewer that learns the second told list and then the first lists
-/// both, and does so, or is gone, when it was lent to closing.
+/// The same, and what closing gives by the viewer that learned of both.
 fn learned<K: Session, R: Wait>(
     rt: &R,
     alloc: Global,
     parts: Parts,
     mut passes: Vec<Pass>,
-    viewers: &mut Vec<Viewer>,
-) -> Result<(usize, u64), Fail>
+    mut viewer: Viewer,
+) -> (bool, Option<Closed>)
     requires parts { (parts.book ≡ K.book) × (parts.base ≡ K.base) }
-    requires viewers { All (λ k. k.book ≡ K.book) viewers.old.items }
+    requires viewer { viewer.book ≡ K.book }
 {
     let shared = parts.share::<K>();
-    let mut viewer = last::<K>(viewers)?;
-    let before = learns_both(rt, alloc, &shared, &mut passes, &mut viewer)?;
-    let counts = counts_closed(rt, shared, passes, &mut viewer)?;
-    if !before || !lists_or_is_gone(alloc, &mut viewer, b"a b ")? {
-        return Err(Fail::from("another list"));
-    }
-    Ok(counts)
+    let learns = learns_by_first(rt, alloc, &shared, &mut passes, &mut viewer);
+    (learns, closed(rt, shared, passes, &mut viewer))
 }
 
-fn learned_on_new(rt: &impl Wait, alloc: Global) -> Result<(usize, u64), Fail> {
-    let (parts, passes, mut viewers) = begun(rt, alloc, new_volume(alloc)?, 1, 2)?;
-    learned::<Brand, _>(rt, alloc, parts, passes, &mut viewers)
+/// The same of a new volume: whether both are listed, how many entries there are, how many are shown, and whether blocks are changed.
+fn learned_on_new(
+    rt: &impl Wait,
+    alloc: Global,
+) -> Result<(bool, Option<(usize, u64, bool)>), Fail> {
+    let (parts, passes, viewer) = begun_new(rt, alloc, 1)?;
+    let (learns, closed) = learned::<Brand, _>(rt, alloc, parts, passes, viewer);
+    Ok((learns, counts_of(closed)))
 }
 
 #[test]
 fn told_lists_are_learned_in_any_order(rt: HostRuntime) -> Result<(), Fail> {
-    let counts = learned_on_new(&rt, rt.alloc())?;
-    assert!(rt; counts == (2, 2));
+    let learned = learned_on_new(&rt, rt.alloc())?;
+    assert!(rt; learned == (true, Some((2, 2, true))));
     Ok(())
-}
-
-/// Makes the file `a` under the lock.
-fn apply_one<K: Session>(
-    alloc: Global,
-    guard: &mut Guard<'_, K>,
-    pass: &mut Pass,
-) -> Result<(), Fail> {
-    match applied(alloc, guard, pass, b"a")? {
-        None => Ok(()),
-        Some(_fault) => Err(Fail::from("not answered")),
-    }
 }
 
 /// Publishes what waits, and lets a viewer learn it: what is told of how many entries are shown, and are made.
@@ -112,26 +94,27 @@ fn publish_to<K: Session>(
     (told.shown(), told.made())
 }
 
-/// While the lock is held: how many entries are shown before a publish and after it, and what is told of both numbers, if a viewer
-/// lists nothing before it, and the file `a` when it was told.
+/// While the lock is held: how many entries are shown before a publish and after it, and what is told of both numbers; and whether
+/// a viewer lists nothing before it, and the file `a` alone when it was told.
 fn shown_under_lock<K: Session>(
     rt: &impl Wait,
     alloc: Global,
     shared: &Shared<K>,
     pass: &mut Pass,
     viewer: &mut Viewer,
-) -> Result<[u64; 4], Fail>
+) -> ([u64; 4], bool)
     requires { viewer.old.book ≡ K.book }
 {
     let mut guard = shared.lock(rt);
-    apply_one(alloc, &mut guard, pass)?;
+    let is_made = applied(alloc, &mut guard, pass, b"a").is_ok();
     let waiting = guard.shown();
-    let before = lists(alloc, viewer, b"")?;
+    let is_empty = lists(alloc, viewer, b"");
     let (shown, made) = publish_to(rt, &mut guard, viewer);
-    if !before || !lists(alloc, viewer, b"a ")? || viewer.changes() != 1 {
-        return Err(Fail::from("another list"));
-    }
-    Ok([waiting, guard.shown(), shown, made])
+    let has_one = lists(alloc, viewer, b"a ") && viewer.changes() == 1;
+    (
+        [waiting, guard.shown(), shown, made],
+        is_made && is_empty && has_one,
+    )
 }
 
 /// The same of the parts of a volume.
@@ -139,26 +122,25 @@ fn shown_by_publish<K: Session, R: Wait>(
     rt: &R,
     alloc: Global,
     parts: Parts,
-    passes: Vec<Pass>,
-    viewers: Vec<Viewer>,
-) -> Result<[u64; 4], Fail>
+    mut pass: Pass,
+    mut viewer: Viewer,
+) -> ([u64; 4], bool)
     requires parts { (parts.book ≡ K.book) × (parts.base ≡ K.base) }
-    requires viewers { All (λ k. k.book ≡ K.book) viewers.items }
+    requires viewer { viewer.book ≡ K.book }
 {
     let shared = parts.share::<K>();
-    let mut viewer = only::<K>(viewers)?;
-    let mut pass = last_pass(passes)?;
     shown_under_lock(rt, alloc, &shared, &mut pass, &mut viewer)
 }
 
-fn shown_on_new(rt: &impl Wait, alloc: Global) -> Result<[u64; 4], Fail> {
-    let (parts, passes, viewers) = begun(rt, alloc, new_volume(alloc)?, 1, 1)?;
-    shown_by_publish::<Brand, _>(rt, alloc, parts, passes, viewers)
+fn shown_on_new(rt: &impl Wait, alloc: Global) -> Result<([u64; 4], bool), Fail> {
+    let (parts, pass, viewer) = begun_one(rt, alloc, new_volume(alloc)?)?;
+    let shown = shown_by_publish::<Brand, _>(rt, alloc, parts, pass, viewer);
+    Ok(shown)
 }
 
 #[test]
 fn what_waits_is_shown_by_a_publish(rt: HostRuntime) -> Result<(), Fail> {
-    let numbers = shown_on_new(&rt, rt.alloc())?;
-    assert!(rt; numbers == [0, 1, 1, 1]);
+    let shown = shown_on_new(&rt, rt.alloc())?;
+    assert!(rt; shown == ([0, 1, 1, 1], true));
     Ok(())
 }

@@ -1,8 +1,9 @@
 //! A shared volume that no viewer reads.
 ghost use Rattle.std.specs.Prelude.{◌≡◌, IfOk};
 
-use crate::sharing::{closed, list_of, make_file, new_volume, tells};
-use hfs_shared::{Closed, Parts, Pass, Session, Shared, ViewFault, Viewer};
+use crate::closing::closed_after;
+use crate::sharing::{new_volume, tells};
+use hfs_shared::{Closed, Parts, Pass, ViewFault, Viewer};
 use hfs_volume::Volume;
 use std::alloc::Global;
 use std::marker::Brand;
@@ -19,68 +20,59 @@ fn begun_unread(alloc: Global) -> Result<(Parts, Vec<Pass>, Viewer), Fail>
     }
 }
 
+/// A volume that no viewer read, which two workers have closed with a call each.
+fn closed_unread(rt: &impl Wait, alloc: Global) -> Result<Option<Closed>, Fail> {
+    let (parts, passes, viewer) = begun_unread(alloc)?;
+    let closed = closed_after::<Brand, _>(rt, alloc, parts, passes, viewer, b"a");
+    Ok(closed)
+}
+
+/// Whether the root has the file `a` alone.
+fn has_one(alloc: Global, volume: &Volume) -> bool {
+    match volume.list(alloc, 2) {
+        Ok(reply) => tells(alloc, &reply, b"a "),
+        Err(_refused) => false,
+    }
+}
+
+/// Whether a volume has the file `a` alone, and a journal of two calls, both of which are shown.
+fn is_whole(alloc: Global, closed: &Option<Closed>) -> bool {
+    match closed {
+        Some(closed) => has_one(alloc, &closed.volume)
+            && (closed.journal.len(), closed.shown) == (2, 2),
+        None => false,
+    }
+}
+
+/// The same of the volume that two workers have closed.
+fn is_closed_whole(rt: &impl Wait, alloc: Global) -> Result<bool, Fail> {
+    let closed = closed_unread(rt, alloc)?;
+    Ok(is_whole(alloc, &closed))
+}
+
+#[test]
+fn a_volume_that_nobody_reads_is_closed_with_all_calls(rt: HostRuntime) -> Result<(), Fail> {
+    assert!(rt; is_closed_whole(&rt, rt.alloc())?);
+    Ok(())
+}
+
 /// Whether a list is refused, since nothing is kept for viewers.
 fn is_gone(alloc: Global, viewer: &mut Viewer) -> bool {
-    match list_of(alloc, viewer) {
+    match viewer.list(alloc, 2) {
         Ok(_reply) => false,
         Err(ViewFault::Gone) => true,
         Err(ViewFault::Memory) => false,
     }
 }
 
-/// Each worker makes the file `a`, which the second one finds there.
-fn make_each<K: Session>(
-    rt: &impl Wait,
-    alloc: Global,
-    shared: &Shared<K>,
-    passes: &mut Vec<Pass>,
-) -> Result<(), Fail> {
-    for pass in passes {
-        make_file(rt, alloc, shared, pass, b"a")?;
-    }
-    Ok(())
-}
-
-/// Both workers make a call, and the volume is closed.
-fn closed_after_two<K: Session, R: Wait>(
-    rt: &R,
-    alloc: Global,
-    parts: Parts,
-    mut passes: Vec<Pass>,
-    mut viewer: Viewer,
-) -> Result<Closed, Fail>
-    requires parts { (parts.book ≡ K.book) × (parts.base ≡ K.base) }
-    requires viewer { viewer.book ≡ K.book }
-{
-    let shared = parts.share::<K>();
-    make_each(rt, alloc, &shared, &mut passes)?;
-    closed(rt, shared, passes, &mut viewer)
-}
-
-/// A volume that no viewer read, which two workers have closed.
-fn closed_unread(rt: &impl Wait, alloc: Global) -> Result<Closed, Fail> {
-    let (parts, passes, viewer) = begun_unread(alloc)?;
-    closed_after_two::<Brand, _>(rt, alloc, parts, passes, viewer)
-}
-
-/// Whether the root has the file `a` alone.
-fn has_one(alloc: Global, volume: &Volume) -> Result<bool, Fail> {
-    let reply = volume.list(alloc, 2)?;
-    Ok(tells(alloc, &reply, b"a ")?)
-}
-
-#[test]
-fn a_volume_that_nobody_reads_is_closed_with_all_calls(rt: HostRuntime) -> Result<(), Fail> {
-    let closed = closed_unread(&rt, rt.alloc())?;
-    assert!(rt; (closed.journal.len(), closed.shown) == (2, 2));
-    assert!(rt; has_one(rt.alloc(), &closed.volume)?);
-    Ok(())
+/// Whether there are two passes, and a list is refused.
+fn is_unread(alloc: Global) -> Result<bool, Fail> {
+    let (_parts, passes, mut viewer) = begun_unread(alloc)?;
+    Ok(passes.len() == 2 && is_gone(alloc, &mut viewer))
 }
 
 #[test]
 fn where_nobody_reads_a_list_is_gone(rt: HostRuntime) -> Result<(), Fail> {
-    let (_parts, passes, mut viewer) = begun_unread(rt.alloc())?;
-    assert!(rt; passes.len() == 2);
-    assert!(rt; is_gone(rt.alloc(), &mut viewer));
+    assert!(rt; is_unread(rt.alloc())?);
     Ok(())
 }

@@ -3,7 +3,7 @@ use Rattle.std.proofs.Common.{◌≡◌, ℕ, ◌<◌, sym, subst, arith, replic
 use Rattle.std.proofs.lemmas.List.{length-replicate}
 use Rattle.hfs_blocks.specs.Layers.{Numbered, Changes, changes, with_change, AreWithin}
 use Rattle.hfs_blocks.proofs.LayerLemmas.{AreWithin-with_change, AreWithin-nothing}
-use Rattle.hfs_patched_tests.proofs.patched.written.Goals as goal
+use Rattle.hfs_volume_tests.proofs.patched.written.Goals as goal
 
 one_more : (old new : Changes) (n value count : ℕ) → new ≡ with_change old n (replicate 512 value) → n < count → AreWithin old count → AreWithin new count
 one_more old new n value count is low within =

@@ -1,11 +1,10 @@
 //! The blocks that calls read and write.
-use hfs_blocks::Patch;
 use hfs_check::MountFault;
 use hfs_fixtures::{SmallVolume, small_image};
 use hfs_needed::NeededFault;
 use hfs_sparse::ByteSource;
 use hfs_volume::Volume;
-use hfs_working::{WorkingVolume, kept_to, mount_read, open_working};
+use hfs_working::{WorkingVolume, mount_read, open_working};
 use std::alloc::Global;
 use std::process::Abort;
 

@@ -1,4 +1,5 @@
 //! Images that are written with changed blocks in place of their own.
+use crate::saving::pattern;
 use hfs_blocks::Patch;
 use hfs_patched::{PatchedFault, write_patched};
 use hfs_sparse::ByteSource;
@@ -7,15 +8,6 @@ use std::alloc::{AllocError, Global};
 
 /// As many bytes as 2,049 blocks and 100 bytes more: a piece of 1 MB, and another one.
 const LEN: usize = 1_049_188;
-
-/// Bytes whose blocks all differ: byte `k` is `k` mod 251.
-fn pattern(alloc: Global, len: usize) -> Result<Vec<u8>, AllocError> {
-    let mut bytes = Vec::new(alloc);
-    for k in 0..len {
-        bytes.push((k % 251) as u8)?;
-    }
-    Ok(bytes)
-}
 
 /// The pattern, with blocks 1, 2,047 and 2,048 that have one value each.
 fn changed_pattern(alloc: Global) -> Result<Vec<u8>, AllocError> {
