@@ -13,8 +13,6 @@ mod manifests;
 mod source;
 mod sums;
 mod tags;
-#[cfg(test)]
-mod tests;
 
 pub use crate::bag::{give_bag, give_payload, give_tag_files};
 pub use crate::facts::BagFacts;

@@ -9,8 +9,6 @@ mod laws;
 mod moments;
 mod paths;
 mod plain;
-#[cfg(test)]
-mod tests;
 
 pub use characters::push_characters;
 pub use digits::push_hex;

@@ -7,8 +7,6 @@ mod csv_line;
 mod format;
 mod json_line;
 mod tab_line;
-#[cfg(test)]
-mod tests;
 
 pub use csv_line::push_own_csv_line;
 pub use format::{Format, push_head, push_row};

@@ -2,8 +2,6 @@
 #![tactic(auto)]
 
 mod rows;
-#[cfg(test)]
-mod tests;
 mod verdict;
 mod words;
 
