@@ -1,10 +1,10 @@
 #!/usr/bin/env python3
-"""How long `collect` takes, and how much memory.
+"""How long hfs_collect takes, and how much memory.
 
-measure/collection_times.py floppies [COUNT]   so many floppies of 800 KB with 60 files each, 100 where none are named: `collect`
+measure/collection_times.py floppies [COUNT]   so many floppies of 800 KB with 60 files each, 100 where none are named: hfs_collect
                                                beside `items` and sha256sum of each image and of each fork of its files
 measure/collection_times.py items [COUNT]      one volume of so many items, 60,000 where none are named: time and memory
-measure/collection_times.py rows [COUNT]       a database of so many rows, 1,000,000 where none are named: `collect --compare` of
+measure/collection_times.py rows [COUNT]       a database of so many rows, 1,000,000 where none are named: hfs_collect --compare of
                                                one image beside sqlite3's PRAGMA quick_check
 
 Each runs three times, and the best is told. Every other floppy is a copy of
@@ -23,11 +23,16 @@ from pathlib import Path
 
 ROOT = Path(__file__).resolve().parents[1]
 TOOL = os.environ.get('HFS_TOOL') or str(ROOT / 'crates' / 'hfs_tool' / 'out' / 'hfs_tool')
+COLLECT = os.environ.get('HFS_COLLECT') or str(ROOT / 'crates' / 'hfs_collect' / 'out' / 'hfs_collect')
 RUNS = 3
 
 
-def done(*words):
-    return subprocess.run([TOOL, *map(str, words)], stdin=subprocess.DEVNULL, stdout=subprocess.PIPE, check=True).stdout
+def done(*words, program=TOOL):
+    return subprocess.run([program, *map(str, words)], stdin=subprocess.DEVNULL, stdout=subprocess.PIPE, check=True).stdout
+
+
+def collect(*words):
+    return done(*words, program=COLLECT)
 
 
 def best(*jobs):
@@ -67,7 +72,7 @@ def floppies(folder, count):
 
     def collected():
         (folder / 'c.db').unlink(missing_ok=True)
-        done('collect', folder / 'c.db', *images)
+        collect(folder / 'c.db', *images)
 
     def apart():
         for image in images:
@@ -82,7 +87,7 @@ def items(folder, count):
 
     def collected():
         (folder / 'c.db').unlink(missing_ok=True)
-        done('collect', folder / 'c.db', folder / 'many.img')
+        collect(folder / 'c.db', folder / 'many.img')
     (one,) = best(collected)
     memory = resource.getrusage(resource.RUSAGE_CHILDREN).ru_maxrss / 1024
     print(f'{count} items: {one:.2f} s, at most {memory:.0f} MB in any program that was run, {os.path.getsize(folder / "c.db") / 1e6:.1f} MB on the disk')
@@ -90,14 +95,14 @@ def items(folder, count):
 
 def rows(folder, count):
     done('new', folder / 'one.img', 'D', 64, 6, 2)
-    done('collect', folder / 'c.db', folder / 'one.img')
+    collect(folder / 'c.db', folder / 'one.img')
     database = sqlite3.connect(folder / 'c.db')
     columns = 'volume, number, path, bag_path, kind, cnid, parent, flags, finder, data_sha256, resource_sha256'
     database.execute(f"WITH RECURSIVE n (k) AS (SELECT 1 UNION ALL SELECT k + 1 FROM n WHERE k < {count}) INSERT INTO item ({columns}) "
                      "SELECT 1, k, 'D:folder:file ' || k, 'folder/file ' || k, 'file', k, 2, '0000', hex(zeroblob(32)), lower(hex(randomblob(32))), lower(hex(randomblob(32))) FROM n")
     database.commit()
     database.close()
-    one, other = best(lambda: done('collect', folder / 'c.db', '--compare', folder / 'one.img'),
+    one, other = best(lambda: collect(folder / 'c.db', '--compare', folder / 'one.img'),
                       lambda: subprocess.run(['sqlite3', folder / 'c.db', 'PRAGMA quick_check'], stdout=subprocess.DEVNULL, check=True))
     print(f'{count} rows: opening {one:.2f} s, quick_check {other:.2f} s, {one / other:.2f} times')
 

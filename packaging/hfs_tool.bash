@@ -2,7 +2,7 @@
 _hfs_tool() {
     local word=${COMP_WORDS[COMP_CWORD]} first=${COMP_WORDS[1]} options=--help
     if [ "$COMP_CWORD" -eq 1 ]; then
-        mapfile -t COMPREPLY < <(compgen -W 'info check ls items page cat take rescue volumes collect new repair run help --help --version' -- "$word")
+        mapfile -t COMPREPLY < <(compgen -W 'info check ls items page cat take rescue volumes new repair run help --help --version' -- "$word")
         return
     fi
     case $first in
@@ -12,10 +12,9 @@ _hfs_tool() {
         cat) options='--path --resource --macbinary --volume --help' ;;
         take) options='--volume --no-digest --help' ;;
         rescue) options='--list --limit --volume --no-digest --help' ;;
-        collect) options='--compare --no-digest --help' ;;
         new) options='--now --help' ;;
         run) options='--now --out --help' ;;
-        help) mapfile -t COMPREPLY < <(compgen -W 'info check ls items page cat take rescue volumes collect new repair run' -- "$word") && return ;;
+        help) mapfile -t COMPREPLY < <(compgen -W 'info check ls items page cat take rescue volumes new repair run' -- "$word") && return ;;
     esac
     case $word in
         -*) mapfile -t COMPREPLY < <(compgen -W "$options" -- "$word") ;;

@@ -1,10 +1,10 @@
 #!/usr/bin/env bash
-# Builds a proved program with all libraries below it, as many side by side as there is room for: each library is proved and built
-# once those below it are, then the program. What is built already, here or in another checkout of the same text on this machine,
+# Builds proved programs with all libraries below them, as many side by side as there is room for: each library is proved and built
+# once those below it are, then the programs. What is built already, here or in another checkout of the same text on this machine,
 # is taken as it is, as `rt run` takes it. At the end crates/CRATE/out/CRATE is there, and with --both what Rattle's own compiler
 # makes of the same proof, crates/CRATE/out/CRATE.by-rattle; the last line says how long it took.
 #
-# scripts/build.sh [--both] [CRATE..]; the program is hfs_tool where none is named. RT_JOBS says how many are proved side by side.
+# scripts/build.sh [--both] [CRATE..]; the programs are hfs_tool and hfs_collect where none is named. RT_JOBS says how many are proved side by side.
 set -euo pipefail
 cd "$(dirname "$0")/.."
 both=()
@@ -12,7 +12,7 @@ if [ "${1:-}" = --both ]; then
     both=(--both)
     shift
 fi
-[ $# -gt 0 ] || set -- hfs_tool
+[ $# -gt 0 ] || set -- hfs_tool hfs_collect
 log=$(mktemp)
 trap 'rm -f "$log"' EXIT
 lanes=$(scripts/lanes.sh)

@@ -3,7 +3,7 @@
 # Rattle's own compiler as out/CRATE.by-rattle. It trusts what was kept, as `rt run` does, so it is no verdict: `rt ci` is.
 # The libraries must have been built: scripts/build.sh builds them first, and is what to run where one doesn't know.
 #
-# scripts/build_program.sh [--both] CRATE, as in: scripts/build_program.sh hfs_tool
+# scripts/build_program.sh [--both] CRATE, as in: scripts/build_program.sh hfs_tool, or hfs_collect
 set -euo pipefail
 root=$(cd "$(dirname "$0")/.." && pwd)
 kit=/opt/rattle

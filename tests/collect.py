@@ -1,5 +1,5 @@
 #!/usr/bin/env python3
-"""Collections in one database, as `collect` makes them, against other programs: sqlite3 reads each
+"""Collections in one database, as hfs_collect makes them, against other programs: sqlite3 reads each
 database (its own check of the file, keys, the tables' text), and each row stands beside what
 `items`, `volumes`, `info`, `ls` and `cat` tell of the image and hashlib sums of it; of a refused
 volume beside what `rescue` lists and the bag that it writes, for each damage of tests/damaged.sh and
@@ -9,7 +9,7 @@ locked, read-only or no databases; devices that are full; images that can't be r
 middle, that are the database itself, that have two paths or odd names; memory that is refused; runs
 that are killed at moments by chance; comparisons; and many images in one run.
 
-tests/collect.py [--images N] [--kills N] [--seed N]    runs $HFS_TOOL, or the program as it is built in crates/hfs_tool/out
+tests/collect.py [--images N] [--kills N] [--seed N]    runs $HFS_COLLECT and $HFS_TOOL, or the programs as they are built
 
 It prints what was compared; at a difference it says which and ends with status 1. What needs root, a
 C compiler or the program sqlite3 is left out where there is none, and told.
@@ -43,9 +43,10 @@ from volumes import in_disk_copy, in_map, in_macbinary
 
 HERE = Path(__file__).resolve().parent
 TOOL = str(built('hfs_tool'))
+COLLECT = str(built('hfs_collect'))
 VOLUMES = HERE / 'volumes'
 P6 = '8a87ab0d0aabcd89bc3175134dae1fbd9e84c136bc25c294375b54fecd06434f'
-PROGRAM = 'hfs_tool 1.0.0'
+PROGRAM = 'hfs_collect 1.0.0'
 TABLES = [
     'CREATE TABLE image (id INTEGER PRIMARY KEY, path TEXT NOT NULL UNIQUE, bytes INTEGER NOT NULL, sha256 TEXT, program TEXT NOT NULL)',
     'CREATE TABLE volume (id INTEGER PRIMARY KEY, image INTEGER NOT NULL REFERENCES image (id) ON DELETE CASCADE, number INTEGER NOT NULL, how TEXT NOT NULL, '
@@ -148,8 +149,13 @@ def shown(path):
     return ''.join(f'\\{ord(it):02x}' if it < ' ' or it in '\x7f\\' else it for it in path)
 
 
+def called(*words):
+    """The program that words are for, and its words: `collect` stands for hfs_collect, every other word is one of hfs_tool."""
+    return [COLLECT, *map(str, words[1:])] if words[0] == 'collect' else [TOOL, *map(str, words)]
+
+
 class Place:
-    """A folder in which the program is run."""
+    """A folder in which the programs are run."""
 
     def __init__(self, folder):
         self.folder = Path(folder)
@@ -158,7 +164,7 @@ class Place:
     def run(self, *words, **how):
         """The status of the words, and what they print. Nothing goes to standard error."""
         how = {'stdin': subprocess.DEVNULL, 'timeout': 300, 'cwd': self.folder, **how}
-        ran = subprocess.run([TOOL, *map(str, words)], stdout=subprocess.PIPE, stderr=subprocess.PIPE, **how)
+        ran = subprocess.run(called(*words), stdout=subprocess.PIPE, stderr=subprocess.PIPE, **how)
         ensure(not ran.stderr, f'{words} writes to standard error: {ran.stderr[:500]!r}')
         return ran.returncode, ran.stdout.decode('utf-8')
 
@@ -441,7 +447,7 @@ def worked_example(place):
     for _ in range(2):
         place.wants(0, line, 'collect', 'c.db', 'p6.img')
         ensure(place.names() == ['c.db', 'p6.img'], f'the folder has {place.names()}')
-        ensure(table_lines(place.folder / 'c.db', 'image') == [f'1|p6.img|32768|{P6}|hfs_tool 1.0.0'], 'the row of the image')
+        ensure(table_lines(place.folder / 'c.db', 'image') == [f'1|p6.img|32768|{P6}|hfs_collect 1.0.0'], 'the row of the image')
         ensure(table_lines(place.folder / 'c.db', 'volume') == ['1|1|1|bare|0|32768|D||||58|512|50|sound'], 'the row of the volume')
         ensure(table_lines(place.folder / 'c.db', 'item') == [f'1|1|0|D||folder|2|1|||0000||||||0|||{zeros}||||'], 'the row of the item')
     ensure(schema_of(place.folder / 'c.db') == TABLES, 'the text of the tables')
@@ -625,6 +631,12 @@ def refused_words(place):
         ensure(status == 1 and text, f'collect {words} ends with {status}')
         ensure(place.names() == ['p6.img'], f'collect {words} leaves {place.names()}')
     ensure('--compare' in place.done('collect', '--help'), 'the help')
+    # Of hfs_tool it is no word, whatever stands behind it.
+    for words in ([], ['c.db'], ['c.db', 'p6.img'], ['c.db', '--compare'], ['--help'], ['--none', '']):
+        ran = subprocess.run([TOOL, 'collect', *words], stdin=subprocess.DEVNULL, capture_output=True, text=True, cwd=place.folder, timeout=60)
+        found = (ran.returncode, ran.stdout, ran.stderr)
+        ensure(found == (1, 'collect is a program of its own: hfs_collect\n', ''), f'hfs_tool collect {words}: {found}')
+        ensure(place.names() == ['p6.img'], f'hfs_tool collect {words} leaves {place.names()}')
 
 
 def made_by_sqlite(place):
@@ -975,7 +987,7 @@ def killed(place, count, seed):
         for end in ('wal', 'shm'):
             (place.folder / f'c.db-{end}').unlink(missing_ok=True)
         place.file('c.db', kept)
-        run = subprocess.Popen([TOOL, 'collect', 'c.db', *names], cwd=place.folder, stdout=subprocess.DEVNULL, stdin=subprocess.DEVNULL)
+        run = subprocess.Popen(called('collect', 'c.db', *names), cwd=place.folder, stdout=subprocess.DEVNULL, stdin=subprocess.DEVNULL)
         time.sleep(chance.uniform(0, length))
         run.send_signal(signal.SIGKILL)
         run.wait()
@@ -990,7 +1002,7 @@ def killed(place, count, seed):
     for _ in range(count):
         for end in ('', '-wal', '-shm'):
             (place.folder / f'c.db{end}').unlink(missing_ok=True)
-        run = subprocess.Popen([TOOL, 'collect', 'c.db', *names], cwd=place.folder, stdout=subprocess.DEVNULL, stdin=subprocess.DEVNULL)
+        run = subprocess.Popen(called('collect', 'c.db', *names), cwd=place.folder, stdout=subprocess.DEVNULL, stdin=subprocess.DEVNULL)
         time.sleep(chance.uniform(0, length))
         run.send_signal(signal.SIGKILL)
         run.wait()
@@ -1023,7 +1035,7 @@ def full_output(place):
     """A device for what is printed that is full: what was collected stays."""
     small_volume(place)
     with open('/dev/full', 'wb') as full:
-        ran = subprocess.run([TOOL, 'collect', 'c.db', 'p6.img'], stdout=full, stderr=subprocess.PIPE, cwd=place.folder, timeout=600)
+        ran = subprocess.run(called('collect', 'c.db', 'p6.img'), stdout=full, stderr=subprocess.PIPE, cwd=place.folder, timeout=600)
     ensure((ran.returncode, ran.stderr) == (4, b''), f'collect on a full device ends with {ran.returncode}')
     holds(place, [image_rows(place, 'p6.img')])
 
@@ -1033,7 +1045,7 @@ def terminal(place):
     small_volume(place)
     place.file('more.img', (place.folder / 'p6.img').read_bytes())
     ours, theirs = os.openpty()
-    ran = subprocess.run([TOOL, 'collect', 'c.db', 'p6.img', 'more.img', 'none.img'], stdin=subprocess.DEVNULL, stdout=subprocess.PIPE, stderr=theirs, cwd=place.folder,
+    ran = subprocess.run(called('collect', 'c.db', 'p6.img', 'more.img', 'none.img'), stdin=subprocess.DEVNULL, stdout=subprocess.PIPE, stderr=theirs, cwd=place.folder,
                          timeout=600)
     os.close(theirs)
     told = b''

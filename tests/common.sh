@@ -32,12 +32,13 @@ is_fresh() {
     [ -z "$(find "${folders[@]}" -type f -newer "$built" -print -quit)" ]
 }
 
-# The path of a program: that which HFS_TOOL or HFS_PLAIN names, or the one of this repository, which is proved and built first
+# The path of a program: that which HFS_TOOL, HFS_COLLECT or HFS_PLAIN names, or the one of this repository, which is proved and built first
 # where it isn't there or a source of it is newer. Where several scripts ask, one builds and the others wait.
 program() {
     local named
     case $1 in
         hfs_tool) named=${HFS_TOOL:-} ;;
+        hfs_collect) named=${HFS_COLLECT:-} ;;
         hfs_plain) named=${HFS_PLAIN:-} ;;
         *) named= ;;
     esac

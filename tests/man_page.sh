@@ -1,7 +1,13 @@
 #!/usr/bin/env bash
-# Prints the man page, made of what the program's own help says: tests/man_page.sh > docs/hfs_tool.1
+# Prints the man page of a program, made of what its own help says: tests/man_page.sh hfs_tool > docs/hfs_tool.1, and
+# tests/man_page.sh hfs_collect > docs/hfs_collect.1
 . "$(dirname "$0")/common.sh"
-tool=$(program hfs_tool)
+name=$1
+case $name in
+    hfs_tool) does='reads and checks HFS volumes, runs scripts on them, mends their counts, and makes new ones' ;;
+    hfs_collect) does='collects HFS images in one database, and compares them with it' ;;
+esac
+tool=$(program "$name")
 
 # Text as it stands, between lines that neither fill nor indent it anew.
 as_it_stands() {
@@ -10,11 +16,11 @@ as_it_stands() {
     echo .fi
 }
 
-cat << 'END'
-.\" Made by tests/man_page.sh of the program's own help; don't edit.
-.TH HFS_TOOL 1
+cat << END
+.\\" Made by tests/man_page.sh of the program's own help; don't edit.
+.TH ${name^^} 1
 .SH NAME
-hfs_tool \- reads and checks HFS volumes, runs scripts on them, mends their counts, and makes new ones
+$name \\- $does
 .SH DESCRIPTION
 END
 "$tool" --help | as_it_stands

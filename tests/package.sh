@@ -1,5 +1,5 @@
 #!/usr/bin/env bash
-# Makes the package, lays it into a folder, and runs what was installed: the program, its man page, and the completion of its words.
+# Makes the package, lays it into a folder, and runs what was installed: the programs, their man pages, and the completion of their words.
 # Prints 'the package agrees', or what differs and ends with status 1. Where dpkg-deb is missing it says that it was skipped.
 . "$(dirname "$0")/common.sh"
 command -v dpkg-deb > /dev/null || { echo 'the package: skipped, since dpkg-deb is missing'; exit 0; }
@@ -13,20 +13,26 @@ fail() {
 
 package=$(scripts/package.sh "$folder")
 version=$($(program hfs_tool) --version | awk '{ print $2 }')
+[ "$($(program hfs_collect) --version | awk '{ print $2 }')" = "$version" ] || fail 'the version of hfs_collect'
 [ "$(dpkg-deb -f "$package" Version)" = "$version" ] || fail 'its version'
 [ "$(dpkg-deb -f "$package" Depends)" = libc6 ] || fail 'what it stands on'
 dpkg-deb -x "$package" "$folder/root"
 tool=$folder/root/usr/bin/hfs_tool
+collect=$folder/root/usr/bin/hfs_collect
 share=$folder/root/usr/share
 
 [ "$("$tool" check tests/volumes/hfsutils-800k.img | head -n 1)" = sound ] || fail 'what the installed program says of a disk'
+[ "$("$collect" "$folder/disks.db" tests/volumes/hfsutils-800k.img)" = $'tests/volumes/hfsutils-800k.img\tvolumes 1\trefused 0\tfiles 7\tdamaged 0' ] ||
+    fail 'what the installed hfs_collect says of a disk'
 if command -v ldd > /dev/null; then
-    others=$(ldd "$tool" | awk '{ print $1 }' | grep -v -E '^(linux-vdso|libc|libm|libpthread|libdl|librt|libgcc_s|/lib.*ld-linux)' || true)
+    others=$(ldd "$tool" "$collect" | awk '{ print $1 }' | grep -v -E '^(linux-vdso|libc|libm|libpthread|libdl|librt|libgcc_s|/lib.*ld-linux)' || true)
     [ -z "$others" ] || fail "it needs $others"
 fi
 if command -v man > /dev/null; then
     page=$(MANWIDTH=100 man -l "$share/man/man1/hfs_tool.1.gz" 2> /dev/null)
     grep -q 'THE WORD REPAIR' <<< "$page" || fail 'its man page'
+    page=$(MANWIDTH=100 man -l "$share/man/man1/hfs_collect.1.gz" 2> /dev/null)
+    grep -q 'With --compare a line for each image' <<< "$page" || fail 'the man page of hfs_collect'
 else
     echo 'the package: its man page was not read, since man is missing'
 fi
@@ -34,12 +40,15 @@ for name in README.md MANUAL.md copyright changelog.gz; do
     [ -s "$share/doc/hfs-tool/$name" ] || fail "$name is not there"
 done
 
-# What bash offers behind these words.
+# What bash offers behind this program and these words.
 offered() {
-    bash -c '. "$1"; shift; COMP_WORDS=(hfs_tool "$@"); COMP_CWORD=$#; _hfs_tool; printf "%s\n" "${COMPREPLY[@]}" | sort | tr "\n" " "' _ \
-        "$share/bash-completion/completions/hfs_tool" "$@"
+    bash -c '. "$1"; shift; COMP_WORDS=("$@"); COMP_CWORD=$(($# - 1)); _"$1"; printf "%s\n" "${COMPREPLY[@]}" | sort | tr "\n" " "' _ \
+        "$share/bash-completion/completions/$1" "$@"
 }
-[ "$(offered re)" = 'repair rescue ' ] || fail 'the completion of a word'
-[ "$(offered run --)" = '--help --now --out ' ] || fail 'the completion of an option'
-[ -n "$(offered check tests/vol)" ] || fail 'the completion of a path'
+[ "$(offered hfs_tool re)" = 'repair rescue ' ] || fail 'the completion of a word'
+[ "$(offered hfs_tool run --)" = '--help --now --out ' ] || fail 'the completion of an option'
+[ "$(offered hfs_collect --)" = '--compare --help --no-digest --version ' ] || fail 'the completion of an option of hfs_collect'
+for program in 'hfs_tool check' hfs_collect; do
+    [ -n "$(offered $program tests/vol)" ] || fail "the completion of a path behind $program"
+done
 echo 'the package agrees'

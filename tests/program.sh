@@ -179,7 +179,7 @@ runs_page() (
     page=$1
     lines=$PWD/$page
     cd "$readme"
-    unset tool
+    unset tool collect
     command='' inside='' count=0
     while IFS= read -r line <&3; do
         case $inside$line in
@@ -197,8 +197,10 @@ runs_page README.md 8
 runs_page docs/MANUAL.md 40
 
 # The man page is what the help says.
-tests/man_page.sh | cmp -s - docs/hfs_tool.1 || fail 'docs/hfs_tool.1 is not made of the help'
-[ "$("$tool" --version)" = "hfs_tool 1.0.0 (proved with Rattle's $(rt version | sed 's/^[^ ]* //'))" ] || fail 'the version'
+for name in hfs_tool hfs_collect; do
+    tests/man_page.sh "$name" | cmp -s - "docs/$name.1" || fail "docs/$name.1 is not made of the help"
+    [ "$($(program "$name") --version)" = "$name 1.0.0 (proved with Rattle's $(rt version | sed 's/^[^ ]* //'))" ] || fail "the version of $name"
+done
 
 # What the README says that they print.
 disk=$volumes/hfsutils-800k.img

@@ -63,7 +63,7 @@ class Programs:
 
 
 def built(crate: str) -> Path:
-    """A program as LLVM builds it, or the one that HFS_TOOL or HFS_PLAIN names; it is proved and built first where it isn't there,
+    """A program as LLVM builds it, or the one that HFS_TOOL, HFS_COLLECT or HFS_PLAIN names; it is proved and built first where it isn't there,
     or a source of it is newer."""
     found = subprocess.run(['bash', ROOT / 'tests' / 'common.sh', crate], stdin=subprocess.DEVNULL, stdout=subprocess.PIPE, text=True)
     if found.returncode != 0:

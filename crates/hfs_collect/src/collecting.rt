@@ -1,105 +1,244 @@
-//! An image's rows in the database.
-ghost use Rattle.std.specs.Prelude.{◌≡◌, ◌++◌, IfOk, IfSome, OnOk};
-ghost use Rattle.hfs_collection.specs.Counts.{image_counts};
-ghost use Rattle.hfs_collection.specs.Images.{image_rows};
-ghost use Rattle.hfs_collect.specs.Collecting.{AreRowsOf};
-ghost use Rattle.hfs_database.specs.Transactions.{LeavesAllOrNone, PutsAllInOne};
-ghost use Rattle.hfs_needed.specs.Known.{OfKnown};
+//! What the program does: the database opened and closed, one image after the other, statuses.
 
-use crate::fault::RunFault;
-use crate::files::FileByPath;
-use hfs_collection::{CollectFault, ImageCounts, ImageFacts, ImageFile, give_image};
-use hfs_containers::ReadAt;
-use hfs_database::{Collection, PutFault};
-use hfs_rows::{RowSource, RowTaker};
-use hfs_sparse::SparseFault;
-use sqlite::Alter;
-use std::alloc::Global;
-use std::marker::PhantomData;
-use std::rt::Files;
+use crate::reading::CollectWords;
+use hfs_collection::ImageFacts;
+use hfs_commands::{Fault, ShownPath, Status};
+use hfs_console::print_lines;
+use hfs_word_collect::{
+    Collection, Comparison, DatabaseFiles, FileCollection, RunFault, collect_image, compare_image,
+    comparison_line, image_line, next_path,
+};
+use std::io::IsTerminal;
 
-/// An image of `len` bytes, as a source of its rows.
-#[derive(Drop)]
-struct ImageRows<'a, S, F> {
-    alloc: Global,
-    file: &'a F,
-    len: u64,
-    facts: &'a ImageFacts<'a>,
-    source: PhantomData<S>,
-}
+/// What the database tells of the program that read an image.
+const PROGRAM: &str = "hfs_collect 1.0.0";
 
-impl<S: ReadAt + Drop, F: ImageFile<S>> RowSource for ImageRows<'_, S, F> {
-    type Told = ImageCounts;
-
-    type Fault = CollectFault;
-
-    ghost Gives = { λ image before after. OfKnown (F.known image.file.now) image.len
-        (λ file. after ≡ before ++ image_rows image.facts.now file) };
-
-    ghost Tells = { λ image counts. OfKnown (F.known image.file.now) image.len
-        (λ file. counts ≡ image_counts file) };
-
-    fn give<T: RowTaker>(&self, taker: &mut T) -> Result<ImageCounts, CollectFault> {
-        give_image(self.alloc, taker, self.file, self.len, self.facts)
+/// Puts images into a database, or compares them with what it has of them.
+pub fn collect<'a>(rt: &HostRuntime, words: &CollectWords<'a>) -> Result<u8, Fault<'a>> {
+    let ran = if words.compares {
+        run_comparison(rt, words)
+    } else {
+        run_collection(rt, words)
+    };
+    match ran {
+        Ok(status) => Ok(status),
+        Err(Stopped::Printing(fault)) => Err(fault),
+        Err(Stopped::Running(RunFault::CannotOpen)) => refuse(rt, words.database),
+        Err(Stopped::Running(RunFault::CannotWrite)) => Err(Fault::CannotWrite(words.database)),
+        Err(Stopped::Running(RunFault::NoMemory)) => Err(Fault::NoMemory),
     }
 }
 
-/// Puts the rows of an image of `len` bytes into the database, in the place of those that it had of the same path, and answers
-/// how much the image holds. At a fault all is there, or nothing has changed. Faults: the image's, and `CannotWrite` or
-/// `NoMemory` of the database.
-pub fn put_image<D: Alter + Drop, S: ReadAt + Drop, F: ImageFile<S>>(
-    alloc: Global,
-    collection: &mut Collection<D>,
-    file: &F,
-    len: u64,
-    facts: &ImageFacts<'_>,
-) -> Result<ImageCounts, PutFault<CollectFault>>
-    ensures put { OnOk result (PutsAllInOne D.Store (AreRowsOf (F.known file.now) len facts.now)
-        collection.old.conn collection.new.conn) }
-    ensures counted { IfOk result (λ counts. OfKnown (F.known file.now) len (λ file.
-        counts ≡ image_counts file)) }
-    ensures all_or_none { LeavesAllOrNone D.Store (AreRowsOf (F.known file.now) len facts.now)
-        collection.old.conn collection.new.conn }
-{
-    let rows = ImageRows {
-        alloc,
-        file,
-        len,
-        facts,
-        source: PhantomData,
-    };
-    collection.put(&rows)
+/// Why a run ended early.
+enum Stopped {
+    /// A line was not printed.
+    Printing(Fault<'static>),
+    /// The database was not read or written.
+    Running(RunFault),
 }
 
-/// What an answer means for the run. None where the image can't be read, and the next one comes.
-fn answered(
-    answer: Result<ImageCounts, PutFault<CollectFault>>,
-) -> Result<Option<ImageCounts>, RunFault> {
-    match answer {
-        Ok(counts) => Ok(Some(counts)),
-        Err(PutFault::Database(fault)) => Err(RunFault::from(fault)),
-        Err(PutFault::Source(fault)) => match RunFault::of_image(fault) {
-            Some(fault) => Err(fault),
-            None => Ok(None),
-        },
+impl From<Fault<'static>> for Stopped {
+    fn from(fault: Fault<'static>) -> Stopped {
+        Stopped::Printing(fault)
     }
 }
 
-/// Puts the rows of an image into the database, in the place of those that it had of the same path, and answers how much the image
-/// holds. None where the image can't be read, and its rows stay. At a fault all is there, or nothing has changed.
-pub fn collect_image<D: Alter + Drop, R: Files + AllocGlobal>(
-    rt: &R,
-    collection: &mut Collection<D>,
-    facts: &ImageFacts<'_>,
-) -> Result<Option<ImageCounts>, RunFault> {
-    let file = FileByPath {
-        rt,
-        path: facts.path,
+impl From<RunFault> for Stopped {
+    fn from(fault: RunFault) -> Stopped {
+        Stopped::Running(fault)
+    }
+}
+
+/// Prints that a database can't be opened.
+fn refuse(rt: &HostRuntime, path: &str) -> Result<u8, Fault<'static>> {
+    let Ok(line) = format!(in rt.alloc(); "cannot open {}\n", ShownPath(path)) else {
+        return Err(Fault::NoMemory);
     };
-    let len = match file.open() {
-        Ok(source) => source.len(),
-        Err(SparseFault::ReadFailed) => return Ok(None),
-        Err(SparseFault::Memory) => return Err(RunFault::NoMemory),
+    print_lines(rt, line.as_str())?;
+    Ok(Status::DeviceFailed.number())
+}
+
+/// The files of the words' database.
+fn files_of(rt: &HostRuntime, words: &CollectWords<'_>) -> Result<DatabaseFiles, RunFault> {
+    match DatabaseFiles::of(rt, words.database) {
+        Ok(files) => Ok(files),
+        Err(_) => Err(RunFault::NoMemory),
+    }
+}
+
+/// Opens the database, or makes it.
+fn open_database(
+    rt: &HostRuntime,
+    files: &DatabaseFiles,
+    makes_tables: bool,
+) -> Result<FileCollection, RunFault> {
+    match Collection::open(rt, files, makes_tables) {
+        Ok(database) => Ok(database),
+        Err(fault) => Err(RunFault::from(fault)),
+    }
+}
+
+/// Closes the database.
+fn close_database(
+    rt: &HostRuntime,
+    files: &DatabaseFiles,
+    database: FileCollection,
+) -> Result<(), RunFault> {
+    match database.close(rt, files) {
+        Ok(()) => Ok(()),
+        Err(fault) => Err(RunFault::from(fault)),
+    }
+}
+
+/// Puts the images into the database, and answers the exit status.
+fn run_collection(rt: &HostRuntime, words: &CollectWords<'_>) -> Result<u8, Stopped> {
+    let files = files_of(rt, words)?;
+    let mut database = open_database(rt, &files, true)?;
+    let ran = collect_images(rt, &mut database, &files, words);
+    let closed = close_database(rt, &files, database);
+    let status = ran?;
+    closed?;
+    Ok(status)
+}
+
+/// Puts one image after the other into the database.
+fn collect_images(
+    rt: &HostRuntime,
+    database: &mut FileCollection,
+    files: &DatabaseFiles,
+    words: &CollectWords<'_>,
+) -> Result<u8, Stopped> {
+    let is_shown = rt.stderr().is_terminal();
+    let mut status = Status::Done;
+    for i in 0..words.images.len() {
+        if !collect_one(rt, database, files, words, words.images[i])? {
+            status = Status::DeviceFailed;
+        }
+        if is_shown {
+            // Where the terminal takes nothing more, the run goes on.
+            let _printed = eprintln!(rt; "{} of {} images", i + 1, words.images.len());
+        }
+    }
+    Ok(status.number())
+}
+
+/// Puts an image into the database and prints its line, and answers whether it could be read.
+fn collect_one(
+    rt: &HostRuntime,
+    database: &mut FileCollection,
+    files: &DatabaseFiles,
+    words: &CollectWords<'_>,
+    path: &str,
+) -> Result<bool, Stopped> {
+    if files.contain(rt, path) {
+        print_unread(rt, path)?;
+        return Ok(false);
+    }
+    let facts = ImageFacts {
+        path,
+        program: PROGRAM,
+        takes_digests: words.takes_digests,
     };
-    answered(put_image(rt.alloc(), collection, &file, len, facts))
+    match collect_image(rt, database, &facts)? {
+        Some(counts) => {
+            let Ok(line) = image_line(rt.alloc(), path, &counts) else {
+                return Err(Stopped::Running(RunFault::NoMemory));
+            };
+            print_lines(rt, line.as_str())?;
+            Ok(true)
+        }
+        None => {
+            print_unread(rt, path)?;
+            Ok(false)
+        }
+    }
+}
+
+/// Prints that an image can't be read.
+fn print_unread(rt: &HostRuntime, path: &str) -> Result<(), Fault<'static>> {
+    let Ok(line) = format!(in rt.alloc(); "cannot read {}\n", ShownPath(path)) else {
+        return Err(Fault::NoMemory);
+    };
+    print_lines(rt, line.as_str())
+}
+
+/// Compares the images with what the database has of them, and answers the exit status.
+fn run_comparison(rt: &HostRuntime, words: &CollectWords<'_>) -> Result<u8, Stopped> {
+    let files = files_of(rt, words)?;
+    if !files.are_there(rt) {
+        return Err(Stopped::Running(RunFault::CannotOpen));
+    }
+    let mut database = open_database(rt, &files, false)?;
+    let ran = if words.images.is_empty() {
+        compare_all(rt, &mut database, &files)
+    } else {
+        compare_images(rt, &mut database, &files, words)
+    };
+    let closed = close_database(rt, &files, database);
+    let is_worse = ran?;
+    closed?;
+    let status = if is_worse {
+        Status::CallRefused
+    } else {
+        Status::Done
+    };
+    Ok(status.number())
+}
+
+/// Compares one image after the other, and answers whether one isn't as the database has it.
+fn compare_images(
+    rt: &HostRuntime,
+    database: &mut FileCollection,
+    files: &DatabaseFiles,
+    words: &CollectWords<'_>,
+) -> Result<bool, Stopped> {
+    let mut is_worse = false;
+    for i in 0..words.images.len() {
+        if compare_one(rt, database, files, words.images[i])? {
+            is_worse = true;
+        }
+    }
+    Ok(is_worse)
+}
+
+/// Compares all images of the database, in the order of their paths' bytes, and answers whether one isn't as the database has it.
+fn compare_all(
+    rt: &HostRuntime,
+    database: &mut FileCollection,
+    files: &DatabaseFiles,
+) -> Result<bool, Stopped> {
+    let mut is_worse = false;
+    let mut last = None;
+    for _ in 0..u64::MAX {
+        match next_path(database, &last) {
+            Ok(Some(path)) => {
+                if compare_one(rt, database, files, path.as_str())? {
+                    is_worse = true;
+                }
+                last = Some(path);
+            }
+            Ok(None) => return Ok(is_worse),
+            Err(fault) => return Err(Stopped::Running(RunFault::from(fault))),
+        }
+    }
+    Ok(is_worse)
+}
+
+/// Compares an image and prints its line, and answers whether it isn't as the database has it.
+fn compare_one(
+    rt: &HostRuntime,
+    database: &mut FileCollection,
+    files: &DatabaseFiles,
+    path: &str,
+) -> Result<bool, Stopped> {
+    let found = if files.contain(rt, path) {
+        Comparison::Missing
+    } else {
+        compare_image(rt, database, path)?
+    };
+    let Ok(line) = comparison_line(rt.alloc(), path, found) else {
+        return Err(Stopped::Running(RunFault::NoMemory));
+    };
+    print_lines(rt, line.as_str())?;
+    Ok(found.is_worse())
 }

@@ -2,8 +2,6 @@
 
 use crate::by_path::{print_fork_at, print_list_at, print_macbinary_at};
 use crate::by_volume::{tell_check, tell_fork, tell_info, tell_items, tell_list, tell_macbinary};
-use crate::collecting::collect;
-use crate::hints::tell_hint;
 use crate::pages::print_page;
 use crate::rescuing::{list_remains, rescue_volume};
 use crate::running::run_script_of;
@@ -16,9 +14,10 @@ use hfs_commands::{
     BlockSource, ByteSource, CheckAnswer, Fault, Format, ImageFile, NeededFile, NeededRepair,
     OpenedImage, RepairAnswer, Status, WatchedFile, WatchedImage, check_answer, code_text,
     list_text, needed_check_answer, needed_file, needed_repair_answer, open_image, open_watched,
-    opened_list_text, put, put_macbinary, refused_text, repair_answer, run_info, write_fork,
+    opened_list_text, put_macbinary, refused_text, repair_answer, run_info, write_fork,
     write_items, write_macbinary,
 };
+use hfs_console::{print_lines, tell_hint};
 use hfs_format::{FormatPlan, format};
 use hfs_model::Reply;
 use hfs_volume::{Volume, mount};
@@ -54,7 +53,6 @@ pub fn obey<'a, T: Threads + Wait + Sync>(
         Words::Take(words) => take_volume(rt, threads, words),
         Words::Rescue(words) => rescue_volume(rt, words),
         Words::RescueList(words) => list_remains(rt, words),
-        Words::Collect(words) => collect(rt, words),
         Words::New(volume) => write_new(rt, volume),
         Words::Repair { image, file } => write_repaired(rt, *image, *file),
         Words::Run(run) => run_script_of(rt, threads, run),
@@ -78,14 +76,6 @@ pub fn print_info<'a, R: Read>(
     match run_info(rt.alloc(), reader, &mut rt.stdout()) {
         Ok(()) => Ok(Status::Done.number()),
         Err(fault) => Err(Fault::of_info(fault, name)),
-    }
-}
-
-/// Prints lines, by as few calls as the output takes.
-pub fn print_lines(rt: &HostRuntime, lines: &str) -> Result<(), Fault<'static>> {
-    match put(&mut rt.stdout(), lines.as_bytes()) {
-        Ok(()) => Ok(()),
-        Err(_) => Err(Fault::OutputFailed),
     }
 }
 

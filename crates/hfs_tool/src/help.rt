@@ -1,8 +1,5 @@
 //! What the help says behind the words and their options.
 
-/// The program's number, and the logic that it is proved in: kits that differ in their tools alone have the same.
-pub(crate) const VERSION: &str = "1.0.0 (proved with Rattle's logic dac8208d650f15bf)";
-
 /// The program, as a bag tells what it was made by.
 pub(crate) const PROGRAM: &str = "hfs_tool 1.0.0";
 
@@ -31,18 +28,6 @@ The words info, check, ls, items, page, cat and take read the N-th of them by --
 
 Not looked for: a map within a map or within a disk copy, Disk Copy 6 and other compressed forms, images with
 sectors of 2,352 bytes, MFS, and HFS Plus without a wrapper.";
-
-/// What the word `collect` tells beside its arguments.
-pub(crate) const COLLECTIONS: &str =
-    "For each image a line is printed: its path, how many volumes it has, how many of these are refused, how many
-files there are, and how many of them are damaged. An image that was collected before, under the same path, is read anew. Of a
-volume that is refused the database has what rescue finds of it, with a verdict on each fork.
-
-The tables are image, volume and item; docs/MANUAL.md has questions that they answer. An image that can't be sought in, such as a
-pipe, can't be read.
-
-With --compare a line for each image: missing, new, changed, same, or 'same length' where the database has no digest of it. The
-status is 3 where one is missing or changed.";
 
 /// What the word `run` tells beside its arguments.
 pub(crate) const RUNS: &str =
@@ -128,7 +113,7 @@ Examples:
   hfs_tool rescue damaged.img disk
   hfs_tool volumes hard_disk.img
   hfs_tool ls hard_disk.img --volume 1
-  hfs_tool collect disks.db disk.img hard_disk.img
+  hfs_collect disks.db disk.img hard_disk.img
   hfs_tool new disk.img Archive 1600 40 4
   hfs_tool repair disk.img mended.img
   hfs_tool run disk.img calls.txt --now 3000000000 --out disk.img

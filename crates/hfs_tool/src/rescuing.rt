@@ -1,9 +1,9 @@
 //! What remains of a damaged volume, as it is shown.
 
-use crate::commands::print_lines;
 use crate::progress::ItemProgress;
 use crate::taking::print_fault;
 use hfs_commands::Fault;
+use hfs_console::print_lines;
 use hfs_salvage::{BagWords, RescueAnswer, RescueWords, list_rescue, rescue};
 use hfs_take::TakeFault;
 

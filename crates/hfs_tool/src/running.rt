@@ -1,6 +1,5 @@
 //! What the word `run` does.
 
-use crate::commands::print_lines;
 use crate::progress::Progress;
 use crate::saving::{save, save_as_read, tell};
 use crate::words::RunWords;
@@ -8,6 +7,7 @@ use hfs_commands::{
     Fault, Leftover, Ran, RanImage, RunImage, Status, WatchedFile, WatchedImage, load_script,
     open_watched, run_script_at, script_lines, write_answers,
 };
+use hfs_console::print_lines;
 use std::fs::File;
 use std::io::IsTerminal;
 use std::sync::Wait;

@@ -1,8 +1,8 @@
 //! What a volume that is taken apart shows.
 
-use crate::commands::print_lines;
 use crate::progress::ItemProgress;
 use hfs_commands::{Fault, Status};
+use hfs_console::print_lines;
 use hfs_take::{BagSums, TakeFault, TakeWords, take, taken_text};
 use std::thread::Threads;
 

@@ -1,11 +1,12 @@
 //! What the words do on volumes that lie in files.
 
 use crate::commands::{
-    print_info, print_items_of, print_lines, print_needed_check, print_needed_fork,
-    print_needed_list, print_needed_macbinary,
+    print_info, print_items_of, print_needed_check, print_needed_fork, print_needed_list,
+    print_needed_macbinary,
 };
 use crate::words::{FileWords, ForkWords};
 use hfs_commands::{Fault, Format, ReadAt, Status, open_file, open_volume, volume_lines};
+use hfs_console::print_lines;
 
 /// Prints a line for each volume that lies in a file.
 pub fn print_volumes<'a>(rt: &HostRuntime, path: &'a str) -> Result<u8, Fault<'a>> {

@@ -57,8 +57,6 @@ pub enum Words<'a> {
     Rescue(BagWords<'a>),
     /// `rescue IMAGE --list [--volume N] [--limit BYTES]`: a line for each item that remains.
     RescueList(RescueWords<'a>),
-    /// `collect DATABASE IMAGE.. [--no-digest]`, `collect DATABASE --compare [IMAGE..]`: many images in one database.
-    Collect(CollectWords<'a>),
     /// `new FILE NAME BLOCKS NODES EXTENTS [--now N]`: a new volume.
     New(NewVolume<'a>),
     /// `repair IMAGE FILE`: the image with its counts mended.
@@ -115,19 +113,6 @@ pub struct ForkPathWords<'a> {
     pub place: PathWords<'a>,
     /// Which of its forks.
     pub fork: Fork,
-}
-
-/// Images, and the database that they are collected in.
-#[derive(Drop)]
-pub struct CollectWords<'a> {
-    /// The path of the database.
-    pub database: &'a str,
-    /// The paths of the images.
-    pub images: Vec<&'a str>,
-    /// Whether digests are taken.
-    pub takes_digests: bool,
-    /// Whether the images are only compared with what the database has of them.
-    pub compares: bool,
 }
 
 /// A new volume, and the file that it is written to.

@@ -1,76 +1,68 @@
 //! Where a word finds what it reads: an image, a volume in it, and an item on that by its path.
 
-use super::arguments::{CountOption, NoValue, NumberArgument, TextArgument};
 use crate::words::PathWords;
-use clap::{Arg, ArgMatches};
-use std::alloc::{AllocError, Global};
-
-/// The path of an image.
-pub const IMAGE: TextArgument = TextArgument { name: "IMAGE" };
-
-/// The path of a file.
-pub const FILE: TextArgument = TextArgument { name: "FILE" };
-
-/// The path of a folder that is made.
-pub const FOLDER: TextArgument = TextArgument { name: "FOLDER" };
-
-/// The ID of a folder.
-pub const DIR: NumberArgument = NumberArgument { name: "DIR" };
-
-/// The name of an item or a volume.
-pub const NAME: TextArgument = TextArgument { name: "NAME" };
-
-/// The path of an item.
-const PATH: TextArgument = TextArgument { name: "path" };
-
-/// The number of a volume in an image.
-const VOLUME: CountOption = CountOption { name: "volume" };
+use clap::ArgMatches;
+use hfs_arguments::{Argument, NoValue, Takes};
 
 /// The image of a volume, by its path.
-pub fn image<'a>(alloc: Global) -> Arg<'a> {
-    IMAGE.required(alloc).help("The image of the bare volume, beginning with its boot blocks")
-}
+pub const IMAGE: Argument = Argument {
+    name: "IMAGE",
+    takes: Takes::Text,
+    help: "The image of the bare volume, beginning with its boot blocks",
+    excludes: &[],
+};
 
 /// The number of the volume in an image.
-pub fn volume<'a>(alloc: Global) -> Arg<'a> {
-    VOLUME.option(alloc, "N").help(
-        "The N-th of the volumes that volumes IMAGE lists, in place of the image's own bytes",
-    )
-}
+pub const VOLUME: Argument = Argument {
+    name: "volume",
+    takes: Takes::CountOption { value: "N" },
+    help: "The N-th of the volumes that volumes IMAGE lists, in place of the image's own bytes",
+    excludes: &[],
+};
 
-/// The number of the volume in an image, where one is asked for.
-pub fn volume_of(matches: &ArgMatches<'_>) -> Result<Option<u64>, NoValue> {
-    VOLUME.given(matches)
-}
-
-/// A name of an item or a volume, which may begin with a hyphen.
-pub fn name<'a>(alloc: Global) -> Arg<'a> {
-    NAME.required(alloc).allow_hyphen_values(true)
-}
+/// An item by its path.
+pub const PATH: Argument = Argument {
+    name: "path",
+    takes: Takes::AnyTextOption { value: "PATH" },
+    help: "The item by its path, as items prints it (D:Folder:File); the volume's name may be left out (:Folder:File)",
+    excludes: &["DIR"],
+};
 
 /// The folder of a bag, by its path.
-pub fn bag_folder<'a>(alloc: Global) -> Arg<'a> {
-    FOLDER.required(alloc).help("The folder that is made; nothing of that name may be there")
-}
+pub const FOLDER: Argument = Argument {
+    name: "FOLDER",
+    takes: Takes::Text,
+    help: "The folder that is made; nothing of that name may be there",
+    excludes: &[],
+};
 
-/// An item by its path, in place of the ID of a folder.
-pub fn path<'a>(alloc: Global) -> Result<Arg<'a>, AllocError> {
-    PATH.option(alloc, "PATH")
-        .allow_hyphen_values(true)
-        .help(
-            "The item by its path, as items prints it (D:Folder:File); the volume's name may be left out (:Folder:File)",
-        )
-        .conflicts_with(DIR.name)
-}
+/// The choice of a bag without the image's digest.
+pub const NO_DIGEST: Argument = Argument {
+    name: "no-digest",
+    takes: Takes::Flag,
+    help: "Leaves out the digest of the image, which is read whole for it",
+    excludes: &[],
+};
+
+/// The moment of every change, 0 where it isn't given.
+pub const NOW: Argument = Argument {
+    name: "now",
+    takes: Takes::NumberOption {
+        value: "N",
+        default: "0",
+    },
+    help: "The moment, in seconds since midnight of 1 January 1904",
+    excludes: &[],
+};
 
 /// The item that a path leads to, where a path is given.
 pub fn path_words<'a>(matches: &ArgMatches<'a>) -> Result<Option<PathWords<'a>>, NoValue> {
-    let Some(path) = PATH.given(matches) else {
+    let Some(path) = PATH.given_text(matches) else {
         return Ok(None);
     };
     Ok(Some(PathWords {
-        image: IMAGE.value(matches)?,
-        volume: volume_of(matches)?,
+        image: IMAGE.text(matches)?,
+        volume: VOLUME.given_count(matches)?,
         path,
     }))
 }

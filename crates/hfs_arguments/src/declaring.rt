@@ -1,0 +1,133 @@
+//! Programs, words and arguments, as clap is told of them.
+
+use crate::words::{Argument, Program, Takes, Word};
+use clap::{Arg, ArgAction, ArgMatches, Command, Error, value_parser};
+use std::alloc::{AllocError, Global};
+
+impl Program {
+    /// What the program finds in the words of its command line, the first of which is its own name. Errors: refused words, help
+    /// that was asked for, or want of memory, told apart by their kind.
+    pub fn matches<'a>(&self, alloc: Global, words: &'a [String]) -> Result<ArgMatches<'a>, Error> {
+        self.command(alloc)?
+            .version(self.version)
+            .try_get_matches_from(words)
+    }
+
+    /// The program's command, with a subcommand for each of its words.
+    fn command<'a>(&self, alloc: Global) -> Result<Command<'a>, AllocError> {
+        let mut command = word_command(alloc, &self.word);
+        for i in 0..self.words.len() {
+            command = with_word(command, word_command(alloc, &self.words[i]));
+        }
+        command
+    }
+}
+
+/// The command of a word, with its arguments.
+fn word_command<'a>(alloc: Global, word: &Word) -> Result<Command<'a>, AllocError> {
+    let mut command = Ok(bare_command(alloc, word));
+    for i in 0..word.arguments.len() {
+        command = with_argument(command, declared(alloc, &word.arguments[i]));
+    }
+    command
+}
+
+/// A command with one subcommand more, where memory sufficed for both.
+fn with_word<'a>(
+    command: Result<Command<'a>, AllocError>,
+    word: Result<Command<'a>, AllocError>,
+) -> Result<Command<'a>, AllocError> {
+    command?.subcommand(word?)
+}
+
+/// A command with one argument more, where memory sufficed for both.
+fn with_argument<'a>(
+    command: Result<Command<'a>, AllocError>,
+    argument: Result<Arg<'a>, AllocError>,
+) -> Result<Command<'a>, AllocError> {
+    command?.arg(argument?)
+}
+
+/// The command of a word without its arguments.
+fn bare_command<'a>(alloc: Global, word: &Word) -> Command<'a> {
+    let command = Command::new(alloc, word.name).about(word.about);
+    match word.after_help {
+        Some(text) => command.after_help(text),
+        None => command,
+    }
+}
+
+/// An argument with those that it excludes.
+fn declared<'a>(alloc: Global, argument: &Argument) -> Result<Arg<'a>, AllocError> {
+    let mut declared = taking(alloc, argument);
+    for i in 0..argument.excludes.len() {
+        declared = excluding(declared, argument.excludes[i]);
+    }
+    declared
+}
+
+/// An argument that excludes one more, where memory sufficed for it.
+fn excluding<'a>(
+    argument: Result<Arg<'a>, AllocError>,
+    other: &'static str,
+) -> Result<Arg<'a>, AllocError> {
+    argument?.conflicts_with(other)
+}
+
+/// An argument with what it takes.
+fn taking<'a>(alloc: Global, argument: &Argument) -> Result<Arg<'a>, AllocError> {
+    let bare = Arg::new(alloc, argument.name).help(argument.help);
+    match argument.takes {
+        Takes::Texts { unless } => several(bare, unless),
+        Takes::Flag => Ok(bare.long(argument.name).action(ArgAction::SetTrue)),
+        takes => Ok(with_default(
+            with_name(taking_one(bare, takes), argument.name, takes),
+            takes,
+        )),
+    }
+}
+
+/// An argument that takes texts, of which there has to be one unless that of the name is given.
+fn several<'a>(argument: Arg<'a>, unless: &'static str) -> Result<Arg<'a>, AllocError> {
+    argument
+        .action(ArgAction::Append)
+        .num_args(1..)
+        .required_unless_present(unless)
+}
+
+/// An argument that takes one value.
+fn taking_one<'a>(argument: Arg<'a>, takes: Takes) -> Arg<'a> {
+    let one = argument
+        .action(ArgAction::Set)
+        .required(takes.is_required())
+        .allow_hyphen_values(takes.is_any());
+    match takes {
+        Takes::Number | Takes::NumberOr(_) | Takes::NumberOption { .. } => {
+            one.value_parser(value_parser!(u32).range(0..=4294967295))
+        }
+        Takes::CountOption { .. } => one.value_parser(value_parser!(u64)),
+        Takes::ChoiceOption { choices, .. } => one.value_parser(choices),
+        Takes::Text
+        | Takes::AnyText
+        | Takes::Texts { .. }
+        | Takes::TextOption { .. }
+        | Takes::AnyTextOption { .. }
+        | Takes::Flag => one,
+    }
+}
+
+/// An argument with the name that is typed, where it is an option.
+fn with_name<'a>(argument: Arg<'a>, name: &'static str, takes: Takes) -> Arg<'a> {
+    match takes.value_name() {
+        Some(value) => argument.long(name).value_name(value),
+        None => argument,
+    }
+}
+
+/// An argument with the value that it has where none is given.
+fn with_default<'a>(argument: Arg<'a>, takes: Takes) -> Arg<'a> {
+    match takes.default() {
+        Some(default) => argument.default_value(default),
+        None => argument,
+    }
+}

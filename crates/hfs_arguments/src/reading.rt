@@ -1,0 +1,87 @@
+//! The values of arguments.
+
+ghost use Rattle.std.specs.Prelude.{◌≡◌, true, ℕ, List, [], None, Some, Ok, IfOk, IsErr, MatchResult, map, option_map};
+ghost use Rattle.std.specs.Option.{option_map_or};
+ghost use Rattle.std.specs.Str.Parse.{digits_value, true_text, without_leading_plus};
+ghost use Rattle.clap.specs.Matches.{first_value, found_of, matched_of, one_text, raw_values};
+
+use crate::words::Argument;
+use clap::ArgMatches;
+use std::alloc::{AllocError, Global};
+
+/// An argument by this name has no value where clap takes care that it has one: a fault of the program, and not of the words.
+#[derive(Clone, Copy)]
+pub struct NoValue(pub &'static str);
+
+impl Argument {
+    /// The text of an argument that has to be there or has a default.
+    pub fn text<'a>(&self, matches: &ArgMatches<'a>) -> Result<&'a str, NoValue>
+        ensures { MatchResult result
+            (λ text. first_value (found_of matches.now) self.now.name.now ≡ Some text.now)
+            (λ missing. first_value (found_of matches.now) self.now.name.now ≡ None) }
+    {
+        match matches.get_str(self.name) {
+            Some(text) => Ok(text),
+            None => Err(NoValue(self.name)),
+        }
+    }
+
+    /// The text of an argument that may be left out.
+    pub fn given_text<'a>(&self, matches: &ArgMatches<'a>) -> Option<&'a str>
+        ensures { option_map (λ text. text.now) result ≡ first_value (found_of matches.now) self.now.name.now }
+    {
+        matches.get_str(self.name)
+    }
+
+    /// The texts of an argument of which there may be any number, in the order in which they are given. The only error is want of
+    /// memory.
+    pub fn texts<'a>(
+        &self,
+        alloc: Global,
+        matches: &ArgMatches<'a>,
+    ) -> Result<Vec<&'a str>, AllocError>
+        ensures { IfOk result (λ texts. map (λ text. text.now) texts.items
+            ≡ option_map_or raw_values (matched_of (found_of matches.now) self.now.name.now) []) }
+    {
+        match matches.get_strs(self.name) {
+            Some(texts) => Vec::from_slice(alloc, texts),
+            None => Ok(Vec::new(alloc)),
+        }
+    }
+
+    /// The number of an argument that has to be there or has a default.
+    pub fn number(&self, matches: &ArgMatches<'_>) -> Result<u32, NoValue>
+        ensures none { one_text (found_of matches.now) self.now.name.now ≡ None → IsErr result }
+        ensures number { (text : List ℕ) → one_text (found_of matches.now) self.now.name.now ≡ Some text
+            → IfOk result (λ n. n ≡ digits_value 10 (without_leading_plus text)) }
+    {
+        match matches.get_one::<u32>(self.name) {
+            Some(number) => Ok(number),
+            None => Err(NoValue(self.name)),
+        }
+    }
+
+    /// The number of an option, where it is given.
+    pub fn given_count(&self, matches: &ArgMatches<'_>) -> Result<Option<u64>, NoValue>
+        ensures none { one_text (found_of matches.now) self.now.name.now ≡ None → result ≡ Ok None }
+        ensures number { (text : List ℕ) → one_text (found_of matches.now) self.now.name.now ≡ Some text
+            → IfOk result (λ n. n ≡ Some (digits_value 10 (without_leading_plus text))) }
+    {
+        match matches.try_get_one::<u64>(self.name) {
+            Ok(number) => Ok(number),
+            Err(_) => Err(NoValue(self.name)),
+        }
+    }
+
+    /// Whether an option without a value is given.
+    pub fn is_given(&self, matches: &ArgMatches<'_>) -> Result<bool, NoValue>
+        ensures none { one_text (found_of matches.now) self.now.name.now ≡ None → IsErr result }
+        ensures given { IfOk result (λ is_given. is_given ≡ true
+            → one_text (found_of matches.now) self.now.name.now ≡ Some true_text) }
+    {
+        match matches.get_one::<bool>(self.name) {
+            Some(is_given) => Ok(is_given),
+            None => Err(NoValue(self.name)),
+        }
+    }
+}

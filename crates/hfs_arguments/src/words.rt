@@ -1,0 +1,123 @@
+//! What a word takes, and what its help says.
+
+/// A program: its own name, texts and arguments, its version, and the words that it knows, in the order of its help.
+#[derive(Clone, Copy)]
+pub struct Program {
+    pub word: Word,
+    pub version: &'static str,
+    pub words: &'static [Word],
+}
+
+/// A word that a program knows, or the program itself.
+#[derive(Clone, Copy)]
+pub struct Word {
+    /// What is typed.
+    pub name: &'static str,
+    /// What it does, in a line of help.
+    pub about: &'static str,
+    /// What its help says behind its arguments.
+    pub after_help: Option<&'static str>,
+    /// Its arguments, in the order of its help.
+    pub arguments: &'static [Argument],
+}
+
+/// An argument of a word.
+#[derive(Clone, Copy)]
+pub struct Argument {
+    /// Its name, by which its value is read. An option is typed with two hyphens before it.
+    pub name: &'static str,
+    /// What it takes.
+    pub takes: Takes,
+    /// What its help says.
+    pub help: &'static str,
+    /// The names of the arguments that may not be given beside it.
+    pub excludes: &'static [&'static str],
+}
+
+/// What an argument takes. The name of an option's value is that of its help text.
+#[derive(Clone, Copy)]
+pub enum Takes {
+    /// A text that has to be there.
+    Text,
+    /// A text that has to be there, and may begin with a hyphen.
+    AnyText,
+    /// Texts, of which there has to be one unless the argument of this name is given.
+    Texts {
+        unless: &'static str,
+    },
+    /// A number from 0 to 4,294,967,295 that has to be there.
+    Number,
+    /// A number from 0 to 4,294,967,295, and which it is where none is given.
+    NumberOr(&'static str),
+    /// An option with a text.
+    TextOption {
+        value: &'static str,
+    },
+    /// An option with a text that may begin with a hyphen.
+    AnyTextOption {
+        value: &'static str,
+    },
+    /// An option with one of these texts, and which it is where none is given.
+    ChoiceOption {
+        value: &'static str,
+        choices: &'static [&'static str],
+        default: &'static str,
+    },
+    /// An option with a number from 0 to 4,294,967,295, and which it is where none is given.
+    NumberOption {
+        value: &'static str,
+        default: &'static str,
+    },
+    /// An option with a number of 64 bits.
+    CountOption {
+        value: &'static str,
+    },
+    /// An option without a value.
+    Flag,
+}
+
+impl Takes {
+    /// Whether it has to be there.
+    pub(crate) fn is_required(self) -> bool {
+        matches!(self, Takes::Text | Takes::AnyText | Takes::Number)
+    }
+
+    /// Whether it may begin with a hyphen.
+    pub(crate) fn is_any(self) -> bool {
+        matches!(self, Takes::AnyText | Takes::AnyTextOption { .. })
+    }
+
+    /// The name of an option's value.
+    pub(crate) fn value_name(self) -> Option<&'static str> {
+        match self {
+            Takes::TextOption { value }
+            | Takes::AnyTextOption { value }
+            | Takes::ChoiceOption { value, .. }
+            | Takes::NumberOption { value, .. }
+            | Takes::CountOption { value } => Some(value),
+            Takes::Text
+            | Takes::AnyText
+            | Takes::Texts { .. }
+            | Takes::Number
+            | Takes::NumberOr(_)
+            | Takes::Flag => None,
+        }
+    }
+
+    /// What it is where none is given.
+    pub(crate) fn default(self) -> Option<&'static str> {
+        match self {
+            Takes::NumberOr(default)
+            | Takes::ChoiceOption { default, .. }
+            | Takes::NumberOption { default, .. } => Some(default),
+            Takes::Text
+            | Takes::AnyText
+            | Takes::Texts { .. }
+            | Takes::Number
+            | Takes::TextOption { .. }
+            | Takes::AnyTextOption { .. }
+            | Takes::CountOption { .. }
+            | Takes::Flag => None,
+        }
+    }
+}

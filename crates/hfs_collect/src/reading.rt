@@ -1,0 +1,94 @@
+//! What the program is asked for, and from the command line to that.
+
+use clap::ArgMatches;
+use hfs_arguments::{Argument, Program, Takes, Word};
+use hfs_console::{VERSION, WordsFault};
+use std::alloc::Global;
+
+/// Images, and the database that they are collected in.
+#[derive(Drop)]
+pub struct CollectWords<'a> {
+    /// The path of the database.
+    pub database: &'a str,
+    /// The paths of the images.
+    pub images: Vec<&'a str>,
+    /// Whether digests are taken.
+    pub takes_digests: bool,
+    /// Whether the images are only compared with what the database has of them.
+    pub compares: bool,
+}
+
+/// The path of the database.
+const DATABASE: Argument = Argument {
+    name: "DATABASE",
+    takes: Takes::Text,
+    help: "The file of SQLite; it is made where nothing is there",
+    excludes: &[],
+};
+
+/// The images that are collected, which only a comparison does without.
+const IMAGES: Argument = Argument {
+    name: "IMAGE",
+    takes: Takes::Texts { unless: "compare" },
+    help: "The images, by their paths; with --compare all of the database where none is given",
+    excludes: &[],
+};
+
+/// The choice of no digests.
+const NO_DIGEST: Argument = Argument {
+    name: "no-digest",
+    takes: Takes::Flag,
+    help: "No SHA-256 digests of the images and of the forks",
+    excludes: &[],
+};
+
+/// The choice of a comparison.
+const COMPARE: Argument = Argument {
+    name: "compare",
+    takes: Takes::Flag,
+    help: "Only tells which images are missing, new, changed or the same; changes no row",
+    excludes: &["no-digest"],
+};
+
+/// What the help says behind the arguments.
+const COLLECTIONS: &str =
+    "For each image a line is printed: its path, how many volumes it has, how many of these are refused, how many
+files there are, and how many of them are damaged. An image that was collected before, under the same path, is read anew. Of a
+volume that is refused the database has what hfs_tool rescue finds of it, with a verdict on each fork.
+
+The tables are image, volume and item; docs/MANUAL.md has questions that they answer. An image that can't be sought in, such as a
+pipe, can't be read.
+
+With --compare a line for each image: missing, new, changed, same, or 'same length' where the database has no digest of it. The
+status is 3 where one is missing or changed.";
+
+/// The program, which knows no words.
+const COLLECT: Program = Program {
+    word: Word {
+        name: "hfs_collect",
+        about: "Collects images, their volumes and all items in one database of SQLite, or compares them with it",
+        after_help: Some(COLLECTIONS),
+        arguments: &[DATABASE, IMAGES, NO_DIGEST, COMPARE],
+    },
+    version: VERSION,
+    words: &[],
+};
+
+/// Reads the words, the first of which is the program's own name.
+pub fn read_words<'a>(alloc: Global, words: &'a [String]) -> Result<CollectWords<'a>, WordsFault> {
+    let matches = COLLECT.matches(alloc, words)?;
+    words_of(alloc, &matches)
+}
+
+/// What the words ask for, by what was found in them.
+fn words_of<'a>(alloc: Global, matches: &ArgMatches<'a>) -> Result<CollectWords<'a>, WordsFault> {
+    let database = DATABASE.text(matches)?;
+    let takes_digests = !NO_DIGEST.is_given(matches)?;
+    let compares = COMPARE.is_given(matches)?;
+    Ok(CollectWords {
+        database,
+        images: IMAGES.texts(alloc, matches)?,
+        takes_digests,
+        compares,
+    })
+}

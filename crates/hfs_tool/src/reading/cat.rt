@@ -1,0 +1,100 @@
+//! The word `cat`.
+
+use super::places::{IMAGE, PATH, VOLUME, path_words};
+use crate::words::{FileWords, ForkPathWords, ForkWords, PathWords, Words};
+use clap::ArgMatches;
+use hfs_arguments::{Argument, NoValue, Takes, Word};
+use hfs_model::Fork;
+
+/// The ID of the folder of a file.
+const DIR: Argument = Argument {
+    name: "DIR",
+    takes: Takes::Number,
+    help: "The ID of the folder that holds the file",
+    excludes: &[],
+};
+
+/// The name of a file.
+const NAME: Argument = Argument {
+    name: "NAME",
+    takes: Takes::AnyText,
+    help: "The file's name",
+    excludes: &[],
+};
+
+/// A file by its path, in place of the ID of a folder and a name.
+const FILE_PATH: Argument = Argument {
+    excludes: &["DIR", "NAME"],
+    ..PATH
+};
+
+/// The choice of a file's resource fork.
+const RESOURCE: Argument = Argument {
+    name: "resource",
+    takes: Takes::Flag,
+    help: "The resource fork in place of the data fork",
+    excludes: &[],
+};
+
+/// The choice of a file with both forks.
+const MACBINARY: Argument = Argument {
+    name: "macbinary",
+    takes: Takes::Flag,
+    help: "Both forks with name, type, creator and dates, as one MacBinary file",
+    excludes: &["resource"],
+};
+
+pub const CAT: Word = Word {
+    name: "cat",
+    about: "Writes the bytes of a file's fork, or of the file with both forks, and nothing else",
+    after_help: None,
+    arguments: &[IMAGE, DIR, NAME, FILE_PATH, RESOURCE, MACBINARY, VOLUME],
+};
+
+/// What `cat` asks for.
+pub fn cat_words<'a>(matches: &ArgMatches<'a>) -> Result<Words<'a>, NoValue> {
+    match path_words(matches)? {
+        Some(place) => words_at(matches, place),
+        None => words_by_name(matches),
+    }
+}
+
+/// What `cat` asks for, of a file by its path.
+fn words_at<'a>(matches: &ArgMatches<'a>, place: PathWords<'a>) -> Result<Words<'a>, NoValue> {
+    if MACBINARY.is_given(matches)? {
+        return Ok(Words::MacBinaryAt(place));
+    }
+    Ok(Words::CatAt(ForkPathWords {
+        place,
+        fork: fork_of(matches)?,
+    }))
+}
+
+/// What `cat` asks for, of a file by its folder and its name.
+fn words_by_name<'a>(matches: &ArgMatches<'a>) -> Result<Words<'a>, NoValue> {
+    let file = FileWords {
+        image: IMAGE.text(matches)?,
+        volume: VOLUME.given_count(matches)?,
+        dir: DIR.number(matches)?,
+        name: NAME.text(matches)?,
+    };
+    if MACBINARY.is_given(matches)? {
+        return Ok(Words::MacBinary(file));
+    }
+    Ok(Words::Cat(ForkWords {
+        image: file.image,
+        volume: file.volume,
+        dir: file.dir,
+        name: file.name,
+        fork: fork_of(matches)?,
+    }))
+}
+
+/// Which fork of a file is asked for.
+fn fork_of(matches: &ArgMatches<'_>) -> Result<Fork, NoValue> {
+    if RESOURCE.is_given(matches)? {
+        Ok(Fork::ResFork)
+    } else {
+        Ok(Fork::DataFork)
+    }
+}

@@ -1,0 +1,22 @@
+//! The word `check`.
+
+use super::places::{IMAGE, VOLUME};
+use crate::help::CHECKS;
+use crate::words::Words;
+use clap::ArgMatches;
+use hfs_arguments::{NoValue, Word};
+
+pub const CHECK: Word = Word {
+    name: "check",
+    about: "Checks a volume, and prints its counts or its first fault",
+    after_help: Some(CHECKS),
+    arguments: &[IMAGE, VOLUME],
+};
+
+/// What `check` asks for.
+pub fn check_words<'a>(matches: &ArgMatches<'a>) -> Result<Words<'a>, NoValue> {
+    Ok(Words::Check {
+        image: IMAGE.text(matches)?,
+        volume: VOLUME.given_count(matches)?,
+    })
+}

@@ -1,0 +1,21 @@
+//! The word `info`.
+
+use super::places::{IMAGE, VOLUME};
+use crate::words::Words;
+use clap::ArgMatches;
+use hfs_arguments::{NoValue, Word};
+
+pub const INFO: Word = Word {
+    name: "info",
+    about: "Prints the fields of a volume's master directory block",
+    after_help: None,
+    arguments: &[IMAGE, VOLUME],
+};
+
+/// What `info` asks for.
+pub fn info_words<'a>(matches: &ArgMatches<'a>) -> Result<Words<'a>, NoValue> {
+    Ok(Words::Info {
+        image: IMAGE.text(matches)?,
+        volume: VOLUME.given_count(matches)?,
+    })
+}

@@ -1,0 +1,46 @@
+//! The word `items`.
+
+use super::places::{IMAGE, VOLUME};
+use crate::help::COLUMNS;
+use crate::words::Words;
+use clap::ArgMatches;
+use hfs_arguments::{Argument, NoValue, Takes, Word};
+use hfs_commands::Format;
+
+/// The format of a table, with tabs where it isn't given.
+const FORMAT: Argument = Argument {
+    name: "format",
+    takes: Takes::ChoiceOption {
+        value: "FORMAT",
+        choices: &["tab", "csv", "json"],
+        default: "tab",
+    },
+    help: "Fields with tabs between, CSV with a head, or an object of JSON for each item",
+    excludes: &[],
+};
+
+pub const ITEMS: Word = Word {
+    name: "items",
+    about: "Prints a line for each item of the volume: the root first, behind each folder what lies in it",
+    after_help: Some(COLUMNS),
+    arguments: &[IMAGE, FORMAT, VOLUME],
+};
+
+/// What `items` asks for.
+pub fn items_words<'a>(matches: &ArgMatches<'a>) -> Result<Words<'a>, NoValue> {
+    Ok(Words::Items {
+        image: IMAGE.text(matches)?,
+        volume: VOLUME.given_count(matches)?,
+        format: format_of(matches)?,
+    })
+}
+
+/// The format of a table that is asked for.
+fn format_of(matches: &ArgMatches<'_>) -> Result<Format, NoValue> {
+    match FORMAT.text(matches)? {
+        "tab" => Ok(Format::Tab),
+        "csv" => Ok(Format::Csv),
+        "json" => Ok(Format::Json),
+        _ => Err(NoValue(FORMAT.name)),
+    }
+}

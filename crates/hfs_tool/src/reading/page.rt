@@ -1,0 +1,22 @@
+//! The word `page`.
+
+use super::places::{IMAGE, VOLUME};
+use crate::help::PAGES;
+use crate::words::Words;
+use clap::ArgMatches;
+use hfs_arguments::{NoValue, Word};
+
+pub const PAGE: Word = Word {
+    name: "page",
+    about: "Prints a page for a browser: what the volume is, a picture of its blocks, its items",
+    after_help: Some(PAGES),
+    arguments: &[IMAGE, VOLUME],
+};
+
+/// What `page` asks for.
+pub fn page_words<'a>(matches: &ArgMatches<'a>) -> Result<Words<'a>, NoValue> {
+    Ok(Words::Page {
+        image: IMAGE.text(matches)?,
+        volume: VOLUME.given_count(matches)?,
+    })
+}

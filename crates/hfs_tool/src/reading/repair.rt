@@ -1,0 +1,29 @@
+//! The word `repair`.
+
+use super::places::IMAGE;
+use crate::words::Words;
+use clap::ArgMatches;
+use hfs_arguments::{Argument, NoValue, Takes, Word};
+
+/// The path of the file that is written.
+const FILE: Argument = Argument {
+    name: "FILE",
+    takes: Takes::Text,
+    help: "The file that is written, in place of what it has; it may be the image",
+    excludes: &[],
+};
+
+pub const REPAIR: Word = Word {
+    name: "repair",
+    about: "Writes a volume with its counts mended, where nothing else is wrong",
+    after_help: None,
+    arguments: &[IMAGE, FILE],
+};
+
+/// What `repair` asks for.
+pub fn repair_words<'a>(matches: &ArgMatches<'a>) -> Result<Words<'a>, NoValue> {
+    Ok(Words::Repair {
+        image: IMAGE.text(matches)?,
+        file: FILE.text(matches)?,
+    })
+}

@@ -1,0 +1,50 @@
+//! The word `rescue`.
+
+use super::places::{FOLDER, IMAGE, NO_DIGEST, VOLUME};
+use crate::help::{PROGRAM, RESCUES};
+use crate::words::Words;
+use clap::ArgMatches;
+use hfs_arguments::{Argument, NoValue, Takes, Word};
+use hfs_salvage::{BagWords, RescueWords};
+use hfs_take::folder_path;
+
+/// The choice of a list in place of a folder.
+const LIST: Argument = Argument {
+    name: "list",
+    takes: Takes::Flag,
+    help: "Prints the lines of rescue.tsv, and writes nothing",
+    excludes: &["FOLDER", "no-digest"],
+};
+
+/// The most bytes that are taken of forks.
+const LIMIT: Argument = Argument {
+    name: "limit",
+    takes: Takes::CountOption { value: "BYTES" },
+    help: "How many bytes of forks are taken at most, in place of four times those of the image",
+    excludes: &[],
+};
+
+pub const RESCUE: Word = Word {
+    name: "rescue",
+    about: "Takes what remains off a damaged volume, into a new folder: a bag (RFC 8493), or lists it",
+    after_help: Some(RESCUES),
+    arguments: &[IMAGE, FOLDER, LIST, LIMIT, VOLUME, NO_DIGEST],
+};
+
+/// What `rescue` asks for.
+pub fn rescue_words<'a>(matches: &ArgMatches<'a>) -> Result<Words<'a>, NoValue> {
+    let words = RescueWords {
+        image: IMAGE.text(matches)?,
+        volume: VOLUME.given_count(matches)?,
+        limit: LIMIT.given_count(matches)?,
+    };
+    if LIST.is_given(matches)? {
+        return Ok(Words::RescueList(words));
+    }
+    Ok(Words::Rescue(BagWords {
+        words,
+        folder: folder_path(FOLDER.text(matches)?),
+        is_digested: !NO_DIGEST.is_given(matches)?,
+        program: PROGRAM,
+    }))
+}

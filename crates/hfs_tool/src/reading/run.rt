@@ -1,0 +1,40 @@
+//! The word `run`.
+
+use super::places::{IMAGE, NOW};
+use crate::help::RUNS;
+use crate::words::{RunWords, Words};
+use clap::ArgMatches;
+use hfs_arguments::{Argument, NoValue, Takes, Word};
+
+/// The path of a script.
+const SCRIPT: Argument = Argument {
+    name: "SCRIPT",
+    takes: Takes::Text,
+    help: "The calls, one a line; docs/SCRIPTS.md has the language",
+    excludes: &[],
+};
+
+/// The path of the file that gets a changed image.
+const OUT: Argument = Argument {
+    name: "out",
+    takes: Takes::TextOption { value: "FILE" },
+    help: "The file that gets the changed image, in place of what it has; it may be the image",
+    excludes: &[],
+};
+
+pub const RUN: Word = Word {
+    name: "run",
+    about: "Runs a script of calls by several workers and viewers at once, and prints the answers",
+    after_help: Some(RUNS),
+    arguments: &[IMAGE, SCRIPT, NOW, OUT],
+};
+
+/// What `run` asks for.
+pub fn run_words<'a>(matches: &ArgMatches<'a>) -> Result<Words<'a>, NoValue> {
+    Ok(Words::Run(RunWords {
+        image: IMAGE.text(matches)?,
+        script: SCRIPT.text(matches)?,
+        now: NOW.number(matches)?,
+        out: OUT.given_text(matches),
+    }))
+}

@@ -1,0 +1,26 @@
+//! The word `take`.
+
+use super::places::{FOLDER, IMAGE, NO_DIGEST, VOLUME};
+use crate::help::{PROGRAM, TAKES};
+use crate::words::Words;
+use clap::ArgMatches;
+use hfs_arguments::{NoValue, Word};
+use hfs_take::{TakeWords, folder_path};
+
+pub const TAKE: Word = Word {
+    name: "take",
+    about: "Takes all files and folders off the volume, into a new folder: a bag (RFC 8493) with AppleDouble files",
+    after_help: Some(TAKES),
+    arguments: &[IMAGE, FOLDER, VOLUME, NO_DIGEST],
+};
+
+/// What `take` asks for.
+pub fn take_words<'a>(matches: &ArgMatches<'a>) -> Result<Words<'a>, NoValue> {
+    Ok(Words::Take(TakeWords {
+        image: IMAGE.text(matches)?,
+        volume: VOLUME.given_count(matches)?,
+        folder: folder_path(FOLDER.text(matches)?),
+        is_digested: !NO_DIGEST.is_given(matches)?,
+        program: PROGRAM,
+    }))
+}

@@ -1,0 +1,28 @@
+//! The word `volumes`.
+
+use crate::help::VOLUMES;
+use crate::words::Words;
+use clap::ArgMatches;
+use hfs_arguments::{Argument, NoValue, Takes, Word};
+
+/// The path of a file.
+const FILE: Argument = Argument {
+    name: "FILE",
+    takes: Takes::Text,
+    help: "The file that volumes are looked for in; it may be a device",
+    excludes: &[],
+};
+
+pub const FIND: Word = Word {
+    name: "volumes",
+    about: "Prints a line for each HFS volume in a file: number, how it lies, first byte, bytes, name",
+    after_help: Some(VOLUMES),
+    arguments: &[FILE],
+};
+
+/// What `volumes` asks for.
+pub fn volumes_words<'a>(matches: &ArgMatches<'a>) -> Result<Words<'a>, NoValue> {
+    Ok(Words::Volumes {
+        file: FILE.text(matches)?,
+    })
+}

@@ -1,0 +1,70 @@
+//! Images beside what the database has of them.
+ghost use Rattle.std.specs.Prelude.{◌≡◌, IfOk, IfSome, string_bytes};
+ghost use Rattle.hex.specs.Hex.{encode_lower};
+ghost use Rattle.sha2.specs.Sha256.{sha256};
+ghost use Rattle.hfs_needed.specs.Known.{OfKnown};
+ghost use Rattle.hfs_word_collect.specs.Comparing.{IsCompared};
+
+use crate::fault::RunFault;
+use crate::files::FileByPath;
+use hfs_collection::{ImageFile, file_digest};
+use hfs_containers::ReadAt;
+use hfs_database::{Collection, Comparison, KnownImage, known_image};
+use sqlite::Alter;
+use std::alloc::Global;
+use std::rt::Files;
+
+/// The hexadecimal digits of the digest of a file of `len` bytes. None where a read fails.
+fn file_digits<S: ReadAt>(
+    alloc: Global,
+    source: &mut S,
+    len: u64,
+) -> Result<Option<String>, RunFault>
+    ensures { IfOk result (λ found. IfSome found (λ digits. OfKnown (S.known source.old) len
+        (λ file. string_bytes digits ≡ encode_lower (sha256 file)))) }
+{
+    let Ok(digest) = file_digest(source, len) else {
+        return Ok(None);
+    };
+    match hex::encode(alloc, digest.as_slice()) {
+        Ok(digits) => Ok(Some(digits)),
+        Err(_) => Err(RunFault::NoMemory),
+    }
+}
+
+/// How a file of `len` bytes stands to what the database has of it. It is read where its digest is needed; where a read fails, it
+/// is missing. The only fault is `NoMemory`.
+pub fn compare_known<S: ReadAt>(
+    alloc: Global,
+    source: &mut S,
+    len: u64,
+    known: &KnownImage,
+) -> Result<Comparison, RunFault>
+    ensures { IfOk result (λ found. OfKnown (S.known source.old) len (IsCompared known.now found)) }
+{
+    if !known.needs_digest(len) {
+        return Ok(known.compared(len, ""));
+    }
+    match file_digits(alloc, source, len)? {
+        Some(digits) => Ok(known.compared(len, digits.as_str())),
+        None => Ok(Comparison::Missing),
+    }
+}
+
+/// How an image stands to what the database has of it: `Missing` where it can't be read, `New` where the database has no row of its
+/// path, else by its length and its digest. Faults: `CannotWrite` where the database can't be read, `NoMemory`.
+pub fn compare_image<S: Alter + Drop, R: Files + AllocGlobal>(
+    rt: &R,
+    collection: &mut Collection<S>,
+    path: &str,
+) -> Result<Comparison, RunFault> {
+    let file = FileByPath { rt, path };
+    let Ok(mut source) = file.open() else {
+        return Ok(Comparison::Missing);
+    };
+    let len = source.len();
+    match known_image(collection, path)? {
+        Some(known) => compare_known(rt.alloc(), &mut source, len, &known),
+        None => Ok(Comparison::New),
+    }
+}

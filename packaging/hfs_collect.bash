@@ -1,0 +1,9 @@
+# Completion of hfs_collect's options and paths, for bash.
+_hfs_collect() {
+    local word=${COMP_WORDS[COMP_CWORD]}
+    case $word in
+        -*) mapfile -t COMPREPLY < <(compgen -W '--compare --no-digest --help --version' -- "$word") ;;
+        *) mapfile -t COMPREPLY < <(compgen -f -- "$word") && compopt -o filenames 2> /dev/null ;;
+    esac
+}
+complete -F _hfs_collect hfs_collect
