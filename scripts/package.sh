@@ -8,7 +8,9 @@ root=$(cd "$(dirname "$0")/.." && pwd)
 into=$(cd "${1:-.}" && pwd)
 tool=$root/crates/hfs_tool/out/hfs_tool
 [ -x "$tool" ] || { echo 'package: build the program first: scripts/build.sh' >&2; exit 1; }
-version=$("$tool" --version | awk '{ print $2 }')
+said=$("$tool" --version)
+[[ $said == *'(proved with '* ]] || { echo "package: this program is not a proved one: $said" >&2; exit 1; }
+version=$(awk '{ print $2 }' <<< "$said")
 package=hfs-tool_${version}_amd64
 
 folder=$(mktemp -d)

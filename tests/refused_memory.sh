@@ -103,7 +103,7 @@ is_told() {
 # Some lines were not answered, all others as they are where no memory is refused, and what was written is a sound image.
 is_partly_answered() {
     [ "$got" = 5 ] && [ ! -s "$folder/errors" ] && grep -q 'none' "$folder/printed" && [[ $("$tool" check "$folder/file") == sound* ]] \
-        && ! grep -v $'\tnone\t-$' "$folder/printed" | grep -qvxFf "$folder/wanted"
+        && [ -z "$(grep -v $'\tnone\t-$' "$folder/printed" | grep -vxFf "$folder/wanted")" ]
 }
 
 # Refuses each allocation of hfs_tool with these words, which write $folder/file, and then once none.
