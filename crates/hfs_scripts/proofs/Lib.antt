@@ -1,5 +1,6 @@
 mod Digits
 mod Written
+mod WordTable
 mod FirstNine
 mod LineFeed
 mod FirstLine

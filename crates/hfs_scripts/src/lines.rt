@@ -66,19 +66,15 @@ fn read_fields(alloc: Global, fields: &[&[u8]], now: u32) -> Result<Option<Scrip
     let [who, text, fields @ ..] = fields else {
         return Ok(None);
     };
-    let Some(caller) = read_caller(who) else {
+    let Some((caller, word)) = read_caller(who).zip(read_word(text)) else {
         return Ok(None);
     };
-    let Some(word) = read_word(text) else {
+    if !may_ask(caller, word) {
         return Ok(None);
-    };
-    let Some(call) = read_call(alloc, word, fields, now)? else {
-        return Ok(None);
-    };
-    if may_ask(caller, word) {
-        Ok(Some(ScriptLine { caller, call }))
-    } else {
-        Ok(None)
+    }
+    match read_call(alloc, word, fields, now)? {
+        Some(call) => Ok(Some(ScriptLine { caller, call })),
+        None => Ok(None),
     }
 }
 
