@@ -1,6 +1,5 @@
 mod Digits
 mod Written
-mod WordTable
 mod FirstNine
 mod LineFeed
 mod FirstLine

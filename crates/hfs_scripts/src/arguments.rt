@@ -11,6 +11,9 @@ ghost use Rattle.hfs_scripts.specs.Texts.{arguments, fork_text, read_fields, inf
 use hfs_model::{Bytes, Call, Fork};
 use std::alloc::{AllocError, Global};
 
+/// The most fields that stand behind a word.
+const MOST_FIELDS: usize = 6;
+
 /// A number without leading zeros.
 pub(crate) fn number_field(alloc: Global, number: u32) -> Result<Bytes, AllocError>
     ensures text { IfOk result (λ field. field ≡ decimal number) }
@@ -71,7 +74,7 @@ fn one_number(alloc: Global, number: u32) -> Result<Vec<Bytes>, AllocError>
     ensures fields { GivesItems (decimal number ∷ []) result }
     ensures reads { IfOk result (λ fields. Reads number) }
 {
-    with_number(alloc, Vec::new(alloc), number)
+    with_number(alloc, Vec::with_capacity(alloc, MOST_FIELDS)?, number)
 }
 
 fn two_numbers(alloc: Global, dir: u32, index: u32) -> Result<Vec<Bytes>, AllocError>

@@ -2,7 +2,7 @@
 ghost use Rattle.std.specs.Prelude.{◌≡◌, bytes_eq};
 ghost use Rattle.std.specs.List.{find};
 ghost use Rattle.hfs_scripts.specs.Texts.{word_text};
-ghost use Rattle.hfs_scripts.specs.Words.{word_of, is_for_viewers};
+ghost use Rattle.hfs_scripts.specs.Words.{beside, reading_words, changing_words, word_of, is_for_viewers};
 
 /// The word of a line.
 #[derive(Clone, Copy)]
@@ -26,14 +26,18 @@ pub(crate) enum Word {
     Resolve,
 }
 
-/// Every word: first those of calls that only read, then those of changes.
-const WORDS: [Word; 17] = [
+/// The words of calls that only read.
+const READING_WORDS: [Word; 6] = [
     Word::DirInfo,
     Word::Info,
     Word::Indexed,
     Word::List,
     Word::Read,
     Word::Resolve,
+];
+
+/// The words of changes.
+const CHANGING_WORDS: [Word; 11] = [
     Word::Create,
     Word::MkDir,
     Word::Delete,
@@ -80,11 +84,29 @@ fn find_word(words: &[Word], text: &[u8]) -> Option<Word>
     words.iter().copied().find(|word| text == word_text(*word))
 }
 
+/// The word of a call that only reads.
+fn read_reading_word(text: &[u8]) -> Option<Word>
+    ensures { result ≡ beside text.now reading_words }
+{
+    find_word(&READING_WORDS, text)
+}
+
+/// The word of a change.
+fn read_changing_word(text: &[u8]) -> Option<Word>
+    ensures { result ≡ beside text.now changing_words }
+{
+    find_word(&CHANGING_WORDS, text)
+}
+
 /// The word of a text.
+#[tactic(auto, unfolding(crate::specs::Words::word_of))]
 pub(crate) fn read_word(text: &[u8]) -> Option<Word>
     ensures { result ≡ word_of text.now }
 {
-    find_word(&WORDS, text)
+    if let Some(word) = read_reading_word(text) {
+        return Some(word);
+    }
+    read_changing_word(text)
 }
 
 /// Whether a viewer's line may have the word.
