@@ -307,7 +307,8 @@ class Run:
     def try_batch(self, batch):
         """Tries a batch, and alone each of its edits of which the batch says nothing."""
         status, said = self.check(batch)
-        is_told = status == 1 and 'logic=not-proved' in said and not LIMIT.search(said)
+        ended = said.rstrip().rpartition('\n')[2]
+        is_told = status == 1 and ended.startswith(('only=', 'logic=not-proved')) and not LIMIT.search(said)
         left = []
         for edit in batch:
             refusal = next(self.refusals(edit, said), None) if is_told else None
