@@ -767,6 +767,16 @@ def damaged_databases(place):
     for name in (':memory:', 'file:c.db', 'file:c.db?mode=memory', 'none/c.db', '.', '/', '', '/dev/null', '/dev/full'):
         place.refuses(f'the name {name!r}', 4, f'cannot open {name}\n', 'collect', name, 'p6.img')
         place.refuses(f'the name {name!r}', 4, f'cannot open {name}\n', 'collect', name, '--compare')
+    # Also where a file has such a name, a database or any other.
+    for name in (':memory:', 'file:', 'file:c.db'):
+        for data in (content, b'', b'any bytes' * 100):
+            place.file(name, data)
+            place.refuses(f'the name {name!r} of a file', 4, f'cannot open {name}\n', 'collect', name, 'p6.img')
+            place.refuses(f'the name {name!r} of a file', 4, f'cannot open {name}\n', 'collect', name, '--compare')
+        (place.folder / name).unlink()
+    for name in ('memory', ':memory', 'file', 'xfile:c.db'):
+        place.wants(0, 'p6.img\tvolumes 1\trefused 0\tfiles 0\tdamaged 0\n', 'collect', name, 'p6.img')
+        (place.folder / name).unlink()
     (place.folder / 'lost.db').symlink_to('none/c.db')
     place.refuses('a link to nothing', 4, 'cannot open lost.db\n', 'collect', 'lost.db', 'p6.img')
 
