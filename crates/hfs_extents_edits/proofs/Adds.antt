@@ -5,7 +5,7 @@ use Rattle.std.specs.List.{flat_map}
 use Rattle.std.specs.Ordering.{is_gt, is_eq, is_lt}
 use Rattle.std.specs.declared.cmp.Ordering.{Ordering}
 use Rattle.std.specs.declared.cmp.Ordering.TheVariants.{Less, Equal, Greater}
-use Rattle.std.proofs.lemmas.Bool.{cases_eq, cond-true, cond-false, and_parts, eqb-true, eq-eqb}
+use Rattle.std.proofs.lemmas.Bool.{cases_eq, cond-true, cond-false, and_parts, eqb-true}
 use Rattle.std.proofs.lemmas.List.{length-map}
 use Rattle.hfs_node.specs.Node.{size_of}
 use Rattle.hfs_node.proofs.SizeLemmas.{size_of-insert, size_of-nil}
@@ -13,18 +13,17 @@ use Rattle.hfs_fields.specs.declared.key.ExtKey.{ExtKey}
 use Rattle.hfs_fields.specs.Keys.{ext_cmp, ext_cmp_total, is_ext_leaf}
 use Rattle.hfs_btree.specs.Keys.{ext_allowed}
 use Rattle.hfs_btree.specs.declared.header.Header.{Header}
-use Rattle.hfs_btree.specs.Pairs.{Pairs, Rises, lookup}
+use Rattle.hfs_btree.specs.Pairs.{Rises, lookup}
 use Rattle.hfs_scans.specs.Each.{Each}
 use Rattle.hfs_scans.specs.Members.{In}
-use Rattle.hfs_scans.proofs.ElementLemmas.{each-at, each-mono, each-left, each-right, each-append, each-map}
+use Rattle.hfs_scans.proofs.ElementLemmas.{each-at, each-mono, each-left, each-right, each-append}
 use Rattle.hfs_btree.specs.Tree.{Store, Spot, records_in, pair_of, pairs, key_at, level_below, turn, spots}
-use Rattle.hfs_btree.specs.Header.{header_in, depth_of, root_level, own_nodes, free_nodes, leaves, tree_turn, tree_nodes, tree_content}
-use Rattle.hfs_btree.specs.Sound.{IsOther, IsSound, IsExact, AreKeysExact, HasStructure}
-use Rattle.hfs_btree.proofs.DescentLemmas.{content-none, content-about}
+use Rattle.hfs_btree.specs.Header.{header_in, depth_of, root_level, own_nodes, free_nodes, tree_turn, tree_nodes}
+use Rattle.hfs_btree.specs.Sound.{IsOther, IsSound, IsExact, AreKeysExact}
+use Rattle.hfs_btree.proofs.DescentLemmas.{content-none}
 use Rattle.hfs_btree.proofs.LookupLemmas.{lookup-none, flipped}
 use Rattle.hfs_btree_edits.specs.Edits.{KeepsTree, HasInserted, IsAboveFirst, with_pair, level_above}
-use Rattle.hfs_btree_edits.specs.KeptKeys.{EachKey, IsKeyOr, tree_keys}
-use Rattle.hfs_btree_edits.proofs.FewRecords.{one-more_fits}
+use Rattle.hfs_btree_edits.specs.KeptKeys.{IsKeyOr, tree_keys}
 use Rattle.hfs_btree_edits.proofs.FreeAfterLemmas.{free-after, free-same_depth}
 use Rattle.hfs_btree_edits.proofs.KeptKeyLemmas.{own-keys, each-key-mono, keys-hold_with}
 use Rattle.hfs_btree_insertion.specs.Stored.{HasPut}
@@ -36,8 +35,8 @@ use Rattle.hfs_space.specs.TreeKeys.{ext_keys, overflow_of}
 use Rattle.hfs_extents_edits.specs.Beginning.{HasBegun}
 use Rattle.hfs_extents_edits.specs.Edge.{edge, HasLowerLeast}
 use Rattle.hfs_extents_edits.specs.Need.{HasNodesFor, extents_need}
-use Rattle.hfs_extents_edits.specs.Adding.{TakesOneLeaf, HasAdded, HasLeast, IsNotLeast, IsBeyondLeaf}
-use Rattle.hfs_extents_edits.proofs.EdgeLemmas.{edge-at, edge-some, edge-entries, edge-level, edge-leaves}
+use Rattle.hfs_extents_edits.specs.Adding.{HasAdded, HasLeast, IsNotLeast, IsBeyondLeaf}
+use Rattle.hfs_extents_edits.proofs.EdgeLemmas.{edge-at, edge-some, edge-entries, edge-leaves}
 use Rattle.hfs_extents_edits.proofs.Needs.{need-first, need-one, need-next}
 
 -- ---- an empty tree

@@ -1,9 +1,8 @@
 -- An empty tree that got its first pair, from the calls that put it there.
-use Rattle.std.proofs.Common.{◌≡◌, ◌≢◌, ℕ, zero, suc, ◌+◌, ◌<◌, ◌≤◌, List, [], ◌∷◌, ◌++◌, length, map, get_or, drop, refl, sym, ap, ◌∙◌, subst, arith}
-use Rattle.std.specs.Prelude.{true, false, Bool, Ok, Result, slice_index_or}
+use Rattle.std.proofs.Common.{◌≡◌, ℕ, ◌+◌, ◌<◌, ◌≤◌, List, [], ◌∷◌, ◌++◌, length, map, drop, refl, sym, ap, ◌∙◌, subst, arith}
+use Rattle.std.specs.Prelude.{true, false, Bool, Ok, slice_index_or}
 use Rattle.std.specs.List.{flat_map}
 use Rattle.hfs_node.specs.declared.node.Node.{Node}
-use Rattle.hfs_node.specs.declared.kind.NodeKind.TheVariants.{Leaf}
 use Rattle.hfs_node.specs.Node.{size_of}
 use Rattle.hfs_node.proofs.SizeLemmas.{size_of-insert, size_of-nil}
 use Rattle.hfs_btree.specs.declared.header.Header.{Header}
@@ -12,9 +11,8 @@ use Rattle.hfs_btree.specs.Pairs.{Pairs, Rises}
 use Rattle.hfs_scans.specs.Each.{Each}
 use Rattle.hfs_scans.proofs.ElementLemmas.{each-left, each-right, each-append}
 use Rattle.hfs_btree.specs.Tree.{Store, Spot, node_in, records_in, records_of, pair_of, pairs, key_at, first_of, last_of, turn, last_level}
-use Rattle.hfs_btree.specs.Header.{header_in, record_in, depth_of, own_nodes, free_nodes, leaves, tree_turn, tree_nodes, tree_content, is_marked}
-use Rattle.hfs_btree.specs.Sound.{IsOther, IsDistinct, IsSound, IsRight, IsStray, IsExact, AreKeysInOrder, AreKeysExact}
-use Rattle.hfs_btree_edits.specs.Edits.{KeepsTree}
+use Rattle.hfs_btree.specs.Header.{header_in, record_in, depth_of, own_nodes, free_nodes, leaves, tree_turn, tree_nodes, tree_content}
+use Rattle.hfs_btree.specs.Sound.{IsOther, IsDistinct, IsSound, IsRight, AreKeysInOrder, AreKeysExact}
 use Rattle.hfs_btree_edits.specs.KeptKeys.{EachKey}
 use Rattle.hfs_btree_edits.specs.Stored.{HasStored, HasHeaderPut, HasClaimed, KeepsHead}
 use Rattle.hfs_btree_edits.proofs.ApartLemmas.{distinct-put, marked-within, nonzero}

@@ -1,10 +1,8 @@
 -- The bodies of an extents tree's records, which are all of one length.
-use Rattle.std.proofs.Common.{◌≡◌, ℕ, ◌≤◌, List, [], ◌∷◌, length, map, sym, subst, arith, Bool, true, false}
-use Rattle.std.specs.Prelude.{Option, Some, cond, Result}
+use Rattle.std.proofs.Common.{◌≡◌, ℕ, ◌≤◌, List, [], ◌∷◌, length, arith, Bool, true, false}
+use Rattle.std.specs.Prelude.{Option, Some, cond}
 use Rattle.std.specs.Ordering.{is_eq}
 use Rattle.std.proofs.lemmas.Bool.{eqb-true}
-use Rattle.hfs_node.specs.declared.node.Node.{Node}
-use Rattle.hfs_node.specs.declared.fault.NodeFault.{NodeFault}
 use Rattle.hfs_fields.specs.declared.key.ExtKey.{ExtKey}
 use Rattle.hfs_fields.specs.Keys.{ext_cmp, is_ext_leaf}
 use Rattle.hfs_btree.specs.Keys.{ext_allowed}

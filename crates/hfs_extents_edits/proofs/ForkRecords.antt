@@ -6,10 +6,9 @@ use Rattle.std.specs.declared.cmp.Ordering.TheVariants.{Less, Equal, Greater}
 use Rattle.std.specs.Ordering.{nat_cmp, ordering_then, is_eq, is_gt}
 use Rattle.std.proofs.lemmas.Cmp.{ranked, by_ranked, tied_itself}
 use Rattle.std.proofs.lemmas.Option.{none-some, same_Some}
-use Rattle.std.proofs.lemmas.Bool.{eq-eqb, eqb-true, leb-true, le-leb, ne_eqb, cases_eq, cases_lt, cases_Bool, true≢false, and_parts}
+use Rattle.std.proofs.lemmas.Bool.{eq-eqb, eqb-true, leb-true, le-leb, cases_Bool, true≢false, and_parts}
 use Rattle.hfs_fields.specs.declared.key.ExtKey.{ExtKey}
 use Rattle.hfs_fields.specs.Keys.{ext_cmp, ext_cmp_total}
-use Rattle.hfs_scans.specs.Each.{Each}
 use Rattle.hfs_scans.proofs.ElementLemmas.{each-mono}
 use Rattle.hfs_btree.specs.Pairs.{lookup, pairs_from, Rises}
 use Rattle.hfs_btree.specs.Lookups.{first_pair}

@@ -16,13 +16,12 @@ use Rattle.hfs_btree.specs.declared.key.Key.{Ghosts}
 use Rattle.hfs_btree.specs.Pairs.{Order, Pairs, Rises, IsAtMost, IsAbove}
 use Rattle.hfs_scans.specs.Each.{Each}
 use Rattle.hfs_scans.proofs.ElementLemmas.{each-at, each-mono, each-both, each-left, each-right, each-map}
-use Rattle.hfs_btree.specs.Tree.{Store, Spot, node_in, records_in, records_of, children, pair_of, pairs, spots, first_of, turn, under, level_below, kind_at, key_at}
-use Rattle.hfs_btree.specs.Header.{header_in, record_in, depth_of, root_level, own_nodes, leaves, free_nodes, tree_turn, tree_nodes, tree_content}
+use Rattle.hfs_btree.specs.Tree.{Store, Spot, node_in, records_in, records_of, children, pair_of, pairs, spots, first_of, turn, under, kind_at, key_at}
+use Rattle.hfs_btree.specs.Header.{header_in, depth_of, root_level, own_nodes, leaves, free_nodes, tree_turn, tree_nodes, tree_content}
 use Rattle.hfs_btree.specs.Sound.{IsOther, IsDistinct, IsRight, IsSound, IsExact, HasStructure, AreKeysInOrder, AreKeysExact, ArePartsInOrder, part_of, first_key}
 use Rattle.hfs_btree.proofs.LevelLemmas.{each-spots}
-use Rattle.hfs_scans.proofs.PartLemmas.{flat_map-same}
 use Rattle.hfs_btree_edits.specs.Edits.{KeepsTree, level_above}
-use Rattle.hfs_btree_edits.specs.KeptKeys.{EachKey, IsKeyOr}
+use Rattle.hfs_btree_edits.specs.KeptKeys.{EachKey}
 use Rattle.hfs_btree_edits.specs.LevelParts.{lift}
 use Rattle.hfs_btree_edits.specs.Stored.{HasStored}
 use Rattle.hfs_btree_edits.proofs.DistinctLemmas.{distinct-right, last-distinct}

@@ -1,5 +1,5 @@
 -- A record that was put into the root of a tree of one level.
-use Rattle.std.proofs.Common.{◌≡◌, ℕ, ◌+◌, ◌-◌, ◌<◌, ◌≤◌, List, [], ◌++◌, length, get_or, drop, refl, sym, ap, ◌∙◌, subst, arith, None}
+use Rattle.std.proofs.Common.{◌≡◌, ℕ, ◌+◌, ◌-◌, ◌<◌, ◌≤◌, List, [], length, get_or, drop, sym, ap, ◌∙◌, subst, arith, None}
 use Rattle.std.specs.Prelude.{true}
 use Rattle.std.specs.Cmp.{IsTotalOrder}
 use Rattle.hfs_node.specs.Node.{node_of, size_of}
@@ -13,7 +13,7 @@ use Rattle.hfs_btree.specs.Header.{header_in, record_in, depth_of, tree_content}
 use Rattle.hfs_btree.specs.Sound.{IsSound}
 use Rattle.hfs_btree.specs.Search.{leaf_for, leaf_under, IsLowWay}
 use Rattle.hfs_btree.proofs.SearchLemmas.{IsLeafFor}
-use Rattle.hfs_btree.proofs.DecodedLemmas.{records-read, decoded-within}
+use Rattle.hfs_btree.proofs.DecodedLemmas.{records-read}
 use Rattle.hfs_btree.proofs.DescentLemmas.{leaf-found, leaf-node}
 use Rattle.hfs_btree.proofs.FoundLemmas.{found-entries}
 use Rattle.hfs_btree_edits.specs.Stored.{Decodes, HasHeaderPut}

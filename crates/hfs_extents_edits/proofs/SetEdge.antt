@@ -11,8 +11,8 @@ use Rattle.hfs_btree.specs.declared.header.Header.{Header}
 use Rattle.hfs_btree.specs.declared.key.Key.{Ghosts}
 use Rattle.hfs_scans.specs.Each.{Each}
 use Rattle.hfs_btree.specs.Tree.{Store, Spot, node_in, records_in, records_of, children, first_of, level_below, kind_at}
-use Rattle.hfs_btree.specs.Header.{header_in, depth_of, root_level, tree_nodes}
-use Rattle.hfs_btree.specs.Sound.{IsOther, IsRight, HasStructure}
+use Rattle.hfs_btree.specs.Header.{header_in, depth_of, root_level}
+use Rattle.hfs_btree.specs.Sound.{IsRight, HasStructure}
 use Rattle.hfs_scans.proofs.PartLemmas.{flat_map-same}
 use Rattle.hfs_btree_edits.specs.Edits.{level_above}
 use Rattle.hfs_btree_edits.specs.Stored.{HasStored, Decodes}

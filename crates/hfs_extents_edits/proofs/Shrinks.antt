@@ -1,5 +1,5 @@
 -- A tree from which records were taken, one after the other.
-use Rattle.std.proofs.Common.{◌≡◌, ℕ, zero, suc, ◌+◌, ◌<◌, ◌≤◌, List, [], ◌∷◌, ◌++◌, length, map, drop, refl, sym, ap, ◌∙◌, subst, arith, inl, inr, length-append}
+use Rattle.std.proofs.Common.{◌≡◌, ℕ, ◌+◌, ◌<◌, List, [], ◌∷◌, ◌++◌, length, map, drop, refl, ap, ◌∙◌, subst, arith, inl, inr, length-append}
 use Rattle.std.specs.List.{flat_map}
 use Rattle.std.proofs.lemmas.Bool.{cases_eq}
 use Rattle.std.proofs.lemmas.List.{length-map}
@@ -8,7 +8,6 @@ use Rattle.hfs_btree.specs.Pairs.{Pairs}
 use Rattle.hfs_btree.specs.Tree.{Store, Spot, records_in, pair_of, pairs, turn}
 use Rattle.hfs_btree.specs.Header.{header_in, depth_of, free_nodes, own_nodes, tree_nodes, tree_content}
 use Rattle.hfs_btree.specs.Sound.{IsSound, IsOther, IsStray}
-use Rattle.hfs_scans.specs.Each.{Each}
 use Rattle.hfs_scans.proofs.ElementLemmas.{each-append, each-left, each-right}
 use Rattle.hfs_scans.specs.Members.{In}
 use Rattle.hfs_btree_edits.proofs.BehindLemmas.{nodes-behind}

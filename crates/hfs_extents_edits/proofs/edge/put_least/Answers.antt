@@ -1,4 +1,3 @@
-use Rattle.std.proofs.Common.{refl}
 use Rattle.hfs_btree_edits.proofs.StoreLemmas.{on-ok}
 use Rattle.hfs_extents_edits.proofs.SetEdge.{leaf-within, leaf-decodes}
 use Rattle.hfs_extents_edits.proofs.LowerLeast.{least-some, least-whole, least-fits, lower-least}

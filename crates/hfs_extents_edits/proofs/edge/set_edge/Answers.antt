@@ -1,5 +1,4 @@
-use Rattle.std.proofs.Common.{◌≡◌, ◌<◌, ◌∙◌, refl, arith, ap}
-use Rattle.hfs_btree.specs.declared.header.Header.{Header}
+use Rattle.std.proofs.Common.{◌∙◌, refl, arith}
 use Rattle.hfs_extents_edits.proofs.SetEdge.{edge-init, edge-step, edge-end, set-some, set-within, set-index}
 use Rattle.hfs_extents_edits.proofs.edge.set_edge.Goals as goal
 

@@ -1,4 +1,4 @@
-use Rattle.std.proofs.Common.{◌≡◌, ◌<◌, ◌≤◌, ◌∙◌, ℕ, List, [], length, get_or, ap, subst, sym, refl, arith}
+use Rattle.std.proofs.Common.{◌≡◌, ◌<◌, ◌≤◌, ℕ, List, [], length, get_or, ap, subst, arith}
 use Rattle.std.specs.Prelude.{true}
 use Rattle.hfs_node.specs.Node.{size_of}
 use Rattle.hfs_node.proofs.SizeLemmas.{size_of-set}

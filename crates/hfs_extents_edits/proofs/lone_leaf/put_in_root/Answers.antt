@@ -1,5 +1,4 @@
-use Rattle.std.proofs.Common.{◌≡◌, ◌≤◌, ◌-◌, ◌+◌, ℕ, List, [], ◌∙◌, refl, sym, ap, subst, arith, length}
-use Rattle.hfs_btree.specs.declared.header.Header.{Header}
+use Rattle.std.proofs.Common.{refl, length}
 use Rattle.hfs_btree_edits.proofs.StoreLemmas.{on-ok}
 use Rattle.hfs_btree_insertion.proofs.PutWhole.{record-put, fits-insert, place-as}
 use Rattle.hfs_extents_edits.proofs.RootPut.{root-within, root-decodes, root-entries, root-place, root-room, root-long, root-put}
