@@ -9,8 +9,10 @@ into=$(cd "${1:-.}" && pwd)
 programs=(hfs_tool hfs_collect)
 for program in "${programs[@]}"; do
     [ -x "$root/crates/$program/out/$program" ] || { echo 'package: build the programs first: scripts/build.sh' >&2; exit 1; }
+    said=$("$root/crates/$program/out/$program" --version)
+    [[ $said == *'(proved with '* ]] || { echo "package: this program is not a proved one: $said" >&2; exit 1; }
 done
-version=$("$root/crates/hfs_tool/out/hfs_tool" --version | awk '{ print $2 }')
+version=$(awk '{ print $2 }' <<< "$said")
 package=hfs-tool_${version}_amd64
 
 folder=$(mktemp -d)

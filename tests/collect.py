@@ -25,6 +25,7 @@ import resource
 import shutil
 import signal
 import sqlite3
+import struct
 import stat
 import subprocess
 import sys
@@ -465,6 +466,26 @@ def worked_example(place):
     holds(place, [image_rows(place, 'p6.img')])
 
 
+def cut_dumps(place):
+    """Partitions that begin behind the file's end have rows of no bytes, and what lies before comes."""
+    def entry(count, first, blocks):
+        return (b'PM\0\0' + struct.pack('>III', count, first, blocks)).ljust(48, b'\0') + b'Apple_HFS'.ljust(464, b'\0')
+    content = small_volume(place)
+    place.file('map.img', bytes(512) + entry(1, 9, 1))
+    ensure(os.path.getsize(place.folder / 'map.img') == 1024, 'the smallest dump')
+    place.file('cut.img', bytes(512) + entry(2, 3, 64) + entry(2, 67, 64) + content)
+    place.file('far.img', bytes(512) + entry(3, 4, 64) + entry(3, 4294967295, 4294967295) + entry(3, 67, 1) + content[:-1536])
+    place.wants(0, 'map.img\tvolumes 1\trefused 1\tfiles 0\tdamaged 0\ncut.img\tvolumes 2\trefused 1\tfiles 0\tdamaged 0\n'
+                'far.img\tvolumes 3\trefused 3\tfiles 0\tdamaged 0\np6.img\tvolumes 1\trefused 0\tfiles 0\tdamaged 0\n',
+                'collect', 'c.db', 'map.img', 'cut.img', 'far.img', 'p6.img')
+    ensure(table_lines(place.folder / 'c.db', 'volume') == [
+        '1|1|1|partition|4608|0||||||||image too short',
+        '2|2|1|partition|1536|32768|D||||58|512|50|sound', '3|2|2|partition|34304|0||||||||image too short',
+        '4|3|1|partition|2048|31232|D||||58|512|50|bad master directory block M4 (-60)',
+        '5|3|2|partition|2199023255040|0||||||||image too short', '6|3|3|partition|34304|0||||||||image too short',
+        '7|4|1|bare|0|32768|D||||58|512|50|sound'], f'the rows of cut dumps: {table_lines(place.folder / "c.db", "volume")}')
+
+
 def wrapped_volumes(place):
     """Files in which volumes lie in each way."""
     content = small_volume(place, 'bare.img')
@@ -758,6 +779,16 @@ def damaged_databases(place):
     for name in (':memory:', 'file:c.db', 'file:c.db?mode=memory', 'none/c.db', '.', '/', '', '/dev/null', '/dev/full'):
         place.refuses(f'the name {name!r}', 4, f'cannot open {name}\n', 'collect', name, 'p6.img')
         place.refuses(f'the name {name!r}', 4, f'cannot open {name}\n', 'collect', name, '--compare')
+    # Also where a file has such a name, a database or any other.
+    for name in (':memory:', 'file:', 'file:c.db'):
+        for data in (content, b'', b'any bytes' * 100):
+            place.file(name, data)
+            place.refuses(f'the name {name!r} of a file', 4, f'cannot open {name}\n', 'collect', name, 'p6.img')
+            place.refuses(f'the name {name!r} of a file', 4, f'cannot open {name}\n', 'collect', name, '--compare')
+        (place.folder / name).unlink()
+    for name in ('memory', ':memory', 'file', 'xfile:c.db'):
+        place.wants(0, 'p6.img\tvolumes 1\trefused 0\tfiles 0\tdamaged 0\n', 'collect', name, 'p6.img')
+        (place.folder / name).unlink()
     (place.folder / 'lost.db').symlink_to('none/c.db')
     place.refuses('a link to nothing', 4, 'cannot open lost.db\n', 'collect', 'lost.db', 'p6.img')
 
@@ -1082,7 +1113,7 @@ def main():
             subprocess.run(['cc', '-shared', '-fPIC', '-O1', '-o', library, Path(top) / 'refuse.c', '-ldl'], check=True)
         else:
             left_out.append('reads and memory that are refused, for want of a C compiler')
-        parts = [worked_example, rows_beside_words, damaged_disks, odd_paths, comparisons, refused_words, made_by_sqlite, other_tables, damaged_databases, other_programs, read_only,
+        parts = [worked_example, cut_dumps, rows_beside_words, damaged_disks, odd_paths, comparisons, refused_words, made_by_sqlite, other_tables, damaged_databases, other_programs, read_only,
                  unread_images, full_output, terminal]
         parts = [(part.__name__, part) for part in parts]
         parts.append(('full_devices', lambda place: full_devices(place, left_out)))

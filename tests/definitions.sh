@@ -1,7 +1,7 @@
 #!/usr/bin/env bash
 # Prints, from the files themselves, where each definition stands and which wrong bodies the prover refuses: for each crate
-# (or those that are named) the files of its specs/ with what each is about, and the edits of its must-fail/, which the gate
-# tries, and of its wrong-bodies/, which tests/wrong_bodies.sh tries, with the text that each changes.
+# (or those that are named) the files of its specs/ with what each is about, and the edits of its wrong-bodies/, which
+# tests/wrong_bodies.py tries, with the text that each changes.
 set -euo pipefail
 cd "$(dirname "$0")/.."
 
@@ -16,7 +16,7 @@ for crate in "${crates[@]}"; do
             *) printf '    %-24s %s\n' "specs/$(basename "$file")" "$(sed -n '1s/^-- *//p' "$file")" ;;
         esac
     done
-    for file in "crates/$crate"/{must-fail,wrong-bodies}/*.edit; do
+    for file in "crates/$crate"/wrong-bodies/*.edit; do
         [ -e "$file" ] || continue
         edit=${file#"crates/$crate/"}
         printf '    %s, in %s:\n' "${edit%.edit}" "$(sed -n '1s/^file: *//p' "$file")"

@@ -1,7 +1,8 @@
 #!/usr/bin/env bash
 # Takes files off whole: what `cat --macbinary` writes of a small volume, by its path and out of a pipe, byte for byte; what it refuses; and then,
 # each where it is installed, the same files by other programs: hfsutils writes the same and reads ours, macunpack and unar take ours apart, and
-# unar and lsar know the AppleDouble file of such a file. Prints 'encodings agree', with the programs that were skipped, or what differs, status 1.
+# unar and lsar know the AppleDouble file of such a file. Prints 'encodings agree', with the number of commands and the
+# programs that were skipped, or what differs, status 1.
 . "$(dirname "$0")/common.sh"
 command -v python3 > /dev/null || { echo 'skipped: python3 is not installed'; exit 0; }
 tool=$(program hfs_tool)
@@ -11,6 +12,7 @@ export HOME=$folder # hfsutils notes there what is mounted
 trap 'rm -rf "$folder"' EXIT
 cd "$folder"
 skipped=
+commands=0
 
 fail() {
     echo "encodings differ: $1"
@@ -21,6 +23,7 @@ fail() {
 wants() {
     local status=$1 lines=$2 ended=0
     shift 2
+    commands=$((commands + 1))
     "$@" > told 2>&1 || ended=$?
     [ "$ended" = "$status" ] || fail "$* ends with $ended"
     [ -z "$lines" ] || [ "$(cat told)" = "$lines" ] || fail "$* tells $(head -c 200 told)"
@@ -82,7 +85,7 @@ if command -v macunpack > /dev/null; then
     (cd unpacked && macunpack -3 ../ours.bin) || fail "macunpack ends with $?"
     [ "$(cat unpacked/f.rsrc)" = RES ] || fail 'the resource fork of macunpack'
     tail -c +129 ours.bin | head -c 2000 | cmp - unpacked/f.data || fail 'the data fork of macunpack'
-    macunpack -l ours.bin 2>&1 | grep -q 'name="f", type=TEXT, author=ttxt, data=2000, rsrc=3' || fail 'what macunpack tells'
+    [[ $(macunpack -l ours.bin 2>&1) == *'name="f", type=TEXT, author=ttxt, data=2000, rsrc=3'* ]] || fail 'what macunpack tells'
 else
     skipped="$skipped macutils"
 fi
@@ -105,4 +108,4 @@ else
     skipped="$skipped unar"
 fi
 
-echo "encodings agree${skipped:+; skipped:$skipped}"
+echo "encodings agree: $commands commands, beside files compared byte for byte${skipped:+; skipped:$skipped}"

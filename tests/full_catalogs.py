@@ -1,8 +1,9 @@
 #!/usr/bin/env python3
 """Fills catalogs of 2 to 60 nodes with files and with folders until no node is left, and empties them again: at the end each has
-its free nodes again. And makes a folder with as many children as a folder may have, which takes no more. By hfs_tool as each
-compiler builds it, beside hfs_plain; the image is saved and mounted again when it is full, and when it is empty. What it prints
-last is how many calls there were, or what differs.
+its free nodes again. Follows 300 files into a catalog and out of it again, five at a time. And makes a folder with as many children
+as a folder may have, which takes no more, in a catalog with eleven map nodes. By hfs_tool as each compiler builds it, beside
+hfs_plain; the image is saved and mounted again when it is full, and when it is empty. What it prints last is how many calls there
+were, or what differs.
 
 tests/full_catalogs.py [--most NODES] [--whole] [--kept FOLDER]
 """
@@ -35,6 +36,12 @@ MOST, CROWD = 65_535, 16
 # bitmap and one of the extents tree; its nodes, and its map nodes.
 CATALOG, WIDE_NODES, MAP_NODES = 20, 45_055, range(2, 13)
 ZEROS = '0' * 64
+# How many nodes a catalog has at least that has three levels when it is full: more leaves than an index node has room for.
+HIGH = 30
+# The files that are followed, and how many come or go before all is looked at.
+FOLLOWED, TOGETHER = 300, 5
+# The first node whose bit stands in the third map node: the header node has 2,048 bits, a map node 3,952.
+THIRD_MAP = 2_048 + 2 * 3_952
 
 
 def name_of(number: int) -> str:
@@ -67,6 +74,7 @@ def fill_and_empty(disk: Disk, nodes: int, word: str, order: str) -> int:
     count = sum(answer.is_done for answer in answers)
     ensure([it.told for it in answers[:count]] == [f'0\tid {16 + it}' for it in range(count)], 'the IDs of the items')
     ensure(all(it.wanting for it in answers[count:]) and count < len(names), f'the catalog is not full with {count} items')
+    ensure(nodes < HIGH or disk.image.catalog.depth >= 3, 'the full catalog has fewer than three levels')
     by_hand = few(nodes, word)
     ensure(by_hand in (None, count), f'{count} items fill {nodes} nodes, and not {by_hand}')
     going = names[:count][::-1] if is_turned else names[:count]
@@ -92,6 +100,19 @@ def fill_all(bench: Bench, most: int, is_whole: bool) -> None:
                 items += fill_and_empty(copy(new), nodes, word, order)
                 bench.counts.lists += 1
     print(f'catalogs of 2 to {most} nodes filled with files, and with folders, and emptied: {items} items', flush=True)
+
+
+def follow(bench: Bench) -> None:
+    """Files come in the order of their names, and go from the least name upwards, and once more from the greatest downwards."""
+    disk, names = Disk(bench, bench.new_volume(400, 200, 1)), [f'f{it:03}' for it in range(1, FOLLOWED + 1)]
+    for going in (names, names[::-1]):
+        answers = disk.make_in_parts([Call.of('create', 2, name) for name in names], TOGETHER, 1)
+        ensure(all(it.is_done for it in answers) and disk.image.catalog.records == FOLLOWED + 2, 'a file does not come')
+        answers = disk.make_in_parts([Call.of('delete', 2, name) for name in going], TOGETHER, 2)
+        ensure(all(it.told == '0\t-' for it in answers), 'a file does not go')
+        ensure_new(disk, 200)
+    bench.counts.lists += 1
+    print(f'{FOLLOWED} files followed into a catalog and out of it again, twice', flush=True)
 
 
 def put(image: bytearray, block: int, at: int, digits: str) -> None:
@@ -159,6 +180,7 @@ def crowd_folder(bench: Bench) -> None:
     calls = [Call.of('mkdir', 2, 'crowd'), Call.of('create', 2, 'other'), *(Call.of('create', CROWD, name) for name in names)]
     answers = disk.make(calls, 1, beside_plain=False)
     ensure([it.told for it in answers] == [f'0\tid {CROWD + it}' for it in range(MOST + 2)], 'a child gets no ID, or another')
+    ensure(max(disk.image.catalog.level_nodes) >= THIRD_MAP, 'no node of the third map node is taken')
     children = [item_line(CROWD + 2 + turn, CROWD, name) for turn, name in enumerate(names)]
     ensure_items(disk.state, [item_line(2, 1, 'D'), item_line(CROWD, 2, 'crowd'), item_line(CROWD + 1, 2, 'other'), *children])
     ensure_crowded(disk)
@@ -180,6 +202,7 @@ def main() -> None:
     started = time.monotonic()
     with opened_bench(found_programs(), given.kept) as bench:
         fill_all(bench, given.most, given.whole)
+        follow(bench)
         crowd_folder(bench)
         finished('full catalogs', bench, started)
 

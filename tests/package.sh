@@ -11,6 +11,14 @@ fail() {
     exit 1
 }
 
+# A program that isn't proved makes no package.
+mkdir -p "$folder/unproved/scripts" "$folder/unproved/crates/hfs_tool/out"
+cp scripts/package.sh "$folder/unproved/scripts"
+printf '#!/bin/sh\necho "hfs_tool 1.0.0 (not proved)"\n' > "$folder/unproved/crates/hfs_tool/out/hfs_tool"
+chmod +x "$folder/unproved/crates/hfs_tool/out/hfs_tool"
+[ "$("$folder/unproved/scripts/package.sh" "$folder" 2>&1 || true)" = 'package: this program is not a proved one: hfs_tool 1.0.0 (not proved)' ] &&
+    ! compgen -G "$folder/*.deb" > /dev/null || fail 'it is made of a program that is not proved'
+
 package=$(scripts/package.sh "$folder")
 version=$($(program hfs_tool) --version | awk '{ print $2 }')
 [ "$($(program hfs_collect) --version | awk '{ print $2 }')" = "$version" ] || fail 'the version of hfs_collect'
@@ -51,4 +59,4 @@ offered() {
 for program in 'hfs_tool check' hfs_collect; do
     [ -n "$(offered $program tests/vol)" ] || fail "the completion of a path behind $program"
 done
-echo 'the package agrees'
+echo "the package agrees: $(dpkg-deb -c "$package" | grep -vc '/$') files"

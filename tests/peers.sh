@@ -10,6 +10,8 @@ leave() {
     python3 tests/real_changes.py leave "$@"
 }
 
+folders=0
+
 fail() {
     echo "peers differ: $1"
     exit 1
@@ -26,6 +28,7 @@ peer_list() {
 # Compares the lists of a folder, given by its path and its ID, and of the folders in it, and the data forks of its files.
 compare_folder() {
     local image=$1 path=$2 id=$3 kind item length rest name
+    folders=$((folders + 1))
     peer_list "$path" > "$folder/theirs"
     "$tool" ls "$image" "$id" > "$folder/ours" || fail "ls $id of $image ends with $?"
     diff "$folder/theirs" "$folder/ours" || fail "the lists of $path in $image"
@@ -310,4 +313,4 @@ humount
 compare_run "$folder/gaps.img" 3
 [ "$(overflow_records "$folder/run.img")" = 0 ] || fail "a deleted file's extents"
 
-echo 'peers agree'
+echo "peers agree: $folders folders listed and read by both"

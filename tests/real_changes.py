@@ -4,8 +4,8 @@
 tests/real_changes.py [--kept FOLDER]                    tries all that is told below
 tests/real_changes.py leave set|unlock|story IMAGE OUT   writes the image that some calls leave
 
-All items are dated and given Finder bytes, all files locked and unlocked; all files are deleted, and
-what is left is compared; a story of items that are made, renamed, moved, given IDs and deleted is
+All items are dated and given Finder bytes, all files locked and unlocked; all files are deleted, in
+five orders, and what is left is compared, and then the folders; a story of items that are made, renamed, moved, given IDs and deleted is
 told; the catalog is filled up to -34 and emptied again; viewers read beside a worker that changes,
 and each of their answers is that of the volume at some moment, none before that of an earlier
 answer. Where a volume is locked by hardware, and where its catalog has no room for a folder, nothing
@@ -18,10 +18,11 @@ import argparse
 import time
 from dataclasses import dataclass, replace
 from pathlib import Path
-from typing import Iterator, Sequence
+from random import Random
+from typing import Callable, Iterator, Sequence
 
 from catalog_records import DATES, FLAGS, FOLDER, LOCKED, Catalog, Record
-from driver.calls import Call, read_answers, script_of
+from driver.calls import Call, Room, read_answers, script_of
 from driver.disk import Bench, Disk, difference_of, finished, opened_bench
 from driver.image import BLOCK, MDB, Image, changed_blocks, extents_at, number_at
 from driver.keeping import ensure
@@ -238,15 +239,31 @@ def ensure_left(before: Catalog, after: Catalog, gone: set[int]) -> None:
         ensure(after.forks(file) == before.forks(before.by_id[file.id]), f'a fork of {file}')
 
 
-def delete_all(bench: Bench, content: bytes) -> dict[str, str]:
-    """Deletes all files of a volume from the last on, and gives the report on what is left; then all
+def drawn(seed: int) -> Callable[[int], int]:
+    """Which of so many files goes next, by numbers that are drawn from this one on."""
+    numbers = Random(seed)
+    return lambda count: numbers.randrange(count)
+
+
+# The orders in which all files are deleted: which of so many goes next.
+DELETIONS: dict[str, Callable[[int], int]] = {
+    'from the last on': lambda count: count - 1,
+    'from the first on': lambda count: 0,
+    'from the middle outwards': lambda count: count // 2,
+    'as drawn': drawn(1),
+    'as drawn once more': drawn(2),
+}
+
+
+def delete_all(bench: Bench, content: bytes, next_of: Callable[[int], int]) -> dict[str, str]:
+    """Deletes all files of a volume in an order, and gives the report on what is left; then all
     folders."""
     disk, before = Disk(bench, content), Catalog(content)
     files = [it for it in items_of(content) if not it.is_folder]
     gone: set[int] = set()
     while files:
         count = len(files) % STEP or STEP
-        going = [files.pop() for _ in range(count)]
+        going = [files.pop(next_of(len(files))) for _ in range(count)]
         make_all(disk, [asked for file in going for asked in deleting(file)])
         gone |= {it.id for it in going}
         ensure_left(before, Catalog(disk.image.content), gone)
@@ -258,6 +275,8 @@ def delete_all(bench: Bench, content: bytes) -> dict[str, str]:
     ensure(told == wanted, f'check tells {told}, wanted {wanted}')
     make_all(disk, [(Call.of('delete', it.parent, it.name), DONE) for it in reversed(items_of(disk.image.content))])
     ensure([it.id for it in Catalog(disk.image.content).items] == [], 'an item is left')
+    nodes = disk.image.catalog
+    ensure(nodes.room == Room(nodes.count - len(nodes.map_nodes) - 1, 1), f'the empty catalog has {nodes.room}')
     return told
 
 
@@ -470,8 +489,9 @@ def try_volume(bench: Bench, name: str, content: bytes) -> None:
     """Changes a volume that is not locked."""
     count, most = set_and_unlock(bench, content)
     print(f'{name}: {count} items set, at most {most} blocks by a call')
-    told = delete_all(bench, content)
-    print(f"{name}: all files deleted, folders {told['folders']}, free {told['free']}, unowned {told['unowned']}")
+    told = [delete_all(bench, content, next_of) for next_of in DELETIONS.values()]
+    ensure(all(it == told[0] for it in told), 'in another order other blocks are left')
+    print(f"{name}: all files deleted in {len(told)} orders, folders {told[0]['folders']}, free {told[0]['free']}, unowned {told[0]['unowned']}")
     roomy = with_room(content, ROOM) if name != LOCKED_NAME else content
     print(f'{name}: {move_about(bench, roomy)} items renamed, moved and given IDs, and all that undone')
     filled = fill_and_empty(bench, content)

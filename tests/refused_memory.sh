@@ -1,13 +1,11 @@
 #!/usr/bin/env bash
-# Refuses each allocation of hfs_refused_memory and hfs_refused_sharing in turn, by a library of a few lines of C that stands before malloc: for
-# each line of a program's stdin by itself, counting upwards until a run meets no refusal. What the program then prints must be the line
-# of its stdout. Where the refusal meets what is laid before, the program ends there with status 1, out of memory. Then each of hfs_tool, where it repairs
-# and runs an image in a file by what it reads of it: where it tells want of memory, nothing was printed or written, and no file lies beside; else it
-# prints and writes what it does without, or leaves lines unanswered and writes a sound image. Prints how many
-# allocations were refused, or which one was met otherwise and ends with status 1. Where there is no C compiler it fails, and prints
-# 'skipped' only where $SKIP_REFUSED_MEMORY says yes.
+# Refuses each allocation in turn, by a library of a few lines of C that stands before malloc, counting upwards until a run meets no refusal. Of
+# hfs_refused_memory, for each line of its stdin by itself: what it then prints must be the line of its stdout. Where the refusal meets
+# what is laid before, the program ends there with status 1, out of memory. And of hfs_tool, of which tests/refused_calls.py says what it
+# runs, and what is to be met. Prints how many allocations were refused, or which one was met otherwise and ends with status 1. Where
+# there is no C compiler it fails, and prints 'skipped' only where $SKIP_REFUSED_MEMORY says yes.
 #
-# tests/refused_memory.sh [PROGRAM..], all three if none is named
+# tests/refused_memory.sh [PROGRAM..], both if none is named
 set -euo pipefail
 if ! command -v cc > /dev/null; then
     [ "${SKIP_REFUSED_MEMORY:-}" != yes ] || { echo skipped; exit 0; }
@@ -16,7 +14,7 @@ if ! command -v cc > /dev/null; then
 fi
 . "$(dirname "$0")/common.sh"
 programs=("$@")
-[ ${#programs[@]} -gt 0 ] || programs=(hfs_refused_memory hfs_refused_sharing hfs_tool)
+[ ${#programs[@]} -gt 0 ] || programs=(hfs_refused_memory hfs_tool)
 
 folder=$(mktemp -d)
 trap 'rm -rf "$folder"' EXIT
@@ -82,76 +80,21 @@ refuse_each() {
     refused=$((refused + n - 1))
 }
 
-# A word of hfs_tool that writes FILE has gone wrong at allocation $1.
-met_otherwise() {
-    echo "$word, allocation $1: status $got, $(head -c 200 "$folder/printed")$(head -c 200 "$folder/errors")"
-    exit 1
-}
-
-# What the word printed and wrote is what it does where no memory is refused.
-is_all_done() { [ "$got" = 0 ] && cmp -s "$folder/printed" "$folder/wanted" && cmp -s "$folder/file" "$folder/written"; }
-
-# It told want of memory, also for its words and for the name of a file beside FILE, and nothing else, and left FILE.
-is_told() {
-    case "$got $(< "$folder/printed")" in
-        '5 out of memory' | '4 cannot write '* | '1 the words are not text') ;;
-        *) return 1 ;;
-    esac
-    [ ! -s "$folder/errors" ] && [ "$(wc -l < "$folder/printed")" = 1 ] && cmp -s "$folder/file" "$folder/old"
-}
-
-# Some lines were not answered, all others as they are where no memory is refused, and what was written is a sound image.
-is_partly_answered() {
-    [ "$got" = 5 ] && [ ! -s "$folder/errors" ] && grep -q 'none' "$folder/printed" && [[ $("$tool" check "$folder/file") == sound* ]] \
-        && ! grep -v $'\tnone\t-$' "$folder/printed" | grep -qvxFf "$folder/wanted"
-}
-
-# Refuses each allocation of hfs_tool with these words, which write $folder/file, and then once none.
-refuse_each_of_word() {
-    local n=0 got=0
-    word=$1
-    "$tool" "$@" > "$folder/wanted" 2> "$folder/errors" || got=$?
-    if [ "$got" != 0 ]; then met_otherwise none; fi
-    cp "$folder/file" "$folder/written"
-    while true; do
-        n=$((n + 1)) got=0
-        : > "$folder/refused"
-        cp "$folder/old" "$folder/file"
-        REFUSE=$n LD_PRELOAD=$folder/refuse.so "$tool" "$@" > "$folder/printed" 2> "$folder/errors" 3> "$folder/refused" || got=$?
-        is_all_done || is_told || is_partly_answered || met_otherwise "$n"
-        [ -z "$(find "$folder" -name 'file.*')" ] || met_otherwise "$n"
-        [ -s "$folder/refused" ] || break
-        is_all_done || whole=$((whole + 1))
-    done
-    is_all_done || met_otherwise none
-    refused=$((refused + n - 1))
-}
-
-# Repairs an image with a wrong count, and runs a script that changes it and reads forks, with a viewer beside it.
-refuse_each_of_words() {
-    cp tests/volumes/hfsutils-800k.img "$folder/image"
-    printf '\x77' | dd of="$folder/image" bs=1 seek=1037 conv=notrunc status=none
-    echo old > "$folder/old"
-    cp "$folder/old" "$folder/file"
-    refuse_each_of_word repair "$folder/image" "$folder/file"
-    printf '1\tcreate\t2\tNew\n1\tread\t17\ts3\tdata\t0\t1500\n1\trename\t17\ts3\tOther\n1\tread\t17\tOther\tdata\t5\t1500\nv1\tread\t19\tm2\tdata\t0\t30000\n' > "$folder/script"
-    refuse_each_of_word run tests/volumes/hfsutils-800k.img "$folder/script" --out "$folder/file"
-}
-
 refused=0 whole=0 lagged=0 first=''
 for program in "${programs[@]}"; do
     built=$(program "$program")
     if [ "$program" = hfs_tool ]; then
-        tool=$built
-        refuse_each_of_words
+        python3 tests/refused_calls.py "$built" "$folder/refuse.so"
         continue
     fi
     while IFS= read -r line && IFS= read -r told <&4; do
         refuse_each "$built" "$line" "$told"
     done < "crates/$program/stdin" 4< "crates/$program/stdout"
 done
-if [[ " ${programs[*]} " == *' hfs_refused_sharing '* ]] && [ -z "$first" ]; then
-    echo "no publish lagged behind the first call"
-    exit 1
+if [[ " ${programs[*]} " == *' hfs_refused_memory '* ]]; then
+    if [ -z "$first" ]; then
+        echo "no publish lagged behind the first call"
+        exit 1
+    fi
+    echo "$refused allocations refused in turn: $whole met what is tried, which was as said, and $lagged let a publish lag; the others what is laid before"
 fi
-echo "$refused allocations refused in turn: $whole met what is tried, which was as said, and $lagged let a publish lag; the others what is laid before"

@@ -9,6 +9,7 @@ built=$(program hfs_tool)
 
 folder=$(mktemp -d)
 disk=''
+answers=0
 leave() {
     [ -z "$disk" ] || umount "$disk" 2> /dev/null || true
     rm -rf "$folder"
@@ -29,6 +30,7 @@ fail() {
 wants() {
     local status=$1 text=$2 errors=$3 got=0
     shift 3
+    answers=$((answers + 1))
     "${as[@]}" "$tool" "$@" > "$folder/printed" 2> "$folder/errors" || got=$?
     [ "$got" = "$status" ] || fail "'$*' ends with $got and prints $(cat "$folder/printed")"
     printf "$text" | cmp -s - "$folder/printed" || fail "'$*' prints $(cat "$folder/printed")"
@@ -448,4 +450,4 @@ else
     echo 'this is not root: owners and groups are not tried'
     by user
 fi
-echo 'files are left as their owner left them'
+echo "files are left as their owner left them: $answers answers as they are wanted"

@@ -3,7 +3,7 @@ from dataclasses import dataclass
 from functools import cached_property
 from typing import Iterator
 
-from driver.calls import Room
+from driver.calls import Room, folded
 
 BLOCK = 512
 MDB = 2 * BLOCK
@@ -64,6 +64,11 @@ def split_record(record: bytes) -> tuple[bytes, bytes]:
     return record[:length], record[length + length % 2:]
 
 
+def catalog_key(record: bytes) -> tuple[int, str]:
+    """The parent in the key of a catalog's record, and the name, as names are compared."""
+    return number_at(record, 2, 4), folded(record[7:7 + record[6]].decode('latin-1'))
+
+
 class Tree:
     """A tree in an image: its header record, and its nodes by their numbers."""
 
@@ -107,6 +112,14 @@ class Tree:
                     below += [number_at(record, 1 + record[0], 4) for record in node.records]
             level = below
         return found
+
+    @cached_property
+    def is_exact(self) -> bool:
+        """Whether each key of an index node of a catalog is, in either letter case, the first one of the node that it leads to."""
+        nodes = {number: self.node(number) for number in self.level_nodes}
+        firsts = {number: catalog_key(node.records[0]) for number, node in nodes.items()}
+        return all(catalog_key(record) == firsts[number_at(record, 1 + record[0], 4)]
+                   for node in nodes.values() if not node.is_leaf for record in node.records)
 
     @cached_property
     def map_nodes(self) -> list[int]:

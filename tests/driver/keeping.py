@@ -1,5 +1,5 @@
 """What calls leave as it was: all but some fields of the master directory block, the bits of blocks that were given back, and
-the nodes of both trees that came, left or were written."""
+the nodes of both trees that came, left or were written. Index keys of the catalog that are exact stay so."""
 from driver.image import BLOCK, Image, Tree, changed_blocks
 from driver.programs import Difference
 
@@ -72,4 +72,5 @@ def ensure_kept(old: Image, new: Image) -> list[int]:
         ensure_nodes_kept(what, tree, tree_after, {numbers[it] for it in others & numbers.keys()})
         others -= numbers.keys()
     ensure(not others, f'the blocks {sorted(others)[:9]} are changed')
+    ensure(new.catalog.is_exact or not old.catalog.is_exact, 'an index key of the catalog is not the first one of its node any more')
     return changed

@@ -41,6 +41,9 @@ impl<P: PlacedReader> ReadAt for PlacedFile<P> {
     ghost known = { λ s. s };
 
     fn read_at(&mut self, place: u64, into: &mut [u8]) -> io::Result<()> {
+        if into.is_empty() {
+            return Ok(());
+        }
         let is_there = self.place == Some(place);
         self.place = None;
         if !is_there {

@@ -1,5 +1,5 @@
 //! Where bytes are read from.
-ghost use Rattle.std.specs.Prelude.{◌≡◌, List, ℕ, Option, OnOk};
+ghost use Rattle.std.specs.Prelude.{◌≡◌, List, ℕ, Option, IsOk, OnOk, length};
 ghost use Rattle.hfs_sparse.specs.Sparse.{HoldsFrom};
 
 use std::io;
@@ -10,8 +10,9 @@ pub trait ReadAt {
     ghost known: { Self → Option (List ℕ) };
 
     /// Reads the bytes from `place` on, counted from 0, as many as there is room for in `into`. Error: the read failed, or the
-    /// file ends before the room is full.
+    /// file ends before the room is full. Where there is no room nothing is read, and that is no error at any place.
     fn read_at(&mut self, place: u64, into: &mut [u8]) -> io::Result<()>
         ensures read { OnOk result (HoldsFrom (known self.old) place into.new) }
-        ensures known { known self.new ≡ known self.old };
+        ensures known { known self.new ≡ known self.old }
+        ensures nothing { length into.old ≡ 0 → IsOk result };
 }

@@ -33,6 +33,9 @@ impl<S: ReadAt> ReadAt for Window<S> {
     ghost known = { λ window. option_map (bytes_in window.range) (S.known window.source) };
 
     fn read_at(&mut self, place: u64, into: &mut [u8]) -> io::Result<()> {
+        if into.is_empty() {
+            return Ok(());
+        }
         let len = self.range.len;
         if len < place || len - place < into.len() as u64 {
             return Err(io::Error::from(ErrorKind::UnexpectedEof));

@@ -6,3 +6,4 @@ pub mod Comparing
 pub mod Asking
 pub mod Transactions
 pub mod Tables
+pub mod FileNames

@@ -1,4 +1,6 @@
 //! The files of a database.
+ghost use Rattle.std.specs.Prelude.{◌≡◌};
+ghost use Rattle.hfs_database.specs.FileNames.{is_no_file_name};
 
 use std::alloc::{AllocError, Global};
 use std::fs::OpenOptions;
@@ -50,6 +52,29 @@ fn beside(alloc: Global, path: &str, end: &str) -> Result<String, AllocError> {
     format!(in alloc; "{path}-{end}")
 }
 
+/// How a name begins that SQLite reads as an address.
+const ADDRESS: &[u8] = b"file:";
+
+/// Whether SQLite takes a name for something else than that of a file: the database in memory, and addresses.
+pub fn is_no_file_name(path: &str) -> bool
+    ensures { result ≡ is_no_file_name path.now }
+{
+    if path == ":memory:" {
+        return true;
+    }
+    let bytes = path.as_bytes();
+    bytes.len() >= 5 && &bytes[..5] == ADDRESS
+}
+
+/// The path by which a database is opened: with no link in it, where the system tells it. A name that is none of a file stays as it is, so that it is refused
+/// also where a file has it.
+fn opened_path<R: Files + AllocGlobal>(rt: &R, path: &str) -> Result<String, AllocError> {
+    if is_no_file_name(path) {
+        return String::from_str(rt.alloc(), path);
+    }
+    real_path(rt, path)
+}
+
 /// The path with no link in it, where the system tells it.
 fn real_path<R: Files + AllocGlobal>(rt: &R, path: &str) -> Result<String, AllocError> {
     match fs::canonicalize(rt, path) {
@@ -73,7 +98,7 @@ impl DatabaseFiles {
     /// Those of the database at this path. The only error is want of memory.
     pub fn of<R: Files + AllocGlobal>(rt: &R, path: &str) -> Result<DatabaseFiles, AllocError> {
         let alloc = rt.alloc();
-        let database = real_path(rt, path)?;
+        let database = opened_path(rt, path)?;
         let log = beside(alloc, database.as_str(), "wal")?;
         let shared = beside(alloc, database.as_str(), "shm")?;
         let journal = beside(alloc, database.as_str(), "journal")?;

@@ -1,18 +1,58 @@
 //! What a line says is to be tried.
-use crate::calls::are_as_twin;
-use crate::{forks, lists, making, mounting, saving};
+use crate::showing::shows_as_said;
+use crate::starting::starts_as_said;
+use crate::working::works_as_said;
+use crate::{forks, lists, mounting};
 use anyhow::{Result, bail};
-use hfs_volume_fixtures::refused::{named_image, split_at};
 use std::alloc::Global;
+use std::sync::Wait;
+use std::thread::Threads;
 
-/// Whether what a line says behind its title is as it is said.
-pub fn is_as_said(alloc: Global, what: &[u8]) -> Result<bool> {
-    let (word, calls) = split_at(what, b';');
-    if calls.is_empty() {
-        return mounts_as_said(alloc, word);
+/// Whether all was as it is said.
+#[derive(Clone, Copy, Debug, PartialEq, Eq)]
+pub enum Outcome {
+    AsSaid,
+    /// It was, and the publish behind the call of this number lagged.
+    Lagged(u32),
+    Otherwise,
+}
+
+/// The outcome where nothing can lag.
+fn plain(is_said: bool) -> Outcome {
+    if is_said {
+        Outcome::AsSaid
+    } else {
+        Outcome::Otherwise
     }
-    let image = named_image(alloc, word)?;
-    are_as_twin(alloc, &image, calls)
+}
+
+/// How what a word says comes out.
+pub fn outcome_of<T: Threads + Wait + Sync>(
+    threads: &T,
+    alloc: Global,
+    word: &[u8],
+) -> Result<Outcome> {
+    if word == b"publish".as_slice() {
+        return shows_as_said(threads, alloc);
+    }
+    if word == b"start".as_slice() {
+        return Ok(plain(starts_as_said(threads, alloc)?));
+    }
+    if word == b"work".as_slice() {
+        return Ok(plain(works_as_said(threads, alloc)?));
+    }
+    Ok(plain(is_as_said(alloc, word)?))
+}
+
+/// The same of the words that need no thread.
+fn is_as_said(alloc: Global, word: &[u8]) -> Result<bool> {
+    if word == b"run".as_slice() {
+        return lists::runs(alloc);
+    }
+    if word == b"open".as_slice() {
+        return forks::opens(alloc);
+    }
+    mounts_as_said(alloc, word)
 }
 
 /// The same of the words about mounting.
@@ -25,37 +65,6 @@ fn mounts_as_said(alloc: Global, word: &[u8]) -> Result<bool> {
     }
     if word == b"refuse".as_slice() {
         return mounting::refuses(alloc);
-    }
-    serves_as_said(alloc, word)
-}
-
-/// The same of the words about a mounted volume.
-fn serves_as_said(alloc: Global, word: &[u8]) -> Result<bool> {
-    if word == b"run".as_slice() {
-        return lists::runs(alloc);
-    }
-    if word == b"open".as_slice() {
-        return forks::opens(alloc);
-    }
-    if word == b"save".as_slice() {
-        return saving::saves(alloc);
-    }
-    makes_as_said(alloc, word)
-}
-
-/// The same of the words about what is made without a mounted volume.
-fn makes_as_said(alloc: Global, word: &[u8]) -> Result<bool> {
-    if word == b"decode".as_slice() {
-        return making::decodes(alloc);
-    }
-    if word == b"format".as_slice() {
-        return making::formats(alloc);
-    }
-    if word == b"report".as_slice() {
-        return making::reports(alloc);
-    }
-    if word == b"load".as_slice() {
-        return making::loads(alloc);
     }
     bail!("no such word")
 }

@@ -13,7 +13,7 @@ use Rattle.hfs_scripts.specs.Callers.{calls_of, workers, viewers}
 use Rattle.hfs_scripts.specs.Scripts.{script_of}
 use Rattle.hfs_published.specs.Histories.{Known, known, opened}
 use Rattle.hfs_published.proofs.LawTypes.{PublishedIsAfter}
-use Rattle.hfs_shared.specs.Closings.{IsWhether}
+use Rattle.hfs_shared.specs.Closings.{HasNoOthers, IsWhether}
 use Rattle.hfs_shared.specs.declared.done.Done.{Done}
 use Rattle.hfs_shared.specs.Desks.{PassState}
 use Rattle.hfs_runs.specs.declared.numbering.Asked.{Asked}
@@ -22,7 +22,7 @@ use Rattle.hfs_runs.specs.Answers.{answers_text, is_whole, replies_of}
 use Rattle.hfs_runs.specs.Asking.{AreNumbered}
 use Rattle.hfs_runs.specs.Runs.{IsHandedOut, AreLinesRun, IsScriptRun}
 use Rattle.hfs_runs.specs.Tellings.{AreWhole, OfEach}
-use Rattle.hfs_runs.proofs.Working.{AreJobs, AreDone, AreViewings, AreViewed, IsEnd, worked_at, made_at, stand_at, viewed_at}
+use Rattle.hfs_runs.proofs.Working.{AreJobs, AreDone, AreViewings, AreViewed, IsEnd, worked_at, made_at, passes_count, stand_at, viewed_at}
 
 all_at : {X : Type 0} (P : X → Type 0) (xs : List X) (i : ℕ) (d : X) → All P xs → i < length xs → P (get_or xs i d)
 all_at P xs i d all below = all i d below
@@ -64,6 +64,7 @@ ran items book image lines volume text whole shown asked passes jobs dones begun
       legal = closed.legal;
       follows = closed.follows;
       made = λ place below. made_at items book opening lines (workers lines) passes jobs dones out.journal begins done closed.all place below;
+      others = subst (λ (n : ℕ). HasNoOthers n out.journal) (passes_count items book opening lines passes jobs dones begins done) closed.others;
       worked = λ place below. worked_at items book opening lines (workers lines) passes jobs dones begins done place below;
       viewed = λ place below. viewed_at book opening lines (viewers lines) begun ended views viewed place below;
       stands = λ yes place below.

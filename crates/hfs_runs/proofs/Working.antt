@@ -10,7 +10,7 @@ use Rattle.hfs_model.specs.declared.journal.Entry.{Entry}
 use Rattle.hfs_model.specs.Volume.{Volume}
 use Rattle.hfs_scripts.specs.declared.lines.Caller.TheVariants.{Worker, Viewer}
 use Rattle.hfs_scripts.specs.declared.lines.ScriptLine.{ScriptLine}
-use Rattle.hfs_scripts.specs.Callers.{calls_of}
+use Rattle.hfs_scripts.specs.Callers.{calls_of, workers}
 use Rattle.hfs_published.specs.Histories.{Known, known, opened}
 use Rattle.hfs_published.specs.declared.item.Item.{Item}
 use Rattle.hfs_published.specs.Journals.{made_by, IsLegal, published}
@@ -111,6 +111,11 @@ pub made_at : {V : Type 0} (items : V → List Call) (book : Book) (opening : Vo
 made_at items book opening lines workers passes jobs dones journal h done all place below =
     made_of (map (λ (done : Done). done.pass) dones) journal (λ i. length (worker_replies dones (i + 1))) all (pass_at items book opening lines workers passes jobs dones h done) place
     (omega (arith, length-map dones (λ (done : Done). done.pass), done.many, h.many, h.first.many))
+
+-- there are as many passes as the script has workers
+pub passes_count : {V : Type 0} (items : V → List Call) (book : Book) (opening : Volume) (lines : List ScriptLine) (passes : List PassState) (jobs : List (PassState × V)) (dones : List Done)
+    → AreJobs items lines (workers lines) passes jobs → AreDone items book opening jobs dones → length (map (λ (done : Done). done.pass) dones) ≡ workers lines
+passes_count items book opening lines passes jobs dones h done = omega (arith, length-map dones (λ (done : Done). done.pass), done.many, h.many, h.first.many)
 
 -- ---- what workers were told
 

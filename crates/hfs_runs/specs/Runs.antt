@@ -20,7 +20,7 @@ use Rattle.hfs_scripts.specs.Scripts.{script_of}
 use Rattle.hfs_published.specs.Histories.{Known, known, opened}
 use Rattle.hfs_published.specs.Journals.{IsLegal, made_by}
 use Rattle.hfs_published.specs.Tolds.{ToldState}
-use Rattle.hfs_shared.specs.Closings.{IsClosed}
+use Rattle.hfs_shared.specs.Closings.{HasNoOthers, IsClosed}
 use Rattle.hfs_shared.specs.declared.done.Done.{Done}
 use Rattle.hfs_shared.specs.Desks.{PassState, pass_state}
 use Rattle.hfs_shared.specs.Works.{IsWork}
@@ -88,8 +88,8 @@ pub record IsHandedOut (base : List ℕ) (volume : ImageValue) (dones : List Don
 
 -- what a run of these lines on an image made: the volume afterwards, the text of the answers, whether all lines were answered, and
 -- whether each change was shown at once. The volume's image agrees with the given one, and its volume is the one after a legal
--- journal, which has as many entries of each worker as it got replies. Where each change was shown at once, each reply to a
--- worker stands in that journal.
+-- journal, which has as many entries of each worker as it got replies, and none of anybody else. Where each change was shown at
+-- once, each reply to a worker stands in that journal.
 pub record AreLinesRun (image : List ℕ) (lines : List ScriptLine) (volume : ImageValue) (text : List ℕ) (whole shown : Bool) : Type 0 where
   pub book : Book
   pub journal : List Entry
@@ -103,6 +103,7 @@ pub record AreLinesRun (image : List ℕ) (lines : List ScriptLine) (volume : Im
   pub legal : IsLegal (volume_of image) journal
   pub follows : volume_of volume.current ≡ after (volume_of image) journal
   pub made : (place : ℕ) → place < workers lines → made_by (place + 1) journal ≡ length (replies (Worker (place + 1)))
+  pub others : HasNoOthers (workers lines) journal
   pub worked : (place : ℕ) → place < workers lines → IsWorked book (volume_of image) (place + 1) (calls_of (Worker (place + 1)) lines) (replies (Worker (place + 1)))
   pub viewed : (place : ℕ) → place < viewers lines → IsViewedFrom book (volume_of image) (calls_of (Viewer (place + 1)) lines) (replies (Viewer (place + 1)))
   pub stands : shown ≡ true → (place : ℕ) → place < workers lines → AllStand (volume_of image) journal (calls_of (Worker (place + 1)) lines) (replies (Worker (place + 1)))

@@ -3,12 +3,16 @@ ghost use Rattle.std.specs.Prelude.{◌≡◌, false, IfOk, IsTrue, [], ◌∷�
 ghost use Rattle.std.specs.Fmt.{decimal};
 ghost use Rattle.hex.specs.Hex.{encode_lower};
 ghost use Rattle.hfs_model.specs.Step.{is_reading};
+ghost use Rattle.hfs_scripts.specs.declared.words.Word.TheVariants.{SetInfo};
 ghost use Rattle.hfs_scripts.specs.Results.{GainsItems, GivesItems};
 ghost use Rattle.hfs_scripts.specs.Readable.{Reads, ReadsBytes, IsReadable};
-ghost use Rattle.hfs_scripts.specs.Texts.{arguments, fork_text, read_fields, info_fields};
+ghost use Rattle.hfs_scripts.specs.Texts.{arguments, fork_text, read_fields, info_fields, word_for};
 
 use hfs_model::{Bytes, Call, Fork};
 use std::alloc::{AllocError, Global};
+
+/// The most fields that stand behind a word.
+const MOST_FIELDS: usize = 6;
 
 /// A number without leading zeros.
 pub(crate) fn number_field(alloc: Global, number: u32) -> Result<Bytes, AllocError>
@@ -28,27 +32,49 @@ fn hex_field(alloc: Global, bytes: &[u8]) -> Result<Bytes, AllocError>
     Ok(Bytes::new(text.into_bytes()))
 }
 
-fn name_field(alloc: Global, name: &Bytes) -> Result<Bytes, AllocError>
-    ensures { IfOk result (λ field. field ≡ name.now) }
-{
-    Bytes::from_slice(alloc, name.as_slice())
-}
-
-fn fork_field(alloc: Global, fork: Fork) -> Result<Bytes, AllocError>
-    ensures { IfOk result (λ field. field ≡ fork_text fork) }
+fn fork_text(fork: Fork) -> &'static [u8]
+    ensures { result.now ≡ fork_text fork }
 {
     match fork {
-        Fork::DataFork => Bytes::from_slice(alloc, b"data"),
-        Fork::ResFork => Bytes::from_slice(alloc, b"res"),
+        Fork::DataFork => b"data",
+        Fork::ResFork => b"res",
     }
+}
+
+/// The fields, with one more behind them.
+fn with_field(mut fields: Vec<Bytes>, field: Bytes) -> Result<Vec<Bytes>, AllocError>
+    ensures { GainsItems fields (field ∷ []) result }
+{
+    fields.push(field)?;
+    Ok(fields)
+}
+
+fn with_number(alloc: Global, fields: Vec<Bytes>, number: u32) -> Result<Vec<Bytes>, AllocError>
+    ensures fields { GainsItems fields (decimal number ∷ []) result }
+    ensures reads { IfOk result (λ all. Reads number) }
+{
+    with_field(fields, number_field(alloc, number)?)
+}
+
+fn with_text(alloc: Global, fields: Vec<Bytes>, text: &[u8]) -> Result<Vec<Bytes>, AllocError>
+    ensures { GainsItems fields (text.now ∷ []) result }
+{
+    with_field(fields, Bytes::from_slice(alloc, text)?)
+}
+
+/// The fields, with bytes as hexadecimal digits behind them.
+fn with_bytes(alloc: Global, fields: Vec<Bytes>, bytes: &[u8]) -> Result<Vec<Bytes>, AllocError>
+    ensures fields { GainsItems fields (encode_lower bytes.now ∷ []) result }
+    ensures reads { IfOk result (λ all. ReadsBytes (length bytes.now) bytes.now) }
+{
+    with_field(fields, hex_field(alloc, bytes)?)
 }
 
 fn one_number(alloc: Global, number: u32) -> Result<Vec<Bytes>, AllocError>
     ensures fields { GivesItems (decimal number ∷ []) result }
     ensures reads { IfOk result (λ fields. Reads number) }
 {
-    let number = number_field(alloc, number)?;
-    Ok(vec![in alloc; number]?)
+    with_number(alloc, Vec::with_capacity(alloc, MOST_FIELDS)?, number)
 }
 
 fn two_numbers(alloc: Global, dir: u32, index: u32) -> Result<Vec<Bytes>, AllocError>
@@ -56,28 +82,55 @@ fn two_numbers(alloc: Global, dir: u32, index: u32) -> Result<Vec<Bytes>, AllocE
     ensures dir { IfOk result (λ fields. Reads dir) }
     ensures index { IfOk result (λ fields. Reads index) }
 {
-    let dir = number_field(alloc, dir)?;
-    let index = number_field(alloc, index)?;
-    Ok(vec![in alloc; dir, index]?)
+    let fields = one_number(alloc, dir)?;
+    with_number(alloc, fields, index)
 }
 
 fn target(alloc: Global, dir: u32, name: &Bytes) -> Result<Vec<Bytes>, AllocError>
     ensures fields { GivesItems (decimal dir ∷ name.now ∷ []) result }
     ensures reads { IfOk result (λ fields. Reads dir) }
 {
-    let dir = number_field(alloc, dir)?;
-    let name = name_field(alloc, name)?;
-    Ok(vec![in alloc; dir, name]?)
+    let fields = one_number(alloc, dir)?;
+    with_text(alloc, fields, name.as_slice())
 }
 
-/// DIR and NAME with one field more.
-fn target_and(alloc: Global, dir: u32, name: &Bytes, field: Bytes) -> Result<Vec<Bytes>, AllocError>
-    ensures fields { GivesItems (decimal dir ∷ name.now ∷ field ∷ []) result }
+/// DIR, NAME and a new name.
+fn renaming(
+    alloc: Global,
+    dir: u32,
+    name: &Bytes,
+    new_name: &Bytes,
+) -> Result<Vec<Bytes>, AllocError>
+    ensures fields { GivesItems (decimal dir ∷ name.now ∷ new_name.now ∷ []) result }
     ensures reads { IfOk result (λ fields. Reads dir) }
 {
-    let dir = number_field(alloc, dir)?;
-    let name = name_field(alloc, name)?;
-    Ok(vec![in alloc; dir, name, field]?)
+    let fields = target(alloc, dir, name)?;
+    with_text(alloc, fields, new_name.as_slice())
+}
+
+/// DIR, NAME and another folder.
+fn moving(alloc: Global, dir: u32, name: &Bytes, new_dir: u32) -> Result<Vec<Bytes>, AllocError>
+    ensures fields { GivesItems (decimal dir ∷ name.now ∷ decimal new_dir ∷ []) result }
+    ensures dir { IfOk result (λ fields. Reads dir) }
+    ensures new_dir { IfOk result (λ fields. Reads new_dir) }
+{
+    let fields = target(alloc, dir, name)?;
+    with_number(alloc, fields, new_dir)
+}
+
+/// DIR, NAME and Finder bytes.
+fn target_and_info(
+    alloc: Global,
+    dir: u32,
+    name: &Bytes,
+    info: &[u8],
+) -> Result<Vec<Bytes>, AllocError>
+    ensures fields { GivesItems (decimal dir ∷ name.now ∷ encode_lower info.now ∷ []) result }
+    ensures dir { IfOk result (λ fields. Reads dir) }
+    ensures info { IfOk result (λ fields. ReadsBytes (length info.now) info.now) }
+{
+    let fields = target(alloc, dir, name)?;
+    with_bytes(alloc, fields, info)
 }
 
 /// DIR, NAME, a fork, OFFSET and COUNT.
@@ -94,18 +147,16 @@ fn part_of_fork(
     ensures offset { IfOk result (λ fields. Reads offset) }
     ensures count { IfOk result (λ fields. Reads count) }
 {
-    let dir = number_field(alloc, dir)?;
-    let name = name_field(alloc, name)?;
-    let fork = fork_field(alloc, fork)?;
-    let offset = number_field(alloc, offset)?;
-    let count = number_field(alloc, count)?;
-    Ok(vec![in alloc; dir, name, fork, offset, count]?)
+    let fields = target(alloc, dir, name)?;
+    let fields = with_text(alloc, fields, fork_text(fork))?;
+    let fields = with_number(alloc, fields, offset)?;
+    with_number(alloc, fields, count)
 }
 
 /// Dates and Finder bytes, behind DIR and NAME.
 fn dates_and_info(
     alloc: Global,
-    mut fields: Vec<Bytes>,
+    fields: Vec<Bytes>,
     created: u32,
     modified: u32,
     backup: u32,
@@ -117,11 +168,10 @@ fn dates_and_info(
     ensures backup { IfOk result (λ all. Reads backup) }
     ensures info { IfOk result (λ all. ReadsBytes (length info.now) info.now) }
 {
-    fields.push(number_field(alloc, created)?)?;
-    fields.push(number_field(alloc, modified)?)?;
-    fields.push(number_field(alloc, backup)?)?;
-    fields.push(hex_field(alloc, info)?)?;
-    Ok(fields)
+    let fields = with_number(alloc, fields, created)?;
+    let fields = with_number(alloc, fields, modified)?;
+    let fields = with_number(alloc, fields, backup)?;
+    with_bytes(alloc, fields, info)
 }
 
 /// The fields of a call that only reads.
@@ -157,6 +207,28 @@ fn reading_fields(alloc: Global, call: &Call) -> Result<Vec<Bytes>, AllocError>
     }
 }
 
+/// The fields of a call that sets dates and Finder bytes.
+fn set_info_fields(alloc: Global, call: &Call) -> Result<Vec<Bytes>, AllocError>
+    requires { word_for call.now ≡ SetInfo }
+    ensures fields { GivesItems (arguments call.now) result }
+    ensures reads { IfOk result (λ fields. IsReadable call.now) }
+{
+    let Call::SetCatInfo {
+        dir,
+        name,
+        created,
+        modified,
+        backup,
+        info,
+        ..
+    } = call
+    else {
+        unreachable!()
+    };
+    let fields = target(alloc, *dir, name)?;
+    dates_and_info(alloc, fields, *created, *modified, *backup, info)
+}
+
 /// The fields of a call that may change the volume.
 fn changing_fields(alloc: Global, call: &Call) -> Result<Vec<Bytes>, AllocError>
     requires { is_reading call.now ≡ false }
@@ -164,42 +236,31 @@ fn changing_fields(alloc: Global, call: &Call) -> Result<Vec<Bytes>, AllocError>
     ensures reads { IfOk result (λ fields. IsReadable call.now) }
 {
     match call {
-        Call::Create { dir, name, .. } => target(alloc, *dir, name),
-        Call::DirCreate { dir, name, .. } => target(alloc, *dir, name),
-        Call::Delete { dir, name, .. } => target(alloc, *dir, name),
+        Call::Create { dir, name, .. }
+        | Call::DirCreate { dir, name, .. }
+        | Call::Delete { dir, name, .. }
+        | Call::SetFLock { dir, name, .. }
+        | Call::RstFLock { dir, name, .. }
+        | Call::CreateFileId { dir, name, .. } => target(alloc, *dir, name),
         Call::Rename {
             dir,
             name,
             new_name,
             ..
-        } => target_and(alloc, *dir, name, name_field(alloc, new_name)?),
+        } => renaming(alloc, *dir, name, new_name),
         Call::CatMove {
             dir,
             name,
             new_dir,
             ..
-        } => target_and(alloc, *dir, name, number_field(alloc, *new_dir)?),
+        } => moving(alloc, *dir, name, *new_dir),
         Call::SetFInfo {
             dir,
             name,
             info,
             ..
-        } => target_and(alloc, *dir, name, hex_field(alloc, info)?),
-        Call::SetCatInfo {
-            dir,
-            name,
-            created,
-            modified,
-            backup,
-            info,
-            ..
-        } => {
-            let fields = target(alloc, *dir, name)?;
-            dates_and_info(alloc, fields, *created, *modified, *backup, info)
-        }
-        Call::SetFLock { dir, name, .. } => target(alloc, *dir, name),
-        Call::RstFLock { dir, name, .. } => target(alloc, *dir, name),
-        Call::CreateFileId { dir, name, .. } => target(alloc, *dir, name),
+        } => target_and_info(alloc, *dir, name, info),
+        Call::SetCatInfo { .. } => set_info_fields(alloc, call),
         Call::DeleteFileId { id, .. } => one_number(alloc, *id),
         Call::GetDirInfo { .. }
         | Call::GetCatInfo { .. }

@@ -4,7 +4,7 @@ ghost use Rattle.hfs_scripts.specs.Calls.{number_alone, indexed_of, target_of, r
 ghost use Rattle.hfs_scripts.specs.Fields.{texts_of};
 
 use crate::fields::{read_16_bytes, read_32_bytes, read_fork};
-use crate::numbers::read_number;
+use crate::numbers::{read_number, read_two_numbers};
 use crate::words::Word;
 use hfs_model::{Bytes, Call};
 use std::alloc::{AllocError, Global};
@@ -33,10 +33,8 @@ fn read_indexed(fields: &[&[u8]]) -> Option<Call>
     let [dir, index] = fields else {
         return None;
     };
-    Some(Call::GetIndexed {
-        dir: read_number(dir)?,
-        index: read_number(index)?,
-    })
+    let (dir, index) = read_two_numbers(dir, index)?;
+    Some(Call::GetIndexed { dir, index })
 }
 
 #[tactic(auto, unfolding(crate::specs::Calls::target_of))]
@@ -62,21 +60,14 @@ fn read_read(alloc: Global, fields: &[&[u8]]) -> Result<Option<Call>, AllocError
     let [dir, name, fork, offset, count] = fields else {
         return Ok(None);
     };
-    let Some(dir) = read_number(dir) else {
+    let item = read_number(dir).zip(read_fork(fork));
+    let Some(((dir, fork), (offset, count))) = item.zip(read_two_numbers(offset, count)) else {
         return Ok(None);
     };
-    let Some(fork) = read_fork(fork) else {
-        return Ok(None);
-    };
-    let Some(offset) = read_number(offset) else {
-        return Ok(None);
-    };
-    let Some(count) = read_number(count) else {
-        return Ok(None);
-    };
+    let name = Bytes::from_slice(alloc, name)?;
     Ok(Some(Call::ReadFork {
         dir,
-        name: Bytes::from_slice(alloc, name)?,
+        name,
         fork,
         offset,
         count,
@@ -108,15 +99,13 @@ fn read_move(alloc: Global, fields: &[&[u8]], now: u32) -> Result<Option<Call>, 
     let [dir, name, new_dir] = fields else {
         return Ok(None);
     };
-    let Some(dir) = read_number(dir) else {
+    let Some((dir, new_dir)) = read_two_numbers(dir, new_dir) else {
         return Ok(None);
     };
-    let Some(new_dir) = read_number(new_dir) else {
-        return Ok(None);
-    };
+    let name = Bytes::from_slice(alloc, name)?;
     Ok(Some(Call::CatMove {
         dir,
-        name: Bytes::from_slice(alloc, name)?,
+        name,
         new_dir,
         now,
     }))
@@ -135,9 +124,10 @@ fn read_set_f_info(alloc: Global, fields: &[&[u8]], now: u32) -> Result<Option<C
     let Some(info) = read_16_bytes(info) else {
         return Ok(None);
     };
+    let name = Bytes::from_slice(alloc, name)?;
     Ok(Some(Call::SetFInfo {
         dir,
-        name: Bytes::from_slice(alloc, name)?,
+        name,
         info,
         now,
     }))
@@ -165,9 +155,10 @@ fn read_set_info(alloc: Global, fields: &[&[u8]], now: u32) -> Result<Option<Cal
     let Some(info) = read_32_bytes(info) else {
         return Ok(None);
     };
+    let name = Bytes::from_slice(alloc, name)?;
     Ok(Some(Call::SetCatInfo {
         dir,
-        name: Bytes::from_slice(alloc, name)?,
+        name,
         created,
         modified,
         backup,

@@ -1,5 +1,5 @@
 //! A line of a script.
-ghost use Rattle.std.specs.Prelude.{◌≡◌, IfOk};
+ghost use Rattle.std.specs.Prelude.{◌≡◌, Some, None, if◌then◌else◌, IfOk};
 ghost use Rattle.hfs_scripts.specs.Lines.{member_of, caller_of, may_ask, line_of_fields, line_of};
 ghost use Rattle.hfs_scripts.specs.Fields.{texts_of};
 
@@ -58,6 +58,17 @@ pub(crate) fn may_ask(caller: Caller, word: Word) -> bool
     }
 }
 
+/// The line, if its caller may ask for its word.
+fn allowed_line(word: Word, line: ScriptLine) -> Option<ScriptLine>
+    ensures { result ≡ if may_ask line.caller word then Some line else None }
+{
+    if may_ask(line.caller, word) {
+        Some(line)
+    } else {
+        None
+    }
+}
+
 /// The line of its fields, if they make one.
 #[tactic(auto, unfolding(crate::specs::Lines::line_of_fields))]
 fn read_fields(alloc: Global, fields: &[&[u8]], now: u32) -> Result<Option<ScriptLine>, AllocError>
@@ -72,13 +83,9 @@ fn read_fields(alloc: Global, fields: &[&[u8]], now: u32) -> Result<Option<Scrip
     let Some(word) = read_word(text) else {
         return Ok(None);
     };
-    let Some(call) = read_call(alloc, word, fields, now)? else {
-        return Ok(None);
-    };
-    if may_ask(caller, word) {
-        Ok(Some(ScriptLine { caller, call }))
-    } else {
-        Ok(None)
+    match read_call(alloc, word, fields, now)? {
+        Some(call) => Ok(allowed_line(word, ScriptLine { caller, call })),
+        None => Ok(None),
     }
 }
 

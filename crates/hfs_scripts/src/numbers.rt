@@ -1,5 +1,6 @@
 //! Numbers in a script.
 ghost use Rattle.std.specs.Prelude.{◌≡◌};
+ghost use Rattle.std.specs.Option.{option_zip};
 ghost use Rattle.hfs_scripts.specs.Numbers.{number_of};
 
 /// The greatest number that a field may write.
@@ -25,4 +26,11 @@ pub(crate) fn read_number(field: &[u8]) -> Option<u32>
         value = longer as u32;
     }
     Some(value)
+}
+
+/// The numbers that two fields write, if both write one.
+pub(crate) fn read_two_numbers(first: &[u8], second: &[u8]) -> Option<(u32, u32)>
+    ensures { result ≡ option_zip (number_of first.now) (number_of second.now) }
+{
+    read_number(first).zip(read_number(second))
 }

@@ -1,9 +1,11 @@
 //! The words of a script's lines.
-ghost use Rattle.std.specs.Prelude.{◌≡◌};
+ghost use Rattle.std.specs.Prelude.{◌≡◌, bytes_eq};
+ghost use Rattle.std.specs.List.{find};
+ghost use Rattle.hfs_scripts.specs.Texts.{word_text};
 ghost use Rattle.hfs_scripts.specs.Words.{beside, reading_words, changing_words, word_of, is_for_viewers};
 
 /// The word of a line.
-#[derive(Clone, Copy, Debug, PartialEq, Eq)]
+#[derive(Clone, Copy)]
 pub(crate) enum Word {
     DirInfo,
     Info,
@@ -24,56 +26,76 @@ pub(crate) enum Word {
     Resolve,
 }
 
+/// The words of calls that only read.
+const READING_WORDS: [Word; 6] = [
+    Word::DirInfo,
+    Word::Info,
+    Word::Indexed,
+    Word::List,
+    Word::Read,
+    Word::Resolve,
+];
+
+/// The words of changes.
+const CHANGING_WORDS: [Word; 11] = [
+    Word::Create,
+    Word::MkDir,
+    Word::Delete,
+    Word::Rename,
+    Word::Move,
+    Word::SetFInfo,
+    Word::SetInfo,
+    Word::Lock,
+    Word::Unlock,
+    Word::NewId,
+    Word::DropId,
+];
+
+/// The text of a word.
+#[tactic(auto, unfolding(crate::specs::Texts::word_text))]
+pub(crate) fn word_text(word: Word) -> &'static [u8]
+    ensures { result.now ≡ word_text word }
+{
+    match word {
+        Word::DirInfo => b"dirinfo",
+        Word::Info => b"info",
+        Word::Indexed => b"indexed",
+        Word::List => b"list",
+        Word::Read => b"read",
+        Word::Create => b"create",
+        Word::MkDir => b"mkdir",
+        Word::Delete => b"delete",
+        Word::Rename => b"rename",
+        Word::Move => b"move",
+        Word::SetFInfo => b"setfinfo",
+        Word::SetInfo => b"setinfo",
+        Word::Lock => b"lock",
+        Word::Unlock => b"unlock",
+        Word::NewId => b"newid",
+        Word::DropId => b"dropid",
+        Word::Resolve => b"resolve",
+    }
+}
+
+/// The first of the words that has the text.
+fn find_word(words: &[Word], text: &[u8]) -> Option<Word>
+    ensures { result ≡ find (λ word. bytes_eq text.now (word_text word)) words.now }
+{
+    words.iter().copied().find(|word| text == word_text(*word))
+}
+
 /// The word of a call that only reads.
 fn read_reading_word(text: &[u8]) -> Option<Word>
     ensures { result ≡ beside text.now reading_words }
 {
-    if text == b"dirinfo".as_slice() {
-        Some(Word::DirInfo)
-    } else if text == b"info".as_slice() {
-        Some(Word::Info)
-    } else if text == b"indexed".as_slice() {
-        Some(Word::Indexed)
-    } else if text == b"list".as_slice() {
-        Some(Word::List)
-    } else if text == b"read".as_slice() {
-        Some(Word::Read)
-    } else if text == b"resolve".as_slice() {
-        Some(Word::Resolve)
-    } else {
-        None
-    }
+    find_word(&READING_WORDS, text)
 }
 
 /// The word of a change.
 fn read_changing_word(text: &[u8]) -> Option<Word>
     ensures { result ≡ beside text.now changing_words }
 {
-    if text == b"create".as_slice() {
-        Some(Word::Create)
-    } else if text == b"mkdir".as_slice() {
-        Some(Word::MkDir)
-    } else if text == b"delete".as_slice() {
-        Some(Word::Delete)
-    } else if text == b"rename".as_slice() {
-        Some(Word::Rename)
-    } else if text == b"move".as_slice() {
-        Some(Word::Move)
-    } else if text == b"setfinfo".as_slice() {
-        Some(Word::SetFInfo)
-    } else if text == b"setinfo".as_slice() {
-        Some(Word::SetInfo)
-    } else if text == b"lock".as_slice() {
-        Some(Word::Lock)
-    } else if text == b"unlock".as_slice() {
-        Some(Word::Unlock)
-    } else if text == b"newid".as_slice() {
-        Some(Word::NewId)
-    } else if text == b"dropid".as_slice() {
-        Some(Word::DropId)
-    } else {
-        None
-    }
+    find_word(&CHANGING_WORDS, text)
 }
 
 /// The word of a text.

@@ -1,44 +1,19 @@
 //! Writes a script.
 ghost use Rattle.std.specs.Prelude.{◌≡◌, ◌∷◌, ◌++◌, [], Ok, IfOk, IfErr, OnOk};
 ghost use Rattle.std.specs.List.{All, flat_map};
+ghost use Rattle.std.specs.Fmt.{decimal};
 ghost use Rattle.hfs_scripts.specs.Readable.{IsReadable, IsWritten};
 ghost use Rattle.hfs_scripts.specs.Scripts.{script_of};
-ghost use Rattle.hfs_scripts.specs.Texts.{caller_text, word_text, tabbed, line_text, fed, script_text, IsTextFaultOf};
+ghost use Rattle.hfs_scripts.specs.Texts.{caller_text, tabbed, line_text, fed, script_text, IsTextFaultOf};
 
 use crate::arguments::{argument_fields, number_field};
 use crate::fault::TextFault;
 use crate::lines::{Caller, ScriptLine};
 use crate::reading::MAX_BYTES;
-use crate::words::Word;
+use crate::words::word_text;
 use crate::writable::{is_writable, word_for};
 use hfs_model::Bytes;
 use std::alloc::{AllocError, Global};
-
-/// The text of a word.
-#[tactic(auto, unfolding(crate::specs::Texts::word_text))]
-fn word_text(word: Word) -> &'static [u8]
-    ensures { result.now ≡ word_text word }
-{
-    match word {
-        Word::DirInfo => b"dirinfo",
-        Word::Info => b"info",
-        Word::Indexed => b"indexed",
-        Word::List => b"list",
-        Word::Read => b"read",
-        Word::Create => b"create",
-        Word::MkDir => b"mkdir",
-        Word::Delete => b"delete",
-        Word::Rename => b"rename",
-        Word::Move => b"move",
-        Word::SetFInfo => b"setfinfo",
-        Word::SetInfo => b"setinfo",
-        Word::Lock => b"lock",
-        Word::Unlock => b"unlock",
-        Word::NewId => b"newid",
-        Word::DropId => b"dropid",
-        Word::Resolve => b"resolve",
-    }
-}
 
 fn push_bytes(text: &mut Vec<u8>, bytes: &[u8]) -> Result<(), AllocError>
     ensures { OnOk result (text.new.items ≡ text.old.items ++ bytes.now) }
@@ -47,15 +22,22 @@ fn push_bytes(text: &mut Vec<u8>, bytes: &[u8]) -> Result<(), AllocError>
     Ok(())
 }
 
+fn push_number(alloc: Global, text: &mut Vec<u8>, number: u32) -> Result<(), AllocError>
+    ensures { OnOk result (text.new.items ≡ text.old.items ++ decimal number) }
+{
+    let field = number_field(alloc, number)?;
+    push_bytes(text, field.as_slice())
+}
+
 #[tactic(auto, unfolding(crate::specs::Texts::caller_text))]
 fn push_caller(alloc: Global, text: &mut Vec<u8>, caller: Caller) -> Result<(), AllocError>
     ensures { OnOk result (text.new.items ≡ text.old.items ++ caller_text caller) }
 {
     match caller {
-        Caller::Worker(number) => push_bytes(text, number_field(alloc, number)?.as_slice()),
+        Caller::Worker(number) => push_number(alloc, text, number),
         Caller::Viewer(number) => {
             text.push(b'v')?;
-            push_bytes(text, number_field(alloc, number)?.as_slice())
+            push_number(alloc, text, number)
         }
     }
 }
@@ -76,6 +58,15 @@ fn push_fields(text: &mut Vec<u8>, fields: &[Bytes]) -> Result<(), AllocError>
     Ok(())
 }
 
+/// Appends the rest of a line: these fields and its line feed.
+fn push_rest(text: &mut Vec<u8>, rest: &[Bytes]) -> Result<(), AllocError>
+    ensures { OnOk result (text.new.items ≡ text.old.items ++ flat_map tabbed rest.now ++ 10 ∷ []) }
+{
+    push_fields(text, rest)?;
+    text.push(b'\n')?;
+    Ok(())
+}
+
 /// Appends a line and its line feed.
 #[tactic(auto, unfolding(crate::specs::Texts::line_text))]
 fn push_line(alloc: Global, text: &mut Vec<u8>, line: &ScriptLine) -> Result<(), AllocError>
@@ -85,9 +76,7 @@ fn push_line(alloc: Global, text: &mut Vec<u8>, line: &ScriptLine) -> Result<(),
     push_caller(alloc, text, line.caller)?;
     push_tabbed(text, word_text(word_for(&line.call)))?;
     let fields = argument_fields(alloc, &line.call)?;
-    push_fields(text, &fields)?;
-    text.push(b'\n')?;
-    Ok(())
+    push_rest(text, &fields)
 }
 
 /// The text of lines, of any length.

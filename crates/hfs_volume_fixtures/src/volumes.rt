@@ -24,7 +24,7 @@ pub fn reply_to(volume: &mut Volume, alloc: Global, call: &Call) -> Result<Reply
 }
 
 /// Writes a volume's image as it is now behind other bytes.
-pub fn save_into(volume: &Volume, image: &mut Vec<u8>) -> Result<(), FixtureFault> {
+fn save_into(volume: &Volume, image: &mut Vec<u8>) -> Result<(), FixtureFault> {
     match volume.save(image) {
         Ok(()) => Ok(()),
         Err(_fault) => Err(FixtureFault::Unsaved),
@@ -32,7 +32,7 @@ pub fn save_into(volume: &Volume, image: &mut Vec<u8>) -> Result<(), FixtureFaul
 }
 
 /// A volume's image as it is now.
-pub fn saved(alloc: Global, volume: &Volume) -> Result<Vec<u8>, FixtureFault> {
+fn saved(alloc: Global, volume: &Volume) -> Result<Vec<u8>, FixtureFault> {
     let mut image = Vec::new(alloc);
     save_into(volume, &mut image)?;
     Ok(image)
@@ -42,13 +42,4 @@ pub fn saved(alloc: Global, volume: &Volume) -> Result<Vec<u8>, FixtureFault> {
 pub fn mounted_again(alloc: Global, volume: &Volume) -> Result<Volume, FixtureFault> {
     let image = saved(alloc, volume)?;
     mounted(alloc, image)
-}
-
-/// An image with 100 bytes more, the last of which is 99.
-pub fn patterned(image: Vec<u8>) -> Result<Vec<u8>, AllocError> {
-    let mut longer = image;
-    for k in 0u8..100 {
-        longer.push(k)?;
-    }
-    Ok(longer)
 }

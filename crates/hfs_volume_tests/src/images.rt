@@ -1,5 +1,4 @@
 //! Images, and the bytes that they were opened with.
-use crate::fixture::is_whole;
 use hfs_volume::{Base, Image};
 use std::alloc::{AllocError, Global};
 use std::test::Fail;
@@ -9,6 +8,14 @@ fn five_bytes(alloc: Global) -> Result<Image, Fail> {
     match Image::new(alloc, Vec::from_slice(alloc, b"three")?) {
         Ok(image) => Ok(image),
         Err(_failed) => Err(Fail::new("memory was refused")),
+    }
+}
+
+/// Whether a base has all of these bytes in memory, and no others.
+fn is_whole(base: &Base, bytes: &[u8]) -> bool {
+    match base.bytes() {
+        Some(all) => all == bytes,
+        None => false,
     }
 }
 

@@ -1,26 +1,19 @@
-//! Tests of mounted volumes, on small ones, of images that are written with changed blocks in place
-//! of their own, and of the blocks that calls read and write. Expected values are written by hand
-//! from the format of a volume. What calls answer stands as text in `tests/volumes/lists`, what
-//! mounting and repair find in `tests/volumes/images.txt`.
+//! Tests of what no run of the program shows of mounted volumes: images that are refused and come
+//! back, how many bytes went out where saving fails, images of which two blocks were read, a base
+//! that is shared, lists in brief, and a record of a catalog that gets a shorter one in its place.
+//! Expected values are written by hand. What calls answer stands as text in `tests/volumes/lists`,
+//! what mounting and repair find in `tests/volumes/images.txt`.
 #![tactic(auto)]
 
 #[cfg(test)]
-mod changing;
-#[cfg(test)]
-mod fixture;
-#[cfg(test)]
 mod images;
+#[cfg(test)]
+mod listing;
 #[cfg(test)]
 mod mounting;
 #[cfg(test)]
-mod patched;
-#[cfg(test)]
 mod read_blocks;
-#[cfg(test)]
-mod reading;
 #[cfg(test)]
 mod saving;
 #[cfg(test)]
-mod sharing;
-#[cfg(test)]
-mod working;
+mod shorter;

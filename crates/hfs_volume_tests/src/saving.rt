@@ -1,12 +1,10 @@
-//! Changed blocks, and images that are saved.
+//! Images with changed blocks that are saved by writers that fail: how many bytes went out.
 ghost use Rattle.std.specs.Prelude.{◌<◌};
 ghost use Rattle.hfs_blocks.specs.Blocks.{block_count};
 
-use crate::fixture;
 use hfs_blocks::Patch;
-use hfs_fixtures::{FixtureFault, SmallVolume, small_image};
-use hfs_volume::{Image, SaveFault, Volume};
-use hfs_volume_fixtures::{LimitedWriter, mounted, patterned};
+use hfs_volume::{Image, SaveFault};
+use hfs_volume_fixtures::LimitedWriter;
 use std::alloc::{AllocError, Global};
 use std::io;
 use std::io::Write;
@@ -82,59 +80,6 @@ pub fn is_saved(alloc: Global, image: &Image, left: usize, whole: &[u8]) -> bool
     end.is_ok() && bytes.as_slice() == whole
 }
 
-/// Whether an image has three changed blocks, and is saved as so many bytes of the pattern with these values in them.
-fn is_changed(
-    alloc: Global,
-    image: &Image,
-    len: usize,
-    left: usize,
-    values: [u8; 3],
-) -> Result<bool, AllocError> {
-    let want = changed_pattern(alloc, len, values)?;
-    Ok(image.changed() == 3 && is_saved(alloc, image, left, &want))
-}
-
-/// Whether an image was opened with so many bytes of the pattern.
-fn has_pattern(alloc: Global, image: &Image, len: usize) -> Result<bool, AllocError> {
-    let bytes = pattern(alloc, len)?;
-    let base = image.base()?;
-    Ok(fixture::is_whole(&base, bytes.as_slice()))
-}
-
-/// Whether an image has five blocks and no change.
-fn is_unchanged(image: &Image) -> bool {
-    image.count() == 5 && image.changed() == 0
-}
-
-/// Changes three blocks of an image of 2,660 bytes, and wants them to be saved, and the base to stay.
-fn expect_changed(rt: &impl Abort, alloc: Global, image: &mut Image) -> Result<(), Fail> {
-    assert!(rt; is_unchanged(image));
-    change(alloc, image, [7, 8, 9])?;
-    assert!(rt; is_changed(alloc, image, 2660, 10_000, [7, 8, 9])?);
-    assert!(rt; has_pattern(alloc, image, 2660)?);
-    Ok(())
-}
-
-#[test]
-fn changed_blocks_are_saved_and_the_tail_is_kept(rt: HostRuntime) -> Result<(), Fail> {
-    let mut image = pattern_image(rt.alloc(), 2660)?;
-    expect_changed(&rt, rt.alloc(), &mut image)
-}
-
-/// Whether changes of three blocks of an image of 2,560 bytes, made twice, are saved as the later ones.
-fn is_changed_twice(alloc: Global, image: &mut Image) -> Result<bool, AllocError> {
-    change(alloc, image, [7, 8, 9])?;
-    change(alloc, image, [10, 11, 12])?;
-    is_changed(alloc, image, 2560, 2560, [10, 11, 12])
-}
-
-#[test]
-fn a_later_commit_writes_over_an_earlier_one(rt: HostRuntime) -> Result<(), Fail> {
-    let mut image = pattern_image(rt.alloc(), 2560)?;
-    assert!(rt; is_changed_twice(rt.alloc(), &mut image)?);
-    Ok(())
-}
-
 /// Whether a writer that fails after so many bytes has the first of these and no others.
 pub fn is_front(alloc: Global, image: &Image, whole: &[u8], left: usize) -> bool {
     let (bytes, end) = saved(alloc, image, left);
@@ -160,25 +105,6 @@ fn expect_fronts(rt: &impl Abort, alloc: Global, image: &mut Image) -> Result<()
 fn a_writer_that_fails_has_the_first_bytes(rt: HostRuntime) -> Result<(), Fail> {
     let mut image = pattern_image(rt.alloc(), 2660)?;
     expect_fronts(&rt, rt.alloc(), &mut image)
-}
-
-/// The image of a small volume with 100 bytes more.
-fn longer_image(alloc: Global) -> Result<Vec<u8>, FixtureFault> {
-    Ok(patterned(small_image(alloc, SmallVolume::OneFile)?)?)
-}
-
-/// Wants a volume to be saved as that image.
-fn expect_longer(rt: &impl Abort, alloc: Global, volume: &Volume) -> Result<(), Fail> {
-    let given = longer_image(alloc)?;
-    assert!(rt; fixture::is_unchanged(volume, &given)?);
-    Ok(())
-}
-
-#[test]
-fn a_mounted_volume_is_saved_as_it_was(rt: HostRuntime) -> Result<(), Fail> {
-    let image = longer_image(rt.alloc())?;
-    let volume = mounted(rt.alloc(), image)?;
-    expect_longer(&rt, rt.alloc(), &volume)
 }
 
 /// Takes a byte at a time, and none after some.

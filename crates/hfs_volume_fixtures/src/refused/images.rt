@@ -1,7 +1,7 @@
-//! Small volumes by their names, mounted, and their bytes, which are laid by hand and compared without memory.
+//! A small volume, mounted, and its bytes, which are laid by hand and compared without memory.
 
 use anyhow::{Result, bail};
-use hfs_fixtures::{FixtureFault, SmallVolume, lay, new_image, small_image, tiny_image};
+use hfs_fixtures::{FixtureFault, lay, tiny_image};
 use hfs_volume::{Volume, mount};
 use std::alloc::Global;
 use std::io;
@@ -29,39 +29,6 @@ pub fn image_with(alloc: Global, edits: &[Edit<'_>]) -> Result<Vec<u8>, FixtureF
     Ok(image)
 }
 
-/// The same volume with no free node in its catalog: the four that were free are marked as used, and belong to no level.
-fn full_image(alloc: Global) -> Result<Vec<u8>, FixtureFault> {
-    image_with(alloc, &[put(6, 40, &[0, 0, 0, 0]), put(6, 248, &[0xfc])])
-}
-
-/// The image of a small volume by its name.
-pub fn named_image(alloc: Global, name: &[u8]) -> Result<Vec<u8>> {
-    if name == b"folder".as_slice() {
-        return Ok(tiny_image(alloc)?);
-    }
-    if name == b"full".as_slice() {
-        return Ok(full_image(alloc)?);
-    }
-    if name == b"new".as_slice() {
-        return Ok(new_image(alloc, 12)?);
-    }
-    Ok(small_image(alloc, small_named(name)?)?)
-}
-
-/// Which small volume has a name.
-fn small_named(name: &[u8]) -> Result<SmallVolume> {
-    if name == b"blocks".as_slice() {
-        return Ok(SmallVolume::OneFile);
-    }
-    if name == b"levels".as_slice() {
-        return Ok(SmallVolume::TwoLevels);
-    }
-    if name == b"thread".as_slice() {
-        return Ok(SmallVolume::FileThread);
-    }
-    bail!("no such volume")
-}
-
 /// The volume of an image, which is sound. Where memory is refused it is mounted once more.
 pub fn mounted(alloc: Global, image: Vec<u8>) -> Result<Volume> {
     match mount(alloc, image) {
@@ -70,15 +37,6 @@ pub fn mounted(alloc: Global, image: Vec<u8>) -> Result<Volume> {
             Ok(volume) => Ok(volume),
             Err(_refused) => bail!("the volume is refused"),
         },
-    }
-}
-
-/// A volume's image as it is now.
-pub fn saved(alloc: Global, volume: &Volume) -> Result<Vec<u8>> {
-    let mut image = Vec::new(alloc);
-    match volume.save(&mut image) {
-        Ok(()) => Ok(image),
-        Err(_fault) => bail!("out of memory"),
     }
 }
 

@@ -1,0 +1,9 @@
+mod SetBits
+mod Claims
+mod Owned
+mod Counted
+mod ClaimedMore
+mod Running
+mod Firsts
+mod RowLemmas
+mod Chosen

@@ -1,0 +1,4 @@
+pub mod Claimed
+pub mod FreeRuns
+pub mod Pieces
+pub mod Choice

@@ -1,0 +1,10 @@
+pub mod Begun
+pub mod RootPut
+pub mod EdgeLemmas
+pub mod SetEdge
+pub mod LowerLeast
+pub mod Needs
+pub mod Adds
+pub mod Shrinks
+pub mod ForkRecords
+pub mod Bodies

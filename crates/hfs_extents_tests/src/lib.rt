@@ -1,0 +1,9 @@
+//! Records that come to small extents trees and leave them, with all checks of the tree after each.
+#![tactic(auto)]
+
+#[cfg(test)]
+mod coming;
+#[cfg(test)]
+mod leaving;
+#[cfg(test)]
+mod trees;

@@ -1,0 +1,10 @@
+use Rattle.std.proofs.Common.{subst}
+use Rattle.std.specs.Prelude.{◌≡◌, IfSome}
+use Rattle.std.proofs.lemmas.List.Elements.{All-pop}
+use Rattle.hfs_published.specs.Histories.{Known}
+use Rattle.hfs_refused_memory.proofs.sharing.begun.Goals as goal
+
+pub returns : goal.returns
+returns g c =
+    subst (λ o. IfSome o (λ (k : Known). k.book ≡ c.in-Ok.parts.book)) c.in-Some.is
+    (All-pop (λ (k : Known). k.book ≡ c.in-Ok.parts.book) _ _ _ c.pop.ensures.items c.in-Ok.ensures).1

@@ -1,0 +1,183 @@
+//! What is published where memory is refused once, and what a viewer then shows.
+ghost use Rattle.std.specs.Prelude.{◌≡◌, IfOk, OnOk};
+
+use crate::letters::{create, letters_in};
+use crate::sharing::begun_on_new;
+use crate::trials::Outcome;
+use anyhow::{Result, bail, ensure};
+use hfs_model::{Call, Reply, Value};
+use hfs_shared::{CallFault, Parts, Pass, Session, Shared, Told, Viewer};
+use std::alloc::Global;
+use std::marker::Brand;
+use std::sync::Wait;
+
+/// The reply to one call, and what is told of it.
+fn answered_once<K: Session>(
+    rt: &impl Wait,
+    alloc: Global,
+    shared: &Shared<K>,
+    pass: &mut Pass,
+    call: Call,
+) -> Result<(Reply, Told), CallFault>
+    ensures { IfOk result (λ answer. answer.1.book ≡ K.book) }
+{
+    match shared.call(rt, alloc, pass, call) {
+        Ok(answer) => Ok(answer),
+        Err(fault) => Err(fault),
+    }
+}
+
+/// The reply to the call that makes a file in the root, and what is told of it. Where memory is refused to the call it is made once
+/// more.
+fn answered<K: Session>(
+    rt: &impl Wait,
+    alloc: Global,
+    shared: &Shared<K>,
+    pass: &mut Pass,
+    name: &[u8],
+) -> Result<(Reply, Told)>
+    ensures { IfOk result (λ answer. answer.1.book ≡ K.book) }
+{
+    if let Ok(answer) = answered_once(rt, alloc, shared, pass, create(alloc, name)?) {
+        return Ok(answer);
+    }
+    match answered_once(rt, alloc, shared, pass, create(alloc, name)?) {
+        Ok(answer) => Ok(answer),
+        Err(_fault) => bail!("a call was not made"),
+    }
+}
+
+/// Whether a reply gives the ID of the file that is made so many calls behind a new volume's beginning.
+fn is_made(reply: &Reply, number: u64) -> bool {
+    match &reply.value {
+        Value::Id(id) => reply.code == 0 && u64::from(*id) == number.saturating_add(15),
+        Value::Nothing
+        | Value::One(_)
+        | Value::Many(_)
+        | Value::Bytes(_)
+        | Value::Full { .. }
+        | Value::Place { .. } => false,
+    }
+}
+
+/// How many files a reply tells, which are `a`, `b` and so on.
+fn count_in(reply: &Reply) -> Option<u64> {
+    match letters_in(reply) {
+        Some(count) => Some(count as u64),
+        None => None,
+    }
+}
+
+/// How many files the viewer lists, which are `a`, `b` and so on. None where memory is refused, or it lists something else.
+fn listed_once(alloc: Global, viewer: &mut Viewer) -> Option<u64>
+    ensures { viewer.new.book ≡ viewer.old.book }
+{
+    match viewer.list(alloc, 2) {
+        Ok(reply) => count_in(&reply),
+        Err(_fault) => None,
+    }
+}
+
+/// The same. Where memory is refused it is asked once more.
+fn listed(alloc: Global, viewer: &mut Viewer) -> Result<u64>
+    ensures { OnOk result (viewer.new.book ≡ viewer.old.book) }
+{
+    if let Some(count) = listed_once(alloc, viewer) {
+        return Ok(count);
+    }
+    match listed_once(alloc, viewer) {
+        Some(count) => Ok(count),
+        None => bail!("a viewer was not answered, or lists something else"),
+    }
+}
+
+/// An error where a call gives another ID, another call was made than the one of that number, or the viewer lists others than are
+/// told.
+fn ensure_told(is_made: bool, is_number: bool, is_listed: bool) -> Result<()> {
+    ensure!(is_made, "a call is answered otherwise");
+    ensure!(is_number, "another call was made");
+    ensure!(is_listed, "a viewer lists others than are told");
+    Ok(())
+}
+
+/// Makes a file, the call of that number, and lets the viewer learn what is told: how many calls are shown then, all of which it lists.
+fn shown<K: Session>(
+    rt: &impl Wait,
+    alloc: Global,
+    shared: &Shared<K>,
+    pass: &mut Pass,
+    viewer: &mut Viewer,
+    name: &[u8],
+    number: u64,
+) -> Result<u64>
+    requires { viewer.old.book ≡ K.book }
+    ensures { OnOk result (viewer.new.book ≡ K.book) }
+{
+    let (reply, told) = answered(rt, alloc, shared, pass, name)?;
+    viewer.learn(&told);
+    let count = listed(alloc, viewer)?;
+    let is_made = is_made(&reply, number);
+    ensure_told(is_made, told.made() == number, told.shown() == count)?;
+    Ok(count)
+}
+
+/// Whether three calls were shown as they were made, or one of them with the next.
+fn outcome_of_counts(counts: [u64; 3]) -> Outcome {
+    match counts {
+        [1, 2, 3] => Outcome::AsSaid,
+        [0, 2, 3] => Outcome::Lagged(1),
+        [1, 1, 3] => Outcome::Lagged(2),
+        [1, 2, 2] => Outcome::Lagged(3),
+        _ => Outcome::Otherwise,
+    }
+}
+
+/// How many calls are shown behind each of three files that are made.
+fn show_each<K: Session>(
+    rt: &impl Wait,
+    alloc: Global,
+    shared: &Shared<K>,
+    passes: &mut Vec<Pass>,
+    viewer: &mut Viewer,
+) -> Result<[u64; 3]>
+    requires { viewer.old.book ≡ K.book }
+{
+    let Some(pass) = passes.first_mut() else {
+        bail!("no pass");
+    };
+    let first = shown(rt, alloc, shared, pass, viewer, b"a", 1)?;
+    let second = shown(rt, alloc, shared, pass, viewer, b"b", 2)?;
+    let third = shown(rt, alloc, shared, pass, viewer, b"c", 3)?;
+    Ok([first, second, third])
+}
+
+/// How many calls are shown when what waits is published.
+fn shown_at_last<K: Session>(rt: &impl Wait, shared: &Shared<K>) -> u64 {
+    let told = shared.lock(rt).publish(rt);
+    told.shown()
+}
+
+/// Three files are made, and shown to a viewer.
+fn show_three<K: Session, R: Wait>(
+    rt: &R,
+    alloc: Global,
+    parts: Parts,
+    mut passes: Vec<Pass>,
+    viewer: &mut Viewer,
+) -> Result<Outcome>
+    requires parts { (parts.book ≡ K.book) × (parts.base ≡ K.base) }
+    requires viewer { viewer.old.book ≡ K.book }
+{
+    let shared = parts.share::<K>();
+    let counts = show_each(rt, alloc, &shared, &mut passes, viewer)?;
+    let is_all = shown_at_last(rt, &shared) == 3;
+    ensure!(is_all, "what waited is not shown");
+    Ok(outcome_of_counts(counts))
+}
+
+/// How three files that are made on a new volume are shown: each as it is made, or, where memory is refused to what publishes it, with the
+/// next call.
+pub fn shows_as_said(rt: &impl Wait, alloc: Global) -> Result<Outcome> {
+    let (parts, passes, mut viewer) = begun_on_new(rt, alloc, 1)?;
+    show_three::<Brand, _>(rt, alloc, parts, passes, &mut viewer)
+}
