@@ -1,39 +1,29 @@
 //! Programs, words and arguments, as clap is told of them.
 
 use crate::words::{Argument, Program, Takes, Word};
-use clap::{Arg, ArgAction, ArgMatches, Command, Error, value_parser};
+use clap::{Arg, ArgAction, Command, value_parser};
 use std::alloc::{AllocError, Global};
 
 impl Program {
-    /// What the program finds in the words of its command line, the first of which is its own name. Errors: refused words, help
-    /// that was asked for, or want of memory, told apart by their kind.
-    pub fn matches<'a>(&self, alloc: Global, words: &'a [String]) -> Result<ArgMatches<'a>, Error> {
-        self.command(alloc)?
-            .version(self.version)
-            .try_get_matches_from(words)
+    /// The program's command, with its version and its own arguments, and no words yet. Error: want of memory.
+    pub fn command<'a>(&self, alloc: Global) -> Result<Command<'a>, AllocError> {
+        Ok(self.word.command(alloc)?.version(self.version))
     }
+}
 
-    /// The program's command, with a subcommand for each of its words.
-    fn command<'a>(&self, alloc: Global) -> Result<Command<'a>, AllocError> {
-        let mut command = word_command(alloc, &self.word);
-        for i in 0..self.words.len() {
-            command = with_word(command, word_command(alloc, &self.words[i]));
+impl Word {
+    /// The word's command, with its arguments. Error: want of memory.
+    pub fn command<'a>(&self, alloc: Global) -> Result<Command<'a>, AllocError> {
+        let mut command = Ok(bare_command(alloc, self));
+        for i in 0..self.arguments.len() {
+            command = with_argument(command, declared(alloc, &self.arguments[i]));
         }
         command
     }
 }
 
-/// The command of a word, with its arguments.
-fn word_command<'a>(alloc: Global, word: &Word) -> Result<Command<'a>, AllocError> {
-    let mut command = Ok(bare_command(alloc, word));
-    for i in 0..word.arguments.len() {
-        command = with_argument(command, declared(alloc, &word.arguments[i]));
-    }
-    command
-}
-
-/// A command with one subcommand more, where memory sufficed for both.
-fn with_word<'a>(
+/// A command with one word more, the last in its help, where memory sufficed for both. Error: want of memory.
+pub fn with_word<'a>(
     command: Result<Command<'a>, AllocError>,
     word: Result<Command<'a>, AllocError>,
 ) -> Result<Command<'a>, AllocError> {

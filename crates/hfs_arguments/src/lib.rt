@@ -6,5 +6,6 @@ mod declaring;
 mod reading;
 mod words;
 
+pub use crate::declaring::with_word;
 pub use crate::reading::NoValue;
 pub use crate::words::{Argument, Program, Takes, Word};

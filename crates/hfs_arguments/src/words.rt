@@ -1,11 +1,11 @@
 //! What a word takes, and what its help says.
 
-/// A program: its own name, texts and arguments, its version, and the words that it knows, in the order of its help.
+/// A program: its own name, texts and arguments, and its version. The words that it knows are put in one by one, since a
+/// constant that held all of them would have more text than one proof can take.
 #[derive(Clone, Copy)]
 pub struct Program {
     pub word: Word,
     pub version: &'static str,
-    pub words: &'static [Word],
 }
 
 /// A word that a program knows, or the program itself.

@@ -1,6 +1,6 @@
 //! What the program is asked for, and from the command line to that.
 
-use clap::ArgMatches;
+use clap::{ArgMatches, Error};
 use hfs_arguments::{Argument, Program, Takes, Word};
 use hfs_console::{VERSION, WordsFault};
 use std::alloc::Global;
@@ -71,13 +71,17 @@ const COLLECT: Program = Program {
         arguments: &[DATABASE, IMAGES, NO_DIGEST, COMPARE],
     },
     version: VERSION,
-    words: &[],
 };
 
 /// Reads the words, the first of which is the program's own name.
 pub fn read_words<'a>(alloc: Global, words: &'a [String]) -> Result<CollectWords<'a>, WordsFault> {
-    let matches = COLLECT.matches(alloc, words)?;
+    let matches = matches_of(alloc, words)?;
     words_of(alloc, &matches)
+}
+
+/// What the program's command finds in the words.
+fn matches_of<'a>(alloc: Global, words: &'a [String]) -> Result<ArgMatches<'a>, Error> {
+    COLLECT.command(alloc)?.try_get_matches_from(words)
 }
 
 /// What the words ask for, by what was found in them.

@@ -16,24 +16,24 @@ mod volumes;
 
 use crate::help::AFTER_HELP;
 use crate::words::Words;
-use cat::{CAT, cat_words};
-use check::{CHECK, check_words};
-use clap::ArgMatches;
-use hfs_arguments::{NoValue, Program, Word};
+use cat::{cat_command, cat_words};
+use check::{check_command, check_words};
+use clap::{ArgMatches, Command, Error};
+use hfs_arguments::{NoValue, Program, Word, with_word};
 use hfs_console::{VERSION, WordsFault};
-use info::{INFO, info_words};
-use items::{ITEMS, items_words};
-use list::{LIST, list_words};
-use new::{NEW, new_words};
-use page::{PAGE, page_words};
-use repair::{REPAIR, repair_words};
-use rescue::{RESCUE, rescue_words};
-use run::{RUN, run_words};
-use std::alloc::Global;
-use take::{TAKE, take_words};
-use volumes::{FIND, volumes_words};
+use info::{info_command, info_words};
+use items::{items_command, items_words};
+use list::{list_command, list_words};
+use new::{new_command, new_words};
+use page::{page_command, page_words};
+use repair::{repair_command, repair_words};
+use rescue::{rescue_command, rescue_words};
+use run::{run_command, run_words};
+use std::alloc::{AllocError, Global};
+use take::{take_command, take_words};
+use volumes::{volumes_command, volumes_words};
 
-/// The program, with its words in the order of its help.
+/// The program, without its words.
 const TOOL: Program = Program {
     word: Word {
         name: "hfs_tool",
@@ -42,10 +42,28 @@ const TOOL: Program = Program {
         arguments: &[],
     },
     version: VERSION,
-    words: &[
-        INFO, CHECK, LIST, ITEMS, PAGE, CAT, FIND, TAKE, RESCUE, NEW, REPAIR, RUN,
-    ],
 };
+
+/// The program's command, with its words in the order of its help.
+fn command<'a>(alloc: Global) -> Result<Command<'a>, AllocError> {
+    let with_info = with_word(bare_command(alloc), info_command(alloc));
+    let with_check = with_word(with_info, check_command(alloc));
+    let with_list = with_word(with_check, list_command(alloc));
+    let with_items = with_word(with_list, items_command(alloc));
+    let with_page = with_word(with_items, page_command(alloc));
+    let with_cat = with_word(with_page, cat_command(alloc));
+    let with_volumes = with_word(with_cat, volumes_command(alloc));
+    let with_take = with_word(with_volumes, take_command(alloc));
+    let with_rescue = with_word(with_take, rescue_command(alloc));
+    let with_new = with_word(with_rescue, new_command(alloc));
+    let with_repair = with_word(with_new, repair_command(alloc));
+    with_word(with_repair, run_command(alloc))
+}
+
+/// The program's command, with no word yet.
+fn bare_command<'a>(alloc: Global) -> Result<Command<'a>, AllocError> {
+    TOOL.command(alloc)
+}
 
 /// Reads the words, the first of which is the program's own name.
 pub fn read_words<'a>(alloc: Global, words: &'a [String]) -> Result<Words<'a>, WordsFault> {
@@ -55,8 +73,13 @@ pub fn read_words<'a>(alloc: Global, words: &'a [String]) -> Result<Words<'a>, W
             program: "hfs_collect",
         });
     }
-    let matches = TOOL.matches(alloc, words)?;
+    let matches = matches_of(alloc, words)?;
     Ok(words_of(&matches)?)
+}
+
+/// What the program's command finds in the words.
+fn matches_of<'a>(alloc: Global, words: &'a [String]) -> Result<ArgMatches<'a>, Error> {
+    command(alloc)?.try_get_matches_from(words)
 }
 
 /// Whether the first word is that of another program, whatever stands behind it.

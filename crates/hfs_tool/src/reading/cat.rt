@@ -2,9 +2,10 @@
 
 use super::places::{IMAGE, PATH, VOLUME, path_words};
 use crate::words::{FileWords, ForkPathWords, ForkWords, PathWords, Words};
-use clap::ArgMatches;
+use clap::{ArgMatches, Command};
 use hfs_arguments::{Argument, NoValue, Takes, Word};
 use hfs_model::Fork;
+use std::alloc::{AllocError, Global};
 
 /// The ID of the folder of a file.
 const DIR: Argument = Argument {
@@ -44,12 +45,17 @@ const MACBINARY: Argument = Argument {
     excludes: &["resource"],
 };
 
-pub const CAT: Word = Word {
+const CAT: Word = Word {
     name: "cat",
     about: "Writes the bytes of a file's fork, or of the file with both forks, and nothing else",
     after_help: None,
     arguments: &[IMAGE, DIR, NAME, FILE_PATH, RESOURCE, MACBINARY, VOLUME],
 };
+
+/// The command of `cat`.
+pub fn cat_command<'a>(alloc: Global) -> Result<Command<'a>, AllocError> {
+    CAT.command(alloc)
+}
 
 /// What `cat` asks for.
 pub fn cat_words<'a>(matches: &ArgMatches<'a>) -> Result<Words<'a>, NoValue> {

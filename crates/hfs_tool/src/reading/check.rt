@@ -3,15 +3,21 @@
 use super::places::{IMAGE, VOLUME};
 use crate::help::CHECKS;
 use crate::words::Words;
-use clap::ArgMatches;
+use clap::{ArgMatches, Command};
 use hfs_arguments::{NoValue, Word};
+use std::alloc::{AllocError, Global};
 
-pub const CHECK: Word = Word {
+const CHECK: Word = Word {
     name: "check",
     about: "Checks a volume, and prints its counts or its first fault",
     after_help: Some(CHECKS),
     arguments: &[IMAGE, VOLUME],
 };
+
+/// The command of `check`.
+pub fn check_command<'a>(alloc: Global) -> Result<Command<'a>, AllocError> {
+    CHECK.command(alloc)
+}
 
 /// What `check` asks for.
 pub fn check_words<'a>(matches: &ArgMatches<'a>) -> Result<Words<'a>, NoValue> {

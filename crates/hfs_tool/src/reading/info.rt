@@ -2,15 +2,21 @@
 
 use super::places::{IMAGE, VOLUME};
 use crate::words::Words;
-use clap::ArgMatches;
+use clap::{ArgMatches, Command};
 use hfs_arguments::{NoValue, Word};
+use std::alloc::{AllocError, Global};
 
-pub const INFO: Word = Word {
+const INFO: Word = Word {
     name: "info",
     about: "Prints the fields of a volume's master directory block",
     after_help: None,
     arguments: &[IMAGE, VOLUME],
 };
+
+/// The command of `info`.
+pub fn info_command<'a>(alloc: Global) -> Result<Command<'a>, AllocError> {
+    INFO.command(alloc)
+}
 
 /// What `info` asks for.
 pub fn info_words<'a>(matches: &ArgMatches<'a>) -> Result<Words<'a>, NoValue> {

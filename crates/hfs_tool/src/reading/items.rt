@@ -3,9 +3,10 @@
 use super::places::{IMAGE, VOLUME};
 use crate::help::COLUMNS;
 use crate::words::Words;
-use clap::ArgMatches;
+use clap::{ArgMatches, Command};
 use hfs_arguments::{Argument, NoValue, Takes, Word};
 use hfs_commands::Format;
+use std::alloc::{AllocError, Global};
 
 /// The format of a table, with tabs where it isn't given.
 const FORMAT: Argument = Argument {
@@ -19,12 +20,17 @@ const FORMAT: Argument = Argument {
     excludes: &[],
 };
 
-pub const ITEMS: Word = Word {
+const ITEMS: Word = Word {
     name: "items",
     about: "Prints a line for each item of the volume: the root first, behind each folder what lies in it",
     after_help: Some(COLUMNS),
     arguments: &[IMAGE, FORMAT, VOLUME],
 };
+
+/// The command of `items`.
+pub fn items_command<'a>(alloc: Global) -> Result<Command<'a>, AllocError> {
+    ITEMS.command(alloc)
+}
 
 /// What `items` asks for.
 pub fn items_words<'a>(matches: &ArgMatches<'a>) -> Result<Words<'a>, NoValue> {

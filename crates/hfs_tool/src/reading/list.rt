@@ -2,8 +2,9 @@
 
 use super::places::{IMAGE, PATH, VOLUME, path_words};
 use crate::words::Words;
-use clap::ArgMatches;
+use clap::{ArgMatches, Command};
 use hfs_arguments::{Argument, NoValue, Takes, Word};
+use std::alloc::{AllocError, Global};
 
 /// The ID of a folder, the root's where it isn't given.
 const DIR: Argument = Argument {
@@ -13,12 +14,17 @@ const DIR: Argument = Argument {
     excludes: &[],
 };
 
-pub const LIST: Word = Word {
+const LIST: Word = Word {
     name: "ls",
     about: "Prints a line for each child of a folder: kind, ID, valence or data length, 0 or resource length, name",
     after_help: None,
     arguments: &[IMAGE, DIR, PATH, VOLUME],
 };
+
+/// The command of `ls`.
+pub fn list_command<'a>(alloc: Global) -> Result<Command<'a>, AllocError> {
+    LIST.command(alloc)
+}
 
 /// What `ls` asks for.
 pub fn list_words<'a>(matches: &ArgMatches<'a>) -> Result<Words<'a>, NoValue> {

@@ -2,8 +2,9 @@
 
 use super::places::NOW;
 use crate::words::{NewVolume, Words};
-use clap::ArgMatches;
+use clap::{ArgMatches, Command};
 use hfs_arguments::{Argument, NoValue, Takes, Word};
+use std::alloc::{AllocError, Global};
 
 /// The path of the file that is written.
 const FILE: Argument = Argument {
@@ -45,12 +46,17 @@ const EXTENTS: Argument = Argument {
     excludes: &[],
 };
 
-pub const NEW: Word = Word {
+const NEW: Word = Word {
     name: "new",
     about: "Writes a new, empty volume, in place of what the file has",
     after_help: None,
     arguments: &[FILE, NAME, BLOCKS, NODES, EXTENTS, NOW],
 };
+
+/// The command of `new`.
+pub fn new_command<'a>(alloc: Global) -> Result<Command<'a>, AllocError> {
+    NEW.command(alloc)
+}
 
 /// What `new` asks for.
 pub fn new_words<'a>(matches: &ArgMatches<'a>) -> Result<Words<'a>, NoValue> {

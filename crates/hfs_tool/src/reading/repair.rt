@@ -2,8 +2,9 @@
 
 use super::places::IMAGE;
 use crate::words::Words;
-use clap::ArgMatches;
+use clap::{ArgMatches, Command};
 use hfs_arguments::{Argument, NoValue, Takes, Word};
+use std::alloc::{AllocError, Global};
 
 /// The path of the file that is written.
 const FILE: Argument = Argument {
@@ -13,12 +14,17 @@ const FILE: Argument = Argument {
     excludes: &[],
 };
 
-pub const REPAIR: Word = Word {
+const REPAIR: Word = Word {
     name: "repair",
     about: "Writes a volume with its counts mended, where nothing else is wrong",
     after_help: None,
     arguments: &[IMAGE, FILE],
 };
+
+/// The command of `repair`.
+pub fn repair_command<'a>(alloc: Global) -> Result<Command<'a>, AllocError> {
+    REPAIR.command(alloc)
+}
 
 /// What `repair` asks for.
 pub fn repair_words<'a>(matches: &ArgMatches<'a>) -> Result<Words<'a>, NoValue> {

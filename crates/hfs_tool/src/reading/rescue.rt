@@ -3,10 +3,11 @@
 use super::places::{FOLDER, IMAGE, NO_DIGEST, VOLUME};
 use crate::help::{PROGRAM, RESCUES};
 use crate::words::Words;
-use clap::ArgMatches;
+use clap::{ArgMatches, Command};
 use hfs_arguments::{Argument, NoValue, Takes, Word};
 use hfs_salvage::{BagWords, RescueWords};
 use hfs_take::folder_path;
+use std::alloc::{AllocError, Global};
 
 /// The choice of a list in place of a folder.
 const LIST: Argument = Argument {
@@ -24,12 +25,17 @@ const LIMIT: Argument = Argument {
     excludes: &[],
 };
 
-pub const RESCUE: Word = Word {
+const RESCUE: Word = Word {
     name: "rescue",
     about: "Takes what remains off a damaged volume, into a new folder: a bag (RFC 8493), or lists it",
     after_help: Some(RESCUES),
     arguments: &[IMAGE, FOLDER, LIST, LIMIT, VOLUME, NO_DIGEST],
 };
+
+/// The command of `rescue`.
+pub fn rescue_command<'a>(alloc: Global) -> Result<Command<'a>, AllocError> {
+    RESCUE.command(alloc)
+}
 
 /// What `rescue` asks for.
 pub fn rescue_words<'a>(matches: &ArgMatches<'a>) -> Result<Words<'a>, NoValue> {

@@ -3,8 +3,9 @@
 use super::places::{IMAGE, NOW};
 use crate::help::RUNS;
 use crate::words::{RunWords, Words};
-use clap::ArgMatches;
+use clap::{ArgMatches, Command};
 use hfs_arguments::{Argument, NoValue, Takes, Word};
+use std::alloc::{AllocError, Global};
 
 /// The path of a script.
 const SCRIPT: Argument = Argument {
@@ -22,12 +23,17 @@ const OUT: Argument = Argument {
     excludes: &[],
 };
 
-pub const RUN: Word = Word {
+const RUN: Word = Word {
     name: "run",
     about: "Runs a script of calls by several workers and viewers at once, and prints the answers",
     after_help: Some(RUNS),
     arguments: &[IMAGE, SCRIPT, NOW, OUT],
 };
+
+/// The command of `run`.
+pub fn run_command<'a>(alloc: Global) -> Result<Command<'a>, AllocError> {
+    RUN.command(alloc)
+}
 
 /// What `run` asks for.
 pub fn run_words<'a>(matches: &ArgMatches<'a>) -> Result<Words<'a>, NoValue> {
