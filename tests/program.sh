@@ -8,7 +8,7 @@ volumes=$PWD/tests/volumes
 
 folder=$(mktemp -d)
 trap 'rm -rf "$folder"' EXIT
-answers=0
+compared=0
 
 fail() {
     echo "the program differs: $1"
@@ -20,7 +20,7 @@ fail() {
 wants() {
     local status=$1 text=$2 got=0
     shift 2
-    answers=$((answers + 1))
+    compared=$((compared + 1))
     case $1 in
         repair) repair_piped "$status" "$@" ;;
         run) run_piped "$status" "$@" ;;
@@ -620,4 +620,4 @@ wants 3 'code -43\n' cat "$folder/words.img" 2 -f
 wants 3 'code -43\n' cat "$folder/words.img" 2 f --resource
 wants 3 'code -120\n' cat "$folder/words.img" 17 f
 
-echo "the program agrees: $answers answers as they are wanted, beside what the documents show"
+echo "the program agrees: $compared answers as they are wanted, beside what the documents show"

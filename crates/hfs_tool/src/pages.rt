@@ -2,8 +2,7 @@
 
 use hfs_check::MountFault;
 use hfs_commands::{BlockSource, Fault, NeededFault, OpenedImage, Status, open_part};
-use hfs_console::VERSION;
-use hfs_pages::{PageFault, standard_texts, write_image_page, write_refused_page};
+use hfs_pages::{PageFault, legend, script, style, write_image_page, write_refused_page};
 
 /// Prints the page of an image, or of the volume with this number that lies in it.
 pub fn print_page<'a>(
@@ -41,8 +40,7 @@ fn print_opened_page<S: BlockSource + Drop>(
     opened: &OpenedImage<S>,
 ) -> Result<u8, Fault<'static>> {
     let out = &mut rt.stdout();
-    let texts = standard_texts(VERSION.as_bytes());
-    match write_image_page(rt.alloc(), opened, &texts, out) {
+    match write_image_page(rt.alloc(), opened, style(), legend(), script(), out) {
         Ok(()) => Ok(Status::Done.number()),
         Err(PageFault::Memory) => Err(Fault::NoMemory),
         Err(PageFault::OutputFailed) => Err(Fault::OutputFailed),
@@ -51,8 +49,7 @@ fn print_opened_page<S: BlockSource + Drop>(
 
 /// Prints the page of an image that is refused.
 fn print_refused_page(rt: &HostRuntime, why: MountFault) -> Result<u8, Fault<'static>> {
-    let texts = standard_texts(VERSION.as_bytes());
-    match write_refused_page(rt.alloc(), why, &texts, &mut rt.stdout()) {
+    match write_refused_page(rt.alloc(), why, style(), &mut rt.stdout()) {
         Ok(()) => Ok(Status::ImageRefused.number()),
         Err(PageFault::Memory) => Err(Fault::NoMemory),
         Err(PageFault::OutputFailed) => Err(Fault::OutputFailed),
