@@ -1,5 +1,5 @@
 #!/usr/bin/env bash
-# What the program does, before anything is proved: builds crates/hfs_tool/out/hfs_tool.unproved, in some two minutes of one
+# What the program does, before anything is proved: builds crates/hfs_tool/out/hfs_tool.unproved, in some five minutes of one
 # processor, and shows a stored disk with it. The program stays, says '(not proved)' of itself by --version, and is built anew
 # where a source is newer. What the proved program prints is the same; scripts/build.sh builds that.
 set -euo pipefail
