@@ -11,15 +11,14 @@ if [ ! -x "$tool" ] || [ -n "$(find crates -name '*.rt' -newer "$tool" -print -q
     mkdir -p crates/hfs_tool/out
     python3 scripts/unproved_program.py hfs_tool "$tool" -O1
 fi
+
+# Prints a command line and runs it.
 show() {
-    printf '\n$ %s\n' "${*/#$tool/hfs_tool}"
-    "$@"
+    printf '\n$ %s\n' "$1"
+    eval "${1/#hfs_tool/\"\$tool\"}"
 }
-show "$tool" --version
-show "$tool" check "$disk"
-show "$tool" items "$disk" > "$tool.items"
-cut -f 1,2,14,15 < "$tool.items"
-rm "$tool.items"
-show "$tool" ls "$disk" --path ':My Floppy:Games'
-printf '\n$ hfs_tool info < %s\n' "$disk"
-"$tool" info < "$disk"
+show 'hfs_tool --version'
+show "hfs_tool check $disk"
+show "hfs_tool items $disk | cut -f 1,2,14,15"
+show "hfs_tool ls $disk --path 'My Floppy:Games'"
+show "hfs_tool info < $disk"
