@@ -1,5 +1,5 @@
 #!/usr/bin/env bash
-# What the program does, before anything is proved: builds crates/hfs_tool/out/hfs_tool.unproved, in some two minutes of one
+# What the program does, before anything is proved: builds crates/hfs_tool/out/hfs_tool.unproved, in some five minutes of one
 # processor, and shows a stored disk with it. The program stays, says '(not proved)' of itself by --version, and is built anew
 # where a source is newer. What the proved program prints is the same; scripts/build.sh builds that.
 set -euo pipefail
@@ -11,15 +11,14 @@ if [ ! -x "$tool" ] || [ -n "$(find crates -name '*.rt' -newer "$tool" -print -q
     mkdir -p crates/hfs_tool/out
     python3 scripts/unproved_program.py hfs_tool "$tool" -O1
 fi
+
+# Prints a command line and runs it.
 show() {
-    printf '\n$ %s\n' "${*/#$tool/hfs_tool}"
-    "$@"
+    printf '\n$ %s\n' "$1"
+    eval "${1/#hfs_tool/\"\$tool\"}"
 }
-show "$tool" --version
-show "$tool" check "$disk"
-show "$tool" items "$disk" > "$tool.items"
-cut -f 1,2,14,15 < "$tool.items"
-rm "$tool.items"
-show "$tool" ls "$disk" --path ':My Floppy:Games'
-printf '\n$ hfs_tool info < %s\n' "$disk"
-"$tool" info < "$disk"
+show 'hfs_tool --version'
+show "hfs_tool check $disk"
+show "hfs_tool items $disk | cut -f 1,2,14,15"
+show "hfs_tool ls $disk --path 'My Floppy:Games'"
+show "hfs_tool info < $disk"
