@@ -95,6 +95,36 @@ impl NumberArgument {
     }
 }
 
+/// An option whose value is a number from 0 to 4,294,967,295.
+#[derive(Clone, Copy)]
+pub struct NumberOption {
+    pub name: &'static str,
+}
+
+impl NumberOption {
+    /// The option, with a name for its value in the help text.
+    pub fn option<'a>(self, alloc: Global, value: &'a str) -> Arg<'a> {
+        let argument = Arg::new(alloc, self.name)
+            .long(self.name)
+            .value_name(value)
+            .action(ArgAction::Set);
+        of_numbers(argument)
+    }
+
+    /// The value of the option, where it is given.
+    pub fn given(self, matches: &ArgMatches<'_>) -> Result<Option<u64>, NoValue>
+        ensures none { one_text (found_of matches.now) self.name.now ≡ None → result ≡ Ok None }
+        ensures number { (text : List ℕ) → one_text (found_of matches.now) self.name.now ≡ Some text
+            → IfOk result (λ n. n ≡ Some (digits_value 10 (without_leading_plus text))) }
+    {
+        match matches.try_get_one::<u32>(self.name) {
+            Ok(Some(number)) => Ok(Some(u64::from(number))),
+            Ok(None) => Ok(None),
+            Err(_) => Err(NoValue(self.name)),
+        }
+    }
+}
+
 /// Takes numbers from 0 to 4,294,967,295 alone.
 fn of_numbers(argument: Arg<'_>) -> Arg<'_> {
     argument.value_parser(value_parser!(u32).range(0..=4294967295))

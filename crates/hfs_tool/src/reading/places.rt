@@ -1,6 +1,6 @@
 //! Where a word finds what it reads: an image, a volume in it, and an item on that by its path.
 
-use super::arguments::{CountOption, NoValue, NumberArgument, TextArgument};
+use super::arguments::{NoValue, NumberArgument, NumberOption, TextArgument};
 use crate::words::PathWords;
 use clap::{Arg, ArgMatches};
 use std::alloc::{AllocError, Global};
@@ -24,7 +24,7 @@ pub const NAME: TextArgument = TextArgument { name: "NAME" };
 const PATH: TextArgument = TextArgument { name: "path" };
 
 /// The number of a volume in an image.
-const VOLUME: CountOption = CountOption { name: "volume" };
+const VOLUME: NumberOption = NumberOption { name: "volume" };
 
 /// The image of a volume, by its path.
 pub fn image<'a>(alloc: Global) -> Arg<'a> {
@@ -34,7 +34,7 @@ pub fn image<'a>(alloc: Global) -> Arg<'a> {
 /// The number of the volume in an image.
 pub fn volume<'a>(alloc: Global) -> Arg<'a> {
     VOLUME.option(alloc, "N").help(
-        "The N-th of the volumes that volumes IMAGE lists, in place of the image's own bytes",
+        "The N-th of the volumes that volumes IMAGE lists; 0 is the image as it is",
     )
 }
 
