@@ -23,9 +23,9 @@ use Rattle.hfs_model.proofs.KeepsMove.{and_true}
 
 -- an accepted change comes first, and another entry is left out
 abbrev pub changes_of : (b : Bool) → Entry → List Entry → List Item
-changes_of b e es = map (λ (x : Entry). Change x.call) (cond b (e ∷ filter is_accepted es) (filter is_accepted es))
+changes_of b e es = map (λ (x : Entry). Change x) (cond b (e ∷ filter is_accepted es) (filter is_accepted es))
 
-pub changes_accepted : (e : Entry) (es : List Entry) → is_accepted e ≡ true → changes (e ∷ es) ≡ Change e.call ∷ changes es
+pub changes_accepted : (e : Entry) (es : List Entry) → is_accepted e ≡ true → changes (e ∷ es) ≡ Change e ∷ changes es
 changes_accepted e es h = ap (λ (b : Bool). changes_of b e es) h
 
 pub changes_other : (e : Entry) (es : List Entry) → is_accepted e ≡ false → changes (e ∷ es) ≡ changes es
@@ -33,8 +33,8 @@ changes_other e es h = ap (λ (b : Bool). changes_of b e es) h
 
 pub changes-append : (xs ys : List Entry) → changes (xs ++ ys) ≡ changes xs ++ changes ys
 changes-append xs ys =
-    ap (λ (l : List Entry). map (λ (x : Entry). Change x.call) l) (filter-append is_accepted xs ys)
-    ∙ map-append (λ (x : Entry). Change x.call) (filter is_accepted xs) (filter is_accepted ys)
+    ap (λ (l : List Entry). map (λ (x : Entry). Change x) l) (filter-append is_accepted xs ys)
+    ∙ map-append (λ (x : Entry). Change x) (filter is_accepted xs) (filter is_accepted ys)
 
 pub published_grows : (v : Volume) (journal : List Entry) (n more : ℕ) → published v journal n ++ changes (take more (drop n journal)) ≡ published v journal (n + more)
 published_grows v journal n more =

@@ -7,6 +7,7 @@ use mathlib.Core.List.{IsPrefix}
 use Rattle.logbook.specs.Pages.{Book}
 use Rattle.left_right.specs.Register.{TurnsAt}
 use Rattle.hfs_model.specs.declared.call.Call.{Call}
+use Rattle.hfs_model.specs.declared.journal.Entry.{Entry}
 use Rattle.hfs_model.specs.Volume.{Volume}
 use Rattle.hfs_model.specs.Step.{step, new_volume}
 use Rattle.hfs_published.specs.declared.item.Item.{Item}
@@ -16,12 +17,12 @@ use Rattle.hfs_published.specs.declared.published.Change as op
 use Rattle.hfs_published.specs.Answers.{IsAllOrNothing}
 use Rattle.hfs_published.specs.Histories.{Known, known, with_change}
 use Rattle.hfs_published.specs.Lists.{entered, shown, absorb, IsGood, Keeps, Shown}
-use Rattle.hfs_published.specs.Pairs.{whole, owed_list, pair, with_call, IsPair, IsUnread}
+use Rattle.hfs_published.specs.Pairs.{whole, owed_list, pair, with_change_of, IsPair, IsUnread}
 use Rattle.hfs_published.proofs.Prefixes.{prefix_self, prefix_trans}
 use Rattle.hfs_published.proofs.Seeing.{turns}
 
-pub shown-snoc : (l : List Item) (c : Call) → shown (l ++ Change c ∷ []) ≡ (step (shown l) c).0
-shown-snoc l c = fold-append entered (new_volume [] 0) l (Change c ∷ [])
+pub shown-snoc : (l : List Item) (e : Entry) → shown (l ++ Change e ∷ []) ≡ (step (shown l) e.call).0
+shown-snoc l e = fold-append entered (new_volume [] 0) l (Change e ∷ [])
 
 owed_none : (o : Option op.Change) → o ≡ None → owed_list o ≡ []
 owed_none o none = ap owed_list none
@@ -41,23 +42,25 @@ pair_settled f head x y pending after o p i same grown = subst (λ (z : Publishe
   makes = ap (λ (l : List op.Change). fold absorb x l) grown ∙ i.makes;
 }
 
-module _ (f g : Known) (head : Book) (x : Published) (c : Call) where
+module _ (f g : Known) (head : Book) (x : Published) (e : Entry) where
   -- the whole, with one change more
-  pub makes_more : (pending : List op.Change) → fold absorb x pending ≡ whole f → g ≡ known f.book (f.list ++ Change c ∷ [])
-      → fold absorb x (pending ++ record { call = c; front = g } ∷ []) ≡ whole g
+  pub makes_more : (pending : List op.Change) → fold absorb x pending ≡ whole f → g ≡ known f.book (f.list ++ Change e ∷ [])
+      → fold absorb x (pending ++ record { call = e.call; front = g } ∷ []) ≡ whole g
   makes_more pending m is =
-      fold-append absorb x pending (record { call = c; front = g } ∷ [])
-      ∙ ap (λ (y : Published). absorb y record { call = c; front = g }) m
-      ∙ ap (λ (v : Volume). let w : Published = record { rows = v; front = g } in w) (sym (shown-snoc f.list c) ∙ ap (λ (k : Known). shown k.list) (sym is))
+      fold-append absorb x pending (record { call = e.call; front = g } ∷ [])
+      ∙ ap (λ (y : Published). absorb y record { call = e.call; front = g }) m
+      ∙ ap (λ (v : Volume). let w : Published = record { rows = v; front = g } in w) (sym (shown-snoc f.list e) ∙ ap (λ (k : Known). shown k.list) (sym is))
 
-  pub pair_more : (y : Published) → y ≡ x → (pending after : List op.Change) (o p : Option op.Change) → IsPair f head x pending o → o ≡ None → g ≡ known f.book (f.list ++ Change c ∷ [])
-      → (h : Known) → h ≡ g → after ++ owed_list p ≡ pending ++ record { call = c; front = h } ∷ [] → IsPair g head y after p
-  pair_more y same pending after o p i r is h copy grown = subst (λ (z : Published). IsPair g head z after p) (sym same) record {
+  pub pair_more : (y : Published) → y ≡ x → (pending after : List op.Change) (o p : Option op.Change) → IsPair f head x pending o → o ≡ None → g ≡ known f.book (f.list ++ Change e ∷ [])
+      → (h : Known) (c : Call) → h ≡ g → c ≡ e.call → after ++ owed_list p ≡ pending ++ record { call = c; front = h } ∷ [] → IsPair g head y after p
+  pair_more y same pending after o p i r is h c copy call_is grown = subst (λ (z : Published). IsPair g head z after p) (sym same) record {
     head_is = i.head_is ∙ sym (ap (λ (k : Known). k.book) is);
     book_is = i.book_is ∙ sym (ap (λ (k : Known). k.book) is);
     good = i.good;
-    begins = subst (λ (l : List Item). IsPrefix x.front.list l) (sym (ap (λ (k : Known). k.list) is)) (prefix_trans _ f.list _ i.begins (Change c ∷ [], refl));
-    makes = ap (λ (l : List op.Change). fold absorb x l) (grown ∙ ap (λ (k : Known). let q : op.Change = record { call = c; front = k } in pending ++ q ∷ []) copy) ∙ makes_more pending (makes_ready f x pending o r i.makes) is;
+    begins = subst (λ (l : List Item). IsPrefix x.front.list l) (sym (ap (λ (k : Known). k.list) is)) (prefix_trans _ f.list _ i.begins (Change e ∷ [], refl));
+    makes = ap (λ (l : List op.Change). fold absorb x l)
+        (grown ∙ ap (λ (w : Call × Known). let q : op.Change = record { call = w.0; front = w.1 } in pending ++ q ∷ []) (λ j. (call_is j, copy j)))
+        ∙ makes_more pending (makes_ready f x pending o r i.makes) is;
   }
 
 -- the step of a publish
@@ -110,18 +113,18 @@ pair_after f head x next pending after o (Err e) i ready h = pair_same f head x 
 -- ---- a list that nobody reads
 
 -- one change more, or none
-pub unread_more : (f g : Known) (head : Book) (s : Known) (c : Call) (b : Bool) → IsUnread f head s → MatchBool b (g ≡ with_change f c) (g ≡ f) → IsUnread g head s
-unread_more f g head s c true i is = subst (λ (k : Known). IsUnread k head s) (sym is) record {
+pub unread_more : (f g : Known) (head : Book) (s : Known) (e : Entry) (b : Bool) → IsUnread f head s → MatchBool b (g ≡ with_change f e) (g ≡ f) → IsUnread g head s
+unread_more f g head s e true i is = subst (λ (k : Known). IsUnread k head s) (sym is) record {
   head_is = i.head_is;
   book_is = i.book_is;
-  begins = prefix_trans s.list f.list (f.list ++ Change c ∷ []) i.begins (Change c ∷ [], refl);
+  begins = prefix_trans s.list f.list (f.list ++ Change e ∷ []) i.begins (Change e ∷ [], refl);
 }
-unread_more f g head s c false i is = subst (λ (k : Known). IsUnread k head s) (sym is) i
+unread_more f g head s e false i is = subst (λ (k : Known). IsUnread k head s) (sym is) i
 
-pub unread_added : (f g s : Known) (c : Call) (b : Bool) → MatchBool b (g ≡ with_change f c) (g ≡ f)
-    → IsAllOrNothing b (with_call (pair f.book f.list s.list) c) (pair f.book f.list s.list) (pair g.book g.list s.list)
-unread_added f g s c true is = ap (λ (k : Known). pair k.book k.list s.list) is
-unread_added f g s c false is = ap (λ (k : Known). pair k.book k.list s.list) is
+pub unread_added : (f g s : Known) (e : Entry) (b : Bool) → MatchBool b (g ≡ with_change f e) (g ≡ f)
+    → IsAllOrNothing b (with_change_of (pair f.book f.list s.list) e) (pair f.book f.list s.list) (pair g.book g.list s.list)
+unread_added f g s e true is = ap (λ (k : Known). pair k.book k.list s.list) is
+unread_added f g s e false is = ap (λ (k : Known). pair k.book k.list s.list) is
 
 -- all of it is published
 pub unread_shown : (f : Known) (head : Book) (s t : Known) → IsUnread f head s → t ≡ f → IsUnread f head t

@@ -3,7 +3,7 @@ use Rattle.std.specs.Prelude.{◌≡◌, ℕ, ◌+◌, true, List, [], ◌∷◌
 use Rattle.logbook.specs.Pages.{Cell, Step, View, Book}
 use Rattle.hfs_published.specs.declared.item.Item.{Item}
 use Rattle.hfs_published.specs.declared.item.Item.TheVariants.{Opening, Change}
-use Rattle.hfs_model.specs.declared.call.Call.{Call}
+use Rattle.hfs_model.specs.declared.journal.Entry.{Entry}
 use Rattle.hfs_model.specs.Volume.{Volume}
 
 -- a beginning of a history, by the history's name
@@ -15,8 +15,8 @@ abbrev pub known : Book → List Item → Known
 known b l = record { book = b; list = l }
 
 -- a beginning with one change more
-abbrev pub with_change : Known → Call → Known
-with_change k c = known k.book (k.list ++ Change c ∷ [])
+abbrev pub with_change : Known → Entry → Known
+with_change k e = known k.book (k.list ++ Change e ∷ [])
 
 -- the opening alone
 abbrev pub opened : Volume → List Item

@@ -38,7 +38,7 @@ is_accepted e = not (is_reading e.call) && int_eq e.code (pos 0)
 
 -- the accepted changes of a journal, in order
 abbrev pub changes : List Entry → List Item
-changes entries = map (λ (e : Entry). Change e.call) (filter is_accepted entries)
+changes entries = map (λ (e : Entry). Change e) (filter is_accepted entries)
 
 -- the published list that covers the first n entries of a journal over a volume
 abbrev pub published : Volume → List Entry → ℕ → List Item

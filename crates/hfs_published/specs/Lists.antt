@@ -16,7 +16,7 @@ use Rattle.hfs_model.specs.Step.{step, new_volume}
 -- the volume after a member of a list
 abbrev pub entered : Volume → Item → Volume
 entered v (Opening u) = u
-entered v (Change c) = (step v c).0
+entered v (Change e) = (step v e.call).0
 
 -- the volume of a list: it opens one, and takes the calls in order
 abbrev pub shown : List Item → Volume

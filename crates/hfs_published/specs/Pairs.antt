@@ -6,7 +6,6 @@ use Rattle.hfs_published.specs.declared.item.Item.{Item}
 use Rattle.hfs_published.specs.declared.item.Item.TheVariants.{Change}
 use Rattle.hfs_published.specs.declared.published.Published.{Published}
 use Rattle.hfs_published.specs.declared.published.Change as op
-use Rattle.hfs_model.specs.declared.call.Call.{Call}
 use Rattle.hfs_model.specs.declared.journal.Entry.{Entry}
 use Rattle.hfs_model.specs.Volume.{Volume}
 use Rattle.hfs_check.specs.VolumeOf.{volume_of}
@@ -28,9 +27,9 @@ pair b a s = record { book = b; all = a; shown = s }
 abbrev pub with_added : PairState → List Item → PairState
 with_added p items = pair p.book (p.all ++ items) p.shown
 
--- the pair with this change behind all that were added
-abbrev pub with_call : PairState → Call → PairState
-with_call p c = with_added p (Change c ∷ [])
+-- the pair with this entry's change behind all that were added
+abbrev pub with_change_of : PairState → Entry → PairState
+with_change_of p e = with_added p (Change e ∷ [])
 
 -- the pair with the entry's change behind all that were added, if that is an accepted one
 abbrev pub with_entry : PairState → Entry → PairState

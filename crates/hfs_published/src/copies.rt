@@ -4,7 +4,7 @@ ghost use Rattle.left_right.specs.Sides.{view as seat_view};
 ghost use Rattle.hfs_published.specs.Answers.{IsAllOrNothing};
 ghost use Rattle.hfs_published.specs.Histories.{known, opened};
 ghost use Rattle.hfs_published.specs.Lists.{Sits};
-ghost use Rattle.hfs_published.specs.Pairs.{PairState, with_all_shown, whole, IsOpened, IsPair, HaveSeen, with_call, SawOpeningOf};
+ghost use Rattle.hfs_published.specs.Pairs.{PairState, with_all_shown, whole, IsOpened, IsPair, HaveSeen, with_change_of, SawOpeningOf};
 ghost use Rattle.hfs_published.specs.Writers.{pending_in, waiting_in, KeepsLog, KeepsPending, HasOpened, IsPairIn, ShowsAllOrSame};
 ghost use Rattle.hfs_check.specs.VolumeOf.{volume_of};
 
@@ -15,7 +15,7 @@ use crate::rule::{PairWriter, Sees, Tells};
 use crate::seat::Seat;
 use crate::viewer::Viewer;
 use core::mem::{ManuallyDrop, replace_with};
-use hfs_model::Call;
+use hfs_model::Entry;
 use hfs_view::Rows;
 use hfs_volume::Volume;
 use std::alloc::Global;
@@ -64,16 +64,19 @@ impl Copies {
         self.front.changes() == self.writer.published().front.changes()
     }
 
-    /// Adds a change after all that were added, where it waits to be published. It answers whether it did: not where memory is
-    /// wanting.
-    pub fn add(&mut self, call: Call) -> bool
-        ensures { IsAllOrNothing result (with_call self.old call) self.old self.new }
+    /// Adds an entry's change after all that were added, where it waits to be published. It answers whether it did: not where
+    /// memory is wanting.
+    pub fn add(&mut self, entry: &Entry) -> bool
+        ensures { IsAllOrNothing result (with_change_of self.old entry.now) self.old self.new }
     {
+        let Ok(call) = entry.call.copied() else {
+            return false;
+        };
         if !settle(&mut self.writer, &mut self.owed) {
             return false;
         }
         let mut front = self.front.again();
-        if !front.add(&self.history, &call) {
+        if !front.add(&self.history, entry) {
             return false;
         }
         let change = Change {

@@ -6,7 +6,7 @@ ghost use Rattle.hfs_published.specs.Histories.{with_change, opened};
 ghost use Rattle.hfs_check.specs.VolumeOf.{volume_of};
 
 use crate::item::{Add, Item, Law, Nothing, Opens};
-use hfs_model::Call;
+use hfs_model::Entry;
 use hfs_volume::Volume;
 use logbook::{Offer, Seen, Start, Word};
 use std::marker::Model;
@@ -103,16 +103,16 @@ impl Front {
         true
     }
 
-    /// Adds a change, and says whether it did. It does where no one else adds.
-    pub fn add(&mut self, history: &History, call: &Call) -> bool
+    /// Adds an entry's change, and says whether it did. It does where no one else adds.
+    pub fn add(&mut self, history: &History, entry: &Entry) -> bool
         requires { history.now.head.book ≡ self.old.book }
-        ensures { IsAllOrNothing result (with_change self.old call.now) self.old self.new }
+        ensures { IsAllOrNothing result (with_change self.old entry.now) self.old self.new }
     {
         if self.changes >= MOST {
             return false;
         }
         let mut seen = self.seen.again();
-        let mut offer: Offer<Item, u64, Law, Nothing> = seen.plain::<Nothing, Call, Add>(call);
+        let mut offer: Offer<Item, u64, Law, Nothing> = seen.plain::<Nothing, Entry, Add>(entry);
         let mut pen = seen.no_pen();
         let changes = self.changes;
         let found = history

@@ -1,14 +1,14 @@
 //! The history of what is published, and its rule.
-use hfs_model::Call;
+use hfs_model::Entry;
 use hfs_view::Rows;
 use hfs_volume::Volume;
 use logbook::{Gain, Opening, Plain, Play, Rule};
 
-/// A member of a published list: the volume that opens it, or a change. Contracts alone speak of lists of them; the code
-/// keeps none.
+/// A member of a published list: the volume that opens it, or a change, which is an accepted entry of the journal, with who made
+/// it. Contracts alone speak of lists of them; the code keeps none.
 pub enum Item {
     Opening(Rows),
-    Change(Call),
+    Change(Entry),
 }
 
 /// The rule of the history: its word is the number of changes.
@@ -50,13 +50,13 @@ impl Play<Item, u64> for Add {
     ghost then = { Adds };
 }
 
-impl Plain<Call, Item, u64> for Add {
+impl Plain<Entry, Item, u64> for Add {
     ghost use Rattle.std.specs.Prelude.{None};
     ghost use Rattle.hfs_published.specs.declared.item.Item.TheVariants.{Change};
 
-    ghost ask = { λ call. Change call };
+    ghost ask = { λ entry. Change entry };
 
-    ghost state = { λ call. None };
+    ghost state = { λ entry. None };
 }
 
 /// A history begins with its opening alone.

@@ -4,7 +4,7 @@ ghost use mathlib.Core.List.{IsPrefix};
 ghost use Rattle.hfs_check.specs.VolumeOf.{volume_of};
 ghost use Rattle.hfs_published.specs.Answers.{IsAllOrNothing};
 ghost use Rattle.hfs_published.specs.Histories.{known, opened};
-ghost use Rattle.hfs_published.specs.Pairs.{with_all_shown, IsOpened, with_call, SawOpeningOf};
+ghost use Rattle.hfs_published.specs.Pairs.{with_all_shown, IsOpened, with_change_of, SawOpeningOf};
 ghost use Rattle.hfs_published.specs.Tolds.{told};
 
 use crate::copies::Copies;
@@ -12,7 +12,7 @@ use crate::front::Front;
 use crate::told::Told;
 use crate::unread::Unread;
 use crate::viewer::Viewer;
-use hfs_model::Call;
+use hfs_model::Entry;
 use hfs_volume::Volume;
 use std::alloc::Global;
 use std::marker::Model;
@@ -85,17 +85,14 @@ impl Pair {
         }
     }
 
-    /// Adds a change after all that were added, where it waits to be published. It answers whether it did: not where memory is
-    /// wanting.
-    pub fn add(&mut self, call: &Call) -> bool
-        ensures { IsAllOrNothing result (with_call self.old call.now) self.old self.new }
+    /// Adds an entry's change after all that were added, where it waits to be published. It answers whether it did: not where
+    /// memory is wanting.
+    pub fn add(&mut self, entry: &Entry) -> bool
+        ensures { IsAllOrNothing result (with_change_of self.old entry.now) self.old self.new }
     {
         match &mut self.kind {
-            Kind::Read(copies) => match call.copied() {
-                Ok(call) => copies.add(call),
-                Err(_) => false,
-            },
-            Kind::Unread(unread) => unread.add(call),
+            Kind::Read(copies) => copies.add(entry),
+            Kind::Unread(unread) => unread.add(entry),
         }
     }
 

@@ -2,10 +2,10 @@
 ghost use Rattle.std.specs.Prelude.{◌≡◌, ◌≢◌, MatchBool};
 ghost use Rattle.hfs_published.specs.Answers.{IsAllOrNothing};
 ghost use Rattle.hfs_published.specs.Histories.{known};
-ghost use Rattle.hfs_published.specs.Pairs.{pair, with_all_shown, with_call};
+ghost use Rattle.hfs_published.specs.Pairs.{pair, with_all_shown, with_change_of};
 
 use crate::front::{Front, History};
-use hfs_model::Call;
+use hfs_model::Entry;
 use std::marker::Model;
 
 /// A published list of which no rows are made. Contracts see the history's name, the list with all changes that were added, and
@@ -59,11 +59,11 @@ impl Unread {
         self.front.changes() == self.shown.changes()
     }
 
-    /// Adds a change after all that were added, and answers whether it did.
-    pub fn add(&mut self, call: &Call) -> bool
-        ensures { IsAllOrNothing result (with_call self.old call.now) self.old self.new }
+    /// Adds an entry's change after all that were added, and answers whether it did.
+    pub fn add(&mut self, entry: &Entry) -> bool
+        ensures { IsAllOrNothing result (with_change_of self.old entry.now) self.old self.new }
     {
-        self.front.add(&self.history, call)
+        self.front.add(&self.history, entry)
     }
 
     /// Publishes all that was added.

@@ -26,11 +26,11 @@ use Rattle.hfs_published.proofs.Following.{changes_accepted, changes_other}
 -- ---- changes of a journal
 
 abbrev changes_by : Bool → Entry → List Entry → List Item
-changes_by accepted e es = map (λ (x : Entry). Change x.call) (cond accepted (e ∷ filter is_accepted es) (filter is_accepted es))
+changes_by accepted e es = map (λ (x : Entry). Change x) (cond accepted (e ∷ filter is_accepted es) (filter is_accepted es))
 
 append_step : (e : Entry) (es fs : List Entry) → changes (es ++ fs) ≡ changes es ++ changes fs → (b : Bool) → is_accepted e ≡ b → changes (e ∷ es ++ fs) ≡ changes (e ∷ es) ++ changes fs
 append_step e es fs same true is =
-    changes_accepted e (es ++ fs) is ∙ ap (λ (l : List Item). Change e.call ∷ l) same ∙ ap (λ (l : List Item). l ++ changes fs) (sym (changes_accepted e es is))
+    changes_accepted e (es ++ fs) is ∙ ap (λ (l : List Item). Change e ∷ l) same ∙ ap (λ (l : List Item). l ++ changes fs) (sym (changes_accepted e es is))
 append_step e es fs same false is = changes_other e (es ++ fs) is ∙ same ∙ ap (λ (l : List Item). l ++ changes fs) (sym (changes_other e es is))
 
 changes-append : (es fs : List Entry) → changes (es ++ fs) ≡ changes es ++ changes fs
@@ -45,19 +45,19 @@ record IsCut (journal : List Entry) (xs : List Item) : Type 0 where
   publishes : changes before ≡ xs
 
 -- and the next entry is this change
-record IsCutAt (journal : List Entry) (xs : List Item) (call : Call) : Type 0 where
+record IsCutAt (journal : List Entry) (xs : List Item) (entry : Entry) : Type 0 where
   cut : IsCut journal xs
-  next : BeginsWith call cut.behind
+  next : BeginsWith entry cut.behind
 
 abbrev uncut : (journal : List Entry) → IsCut journal []
 uncut journal = record { before = []; behind = journal; whole = refl; publishes = refl }
 
-abbrev cut_accepted : (e : Entry) (journal : List Entry) (xs : List Item) → is_accepted e ≡ true → IsCut journal xs → IsCut (e ∷ journal) (Change e.call ∷ xs)
+abbrev cut_accepted : (e : Entry) (journal : List Entry) (xs : List Item) → is_accepted e ≡ true → IsCut journal xs → IsCut (e ∷ journal) (Change e ∷ xs)
 cut_accepted e journal xs is c = record {
   before = e ∷ c.before;
   behind = c.behind;
   whole = ap (λ (l : List Entry). e ∷ l) c.whole;
-  publishes = changes_accepted e c.before is ∙ ap (λ (l : List Item). Change e.call ∷ l) c.publishes;
+  publishes = changes_accepted e c.before is ∙ ap (λ (l : List Item). Change e ∷ l) c.publishes;
 }
 
 abbrev cut_other : (e : Entry) (journal : List Entry) (xs : List Item) → is_accepted e ≡ false → IsCut journal xs → IsCut (e ∷ journal) xs
@@ -71,8 +71,8 @@ cut_other e journal xs is c = record {
 cut_step : (e : Entry) (journal : List Entry) (x : Item) (xs : List Item) → IsPrefix (x ∷ xs) (changes (e ∷ journal)) → (IsPrefix xs (changes journal) → IsCut journal xs)
     → (IsPrefix (x ∷ xs) (changes journal) → IsCut journal (x ∷ xs)) → (b : Bool) → is_accepted e ≡ b → IsCut (e ∷ journal) (x ∷ xs)
 cut_step e journal x xs p rest whole true is =
-    let same : x ∷ xs ++ p.0 ≡ Change e.call ∷ changes journal = p.1 ∙ changes_accepted e journal is in
-    let head : Change e.call ≡ x = cc (same) in
+    let same : x ∷ xs ++ p.0 ≡ Change e ∷ changes journal = p.1 ∙ changes_accepted e journal is in
+    let head : Change e ≡ x = cc (same) in
     let tail : xs ++ p.0 ≡ changes journal = cc (same) in
     subst (λ (y : Item). IsCut (e ∷ journal) (y ∷ xs)) head (cut_accepted e journal xs is (rest (p.0, tail)))
 cut_step e journal x xs p rest whole false is = cut_other e journal (x ∷ xs) is (whole (p.0, p.1 ∙ changes_other e journal is))
@@ -83,35 +83,36 @@ cut_for [] (x ∷ xs) p = absurd (cc (p.1))
 cut_for (e ∷ journal) [] p = uncut (e ∷ journal)
 cut_for (e ∷ journal) (x ∷ xs) p = cut_step e journal x xs p (λ q. cut_for journal xs q) (λ q. cut_for journal (x ∷ xs) q) (is_accepted e) refl
 
-at_first : (e : Entry) (journal : List Entry) (call : Call) → IsPrefix (Change call ∷ []) (changes (e ∷ journal)) → (IsPrefix (Change call ∷ []) (changes journal) → IsCutAt journal [] call)
-    → (b : Bool) → is_accepted e ≡ b → IsCutAt (e ∷ journal) [] call
-at_first e journal call p whole true is =
-    let same : Change call ∷ p.0 ≡ Change e.call ∷ changes journal = p.1 ∙ changes_accepted e journal is in
-    record { cut = uncut (e ∷ journal); next = (e, journal, refl, cc (same), is) }
-at_first e journal call p whole false is =
+at_first : (e : Entry) (journal : List Entry) (entry : Entry) → IsPrefix (Change entry ∷ []) (changes (e ∷ journal)) → (IsPrefix (Change entry ∷ []) (changes journal) → IsCutAt journal [] entry)
+    → (b : Bool) → is_accepted e ≡ b → IsCutAt (e ∷ journal) [] entry
+at_first e journal entry p whole true is =
+    let same : Change entry ∷ p.0 ≡ Change e ∷ changes journal = p.1 ∙ changes_accepted e journal is in
+    let own : e ≡ entry = cc (same) in
+    record { cut = uncut (e ∷ journal); next = (journal, ap (λ (f : Entry). f ∷ journal) own) }
+at_first e journal entry p whole false is =
     let c = whole (p.0, p.1 ∙ changes_other e journal is) in
     record { cut = cut_other e journal [] is c.cut; next = c.next }
 
-at_accepted : (e : Entry) (journal : List Entry) (xs : List Item) (call : Call) → is_accepted e ≡ true → IsCutAt journal xs call → IsCutAt (e ∷ journal) (Change e.call ∷ xs) call
-at_accepted e journal xs call is c = record { cut = cut_accepted e journal xs is c.cut; next = c.next }
+at_accepted : (e : Entry) (journal : List Entry) (xs : List Item) (entry : Entry) → is_accepted e ≡ true → IsCutAt journal xs entry → IsCutAt (e ∷ journal) (Change e ∷ xs) entry
+at_accepted e journal xs entry is c = record { cut = cut_accepted e journal xs is c.cut; next = c.next }
 
-at_step : (e : Entry) (journal : List Entry) (x : Item) (xs : List Item) (call : Call) → IsPrefix (x ∷ xs ++ Change call ∷ []) (changes (e ∷ journal))
-    → (IsPrefix (xs ++ Change call ∷ []) (changes journal) → IsCutAt journal xs call) → (IsPrefix (x ∷ xs ++ Change call ∷ []) (changes journal) → IsCutAt journal (x ∷ xs) call)
-    → (b : Bool) → is_accepted e ≡ b → IsCutAt (e ∷ journal) (x ∷ xs) call
-at_step e journal x xs call p rest whole true is =
-    let same : x ∷ (xs ++ Change call ∷ []) ++ p.0 ≡ Change e.call ∷ changes journal = p.1 ∙ changes_accepted e journal is in
-    let head : Change e.call ≡ x = cc (same) in
-    let tail : (xs ++ Change call ∷ []) ++ p.0 ≡ changes journal = cc (same) in
-    subst (λ (y : Item). IsCutAt (e ∷ journal) (y ∷ xs) call) head (at_accepted e journal xs call is (rest (p.0, tail)))
-at_step e journal x xs call p rest whole false is =
+at_step : (e : Entry) (journal : List Entry) (x : Item) (xs : List Item) (entry : Entry) → IsPrefix (x ∷ xs ++ Change entry ∷ []) (changes (e ∷ journal))
+    → (IsPrefix (xs ++ Change entry ∷ []) (changes journal) → IsCutAt journal xs entry) → (IsPrefix (x ∷ xs ++ Change entry ∷ []) (changes journal) → IsCutAt journal (x ∷ xs) entry)
+    → (b : Bool) → is_accepted e ≡ b → IsCutAt (e ∷ journal) (x ∷ xs) entry
+at_step e journal x xs entry p rest whole true is =
+    let same : x ∷ (xs ++ Change entry ∷ []) ++ p.0 ≡ Change e ∷ changes journal = p.1 ∙ changes_accepted e journal is in
+    let head : Change e ≡ x = cc (same) in
+    let tail : (xs ++ Change entry ∷ []) ++ p.0 ≡ changes journal = cc (same) in
+    subst (λ (y : Item). IsCutAt (e ∷ journal) (y ∷ xs) entry) head (at_accepted e journal xs entry is (rest (p.0, tail)))
+at_step e journal x xs entry p rest whole false is =
     let c = whole (p.0, p.1 ∙ changes_other e journal is) in
     record { cut = cut_other e journal (x ∷ xs) is c.cut; next = c.next }
 
-cut_at : (journal : List Entry) (xs : List Item) (call : Call) → IsPrefix (xs ++ Change call ∷ []) (changes journal) → IsCutAt journal xs call
-cut_at [] [] call p = absurd (cc (p.1))
-cut_at [] (x ∷ xs) call p = absurd (cc (p.1))
-cut_at (e ∷ journal) [] call p = at_first e journal call p (λ q. cut_at journal [] call q) (is_accepted e) refl
-cut_at (e ∷ journal) (x ∷ xs) call p = at_step e journal x xs call p (λ q. cut_at journal xs call q) (λ q. cut_at journal (x ∷ xs) call q) (is_accepted e) refl
+cut_at : (journal : List Entry) (xs : List Item) (entry : Entry) → IsPrefix (xs ++ Change entry ∷ []) (changes journal) → IsCutAt journal xs entry
+cut_at [] [] entry p = absurd (cc (p.1))
+cut_at [] (x ∷ xs) entry p = absurd (cc (p.1))
+cut_at (e ∷ journal) [] entry p = at_first e journal entry p (λ q. cut_at journal [] entry q) (is_accepted e) refl
+cut_at (e ∷ journal) (x ∷ xs) entry p = at_step e journal x xs entry p (λ q. cut_at journal xs entry q) (λ q. cut_at journal (x ∷ xs) entry q) (is_accepted e) refl
 
 -- ---- the volume at a cut
 
@@ -128,7 +129,7 @@ module _ (law : PublishedIsAfter) (opening : Volume) where
 
 module _ (law : PublishedIsAfter) (base : List ℕ) (before journal : List Entry) (p : PassState) (c : Call) (r : Reply) (legal : IsLegal (volume_of base) (before ++ entry_of p c r ∷ []))
     (whole : IsLegal (volume_of base) journal) (is_reply : IsReplyOf base (after (volume_of base) before) c r) where
-  stands_at : (cut : IsCut journal (changes before)) → (is_change c r ≡ true → BeginsWith c cut.behind) → Stands base journal c r
+  stands_at : (cut : IsCut journal (changes before)) → (is_change c r ≡ true → BeginsWith (entry_of p c r) cut.behind) → Stands base journal p c r
   stands_at cut next = record {
     before = cut.before;
     behind = cut.behind;
@@ -139,14 +140,14 @@ module _ (law : PublishedIsAfter) (base : List ℕ) (before journal : List Entry
     next = next;
   }
 
-  pub stands_in : IsPrefix (changes (before ++ entry_of p c r ∷ [])) (changes journal) → Stands base journal c r
+  pub stands_in : IsPrefix (changes (before ++ entry_of p c r ∷ [])) (changes journal) → Stands base journal p c r
   stands_in begins = by_test (is_change c r) refl
     where
-      by_test : (b : Bool) → is_change c r ≡ b → Stands base journal c r
+      by_test : (b : Bool) → is_change c r ≡ b → Stands base journal p c r
       by_test true is =
-          let grown : changes (before ++ entry_of p c r ∷ []) ≡ changes before ++ Change c ∷ [] =
+          let grown : changes (before ++ entry_of p c r ∷ []) ≡ changes before ++ Change (entry_of p c r) ∷ [] =
           changes-append before (entry_of p c r ∷ []) ∙ ap (λ (l : List Item). changes before ++ l) (changes_accepted (entry_of p c r) [] is) in
-          let at = cut_at journal (changes before) c (subst (λ (l : List Item). IsPrefix l (changes journal)) grown begins) in
+          let at = cut_at journal (changes before) (entry_of p c r) (subst (λ (l : List Item). IsPrefix l (changes journal)) grown begins) in
           stands_at at.cut (λ same. at.next)
       by_test false is =
           let same : changes (before ++ entry_of p c r ∷ []) ≡ changes before =
@@ -170,7 +171,7 @@ tail_begins x y xs ys p = (p.0, cc (p.1))
 
 pub stands : PublishedIsAfter → (book : Book) (base : List ℕ) (journal : List Entry) (covered : ℕ) (seen last : List Item) (p q : PassState) (c : Call) (r : Reply) (t : ToldState)
     → IsLegal (volume_of base) journal → IsSomeCall book base p c r t q → t.shown ≡ t.made → IsPrefix t.list seen → IsPrefix seen last → last ≡ published (volume_of base) journal covered
-    → Stands base journal c r
+    → Stands base journal p c r
 stands law book base journal covered seen last p q c r t legal made whole learned begins is =
     let opening = volume_of base in
     let before = made.0 in

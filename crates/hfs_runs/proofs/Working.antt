@@ -138,7 +138,7 @@ pub record IsEnd (opening : Volume) (journal : List Entry) (covered : ℕ) (seen
 pub stand_at : {V : Type 0} (items : V → List Call) (book : Book) (base : List ℕ) (lines : List ScriptLine) (workers : ℕ) (passes : List PassState) (jobs : List (PassState × V)) (dones : List Done)
     → AreJobs items lines workers passes jobs → AreDone items book base jobs dones → PublishedIsAfter
     → (journal : List Entry) (covered : ℕ) (seen last : List Item) → IsEnd (volume_of base) journal covered seen last dones → OfEach AreWhole dones
-    → (place : ℕ) → place < workers → AllStand base journal (calls_of (Worker (place + 1)) lines) (worker_replies dones (place + 1))
+    → (place : ℕ) → place < workers → AllStand base journal (place + 1) (calls_of (Worker (place + 1)) lines) (worker_replies dones (place + 1))
 stand_at items book base lines workers passes [] dones h done law journal covered seen last end whole place below = let no : ⊥ = omega (arith, below, h.many, h.first.many) in absurd no
 stand_at items book base lines workers passes (j ∷ jobs) [] h done law journal covered seen last end whole place below = let no : ⊥ = omega (arith, done.many) in absurd no
 stand_at items book base lines workers passes (j ∷ jobs) (d ∷ dones) h done law journal covered seen last end whole place below = λ k c r under.
@@ -149,10 +149,10 @@ stand_at items book base lines workers passes (j ∷ jobs) (d ∷ dones) h done 
     let answer : Reply × ToldState = get_or answers k (r, told_none book) in
     let calls = calls_of (Worker (place + 1)) lines in
     let w = work_at items book base lines workers passes (j ∷ jobs) (d ∷ dones) h done place below d j in
-    let one : Stands base journal (get_or calls k c) answer.0 =
+    let one : Stands base journal (pass_state (place + 1) (1 + k)) (get_or calls k c) answer.0 =
     stands law book base journal covered seen last _ _ (get_or calls k c) answer.0 answer.1 end.legal (w.each k c (r, told_none book) few)
     (whole place d within k (r, told_none book) few) (end.learned place d within k (r, told_none book) few) end.begins end.published_is in
-    subst (λ (x : Reply). Stands base journal (get_or calls k c) x)
+    subst (λ (x : Reply). Stands base journal (pass_state (place + 1) (1 + k)) (get_or calls k c) x)
     (sym (ap (λ (l : List Reply). get_or l k r) are ∙ get_or-map (λ (reply : Reply × ToldState). reply.0) answers k (r, told_none book) r few)) one
 
 -- ---- viewers

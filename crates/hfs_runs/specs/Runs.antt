@@ -107,7 +107,7 @@ pub record AreLinesRun (image : List ℕ) (lines : List ScriptLine) (volume : Im
   pub others : HasNoOthers (workers lines) journal
   pub worked : (place : ℕ) → place < workers lines → IsWorked book image (place + 1) (calls_of (Worker (place + 1)) lines) (replies (Worker (place + 1)))
   pub viewed : (place : ℕ) → place < viewers lines → IsViewedFrom book (volume_of image) (calls_of (Viewer (place + 1)) lines) (replies (Viewer (place + 1)))
-  pub stands : shown ≡ true → (place : ℕ) → place < workers lines → AllStand image journal (calls_of (Worker (place + 1)) lines) (replies (Worker (place + 1)))
+  pub stands : shown ≡ true → (place : ℕ) → place < workers lines → AllStand image journal (place + 1) (calls_of (Worker (place + 1)) lines) (replies (Worker (place + 1)))
 
 -- the same of what the program hands out
 abbrev pub AreLinesRunAs : List ℕ → List ScriptLine → Ran → Type 0

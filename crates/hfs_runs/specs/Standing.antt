@@ -1,5 +1,5 @@
 -- Where a reply stands in a journal.
-use Rattle.std.specs.Prelude.{◌≡◌, ℕ, ◌<◌, ◌&&◌, not, true, Bool, pos, List, ◌∷◌, ◌++◌, length, get_or}
+use Rattle.std.specs.Prelude.{◌≡◌, ℕ, ◌+◌, ◌<◌, ◌&&◌, not, true, Bool, pos, List, ◌∷◌, ◌++◌, length, get_or}
 use Rattle.std.specs.Ordering.{int_eq}
 use Rattle.hfs_model.specs.declared.call.Call.{Call}
 use Rattle.hfs_model.specs.declared.reply.Reply.{Reply}
@@ -7,27 +7,27 @@ use Rattle.hfs_model.specs.declared.journal.Entry.{Entry}
 use Rattle.hfs_model.specs.Step.{is_reading}
 use Rattle.hfs_model.specs.Runs.{after}
 use Rattle.hfs_check.specs.VolumeOf.{volume_of}
-use Rattle.hfs_published.specs.Journals.{is_accepted}
+use Rattle.hfs_shared.specs.Desks.{PassState, pass_state, entry_of}
 use Rattle.hfs_shared.specs.Shareds.{IsReplyOf}
 
 -- whether the reply says that the call changed the volume
 abbrev pub is_change : Call → Reply → Bool
 is_change call reply = not (is_reading call) && int_eq reply.code (pos 0)
 
--- the first of these entries is an accepted one of that call
-abbrev pub BeginsWith : Call → List Entry → Type 0
-BeginsWith call entries = (entry : Entry) × (rest : List Entry) × (entries ≡ entry ∷ rest) × (entry.call ≡ call) × (is_accepted entry ≡ true)
+-- the first of these entries is this one
+abbrev pub BeginsWith : Entry → List Entry → Type 0
+BeginsWith entry entries = (rest : List Entry) × (entries ≡ entry ∷ rest)
 
 -- the reply is the call's on an image as it may be behind some entries of the journal, and where it changed the volume, the next
--- entry is the call's
-pub record Stands (base : List ℕ) (journal : List Entry) (call : Call) (reply : Reply) : Type 0 where
+-- entry is that of this call, by its worker and number
+pub record Stands (base : List ℕ) (journal : List Entry) (pass : PassState) (call : Call) (reply : Reply) : Type 0 where
   pub before : List Entry
   pub behind : List Entry
   pub whole : before ++ behind ≡ journal
   pub reply_is : IsReplyOf base (after (volume_of base) before) call reply
-  pub next : is_change call reply ≡ true → BeginsWith call behind
+  pub next : is_change call reply ≡ true → BeginsWith (entry_of pass call reply) behind
 
--- each of these replies to the first calls stands in the journal
-abbrev pub AllStand : List ℕ → List Entry → List Call → List Reply → Type 0
-AllStand base journal calls replies =
-    (k : ℕ) (call : Call) (reply : Reply) → k < length replies → Stands base journal (get_or calls k call) (get_or replies k reply)
+-- each of these replies to the first of a worker's calls stands in the journal
+abbrev pub AllStand : List ℕ → List Entry → ℕ → List Call → List Reply → Type 0
+AllStand base journal worker calls replies =
+    (k : ℕ) (call : Call) (reply : Reply) → k < length replies → Stands base journal (pass_state worker (1 + k)) (get_or calls k call) (get_or replies k reply)

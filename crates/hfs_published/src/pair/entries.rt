@@ -31,7 +31,7 @@ impl Pair {
         if !is_accepted(entry) {
             return true;
         }
-        self.add(&entry.call)
+        self.add(entry)
     }
 }
 
