@@ -25,7 +25,6 @@ measured() {
 }
 
 git clone --quiet "$repository" "$folder/clone"
-[ ! -d "$root/../shared" ] || ln -s "$(cd "$root/../shared" && pwd)" "$folder/shared"
 RT_JOBS=$("$root/scripts/lanes.sh") python3 "$root/measure/parts.py" "$folder/clone" "$here/gate.log" "$unit"
 : > "$here/gate-scripts.log"
 cd "$folder/clone"
