@@ -33,7 +33,7 @@ share=$folder/root/usr/share
 [ "$("$collect" "$folder/disks.db" tests/volumes/hfsutils-800k.img)" = $'tests/volumes/hfsutils-800k.img\tvolumes 1\trefused 0\tfiles 7\tdamaged 0' ] ||
     fail 'what the installed hfs_collect says of a disk'
 if command -v ldd > /dev/null; then
-    others=$(ldd "$tool" "$collect" | awk '{ print $1 }' | grep -v -E '^(linux-vdso|libc|libm|libpthread|libdl|librt|libgcc_s|/lib.*ld-linux)' || true)
+    others=$(ldd "$tool" "$collect" | awk '/=>|^\t/ { print $1 }' | grep -v -E '^(linux-vdso|libc|libm|libpthread|libdl|librt|libgcc_s|/lib.*ld-linux)' || true)
     [ -z "$others" ] || fail "it needs $others"
 fi
 if command -v man > /dev/null; then
