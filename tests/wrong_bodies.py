@@ -54,6 +54,8 @@ HEADLINE = [
 SHARE = 50
 # Seconds of processor time after which --gate begins no further check of what is only due.
 SPENT = 600
+# A copy with more would be checked for minutes, and little is known until then.
+MOST_IN_A_COPY = 4
 # Seconds on the clock after which a check is killed.
 PATIENCE = 1_800
 
@@ -62,6 +64,8 @@ IMPL = re.compile(r'^impl(?:<[^>]*>)? (?:(?:\w+::)*(\w+)(?:<(?:(?:\w+::)*([A-Z]\
 CONSTANT = re.compile(r'^ *(?:pub(?:\([a-z]+\))? )?(?:const|static) (\w+)', re.M)
 ANSWER = re.compile(r'^fn (\S+): (proved|not proved|no proof)(?:: (.*))?$', re.M)
 CALLS = re.compile(r'it calls `[^`]*`(?:, `[^`]*`)*(?: and `[^`]*`)?, which (?:is|are) not proved')
+# What is said of a proof file where an edit took away a name that it has: that says nothing of the contract.
+LOST_NAME = re.compile(r'has no field|is not in scope|has no `|was not admitted')
 # The prover's own words for its limits.
 LIMIT = re.compile(r'antt ran out of (stack|the (steps|memory) that the check of one declaration may (take|use))'
                    r'|(outgrew the memory limit|stopped at the step limit) \(')
@@ -192,7 +196,7 @@ def in_batches(edits):
     """The edits in lists that each lie in one copy of a crate."""
     batches = []
     for edit in edits:
-        fit = (it for it in batches if it[0].crate == edit.crate and len(it) < 12 and all(are_apart(edit, other) for other in it))
+        fit = (it for it in batches if it[0].crate == edit.crate and len(it) < MOST_IN_A_COPY and all(are_apart(edit, other) for other in it))
         batch = next(fit, None)
         if batch is None:
             batches.append(batch := [])
@@ -276,6 +280,11 @@ class Run:
     def __init__(self, kept):
         self.kept, self.seconds, self.printing = kept, 0.0, threading.Lock()
         self.passed, self.failed = [], []
+        self.most, self.untried = None, 0
+
+    def is_spent(self):
+        """Whether the processor time is spent after which nothing more is begun."""
+        return self.most is not None and self.seconds >= self.most
 
     def check(self, batch):
         """Asks the prover about a copy of the crate with these edits; gives its status and what it said."""
@@ -303,15 +312,31 @@ class Run:
             own = [it for it in re.split(r'; (?=`?search|it calls|expected)', CALLS.sub('', why)) if it.strip(' ;')]
             if answer != 'proved' and (answer == 'not proved' or own) and (path in edit.functions or not edit.functions):
                 yield f'{path}: {answer}{": " if own else ""}{"; ".join(own)}'
+        for path in edit.functions:
+            folder = './proofs/' + '/'.join(path.split('::')[1:]) + '/'
+            for line in said.split('\n'):
+                if line.startswith(folder) and ': error' in line and not LOST_NAME.search(line):
+                    yield f'{path}: {line}'
+
+    @staticmethod
+    def only_refusal(said):
+        """What the prover said against any function of a copy with one edit alone, if it came to the proofs."""
+        lines = said.split('\n')
+        if any(re.search(r'\berror\[[\w-]+\]', it) for it in lines) or not any(it.startswith(('only=', 'logic=not-proved')) for it in lines):
+            return None
+        told = [it for it in lines if it.startswith('./proofs/') and ': error' in it and not LOST_NAME.search(it)]
+        told += [it for it in lines if re.match(r'fn \S+: (not proved|no proof)', it)]
+        return told[0] if told else None
 
     def try_batch(self, batch):
         """Tries a batch, and alone each of its edits of which the batch says nothing."""
         status, said = self.check(batch)
-        ended = said.rstrip().rpartition('\n')[2]
-        is_told = status == 1 and ended.startswith(('only=', 'logic=not-proved')) and not LIMIT.search(said)
+        is_told = status == 1 and not LIMIT.search(said)
         left = []
         for edit in batch:
             refusal = next(self.refusals(edit, said), None) if is_told else None
+            if is_told and not refusal and batch == [edit]:
+                refusal = self.only_refusal(said)
             if refusal:
                 self.kept.keep(edit, refusal[:200])
                 self.tell(edit, True, refusal)
@@ -320,7 +345,10 @@ class Run:
             else:
                 self.tell(edit, False, self.why(status, said))
         for edit in left:
-            self.try_batch([edit])
+            if self.is_spent():
+                self.untried += 1
+            else:
+                self.try_batch([edit])
 
     @staticmethod
     def why(status, said):
@@ -346,18 +374,17 @@ class Run:
                 self.passed.append(edit)
             else:
                 left.append(edit)
-        began, untried = self.seconds, 0
+        self.most = None if most is None else self.seconds + most
 
         def one(batch):
-            nonlocal untried
-            if most is not None and self.seconds - began >= most:
-                untried += len(batch)
+            if self.is_spent():
+                self.untried += len(batch)
             else:
                 self.try_batch(batch)
 
         with ThreadPoolExecutor(lanes) as pool:
             list(pool.map(one, in_batches(left)))
-        return len(edits) - len(left), untried
+        return len(edits) - len(left)
 
 
 def git(*words):
@@ -421,10 +448,10 @@ def main():
         return 2
     run, lanes, began = Run(Kept(words.anew)), int(lanes_here()), time.time()
     always, due = for_the_gate(wanted) if words.gate else (wanted, [])
-    known, _ = run.try_all(always, lanes)
-    of_due, untried = run.try_all(due, lanes, SPENT)
+    known = run.try_all(always, lanes)
+    of_due = run.try_all(due, lanes, SPENT)
     print(f'{len(run.passed) + len(run.failed) - known - of_due} tried in {time.time() - began:.0f} s, '
-          f'{run.seconds:.0f} s of processor time; {known + of_due} are kept from before; {untried} were not tried')
+          f'{run.seconds:.0f} s of processor time; {known + of_due} are kept from before; {run.untried} were not tried')
     print(f'wrong bodies: {len(run.passed)} passed, {len(run.failed) + len(lost)} failed')
     return int(bool(run.failed or lost))
 
