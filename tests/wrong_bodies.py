@@ -62,7 +62,7 @@ PATIENCE = 1_800
 FUNCTION = re.compile(r'^( *)(?:pub(?:\([a-z]+\))? )?(?:final )?(?:const )?(?:unsafe )?fn (\w+)', re.M)
 IMPL = re.compile(r'^impl(?:<[^>]*>)? (?:(?:\w+::)*(\w+)(?:<(?:(?:\w+::)*([A-Z]\w*))?[\w:<>\', ]*>)? for )?(\w+)', re.M)
 CONSTANT = re.compile(r'^ *(?:pub(?:\([a-z]+\))? )?(?:const|static) (\w+)', re.M)
-ANSWER = re.compile(r'^fn (\S+): (proved|not proved|no proof)(?:: (.*))?$', re.M)
+ANSWER = re.compile(r'^fn (\S+): (proved|not proved|no proof)(?:[:;] (.*))?$', re.M)
 CALLS = re.compile(r'it calls `[^`]*`(?:, `[^`]*`)*(?: and `[^`]*`)?, which (?:is|are) not proved')
 # What is said of a proof file where an edit took away a name that it has: that says nothing of the contract.
 LOST_NAME = re.compile(r'has no field|is not in scope|has no `|was not admitted')
