@@ -1,0 +1,23 @@
+//! Where an image's bytes are read from, each read of which may fail: what is promised of them is promised of each image that
+//! has the bytes which were read.
+#![tactic(auto)]
+
+mod blocks;
+mod file;
+mod log;
+mod memory;
+mod placed;
+mod range;
+mod reader;
+mod seeking;
+#[cfg(test)]
+mod tests;
+
+pub use crate::blocks::{BlocksOf, PlacedBlocks};
+pub use crate::file::TrustedFile;
+pub use crate::log::{ReadLog, Step};
+pub use crate::memory::MemoryBytes;
+pub use crate::placed::PlacedBytes;
+pub use crate::range::RangeBytes;
+pub use crate::reader::PlacedReader;
+pub use crate::seeking::SeekableBytes;

@@ -1,0 +1,56 @@
+//! A range of an image, as if it were the image.
+ghost use Rattle.std.specs.Prelude.{◌≡◌, ◌+◌, ◌<◌, ◌^◌, IfErr, IfOk};
+ghost use Rattle.hfs_source.specs.Images.{EndsBefore, FailsInRange, IsRangeOf, OfEach, ReachesTo};
+
+use crate::placed::PlacedBytes;
+use std::io;
+use std::io::ErrorKind;
+
+/// A range of an image's bytes, from its beginning to its end, and none beyond.
+#[derive(Drop)]
+pub struct RangeBytes<S> {
+    /// The bytes that it lies in.
+    pub bytes: S,
+    /// The byte where it begins, counted from 0.
+    pub start: u64,
+    /// How many bytes it has.
+    pub len: u64,
+    ghost few: { start + len < 2 ^ 64 },
+}
+
+impl<S: PlacedBytes> RangeBytes<S> {
+    /// The range from `start` on, of `len` bytes; or the bytes back, where it doesn't lie in them.
+    pub fn new(bytes: S, start: u64, len: u64) -> Result<RangeBytes<S>, S>
+        ensures bytes { IfOk result (λ range. range.bytes ≡ bytes) }
+        ensures range { IfOk result (λ range. (range.start ≡ start) × (range.len ≡ len)) }
+        ensures inside { IfOk result (λ _. OfEach (S.Holds bytes) (ReachesTo (start + len))) }
+        ensures refused { IfErr result (λ back. back ≡ bytes) }
+        ensures outside { IfErr result (λ _. OfEach (S.Holds bytes) (EndsBefore (start + len))) }
+    {
+        let all = bytes.len();
+        if all < start || all - start < len {
+            return Err(bytes);
+        }
+        Ok(RangeBytes { bytes, start, len })
+    }
+}
+
+impl<S: PlacedBytes> PlacedBytes for RangeBytes<S> {
+    ghost Holds = { λ range. IsRangeOf (S.Holds range.bytes) range.start range.len };
+
+    ghost Fails = { λ range. FailsInRange (S.Fails range.bytes) range.start range.len };
+
+    fn len(&self) -> u64 {
+        self.len
+    }
+
+    fn read_at(&mut self, place: u64, into: &mut [u8]) -> io::Result<()> {
+        if into.is_empty() {
+            return Ok(());
+        }
+        if self.len < place || self.len - place < into.len() as u64 {
+            return Err(io::Error::from(ErrorKind::UnexpectedEof));
+        }
+        self.bytes.read_at(self.start + place, into)
+    }
+}
