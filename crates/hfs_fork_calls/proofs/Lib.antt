@@ -1,0 +1,5 @@
+mod Tested
+mod Refusals
+mod Afterwards
+mod ForkLemmas
+mod LawsProved
