@@ -1,0 +1,6 @@
+mod PartLemmas
+mod PartSteps
+mod Puts
+mod JoinedLemmas
+mod NumberLemmas
+mod ForkLemmas

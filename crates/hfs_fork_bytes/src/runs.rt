@@ -1,0 +1,107 @@
+//! Bytes and zeros over the runs of a file's blocks.
+
+ghost use Rattle.std.specs.Prelude.{◌≡◌, ℕ, ◌+◌, ◌-◌, ◌*◌, ◌/◌, ◌%◌, ◌<◌, ◌≤◌, ◌^◌, length, min, OnOk};
+ghost use Rattle.std.specs.List.{flat_map};
+ghost use Rattle.hfs_blocks.specs.Blocks.{run_of, AreRunsWithin};
+ghost use Rattle.hfs_blocks.specs.Layers.{KeepsWithin};
+ghost use Rattle.hfs_fork_bytes.specs.Parts.{zeros};
+ghost use Rattle.hfs_fork_bytes.specs.Written.{AreBothWhole};
+ghost use Rattle.hfs_fork_bytes.specs.Written as spec;
+
+use crate::parts::put_part;
+use hfs_blocks::{Blocks, Patch, Run, block_of};
+use std::alloc::AllocError;
+
+/// Writes bytes of a file whose blocks lie in these runs, from the file's byte `at` on. They stand in one block.
+fn put_in_file<B: Blocks>(
+    below: &B,
+    patch: &mut Patch,
+    runs: &[Run],
+    at: u64,
+    part: &[u8],
+) -> Result<(), AllocError>
+    requires runs { AreRunsWithin runs.now (B.total below.now) }
+    requires different { spec.AreDifferent (flat_map run_of runs.now) }
+    requires some { 0 < length part.now }
+    requires one { at % 512 + length part.now ≤ 512 }
+    requires inside { at / 512 < length (flat_map run_of runs.now) }
+    ensures part { OnOk result (spec.HasPartOver (B.blocks below.now) (flat_map run_of runs.now)
+        at part.now patch.old patch.new) }
+    ensures beside { spec.KeepsBesideOver (B.blocks below.now) (flat_map run_of runs.now)
+        at (length part.now) patch.old patch.new }
+    ensures whole { AreBothWhole patch.old patch.new }
+    ensures within { KeepsWithin patch.old patch.new (B.total below.now) }
+{
+    let n = block_of(runs, (at / 512) as u32);
+    put_part(below, patch, n, (at % 512) as usize, part)?;
+    Ok(())
+}
+
+/// How many of so many bytes from byte `at` on stand in one block with it.
+fn in_one_block(at: u64, count: u64) -> u64
+    ensures { result ≡ min count (512 - at % 512) }
+{
+    count.min(512 - at % 512)
+}
+
+/// Writes bytes of a file whose blocks lie in these runs, from the file's byte `offset` on. Only the blocks that have one of
+/// these bytes change. At an error some of them may not be written.
+pub(crate) fn write_runs<B: Blocks>(
+    below: &B,
+    patch: &mut Patch,
+    runs: &[Run],
+    offset: u64,
+    bytes: &[u8],
+) -> Result<(), AllocError>
+    requires runs { AreRunsWithin runs.now (B.total below.now) }
+    requires different { spec.AreDifferent (flat_map run_of runs.now) }
+    requires some { 0 < length bytes.now }
+    requires fits { offset + length bytes.now ≤ 512 * length (flat_map run_of runs.now) }
+    ensures part { OnOk result (spec.HasPartOver (B.blocks below.now) (flat_map run_of runs.now)
+        offset bytes.now patch.old patch.new) }
+    ensures beside { spec.KeepsBesideOver (B.blocks below.now) (flat_map run_of runs.now)
+        offset (length bytes.now) patch.old patch.new }
+    ensures whole { OnOk result (AreBothWhole patch.old patch.new) }
+    ensures within { KeepsWithin patch.old patch.new (B.total below.now) }
+{
+    let mut done = 0;
+    while done < bytes.len() {
+        let at = offset + done as u64;
+        let more = in_one_block(at, (bytes.len() - done) as u64);
+        let end = done + more as usize;
+        put_in_file(below, patch, runs, at, &bytes[done..end])?;
+        done = end;
+    }
+    Ok(())
+}
+
+/// Writes zeros in the place of `count` bytes of a file whose blocks lie in these runs, from the file's byte `offset` on. Only
+/// the blocks that have one of these bytes change. At an error some of them may not be written.
+pub(crate) fn clear_runs<B: Blocks>(
+    below: &B,
+    patch: &mut Patch,
+    runs: &[Run],
+    offset: u64,
+    count: u64,
+) -> Result<(), AllocError>
+    requires runs { AreRunsWithin runs.now (B.total below.now) }
+    requires different { spec.AreDifferent (flat_map run_of runs.now) }
+    requires some { 0 < count }
+    requires fits { offset + count ≤ 512 * length (flat_map run_of runs.now) }
+    ensures part { OnOk result (spec.HasPartOver (B.blocks below.now) (flat_map run_of runs.now)
+        offset (zeros count) patch.old patch.new) }
+    ensures beside { spec.KeepsBesideOver (B.blocks below.now) (flat_map run_of runs.now)
+        offset count patch.old patch.new }
+    ensures whole { OnOk result (AreBothWhole patch.old patch.new) }
+    ensures within { KeepsWithin patch.old patch.new (B.total below.now) }
+{
+    let zeros = [0; 512];
+    let mut done = 0;
+    while done < count {
+        let at = offset + done;
+        let more = in_one_block(at, count - done);
+        put_in_file(below, patch, runs, at, &zeros[..more as usize])?;
+        done += more;
+    }
+    Ok(())
+}
