@@ -8,7 +8,7 @@ use Rattle.hfs_fields.specs.declared.mdb.Mdb.{Mdb}
 use Rattle.hfs_finds.specs.Finds.{found_records, found_things}
 use Rattle.hfs_names.specs.Laws.{is_bytes}
 use Rattle.hfs_places.specs.Things.{things_of}
-use Rattle.hfs_places.proofs.LawTypes.{AreThings}
+use Rattle.hfs_places.specs.Laws.{AreThings}
 use Rattle.hfs_remains.specs.Records.{namings_of, thing_of}
 use Rattle.hfs_remains.proofs.LawsProved.{found_are_things}
 use Rattle.hfs_rescue.specs.Directory.{directory_of, mdb_at}
@@ -17,7 +17,7 @@ use Rattle.hfs_rescue_items.specs.Sources.{rescued_tables}
 use Rattle.hfs_rescue_items.proofs.LawsProved.{plans_are_placed}
 use Rattle.hfs_salvage.specs.Bags.{rescued_items}
 use Rattle.hfs_salvage.proofs.JoinLemmas.{payloads-same}
-use Rattle.hfs_salvage.proofs.LawTypes.{RescuedPathsAreLawful, SoundPayloadsAreVolumes}
+use Rattle.hfs_salvage.specs.Laws.{RescuedPathsAreLawful, SoundPayloadsAreVolumes}
 
 same-directory : (x y : Mdb) → Some x ≡ Some y → x ≡ y
 same-directory x y same = cc

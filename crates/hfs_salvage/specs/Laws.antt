@@ -8,8 +8,8 @@ use Rattle.hfs_check.specs.Parts.{catalog_in, mdb_in}
 use Rattle.hfs_check.specs.Sound.{IsSound}
 use Rattle.hfs_image_items.specs.Items.{bag_items, entries_in}
 use Rattle.hfs_names.specs.Laws.{is_bytes}
-use Rattle.hfs_places.proofs.LawTypes.{AreWaysShort}
-use Rattle.hfs_remains.proofs.LawTypes.{things_in}
+use Rattle.hfs_places.specs.Laws.{AreWaysShort}
+use Rattle.hfs_remains.specs.Laws.{things_in}
 use Rattle.hfs_rescue_items.specs.declared.found.Found.{Found}
 use Rattle.hfs_scans.specs.Members.{In}
 use Rattle.hfs_shelves.specs.Entries.{ShelfEntry}
