@@ -14,4 +14,5 @@ mod PlannedItemLemmas
 mod TakeGivenLemmas
 mod RescueGivenLemmas
 mod JoinLemmas
+mod TakenPathLemmas
 pub mod LawsProved

@@ -18,6 +18,8 @@ pub use crate::answer::RescueAnswer;
 pub use crate::filling::{give_remains, rescue};
 pub use crate::held::HeldBytes;
 pub use crate::image::{HoldFault, RescuedImage};
-pub use crate::laws::{rescued_paths_are_lawful, sound_payloads_are_volumes};
+pub use crate::laws::{
+    rescued_paths_are_lawful, sound_payloads_are_volumes, taken_paths_are_lawful,
+};
 pub use crate::listing::{list_rescue, write_remains};
 pub use crate::words::{BagWords, RescueWords};
