@@ -1,8 +1,8 @@
 //! The values of arguments.
 
-ghost use Rattle.std.specs.Prelude.{◌≡◌, true, ℕ, List, [], None, Some, Ok, IfOk, IsErr, MatchResult, map, option_map};
+ghost use Rattle.std.specs.Prelude.{◌≡◌, ◌≢◌, ℕ, List, [], None, Some, Ok, IfOk, IsErr, MatchBool, MatchResult, map, option_map};
 ghost use Rattle.std.specs.Option.{option_map_or};
-ghost use Rattle.std.specs.Str.Parse.{digits_value, true_text, without_leading_plus};
+ghost use Rattle.std.specs.Str.Parse.{digits_value, false_text, true_text, without_leading_plus};
 ghost use Rattle.clap.specs.Matches.{first_value, found_of, matched_of, one_text, raw_values};
 
 use crate::words::Argument;
@@ -73,11 +73,14 @@ impl Argument {
         }
     }
 
-    /// Whether an option without a value is given.
+    /// Whether an option without a value is given. `NoValue` where clap has neither of the two texts of it.
     pub fn is_given(&self, matches: &ArgMatches<'_>) -> Result<bool, NoValue>
-        ensures none { one_text (found_of matches.now) self.now.name.now ≡ None → IsErr result }
-        ensures given { IfOk result (λ is_given. is_given ≡ true
-            → one_text (found_of matches.now) self.now.name.now ≡ Some true_text) }
+        ensures { MatchResult result
+            (λ is_given. MatchBool is_given
+                (one_text (found_of matches.now) self.now.name.now ≡ Some true_text)
+                (one_text (found_of matches.now) self.now.name.now ≡ Some false_text))
+            (λ missing. (one_text (found_of matches.now) self.now.name.now ≢ Some true_text)
+                × (one_text (found_of matches.now) self.now.name.now ≢ Some false_text)) }
     {
         match matches.get_one::<bool>(self.name) {
             Some(is_given) => Ok(is_given),

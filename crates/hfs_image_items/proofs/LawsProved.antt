@@ -1,6 +1,6 @@
 -- Laws of this crate, each by the laws that it stands on.
 use Rattle.hfs_image_items.proofs.PlacedLemmas.{items-placed}
-use Rattle.hfs_image_items.proofs.LawTypes.{ItemsArePlaced}
+use Rattle.hfs_image_items.specs.Laws.{ItemsArePlaced}
 
 -- The law of paths: the items of a lawful volume, each as a bag has it, have plain names and paths of their own, also without regard to case.
 -- So no path in the bag of such a volume leads out of it, and all differ (`bag_path_laws` of `hfs_bag`).

@@ -7,4 +7,3 @@ pub mod PlainNames
 pub mod PlacedLemmas
 pub mod StateLemmas
 pub mod LawsProved
-pub mod LawTypes

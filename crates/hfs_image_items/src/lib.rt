@@ -3,6 +3,7 @@
 
 mod fork_reading;
 mod items;
+mod laws;
 mod paths;
 mod piece;
 mod pieces;
@@ -11,4 +12,5 @@ mod table_reading;
 mod watch;
 
 pub use crate::items::ImageItems;
+pub use crate::laws::items_are_placed;
 pub use crate::watch::Watch;

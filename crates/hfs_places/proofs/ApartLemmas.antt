@@ -18,7 +18,7 @@ use Rattle.hfs_places.specs.Paths.{entry_at}
 use Rattle.hfs_places.proofs.CaseLemmas.{lowered-alike, folded-decimal}
 use Rattle.hfs_places.proofs.SlashLemmas.{has-slash, no-slash-appended, no-slash-safe, no-slash-decimal}
 use Rattle.hfs_places.proofs.MarkLemmas.{is-marker, before-mark, begins, cut-whole, cut-marked, begins-appended, unmarked-begins, unmarked-host}
-use Rattle.hfs_places.proofs.LawTypes.{IsThing, AreThings}
+use Rattle.hfs_places.specs.Laws.{IsThing, AreThings}
 use Rattle.hfs_places.proofs.LawLemmas.{behind-at}
 use Rattle.hfs_places.proofs.NamedLemmas.{AreNamedOnce}
 

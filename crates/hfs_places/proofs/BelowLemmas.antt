@@ -12,7 +12,7 @@ use Rattle.hfs_places.specs.Paths.{entry_at, is_folder_at, within, lost_at, path
 use Rattle.hfs_places.proofs.PathLemmas.{up-is}
 use Rattle.hfs_places.proofs.SlashLemmas.{has-slash, before-last, no-slash-decimal, before-joined, before-more, starts-slash, starts-whole, starts-joined}
 use Rattle.hfs_places.proofs.MarkLemmas.{begins, begins-appended}
-use Rattle.hfs_places.proofs.LawTypes.{AreThings, LieInFolders}
+use Rattle.hfs_places.specs.Laws.{AreThings, LieInFolders}
 use Rattle.hfs_places.proofs.NamedLemmas.{AreNamedOnce}
 use Rattle.hfs_places.proofs.ApartLemmas.{entry-slash}
 use Rattle.hfs_places.proofs.PlaceLemmas.{Lies, top, alone, inner, lies, by-paths, shorter, lost-folder, few-parent, looks-top, looks-lost, looks-inner, no-slash-joined, not-lost, not-lost-folder, not-old, path-some, one-path, folded-front}

@@ -7,7 +7,7 @@ use Rattle.hfs_fields.specs.Order.{fold_letter, folded}
 use Rattle.hfs_places.specs.declared.things.Thing.{Thing}
 use Rattle.hfs_places.proofs.CaseLemmas.{stays}
 use Rattle.hfs_places.proofs.SlashLemmas.{has-slash, before-last, behind-last, slash-joined, before-joined, behind-joined}
-use Rattle.hfs_places.proofs.LawTypes.{HaveOwnPlaces, HaveOwnDoubles, LeadsDown, double_of}
+use Rattle.hfs_places.specs.Laws.{HaveOwnPlaces, HaveOwnDoubles, LeadsDown, double_of}
 
 -- ---- characters that have no case
 

@@ -18,7 +18,7 @@ use Rattle.hfs_places.specs.Entries.{suffix}
 use Rattle.hfs_places.specs.Paths.{entry_at, lost, lost_at, within, path, root_of, front_of, payload_path}
 use Rattle.hfs_places.proofs.PathLemmas.{up-is}
 use Rattle.hfs_places.proofs.CaseLemmas.{is-digit, digit-range, decimal-digits}
-use Rattle.hfs_places.proofs.LawTypes.{IsThing, AreThings, LeadsDown, LeadDown}
+use Rattle.hfs_places.specs.Laws.{IsThing, AreThings, LeadsDown, LeadDown}
 use Rattle.hfs_places.proofs.ApartLemmas.{host-at, is-again, entry-forms, some-text}
 use Rattle.hfs_places.proofs.PlaceLemmas.{Lies, top, alone, inner, lies, by-paths, shorter}
 

@@ -12,7 +12,7 @@ use Rattle.hfs_places.proofs.PathLemmas.{up-is}
 use Rattle.hfs_places.proofs.CaseLemmas.{folded-decimal, stays}
 use Rattle.hfs_places.proofs.SlashLemmas.{has-slash, before-last, no-slash-decimal, slash-parts}
 use Rattle.hfs_places.proofs.MarkLemmas.{begins}
-use Rattle.hfs_places.proofs.LawTypes.{AreThings, EndsThere, HaveOwnFolders, IsOver}
+use Rattle.hfs_places.specs.Laws.{AreThings, EndsThere, HaveOwnFolders, IsOver}
 use Rattle.hfs_places.proofs.NamedLemmas.{AreNamedOnce}
 use Rattle.hfs_places.proofs.ApartLemmas.{entry-slash}
 use Rattle.hfs_places.proofs.PlaceLemmas.{Lies, top, alone, inner, lies, by-paths, shorter, lost-folder, few-parent, no-slash-joined, not-lost, not-lost-folder, not-old, one-path}

@@ -12,7 +12,7 @@ use Rattle.hfs_places.specs.Folders.{thing_at}
 use Rattle.hfs_places.specs.Entries.{suffix, entry_row, has_entry_row, entry_behind, entries_behind, entries_of}
 use Rattle.hfs_places.specs.Chains.{place_at, ups_of, is_endless}
 use Rattle.hfs_places.specs.Paths.{entry_at, is_folder_at, lost, lost_at, within, is_cut, path_by, path}
-use Rattle.hfs_places.proofs.LawTypes.{IsThing, AreThings, ArePathsShort, PathsAreShort}
+use Rattle.hfs_places.specs.Laws.{IsThing, AreThings, ArePathsShort, PathsAreShort}
 use Rattle.hfs_places.proofs.PathLemmas.{path-is, up-is}
 
 -- ---- entries

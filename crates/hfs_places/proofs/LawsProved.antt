@@ -1,6 +1,6 @@
 -- Laws of this crate, each by the laws that it stands on.
 use Rattle.hfs_places.proofs.LawLemmas.{paths-short}
-use Rattle.hfs_places.proofs.LawTypes.{FoldersAreThings, PathsAreHostPaths, PathsAreShort, PlacesDiffer}
+use Rattle.hfs_places.specs.Laws.{FoldersAreThings, PathsAreHostPaths, PathsAreShort, PlacesDiffer}
 use Rattle.hfs_places.proofs.NamedLemmas.{named-once}
 use Rattle.hfs_places.proofs.PlaceLemmas.{own-places}
 use Rattle.hfs_places.proofs.BelowLemmas.{in-folders}

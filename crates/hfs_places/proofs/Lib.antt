@@ -4,7 +4,6 @@ pub mod EntryLemmas
 pub mod ChainLemmas
 pub mod PathLemmas
 pub mod RowLemmas
-pub mod LawTypes
 pub mod LawLemmas
 mod CaseLemmas
 mod SlashLemmas

@@ -7,7 +7,7 @@ use Rattle.std.proofs.lemmas.List.{get_or_push, get_or_append_left, length_push}
 use Rattle.hfs_places.specs.declared.things.Thing.{Thing}
 use Rattle.hfs_places.specs.Folders.{thing_at, nothing, is_folder_of, place_of}
 use Rattle.hfs_places.specs.Things.{is_taken, with_numbered, with_named, named_behind, things_of}
-use Rattle.hfs_places.proofs.LawTypes.{AreItems}
+use Rattle.hfs_places.specs.Laws.{AreItems}
 
 -- each folder that only a thread names has a number, and no other such folder has it
 pub record AreNamedOnce (things : List Thing) : Type 0 where

@@ -7,7 +7,7 @@ use Rattle.hfs_places.proofs.SlashLemmas.{has-slash, slash-joined, starts-slash,
 use Rattle.hfs_places.proofs.ApartLemmas.{some-text}
 use Rattle.hfs_places.proofs.DoubleLemmas.{no-slash-by, slashed}
 use Rattle.hfs_places.proofs.FolderTextLemmas.{Parted, parted, slash-folded}
-use Rattle.hfs_places.proofs.LawTypes.{EndsThere, LeadsDown}
+use Rattle.hfs_places.specs.Laws.{EndsThere, LeadsDown}
 
 no-safe-slash : (text : List ℕ) → IsSafe text → has-slash text ≡ false
 no-safe-slash text safe = sym (slash-folded text) ∙ no-slash-by text safe.no_slash

@@ -15,7 +15,7 @@ use Rattle.hfs_places.proofs.PathLemmas.{path-top, path-inner, up-is, above-numb
 use Rattle.hfs_places.proofs.CaseLemmas.{folded-decimal}
 use Rattle.hfs_places.proofs.SlashLemmas.{has-slash, before-last, behind-last, slash-joined, no-slash-decimal, before-joined, behind-joined}
 use Rattle.hfs_places.proofs.MarkLemmas.{begins, begins-appended}
-use Rattle.hfs_places.proofs.LawTypes.{AreThings, HaveOwnPlaces}
+use Rattle.hfs_places.specs.Laws.{AreThings, HaveOwnPlaces}
 use Rattle.hfs_places.proofs.LawLemmas.{length-within}
 use Rattle.hfs_places.proofs.NamedLemmas.{AreNamedOnce}
 use Rattle.hfs_places.proofs.ApartLemmas.{entry-slash, entry-begins, entry-some, entries-one}

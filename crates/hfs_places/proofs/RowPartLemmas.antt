@@ -14,7 +14,7 @@ use Rattle.hfs_places.specs.declared.things.Thing.{Thing}
 use Rattle.hfs_places.specs.Entries.{entry_row}
 use Rattle.hfs_places.proofs.CaseLemmas.{stays, is-digit, digit-range, decimal-digits}
 use Rattle.hfs_places.proofs.SlashLemmas.{has-slash, slash-parts, before-last, behind-last, no-slash-safe, before-joined, behind-joined}
-use Rattle.hfs_places.proofs.LawTypes.{IsThing}
+use Rattle.hfs_places.specs.Laws.{IsThing}
 
 -- ---- lower case
 

@@ -12,7 +12,7 @@ use Rattle.hfs_places.specs.Paths.{path, within}
 use Rattle.hfs_places.proofs.PathLemmas.{up-is}
 use Rattle.hfs_places.proofs.SlashLemmas.{has-slash, before-last, before-joined, before-more, no-slash-safe, slash-joined}
 use Rattle.hfs_places.proofs.WayLemmas.{more-names, one-name, turned, way-path}
-use Rattle.hfs_places.proofs.LawTypes.{AreThings, AreWaysShort, FoldersAreThings, HasWay, HaveOwnNames, IsFolderOnWay}
+use Rattle.hfs_places.specs.Laws.{AreThings, AreWaysShort, FoldersAreThings, HasWay, HaveOwnNames, IsFolderOnWay}
 
 module _ (things : List Thing) (are : AreThings things) (own : HaveOwnNames things) (short : AreWaysShort things) where
   plain : (i : ℕ) → i < length things → has-slash (host_name (thing_at things i).name) ≡ false

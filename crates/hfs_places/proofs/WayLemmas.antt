@@ -15,7 +15,7 @@ use Rattle.hfs_places.specs.Chains.{place_at, ups_of, steps, is_endless}
 use Rattle.hfs_places.specs.Paths.{entry_at, is_folder_at, lost_at, within, path}
 use Rattle.hfs_places.proofs.ChainLemmas.{steps-suc, steps-add, steps-none, up-of}
 use Rattle.hfs_places.proofs.PathLemmas.{path-top, path-inner, up-is}
-use Rattle.hfs_places.proofs.LawTypes.{AreThings, HasWay, HaveOwnNames, AreWaysShort, PathsAreHostPaths}
+use Rattle.hfs_places.specs.Laws.{AreThings, HasWay, HaveOwnNames, AreWaysShort, PathsAreHostPaths}
 use Rattle.hfs_places.proofs.LawLemmas.{length-within}
 use Rattle.hfs_places.proofs.ApartLemmas.{entry-forms, some-text}
 

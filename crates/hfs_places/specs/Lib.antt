@@ -4,3 +4,4 @@ pub mod Things
 pub mod Entries
 pub mod Chains
 pub mod Paths
+pub mod Laws

@@ -3,6 +3,7 @@
 
 mod chains;
 mod entries;
+mod laws;
 mod numbers;
 mod paths;
 mod places;
@@ -10,5 +11,6 @@ mod rows;
 mod things;
 
 pub use chains::doubled;
+pub use laws::{folders_are_things, paths_are_host_paths, paths_are_short, places_differ};
 pub use places::Places;
 pub use things::Thing;

@@ -3,7 +3,7 @@ use Rattle.std.proofs.Common.{map}
 use Rattle.hfs_blocks.specs.Blocks.{block_at, block_count}
 use Rattle.hfs_places.proofs.LawsProved.{places_differ}
 use Rattle.hfs_remains.specs.Records.{thing_of, namings_of}
-use Rattle.hfs_remains.proofs.LawTypes.{ForksAreTheirBlocks, FoundAreThings, RecordsHaveOwnPlaces, SoundAreThings, SoundForksAreTaken, SoundForksAreWhole, SoundItemsHaveWays, SoundNamesAreOwn, SoundPathsAreHostPaths, SoundThingsAreItems}
+use Rattle.hfs_remains.specs.Laws.{ForksAreTheirBlocks, FoundAreThings, RecordsHaveOwnPlaces, SoundAreThings, SoundForksAreTaken, SoundForksAreWhole, SoundItemsHaveWays, SoundNamesAreOwn, SoundPathsAreHostPaths, SoundThingsAreItems}
 use Rattle.hfs_remains.proofs.ReadThingLemmas.{found-are-things, sound-are-things}
 use Rattle.hfs_remains.proofs.SoundPathLemmas.{sound-paths}
 use Rattle.hfs_remains.proofs.SoundWayLemmas.{ways-are}

@@ -6,7 +6,6 @@ mod BlockLemmas
 mod ShareLemmas
 pub mod ForkByteLemmas
 mod NamingLemmas
-pub mod LawTypes
 mod SameLemmas
 mod FrontLemmas
 mod WholeForkLemmas

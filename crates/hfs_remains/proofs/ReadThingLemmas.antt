@@ -21,16 +21,16 @@ use Rattle.hfs_rescue.specs.Remains.{remaining_records}
 use Rattle.hfs_rescue.specs.declared.catalog.FoundRecord.{FoundRecord}
 use Rattle.hfs_rescue.proofs.ByteLemmas.{block-bytes, cons-bytes, name-bytes, name-short, no-bytes, number-small, take-bytes}
 use Rattle.hfs_rescue.proofs.CountLemmas.{less-one, one, count-cons, without}
-use Rattle.hfs_rescue.proofs.LawTypes.{AreBytes, IsReadDirectory, IsReadRecord}
+use Rattle.hfs_rescue.specs.Laws.{AreBytes, IsReadDirectory, IsReadRecord}
 use Rattle.hfs_rescue.proofs.LawsProved.{directories_are_read, items_are_counted, records_are_read, sound_catalog_is_found, sound_items_are_found}
 use Rattle.hfs_rescue.proofs.ReadLemmas.{items-each}
 use Rattle.hfs_places.specs.declared.things.Thing.{Thing}
 use Rattle.hfs_places.specs.Folders.{is_folder_of, nothing, place_of}
 use Rattle.hfs_places.specs.Things.{is_taken, named_behind, things_of, with_named, with_numbered}
 use Rattle.hfs_places.proofs.FolderLemmas.{place_of-push}
-use Rattle.hfs_places.proofs.LawTypes.{AreThings, IsThing}
+use Rattle.hfs_places.specs.Laws.{AreThings, IsThing}
 use Rattle.hfs_remains.specs.Records.{folder_number, named_by, names_folder, naming, namings_of, thing_of}
-use Rattle.hfs_remains.proofs.LawTypes.{FoundAreThings, SoundAreThings}
+use Rattle.hfs_remains.specs.Laws.{FoundAreThings, SoundAreThings}
 use Rattle.hfs_remains.proofs.SoundThingLemmas.{things-are}
 
 -- ---- bytes, one by one and as a test of a list

@@ -8,12 +8,12 @@ use Rattle.hfs_space.specs.Extents.{Overflow, extent_blocks}
 use Rattle.hfs_rescue.specs.Allocation.{is_there}
 use Rattle.hfs_rescue.specs.TreeFiles.{FileBlocks}
 use Rattle.hfs_rescue.specs.declared.catalog.FoundRecord.{FoundRecord}
-use Rattle.hfs_places.proofs.LawTypes.{AreItems}
+use Rattle.hfs_places.specs.Laws.{AreItems}
 use Rattle.hfs_remains.specs.declared.forks.Fork.{Fork}
 use Rattle.hfs_remains.specs.Records.{thing_of}
 use Rattle.hfs_remains.specs.Forks.{blocks_for, fork_blocks, there, fork_places, fork_length, missing_in}
 use Rattle.hfs_remains.specs.ForkBytes.{place_bytes}
-use Rattle.hfs_remains.proofs.LawTypes.{AgreeOnBlocks, AgreeOnFork, AgreeOnBytes, IsSameFork, ForksAreTheirBlocks, taken_bytes}
+use Rattle.hfs_remains.specs.Laws.{AgreeOnBlocks, AgreeOnFork, AgreeOnBytes, IsSameFork, ForksAreTheirBlocks, taken_bytes}
 
 module _ (total : ℕ) (one other : Mdb) (blocks : AgreeOnBlocks one other) where
   there-same : (b : ℕ) → there total one b ≡ there total other b

@@ -13,7 +13,7 @@ use Rattle.hfs_places.specs.Paths.{path, is_root, root_of, payload_path}
 use Rattle.hfs_places.proofs.FolderLemmas.{position-holds}
 use Rattle.hfs_places.proofs.LawsProved.{paths_are_host_paths}
 use Rattle.hfs_remains.specs.Records.{thing_of}
-use Rattle.hfs_remains.proofs.LawTypes.{things_in, SoundPathsAreHostPaths}
+use Rattle.hfs_remains.specs.Laws.{things_in, SoundPathsAreHostPaths}
 use Rattle.hfs_remains.proofs.ReadThingLemmas.{sound-are-things}
 use Rattle.hfs_remains.proofs.SoundThingLemmas.{things-are, names-own}
 

@@ -29,10 +29,10 @@ use Rattle.hfs_places.specs.declared.things.Thing.{Thing}
 use Rattle.hfs_places.specs.Folders.{thing_at, is_folder_of, place_of}
 use Rattle.hfs_places.specs.Things.{is_taken, named_behind}
 use Rattle.hfs_places.specs.Entries.{entry_row, has_entry_row}
-use Rattle.hfs_places.proofs.LawTypes.{AreThings, HaveOwnNames, IsThing}
+use Rattle.hfs_places.specs.Laws.{AreThings, HaveOwnNames, IsThing}
 use Rattle.hfs_places.proofs.RowPartLemmas.{rows-part}
 use Rattle.hfs_remains.specs.Records.{folder_number, thing_of, names_folder, named_by, namings_of}
-use Rattle.hfs_remains.proofs.LawTypes.{SoundThingsAreItems, things_in}
+use Rattle.hfs_remains.specs.Laws.{SoundThingsAreItems, things_in}
 
 -- ---- each folder that a thread names has an item
 

@@ -21,9 +21,9 @@ use Rattle.hfs_places.specs.Things.{folder_of}
 use Rattle.hfs_places.specs.Chains.{place_at, ups_of}
 use Rattle.hfs_places.proofs.ChainLemmas.{up-of}
 use Rattle.hfs_places.proofs.PathLemmas.{above-is, above-number}
-use Rattle.hfs_places.proofs.LawTypes.{HasWay}
+use Rattle.hfs_places.specs.Laws.{HasWay}
 use Rattle.hfs_remains.specs.Records.{folder_number, thing_of}
-use Rattle.hfs_remains.proofs.LawTypes.{things_in, HasSomeWay, SoundItemsHaveWays}
+use Rattle.hfs_remains.specs.Laws.{things_in, HasSomeWay, SoundItemsHaveWays}
 use Rattle.hfs_remains.proofs.SoundThingLemmas.{at-item, each-kept, folder-there}
 
 -- ---- the items of a catalog

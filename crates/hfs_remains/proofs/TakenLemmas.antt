@@ -26,7 +26,7 @@ use Rattle.hfs_remains.specs.declared.shares.FileShares.{FileShares}
 use Rattle.hfs_remains.specs.Forks.{both_forks, fork_length, fork_of}
 use Rattle.hfs_remains.specs.Verdicts.{item_shares, room_behind, room_behind_item, shares_of}
 use Rattle.hfs_remains.proofs.BlockLemmas.{blocks-counted}
-use Rattle.hfs_remains.proofs.LawTypes.{SoundForksAreTaken, whole_shares}
+use Rattle.hfs_remains.specs.Laws.{SoundForksAreTaken, whole_shares}
 
 -- ---- where there is room for all
 

@@ -30,7 +30,7 @@ use Rattle.hfs_remains.specs.Forks.{blocks_for, fork_blocks, there, fork_places,
 use Rattle.hfs_remains.proofs.BlockLemmas.{blocks-counted}
 use Rattle.hfs_remains.proofs.FrontLemmas.{front-same}
 use Rattle.hfs_remains.specs.ForkBytes.{filled, place_bytes}
-use Rattle.hfs_remains.proofs.LawTypes.{HasBlocks, IsWholeFork, SoundForksAreWhole, taken_bytes}
+use Rattle.hfs_remains.specs.Laws.{HasBlocks, IsWholeFork, SoundForksAreWhole, taken_bytes}
 
 -- ---- blocks that are all there
 

@@ -4,3 +4,4 @@ pub mod Forks
 pub mod Owners
 pub mod Verdicts
 pub mod ForkBytes
+pub mod Laws

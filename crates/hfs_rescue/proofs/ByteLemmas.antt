@@ -19,7 +19,7 @@ use Rattle.hfs_btree.specs.Tree.{pair_of, records_of}
 use Rattle.hfs_catalog.specs.Tree.{cat_keys}
 use Rattle.hfs_rescue.specs.CatalogRecords.{found}
 use Rattle.hfs_rescue.specs.LeafRecords.{is_leaf, leaf_records}
-use Rattle.hfs_rescue.proofs.LawTypes.{AreBytes, IsReadRecord}
+use Rattle.hfs_rescue.specs.Laws.{AreBytes, IsReadRecord}
 
 -- what holds of anything holds of each element
 pub each-any : {X : Type 0} (P : X → Type 0) (xs : List X) → ((x : X) → P x) → Each P xs

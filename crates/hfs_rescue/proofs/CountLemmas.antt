@@ -32,7 +32,7 @@ use Rattle.hfs_rescue.specs.TreeFiles.{FileBlocks, file_blocks, first_there}
 use Rattle.hfs_rescue.specs.CatalogRecords.{catalog_nodes, catalog_records, found, found_in_tree, found_of, is_catalog_body, is_catalog_tree_right, is_node_block, scattered_records}
 use Rattle.hfs_rescue.specs.Remains.{catalog_file_extents}
 use Rattle.hfs_rescue.specs.Items.{is_named_item, items_of}
-use Rattle.hfs_rescue.proofs.LawTypes.{AreBytes, DirectoriesAreRead, IsReadDirectory, ItemsAreCounted, others}
+use Rattle.hfs_rescue.specs.Laws.{AreBytes, DirectoriesAreRead, IsReadDirectory, ItemsAreCounted, others}
 use Rattle.hfs_rescue.proofs.ByteLemmas.{block-bytes, no-bytes, number-small, take-bytes}
 use Rattle.hfs_rescue.proofs.FewLemmas.{items-few}
 use Rattle.hfs_rescue.proofs.ReadLemmas.{nodes-bytes, store-bytes}

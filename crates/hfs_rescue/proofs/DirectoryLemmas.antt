@@ -34,7 +34,7 @@ use Rattle.hfs_check.proofs.LawsProved.{no_length_fault}
 use Rattle.hfs_rescue.specs.Allocation.{start_of, is_there}
 use Rattle.hfs_rescue.specs.Directory.{is_header, begins_with, tree_begins, serves, directory_in, directory_of, all_places}
 use Rattle.hfs_rescue.specs.declared.directory.Beginning.TheVariants.{Both, Catalog, Neither}
-use Rattle.hfs_rescue.proofs.LawTypes.{SoundDirectoryIsFound}
+use Rattle.hfs_rescue.specs.Laws.{SoundDirectoryIsFound}
 use Rattle.hfs_rescue.proofs.WholeLemmas.{there-below}
 
 abbrev has-blocks : Extent → Bool

@@ -17,7 +17,7 @@ use Rattle.hfs_rescue.specs.CatalogRecords.{is_catalog_record, is_catalog_body, 
 use Rattle.hfs_rescue.specs.Items.{is_named_item, is_next_item, with_next, items_behind, items_of}
 use Rattle.hfs_rescue.specs.declared.leaf_records.LeafRecord.{LeafRecord}
 use Rattle.hfs_rescue.specs.declared.catalog.FoundRecord.{FoundRecord}
-use Rattle.hfs_rescue.proofs.LawTypes.{items_among, BlocksHaveFewItems}
+use Rattle.hfs_rescue.specs.Laws.{items_among, BlocksHaveFewItems}
 
 pub among-append : (first second : List FoundRecord) → items_among (first ++ second) ≡ items_among first + items_among second
 among-append first second = sum_by-append (λ r. cond (is_named_item r) 1 0) first second

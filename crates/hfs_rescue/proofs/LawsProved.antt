@@ -1,5 +1,5 @@
 -- Laws of this crate, each by the laws that it stands on.
-use Rattle.hfs_rescue.proofs.LawTypes.{BlocksHaveFewItems, DirectoriesAreRead, ItemsAreCounted, ItemsAreFew, RecordsAreRead, SoundDirectoryIsFound, SoundOverflowIsFound, SoundCatalogIsFound, SoundItemsAreFound}
+use Rattle.hfs_rescue.specs.Laws.{BlocksHaveFewItems, DirectoriesAreRead, ItemsAreCounted, ItemsAreFew, RecordsAreRead, SoundDirectoryIsFound, SoundOverflowIsFound, SoundCatalogIsFound, SoundItemsAreFound}
 use Rattle.hfs_rescue.proofs.FewLemmas.{blocks-few}
 use Rattle.hfs_rescue.proofs.SumLemmas.{scattered-few}
 use Rattle.hfs_rescue.proofs.CountLemmas.{directories-read, items-counted}

@@ -7,7 +7,6 @@ pub mod StepLemmas
 pub mod ForkLemmas
 pub mod RightLemmas
 pub mod ItemLemmas
-pub mod LawTypes
 pub mod ByteLemmas
 pub mod ReadLemmas
 mod FewLemmas

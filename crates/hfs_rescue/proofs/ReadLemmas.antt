@@ -27,7 +27,7 @@ use Rattle.hfs_rescue.specs.Remains.{catalog_file_blocks, catalog_file_extents}
 use Rattle.hfs_rescue.specs.Items.{is_next_item, items_behind, with_next}
 use Rattle.hfs_rescue.specs.declared.catalog.FoundRecord.{FoundRecord}
 use Rattle.hfs_rescue.specs.declared.leaf_records.LeafRecord.{LeafRecord}
-use Rattle.hfs_rescue.proofs.LawTypes.{AreBytes, IsReadRecord, RecordsAreRead}
+use Rattle.hfs_rescue.specs.Laws.{AreBytes, IsReadRecord, RecordsAreRead}
 use Rattle.hfs_rescue.proofs.RightLemmas.{catalog-shaped}
 use Rattle.hfs_rescue.proofs.ByteLemmas.{each-any, leaf-bytes, no-bytes, node-bytes, record-read, zero-bytes}
 

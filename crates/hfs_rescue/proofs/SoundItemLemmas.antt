@@ -17,7 +17,7 @@ use Rattle.hfs_check.specs.Parts.{catalog_in}
 use Rattle.hfs_rescue.specs.CatalogRecords.{found}
 use Rattle.hfs_rescue.specs.Items.{written, is_written, has_item, is_next_item, with_next, items_behind, items_of}
 use Rattle.hfs_rescue.specs.declared.catalog.FoundRecord.{FoundRecord}
-use Rattle.hfs_rescue.proofs.LawTypes.{SoundItemsAreFound}
+use Rattle.hfs_rescue.specs.Laws.{SoundItemsAreFound}
 use Rattle.hfs_rescue.proofs.SoundLemmas.{records-are}
 
 -- what is written as another has the same ID

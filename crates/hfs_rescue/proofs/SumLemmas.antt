@@ -21,7 +21,7 @@ use Rattle.hfs_rescue.specs.CatalogRecords.{is_catalog_record, found_in, found_i
 use Rattle.hfs_rescue.specs.Items.{items_of}
 use Rattle.hfs_rescue.specs.declared.leaf_records.LeafRecord.{LeafRecord}
 use Rattle.hfs_rescue.specs.declared.catalog.FoundRecord.{FoundRecord}
-use Rattle.hfs_rescue.proofs.LawTypes.{items_among, others, ItemsAreFew}
+use Rattle.hfs_rescue.specs.Laws.{items_among, others, ItemsAreFew}
 use Rattle.hfs_rescue.proofs.FewLemmas.{among-append, blocks-few, items-few}
 use Rattle.hfs_rescue.proofs.LeafLemmas.{place-of}
 use Rattle.hfs_rescue.proofs.NodeLemmas.{length-nodes, node_in-missing, node_of-node_at}

@@ -7,3 +7,4 @@ pub mod OverflowRecords
 pub mod CatalogRecords
 pub mod Remains
 pub mod Items
+pub mod Laws

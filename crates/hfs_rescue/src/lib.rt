@@ -7,6 +7,7 @@ mod directory;
 mod fork_extents;
 mod in_use;
 mod items;
+mod laws;
 mod leaf_records;
 mod nodes;
 mod overflow;
@@ -25,6 +26,11 @@ pub use directory::{
 pub use fork_extents::catalog_extents;
 pub use in_use::NodesInUse;
 pub use items::items_of;
+pub use laws::{
+    blocks_have_few_items, directories_are_read, items_are_counted, items_are_few,
+    records_are_read, sound_catalog_is_found, sound_directory_is_found, sound_items_are_found,
+    sound_overflow_is_found,
+};
 pub use leaf_records::{LeafRecord, all_leaf_records};
 pub use nodes::{FileNodes, FirstNodes};
 pub use overflow::{OverflowRecord, is_extents_tree_right, overflow_records};

@@ -3,7 +3,7 @@ use Rattle.std.specs.Prelude.{◌≡◌, ℕ, ◌<◌, Bool, true, List, map, le
 use Rattle.hfs_bag.specs.declared.item.BagKind.{BagKind}
 use Rattle.hfs_bag.specs.Laws.{ArePlaced}
 use Rattle.hfs_places.specs.Things.{things_of}
-use Rattle.hfs_places.proofs.LawTypes.{AreThings}
+use Rattle.hfs_places.specs.Laws.{AreThings}
 use Rattle.hfs_remains.specs.Records.{namings_of, thing_of}
 use Rattle.hfs_rescue.specs.declared.catalog.FoundRecord.{FoundRecord}
 use Rattle.hfs_scans.specs.Members.{In}

@@ -11,7 +11,7 @@ use Rattle.std.proofs.lemmas.Slice.Eq.{bytes_eq-Decides}
 use Rattle.hfs_bag.specs.declared.item.BagKind.{BagKind}
 use Rattle.hfs_bag.specs.declared.item.BagKind.TheVariants as bag
 use Rattle.hfs_fields.specs.Records.{is_dir}
-use Rattle.hfs_places.proofs.LawTypes.{EndsThere}
+use Rattle.hfs_places.specs.Laws.{EndsThere}
 use Rattle.hfs_remains.specs.declared.shares.FileShares.{FileShares}
 use Rattle.hfs_remains.specs.Verdicts.{shares_at}
 use Rattle.hfs_rescue.specs.declared.catalog.FoundRecord.{FoundRecord}

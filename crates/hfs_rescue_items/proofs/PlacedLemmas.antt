@@ -17,7 +17,7 @@ use Rattle.hfs_places.specs.declared.things.Thing.{Thing}
 use Rattle.hfs_places.specs.Folders.{nothing, thing_at}
 use Rattle.hfs_places.specs.Paths.{is_folder_at, payload_path}
 use Rattle.hfs_places.specs.Things.{folder_of, things_of}
-use Rattle.hfs_places.proofs.LawTypes.{ArePlacedApart, AreThings, EndsThere, IsOver, LeadsDown}
+use Rattle.hfs_places.specs.Laws.{ArePlacedApart, AreThings, EndsThere, IsOver, LeadsDown}
 use Rattle.hfs_places.proofs.OverLemmas.{leads_down_over}
 use Rattle.hfs_places.proofs.ThingLemmas.{item_at}
 use Rattle.hfs_remains.specs.Records.{namings_of, thing_of}

@@ -34,7 +34,7 @@ use Rattle.hfs_queries.proofs.NamedFileLemmas.{answer_of, answer_of-file_named, 
 use Rattle.hfs_queries.proofs.QueriesLaws.{AreWholeBlocks}
 use Rattle.hfs_needed.specs.Forks.{fork_of_kind, named_fork}
 use Rattle.hfs_remains.specs.Forks.{fork_of}
-use Rattle.hfs_remains.proofs.LawTypes.{HasBlocks, taken_bytes as fork_taken}
+use Rattle.hfs_remains.specs.Laws.{HasBlocks, taken_bytes as fork_taken}
 use Rattle.hfs_remains.proofs.LawsProved.{sound_forks_are_whole}
 use Rattle.hfs_salvage.proofs.ItemWayLemmas.{item-of}
 

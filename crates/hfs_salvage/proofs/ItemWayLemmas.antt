@@ -18,11 +18,11 @@ use Rattle.hfs_places.specs.Folders.{nothing, place_of, thing_at}
 use Rattle.hfs_places.specs.Things.{folder_of}
 use Rattle.hfs_places.specs.Chains.{place_at, ups_of}
 use Rattle.hfs_places.proofs.ChainLemmas.{up-of}
-use Rattle.hfs_places.proofs.LawTypes.{HasWay}
+use Rattle.hfs_places.specs.Laws.{HasWay}
 use Rattle.hfs_places.proofs.PathLemmas.{above-is, above-number}
 use Rattle.hfs_rescue.specs.CatalogRecords.{found}
 use Rattle.hfs_remains.specs.Records.{folder_number, thing_of}
-use Rattle.hfs_remains.proofs.LawTypes.{things_in}
+use Rattle.hfs_remains.specs.Laws.{things_in}
 
 -- ---- the items among records
 

@@ -8,7 +8,7 @@ use Rattle.hfs_fields.specs.declared.mdb.Mdb.{Mdb}
 use Rattle.hfs_finds.specs.Finds.{found_records, found_things}
 use Rattle.hfs_names.specs.Laws.{is_bytes}
 use Rattle.hfs_places.specs.Things.{things_of}
-use Rattle.hfs_places.proofs.LawTypes.{AreThings}
+use Rattle.hfs_places.specs.Laws.{AreThings}
 use Rattle.hfs_remains.specs.Records.{namings_of, thing_of}
 use Rattle.hfs_remains.proofs.LawsProved.{found_are_things}
 use Rattle.hfs_rescue.specs.Directory.{directory_of, mdb_at}
@@ -17,7 +17,8 @@ use Rattle.hfs_rescue_items.specs.Sources.{rescued_tables}
 use Rattle.hfs_rescue_items.proofs.LawsProved.{plans_are_placed}
 use Rattle.hfs_salvage.specs.Bags.{rescued_items}
 use Rattle.hfs_salvage.proofs.JoinLemmas.{payloads-same}
-use Rattle.hfs_salvage.proofs.LawTypes.{RescuedPathsAreLawful, SoundPayloadsAreVolumes}
+use Rattle.hfs_salvage.proofs.TakenPathLemmas.{taken-paths}
+use Rattle.hfs_salvage.specs.Laws.{RescuedPathsAreLawful, SoundPayloadsAreVolumes, TakenPathsAreLawful}
 
 same-directory : (x y : Mdb) → Some x ≡ Some y → x ≡ y
 same-directory x y same = cc
@@ -28,7 +29,11 @@ are-things image mdb bytes None there is = cc
 are-things image mdb bytes (Some n) there is =
     subst (λ (m : Mdb). AreThings (found_things image m)) (same-directory (mdb_at (block_at image) n) mdb is) (found_are_things image n bytes there)
 
--- The law of paths: whatever bytes an image has, no path of the bag of what remains of it leads out of it, and all differ, also without regard to case,
+-- The law of paths: no path of the bag that `take` makes of a sound image leads out of it, and all differ, also without regard to case.
+pub taken_paths_are_lawful : TakenPathsAreLawful
+taken_paths_are_lawful = taken-paths
+
+-- The same of what remains: whatever bytes an image has, no path of the bag of what remains of it leads out of it, and all differ, also without regard to case,
 -- those of the tag files too.
 pub rescued_paths_are_lawful : RescuedPathsAreLawful
 rescued_paths_are_lawful image limit found facts bytes is =

@@ -2,7 +2,6 @@ pub mod FactLemmas
 pub mod SameLemmas
 pub mod BagLemmas
 pub mod ListLemmas
-pub mod LawTypes
 mod ItemWayLemmas
 mod RowWayLemmas
 mod ForkTakenLemmas
@@ -15,4 +14,5 @@ mod PlannedItemLemmas
 mod TakeGivenLemmas
 mod RescueGivenLemmas
 mod JoinLemmas
+mod TakenPathLemmas
 pub mod LawsProved

@@ -22,7 +22,7 @@ use Rattle.hfs_check.specs.VolumeOf.{volume_in}
 use Rattle.hfs_blocks.specs.Blocks.{block_at}
 use Rattle.hfs_space.specs.declared.fork_kind.ForkKind.TheVariants.{Data, Resource}
 use Rattle.hfs_places.specs.Things.{things_of}
-use Rattle.hfs_places.proofs.LawTypes.{AreThings}
+use Rattle.hfs_places.specs.Laws.{AreThings}
 use Rattle.hfs_remains.specs.Records.{namings_of, thing_of}
 use Rattle.hfs_rescue.specs.declared.catalog.FoundRecord.{FoundRecord}
 use Rattle.hfs_rescue.specs.CatalogRecords.{found as young}

@@ -25,9 +25,9 @@ use Rattle.hfs_shelves.specs.Entries.{ShelfEntry, folder}
 use Rattle.hfs_places.specs.declared.things.Thing.{Thing}
 use Rattle.hfs_places.specs.Paths.{is_folder_at, path}
 use Rattle.hfs_places.specs.Things.{folder_of}
-use Rattle.hfs_places.proofs.LawTypes.{EndsThere, HasWay, IsFolderOnWay}
+use Rattle.hfs_places.specs.Laws.{EndsThere, HasWay, IsFolderOnWay}
 use Rattle.hfs_places.proofs.LawsProved.{folders_are_things, paths_are_host_paths}
-use Rattle.hfs_remains.proofs.LawTypes.{things_in}
+use Rattle.hfs_remains.specs.Laws.{things_in}
 use Rattle.hfs_remains.proofs.LawsProved.{sound_names_are_own}
 use Rattle.hfs_rescue.specs.CatalogRecords.{found as young}
 use Rattle.hfs_rescue_items.specs.declared.found.Found.{Found}

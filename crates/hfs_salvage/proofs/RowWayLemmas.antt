@@ -41,8 +41,8 @@ use Rattle.hfs_inventory.proofs.LawsProved.{catalogs_tell_tables}
 use Rattle.hfs_inventory.proofs.TableLemmas.{tables_are_inventories}
 use Rattle.hfs_places.specs.declared.things.Thing.{Thing}
 use Rattle.hfs_places.specs.Folders.{thing_at}
-use Rattle.hfs_places.proofs.LawTypes.{HasWay}
-use Rattle.hfs_remains.proofs.LawTypes.{HasSomeWay, things_in}
+use Rattle.hfs_places.specs.Laws.{HasWay}
+use Rattle.hfs_remains.specs.Laws.{HasSomeWay, things_in}
 use Rattle.hfs_remains.proofs.LawsProved.{sound_items_have_ways}
 use Rattle.hfs_salvage.proofs.ItemWayLemmas.{item-with, item-of, not-one, not-root, one-place, one-way, place-in, right-id, thing-is, under-one, up-item}
 

@@ -31,14 +31,14 @@ use Rattle.hfs_places.specs.Folders.{is_folder_of, nothing, thing_at}
 use Rattle.hfs_places.specs.Paths.{front_of, is_root, path, payload_path, root_of}
 use Rattle.hfs_places.specs.Things.{things_of}
 use Rattle.hfs_places.proofs.FolderLemmas.{position-holds}
-use Rattle.hfs_places.proofs.LawTypes.{AreWaysShort, HasWay}
+use Rattle.hfs_places.specs.Laws.{AreWaysShort, HasWay}
 use Rattle.hfs_queries.specs.Told.{body_info, file_info, folder_info, told}
 use Rattle.hfs_queries.proofs.QueriesLaws.{AreWholeBlocks}
 use Rattle.hfs_remains.specs.declared.shares.FileShares.{FileShares}
 use Rattle.hfs_remains.specs.Forks.{both_forks}
 use Rattle.hfs_remains.specs.Records.{namings_of, thing_of}
 use Rattle.hfs_remains.specs.Verdicts.{shares_at, shares_of}
-use Rattle.hfs_remains.proofs.LawTypes.{things_in, whole_shares}
+use Rattle.hfs_remains.specs.Laws.{things_in, whole_shares}
 use Rattle.hfs_remains.proofs.LawsProved.{sound_forks_are_taken, sound_paths_are_host_paths, sound_things_are_items}
 use Rattle.hfs_rescue.specs.declared.catalog.FoundRecord.{FoundRecord}
 use Rattle.hfs_rescue.specs.CatalogRecords.{found as young}

@@ -21,7 +21,7 @@ use Rattle.hfs_space.specs.declared.fork_kind.ForkKind.TheVariants.{Data, Resour
 use Rattle.hfs_remains.specs.declared.shares.FileShares.{FileShares}
 use Rattle.hfs_remains.specs.Forks.{both_forks, fork_of}
 use Rattle.hfs_remains.specs.Verdicts.{fork_share, shares_at}
-use Rattle.hfs_remains.proofs.LawTypes.{HasBlocks, taken_bytes as fork_taken, whole_shares}
+use Rattle.hfs_remains.specs.Laws.{HasBlocks, taken_bytes as fork_taken, whole_shares}
 use Rattle.hfs_rescue_items.specs.declared.found.Found.{Found}
 use Rattle.hfs_rescue_items.specs.Bytes.{bytes_by, taken_bytes}
 use Rattle.hfs_rescue_items.specs.Plan.{file_kind, own_kind, thing_kind}

@@ -24,8 +24,8 @@ use Rattle.hfs_blocks.specs.Blocks.{block_at, block_count}
 use Rattle.hfs_queries.proofs.QueriesLaws.{AreWholeBlocks}
 use Rattle.hfs_space.specs.Extents.{block_total}
 use Rattle.hfs_places.specs.declared.things.Thing.{Thing}
-use Rattle.hfs_places.proofs.LawTypes.{AreThings, AreWaysShort, HasWay}
-use Rattle.hfs_remains.proofs.LawTypes.{things_in}
+use Rattle.hfs_places.specs.Laws.{AreThings, AreWaysShort, HasWay}
+use Rattle.hfs_remains.specs.Laws.{things_in}
 use Rattle.hfs_remains.proofs.LawsProved.{sound_are_things}
 use Rattle.hfs_rescue_items.specs.declared.found.Found.{Found}
 use Rattle.hfs_rescue_items.specs.Found.{path_at}

@@ -7,6 +7,7 @@ mod filling;
 mod found;
 mod held;
 mod image;
+mod laws;
 mod listing;
 mod loading;
 mod looking;
@@ -17,5 +18,8 @@ pub use crate::answer::RescueAnswer;
 pub use crate::filling::{give_remains, rescue};
 pub use crate::held::HeldBytes;
 pub use crate::image::{HoldFault, RescuedImage};
+pub use crate::laws::{
+    rescued_paths_are_lawful, sound_payloads_are_volumes, taken_paths_are_lawful,
+};
 pub use crate::listing::{list_rescue, write_remains};
 pub use crate::words::{BagWords, RescueWords};

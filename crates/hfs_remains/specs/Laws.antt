@@ -24,7 +24,7 @@ use Rattle.hfs_places.specs.declared.things.Thing.{Thing}
 use Rattle.hfs_places.specs.Folders.{thing_at}
 use Rattle.hfs_places.specs.Things.{things_of}
 use Rattle.hfs_places.specs.Paths.{payload_path}
-use Rattle.hfs_places.proofs.LawTypes.{AreThings, ArePlacedApart, AreWaysShort, HasWay, HaveOwnNames}
+use Rattle.hfs_places.specs.Laws.{AreThings, ArePlacedApart, AreWaysShort, HasWay, HaveOwnNames}
 use Rattle.hfs_remains.specs.declared.forks.Fork.{Fork}
 use Rattle.hfs_remains.specs.declared.shares.FileShares.{FileShares}
 use Rattle.hfs_remains.specs.Records.{thing_of, namings_of}

@@ -1,4 +1,4 @@
--- What holds of the bag of what remains of an image.
+-- What holds of the bags of an image: of its items, and of what remains of it.
 use Rattle.std.specs.Prelude.{ℕ, ◌<◌, ◌≤◌, ◌↔◌, IsTrue, List, length}
 use Rattle.hfs_bag.specs.declared.facts.BagFacts.{BagFacts}
 use Rattle.hfs_bag.specs.Bags.{payload}
@@ -8,14 +8,20 @@ use Rattle.hfs_check.specs.Parts.{catalog_in, mdb_in}
 use Rattle.hfs_check.specs.Sound.{IsSound}
 use Rattle.hfs_image_items.specs.Items.{bag_items, entries_in}
 use Rattle.hfs_names.specs.Laws.{is_bytes}
-use Rattle.hfs_places.proofs.LawTypes.{AreWaysShort}
-use Rattle.hfs_remains.proofs.LawTypes.{things_in}
+use Rattle.hfs_places.specs.Laws.{AreWaysShort}
+use Rattle.hfs_remains.specs.Laws.{things_in}
 use Rattle.hfs_rescue_items.specs.declared.found.Found.{Found}
 use Rattle.hfs_scans.specs.Members.{In}
 use Rattle.hfs_shelves.specs.Entries.{ShelfEntry}
 use Rattle.hfs_space.specs.Extents.{block_total}
+use Rattle.hfs_take.specs.Bags.{image_bag}
 use Rattle.hfs_salvage.specs.Bags.{rescued_bag, rescued_items}
 use Rattle.hfs_salvage.specs.Found.{IsFoundOf}
+
+-- of a sound image of bytes no path leads out of the bag of its items, and all differ, also without regard to case, those of the tag files too
+abbrev pub TakenPathsAreLawful : Type 0
+TakenPathsAreLawful =
+    (image : List ℕ) (facts : BagFacts) → IsTrue (is_bytes image) → IsSound image → AreInside (image_bag image facts) × AllDiffer (image_bag image facts)
 
 -- of any image of bytes no path leads out of the bag, and all differ, also without regard to case, those of the tag files too
 abbrev pub RescuedPathsAreLawful : Type 0

@@ -1,0 +1,20 @@
+//! What holds of the definitions, each as the contract of a function that does nothing.
+ghost use Rattle.hfs_salvage.specs.Laws.{RescuedPathsAreLawful, SoundPayloadsAreVolumes, TakenPathsAreLawful};
+
+/// No path of the bag that `take` makes of a sound image leads out of it, and all differ, also where case is not told
+/// apart.
+pub fn taken_paths_are_lawful()
+    ensures { TakenPathsAreLawful }
+{}
+
+/// Whatever bytes an image has, no path of the bag of what remains of it leads out of it, and all differ, also where case
+/// is not told apart.
+pub fn rescued_paths_are_lawful()
+    ensures { RescuedPathsAreLawful }
+{}
+
+/// What remains of a sound image has the payload that `take` makes of its volume: the same folders and files, with the
+/// same paths and bytes.
+pub fn sound_payloads_are_volumes()
+    ensures { SoundPayloadsAreVolumes }
+{}
