@@ -40,6 +40,9 @@ const FORMAT: Argument = Argument {
 /// The table whose rows are written alone.
 const TABLE: &str = "table";
 
+/// The names of the tables.
+const TABLES: &[&str] = &["image", "volume", "item"];
+
 /// The choice of no digests.
 const NO_DIGEST: Argument = Argument {
     name: "no-digest",
@@ -80,7 +83,7 @@ fn table_argument<'a>(alloc: Global) -> Result<Arg<'a>, AllocError> {
         .help("The rows of this table alone; CSV has those of one table")
         .long(TABLE)
         .value_name("TABLE")
-        .value_parser(&["image", "volume", "item"])
+        .value_parser(TABLES)
         .required_if_eq(FORMAT.name, "csv")
 }
 

@@ -3,6 +3,8 @@ use Rattle.std.specs.Prelude.{ℕ, List, [], ◌∷◌, codes}
 use Rattle.hfs_rows.specs.declared.value.Table.{Table}
 use Rattle.hfs_rows.specs.declared.value.Table.TheVariants as table
 use Rattle.hfs_text_rows.specs.declared.column.Column.{Column}
+use Rattle.hfs_text_rows.specs.declared.column.Label.{Label}
+use Rattle.hfs_text_rows.specs.declared.column.Label.TheVariants as label
 use Rattle.hfs_text_rows.specs.declared.column.Origin.{Origin}
 use Rattle.hfs_text_rows.specs.declared.column.Origin.TheVariants.{ImagePath, ImageDigest, VolumeNumber, Row}
 
@@ -51,7 +53,9 @@ columns_of table.Image = image_columns
 columns_of table.Volume = volume_columns
 columns_of table.Item = item_columns
 
-abbrev pub table_name : Table → List ℕ
-table_name table.Image = codes "image"
-table_name table.Volume = codes "volume"
-table_name table.Item = codes "item"
+-- what a line says that it is
+abbrev pub label_name : Label → List ℕ
+label_name (label.Row table.Image) = codes "image"
+label_name (label.Row table.Volume) = codes "volume"
+label_name (label.Row table.Item) = codes "item"
+label_name label.End = codes "end"

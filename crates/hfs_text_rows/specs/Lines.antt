@@ -7,8 +7,9 @@ use Rattle.json.specs.Print.{print}
 use Rattle.hfs_table.specs.Lines.{doubled}
 use Rattle.hfs_rows.specs.declared.value.RowValue.{RowValue}
 use Rattle.hfs_rows.specs.declared.value.RowValue.TheVariants.{Empty, Number, Text}
+use Rattle.hfs_text_rows.specs.declared.column.Label.{Label}
 use Rattle.hfs_text_rows.specs.declared.keys.Keys.{Keys}
-use Rattle.hfs_text_rows.specs.Columns.{Named}
+use Rattle.hfs_text_rows.specs.Columns.{Named, label_name}
 use Rattle.hfs_text_rows.specs.Keys.{cell}
 
 -- ---- JSON
@@ -23,18 +24,18 @@ value_token (Text text) = json.string text
 abbrev pub member : Keys → List RowValue → Named → List json.Token
 member keys values column = json.key column.name ∷ value_token (cell keys values column.origin) ∷ []
 
--- the member that says of which table a row is, where it is asked for
-abbrev pub table_member : Option (List ℕ) → List json.Token
+-- the member that says of which table a line is, where it is asked for
+abbrev pub table_member : Option Label → List json.Token
 table_member None = []
-table_member (Some name) = json.key (codes "table") ∷ json.string name ∷ []
+table_member (Some label) = json.key (codes "table") ∷ json.string (label_name label) ∷ []
 
 -- an object with the members in the order of the columns
-unfoldable pub object : Option (List ℕ) → List Named → Keys → List RowValue → List json.Token
-object name columns keys values = json.begin_object ∷ table_member name ++ flat_map (member keys values) columns ++ json.end_object ∷ []
+unfoldable pub object : Option Label → List Named → Keys → List RowValue → List json.Token
+object label columns keys values = json.begin_object ∷ table_member label ++ flat_map (member keys values) columns ++ json.end_object ∷ []
 
 -- its text without spaces, and a line feed
-unfoldable pub json_line : Option (List ℕ) → List Named → Keys → List RowValue → List ℕ
-json_line name columns keys values = print (object name columns keys values) ++ codes "\n"
+unfoldable pub json_line : Option Label → List Named → Keys → List RowValue → List ℕ
+json_line label columns keys values = print (object label columns keys values) ++ codes "\n"
 
 -- ---- CSV
 

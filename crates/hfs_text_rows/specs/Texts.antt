@@ -1,14 +1,15 @@
 -- The rows of an image as text.
-use Rattle.std.specs.Prelude.{ℕ, Bool, true, false, if◌then◌else◌, List, [], ◌∷◌, ◌++◌, Some, None, codes}
+use Rattle.std.specs.Prelude.{ℕ, Bool, true, false, if◌then◌else◌, List, [], ◌∷◌, ◌++◌, Some, None}
 use Rattle.hfs_rows.specs.declared.value.RowValue.{RowValue}
 use Rattle.hfs_rows.specs.declared.value.RowValue.TheVariants.{Empty, Number, Text}
 use Rattle.hfs_rows.specs.declared.value.Table.{Table}
 use Rattle.hfs_rows.specs.declared.value.Table.TheVariants as table
 use Rattle.hfs_rows.specs.Taken.{TakenRow}
+use Rattle.hfs_text_rows.specs.declared.column.Label.TheVariants.{Row, End}
 use Rattle.hfs_text_rows.specs.declared.form.Form.{Form}
 use Rattle.hfs_text_rows.specs.declared.form.Form.TheVariants.{All, Json, Csv}
 use Rattle.hfs_text_rows.specs.declared.keys.Keys.{Keys}
-use Rattle.hfs_text_rows.specs.Columns.{columns_of, end_columns, table_name}
+use Rattle.hfs_text_rows.specs.Columns.{columns_of, end_columns}
 use Rattle.hfs_text_rows.specs.Keys.{keys_after, keys_behind, no_keys}
 use Rattle.hfs_text_rows.specs.Lines.{csv_head, csv_line, json_line}
 
@@ -30,7 +31,7 @@ head_text (Csv wanted) = csv_head (columns_of wanted)
 
 -- a row of this table behind rows with these keys: of all tables each, of one its own alone
 abbrev pub row_text : Form → Keys → Table → List RowValue → List ℕ
-row_text All keys table values = json_line (Some (table_name table)) (columns_of table) keys values
+row_text All keys table values = json_line (Some (Row table)) (columns_of table) keys values
 row_text (Json wanted) keys table values = if is_same wanted table then json_line None (columns_of table) keys values else []
 row_text (Csv wanted) keys table values = if is_same wanted table then csv_line (columns_of table) keys values else []
 
@@ -48,8 +49,8 @@ whole_value false = Number 0
 -- the end of the image with these keys, of which all rows came or not; none where no image came
 abbrev pub end_by : RowValue → Keys → Bool → List ℕ
 end_by Empty keys is_whole = []
-end_by (Number n) keys is_whole = json_line (Some (codes "end")) end_columns keys (whole_value is_whole ∷ [])
-end_by (Text path) keys is_whole = json_line (Some (codes "end")) end_columns keys (whole_value is_whole ∷ [])
+end_by (Number n) keys is_whole = json_line (Some End) end_columns keys (whole_value is_whole ∷ [])
+end_by (Text path) keys is_whole = json_line (Some End) end_columns keys (whole_value is_whole ∷ [])
 
 -- it stands only among the rows of all tables
 abbrev pub end_text : Form → Keys → Bool → List ℕ

@@ -1,6 +1,6 @@
 //! The columns of the lines.
 ghost use Rattle.std.specs.Prelude.{◌≡◌, map};
-ghost use Rattle.hfs_text_rows.specs.Columns.{columns_of, end_columns, table_name, told_column};
+ghost use Rattle.hfs_text_rows.specs.Columns.{columns_of, end_columns, label_name, told_column};
 
 use hfs_rows::Table;
 
@@ -15,6 +15,15 @@ pub(crate) enum Origin {
     VolumeNumber,
     /// The row itself, in this place.
     Row(usize),
+}
+
+/// What a line says that it is.
+#[derive(Clone, Copy)]
+pub(crate) enum Label {
+    /// A row of this table.
+    Row(Table),
+    /// An image's end.
+    End,
 }
 
 /// A column of a line.
@@ -226,14 +235,15 @@ pub(crate) const END_COLUMNS: [Column; 3] = [
     },
 ];
 
-/// The name of a table.
-pub(crate) fn table_name(table: Table) -> &'static str
-    ensures { result.now ≡ table_name table }
+/// What a label says.
+pub(crate) fn label_name(label: Label) -> &'static str
+    ensures { result.now ≡ label_name label }
 {
-    match table {
-        Table::Image => "image",
-        Table::Volume => "volume",
-        Table::Item => "item",
+    match label {
+        Label::Row(Table::Image) => "image",
+        Label::Row(Table::Volume) => "volume",
+        Label::Row(Table::Item) => "item",
+        Label::End => "end",
     }
 }
 

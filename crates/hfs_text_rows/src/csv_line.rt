@@ -73,7 +73,7 @@ fn push_number(text: &mut Vec<u8>, n: u64) -> Result<(), AllocError>
 /// Appends a value's field, which is empty where there is none.
 fn push_value(text: &mut Vec<u8>, value: Option<&RowValue>) -> Result<(), AllocError>
     ensures { OnOk result (text.new.items ≡ text.old.items
-        ++ field (option_map_or (λ value. value.now) value Empty)) }
+        ++ field (option_map_or (λ value. value.now) value.entry Empty)) }
 {
     match value {
         Some(RowValue::Text(bytes)) => push_text(text, bytes.as_slice()),

@@ -1,6 +1,6 @@
 //! A row in JSON, an object on a line of its own.
 ghost use Rattle.std.specs.Prelude.{◌≡◌, ◌++◌, ◌∷◌, [], OnOk, flat_map, map};
-ghost use Rattle.std.specs.Option.{option_map, option_map_or};
+ghost use Rattle.std.specs.Option.{option_map_or};
 ghost use Rattle.json.specs.Token as token;
 ghost use Rattle.hfs_table.specs.Adds.{Adds};
 ghost use Rattle.hfs_rows.specs.declared.value.RowValue.TheVariants.{Empty};
@@ -8,7 +8,7 @@ ghost use Rattle.hfs_text_rows.specs.Columns.{told_column};
 ghost use Rattle.hfs_text_rows.specs.Lines.{json_line, member, object, table_member, value_token};
 
 use crate::cells::cell;
-use crate::column::Column;
+use crate::column::{Column, Label, label_name};
 use crate::keys::Keys;
 use crate::line_fault::LineFault;
 use hfs_rows::RowValue;
@@ -32,7 +32,7 @@ fn put_text(writer: &mut Writer, text: &[u8]) -> Result<(), LineFault>
 /// Puts a value, and null where there is none.
 fn put_value(writer: &mut Writer, value: Option<&RowValue>) -> Result<(), LineFault>
     ensures { Adds result writer.old writer.new
-        (value_token (option_map_or (λ value. value.now) value Empty) ∷ []) }
+        (value_token (option_map_or (λ value. value.now) value.entry Empty) ∷ []) }
 {
     match value {
         Some(RowValue::Text(text)) => put_text(writer, text.as_slice()),
@@ -77,14 +77,14 @@ fn put_members(
     Ok(())
 }
 
-/// Puts the member that says of which table a row is, where it is asked for.
-fn put_table(writer: &mut Writer, name: Option<&str>) -> Result<(), LineFault>
-    ensures { Adds result writer.old writer.new (table_member (option_map (λ name. name.now) name)) }
+/// Puts the member that says of which table a line is, where it is asked for.
+fn put_table(writer: &mut Writer, label: Option<Label>) -> Result<(), LineFault>
+    ensures { Adds result writer.old writer.new (table_member label) }
 {
-    match name {
-        Some(name) => {
+    match label {
+        Some(label) => {
             writer.key("table")?;
-            writer.string(name)?;
+            writer.string(label_name(label))?;
             Ok(())
         }
         None => Ok(()),
@@ -94,16 +94,16 @@ fn put_table(writer: &mut Writer, name: Option<&str>) -> Result<(), LineFault>
 /// Puts a row's object.
 fn put_object(
     writer: &mut Writer,
-    name: Option<&str>,
+    label: Option<Label>,
     columns: &[Column],
     keys: &Keys,
     values: &[RowValue],
 ) -> Result<(), LineFault>
     ensures { Adds result writer.old writer.new
-        (object (option_map (λ name. name.now) name) (map told_column columns.now) keys.now values.now) }
+        (object label (map told_column columns.now) keys.now values.now) }
 {
     writer.begin_object()?;
-    put_table(writer, name)?;
+    put_table(writer, label)?;
     put_members(writer, columns, keys, values)?;
     writer.end_object()?;
     Ok(())
@@ -114,16 +114,16 @@ fn put_object(
 pub(crate) fn push_json_line(
     alloc: Global,
     text: &mut Vec<u8>,
-    name: Option<&str>,
+    label: Option<Label>,
     columns: &[Column],
     keys: &Keys,
     values: &[RowValue],
 ) -> Result<(), LineFault>
-    ensures { OnOk result (text.new.items ≡ text.old.items ++ json_line (option_map (λ name. name.now) name)
+    ensures { OnOk result (text.new.items ≡ text.old.items ++ json_line label
         (map told_column columns.now) keys.now values.now) }
 {
     let mut writer = Writer::new(Vec::with_capacity(alloc, USUAL)?);
-    put_object(&mut writer, name, columns, keys, values)?;
+    put_object(&mut writer, label, columns, keys, values)?;
     text.extend_from_slice(&writer.into_inner())?;
     text.extend_from_slice(b"\n")?;
     Ok(())

@@ -1,8 +1,9 @@
 //! The lines of rows, and of an image's end.
 ghost use Rattle.std.specs.Prelude.{◌≡◌, ◌++◌, OnOk};
+ghost use Rattle.hfs_text_rows.specs.declared.form.Form.TheVariants.{Csv, Json};
 ghost use Rattle.hfs_text_rows.specs.Texts.{end_by, end_text, head_text, is_same, row_text, whole_value};
 
-use crate::column::{columns_of, end_columns, table_name};
+use crate::column::{Label, columns_of, end_columns};
 use crate::csv_line::{push_csv_head, push_csv_line};
 use crate::form::Form;
 use crate::json_line::push_json_line;
@@ -84,8 +85,8 @@ pub(crate) fn push_row(
 {
     match form {
         Form::All => {
-            let name = Some(table_name(table));
-            push_json_line(alloc, text, name, columns_of(table), keys, values)
+            let label = Some(Label::Row(table));
+            push_json_line(alloc, text, label, columns_of(table), keys, values)
         }
         Form::Json(wanted) => push_json_of(alloc, text, wanted, keys, table, values),
         Form::Csv(wanted) => push_csv_of(text, wanted, keys, table, values),
@@ -112,7 +113,7 @@ fn push_end_line(
         RowValue::Empty => Ok(()),
         RowValue::Number(_) | RowValue::Text(_) => {
             let values = [whole_value(is_whole)];
-            push_json_line(alloc, text, Some("end"), end_columns(), keys, &values)
+            push_json_line(alloc, text, Some(Label::End), end_columns(), keys, &values)
         }
     }
 }
