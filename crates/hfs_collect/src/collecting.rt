@@ -10,8 +10,8 @@ use hfs_word_collect::{
 };
 use std::io::IsTerminal;
 
-/// What the database tells of the program that read an image.
-const PROGRAM: &str = "hfs_collect 1.0.0";
+/// What a row tells of the program that read an image.
+pub const PROGRAM: &str = "hfs_collect 1.0.0";
 
 /// Puts images into a database, or compares them with what it has of them.
 pub fn collect<'a>(rt: &HostRuntime, words: &CollectWords<'a>) -> Result<u8, Fault<'a>> {

@@ -1,11 +1,14 @@
-//! A program that puts HFS images into one database, or compares them with what it has of them.
+//! A program that puts HFS images into one database, compares them with what it has of them, or tells their rows as text.
 #![tactic(auto)]
 
 mod collecting;
 mod reading;
+mod reading_rows;
+mod rows;
 
 use crate::collecting::collect;
-use crate::reading::read_words;
+use crate::reading::{Words, read_words};
+use crate::rows::rows;
 use hfs_commands::Fault;
 use hfs_console::{refused, refused_words};
 use std::env;
@@ -24,10 +27,11 @@ fn answer(rt: &HostRuntime) -> u8 {
         return refused(rt, &Fault::NoMemory);
     };
     match read_words(rt.alloc(), arguments.as_slice()) {
-        Ok(words) => match collect(rt, &words) {
+        Ok(Words::Collect(words)) => match collect(rt, &words) {
             Ok(status) => status,
             Err(fault) => refused(rt, &fault),
         },
+        Ok(Words::Rows(words)) => rows(rt, &words),
         Err(fault) => refused_words(rt, &fault),
     }
 }

@@ -1,9 +1,19 @@
 //! What the program is asked for, and from the command line to that.
 
-use clap::{ArgMatches, Error};
-use hfs_arguments::{Argument, Program, Takes, Word};
+use crate::reading_rows::{RowsWords, rows_command, rows_words};
+use clap::{ArgMatches, Command, Error};
+use hfs_arguments::{Argument, NoValue, Program, Takes, Word, with_word};
 use hfs_console::{VERSION, WordsFault};
-use std::alloc::Global;
+use std::alloc::{AllocError, Global};
+
+/// What the program is asked for.
+#[derive(Drop)]
+pub enum Words<'a> {
+    /// Images in a database.
+    Collect(CollectWords<'a>),
+    /// The rows of images as text.
+    Rows(RowsWords<'a>),
+}
 
 /// Images, and the database that they are collected in.
 #[derive(Drop)]
@@ -62,7 +72,7 @@ pipe, can't be read.
 With --compare a line for each image: missing, new, changed, same, or 'same length' where the database has no digest of it. The
 status is 3 where one is missing or changed.";
 
-/// The program, which knows no words.
+/// The program, without its words.
 const COLLECT: Program = Program {
     word: Word {
         name: "hfs_collect",
@@ -73,15 +83,27 @@ const COLLECT: Program = Program {
     version: VERSION,
 };
 
+/// The program's command, with its words: only the first word may be one of them.
+fn command<'a>(alloc: Global) -> Result<Command<'a>, AllocError> {
+    let bare = COLLECT
+        .command(alloc)?
+        .args_conflicts_with_subcommands(true);
+    with_word(Ok(bare), rows_command(alloc))
+}
+
 /// Reads the words, the first of which is the program's own name.
-pub fn read_words<'a>(alloc: Global, words: &'a [String]) -> Result<CollectWords<'a>, WordsFault> {
+pub fn read_words<'a>(alloc: Global, words: &'a [String]) -> Result<Words<'a>, WordsFault> {
     let matches = matches_of(alloc, words)?;
-    words_of(alloc, &matches)
+    match matches.subcommand() {
+        Some(("rows", inner)) => Ok(Words::Rows(rows_words(alloc, inner)?)),
+        Some(_) => Err(WordsFault::from(NoValue("COMMAND"))),
+        None => Ok(Words::Collect(words_of(alloc, &matches)?)),
+    }
 }
 
 /// What the program's command finds in the words.
 fn matches_of<'a>(alloc: Global, words: &'a [String]) -> Result<ArgMatches<'a>, Error> {
-    COLLECT.command(alloc)?.try_get_matches_from(words)
+    command(alloc)?.try_get_matches_from(words)
 }
 
 /// What the words ask for, by what was found in them.

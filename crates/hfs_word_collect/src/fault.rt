@@ -3,13 +3,14 @@ ghost use Rattle.std.specs.Prelude.{◌≡◌};
 
 use hfs_collection::CollectFault;
 use hfs_database::DatabaseFault;
+use hfs_rows::TakerFault;
 
 /// Why a run ended early.
 #[derive(Clone, Copy, Debug, PartialEq, Eq)]
 pub enum RunFault {
     /// The database can't be opened.
     CannotOpen,
-    /// The database can't be written.
+    /// The database can't be written, or what takes the text.
     CannotWrite,
     /// Memory was refused.
     NoMemory,
@@ -21,6 +22,15 @@ impl From<DatabaseFault> for RunFault {
             DatabaseFault::CannotOpen => RunFault::CannotOpen,
             DatabaseFault::CannotWrite => RunFault::CannotWrite,
             DatabaseFault::NoMemory => RunFault::NoMemory,
+        }
+    }
+}
+
+impl From<TakerFault> for RunFault {
+    fn from(fault: TakerFault) -> RunFault {
+        match fault {
+            TakerFault::CannotWrite => RunFault::CannotWrite,
+            TakerFault::NoMemory => RunFault::NoMemory,
         }
     }
 }

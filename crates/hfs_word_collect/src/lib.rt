@@ -1,4 +1,4 @@
-//! Images that are collected in one database, and compared with what it has of them.
+//! Images that are collected in one database, compared with what it has of them, or told as text.
 #![tactic(auto)]
 
 mod collecting;
@@ -6,11 +6,15 @@ mod comparing;
 mod fault;
 mod files;
 mod lines;
+mod writing;
 
 pub use crate::collecting::{collect_image, put_image};
 pub use crate::comparing::{compare_image, compare_known};
 pub use crate::fault::RunFault;
 pub use crate::files::FileByPath;
 pub use crate::lines::{comparison_line, image_line};
+pub use crate::writing::{write_image, write_image_at};
 pub use hfs_collection::ImageCounts;
 pub use hfs_database::{Collection, Comparison, DatabaseFiles, FileCollection, next_path};
+pub use hfs_rows::{Table, TakerFault};
+pub use hfs_text_rows::{Form, TextTaker, write_head};

@@ -1,0 +1,53 @@
+//! What the word `rows` does: one image after the other, as text on standard output.
+
+use crate::collecting::PROGRAM;
+use crate::reading_rows::RowsWords;
+use hfs_collection::ImageFacts;
+use hfs_commands::{Fault, ShownPath, Status};
+use hfs_word_collect::{RunFault, TextTaker, write_head, write_image_at};
+use std::io::Stdout;
+
+/// Prints the rows of the images, and answers the exit status. Faults go to standard error, where no program looks for rows.
+pub fn rows(rt: &HostRuntime, words: &RowsWords<'_>) -> u8 {
+    match print_rows(rt, words) {
+        Ok(status) => status.number(),
+        Err(RunFault::NoMemory) => {
+            let _printed = eprintln!(rt; "{}", Fault::NoMemory);
+            Status::NoMemory.number()
+        }
+        Err(RunFault::CannotOpen | RunFault::CannotWrite) => Status::DeviceFailed.number(),
+    }
+}
+
+/// Prints what stands before the rows, and those of one image after the other.
+fn print_rows(rt: &HostRuntime, words: &RowsWords<'_>) -> Result<Status, RunFault> {
+    write_head(rt.alloc(), &mut rt.stdout(), words.form)?;
+    let mut taker = TextTaker::new(rt.alloc(), rt.stdout(), words.form);
+    let mut status = Status::Done;
+    for i in 0..words.images.len() {
+        if !print_image(rt, &mut taker, words.images[i], words.takes_digests)? {
+            status = Status::DeviceFailed;
+        }
+    }
+    Ok(status)
+}
+
+/// Prints the rows of an image, and answers whether all of them came; where they don't, this is told on standard error.
+fn print_image(
+    rt: &HostRuntime,
+    taker: &mut TextTaker<Stdout>,
+    path: &str,
+    takes_digests: bool,
+) -> Result<bool, RunFault> {
+    let facts = ImageFacts {
+        path,
+        program: PROGRAM,
+        takes_digests,
+    };
+    let is_whole = write_image_at(rt, taker, &facts)?;
+    if !is_whole {
+        // Where standard error takes nothing, the run goes on.
+        let _printed = eprintln!(rt; "cannot read {}", ShownPath(path));
+    }
+    Ok(is_whole)
+}

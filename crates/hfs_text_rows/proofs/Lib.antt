@@ -1,0 +1,4 @@
+mod Fields
+mod Names
+mod Objects
+mod Going

@@ -1,0 +1,32 @@
+-- Rows on their way to a writer.
+use Rattle.std.specs.Prelude.{◌≡◌, ℕ, Bool, false, List, ◌++◌, Option}
+use Rattle.std.specs.Io.KnownBytes.{Appends}
+use Rattle.hfs_rows.specs.Taken.{TakenRow}
+use Rattle.hfs_text_rows.specs.declared.form.Form.{Form}
+use Rattle.hfs_text_rows.specs.declared.keys.Keys.{Keys}
+use Rattle.hfs_text_rows.specs.Keys.{keys_behind, no_keys}
+use Rattle.hfs_text_rows.specs.Texts.{rows_text}
+
+-- since a writer had the first of these bytes it was given a beginning of the rows' text, and has the second; unless a fault came, this
+-- text is the rest, and the keys are those of the rows
+pub record IsUnderWay (start now : Option (List ℕ)) (text : List ℕ) (form : Form) (keys : Keys) (rows : List TakenRow) (failed : Bool) : Type 0 where
+  pub front : List ℕ
+  pub rest : List ℕ
+  pub all_is : front ++ rest ≡ rows_text form no_keys rows
+  pub written : Appends start now front
+  pub waits : failed ≡ false → rest ≡ text
+  pub known : failed ≡ false → keys ≡ keys_behind no_keys rows
+
+-- a first part of a text went out, and the rest of it is left
+pub record Moves (old new : Option (List ℕ)) (text left : List ℕ) : Type 0 where
+  pub piece : List ℕ
+  pub text_is : text ≡ piece ++ left
+  pub written : Appends old new piece
+
+-- a first part of a text went out, and behind the rest of it came a line
+pub record PutsLine (old new : Option (List ℕ)) (text left line : List ℕ) : Type 0 where
+  pub piece : List ℕ
+  pub kept : List ℕ
+  pub text_is : text ≡ piece ++ kept
+  pub written : Appends old new piece
+  pub left_is : left ≡ kept ++ line
