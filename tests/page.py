@@ -1,9 +1,10 @@
 #!/usr/bin/env python3
 """Reads the pages that `page` prints by Python's html.parser, which here takes no markup that isn't whole, and compares what
-they say with what is read from the bytes of each image by none of the project's code: the table of the volume, the class
-and the title of each cell of the picture, and the items, which are those of `items` in their order. Volumes are those in
+they say with what is read from the bytes of each image by none of the project's code: the list of what the volume is, the
+class and the title of each cell of the picture, the extents of all files, and the items, which are those of `items` in their
+order, each with its ID. Volumes are those in
 tests/volumes, some of each part of a disk that are laid here, and some that are filled by `run`: one with every printable
-character in its names, one of folders deep in one another, and a large one, whose page has at most 400 bytes for an item
+character in its names, one of folders deep in one another, and a large one, whose page has at most 480 bytes for an item
 beside its name. Each page is asked for by the image's path, out of a pipe, and as a volume in another file; images that
 are refused have a page of their own.
 
@@ -21,7 +22,7 @@ import sys
 import tempfile
 from collections import Counter
 from dataclasses import dataclass, field
-from datetime import datetime, timedelta
+from decimal import ROUND_HALF_UP, Decimal
 from html.parser import HTMLParser
 from pathlib import Path
 
@@ -35,6 +36,7 @@ from slow_volumes import Volume, cut_files
 from slow_volumes import plain as plain_volume
 from volumes import in_disk_copy, in_map
 
+VERSION = subprocess.run([TOOL, '--version'], capture_output=True, timeout=60, text=True).stdout.strip()
 VOLUMES = Path(__file__).resolve().parent / 'volumes'
 MOST_CELLS, COLUMNS, MOST_OPEN = 4_096, 64, 100
 PARTS = ['bad blocks', 'extents tree', 'catalog', 'later extent', 'first extent', 'marked, and nobody has it', 'free']
@@ -143,12 +145,40 @@ def characters(raw):
     return plain(raw.decode('mac_roman'))
 
 
+def size(count):
+    """A number of bytes in the unit that suits, to the nearest tenth."""
+    if count < 1024:
+        return f'{count} B'
+    unit, name = (1024, 'KB') if count < 1024 * 1024 else (1024 * 1024, 'MB')
+    tenths = (Decimal(count) / unit).quantize(Decimal('0.1'), ROUND_HALF_UP)
+    return f'{tenths}'.removesuffix('.0') + f' {name}'
+
+
+def day_and_time(date):
+    """A moment as it stands on a page."""
+    return date.replace('T', ' ')
+
+
 def facts_of(catalog):
-    """The rows of the volume's table."""
+    """The list of what the volume is."""
     mdb = catalog.image.field
-    return [['Check', 'sound'], ['Created', moment(mdb(2, 4))], ['Modified', moment(mdb(6, 4))], ['Backup', moment(mdb(64, 4))],
-            ['Allocation blocks', str(mdb(18, 2))], ['Bytes of each block', str(mdb(20, 4))], ['Free blocks', str(mdb(34, 2))],
-            ['Files', str(mdb(84, 4))], ['Folders', str(mdb(88, 4))]]
+
+    def sized(count):
+        return f'{size(count)} ({count} bytes)'
+
+    return [['Check', 'sound'], ['Length', sized(len(catalog.image.content) // 512 * 512)], ['Free', sized(mdb(34, 2) * mdb(20, 4))],
+            *([label, day_and_time(moment(mdb(at, 4)))] for label, at in (('Created', 2), ('Modified', 6), ('Backup', 64))),
+            ['Files', str(mdb(84, 4))], ['Folders', str(mdb(88, 4))],
+            ['Allocation blocks', str(mdb(18, 2))], ['Bytes of each block', str(mdb(20, 4))], ['Free blocks', str(mdb(34, 2))]]
+
+
+def extents_of(catalog):
+    """The extents of all files that have a block: the file's ID, the first block, and how many there are."""
+    for file in catalog.files:
+        for place, fork in ((74, DATA_FORK), (86, RESOURCE_FORK)):
+            for extent in extents_at(file.body, place) + catalog.image.overflow.get((file.id, fork), []):
+                if extent.count:
+                    yield [file.id, extent.first, extent.count]
 
 
 def uses_of(catalog):
@@ -186,24 +216,25 @@ def cells_of(catalog):
 
 
 def items_of(image):
-    """What the page is to say of each item, by its row in the table of `items`: its path and the texts beside its name."""
+    """What the page is to say of each item, by its row in the table of `items`: its path, its ID, and the texts beside its name."""
     status, text = told('items', image, '--format', 'csv')
     ensure(status == 0, f'items of {image.name} ends with {status}')
     for row in csv.DictReader(io.StringIO(text.decode('utf-8'), newline=''), strict=True):
-        modified = [f' modified {row["modified"]}'] if row['modified'] else []
+        modified = [f'{day_and_time(row["modified"])}\n(modified)'] if row['modified'] else []
         if row['kind'] == 'folder':
-            texts = [f' folder, items {row["items"]}', *modified]
+            texts = ['1 item' if row['items'] == '1' else f'{row["items"]} items', 'folder', *modified]
         else:
-            texts = [f' file, type {row["type"]}, creator {row["creator"]}', *modified,
-                     f' data fork {row["data_bytes"]} bytes, resource fork {row["resource_bytes"]} bytes']
-        yield [row['path'], texts]
+            both = int(row['data_bytes']) + int(row['resource_bytes'])
+            texts = [f'{size(both)}\n(data fork {row["data_bytes"]} bytes, resource fork {row["resource_bytes"]} bytes)',
+                     f'{row["type"]} {row["creator"]}\n(type, creator)', *modified]
+        yield [row['path'], row['id'], texts]
 
 
 # ---- what it says
 
 def cells_in(document):
     """The class and the title of each cell, each of which has its own square."""
-    picture = document.top.only('svg')
+    picture, = [it for it in document.top.all('svg') if it.attributes.get('id') == 'picture']
     rects = picture.all('rect')
     ensure(rects == picture.elements, 'the picture has other parts')
     ensure(picture.attributes['viewbox'] == f'0 0 {COLUMNS} {-(-len(rects) // COLUMNS)}', f'the picture is {picture.attributes}')
@@ -221,8 +252,16 @@ def item_in(element):
     return name.text, [it.text for it in spans]
 
 
+def extents_in(document):
+    """The extents of files, as the page lists them for its script."""
+    places, = [it for it in document.top.all('p') if it.attributes.get('id') == 'extents']
+    ensure(set(places.attributes) == {'id', 'hidden'} and not places.elements, 'the extents are seen')
+    ensure(re.fullmatch(r'( \d+:\d+\+\d+)*', places.text), f'the extents are {places.text[:40]!r}')
+    return [[int(number) for number in re.split('[:+]', it)] for it in places.text.split()]
+
+
 def rows_in(document):
-    """The path of each item, as far as elements lie in one another, and the texts beside its name."""
+    """The path of each item, as far as elements lie in one another, its ID, and the texts beside its name."""
     lists = [it for it in document.top.all('ul') if it.attributes.get('id') == 'items']
     ensure(len(lists) == 1, f'{len(lists)} lists of items')
     waiting = [('', 0, iter(lists[0].elements))]
@@ -232,17 +271,18 @@ def rows_in(document):
         if line is None:
             waiting.pop()
             continue
-        ensure(line.tag == 'li' and not line.attributes, f'{line.tag} {line.attributes} among the items')
+        ensure(line.tag == 'li' and list(line.attributes) == ['id'] and line.attributes['id'][0] == 'i', f'{line.tag} {line.attributes} among the items')
+        number = line.attributes['id'][1:]
         if line.elements[0].tag != 'details':
             name, texts = item_in(line)
-            yield [above + name, texts]
+            yield [above + name, number, texts]
             continue
         ensure(len(line.elements) == 1, 'something beside a folder')
         summary, inside = line.elements[0].elements
         ensure(summary.tag == 'summary' and inside.tag == 'ul', f'a folder of {summary.tag} and {inside.tag}')
         ensure(('open' in line.elements[0].attributes) == (depth == 0 and len(inside.elements) <= 1_000), f'a folder at depth {depth} is open or closed')
         name, texts = item_in(summary)
-        yield [above + name, texts]
+        yield [above + name, number, texts]
         waiting.append((f'{above}{name}:', depth + 1, iter(inside.elements)))
 
 
@@ -266,14 +306,15 @@ class Pages:
         document, catalog = Document(page.decode('utf-8')), Catalog(image.read_bytes())
         self.want_dress(document, characters(image.read_bytes()[MDB + 37:][:image.read_bytes()[MDB + 36]]))
 
-        rows = [[it.text for it in row.elements] for row in document.top.only('table').all('tr')]
-        ensure_same(rows, facts_of(catalog), f'{image.name}, the table')
-        ensure(all(it.attributes == {'scope': 'row'} for it in document.top.all('th')), f'{image.name}: the heads of rows')
+        rows = [[it.text for it in row.elements] for row in document.top.only('dl').elements]
+        ensure_same(rows, facts_of(catalog), f'{image.name}, what the volume is')
+        ensure([it.tag for it in document.top.only('main').elements] == ['h1', 'nav', 'dl', 'section', 'section', 'footer', 'script'], f'{image.name}: the parts')
 
         cells = list(cells_in(document))
         ensure_same(cells, list(cells_of(catalog)), f'{image.name}, the picture')
+        ensure_same(extents_in(document), list(extents_of(catalog)), f'{image.name}, the extents')
         rows = list(rows_in(document))
-        wanted = [[self.flat(path) if are_deep else path, texts] for path, texts in items_of(image)]
+        wanted = [[self.flat(path) if are_deep else path, number, texts] for path, number, texts in items_of(image)]
         ensure_same(rows, wanted, f'{image.name}, the items')
         self.count += 1
         self.items += len(rows)
@@ -293,11 +334,16 @@ class Pages:
         ensure(top.attributes == {'lang': 'en'} and top.only('head').only('title').text == title == top.only('h1').text, f'the title is {top.only("h1").text!r}')
         texts = [value for it in top.all('link') + top.all('meta') + top.all('input') for value in it.attributes.values()]
         texts += [it.text for tag in RAW for it in top.all(tag)]
-        ensure(not any(re.search(r'//|url\(|@import|fetch|XMLHttp', it or '') for it in texts), 'the page may ask for something')
-        ensure(all(set(it.attributes) <= {'id', 'class', 'lang', 'charset', 'name', 'content', 'http-equiv', 'rel', 'href', 'scope', 'role', 'aria-label',
-                                          'viewbox', 'x', 'y', 'width', 'height', 'for', 'type', 'autocomplete', 'hidden', 'open'}
+        ensure(not any(re.search(r'//|url\((?!#)|@import|fetch|XMLHttp', it or '') for it in texts), 'the page may ask for something')
+        names = [it.attributes['id'] for it in every(top) if 'id' in it.attributes]
+        ensure(len(set(names)) == len(names), 'two elements have one id')
+        ensure(top.only('footer').text == f'Printed by {VERSION}', f'the page says {top.only("footer").text!r}')
+        ensure(all(set(it.attributes) <= {'id', 'class', 'lang', 'charset', 'name', 'content', 'http-equiv', 'rel', 'href', 'role', 'aria-label', 'aria-hidden',
+                                          'viewbox', 'x', 'y', 'width', 'height', 'd', 'patternunits', 'for', 'type', 'autocomplete', 'hidden', 'open'}
                    for it in every(top)), 'an attribute that no page has')
-        ensure([it.attributes.get('href') for it in every(top) if 'href' in it.attributes] == ['data:,'], 'a link to somewhere')
+        links = [it.attributes.get('href') for it in every(top) if 'href' in it.attributes]
+        ensure(links in (['data:,'], ['data:,', '#list', '#blocks']), 'a link to somewhere')
+        ensure(all(it[1:] in names for it in links if it[0] == '#'), 'a link to nowhere')
 
     def image(self, name, content):
         image = self.folder / f'{name}.img'
@@ -393,9 +439,9 @@ def compare_many(pages, count):
     volume.write(pages.folder / 'many.img')
     page, rows = pages.want(pages.folder / 'many.img')
     ensure(len(rows) == 1 + count, f'{len(rows)} items')
-    names = sum(len(path.rpartition(':')[2]) for path, _ in rows)
-    items = len(page) - page.index(b'<ul id="items">')
-    ensure(len(page) - names <= 400 * len(rows) + page.index(b'<h2>Items'), f'{len(page)} bytes for {len(rows)} items, whose names have {names}')
+    names = sum(len(path.rpartition(':')[2]) for path, _, _ in rows)
+    items = page.index(b'<section id="blocks">') - page.index(b'<ul id="items">') + page.index(b'<p id="chosen">') - page.index(b'<p id="extents"')
+    ensure(items - names <= 480 * len(rows), f'{items} bytes for {len(rows)} items and their extents, whose names have {names}')
 
     volume = Volume(10)
     cut_files(volume, min(count, 1_000))
@@ -437,12 +483,13 @@ def compare_refused(pages):
         document = Document(pages.printed(image, 2).decode('utf-8'))
         pages.want_dress(document, 'Refused')
         texts = [it.text for it in document.top.only('main').elements]
-        ensure(texts == ['Refused', fault, meaning], f'the page of {name} says {texts}')
+        ensure(texts == ['Refused', fault, meaning, f'Printed by {VERSION}'], f'the page of {name} says {texts}')
         pages.count += 1
     with open(pages.folder / 'huge.img', 'wb') as huge:
         huge.truncate(2_147_483_648 + 512)
     document = Document(told('page', pages.folder / 'huge.img')[1].decode('utf-8'))
-    ensure([it.text for it in document.top.only('main').elements] == ['Refused', 'image too large', length], 'the page of an image that is too large')
+    ensure([it.text for it in document.top.only('main').elements] == ['Refused', 'image too large', length, f'Printed by {VERSION}'],
+           'the page of an image that is too large')
 
 
 def main():

@@ -9,8 +9,10 @@ use Rattle.hfs_check.specs.Parts.{Blocks, catalog_in, mdb_in}
 use Rattle.hfs_inventory.specs.Levels.{catalog_rows}
 use Rattle.hfs_inventory.specs.Told.{ToldRow}
 use Rattle.hfs_texts.specs.Writing.{AppendsFront}
-use Rattle.hfs_page.specs.Disk.{cells_in, page_in}
-use Rattle.hfs_page.specs.Document.{end_text, front_text}
+use Rattle.hfs_fields.specs.declared.mdb.Mdb.{Mdb}
+use Rattle.hfs_page.specs.declared.page_texts.PageTexts.{PageTexts}
+use Rattle.hfs_page.specs.Disk.{cells_in, holdings_in, page_in}
+use Rattle.hfs_page.specs.Document.{back_text, front_text}
 use Rattle.hfs_page.specs.Items.{closings, rows_text}
 use Rattle.hfs_page.specs.Rows.{MovesRow}
 
@@ -91,12 +93,13 @@ module _ (start : Option (List ℕ)) (whole : List ℕ) where
 
 -- ---- a page of three parts
 
-pub page-is : (style legend script : List ℕ) (blocks : Blocks) (one : List ℕ) (records : Catalog) (rows : List ToldRow)
-    → one ≡ front_text style legend (mdb_in blocks) (catalog_in blocks) (cells_in blocks) → records ≡ catalog_in blocks → rows ≡ catalog_rows records
-    → page_in style legend script blocks ≡ (one ++ rows_text 0 rows) ++ end_text script
+pub page-is : (texts : PageTexts) (total : ℕ) (blocks : Blocks) (one three : List ℕ) (count : ℕ) (mdb : Mdb) (records : Catalog) (rows : List ToldRow)
+    → count ≡ total → mdb ≡ mdb_in blocks → one ≡ front_text texts count mdb → records ≡ catalog_in blocks → rows ≡ catalog_rows records
+    → three ≡ back_text texts (catalog_in blocks) (holdings_in blocks) (cells_in blocks)
+    → page_in texts total blocks ≡ (one ++ rows_text 0 rows) ++ three
 unfolding page_in
-page-is style legend script blocks one records rows is of by =
-    λ i. (sym is i ++ rows_text 0 (sym (by ∙ ap catalog_rows of) i)) ++ end_text script
+page-is texts total blocks one three count mdb records rows all same is of by after =
+    λ i. (sym (is ∙ (λ j. front_text texts (all j) (same j))) i ++ rows_text 0 (sym (by ∙ ap catalog_rows of) i)) ++ sym after i
 
 pub page-none : {T E : Type 0} (r : Result T E) (start : Option (List ℕ)) (whole : List ℕ) → OnErr r (AppendsFront start start whole)
 page-none (Ok x) start whole = tt

@@ -6,9 +6,11 @@ pub mod Holdings
 pub mod Uses
 pub mod Cells
 pub mod Texts
+pub mod Sizes
 pub mod Items
 pub mod Facts
 pub mod Picture
+pub mod Extents
 pub mod Document
 pub mod Rows
 pub mod Disk

@@ -1,8 +1,9 @@
 //! Pages of images.
 
+use crate::help::VERSION;
 use hfs_check::MountFault;
 use hfs_commands::{BlockSource, Fault, NeededFault, OpenedImage, Status, open_part};
-use hfs_pages::{PageFault, legend, script, style, write_image_page, write_refused_page};
+use hfs_pages::{PageFault, standard_texts, write_image_page, write_refused_page};
 
 /// Prints the page of an image, or of the volume with this number that lies in it.
 pub fn print_page<'a>(
@@ -40,7 +41,8 @@ fn print_opened_page<S: BlockSource + Drop>(
     opened: &OpenedImage<S>,
 ) -> Result<u8, Fault<'static>> {
     let out = &mut rt.stdout();
-    match write_image_page(rt.alloc(), opened, style(), legend(), script(), out) {
+    let texts = standard_texts(VERSION.as_bytes());
+    match write_image_page(rt.alloc(), opened, &texts, out) {
         Ok(()) => Ok(Status::Done.number()),
         Err(PageFault::Memory) => Err(Fault::NoMemory),
         Err(PageFault::OutputFailed) => Err(Fault::OutputFailed),
@@ -49,7 +51,8 @@ fn print_opened_page<S: BlockSource + Drop>(
 
 /// Prints the page of an image that is refused.
 fn print_refused_page(rt: &HostRuntime, why: MountFault) -> Result<u8, Fault<'static>> {
-    match write_refused_page(rt.alloc(), why, style(), &mut rt.stdout()) {
+    let texts = standard_texts(VERSION.as_bytes());
+    match write_refused_page(rt.alloc(), why, &texts, &mut rt.stdout()) {
         Ok(()) => Ok(Status::ImageRefused.number()),
         Err(PageFault::Memory) => Err(Fault::NoMemory),
         Err(PageFault::OutputFailed) => Err(Fault::OutputFailed),
