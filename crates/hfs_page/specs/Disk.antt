@@ -23,4 +23,4 @@ cells_in blocks = picture_cells (block_uses (holdings_in blocks) (is_used blocks
 -- the page of the volume in an image of so many blocks, with these texts
 unfoldable pub page_in : PageTexts → ℕ → Blocks → List ℕ
 page_in texts total blocks =
-    front_text texts total (mdb_in blocks) ++ rows_text 0 (catalog_rows (catalog_in blocks)) ++ back_text texts (catalog_in blocks) (holdings_in blocks) (cells_in blocks)
+    front_text texts total (mdb_in blocks) ++ rows_text texts.image.base 0 (catalog_rows (catalog_in blocks)) ++ back_text texts (catalog_in blocks) (holdings_in blocks) (cells_in blocks)

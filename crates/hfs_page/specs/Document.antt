@@ -7,7 +7,7 @@ use Rattle.hfs_page.specs.declared.page_texts.PageTexts.{PageTexts}
 use Rattle.hfs_page.specs.declared.parts.Holding.{Holding}
 use Rattle.hfs_page.specs.Escapes.{escaped}
 use Rattle.hfs_page.specs.Extents.{extents_text}
-use Rattle.hfs_page.specs.Facts.{head_text, facts_text}
+use Rattle.hfs_page.specs.Facts.{head_text, facts_text, image_rows}
 use Rattle.hfs_page.specs.Picture.{picture_text}
 use Rattle.hfs_page.specs.Texts.{shown}
 
@@ -19,7 +19,7 @@ volume_name (len ∷ characters) = take len characters
 -- before the items of an image of so many blocks
 unfoldable pub front_text : PageTexts → ℕ → Mdb → List ℕ
 front_text texts total mdb =
-    head_text texts.style.now (shown (volume_name mdb.volume_name)) ++ facts_text total mdb ++ texts.columns.now ++ codes "<ul id=\"items\">\n"
+    head_text texts.style.now (shown (volume_name mdb.volume_name)) ++ facts_text texts.image total mdb ++ texts.columns.now ++ codes "<ul id=\"items\">\n"
 
 -- which program printed the page
 unfoldable pub version_text : List ℕ → List ℕ
@@ -36,5 +36,5 @@ back_text texts catalog holdings cells =
 -- of an image that is refused
 unfoldable pub refused_page : PageTexts → List ℕ → List ℕ → List ℕ
 refused_page texts refusal meaning =
-    head_text texts.style.now (codes "Refused") ++ codes "<p>" ++ escaped refusal ++ codes "</p>\n<p>" ++ escaped meaning ++ codes "</p>\n"
+    head_text texts.style.now (codes "Refused") ++ codes "<dl>\n<div><dt>Check</dt><dd>refused</dd></div>\n" ++ image_rows texts.image ++ codes "</dl>\n<p>" ++ escaped refusal ++ codes "</p>\n<p>" ++ escaped meaning ++ codes "</p>\n"
     ++ version_text texts.version.now ++ codes "</main>\n</body>\n</html>\n"

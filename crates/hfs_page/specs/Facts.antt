@@ -1,7 +1,10 @@
 -- What a page says of a volume before its picture.
-use Rattle.std.specs.Prelude.{ℕ, ◌*◌, List, ◌++◌, codes}
+use Rattle.std.specs.Prelude.{ℕ, ◌*◌, List, [], ◌++◌, codes, Option, Some, None}
+use Rattle.std.specs.Borrow.{Bor}
 use Rattle.std.specs.Fmt.{decimal}
 use Rattle.hfs_fields.specs.declared.mdb.Mdb.{Mdb}
+use Rattle.hfs_page.specs.declared.page_image.PageImage.{PageImage}
+use Rattle.hfs_page.specs.Escapes.{escaped}
 use Rattle.hfs_page.specs.Sizes.{size_text}
 use Rattle.hfs_page.specs.Texts.{date_text, told_number}
 
@@ -35,13 +38,24 @@ sizes_text mdb =
 unfoldable pub counts_text : Mdb → List ℕ
 counts_text mdb = count_row (codes "Files") mdb.files ++ count_row (codes "Folders") mdb.folders
 
+unfoldable pub text_row : List ℕ → List ℕ → List ℕ
+text_row label text = row_head label ++ escaped text ++ codes "</dd></div>\n"
+
+abbrev pub digest_row : Option (Bor (List ℕ)) → List ℕ
+digest_row None = []
+digest_row (Some digest) = text_row (codes "SHA-256") digest.now
+
+-- how the image's file is called, and its digest where it was taken
+unfoldable pub image_rows : PageImage → List ℕ
+image_rows image = text_row (codes "Image") image.name.now ++ digest_row image.digest
+
 -- links to the parts of the page; the volume is a sound one, since no other has more than its fault
 unfoldable pub facts_start : List ℕ
 facts_start =
     codes "<nav aria-label=\"On this page\"><a href=\"#list\">Items</a><a href=\"#blocks\">Blocks</a></nav>\n<dl>\n<div><dt>Check</dt><dd>sound</dd></div>\n"
 
-unfoldable pub facts_text : ℕ → Mdb → List ℕ
-facts_text total mdb = facts_start ++ lengths_text total mdb ++ dates_text mdb ++ counts_text mdb ++ sizes_text mdb ++ codes "</dl>\n"
+unfoldable pub facts_text : PageImage → ℕ → Mdb → List ℕ
+facts_text image total mdb = facts_start ++ image_rows image ++ lengths_text total mdb ++ dates_text mdb ++ counts_text mdb ++ sizes_text mdb ++ codes "</dl>\n"
 
 -- ---- the beginning of a page, with its title in markup
 

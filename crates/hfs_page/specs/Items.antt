@@ -1,9 +1,11 @@
 -- The items of a page, as a tree that opens and closes.
-use Rattle.std.specs.Prelude.{ℕ, zero, suc, ◌+◌, ◌-◌, ◌==◌, ◌&&◌, nat_le, nat_lt, min, if◌then◌else◌, List, [], ◌∷◌, ◌++◌, length, take, drop, codes}
+use Rattle.std.specs.Prelude.{ℕ, zero, suc, ◌+◌, ◌-◌, ◌==◌, ◌&&◌, nat_le, nat_lt, min, if◌then◌else◌, List, [], ◌∷◌, ◌++◌, length, take, drop, codes, Option}
+use Rattle.std.specs.Borrow.{Bor}
 use Rattle.hfs_model.specs.declared.reply.Info.{Info}
 use Rattle.hfs_model.specs.declared.reply.ItemKind.{ItemKind}
 use Rattle.hfs_model.specs.declared.reply.ItemKind.TheVariants.{Folder, File}
 use Rattle.hfs_inventory.specs.Told.{ToldRow}
+use Rattle.hfs_page.specs.Links.{link_end, link_start}
 use Rattle.hfs_page.specs.Sizes.{told_size}
 use Rattle.hfs_page.specs.Texts.{shown, told_date, told_number, told_text}
 
@@ -33,8 +35,12 @@ unfoldable pub type_text : Info → List ℕ
 type_text info =
     told_text (codes "<span>") (take 4 info.finder) ++ told_text (codes " ") (take 4 (drop 4 info.finder)) ++ codes "\n(type, creator)</span>"
 
-unfoldable pub file_text : Info → List ℕ
-file_text info = name_tagged info ++ sizes_text info ++ type_text info ++ modified_text info.modified
+-- a file's name, which is a link where the URL of a bag is known; the path are the names from the root's down
+unfoldable pub file_name : Option (Bor (List ℕ)) → List (List ℕ) → Info → List ℕ
+file_name base path info = codes "<b>" ++ link_start base path ++ shown info.name ++ link_end base ++ codes "</b>"
+
+unfoldable pub file_text : Option (Bor (List ℕ)) → List (List ℕ) → Info → List ℕ
+file_text base path info = file_name base path info ++ sizes_text info ++ type_text info ++ modified_text info.modified
 
 -- ---- rows. The depth of an item is the number of folders in which it lies; at most 100 of them open and close
 
@@ -53,16 +59,16 @@ nested_text depth info = row_start info ++ opening depth info.valence ++ folder_
 unfoldable pub flat_text : Info → List ℕ
 flat_text info = row_start info ++ folder_text info ++ codes "</li>\n"
 
-unfoldable pub leaf_text : Info → List ℕ
-leaf_text info = row_start info ++ file_text info ++ codes "</li>\n"
+unfoldable pub leaf_text : Option (Bor (List ℕ)) → List (List ℕ) → Info → List ℕ
+leaf_text base path info = row_start info ++ file_text base path info ++ codes "</li>\n"
 
-abbrev pub item_by : ItemKind → ℕ → Info → List ℕ
-item_by Folder depth info = if nat_lt depth 100 then nested_text depth info else flat_text info
-item_by File depth info = leaf_text info
+abbrev pub item_by : ItemKind → Option (Bor (List ℕ)) → List (List ℕ) → ℕ → Info → List ℕ
+item_by Folder base path depth info = if nat_lt depth 100 then nested_text depth info else flat_text info
+item_by File base path depth info = leaf_text base path info
 
 -- all of a file, and of a folder what stands before its children
-unfoldable pub item_text : ℕ → Info → List ℕ
-item_text depth info = item_by info.kind depth info
+unfoldable pub item_text : Option (Bor (List ℕ)) → List (List ℕ) → ℕ → Info → List ℕ
+item_text base path depth info = item_by info.kind base path depth info
 
 -- the ends of so many folders
 unfoldable pub closings : ℕ → List ℕ
@@ -78,10 +84,10 @@ abbrev pub open_behind : ℕ → Info → ℕ
 open_behind depth info = open_by info.kind depth
 
 -- the row of an item where so many folders stand open: the ends of those in which it doesn't lie, and the item
-unfoldable pub row_text : ℕ → ℕ → Info → List ℕ
-row_text opened depth info = closings (opened - min 100 depth) ++ item_text depth info
+unfoldable pub row_text : Option (Bor (List ℕ)) → ℕ → List (List ℕ) → Info → List ℕ
+row_text base opened path info = closings (opened - min 100 (length path - 1)) ++ item_text base path (length path - 1) info
 
 -- the rows of a table, where so many folders stand open
-abbrev pub rows_text : ℕ → List ToldRow → List ℕ
-rows_text opened [] = closings opened
-rows_text opened (row ∷ rows) = row_text opened (length row.path - 1) row.info ++ rows_text (open_behind (length row.path - 1) row.info) rows
+abbrev pub rows_text : Option (Bor (List ℕ)) → ℕ → List ToldRow → List ℕ
+rows_text base opened [] = closings opened
+rows_text base opened (row ∷ rows) = row_text base opened row.path row.info ++ rows_text base (open_behind (length row.path - 1) row.info) rows

@@ -1,6 +1,8 @@
 pub mod Pieces
 pub mod Escapes
+pub mod Bases
 pub mod Laws
+pub mod Links
 pub mod Parts
 pub mod Holdings
 pub mod Uses

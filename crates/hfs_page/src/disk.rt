@@ -170,7 +170,7 @@ pub fn write_page<B: Blocks, W: Write>(
     };
     let mut items = inventory(alloc, records)?;
     put_piece(writer, &front)?;
-    write_rows(alloc, &mut items, writer)?;
+    write_rows(alloc, &mut items, texts.image.base, writer)?;
     put_piece(writer, &back)?;
     Ok(())
 }

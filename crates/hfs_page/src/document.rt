@@ -8,7 +8,7 @@ ghost use Rattle.hfs_page.specs.Texts.{shown};
 use crate::cells::Cell;
 use crate::escaping::push_escaped;
 use crate::extents::push_extents;
-use crate::facts::{push_facts, push_head};
+use crate::facts::{push_facts, push_head, push_image_rows};
 use crate::page_texts::PageTexts;
 use crate::parts::Holding;
 use crate::picture::push_picture;
@@ -62,7 +62,7 @@ fn push_front(
     ensures { OnOk result (Gains page.old page.new (front_text texts.now total mdb.now)) }
 {
     push_named_head(alloc, page, texts.style, mdb)?;
-    push_facts(alloc, page, total, mdb)?;
+    push_facts(alloc, page, &texts.image, total, mdb)?;
     push_bytes(page, texts.columns)?;
     push_bytes(page, b"<ul id=\"items\">\n")
 }
@@ -137,7 +137,8 @@ pub(crate) fn back(
     Ok(page)
 }
 
-/// Appends the whole page of an image that is refused: the fault and what it means.
+/// Appends the whole page of an image that is refused: what is known of the image, the fault, and what
+/// it means.
 pub fn push_refused_page(
     page: &mut Vec<u8>,
     texts: &PageTexts<'_>,
@@ -148,7 +149,9 @@ pub fn push_refused_page(
         (refused_page texts.now refusal.now meaning.now)) }
 {
     push_head(page, texts.style, b"Refused")?;
-    push_bytes(page, b"<p>")?;
+    push_bytes(page, b"<dl>\n<div><dt>Check</dt><dd>refused</dd></div>\n")?;
+    push_image_rows(page, &texts.image)?;
+    push_bytes(page, b"</dl>\n<p>")?;
     push_escaped(page, refusal)?;
     push_bytes(page, b"</p>\n<p>")?;
     push_escaped(page, meaning)?;

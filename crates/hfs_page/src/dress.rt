@@ -1,6 +1,7 @@
 //! What a page wears: a page asks for nothing from elsewhere, and does without its script.
 ghost use Rattle.std.specs.Prelude.{◌≡◌};
 
+use crate::page_image::PageImage;
 use crate::page_texts::PageTexts;
 use crate::script::script;
 use crate::style::style;
@@ -42,9 +43,10 @@ shows the first of these uses that one of its blocks has.</p>
 "
 }
 
-/// The texts of all pages that this version of the program prints.
-pub fn standard_texts(version: &[u8]) -> PageTexts<'_>
-    ensures { result.version.now ≡ version.now }
+/// The texts of all pages that this version of the program prints, for the page of this image.
+pub fn standard_texts<'a>(version: &'a [u8], image: PageImage<'a>) -> PageTexts<'a>
+    ensures version { result.version.now ≡ version.now }
+    ensures image { result.image ≡ image }
 {
     PageTexts {
         style: style(),
@@ -52,5 +54,6 @@ pub fn standard_texts(version: &[u8]) -> PageTexts<'_>
         legend: legend(),
         script: script(),
         version,
+        image,
     }
 }

@@ -1,10 +1,12 @@
 //! What a page says of a volume before its picture.
 ghost use Rattle.std.specs.Prelude.{◌++◌, ◌<◌, ◌^◌, OnOk, codes};
-ghost use Rattle.hfs_page.specs.Facts.{count_row, counts_text, date_row, dates_text, head_text, lengths_text, row_head, size_row, sizes_text, start_text, facts_start, facts_text};
+ghost use Rattle.hfs_page.specs.Facts.{count_row, counts_text, digest_row, date_row, dates_text, head_text, image_rows, lengths_text, row_head, size_row, sizes_text, start_text, facts_start, facts_text, text_row};
 ghost use Rattle.hfs_page.specs.Pieces.{Gains};
 ghost use Rattle.hfs_page.specs.Sizes.{size_text};
 ghost use Rattle.hfs_page.specs.Texts.{told_number};
 
+use crate::escaping::push_escaped;
+use crate::page_image::PageImage;
 use crate::pieces::push_bytes;
 use crate::sizes::push_size;
 use crate::texts::{push_date, push_number, push_told_number};
@@ -130,6 +132,35 @@ fn push_counts(alloc: Global, page: &mut Vec<u8>, mdb: &Mdb) -> Result<(), Alloc
     push_count_row(alloc, page, b"Folders", mdb.folders)
 }
 
+/// Appends a row of a text, escaped.
+#[tactic(auto, unfolding(crate::specs::Facts::text_row))]
+fn push_text_row(page: &mut Vec<u8>, label: &[u8], text: &[u8]) -> Result<(), AllocError>
+    ensures { OnOk result (Gains page.old page.new (text_row label.now text.now)) }
+{
+    push_row_head(page, label)?;
+    push_escaped(page, text)?;
+    push_bytes(page, b"</dd></div>\n")
+}
+
+/// Appends the row of the image's digest, if it was taken.
+fn push_digest_row(page: &mut Vec<u8>, digest: Option<&[u8]>) -> Result<(), AllocError>
+    ensures { OnOk result (Gains page.old page.new (digest_row digest)) }
+{
+    match digest {
+        Some(digest) => push_text_row(page, b"SHA-256", digest),
+        None => Ok(()),
+    }
+}
+
+/// Appends what the image's file is called, and its digest.
+#[tactic(auto, unfolding(crate::specs::Facts::image_rows))]
+pub(crate) fn push_image_rows(page: &mut Vec<u8>, image: &PageImage<'_>) -> Result<(), AllocError>
+    ensures { OnOk result (Gains page.old page.new (image_rows image.now)) }
+{
+    push_text_row(page, b"Image", image.name)?;
+    push_digest_row(page, image.digest)
+}
+
 /// Appends the links to the parts of the page, and the beginning of the list of what the volume is.
 #[tactic(auto, unfolding(crate::specs::Facts::facts_start))]
 fn push_facts_start(page: &mut Vec<u8>) -> Result<(), AllocError>
@@ -141,17 +172,19 @@ fn push_facts_start(page: &mut Vec<u8>) -> Result<(), AllocError>
     )
 }
 
-/// Appends the list of what the volume in an image of so many blocks is. It is of a sound one, since
-/// no other has a page with more than its fault.
+/// Appends the list of what the volume in this image of so many blocks is. It is of a sound one,
+/// since no other has a page with more than its fault.
 pub(crate) fn push_facts(
     alloc: Global,
     page: &mut Vec<u8>,
+    image: &PageImage<'_>,
     total: u32,
     mdb: &Mdb,
 ) -> Result<(), AllocError>
-    ensures { OnOk result (Gains page.old page.new (facts_text total mdb.now)) }
+    ensures { OnOk result (Gains page.old page.new (facts_text image.now total mdb.now)) }
 {
     push_facts_start(page)?;
+    push_image_rows(page, image)?;
     push_lengths(alloc, page, total, mdb)?;
     push_dates(alloc, page, mdb)?;
     push_counts(alloc, page, mdb)?;

@@ -3,11 +3,13 @@ ghost use Rattle.std.specs.Prelude.{◌≡◌, ◌+◌, ◌<◌, ◌^◌, OnOk, 
 ghost use Rattle.hfs_page.specs.Pieces.{Gains};
 ghost use Rattle.hfs_page.specs.Sizes.{told_size};
 ghost use Rattle.hfs_page.specs.Texts.{told_number};
-ghost use Rattle.hfs_page.specs.Items.{closings, file_text, flat_text, folder_text, item_text, items_word, leaf_text, modified_text, name_tagged, nested_text, open_behind, opening, row_start, row_text, sizes_text, type_text};
+ghost use Rattle.hfs_page.specs.Items.{closings, file_name, file_text, flat_text, folder_text, item_text, items_word, leaf_text, modified_text, name_tagged, nested_text, open_behind, opening, row_start, row_text, sizes_text, type_text};
 
+use crate::links::{push_link_end, push_link_start};
 use crate::pieces::push_bytes;
 use crate::sizes::push_told_size;
 use crate::texts::{push_shown, push_told_date, push_told_number, push_told_text};
+use hfs_fields::Name;
 use hfs_model::{Info, ItemKind};
 use std::alloc::{AllocError, Global};
 
@@ -97,12 +99,36 @@ fn push_type(alloc: Global, page: &mut Vec<u8>, info: &Info) -> Result<(), Alloc
     push_bytes(page, b"\n(type, creator)</span>")
 }
 
+/// Appends a file's name, as a link to the file where the URL of a bag is known.
+#[tactic(auto, unfolding(crate::specs::Items::file_name))]
+fn push_file_name(
+    alloc: Global,
+    page: &mut Vec<u8>,
+    base: Option<&[u8]>,
+    path: &[Name],
+    info: &Info,
+) -> Result<(), AllocError>
+    ensures { OnOk result (Gains page.old page.new (file_name base path.now info.now)) }
+{
+    push_bytes(page, b"<b>")?;
+    push_link_start(alloc, page, base, path)?;
+    push_shown(alloc, page, info.name.bytes())?;
+    push_link_end(page, base)?;
+    push_bytes(page, b"</b>")
+}
+
 /// Appends what is told of a file.
 #[tactic(auto, unfolding(crate::specs::Items::file_text))]
-fn push_file(alloc: Global, page: &mut Vec<u8>, info: &Info) -> Result<(), AllocError>
-    ensures { OnOk result (Gains page.old page.new (file_text info.now)) }
+fn push_file(
+    alloc: Global,
+    page: &mut Vec<u8>,
+    base: Option<&[u8]>,
+    path: &[Name],
+    info: &Info,
+) -> Result<(), AllocError>
+    ensures { OnOk result (Gains page.old page.new (file_text base path.now info.now)) }
 {
-    push_name(alloc, page, info)?;
+    push_file_name(alloc, page, base, path, info)?;
     push_sizes(alloc, page, info)?;
     push_type(alloc, page, info)?;
     push_modified(alloc, page, info.modified)
@@ -170,19 +196,32 @@ fn push_flat(alloc: Global, page: &mut Vec<u8>, info: &Info) -> Result<(), Alloc
 
 /// Appends a file.
 #[tactic(auto, unfolding(crate::specs::Items::leaf_text))]
-fn push_leaf(alloc: Global, page: &mut Vec<u8>, info: &Info) -> Result<(), AllocError>
-    ensures { OnOk result (Gains page.old page.new (leaf_text info.now)) }
+fn push_leaf(
+    alloc: Global,
+    page: &mut Vec<u8>,
+    base: Option<&[u8]>,
+    path: &[Name],
+    info: &Info,
+) -> Result<(), AllocError>
+    ensures { OnOk result (Gains page.old page.new (leaf_text base path.now info.now)) }
 {
     push_row_start(alloc, page, info)?;
-    push_file(alloc, page, info)?;
+    push_file(alloc, page, base, path, info)?;
     push_bytes(page, b"</li>\n")
 }
 
 /// Appends an item that lies in so many folders: all of a file, and of a folder what stands before
 /// its children.
 #[tactic(auto, unfolding(crate::specs::Items::item_text))]
-fn push_item(alloc: Global, page: &mut Vec<u8>, depth: usize, info: &Info) -> Result<(), AllocError>
-    ensures { OnOk result (Gains page.old page.new (item_text depth info.now)) }
+fn push_item(
+    alloc: Global,
+    page: &mut Vec<u8>,
+    base: Option<&[u8]>,
+    path: &[Name],
+    depth: usize,
+    info: &Info,
+) -> Result<(), AllocError>
+    ensures { OnOk result (Gains page.old page.new (item_text base path.now depth info.now)) }
 {
     match info.kind {
         ItemKind::Folder => {
@@ -192,7 +231,7 @@ fn push_item(alloc: Global, page: &mut Vec<u8>, depth: usize, info: &Info) -> Re
                 push_flat(alloc, page, info)
             }
         }
-        ItemKind::File => push_leaf(alloc, page, info),
+        ItemKind::File => push_leaf(alloc, page, base, path, info),
     }
 }
 
@@ -207,18 +246,20 @@ pub(crate) fn open_behind(depth: usize, info: &Info) -> usize
     }
 }
 
-/// Appends the row of an item that lies in so many folders, where so many stand open: the ends of
-/// those in which it doesn't lie, and then the item.
+/// Appends the row of an item with the names that lead to it, where so many folders stand open: the
+/// ends of those in which it doesn't lie, and then the item.
 #[tactic(auto, unfolding(crate::specs::Items::row_text))]
 pub(crate) fn push_row(
     alloc: Global,
     page: &mut Vec<u8>,
+    base: Option<&[u8]>,
     opened: usize,
-    depth: usize,
+    path: &[Name],
     info: &Info,
 ) -> Result<(), AllocError>
-    ensures { OnOk result (Gains page.old page.new (row_text opened depth info.now)) }
+    ensures { OnOk result (Gains page.old page.new (row_text base opened path.now info.now)) }
 {
+    let depth = path.len().saturating_sub(1);
     push_closings(page, opened.saturating_sub(MOST_OPEN.min(depth)))?;
-    push_item(alloc, page, depth, info)
+    push_item(alloc, page, base, path, depth, info)
 }

@@ -1,6 +1,7 @@
 //! A page for a disk: one document of HTML, with a picture of the disk and its items.
 #![tactic(auto)]
 
+mod bases;
 mod cells;
 mod disk;
 mod document;
@@ -11,6 +12,8 @@ mod facts;
 mod holdings;
 mod items;
 mod laws;
+mod links;
+mod page_image;
 mod page_texts;
 mod parts;
 mod picture;
@@ -22,6 +25,7 @@ mod style;
 mod texts;
 mod uses;
 
+pub use bases::is_base;
 pub use cells::{Cell, picture_cells};
 pub use disk::write_page;
 pub use document::push_refused_page;
@@ -29,6 +33,7 @@ pub use dress::standard_texts;
 pub use escaping::push_escaped;
 pub use holdings::volume_holdings;
 pub use laws::escaped_texts_are_text;
+pub use page_image::PageImage;
 pub use page_texts::PageTexts;
 pub use parts::{BlockUse, FileFork, Holding, Part};
 pub use rows::PageFault;

@@ -13,7 +13,7 @@ const picture = document.getElementById(\"picture\");
 const chosen = document.getElementById(\"chosen\");
 const squares = picture.getElementsByTagName(\"rect\");
 const cells = row => row.firstElementChild.localName === \"b\" ? row.children : row.firstElementChild.firstElementChild.children;
-const isFile = row => row.firstElementChild.localName === \"b\" && row.children[1].textContent.endsWith(\" bytes)\");
+const isFile = row => row.firstElementChild.localName === \"b\" && row.children[1].textContent.endsWith(\")\");
 
 /* What is read of the items, once: the last of a folder before the folder. */
 let items;
@@ -127,12 +127,12 @@ const mark = (name, is) => {
   for (const place of is) squares[place].classList.add(name);
 };
 const choose = other => {
-  if (row) row.firstElementChild.setAttribute(\"aria-pressed\", \"false\");
-  row = other === row ? undefined : other;
+  if (row) row.className = \"\";
+  row = other;
   const places = new Set();
   let text = \"\";
   if (row) {
-    row.firstElementChild.setAttribute(\"aria-pressed\", \"true\");
+    row.className = \"picked\";
     const all = extentsOf(row);
     for (const [first, count] of all) {
       for (let place = Math.floor(first / width()); place <= Math.floor((first + count - 1) / width()); place++) places.add(place);
@@ -145,26 +145,37 @@ const choose = other => {
   picture.classList.toggle(\"choosing\", places.size > 0);
   chosen.textContent = text;
 };
+const toggle = other => choose(other === row ? undefined : other);
+
+/* The keyboard reaches a file by its link, or else by its name. Of a large folder each name is made ready as it comes into sight. */
+const mostReady = 1000;
+const ready = row => {
+  const name = row.firstElementChild;
+  if (name.localName !== \"b\" || name.tabIndex === 0 || name.firstElementChild || !isFile(row)) return;
+  name.tabIndex = 0;
+  name.setAttribute(\"role\", \"button\");
+};
 const reach = folder => {
   if (!folder.open) return;
-  for (const child of folder.lastElementChild.children) {
-    if (isFile(child) && !child.firstElementChild.hasAttribute(\"tabindex\")) {
-      child.firstElementChild.setAttribute(\"tabindex\", \"0\");
-      child.firstElementChild.setAttribute(\"role\", \"button\");
-      child.firstElementChild.setAttribute(\"aria-pressed\", \"false\");
-    }
-  }
+  const rows = folder.lastElementChild.children;
+  for (let k = 0; k < rows.length && k < mostReady; k++) ready(rows[k]);
 };
 list.addEventListener(\"toggle\", event => reach(event.target), true);
+list.addEventListener(\"contentvisibilityautostatechange\", event => {
+  if (!event.skipped && event.target.localName === \"li\") ready(event.target);
+});
 for (const folder of list.querySelectorAll(\"#items>li>details[open]\")) reach(folder);
 list.addEventListener(\"click\", event => {
   const own = event.target.closest(\"li\");
-  if (own && isFile(own) && event.target.localName === \"b\") choose(own);
+  if (own && isFile(own) && event.target.localName !== \"a\") toggle(own);
+});
+list.addEventListener(\"focusin\", event => {
+  if (event.target.localName === \"a\") choose(event.target.closest(\"li\"));
 });
 list.addEventListener(\"keydown\", event => {
   if (event.target.localName !== \"b\" || event.key !== \"Enter\" && event.key !== \" \") return;
   event.preventDefault();
-  choose(event.target.parentElement);
+  toggle(event.target.parentElement);
 });
 list.className = \"chooses\";
 

@@ -56,14 +56,22 @@ button[data-order=down]::after{content:\" \\2193\"}
 summary{cursor:pointer}
 summary:hover b,#items.chooses li>b:hover{color:var(--mark)}
 #items.chooses li>b{cursor:pointer}
-#items b[aria-pressed=true]{color:var(--mark);text-decoration:underline}
-:focus-visible{outline:2px solid var(--mark);outline-offset:2px}
-#items li{padding:.2rem 0}
+#items .picked>b{color:var(--mark);text-decoration:underline}
+:focus-visible{outline:2px solid var(--mark);outline-offset:-2px}
+#items li{position:relative;padding:.2rem 0;content-visibility:auto;contain-intrinsic-block-size:auto 2rem}
+#items li:hover,#items .picked{content-visibility:visible}
 #items li[hidden]{display:none}
-#items ul{margin-left:.45rem;padding-left:1rem;border-left:1px solid var(--line)}
+#items ul{margin-left:.35rem;padding-left:.8rem;border-left:1px solid var(--line)}
 #items ul ul ul ul ul ul ul ul{margin:0;padding:0;border:0}
 #items b{font-weight:600;white-space:pre-wrap;margin-right:.5em}
-#items span{margin-right:.75em;font-size:.875rem;font-variant-numeric:tabular-nums}
+#items li>b{display:block}
+#items a{color:inherit;text-decoration-color:var(--edge)}
+#items a:hover{color:var(--mark)}
+#items span{display:inline-block;vertical-align:top;max-height:1.5em;overflow:hidden;white-space:pre;
+margin-right:.75em;max-width:9.6em;font-size:.875rem;line-height:1.5;font-variant-numeric:tabular-nums}
+#items span:nth-child(2){max-width:5em}
+#items span:nth-child(3){max-width:6em}
+#items .picked span{display:block;max-width:none;max-height:none;white-space:pre-line}
 @media (max-width:71.99rem){
 #chosen:not(:empty){position:fixed;inset:auto 0 0;margin:0;padding:.5rem 1rem;background:var(--paper);border-top:1px solid var(--line)}
 }
@@ -79,22 +87,22 @@ button{padding:0;margin:0}
 #items summary{position:relative}
 #heads,#items summary,#items li:not([hidden]){display:grid;column-gap:1rem;align-items:baseline;
 grid-template-columns:minmax(8rem,1fr) 4.75rem 6rem 9.5rem}
-#items li{position:relative}
+#heads,#items li{padding-left:.8rem}
+#items ul{margin-left:-.4rem;padding-left:.35rem}
 #items details{grid-column:1/-1;min-width:0}
 #items b{margin:0;grid-column:1}
-#items span{margin:0;grid-row:1;max-height:1.5em;overflow:hidden;white-space:pre}
+#items span,#items .picked span{display:block;margin:0;max-width:none;max-height:1.5em;white-space:pre;grid-row:1}
+#items span:nth-child(n){max-width:none}
 #items span:nth-child(2),#heads span:nth-child(2){grid-column:2;text-align:right}
 #items span:nth-child(3){grid-column:3}
 #items span:nth-child(4){grid-column:4}
-#items span:hover{position:absolute;z-index:1;right:0;max-height:none;overflow:visible;background:var(--paper);
+#items span:hover{position:absolute;z-index:1;right:0;max-height:none!important;overflow:visible;background:var(--paper);
 color:var(--ink);padding:0 .5rem .25rem;box-shadow:0 1px 4px var(--edge)}
 #items summary{list-style:none}
 #items summary::-webkit-details-marker{display:none}
 #items summary::before{content:\"\";position:absolute;left:-.8rem;top:.5rem;
 border:.3rem solid transparent;border-left:.45rem solid var(--faint);border-right:0}
 #items details[open]>summary::before{transform:rotate(90deg)}
-#items{padding-left:.8rem}
-#heads{padding-left:.8rem}
 }
 "
 }

@@ -52,7 +52,7 @@ module _ (total : ℕ) (old new : Blocks) (same : HoldSame total old new) where
   pub page-same : (texts : PageTexts) (count : ℕ) → page_in texts count new ≡ page_in texts count old
   unfolding page_in
   page-same texts count =
-      λ i. front_text texts count (same.directory i) ++ rows_text 0 (catalog_rows (same.catalog i)) ++ back_text texts (same.catalog i) (holdings-same i) (cells-same i)
+      λ i. front_text texts count (same.directory i) ++ rows_text texts.image.base 0 (catalog_rows (same.catalog i)) ++ back_text texts (same.catalog i) (holdings-same i) (cells-same i)
 
 -- what holds of the page of the blocks that were read holds of that of the image
 pub known-page : (P : List ℕ → Type 0) (texts : PageTexts) (known : Option (List ℕ)) (len : ℕ) (read : Numbered) → GatheredIsEnough
