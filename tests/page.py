@@ -6,7 +6,7 @@ order, each with its ID. Volumes are those in
 tests/volumes, some of each part of a disk that are laid here, and some that are filled by `run`: one with every printable
 character in its names, one of folders deep in one another, and a large one, whose page has at most 480 bytes for an item
 beside its name. Each page is asked for by the image's path, out of a pipe, and as a volume in another file; images that
-are refused have a page of their own.
+are refused have a page of their own. Links lead to the files of the bag that `take` makes; digests are hashlib's.
 
 tests/page.py [--items N] [--kept FOLDER]      runs $HFS_TOOL, or the program as it is built in crates/hfs_tool/out
 
@@ -15,6 +15,7 @@ It prints how many pages there were; at a difference it says which and ends with
 import argparse
 import csv
 import gzip
+import hashlib
 import io
 import re
 import subprocess
@@ -25,6 +26,7 @@ from dataclasses import dataclass, field
 from decimal import ROUND_HALF_UP, Decimal
 from html.parser import HTMLParser
 from pathlib import Path
+from urllib.parse import quote, unquote
 
 from catalog_records import Catalog
 from driver.image import DATA_FORK, MDB, RESOURCE_FORK, extents_at
@@ -159,14 +161,14 @@ def day_and_time(date):
     return date.replace('T', ' ')
 
 
-def facts_of(catalog):
-    """The list of what the volume is."""
+def facts_of(catalog, image):
+    """The list of what the volume of an image is."""
     mdb = catalog.image.field
 
     def sized(count):
         return f'{size(count)} ({count} bytes)'
 
-    return [['Check', 'sound'], ['Length', sized(len(catalog.image.content) // 512 * 512)], ['Free', sized(mdb(34, 2) * mdb(20, 4))],
+    return [['Check', 'sound'], ['Image', image.name], ['Length', sized(len(catalog.image.content) // 512 * 512)], ['Free', sized(mdb(34, 2) * mdb(20, 4))],
             *([label, day_and_time(moment(mdb(at, 4)))] for label, at in (('Created', 2), ('Modified', 6), ('Backup', 64))),
             ['Files', str(mdb(84, 4))], ['Folders', str(mdb(88, 4))],
             ['Allocation blocks', str(mdb(18, 2))], ['Bytes of each block', str(mdb(20, 4))], ['Free blocks', str(mdb(34, 2))]]
@@ -260,11 +262,15 @@ def extents_in(document):
     return [[int(number) for number in re.split('[:+]', it)] for it in places.text.split()]
 
 
-def rows_in(document):
-    """The path of each item, as far as elements lie in one another, its ID, and the texts beside its name."""
+def items_list(document):
     lists = [it for it in document.top.all('ul') if it.attributes.get('id') == 'items']
     ensure(len(lists) == 1, f'{len(lists)} lists of items')
-    waiting = [('', 0, iter(lists[0].elements))]
+    return lists[0]
+
+
+def rows_in(document):
+    """The path of each item, as far as elements lie in one another, its ID, and the texts beside its name."""
+    waiting = [('', 0, iter(items_list(document).elements))]
     while waiting:
         above, depth, left = waiting[-1]
         line = next(left, None)
@@ -286,6 +292,13 @@ def rows_in(document):
         waiting.append((f'{above}{name}:', depth + 1, iter(inside.elements)))
 
 
+def renamed(page, name, other):
+    """A page with another name of its image."""
+    row = '<dt>Image</dt><dd>%s</dd>'
+    ensure(page.count((row % name).encode()) == 1, f'the page names no {name}')
+    return page.replace((row % name).encode(), (row % other).encode())
+
+
 class Pages:
     """Pages that were compared, how many items and cells they had, and how often each part."""
 
@@ -297,7 +310,8 @@ class Pages:
         """What `page` prints of an image, by its path and out of a pipe."""
         page = told('page', image)
         ensure(page[0] == status, f'page of {image.name} ends with {page[0]}')
-        ensure(told('page', '/dev/stdin', given=image.read_bytes()) == page, f'page of {image.name} is another one out of a pipe')
+        piped = told('page', '/dev/stdin', given=image.read_bytes())
+        ensure((piped[0], renamed(piped[1], 'stdin', image.name)) == page, f'page of {image.name} is another one out of a pipe')
         return page[1]
 
     def want(self, image, are_deep=False):
@@ -307,7 +321,7 @@ class Pages:
         self.want_dress(document, characters(image.read_bytes()[MDB + 37:][:image.read_bytes()[MDB + 36]]))
 
         rows = [[it.text for it in row.elements] for row in document.top.only('dl').elements]
-        ensure_same(rows, facts_of(catalog), f'{image.name}, what the volume is')
+        ensure_same(rows, facts_of(catalog, image), f'{image.name}, what the volume is')
         ensure([it.tag for it in document.top.only('main').elements] == ['h1', 'nav', 'dl', 'section', 'section', 'footer', 'script'], f'{image.name}: the parts')
 
         cells = list(cells_in(document))
@@ -342,7 +356,7 @@ class Pages:
                                           'viewbox', 'x', 'y', 'width', 'height', 'd', 'patternunits', 'for', 'type', 'autocomplete', 'hidden', 'open'}
                    for it in every(top)), 'an attribute that no page has')
         links = [it.attributes.get('href') for it in every(top) if 'href' in it.attributes]
-        ensure(links in (['data:,'], ['data:,', '#list', '#blocks']), 'a link to somewhere')
+        ensure(sorted(links) in (['data:,'], ['#blocks', '#list', 'data:,']), f'links to {links}')
         ensure(all(it[1:] in names for it in links if it[0] == '#'), 'a link to nowhere')
 
     def image(self, name, content):
@@ -456,8 +470,10 @@ def compare_ways(pages):
     wanted = told('page', VOLUMES / 'hfsutils-800k.img')
     for name, content in {'map': in_map(volume, 512), 'copy': in_disk_copy(volume)}.items():
         image = pages.image(name, content)
-        ensure(told('page', image, '--volume', 1) == wanted, f'page of a volume in a {name}')
-        ensure(told('page', '/dev/stdin', '--volume', 1, given=content) == wanted, f'page of a volume in a {name} out of a pipe')
+        for ways, given in (((image,), None), (('/dev/stdin',), content)):
+            status, page = told('page', *ways, '--volume', 1, given=given)
+            page = renamed(page, 'stdin' if given else image.name, 'hfsutils-800k.img')
+            ensure((status, page) == wanted, f'page of a volume in a {name}, {"out of a pipe" if given else "by its path"}')
         ensure(told('page', image, '--volume', 2) == (2, b'no volume 2\n') == told('page', image, '--volume', 2), f'page of volume 2 of a {name}')
     absent = pages.folder / 'absent.img'
     ensure(told('page', absent) == (4, f'cannot read {absent}\n'.encode()), 'page of a file that is not there')
@@ -482,14 +498,52 @@ def compare_refused(pages):
         ensure(told('ls', image) == (2, f'{fault}\n'.encode()), f'ls of {name} prints {told("ls", image)}')
         document = Document(pages.printed(image, 2).decode('utf-8'))
         pages.want_dress(document, 'Refused')
-        texts = [it.text for it in document.top.only('main').elements]
+        texts = [it.text for it in document.top.only('main').elements if it.tag != 'dl']
+        rows = [[it.text for it in row.elements] for row in document.top.only('dl').elements]
         ensure(texts == ['Refused', fault, meaning, f'Printed by {VERSION}'], f'the page of {name} says {texts}')
+        ensure(rows == [['Check', 'refused'], ['Image', image.name]], f'the page of {name} says {rows}')
         pages.count += 1
     with open(pages.folder / 'huge.img', 'wb') as huge:
         huge.truncate(2_147_483_648 + 512)
     document = Document(told('page', pages.folder / 'huge.img')[1].decode('utf-8'))
-    ensure([it.text for it in document.top.only('main').elements] == ['Refused', 'image too large', length, f'Printed by {VERSION}'],
+    ensure([it.text for it in document.top.only('main').elements if it.tag != 'dl'] == ['Refused', 'image too large', length, f'Printed by {VERSION}'],
            'the page of an image that is too large')
+
+
+def compare_links(pages):
+    """With the URL of a bag each file's name is a link to the file in it, whose path is that which `take` gives it, and nothing else
+    changes; URLs with another scheme than http and https are refused."""
+    for image in (pages.folder / 'names.img', VOLUMES / 'hfsutils-1440k-names.img', pages.folder / 'parts.img'):
+        bag = pages.folder / f'{image.stem}.bag'
+        status, text = told('take', image, bag)
+        ensure(status == 0, f'take of {image.name} ends with {status}: {text}')
+        files = {str(it.relative_to(bag)) for it in (bag / 'data').rglob('*') if it.is_file() and not it.name.startswith('._')}
+        plain_page = told('page', image)[1]
+        for base, start in (('bag', 'bag/'), ('https://example.org/a b&c/', 'https://example.org/a b&c/'), ('../x?y:z', '../x?y:z/')):
+            status, page = told('page', image, '--base', base)
+            ensure(status == 0, f'page of {image.name} with links ends with {status}')
+            hrefs = [it.attributes['href'] for it in items_list(Document(page.decode('utf-8'))).all('a')]
+            ensure(all(it.startswith(start) for it in hrefs), f'the links of {image.name} lead elsewhere than {start}')
+            paths = [unquote(it[len(start):]) for it in hrefs]
+            ensure_same(sorted(paths), sorted(files), f'{image.name}, the links')
+            ensure_same([it[len(start):] for it in hrefs], [quote(it, safe='/-._~') for it in paths], f'{image.name}, how links are written')
+            ensure(re.sub(rb'<b><a href="[^"]*">([^<]*)</a></b>', rb'<b>\1</b>', page) == plain_page, f'the page of {image.name} with links is another one')
+    for base in ('javascript:alert(1)', 'java\nscript:alert(1)', 'JAVASCRIPT:x', 'ftp://example.org/', 'data:text/html,x', ' javascript:x', 'x:/y', ':', 'HTTP:x'):
+        ended = told('page', VOLUMES / 'hfsutils-800k.img', '--base', base)
+        ensure(ended == (1, b'--base wants a URL that begins with http: or https:, or is relative\n'), f'page with links to {base!r} ends with {ended}')
+
+
+def compare_digests(pages):
+    """With --digest the page has the digest of the image, or of the volume in it, and nothing else changes."""
+    volume = (VOLUMES / 'hfsutils-800k.img').read_bytes()
+    within = pages.image('digested', in_map(volume, 512))
+    for image, words, content in ((VOLUMES / 'hfsutils-800k.img', (), volume), (within, ('--volume', 1), volume),
+                                  (VOLUMES / 'refused-icon.img', (), (VOLUMES / 'refused-icon.img').read_bytes()), (pages.image('odd', volume + b'x'), (), volume + b'x')):
+        status, page = told('page', image, *words, '--digest')
+        row = f'<div><dt>SHA-256</dt><dd>{hashlib.sha256(content).hexdigest()}</dd></div>\n'.encode()
+        ensure(page.count(row) == 1 and (status, page.replace(row, b'')) == told('page', image, *words), f'the page of {image.name} has no digest')
+    piped = told('page', '/dev/stdin', '--digest', given=volume)
+    ensure((piped[0], renamed(piped[1], 'stdin', 'hfsutils-800k.img')) == told('page', VOLUMES / 'hfsutils-800k.img', '--digest'), 'a digest out of a pipe')
 
 
 def main():
@@ -506,6 +560,8 @@ def main():
             compare_deep(pages)
             compare_ways(pages)
             compare_refused(pages)
+            compare_links(pages)
+            compare_digests(pages)
             each = compare_many(pages, words.items)
             if words.kept:
                 words.kept.mkdir(parents=True, exist_ok=True)

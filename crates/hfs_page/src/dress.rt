@@ -46,7 +46,7 @@ shows the first of these uses that one of its blocks has.</p>
 /// The texts of all pages that this version of the program prints, for the page of this image.
 pub fn standard_texts<'a>(version: &'a [u8], image: PageImage<'a>) -> PageTexts<'a>
     ensures version { result.version.now ≡ version.now }
-    ensures image { result.image ≡ image }
+    ensures image { result.image ≡ image.entry }
 {
     PageTexts {
         style: style(),

@@ -144,7 +144,7 @@ fn push_text_row(page: &mut Vec<u8>, label: &[u8], text: &[u8]) -> Result<(), Al
 
 /// Appends the row of the image's digest, if it was taken.
 fn push_digest_row(page: &mut Vec<u8>, digest: Option<&[u8]>) -> Result<(), AllocError>
-    ensures { OnOk result (Gains page.old page.new (digest_row digest)) }
+    ensures { OnOk result (Gains page.old page.new (digest_row digest.entry)) }
 {
     match digest {
         Some(digest) => push_text_row(page, b"SHA-256", digest),

@@ -108,7 +108,7 @@ fn push_file_name(
     path: &[Name],
     info: &Info,
 ) -> Result<(), AllocError>
-    ensures { OnOk result (Gains page.old page.new (file_name base path.now info.now)) }
+    ensures { OnOk result (Gains page.old page.new (file_name base.entry path.now info.now)) }
 {
     push_bytes(page, b"<b>")?;
     push_link_start(alloc, page, base, path)?;
@@ -126,7 +126,7 @@ fn push_file(
     path: &[Name],
     info: &Info,
 ) -> Result<(), AllocError>
-    ensures { OnOk result (Gains page.old page.new (file_text base path.now info.now)) }
+    ensures { OnOk result (Gains page.old page.new (file_text base.entry path.now info.now)) }
 {
     push_file_name(alloc, page, base, path, info)?;
     push_sizes(alloc, page, info)?;
@@ -203,7 +203,7 @@ fn push_leaf(
     path: &[Name],
     info: &Info,
 ) -> Result<(), AllocError>
-    ensures { OnOk result (Gains page.old page.new (leaf_text base path.now info.now)) }
+    ensures { OnOk result (Gains page.old page.new (leaf_text base.entry path.now info.now)) }
 {
     push_row_start(alloc, page, info)?;
     push_file(alloc, page, base, path, info)?;
@@ -221,7 +221,7 @@ fn push_item(
     depth: usize,
     info: &Info,
 ) -> Result<(), AllocError>
-    ensures { OnOk result (Gains page.old page.new (item_text base path.now depth info.now)) }
+    ensures { OnOk result (Gains page.old page.new (item_text base.entry path.now depth info.now)) }
 {
     match info.kind {
         ItemKind::Folder => {
@@ -257,7 +257,7 @@ pub(crate) fn push_row(
     path: &[Name],
     info: &Info,
 ) -> Result<(), AllocError>
-    ensures { OnOk result (Gains page.old page.new (row_text base opened path.now info.now)) }
+    ensures { OnOk result (Gains page.old page.new (row_text base.entry opened path.now info.now)) }
 {
     let depth = path.len().saturating_sub(1);
     push_closings(page, opened.saturating_sub(MOST_OPEN.min(depth)))?;

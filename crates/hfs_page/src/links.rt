@@ -136,7 +136,7 @@ pub(crate) fn push_link_start(
     base: Option<&[u8]>,
     path: &[Name],
 ) -> Result<(), AllocError>
-    ensures { OnOk result (Gains page.old page.new (link_start base path.now)) }
+    ensures { OnOk result (Gains page.old page.new (link_start base.entry path.now)) }
 {
     match base {
         Some(base) => push_link(alloc, page, base, path),
@@ -146,7 +146,7 @@ pub(crate) fn push_link_start(
 
 /// Appends the end of a link, if there is one.
 pub(crate) fn push_link_end(page: &mut Vec<u8>, base: Option<&[u8]>) -> Result<(), AllocError>
-    ensures { OnOk result (Gains page.old page.new (link_end base)) }
+    ensures { OnOk result (Gains page.old page.new (link_end base.entry)) }
 {
     match base {
         Some(_) => push_bytes(page, b"</a>"),

@@ -32,7 +32,7 @@ fn push_next(
     base: Option<&[u8]>,
     opened: usize,
 ) -> Result<Option<usize>, AllocError>
-    ensures { IfOk result (MovesRow base opened text.old.items text.new.items
+    ensures { IfOk result (MovesRow base.entry opened text.old.items text.new.items
         items.old.left items.new.left) }
 {
     let Some(info) = items.next()? else {
@@ -52,7 +52,7 @@ fn push_next_row(
     base: Option<&[u8]>,
     opened: usize,
 ) -> Result<Option<usize>, PageFault>
-    ensures { IfOk result (MovesRow base opened text.old.items text.new.items
+    ensures { IfOk result (MovesRow base.entry opened text.old.items text.new.items
         items.old.left items.new.left) }
 {
     match push_next(alloc, text, items, base, opened) {
@@ -106,9 +106,9 @@ pub(crate) fn write_rows<W: Write>(
     writer: &mut W,
 ) -> Result<(), PageFault>
     ensures written { OnOk result (Appends (W.contents writer.old) (W.contents writer.new)
-        (rows_text base 0 items.old.left)) }
+        (rows_text base.entry 0 items.old.left)) }
     ensures part { OnErr result (AppendsFront (W.contents writer.old) (W.contents writer.new)
-        (rows_text base 0 items.old.left)) }
+        (rows_text base.entry 0 items.old.left)) }
 {
     let mut text = Vec::new(alloc);
     let mut opened = 0;

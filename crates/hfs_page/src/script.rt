@@ -51,7 +51,7 @@ const search = () => {
       opened.add(details);
     }
   }
-  found.textContent = wanted ? count + \" of \" + items.length + (opens ? \"\" : \", in folders that stay as they are\") : \"\";
+  found.textContent = wanted ? count + \" of \" + items.length + (opens ? \"\" : \"; folders stay as they are\") : \"\";
 };
 let waiting;
 field.addEventListener(\"input\", () => {

@@ -68,7 +68,7 @@ summary:hover b,#items.chooses li>b:hover{color:var(--mark)}
 #items a{color:inherit;text-decoration-color:var(--edge)}
 #items a:hover{color:var(--mark)}
 #items span{display:inline-block;vertical-align:top;max-height:1.5em;overflow:hidden;white-space:pre;
-margin-right:.75em;max-width:9.6em;font-size:.875rem;line-height:1.5;font-variant-numeric:tabular-nums}
+margin-right:.5em;max-width:11em;font-size:.875rem;line-height:1.5;font-variant-numeric:tabular-nums}
 #items span:nth-child(2){max-width:5em}
 #items span:nth-child(3){max-width:6em}
 #items .picked span{display:block;max-width:none;max-height:none;white-space:pre-line}
