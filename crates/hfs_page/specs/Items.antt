@@ -5,7 +5,7 @@ use Rattle.hfs_model.specs.declared.reply.Info.{Info}
 use Rattle.hfs_model.specs.declared.reply.ItemKind.{ItemKind}
 use Rattle.hfs_model.specs.declared.reply.ItemKind.TheVariants.{Folder, File}
 use Rattle.hfs_inventory.specs.Told.{ToldRow}
-use Rattle.hfs_page.specs.Links.{link_end, link_start}
+use Rattle.hfs_page.specs.Links.{bag_path, link_end, link_start}
 use Rattle.hfs_page.specs.Sizes.{told_size}
 use Rattle.hfs_page.specs.Texts.{shown, told_date, told_number, told_text}
 
@@ -37,7 +37,7 @@ type_text info =
 
 -- a file's name, which is a link where the URL of a bag is known; the path are the names from the root's down
 unfoldable pub file_name : Option (Bor (List ℕ)) → List (List ℕ) → Info → List ℕ
-file_name base path info = codes "<b>" ++ link_start base path ++ shown info.name ++ link_end base ++ codes "</b>"
+file_name base path info = codes "<b>" ++ link_start base (bag_path path) ++ shown info.name ++ link_end base ++ codes "</b>"
 
 unfoldable pub file_text : Option (Bor (List ℕ)) → List (List ℕ) → Info → List ℕ
 file_text base path info = file_name base path info ++ sizes_text info ++ type_text info ++ modified_text info.modified

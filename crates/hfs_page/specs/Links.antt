@@ -1,4 +1,4 @@
--- Links from items to the files of a bag.
+-- Links, and those from items to the files of a bag.
 use Rattle.std.specs.Prelude.{ℕ, ◌+◌, ◌-◌, ◌/◌, ◌%◌, ◌==◌, ◌||◌, Bool, nat_lt, if◌then◌else◌, List, [], ◌∷◌, ◌++◌, length, drop, codes, Option, Some, None}
 use Rattle.std.specs.Borrow.{Bor}
 use Rattle.std.specs.List.{flat_map, list_any, slice_get}
@@ -21,7 +21,7 @@ percent_byte b = if is_kept b then b ∷ [] else 37 ∷ upper_digit (b / 16) ∷
 unfoldable pub percent_text : List ℕ → List ℕ
 percent_text path = flat_map percent_byte path
 
--- what comes between the URL of a bag and the paths in it: a slash, but where there is one, or no URL
+-- what comes between a URL and a path below it: a slash, but where there is one, or an empty URL
 abbrev pub slash_by : Option ℕ → List ℕ
 slash_by None = []
 slash_by (Some last) = if last == 0x2F then [] else codes "/"
@@ -29,16 +29,20 @@ slash_by (Some last) = if last == 0x2F then [] else codes "/"
 abbrev pub slash_text : List ℕ → List ℕ
 slash_text base = slash_by (slice_get base (length base - 1))
 
--- the URL of an item's file in a bag, by the names from the root's down
-unfoldable pub url_text : List ℕ → List (List ℕ) → List ℕ
-url_text base path = base ++ slash_text base ++ codes "data/" ++ percent_text (host_path (drop 1 path))
+-- the URL of a path below another one
+unfoldable pub url_text : List ℕ → List ℕ → List ℕ
+url_text base path = base ++ slash_text base ++ percent_text path
 
 -- the beginning of a link to it
-unfoldable pub link_text : List ℕ → List (List ℕ) → List ℕ
+unfoldable pub link_text : List ℕ → List ℕ → List ℕ
 link_text base path = codes "<a href=\"" ++ escaped (url_text base path) ++ codes "\">"
 
--- nothing where the bag's URL isn't known
-abbrev pub link_start : Option (Bor (List ℕ)) → List (List ℕ) → List ℕ
+-- where the item to which these names lead, from the root's down, lies in a bag
+abbrev pub bag_path : List (List ℕ) → List ℕ
+bag_path path = codes "data/" ++ host_path (drop 1 path)
+
+-- nothing where there is no URL
+abbrev pub link_start : Option (Bor (List ℕ)) → List ℕ → List ℕ
 link_start None path = []
 link_start (Some base) path = link_text base.now path
 

@@ -5,7 +5,7 @@ ghost use Rattle.hfs_page.specs.Sizes.{told_size};
 ghost use Rattle.hfs_page.specs.Texts.{told_number};
 ghost use Rattle.hfs_page.specs.Items.{closings, file_name, file_text, flat_text, folder_text, item_text, items_word, leaf_text, modified_text, name_tagged, nested_text, open_behind, opening, row_start, row_text, sizes_text, type_text};
 
-use crate::links::{push_link_end, push_link_start};
+use crate::links::{push_bag_link, push_link_end};
 use crate::pieces::push_bytes;
 use crate::sizes::push_told_size;
 use crate::texts::{push_shown, push_told_date, push_told_number, push_told_text};
@@ -111,7 +111,7 @@ fn push_file_name(
     ensures { OnOk result (Gains page.old page.new (file_name base.entry path.now info.now)) }
 {
     push_bytes(page, b"<b>")?;
-    push_link_start(alloc, page, base, path)?;
+    push_bag_link(alloc, page, base, path)?;
     push_shown(alloc, page, info.name.bytes())?;
     push_link_end(page, base)?;
     push_bytes(page, b"</b>")

@@ -1,8 +1,7 @@
-//! Links from items to the files of a bag.
-ghost use Rattle.std.specs.Prelude.{◌≡◌, ◌-◌, ◌<◌, IfOk, OnOk, drop, length, string_bytes};
+//! Links, and those from items to the files of a bag.
+ghost use Rattle.std.specs.Prelude.{◌≡◌, ◌++◌, ◌-◌, ◌<◌, IfOk, OnOk, drop, length, string_bytes};
 ghost use Rattle.std.specs.List.{slice_get};
-ghost use Rattle.hfs_names.specs.Paths.{host_path};
-ghost use Rattle.hfs_page.specs.Links.{is_kept, link_end, link_start, link_text, percent_byte, percent_text, slash_text, upper_digit, url_text};
+ghost use Rattle.hfs_page.specs.Links.{bag_path, is_kept, link_end, link_start, link_text, percent_byte, percent_text, slash_text, upper_digit, url_text};
 ghost use Rattle.hfs_page.specs.Pieces.{Gains};
 
 use crate::escaping::push_escaped;
@@ -83,44 +82,45 @@ fn below_root(path: &[Name]) -> &[Name]
     &path[path.len().min(1)..]
 }
 
-/// The host path of the item to which these names lead, from the root's down.
-fn host_path(alloc: Global, path: &[Name]) -> Result<String, AllocError>
-    ensures { IfOk result (λ text. string_bytes text ≡ host_path (drop 1 path.now)) }
+/// Appends where the item to which these names lead, from the root's down, lies in a bag.
+fn push_bag_path(text: &mut String, path: &[Name]) -> Result<(), AllocError>
+    ensures { OnOk result (string_bytes text.new ≡ string_bytes text.old ++ bag_path path.now) }
+{
+    text.push_str("data/")?;
+    push_host_path(text, below_root(path))
+}
+
+/// Where the item to which these names lead lies in a bag.
+fn bag_path(alloc: Global, path: &[Name]) -> Result<String, AllocError>
+    ensures { IfOk result (λ text. string_bytes text ≡ bag_path path.now) }
 {
     let mut text = String::new(alloc);
-    push_host_path(&mut text, below_root(path))?;
+    push_bag_path(&mut text, path)?;
     Ok(text)
 }
 
-/// Appends the URL of an item's file in the bag at this one.
+/// Appends the URL of a path below another URL.
 #[tactic(auto, unfolding(crate::specs::Links::url_text))]
-fn push_url(alloc: Global, url: &mut Vec<u8>, base: &[u8], path: &[Name]) -> Result<(), AllocError>
+fn push_url(url: &mut Vec<u8>, base: &[u8], path: &[u8]) -> Result<(), AllocError>
     ensures { OnOk result (Gains url.old url.new (url_text base.now path.now)) }
 {
-    let host = host_path(alloc, path)?;
     push_bytes(url, base)?;
     push_slash(url, base)?;
-    push_bytes(url, b"data/")?;
-    push_percent(url, host.as_bytes())
+    push_percent(url, path)
 }
 
-/// The URL of an item's file in the bag at this one.
-fn url_of(alloc: Global, base: &[u8], path: &[Name]) -> Result<Vec<u8>, AllocError>
+/// The URL of a path below another URL.
+fn url_of(alloc: Global, base: &[u8], path: &[u8]) -> Result<Vec<u8>, AllocError>
     ensures { IfOk result (λ url. url.items ≡ url_text base.now path.now) }
 {
     let mut url = Vec::new(alloc);
-    push_url(alloc, &mut url, base, path)?;
+    push_url(&mut url, base, path)?;
     Ok(url)
 }
 
-/// Appends the beginning of a link to an item's file in the bag at this URL.
+/// Appends the beginning of a link to a path below a URL.
 #[tactic(auto, unfolding(crate::specs::Links::link_text))]
-fn push_link(
-    alloc: Global,
-    page: &mut Vec<u8>,
-    base: &[u8],
-    path: &[Name],
-) -> Result<(), AllocError>
+fn push_link(alloc: Global, page: &mut Vec<u8>, base: &[u8], path: &[u8]) -> Result<(), AllocError>
     ensures { OnOk result (Gains page.old page.new (link_text base.now path.now)) }
 {
     let url = url_of(alloc, base, path)?;
@@ -129,12 +129,12 @@ fn push_link(
     push_bytes(page, b"\">")
 }
 
-/// Appends the beginning of a link to an item's file, if the bag's URL is known.
-pub(crate) fn push_link_start(
+/// Appends the beginning of a link to a path below a URL, if there is one.
+pub fn push_link_start(
     alloc: Global,
     page: &mut Vec<u8>,
     base: Option<&[u8]>,
-    path: &[Name],
+    path: &[u8],
 ) -> Result<(), AllocError>
     ensures { OnOk result (Gains page.old page.new (link_start base.entry path.now)) }
 {
@@ -145,11 +145,25 @@ pub(crate) fn push_link_start(
 }
 
 /// Appends the end of a link, if there is one.
-pub(crate) fn push_link_end(page: &mut Vec<u8>, base: Option<&[u8]>) -> Result<(), AllocError>
+pub fn push_link_end(page: &mut Vec<u8>, base: Option<&[u8]>) -> Result<(), AllocError>
     ensures { OnOk result (Gains page.old page.new (link_end base.entry)) }
 {
     match base {
         Some(_) => push_bytes(page, b"</a>"),
         None => Ok(()),
     }
+}
+
+/// Appends the beginning of a link to the file in a bag to which these names lead, if the bag's URL
+/// is known.
+pub(crate) fn push_bag_link(
+    alloc: Global,
+    page: &mut Vec<u8>,
+    base: Option<&[u8]>,
+    path: &[Name],
+) -> Result<(), AllocError>
+    ensures { OnOk result (Gains page.old page.new (link_start base.entry (bag_path path.now))) }
+{
+    let path = bag_path(alloc, path)?;
+    push_link_start(alloc, page, base, path.as_bytes())
 }
