@@ -1,11 +1,12 @@
 #!/usr/bin/env python3
 """Reads the pages that `page` prints by Python's html.parser, which here takes no markup that isn't whole, and compares what
-they say with what is read from the bytes of each image by none of the project's code: the table of the volume, the class
-and the title of each cell of the picture, and the items, which are those of `items` in their order. Volumes are those in
+they say with what is read from the bytes of each image by none of the project's code: the list of what the volume is, the
+class and the title of each cell of the picture, the extents of all files, and the items, which are those of `items` in their
+order, each with its ID. Volumes are those in
 tests/volumes, some of each part of a disk that are laid here, and some that are filled by `run`: one with every printable
-character in its names, one of folders deep in one another, and a large one, whose page has at most 400 bytes for an item
+character in its names, one of folders deep in one another, and a large one, whose page has at most 480 bytes for an item
 beside its name. Each page is asked for by the image's path, out of a pipe, and as a volume in another file; images that
-are refused have a page of their own.
+are refused have a page of their own. Links lead to the files of the bag that `take` makes; digests are hashlib's.
 
 tests/page.py [--items N] [--kept FOLDER]      runs $HFS_TOOL, or the program as it is built in crates/hfs_tool/out
 
@@ -14,6 +15,7 @@ It prints how many pages there were; at a difference it says which and ends with
 import argparse
 import csv
 import gzip
+import hashlib
 import io
 import re
 import subprocess
@@ -21,9 +23,10 @@ import sys
 import tempfile
 from collections import Counter
 from dataclasses import dataclass, field
-from datetime import datetime, timedelta
+from decimal import ROUND_HALF_UP, Decimal
 from html.parser import HTMLParser
 from pathlib import Path
+from urllib.parse import quote, unquote
 
 from catalog_records import Catalog
 from driver.image import DATA_FORK, MDB, RESOURCE_FORK, extents_at
@@ -35,6 +38,7 @@ from slow_volumes import Volume, cut_files
 from slow_volumes import plain as plain_volume
 from volumes import in_disk_copy, in_map
 
+VERSION = subprocess.run([TOOL, '--version'], capture_output=True, timeout=60, text=True).stdout.strip()
 VOLUMES = Path(__file__).resolve().parent / 'volumes'
 MOST_CELLS, COLUMNS, MOST_OPEN = 4_096, 64, 100
 PARTS = ['bad blocks', 'extents tree', 'catalog', 'later extent', 'first extent', 'marked, and nobody has it', 'free']
@@ -143,12 +147,40 @@ def characters(raw):
     return plain(raw.decode('mac_roman'))
 
 
-def facts_of(catalog):
-    """The rows of the volume's table."""
+def size(count):
+    """A number of bytes in the unit that suits, to the nearest tenth."""
+    if count < 1024:
+        return f'{count} B'
+    unit, name = (1024, 'KB') if count < 1024 * 1024 else (1024 * 1024, 'MB')
+    tenths = (Decimal(count) / unit).quantize(Decimal('0.1'), ROUND_HALF_UP)
+    return f'{tenths}'.removesuffix('.0') + f' {name}'
+
+
+def day_and_time(date):
+    """A moment as it stands on a page."""
+    return date.replace('T', ' ')
+
+
+def facts_of(catalog, image):
+    """The list of what the volume of an image is."""
     mdb = catalog.image.field
-    return [['Check', 'sound'], ['Created', moment(mdb(2, 4))], ['Modified', moment(mdb(6, 4))], ['Backup', moment(mdb(64, 4))],
-            ['Allocation blocks', str(mdb(18, 2))], ['Bytes of each block', str(mdb(20, 4))], ['Free blocks', str(mdb(34, 2))],
-            ['Files', str(mdb(84, 4))], ['Folders', str(mdb(88, 4))]]
+
+    def sized(count):
+        return f'{size(count)} ({count} bytes)'
+
+    return [['Check', 'sound'], ['Image', image.name], ['Length', sized(len(catalog.image.content) // 512 * 512)], ['Free', sized(mdb(34, 2) * mdb(20, 4))],
+            *([label, day_and_time(moment(mdb(at, 4)))] for label, at in (('Created', 2), ('Modified', 6), ('Backup', 64))),
+            ['Files', str(mdb(84, 4))], ['Folders', str(mdb(88, 4))],
+            ['Allocation blocks', str(mdb(18, 2))], ['Bytes of each block', str(mdb(20, 4))], ['Free blocks', str(mdb(34, 2))]]
+
+
+def extents_of(catalog):
+    """The extents of all files that have a block: the file's ID, the first block, and how many there are."""
+    for file in catalog.files:
+        for place, fork in ((74, DATA_FORK), (86, RESOURCE_FORK)):
+            for extent in extents_at(file.body, place) + catalog.image.overflow.get((file.id, fork), []):
+                if extent.count:
+                    yield [file.id, extent.first, extent.count]
 
 
 def uses_of(catalog):
@@ -186,24 +218,25 @@ def cells_of(catalog):
 
 
 def items_of(image):
-    """What the page is to say of each item, by its row in the table of `items`: its path and the texts beside its name."""
+    """What the page is to say of each item, by its row in the table of `items`: its path, its ID, and the texts beside its name."""
     status, text = told('items', image, '--format', 'csv')
     ensure(status == 0, f'items of {image.name} ends with {status}')
     for row in csv.DictReader(io.StringIO(text.decode('utf-8'), newline=''), strict=True):
-        modified = [f' modified {row["modified"]}'] if row['modified'] else []
+        modified = [f'{day_and_time(row["modified"])}\n(modified)'] if row['modified'] else []
         if row['kind'] == 'folder':
-            texts = [f' folder, items {row["items"]}', *modified]
+            texts = ['1 item' if row['items'] == '1' else f'{row["items"]} items', 'folder', *modified]
         else:
-            texts = [f' file, type {row["type"]}, creator {row["creator"]}', *modified,
-                     f' data fork {row["data_bytes"]} bytes, resource fork {row["resource_bytes"]} bytes']
-        yield [row['path'], texts]
+            both = int(row['data_bytes']) + int(row['resource_bytes'])
+            texts = [f'{size(both)}\n(data fork {row["data_bytes"]} bytes, resource fork {row["resource_bytes"]} bytes)',
+                     f'{row["type"]} {row["creator"]}\n(type, creator)', *modified]
+        yield [row['path'], row['id'], texts]
 
 
 # ---- what it says
 
 def cells_in(document):
     """The class and the title of each cell, each of which has its own square."""
-    picture = document.top.only('svg')
+    picture, = [it for it in document.top.all('svg') if it.attributes.get('id') == 'picture']
     rects = picture.all('rect')
     ensure(rects == picture.elements, 'the picture has other parts')
     ensure(picture.attributes['viewbox'] == f'0 0 {COLUMNS} {-(-len(rects) // COLUMNS)}', f'the picture is {picture.attributes}')
@@ -221,29 +254,49 @@ def item_in(element):
     return name.text, [it.text for it in spans]
 
 
-def rows_in(document):
-    """The path of each item, as far as elements lie in one another, and the texts beside its name."""
+def extents_in(document):
+    """The extents of files, as the page lists them for its script."""
+    places, = [it for it in document.top.all('p') if it.attributes.get('id') == 'extents']
+    ensure(set(places.attributes) == {'id', 'hidden'} and not places.elements, 'the extents are seen')
+    ensure(re.fullmatch(r'( \d+:\d+\+\d+)*', places.text), f'the extents are {places.text[:40]!r}')
+    return [[int(number) for number in re.split('[:+]', it)] for it in places.text.split()]
+
+
+def items_list(document):
     lists = [it for it in document.top.all('ul') if it.attributes.get('id') == 'items']
     ensure(len(lists) == 1, f'{len(lists)} lists of items')
-    waiting = [('', 0, iter(lists[0].elements))]
+    return lists[0]
+
+
+def rows_in(document):
+    """The path of each item, as far as elements lie in one another, its ID, and the texts beside its name."""
+    waiting = [('', 0, iter(items_list(document).elements))]
     while waiting:
         above, depth, left = waiting[-1]
         line = next(left, None)
         if line is None:
             waiting.pop()
             continue
-        ensure(line.tag == 'li' and not line.attributes, f'{line.tag} {line.attributes} among the items')
+        ensure(line.tag == 'li' and list(line.attributes) == ['id'] and line.attributes['id'][0] == 'i', f'{line.tag} {line.attributes} among the items')
+        number = line.attributes['id'][1:]
         if line.elements[0].tag != 'details':
             name, texts = item_in(line)
-            yield [above + name, texts]
+            yield [above + name, number, texts]
             continue
         ensure(len(line.elements) == 1, 'something beside a folder')
         summary, inside = line.elements[0].elements
         ensure(summary.tag == 'summary' and inside.tag == 'ul', f'a folder of {summary.tag} and {inside.tag}')
         ensure(('open' in line.elements[0].attributes) == (depth == 0 and len(inside.elements) <= 1_000), f'a folder at depth {depth} is open or closed')
         name, texts = item_in(summary)
-        yield [above + name, texts]
+        yield [above + name, number, texts]
         waiting.append((f'{above}{name}:', depth + 1, iter(inside.elements)))
+
+
+def renamed(page, name, other):
+    """A page with another name of its image."""
+    row = '<dt>Image</dt><dd>%s</dd>'
+    ensure(page.count((row % name).encode()) == 1, f'the page names no {name}')
+    return page.replace((row % name).encode(), (row % other).encode())
 
 
 class Pages:
@@ -257,7 +310,8 @@ class Pages:
         """What `page` prints of an image, by its path and out of a pipe."""
         page = told('page', image)
         ensure(page[0] == status, f'page of {image.name} ends with {page[0]}')
-        ensure(told('page', '/dev/stdin', given=image.read_bytes()) == page, f'page of {image.name} is another one out of a pipe')
+        piped = told('page', '/dev/stdin', given=image.read_bytes())
+        ensure((piped[0], renamed(piped[1], 'stdin', image.name)) == page, f'page of {image.name} is another one out of a pipe')
         return page[1]
 
     def want(self, image, are_deep=False):
@@ -266,14 +320,15 @@ class Pages:
         document, catalog = Document(page.decode('utf-8')), Catalog(image.read_bytes())
         self.want_dress(document, characters(image.read_bytes()[MDB + 37:][:image.read_bytes()[MDB + 36]]))
 
-        rows = [[it.text for it in row.elements] for row in document.top.only('table').all('tr')]
-        ensure_same(rows, facts_of(catalog), f'{image.name}, the table')
-        ensure(all(it.attributes == {'scope': 'row'} for it in document.top.all('th')), f'{image.name}: the heads of rows')
+        rows = [[it.text for it in row.elements] for row in document.top.only('dl').elements]
+        ensure_same(rows, facts_of(catalog, image), f'{image.name}, what the volume is')
+        ensure([it.tag for it in document.top.only('main').elements] == ['h1', 'nav', 'dl', 'section', 'section', 'footer', 'script'], f'{image.name}: the parts')
 
         cells = list(cells_in(document))
         ensure_same(cells, list(cells_of(catalog)), f'{image.name}, the picture')
+        ensure_same(extents_in(document), list(extents_of(catalog)), f'{image.name}, the extents')
         rows = list(rows_in(document))
-        wanted = [[self.flat(path) if are_deep else path, texts] for path, texts in items_of(image)]
+        wanted = [[self.flat(path) if are_deep else path, number, texts] for path, number, texts in items_of(image)]
         ensure_same(rows, wanted, f'{image.name}, the items')
         self.count += 1
         self.items += len(rows)
@@ -293,11 +348,16 @@ class Pages:
         ensure(top.attributes == {'lang': 'en'} and top.only('head').only('title').text == title == top.only('h1').text, f'the title is {top.only("h1").text!r}')
         texts = [value for it in top.all('link') + top.all('meta') + top.all('input') for value in it.attributes.values()]
         texts += [it.text for tag in RAW for it in top.all(tag)]
-        ensure(not any(re.search(r'//|url\(|@import|fetch|XMLHttp', it or '') for it in texts), 'the page may ask for something')
-        ensure(all(set(it.attributes) <= {'id', 'class', 'lang', 'charset', 'name', 'content', 'http-equiv', 'rel', 'href', 'scope', 'role', 'aria-label',
-                                          'viewbox', 'x', 'y', 'width', 'height', 'for', 'type', 'autocomplete', 'hidden', 'open'}
+        ensure(not any(re.search(r'//|url\((?!#)|@import|fetch|XMLHttp', it or '') for it in texts), 'the page may ask for something')
+        names = [it.attributes['id'] for it in every(top) if 'id' in it.attributes]
+        ensure(len(set(names)) == len(names), 'two elements have one id')
+        ensure(top.only('footer').text == f'Printed by {VERSION}', f'the page says {top.only("footer").text!r}')
+        ensure(all(set(it.attributes) <= {'id', 'class', 'lang', 'charset', 'name', 'content', 'http-equiv', 'rel', 'href', 'role', 'aria-label', 'aria-hidden',
+                                          'viewbox', 'x', 'y', 'width', 'height', 'd', 'patternunits', 'for', 'type', 'autocomplete', 'hidden', 'open'}
                    for it in every(top)), 'an attribute that no page has')
-        ensure([it.attributes.get('href') for it in every(top) if 'href' in it.attributes] == ['data:,'], 'a link to somewhere')
+        links = [it.attributes.get('href') for it in every(top) if 'href' in it.attributes]
+        ensure(sorted(links) in (['data:,'], ['#blocks', '#list', 'data:,']), f'links to {links}')
+        ensure(all(it[1:] in names for it in links if it[0] == '#'), 'a link to nowhere')
 
     def image(self, name, content):
         image = self.folder / f'{name}.img'
@@ -393,9 +453,9 @@ def compare_many(pages, count):
     volume.write(pages.folder / 'many.img')
     page, rows = pages.want(pages.folder / 'many.img')
     ensure(len(rows) == 1 + count, f'{len(rows)} items')
-    names = sum(len(path.rpartition(':')[2]) for path, _ in rows)
-    items = len(page) - page.index(b'<ul id="items">')
-    ensure(len(page) - names <= 400 * len(rows) + page.index(b'<h2>Items'), f'{len(page)} bytes for {len(rows)} items, whose names have {names}')
+    names = sum(len(path.rpartition(':')[2]) for path, _, _ in rows)
+    items = page.index(b'<section id="blocks">') - page.index(b'<ul id="items">') + page.index(b'<p id="chosen">') - page.index(b'<p id="extents"')
+    ensure(items - names <= 480 * len(rows), f'{items} bytes for {len(rows)} items and their extents, whose names have {names}')
 
     volume = Volume(10)
     cut_files(volume, min(count, 1_000))
@@ -410,8 +470,10 @@ def compare_ways(pages):
     wanted = told('page', VOLUMES / 'hfsutils-800k.img')
     for name, content in {'map': in_map(volume, 512), 'copy': in_disk_copy(volume)}.items():
         image = pages.image(name, content)
-        ensure(told('page', image, '--volume', 1) == wanted, f'page of a volume in a {name}')
-        ensure(told('page', '/dev/stdin', '--volume', 1, given=content) == wanted, f'page of a volume in a {name} out of a pipe')
+        for ways, given in (((image,), None), (('/dev/stdin',), content)):
+            status, page = told('page', *ways, '--volume', 1, given=given)
+            page = renamed(page, 'stdin' if given else image.name, 'hfsutils-800k.img')
+            ensure((status, page) == wanted, f'page of a volume in a {name}, {"out of a pipe" if given else "by its path"}')
         ensure(told('page', image, '--volume', 2) == (2, b'no volume 2\n') == told('page', image, '--volume', 2), f'page of volume 2 of a {name}')
     absent = pages.folder / 'absent.img'
     ensure(told('page', absent) == (4, f'cannot read {absent}\n'.encode()), 'page of a file that is not there')
@@ -436,13 +498,52 @@ def compare_refused(pages):
         ensure(told('ls', image) == (2, f'{fault}\n'.encode()), f'ls of {name} prints {told("ls", image)}')
         document = Document(pages.printed(image, 2).decode('utf-8'))
         pages.want_dress(document, 'Refused')
-        texts = [it.text for it in document.top.only('main').elements]
-        ensure(texts == ['Refused', fault, meaning], f'the page of {name} says {texts}')
+        texts = [it.text for it in document.top.only('main').elements if it.tag != 'dl']
+        rows = [[it.text for it in row.elements] for row in document.top.only('dl').elements]
+        ensure(texts == ['Refused', fault, meaning, f'Printed by {VERSION}'], f'the page of {name} says {texts}')
+        ensure(rows == [['Check', 'refused'], ['Image', image.name]], f'the page of {name} says {rows}')
         pages.count += 1
     with open(pages.folder / 'huge.img', 'wb') as huge:
         huge.truncate(2_147_483_648 + 512)
     document = Document(told('page', pages.folder / 'huge.img')[1].decode('utf-8'))
-    ensure([it.text for it in document.top.only('main').elements] == ['Refused', 'image too large', length], 'the page of an image that is too large')
+    ensure([it.text for it in document.top.only('main').elements if it.tag != 'dl'] == ['Refused', 'image too large', length, f'Printed by {VERSION}'],
+           'the page of an image that is too large')
+
+
+def compare_links(pages):
+    """With the URL of a bag each file's name is a link to the file in it, whose path is that which `take` gives it, and nothing else
+    changes; URLs with another scheme than http and https are refused."""
+    for image in (pages.folder / 'names.img', VOLUMES / 'hfsutils-1440k-names.img', pages.folder / 'parts.img'):
+        bag = pages.folder / f'{image.stem}.bag'
+        status, text = told('take', image, bag)
+        ensure(status == 0, f'take of {image.name} ends with {status}: {text}')
+        files = {str(it.relative_to(bag)) for it in (bag / 'data').rglob('*') if it.is_file() and not it.name.startswith('._')}
+        plain_page = told('page', image)[1]
+        for base, start in (('bag', 'bag/'), ('https://example.org/a b&c/', 'https://example.org/a b&c/'), ('../x?y:z', '../x?y:z/')):
+            status, page = told('page', image, '--base', base)
+            ensure(status == 0, f'page of {image.name} with links ends with {status}')
+            hrefs = [it.attributes['href'] for it in items_list(Document(page.decode('utf-8'))).all('a')]
+            ensure(all(it.startswith(start) for it in hrefs), f'the links of {image.name} lead elsewhere than {start}')
+            paths = [unquote(it[len(start):]) for it in hrefs]
+            ensure_same(sorted(paths), sorted(files), f'{image.name}, the links')
+            ensure_same([it[len(start):] for it in hrefs], [quote(it, safe='/-._~') for it in paths], f'{image.name}, how links are written')
+            ensure(re.sub(rb'<b><a href="[^"]*">([^<]*)</a></b>', rb'<b>\1</b>', page) == plain_page, f'the page of {image.name} with links is another one')
+    for base in ('javascript:alert(1)', 'java\nscript:alert(1)', 'JAVASCRIPT:x', 'ftp://example.org/', 'data:text/html,x', ' javascript:x', 'x:/y', ':', 'HTTP:x'):
+        ended = told('page', VOLUMES / 'hfsutils-800k.img', '--base', base)
+        ensure(ended == (1, b'--base wants a URL that begins with http: or https:, or is relative\n'), f'page with links to {base!r} ends with {ended}')
+
+
+def compare_digests(pages):
+    """With --digest the page has the digest of the image, or of the volume in it, and nothing else changes."""
+    volume = (VOLUMES / 'hfsutils-800k.img').read_bytes()
+    within = pages.image('digested', in_map(volume, 512))
+    for image, words, content in ((VOLUMES / 'hfsutils-800k.img', (), volume), (within, ('--volume', 1), volume),
+                                  (VOLUMES / 'refused-icon.img', (), (VOLUMES / 'refused-icon.img').read_bytes()), (pages.image('odd', volume + b'x'), (), volume + b'x')):
+        status, page = told('page', image, *words, '--digest')
+        row = f'<div><dt>SHA-256</dt><dd>{hashlib.sha256(content).hexdigest()}</dd></div>\n'.encode()
+        ensure(page.count(row) == 1 and (status, page.replace(row, b'')) == told('page', image, *words), f'the page of {image.name} has no digest')
+    piped = told('page', '/dev/stdin', '--digest', given=volume)
+    ensure((piped[0], renamed(piped[1], 'stdin', 'hfsutils-800k.img')) == told('page', VOLUMES / 'hfsutils-800k.img', '--digest'), 'a digest out of a pipe')
 
 
 def main():
@@ -459,6 +560,8 @@ def main():
             compare_deep(pages)
             compare_ways(pages)
             compare_refused(pages)
+            compare_links(pages)
+            compare_digests(pages)
             each = compare_many(pages, words.items)
             if words.kept:
                 words.kept.mkdir(parents=True, exist_ok=True)

@@ -1,25 +1,43 @@
 #!/usr/bin/env python3
-"""Opens pages in headless Chromium, for whoever looks at them: pictures at 390 and 1,280 pixels, in light and dark, the
-accessibility tree, the milliseconds up to DOMContentLoaded, the processor time of the page's main thread, and the requests
-that were made.
+"""Opens pages in headless Chromium, as a reader does, where Chromium is there; else it says so, and ends with status 0.
 
-tests/page_looks.py FOLDER PAGE.. [--open]      writes FOLDER/NAME-WIDTH-SCHEME.png and FOLDER/NAME.tree
+Of pages that `page` prints it asks that they ask for nothing, aren't wider than the window at 1,280 and at 400 pixels, and do
+in the browser what the manual says: the search finds names, types and creators, and says how many; a click on a column's head
+sorts; a file that is chosen, by the mouse or by the keyboard, has its own squares marked; arrow keys tell what a square is; the
+tree stands beside the picture in a wide window and before it in a narrow one; a file whose name is a link is chosen beside it, or
+as the keyboard comes to it. The page of a large volume is opened by the processor in at most 1.5 seconds, and searched and sorted
+in as many, or --slowness times as many. The colours are as legible as they are to be, by the formula
+of the Web Content Accessibility Guidelines, in light and in dark.
 
-With --open all folders of the page are open. For each page it prints a line, and ends with status 1 where a page asked for
-anything but itself, took 3 seconds or more, or is wider than the window.
+tests/page_looks.py [--items N] [--kept FOLDER]      runs $HFS_TOOL, or the program as it is built in crates/hfs_tool/out
+tests/page_looks.py --kept FOLDER PAGE.. [--open]    looks at these pages, with all their folders open
+
+FOLDER gets pictures in light and in dark, NAME-WIDTH-SCHEME.png, and the accessibility tree, NAME.tree. It prints a line for
+each page, and ends with status 1 at the first thing that isn't as it is to be.
 """
 import argparse
 import base64
 import json
 import os
+import re
+import select
+import shutil
 import subprocess
 import sys
 import tempfile
+from itertools import combinations
 from pathlib import Path
 
-WIDTHS, HEIGHT = (390, 1280), 1400
+from items import Differs, ensure, told
+from page import VOLUMES, every_part
+from slow_volumes import Volume
+from slow_volumes import plain as plain_volume
+
+WIDTHS, HEIGHT = (400, 1_280), 1_400
 SCHEMES = ('light', 'dark')
-LIMIT = 3_000
+LIMIT, PATIENCE = 1_500, 300
+USES = [f'p{it}' for it in range(7)]
+BROWSER = next(filter(None, map(shutil.which, ('chromium', 'chromium-browser', 'google-chrome'))), None)
 
 
 class Browser:
@@ -28,7 +46,7 @@ class Browser:
     def __init__(self, folder):
         to_read, self.to = os.pipe()
         self.back, to_write = os.pipe()
-        words = ['chromium', '--headless', '--no-sandbox', '--disable-gpu', '--hide-scrollbars', '--remote-debugging-pipe', f'--user-data-dir={folder}', 'about:blank']
+        words = [BROWSER, '--headless', '--no-sandbox', '--disable-gpu', '--hide-scrollbars', '--remote-debugging-pipe', f'--user-data-dir={folder}', 'about:blank']
 
         def at_3_and_4():
             low = [os.dup(to_read), os.dup(to_write)]
@@ -48,6 +66,8 @@ class Browser:
 
     def message(self):
         while b'\0' not in self.rest:
+            if not select.select([self.back], [], [], PATIENCE)[0]:
+                raise TimeoutError('Chromium says nothing')
             part = os.read(self.back, 1 << 20)
             if not part:
                 raise EOFError('Chromium ended')
@@ -70,7 +90,9 @@ class Browser:
             self.events.append(answer)
 
     def value(self, expression):
-        return self.ask('Runtime.evaluate', expression=expression, returnByValue=True)['result'].get('value')
+        answer = self.ask('Runtime.evaluate', expression=expression, returnByValue=True, awaitPromise=True)
+        ensure('exceptionDetails' not in answer, f'{expression}: {answer.get("exceptionDetails")}')
+        return answer['result'].get('value')
 
     def go(self, page):
         """Opens a page, and waits until it is loaded: the addresses that it asked for beside its own."""
@@ -80,6 +102,8 @@ class Browser:
         while not any(it.get('method') == 'Page.loadEventFired' for it in self.events):
             self.events.append(self.message())
         asked = [it['params']['request']['url'] for it in self.events if it.get('method') == 'Network.requestWillBeSent']
+        faults = [it for it in self.events if it.get('method') == 'Runtime.exceptionThrown']
+        ensure(not faults, f'{page.name}: the script fails: {faults[:1]}')
         return [it for it in asked if it not in (address, 'data:,')]
 
     def busy(self):
@@ -87,15 +111,22 @@ class Browser:
         measured = {it['name']: it['value'] for it in self.ask('Performance.getMetrics')['metrics']}
         return round(1000 * measured.get('ThreadTime', 0))
 
-    def look(self, width, scheme):
-        """A picture of the page."""
+    def resize(self, width, scheme='light'):
         self.ask('Emulation.setDeviceMetricsOverride', width=width, height=HEIGHT, deviceScaleFactor=1, mobile=width < 500)
         self.ask('Emulation.setEmulatedMedia', features=[{'name': 'prefers-color-scheme', 'value': scheme}])
+
+    def picture(self):
         return base64.b64decode(self.ask('Page.captureScreenshot', format='png')['data'])
 
+    def press(self, key, code=0, text=''):
+        """Presses a key, and lets it go."""
+        words = {'key': key, 'code': key, 'windowsVirtualKeyCode': code}
+        self.ask('Input.dispatchKeyEvent', type='keyDown', text=text, **words)
+        self.ask('Input.dispatchKeyEvent', type='keyUp', **words)
+
     def tree(self):
-        """The accessibility tree: a line for each node that is not ignored, with its role and its name. It is asked for behind all that is
-        measured, since a page of 60,000 items takes longer to open while a tree is kept of it.
+        """The accessibility tree: a line for each node that is not ignored, with its role and its name. It is asked for after all
+        that is measured, since a page of 60,000 items takes longer to open while a tree is kept of it.
         """
         self.ask('Accessibility.enable')
         nodes = self.ask('Accessibility.getFullAXTree')['nodes']
@@ -119,40 +150,214 @@ class Browser:
         self.run.wait(30)
 
 
-def look_at(browser, page, folder, is_open):
-    """Looks at a page; whether it is as it is to be."""
+# ---- what is asked of each page
+
+def look_at(browser, page, kept, is_open=False):
+    """Looks at a page: what it asks for, how wide it is, and how soon it is open."""
     asked = browser.go(page)
+    ensure(not asked, f'{page.name} asks for {asked}')
     milliseconds = browser.value('performance.timing.domContentLoadedEventEnd - performance.timing.navigationStart')
     busy = browser.busy()
+    ensure(busy < LIMIT, f'{page.name} takes {busy} ms of the processor to open')
     if is_open:
         browser.value('for (const it of document.querySelectorAll("details")) it.open = true')
-    wide = []
     for width in WIDTHS:
         for scheme in SCHEMES:
-            (folder / f'{page.stem}-{width}-{scheme}.png').write_bytes(browser.look(width, scheme))
-        if browser.value('document.documentElement.scrollWidth') > width:
-            wide.append(width)
-    lines = list(browser.tree()) if page.stat().st_size < 4_000_000 else []
-    (folder / f'{page.stem}.tree').write_text(''.join(f'{it}\n' for it in lines), 'utf-8')
-    print(f'{page.name}: {page.stat().st_size} bytes, DOMContentLoaded after {milliseconds} ms, {busy} ms of processor time when it was loaded, asked for {asked or "nothing"}, {len(lines)} nodes for readers'
-          + ''.join(f', wider than {it}' for it in wide))
-    return not asked and milliseconds < LIMIT and not wide
+            browser.resize(width, scheme)
+            wide = browser.value('document.documentElement.scrollWidth')
+            ensure(wide <= width, f'{page.name} is {wide} pixels wide in a window of {width}')
+            if kept:
+                (kept / f'{page.stem}-{width}-{scheme}.png').write_bytes(browser.picture())
+    if kept and page.stat().st_size < 4_000_000:
+        (kept / f'{page.stem}.tree').write_text(''.join(f'{it}\n' for it in browser.tree()), 'utf-8')
+    print(f'{page.name}: {page.stat().st_size} bytes, DOMContentLoaded after {milliseconds} ms, {busy} ms of the processor until it was loaded')
+
+
+def colours(page, scheme):
+    """The colours of the style, by their names."""
+    roots = re.findall(r':root\{(.*?)\}', page.read_text('utf-8'), re.S)
+    ensure(len(roots) == len(SCHEMES), f'{len(roots)} sets of colours')
+    return dict(re.findall(r'--(\w+):(#[0-9a-f]{6})', roots[SCHEMES.index(scheme)]))
+
+
+def contrast(one, other):
+    """The contrast of two colours."""
+    def luminance(colour):
+        parts = [int(colour[at:at + 2], 16) / 255 for at in (1, 3, 5)]
+        red, green, blue = [it / 12.92 if it <= 0.03928 else ((it + 0.055) / 1.055) ** 2.4 for it in parts]
+        return 0.2126 * red + 0.7152 * green + 0.0722 * blue
+
+    low, high = sorted((luminance(one), luminance(other)))
+    return (high + 0.05) / (low + 0.05)
+
+
+def look_at_colours(page):
+    for scheme in SCHEMES:
+        named = colours(page, scheme)
+        for one, other in combinations(USES, 2):
+            ensure(contrast(named[one], named[other]) >= 1.2, f'{one} and {other} look alike in {scheme}')
+        for name, least in [*((it, 3) for it in (*USES[:-1], 'edge')), *((it, 5.8) for it in ('ink', 'faint', 'mark'))]:
+            ensure(contrast(named[name], named['paper']) >= least, f'{name} is faint in {scheme}')
+    patterns = re.findall(r'<pattern .*?<path class="(?:cut|dot)" d="(.*?)">', page.read_text('utf-8'))
+    ensure(len(patterns) == len(set(patterns)) == 5, f'{len(patterns)} patterns')
+
+
+# ---- what a reader does
+
+def box(browser, element):
+    return browser.value(f'(it => [it.left, it.top, it.right, it.bottom])(document.querySelector({json.dumps(element)}).getBoundingClientRect())')
+
+
+DRAWN = 'new Promise(done => requestAnimationFrame(() => requestAnimationFrame(done)))'
+
+
+def typed(browser, text):
+    """Types a text into the search, and waits until what is found is drawn: what is said of it."""
+    browser.value(f'(it => {{ it.value = {json.dumps(text)}; it.dispatchEvent(new Event("input")) }})(document.getElementById("search"))')
+    browser.value('new Promise(done => setTimeout(done, 160))')
+    browser.value(DRAWN)
+    return browser.value('document.getElementById("found").textContent')
+
+
+def search(browser, text):
+    """Types a text into the search: what is said of it, and the names that are shown then."""
+    typed(browser, text)
+    shown = browser.value('[...document.querySelectorAll("#items b")].filter(it => it.checkVisibility()).map(it => it.textContent)')
+    return browser.value('document.getElementById("found").textContent'), shown
+
+
+def sort(browser, by):
+    browser.value(f'[...document.querySelectorAll("#heads button")].find(it => it.textContent === {json.dumps(by)}).click()')
+    return browser.value('[...document.querySelectorAll("#items b")].map(it => it.textContent)')
+
+
+def chosen(browser):
+    """The squares that are marked, and what is said."""
+    return (browser.value('[...document.querySelectorAll("#picture rect")].flatMap((it, n) => it.classList.contains("chosen") ? [n] : [])'),
+            browser.value('document.getElementById("chosen").textContent'))
+
+
+def read_parts(browser, page, kept):
+    """The page of a volume with blocks of each part, of which a file in pieces is chosen."""
+    look_at(browser, page, kept, True)
+    names = ['D', '<a&b>', 'g"h\'']
+    browser.resize(1_280)
+    items, blocks = box(browser, '#list'), box(browser, '#blocks')
+    ensure(items[2] <= blocks[0] and blocks[1] < items[3], 'the tree is not beside the picture')
+    browser.resize(400)
+    items, blocks = box(browser, '#list'), box(browser, '#blocks')
+    ensure(items[3] <= blocks[1], 'the tree is not before the picture')
+
+    for text, wanted in (('G"h', ('1 of 3', ['D', 'g"h\''])), (r'\00 \00', ('2 of 3', names)), ('folder', ('0 of 3', [])), ('', ('', names))):
+        found = search(browser, text)
+        ensure(found == wanted, f'a search for {text!r} finds {found}')
+    for by, wanted in (('Size', names), ('Size', [names[0], *names[:0:-1]]), ('Name', names), ('Name', [names[0], *names[:0:-1]]), ('Name', names)):
+        order = sort(browser, by)
+        ensure(order == wanted, f'by {by} the order is {order}')
+
+    places = [10, 11, 13, 15, 40, 41, 43, 45, 47, 48]
+    browser.value('document.querySelector("#i16 b").click()')
+    squares, said = chosen(browser)
+    ensure(squares == places and said.startswith('<a&b>: 10 blocks in 7 pieces'), f'{squares} are marked: {said}')
+    if kept:
+        browser.resize(1_280)
+        (kept / f'{page.stem}-chosen.png').write_bytes(browser.picture())
+    browser.value('document.querySelector("#i17 b").focus()')
+    browser.press('Enter', 13, '\r')
+    ensure(chosen(browser)[0] == [20, 21, 23, *range(30, 36)], 'the keyboard chooses no file')
+    browser.press(' ', 32, ' ')
+    ensure(chosen(browser) == ([], ''), 'a file stays chosen')
+
+    browser.value('document.getElementById("picture").focus()')
+    for key, code in [('ArrowRight', 39)] * 10:
+        browser.press(key, code)
+    ensure(chosen(browser)[1] == 'Block 10: first extent, data fork of <a&b>', f'the square is {chosen(browser)[1]!r}')
+    browser.press('End', 35)
+    ensure(chosen(browser)[1].startswith('Block '), 'the last square is none')
+
+
+def read_linked(browser, page):
+    """The same page with links: a file is chosen by its row, and as the keyboard comes to its link."""
+    look_at(browser, page, None, True)
+    ensure(browser.value('[...document.querySelectorAll("#items a")].map(it => it.getAttribute("href"))') == ['bag/data/=3Ca&b=3E'.replace('=', '%3D').replace('&', '%26'), 'bag/data/g%3D22h%27'],
+           'the links lead elsewhere')
+    browser.value('document.querySelector("#i17 span").click()')
+    ensure(chosen(browser)[0] == [20, 21, 23, *range(30, 36)], 'the row of a link chooses no file')
+    browser.value('document.querySelector("#i16 a").focus()')
+    ensure(chosen(browser)[1].startswith('<a&b>: 10 blocks in 7 pieces'), 'the keyboard chooses no file by its link')
+
+
+def read_many(browser, page, kept):
+    """The page of a large volume."""
+    look_at(browser, page, kept)
+    browser.resize(1_280)
+    count = browser.value('document.querySelectorAll("#items li").length')
+    def taken(what):
+        before = browser.busy()
+        said = what()
+        browser.value(DRAWN)
+        return browser.busy() - before, said
+
+    searched, said = taken(lambda: typed(browser, '7'))
+    ensure(f' of {count}' in said, f'the search says {said}')
+    typed(browser, '')
+    ordered, _ = taken(lambda: browser.value('[...document.querySelectorAll("#heads button")].find(it => it.textContent === "Size").click()'))
+    opened, _ = taken(lambda: browser.value('document.querySelector("#items details").open = true'))
+    ensure(max(searched, ordered) < LIMIT and opened < 2 * LIMIT, f'a search takes {searched} ms, sorting {ordered}, a folder opens in {opened}')
+    print(f'{page.name}: {count} items, a search in {searched} ms of the processor, sorted in {ordered}, all in one folder opened in {opened}')
+
+
+def look_at_own(browser, folder, kept, items):
+    """Pages of the volumes in tests/volumes, of one with each part, and of a large one."""
+    def printed(image, status=0, words=(), name=''):
+        answer = told('page', image, *words)
+        ensure(answer[0] == status, f'page of {image.name} ends with {answer[0]}')
+        page = folder / f'{image.stem}{name}.html'
+        page.write_bytes(answer[1])
+        return page
+
+    for image in sorted(VOLUMES.glob('*.img')):
+        page = printed(image, 2 if image.name.startswith('refused') else 0)
+        look_at(browser, page, kept, True)
+        look_at_colours(page) if 'id="k0"' in page.read_text('utf-8') else None
+    parts, many = folder / 'parts.img', folder / 'many.img'
+    parts.write_bytes(every_part())
+    read_parts(browser, printed(parts), kept)
+    read_linked(browser, printed(parts, words=('--base', 'bag'), name='-linked'))
+    volume = Volume(10 + items // 1_000)
+    plain_volume(volume, items)
+    volume.write(many)
+    read_many(browser, printed(many), kept)
 
 
 def main():
     parser = argparse.ArgumentParser(description=__doc__, formatter_class=argparse.RawDescriptionHelpFormatter)
-    parser.add_argument('folder', type=Path)
-    parser.add_argument('pages', nargs='+', type=Path)
-    parser.add_argument('--open', action='store_true', help='open all folders of the page')
+    parser.add_argument('pages', nargs='*', type=Path)
+    parser.add_argument('--kept', type=Path, help='a folder that gets pictures')
+    parser.add_argument('--items', type=int, default=60_000, help='how many items the large volume has')
+    parser.add_argument('--slowness', type=int, default=1, help='how many times as long a page may take as it does alone on a machine')
+    parser.add_argument('--open', action='store_true', help='open all folders of the pages')
     words = parser.parse_args()
-    words.folder.mkdir(parents=True, exist_ok=True)
+    global LIMIT
+    LIMIT *= words.slowness
+    if not BROWSER:
+        print('skipped: there is no Chromium, and no page was looked at')
+        return 0
+    if words.kept:
+        words.kept.mkdir(parents=True, exist_ok=True)
     with tempfile.TemporaryDirectory(ignore_cleanup_errors=True) as home:
-        browser = Browser(home)
+        browser = Browser(f'{home}/browser')
         try:
-            right = [look_at(browser, page, words.folder, words.open) for page in words.pages]
+            for page in words.pages:
+                look_at(browser, page, words.kept, words.open)
+            if not words.pages:
+                look_at_own(browser, Path(home), words.kept, words.items)
+        except Differs as differs:
+            print(f'a page is not as it is to be: {differs}')
+            return 1
         finally:
             browser.close()
-    return 0 if all(right) else 1
+    return 0
 
 
 if __name__ == '__main__':

@@ -1,5 +1,6 @@
 -- What is written of a page while its rows come.
 use Rattle.std.proofs.Common.{◌≡◌, ◌∙◌, refl, sym, ap, subst, arith, ℕ, ◌+◌, ◌≤◌, ◌<◌, Some, None, List, [], ◌∷◌, ◌++◌, length, take, min, Option, append_assoc, append-nil, Result, Ok, Err, OnErr}
+use Rattle.std.specs.Borrow.{Bor}
 use Rattle.std.specs.Io.KnownBytes.{Appends}
 use Rattle.std.proofs.KnownBytes.{Appends-nil, Appends-trans}
 use Rattle.std.proofs.lemmas.List.{take-append-le, take_min, drop_at, take_at}
@@ -9,8 +10,10 @@ use Rattle.hfs_check.specs.Parts.{Blocks, catalog_in, mdb_in}
 use Rattle.hfs_inventory.specs.Levels.{catalog_rows}
 use Rattle.hfs_inventory.specs.Told.{ToldRow}
 use Rattle.hfs_texts.specs.Writing.{AppendsFront}
-use Rattle.hfs_page.specs.Disk.{cells_in, page_in}
-use Rattle.hfs_page.specs.Document.{end_text, front_text}
+use Rattle.hfs_fields.specs.declared.mdb.Mdb.{Mdb}
+use Rattle.hfs_page.specs.declared.page_texts.PageTexts.{PageTexts}
+use Rattle.hfs_page.specs.Disk.{cells_in, holdings_in, page_in}
+use Rattle.hfs_page.specs.Document.{back_text, front_text}
 use Rattle.hfs_page.specs.Items.{closings, rows_text}
 use Rattle.hfs_page.specs.Rows.{MovesRow}
 
@@ -33,56 +36,56 @@ part-out start now later out text rest whole written is (n, front) = (
 -- ---- rows
 
 -- these bytes went out; the text that is gathered and the rows that are to come make the rest
-pub record IsBegun (start now : Option (List ℕ)) (text : List ℕ) (opened : ℕ) (left : List ToldRow) (whole : List ℕ) : Type 0 where
+pub record IsBegun (base : Option (Bor (List ℕ))) (start now : Option (List ℕ)) (text : List ℕ) (opened : ℕ) (left : List ToldRow) (whole : List ℕ) : Type 0 where
   pub out : List ℕ
   pub written : Appends start now out
-  pub rest : whole ≡ out ++ (text ++ rows_text opened left)
+  pub rest : whole ≡ out ++ (text ++ rows_text base opened left)
 
-pub begins : (start : Option (List ℕ)) (text : List ℕ) (left : List ToldRow) → text ≡ [] → IsBegun start start text 0 left (rows_text 0 left)
-begins start text left none = record { out = []; written = Appends-nil start; rest = ap (λ (l : List ℕ). l ++ rows_text 0 left) (sym none) }
+pub begins : (base : Option (Bor (List ℕ))) (start : Option (List ℕ)) (text : List ℕ) (left : List ToldRow) → text ≡ [] → IsBegun base start start text 0 left (rows_text base 0 left)
+begins base start text left none = record { out = []; written = Appends-nil start; rest = ap (λ (l : List ℕ). l ++ rows_text base 0 left) (sym none) }
 
-module _ (start : Option (List ℕ)) (whole : List ℕ) where
+module _ (base : Option (Bor (List ℕ))) (start : Option (List ℕ)) (whole : List ℕ) where
   -- one row more is gathered
-  pub gathered : (now : Option (List ℕ)) (text new : List ℕ) (opened behind : ℕ) (rows left : List ToldRow) (moved : Option ℕ) → IsBegun start now text opened rows whole
-      → MovesRow opened text new rows left moved → moved ≡ Some behind → IsBegun start now new behind left whole
+  pub gathered : (now : Option (List ℕ)) (text new : List ℕ) (opened behind : ℕ) (rows left : List ToldRow) (moved : Option ℕ) → IsBegun base start now text opened rows whole
+      → MovesRow base opened text new rows left moved → moved ≡ Some behind → IsBegun base start now new behind left whole
   gathered now text new opened behind rows left moved begun moves is =
       record {
         out = begun.out;
         written = begun.written;
-        rest = begun.rest ∙ ap (λ (l : List ℕ). begun.out ++ l) (subst (MovesRow opened text new rows left) is moves).0;
+        rest = begun.rest ∙ ap (λ (l : List ℕ). begun.out ++ l) (subst (MovesRow base opened text new rows left) is moves).0;
       }
 
   -- the text goes out
-  pub put-out : (now later : Option (List ℕ)) (text : List ℕ) (opened : ℕ) (left : List ToldRow) → IsBegun start now text opened left whole
-      → Appends now later text → (new : List ℕ) → new ≡ [] → IsBegun start later new opened left whole
+  pub put-out : (now later : Option (List ℕ)) (text : List ℕ) (opened : ℕ) (left : List ToldRow) → IsBegun base start now text opened left whole
+      → Appends now later text → (new : List ℕ) → new ≡ [] → IsBegun base start later new opened left whole
   put-out now later text opened left begun written new none = record {
     out = begun.out ++ text;
     written = Appends-trans start now later begun.out text begun.written written;
-    rest = begun.rest ∙ sym (append_assoc begun.out text (rows_text opened left)) ∙ ap (λ (l : List ℕ). (begun.out ++ text) ++ (l ++ rows_text opened left)) (sym none);
+    rest = begun.rest ∙ sym (append_assoc begun.out text (rows_text base opened left)) ∙ ap (λ (l : List ℕ). (begun.out ++ text) ++ (l ++ rows_text base opened left)) (sym none);
   }
 
   -- a part of the text goes out
   pub front : {T E : Type 0} (r : Result T E) (now later : Option (List ℕ)) (text : List ℕ) (opened : ℕ) (left : List ToldRow)
-      → IsBegun start now text opened left whole → AppendsFront now later text → OnErr r (AppendsFront start later whole)
+      → IsBegun base start now text opened left whole → AppendsFront now later text → OnErr r (AppendsFront start later whole)
   front (Ok x) now later text opened left begun part = tt
   front (Err e) now later text opened left begun part =
-      part-out start now later begun.out text (rows_text opened left) whole begun.written begun.rest part
+      part-out start now later begun.out text (rows_text base opened left) whole begun.written begun.rest part
 
   -- nothing more goes out
   pub stopped : {T E : Type 0} (r : Result T E) (now : Option (List ℕ)) (text : List ℕ) (opened : ℕ) (left : List ToldRow)
-      → IsBegun start now text opened left whole → OnErr r (AppendsFront start now whole)
+      → IsBegun base start now text opened left whole → OnErr r (AppendsFront start now whole)
   stopped r now text opened left begun = front r now now text opened left begun (0, Appends-nil now)
 
   -- no row is left, and the ends of folders are gathered: what went out and this text are all
-  ended : (now : Option (List ℕ)) (text new last : List ℕ) (opened : ℕ) (rows left : List ToldRow) (moved : Option ℕ) (begun : IsBegun start now text opened rows whole)
-      → MovesRow opened text new rows left moved → ((behind : ℕ) → moved ≡ Some behind → ⊥) → last ≡ new ++ closings opened → whole ≡ begun.out ++ last
+  ended : (now : Option (List ℕ)) (text new last : List ℕ) (opened : ℕ) (rows left : List ToldRow) (moved : Option ℕ) (begun : IsBegun base start now text opened rows whole)
+      → MovesRow base opened text new rows left moved → ((behind : ℕ) → moved ≡ Some behind → ⊥) → last ≡ new ++ closings opened → whole ≡ begun.out ++ last
   ended now text new last opened rows left None begun moves none is =
-      begun.rest ∙ ap (λ (r : List ToldRow). begun.out ++ (text ++ rows_text opened r)) moves.0
+      begun.rest ∙ ap (λ (r : List ToldRow). begun.out ++ (text ++ rows_text base opened r)) moves.0
       ∙ ap (λ (l : List ℕ). begun.out ++ l) (ap (λ (l : List ℕ). l ++ closings opened) (sym moves.1) ∙ sym is)
   ended now text new last opened rows left (Some behind) begun moves none is = absurd (none behind refl)
 
   pub last-part : {T E : Type 0} (r : Result T E) (now later : Option (List ℕ)) (text new last : List ℕ) (opened : ℕ) (rows left : List ToldRow) (moved : Option ℕ)
-      → IsBegun start now text opened rows whole → MovesRow opened text new rows left moved → ((behind : ℕ) → moved ≡ Some behind → ⊥)
+      → IsBegun base start now text opened rows whole → MovesRow base opened text new rows left moved → ((behind : ℕ) → moved ≡ Some behind → ⊥)
       → last ≡ new ++ closings opened → AppendsFront now later last → OnErr r (AppendsFront start later whole)
   last-part (Ok x) now later text new last opened rows left moved begun moves none is part = tt
   last-part (Err e) now later text new last opened rows left moved begun moves none is part =
@@ -91,12 +94,13 @@ module _ (start : Option (List ℕ)) (whole : List ℕ) where
 
 -- ---- a page of three parts
 
-pub page-is : (style legend script : List ℕ) (blocks : Blocks) (one : List ℕ) (records : Catalog) (rows : List ToldRow)
-    → one ≡ front_text style legend (mdb_in blocks) (catalog_in blocks) (cells_in blocks) → records ≡ catalog_in blocks → rows ≡ catalog_rows records
-    → page_in style legend script blocks ≡ (one ++ rows_text 0 rows) ++ end_text script
+pub page-is : (texts : PageTexts) (total : ℕ) (blocks : Blocks) (one three : List ℕ) (count : ℕ) (mdb : Mdb) (records : Catalog) (rows : List ToldRow)
+    → count ≡ total → mdb ≡ mdb_in blocks → one ≡ front_text texts count mdb → records ≡ catalog_in blocks → rows ≡ catalog_rows records
+    → three ≡ back_text texts (catalog_in blocks) (holdings_in blocks) (cells_in blocks)
+    → page_in texts total blocks ≡ (one ++ rows_text texts.image.base 0 rows) ++ three
 unfolding page_in
-page-is style legend script blocks one records rows is of by =
-    λ i. (sym is i ++ rows_text 0 (sym (by ∙ ap catalog_rows of) i)) ++ end_text script
+page-is texts total blocks one three count mdb records rows all same is of by after =
+    λ i. (sym (is ∙ (λ j. front_text texts (all j) (same j))) i ++ rows_text texts.image.base 0 (sym (by ∙ ap catalog_rows of) i)) ++ sym after i
 
 pub page-none : {T E : Type 0} (r : Result T E) (start : Option (List ℕ)) (whole : List ℕ) → OnErr r (AppendsFront start start whole)
 page-none (Ok x) start whole = tt

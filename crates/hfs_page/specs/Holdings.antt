@@ -34,15 +34,15 @@ abbrev pub held_from : Part → FileFork → List Extent → List Holding
 held_from part fork [] = []
 held_from part fork (e ∷ es) = held_by part fork e ∷ held_from (part_behind part e.count) fork es
 
--- the extents of a fork of the file with this ID, whose record has these first ones
-abbrev pub fork_holdings : Overflow → FileFork → ℕ → List Extent → List Holding
-fork_holdings overflow fork file first = held_from FirstExtents fork (fork_extents overflow file (fork_byte fork.kind) first)
+-- the extents of a fork, of which the file's record has these first ones
+abbrev pub fork_holdings : Overflow → FileFork → List Extent → List Holding
+fork_holdings overflow fork first = held_from FirstExtents fork (fork_extents overflow fork.file (fork_byte fork.kind) first)
 
 -- of both forks of a file
 abbrev pub file_holdings : Overflow → CatalogFile → List Holding
 file_holdings overflow f =
-    fork_holdings overflow (record { number = f.number; kind = Data }) f.file.id f.file.«data».extents
-    ++ fork_holdings overflow (record { number = f.number; kind = Resource }) f.file.id f.file.resource.extents
+    fork_holdings overflow (record { number = f.number; file = f.file.id; kind = Data }) f.file.«data».extents
+    ++ fork_holdings overflow (record { number = f.number; file = f.file.id; kind = Resource }) f.file.resource.extents
 
 -- of the record of this number, whose body this is
 abbrev pub record_holdings : Overflow → ℕ → List ℕ → List Holding

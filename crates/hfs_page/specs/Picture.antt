@@ -67,5 +67,5 @@ cells_text catalog place (cell ∷ cells) = cell_text catalog place cell ++ cell
 
 unfoldable pub picture_text : Catalog → List Cell → List ℕ
 picture_text catalog cells =
-    told_number (codes "<h2>Blocks</h2>\n<svg role=\"group\" aria-label=\"The blocks of the disk\" viewBox=\"0 0 64 ") (div_ceil (length cells) 64)
+    told_number (codes "<section id=\"blocks\">\n<h2>Blocks</h2>\n<svg id=\"picture\" role=\"group\" aria-label=\"The blocks of the disk\" viewBox=\"0 0 64 ") (div_ceil (length cells) 64)
     ++ codes "\">\n" ++ cells_text catalog 0 cells ++ codes "</svg>\n"

@@ -8,15 +8,15 @@ ghost use Rattle.hfs_fields.specs.Keys.{cat_cmp};
 ghost use Rattle.hfs_btree.specs.Pairs.{Rises};
 ghost use Rattle.hfs_inventory.specs.Levels.{catalog_rows};
 ghost use Rattle.hfs_space.specs.Bitmap.{bitmap_len, is_used};
-ghost use Rattle.hfs_page.specs.Disk.{cells_in, page_in};
-ghost use Rattle.hfs_page.specs.Document.{end_text, front_text};
-ghost use Rattle.hfs_page.specs.Holdings.{volume_holdings};
+ghost use Rattle.hfs_page.specs.Disk.{cells_in, holdings_in, page_in};
+ghost use Rattle.hfs_page.specs.Document.{back_text, front_text};
 ghost use Rattle.hfs_page.specs.Uses.{block_uses};
 ghost use Rattle.hfs_texts.specs.Writing.{AppendsFront};
 
 use crate::cells::{Cell, picture_cells};
-use crate::document::{front, push_end};
+use crate::document::{back, front};
 use crate::holdings::volume_holdings;
+use crate::page_texts::PageTexts;
 use crate::parts::{BlockUse, Holding};
 use crate::rows::{PageFault, put_piece, write_rows};
 use crate::uses::block_uses;
@@ -57,8 +57,8 @@ fn held_extents<B: Blocks>(
     requires sound { AreBlocksSound (B.total blocks.now) (B.blocks blocks.now) }
     requires mdb { volume.now.mdb ≡ mdb_in (B.blocks blocks.now) }
     requires trees { HasTrees (B.total blocks.now) (B.blocks blocks.now) volume.now.trees }
-    ensures { IfOk result (λ held. held.items ≡
-        volume_holdings volume.now.mdb (overflow_in (B.blocks blocks.now)) records.now) }
+    requires records { records.now ≡ catalog_in (B.blocks blocks.now) }
+    ensures { IfOk result (λ held. held.items ≡ holdings_in (B.blocks blocks.now)) }
 {
     let nodes = RunNodes {
         blocks,
@@ -98,51 +98,35 @@ fn cells_in<B: Blocks>(
     alloc: Global,
     blocks: &B,
     volume: &SoundVolume,
-    records: &[CatalogRecord],
+    holdings: &[Holding],
 ) -> Result<Vec<Cell>, AllocError>
     requires sound { AreBlocksSound (B.total blocks.now) (B.blocks blocks.now) }
     requires mdb { volume.now.mdb ≡ mdb_in (B.blocks blocks.now) }
-    requires trees { HasTrees (B.total blocks.now) (B.blocks blocks.now) volume.now.trees }
-    requires records { records.now ≡ catalog_in (B.blocks blocks.now) }
+    requires holdings { holdings.now ≡ holdings_in (B.blocks blocks.now) }
     ensures { IfOk result (λ cells. cells.items ≡ cells_in (B.blocks blocks.now)) }
 {
-    let holdings = held_extents(alloc, blocks, volume, records)?;
-    let uses = uses_by(alloc, blocks, &volume.mdb, &holdings)?;
+    let uses = uses_by(alloc, blocks, &volume.mdb, holdings)?;
     picture_cells(alloc, &uses)
 }
 
-/// All that stands before the items.
-fn front_in<B: Blocks>(
+/// All that stands after the items.
+fn back_in<B: Blocks>(
     alloc: Global,
     blocks: &B,
     volume: &SoundVolume,
-    style: &[u8],
-    legend: &[u8],
+    texts: &PageTexts<'_>,
     records: &[CatalogRecord],
 ) -> Result<Vec<u8>, AllocError>
     requires sound { AreBlocksSound (B.total blocks.now) (B.blocks blocks.now) }
     requires mdb { volume.now.mdb ≡ mdb_in (B.blocks blocks.now) }
     requires trees { HasTrees (B.total blocks.now) (B.blocks blocks.now) volume.now.trees }
     requires records { records.now ≡ catalog_in (B.blocks blocks.now) }
-    ensures { IfOk result (λ text. text.items ≡ front_text style.now legend.now
-        (mdb_in (B.blocks blocks.now)) (catalog_in (B.blocks blocks.now)) (cells_in (B.blocks blocks.now))) }
+    ensures { IfOk result (λ text. text.items ≡ back_text texts.now (catalog_in (B.blocks blocks.now))
+        (holdings_in (B.blocks blocks.now)) (cells_in (B.blocks blocks.now))) }
 {
-    let cells = cells_in(alloc, blocks, volume, records)?;
-    front(alloc, style, legend, &volume.mdb, records, &cells)
-}
-
-/// Writes all that stands behind the items.
-fn write_end<W: Write>(alloc: Global, writer: &mut W, script: &[u8]) -> Result<(), PageFault>
-    ensures written { OnOk result (Appends (W.contents writer.old) (W.contents writer.new)
-        (end_text script.now)) }
-    ensures part { OnErr result (AppendsFront (W.contents writer.old) (W.contents writer.new)
-        (end_text script.now)) }
-{
-    let mut text = Vec::new(alloc);
-    let Ok(()) = push_end(&mut text, script) else {
-        return Err(PageFault::Memory);
-    };
-    put_piece(writer, &text)
+    let holdings = held_extents(alloc, blocks, volume, records)?;
+    let cells = cells_in(alloc, blocks, volume, &holdings)?;
+    back(alloc, texts, records, &holdings, &cells)
 }
 
 /// The items of a catalog with these records.
@@ -157,37 +141,36 @@ fn inventory(alloc: Global, records: Vec<CatalogRecord>) -> Result<Inventory, Pa
 }
 
 /// Writes the page of a sound volume: what stands before the items, each item's row, and what
-/// stands behind them. Beside the records of the catalog and the picture 65,536 bytes and a row are
-/// in memory. `style` stands in the head, `legend` under the picture, `script` behind the items.
-/// Faults: memory was refused, or the writer failed; then a part of the page may have gone out,
-/// from its beginning on.
-#[tactic(auto, unfolding(crate::specs::Disk::page_in))]
+/// stands after them. Beside the records of the catalog and what stands after the items, with the
+/// picture and the extents, 65,536 bytes and a row are in memory. Faults: memory was refused, or the
+/// writer failed; then a part of the page may have gone out, from its beginning on.
 pub fn write_page<B: Blocks, W: Write>(
     alloc: Global,
     blocks: &B,
     volume: &SoundVolume,
-    style: &[u8],
-    legend: &[u8],
-    script: &[u8],
+    texts: &PageTexts<'_>,
     writer: &mut W,
 ) -> Result<(), PageFault>
     requires sound { AreBlocksSound (B.total blocks.now) (B.blocks blocks.now) }
     requires mdb { volume.now.mdb ≡ mdb_in (B.blocks blocks.now) }
     requires trees { HasTrees (B.total blocks.now) (B.blocks blocks.now) volume.now.trees }
     ensures written { OnOk result (Appends (W.contents writer.old) (W.contents writer.new)
-        (page_in style.now legend.now script.now (B.blocks blocks.now))) }
+        (page_in texts.now (B.total blocks.now) (B.blocks blocks.now))) }
     ensures part { OnErr result (AppendsFront (W.contents writer.old) (W.contents writer.new)
-        (page_in style.now legend.now script.now (B.blocks blocks.now))) }
+        (page_in texts.now (B.total blocks.now) (B.blocks blocks.now))) }
 {
     let Ok(records) = catalog_records(alloc, blocks, &volume.trees) else {
         return Err(PageFault::Memory);
     };
-    let Ok(front) = front_in(alloc, blocks, volume, style, legend, &records) else {
+    let Ok(front) = front(alloc, texts, blocks.count(), &volume.mdb) else {
+        return Err(PageFault::Memory);
+    };
+    let Ok(back) = back_in(alloc, blocks, volume, texts, &records) else {
         return Err(PageFault::Memory);
     };
     let mut items = inventory(alloc, records)?;
     put_piece(writer, &front)?;
-    write_rows(alloc, &mut items, writer)?;
-    write_end(alloc, writer, script)?;
+    write_rows(alloc, &mut items, texts.image.base, writer)?;
+    put_piece(writer, &back)?;
     Ok(())
 }

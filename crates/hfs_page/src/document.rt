@@ -1,13 +1,16 @@
-//! The text of a page before and behind its items, and of one that tells of a fault.
+//! The text of a page before and after its items, and of one that has a fault alone.
 ghost use Rattle.std.specs.Prelude.{◌≡◌, IfOk, OnOk};
-ghost use Rattle.hfs_page.specs.Document.{end_text, front_text, refused_page, volume_name};
+ghost use Rattle.hfs_page.specs.Document.{back_text, end_text, front_text, refused_page, version_text, volume_name};
 ghost use Rattle.hfs_page.specs.Facts.{head_text};
 ghost use Rattle.hfs_page.specs.Pieces.{Gains};
 ghost use Rattle.hfs_page.specs.Texts.{shown};
 
 use crate::cells::Cell;
 use crate::escaping::push_escaped;
-use crate::facts::{push_facts, push_head};
+use crate::extents::push_extents;
+use crate::facts::{push_facts, push_head, push_image_rows};
+use crate::page_texts::PageTexts;
+use crate::parts::Holding;
 use crate::picture::push_picture;
 use crate::pieces::push_bytes;
 use crate::texts::push_shown;
@@ -52,63 +55,107 @@ fn push_named_head(
 fn push_front(
     alloc: Global,
     page: &mut Vec<u8>,
-    style: &[u8],
-    legend: &[u8],
+    texts: &PageTexts<'_>,
+    total: u32,
     mdb: &Mdb,
-    records: &[CatalogRecord],
-    cells: &[Cell],
 ) -> Result<(), AllocError>
-    ensures { OnOk result (Gains page.old page.new
-        (front_text style.now legend.now mdb.now records.now cells.now)) }
+    ensures { OnOk result (Gains page.old page.new (front_text texts.now total mdb.now)) }
 {
-    push_named_head(alloc, page, style, mdb)?;
-    push_facts(alloc, page, mdb)?;
-    push_picture(alloc, page, records, cells)?;
-    push_bytes(page, legend)?;
+    push_named_head(alloc, page, texts.style, mdb)?;
+    push_facts(alloc, page, &texts.image, total, mdb)?;
+    push_bytes(page, texts.columns)?;
     push_bytes(page, b"<ul id=\"items\">\n")
 }
 
-/// All that stands before the items, where `records` are all records of the catalog, and `cells`
-/// those of the picture.
+/// All that stands before the items, where the image has so many blocks.
 pub(crate) fn front(
     alloc: Global,
-    style: &[u8],
-    legend: &[u8],
+    texts: &PageTexts<'_>,
+    total: u32,
     mdb: &Mdb,
-    records: &[CatalogRecord],
-    cells: &[Cell],
 ) -> Result<Vec<u8>, AllocError>
-    ensures { IfOk result (λ text. text.items ≡
-        front_text style.now legend.now mdb.now records.now cells.now) }
+    ensures { IfOk result (λ text. text.items ≡ front_text texts.now total mdb.now) }
 {
     let mut page = Vec::new(alloc);
-    push_front(alloc, &mut page, style, legend, mdb, records, cells)?;
+    push_front(alloc, &mut page, texts, total, mdb)?;
     Ok(page)
 }
 
-/// Appends all that stands behind the items.
-pub(crate) fn push_end(page: &mut Vec<u8>, script: &[u8]) -> Result<(), AllocError>
-    ensures { OnOk result (Gains page.old page.new (end_text script.now)) }
+/// Appends which version of the program printed the page.
+#[tactic(auto, unfolding(crate::specs::Document::version_text))]
+fn push_version(page: &mut Vec<u8>, version: &[u8]) -> Result<(), AllocError>
+    ensures { OnOk result (Gains page.old page.new (version_text version.now)) }
 {
-    push_bytes(page, b"</ul>\n")?;
-    push_bytes(page, script)?;
+    push_bytes(page, b"<footer>Printed by hfs_tool ")?;
+    push_escaped(page, version)?;
+    push_bytes(page, b"</footer>\n")
+}
+
+/// Appends the end of a page.
+#[tactic(auto, unfolding(crate::specs::Document::end_text))]
+fn push_end(page: &mut Vec<u8>, texts: &PageTexts<'_>) -> Result<(), AllocError>
+    ensures { OnOk result (Gains page.old page.new (end_text texts.now)) }
+{
+    push_version(page, texts.version)?;
+    push_bytes(page, texts.script)?;
     push_bytes(page, b"</main>\n</body>\n</html>\n")
 }
 
-/// Appends the whole page of an image that is refused: the fault and what it means.
+/// Appends all that stands after the items.
+fn push_back(
+    alloc: Global,
+    page: &mut Vec<u8>,
+    texts: &PageTexts<'_>,
+    records: &[CatalogRecord],
+    holdings: &[Holding],
+    cells: &[Cell],
+) -> Result<(), AllocError>
+    ensures { OnOk result (Gains page.old page.new
+        (back_text texts.now records.now holdings.now cells.now)) }
+{
+    push_bytes(page, b"</ul>\n</section>\n")?;
+    push_picture(alloc, page, records, cells)?;
+    push_extents(alloc, page, holdings)?;
+    push_bytes(page, texts.legend)?;
+    push_end(page, texts)
+}
+
+/// All that stands after the items, where `records` are all records of the catalog, `holdings` all
+/// extents, and `cells` those of the picture.
+pub(crate) fn back(
+    alloc: Global,
+    texts: &PageTexts<'_>,
+    records: &[CatalogRecord],
+    holdings: &[Holding],
+    cells: &[Cell],
+) -> Result<Vec<u8>, AllocError>
+    ensures { IfOk result (λ text. text.items ≡
+        back_text texts.now records.now holdings.now cells.now) }
+{
+    let mut page = Vec::new(alloc);
+    push_back(alloc, &mut page, texts, records, holdings, cells)?;
+    Ok(page)
+}
+
+/// Appends the whole page of an image that is refused: what is known of the image, the fault, and what
+/// it means.
 pub fn push_refused_page(
     page: &mut Vec<u8>,
-    style: &[u8],
+    texts: &PageTexts<'_>,
     refusal: &[u8],
     meaning: &[u8],
 ) -> Result<(), AllocError>
     ensures { OnOk result (Gains page.old page.new
-        (refused_page style.now refusal.now meaning.now)) }
+        (refused_page texts.now refusal.now meaning.now)) }
 {
-    push_head(page, style, b"Refused")?;
-    push_bytes(page, b"<p>")?;
+    push_head(page, texts.style, b"Refused")?;
+    push_bytes(page, b"<dl>\n<div><dt>Check</dt><dd>refused</dd></div>\n")?;
+    push_image_rows(page, &texts.image)?;
+    push_bytes(page, b"</dl>\n<p>")?;
     push_escaped(page, refusal)?;
     push_bytes(page, b"</p>\n<p>")?;
     push_escaped(page, meaning)?;
-    push_bytes(page, b"</p>\n</main>\n</body>\n</html>\n")
+    push_bytes(page, b"</p>\n")?;
+    push_version(page, texts.version)?;
+    push_bytes(page, b"</main>\n</body>\n</html>\n")
 }

@@ -1,10 +1,15 @@
 //! What a page says of a volume before its picture.
-ghost use Rattle.std.specs.Prelude.{OnOk};
-ghost use Rattle.hfs_page.specs.Facts.{count_row, counts_text, date_row, dates_text, head_text, row_head, sizes_text, start_text, facts_text};
+ghost use Rattle.std.specs.Prelude.{◌++◌, ◌<◌, ◌^◌, OnOk, codes};
+ghost use Rattle.hfs_page.specs.Facts.{count_row, counts_text, digest_row, date_row, dates_text, head_text, image_rows, lengths_text, row_head, size_row, sizes_text, start_text, facts_start, facts_text, text_row};
 ghost use Rattle.hfs_page.specs.Pieces.{Gains};
+ghost use Rattle.hfs_page.specs.Sizes.{size_text};
+ghost use Rattle.hfs_page.specs.Texts.{told_number};
 
+use crate::escaping::push_escaped;
+use crate::page_image::PageImage;
 use crate::pieces::push_bytes;
-use crate::texts::{push_date, push_number};
+use crate::sizes::push_size;
+use crate::texts::{push_date, push_number, push_told_number};
 use hfs_fields::Mdb;
 use std::alloc::{AllocError, Global};
 
@@ -13,9 +18,9 @@ use std::alloc::{AllocError, Global};
 fn push_row_head(page: &mut Vec<u8>, label: &[u8]) -> Result<(), AllocError>
     ensures { OnOk result (Gains page.old page.new (row_head label.now)) }
 {
-    push_bytes(page, b"<tr><th scope=\"row\">")?;
+    push_bytes(page, b"<div><dt>")?;
     push_bytes(page, label)?;
-    push_bytes(page, b"</th><td>")
+    push_bytes(page, b"</dt><dd>")
 }
 
 /// Appends a row of a date.
@@ -30,7 +35,7 @@ fn push_date_row(
 {
     push_row_head(page, label)?;
     push_date(alloc, page, date)?;
-    push_bytes(page, b"</td></tr>\n")
+    push_bytes(page, b"</dd></div>\n")
 }
 
 /// Appends a row of a number.
@@ -44,8 +49,8 @@ fn push_count_row(
     ensures { OnOk result (Gains page.old page.new (count_row label.now count)) }
 {
     push_row_head(page, label)?;
-    push_number(alloc, page, count)?;
-    push_bytes(page, b"</td></tr>\n")
+    push_number(alloc, page, u64::from(count))?;
+    push_bytes(page, b"</dd></div>\n")
 }
 
 /// Appends a row of a number of blocks.
@@ -58,6 +63,42 @@ fn push_blocks_row(
     ensures { OnOk result (Gains page.old page.new (count_row label.now blocks)) }
 {
     push_count_row(alloc, page, label, u32::from(blocks))
+}
+
+/// Appends a number of bytes, in the unit that suits and by itself.
+fn push_length(alloc: Global, page: &mut Vec<u8>, bytes: u64) -> Result<(), AllocError>
+    requires { bytes < 2 ^ 60 }
+    ensures { OnOk result (Gains page.old page.new
+        (size_text bytes ++ told_number (codes " (") bytes ++ codes " bytes)</dd></div>\n")) }
+{
+    push_size(alloc, page, bytes)?;
+    push_told_number(alloc, page, b" (", bytes)?;
+    push_bytes(page, b" bytes)</dd></div>\n")
+}
+
+/// Appends a row of a number of bytes.
+#[tactic(auto, unfolding(crate::specs::Facts::size_row))]
+fn push_size_row(
+    alloc: Global,
+    page: &mut Vec<u8>,
+    label: &[u8],
+    bytes: u64,
+) -> Result<(), AllocError>
+    requires { bytes < 2 ^ 60 }
+    ensures { OnOk result (Gains page.old page.new (size_row label.now bytes)) }
+{
+    push_row_head(page, label)?;
+    push_length(alloc, page, bytes)
+}
+
+/// Appends how long an image of so many blocks of 512 bytes is, and how much of its volume is free.
+#[tactic(auto, unfolding(crate::specs::Facts::lengths_text))]
+fn push_lengths(alloc: Global, page: &mut Vec<u8>, total: u32, mdb: &Mdb) -> Result<(), AllocError>
+    ensures { OnOk result (Gains page.old page.new (lengths_text total mdb.now)) }
+{
+    push_size_row(alloc, page, b"Length", u64::from(total) * 512)?;
+    let free = u64::from(mdb.free_blocks) * u64::from(mdb.allocation_block_size);
+    push_size_row(alloc, page, b"Free", free)
 }
 
 /// Appends the rows of the volume's dates.
@@ -91,19 +132,64 @@ fn push_counts(alloc: Global, page: &mut Vec<u8>, mdb: &Mdb) -> Result<(), Alloc
     push_count_row(alloc, page, b"Folders", mdb.folders)
 }
 
-/// Appends the table of what the volume is. It is of a sound one, since no other has a page with
-/// more than its fault.
-pub(crate) fn push_facts(alloc: Global, page: &mut Vec<u8>, mdb: &Mdb) -> Result<(), AllocError>
-    ensures { OnOk result (Gains page.old page.new (facts_text mdb.now)) }
+/// Appends a row of a text, escaped.
+#[tactic(auto, unfolding(crate::specs::Facts::text_row))]
+fn push_text_row(page: &mut Vec<u8>, label: &[u8], text: &[u8]) -> Result<(), AllocError>
+    ensures { OnOk result (Gains page.old page.new (text_row label.now text.now)) }
+{
+    push_row_head(page, label)?;
+    push_escaped(page, text)?;
+    push_bytes(page, b"</dd></div>\n")
+}
+
+/// Appends the row of the image's digest, if it was taken.
+fn push_digest_row(page: &mut Vec<u8>, digest: Option<&[u8]>) -> Result<(), AllocError>
+    ensures { OnOk result (Gains page.old page.new (digest_row digest.entry)) }
+{
+    match digest {
+        Some(digest) => push_text_row(page, b"SHA-256", digest),
+        None => Ok(()),
+    }
+}
+
+/// Appends what the image's file is called, and its digest.
+#[tactic(auto, unfolding(crate::specs::Facts::image_rows))]
+pub(crate) fn push_image_rows(page: &mut Vec<u8>, image: &PageImage<'_>) -> Result<(), AllocError>
+    ensures { OnOk result (Gains page.old page.new (image_rows image.now)) }
+{
+    push_text_row(page, b"Image", image.name)?;
+    push_digest_row(page, image.digest)
+}
+
+/// Appends the links to the parts of the page, and the beginning of the list of what the volume is.
+#[tactic(auto, unfolding(crate::specs::Facts::facts_start))]
+fn push_facts_start(page: &mut Vec<u8>) -> Result<(), AllocError>
+    ensures { OnOk result (Gains page.old page.new facts_start) }
 {
     push_bytes(
         page,
-        b"<table aria-label=\"The volume\">\n<tr><th scope=\"row\">Check</th><td>sound</td></tr>\n",
-    )?;
+        b"<nav aria-label=\"On this page\"><a href=\"#list\">Items</a><a href=\"#blocks\">Blocks</a></nav>\n<dl>\n<div><dt>Check</dt><dd>sound</dd></div>\n",
+    )
+}
+
+/// Appends the list of what the volume in this image of so many blocks is. It is of a sound one,
+/// since no other has a page with more than its fault.
+pub(crate) fn push_facts(
+    alloc: Global,
+    page: &mut Vec<u8>,
+    image: &PageImage<'_>,
+    total: u32,
+    mdb: &Mdb,
+) -> Result<(), AllocError>
+    ensures { OnOk result (Gains page.old page.new (facts_text image.now total mdb.now)) }
+{
+    push_facts_start(page)?;
+    push_image_rows(page, image)?;
+    push_lengths(alloc, page, total, mdb)?;
     push_dates(alloc, page, mdb)?;
-    push_sizes(alloc, page, mdb)?;
     push_counts(alloc, page, mdb)?;
-    push_bytes(page, b"</table>\n")
+    push_sizes(alloc, page, mdb)?;
+    push_bytes(page, b"</dl>\n")
 }
 
 /// Appends what stands before a page's title. It tells a browser that the page may ask for nothing.

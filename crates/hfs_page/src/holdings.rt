@@ -62,14 +62,13 @@ fn push_fork<N: Nodes>(
     tree: &N,
     holdings: &mut Vec<Holding>,
     fork: FileFork,
-    file: u32,
     first: &[Extent; 3],
 ) -> Result<(), AllocError>
     requires { IsExtentsTree (N.nodes tree.now) }
     ensures { OnOk result (AddsHoldings holdings.old holdings.new
-        (fork_holdings (overflow_of (N.nodes tree.now)) fork file first.now)) }
+        (fork_holdings (overflow_of (N.nodes tree.now)) fork first.now)) }
 {
-    let extents = fork_extents(alloc, tree, file, fork.kind, first)?;
+    let extents = fork_extents(alloc, tree, fork.file, fork.kind, first)?;
     push_fork_held(holdings, fork, &extents)
 }
 
@@ -86,22 +85,17 @@ fn push_file<N: Nodes>(
 {
     let data = FileFork {
         number: file.number,
+        file: file.file.id,
         kind: ForkKind::Data,
     };
     let resource = FileFork {
         number: file.number,
+        file: file.file.id,
         kind: ForkKind::Resource,
     };
     let CatalogFile { file, .. } = file;
-    push_fork(alloc, tree, holdings, data, file.id, &file.data.extents)?;
-    push_fork(
-        alloc,
-        tree,
-        holdings,
-        resource,
-        file.id,
-        &file.resource.extents,
-    )
+    push_fork(alloc, tree, holdings, data, &file.data.extents)?;
+    push_fork(alloc, tree, holdings, resource, &file.resource.extents)
 }
 
 /// Adds the extents of a record's forks, if it is a file's.

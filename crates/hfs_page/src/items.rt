@@ -1,10 +1,15 @@
 //! The items of a page, as a tree that opens and closes.
-ghost use Rattle.std.specs.Prelude.{◌≡◌, ◌<◌, ◌^◌, OnOk};
+ghost use Rattle.std.specs.Prelude.{◌≡◌, ◌+◌, ◌<◌, ◌^◌, OnOk, codes};
 ghost use Rattle.hfs_page.specs.Pieces.{Gains};
-ghost use Rattle.hfs_page.specs.Items.{closings, file_text, flat_text, folder_text, item_text, leaf_text, modified_text, name_tagged, nested_text, open_behind, opening, row_text, sizes_text, type_text};
+ghost use Rattle.hfs_page.specs.Sizes.{told_size};
+ghost use Rattle.hfs_page.specs.Texts.{told_number};
+ghost use Rattle.hfs_page.specs.Items.{closings, file_name, file_text, flat_text, folder_text, item_text, items_word, leaf_text, modified_text, name_tagged, nested_text, open_behind, opening, row_start, row_text, sizes_text, type_text};
 
+use crate::links::{push_bag_link, push_link_end};
 use crate::pieces::push_bytes;
+use crate::sizes::push_told_size;
 use crate::texts::{push_shown, push_told_date, push_told_number, push_told_text};
+use hfs_fields::Name;
 use hfs_model::{Info, ItemKind};
 use std::alloc::{AllocError, Global};
 
@@ -31,7 +36,19 @@ fn push_modified(alloc: Global, page: &mut Vec<u8>, date: u32) -> Result<(), All
     if date == 0 {
         return Ok(());
     }
-    push_told_date(alloc, page, b"</span><span> modified ", date)
+    push_told_date(alloc, page, b"<span>", date)?;
+    push_bytes(page, b"\n(modified)</span>")
+}
+
+/// Appends what comes after a number of items.
+fn push_items_word(page: &mut Vec<u8>, count: u32) -> Result<(), AllocError>
+    ensures { OnOk result (Gains page.old page.new (items_word count)) }
+{
+    if count == 1 {
+        push_bytes(page, b" item</span>")
+    } else {
+        push_bytes(page, b" items</span>")
+    }
 }
 
 /// Appends what is told of a folder.
@@ -40,9 +57,36 @@ fn push_folder(alloc: Global, page: &mut Vec<u8>, info: &Info) -> Result<(), All
     ensures { OnOk result (Gains page.old page.new (folder_text info.now)) }
 {
     push_name(alloc, page, info)?;
-    push_told_number(alloc, page, b"<span> folder, items ", info.valence)?;
-    push_modified(alloc, page, info.modified)?;
-    push_bytes(page, b"</span>")
+    push_told_number(alloc, page, b"<span>", u64::from(info.valence))?;
+    push_items_word(page, info.valence)?;
+    push_bytes(page, b"<span>folder</span>")?;
+    push_modified(alloc, page, info.modified)
+}
+
+/// Appends how many bytes both forks of a file have together.
+fn push_both(alloc: Global, page: &mut Vec<u8>, info: &Info) -> Result<(), AllocError>
+    ensures { OnOk result (Gains page.old page.new
+        (told_size (codes "<span>") (info.now.data_len + info.now.res_len))) }
+{
+    let bytes = u64::from(info.data_len) + u64::from(info.res_len);
+    push_told_size(alloc, page, b"<span>", bytes)
+}
+
+/// Appends how many bytes a fork has, after which fork it is.
+fn push_fork(alloc: Global, page: &mut Vec<u8>, label: &[u8], bytes: u32) -> Result<(), AllocError>
+    ensures { OnOk result (Gains page.old page.new (told_number label.now bytes)) }
+{
+    push_told_number(alloc, page, label, u64::from(bytes))
+}
+
+/// Appends how many bytes the forks of a file have, together and each.
+fn push_sizes(alloc: Global, page: &mut Vec<u8>, info: &Info) -> Result<(), AllocError>
+    ensures { OnOk result (Gains page.old page.new (sizes_text info.now)) }
+{
+    push_both(alloc, page, info)?;
+    push_fork(alloc, page, b"\n(data fork ", info.data_len)?;
+    push_fork(alloc, page, b" bytes, resource fork ", info.res_len)?;
+    push_bytes(page, b" bytes)</span>")
 }
 
 /// Appends a file's type and creator.
@@ -50,29 +94,44 @@ fn push_folder(alloc: Global, page: &mut Vec<u8>, info: &Info) -> Result<(), All
 fn push_type(alloc: Global, page: &mut Vec<u8>, info: &Info) -> Result<(), AllocError>
     ensures { OnOk result (Gains page.old page.new (type_text info.now)) }
 {
-    push_told_text(alloc, page, b"<span> file, type ", &info.finder[..4])?;
-    push_told_text(alloc, page, b", creator ", &info.finder[4..8])
+    push_told_text(alloc, page, b"<span>", &info.finder[..4])?;
+    push_told_text(alloc, page, b" ", &info.finder[4..8])?;
+    push_bytes(page, b"\n(type, creator)</span>")
 }
 
-/// Appends how many bytes the forks of a file have.
-#[tactic(auto, unfolding(crate::specs::Items::sizes_text))]
-fn push_sizes(alloc: Global, page: &mut Vec<u8>, info: &Info) -> Result<(), AllocError>
-    ensures { OnOk result (Gains page.old page.new (sizes_text info.now)) }
+/// Appends a file's name, as a link to the file where the URL of a bag is known.
+#[tactic(auto, unfolding(crate::specs::Items::file_name))]
+fn push_file_name(
+    alloc: Global,
+    page: &mut Vec<u8>,
+    base: Option<&[u8]>,
+    path: &[Name],
+    info: &Info,
+) -> Result<(), AllocError>
+    ensures { OnOk result (Gains page.old page.new (file_name base.entry path.now info.now)) }
 {
-    push_told_number(alloc, page, b"</span><span> data fork ", info.data_len)?;
-    push_told_number(alloc, page, b" bytes, resource fork ", info.res_len)?;
-    push_bytes(page, b" bytes</span>")
+    push_bytes(page, b"<b>")?;
+    push_bag_link(alloc, page, base, path)?;
+    push_shown(alloc, page, info.name.bytes())?;
+    push_link_end(page, base)?;
+    push_bytes(page, b"</b>")
 }
 
 /// Appends what is told of a file.
 #[tactic(auto, unfolding(crate::specs::Items::file_text))]
-fn push_file(alloc: Global, page: &mut Vec<u8>, info: &Info) -> Result<(), AllocError>
-    ensures { OnOk result (Gains page.old page.new (file_text info.now)) }
+fn push_file(
+    alloc: Global,
+    page: &mut Vec<u8>,
+    base: Option<&[u8]>,
+    path: &[Name],
+    info: &Info,
+) -> Result<(), AllocError>
+    ensures { OnOk result (Gains page.old page.new (file_text base.entry path.now info.now)) }
 {
-    push_name(alloc, page, info)?;
+    push_file_name(alloc, page, base, path, info)?;
+    push_sizes(alloc, page, info)?;
     push_type(alloc, page, info)?;
-    push_modified(alloc, page, info.modified)?;
-    push_sizes(alloc, page, info)
+    push_modified(alloc, page, info.modified)
 }
 
 /// Appends the ends of so many folders.
@@ -88,19 +147,29 @@ pub(crate) fn push_closings(page: &mut Vec<u8>, count: usize) -> Result<(), Allo
     Ok(())
 }
 
+/// Appends the beginning of an item's element, with the item's ID.
+#[tactic(auto, unfolding(crate::specs::Items::row_start))]
+fn push_row_start(alloc: Global, page: &mut Vec<u8>, info: &Info) -> Result<(), AllocError>
+    ensures { OnOk result (Gains page.old page.new (row_start info.now)) }
+{
+    push_told_number(alloc, page, b"<li id=\"i", u64::from(info.id))?;
+    push_bytes(page, b"\">")
+}
+
 /// Appends the beginning of a folder of so many items that opens and closes. The root, which lies in
 /// none, is open, but where it has so many that a browser would take seconds to lay them out.
 fn push_opening(page: &mut Vec<u8>, depth: usize, valence: u32) -> Result<(), AllocError>
     ensures { OnOk result (Gains page.old page.new (opening depth valence)) }
 {
     if depth == 0 && valence <= MOST_SHOWN {
-        push_bytes(page, b"<li><details open><summary>")
+        push_bytes(page, b"<details open><summary>")
     } else {
-        push_bytes(page, b"<li><details><summary>")
+        push_bytes(page, b"<details><summary>")
     }
 }
 
 /// Appends a folder that opens and closes, up to the place where its children stand.
+#[tactic(auto, unfolding(crate::specs::Items::nested_text))]
 fn push_nested(
     alloc: Global,
     page: &mut Vec<u8>,
@@ -109,34 +178,50 @@ fn push_nested(
 ) -> Result<(), AllocError>
     ensures { OnOk result (Gains page.old page.new (nested_text depth info.now)) }
 {
+    push_row_start(alloc, page, info)?;
     push_opening(page, depth, info.valence)?;
     push_folder(alloc, page, info)?;
     push_bytes(page, b"</summary><ul>\n")
 }
 
 /// Appends a folder that stands flat, since too many stand open above it.
+#[tactic(auto, unfolding(crate::specs::Items::flat_text))]
 fn push_flat(alloc: Global, page: &mut Vec<u8>, info: &Info) -> Result<(), AllocError>
     ensures { OnOk result (Gains page.old page.new (flat_text info.now)) }
 {
-    push_bytes(page, b"<li>")?;
+    push_row_start(alloc, page, info)?;
     push_folder(alloc, page, info)?;
     push_bytes(page, b"</li>\n")
 }
 
 /// Appends a file.
-fn push_leaf(alloc: Global, page: &mut Vec<u8>, info: &Info) -> Result<(), AllocError>
-    ensures { OnOk result (Gains page.old page.new (leaf_text info.now)) }
+#[tactic(auto, unfolding(crate::specs::Items::leaf_text))]
+fn push_leaf(
+    alloc: Global,
+    page: &mut Vec<u8>,
+    base: Option<&[u8]>,
+    path: &[Name],
+    info: &Info,
+) -> Result<(), AllocError>
+    ensures { OnOk result (Gains page.old page.new (leaf_text base.entry path.now info.now)) }
 {
-    push_bytes(page, b"<li>")?;
-    push_file(alloc, page, info)?;
+    push_row_start(alloc, page, info)?;
+    push_file(alloc, page, base, path, info)?;
     push_bytes(page, b"</li>\n")
 }
 
 /// Appends an item that lies in so many folders: all of a file, and of a folder what stands before
 /// its children.
 #[tactic(auto, unfolding(crate::specs::Items::item_text))]
-fn push_item(alloc: Global, page: &mut Vec<u8>, depth: usize, info: &Info) -> Result<(), AllocError>
-    ensures { OnOk result (Gains page.old page.new (item_text depth info.now)) }
+fn push_item(
+    alloc: Global,
+    page: &mut Vec<u8>,
+    base: Option<&[u8]>,
+    path: &[Name],
+    depth: usize,
+    info: &Info,
+) -> Result<(), AllocError>
+    ensures { OnOk result (Gains page.old page.new (item_text base.entry path.now depth info.now)) }
 {
     match info.kind {
         ItemKind::Folder => {
@@ -146,7 +231,7 @@ fn push_item(alloc: Global, page: &mut Vec<u8>, depth: usize, info: &Info) -> Re
                 push_flat(alloc, page, info)
             }
         }
-        ItemKind::File => push_leaf(alloc, page, info),
+        ItemKind::File => push_leaf(alloc, page, base, path, info),
     }
 }
 
@@ -161,18 +246,20 @@ pub(crate) fn open_behind(depth: usize, info: &Info) -> usize
     }
 }
 
-/// Appends the row of an item that lies in so many folders, where so many stand open: the ends of
-/// those in which it doesn't lie, and then the item.
+/// Appends the row of an item with the names that lead to it, where so many folders stand open: the
+/// ends of those in which it doesn't lie, and then the item.
 #[tactic(auto, unfolding(crate::specs::Items::row_text))]
 pub(crate) fn push_row(
     alloc: Global,
     page: &mut Vec<u8>,
+    base: Option<&[u8]>,
     opened: usize,
-    depth: usize,
+    path: &[Name],
     info: &Info,
 ) -> Result<(), AllocError>
-    ensures { OnOk result (Gains page.old page.new (row_text opened depth info.now)) }
+    ensures { OnOk result (Gains page.old page.new (row_text base.entry opened path.now info.now)) }
 {
+    let depth = path.len().saturating_sub(1);
     push_closings(page, opened.saturating_sub(MOST_OPEN.min(depth)))?;
-    push_item(alloc, page, depth, info)
+    push_item(alloc, page, base, path, depth, info)
 }

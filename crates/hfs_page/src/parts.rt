@@ -56,6 +56,8 @@ pub(crate) fn rank(part: Part) -> u8
 pub struct FileFork {
     /// The number of the file's record among all records of the catalog, counted from 0.
     pub number: usize,
+    /// The file's catalog node ID.
+    pub file: u32,
     pub kind: ForkKind,
 }
 

@@ -195,7 +195,7 @@ pub(crate) fn push_picture(
     push_rows(
         alloc,
         page,
-        b"<h2>Blocks</h2>\n<svg role=\"group\" aria-label=\"The blocks of the disk\" viewBox=\"0 0 64 ",
+        b"<section id=\"blocks\">\n<h2>Blocks</h2>\n<svg id=\"picture\" role=\"group\" aria-label=\"The blocks of the disk\" viewBox=\"0 0 64 ",
         cells.len(),
     )?;
     push_bytes(page, b"\">\n")?;

@@ -29,16 +29,18 @@ fn push_next(
     alloc: Global,
     text: &mut Vec<u8>,
     items: &mut Inventory,
+    base: Option<&[u8]>,
     opened: usize,
 ) -> Result<Option<usize>, AllocError>
-    ensures { IfOk result (MovesRow opened text.old.items text.new.items
+    ensures { IfOk result (MovesRow base.entry opened text.old.items text.new.items
         items.old.left items.new.left) }
 {
     let Some(info) = items.next()? else {
         return Ok(None);
     };
-    let depth = items.path().len().saturating_sub(1);
-    push_row(alloc, text, opened, depth, &info)?;
+    let path = items.path();
+    push_row(alloc, text, base, opened, path, &info)?;
+    let depth = path.len().saturating_sub(1);
     Ok(Some(open_behind(depth, &info)))
 }
 
@@ -47,12 +49,13 @@ fn push_next_row(
     alloc: Global,
     text: &mut Vec<u8>,
     items: &mut Inventory,
+    base: Option<&[u8]>,
     opened: usize,
 ) -> Result<Option<usize>, PageFault>
-    ensures { IfOk result (MovesRow opened text.old.items text.new.items
+    ensures { IfOk result (MovesRow base.entry opened text.old.items text.new.items
         items.old.left items.new.left) }
 {
-    match push_next(alloc, text, items, opened) {
+    match push_next(alloc, text, items, base, opened) {
         Ok(behind) => Ok(behind),
         Err(_) => Err(PageFault::Memory),
     }
@@ -94,20 +97,22 @@ fn push_ends(text: &mut Vec<u8>, count: usize) -> Result<(), PageFault>
 }
 
 /// Writes the rows of all items that are still to come, one after the other, in pieces of 65,536
-/// bytes and a row. At a fault a part of them has gone out, from the first on.
+/// bytes and a row; files are links where the URL of a bag is known. At a fault a part of them has
+/// gone out, from the first on.
 pub(crate) fn write_rows<W: Write>(
     alloc: Global,
     items: &mut Inventory,
+    base: Option<&[u8]>,
     writer: &mut W,
 ) -> Result<(), PageFault>
     ensures written { OnOk result (Appends (W.contents writer.old) (W.contents writer.new)
-        (rows_text 0 items.old.left)) }
+        (rows_text base.entry 0 items.old.left)) }
     ensures part { OnErr result (AppendsFront (W.contents writer.old) (W.contents writer.new)
-        (rows_text 0 items.old.left)) }
+        (rows_text base.entry 0 items.old.left)) }
 {
     let mut text = Vec::new(alloc);
     let mut opened = 0;
-    while let Some(behind) = push_next_row(alloc, &mut text, items, opened)? {
+    while let Some(behind) = push_next_row(alloc, &mut text, items, base, opened)? {
         opened = behind;
         if text.len() >= PIECE {
             put_text(writer, &mut text)?;

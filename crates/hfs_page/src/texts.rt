@@ -1,9 +1,8 @@
 //! Texts and numbers of a page.
-ghost use Rattle.std.specs.Prelude.{OnOk};
+ghost use Rattle.std.specs.Prelude.{◌≡◌, ◌++◌, OnOk, codes, drop, take};
 ghost use Rattle.std.specs.Fmt.{decimal};
-ghost use Rattle.hfs_names.specs.Moments.{moment};
 ghost use Rattle.hfs_page.specs.Pieces.{Gains};
-ghost use Rattle.hfs_page.specs.Texts.{shown, told_date, told_number, told_text};
+ghost use Rattle.hfs_page.specs.Texts.{date_text, shown, told_date, told_number, told_text};
 
 use crate::escaping::push_escaped;
 use crate::pieces::push_bytes;
@@ -19,17 +18,44 @@ pub(crate) fn push_shown(alloc: Global, page: &mut Vec<u8>, bytes: &[u8]) -> Res
     push_escaped(page, text.as_bytes())
 }
 
-/// Appends the moment of a date.
-pub(crate) fn push_date(alloc: Global, page: &mut Vec<u8>, date: u32) -> Result<(), AllocError>
-    ensures { OnOk result (Gains page.old page.new (moment date)) }
+/// The day of a moment.
+fn day_of(moment: &[u8]) -> &[u8]
+    ensures { result.now ≡ take 10 moment.now }
 {
+    &moment[..moment.len().min(10)]
+}
+
+/// The time of a moment.
+fn time_of(moment: &[u8]) -> &[u8]
+    ensures { result.now ≡ drop 11 moment.now }
+{
+    &moment[moment.len().min(11)..]
+}
+
+/// Appends the day of a moment, a blank, and the time.
+fn push_day_and_time(page: &mut Vec<u8>, moment: &[u8]) -> Result<(), AllocError>
+    ensures { OnOk result (Gains page.old page.new (take 10 moment.now ++ codes " " ++ drop 11 moment.now)) }
+{
+    push_bytes(page, day_of(moment))?;
+    push_bytes(page, b" ")?;
+    push_bytes(page, time_of(moment))
+}
+
+/// Appends a date as YYYY-MM-DD hh:mm:ss; nothing where there is none.
+#[tactic(auto, unfolding(crate::specs::Texts::date_text))]
+pub(crate) fn push_date(alloc: Global, page: &mut Vec<u8>, date: u32) -> Result<(), AllocError>
+    ensures { OnOk result (Gains page.old page.new (date_text date)) }
+{
+    if date == 0 {
+        return Ok(());
+    }
     let mut text = String::new(alloc);
     push_moment(&mut text, date)?;
-    push_bytes(page, text.as_bytes())
+    push_day_and_time(page, text.as_bytes())
 }
 
 /// Appends a number.
-pub(crate) fn push_number(alloc: Global, page: &mut Vec<u8>, number: u32) -> Result<(), AllocError>
+pub(crate) fn push_number(alloc: Global, page: &mut Vec<u8>, number: u64) -> Result<(), AllocError>
     ensures { OnOk result (Gains page.old page.new (decimal number)) }
 {
     let mut text = String::new(alloc);
@@ -80,7 +106,7 @@ pub(crate) fn push_told_number(
     alloc: Global,
     page: &mut Vec<u8>,
     label: &[u8],
-    number: u32,
+    number: u64,
 ) -> Result<(), AllocError>
     ensures { OnOk result (Gains page.old page.new (told_number label.now number)) }
 {

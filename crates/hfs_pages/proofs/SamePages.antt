@@ -19,8 +19,9 @@ use Rattle.hfs_needed.specs.Laws.{HoldSame}
 use Rattle.hfs_pages.specs.ImagePages.{page_of}
 use Rattle.hfs_page.specs.declared.parts.Holding.{Holding}
 use Rattle.hfs_page.specs.Cells.{picture_cells}
-use Rattle.hfs_page.specs.Disk.{cells_in, page_in}
-use Rattle.hfs_page.specs.Document.{end_text, front_text}
+use Rattle.hfs_page.specs.declared.page_texts.PageTexts.{PageTexts}
+use Rattle.hfs_page.specs.Disk.{cells_in, holdings_in, page_in}
+use Rattle.hfs_page.specs.Document.{back_text, front_text}
 use Rattle.hfs_page.specs.Holdings.{volume_holdings}
 use Rattle.hfs_page.specs.Items.{rows_text}
 use Rattle.hfs_page.specs.Uses.{block_uses, unowned, use_by}
@@ -37,43 +38,47 @@ uses-same holdings p q n h =
     (λ k lt. ap (λ (marked : Bool). use_by holdings (unowned marked) k) (h k (omega (arith, lt))))
 
 module _ (total : ℕ) (old new : Blocks) (same : HoldSame total old new) where
+  holdings-same : holdings_in new ≡ holdings_in old
+  unfolding holdings_in
+  holdings-same = λ i. volume_holdings (same.directory i) (same.overflow i) (same.catalog i)
+
   cells-same : cells_in new ≡ cells_in old
   unfolding cells_in
   cells-same =
-      (λ i. picture_cells (block_uses (volume_holdings (same.directory i) (same.overflow i) (same.catalog i))
-      (is_used new (same.directory i).bitmap_start) (same.directory i).allocation_blocks))
-      ∙ ap picture_cells (uses-same (volume_holdings (mdb_in old) (overflow_in old) (catalog_in old)) (is_used new (mdb_in old).bitmap_start)
+      (λ i. picture_cells (block_uses (holdings-same i) (is_used new (same.directory i).bitmap_start) (same.directory i).allocation_blocks))
+      ∙ ap picture_cells (uses-same (holdings_in old) (is_used new (mdb_in old).bitmap_start)
       (is_used old (mdb_in old).bitmap_start) (mdb_in old).allocation_blocks same.marks)
 
-  pub page-same : (style legend script : List ℕ) → page_in style legend script new ≡ page_in style legend script old
+  pub page-same : (texts : PageTexts) (count : ℕ) → page_in texts count new ≡ page_in texts count old
   unfolding page_in
-  page-same style legend script =
-      λ i. front_text style legend (same.directory i) (same.catalog i) (cells-same i) ++ rows_text 0 (catalog_rows (same.catalog i)) ++ end_text script
+  page-same texts count =
+      λ i. front_text texts count (same.directory i) ++ rows_text texts.image.base 0 (catalog_rows (same.catalog i)) ++ back_text texts (same.catalog i) (holdings-same i) (cells-same i)
 
 -- what holds of the page of the blocks that were read holds of that of the image
-pub known-page : (P : List ℕ → Type 0) (style legend script : List ℕ) (known : Option (List ℕ)) (len : ℕ) (read : Numbered) → GatheredIsEnough
-    → HasNeeded (len / 512) read → IsOfKnown known read → AreBlocksSound (len / 512) (sparse read) → P (page_in style legend script (sparse read))
-    → OfKnown known len (λ image. P (page_of style legend script image))
-known-page P style legend script None len read enough needed of sound p = tt
-known-page P style legend script (Some bytes) len read enough needed of sound p = λ same.
-    subst P (sym (page-same (len / 512) (sparse read) (block_at bytes) ((enough (len / 512) bytes read needed of).held sound) style legend script)) p
+pub known-page : (P : List ℕ → Type 0) (texts : PageTexts) (known : Option (List ℕ)) (len : ℕ) (read : Numbered) → GatheredIsEnough
+    → HasNeeded (len / 512) read → IsOfKnown known read → AreBlocksSound (len / 512) (sparse read) → P (page_in texts (len / 512) (sparse read))
+    → OfKnown known len (λ image. P (page_of texts image))
+known-page P texts None len read enough needed of sound p = tt
+known-page P texts (Some bytes) len read enough needed of sound p = λ same.
+    subst (λ (n : ℕ). P (page_in texts (n / 512) (block_at bytes))) (sym same)
+    (subst P (sym (page-same (len / 512) (sparse read) (block_at bytes) ((enough (len / 512) bytes read needed of).held sound) texts (len / 512))) p)
 
 -- ---- what was opened
 
 module _ (enough : GatheredIsEnough) (known : Option (List ℕ)) (len : ℕ) (volume : NeededVolume) (opened : IsOpenedOf known (len / 512) volume)
-    (style legend script : List ℕ) (now : Numbered) (is : now ≡ volume.read) where
-  page-known : (P : List ℕ → Type 0) → P (page_in style legend script (sparse now)) → OfKnown known len (λ image. P (page_of style legend script image))
+    (texts : PageTexts) (now : Numbered) (is : now ≡ volume.read) (total : ℕ) (whole : total ≡ len / 512) where
+  page-known : (P : List ℕ → Type 0) → P (page_in texts total (sparse now)) → OfKnown known len (λ image. P (page_of texts image))
   page-known P p =
-      known-page P style legend script known len volume.read enough opened.needed opened.of opened.sound
-      (subst (λ (read : Numbered). P (page_in style legend script (sparse read))) is p)
+      known-page P texts known len volume.read enough opened.needed opened.of opened.sound
+      (subst (λ (n : ℕ). P (page_in texts n (sparse volume.read))) whole (subst (λ (read : Numbered). P (page_in texts total (sparse read))) is p))
 
-  pub written-known : {T E : Type 0} (r : Result T E) (old new : Option (List ℕ)) → OnOk r (Appends old new (page_in style legend script (sparse now)))
-      → OnOk r (OfKnown known len (λ image. Appends old new (page_of style legend script image)))
+  pub written-known : {T E : Type 0} (r : Result T E) (old new : Option (List ℕ)) → OnOk r (Appends old new (page_in texts total (sparse now)))
+      → OnOk r (OfKnown known len (λ image. Appends old new (page_of texts image)))
   written-known (Ok x) old new h = page-known (λ (bytes : List ℕ). Appends old new bytes) h
   written-known (Err e) old new h = tt
 
-  pub part-known : {T E : Type 0} (r : Result T E) (old new : Option (List ℕ)) → OnErr r (AppendsFront old new (page_in style legend script (sparse now)))
-      → OnErr r (OfKnown known len (λ image. AppendsFront old new (page_of style legend script image)))
+  pub part-known : {T E : Type 0} (r : Result T E) (old new : Option (List ℕ)) → OnErr r (AppendsFront old new (page_in texts total (sparse now)))
+      → OnErr r (OfKnown known len (λ image. AppendsFront old new (page_of texts image)))
   part-known (Ok x) old new h = tt
   part-known (Err e) old new h = page-known (λ (bytes : List ℕ). AppendsFront old new bytes) h
 

@@ -4,6 +4,6 @@
 mod image_page;
 mod refused_page;
 
-pub use hfs_page::{PageFault, legend, script, style};
+pub use hfs_page::{PageFault, PageImage, PageTexts, is_base, standard_texts};
 pub use image_page::write_image_page;
 pub use refused_page::write_refused_page;

@@ -7,7 +7,7 @@ ghost use Rattle.hfs_refusals.specs.Refusals.{refusal_text};
 ghost use Rattle.hfs_texts.specs.Writing.{AppendsFront};
 
 use hfs_check::MountFault;
-use hfs_page::{PageFault, push_refused_page};
+use hfs_page::{PageFault, PageTexts, push_refused_page};
 use hfs_refusals::{Refusal, push_meaning};
 use hfs_texts::{Show, put};
 use std::alloc::{AllocError, Global};
@@ -32,30 +32,35 @@ fn meaning(alloc: Global, why: MountFault) -> Result<String, AllocError>
 }
 
 /// The page of an image that is refused for this.
-fn refusal_page(alloc: Global, why: MountFault, style: &[u8]) -> Result<Vec<u8>, AllocError>
-    ensures { IfOk result (λ page. page.items ≡ refusal_page style.now why) }
+fn refusal_page(
+    alloc: Global,
+    why: MountFault,
+    texts: &PageTexts<'_>,
+) -> Result<Vec<u8>, AllocError>
+    ensures { IfOk result (λ page. page.items ≡ refusal_page texts.now why) }
 {
     let refusal = refusal(alloc, why)?;
     let meaning = meaning(alloc, why)?;
     let mut page = Vec::new(alloc);
-    push_refused_page(&mut page, style, refusal.as_bytes(), meaning.as_bytes())?;
+    push_refused_page(&mut page, texts, refusal.as_bytes(), meaning.as_bytes())?;
     Ok(page)
 }
 
-/// Writes the page of an image that is refused: the fault and what it means, and nothing of the volume. `style` stands in its head. Faults:
-/// memory was refused, and nothing was written, or the writer failed; then a part of the page may have gone out, from its beginning on.
+/// Writes the page of an image that is refused: the fault and what it means, and nothing of the
+/// volume. Faults: memory was refused, and nothing was written, or the writer failed; then a part of
+/// the page may have gone out, from its beginning on.
 pub fn write_refused_page<W: Write>(
     alloc: Global,
     why: MountFault,
-    style: &[u8],
+    texts: &PageTexts<'_>,
     writer: &mut W,
 ) -> Result<(), PageFault>
     ensures written { OnOk result (Appends (W.contents writer.old) (W.contents writer.new)
-        (refusal_page style.now why)) }
+        (refusal_page texts.now why)) }
     ensures part { OnErr result (AppendsFront (W.contents writer.old) (W.contents writer.new)
-        (refusal_page style.now why)) }
+        (refusal_page texts.now why)) }
 {
-    let Ok(page) = refusal_page(alloc, why, style) else {
+    let Ok(page) = refusal_page(alloc, why, texts) else {
         return Err(PageFault::Memory);
     };
     match put(writer, &page) {

@@ -44,7 +44,7 @@ pub fn obey<'a, T: Threads + Wait + Sync>(
             volume,
             format,
         } => tell_items(rt, *image, *volume, *format),
-        Words::Page { image, volume } => print_page(rt, *image, *volume),
+        Words::Page(words) => print_page(rt, words),
         Words::Cat(file) => tell_fork(rt, file),
         Words::MacBinary(file) => tell_macbinary(rt, file),
         Words::CatAt(words) => print_fork_at(rt, words),

@@ -61,7 +61,9 @@ hold the characters themselves, numbers are numbers, yes and no are true and fal
 pub(crate) const PAGES: &str =
     "The page is one document of HTML by itself: it asks for nothing from elsewhere, and may be put on a web site as it is.
 The picture has a square for each allocation block, or for several where there are more than 4,096: of what the
-blocks are used for, it shows the first that its legend names. Of a refused image the page says why.";
+blocks are used for, it shows the first that its legend names. Of a refused image the page says why.
+
+With --base URL the page lies beside the bag that take made, or knows where that is: --base disk for a bag in the folder disk.";
 
 /// What a taken volume becomes.
 pub(crate) const TAKES: &str = "FOLDER becomes a bag:

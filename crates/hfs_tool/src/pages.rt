@@ -1,46 +1,111 @@
 //! Pages of images.
 
+use crate::words::PageWords;
+use hfs_bag::SourceFault;
 use hfs_check::MountFault;
 use hfs_commands::{BlockSource, Fault, NeededFault, OpenedImage, Status, open_part};
-use hfs_pages::{PageFault, legend, script, style, write_image_page, write_refused_page};
+use hfs_console::VERSION;
+use hfs_pages::{
+    PageFault, PageImage, PageTexts, standard_texts, write_image_page, write_refused_page,
+};
+use hfs_take::{SourceBlocks, image_digest, image_name};
+use std::alloc::Global;
 
 /// Prints the page of an image, or of the volume with this number that lies in it.
-pub fn print_page<'a>(
-    rt: &HostRuntime,
-    path: &'a str,
-    volume: Option<u64>,
-) -> Result<u8, Fault<'a>> {
-    match open_part(rt, path, volume) {
+pub fn print_page<'a>(rt: &HostRuntime, words: &PageWords<'a>) -> Result<u8, Fault<'a>> {
+    let Ok(name) = image_name(rt.alloc(), words.image) else {
+        return Err(Fault::NoMemory);
+    };
+    match open_part(rt, words.image, words.volume) {
         Ok(part) => {
             let len = part.len();
-            print_page_of(rt, path, part, len)
+            print_page_of(rt, words, name.as_str(), part, len)
         }
-        Err(Fault::Refused(why)) => print_refused_page(rt, why),
+        Err(Fault::Refused(why)) => {
+            print_refused_page(rt, &texts_of(words, name.as_str(), None), why)
+        }
         Err(fault) => Err(fault),
     }
 }
 
-/// Prints the page of an image of so many bytes.
+/// What the page says of the image beside its volume.
+fn texts_of<'a>(words: &PageWords<'a>, name: &'a str, digest: Option<&'a str>) -> PageTexts<'a> {
+    let image = PageImage {
+        name: name.as_bytes(),
+        digest: bytes_of(digest),
+        base: bytes_of(words.base),
+    };
+    standard_texts(VERSION.as_bytes(), image)
+}
+
+/// The bytes of a text, where there is one.
+fn bytes_of<'a>(text: Option<&'a str>) -> Option<&'a [u8]> {
+    match text {
+        Some(text) => Some(text.as_bytes()),
+        None => None,
+    }
+}
+
+/// Prints the page of an image of so many bytes, with its digest where this is asked for.
 fn print_page_of<'a, S: BlockSource + Drop>(
     rt: &HostRuntime,
+    words: &PageWords<'a>,
+    name: &str,
+    source: S,
+    len: u64,
+) -> Result<u8, Fault<'a>> {
+    if !words.is_digested {
+        return print_told_page(rt, words, name, None, source, len);
+    }
+    let mut blocks = SourceBlocks::new(source);
+    let digits = digits_of(rt.alloc(), &mut blocks, len, words.image)?;
+    let digest = Some(digits.as_str());
+    print_told_page(rt, words, name, digest, blocks.into_source(), len)
+}
+
+/// The hexadecimal digits of the digest of an image of so many bytes.
+fn digits_of<'a, S: BlockSource + Drop>(
+    alloc: Global,
+    blocks: &mut SourceBlocks<S>,
+    len: u64,
     path: &'a str,
+) -> Result<String, Fault<'a>> {
+    let digest = match image_digest(alloc, blocks, len) {
+        Ok(digest) => digest,
+        Err(SourceFault::ReadFailed) => return Err(Fault::CannotRead(path)),
+        Err(SourceFault::Memory) => return Err(Fault::NoMemory),
+    };
+    match hex::encode(alloc, digest.as_slice()) {
+        Ok(digits) => Ok(digits),
+        Err(_) => Err(Fault::NoMemory),
+    }
+}
+
+/// Prints the page of an image of so many bytes, with these texts beside its volume.
+fn print_told_page<'a, S: BlockSource + Drop>(
+    rt: &HostRuntime,
+    words: &PageWords<'a>,
+    name: &str,
+    digest: Option<&str>,
     source: S,
     len: u64,
 ) -> Result<u8, Fault<'a>> {
     match OpenedImage::open(rt.alloc(), source, len) {
-        Ok(opened) => print_opened_page(rt, &opened),
-        Err(NeededFault::Refused(why)) => print_refused_page(rt, why),
-        Err(fault) => Err(Fault::of_needed(fault, path)),
+        Ok(opened) => print_opened_page(rt, &texts_of(words, name, digest), &opened),
+        Err(NeededFault::Refused(why)) => {
+            print_refused_page(rt, &texts_of(words, name, digest), why)
+        }
+        Err(fault) => Err(Fault::of_needed(fault, words.image)),
     }
 }
 
 /// Prints the page of an opened image.
 fn print_opened_page<S: BlockSource + Drop>(
     rt: &HostRuntime,
+    texts: &PageTexts<'_>,
     opened: &OpenedImage<S>,
 ) -> Result<u8, Fault<'static>> {
-    let out = &mut rt.stdout();
-    match write_image_page(rt.alloc(), opened, style(), legend(), script(), out) {
+    match write_image_page(rt.alloc(), opened, texts, &mut rt.stdout()) {
         Ok(()) => Ok(Status::Done.number()),
         Err(PageFault::Memory) => Err(Fault::NoMemory),
         Err(PageFault::OutputFailed) => Err(Fault::OutputFailed),
@@ -48,8 +113,12 @@ fn print_opened_page<S: BlockSource + Drop>(
 }
 
 /// Prints the page of an image that is refused.
-fn print_refused_page(rt: &HostRuntime, why: MountFault) -> Result<u8, Fault<'static>> {
-    match write_refused_page(rt.alloc(), why, style(), &mut rt.stdout()) {
+fn print_refused_page(
+    rt: &HostRuntime,
+    texts: &PageTexts<'_>,
+    why: MountFault,
+) -> Result<u8, Fault<'static>> {
+    match write_refused_page(rt.alloc(), why, texts, &mut rt.stdout()) {
         Ok(()) => Ok(Status::ImageRefused.number()),
         Err(PageFault::Memory) => Err(Fault::NoMemory),
         Err(PageFault::OutputFailed) => Err(Fault::OutputFailed),

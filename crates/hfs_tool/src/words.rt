@@ -34,11 +34,8 @@ pub enum Words<'a> {
         volume: Option<u64>,
         format: Format,
     },
-    /// `page IMAGE [--volume N]`: a page of the volume, as a document of HTML.
-    Page {
-        image: &'a str,
-        volume: Option<u64>,
-    },
+    /// `page IMAGE [--volume N] [--base URL] [--digest]`: a page of the volume, as a document of HTML.
+    Page(PageWords<'a>),
     /// `cat IMAGE DIR NAME [--resource] [--volume N]`: the bytes of a file's fork.
     Cat(ForkWords<'a>),
     /// `cat IMAGE --path PATH [--resource] [--volume N]`: the same of the file that the path leads to.
@@ -66,6 +63,19 @@ pub enum Words<'a> {
     },
     /// `run IMAGE SCRIPT [--now N] [--out FILE]`: the calls of a script.
     Run(RunWords<'a>),
+}
+
+/// A page of a volume.
+#[derive(Clone, Copy)]
+pub struct PageWords<'a> {
+    /// The path of the image.
+    pub image: &'a str,
+    /// The number of the volume in it, where one is asked for.
+    pub volume: Option<u64>,
+    /// The URL of the bag that the volume was taken into, where files are to be links.
+    pub base: Option<&'a str>,
+    /// Whether the page has the image's digest.
+    pub is_digested: bool,
 }
 
 /// A fork of a file, by the place of the file in an image.

@@ -1,11 +1,10 @@
 -- the nodes of the extents tree lie in its runs
 use Rattle.std.proofs.Common.{◌≡◌, ◌∙◌, sym, subst}
-use Rattle.std.specs.Prelude.{IfOk}
+use Rattle.std.specs.Prelude.{IfOk, List}
 use Rattle.hfs_blocks.specs.Blocks.{nodes_in}
-use Rattle.hfs_space.specs.Extents.{Overflow}
 use Rattle.hfs_space.specs.TreeKeys.{IsExtentsTree}
-use Rattle.hfs_page.specs.Holdings.{volume_holdings}
-use Rattle.hfs_page.proofs.DiskLemmas.{overflow-by, catalog-file}
+use Rattle.hfs_page.specs.declared.parts.Holding.{Holding}
+use Rattle.hfs_page.proofs.DiskLemmas.{overflow-by, catalog-file, holdings-by}
 use Rattle.hfs_check.proofs.LawsProved.{trees_are_sound}
 use Rattle.hfs_page.proofs.disk.held_extents.Goals as goal
 
@@ -21,5 +20,7 @@ volume_holdings-requires-clause-catalog g c =
 
 pub returns : goal.returns
 returns g c =
-    subst (λ (o : Overflow). IfOk c.volume_holdings.result (λ held. held.items ≡ volume_holdings c.args.volume.now.mdb o c.args.records.now))
-    (overflow-by (g.B.Blocks.blocks c.args.blocks.now) _ ((λ i. nodes_in (g.B.Blocks.blocks c.args.blocks.now) (c.deref.ensures.value i)) ∙ c.requires.trees.extents.same)) c.volume_holdings.ensures
+    subst (λ (h : List Holding). IfOk c.volume_holdings.result (λ held. held.items ≡ h))
+    (holdings-by (g.B.Blocks.blocks c.args.blocks.now) c.args.volume.now.mdb _ c.args.records.now c.requires.mdb
+    (overflow-by (g.B.Blocks.blocks c.args.blocks.now) _ ((λ i. nodes_in (g.B.Blocks.blocks c.args.blocks.now) (c.deref.ensures.value i)) ∙ c.requires.trees.extents.same))
+    c.requires.records) c.volume_holdings.ensures

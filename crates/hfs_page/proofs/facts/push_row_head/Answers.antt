@@ -7,4 +7,4 @@ use Rattle.hfs_page.proofs.facts.push_row_head.Goals as goal
 
 pub returns : goal.returns
 unfolding row_head
-returns c = joined-ok c.push_bytes-3.result _ _ _ ((codes "<tr><th scope=\"row\">") ++ (c.args.label.now)) (codes "</th><td>") (joined _ _ _ (codes "<tr><th scope=\"row\">") (c.args.label.now) c.in_ok-push_bytes.ensures c.in_ok-push_bytes-2.ensures) c.push_bytes-3.ensures
+returns c = joined-ok c.push_bytes-3.result _ _ _ ((codes "<div><dt>") ++ (c.args.label.now)) (codes "</dt><dd>") (joined _ _ _ (codes "<div><dt>") (c.args.label.now) c.in_ok-push_bytes.ensures c.in_ok-push_bytes-2.ensures) c.push_bytes-3.ensures

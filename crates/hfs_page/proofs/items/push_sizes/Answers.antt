@@ -5,4 +5,4 @@ use Rattle.hfs_page.proofs.items.push_sizes.Goals as goal
 
 pub returns : goal.returns
 unfolding sizes_text
-returns c = joined-ok c.push_bytes.result _ _ _ _ _ (joined _ _ _ _ _ c.in_ok-push_told_number.ensures c.in_ok-push_told_number-2.ensures) c.push_bytes.ensures
+returns c = joined-ok c.push_bytes.result _ _ _ _ _ (joined _ _ _ _ _ (joined _ _ _ _ _ c.in_ok-push_both.ensures c.in_ok-push_fork.ensures) c.in_ok-push_fork-2.ensures) c.push_bytes.ensures

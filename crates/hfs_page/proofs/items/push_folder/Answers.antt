@@ -1,8 +1,0 @@
--- piece by piece
-use Rattle.hfs_page.specs.Items.{folder_text}
-use Rattle.hfs_page.proofs.Joins.{joined, joined-ok}
-use Rattle.hfs_page.proofs.items.push_folder.Goals as goal
-
-pub returns : goal.returns
-unfolding folder_text
-returns c = joined-ok c.push_bytes.result _ _ _ _ _ (joined _ _ _ _ _ (joined _ _ _ _ _ c.in_ok-push_name.ensures c.in_ok-push_told_number.ensures) c.in_ok-push_modified.ensures) c.push_bytes.ensures
