@@ -2,7 +2,9 @@
 #![tactic(auto)]
 
 mod collecting;
+mod progress;
 mod reading;
+mod telling;
 
 use crate::collecting::collect;
 use crate::reading::read_words;
