@@ -1090,7 +1090,10 @@ def terminal(place):
         pass
     os.close(ours)
     ensure(ran.returncode == 4, f'a run at a terminal ends with {ran.returncode}')
-    ensure(told.replace(b'\r\n', b'\n') == b'1 of 3 images\n2 of 3 images\n3 of 3 images\n', f'a terminal is told {told!r}')
+    length = (place.folder / 'p6.img').stat().st_size
+    line = '\r{} of 3 images: {}, 0 bytes read, of {}\x1b[K\r\x1b[K'
+    wanted = line.format(1, 'p6.img', length) + line.format(2, 'more.img', length) + 'none.img: there is no such file\n'
+    ensure(told.replace(b'\r\n', b'\n') == wanted.encode(), f'a terminal is told {told!r}')
 
 
 def main():

@@ -1,6 +1,7 @@
 #!/usr/bin/env bash
-# Makes the package, lays it into a folder, and runs what was installed: the programs, their man pages, and the completion of their words.
-# Prints 'the package agrees', or what differs and ends with status 1. Where dpkg-deb is missing it says that it was skipped.
+# Makes the package, twice, lays it into a folder, and runs what was installed: the programs, their man pages at 80 columns, and the completion of their
+# words; lintian finds no error but the mail host, since the project has no address. Prints 'the package agrees', or what differs and ends with status
+# 1. Where dpkg-deb is missing it says that it was skipped.
 . "$(dirname "$0")/common.sh"
 command -v dpkg-deb > /dev/null || { echo 'the package: skipped, since dpkg-deb is missing'; exit 0; }
 folder=$(mktemp -d)
@@ -23,7 +24,21 @@ package=$(scripts/package.sh "$folder")
 version=$($(program hfs_tool) --version | awk '{ print $2 }')
 [ "$($(program hfs_collect) --version | awk '{ print $2 }')" = "$version" ] || fail 'the version of hfs_collect'
 [ "$(dpkg-deb -f "$package" Version)" = "$version" ] || fail 'its version'
-[ "$(dpkg-deb -f "$package" Depends)" = libc6 ] || fail 'what it stands on'
+[[ $(dpkg-deb -f "$package" Depends) =~ ^'libc6 (>= '2\.[0-9]+')'$ ]] || fail "what it stands on: $(dpkg-deb -f "$package" Depends)"
+
+# It has the same bytes where it is made again, also by a copy that git knows nothing of; its dates are those that are asked for.
+mkdir -p "$folder/again" "$folder/dated" "$folder/copy/crates"
+cp -r scripts packaging docs README.md CHANGELOG.md LICENSE "$folder/copy"
+for name in hfs_tool hfs_collect; do install -D "crates/$name/out/$name" "$folder/copy/crates/$name/out/$name"; done
+cmp -s "$package" "$("$folder/copy/scripts/package.sh" "$folder/again")" || fail 'it has other bytes where it is made again'
+dated=$(SOURCE_DATE_EPOCH=1000000000 "$folder/copy/scripts/package.sh" "$folder/dated")
+[ "$(dpkg-deb -c "$dated" | grep -vc ' 2001-09-09 ')" = 0 ] || fail 'its dates are not SOURCE_DATE_EPOCH'
+if command -v lintian > /dev/null; then
+    errors=$(lintian --allow-root --tag-display-limit 0 "$package" 2> /dev/null | grep '^E:' | grep -v ' bogus-mail-host' || true)
+    [ -z "$errors" ] || fail "lintian finds: $errors"
+else
+    echo 'the package: lintian is missing, and was left out'
+fi
 dpkg-deb -x "$package" "$folder/root"
 tool=$folder/root/usr/bin/hfs_tool
 collect=$folder/root/usr/bin/hfs_collect
@@ -36,16 +51,42 @@ if command -v ldd > /dev/null; then
     others=$(ldd "$tool" "$collect" | awk '/=>|^\t/ { print $1 }' | grep -v -E '^(linux-vdso|libc|libm|libpthread|libdl|librt|libgcc_s|/lib.*ld-linux)' || true)
     [ -z "$others" ] || fail "it needs $others"
 fi
+if command -v readelf > /dev/null; then
+    for name in "$tool" "$collect"; do
+        ! readelf -S -W "$name" | grep -q ' \.symtab ' || fail "$name is not stripped"
+    done
+fi
+
+# Man pages: their parts, no line of more than 80 columns, and the same words as on a page of any width.
+man_page() {
+    MANWIDTH=$2 man -l "$share/man/man1/$1.1.gz" 2> /dev/null | sed 's/.\x08//g'
+}
+
 if command -v man > /dev/null; then
-    page=$(MANWIDTH=100 man -l "$share/man/man1/hfs_tool.1.gz" 2> /dev/null)
-    grep -q 'THE WORD REPAIR' <<< "$page" || fail 'its man page'
-    page=$(MANWIDTH=100 man -l "$share/man/man1/hfs_collect.1.gz" 2> /dev/null)
-    grep -q 'With --compare a line for each image' <<< "$page" || fail 'the man page of hfs_collect'
+    for name in hfs_tool hfs_collect; do
+        page=$(man_page "$name" 80)
+        for part in NAME SYNOPSIS DESCRIPTION OPTIONS 'EXIT STATUS' EXAMPLES 'SEE ALSO'; do grep -qx "$part" <<< "$page" || fail "$name.1 has no $part"; done
+        grep -A 1 -x NAME <<< "$page" | grep -q 'HFS' || fail "the NAME of $name.1 has no HFS"
+        grep -A 2 -x NAME <<< "$page" | grep -q 'Macintosh' || fail "the NAME of $name.1 has no Macintosh"
+        [ "$(awk 'length($0) > 80' <<< "$page" | wc -l)" = 0 ] || fail "$name.1 has lines of more than 80 columns"
+        cmp -s <(tail -n +2 <<< "$page" | sed '$d' | tr -s ' \n' '\n') <(man_page "$name" 400 | tail -n +2 | sed '$d' | tr -s ' \n' '\n') ||
+            fail "$name.1 at 80 columns breaks a word"
+    done
+    man_page hfs_tool 80 | grep -qx COMMANDS || fail 'hfs_tool.1 has no COMMANDS'
+    man_page hfs_tool 80 | grep -q '^ *hfs_tool repair$' || fail 'hfs_tool.1 says nothing of repair'
+    man_page hfs_collect 80 | grep -q 'With --compare a line for each image' || fail 'the man page of hfs_collect'
 else
     echo 'the package: its man page was not read, since man is missing'
 fi
-for name in README.md MANUAL.md copyright changelog.gz; do
+for name in README.md CHANGELOG.md docs/MANUAL.md copyright changelog.gz; do
     [ -s "$share/doc/hfs-tool/$name" ] || fail "$name is not there"
+done
+
+# Each document that a help names is there.
+for word in '' $("$tool" --help | awk '/^Commands:/ { inside = 1; next } /^$/ { inside = 0 } inside { print $1 }' | grep -vx help); do
+    for name in $({ "$tool" $word --help && "$collect" --help; } | grep -o 'docs/[A-Z]*\.md'); do
+        [ -s "$share/doc/hfs-tool/$name" ] || fail "$name is not there, which a help names"
+    done
 done
 
 # What bash offers behind this program and these words.
@@ -56,6 +97,10 @@ offered() {
 [ "$(offered hfs_tool re)" = 'repair rescue ' ] || fail 'the completion of a word'
 [ "$(offered hfs_tool run --)" = '--help --now --out ' ] || fail 'the completion of an option'
 [ "$(offered hfs_collect --)" = '--compare --help --no-digest --version ' ] || fail 'the completion of an option of hfs_collect'
+[ "$(offered hfs_tool items disk.img --format '')" = 'csv json tab ' ] || fail 'the completion of a format'
+[ "$(offered hfs_tool items disk.img --format j)" = 'json ' ] || fail 'the completion of a format that was begun'
+[ "$(PATH=$(dirname "$tool"):$PATH offered hfs_tool ls tests/volumes/hfsutils-800k.img --volume '')" = '1 ' ] || fail 'the completion of a volume'
+[ -z "$(PATH=$(dirname "$tool"):$PATH offered hfs_tool ls tests/package.sh --volume '' | tr -d ' ')" ] || fail 'the completion of a volume where there is none'
 for program in 'hfs_tool check' hfs_collect; do
     [ -n "$(offered $program tests/vol)" ] || fail "the completion of a path behind $program"
 done

@@ -216,6 +216,26 @@ wants 0 'd\t17\t4\t0\tDocuments\nd\t19\t3\t0\tGames\nd\t16\t0\t0\tSystem Folder\
 wants 0 '' new "$folder/new.img" Archive 1600 40 4 --now 3786912000
 wants 0 'sound\nfiles 0\nfolders 0\nfree 1550\nalternate same\nunowned 0\n' check "$folder/new.img"
 
+# Sizes of floppies, and nodes that are chosen: one for each 128 allocation blocks, of which 1,600 blocks have 1,594, 2,880 have 2,874, 200,000 have
+# 49,995 of 4 blocks each, in which a file has whole ones; and at least 2 and 1.
+while read -r words bytes catalog extents; do
+    wants 0 '' new "$folder/new.img" D ${words//,/ }
+    [ "$(stat -c %s "$folder/new.img")" = "$bytes" ] || fail "the size of a new volume of $words"
+    [ "$("$tool" info "$folder/new.img" | grep -E '^dr(CT|XT)FlSize' | sort | awk '{ print $2 }' | tr '\n' ' ')" = "$((512 * catalog)) $((512 * extents)) " ] ||
+        fail "the nodes of a new volume of $words"
+    [ "$("$tool" check "$folder/new.img" | head -n 1)" = sound ] || fail "a new volume of $words"
+done << 'END'
+800K 819200 12 12
+1440K 1474560 22 22
+1600 819200 12 12
+64 32768 2 1
+64,6 32768 6 1
+1600,40 819200 40 12
+200000 102400000 392 392
+END
+[[ $("$tool" new "$folder/none.img" D 720K) == *'no value for <BLOCKS>: a number of blocks, or 800K, or 1440K'* ]] || fail 'what is said of another size'
+[ ! -e "$folder/none.img" ] || fail 'a size that is refused made a file'
+
 # Small volumes, and the statuses 0, 2 and 3 on them.
 small=$folder/small.img
 wants 0 '' new "$small" D 64 6 2
@@ -552,7 +572,8 @@ wants 0 'fixed drFilCnt 1 0\nsound\n' repair "$folder/changed.img" "$folder/mend
 rm "$folder/mended.img"
 
 # The words, and files that are not there: the statuses 1 and 4.
-for words in sing ls cat "cat $small" "ls $small two" "ls $small 4294967296" "new $folder/none.img D 64 6"; do
+for words in sing ls cat "cat $small" "ls $small two" "ls $small 4294967296" "new $folder/none.img D" "new $folder/none.img D 800k" "new $folder/none.img D 4294967296" \
+    "new $folder/none.img D 64 4294967296"; do
     got=0
     "$tool" $words > "$folder/printed" 2> "$folder/errors" || got=$?
     [ "$got" = 1 ] || fail "'$words' ends with $got"
@@ -604,6 +625,12 @@ for words in --help 'info --help' 'new --help' 'repair --help'; do
     "$tool" $words > "$folder/printed" || fail "'$words' ends with $?"
     [ -s "$folder/printed" ] || fail "'$words' prints nothing"
 done
+
+# The usage of words in which one thing stands in the place of another, and the words that take a volume by its number.
+[[ $("$tool" cat --help) == *'Usage: hfs_tool cat [OPTIONS] <IMAGE> [<DIR> <NAME> | --path <PATH>]'* ]] || fail 'the usage of cat'
+[[ $("$tool" ls --help) == *'Usage: hfs_tool ls [OPTIONS] <IMAGE> [DIR | --path <PATH>]'* ]] || fail 'the usage of ls'
+[[ $("$tool" rescue --help) == *'Usage: hfs_tool rescue [OPTIONS] <IMAGE> [FOLDER | --list]'* ]] || fail 'the usage of rescue'
+[[ $("$tool" volumes --help | tr '\n' ' ') == *'info, check, ls, items, page, cat, take and rescue'* ]] || fail 'the words that take a volume by its number'
 
 # Each word is read in its place: a name and a number with a hyphen and zeros in front, the moment, the folder, the fork.
 "$tool" new "$folder/words.img" -D 1600 007 2 --now 100

@@ -49,6 +49,8 @@ pub enum Takes {
     Number,
     /// A number from 0 to 4,294,967,295, and which it is where none is given.
     NumberOr(&'static str),
+    /// A number from 0 to 4,294,967,295 that may be left out.
+    MaybeNumber,
     /// An option with a text.
     TextOption {
         value: &'static str,
@@ -100,6 +102,7 @@ impl Takes {
             | Takes::Texts { .. }
             | Takes::Number
             | Takes::NumberOr(_)
+            | Takes::MaybeNumber
             | Takes::Flag => None,
         }
     }
@@ -114,6 +117,7 @@ impl Takes {
             | Takes::AnyText
             | Takes::Texts { .. }
             | Takes::Number
+            | Takes::MaybeNumber
             | Takes::TextOption { .. }
             | Takes::AnyTextOption { .. }
             | Takes::CountOption { .. }

@@ -1,14 +1,15 @@
 //! What the program does: the database opened and closed, one image after the other, statuses.
 
+use crate::progress::ReadProgress;
 use crate::reading::CollectWords;
+use crate::telling::{tell_found, tell_obstacle};
 use hfs_collection::ImageFacts;
 use hfs_commands::{Fault, ShownPath, Status};
-use hfs_console::print_lines;
+use hfs_console::{print_lines, tell_unread};
 use hfs_word_collect::{
-    Collection, Comparison, DatabaseFiles, FileCollection, RunFault, collect_image, compare_image,
-    comparison_line, image_line, next_path,
+    Collection, Comparison, DatabaseFiles, FileCollection, ImageCounts, Obstacle, RunFault,
+    collect_image, compare_image, comparison_line, image_line, next_path,
 };
-use std::io::IsTerminal;
 
 /// What a row tells of the program that read an image.
 pub const PROGRAM: &str = "hfs_collect 1.0.0";
@@ -23,7 +24,7 @@ pub fn collect<'a>(rt: &HostRuntime, words: &CollectWords<'a>) -> Result<u8, Fau
     match ran {
         Ok(status) => Ok(status),
         Err(Stopped::Printing(fault)) => Err(fault),
-        Err(Stopped::Running(RunFault::CannotOpen)) => refuse(rt, words.database),
+        Err(Stopped::Running(RunFault::CannotOpen(why))) => refuse(rt, words.database, why),
         Err(Stopped::Running(RunFault::CannotWrite)) => Err(Fault::CannotWrite(words.database)),
         Err(Stopped::Running(RunFault::NoMemory)) => Err(Fault::NoMemory),
     }
@@ -49,12 +50,13 @@ impl From<RunFault> for Stopped {
     }
 }
 
-/// Prints that a database can't be opened.
-fn refuse(rt: &HostRuntime, path: &str) -> Result<u8, Fault<'static>> {
+/// Prints that a database can't be opened, and tells at a terminal why.
+fn refuse(rt: &HostRuntime, path: &str, why: Obstacle) -> Result<u8, Fault<'static>> {
     let Ok(line) = format!(in rt.alloc(); "cannot open {}\n", ShownPath(path)) else {
         return Err(Fault::NoMemory);
     };
     print_lines(rt, line.as_str())?;
+    tell_obstacle(rt, path, why);
     Ok(Status::DeviceFailed.number())
 }
 
@@ -108,43 +110,57 @@ fn collect_images(
     files: &DatabaseFiles,
     words: &CollectWords<'_>,
 ) -> Result<u8, Stopped> {
-    let is_shown = rt.stderr().is_terminal();
     let mut status = Status::Done;
     for i in 0..words.images.len() {
-        if !collect_one(rt, database, files, words, words.images[i])? {
+        if !collect_one(rt, database, files, words, i)? {
             status = Status::DeviceFailed;
-        }
-        if is_shown {
-            // Where the terminal takes nothing more, the run goes on.
-            let _printed = eprintln!(rt; "{} of {} images", i + 1, words.images.len());
         }
     }
     Ok(status.number())
 }
 
-/// Puts an image into the database and prints its line, and answers whether it could be read.
-fn collect_one(
+/// Puts the image at this place of the words into the database, and shows meanwhile how far it is.
+fn put_one(
     rt: &HostRuntime,
     database: &mut FileCollection,
-    files: &DatabaseFiles,
     words: &CollectWords<'_>,
+    i: usize,
     path: &str,
-) -> Result<bool, Stopped> {
-    if files.contain(rt, path) {
-        print_unread(rt, path)?;
-        return Ok(false);
-    }
+) -> Result<Option<ImageCounts>, RunFault> {
     let facts = ImageFacts {
         path,
         program: PROGRAM,
         takes_digests: words.takes_digests,
     };
-    match collect_image(rt, database, &facts)? {
+    let all = words.images.len() as u64;
+    let progress = ReadProgress::on(rt, (i as u64).saturating_add(1), Some(all), path);
+    let counts = collect_image(rt, database, &facts, &progress);
+    progress.end();
+    counts
+}
+
+/// Puts the image at this place of the words into the database and prints its line, and answers whether it could be read.
+fn collect_one(
+    rt: &HostRuntime,
+    database: &mut FileCollection,
+    files: &DatabaseFiles,
+    words: &CollectWords<'_>,
+    i: usize,
+) -> Result<bool, Stopped> {
+    let Some(path) = words.images.get(i).copied() else {
+        return Ok(true);
+    };
+    if files.contain(rt, path) {
+        print_unread(rt, path)?;
+        return Ok(false);
+    }
+    match put_one(rt, database, words, i, path)? {
         Some(counts) => {
             let Ok(line) = image_line(rt.alloc(), path, &counts) else {
                 return Err(Stopped::Running(RunFault::NoMemory));
             };
             print_lines(rt, line.as_str())?;
+            tell_found(rt, path, counts.volumes);
             Ok(true)
         }
         None => {
@@ -159,14 +175,16 @@ fn print_unread(rt: &HostRuntime, path: &str) -> Result<(), Fault<'static>> {
     let Ok(line) = format!(in rt.alloc(); "cannot read {}\n", ShownPath(path)) else {
         return Err(Fault::NoMemory);
     };
-    print_lines(rt, line.as_str())
+    print_lines(rt, line.as_str())?;
+    tell_unread(rt, path);
+    Ok(())
 }
 
 /// Compares the images with what the database has of them, and answers the exit status.
 fn run_comparison(rt: &HostRuntime, words: &CollectWords<'_>) -> Result<u8, Stopped> {
     let files = files_of(rt, words)?;
     if !files.are_there(rt) {
-        return Err(Stopped::Running(RunFault::CannotOpen));
+        return Err(Stopped::Running(RunFault::CannotOpen(Obstacle::NoTables)));
     }
     let mut database = open_database(rt, &files, false)?;
     let ran = if words.images.is_empty() {
@@ -193,8 +211,9 @@ fn compare_images(
     words: &CollectWords<'_>,
 ) -> Result<bool, Stopped> {
     let mut is_worse = false;
+    let all = words.images.len() as u64;
     for i in 0..words.images.len() {
-        if compare_one(rt, database, files, words.images[i])? {
+        if compare_one(rt, database, files, words.images[i], i as u64, Some(all))? {
             is_worse = true;
         }
     }
@@ -209,10 +228,10 @@ fn compare_all(
 ) -> Result<bool, Stopped> {
     let mut is_worse = false;
     let mut last = None;
-    for _ in 0..u64::MAX {
+    for i in 0..u64::MAX {
         match next_path(database, &last) {
             Ok(Some(path)) => {
-                if compare_one(rt, database, files, path.as_str())? {
+                if compare_one(rt, database, files, path.as_str(), i, None)? {
                     is_worse = true;
                 }
                 last = Some(path);
@@ -224,17 +243,34 @@ fn compare_all(
     Ok(is_worse)
 }
 
-/// Compares an image and prints its line, and answers whether it isn't as the database has it.
+/// Compares an image with what the database has of it, and shows meanwhile how far it is.
+fn compared(
+    rt: &HostRuntime,
+    database: &mut FileCollection,
+    path: &str,
+    i: u64,
+    all: Option<u64>,
+) -> Result<Comparison, RunFault> {
+    let progress = ReadProgress::on(rt, i.saturating_add(1), all, path);
+    let found = compare_image(rt, database, path, &progress);
+    progress.end();
+    found
+}
+
+/// Compares an image and prints its line, and answers whether it isn't as the database has it. The image is the `i`-th, counted
+/// from 0, of so many where that is known.
 fn compare_one(
     rt: &HostRuntime,
     database: &mut FileCollection,
     files: &DatabaseFiles,
     path: &str,
+    i: u64,
+    all: Option<u64>,
 ) -> Result<bool, Stopped> {
     let found = if files.contain(rt, path) {
         Comparison::Missing
     } else {
-        compare_image(rt, database, path)?
+        compared(rt, database, path, i, all)?
     };
     let Ok(line) = comparison_line(rt.alloc(), path, found) else {
         return Err(Stopped::Running(RunFault::NoMemory));

@@ -2,9 +2,11 @@
 #![tactic(auto)]
 
 mod collecting;
+mod progress;
 mod reading;
 mod reading_rows;
 mod rows;
+mod telling;
 
 use crate::collecting::collect;
 use crate::reading::{Words, read_words};

@@ -61,22 +61,37 @@ const COMPARE: Argument = Argument {
 };
 
 /// What the help says behind the arguments.
-const COLLECTIONS: &str =
-    "For each image a line is printed: its path, how many volumes it has, how many of these are refused, how many
-files there are, and how many of them are damaged. An image that was collected before, under the same path, is read anew. Of a
-volume that is refused the database has what hfs_tool rescue finds of it, with a verdict on each fork.
+const COLLECTIONS: &str = "For each image a line is printed: its path, how many volumes it has, how
+many of these are refused, how many files there are, and how many of
+them are damaged. An image that was collected before, under the same
+path, is read anew. Of a volume that is refused the database has what
+hfs_tool rescue finds of it, with a verdict on each fork.
 
-The tables are image, volume and item; docs/MANUAL.md has questions that they answer. An image that can't be sought in, such as a
-pipe, can't be read.
+The tables are image, volume and item; docs/MANUAL.md has questions that
+they answer. An image that can't be sought in, such as a pipe, can't be
+read.
 
-With --compare a line for each image: missing, new, changed, same, or 'same length' where the database has no digest of it. The
-status is 3 where one is missing or changed.";
+With --compare a line for each image: missing, new, changed, same, or
+'same length' where the database has no digest of it.
+
+Exit statuses:
+  0  done
+  1  the words are refused
+  3  with --compare an image is missing or changed
+  4  an image could not be read, or the database not opened or written
+  5  out of memory
+
+Examples:
+  hfs_collect disks.db disk.img hard_disk.img
+  hfs_collect disks.db --no-digest images/*.img
+  hfs_collect disks.db --compare
+  hfs_collect disks.db --compare disk.img";
 
 /// The program, without its words.
 const COLLECT: Program = Program {
     word: Word {
         name: "hfs_collect",
-        about: "Collects images, their volumes and all items in one database of SQLite, or compares them with it",
+        about: "Collects images of Macintosh disks, their HFS volumes and all items in one database of SQLite, or compares them with it",
         after_help: Some(COLLECTIONS),
         arguments: &[DATABASE, IMAGES, NO_DIGEST, COMPARE],
     },

@@ -3,7 +3,7 @@ ghost use Rattle.std.specs.Prelude.{[], IfOk, OnOk};
 ghost use Rattle.hfs_database.specs.Tables.{HasTables};
 ghost use Rattle.hfs_database.specs.Transactions.{LeavesAllOrNone, PutsAllInOne};
 
-use crate::fault::{DatabaseFault, PutFault, opening_fault, writing_fault};
+use crate::fault::{DatabaseFault, Obstacle, PutFault, opening_fault, writing_fault};
 use crate::files::DatabaseFiles;
 use crate::putting::put_all;
 use crate::tables::{Found, find_tables, make_tables};
@@ -29,7 +29,8 @@ fn want_tables<S: Alter>(conn: &mut Connection<S>, makes_tables: bool) -> Result
     match find_tables(conn)? {
         Found::All => Ok(()),
         Found::Nothing if makes_tables => make_tables(conn),
-        Found::Nothing | Found::Other => Err(DatabaseFault::CannotOpen),
+        Found::Nothing => Err(DatabaseFault::CannotOpen(Obstacle::NoTables)),
+        Found::Other => Err(DatabaseFault::CannotOpen(Obstacle::OtherTables)),
     }
 }
 
@@ -88,7 +89,7 @@ impl Collection<FileStore<File>> {
     ) -> Result<FileCollection, DatabaseFault> {
         let before = files.before(rt);
         if before.is_no_database() {
-            return Err(DatabaseFault::CannotOpen);
+            return Err(DatabaseFault::CannotOpen(Obstacle::Unreadable));
         }
         match open_files(rt, files.database.as_str(), makes_tables) {
             Ok(collection) => Ok(collection),

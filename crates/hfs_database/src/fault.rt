@@ -3,11 +3,29 @@
 use hfs_rows::TakerFault;
 use sqlite::{Error, ErrorCode};
 
+/// What stands in the way of opening a database.
+#[derive(Clone, Copy, Debug, PartialEq, Eq)]
+pub enum Obstacle {
+    /// Another program has it open.
+    Busy,
+    /// It has something of the names of a collection's tables and indexes, and not all with their texts.
+    OtherTables,
+    /// It has none of these tables, where they are not to be made.
+    NoTables,
+    /// It is no database, or has something that is not read here, as virtual tables, triggers on a collection's tables, and rows
+    /// that don't obey their tables.
+    Unreadable,
+    /// It is damaged.
+    Damaged,
+    /// The system doesn't open it, or doesn't read it.
+    System,
+}
+
 /// Why a database did not do what was asked.
 #[derive(Clone, Copy, Debug, PartialEq, Eq)]
 pub enum DatabaseFault {
     /// It is no database, is damaged, is open elsewhere, or has other tables of these names.
-    CannotOpen,
+    CannotOpen(Obstacle),
     /// A write failed, or a read of what was written.
     CannotWrite,
     /// Memory was refused.
@@ -31,12 +49,41 @@ fn is_memory(error: &Error) -> bool {
     }
 }
 
+/// What stands in the way where a database isn't opened for this reason.
+fn obstacle_of(code: ErrorCode) -> Obstacle {
+    match code {
+        ErrorCode::DatabaseBusy => Obstacle::Busy,
+        ErrorCode::DatabaseCorrupt => Obstacle::Damaged,
+        ErrorCode::CannotOpen | ErrorCode::SystemIoFailure | ErrorCode::Closed => Obstacle::System,
+        ErrorCode::ConstraintViolation(_)
+        | ErrorCode::TypeMismatch
+        | ErrorCode::IntegerOverflow
+        | ErrorCode::NoRowid
+        | ErrorCode::ForeignKeyMismatch
+        | ErrorCode::TooDeep
+        | ErrorCode::NoClock
+        | ErrorCode::NameTaken
+        | ErrorCode::BadName
+        | ErrorCode::BadKey
+        | ErrorCode::BadText
+        | ErrorCode::SchemaTooBig
+        | ErrorCode::TransactionState
+        | ErrorCode::NoSuchSavepoint
+        | ErrorCode::OperationInterrupted
+        | ErrorCode::NotADatabase
+        | ErrorCode::TooBig
+        | ErrorCode::OutOfMemory
+        | ErrorCode::DiskFull => Obstacle::Unreadable,
+    }
+}
+
 /// What an error means where a database is opened. Where there is no room to make it, it can't be written.
 pub(crate) fn opening_fault(error: &Error) -> DatabaseFault {
     match error {
         Error::SqliteFailure(ErrorCode::OutOfMemory) => DatabaseFault::NoMemory,
         Error::SqliteFailure(ErrorCode::DiskFull) => DatabaseFault::CannotWrite,
-        _ => DatabaseFault::CannotOpen,
+        Error::SqliteFailure(code) => DatabaseFault::CannotOpen(obstacle_of(*code)),
+        _ => DatabaseFault::CannotOpen(Obstacle::Unreadable),
     }
 }
 

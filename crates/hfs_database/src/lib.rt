@@ -15,5 +15,5 @@ mod values;
 pub use crate::asking::{known_image, next_path};
 pub use crate::collection::{Collection, FileCollection};
 pub use crate::comparing::{Comparison, KnownImage};
-pub use crate::fault::{DatabaseFault, PutFault};
+pub use crate::fault::{DatabaseFault, Obstacle, PutFault};
 pub use crate::files::{DatabaseFiles, is_no_file_name};

@@ -6,7 +6,7 @@ ghost use Rattle.hfs_database.specs.Tables.{FindsPart, FindsParts, HasMadeAll, L
 ghost use Rattle.hfs_database.specs.Tables as spec;
 ghost use Rattle.hfs_database.specs.Transactions.{KeepsFile};
 
-use crate::fault::{DatabaseFault, opening_fault, writing_fault};
+use crate::fault::{DatabaseFault, Obstacle, opening_fault, writing_fault};
 use sqlite::types::ValueRef;
 use sqlite::{Alter, Connection, Row, Transaction};
 
@@ -87,7 +87,7 @@ fn told_in(row: &Row) -> Result<Found, DatabaseFault>
     ensures { IfOk result (Tells row.now) }
 {
     let Ok(there) = row.get::<i64>(0) else {
-        return Err(DatabaseFault::CannotOpen);
+        return Err(DatabaseFault::CannotOpen(Obstacle::Unreadable));
     };
     if there == 0 {
         return Ok(Found::Nothing);
@@ -98,7 +98,7 @@ fn told_in(row: &Row) -> Result<Found, DatabaseFault>
     match row.get::<i64>(1) {
         Ok(1) => Ok(Found::All),
         Ok(_) => Ok(Found::Other),
-        Err(_) => Err(DatabaseFault::CannotOpen),
+        Err(_) => Err(DatabaseFault::CannotOpen(Obstacle::Unreadable)),
     }
 }
 

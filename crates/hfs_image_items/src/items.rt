@@ -124,6 +124,11 @@ fn head_of(info: &Info, runs: &Option<FileRuns>) -> BagHead
     }
 }
 
+/// How many bytes both forks of an item have.
+fn bytes_of(head: &BagHead) -> u64 {
+    u64::from(head.data_length) + u64::from(head.resource_length)
+}
+
 /// An item with its host path. Error: memory was refused.
 fn came_item(alloc: Global, path: &[Name], info: Info) -> Result<CameItem, AllocError>
     ensures above { IfOk result (λ came. string_bytes came.above
@@ -301,8 +306,9 @@ impl<S: BlockSource + Drop, W: Watch> BagSource for ImageItems<'_, S, W> {
             return Err(SourceFault::Memory);
         };
         self.count = self.count.saturating_add(1);
-        self.watch.item_came(self.count, self.all);
-        Ok(Some(head_of(&info, &runs)))
+        let head = head_of(&info, &runs);
+        self.watch.item_came(self.count, self.all, bytes_of(&head));
+        Ok(Some(head))
     }
 
     fn push_above(&self, text: &mut String) -> Result<(), AllocError> {
@@ -337,6 +343,7 @@ impl<S: BlockSource + Drop, W: Watch> BagSource for ImageItems<'_, S, W> {
         ensures fault { IfErr result (FailsToRead self.old.reading) }
     {
         read_next(self.alloc, &mut self.image, &mut self.reading, piece)?;
+        self.watch.bytes_came(piece.len() as u64);
         Ok(())
     }
 }

@@ -15,18 +15,20 @@ pub(crate) struct Watched<'w, B: BagSource, W: Watch> {
     all: u64,
 }
 
-/// Whether this is told of an item, and not of a folder alone, which may be one that an item lies in.
-fn is_item(head: &Option<BagHead>) -> bool {
+/// How many bytes the forks have where this is told of an item, and not of a folder alone, which may be one that an item lies in.
+fn item_bytes(head: &Option<BagHead>) -> Option<u64> {
     match head {
-        Some(head) => head.kind != BagKind::FolderAlone,
-        None => false,
+        Some(head) if head.kind != BagKind::FolderAlone => {
+            Some(u64::from(head.data_length) + u64::from(head.resource_length))
+        }
+        Some(_) | None => None,
     }
 }
 
 /// Tells a watch of an item more.
-fn tell<W: Watch>(watch: &W, count: &mut u64, all: u64) {
+fn tell<W: Watch>(watch: &W, count: &mut u64, all: u64, bytes: u64) {
     *count = count.saturating_add(1);
-    watch.item_came(*count, all);
+    watch.item_came(*count, all, bytes);
 }
 
 impl<'w, B: BagSource, W: Watch> Watched<'w, B, W> {
@@ -58,8 +60,8 @@ impl<B: BagSource, W: Watch> BagSource for Watched<'_, B, W> {
 
     fn next_item(&mut self) -> Result<Option<BagHead>, SourceFault> {
         let head = self.items.next_item()?;
-        if is_item(&head) {
-            tell(self.watch, &mut self.count, self.all);
+        if let Some(bytes) = item_bytes(&head) {
+            tell(self.watch, &mut self.count, self.all, bytes);
         }
         Ok(head)
     }
@@ -77,6 +79,8 @@ impl<B: BagSource, W: Watch> BagSource for Watched<'_, B, W> {
     }
 
     fn read(&mut self, piece: &mut Vec<u8>) -> Result<(), SourceFault> {
-        self.items.read(piece)
+        self.items.read(piece)?;
+        self.watch.bytes_came(piece.len() as u64);
+        Ok(())
     }
 }

@@ -6,12 +6,13 @@ pub(crate) const PROGRAM: &str = "hfs_tool 1.0.0";
 /// What the numbers of checks mean.
 pub(crate) const CHECKS: &str = "What is printed where the volume is not sound:
   refused bad master directory block M1 (-60)   M1 to M5: that block
-  refused check C3 at N                         the first check that fails, and where:
+  refused check C3 at N                         the first check to fail:
   C3   extents tree              C8   order, parents, threads
-  C4   shape of the catalog      C9   valences (children of each folder)
+  C4   shape of the catalog      C9   valences (a folder's children)
   C5   records                   C10  counts
   C6   IDs                       C11  extents
-  C7   names (characters that this program doesn't take: no fault of the disk)
+  C7   names (with characters that this program doesn't take: no fault
+       of the disk)
   C12  space
 docs/CHECKS.md says what each wants, and what N counts.";
 
@@ -19,109 +20,145 @@ docs/CHECKS.md says what each wants, and what N counts.";
 pub(crate) const VOLUMES: &str = "How a volume lies in the file:
   bare       it is the whole file
   macbinary  it is the data fork of a MacBinary file
-  disk copy  it is the data of a Disk Copy 4.2 file, which may be the data fork of a MacBinary file;
-             'sum right' or 'sum wrong' tells whether the sum in its header is that of the data
-  partition  it is a partition of type Apple_HFS in a map with blocks of 512 or 2,048 bytes
-A disk copy or a partition without a volume is listed, too, with 'no volume' at the line's end.
+  disk copy  it is the data of a Disk Copy 4.2 file, which may be the
+             data fork of a MacBinary file; 'sum right' or 'sum wrong'
+             says whether the sum in its header is that of the data
+  partition  it is a partition of type Apple_HFS in a map with blocks
+             of 512 or 2,048 bytes
+A disk copy or a partition without a volume is listed, too, with
+'no volume' at the line's end.
 
-The words info, check, ls, items, page, cat and take read the N-th of them by --volume N; run and repair know no --volume.
+The words info, check, ls, items, page, cat, take and rescue read the
+N-th of them by --volume N; run and repair know no --volume.
 
-Not looked for: a map within a map or within a disk copy, Disk Copy 6 and other compressed forms, images with
-sectors of 2,352 bytes, MFS, and HFS Plus without a wrapper.";
+Not looked for: a map within a map or within a disk copy, Disk Copy 6
+and other compressed forms, images with sectors of 2,352 bytes, MFS,
+and HFS Plus without a wrapper.";
 
 /// What the word `run` tells beside its arguments.
-pub(crate) const RUNS: &str =
-    "Each line of the script is answered by a line: who called, the number of the call among the caller's own, the code, and a
-value. With --out the changed image is written before the first answer is printed.
+pub(crate) const RUNS: &str = "Each line of the script is answered by a line: who called, the number
+of the call among the caller's own, the code, and a value. With --out
+the changed image is written before the first answer is printed.
 
-Faults, in the order in which they are looked for; each is printed alone:
+Faults, in the order in which they are looked for; each is printed
+alone:
   cannot read IMAGE, or image too large
   cannot read SCRIPT, or script too large
-  script line N      the first line that doesn't read, counted from 1; no call was made
-  what check tells   the volume of the image is refused; no call was made
+  script line N      the first line that doesn't read, counted from 1;
+                     no call was made
+  what check prints  the volume of the image is refused; no call was
+                     made
   no place for a viewer
   cannot write FILE  the file is as it was";
 
 /// What the columns of the table are.
 pub(crate) const COLUMNS: &str = "The columns:
-  path                        names from the volume down to the item, with colons between
-  kind, id, parent            folder or file; its ID; the ID of its folder
+  path                        names from the volume down to the item,
+                              with colons between
+  kind, id, parent            folder or file; its ID; its folder's ID
   type, creator               of a file, four characters each
-  flags                       the Finder's flags, four hexadecimal digits
+  flags                       the Finder's flags, four hex digits
   locked, file_id             of a file: yes or no
-  created, modified, backup   as 1999-12-31T23:59:59, in no zone; empty for no date
+  created, modified, backup   as 1999-12-31T23:59:59, in no zone; empty
+                              for no date
   items                       of a folder: how many items it holds
   data_bytes, resource_bytes  of a file: the lengths of its forks
   finder                      all 32 bytes of the Finder, hexadecimal
 
-In tables a character below 32, DEL and the backslash are a backslash and two hexadecimal digits. In JSON path, type and creator
-hold the characters themselves, numbers are numbers, yes and no are true and false, and an empty field is null.";
+In tables a character below 32, DEL and the backslash are a backslash
+and two hexadecimal digits. In JSON path, type and creator hold the
+characters themselves, numbers are numbers, yes and no are true and
+false, and an empty field is null.
+
+A spreadsheet runs a name that begins with = + - or @ as a formula:
+import the file with its columns as text.";
 
 /// What the word `page` tells beside its arguments.
-pub(crate) const PAGES: &str =
-    "The page is one document of HTML by itself: it asks for nothing from elsewhere, and may be put on a web site as it is.
-The picture has a square for each allocation block, or for several where there are more than 4,096: of what the
-blocks are used for, it shows the first that its legend names. Of a refused image the page says why.
+pub(crate) const PAGES: &str = "The page is one document of HTML by itself: it asks for nothing from
+elsewhere, and may be put on a web site as it is. The picture has a
+square for each allocation block, or for several where there are more
+than 4,096: of what the blocks are used for, it shows the first that
+its legend names. Of a refused image the page says why.
 
-With --base URL the page lies beside the bag that take made, or knows where that is: --base disk for a bag in the folder disk.";
+With --base URL the page lies beside the bag that take made, or knows
+where that is: --base disk for a bag in the folder disk.";
 
 /// What a taken volume becomes.
 pub(crate) const TAKES: &str = "FOLDER becomes a bag:
-  data/NAME             a folder, or the data fork of a file; data is the volume
-  data/._NAME           an AppleDouble file: type, creator, the Finder's bytes and the resource fork
+  data/NAME             a folder, or the data fork of a file; data is
+                        the volume
+  data/._NAME           an AppleDouble file: type, creator, the
+                        Finder's bytes and the resource fork
   manifest-sha256.txt   the digest of each file below data
   items.csv             the table of items
   volume.txt            the lines of info and of check
   bag-info.txt, bagit.txt, tagmanifest-sha256.txt
 
-In NAME a character that some file system doesn't take is = and two hexadecimal digits. A data fork has the file's date, in no zone,
-from 1970 on. FOLDER is written as FOLDER.0.new and renamed when it is whole. Check a bag with sha256sum -c manifest-sha256.txt
-within it, before it is copied to a Macintosh, which joins the AppleDouble files to theirs.";
+In NAME a character that some file system doesn't take is = and two
+hexadecimal digits. A data fork has the file's date, in no zone, from
+1970 on. FOLDER is written as FOLDER.0.new and renamed when it is
+whole. Check a bag with sha256sum -c manifest-sha256.txt within it,
+before it is copied to a Macintosh, which joins the AppleDouble files
+to theirs.";
 
 /// What remains of a damaged volume.
 pub(crate) const RESCUES: &str =
-    "FOLDER becomes a bag as that of take, with what can still be found, whatever is wrong with the volume:
+    "FOLDER becomes a bag as that of take, with what can still be found,
+whatever is wrong with the volume:
   data/=lost/N/NAME     what lay in folder N, of which nothing is left
-  data/=old/NAME        what a part of the catalog tells that is no longer used: deleted, mostly, or moved since
-  rescue.tsv            a line for each item: path, number, ID, what is said of the data fork and of the resource fork
+  data/=old/NAME        what a part of the catalog says that is no
+                        longer used: deleted, mostly, or moved since
+  rescue.tsv            a line for each item: path, number, ID, and
+                        what is said of the data and resource forks
 
-whole speaks of a fork's blocks, and not of what they hold: HFS keeps no sums of its data. What else is said:
+whole speaks of a fork's blocks, and not of what they hold: HFS keeps
+no sums of its data. What else is said:
   cut N        there are blocks for N bytes only
-  missing N    N of the bytes are zeros, since their blocks are not there
-  shared       a block is another fork's as well, so one of both has bytes that are not its own
+  missing N    N of the bytes are zeros, since their blocks are missing
+  shared       a block is another fork's as well, so one of both has
+               bytes that are not its own
   left         the fork is not written, for --limit
 
-The lines: the image's fault as check tells it, the block of its directory (unsure where it is a guess), files, folders, the
-bytes of all, how many files are whole, and how many are damaged. The status is 3 where one is damaged or the catalog is.";
+The lines: the image's fault as check prints it, the block of its
+directory (unsure where it is a guess), files, folders, the bytes of
+all, how many files are whole, and how many are damaged. The status is
+3 where one is damaged or the catalog is.";
 
 /// What stands behind the help text.
 pub(crate) const AFTER_HELP: &str = "Exit statuses:
   0  done
   1  the words are refused
   2  the image is refused, or the plan of a new volume, or a script
-  3  ls or cat met a code other than 0: -37 bad name, -43 not found, -120 no folder; rescue found something damaged
-  4  a file could not be read or written, or the folder of take or rescue is there already
-  5  out of memory, no place for a viewer, or a line of a script not answered
+  3  ls or cat met a code other than 0: -37 bad name, -43 not found,
+     -120 no folder; rescue found something damaged
+  4  a file could not be read or written, or the folder of take or
+     rescue is there already
+  5  out of memory, no place for a viewer, or a line of a script not
+     answered
 
 Examples:
   hfs_tool info disk.img
   hfs_tool check disk.img
   hfs_tool ls disk.img
+  hfs_tool ls disk.img --path :Games
   hfs_tool items disk.img --format csv > items.csv || rm items.csv
   hfs_tool page disk.img > disk.html
   hfs_tool cat disk.img 19 'Read Me' > read_me.data || rm read_me.data
-  hfs_tool cat disk.img 19 'Read Me' --macbinary > read_me.bin || rm read_me.bin
+  hfs_tool cat disk.img --path ':Games:Read Me' --macbinary > game.bin
   hfs_tool take disk.img disk
   hfs_tool rescue damaged.img disk
   hfs_tool volumes hard_disk.img
   hfs_tool ls hard_disk.img --volume 1
   hfs_collect disks.db disk.img hard_disk.img
-  hfs_tool new disk.img Archive 1600 40 4
+  hfs_tool new disk.img Archive 800K
   hfs_tool repair disk.img mended.img
   hfs_tool run disk.img calls.txt --now 3000000000 --out disk.img
 
-After a fault its text is printed where the result would have been: test the status.
+After a fault its text is printed where the result would have been: test
+the status.
 
-What new, repair and run --out write goes to FILE.0.new beside FILE, which is renamed over FILE when it is whole: after a fault
-FILE is as it was. FILE keeps its permissions, and its owner and group where the system allows it. It is not written where nobody
-may write it, or where it is a link to no file.";
+What new, repair and run --out write goes to FILE.0.new beside FILE,
+which is renamed over FILE when it is whole: after a fault FILE is as it
+was. FILE keeps its permissions, and its owner and group where the
+system allows it. It is not written where nobody may write it, or where
+it is a link to no file.";

@@ -20,7 +20,8 @@ use cat::{cat_command, cat_words};
 use check::{check_command, check_words};
 use clap::{ArgMatches, Command, Error};
 use hfs_arguments::{NoValue, Program, Word, with_word};
-use hfs_console::{VERSION, WordsFault};
+use hfs_commands::Status;
+use hfs_console::{VERSION, WordsFault, refused_words};
 use hfs_pages::is_base;
 use info::{info_command, info_words};
 use items::{items_command, items_words};
@@ -38,7 +39,7 @@ use volumes::{volumes_command, volumes_words};
 const TOOL: Program = Program {
     word: Word {
         name: "hfs_tool",
-        about: "Reads and checks HFS volumes, runs scripts on them, mends their counts, and makes new ones. With no words: info on standard input",
+        about: "Reads and checks HFS volumes of old Macintoshes, takes files off them, runs scripts on them, mends their counts, and makes new ones. With no words: info on standard input",
         after_help: Some(AFTER_HELP),
         arguments: &[],
     },
@@ -98,6 +99,29 @@ fn has_bad_base(words: &Words<'_>) -> bool {
 /// What the program's command finds in the words.
 fn matches_of<'a>(alloc: Global, words: &'a [String]) -> Result<ArgMatches<'a>, Error> {
     command(alloc)?.try_get_matches_from(words)
+}
+
+/// What the program's command answers where its help is asked for.
+fn help_of<'a>(alloc: Global) -> Result<ArgMatches<'a>, Error> {
+    command(alloc)?.try_get_matches_from(&["hfs_tool", "--help"])
+}
+
+/// Prints the program's help, and answers the exit status.
+pub fn print_help(rt: &HostRuntime) -> u8 {
+    match help_of(rt.alloc()) {
+        Ok(_matches) => Status::Done.number(),
+        Err(error) => refused_words(rt, &WordsFault::Clap(error)),
+    }
+}
+
+/// Whether a path stands behind the image of `ls` or `cat`, where the ID of a folder is wanted.
+pub fn has_bare_path(words: &[String]) -> bool {
+    match (words.get(1), words.get(3)) {
+        (Some(word), Some(place)) => {
+            (word.as_str() == "ls" || word.as_str() == "cat") && place.as_str().contains(':')
+        }
+        _ => false,
+    }
 }
 
 /// Whether the first word is that of another program, whatever stands behind it.

@@ -28,6 +28,7 @@ fn print_rescued<'a>(
 pub fn rescue_volume<'a>(rt: &HostRuntime, words: &BagWords<'a>) -> Result<u8, Fault<'a>> {
     let progress = ItemProgress::on(rt);
     let rescued = rescue(rt, words, &progress);
+    progress.end();
     print_rescued(rt, rescued)
 }
 

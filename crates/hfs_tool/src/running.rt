@@ -42,14 +42,17 @@ fn run_whole<'a, T: Threads + Wait + Sync>(
     image: Vec<u8>,
 ) -> Result<u8, Fault<'a>> {
     let script = load_script(rt, run.script)?;
-    match run_script_at(
+    let progress = progress(rt);
+    let ran = run_script_at(
         threads,
         rt.alloc(),
-        &progress(rt),
+        &progress,
         image,
         script.as_slice(),
         run.now,
-    ) {
+    );
+    progress.end(script.len());
+    match ran {
         Ok(ran) => print_ran(rt, run.out, &ran),
         Err(fault) => Err(Fault::of_run(fault)),
     }
@@ -77,8 +80,10 @@ fn run_in_file<'a, T: Threads + Wait + Sync>(
     let script = script_lines(rt.alloc(), bytes.as_slice(), run.now)?;
     match opened {
         Ok(image) => {
-            let ran = image.run_at(threads, rt.alloc(), &progress(rt), script, run.image)?;
-            print_ran_image(rt, run, ran)
+            let progress = progress(rt);
+            let ran = image.run_at(threads, rt.alloc(), &progress, script, run.image);
+            progress.end(bytes.len());
+            print_ran_image(rt, run, ran?)
         }
         Err(why) => Err(Fault::Refused(why)),
     }

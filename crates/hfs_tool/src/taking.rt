@@ -14,6 +14,7 @@ pub fn take_volume<'a, T: Threads>(
 ) -> Result<u8, Fault<'a>> {
     let progress = ItemProgress::on(rt);
     let taken = take(rt, threads, words, &progress);
+    progress.end();
     print_taken(rt, taken)
 }
 

@@ -78,6 +78,45 @@ pub struct PageWords<'a> {
     pub is_digested: bool,
 }
 
+/// An image that is looked at.
+#[derive(Clone, Copy)]
+pub struct LookedAt<'a> {
+    /// The path of the image.
+    pub path: &'a str,
+    /// The number of the volume in it, where one is asked for.
+    pub volume: Option<u64>,
+}
+
+impl<'a> Words<'a> {
+    /// Whether nothing is asked for but what standard input has.
+    pub fn is_standard_input(&self) -> bool {
+        matches!(self, Words::StandardInput)
+    }
+
+    /// The image that the words look at; none where they take standard input, or make a volume.
+    pub fn looked_at(&self) -> Option<LookedAt<'a>> {
+        let (path, volume) = match self {
+            Words::StandardInput | Words::New(_) => return None,
+            Words::Info { image, volume }
+            | Words::Check { image, volume }
+            | Words::List { image, volume, .. }
+            | Words::Items { image, volume, .. }
+            | Words::Page(words) => (words.image, words.volume),
+            Words::ListAt(place) | Words::MacBinaryAt(place) => (place.image, place.volume),
+            Words::Cat(file) => (file.image, file.volume),
+            Words::MacBinary(file) => (file.image, file.volume),
+            Words::CatAt(words) => (words.place.image, words.place.volume),
+            Words::Volumes { file } => (*file, None),
+            Words::Take(words) => (words.image, words.volume),
+            Words::Rescue(words) => (words.words.image, words.words.volume),
+            Words::RescueList(words) => (words.image, words.volume),
+            Words::Repair { image, .. } => (*image, None),
+            Words::Run(run) => (run.image, None),
+        };
+        Some(LookedAt { path, volume })
+    }
+}
+
 /// A fork of a file, by the place of the file in an image.
 #[derive(Clone, Copy)]
 pub struct ForkWords<'a> {

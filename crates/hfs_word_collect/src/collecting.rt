@@ -8,6 +8,7 @@ ghost use Rattle.hfs_needed.specs.Known.{OfKnown};
 
 use crate::fault::RunFault;
 use crate::files::FileByPath;
+use crate::watched::ReadWatch;
 use hfs_collection::{CollectFault, ImageCounts, ImageFacts, ImageFile, give_image};
 use hfs_containers::ReadAt;
 use hfs_database::{Collection, PutFault};
@@ -87,17 +88,19 @@ fn answered(
 
 /// Puts the rows of an image into the database, in the place of those that it had of the same path, and answers how much the image
 /// holds. None where the image can't be read, and its rows stay. At a fault all is there, or nothing has changed.
-pub fn collect_image<D: Alter + Drop, R: Files + AllocGlobal>(
+pub fn collect_image<D: Alter + Drop, R: Files + AllocGlobal, W: ReadWatch>(
     rt: &R,
     collection: &mut Collection<D>,
     facts: &ImageFacts<'_>,
+    watch: &W,
 ) -> Result<Option<ImageCounts>, RunFault> {
     let file = FileByPath {
         rt,
         path: facts.path,
+        watch,
     };
-    let len = match file.open() {
-        Ok(source) => source.len(),
+    let len = match file.len() {
+        Ok(len) => len,
         Err(SparseFault::ReadFailed) => return Ok(None),
         Err(SparseFault::Memory) => return Err(RunFault::NoMemory),
     };

@@ -7,6 +7,7 @@ ghost use Rattle.hfs_word_collect.specs.Comparing.{IsCompared};
 
 use crate::fault::RunFault;
 use crate::files::FileByPath;
+use crate::watched::ReadWatch;
 use hfs_collection::{ImageFile, file_digest};
 use hfs_containers::ReadAt;
 use hfs_database::{Collection, Comparison, KnownImage, known_image};
@@ -53,16 +54,18 @@ pub fn compare_known<S: ReadAt>(
 
 /// How an image stands to what the database has of it: `Missing` where it can't be read, `New` where the database has no row of its
 /// path, else by its length and its digest. Faults: `CannotWrite` where the database can't be read, `NoMemory`.
-pub fn compare_image<S: Alter + Drop, R: Files + AllocGlobal>(
+pub fn compare_image<S: Alter + Drop, R: Files + AllocGlobal, W: ReadWatch>(
     rt: &R,
     collection: &mut Collection<S>,
     path: &str,
+    watch: &W,
 ) -> Result<Comparison, RunFault> {
-    let file = FileByPath { rt, path };
+    let file = FileByPath { rt, path, watch };
     let Ok(mut source) = file.open() else {
         return Ok(Comparison::Missing);
     };
-    let len = source.len();
+    let len = source.file.len();
+    watch.opened(len);
     match known_image(collection, path)? {
         Some(known) => compare_known(rt.alloc(), &mut source, len, &known),
         None => Ok(Comparison::New),

@@ -2,14 +2,14 @@
 ghost use Rattle.std.specs.Prelude.{◌≡◌};
 
 use hfs_collection::CollectFault;
-use hfs_database::DatabaseFault;
+use hfs_database::{DatabaseFault, Obstacle};
 use hfs_rows::TakerFault;
 
 /// Why a run ended early.
 #[derive(Clone, Copy, Debug, PartialEq, Eq)]
 pub enum RunFault {
     /// The database can't be opened.
-    CannotOpen,
+    CannotOpen(Obstacle),
     /// The database can't be written, or what takes the text.
     CannotWrite,
     /// Memory was refused.
@@ -19,7 +19,7 @@ pub enum RunFault {
 impl From<DatabaseFault> for RunFault {
     fn from(fault: DatabaseFault) -> RunFault {
         match fault {
-            DatabaseFault::CannotOpen => RunFault::CannotOpen,
+            DatabaseFault::CannotOpen(obstacle) => RunFault::CannotOpen(obstacle),
             DatabaseFault::CannotWrite => RunFault::CannotWrite,
             DatabaseFault::NoMemory => RunFault::NoMemory,
         }

@@ -2,6 +2,7 @@
 ghost use Rattle.std.specs.Prelude.{◌≡◌, None, IfOk};
 ghost use Rattle.hfs_commands.specs.OpenedFiles.{known_bytes};
 
+use crate::watched::{ReadWatch, WatchedFile};
 use hfs_collection::ImageFile;
 use hfs_commands::{Fault, OpenedFile, Window, open_file};
 use hfs_sparse::SparseFault;
@@ -10,9 +11,20 @@ use std::rt::Files;
 
 /// A file by its path, which is opened as often as it is asked for: what can't be sought in, such as a pipe, can't be read.
 #[derive(Clone, Copy)]
-pub struct FileByPath<'a, R> {
+pub struct FileByPath<'a, R, W> {
     pub rt: &'a R,
     pub path: &'a str,
+    /// Who is told of what is read.
+    pub watch: &'a W,
+}
+
+impl<'a, R: Files + AllocGlobal, W: ReadWatch> FileByPath<'a, R, W> {
+    /// How many bytes the file has, which is told to the watch. Errors: it can't be opened or sought in, memory was refused.
+    pub(crate) fn len(&self) -> Result<u64, SparseFault> {
+        let len = self.open()?.file.len();
+        self.watch.opened(len);
+        Ok(len)
+    }
 }
 
 /// A file that can be sought in. Error: it can't be.
@@ -25,14 +37,18 @@ fn sought<F: Read + Seek + Drop>(source: OpenedFile<F>) -> Result<OpenedFile<F>,
     }
 }
 
-impl<R: Files + AllocGlobal> ImageFile<Window<OpenedFile<R::File>>> for FileByPath<'_, R> {
+impl<'a, R: Files + AllocGlobal, W: ReadWatch> ImageFile<WatchedFile<'a, R::File, W>>
+    for FileByPath<'a, R, W> {
     ghost known = { λ _. None };
 
-    fn open(&self) -> Result<Window<OpenedFile<R::File>>, SparseFault> {
+    fn open(&self) -> Result<WatchedFile<'a, R::File, W>, SparseFault> {
         match open_file(self.rt, self.path) {
-            Ok(Window { source, range }) => Ok(Window {
-                source: sought(source)?,
-                range,
+            Ok(Window { source, range }) => Ok(WatchedFile {
+                file: Window {
+                    source: sought(source)?,
+                    range,
+                },
+                watch: self.watch,
             }),
             Err(Fault::NoMemory) => Err(SparseFault::Memory),
             Err(_) => Err(SparseFault::ReadFailed),

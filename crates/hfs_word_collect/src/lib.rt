@@ -6,6 +6,7 @@ mod comparing;
 mod fault;
 mod files;
 mod lines;
+mod watched;
 mod writing;
 
 pub use crate::collecting::{collect_image, put_image};
@@ -13,8 +14,11 @@ pub use crate::comparing::{compare_image, compare_known};
 pub use crate::fault::RunFault;
 pub use crate::files::FileByPath;
 pub use crate::lines::{comparison_line, image_line};
+pub use crate::watched::{ReadWatch, WatchedFile};
 pub use crate::writing::{write_image, write_image_at};
 pub use hfs_collection::ImageCounts;
-pub use hfs_database::{Collection, Comparison, DatabaseFiles, FileCollection, next_path};
+pub use hfs_database::{
+    Collection, Comparison, DatabaseFiles, FileCollection, Obstacle, is_no_file_name, next_path,
+};
 pub use hfs_rows::{Table, TakerFault};
 pub use hfs_text_rows::{Form, TextTaker, write_head};

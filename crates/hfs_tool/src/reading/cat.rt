@@ -52,9 +52,12 @@ const CAT: Word = Word {
     arguments: &[IMAGE, DIR, NAME, FILE_PATH, RESOURCE, MACBINARY, VOLUME],
 };
 
+/// How `cat` is used: a file is named by its folder and name, or by its path.
+const USAGE: &str = "hfs_tool cat [OPTIONS] <IMAGE> [<DIR> <NAME> | --path <PATH>]";
+
 /// The command of `cat`.
 pub fn cat_command<'a>(alloc: Global) -> Result<Command<'a>, AllocError> {
-    CAT.command(alloc)
+    Ok(CAT.command(alloc)?.override_usage(USAGE))
 }
 
 /// What `cat` asks for.

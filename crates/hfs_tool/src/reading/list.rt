@@ -21,9 +21,12 @@ const LIST: Word = Word {
     arguments: &[IMAGE, DIR, PATH, VOLUME],
 };
 
+/// How `ls` is used: a folder is named by its ID, or by its path.
+const USAGE: &str = "hfs_tool ls [OPTIONS] <IMAGE> [DIR | --path <PATH>]";
+
 /// The command of `ls`.
 pub fn list_command<'a>(alloc: Global) -> Result<Command<'a>, AllocError> {
-    LIST.command(alloc)
+    Ok(LIST.command(alloc)?.override_usage(USAGE))
 }
 
 /// What `ls` asks for.

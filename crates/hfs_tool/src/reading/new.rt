@@ -4,6 +4,7 @@ use super::places::NOW;
 use crate::words::{NewVolume, Words};
 use clap::{ArgMatches, Command};
 use hfs_arguments::{Argument, NoValue, Takes, Word};
+use hfs_sizes::{blocks_of, chosen_nodes};
 use std::alloc::{AllocError, Global};
 
 /// The path of the file that is written.
@@ -25,24 +26,27 @@ const NAME: Argument = Argument {
 /// How many blocks it has.
 const BLOCKS: Argument = Argument {
     name: "BLOCKS",
-    takes: Takes::Number,
-    help: "Blocks of 512 bytes, 8 to 4,194,304",
+    takes: Takes::Text,
+    help: "Blocks of 512 bytes (not bytes), 8 to 4194304; or 800K or 1440K",
     excludes: &[],
 };
+
+/// What is told where the blocks are no number.
+const NO_BLOCKS: NoValue = NoValue("<BLOCKS>: a number of blocks, or 800K, or 1440K");
 
 /// How many nodes its catalog has.
 const NODES: Argument = Argument {
     name: "NODES",
-    takes: Takes::Number,
-    help: "Nodes of the catalog, at least 2",
+    takes: Takes::MaybeNumber,
+    help: "Nodes of the catalog, 2 to 2048; left out: drNmAlBlks / 128",
     excludes: &[],
 };
 
 /// How many nodes its extents file has.
 const EXTENTS: Argument = Argument {
     name: "EXTENTS",
-    takes: Takes::Number,
-    help: "Nodes of the extents file, at least 1",
+    takes: Takes::MaybeNumber,
+    help: "Nodes of the extents file, 1 to 2048; left out: drNmAlBlks / 128",
     excludes: &[],
 };
 
@@ -60,12 +64,34 @@ pub fn new_command<'a>(alloc: Global) -> Result<Command<'a>, AllocError> {
 
 /// What `new` asks for.
 pub fn new_words<'a>(matches: &ArgMatches<'a>) -> Result<Words<'a>, NoValue> {
+    let blocks = blocks_in(matches)?;
     Ok(Words::New(NewVolume {
         file: FILE.text(matches)?,
         name: NAME.text(matches)?,
-        blocks: BLOCKS.number(matches)?,
-        catalog_nodes: NODES.number(matches)?,
-        extents_nodes: EXTENTS.number(matches)?,
+        blocks,
+        catalog_nodes: nodes_in(NODES, 2, blocks, matches)?,
+        extents_nodes: nodes_in(EXTENTS, 1, blocks, matches)?,
         now: NOW.number(matches)?,
     }))
+}
+
+/// How many blocks are asked for.
+fn blocks_in(matches: &ArgMatches<'_>) -> Result<u32, NoValue> {
+    match blocks_of(BLOCKS.text(matches)?) {
+        Some(blocks) => Ok(blocks),
+        None => Err(NO_BLOCKS),
+    }
+}
+
+/// How many nodes are asked for, or chosen for so many blocks where none are.
+fn nodes_in(
+    argument: Argument,
+    least: u32,
+    blocks: u32,
+    matches: &ArgMatches<'_>,
+) -> Result<u32, NoValue> {
+    match argument.given_number(matches)? {
+        Some(nodes) => Ok(nodes),
+        None => Ok(chosen_nodes(least, blocks)),
+    }
 }

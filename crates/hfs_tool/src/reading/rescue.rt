@@ -32,9 +32,12 @@ const RESCUE: Word = Word {
     arguments: &[IMAGE, FOLDER, LIST, LIMIT, VOLUME, NO_DIGEST],
 };
 
+/// How `rescue` is used: with a folder, or for the list.
+const USAGE: &str = "hfs_tool rescue [OPTIONS] <IMAGE> [FOLDER | --list]";
+
 /// The command of `rescue`.
 pub fn rescue_command<'a>(alloc: Global) -> Result<Command<'a>, AllocError> {
-    RESCUE.command(alloc)
+    Ok(RESCUE.command(alloc)?.override_usage(USAGE))
 }
 
 /// What `rescue` asks for.

@@ -1,0 +1,8 @@
+//! What a file is that has no HFS volume where it begins.
+#![tactic(auto)]
+
+mod glance;
+mod kind;
+
+pub use crate::glance::{Glance, Piece};
+pub use crate::kind::Kind;

@@ -1,0 +1,29 @@
+//! The nodes that a new volume's trees get where nobody names them.
+ghost use Rattle.std.specs.Prelude.{◌≡◌};
+ghost use Rattle.hfs_format.specs.Plan as plan;
+ghost use Rattle.hfs_sizes.specs.Sizes.{chosen_nodes};
+
+/// How many blocks an allocation block has.
+fn block_factor(blocks: u32) -> u32
+    ensures { result ≡ plan.block_factor blocks }
+{
+    blocks / 65_536 + 1
+}
+
+/// How many allocation blocks a volume of so many blocks has.
+fn allocation_blocks(blocks: u32) -> u32
+    ensures { result ≡ plan.allocation_blocks blocks }
+{
+    let factor = block_factor(blocks);
+    let start = 3 + (blocks / factor + 4_095) / 4_096;
+    blocks.saturating_sub(2).saturating_sub(start) / factor
+}
+
+/// How many nodes a tree of a volume of so many blocks gets where nobody names them: one for each 128 allocation blocks, and at least `least`.
+#[tactic(auto, unfolding(crate::specs::Sizes::chosen_nodes))]
+pub fn chosen_nodes(least: u32, blocks: u32) -> u32
+    ensures { result ≡ chosen_nodes least blocks }
+{
+    let nodes = allocation_blocks(blocks) / 128;
+    if nodes < least { least } else { nodes }
+}
