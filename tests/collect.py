@@ -325,7 +325,8 @@ def volume_rows(place, image, has_digests):
     status, text = place.run('volumes', image)
     rows = []
     for line in text.splitlines() if status == 0 else []:
-        number, how, first, length, name = line.split('\t')[:5]
+        number, how, first, length, name, *told_sum = line.split('\t')
+        how += ', sum wrong' if told_sum == ['sum wrong'] else ''
         status, told = place.run('ls', image, '--volume', number)
         if status == 0:
             facts = facts_of(place, image, number)

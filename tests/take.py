@@ -233,8 +233,8 @@ class Bags:
         info, check = told('info', source, *volume, given=given)[1], told('check', source, *volume, given=given)[1]
         ensure((bag / 'volume.txt').read_text('utf-8') == info + check, f'{bag.name}: volume.txt')
         labels = [label for label, _ in tags]
-        wanted = ['External-Identifier', 'Bag-Software-Agent', 'Source-Image', *(['Source-Volume'] if volume else []), 'Source-Bytes',
-                  *([] if '--no-digest' in words else ['Source-SHA256']), 'Payload-Oxum']
+        wanted = ['External-Identifier', 'Bag-Software-Agent', 'Source-Image', *(['Source-Volume', 'Source-Volume-Bytes'] if volume else ['Source-Bytes']),
+                  *([] if '--no-digest' in words else ['Source-Volume-SHA256' if volume else 'Source-SHA256']), 'Payload-Oxum']
         ensure(labels == wanted, f'{bag.name}: bag-info.txt has {labels}')
         found = dict(tags)
         ensure(found['Bag-Software-Agent'] == 'hfs_tool 1.0.0', found['Bag-Software-Agent'])
@@ -358,10 +358,25 @@ def compare_volumes(bags):
     file = parted(bags, new)
     bag = bags.taken(file, 'inside', '--volume', '1', '--no-digest')
     lines = (bag / 'bag-info.txt').read_text().splitlines()
-    ensure_same(lines, ['External-Identifier: D', 'Bag-Software-Agent: hfs_tool 1.0.0', 'Source-Image: F', 'Source-Volume: 1 partition 2048 32768 D', 'Source-Bytes: 32768',
+    ensure_same(lines, ['External-Identifier: D', 'Bag-Software-Agent: hfs_tool 1.0.0', 'Source-Image: F', 'Source-Volume: 1 partition 2048 32768 D', 'Source-Volume-Bytes: 32768',
                         'Payload-Oxum: 0.0'], 'bag-info.txt of a volume inside')
     bag = bags.taken(file, 'inside', '--volume', '1')
-    ensure(f'Source-SHA256: {hashlib.sha256(new.read_bytes()).hexdigest()}\n' in (bag / 'bag-info.txt').read_text(), 'the digest of a volume inside')
+    ensure(f'Source-Volume-SHA256: {hashlib.sha256(new.read_bytes()).hexdigest()}\n' in (bag / 'bag-info.txt').read_text(), 'the digest of a volume inside')
+    # the only volume inside is taken without a number, and told with it
+    chosen = bags.place('chosen')
+    ensure(told('take', file, chosen) == (0, 'taken\nfiles 0\nfolders 0\nbytes 0\n'), 'the only volume inside')
+    ensure(subprocess.run(['diff', '-r', bag, chosen], capture_output=True).returncode == 0, 'the only volume inside, with a number and without')
+    for total, word in (('e9841951', 'right'), ('e9841950', 'wrong')):
+        copy = bags.folder / 'copy.dc42'
+        copy.write_bytes(b'\1D' + bytes(62) + bytes.fromhex(f'0000800000000000{total}0000000003220100') + new.read_bytes())
+        for words in ((), ('--volume', '1')):
+            place = bags.place('copied')
+            run = subprocess.run([TOOL, 'take', copy, place, '--no-digest', *words], stdin=subprocess.DEVNULL, capture_output=True, text=True)
+            ensure(run.returncode == 0 and run.stdout == 'taken\nfiles 0\nfolders 0\nbytes 0\n', f'a disk copy is not taken: {run.stdout}')
+            ensure(run.stderr == ('' if word == 'right' else f'{copy}: the sum of the disk copy is wrong\n'), f'sum {word}: {run.stderr!r}')
+            ensure_same((place / 'bag-info.txt').read_text().splitlines(),
+                        ['External-Identifier: D', 'Bag-Software-Agent: hfs_tool 1.0.0', 'Source-Image: copy.dc42', f'Source-Volume: 1 disk copy 84 32768 D sum {word}',
+                         'Source-Volume-Bytes: 32768', 'Payload-Oxum: 0.0'], 'bag-info.txt of a disk copy')
     full = bags.folder / 'full.img'
     alone, inside = bags.taken(full, 'alone'), bags.taken(parted(bags, full), 'inside', '--volume', '1')
     ensure(subprocess.run(['diff', '-r', '-x', 'bag-info.txt', '-x', 'tagmanifest-sha256.txt', alone, inside], capture_output=True).returncode == 0, 'a volume inside')
@@ -402,7 +417,6 @@ def compare_refused(bags):
         wants(4, f'{name} is there already\n', 'P', f'{name}//')
         wants(2, 'check C10 at 3\n', 'miscounted', name)
         wants(2, 'no volume 2\n', 'P', name, '--volume', '2')
-    wants(2, 'no volume 0\n', 'P', 'bag', '--volume', '0')
     wants(4, '/ is there already\n', 'P', '///')
     wants(4, 'cannot write none/bag.0.new\n', 'P', 'none/bag')
     wants(4, 'cannot write file/bag.0.new\n', 'P', 'file/bag')

@@ -61,7 +61,19 @@ impl Argument {
         }
     }
 
-    /// The number of an option, where it is given.
+    /// The number of an option from 0 to 4,294,967,295, where it is given.
+    pub fn given_number(&self, matches: &ArgMatches<'_>) -> Result<Option<u32>, NoValue>
+        ensures none { one_text (found_of matches.now) self.now.name.now ≡ None → result ≡ Ok None }
+        ensures number { (text : List ℕ) → one_text (found_of matches.now) self.now.name.now ≡ Some text
+            → IfOk result (λ n. n ≡ Some (digits_value 10 (without_leading_plus text))) }
+    {
+        match matches.try_get_one::<u32>(self.name) {
+            Ok(number) => Ok(number),
+            Err(_) => Err(NoValue(self.name)),
+        }
+    }
+
+    /// The number of an option of 64 bits, where it is given.
     pub fn given_count(&self, matches: &ArgMatches<'_>) -> Result<Option<u64>, NoValue>
         ensures none { one_text (found_of matches.now) self.now.name.now ≡ None → result ≡ Ok None }
         ensures number { (text : List ℕ) → one_text (found_of matches.now) self.now.name.now ≡ Some text

@@ -68,6 +68,10 @@ pub enum Takes {
         value: &'static str,
         default: &'static str,
     },
+    /// An option with a number from 0 to 4,294,967,295.
+    GivenNumberOption {
+        value: &'static str,
+    },
     /// An option with a number of 64 bits.
     CountOption {
         value: &'static str,
@@ -94,6 +98,7 @@ impl Takes {
             | Takes::AnyTextOption { value }
             | Takes::ChoiceOption { value, .. }
             | Takes::NumberOption { value, .. }
+            | Takes::GivenNumberOption { value }
             | Takes::CountOption { value } => Some(value),
             Takes::Text
             | Takes::AnyText
@@ -116,6 +121,7 @@ impl Takes {
             | Takes::Number
             | Takes::TextOption { .. }
             | Takes::AnyTextOption { .. }
+            | Takes::GivenNumberOption { .. }
             | Takes::CountOption { .. }
             | Takes::Flag => None,
         }

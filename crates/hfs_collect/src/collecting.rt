@@ -3,7 +3,7 @@
 use crate::reading::CollectWords;
 use hfs_collection::ImageFacts;
 use hfs_commands::{Fault, ShownPath, Status};
-use hfs_console::print_lines;
+use hfs_console::{print_lines, tell_sum};
 use hfs_word_collect::{
     Collection, Comparison, DatabaseFiles, FileCollection, RunFault, collect_image, compare_image,
     comparison_line, image_line, next_path,
@@ -141,6 +141,7 @@ fn collect_one(
     };
     match collect_image(rt, database, &facts)? {
         Some(counts) => {
+            tell_sum(rt, path, counts.wrong_sums != 0);
             let Ok(line) = image_line(rt.alloc(), path, &counts) else {
                 return Err(Stopped::Running(RunFault::NoMemory));
             };

@@ -2,6 +2,7 @@
 ghost use Rattle.std.specs.Prelude.{◌≡◌, IfSome};
 ghost use Rattle.hfs_collection.specs.Counts as spec;
 
+use crate::places::Way;
 use hfs_model::ItemKind;
 
 /// How much an image holds.
@@ -15,6 +16,8 @@ pub struct ImageCounts {
     pub files: u64,
     /// How many of them have a fork that isn't whole.
     pub damaged: u64,
+    /// How many of the volumes are disk copies whose sum is wrong.
+    pub wrong_sums: u64,
 }
 
 /// How many files have a row, and how many of them have a fork that isn't whole.
@@ -69,6 +72,7 @@ impl ImageCounts {
             refused: 0,
             files: 0,
             damaged: 0,
+            wrong_sums: 0,
         }
     }
 
@@ -81,6 +85,7 @@ impl ImageCounts {
             refused: 0,
             files,
             damaged: 0,
+            wrong_sums: 0,
         }
     }
 
@@ -93,7 +98,19 @@ impl ImageCounts {
             refused: 1,
             files: counts.files,
             damaged: counts.damaged,
+            wrong_sums: 0,
         }
+    }
+
+    /// A volume that lies in its file this way.
+    pub(crate) fn lying(self, way: Way) -> ImageCounts
+        ensures { result ≡ spec.lying way self }
+    {
+        let wrong_sums = match way {
+            Way::WrongSum => 1,
+            Way::Found(_) | Way::Lost => 0,
+        };
+        ImageCounts { wrong_sums, ..self }
     }
 
     /// Both together. None where a number is 2^64 or more.
@@ -105,6 +122,7 @@ impl ImageCounts {
             refused: self.refused.checked_add(more.refused)?,
             files: self.files.checked_add(more.files)?,
             damaged: self.damaged.checked_add(more.damaged)?,
+            wrong_sums: self.wrong_sums.checked_add(more.wrong_sums)?,
         })
     }
 }

@@ -5,6 +5,6 @@ mod hints;
 mod printing;
 mod refusing;
 
-pub use crate::hints::tell_hint;
+pub use crate::hints::{tell_hint, tell_sum};
 pub use crate::printing::{VERSION, print_lines};
 pub use crate::refusing::{WordsFault, refused, refused_words};

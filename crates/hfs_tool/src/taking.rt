@@ -2,8 +2,8 @@
 
 use crate::progress::ItemProgress;
 use hfs_commands::{Fault, Status};
-use hfs_console::print_lines;
-use hfs_take::{BagSums, TakeFault, TakeWords, take, taken_text};
+use hfs_console::{print_lines, tell_sum};
+use hfs_take::{BagSums, TakeFault, TakeWords, Taken, take, taken_text};
 use std::thread::Threads;
 
 /// Takes a volume apart, and prints what the folder has then.
@@ -14,16 +14,20 @@ pub fn take_volume<'a, T: Threads>(
 ) -> Result<u8, Fault<'a>> {
     let progress = ItemProgress::on(rt);
     let taken = take(rt, threads, words, &progress);
-    print_taken(rt, taken)
+    print_taken(rt, words.image, taken)
 }
 
 /// Prints what the folder has, or why it was not made. Faults: those of the image, which aren't printed here.
 fn print_taken<'a>(
     rt: &HostRuntime,
-    taken: Result<BagSums, TakeFault<'a>>,
+    image: &str,
+    taken: Result<Taken, TakeFault<'a>>,
 ) -> Result<u8, Fault<'a>> {
     match taken {
-        Ok(sums) => print_sums(rt, &sums),
+        Ok(taken) => {
+            tell_sum(rt, image, taken.sum == Some(false));
+            print_sums(rt, &taken.sums)
+        }
         Err(fault) => print_fault(rt, fault),
     }
 }
