@@ -162,11 +162,11 @@ class Place:
         self.folder = Path(folder)
         self.counts = {'databases': 0, 'rows': 0, 'faults': 0}
 
-    def run(self, *words, **how):
-        """The status of the words, and what they print. Nothing goes to standard error."""
+    def run(self, *words, errors='', **how):
+        """The status of the words, and what they print; on standard error this."""
         how = {'stdin': subprocess.DEVNULL, 'timeout': 300, 'cwd': self.folder, **how}
         ran = subprocess.run(called(*words), stdout=subprocess.PIPE, stderr=subprocess.PIPE, **how)
-        ensure(not ran.stderr, f'{words} writes to standard error: {ran.stderr[:500]!r}')
+        ensure(ran.stderr.decode('utf-8') == errors, f'{words} writes to standard error: {ran.stderr[:500]!r}')
         return ran.returncode, ran.stdout.decode('utf-8')
 
     def done(self, *words, **how):
@@ -510,7 +510,7 @@ def rows_beside_words(place):
     names = [*sorted(path.name for path in VOLUMES.glob('*.img')), 'named.img', *wrapped_volumes(place)]
     for database, words in (('c.db', []), ('n.db', ['--no-digest'])):
         rows = [image_rows(place, name, not words) for name in names]
-        place.wants(0, ''.join(map(line_of, rows)), 'collect', database, *names, *words)
+        place.wants(0, ''.join(map(line_of, rows)), 'collect', database, *names, *words, errors='wrong-sum.img: the sum of the disk copy is wrong\n')
         holds(place, rows, database)
         ensure(schema_of(place.folder / database) == TABLES, 'the text of the tables')
     place.wants(0, ''.join(f'same\t{name}\n' for name in sorted(names)), 'collect', 'c.db', '--compare')
@@ -950,6 +950,14 @@ def broken_reads(place, library):
         place.wants(4, f'cannot read {name}\n' + line_of(rows[1]), 'collect', 'c.db', name, 'p6.img', **how)
         place.wants(3, f'missing\t{name}\nsame\tp6.img\n', 'collect', 'c.db', '--compare', **how)
         holds(place, rows)
+    # One that the database has no digest of, or no row, is missing where it can't be read.
+    place.file('other.img', content)
+    place.done('collect', 'n.db', name, '--no-digest')
+    for other in (name, 'other.img'):
+        found = os.stat(place.folder / other).st_ino
+        how = {'env': {**os.environ, 'LD_PRELOAD': str(library), 'REFUSED_FILE': str(found), 'REFUSED_BLOCK': '0'}}
+        place.wants(3, f'missing\t{other}\n', 'collect', 'n.db', '--compare', other, **how)
+    place.wants(0, f'same length\t{name}\nnew\tother.img\n', 'collect', 'n.db', '--compare', name, 'other.img')
     # A volume that is refused is read whole, without digests too.
     place.file('lost.img', with_bytes(content, (1024, bytes(512))))
     place.done('collect', 'c.db', 'lost.img')
