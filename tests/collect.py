@@ -910,6 +910,31 @@ def full_devices(place, left_out):
         left_out.append('a full device')
 
 
+def few_files(place):
+    """Few files that may be open: the database is made and closed, or nothing is left of it; one that is there stays as it is."""
+    content = small_volume(place)
+    place.done('collect', 'there.db', 'p6.img')
+    kept, rows = (place.folder / 'there.db').read_bytes(), image_rows(place, 'p6.img')
+    place.file('more.img', content)
+    made = set()
+    for most in range(3, 14):
+        how = {'preexec_fn': lambda: resource.setrlimit(resource.RLIMIT_NOFILE, (most, most))}
+        status, text = place.run('collect', 'new.db', 'p6.img', **how)
+        names = sorted(it for it in place.names() if it.startswith('new.db'))
+        if text.startswith('cannot open'):
+            ensure((status, text, names) == (4, 'cannot open new.db\n', []), f'{most} open files: {status}, {text!r}, {names}')
+        else:
+            ensure((status, text) in ((0, line_of(rows)), (4, 'cannot read p6.img\n')) and names == ['new.db'], f'{most} open files: {status}, {text!r}, {names}')
+            holds(place, [rows] if status == 0 else [], 'new.db')
+            made.add(most)
+            (place.folder / 'new.db').unlink()
+        status, text = place.run('collect', 'there.db', 'none.img', **how)
+        ensure(status == 4 and text in ('cannot open there.db\n', 'cannot read none.img\n'), f'{most} open files: {status}, {text!r}')
+        ensure(sorted(it for it in place.names() if it.startswith('there.db')) == ['there.db'], f'{most} open files leave {place.names()}')
+        ensure(text != 'cannot open there.db\n' or (place.folder / 'there.db').read_bytes() == kept, f'{most} open files change a database')
+    ensure(3 not in made and 13 in made, f'databases with these numbers of open files: {sorted(made)}')
+
+
 def unread_images(place):
     """Images that can't be read: their rows stay, and the next image comes."""
     content = small_volume(place)
@@ -1123,7 +1148,7 @@ def main():
         else:
             left_out.append('reads and memory that are refused, for want of a C compiler')
         parts = [worked_example, cut_dumps, rows_beside_words, damaged_disks, odd_paths, comparisons, refused_words, made_by_sqlite, other_tables, damaged_databases, other_programs, read_only,
-                 unread_images, full_output, terminal]
+                 few_files, unread_images, full_output, terminal]
         parts = [(part.__name__, part) for part in parts]
         parts.append(('full_devices', lambda place: full_devices(place, left_out)))
         if library:

@@ -5,8 +5,8 @@ use hfs_collection::ImageFacts;
 use hfs_commands::{Fault, ShownPath, Status};
 use hfs_console::{print_lines, tell_sum};
 use hfs_word_collect::{
-    Collection, Comparison, DatabaseFiles, FileCollection, RunFault, collect_image, compare_image,
-    comparison_line, image_line, next_path,
+    Collection, Comparison, DatabaseFiles, FileCollection, RunFault, can_open_database,
+    collect_image, compare_image, comparison_line, image_line, next_path,
 };
 use std::io::IsTerminal;
 
@@ -72,6 +72,9 @@ fn open_database(
     files: &DatabaseFiles,
     makes_tables: bool,
 ) -> Result<FileCollection, RunFault> {
+    if !can_open_database(rt) {
+        return Err(RunFault::CannotOpen);
+    }
     match Collection::open(rt, files, makes_tables) {
         Ok(database) => Ok(database),
         Err(fault) => Err(RunFault::from(fault)),

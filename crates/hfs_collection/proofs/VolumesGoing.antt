@@ -4,7 +4,10 @@ use Rattle.std.proofs.lemmas.List.{drop_more, drop_all}
 use Rattle.hfs_containers.specs.declared.ranges.FoundRange.{FoundRange}
 use Rattle.hfs_containers.specs.Reading.{IsTold}
 use Rattle.hfs_needed.specs.Known.{OfKnown}
+use Rattle.hfs_collection.specs.declared.counts.ImageCounts.{ImageCounts}
 use Rattle.hfs_collection.specs.declared.places.VolumePlace.{VolumePlace}
+use Rattle.hfs_collection.specs.declared.places.Way.{Way}
+use Rattle.hfs_collection.specs.Counts.{lying}
 use Rattle.hfs_rows.specs.Taken.{TakenRow, IsBeginning}
 use Rattle.hfs_check.specs.Faults.{fault_of}
 use Rattle.hfs_collection.specs.Volumes.{all_volume_rows, lost_place, lost_rows, place_in, range_rows, volume_rows_from}
@@ -69,6 +72,12 @@ pub placed : (known : Option (List ℕ)) (len : ℕ) (number : ℕ) (found : Fou
     → (Fact : VolumePlace → List ℕ → Type 0) → OfKnown known len (Fact place) → OfKnown known len (λ file. Fact (place_in number found file) file)
 placed None len number found place told Fact given = tt
 placed (Some file) len number found place told Fact given = λ whole. subst (λ (p : VolumePlace). Fact p file) told (given whole)
+
+-- and by how it lies how much that is
+pub lying_known : (known : Option (List ℕ)) (len : ℕ) (way : Way) (counts result : ImageCounts) (all : List ℕ → ImageCounts) → result ≡ lying way counts
+    → OfKnown known len (λ file. counts ≡ all file) → OfKnown known len (λ file. result ≡ lying way (all file))
+lying_known None len way counts result all is given = tt
+lying_known (Some file) len way counts result all is given = λ whole. is ∙ ap (lying way) (given whole)
 
 -- nothing was given yet
 pub none_given : (known : Option (List ℕ)) (len : ℕ) (taken : Bool) (number : ℕ) (found : FoundRange) (given : List TakenRow)

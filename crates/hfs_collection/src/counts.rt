@@ -62,6 +62,16 @@ impl FileCounts {
     }
 }
 
+/// How many wrong sums a volume has that lies in its file this way.
+fn wrong_sum(way: Way) -> u64
+    ensures { result ≡ spec.wrong_sum way }
+{
+    match way {
+        Way::WrongSum => 1,
+        Way::Found(_) | Way::Lost => 0,
+    }
+}
+
 impl ImageCounts {
     /// No volume.
     pub(crate) fn none() -> ImageCounts
@@ -106,11 +116,13 @@ impl ImageCounts {
     pub(crate) fn lying(self, way: Way) -> ImageCounts
         ensures { result ≡ spec.lying way self }
     {
-        let wrong_sums = match way {
-            Way::WrongSum => 1,
-            Way::Found(_) | Way::Lost => 0,
-        };
-        ImageCounts { wrong_sums, ..self }
+        ImageCounts {
+            volumes: self.volumes,
+            refused: self.refused,
+            files: self.files,
+            damaged: self.damaged,
+            wrong_sums: wrong_sum(way),
+        }
     }
 
     /// Both together. None where a number is 2^64 or more.
